@@ -1,0 +1,13 @@
+//! What the benchmark measures against: reads a JSON text of standard input into a `serde_json::Value`, and writes it compactly.
+
+use std::io::{Read, Write};
+
+fn main() -> Result<(), Box<dyn std::error::Error>> {
+    let mut bytes = Vec::new();
+    std::io::stdin().read_to_end(&mut bytes)?;
+    let value: serde_json::Value = serde_json::from_slice(&bytes)?;
+    let mut text = serde_json::to_vec(&value)?;
+    text.push(b'\n');
+    std::io::stdout().write_all(&text)?;
+    Ok(())
+}
