@@ -1,0 +1,34 @@
+-- Numbers that can't be told apart, their texts and their forms.
+use Rattle.std.proofs.Common.{◌≡◌, ◌∙◌, ◌↔◌, ap, subst}
+use Rattle.ijson_number.specs.Alike.{IsAlike}
+use Rattle.ijson_number.specs.Decimal.{Decimal}
+use Rattle.ijson_number.specs.Form.{FormOf, form_of}
+use Rattle.ijson_number.specs.Num.{Num}
+use Rattle.ijson_number.specs.Ordered.{equal_same, same_equal, tests_equal}
+use Rattle.std.specs.Ordering.{is_eq}
+use Rattle.ijson_number.specs.Grammar.{Spells}
+use Rattle.ijson_number.specs.Text.{num_text}
+use Rattle.ijson_number.proofs.Means.{same_decimal, spells_one}
+use Rattle.ijson_number.proofs.RoundTrip.{num_text_spells}
+
+-- they are one number
+alike_same : (a b : Num) → IsAlike a.decimal b.decimal → a.decimal ≡ b.decimal
+alike_same a b h =
+    let e = equal_same a.decimal b.decimal a.is_num.plain b.is_num.plain (tests_equal _ h.value) in
+    same_decimal a.decimal.mantissa b.decimal.mantissa a.decimal.exponent b.decimal.exponent a.decimal.point b.decimal.point e.0 e.1 h.shape
+
+-- they have one form
+pub alike_form : (a b : Num) (f : FormOf) → f ≡ form_of a.decimal → IsAlike a.decimal b.decimal → f ≡ form_of b.decimal
+alike_form a b f e h = e ∙ ap form_of (alike_same a b h)
+
+text_alike : (a b : Num) → num_text a.decimal ≡ num_text b.decimal → IsAlike a.decimal b.decimal
+text_alike a b e =
+    let one : a.decimal ≡ b.decimal = spells_one (num_text b.decimal) a.decimal b.decimal (subst (λ t. Spells t a.decimal) e (num_text_spells a.decimal a.is_num)) (num_text_spells b.decimal b.is_num) in
+    record {
+      value = ap is_eq (same_equal a.decimal b.decimal (ap (λ (d : Decimal). d.mantissa) one) (ap (λ (d : Decimal). d.exponent) one));
+      shape = ap (λ (d : Decimal). d.point) one;
+    }
+
+-- they, and no others, have one text
+pub text_tells : (a b : Num) → (num_text a.decimal ≡ num_text b.decimal) ↔ IsAlike a.decimal b.decimal
+text_tells a b = (text_alike a b, λ h. ap num_text (alike_same a b h))

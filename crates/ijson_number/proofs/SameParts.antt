@@ -1,0 +1,85 @@
+-- Stored parts of one value are the same parts.
+use Rattle.std.proofs.Common.{◌≡◌, ℕ, Bool, true, false, List, [], ◌∷◌, refl, ap, ap₂, sym, ◌∙◌, arith}
+use Rattle.std.specs.Prelude.{ℤ, pos, nat_abs, int_lt}
+use Rattle.std.specs.Prelude.{FitsSigned}
+use Rattle.std.specs.Int.Digits.{number_from_digits}
+use Rattle.std.specs.Cmp.{both_ways}
+use Rattle.std.specs.Ordering.{is_eq}
+use Rattle.std.specs.Cmp.Lexicographic.{pointwise}
+use Rattle.std.proofs.Math.Bool.{beq}
+use Rattle.std.proofs.Math.Dec.{eqb}
+use Rattle.std.proofs.lemmas.Bool.{eqb-true, eq-eqb}
+use Rattle.std.proofs.lemmas.Bool.Decides.{Decides-eqb}
+use Rattle.std.proofs.lemmas.Int.{to_z-of_z}
+use Rattle.std.proofs.lemmas.Slice.Eq.{slice_eq-Decides}
+use mir.Syntax.{w32}
+use mir.Val.{to_z, of_z}
+use Rattle.ijson_number.specs.Decimal.{Decimal}
+use Rattle.ijson_number.specs.Num.{IsNum}
+use Rattle.ijson_number.specs.Strips.{signed}
+use Rattle.ijson_number.specs.StrippedDigits.{digits_within}
+use Rattle.ijson_number.specs.KeptNumber.{kept_number, IsKept}
+use Rattle.ijson_number.specs.Order.{number_eq}
+use Rattle.ijson_number.specs.Ordered.{equal_same, same_equal, tests_equal}
+use Rattle.ijson_number.proofs.DigitsOf.{kept_digits_are}
+use Rattle.ijson_number.proofs.Means.{stripped_mod}
+use Rattle.ijson_number.proofs.Writing.{below_zero}
+
+-- the sign of stored parts is that of their mantissa
+pub kept_sign : (negative : Bool) (ds : List ℕ) → IsKept negative ds → int_lt (signed negative (number_from_digits 10 ds)) (pos 0) ≡ negative
+kept_sign negative [] k = rw (k.no_minus refl) refl
+kept_sign negative (d ∷ ds) k =
+    let n = stripped_mod (d ∷ ds) k.stripped (omega arith) in
+    below_zero negative (number_from_digits 10 (d ∷ ds)) (omega (arith, n))
+
+bits_equal : (a b : ℤ) → FitsSigned w32 a → FitsSigned w32 b → eqb (of_z w32 a) (of_z w32 b) ≡ true → a ≡ b
+bits_equal a b f g h = sym (to_z-of_z w32 a f) ∙ ap (to_z w32) (eqb-true _ _ h) ∙ to_z-of_z w32 b g
+
+signs_equal : (m n : Bool) → beq m n ≡ true → m ≡ n
+signs_equal true true h = refl
+signs_equal true false h = absurd (cc)
+signs_equal false true h = absurd (cc)
+signs_equal false false h = refl
+
+sign_itself : (n : Bool) → beq n n ≡ true
+sign_itself true = refl
+sign_itself false = refl
+
+not_both : (b : Bool) → b ≡ true → b ≡ false → ⊥
+not_both true h g = cc
+not_both false h g = cc
+
+never : (v b : Bool) → v ≡ false → (b ≡ true → ⊥) → v ≡ b
+never v true e h = absurd (h refl)
+never v false e h = e
+
+module _ (n n' : Bool) (ds ds' : List ℕ) (e e' : ℤ) (p p' : Bool) (a b : Decimal) (view : kept_number n ds e p ≡ a) (view' : kept_number n' ds' e' p' ≡ b) (num : IsNum (kept_number n ds e p)) (num' : IsNum (kept_number n' ds' e' p')) (k : IsKept n ds) (k' : IsKept n' ds') where
+  module _ (is : number_eq a b ≡ true) where
+    parts_is : number_eq (kept_number n ds e p) (kept_number n' ds' e' p') ≡ true
+    parts_is = ap₂ number_eq view view' ∙ is
+
+    mantissa_exponent : (signed n (number_from_digits 10 ds) ≡ signed n' (number_from_digits 10 ds')) × (e ≡ e')
+    mantissa_exponent = equal_same (kept_number n ds e p) (kept_number n' ds' e' p') num.plain num'.plain (tests_equal _ parts_is)
+
+    equal_digits : ds ≡ ds'
+    equal_digits = sym (kept_digits_are n ds e p k.stripped) ∙ ap (λ (m : ℤ). digits_within (nat_abs m) (nat_abs m)) mantissa_exponent.0 ∙ kept_digits_are n' ds' e' p' k'.stripped
+
+    equal_sign : n ≡ n'
+    equal_sign = sym (kept_sign n ds k) ∙ ap (λ (m : ℤ). int_lt m (pos 0)) mantissa_exponent.0 ∙ kept_sign n' ds' k'
+
+  parts_equal : n ≡ n' → ds ≡ ds' → e ≡ e' → number_eq a b ≡ true
+  parts_equal s d x = sym (ap₂ number_eq view view') ∙ ap is_eq (same_equal (kept_number n ds e p) (kept_number n' ds' e' p') (rw (s, d) refl) x)
+
+  -- two numbers of one sign and one exponent are equal where their digits are
+  pub digits_tell : (r : Bool) → beq n n' ≡ true → FitsSigned w32 e → FitsSigned w32 e' → eqb (of_z w32 e) (of_z w32 e') ≡ true → r ≡ pointwise eqb ds ds' → r ≡ number_eq a b
+  digits_tell r s f g x d =
+      let tells = slice_eq-Decides Decides-eqb ds ds' r d in
+      both_ways r (number_eq a b) (λ t. parts_equal (signs_equal n n' s) (tells.0 t) (bits_equal e e' f g x)) (λ t. tells.1 (equal_digits t))
+
+  -- of two signs they differ
+  pub signs_tell : (v : Bool) → beq n n' ≡ false → v ≡ false → v ≡ number_eq a b
+  signs_tell v s t = never v (number_eq a b) t (λ is. not_both (beq n n') (rw (equal_sign is) (sign_itself n')) s)
+
+  -- of two exponents they differ
+  pub exponents_tell : (v : Bool) → v ≡ eqb (of_z w32 e) (of_z w32 e') → v ≡ false → v ≡ number_eq a b
+  exponents_tell v x t = never v (number_eq a b) t (λ is. not_both (eqb (of_z w32 e) (of_z w32 e')) (rw (mantissa_exponent is).1 (eq-eqb _ _ refl)) (sym x ∙ t))

@@ -1,0 +1,12 @@
+use Rattle.std.specs.Prelude.{FitsSigned}
+use Rattle.std.proofs.lemmas.Int.{to_z-of_z}
+use Rattle.std.proofs.Common.{rules}
+use mir.Syntax.{w64, w128}
+use Rattle.ijson_number.proofs.Conversions.{none_fits}
+use Rattle.ijson_number.proofs.number.INumber.to_isize.Goals as goal
+
+pub returns-clause-none : goal.returns-clause-none
+returns-clause-none c =
+    let v = c.in_ok-whole.field-0 in
+    let f : FitsSigned w128 v = search rules in
+    none_fits c.args.self.now.decimal v _ c.args.self.now.is_num.plain c.in_ok-whole.ensures.some (to_z-of_z w128 v f) (FitsSigned w64) c.ok.result c.try_from.result c.try_from.ensures c.ok.ensures.value

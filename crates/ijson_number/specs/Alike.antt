@@ -1,0 +1,8 @@
+-- Two numbers that can't be told apart: they have one value and one shape.
+use Rattle.std.specs.Prelude.{◌≡◌, IsTrue}
+use Rattle.ijson_number.specs.Decimal.{Decimal}
+use Rattle.ijson_number.specs.Order.{number_eq}
+
+pub record IsAlike (a b : Decimal) : Type 0 where
+  pub value : IsTrue (number_eq a b)
+  pub shape : a.point ≡ b.point

@@ -1,0 +1,57 @@
+-- The stored form of a number.
+use Rattle.std.specs.Prelude.{ℕ, zero, suc, ◌^◌, ℤ, pos, negsuc, neg_ℤ, nat_abs, ◌*ℤ◌, ◌-ℤ◌, int_lt, int_le, Bool, true, false, ◌&&◌, List}
+use Rattle.ijson_number.specs.Decimal.{Decimal}
+use Rattle.ijson_number.specs.StrippedDigits.{stripped_digits}
+
+pub data FormOf : Type 0 where
+  packed : ℤ → ℤ → Bool → FormOf
+  signed_word : ℤ → FormOf
+  unsigned_word : ℕ → FormOf
+  digits : Bool → List ℕ → ℤ → Bool → FormOf
+
+-- a mantissa fits in a packed number
+abbrev pub fits_packed : ℤ → Bool
+fits_packed m = int_le (neg_ℤ (pos 36028797018963968)) m && int_lt m (pos 36028797018963968)
+
+abbrev pub fits_i64 : ℤ → Bool
+fits_i64 m = int_le (neg_ℤ (pos (2 ^ 63))) m && int_lt m (pos (2 ^ 63))
+
+abbrev pub fits_u64 : ℤ → Bool
+fits_u64 m = int_le (pos 0) m && int_lt m (pos (2 ^ 64))
+
+abbrev pub digits_form : Decimal → FormOf
+digits_form n = digits (int_lt n.mantissa (pos 0)) (stripped_digits n) n.exponent n.point
+
+-- the whole number m * 10 ^ e, integer shape
+abbrev pub integer_form : Decimal → ℤ → FormOf
+integer_form n m =
+    elim (fits_packed m) [
+      | true ↦ packed m (pos 0) false
+      | false ↦ elim (fits_i64 m) [
+        | true ↦ signed_word m
+        | false ↦ elim (fits_u64 m) [
+          | true ↦ unsigned_word (nat_abs m)
+          | false ↦ digits_form n
+        ]
+      ]
+    ]
+
+-- the smallest exponent from k on, of at most `tries` that are tried, that leaves a mantissa which fits
+abbrev pub smallest_packed : (tries k : ℕ) → Decimal → FormOf
+smallest_packed zero k n = digits_form n
+smallest_packed (suc tries) k n =
+    let m = n.mantissa *ℤ pos (10 ^ nat_abs (n.exponent -ℤ pos k)) in
+    elim (int_le (pos k) n.exponent && fits_packed m) [ true ↦ packed m (pos k) true | false ↦ smallest_packed tries (suc k) n ]
+
+abbrev pub form_of : Decimal → FormOf
+form_of n =
+    elim n.point [
+      | false ↦ integer_form n (n.mantissa *ℤ pos (10 ^ nat_abs n.exponent))
+      | true ↦ elim (int_le (pos 0) n.exponent) [
+        | true ↦ smallest_packed 8 0 n
+        | false ↦ elim (int_le (negsuc 6) n.exponent && fits_packed n.mantissa) [
+          | true ↦ packed n.mantissa n.exponent true
+          | false ↦ digits_form n
+        ]
+      ]
+    ]

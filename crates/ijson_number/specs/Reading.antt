@@ -1,0 +1,48 @@
+-- What the steps of the reader promise.
+use Rattle.std.specs.Prelude.{true, false, ◌≡◌, ◌≢◌, ◌<◌, ◌-◌, length, slice_index, ◌⊎◌, ◌||◌, ℕ, ℤ, Bool, List, [], ◌∷◌, ◌++◌}
+use Rattle.std.specs.Prelude.{pos, neg_ℤ, ◌≤ℤ◌, ◌+ℤ◌, ◌-ℤ◌}
+use Rattle.ijson_number.specs.Num.{exponent_limit}
+use Rattle.ijson_number.specs.Grammar.{IsDigit, IsWhole, IsFraction, IsExponent}
+
+-- the exponent is within the limit
+abbrev pub IsWithin : ℤ → Type 0
+IsWithin e = (neg_ℤ exponent_limit ≤ℤ e) × (e ≤ℤ exponent_limit)
+
+-- the exponent after some tens are taken out: the written one less the count of fraction digits, and those tens
+abbrev pub exponent_of : (written : ℤ) → (fraction tens : ℕ) → ℤ
+exponent_of written fraction tens = (written -ℤ pos fraction) +ℤ pos tens
+
+-- the text is at its end, or goes on with something else than a digit
+abbrev pub BeginsWithNoDigit : List ℕ → Type 0
+BeginsWithNoDigit [] = Unit {0}
+BeginsWithNoDigit (b ∷ bs) = IsDigit b → ⊥
+
+-- no '0' in front
+abbrev pub BeginsWithNoZero : List ℕ → Type 0
+BeginsWithNoZero bs = 0 < length bs → slice_index bs 0 ≢ 48
+
+-- no '0' at the end
+abbrev pub EndsWithNoZero : List ℕ → Type 0
+EndsWithNoZero bs = 0 < length bs → slice_index bs (length bs - 1) ≢ 48
+
+-- what follows the whole part
+pub record IsTail (text fraction : List ℕ) (exponent : ℤ) (point : Bool) : Type 0 where
+  pub fraction_text : List ℕ
+  pub exponent_text : List ℕ
+  pub has_point : Bool
+  pub has_exponent : Bool
+  pub text_is : text ≡ fraction_text ++ exponent_text
+  pub fraction_is : IsFraction fraction_text fraction has_point
+  pub exponent_is : IsExponent exponent_text exponent has_exponent
+  pub point_is : point ≡ has_point || has_exponent
+
+-- a number's text without its sign
+pub record IsUnsigned (text whole fraction : List ℕ) (exponent : ℤ) (point : Bool) : Type 0 where
+  pub rest : List ℕ
+  pub text_is : text ≡ whole ++ rest
+  pub whole_is : IsWhole whole
+  pub tail_is : IsTail rest fraction exponent point
+
+-- a sign taken off the front
+abbrev pub IsSignTaken : (text : List ℕ) → (negative : Bool) → (rest : List ℕ) → Type 0
+IsSignTaken text negative rest = (text ≡ 45 ∷ rest × negative ≡ true) ⊎ (text ≡ rest × negative ≡ false × (0 < length text → slice_index text 0 ≢ 45))

@@ -1,0 +1,155 @@
+//! Digits, of which few are kept in place.
+ghost use Rattle.std.specs.Prelude.{◌≡◌, ◌<◌, ◌≤◌, ◌+◌, ◌++◌, length, IfOk, OnOk, OnErr};
+ghost use Rattle.ijson_number.specs.Grammar.{AllDigits};
+ghost use Rattle.ijson_number.specs.Stripped.{IsStripped, digits_from_text};
+ghost use Rattle.std.specs.Int.Digits.{digits_of};
+ghost use Rattle.std.specs.Prelude.{◌%◌, ◌≢◌, [], pos, neg_ℤ, ◌+ℤ◌, ◌<ℤ◌, ◌^◌, FitsSigned};
+ghost use mir.Syntax.{w128};
+ghost use Rattle.arrayvec.specs.ArrayVec.{array_vec_len};
+
+use arrayvec::ArrayVec;
+use std::alloc::{AllocError, Global};
+use std::marker::Model;
+
+/// How many digits are kept in place.
+pub const IN_PLACE: usize = 20;
+
+#[derive(Drop)]
+enum Kept {
+    InPlace(ArrayVec<u8, 20>),
+    Apart(Vec<u8>),
+}
+
+/// Digits from 0 to 9, the most significant first, with no 0 at either end.
+#[derive(Drop)]
+pub struct Digits {
+    kept: Kept,
+}
+
+impl Model for Digits {
+    ghost use Rattle.std.specs.Prelude.{List, ℕ};
+
+    ghost Value = { List ℕ };
+
+    ghost use Rattle.ijson_number.specs.KeptDigits.{kept_digits, IsKeptByLength};
+    ghost use Rattle.ijson_number.specs.Stripped.{IsStripped};
+
+    ghost view = { λ d. kept_digits d.kept };
+
+    ghost invariant = { λ d. IsKeptByLength d.kept × IsStripped (kept_digits d.kept) };
+}
+
+/// Appends the digits that a text has.
+fn push_in_place(digits: &mut ArrayVec<u8, 20>, text: &[u8])
+    requires digits { AllDigits text.now }
+    requires room { array_vec_len digits.old + length text.now ≤ 20 }
+    ensures items { digits.new.items ≡ digits.old.items ++ digits_from_text text.now }
+    ensures len { array_vec_len digits.new ≡ array_vec_len digits.old + length text.now }
+{
+    for byte in text {
+        digits.push(*byte - b'0');
+    }
+}
+
+/// Appends the digits that a text has.
+fn push_apart(digits: &mut Vec<u8>, text: &[u8]) -> Result<(), AllocError>
+    requires { AllDigits text.now }
+    ensures { OnOk result (digits.new.items ≡ digits.old.items ++ digits_from_text text.now) }
+{
+    for byte in text {
+        digits.push(*byte - b'0')?;
+    }
+    Ok(())
+}
+
+impl Digits {
+    /// The digits that two texts have, one after the other.
+    pub fn from_text(alloc: Global, front: &[u8], back: &[u8]) -> Result<Self, AllocError>
+        requires front { AllDigits front.now }
+        requires back { AllDigits back.now }
+        requires stripped { IsStripped (digits_from_text (front.now ++ back.now)) }
+        ensures ok { IfOk result (λ d. d ≡ digits_from_text (front.now ++ back.now)) }
+        ensures err { OnErr result (20 < length front.now + length back.now) }
+    {
+        if front.len() <= IN_PLACE && back.len() <= IN_PLACE - front.len() {
+            let mut digits = ArrayVec::new();
+            push_in_place(&mut digits, front);
+            push_in_place(&mut digits, back);
+            return Ok(Digits {
+                kept: Kept::InPlace(digits),
+            });
+        }
+        let mut digits = Vec::new(alloc);
+        push_apart(&mut digits, front)?;
+        push_apart(&mut digits, back)?;
+        Ok(Digits {
+            kept: Kept::Apart(digits),
+        })
+    }
+
+    /// No digits.
+    pub fn new() -> Digits
+        ensures { result ≡ [] }
+    {
+        Digits {
+            kept: Kept::InPlace(ArrayVec::new()),
+        }
+    }
+
+    /// The digits of a number that ten doesn't divide.
+    pub fn from_number(number: u64) -> Digits
+        requires { number % 10 ≢ 0 }
+        ensures { result ≡ digits_of 10 number }
+    {
+        let mut buffer = [0; 20];
+        let mut start = 20;
+        let mut rest = number;
+        while rest > 0 {
+            start -= 1;
+            buffer[start] = (rest % 10) as u8;
+            rest /= 10;
+        }
+        let mut digits = ArrayVec::new();
+        for digit in &buffer[start..] {
+            digits.push(*digit);
+        }
+        Digits {
+            kept: Kept::InPlace(digits),
+        }
+    }
+
+    /// The digits.
+    pub fn as_slice(&self) -> &[u8]
+        ensures value { result.now ≡ self.now }
+        ensures stripped { IsStripped self.now }
+    {
+        match &self.kept {
+            Kept::InPlace(digits) => digits.as_slice(),
+            Kept::Apart(digits) => digits.as_slice(),
+        }
+    }
+}
+
+impl Clone for Digits {
+    ghost is_clone = { λ digits copy. copy ≡ digits };
+
+    ghost is_infallible = { λ digits. length digits ≤ 20 };
+
+    fn clone(&self) -> Result<Digits, AllocError> {
+        let kept = match &self.kept {
+            Kept::InPlace(digits) => Kept::InPlace(digits.clone()?),
+            Kept::Apart(digits) => Kept::Apart(digits.clone()?),
+        };
+        Ok(Digits { kept })
+    }
+}
+
+/// Where the point stands, counted from the front of the digits.
+pub fn place_of(digits: &[u8], exponent: i32) -> i128
+    ensures value { result ≡ pos (length digits.now) +ℤ exponent }
+    ensures low { neg_ℤ (pos (2 ^ 70)) <ℤ result }
+    ensures high { result <ℤ pos (2 ^ 70) }
+    ensures fits { FitsSigned w128 result }
+{
+    digits.len() as i128 + exponent as i128
+}

@@ -1,0 +1,22 @@
+//! Exact decimals, as JSON writes numbers.
+#![tactic(auto)]
+
+mod clone;
+mod digits;
+mod faults;
+mod form;
+mod hash;
+mod integers;
+mod looks;
+mod number;
+mod order;
+mod reading;
+mod text;
+
+pub use faults::first_fault;
+pub use form::Form;
+pub use looks::Looks;
+pub use number::{INumber, ParseNumberError};
+
+#[cfg(test)]
+mod tests;

@@ -1,0 +1,43 @@
+//! A count of looks.
+
+ghost use Rattle.std.specs.Prelude.{◌≡◌, ◌+◌, ◌<◌, ◌^◌};
+
+use std::marker::Model;
+
+/// How often something was looked at: places of a table, or digits of a number.
+#[derive(Debug, Drop)]
+pub struct Looks {
+    seen: u128,
+}
+
+impl Model for Looks {
+    ghost use Rattle.std.specs.Prelude.{ℕ};
+
+    ghost Value = { ℕ };
+
+    ghost view = { λ l. l.seen };
+}
+
+impl Looks {
+    /// No look yet.
+    pub fn new() -> Looks
+        ensures { result ≡ 0 }
+    {
+        Looks { seen: 0 }
+    }
+
+    /// How many looks there were.
+    pub fn count(&self) -> u128
+        ensures { result ≡ self.now }
+    {
+        self.seen
+    }
+
+    /// Counts one more look.
+    pub fn add_one(&mut self)
+        requires { self.old + 1 < 2 ^ 128 }
+        ensures { self.new ≡ self.old + 1 }
+    {
+        self.seen += 1;
+    }
+}

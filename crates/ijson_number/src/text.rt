@@ -1,0 +1,177 @@
+//! Writes a number's text.
+ghost use Rattle.std.specs.Prelude.{Some, ◌<◌, ◌+◌, ◌≡◌, ◌≢◌, ◌^◌, pos, neg_ℤ, ◌<ℤ◌, ◌≤ℤ◌, FitsSigned, int_le, int_lt, negsuc, ◌+ℤ◌, ◌||◌, length};
+ghost use Rattle.std.specs.List.{All};
+ghost use mir.Syntax.{w128};
+ghost use Rattle.ijson_number.specs.Text.{digits_text, num_text, point_text, scientific_text, shape_text, zeros_text};
+
+use crate::digits::place_of;
+use crate::number::INumber;
+use std::fmt;
+
+/// So many zeros.
+#[derive(Drop)]
+pub struct Zeros(pub u128);
+
+impl fmt::Display for Zeros {
+    ghost output = { λ z. Some (zeros_text z.0) };
+
+    fn fmt<W: fmt::Write>(&self, f: &mut fmt::Formatter<W>) -> fmt::Result {
+        for _i in 0..self.0 {
+            write!(f, "0")?;
+        }
+        Ok(())
+    }
+}
+
+/// Digits from 0 to 9.
+#[derive(Drop)]
+pub struct DigitsText<'a> {
+    pub digits: &'a [u8],
+    ghost below_ten: { All (λ d. d < 10) digits.now },
+}
+
+impl fmt::Display for DigitsText<'_> {
+    ghost output = { λ t. Some (digits_text t.digits.now) };
+
+    fn fmt<W: fmt::Write>(&self, f: &mut fmt::Formatter<W>) -> fmt::Result {
+        for digit in self.digits {
+            write!(f, "{}", (b'0' + *digit) as char)?;
+        }
+        Ok(())
+    }
+}
+
+/// Digits, of which there is one at least, with the first one before the point, and a power of ten.
+#[derive(Drop)]
+pub struct Scientific<'a> {
+    pub digits: &'a [u8],
+    pub place: i128,
+    ghost below_ten: { All (λ d. d < 10) digits.now },
+    ghost some: { 0 < length digits.now },
+    ghost low: { neg_ℤ (pos (2 ^ 70)) <ℤ place },
+    ghost high: { place <ℤ pos (2 ^ 70) },
+}
+
+impl fmt::Display for Scientific<'_> {
+    ghost output = { λ t. Some (scientific_text t.digits.now t.place) };
+
+    fn fmt<W: fmt::Write>(&self, f: &mut fmt::Formatter<W>) -> fmt::Result {
+        let power = self.place - 1;
+        let (first, rest) = self.digits.split_at(1);
+        let first = DigitsText { digits: first };
+        if rest.is_empty() {
+            write!(f, "{first}e{power}")
+        } else {
+            let rest = DigitsText { digits: rest };
+            write!(f, "{first}.{rest}e{power}")
+        }
+    }
+}
+
+/// Digits with the point so many places behind their front.
+#[derive(Drop)]
+pub struct Pointed<'a> {
+    pub digits: &'a [u8],
+    pub place: i128,
+    ghost below_ten: { All (λ d. d < 10) digits.now },
+    ghost low: { neg_ℤ (pos (2 ^ 70)) <ℤ place },
+    ghost high: { place <ℤ pos (2 ^ 70) },
+}
+
+impl fmt::Display for Pointed<'_> {
+    ghost output = { λ t. Some (point_text t.digits.now t.place) };
+
+    fn fmt<W: fmt::Write>(&self, f: &mut fmt::Formatter<W>) -> fmt::Result {
+        if self.place <= 0 {
+            let zeros = Zeros(self.place.unsigned_abs());
+            let digits = DigitsText {
+                digits: self.digits,
+            };
+            return write!(f, "0.{zeros}{digits}");
+        }
+        if self.digits.len() as i128 <= self.place {
+            let zeros = Zeros((self.place - self.digits.len() as i128).unsigned_abs());
+            let digits = DigitsText {
+                digits: self.digits,
+            };
+            return write!(f, "{digits}{zeros}.0");
+        }
+        let (whole, fraction) = self.digits.split_at(self.place as usize);
+        let whole = DigitsText { digits: whole };
+        let fraction = DigitsText { digits: fraction };
+        write!(f, "{whole}.{fraction}")
+    }
+}
+
+/// Whether a number with float shape is written with an exponent.
+fn is_scientific(place: i128, exponent: i32) -> bool
+    ensures { result ≡ (int_le place (negsuc 5) || int_lt (pos 20) exponent) }
+{
+    place <= -6 || exponent > 20
+}
+
+/// Digits, of which there is one at least, and a power of ten, with float shape or without.
+#[derive(Drop)]
+pub struct Shape<'a> {
+    pub digits: &'a [u8],
+    pub exponent: i32,
+    pub point: bool,
+    ghost below_ten: { All (λ d. d < 10) digits.now },
+    ghost some: { 0 < length digits.now },
+}
+
+impl fmt::Display for Shape<'_> {
+    ghost output = { λ t. Some (shape_text t.point t.digits.now t.exponent) };
+
+    fn fmt<W: fmt::Write>(&self, f: &mut fmt::Formatter<W>) -> fmt::Result {
+        let digits = self.digits;
+        if !self.point {
+            let digits = DigitsText { digits };
+            let zeros = Zeros(self.exponent.unsigned_abs() as u128);
+            return write!(f, "{digits}{zeros}");
+        }
+        let place = place_of(digits, self.exponent);
+        if is_scientific(place, self.exponent) {
+            let text = Scientific { digits, place };
+            write!(f, "{text}")
+        } else {
+            let text = Pointed { digits, place };
+            write!(f, "{text}")
+        }
+    }
+}
+
+/// The text of a number, as JSON writes it.
+impl fmt::Display for INumber {
+    ghost output = { λ n. Some (num_text n.decimal) };
+
+    fn fmt<W: fmt::Write>(&self, f: &mut fmt::Formatter<W>) -> fmt::Result {
+        let digits = self.digits.as_slice();
+        if digits.is_empty() {
+            return if self.point {
+                write!(f, "0.0")
+            } else {
+                write!(f, "0")
+            };
+        }
+        let shape = Shape {
+            digits,
+            exponent: self.exponent,
+            point: self.point,
+        };
+        if self.negative {
+            write!(f, "-{shape}")
+        } else {
+            write!(f, "{shape}")
+        }
+    }
+}
+
+/// As `Display`.
+impl fmt::Debug for INumber {
+    ghost debug_output = { λ n. Some (num_text n.decimal) };
+
+    fn fmt<W: fmt::Write>(&self, f: &mut fmt::Formatter<W>) -> fmt::Result {
+        fmt::Display::fmt(self, f)
+    }
+}
