@@ -1,0 +1,11 @@
+//! Immutable texts: up to 7 bytes are kept in place, and longer texts are shared through a cache.
+#![tactic(auto)]
+
+mod cache;
+mod text;
+
+pub use cache::StringCache;
+pub use text::IString;
+
+#[cfg(test)]
+mod tests;

@@ -1,0 +1,213 @@
+//! `IString`: a text that is compared, ordered and hashed by its bytes.
+ghost use Rattle.std.specs.Prelude.{◌≡◌, ℕ, ◌≤◌, ◌==◌, List, [], length, Some, IfOk, IsOk, OnOk, OnErr, nat_eq, refl, IsTrue, ◌↔◌};
+ghost use Rattle.std.specs.Ordering.{nat_cmp};
+ghost use Rattle.std.specs.String.{string_bytes};
+ghost use Rattle.std.specs.Cmp;
+ghost use Rattle.std.specs.Cmp.Lexicographic.{pointwise, slice_cmp, nat_list_eq_equiv, nat_list_cmp_total, texts_po, texts_ties};
+ghost use Rattle.std.specs.Cmp.Rules.{hashing};
+ghost use Rattle.std.proofs.Common.{rules};
+ghost use Rattle.ijson_string.specs.Cache.{interned};
+ghost use Rattle.ijson_string.specs.Words.{text_words, fed_words};
+
+use crate::cache::StringCache;
+use arrayvec::ArrayString;
+use std::alloc::{AllocError, Global};
+use std::cmp::Ordering;
+use std::fmt;
+use std::hash::{BuildHasher, Hash, Hasher};
+use std::marker::Model;
+use std::rc::RcStr;
+
+/// A text in UTF-8. One of at most 7 bytes lies in the value itself, and a longer one is shared with its clones and with
+/// the cache that it was interned in. Equality, order and hash are those of its bytes, whatever the cache.
+#[derive(Drop)]
+pub struct IString {
+    kept: Kept,
+}
+
+#[derive(Drop)]
+enum Kept {
+    InPlace(ArrayString<7>),
+    Shared(RcStr),
+}
+
+impl Model for IString {
+    ghost use Rattle.std.specs.Prelude.{List, ℕ};
+
+    ghost Value = { List ℕ };
+
+    ghost use Rattle.ijson_string.specs.Kept.{kept_bytes, IsKeptByLength};
+
+    ghost view = { λ s. kept_bytes s.kept };
+
+    ghost invariant = { λ s. IsKeptByLength s.kept };
+}
+
+impl IString {
+    /// The empty text.
+    pub fn new() -> IString
+        ensures { result ≡ [] }
+    {
+        IString {
+            kept: Kept::InPlace(ArrayString::new()),
+        }
+    }
+
+    /// The text, kept in place up to 7 bytes, and otherwise shared through `cache`, which takes it in if it is new there.
+    /// Only a text of more than 7 bytes can want memory, and the cache is then as it was.
+    pub fn intern<S: BuildHasher>(
+        cache: &mut StringCache<S>,
+        text: &str,
+    ) -> Result<IString, AllocError>
+        ensures text { IfOk result (λ s. s ≡ text.now) }
+        ensures cache { OnOk result (cache.new ≡ interned text.now cache.old) }
+        ensures refused { OnErr result (cache.new ≡ cache.old) }
+        ensures short { length text.now ≤ 7 → IsOk result }
+    {
+        let kept = match ArrayString::from(text) {
+            Ok(text) => Kept::InPlace(text),
+            Err(_) => Kept::Shared(cache.share(text)?),
+        };
+        Ok(IString { kept })
+    }
+
+    /// The text.
+    pub fn as_str(&self) -> &str
+        ensures { result.now ≡ self.now }
+    {
+        match &self.kept {
+            Kept::InPlace(text) => text.as_str(),
+            Kept::Shared(text) => text.as_str(),
+        }
+    }
+
+    /// The bytes of the text.
+    pub fn as_bytes(&self) -> &[u8]
+        ensures { result.now ≡ self.now }
+    {
+        self.as_str().as_bytes()
+    }
+
+    /// The length in bytes, not in characters.
+    pub fn len(&self) -> usize
+        ensures { result ≡ length self.now }
+    {
+        self.as_str().len()
+    }
+
+    /// Whether there is no byte.
+    pub fn is_empty(&self) -> bool
+        ensures { result ≡ (length self.now == 0) }
+    {
+        self.len() == 0
+    }
+
+    /// Whether this is `text`, byte by byte.
+    pub fn eq_str(&self, text: &str) -> bool
+        ensures { IsTrue result ↔ (self.now ≡ text.now) }
+    {
+        self.as_str() == text
+    }
+
+    /// A copy of the text on `alloc`; the error is want of memory.
+    pub fn to_owned_string(&self, alloc: Global) -> Result<String, AllocError>
+        ensures { IfOk result (λ s. string_bytes s ≡ self.now) }
+    {
+        String::from_str(alloc, self.as_str())
+    }
+}
+
+impl Clone for IString {
+    ghost is_clone = { λ s copy. copy ≡ s };
+
+    ghost is_infallible = { λ s. length s ≤ 7 };
+
+    fn clone(&self) -> Result<IString, AllocError> {
+        match &self.kept {
+            Kept::InPlace(text) => Ok(IString {
+                kept: Kept::InPlace(*text),
+            }),
+            Kept::Shared(text) => {
+                let text = text.clone()?;
+                Ok(IString {
+                    kept: Kept::Shared(text),
+                })
+            }
+        }
+    }
+}
+
+impl PartialEq for IString {
+    ghost eq = { λ x y. pointwise nat_eq x y };
+
+    ghost laws = { Cmp.partial_equiv_from_equiv nat_list_eq_equiv };
+
+    fn eq(&self, other: &IString) -> bool {
+        self.as_str() == other.as_str()
+    }
+}
+
+impl Eq for IString {
+    ghost laws = { nat_list_eq_equiv };
+}
+
+impl PartialOrd for IString {
+    ghost partial_cmp = { λ x y. Some (slice_cmp nat_cmp x y) };
+
+    ghost laws = { texts_po };
+
+    fn partial_cmp(&self, other: &IString) -> Option<Ordering> {
+        Some(self.cmp(other))
+    }
+}
+
+impl Ord for IString {
+    ghost cmp = { λ x y. slice_cmp nat_cmp x y };
+
+    ghost total = { nat_list_cmp_total };
+
+    ghost matches_partial_cmp = { λ x y. refl };
+
+    ghost matches_eq = { λ x y. texts_ties x y };
+
+    fn cmp(&self, other: &IString) -> Ordering {
+        self.as_str().cmp(other.as_str())
+    }
+}
+
+impl Hash for IString {
+    ghost hash_input = { λ s. fed_words (text_words s) };
+
+    ghost respects_eq = { Prim.search (hashing, rules) };
+
+    fn hash<H: Hasher>(&self, state: &mut H) {
+        let bytes = self.as_bytes();
+        state.write_u64(3);
+        state.write_u64(bytes.len() as u64);
+        for byte in bytes {
+            state.write_u64(u64::from(*byte));
+        }
+    }
+}
+
+impl Default for IString {
+    ghost is_default = { λ s. s ≡ [] };
+
+    fn default() -> IString {
+        IString::new()
+    }
+}
+
+impl fmt::Display for IString {
+    ghost output = { λ s. Some s };
+
+    fn fmt<W: fmt::Write>(&self, f: &mut fmt::Formatter<W>) -> fmt::Result {
+        fmt::Display::fmt(self.as_str(), f)
+    }
+}
+
+impl fmt::Debug for IString {
+    fn fmt<W: fmt::Write>(&self, f: &mut fmt::Formatter<W>) -> fmt::Result {
+        fmt::Debug::fmt(self.as_str(), f)
+    }
+}
