@@ -1,0 +1,15 @@
+-- Two stores with the same pairs and the same capacity are one.
+use Rattle.std.proofs.Common.{◌≡◌}
+use mathlib.Core.HLevel.{is_prop→PathP}
+use Rattle.ijson_table.specs.Store.{Store, IsDistinct, IsDistinct-prop, keys_of}
+use Rattle.ijson_table.specs.Placed.{Placed}
+
+pub store_path : {V : Type 0} (s t : Store V) → s.pairs ≡ t.pairs → s.capacity ≡ t.capacity → s ≡ t
+store_path s t e f = λ j. record {
+  pairs = e j;
+  capacity = f j;
+  distinct = is_prop→PathP (λ k. IsDistinct (keys_of (e k))) (λ k. IsDistinct-prop (keys_of (e k))) s.distinct t.distinct j;
+}
+
+pub placed_path : {V : Type 0} (s t : Placed V) → s.store.pairs ≡ t.store.pairs → s.store.capacity ≡ t.store.capacity → s.places ≡ t.places → s ≡ t
+placed_path s t e f g = λ j. record { store = store_path s.store t.store e f j; places = g j }

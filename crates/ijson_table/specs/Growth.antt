@@ -1,0 +1,36 @@
+-- The capacity rule of a pair store.
+use Rattle.std.specs.Prelude.{◌≡◌, ◌≢◌, ℕ, ◌+◌, ◌*◌, ◌^◌, ◌<◌, ◌≤◌, leb, max, Result, Ok, Err, if◌then◌else◌}
+use denote.Struct.Props.{props}
+use Rattle.ijson_table.specs.declared.store.ReserveError.{ReserveError}
+use Rattle.ijson_table.specs.declared.store.ReserveError.TheVariants.{Memory, TooLarge}
+
+-- the greatest capacity
+abbrev pub capacity_limit : ℕ
+capacity_limit = 2 ^ 56
+
+-- the capacity that a store of this length and capacity takes, so that n more have room
+abbrev pub wanted : ℕ → ℕ → ℕ → ℕ
+wanted len c n = (if leb (len + n) c then c else max (max (2 * c) (len + n)) 4)
+
+-- Growth for n more, from capacity c to c', or refused: for memory, or since the capacity would pass the limit.
+abbrev pub Grow : {A : Type 0} → ℕ → ℕ → ℕ → Result A ReserveError → ℕ → Type 0
+Grow len c n (Ok _) c' = (c' ≡ wanted len c n) × (c < c' → c' ≤ capacity_limit)
+Grow len c n (Err TooLarge) c' = (c' ≡ c) × (c < wanted len c n) × (capacity_limit < wanted len c n)
+Grow len c n (Err Memory) c' = (c' ≡ c) × (c < wanted len c n) × (wanted len c n ≤ capacity_limit)
+
+-- The capacity becomes the length, or memory was refused where that takes some.
+abbrev pub Shrink : {A : Type 0} → ℕ → ℕ → Result A ReserveError → ℕ → Type 0
+Shrink len c (Ok _) c' = c' ≡ len
+Shrink len c (Err Memory) c' = (c' ≡ c) × (c ≢ len) × (0 < len)
+Shrink len c (Err TooLarge) c' = ⊥
+
+-- Each pair has room, and the capacity is within the limit.
+pub record HasRoom (len c : ℕ) : Type 0 where
+  pub within : len ≤ c
+  pub limited : c ≤ capacity_limit
+
+pub HasRoom-prop : (len c : ℕ) → IsProp (HasRoom len c)
+HasRoom-prop len c x y =
+    let within_prop : IsProp (len ≤ c) = hlevel props in
+    let limited_prop : IsProp (c ≤ capacity_limit) = hlevel props in
+    λ i. record { within = within_prop x.within y.within i; limited = limited_prop x.limited y.limited i }

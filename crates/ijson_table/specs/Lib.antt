@@ -1,0 +1,12 @@
+pub mod Store
+pub mod Growth
+pub mod Steps
+pub mod Fold
+pub mod PlaceCode
+pub mod Crowd
+pub mod Places
+pub mod Placed
+pub mod Moving
+pub mod Sees
+pub mod Rows
+pub mod formers

@@ -1,0 +1,3 @@
+pub mod linear
+pub mod table
+pub mod fixed

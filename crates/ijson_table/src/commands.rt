@@ -1,0 +1,100 @@
+//! Running commands on a pair store.
+
+ghost use Rattle.std.specs.Prelude.{◌≡◌, IfOk, OnErr};
+ghost use Rattle.ijson_table.specs.Steps.{Step, Run};
+
+use crate::store::{PairStore, ReserveError};
+use ijson_string::IString;
+use std::alloc::{AllocError, Global};
+
+/// A command to a store.
+#[derive(Debug, Drop)]
+pub enum Command<V> {
+    /// Puts the value beside the key: in place of the old one, or as a new pair last.
+    Insert(IString, V),
+    /// Asks for the position of the key.
+    Find(IString),
+    /// Takes out the pair with the key. The last pair moves there.
+    Remove(IString),
+    /// Makes room for so many more pairs.
+    Reserve(usize),
+    /// Makes the capacity the length.
+    ShrinkToFit,
+    /// Drops each pair.
+    Clear,
+}
+
+/// The reply to a command.
+#[derive(Debug, PartialEq, Eq, Drop)]
+pub enum Reply<V> {
+    /// The pair is new.
+    Added,
+    /// The key was there, beside this value.
+    Replaced(V),
+    /// There was no room for one more pair, which comes back.
+    Refused(IString, V, ReserveError),
+    /// The position, or none.
+    Found(Option<usize>),
+    /// The pair that was taken out, or none.
+    Removed(Option<(IString, V)>),
+    Done,
+    /// The capacity stays.
+    NotDone(ReserveError),
+}
+
+/// One command.
+fn step<V: Drop, P: PairStore<V>>(store: &mut P, command: Command<V>) -> Reply<V>
+    ensures { Step (P.pairs store.old) (P.room store.old) command result (P.pairs store.new) (P.room store.new) }
+{
+    match command {
+        Command::Insert(key, value) => {
+            if let Err(why) = store.reserve(1) {
+                return Reply::Refused(key, value, why);
+            }
+            match store.position(key.as_str()) {
+                Some(at) => {
+                    let place = store.value_mut(at);
+                    Reply::Replaced(std::mem::replace(place, value))
+                }
+                None => {
+                    store.push_new(key, value);
+                    Reply::Added
+                }
+            }
+        }
+        Command::Find(key) => Reply::Found(store.position(key.as_str())),
+        Command::Remove(key) => match store.position(key.as_str()) {
+            Some(at) => Reply::Removed(Some(store.swap_out(at))),
+            None => Reply::Removed(None),
+        },
+        Command::Reserve(additional) => match store.reserve(additional) {
+            Ok(()) => Reply::Done,
+            Err(why) => Reply::NotDone(why),
+        },
+        Command::ShrinkToFit => match store.shrink_to_fit() {
+            Ok(()) => Reply::Done,
+            Err(why) => Reply::NotDone(why),
+        },
+        Command::Clear => {
+            store.clear();
+            Reply::Done
+        }
+    }
+}
+
+/// The commands in order. The replies and what the store has in the end are a run, however it is kept.
+pub fn run<V: Drop, P: PairStore<V>>(
+    alloc: Global,
+    store: &mut P,
+    commands: Vec<Command<V>>,
+) -> Result<Vec<Reply<V>>, AllocError>
+    ensures run { IfOk result (λ replies. Run (P.pairs store.old) (P.room store.old) commands.items replies.items (P.pairs store.new) (P.room store.new)) }
+    ensures err { OnErr result ((P.pairs store.new ≡ P.pairs store.old) × (P.room store.new ≡ P.room store.old)) }
+{
+    let mut replies = Vec::with_capacity(alloc, commands.len())?;
+    for command in commands {
+        let reply = step(store, command);
+        replies.push_reserved(reply);
+    }
+    Ok(replies)
+}

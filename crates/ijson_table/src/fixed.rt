@@ -1,0 +1,151 @@
+//! The table under the fixed hash.
+
+ghost use Rattle.std.specs.Prelude.{◌≡◌, ◌≢◌, ℕ, ◌+◌, ◌<◌, ◌≤◌, ◌^◌, ◌↔◌, List, [], ◌∷◌, ◌++◌, length, slice_get, Some, None, Ok, Err, IfOk, IsOk, refl};
+ghost use Rattle.std.specs.Option.{option_copied};
+ghost use Rattle.ijson_table.specs.Store.{keys_of, lookup};
+ghost use Rattle.ijson_table.specs.Growth.{capacity_limit};
+ghost use Rattle.ijson_table.specs.Placed.{placed_with_value};
+ghost use Rattle.ijson_table.specs.Fold.{fold_words};
+
+use crate::hash::FixedHash;
+use crate::places::{Places, Seen};
+use crate::store::{PairStore, ReserveError};
+use crate::table::Table;
+use ijson_number::Looks;
+use ijson_string::IString;
+use std::alloc::Global;
+use std::marker::Model;
+
+/// A [`Table`] whose places go by [`FixedHash`].
+#[derive(Debug, Drop)]
+pub struct FixedTable<V> {
+    table: Table<V, FixedHash>,
+}
+
+impl<V> Model for FixedTable<V> {
+    ghost use Rattle.ijson_table.specs.Placed.{Placed, placed_code};
+
+    ghost Value = { Placed V };
+
+    ghost coded = { placed_code V.code };
+
+    ghost view = { λ t. t.table };
+}
+
+impl<V: Drop> FixedTable<V> {
+    /// An empty store with room for so many pairs. It is refused as too large where that passes 2^56.
+    pub fn with_capacity(alloc: Global, capacity: usize) -> Result<FixedTable<V>, ReserveError>
+        ensures made { IfOk result (λ t. (t.store.pairs ≡ []) × (t.store.capacity ≡ capacity)) }
+        ensures too_large { (result ≡ Err ReserveError.TooLarge) ↔ (capacity_limit < capacity) }
+        ensures none { capacity ≡ 0 → IsOk result }
+    {
+        let table = Table::with_capacity(alloc, capacity)?;
+        Ok(FixedTable { table })
+    }
+}
+
+impl<V> FixedTable<V> {
+    /// The pairs, in order.
+    pub fn as_slice(&self) -> &[(IString, V)]
+        ensures { result.now ≡ self.now.store.pairs }
+    {
+        self.table.as_slice()
+    }
+
+    /// The value beside a key.
+    pub fn get(&self, key: &str) -> Option<&V>
+        ensures { option_copied result ≡ lookup key.now self.now.store.pairs }
+    {
+        self.table.get(key)
+    }
+}
+
+impl<V> Places for FixedTable<V> {
+    ghost hash_of = { λ text. fold_words text };
+
+    ghost keys = { λ t. keys_of t.store.pairs };
+
+    ghost room = { λ t. t.store.capacity };
+
+    ghost slots = { λ t. t.places };
+
+    ghost distinct = { λ t. t.store.distinct };
+
+    fn places(&self) -> usize {
+        self.table.places()
+    }
+
+    fn home(&self, key: &str) -> usize {
+        self.table.home(key)
+    }
+
+    fn look(&self, place: usize, key: &str, looks: &mut Looks) -> Seen {
+        self.table.look(place, key, looks)
+    }
+}
+
+impl<V: Drop> PairStore<V> for FixedTable<V> {
+    ghost pairs = { λ t. t.store.pairs };
+
+    ghost room = { λ t. t.store.capacity };
+
+    ghost distinct = { λ t. t.store.distinct };
+
+    ghost set_value = { λ t i v. placed_with_value t i v };
+
+    fn new(alloc: Global) -> Self {
+        FixedTable {
+            table: Table::new(alloc),
+        }
+    }
+
+    fn len(&self) -> usize {
+        self.table.len()
+    }
+
+    fn capacity(&self) -> usize {
+        self.table.capacity()
+    }
+
+    fn reserve(&mut self, additional: usize) -> Result<(), ReserveError> {
+        self.table.reserve(additional)
+    }
+
+    fn shrink_to_fit(&mut self) -> Result<(), ReserveError> {
+        self.table.shrink_to_fit()
+    }
+
+    fn position(&self, key: &str) -> Option<usize> {
+        self.table.position(key)
+    }
+
+    fn pair(&self, index: usize) -> (&IString, &V) {
+        self.table.pair(index)
+    }
+
+    fn value_mut(&mut self, index: usize) -> &mut V {
+        self.table.value_mut(index)
+    }
+
+    fn pair_mut(&mut self, index: usize) -> (&IString, &mut V) {
+        self.table.pair_mut(index)
+    }
+
+    fn push_new(&mut self, key: IString, value: V) {
+        self.table.push_new(key, value);
+    }
+
+    fn swap_out(&mut self, index: usize) -> (IString, V) {
+        self.table.swap_out(index)
+    }
+
+    fn into_pairs(self) -> Vec<(IString, V)> {
+        self.table.into_pairs()
+    }
+
+    fn clear(&mut self) {
+        self.table.clear();
+    }
+
+    ghost set_value_is = { λ t i v. (refl, refl) };
+}

@@ -1,0 +1,62 @@
+//! How a store grows and shrinks.
+
+ghost use Rattle.std.specs.Prelude.{◌≡◌, ◌+◌, ◌<◌, ◌≤◌, [], length, vec_capacity, Ok, Err, IfOk, IfErr, OnErr, MatchResult};
+ghost use Rattle.ijson_table.specs.Growth.{wanted, capacity_limit};
+
+use crate::store::ReserveError;
+use std::alloc::{AllocError, Global};
+
+/// The greatest capacity.
+const LIMIT: usize = 72_057_594_037_927_936;
+
+/// The capacity that a growth asks for, where it is within the limit.
+pub(crate) fn grown_capacity(
+    len: usize,
+    capacity: usize,
+    additional: usize,
+) -> Result<usize, ReserveError>
+    requires length { len ≤ capacity }
+    requires limited { capacity ≤ capacity_limit }
+    requires short { capacity < len + additional }
+    ensures { MatchResult result (λ n. (n ≡ wanted len capacity additional) × (n ≤ capacity_limit)) (λ why. (why ≡ ReserveError.TooLarge) × (capacity_limit < wanted len capacity additional)) }
+{
+    if additional > LIMIT || len + additional > LIMIT || 2 * capacity > LIMIT {
+        return Err(ReserveError::TooLarge);
+    }
+    Ok((2 * capacity).max(len + additional).max(4))
+}
+
+/// This capacity, where it is within the limit.
+pub(crate) fn limited(capacity: usize) -> Result<usize, ReserveError>
+    ensures { MatchResult result (λ n. (n ≡ capacity) × (capacity ≤ capacity_limit)) (λ why. (why ≡ ReserveError.TooLarge) × (capacity_limit < capacity)) }
+{
+    if capacity > LIMIT {
+        return Err(ReserveError::TooLarge);
+    }
+    Ok(capacity)
+}
+
+/// An empty list with room for so many items. Room for none takes no memory.
+pub(crate) fn list_with_room<T>(alloc: Global, room: usize) -> Result<Vec<T>, AllocError>
+    ensures empty { IfOk result (λ list. list.items ≡ []) }
+    ensures room { IfOk result (λ list. room ≤ vec_capacity list) }
+    ensures refused { OnErr result (0 < room) }
+{
+    if room == 0 {
+        return Ok(Vec::new(alloc));
+    }
+    Vec::with_capacity(alloc, room)
+}
+
+/// Moves the items to a list that has room for them alone. Where that is refused, nothing changes.
+pub(crate) fn fit<T: Drop>(alloc: Global, list: &mut Vec<T>) -> Result<(), AllocError>
+    ensures items { list.new.items ≡ list.old.items }
+    ensures room { length list.old.items ≤ vec_capacity list.new }
+    ensures refused { OnErr result ((0 < length list.old.items) × (vec_capacity list.new ≡ vec_capacity list.old)) }
+{
+    let mut fitted = list_with_room(alloc, list.len())?;
+    let moved = fitted.append(list);
+    moved.unwrap();
+    *list = fitted;
+    Ok(())
+}

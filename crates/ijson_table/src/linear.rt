@@ -1,0 +1,161 @@
+//! A pair store that searches its list.
+
+ghost use Rattle.std.specs.Prelude.{◌≡◌, ◌≢◌, ℕ, ◌+◌, ◌<◌, ◌≤◌, ◌^◌, List, [], ◌∷◌, ◌++◌, length, slice_get, Some, None, Ok, Err, refl, set, map, vec_len, vec_capacity, IfOk, IsOk, ◌↔◌};
+ghost use Rattle.std.specs.Option.{option_copied};
+ghost use Rattle.ijson_table.specs.Store.{at, keys_of, swap_out, IsDistinct, IsDistinct-prop, lookup, store_with_value};
+ghost use Rattle.ijson_table.specs.Growth.{Grow, Shrink, wanted, capacity_limit};
+
+use crate::growth::{fit, grown_capacity, limited, list_with_room};
+use crate::store::{PairStore, ReserveError};
+use ijson_string::IString;
+use std::alloc::Global;
+use std::marker::Model;
+
+/// Pairs in a list, searched from the front.
+#[derive(Debug, Drop)]
+pub struct LinearPairs<V> {
+    pairs: Vec<(IString, V)>,
+    capacity: usize,
+    ghost distinct: { IsDistinct (keys_of pairs.items) } by { IsDistinct-prop (keys_of pairs.items) },
+}
+
+impl<V> Model for LinearPairs<V> {
+    ghost use Rattle.std.specs.Prelude.{◌≤◌, vec_capacity, length};
+    ghost use Rattle.ijson_table.specs.Store.{Store, store_code};
+    ghost use Rattle.ijson_table.specs.Growth.{HasRoom};
+
+    ghost Value = { Store V };
+
+    ghost coded = { store_code V.code };
+
+    ghost view = { λ s. record { pairs = s.pairs.items; capacity = s.capacity; distinct = s.distinct } };
+
+    ghost invariant = { λ s. HasRoom (length s.pairs.items) s.capacity × (s.capacity ≤ vec_capacity s.pairs) };
+}
+
+/// The position of a key.
+fn find<V>(pairs: &[(IString, V)], key: &str) -> Option<usize>
+    ensures { result ≡ at pairs.now key.now }
+{
+    for (i, pair) in pairs.iter().enumerate() {
+        if pair.0.eq_str(key) {
+            return Some(i);
+        }
+    }
+    None
+}
+
+impl<V> LinearPairs<V> {
+    /// An empty store with room for so many pairs. It is refused as too large where that passes 2^56.
+    pub fn with_capacity(alloc: Global, capacity: usize) -> Result<LinearPairs<V>, ReserveError>
+        ensures made { IfOk result (λ s. (s.pairs ≡ []) × (s.capacity ≡ capacity)) }
+        ensures too_large { (result ≡ Err ReserveError.TooLarge) ↔ (capacity_limit < capacity) }
+        ensures none { capacity ≡ 0 → IsOk result }
+    {
+        let capacity = limited(capacity)?;
+        Ok(LinearPairs {
+            pairs: list_with_room(alloc, capacity)?,
+            capacity,
+        })
+    }
+
+    /// The pairs, in order.
+    pub fn as_slice(&self) -> &[(IString, V)]
+        ensures { result.now ≡ self.now.pairs }
+    {
+        self.pairs.as_slice()
+    }
+
+    /// The value beside a key.
+    pub fn get(&self, key: &str) -> Option<&V>
+        ensures { option_copied result ≡ lookup key.now self.now.pairs }
+    {
+        match find(&self.pairs, key) {
+            Some(index) => Some(&self.pairs[index].1),
+            None => None,
+        }
+    }
+}
+
+impl<V: Drop> PairStore<V> for LinearPairs<V> {
+    ghost pairs = { λ s. s.pairs };
+
+    ghost room = { λ s. s.capacity };
+
+    ghost distinct = { λ s. s.distinct };
+
+    ghost set_value = { λ s i v. store_with_value s i v };
+
+    fn new(alloc: Global) -> Self {
+        LinearPairs {
+            pairs: Vec::new(alloc),
+            capacity: 0,
+        }
+    }
+
+    fn len(&self) -> usize {
+        self.pairs.len()
+    }
+
+    fn capacity(&self) -> usize {
+        self.capacity
+    }
+
+    fn reserve(&mut self, additional: usize) -> Result<(), ReserveError> {
+        let len = self.pairs.len();
+        if additional <= self.capacity - len {
+            return Ok(());
+        }
+        let capacity = grown_capacity(len, self.capacity, additional)?;
+        self.pairs.reserve_exact(capacity - len)?;
+        self.capacity = capacity;
+        Ok(())
+    }
+
+    fn shrink_to_fit(&mut self) -> Result<(), ReserveError> {
+        let len = self.pairs.len();
+        if self.capacity == len {
+            return Ok(());
+        }
+        fit(*self.pairs.allocator(), &mut self.pairs)?;
+        self.capacity = len;
+        Ok(())
+    }
+
+    fn position(&self, key: &str) -> Option<usize> {
+        find(&self.pairs, key)
+    }
+
+    fn pair(&self, index: usize) -> (&IString, &V) {
+        let pair = &self.pairs[index];
+        (&pair.0, &pair.1)
+    }
+
+    fn value_mut(&mut self, index: usize) -> &mut V {
+        let pair = &mut self.pairs[index];
+        &mut pair.1
+    }
+
+    fn pair_mut(&mut self, index: usize) -> (&IString, &mut V) {
+        let pair = &mut self.pairs[index];
+        (&pair.0, &mut pair.1)
+    }
+
+    fn push_new(&mut self, key: IString, value: V) {
+        self.pairs.push_reserved((key, value));
+    }
+
+    fn swap_out(&mut self, index: usize) -> (IString, V) {
+        self.pairs.swap_remove(index)
+    }
+
+    fn into_pairs(self) -> Vec<(IString, V)> {
+        self.pairs
+    }
+
+    fn clear(&mut self) {
+        self.pairs.clear();
+    }
+
+    ghost set_value_is = { λ s i v. (refl, refl) };
+}

@@ -1,0 +1,117 @@
+//! What a pair store is.
+
+ghost use Rattle.std.specs.Prelude.{◌≡◌, ℕ, ◌+◌, ◌<◌, ◌≤◌, List, [], ◌∷◌, ◌++◌, length, slice_get, Some, None, OnOk};
+ghost use Rattle.ijson_table.specs.Store.{at, keys_of, swap_out, IsDistinct, with_value};
+ghost use Rattle.ijson_table.specs.Growth.{Grow, Shrink};
+ghost use Rattle.std.specs.Borrow.{Lends, sem};
+
+use ijson_string::IString;
+use std::alloc::{AllocError, Global};
+
+/// Why the capacity of a store did not change.
+#[derive(Clone, Copy, Debug, PartialEq, Eq, Drop)]
+pub enum ReserveError {
+    /// A request for memory was refused.
+    Memory,
+    /// The new capacity would pass 2^56.
+    TooLarge,
+}
+
+impl From<AllocError> for ReserveError {
+    ghost use Rattle.std.specs.Prelude.{◌≡◌};
+    ghost use Rattle.ijson_table.specs.declared.store.ReserveError.TheVariants.{Memory};
+
+    ghost from_gives = { λ _ why. why ≡ Memory };
+
+    fn from(_refused: AllocError) -> ReserveError {
+        ReserveError::Memory
+    }
+}
+
+/// A list of pairs with distinct keys, and a capacity: the number of pairs that it has room for.
+pub trait PairStore<V>: Sized {
+    /// The pairs, in order.
+    ghost pairs: { Self → List (List ℕ × V) };
+
+    /// How many pairs have room.
+    ghost room: { Self → ℕ };
+
+    /// No key stands twice.
+    ghost distinct: { (s : Self) → IsDistinct (keys_of (pairs s)) };
+
+    /// The store with another value at a position.
+    ghost set_value: { Self → ℕ → V → Self };
+
+    /// An empty store of capacity 0, which takes no memory.
+    fn new(alloc: Global) -> Self
+        ensures pairs { pairs result ≡ [] }
+        ensures room { room result ≡ 0 };
+
+    /// How many pairs there are.
+    fn len(&self) -> usize
+        ensures { result ≡ length (pairs self.now) };
+
+    /// How many pairs have room, from the length to 2^56.
+    fn capacity(&self) -> usize
+        ensures room { result ≡ room self.now }
+        ensures within { length (pairs self.now) ≤ room self.now };
+
+    /// Makes room for so many more pairs. Where they have none, the capacity becomes the greatest of twice the old one,
+    /// the length with them, and 4.
+    fn reserve(&mut self, additional: usize) -> Result<(), ReserveError>
+        ensures grown { Grow (length (pairs self.old)) (room self.old) additional result (room self.new) }
+        ensures room { OnOk result (length (pairs self.new) + additional ≤ room self.new) }
+        ensures pairs { pairs self.new ≡ pairs self.old };
+
+    /// Makes the capacity the length. That takes no memory where it is so already or the length is 0.
+    fn shrink_to_fit(&mut self) -> Result<(), ReserveError>
+        ensures room { Shrink (length (pairs self.old)) (room self.old) result (room self.new) }
+        ensures pairs { pairs self.new ≡ pairs self.old };
+
+    /// The position of a key, from 0.
+    fn position(&self, key: &str) -> Option<usize>
+        ensures { result ≡ at (pairs self.now) key.now };
+
+    /// The pair at a position.
+    fn pair(&self, index: usize) -> (&IString, &V)
+        requires { index < length (pairs self.now) }
+        ensures { slice_get (pairs self.now) index ≡ Some (result.0.now, result.1.now) };
+
+    /// Lends the value at a position.
+    fn value_mut(&mut self, index: usize) -> &mut V
+        requires { index < length (pairs self.old) }
+        ensures* writes_back { sem 𝓛 (Lends Self.row V.row self.entry result (λ w. set_value self.old index w)) }
+        ensures value { (key : List ℕ) × (slice_get (pairs self.old) index ≡ Some (key, result.now)) };
+
+    /// Lends the value at a position, and shows its key.
+    fn pair_mut(&mut self, index: usize) -> (&IString, &mut V)
+        requires { index < length (pairs self.old) }
+        ensures* writes_back { sem 𝓛 (Lends Self.row V.row self.entry result.1 (λ w. set_value self.old index w)) }
+        ensures pair { slice_get (pairs self.old) index ≡ Some (result.0.now, result.1.now) };
+
+    /// Puts a pair last, in the room that there is.
+    fn push_new(&mut self, key: IString, value: V)
+        requires missing { at (pairs self.old) key ≡ None }
+        requires within { length (pairs self.old) < room self.old }
+        ensures pairs { pairs self.new ≡ pairs self.old ++ (key, value) ∷ [] }
+        ensures room { room self.new ≡ room self.old };
+
+    /// Takes out the pair at a position. The last pair moves there.
+    fn swap_out(&mut self, index: usize) -> (IString, V)
+        requires { index < length (pairs self.old) }
+        ensures pair { slice_get (pairs self.old) index ≡ Some result }
+        ensures pairs { pairs self.new ≡ swap_out (pairs self.old) index }
+        ensures room { room self.new ≡ room self.old };
+
+    /// The pairs, in order.
+    fn into_pairs(self) -> Vec<(IString, V)>
+        ensures { result.items ≡ pairs self };
+
+    /// Drops each pair. The capacity stays.
+    fn clear(&mut self)
+        ensures pairs { pairs self.new ≡ [] }
+        ensures room { room self.new ≡ room self.old };
+
+    /// Another value changes no key, no other pair and no room.
+    ghost set_value_is: { (s : Self) (i : ℕ) (v : V) → (pairs (set_value s i v) ≡ with_value (pairs s) i v) × (room (set_value s i v) ≡ room s) };
+}

@@ -1,0 +1,217 @@
+//! A pair store whose keys are found by their hash.
+
+ghost use Rattle.std.specs.Prelude.{◌≡◌, ◌≢◌, ℕ, ◌+◌, ◌<◌, ◌≤◌, ◌^◌, ◌/◌, List, [], ◌∷◌, ◌++◌, length, slice_get, Some, None, Ok, Err, refl, set, map, vec_len, vec_capacity, IfOk, IsOk, ◌↔◌};
+ghost use Rattle.ijson_table.specs.Store.{at, keys_of, swap_out, IsDistinct, IsDistinct-prop, lookup};
+ghost use Rattle.ijson_table.specs.Crowd.{home_of, place_count};
+ghost use Rattle.ijson_table.specs.Places.{IsTable};
+ghost use Rattle.ijson_table.specs.Sees.{Sees};
+ghost use Rattle.ijson_table.specs.Growth.{Grow, Shrink, capacity_limit};
+ghost use Rattle.ijson_table.specs.Placed.{placed_with_value};
+ghost use Rattle.std.specs.Option.{option_copied};
+
+use crate::growth::{fit, grown_capacity, limited, list_with_room};
+use crate::hash::KeyHash;
+use crate::moving::{
+    clear_places, distance_of, empty_places, home, new_places, place_all, put_in, take_out,
+};
+use crate::place::Place;
+use crate::places::{Places, Seen, locate};
+use crate::store::{PairStore, ReserveError};
+use ijson_number::Looks;
+use ijson_string::IString;
+use std::alloc::Global;
+use std::marker::{Model, PhantomData};
+
+/// Pairs in a list, and their positions in places by the hash of their keys.
+#[derive(Debug, Drop)]
+pub struct Table<V, H: KeyHash> {
+    pairs: Vec<(IString, V)>,
+    places: Vec<Place>,
+    capacity: usize,
+    alloc: Global,
+    hash: PhantomData<H>,
+    ghost distinct: { IsDistinct (keys_of pairs.items) } by { IsDistinct-prop (keys_of pairs.items) },
+}
+
+impl<V, H: KeyHash> Model for Table<V, H> {
+    ghost use Rattle.std.specs.Prelude.{◌≤◌, vec_capacity};
+    ghost use Rattle.ijson_table.specs.Placed.{Placed, placed_code, IsPlaced};
+
+    ghost Value = { Placed V };
+
+    ghost coded = { placed_code V.code };
+
+    ghost view = { λ t. record { store = record { pairs = t.pairs.items; capacity = t.capacity; distinct = t.distinct }; places = t.places.items } };
+
+    ghost invariant = { λ t. IsPlaced H.hash_of t.pairs.items t.capacity t.places.items × (t.capacity ≤ vec_capacity t.pairs) };
+}
+
+impl<V: Drop, H: KeyHash> Table<V, H> {
+    /// An empty store with room for so many pairs. It is refused as too large where that passes 2^56.
+    pub fn with_capacity(alloc: Global, capacity: usize) -> Result<Table<V, H>, ReserveError>
+        ensures made { IfOk result (λ t. (t.store.pairs ≡ []) × (t.store.capacity ≡ capacity)) }
+        ensures too_large { (result ≡ Err ReserveError.TooLarge) ↔ (capacity_limit < capacity) }
+        ensures none { capacity ≡ 0 → IsOk result }
+    {
+        let capacity = limited(capacity)?;
+        let pairs = list_with_room(alloc, capacity)?;
+        let places = new_places::<V, H>(alloc, &pairs, capacity)?;
+        Ok(Table {
+            pairs,
+            places,
+            capacity,
+            alloc,
+            hash: PhantomData,
+        })
+    }
+}
+
+impl<V, H: KeyHash> Table<V, H> {
+    /// The pairs, in order.
+    pub fn as_slice(&self) -> &[(IString, V)]
+        ensures { result.now ≡ self.now.store.pairs }
+    {
+        self.pairs.as_slice()
+    }
+
+    /// The value beside a key.
+    pub fn get(&self, key: &str) -> Option<&V>
+        ensures { option_copied result ≡ lookup key.now self.now.store.pairs }
+    {
+        let _capacity = self.capacity;
+        let mut looks = Looks::new();
+        match locate(self, key, &mut looks) {
+            Some(index) => Some(&self.pairs[index].1),
+            None => None,
+        }
+    }
+}
+
+impl<V, H: KeyHash> Places for Table<V, H> {
+    ghost hash_of = { H.hash_of };
+
+    ghost keys = { λ t. keys_of t.store.pairs };
+
+    ghost room = { λ t. t.store.capacity };
+
+    ghost slots = { λ t. t.places };
+
+    ghost distinct = { λ t. t.store.distinct };
+
+    fn places(&self) -> usize {
+        self.places.len()
+    }
+
+    fn home(&self, key: &str) -> usize {
+        home::<H>(self.places.len(), key)
+    }
+
+    fn look(&self, place: usize, key: &str, looks: &mut Looks) -> Seen {
+        looks.add_one();
+        match self.places[place].position() {
+            None => Seen::Empty,
+            Some(at) => Seen::Resident {
+                at,
+                distance: distance_of::<V, H>(&self.pairs, self.places.len(), at, place),
+                same: self.pairs[at].0.eq_str(key),
+            },
+        }
+    }
+}
+
+impl<V: Drop, H: KeyHash> PairStore<V> for Table<V, H> {
+    ghost pairs = { λ t. t.store.pairs };
+
+    ghost room = { λ t. t.store.capacity };
+
+    ghost distinct = { λ t. t.store.distinct };
+
+    ghost set_value = { λ t i v. placed_with_value t i v };
+
+    fn value_mut(&mut self, index: usize) -> &mut V {
+        let pair = &mut self.pairs[index];
+        &mut pair.1
+    }
+
+    fn new(alloc: Global) -> Self {
+        Table {
+            pairs: Vec::new(alloc),
+            places: Vec::new(alloc),
+            capacity: 0,
+            alloc,
+            hash: PhantomData,
+        }
+    }
+
+    fn len(&self) -> usize {
+        self.pairs.len()
+    }
+
+    fn capacity(&self) -> usize {
+        self.capacity
+    }
+
+    fn reserve(&mut self, additional: usize) -> Result<(), ReserveError> {
+        let len = self.pairs.len();
+        if additional <= self.capacity - len {
+            return Ok(());
+        }
+        let capacity = grown_capacity(len, self.capacity, additional)?;
+        let mut places = empty_places(self.alloc, capacity + capacity / 4)?;
+        self.pairs.reserve_exact(capacity - len)?;
+        place_all::<V, H>(&self.pairs, &mut places);
+        self.places = places;
+        self.capacity = capacity;
+        Ok(())
+    }
+
+    fn shrink_to_fit(&mut self) -> Result<(), ReserveError> {
+        let len = self.pairs.len();
+        if self.capacity == len {
+            return Ok(());
+        }
+        let places = new_places::<V, H>(self.alloc, &self.pairs, len)?;
+        fit(self.alloc, &mut self.pairs)?;
+        self.places = places;
+        self.capacity = len;
+        Ok(())
+    }
+
+    fn position(&self, key: &str) -> Option<usize> {
+        let _capacity = self.capacity;
+        let mut looks = Looks::new();
+        locate(self, key, &mut looks)
+    }
+
+    fn pair_mut(&mut self, index: usize) -> (&IString, &mut V) {
+        let pair = &mut self.pairs[index];
+        (&pair.0, &mut pair.1)
+    }
+
+    fn push_new(&mut self, key: IString, value: V) {
+        let position = self.pairs.len();
+        self.pairs.push_reserved((key, value));
+        put_in::<V, H>(&self.pairs, &mut self.places, position);
+    }
+
+    fn swap_out(&mut self, index: usize) -> (IString, V) {
+        take_out::<V, H>(&self.pairs, &mut self.places, index);
+        self.pairs.swap_remove(index)
+    }
+
+    fn pair(&self, index: usize) -> (&IString, &V) {
+        let pair = &self.pairs[index];
+        (&pair.0, &pair.1)
+    }
+
+    fn into_pairs(self) -> Vec<(IString, V)> {
+        self.pairs
+    }
+
+    fn clear(&mut self) {
+        self.pairs.clear();
+        clear_places(&mut self.places);
+    }
+
+    ghost set_value_is = { λ t i v. (refl, refl) };
+}

@@ -1,0 +1,306 @@
+//! Tables worked by hand, and long lists of commands on each store.
+
+mod lists;
+mod refusals;
+
+use crate::commands::{Command, Reply, run};
+use crate::fixed::FixedTable;
+use crate::hash::{FixedHash, KeyHash};
+use crate::linear::LinearPairs;
+use crate::places::{Places, Seen, locate};
+use crate::store::{PairStore, ReserveError};
+use crate::table::Table;
+use ijson_number::Looks;
+use ijson_string::{IString, StringCache};
+use std::alloc::{AllocError, Global};
+use std::hash::{BuildHasherDefault, FoldHasher};
+use std::process::Abort;
+
+type Cache = StringCache<BuildHasherDefault<FoldHasher>>;
+
+fn new_cache(alloc: Global) -> Cache {
+    StringCache::new(alloc, BuildHasherDefault::new())
+}
+
+/// The length of the text in bytes.
+#[derive(Drop)]
+struct ByLength;
+
+impl KeyHash for ByLength {
+    ghost use Rattle.std.specs.Prelude.{length};
+
+    ghost hash_of = { λ text. length text };
+
+    fn hash(text: &str) -> u64 {
+        text.len() as u64
+    }
+}
+
+/// Always 0.
+#[derive(Drop)]
+struct AlwaysZero;
+
+impl KeyHash for AlwaysZero {
+    ghost hash_of = { λ text. 0 };
+
+    fn hash(_text: &str) -> u64 {
+        0
+    }
+}
+
+/// The position of a key and how many looks that took.
+fn found<H: KeyHash>(table: &Table<u64, H>, key: &str) -> (Option<usize>, u128) {
+    if table.len() > 1000 {
+        return (None, 0);
+    }
+    let mut looks = Looks::new();
+    let position = locate(table, key, &mut looks);
+    (position, looks.count())
+}
+
+/// The position at each place, 9 where it is empty.
+fn shown<P: Places>(alloc: Global, table: &P) -> Result<Vec<usize>, AllocError> {
+    let mut all = Vec::new(alloc);
+    for place in 0..table.places() {
+        let mut looks = Looks::new();
+        match table.look(place, "", &mut looks) {
+            Seen::Empty => all.push(9)?,
+            Seen::Resident { at, .. } => all.push(at)?,
+        }
+    }
+    Ok(all)
+}
+
+/// Inserts these keys, each beside its index.
+fn insert_all<P: PairStore<u64>>(
+    alloc: Global,
+    store: &mut P,
+    keys: &[&str],
+) -> Result<Vec<Reply<u64>>, AllocError> {
+    let mut cache = new_cache(alloc);
+    let mut commands = Vec::new(alloc);
+    for (i, key) in keys.iter().enumerate() {
+        let key = IString::intern(&mut cache, key)?;
+        commands.push(Command::Insert(key, i as u64))?;
+    }
+    run(alloc, store, commands)
+}
+
+/// Takes out one key.
+fn remove<P: PairStore<u64>>(
+    alloc: Global,
+    store: &mut P,
+    key: &str,
+) -> Result<Vec<Reply<u64>>, AllocError> {
+    let key = IString::intern(&mut new_cache(alloc), key)?;
+    let mut commands = Vec::new(alloc);
+    commands.push(Command::Remove(key))?;
+    run(alloc, store, commands)
+}
+
+/// Whether these are the keys, in order.
+fn has_keys(pairs: &[(IString, u64)], keys: &[&str]) -> bool {
+    pairs
+        .iter()
+        .map(|pair| pair.0.as_str())
+        .eq(keys.iter().copied())
+}
+
+#[test]
+fn lengths_meet(rt: HostRuntime) -> Result<(), AllocError> {
+    let alloc = rt.alloc();
+    let mut table: Table<u64, ByLength> = Table::new(alloc);
+    insert_all(alloc, &mut table, &["a", "bb", "c", "dd"])?;
+    assert_eq!(rt; table.capacity(), 4);
+    assert!(rt; shown(alloc, &table)?.as_slice() == [9, 0, 2, 1, 3].as_slice());
+    assert!(rt; found(&table, "dd") == (Some(3), 3));
+    assert!(rt; found(&table, "z") == (None, 3));
+    assert!(rt; found(&table, "zz") == (None, 4));
+    remove(alloc, &mut table, "a")?;
+    assert!(rt; has_keys(table.as_slice(), &["dd", "bb", "c"]));
+    assert!(rt; shown(alloc, &table)?.as_slice() == [9, 2, 1, 0, 9].as_slice());
+    assert_eq!(rt; table.position("c"), Some(2));
+    assert_eq!(rt; table.position("dd"), Some(0));
+    Ok(())
+}
+
+#[test]
+fn lengths_meet_round_the_end(rt: HostRuntime) -> Result<(), AllocError> {
+    let alloc = rt.alloc();
+    let mut table: Table<u64, ByLength> = Table::new(alloc);
+    insert_all(alloc, &mut table, &["aaaa", "bbbb", "ccccc"])?;
+    assert!(rt; shown(alloc, &table)?.as_slice() == [1, 2, 9, 9, 0].as_slice());
+    remove(alloc, &mut table, "aaaa")?;
+    assert!(rt; has_keys(table.as_slice(), &["ccccc", "bbbb"]));
+    assert!(rt; shown(alloc, &table)?.as_slice() == [0, 9, 9, 9, 1].as_slice());
+    assert!(rt; found(&table, "dddd") == (None, 2));
+    Ok(())
+}
+
+#[test]
+fn all_meet(rt: HostRuntime) -> Result<(), AllocError> {
+    let alloc = rt.alloc();
+    let mut table: Table<u64, AlwaysZero> = Table::new(alloc);
+    assert!(rt; found(&table, "a") == (None, 0));
+    assert!(rt; table.reserve(0).is_ok());
+    insert_all(alloc, &mut table, &["a", "b", "c", "d", "e"])?;
+    assert_eq!(rt; table.capacity(), 8);
+    assert!(rt; found(&table, "z") == (None, 6));
+    Ok(())
+}
+
+#[test]
+fn one_place(rt: HostRuntime) -> Result<(), AllocError> {
+    let alloc = rt.alloc();
+    let Ok(mut table) = Table::<u64, AlwaysZero>::with_capacity(alloc, 1) else {
+        return Err(AllocError);
+    };
+    insert_all(alloc, &mut table, &["a"])?;
+    assert_eq!(rt; (table.capacity(), table.places()), (1, 1));
+    assert!(rt; found(&table, "a") == (Some(0), 1));
+    assert!(rt; found(&table, "b") == (None, 1));
+    Ok(())
+}
+
+#[test]
+fn full_to_the_last_place(rt: HostRuntime) -> Result<(), AllocError> {
+    let alloc = rt.alloc();
+    let Ok(mut table) = Table::<u64, AlwaysZero>::with_capacity(alloc, 3) else {
+        return Err(AllocError);
+    };
+    insert_all(alloc, &mut table, &["a", "b", "c"])?;
+    assert_eq!(rt; table.capacity(), 3);
+    assert!(rt; shown(alloc, &table)?.as_slice() == [0, 1, 2].as_slice());
+    assert!(rt; found(&table, "z") == (None, 3));
+    remove(alloc, &mut table, "a")?;
+    assert!(rt; has_keys(table.as_slice(), &["c", "b"]));
+    assert_eq!(rt;
+        (table.position("c"), table.position("b")),
+        (Some(0), Some(1))
+    );
+    assert!(rt; shown(alloc, &table)?.as_slice() == [1, 0, 9].as_slice());
+    Ok(())
+}
+
+#[test]
+fn fixed_hashes(rt: HostRuntime) {
+    assert_eq!(rt; FixedHash::hash(""), 0xcbf2_9ce4_8422_2325);
+    assert_eq!(rt; FixedHash::hash("a"), 0xaf63_bd4c_8601_b840);
+}
+
+/// What each store does, the same for all of them.
+fn keeps_order_and_capacity<P: PairStore<u64>>(
+    rt: &impl Abort,
+    alloc: Global,
+    store: &mut P,
+) -> Result<(), AllocError> {
+    let replies = insert_all(alloc, store, &["a", "b", "c", "d", "e"])?;
+    assert!(rt; replies.iter().all(|reply| matches!(reply, Reply::Added)));
+    assert_eq!(rt; (store.len(), store.capacity()), (5, 8));
+    remove(alloc, store, "e")?;
+    remove(alloc, store, "b")?;
+    assert_eq!(rt;
+        (
+            store.position("a"),
+            store.position("d"),
+            store.position("c")
+        ),
+        (Some(0), Some(1), Some(2))
+    );
+    let gone = remove(alloc, store, "b")?;
+    assert!(rt;
+        gone.iter()
+            .all(|reply| matches!(reply, Reply::Removed(None)))
+    );
+    assert_eq!(rt; store.capacity(), 8);
+    assert!(rt; store.shrink_to_fit().is_ok());
+    assert_eq!(rt; (store.len(), store.capacity()), (3, 3));
+    assert!(rt; store.reserve(usize::MAX) == Err(ReserveError::TooLarge));
+    store.clear();
+    assert_eq!(rt; (store.len(), store.capacity()), (0, 3));
+    Ok(())
+}
+
+#[test]
+fn each_store_keeps_order_and_capacity(rt: HostRuntime) -> Result<(), AllocError> {
+    let alloc = rt.alloc();
+    keeps_order_and_capacity(&rt, alloc, &mut LinearPairs::new(alloc))?;
+    keeps_order_and_capacity(&rt, alloc, &mut Table::<u64, AlwaysZero>::new(alloc))?;
+    keeps_order_and_capacity(&rt, alloc, &mut Table::<u64, ByLength>::new(alloc))?;
+    keeps_order_and_capacity(&rt, alloc, &mut FixedTable::new(alloc))
+}
+
+#[test]
+fn the_limit(rt: HostRuntime) {
+    let alloc = rt.alloc();
+    let past = 72_057_594_037_927_937;
+    assert!(rt;
+        matches!(
+            LinearPairs::<u64>::with_capacity(alloc, past),
+            Err(ReserveError::TooLarge)
+        )
+    );
+    assert!(rt;
+        matches!(
+            FixedTable::<u64>::with_capacity(alloc, past),
+            Err(ReserveError::TooLarge)
+        )
+    );
+}
+
+#[test]
+fn a_run(rt: HostRuntime) -> Result<(), AllocError> {
+    let alloc = rt.alloc();
+    let a = || IString::intern(&mut new_cache(alloc), "a");
+    let mut commands = Vec::new(alloc);
+    commands.push(Command::Insert(a()?, 1))?;
+    commands.push(Command::Insert(a()?, 2))?;
+    commands.push(Command::Find(a()?))?;
+    commands.push(Command::Find(IString::intern(&mut new_cache(alloc), "b")?))?;
+    commands.push(Command::Remove(a()?))?;
+    commands.push(Command::ShrinkToFit)?;
+    let mut store = LinearPairs::new(alloc);
+    let replies = run(alloc, &mut store, commands)?;
+    let mut expected = Vec::new(alloc);
+    expected.push(Reply::Added)?;
+    expected.push(Reply::Replaced(1))?;
+    expected.push(Reply::Found(Some(0)))?;
+    expected.push(Reply::Found(None))?;
+    expected.push(Reply::Removed(Some((a()?, 2))))?;
+    expected.push(Reply::Done)?;
+    assert!(rt; replies.as_slice() == expected.as_slice());
+    assert_eq!(rt; store.capacity(), 0);
+    Ok(())
+}
+
+/// A value is written through each lending call, and all pairs come back.
+fn lends<P: PairStore<u64> + Drop>(
+    rt: &impl Abort,
+    alloc: Global,
+    mut store: P,
+) -> Result<(), AllocError> {
+    insert_all(alloc, &mut store, &["a", "b", "c"])?;
+    if store.len() > 0 {
+        *store.value_mut(0) = 7;
+    }
+    if store.len() > 1 {
+        let (key, value) = store.pair_mut(1);
+        assert!(rt; key.eq_str("b"));
+        *value = 8;
+    }
+    if store.len() > 2 {
+        let (key, value) = store.pair(2);
+        assert!(rt; key.eq_str("c") && *value == 2);
+    }
+    let pairs = store.into_pairs();
+    assert!(rt; has_keys(&pairs, &["a", "b", "c"]));
+    assert!(rt; pairs.iter().map(|pair| pair.1).eq([7, 8, 2]));
+    Ok(())
+}
+
+#[test]
+fn each_store_lends(rt: HostRuntime) -> Result<(), AllocError> {
+    let alloc = rt.alloc();
+    lends(&rt, alloc, LinearPairs::new(alloc))?;
+    lends(&rt, alloc, FixedTable::new(alloc))
+}

@@ -1,0 +1,124 @@
+//! Long lists of commands, which each store answers alike.
+
+use super::{AlwaysZero, ByLength, new_cache};
+use crate::commands::{Command, run};
+use crate::fixed::FixedTable;
+use crate::hash::FixedHash;
+use crate::linear::LinearPairs;
+use crate::store::PairStore;
+use crate::table::Table;
+use ijson_string::IString;
+use std::alloc::{AllocError, Global};
+
+/// How many commands a list has.
+const COUNT: usize = 200;
+
+const KEYS: [&str; 24] = [
+    "",
+    "a",
+    "b",
+    "c",
+    "d",
+    "e",
+    "f",
+    "aa",
+    "bb",
+    "cc",
+    "dd",
+    "ee",
+    "ff",
+    "gg",
+    "aaa",
+    "bbb",
+    "ccc",
+    "seven77",
+    "eight888",
+    "nine99999",
+    "a longer key",
+    "another key",
+    "one more key",
+    "é",
+];
+
+/// The next number of a fixed sequence.
+fn next(state: u64) -> u64 {
+    state
+        .wrapping_mul(6_364_136_223_846_793_005)
+        .wrapping_add(1_442_695_040_888_963_407)
+}
+
+/// The list of commands that begins with this number.
+fn commands(alloc: Global, seed: u64) -> Result<Vec<Command<u64>>, AllocError> {
+    let mut cache = new_cache(alloc);
+    let mut state = seed;
+    let mut commands = Vec::new(alloc);
+    for _ in 0..COUNT {
+        state = next(state);
+        let key = IString::intern(&mut cache, KEYS[(state >> 33) as usize % KEYS.len()])?;
+        let command = match (state >> 40) % 64 {
+            0..=35 => Command::Insert(key, state),
+            36..=43 => Command::Find(key),
+            44..=55 => Command::Remove(key),
+            56..=59 => Command::Reserve((state >> 20) as usize % 12),
+            60..=62 => Command::ShrinkToFit,
+            _ => Command::Clear,
+        };
+        commands.push(command)?;
+    }
+    Ok(commands)
+}
+
+/// Whether two stores give the same replies and end with the same pairs at the same positions and the same capacity.
+fn agree<P: PairStore<u64>, Q: PairStore<u64>>(
+    alloc: Global,
+    seed: u64,
+    one: &mut P,
+    other: &mut Q,
+) -> Result<bool, AllocError> {
+    let replies = run(alloc, one, commands(alloc, seed)?)?;
+    let expected = run(alloc, other, commands(alloc, seed)?)?;
+    if replies.as_slice() != expected.as_slice()
+        || one.capacity() != other.capacity()
+        || one.len() != other.len()
+    {
+        return Ok(false);
+    }
+    for i in 0..one.len() {
+        let (key, value) = one.pair(i);
+        let (other_key, other_value) = other.pair(i);
+        if key != other_key || value != other_value || one.position(key.as_str()) != Some(i) {
+            return Ok(false);
+        }
+    }
+    Ok(true)
+}
+
+#[test]
+fn stores_agree(rt: HostRuntime) -> Result<(), AllocError> {
+    let alloc = rt.alloc();
+    for seed in 0..40 {
+        let linear = &mut LinearPairs::new(alloc);
+        assert!(rt;
+            agree(
+                alloc,
+                seed,
+                &mut Table::<u64, AlwaysZero>::new(alloc),
+                linear
+            )?
+        );
+        let linear = &mut LinearPairs::new(alloc);
+        assert!(rt; agree(alloc, seed, &mut Table::<u64, ByLength>::new(alloc), linear)?);
+        let linear = &mut LinearPairs::new(alloc);
+        assert!(rt;
+            agree(
+                alloc,
+                seed,
+                &mut Table::<u64, FixedHash>::new(alloc),
+                linear
+            )?
+        );
+        let linear = &mut LinearPairs::new(alloc);
+        assert!(rt; agree(alloc, seed, &mut FixedTable::new(alloc), linear)?);
+    }
+    Ok(())
+}
