@@ -1,0 +1,3 @@
+pub mod DepthLemmas
+mod Inserts
+mod SameSteps

@@ -1,0 +1,15 @@
+pub mod Code
+pub mod Depths
+pub mod Equality
+pub mod Kinds
+pub mod NodeFalls
+pub mod Parts
+pub mod Proper
+pub mod Refusals
+pub mod Same
+pub mod SameDecided
+pub mod SameLaws
+pub mod SameTest
+pub mod Sequence
+pub mod Tree
+pub mod View

@@ -1,0 +1,32 @@
+-- When two trees are the same JSON value: numbers by their value, arrays item by item, objects as maps, whatever the order of
+-- their pairs. As the Rust crate `ijson` has it.
+use Rattle.std.specs.Prelude.{◌≡◌, ◌⊎◌, ℕ, List}
+use Rattle.std.specs.declared.cmp.Ordering.TheVariants.{Equal}
+use Rattle.ijson_number.specs.Order.{number_cmp}
+use Rattle.ijson_value.specs.Tree.{Tree, null, boolean, number, string, array, object, Items, no_items, item, Members, no_members, member, members_len}
+
+-- the pair of k and u is one of these
+abbrev pub Has : List ℕ → Tree → Members → Type 0
+Has k u no_members = ⊥
+Has k u (member j v qs) = ((k ≡ j) × (u ≡ v)) ⊎ Has k u qs
+
+abbrev mutual
+  pub Same : Tree → Tree → Type 0
+  Same null null = Unit {0}
+  Same (boolean a) (boolean b) = a ≡ b
+  Same (number m) (number n) = number_cmp m n ≡ Equal
+  Same (string s) (string t) = s ≡ t
+  Same (array ts) (array us) = SameEach ts us
+  Same (object ps) (object qs) = (members_len ps ≡ members_len qs) × SameIn ps qs
+  Same _ _ = ⊥
+
+  -- one length, and the same item by item
+  pub SameEach : Items → Items → Type 0
+  SameEach no_items no_items = Unit {0}
+  SameEach (item t ts) (item u us) = Same t u × SameEach ts us
+  SameEach _ _ = ⊥
+
+  -- each pair of ps has a pair in qs with its key and a value that is the same
+  pub SameIn : Members → Members → Type 0
+  SameIn no_members qs = Unit {0}
+  SameIn (member k t ps) qs = ((u : Tree) × Has k u qs × Same t u) × SameIn ps qs

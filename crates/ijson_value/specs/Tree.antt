@@ -1,0 +1,60 @@
+-- A JSON value as a tree (RFC 8259, sections 3 to 7): null, a truth value, a number, a text, a list of values, or pairs of a
+-- key and a value in their order. A text is its UTF-8 bytes.
+use Rattle.std.specs.Prelude.{ℕ, suc, max, Bool, List, [], ◌∷◌}
+use Rattle.ijson_number.specs.Decimal.{Decimal}
+
+mutual
+  pub data Tree : Type 0 where
+    null : Tree
+    boolean : Bool → Tree
+    number : Decimal → Tree
+    string : List ℕ → Tree
+    array : Items → Tree
+    object : Members → Tree
+
+  pub data Items : Type 0 where
+    no_items : Items
+    item : Tree → Items → Items
+
+  pub data Members : Type 0 where
+    no_members : Members
+    member : List ℕ → Tree → Members → Members
+
+abbrev pub items_of : List Tree → Items
+items_of [] = no_items
+items_of (t ∷ ts) = item t (items_of ts)
+
+abbrev pub members_of : List (List ℕ × Tree) → Members
+members_of [] = no_members
+members_of (p ∷ ps) = member p.0 p.1 (members_of ps)
+
+abbrev pub items_len : Items → ℕ
+items_len no_items = 0
+items_len (item t ts) = suc (items_len ts)
+
+abbrev pub members_len : Members → ℕ
+members_len no_members = 0
+members_len (member k t ps) = suc (members_len ps)
+
+-- the keys, in order
+abbrev pub member_keys : Members → List (List ℕ)
+member_keys no_members = []
+member_keys (member k t ps) = k ∷ member_keys ps
+
+-- how deep arrays and objects nest: an empty one counts as 1
+abbrev mutual
+  pub depth : Tree → ℕ
+  depth null = 0
+  depth (boolean b) = 0
+  depth (number n) = 0
+  depth (string s) = 0
+  depth (array ts) = suc (items_depth ts)
+  depth (object ps) = suc (members_depth ps)
+
+  pub items_depth : Items → ℕ
+  items_depth no_items = 0
+  items_depth (item t ts) = max (depth t) (items_depth ts)
+
+  pub members_depth : Members → ℕ
+  members_depth no_members = 0
+  members_depth (member k t ps) = max (depth t) (members_depth ps)

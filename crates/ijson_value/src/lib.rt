@@ -1,0 +1,14 @@
+//! JSON values: an array, an object with distinct keys, and the value that is one of the six kinds.
+#![tactic(auto)]
+
+pub mod array;
+pub mod object;
+mod same;
+pub mod value;
+
+pub use array::{IArray, Refused};
+pub use object::{IObject, RefusedPair};
+pub use value::{DestructuredRef, IValue, ValueType};
+
+#[cfg(test)]
+mod tests;

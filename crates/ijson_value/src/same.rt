@@ -1,0 +1,60 @@
+//! Equality, as one walk over a value, a slice of values and an object's pairs.
+ghost use Rattle.std.specs.Prelude.{◌≡◌};
+ghost use Rattle.ijson_value.specs.Proper.{array_tree, object_tree};
+ghost use Rattle.ijson_value.specs.SameTest.{same};
+
+use crate::object::IObject;
+use crate::value::{IValue, Node};
+
+/// Whether two values are the same.
+#[cycle(same)]
+pub(crate) fn same_value(a: &IValue, b: &IValue) -> bool
+    ensures { result ≡ same a.now.tree b.now.tree }
+{
+    match (&a.node, &b.node) {
+        (Node::Null, Node::Null) => true,
+        (Node::Bool(x), Node::Bool(y)) => *x == *y,
+        (Node::Number(x), Node::Number(y)) => *x == *y,
+        (Node::String(x), Node::String(y)) => *x == *y,
+        (Node::Array(x), Node::Array(y)) => same_items(x.as_slice(), y.as_slice()),
+        (Node::Object(x), Node::Object(y)) => same_pairs(x, y),
+        _ => false,
+    }
+}
+
+/// Whether two arrays of these items are the same.
+#[cycle(same)]
+pub(crate) fn same_items(xs: &[IValue], ys: &[IValue]) -> bool
+    ensures { result ≡ same (array_tree xs.now) (array_tree ys.now) }
+{
+    if xs.len() != ys.len() {
+        return false;
+    }
+    for i in 0..xs.len() {
+        if !same_value(&xs[i], &ys[i]) {
+            return false;
+        }
+    }
+    true
+}
+
+/// Whether two objects are the same: as many pairs, and each key of the one beside the same value in the other.
+#[cycle(same)]
+pub(crate) fn same_pairs(a: &IObject, b: &IObject) -> bool
+    ensures { result ≡ same (object_tree a.now.pairs) (object_tree b.now.pairs) }
+{
+    if a.len() != b.len() {
+        return false;
+    }
+    for pair in a.as_slice() {
+        match b.get(pair.0.as_str()) {
+            None => return false,
+            Some(found) => {
+                if !same_value(&pair.1, found) {
+                    return false;
+                }
+            }
+        }
+    }
+    true
+}
