@@ -1,0 +1,92 @@
+-- A text has at most one tree, and what is printed is accepted.
+use Rattle.std.proofs.Common.{◌≡◌, ℕ, true, List, [], ◌∷◌, ◌++◌, refl, sym, ap, ap₂, ◌∙◌}
+use Rattle.std.specs.Prelude.{◌&&◌}
+use Rattle.std.proofs.lemmas.List.{append-nil}
+use Rattle.ijson_value.specs.Tree.{Tree, null, boolean, number, string, array, object, Items, no_items, item, Members, no_members, member, depth}
+use Rattle.ijson_value.specs.Proper.{IsProper, AreProper, HaveProper}
+use Rattle.ijson_json.specs.Ranged.{is_ranged, items_ranged, members_ranged}
+use Rattle.ijson_json.specs.Settled.{settled}
+use Rattle.ijson_json.specs.Grammar.{is_space, Spaced, IsString, IsValue, IsItems, IsMembers}
+use Rattle.ijson_json.specs.Print.{print, print_items, print_members, quoted, all_escaped}
+use Rattle.ijson_json.specs.Laws.{OneTree, PrintedIsAccepted}
+use Rattle.ijson_json.proofs.Bytes.{run_same}
+use Rattle.ijson_number.proofs.RoundTrip.{num_text_spells}
+use Rattle.ijson_json.proofs.Strings.{all_escaped_is}
+use Rattle.ijson_json.proofs.Lists.{space-Stops, Ends-any}
+use Rattle.ijson_json.proofs.Unique.{value-past_space, value_same}
+use Rattle.ijson_json.proofs.Settles.{settles}
+
+-- one text spells one tree as written
+text_same : (text : List ℕ) (t u : Tree) → Spaced (λ value. IsValue t value) text → Spaced (λ value. IsValue u value) text → t ≡ u
+text_same text t u (b, v, a, s, w, sa, e) (b', v', a', s', w', sa', e') =
+    let p = run_same is_space b b' (v ++ a) (v' ++ a') s s' (value-past_space t v a w) (value-past_space u v' a' w') (sym e ∙ e') in
+    let q = space-Stops a [] sa tt in
+    let q' = space-Stops a' [] sa' tt in
+    let same = value_same t u v v' a a' w w' (Ends-any t a (rw append-nil at q)) (Ends-any u a' (rw append-nil at q')) p.1 in
+    same.0
+
+-- a text has at most one tree
+
+pub one_tree : OneTree
+one_tree text t u d e r s a b = a.tree_is ∙ ap settled (text_same text a.written b.written a.spelled b.spelled) ∙ sym b.tree_is
+
+-- ---- what is printed
+
+-- no white space is white space
+
+spaced : (P : List ℕ → Type 0) (text : List ℕ) → P text → Spaced P text
+spaced P text p = ([], text, [], tt, p, tt, sym (append-nil text))
+
+-- a quoted text is a string for it
+
+quoted_is : (s : List ℕ) → IsString s (quoted s)
+quoted_is s = (all_escaped s, all_escaped_is s, refl)
+
+-- the text of a tree spells it
+mutual
+  printed : (t : Tree) → IsProper t → IsValue t (print t)
+  printed null h = refl
+  printed (boolean b) h = refl
+  printed (number n) h = num_text_spells n h
+  printed (string s) h = quoted_is s
+  printed (array is) h = (print_items is, printed_items is h, refl)
+  printed (object ms) h = (print_members ms, printed_members ms h.1, refl)
+
+  printed_items : (is : Items) → AreProper is → IsItems is (print_items is)
+  printed_items no_items h = tt
+  printed_items (item t no_items) h = spaced (λ value. IsValue t value) (print t) (printed t h.0)
+  printed_items (item t (item u more)) h = (print t, print_items (item u more), spaced (λ value. IsValue t value) (print t) (printed t h.0), printed_items (item u more) h.1, refl)
+
+  printed_members : (ms : Members) → HaveProper ms → IsMembers ms (print_members ms)
+  printed_members no_members h = tt
+  printed_members (member k t no_members) h = (quoted k, print t, spaced (λ s. IsString k s) (quoted k) (quoted_is k), spaced (λ value. IsValue t value) (print t) (printed t h.0), refl)
+  printed_members (member k t (member l u more)) h = (
+    quoted k ++ 58 ∷ print t,
+    print_members (member l u more),
+    (quoted k, print t, spaced (λ s. IsString k s) (quoted k) (quoted_is k), spaced (λ value. IsValue t value) (print t) (printed t h.0), refl),
+    printed_members (member l u more) h.1,
+    refl,
+  )
+
+-- the numbers of a proper tree are within the limit
+mutual
+  ranged : (t : Tree) → IsProper t → is_ranged t ≡ true
+  ranged null h = refl
+  ranged (boolean b) h = refl
+  ranged (number n) h = h.in_range
+  ranged (string s) h = refl
+  ranged (array is) h = ranged_items is h
+  ranged (object ms) h = ranged_members ms h.1
+
+  ranged_items : (is : Items) → AreProper is → items_ranged is ≡ true
+  ranged_items no_items h = refl
+  ranged_items (item t more) h = ap₂ ◌&&◌ (ranged t h.0) (ranged_items more h.1)
+
+  ranged_members : (ms : Members) → HaveProper ms → members_ranged ms ≡ true
+  ranged_members no_members h = refl
+  ranged_members (member k t more) h = ap₂ ◌&&◌ (ranged t h.0) (ranged_members more h.1)
+
+-- what is printed of a proper tree within the limit on depth is accepted
+
+pub printed_is_accepted : PrintedIsAccepted
+printed_is_accepted t h d = (depth t, d, record { written = t; spelled = spaced (λ value. IsValue t value) (print t) (printed t h); tree_is = sym (settles t h); deepest_is = refl; ranged_is = sym (ranged t h) })

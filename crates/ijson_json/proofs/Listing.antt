@@ -1,0 +1,262 @@
+-- An array or an object that is read element by element.
+use Rattle.std.proofs.Common.{◌≡◌, ℕ, suc, ◌+◌, ◌<◌, ◌≤◌, Bool, true, false, max, List, [], ◌∷◌, ◌++◌, length, eq-eqb, refl, sym, ap, ap₂, subst, ◌∙◌, append_assoc, arith}
+use Rattle.std.specs.Prelude.{◌&&◌, ◌==◌, ◌⊎◌}
+use Rattle.std.proofs.lemmas.List.{append-nil, length-append}
+use Rattle.ijson_value.specs.Tree.{Tree, depth}
+use Rattle.ijson_json.specs.Ranged.{is_ranged}
+use Rattle.ijson_json.specs.Grammar.{is_space, IsSpace, IsValue, IsClosers}
+use Rattle.ijson_json.specs.Reading.{Past, Ends, Front, Found, Beyond, NoneAt, IsRead, IsBeyond, IsTooDeep, IsOutOfRange, NoValue}
+use Rattle.ijson_json.proofs.Bytes.{run_same, run-append, not_both, tails, heads_apart}
+use Rattle.ijson_json.proofs.Lists.{IsList, Shape, At, ElementSame, at_elements, left-past_space, at-Stops, Ends-any}
+
+-- and is associative
+
+and_assoc : (a b c : Bool) → (a && (b && c)) ≡ ((a && b) && c)
+and_assoc true b c = refl
+and_assoc false b c = refl
+
+module _ (E : Type 0) (S : Shape E) where
+  -- the greatest depth of the elements
+  abbrev pub deepest : List E → ℕ
+  deepest [] = 0
+  deepest (e ∷ es) = max (depth (S.inner e)) (deepest es)
+
+  -- each element is within the limit on exponents
+
+  abbrev pub all_ranged : List E → Bool
+  all_ranged [] = true
+  all_ranged (e ∷ es) = is_ranged (S.inner e) && all_ranged es
+
+  -- the depth of two lists in a row
+
+  pub deepest-append : (es fs : List E) → deepest (es ++ fs) ≡ max (deepest es) (deepest fs)
+  deepest-append [] fs = omega arith
+  deepest-append (e ∷ es) fs = omega (arith, deepest-append es fs)
+
+  -- two lists in a row within the limit
+
+  pub ranged-append : (es fs : List E) → all_ranged (es ++ fs) ≡ (all_ranged es && all_ranged fs)
+  ranged-append [] fs = refl
+  ranged-append (e ∷ es) fs = rw (ranged-append es fs) (and_assoc (is_ranged (S.inner e)) (all_ranged es) (all_ranged fs))
+
+  -- an element was read
+
+  abbrev pub ElementRead : ℕ → List ℕ → E → List ℕ → Type 0
+  ElementRead opened cur e after = Found E (λ e text. S.Is e text) (λ e. S.inner e) opened cur e after
+
+  -- no element stands here
+
+  abbrev pub NoElement : List ℕ → Type 0
+  NoElement cur = NoneAt E (λ e text. S.Is e text) cur
+
+  -- each element that could stand here is Bad, and a beginning is Worst
+
+  abbrev pub ElementBeyond : (Tree → Type 0) → (Tree → Type 0) → List ℕ → Type 0
+  ElementBeyond Bad Worst cur = Beyond E (λ e text. S.Is e text) (λ e. S.inner e) Bad Worst cur
+
+  -- white space in front changes nothing
+  pub absorb : (e : E) (more : List E) (s others : List ℕ) → IsSpace s → IsList S.Is (e ∷ more) others → IsList S.Is (e ∷ more) (s ++ others)
+  absorb e [] s others h (b, v, a, sb, w, sa, g) = (s ++ b, v, a, run-append is_space s b h sb, w, sa, rw g (simp append_assoc))
+  absorb e (f ∷ more) s others h (first, second, (b, v, a, sb, iv, sa, g), o, i) =
+      (s ++ first, second, (s ++ b, v, a, run-append is_space s b h sb, iv, sa, rw g (simp append_assoc)), o, rw i (simp append_assoc))
+
+  -- an element in front of others
+
+  pub one_more : (e f : E) (more : List E) (value after others : List ℕ) → S.Is e value → IsSpace after → IsList S.Is (f ∷ more) others → IsList S.Is (e ∷ f ∷ more) (value ++ (after ++ 44 ∷ others))
+  one_more e f more value after others v sa o = (value ++ after, others, ([], value, after, tt, v, sa, refl), o, sym (append_assoc value after (44 ∷ others)))
+
+-- how the elements make a value
+pub record Listing (E : Type 0) (S : Shape E) : Type 1 where
+  pub opening : ℕ
+  pub wrap : List E → Tree
+  pub closer : (S.closing ≡ 93) ⊎ (S.closing ≡ 125)
+  pub same : (e f : E) → ElementSame E S e f
+  pub builds : (es : List E) (inside : List ℕ) → IsList S.Is es inside → IsValue (wrap es) (opening ∷ (inside ++ S.closing ∷ []))
+  pub only : (t : Tree) (inside x : List ℕ) → Front (λ value. IsValue t value) (opening ∷ inside) x → (es : List E) × (i : List ℕ) × (t ≡ wrap es) × IsList S.Is es i × (inside ≡ i ++ S.closing ∷ x)
+  pub depth_is : (es : List E) → depth (wrap es) ≡ suc (deepest E S es)
+  pub ranged_is : (es : List E) → is_ranged (wrap es) ≡ all_ranged E S es
+  pub ends : (es : List E) (x : List ℕ) → Ends (wrap es) x
+
+module _ (E : Type 0) (S : Shape E) (L : Listing E S) where
+  -- what a value at the front of the text is, once so many elements of it were read
+  pub record Goes (found : List E) (t : Tree) (cur x : List ℕ) : Type 0 where
+    pub next : E
+    pub more : List E
+    pub is : t ≡ L.wrap (found ++ next ∷ more)
+    pub at : At E S next more cur x
+
+  -- so many elements were read, and another begins at cur
+  pub record Reached (opened : ℕ) (text : List ℕ) (found : List E) (cur : List ℕ) : Type 0 where
+    pub head : List ℕ
+    pub is : text ≡ head ++ cur
+    pub past : Past is_space cur
+    pub builds : (e : E) (more : List E) (others : List ℕ) → IsList S.Is (e ∷ more) others → IsValue (L.wrap (found ++ e ∷ more)) (head ++ (others ++ S.closing ∷ []))
+    pub only : (t : Tree) (x : List ℕ) → Front (λ value. IsValue t value) text x → Goes found t cur x
+    pub deep : opened + suc (deepest E S found) ≤ 127
+    pub ranged : all_ranged E S found ≡ true
+
+  -- behind the opening bracket and white space nothing is read yet
+
+  pub reached_start : (opened : ℕ) (inside s cur : List ℕ) → opened < 127 → inside ≡ s ++ cur → IsSpace s → Past is_space cur → Past (λ b. b == S.closing) cur → Reached opened (L.opening ∷ inside) [] cur
+  reached_start opened inside s cur o e h p q = record {
+    head = L.opening ∷ s;
+    is = ap (λ (l : List ℕ). L.opening ∷ l) e;
+    past = p;
+    builds = λ u more others v.
+        let text_is : L.opening ∷ ((s ++ others) ++ S.closing ∷ []) ≡ (L.opening ∷ s) ++ (others ++ S.closing ∷ []) = simp append_assoc in
+        subst (λ (l : List ℕ). IsValue (L.wrap (u ∷ more)) l) text_is (L.builds (u ∷ more) (s ++ others) (absorb E S u more s others h v));
+    only = λ t x f. let a = L.only t inside x f in go t x a.0 a.1 a.2 a.3 a.4;
+    deep = omega arith;
+    ranged = refl;
+  }
+    where
+      go : (t : Tree) (x : List ℕ) (es : List E) (i : List ℕ) → t ≡ L.wrap es → IsList S.Is es i → inside ≡ i ++ S.closing ∷ x → Goes [] t cur x
+      go t x [] i f v g =
+          let same = run_same is_space s i cur (S.closing ∷ x) h v p S.closing-space (sym e ∙ g) in
+          let not : Past (λ b. b == S.closing) (S.closing ∷ x) = rw (same.1) at q in
+          absurd (not_both (S.closing == S.closing) (eq-eqb S.closing S.closing refl) not)
+      go t x (u ∷ more) i f v g = record { next = u; more = more; is = f; at = at_elements E S u more s cur i x h p v (sym e ∙ g) }
+
+  -- the element that was read is the one that stands there
+  item_is : (opened : ℕ) (e f : E) (more : List E) (cur x after s tail : List ℕ) → (a : At E S e more cur x) → ElementRead E S opened cur f after → after ≡ s ++ tail → IsSpace s → Past is_space tail → (e ≡ f) × (a.tail ≡ tail)
+  item_is opened e f more cur x after s tail a r g h p =
+      let q = L.same e f a.value r.found.front (a.after ++ a.tail) after a.holds r.found.holds (Ends-any (S.inner e) (a.after ++ a.tail) (at-Stops E S e more cur x a)) r.ends (sym a.is ∙ r.found.is) in
+      let w = run_same is_space a.after s a.tail tail a.space_after h (left-past_space E S more a.tail x a.left) p (q.1.1 ∙ g) in
+      (q.0, w.1)
+
+  -- one more element within the limit on depth
+
+  push_depth : (opened : ℕ) (found : List E) (e : E) → opened + suc (deepest E S found) ≤ 127 → (opened + 1) + depth (S.inner e) ≤ 127 → opened + suc (deepest E S (found ++ e ∷ [])) ≤ 127
+  push_depth opened found e h g = omega (arith, deepest-append E S found (e ∷ []), h, g)
+
+  -- one more element within the limit on exponents
+
+  push_ranged : (found : List E) (e : E) → all_ranged E S found ≡ true → is_ranged (S.inner e) ≡ true → all_ranged E S (found ++ e ∷ []) ≡ true
+  push_ranged found e h g = ranged-append E S found (e ∷ []) ∙ ap₂ ◌&&◌ h (ap₂ ◌&&◌ g refl)
+
+  -- one more element was read, and a comma
+
+  pub reached_more : (opened : ℕ) (text cur after s more s' next : List ℕ) (found : List E) (t : E) → Reached opened text found cur → ElementRead E S (opened + 1) cur t after
+      → after ≡ s ++ 44 ∷ more → IsSpace s → more ≡ s' ++ next → IsSpace s' → Past is_space next → Reached opened text (found ++ t ∷ []) next
+  reached_more opened text cur after s more s' next found t r d e h f h' p = record {
+    head = r.head ++ (d.found.front ++ (s ++ 44 ∷ s'));
+    is = r.is ∙ rw (d.found.is, e, f) (simp append_assoc);
+    past = p;
+    builds = λ u rest others v.
+        let whole = r.builds t (u ∷ rest) (d.found.front ++ (s ++ 44 ∷ (s' ++ others))) (one_more E S t u rest d.found.front s (s' ++ others) d.found.holds h (absorb E S u rest s' others h' v)) in
+        let text_is : r.head ++ ((d.found.front ++ (s ++ 44 ∷ (s' ++ others))) ++ S.closing ∷ []) ≡ (r.head ++ (d.found.front ++ (s ++ 44 ∷ s'))) ++ (others ++ S.closing ∷ []) = simp append_assoc in
+        subst (λ (es : List E). IsValue (L.wrap es) ((r.head ++ (d.found.front ++ (s ++ 44 ∷ s'))) ++ (others ++ S.closing ∷ []))) (sym (append_assoc found (t ∷ []) (u ∷ rest)))
+        (subst (λ (l : List ℕ). IsValue (L.wrap (found ++ t ∷ u ∷ rest)) l) text_is whole);
+    only = λ t' x g. let o = r.only t' x g in go t' x o.next o.more o.is o.at;
+    deep = push_depth opened found t r.deep d.deep;
+    ranged = push_ranged found t r.ranged d.ranged;
+  }
+    where
+      go : (t' : Tree) (x : List ℕ) (u : E) (es : List E) → t' ≡ L.wrap (found ++ u ∷ es) → At E S u es cur x → Goes (found ++ t ∷ []) t' next x
+      go t' x u [] g a =
+          let same = item_is (opened + 1) u t [] cur x after s (44 ∷ more) a d e h refl in
+          absurd (heads_apart S.closing 44 _ _ (sym a.left ∙ same.1) S.closing-comma)
+      go t' x u (w ∷ ws) g a =
+          let same = item_is (opened + 1) u t (w ∷ ws) cur x after s (44 ∷ more) a d e h refl in
+          let others = a.left in
+          let rest : more ≡ others.0 ++ S.closing ∷ x = tails 44 44 _ _ (sym same.1 ∙ others.2) in
+          record { next = w; more = ws; is = g ∙ ap (λ (v : E). L.wrap (found ++ v ∷ w ∷ ws)) same.0 ∙ ap L.wrap (sym (append_assoc found (t ∷ []) (w ∷ ws))); at = at_elements E S w ws s' next others.0 x h' p others.1 (sym f ∙ rest) }
+
+  -- the last element was read, and the closing bracket
+
+  pub reached_end : (opened : ℕ) (text cur after s rest : List ℕ) (found : List E) (t : E) → Reached opened text found cur → ElementRead E S (opened + 1) cur t after
+      → after ≡ s ++ S.closing ∷ rest → IsSpace s → IsRead opened text (L.wrap (found ++ t ∷ [])) rest
+  reached_end opened text cur after s rest found t r d e h = record {
+    found = record {
+      front = r.head ++ ((d.found.front ++ s) ++ S.closing ∷ []);
+      holds = r.builds t [] (d.found.front ++ s) ([], d.found.front, s, tt, d.found.holds, h, refl);
+      is = r.is ∙ rw (d.found.is, e) (simp append_assoc);
+    };
+    ends = L.ends (found ++ t ∷ []) rest;
+    deep = omega (arith, L.depth_is (found ++ t ∷ []), push_depth opened found t r.deep d.deep);
+    ranged = L.ranged_is (found ++ t ∷ []) ∙ push_ranged found t r.ranged d.ranged;
+  }
+
+  -- neither a comma nor the closing bracket follows
+
+  pub reached_stuck : (opened : ℕ) (text cur after s other : List ℕ) (found : List E) (t : E) → Reached opened text found cur → ElementRead E S (opened + 1) cur t after
+      → after ≡ s ++ other → IsSpace s → Past is_space other → Past (λ b. b == 44) other → Past (λ b. b == S.closing) other → NoValue text
+  reached_stuck opened text cur after s other found t r d e h p p44 p93 t' x stops g =
+      let o = r.only t' x g in go o.next o.more o.at
+    where
+      go : (u : E) (es : List E) → At E S u es cur x → ⊥
+      go u [] a =
+          let same = item_is (opened + 1) u t [] cur x after s other a d e h p in
+          let not : Past (λ b. b == S.closing) (S.closing ∷ x) = rw (sym same.1 ∙ a.left) at p93 in
+          not_both (S.closing == S.closing) (eq-eqb S.closing S.closing refl) not
+      go u (w ∷ ws) a =
+          let same = item_is (opened + 1) u t (w ∷ ws) cur x after s other a d e h p in
+          let not : Past (λ b. b == 44) (44 ∷ (a.left.0 ++ S.closing ∷ x)) = rw (sym same.1 ∙ a.left.2) at p44 in
+          not_both true refl not
+
+  -- no elements
+
+  pub empty_read : (opened : ℕ) (inside s rest : List ℕ) → opened < 127 → inside ≡ s ++ S.closing ∷ rest → IsSpace s → IsRead opened (L.opening ∷ inside) (L.wrap []) rest
+  empty_read opened inside s rest o e h = record {
+    found = record { front = L.opening ∷ (s ++ S.closing ∷ []); holds = L.builds [] s h; is = rw e (simp append_assoc) };
+    ends = L.ends [] rest;
+    deep = omega (arith, L.depth_is []);
+    ranged = L.ranged_is [];
+  }
+
+  -- ---- a fault in an element
+
+  -- no element stands where one must
+
+  pub reached_no_value : (opened : ℕ) (text cur : List ℕ) (found : List E) → Reached opened text found cur → NoElement E S cur → NoValue text
+  reached_no_value opened text cur found r none t x stops f =
+      let o = r.only t x f in
+      none o.next (o.at.after ++ o.at.tail) (at-Stops E S o.next o.more cur x o.at) (record { front = o.at.value; holds = o.at.holds; is = o.at.is })
+
+  -- one more closing bracket
+
+  closed : (l : List ℕ) → IsClosers l → IsClosers (l ++ S.closing ∷ [])
+  closed [] h = (L.closer, tt)
+  closed (b ∷ l) h = (h.0, closed l h.1)
+
+  -- a fault of an element beyond a limit is one of the whole
+
+  reached_beyond : (opened : ℕ) (text cur : List ℕ) (found : List E) (Bad Worst Bad' Worst' : Tree → Type 0) → Reached opened text found cur
+      → ((u : E) (more : List E) → Bad (S.inner u) → Bad' (L.wrap (found ++ u ∷ more))) → ((u : E) → Worst (S.inner u) → Worst' (L.wrap (found ++ u ∷ [])))
+      → ElementBeyond E S Bad Worst cur → IsBeyond Bad' Worst' text
+  reached_beyond opened text cur found Bad Worst Bad' Worst' r bad worst b = record {
+    each = λ t x stops f.
+        let o = r.only t x f in
+        let inner : Bad (S.inner o.next) = b.each o.next (o.at.after ++ o.at.tail) (at-Stops E S o.next o.more cur x o.at) (record { front = o.at.value; holds = o.at.holds; is = o.at.is }) in
+        subst (λ (t : Tree). Bad' t) (sym o.is) (bad o.next o.more inner);
+    beginning = r.head ++ b.beginning;
+    others = b.others;
+    closers = b.closers ++ S.closing ∷ [];
+    is = r.is ∙ rw b.is (simp append_assoc);
+    closing = closed b.closers b.closing;
+    element = L.wrap (found ++ b.element ∷ []);
+    spelled =
+        let whole = r.builds b.element [] (b.beginning ++ b.closers) ([], b.beginning ++ b.closers, [], tt, b.spelled, tt, sym (append-nil (b.beginning ++ b.closers))) in
+        let text_is : r.head ++ ((b.beginning ++ b.closers) ++ S.closing ∷ []) ≡ (r.head ++ b.beginning) ++ (b.closers ++ S.closing ∷ []) = simp append_assoc in
+        subst (λ (l : List ℕ). IsValue (L.wrap (found ++ b.element ∷ [])) l) text_is whole;
+    worst = worst b.element b.worst;
+  }
+
+  -- an element is too deep
+
+  pub reached_too_deep : (opened : ℕ) (text cur : List ℕ) (found : List E) → Reached opened text found cur → ElementBeyond E S (λ t. 127 < (opened + 1) + depth t) (λ t. (opened + 1) + depth t ≡ 128) cur → IsTooDeep opened text
+  reached_too_deep opened text cur found r b = reached_beyond opened text cur found _ _ _ _ r
+      (λ u more h. omega (arith, L.depth_is (found ++ u ∷ more), deepest-append E S found (u ∷ more), h, r.deep))
+      (λ u h. omega (arith, L.depth_is (found ++ u ∷ []), deepest-append E S found (u ∷ []), h, r.deep)) b
+
+  -- an element has a number past the limit
+
+  pub reached_out_of_range : (opened : ℕ) (text cur : List ℕ) (found : List E) → Reached opened text found cur → ElementBeyond E S (λ t. is_ranged t ≡ false) (λ t. is_ranged t ≡ false) cur → IsOutOfRange text
+  reached_out_of_range opened text cur found r b = reached_beyond opened text cur found _ _ _ _ r
+      (λ u more h. L.ranged_is (found ++ u ∷ more) ∙ ranged-append E S found (u ∷ more) ∙ ap₂ ◌&&◌ r.ranged (ap (λ (b : Bool). b && all_ranged E S more) h))
+      (λ u h. L.ranged_is (found ++ u ∷ []) ∙ ranged-append E S found (u ∷ []) ∙ ap₂ ◌&&◌ r.ranged (ap (λ (b : Bool). b && true) h)) b
+
+  -- what is left is shorter than the text
+
+  pub reached_shorter : (opened : ℕ) (text cur : List ℕ) (found : List E) (left : ℕ) → Reached opened text found cur → left ≤ length cur → left ≤ length text
+  reached_shorter opened text cur found left r h = omega (arith, h, ap length r.is, length-append r.head cur)

@@ -1,0 +1,63 @@
+-- What is written of a string.
+use Rattle.std.proofs.Common.{◌≡◌, ℕ, ◌<◌, false, List, [], ◌∷◌, ◌++◌, length, Result, Ok, Err, refl, sym, ap, ap₂, ◌∙◌, append_assoc, arith}
+use Rattle.std.specs.Prelude.{IsTrue, OnOk, is_ok, if◌then◌else◌}
+use Rattle.std.specs.Char.{encode_utf8}
+use Rattle.std.proofs.lemmas.Bool.Decides.{nat_tests}
+use Rattle.std.proofs.lemmas.List.{append-nil, length-append}
+use Rattle.std.proofs.lemmas.Str.{encode_ascii, length-encode, len_utf8_bounds}
+use Rattle.ijson_json.specs.Strings.{is_unescaped}
+use Rattle.ijson_json.specs.Print.{escaped, all_escaped}
+use Rattle.ijson_json.specs.Print.{quoted}
+use Rattle.ijson_json.specs.Reading.{Past}
+use Rattle.ijson_json.proofs.Bytes.{Run}
+use Rattle.ijson_json.proofs.Escapes.{first_is}
+use Rattle.ijson_json.proofs.Runs.{special_ascii}
+
+all_escaped-append : (s t : List ℕ) → all_escaped (s ++ t) ≡ all_escaped s ++ all_escaped t
+all_escaped-append [] t = refl
+all_escaped-append (b ∷ s) t = ap (λ (l : List ℕ). escaped b ++ l) (all_escaped-append s t) ∙ sym (append_assoc (escaped b) (all_escaped s) (all_escaped t))
+
+escaped_plain : (b : ℕ) → IsTrue (is_unescaped b) → escaped b ≡ b ∷ []
+unfolding escaped
+escaped_plain b h = grind (arith, nat_tests)
+
+-- a run is written as it is
+pub all_escaped-run : (run : List ℕ) → Run is_unescaped run → all_escaped run ≡ run
+all_escaped-run [] h = refl
+all_escaped-run (b ∷ run) h = ap₂ ◌++◌ (escaped_plain b h.0) (all_escaped-run run h.1)
+
+pub all_escaped-one : (b : ℕ) → all_escaped (b ∷ []) ≡ escaped b
+all_escaped-one b = append-nil (escaped b)
+
+-- one more piece is written
+pub written_more : (old out done more piece : List ℕ) → out ≡ old ++ 34 ∷ all_escaped done → all_escaped more ≡ piece → out ++ piece ≡ old ++ 34 ∷ all_escaped (done ++ more)
+written_more old out done more piece e f =
+    ap (λ (l : List ℕ). l ++ piece) e ∙ append_assoc old (34 ∷ all_escaped done) piece
+    ∙ ap (λ (l : List ℕ). old ++ 34 ∷ l) (ap (λ (l : List ℕ). all_escaped done ++ l) (sym f) ∙ sym (all_escaped-append done more))
+
+pub written_end : (old out text : List ℕ) → out ≡ old ++ 34 ∷ all_escaped text → out ++ encode_utf8 34 ≡ old ++ quoted text
+written_end old out text e =
+    ap₂ ◌++◌ e (encode_ascii 34 (omega arith)) ∙ append_assoc old (34 ∷ all_escaped text) (34 ∷ [])
+
+-- a run is written, and what is left begins behind it
+pub read_all : (text done left run after : List ℕ) → text ≡ done ++ left → left ≡ run ++ after → length after ≡ 0 → text ≡ done ++ run
+read_all text done left run [] e f none = e ∙ ap (λ (l : List ℕ). done ++ l) (f ∙ append-nil run)
+read_all text done left run (b ∷ after) e f none = absurd (omega (arith, none))
+
+pub read_on : (text done left run after rest : List ℕ) (b : ℕ) → text ≡ done ++ left → left ≡ run ++ after → after ≡ b ∷ rest → text ≡ ((done ++ run) ++ b ∷ []) ++ rest
+read_on text done left run after rest b e f g =
+    e ∙ ap (λ (l : List ℕ). done ++ l) (f ∙ ap (λ (l : List ℕ). run ++ l) g)
+    ∙ sym (append_assoc done run (b ∷ rest)) ∙ sym (append_assoc (done ++ run) (b ∷ []) rest)
+
+-- the character that ends a run is one byte, and needs an escape
+pub special_first : (after rest : List ℕ) (c : ℕ) → Past is_unescaped after → after ≡ encode_utf8 c ++ rest → (is_unescaped c ≡ false) × (after ≡ c ∷ rest)
+special_first [] rest c p e = absurd (omega (arith, ap length e, length-append (encode_utf8 c) rest, length-encode c, (len_utf8_bounds c).0))
+special_first (b ∷ more) rest c p e =
+    let ascii : b < 128 = special_ascii b p in
+    let same : c ≡ b = first_is (b ∷ more) rest more c b e refl ascii in
+    (rw same p, e ∙ ap (λ (l : List ℕ). l ++ rest) (encode_ascii c (rw same ascii)))
+
+-- the clause of a last call that appends
+pub on_ok : {A E : Type 0} (r : Result A E) (new longer same want : List ℕ) → new ≡ (if is_ok r then longer else same) → longer ≡ want → OnOk r (new ≡ want)
+on_ok (Ok a) new longer same want e f = e ∙ f
+on_ok (Err x) new longer same want e f = tt

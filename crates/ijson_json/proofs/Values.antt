@@ -1,0 +1,228 @@
+-- One value that is read, or is not.
+use Rattle.std.proofs.Common.{◌≡◌, ℕ, ◌+◌, ◌<◌, ◌≤◌, Bool, true, false, List, [], ◌∷◌, ◌++◌, length, refl, sym, ap, subst, ◌∙◌, arith, inl, inr, eqb, eq-eqb}
+use Rattle.std.specs.Prelude.{◌==◌, ◌≢◌, nat_lt}
+use Rattle.std.proofs.lemmas.Bool.{eqb-true}
+use Rattle.std.proofs.lemmas.Bool.Decides.{nat_tests}
+use Rattle.std.proofs.lemmas.List.{length-append, append-nil}
+use Rattle.ijson_json.specs.declared.fault.Fault.{Fault}
+use Rattle.ijson_json.specs.declared.fault.Fault.TheVariants as faults
+use Rattle.ijson_value.specs.Tree.{Tree, null, boolean, number, string, array, object, no_items, no_members, depth}
+use Rattle.ijson_number.proofs.SpelledBytes.{spells_first}
+use Rattle.ijson_json.specs.Ranged.{is_ranged}
+use Rattle.ijson_json.specs.Grammar.{IsValue, IsString, null_text, boolean_text}
+use Rattle.ijson_json.specs.Reading.{Past, Stops, Front, Skips, IsRead, IsTooDeep, IsOutOfRange, NoValue, NoNumber, PastLimitAt}
+use Rattle.ijson_json.specs.Explains.{Explains, ExplainsMember, NumberFault, StringFault, WordFault}
+use Rattle.ijson_json.proofs.First.{kind, tree_kind, number_kind, value_first}
+use Rattle.ijson_json.proofs.Members.{no_key}
+use Rattle.ijson_json.proofs.Bytes.{not_both, heads, heads_apart}
+use Rattle.ijson_json.proofs.Unique.{tree_kind-le}
+use Rattle.ijson_json.proofs.Containers.{array_at, object_at, kind_at}
+
+-- a text that does not begin with a byte
+
+past_text : (text : List ℕ) (b : ℕ) (more : List ℕ) → Past (λ c. c == b) text → text ≡ b ∷ more → ⊥
+past_text text b more p e = let not : Past (λ c. c == b) (b ∷ more) = rw e at p in not_both (b == b) (eq-eqb b b refl) not
+
+-- `null` was read
+
+pub read_null : (opened : ℕ) (text rest : List ℕ) → opened ≤ 127 → text ≡ null_text ++ rest → IsRead opened text null rest
+read_null opened text rest o e = record { found = record { front = null_text; holds = refl; is = e }; ends = tt; deep = omega arith; ranged = refl }
+
+-- `true` or `false` was read
+
+pub read_boolean : (b : Bool) (opened : ℕ) (text rest : List ℕ) → opened ≤ 127 → text ≡ boolean_text b ++ rest → IsRead opened text (boolean b) rest
+read_boolean b opened text rest o e = record { found = record { front = boolean_text b; holds = refl; is = e }; ends = tt; deep = omega arith; ranged = refl }
+
+-- an array inside 127 open containers
+
+too_deep : (opened : ℕ) (text inside : List ℕ) → opened ≡ 127 → text ≡ 91 ∷ inside → IsTooDeep opened text
+too_deep opened text inside o e = record {
+  each = λ t x stops f.
+      let a = array_at t inside x (record { front = f.front; holds = f.holds; is = sym e ∙ f.is }) in
+      subst (λ (t : Tree). 127 < opened + depth t) (sym a.2) (omega arith);
+  beginning = 91 ∷ [];
+  others = inside;
+  closers = 93 ∷ [];
+  is = e;
+  closing = (inl refl, tt);
+  element = array no_items;
+  spelled = ([], tt, refl);
+  worst = omega arith;
+}
+
+-- an object inside 127 open containers
+
+too_deep_object : (opened : ℕ) (text inside : List ℕ) → opened ≡ 127 → text ≡ 123 ∷ inside → IsTooDeep opened text
+too_deep_object opened text inside o e = record {
+  each = λ t x stops f.
+      let a = object_at t inside x (record { front = f.front; holds = f.holds; is = sym e ∙ f.is }) in
+      subst (λ (t : Tree). 127 < opened + depth t) (sym a.2) (omega arith);
+  beginning = 123 ∷ [];
+  others = inside;
+  closers = 125 ∷ [];
+  is = e;
+  closing = (inr refl, tt);
+  element = object no_members;
+  spelled = ([], tt, refl);
+  worst = omega arith;
+}
+
+-- the first byte of a text
+
+pub begins : (b : ℕ) (text : List ℕ) (first : ℕ) (more : List ℕ) → text ≡ first ∷ more → first ≡ b → text ≡ b ∷ more
+begins b text first more e f = e ∙ ap (λ (c : ℕ). c ∷ more) f
+
+-- a bracket opens inside 127 open containers
+pub array_too_deep : (opened : ℕ) (text inside : List ℕ) (fault : Fault) → text ≡ 91 ∷ inside → (opened ≡ 127) × (fault ≡ faults.TooDeep (length text)) → Explains opened text fault
+array_too_deep opened text inside fault e h = subst (λ (f : Fault). Explains opened text f) (sym h.1) (omega arith, too_deep opened text inside h.0 e)
+
+pub object_too_deep : (opened : ℕ) (text inside : List ℕ) (fault : Fault) → text ≡ 123 ∷ inside → (opened ≡ 127) × (fault ≡ faults.TooDeep (length text)) → Explains opened text fault
+object_too_deep opened text inside fault e h = subst (λ (f : Fault). Explains opened text f) (sym h.1) (omega arith, too_deep_object opened text inside h.0 e)
+
+-- no value begins with a byte that is none of these
+pub no_value : (text : List ℕ) → Past (λ b. b == 110) text → Past (λ b. b == 116) text → Past (λ b. b == 102) text → Past (λ b. b == 91) text → Past (λ b. b == 123) text → Past (λ b. b == 34) text → NoNumber text → NoValue text
+no_value text n t f p q r m null x stops g = past_text text 110 _ n (g.is ∙ ap (λ (l : List ℕ). l ++ x) g.holds)
+no_value text n t f p q r m (boolean true) x stops g = past_text text 116 _ t (g.is ∙ ap (λ (l : List ℕ). l ++ x) g.holds)
+no_value text n t f p q r m (boolean false) x stops g = past_text text 102 _ f (g.is ∙ ap (λ (l : List ℕ). l ++ x) g.holds)
+no_value text n t f p q r m (number d) x stops g = m d x (record { found = record { front = g.front; holds = g.holds; is = g.is }; stops = stops })
+no_value text n t f p q r m (array is) x stops g = past_text text 91 _ p (g.is ∙ ap (λ (l : List ℕ). l ++ x) g.holds.2)
+no_value text n t f p q r m (object ms) x stops g = past_text text 123 _ q (g.is ∙ ap (λ (l : List ℕ). l ++ x) g.holds.2)
+no_value text n t f p q r m (string s) x stops g = past_text text 34 _ r (g.is ∙ ap (λ (l : List ℕ). l ++ x) g.holds.2)
+
+-- a byte from 128 on begins no value
+
+low_kind : (b : ℕ) → nat_lt b 128 ≡ false → kind b ≡ 7
+low_kind b h = grind (arith, nat_tests)
+
+-- each value begins with a character
+pub no_character : (text : List ℕ) → Past (λ b. nat_lt b 128) text → NoValue text
+no_character text p t x stops g =
+    let f = value_first t g.front g.holds in
+    let whole : text ≡ f.0 ∷ (f.1 ++ x) = g.is ∙ ap (λ (l : List ℕ). l ++ x) f.3 in
+    let high : nat_lt f.0 128 ≡ false = subst (λ (l : List ℕ). Past (λ b. nat_lt b 128) l) whole p in
+    absurd (omega (arith, low_kind f.0 high, f.2, tree_kind-le t))
+
+-- a value that begins as a word does is that word
+word_alone : (word text : List ℕ) (b : ℕ) (more : List ℕ) → text ≡ b ∷ more → ((t : Tree) (front : List ℕ) → IsValue t front → kind b ≡ tree_kind t → (others : List ℕ) × (front ≡ b ∷ others) → front ≡ word)
+    → ((rest : List ℕ) → text ≢ word ++ rest) → NoValue text
+word_alone word text b more e only n t x stops g =
+    let f = value_first t g.front g.holds in
+    let same : b ≡ f.0 = heads b f.0 more (f.1 ++ x) (sym e ∙ g.is ∙ ap (λ (l : List ℕ). l ++ x) f.3) in
+    n x (g.is ∙ ap (λ (l : List ℕ). l ++ x) (only t g.front g.holds (ap kind same ∙ f.2) (f.1, f.3 ∙ ap (λ (c : ℕ). c ∷ f.1) (sym same))))
+
+-- of the values `null` alone begins with an n
+
+null_alone : (t : Tree) (front : List ℕ) → IsValue t front → kind 110 ≡ tree_kind t → (others : List ℕ) × (front ≡ 110 ∷ others) → front ≡ null_text
+null_alone null front v k o = v
+null_alone t front v k o = absurd (omega (arith, k))
+
+-- of the values `true` alone begins with a t
+
+true_alone : (t : Tree) (front : List ℕ) → IsValue t front → kind 116 ≡ tree_kind t → (others : List ℕ) × (front ≡ 116 ∷ others) → front ≡ boolean_text true
+true_alone (boolean true) front v k o = v
+true_alone (boolean false) front v k o = absurd (heads_apart 102 116 _ _ (sym v ∙ o.1) refl)
+true_alone t front v k o = absurd (omega (arith, k))
+
+-- of the values `false` alone begins with an f
+
+false_alone : (t : Tree) (front : List ℕ) → IsValue t front → kind 102 ≡ tree_kind t → (others : List ℕ) × (front ≡ 102 ∷ others) → front ≡ boolean_text false
+false_alone (boolean false) front v k o = v
+false_alone (boolean true) front v k o = absurd (heads_apart 116 102 _ _ (sym v ∙ o.1) refl)
+false_alone t front v k o = absurd (omega (arith, k))
+
+-- a fault in a word
+
+word_fault : (opened : ℕ) (text word : List ℕ) (fault : Fault) → (((rest : List ℕ) → text ≢ word ++ rest) → NoValue text) → WordFault text word fault → Explains opened text fault
+word_fault opened text word (faults.Syntax left) n h = (h.0, n h.1)
+word_fault opened text word (faults.TooDeep left) n h = absurd h
+word_fault opened text word (faults.NumberRange left) n h = absurd h
+word_fault opened text word faults.Memory n h = absurd h
+
+-- a text that begins as `null` does
+
+pub null_fault : (opened : ℕ) (text more : List ℕ) (fault : Fault) → text ≡ 110 ∷ more → WordFault text null_text fault → Explains opened text fault
+null_fault opened text more fault e h = word_fault opened text null_text fault (word_alone null_text text 110 more e null_alone) h
+
+-- a text that begins as `true` does
+
+pub true_fault : (opened : ℕ) (text more : List ℕ) (fault : Fault) → text ≡ 116 ∷ more → WordFault text (boolean_text true) fault → Explains opened text fault
+true_fault opened text more fault e h = word_fault opened text (boolean_text true) fault (word_alone (boolean_text true) text 116 more e true_alone) h
+
+-- a text that begins as `false` does
+
+pub false_fault : (opened : ℕ) (text more : List ℕ) (fault : Fault) → text ≡ 102 ∷ more → WordFault text (boolean_text false) fault → Explains opened text fault
+false_fault opened text more fault e h = word_fault opened text (boolean_text false) fault (word_alone (boolean_text false) text 102 more e false_alone) h
+
+-- the first byte of a text that begins with a number
+number_first : (text : List ℕ) (first : ℕ) (more : List ℕ) → text ≡ first ∷ more → PastLimitAt text → kind first ≡ 0
+number_first text first more e p =
+    let f = spells_first p.beginning.front p.beginning.holds.0 p.beginning.holds.1 in
+    let same : f.0 ≡ first = heads f.0 first (f.1 ++ p.rest) more (ap (λ (l : List ℕ). l ++ p.rest) (sym f.3) ∙ sym p.beginning.is ∙ e) in
+    ap kind (sym same) ∙ number_kind f.0 f.2
+
+-- every value at the front is a number past the limit, and some beginning is
+out_of_range : (text : List ℕ) (first : ℕ) (more : List ℕ) → text ≡ first ∷ more → kind first ≡ 0 → PastLimitAt text → IsOutOfRange text
+out_of_range text first more e k p = record {
+  each = only;
+  beginning = p.beginning.front;
+  others = p.rest;
+  closers = [];
+  is = p.beginning.is;
+  closing = tt;
+  element = number p.beginning.holds.0;
+  spelled = subst (λ (l : List ℕ). IsValue (number p.beginning.holds.0) l) (sym (append-nil p.beginning.front)) p.beginning.holds.1;
+  worst = p.beginning.holds.2;
+}
+  where
+    only : (t : Tree) (x : List ℕ) → Stops x → Front (λ value. IsValue t value) text x → is_ranged t ≡ false
+    only (number n) x stops g = p.each n x (record { found = record { front = g.front; holds = g.holds; is = g.is }; stops = stops })
+    only t x stops g = absurd (let same : kind first ≡ tree_kind t = kind_at t first more x (record { front = g.front; holds = g.holds; is = sym e ∙ g.is }) in omega (arith, same, k))
+
+-- bytes that differ fail the test of equality
+
+other_byte : (b c : ℕ) → b ≢ c → eqb b c ≡ false
+other_byte b c n = elim (eqb b c) as (λ t. eqb b c ≡ t → t ≡ false) [ true ↦ λ e. absurd (n (eqb-true b c e)) | false ↦ λ e. refl ] refl
+
+-- a text that begins with another byte
+
+past_other : (text : List ℕ) (first : ℕ) (more : List ℕ) (c : ℕ) → text ≡ first ∷ more → first ≢ c → Past (λ b. b == c) text
+past_other text first more c e n = subst (λ (l : List ℕ). Past (λ b. b == c) l) (sym e) (other_byte first c n)
+
+-- where the first byte begins no other kind of value, the fault is that of the number
+pub other_fault : (opened : ℕ) (text : List ℕ) (first : ℕ) (more : List ℕ) (fault : Fault) → text ≡ first ∷ more → (first ≢ 110) × (first ≢ 116) × (first ≢ 102) × (first ≢ 91) × (first ≢ 123) × (first ≢ 34) → NumberFault text fault → Explains opened text fault
+other_fault opened text first more (faults.Syntax left) e (n, t, f, p, q, r) h =
+    (h.0, no_value text (past_other text first more 110 e n) (past_other text first more 116 e t) (past_other text first more 102 e f) (past_other text first more 91 e p) (past_other text first more 123 e q) (past_other text first more 34 e r) h.1)
+other_fault opened text first more (faults.TooDeep left) e apart h = absurd h
+other_fault opened text first more (faults.NumberRange left) e apart h = (h.0, out_of_range text first more e (number_first text first more e h.1) h.1)
+other_fault opened text first more faults.Memory e apart h = tt
+
+-- a value that begins with a quote is a string
+string_alone : (text more : List ℕ) → text ≡ 34 ∷ more → ((s rest : List ℕ) → Front (λ front. IsString s front) text rest → ⊥) → NoValue text
+string_alone text more e n (string s) x stops g = n s x (record { front = g.front; holds = g.holds; is = g.is })
+string_alone text more e n t x stops g = absurd (let k : 5 ≡ tree_kind t = kind_at t 34 more x (record { front = g.front; holds = g.holds; is = sym e ∙ g.is }) in omega (arith, k))
+
+-- a fault in a string is one of the value
+
+pub string_fault : (opened : ℕ) (text more : List ℕ) (fault : Fault) → text ≡ 34 ∷ more → StringFault text fault → Explains opened text fault
+string_fault opened text more (faults.Syntax left) e h = (h.0, string_alone text more e h.1)
+string_fault opened text more (faults.TooDeep left) e h = absurd h
+string_fault opened text more (faults.NumberRange left) e h = absurd h
+string_fault opened text more faults.Memory e h = tt
+
+-- a fault in a key is one of the member
+
+pub key_fault : (opened : ℕ) (text : List ℕ) (fault : Fault) → StringFault text fault → ExplainsMember opened text fault
+key_fault opened text (faults.Syntax left) h = (h.0, no_key text h.1)
+key_fault opened text (faults.TooDeep left) h = absurd h
+key_fault opened text (faults.NumberRange left) h = absurd h
+key_fault opened text faults.Memory h = tt
+
+-- what stands behind the front is no longer than the text
+
+pub front_shorter : (P : List ℕ → Type 0) (text rest : List ℕ) → Front P text rest → length rest ≤ length text
+front_shorter P text rest f = omega (arith, ap length f.is, length-append f.front rest)
+
+-- nor is what stands behind white space
+
+pub skips_shorter : (text rest : List ℕ) → Skips text rest → length rest ≤ length text
+skips_shorter text rest s = omega (arith, ap length s.is, length-append s.space rest)

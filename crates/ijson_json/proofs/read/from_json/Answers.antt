@@ -1,0 +1,8 @@
+use Rattle.ijson_json.proofs.Texts.{answers_read, answers_printed}
+use Rattle.ijson_json.proofs.read.from_json.Goals as goal
+
+pub returns-clause-read : goal.returns-clause-read
+returns-clause-read g c = answers_read c.args.text.now c.read_text.result c.read_text.ensures.read
+
+pub returns-clause-printed : goal.returns-clause-printed
+returns-clause-printed g c = answers_printed c.args.text.now c.read_text.result c.read_text.ensures.read

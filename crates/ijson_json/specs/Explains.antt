@@ -1,0 +1,58 @@
+-- What the faults of the reader's private functions say of the text that they were given.
+use Rattle.std.specs.Prelude.{◌≡◌, ◌≢◌, ℕ, ◌+◌, ◌-◌, ◌<◌, ◌≤◌, false, List, ◌++◌, ⊤, length, Result, Ok, Err}
+use Rattle.ijson_value.specs.Tree.{Tree, depth}
+use Rattle.ijson_value.specs.Proper.{Proper}
+use Rattle.ijson_json.specs.Ranged.{is_ranged}
+use Rattle.ijson_json.specs.Grammar.{Accepted, IsString, IsValue}
+use Rattle.ijson_json.specs.Reading.{PastLimitAt, NoNumber, Front, Pair, NoneAt, Beyond}
+use Rattle.ijson_json.specs.Refuses.{Refuses}
+use Rattle.ijson_json.specs.declared.fault.Fault.{Fault}
+use Rattle.ijson_json.specs.declared.fault.Fault.TheVariants as faults
+use Rattle.ijson_json.specs.declared.fault.JsonError.{JsonError}
+use Rattle.ijson_json.specs.declared.fault.JsonError.TheVariants as errors
+
+-- why no value, or no member, was read at the front of the text, inside so many open containers
+abbrev pub ExplainsOf : (E : Type 0) → (E → List ℕ → Type 0) → (E → Tree) → ℕ → List ℕ → Fault → Type 0
+ExplainsOf E Is inner opened text (faults.Syntax left) = (left ≤ length text) × NoneAt E Is text
+ExplainsOf E Is inner opened text (faults.TooDeep left) = (left ≤ length text) × Beyond E Is inner (λ t. 127 < opened + depth t) (λ t. opened + depth t ≡ 128) text
+ExplainsOf E Is inner opened text (faults.NumberRange left) = (left ≤ length text) × Beyond E Is inner (λ t. is_ranged t ≡ false) (λ t. is_ranged t ≡ false) text
+ExplainsOf E Is inner opened text faults.Memory = ⊤
+
+abbrev pub Explains : ℕ → List ℕ → Fault → Type 0
+Explains opened text fault = ExplainsOf Tree (λ t value. IsValue t value) (λ t. t) opened text fault
+
+abbrev pub ExplainsMember : ℕ → List ℕ → Fault → Type 0
+ExplainsMember opened text fault = ExplainsOf (List ℕ × Tree) (λ m text. Pair m text) (λ m. m.1) opened text fault
+
+-- why the text does not begin with the word
+abbrev pub WordFault : List ℕ → List ℕ → Fault → Type 0
+WordFault text word (faults.Syntax left) = (left ≤ length text) × ((rest : List ℕ) → text ≢ word ++ rest)
+WordFault text word (faults.TooDeep left) = ⊥
+WordFault text word (faults.NumberRange left) = ⊥
+WordFault text word faults.Memory = ⊥
+
+-- why no string was
+abbrev pub StringFault : List ℕ → Fault → Type 0
+StringFault text (faults.Syntax left) = (left ≤ length text) × ((s rest : List ℕ) → Front (λ front. IsString s front) text rest → ⊥)
+StringFault text (faults.TooDeep left) = ⊥
+StringFault text (faults.NumberRange left) = ⊥
+StringFault text faults.Memory = ⊤
+
+-- why no number was
+abbrev pub NumberFault : List ℕ → Fault → Type 0
+NumberFault text (faults.Syntax left) = (left ≤ length text) × NoNumber text
+NumberFault text (faults.TooDeep left) = ⊥
+NumberFault text (faults.NumberRange left) = (left ≤ length text) × PastLimitAt text
+NumberFault text faults.Memory = ⊤
+
+-- the fault in a text of so many bytes, of which so many were left
+abbrev pub error_of : ℕ → Fault → JsonError
+error_of length (faults.Syntax left) = errors.Syntax (length - left)
+error_of length (faults.TooDeep left) = errors.TooDeep (length - left)
+error_of length (faults.NumberRange left) = errors.NumberRange (length - left)
+error_of length faults.Memory = errors.Memory
+
+-- what a reading of a whole text answers
+abbrev pub Answers : List ℕ → Result Proper JsonError → Type 0
+Answers text (Ok value) = Accepted text value.tree
+Answers text (Err error) = Refuses text error

@@ -1,0 +1,78 @@
+-- JSON (RFC 8259, sections 2 to 7) as a relation between whole texts and trees. A text is the list of its bytes.
+use Rattle.std.specs.Prelude.{◌≡◌, ℕ, ◌≤◌, Bool, true, false, ◌||◌, ◌==◌, IsTrue, ◌⊎◌, List, [], ◌∷◌, ◌++◌}
+use Rattle.std.specs.List.{AllByRecursion}
+use Rattle.ijson_number.specs.Grammar.{Spells}
+use Rattle.ijson_value.specs.Tree.{Tree, null, boolean, number, string, array, object, Items, no_items, item, Members, no_members, member, depth}
+use Rattle.ijson_json.specs.Strings.{StringBody}
+use Rattle.ijson_json.specs.Ranged.{is_ranged}
+use Rattle.ijson_json.specs.Settled.{settled}
+
+-- space, tab, line feed, carriage return (section 2)
+abbrev pub is_space : ℕ → Bool
+is_space b = (b == 32) || ((b == 9) || ((b == 10) || (b == 13)))
+
+abbrev pub IsSpace : List ℕ → Type 0
+IsSpace text = AllByRecursion (λ b. IsTrue (is_space b)) text
+
+-- a text that is P, with white space round it
+abbrev pub Spaced : (List ℕ → Type 0) → List ℕ → Type 0
+Spaced P text = (before inside after : List ℕ) × IsSpace before × P inside × IsSpace after × (text ≡ before ++ (inside ++ after))
+
+-- a text that is P, the byte, and a text that is Q
+abbrev pub Split : (List ℕ → Type 0) → ℕ → (List ℕ → Type 0) → List ℕ → Type 0
+Split P byte Q text = (first second : List ℕ) × P first × Q second × (text ≡ first ++ byte ∷ second)
+
+-- a text that is P between two bytes
+abbrev pub Enclosed : ℕ → (List ℕ → Type 0) → ℕ → List ℕ → Type 0
+Enclosed first P last text = (inside : List ℕ) × P inside × (text ≡ first ∷ (inside ++ last ∷ []))
+
+-- `null`, `true` and `false` (section 3)
+abbrev pub null_text : List ℕ
+null_text = 110 ∷ 117 ∷ 108 ∷ 108 ∷ []
+
+abbrev pub boolean_text : Bool → List ℕ
+boolean_text true = 116 ∷ 114 ∷ 117 ∷ 101 ∷ []
+boolean_text false = 102 ∷ 97 ∷ 108 ∷ 115 ∷ 101 ∷ []
+
+-- a string with its quotes (section 7)
+abbrev pub IsString : List ℕ → List ℕ → Type 0
+IsString s text = Enclosed 34 (λ body. StringBody body s) 34 text
+
+-- The value without white space round it (sections 3 to 6). An object is as it was written: a key may come again.
+-- `[` is 91, `]` 93, `{` 123, `}` 125, `,` 44 and `:` 58.
+abbrev mutual
+  pub IsValue : Tree → List ℕ → Type 0
+  IsValue null text = text ≡ null_text
+  IsValue (boolean b) text = text ≡ boolean_text b
+  IsValue (number n) text = Spells text n
+  IsValue (string s) text = IsString s text
+  IsValue (array items) text = Enclosed 91 (λ inside. IsItems items inside) 93 text
+  IsValue (object members) text = Enclosed 123 (λ inside. IsMembers members inside) 125 text
+
+  pub IsItems : Items → List ℕ → Type 0
+  IsItems no_items text = IsSpace text
+  IsItems (item t no_items) text = Spaced (λ value. IsValue t value) text
+  IsItems (item t (item u more)) text = Split (λ first. Spaced (λ value. IsValue t value) first) 44 (λ others. IsItems (item u more) others) text
+
+  pub IsMembers : Members → List ℕ → Type 0
+  IsMembers no_members text = IsSpace text
+  IsMembers (member k t no_members) text = Split (λ key. Spaced (λ string. IsString k string) key) 58 (λ value. Spaced (λ value. IsValue t value) value) text
+  IsMembers (member k t (member l u more)) text =
+      Split (λ first. Split (λ key. Spaced (λ string. IsString k string) key) 58 (λ value. Spaced (λ value. IsValue t value) value) first) 44 (λ others. IsMembers (member l u more) others) text
+
+-- The text is JSON for the tree, with so many containers open at once at most; ranged says whether each number in it is within the limit.
+-- What was written has the members that are replaced later too, and they count for both.
+pub record Reads (text : List ℕ) (tree : Tree) (deepest : ℕ) (ranged : Bool) : Type 0 where
+  pub written : Tree
+  pub spelled : Spaced (λ value. IsValue written value) text
+  pub tree_is : tree ≡ settled written
+  pub deepest_is : deepest ≡ depth written
+  pub ranged_is : ranged ≡ is_ranged written
+
+-- within the limits on nesting and on exponents, which are this project's own
+abbrev pub Accepted : List ℕ → Tree → Type 0
+Accepted text tree = (deepest : ℕ) × (deepest ≤ 127) × Reads text tree deepest true
+
+-- closing brackets alone
+abbrev pub IsClosers : List ℕ → Type 0
+IsClosers text = AllByRecursion (λ b. (b ≡ 93) ⊎ (b ≡ 125)) text

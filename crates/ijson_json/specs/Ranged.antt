@@ -1,0 +1,21 @@
+-- Whether each number of a tree is within the limit on exponents, which is this project's own.
+use Rattle.std.specs.Prelude.{Bool, true, ◌&&◌}
+use Rattle.ijson_number.specs.Num.{is_in_range}
+use Rattle.ijson_value.specs.Tree.{Tree, null, boolean, number, string, array, object, Items, no_items, item, Members, no_members, member}
+
+abbrev mutual
+  pub is_ranged : Tree → Bool
+  is_ranged null = true
+  is_ranged (boolean b) = true
+  is_ranged (number n) = is_in_range n
+  is_ranged (string s) = true
+  is_ranged (array items) = items_ranged items
+  is_ranged (object members) = members_ranged members
+
+  pub items_ranged : Items → Bool
+  items_ranged no_items = true
+  items_ranged (item t more) = is_ranged t && items_ranged more
+
+  pub members_ranged : Members → Bool
+  members_ranged no_members = true
+  members_ranged (member k t more) = is_ranged t && members_ranged more

@@ -1,0 +1,120 @@
+-- What the reader's private functions find at the front of a text.
+use Rattle.std.specs.Prelude.{◌≡◌, ℕ, ◌+◌, ◌<◌, ◌≤◌, Bool, true, false, List, [], ◌∷◌, ◌++◌, ⊤}
+use Rattle.ijson_number.specs.Decimal.{Decimal}
+use Rattle.ijson_number.specs.Num.{is_in_range}
+use Rattle.ijson_number.specs.Grammar.{Spells}
+use Rattle.ijson_number.specs.NumberBytes.{is_number_byte}
+use Rattle.ijson_value.specs.Tree.{Tree, null, boolean, number, string, array, object, depth}
+use Rattle.ijson_json.specs.Ranged.{is_ranged}
+use Rattle.ijson_json.specs.Settled.{settled}
+use Rattle.ijson_json.specs.Grammar.{is_space, IsSpace, IsString, IsValue, IsClosers}
+
+-- the first byte, where there is one, does not pass
+abbrev pub Past : (ℕ → Bool) → List ℕ → Type 0
+Past p [] = ⊤
+Past p (b ∷ bs) = p b ≡ false
+
+-- no byte of a number stands here
+abbrev pub Stops : List ℕ → Type 0
+Stops text = Past is_number_byte text
+
+-- the value may end before this text: only a number could go on
+abbrev pub Ends : Tree → List ℕ → Type 0
+Ends null rest = ⊤
+Ends (boolean b) rest = ⊤
+Ends (number n) rest = Stops rest
+Ends (string s) rest = ⊤
+Ends (array is) rest = ⊤
+Ends (object ms) rest = ⊤
+
+-- The text begins with one that is P, and the rest stands behind it.
+pub record Front (P : List ℕ → Type 0) (text rest : List ℕ) : Type 0 where
+  pub front : List ℕ
+  pub holds : P front
+  pub is : text ≡ front ++ rest
+
+-- all the white space that the text begins with is passed
+pub record Skips (text rest : List ℕ) : Type 0 where
+  pub space : List ℕ
+  pub passed : IsSpace space
+  pub is : text ≡ space ++ rest
+  pub past : Past is_space rest
+
+-- A value, or a member of an object, was read, inside so many open containers. The value is as it was written.
+pub record Found (E : Type 0) (Is : E → List ℕ → Type 0) (inner : E → Tree) (opened : ℕ) (text : List ℕ) (e : E) (rest : List ℕ) : Type 0 where
+  pub found : Front (λ text. Is e text) text rest
+  pub ends : Ends (inner e) rest
+  pub deep : opened + depth (inner e) ≤ 127
+  pub ranged : is_ranged (inner e) ≡ true
+
+-- Each value that the text could begin with is Bad, and some beginning of the text, closed by brackets, is a value that is Worst.
+pub record Beyond (E : Type 0) (Is : E → List ℕ → Type 0) (inner : E → Tree) (Bad Worst : Tree → Type 0) (text : List ℕ) : Type 0 where
+  pub each : (e : E) (rest : List ℕ) → Stops rest → Front (λ text. Is e text) text rest → Bad (inner e)
+  pub beginning : List ℕ
+  pub others : List ℕ
+  pub closers : List ℕ
+  pub is : text ≡ beginning ++ others
+  pub closing : IsClosers closers
+  pub element : E
+  pub spelled : Is element (beginning ++ closers)
+  pub worst : Worst (inner element)
+
+-- no value, or no member, stands at the front
+abbrev pub NoneAt : (E : Type 0) → (E → List ℕ → Type 0) → List ℕ → Type 0
+NoneAt E Is text = (e : E) (rest : List ℕ) → Stops rest → Front (λ text. Is e text) text rest → ⊥
+
+-- a key, `:` and a value
+pub record Pair (m : List ℕ × Tree) (text : List ℕ) : Type 0 where
+  pub key : List ℕ
+  pub gap : List ℕ
+  pub gap' : List ℕ
+  pub value : List ℕ
+  pub is_key : IsString m.0 key
+  pub space : IsSpace gap
+  pub space' : IsSpace gap'
+  pub is_value : IsValue m.1 value
+  pub is : text ≡ key ++ (gap ++ 58 ∷ (gap' ++ value))
+
+abbrev pub IsRead : ℕ → List ℕ → Tree → List ℕ → Type 0
+IsRead opened text t rest = Found Tree (λ t value. IsValue t value) (λ t. t) opened text t rest
+
+abbrev pub IsBeyond : (Tree → Type 0) → (Tree → Type 0) → List ℕ → Type 0
+IsBeyond Bad Worst text = Beyond Tree (λ t value. IsValue t value) (λ t. t) Bad Worst text
+
+abbrev pub NoValue : List ℕ → Type 0
+NoValue text = NoneAt Tree (λ t value. IsValue t value) text
+
+-- the tree that was read, of what was written
+abbrev pub ReadAs : ℕ → List ℕ → Tree → List ℕ → Type 0
+ReadAs opened text tree rest = (written : Tree) × IsRead opened text written rest × (tree ≡ settled written)
+
+abbrev pub MemberAs : ℕ → List ℕ → List ℕ → Tree → List ℕ → Type 0
+MemberAs opened text key tree rest = (written : Tree) × Found (List ℕ × Tree) (λ m text. Pair m text) (λ m. m.1) opened text (key, written) rest × (tree ≡ settled written)
+
+abbrev pub IsTooDeep : ℕ → List ℕ → Type 0
+IsTooDeep opened text = IsBeyond (λ t. 127 < opened + depth t) (λ t. opened + depth t ≡ 128) text
+
+abbrev pub IsOutOfRange : List ℕ → Type 0
+IsOutOfRange text = IsBeyond (λ t. is_ranged t ≡ false) (λ t. is_ranged t ≡ false) text
+
+-- a number stands at the front, and the text behind it does not go on with it
+pub record NumberAt (text : List ℕ) (n : Decimal) (rest : List ℕ) : Type 0 where
+  pub found : Front (λ front. Spells front n) text rest
+  pub stops : Stops rest
+
+abbrev pub NumberRead : List ℕ → Decimal → List ℕ → Type 0
+NumberRead text n rest = NumberAt text n rest × (is_in_range n ≡ true)
+
+-- the text spells a number that is past the limit
+abbrev pub IsPastLimit : List ℕ → Type 0
+IsPastLimit text = (n : Decimal) × Spells text n × (is_in_range n ≡ false)
+
+-- each number at the front is past the limit, and some beginning of the text is one
+pub record PastLimitAt (text : List ℕ) : Type 0 where
+  pub each : (n : Decimal) (rest : List ℕ) → NumberAt text n rest → is_in_range n ≡ false
+  pub rest : List ℕ
+  pub beginning : Front IsPastLimit text rest
+
+-- no number stands at the front
+abbrev pub NoNumber : List ℕ → Type 0
+NoNumber text = (n : Decimal) (rest : List ℕ) → NumberAt text n rest → ⊥

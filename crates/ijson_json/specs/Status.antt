@@ -1,0 +1,16 @@
+-- The status that the program ends with: 0 done, 1 for what was read, 2 for a device, 3 for want of memory. This project's own.
+use Rattle.std.specs.Prelude.{ℕ, Result, Ok, Err}
+use Rattle.ijson_json.specs.declared.fault.JsonError.TheVariants as json
+use Rattle.ijson_json.specs.declared.compacting.CompactError.{CompactError}
+use Rattle.ijson_json.specs.declared.compacting.CompactError.TheVariants as errors
+
+abbrev pub status_of : Result (Unit {0}) CompactError → ℕ
+status_of (Ok _) = 0
+status_of (Err errors.NotUtf8) = 1
+status_of (Err (errors.Json (json.Syntax _))) = 1
+status_of (Err (errors.Json (json.TooDeep _))) = 1
+status_of (Err (errors.Json (json.NumberRange _))) = 1
+status_of (Err errors.Read) = 2
+status_of (Err errors.Write) = 2
+status_of (Err (errors.Json json.Memory)) = 3
+status_of (Err errors.Memory) = 3

@@ -1,0 +1,51 @@
+-- What the functions that read a string find at the front of a text.
+use Rattle.std.specs.Prelude.{◌≡◌, ℕ, ◌+◌, ◌-◌, ◌*◌, ◌≤◌, List, ◌∷◌, ◌++◌, ⊤, length, IsTrue, Some}
+use Rattle.std.specs.Char.{encode_utf8}
+use Rattle.ijson_json.specs.Strings.{hex_digit, Hex, Character, is_low_surrogate, StringBody}
+use Rattle.ijson_json.specs.declared.fault.Fault.{Fault}
+use Rattle.ijson_json.specs.declared.fault.Fault.TheVariants as faults
+
+-- a hexadecimal digit, or four of them, and the number that they spell
+abbrev pub DigitAt : List ℕ → ℕ → List ℕ → Type 0
+DigitAt text n rest = (a : ℕ) × (hex_digit a ≡ Some n) × (text ≡ a ∷ rest)
+
+abbrev pub NoDigit : List ℕ → Type 0
+NoDigit text = (n : ℕ) (rest : List ℕ) → DigitAt text n rest → ⊥
+
+abbrev pub HexAt : List ℕ → ℕ → List ℕ → Type 0
+HexAt text u rest = (h : List ℕ) × Hex h u × (text ≡ h ++ rest)
+
+abbrev pub NoHex : List ℕ → Type 0
+NoHex text = (u : ℕ) (rest : List ℕ) → HexAt text u rest → ⊥
+
+-- a character as it is written, and its bytes
+abbrev pub CharacterAt : List ℕ → List ℕ → List ℕ → Type 0
+CharacterAt text meant rest = (written : List ℕ) × Character written meant × (text ≡ written ++ rest)
+
+abbrev pub NoCharacter : List ℕ → Type 0
+NoCharacter text = (meant rest : List ℕ) → CharacterAt text meant rest → ⊥
+
+-- no character begins with this text's backslash
+abbrev pub NoEscape : List ℕ → Type 0
+NoEscape text = (letters : List ℕ) → text ≡ 92 ∷ letters → NoCharacter text
+
+-- behind the escape of a high surrogate u: the escape of a low one, and the bytes of the character of the two
+abbrev pub LowAt : ℕ → List ℕ → List ℕ → List ℕ → Type 0
+LowAt u text meant rest = (l : List ℕ) × (v : ℕ) × Hex l v × IsTrue (is_low_surrogate v) × (text ≡ 92 ∷ 117 ∷ (l ++ rest)) × (meant ≡ encode_utf8 (0x10000 + ((u - 0xd800) * 1024 + (v - 0xdc00))))
+
+abbrev pub NoLow : List ℕ → Type 0
+NoLow text = (l : List ℕ) (v : ℕ) (rest : List ℕ) → Hex l v → IsTrue (is_low_surrogate v) → text ≡ 92 ∷ 117 ∷ (l ++ rest) → ⊥
+
+-- what is left of a string's content, and its closing quote
+abbrev pub ContentAt : List ℕ → List ℕ → List ℕ → Type 0
+ContentAt text s rest = (body : List ℕ) × StringBody body s × (text ≡ body ++ 34 ∷ rest)
+
+abbrev pub NoContent : List ℕ → Type 0
+NoContent text = (s rest : List ℕ) → ContentAt text s rest → ⊥
+
+-- why there is none
+abbrev pub ContentFault : List ℕ → Fault → Type 0
+ContentFault text (faults.Syntax left) = (left ≤ length text) × NoContent text
+ContentFault text (faults.TooDeep left) = ⊥
+ContentFault text (faults.NumberRange left) = ⊥
+ContentFault text faults.Memory = ⊤

@@ -1,0 +1,123 @@
+//! `compact`: from a source to a sink.
+ghost use Rattle.std.specs.Prelude.{◌≡◌, ◌≢◌, ◌+◌, ◌^◌, ◌<◌, ◌↔◌, ℕ, List, [], ◌++◌, IfOk, IfErr, OnOk, IfSome, Some, Err};
+ghost use Rattle.std.specs.String.{string_bytes};
+ghost use Rattle.ijson_json.specs.Moves.{Gets};
+ghost use Rattle.ijson_json.specs.Compacts.{Compacts, IsCompactLine};
+ghost use Rattle.ijson_json.specs.CompactRefusal.{IsCompactRefusal};
+ghost use Rattle.ijson_json.specs.Refuses.{Refuses};
+ghost use Rattle.ijson_json.specs.Told.{told_read, told_json};
+ghost use Rattle.ijson_json.specs.declared.compacting.CompactError.TheVariants.{Read, Write, Json, Memory as NoMemory};
+ghost use Rattle.ijson_json.specs.declared.fault.JsonError.TheVariants.{Memory};
+
+use crate::device::{Sink, Source};
+use crate::fault::JsonError;
+use crate::moving::{ReadFault, read_all, write_all};
+use crate::read::from_json;
+use crate::write::to_json;
+use ijson_string::StringCache;
+use simdutf8::basic::from_utf8;
+use std::alloc::{AllocError, Global};
+use std::hash::BuildHasher;
+
+/// Why a text could not be compacted.
+#[derive(Debug, Drop, Clone, Copy, PartialEq, Eq)]
+pub enum CompactError {
+    /// The source failed. Nothing was written.
+    Read,
+    /// What was read is not UTF-8. Nothing was written.
+    NotUtf8,
+    /// What was read is not a JSON text within the limits. Nothing was written. It never holds `JsonError::Memory`.
+    Json(JsonError),
+    /// The sink failed. It got a beginning of the line, and not all of it.
+    Write,
+    /// There was not enough memory. Nothing was written.
+    Memory,
+}
+
+impl From<ReadFault> for CompactError {
+    ghost from_gives = { λ fault error. error ≡ told_read fault };
+
+    fn from(fault: ReadFault) -> CompactError {
+        match fault {
+            ReadFault::Device => CompactError::Read,
+            ReadFault::Memory => CompactError::Memory,
+        }
+    }
+}
+
+impl From<JsonError> for CompactError {
+    ghost from_gives = { λ error told. told ≡ told_json error };
+
+    fn from(error: JsonError) -> CompactError {
+        match error {
+            JsonError::Memory => CompactError::Memory,
+            _ => CompactError::Json(error),
+        }
+    }
+}
+
+impl From<AllocError> for CompactError {
+    ghost from_gives = { λ _ error. error ≡ NoMemory };
+
+    fn from(_error: AllocError) -> CompactError {
+        CompactError::Memory
+    }
+}
+
+/// Reads the JSON text that is left in `input` to its end, and writes its compact text and one line feed to `output`.
+///
+/// Each error says when it comes at `CompactError`. The whole line is made before its first byte is written.
+pub fn compact<R: Source, W: Sink, S: BuildHasher>(
+    alloc: Global,
+    input: &mut R,
+    output: &mut W,
+    cache: &mut StringCache<S>,
+) -> Result<(), CompactError>
+    requires source { R.failed input.old + 1 < 2 ^ 64 }
+    requires sink { W.failed output.old + 1 < 2 ^ 64 }
+    ensures read { (result ≡ Err Read) ↔ (R.failed input.old < R.failed input.new) }
+    ensures write { (result ≡ Err Write) ↔ (W.failed output.old < W.failed output.new) }
+    ensures done { OnOk result (IfSome (R.left input.old) (λ bytes. (R.left input.new ≡ Some [])
+        × ((line : List ℕ) × IsCompactLine bytes line × Gets (W.got output.old) (W.got output.new) line))) }
+    ensures beginning { result ≡ Err Write → IfSome (R.left input.old) (λ bytes.
+        (line : List ℕ) × (front : List ℕ) × (rest : List ℕ) × IsCompactLine bytes line × (line ≡ front ++ rest) × (rest ≢ [])
+        × Gets (W.got output.old) (W.got output.new) front) }
+    ensures nothing { IfErr result (λ error. error ≢ Write → W.got output.new ≡ W.got output.old) }
+    ensures error { IfErr result (λ error. IfSome (R.left input.old) (λ bytes. IsCompactRefusal bytes error)) }
+    ensures told_apart { result ≢ Err (Json Memory) }
+{
+    let bytes = read_all(alloc, input)?;
+    let line = compact_line(alloc, cache, &bytes)?;
+    write_all(output, line.as_bytes()).map_err(|_| CompactError::Write)
+}
+
+/// The compact text of `bytes` and a line feed.
+fn compact_line<S: BuildHasher>(
+    alloc: Global,
+    cache: &mut StringCache<S>,
+    bytes: &[u8],
+) -> Result<String, CompactError>
+    ensures line { IfOk result (λ line. IsCompactLine bytes.now (string_bytes line)) }
+    ensures error { IfErr result (λ error. IsCompactRefusal bytes.now error) }
+    ensures not_read { result ≢ Err Read }
+    ensures not_write { result ≢ Err Write }
+    ensures told_apart { result ≢ Err (Json Memory) }
+{
+    let text = from_utf8(bytes).map_err(|_| CompactError::NotUtf8)?;
+    let mut line = compact_text(alloc, cache, text)?;
+    line.push('\n')?;
+    Ok(line)
+}
+
+/// The compact text of `text`.
+fn compact_text<S: BuildHasher>(
+    alloc: Global,
+    cache: &mut StringCache<S>,
+    text: &str,
+) -> Result<String, JsonError>
+    ensures written { IfOk result (λ written. Compacts text.now (string_bytes written)) }
+    ensures refused { IfErr result (λ error. Refuses text.now error) }
+{
+    let value = from_json(alloc, cache, text)?;
+    to_json(alloc, &value).map_err(|_| JsonError::Memory)
+}

@@ -1,0 +1,54 @@
+//! Why a text is refused.
+
+ghost use Rattle.std.specs.Prelude.{◌≡◌};
+ghost use Rattle.ijson_json.specs.declared.fault.Fault.TheVariants.{Memory};
+
+use ijson_value::{Refused, RefusedPair};
+use std::alloc::AllocError;
+
+/// Why no value was read from a text. `at` is a byte offset from 0, at most the length of the text.
+#[derive(Clone, Copy, PartialEq, Eq, Debug)]
+pub enum JsonError {
+    /// The text is not JSON: the first byte that no JSON text could have there, or the length of a text that ends too early. A
+    /// broken escape is told at its backslash.
+    Syntax { at: usize },
+    /// An opening bracket inside 127 open containers.
+    TooDeep { at: usize },
+    /// The first byte of a number whose stripped exponent is past the limit.
+    NumberRange { at: usize },
+    /// Memory was refused.
+    Memory,
+}
+
+/// Why nothing was read at the front of a text, and how many bytes were left there.
+#[derive(Clone, Copy)]
+pub(crate) enum Fault {
+    Syntax { left: usize },
+    TooDeep { left: usize },
+    NumberRange { left: usize },
+    Memory,
+}
+
+impl From<Refused> for Fault {
+    ghost from_gives = { λ _ fault. fault ≡ Memory };
+
+    fn from(_refused: Refused) -> Fault {
+        Fault::Memory
+    }
+}
+
+impl From<RefusedPair> for Fault {
+    ghost from_gives = { λ _ fault. fault ≡ Memory };
+
+    fn from(_refused: RefusedPair) -> Fault {
+        Fault::Memory
+    }
+}
+
+impl From<AllocError> for Fault {
+    ghost from_gives = { λ _ fault. fault ≡ Memory };
+
+    fn from(_error: AllocError) -> Fault {
+        Fault::Memory
+    }
+}

@@ -1,0 +1,71 @@
+//! What a text begins with.
+
+ghost use Rattle.std.specs.Prelude.{◌≡◌, ◌++◌, ◌∷◌, ◌==◌, ◌<◌, ◌≤◌, nat_lt, length, MatchOption, MatchResult, IfSome};
+ghost use Rattle.ijson_json.specs.Grammar.{is_space};
+ghost use Rattle.ijson_json.specs.Reading.{Skips, Past};
+ghost use Rattle.ijson_json.specs.Explains.{WordFault};
+
+use crate::fault::Fault;
+
+/// Space, tab, line feed or carriage return.
+fn is_white(byte: u8) -> bool
+    ensures { result ≡ is_space byte }
+{
+    byte == b' ' || byte == b'\n' || byte == b'\r' || byte == b'\t'
+}
+
+/// The first byte and the text behind it, where that byte is a character.
+pub(crate) fn split_ascii(text: &str) -> Option<(u8, &str)>
+    ensures cases { MatchOption result (Past (λ b. nat_lt b 128) text.now) (λ x. text.now ≡ x.0 ∷ x.1.now) }
+    ensures ascii { IfSome result (λ x. x.0 < 128) }
+{
+    let (byte, _) = text.as_bytes().split_first()?;
+    if *byte < 128 {
+        Some((*byte, &text[1..]))
+    } else {
+        None
+    }
+}
+
+/// The text behind the white space that it begins with.
+pub(crate) fn skip_space(text: &str) -> &str
+    ensures { Skips text.now result.now }
+{
+    let mut rest = text;
+    while let Some((byte, more)) = split_ascii(rest) {
+        if !is_white(byte) {
+            break;
+        }
+        rest = more;
+    }
+    rest
+}
+
+/// The text behind the byte, if it begins with it.
+pub(crate) fn strip_byte(text: &str, byte: u8) -> Option<&str>
+    requires { byte < 128 }
+    ensures { MatchOption result (Past (λ b. b == byte) text.now) (λ rest. text.now ≡ byte ∷ rest.now) }
+{
+    let (first, rest) = split_ascii(text)?;
+    if first == byte { Some(rest) } else { None }
+}
+
+/// How far the text goes with the word.
+fn common_length(text: &str, word: &str) -> usize
+    ensures { result ≤ length text.now }
+{
+    let bytes = text.as_bytes().iter().zip(word.as_bytes());
+    bytes.take_while(|(a, b)| a == b).count()
+}
+
+/// The text behind the word. A text that does not begin with it is at fault where it leaves the word.
+pub(crate) fn strip_word<'a>(text: &'a str, word: &str) -> Result<&'a str, Fault>
+    ensures { MatchResult result (λ rest. text.now ≡ word.now ++ rest.now) (λ fault. WordFault text.now word.now fault) }
+{
+    match text.strip_prefix(word) {
+        Some(rest) => Ok(rest),
+        None => Err(Fault::Syntax {
+            left: text.len() - common_length(text, word),
+        }),
+    }
+}

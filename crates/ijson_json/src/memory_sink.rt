@@ -1,0 +1,90 @@
+//! A sink in memory, for tests.
+ghost use Rattle.std.specs.Prelude.{◌≡◌, ◌+◌, ◌-◌, ◌++◌, ◌^◌, ◌<◌, ◌≤◌, ◌↔◌, [], length, take, min, IfOk, IsErr, OnErr, Some};
+ghost use Rattle.ijson_json.specs.Moves.{Gets};
+
+use crate::device::{DeviceFault, Sink};
+use std::alloc::{AllocError, Global};
+use std::marker::Model;
+
+/// Keeps what it gets, at most `piece` bytes of a call, and fails once it got `fail_at` bytes.
+#[derive(Drop)]
+pub struct MemorySink {
+    room: Vec<u8>,
+    len: usize,
+    piece: usize,
+    failures: u64,
+}
+
+impl Model for MemorySink {
+    ghost use Rattle.std.specs.Prelude.{◌<◌, ◌≤◌, ◌-◌, take, length};
+    ghost use Rattle.ijson_json.specs.Taking.{Taking};
+
+    ghost Value = { Taking };
+
+    ghost view = { λ s. record {
+      got = take s.len s.room.items;
+      piece = s.piece;
+      until_fault = length s.room.items - s.len;
+      failed = s.failures;
+    } };
+
+    ghost invariant = { λ s. (0 < s.piece) × (s.len ≤ length s.room.items) };
+}
+
+impl MemorySink {
+    /// A sink that takes `fail_at` bytes: a call that would pass them stops there, and each later one that has a byte is a fault.
+    /// Room for them is taken here, so that `write` needs no memory; the error comes where there is none.
+    pub fn new(alloc: Global, piece: usize, fail_at: usize) -> Result<MemorySink, AllocError>
+        requires { 0 < piece }
+        ensures { IfOk result (λ s. s ≡ record { got = []; piece = piece; until_fault = fail_at; failed = 0 }) }
+    {
+        let room = Vec::from_elem(alloc, 0, fail_at)?;
+        Ok(MemorySink {
+            room,
+            len: 0,
+            piece,
+            failures: 0,
+        })
+    }
+
+    /// What it got so far.
+    pub fn bytes(&self) -> &[u8]
+        ensures { result.now ≡ self.now.got }
+    {
+        &self.room[..self.len]
+    }
+}
+
+impl Sink for MemorySink {
+    ghost failed = { λ s. s.failed };
+
+    ghost got = { λ s. Some s.got };
+
+    fn failures(&self) -> u64 {
+        self.failures
+    }
+
+    fn write(&mut self, from: &[u8]) -> Result<usize, DeviceFault>
+        requires { self.old.failed + 1 < 2 ^ 64 }
+        ensures count { IfOk result (λ n. (self.new.failed ≡ self.old.failed) × (n ≤ length from.now)) }
+        ensures bytes { IfOk result (λ n. Gets (Some self.old.got) (Some self.new.got) (take n from.now)) }
+        ensures progress { IfOk result (λ n. 0 < length from.now → 0 < n) }
+        ensures fault { OnErr result ((self.new.failed ≡ self.old.failed + 1) × (Some self.new.got ≡ Some self.old.got)) }
+
+        // When a call fails, how many bytes move, and what there is after it.
+        ensures fails { IsErr result ↔ ((self.old.until_fault ≡ 0) × (0 < length from.now)) }
+        ensures moved { IfOk result (λ n. n ≡ min self.old.piece (min self.old.until_fault (length from.now))) }
+        ensures taken { IfOk result (λ n. self.new ≡ record { got = self.old.got ++ take n from.now; piece = self.old.piece; until_fault = self.old.until_fault - n; failed = self.old.failed }) }
+        ensures refused { OnErr result (self.new ≡ record { got = self.old.got; piece = self.old.piece; until_fault = self.old.until_fault; failed = self.old.failed + 1 }) }
+    {
+        let until_fault = self.room.len() - self.len;
+        if until_fault == 0 && !from.is_empty() {
+            self.failures += 1;
+            return Err(DeviceFault);
+        }
+        let count = self.piece.min(until_fault.min(from.len()));
+        self.room[self.len..self.len + count].copy_from_slice(&from[..count]);
+        self.len += count;
+        Ok(count)
+    }
+}

@@ -1,0 +1,83 @@
+//! A source in memory, for tests.
+ghost use Rattle.std.specs.Prelude.{◌≡◌, ◌+◌, ◌-◌, ◌^◌, ◌<◌, ◌≤◌, ◌↔◌, length, take, drop, min, IfOk, IsErr, OnErr, Some};
+ghost use Rattle.ijson_json.specs.Moves.{Gives, IsAtEnd};
+
+use crate::device::{DeviceFault, Source};
+use std::marker::Model;
+
+/// Gives the bytes of a slice, at most `piece` in a call, and fails once `fail_at` bytes were given.
+#[derive(Drop)]
+pub struct MemorySource<'a> {
+    left: &'a [u8],
+    piece: usize,
+    until_fault: usize,
+    failures: u64,
+}
+
+impl<'a> Model for MemorySource<'a> {
+    ghost use Rattle.std.specs.Prelude.{◌<◌};
+    ghost use Rattle.ijson_json.specs.Giving.{Giving};
+
+    ghost Value = { Giving };
+
+    ghost view = { λ s. record {
+      left = s.left.now;
+      piece = s.piece;
+      until_fault = s.until_fault;
+      failed = s.failures;
+    } };
+
+    ghost invariant = { λ s. 0 < s.piece };
+}
+
+impl<'a> MemorySource<'a> {
+    /// A source of `bytes`. A call that would pass the first `fail_at` of them stops there, and each later one is a fault, the
+    /// one that would tell the end too.
+    pub fn new(bytes: &'a [u8], piece: usize, fail_at: usize) -> MemorySource<'a>
+        requires { 0 < piece }
+        ensures { result ≡ record { left = bytes.now; piece = piece; until_fault = fail_at; failed = 0 } }
+    {
+        MemorySource {
+            left: bytes,
+            piece,
+            until_fault: fail_at,
+            failures: 0,
+        }
+    }
+}
+
+impl Source for MemorySource<'_> {
+    ghost failed = { λ s. s.failed };
+
+    ghost left = { λ s. Some s.left };
+
+    fn failures(&self) -> u64 {
+        self.failures
+    }
+
+    fn read(&mut self, into: &mut [u8]) -> Result<usize, DeviceFault>
+        requires { self.old.failed + 1 < 2 ^ 64 }
+        ensures count { IfOk result (λ n. (self.new.failed ≡ self.old.failed) × (n ≤ length into.new)) }
+        ensures bytes { IfOk result (λ n. Gives (Some self.old.left) (Some self.new.left) (take n into.new)) }
+        ensures end { IfOk result (λ n. n ≡ 0 → 0 < length into.new → IsAtEnd (Some self.old.left)) }
+        ensures fault { OnErr result ((self.new.failed ≡ self.old.failed + 1) × (Some self.new.left ≡ Some self.old.left)) }
+
+        // When a call fails, how many bytes move, and what there is after it.
+        ensures fails { IsErr result ↔ (self.old.until_fault ≡ 0) }
+        ensures moved { IfOk result (λ n. n ≡ min (min self.old.piece self.old.until_fault) (min (length into.old) (length self.old.left))) }
+        ensures given { IfOk result (λ n. self.new ≡ record { left = drop n self.old.left; piece = self.old.piece; until_fault = self.old.until_fault - n; failed = self.old.failed }) }
+        ensures refused { OnErr result (self.new ≡ record { left = self.old.left; piece = self.old.piece; until_fault = self.old.until_fault; failed = self.old.failed + 1 }) }
+    {
+        if self.until_fault == 0 {
+            self.failures += 1;
+            return Err(DeviceFault);
+        }
+        let most = self.piece.min(self.until_fault);
+        let count = most.min(into.len().min(self.left.len()));
+        let (given, left) = self.left.split_at(count);
+        into[..count].copy_from_slice(given);
+        self.left = left;
+        self.until_fault -= count;
+        Ok(count)
+    }
+}

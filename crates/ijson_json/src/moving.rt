@@ -1,0 +1,108 @@
+//! Reading to the end, and writing all of a text.
+ghost use Rattle.std.specs.Prelude.{◌≡◌, ◌≢◌, ◌+◌, ◌^◌, ◌<◌, ℕ, List, [], ◌++◌, ◌≤◌, take, drop, IfOk, OnOk, OnErr, Err};
+ghost use Rattle.std.specs.Vec.{vec_len};
+ghost use Rattle.ijson_json.specs.Moves.{Gives, Gets, IsAtEnd};
+ghost use Rattle.ijson_json.specs.declared.moving.ReadFault.TheVariants.{Device, Memory};
+
+use crate::device::{DeviceFault, Sink, Source};
+use std::alloc::{AllocError, Global};
+
+/// The least number of bytes that room is made for at a time.
+const PIECE: usize = 65_536;
+
+/// Why not all was read.
+#[derive(Debug, Drop)]
+pub(crate) enum ReadFault {
+    Device,
+    Memory,
+}
+
+impl From<DeviceFault> for ReadFault {
+    ghost from_gives = { λ _ fault. fault ≡ Device };
+
+    fn from(_fault: DeviceFault) -> ReadFault {
+        ReadFault::Device
+    }
+}
+
+impl From<AllocError> for ReadFault {
+    ghost from_gives = { λ _ fault. fault ≡ Memory };
+
+    fn from(_error: AllocError) -> ReadFault {
+        ReadFault::Memory
+    }
+}
+
+/// All that is left in `input`, read into the one buffer that is answered.
+pub(crate) fn read_all<R: Source>(alloc: Global, input: &mut R) -> Result<Vec<u8>, ReadFault>
+    requires { R.failed input.old + 1 < 2 ^ 64 }
+    ensures bytes { IfOk result (λ v. Gives (R.left input.old) (R.left input.new) v.items) }
+    ensures end { OnOk result (IsAtEnd (R.left input.new)) }
+    ensures count { OnOk result (R.failed input.new ≡ R.failed input.old) }
+    ensures device { result ≡ Err Device → R.failed input.new ≡ R.failed input.old + 1 }
+    ensures memory { result ≡ Err Memory → R.failed input.new ≡ R.failed input.old }
+{
+    let mut bytes = Vec::new(alloc);
+    let mut filled = 0;
+    for _ in 0..u64::MAX {
+        let count = read_piece(input, &mut bytes, filled)?;
+        if count == 0 {
+            bytes.truncate(filled);
+            return Ok(bytes);
+        }
+        filled += count;
+    }
+    // each turn added a byte, and no list has so many
+    unreachable!()
+}
+
+/// Reads a piece behind the first `filled` bytes, with room made where there is none, and answers its length.
+fn read_piece<R: Source>(
+    input: &mut R,
+    bytes: &mut Vec<u8>,
+    filled: usize,
+) -> Result<usize, ReadFault>
+    requires steady { R.failed input.old + 1 < 2 ^ 64 }
+    requires within { filled ≤ vec_len bytes.old }
+    ensures kept { take filled bytes.new.items ≡ take filled bytes.old.items }
+    ensures within { IfOk result (λ n. filled + n ≤ vec_len bytes.new) }
+    ensures piece { IfOk result (λ n. Gives (R.left input.old) (R.left input.new) (take n (drop filled bytes.new.items))) }
+    ensures end { IfOk result (λ n. n ≡ 0 → IsAtEnd (R.left input.new)) }
+    ensures count { OnOk result (R.failed input.new ≡ R.failed input.old) }
+    ensures device { result ≡ Err Device → R.failed input.new ≡ R.failed input.old + 1 }
+    ensures memory { result ≡ Err Memory → R.failed input.new ≡ R.failed input.old }
+{
+    if filled == bytes.len() {
+        make_room(bytes)?;
+    }
+    let count = input.read(&mut bytes[filled..])?;
+    Ok(count)
+}
+
+/// Doubles the length, and makes it at least `PIECE`.
+fn make_room(bytes: &mut Vec<u8>) -> Result<(), AllocError>
+    ensures kept { take (vec_len bytes.old) bytes.new.items ≡ bytes.old.items }
+    ensures longer { OnOk result (vec_len bytes.old < vec_len bytes.new) }
+{
+    let more = bytes.len().max(PIECE);
+    let Some(len) = bytes.len().checked_add(more) else {
+        return Err(AllocError);
+    };
+    bytes.resize(len, 0)
+}
+
+/// Writes all of `text`.
+#[tactic(auto, using(crate::proofs::Moves::gets_rest, crate::proofs::Moves::begun))]
+pub(crate) fn write_all<W: Sink>(output: &mut W, text: &[u8]) -> Result<(), DeviceFault>
+    requires { W.failed output.old + 1 < 2 ^ 64 }
+    ensures count { OnOk result (W.failed output.new ≡ W.failed output.old) }
+    ensures bytes { OnOk result (Gets (W.got output.old) (W.got output.new) text.now) }
+    ensures fault { OnErr result (W.failed output.new ≡ W.failed output.old + 1) }
+    ensures beginning { OnErr result ((front : List ℕ) × (rest : List ℕ) × (text.now ≡ front ++ rest) × (rest ≢ []) × Gets (W.got output.old) (W.got output.new) front) }
+{
+    let mut at = 0;
+    while at < text.len() {
+        at += output.write(&text[at..])?;
+    }
+    Ok(())
+}

@@ -1,0 +1,73 @@
+//! Reading a number.
+
+ghost use Rattle.std.specs.Prelude.{◌≡◌, ◌++◌, ◌↔◌, IsTrue, MatchResult};
+ghost use Rattle.std.specs.List.{AllByRecursion};
+ghost use Rattle.ijson_number.specs.NumberBytes.{is_number_byte};
+ghost use Rattle.ijson_json.specs.Explains.{NumberFault};
+ghost use Rattle.ijson_json.specs.Reading.{IsPastLimit, NumberRead, Stops};
+
+use crate::fault::Fault;
+use crate::front::split_ascii;
+use ijson_number::{INumber, ParseNumberError, first_fault};
+use std::alloc::Global;
+
+/// A byte that a number may be made of.
+fn in_number(byte: u8) -> bool
+    ensures { result ≡ is_number_byte byte }
+{
+    (b'0' <= byte && byte <= b'9')
+        || byte == b'+'
+        || byte == b'-'
+        || byte == b'.'
+        || byte == b'E'
+        || byte == b'e'
+}
+
+/// The bytes of a number that the text begins with, and the text behind them.
+fn split_number(text: &str) -> (&str, &str)
+    ensures run { AllByRecursion (λ b. IsTrue (is_number_byte b)) result.0.now }
+    ensures whole { text.now ≡ result.0.now ++ result.1.now }
+    ensures stops { Stops result.1.now }
+{
+    let mut rest = text;
+    while let Some((byte, more)) = split_ascii(rest) {
+        if !in_number(byte) {
+            break;
+        }
+        rest = more;
+    }
+    text.split_at(text.len() - rest.len())
+}
+
+/// Whether the text spells a number past the limit.
+fn is_past_limit(alloc: Global, text: &str) -> bool
+    ensures { IsTrue result ↔ IsPastLimit text.now }
+{
+    match INumber::from_str(alloc, text) {
+        Ok(_) => false,
+        Err(ParseNumberError::Memory) => false,
+        Err(ParseNumberError::Invalid) => first_fault(text).is_none(),
+    }
+}
+
+/// The number at the front. One past the limit is told at its first byte, whatever follows it.
+pub(crate) fn read_number(alloc: Global, text: &str) -> Result<(INumber, &str), Fault>
+    ensures { MatchResult result (λ x. NumberRead text.now x.0.decimal x.1.now) (λ fault. NumberFault text.now fault) }
+{
+    let (run, rest) = split_number(text);
+    match INumber::from_str(alloc, run) {
+        Ok(number) => Ok((number, rest)),
+        Err(ParseNumberError::Memory) => Err(Fault::Memory),
+        Err(ParseNumberError::Invalid) => match first_fault(run) {
+            None => Err(Fault::NumberRange { left: text.len() }),
+            Some(at) => {
+                if is_past_limit(alloc, &run[..at]) {
+                    return Err(Fault::NumberRange { left: text.len() });
+                }
+                Err(Fault::Syntax {
+                    left: text.len() - at,
+                })
+            }
+        },
+    }
+}

@@ -1,0 +1,67 @@
+//! Writing a string.
+
+ghost use Rattle.std.specs.Prelude.{◌≡◌, ◌++◌, ◌∷◌, [], ◌/◌, ◌%◌, ◌<◌, false, OnOk};
+ghost use Rattle.std.specs.String.{string_bytes};
+ghost use Rattle.ijson_json.specs.Strings.{is_unescaped};
+ghost use Rattle.ijson_json.specs.Print.{escaped, hex_text, quoted};
+
+use crate::run::split_run;
+use std::alloc::AllocError;
+
+/// A digit below sixteen, in lower case.
+fn hex_letter(digit: u8) -> char
+    requires { digit < 16 }
+    ensures { result ≡ hex_text digit }
+{
+    if digit < 10 {
+        (b'0' + digit) as char
+    } else {
+        (b'a' - 10 + digit) as char
+    }
+}
+
+/// Appends the escape of a control character that has no letter.
+fn push_unicode(out: &mut String, control: u8) -> Result<(), AllocError>
+    requires { control < 32 }
+    ensures { OnOk result (string_bytes out.new ≡ string_bytes out.old ++ 92 ∷ 117 ∷ 48 ∷ 48 ∷ hex_text (control / 16) ∷ hex_text (control % 16) ∷ []) }
+{
+    out.push_str("\\u00")?;
+    out.push(hex_letter(control / 16))?;
+    out.push(hex_letter(control % 16))
+}
+
+/// Appends the escape of a character that does not stand for itself.
+#[tactic(auto, unfolding(crate::specs::Print::escaped))]
+fn push_escape(out: &mut String, character: char) -> Result<(), AllocError>
+    requires { is_unescaped character ≡ false }
+    ensures { OnOk result (string_bytes out.new ≡ string_bytes out.old ++ escaped character) }
+{
+    match character {
+        '"' => out.push_str("\\\""),
+        '\\' => out.push_str("\\\\"),
+        '\u{8}' => out.push_str("\\b"),
+        '\t' => out.push_str("\\t"),
+        '\n' => out.push_str("\\n"),
+        '\u{c}' => out.push_str("\\f"),
+        '\r' => out.push_str("\\r"),
+        control => push_unicode(out, control as u8),
+    }
+}
+
+/// Appends the text between quotes, with its escapes.
+pub(crate) fn push_quoted(out: &mut String, text: &str) -> Result<(), AllocError>
+    ensures { OnOk result (string_bytes out.new ≡ string_bytes out.old ++ quoted text.now) }
+{
+    out.push('"')?;
+    let mut left = text;
+    loop {
+        let (run, after) = split_run(left);
+        out.push_str(run)?;
+        let mut characters = after.chars();
+        let Some(character) = characters.next() else {
+            return out.push('"');
+        };
+        push_escape(out, character)?;
+        left = characters.as_str();
+    }
+}

@@ -1,0 +1,243 @@
+//! Reading a text.
+
+ghost use Rattle.std.specs.Prelude.{◌≡◌, ◌∷◌, ◌<◌, ◌≤◌, length, MatchResult, IfOk, IfErr};
+ghost use Rattle.ijson_value.specs.Tree.{Tree, array, object, depth};
+ghost use Rattle.ijson_value.specs.Proper.{IsProper, item_trees, pair_trees};
+ghost use Rattle.ijson_json.specs.Grammar.{Accepted};
+ghost use Rattle.ijson_json.specs.Print.{print};
+ghost use Rattle.ijson_json.specs.Reading.{ReadAs, MemberAs};
+ghost use Rattle.ijson_json.specs.Caching.{Gathers, IsShared, AreShared, ItemsAreShared, MembersAreShared};
+ghost use Rattle.ijson_json.specs.Explains.{Explains, ExplainsMember, Answers, error_of};
+ghost use Rattle.ijson_json.specs.Refuses.{Refuses};
+ghost use Rattle.ijson_json.specs.declared.fault.JsonError;
+ghost use Rattle.ijson_json.specs.declared.fault.Fault.TheVariants.{TooDeep};
+
+use crate::fault::{Fault, JsonError};
+use crate::front::{skip_space, split_ascii, strip_byte, strip_word};
+use crate::number::read_number;
+use crate::string::read_string;
+use ijson_string::{IString, StringCache};
+use ijson_value::{IArray, IObject, IValue};
+use std::alloc::Global;
+use std::hash::BuildHasher;
+
+/// The most containers that may be open at once.
+const DEEPEST: usize = 127;
+
+/// Refuses a container at the front of the text inside as many as may be open.
+fn check_depth(text: &str, opened: usize) -> Result<(), Fault>
+    requires { opened ≤ 127 }
+    ensures { MatchResult result (λ _. opened < 127) (λ fault. (opened ≡ 127) × (fault ≡ TooDeep (length text.now))) }
+{
+    if opened == DEEPEST {
+        return Err(Fault::TooDeep { left: text.len() });
+    }
+    Ok(())
+}
+
+/// The value at the front of the text, inside so many open containers.
+#[cycle(read)]
+fn read_value<'a, S: BuildHasher>(
+    alloc: Global,
+    cache: &mut StringCache<S>,
+    text: &'a str,
+    opened: usize,
+) -> Result<(IValue, &'a str), Fault>
+    requires { opened ≤ 127 }
+    ensures read { MatchResult result (λ x. ReadAs opened text.now x.0.tree x.1.now) (λ fault. Explains opened text.now fault) }
+    ensures cache { Gathers text.now cache.old cache.new }
+    ensures shared { IfOk result (λ x. AreShared cache.new x.0.tree) }
+{
+    let Some((first, inside)) = split_ascii(text) else {
+        return Err(Fault::Syntax { left: text.len() });
+    };
+    match first {
+        b'[' => {
+            check_depth(text, opened)?;
+            let (items, rest) = read_array(alloc, cache, inside, opened)?;
+            Ok((IValue::from(items), rest))
+        }
+        b'{' => {
+            check_depth(text, opened)?;
+            let (members, rest) = read_object(alloc, cache, inside, opened)?;
+            Ok((IValue::from(members), rest))
+        }
+        b'"' => {
+            let (string, rest) = read_string(alloc, cache, text)?;
+            Ok((IValue::from(string), rest))
+        }
+        b'n' => {
+            let rest = strip_word(text, "null")?;
+            Ok((IValue::NULL, rest))
+        }
+        b't' => {
+            let rest = strip_word(text, "true")?;
+            Ok((IValue::TRUE, rest))
+        }
+        b'f' => {
+            let rest = strip_word(text, "false")?;
+            Ok((IValue::FALSE, rest))
+        }
+        _ => {
+            let (number, rest) = read_number(alloc, text)?;
+            Ok((IValue::from(number), rest))
+        }
+    }
+}
+
+/// The items of an array, behind its opening bracket.
+#[cycle(read)]
+fn read_array<'a, S: BuildHasher>(
+    alloc: Global,
+    cache: &mut StringCache<S>,
+    inside: &'a str,
+    opened: usize,
+) -> Result<(IArray, &'a str), Fault>
+    requires { opened < 127 }
+    ensures read { MatchResult result (λ x. ReadAs opened (91 ∷ inside.now) (array (item_trees x.0.items)) x.1.now) (λ fault. Explains opened (91 ∷ inside.now) fault) }
+    ensures cache { Gathers (91 ∷ inside.now) cache.old cache.new }
+    ensures shared { IfOk result (λ x. ItemsAreShared cache.new (item_trees x.0.items)) }
+{
+    let mut items = IArray::new(alloc);
+    let mut rest = skip_space(inside);
+    if let Some(behind) = strip_byte(rest, b']') {
+        return Ok((items, behind));
+    }
+    loop {
+        let (item, after) = read_value(alloc, cache, rest, opened + 1)?;
+        items.push(item)?;
+        let after = skip_space(after);
+        if let Some(behind) = strip_byte(after, b']') {
+            return Ok((items, behind));
+        }
+        let Some(more) = strip_byte(after, b',') else {
+            return Err(Fault::Syntax { left: after.len() });
+        };
+        rest = skip_space(more);
+    }
+}
+
+/// The members of an object, behind its opening bracket. A key that comes again replaces the value in place.
+#[cycle(read)]
+fn read_object<'a, S: BuildHasher>(
+    alloc: Global,
+    cache: &mut StringCache<S>,
+    inside: &'a str,
+    opened: usize,
+) -> Result<(IObject, &'a str), Fault>
+    requires { opened < 127 }
+    ensures read { MatchResult result (λ x. ReadAs opened (123 ∷ inside.now) (object (pair_trees x.0.pairs)) x.1.now) (λ fault. Explains opened (123 ∷ inside.now) fault) }
+    ensures cache { Gathers (123 ∷ inside.now) cache.old cache.new }
+    ensures shared { IfOk result (λ x. MembersAreShared cache.new (pair_trees x.0.pairs)) }
+{
+    let mut members = IObject::new(alloc);
+    let mut rest = skip_space(inside);
+    if let Some(behind) = strip_byte(rest, b'}') {
+        return Ok((members, behind));
+    }
+    loop {
+        let (key, value, after) = read_member(alloc, cache, rest, opened + 1)?;
+        members.insert(key, value)?;
+        let after = skip_space(after);
+        if let Some(behind) = strip_byte(after, b'}') {
+            return Ok((members, behind));
+        }
+        let Some(more) = strip_byte(after, b',') else {
+            return Err(Fault::Syntax { left: after.len() });
+        };
+        rest = skip_space(more);
+    }
+}
+
+/// A key, `:` and a value.
+#[cycle(read)]
+fn read_member<'a, S: BuildHasher>(
+    alloc: Global,
+    cache: &mut StringCache<S>,
+    text: &'a str,
+    opened: usize,
+) -> Result<(IString, IValue, &'a str), Fault>
+    requires { opened ≤ 127 }
+    ensures read { MatchResult result (λ x. MemberAs opened text.now x.0 x.1.tree x.2.now) (λ fault. ExplainsMember opened text.now fault) }
+    ensures cache { Gathers text.now cache.old cache.new }
+    ensures shared { IfOk result (λ x. IsShared cache.new x.0 × AreShared cache.new x.1.tree) }
+{
+    let (key, after) = read_string(alloc, cache, text)?;
+    let after = skip_space(after);
+    let Some(more) = strip_byte(after, b':') else {
+        return Err(Fault::Syntax { left: after.len() });
+    };
+    let start = skip_space(more);
+    let (value, rest) = read_value(alloc, cache, start, opened)?;
+    Ok((key, value, rest))
+}
+
+/// The fault in a text of so many bytes.
+fn located(fault: Fault, length: usize) -> JsonError
+    ensures { result ≡ error_of length fault }
+{
+    match fault {
+        Fault::Syntax { left } => JsonError::Syntax {
+            at: length.saturating_sub(left),
+        },
+        Fault::TooDeep { left } => JsonError::TooDeep {
+            at: length.saturating_sub(left),
+        },
+        Fault::NumberRange { left } => JsonError::NumberRange {
+            at: length.saturating_sub(left),
+        },
+        Fault::Memory => JsonError::Memory,
+    }
+}
+
+/// The value of a whole text.
+fn read_text<S: BuildHasher>(
+    alloc: Global,
+    cache: &mut StringCache<S>,
+    text: &str,
+) -> Result<IValue, JsonError>
+    ensures read { Answers text.now result }
+    ensures cache { Gathers text.now cache.old cache.new }
+    ensures shared { IfOk result (λ value. AreShared cache.new value.tree) }
+{
+    let start = skip_space(text);
+    match read_value(alloc, cache, start, 0) {
+        Ok((value, rest)) => {
+            let rest = skip_space(rest);
+            if rest.is_empty() {
+                Ok(value)
+            } else {
+                Err(JsonError::Syntax {
+                    at: text.len() - rest.len(),
+                })
+            }
+        }
+        Err(fault) => Err(located(fault, text.len())),
+    }
+}
+
+/// The value that a whole JSON text spells (RFC 8259), white space round it allowed. Keys and strings are interned in the cache. A
+/// key that comes again replaces the value and keeps the place of the first.
+///
+/// The text is refused where it is not JSON, where more than 127 containers are open at once, where a number's stripped
+/// exponent is past 2^30 either way, and where memory is refused; of several faults the first from the left is told.
+pub fn from_json<S: BuildHasher>(
+    alloc: Global,
+    cache: &mut StringCache<S>,
+    text: &str,
+) -> Result<IValue, JsonError>
+    // What is read is what the text spells, within the limits.
+    ensures accepted { IfOk result (λ value. Accepted text.now value.tree) }
+    // Why a text is refused.
+    ensures refused { IfErr result (λ error. Refuses text.now error) }
+    // A text that is accepted is read, unless memory runs out.
+    ensures read { (t : Tree) → Accepted text.now t → MatchResult result (λ value. value.tree ≡ t) (λ error. error ≡ JsonError.Memory) }
+    // What was printed is read again, unless memory runs out.
+    ensures printed { (t : Tree) → IsProper t → depth t ≤ 127 → text.now ≡ print t → MatchResult result (λ value. value.tree ≡ t) (λ error. error ≡ JsonError.Memory) }
+    // The cache holds what it held, and beyond that only long texts that a slice of the text spells.
+    ensures cache { Gathers text.now cache.old cache.new }
+    // It holds each long text and key of the value.
+    ensures shared { IfOk result (λ value. AreShared cache.new value.tree) }
+{
+    read_text(alloc, cache, text)
+}

@@ -1,0 +1,59 @@
+//! A source over a reader of the standard library. It tells no bytes.
+ghost use Rattle.std.specs.Prelude.{◌≡◌, None};
+
+use crate::device::{DeviceFault, Source};
+use std::io::Read;
+use std::marker::Model;
+
+/// Reads from a reader. Any error is a fault.
+#[derive(Drop)]
+pub struct StreamSource<R> {
+    inner: R,
+    failures: u64,
+}
+
+impl<R> Model for StreamSource<R> {
+    ghost use Rattle.ijson_json.specs.Streaming.{Streaming, streaming_code};
+
+    ghost Value = { Streaming R };
+
+    ghost coded = { streaming_code R.code };
+
+    ghost view = { λ s. record { inner = s.inner; failed = s.failures } };
+}
+
+impl<R: Read> StreamSource<R> {
+    /// A device that reads from `inner`. No call failed so far.
+    pub fn new(inner: R) -> StreamSource<R>
+        ensures { result ≡ record { inner = inner; failed = 0 } }
+    {
+        StreamSource { inner, failures: 0 }
+    }
+
+    /// Gives the reader back.
+    pub fn into_inner(self) -> R
+        ensures { result ≡ self.inner }
+    {
+        self.inner
+    }
+}
+
+impl<R: Read> Source for StreamSource<R> {
+    ghost failed = { λ s. s.failed };
+
+    ghost left = { λ _. None };
+
+    fn failures(&self) -> u64 {
+        self.failures
+    }
+
+    fn read(&mut self, into: &mut [u8]) -> Result<usize, DeviceFault> {
+        match self.inner.read(into) {
+            Ok(count) => Ok(count),
+            Err(_) => {
+                self.failures += 1;
+                Err(DeviceFault)
+            }
+        }
+    }
+}

@@ -1,0 +1,83 @@
+//! Writing a value as a JSON text.
+ghost use Rattle.std.specs.Prelude.{◌≡◌, ◌++◌, IfOk, OnOk};
+ghost use Rattle.std.specs.String.{string_bytes};
+ghost use Rattle.ijson_value.specs.Proper.{item_trees, pair_trees};
+ghost use Rattle.ijson_json.specs.Print.{print, print_items, print_members};
+ghost use Rattle.ijson_json.specs.Separator.{separator};
+
+use crate::quote::push_quoted;
+use ijson_value::{DestructuredRef, IObject, IValue};
+use std::alloc::{AllocError, Global};
+use std::fmt::Write;
+
+/// The JSON text of `value`, without white space. The error comes where there was not enough memory for it.
+pub fn to_json(alloc: Global, value: &IValue) -> Result<String, AllocError>
+    ensures { IfOk result (λ text. string_bytes text ≡ print value.now.tree) }
+{
+    let mut out = String::new(alloc);
+    push_value(&mut out, value)?;
+    Ok(out)
+}
+
+#[cycle(push)]
+fn push_value(out: &mut String, value: &IValue) -> Result<(), AllocError>
+    ensures { OnOk result (string_bytes out.new ≡ string_bytes out.old ++ print value.now.tree) }
+{
+    match value.destructure_ref() {
+        DestructuredRef::Null => out.push_str("null"),
+        DestructuredRef::Bool(false) => out.push_str("false"),
+        DestructuredRef::Bool(true) => out.push_str("true"),
+        DestructuredRef::Number(number) => write!(out, "{number}"),
+        DestructuredRef::String(text) => push_quoted(out, text.as_str()),
+        DestructuredRef::Array(array) => {
+            out.push('[')?;
+            push_items(out, array.as_slice())?;
+            out.push(']')
+        }
+        DestructuredRef::Object(object) => {
+            out.push('{')?;
+            push_members(out, object)?;
+            out.push('}')
+        }
+    }
+}
+
+/// The items of an array, with commas between them.
+#[cycle(push)]
+fn push_items(out: &mut String, items: &[IValue]) -> Result<(), AllocError>
+    ensures { OnOk result (string_bytes out.new ≡ string_bytes out.old ++ print_items (item_trees items.now)) }
+{
+    let mut is_first = true;
+    for item in items {
+        push_separator(out, is_first)?;
+        push_value(out, item)?;
+        is_first = false;
+    }
+    Ok(())
+}
+
+/// The members of an object, with commas between them.
+#[cycle(push)]
+fn push_members(out: &mut String, object: &IObject) -> Result<(), AllocError>
+    ensures { OnOk result (string_bytes out.new ≡ string_bytes out.old ++ print_members (pair_trees object.now.pairs)) }
+{
+    let mut is_first = true;
+    for (key, value) in object.iter() {
+        push_separator(out, is_first)?;
+        push_quoted(out, key.as_str())?;
+        out.push(':')?;
+        push_value(out, value)?;
+        is_first = false;
+    }
+    Ok(())
+}
+
+/// A comma, but not before the first item or member.
+fn push_separator(out: &mut String, is_first: bool) -> Result<(), AllocError>
+    ensures { OnOk result (string_bytes out.new ≡ string_bytes out.old ++ separator is_first) }
+{
+    if is_first {
+        return Ok(());
+    }
+    out.push(',')
+}
