@@ -1,0 +1,17 @@
+//! Compact JSON values with exact decimals.
+//!
+//! A number is an exact decimal that keeps whether it was written with a point; an object is an ordered list of pairs with distinct keys,
+//! equal to another in any order of its pairs. Texts are read by `json::from_json` and written by `json::to_json`, and everything that
+//! takes memory can answer that there is none. This crate gives the library's modules on.
+#![tactic(auto)]
+
+pub use ijson_json as json;
+pub use ijson_number as number;
+pub use ijson_number::{INumber, ParseNumberError};
+pub use ijson_string as string;
+pub use ijson_string::IString;
+pub use ijson_table as table;
+pub use ijson_value::{DestructuredRef, IArray, IObject, IValue, ValueType, array, object, value};
+
+#[cfg(test)]
+mod tests;

@@ -1,0 +1,43 @@
+//! What no clause says, and what crosses the crates: the written texts and the places of faults, devices, and refusals of memory.
+
+mod devices;
+mod equality;
+mod faults;
+mod refusals;
+mod texts;
+
+use crate::json::{JsonError, from_json, to_json};
+use crate::string::StringCache;
+use crate::value::IValue;
+use std::alloc::Global;
+use std::hash::{BuildHasherDefault, FoldHasher};
+
+type Cache = StringCache<BuildHasherDefault<FoldHasher>>;
+
+fn empty_cache(alloc: Global) -> Cache {
+    StringCache::new(alloc, BuildHasherDefault::<FoldHasher>::new())
+}
+
+/// What `text` spells, through a cache of its own.
+fn read(alloc: Global, text: &str) -> Result<IValue, JsonError> {
+    from_json(alloc, &mut empty_cache(alloc), text)
+}
+
+/// What is written of what `text` spells.
+fn rewritten(alloc: Global, text: &str) -> Result<String, JsonError> {
+    let value = read(alloc, text)?;
+    match to_json(alloc, &value) {
+        Ok(written) => Ok(written),
+        Err(_) => Err(JsonError::Memory),
+    }
+}
+
+/// `count` times `text`, at the end of `into`.
+fn push_times(into: &mut String, text: &str, count: usize) -> Result<(), JsonError> {
+    for _ in 0..count {
+        if into.push_str(text).is_err() {
+            return Err(JsonError::Memory);
+        }
+    }
+    Ok(())
+}

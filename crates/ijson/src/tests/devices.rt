@@ -1,0 +1,168 @@
+//! `compact` and `report` over devices that give and take few bytes at a time, and fail.
+
+use super::empty_cache;
+use crate::json::{
+    CompactError, DeviceFault, JsonError, MemorySink, MemorySource, Sink, Source, StreamSink,
+    StreamSource, compact, report,
+};
+use std::io;
+use std::io::{ErrorKind, Read, Write};
+use std::test::Fail;
+
+const TEXT: &[u8] = b"[1.50,true]";
+
+const LINE: &[u8] = b"[1.5,true]\n";
+
+#[test]
+fn a_sink_that_fails_got_a_beginning(rt: HostRuntime) -> Result<(), Fail> {
+    for piece in 1..4usize {
+        for fail_at in 0..11usize {
+            let mut input = MemorySource::new(TEXT, piece, 12);
+            let mut output = MemorySink::new(rt.alloc(), piece, fail_at)?;
+            let answer = compact(
+                rt.alloc(),
+                &mut input,
+                &mut output,
+                &mut empty_cache(rt.alloc()),
+            );
+            assert_eq!(rt; answer, Err(CompactError::Write));
+            assert!(rt; LINE.starts_with(output.bytes()));
+            assert_eq!(rt; (output.bytes().len(), output.failures()), (fail_at, 1));
+        }
+        let mut input = MemorySource::new(TEXT, piece, 12);
+        let mut output = MemorySink::new(rt.alloc(), piece, 11)?;
+        let answer = compact(
+            rt.alloc(),
+            &mut input,
+            &mut output,
+            &mut empty_cache(rt.alloc()),
+        );
+        assert_eq!(rt; answer, Ok(()));
+        assert_eq!(rt; output.bytes(), LINE);
+        assert_eq!(rt; output.failures(), 0);
+    }
+    Ok(())
+}
+
+#[test]
+fn a_source_that_fails_leaves_the_sink(rt: HostRuntime) -> Result<(), Fail> {
+    for piece in 1..4usize {
+        for fail_at in 0..12usize {
+            let mut input = MemorySource::new(TEXT, piece, fail_at);
+            let mut output = MemorySink::new(rt.alloc(), piece, 100)?;
+            let answer = compact(
+                rt.alloc(),
+                &mut input,
+                &mut output,
+                &mut empty_cache(rt.alloc()),
+            );
+            assert_eq!(rt; answer, Err(CompactError::Read));
+            assert_eq!(rt; (output.bytes().len(), input.failures()), (0, 1));
+        }
+    }
+    Ok(())
+}
+
+/// What `compact` and `report` write of a text, and the status.
+#[test]
+fn texts_and_their_lines(rt: HostRuntime) -> Result<(), Fail> {
+    for (text, written, line, status) in [
+        (b" [1.50, true ] ".as_slice(), LINE, b"".as_slice(), 0u8),
+        (b"[1,]", b"", b"ijson: syntax at byte 3\n", 1),
+        (b"[1 2]", b"", b"ijson: syntax at byte 3\n", 1),
+        (
+            b"10e1073741824",
+            b"",
+            b"ijson: number out of range at byte 0\n",
+            1,
+        ),
+        (&[0x22, 0xff, 0x22], b"", b"ijson: input is not UTF-8\n", 1),
+        (&[0x22, 0x09, 0x22], b"", b"ijson: syntax at byte 1\n", 1),
+    ] {
+        let mut input = MemorySource::new(text, 4, 100);
+        let mut output = MemorySink::new(rt.alloc(), 4, 100)?;
+        let mut errors = MemorySink::new(rt.alloc(), 4, 100)?;
+        let answer = compact(
+            rt.alloc(),
+            &mut input,
+            &mut output,
+            &mut empty_cache(rt.alloc()),
+        );
+        assert_eq!(rt; report(&answer, &mut errors), status);
+        assert_eq!(rt; output.bytes(), written);
+        assert_eq!(rt; errors.bytes(), line);
+    }
+    Ok(())
+}
+
+#[test]
+fn reports_have_a_line_and_a_status(rt: HostRuntime) -> Result<(), Fail> {
+    for (error, status, line) in [
+        (
+            CompactError::Json(JsonError::TooDeep { at: 127 }),
+            1u8,
+            b"ijson: nesting too deep at byte 127\n".as_slice(),
+        ),
+        (
+            CompactError::Json(JsonError::NumberRange { at: usize::MAX }),
+            1,
+            b"ijson: number out of range at byte 18446744073709551615\n",
+        ),
+        (
+            CompactError::Json(JsonError::Memory),
+            3,
+            b"ijson: out of memory\n",
+        ),
+        (CompactError::Read, 2, b"ijson: read failed\n"),
+        (CompactError::Write, 2, b"ijson: write failed\n"),
+        (CompactError::Memory, 3, b"ijson: out of memory\n"),
+    ] {
+        let mut errors = MemorySink::new(rt.alloc(), 7, 100)?;
+        assert_eq!(rt; report(&Err(error), &mut errors), status);
+        assert_eq!(rt; errors.bytes(), line);
+        let mut broken = MemorySink::new(rt.alloc(), 7, 3)?;
+        assert_eq!(rt; report(&Err(error), &mut broken), status);
+        assert_eq!(rt; broken.bytes(), b"ijs".as_slice());
+    }
+    Ok(())
+}
+
+/// A reader and writer that always fails.
+#[derive(Drop)]
+struct Broken;
+
+impl Read for Broken {
+    fn read(&mut self, _buf: &mut [u8]) -> io::Result<usize> {
+        Err(io::Error::from(ErrorKind::Other))
+    }
+}
+
+impl Write for Broken {
+    fn write(&mut self, _buf: &[u8]) -> io::Result<usize> {
+        Ok(0)
+    }
+
+    fn flush(&mut self) -> io::Result<()> {
+        Ok(())
+    }
+}
+
+#[test]
+fn streams_that_fail_are_faults(rt: HostRuntime) -> Result<(), Fail> {
+    let mut source = StreamSource::new(Broken);
+    let mut sink = StreamSink::new(Broken);
+    assert_eq!(rt; source.read(&mut [0; 4]), Err(DeviceFault));
+    assert_eq!(rt; sink.write(&[]), Ok(0));
+    assert_eq!(rt; sink.write(b"a"), Err(DeviceFault));
+    assert_eq!(rt; (source.failures(), sink.failures()), (1, 1));
+    let mut input = StreamSource::new(Broken);
+    let mut output = StreamSink::new(Broken);
+    let answer = compact(
+        rt.alloc(),
+        &mut input,
+        &mut output,
+        &mut empty_cache(rt.alloc()),
+    );
+    assert_eq!(rt; answer, Err(CompactError::Read));
+    Ok(())
+}

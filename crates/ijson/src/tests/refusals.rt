@@ -1,0 +1,143 @@
+//! Each test here holds under any one refused request for memory: a refused call is checked for what it promises to leave, and made again.
+//! The repository's `check` runs each with its first request refused, with its second, and so on.
+
+use super::{Cache, empty_cache};
+use crate::array::IArray;
+use crate::json::{
+    CompactError, JsonError, MemorySink, MemorySource, compact, from_json, report, to_json,
+};
+use crate::number::{INumber, ParseNumberError};
+use crate::object::IObject;
+use crate::string::IString;
+use crate::table::ReserveError;
+use crate::value::IValue;
+use std::alloc::Global;
+use std::test::Fail;
+
+#[test]
+fn number_of_many_digits(rt: HostRuntime) -> Result<(), Fail> {
+    let text = "123456789012345678901234567890.5";
+    let number = match INumber::from_str(rt.alloc(), text) {
+        Ok(number) => number,
+        Err(error) => {
+            assert_eq!(rt; error, ParseNumberError::Memory);
+            INumber::from_str(rt.alloc(), text)?
+        }
+    };
+    assert!(rt; number.has_decimal_point());
+    assert!(rt;
+        number
+            == INumber::from_str(rt.alloc(), text).or_else(|_| INumber::from_str(rt.alloc(), text))?
+    );
+    Ok(())
+}
+
+#[test]
+fn array_push(rt: HostRuntime) {
+    let mut array = IArray::new(rt.alloc());
+    for len in 0..20usize {
+        if let Err(refused) = array.push(IValue::TRUE) {
+            assert_eq!(rt; array.len(), len);
+            assert!(rt; refused.0 == IValue::TRUE);
+            assert!(rt; array.push(refused.0).is_ok());
+        }
+    }
+    assert_eq!(rt; array.len(), 20);
+    assert!(rt; array.as_slice().iter().all(|item| *item == IValue::TRUE));
+}
+
+fn interned(cache: &mut Cache, text: &str) -> Result<IString, Fail> {
+    let before = cache.len();
+    match IString::intern(cache, text) {
+        Ok(text) => Ok(text),
+        Err(_) if cache.len() == before => Ok(IString::intern(cache, text)?),
+        Err(error) => Err(Fail::from(error)),
+    }
+}
+
+#[test]
+fn intern(rt: HostRuntime) -> Result<(), Fail> {
+    let mut cache = empty_cache(rt.alloc());
+    for text in ["seven77", "eight888", "interned_string_a"] {
+        assert!(rt; interned(&mut cache, text)?.eq_str(text));
+    }
+    assert_eq!(rt; cache.len(), 2);
+    Ok(())
+}
+
+#[test]
+fn object_insert(rt: HostRuntime) -> Result<(), Fail> {
+    let mut cache = empty_cache(rt.alloc());
+    let mut object = IObject::new(rt.alloc());
+    for key in ["a", "b", "c", "d", "e"] {
+        let (len, capacity) = (object.len(), object.capacity());
+        let key = interned(&mut cache, key)?;
+        if let Err(refused) = object.insert(key, IValue::TRUE) {
+            assert_eq!(rt; refused.why, ReserveError::Memory);
+            assert_eq!(rt; (object.len(), object.capacity()), (len, capacity));
+            assert!(rt; object.insert(refused.key, refused.value).is_ok());
+        }
+    }
+    assert_eq!(rt; (object.len(), object.capacity()), (5, 8));
+    let text = written(rt.alloc(), &IValue::from(object))?;
+    assert_eq!(rt;
+        text.as_str(),
+        "{\"a\":true,\"b\":true,\"c\":true,\"d\":true,\"e\":true}"
+    );
+    Ok(())
+}
+
+fn read(alloc: Global, text: &str) -> Result<IValue, JsonError> {
+    let mut cache = empty_cache(alloc);
+    match from_json(alloc, &mut cache, text) {
+        Err(JsonError::Memory) => from_json(alloc, &mut cache, text),
+        answer => answer,
+    }
+}
+
+fn written(alloc: Global, value: &IValue) -> Result<String, Fail> {
+    match to_json(alloc, value) {
+        Ok(text) => Ok(text),
+        Err(_) => Ok(to_json(alloc, value)?),
+    }
+}
+
+#[test]
+fn reading_and_writing(rt: HostRuntime) -> Result<(), Fail> {
+    let text =
+        "[1.5,[true,{\"a\":\"longlong\",\"longlong\":\"\\n\"}],12345678901234567890123,null]";
+    let value = read(rt.alloc(), text)?;
+    let found = written(rt.alloc(), &value)?;
+    assert_eq!(rt; found.as_str(), text);
+    Ok(())
+}
+
+#[test]
+fn compacting(rt: HostRuntime) {
+    for _ in 0..3usize {
+        let mut input = MemorySource::new(b"[1.50]", 4, 100);
+        let Ok(mut output) = MemorySink::new(rt.alloc(), 4, 100) else {
+            continue;
+        };
+        let Ok(mut errors) = MemorySink::new(rt.alloc(), 4, 100) else {
+            continue;
+        };
+        let answer = compact(
+            rt.alloc(),
+            &mut input,
+            &mut output,
+            &mut empty_cache(rt.alloc()),
+        );
+        let status = report(&answer, &mut errors);
+        if answer.is_ok() {
+            assert_eq!(rt; status, 0);
+            assert_eq!(rt; output.bytes(), b"[1.5]\n".as_slice());
+            return;
+        }
+        assert_eq!(rt; answer, Err(CompactError::Memory));
+        assert!(rt; output.bytes().is_empty());
+        assert_eq!(rt; status, 3);
+        assert_eq!(rt; errors.bytes(), b"ijson: out of memory\n".as_slice());
+    }
+    assert!(rt; false, "refused more than once");
+}
