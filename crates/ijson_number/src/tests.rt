@@ -122,26 +122,38 @@ fn answers<T: PartialEq + Drop>(rt: &impl Abort, got: Option<T>, want: Option<T>
     assert!(rt; got == want);
 }
 
+fn signed(rt: &impl Abort, alloc: Global, text: &str, want: Option<i64>) -> Result<(), Fail> {
+    answers(rt, INumber::from_str(alloc, text)?.to_i64(), want);
+    Ok(())
+}
+
+fn unsigned(rt: &impl Abort, alloc: Global, text: &str, want: Option<u64>) -> Result<(), Fail> {
+    answers(rt, INumber::from_str(alloc, text)?.to_u64(), want);
+    Ok(())
+}
+
+fn short(rt: &impl Abort, alloc: Global, text: &str, want: Option<i32>) -> Result<(), Fail> {
+    answers(rt, INumber::from_str(alloc, text)?.to_i32(), want);
+    Ok(())
+}
+
 #[test]
 fn conversions(rt: HostRuntime) -> Result<(), Fail> {
     let alloc = rt.alloc();
-    let large = INumber::from_str(alloc, "12345678901234567890.0")?;
-    answers(&rt, large.to_u64(), Some(12345678901234567890));
-    answers(&rt, large.to_i64(), None);
-    let ten = INumber::from_str(alloc, "1e19")?;
-    answers(&rt, ten.to_u64(), Some(10000000000000000000));
-    answers(&rt, ten.to_i64(), None);
-    let least = INumber::from_str(alloc, "-9223372036854775808.0")?;
-    answers(&rt, least.to_i64(), Some(i64::MIN));
-    answers(&rt, INumber::from_str(alloc, "2.0")?.to_i32(), Some(2));
-    answers(&rt, INumber::from_str(alloc, "2.5")?.to_i32(), None);
-    answers(&rt, INumber::from_str(alloc, "-0.0")?.to_u32(), Some(0));
-    answers(
+    unsigned(
         &rt,
-        INumber::from_str(alloc, "1e1073741824")?.to_usize(),
-        None,
-    );
-    Ok(())
+        alloc,
+        "12345678901234567890.0",
+        Some(12345678901234567890),
+    )?;
+    signed(&rt, alloc, "12345678901234567890.0", None)?;
+    unsigned(&rt, alloc, "1e19", Some(10000000000000000000))?;
+    signed(&rt, alloc, "1e19", None)?;
+    signed(&rt, alloc, "-9223372036854775808.0", Some(i64::MIN))?;
+    unsigned(&rt, alloc, "-0.0", Some(0))?;
+    unsigned(&rt, alloc, "1e1073741824", None)?;
+    short(&rt, alloc, "2.0", Some(2))?;
+    short(&rt, alloc, "2.5", None)
 }
 
 #[test]

@@ -2,6 +2,7 @@
 #![tactic(auto)]
 
 mod cache;
+mod short;
 mod text;
 
 pub use cache::StringCache;

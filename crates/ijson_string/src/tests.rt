@@ -1,6 +1,8 @@
 use crate::{IString, StringCache};
+use std::alloc::Global;
 use std::cell::{Cell, RefCell};
 use std::hash::{BuildHasherDefault, FoldHasher, Hash, Hasher};
+use std::mem::size_of;
 use std::test::Fail;
 
 #[test]
@@ -91,4 +93,35 @@ fn a_text_feeds_its_words(rt: HostRuntime) -> Result<(), Fail> {
         [3, 2, 104, 105, 3, 8, 101, 105, 103, 104, 116, 56, 56, 56].as_slice()
     );
     Ok(())
+}
+
+#[test]
+fn an_istring_is_at_most_two_words(rt: HostRuntime) -> Result<(), Fail> {
+    assert!(rt; size_of::<IString>() <= 16);
+    Ok(())
+}
+
+/// Interns a long text and a short one, and then interns and clones both `further` times more.
+fn intern_again_and_again(alloc: Global, further: u32) -> Result<(), Fail> {
+    let mut cache = StringCache::new(alloc, BuildHasherDefault::<FoldHasher>::new());
+    let long = IString::intern(&mut cache, "eight888")?;
+    let short = IString::intern(&mut cache, "seven77")?;
+    for _ in 0..further {
+        let _long_again = IString::intern(&mut cache, "eight888")?;
+        let _short_again = IString::intern(&mut cache, "seven77")?;
+        let _long_copy = long.clone()?;
+        let _short_copy = short.clone()?;
+    }
+    Ok(())
+}
+
+// Runs of this test and of the next one make the same number of requests for memory.
+#[test]
+fn one_intern_of_each_text(rt: HostRuntime) -> Result<(), Fail> {
+    intern_again_and_again(rt.alloc(), 0)
+}
+
+#[test]
+fn a_thousand_further_interns_and_clones_take_no_memory(rt: HostRuntime) -> Result<(), Fail> {
+    intern_again_and_again(rt.alloc(), 1000)
 }

@@ -10,7 +10,7 @@ ghost use Rattle.ijson_string.specs.Cache.{interned};
 ghost use Rattle.ijson_string.specs.Words.{text_words, fed_words};
 
 use crate::cache::StringCache;
-use arrayvec::ArrayString;
+use crate::short::ShortText;
 use std::alloc::{AllocError, Global};
 use std::cmp::Ordering;
 use std::fmt;
@@ -27,7 +27,7 @@ pub struct IString {
 
 #[derive(Drop)]
 enum Kept {
-    InPlace(ArrayString<7>),
+    InPlace(ShortText),
     Shared(RcStr),
 }
 
@@ -49,7 +49,7 @@ impl IString {
         ensures { result ≡ [] }
     {
         IString {
-            kept: Kept::InPlace(ArrayString::new()),
+            kept: Kept::InPlace(ShortText::empty()),
         }
     }
 
@@ -64,9 +64,9 @@ impl IString {
         ensures refused { OnErr result (cache.new ≡ cache.old) }
         ensures short { length text.now ≤ 7 → IsOk result }
     {
-        let kept = match ArrayString::from(text) {
-            Ok(text) => Kept::InPlace(text),
-            Err(_) => Kept::Shared(cache.share(text)?),
+        let kept = match ShortText::new(text) {
+            Some(text) => Kept::InPlace(text),
+            None => Kept::Shared(cache.share(text)?),
         };
         Ok(IString { kept })
     }

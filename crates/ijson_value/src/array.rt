@@ -8,12 +8,11 @@ ghost use Rattle.ijson_value.specs.SameTest.{same};
 use crate::same::same_items;
 use crate::value::IValue;
 use std::alloc::Global;
-use std::fmt;
 use std::marker::Model;
 
 /// A list of values.
 #[cycle(value)]
-#[derive(Drop)]
+#[derive(Debug, Drop)]
 pub struct IArray {
     items: Vec<IValue>,
 }
@@ -36,14 +35,8 @@ impl Model for IArray {
 }
 
 /// An item that an array had no memory for.
-#[derive(Drop)]
+#[derive(Debug, Drop)]
 pub struct Refused(pub IValue);
-
-impl fmt::Debug for Refused {
-    fn fmt<W: fmt::Write>(&self, f: &mut fmt::Formatter<W>) -> fmt::Result {
-        f.write_str("Refused")
-    }
-}
 
 impl IArray {
     /// An array with no items. It takes no memory.

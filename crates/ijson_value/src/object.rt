@@ -18,11 +18,11 @@ use ijson_table::{FixedTable, PairStore, ReserveError};
 use std::alloc::Global;
 use std::iter::FusedIterator;
 use std::marker::Model;
-use std::{fmt, mem, slice};
+use std::{mem, slice};
 
 /// Pairs of a key and a value in order, where no key stands twice. A key is found by its hash, however many there are.
 #[cycle(value)]
-#[derive(Drop)]
+#[derive(Debug, Drop)]
 pub struct IObject {
     pairs: FixedTable<IValue>,
 }
@@ -45,19 +45,11 @@ impl Model for IObject {
 }
 
 /// A pair that an object did not take, and why it did not grow.
-#[derive(Drop)]
+#[derive(Debug, Drop)]
 pub struct RefusedPair {
     pub key: IString,
     pub value: IValue,
     pub why: ReserveError,
-}
-
-impl fmt::Debug for RefusedPair {
-    fn fmt<W: fmt::Write>(&self, f: &mut fmt::Formatter<W>) -> fmt::Result {
-        f.debug_struct("RefusedPair")
-            .field("why", &self.why)
-            .finish()
-    }
 }
 
 impl IObject {

@@ -16,14 +16,14 @@ use std::marker::Model;
 
 /// A JSON value.
 #[cycle(value)]
-#[derive(Drop)]
+#[derive(Debug, Drop)]
 pub struct IValue {
     pub(crate) node: Node,
 }
 
 /// What a value is made of, by its kind.
 #[cycle(value)]
-#[derive(Drop)]
+#[derive(Debug, Drop)]
 pub(crate) enum Node {
     Null,
     Bool(bool),
@@ -64,7 +64,7 @@ pub enum ValueType {
 }
 
 /// A value opened, with what it holds by reference.
-#[derive(Clone, Copy, PartialEq, Eq)]
+#[derive(Clone, Copy, Debug, PartialEq, Eq)]
 pub enum DestructuredRef<'a> {
     Null,
     Bool(bool),
