@@ -93,13 +93,33 @@ def mixed(rng, size):
     return "[" + ", ".join(parts) + "]\n"
 
 
-def wide(rng, size):
+LONG_KEYS = [f"a_rather_long_key_of_the_column_number_{i}" for i in range(20)]
+
+
+def long_keys(rng, size):
+    parts, total = [], 2
+    while total < size:
+        parts.append("{" + ", ".join(f'"{key}": {rng.randrange(100)}' for key in LONG_KEYS) + "}")
+        total += len(parts[-1]) + 2
+    return "[" + ", ".join(parts) + "]\n"
+
+
+def one_object(rng, size):
+    """One object of 300,000 keys, whatever the size."""
     members = [f'"key number {i}": {i}' for i in range(300_000)]
     rng.shuffle(members)
     return "{" + ", ".join(members) + "}\n"
 
 
-FILES = {"numbers": numbers, "arrays": arrays, "strings": strings, "objects": objects, "mixed": mixed}
+FILES = {
+    "numbers": numbers,
+    "arrays": arrays,
+    "strings": strings,
+    "objects": objects,
+    "mixed": mixed,
+    "long_keys": long_keys,
+    "one_object": one_object,
+}
 
 
 def main():
