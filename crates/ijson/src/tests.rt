@@ -1,5 +1,6 @@
 //! What no clause says, and what crosses the crates: the written texts and the places of faults, devices, and refusals of memory.
 
+mod cache;
 mod devices;
 mod equality;
 mod faults;
