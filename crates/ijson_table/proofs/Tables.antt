@@ -20,13 +20,6 @@ pub whole : (n : ℕ) (new old : List (Option ℕ)) → length new ≡ length ol
 whole n new old e is = ap (λ k. take k (new ++ drop (length new) old)) (is ∙ sym e) ∙ whole-all new old e
 
 module _ {V : Type 0} (hash : List ℕ → ℕ) where
-  pub placed_anew : (pairs : List (List ℕ × V)) (capacity : ℕ) (places : List (Option ℕ)) → length pairs ≤ capacity → capacity ≤ capacity_limit → IsTable hash (keys_of pairs) places → length places ≡ place_count capacity → IsPlaced hash pairs capacity places
-  placed_anew pairs capacity places fits limited table size = record {
-    room = record { within = fits; limited = limited };
-    table = table;
-    size = size;
-  }
-
   pub placed_none : (pairs : List (List ℕ × V)) (capacity : ℕ) (places : List (Option ℕ)) → pairs ≡ [] → capacity ≤ capacity_limit → ((p : ℕ) → p < length places → resident places p ≡ None) → length places ≡ place_count capacity → IsPlaced hash pairs capacity places
   placed_none pairs capacity places none limited empty size =
       let short : length (keys_of pairs) ≡ 0 = keys-length pairs ∙ ap length none in
