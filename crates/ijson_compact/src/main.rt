@@ -8,6 +8,7 @@ use ijson_json::{CompactError, StreamSink, StreamSource, compact, report};
 use ijson_string::StringCache;
 use std::hash::{BuildHasherDefault, FoldHasher};
 use std::io::Write;
+use std::mem;
 use std::process::ExitCode;
 
 /// The answer, once what was written has left `writer`. A failed flush after Ok counts as a failed write.
@@ -30,5 +31,8 @@ fn main(rt: HostRuntime) -> ExitCode {
     let answer = compact(rt.alloc(), &mut input, &mut output, &mut cache);
     let answer = flushed(answer, output.into_inner());
     let mut errors = StreamSink::new(rt.stderr());
-    ExitCode::from(report(&answer, &mut errors))
+    let status = report(&answer, &mut errors);
+    // The process ends here, and its memory goes as a whole: to give back the texts one by one would take time alone.
+    mem::forget(cache);
+    ExitCode::from(status)
 }

@@ -3,10 +3,12 @@ pub mod Distinct
 pub mod Keys
 mod Runs
 pub mod Writing
+mod Folding
 mod Round
 mod Count
 mod Residents
 mod Walk
+mod Told
 mod Bound
 mod Shifts
 mod Gaps

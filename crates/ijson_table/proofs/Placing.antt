@@ -3,15 +3,16 @@ use Rattle.std.proofs.Common.{◌≡◌, ◌≢◌, ℕ, zero, suc, ◌+◌, ◌
 use Rattle.std.specs.Prelude.{sum, ltb, eqb, true, if◌then◌else◌}
 use Rattle.std.proofs.lemmas.Bool.Decides.{nat_tests}
 use Rattle.std.proofs.lemmas.List.{length-set}
+use Rattle.std.proofs.lemmas.List.Sums.{sum_by-set}
 use Rattle.ijson_table.specs.Crowd.{distance, home_of}
 use Rattle.ijson_table.specs.Store.{keys_of}
 use Rattle.ijson_table.proofs.Keys.{key_at}
-use Rattle.ijson_table.specs.Moving.{one_if, Holding, MayStand}
+use Rattle.ijson_table.specs.Moving.{one_if, below, Kept, MayStand, HasEmpty}
 use Rattle.ijson_table.specs.Places.{after, onward, reach, resident, home_at, times}
-use Rattle.ijson_table.proofs.Cases.{below_or_not, same_or_not}
+use Rattle.ijson_table.proofs.Cases.{below_or_not}
 use Rattle.ijson_table.proofs.Round.{after-below, after-injective, onward-below, after-onward, distance-below, distance-onward, onward-distance}
 use Rattle.ijson_table.proofs.Count.{covers}
-use Rattle.ijson_table.proofs.Residents.{times-some, stands_once, one_if-same, one_if-other}
+use Rattle.ijson_table.proofs.Residents.{times-some, stands_once}
 use Rattle.ijson_table.proofs.Walk.{reach-none}
 use Rattle.ijson_table.proofs.Shifts.{put_down, taken_up}
 use Rattle.ijson_table.proofs.Looked.{ones, sum-ones, one-at, length-ones}
@@ -34,31 +35,24 @@ held_below hash keys count hand places placed p i lp e =
     let some = times-some i places p lp e in
     grind (arith, nat_tests, placed i, some)
 
-module _ (hash : List ℕ → ℕ) (keys : List (List ℕ)) (count : ℕ) (places : List (Option ℕ)) (held : Holding hash keys count None places) where
-  -- where there are fewer positions than places, one is empty
-  pub some_empty : count < length places → (e : ℕ) × (e < length places) × (resident places e ≡ None)
-  some_empty less = elim (empty_or_full places) [
-    | inl found ↦ found
-    | inr full ↦
-        let all : length places ≤ sum (ones count) = covers (length places) (λ i j. resident places j ≡ Some i) (ones count)
-        (λ i j l lj ll a b.
-        let once : times i places ≤ 1 = grind (arith, nat_tests, held.placed i) in
-        stands_once i places j l once lj ll a b)
-        (λ j lj.
-        let who = full j lj in
-        let li : who.0 < count = held_below hash keys count None places held.placed j who.0 lj who.1 in
-        (who.0, omega (arith, length-ones count, li), who.1, omega (arith, one-at count who.0 li)))
-        in absurd (omega (arith, sum-ones count))
-  ]
-
-  pub in_hand : Holding hash keys (count + 1) (Some count) places
-  in_hand = record {
-    ordered = held.ordered;
-    placed = λ i. elim (same_or_not i count) [
-      | inl same ↦ let one : one_if i (Some count) ≡ 1 = ap (λ k. one_if i (Some k)) (sym same) ∙ one_if-same i in grind (arith, nat_tests, one, held.placed i)
-      | inr other ↦ let none : one_if i (Some count) ≡ 0 = one_if-other i count other in grind (arith, nat_tests, none, held.placed i)
-    ];
-  }
+-- Where no other positions than the first ones stand, none of them twice, and one of them not at all, there is an empty place.
+pub some_empty : (places : List (Option ℕ)) (count k : ℕ) → ((i : ℕ) → times i places ≤ below count i) → k < count → times k places ≡ 0 → count ≤ length places → HasEmpty places
+some_empty places count k few lk none fits = elim (empty_or_full places) [
+  | inl found ↦ found
+  | inr full ↦
+      let others : List ℕ = set (ones count) k 0 in
+      let all : length places ≤ sum others = covers (length places) (λ i j. resident places j ≡ Some i) others
+      (λ i j l lj ll a b.
+      let once : times i places ≤ 1 = grind (arith, nat_tests, few i) in
+      stands_once i places j l once lj ll a b)
+      (λ j lj.
+      let who = full j lj in
+      let some = times-some who.0 places j lj who.1 in
+      let li : who.0 < count = grind (arith, nat_tests, few who.0, some) in
+      let other : who.0 ≢ k = λ same. omega (arith, some, none, ap (λ i. times i places) same) in
+      (who.0, omega (arith, length-set (ones count) k 0, length-ones count, li), who.1, omega (arith, get_or-set_other (ones count) k who.0 0 0 other, one-at count who.0 li)))
+      in absurd (omega (arith, all, sum_by-set (λ x. x) (ones count) k 0 0 (omega (arith, length-ones count, lk)), one-at count k lk, sum-ones count, fits))
+]
 
 -- a walk from home h that was led on m places
 pub record Led (hash : List ℕ → ℕ) (keys : List (List ℕ)) (places : List (Option ℕ)) (h m : ℕ) : Type 0 where
@@ -104,9 +98,13 @@ not_round hash keys places h e lh le none led =
     let far = led.far (distance n h e) (distance-below n h e lh le) in
     omega (arith, far, ap (reach hash keys places) there, reach-none hash keys places e none)
 
+-- how often each position is to stand when another one was put down
+abbrev pub wanted : List (Option ℕ) → ℕ → ℕ → ℕ
+wanted places k i = times i places + one_if i (Some k)
+
 -- what the shift keeps from turn to turn
-pub record Shifting (hash : List ℕ → ℕ) (keys : List (List ℕ)) (count hand place step : ℕ) (places : List (Option ℕ)) : Type 0 where
-  pub held : Holding hash keys count (Some hand) places
+pub record Shifting (hash : List ℕ → ℕ) (keys : List (List ℕ)) (wanted : ℕ → ℕ) (hand place step : ℕ) (places : List (Option ℕ)) : Type 0 where
+  pub held : Kept hash keys wanted (Some hand) places
   pub within : place < length places
   pub may : MayStand hash keys places hand place
   pub ahead : (e : ℕ) × (e < length places) × (resident places e ≡ None) × (step + distance (length places) place e < length places)
@@ -115,17 +113,17 @@ distance-next : (n p e : ℕ) → p < n → e < n → p ≢ e → distance n (af
 unfolding distance after
 distance-next n p e lp le ne = grind (arith, nat_tests)
 
-pub shift_more : (hash : List ℕ → ℕ) (keys : List (List ℕ)) (count hand place step next : ℕ) (places : List (Option ℕ)) → Shifting hash keys count hand place step places
-    → resident places place ≡ Some next → Shifting hash keys count next (after (length places) place) (step + 1) (set places place (Some hand))
-shift_more hash keys count hand place step next places s there =
+pub shift_more : (hash : List ℕ → ℕ) (keys : List (List ℕ)) (wanted : ℕ → ℕ) (hand place step next : ℕ) (places : List (Option ℕ)) → Shifting hash keys wanted hand place step places
+    → resident places place ≡ Some next → Shifting hash keys wanted next (after (length places) place) (step + 1) (set places place (Some hand))
+shift_more hash keys wanted hand place step next places s there =
     let n : ℕ = length places in
     let e : ℕ = s.ahead.0 in
     let size : length (set places place (Some hand)) ≡ n = length-set places place (Some hand) in
     let apart : e ≢ place = λ same. let bad : ◌≡◌ {A = Option ℕ} (Some next) None = sym there ∙ (ap (resident places) (sym same) ∙ s.ahead.2) in cc in
     let empty : reach hash keys places e ≡ 0 = reach-none hash keys places e s.ahead.2 in
-    let put : Holding hash keys count (resident places place) (set places place (Some hand)) = put_down hash keys count places hand place s.within s.held s.may in
+    let put : Kept hash keys wanted (resident places place) (set places place (Some hand)) = put_down hash keys wanted places hand place s.within s.held s.may in
     record {
-      held = subst (λ o. Holding hash keys count o (set places place (Some hand))) there put;
+      held = subst (λ o. Kept hash keys wanted o (set places place (Some hand))) there put;
       within = omega (arith, after-below n place s.within, size);
       may = taken_up hash keys places hand next place e s.within s.ahead.1 s.held.ordered empty there s.may.further;
       ahead = (

@@ -1,5 +1,5 @@
 -- What a removal leaves.
-use Rattle.std.proofs.Common.{◌≡◌, ◌≢◌, ℕ, ◌+◌, ◌<◌, inl, inr, arith, List, [], ◌∷◌, ◌++◌, length, get_or, set, Option, Some, None, refl, sym, ap, ◌∙◌}
+use Rattle.std.proofs.Common.{◌≡◌, ◌≢◌, ℕ, ◌+◌, ◌<◌, ◌≤◌, inl, inr, arith, List, [], ◌∷◌, ◌++◌, length, get_or, set, Option, Some, None, refl, sym, ap, ◌∙◌}
 use Rattle.std.proofs.lemmas.Bool.Decides.{nat_tests}
 use Rattle.std.proofs.lemmas.List.{length-set}
 use Rattle.ijson_table.specs.Crowd.{distance, home_of}
@@ -28,6 +28,17 @@ stands_still hash keys count gone places held i li ne =
     let one : times i places ≡ 1 = grind (arith, nat_tests, held.placed i, none) in
     stands i places (omega arith)
 
+-- a resident is not the one in hand
+pub not_in_hand : (hash : List ℕ → ℕ) (keys : List (List ℕ)) (count gone : ℕ) (places : List (Option ℕ)) → Holding hash keys count (Some gone) places → (p k : ℕ) → p < length places → resident places p ≡ Some k → k ≢ gone
+not_in_hand hash keys count gone places held p k lp e = λ same.
+    let one : one_if k (Some gone) ≡ 1 = ap (λ x. one_if k (Some x)) (sym same) ∙ one_if-same k in
+    let some = times-some k places p lp e in
+    grind (arith, nat_tests, held.placed k, one, some)
+
+-- no position stands at two places
+pub held_once : (hash : List ℕ → ℕ) (keys : List (List ℕ)) (count : ℕ) (hand : Option ℕ) (places : List (Option ℕ)) → Holding hash keys count hand places → (i : ℕ) → times i places ≤ 1
+held_once hash keys count hand places held i = grind (arith, nat_tests, held.placed i)
+
 strides-as : (hash : List ℕ → ℕ) (n : ℕ) (keys keys' : List (List ℕ)) (p : ℕ) (o : Option ℕ) → ((i : ℕ) → o ≡ Some i → get_or keys' i [] ≡ get_or keys i []) → strides hash n keys' p o ≡ strides hash n keys p o
 unfolding home_at
 strides-as hash n keys keys' p None same = refl
@@ -55,14 +66,7 @@ module _ {V : Type 0} (hash : List ℕ → ℕ) (pairs : List (List ℕ × V)) (
   last_out i last held =
       let size : length (keys_of (swap_out pairs i)) + 1 ≡ length pairs = length-swap_out pairs i (omega arith) in
       let apart : (p k : ℕ) → p < length places → resident places p ≡ Some k → k < i = λ p k lp e.
-      let below = held_below hash (keys_of pairs) (length pairs) (Some i) places held.placed p k lp e in
-      elim (same_or_not k i) [
-        | inl same ↦ absurd (
-            let one : one_if k (Some i) ≡ 1 = ap (λ x. one_if k (Some x)) (sym same) ∙ one_if-same k in
-            let some = times-some k places p lp e in
-            grind (arith, nat_tests, held.placed k, one, some))
-        | inr other ↦ omega arith
-      ] in
+      omega (arith, last, held_below hash (keys_of pairs) (length pairs) (Some i) places held.placed p k lp e, not_in_hand hash (keys_of pairs) (length pairs) i places held p k lp e) in
       let now : Holding hash (keys_of (swap_out pairs i)) (length pairs) (Some i) places = other_keys hash (keys_of pairs) (keys_of (swap_out pairs i)) (length pairs) (Some i) places held
       (λ p k lp e. let lt = apart p k lp e in swapped-other pairs i k (omega arith) (omega arith) (λ same. omega arith)) in
       record {
@@ -84,7 +88,6 @@ module _ {V : Type 0} (hash : List ℕ → ℕ) (pairs : List (List ℕ × V)) (
       let size : length keys' + 1 ≡ length pairs = length-swap_out pairs i (omega arith) in
       let moved : get_or keys' i [] ≡ get_or keys last [] = swapped-same pairs i (omega arith) ∙ ap (λ x. get_or keys x []) (omega arith) in
       let one_last : times last places ≡ 1 = let none : one_if last (Some i) ≡ 0 = one_if-other last i (λ e. omega arith) in grind (arith, nat_tests, held.placed last, none) in
-      let no_i : times i places ≡ 0 = grind (arith, nat_tests, held.placed i, one_if-same i) in
       let reached : (q : ℕ) → q < n → reach hash keys' places' q ≡ reach hash keys places q = λ q lq. elim (same_or_not q p) [
         | inl self ↦
             let a : reach hash keys' places' p ≡ distance n (home_at hash n keys' i) p + 1 = reach-set_some hash keys' places p i lp in
@@ -94,7 +97,7 @@ module _ {V : Type 0} (hash : List ℕ → ℕ) (pairs : List (List ℕ × V)) (
         | inr other ↦
             reach-set_other hash keys' places p q (Some i) other ∙ reach-as hash keys keys' places q (λ k e.
             let below = held_below hash keys (length pairs) (Some i) places held.placed q k lq e in
-            let not_i : k ≢ i = λ same. let some = times-some k places q lq e in omega (arith, some, no_i, ap (λ x. times x places) same) in
+            let not_i : k ≢ i = not_in_hand hash keys (length pairs) i places held q k lq e in
             let not_last : k ≢ last = λ same. other (stands_once last places q p (omega arith) lq lp (e ∙ ap Some same) there) in
             swapped-other pairs i k (omega arith) (omega arith) not_i)
       ] in
@@ -124,7 +127,7 @@ module _ {V : Type 0} (hash : List ℕ → ℕ) (pairs : List (List ℕ × V)) (
             ];
       }
 
-times-none : (i : ℕ) (places : List (Option ℕ)) → ((p : ℕ) → p < length places → resident places p ≡ None) → times i places ≡ 0
+pub times-none : (i : ℕ) (places : List (Option ℕ)) → ((p : ℕ) → p < length places → resident places p ≡ None) → times i places ≡ 0
 times-none i places empty = elim (below_or_not 0 (times i places)) [
   | inl some ↦
       let spot = stands i places some in

@@ -1,15 +1,10 @@
 -- What stands where.
-use Rattle.std.proofs.Common.{◌≡◌, ◌≢◌, ℕ, suc, ◌+◌, ◌<◌, ◌≤◌, arith, List, [], ◌∷◌, length, get_or, set, Option, Some, None, cond, true, false, eqb, refl, sym, ap, ◌∙◌, get_or-set_other}
+use Rattle.std.proofs.Common.{◌≡◌, ◌≢◌, ℕ, suc, ◌+◌, ◌<◌, ◌≤◌, arith, List, [], ◌∷◌, length, set, take, drop, zero, Option, Some, None, cond, true, false, eqb, refl, ap, ◌∙◌, get_or-set_other}
 use Rattle.std.proofs.lemmas.List.{length-set}
 use Rattle.std.proofs.lemmas.Bool.Decides.{nat_tests}
 use Rattle.std.proofs.lemmas.List.Sums.{sum_by-cons, sum_by-set, get_or-le-sum_by}
 use Rattle.ijson_table.specs.Moving.{one_if}
 use Rattle.ijson_table.specs.Places.{resident, holds, times}
-use Rattle.ijson_table.proofs.Keys.{get_or-inside}
-
--- what a read of a place told
-pub resident-read : (places : List (Option ℕ)) (p : ℕ) (read told : Option ℕ) → p < length places → read ≡ get_or places p read → told ≡ read → resident places p ≡ told
-resident-read places p read told lp is same = get_or-inside places p None read lp ∙ (sym is ∙ sym same)
 
 holds-same : (i : ℕ) → holds i (Some i) ≡ true
 holds-same i = grind (arith, nat_tests)
@@ -62,3 +57,21 @@ stands_once i places p q h lp lq ep eq = elim (eqb p q) as (λ b. eqb p q ≡ b 
       let there : resident (set places p None) q ≡ Some i = get_or-set_other places p q None None ne ∙ eq in
       absurd (omega (arith, times-set i places p None lp, one_if-at i (resident places p) ep, times-some i (set places p None) q (omega (arith, length-set {A = Option ℕ})) there))
 ] refl
+
+pub times-nil : (i : ℕ) → times i [] ≡ 0
+unfolding times
+times-nil i = refl
+
+-- each position stands among the first places or behind them
+pub times-split : (i : ℕ) (places : List (Option ℕ)) (n : ℕ) → times i (take n places) + times i (drop n places) ≡ times i places
+unfolding times
+times-split i places zero = omega arith
+times-split i [] (suc n) = refl
+times-split i (o ∷ places) (suc n) = omega (arith, times-cons i o (take n places), times-cons i o places, times-split i places n)
+
+-- among one place more
+pub times-more : (i : ℕ) (places : List (Option ℕ)) (n : ℕ) → n < length places → times i (take (suc n) places) ≡ times i (take n places) + one_if i (resident places n)
+unfolding times
+times-more i [] n lt = absurd (omega (arith, lt))
+times-more i (o ∷ places) zero lt = omega (arith, times-cons i o [])
+times-more i (o ∷ places) (suc n) lt = omega (arith, times-cons i o (take (suc n) places), times-cons i o (take n places), times-more i places n (omega (arith, lt)))

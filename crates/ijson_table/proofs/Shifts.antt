@@ -3,7 +3,7 @@ use Rattle.std.proofs.Common.{◌≡◌, ◌≢◌, ℕ, ◌+◌, ◌<◌, ◌�
 use Rattle.std.proofs.lemmas.Bool.Decides.{nat_tests}
 use Rattle.std.proofs.lemmas.List.{length-set}
 use Rattle.ijson_table.specs.Crowd.{distance}
-use Rattle.ijson_table.specs.Moving.{Ordered, Holding, MayStand}
+use Rattle.ijson_table.specs.Moving.{Ordered, Kept, MayStand}
 use Rattle.ijson_table.specs.Places.{after, onward, reach, resident, home_at, strides}
 use Rattle.ijson_table.proofs.Cases.{same_or_not}
 use Rattle.ijson_table.proofs.Round.{after-injective, distance-below, onward-distance, distance-after}
@@ -57,9 +57,9 @@ raised hash keys places p o lp ordered more bound q lq =
     omega (arith, goal, ap (λ k. reach hash keys places' (after k q)) size)
 
 -- The one in hand is put down where it is at least as far from its home as the resident, and not too far. Who stood there is in hand then.
-pub put_down : (hash : List ℕ → ℕ) (keys : List (List ℕ)) (count : ℕ) (places : List (Option ℕ)) (k p : ℕ) → p < length places → Holding hash keys count (Some k) places
-    → MayStand hash keys places k p → Holding hash keys count (resident places p) (set places p (Some k))
-put_down hash keys count places k p lp held may =
+pub put_down : (hash : List ℕ → ℕ) (keys : List (List ℕ)) (wanted : ℕ → ℕ) (places : List (Option ℕ)) (k p : ℕ) → p < length places → Kept hash keys wanted (Some k) places
+    → MayStand hash keys places k p → Kept hash keys wanted (resident places p) (set places p (Some k))
+put_down hash keys wanted places k p lp held may =
     let now : reach hash keys (set places p (Some k)) p ≡ distance (length places) (home_at hash (length places) keys k) p + 1 = reach-set_some hash keys places p k lp in
     record {
       ordered = raised hash keys places p (Some k) lp held.ordered (omega (arith, may.further, now)) (λ q lq at. omega (arith, may.led_to q lq at, now));

@@ -3,6 +3,8 @@ use Rattle.std.proofs.Common.{◌≡◌}
 use mathlib.Core.HLevel.{is_prop→PathP}
 use Rattle.ijson_table.specs.Store.{Store, IsDistinct, IsDistinct-prop, keys_of}
 use Rattle.ijson_table.specs.Placed.{Placed}
+use Rattle.ijson_table.specs.declared.hash.KeyHash as hashing
+use Rattle.ijson_table.specs.declared.table.Table.TheInside.{Inside}
 
 pub store_path : {V : Type 0} (s t : Store V) → s.pairs ≡ t.pairs → s.capacity ≡ t.capacity → s ≡ t
 store_path s t e f = λ j. record {
@@ -13,3 +15,8 @@ store_path s t e f = λ j. record {
 
 pub placed_path : {V : Type 0} (s t : Placed V) → s.store.pairs ≡ t.store.pairs → s.store.capacity ≡ t.store.capacity → s.places ≡ t.places → s ≡ t
 placed_path s t e f g = λ j. record { store = store_path s.store t.store e f j; places = g j }
+
+-- a table whose fields were looked at and put back
+pub put_back : {V H : Type 0} (K : hashing.Ghosts H) (t : Inside V H K) (distinct : IsDistinct (keys_of t.pairs.items))
+    → ◌≡◌ {A = Inside V H K} (record { pairs = t.pairs; places = t.places; capacity = t.capacity; alloc = t.alloc; hash = t.hash; distinct = distinct }) t
+put_back K t distinct = λ i. record { pairs = t.pairs; places = t.places; capacity = t.capacity; alloc = t.alloc; hash = t.hash; distinct = IsDistinct-prop (keys_of t.pairs.items) distinct t.distinct i }

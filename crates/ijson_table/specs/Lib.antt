@@ -3,6 +3,8 @@ pub mod Growth
 pub mod Steps
 pub mod Fold
 pub mod PlaceCode
+pub mod Mark
+pub mod Told
 pub mod Crowd
 pub mod Places
 pub mod Placed

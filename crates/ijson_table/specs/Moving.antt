@@ -11,10 +11,22 @@ one_if i o = cond (holds i o) 1 0
 abbrev pub Ordered : (List ℕ → ℕ) → List (List ℕ) → List (Option ℕ) → Type 0
 Ordered hash keys places = (p : ℕ) → p < length places → reach hash keys places (after (length places) p) ≤ reach hash keys places p + 1
 
--- A table of the first positions of the list, but for the one that is in hand.
-pub record Holding (hash : List ℕ → ℕ) (keys : List (List ℕ)) (count : ℕ) (hand : Option ℕ) (places : List (Option ℕ)) : Type 0 where
+-- some place is empty
+abbrev pub HasEmpty : List (Option ℕ) → Type 0
+HasEmpty places = (p : ℕ) × (p < length places) × (resident places p ≡ None)
+
+-- Places in order, at which each position stands so often as it is wanted, but for the one that is in hand.
+pub record Kept (hash : List ℕ → ℕ) (keys : List (List ℕ)) (wanted : ℕ → ℕ) (hand : Option ℕ) (places : List (Option ℕ)) : Type 0 where
   pub ordered : Ordered hash keys places
-  pub placed : (i : ℕ) → times i places + one_if i hand ≡ (if ltb i count then 1 else 0)
+  pub placed : (i : ℕ) → times i places + one_if i hand ≡ wanted i
+
+-- each of the first positions once, and no other one
+abbrev pub below : ℕ → ℕ → ℕ
+below count i = (if ltb i count then 1 else 0)
+
+-- A table of the first positions of the list, but for the one that is in hand.
+abbrev pub Holding : (List ℕ → ℕ) → List (List ℕ) → ℕ → Option ℕ → List (Option ℕ) → Type 0
+Holding hash keys count hand places = Kept hash keys (below count) hand places
 
 -- A position may stand at p, before who is there now: it is at least as far from its home, and the place before is reached so far.
 pub record MayStand (hash : List ℕ → ℕ) (keys : List (List ℕ)) (places : List (Option ℕ)) (i p : ℕ) : Type 0 where

@@ -11,8 +11,9 @@ ghost use Rattle.std.specs.Option.{option_copied};
 
 use crate::growth::{fit, grown_capacity, limited, list_with_room};
 use crate::hash::KeyHash;
+use crate::mark::mark;
 use crate::moving::{
-    clear_places, distance_of, empty_places, home, new_places, place_all, put_in, take_out,
+    clear_places, empty_places, home, place_again, places_again, put_in, take_out,
 };
 use crate::place::Place;
 use crate::places::{Places, Seen, locate};
@@ -36,14 +37,16 @@ pub struct Table<V, H: KeyHash> {
 impl<V, H: KeyHash> Model for Table<V, H> {
     ghost use Rattle.std.specs.Prelude.{◌≤◌, vec_capacity};
     ghost use Rattle.ijson_table.specs.Placed.{Placed, placed_code, IsPlaced};
+    ghost use Rattle.ijson_table.specs.Store.{keys_of};
+    ghost use Rattle.ijson_table.specs.Told.{positions, AreTold};
 
     ghost Value = { Placed V };
 
     ghost coded = { placed_code V.code };
 
-    ghost view = { λ t. record { store = record { pairs = t.pairs.items; capacity = t.capacity; distinct = t.distinct }; places = t.places.items } };
+    ghost view = { λ t. record { store = record { pairs = t.pairs.items; capacity = t.capacity; distinct = t.distinct }; places = positions t.places.items } };
 
-    ghost invariant = { λ t. IsPlaced H.hash_of t.pairs.items t.capacity t.places.items × (t.capacity ≤ vec_capacity t.pairs) };
+    ghost invariant = { λ t. IsPlaced H.hash_of t.pairs.items t.capacity (positions t.places.items) × AreTold H.hash_of (keys_of t.pairs.items) t.places.items × (t.capacity ≤ vec_capacity t.pairs) };
 }
 
 impl<V: Drop, H: KeyHash> Table<V, H> {
@@ -55,7 +58,7 @@ impl<V: Drop, H: KeyHash> Table<V, H> {
     {
         let capacity = limited(capacity)?;
         let pairs = list_with_room(alloc, capacity)?;
-        let places = new_places::<V, H>(alloc, &pairs, capacity)?;
+        let places = empty_places(alloc, capacity + capacity / 4)?;
         Ok(Table {
             pairs,
             places,
@@ -108,12 +111,13 @@ impl<V, H: KeyHash> Places for Table<V, H> {
 
     fn look(&self, place: usize, key: &str, looks: &mut Looks) -> Seen {
         looks.add_one();
-        match self.places[place].position() {
+        let there = self.places[place];
+        match there.position() {
             None => Seen::Empty,
             Some(at) => Seen::Resident {
                 at,
-                distance: distance_of::<V, H>(&self.pairs, self.places.len(), at, place),
-                same: self.pairs[at].0.eq_str(key),
+                distance: there.distance(self.places.len(), place),
+                same: there.has_mark(mark(key)) && self.pairs[at].0.eq_str(key),
             },
         }
     }
@@ -159,7 +163,7 @@ impl<V: Drop, H: KeyHash> PairStore<V> for Table<V, H> {
         let capacity = grown_capacity(len, self.capacity, additional)?;
         let mut places = empty_places(self.alloc, capacity + capacity / 4)?;
         self.pairs.reserve_exact(capacity - len)?;
-        place_all::<V, H>(&self.pairs, &mut places);
+        place_again::<V, H>(&self.pairs, &self.places, &mut places);
         self.places = places;
         self.capacity = capacity;
         Ok(())
@@ -170,7 +174,7 @@ impl<V: Drop, H: KeyHash> PairStore<V> for Table<V, H> {
         if self.capacity == len {
             return Ok(());
         }
-        let places = new_places::<V, H>(self.alloc, &self.pairs, len)?;
+        let places = places_again::<V, H>(self.alloc, &self.pairs, &self.places, len)?;
         fit(self.alloc, &mut self.pairs)?;
         self.places = places;
         self.capacity = len;

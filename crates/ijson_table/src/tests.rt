@@ -137,6 +137,18 @@ fn lengths_meet_round_the_end(rt: HostRuntime) -> Result<(), AllocError> {
     Ok(())
 }
 
+/// Who went round the end stays behind those of the same home when the table grows.
+#[test]
+fn growth_keeps_the_order_of_a_home(rt: HostRuntime) -> Result<(), AllocError> {
+    let alloc = rt.alloc();
+    let mut table: Table<u64, ByLength> = Table::new(alloc);
+    insert_all(alloc, &mut table, &["aaaa", "bbbb", "cccc", "dddd"])?;
+    assert!(rt; shown(alloc, &table)?.as_slice() == [1, 2, 3, 9, 0].as_slice());
+    insert_all(alloc, &mut table, &["eeee"])?;
+    assert!(rt; shown(alloc, &table)?.as_slice() == [9, 9, 9, 9, 0, 1, 2, 3, 4, 9].as_slice());
+    Ok(())
+}
+
 #[test]
 fn all_meet(rt: HostRuntime) -> Result<(), AllocError> {
     let alloc = rt.alloc();

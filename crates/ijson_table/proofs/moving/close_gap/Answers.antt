@@ -1,77 +1,83 @@
-use Rattle.std.proofs.Common.{◌≡◌, ℕ, ◌+◌, ◌<◌, List, length, set, Option, Some, None, arith, ap, sym, ◌∙◌, subst, refl}
+use Rattle.std.proofs.Common.{◌≡◌, ℕ, ◌+◌, ◌<◌, List, length, get_or, set, Option, Some, None, arith, ap, sym, ◌∙◌, subst}
 use Rattle.std.proofs.lemmas.List.{length-set}
+use Rattle.ijson_table.specs.declared.place.Place.{Place}
 use Rattle.ijson_table.specs.Store.{keys_of}
-use Rattle.ijson_table.specs.Crowd.{distance}
-use Rattle.ijson_table.specs.Places.{home_at, after, reach, resident}
+use Rattle.ijson_table.specs.Places.{after, reach, resident}
 use Rattle.ijson_table.specs.Moving.{HasGap}
-use Rattle.ijson_table.proofs.Residents.{resident-read}
-use Rattle.ijson_table.proofs.Walk.{reach-some, reach-none}
+use Rattle.ijson_table.specs.Told.{position_in, positions}
+use Rattle.ijson_table.proofs.Walk.{reach-none}
 use Rattle.ijson_table.proofs.Gaps.{gap_closed, moved_back, shift_falls, all_reach}
-use Rattle.ijson_table.proofs.Placing.{held_below}
+use Rattle.ijson_table.proofs.Told.{blank, positions-length, positions-put, positions-set, position-at, tells_nothing, told-at, told-set, told-reach}
 use Rattle.ijson_table.proofs.moving.close_gap.Goals as goal
 
-pub returns-in_default : goal.returns-in_default
-returns-in_default g c =
+pub returns-in_default-clause-held : goal.returns-in_default-clause-held
+returns-in_default-clause-held g c =
     let hash = g.H.KeyHash.hash_of in
-    let places : List (Option ℕ) = c.loop-behind.places in
-    let keys : List (List ℕ) = keys_of c.args.pairs.now in
-    let gap : ℕ = c.loop-behind.gap in
+    let places : List (Option ℕ) = positions c.loop-resident.places in
+    let keys : List (List ℕ) = keys_of c.args._pairs.now in
+    let gap : ℕ = c.loop-resident.gap in
     let next : ℕ = c.next_place-next.result in
-    let to : next ≡ after (length places) gap = c.next_place-next.ensures.place in
-    let none : reach hash keys places next ≡ 0 = reach-none hash keys places next (resident-read places next c.index-places-next.result c.position.result c.next_place-next.ensures.within c.index-places-next.is c.position.ensures ∙ c.in_default.is) in
-    gap_closed hash keys (length c.args.pairs.now) (Some c.args._gone) places gap c.loop-behind.invariant.within c.loop-behind.invariant.gap (omega (arith, none, ap (reach hash keys places) to))
+    let size : length places ≡ length c.loop-resident.places = positions-length c.loop-resident.places in
+    let to : next ≡ after (length places) gap = c.next_place-next.ensures.place ∙ ap (λ n. after n gap) (sym size) in
+    let none : reach hash keys places next ≡ 0 = reach-none hash keys places next (position-at c.loop-resident.places next None c.next_place-next.ensures.within (sym c.in_default.is ∙ c.position.ensures)) in
+    gap_closed hash keys (length c.args._pairs.now) (Some c.args._gone) places gap (omega (arith, c.loop-resident.invariant.within, size)) c.loop-resident.invariant.gap (omega (arith, none, ap (reach hash keys places) to))
 
-pub distance_of-requires-clause-listed : goal.distance_of-requires-clause-listed
-distance_of-requires-clause-listed g c =
-    let places : List (Option ℕ) = c.loop-behind.places in
-    let next : ℕ = c.next_place-next.result in
-    held_below g.H.KeyHash.hash_of (keys_of c.args.pairs.now) (length c.args.pairs.now) (Some c.args._gone) c.loop-behind.places c.loop-behind.invariant.gap.placed c.next_place-next.result c.in-Some.behind c.next_place-next.ensures.within (resident-read places next c.index-places-next.result c.position.result c.next_place-next.ensures.within c.index-places-next.is c.position.ensures ∙ c.in-Some.is)
-
-pub returns-then-distance_of-eq0 : goal.returns-then-distance_of-eq0
-returns-then-distance_of-eq0 g c =
+pub returns-then-distance-eq0-clause-held : goal.returns-then-distance-eq0-clause-held
+returns-then-distance-eq0-clause-held g c =
     let hash = g.H.KeyHash.hash_of in
-    let places : List (Option ℕ) = c.loop-behind.places in
-    let keys : List (List ℕ) = keys_of c.args.pairs.now in
-    let gap : ℕ = c.loop-behind.gap in
+    let places : List (Option ℕ) = positions c.loop-resident.places in
+    let keys : List (List ℕ) = keys_of c.args._pairs.now in
+    let gap : ℕ = c.loop-resident.gap in
     let next : ℕ = c.next_place-next.result in
-    let to : next ≡ after (length places) gap = c.next_place-next.ensures.place in
-    let is : reach hash keys places next ≡ distance (length places) (home_at hash (length places) keys c.in-Some.behind) next + 1 = reach-some hash keys places next c.in-Some.behind (resident-read places next c.index-places-next.result c.position.result c.next_place-next.ensures.within c.index-places-next.is c.position.ensures ∙ c.in-Some.is) in
-    gap_closed hash keys (length c.args.pairs.now) (Some c.args._gone) places gap c.loop-behind.invariant.within c.loop-behind.invariant.gap (omega (arith, is, c.distance_of.ensures, c.if-distance_of-eq0.true, ap (reach hash keys places) to))
+    let size : length places ≡ length c.loop-resident.places = positions-length c.loop-resident.places in
+    let to : next ≡ after (length places) gap = c.next_place-next.ensures.place ∙ ap (λ n. after n gap) (sym size) in
+    let is : reach hash keys places next ≡ c.distance.result + 1 = told-reach hash keys c.loop-resident.places next c.in-Some._resident c.distance.result c.loop-resident.invariant.told c.next_place-next.ensures.within (sym c.in-Some.is ∙ c.position.ensures) c.distance.ensures in
+    gap_closed hash keys (length c.args._pairs.now) (Some c.args._gone) places gap (omega (arith, c.loop-resident.invariant.within, size)) c.loop-resident.invariant.gap (omega (arith, is, c.if-distance-eq0.true, ap (reach hash keys places) to))
 
-pub loop-behind-smaller : goal.loop-behind-smaller
-loop-behind-smaller g c =
+-- a resident is moved one place back: what that does to the positions
+moved : (places : List Place) (gap next i : ℕ) (empty : Place) → Some i ≡ position_in (get_or places next blank) → position_in empty ≡ None
+    → positions (set (set places gap (get_or places next blank)) next empty) ≡ set (set (positions places) gap (Some i)) next None
+moved places gap next i empty there none =
+    positions-set (set places gap (get_or places next blank)) next empty ∙ (ap (set (positions (set places gap (get_or places next blank))) next) none
+    ∙ ap (λ ps. set ps next None) (positions-put places gap (get_or places next blank) i (sym there)))
+
+pub loop-resident-smaller : goal.loop-resident-smaller
+loop-resident-smaller g c =
     let hash = g.H.KeyHash.hash_of in
-    let places : List (Option ℕ) = c.loop-behind.places in
-    let keys : List (List ℕ) = keys_of c.args.pairs.now in
-    let gap : ℕ = c.loop-behind.gap in
+    let places : List (Option ℕ) = positions c.loop-resident.places in
+    let keys : List (List ℕ) = keys_of c.args._pairs.now in
+    let gap : ℕ = c.loop-resident.gap in
     let next : ℕ = c.next_place-next.result in
-    let k : ℕ = c.in-Some.behind in
-    let to : next ≡ after (length places) gap = c.next_place-next.ensures.place in
-    let there : resident places next ≡ Some k = resident-read places next c.index-places-next.result c.position.result c.next_place-next.ensures.within c.index-places-next.is c.position.ensures ∙ c.in-Some.is in
-    let moved : c.index-places-next-in-loop-behind.result ≡ Some k = sym (resident-read places next c.index-places-next-in-loop-behind.result c.index-places-next-in-loop-behind.result c.next_place-next.ensures.within c.index-places-next-in-loop-behind.is refl) ∙ there in
-    let is : reach hash keys places next ≡ distance (length places) (home_at hash (length places) keys k) next + 1 = reach-some hash keys places next k there in
-    subst (λ e. all_reach hash keys (set (set places gap c.index-places-next-in-loop-behind.result) next e) < all_reach hash keys places) (sym c.empty.ensures)
-    (subst (λ o. all_reach hash keys (set (set places gap o) next None) < all_reach hash keys places) (sym moved)
+    let k : ℕ = c.in-Some._resident in
+    let size : length places ≡ length c.loop-resident.places = positions-length c.loop-resident.places in
+    let to : next ≡ after (length places) gap = c.next_place-next.ensures.place ∙ ap (λ n. after n gap) (sym size) in
+    let there : Some k ≡ position_in (get_or c.loop-resident.places next blank) = sym c.in-Some.is ∙ c.position.ensures in
+    let at : resident places next ≡ Some k = position-at c.loop-resident.places next (Some k) c.next_place-next.ensures.within there in
+    let is : reach hash keys places next ≡ c.distance.result + 1 = told-reach hash keys c.loop-resident.places next k c.distance.result c.loop-resident.invariant.told c.next_place-next.ensures.within there c.distance.ensures in
+    subst (λ ps. all_reach hash keys ps < all_reach hash keys places) (sym (moved c.loop-resident.places gap next k c.empty.result there c.empty.ensures))
     (subst (λ x. all_reach hash keys (set (set places gap (Some k)) x None) < all_reach hash keys places) (sym to)
-    (shift_falls hash keys places gap k c.loop-behind.invariant.within c.loop-behind.invariant.gap.empty (ap (resident places) (sym to) ∙ there) (omega (arith, is, c.distance_of.ensures, c.if-distance_of-eq0.false, ap (reach hash keys places) to)))))
+    (shift_falls hash keys places gap k (omega (arith, c.loop-resident.invariant.within, size)) c.loop-resident.invariant.gap.empty (ap (resident places) (sym to) ∙ at) (omega (arith, is, c.if-distance-eq0.false, ap (reach hash keys places) to))))
 
-pub loop-behind-preserved : goal.loop-behind-preserved
-loop-behind-preserved g c =
+pub loop-resident-preserved : goal.loop-resident-preserved
+loop-resident-preserved g c =
     let hash = g.H.KeyHash.hash_of in
-    let places : List (Option ℕ) = c.loop-behind.places in
-    let keys : List (List ℕ) = keys_of c.args.pairs.now in
-    let count : ℕ = length c.args.pairs.now in
-    let gap : ℕ = c.loop-behind.gap in
+    let places : List (Option ℕ) = positions c.loop-resident.places in
+    let keys : List (List ℕ) = keys_of c.args._pairs.now in
+    let count : ℕ = length c.args._pairs.now in
+    let gap : ℕ = c.loop-resident.gap in
     let next : ℕ = c.next_place-next.result in
-    let k : ℕ = c.in-Some.behind in
-    let to : next ≡ after (length places) gap = c.next_place-next.ensures.place in
-    let there : resident places next ≡ Some k = resident-read places next c.index-places-next.result c.position.result c.next_place-next.ensures.within c.index-places-next.is c.position.ensures ∙ c.in-Some.is in
-    let moved : c.index-places-next-in-loop-behind.result ≡ Some k = sym (resident-read places next c.index-places-next-in-loop-behind.result c.index-places-next-in-loop-behind.result c.next_place-next.ensures.within c.index-places-next-in-loop-behind.is refl) ∙ there in
-    let is : reach hash keys places next ≡ distance (length places) (home_at hash (length places) keys k) next + 1 = reach-some hash keys places next k there in
+    let k : ℕ = c.in-Some._resident in
+    let size : length places ≡ length c.loop-resident.places = positions-length c.loop-resident.places in
+    let to : next ≡ after (length places) gap = c.next_place-next.ensures.place ∙ ap (λ n. after n gap) (sym size) in
+    let there : Some k ≡ position_in (get_or c.loop-resident.places next blank) = sym c.in-Some.is ∙ c.position.ensures in
+    let at : resident places next ≡ Some k = position-at c.loop-resident.places next (Some k) c.next_place-next.ensures.within there in
+    let is : reach hash keys places next ≡ c.distance.result + 1 = told-reach hash keys c.loop-resident.places next k c.distance.result c.loop-resident.invariant.told c.next_place-next.ensures.within there c.distance.ensures in
+    let behind : Place = get_or c.loop-resident.places next blank in
     record {
-      within = omega (arith, c.next_place-next.ensures.within, length-set (set places gap c.index-places-next-in-loop-behind.result) next c.empty.result, length-set places gap c.index-places-next-in-loop-behind.result);
-      gap = subst (λ e. HasGap hash keys count (Some c.args._gone) (set (set places gap c.index-places-next-in-loop-behind.result) next e) next) (sym c.empty.ensures)
-          (subst (λ o. HasGap hash keys count (Some c.args._gone) (set (set places gap o) next None) next) (sym moved)
+      within = omega (arith, c.next_place-next.ensures.within, length-set (set c.loop-resident.places gap behind) next c.empty.result, length-set c.loop-resident.places gap behind);
+      gap = subst (λ ps. HasGap hash keys count (Some c.args._gone) ps next) (sym (moved c.loop-resident.places gap next k c.empty.result there c.empty.ensures))
           (subst (λ x. HasGap hash keys count (Some c.args._gone) (set (set places gap (Some k)) x None) x) (sym to)
-          (moved_back hash keys count (Some c.args._gone) places gap k c.loop-behind.invariant.within c.loop-behind.invariant.gap (ap (resident places) (sym to) ∙ there) (omega (arith, is, c.distance_of.ensures, c.if-distance_of-eq0.false, ap (reach hash keys places) to)))));
+          (moved_back hash keys count (Some c.args._gone) places gap k (omega (arith, c.loop-resident.invariant.within, size)) c.loop-resident.invariant.gap (ap (resident places) (sym to) ∙ at) (omega (arith, is, c.if-distance-eq0.false, ap (reach hash keys places) to))));
+      told = told-set hash keys (set c.loop-resident.places gap behind) next c.empty.result (tells_nothing hash keys c.empty.result c.empty.ensures)
+          (told-set hash keys c.loop-resident.places gap behind (told-at hash keys c.loop-resident.places next c.loop-resident.invariant.told c.next_place-next.ensures.within) c.loop-resident.invariant.told);
     }

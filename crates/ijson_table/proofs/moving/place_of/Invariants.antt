@@ -1,13 +1,15 @@
 use Rattle.std.proofs.Common.{◌≡◌, ◌≢◌, ◌<◌, ℕ, length, Some}
 use Rattle.ijson_table.specs.Store.{keys_of}
 use Rattle.ijson_table.specs.Places.{home_at, onward, resident}
+use Rattle.ijson_table.specs.Told.{positions}
 use Rattle.ijson_table.proofs.moving.place_of.Given as goal
 
 abbrev pub invariant-loop-step : goal.invariant-loop-step
 invariant-loop-step g l =
-    let hash = g.H.KeyHash.hash_of in
+    let count = length (positions l.places) in
+    let home = home_at g.H.KeyHash.hash_of count (keys_of l.pairs) l.position in
     record {
       within : l.place < length l.places;
-      there : l.place ≡ onward (length l.places) (home_at hash (length l.places) (keys_of l.pairs) l.position) l._step;
-      not_yet : (j : ℕ) → j < l._step → resident l.places (onward (length l.places) (home_at hash (length l.places) (keys_of l.pairs) l.position) j) ≢ Some l.position;
+      there : l.place ≡ onward count home l._step;
+      not_yet : (j : ℕ) → j < l._step → resident (positions l.places) (onward count home j) ≢ Some l.position;
     }

@@ -1,7 +1,10 @@
-use Rattle.std.proofs.Common.{◌≡◌, drop, fold}
+use Rattle.std.proofs.Common.{◌≡◌, length, fold}
 use Rattle.ijson_table.specs.Fold.{fold_word, fold_words}
 use Rattle.ijson_table.proofs.hash.FixedHashKeyHash.hash.Given as goal
 
 -- the rest of the bytes is still to be folded
-abbrev pub invariant-loop-byte : goal.invariant-loop-byte
-invariant-loop-byte l = fold_words l.byte-items ≡ fold fold_word l.hash (drop l.byte-index l.byte-items)
+abbrev pub invariant-loop-left : goal.invariant-loop-left
+invariant-loop-left l = fold_words l.fn.text ≡ fold fold_word l.hash l.left
+
+abbrev pub decreases-loop-left : goal.decreases-loop-left
+decreases-loop-left l = length l.left

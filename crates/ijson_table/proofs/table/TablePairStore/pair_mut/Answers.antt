@@ -4,7 +4,8 @@ use Rattle.std.proofs.lemmas.Option.{slice_get_read}
 use Rattle.ijson_table.specs.Store.{with_value}
 use Rattle.ijson_table.specs.Placed.{Placed}
 use Rattle.ijson_table.proofs.Keys.{set-value, distinct_set}
-use Rattle.ijson_table.proofs.Tables.{placed_set}
+use Rattle.ijson_table.specs.Told.{positions}
+use Rattle.ijson_table.proofs.Tables.{placed_set, told_lent}
 use Rattle.ijson_table.proofs.Writing.{placed_path}
 use Rattle.ijson_table.proofs.table.TablePairStore.pair_mut.Goals as goal
 
@@ -18,7 +19,7 @@ pub invariant_of-self-lent : goal.invariant_of-self-lent
 invariant_of-self-lent g c = λ w.
     let old = c.self.inside.pairs.items in
     let li : c.args.index < length old = omega (arith, ap (λ (s : Placed g.row.V.Denot). length s.store.pairs) c.self.view_is, c.requires) in
-    (placed_set g.H.KeyHash.hash_of old c.self.inside.capacity c.args.index c.index_mut-pair.result.now w c.self.inside.places.items li c.index_mut-pair.ensures.value c.self.invariant.0, c.self.invariant.1)
+    (placed_set g.H.KeyHash.hash_of old c.self.inside.capacity c.args.index c.index_mut-pair.result.now w (positions c.self.inside.places.items) li c.index_mut-pair.ensures.value c.self.invariant.0, told_lent g.H.KeyHash.hash_of old c.args.index c.index_mut-pair.result.now w c.self.inside.places.items li c.index_mut-pair.ensures.value c.self.invariant.1, c.self.invariant.2)
 
 pub returns : goal.returns
 returns g c =

@@ -4,7 +4,7 @@ use Rattle.std.proofs.lemmas.Option.{slice_get_read}
 use Rattle.ijson_table.specs.Store.{keys_of, swap_out, IsDistinct}
 use Rattle.ijson_table.specs.Placed.{Placed}
 use Rattle.ijson_table.proofs.Keys.{distinct_swapped, swap_out-is}
-use Rattle.ijson_table.proofs.Tables.{swapped_at}
+use Rattle.ijson_table.proofs.Tables.{swapped_at, told_whole}
 use Rattle.ijson_table.proofs.table.TablePairStore.swap_out.Goals as goal
 
 pub invariant_of-self-inside : goal.invariant_of-self-inside
@@ -22,10 +22,14 @@ invariant_of-self g c =
       swapped_at g.H.KeyHash.hash_of c.self.inside.pairs.items c.self.inside.capacity c.args.index c.self.inside.places.items c.swap_remove.new.self.items c.deref.result.now c.self.inside.places.len c.take_out.new.places c.self.invariant.0 li
           (c.swap_remove.ensures.items ∙ swap_out-is c.self.inside.pairs.items c.args.index c.swap_remove.result li)
           c.deref.ensures.value
-          c.take_out.ensures
+          c.take_out.ensures.table
           (omega (arith, c.take_out.auto.places, ap length c.deref_mut.ensures.value))
           (omega (arith, c.self.inside.places.ok.0)),
-      omega (arith, c.self.invariant.1, c.swap_remove.ensures.capacity),
+      told_whole g.H.KeyHash.hash_of (keys_of (swap_out c.deref.result.now c.args.index)) (keys_of c.swap_remove.new.self.items) c.self.inside.places.len c.self.inside.places.items c.take_out.new.places c.take_out.ensures.told
+          (ap keys_of (c.swap_remove.ensures.items ∙ (swap_out-is c.self.inside.pairs.items c.args.index c.swap_remove.result li ∙ ap (λ ps. swap_out ps c.args.index) (sym c.deref.ensures.value))))
+          (omega (arith, c.take_out.auto.places, ap length c.deref_mut.ensures.value))
+          (omega (arith, c.self.inside.places.ok.0)),
+      omega (arith, c.self.invariant.2, c.swap_remove.ensures.capacity),
     )
 
 pub returns-clause-pair : goal.returns-clause-pair
