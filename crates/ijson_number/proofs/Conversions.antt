@@ -20,6 +20,13 @@ module _ {E : Type 0} (n : Decimal) (v w : ℤ) (plain : IsPlain n) (has : HasVa
   none_fits Fits o (Ok x) t e = rw e tt
   none_fits Fits o (Err d) t e = rw e (λ z f h. OkIff-at_err (Err d) (Fits w) w d t refl (subst Fits (value_one n z v plain h has ∙ sym exact) f))
 
+  -- where it fits, it is the value
+  pub some_fits : (Fits : ℤ → Type 0) (o : Option ℤ) (r : Result ℤ E) → OkIff r (Fits w) w → o ≡ result_ok r → IfSome o (λ z. HasValue n z)
+  some_fits Fits o (Ok x) t e =
+      let f : Fits w × (x ≡ w) = OkIff-at_ok {T = ℤ} {E = E} (Ok x) (Fits w) w x t refl in
+      rw e (subst (HasValue n) (sym exact ∙ sym f.1) has)
+  some_fits Fits o (Err d) t e = rw e tt
+
   -- the same of an unsigned type
   pub none_fits_unsigned : (width : Width) (limit : ℕ) (o : Option ℕ) (r : Result ℕ E) → ((m : ℕ) → m < limit → FitsUnsigned width (pos m)) → OkIff r (FitsUnsigned width w) (nat_abs w) → o ≡ result_ok r → IfNone o ((m : ℕ) → m < limit → HasValue n (pos m) → ⊥)
   none_fits_unsigned width limit o (Ok x) f t e = rw e tt

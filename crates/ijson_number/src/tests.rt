@@ -2,9 +2,45 @@
 use super::*;
 use std::alloc::Global;
 use std::cell::{Cell, RefCell};
+use std::cmp::Ordering;
 use std::hash::{Hash, Hasher};
 use std::process::Abort;
 use std::test::Fail;
+
+/// Texts, the text that each is written as, and whether it has float shape.
+const ROWS: [(&str, &str, bool); 17] = [
+    ("-0", "0", false),
+    ("-0.0", "0.0", true),
+    ("1.50", "1.5", true),
+    ("100.00", "100.0", true),
+    ("1e20", "100000000000000000000.0", true),
+    ("1e21", "1e21", true),
+    ("1e22", "1e22", true),
+    ("1.5E-3", "0.0015", true),
+    ("0.000001", "0.000001", true),
+    ("0.0000001", "1e-7", true),
+    ("12e30", "1.2e31", true),
+    ("441044444333116.125", "441044444333116.125", true),
+    ("-250", "-250", false),
+    (
+        "0.100000000000000000000000000000000000000000000000000",
+        "0.1",
+        true,
+    ),
+    ("10e1073741823", "1e1073741824", true),
+    ("0e99999999999999999999", "0.0", true),
+    (
+        "123456789012345678901234567890",
+        "123456789012345678901234567890",
+        false,
+    ),
+];
+
+fn displays(rt: &impl Abort, alloc: Global, number: &INumber, want: &str) -> Result<(), Fail> {
+    let text = format!(in alloc; "{number}")?;
+    assert_eq!(rt; text.as_str(), want);
+    Ok(())
+}
 
 fn written(
     rt: &impl Abort,
@@ -14,50 +50,31 @@ fn written(
     point: bool,
 ) -> Result<(), Fail> {
     let number = INumber::from_str(alloc, text)?;
-    assert_eq!(rt; number.has_decimal_point(), point);
-    let text = format!(in alloc; "{number}")?;
-    assert_eq!(rt; text.as_str(), want);
-    Ok(())
+    assert!(rt; number.has_decimal_point() == point, "{text}");
+    displays(rt, alloc, &number, want)
 }
 
 #[test]
 fn rows(rt: HostRuntime) -> Result<(), Fail> {
     let alloc = rt.alloc();
-    written(&rt, alloc, "-0", "0", false)?;
-    written(&rt, alloc, "-0.0", "0.0", true)?;
-    written(&rt, alloc, "1.50", "1.5", true)?;
-    written(&rt, alloc, "100.00", "100.0", true)?;
-    written(&rt, alloc, "1e20", "100000000000000000000.0", true)?;
-    written(&rt, alloc, "1e21", "1e21", true)?;
-    written(&rt, alloc, "1e22", "1e22", true)?;
-    written(&rt, alloc, "1.5E-3", "0.0015", true)?;
-    written(&rt, alloc, "0.000001", "0.000001", true)?;
-    written(&rt, alloc, "0.0000001", "1e-7", true)?;
-    written(&rt, alloc, "12e30", "1.2e31", true)?;
-    written(
-        &rt,
-        alloc,
-        "441044444333116.125",
-        "441044444333116.125",
-        true,
-    )?;
-    written(&rt, alloc, "-250", "-250", false)?;
-    written(
-        &rt,
-        alloc,
-        "0.100000000000000000000000000000000000000000000000000",
-        "0.1",
-        true,
-    )?;
-    written(&rt, alloc, "10e1073741823", "1e1073741824", true)?;
-    written(&rt, alloc, "0e99999999999999999999", "0.0", true)?;
-    written(
-        &rt,
-        alloc,
-        "123456789012345678901234567890",
-        "123456789012345678901234567890",
-        false,
-    )
+    for (text, want, point) in ROWS {
+        written(&rt, alloc, text, want, point)?;
+    }
+    Ok(())
+}
+
+fn debugs(rt: &impl Abort, alloc: Global, number: &INumber, want: &str) -> Result<(), Fail> {
+    let text = format!(in alloc; "{number:?}")?;
+    assert_eq!(rt; text.as_str(), want);
+    Ok(())
+}
+
+#[test]
+fn copies(rt: HostRuntime) -> Result<(), Fail> {
+    let long = INumber::from_str(rt.alloc(), "-1234567890123456789012345.5")?;
+    let copy = long.clone()?;
+    assert!(rt; copy == long);
+    debugs(&rt, rt.alloc(), &copy, "-1234567890123456789012345.5")
 }
 
 fn refused(rt: &impl Abort, alloc: Global, text: &str) {
@@ -103,82 +120,122 @@ fn faults(rt: HostRuntime) {
     fault(&rt, "1e99999999999999999999999999999999999999999999", None);
 }
 
-fn equal(rt: &impl Abort, alloc: Global, a: &str, b: &str) -> Result<(), Fail> {
-    assert!(rt; INumber::from_str(alloc, a)? == INumber::from_str(alloc, b)?);
+/// Two texts, and whether their numbers are equal.
+const PAIRS: [(&str, &str, bool); 4] = [
+    ("-0", "-0.0", true),
+    ("2", "20e-1", true),
+    ("36028797018963968.0", "36028797018963968", true),
+    ("1", "-1", false),
+];
+
+fn equal(rt: &impl Abort, alloc: Global, a: &str, b: &str, want: bool) -> Result<(), Fail> {
+    let is_equal = INumber::from_str(alloc, a)? == INumber::from_str(alloc, b)?;
+    assert!(rt; is_equal == want, "{a} {b}");
     Ok(())
 }
 
 #[test]
 fn equality(rt: HostRuntime) -> Result<(), Fail> {
     let alloc = rt.alloc();
-    equal(&rt, alloc, "-0", "-0.0")?;
-    equal(&rt, alloc, "2", "20e-1")?;
-    equal(&rt, alloc, "36028797018963968.0", "36028797018963968")?;
-    assert!(rt; INumber::from_str(alloc, "1")? != INumber::from_str(alloc, "-1")?);
+    for (a, b, want) in PAIRS {
+        equal(&rt, alloc, a, b, want)?;
+    }
     Ok(())
 }
 
-fn answers<T: PartialEq + Drop>(rt: &impl Abort, got: Option<T>, want: Option<T>) {
-    assert!(rt; got == want);
+/// What a number is as an `i64` and as an `i32`.
+fn signed(rt: &impl Abort, number: INumber, long: Option<i64>, short: Option<i32>) {
+    assert!(rt; number.to_i64() == long);
+    assert!(rt; number.to_i32() == short);
 }
 
-fn signed(rt: &impl Abort, alloc: Global, text: &str, want: Option<i64>) -> Result<(), Fail> {
-    answers(rt, INumber::from_str(alloc, text)?.to_i64(), want);
-    Ok(())
+fn sized(rt: &impl Abort, number: INumber, want: Option<isize>) {
+    assert!(rt; number.to_isize() == want);
 }
 
-fn unsigned(rt: &impl Abort, alloc: Global, text: &str, want: Option<u64>) -> Result<(), Fail> {
-    answers(rt, INumber::from_str(alloc, text)?.to_u64(), want);
-    Ok(())
+/// What a number is as a `u64` and as a `u32`.
+fn unsigned(rt: &impl Abort, number: INumber, long: Option<u64>, short: Option<u32>) {
+    assert!(rt; number.to_u64() == long);
+    assert!(rt; number.to_u32() == short);
 }
 
-fn short(rt: &impl Abort, alloc: Global, text: &str, want: Option<i32>) -> Result<(), Fail> {
-    answers(rt, INumber::from_str(alloc, text)?.to_i32(), want);
-    Ok(())
-}
+/// Texts, and what each is as an `i64` and as an `i32`.
+const SIGNED: [(&str, Option<i64>, Option<i32>); 5] = [
+    ("12345678901234567890.0", None, None),
+    ("1e19", None, None),
+    ("-9223372036854775808.0", Some(i64::MIN), None),
+    ("2.0", Some(2), Some(2)),
+    ("2.5", None, None),
+];
 
 #[test]
-fn conversions(rt: HostRuntime) -> Result<(), Fail> {
+fn signed_texts(rt: HostRuntime) -> Result<(), Fail> {
     let alloc = rt.alloc();
-    unsigned(
-        &rt,
-        alloc,
-        "12345678901234567890.0",
-        Some(12345678901234567890),
-    )?;
-    signed(&rt, alloc, "12345678901234567890.0", None)?;
-    unsigned(&rt, alloc, "1e19", Some(10000000000000000000))?;
-    signed(&rt, alloc, "1e19", None)?;
-    signed(&rt, alloc, "-9223372036854775808.0", Some(i64::MIN))?;
-    unsigned(&rt, alloc, "-0.0", Some(0))?;
-    unsigned(&rt, alloc, "1e1073741824", None)?;
-    short(&rt, alloc, "2.0", Some(2))?;
-    short(&rt, alloc, "2.5", None)
+    for (text, long, short) in SIGNED {
+        signed(&rt, INumber::from_str(alloc, text)?, long, short);
+    }
+    Ok(())
+}
+
+/// Texts, and what each is as a `u64` and as a `u32`.
+const UNSIGNED: [(&str, Option<u64>, Option<u32>); 4] = [
+    ("12345678901234567890.0", Some(12345678901234567890), None),
+    ("1e19", Some(10000000000000000000), None),
+    ("-0.0", Some(0), Some(0)),
+    ("1e1073741824", None, None),
+];
+
+#[test]
+fn unsigned_texts(rt: HostRuntime) -> Result<(), Fail> {
+    let alloc = rt.alloc();
+    for (text, long, short) in UNSIGNED {
+        unsigned(&rt, INumber::from_str(alloc, text)?, long, short);
+    }
+    Ok(())
 }
 
 #[test]
 fn signed_ranges(rt: HostRuntime) {
-    answers(&rt, INumber::from(i64::MIN).to_i64(), Some(i64::MIN));
-    answers(&rt, INumber::from(i64::MAX).to_i64(), Some(i64::MAX));
-    answers(&rt, INumber::from(u64::MAX).to_i64(), None);
-    answers(&rt, INumber::from(i32::MIN).to_i32(), Some(i32::MIN));
-    answers(&rt, INumber::from(i32::MAX).to_i32(), Some(i32::MAX));
-    answers(&rt, INumber::from(2147483648u32).to_i32(), None);
-    answers(&rt, INumber::from(isize::MIN).to_isize(), Some(isize::MIN));
-    answers(&rt, INumber::from(i16::MIN).to_isize(), Some(-32768));
+    signed(&rt, INumber::from(i64::MIN), Some(i64::MIN), None);
+    signed(&rt, INumber::from(i64::MAX), Some(i64::MAX), None);
+    signed(&rt, INumber::from(u64::MAX), None, None);
+    signed(
+        &rt,
+        INumber::from(i32::MIN),
+        Some(-2147483648),
+        Some(i32::MIN),
+    );
+    signed(
+        &rt,
+        INumber::from(i32::MAX),
+        Some(2147483647),
+        Some(i32::MAX),
+    );
+    signed(&rt, INumber::from(2147483648u32), Some(2147483648), None);
+    signed(&rt, INumber::from(isize::MIN), Some(i64::MIN), None);
+    sized(&rt, INumber::from(isize::MIN), Some(isize::MIN));
+    sized(&rt, INumber::from(i16::MIN), Some(-32768));
+    signed(&rt, INumber::from(i16::MIN), Some(-32768), Some(-32768));
 }
 
 #[test]
 fn unsigned_ranges(rt: HostRuntime) {
-    answers(&rt, INumber::from(-1i8).to_u64(), None);
-    answers(&rt, INumber::from(u64::MAX).to_u64(), Some(u64::MAX));
-    answers(&rt, INumber::from(u32::MAX).to_u32(), Some(u32::MAX));
-    answers(&rt, INumber::from(4294967296i64).to_u32(), None);
-    answers(&rt, INumber::from(usize::MAX).to_usize(), Some(usize::MAX));
-    answers(&rt, INumber::from(65535u16).to_u64(), Some(65535));
-    answers(&rt, INumber::from(255u8).to_u32(), Some(255));
-    answers(&rt, INumber::default().to_u64(), INumber::zero().to_u64());
-    answers(&rt, INumber::one().to_u64(), Some(1));
+    unsigned(&rt, INumber::from(-1i8), None, None);
+    unsigned(&rt, INumber::from(u64::MAX), Some(u64::MAX), None);
+    unsigned(
+        &rt,
+        INumber::from(u32::MAX),
+        Some(4294967295),
+        Some(u32::MAX),
+    );
+    unsigned(&rt, INumber::from(4294967296i64), Some(4294967296), None);
+    unsigned(&rt, INumber::from(usize::MAX), Some(u64::MAX), None);
+    assert!(rt; INumber::from(usize::MAX).to_usize() == Some(usize::MAX));
+    unsigned(&rt, INumber::from(65535u16), Some(65535), Some(65535));
+    unsigned(&rt, INumber::from(255u8), Some(255), Some(255));
+    unsigned(&rt, INumber::default(), Some(0), Some(0));
+    unsigned(&rt, INumber::zero(), Some(0), Some(0));
+    unsigned(&rt, INumber::one(), Some(1), Some(1));
 }
 
 /// In strictly ascending order.
@@ -203,27 +260,87 @@ const ASCENDING: [&str; 18] = [
     "1e1073741824",
 ];
 
+fn compares(rt: &impl Abort, a: &INumber, b: &INumber, want: Ordering) {
+    assert!(rt; a.cmp(b) == want);
+    assert!(rt; (a < b) == (want == Ordering::Less));
+    assert!(rt; (a == b) == (want == Ordering::Equal));
+}
+
+fn ordered(rt: &impl Abort, alloc: Global, a: &str, b: &str, want: Ordering) -> Result<(), Fail> {
+    let (a, b) = (INumber::from_str(alloc, a)?, INumber::from_str(alloc, b)?);
+    compares(rt, &a, &b, want);
+    Ok(())
+}
+
 #[test]
 fn order(rt: HostRuntime) -> Result<(), Fail> {
     let alloc = rt.alloc();
-    for (i, a) in ASCENDING.iter().enumerate() {
-        for (j, b) in ASCENDING.iter().enumerate() {
-            let (a, b) = (INumber::from_str(alloc, a)?, INumber::from_str(alloc, b)?);
-            assert!(rt; a.cmp(&b) == i.cmp(&j));
-            assert!(rt; (a < b) == (i < j));
-            assert!(rt; (a == b) == (i == j));
+    for i in 0..ASCENDING.len() {
+        for j in 0..ASCENDING.len() {
+            ordered(&rt, alloc, ASCENDING[i], ASCENDING[j], i.cmp(&j))?;
         }
     }
     Ok(())
 }
 
-fn packed(mantissa: i64, exponent: i8, point: bool) -> Form<'static> {
-    Form::Packed {
-        mantissa,
-        exponent,
-        point,
-    }
-}
+/// Texts that are packed: the mantissa, the exponent, and whether the shape is float.
+const PACKED: [(&str, i64, i8, bool); 9] = [
+    ("0.1", 1, -1, true),
+    (
+        "0.100000000000000000000000000000000000000000000000000",
+        1,
+        -1,
+        true,
+    ),
+    ("36028797018963967", 36028797018963967, 0, false),
+    ("-36028797018963968", -36028797018963968, 0, false),
+    ("1e23", 10000000000000000, 7, true),
+    ("360287970189639670.0", 36028797018963967, 1, true),
+    ("-36028797018963968.0", -36028797018963968, 0, true),
+    ("0.0000001", 1, -7, true),
+    ("-0", 0, 0, false),
+];
+
+/// Texts whose digits are kept: the sign, the digits, the exponent, and whether the shape is float.
+const KEPT: [(&str, bool, &[u8], i32, bool); 7] = [
+    (
+        "36028797018963968.0",
+        false,
+        &[3, 6, 0, 2, 8, 7, 9, 7, 0, 1, 8, 9, 6, 3, 9, 6, 8],
+        0,
+        true,
+    ),
+    (
+        "360287970189639680.0",
+        false,
+        &[3, 6, 0, 2, 8, 7, 9, 7, 0, 1, 8, 9, 6, 3, 9, 6, 8],
+        1,
+        true,
+    ),
+    ("0.00000001", false, &[1], -8, true),
+    ("1e24", false, &[1], 24, true),
+    (
+        "18446744073709551616",
+        false,
+        &[1, 8, 4, 4, 6, 7, 4, 4, 0, 7, 3, 7, 0, 9, 5, 5, 1, 6, 1, 6],
+        0,
+        false,
+    ),
+    (
+        "-9223372036854775809",
+        true,
+        &[9, 2, 2, 3, 3, 7, 2, 0, 3, 6, 8, 5, 4, 7, 7, 5, 8, 0, 9],
+        0,
+        false,
+    ),
+    (
+        "441044444333116.125",
+        false,
+        &[4, 4, 1, 0, 4, 4, 4, 4, 4, 3, 3, 3, 1, 1, 6, 1, 2, 5],
+        -3,
+        true,
+    ),
+];
 
 fn formed(rt: &impl Abort, alloc: Global, text: &str, form: Form<'_>) -> Result<(), Fail> {
     assert!(rt; INumber::from_str(alloc, text)?.form() == form, "{text}");
@@ -231,21 +348,22 @@ fn formed(rt: &impl Abort, alloc: Global, text: &str, form: Form<'_>) -> Result<
 }
 
 #[test]
-fn forms(rt: HostRuntime) -> Result<(), Fail> {
+fn packed_forms(rt: HostRuntime) -> Result<(), Fail> {
     let alloc = rt.alloc();
-    formed(&rt, alloc, "0.1", packed(1, -1, true))?;
-    formed(
-        &rt,
-        alloc,
-        "0.100000000000000000000000000000000000000000000000000",
-        packed(1, -1, true),
-    )?;
-    formed(
-        &rt,
-        alloc,
-        "36028797018963967",
-        packed(36028797018963967, 0, false),
-    )?;
+    for (text, mantissa, exponent, point) in PACKED {
+        let form = Form::Packed {
+            mantissa,
+            exponent,
+            point,
+        };
+        formed(&rt, alloc, text, form)?;
+    }
+    Ok(())
+}
+
+#[test]
+fn word_forms(rt: HostRuntime) -> Result<(), Fail> {
+    let alloc = rt.alloc();
     formed(
         &rt,
         alloc,
@@ -255,69 +373,25 @@ fn forms(rt: HostRuntime) -> Result<(), Fail> {
     formed(
         &rt,
         alloc,
-        "-36028797018963968",
-        packed(-36028797018963968, 0, false),
-    )?;
-    formed(
-        &rt,
-        alloc,
         "9223372036854775808",
         Form::U64(9223372036854775808),
     )?;
-    formed(&rt, alloc, "-9223372036854775808", Form::I64(i64::MIN))?;
-    formed(&rt, alloc, "1e23", packed(10000000000000000, 7, true))?;
-    formed(
-        &rt,
-        alloc,
-        "360287970189639670.0",
-        packed(36028797018963967, 1, true),
-    )?;
-    formed(
-        &rt,
-        alloc,
-        "-36028797018963968.0",
-        packed(-36028797018963968, 0, true),
-    )?;
-    formed(&rt, alloc, "0.0000001", packed(1, -7, true))?;
-    formed(&rt, alloc, "-0", packed(0, 0, false))
+    formed(&rt, alloc, "-9223372036854775808", Form::I64(i64::MIN))
 }
 
-fn kept(
-    rt: &impl Abort,
-    alloc: Global,
-    text: &str,
-    negative: bool,
-    digits: &[u8],
-    exponent: i32,
-    point: bool,
-) -> Result<(), Fail> {
-    formed(
-        rt,
-        alloc,
-        text,
-        Form::Digits {
+#[test]
+fn digit_forms(rt: HostRuntime) -> Result<(), Fail> {
+    let alloc = rt.alloc();
+    for (text, negative, digits, exponent, point) in KEPT {
+        let form = Form::Digits {
             negative,
             digits,
             exponent,
             point,
-        },
-    )
-}
-
-#[test]
-fn forms_of_digits(rt: HostRuntime) -> Result<(), Fail> {
-    let alloc = rt.alloc();
-    let end = [3, 6, 0, 2, 8, 7, 9, 7, 0, 1, 8, 9, 6, 3, 9, 6, 8];
-    kept(&rt, alloc, "36028797018963968.0", false, &end, 0, true)?;
-    kept(&rt, alloc, "360287970189639680.0", false, &end, 1, true)?;
-    kept(&rt, alloc, "0.00000001", false, &[1], -8, true)?;
-    kept(&rt, alloc, "1e24", false, &[1], 24, true)?;
-    let word = [1, 8, 4, 4, 6, 7, 4, 4, 0, 7, 3, 7, 0, 9, 5, 5, 1, 6, 1, 6];
-    kept(&rt, alloc, "18446744073709551616", false, &word, 0, false)?;
-    let past = [9, 2, 2, 3, 3, 7, 2, 0, 3, 6, 8, 5, 4, 7, 7, 5, 8, 0, 9];
-    kept(&rt, alloc, "-9223372036854775809", true, &past, 0, false)?;
-    let eighth = [4, 4, 1, 0, 4, 4, 4, 4, 4, 3, 3, 3, 1, 1, 6, 1, 2, 5];
-    kept(&rt, alloc, "441044444333116.125", false, &eighth, -3, true)
+        };
+        formed(&rt, alloc, text, form)?;
+    }
+    Ok(())
 }
 
 /// A hasher that notes the words that it is fed. What a cell holds is no part of a value, so for a contract it stays as
@@ -365,23 +439,20 @@ fn fed(rt: &impl Abort, alloc: Global, text: &str, want: &[u64]) -> Result<(), F
     Ok(())
 }
 
+/// Texts, and the words that each feeds a hasher.
+const FED: [(&str, &[u64]); 5] = [
+    ("2", &[2, 1, 2147483648, 1, 2]),
+    ("2.0", &[2, 1, 2147483648, 1, 2]),
+    ("100", &[2, 1, 2147483650, 1, 1]),
+    ("-0.5", &[2, 2, 2147483647, 1, 5]),
+    ("-0.0", &[2, 0]),
+];
+
 #[test]
 fn words(rt: HostRuntime) -> Result<(), Fail> {
     let alloc = rt.alloc();
-    fed(&rt, alloc, "2", &[2, 1, 2147483648, 1, 2])?;
-    fed(&rt, alloc, "2.0", &[2, 1, 2147483648, 1, 2])?;
-    fed(&rt, alloc, "100", &[2, 1, 2147483650, 1, 1])?;
-    fed(&rt, alloc, "-0.5", &[2, 2, 2147483647, 1, 5])?;
-    fed(&rt, alloc, "-0.0", &[2, 0])
-}
-
-#[test]
-fn copies(rt: HostRuntime) -> Result<(), Fail> {
-    let alloc = rt.alloc();
-    let long = INumber::from_str(alloc, "-1234567890123456789012345.5")?;
-    let copy = long.clone()?;
-    assert!(rt; copy == long);
-    let text = format!(in alloc; "{copy:?}")?;
-    assert_eq!(rt; text.as_str(), "-1234567890123456789012345.5");
+    for (text, want) in FED {
+        fed(&rt, alloc, text, want)?;
+    }
     Ok(())
 }

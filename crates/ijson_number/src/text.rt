@@ -1,12 +1,16 @@
 //! Writes a number's text.
-ghost use Rattle.std.specs.Prelude.{Some, ◌<◌, ◌+◌, ◌≡◌, ◌≢◌, ◌^◌, pos, neg_ℤ, ◌<ℤ◌, ◌≤ℤ◌, FitsSigned, int_le, int_lt, negsuc, ◌+ℤ◌, ◌||◌, length};
+ghost use Rattle.std.specs.Prelude.{Some, ◌<◌, ◌≤◌, ◌+◌, ◌≡◌, ◌≢◌, ◌^◌, pos, neg_ℤ, ◌<ℤ◌, ◌≤ℤ◌, FitsSigned, int_le, int_lt, negsuc, ◌+ℤ◌, ◌||◌, length};
 ghost use Rattle.std.specs.List.{All};
 ghost use mir.Syntax.{w128};
 ghost use Rattle.ijson_number.specs.Text.{digits_text, num_text, point_text, scientific_text, shape_text, zeros_text};
 
 use crate::digits::place_of;
 use crate::number::INumber;
+use arrayvec::ArrayString;
 use std::fmt;
+
+/// How many digits are written at once.
+const RUN: usize = 20;
 
 /// So many zeros.
 #[derive(Drop)]
@@ -17,10 +21,23 @@ impl fmt::Display for Zeros {
 
     fn fmt<W: fmt::Write>(&self, f: &mut fmt::Formatter<W>) -> fmt::Result {
         for _i in 0..self.0 {
-            write!(f, "0")?;
+            f.write_str("0")?;
         }
         Ok(())
     }
+}
+
+/// The text of a run of digits.
+fn run_text(digits: &[u8]) -> ArrayString<RUN>
+    requires below_ten { All (λ d. d < 10) digits.now }
+    requires short { length digits.now ≤ 20 }
+    ensures { result.bytes ≡ digits_text digits.now }
+{
+    let mut text = ArrayString::new();
+    for digit in digits {
+        text.push((b'0' + *digit) as char);
+    }
+    text
 }
 
 /// Digits from 0 to 9.
@@ -34,10 +51,12 @@ impl fmt::Display for DigitsText<'_> {
     ghost output = { λ t. Some (digits_text t.digits.now) };
 
     fn fmt<W: fmt::Write>(&self, f: &mut fmt::Formatter<W>) -> fmt::Result {
-        for digit in self.digits {
-            write!(f, "{}", (b'0' + *digit) as char)?;
+        let runs = self.digits.len() / RUN;
+        for run in 0..runs {
+            let digits = &self.digits[run * RUN..run * RUN + RUN];
+            f.write_str(run_text(digits).as_str())?;
         }
-        Ok(())
+        f.write_str(run_text(&self.digits[runs * RUN..]).as_str())
     }
 }
 
