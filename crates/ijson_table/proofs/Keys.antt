@@ -1,7 +1,8 @@
 -- Positions of keys, and what changes of the list of pairs keep.
 use Rattle.std.proofs.Common.{◌≡◌, ◌≢◌, ℕ, zero, suc, ◌+◌, ◌-◌, ◌<◌, ◌⊎◌, inl, inr, arith, List, [], ◌∷◌, ◌++◌, length, get_or, set, take, Option, Some, None, cond, true, false, refl, sym, ap, subst, ◌∙◌, length-append, get_or-set_other, get_or-set_same, length-take}
-use Rattle.std.specs.Prelude.{bytes_eq, swap_remove, option_map}
+use Rattle.std.specs.Prelude.{bytes_eq, swap_remove, option_map, slice_get}
 use Rattle.std.specs.Cmp.Lexicographic.{bytes_decides}
+use Rattle.std.proofs.lemmas.Option.{get_or_from_slice_get}
 use Rattle.std.proofs.lemmas.List.{length-set, length-map, get_or-map, take-set-le, take-map, map-set, map-append}
 use Rattle.ijson_table.specs.Store.{keys_of, position_of, at, lookup, put, swap_out, with_value, keys-with_value, IsDistinct}
 use Rattle.ijson_table.proofs.Cases.{below_or_not, same_or_not}
@@ -109,6 +110,10 @@ apart_pushed keys key are_apart missing i j li lj e =
 module _ {V : Type 0} where
   pub keys-length : (pairs : List (List ℕ × V)) → length (keys_of pairs) ≡ length pairs
   keys-length pairs = length-map pairs (λ pair. pair.0)
+
+  -- the position of a key is below the length
+  pub position_within : (pairs : List (List ℕ × V)) (key : List ℕ) (i : ℕ) → at pairs key ≡ Some i → i < length pairs
+  position_within pairs key i e = let found = position-some (keys_of pairs) key i e in omega (arith, found.0, keys-length pairs)
 
   -- the key of a pair that was read
   pub key_at : (pairs : List (List ℕ × V)) (i : ℕ) (pair : List ℕ × V) → i < length pairs → get_or (keys_of pairs) i [] ≡ (get_or pairs i pair).0
@@ -232,6 +237,10 @@ module _ {V : Type 0} where
         let same : rest.0 ≡ i = omega (arith, rest.2) in
         lookup-other p ps key d.1 ∙ lookup-position ps key i pair (subst (λ n. at ps key ≡ Some n) same rest.1) (omega arith) is
   ]
+
+  -- the same, of a pair that was told
+  pub lookup-found : (pairs : List (List ℕ × V)) (key : List ℕ) (i : ℕ) (pair : List ℕ × V) → at pairs key ≡ Some i → slice_get pairs i ≡ Some pair → lookup key pairs ≡ Some pair.1
+  lookup-found pairs key i pair e is = lookup-position pairs key i pair e (position_within pairs key i e) (sym (get_or_from_slice_get pairs i pair pair is))
 
   pub lookup-absent : (pairs : List (List ℕ × V)) (key : List ℕ) → at pairs key ≡ None → lookup key pairs ≡ None
   lookup-absent [] key e = refl

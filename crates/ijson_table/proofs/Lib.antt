@@ -15,4 +15,5 @@ mod Gaps
 mod Looked
 mod Placing
 mod Removing
+mod Seeking
 mod Tables

@@ -1,15 +1,16 @@
 -- The invariant of a store with a table.
-use Rattle.std.proofs.Common.{◌≡◌, ℕ, ◌+◌, ◌<◌, ◌≤◌, arith, List, [], ◌∷◌, ◌++◌, length, take, drop, get_or, set, Option, None, refl, sym, ap, subst, ◌∙◌, length-append}
+use Rattle.std.proofs.Common.{◌≡◌, ℕ, ◌+◌, ◌<◌, ◌≤◌, arith, List, [], ◌∷◌, ◌++◌, length, take, drop, get_or, set, Option, Some, None, refl, sym, ap, subst, ◌∙◌, length-append}
+use Rattle.std.proofs.lemmas.Bool.Decides.{nat_tests}
 use Rattle.std.proofs.lemmas.List.{length-set, map-append}
 use Rattle.ijson_table.specs.Crowd.{place_count}
 use Rattle.ijson_table.specs.Store.{keys_of, swap_out, keys-with_value}
-use Rattle.ijson_table.specs.Moving.{Holding}
-use Rattle.ijson_table.specs.Places.{resident, IsTable}
+use Rattle.ijson_table.specs.Moving.{Holding, HasEmpty, Ordered, below, one_if}
+use Rattle.ijson_table.specs.Places.{resident, times, IsTable}
 use Rattle.ijson_table.specs.declared.place.Place.{Place}
 use Rattle.std.specs.List.{All}
 use Rattle.ijson_table.specs.Told.{position_in, positions, AreTold}
 use Rattle.ijson_table.proofs.Told.{positions-length, all_empty, told-as}
-use Rattle.ijson_table.proofs.Placing.{held_below}
+use Rattle.ijson_table.proofs.Placing.{held_below, some_empty}
 use Rattle.ijson_table.specs.Growth.{capacity_limit}
 use Rattle.ijson_table.specs.Placed.{IsPlaced}
 use Rattle.ijson_table.proofs.Keys.{set-value, length-swap_out, keys-length, get_or-front}
@@ -30,6 +31,11 @@ sizes places new same = positions-length new ∙ (same ∙ sym (positions-length
 -- places that were lent as a whole and tell of these keys
 pub told_whole : (hash : List ℕ → ℕ) (keys keys' : List (List ℕ)) (k : ℕ) (places new : List Place) → AreTold hash keys new → keys' ≡ keys → length new ≡ length places → k ≡ length places → AreTold hash keys' (take k (new ++ drop (length new) places))
 told_whole hash keys keys' k places new told is same size = subst (AreTold hash keys') (sym (whole k new places same size)) (subst (λ ks. AreTold hash ks new) (sym is) told)
+
+-- one position more was put down
+pub held_more : (hash : List ℕ → ℕ) (keys : List (List ℕ)) (count : ℕ) (places places' : List (Option ℕ)) → Holding hash keys count None places → Ordered hash keys places' → ((i : ℕ) → times i places' ≡ times i places + one_if i (Some count))
+    → Holding hash keys (count + 1) None places'
+held_more hash keys count places places' held ordered placed = record { ordered = ordered; placed = λ i. grind (arith, nat_tests, held.placed i, placed i) }
 
 module _ {V : Type 0} (hash : List ℕ → ℕ) where
   pub placed_none : (pairs : List (List ℕ × V)) (capacity : ℕ) (places : List (Option ℕ)) → pairs ≡ [] → capacity ≤ capacity_limit → ((p : ℕ) → p < length places → resident places p ≡ None) → length places ≡ place_count capacity → IsPlaced hash pairs capacity places
@@ -74,6 +80,14 @@ module _ {V : Type 0} (hash : List ℕ → ℕ) where
 
   pub told_lent : (pairs : List (List ℕ × V)) (i : ℕ) (pair : List ℕ × V) (value : V) (places : List Place) → i < length pairs → pair ≡ get_or pairs i pair → AreTold hash (keys_of pairs) places → AreTold hash (keys_of (set pairs i (pair.0, value))) places
   told_lent pairs i pair value places li e told = subst (λ ks. AreTold hash ks places) (sym (keys-set pairs i pair value li e)) told
+
+  -- where there is room for a pair more, some place is empty
+  pub room_empty : (pairs : List (List ℕ × V)) (capacity : ℕ) (places : List (Option ℕ)) → IsPlaced hash pairs capacity places → length pairs < capacity → HasEmpty places
+  room_empty pairs capacity places f fits =
+      let size = keys-length pairs in
+      let few : (i : ℕ) → times i places ≤ below (length pairs + 1) i = λ i. grind (arith, nat_tests, f.table.placed i, size) in
+      let none : times (length pairs) places ≡ 0 = grind (arith, nat_tests, f.table.placed (length pairs), size) in
+      some_empty places (length pairs + 1) (length pairs) few (omega arith) none (omega (arith, f.size, fits))
 
   pub ready_at : (pairs : List (List ℕ × V)) (capacity : ℕ) (key : List ℕ) (value : V) (places : List Place) (ps : List (List ℕ × V)) (n : ℕ) (qs : List Place) → IsPlaced hash pairs capacity (positions places)
       → ps ≡ pairs ++ (key, value) ∷ [] → n ≡ length pairs → qs ≡ places → Holding hash (keys_of ps) n None (positions qs)

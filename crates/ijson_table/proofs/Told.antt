@@ -4,7 +4,6 @@ use Rattle.std.specs.List.{All, slice_index_or}
 use Rattle.std.proofs.lemmas.List.{get_or-map, length-map, length-set, map-set}
 use Rattle.std.proofs.lemmas.List.Elements.{All-get_or, All-from_get_or, All-set}
 use Rattle.ijson_table.specs.declared.place.Place.{Place}
-use Rattle.ijson_table.specs.Mark.{mark_of}
 use Rattle.ijson_table.specs.Crowd.{distance}
 use Rattle.ijson_table.specs.Places.{home_at, reach, resident}
 use Rattle.ijson_table.proofs.Cases.{same_or_not}
@@ -13,7 +12,7 @@ use Rattle.ijson_table.specs.Told.{position_in, positions, Tells, AreTold}
 
 -- what stands past the end
 abbrev pub blank : Place
-blank = record { code = 0; hash = 0; mark = 0 }
+blank = record { code = 0; hash = 0 }
 
 pub positions-length : (places : List Place) → length (positions places) ≡ length places
 positions-length places = length-map places position_in
@@ -31,23 +30,15 @@ position-at places p told lp is = get_or-map position_in places p blank None lp 
 
 -- where nothing stands, there is nothing to tell
 pub tells_nothing : (hash : List ℕ → ℕ) (keys : List (List ℕ)) (place : Place) → position_in place ≡ None → Tells hash keys place
-tells_nothing hash keys place none = record {
-  hashed = λ i e. let bad : ◌≡◌ {A = Option ℕ} (Some i) None = sym e ∙ none in cc;
-  marked = λ i e. let bad : ◌≡◌ {A = Option ℕ} (Some i) None = sym e ∙ none in cc;
-}
+tells_nothing hash keys place none i e = let bad : ◌≡◌ {A = Option ℕ} (Some i) None = sym e ∙ none in cc
 
 -- the same, of a key that stands elsewhere now
-pub tells_moved : (hash : List ℕ → ℕ) (keys keys' : List (List ℕ)) (place place' : Place) (i j : ℕ) → Tells hash keys place → position_in place ≡ Some j → position_in place' ≡ Some i
-    → place'.hash ≡ place.hash → place'.mark ≡ place.mark → get_or keys' i [] ≡ get_or keys j [] → Tells hash keys' place'
-tells_moved hash keys keys' place place' i j told was now hashes marks same =
-    let key : (k : ℕ) → position_in place' ≡ Some k → get_or keys j [] ≡ get_or keys' k [] = λ k e.
+pub tells_moved : (hash : List ℕ → ℕ) (keys keys' : List (List ℕ)) (place place' : Place) (i j : ℕ) → Tells hash keys place → position_in place ≡ Some j → position_in place' ≡ Some i → place'.hash ≡ place.hash
+    → get_or keys' i [] ≡ get_or keys j [] → Tells hash keys' place'
+tells_moved hash keys keys' place place' i j told was now hashes same k e =
     let at : ◌≡◌ {A = Option ℕ} (Some i) (Some k) = sym now ∙ e in
     let is : i ≡ k = cc in
-    sym same ∙ ap (λ n. get_or keys' n []) is in
-    record {
-      hashed = λ k e. hashes ∙ (told.hashed j was ∙ ap hash (key k e));
-      marked = λ k e. marks ∙ (told.marked j was ∙ ap mark_of (key k e));
-    }
+    hashes ∙ (told j was ∙ ap hash (sym same ∙ ap (λ n. get_or keys' n []) is))
 
 module _ (hash : List ℕ → ℕ) (keys : List (List ℕ)) where
   pub told-at : (places : List Place) (p : ℕ) → AreTold hash keys places → p < length places → Tells hash keys (get_or places p blank)
@@ -59,7 +50,7 @@ module _ (hash : List ℕ → ℕ) (keys : List (List ℕ)) where
   -- the stored hash gives the home
   pub told-home : (n i : ℕ) (place : Place) → Tells hash keys place → position_in place ≡ Some i → place.hash % n ≡ home_at hash n keys i
   unfolding home_at
-  told-home n i place told at = ap (λ h. h % n) (told.hashed i at)
+  told-home n i place told at = ap (λ h. h % n) (told i at)
 
   -- how far a place is from the home of who stands there, by the stored hash
   pub told-distance : (places : List Place) (p i d n : ℕ) → AreTold hash keys places → p < length places → Some i ≡ position_in (get_or places p blank) → n ≡ length places
@@ -79,10 +70,7 @@ module _ (hash : List ℕ → ℕ) (keys : List (List ℕ)) where
 
   -- the same, of other keys that are the same there
   tells_as : (keys' : List (List ℕ)) (place : Place) → Tells hash keys place → ((i : ℕ) → position_in place ≡ Some i → get_or keys' i [] ≡ get_or keys i []) → Tells hash keys' place
-  tells_as keys' place tells same = record {
-    hashed = λ i e. tells.hashed i e ∙ ap hash (sym (same i e));
-    marked = λ i e. tells.marked i e ∙ ap mark_of (sym (same i e));
-  }
+  tells_as keys' place tells same i e = tells i e ∙ ap hash (sym (same i e))
 
   -- other keys, where no place refers to them
   pub told-as : (keys' : List (List ℕ)) (places : List Place) → AreTold hash keys places → ((p i : ℕ) → p < length (positions places) → resident (positions places) p ≡ Some i → get_or keys' i [] ≡ get_or keys i []) → AreTold hash keys' places

@@ -3,9 +3,9 @@ pub mod Growth
 pub mod Steps
 pub mod Fold
 pub mod PlaceCode
-pub mod Mark
 pub mod Told
 pub mod Crowd
+pub mod Ends
 pub mod Places
 pub mod Placed
 pub mod Moving

@@ -2,7 +2,7 @@
 
 ghost use Rattle.std.specs.Prelude.{◌≡◌, ◌≢◌, ℕ, ◌+◌, ◌<◌, ◌≤◌, ◌^◌, ◌↔◌, List, [], ◌∷◌, ◌++◌, length, slice_get, Some, None, Ok, Err, IfOk, IsOk, refl};
 ghost use Rattle.std.specs.Option.{option_copied};
-ghost use Rattle.ijson_table.specs.Store.{keys_of, lookup};
+ghost use Rattle.ijson_table.specs.Store.{keys_of, lookup, put};
 ghost use Rattle.ijson_table.specs.Growth.{capacity_limit};
 ghost use Rattle.ijson_table.specs.Placed.{placed_with_value};
 ghost use Rattle.ijson_table.specs.Fold.{fold_words};
@@ -41,6 +41,17 @@ impl<V: Drop> FixedTable<V> {
     {
         let table = Table::with_capacity(alloc, capacity)?;
         Ok(FixedTable { table })
+    }
+
+    /// Puts a pair, in the room that there is. A key that is there keeps its place, and its old value is answered; a new
+    /// key goes last.
+    pub fn put(&mut self, key: IString, value: V) -> Option<V>
+        requires within { length self.old.store.pairs < self.old.store.capacity }
+        ensures pairs { self.new.store.pairs ≡ put self.old.store.pairs key value }
+        ensures answer { result ≡ lookup key self.old.store.pairs }
+        ensures room { self.new.store.capacity ≡ self.old.store.capacity }
+    {
+        self.table.put(key, value)
     }
 }
 

@@ -6,7 +6,6 @@ pub mod fixed;
 mod growth;
 pub mod hash;
 pub mod linear;
-mod mark;
 mod moving;
 mod place;
 pub mod places;

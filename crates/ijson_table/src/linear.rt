@@ -2,7 +2,7 @@
 
 ghost use Rattle.std.specs.Prelude.{◌≡◌, ◌≢◌, ℕ, ◌+◌, ◌<◌, ◌≤◌, ◌^◌, List, [], ◌∷◌, ◌++◌, length, slice_get, Some, None, Ok, Err, refl, set, map, vec_len, vec_capacity, IfOk, IsOk, ◌↔◌};
 ghost use Rattle.std.specs.Option.{option_copied};
-ghost use Rattle.ijson_table.specs.Store.{at, keys_of, swap_out, IsDistinct, IsDistinct-prop, lookup, store_with_value};
+ghost use Rattle.ijson_table.specs.Store.{at, keys_of, swap_out, IsDistinct, IsDistinct-prop, lookup, put, store_with_value};
 ghost use Rattle.ijson_table.specs.Growth.{Grow, Shrink, wanted, capacity_limit};
 
 use crate::growth::{fit, grown_capacity, limited, list_with_room};
@@ -10,6 +10,7 @@ use crate::store::{PairStore, ReserveError};
 use ijson_string::IString;
 use std::alloc::Global;
 use std::marker::Model;
+use std::mem;
 
 /// Pairs in a list, searched from the front.
 #[derive(Debug, Drop)]
@@ -73,6 +74,25 @@ impl<V> LinearPairs<V> {
         match find(&self.pairs, key) {
             Some(index) => Some(&self.pairs[index].1),
             None => None,
+        }
+    }
+}
+
+impl<V: Drop> LinearPairs<V> {
+    /// Puts a pair, in the room that there is. A key that is there keeps its place, and its old value is answered; a new
+    /// key goes last.
+    pub fn put(&mut self, key: IString, value: V) -> Option<V>
+        requires within { length self.old.pairs < self.old.capacity }
+        ensures pairs { self.new.pairs ≡ put self.old.pairs key value }
+        ensures answer { result ≡ lookup key self.old.pairs }
+        ensures room { self.new.capacity ≡ self.old.capacity }
+    {
+        match self.position(key.as_str()) {
+            Some(at) => Some(mem::replace(self.value_mut(at), value)),
+            None => {
+                self.push_new(key, value);
+                None
+            }
         }
     }
 }

@@ -1,7 +1,8 @@
 //! The procedures of a table, over its list of pairs and its places.
 
 ghost use Rattle.std.specs.Prelude.{◌≡◌, ◌≢◌, ℕ, ◌+◌, ◌-◌, ◌<◌, ◌≤◌, ◌^◌, List, length, Option, Some, None, IfOk, OnErr, vec_capacity, ◌/◌};
-ghost use Rattle.ijson_table.specs.Store.{keys_of, swap_out};
+ghost use Rattle.ijson_table.specs.Ends.{Ends};
+ghost use Rattle.ijson_table.specs.Store.{keys_of, swap_out, IsDistinct};
 ghost use Rattle.ijson_table.specs.Crowd.{home_of, distance, place_count};
 ghost use Rattle.ijson_table.specs.Growth.{capacity_limit};
 ghost use Rattle.ijson_table.specs.Places.{home_at, resident, times, IsTable};
@@ -11,8 +12,7 @@ ghost use Rattle.ijson_table.specs.Told.{position_in, positions, AreTold, Tells}
 
 use crate::growth::list_with_room;
 use crate::hash::KeyHash;
-use crate::mark::mark;
-use crate::place::Place;
+use crate::place::{Place, home_of_hash};
 use crate::places::next_place;
 use ijson_string::IString;
 use std::alloc::{AllocError, Global};
@@ -23,7 +23,49 @@ pub(crate) fn home<H: KeyHash>(places: usize, key: &str) -> usize
     ensures value { result ≡ home_of H.hash_of places key.now }
     ensures within { result < places }
 {
-    (H::hash(key) % places as u64) as usize
+    home_of_hash(places, H::hash(key))
+}
+
+/// How a look-up for a key ends.
+#[derive(Clone, Copy, Debug, Drop)]
+pub(crate) enum Sought {
+    /// The key is there, at this position of the list.
+    At(usize),
+    /// It is not there, and this is the place where it would stand.
+    End(usize),
+    /// It is not there, and no place is empty.
+    Nowhere,
+}
+
+/// Looks for a key of this hash.
+pub(crate) fn seek<V, H: KeyHash>(
+    pairs: &[(IString, V)],
+    places: &[Place],
+    hash: u64,
+    key: &str,
+) -> Sought
+    requires distinct { IsDistinct (keys_of pairs.now) }
+    requires table { IsTable H.hash_of (keys_of pairs.now) (positions places.now) }
+    requires told { AreTold H.hash_of (keys_of pairs.now) places.now }
+    requires hashed { hash ≡ H.hash_of key.now }
+    requires some { 0 < length places.now }
+    ensures { Ends H.hash_of (keys_of pairs.now) (positions places.now) key.now result }
+{
+    let mut place = home_of_hash(places.len(), hash);
+    for passed in 0..places.len() {
+        let there = places[place];
+        let Some(at) = there.position() else {
+            return Sought::End(place);
+        };
+        if there.has_hash(hash) && pairs[at].0.eq_str(key) {
+            return Sought::At(at);
+        }
+        if there.distance(places.len(), place) < passed {
+            return Sought::End(place);
+        }
+        place = next_place(places.len(), place);
+    }
+    Sought::Nowhere
 }
 
 /// Where a look-up for a key that is not in the table ends. `hand` is what is to stand there.
@@ -41,7 +83,7 @@ fn walk_end<V, H: KeyHash>(
     ensures within { result < length places.now }
     ensures may { MayStand H.hash_of (keys_of _pairs.now) (positions places.now) _position result }
 {
-    let mut place = hand.home(places.len());
+    let mut place = home_of_hash(places.len(), hand.hash());
     for passed in 0..places.len() {
         let there = places[place];
         let Some(_resident) = there.position() else {
@@ -56,7 +98,7 @@ fn walk_end<V, H: KeyHash>(
 }
 
 /// Puts down at a place what is in hand. The residents from there on shift by one, up to the next empty place.
-fn settle<V, H: KeyHash>(
+pub(crate) fn settle<V, H: KeyHash>(
     _pairs: &[(IString, V)],
     places: &mut [Place],
     from: usize,
@@ -113,7 +155,7 @@ pub(crate) fn put_in<V, H: KeyHash>(pairs: &[(IString, V)], places: &mut [Place]
     ensures told { AreTold H.hash_of (keys_of pairs.now) places.new }
 {
     let key = pairs[position].0.as_str();
-    let hand = Place::of(position, H::hash(key), mark(key));
+    let hand = Place::of(position, H::hash(key));
     put::<V, H>(pairs, places, hand, position);
 }
 

@@ -2,17 +2,15 @@
 
 ghost use Rattle.std.specs.Prelude.{◌≡◌, ◌+◌, ◌<◌, ◌%◌, ◌^◌, Some, None, IsTrue, ◌↔◌};
 ghost use Rattle.ijson_table.specs.Crowd.{distance};
-ghost use Rattle.ijson_table.specs.Mark.{mark_of};
 ghost use Rattle.ijson_table.specs.Told.{position_in};
 
-/// Nothing, or the position of a pair, beside what walks ask of its key: the hash, which tells how far the place is from
-/// its home, and the mark, by which most other keys are told from it. So a walk rarely goes to the memory of a key.
+/// Nothing, or the position of a pair beside the hash of its key, which tells how far the place is from the key's home, and
+/// most other keys from it. So a walk rarely goes to the memory of a key.
 #[derive(Clone, Copy, Debug, Drop)]
 pub(crate) struct Place {
     /// 0 for nothing, or the position plus one.
     code: usize,
     hash: u64,
-    mark: u64,
 }
 
 impl Place {
@@ -20,24 +18,18 @@ impl Place {
     pub(crate) fn empty() -> Place
         ensures { position_in result ≡ None }
     {
-        Place {
-            code: 0,
-            hash: 0,
-            mark: 0,
-        }
+        Place { code: 0, hash: 0 }
     }
 
-    /// The place where this position stands, whose key has this hash and this mark.
-    pub(crate) fn of(position: usize, hash: u64, mark: u64) -> Place
+    /// The place where this position stands, whose key has this hash.
+    pub(crate) fn of(position: usize, hash: u64) -> Place
         requires { position + 1 < 2 ^ 64 }
         ensures position { position_in result ≡ Some position }
         ensures hash { result.hash ≡ hash }
-        ensures mark { result.mark ≡ mark }
     {
         Place {
             code: position + 1,
             hash,
-            mark,
         }
     }
 
@@ -46,9 +38,15 @@ impl Place {
         requires { position + 1 < 2 ^ 64 }
         ensures position { position_in result ≡ Some position }
         ensures hash { result.hash ≡ self.hash }
-        ensures mark { result.mark ≡ self.mark }
     {
-        Place::of(position, self.hash, self.mark)
+        Place::of(position, self.hash)
+    }
+
+    /// The hash of the key there.
+    pub(crate) fn hash(self) -> u64
+        ensures { result ≡ self.hash }
+    {
+        self.hash
     }
 
     /// The position that stands there, or none.
@@ -62,21 +60,12 @@ impl Place {
         }
     }
 
-    /// The home of what stands there, among so many places.
-    pub(crate) fn home(self, places: usize) -> usize
-        requires { 0 < places }
-        ensures value { result ≡ self.hash % places }
-        ensures within { result < places }
-    {
-        (self.hash % places as u64) as usize
-    }
-
     /// How far this place is from the home of what stands there.
     pub(crate) fn distance(self, places: usize, place: usize) -> usize
         requires { place < places }
         ensures { result ≡ distance places (self.hash % places) place }
     {
-        let home = self.home(places);
+        let home = home_of_hash(places, self.hash);
         if home <= place {
             place - home
         } else {
@@ -84,10 +73,19 @@ impl Place {
         }
     }
 
-    /// Whether this is the mark of the key there. Any other key than one of this mark is another one.
-    pub(crate) fn has_mark(self, mark: u64) -> bool
-        ensures { IsTrue result ↔ (self.mark ≡ mark) }
+    /// Whether the key there has this hash.
+    pub(crate) fn has_hash(self, hash: u64) -> bool
+        ensures { IsTrue result ↔ (self.hash ≡ hash) }
     {
-        self.mark == mark
+        self.hash == hash
     }
+}
+
+/// The home of a key of this hash, among so many places.
+pub(crate) fn home_of_hash(places: usize, hash: u64) -> usize
+    requires { 0 < places }
+    ensures value { result ≡ hash % places }
+    ensures within { result < places }
+{
+    (hash % places as u64) as usize
 }

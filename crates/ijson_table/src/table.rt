@@ -1,7 +1,7 @@
 //! A pair store whose keys are found by their hash.
 
 ghost use Rattle.std.specs.Prelude.{◌≡◌, ◌≢◌, ℕ, ◌+◌, ◌<◌, ◌≤◌, ◌^◌, ◌/◌, List, [], ◌∷◌, ◌++◌, length, slice_get, Some, None, Ok, Err, refl, set, map, vec_len, vec_capacity, IfOk, IsOk, ◌↔◌};
-ghost use Rattle.ijson_table.specs.Store.{at, keys_of, swap_out, IsDistinct, IsDistinct-prop, lookup};
+ghost use Rattle.ijson_table.specs.Store.{at, keys_of, put, swap_out, IsDistinct, IsDistinct-prop, lookup};
 ghost use Rattle.ijson_table.specs.Crowd.{home_of, place_count};
 ghost use Rattle.ijson_table.specs.Places.{IsTable};
 ghost use Rattle.ijson_table.specs.Sees.{Sees};
@@ -11,9 +11,9 @@ ghost use Rattle.std.specs.Option.{option_copied};
 
 use crate::growth::{fit, grown_capacity, limited, list_with_room};
 use crate::hash::KeyHash;
-use crate::mark::mark;
 use crate::moving::{
-    clear_places, empty_places, home, place_again, places_again, put_in, take_out,
+    Sought, clear_places, empty_places, home, place_again, places_again, put_in, seek, settle,
+    take_out,
 };
 use crate::place::Place;
 use crate::places::{Places, Seen, locate};
@@ -22,6 +22,7 @@ use ijson_number::Looks;
 use ijson_string::IString;
 use std::alloc::Global;
 use std::marker::{Model, PhantomData};
+use std::mem;
 
 /// Pairs in a list, and their positions in places by the hash of their keys.
 #[derive(Debug, Drop)]
@@ -67,6 +68,29 @@ impl<V: Drop, H: KeyHash> Table<V, H> {
             hash: PhantomData,
         })
     }
+
+    /// Puts a pair, in the room that there is. A key that is there keeps its place, and its old value is answered; a new
+    /// key goes last. It walks the places once.
+    pub fn put(&mut self, key: IString, value: V) -> Option<V>
+        requires within { length self.old.store.pairs < self.old.store.capacity }
+        ensures pairs { self.new.store.pairs ≡ put self.old.store.pairs key value }
+        ensures answer { result ≡ lookup key self.old.store.pairs }
+        ensures room { self.new.store.capacity ≡ self.old.store.capacity }
+    {
+        let text = key.as_str();
+        let position = self.pairs.len();
+        let hash = H::hash(text);
+        match seek::<V, H>(&self.pairs, &self.places, hash, text) {
+            Sought::At(at) => Some(mem::replace(self.value_mut(at), value)),
+            Sought::End(place) => {
+                self.pairs.push_reserved((key, value));
+                let hand = Place::of(position, hash);
+                settle::<V, H>(&self.pairs, &mut self.places, place, hand, position);
+                None
+            }
+            Sought::Nowhere => unreachable!(),
+        }
+    }
 }
 
 impl<V, H: KeyHash> Table<V, H> {
@@ -81,11 +105,13 @@ impl<V, H: KeyHash> Table<V, H> {
     pub fn get(&self, key: &str) -> Option<&V>
         ensures { option_copied result ≡ lookup key.now self.now.store.pairs }
     {
-        let _capacity = self.capacity;
-        let mut looks = Looks::new();
-        match locate(self, key, &mut looks) {
-            Some(index) => Some(&self.pairs[index].1),
-            None => None,
+        if self.places.is_empty() {
+            return None;
+        }
+        match seek::<V, H>(&self.pairs, &self.places, H::hash(key), key) {
+            Sought::At(at) => Some(&self.pairs[at].1),
+            Sought::End(_) => None,
+            Sought::Nowhere => None,
         }
     }
 }
@@ -117,7 +143,7 @@ impl<V, H: KeyHash> Places for Table<V, H> {
             Some(at) => Seen::Resident {
                 at,
                 distance: there.distance(self.places.len(), place),
-                same: there.has_mark(mark(key)) && self.pairs[at].0.eq_str(key),
+                same: self.pairs[at].0.eq_str(key),
             },
         }
     }

@@ -1,3 +1,2 @@
 pub mod DepthLemmas
-mod Inserts
 mod SameSteps

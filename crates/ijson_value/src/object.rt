@@ -18,7 +18,7 @@ use ijson_table::{FixedTable, PairStore, ReserveError};
 use std::alloc::Global;
 use std::iter::FusedIterator;
 use std::marker::Model;
-use std::{mem, slice};
+use std::slice;
 
 /// Pairs of a key and a value in order, where no key stands twice. A key is found by its hash, however many there are.
 #[cycle(value)]
@@ -89,13 +89,7 @@ impl IObject {
         if let Err(why) = self.pairs.reserve(1) {
             return Err(RefusedPair { key, value, why });
         }
-        match self.pairs.position(key.as_str()) {
-            Some(at) => Ok(Some(mem::replace(self.pairs.value_mut(at), value))),
-            None => {
-                self.pairs.push_new(key, value);
-                Ok(None)
-            }
-        }
+        Ok(self.pairs.put(key, value))
     }
 
     /// The value beside a key.

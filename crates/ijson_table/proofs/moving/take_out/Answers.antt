@@ -62,7 +62,7 @@ returns-then-position-last-clause-told g c =
     let read : position_in (get_or left there blank) ≡ Some last = sym (position-at left there (position_in (get_or left there blank)) c.place_of-there.ensures.within refl) ∙ at in
     told-put hash keys keys' left there c.renumbered.result c.close_gap.ensures.told
     (tells_moved hash keys keys' (get_or left there blank) c.renumbered.result c.args.position last (told-at hash keys left there c.close_gap.ensures.told c.place_of-there.ensures.within) read
-    c.renumbered.ensures.position c.renumbered.ensures.hash c.renumbered.ensures.mark (swapped-same pairs c.args.position (omega (arith, c.if-position-last.true))))
+    c.renumbered.ensures.position c.renumbered.ensures.hash (swapped-same pairs c.args.position (omega (arith, c.if-position-last.true))))
     (λ q k lq other e.
     let below : k < length pairs = held_below hash keys (length pairs) (Some c.args.position) places c.close_gap.ensures.held.placed q k lq e in
     let not_last : k ≢ last = λ same. other (stands_once last places q there (held_once hash keys (length pairs) (Some c.args.position) places c.close_gap.ensures.held last) lq lp (e ∙ ap Some same) at) in

@@ -18,9 +18,9 @@ loop-passed-init g c =
     let keys : List (List ℕ) = keys_of c.args._pairs.now in
     let h : ℕ = home_at hash n keys c.args._position in
     let size : n ≡ length c.args.places.now = positions-length c.args.places.now in
-    let is : c.home-place.result ≡ h = c.home-place.ensures.value ∙ (ap (λ k. c.args.hand.hash % k) (sym size) ∙ told-home hash keys n c.args._position c.args.hand c.requires.tells c.requires.hand) in
+    let is : c.home_of_hash-place.result ≡ h = c.home_of_hash-place.ensures.value ∙ (ap (λ x. x % length c.args.places.now) c.hash.ensures ∙ ap (λ k. c.args.hand.hash % k) (sym size) ∙ told-home hash keys n c.args._position c.args.hand c.requires.tells c.requires.hand) in
     record {
-      within = c.home-place.ensures.within;
+      within = c.home_of_hash-place.ensures.within;
       there = is ∙ sym (onward-zero n h (home-below n hash keys c.args._position (omega (arith, c.requires.empty.1))));
       led = led_none hash keys places h;
     }
