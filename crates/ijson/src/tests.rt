@@ -1,11 +1,16 @@
-//! What no clause says, and what crosses the crates: the written texts and the places of faults, devices, and refusals of memory.
+//! What no clause says, of every crate: a module per kind of value, and what crosses the crates: the written texts and the places of
+//! faults, devices, and refusals of memory.
 
 mod cache;
 mod devices;
 mod equality;
 mod faults;
+mod numbers;
 mod refusals;
+mod strings;
+mod tables;
 mod texts;
+mod values;
 
 use crate::json::{JsonError, from_json, to_json};
 use crate::string::StringCache;

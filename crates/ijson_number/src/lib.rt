@@ -17,6 +17,3 @@ pub use faults::first_fault;
 pub use form::Form;
 pub use looks::Looks;
 pub use number::{INumber, ParseNumberError};
-
-#[cfg(test)]
-mod tests;

@@ -7,6 +7,3 @@ mod text;
 
 pub use cache::StringCache;
 pub use text::IString;
-
-#[cfg(test)]
-mod tests;

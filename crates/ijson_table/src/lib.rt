@@ -19,6 +19,3 @@ pub use linear::LinearPairs;
 pub use places::{Places, Seen, locate};
 pub use store::{PairStore, ReserveError};
 pub use table::Table;
-
-#[cfg(test)]
-mod tests;

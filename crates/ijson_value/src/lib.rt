@@ -9,6 +9,3 @@ pub mod value;
 pub use array::{IArray, Refused};
 pub use object::{IObject, RefusedPair};
 pub use value::{DestructuredRef, IValue, ValueType};
-
-#[cfg(test)]
-mod tests;

@@ -1,5 +1,5 @@
 //! What no clause says: worked texts, and which texts are refused.
-use super::*;
+use crate::number::{Form, INumber, Looks, ParseNumberError, first_fault};
 use std::alloc::Global;
 use std::cell::{Cell, RefCell};
 use std::cmp::Ordering;

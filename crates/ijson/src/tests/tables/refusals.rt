@@ -1,12 +1,9 @@
 //! What holds after a refused request for memory. Each of these tests passes whichever one of its requests is refused.
 
-use super::{AlwaysZero, new_cache};
-use crate::commands::{Command, Reply, run};
-use crate::fixed::FixedTable;
-use crate::linear::LinearPairs;
-use crate::store::{PairStore, ReserveError};
-use crate::table::Table;
-use ijson_string::IString;
+use super::super::empty_cache;
+use super::AlwaysZero;
+use crate::string::IString;
+use crate::table::{Command, FixedTable, LinearPairs, PairStore, Reply, ReserveError, Table, run};
 use std::alloc::{AllocError, Global};
 use std::process::Abort;
 
@@ -17,7 +14,7 @@ fn add<P: PairStore<u32>>(
     text: &str,
     value: u32,
 ) -> Result<(), AllocError> {
-    let key = IString::intern(&mut new_cache(alloc), text)?;
+    let key = IString::intern(&mut empty_cache(alloc), text)?;
     if store.position(text).is_none() && store.len() < store.capacity() {
         store.push_new(key, value);
     }
@@ -82,7 +79,7 @@ fn a_fixed_table(rt: HostRuntime) -> Result<(), AllocError> {
 
 /// One command that inserts a.
 fn insertion(alloc: Global) -> Result<Vec<Command<u32>>, AllocError> {
-    let key = IString::intern(&mut new_cache(alloc), "a")?;
+    let key = IString::intern(&mut empty_cache(alloc), "a")?;
     let mut commands = Vec::new(alloc);
     commands.push(Command::Insert(key, 1))?;
     Ok(commands)

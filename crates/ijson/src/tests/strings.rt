@@ -1,4 +1,4 @@
-use crate::{IString, StringCache};
+use crate::string::{IString, StringCache};
 use std::alloc::Global;
 use std::cell::{Cell, RefCell};
 use std::hash::{BuildHasherDefault, FoldHasher, Hash, Hasher};

@@ -1,6 +1,6 @@
+use crate::number::INumber;
+use crate::string::{IString, StringCache};
 use crate::{DestructuredRef, IArray, IObject, IValue, ValueType};
-use ijson_number::INumber;
-use ijson_string::{IString, StringCache};
 use std::alloc::Global;
 use std::hash::{BuildHasherDefault, FoldHasher};
 use std::test::Fail;

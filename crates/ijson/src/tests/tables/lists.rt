@@ -1,13 +1,9 @@
 //! Long lists of commands, which each store answers alike.
 
-use super::{AlwaysZero, ByLength, new_cache};
-use crate::commands::{Command, run};
-use crate::fixed::FixedTable;
-use crate::hash::FixedHash;
-use crate::linear::LinearPairs;
-use crate::store::PairStore;
-use crate::table::Table;
-use ijson_string::IString;
+use super::super::empty_cache;
+use super::{AlwaysZero, ByLength};
+use crate::string::IString;
+use crate::table::{Command, FixedHash, FixedTable, LinearPairs, PairStore, Table, run};
 use std::alloc::{AllocError, Global};
 
 /// How many commands a list has.
@@ -49,7 +45,7 @@ fn next(state: u64) -> u64 {
 
 /// The list of commands that begins with this number.
 fn commands(alloc: Global, seed: u64) -> Result<Vec<Command<u64>>, AllocError> {
-    let mut cache = new_cache(alloc);
+    let mut cache = empty_cache(alloc);
     let mut state = seed;
     let mut commands = Vec::new(alloc);
     for _ in 0..COUNT {

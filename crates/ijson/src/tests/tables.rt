@@ -3,24 +3,15 @@
 mod lists;
 mod refusals;
 
-use crate::commands::{Command, Reply, run};
-use crate::fixed::FixedTable;
-use crate::hash::{FixedHash, KeyHash};
-use crate::linear::LinearPairs;
-use crate::places::{Places, Seen, locate};
-use crate::store::{PairStore, ReserveError};
-use crate::table::Table;
-use ijson_number::Looks;
-use ijson_string::{IString, StringCache};
+use super::empty_cache;
+use crate::number::Looks;
+use crate::string::IString;
+use crate::table::{
+    Command, FixedHash, FixedTable, KeyHash, LinearPairs, PairStore, Places, Reply, ReserveError,
+    Seen, Table, locate, run,
+};
 use std::alloc::{AllocError, Global};
-use std::hash::{BuildHasherDefault, FoldHasher};
 use std::process::Abort;
-
-type Cache = StringCache<BuildHasherDefault<FoldHasher>>;
-
-fn new_cache(alloc: Global) -> Cache {
-    StringCache::new(alloc, BuildHasherDefault::new())
-}
 
 /// The length of the text in bytes.
 #[derive(Drop)]
@@ -77,7 +68,7 @@ fn insert_all<P: PairStore<u64>>(
     store: &mut P,
     keys: &[&str],
 ) -> Result<Vec<Reply<u64>>, AllocError> {
-    let mut cache = new_cache(alloc);
+    let mut cache = empty_cache(alloc);
     let mut commands = Vec::new(alloc);
     for (i, key) in keys.iter().enumerate() {
         let key = IString::intern(&mut cache, key)?;
@@ -92,7 +83,7 @@ fn remove<P: PairStore<u64>>(
     store: &mut P,
     key: &str,
 ) -> Result<Vec<Reply<u64>>, AllocError> {
-    let key = IString::intern(&mut new_cache(alloc), key)?;
+    let key = IString::intern(&mut empty_cache(alloc), key)?;
     let mut commands = Vec::new(alloc);
     commands.push(Command::Remove(key))?;
     run(alloc, store, commands)
@@ -263,12 +254,12 @@ fn the_limit(rt: HostRuntime) {
 #[test]
 fn a_run(rt: HostRuntime) -> Result<(), AllocError> {
     let alloc = rt.alloc();
-    let a = || IString::intern(&mut new_cache(alloc), "a");
+    let a = || IString::intern(&mut empty_cache(alloc), "a");
     let mut commands = Vec::new(alloc);
     commands.push(Command::Insert(a()?, 1))?;
     commands.push(Command::Insert(a()?, 2))?;
     commands.push(Command::Find(a()?))?;
-    commands.push(Command::Find(IString::intern(&mut new_cache(alloc), "b")?))?;
+    commands.push(Command::Find(IString::intern(&mut empty_cache(alloc), "b")?))?;
     commands.push(Command::Remove(a()?))?;
     commands.push(Command::ShrinkToFit)?;
     let mut store = LinearPairs::new(alloc);
