@@ -276,6 +276,32 @@ fn a_run(rt: HostRuntime) -> Result<(), AllocError> {
     Ok(())
 }
 
+/// A text of one byte, which takes no memory.
+fn key(alloc: Global, text: &str) -> Result<IString, AllocError> {
+    IString::intern(&mut empty_cache(alloc), text)
+}
+
+#[test]
+fn pairs_are_put_in_the_room_that_there_is(rt: HostRuntime) -> Result<(), AllocError> {
+    let alloc = rt.alloc();
+    let mut linear = LinearPairs::new(alloc);
+    let mut table: Table<u64, AlwaysZero> = Table::new(alloc);
+    let mut fixed = FixedTable::new(alloc);
+    for value in 1..3 {
+        if linear.reserve(1).is_ok() && linear.len() < linear.capacity() {
+            assert!(rt; linear.put(key(alloc, "a")?, value).unwrap_or(0) == value - 1);
+        }
+        if table.reserve(1).is_ok() && table.len() < table.capacity() {
+            assert!(rt; table.put(key(alloc, "a")?, value).unwrap_or(0) == value - 1);
+        }
+        if fixed.reserve(1).is_ok() && fixed.len() < fixed.capacity() {
+            assert!(rt; fixed.put(key(alloc, "a")?, value).unwrap_or(0) == value - 1);
+        }
+    }
+    assert_eq!(rt; (linear.len(), table.len(), fixed.len()), (1, 1, 1));
+    Ok(())
+}
+
 /// A value is written through each lending call, and all pairs come back.
 fn lends<P: PairStore<u64> + Drop>(
     rt: &impl Abort,
