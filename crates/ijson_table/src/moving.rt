@@ -1,4 +1,6 @@
 //! The procedures of a table, over its list of pairs and its places.
+//!
+//! A parameter whose name begins with `_` is there for the contract alone: a place tells all that a walk asks of the key there.
 
 ghost use Rattle.std.specs.Prelude.{◌≡◌, ◌≢◌, ℕ, ◌+◌, ◌-◌, ◌<◌, ◌≤◌, ◌^◌, List, length, Option, Some, None, IfOk, OnErr, vec_capacity, ◌/◌};
 ghost use Rattle.ijson_table.specs.Ends.{Ends};
