@@ -1,6 +1,6 @@
 -- What a place tells beside a position: the hash of the key that has it.
 use Rattle.std.specs.Prelude.{◌≡◌, ℕ, List, [], map, get_or, Option, Some}
-use Rattle.std.specs.List.{All, slice_index_or}
+use Rattle.std.specs.List.{All}
 use denote.Struct.Props.{props}
 use Rattle.ijson_table.specs.declared.place.Place.{Place}
 use Rattle.ijson_table.specs.PlaceCode.{coded_position}

@@ -2,7 +2,7 @@ use Rattle.std.proofs.Common.{◌≡◌, ◌+◌, ◌-◌, ◌*◌, ◌/◌, ◌
 use Rattle.std.proofs.Math.Nat.{div-mul-le_self}
 use Rattle.std.proofs.Math.Seq.{take-add}
 use Rattle.std.proofs.lemmas.Grind.{put_two}
-use Rattle.std.proofs.lemmas.List.{map-append, take-append-drop, take_all}
+use Rattle.std.proofs.lemmas.List.{map-append, take_all}
 use Rattle.ijson_number.specs.Text.{digits_text}
 use Rattle.ijson_number.proofs.text.DigitsTextDisplay.fmt.Goals as goal
 
@@ -18,8 +18,8 @@ loop-run-preserved g c = λ plain.
     let was = c.loop-run.invariant plain in
     let text : c.as_str.result.now ≡ digits_text (take (front + 20 - front) (drop front digits)) = c.as_str.ensures.value ∙ c.run_text.ensures in
     put_two g.W.Write.write_str_gives c.args.f.now c.loop-run.f c.write_str.new.self (digits_text (take front digits)) c.as_str.result.now (digits_text (take ((c.loop-run.run + 1) * 20) digits)) was
-        (c.in_ok-write_str.ensures.writes was.plain refl)
-        (ap (λ s. digits_text (take front digits) ++ s) text ∙ joined digits front (front + 20 - front) ((c.loop-run.run + 1) * 20) (omega arith))
+    (c.in_ok-write_str.ensures.writes was.plain refl)
+    (ap (λ s. digits_text (take front digits) ++ s) text ∙ joined digits front (front + 20 - front) ((c.loop-run.run + 1) * 20) (omega arith))
 
 pub returns-clause-writes : goal.returns-clause-writes
 returns-clause-writes g c = λ plain ok.
@@ -31,6 +31,6 @@ returns-clause-writes g c = λ plain ok.
     let was = c.loop-run.invariant plain in
     let text : c.as_str-2.result.now ≡ digits_text (take rest (drop front digits)) = c.as_str-2.ensures.value ∙ c.run_text-2.ensures in
     put_two g.W.Write.write_str_gives c.args.f.now c.loop-run.f c.write_str-2.new.self (digits_text (take (c.loop-run.run * 20) digits)) c.as_str-2.result.now (digits_text digits) was
-        (c.write_str-2.ensures.writes was.plain ok)
-        (ap (λ n. digits_text (take (n * 20) digits) ++ c.as_str-2.result.now) last
-        ∙ (ap (λ s. digits_text (take front digits) ++ s) text ∙ (joined digits front rest (length digits) (omega (arith, div-mul-le_self (length digits) 20)) ∙ ap digits_text (take_all (length digits) digits (omega arith)))))
+    (c.write_str-2.ensures.writes was.plain ok)
+    (ap (λ n. digits_text (take (n * 20) digits) ++ c.as_str-2.result.now) last
+    ∙ (ap (λ s. digits_text (take front digits) ++ s) text ∙ (joined digits front rest (length digits) (omega (arith, div-mul-le_self (length digits) 20)) ∙ ap digits_text (take_all (length digits) digits (omega arith)))))

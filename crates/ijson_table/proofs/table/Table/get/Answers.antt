@@ -1,4 +1,4 @@
-use Rattle.std.proofs.Common.{◌≡◌, ◌<◌, None, Some, length, arith, ap, sym, ◌∙◌}
+use Rattle.std.proofs.Common.{◌≡◌, ◌<◌, Some, length, arith, ap, sym, ◌∙◌}
 use Rattle.ijson_table.specs.Store.{at, keys_of, lookup}
 use Rattle.ijson_table.specs.Placed.{Placed}
 use Rattle.ijson_table.proofs.Keys.{position-some, keys-length, lookup-position, lookup-absent}

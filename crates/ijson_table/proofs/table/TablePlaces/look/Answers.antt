@@ -1,4 +1,4 @@
-use Rattle.std.proofs.Common.{◌≡◌, ◌<◌, ◌%◌, ℕ, Bool, true, false, List, [], length, get_or, Some, arith, ap, subst, sym, ◌∙◌}
+use Rattle.std.proofs.Common.{◌≡◌, ◌<◌, ◌%◌, ℕ, List, [], length, get_or, Some, arith, ap, subst, sym, ◌∙◌}
 use Rattle.ijson_table.specs.declared.place.Place.{Place}
 use Rattle.ijson_table.specs.Crowd.{distance}
 use Rattle.ijson_table.specs.Store.{keys_of}
@@ -9,7 +9,7 @@ use Rattle.ijson_table.specs.Sees.{Sees}
 use Rattle.ijson_table.specs.declared.places.Seen.TheVariants.{Resident}
 use Rattle.ijson_table.proofs.Walk.{in_list}
 use Rattle.ijson_table.proofs.Keys.{keys-length, key_at, get_or-inside}
-use Rattle.ijson_table.proofs.Told.{blank, positions-length, position-at, told-at, told-distance}
+use Rattle.ijson_table.proofs.Told.{blank, positions-length, position-at, told-distance}
 use Rattle.ijson_table.proofs.table.TablePlaces.look.Goals as goal
 
 -- what a look at a place with a resident may go by
