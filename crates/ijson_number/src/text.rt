@@ -147,15 +147,14 @@ impl fmt::Display for Shape<'_> {
         if !self.point {
             let digits = DigitsText { digits };
             let zeros = Zeros(self.exponent.unsigned_abs() as u128);
-            return write!(f, "{digits}{zeros}");
+            fmt::Display::fmt(&digits, f)?;
+            return fmt::Display::fmt(&zeros, f);
         }
         let place = place_of(digits, self.exponent);
         if is_scientific(place, self.exponent) {
-            let text = Scientific { digits, place };
-            write!(f, "{text}")
+            fmt::Display::fmt(&Scientific { digits, place }, f)
         } else {
-            let text = Pointed { digits, place };
-            write!(f, "{text}")
+            fmt::Display::fmt(&Pointed { digits, place }, f)
         }
     }
 }
@@ -181,7 +180,7 @@ impl fmt::Display for INumber {
         if self.negative {
             write!(f, "-{shape}")
         } else {
-            write!(f, "{shape}")
+            fmt::Display::fmt(&shape, f)
         }
     }
 }

@@ -20,4 +20,4 @@ returns-else-self-2-clause-writes g c = λ p ok.
     let i = c.self.inside in
     let fits : FitsSigned w32 i.exponent = search rules in
     let some : 0 < length c.as_slice-digits.result.now = grind arith in
-    has_written_of_eq _ _ _ _ _ (without_minus c.args.self.now.decimal i.negative i.digits c.as_slice-digits.result.now i.exponent (to_z w32 (of_z w32 i.exponent)) i.point (ap (λ (x : Num). x.decimal) c.self.view_is) c.as_slice-digits.ensures.value (to_z-of_z w32 i.exponent fits) c.self.invariant.stripped some c.if-self-2.false) (c.write-else-self-2.ensures.writes p ok)
+    has_written_of_eq _ _ _ _ _ (without_minus c.args.self.now.decimal i.negative i.digits c.as_slice-digits.result.now i.exponent (to_z w32 (of_z w32 i.exponent)) i.point (ap (λ (x : Num). x.decimal) c.self.view_is) c.as_slice-digits.ensures.value (to_z-of_z w32 i.exponent fits) c.self.invariant.stripped some c.if-self-2.false) (c.fmt.ensures.writes p ok)
