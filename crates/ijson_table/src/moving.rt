@@ -2,12 +2,12 @@
 //!
 //! A parameter whose name begins with `_` is there for the contract alone: a place tells all that a walk asks of the key there.
 
-ghost use Rattle.std.specs.Prelude.{◌≡◌, ◌≢◌, ℕ, ◌+◌, ◌-◌, ◌<◌, ◌≤◌, ◌^◌, List, length, Option, Some, None, IfOk, OnErr, vec_capacity, ◌/◌};
+ghost use Rattle.std.specs.Prelude.{◌≡◌, ℕ, ◌+◌, ◌<◌, ◌≤◌, length, Some, None, IfOk, OnErr};
 ghost use Rattle.ijson_table.specs.Ends.{Ends};
 ghost use Rattle.ijson_table.specs.Store.{keys_of, swap_out, IsDistinct};
-ghost use Rattle.ijson_table.specs.Crowd.{home_of, distance, place_count};
+ghost use Rattle.ijson_table.specs.Crowd.{home_of, place_count};
 ghost use Rattle.ijson_table.specs.Growth.{capacity_limit};
-ghost use Rattle.ijson_table.specs.Places.{home_at, resident, times, IsTable};
+ghost use Rattle.ijson_table.specs.Places.{resident, times, IsTable};
 ghost use Rattle.ijson_table.specs.Moving.{Ordered, Holding, HasEmpty, HasGap, MayStand, below, one_if};
 ghost use Rattle.std.specs.List.{All};
 ghost use Rattle.ijson_table.specs.Told.{position_in, positions, AreTold, Tells};
