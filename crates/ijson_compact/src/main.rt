@@ -6,7 +6,7 @@ ghost use Rattle.ijson_json.specs.declared.compacting.CompactError.TheVariants a
 
 use ijson_json::{CompactError, StreamSink, StreamSource, compact, report};
 use ijson_string::StringCache;
-use std::hash::{BuildHasherDefault, FoldHasher};
+use std::hash::RandomState;
 use std::io::Write;
 use std::mem;
 use std::process::ExitCode;
@@ -23,16 +23,21 @@ fn flushed<W: Write + Drop>(
     writer.flush().map_err(|_| CompactError::Write)
 }
 
-fn main(rt: HostRuntime) -> ExitCode {
-    let hasher = BuildHasherDefault::<FoldHasher>::new();
+/// Compacts standard input to standard output. Strings are a stranger's, so their hashes have a random seed, and no way to have one counts as
+/// a failed read.
+fn compact_input(rt: HostRuntime) -> Result<(), CompactError> {
+    let hasher = RandomState::new(&rt).map_err(|_| CompactError::Read)?;
     let mut cache = StringCache::new(rt.alloc(), hasher);
     let mut input = StreamSource::new(rt.stdin());
     let mut output = StreamSink::new(rt.stdout());
     let answer = compact(rt.alloc(), &mut input, &mut output, &mut cache);
-    let answer = flushed(answer, output.into_inner());
-    let mut errors = StreamSink::new(rt.stderr());
-    let status = report(&answer, &mut errors);
-    // The process ends here, and its memory goes as a whole: to give back the texts one by one would take time alone.
+    // The process ends soon, and its memory goes as a whole: to give back the texts one by one would take time alone.
     mem::forget(cache);
-    ExitCode::from(status)
+    flushed(answer, output.into_inner())
+}
+
+fn main(rt: HostRuntime) -> ExitCode {
+    let answer = compact_input(rt);
+    let mut errors = StreamSink::new(rt.stderr());
+    ExitCode::from(report(&answer, &mut errors))
 }
