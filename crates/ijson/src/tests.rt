@@ -6,6 +6,7 @@ mod devices;
 mod equality;
 mod faults;
 mod numbers;
+mod recorder;
 mod refusals;
 mod strings;
 mod tables;

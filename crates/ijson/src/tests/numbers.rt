@@ -1,9 +1,8 @@
 //! What no clause says: worked texts, and which texts are refused.
+use super::recorder::feeds;
 use crate::number::{Form, INumber, Looks, ParseNumberError, first_fault};
 use std::alloc::Global;
-use std::cell::{Cell, RefCell};
 use std::cmp::Ordering;
-use std::hash::{Hash, Hasher};
 use std::process::Abort;
 use std::test::Fail;
 
@@ -394,51 +393,6 @@ fn digit_forms(rt: HostRuntime) -> Result<(), Fail> {
     Ok(())
 }
 
-/// A hasher that notes the words that it is fed. What a cell holds is no part of a value, so for a contract it stays as
-/// it was.
-#[derive(Drop)]
-struct Recorder<'a> {
-    words: &'a RefCell<Vec<u64>>,
-    others: &'a Cell<bool>,
-}
-
-impl Hasher for Recorder<'_> {
-    ghost write = { λ s _. s };
-
-    ghost finish = { λ _. 0 };
-
-    fn finish(&self) -> u64 {
-        0
-    }
-
-    fn write(&mut self, _bytes: &[u8]) {
-        self.others.set(true);
-    }
-
-    fn write_u64(&mut self, word: u64) {
-        match self.words.try_borrow_mut() {
-            Ok(mut words) => self
-                .others
-                .set(self.others.get() || words.push(word).is_err()),
-            Err(_) => self.others.set(true),
-        }
-    }
-}
-
-fn fed(rt: &impl Abort, alloc: Global, text: &str, want: &[u64]) -> Result<(), Fail> {
-    let words = RefCell::new(Vec::new(alloc));
-    let others = Cell::new(false);
-    let mut recorder = Recorder {
-        words: &words,
-        others: &others,
-    };
-    INumber::from_str(alloc, text)?.hash(&mut recorder);
-    assert!(rt; !others.get());
-    let seen = words.try_borrow()?;
-    assert_eq!(rt; seen.as_slice(), want);
-    Ok(())
-}
-
 /// Texts, and the words that each feeds a hasher.
 const FED: [(&str, &[u64]); 5] = [
     ("2", &[2, 1, 2147483648, 1, 2]),
@@ -452,7 +406,8 @@ const FED: [(&str, &[u64]); 5] = [
 fn words(rt: HostRuntime) -> Result<(), Fail> {
     let alloc = rt.alloc();
     for (text, want) in FED {
-        fed(&rt, alloc, text, want)?;
+        let number = INumber::from_str(alloc, text)?;
+        feeds(&rt, alloc, &number, want)?;
     }
     Ok(())
 }

@@ -1,13 +1,13 @@
-use crate::string::{IString, StringCache};
+use super::empty_cache;
+use super::recorder::feeds;
+use crate::string::IString;
 use std::alloc::Global;
-use std::cell::{Cell, RefCell};
-use std::hash::{BuildHasherDefault, FoldHasher, Hash, Hasher};
 use std::mem::size_of;
 use std::test::Fail;
 
 #[test]
 fn long_texts_alone_enter_the_cache(rt: HostRuntime) -> Result<(), Fail> {
-    let mut cache = StringCache::new(rt.alloc(), BuildHasherDefault::<FoldHasher>::new());
+    let mut cache = empty_cache(rt.alloc());
     let short = IString::intern(&mut cache, "seven77")?;
     assert_eq!(rt; cache.len(), 0);
     let long = IString::intern(&mut cache, "eight888")?;
@@ -25,7 +25,7 @@ fn long_texts_alone_enter_the_cache(rt: HostRuntime) -> Result<(), Fail> {
 
 #[test]
 fn texts_compare_by_bytes_and_print(rt: HostRuntime) -> Result<(), Fail> {
-    let mut cache = StringCache::new(rt.alloc(), BuildHasherDefault::<FoldHasher>::new());
+    let mut cache = empty_cache(rt.alloc());
     let a = IString::intern(&mut cache, "interned_string_a")?;
     let b = IString::intern(&mut cache, "interned_string_b")?;
     let z = IString::intern(&mut cache, "z")?;
@@ -44,54 +44,19 @@ fn texts_compare_by_bytes_and_print(rt: HostRuntime) -> Result<(), Fail> {
     Ok(())
 }
 
-/// A hasher that notes the words that it is fed. What a cell holds is no part of a value, so for a contract it stays as
-/// it was.
-#[derive(Drop)]
-struct Recorder<'a> {
-    words: &'a RefCell<Vec<u64>>,
-    others: &'a Cell<bool>,
-}
-
-impl Hasher for Recorder<'_> {
-    ghost write = { λ s _. s };
-
-    ghost finish = { λ _. 0 };
-
-    fn finish(&self) -> u64 {
-        0
-    }
-
-    fn write(&mut self, _bytes: &[u8]) {
-        self.others.set(true);
-    }
-
-    fn write_u64(&mut self, word: u64) {
-        match self.words.try_borrow_mut() {
-            Ok(mut words) => self
-                .others
-                .set(self.others.get() || words.push(word).is_err()),
-            Err(_) => self.others.set(true),
-        }
-    }
-}
+/// Texts, and the words that each feeds a hasher.
+const FED: [(&str, &[u64]); 2] = [
+    ("hi", &[3, 2, 104, 105]),
+    ("eight888", &[3, 8, 101, 105, 103, 104, 116, 56, 56, 56]),
+];
 
 #[test]
 fn a_text_feeds_its_words(rt: HostRuntime) -> Result<(), Fail> {
-    let words = RefCell::new(Vec::new(rt.alloc()));
-    let others = Cell::new(false);
-    let mut recorder = Recorder {
-        words: &words,
-        others: &others,
-    };
-    let mut cache = StringCache::new(rt.alloc(), BuildHasherDefault::<FoldHasher>::new());
-    IString::intern(&mut cache, "hi")?.hash(&mut recorder);
-    IString::intern(&mut cache, "eight888")?.hash(&mut recorder);
-    assert!(rt; !others.get());
-    let seen = words.try_borrow()?;
-    assert_eq!(rt;
-        seen.as_slice(),
-        [3, 2, 104, 105, 3, 8, 101, 105, 103, 104, 116, 56, 56, 56].as_slice()
-    );
+    let mut cache = empty_cache(rt.alloc());
+    for (text, want) in FED {
+        let text = IString::intern(&mut cache, text)?;
+        feeds(&rt, rt.alloc(), &text, want)?;
+    }
     Ok(())
 }
 
@@ -103,7 +68,7 @@ fn an_istring_is_at_most_two_words(rt: HostRuntime) -> Result<(), Fail> {
 
 /// Interns a long text and a short one, and then interns and clones both `further` times more.
 fn intern_again_and_again(alloc: Global, further: u32) -> Result<(), Fail> {
-    let mut cache = StringCache::new(alloc, BuildHasherDefault::<FoldHasher>::new());
+    let mut cache = empty_cache(alloc);
     let long = IString::intern(&mut cache, "eight888")?;
     let short = IString::intern(&mut cache, "seven77")?;
     for _ in 0..further {

@@ -1,11 +1,9 @@
+use super::{Cache, empty_cache};
 use crate::number::INumber;
-use crate::string::{IString, StringCache};
+use crate::string::IString;
 use crate::{DestructuredRef, IArray, IObject, IValue, ValueType};
 use std::alloc::Global;
-use std::hash::{BuildHasherDefault, FoldHasher};
 use std::test::Fail;
-
-type Cache = StringCache<BuildHasherDefault<FoldHasher>>;
 
 /// An object of these keys and numbers, put in this order.
 fn object(alloc: Global, cache: &mut Cache, members: &[(&str, &str)]) -> Result<IObject, Fail> {
@@ -21,7 +19,7 @@ fn object(alloc: Global, cache: &mut Cache, members: &[(&str, &str)]) -> Result<
 #[test]
 fn values_take_what_they_are_given(rt: HostRuntime) -> Result<(), Fail> {
     let alloc = rt.alloc();
-    let mut cache = Cache::new(alloc, BuildHasherDefault::new());
+    let mut cache = empty_cache(alloc);
     let mut array = IArray::new(alloc);
     array.push(IValue::TRUE)?;
     array.push(IValue::NULL)?;
@@ -44,7 +42,7 @@ fn values_take_what_they_are_given(rt: HostRuntime) -> Result<(), Fail> {
 #[test]
 fn objects_are_equal_as_maps(rt: HostRuntime) -> Result<(), Fail> {
     let alloc = rt.alloc();
-    let mut cache = Cache::new(alloc, BuildHasherDefault::new());
+    let mut cache = empty_cache(alloc);
     let one = object(alloc, &mut cache, &[("x", "1"), ("y", "2")])?;
     let other = object(alloc, &mut cache, &[("y", "2.0"), ("x", "1e0")])?;
     let less = object(alloc, &mut cache, &[("x", "1")])?;
