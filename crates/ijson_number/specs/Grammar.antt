@@ -70,9 +70,9 @@ pub record IsSpelled (text : List ℕ) (p : Parts) : Type 0 where
   pub point : p.point ≡ has_point || has_exponent
 
 -- all digits as one whole number with the sign, times ten to the written exponent less the count of fraction digits
-abbrev pub Means : Parts → Decimal → Type 0
-Means p n = Strips (signed p.negative (value (p.whole ++ p.fraction))) (p.exponent -ℤ pos (length p.fraction)) n × n.point ≡ p.point
+abbrev pub Denotes : Parts → Decimal → Type 0
+Denotes p n = Strips (signed p.negative (value (p.whole ++ p.fraction))) (p.exponent -ℤ pos (length p.fraction)) n × n.point ≡ p.point
 
 -- the text spells the number
 abbrev pub Spells : List ℕ → Decimal → Type 0
-Spells text n = (p : Parts) × IsSpelled text p × Means p n
+Spells text n = (p : Parts) × IsSpelled text p × Denotes p n

@@ -1,6 +1,6 @@
 //! What a number feeds a hasher.
 ghost use Rattle.std.specs.Prelude.{◌≡◌, pos, ◌+ℤ◌, nat_abs, if◌then◌else◌};
-ghost use Rattle.ijson_number.specs.Ordered.{equal_feed};
+ghost use Rattle.ijson_number.specs.laws.Ordered.{equal_feed};
 ghost use Rattle.ijson_number.specs.Words.{fed_words, number_words};
 
 use crate::number::INumber;

@@ -3,11 +3,11 @@ ghost use Rattle.std.specs.Prelude.{◌≡◌, ◌++◌, ◌↔◌, ◌<◌, ◌
 ghost use mir.Syntax.{w128};
 ghost use Rattle.ijson_number.specs.Decimal.{Decimal};
 ghost use Rattle.ijson_number.specs.Num.{IsNum};
-ghost use Rattle.ijson_number.specs.Reading.{IsWithin, exponent_of};
+ghost use Rattle.ijson_number.specs.private.Reading.{IsWithin, exponent_of};
 ghost use Rattle.ijson_number.specs.Strips.{signed};
 ghost use Rattle.ijson_number.specs.Grammar.{AllDigits, IsDigits, IsExponent, IsDigit, IsSpelled, IsWhole, Parts, Spells, value};
-ghost use Rattle.ijson_number.specs.Reading.{BeginsWithNoDigit, BeginsWithNoZero, EndsWithNoZero, IsSignTaken, IsTail, IsUnsigned};
-ghost use Rattle.ijson_number.specs.Spelled.{IsScanned, parts_of, scanned_number};
+ghost use Rattle.ijson_number.specs.private.Reading.{BeginsWithNoDigit, BeginsWithNoZero, EndsWithNoZero, IsSignTaken, IsTail, IsUnsigned};
+ghost use Rattle.ijson_number.specs.private.Scanned.{IsScanned, parts_of, scanned_number};
 
 /// More than any exponent within the limit needs, whatever the length of a text.
 const CAP: u128 = 1 << 80;
@@ -265,7 +265,7 @@ pub struct Scanned<'a> {
 /// Reads a number's text, and takes the zeros off its digits.
 pub fn scan(text: &[u8]) -> Option<Scanned<'_>>
     ensures spelled { IfSome result (λ s. Spells text.now (scanned_number s)) }
-    ensures kept { IfSome result IsScanned }
+    ensures scanned { IfSome result IsScanned }
     ensures none { IfNone result ((n : Decimal) → Spells text.now n → IsNum n → ⊥) }
 {
     let spelling = read(text)?;

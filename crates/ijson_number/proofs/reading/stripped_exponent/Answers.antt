@@ -1,7 +1,7 @@
 use Rattle.std.proofs.Common.{◌≡◌, ◌∙◌, ◌^◌, ◌<◌, min, length, arith, refl}
 use Rattle.std.specs.Prelude.{ℤ}
 use Rattle.std.proofs.lemmas.Int.{ints}
-use Rattle.ijson_number.specs.Reading.{IsWithin}
+use Rattle.ijson_number.specs.private.Reading.{IsWithin}
 use Rattle.ijson_number.specs.Strips.{signed}
 use Rattle.ijson_number.specs.Grammar.{value}
 use Rattle.ijson_number.proofs.Exponents.{cast_within, capped_within, within_capped}

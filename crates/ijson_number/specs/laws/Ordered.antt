@@ -16,7 +16,7 @@ use Rattle.ijson_number.specs.Decimal.{Decimal, IsPlain}
 use Rattle.ijson_number.specs.Num.{Num}
 use Rattle.ijson_number.specs.Order.{number_cmp, number_eq, at_exponent}
 use Rattle.ijson_number.specs.Words.{number_words, fed_words}
-use Rattle.ijson_number.specs.Tens.{ten_pos, signed_mul, int_tens, zero_or_not}
+use Rattle.ijson_number.specs.laws.Tens.{ten_pos, signed_mul, int_tens, zero_or_not}
 
 below_scaled : (x y k : ℕ) → 0 < k → x < y → x * k < y * k
 below_scaled x y k h l = let p : suc x * k ≤ y * k = mul-le-mul_right k l in grind (arith, p)
