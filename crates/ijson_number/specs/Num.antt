@@ -7,7 +7,7 @@ use Rattle.ijson_number.specs.declared.reading.TheConstants.{EXPONENT_LIMIT}
 abbrev pub is_in_range : Decimal → Bool
 is_in_range n =
     nat_eq (nat_abs n.mantissa) 0
-      || (int_le (neg_ℤ EXPONENT_LIMIT) n.exponent && int_le n.exponent EXPONENT_LIMIT)
+    || (int_le (neg_ℤ EXPONENT_LIMIT) n.exponent && int_le n.exponent EXPONENT_LIMIT)
 
 -- a plain number within the limit
 pub record IsNum (n : Decimal) : Type 0 where

@@ -5,7 +5,7 @@ ghost use Rattle.ijson_number.specs.Decimal.{Decimal};
 ghost use Rattle.ijson_number.specs.Num.{IsNum};
 ghost use Rattle.ijson_number.specs.private.Reading.{IsWithin, exponent_of};
 ghost use Rattle.ijson_number.specs.Strips.{signed};
-ghost use Rattle.ijson_number.specs.Grammar.{AllDigits, IsDigits, IsExponent, IsDigit, IsSpelled, IsWhole, Parts, Spells, value};
+ghost use Rattle.ijson_number.specs.Grammar.{AllDigits, IsDigits, IsExponent, IsSpelled, IsWhole, Parts, Spells, value};
 ghost use Rattle.ijson_number.specs.private.Reading.{BeginsWithNoDigit, BeginsWithNoZero, EndsWithNoZero, IsSignTaken, IsTail, IsUnsigned};
 ghost use Rattle.ijson_number.specs.private.Scanned.{IsScanned, parts_of, scanned_number};
 

@@ -11,11 +11,11 @@ use Rattle.ijson_number.specs.Num.{IsNum, Num, is_in_range}
 abbrev pub decimal_code : Coded Decimal
 decimal_code =
     code_by
-      (ℤ × (ℤ × Bool))
-      (coded× coded_ℤ (coded× coded_ℤ coded_bool))
-      (λ n. (n.mantissa, (n.exponent, n.point)))
-      (λ p. record { mantissa = p.0; exponent = p.1.0; point = p.1.1 })
-      (λ _. refl)
+    (ℤ × (ℤ × Bool))
+    (coded× coded_ℤ (coded× coded_ℤ coded_bool))
+    (λ n. (n.mantissa, (n.exponent, n.point)))
+    (λ p. record { mantissa = p.0; exponent = p.1.0; point = p.1.1 })
+    (λ _. refl)
 
 ≤ℤ_prop : (a b : ℤ) → IsProp (a ≤ℤ b)
 ≤ℤ_prop a b x y i = record { le = T_prop _ x.le y.le i }
@@ -37,15 +37,15 @@ IsNum-prop n x y i = record {
 abbrev pub num_code : Coded Num
 num_code =
     code_by
-      ((n : Decimal) × IsNum n)
-      (coded_sub decimal_code IsNum IsNum-prop)
-      (λ n. (n.decimal, n.is_num))
-      (λ p. record { decimal = p.0; is_num = p.1 })
-      (λ _. refl)
+    ((n : Decimal) × IsNum n)
+    (coded_sub decimal_code IsNum IsNum-prop)
+    (λ n. (n.decimal, n.is_num))
+    (λ p. record { decimal = p.0; is_num = p.1 })
+    (λ _. refl)
 
 -- two Nums of one decimal are one Num
 pub num_same : (a b : Num) → a.decimal ≡ b.decimal → a ≡ b
 num_same a b e =
     ap
-      (λ (p : (n : Decimal) × IsNum n). let n : Num = record { decimal = p.0; is_num = p.1 } in n)
-      (Σ_prop_path IsNum-prop e)
+    (λ (p : (n : Decimal) × IsNum n). let n : Num = record { decimal = p.0; is_num = p.1 } in n)
+    (Σ_prop_path IsNum-prop e)
