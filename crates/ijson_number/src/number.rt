@@ -9,13 +9,16 @@ use crate::digits::Digits;
 use crate::reading;
 use std::alloc::Global;
 use std::marker::Model;
+use thiserror::Error;
 
 /// Why a text makes no number.
-#[derive(Clone, Copy, PartialEq, Eq, Debug, Drop)]
+#[derive(Clone, Copy, PartialEq, Eq, Debug, Drop, Error)]
 pub enum ParseNumberError {
     /// The text spells no number, or one whose stripped exponent is past the limit.
+    #[error("not a JSON number, or its exponent is out of range")]
     Invalid,
     /// The text spells a number of more than 20 stripped digits, and they found no memory.
+    #[error("out of memory")]
     Memory,
 }
 

@@ -15,7 +15,9 @@ use Rattle.std.specs.Ordering.{ordering_reverse}
 use Rattle.ijson_number.specs.Decimal.{Decimal, IsPlain}
 use Rattle.ijson_number.specs.Num.{Num}
 use Rattle.ijson_number.specs.Order.{number_cmp, number_eq, at_exponent}
-use Rattle.ijson_number.specs.Words.{number_words, fed_words}
+use Rattle.ijson_number.specs.Words.{number_words}
+use Rattle.std.specs.List.{flat_map}
+use Rattle.std.specs.Hash as fed
 use Rattle.ijson_number.specs.laws.Tens.{ten_pos, signed_mul, int_tens, zero_or_not}
 
 below_scaled : (x y k : ℕ) → 0 < k → x < y → x * k < y * k
@@ -156,5 +158,6 @@ pub same_equal : (a b : Decimal) → a.mantissa ≡ b.mantissa → a.exponent �
 same_equal a b p q = ap₂ (λ (m e : ℤ). number_cmp a (record { mantissa = m; exponent = e; point = b.point })) (sym p) (sym q) ∙ tied_itself number_cmp_total a
 
 -- equal numbers feed a hasher the same
-pub equal_feed : (a b : Num) → number_eq a.decimal b.decimal ≡ true → fed_words (number_words a.decimal) ≡ fed_words (number_words b.decimal)
-equal_feed a b h = ap fed_words (equal_words a.decimal b.decimal a.is_num.plain b.is_num.plain (tests_equal _ h))
+pub equal_feed : (a b : Num) → number_eq a.decimal b.decimal ≡ true
+    → flat_map fed.u64 (number_words a.decimal) ≡ flat_map fed.u64 (number_words b.decimal)
+equal_feed a b h = ap (flat_map fed.u64) (equal_words a.decimal b.decimal a.is_num.plain b.is_num.plain (tests_equal _ h))
