@@ -40,7 +40,9 @@ IsFraction (b ∷ bs) digits written = b ≡ 46 × IsDigits bs × digits ≡ bs 
 abbrev pub IsSigned : List ℕ → ℤ → Type 0
 IsSigned [] z = ⊥
 IsSigned (b ∷ bs) z =
-    (b ≡ 43 × IsDigits bs × z ≡ pos (value bs)) ⊎ (b ≡ 45 × IsDigits bs × z ≡ neg_ℤ (pos (value bs))) ⊎ (IsDigits (b ∷ bs) × z ≡ pos (value (b ∷ bs)))
+    (b ≡ 43 × IsDigits bs × z ≡ pos (value bs))
+    ⊎ (b ≡ 45 × IsDigits bs × z ≡ neg_ℤ (pos (value bs)))
+    ⊎ (IsDigits (b ∷ bs) × z ≡ pos (value (b ∷ bs)))
 
 -- nothing, or 'e' or 'E' and a signed number
 abbrev pub IsExponent : List ℕ → ℤ → (written : Bool) → Type 0
@@ -69,9 +71,13 @@ pub record IsSpelled (text : List ℕ) (p : Parts) : Type 0 where
   pub exponent : IsExponent exponent_text p.exponent has_exponent
   pub point : p.point ≡ has_point || has_exponent
 
--- all digits as one whole number with the sign, times ten to the written exponent less the count of fraction digits
+-- the parts denote the number: all digits as one whole number with the sign, times ten to the written exponent less the
+-- count of fraction digits, with all tens taken out
 abbrev pub Denotes : Parts → Decimal → Type 0
-Denotes p n = Strips (signed p.negative (value (p.whole ++ p.fraction))) (p.exponent -ℤ pos (length p.fraction)) n × n.point ≡ p.point
+Denotes p n =
+    let mantissa = signed p.negative (value (p.whole ++ p.fraction)) in
+    let exponent = p.exponent -ℤ pos (length p.fraction) in
+    Strips mantissa exponent n × n.point ≡ p.point
 
 -- the text spells the number
 abbrev pub Spells : List ℕ → Decimal → Type 0

@@ -77,6 +77,32 @@ fn copies(rt: HostRuntime) -> Result<(), Fail> {
     debugs(&rt, rt.alloc(), &copy, "-1234567890123456789012345.5")
 }
 
+/// So many digits, none of them 0, of which no two runs of twenty side by side are alike.
+fn long_digits(alloc: Global, count: usize) -> Result<String, Fail> {
+    let mut text = String::new(alloc);
+    for place in 0..count {
+        text.push((b'1' + (place % 9) as u8) as char)?;
+    }
+    Ok(text)
+}
+
+/// A contract can't say that a formatter only gives up where its writer does, so long texts are tried.
+#[test]
+fn long_numbers_are_written_whole(rt: HostRuntime) -> Result<(), Fail> {
+    let alloc = rt.alloc();
+    for count in [101, 5000] {
+        let digits = long_digits(alloc, count)?;
+        let number = INumber::from_str(alloc, digits.as_str())?;
+        displays(&rt, alloc, &number, digits.as_str())?;
+        let fraction = format!(in alloc; "-0.{digits}")?;
+        let number = INumber::from_str(alloc, fraction.as_str())?;
+        displays(&rt, alloc, &number, fraction.as_str())?;
+        debugs(&rt, alloc, &number, fraction.as_str())?;
+    }
+    let greatest = INumber::from_str(alloc, "1e1073741824")?;
+    debugs(&rt, alloc, &greatest, "1e1073741824")
+}
+
 fn refused(rt: &impl Abort, alloc: Global, text: &str) {
     let refusal = INumber::from_str(alloc, text).err();
     assert!(rt; refusal == Some(ParseNumberError::Invalid));
@@ -301,8 +327,8 @@ const PACKED: [(&str, i64, i8, bool); 9] = [
     ("-0", 0, 0, false),
 ];
 
-/// Texts whose digits are kept: the sign, the digits, the exponent, and whether the shape is float.
-const KEPT: [(&str, bool, &[u8], i32, bool); 7] = [
+/// Texts whose digits are stored: the sign, the digits, the exponent, and whether the shape is float.
+const STORED_DIGITS: [(&str, bool, &[u8], i32, bool); 7] = [
     (
         "36028797018963968.0",
         false,
@@ -382,7 +408,7 @@ fn word_forms(rt: HostRuntime) -> Result<(), Fail> {
 #[test]
 fn digit_forms(rt: HostRuntime) -> Result<(), Fail> {
     let alloc = rt.alloc();
-    for (text, negative, digits, exponent, point) in KEPT {
+    for (text, negative, digits, exponent, point) in STORED_DIGITS {
         let form = Form::Digits {
             negative,
             digits,

@@ -45,4 +45,6 @@ pub record IsUnsigned (text whole fraction : List ℕ) (exponent : ℤ) (point :
 
 -- a sign taken off the front
 abbrev pub IsSignTaken : (text : List ℕ) → (negative : Bool) → (rest : List ℕ) → Type 0
-IsSignTaken text negative rest = (text ≡ 45 ∷ rest × negative ≡ true) ⊎ (text ≡ rest × negative ≡ false × (0 < length text → slice_index text 0 ≢ 45))
+IsSignTaken text negative rest =
+    (text ≡ 45 ∷ rest × negative ≡ true)
+    ⊎ (text ≡ rest × negative ≡ false × (0 < length text → slice_index text 0 ≢ 45))

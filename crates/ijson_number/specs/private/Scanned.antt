@@ -10,7 +10,13 @@ use Rattle.ijson_number.specs.declared.reading.Scanned.{Scanned}
 use Rattle.ijson_number.specs.private.Stripped.{digits_from_text}
 
 abbrev pub parts_of : Spelling → Parts
-parts_of s = record { negative = s.negative; whole = s.whole.now; fraction = s.tail.fraction.now; exponent = signed s.tail.negative (value s.tail.exponent.now); point = s.tail.point }
+parts_of s = record {
+  negative = s.negative;
+  whole = s.whole.now;
+  fraction = s.tail.fraction.now;
+  exponent = signed s.tail.negative (value s.tail.exponent.now);
+  point = s.tail.point;
+}
 
 abbrev pub scanned_digits : Scanned → List ℕ
 scanned_digits s = digits_from_text (s.front.now ++ s.back.now)
