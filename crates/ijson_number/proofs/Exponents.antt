@@ -1,11 +1,9 @@
 -- The exponent reckoned with a capped written exponent.
-use Rattle.std.proofs.Common.{◌≡◌, ℕ, ◌^◌, ◌<◌, ◌≤◌, min, Bool, true, false, arith}
-use Rattle.std.specs.Prelude.{ℤ, pos, neg_ℤ, ◌+ℤ◌, ◌-ℤ◌, ◌≤ℤ◌}
+use Rattle.std.proofs.Common.{◌≡◌, ℕ, ◌^◌, ◌<◌, ◌≤◌, min, Bool, true, false, arith, ◌⊎◌, inl, inr}
+use Rattle.std.specs.Prelude.{ℤ, pos, neg_ℤ, ◌+ℤ◌, ◌-ℤ◌, ◌≤ℤ◌, nat_eq, nat_abs, int_le, IsTrue}
 use Rattle.std.proofs.lemmas.Int.{ints}
 use mir.Syntax.{w32, w128}
 use mir.Val.{SFits, to_z, of_z}
-use Rattle.std.proofs.Common.{◌⊎◌, inl, inr}
-use Rattle.std.specs.Prelude.{nat_eq, nat_abs, int_le, IsTrue}
 use Rattle.ijson_number.specs.Decimal.{Decimal}
 use Rattle.ijson_number.specs.Num.{is_in_range}
 use Rattle.ijson_number.specs.declared.reading.TheConstants.{EXPONENT_LIMIT}

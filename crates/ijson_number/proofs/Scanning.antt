@@ -7,10 +7,9 @@ use Rattle.std.proofs.lemmas.List.Elements.{All-from_recursion}
 use Rattle.std.specs.Int.Digits.{number_from_digits}
 use Rattle.ijson_number.specs.Decimal.{Decimal}
 use Rattle.ijson_number.specs.Num.{IsNum}
-use Rattle.ijson_number.specs.private.Reading.{IsWithin, exponent_of}
+use Rattle.ijson_number.specs.private.Reading.{IsWithin, exponent_of, BeginsWithNoZero, EndsWithNoZero}
 use Rattle.ijson_number.specs.private.StoredNumber.{IsStored, stored_number}
 use Rattle.ijson_number.specs.Grammar.{AllDigits, Parts, IsSpelled, IsFraction, Spells}
-use Rattle.ijson_number.specs.private.Reading.{BeginsWithNoZero, EndsWithNoZero}
 use Rattle.ijson_number.specs.private.Stripped.{IsStripped, digits_from_text}
 use Rattle.ijson_number.proofs.Runs.{AllDigits-append, AllDigits_left, AllDigits_right, IsDigits_all}
 use Rattle.ijson_number.proofs.Parts.{whole_all}

@@ -1,17 +1,15 @@
 -- The text of whole numbers, as std writes it.
 use Rattle.std.proofs.Common.{◌≡◌, ℕ, zero, suc, ◌+◌, ◌/◌, ◌%◌, ◌^◌, ◌<◌, List, [], ◌∷◌, ◌++◌, length, take, drop, refl, ap, sym, ◌∙◌, arith}
-use Rattle.std.specs.Prelude.{ℤ, pos, negsuc, neg_ℤ, nat_abs, Bool, true, false, ◌||◌, int_le, int_lt, ◌<ℤ◌, ◌+ℤ◌, ◌-ℤ◌}
+use Rattle.std.specs.Prelude.{ℤ, pos, negsuc, neg_ℤ, nat_abs, Bool, true, false, ◌||◌, int_le, int_lt, ◌<ℤ◌, ◌+ℤ◌, ◌-ℤ◌, nat_eq}
 use Rattle.std.proofs.lemmas.Int.{ints}
 use Rattle.std.proofs.lemmas.Bool.Decides.{nat_tests}
 use Rattle.std.proofs.lemmas.Fmt.{decimal_by_steps_wide, decimal_digit}
 use Rattle.std.proofs.lemmas.List.{map-append}
 use Rattle.std.proofs.lemmas.Int.Digits.{digits_of_step}
 use Rattle.std.specs.Fmt.{decimal, signed_decimal}
-use Rattle.std.specs.Int.Digits.{digits_of}
+use Rattle.std.specs.Int.Digits.{digits_of, number_from_digits}
 use Rattle.ijson_number.specs.Text.{whole_text, digits_text, scientific_text, point_text, shape_text, minus_text, zero_text, num_text}
 use Rattle.ijson_number.proofs.DigitsOf.{digits_are, stored_digits_are}
-use Rattle.std.specs.Prelude.{nat_eq}
-use Rattle.std.specs.Int.Digits.{number_from_digits}
 use Rattle.ijson_number.specs.Decimal.{Decimal}
 use Rattle.ijson_number.specs.Strips.{signed}
 use Rattle.ijson_number.specs.private.StoredNumber.{stored_number}

@@ -3,10 +3,9 @@ ghost use Rattle.std.specs.Prelude.{◌≡◌, ◌++◌, ◌↔◌, ◌<◌, ◌
 ghost use mir.Syntax.{w128};
 ghost use Rattle.ijson_number.specs.Decimal.{Decimal};
 ghost use Rattle.ijson_number.specs.Num.{IsNum};
-ghost use Rattle.ijson_number.specs.private.Reading.{IsWithin, exponent_of};
+ghost use Rattle.ijson_number.specs.private.Reading.{IsWithin, exponent_of, BeginsWithNoDigit, BeginsWithNoZero, EndsWithNoZero, IsSignTaken, IsTail, IsUnsigned};
 ghost use Rattle.ijson_number.specs.Strips.{signed};
 ghost use Rattle.ijson_number.specs.Grammar.{AllDigits, IsDigits, IsExponent, IsSpelled, IsWhole, Parts, Spells, value};
-ghost use Rattle.ijson_number.specs.private.Reading.{BeginsWithNoDigit, BeginsWithNoZero, EndsWithNoZero, IsSignTaken, IsTail, IsUnsigned};
 ghost use Rattle.ijson_number.specs.private.Scanned.{IsScanned, parts_of, scanned_number};
 
 /// More than any exponent within the limit needs, whatever the length of a text.

@@ -3,6 +3,7 @@ use crate::number::{Form, INumber, Looks, ParseNumberError, first_fault};
 use std::alloc::Global;
 use std::cell::{Cell, RefCell};
 use std::cmp::Ordering;
+use std::error::Error;
 use std::hash::{Hash, Hasher};
 use std::process::Abort;
 use std::test::Fail;
@@ -108,8 +109,14 @@ fn refused(rt: &impl Abort, alloc: Global, text: &str) {
     assert!(rt; refusal == Some(ParseNumberError::Invalid));
 }
 
+fn tells(rt: &impl Abort, alloc: Global, error: &impl Error, want: &str) -> Result<(), Fail> {
+    let text = format!(in alloc; "{error}")?;
+    assert_eq!(rt; text.as_str(), want);
+    Ok(())
+}
+
 #[test]
-fn refusals(rt: HostRuntime) {
+fn refusals(rt: HostRuntime) -> Result<(), Fail> {
     let alloc = rt.alloc();
     refused(&rt, alloc, "");
     refused(&rt, alloc, "01");
@@ -123,6 +130,9 @@ fn refusals(rt: HostRuntime) {
     refused(&rt, alloc, "10e1073741824");
     refused(&rt, alloc, "1e-1073741825");
     refused(&rt, alloc, "1e99999999999999999999999999999999999999999999");
+    let invalid = "not a JSON number, or its exponent is out of range";
+    tells(&rt, alloc, &ParseNumberError::Invalid, invalid)?;
+    tells(&rt, alloc, &ParseNumberError::Memory, "out of memory")
 }
 
 fn fault(rt: &impl Abort, text: &str, want: Option<usize>) {
@@ -142,6 +152,7 @@ fn faults(rt: HostRuntime) {
     fault(&rt, "1e+", Some(3));
     fault(&rt, "1e5e", Some(3));
     fault(&rt, "1.5.5", Some(3));
+    fault(&rt, "1e1073741825-", Some(12));
     fault(&rt, "-0.50E-007", None);
     fault(&rt, "1e99999999999999999999999999999999999999999999", None);
 }

@@ -1,6 +1,5 @@
 -- What the steps of the reader promise.
-use Rattle.std.specs.Prelude.{true, false, ◌≡◌, ◌≢◌, ◌<◌, ◌-◌, length, slice_index, ◌⊎◌, ◌||◌, ℕ, ℤ, Bool, List, [], ◌∷◌, ◌++◌}
-use Rattle.std.specs.Prelude.{pos, neg_ℤ, ◌≤ℤ◌, ◌+ℤ◌, ◌-ℤ◌}
+use Rattle.std.specs.Prelude.{true, false, ◌≡◌, ◌≢◌, ◌<◌, ◌-◌, length, slice_index, ◌⊎◌, ◌||◌, ℕ, ℤ, Bool, List, [], ◌∷◌, ◌++◌, pos, neg_ℤ, ◌≤ℤ◌, ◌+ℤ◌, ◌-ℤ◌}
 use Rattle.ijson_number.specs.declared.reading.TheConstants.{EXPONENT_LIMIT}
 use Rattle.ijson_number.specs.Grammar.{IsDigit, IsWhole, IsFraction, IsExponent}
 
