@@ -225,8 +225,15 @@ pub fn capped(digits: &[u8]) -> u128
     number
 }
 
-/// The greatest stripped exponent.
+/// The greatest stripped exponent. The limit is this project's own.
 pub const EXPONENT_LIMIT: i128 = 1 << 30;
+
+/// Whether a stripped exponent is within the limit.
+fn is_within_limit(exponent: i128) -> bool
+    ensures { IsTrue result ↔ IsWithin exponent }
+{
+    -EXPONENT_LIMIT <= exponent && exponent <= EXPONENT_LIMIT
+}
 
 /// The written exponent, or 2 ^ 80 with its sign where that is nearer to zero.
 fn written_exponent(tail: &Tail<'_>) -> i128
@@ -260,10 +267,11 @@ pub fn stripped_exponent(tail: &Tail<'_>, tens: u128) -> Option<i32>
         IfNone result (IsWithin (exponent_of written (length tail.now.fraction.now) tens) → ⊥) }
 {
     let exponent = capped_exponent(tail, tens);
-    if exponent < -EXPONENT_LIMIT || exponent > EXPONENT_LIMIT {
-        return None;
+    if is_within_limit(exponent) {
+        Some(exponent as i32)
+    } else {
+        None
     }
-    Some(exponent as i32)
 }
 
 /// A number that isn't too large, whose stripped digits still lie in its text, in two pieces.
