@@ -213,10 +213,10 @@ pub fn strip_back<'a>(front: &'a [u8], back: &'a [u8]) -> (&'a [u8], &'a [u8])
     }
 }
 
-/// The digits as a number, or 2 ^ 80 where that is less.
+/// The digits as a number, or the cap where that is less.
 pub fn capped(digits: &[u8]) -> u128
     requires { AllDigits digits.now }
-    ensures { result ≡ min (value digits.now) (2 ^ 80) }
+    ensures { result ≡ min (value digits.now) CAP }
 {
     let mut number: u128 = 0;
     for digit in digits {
@@ -235,10 +235,10 @@ fn is_within_limit(exponent: i128) -> bool
     -EXPONENT_LIMIT <= exponent && exponent <= EXPONENT_LIMIT
 }
 
-/// The written exponent, or 2 ^ 80 with its sign where that is nearer to zero.
+/// The written exponent, or the cap with its sign where that is nearer to zero.
 fn written_exponent(tail: &Tail<'_>) -> i128
     requires { AllDigits tail.now.exponent.now }
-    ensures { result ≡ signed tail.now.negative (min (value tail.now.exponent.now) (2 ^ 80)) }
+    ensures { result ≡ signed tail.now.negative (min (value tail.now.exponent.now) CAP) }
 {
     let number = capped(tail.exponent) as i128;
     if tail.negative { -number } else { number }
@@ -249,7 +249,7 @@ fn capped_exponent(tail: &Tail<'_>, tens: u128) -> i128
     requires digits { AllDigits tail.now.exponent.now }
     requires tens { tens < 2 ^ 65 }
     ensures value { result
-        ≡ signed tail.now.negative (min (value tail.now.exponent.now) (2 ^ 80))
+        ≡ signed tail.now.negative (min (value tail.now.exponent.now) CAP)
         +ℤ (pos tens -ℤ pos (length tail.now.fraction.now)) }
     ensures fits { FitsSigned w128 result }
 {
