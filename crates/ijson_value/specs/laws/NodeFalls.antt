@@ -1,8 +1,8 @@
 -- What a node holds is smaller than the node's value.
 use Rattle.std.specs.Prelude.{◌≤◌, max}
 use Rattle.std.proofs.Common.{arith}
-use Rattle.ijson_value.specs.Depths.{value_size}
-use Rattle.ijson_value.specs.View.{node_value}
+use Rattle.ijson_value.specs.private.Sizes.{value_size}
+use Rattle.ijson_value.specs.private.NodeValue.{node_value}
 use Rattle.ijson_value.specs.declared.value.Node.{Node}
 use Rattle.ijson_value.specs.declared.value.Node.TheVariants.{Null, Bool, Number, String, Array, Object}
 use Rattle.ijson_value.specs.declared.array.IArray.TheDeep.{deep-Node}

@@ -39,11 +39,13 @@ truths false false = (λ e. refl, λ e. refl)
 abbrev Found : List ℕ → (Tree → Type 0) → Members → Type 0
 Found k P qs = (u : Tree) × Has k u qs × P u
 
-has_decides : (k : List ℕ) (p : Tree → Bool) (P : Tree → Type 0) → ((u : Tree) → Decides (p u) (P u)) → (qs : Members) → Decides (some_has k p qs) (Found k P qs)
+has_decides : (k : List ℕ) (p : Tree → Bool) (P : Tree → Type 0) → ((u : Tree) → Decides (p u) (P u))
+    → (qs : Members) → Decides (some_has k p qs) (Found k P qs)
 has_decides k p P d no_members = (λ e. absurd (true≢false (sym e)), λ h. absurd h.1)
 has_decides k p P d (member j v qs) =
     along ((bytes_eq k j && p v) || some_has k p qs)
-    (either (bytes_eq k j && p v) (some_has k p qs) (both (bytes_eq k j) (p v) (bytes_decides k j) (d v)) (has_decides k p P d qs))
+    (either (bytes_eq k j && p v) (some_has k p qs) (both (bytes_eq k j) (p v) (bytes_decides k j)
+        (d v)) (has_decides k p P d qs))
     (λ h. elim h [ inl x ↦ (v, inl (x.0, refl), x.1) | inr y ↦ (y.0, inr y.1, y.2) ])
     (λ h. elim h.1 [ inl e ↦ inl (e.0, subst P e.1 h.2) | inr m ↦ inr (h.0, m, h.2) ])
 
@@ -54,7 +56,9 @@ mutual
   decides (number m) (number n) = Equal-is (number_cmp m n)
   decides (string s) (string t) = bytes_decides s t
   decides (array ts) (array us) = decides_each ts us
-  decides (object ps) (object qs) = both (members_len ps == members_len qs) (same_in ps qs) (Decides-eqb (members_len ps) (members_len qs)) (decides_in ps qs)
+  decides (object ps) (object qs) =
+      both (members_len ps == members_len qs) (same_in ps qs)
+      (Decides-eqb (members_len ps) (members_len qs)) (decides_in ps qs)
   decides _ _ = no_way
 
   pub decides_each : (ts us : Items) → Decides (same_each ts us) (SameEach ts us)
@@ -64,4 +68,6 @@ mutual
 
   pub decides_in : (ps qs : Members) → Decides (same_in ps qs) (SameIn ps qs)
   decides_in no_members qs = yes
-  decides_in (member k t ps) qs = both (some_has k (same t) qs) (same_in ps qs) (has_decides k (same t) (Same t) (decides t) qs) (decides_in ps qs)
+  decides_in (member k t ps) qs =
+      both (some_has k (same t) qs) (same_in ps qs) (has_decides k (same t) (Same t) (decides t) qs)
+      (decides_in ps qs)

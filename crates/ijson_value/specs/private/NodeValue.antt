@@ -1,9 +1,10 @@
--- One level of a value, where each value inside is seen already.
-use Rattle.ijson_value.specs.Proper.{Proper, null_value, boolean_value, number_value, string_value, array_value, object_value}
+-- The value of a node, where each value inside is seen already.
+use Rattle.ijson_value.specs.Values.{null_value, boolean_value, number_value, string_value, array_value, object_value}
+use Rattle.ijson_value.specs.WellFormed.{WellFormed}
 use Rattle.ijson_value.specs.declared.value.Node.{Node}
 use Rattle.ijson_value.specs.declared.value.Node.TheVariants.{Null, Bool, Number, String, Array, Object}
 
-abbrev pub node_value : Node → Proper
+abbrev pub node_value : Node → WellFormed
 node_value Null = null_value
 node_value (Bool b) = boolean_value b
 node_value (Number n) = number_value n

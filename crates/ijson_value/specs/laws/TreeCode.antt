@@ -53,7 +53,9 @@ mutual
 
   inj_ps : (ps qs : Members) → code_ps ps ≡ code_ps qs → ps ≡ qs
   inj_ps no_members no_members e = refl
-  inj_ps (member k t ps) (member j u qs) e = λ i. member (text_code.inj k j (ap first e) i) (inj_t t u (ap first (ap second e)) i) (inj_ps ps qs (ap second (ap second e)) i)
+  inj_ps (member k t ps) (member j u qs) e =
+      λ i. member (text_code.inj k j (ap first e) i) (inj_t t u (ap first (ap second e)) i)
+      (inj_ps ps qs (ap second (ap second e)) i)
   inj_ps _ _ e = cc
 
 abbrev pub tree_code : Coded Tree
