@@ -1,6 +1,6 @@
 -- A cache is a finite set of texts, each a list of bytes. As in the Rust crate `ijson`; that 7 bytes stay in place is
 -- this project's own.
-use Rattle.std.specs.Prelude.{◌≡◌, ◌<◌, ℕ, List, Bool, true, length, ltb, if◌then◌else◌}
+use Rattle.std.specs.Prelude.{ℕ, List, Bool, length, ltb, if◌then◌else◌}
 use Rattle.std.specs.Ordering.{nat_cmp}
 use Rattle.std.specs.Cmp.Lexicographic.{slice_cmp}
 use Rattle.std.specs.FinSet as set
@@ -15,7 +15,3 @@ is_long text = ltb 7 (length text)
 -- interning adds a long text, and leaves the cache at a short one
 abbrev pub interned : List ℕ → Texts → Texts
 interned text texts = if is_long text then set.insert texts text else texts
-
--- a cache holds long texts alone
-abbrev pub AllAreLong : Texts → Type 0
-AllAreLong texts = (text : List ℕ) → set.contains texts text ≡ true → 7 < length text

@@ -1,45 +1,45 @@
 //! `StringCache`: the set of long texts that were interned.
-ghost use Rattle.std.specs.Prelude.{◌≡◌, ◌<◌, ◌≤◌, false, length, IfOk, OnOk, OnErr};
+ghost use Rattle.std.specs.Prelude.{◌≡◌, ◌<◌, ◌≤◌, ◌==◌, false, length, IfOk, OnOk, OnErr};
 ghost use Rattle.std.specs.FinSet as set;
-ghost use Rattle.std.specs.Rc.{rc_str_bytes};
 
+use crate::cached::CachedText;
+use crate::text::IString;
+use indexmap::IndexSet;
 use std::alloc::{AllocError, Global};
-use std::collections::HashSet;
 use std::hash::BuildHasher;
 use std::marker::Model;
-use std::rc::RcStr;
 
 /// A set of texts of more than 7 bytes, each kept once. `IString::intern` adds to it, and shares what it holds.
 #[derive(Drop)]
 pub struct StringCache<S: BuildHasher> {
     alloc: Global,
-    texts: HashSet<RcStr, S>,
+    texts: IndexSet<CachedText, S>,
 }
 
 impl<S: BuildHasher> Model for StringCache<S> {
-    ghost use Rattle.std.specs.Prelude.{map};
     ghost use Rattle.std.specs.Coded.{coded_ℕ, coded_list};
     ghost use Rattle.std.specs.FinSet as set;
-    ghost use Rattle.std.specs.Rc.{rc_str_bytes};
-    ghost use Rattle.ijson_string.specs.Cache.{Texts, AllAreLong};
+    ghost use Rattle.ijson_string.specs.Cache.{Texts};
+    ghost use Rattle.ijson_string.specs.private.AllAreLong.{AllAreLong};
 
     ghost Value = { Texts };
 
     ghost coded = { set.code (coded_list coded_ℕ) };
 
-    ghost view = { λ c. set.from_list (map rc_str_bytes c.texts.keys) };
+    ghost view = { λ c. set.from_list c.texts.keys };
 
-    ghost invariant = { λ c. AllAreLong (set.from_list (map rc_str_bytes c.texts.keys)) };
+    ghost invariant = { λ c. AllAreLong (set.from_list c.texts.keys) };
 }
 
 impl<S: BuildHasher> StringCache<S> {
     /// An empty cache, which takes its memory from `alloc` as it grows.
+    #[tactic(auto, using(crate::proofs::Sets::AllAreLong_no_keys))]
     pub fn new(alloc: Global, hasher: S) -> StringCache<S>
         ensures { result ≡ set.empty }
     {
         StringCache {
             alloc,
-            texts: HashSet::with_hasher(alloc, hasher),
+            texts: IndexSet::with_hasher(alloc, hasher),
         }
     }
 
@@ -48,6 +48,13 @@ impl<S: BuildHasher> StringCache<S> {
         ensures { result ≡ set.len self.now }
     {
         self.texts.len()
+    }
+
+    /// Whether there is no text.
+    pub fn is_empty(&self) -> bool
+        ensures { result ≡ (set.len self.now == 0) }
+    {
+        self.len() == 0
     }
 
     /// Whether `text` is there. A text of at most 7 bytes never is.
@@ -59,6 +66,7 @@ impl<S: BuildHasher> StringCache<S> {
     }
 
     /// Takes out every text. Each `IString` keeps the text that it has.
+    #[tactic(auto, using(crate::proofs::Sets::AllAreLong_no_keys))]
     pub fn clear(&mut self)
         ensures { self.new ≡ set.empty }
     {
@@ -66,17 +74,18 @@ impl<S: BuildHasher> StringCache<S> {
     }
 
     /// The shared copy of a long text, which is added if it is new. Refused memory leaves the set.
-    pub(crate) fn share(&mut self, text: &str) -> Result<RcStr, AllocError>
+    pub(crate) fn share(&mut self, text: &str) -> Result<IString, AllocError>
         requires { 7 < length text.now }
-        ensures text { IfOk result (λ shared. rc_str_bytes shared ≡ text.now) }
+        ensures text { IfOk result (λ shared. shared ≡ text.now) }
         ensures added { OnOk result (self.new ≡ set.insert self.old text.now) }
         ensures refused { OnErr result (self.new ≡ self.old) }
     {
         if let Some(shared) = self.texts.get(text) {
-            return shared.clone();
+            return shared.text.clone();
         }
-        let shared = RcStr::from_str(self.alloc, text)?;
-        self.texts.insert(shared.clone()?)?;
+        let shared = IString::long(self.alloc, text)?;
+        let text = shared.clone()?;
+        self.texts.insert(CachedText { text })?;
         Ok(shared)
     }
 }

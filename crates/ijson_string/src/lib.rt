@@ -1,8 +1,9 @@
 //! Immutable texts: up to 7 bytes are kept in place, and longer texts are shared through a cache.
 #![tactic(auto)]
 
+mod block;
 mod cache;
-mod short;
+mod cached;
 mod text;
 
 pub use cache::StringCache;

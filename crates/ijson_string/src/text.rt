@@ -1,5 +1,7 @@
 //! `IString`: a text that is compared, ordered and hashed by its bytes.
-ghost use Rattle.std.specs.Prelude.{◌≡◌, ℕ, ◌≤◌, ◌==◌, List, [], length, Some, IfOk, IsOk, OnOk, OnErr, nat_eq, refl, IsTrue, ◌↔◌};
+ghost use Rattle.std.specs.Prelude.{◌≡◌, ℕ, ◌<◌, ◌≤◌, ◌==◌, List, [], length, Some, IfOk, IsOk, OnOk, OnErr, nat_eq, refl, IsTrue, ◌↔◌};
+ghost use Rattle.std.specs.Hash as fed;
+ghost use Rattle.std.specs.List.{flat_map};
 ghost use Rattle.std.specs.Ordering.{nat_cmp};
 ghost use Rattle.std.specs.String.{string_bytes};
 ghost use Rattle.std.specs.Cmp;
@@ -7,28 +9,34 @@ ghost use Rattle.std.specs.Cmp.Lexicographic.{pointwise, slice_cmp, nat_list_eq_
 ghost use Rattle.std.specs.Cmp.Rules.{hashing};
 ghost use Rattle.std.proofs.Common.{rules};
 ghost use Rattle.ijson_string.specs.Cache.{interned};
-ghost use Rattle.ijson_string.specs.Words.{text_words, fed_words};
+ghost use Rattle.ijson_string.specs.Words.{text_words};
 
+use crate::block::Block;
 use crate::cache::StringCache;
-use crate::short::ShortText;
 use std::alloc::{AllocError, Global};
 use std::cmp::Ordering;
 use std::fmt;
 use std::hash::{BuildHasher, Hash, Hasher};
 use std::marker::Model;
-use std::rc::RcStr;
+use std::rc::{Rc, RcStr};
 
 /// A text in UTF-8. One of at most 7 bytes lies in the value itself, and a longer one is shared with its clones and with
 /// the cache that it was interned in. Equality, order and hash are those of its bytes, whatever the cache.
 #[derive(Drop)]
 pub struct IString {
-    kept: Kept,
+    stored: Stored,
 }
 
+/// A text by the room that it takes, each variant in 16 bytes: in place; in one block of memory, beside its two counts; or
+/// in two blocks where it is longer than 71 bytes.
 #[derive(Drop)]
-enum Kept {
-    InPlace(ShortText),
-    Shared(RcStr),
+enum Stored {
+    InPlace(Block<7>),
+    UpTo23(Rc<Block<23>>),
+    UpTo39(Rc<Block<39>>),
+    UpTo55(Rc<Block<55>>),
+    UpTo71(Rc<Block<71>>),
+    Long(RcStr),
 }
 
 impl Model for IString {
@@ -36,11 +44,11 @@ impl Model for IString {
 
     ghost Value = { List ℕ };
 
-    ghost use Rattle.ijson_string.specs.Kept.{kept_bytes, IsKeptByLength};
+    ghost use Rattle.ijson_string.specs.private.Stored.{stored_bytes, IsStoredByLength};
 
-    ghost view = { λ s. kept_bytes s.kept };
+    ghost view = { λ s. stored_bytes s.stored };
 
-    ghost invariant = { λ s. IsKeptByLength s.kept };
+    ghost invariant = { λ s. IsStoredByLength s.stored };
 }
 
 impl IString {
@@ -49,7 +57,7 @@ impl IString {
         ensures { result ≡ [] }
     {
         IString {
-            kept: Kept::InPlace(ShortText::empty()),
+            stored: Stored::InPlace(Block::new("")),
         }
     }
 
@@ -64,20 +72,40 @@ impl IString {
         ensures refused { OnErr result (cache.new ≡ cache.old) }
         ensures short { length text.now ≤ 7 → IsOk result }
     {
-        let kept = match ShortText::new(text) {
-            Some(text) => Kept::InPlace(text),
-            None => Kept::Shared(cache.share(text)?),
+        if text.len() > 7 {
+            return cache.share(text);
+        }
+        Ok(IString {
+            stored: Stored::InPlace(Block::new(text)),
+        })
+    }
+
+    /// A text of more than 7 bytes, in memory of its own; the error is want of memory.
+    pub(crate) fn long(alloc: Global, text: &str) -> Result<IString, AllocError>
+        requires { 7 < length text.now }
+        ensures { IfOk result (λ s. s ≡ text.now) }
+    {
+        let stored = match text.len() {
+            0..=23 => Stored::UpTo23(Rc::new(alloc, Block::new(text))?),
+            24..=39 => Stored::UpTo39(Rc::new(alloc, Block::new(text))?),
+            40..=55 => Stored::UpTo55(Rc::new(alloc, Block::new(text))?),
+            56..=71 => Stored::UpTo71(Rc::new(alloc, Block::new(text))?),
+            _ => Stored::Long(RcStr::from_str(alloc, text)?),
         };
-        Ok(IString { kept })
+        Ok(IString { stored })
     }
 
     /// The text.
     pub fn as_str(&self) -> &str
         ensures { result.now ≡ self.now }
     {
-        match &self.kept {
-            Kept::InPlace(text) => text.as_str(),
-            Kept::Shared(text) => text.as_str(),
+        match &self.stored {
+            Stored::InPlace(text) => text.as_str(),
+            Stored::UpTo23(text) => text.as_str(),
+            Stored::UpTo39(text) => text.as_str(),
+            Stored::UpTo55(text) => text.as_str(),
+            Stored::UpTo71(text) => text.as_str(),
+            Stored::Long(text) => text.as_str(),
         }
     }
 
@@ -123,17 +151,15 @@ impl Clone for IString {
     ghost is_infallible = { λ s. length s ≤ 7 };
 
     fn clone(&self) -> Result<IString, AllocError> {
-        match &self.kept {
-            Kept::InPlace(text) => Ok(IString {
-                kept: Kept::InPlace(*text),
-            }),
-            Kept::Shared(text) => {
-                let text = text.clone()?;
-                Ok(IString {
-                    kept: Kept::Shared(text),
-                })
-            }
-        }
+        let stored = match &self.stored {
+            Stored::InPlace(text) => Stored::InPlace(text.copy()),
+            Stored::UpTo23(text) => Stored::UpTo23(text.clone()?),
+            Stored::UpTo39(text) => Stored::UpTo39(text.clone()?),
+            Stored::UpTo55(text) => Stored::UpTo55(text.clone()?),
+            Stored::UpTo71(text) => Stored::UpTo71(text.clone()?),
+            Stored::Long(text) => Stored::Long(text.clone()?),
+        };
+        Ok(IString { stored })
     }
 }
 
@@ -176,7 +202,7 @@ impl Ord for IString {
 }
 
 impl Hash for IString {
-    ghost hash_input = { λ s. fed_words (text_words s) };
+    ghost hash_input = { λ s. flat_map fed.u64 (text_words s) };
 
     ghost respects_eq = { Prim.search (hashing, rules) };
 

@@ -1,5 +1,5 @@
--- When two trees are the same JSON value: numbers by their value, arrays item by item, objects as maps, whatever the order of
--- their pairs. As the Rust crate `ijson` has it.
+-- When two trees are the same JSON value: numbers by their value, arrays item by item, objects as maps, whatever the
+-- order of their pairs. As the Rust crate `ijson` has it.
 use Rattle.std.specs.Prelude.{◌≡◌, ◌⊎◌, ℕ, List}
 use Rattle.std.specs.declared.cmp.Ordering.TheVariants.{Equal}
 use Rattle.ijson_number.specs.Order.{number_cmp}

@@ -1,4 +1,4 @@
--- `Same` as a test.
+-- `Same` as a test, which is `==`. `specs/laws/SameDecided.antt` shows that it answers `Same`.
 use Rattle.std.specs.Prelude.{Bool, true, false, ◌&&◌, ◌||◌, ◌==◌, ℕ, List}
 use Rattle.std.specs.Str.{bytes_eq}
 use mathlib.Core.Bool.{beq}

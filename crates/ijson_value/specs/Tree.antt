@@ -1,5 +1,5 @@
--- A JSON value as a tree (RFC 8259, sections 3 to 7): null, a truth value, a number, a text, a list of values, or pairs of a
--- key and a value in their order. A text is its UTF-8 bytes.
+-- A JSON value as a tree (RFC 8259, sections 3 to 7): null, a truth value, a number, a text, a list of values, or pairs
+-- of a key and a value in their order. A text is its UTF-8 bytes.
 use Rattle.std.specs.Prelude.{ℕ, suc, max, Bool, List, [], ◌∷◌}
 use Rattle.ijson_number.specs.Decimal.{Decimal}
 
@@ -20,6 +20,7 @@ mutual
     no_members : Members
     member : List ℕ → Tree → Members → Members
 
+-- a list of trees as items, and a list of pairs as members
 abbrev pub items_of : List Tree → Items
 items_of [] = no_items
 items_of (t ∷ ts) = item t (items_of ts)
@@ -28,10 +29,7 @@ abbrev pub members_of : List (List ℕ × Tree) → Members
 members_of [] = no_members
 members_of (p ∷ ps) = member p.0 p.1 (members_of ps)
 
-abbrev pub items_len : Items → ℕ
-items_len no_items = 0
-items_len (item t ts) = suc (items_len ts)
-
+-- how many members there are
 abbrev pub members_len : Members → ℕ
 members_len no_members = 0
 members_len (member k t ps) = suc (members_len ps)

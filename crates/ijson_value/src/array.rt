@@ -1,41 +1,46 @@
 //! Arrays of values.
-ghost use Rattle.std.specs.Prelude.{◌≡◌, [], ◌∷◌, ◌++◌, ◌<◌, ◌≤◌, length, OnOk, IfErr, IsOk, IsTrue, ◌↔◌};
-ghost use Rattle.ijson_value.specs.Equality.{partial_equivalence, equivalence};
-ghost use Rattle.ijson_value.specs.Proper.{array_tree, array_value};
+ghost use Rattle.std.specs.Prelude.{◌≡◌, ◌==◌, [], ◌∷◌, ◌++◌, ◌<◌, ◌≤◌, length, OnOk, IfErr, IsOk, IsTrue, ◌↔◌};
 ghost use Rattle.ijson_value.specs.Same.{Same};
 ghost use Rattle.ijson_value.specs.SameTest.{same};
+ghost use Rattle.ijson_value.specs.Values.{array_tree, array_value};
+ghost use Rattle.ijson_value.specs.laws.Equality.{partial_equivalence, equivalence};
 
 use crate::same::same_items;
 use crate::value::IValue;
 use std::alloc::Global;
 use std::marker::Model;
+use thiserror::Error;
 
-/// A list of values.
+/// A list of values. Behind one pointer, which is there once the list has taken memory.
 #[cycle(value)]
 #[derive(Debug, Drop)]
 pub struct IArray {
-    items: Vec<IValue>,
+    list: Option<Box<Vec<IValue>>>,
+    alloc: Global,
 }
 
 impl Model for IArray {
-    ghost use Rattle.std.specs.Prelude.{vec_capacity};
-    ghost use Rattle.std.proofs.Common.{arith};
-    ghost use Rattle.ijson_value.specs.Sequence.{Sequence, sequence_code};
-    ghost use Rattle.ijson_value.specs.Depths.{array_size, items_fall};
+    ghost use Rattle.ijson_value.specs.Sequence.{Sequence};
+    ghost use Rattle.ijson_value.specs.laws.SequenceCode.{sequence_code};
+    ghost use Rattle.ijson_value.specs.private.Boxed.{list_items, list_capacity};
+    ghost use Rattle.ijson_value.specs.private.Sizes.{array_size};
 
     ghost Value = { Sequence };
 
     ghost coded = { sequence_code };
 
-    ghost view = { λ a. record { items = a.items.items; capacity = vec_capacity a.items } };
+    ghost view = { λ a. record { items = list_items a.list; capacity = list_capacity a.list } };
 
     ghost size = { array_size };
 
-    ghost size_decreases = { λ a h. omega (arith, items_fall a.items.items) };
+    ghost use Rattle.ijson_value.specs.laws.ArrayFalls.{array_falls};
+
+    ghost size_decreases = { λ a h. array_falls a.list a.alloc };
 }
 
 /// An item that an array had no memory for.
-#[derive(Debug, Drop)]
+#[derive(Debug, Drop, Error)]
+#[error("no memory for one more item")]
 pub struct Refused(pub IValue);
 
 impl IArray {
@@ -43,33 +48,48 @@ impl IArray {
     pub fn new(alloc: Global) -> IArray
         ensures items { result.items ≡ [] }
     {
-        IArray {
-            items: Vec::new(alloc),
-        }
+        IArray { list: None, alloc }
     }
 
     /// How many items there are.
     pub fn len(&self) -> usize
         ensures { result ≡ length self.now.items }
     {
-        self.items.len()
+        self.as_slice().len()
+    }
+
+    /// Whether there is no item.
+    pub fn is_empty(&self) -> bool
+        ensures { result ≡ (length self.now.items == 0) }
+    {
+        self.len() == 0
     }
 
     /// The items, front to back.
     pub fn as_slice(&self) -> &[IValue]
         ensures { result.now ≡ self.now.items }
     {
-        self.items.as_slice()
+        match &self.list {
+            None => &[],
+            Some(list) => list.as_slice(),
+        }
     }
 
     /// Puts an item last. It takes memory only where there is no room for one more.
     pub fn push(&mut self, item: IValue) -> Result<(), Refused>
         ensures ok { OnOk result (self.new.items ≡ self.old.items ++ item ∷ []) }
-        ensures refused { IfErr result (λ refused. (refused.0 ≡ item) × (self.new.items ≡ self.old.items)) }
+        ensures refused { IfErr result (λ refused.
+            (refused.0 ≡ item) × (self.new.items ≡ self.old.items)) }
         ensures room { length self.old.items < self.old.capacity → IsOk result }
         ensures capacity { self.old.capacity ≤ self.new.capacity }
     {
-        match self.items.push(item) {
+        if self.list.is_none() {
+            match Box::new(self.alloc, Vec::new(self.alloc)) {
+                Ok(list) => self.list = Some(list),
+                Err(_) => return Err(Refused(item)),
+            }
+        }
+        match self.list.as_mut().unwrap().push(item) {
             Ok(()) => Ok(()),
             Err(refused) => Err(Refused(refused.value)),
         }
@@ -81,10 +101,9 @@ impl PartialEq for IArray {
 
     ghost laws = { partial_equivalence (λ a. array_value a.items) };
 
-    #[tactic(auto, using(crate::specs::Equality::is_same))]
+    #[tactic(auto, using(crate::specs::laws::Equality::is_same))]
     fn eq(&self, other: &IArray) -> bool
-        ensures test { result ≡ same (array_tree self.now.items) (array_tree other.now.items) }
-        ensures same { IsTrue result ↔ Same (array_tree self.now.items) (array_tree other.now.items) }
+        ensures { IsTrue result ↔ Same (array_tree self.now.items) (array_tree other.now.items) }
     {
         same_items(self.as_slice(), other.as_slice())
     }

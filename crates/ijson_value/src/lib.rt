@@ -5,7 +5,3 @@ pub mod array;
 pub mod object;
 mod same;
 pub mod value;
-
-pub use array::{IArray, Refused};
-pub use object::{IObject, RefusedPair};
-pub use value::{DestructuredRef, IValue, ValueType};

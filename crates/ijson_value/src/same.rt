@@ -1,6 +1,6 @@
 //! Equality, as one walk over a value, a slice of values and an object's pairs.
 ghost use Rattle.std.specs.Prelude.{◌≡◌};
-ghost use Rattle.ijson_value.specs.Proper.{array_tree, object_tree};
+ghost use Rattle.ijson_value.specs.Values.{array_tree, object_tree};
 ghost use Rattle.ijson_value.specs.SameTest.{same};
 
 use crate::object::IObject;

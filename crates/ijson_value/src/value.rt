@@ -1,11 +1,11 @@
 //! Values of the six kinds.
-ghost use Rattle.std.specs.Prelude.{◌≡◌, ◌↔◌, IsTrue};
-ghost use Rattle.ijson_value.specs.Equality.{partial_equivalence, equivalence};
-ghost use Rattle.ijson_value.specs.Kinds.{kind_of};
-ghost use Rattle.ijson_value.specs.Parts.{ref_value};
-ghost use Rattle.ijson_value.specs.Proper.{null_value, boolean_value, number_value, string_value, array_value, object_value};
+ghost use Rattle.std.specs.Prelude.{◌≡◌, ◌↔◌, IsTrue, true, false};
+ghost use Rattle.ijson_value.specs.Kind.{kind_of};
+ghost use Rattle.ijson_value.specs.Opened.{ref_value};
 ghost use Rattle.ijson_value.specs.Same.{Same};
 ghost use Rattle.ijson_value.specs.SameTest.{same};
+ghost use Rattle.ijson_value.specs.Values.{null_value, boolean_value, number_value, string_value, array_value, object_value};
+ghost use Rattle.ijson_value.specs.laws.Equality.{partial_equivalence, equivalence};
 
 use crate::array::IArray;
 use crate::object::IObject;
@@ -34,20 +34,21 @@ pub(crate) enum Node {
 }
 
 impl Model for IValue {
-    ghost use Rattle.ijson_value.specs.Proper.{Proper, proper_code};
+    ghost use Rattle.ijson_value.specs.WellFormed.{WellFormed};
+    ghost use Rattle.ijson_value.specs.laws.WellFormedCode.{well_formed_code};
 
-    ghost Value = { Proper };
+    ghost Value = { WellFormed };
 
-    ghost coded = { proper_code };
+    ghost coded = { well_formed_code };
 
-    ghost use Rattle.ijson_value.specs.View.{node_value};
-    ghost use Rattle.ijson_value.specs.Depths.{value_size};
+    ghost use Rattle.ijson_value.specs.private.NodeValue.{node_value};
+    ghost use Rattle.ijson_value.specs.private.Sizes.{value_size};
 
     ghost view = { λ v. node_value v.node };
 
     ghost size = { value_size };
 
-    ghost use Rattle.ijson_value.specs.NodeFalls.{node_falls};
+    ghost use Rattle.ijson_value.specs.laws.NodeFalls.{node_falls};
 
     ghost size_decreases = { λ v h. node_falls v.node };
 }
@@ -170,10 +171,9 @@ impl PartialEq for IValue {
 
     ghost laws = { partial_equivalence (λ v. v) };
 
-    #[tactic(auto, using(crate::specs::Equality::is_same))]
+    #[tactic(auto, using(crate::specs::laws::Equality::is_same))]
     fn eq(&self, other: &IValue) -> bool
-        ensures test { result ≡ same self.now.tree other.now.tree }
-        ensures same { IsTrue result ↔ Same self.now.tree other.now.tree }
+        ensures { IsTrue result ↔ Same self.now.tree other.now.tree }
     {
         same_value(self, other)
     }

@@ -1,11 +1,10 @@
 use Rattle.std.proofs.Common.{◌≡◌, Some, None, ◌&&◌, arith, sym, ap, ◌∙◌, drop, suc, add-one, length, drop_of_length-le}
 use Rattle.ijson_table.specs.Store.{lookup}
-use Rattle.ijson_value.specs.Depths.{items_below}
-use Rattle.ijson_value.specs.Proper.{tree_of, pair_trees, item_trees}
+use Rattle.ijson_value.specs.WellFormed.{tree_of, pair_trees, item_trees}
 use Rattle.ijson_value.specs.SameTest.{same_in}
 use Rattle.ijson_value.specs.Tree.{array, depth, members_depth}
-use Rattle.ijson_value.specs.View.{node_value}
-use Rattle.ijson_value.proofs.DepthLemmas.{pair-members_depth}
+use Rattle.ijson_value.specs.private.NodeValue.{node_value}
+use Rattle.ijson_value.proofs.DepthLemmas.{pair-members_depth, items_below}
 use Rattle.ijson_value.proofs.SameSteps.{in-drop-None, in-drop-Some, each-other_lengths, objects-lengths, objects-other_lengths}
 use Rattle.ijson_value.proofs.same.+same.Goals as goal
 
@@ -14,32 +13,40 @@ same_items-returns-then-xs-ys t c = sym (each-other_lengths c.args.xs.now c.args
 
 pub same_pairs-returns-then-len : goal.same_pairs-returns-then-len
 same_pairs-returns-then-len t c =
-    sym (objects-other_lengths c.args.a.now.pairs c.args.b.now.pairs (λ e. c.if-len.true (c.len.ensures ∙ e ∙ sym c.len-2.ensures)))
+    sym (objects-other_lengths c.args.a.now.pairs c.args.b.now.pairs (λ e. c.if-len.true (c.len.ensures
+        ∙ e ∙ sym c.len-2.ensures)))
 
 pub same_pairs-returns-in-None : goal.same_pairs-returns-in-None
 same_pairs-returns-in-None t c =
     let ps = c.as_slice-pair-items.result.now in
     let qs = c.args.b.now.pairs in
     let p = c.pair-item.result in
-    let lengths : length c.args.a.now.pairs ≡ length qs = sym c.len.ensures ∙ c.if-len.false ∙ c.len-2.ensures in
+    let lengths : length c.args.a.now.pairs ≡ length qs = sym c.len.ensures ∙ c.if-len.false
+        ∙ c.len-2.ensures in
     let none : None ≡ lookup p.0 qs = c.in-None.ensures ∙ ap (λ k. lookup k qs) c.as_str.ensures in
-    sym (objects-lengths c.args.a.now.pairs qs lengths ∙ c.loop-pair.invariant ∙ in-drop-None ps qs c.loop-pair.pair-index p c.loop-pair-test.true c.pair-item.is none)
+    sym (objects-lengths c.args.a.now.pairs qs lengths ∙ c.loop-pair.invariant
+        ∙ in-drop-None ps qs c.loop-pair.pair-index p c.loop-pair-test.true c.pair-item.is none)
 
 pub same_pairs-same_value-requires : goal.same_pairs-same_value-requires
 same_pairs-same_value-requires t c =
-    let below = pair-members_depth c.as_slice-pair-items.result.now c.loop-pair.pair-index c.pair-item.result c.loop-pair-test.true c.pair-item.is in
-    (omega (arith, below, ap (λ ps. members_depth (pair_trees ps)) c.as_slice-pair-items.ensures, c.decreases), tt)
+    let below = pair-members_depth c.as_slice-pair-items.result.now c.loop-pair.pair-index
+        c.pair-item.result c.loop-pair-test.true c.pair-item.is in
+    (omega (arith, below, ap (λ ps. members_depth (pair_trees ps)) c.as_slice-pair-items.ensures,
+        c.decreases), tt)
 
 pub same_pairs-returns-then-not-same_value : goal.same_pairs-returns-then-not-same_value
 same_pairs-returns-then-not-same_value t c =
     let ps = c.as_slice-pair-items.result.now in
     let s = c.args.b.now in
     let p = c.pair-item.result in
-    let lengths : length c.args.a.now.pairs ≡ length s.pairs = sym c.len.ensures ∙ c.if-len.false ∙ c.len-2.ensures in
-    let some : Some c.in-Some.found.now ≡ lookup p.0 s.pairs = c.in-Some.ensures ∙ ap (λ k. lookup k s.pairs) c.as_str.ensures in
+    let lengths : length c.args.a.now.pairs ≡ length s.pairs = sym c.len.ensures ∙ c.if-len.false
+        ∙ c.len-2.ensures in
+    let some : Some c.in-Some.found.now ≡ lookup p.0 s.pairs =
+        c.in-Some.ensures ∙ ap (λ k. lookup k s.pairs) c.as_str.ensures in
     let rest = same_in (pair_trees (drop (suc c.loop-pair.pair-index) ps)) (pair_trees s.pairs) in
     sym (objects-lengths c.args.a.now.pairs s.pairs lengths ∙ c.loop-pair.invariant
-    ∙ in-drop-Some ps s c.loop-pair.pair-index p c.in-Some.found.now c.same_value.result c.loop-pair-test.true c.pair-item.is some c.same_value.ensures
+    ∙ in-drop-Some ps s c.loop-pair.pair-index p c.in-Some.found.now c.same_value.result
+    c.loop-pair-test.true c.pair-item.is some c.same_value.ensures
     ∙ ap (λ b. b && rest) c.if-not-same_value.true)
 
 pub same_pairs-loop-pair-preserved : goal.same_pairs-loop-pair-preserved
@@ -47,17 +54,20 @@ same_pairs-loop-pair-preserved t c =
     let ps = c.as_slice-pair-items.result.now in
     let s = c.args.b.now in
     let p = c.pair-item.result in
-    let some : Some c.in-Some.found.now ≡ lookup p.0 s.pairs = c.in-Some.ensures ∙ ap (λ k. lookup k s.pairs) c.as_str.ensures in
+    let some : Some c.in-Some.found.now ≡ lookup p.0 s.pairs =
+        c.in-Some.ensures ∙ ap (λ k. lookup k s.pairs) c.as_str.ensures in
     let rest = same_in (pair_trees (drop (suc c.loop-pair.pair-index) ps)) (pair_trees s.pairs) in
     rw add-one (c.loop-pair.invariant
-    ∙ in-drop-Some ps s c.loop-pair.pair-index p c.in-Some.found.now c.same_value.result c.loop-pair-test.true c.pair-item.is some c.same_value.ensures
+    ∙ in-drop-Some ps s c.loop-pair.pair-index p c.in-Some.found.now c.same_value.result
+    c.loop-pair-test.true c.pair-item.is some c.same_value.ensures
     ∙ ap (λ b. b && rest) c.if-not-same_value.false)
 
 pub same_pairs-returns : goal.same_pairs-returns
 same_pairs-returns t c =
     let ps = c.as_slice-pair-items.result.now in
     let qs = c.args.b.now.pairs in
-    let lengths : length c.args.a.now.pairs ≡ length qs = sym c.len.ensures ∙ c.if-len.false ∙ c.len-2.ensures in
+    let lengths : length c.args.a.now.pairs ≡ length qs = sym c.len.ensures ∙ c.if-len.false
+        ∙ c.len-2.ensures in
     sym (objects-lengths c.args.a.now.pairs qs lengths ∙ c.loop-pair.invariant
     ∙ ap (λ l. same_in (pair_trees l) (pair_trees qs)) (drop_of_length-le ps c.loop-pair-test.false))
 
@@ -65,5 +75,6 @@ pub same_value-same_items-requires : goal.same_value-same_items-requires
 same_value-same_items-requires t c =
     let vs = c.as_slice.result.now in
     let is : array (item_trees vs) ≡ c.args.a.now.tree =
-    ap (λ l. array (item_trees l)) c.as_slice.ensures ∙ sym (ap (λ n. (node_value n).tree) c.in-Array-Array.is-0) ∙ ap tree_of c.a.view_is in
+    ap (λ l. array (item_trees l)) c.as_slice.ensures
+        ∙ sym (ap (λ n. (node_value n).tree) c.in-Array-Array.is-0) ∙ ap tree_of c.a.view_is in
     (omega (arith, items_below vs, ap depth is, c.decreases), tt)

@@ -1,0 +1,3 @@
+pub mod AllAreLong
+pub mod IsText
+pub mod Stored

@@ -1,0 +1,56 @@
+//! `Block`: a text of a few bytes beside its length.
+ghost use Rattle.std.specs.Prelude.{◌≡◌, ◌≤◌, ◌<◌, length};
+
+use std::marker::Model;
+use std::str;
+
+/// A text in UTF-8 of at most `N` bytes. The bytes past `len` are no part of it.
+#[derive(Drop)]
+pub(crate) struct Block<const N: usize> {
+    bytes: [u8; N],
+    len: u8,
+}
+
+impl<const N: usize> Model for Block<N> {
+    ghost use Rattle.std.specs.Prelude.{ℕ, List, take};
+    ghost use Rattle.ijson_string.specs.private.IsText.{IsText};
+
+    ghost Value = { List ℕ };
+
+    ghost view = { λ b. take b.len b.bytes };
+
+    ghost invariant = { λ b. IsText b.bytes b.len };
+}
+
+impl<const N: usize> Block<N> {
+    /// A block that holds `text`.
+    pub(crate) fn new(text: &str) -> Block<N>
+        requires fits { length text.now ≤ N }
+        requires small { N < 256 }
+        ensures { result ≡ text.now }
+    {
+        let mut bytes = [0; N];
+        bytes[..text.len()].copy_from_slice(text.as_bytes());
+        Block {
+            bytes,
+            len: text.len() as u8,
+        }
+    }
+
+    /// A block that holds the same text.
+    pub(crate) fn copy(&self) -> Block<N>
+        ensures { result ≡ self.now }
+    {
+        Block {
+            bytes: self.bytes,
+            len: self.len,
+        }
+    }
+
+    /// The text.
+    pub(crate) fn as_str(&self) -> &str
+        ensures { result.now ≡ self.now }
+    {
+        unsafe { str::from_utf8_unchecked(&self.bytes[..usize::from(self.len)]) }
+    }
+}

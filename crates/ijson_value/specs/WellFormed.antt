@@ -1,0 +1,41 @@
+-- What contracts see of a value: a tree whose numbers are Nums, and in which no object has a key twice.
+-- This project's own.
+use Rattle.std.specs.Prelude.{ℕ, List, map}
+use Rattle.ijson_number.specs.Num.{IsNum}
+use Rattle.ijson_table.specs.Store.{IsDistinct}
+use Rattle.ijson_value.specs.Tree.{Tree, null, boolean, number, string, array, object, Items, no_items, item, items_of, Members, no_members, member, members_of, member_keys}
+
+abbrev mutual
+  pub IsWellFormed : Tree → Type 0
+  IsWellFormed null = Unit {0}
+  IsWellFormed (boolean b) = Unit {0}
+  IsWellFormed (number n) = IsNum n
+  IsWellFormed (string s) = Unit {0}
+  IsWellFormed (array ts) = AreWellFormed ts
+  IsWellFormed (object ps) = IsDistinct (member_keys ps) × HaveWellFormed ps
+
+  -- each item is well-formed
+  pub AreWellFormed : Items → Type 0
+  AreWellFormed no_items = Unit {0}
+  AreWellFormed (item t ts) = IsWellFormed t × AreWellFormed ts
+
+  -- each pair has a well-formed value
+  pub HaveWellFormed : Members → Type 0
+  HaveWellFormed no_members = Unit {0}
+  HaveWellFormed (member k t ps) = IsWellFormed t × HaveWellFormed ps
+
+-- a tree with the proof that it is well-formed
+pub record WellFormed : Type 0 where
+  pub tree : Tree
+  pub well_formed : IsWellFormed tree
+
+abbrev pub tree_of : WellFormed → Tree
+tree_of v = v.tree
+
+-- the trees of values, as the items of an array
+abbrev pub item_trees : List WellFormed → Items
+item_trees vs = items_of (map tree_of vs)
+
+-- pairs of keys and values, as the members of an object
+abbrev pub pair_trees : List (List ℕ × WellFormed) → Members
+pair_trees ps = members_of (map (λ p. (p.0, tree_of p.1)) ps)

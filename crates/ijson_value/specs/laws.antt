@@ -1,0 +1,11 @@
+pub mod ArrayFalls
+pub mod Equality
+pub mod Falls
+pub mod HoldsWellFormed
+pub mod NodeFalls
+pub mod ObjectFalls
+pub mod SameDecided
+pub mod SameLaws
+pub mod SequenceCode
+pub mod TreeCode
+pub mod WellFormedCode

@@ -1,0 +1,62 @@
+-- The code of a tree, by which a proof tells trees apart.
+use Rattle.std.proofs.Common.{◌≡◌, ℕ, List, refl, ap}
+use Rattle.std.specs.Coded.{Coded, coded_bool, coded_list, coded_ℕ}
+use base.Stored.{Gv, gnil, gnum, gcons}
+use Rattle.ijson_number.specs.Decimal.{decimal_code}
+use Rattle.ijson_value.specs.Tree.{Tree, null, boolean, number, string, array, object, Items, no_items, item, Members, no_members, member}
+
+abbrev text_code : Coded (List ℕ)
+text_code = coded_list coded_ℕ
+
+-- the parts of a code
+abbrev first : Gv → Gv
+first gnil = gnil
+first (gnum n) = gnil
+first (gcons a b) = a
+
+abbrev second : Gv → Gv
+second gnil = gnil
+second (gnum n) = gnil
+second (gcons a b) = b
+
+abbrev mutual
+  pub code_t : Tree → Gv
+  code_t null = gcons (gnum 0) gnil
+  code_t (boolean b) = gcons (gnum 1) (coded_bool.code b)
+  code_t (number n) = gcons (gnum 2) (decimal_code.code n)
+  code_t (string s) = gcons (gnum 3) (text_code.code s)
+  code_t (array ts) = gcons (gnum 4) (code_ts ts)
+  code_t (object ps) = gcons (gnum 5) (code_ps ps)
+
+  pub code_ts : Items → Gv
+  code_ts no_items = gnil
+  code_ts (item t ts) = gcons (code_t t) (code_ts ts)
+
+  pub code_ps : Members → Gv
+  code_ps no_members = gnil
+  code_ps (member k t ps) = gcons (text_code.code k) (gcons (code_t t) (code_ps ps))
+
+mutual
+  pub inj_t : (t u : Tree) → code_t t ≡ code_t u → t ≡ u
+  inj_t null null e = refl
+  inj_t (boolean a) (boolean b) e = ap boolean (coded_bool.inj a b (ap second e))
+  inj_t (number m) (number n) e = ap number (decimal_code.inj m n (ap second e))
+  inj_t (string r) (string s) e = ap string (text_code.inj r s (ap second e))
+  inj_t (array ts) (array us) e = ap array (inj_ts ts us (ap second e))
+  inj_t (object ps) (object qs) e = ap object (inj_ps ps qs (ap second e))
+  inj_t _ _ e = cc
+
+  inj_ts : (ts us : Items) → code_ts ts ≡ code_ts us → ts ≡ us
+  inj_ts no_items no_items e = refl
+  inj_ts (item t ts) (item u us) e = λ i. item (inj_t t u (ap first e) i) (inj_ts ts us (ap second e) i)
+  inj_ts _ _ e = cc
+
+  inj_ps : (ps qs : Members) → code_ps ps ≡ code_ps qs → ps ≡ qs
+  inj_ps no_members no_members e = refl
+  inj_ps (member k t ps) (member j u qs) e =
+      λ i. member (text_code.inj k j (ap first e) i) (inj_t t u (ap first (ap second e)) i)
+      (inj_ps ps qs (ap second (ap second e)) i)
+  inj_ps _ _ e = cc
+
+abbrev pub tree_code : Coded Tree
+tree_code = record { code = code_t; inj = inj_t }

@@ -1,0 +1,31 @@
+-- The code of a well-formed tree is that of the tree, since there is one proof at most.
+use Rattle.std.proofs.Common.{refl}
+use Rattle.std.specs.Coded.{Coded, code_by, ×_prop, Unit-prop}
+use base.Stored.{coded_sub}
+use Rattle.ijson_number.specs.Num.{IsNum-prop}
+use Rattle.ijson_table.specs.Store.{IsDistinct-prop}
+use Rattle.ijson_value.specs.Tree.{Tree, null, boolean, number, string, array, object, Items, no_items, item, Members, no_members, member, member_keys}
+use Rattle.ijson_value.specs.WellFormed.{WellFormed, IsWellFormed, AreWellFormed, HaveWellFormed}
+use Rattle.ijson_value.specs.laws.TreeCode.{tree_code}
+
+mutual
+  pub IsWellFormed-prop : (t : Tree) → IsProp (IsWellFormed t)
+  IsWellFormed-prop null = Unit-prop
+  IsWellFormed-prop (boolean b) = Unit-prop
+  IsWellFormed-prop (number n) = IsNum-prop n
+  IsWellFormed-prop (string s) = Unit-prop
+  IsWellFormed-prop (array ts) = AreWellFormed-prop ts
+  IsWellFormed-prop (object ps) = ×_prop (IsDistinct-prop (member_keys ps)) (HaveWellFormed-prop ps)
+
+  AreWellFormed-prop : (ts : Items) → IsProp (AreWellFormed ts)
+  AreWellFormed-prop no_items = Unit-prop
+  AreWellFormed-prop (item t ts) = ×_prop (IsWellFormed-prop t) (AreWellFormed-prop ts)
+
+  HaveWellFormed-prop : (ps : Members) → IsProp (HaveWellFormed ps)
+  HaveWellFormed-prop no_members = Unit-prop
+  HaveWellFormed-prop (member k t ps) = ×_prop (IsWellFormed-prop t) (HaveWellFormed-prop ps)
+
+abbrev pub well_formed_code : Coded WellFormed
+well_formed_code =
+    code_by ((t : Tree) × IsWellFormed t) (coded_sub tree_code IsWellFormed IsWellFormed-prop)
+    (λ v. (v.tree, v.well_formed)) (λ p. record { tree = p.0; well_formed = p.1 }) (λ _. refl)

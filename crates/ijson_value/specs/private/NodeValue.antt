@@ -1,0 +1,13 @@
+-- The value of a node, where each value inside is seen already.
+use Rattle.ijson_value.specs.Values.{null_value, boolean_value, number_value, string_value, array_value, object_value}
+use Rattle.ijson_value.specs.WellFormed.{WellFormed}
+use Rattle.ijson_value.specs.declared.value.Node.{Node}
+use Rattle.ijson_value.specs.declared.value.Node.TheVariants.{Null, Bool, Number, String, Array, Object}
+
+abbrev pub node_value : Node → WellFormed
+node_value Null = null_value
+node_value (Bool b) = boolean_value b
+node_value (Number n) = number_value n
+node_value (String s) = string_value s
+node_value (Array a) = array_value a.items
+node_value (Object s) = object_value s
