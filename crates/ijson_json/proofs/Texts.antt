@@ -19,6 +19,7 @@ use Rattle.ijson_json.proofs.Bytes.{run_same, not_both}
 use Rattle.ijson_json.proofs.Unique.{value-past_space, value_same}
 use Rattle.ijson_json.proofs.Lists.{space-Stops, Ends-any}
 use Rattle.ijson_json.proofs.Law.{one_tree, printed_is_accepted}
+use Rattle.ijson_json.specs.Limits.{max_depth}
 
 -- a text that is spelled begins, behind its white space, with the value
 front_of : (text start : List ℕ) (t : Tree) → Skips text start → Spaced (λ value. IsValue t value) text → (rest : List ℕ) × IsSpace rest × Front (λ value. IsValue t value) start rest
@@ -83,7 +84,7 @@ refuses text start faults.Memory s h = tt
 
 memory_alone : (text : List ℕ) (error : JsonError) (t : Tree) → Refuses text error → Accepted text t → error ≡ errors.Memory
 memory_alone text (errors.Syntax at) t h a = absurd (h.1 t a.0 true a.2)
-memory_alone text (errors.TooDeep at) t h a = let d : 127 < a.0 = h.1.0 t a.0 true a.2 in absurd (omega (arith, d, a.1))
+memory_alone text (errors.TooDeep at) t h a = let d : max_depth < a.0 = h.1.0 t a.0 true a.2 in absurd (omega (arith, d, a.1))
 memory_alone text (errors.NumberRange at) t h a = absurd (not_both true refl (h.1.0 t a.0 true a.2))
 memory_alone text errors.Memory t h a = refl
 
@@ -95,5 +96,5 @@ answers_read text (Err e) h t a = memory_alone text e t h a
 
 -- and so is what was printed
 
-pub answers_printed : (text : List ℕ) (result : Result Proper JsonError) → Answers text result → (t : Tree) → IsProper t → depth t ≤ 127 → text ≡ print t → MatchResult result (λ value. value.tree ≡ t) (λ error. error ≡ errors.Memory)
+pub answers_printed : (text : List ℕ) (result : Result Proper JsonError) → Answers text result → (t : Tree) → IsProper t → depth t ≤ max_depth → text ≡ print t → MatchResult result (λ value. value.tree ≡ t) (λ error. error ≡ errors.Memory)
 answers_printed text result h t n d e = answers_read text result h t (subst (λ (l : List ℕ). Accepted l t) (sym e) (printed_is_accepted t n d))

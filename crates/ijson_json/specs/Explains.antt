@@ -10,11 +10,12 @@ use Rattle.ijson_json.specs.declared.fault.Fault.{Fault}
 use Rattle.ijson_json.specs.declared.fault.Fault.TheVariants as faults
 use Rattle.ijson_json.specs.declared.fault.JsonError.{JsonError}
 use Rattle.ijson_json.specs.declared.fault.JsonError.TheVariants as errors
+use Rattle.ijson_json.specs.Limits.{max_depth}
 
 -- why no value, or no member, was read at the front of the text, inside so many open containers
 abbrev pub ExplainsOf : (E : Type 0) → (E → List ℕ → Type 0) → (E → Tree) → ℕ → List ℕ → Fault → Type 0
 ExplainsOf E Is inner opened text (faults.Syntax left) = (left ≤ length text) × NoneAt E Is text
-ExplainsOf E Is inner opened text (faults.TooDeep left) = (left ≤ length text) × Beyond E Is inner (λ t. 127 < opened + depth t) (λ t. opened + depth t ≡ 128) text
+ExplainsOf E Is inner opened text (faults.TooDeep left) = (left ≤ length text) × Beyond E Is inner (λ t. max_depth < opened + depth t) (λ t. opened + depth t ≡ max_depth + 1) text
 ExplainsOf E Is inner opened text (faults.NumberRange left) = (left ≤ length text) × Beyond E Is inner (λ t. is_ranged t ≡ false) (λ t. is_ranged t ≡ false) text
 ExplainsOf E Is inner opened text faults.Memory = ⊤
 

@@ -6,6 +6,7 @@ use Rattle.ijson_value.specs.Tree.{Tree, null, boolean, number, string, array, o
 use Rattle.ijson_json.specs.Strings.{StringBody}
 use Rattle.ijson_json.specs.Ranged.{is_ranged}
 use Rattle.ijson_json.specs.Settled.{settled}
+use Rattle.ijson_json.specs.Limits.{max_depth}
 
 -- space, tab, line feed, carriage return (section 2)
 abbrev pub is_space : ℕ → Bool
@@ -71,7 +72,7 @@ pub record Reads (text : List ℕ) (tree : Tree) (deepest : ℕ) (ranged : Bool)
 
 -- within the limits on nesting and on exponents, which are this project's own
 abbrev pub Accepted : List ℕ → Tree → Type 0
-Accepted text tree = (deepest : ℕ) × (deepest ≤ 127) × Reads text tree deepest true
+Accepted text tree = (deepest : ℕ) × (deepest ≤ max_depth) × Reads text tree deepest true
 
 -- closing brackets alone
 abbrev pub IsClosers : List ℕ → Type 0
