@@ -13,7 +13,7 @@ use Rattle.ijson_table.specs.Store.{put}
 use Rattle.ijson_value.specs.Tree.{Tree, null, boolean, number, string, array, object, Items, no_items, item, Members, no_members, member}
 use Rattle.ijson_value.specs.Proper.{Proper, item_trees, pair_trees}
 use Rattle.ijson_json.specs.Grammar.{IsString}
-use Rattle.ijson_json.specs.Reading.{Front}
+use Rattle.ijson_json.specs.private.Reading.{Front}
 use Rattle.ijson_json.specs.AddsOnlyRead.{IsSpelledIn, AddsOnlyRead}
 use Rattle.ijson_json.specs.AreShared.{IsShared, AreShared, ItemsAreShared, MembersAreShared}
 

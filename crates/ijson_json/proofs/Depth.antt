@@ -6,7 +6,7 @@ use Rattle.ijson_table.specs.Store.{put}
 use Rattle.ijson_value.specs.Tree.{Tree, null, boolean, number, string, array, object, Items, no_items, item, Members, no_members, member, members_of, depth, items_depth, members_depth}
 use Rattle.ijson_value.specs.Proper.{Proper}
 use Rattle.ijson_json.specs.declared.fault.JsonError.{JsonError}
-use Rattle.ijson_json.specs.Explains.{Answers}
+use Rattle.ijson_json.specs.private.Explains.{Answers}
 use Rattle.ijson_json.specs.Grammar.{Accepted}
 use Rattle.ijson_json.specs.Limits.{max_depth}
 use Rattle.ijson_json.specs.Settled.{put_all, settled, settled_items, settled_pairs}

@@ -5,7 +5,7 @@ use Rattle.std.proofs.lemmas.List.{append-nil, length-append}
 use Rattle.ijson_value.specs.Tree.{Tree, depth}
 use Rattle.ijson_json.specs.Ranged.{is_ranged}
 use Rattle.ijson_json.specs.Grammar.{is_space, IsSpace, IsValue, IsClosers}
-use Rattle.ijson_json.specs.Reading.{Past, Ends, Front, Found, Beyond, NoneAt, IsRead, IsBeyond, IsTooDeep, IsOutOfRange, NoValue}
+use Rattle.ijson_json.specs.private.Reading.{Past, Ends, Front, Found, Beyond, NoneAt, IsRead, IsBeyond, IsTooDeep, IsOutOfRange, NoValue}
 use Rattle.ijson_json.proofs.Bytes.{run_same, run-append, not_both, tails, heads_apart}
 use Rattle.ijson_json.proofs.Lists.{IsList, Shape, At, ElementSame, at_elements, left-past_space, at-Stops, Ends-any}
 use Rattle.ijson_json.specs.Limits.{max_depth}

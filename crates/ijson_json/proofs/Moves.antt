@@ -1,9 +1,9 @@
 -- What is known of a device's bytes after several moves.
 use Rattle.std.proofs.lemmas.List.{take_rest}
-use Rattle.std.proofs.Common.{is_ok, true, false, subst, Result, Ok, Err, OnErr, arith, take, drop, length, ◌+◌, ◌<◌, ◌≢◌, take-append-drop, length-drop, take-add, ◌-◌, ◌≡◌, ◌∙◌, ap, sym, refl, ℕ, List, [], ◌++◌, Some, None, append-nil}
+use Rattle.std.proofs.Common.{is_ok, true, false, subst, Result, Ok, Err, OnErr, arith, take, drop, length, ◌+◌, ◌<◌, ◌≢◌, take-append-drop, length-drop, take-add, ◌-◌, ◌≡◌, ◌∙◌, ap, sym, refl, ℕ, List, [], ◌++◌, Some, None}
 use Rattle.std.specs.Prelude.{Option}
 use Rattle.std.specs.Option.{IfSome}
-use Rattle.std.specs.Io.KnownBytes.{Appends, Consumes, IsAtEnd, Keeps}
+use Rattle.std.specs.Io.KnownBytes.{Appends, Consumes, Keeps}
 use Rattle.std.proofs.KnownBytes.{Appends-kept, Appends-trans, Consumes-trans}
 use Rattle.ijson_json.specs.WritesBeginning.{WritesBeginning}
 
@@ -24,13 +24,13 @@ some_left i xs below none =
 
 -- a beginning was taken, and not all, where a fault came after it
 pub begun : (a b c : Option (List ℕ)) (i : ℕ) (xs : List ℕ) → i < length xs → Appends a b (take i xs) → Keeps b c → WritesBeginning a c xs
-begun a b c i xs below p same = (take i xs, drop i xs, sym (take-append-drop i xs), some_left i xs below, Appends-kept a b c _ p same)
-
--- what holds of all that a source gave holds of what it had, where that was known, and nothing is left
-pub all_read : (P : List ℕ → Type 0) (a b : Option (List ℕ)) (bytes : List ℕ) → Consumes a b bytes → IsAtEnd b → P bytes → IfSome a (λ xs. (b ≡ Some []) × P xs)
-all_read P None b bytes p q h = tt
-all_read P (Some xs) None bytes p q h = absurd p
-all_read P (Some xs) (Some rest) bytes p q h = (ap Some q, subst P (sym (p ∙ ap (λ l. bytes ++ l) q ∙ append-nil bytes)) h)
+begun a b c i xs below p same = record {
+  front = take i xs;
+  rest = drop i xs;
+  is = sym (take-append-drop i xs);
+  unfinished = some_left i xs below;
+  taken = Appends-kept a b c _ p same;
+}
 
 -- some bytes are those that are known
 pub known_or_none : (a : Option (List ℕ)) → (bytes : List ℕ) × IfSome a (λ xs. xs ≡ bytes)

@@ -10,8 +10,8 @@ use Rattle.ijson_value.specs.Tree.{Tree, null, boolean, number, string, array, o
 use Rattle.ijson_number.proofs.SpelledBytes.{spells_first}
 use Rattle.ijson_json.specs.Ranged.{is_ranged}
 use Rattle.ijson_json.specs.Grammar.{IsValue, IsString, null_text, boolean_text}
-use Rattle.ijson_json.specs.Reading.{Past, Stops, Front, Skips, IsRead, IsTooDeep, IsOutOfRange, NoValue, NoNumber, PastLimitAt}
-use Rattle.ijson_json.specs.Explains.{Explains, ExplainsMember, NumberFault, StringFault, WordFault}
+use Rattle.ijson_json.specs.private.Reading.{Past, Stops, Front, Skips, IsRead, IsTooDeep, IsOutOfRange, NoValue, NoNumber, PastLimitAt}
+use Rattle.ijson_json.specs.private.Explains.{Explains, ExplainsMember, NumberFault, StringFault, WordFault}
 use Rattle.ijson_json.proofs.First.{kind, tree_kind, number_kind, value_first}
 use Rattle.ijson_json.proofs.Members.{no_key}
 use Rattle.ijson_json.proofs.Bytes.{not_both, heads, heads_apart}

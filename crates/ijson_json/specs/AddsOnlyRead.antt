@@ -1,4 +1,5 @@
--- What a reading adds to the cache. As the Rust crate `ijson`, which interns each key and each string that it reads.
+-- What a reading adds to the cache. As the Rust crate `ijson`, which interns each key and each string
+-- that it reads.
 use Rattle.std.specs.Prelude.{◌≡◌, ℕ, ◌<◌, true, ◌⊎◌, List, ◌++◌, length}
 use Rattle.std.specs.FinSet as set
 use Rattle.ijson_string.specs.Cache.{Texts}

@@ -1,4 +1,5 @@
--- The texts of a tree that a cache holds after its reading. As the Rust crate `ijson`, which interns each key and each string.
+-- The texts of a tree that a cache holds after its reading. As the Rust crate `ijson`, which interns
+-- each key and each string.
 use Rattle.std.specs.Prelude.{◌≡◌, ℕ, ◌<◌, true, List, ⊤, length}
 use Rattle.std.specs.FinSet as set
 use Rattle.ijson_string.specs.Cache.{Texts}

@@ -4,14 +4,11 @@ pub mod Settled
 pub mod Strings
 pub mod Grammar
 pub mod Print
-pub mod Laws
-pub mod Reading
+pub mod OneTree
+pub mod PrintedIsAccepted
+pub mod Refuses
 pub mod AddsOnlyRead
 pub mod AreShared
-pub mod Refuses
-pub mod Explains
-pub mod StringReading
-pub mod Separator
 pub mod WritesBeginning
 pub mod SourceState
 pub mod SinkState
@@ -20,3 +17,5 @@ pub mod Compacts
 pub mod CompactRefusal
 pub mod CompactErrorOf
 pub mod Status
+pub mod laws
+pub mod private

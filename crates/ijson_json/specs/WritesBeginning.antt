@@ -2,7 +2,10 @@
 use Rattle.std.specs.Prelude.{◌≡◌, ◌≢◌, ℕ, List, [], ◌++◌, Option}
 use Rattle.std.specs.Io.KnownBytes.{Appends}
 
--- a beginning of the text was put behind what was there, and not all of it
-abbrev pub WritesBeginning : Option (List ℕ) → Option (List ℕ) → List ℕ → Type 0
-WritesBeginning before after text =
-    (front rest : List ℕ) × (text ≡ front ++ rest) × (rest ≢ []) × Appends before after front
+-- a beginning of the text was put behind what was there, where that is known, and not all of it
+pub record WritesBeginning (before after : Option (List ℕ)) (text : List ℕ) : Type 0 where
+  pub front : List ℕ
+  pub rest : List ℕ
+  pub is : text ≡ front ++ rest
+  pub unfinished : rest ≢ []
+  pub taken : Appends before after front

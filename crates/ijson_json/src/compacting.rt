@@ -4,7 +4,8 @@ ghost use Rattle.std.specs.Io.KnownBytes.{Appends, Keeps};
 ghost use Rattle.std.specs.String.{string_bytes};
 ghost use Rattle.ijson_json.specs.AddsOnlyRead.{AddsOnlyRead};
 ghost use Rattle.ijson_json.specs.AreShared.{SharesTextsOf};
-ghost use Rattle.ijson_json.specs.CompactErrorOf.{error_of_read_fault, error_of_json_error};
+ghost use Rattle.ijson_json.specs.CompactErrorOf.{compact_error_of};
+ghost use Rattle.ijson_json.specs.private.CompactErrorOfReadFault.{compact_error_of_read_fault};
 ghost use Rattle.ijson_json.specs.Compacts.{Compacts, IsCompactLine};
 ghost use Rattle.ijson_json.specs.CompactRefusal.{IsCompactRefusal};
 ghost use Rattle.ijson_json.specs.Refuses.{Refuses};
@@ -32,7 +33,8 @@ pub enum CompactError {
     /// What was read is not UTF-8. Nothing was written.
     #[error("input is not UTF-8")]
     NotUtf8,
-    /// What was read is not a JSON text within the limits. Nothing was written. It never holds `JsonError::Memory`.
+    /// What was read is not a JSON text within the limits. Nothing was written. It never holds
+    /// `JsonError::Memory`.
     #[error("{0}")]
     Json(JsonError),
     /// The sink failed. It got a beginning of the line, and not all of it.
@@ -44,7 +46,7 @@ pub enum CompactError {
 }
 
 impl From<ReadFault> for CompactError {
-    ghost from_gives = { λ fault error. error ≡ error_of_read_fault fault };
+    ghost from_gives = { λ fault error. error ≡ compact_error_of_read_fault fault };
 
     fn from(fault: ReadFault) -> CompactError {
         match fault {
@@ -55,7 +57,7 @@ impl From<ReadFault> for CompactError {
 }
 
 impl From<JsonError> for CompactError {
-    ghost from_gives = { λ error becomes. becomes ≡ error_of_json_error error };
+    ghost from_gives = { λ error becomes. becomes ≡ compact_error_of error };
 
     fn from(error: JsonError) -> CompactError {
         match error {
@@ -73,9 +75,11 @@ impl From<AllocError> for CompactError {
     }
 }
 
-/// Reads the JSON text that is left in `input` to its end, and writes its compact text and one line feed to `output`.
+/// Reads the JSON text that is left in `input` to its end, and writes its compact text and one line
+/// feed to `output`. Keys and strings are interned in `cache`, as `from_json` does.
 ///
-/// Each error says when it comes at `CompactError`. The whole line is made before its first byte is written.
+/// Each error says when it comes at `CompactError`. The whole line is made before its first byte is
+/// written.
 pub fn compact<R: Source, W: Sink, S: BuildHasher>(
     alloc: Global,
     input: &mut R,
@@ -94,8 +98,10 @@ pub fn compact<R: Source, W: Sink, S: BuildHasher>(
     ensures beginning { result ≡ Err Write → IfSome (R.left input.old) (λ bytes.
         (line : List ℕ) × IsCompactLine bytes line
         × WritesBeginning (W.got output.old) (W.got output.new) line) }
-    ensures nothing { IfErr result (λ error. error ≢ Write → Keeps (W.got output.old) (W.got output.new)) }
-    ensures error { IfErr result (λ error. IfSome (R.left input.old) (λ bytes. IsCompactRefusal bytes error)) }
+    ensures nothing { IfErr result (λ error.
+        error ≢ Write → Keeps (W.got output.old) (W.got output.new)) }
+    ensures error { IfErr result (λ error.
+        IfSome (R.left input.old) (λ bytes. IsCompactRefusal bytes error)) }
     ensures told_apart { result ≢ Err (Json Memory) }
     // The cache holds what it held, and beyond that only what the bytes that were read spell.
     ensures cache { (read : List ℕ) × IfSome (R.left input.old) (λ bytes. bytes ≡ read)
@@ -103,7 +109,8 @@ pub fn compact<R: Source, W: Sink, S: BuildHasher>(
     // It is as it was where none were read as JSON.
     ensures unread { (result ≡ Err Read) ⊎ (result ≡ Err NotUtf8) → cache.new ≡ cache.old }
     // It holds each long text and key of what was read.
-    ensures shared { OnOk result (IfSome (R.left input.old) (λ bytes. SharesTextsOf bytes cache.new)) }
+    ensures shared { OnOk result (IfSome (R.left input.old)
+        (λ bytes. SharesTextsOf bytes cache.new)) }
 {
     let bytes = read_all(alloc, input)?;
     let line = compact_line(alloc, cache, &bytes)?;

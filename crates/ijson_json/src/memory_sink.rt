@@ -32,8 +32,9 @@ impl Model for MemorySink {
 }
 
 impl MemorySink {
-    /// A sink that takes `fail_at` bytes: a call that would pass them stops there, and each later one that has a byte is a fault.
-    /// Room for them is taken here, so that `write` needs no memory; the error comes where there is none.
+    /// A sink that takes `fail_at` bytes: a call that would pass them stops there, and each later one
+    /// that has a byte is a fault. Room for them is taken here, so that `write` needs no memory; the
+    /// error comes where there is none.
     pub fn new(alloc: Global, piece: usize, fail_at: usize) -> Result<MemorySink, AllocError>
         requires { 0 < piece }
         ensures { IfOk result (λ s. s ≡ record {
@@ -79,7 +80,8 @@ impl Sink for MemorySink {
 
         // When a call fails, how many bytes move, and what there is after it.
         ensures fails { IsErr result ↔ ((self.old.until_fault ≡ 0) × (0 < length from.now)) }
-        ensures moved { IfOk result (λ n. n ≡ min self.old.piece (min self.old.until_fault (length from.now))) }
+        ensures moved { IfOk result (λ n.
+            n ≡ min self.old.piece (min self.old.until_fault (length from.now))) }
         ensures taken { IfOk result (λ n. self.new ≡ record self.old {
           got = self.old.got ++ take n from.now;
           until_fault = self.old.until_fault - n;

@@ -31,11 +31,16 @@ impl<'a> Model for MemorySource<'a> {
 }
 
 impl<'a> MemorySource<'a> {
-    /// A source of `bytes`. A call that would pass the first `fail_at` of them stops there, and each later one is a fault, the
-    /// one that would tell the end too.
+    /// A source of `bytes`. A call that would pass the first `fail_at` of them stops there, and each
+    /// later one is a fault, the one that would tell the end too.
     pub fn new(bytes: &'a [u8], piece: usize, fail_at: usize) -> MemorySource<'a>
         requires { 0 < piece }
-        ensures { result ≡ record { left = bytes.now; piece = piece; until_fault = fail_at; failed = 0 } }
+        ensures { result ≡ record {
+          left = bytes.now;
+          piece = piece;
+          until_fault = fail_at;
+          failed = 0;
+        } }
     {
         MemorySource {
             left: bytes,

@@ -57,7 +57,8 @@ pub(crate) fn read_all<R: Source>(alloc: Global, input: &mut R) -> Result<Vec<u8
     unreachable!()
 }
 
-/// Reads a piece behind the first `filled` bytes, with room made where there is none, and answers its length.
+/// Reads a piece behind the first `filled` bytes, with room made where there is none, and answers its
+/// length.
 fn read_piece<R: Source>(
     input: &mut R,
     bytes: &mut Vec<u8>,
@@ -99,7 +100,8 @@ pub(crate) fn write_all<W: Sink>(output: &mut W, text: &[u8]) -> Result<(), Devi
     ensures count { OnOk result (W.failed output.new ≡ W.failed output.old) }
     ensures bytes { OnOk result (Appends (W.got output.old) (W.got output.new) text.now) }
     ensures fault { OnErr result (W.failed output.new ≡ W.failed output.old + 1) }
-    ensures beginning { OnErr result (WritesBeginning (W.got output.old) (W.got output.new) text.now) }
+    ensures beginning { OnErr result
+        (WritesBeginning (W.got output.old) (W.got output.new) text.now) }
 {
     let mut at = 0;
     while at < text.len() {

@@ -13,7 +13,8 @@ pub struct StreamSink<W> {
 }
 
 impl<W> Model for StreamSink<W> {
-    ghost use Rattle.ijson_json.specs.StreamState.{StreamState, stream_state_code};
+    ghost use Rattle.ijson_json.specs.StreamState.{StreamState};
+    ghost use Rattle.ijson_json.specs.laws.StreamStateCode.{stream_state_code};
 
     ghost Value = { StreamState W };
 

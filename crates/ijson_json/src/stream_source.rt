@@ -13,7 +13,8 @@ pub struct StreamSource<R> {
 }
 
 impl<R> Model for StreamSource<R> {
-    ghost use Rattle.ijson_json.specs.StreamState.{StreamState, stream_state_code};
+    ghost use Rattle.ijson_json.specs.StreamState.{StreamState};
+    ghost use Rattle.ijson_json.specs.laws.StreamStateCode.{stream_state_code};
 
     ghost Value = { StreamState R };
 

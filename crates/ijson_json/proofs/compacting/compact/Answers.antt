@@ -1,6 +1,7 @@
-use Rattle.std.proofs.Common.{sym, ◌∙◌, string_bytes}
+use Rattle.std.proofs.Common.{subst, sym, string_bytes}
 use Rattle.std.proofs.KnownBytes.{Consumes-whole}
 use Rattle.ijson_json.specs.Compacts.{IsCompactLine}
+use Rattle.ijson_json.specs.WritesBeginning.{WritesBeginning}
 use Rattle.ijson_json.proofs.Caches.{adds_none}
 use Rattle.ijson_json.proofs.Moves.{known_or_none, was_err}
 use Rattle.ijson_json.proofs.compacting.compact.Goals as goal
@@ -17,4 +18,4 @@ returns-clause-beginning g c = λ is_write.
     let written = string_bytes c.in_ok-line.line in
     let line : IsCompactLine bytes written = rw (sym c.deref.ensures.value) c.in_ok-line.ensures.line in
     Consumes-whole _ _ bytes _ c.in_ok-bytes.ensures.bytes c.in_ok-bytes.ensures.end
-    (written, line, (part.0, part.1, sym c.as_bytes.ensures.value ∙ part.2, part.3, part.4))
+    (written, line, subst (WritesBeginning _ _) c.as_bytes.ensures.value part)
