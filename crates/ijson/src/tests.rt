@@ -4,6 +4,7 @@
 mod cache;
 mod devices;
 mod equality;
+mod errors;
 mod faults;
 mod numbers;
 mod recorder;

@@ -2,7 +2,7 @@
 use Rattle.std.proofs.Common.{◌≡◌, ℕ, Bool, true, false, List, [], ◌∷◌, ◌++◌, refl, sym, append_assoc, eqb, eq-eqb}
 use Rattle.std.specs.Prelude.{IsTrue}
 use Rattle.std.specs.List.{AllByRecursion}
-use Rattle.ijson_json.specs.Reading.{Past}
+use Rattle.ijson_json.specs.private.Reading.{Past}
 
 -- each byte passes
 

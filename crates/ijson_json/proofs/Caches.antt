@@ -13,12 +13,13 @@ use Rattle.ijson_table.specs.Store.{put}
 use Rattle.ijson_value.specs.Tree.{Tree, null, boolean, number, string, array, object, Items, no_items, item, Members, no_members, member}
 use Rattle.ijson_value.specs.Proper.{Proper, item_trees, pair_trees}
 use Rattle.ijson_json.specs.Grammar.{IsString}
-use Rattle.ijson_json.specs.Reading.{Front}
-use Rattle.ijson_json.specs.Caching.{IsSpelledIn, Gathers, IsShared, AreShared, ItemsAreShared, MembersAreShared}
+use Rattle.ijson_json.specs.private.Reading.{Front}
+use Rattle.ijson_json.specs.AddsOnlyRead.{IsSpelledIn, AddsOnlyRead}
+use Rattle.ijson_json.specs.AreShared.{IsShared, AreShared, ItemsAreShared, MembersAreShared}
 
 -- nothing was read into the cache
-pub gathers_none : (text : List ℕ) (cache : Texts) → Gathers text cache cache
-gathers_none text cache = record { kept = λ s h. h; added = λ s h. inl h }
+pub adds_none : (text : List ℕ) (cache : Texts) → AddsOnlyRead text cache cache
+adds_none text cache = record { kept = λ s h. h; added = λ s h. inl h }
 
 -- a slice of the rest is one of the text
 
@@ -26,16 +27,16 @@ spelled_behind : (text head rest s : List ℕ) → text ≡ head ++ rest → IsS
 spelled_behind text head rest s e (before, body, after, b, f) = (head ++ before, body, after, b, e ∙ ap (λ (l : List ℕ). head ++ l) f ∙ sym (append_assoc head before (body ++ after)))
 
 -- more was read behind the head
-pub gathers_more : (text head rest : List ℕ) (old middle new : Texts) → text ≡ head ++ rest → Gathers text old middle → Gathers rest middle new → Gathers text old new
-gathers_more text head rest old middle new e a b = record {
+pub adds_more : (text head rest : List ℕ) (old middle new : Texts) → text ≡ head ++ rest → AddsOnlyRead text old middle → AddsOnlyRead rest middle new → AddsOnlyRead text old new
+adds_more text head rest old middle new e a b = record {
   kept = λ s h. b.kept s (a.kept s h);
   added = λ s h. elim (b.added s h) [ inl m ↦ a.added s m | inr p ↦ inr (p.0, spelled_behind text head rest s e p.1) ];
 }
 
 -- nothing was read of the head
 
-pub gathers_behind : (text head rest : List ℕ) (old new : Texts) → text ≡ head ++ rest → Gathers rest old new → Gathers text old new
-gathers_behind text head rest old new e a = gathers_more text head rest old old new e (gathers_none text old) a
+pub adds_behind : (text head rest : List ℕ) (old new : Texts) → text ≡ head ++ rest → AddsOnlyRead rest old new → AddsOnlyRead text old new
+adds_behind text head rest old new e a = adds_more text head rest old old new e (adds_none text old) a
 
 -- ---- a string that is interned
 
@@ -58,8 +59,8 @@ or_right false b e = e
 
 -- a long text that is spelled is added
 
-insert_gathers : (text : List ℕ) (cache : Texts) (s : List ℕ) → 7 < length s → IsSpelledIn text s → Gathers text cache (set.insert cache s)
-insert_gathers text cache s long p = record {
+insert_adds : (text : List ℕ) (cache : Texts) (s : List ℕ) → 7 < length s → IsSpelledIn text s → AddsOnlyRead text cache (set.insert cache s)
+insert_adds text cache s long p = record {
   kept = λ q h. contains_insert cache s q ∙ or_right (bytes_eq q s) (set.contains cache q) h;
   added = λ q h. elim (or_cases (bytes_eq q s) (set.contains cache q) (sym (contains_insert cache s q) ∙ h)) [
     | inl old ↦ inl old
@@ -69,12 +70,12 @@ insert_gathers text cache s long p = record {
 
 -- interning adds a long text alone
 
-interned_gathers : (text : List ℕ) (cache : Texts) (s : List ℕ) → IsSpelledIn text s → Gathers text cache (interned s cache)
-interned_gathers text cache s p = go (ltb 7 (length s)) refl
+interned_adds : (text : List ℕ) (cache : Texts) (s : List ℕ) → IsSpelledIn text s → AddsOnlyRead text cache (interned s cache)
+interned_adds text cache s p = go (ltb 7 (length s)) refl
   where
-    go : (b : Bool) → ltb 7 (length s) ≡ b → Gathers text cache (if b then set.insert cache s else cache)
-    go true e = insert_gathers text cache s (ltb-true 7 (length s) e) p
-    go false e = gathers_none text cache
+    go : (b : Bool) → ltb 7 (length s) ≡ b → AddsOnlyRead text cache (if b then set.insert cache s else cache)
+    go true e = insert_adds text cache s (ltb-true 7 (length s) e) p
+    go false e = adds_none text cache
 
 -- a text is itself
 
@@ -89,11 +90,11 @@ interned_shared cache s h =
     subst (λ (b : Bool). set.contains (if b then set.insert cache s else cache) s ≡ true) (sym long) (contains_insert cache s s ∙ ap (λ (b : Bool). b || set.contains cache s) (same_bytes s))
 
 -- the string at the front was interned
-pub string_gathers : (text rest s : List ℕ) (old new : Texts) → Front (λ front. IsString s front) text rest → new ≡ interned s old → Gathers text old new
-string_gathers text rest s old new f e =
+pub string_adds : (text rest s : List ℕ) (old new : Texts) → Front (λ front. IsString s front) text rest → new ≡ interned s old → AddsOnlyRead text old new
+string_adds text rest s old new f e =
     let body = f.holds in
     let spelled : IsSpelledIn text s = (34 ∷ [], body.0, 34 ∷ rest, body.1, f.is ∙ ap (λ (l : List ℕ). l ++ rest) body.2 ∙ ap (λ (l : List ℕ). 34 ∷ l) (append_assoc body.0 (34 ∷ []) rest)) in
-    subst (λ (c : Texts). Gathers text old c) (sym e) (interned_gathers text old s spelled)
+    subst (λ (c : Texts). AddsOnlyRead text old c) (sym e) (interned_adds text old s spelled)
 
 -- the string that was interned is shared
 
@@ -104,12 +105,12 @@ string_shared s old new e = subst (λ (c : Texts). IsShared c s) (sym e) (intern
 
 -- a text that is shared stays so
 
-pub shared_more : (text : List ℕ) (old new : Texts) (s : List ℕ) → Gathers text old new → IsShared old s → IsShared new s
+pub shared_more : (text : List ℕ) (old new : Texts) (s : List ℕ) → AddsOnlyRead text old new → IsShared old s → IsShared new s
 shared_more text old new s g h long = g.kept s (h long)
 
 mutual
   -- and so does a tree
-  pub tree_more : (text : List ℕ) (old new : Texts) (t : Tree) → Gathers text old new → AreShared old t → AreShared new t
+  pub tree_more : (text : List ℕ) (old new : Texts) (t : Tree) → AddsOnlyRead text old new → AreShared old t → AreShared new t
   tree_more text old new null g h = tt
   tree_more text old new (boolean b) g h = tt
   tree_more text old new (number n) g h = tt
@@ -117,11 +118,11 @@ mutual
   tree_more text old new (array is) g h = items_more text old new is g h
   tree_more text old new (object ms) g h = members_more text old new ms g h
 
-  pub items_more : (text : List ℕ) (old new : Texts) (is : Items) → Gathers text old new → ItemsAreShared old is → ItemsAreShared new is
+  pub items_more : (text : List ℕ) (old new : Texts) (is : Items) → AddsOnlyRead text old new → ItemsAreShared old is → ItemsAreShared new is
   items_more text old new no_items g h = tt
   items_more text old new (item t more) g h = (tree_more text old new t g h.0, items_more text old new more g h.1)
 
-  pub members_more : (text : List ℕ) (old new : Texts) (ms : Members) → Gathers text old new → MembersAreShared old ms → MembersAreShared new ms
+  pub members_more : (text : List ℕ) (old new : Texts) (ms : Members) → AddsOnlyRead text old new → MembersAreShared old ms → MembersAreShared new ms
   members_more text old new no_members g h = tt
   members_more text old new (member k t more) g h = (shared_more text old new k g h.0, tree_more text old new t g h.1, members_more text old new more g h.2)
 
@@ -135,7 +136,7 @@ items_push cache (w ∷ vs) v h g = (h.0, items_push cache vs v h.1 g)
 
 -- an item pushed behind shared ones
 
-pub item_shared : (text : List ℕ) (old new : Texts) (vs vs' : List Proper) (v : Proper) → vs' ≡ vs ++ v ∷ [] → Gathers text old new → ItemsAreShared old (item_trees vs) → AreShared new v.tree → ItemsAreShared new (item_trees vs')
+pub item_shared : (text : List ℕ) (old new : Texts) (vs vs' : List Proper) (v : Proper) → vs' ≡ vs ++ v ∷ [] → AddsOnlyRead text old new → ItemsAreShared old (item_trees vs) → AreShared new v.tree → ItemsAreShared new (item_trees vs')
 item_shared text old new vs vs' v e g h k = subst (λ (l : List Proper). ItemsAreShared new (item_trees l)) (sym e) (items_push new vs v (items_more text old new (item_trees vs) g h) k)
 
 -- one more member
@@ -150,5 +151,5 @@ members_put cache (p ∷ ps) k v h i g = either (bytes_eq p.0 k) (h.0, g, h.2) (
 
 -- a member put among shared ones
 
-pub member_shared : (text : List ℕ) (old new : Texts) (ps ps' : List (List ℕ × Proper)) (k : List ℕ) (v : Proper) → ps' ≡ put ps k v → Gathers text old new → MembersAreShared old (pair_trees ps) → IsShared new k → AreShared new v.tree → MembersAreShared new (pair_trees ps')
+pub member_shared : (text : List ℕ) (old new : Texts) (ps ps' : List (List ℕ × Proper)) (k : List ℕ) (v : Proper) → ps' ≡ put ps k v → AddsOnlyRead text old new → MembersAreShared old (pair_trees ps) → IsShared new k → AreShared new v.tree → MembersAreShared new (pair_trees ps')
 member_shared text old new ps ps' k v e g h i j = subst (λ (l : List (List ℕ × Proper)). MembersAreShared new (pair_trees l)) (sym e) (members_put new ps k v (members_more text old new (pair_trees ps) g h) i j)

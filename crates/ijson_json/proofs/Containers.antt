@@ -8,8 +8,8 @@ use Rattle.ijson_value.specs.Tree.{Tree, array, object, Items, no_items, item, i
 use Rattle.ijson_json.specs.Ranged.{is_ranged}
 use Rattle.ijson_json.specs.Settled.{settled, settled_items, settled_pairs, put_all}
 use Rattle.ijson_json.specs.Grammar.{IsValue}
-use Rattle.ijson_json.specs.Reading.{Front}
-use Rattle.ijson_json.specs.Explains.{Explains, ExplainsMember}
+use Rattle.ijson_json.specs.private.Reading.{Front}
+use Rattle.ijson_json.specs.private.Explains.{Explains, ExplainsMember}
 use Rattle.ijson_json.proofs.Bytes.{heads, tails}
 use Rattle.ijson_json.proofs.First.{kind, tree_kind, value_first}
 use Rattle.ijson_json.proofs.Lists.{IsList}

@@ -5,9 +5,9 @@ use Rattle.std.specs.Prelude.{◌≢◌}
 use Rattle.std.proofs.lemmas.List.{append-nil, length-append}
 use Rattle.ijson_json.specs.Strings.{is_unescaped, Character, unescaped, short, unicode, pair, StringBody, empty, one_more}
 use Rattle.ijson_json.specs.Grammar.{IsString}
-use Rattle.ijson_json.specs.Reading.{Past, Front}
-use Rattle.ijson_json.specs.Explains.{StringFault}
-use Rattle.ijson_json.specs.StringReading.{CharacterAt, NoCharacter, NoEscape, ContentAt, NoContent, ContentFault}
+use Rattle.ijson_json.specs.private.Reading.{Past, Front}
+use Rattle.ijson_json.specs.private.Explains.{StringFault}
+use Rattle.ijson_json.specs.private.StringReading.{CharacterAt, NoCharacter, NoEscape, ContentAt, NoContent, ContentFault}
 use Rattle.ijson_json.specs.declared.fault.Fault.{Fault}
 use Rattle.ijson_json.specs.declared.fault.Fault.TheVariants as faults
 use Rattle.ijson_json.proofs.Bytes.{Run, not_both, heads, tails, heads_apart}

@@ -7,7 +7,7 @@ use Rattle.std.proofs.lemmas.Bool.Decides.{nat_tests}
 use Rattle.std.proofs.lemmas.Str.{encode_ascii, char_from_byte}
 use Rattle.std.proofs.lemmas.Str.Pattern.{drop_at_char}
 use Rattle.ijson_json.specs.Strings.{is_unescaped, short_escape, hex_digit, Hex, is_high_surrogate, is_low_surrogate, Character, unescaped, short, unicode, pair}
-use Rattle.ijson_json.specs.StringReading.{DigitAt, HexAt, CharacterAt, NoDigit, NoHex, NoCharacter, NoEscape, NoLow, LowAt}
+use Rattle.ijson_json.specs.private.StringReading.{DigitAt, HexAt, CharacterAt, NoDigit, NoHex, NoCharacter, NoEscape, NoLow, LowAt}
 use Rattle.ijson_json.proofs.Bytes.{not_both, heads, tails}
 use Rattle.ijson_json.proofs.Strings.{hex_same}
 

@@ -8,7 +8,8 @@ use Rattle.ijson_json.specs.Ranged.{is_ranged, items_ranged, members_ranged}
 use Rattle.ijson_json.specs.Settled.{settled}
 use Rattle.ijson_json.specs.Grammar.{is_space, Spaced, IsString, IsValue, IsItems, IsMembers}
 use Rattle.ijson_json.specs.Print.{print, print_items, print_members, quoted, all_escaped}
-use Rattle.ijson_json.specs.Laws.{OneTree, PrintedIsAccepted}
+use Rattle.ijson_json.specs.OneTree.{OneTree}
+use Rattle.ijson_json.specs.PrintedIsAccepted.{PrintedIsAccepted}
 use Rattle.ijson_json.proofs.Bytes.{run_same}
 use Rattle.ijson_number.proofs.RoundTrip.{num_text_spells}
 use Rattle.ijson_json.proofs.Strings.{all_escaped_is}

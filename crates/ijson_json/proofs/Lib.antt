@@ -16,6 +16,7 @@ pub mod Containers
 pub mod Numbers
 pub mod Members
 pub mod Values
+pub mod Depth
 pub mod Trees
 pub mod Texts
 pub mod Rows

@@ -5,9 +5,10 @@ use Rattle.std.proofs.lemmas.List.{append-nil, length-append}
 use Rattle.ijson_value.specs.Tree.{Tree, depth}
 use Rattle.ijson_json.specs.Ranged.{is_ranged}
 use Rattle.ijson_json.specs.Grammar.{is_space, IsSpace, IsValue, IsClosers}
-use Rattle.ijson_json.specs.Reading.{Past, Ends, Front, Found, Beyond, NoneAt, IsRead, IsBeyond, IsTooDeep, IsOutOfRange, NoValue}
+use Rattle.ijson_json.specs.private.Reading.{Past, Ends, Front, Found, Beyond, NoneAt, IsRead, IsBeyond, IsTooDeep, IsOutOfRange, NoValue}
 use Rattle.ijson_json.proofs.Bytes.{run_same, run-append, not_both, tails, heads_apart}
 use Rattle.ijson_json.proofs.Lists.{IsList, Shape, At, ElementSame, at_elements, left-past_space, at-Stops, Ends-any}
+use Rattle.ijson_json.specs.Limits.{max_depth}
 
 -- and is associative
 
@@ -92,12 +93,12 @@ module _ (E : Type 0) (S : Shape E) (L : Listing E S) where
     pub past : Past is_space cur
     pub builds : (e : E) (more : List E) (others : List ℕ) → IsList S.Is (e ∷ more) others → IsValue (L.wrap (found ++ e ∷ more)) (head ++ (others ++ S.closing ∷ []))
     pub only : (t : Tree) (x : List ℕ) → Front (λ value. IsValue t value) text x → Goes found t cur x
-    pub deep : opened + suc (deepest E S found) ≤ 127
+    pub deep : opened + suc (deepest E S found) ≤ max_depth
     pub ranged : all_ranged E S found ≡ true
 
   -- behind the opening bracket and white space nothing is read yet
 
-  pub reached_start : (opened : ℕ) (inside s cur : List ℕ) → opened < 127 → inside ≡ s ++ cur → IsSpace s → Past is_space cur → Past (λ b. b == S.closing) cur → Reached opened (L.opening ∷ inside) [] cur
+  pub reached_start : (opened : ℕ) (inside s cur : List ℕ) → opened < max_depth → inside ≡ s ++ cur → IsSpace s → Past is_space cur → Past (λ b. b == S.closing) cur → Reached opened (L.opening ∷ inside) [] cur
   reached_start opened inside s cur o e h p q = record {
     head = L.opening ∷ s;
     is = ap (λ (l : List ℕ). L.opening ∷ l) e;
@@ -126,7 +127,7 @@ module _ (E : Type 0) (S : Shape E) (L : Listing E S) where
 
   -- one more element within the limit on depth
 
-  push_depth : (opened : ℕ) (found : List E) (e : E) → opened + suc (deepest E S found) ≤ 127 → (opened + 1) + depth (S.inner e) ≤ 127 → opened + suc (deepest E S (found ++ e ∷ [])) ≤ 127
+  push_depth : (opened : ℕ) (found : List E) (e : E) → opened + suc (deepest E S found) ≤ max_depth → (opened + 1) + depth (S.inner e) ≤ max_depth → opened + suc (deepest E S (found ++ e ∷ [])) ≤ max_depth
   push_depth opened found e h g = omega (arith, deepest-append E S found (e ∷ []), h, g)
 
   -- one more element within the limit on exponents
@@ -196,7 +197,7 @@ module _ (E : Type 0) (S : Shape E) (L : Listing E S) where
 
   -- no elements
 
-  pub empty_read : (opened : ℕ) (inside s rest : List ℕ) → opened < 127 → inside ≡ s ++ S.closing ∷ rest → IsSpace s → IsRead opened (L.opening ∷ inside) (L.wrap []) rest
+  pub empty_read : (opened : ℕ) (inside s rest : List ℕ) → opened < max_depth → inside ≡ s ++ S.closing ∷ rest → IsSpace s → IsRead opened (L.opening ∷ inside) (L.wrap []) rest
   empty_read opened inside s rest o e h = record {
     found = record { front = L.opening ∷ (s ++ S.closing ∷ []); holds = L.builds [] s h; is = rw e (simp append_assoc) };
     ends = L.ends [] rest;
@@ -244,7 +245,7 @@ module _ (E : Type 0) (S : Shape E) (L : Listing E S) where
 
   -- an element is too deep
 
-  pub reached_too_deep : (opened : ℕ) (text cur : List ℕ) (found : List E) → Reached opened text found cur → ElementBeyond E S (λ t. 127 < (opened + 1) + depth t) (λ t. (opened + 1) + depth t ≡ 128) cur → IsTooDeep opened text
+  pub reached_too_deep : (opened : ℕ) (text cur : List ℕ) (found : List E) → Reached opened text found cur → ElementBeyond E S (λ t. max_depth < (opened + 1) + depth t) (λ t. (opened + 1) + depth t ≡ max_depth + 1) cur → IsTooDeep opened text
   reached_too_deep opened text cur found r b = reached_beyond opened text cur found _ _ _ _ r
       (λ u more h. omega (arith, L.depth_is (found ++ u ∷ more), deepest-append E S found (u ∷ more), h, r.deep))
       (λ u h. omega (arith, L.depth_is (found ++ u ∷ []), deepest-append E S found (u ∷ []), h, r.deep)) b

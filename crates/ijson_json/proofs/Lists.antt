@@ -5,7 +5,7 @@ use Rattle.std.proofs.lemmas.Bool.Decides.{nat_tests}
 use Rattle.ijson_number.specs.NumberBytes.{is_number_byte}
 use Rattle.ijson_value.specs.Tree.{Tree, null, boolean, number, string, array, object}
 use Rattle.ijson_json.specs.Grammar.{is_space, IsSpace, Spaced, Split}
-use Rattle.ijson_json.specs.Reading.{Past, Stops, Ends}
+use Rattle.ijson_json.specs.private.Reading.{Past, Stops, Ends}
 use Rattle.ijson_json.proofs.Bytes.{run_same, not_both, tails, heads_apart}
 
 -- elements with commas between them, and white space round each

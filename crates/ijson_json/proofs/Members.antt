@@ -6,8 +6,8 @@ use Rattle.ijson_json.specs.declared.fault.Fault.{Fault}
 use Rattle.ijson_json.specs.declared.fault.Fault.TheVariants as faults
 use Rattle.ijson_value.specs.Tree.{Tree}
 use Rattle.ijson_json.specs.Grammar.{is_space, IsSpace, IsString, IsValue}
-use Rattle.ijson_json.specs.Reading.{Past, Front, Found, Beyond, NoneAt, Pair, IsRead, IsBeyond, Skips}
-use Rattle.ijson_json.specs.Explains.{Explains, ExplainsMember}
+use Rattle.ijson_json.specs.private.Reading.{Past, Front, Found, Beyond, NoneAt, Pair, IsRead, IsBeyond, Skips}
+use Rattle.ijson_json.specs.private.Explains.{Explains, ExplainsMember}
 use Rattle.ijson_json.proofs.Bytes.{run_same, not_both, tails}
 use Rattle.ijson_json.proofs.Unique.{string_same, value-past_space}
 

@@ -12,7 +12,7 @@ use Rattle.ijson_number.specs.Grammar.{Spells}
 use Rattle.ijson_number.specs.NumberBytes.{is_number_byte}
 use Rattle.ijson_number.proofs.Means.{spells_one}
 use Rattle.ijson_number.proofs.SpelledBytes.{spells_bytes}
-use Rattle.ijson_json.specs.Reading.{Past, Stops, NumberAt, NoNumber, IsPastLimit, PastLimitAt}
+use Rattle.ijson_json.specs.private.Reading.{Past, Stops, NumberAt, NoNumber, IsPastLimit, PastLimitAt}
 use Rattle.ijson_json.proofs.Bytes.{Run, run_same, not_both}
 
 -- a byte from 128 on is none of a number

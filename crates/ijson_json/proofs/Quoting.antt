@@ -8,7 +8,7 @@ use Rattle.std.proofs.lemmas.Str.{encode_ascii, length-encode, len_utf8_bounds}
 use Rattle.ijson_json.specs.Strings.{is_unescaped}
 use Rattle.ijson_json.specs.Print.{escaped, all_escaped}
 use Rattle.ijson_json.specs.Print.{quoted}
-use Rattle.ijson_json.specs.Reading.{Past}
+use Rattle.ijson_json.specs.private.Reading.{Past}
 use Rattle.ijson_json.proofs.Bytes.{Run}
 use Rattle.ijson_json.proofs.Escapes.{first_is}
 use Rattle.ijson_json.proofs.Runs.{special_ascii}

@@ -11,7 +11,7 @@ use Rattle.std.proofs.lemmas.List.Folds.{length-prefix_len}
 use Rattle.std.proofs.lemmas.List.Sums.{prefix_len_passes, prefix_len_stops, prefix_len-le-length}
 use Rattle.std.proofs.lemmas.Str.{IsCharBoundary-before_ascii, IsCharBoundary-end}
 use Rattle.ijson_json.specs.Strings.{is_unescaped}
-use Rattle.ijson_json.specs.Reading.{Past}
+use Rattle.ijson_json.specs.private.Reading.{Past}
 use Rattle.ijson_json.proofs.Bytes.{Run}
 
 -- the longest run passes, and stops where a byte does not

@@ -12,13 +12,14 @@ use Rattle.ijson_json.specs.Ranged.{is_ranged}
 use Rattle.ijson_json.specs.Settled.{settled}
 use Rattle.ijson_json.specs.Grammar.{is_space, IsSpace, Spaced, IsValue, Reads, Accepted}
 use Rattle.ijson_json.specs.Print.{print}
-use Rattle.ijson_json.specs.Reading.{Stops, Front, Skips, IsRead, IsBeyond}
+use Rattle.ijson_json.specs.private.Reading.{Stops, Front, Skips, IsRead, IsBeyond}
 use Rattle.ijson_json.specs.Refuses.{Refuses, Passes}
-use Rattle.ijson_json.specs.Explains.{Explains, Answers, error_of}
+use Rattle.ijson_json.specs.private.Explains.{Explains, Answers, error_of}
 use Rattle.ijson_json.proofs.Bytes.{run_same, not_both}
 use Rattle.ijson_json.proofs.Unique.{value-past_space, value_same}
 use Rattle.ijson_json.proofs.Lists.{space-Stops, Ends-any}
 use Rattle.ijson_json.proofs.Law.{one_tree, printed_is_accepted}
+use Rattle.ijson_json.specs.Limits.{max_depth}
 
 -- a text that is spelled begins, behind its white space, with the value
 front_of : (text start : List ℕ) (t : Tree) → Skips text start → Spaced (λ value. IsValue t value) text → (rest : List ℕ) × IsSpace rest × Front (λ value. IsValue t value) start rest
@@ -52,22 +53,28 @@ behind text start rest end t s r q z u d g w =
 
 beyond : (text start : List ℕ) (Bad Worst : Tree → Type 0) (Bad' Worst' : ℕ → Bool → Type 0) → Skips text start → ((t : Tree) → Bad t → Bad' (depth t) (is_ranged t)) → ((t : Tree) → Worst t → Worst' (depth t) (is_ranged t))
     → IsBeyond Bad Worst start → Passes Bad' Worst' text
-beyond text start Bad Worst Bad' Worst' s bad worst b = (
-  λ t d g r.
+beyond text start Bad Worst Bad' Worst' s bad worst b = record {
+  each = λ t d g r.
       let f = front_of text start r.written s r.spelled in
       let h : Bad' (depth r.written) (is_ranged r.written) = bad r.written (b.each r.written f.0 (stops_of f.0 f.1) f.2) in
-      subst (λ (g : Bool). Bad' d g) (sym r.ranged_is) (subst (λ (d : ℕ). Bad' d (is_ranged r.written)) (sym r.deepest_is) h),
-  s.space ++ b.beginning,
-  b.others,
-  b.closers,
-  s.is ∙ ap (λ (l : List ℕ). s.space ++ l) b.is ∙ sym (append_assoc s.space b.beginning b.others),
-  b.closing,
-  settled b.element,
-  depth b.element,
-  is_ranged b.element,
-  record { written = b.element; spelled = (s.space, b.beginning ++ b.closers, [], s.passed, b.spelled, tt, append_assoc s.space b.beginning b.closers ∙ ap (λ (l : List ℕ). s.space ++ l) (sym (append-nil (b.beginning ++ b.closers)))); tree_is = refl; deepest_is = refl; ranged_is = refl },
-  worst b.element b.worst,
-)
+      subst (λ (g : Bool). Bad' d g) (sym r.ranged_is) (subst (λ (d : ℕ). Bad' d (is_ranged r.written)) (sym r.deepest_is) h);
+  beginning = s.space ++ b.beginning;
+  others = b.others;
+  closers = b.closers;
+  is = s.is ∙ ap (λ (l : List ℕ). s.space ++ l) b.is ∙ sym (append_assoc s.space b.beginning b.others);
+  closing = b.closing;
+  tree = settled b.element;
+  deepest = depth b.element;
+  ranged = is_ranged b.element;
+  reading = record {
+    written = b.element;
+    spelled = (s.space, b.beginning ++ b.closers, [], s.passed, b.spelled, tt, append_assoc s.space b.beginning b.closers ∙ ap (λ (l : List ℕ). s.space ++ l) (sym (append-nil (b.beginning ++ b.closers))));
+    tree_is = refl;
+    deepest_is = refl;
+    ranged_is = refl;
+  };
+  first = worst b.element b.worst;
+}
 
 -- what a fault says of the whole text
 
@@ -83,8 +90,8 @@ refuses text start faults.Memory s h = tt
 
 memory_alone : (text : List ℕ) (error : JsonError) (t : Tree) → Refuses text error → Accepted text t → error ≡ errors.Memory
 memory_alone text (errors.Syntax at) t h a = absurd (h.1 t a.0 true a.2)
-memory_alone text (errors.TooDeep at) t h a = let d : 127 < a.0 = h.1.0 t a.0 true a.2 in absurd (omega (arith, d, a.1))
-memory_alone text (errors.NumberRange at) t h a = absurd (not_both true refl (h.1.0 t a.0 true a.2))
+memory_alone text (errors.TooDeep at) t h a = let d : max_depth < a.0 = h.1.each t a.0 true a.2 in absurd (omega (arith, d, a.1))
+memory_alone text (errors.NumberRange at) t h a = absurd (not_both true refl (h.1.each t a.0 true a.2))
 memory_alone text errors.Memory t h a = refl
 
 -- a text that is accepted is read as its tree
@@ -95,5 +102,5 @@ answers_read text (Err e) h t a = memory_alone text e t h a
 
 -- and so is what was printed
 
-pub answers_printed : (text : List ℕ) (result : Result Proper JsonError) → Answers text result → (t : Tree) → IsProper t → depth t ≤ 127 → text ≡ print t → MatchResult result (λ value. value.tree ≡ t) (λ error. error ≡ errors.Memory)
+pub answers_printed : (text : List ℕ) (result : Result Proper JsonError) → Answers text result → (t : Tree) → IsProper t → depth t ≤ max_depth → text ≡ print t → MatchResult result (λ value. value.tree ≡ t) (λ error. error ≡ errors.Memory)
 answers_printed text result h t n d e = answers_read text result h t (subst (λ (l : List ℕ). Accepted l t) (sym e) (printed_is_accepted t n d))

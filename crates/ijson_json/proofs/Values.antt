@@ -10,13 +10,14 @@ use Rattle.ijson_value.specs.Tree.{Tree, null, boolean, number, string, array, o
 use Rattle.ijson_number.proofs.SpelledBytes.{spells_first}
 use Rattle.ijson_json.specs.Ranged.{is_ranged}
 use Rattle.ijson_json.specs.Grammar.{IsValue, IsString, null_text, boolean_text}
-use Rattle.ijson_json.specs.Reading.{Past, Stops, Front, Skips, IsRead, IsTooDeep, IsOutOfRange, NoValue, NoNumber, PastLimitAt}
-use Rattle.ijson_json.specs.Explains.{Explains, ExplainsMember, NumberFault, StringFault, WordFault}
+use Rattle.ijson_json.specs.private.Reading.{Past, Stops, Front, Skips, IsRead, IsTooDeep, IsOutOfRange, NoValue, NoNumber, PastLimitAt}
+use Rattle.ijson_json.specs.private.Explains.{Explains, ExplainsMember, NumberFault, StringFault, WordFault}
 use Rattle.ijson_json.proofs.First.{kind, tree_kind, number_kind, value_first}
 use Rattle.ijson_json.proofs.Members.{no_key}
 use Rattle.ijson_json.proofs.Bytes.{not_both, heads, heads_apart}
 use Rattle.ijson_json.proofs.Unique.{tree_kind-le}
 use Rattle.ijson_json.proofs.Containers.{array_at, object_at, kind_at}
+use Rattle.ijson_json.specs.Limits.{max_depth}
 
 -- a text that does not begin with a byte
 
@@ -25,21 +26,21 @@ past_text text b more p e = let not : Past (λ c. c == b) (b ∷ more) = rw e at
 
 -- `null` was read
 
-pub read_null : (opened : ℕ) (text rest : List ℕ) → opened ≤ 127 → text ≡ null_text ++ rest → IsRead opened text null rest
+pub read_null : (opened : ℕ) (text rest : List ℕ) → opened ≤ max_depth → text ≡ null_text ++ rest → IsRead opened text null rest
 read_null opened text rest o e = record { found = record { front = null_text; holds = refl; is = e }; ends = tt; deep = omega arith; ranged = refl }
 
 -- `true` or `false` was read
 
-pub read_boolean : (b : Bool) (opened : ℕ) (text rest : List ℕ) → opened ≤ 127 → text ≡ boolean_text b ++ rest → IsRead opened text (boolean b) rest
+pub read_boolean : (b : Bool) (opened : ℕ) (text rest : List ℕ) → opened ≤ max_depth → text ≡ boolean_text b ++ rest → IsRead opened text (boolean b) rest
 read_boolean b opened text rest o e = record { found = record { front = boolean_text b; holds = refl; is = e }; ends = tt; deep = omega arith; ranged = refl }
 
 -- an array inside 127 open containers
 
-too_deep : (opened : ℕ) (text inside : List ℕ) → opened ≡ 127 → text ≡ 91 ∷ inside → IsTooDeep opened text
+too_deep : (opened : ℕ) (text inside : List ℕ) → opened ≡ max_depth → text ≡ 91 ∷ inside → IsTooDeep opened text
 too_deep opened text inside o e = record {
   each = λ t x stops f.
       let a = array_at t inside x (record { front = f.front; holds = f.holds; is = sym e ∙ f.is }) in
-      subst (λ (t : Tree). 127 < opened + depth t) (sym a.2) (omega arith);
+      subst (λ (t : Tree). max_depth < opened + depth t) (sym a.2) (omega arith);
   beginning = 91 ∷ [];
   others = inside;
   closers = 93 ∷ [];
@@ -52,11 +53,11 @@ too_deep opened text inside o e = record {
 
 -- an object inside 127 open containers
 
-too_deep_object : (opened : ℕ) (text inside : List ℕ) → opened ≡ 127 → text ≡ 123 ∷ inside → IsTooDeep opened text
+too_deep_object : (opened : ℕ) (text inside : List ℕ) → opened ≡ max_depth → text ≡ 123 ∷ inside → IsTooDeep opened text
 too_deep_object opened text inside o e = record {
   each = λ t x stops f.
       let a = object_at t inside x (record { front = f.front; holds = f.holds; is = sym e ∙ f.is }) in
-      subst (λ (t : Tree). 127 < opened + depth t) (sym a.2) (omega arith);
+      subst (λ (t : Tree). max_depth < opened + depth t) (sym a.2) (omega arith);
   beginning = 123 ∷ [];
   others = inside;
   closers = 125 ∷ [];
@@ -73,10 +74,10 @@ pub begins : (b : ℕ) (text : List ℕ) (first : ℕ) (more : List ℕ) → tex
 begins b text first more e f = e ∙ ap (λ (c : ℕ). c ∷ more) f
 
 -- a bracket opens inside 127 open containers
-pub array_too_deep : (opened : ℕ) (text inside : List ℕ) (fault : Fault) → text ≡ 91 ∷ inside → (opened ≡ 127) × (fault ≡ faults.TooDeep (length text)) → Explains opened text fault
+pub array_too_deep : (opened : ℕ) (text inside : List ℕ) (fault : Fault) → text ≡ 91 ∷ inside → (opened ≡ max_depth) × (fault ≡ faults.TooDeep (length text)) → Explains opened text fault
 array_too_deep opened text inside fault e h = subst (λ (f : Fault). Explains opened text f) (sym h.1) (omega arith, too_deep opened text inside h.0 e)
 
-pub object_too_deep : (opened : ℕ) (text inside : List ℕ) (fault : Fault) → text ≡ 123 ∷ inside → (opened ≡ 127) × (fault ≡ faults.TooDeep (length text)) → Explains opened text fault
+pub object_too_deep : (opened : ℕ) (text inside : List ℕ) (fault : Fault) → text ≡ 123 ∷ inside → (opened ≡ max_depth) × (fault ≡ faults.TooDeep (length text)) → Explains opened text fault
 object_too_deep opened text inside fault e h = subst (λ (f : Fault). Explains opened text f) (sym h.1) (omega arith, too_deep_object opened text inside h.0 e)
 
 -- no value begins with a byte that is none of these

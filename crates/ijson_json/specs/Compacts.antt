@@ -10,4 +10,5 @@ Compacts text written = (tree : Tree) × Accepted text tree × (written ≡ prin
 
 -- the bytes are UTF-8, and the line is their compact text and one line feed
 abbrev pub IsCompactLine : List ℕ → List ℕ → Type 0
-IsCompactLine bytes line = (written : List ℕ) × IsUtf8 bytes × Compacts bytes written × (line ≡ written ++ 10 ∷ [])
+IsCompactLine bytes line =
+    (written : List ℕ) × IsUtf8 bytes × Compacts bytes written × (line ≡ written ++ 10 ∷ [])

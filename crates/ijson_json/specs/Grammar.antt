@@ -1,4 +1,5 @@
--- JSON (RFC 8259, sections 2 to 7) as a relation between whole texts and trees. A text is the list of its bytes.
+-- JSON (RFC 8259, sections 2 to 7) as a relation between whole texts and trees. A text is the list of its
+-- bytes.
 use Rattle.std.specs.Prelude.{◌≡◌, ℕ, ◌≤◌, Bool, true, false, ◌||◌, ◌==◌, IsTrue, ◌⊎◌, List, [], ◌∷◌, ◌++◌}
 use Rattle.std.specs.List.{AllByRecursion}
 use Rattle.ijson_number.specs.Grammar.{Spells}
@@ -6,6 +7,7 @@ use Rattle.ijson_value.specs.Tree.{Tree, null, boolean, number, string, array, o
 use Rattle.ijson_json.specs.Strings.{StringBody}
 use Rattle.ijson_json.specs.Ranged.{is_ranged}
 use Rattle.ijson_json.specs.Settled.{settled}
+use Rattle.ijson_json.specs.Limits.{max_depth}
 
 -- space, tab, line feed, carriage return (section 2)
 abbrev pub is_space : ℕ → Bool
@@ -16,7 +18,9 @@ IsSpace text = AllByRecursion (λ b. IsTrue (is_space b)) text
 
 -- a text that is P, with white space round it
 abbrev pub Spaced : (List ℕ → Type 0) → List ℕ → Type 0
-Spaced P text = (before inside after : List ℕ) × IsSpace before × P inside × IsSpace after × (text ≡ before ++ (inside ++ after))
+Spaced P text =
+    (before inside after : List ℕ) × IsSpace before × P inside × IsSpace after
+    × (text ≡ before ++ (inside ++ after))
 
 -- a text that is P, the byte, and a text that is Q
 abbrev pub Split : (List ℕ → Type 0) → ℕ → (List ℕ → Type 0) → List ℕ → Type 0
@@ -38,7 +42,8 @@ boolean_text false = 102 ∷ 97 ∷ 108 ∷ 115 ∷ 101 ∷ []
 abbrev pub IsString : List ℕ → List ℕ → Type 0
 IsString s text = Enclosed 34 (λ body. StringBody body s) 34 text
 
--- The value without white space round it (sections 3 to 6). An object is as it was written: a key may come again.
+-- The value without white space round it (sections 3 to 6). An object is as it was written: a key may come
+-- again.
 -- `[` is 91, `]` 93, `{` 123, `}` 125, `,` 44 and `:` 58.
 abbrev mutual
   pub IsValue : Tree → List ℕ → Type 0
@@ -52,16 +57,23 @@ abbrev mutual
   pub IsItems : Items → List ℕ → Type 0
   IsItems no_items text = IsSpace text
   IsItems (item t no_items) text = Spaced (λ value. IsValue t value) text
-  IsItems (item t (item u more)) text = Split (λ first. Spaced (λ value. IsValue t value) first) 44 (λ others. IsItems (item u more) others) text
+  IsItems (item t (item u more)) text =
+      Split (λ first. Spaced (λ value. IsValue t value) first) 44
+      (λ others. IsItems (item u more) others) text
 
   pub IsMembers : Members → List ℕ → Type 0
   IsMembers no_members text = IsSpace text
-  IsMembers (member k t no_members) text = Split (λ key. Spaced (λ string. IsString k string) key) 58 (λ value. Spaced (λ value. IsValue t value) value) text
+  IsMembers (member k t no_members) text =
+      Split (λ key. Spaced (λ string. IsString k string) key) 58
+      (λ value. Spaced (λ value. IsValue t value) value) text
   IsMembers (member k t (member l u more)) text =
-      Split (λ first. Split (λ key. Spaced (λ string. IsString k string) key) 58 (λ value. Spaced (λ value. IsValue t value) value) first) 44 (λ others. IsMembers (member l u more) others) text
+      Split (λ first. Split (λ key. Spaced (λ string. IsString k string) key) 58
+      (λ value. Spaced (λ value. IsValue t value) value) first) 44
+      (λ others. IsMembers (member l u more) others) text
 
--- The text is JSON for the tree, with so many containers open at once at most; ranged says whether each number in it is within the limit.
--- What was written has the members that are replaced later too, and they count for both.
+-- The text is JSON for the tree, with so many containers open at once at most; ranged says whether each
+-- number in it is within the limit. What was written has the members that are replaced later too, and they
+-- count for both.
 pub record Reads (text : List ℕ) (tree : Tree) (deepest : ℕ) (ranged : Bool) : Type 0 where
   pub written : Tree
   pub spelled : Spaced (λ value. IsValue written value) text
@@ -71,7 +83,7 @@ pub record Reads (text : List ℕ) (tree : Tree) (deepest : ℕ) (ranged : Bool)
 
 -- within the limits on nesting and on exponents, which are this project's own
 abbrev pub Accepted : List ℕ → Tree → Type 0
-Accepted text tree = (deepest : ℕ) × (deepest ≤ 127) × Reads text tree deepest true
+Accepted text tree = (deepest : ℕ) × (deepest ≤ max_depth) × Reads text tree deepest true
 
 -- closing brackets alone
 abbrev pub IsClosers : List ℕ → Type 0

@@ -1,4 +1,5 @@
--- The text of a tree, without white space: this project's own choice among the texts that RFC 8259 allows.
+-- The text of a tree, without white space: this project's own choice among the texts that RFC 8259
+-- allows.
 use Rattle.std.specs.Prelude.{ℕ, ◌+◌, ◌/◌, ◌%◌, cond, ◌==◌, nat_lt, List, [], ◌∷◌, ◌++◌}
 use Rattle.ijson_number.specs.Text.{num_text}
 use Rattle.ijson_value.specs.Tree.{Tree, null, boolean, number, string, array, object, Items, no_items, item, Members, no_members, member}
@@ -11,9 +12,15 @@ hex_text n = cond (nat_lt n 10) (48 + n) (87 + n)
 -- a byte of a text: `"`, a backslash and the bytes below 32 are escaped, by a letter where they have one
 unfoldable pub escaped : ℕ → List ℕ
 escaped b =
-    cond (b == 34) (92 ∷ 34 ∷ []) (cond (b == 92) (92 ∷ 92 ∷ []) (cond (b == 8) (92 ∷ 98 ∷ []) (cond (b == 9) (92 ∷ 116 ∷ [])
-    (cond (b == 10) (92 ∷ 110 ∷ []) (cond (b == 12) (92 ∷ 102 ∷ []) (cond (b == 13) (92 ∷ 114 ∷ [])
-    (cond (nat_lt b 32) (92 ∷ 117 ∷ 48 ∷ 48 ∷ hex_text (b / 16) ∷ hex_text (b % 16) ∷ []) (b ∷ []))))))))
+    cond (b == 34) (92 ∷ 34 ∷ [])
+    (cond (b == 92) (92 ∷ 92 ∷ [])
+    (cond (b == 8) (92 ∷ 98 ∷ [])
+    (cond (b == 9) (92 ∷ 116 ∷ [])
+    (cond (b == 10) (92 ∷ 110 ∷ [])
+    (cond (b == 12) (92 ∷ 102 ∷ [])
+    (cond (b == 13) (92 ∷ 114 ∷ [])
+    (cond (nat_lt b 32) (92 ∷ 117 ∷ 48 ∷ 48 ∷ hex_text (b / 16) ∷ hex_text (b % 16) ∷ [])
+    (b ∷ []))))))))
 
 abbrev pub all_escaped : List ℕ → List ℕ
 all_escaped [] = []
@@ -40,4 +47,5 @@ abbrev mutual
   pub print_members : Members → List ℕ
   print_members no_members = []
   print_members (member k t no_members) = quoted k ++ 58 ∷ print t
-  print_members (member k t (member l u more)) = (quoted k ++ 58 ∷ print t) ++ 44 ∷ print_members (member l u more)
+  print_members (member k t (member l u more)) =
+      (quoted k ++ 58 ∷ print t) ++ 44 ∷ print_members (member l u more)

@@ -1,20 +1,43 @@
--- Why a text is refused, and that nothing else is said of it.
-use Rattle.std.specs.Prelude.{◌≡◌, ℕ, ◌<◌, ◌≤◌, Bool, false, List, ◌++◌, ⊤, length}
+-- Why a text is refused, and that nothing else is said of it. This project's own.
+use Rattle.std.specs.Prelude.{◌≡◌, ℕ, ◌+◌, ◌<◌, ◌≤◌, Bool, false, List, ◌++◌, ⊤, length}
 use Rattle.ijson_value.specs.Tree.{Tree}
 use Rattle.ijson_json.specs.Grammar.{Reads, IsClosers}
+use Rattle.ijson_json.specs.Limits.{max_depth}
 use Rattle.ijson_json.specs.declared.fault.JsonError.{JsonError}
 use Rattle.ijson_json.specs.declared.fault.JsonError.TheVariants.{Syntax, TooDeep, NumberRange, Memory}
 
--- each reading of the text is past a limit, and some beginning of it, with closing brackets alone behind it, has a reading past that limit
-abbrev pub Passes : (ℕ → Bool → Type 0) → (ℕ → Bool → Type 0) → List ℕ → Type 0
-Passes Past First text = ((tree : Tree) (deepest : ℕ) (ranged : Bool) → Reads text tree deepest ranged → Past deepest ranged)
-    × (beginning others closers : List ℕ) × (text ≡ beginning ++ others) × IsClosers closers
-    × (tree : Tree) × (deepest : ℕ) × (ranged : Bool) × Reads (beginning ++ closers) tree deepest ranged × First deepest ranged
+-- no reading of the text, whatever its tree, depth and range
+abbrev pub HasNoReading : List ℕ → Type 0
+HasNoReading text = (tree : Tree) (deepest : ℕ) (ranged : Bool) → Reads text tree deepest ranged → ⊥
 
--- `Syntax`: the text is not JSON. `TooDeep`: no reading is within 127 open containers, and a beginning reaches 128.
--- `NumberRange`: no reading has each number within the limit, and a beginning has a number past it.
+-- each reading of the text is past a limit, and some beginning of it, with closing brackets alone
+-- behind it, has a reading that is the first past that limit
+pub record Passes (Past First : ℕ → Bool → Type 0) (text : List ℕ) : Type 0 where
+  pub each : (tree : Tree) (deepest : ℕ) (ranged : Bool)
+      → Reads text tree deepest ranged → Past deepest ranged
+  pub beginning : List ℕ
+  pub others : List ℕ
+  pub closers : List ℕ
+  pub is : text ≡ beginning ++ others
+  pub closing : IsClosers closers
+  pub tree : Tree
+  pub deepest : ℕ
+  pub ranged : Bool
+  pub reading : Reads (beginning ++ closers) tree deepest ranged
+  pub first : First deepest ranged
+
+-- no reading keeps within the limit on nesting, and a beginning passes it by one
+abbrev pub PassesDepth : List ℕ → Type 0
+PassesDepth text =
+    Passes (λ deepest _. max_depth < deepest) (λ deepest _. deepest ≡ max_depth + 1) text
+
+-- no reading has each number within the limit, and a beginning has a number past it
+abbrev pub PassesRange : List ℕ → Type 0
+PassesRange text = Passes (λ _ ranged. ranged ≡ false) (λ _ ranged. ranged ≡ false) text
+
+-- what each refusal says of the text: where it points is within the text, and why it comes
 abbrev pub Refuses : List ℕ → JsonError → Type 0
-Refuses text (Syntax at) = (at ≤ length text) × ((tree : Tree) (deepest : ℕ) (ranged : Bool) → Reads text tree deepest ranged → ⊥)
-Refuses text (TooDeep at) = (at ≤ length text) × Passes (λ deepest ranged. 127 < deepest) (λ deepest ranged. deepest ≡ 128) text
-Refuses text (NumberRange at) = (at ≤ length text) × Passes (λ deepest ranged. ranged ≡ false) (λ deepest ranged. ranged ≡ false) text
+Refuses text (Syntax at) = (at ≤ length text) × HasNoReading text
+Refuses text (TooDeep at) = (at ≤ length text) × PassesDepth text
+Refuses text (NumberRange at) = (at ≤ length text) × PassesRange text
 Refuses text Memory = ⊤

@@ -1,5 +1,5 @@
--- The tree of what was written, where a key may come again (RFC 8259, section 4, leaves repeated names open; this project keeps the place
--- of the first and the value of the last).
+-- The tree of what was written, where a key may come again. RFC 8259, section 4, leaves repeated names
+-- open; this project keeps the place of the first and the value of the last.
 use Rattle.std.specs.Prelude.{ℕ, List, [], ◌∷◌}
 use Rattle.ijson_table.specs.Store.{put}
 use Rattle.ijson_value.specs.Tree.{Tree, null, boolean, number, string, array, object, Items, no_items, item, Members, no_members, member, members_of}

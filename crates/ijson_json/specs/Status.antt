@@ -1,4 +1,5 @@
--- The status that the program ends with: 0 done, 1 for what was read, 2 for a device, 3 for want of memory. This project's own.
+-- The status that the program ends with: 0 done, 1 for what was read, 2 for a device, 3 for want of
+-- memory. This project's own.
 use Rattle.std.specs.Prelude.{ℕ, Result, Ok, Err}
 use Rattle.ijson_json.specs.declared.fault.JsonError.TheVariants as json
 use Rattle.ijson_json.specs.declared.compacting.CompactError.{CompactError}

@@ -1,9 +1,10 @@
--- What stands between the quotes of a string, and the UTF-8 bytes that it spells (RFC 8259, section 7). A surrogate stands in a pair alone, which is
--- this project's own rule.
+-- What stands between the quotes of a string, and the UTF-8 bytes that it spells (RFC 8259, section 7).
+-- A surrogate stands in a pair alone, which is this project's own rule.
 use Rattle.std.specs.Prelude.{◌≡◌, ℕ, ◌+◌, ◌-◌, ◌*◌, Bool, false, cond, not, ◌&&◌, ◌||◌, ◌==◌, nat_le, nat_lt, IsTrue, List, [], ◌∷◌, ◌++◌, Option, Some, None}
 use Rattle.std.specs.Char.{encode_utf8}
 
--- Neither a control character, `"` nor a backslash. In UTF-8 each byte of a longer character is one of these.
+-- Neither a control character, `"` nor a backslash. In UTF-8 each byte of a longer character is one of
+-- these.
 abbrev pub is_unescaped : ℕ → Bool
 is_unescaped b = nat_le 32 b && (not (b == 34) && not (b == 92))
 
@@ -11,13 +12,18 @@ is_unescaped b = nat_le 32 b && (not (b == 34) && not (b == 92))
 unfoldable pub short_escape : ℕ → Option ℕ
 short_escape b =
     cond ((b == 34) || ((b == 92) || (b == 47))) (Some b)
-    (cond (b == 98) (Some 8) (cond (b == 102) (Some 12) (cond (b == 110) (Some 10) (cond (b == 114) (Some 13) (cond (b == 116) (Some 9) None)))))
+    (cond (b == 98) (Some 8)
+    (cond (b == 102) (Some 12)
+    (cond (b == 110) (Some 10)
+    (cond (b == 114) (Some 13)
+    (cond (b == 116) (Some 9) None)))))
 
 -- 0 to 9, a to f, A to F
 unfoldable pub hex_digit : ℕ → Option ℕ
 hex_digit b =
     cond (nat_le 48 b && nat_le b 57) (Some (b - 48))
-    (cond (nat_le 97 b && nat_le b 102) (Some (b - 87)) (cond (nat_le 65 b && nat_le b 70) (Some (b - 55)) None))
+    (cond (nat_le 97 b && nat_le b 102) (Some (b - 87))
+    (cond (nat_le 65 b && nat_le b 70) (Some (b - 55)) None))
 
 -- four digits, and the number that they spell
 pub record Hex (text : List ℕ) (u : ℕ) : Type 0 where
@@ -42,16 +48,23 @@ is_high_surrogate u = nat_le 0xd800 u && nat_lt u 0xdc00
 abbrev pub is_low_surrogate : ℕ → Bool
 is_low_surrogate u = nat_le 0xdc00 u && nat_lt u 0xe000
 
+-- the code of the character of a pair of surrogates
+abbrev pub paired : ℕ → ℕ → ℕ
+paired u v = 0x10000 + ((u - 0xd800) * 1024 + (v - 0xdc00))
+
 -- One character as it is written, and its bytes. Of a longer character that is written as it is, one byte.
 -- `\` is 92 and `u` 117. A surrogate stands in a pair alone.
 pub data Character : List ℕ → List ℕ → Type 0 where
   unescaped : {b : ℕ} → IsTrue (is_unescaped b) → Character (b ∷ []) (b ∷ [])
   short : {b c : ℕ} → short_escape b ≡ Some c → Character (92 ∷ b ∷ []) (c ∷ [])
-  unicode : {h : List ℕ} {u : ℕ} → Hex h u → is_high_surrogate u ≡ false → is_low_surrogate u ≡ false → Character (92 ∷ 117 ∷ h) (encode_utf8 u)
-  pair : {h l : List ℕ} {u v : ℕ} → Hex h u → IsTrue (is_high_surrogate u) → Hex l v → IsTrue (is_low_surrogate v)
-      → Character (92 ∷ 117 ∷ (h ++ 92 ∷ 117 ∷ l)) (encode_utf8 (0x10000 + ((u - 0xd800) * 1024 + (v - 0xdc00))))
+  unicode : {h : List ℕ} {u : ℕ} → Hex h u → is_high_surrogate u ≡ false
+      → is_low_surrogate u ≡ false → Character (92 ∷ 117 ∷ h) (encode_utf8 u)
+  pair : {h l : List ℕ} {u v : ℕ} → Hex h u → IsTrue (is_high_surrogate u)
+      → Hex l v → IsTrue (is_low_surrogate v)
+      → Character (92 ∷ 117 ∷ (h ++ 92 ∷ 117 ∷ l)) (encode_utf8 (paired u v))
 
 -- characters one after the other
 pub data StringBody : List ℕ → List ℕ → Type 0 where
   empty : StringBody [] []
-  one_more : {written meant body text : List ℕ} → Character written meant → StringBody body text → StringBody (written ++ body) (meant ++ text)
+  one_more : {written meant body text : List ℕ} → Character written meant → StringBody body text
+      → StringBody (written ++ body) (meant ++ text)

@@ -1,12 +1,16 @@
 //! `compact`: from a source to a sink.
-ghost use Rattle.std.specs.Prelude.{◌≡◌, ◌≢◌, ◌+◌, ◌^◌, ◌<◌, ◌↔◌, ℕ, List, [], ◌++◌, IfOk, IfErr, OnOk, IfSome, Some, Err};
+ghost use Rattle.std.specs.Prelude.{◌≡◌, ◌≢◌, ◌+◌, ◌^◌, ◌<◌, ◌↔◌, ◌⊎◌, ℕ, List, [], IfOk, IfErr, OnOk, IfSome, Some, Err};
+ghost use Rattle.std.specs.Io.KnownBytes.{Appends, Keeps};
 ghost use Rattle.std.specs.String.{string_bytes};
-ghost use Rattle.ijson_json.specs.Moves.{Gets};
+ghost use Rattle.ijson_json.specs.AddsOnlyRead.{AddsOnlyRead};
+ghost use Rattle.ijson_json.specs.AreShared.{SharesTextsOf};
+ghost use Rattle.ijson_json.specs.CompactErrorOf.{compact_error_of};
+ghost use Rattle.ijson_json.specs.private.CompactErrorOfReadFault.{compact_error_of_read_fault};
 ghost use Rattle.ijson_json.specs.Compacts.{Compacts, IsCompactLine};
 ghost use Rattle.ijson_json.specs.CompactRefusal.{IsCompactRefusal};
 ghost use Rattle.ijson_json.specs.Refuses.{Refuses};
-ghost use Rattle.ijson_json.specs.Told.{told_read, told_json};
-ghost use Rattle.ijson_json.specs.declared.compacting.CompactError.TheVariants.{Read, Write, Json, Memory as NoMemory};
+ghost use Rattle.ijson_json.specs.WritesBeginning.{WritesBeginning};
+ghost use Rattle.ijson_json.specs.declared.compacting.CompactError.TheVariants.{Read, NotUtf8, Write, Json, Memory as NoMemory};
 ghost use Rattle.ijson_json.specs.declared.fault.JsonError.TheVariants.{Memory};
 
 use crate::device::{Sink, Source};
@@ -18,24 +22,31 @@ use ijson_string::StringCache;
 use simdutf8::basic::from_utf8;
 use std::alloc::{AllocError, Global};
 use std::hash::BuildHasher;
+use thiserror::Error;
 
 /// Why a text could not be compacted.
-#[derive(Debug, Drop, Clone, Copy, PartialEq, Eq)]
+#[derive(Debug, Drop, Clone, Copy, PartialEq, Eq, Error)]
 pub enum CompactError {
     /// The source failed. Nothing was written.
+    #[error("read failed")]
     Read,
     /// What was read is not UTF-8. Nothing was written.
+    #[error("input is not UTF-8")]
     NotUtf8,
-    /// What was read is not a JSON text within the limits. Nothing was written. It never holds `JsonError::Memory`.
+    /// What was read is not a JSON text within the limits. Nothing was written. It never holds
+    /// `JsonError::Memory`.
+    #[error("{0}")]
     Json(JsonError),
     /// The sink failed. It got a beginning of the line, and not all of it.
+    #[error("write failed")]
     Write,
     /// There was not enough memory. Nothing was written.
+    #[error("out of memory")]
     Memory,
 }
 
 impl From<ReadFault> for CompactError {
-    ghost from_gives = { λ fault error. error ≡ told_read fault };
+    ghost from_gives = { λ fault error. error ≡ compact_error_of_read_fault fault };
 
     fn from(fault: ReadFault) -> CompactError {
         match fault {
@@ -46,7 +57,7 @@ impl From<ReadFault> for CompactError {
 }
 
 impl From<JsonError> for CompactError {
-    ghost from_gives = { λ error told. told ≡ told_json error };
+    ghost from_gives = { λ error becomes. becomes ≡ compact_error_of error };
 
     fn from(error: JsonError) -> CompactError {
         match error {
@@ -64,9 +75,11 @@ impl From<AllocError> for CompactError {
     }
 }
 
-/// Reads the JSON text that is left in `input` to its end, and writes its compact text and one line feed to `output`.
+/// Reads the JSON text that is left in `input` to its end, and writes its compact text and one line
+/// feed to `output`. Keys and strings are interned in `cache`, as `from_json` does.
 ///
-/// Each error says when it comes at `CompactError`. The whole line is made before its first byte is written.
+/// Each error says when it comes at `CompactError`. The whole line is made before its first byte is
+/// written.
 pub fn compact<R: Source, W: Sink, S: BuildHasher>(
     alloc: Global,
     input: &mut R,
@@ -77,14 +90,27 @@ pub fn compact<R: Source, W: Sink, S: BuildHasher>(
     requires sink { W.failed output.old + 1 < 2 ^ 64 }
     ensures read { (result ≡ Err Read) ↔ (R.failed input.old < R.failed input.new) }
     ensures write { (result ≡ Err Write) ↔ (W.failed output.old < W.failed output.new) }
+    // The line is written whole, of all that was left in the source.
     ensures done { OnOk result (IfSome (R.left input.old) (λ bytes. (R.left input.new ≡ Some [])
-        × ((line : List ℕ) × IsCompactLine bytes line × Gets (W.got output.old) (W.got output.new) line))) }
+        × ((line : List ℕ) × IsCompactLine bytes line
+        × Appends (W.got output.old) (W.got output.new) line))) }
+    // A failed write leaves a beginning of the line, and each other error leaves the sink.
     ensures beginning { result ≡ Err Write → IfSome (R.left input.old) (λ bytes.
-        (line : List ℕ) × (front : List ℕ) × (rest : List ℕ) × IsCompactLine bytes line × (line ≡ front ++ rest) × (rest ≢ [])
-        × Gets (W.got output.old) (W.got output.new) front) }
-    ensures nothing { IfErr result (λ error. error ≢ Write → W.got output.new ≡ W.got output.old) }
-    ensures error { IfErr result (λ error. IfSome (R.left input.old) (λ bytes. IsCompactRefusal bytes error)) }
+        (line : List ℕ) × IsCompactLine bytes line
+        × WritesBeginning (W.got output.old) (W.got output.new) line) }
+    ensures nothing { IfErr result (λ error.
+        error ≢ Write → Keeps (W.got output.old) (W.got output.new)) }
+    ensures error { IfErr result (λ error.
+        IfSome (R.left input.old) (λ bytes. IsCompactRefusal bytes error)) }
     ensures told_apart { result ≢ Err (Json Memory) }
+    // The cache holds what it held, and beyond that only what the bytes that were read spell.
+    ensures cache { (read : List ℕ) × IfSome (R.left input.old) (λ bytes. bytes ≡ read)
+        × AddsOnlyRead read cache.old cache.new }
+    // It is as it was where none were read as JSON.
+    ensures unread { (result ≡ Err Read) ⊎ (result ≡ Err NotUtf8) → cache.new ≡ cache.old }
+    // It holds each long text and key of what was read.
+    ensures shared { OnOk result (IfSome (R.left input.old)
+        (λ bytes. SharesTextsOf bytes cache.new)) }
 {
     let bytes = read_all(alloc, input)?;
     let line = compact_line(alloc, cache, &bytes)?;
@@ -102,6 +128,9 @@ fn compact_line<S: BuildHasher>(
     ensures not_read { result ≢ Err Read }
     ensures not_write { result ≢ Err Write }
     ensures told_apart { result ≢ Err (Json Memory) }
+    ensures cache { AddsOnlyRead bytes.now cache.old cache.new }
+    ensures unread { result ≡ Err NotUtf8 → cache.new ≡ cache.old }
+    ensures shared { OnOk result (SharesTextsOf bytes.now cache.new) }
 {
     let text = from_utf8(bytes).map_err(|_| CompactError::NotUtf8)?;
     let mut line = compact_text(alloc, cache, text)?;
@@ -117,6 +146,8 @@ fn compact_text<S: BuildHasher>(
 ) -> Result<String, JsonError>
     ensures written { IfOk result (λ written. Compacts text.now (string_bytes written)) }
     ensures refused { IfErr result (λ error. Refuses text.now error) }
+    ensures cache { AddsOnlyRead text.now cache.old cache.new }
+    ensures shared { OnOk result (SharesTextsOf text.now cache.new) }
 {
     let value = from_json(alloc, cache, text)?;
     to_json(alloc, &value).map_err(|_| JsonError::Memory)

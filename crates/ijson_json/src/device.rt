@@ -1,9 +1,12 @@
 //! What texts are read from and written to.
-ghost use Rattle.std.specs.Prelude.{◌≡◌, ◌+◌, ◌^◌, ◌<◌, ◌≤◌, ℕ, length, take, IfOk, OnErr};
-ghost use Rattle.ijson_json.specs.Moves.{Known, Gives, Gets, IsAtEnd};
+ghost use Rattle.std.specs.Prelude.{◌≡◌, ◌+◌, ◌^◌, ◌<◌, ◌≤◌, ℕ, List, Option, length, IfOk, OnOk, OnErr};
+ghost use Rattle.std.specs.Io.KnownBytes.{ReadConsumes, WriteAppends};
+
+use thiserror::Error;
 
 /// A read or a write failed, and moved no byte.
-#[derive(Debug, Clone, Copy, PartialEq, Eq)]
+#[derive(Debug, Clone, Copy, PartialEq, Eq, Error)]
+#[error("a read or a write failed")]
 pub struct DeviceFault;
 
 /// Gives bytes in pieces, and counts the reads that failed.
@@ -11,21 +14,21 @@ pub trait Source {
     /// How many reads failed so far.
     ghost failed: { Self → ℕ };
 
-    /// The bytes that are left, where the source tells them.
-    ghost left: { Self → Known };
+    /// The bytes that are left, where they are known.
+    ghost left: { Self → Option (List ℕ) };
 
     /// How many reads failed so far.
     fn failures(&self) -> u64
         ensures { result ≡ failed self.now };
 
-    /// Fills a beginning of `into` with the next bytes, and answers how many. Where `into` has room, 0 is answered only at the
-    /// end. On a fault no byte moves, and `failures` grows by one.
+    /// Fills a beginning of `into` with the next bytes, and answers how many. Where `into` has room,
+    /// 0 is answered only at the end. On a fault no byte moves, and `failures` grows by one.
     fn read(&mut self, into: &mut [u8]) -> Result<usize, DeviceFault>
         requires { failed self.old + 1 < 2 ^ 64 }
-        ensures count { IfOk result (λ n. (failed self.new ≡ failed self.old) × (n ≤ length into.new)) }
-        ensures bytes { IfOk result (λ n. Gives (left self.old) (left self.new) (take n into.new)) }
-        ensures end { IfOk result (λ n. n ≡ 0 → 0 < length into.new → IsAtEnd (left self.old)) }
-        ensures fault { OnErr result ((failed self.new ≡ failed self.old + 1) × (left self.new ≡ left self.old)) };
+        ensures bound { IfOk result (λ n. n ≤ length into.new) }
+        ensures count { OnOk result (failed self.new ≡ failed self.old) }
+        ensures fault { OnErr result (failed self.new ≡ failed self.old + 1) }
+        ensures bytes { ReadConsumes (left self.old) (left self.new) result into.new };
 }
 
 /// Takes bytes in pieces, and counts the writes that failed.
@@ -33,19 +36,20 @@ pub trait Sink {
     /// How many writes failed so far.
     ghost failed: { Self → ℕ };
 
-    /// The bytes that it got so far, where the sink tells them.
-    ghost got: { Self → Known };
+    /// The bytes that it got so far, where they are known.
+    ghost got: { Self → Option (List ℕ) };
 
     /// How many writes failed so far.
     fn failures(&self) -> u64
         ensures { result ≡ failed self.now };
 
-    /// Takes a beginning of `from`, at least one byte where `from` has any, and answers how many. On a fault no byte moves, and
-    /// `failures` grows by one.
+    /// Takes a beginning of `from`, at least one byte where `from` has any, and answers how many. On
+    /// a fault no byte moves, and `failures` grows by one.
     fn write(&mut self, from: &[u8]) -> Result<usize, DeviceFault>
         requires { failed self.old + 1 < 2 ^ 64 }
-        ensures count { IfOk result (λ n. (failed self.new ≡ failed self.old) × (n ≤ length from.now)) }
-        ensures bytes { IfOk result (λ n. Gets (got self.old) (got self.new) (take n from.now)) }
+        ensures bound { IfOk result (λ n. n ≤ length from.now) }
         ensures progress { IfOk result (λ n. 0 < length from.now → 0 < n) }
-        ensures fault { OnErr result ((failed self.new ≡ failed self.old + 1) × (got self.new ≡ got self.old)) };
+        ensures count { OnOk result (failed self.new ≡ failed self.old) }
+        ensures fault { OnErr result (failed self.new ≡ failed self.old + 1) }
+        ensures bytes { WriteAppends (got self.old) (got self.new) result from.now };
 }

@@ -3,7 +3,7 @@
 ghost use Rattle.std.specs.Prelude.{◌≡◌, ◌∷◌, ◌<◌, IsTrue, IfSome, MatchOption};
 ghost use Rattle.std.specs.Char.{encode_utf8};
 ghost use Rattle.ijson_json.specs.Strings.{short_escape, is_high_surrogate, is_low_surrogate};
-ghost use Rattle.ijson_json.specs.StringReading.{DigitAt, NoDigit, HexAt, NoHex, CharacterAt, NoCharacter, NoEscape, LowAt, NoLow};
+ghost use Rattle.ijson_json.specs.private.StringReading.{DigitAt, NoDigit, HexAt, NoHex, CharacterAt, NoCharacter, NoEscape, LowAt, NoLow};
 
 /// Whether the code is the first of a surrogate pair.
 fn is_high_surrogate(unit: u32) -> bool
@@ -60,7 +60,8 @@ fn take_unit(text: &str) -> Option<(u32, &str)>
 /// The character of a high surrogate and of the low one whose escape is at the front.
 fn take_low(high: u32, text: &str) -> Option<(char, &str)>
     requires { IsTrue (is_high_surrogate high) }
-    ensures { MatchOption result (NoLow text.now) (λ x. LowAt high text.now (encode_utf8 x.0) x.1.now) }
+    ensures { MatchOption result (NoLow text.now)
+        (λ x. LowAt high text.now (encode_utf8 x.0) x.1.now) }
 {
     let digits = text.strip_prefix("\\u")?;
     let (low, rest) = take_unit(digits)?;
@@ -73,7 +74,8 @@ fn take_low(high: u32, text: &str) -> Option<(char, &str)>
 
 /// The character whose code, or whose pair of surrogates, follows a backslash and `u`.
 fn take_unicode(text: &str) -> Option<(char, &str)>
-    ensures { MatchOption result (NoCharacter (92 ∷ 117 ∷ text.now)) (λ x. CharacterAt (92 ∷ 117 ∷ text.now) (encode_utf8 x.0) x.1.now) }
+    ensures { MatchOption result (NoCharacter (92 ∷ 117 ∷ text.now))
+        (λ x. CharacterAt (92 ∷ 117 ∷ text.now) (encode_utf8 x.0) x.1.now) }
 {
     let (unit, rest) = take_unit(text)?;
     if is_high_surrogate(unit) {
@@ -85,7 +87,8 @@ fn take_unicode(text: &str) -> Option<(char, &str)>
 
 /// The character that the escape at the front stands for, and the text behind it.
 pub(crate) fn take_escape(text: &str) -> Option<(char, &str)>
-    ensures { MatchOption result (NoEscape text.now) (λ x. CharacterAt text.now (encode_utf8 x.0) x.1.now) }
+    ensures { MatchOption result (NoEscape text.now)
+        (λ x. CharacterAt text.now (encode_utf8 x.0) x.1.now) }
 {
     let mut letters = text.strip_prefix('\\')?.chars();
     let letter = letters.next()?;

@@ -5,18 +5,23 @@ ghost use Rattle.ijson_json.specs.declared.fault.Fault.TheVariants.{Memory};
 
 use ijson_value::{Refused, RefusedPair};
 use std::alloc::AllocError;
+use thiserror::Error;
 
 /// Why no value was read from a text. `at` is a byte offset from 0, at most the length of the text.
-#[derive(Clone, Copy, PartialEq, Eq, Debug)]
+#[derive(Clone, Copy, PartialEq, Eq, Debug, Error)]
 pub enum JsonError {
-    /// The text is not JSON: the first byte that no JSON text could have there, or the length of a text that ends too early. A
-    /// broken escape is told at its backslash.
+    /// The text is not JSON: the first byte that no JSON text could have there, or the length of a
+    /// text that ends too early. A broken escape is told at its backslash.
+    #[error("syntax at byte {at}")]
     Syntax { at: usize },
     /// An opening bracket inside 127 open containers.
+    #[error("nesting too deep at byte {at}")]
     TooDeep { at: usize },
     /// The first byte of a number whose stripped exponent is past the limit.
+    #[error("number out of range at byte {at}")]
     NumberRange { at: usize },
     /// Memory was refused.
+    #[error("out of memory")]
     Memory,
 }
 

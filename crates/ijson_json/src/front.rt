@@ -2,8 +2,8 @@
 
 ghost use Rattle.std.specs.Prelude.{◌≡◌, ◌++◌, ◌∷◌, ◌==◌, ◌<◌, ◌≤◌, nat_lt, length, MatchOption, MatchResult, IfSome};
 ghost use Rattle.ijson_json.specs.Grammar.{is_space};
-ghost use Rattle.ijson_json.specs.Reading.{Skips, Past};
-ghost use Rattle.ijson_json.specs.Explains.{WordFault};
+ghost use Rattle.ijson_json.specs.private.Reading.{Skips, Past};
+ghost use Rattle.ijson_json.specs.private.Explains.{WordFault};
 
 use crate::fault::Fault;
 
@@ -16,7 +16,8 @@ fn is_white(byte: u8) -> bool
 
 /// The first byte and the text behind it, where that byte is a character.
 pub(crate) fn split_ascii(text: &str) -> Option<(u8, &str)>
-    ensures cases { MatchOption result (Past (λ b. nat_lt b 128) text.now) (λ x. text.now ≡ x.0 ∷ x.1.now) }
+    ensures cases { MatchOption result (Past (λ b. nat_lt b 128) text.now)
+        (λ x. text.now ≡ x.0 ∷ x.1.now) }
     ensures ascii { IfSome result (λ x. x.0 < 128) }
 {
     let (byte, _) = text.as_bytes().split_first()?;
@@ -44,7 +45,8 @@ pub(crate) fn skip_space(text: &str) -> &str
 /// The text behind the byte, if it begins with it.
 pub(crate) fn strip_byte(text: &str, byte: u8) -> Option<&str>
     requires { byte < 128 }
-    ensures { MatchOption result (Past (λ b. b == byte) text.now) (λ rest. text.now ≡ byte ∷ rest.now) }
+    ensures { MatchOption result (Past (λ b. b == byte) text.now)
+        (λ rest. text.now ≡ byte ∷ rest.now) }
 {
     let (first, rest) = split_ascii(text)?;
     if first == byte { Some(rest) } else { None }
@@ -58,9 +60,12 @@ fn common_length(text: &str, word: &str) -> usize
     bytes.take_while(|(a, b)| a == b).count()
 }
 
-/// The text behind the word. A text that does not begin with it is at fault where it leaves the word.
+/// The text behind the word. A text that does not begin with it is at fault where it leaves the
+/// word.
 pub(crate) fn strip_word<'a>(text: &'a str, word: &str) -> Result<&'a str, Fault>
-    ensures { MatchResult result (λ rest. text.now ≡ word.now ++ rest.now) (λ fault. WordFault text.now word.now fault) }
+    ensures { MatchResult result
+        (λ rest. text.now ≡ word.now ++ rest.now)
+        (λ fault. WordFault text.now word.now fault) }
 {
     match text.strip_prefix(word) {
         Some(rest) => Ok(rest),

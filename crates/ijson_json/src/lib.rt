@@ -19,7 +19,8 @@ mod stream_source;
 mod string;
 mod write;
 
-ghost use Rattle.ijson_json.specs.Laws.{OneTree, PrintedIsAccepted};
+ghost use Rattle.ijson_json.specs.OneTree.{OneTree};
+ghost use Rattle.ijson_json.specs.PrintedIsAccepted.{PrintedIsAccepted};
 
 pub use compacting::{CompactError, compact};
 pub use device::{DeviceFault, Sink, Source};
@@ -32,7 +33,8 @@ pub use stream_sink::StreamSink;
 pub use stream_source::StreamSource;
 pub use write::to_json;
 
-/// A text has at most one tree, and what is printed of a tree within the limits is accepted as that tree.
+/// A text has at most one tree, and what is printed of a tree within the limits is accepted as that
+/// tree.
 pub fn grammar_law()
     ensures one_tree { OneTree }
     ensures printed { PrintedIsAccepted }

@@ -1,6 +1,6 @@
 //! A sink in memory, for tests.
-ghost use Rattle.std.specs.Prelude.{◌≡◌, ◌+◌, ◌-◌, ◌++◌, ◌^◌, ◌<◌, ◌≤◌, ◌↔◌, [], length, take, min, IfOk, IsErr, OnErr, Some};
-ghost use Rattle.ijson_json.specs.Moves.{Gets};
+ghost use Rattle.std.specs.Prelude.{◌≡◌, ◌+◌, ◌-◌, ◌++◌, ◌^◌, ◌<◌, ◌≤◌, ◌↔◌, [], length, take, min, IfOk, OnOk, IsErr, OnErr, Some};
+ghost use Rattle.std.specs.Io.KnownBytes.{WriteAppends};
 
 use crate::device::{DeviceFault, Sink};
 use std::alloc::{AllocError, Global};
@@ -17,9 +17,9 @@ pub struct MemorySink {
 
 impl Model for MemorySink {
     ghost use Rattle.std.specs.Prelude.{◌<◌, ◌≤◌, ◌-◌, take, length};
-    ghost use Rattle.ijson_json.specs.Taking.{Taking};
+    ghost use Rattle.ijson_json.specs.SinkState.{SinkState};
 
-    ghost Value = { Taking };
+    ghost Value = { SinkState };
 
     ghost view = { λ s. record {
       got = take s.len s.room.items;
@@ -32,11 +32,17 @@ impl Model for MemorySink {
 }
 
 impl MemorySink {
-    /// A sink that takes `fail_at` bytes: a call that would pass them stops there, and each later one that has a byte is a fault.
-    /// Room for them is taken here, so that `write` needs no memory; the error comes where there is none.
+    /// A sink that takes `fail_at` bytes: a call that would pass them stops there, and each later one
+    /// that has a byte is a fault. Room for them is taken here, so that `write` needs no memory; the
+    /// error comes where there is none.
     pub fn new(alloc: Global, piece: usize, fail_at: usize) -> Result<MemorySink, AllocError>
         requires { 0 < piece }
-        ensures { IfOk result (λ s. s ≡ record { got = []; piece = piece; until_fault = fail_at; failed = 0 }) }
+        ensures { IfOk result (λ s. s ≡ record {
+          got = [];
+          piece = piece;
+          until_fault = fail_at;
+          failed = 0;
+        }) }
     {
         let room = Vec::from_elem(alloc, 0, fail_at)?;
         Ok(MemorySink {
@@ -66,16 +72,21 @@ impl Sink for MemorySink {
 
     fn write(&mut self, from: &[u8]) -> Result<usize, DeviceFault>
         requires { self.old.failed + 1 < 2 ^ 64 }
-        ensures count { IfOk result (λ n. (self.new.failed ≡ self.old.failed) × (n ≤ length from.now)) }
-        ensures bytes { IfOk result (λ n. Gets (Some self.old.got) (Some self.new.got) (take n from.now)) }
+        ensures bound { IfOk result (λ n. n ≤ length from.now) }
         ensures progress { IfOk result (λ n. 0 < length from.now → 0 < n) }
-        ensures fault { OnErr result ((self.new.failed ≡ self.old.failed + 1) × (Some self.new.got ≡ Some self.old.got)) }
+        ensures count { OnOk result (self.new.failed ≡ self.old.failed) }
+        ensures fault { OnErr result (self.new.failed ≡ self.old.failed + 1) }
+        ensures bytes { WriteAppends (Some self.old.got) (Some self.new.got) result from.now }
 
         // When a call fails, how many bytes move, and what there is after it.
         ensures fails { IsErr result ↔ ((self.old.until_fault ≡ 0) × (0 < length from.now)) }
-        ensures moved { IfOk result (λ n. n ≡ min self.old.piece (min self.old.until_fault (length from.now))) }
-        ensures taken { IfOk result (λ n. self.new ≡ record { got = self.old.got ++ take n from.now; piece = self.old.piece; until_fault = self.old.until_fault - n; failed = self.old.failed }) }
-        ensures refused { OnErr result (self.new ≡ record { got = self.old.got; piece = self.old.piece; until_fault = self.old.until_fault; failed = self.old.failed + 1 }) }
+        ensures moved { IfOk result (λ n.
+            n ≡ min self.old.piece (min self.old.until_fault (length from.now))) }
+        ensures taken { IfOk result (λ n. self.new ≡ record self.old {
+          got = self.old.got ++ take n from.now;
+          until_fault = self.old.until_fault - n;
+        }) }
+        ensures refused { OnErr result (self.new ≡ record self.old { failed = self.old.failed + 1 }) }
     {
         let until_fault = self.room.len() - self.len;
         if until_fault == 0 && !from.is_empty() {

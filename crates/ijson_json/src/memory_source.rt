@@ -1,6 +1,6 @@
 //! A source in memory, for tests.
-ghost use Rattle.std.specs.Prelude.{◌≡◌, ◌+◌, ◌-◌, ◌^◌, ◌<◌, ◌≤◌, ◌↔◌, length, take, drop, min, IfOk, IsErr, OnErr, Some};
-ghost use Rattle.ijson_json.specs.Moves.{Gives, IsAtEnd};
+ghost use Rattle.std.specs.Prelude.{◌≡◌, ◌+◌, ◌-◌, ◌^◌, ◌<◌, ◌≤◌, ◌↔◌, length, drop, min, IfOk, OnOk, IsErr, OnErr, Some};
+ghost use Rattle.std.specs.Io.KnownBytes.{ReadConsumes};
 
 use crate::device::{DeviceFault, Source};
 use std::marker::Model;
@@ -16,9 +16,9 @@ pub struct MemorySource<'a> {
 
 impl<'a> Model for MemorySource<'a> {
     ghost use Rattle.std.specs.Prelude.{◌<◌};
-    ghost use Rattle.ijson_json.specs.Giving.{Giving};
+    ghost use Rattle.ijson_json.specs.SourceState.{SourceState};
 
-    ghost Value = { Giving };
+    ghost Value = { SourceState };
 
     ghost view = { λ s. record {
       left = s.left.now;
@@ -31,11 +31,16 @@ impl<'a> Model for MemorySource<'a> {
 }
 
 impl<'a> MemorySource<'a> {
-    /// A source of `bytes`. A call that would pass the first `fail_at` of them stops there, and each later one is a fault, the
-    /// one that would tell the end too.
+    /// A source of `bytes`. A call that would pass the first `fail_at` of them stops there, and each
+    /// later one is a fault, the one that would tell the end too.
     pub fn new(bytes: &'a [u8], piece: usize, fail_at: usize) -> MemorySource<'a>
         requires { 0 < piece }
-        ensures { result ≡ record { left = bytes.now; piece = piece; until_fault = fail_at; failed = 0 } }
+        ensures { result ≡ record {
+          left = bytes.now;
+          piece = piece;
+          until_fault = fail_at;
+          failed = 0;
+        } }
     {
         MemorySource {
             left: bytes,
@@ -57,16 +62,20 @@ impl Source for MemorySource<'_> {
 
     fn read(&mut self, into: &mut [u8]) -> Result<usize, DeviceFault>
         requires { self.old.failed + 1 < 2 ^ 64 }
-        ensures count { IfOk result (λ n. (self.new.failed ≡ self.old.failed) × (n ≤ length into.new)) }
-        ensures bytes { IfOk result (λ n. Gives (Some self.old.left) (Some self.new.left) (take n into.new)) }
-        ensures end { IfOk result (λ n. n ≡ 0 → 0 < length into.new → IsAtEnd (Some self.old.left)) }
-        ensures fault { OnErr result ((self.new.failed ≡ self.old.failed + 1) × (Some self.new.left ≡ Some self.old.left)) }
+        ensures bound { IfOk result (λ n. n ≤ length into.new) }
+        ensures count { OnOk result (self.new.failed ≡ self.old.failed) }
+        ensures fault { OnErr result (self.new.failed ≡ self.old.failed + 1) }
+        ensures bytes { ReadConsumes (Some self.old.left) (Some self.new.left) result into.new }
 
         // When a call fails, how many bytes move, and what there is after it.
         ensures fails { IsErr result ↔ (self.old.until_fault ≡ 0) }
-        ensures moved { IfOk result (λ n. n ≡ min (min self.old.piece self.old.until_fault) (min (length into.old) (length self.old.left))) }
-        ensures given { IfOk result (λ n. self.new ≡ record { left = drop n self.old.left; piece = self.old.piece; until_fault = self.old.until_fault - n; failed = self.old.failed }) }
-        ensures refused { OnErr result (self.new ≡ record { left = self.old.left; piece = self.old.piece; until_fault = self.old.until_fault; failed = self.old.failed + 1 }) }
+        ensures moved { IfOk result (λ n. n ≡ min (min self.old.piece self.old.until_fault)
+            (min (length into.old) (length self.old.left))) }
+        ensures given { IfOk result (λ n. self.new ≡ record self.old {
+          left = drop n self.old.left;
+          until_fault = self.old.until_fault - n;
+        }) }
+        ensures refused { OnErr result (self.new ≡ record self.old { failed = self.old.failed + 1 }) }
     {
         if self.until_fault == 0 {
             self.failures += 1;

@@ -1,7 +1,8 @@
 //! Reading to the end, and writing all of a text.
-ghost use Rattle.std.specs.Prelude.{◌≡◌, ◌≢◌, ◌+◌, ◌^◌, ◌<◌, ℕ, List, [], ◌++◌, ◌≤◌, take, drop, IfOk, OnOk, OnErr, Err};
+ghost use Rattle.std.specs.Prelude.{◌≡◌, ◌+◌, ◌^◌, ◌<◌, ◌≤◌, take, drop, IfOk, OnOk, OnErr, Err};
+ghost use Rattle.std.specs.Io.KnownBytes.{Appends, Consumes, IsAtEnd};
 ghost use Rattle.std.specs.Vec.{vec_len};
-ghost use Rattle.ijson_json.specs.Moves.{Gives, Gets, IsAtEnd};
+ghost use Rattle.ijson_json.specs.WritesBeginning.{WritesBeginning};
 ghost use Rattle.ijson_json.specs.declared.moving.ReadFault.TheVariants.{Device, Memory};
 
 use crate::device::{DeviceFault, Sink, Source};
@@ -36,7 +37,7 @@ impl From<AllocError> for ReadFault {
 /// All that is left in `input`, read into the one buffer that is answered.
 pub(crate) fn read_all<R: Source>(alloc: Global, input: &mut R) -> Result<Vec<u8>, ReadFault>
     requires { R.failed input.old + 1 < 2 ^ 64 }
-    ensures bytes { IfOk result (λ v. Gives (R.left input.old) (R.left input.new) v.items) }
+    ensures bytes { IfOk result (λ v. Consumes (R.left input.old) (R.left input.new) v.items) }
     ensures end { OnOk result (IsAtEnd (R.left input.new)) }
     ensures count { OnOk result (R.failed input.new ≡ R.failed input.old) }
     ensures device { result ≡ Err Device → R.failed input.new ≡ R.failed input.old + 1 }
@@ -56,7 +57,8 @@ pub(crate) fn read_all<R: Source>(alloc: Global, input: &mut R) -> Result<Vec<u8
     unreachable!()
 }
 
-/// Reads a piece behind the first `filled` bytes, with room made where there is none, and answers its length.
+/// Reads a piece behind the first `filled` bytes, with room made where there is none, and answers its
+/// length.
 fn read_piece<R: Source>(
     input: &mut R,
     bytes: &mut Vec<u8>,
@@ -66,7 +68,8 @@ fn read_piece<R: Source>(
     requires within { filled ≤ vec_len bytes.old }
     ensures kept { take filled bytes.new.items ≡ take filled bytes.old.items }
     ensures within { IfOk result (λ n. filled + n ≤ vec_len bytes.new) }
-    ensures piece { IfOk result (λ n. Gives (R.left input.old) (R.left input.new) (take n (drop filled bytes.new.items))) }
+    ensures piece { IfOk result (λ n.
+        Consumes (R.left input.old) (R.left input.new) (take n (drop filled bytes.new.items))) }
     ensures end { IfOk result (λ n. n ≡ 0 → IsAtEnd (R.left input.new)) }
     ensures count { OnOk result (R.failed input.new ≡ R.failed input.old) }
     ensures device { result ≡ Err Device → R.failed input.new ≡ R.failed input.old + 1 }
@@ -92,13 +95,13 @@ fn make_room(bytes: &mut Vec<u8>) -> Result<(), AllocError>
 }
 
 /// Writes all of `text`.
-#[tactic(auto, using(crate::proofs::Moves::gets_rest, crate::proofs::Moves::begun))]
 pub(crate) fn write_all<W: Sink>(output: &mut W, text: &[u8]) -> Result<(), DeviceFault>
     requires { W.failed output.old + 1 < 2 ^ 64 }
     ensures count { OnOk result (W.failed output.new ≡ W.failed output.old) }
-    ensures bytes { OnOk result (Gets (W.got output.old) (W.got output.new) text.now) }
+    ensures bytes { OnOk result (Appends (W.got output.old) (W.got output.new) text.now) }
     ensures fault { OnErr result (W.failed output.new ≡ W.failed output.old + 1) }
-    ensures beginning { OnErr result ((front : List ℕ) × (rest : List ℕ) × (text.now ≡ front ++ rest) × (rest ≢ []) × Gets (W.got output.old) (W.got output.new) front) }
+    ensures beginning { OnErr result
+        (WritesBeginning (W.got output.old) (W.got output.new) text.now) }
 {
     let mut at = 0;
     while at < text.len() {

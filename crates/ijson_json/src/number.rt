@@ -3,8 +3,8 @@
 ghost use Rattle.std.specs.Prelude.{◌≡◌, ◌++◌, ◌↔◌, IsTrue, MatchResult};
 ghost use Rattle.std.specs.List.{AllByRecursion};
 ghost use Rattle.ijson_number.specs.NumberBytes.{is_number_byte};
-ghost use Rattle.ijson_json.specs.Explains.{NumberFault};
-ghost use Rattle.ijson_json.specs.Reading.{IsPastLimit, NumberRead, Stops};
+ghost use Rattle.ijson_json.specs.private.Explains.{NumberFault};
+ghost use Rattle.ijson_json.specs.private.Reading.{IsPastLimit, NumberRead, Stops};
 
 use crate::fault::Fault;
 use crate::front::split_ascii;
@@ -52,7 +52,9 @@ fn is_past_limit(alloc: Global, text: &str) -> bool
 
 /// The number at the front. One past the limit is told at its first byte, whatever follows it.
 pub(crate) fn read_number(alloc: Global, text: &str) -> Result<(INumber, &str), Fault>
-    ensures { MatchResult result (λ x. NumberRead text.now x.0.decimal x.1.now) (λ fault. NumberFault text.now fault) }
+    ensures { MatchResult result
+        (λ x. NumberRead text.now x.0.decimal x.1.now)
+        (λ fault. NumberFault text.now fault) }
 {
     let (run, rest) = split_number(text);
     match INumber::from_str(alloc, run) {

@@ -23,7 +23,8 @@ fn hex_letter(digit: u8) -> char
 /// Appends the escape of a control character that has no letter.
 fn push_unicode(out: &mut String, control: u8) -> Result<(), AllocError>
     requires { control < 32 }
-    ensures { OnOk result (string_bytes out.new ≡ string_bytes out.old ++ 92 ∷ 117 ∷ 48 ∷ 48 ∷ hex_text (control / 16) ∷ hex_text (control % 16) ∷ []) }
+    ensures { OnOk result (string_bytes out.new ≡ string_bytes out.old
+        ++ 92 ∷ 117 ∷ 48 ∷ 48 ∷ hex_text (control / 16) ∷ hex_text (control % 16) ∷ []) }
 {
     out.push_str("\\u00")?;
     out.push(hex_letter(control / 16))?;

@@ -4,10 +4,12 @@ ghost use Rattle.std.specs.Prelude.{◌≡◌, ◌∷◌, ◌<◌, ◌≤◌, le
 ghost use Rattle.ijson_value.specs.Tree.{Tree, array, object, depth};
 ghost use Rattle.ijson_value.specs.Proper.{IsProper, item_trees, pair_trees};
 ghost use Rattle.ijson_json.specs.Grammar.{Accepted};
+ghost use Rattle.ijson_json.specs.Limits.{max_depth};
 ghost use Rattle.ijson_json.specs.Print.{print};
-ghost use Rattle.ijson_json.specs.Reading.{ReadAs, MemberAs};
-ghost use Rattle.ijson_json.specs.Caching.{Gathers, IsShared, AreShared, ItemsAreShared, MembersAreShared};
-ghost use Rattle.ijson_json.specs.Explains.{Explains, ExplainsMember, Answers, error_of};
+ghost use Rattle.ijson_json.specs.private.Reading.{ReadAs, MemberAs};
+ghost use Rattle.ijson_json.specs.AddsOnlyRead.{AddsOnlyRead};
+ghost use Rattle.ijson_json.specs.AreShared.{IsShared, AreShared, ItemsAreShared, MembersAreShared};
+ghost use Rattle.ijson_json.specs.private.Explains.{Explains, ExplainsMember, Answers, error_of};
 ghost use Rattle.ijson_json.specs.Refuses.{Refuses};
 ghost use Rattle.ijson_json.specs.declared.fault.JsonError;
 ghost use Rattle.ijson_json.specs.declared.fault.Fault.TheVariants.{TooDeep};
@@ -22,14 +24,16 @@ use std::alloc::Global;
 use std::hash::BuildHasher;
 
 /// The most containers that may be open at once.
-const DEEPEST: usize = 127;
+const MAX_DEPTH: usize = 127;
 
 /// Refuses a container at the front of the text inside as many as may be open.
 fn check_depth(text: &str, opened: usize) -> Result<(), Fault>
-    requires { opened ≤ 127 }
-    ensures { MatchResult result (λ _. opened < 127) (λ fault. (opened ≡ 127) × (fault ≡ TooDeep (length text.now))) }
+    requires { opened ≤ max_depth }
+    ensures { MatchResult result
+        (λ _. opened < max_depth)
+        (λ fault. (opened ≡ max_depth) × (fault ≡ TooDeep (length text.now))) }
 {
-    if opened == DEEPEST {
+    if opened == MAX_DEPTH {
         return Err(Fault::TooDeep { left: text.len() });
     }
     Ok(())
@@ -43,9 +47,11 @@ fn read_value<'a, S: BuildHasher>(
     text: &'a str,
     opened: usize,
 ) -> Result<(IValue, &'a str), Fault>
-    requires { opened ≤ 127 }
-    ensures read { MatchResult result (λ x. ReadAs opened text.now x.0.tree x.1.now) (λ fault. Explains opened text.now fault) }
-    ensures cache { Gathers text.now cache.old cache.new }
+    requires { opened ≤ max_depth }
+    ensures read { MatchResult result
+        (λ x. ReadAs opened text.now x.0.tree x.1.now)
+        (λ fault. Explains opened text.now fault) }
+    ensures cache { AddsOnlyRead text.now cache.old cache.new }
     ensures shared { IfOk result (λ x. AreShared cache.new x.0.tree) }
 {
     let Some((first, inside)) = split_ascii(text) else {
@@ -93,9 +99,11 @@ fn read_array<'a, S: BuildHasher>(
     inside: &'a str,
     opened: usize,
 ) -> Result<(IArray, &'a str), Fault>
-    requires { opened < 127 }
-    ensures read { MatchResult result (λ x. ReadAs opened (91 ∷ inside.now) (array (item_trees x.0.items)) x.1.now) (λ fault. Explains opened (91 ∷ inside.now) fault) }
-    ensures cache { Gathers (91 ∷ inside.now) cache.old cache.new }
+    requires { opened < max_depth }
+    ensures read { MatchResult result
+        (λ x. ReadAs opened (91 ∷ inside.now) (array (item_trees x.0.items)) x.1.now)
+        (λ fault. Explains opened (91 ∷ inside.now) fault) }
+    ensures cache { AddsOnlyRead (91 ∷ inside.now) cache.old cache.new }
     ensures shared { IfOk result (λ x. ItemsAreShared cache.new (item_trees x.0.items)) }
 {
     let mut items = IArray::new(alloc);
@@ -117,7 +125,8 @@ fn read_array<'a, S: BuildHasher>(
     }
 }
 
-/// The members of an object, behind its opening bracket. A key that comes again replaces the value in place.
+/// The members of an object, behind its opening bracket. A key that comes again replaces the value in
+/// place.
 #[cycle(read)]
 fn read_object<'a, S: BuildHasher>(
     alloc: Global,
@@ -125,9 +134,11 @@ fn read_object<'a, S: BuildHasher>(
     inside: &'a str,
     opened: usize,
 ) -> Result<(IObject, &'a str), Fault>
-    requires { opened < 127 }
-    ensures read { MatchResult result (λ x. ReadAs opened (123 ∷ inside.now) (object (pair_trees x.0.pairs)) x.1.now) (λ fault. Explains opened (123 ∷ inside.now) fault) }
-    ensures cache { Gathers (123 ∷ inside.now) cache.old cache.new }
+    requires { opened < max_depth }
+    ensures read { MatchResult result
+        (λ x. ReadAs opened (123 ∷ inside.now) (object (pair_trees x.0.pairs)) x.1.now)
+        (λ fault. Explains opened (123 ∷ inside.now) fault) }
+    ensures cache { AddsOnlyRead (123 ∷ inside.now) cache.old cache.new }
     ensures shared { IfOk result (λ x. MembersAreShared cache.new (pair_trees x.0.pairs)) }
 {
     let mut members = IObject::new(alloc);
@@ -157,9 +168,11 @@ fn read_member<'a, S: BuildHasher>(
     text: &'a str,
     opened: usize,
 ) -> Result<(IString, IValue, &'a str), Fault>
-    requires { opened ≤ 127 }
-    ensures read { MatchResult result (λ x. MemberAs opened text.now x.0 x.1.tree x.2.now) (λ fault. ExplainsMember opened text.now fault) }
-    ensures cache { Gathers text.now cache.old cache.new }
+    requires { opened ≤ max_depth }
+    ensures read { MatchResult result
+        (λ x. MemberAs opened text.now x.0 x.1.tree x.2.now)
+        (λ fault. ExplainsMember opened text.now fault) }
+    ensures cache { AddsOnlyRead text.now cache.old cache.new }
     ensures shared { IfOk result (λ x. IsShared cache.new x.0 × AreShared cache.new x.1.tree) }
 {
     let (key, after) = read_string(alloc, cache, text)?;
@@ -197,7 +210,7 @@ fn read_text<S: BuildHasher>(
     text: &str,
 ) -> Result<IValue, JsonError>
     ensures read { Answers text.now result }
-    ensures cache { Gathers text.now cache.old cache.new }
+    ensures cache { AddsOnlyRead text.now cache.old cache.new }
     ensures shared { IfOk result (λ value. AreShared cache.new value.tree) }
 {
     let start = skip_space(text);
@@ -216,11 +229,13 @@ fn read_text<S: BuildHasher>(
     }
 }
 
-/// The value that a whole JSON text spells (RFC 8259), white space round it allowed. Keys and strings are interned in the cache. A
-/// key that comes again replaces the value and keeps the place of the first.
+/// The value that a whole JSON text spells (RFC 8259), white space round it allowed. Keys and strings
+/// are interned in the cache. A key that comes again replaces the value and keeps the place of the
+/// first.
 ///
-/// The text is refused where it is not JSON, where more than 127 containers are open at once, where a number's stripped
-/// exponent is past 2^30 either way, and where memory is refused; of several faults the first from the left is told.
+/// The text is refused where it is not JSON, where more than 127 containers are open at once, where a
+/// number's stripped exponent is past 2^30 either way, and where memory is refused; of several faults
+/// the first from the left is told.
 pub fn from_json<S: BuildHasher>(
     alloc: Global,
     cache: &mut StringCache<S>,
@@ -228,14 +243,18 @@ pub fn from_json<S: BuildHasher>(
 ) -> Result<IValue, JsonError>
     // What is read is what the text spells, within the limits.
     ensures accepted { IfOk result (λ value. Accepted text.now value.tree) }
+    // No more containers are open in it at once than may be.
+    ensures nesting { IfOk result (λ value. depth value.tree ≤ max_depth) }
     // Why a text is refused.
     ensures refused { IfErr result (λ error. Refuses text.now error) }
     // A text that is accepted is read, unless memory runs out.
-    ensures read { (t : Tree) → Accepted text.now t → MatchResult result (λ value. value.tree ≡ t) (λ error. error ≡ JsonError.Memory) }
+    ensures read { (t : Tree) → Accepted text.now t
+        → MatchResult result (λ value. value.tree ≡ t) (λ error. error ≡ JsonError.Memory) }
     // What was printed is read again, unless memory runs out.
-    ensures printed { (t : Tree) → IsProper t → depth t ≤ 127 → text.now ≡ print t → MatchResult result (λ value. value.tree ≡ t) (λ error. error ≡ JsonError.Memory) }
+    ensures printed { (t : Tree) → IsProper t → depth t ≤ max_depth → text.now ≡ print t
+        → MatchResult result (λ value. value.tree ≡ t) (λ error. error ≡ JsonError.Memory) }
     // The cache holds what it held, and beyond that only long texts that a slice of the text spells.
-    ensures cache { Gathers text.now cache.old cache.new }
+    ensures cache { AddsOnlyRead text.now cache.old cache.new }
     // It holds each long text and key of the value.
     ensures shared { IfOk result (λ value. AreShared cache.new value.tree) }
 {

@@ -7,15 +7,14 @@ use crate::device::Sink;
 use crate::fault::JsonError;
 use crate::moving::write_all;
 use arrayvec::ArrayString;
-use std::fmt;
 use std::fmt::Write;
 
 /// The bytes of the longest line, with room to spare.
 const LINE: usize = 64;
 
-/// Writes the line for a refusal to `errors`, and nothing where there is none, and answers the status that the program ends
-/// with: 0 done, 1 not a JSON text within the limits, 2 a failed read or write, 3 want of memory. It takes no memory itself. A
-/// failed write ends the line, and leaves the status.
+/// Writes the line for a refusal to `errors`, and nothing where there is none, and answers the status
+/// that the program ends with: 0 done, 1 not a JSON text within the limits, 2 a failed read or write,
+/// 3 want of memory. It takes no memory itself. A failed write ends the line, and leaves the status.
 pub fn report<W: Sink>(answer: &Result<(), CompactError>, errors: &mut W) -> u8
     requires { W.failed errors.old + 1 < 2 ^ 64 }
     ensures status { result ≡ status_of answer.now }
@@ -25,7 +24,7 @@ pub fn report<W: Sink>(answer: &Result<(), CompactError>, errors: &mut W) -> u8
         return 0;
     };
     let mut line = ArrayString::<LINE>::new();
-    if write_line(&mut line, *error).is_ok() {
+    if writeln!(line, "ijson: {error}").is_ok() {
         let _ = write_all(errors, line.as_bytes());
     }
     status(*error)
@@ -39,25 +38,5 @@ fn status(error: CompactError) -> u8
         CompactError::Json(JsonError::Memory) | CompactError::Memory => 3,
         CompactError::Json(_) => 1,
         CompactError::Read | CompactError::Write => 2,
-    }
-}
-
-fn write_line(line: &mut ArrayString<LINE>, error: CompactError) -> fmt::Result {
-    match error {
-        CompactError::Json(JsonError::Syntax { at }) => {
-            writeln!(line, "ijson: syntax at byte {at}")
-        }
-        CompactError::Json(JsonError::TooDeep { at }) => {
-            writeln!(line, "ijson: nesting too deep at byte {at}")
-        }
-        CompactError::Json(JsonError::NumberRange { at }) => {
-            writeln!(line, "ijson: number out of range at byte {at}")
-        }
-        CompactError::NotUtf8 => writeln!(line, "ijson: input is not UTF-8"),
-        CompactError::Read => writeln!(line, "ijson: read failed"),
-        CompactError::Write => writeln!(line, "ijson: write failed"),
-        CompactError::Json(JsonError::Memory) | CompactError::Memory => {
-            writeln!(line, "ijson: out of memory")
-        }
     }
 }

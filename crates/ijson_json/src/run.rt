@@ -3,7 +3,7 @@
 ghost use Rattle.std.specs.Prelude.{◌≡◌, ◌++◌, IsTrue, not};
 ghost use Rattle.std.specs.List.{AllByRecursion, position, prefix_len};
 ghost use Rattle.ijson_json.specs.Strings.{is_unescaped};
-ghost use Rattle.ijson_json.specs.Reading.{Past};
+ghost use Rattle.ijson_json.specs.private.Reading.{Past};
 
 /// Where the first byte is that must stand in an escape, or ends the string.
 fn first_special(bytes: &[u8]) -> Option<usize>

@@ -1,5 +1,5 @@
-//! A sink over a writer of the standard library. It tells no bytes.
-ghost use Rattle.std.specs.Prelude.{◌≡◌, None};
+//! A sink over a writer of the standard library. It tells the bytes that the writer tells.
+ghost use Rattle.std.specs.Prelude.{◌≡◌};
 
 use crate::device::{DeviceFault, Sink};
 use std::io::Write;
@@ -13,11 +13,12 @@ pub struct StreamSink<W> {
 }
 
 impl<W> Model for StreamSink<W> {
-    ghost use Rattle.ijson_json.specs.Streaming.{Streaming, streaming_code};
+    ghost use Rattle.ijson_json.specs.StreamState.{StreamState};
+    ghost use Rattle.ijson_json.specs.laws.StreamStateCode.{stream_state_code};
 
-    ghost Value = { Streaming W };
+    ghost Value = { StreamState W };
 
-    ghost coded = { streaming_code W.code };
+    ghost coded = { stream_state_code W.code };
 
     ghost view = { λ s. record { inner = s.inner; failed = s.failures } };
 }
@@ -41,7 +42,7 @@ impl<W: Write> StreamSink<W> {
 impl<W: Write> Sink for StreamSink<W> {
     ghost failed = { λ s. s.failed };
 
-    ghost got = { λ _. None };
+    ghost got = { λ s. W.contents s.inner };
 
     fn failures(&self) -> u64 {
         self.failures

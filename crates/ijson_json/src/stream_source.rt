@@ -1,5 +1,5 @@
-//! A source over a reader of the standard library. It tells no bytes.
-ghost use Rattle.std.specs.Prelude.{◌≡◌, None};
+//! A source over a reader of the standard library. It tells the bytes that the reader tells.
+ghost use Rattle.std.specs.Prelude.{◌≡◌};
 
 use crate::device::{DeviceFault, Source};
 use std::io::Read;
@@ -13,11 +13,12 @@ pub struct StreamSource<R> {
 }
 
 impl<R> Model for StreamSource<R> {
-    ghost use Rattle.ijson_json.specs.Streaming.{Streaming, streaming_code};
+    ghost use Rattle.ijson_json.specs.StreamState.{StreamState};
+    ghost use Rattle.ijson_json.specs.laws.StreamStateCode.{stream_state_code};
 
-    ghost Value = { Streaming R };
+    ghost Value = { StreamState R };
 
-    ghost coded = { streaming_code R.code };
+    ghost coded = { stream_state_code R.code };
 
     ghost view = { λ s. record { inner = s.inner; failed = s.failures } };
 }
@@ -41,7 +42,7 @@ impl<R: Read> StreamSource<R> {
 impl<R: Read> Source for StreamSource<R> {
     ghost failed = { λ s. s.failed };
 
-    ghost left = { λ _. None };
+    ghost left = { λ s. R.remaining s.inner };
 
     fn failures(&self) -> u64 {
         self.failures

@@ -4,9 +4,9 @@ ghost use Rattle.std.specs.Prelude.{◌≡◌, ◌++◌, List, ℕ, IfOk, IfErr,
 ghost use Rattle.std.specs.String.{string_bytes};
 ghost use Rattle.ijson_string.specs.Cache.{interned};
 ghost use Rattle.ijson_json.specs.Grammar.{IsString};
-ghost use Rattle.ijson_json.specs.Reading.{Front};
-ghost use Rattle.ijson_json.specs.Explains.{StringFault};
-ghost use Rattle.ijson_json.specs.StringReading.{ContentAt, ContentFault};
+ghost use Rattle.ijson_json.specs.private.Reading.{Front};
+ghost use Rattle.ijson_json.specs.private.Explains.{StringFault};
+ghost use Rattle.ijson_json.specs.private.StringReading.{ContentAt, ContentFault};
 
 use crate::escape::take_escape;
 use crate::fault::Fault;
@@ -17,7 +17,8 @@ use std::hash::BuildHasher;
 
 /// Appends what is left of a string's content, and gives the text behind its closing quote.
 fn push_content<'a>(content: &mut String, text: &'a str) -> Result<&'a str, Fault>
-    ensures read { IfOk result (λ rest. (s : List ℕ) × ContentAt text.now s rest.now × (string_bytes content.new ≡ string_bytes content.old ++ s)) }
+    ensures read { IfOk result (λ rest. (s : List ℕ) × ContentAt text.now s rest.now
+        × (string_bytes content.new ≡ string_bytes content.old ++ s)) }
     ensures fault { IfErr result (λ fault. ContentFault text.now fault) }
 {
     let mut left = text;
@@ -35,13 +36,16 @@ fn push_content<'a>(content: &mut String, text: &'a str) -> Result<&'a str, Faul
     }
 }
 
-/// The string at the front, interned in `cache`, and the text behind it. One without an escape needs no buffer.
+/// The string at the front, interned in `cache`, and the text behind it. One without an escape needs
+/// no buffer.
 pub(crate) fn read_string<'a, S: BuildHasher>(
     alloc: Global,
     cache: &mut StringCache<S>,
     text: &'a str,
 ) -> Result<(IString, &'a str), Fault>
-    ensures read { MatchResult result (λ x. Front (λ front. IsString x.0 front) text.now x.1.now) (λ fault. StringFault text.now fault) }
+    ensures read { MatchResult result
+        (λ x. Front (λ front. IsString x.0 front) text.now x.1.now)
+        (λ fault. StringFault text.now fault) }
     ensures cache { IfOk result (λ x. cache.new ≡ interned x.0 cache.old) }
     ensures refused { OnErr result (cache.new ≡ cache.old) }
 {

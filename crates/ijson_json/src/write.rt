@@ -3,14 +3,15 @@ ghost use Rattle.std.specs.Prelude.{◌≡◌, ◌++◌, IfOk, OnOk};
 ghost use Rattle.std.specs.String.{string_bytes};
 ghost use Rattle.ijson_value.specs.Proper.{item_trees, pair_trees};
 ghost use Rattle.ijson_json.specs.Print.{print, print_items, print_members};
-ghost use Rattle.ijson_json.specs.Separator.{separator};
+ghost use Rattle.ijson_json.specs.private.Separator.{separator};
 
 use crate::quote::push_quoted;
 use ijson_value::{DestructuredRef, IObject, IValue};
 use std::alloc::{AllocError, Global};
 use std::fmt::Write;
 
-/// The JSON text of `value`, without white space. The error comes where there was not enough memory for it.
+/// The JSON text of `value`, without white space. The error comes where there was not enough memory for
+/// it.
 pub fn to_json(alloc: Global, value: &IValue) -> Result<String, AllocError>
     ensures { IfOk result (λ text. string_bytes text ≡ print value.now.tree) }
 {
@@ -45,7 +46,8 @@ fn push_value(out: &mut String, value: &IValue) -> Result<(), AllocError>
 /// The items of an array, with commas between them.
 #[cycle(push)]
 fn push_items(out: &mut String, items: &[IValue]) -> Result<(), AllocError>
-    ensures { OnOk result (string_bytes out.new ≡ string_bytes out.old ++ print_items (item_trees items.now)) }
+    ensures { OnOk result (string_bytes out.new
+        ≡ string_bytes out.old ++ print_items (item_trees items.now)) }
 {
     let mut is_first = true;
     for item in items {
@@ -59,7 +61,8 @@ fn push_items(out: &mut String, items: &[IValue]) -> Result<(), AllocError>
 /// The members of an object, with commas between them.
 #[cycle(push)]
 fn push_members(out: &mut String, object: &IObject) -> Result<(), AllocError>
-    ensures { OnOk result (string_bytes out.new ≡ string_bytes out.old ++ print_members (pair_trees object.now.pairs)) }
+    ensures { OnOk result (string_bytes out.new
+        ≡ string_bytes out.old ++ print_members (pair_trees object.now.pairs)) }
 {
     let mut is_first = true;
     for (key, value) in object.iter() {

@@ -9,6 +9,9 @@ use std::io;
 use std::io::{ErrorKind, Read, Write};
 use std::test::Fail;
 
+/// The most bytes that a `Slow` moves in one call.
+const SLOW: usize = 3;
+
 const TEXT: &[u8] = b"[1.50,true]";
 
 const LINE: &[u8] = b"[1.5,true]\n";
@@ -164,5 +167,63 @@ fn streams_that_fail_are_faults(rt: HostRuntime) -> Result<(), Fail> {
         &mut empty_cache(rt.alloc()),
     );
     assert_eq!(rt; answer, Err(CompactError::Read));
+    Ok(())
+}
+
+/// A reader of its bytes, and a writer behind them, that move three bytes a call.
+#[derive(Drop)]
+struct Slow {
+    bytes: Vec<u8>,
+    given: usize,
+}
+
+impl Read for Slow {
+    fn read(&mut self, buf: &mut [u8]) -> io::Result<usize> {
+        let left = &self.bytes[self.given.min(self.bytes.len())..];
+        let count = SLOW.min(left.len().min(buf.len()));
+        buf[..count].copy_from_slice(&left[..count]);
+        self.given += count;
+        Ok(count)
+    }
+}
+
+impl Write for Slow {
+    fn write(&mut self, buf: &[u8]) -> io::Result<usize> {
+        let count = SLOW.min(buf.len());
+        self.bytes.extend_from_slice(&buf[..count])?;
+        Ok(count)
+    }
+
+    fn flush(&mut self) -> io::Result<()> {
+        Ok(())
+    }
+}
+
+/// A text longer than the room that is made at a time goes through streams that move few bytes a call.
+#[test]
+fn slow_streams(rt: HostRuntime) -> Result<(), Fail> {
+    let alloc = rt.alloc();
+    let mut text = Vec::new(alloc);
+    let mut line = Vec::new(alloc);
+    text.extend_from_slice(b"[1.50")?;
+    line.extend_from_slice(b"[1.5")?;
+    for _ in 0..10_000u32 {
+        text.extend_from_slice(b", true ")?;
+        line.extend_from_slice(b",true")?;
+    }
+    text.extend_from_slice(b"]")?;
+    line.extend_from_slice(b"]\n")?;
+    let mut input = StreamSource::new(Slow {
+        bytes: text,
+        given: 0,
+    });
+    let mut output = StreamSink::new(Slow {
+        bytes: Vec::new(alloc),
+        given: 0,
+    });
+    let answer = compact(alloc, &mut input, &mut output, &mut empty_cache(alloc));
+    assert_eq!(rt; answer, Ok(()));
+    assert_eq!(rt; (input.failures(), output.failures()), (0, 0));
+    assert!(rt; output.into_inner().bytes == line);
     Ok(())
 }

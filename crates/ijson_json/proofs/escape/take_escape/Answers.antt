@@ -1,6 +1,6 @@
 use Rattle.std.proofs.Common.{◌≡◌, List, ℕ, ◌∷◌, ◌++◌, sym, ap, ◌∙◌, arith}
 use Rattle.std.specs.Char.{encode_utf8}
-use Rattle.ijson_json.specs.StringReading.{CharacterAt, NoCharacter, NoEscape}
+use Rattle.ijson_json.specs.private.StringReading.{CharacterAt, NoCharacter, NoEscape}
 use Rattle.ijson_json.proofs.Escapes.{strips_char, no_char, escape_found, escape_none, escape_unicode, same_text, same_none}
 use Rattle.ijson_json.proofs.Options.{weaken}
 use Rattle.ijson_json.proofs.escape.take_escape.Goals as goal

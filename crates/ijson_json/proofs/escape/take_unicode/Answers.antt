@@ -1,6 +1,6 @@
 use Rattle.std.proofs.Common.{ℕ, ◌∷◌, sym, subst}
 use Rattle.std.specs.Char.{encode_utf8}
-use Rattle.ijson_json.specs.StringReading.{CharacterAt, NoCharacter, NoLow, LowAt}
+use Rattle.ijson_json.specs.private.StringReading.{CharacterAt, NoCharacter, NoLow, LowAt}
 use Rattle.ijson_json.proofs.Escapes.{no_unicode, no_low, no_alone, found_alone, found_both, scalar_not_low, not_scalar_low}
 use Rattle.ijson_json.proofs.Options.{weaken}
 use Rattle.ijson_json.proofs.escape.take_unicode.Goals as goal

@@ -1,5 +1,5 @@
 use Rattle.std.proofs.Common.{true, refl, arith, subst, ◌∙◌}
-use Rattle.ijson_json.specs.Reading.{IsPastLimit}
+use Rattle.ijson_json.specs.private.Reading.{IsPastLimit}
 use Rattle.ijson_json.proofs.Bytes.{not_both}
 use Rattle.ijson_json.proofs.Numbers.{no_number, run_past_limit, front_past_limit, front_range}
 use Rattle.ijson_json.proofs.number.read_number.Goals as goal

@@ -1,6 +1,6 @@
 use Rattle.std.proofs.Common.{◌++◌, ◌∙◌, sym, subst, ap₂, List, ℕ}
 use Rattle.ijson_number.specs.NumberBytes.{is_number_byte}
-use Rattle.ijson_json.specs.Reading.{Past, Stops}
+use Rattle.ijson_json.specs.private.Reading.{Past, Stops}
 use Rattle.ijson_json.proofs.Bytes.{Run, run_more}
 use Rattle.ijson_json.proofs.Cuts.{text_behind}
 use Rattle.ijson_json.proofs.Numbers.{other_Stops, front_take, front_drop, front_boundary}

@@ -5,8 +5,8 @@ use Rattle.ijson_value.specs.Proper.{Proper, item_trees, pair_trees}
 use Rattle.ijson_json.proofs.Unique.{items_shape, members_shape}
 use Rattle.ijson_json.proofs.Listing.{reached_start, reached_more, reached_end, reached_stuck, reached_shorter, empty_read}
 use Rattle.ijson_json.proofs.Containers.{arrays, objects, array_fault, object_fault}
-use Rattle.ijson_json.specs.Caching.{AreShared, ItemsAreShared, MembersAreShared}
-use Rattle.ijson_json.proofs.Caches.{gathers_none, gathers_more, string_gathers, string_shared, shared_more, item_shared, member_shared}
+use Rattle.ijson_json.specs.AreShared.{AreShared, ItemsAreShared, MembersAreShared}
+use Rattle.ijson_json.proofs.Caches.{adds_none, adds_more, string_adds, string_shared, shared_more, item_shared, member_shared}
 use Rattle.ijson_json.proofs.Members.{key_head, key_behind, key_read, member_read, member_fault, no_colon}
 use Rattle.ijson_json.proofs.Values.{read_null, read_boolean, array_too_deep, object_too_deep, begins, other_fault, string_fault, key_fault, front_shorter, skips_shorter, no_character, null_fault, true_fault, false_fault}
 use Rattle.ijson_json.proofs.Trees.{item_pushed, member_put, pair_list}
@@ -81,7 +81,7 @@ read_array-loop-items-init g t c =
         reached_start Tree items_shape arrays c.args.opened c.args.inside.now s.space c.skip_space-rest.result.now (omega arith) s.is s.passed s.past c.in_default.ensures,
         ap item_trees c.new-items.ensures.items,
       ),
-      (gathers_none _ _, subst (λ (l : List Proper). ItemsAreShared c.args.cache.now (item_trees l)) (sym c.new-items.ensures.items) tt),
+      (adds_none _ _, subst (λ (l : List Proper). ItemsAreShared c.args.cache.now (item_trees l)) (sym c.new-items.ensures.items) tt),
       c.skip_space-rest.utf8,
     )
 
@@ -123,7 +123,7 @@ read_array-loop-items-preserved g t c =
         item_pushed c.loop-items.items.items c.push.new.self.items c.in_ok-item.item i.0 r.0 c.in_ok-push.ensures.ok r.2 i.2,
       ),
       (
-        gathers_more (91 ∷ c.args.inside.now) c.loop-items.invariant.0.1.head c.loop-items.rest.now c.args.cache.now c.loop-items.cache c.read_value.new.cache c.loop-items.invariant.0.1.is c.loop-items.invariant.1.0 c.read_value.ensures.cache,
+        adds_more (91 ∷ c.args.inside.now) c.loop-items.invariant.0.1.head c.loop-items.rest.now c.args.cache.now c.loop-items.cache c.read_value.new.cache c.loop-items.invariant.0.1.is c.loop-items.invariant.1.0 c.read_value.ensures.cache,
         item_shared c.loop-items.rest.now c.loop-items.cache c.read_value.new.cache c.loop-items.items.items c.push.new.self.items c.in_ok-item.item c.in_ok-push.ensures.ok c.read_value.ensures.cache c.loop-items.invariant.1.1 c.in_ok-item.ensures.shared,
       ),
       c.skip_space-rest-in-loop-items.utf8,
@@ -147,7 +147,7 @@ read_object-loop-members-init g t c =
         reached_start (List ℕ × Tree) members_shape objects c.args.opened c.args.inside.now s.space c.skip_space-rest.result.now (omega arith) s.is s.passed s.past c.in_default.ensures,
         ap pair_list c.new-members.ensures.pairs,
       ),
-      (gathers_none _ _, subst (λ (l : List (List ℕ × Proper)). MembersAreShared c.args.cache.now (pair_trees l)) (sym c.new-members.ensures.pairs) tt),
+      (adds_none _ _, subst (λ (l : List (List ℕ × Proper)). MembersAreShared c.args.cache.now (pair_trees l)) (sym c.new-members.ensures.pairs) tt),
       c.skip_space-rest.utf8,
     )
 
@@ -191,7 +191,7 @@ read_object-loop-members-preserved g t c =
         member_put c.loop-members.members.pairs c.insert.new.self.pairs k c.in_ok-key.value i.0 r.0 c.in_ok-insert.ensures.pairs r.2 i.2,
       ),
       (
-        gathers_more (123 ∷ c.args.inside.now) c.loop-members.invariant.0.1.head c.loop-members.rest.now c.args.cache.now c.loop-members.cache c.read_member.new.cache c.loop-members.invariant.0.1.is c.loop-members.invariant.1.0 c.read_member.ensures.cache,
+        adds_more (123 ∷ c.args.inside.now) c.loop-members.invariant.0.1.head c.loop-members.rest.now c.args.cache.now c.loop-members.cache c.read_member.new.cache c.loop-members.invariant.0.1.is c.loop-members.invariant.1.0 c.read_member.ensures.cache,
         member_shared c.loop-members.rest.now c.loop-members.cache c.read_member.new.cache c.loop-members.members.pairs c.insert.new.self.pairs c.in_ok-key.key c.in_ok-key.value c.in_ok-insert.ensures.pairs c.read_member.ensures.cache c.loop-members.invariant.1.1 c.in_ok-key.ensures.shared.0 c.in_ok-key.ensures.shared.1,
       ),
       c.skip_space-rest-in-loop-members.utf8,
@@ -225,7 +225,7 @@ read_member-returns-clause-read g t c =
 
 pub read_value-returns-in_ok-string-in-34-clause-cache : goal.read_value-returns-in_ok-string-in-34-clause-cache
 read_value-returns-in_ok-string-in-34-clause-cache g t c =
-    string_gathers c.args.text.now c.in_ok-string-in-34.rest.now c.in_ok-string-in-34.string c.args.cache.now c.read_string.new.cache c.in_ok-string-in-34.ensures.read c.in_ok-string-in-34.ensures.cache
+    string_adds c.args.text.now c.in_ok-string-in-34.rest.now c.in_ok-string-in-34.string c.args.cache.now c.read_string.new.cache c.in_ok-string-in-34.ensures.read c.in_ok-string-in-34.ensures.cache
 
 pub read_value-returns-in_ok-string-in-34-clause-shared : goal.read_value-returns-in_ok-string-in-34-clause-shared
 read_value-returns-in_ok-string-in-34-clause-shared g t c =
@@ -234,22 +234,22 @@ read_value-returns-in_ok-string-in-34-clause-shared g t c =
 pub read_array-returns-in_err-item-clause-cache : goal.read_array-returns-in_err-item-clause-cache
 read_array-returns-in_err-item-clause-cache g t c =
     let i = c.loop-items.invariant in
-    gathers_more (91 ∷ c.args.inside.now) i.0.1.head c.loop-items.rest.now c.args.cache.now c.loop-items.cache c.read_value.new.cache i.0.1.is i.1.0 c.read_value.ensures.cache
+    adds_more (91 ∷ c.args.inside.now) i.0.1.head c.loop-items.rest.now c.args.cache.now c.loop-items.cache c.read_value.new.cache i.0.1.is i.1.0 c.read_value.ensures.cache
 
 pub read_array-returns-in_err-push-clause-cache : goal.read_array-returns-in_err-push-clause-cache
 read_array-returns-in_err-push-clause-cache g t c =
     let i = c.loop-items.invariant in
-    gathers_more (91 ∷ c.args.inside.now) i.0.1.head c.loop-items.rest.now c.args.cache.now c.loop-items.cache c.read_value.new.cache i.0.1.is i.1.0 c.read_value.ensures.cache
+    adds_more (91 ∷ c.args.inside.now) i.0.1.head c.loop-items.rest.now c.args.cache.now c.loop-items.cache c.read_value.new.cache i.0.1.is i.1.0 c.read_value.ensures.cache
 
 pub read_array-returns-in-Some-strip_byte-clause-cache : goal.read_array-returns-in-Some-strip_byte-clause-cache
 read_array-returns-in-Some-strip_byte-clause-cache g t c =
     let i = c.loop-items.invariant in
-    gathers_more (91 ∷ c.args.inside.now) i.0.1.head c.loop-items.rest.now c.args.cache.now c.loop-items.cache c.read_value.new.cache i.0.1.is i.1.0 c.read_value.ensures.cache
+    adds_more (91 ∷ c.args.inside.now) i.0.1.head c.loop-items.rest.now c.args.cache.now c.loop-items.cache c.read_value.new.cache i.0.1.is i.1.0 c.read_value.ensures.cache
 
 pub read_array-returns-in_default-strip_byte-2-clause-cache : goal.read_array-returns-in_default-strip_byte-2-clause-cache
 read_array-returns-in_default-strip_byte-2-clause-cache g t c =
     let i = c.loop-items.invariant in
-    gathers_more (91 ∷ c.args.inside.now) i.0.1.head c.loop-items.rest.now c.args.cache.now c.loop-items.cache c.read_value.new.cache i.0.1.is i.1.0 c.read_value.ensures.cache
+    adds_more (91 ∷ c.args.inside.now) i.0.1.head c.loop-items.rest.now c.args.cache.now c.loop-items.cache c.read_value.new.cache i.0.1.is i.1.0 c.read_value.ensures.cache
 
 pub read_array-returns-in-Some-strip_byte-clause-shared : goal.read_array-returns-in-Some-strip_byte-clause-shared
 read_array-returns-in-Some-strip_byte-clause-shared g t c =
@@ -259,22 +259,22 @@ read_array-returns-in-Some-strip_byte-clause-shared g t c =
 pub read_object-returns-in_err-key-clause-cache : goal.read_object-returns-in_err-key-clause-cache
 read_object-returns-in_err-key-clause-cache g t c =
     let i = c.loop-members.invariant in
-    gathers_more (123 ∷ c.args.inside.now) i.0.1.head c.loop-members.rest.now c.args.cache.now c.loop-members.cache c.read_member.new.cache i.0.1.is i.1.0 c.read_member.ensures.cache
+    adds_more (123 ∷ c.args.inside.now) i.0.1.head c.loop-members.rest.now c.args.cache.now c.loop-members.cache c.read_member.new.cache i.0.1.is i.1.0 c.read_member.ensures.cache
 
 pub read_object-returns-in_err-insert-clause-cache : goal.read_object-returns-in_err-insert-clause-cache
 read_object-returns-in_err-insert-clause-cache g t c =
     let i = c.loop-members.invariant in
-    gathers_more (123 ∷ c.args.inside.now) i.0.1.head c.loop-members.rest.now c.args.cache.now c.loop-members.cache c.read_member.new.cache i.0.1.is i.1.0 c.read_member.ensures.cache
+    adds_more (123 ∷ c.args.inside.now) i.0.1.head c.loop-members.rest.now c.args.cache.now c.loop-members.cache c.read_member.new.cache i.0.1.is i.1.0 c.read_member.ensures.cache
 
 pub read_object-returns-in-Some-strip_byte-clause-cache : goal.read_object-returns-in-Some-strip_byte-clause-cache
 read_object-returns-in-Some-strip_byte-clause-cache g t c =
     let i = c.loop-members.invariant in
-    gathers_more (123 ∷ c.args.inside.now) i.0.1.head c.loop-members.rest.now c.args.cache.now c.loop-members.cache c.read_member.new.cache i.0.1.is i.1.0 c.read_member.ensures.cache
+    adds_more (123 ∷ c.args.inside.now) i.0.1.head c.loop-members.rest.now c.args.cache.now c.loop-members.cache c.read_member.new.cache i.0.1.is i.1.0 c.read_member.ensures.cache
 
 pub read_object-returns-in_default-strip_byte-2-clause-cache : goal.read_object-returns-in_default-strip_byte-2-clause-cache
 read_object-returns-in_default-strip_byte-2-clause-cache g t c =
     let i = c.loop-members.invariant in
-    gathers_more (123 ∷ c.args.inside.now) i.0.1.head c.loop-members.rest.now c.args.cache.now c.loop-members.cache c.read_member.new.cache i.0.1.is i.1.0 c.read_member.ensures.cache
+    adds_more (123 ∷ c.args.inside.now) i.0.1.head c.loop-members.rest.now c.args.cache.now c.loop-members.cache c.read_member.new.cache i.0.1.is i.1.0 c.read_member.ensures.cache
 
 pub read_object-returns-in-Some-strip_byte-clause-shared : goal.read_object-returns-in-Some-strip_byte-clause-shared
 read_object-returns-in-Some-strip_byte-clause-shared g t c =
@@ -283,19 +283,19 @@ read_object-returns-in-Some-strip_byte-clause-shared g t c =
 
 pub read_member-returns-in_default-clause-cache : goal.read_member-returns-in_default-clause-cache
 read_member-returns-in_default-clause-cache g t c =
-    string_gathers c.args.text.now c.in_ok-key.after.now c.in_ok-key.key c.args.cache.now c.read_string.new.cache c.in_ok-key.ensures.read c.in_ok-key.ensures.cache
+    string_adds c.args.text.now c.in_ok-key.after.now c.in_ok-key.key c.args.cache.now c.read_string.new.cache c.in_ok-key.ensures.read c.in_ok-key.ensures.cache
 
 pub read_member-returns-in_err-value-clause-cache : goal.read_member-returns-in_err-value-clause-cache
 read_member-returns-in_err-value-clause-cache g t c =
     let k = key_read c.in_ok-key.key c.args.text.now c.in_ok-key.after.now c.skip_space-after.result.now c.in-Some.more.now c.skip_space-start.result.now c.in_ok-key.ensures.read c.skip_space-after.ensures c.in-Some.ensures c.skip_space-start.ensures in
-    gathers_more c.args.text.now (key_head c.in_ok-key.key c.args.text.now c.skip_space-start.result.now k) c.skip_space-start.result.now c.args.cache.now c.read_string.new.cache c.read_value.new.cache (key_behind c.in_ok-key.key c.args.text.now c.skip_space-start.result.now k)
-    (string_gathers c.args.text.now c.in_ok-key.after.now c.in_ok-key.key c.args.cache.now c.read_string.new.cache c.in_ok-key.ensures.read c.in_ok-key.ensures.cache) c.read_value.ensures.cache
+    adds_more c.args.text.now (key_head c.in_ok-key.key c.args.text.now c.skip_space-start.result.now k) c.skip_space-start.result.now c.args.cache.now c.read_string.new.cache c.read_value.new.cache (key_behind c.in_ok-key.key c.args.text.now c.skip_space-start.result.now k)
+    (string_adds c.args.text.now c.in_ok-key.after.now c.in_ok-key.key c.args.cache.now c.read_string.new.cache c.in_ok-key.ensures.read c.in_ok-key.ensures.cache) c.read_value.ensures.cache
 
 pub read_member-returns-clause-cache : goal.read_member-returns-clause-cache
 read_member-returns-clause-cache g t c =
     let k = key_read c.in_ok-key.key c.args.text.now c.in_ok-key.after.now c.skip_space-after.result.now c.in-Some.more.now c.skip_space-start.result.now c.in_ok-key.ensures.read c.skip_space-after.ensures c.in-Some.ensures c.skip_space-start.ensures in
-    gathers_more c.args.text.now (key_head c.in_ok-key.key c.args.text.now c.skip_space-start.result.now k) c.skip_space-start.result.now c.args.cache.now c.read_string.new.cache c.read_value.new.cache (key_behind c.in_ok-key.key c.args.text.now c.skip_space-start.result.now k)
-    (string_gathers c.args.text.now c.in_ok-key.after.now c.in_ok-key.key c.args.cache.now c.read_string.new.cache c.in_ok-key.ensures.read c.in_ok-key.ensures.cache) c.read_value.ensures.cache
+    adds_more c.args.text.now (key_head c.in_ok-key.key c.args.text.now c.skip_space-start.result.now k) c.skip_space-start.result.now c.args.cache.now c.read_string.new.cache c.read_value.new.cache (key_behind c.in_ok-key.key c.args.text.now c.skip_space-start.result.now k)
+    (string_adds c.args.text.now c.in_ok-key.after.now c.in_ok-key.key c.args.cache.now c.read_string.new.cache c.in_ok-key.ensures.read c.in_ok-key.ensures.cache) c.read_value.ensures.cache
 
 pub read_member-returns-clause-shared : goal.read_member-returns-clause-shared
 read_member-returns-clause-shared g t c =

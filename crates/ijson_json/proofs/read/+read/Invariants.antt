@@ -4,30 +4,32 @@ use denote.Text.{Utf8}
 use Rattle.ijson_value.specs.Tree.{Tree, items_of, members_of}
 use Rattle.ijson_value.specs.Proper.{item_trees, pair_trees}
 use Rattle.ijson_json.specs.Settled.{settled_items, settled_pairs, put_all}
-use Rattle.ijson_json.specs.Caching.{Gathers, ItemsAreShared, MembersAreShared}
+use Rattle.ijson_json.specs.AddsOnlyRead.{AddsOnlyRead}
+use Rattle.ijson_json.specs.AreShared.{ItemsAreShared, MembersAreShared}
 use Rattle.ijson_json.proofs.Unique.{items_shape, members_shape}
 use Rattle.ijson_json.proofs.Listing.{Reached}
 use Rattle.ijson_json.proofs.Containers.{arrays, objects}
 use Rattle.ijson_json.proofs.Trees.{pair_list}
 use Rattle.ijson_json.proofs.read.+read.Given as goal
+use Rattle.ijson_json.specs.Limits.{max_depth}
 
 abbrev pub decreases-read_array : goal.decreases-read_array
-decreases-read_array g l = 3 * (127 - l.opened)
+decreases-read_array g l = 3 * (max_depth - l.opened)
 
 abbrev pub decreases-read_object : goal.decreases-read_object
-decreases-read_object g l = 3 * (127 - l.opened)
+decreases-read_object g l = 3 * (max_depth - l.opened)
 
 abbrev pub decreases-read_member : goal.decreases-read_member
-decreases-read_member g l = 3 * (127 - l.opened) + 2
+decreases-read_member g l = 3 * (max_depth - l.opened) + 2
 
 abbrev pub decreases-read_value : goal.decreases-read_value
-decreases-read_value g l = 3 * (127 - l.opened) + 1
+decreases-read_value g l = 3 * (max_depth - l.opened) + 1
 
 -- so many items were read, and another begins at the rest
 abbrev pub invariant-read_array-loop-items : goal.invariant-read_array-loop-items
 invariant-read_array-loop-items g l =
     ((written : List Tree) × Reached Tree items_shape arrays l.opened (91 ∷ l.inside) written l.rest × (item_trees l.items.items ≡ settled_items (items_of written)))
-    × (Gathers (91 ∷ l.inside) l.fn.cache l.cache × ItemsAreShared l.cache (item_trees l.items.items))
+    × (AddsOnlyRead (91 ∷ l.inside) l.fn.cache l.cache × ItemsAreShared l.cache (item_trees l.items.items))
     × shadow (Utf8 l.rest)
 
 abbrev pub decreases-read_array-loop-items : goal.decreases-read_array-loop-items
@@ -38,7 +40,7 @@ abbrev pub invariant-read_object-loop-members : goal.invariant-read_object-loop-
 invariant-read_object-loop-members g l =
     ((written : List (List ℕ × Tree)) × Reached (List ℕ × Tree) members_shape objects l.opened (123 ∷ l.inside) written l.rest
     × (pair_list l.members.pairs ≡ put_all [] (settled_pairs (members_of written))))
-    × (Gathers (123 ∷ l.inside) l.fn.cache l.cache × MembersAreShared l.cache (pair_trees l.members.pairs))
+    × (AddsOnlyRead (123 ∷ l.inside) l.fn.cache l.cache × MembersAreShared l.cache (pair_trees l.members.pairs))
     × shadow (Utf8 l.rest)
 
 abbrev pub decreases-read_object-loop-members : goal.decreases-read_object-loop-members

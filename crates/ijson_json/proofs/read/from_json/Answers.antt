@@ -1,5 +1,9 @@
+use Rattle.ijson_json.proofs.Depth.{answers_depth}
 use Rattle.ijson_json.proofs.Texts.{answers_read, answers_printed}
 use Rattle.ijson_json.proofs.read.from_json.Goals as goal
+
+pub returns-clause-nesting : goal.returns-clause-nesting
+returns-clause-nesting g c = answers_depth c.args.text.now c.read_text.result c.read_text.ensures.read
 
 pub returns-clause-read : goal.returns-clause-read
 returns-clause-read g c = answers_read c.args.text.now c.read_text.result c.read_text.ensures.read

@@ -5,7 +5,7 @@ use Rattle.ijson_json.specs.Refuses.{Refuses}
 use Rattle.ijson_json.specs.declared.fault.JsonError.{JsonError}
 use Rattle.std.proofs.lemmas.Bool.{eqb-true}
 use Rattle.ijson_json.proofs.Bytes.{not_both}
-use Rattle.ijson_json.proofs.Caches.{gathers_behind}
+use Rattle.ijson_json.proofs.Caches.{adds_behind}
 use Rattle.ijson_json.proofs.Texts.{whole, behind, refuses}
 use Rattle.ijson_json.proofs.read.read_text.Goals as goal
 
@@ -23,10 +23,10 @@ pub returns-in-Err-clause-read : goal.returns-in-Err-clause-read
 returns-in-Err-clause-read g c = subst (λ (e : JsonError). Refuses c.args.text.now e) (sym c.located.ensures) (refuses c.args.text.now c.skip_space-start.result.now c.in-Err.fault c.skip_space-start.ensures c.in-Err.ensures.read)
 
 pub returns-then-is_empty-clause-cache : goal.returns-then-is_empty-clause-cache
-returns-then-is_empty-clause-cache g c = gathers_behind c.args.text.now c.skip_space-start.ensures.space c.skip_space-start.result.now c.args.cache.now c.read_value.new.cache c.skip_space-start.ensures.is c.read_value.ensures.cache
+returns-then-is_empty-clause-cache g c = adds_behind c.args.text.now c.skip_space-start.ensures.space c.skip_space-start.result.now c.args.cache.now c.read_value.new.cache c.skip_space-start.ensures.is c.read_value.ensures.cache
 
 pub returns-else-is_empty-clause-cache : goal.returns-else-is_empty-clause-cache
-returns-else-is_empty-clause-cache g c = gathers_behind c.args.text.now c.skip_space-start.ensures.space c.skip_space-start.result.now c.args.cache.now c.read_value.new.cache c.skip_space-start.ensures.is c.read_value.ensures.cache
+returns-else-is_empty-clause-cache g c = adds_behind c.args.text.now c.skip_space-start.ensures.space c.skip_space-start.result.now c.args.cache.now c.read_value.new.cache c.skip_space-start.ensures.is c.read_value.ensures.cache
 
 pub returns-in-Err-clause-cache : goal.returns-in-Err-clause-cache
-returns-in-Err-clause-cache g c = gathers_behind c.args.text.now c.skip_space-start.ensures.space c.skip_space-start.result.now c.args.cache.now c.read_value.new.cache c.skip_space-start.ensures.is c.read_value.ensures.cache
+returns-in-Err-clause-cache g c = adds_behind c.args.text.now c.skip_space-start.ensures.space c.skip_space-start.result.now c.args.cache.now c.read_value.new.cache c.skip_space-start.ensures.is c.read_value.ensures.cache

@@ -4,36 +4,47 @@ use Rattle.ijson_value.specs.Tree.{Tree, depth}
 use Rattle.ijson_value.specs.Proper.{Proper}
 use Rattle.ijson_json.specs.Ranged.{is_ranged}
 use Rattle.ijson_json.specs.Grammar.{Accepted, IsString, IsValue}
-use Rattle.ijson_json.specs.Reading.{PastLimitAt, NoNumber, Front, Pair, NoneAt, Beyond}
+use Rattle.ijson_json.specs.private.Reading.{PastLimitAt, NoNumber, Front, Pair, NoneAt, Beyond}
 use Rattle.ijson_json.specs.Refuses.{Refuses}
 use Rattle.ijson_json.specs.declared.fault.Fault.{Fault}
 use Rattle.ijson_json.specs.declared.fault.Fault.TheVariants as faults
 use Rattle.ijson_json.specs.declared.fault.JsonError.{JsonError}
 use Rattle.ijson_json.specs.declared.fault.JsonError.TheVariants as errors
+use Rattle.ijson_json.specs.Limits.{max_depth}
 
 -- why no value, or no member, was read at the front of the text, inside so many open containers
-abbrev pub ExplainsOf : (E : Type 0) → (E → List ℕ → Type 0) → (E → Tree) → ℕ → List ℕ → Fault → Type 0
+abbrev pub ExplainsOf :
+    (E : Type 0) → (E → List ℕ → Type 0) → (E → Tree) → ℕ → List ℕ → Fault → Type 0
 ExplainsOf E Is inner opened text (faults.Syntax left) = (left ≤ length text) × NoneAt E Is text
-ExplainsOf E Is inner opened text (faults.TooDeep left) = (left ≤ length text) × Beyond E Is inner (λ t. 127 < opened + depth t) (λ t. opened + depth t ≡ 128) text
-ExplainsOf E Is inner opened text (faults.NumberRange left) = (left ≤ length text) × Beyond E Is inner (λ t. is_ranged t ≡ false) (λ t. is_ranged t ≡ false) text
+ExplainsOf E Is inner opened text (faults.TooDeep left) =
+    (left ≤ length text)
+    × Beyond E Is inner (λ t. max_depth < opened + depth t) (λ t. opened + depth t ≡ max_depth + 1) text
+ExplainsOf E Is inner opened text (faults.NumberRange left) =
+    (left ≤ length text)
+    × Beyond E Is inner (λ t. is_ranged t ≡ false) (λ t. is_ranged t ≡ false) text
 ExplainsOf E Is inner opened text faults.Memory = ⊤
 
 abbrev pub Explains : ℕ → List ℕ → Fault → Type 0
-Explains opened text fault = ExplainsOf Tree (λ t value. IsValue t value) (λ t. t) opened text fault
+Explains opened text fault =
+    ExplainsOf Tree (λ t value. IsValue t value) (λ t. t) opened text fault
 
 abbrev pub ExplainsMember : ℕ → List ℕ → Fault → Type 0
-ExplainsMember opened text fault = ExplainsOf (List ℕ × Tree) (λ m text. Pair m text) (λ m. m.1) opened text fault
+ExplainsMember opened text fault =
+    ExplainsOf (List ℕ × Tree) (λ m text. Pair m text) (λ m. m.1) opened text fault
 
 -- why the text does not begin with the word
 abbrev pub WordFault : List ℕ → List ℕ → Fault → Type 0
-WordFault text word (faults.Syntax left) = (left ≤ length text) × ((rest : List ℕ) → text ≢ word ++ rest)
+WordFault text word (faults.Syntax left) =
+    (left ≤ length text) × ((rest : List ℕ) → text ≢ word ++ rest)
 WordFault text word (faults.TooDeep left) = ⊥
 WordFault text word (faults.NumberRange left) = ⊥
 WordFault text word faults.Memory = ⊥
 
 -- why no string was
 abbrev pub StringFault : List ℕ → Fault → Type 0
-StringFault text (faults.Syntax left) = (left ≤ length text) × ((s rest : List ℕ) → Front (λ front. IsString s front) text rest → ⊥)
+StringFault text (faults.Syntax left) =
+    (left ≤ length text)
+    × ((s rest : List ℕ) → Front (λ front. IsString s front) text rest → ⊥)
 StringFault text (faults.TooDeep left) = ⊥
 StringFault text (faults.NumberRange left) = ⊥
 StringFault text faults.Memory = ⊤

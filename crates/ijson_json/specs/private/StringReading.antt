@@ -1,7 +1,7 @@
 -- What the functions that read a string find at the front of a text.
-use Rattle.std.specs.Prelude.{◌≡◌, ℕ, ◌+◌, ◌-◌, ◌*◌, ◌≤◌, List, ◌∷◌, ◌++◌, ⊤, length, IsTrue, Some}
+use Rattle.std.specs.Prelude.{◌≡◌, ℕ, ◌≤◌, List, ◌∷◌, ◌++◌, ⊤, length, IsTrue, Some}
 use Rattle.std.specs.Char.{encode_utf8}
-use Rattle.ijson_json.specs.Strings.{hex_digit, Hex, Character, is_low_surrogate, StringBody}
+use Rattle.ijson_json.specs.Strings.{hex_digit, Hex, Character, is_low_surrogate, paired, StringBody}
 use Rattle.ijson_json.specs.declared.fault.Fault.{Fault}
 use Rattle.ijson_json.specs.declared.fault.Fault.TheVariants as faults
 
@@ -20,7 +20,8 @@ NoHex text = (u : ℕ) (rest : List ℕ) → HexAt text u rest → ⊥
 
 -- a character as it is written, and its bytes
 abbrev pub CharacterAt : List ℕ → List ℕ → List ℕ → Type 0
-CharacterAt text meant rest = (written : List ℕ) × Character written meant × (text ≡ written ++ rest)
+CharacterAt text meant rest =
+    (written : List ℕ) × Character written meant × (text ≡ written ++ rest)
 
 abbrev pub NoCharacter : List ℕ → Type 0
 NoCharacter text = (meant rest : List ℕ) → CharacterAt text meant rest → ⊥
@@ -29,12 +30,17 @@ NoCharacter text = (meant rest : List ℕ) → CharacterAt text meant rest → �
 abbrev pub NoEscape : List ℕ → Type 0
 NoEscape text = (letters : List ℕ) → text ≡ 92 ∷ letters → NoCharacter text
 
--- behind the escape of a high surrogate u: the escape of a low one, and the bytes of the character of the two
+-- behind the escape of a high surrogate u: the escape of a low one, and the bytes of the character of the
+-- two
 abbrev pub LowAt : ℕ → List ℕ → List ℕ → List ℕ → Type 0
-LowAt u text meant rest = (l : List ℕ) × (v : ℕ) × Hex l v × IsTrue (is_low_surrogate v) × (text ≡ 92 ∷ 117 ∷ (l ++ rest)) × (meant ≡ encode_utf8 (0x10000 + ((u - 0xd800) * 1024 + (v - 0xdc00))))
+LowAt u text meant rest =
+    (l : List ℕ) × (v : ℕ) × Hex l v × IsTrue (is_low_surrogate v)
+    × (text ≡ 92 ∷ 117 ∷ (l ++ rest)) × (meant ≡ encode_utf8 (paired u v))
 
 abbrev pub NoLow : List ℕ → Type 0
-NoLow text = (l : List ℕ) (v : ℕ) (rest : List ℕ) → Hex l v → IsTrue (is_low_surrogate v) → text ≡ 92 ∷ 117 ∷ (l ++ rest) → ⊥
+NoLow text =
+    (l : List ℕ) (v : ℕ) (rest : List ℕ) → Hex l v → IsTrue (is_low_surrogate v)
+    → text ≡ 92 ∷ 117 ∷ (l ++ rest) → ⊥
 
 -- what is left of a string's content, and its closing quote
 abbrev pub ContentAt : List ℕ → List ℕ → List ℕ → Type 0

@@ -1,18 +1,10 @@
--- What a reading leaves in the cache. As the Rust crate `ijson`, which interns each key and each string that it reads.
-use Rattle.std.specs.Prelude.{◌≡◌, ℕ, ◌<◌, true, ◌⊎◌, List, ◌++◌, ⊤, length}
+-- The texts of a tree that a cache holds after its reading. As the Rust crate `ijson`, which interns
+-- each key and each string.
+use Rattle.std.specs.Prelude.{◌≡◌, ℕ, ◌<◌, true, List, ⊤, length}
 use Rattle.std.specs.FinSet as set
 use Rattle.ijson_string.specs.Cache.{Texts}
 use Rattle.ijson_value.specs.Tree.{Tree, null, boolean, number, string, array, object, Items, no_items, item, Members, no_members, member}
-use Rattle.ijson_json.specs.Strings.{StringBody}
-
--- a slice of the text, put between quotes, is a string for s
-abbrev pub IsSpelledIn : List ℕ → List ℕ → Type 0
-IsSpelledIn text s = (before body after : List ℕ) × StringBody body s × (text ≡ before ++ (body ++ after))
-
--- the cache holds what it held, and beyond that only texts of more than 7 bytes that a slice of the text that was read spells
-pub record Gathers (text : List ℕ) (old new : Texts) : Type 0 where
-  pub kept : (s : List ℕ) → set.contains old s ≡ true → set.contains new s ≡ true
-  pub added : (s : List ℕ) → set.contains new s ≡ true → (set.contains old s ≡ true) ⊎ ((7 < length s) × IsSpelledIn text s)
+use Rattle.ijson_json.specs.Grammar.{Accepted}
 
 -- the cache holds the text, if it is more than 7 bytes long
 abbrev pub IsShared : Texts → List ℕ → Type 0
@@ -34,4 +26,9 @@ abbrev mutual
 
   pub MembersAreShared : Texts → Members → Type 0
   MembersAreShared cache no_members = ⊤
-  MembersAreShared cache (member k t more) = IsShared cache k × AreShared cache t × MembersAreShared cache more
+  MembersAreShared cache (member k t more) =
+      IsShared cache k × AreShared cache t × MembersAreShared cache more
+
+-- the text is accepted, and the cache holds what it holds of the text's tree
+abbrev pub SharesTextsOf : List ℕ → Texts → Type 0
+SharesTextsOf text cache = (tree : Tree) × Accepted text tree × AreShared cache tree

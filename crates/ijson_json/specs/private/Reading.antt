@@ -8,6 +8,7 @@ use Rattle.ijson_value.specs.Tree.{Tree, null, boolean, number, string, array, o
 use Rattle.ijson_json.specs.Ranged.{is_ranged}
 use Rattle.ijson_json.specs.Settled.{settled}
 use Rattle.ijson_json.specs.Grammar.{is_space, IsSpace, IsString, IsValue, IsClosers}
+use Rattle.ijson_json.specs.Limits.{max_depth}
 
 -- the first byte, where there is one, does not pass
 abbrev pub Past : (ℕ → Bool) → List ℕ → Type 0
@@ -40,16 +41,21 @@ pub record Skips (text rest : List ℕ) : Type 0 where
   pub is : text ≡ space ++ rest
   pub past : Past is_space rest
 
--- A value, or a member of an object, was read, inside so many open containers. The value is as it was written.
-pub record Found (E : Type 0) (Is : E → List ℕ → Type 0) (inner : E → Tree) (opened : ℕ) (text : List ℕ) (e : E) (rest : List ℕ) : Type 0 where
+-- A value, or a member of an object, was read, inside so many open containers. The value is as it was
+-- written.
+pub record Found (E : Type 0) (Is : E → List ℕ → Type 0) (inner : E → Tree)
+    (opened : ℕ) (text : List ℕ) (e : E) (rest : List ℕ) : Type 0 where
   pub found : Front (λ text. Is e text) text rest
   pub ends : Ends (inner e) rest
-  pub deep : opened + depth (inner e) ≤ 127
+  pub deep : opened + depth (inner e) ≤ max_depth
   pub ranged : is_ranged (inner e) ≡ true
 
--- Each value that the text could begin with is Bad, and some beginning of the text, closed by brackets, is a value that is Worst.
-pub record Beyond (E : Type 0) (Is : E → List ℕ → Type 0) (inner : E → Tree) (Bad Worst : Tree → Type 0) (text : List ℕ) : Type 0 where
-  pub each : (e : E) (rest : List ℕ) → Stops rest → Front (λ text. Is e text) text rest → Bad (inner e)
+-- Each value that the text could begin with is Bad, and some beginning of the text, closed by brackets, is
+-- a value that is Worst.
+pub record Beyond (E : Type 0) (Is : E → List ℕ → Type 0) (inner : E → Tree)
+    (Bad Worst : Tree → Type 0) (text : List ℕ) : Type 0 where
+  pub each : (e : E) (rest : List ℕ)
+      → Stops rest → Front (λ text. Is e text) text rest → Bad (inner e)
   pub beginning : List ℕ
   pub others : List ℕ
   pub closers : List ℕ
@@ -61,7 +67,8 @@ pub record Beyond (E : Type 0) (Is : E → List ℕ → Type 0) (inner : E → T
 
 -- no value, or no member, stands at the front
 abbrev pub NoneAt : (E : Type 0) → (E → List ℕ → Type 0) → List ℕ → Type 0
-NoneAt E Is text = (e : E) (rest : List ℕ) → Stops rest → Front (λ text. Is e text) text rest → ⊥
+NoneAt E Is text =
+    (e : E) (rest : List ℕ) → Stops rest → Front (λ text. Is e text) text rest → ⊥
 
 -- a key, `:` and a value
 pub record Pair (m : List ℕ × Tree) (text : List ℕ) : Type 0 where
@@ -86,13 +93,18 @@ NoValue text = NoneAt Tree (λ t value. IsValue t value) text
 
 -- the tree that was read, of what was written
 abbrev pub ReadAs : ℕ → List ℕ → Tree → List ℕ → Type 0
-ReadAs opened text tree rest = (written : Tree) × IsRead opened text written rest × (tree ≡ settled written)
+ReadAs opened text tree rest =
+    (written : Tree) × IsRead opened text written rest × (tree ≡ settled written)
 
 abbrev pub MemberAs : ℕ → List ℕ → List ℕ → Tree → List ℕ → Type 0
-MemberAs opened text key tree rest = (written : Tree) × Found (List ℕ × Tree) (λ m text. Pair m text) (λ m. m.1) opened text (key, written) rest × (tree ≡ settled written)
+MemberAs opened text key tree rest =
+    (written : Tree)
+    × Found (List ℕ × Tree) (λ m text. Pair m text) (λ m. m.1) opened text (key, written) rest
+    × (tree ≡ settled written)
 
 abbrev pub IsTooDeep : ℕ → List ℕ → Type 0
-IsTooDeep opened text = IsBeyond (λ t. 127 < opened + depth t) (λ t. opened + depth t ≡ 128) text
+IsTooDeep opened text =
+    IsBeyond (λ t. max_depth < opened + depth t) (λ t. opened + depth t ≡ max_depth + 1) text
 
 abbrev pub IsOutOfRange : List ℕ → Type 0
 IsOutOfRange text = IsBeyond (λ t. is_ranged t ≡ false) (λ t. is_ranged t ≡ false) text

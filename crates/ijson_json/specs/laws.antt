@@ -1,0 +1,2 @@
+-- What the models alone cite.
+pub mod StreamStateCode

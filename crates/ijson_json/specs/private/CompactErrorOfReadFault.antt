@@ -1,0 +1,9 @@
+-- The error of `compact` that a fault of its reading becomes.
+use Rattle.ijson_json.specs.declared.moving.ReadFault.{ReadFault}
+use Rattle.ijson_json.specs.declared.moving.ReadFault.TheVariants as faults
+use Rattle.ijson_json.specs.declared.compacting.CompactError.{CompactError}
+use Rattle.ijson_json.specs.declared.compacting.CompactError.TheVariants as errors
+
+abbrev pub compact_error_of_read_fault : ReadFault → CompactError
+compact_error_of_read_fault faults.Device = errors.Read
+compact_error_of_read_fault faults.Memory = errors.Memory
