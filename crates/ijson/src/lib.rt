@@ -11,7 +11,10 @@ pub use ijson_number::{INumber, ParseNumberError};
 pub use ijson_string as string;
 pub use ijson_string::IString;
 pub use ijson_table as table;
-pub use ijson_value::{DestructuredRef, IArray, IObject, IValue, ValueType, array, object, value};
+pub use ijson_value::array::IArray;
+pub use ijson_value::object::IObject;
+pub use ijson_value::value::{DestructuredRef, IValue, ValueType};
+pub use ijson_value::{array, object, value};
 
 #[cfg(test)]
 mod tests;

@@ -11,7 +11,7 @@ use borrow.Author.Tests.{ltb-true}
 use Rattle.ijson_string.specs.Cache.{Texts, interned}
 use Rattle.ijson_table.specs.Store.{put}
 use Rattle.ijson_value.specs.Tree.{Tree, null, boolean, number, string, array, object, Items, no_items, item, Members, no_members, member}
-use Rattle.ijson_value.specs.Proper.{Proper, item_trees, pair_trees}
+use Rattle.ijson_value.specs.WellFormed.{WellFormed, item_trees, pair_trees}
 use Rattle.ijson_json.specs.Grammar.{IsString}
 use Rattle.ijson_json.specs.private.Reading.{Front}
 use Rattle.ijson_json.specs.AddsOnlyRead.{IsSpelledIn, AddsOnlyRead}
@@ -130,18 +130,18 @@ mutual
 
 -- one more item
 
-items_push : (cache : Texts) (vs : List Proper) (v : Proper) → ItemsAreShared cache (item_trees vs) → AreShared cache v.tree → ItemsAreShared cache (item_trees (vs ++ v ∷ []))
+items_push : (cache : Texts) (vs : List WellFormed) (v : WellFormed) → ItemsAreShared cache (item_trees vs) → AreShared cache v.tree → ItemsAreShared cache (item_trees (vs ++ v ∷ []))
 items_push cache [] v h g = (g, tt)
 items_push cache (w ∷ vs) v h g = (h.0, items_push cache vs v h.1 g)
 
 -- an item pushed behind shared ones
 
-pub item_shared : (text : List ℕ) (old new : Texts) (vs vs' : List Proper) (v : Proper) → vs' ≡ vs ++ v ∷ [] → AddsOnlyRead text old new → ItemsAreShared old (item_trees vs) → AreShared new v.tree → ItemsAreShared new (item_trees vs')
-item_shared text old new vs vs' v e g h k = subst (λ (l : List Proper). ItemsAreShared new (item_trees l)) (sym e) (items_push new vs v (items_more text old new (item_trees vs) g h) k)
+pub item_shared : (text : List ℕ) (old new : Texts) (vs vs' : List WellFormed) (v : WellFormed) → vs' ≡ vs ++ v ∷ [] → AddsOnlyRead text old new → ItemsAreShared old (item_trees vs) → AreShared new v.tree → ItemsAreShared new (item_trees vs')
+item_shared text old new vs vs' v e g h k = subst (λ (l : List WellFormed). ItemsAreShared new (item_trees l)) (sym e) (items_push new vs v (items_more text old new (item_trees vs) g h) k)
 
 -- one more member
 
-members_put : (cache : Texts) (ps : List (List ℕ × Proper)) (k : List ℕ) (v : Proper) → MembersAreShared cache (pair_trees ps) → IsShared cache k → AreShared cache v.tree → MembersAreShared cache (pair_trees (put ps k v))
+members_put : (cache : Texts) (ps : List (List ℕ × WellFormed)) (k : List ℕ) (v : WellFormed) → MembersAreShared cache (pair_trees ps) → IsShared cache k → AreShared cache v.tree → MembersAreShared cache (pair_trees (put ps k v))
 members_put cache [] k v h i g = (i, g, tt)
 members_put cache (p ∷ ps) k v h i g = either (bytes_eq p.0 k) (h.0, g, h.2) (h.0, h.1, members_put cache ps k v h.2 i g)
   where
@@ -151,5 +151,5 @@ members_put cache (p ∷ ps) k v h i g = either (bytes_eq p.0 k) (h.0, g, h.2) (
 
 -- a member put among shared ones
 
-pub member_shared : (text : List ℕ) (old new : Texts) (ps ps' : List (List ℕ × Proper)) (k : List ℕ) (v : Proper) → ps' ≡ put ps k v → AddsOnlyRead text old new → MembersAreShared old (pair_trees ps) → IsShared new k → AreShared new v.tree → MembersAreShared new (pair_trees ps')
-member_shared text old new ps ps' k v e g h i j = subst (λ (l : List (List ℕ × Proper)). MembersAreShared new (pair_trees l)) (sym e) (members_put new ps k v (members_more text old new (pair_trees ps) g h) i j)
+pub member_shared : (text : List ℕ) (old new : Texts) (ps ps' : List (List ℕ × WellFormed)) (k : List ℕ) (v : WellFormed) → ps' ≡ put ps k v → AddsOnlyRead text old new → MembersAreShared old (pair_trees ps) → IsShared new k → AreShared new v.tree → MembersAreShared new (pair_trees ps')
+member_shared text old new ps ps' k v e g h i j = subst (λ (l : List (List ℕ × WellFormed)). MembersAreShared new (pair_trees l)) (sym e) (members_put new ps k v (members_more text old new (pair_trees ps) g h) i j)

@@ -4,7 +4,7 @@ use Rattle.std.specs.Prelude.{max, if◌then◌else◌, IfOk}
 use Rattle.std.specs.Str.{bytes_eq}
 use Rattle.ijson_table.specs.Store.{put}
 use Rattle.ijson_value.specs.Tree.{Tree, null, boolean, number, string, array, object, Items, no_items, item, Members, no_members, member, members_of, depth, items_depth, members_depth}
-use Rattle.ijson_value.specs.Proper.{Proper}
+use Rattle.ijson_value.specs.WellFormed.{WellFormed}
 use Rattle.ijson_json.specs.declared.fault.JsonError.{JsonError}
 use Rattle.ijson_json.specs.private.Explains.{Answers}
 use Rattle.ijson_json.specs.Grammar.{Accepted}
@@ -51,6 +51,6 @@ accepted_depth : (text : List ℕ) (t : Tree) → Accepted text t → depth t �
 accepted_depth text t (d, within, r) = omega (arith, within, r.deepest_is, ap depth r.tree_is, settled_depth r.written)
 
 -- a value that was read is within the limit
-pub answers_depth : (text : List ℕ) (result : Result Proper JsonError) → Answers text result → IfOk result (λ value. depth value.tree ≤ max_depth)
+pub answers_depth : (text : List ℕ) (result : Result WellFormed JsonError) → Answers text result → IfOk result (λ value. depth value.tree ≤ max_depth)
 answers_depth text (Ok value) h = accepted_depth text value.tree h
 answers_depth text (Err error) h = tt

@@ -2,7 +2,7 @@
 use Rattle.std.proofs.Common.{◌≡◌, ℕ, Bool, true, false, cond, List, ◌∷◌, refl, ◌∙◌, arith}
 use Rattle.std.specs.Prelude.{IsTrue, ◌||◌, ◌==◌}
 use Rattle.std.proofs.lemmas.Bool.Decides.{nat_tests}
-use Rattle.ijson_number.specs.NumberBytes.{is_digit}
+use Rattle.ijson_number.specs.private.NumberBytes.{is_digit}
 use Rattle.ijson_value.specs.Tree.{Tree, null, boolean, number, string, array, object}
 use Rattle.ijson_json.specs.Grammar.{is_space, boolean_text, IsValue}
 use Rattle.ijson_number.proofs.SpelledBytes.{spells_first}

@@ -2,7 +2,7 @@
 use Rattle.std.proofs.Common.{◌≡◌, ℕ, false, List, [], ◌∷◌, ◌++◌, eqb, refl, sym, ap, subst, ◌∙◌, append_assoc, arith, eq-eqb}
 use Rattle.std.specs.Prelude.{IsTrue, ◌==◌}
 use Rattle.std.proofs.lemmas.Bool.Decides.{nat_tests}
-use Rattle.ijson_number.specs.NumberBytes.{is_number_byte}
+use Rattle.ijson_number.specs.private.NumberBytes.{is_number_byte}
 use Rattle.ijson_value.specs.Tree.{Tree, null, boolean, number, string, array, object}
 use Rattle.ijson_json.specs.Grammar.{is_space, IsSpace, Spaced, Split}
 use Rattle.ijson_json.specs.private.Reading.{Past, Stops, Ends}

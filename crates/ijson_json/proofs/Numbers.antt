@@ -9,8 +9,8 @@ use Rattle.std.proofs.Math.Seq.{take-append_seam, drop-append_seam}
 use Rattle.ijson_number.specs.Decimal.{Decimal}
 use Rattle.ijson_number.specs.Num.{IsNum, is_in_range}
 use Rattle.ijson_number.specs.Grammar.{Spells}
-use Rattle.ijson_number.specs.NumberBytes.{is_number_byte}
-use Rattle.ijson_number.proofs.Means.{spells_one}
+use Rattle.ijson_number.specs.private.NumberBytes.{is_number_byte}
+use Rattle.ijson_number.proofs.Denotes.{spells_one}
 use Rattle.ijson_number.proofs.SpelledBytes.{spells_bytes}
 use Rattle.ijson_json.specs.private.Reading.{Past, Stops, NumberAt, NoNumber, IsPastLimit, PastLimitAt}
 use Rattle.ijson_json.proofs.Bytes.{Run, run_same, not_both}

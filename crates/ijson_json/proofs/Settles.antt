@@ -6,7 +6,7 @@ use Rattle.std.proofs.lemmas.Slice.Eq.{bytes_eq-Decides}
 use Rattle.std.proofs.lemmas.List.{append-nil}
 use Rattle.ijson_table.specs.Store.{put, keys_of, IsDistinct, Lacks}
 use Rattle.ijson_value.specs.Tree.{Tree, null, boolean, number, string, array, object, Items, no_items, item, Members, no_members, member, members_of, member_keys}
-use Rattle.ijson_value.specs.Proper.{IsProper, AreProper, HaveProper}
+use Rattle.ijson_value.specs.WellFormed.{IsWellFormed, AreWellFormed, HaveWellFormed}
 use Rattle.ijson_json.specs.Settled.{put_all, settled, settled_items, settled_pairs}
 
 -- no pair has the key
@@ -51,8 +51,8 @@ keys-settled no_members = refl
 keys-settled (member k t more) = ap (λ (l : List (List ℕ)). k ∷ l) (keys-settled more)
 
 mutual
-  -- a proper tree is what it settles to
-  pub settles : (t : Tree) → IsProper t → settled t ≡ t
+  -- a well-formed tree is what it settles to
+  pub settles : (t : Tree) → IsWellFormed t → settled t ≡ t
   settles null h = refl
   settles (boolean b) h = refl
   settles (number n) h = refl
@@ -62,10 +62,10 @@ mutual
       let alone : put_all [] (settled_pairs ms) ≡ settled_pairs ms = put_all-new [] (settled_pairs ms) (subst IsDistinct (sym (keys-settled ms)) h.0) in
       ap object (ap members_of alone ∙ settles_members ms h.1)
 
-  settles_items : (is : Items) → AreProper is → settled_items is ≡ is
+  settles_items : (is : Items) → AreWellFormed is → settled_items is ≡ is
   settles_items no_items h = refl
   settles_items (item t more) h = ap₂ item (settles t h.0) (settles_items more h.1)
 
-  settles_members : (ms : Members) → HaveProper ms → members_of (settled_pairs ms) ≡ ms
+  settles_members : (ms : Members) → HaveWellFormed ms → members_of (settled_pairs ms) ≡ ms
   settles_members no_members h = refl
   settles_members (member k t more) h = ap₂ (λ (u : Tree) (m : Members). member k u m) (settles t h.0) (settles_members more h.1)

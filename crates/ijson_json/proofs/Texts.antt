@@ -7,7 +7,7 @@ use Rattle.ijson_json.specs.declared.fault.Fault.TheVariants as faults
 use Rattle.ijson_json.specs.declared.fault.JsonError.{JsonError}
 use Rattle.ijson_json.specs.declared.fault.JsonError.TheVariants as errors
 use Rattle.ijson_value.specs.Tree.{Tree, depth}
-use Rattle.ijson_value.specs.Proper.{IsProper, Proper}
+use Rattle.ijson_value.specs.WellFormed.{IsWellFormed, WellFormed}
 use Rattle.ijson_json.specs.Ranged.{is_ranged}
 use Rattle.ijson_json.specs.Settled.{settled}
 use Rattle.ijson_json.specs.Grammar.{is_space, IsSpace, Spaced, IsValue, Reads, Accepted}
@@ -96,11 +96,11 @@ memory_alone text errors.Memory t h a = refl
 
 -- a text that is accepted is read as its tree
 
-pub answers_read : (text : List ℕ) (result : Result Proper JsonError) → Answers text result → (t : Tree) → Accepted text t → MatchResult result (λ value. value.tree ≡ t) (λ error. error ≡ errors.Memory)
+pub answers_read : (text : List ℕ) (result : Result WellFormed JsonError) → Answers text result → (t : Tree) → Accepted text t → MatchResult result (λ value. value.tree ≡ t) (λ error. error ≡ errors.Memory)
 answers_read text (Ok v) h t a = one_tree text v.tree t h.0 a.0 true true h.2 a.2
 answers_read text (Err e) h t a = memory_alone text e t h a
 
 -- and so is what was printed
 
-pub answers_printed : (text : List ℕ) (result : Result Proper JsonError) → Answers text result → (t : Tree) → IsProper t → depth t ≤ max_depth → text ≡ print t → MatchResult result (λ value. value.tree ≡ t) (λ error. error ≡ errors.Memory)
+pub answers_printed : (text : List ℕ) (result : Result WellFormed JsonError) → Answers text result → (t : Tree) → IsWellFormed t → depth t ≤ max_depth → text ≡ print t → MatchResult result (λ value. value.tree ≡ t) (λ error. error ≡ errors.Memory)
 answers_printed text result h t n d e = answers_read text result h t (subst (λ (l : List ℕ). Accepted l t) (sym e) (printed_is_accepted t n d))

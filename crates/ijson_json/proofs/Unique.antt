@@ -3,12 +3,12 @@ use Rattle.std.proofs.Common.{◌≡◌, ℕ, ◌≤◌, Bool, true, false, List
 use Rattle.std.proofs.lemmas.Bool.{eqb-true}
 use Rattle.std.specs.Prelude.{◌==◌}
 use Rattle.std.proofs.lemmas.List.{append_cancel_left, append_cancel_right}
-use Rattle.ijson_number.specs.NumberBytes.{is_number_byte}
+use Rattle.ijson_number.specs.private.NumberBytes.{is_number_byte}
 use Rattle.ijson_value.specs.Tree.{Tree, null, boolean, number, string, array, object, Items, no_items, item, Members, no_members, member}
 use Rattle.ijson_json.specs.Grammar.{is_space, Spaced, Split, null_text, boolean_text, IsString, IsValue, IsItems, IsMembers}
 use Rattle.ijson_json.specs.private.Reading.{Past, Ends, Pair}
 use Rattle.ijson_json.proofs.Bytes.{run_same, heads, tails, heads_apart}
-use Rattle.ijson_number.proofs.Means.{spells_one}
+use Rattle.ijson_number.proofs.Denotes.{spells_one}
 use Rattle.ijson_number.proofs.SpelledBytes.{spells_bytes}
 use Rattle.ijson_json.proofs.Strings.{body_same}
 use Rattle.ijson_json.proofs.First.{kind, tree_kind, value_first, space_kind}

@@ -3,7 +3,8 @@
 ghost use Rattle.std.specs.Prelude.{◌≡◌};
 ghost use Rattle.ijson_json.specs.declared.fault.Fault.TheVariants.{Memory};
 
-use ijson_value::{Refused, RefusedPair};
+use ijson_value::array::Refused;
+use ijson_value::object::RefusedPair;
 use std::alloc::AllocError;
 use thiserror::Error;
 

@@ -2,7 +2,7 @@
 
 ghost use Rattle.std.specs.Prelude.{◌≡◌, ◌++◌, ◌↔◌, IsTrue, MatchResult};
 ghost use Rattle.std.specs.List.{AllByRecursion};
-ghost use Rattle.ijson_number.specs.NumberBytes.{is_number_byte};
+ghost use Rattle.ijson_number.specs.private.NumberBytes.{is_number_byte};
 ghost use Rattle.ijson_json.specs.private.Explains.{NumberFault};
 ghost use Rattle.ijson_json.specs.private.Reading.{IsPastLimit, NumberRead, Stops};
 

@@ -2,7 +2,7 @@
 
 ghost use Rattle.std.specs.Prelude.{◌≡◌, ◌∷◌, ◌<◌, ◌≤◌, length, MatchResult, IfOk, IfErr};
 ghost use Rattle.ijson_value.specs.Tree.{Tree, array, object, depth};
-ghost use Rattle.ijson_value.specs.Proper.{IsProper, item_trees, pair_trees};
+ghost use Rattle.ijson_value.specs.WellFormed.{IsWellFormed, item_trees, pair_trees};
 ghost use Rattle.ijson_json.specs.Grammar.{Accepted};
 ghost use Rattle.ijson_json.specs.Limits.{max_depth};
 ghost use Rattle.ijson_json.specs.Print.{print};
@@ -19,7 +19,9 @@ use crate::front::{skip_space, split_ascii, strip_byte, strip_word};
 use crate::number::read_number;
 use crate::string::read_string;
 use ijson_string::{IString, StringCache};
-use ijson_value::{IArray, IObject, IValue};
+use ijson_value::array::IArray;
+use ijson_value::object::IObject;
+use ijson_value::value::IValue;
 use std::alloc::Global;
 use std::hash::BuildHasher;
 
@@ -251,7 +253,7 @@ pub fn from_json<S: BuildHasher>(
     ensures read { (t : Tree) → Accepted text.now t
         → MatchResult result (λ value. value.tree ≡ t) (λ error. error ≡ JsonError.Memory) }
     // What was printed is read again, unless memory runs out.
-    ensures printed { (t : Tree) → IsProper t → depth t ≤ max_depth → text.now ≡ print t
+    ensures printed { (t : Tree) → IsWellFormed t → depth t ≤ max_depth → text.now ≡ print t
         → MatchResult result (λ value. value.tree ≡ t) (λ error. error ≡ JsonError.Memory) }
     // The cache holds what it held, and beyond that only long texts that a slice of the text spells.
     ensures cache { AddsOnlyRead text.now cache.old cache.new }

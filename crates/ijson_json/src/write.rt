@@ -1,12 +1,13 @@
 //! Writing a value as a JSON text.
 ghost use Rattle.std.specs.Prelude.{◌≡◌, ◌++◌, IfOk, OnOk};
 ghost use Rattle.std.specs.String.{string_bytes};
-ghost use Rattle.ijson_value.specs.Proper.{item_trees, pair_trees};
+ghost use Rattle.ijson_value.specs.WellFormed.{item_trees, pair_trees};
 ghost use Rattle.ijson_json.specs.Print.{print, print_items, print_members};
 ghost use Rattle.ijson_json.specs.private.Separator.{separator};
 
 use crate::quote::push_quoted;
-use ijson_value::{DestructuredRef, IObject, IValue};
+use ijson_value::object::IObject;
+use ijson_value::value::{DestructuredRef, IValue};
 use std::alloc::{AllocError, Global};
 use std::fmt::Write;
 

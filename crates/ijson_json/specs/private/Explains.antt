@@ -1,7 +1,7 @@
 -- What the faults of the reader's private functions say of the text that they were given.
 use Rattle.std.specs.Prelude.{◌≡◌, ◌≢◌, ℕ, ◌+◌, ◌-◌, ◌<◌, ◌≤◌, false, List, ◌++◌, ⊤, length, Result, Ok, Err}
 use Rattle.ijson_value.specs.Tree.{Tree, depth}
-use Rattle.ijson_value.specs.Proper.{Proper}
+use Rattle.ijson_value.specs.WellFormed.{WellFormed}
 use Rattle.ijson_json.specs.Ranged.{is_ranged}
 use Rattle.ijson_json.specs.Grammar.{Accepted, IsString, IsValue}
 use Rattle.ijson_json.specs.private.Reading.{PastLimitAt, NoNumber, Front, Pair, NoneAt, Beyond}
@@ -64,6 +64,6 @@ error_of length (faults.NumberRange left) = errors.NumberRange (length - left)
 error_of length faults.Memory = errors.Memory
 
 -- what a reading of a whole text answers
-abbrev pub Answers : List ℕ → Result Proper JsonError → Type 0
+abbrev pub Answers : List ℕ → Result WellFormed JsonError → Type 0
 Answers text (Ok value) = Accepted text value.tree
 Answers text (Err error) = Refuses text error

@@ -4,7 +4,7 @@ use mathlib.Core.Bool.{true≢false}
 use Rattle.std.specs.Str.{bytes_eq}
 use Rattle.std.specs.Cmp.{tied_itself, tied_back}
 use Rattle.std.specs.Cmp.Lexicographic.{bytes_decides}
-use Rattle.ijson_number.specs.Ordered.{number_cmp_total}
+use Rattle.ijson_number.specs.laws.Ordered.{number_cmp_total}
 use Rattle.ijson_table.specs.Store.{Lacks, IsDistinct}
 use Rattle.ijson_value.specs.Tree.{Tree, null, boolean, number, string, array, object, Items, no_items, item, Members, no_members, member, members_len, member_keys}
 use Rattle.ijson_value.specs.WellFormed.{IsWellFormed, AreWellFormed, HaveWellFormed}

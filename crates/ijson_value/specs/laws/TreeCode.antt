@@ -2,7 +2,7 @@
 use Rattle.std.proofs.Common.{◌≡◌, ℕ, List, refl, ap}
 use Rattle.std.specs.Coded.{Coded, coded_bool, coded_list, coded_ℕ}
 use base.Stored.{Gv, gnil, gnum, gcons}
-use Rattle.ijson_number.specs.Decimal.{decimal_code}
+use Rattle.ijson_number.specs.laws.Codes.{decimal_code}
 use Rattle.ijson_value.specs.Tree.{Tree, null, boolean, number, string, array, object, Items, no_items, item, Members, no_members, member}
 
 abbrev text_code : Coded (List ℕ)

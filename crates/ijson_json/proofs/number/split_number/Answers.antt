@@ -1,5 +1,5 @@
 use Rattle.std.proofs.Common.{◌++◌, ◌∙◌, sym, subst, ap₂, List, ℕ}
-use Rattle.ijson_number.specs.NumberBytes.{is_number_byte}
+use Rattle.ijson_number.specs.private.NumberBytes.{is_number_byte}
 use Rattle.ijson_json.specs.private.Reading.{Past, Stops}
 use Rattle.ijson_json.proofs.Bytes.{Run, run_more}
 use Rattle.ijson_json.proofs.Cuts.{text_behind}

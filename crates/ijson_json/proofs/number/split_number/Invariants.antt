@@ -1,7 +1,7 @@
 use Rattle.std.proofs.Common.{◌≡◌, ◌++◌, List, ℕ, length}
 use denote.Shadow.{shadow}
 use denote.Text.{Utf8}
-use Rattle.ijson_number.specs.NumberBytes.{is_number_byte}
+use Rattle.ijson_number.specs.private.NumberBytes.{is_number_byte}
 use Rattle.ijson_json.proofs.Bytes.{Run}
 use Rattle.ijson_json.proofs.number.split_number.Given as goal
 

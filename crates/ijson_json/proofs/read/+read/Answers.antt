@@ -1,7 +1,7 @@
 use Rattle.std.proofs.Common.{◌≢◌, List, subst, [], ◌∷◌, ◌++◌, ℕ, sym, ap, ◌∙◌, arith, length, true, false, ◌≤◌, refl}
 use Rattle.std.proofs.lemmas.Result.{err_from_is_err_and}
 use Rattle.ijson_value.specs.Tree.{Tree, null, boolean, array, object, items_of, members_of}
-use Rattle.ijson_value.specs.Proper.{Proper, item_trees, pair_trees}
+use Rattle.ijson_value.specs.WellFormed.{WellFormed, item_trees, pair_trees}
 use Rattle.ijson_json.proofs.Unique.{items_shape, members_shape}
 use Rattle.ijson_json.proofs.Listing.{reached_start, reached_more, reached_end, reached_stuck, reached_shorter, empty_read}
 use Rattle.ijson_json.proofs.Containers.{arrays, objects, array_fault, object_fault}
@@ -81,7 +81,7 @@ read_array-loop-items-init g t c =
         reached_start Tree items_shape arrays c.args.opened c.args.inside.now s.space c.skip_space-rest.result.now (omega arith) s.is s.passed s.past c.in_default.ensures,
         ap item_trees c.new-items.ensures.items,
       ),
-      (adds_none _ _, subst (λ (l : List Proper). ItemsAreShared c.args.cache.now (item_trees l)) (sym c.new-items.ensures.items) tt),
+      (adds_none _ _, subst (λ (l : List WellFormed). ItemsAreShared c.args.cache.now (item_trees l)) (sym c.new-items.ensures.items) tt),
       c.skip_space-rest.utf8,
     )
 
@@ -147,7 +147,7 @@ read_object-loop-members-init g t c =
         reached_start (List ℕ × Tree) members_shape objects c.args.opened c.args.inside.now s.space c.skip_space-rest.result.now (omega arith) s.is s.passed s.past c.in_default.ensures,
         ap pair_list c.new-members.ensures.pairs,
       ),
-      (adds_none _ _, subst (λ (l : List (List ℕ × Proper)). MembersAreShared c.args.cache.now (pair_trees l)) (sym c.new-members.ensures.pairs) tt),
+      (adds_none _ _, subst (λ (l : List (List ℕ × WellFormed)). MembersAreShared c.args.cache.now (pair_trees l)) (sym c.new-members.ensures.pairs) tt),
       c.skip_space-rest.utf8,
     )
 
@@ -229,7 +229,7 @@ read_value-returns-in_ok-string-in-34-clause-cache g t c =
 
 pub read_value-returns-in_ok-string-in-34-clause-shared : goal.read_value-returns-in_ok-string-in-34-clause-shared
 read_value-returns-in_ok-string-in-34-clause-shared g t c =
-    subst (λ (v : Proper). AreShared c.read_string.new.cache v.tree) (sym c.from-in-34.ensures) (string_shared c.in_ok-string-in-34.string c.args.cache.now c.read_string.new.cache c.in_ok-string-in-34.ensures.cache)
+    subst (λ (v : WellFormed). AreShared c.read_string.new.cache v.tree) (sym c.from-in-34.ensures) (string_shared c.in_ok-string-in-34.string c.args.cache.now c.read_string.new.cache c.in_ok-string-in-34.ensures.cache)
 
 pub read_array-returns-in_err-item-clause-cache : goal.read_array-returns-in_err-item-clause-cache
 read_array-returns-in_err-item-clause-cache g t c =

@@ -2,7 +2,7 @@ use Rattle.std.proofs.Common.{◌≡◌, ℕ, List, [], ◌+◌, ◌-◌, ◌*�
 use denote.Shadow.{shadow}
 use denote.Text.{Utf8}
 use Rattle.ijson_value.specs.Tree.{Tree, items_of, members_of}
-use Rattle.ijson_value.specs.Proper.{item_trees, pair_trees}
+use Rattle.ijson_value.specs.WellFormed.{item_trees, pair_trees}
 use Rattle.ijson_json.specs.Settled.{settled_items, settled_pairs, put_all}
 use Rattle.ijson_json.specs.AddsOnlyRead.{AddsOnlyRead}
 use Rattle.ijson_json.specs.AreShared.{ItemsAreShared, MembersAreShared}

@@ -1,5 +1,5 @@
 use Rattle.std.proofs.Common.{true, ◌≡◌, ◌∙◌, ◌++◌, arith, ap, sym, string_bytes}
-use Rattle.ijson_value.specs.Proper.{pair_trees}
+use Rattle.ijson_value.specs.WellFormed.{pair_trees}
 use Rattle.ijson_value.specs.Tree.{members_depth}
 use Rattle.ijson_value.proofs.DepthLemmas.{item-items_depth}
 use Rattle.ijson_json.proofs.Joined.{joined, member_texts, joined-items, joined-members}

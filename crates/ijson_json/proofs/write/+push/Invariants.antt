@@ -1,6 +1,6 @@
 use Rattle.std.proofs.Common.{◌≡◌, ◌+◌, ◌*◌, ◌≤◌, ◌++◌, drop, string_bytes}
-use Rattle.ijson_value.specs.Depths.{value_size, object_size}
-use Rattle.ijson_value.specs.Proper.{item_trees, pair_trees}
+use Rattle.ijson_value.specs.private.Sizes.{value_size, object_size}
+use Rattle.ijson_value.specs.WellFormed.{item_trees, pair_trees}
 use Rattle.ijson_value.specs.Tree.{items_depth, members_depth}
 use Rattle.ijson_json.specs.Print.{print_items, print_members}
 use Rattle.ijson_json.proofs.Joined.{joined, item_texts, member_texts}
