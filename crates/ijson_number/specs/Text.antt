@@ -64,5 +64,6 @@ num_text n =
     elim (nat_eq (nat_abs n.mantissa) 0) [
       | true ↦ zero_text n.point
       | false ↦
-          minus_text (int_lt n.mantissa (pos 0)) ++ shape_text n.point (stripped_digits n) n.exponent
+          minus_text (int_lt n.mantissa (pos 0))
+          ++ shape_text n.point (stripped_digits n) n.exponent
     ]

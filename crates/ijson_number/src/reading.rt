@@ -199,8 +199,9 @@ pub fn strip_front<'a>(whole: &'a [u8], fraction: &'a [u8]) -> (&'a [u8], &'a [u
 
 /// Takes the zeros off the end of digits in two pieces.
 pub fn strip_back<'a>(front: &'a [u8], back: &'a [u8]) -> (&'a [u8], &'a [u8])
-    ensures zeros { let zeros = length front.now - length result.0.now + (length back.now - length result.1.now) in
-        front.now ++ back.now ≡ (result.0.now ++ result.1.now) ++ replicate zeros 48 }
+    ensures zeros { let off_front = length front.now - length result.0.now in
+        let off_back = length back.now - length result.1.now in
+        front.now ++ back.now ≡ (result.0.now ++ result.1.now) ++ replicate (off_front + off_back) 48 }
     ensures front_len { length result.0.now ≤ length front.now }
     ensures back_len { length result.1.now ≤ length back.now }
     ensures last { EndsWithNoZero (result.0.now ++ result.1.now) }
@@ -262,7 +263,8 @@ pub fn stripped_exponent(tail: &Tail<'_>, tens: u128) -> Option<i32>
     requires digits { AllDigits tail.now.exponent.now }
     requires tens { tens < 2 ^ 65 }
     ensures some { let written = signed tail.now.negative (value tail.now.exponent.now) in
-        IfSome result (λ e. e ≡ exponent_of written (length tail.now.fraction.now) tens × IsWithin e) }
+        IfSome result (λ e.
+        e ≡ exponent_of written (length tail.now.fraction.now) tens × IsWithin e) }
     ensures none { let written = signed tail.now.negative (value tail.now.exponent.now) in
         IfNone result (IsWithin (exponent_of written (length tail.now.fraction.now) tens) → ⊥) }
 {
