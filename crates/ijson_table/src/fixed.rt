@@ -1,6 +1,6 @@
 //! The table under the fixed hash.
 
-ghost use Rattle.std.specs.Prelude.{◌≡◌, ◌≢◌, ℕ, ◌+◌, ◌<◌, ◌≤◌, ◌^◌, ◌↔◌, List, [], ◌∷◌, ◌++◌, length, slice_get, Some, None, Ok, Err, IfOk, IsOk, refl};
+ghost use Rattle.std.specs.Prelude.{◌≡◌, ◌<◌, ◌^◌, ◌↔◌, [], length, Ok, Err, IfOk, IsOk, refl};
 ghost use Rattle.std.specs.Option.{option_copied};
 ghost use Rattle.ijson_table.specs.Store.{keys_of, lookup, put};
 ghost use Rattle.ijson_table.specs.Growth.{capacity_limit};

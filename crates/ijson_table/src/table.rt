@@ -1,11 +1,8 @@
 //! A pair store whose keys are found by their hash.
 
-ghost use Rattle.std.specs.Prelude.{◌≡◌, ◌≢◌, ℕ, ◌+◌, ◌<◌, ◌≤◌, ◌^◌, ◌/◌, List, [], ◌∷◌, ◌++◌, length, slice_get, Some, None, Ok, Err, refl, set, map, vec_len, vec_capacity, IfOk, IsOk, ◌↔◌};
+ghost use Rattle.std.specs.Prelude.{◌≡◌, ◌+◌, ◌<◌, ◌≤◌, ◌^◌, ◌/◌, [], length, Some, None, Ok, Err, refl, vec_capacity, IfOk, IsOk, ◌↔◌};
 ghost use Rattle.ijson_table.specs.Store.{at, keys_of, put, swap_out, IsDistinct, IsDistinct-prop, lookup};
-ghost use Rattle.ijson_table.specs.Crowd.{home_of, place_count};
-ghost use Rattle.ijson_table.specs.Places.{IsTable};
-ghost use Rattle.ijson_table.specs.Sees.{Sees};
-ghost use Rattle.ijson_table.specs.Growth.{Grow, Shrink, capacity_limit};
+ghost use Rattle.ijson_table.specs.Growth.{capacity_limit};
 ghost use Rattle.ijson_table.specs.Placed.{placed_with_value};
 ghost use Rattle.std.specs.Option.{option_copied};
 
