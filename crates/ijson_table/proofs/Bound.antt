@@ -6,11 +6,12 @@ use Rattle.std.proofs.lemmas.List.{get_or-map, length-map}
 use Rattle.std.proofs.lemmas.List.Sums.{sum-map}
 use Rattle.std.proofs.Math.Nat.{mod-lt}
 use Rattle.ijson_table.specs.Crowd.{distance, home_of, homed, crowd, place_count}
-use Rattle.ijson_table.specs.Places.{onward, reach, resident, home_at, IsTable}
+use Rattle.ijson_table.specs.Places.{displacement, resident, home_at, IsTable}
+use Rattle.ijson_table.specs.private.Probe.{onward, Passed}
 use Rattle.ijson_table.proofs.Cases.{below_or_not}
 use Rattle.ijson_table.proofs.Round.{onward-below, onward-zero, distance-below, distance-onward, onward-distance, distance-seen, onward-onward, round, distance-round, onward-round}
 use Rattle.ijson_table.proofs.Count.{covers, nearest, greatest-at}
-use Rattle.ijson_table.proofs.Walk.{reached, reach-some, from_empty, Passed, one_place, in_list}
+use Rattle.ijson_table.proofs.Walk.{reached, displacement-some, from_empty, one_place, in_list, home-key}
 
 -- one for a key whose home is among the s + 1 places that end at h
 abbrev near : (List ℕ → ℕ) → ℕ → ℕ → ℕ → List ℕ → ℕ
@@ -20,13 +21,14 @@ homed-sum : (hash : List ℕ → ℕ) (n : ℕ) (keys : List (List ℕ)) (h s : 
 unfolding homed
 homed-sum hash n keys h s = sum-map (near hash n h s) keys
 
-near-one : (hash : List ℕ → ℕ) (n : ℕ) (keys : List (List ℕ)) (h s i : ℕ) → distance n (home_at hash n keys i) h ≤ s → near hash n h s (get_or keys i []) ≡ 1
-unfolding home_at
-near-one hash n keys h s i le = grind (arith, nat_tests)
+near-one : (hash : List ℕ → ℕ) (n : ℕ) (keys : List (List ℕ)) (h s i : ℕ) → i < length keys → distance n (home_at n (map hash keys) i) h ≤ s → near hash n h s (get_or keys i []) ≡ 1
+near-one hash n keys h s i li le =
+    let close : distance n (home_of hash n (get_or keys i [])) h ≤ s = omega (arith, le, ap (λ x. distance n x h) (home-key hash n keys i li)) in
+    grind (arith, nat_tests)
 
-pub home-below : (n : ℕ) (hash : List ℕ → ℕ) (keys : List (List ℕ)) (i : ℕ) → 0 < n → home_at hash n keys i < n
+pub home-below : (n : ℕ) (hashes : List ℕ) (i : ℕ) → 0 < n → home_at n hashes i < n
 unfolding home_at
-home-below n hash keys i some = mod-lt (hash (get_or keys i [])) some
+home-below n hashes i some = mod-lt (get_or hashes i 0) some
 
 round-whole : (n h : ℕ) → h < n → onward n h n ≡ h
 unfolding onward
@@ -38,20 +40,20 @@ crowd-at hash keys c key n size s ls =
     let here : homed hash (place_count c) keys (home_of hash (place_count c) key) s - s ≤ crowd hash keys c key = greatest-at (place_count c) (λ r. homed hash (place_count c) keys (home_of hash (place_count c) key) r - r) s (omega arith) in
     omega (arith, here, ap (λ k. homed hash k keys (home_of hash k key) s) size)
 
-module _ (hash : List ℕ → ℕ) (keys : List (List ℕ)) (places : List (Option ℕ)) (t : IsTable hash keys places) where
+module _ (hashes : List ℕ) (places : List (Option ℕ)) (t : IsTable hashes places) where
   -- the key of a resident of the run counts
-  counts : (e h s j i : ℕ) → e < length places → h < length places → reach hash keys places e ≡ 0 → distance (length places) e h ≡ s + 1
+  counts : (e h s j i : ℕ) → e < length places → h < length places → displacement hashes places e ≡ 0 → distance (length places) e h ≡ s + 1
       → j + 1 < length places → resident places (onward (length places) e (j + 1)) ≡ Some i
-      → j + 1 ≤ s + distance (length places) (home_at hash (length places) keys i) (onward (length places) e (j + 1)) + 1
-      → home_at hash (length places) keys i < length places
-      → distance (length places) (home_at hash (length places) keys i) h ≤ s
+      → j + 1 ≤ s + distance (length places) (home_at (length places) hashes i) (onward (length places) e (j + 1)) + 1
+      → home_at (length places) hashes i < length places
+      → distance (length places) (home_at (length places) hashes i) h ≤ s
   counts e h s j i le lh none way lj there close lx =
       let n : ℕ = length places in
       let q : ℕ = onward n e (j + 1) in
       let lq : q < n = onward-below n e (j + 1) le (omega arith) in
-      let x : ℕ = home_at hash n keys i in
-      let got : reach hash keys places q ≤ j + 1 = from_empty hash keys places t.ordered e le none (j + 1) lj in
-      let is : reach hash keys places q ≡ distance n x q + 1 = reach-some hash keys places q i there in
+      let x : ℕ = home_at n hashes i in
+      let got : displacement hashes places q ≤ j + 1 = from_empty hashes places t.ordered e le none (j + 1) lj in
+      let is : displacement hashes places q ≡ distance n x q + 1 = displacement-some hashes places q i there in
       let at : distance n e q ≡ j + 1 = distance-onward n e (j + 1) le lj in
       let bx : distance n e x < n = distance-below n e x le lx in
       let seen_q = distance-seen n e x q le lx lq in
@@ -61,10 +63,14 @@ module _ (hash : List ℕ → ℕ) (keys : List (List ℕ)) (places : List (Opti
         | inr a ↦ omega arith
       ]
 
+module _ (hash : List ℕ → ℕ) (keys : List (List ℕ)) (places : List (Option ℕ)) (t : IsTable (map hash keys) places) where
+  abbrev hashes : List ℕ
+  hashes = map hash keys
+
   -- from an empty place on, a run without gaps up to h, and m more: so many keys have their homes in that run up to h
-  run : (e h s m : ℕ) → e < length places → h < length places → reach hash keys places e ≡ 0 → distance (length places) e h ≡ s + 1
-      → ((j : ℕ) → 0 < j → j ≤ s + 1 → 0 < reach hash keys places (onward (length places) e j))
-      → ((j : ℕ) → j < m → j + 1 ≤ reach hash keys places (onward (length places) h j))
+  run : (e h s m : ℕ) → e < length places → h < length places → displacement hashes places e ≡ 0 → distance (length places) e h ≡ s + 1
+      → ((j : ℕ) → 0 < j → j ≤ s + 1 → 0 < displacement hashes places (onward (length places) e j))
+      → ((j : ℕ) → j < m → j + 1 ≤ displacement hashes places (onward (length places) h j))
       → m ≤ length places → m + s ≤ homed hash (length places) keys h s
   run e h s m le lh none way full far lm =
       let n : ℕ = length places in
@@ -73,62 +79,62 @@ module _ (hash : List ℕ → ℕ) (keys : List (List ℕ)) (places : List (Opti
         | inl over ↦
             let back : onward n h (n - distance n e h) ≡ e = round n e h le lh in
             let same : onward n h (n - (s + 1)) ≡ onward n h (n - distance n e h) = ap (λ d. onward n h (n - d)) (sym way) in
-            omega (arith, far (n - (s + 1)) (omega arith), ap (reach hash keys places) (same ∙ back))
+            omega (arith, far (n - (s + 1)) (omega arith), ap (displacement hashes places) (same ∙ back))
         | inr within ↦ within
       ] in
       let R : ℕ → ℕ → Type 0 = λ i j. resident places (onward n e (j + 1)) ≡ Some i in
       let ns : List ℕ = map (near hash n h s) keys in
       let all : m + s ≤ sum ns = covers (m + s) R ns
       (λ i j l lj ll a b.
-      let same : onward n e (j + 1) ≡ onward n e (l + 1) = one_place hash keys places t (onward n e (j + 1)) (onward n e (l + 1)) i (onward-below n e (j + 1) le (omega arith)) (onward-below n e (l + 1) le (omega arith)) a b in
+      let same : onward n e (j + 1) ≡ onward n e (l + 1) = one_place hashes places t (onward n e (j + 1)) (onward n e (l + 1)) i (onward-below n e (j + 1) le (omega arith)) (onward-below n e (l + 1) le (omega arith)) a b in
       omega (arith, distance-onward n e (j + 1) le (omega arith), distance-onward n e (l + 1) le (omega arith), ap (distance n e) same))
       (λ j lj.
       let q : ℕ = onward n e (j + 1) in
       let lq : q < n = onward-below n e (j + 1) le (omega arith) in
-      let height : (0 < reach hash keys places q) × (j + 1 ≤ s + reach hash keys places q) = elim (below_or_not j (s + 1)) [
-        | inl before ↦ let got : 0 < reach hash keys places q = full (j + 1) (omega arith) (omega arith) in (got, omega arith)
+      let height : (0 < displacement hashes places q) × (j + 1 ≤ s + displacement hashes places q) = elim (below_or_not j (s + 1)) [
+        | inl before ↦ let got : 0 < displacement hashes places q = full (j + 1) (omega arith) (omega arith) in (got, omega arith)
         | inr behind ↦
             let k : ℕ = j - s in
             let place : onward n h k ≡ q = ap (λ p. onward n p k) (sym (onward-distance n e h le lh)) ∙ (ap (λ d. onward n (onward n e d) k) way ∙ (onward-onward n e (s + 1) k le (omega arith) (omega arith) ∙ ap (onward n e) (omega arith))) in
-            let got : k + 1 ≤ reach hash keys places (onward n h k) = far k (omega arith) in
-            let eq : reach hash keys places (onward n h k) ≡ reach hash keys places q = ap (reach hash keys places) place in
+            let got : k + 1 ≤ displacement hashes places (onward n h k) = far k (omega arith) in
+            let eq : displacement hashes places (onward n h k) ≡ displacement hashes places q = ap (displacement hashes places) place in
             (omega arith, omega arith)
       ] in
-      let who = reached hash keys places q height.0 in
+      let who = reached hashes places q height.0 in
       let i : ℕ = who.0 in
-      let li : i < length keys = in_list hash keys places t q i lq who.1 in
-      let is : reach hash keys places q ≡ distance n (home_at hash n keys i) q + 1 = reach-some hash keys places q i who.1 in
-      let lx : home_at hash n keys i < n = home-below n (hash) keys i (omega arith) in
-      let ok : distance n (home_at hash n keys i) h ≤ s = counts e h s j i le lh none way (omega arith) who.1 (omega arith) lx in
-      (i, omega (arith, length-map keys (near hash n h s)), who.1, omega (arith, get_or-map (near hash n h s) keys i [] 0 li, near-one hash n keys h s i ok)))
+      let li : i < length keys = omega (arith, in_list hashes places t q i lq who.1, length-map keys hash) in
+      let is : displacement hashes places q ≡ distance n (home_at n hashes i) q + 1 = displacement-some hashes places q i who.1 in
+      let lx : home_at n hashes i < n = home-below n hashes i (omega arith) in
+      let ok : distance n (home_at n hashes i) h ≤ s = counts hashes places t e h s j i le lh none way (omega arith) who.1 (omega arith) lx in
+      (i, omega (arith, length-map keys (near hash n h s)), who.1, omega (arith, get_or-map (near hash n h s) keys i [] 0 li, near-one hash n keys h s i li ok)))
       in omega (arith, homed-sum hash n keys h s)
 
   -- Where a place is empty, a look-up passes no more places than the crowd of its key.
-  pub within_crowd : (c : ℕ) → length places ≡ place_count c → (key : List ℕ) (m e : ℕ) → m ≤ length places → e < length places → reach hash keys places e ≡ 0
-      → Passed hash keys places (home_of hash (length places) key) key m → m ≤ crowd hash keys c key
+  pub within_crowd : (c : ℕ) → length places ≡ place_count c → (key : List ℕ) (m e : ℕ) → m ≤ length places → e < length places → displacement hashes places e ≡ 0
+      → Passed (displacement hashes places) (length places) (home_of hash (length places) key) m → m ≤ crowd hash keys c key
   within_crowd c size key zero e lm le none passed = omega arith
   within_crowd c size key (suc m) e lm le none passed =
       let n : ℕ = length places in
       let h : ℕ = home_of hash n key in
       let lh : h < n = mod-lt (hash key) (omega arith) in
-      let f : ℕ → ℕ = λ k. reach hash keys places (onward n h (n - k)) in
+      let f : ℕ → ℕ = λ k. displacement hashes places (onward n h (n - k)) in
       let d : ℕ = distance n e h in
       let ld : d < n = distance-below n e h le lh in
-      let found = nearest d f (ap (reach hash keys places) (round n e h le lh) ∙ none) in
+      let found = nearest d f (ap (displacement hashes places) (round n e h le lh) ∙ none) in
       let w : ℕ = found.0 in
       let lw : w < n = omega (arith, found.1) in
       let e' : ℕ = onward n h (n - w) in
       let le' : e' < n = onward-below n h (n - w) lh (omega arith) in
       let way : distance n e' h ≡ w = distance-round n h w lh lw in
-      let at_home : 1 ≤ reach hash keys places h = omega (arith, passed.far 0 (omega arith), ap (reach hash keys places) (onward-zero n h lh)) in
+      let at_home : 1 ≤ displacement hashes places h = omega (arith, passed.far 0 (omega arith), ap (displacement hashes places) (onward-zero n h lh)) in
       let apart : 0 < w = elim (below_or_not 0 w) [
         | inl more ↦ more
         | inr none_left ↦
             let gone : w ≡ 0 = omega arith in let whole : n - w ≡ n = omega arith in let same : e' ≡ h = ap (onward n h) whole ∙ round-whole n h lh in
-            omega (arith, found.2, ap (reach hash keys places) same)
+            omega (arith, found.2, ap (displacement hashes places) same)
       ] in
-      let full : (j : ℕ) → 0 < j → j ≤ w - 1 + 1 → 0 < reach hash keys places (onward n e' j) = λ j pos lj.
+      let full : (j : ℕ) → 0 < j → j ≤ w - 1 + 1 → 0 < displacement hashes places (onward n e' j) = λ j pos lj.
       let to : onward n e' j ≡ onward n h (n - (w - j)) = onward-round n h w j lh lw (omega arith) in
-      omega (arith, found.3 (w - j) (omega arith), ap (reach hash keys places) to) in
+      omega (arith, found.3 (w - j) (omega arith), ap (displacement hashes places) to) in
       let many : suc m + (w - 1) ≤ homed hash n keys h (w - 1) = run e' h (w - 1) (suc m) le' lh found.2 (way ∙ omega arith) full passed.far lm in
       omega (arith, crowd-at hash keys c key n size (w - 1) (omega arith))

@@ -77,32 +77,32 @@ get_or-inside [] i d e li = absurd (omega arith)
 get_or-inside (x ∷ xs) zero d e li = refl
 get_or-inside (x ∷ xs) (suc i) d e li = get_or-inside xs i d e (omega arith)
 
-get_or-take_below : (keys : List (List ℕ)) (n i : ℕ) → i < n → get_or (take n keys) i [] ≡ get_or keys i []
-get_or-take_below keys zero i li = absurd (omega arith)
-get_or-take_below [] (suc n) i li = refl
-get_or-take_below (k ∷ ks) (suc n) zero li = refl
-get_or-take_below (k ∷ ks) (suc n) (suc i) li = get_or-take_below ks n i (omega arith)
+pub get_or-take_below : {X : Type 0} (xs : List X) (n i : ℕ) (d : X) → i < n → get_or (take n xs) i d ≡ get_or xs i d
+get_or-take_below xs zero i d li = absurd (omega arith)
+get_or-take_below [] (suc n) i d li = refl
+get_or-take_below (x ∷ xs) (suc n) zero d li = refl
+get_or-take_below (x ∷ xs) (suc n) (suc i) d li = get_or-take_below xs n i d (omega arith)
 
-pub get_or-front : (keys more : List (List ℕ)) (i : ℕ) → i < length keys → get_or (keys ++ more) i [] ≡ get_or keys i []
-get_or-front [] more i li = absurd (omega arith)
-get_or-front (k ∷ ks) more zero li = refl
-get_or-front (k ∷ ks) more (suc i) li = get_or-front ks more i (omega arith)
+pub get_or-front : {X : Type 0} (xs more : List X) (i : ℕ) (d : X) → i < length xs → get_or (xs ++ more) i d ≡ get_or xs i d
+get_or-front [] more i d li = absurd (omega arith)
+get_or-front (x ∷ xs) more zero d li = refl
+get_or-front (x ∷ xs) more (suc i) d li = get_or-front xs more i d (omega arith)
 
-pub get_or-end : (keys : List (List ℕ)) (key : List ℕ) → get_or (keys ++ key ∷ []) (length keys) [] ≡ key
-get_or-end [] key = refl
-get_or-end (k ∷ ks) key = get_or-end ks key
+pub get_or-end : {X : Type 0} (xs : List X) (x d : X) → get_or (xs ++ x ∷ []) (length xs) d ≡ x
+get_or-end [] x d = refl
+get_or-end (y ∷ ys) x d = get_or-end ys x d
 
 apart_pushed : (keys : List (List ℕ)) (key : List ℕ) → AreApart keys → ((j : ℕ) → j < length keys → get_or keys j [] ≢ key) → AreApart (keys ++ key ∷ [])
 apart_pushed keys key are_apart missing i j li lj e =
     let size : length (keys ++ key ∷ []) ≡ length keys + 1 = length-append keys (key ∷ []) in
-    let end : (k : ℕ) → k ≡ length keys → get_or (keys ++ key ∷ []) k [] ≡ key = λ k is. ap (λ n. get_or (keys ++ key ∷ []) n []) is ∙ get_or-end keys key in
+    let end : (k : ℕ) → k ≡ length keys → get_or (keys ++ key ∷ []) k [] ≡ key = λ k is. ap (λ n. get_or (keys ++ key ∷ []) n []) is ∙ get_or-end keys key [] in
     elim (below_or_not i (length keys)) [
       | inl a ↦ elim (below_or_not j (length keys)) [
-        | inl b ↦ are_apart i j a b (sym (get_or-front keys (key ∷ []) i a) ∙ (e ∙ get_or-front keys (key ∷ []) j b))
-        | inr b ↦ absurd (missing i a (sym (get_or-front keys (key ∷ []) i a) ∙ (e ∙ end j (omega arith))))
+        | inl b ↦ are_apart i j a b (sym (get_or-front keys (key ∷ []) i [] a) ∙ (e ∙ get_or-front keys (key ∷ []) j [] b))
+        | inr b ↦ absurd (missing i a (sym (get_or-front keys (key ∷ []) i [] a) ∙ (e ∙ end j (omega arith))))
       ]
       | inr a ↦ elim (below_or_not j (length keys)) [
-        | inl b ↦ absurd (missing j b (sym (get_or-front keys (key ∷ []) j b) ∙ (sym e ∙ end i (omega arith))))
+        | inl b ↦ absurd (missing j b (sym (get_or-front keys (key ∷ []) j [] b) ∙ (sym e ∙ end i (omega arith))))
         | inr b ↦ omega arith
       ]
     ]
@@ -161,7 +161,7 @@ module _ {V : Type 0} where
       ap (λ x. take last (set (pair ∷ pairs) i x)) (get_or-inside (pair ∷ pairs) last d pair (omega arith))
       ∙ sym (take-set-le last (set (pair ∷ pairs) i (get_or (pair ∷ pairs) last pair)) last (get_or (pair ∷ pairs) i pair) (omega arith))
 
-  keys-swap_out : (pairs : List (List ℕ × V)) (i : ℕ) → i < length pairs → keys_of (swap_out pairs i) ≡ take (length pairs - 1) (set (keys_of pairs) i (get_or (keys_of pairs) (length pairs - 1) []))
+  pub keys-swap_out : (pairs : List (List ℕ × V)) (i : ℕ) → i < length pairs → keys_of (swap_out pairs i) ≡ take (length pairs - 1) (set (keys_of pairs) i (get_or (keys_of pairs) (length pairs - 1) []))
   keys-swap_out [] i li = absurd (omega arith)
   keys-swap_out (pair ∷ pairs) i li =
       let last : ℕ = length (pair ∷ pairs) - 1 in
@@ -179,13 +179,13 @@ module _ {V : Type 0} where
   swapped-same pairs i li =
       let inside : i < length (keys_of pairs) = omega (arith, keys-length pairs) in
       ap (λ ks. get_or ks i []) (keys-swap_out pairs i (omega arith))
-      ∙ (get_or-take_below (set (keys_of pairs) i (get_or (keys_of pairs) (length pairs - 1) [])) (length pairs - 1) i (omega arith)
+      ∙ (get_or-take_below (set (keys_of pairs) i (get_or (keys_of pairs) (length pairs - 1) [])) (length pairs - 1) i [] (omega arith)
       ∙ get_or-set_same (keys_of pairs) i (get_or (keys_of pairs) (length pairs - 1) []) [] inside)
 
   pub swapped-other : (pairs : List (List ℕ × V)) (i j : ℕ) → i < length pairs → j + 1 < length pairs → j ≢ i → get_or (keys_of (swap_out pairs i)) j [] ≡ get_or (keys_of pairs) j []
   swapped-other pairs i j li lj ne =
       ap (λ ks. get_or ks j []) (keys-swap_out pairs i li)
-      ∙ (get_or-take_below (set (keys_of pairs) i (get_or (keys_of pairs) (length pairs - 1) [])) (length pairs - 1) j (omega arith)
+      ∙ (get_or-take_below (set (keys_of pairs) i (get_or (keys_of pairs) (length pairs - 1) [])) (length pairs - 1) j [] (omega arith)
       ∙ get_or-set_other (keys_of pairs) i j (get_or (keys_of pairs) (length pairs - 1) []) [] ne)
 
   -- which key of the list before a key of the list after it is

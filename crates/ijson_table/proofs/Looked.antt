@@ -1,14 +1,16 @@
 -- The looks of a look-up.
-use Rattle.std.proofs.Common.{◌≡◌, ◌≢◌, ℕ, zero, suc, ◌+◌, ◌<◌, ◌≤◌, inl, inr, arith, List, [], length, get_or, replicate, Option, Some, None, refl, sym, ap, subst, ◌∙◌}
+use Rattle.std.proofs.Common.{◌≡◌, ◌≢◌, ℕ, zero, suc, ◌+◌, ◌<◌, ◌≤◌, inl, inr, arith, List, length, map, get_or, replicate, Option, Some, None, refl, sym, ap, subst, ◌∙◌}
 use Rattle.std.specs.Prelude.{sum}
+use Rattle.std.proofs.lemmas.List.{length-map}
 use Rattle.std.proofs.lemmas.List.Sums.{sum_by-cons}
 use Rattle.std.proofs.Math.Nat.{mod-lt}
 use Rattle.ijson_table.specs.Crowd.{distance, home_of, place_count}
-use Rattle.ijson_table.specs.Places.{onward, reach, resident, IsTable, IsBounded}
+use Rattle.ijson_table.specs.Places.{displacement, resident, IsTable, IsBounded}
+use Rattle.ijson_table.specs.private.Probe.{onward, Passed}
 use Rattle.ijson_table.proofs.Cases.{below_or_not}
 use Rattle.ijson_table.proofs.Round.{onward-below, distance-onward}
 use Rattle.ijson_table.proofs.Count.{covers}
-use Rattle.ijson_table.proofs.Walk.{reached, reach-none, Passed, one_place, in_list}
+use Rattle.ijson_table.proofs.Walk.{reached, displacement-none, one_place, in_list}
 use Rattle.ijson_table.proofs.Bound.{within_crowd}
 
 pub ones : ℕ → List ℕ
@@ -34,51 +36,55 @@ some_resident : (o : Option ℕ) → o ≢ None → (i : ℕ) × (o ≡ Some i)
 some_resident None ne = absurd (ne refl)
 some_resident (Some i) ne = (i, refl)
 
-module _ (hash : List ℕ → ℕ) (keys : List (List ℕ)) (places : List (Option ℕ)) (t : IsTable hash keys places) where
+module _ (hashes : List ℕ) (places : List (Option ℕ)) (t : IsTable hashes places) where
   -- the residents that were passed are as many positions
-  pub within_list : (h : ℕ) (key : List ℕ) (m : ℕ) → h < length places → m ≤ length places → Passed hash keys places h key m → m ≤ length keys
-  within_list h key m lh lm passed =
+  pub within_list : (h m : ℕ) → h < length places → m ≤ length places → Passed (displacement hashes places) (length places) h m → m ≤ length hashes
+  within_list h m lh lm passed =
       let n : ℕ = length places in
       let R : ℕ → ℕ → Type 0 = λ i j. resident places (onward n h j) ≡ Some i in
-      let all : m ≤ sum (ones (length keys)) = covers m R (ones (length keys))
+      let all : m ≤ sum (ones (length hashes)) = covers m R (ones (length hashes))
       (λ i j l lj ll a b.
-      let same : onward n h j ≡ onward n h l = one_place hash keys places t (onward n h j) (onward n h l) i (onward-below n h j lh (omega arith)) (onward-below n h l lh (omega arith)) a b in
+      let same : onward n h j ≡ onward n h l = one_place hashes places t (onward n h j) (onward n h l) i (onward-below n h j lh (omega arith)) (onward-below n h l lh (omega arith)) a b in
       omega (arith, distance-onward n h j lh (omega arith), distance-onward n h l lh (omega arith), ap (distance n h) same))
       (λ j lj.
-      let who = reached hash keys places (onward n h j) (omega (arith, passed.far j lj)) in
-      let li : who.0 < length keys = in_list hash keys places t (onward n h j) who.0 (onward-below n h j lh (omega arith)) who.1 in
-      (who.0, omega (arith, length-ones (length keys), li), who.1, omega (arith, one-at (length keys) who.0 li)))
-      in omega (arith, sum-ones (length keys))
+      let who = reached hashes places (onward n h j) (omega (arith, passed.far j lj)) in
+      let li : who.0 < length hashes = in_list hashes places t (onward n h j) who.0 (onward-below n h j lh (omega arith)) who.1 in
+      (who.0, omega (arith, length-ones (length hashes), li), who.1, omega (arith, one-at (length hashes) who.0 li)))
+      in omega (arith, sum-ones (length hashes))
 
   -- a full table has as many positions as places
-  all_full : ((p : ℕ) → p < length places → resident places p ≢ None) → length places ≤ length keys
-  all_full full =
+  filled : ((p : ℕ) → p < length places → resident places p ≢ None) → length places ≤ length hashes
+  filled full =
       let R : ℕ → ℕ → Type 0 = λ i j. resident places j ≡ Some i in
-      let all : length places ≤ sum (ones (length keys)) = covers (length places) R (ones (length keys))
-      (λ i j l lj ll a b. one_place hash keys places t j l i lj ll a b)
+      let all : length places ≤ sum (ones (length hashes)) = covers (length places) R (ones (length hashes))
+      (λ i j l lj ll a b. one_place hashes places t j l i lj ll a b)
       (λ j lj.
       let who = some_resident (resident places j) (full j lj) in
-      let li : who.0 < length keys = in_list hash keys places t j who.0 lj who.1 in
-      (who.0, omega (arith, length-ones (length keys), li), who.1, omega (arith, one-at (length keys) who.0 li)))
-      in omega (arith, sum-ones (length keys))
+      let li : who.0 < length hashes = in_list hashes places t j who.0 lj who.1 in
+      (who.0, omega (arith, length-ones (length hashes), li), who.1, omega (arith, one-at (length hashes) who.0 li)))
+      in omega (arith, sum-ones (length hashes))
+
+module _ (hash : List ℕ → ℕ) (keys : List (List ℕ)) (places : List (Option ℕ)) (t : IsTable (map hash keys) places) where
+  abbrev hashes : List ℕ
+  hashes = map hash keys
 
   -- it ended at the place after those that it passed
   pub bounded_there : (c : ℕ) → length places ≡ place_count c → (key : List ℕ) (m looks : ℕ) → m < length places → looks ≡ m + 1
-      → Passed hash keys places (home_of hash (length places) key) key m → IsBounded hash keys places c key looks
+      → Passed (displacement hashes places) (length places) (home_of hash (length places) key) m → IsBounded hash keys places c key looks
   bounded_there c size key m looks lm is passed = record {
-    some_empty = λ p lp none. omega (arith, is, within_crowd hash keys places t c size key m p (omega arith) lp (reach-none hash keys places p none) passed);
-    none_empty = λ full. omega (arith, is, all_full full);
-    always = omega (arith, is, within_list (home_of hash (length places) key) key m (mod-lt (hash key) (omega arith)) (omega arith) passed);
+    some_empty = λ p lp none. omega (arith, is, within_crowd hash keys places t c size key m p (omega arith) lp (displacement-none hashes places p none) passed);
+    none_empty = λ full. omega (arith, is, filled hashes places t full, length-map keys hash);
+    always = omega (arith, is, within_list hashes places t (home_of hash (length places) key) m (mod-lt (hash key) (omega arith)) (omega arith) passed, length-map keys hash);
   }
 
   -- it passed all places
   pub bounded_all : (c : ℕ) → length places ≡ place_count c → (key : List ℕ) (looks : ℕ) → looks ≡ length places
-      → Passed hash keys places (home_of hash (length places) key) key (length places) → IsBounded hash keys places c key looks
+      → Passed (displacement hashes places) (length places) (home_of hash (length places) key) (length places) → IsBounded hash keys places c key looks
   bounded_all c size key looks is passed = elim (below_or_not 0 (length places)) [
     | inl some ↦ record {
-      some_empty = λ p lp none. omega (arith, is, within_crowd hash keys places t c size key (length places) p (omega arith) lp (reach-none hash keys places p none) passed);
-      none_empty = λ full. omega (arith, is, all_full full);
-      always = omega (arith, is, within_list (home_of hash (length places) key) key (length places) (mod-lt (hash key) some) (omega arith) passed);
+      some_empty = λ p lp none. omega (arith, is, within_crowd hash keys places t c size key (length places) p (omega arith) lp (displacement-none hashes places p none) passed);
+      none_empty = λ full. omega (arith, is, filled hashes places t full, length-map keys hash);
+      always = omega (arith, is, within_list hashes places t (home_of hash (length places) key) (length places) (mod-lt (hash key) some) (omega arith) passed, length-map keys hash);
     }
     | inr empty ↦ record {
       some_empty = λ p lp none. omega arith;
@@ -87,24 +93,14 @@ module _ (hash : List ℕ → ℕ) (keys : List (List ℕ)) (places : List (Opti
     }
   ]
 
--- one place more is passed
-pub passed_more : (hash : List ℕ → ℕ) (keys : List (List ℕ)) (places : List (Option ℕ)) (h : ℕ) (key : List ℕ) (m i : ℕ) → Passed hash keys places h key m
-    → resident places (onward (length places) h m) ≡ Some i → m + 1 ≤ reach hash keys places (onward (length places) h m) → get_or keys i [] ≢ key
-    → Passed hash keys places h key (m + 1)
-passed_more hash keys places h key m i passed there far other = record {
+-- a probe has passed no place, or one more
+pub passed_none : (displacements : ℕ → ℕ) (n h : ℕ) → Passed displacements n h 0
+passed_none displacements n h = record { far = λ j lj. absurd (omega arith) }
+
+pub passed_more : (displacements : ℕ → ℕ) (n h m : ℕ) → Passed displacements n h m → m + 1 ≤ displacements (onward n h m) → Passed displacements n h (m + 1)
+passed_more displacements n h m passed far = record {
   far = λ j lj. elim (below_or_not j m) [
     | inl less ↦ passed.far j less
-    | inr last ↦ let same : m ≡ j = omega arith in subst (λ k. k + 1 ≤ reach hash keys places (onward (length places) h k)) same far
-  ];
-  other = λ j k lj at. elim (below_or_not j m) [
-    | inl less ↦ passed.other j k less at
-    | inr last ↦ λ e.
-        let same : m ≡ j = omega arith in
-        let who : Some i ≡ Some k = sym there ∙ (ap (λ x. resident places (onward (length places) h x)) same ∙ at) in
-        let it : i ≡ k = cc in
-        other (ap (λ x. get_or keys x []) it ∙ e)
+    | inr last ↦ let same : m ≡ j = omega arith in subst (λ k. k + 1 ≤ displacements (onward n h k)) same far
   ];
 }
-
-pub passed_none : (hash : List ℕ → ℕ) (keys : List (List ℕ)) (places : List (Option ℕ)) (h : ℕ) (key : List ℕ) → Passed hash keys places h key 0
-passed_none hash keys places h key = record { far = λ j lj. absurd (omega arith); other = λ j i lj. absurd (omega arith) }

@@ -5,16 +5,15 @@ use Rattle.std.proofs.lemmas.Bool.Decides.{nat_tests}
 use Rattle.std.proofs.lemmas.List.{length-set}
 use Rattle.std.proofs.lemmas.List.Sums.{sum_by-set}
 use Rattle.ijson_table.specs.Crowd.{distance, home_of}
-use Rattle.ijson_table.specs.Store.{keys_of}
-use Rattle.ijson_table.proofs.Keys.{key_at}
-use Rattle.ijson_table.specs.Moving.{one_if, below, Kept, MayStand, HasEmpty}
-use Rattle.ijson_table.specs.Places.{after, onward, reach, resident, home_at, times}
+use Rattle.ijson_table.specs.private.Holds.{one_if, Holds, MayStand, HasEmpty}
+use Rattle.ijson_table.specs.Places.{after, displacement, resident, home_at, times, below}
+use Rattle.ijson_table.specs.private.Probe.{onward, Passed}
 use Rattle.ijson_table.proofs.Cases.{below_or_not}
 use Rattle.ijson_table.proofs.Round.{after-below, after-injective, onward-below, after-onward, distance-below, distance-onward, onward-distance}
 use Rattle.ijson_table.proofs.Count.{covers}
 use Rattle.ijson_table.proofs.Residents.{times-some, stands_once}
-use Rattle.ijson_table.proofs.Walk.{reach-none}
-use Rattle.ijson_table.proofs.Shifts.{put_down, taken_up}
+use Rattle.ijson_table.proofs.Walk.{displacement-none}
+use Rattle.ijson_table.proofs.Moves.{put_down, taken_up}
 use Rattle.ijson_table.proofs.Looked.{ones, sum-ones, one-at, length-ones}
 
 later : (i : ℕ) (places : List (Option ℕ)) → ((p : ℕ) → p < length places → (j : ℕ) × (resident places p ≡ Some j)) → (p : ℕ) → p < length (Some i ∷ places) → (j : ℕ) × (resident (Some i ∷ places) p ≡ Some j)
@@ -30,8 +29,8 @@ empty_or_full (Some i ∷ places) = elim (empty_or_full places) [
   | inr full ↦ inr (later i places full)
 ]
 
-pub held_below : (hash : List ℕ → ℕ) (keys : List (List ℕ)) (count : ℕ) (hand : Option ℕ) (places : List (Option ℕ)) → ((i : ℕ) → times i places + one_if i hand ≡ (if ltb i count then 1 else 0)) → (p i : ℕ) → p < length places → resident places p ≡ Some i → i < count
-held_below hash keys count hand places placed p i lp e =
+pub held_below : (count : ℕ) (pending : Option ℕ) (places : List (Option ℕ)) → ((i : ℕ) → times i places + one_if i pending ≡ (if ltb i count then 1 else 0)) → (p i : ℕ) → p < length places → resident places p ≡ Some i → i < count
+held_below count pending places placed p i lp e =
     let some = times-some i places p lp e in
     grind (arith, nat_tests, placed i, some)
 
@@ -54,83 +53,62 @@ some_empty places count k few lk none fits = elim (empty_or_full places) [
       in absurd (omega (arith, all, sum_by-set (λ x. x) (ones count) k 0 0 (omega (arith, length-ones count, lk)), one-at count k lk, sum-ones count, fits))
 ]
 
--- a walk from home h that was led on m places
-pub record Led (hash : List ℕ → ℕ) (keys : List (List ℕ)) (places : List (Option ℕ)) (h m : ℕ) : Type 0 where
-  pub far : (j : ℕ) → j < m → j + 1 ≤ reach hash keys places (onward (length places) h j)
-
-pub led_more : (hash : List ℕ → ℕ) (keys : List (List ℕ)) (places : List (Option ℕ)) (h m : ℕ) → Led hash keys places h m → m + 1 ≤ reach hash keys places (onward (length places) h m) → Led hash keys places h (m + 1)
-led_more hash keys places h m led far = record {
-  far = λ j lj. elim (below_or_not j m) [
-    | inl less ↦ led.far j less
-    | inr last ↦ let same : m ≡ j = omega arith in subst (λ k. k + 1 ≤ reach hash keys places (onward (length places) h k)) same far
-  ];
-}
-
-pub led_none : (hash : List ℕ → ℕ) (keys : List (List ℕ)) (places : List (Option ℕ)) (h : ℕ) → Led hash keys places h 0
-led_none hash keys places h = record { far = λ j lj. absurd (omega arith) }
-
 -- where the walk ends, the position may stand
-pub may_end : (hash : List ℕ → ℕ) (keys : List (List ℕ)) (places : List (Option ℕ)) (i m : ℕ) → m < length places → home_at hash (length places) keys i < length places
-    → Led hash keys places (home_at hash (length places) keys i) m
-    → reach hash keys places (onward (length places) (home_at hash (length places) keys i) m) ≤ m
-    → MayStand hash keys places i (onward (length places) (home_at hash (length places) keys i) m)
-may_end hash keys places i m lm lh led stop =
+pub may_end : (hashes : List ℕ) (places : List (Option ℕ)) (i m : ℕ) → m < length places → home_at (length places) hashes i < length places
+    → Passed (displacement hashes places) (length places) (home_at (length places) hashes i) m
+    → displacement hashes places (onward (length places) (home_at (length places) hashes i) m) ≤ m
+    → MayStand hashes places i (onward (length places) (home_at (length places) hashes i) m)
+may_end hashes places i m lm lh led stop =
     let n : ℕ = length places in
-    let h : ℕ = home_at hash n keys i in
+    let h : ℕ = home_at n hashes i in
     let is : distance n h (onward n h m) ≡ m = distance-onward n h m lh lm in
     record {
+      within = onward-below n h m lh (omega arith);
       further = omega arith;
       led_to = λ q lq at. elim (below_or_not 0 m) [
         | inl pos ↦
             let k : ℕ = m - 1 in
             let back : after n (onward n h k) ≡ onward n h m = after-onward n h k lh (omega arith) ∙ ap (onward n h) (omega arith) in
             let same : q ≡ onward n h k = after-injective n q (onward n h k) lq (onward-below n h k lh (omega arith)) (at ∙ sym back) in
-            omega (arith, led.far k (omega arith), ap (reach hash keys places) same)
+            omega (arith, led.far k (omega arith), ap (displacement hashes places) same)
         | inr start ↦ omega arith
       ];
     }
 
--- the walk does not go round, where a place is empty
-pub not_round : (hash : List ℕ → ℕ) (keys : List (List ℕ)) (places : List (Option ℕ)) (h e : ℕ) → h < length places → e < length places → resident places e ≡ None → Led hash keys places h (length places) → ⊥
-not_round hash keys places h e lh le none led =
-    let n : ℕ = length places in
+-- a probe does not go round, where a place is empty
+pub not_round : (displacements : ℕ → ℕ) (n h e : ℕ) → h < n → e < n → displacements e ≡ 0 → Passed displacements n h n → ⊥
+not_round displacements n h e lh le none passed =
     let there : onward n h (distance n h e) ≡ e = onward-distance n h e lh le in
-    let far = led.far (distance n h e) (distance-below n h e lh le) in
-    omega (arith, far, ap (reach hash keys places) there, reach-none hash keys places e none)
-
--- how often each position is to stand when another one was put down
-abbrev pub wanted : List (Option ℕ) → ℕ → ℕ → ℕ
-wanted places k i = times i places + one_if i (Some k)
+    let far = passed.far (distance n h e) (distance-below n h e lh le) in
+    omega (arith, far, ap displacements there, none)
 
 -- what the shift keeps from turn to turn
-pub record Shifting (hash : List ℕ → ℕ) (keys : List (List ℕ)) (wanted : ℕ → ℕ) (hand place step : ℕ) (places : List (Option ℕ)) : Type 0 where
-  pub held : Kept hash keys wanted (Some hand) places
-  pub within : place < length places
-  pub may : MayStand hash keys places hand place
+pub record Shifting (hashes : List ℕ) (wanted : ℕ → ℕ) (pending place step : ℕ) (places : List (Option ℕ)) : Type 0 where
+  pub held : Holds hashes wanted (Some pending) places
+  pub may : MayStand hashes places pending place
   pub ahead : (e : ℕ) × (e < length places) × (resident places e ≡ None) × (step + distance (length places) place e < length places)
 
 distance-next : (n p e : ℕ) → p < n → e < n → p ≢ e → distance n (after n p) e + 1 ≡ distance n p e
 unfolding distance after
 distance-next n p e lp le ne = grind (arith, nat_tests)
 
-pub shift_more : (hash : List ℕ → ℕ) (keys : List (List ℕ)) (wanted : ℕ → ℕ) (hand place step next : ℕ) (places : List (Option ℕ)) → Shifting hash keys wanted hand place step places
-    → resident places place ≡ Some next → Shifting hash keys wanted next (after (length places) place) (step + 1) (set places place (Some hand))
-shift_more hash keys wanted hand place step next places s there =
+pub shift_more : (hashes : List ℕ) (wanted : ℕ → ℕ) (pending place step next : ℕ) (places : List (Option ℕ)) → Shifting hashes wanted pending place step places
+    → resident places place ≡ Some next → Shifting hashes wanted next (after (length places) place) (step + 1) (set places place (Some pending))
+shift_more hashes wanted pending place step next places s there =
     let n : ℕ = length places in
     let e : ℕ = s.ahead.0 in
-    let size : length (set places place (Some hand)) ≡ n = length-set places place (Some hand) in
+    let size : length (set places place (Some pending)) ≡ n = length-set places place (Some pending) in
     let apart : e ≢ place = λ same. let bad : ◌≡◌ {A = Option ℕ} (Some next) None = sym there ∙ (ap (resident places) (sym same) ∙ s.ahead.2) in cc in
-    let empty : reach hash keys places e ≡ 0 = reach-none hash keys places e s.ahead.2 in
-    let put : Kept hash keys wanted (resident places place) (set places place (Some hand)) = put_down hash keys wanted places hand place s.within s.held s.may in
+    let empty : displacement hashes places e ≡ 0 = displacement-none hashes places e s.ahead.2 in
+    let put : Holds hashes wanted (resident places place) (set places place (Some pending)) = put_down hashes wanted places pending place s.may.within s.held s.may in
     record {
-      held = subst (λ o. Kept hash keys wanted o (set places place (Some hand))) there put;
-      within = omega (arith, after-below n place s.within, size);
-      may = taken_up hash keys places hand next place e s.within s.ahead.1 s.held.ordered empty there s.may.further;
+      held = subst (λ o. Holds hashes wanted o (set places place (Some pending))) there put;
+      may = taken_up hashes places pending next place e s.may.within s.ahead.1 s.held.ordered empty there s.may.further;
       ahead = (
         e,
         omega (arith, s.ahead.1, size),
-        get_or-set_other places place e (Some hand) None apart ∙ s.ahead.2,
-        omega (arith, distance-next n place e s.within s.ahead.1 (λ x. apart (sym x)), s.ahead.3, ap (λ k. distance k (after n place) e) size, size),
+        get_or-set_other places place e (Some pending) None apart ∙ s.ahead.2,
+        omega (arith, distance-next n place e s.may.within s.ahead.1 (λ x. apart (sym x)), s.ahead.3, ap (λ k. distance k (after n place) e) size, size),
       );
     }
 
@@ -141,11 +119,6 @@ distance-on n h p le = grind (arith, nat_tests)
 pub distance-over : (n h p : ℕ) → p < h → h < n → n - (h - p) ≡ distance n h p
 unfolding distance
 distance-over n h p lt lh = grind (arith, nat_tests)
-
--- the home of the key of a pair
-pub home-pair : {V : Type 0} (hash : List ℕ → ℕ) (n : ℕ) (pairs : List (List ℕ × V)) (i : ℕ) (pair : List ℕ × V) → i < length pairs → home_of hash n (get_or pairs i pair).0 ≡ home_at hash n (keys_of pairs) i
-unfolding home_at
-home-pair hash n pairs i pair li = ap (home_of hash n) (sym (key_at pairs i pair li))
 
 pub eqb-self : (n : ℕ) → eqb n n ≡ true
 eqb-self n = grind (arith, nat_tests)

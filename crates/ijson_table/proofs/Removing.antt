@@ -1,74 +1,75 @@
 -- What a removal leaves.
-use Rattle.std.proofs.Common.{◌≡◌, ◌≢◌, ℕ, ◌+◌, ◌<◌, ◌≤◌, inl, inr, arith, List, [], ◌∷◌, ◌++◌, length, get_or, set, Option, Some, None, refl, sym, ap, ◌∙◌}
+use Rattle.std.proofs.Common.{◌≡◌, ◌≢◌, ℕ, ◌+◌, ◌%◌, ◌<◌, ◌≤◌, inl, inr, arith, List, [], ◌∷◌, ◌++◌, length, get_or, set, Option, Some, None, refl, sym, ap, ◌∙◌}
 use Rattle.std.proofs.lemmas.Bool.Decides.{nat_tests}
 use Rattle.std.proofs.lemmas.List.{length-set}
-use Rattle.ijson_table.specs.Crowd.{distance, home_of}
-use Rattle.ijson_table.specs.Store.{keys_of, swap_out}
-use Rattle.ijson_table.specs.Moving.{one_if, Holding}
-use Rattle.ijson_table.specs.Places.{after, reach, resident, home_at, times, IsTable, strides}
+use Rattle.ijson_table.specs.Crowd.{distance}
+use Rattle.std.specs.List.{swap_remove}
+use Rattle.ijson_table.specs.private.Holds.{one_if, Holds}
+use Rattle.ijson_table.specs.Places.{after, displacement, resident, home_at, times, IsTable, displaced, below}
 use Rattle.ijson_table.proofs.Cases.{below_or_not, same_or_not}
 use Rattle.ijson_table.proofs.Round.{after-below}
 use Rattle.ijson_table.proofs.Residents.{stands, stands_once, one_if-same, one_if-other, times-set, times-some}
-use Rattle.ijson_table.proofs.Keys.{length-swap_out, swapped-same, swapped-other, get_or-front}
+use Rattle.ijson_table.proofs.SwapRemove.{length-swap_remove, swap_remove-same, swap_remove-other}
+use Rattle.ijson_table.proofs.Keys.{get_or-front}
 use Rattle.ijson_table.proofs.Placing.{held_below}
-use Rattle.ijson_table.proofs.Shifts.{reach-set_some, reach-set_other}
-use Rattle.ijson_table.proofs.Walk.{reach-some, reach-none}
+use Rattle.ijson_table.proofs.Moves.{displacement-set_some, displacement-set_other}
+use Rattle.ijson_table.proofs.Walk.{displacement-some, displacement-none}
 
--- a table is one of all positions, with none in hand
-pub holding-table : (hash : List ℕ → ℕ) (keys : List (List ℕ)) (places : List (Option ℕ)) → IsTable hash keys places → Holding hash keys (length keys) None places
-holding-table hash keys places t = record { ordered = t.ordered; placed = λ i. omega (arith, t.placed i) }
+-- a table is one of all positions, with none in pending
+pub holds-table : (hashes : List ℕ) (places : List (Option ℕ)) → IsTable hashes places → Holds hashes (below (length hashes)) None places
+holds-table hashes places t = record { ordered = t.ordered; placed = λ i. omega (arith, t.placed i) }
 
-pub table-holding : (hash : List ℕ → ℕ) (keys : List (List ℕ)) (count : ℕ) (places : List (Option ℕ)) → count ≡ length keys → Holding hash keys count None places → IsTable hash keys places
-table-holding hash keys count places is held = record { ordered = held.ordered; placed = λ i. grind (arith, nat_tests, held.placed i, is) }
+pub table-holds : (hashes : List ℕ) (count : ℕ) (places : List (Option ℕ)) → count ≡ length hashes → Holds hashes (below count) None places → IsTable hashes places
+table-holds hashes count places is held = record { ordered = held.ordered; placed = λ i. grind (arith, nat_tests, held.placed i, is) }
 
--- each position but the one in hand stands somewhere
-pub stands_still : (hash : List ℕ → ℕ) (keys : List (List ℕ)) (count gone : ℕ) (places : List (Option ℕ)) → Holding hash keys count (Some gone) places → (i : ℕ) → i < count → i ≢ gone → (p : ℕ) × (p < length places) × (resident places p ≡ Some i)
-stands_still hash keys count gone places held i li ne =
+-- each position but the one in pending stands somewhere
+pub stands_still : (hashes : List ℕ) (count gone : ℕ) (places : List (Option ℕ)) → Holds hashes (below count) (Some gone) places → (i : ℕ) → i < count → i ≢ gone → (p : ℕ) × (p < length places) × (resident places p ≡ Some i)
+stands_still hashes count gone places held i li ne =
     let none : one_if i (Some gone) ≡ 0 = one_if-other i gone ne in
     let one : times i places ≡ 1 = grind (arith, nat_tests, held.placed i, none) in
     stands i places (omega arith)
 
--- a resident is not the one in hand
-pub not_in_hand : (hash : List ℕ → ℕ) (keys : List (List ℕ)) (count gone : ℕ) (places : List (Option ℕ)) → Holding hash keys count (Some gone) places → (p k : ℕ) → p < length places → resident places p ≡ Some k → k ≢ gone
-not_in_hand hash keys count gone places held p k lp e = λ same.
+-- a resident is not the one in pending
+pub not_pending : (hashes : List ℕ) (count gone : ℕ) (places : List (Option ℕ)) → Holds hashes (below count) (Some gone) places → (p k : ℕ) → p < length places → resident places p ≡ Some k → k ≢ gone
+not_pending hashes count gone places held p k lp e = λ same.
     let one : one_if k (Some gone) ≡ 1 = ap (λ x. one_if k (Some x)) (sym same) ∙ one_if-same k in
     let some = times-some k places p lp e in
     grind (arith, nat_tests, held.placed k, one, some)
 
 -- no position stands at two places
-pub held_once : (hash : List ℕ → ℕ) (keys : List (List ℕ)) (count : ℕ) (hand : Option ℕ) (places : List (Option ℕ)) → Holding hash keys count hand places → (i : ℕ) → times i places ≤ 1
-held_once hash keys count hand places held i = grind (arith, nat_tests, held.placed i)
+pub held_once : (hashes : List ℕ) (count : ℕ) (pending : Option ℕ) (places : List (Option ℕ)) → Holds hashes (below count) pending places → (i : ℕ) → times i places ≤ 1
+held_once hashes count pending places held i = grind (arith, nat_tests, held.placed i)
 
-strides-as : (hash : List ℕ → ℕ) (n : ℕ) (keys keys' : List (List ℕ)) (p : ℕ) (o : Option ℕ) → ((i : ℕ) → o ≡ Some i → get_or keys' i [] ≡ get_or keys i []) → strides hash n keys' p o ≡ strides hash n keys p o
+displaced-as : (n : ℕ) (hashes hashes' : List ℕ) (p : ℕ) (o : Option ℕ) → ((i : ℕ) → o ≡ Some i → get_or hashes' i 0 ≡ get_or hashes i 0) → displaced n hashes' p o ≡ displaced n hashes p o
 unfolding home_at
-strides-as hash n keys keys' p None same = refl
-strides-as hash n keys keys' p (Some i) same = ap (λ k. distance n (home_of hash n k) p + 1) (same i refl)
+displaced-as n hashes hashes' p None same = refl
+displaced-as n hashes hashes' p (Some i) same = ap (λ x. distance n (x % n) p + 1) (same i refl)
 
-pub reach-as : (hash : List ℕ → ℕ) (keys keys' : List (List ℕ)) (places : List (Option ℕ)) (p : ℕ) → ((i : ℕ) → resident places p ≡ Some i → get_or keys' i [] ≡ get_or keys i []) → reach hash keys' places p ≡ reach hash keys places p
-unfolding reach
-reach-as hash keys keys' places p same = strides-as hash (length places) keys keys' p (resident places p) same
+pub displacement-as : (hashes hashes' : List ℕ) (places : List (Option ℕ)) (p : ℕ) → ((i : ℕ) → resident places p ≡ Some i → get_or hashes' i 0 ≡ get_or hashes i 0) → displacement hashes' places p ≡ displacement hashes places p
+unfolding displacement
+displacement-as hashes hashes' places p same = displaced-as (length places) hashes hashes' p (resident places p) same
 
--- other keys where nothing refers to them
-pub other_keys : (hash : List ℕ → ℕ) (keys keys' : List (List ℕ)) (count : ℕ) (hand : Option ℕ) (places : List (Option ℕ)) → Holding hash keys count hand places
-    → ((p i : ℕ) → p < length places → resident places p ≡ Some i → get_or keys' i [] ≡ get_or keys i []) → Holding hash keys' count hand places
-other_keys hash keys keys' count hand places held same = record {
-  ordered = λ p lp. omega (arith, held.ordered p lp, reach-as hash keys keys' places p (λ i. same p i lp), reach-as hash keys keys' places (after (length places) p) (λ i. same (after (length places) p) i (after-below (length places) p lp)));
+-- other hashes where nothing refers to them
+pub other_hashes : (hashes hashes' : List ℕ) (count : ℕ) (pending : Option ℕ) (places : List (Option ℕ)) → Holds hashes (below count) pending places
+    → ((p i : ℕ) → p < length places → resident places p ≡ Some i → get_or hashes' i 0 ≡ get_or hashes i 0) → Holds hashes' (below count) pending places
+other_hashes hashes hashes' count pending places held same = record {
+  ordered = λ p lp. omega (arith, held.ordered p lp, displacement-as hashes hashes' places p (λ i. same p i lp), displacement-as hashes hashes' places (after (length places) p) (λ i. same (after (length places) p) i (after-below (length places) p lp)));
   placed = held.placed;
 }
 
-home-as : (hash : List ℕ → ℕ) (n : ℕ) (keys keys' : List (List ℕ)) (i j : ℕ) → get_or keys' i [] ≡ get_or keys j [] → home_at hash n keys' i ≡ home_at hash n keys j
+home-as : (n : ℕ) (hashes hashes' : List ℕ) (i j : ℕ) → get_or hashes' i 0 ≡ get_or hashes j 0 → home_at n hashes' i ≡ home_at n hashes j
 unfolding home_at
-home-as hash n keys keys' i j e = ap (home_of hash n) e
+home-as n hashes hashes' i j e = ap (λ x. x % n) e
 
-module _ {V : Type 0} (hash : List ℕ → ℕ) (pairs : List (List ℕ × V)) (places : List (Option ℕ)) where
+module _ (hashes : List ℕ) (places : List (Option ℕ)) where
   -- the last pair was taken out
-  pub last_out : (i : ℕ) → i + 1 ≡ length pairs → Holding hash (keys_of pairs) (length pairs) (Some i) places → IsTable hash (keys_of (swap_out pairs i)) places
+  pub last_out : (i : ℕ) → i + 1 ≡ length hashes → Holds hashes (below (length hashes)) (Some i) places → IsTable (swap_remove hashes i 0) places
   last_out i last held =
-      let size : length (keys_of (swap_out pairs i)) + 1 ≡ length pairs = length-swap_out pairs i (omega arith) in
+      let size : length (swap_remove hashes i 0) + 1 ≡ length hashes = length-swap_remove hashes i (omega arith) in
       let apart : (p k : ℕ) → p < length places → resident places p ≡ Some k → k < i = λ p k lp e.
-      omega (arith, last, held_below hash (keys_of pairs) (length pairs) (Some i) places held.placed p k lp e, not_in_hand hash (keys_of pairs) (length pairs) i places held p k lp e) in
-      let now : Holding hash (keys_of (swap_out pairs i)) (length pairs) (Some i) places = other_keys hash (keys_of pairs) (keys_of (swap_out pairs i)) (length pairs) (Some i) places held
-      (λ p k lp e. let lt = apart p k lp e in swapped-other pairs i k (omega arith) (omega arith) (λ same. omega arith)) in
+      omega (arith, last, held_below (length hashes) (Some i) places held.placed p k lp e, not_pending hashes (length hashes) i places held p k lp e) in
+      let now : Holds (swap_remove hashes i 0) (below (length hashes)) (Some i) places = other_hashes hashes (swap_remove hashes i 0) (length hashes) (Some i) places held
+      (λ p k lp e. let lt = apart p k lp e in swap_remove-other hashes i k (omega arith) (omega arith) (λ same. omega arith)) in
       record {
         ordered = now.ordered;
         placed = λ k. elim (same_or_not k i) [
@@ -78,34 +79,33 @@ module _ {V : Type 0} (hash : List ℕ → ℕ) (pairs : List (List ℕ × V)) (
       }
 
   -- another was taken out, and the last one, which stands at p, gets its number
-  pub renamed : (i p last : ℕ) → last + 1 ≡ length pairs → i < last → p < length places → resident places p ≡ Some last → Holding hash (keys_of pairs) (length pairs) (Some i) places → IsTable hash (keys_of (swap_out pairs i)) (set places p (Some i))
+  pub renamed : (i p last : ℕ) → last + 1 ≡ length hashes → i < last → p < length places → resident places p ≡ Some last → Holds hashes (below (length hashes)) (Some i) places → IsTable (swap_remove hashes i 0) (set places p (Some i))
   renamed i p last is li lp there held =
-      let keys : List (List ℕ) = keys_of pairs in
-      let keys' : List (List ℕ) = keys_of (swap_out pairs i) in
+      let hashes' : List ℕ = swap_remove hashes i 0 in
       let places' : List (Option ℕ) = set places p (Some i) in
       let n : ℕ = length places in
       let fits : length places' ≡ n = length-set places p (Some i) in
-      let size : length keys' + 1 ≡ length pairs = length-swap_out pairs i (omega arith) in
-      let moved : get_or keys' i [] ≡ get_or keys last [] = swapped-same pairs i (omega arith) ∙ ap (λ x. get_or keys x []) (omega arith) in
+      let size : length hashes' + 1 ≡ length hashes = length-swap_remove hashes i (omega arith) in
+      let moved : get_or hashes' i 0 ≡ get_or hashes last 0 = swap_remove-same hashes i (omega arith) ∙ ap (λ x. get_or hashes x 0) (omega arith) in
       let one_last : times last places ≡ 1 = let none : one_if last (Some i) ≡ 0 = one_if-other last i (λ e. omega arith) in grind (arith, nat_tests, held.placed last, none) in
-      let reached : (q : ℕ) → q < n → reach hash keys' places' q ≡ reach hash keys places q = λ q lq. elim (same_or_not q p) [
+      let reached : (q : ℕ) → q < n → displacement hashes' places' q ≡ displacement hashes places q = λ q lq. elim (same_or_not q p) [
         | inl self ↦
-            let a : reach hash keys' places' p ≡ distance n (home_at hash n keys' i) p + 1 = reach-set_some hash keys' places p i lp in
-            let b : reach hash keys places p ≡ distance n (home_at hash n keys last) p + 1 = reach-some hash keys places p last there in
-            let c : home_at hash n keys' i ≡ home_at hash n keys last = home-as hash n keys keys' i last moved in
-            omega (arith, a, b, ap (λ x. distance n x p) c, ap (reach hash keys' places') self, ap (reach hash keys places) self)
+            let a : displacement hashes' places' p ≡ distance n (home_at n hashes' i) p + 1 = displacement-set_some hashes' places p i lp in
+            let b : displacement hashes places p ≡ distance n (home_at n hashes last) p + 1 = displacement-some hashes places p last there in
+            let c : home_at n hashes' i ≡ home_at n hashes last = home-as n hashes hashes' i last moved in
+            omega (arith, a, b, ap (λ x. distance n x p) c, ap (displacement hashes' places') self, ap (displacement hashes places) self)
         | inr other ↦
-            reach-set_other hash keys' places p q (Some i) other ∙ reach-as hash keys keys' places q (λ k e.
-            let below = held_below hash keys (length pairs) (Some i) places held.placed q k lq e in
-            let not_i : k ≢ i = not_in_hand hash keys (length pairs) i places held q k lq e in
+            displacement-set_other hashes' places p q (Some i) other ∙ displacement-as hashes hashes' places q (λ k e.
+            let below = held_below (length hashes) (Some i) places held.placed q k lq e in
+            let not_i : k ≢ i = not_pending hashes (length hashes) i places held q k lq e in
             let not_last : k ≢ last = λ same. other (stands_once last places q p (omega arith) lq lp (e ∙ ap Some same) there) in
-            swapped-other pairs i k (omega arith) (omega arith) not_i)
+            swap_remove-other hashes i k (omega arith) (omega arith) not_i)
       ] in
       record {
         ordered = λ q lq.
             let lq' : q < n = omega arith in
             let up : after n q < n = after-below n q lq' in
-            omega (arith, held.ordered q lq', reached q lq', reached (after n q) up, ap (λ s. reach hash keys' places' (after s q)) fits);
+            omega (arith, held.ordered q lq', reached q lq', reached (after n q) up, ap (λ s. displacement hashes' places' (after s q)) fits);
         placed = λ k.
             let moves = times-set k places p (Some i) lp in
             let was = ap (one_if k) there in
@@ -137,13 +137,13 @@ times-none i places empty = elim (below_or_not 0 (times i places)) [
 ]
 
 -- empty places are a table of nothing
-pub holding_none : (hash : List ℕ → ℕ) (keys : List (List ℕ)) (places : List (Option ℕ)) → ((p : ℕ) → p < length places → resident places p ≡ None) → Holding hash keys 0 None places
-holding_none hash keys places empty = record {
-  ordered = λ p lp. let up = after-below (length places) p lp in omega (arith, reach-none hash keys places (after (length places) p) (empty (after (length places) p) up));
+pub holds_none : (hashes : List ℕ) (places : List (Option ℕ)) → ((p : ℕ) → p < length places → resident places p ≡ None) → Holds hashes (below 0) None places
+holds_none hashes places empty = record {
+  ordered = λ p lp. let up = after-below (length places) p lp in omega (arith, displacement-none hashes places (after (length places) p) (empty (after (length places) p) up));
   placed = λ i. grind (arith, nat_tests, times-none i places empty);
 }
 
--- a new key behind the others
-pub holding_pushed : (hash : List ℕ → ℕ) (keys : List (List ℕ)) (key : List ℕ) (places : List (Option ℕ)) → IsTable hash keys places → Holding hash (keys ++ key ∷ []) (length keys) None places
-holding_pushed hash keys key places t = other_keys hash keys (keys ++ key ∷ []) (length keys) None places (holding-table hash keys places t)
-    (λ p i lp e. get_or-front keys (key ∷ []) i (held_below hash keys (length keys) None places (holding-table hash keys places t).placed p i lp e))
+-- one hash more behind the others
+pub holds_pushed : (hashes : List ℕ) (hash : ℕ) (places : List (Option ℕ)) → IsTable hashes places → Holds (hashes ++ hash ∷ []) (below (length hashes)) None places
+holds_pushed hashes hash places t = other_hashes hashes (hashes ++ hash ∷ []) (length hashes) None places (holds-table hashes places t)
+    (λ p i lp e. get_or-front hashes (hash ∷ []) i 0 (held_below (length hashes) None places (holds-table hashes places t).placed p i lp e))

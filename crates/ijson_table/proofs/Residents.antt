@@ -3,7 +3,7 @@ use Rattle.std.proofs.Common.{◌≡◌, ◌≢◌, ℕ, suc, ◌+◌, ◌<◌, 
 use Rattle.std.proofs.lemmas.List.{length-set}
 use Rattle.std.proofs.lemmas.Bool.Decides.{nat_tests}
 use Rattle.std.proofs.lemmas.List.Sums.{sum_by-cons, sum_by-set, get_or-le-sum_by}
-use Rattle.ijson_table.specs.Moving.{one_if}
+use Rattle.ijson_table.specs.private.Holds.{one_if}
 use Rattle.ijson_table.specs.Places.{resident, holds, times}
 
 holds-same : (i : ℕ) → holds i (Some i) ≡ true
@@ -29,11 +29,11 @@ pub times-some : (i : ℕ) (places : List (Option ℕ)) (p : ℕ) → p < length
 unfolding times
 times-some i places p h e = omega (arith, get_or-le-sum_by (one_if i) places p None h, one_if-at i (resident places p) e)
 
-held : (i : ℕ) (o : Option ℕ) → 0 < one_if i o → o ≡ Some i
+pub held : (i : ℕ) (o : Option ℕ) → 0 < one_if i o → o ≡ Some i
 held i None h = absurd (omega (arith, h))
 held i (Some j) h = ap Some (grind (arith, nat_tests))
 
-times-cons : (i : ℕ) (o : Option ℕ) (places : List (Option ℕ)) → times i (o ∷ places) ≡ one_if i o + times i places
+pub times-cons : (i : ℕ) (o : Option ℕ) (places : List (Option ℕ)) → times i (o ∷ places) ≡ one_if i o + times i places
 unfolding times
 times-cons i o places = sum_by-cons (one_if i) o places
 

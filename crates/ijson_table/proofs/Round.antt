@@ -2,7 +2,8 @@
 use Rattle.std.proofs.Common.{◌≡◌, ℕ, ◌+◌, ◌-◌, ◌<◌, ◌≤◌, ◌⊎◌, arith}
 use Rattle.std.proofs.lemmas.Bool.Decides.{nat_tests}
 use Rattle.ijson_table.specs.Crowd.{distance}
-use Rattle.ijson_table.specs.Places.{after, onward}
+use Rattle.ijson_table.specs.Places.{after}
+use Rattle.ijson_table.specs.private.Probe.{onward}
 
 pub after-below : (n p : ℕ) → p < n → after n p < n
 unfolding after

@@ -2,13 +2,10 @@ pub mod Store
 pub mod Growth
 pub mod Steps
 pub mod Fold
-pub mod PlaceCode
-pub mod Told
 pub mod Crowd
-pub mod Ends
 pub mod Places
-pub mod Placed
-pub mod Moving
 pub mod Sees
-pub mod Rows
+pub mod Placed
+pub mod laws
+pub mod private
 pub mod formers

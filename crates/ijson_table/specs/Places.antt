@@ -1,31 +1,26 @@
--- The places of a table: each is empty or holds a position of the list of keys.
-use Rattle.std.specs.Prelude.{◌≡◌, ◌≢◌, ℕ, ◌+◌, ◌-◌, ◌<◌, ◌≤◌, Bool, false, eqb, ltb, List, [], length, get_or, count_by, Option, Some, None, if◌then◌else◌}
-use denote.Struct.Props.{props}
-use Rattle.ijson_table.specs.Crowd.{distance, home_of, crowd}
+-- The places of a table: each is empty or holds a position of the list of keys. They are ordered by the distance from home, as in Robin Hood hashing.
+use Rattle.std.specs.Prelude.{◌≡◌, ◌≢◌, ℕ, ◌+◌, ◌%◌, ◌<◌, ◌≤◌, Bool, false, eqb, ltb, List, length, get_or, count_by, Option, Some, None, if◌then◌else◌}
+use Rattle.ijson_table.specs.Crowd.{distance, crowd}
 
 -- the place after p, round the end of n places
 unfoldable pub after : ℕ → ℕ → ℕ
 after n p = (if eqb (p + 1) n then 0 else p + 1)
 
--- the place k on from p, round the end of n places
-unfoldable pub onward : ℕ → ℕ → ℕ → ℕ
-onward n p k = (if ltb (p + k) n then p + k else p + k - n)
-
 -- what stands at a place
 abbrev pub resident : List (Option ℕ) → ℕ → Option ℕ
 resident places p = get_or places p None
 
--- where the key at a position has its home
-unfoldable pub home_at : (List ℕ → ℕ) → ℕ → List (List ℕ) → ℕ → ℕ
-home_at hash n keys i = home_of hash n (get_or keys i [])
+-- where the key at a position has its home among n places, by the hashes of the keys
+unfoldable pub home_at : ℕ → List ℕ → ℕ → ℕ
+home_at n hashes i = get_or hashes i 0 % n
 
--- How far a resident of place p has got: 0 for none, else one more than its distance from home.
-abbrev pub strides : (List ℕ → ℕ) → ℕ → List (List ℕ) → ℕ → Option ℕ → ℕ
-strides hash n keys p None = 0
-strides hash n keys p (Some i) = distance n (home_at hash n keys i) p + 1
+-- How far what stands at place p is displaced: 0 for nothing, else one more than its distance from home.
+abbrev pub displaced : ℕ → List ℕ → ℕ → Option ℕ → ℕ
+displaced n hashes p None = 0
+displaced n hashes p (Some i) = distance n (home_at n hashes i) p + 1
 
-unfoldable pub reach : (List ℕ → ℕ) → List (List ℕ) → List (Option ℕ) → ℕ → ℕ
-reach hash keys places p = strides hash (length places) keys p (resident places p)
+unfoldable pub displacement : List ℕ → List (Option ℕ) → ℕ → ℕ
+displacement hashes places p = displaced (length places) hashes p (resident places p)
 
 -- whether a place holds this position
 abbrev pub holds : ℕ → Option ℕ → Bool
@@ -36,18 +31,21 @@ holds i (Some j) = eqb i j
 unfoldable pub times : ℕ → List (Option ℕ) → ℕ
 times i places = count_by (holds i) places
 
--- The invariant of a table.
-pub record IsTable (hash : List ℕ → ℕ) (keys : List (List ℕ)) (places : List (Option ℕ)) : Type 0 where
-  -- a resident is at most one place further from its home than the resident of the place before is from its own, and at home after an empty place
-  pub ordered : (p : ℕ) → p < length places → reach hash keys places (after (length places) p) ≤ reach hash keys places p + 1
-  -- each position of the list stands at one place, and nothing else stands anywhere
-  pub placed : (i : ℕ) → times i places ≡ (if ltb i (length keys) then 1 else 0)
+-- once each of the first positions, and no other one
+abbrev pub below : ℕ → ℕ → ℕ
+below count i = (if ltb i count then 1 else 0)
 
-pub IsTable-prop : (hash : List ℕ → ℕ) (keys : List (List ℕ)) (places : List (Option ℕ)) → IsProp (IsTable hash keys places)
-IsTable-prop hash keys places x y =
-    let ordered_prop : IsProp ((p : ℕ) → p < length places → reach hash keys places (after (length places) p) ≤ reach hash keys places p + 1) = hlevel props in
-    let placed_prop : IsProp ((i : ℕ) → times i places ≡ (if ltb i (length keys) then 1 else 0)) = hlevel props in
-    λ i. record { ordered = ordered_prop x.ordered y.ordered i; placed = placed_prop x.placed y.placed i }
+-- A resident is displaced at most one further than the resident of the place before, and stands at home after an empty place.
+abbrev pub IsOrdered : List ℕ → List (Option ℕ) → Type 0
+IsOrdered hashes places =
+    (p : ℕ) → p < length places
+    → displacement hashes places (after (length places) p) ≤ displacement hashes places p + 1
+
+-- The invariant of a table of keys with these hashes.
+pub record IsTable (hashes : List ℕ) (places : List (Option ℕ)) : Type 0 where
+  pub ordered : IsOrdered hashes places
+  -- each position of the list stands at one place, and nothing else stands anywhere
+  pub placed : (i : ℕ) → times i places ≡ below (length hashes) i
 
 -- How few looks a look-up for this key takes, whatever the hash.
 pub record IsBounded (hash : List ℕ → ℕ) (keys : List (List ℕ)) (places : List (Option ℕ)) (c : ℕ) (key : List ℕ) (looks : ℕ) : Type 0 where

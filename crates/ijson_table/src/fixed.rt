@@ -1,11 +1,12 @@
 //! The table under the fixed hash.
 
-ghost use Rattle.std.specs.Prelude.{◌≡◌, ◌≢◌, ℕ, ◌+◌, ◌<◌, ◌≤◌, ◌^◌, ◌↔◌, List, [], ◌∷◌, ◌++◌, length, slice_get, Some, None, Ok, Err, IfOk, IsOk, refl};
+ghost use Rattle.std.specs.Prelude.{◌≡◌, ◌≤◌, ◌-◌, ◌+◌, ◌<◌, ◌^◌, ◌↔◌, [], length, Ok, Err, IfOk, IsOk, refl};
 ghost use Rattle.std.specs.Option.{option_copied};
 ghost use Rattle.ijson_table.specs.Store.{keys_of, lookup, put};
 ghost use Rattle.ijson_table.specs.Growth.{capacity_limit};
 ghost use Rattle.ijson_table.specs.Placed.{placed_with_value};
 ghost use Rattle.ijson_table.specs.Fold.{fold_words};
+ghost use Rattle.ijson_table.specs.Places.{IsBounded};
 
 use crate::hash::FixedHash;
 use crate::places::{Places, Seen};
@@ -53,6 +54,22 @@ impl<V: Drop> FixedTable<V> {
     {
         self.table.put(key, value)
     }
+
+    /// The same, and each place that it looks at for the key is counted.
+    pub fn put_counted(&mut self, key: IString, value: V, looks: &mut Looks) -> Option<V>
+        requires within { length self.old.store.pairs < self.old.store.capacity }
+        requires fits { looks.old + capacity_limit + 1 < 2 ^ 128 }
+        ensures pairs { self.new.store.pairs ≡ put self.old.store.pairs key value }
+        ensures answer { result ≡ lookup key self.old.store.pairs }
+        ensures room { self.new.store.capacity ≡ self.old.store.capacity }
+        ensures grows { looks.old ≤ looks.new }
+        ensures bounded {
+            IsBounded fold_words (keys_of self.old.store.pairs) self.old.places
+                self.old.store.capacity key (looks.new - looks.old)
+        }
+    {
+        self.table.put_counted(key, value, looks)
+    }
 }
 
 impl<V> FixedTable<V> {
@@ -68,6 +85,19 @@ impl<V> FixedTable<V> {
         ensures { option_copied result ≡ lookup key.now self.now.store.pairs }
     {
         self.table.get(key)
+    }
+
+    /// The same, and each place that it looks at is counted.
+    pub fn get_counted(&self, key: &str, looks: &mut Looks) -> Option<&V>
+        requires { looks.old + capacity_limit + 1 < 2 ^ 128 }
+        ensures value { option_copied result ≡ lookup key.now self.now.store.pairs }
+        ensures grows { looks.old ≤ looks.new }
+        ensures bounded {
+            IsBounded fold_words (keys_of self.now.store.pairs) self.now.places
+                self.now.store.capacity key.now (looks.new - looks.old)
+        }
+    {
+        self.table.get_counted(key, looks)
     }
 }
 

@@ -1,13 +1,13 @@
 //! How a store grows and shrinks.
 
-ghost use Rattle.std.specs.Prelude.{◌≡◌, ◌+◌, ◌<◌, ◌≤◌, [], length, vec_capacity, Ok, Err, IfOk, IfErr, OnErr, MatchResult};
+ghost use Rattle.std.specs.Prelude.{◌≡◌, ◌+◌, ◌<◌, ◌≤◌, [], length, vec_capacity, Ok, Err, IfOk, OnErr, MatchResult};
 ghost use Rattle.ijson_table.specs.Growth.{wanted, capacity_limit};
 
 use crate::store::ReserveError;
 use std::alloc::{AllocError, Global};
 
 /// The greatest capacity.
-const LIMIT: usize = 72_057_594_037_927_936;
+const CAPACITY_LIMIT: usize = 1 << 56;
 
 /// The capacity that a growth asks for, where it is within the limit.
 pub(crate) fn grown_capacity(
@@ -20,7 +20,10 @@ pub(crate) fn grown_capacity(
     requires short { capacity < len + additional }
     ensures { MatchResult result (λ n. (n ≡ wanted len capacity additional) × (n ≤ capacity_limit)) (λ why. (why ≡ ReserveError.TooLarge) × (capacity_limit < wanted len capacity additional)) }
 {
-    if additional > LIMIT || len + additional > LIMIT || 2 * capacity > LIMIT {
+    if additional > CAPACITY_LIMIT
+        || len + additional > CAPACITY_LIMIT
+        || 2 * capacity > CAPACITY_LIMIT
+    {
         return Err(ReserveError::TooLarge);
     }
     Ok((2 * capacity).max(len + additional).max(4))
@@ -30,7 +33,7 @@ pub(crate) fn grown_capacity(
 pub(crate) fn limited(capacity: usize) -> Result<usize, ReserveError>
     ensures { MatchResult result (λ n. (n ≡ capacity) × (capacity ≤ capacity_limit)) (λ why. (why ≡ ReserveError.TooLarge) × (capacity_limit < capacity)) }
 {
-    if capacity > LIMIT {
+    if capacity > CAPACITY_LIMIT {
         return Err(ReserveError::TooLarge);
     }
     Ok(capacity)

@@ -6,9 +6,12 @@ pub mod fixed;
 mod growth;
 pub mod hash;
 pub mod linear;
-mod moving;
+mod lookup;
 mod place;
+mod place_list;
 pub mod places;
+mod probe;
+mod shifts;
 pub mod store;
 pub mod table;
 

@@ -1,9 +1,9 @@
 //! A pair store that searches its list.
 
-ghost use Rattle.std.specs.Prelude.{◌≡◌, ◌≢◌, ℕ, ◌+◌, ◌<◌, ◌≤◌, ◌^◌, List, [], ◌∷◌, ◌++◌, length, slice_get, Some, None, Ok, Err, refl, set, map, vec_len, vec_capacity, IfOk, IsOk, ◌↔◌};
+ghost use Rattle.std.specs.Prelude.{◌≡◌, ◌<◌, ◌≤◌, ◌^◌, [], length, Some, None, Ok, Err, refl, vec_capacity, IfOk, IsOk, ◌↔◌};
 ghost use Rattle.std.specs.Option.{option_copied};
 ghost use Rattle.ijson_table.specs.Store.{at, keys_of, swap_out, IsDistinct, IsDistinct-prop, lookup, put, store_with_value};
-ghost use Rattle.ijson_table.specs.Growth.{Grow, Shrink, wanted, capacity_limit};
+ghost use Rattle.ijson_table.specs.Growth.{capacity_limit};
 
 use crate::growth::{fit, grown_capacity, limited, list_with_room};
 use crate::store::{PairStore, ReserveError};

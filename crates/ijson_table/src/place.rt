@@ -2,12 +2,14 @@
 
 ghost use Rattle.std.specs.Prelude.{◌≡◌, ◌+◌, ◌<◌, ◌%◌, ◌^◌, Some, None, IsTrue, ◌↔◌};
 ghost use Rattle.ijson_table.specs.Crowd.{distance};
-ghost use Rattle.ijson_table.specs.Told.{position_in};
+ghost use Rattle.ijson_table.specs.private.PlaceHashes.{position_in, SeenAs};
+
+use crate::places::Seen;
 
 /// Nothing, or the position of a pair beside the hash of its key, which tells how far the place is from the key's home, and
 /// most other keys from it. So a walk rarely goes to the memory of a key.
 #[derive(Clone, Copy, Debug, Drop)]
-pub(crate) struct Place {
+pub struct Place {
     /// 0 for nothing, or the position plus one.
     code: usize,
     hash: u64,
@@ -31,15 +33,6 @@ impl Place {
             code: position + 1,
             hash,
         }
-    }
-
-    /// The place with another position of the same key.
-    pub(crate) fn renumbered(self, position: usize) -> Place
-        requires { position + 1 < 2 ^ 64 }
-        ensures position { position_in result ≡ Some position }
-        ensures hash { result.hash ≡ self.hash }
-    {
-        Place::of(position, self.hash)
     }
 
     /// The hash of the key there.
@@ -78,6 +71,21 @@ impl Place {
         ensures { IsTrue result ↔ (self.hash ≡ hash) }
     {
         self.hash == hash
+    }
+
+    /// What a look at this place tells, where `same` says whether it holds what is sought.
+    pub(crate) fn seen(self, places: usize, place: usize, same: bool) -> Seen
+        requires { place < places }
+        ensures { SeenAs self places place same result }
+    {
+        match self.position() {
+            None => Seen::Empty,
+            Some(at) => Seen::Resident {
+                at,
+                distance: self.distance(places, place),
+                same,
+            },
+        }
     }
 }
 

@@ -1,11 +1,13 @@
 //! Look-up in a table of places, one place a look.
 
-ghost use Rattle.std.specs.Prelude.{◌≡◌, ℕ, ◌+◌, ◌-◌, ◌<◌, ◌≤◌, ◌^◌, List, length, Option};
+ghost use Rattle.std.specs.Prelude.{◌≡◌, ℕ, ◌+◌, ◌-◌, ◌<◌, ◌≤◌, ◌^◌, List, length, map, Option};
 ghost use Rattle.ijson_table.specs.Store.{position_of, IsDistinct};
-ghost use Rattle.ijson_table.specs.Crowd.{home_of, place_count, distance};
-ghost use Rattle.ijson_table.specs.Places.{IsTable, IsBounded, after};
+ghost use Rattle.ijson_table.specs.Crowd.{home_of, place_count};
+ghost use Rattle.ijson_table.specs.Places.{IsTable, IsBounded, displacement};
 ghost use Rattle.ijson_table.specs.Sees.{Sees};
+ghost use Rattle.ijson_table.specs.private.Lookup.{is_key};
 
+use crate::probe::{ProbeTarget, probe};
 use ijson_number::Looks;
 
 /// What one look at a place tells.
@@ -38,7 +40,7 @@ pub trait Places {
     fn places(&self) -> usize
         ensures count { result ≡ length (slots self.now) }
         ensures size { length (slots self.now) ≡ place_count (room self.now) }
-        ensures table { IsTable hash_of (keys self.now) (slots self.now) };
+        ensures table { IsTable (map hash_of (keys self.now)) (slots self.now) };
 
     fn home(&self, key: &str) -> usize
         requires { 0 < length (slots self.now) }
@@ -52,13 +54,33 @@ pub trait Places {
         ensures counts { looks.new ≡ looks.old + 1 };
 }
 
-/// The place after this one, round the end.
-pub(crate) fn next_place(places: usize, place: usize) -> usize
-    requires { place < places }
-    ensures place { result ≡ after places place }
-    ensures within { result < places }
-{
-    if place + 1 == places { 0 } else { place + 1 }
+/// A key that is sought in a table.
+#[derive(Drop)]
+struct KeyProbe<'a, P: Places> {
+    table: &'a P,
+    key: &'a str,
+}
+
+impl<'a, P: Places> ProbeTarget for KeyProbe<'a, P> {
+    ghost slots = { λ s. P.slots s.table.now };
+
+    ghost displacements = { λ s. displacement (map P.hash_of (P.keys s.table.now)) (P.slots s.table.now) };
+
+    ghost home_place = { λ s. home_of P.hash_of (length (P.slots s.table.now)) s.key.now };
+
+    ghost seeks = { λ s. is_key (P.keys s.table.now) s.key.now };
+
+    fn places(&self) -> usize {
+        self.table.places()
+    }
+
+    fn home(&self) -> usize {
+        self.table.home(self.key)
+    }
+
+    fn look(&self, place: usize, looks: &mut Looks) -> Seen {
+        self.table.look(place, self.key, looks)
+    }
 }
 
 /// The position of a key.
@@ -66,26 +88,13 @@ pub fn locate<P: Places>(table: &P, key: &str, looks: &mut Looks) -> Option<usiz
     requires { looks.old + length (P.keys table.now) + 1 < 2 ^ 128 }
     ensures found { result ≡ position_of (P.keys table.now) key.now }
     ensures grows { looks.old ≤ looks.new }
-    ensures bounded { IsBounded P.hash_of (P.keys table.now) (P.slots table.now) (P.room table.now) key.now (looks.new - looks.old) }
+    ensures bounded {
+        IsBounded P.hash_of (P.keys table.now) (P.slots table.now) (P.room table.now) key.now
+            (looks.new - looks.old)
+    }
 {
-    let places = table.places();
-    if places == 0 {
+    if table.places() == 0 {
         return None;
     }
-    let mut place = table.home(key);
-    for passed in 0..places {
-        match table.look(place, key, looks) {
-            Seen::Empty => return None,
-            Seen::Resident { at, distance, same } => {
-                if same {
-                    return Some(at);
-                }
-                if distance < passed {
-                    return None;
-                }
-            }
-        }
-        place = next_place(places, place);
-    }
-    None
+    probe(&KeyProbe { table, key }, looks).found()
 }

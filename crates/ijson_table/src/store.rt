@@ -2,18 +2,21 @@
 
 ghost use Rattle.std.specs.Prelude.{◌≡◌, ℕ, ◌+◌, ◌<◌, ◌≤◌, List, [], ◌∷◌, ◌++◌, length, slice_get, Some, None, OnOk};
 ghost use Rattle.ijson_table.specs.Store.{at, keys_of, swap_out, IsDistinct, with_value};
-ghost use Rattle.ijson_table.specs.Growth.{Grow, Shrink};
+ghost use Rattle.ijson_table.specs.Growth.{Grow, Shrink, capacity_limit};
 ghost use Rattle.std.specs.Borrow.{Lends, sem};
 
 use ijson_string::IString;
 use std::alloc::{AllocError, Global};
+use thiserror::Error;
 
 /// Why the capacity of a store did not change.
-#[derive(Clone, Copy, Debug, PartialEq, Eq, Drop)]
+#[derive(Clone, Copy, Debug, PartialEq, Eq, Drop, Error)]
 pub enum ReserveError {
     /// A request for memory was refused.
+    #[error("a request for memory was refused")]
     Memory,
     /// The new capacity would pass 2^56.
+    #[error("the capacity would pass 2^56")]
     TooLarge,
 }
 
@@ -54,7 +57,8 @@ pub trait PairStore<V>: Sized {
     /// How many pairs have room, from the length to 2^56.
     fn capacity(&self) -> usize
         ensures room { result ≡ room self.now }
-        ensures within { length (pairs self.now) ≤ room self.now };
+        ensures within { length (pairs self.now) ≤ room self.now }
+        ensures limited { room self.now ≤ capacity_limit };
 
     /// Makes room for so many more pairs. Where they have none, the capacity becomes the greatest of twice the old one,
     /// the length with them, and 4.

@@ -1,22 +1,20 @@
 //! A pair store whose keys are found by their hash.
 
-ghost use Rattle.std.specs.Prelude.{◌≡◌, ◌≢◌, ℕ, ◌+◌, ◌<◌, ◌≤◌, ◌^◌, ◌/◌, List, [], ◌∷◌, ◌++◌, length, slice_get, Some, None, Ok, Err, refl, set, map, vec_len, vec_capacity, IfOk, IsOk, ◌↔◌};
+ghost use Rattle.std.specs.Prelude.{◌≡◌, ◌+◌, ◌-◌, ◌<◌, ◌≤◌, ◌^◌, ◌/◌, [], length, get_or, map, Ok, Err, refl, vec_capacity, IfOk, IsOk, ◌↔◌};
 ghost use Rattle.ijson_table.specs.Store.{at, keys_of, put, swap_out, IsDistinct, IsDistinct-prop, lookup};
-ghost use Rattle.ijson_table.specs.Crowd.{home_of, place_count};
-ghost use Rattle.ijson_table.specs.Places.{IsTable};
-ghost use Rattle.ijson_table.specs.Sees.{Sees};
-ghost use Rattle.ijson_table.specs.Growth.{Grow, Shrink, capacity_limit};
+ghost use Rattle.ijson_table.specs.Places.{IsBounded, IsTable};
+ghost use Rattle.ijson_table.specs.Growth.{capacity_limit};
 ghost use Rattle.ijson_table.specs.Placed.{placed_with_value};
+ghost use Rattle.ijson_table.specs.private.Lookup.{Tells};
 ghost use Rattle.std.specs.Option.{option_copied};
 
 use crate::growth::{fit, grown_capacity, limited, list_with_room};
 use crate::hash::KeyHash;
-use crate::moving::{
-    Sought, clear_places, empty_places, home, place_again, places_again, put_in, seek, settle,
-    take_out,
-};
-use crate::place::Place;
-use crate::places::{Places, Seen, locate};
+use crate::lookup::{Lookup, has_key};
+use crate::place::home_of_hash;
+use crate::place_list::PlaceList;
+use crate::places::{Places, Seen};
+use crate::probe::{Probed, probe};
 use crate::store::{PairStore, ReserveError};
 use ijson_number::Looks;
 use ijson_string::IString;
@@ -28,7 +26,7 @@ use std::mem;
 #[derive(Debug, Drop)]
 pub struct Table<V, H: KeyHash> {
     pairs: Vec<(IString, V)>,
-    places: Vec<Place>,
+    places: PlaceList,
     capacity: usize,
     alloc: Global,
     hash: PhantomData<H>,
@@ -38,16 +36,21 @@ pub struct Table<V, H: KeyHash> {
 impl<V, H: KeyHash> Model for Table<V, H> {
     ghost use Rattle.std.specs.Prelude.{◌≤◌, vec_capacity};
     ghost use Rattle.ijson_table.specs.Placed.{Placed, placed_code, IsPlaced};
-    ghost use Rattle.ijson_table.specs.Store.{keys_of};
-    ghost use Rattle.ijson_table.specs.Told.{positions, AreTold};
 
     ghost Value = { Placed V };
 
     ghost coded = { placed_code V.code };
 
-    ghost view = { λ t. record { store = record { pairs = t.pairs.items; capacity = t.capacity; distinct = t.distinct }; places = positions t.places.items } };
+    ghost view = {
+        λ t. record {
+            store = record { pairs = t.pairs.items; capacity = t.capacity; distinct = t.distinct };
+            places = t.places.slots
+        }
+    };
 
-    ghost invariant = { λ t. IsPlaced H.hash_of t.pairs.items t.capacity (positions t.places.items) × AreTold H.hash_of (keys_of t.pairs.items) t.places.items × (t.capacity ≤ vec_capacity t.pairs) };
+    ghost invariant = {
+        λ t. IsPlaced H.hash_of t.pairs.items t.capacity t.places × (t.capacity ≤ vec_capacity t.pairs)
+    };
 }
 
 impl<V: Drop, H: KeyHash> Table<V, H> {
@@ -59,7 +62,7 @@ impl<V: Drop, H: KeyHash> Table<V, H> {
     {
         let capacity = limited(capacity)?;
         let pairs = list_with_room(alloc, capacity)?;
-        let places = empty_places(alloc, capacity + capacity / 4)?;
+        let places = PlaceList::with_places(alloc, capacity + capacity / 4)?;
         Ok(Table {
             pairs,
             places,
@@ -77,18 +80,32 @@ impl<V: Drop, H: KeyHash> Table<V, H> {
         ensures answer { result ≡ lookup key self.old.store.pairs }
         ensures room { self.new.store.capacity ≡ self.old.store.capacity }
     {
-        let text = key.as_str();
+        self.put_counted(key, value, &mut Looks::new())
+    }
+
+    /// The same, and each place that it looks at for the key is counted.
+    pub fn put_counted(&mut self, key: IString, value: V, looks: &mut Looks) -> Option<V>
+        requires within { length self.old.store.pairs < self.old.store.capacity }
+        requires fits { looks.old + capacity_limit + 1 < 2 ^ 128 }
+        ensures pairs { self.new.store.pairs ≡ put self.old.store.pairs key value }
+        ensures answer { result ≡ lookup key self.old.store.pairs }
+        ensures room { self.new.store.capacity ≡ self.old.store.capacity }
+        ensures grows { looks.old ≤ looks.new }
+        ensures bounded {
+            IsBounded H.hash_of (keys_of self.old.store.pairs) self.old.places
+                self.old.store.capacity key (looks.new - looks.old)
+        }
+    {
         let position = self.pairs.len();
-        let hash = H::hash(text);
-        match seek::<V, H>(&self.pairs, &self.places, hash, text) {
-            Sought::At(at) => Some(mem::replace(self.value_mut(at), value)),
-            Sought::End(place) => {
+        let hash = H::hash(key.as_str());
+        match self.find(hash, key.as_str(), looks) {
+            Probed::Found(at, _) => Some(mem::replace(self.value_mut(at), value)),
+            Probed::Vacant(place) => {
                 self.pairs.push_reserved((key, value));
-                let hand = Place::of(position, hash);
-                settle::<V, H>(&self.pairs, &mut self.places, place, hand, position);
+                self.places.push_at(place, position, hash);
                 None
             }
-            Sought::Nowhere => unreachable!(),
+            Probed::Full => unreachable!(),
         }
     }
 }
@@ -105,14 +122,58 @@ impl<V, H: KeyHash> Table<V, H> {
     pub fn get(&self, key: &str) -> Option<&V>
         ensures { option_copied result ≡ lookup key.now self.now.store.pairs }
     {
-        if self.places.is_empty() {
-            return None;
+        self.get_counted(key, &mut Looks::new())
+    }
+
+    /// The same, and each place that it looks at is counted.
+    pub fn get_counted(&self, key: &str, looks: &mut Looks) -> Option<&V>
+        requires { looks.old + capacity_limit + 1 < 2 ^ 128 }
+        ensures value { option_copied result ≡ lookup key.now self.now.store.pairs }
+        ensures grows { looks.old ≤ looks.new }
+        ensures bounded {
+            IsBounded H.hash_of (keys_of self.now.store.pairs) self.now.places
+                self.now.store.capacity key.now (looks.new - looks.old)
         }
-        match seek::<V, H>(&self.pairs, &self.places, H::hash(key), key) {
-            Sought::At(at) => Some(&self.pairs[at].1),
-            Sought::End(_) => None,
-            Sought::Nowhere => None,
+    {
+        match self.find(H::hash(key), key, looks).found() {
+            Some(at) => Some(&self.pairs[at].1),
+            None => None,
         }
+    }
+
+    /// Probes for a key of this hash.
+    fn find(&self, hash: u64, key: &str, looks: &mut Looks) -> Probed
+        requires hash { hash ≡ H.hash_of key.now }
+        requires fits { looks.old + capacity_limit + 1 < 2 ^ 128 }
+        ensures table { IsTable (map H.hash_of (keys_of self.now.store.pairs)) self.now.places }
+        ensures tells {
+            Tells (map H.hash_of (keys_of self.now.store.pairs)) (keys_of self.now.store.pairs) self.now.places
+                (H.hash_of key.now) key.now result
+        }
+        ensures grows { looks.old ≤ looks.new }
+        ensures bounded {
+            IsBounded H.hash_of (keys_of self.now.store.pairs) self.now.places
+                self.now.store.capacity key.now (looks.new - looks.old)
+        }
+    {
+        if self.places.len() == 0 {
+            return Probed::Full;
+        }
+        let lookup = Lookup {
+            pairs: &self.pairs,
+            places: &self.places,
+            hash,
+            key,
+        };
+        probe(&lookup, looks)
+    }
+
+    /// The hash of the key at a position.
+    fn hash_at(&self, index: usize) -> u64
+        requires { index < length self.now.store.pairs }
+        ensures { result ≡ get_or (map H.hash_of (keys_of self.now.store.pairs)) index 0 }
+    {
+        H::hash(self.pairs[index].0.as_str())
     }
 }
 
@@ -132,20 +193,18 @@ impl<V, H: KeyHash> Places for Table<V, H> {
     }
 
     fn home(&self, key: &str) -> usize {
-        home::<H>(self.places.len(), key)
+        home_of_hash(self.places.len(), H::hash(key))
     }
 
     fn look(&self, place: usize, key: &str, looks: &mut Looks) -> Seen {
         looks.add_one();
-        let there = self.places[place];
-        match there.position() {
-            None => Seen::Empty,
-            Some(at) => Seen::Resident {
-                at,
-                distance: there.distance(self.places.len(), place),
-                same: self.pairs[at].0.eq_str(key),
-            },
-        }
+        let places = self.places.len();
+        let there = self.places.at(place);
+        let same = match there.position() {
+            None => false,
+            Some(at) => has_key(&self.pairs, at, key),
+        };
+        there.seen(places, place, same)
     }
 }
 
@@ -166,7 +225,7 @@ impl<V: Drop, H: KeyHash> PairStore<V> for Table<V, H> {
     fn new(alloc: Global) -> Self {
         Table {
             pairs: Vec::new(alloc),
-            places: Vec::new(alloc),
+            places: PlaceList::new(alloc),
             capacity: 0,
             alloc,
             hash: PhantomData,
@@ -187,9 +246,8 @@ impl<V: Drop, H: KeyHash> PairStore<V> for Table<V, H> {
             return Ok(());
         }
         let capacity = grown_capacity(len, self.capacity, additional)?;
-        let mut places = empty_places(self.alloc, capacity + capacity / 4)?;
+        let places = self.places.rehashed(self.alloc, capacity + capacity / 4)?;
         self.pairs.reserve_exact(capacity - len)?;
-        place_again::<V, H>(&self.pairs, &self.places, &mut places);
         self.places = places;
         self.capacity = capacity;
         Ok(())
@@ -200,7 +258,7 @@ impl<V: Drop, H: KeyHash> PairStore<V> for Table<V, H> {
         if self.capacity == len {
             return Ok(());
         }
-        let places = places_again::<V, H>(self.alloc, &self.pairs, &self.places, len)?;
+        let places = self.places.rehashed(self.alloc, len + len / 4)?;
         fit(self.alloc, &mut self.pairs)?;
         self.places = places;
         self.capacity = len;
@@ -208,9 +266,7 @@ impl<V: Drop, H: KeyHash> PairStore<V> for Table<V, H> {
     }
 
     fn position(&self, key: &str) -> Option<usize> {
-        let _capacity = self.capacity;
-        let mut looks = Looks::new();
-        locate(self, key, &mut looks)
+        self.find(H::hash(key), key, &mut Looks::new()).found()
     }
 
     fn pair_mut(&mut self, index: usize) -> (&IString, &mut V) {
@@ -220,12 +276,16 @@ impl<V: Drop, H: KeyHash> PairStore<V> for Table<V, H> {
 
     fn push_new(&mut self, key: IString, value: V) {
         let position = self.pairs.len();
+        let hash = H::hash(key.as_str());
         self.pairs.push_reserved((key, value));
-        put_in::<V, H>(&self.pairs, &mut self.places, position);
+        self.places.push(position, hash);
     }
 
     fn swap_out(&mut self, index: usize) -> (IString, V) {
-        take_out::<V, H>(&self.pairs, &mut self.places, index);
+        let last = self.pairs.len() - 1;
+        let hash = self.hash_at(index);
+        let last_hash = self.hash_at(last);
+        self.places.swap_remove(index, hash, last, last_hash);
         self.pairs.swap_remove(index)
     }
 
@@ -240,7 +300,7 @@ impl<V: Drop, H: KeyHash> PairStore<V> for Table<V, H> {
 
     fn clear(&mut self) {
         self.pairs.clear();
-        clear_places(&mut self.places);
+        self.places.clear();
     }
 
     ghost set_value_is = { λ t i v. (refl, refl) };

@@ -2,7 +2,7 @@
 use Rattle.std.specs.Prelude.{◌≡◌, ℕ, List, [], map, Option}
 use Rattle.std.specs.Coded.{coded_option}
 use mathlib.Core.Path.{refl, sym, ap, subst}
-use mathlib.Core.HLevel.{×₃_prop}
+use mathlib.Core.HLevel.{×_prop}
 use mathlib.Core.Former.{Former, this, const, pair, such, via, children}
 use base.Stored.{code_map, coded×, coded_list, coded_ℕ, gcons}
 use denote.RattleType.{RattleType}
@@ -21,9 +21,8 @@ use Rattle.std.specs.contracts.alloc.Global as heap
 use Rattle.std.specs.contracts.impls.GlobalAllocator.TheImpl.{ghosts}
 use Rattle.ijson_table.specs.Store.{IsDistinct, IsDistinct-prop, keys_of}
 use Rattle.ijson_table.specs.Placed.{Placed, IsPlaced-prop, placed_along}
-use Rattle.ijson_table.specs.Told.{positions, AreTold, AreTold-prop}
+use Rattle.ijson_table.specs.private.PlaceList.{Index}
 use Rattle.ijson_table.specs.declared.hash.KeyHash as hashing
-use Rattle.ijson_table.specs.declared.place.Place.{Place}
 use Rattle.ijson_table.specs.formers.linear.LinearPairs as linear
 use Rattle.ijson_table.specs.declared.table.Table.TheInside.{Inside}
 use Rattle.ijson_table.specs.declared.table.Table.TheView.{view, invariant}
@@ -47,7 +46,7 @@ the_items_listed H X t = linear.the_items_listed X t.store
 
 -- the fields: a `Vec` of pairs with distinct keys, and what holds no value
 abbrev columns : Type 0 → Former {0}
-columns H = pair (vec.the_former (linear.entry this) Global) (const (Vec Place Global × (ℕ × (Global × PhantomData H))))
+columns H = pair (vec.the_former (linear.entry this) Global) (const (Index × (ℕ × (Global × PhantomData H))))
 
 keys_in_shape : (H X : Type 0) (c : (columns H).Of X) → keys_of ((columns H).shape X c).0.items ≡ keys_of c.0.items
 keys_in_shape H X c = linear.keys_on_values _ c.0.items
@@ -66,16 +65,16 @@ module _ (H : RattleType) (K : hashing.Ghosts H.Denot) where
       capacity = u.capacity;
       distinct = IsDistinct-prop (keys_of (map (linear.on_value h) u.pairs.items)) (view Y H.Denot K ((fields H.Denot K).map X Y h u)).store.distinct ((the_former this H.Denot).map X Y h (view X H.Denot K u)).store.distinct i;
     };
-    places = positions u.places.items;
+    places = u.places.slots;
   }
 
   module _ (R S : RattleType) (h : R.Denot → S.Denot) where
     pub the_places : Alike R S h → Alike (C.the_row R H K) (C.the_row S H K) ((the_former this H.Denot).map R.Denot S.Denot h)
     the_places a = view_places (fields H.Denot K) (the_former this H.Denot) (λ X. view X H.Denot K) natural (λ X u. refl) R.Denot S.Denot h (C.the_row R H K).coded (C.the_row S H K).coded
         (invariant R.Denot H.Denot K) (invariant S.Denot H.Denot K)
-        (λ u. ×₃_prop (IsPlaced-prop K.hash_of u.pairs.items u.capacity (positions u.places.items)) (AreTold-prop K.hash_of (keys_of u.pairs.items) u.places.items) (hlevel props)) (λ u. ×₃_prop (IsPlaced-prop K.hash_of u.pairs.items u.capacity (positions u.places.items)) (AreTold-prop K.hash_of (keys_of u.pairs.items) u.places.items) (hlevel props))
-        (λ u e. (placed_along K.hash_of u.pairs.items (map (linear.on_value h) u.pairs.items) u.capacity (positions u.places.items) (sym (linear.keys_on_values h u.pairs.items)) (sym (linear.length_on_values h u.pairs.items)) e.0, subst (λ ks. AreTold K.hash_of ks u.places.items) (sym (linear.keys_on_values h u.pairs.items)) e.1, e.2))
-        (λ u e. (placed_along K.hash_of (map (linear.on_value h) u.pairs.items) u.pairs.items u.capacity (positions u.places.items) (linear.keys_on_values h u.pairs.items) (linear.length_on_values h u.pairs.items) e.0, subst (λ ks. AreTold K.hash_of ks u.places.items) (linear.keys_on_values h u.pairs.items) e.1, e.2))
+        (λ u. ×_prop (IsPlaced-prop K.hash_of u.pairs.items u.capacity u.places) (hlevel props)) (λ u. ×_prop (IsPlaced-prop K.hash_of u.pairs.items u.capacity u.places) (hlevel props))
+        (λ u e. (placed_along K.hash_of u.pairs.items (map (linear.on_value h) u.pairs.items) u.capacity u.places (sym (linear.keys_on_values h u.pairs.items)) (sym (linear.length_on_values h u.pairs.items)) e.0, e.1))
+        (λ u e. (placed_along K.hash_of (map (linear.on_value h) u.pairs.items) u.pairs.items u.capacity u.places (linear.keys_on_values h u.pairs.items) (linear.length_on_values h u.pairs.items) e.0, e.1))
         (within (I.the_row R H K)) (within (I.the_row S H K))
         (struct_places (I.the_type R H K) (I.the_type S H K) (vec.mapped (linear.on_value h), (λ n. n, (λ n. n, (λ n. n, (λ n. n, tt))))) _ (λ d. refl) refl (
           laid _ _ _ (vec.the_places heap.the_row ghosts (linear.pair_of R) (linear.pair_of S) (linear.on_value h) (linear.pair_places R S h a)),

@@ -1,11 +1,11 @@
 use Rattle.std.proofs.Common.{◌≡◌, ◌<◌, length, arith, ap, sym, ◌∙◌, refl}
 use Rattle.std.specs.Prelude.{slice_get}
+use Rattle.std.proofs.lemmas.List.{length-set}
 use Rattle.std.proofs.lemmas.Option.{slice_get_read}
 use Rattle.ijson_table.specs.Store.{with_value}
 use Rattle.ijson_table.specs.Placed.{Placed}
 use Rattle.ijson_table.proofs.Keys.{set-value, distinct_set}
-use Rattle.ijson_table.specs.Told.{positions}
-use Rattle.ijson_table.proofs.Tables.{placed_set, told_lent}
+use Rattle.ijson_table.proofs.Tables.{hashes-set}
 use Rattle.ijson_table.proofs.Writing.{placed_path}
 use Rattle.ijson_table.proofs.table.TablePairStore.value_mut.Goals as goal
 
@@ -19,7 +19,14 @@ pub invariant_of-self-lent : goal.invariant_of-self-lent
 invariant_of-self-lent g c = λ w.
     let old = c.self.inside.pairs.items in
     let li : c.args.index < length old = omega (arith, ap (λ (s : Placed g.row.V.Denot). length s.store.pairs) c.self.view_is, c.requires) in
-    (placed_set g.H.KeyHash.hash_of old c.self.inside.capacity c.args.index c.index_mut-pair.result.now w (positions c.self.inside.places.items) li c.index_mut-pair.ensures.value c.self.invariant.0, told_lent g.H.KeyHash.hash_of old c.args.index c.index_mut-pair.result.now w c.self.inside.places.items li c.index_mut-pair.ensures.value c.self.invariant.1, c.self.invariant.2)
+    (
+      record {
+        room = record { within = omega (arith, c.self.invariant.0.room.within, length-set old c.args.index (c.index_mut-pair.result.now.0, w)); limited = c.self.invariant.0.room.limited };
+        hashes = c.self.invariant.0.hashes ∙ sym (hashes-set g.H.KeyHash.hash_of old c.args.index c.index_mut-pair.result.now w li c.index_mut-pair.ensures.value);
+        size = c.self.invariant.0.size;
+      },
+      c.self.invariant.1,
+    )
 
 pub returns : goal.returns
 returns g c =

@@ -1,50 +1,43 @@
-use Rattle.std.proofs.Common.{◌≡◌, ◌<◌, ◌%◌, ℕ, List, [], length, get_or, Some, arith, ap, subst, sym, ◌∙◌}
-use Rattle.ijson_table.specs.declared.place.Place.{Place}
-use Rattle.ijson_table.specs.Crowd.{distance}
-use Rattle.ijson_table.specs.Store.{keys_of}
-use Rattle.ijson_table.specs.Places.{resident, home_at, IsTable}
+use Rattle.std.proofs.Common.{◌≡◌, ◌<◌, ℕ, List, [], length, map, get_or, Option, Some, None, IsTrue, ◌↔◌, arith, ap, sym, subst, ◌∙◌}
 use Rattle.ijson_table.specs.Placed.{Placed}
-use Rattle.ijson_table.specs.Told.{position_in, positions, AreTold}
+use Rattle.ijson_table.specs.Places.{resident}
 use Rattle.ijson_table.specs.Sees.{Sees}
-use Rattle.ijson_table.specs.declared.places.Seen.TheVariants.{Resident}
+use Rattle.ijson_table.specs.Store.{keys_of}
+use Rattle.ijson_table.specs.private.PlaceHashes.{position_in, HasHash, SeenAs}
+use Rattle.ijson_table.proofs.Looking.{sees_place}
+use Rattle.ijson_table.proofs.Tables.{length-hashes}
 use Rattle.ijson_table.proofs.Walk.{in_list}
-use Rattle.ijson_table.proofs.Keys.{keys-length, key_at, get_or-inside}
-use Rattle.ijson_table.proofs.Told.{blank, positions-length, position-at, told-distance}
 use Rattle.ijson_table.proofs.table.TablePlaces.look.Goals as goal
+use Rattle.ijson_table.proofs.table.TablePlaces.look.Goals.{in-None, in-Some}
 
--- what a look at a place with a resident may go by
-record Looked {V : Type 0} (hash : List ℕ → ℕ) (pairs : List (List ℕ × V)) (places : List Place) (p at d : ℕ) : Type 0 where
-  there : resident (positions places) p ≡ Some at
-  listed : at < length pairs
-  far : d ≡ distance (length (positions places)) (home_at hash (length (positions places)) (keys_of pairs) at) p
+pub has_key-same-requires : goal.has_key-same-requires
+has_key-same-requires g c =
+    let places = c.self.inside.places in
+    let there : resident places.slots c.args.place ≡ Some c.in-Some.at = sym c.at-there.ensures.position ∙ (sym c.position.ensures ∙ c.in-Some.is) in
+    let within : c.args.place < length places.slots = omega (arith, c.requires.within, ap (λ (t : Placed g.row.V.Denot). length t.places) c.self.view_is) in
+    omega (arith, in_list places.hashes places.slots c.len-places.ensures.table c.args.place c.in-Some.at within there, ap length c.self.invariant.0.hashes, length-hashes g.H.KeyHash.hash_of c.self.inside.pairs.items, ap length c.deref.ensures.value)
 
-looked : {V : Type 0} (hash : List ℕ → ℕ) (pairs : List (List ℕ × V)) (places : List Place) (p at d n : ℕ) (read : Place) → IsTable hash (keys_of pairs) (positions places) → AreTold hash (keys_of pairs) places
-    → p < length places → read ≡ get_or places p read → Some at ≡ position_in read → n ≡ length places → d ≡ distance n (read.hash % n) p → Looked hash pairs places p at d
-looked hash pairs places p at d n read table told lp is here size far =
-    let seen : read ≡ get_or places p blank = is ∙ get_or-inside places p read blank lp in
-    let who : Some at ≡ position_in (get_or places p blank) = here ∙ ap position_in seen in
-    let there : resident (positions places) p ≡ Some at = position-at places p (Some at) lp who in
-    record {
-      there = there;
-      listed = omega (arith, in_list hash (keys_of pairs) (positions places) table p at (omega (arith, lp, positions-length places)) there, keys-length pairs);
-      far = told-distance hash (keys_of pairs) places p at d n told lp who size (far ∙ ap (λ (x : Place). distance n (x.hash % n) p) seen);
-    }
-
-pub index-requires : goal.index-requires
-index-requires g c =
-    let lp : c.args.place < length c.self.inside.places.items = omega (arith, ap (λ (s : Placed g.row.V.Denot). length s.places) c.self.view_is, positions-length c.self.inside.places.items, c.requires.within) in
-    let here = looked g.H.KeyHash.hash_of c.self.inside.pairs.items c.self.inside.places.items c.args.place c.in-Some.at c.distance.result c.len.result c.index-there.result.now c.self.invariant.0.table c.self.invariant.1 lp c.index-there.ensures
-    (sym c.in-Some.is ∙ c.position.ensures) (omega (arith, c.len.ensures, c.self.inside.places.ok.0)) c.distance.ensures in
-    omega (arith, here.listed, c.self.inside.pairs.ok.0)
-
-pub returns-in-Some-clause-sees : goal.returns-in-Some-clause-sees
-returns-in-Some-clause-sees g c =
-    let lp : c.args.place < length c.self.inside.places.items = omega (arith, ap (λ (s : Placed g.row.V.Denot). length s.places) c.self.view_is, positions-length c.self.inside.places.items, c.requires.within) in
-    let here = looked g.H.KeyHash.hash_of c.self.inside.pairs.items c.self.inside.places.items c.args.place c.in-Some.at c.distance.result c.len.result c.index-there.result.now c.self.invariant.0.table c.self.invariant.1 lp c.index-there.ensures
-    (sym c.in-Some.is ∙ c.position.ensures) (omega (arith, c.len.ensures, c.self.inside.places.ok.0)) c.distance.ensures in
-    let key : get_or (keys_of c.self.inside.pairs.items) c.in-Some.at [] ≡ c.index.result.now.0 = key_at c.self.inside.pairs.items c.in-Some.at c.index.result.now here.listed ∙ ap (λ p. p.0) (sym c.index.ensures) in
-    subst (λ (t : Placed g.row.V.Denot). Sees g.H.KeyHash.hash_of (keys_of t.store.pairs) t.places c.args.place c.args.key.now (Resident c.in-Some.at c.distance.result c.eq_str.result)) c.self.view_is (
-      here.there,
-      here.far,
-      (λ yes_it. key ∙ c.eq_str.ensures.0 yes_it, λ same. c.eq_str.ensures.1 (sym key ∙ same)),
-    )
+pub returns-clause-sees : goal.returns-clause-sees
+returns-clause-sees g c =
+    let hash = g.H.KeyHash.hash_of in
+    let places = c.self.inside.places in
+    let pairs = c.self.inside.pairs.items in
+    let keys : List (List ℕ) = keys_of pairs in
+    let there = c.at-there.result in
+    let key : List ℕ = c.args.key.now in
+    let sought : (i : ℕ) → position_in there ≡ Some i → IsTrue c.match-position.same ↔ (get_or keys i [] ≡ key) = λ i e.
+    elim c.match-position.branch [
+      | in-None w ↦
+          let none : position_in there ≡ None = sym c.position.ensures ∙ w.in-None.is in
+          let bad : ◌≡◌ {A = Option ℕ} (Some i) None = sym e ∙ none in
+          absurd (cc)
+      | in-Some w ↦
+          let who : ◌≡◌ {A = Option ℕ} (Some w.in-Some.at) (Some i) = sym w.in-Some.is ∙ (c.position.ensures ∙ e) in
+          let at : w.in-Some.at ≡ i = cc in
+          subst (λ s. IsTrue s ↔ (get_or keys i [] ≡ key)) (sym w.same-is)
+          (subst (λ n. IsTrue w.has_key-same.result ↔ (get_or keys n [] ≡ key)) at
+          (subst (λ ps. IsTrue w.has_key-same.result ↔ (get_or (keys_of ps) w.in-Some.at [] ≡ key)) w.deref.ensures.value w.has_key-same.ensures))
+    ] in
+    subst (λ (t : Placed g.row.V.Denot). Sees hash (keys_of t.store.pairs) t.places c.args.place key c.seen.result) c.self.view_is
+    (sees_place hash keys places.slots c.args.place there c.match-position.same key c.seen.result c.at-there.ensures.position (subst (λ hs. HasHash hs there) c.self.invariant.0.hashes c.at-there.ensures.hash)
+    (subst (λ n. SeenAs there n c.args.place c.match-position.same c.seen.result) c.len-places.ensures.count c.seen.ensures) sought)

@@ -1,0 +1,86 @@
+use Rattle.std.proofs.Common.{◌≡◌, ◌≢◌, ℕ, ◌%◌, ◌+◌, ◌-◌, ◌<◌, ◌≤◌, ◌⊎◌, List, length, get_or, Option, Some, true, false, Bool, eqb, arith, ap, sym, ◌∙◌, subst, inl, inr}
+use Rattle.std.proofs.lemmas.Bool.Decides.{nat_tests}
+use Rattle.std.proofs.Math.Nat.{mod-lt}
+use Rattle.ijson_table.specs.declared.place.Place.{Place}
+use Rattle.ijson_table.specs.Crowd.{distance}
+use Rattle.ijson_table.specs.Places.{displacement, home_at, resident, IsOrdered}
+use Rattle.ijson_table.specs.private.PlaceHashes.{displacement_in, positions, HaveHashes}
+use Rattle.ijson_table.specs.declared.probe.Probed.{Probed}
+use Rattle.ijson_table.specs.declared.probe.Probed.TheVariants.{Found, Vacant, Full}
+use Rattle.ijson_table.specs.private.Insertion.{Stands}
+use Rattle.ijson_table.specs.private.Probe.{onward, PassedOthers, Ends}
+use Rattle.ijson_table.proofs.Cases.{below_or_not}
+use Rattle.ijson_table.proofs.Round.{onward-below, onward-distance, distance-below}
+use Rattle.ijson_table.proofs.Placing.{eqb-self}
+use Rattle.ijson_table.proofs.PlaceFacts.{positions-length, displacement-in}
+use Rattle.ijson_table.proofs.Walk.{displacement-some, on_the_way}
+use Rattle.ijson_table.proofs.shifts.place_of.Goals as goal
+
+home_within : (hash n : ℕ) → 0 < n → hash % n < n
+home_within hash n some = mod-lt hash some
+
+pub probe-requires-clause-some : goal.probe-requires-clause-some
+probe-requires-clause-some g c = omega (arith, c.requires.stands.1, positions-length c.args.places.now)
+
+pub returns-clause-within : goal.returns-clause-within
+returns-clause-within g c =
+    let ends = c.in-Found.ensures.ends in
+    let n : ℕ = length (positions c.args.places.now) in
+    let size : n ≡ length c.args.places.now = positions-length c.args.places.now in
+    omega (arith, onward-below n (c.args.hash % length c.args.places.now) ends.0 (omega (arith, home_within c.args.hash (length c.args.places.now) (omega (arith, c.requires.stands.1)), size)) (omega (arith, ends.1.within)), ends.1.there, size)
+
+pub returns-clause-there : goal.returns-clause-there
+returns-clause-there g c =
+    let ends = c.in-Found.ensures.ends in
+    let same : c.in-Found.field-0 ≡ c.args.position = grind (arith, nat_tests, ends.3) in
+    ends.2 ∙ ap Some same
+
+home_here : (hashes : List ℕ) (n position hash : ℕ) → hash ≡ get_or hashes position 0 → hash % n ≡ home_at n hashes position
+unfolding home_at
+home_here hashes n position hash is = ap (λ x. x % n) is
+
+-- the probe does not pass the position, and does not end before it
+not_before : (hashes : List ℕ) (places : List Place) (position hash m : ℕ) → hash ≡ get_or hashes position 0 → HaveHashes hashes places → IsOrdered hashes (positions places)
+    → (stands : (p : ℕ) × (p < length places) × (resident (positions places) p ≡ Some position))
+    → PassedOthers (positions places) (λ i. eqb i position) (hash % length places) m → distance (length places) (hash % length places) stands.0 < m → ⊥
+not_before hashes places position hash m is have ordered stands others before =
+    let n : ℕ = length places in
+    let h : ℕ = hash % n in
+    let lh : h < n = mod-lt hash (omega (arith, stands.1)) in
+    let size : length (positions places) ≡ n = positions-length places in
+    let at : onward (length (positions places)) h (distance n h stands.0) ≡ stands.0 = ap (λ k. onward k h (distance n h stands.0)) size ∙ onward-distance n h stands.0 lh stands.1 in
+    let no_it_is : eqb position position ≡ false = others (distance n h stands.0) position before (ap (resident (positions places)) at ∙ stands.2) in
+    let bad : ◌≡◌ {A = Bool} true false = sym (eqb-self position) ∙ no_it_is in
+    cc
+
+-- so it finds the position
+no_other : (hashes : List ℕ) (places : List Place) (position hash looks : ℕ) → Stands hashes places position hash
+    → (end : Probed) → Ends (positions places) (displacement_in places) (hash % length places) (λ i. eqb i position) looks end → ((x : ℕ) × (end ≡ Vacant x)) ⊎ (end ≡ Full) → ⊥
+no_other hashes places position hash looks s (Found i p) ends (inl is) = let e = is.1 in cc
+no_other hashes places position hash looks s (Found i p) ends (inr is) = cc
+no_other hashes places position hash looks s Full ends is =
+    let size : length (positions places) ≡ length places = positions-length places in
+    not_before hashes places position hash (length (positions places)) s.hash_is s.hashes_are s.ordered s.stands ends.1
+    (omega (arith, size, distance-below (length places) (hash % length places) s.stands.0 (mod-lt hash (omega (arith, s.stands.1))) s.stands.1))
+no_other hashes places position hash looks s (Vacant p) ends is =
+    let n : ℕ = length places in
+    let k : ℕ = length (positions places) in
+    let h : ℕ = hash % n in
+    let m : ℕ = ends.0 in
+    let size : k ≡ n = positions-length places in
+    let lh : h < n = mod-lt hash (omega (arith, s.stands.1)) in
+    let d : ℕ = distance n h s.stands.0 in
+    elim (below_or_not d m) [
+      | inl before ↦ not_before hashes places position hash m s.hash_is s.hashes_are s.ordered s.stands ends.1.others before
+      | inr after ↦
+          let home : home_at k hashes position ≡ h = sym (home_here hashes k position hash s.hash_is) ∙ ap (λ x. hash % x) size in
+          let far : distance k h s.stands.0 + 1 ≤ displacement hashes (positions places) s.stands.0 =
+            omega (arith, displacement-some hashes (positions places) s.stands.0 position s.stands.2, ap (λ x. distance k x s.stands.0) home) in
+          let up : m + 1 ≤ displacement hashes (positions places) (onward k h m) =
+            on_the_way hashes (positions places) s.ordered h s.stands.0 (omega (arith, lh, size)) (omega (arith, s.stands.1, size)) far (d - m) m (omega (arith, after, ap (λ x. distance x h s.stands.0) size)) in
+          let lp : p < n = omega (arith, ends.1.there, onward-below k h m (omega (arith, lh, size)) (omega (arith, ends.1.within)), size) in
+          omega (arith, up, ends.2, displacement-in hashes places p s.hashes_are lp, ap (displacement hashes (positions places)) ends.1.there)
+    ]
+
+pub unreachable-requires : goal.unreachable-requires
+unreachable-requires g c = no_other g.hashes c.args.places.now c.args.position c.args.hash (c.probe.new.looks - c.new.result) c.requires c.probe.result c.probe.ensures.ends c.in-Vacant.is

@@ -1,0 +1,72 @@
+use Rattle.std.proofs.Common.{◌≡◌, ◌<◌, ℕ, ◌+◌, List, length, get_or, set, Option, Some, None, refl, arith, ap, sym, ◌∙◌, subst}
+use Rattle.std.proofs.lemmas.List.{length-set}
+use Rattle.ijson_table.specs.declared.place.Place.{Place}
+use Rattle.ijson_table.specs.Places.{after}
+use Rattle.ijson_table.specs.private.Holds.{Holds, MayStand, with_one}
+use Rattle.ijson_table.specs.private.Insertion.{Accepts}
+use Rattle.ijson_table.specs.private.PlaceHashes.{position_in, positions, blank}
+use Rattle.ijson_table.proofs.Round.{distance-below}
+use Rattle.ijson_table.proofs.Moves.{put_down}
+use Rattle.ijson_table.proofs.Placing.{Shifting, shift_more}
+use Rattle.ijson_table.proofs.PlaceFacts.{positions-length, positions-put, position-at, hashes-at, hashes-set, has_own_hash}
+use Rattle.ijson_table.proofs.shifts.shift_forward.Goals as goal
+
+pub loop-step-init : goal.loop-step-init
+loop-step-init g c =
+    let places : List (Option ℕ) = positions c.args.places.now in
+    let accepts : Accepts g.hashes c.args.places.now c.args.position c.args.hash = c.requires.0 in
+    let may : MayStand g.hashes places c.args.position c.args.from = c.requires.1 in
+    let e = accepts.empty in
+    record {
+      shifting = (
+        c.args.position,
+        c.of-entry.ensures.position,
+        record {
+          held = record { ordered = accepts.ordered; placed = λ i. refl };
+          may = may;
+          ahead = (e.0, e.1, e.2, omega (arith, distance-below (length places) c.args.from e.0 may.within e.1));
+        },
+      );
+      hash = has_own_hash g.hashes c.of-entry.result c.args.position c.of-entry.ensures.position (c.of-entry.ensures.hash ∙ accepts.hash_is);
+      hashes = accepts.hashes_are;
+    }
+
+-- the last one is put down at an empty place
+ended : (hashes : List ℕ) (want : ℕ → ℕ) (places : List Place) (entry : Place) (i place step : ℕ) → position_in entry ≡ Some i → Shifting hashes want i place step (positions places) → None ≡ position_in (get_or places place blank)
+    → Holds hashes want None (positions (set places place entry))
+ended hashes want places entry i place step at s empty =
+    let here : place < length places = omega (arith, s.may.within, positions-length places) in
+    subst (Holds hashes want None) (sym (positions-put places place entry i at))
+    (subst (λ o. Holds hashes want o (set (positions places) place (Some i))) (position-at places place None here empty) (put_down hashes want (positions places) i place s.may.within s.held s.may))
+
+pub returns-in_default-clause-holds : goal.returns-in_default-clause-holds
+returns-in_default-clause-holds g c =
+    let i = c.loop-step.invariant.shifting in
+    ended g.hashes (with_one (positions c.args.places.now) c.args.position) c.loop-step.places c.loop-step.entry i.0 c.loop-step.place c.loop-step._step i.1 i.2 (sym c.in_default.is ∙ c.position.ensures)
+
+pub returns-in_default-clause-hashes : goal.returns-in_default-clause-hashes
+returns-in_default-clause-hashes g c = hashes-set g.hashes c.loop-step.places c.loop-step.place c.loop-step.entry c.loop-step.invariant.hash c.loop-step.invariant.hashes
+
+pub loop-step-preserved : goal.loop-step-preserved
+loop-step-preserved g c =
+    let hashes : List ℕ = g.hashes in
+    let want : ℕ → ℕ = with_one (positions c.args.places.now) c.args.position in
+    let places : List (Option ℕ) = positions c.loop-step.places in
+    let place : ℕ = c.loop-step.place in
+    let i = c.loop-step.invariant.shifting in
+    let next : ℕ = c.in-Some._resident in
+    let here : place < length c.loop-step.places = omega (arith, i.2.may.within, positions-length c.loop-step.places) in
+    let size : length (set c.loop-step.places place c.loop-step.entry) ≡ length places = length-set c.loop-step.places place c.loop-step.entry ∙ sym (positions-length c.loop-step.places) in
+    let to : after (length places) place ≡ c.next_place-place.result = ap (λ n. after n place) (sym size) ∙ sym c.next_place-place.ensures.place in
+    let there : Some next ≡ position_in (get_or c.loop-step.places place blank) = sym c.in-Some.is ∙ c.position.ensures in
+    record {
+      shifting = (
+        next,
+        sym there,
+        subst (λ p. Shifting hashes want next p (c.loop-step._step + 1) (positions (set c.loop-step.places place c.loop-step.entry))) to
+            (subst (Shifting hashes want next (after (length places) place) (c.loop-step._step + 1)) (sym (positions-put c.loop-step.places place c.loop-step.entry i.0 i.1))
+            (shift_more hashes want i.0 place c.loop-step._step next places i.2 (position-at c.loop-step.places place (Some next) here there))),
+      );
+      hash = hashes-at hashes c.loop-step.places place c.loop-step.invariant.hashes here;
+      hashes = hashes-set hashes c.loop-step.places place c.loop-step.entry c.loop-step.invariant.hash c.loop-step.invariant.hashes;
+    }

@@ -1,0 +1,12 @@
+use Rattle.std.proofs.Common.{◌≡◌, ℕ, Some}
+use Rattle.ijson_table.specs.private.Holds.{with_one}
+use Rattle.ijson_table.specs.private.PlaceHashes.{position_in, positions, HasHash, HaveHashes}
+use Rattle.ijson_table.proofs.Placing.{Shifting}
+use Rattle.ijson_table.proofs.shifts.shift_forward.Given as goal
+
+abbrev pub invariant-loop-step : goal.invariant-loop-step
+invariant-loop-step g l = record {
+  shifting : (i : ℕ) × (position_in l.entry ≡ Some i) × Shifting g.hashes (with_one (positions l.fn.places) l.fn.position) i l.place l._step (positions l.places);
+  hash : HasHash g.hashes l.entry;
+  hashes : HaveHashes g.hashes l.places;
+}

@@ -1,0 +1,6 @@
+pub mod Holds
+pub mod Insertion
+pub mod Lookup
+pub mod PlaceHashes
+pub mod PlaceList
+pub mod Probe

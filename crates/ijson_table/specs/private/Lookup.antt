@@ -1,0 +1,28 @@
+-- What the look-up of a key tells.
+use Rattle.std.specs.Prelude.{◌≡◌, ℕ, ◌<◌, Bool, ◌&&◌, eqb, List, [], ◌∷◌, ◌++◌, length, get_or, Option, Some, None}
+use Rattle.std.specs.Str.{bytes_eq}
+use Rattle.ijson_table.specs.declared.probe.Probed.{Probed}
+use Rattle.ijson_table.specs.declared.probe.Probed.TheVariants.{Found, Vacant, Full}
+use Rattle.ijson_table.specs.Store.{position_of}
+use Rattle.ijson_table.specs.private.Holds.{HasEmpty, MayStand}
+
+-- whether the key at a position is this one
+abbrev pub is_key : List (List ℕ) → List ℕ → ℕ → Bool
+is_key keys key i = bytes_eq (get_or keys i []) key
+
+-- the same, by the hash first
+abbrev pub is_hashed_key : List ℕ → List (List ℕ) → ℕ → List ℕ → ℕ → Bool
+is_hashed_key hashes keys hash key i = eqb (get_or hashes i 0) hash && bytes_eq (get_or keys i []) key
+
+-- the position that was found, or none
+abbrev pub found_at : Probed → Option ℕ
+found_at (Found i p) = Some i
+found_at (Vacant p) = None
+found_at Full = None
+
+-- The position of the key; or that it is not there, and a place where it may stand as the last one of the list, or that no place is empty.
+abbrev pub Tells : List ℕ → List (List ℕ) → List (Option ℕ) → ℕ → List ℕ → Probed → Type 0
+Tells hashes keys places hash key (Found i p) = position_of keys key ≡ Some i
+Tells hashes keys places hash key (Vacant p) =
+    (position_of keys key ≡ None) × (p < length places) × MayStand (hashes ++ hash ∷ []) places (length hashes) p
+Tells hashes keys places hash key Full = (position_of keys key ≡ None) × (HasEmpty places → ⊥)

@@ -1,0 +1,143 @@
+//! The places of a table: a list of its own, which knows of the keys no more than their hashes.
+
+ghost use Rattle.std.specs.Prelude.{◌≡◌, ℕ, ◌+◌, ◌<◌, ◌≤◌, ◌^◌, [], ◌∷◌, ◌++◌, length, None, IfOk, OnErr};
+ghost use Rattle.std.specs.List.{All, swap_remove};
+ghost use Rattle.ijson_table.specs.Places.{resident, IsTable};
+ghost use Rattle.ijson_table.specs.private.Holds.{MayStand};
+ghost use Rattle.ijson_table.specs.private.Insertion.{EndsWith};
+ghost use Rattle.ijson_table.specs.private.PlaceHashes.{position_in, HasHash};
+
+use crate::growth::list_with_room;
+use crate::place::Place;
+use crate::shifts::{insert, rehash, remove, shift_forward};
+use std::alloc::{AllocError, Global};
+use std::marker::Model;
+
+/// Places, each empty or with a position of a list and the hash of the key there.
+#[derive(Debug, Drop)]
+pub struct PlaceList {
+    places: Vec<Place>,
+}
+
+impl Model for PlaceList {
+    ghost use Rattle.ijson_table.specs.private.PlaceList.{Index, IsIndex};
+    ghost use Rattle.ijson_table.specs.private.PlaceHashes.{positions, hashes_of};
+
+    ghost Value = { Index };
+
+    ghost view = { λ l. record { hashes = hashes_of l.places.items; slots = positions l.places.items } };
+
+    ghost invariant = { λ l. IsIndex l.places.items };
+}
+
+impl PlaceList {
+    /// No places. They take no memory.
+    pub(crate) fn new(alloc: Global) -> PlaceList
+        ensures hashes { result.hashes ≡ [] }
+        ensures slots { result.slots ≡ [] }
+    {
+        PlaceList {
+            places: Vec::new(alloc),
+        }
+    }
+
+    /// So many empty places.
+    pub(crate) fn with_places(alloc: Global, count: usize) -> Result<PlaceList, AllocError>
+        ensures hashes { IfOk result (λ list. list.hashes ≡ []) }
+        ensures count { IfOk result (λ list. length list.slots ≡ count) }
+        ensures refused { OnErr result (0 < count) }
+    {
+        Ok(PlaceList {
+            places: empty_places(alloc, count)?,
+        })
+    }
+
+    /// How many places there are.
+    pub(crate) fn len(&self) -> usize
+        ensures count { result ≡ length self.now.slots }
+        ensures table { IsTable self.now.hashes self.now.slots }
+    {
+        self.places.len()
+    }
+
+    /// What stands at a place.
+    pub(crate) fn at(&self, place: usize) -> Place
+        requires { place < length self.now.slots }
+        ensures position { position_in result ≡ resident self.now.slots place }
+        ensures hash { HasHash self.now.hashes result }
+    {
+        self.places[place]
+    }
+
+    /// Puts the next position into the places, which have room for it. Its key has this hash.
+    pub(crate) fn push(&mut self, position: usize, hash: u64)
+        requires position { position ≡ length self.old.hashes }
+        requires room { position < length self.old.slots }
+        ensures hashes { self.new.hashes ≡ self.old.hashes ++ hash ∷ [] }
+        ensures count { length self.new.slots ≡ length self.old.slots }
+    {
+        insert(&mut self.places, position, hash);
+    }
+
+    /// The same, at the place where a probe for it ended.
+    pub(crate) fn push_at(&mut self, place: usize, position: usize, hash: u64)
+        requires position { position ≡ length self.old.hashes }
+        requires room { position < length self.old.slots }
+        requires may { MayStand (self.old.hashes ++ hash ∷ []) self.old.slots position place }
+        ensures hashes { self.new.hashes ≡ self.old.hashes ++ hash ∷ [] }
+        ensures count { length self.new.slots ≡ length self.old.slots }
+    {
+        shift_forward(&mut self.places, place, position, hash);
+    }
+
+    /// Takes a position out, and gives its number to the last one. The hashes are those of their keys.
+    pub(crate) fn swap_remove(&mut self, position: usize, hash: u64, last: usize, last_hash: u64)
+        requires { EndsWith self.old.hashes position hash last last_hash }
+        ensures hashes { self.new.hashes ≡ swap_remove self.old.hashes position 0 }
+        ensures count { length self.new.slots ≡ length self.old.slots }
+    {
+        remove(&mut self.places, position, hash, last, last_hash);
+    }
+
+    /// So many places with the same positions. None takes no memory.
+    pub(crate) fn rehashed(&self, alloc: Global, count: usize) -> Result<PlaceList, AllocError>
+        requires room { length self.now.hashes ≤ count }
+        ensures hashes { IfOk result (λ list. list.hashes ≡ self.now.hashes) }
+        ensures count { IfOk result (λ list. length list.slots ≡ count) }
+        ensures refused { OnErr result (0 < count) }
+    {
+        let mut places = empty_places(alloc, count)?;
+        rehash(&self.places, &mut places);
+        Ok(PlaceList { places })
+    }
+
+    /// Makes each place empty.
+    pub(crate) fn clear(&mut self)
+        ensures hashes { self.new.hashes ≡ [] }
+        ensures count { length self.new.slots ≡ length self.old.slots }
+    {
+        clear_places(&mut self.places);
+    }
+}
+
+/// So many empty places.
+fn empty_places(alloc: Global, count: usize) -> Result<Vec<Place>, AllocError>
+    ensures empty { IfOk result (λ places. All (λ place. position_in place ≡ None) places.items) }
+    ensures count { IfOk result (λ places. length places.items ≡ count) }
+    ensures refused { OnErr result (0 < count) }
+{
+    let mut places = list_with_room(alloc, count)?;
+    for _step in 0..count {
+        places.push_reserved(Place::empty());
+    }
+    Ok(places)
+}
+
+/// Makes each place empty.
+fn clear_places(places: &mut [Place])
+    ensures { All (λ place. position_in place ≡ None) places.new }
+{
+    for place in places.iter_mut() {
+        *place = Place::empty();
+    }
+}
