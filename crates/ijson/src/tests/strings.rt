@@ -24,6 +24,28 @@ fn long_texts_alone_enter_the_cache(rt: HostRuntime) -> Result<(), Fail> {
 }
 
 #[test]
+fn texts_of_each_length_are_shared_and_print(rt: HostRuntime) -> Result<(), Fail> {
+    let alloc = rt.alloc();
+    let mut text = String::new(alloc);
+    for _ in 0..20 {
+        text.push_str("0123456789")?;
+    }
+    let mut cache = StringCache::new(alloc, BuildHasherDefault::<FoldHasher>::new());
+    assert!(rt; cache.is_empty());
+    for length in [0, 7, 8, 23, 24, 39, 40, 55, 56, 71, 72, 200] {
+        let Some(part) = text.as_str().get(..length) else {
+            continue;
+        };
+        let interned = IString::intern(&mut cache, part)?;
+        assert_eq!(rt; interned.len(), length);
+        assert!(rt; interned.clone()?.eq_str(part));
+        assert_eq!(rt; format!(in alloc; "{interned}")?.as_str(), part);
+    }
+    assert_eq!(rt; cache.len(), 10);
+    Ok(())
+}
+
+#[test]
 fn texts_compare_by_bytes_and_print(rt: HostRuntime) -> Result<(), Fail> {
     let mut cache = StringCache::new(rt.alloc(), BuildHasherDefault::<FoldHasher>::new());
     let a = IString::intern(&mut cache, "interned_string_a")?;
