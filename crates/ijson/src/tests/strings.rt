@@ -2,7 +2,6 @@ use crate::string::{IString, StringCache};
 use std::alloc::Global;
 use std::cell::{Cell, RefCell};
 use std::hash::{BuildHasherDefault, FoldHasher, Hash, Hasher};
-use std::mem::size_of;
 use std::test::Fail;
 
 #[test]
@@ -114,12 +113,6 @@ fn a_text_feeds_its_words(rt: HostRuntime) -> Result<(), Fail> {
         seen.as_slice(),
         [3, 2, 104, 105, 3, 8, 101, 105, 103, 104, 116, 56, 56, 56].as_slice()
     );
-    Ok(())
-}
-
-#[test]
-fn an_istring_is_at_most_two_words(rt: HostRuntime) -> Result<(), Fail> {
-    assert!(rt; size_of::<IString>() <= 16);
     Ok(())
 }
 
