@@ -9,15 +9,18 @@ use crate::same::same_items;
 use crate::value::IValue;
 use std::alloc::Global;
 use std::marker::Model;
+use std::mem::size_of;
 use thiserror::Error;
 
-/// A list of values. Behind one pointer, which is there once the list has taken memory.
+/// A list of values. It lies behind one pointer, and an array that has taken no memory yet is without it.
 #[cycle(value)]
 #[derive(Debug, Drop)]
 pub struct IArray {
     list: Option<Box<Vec<IValue>>>,
     alloc: Global,
 }
+
+const _: () = prove!(size_of::<IArray>() == 16);
 
 impl Model for IArray {
     ghost use Rattle.ijson_value.specs.Sequence.{Sequence};
@@ -101,7 +104,7 @@ impl PartialEq for IArray {
 
     ghost laws = { partial_equivalence (λ a. array_value a.items) };
 
-    #[tactic(auto, using(crate::specs::laws::Equality::is_same))]
+    #[tactic(auto, using(crate::specs::laws::Equality::is_same_array))]
     fn eq(&self, other: &IArray) -> bool
         ensures { IsTrue result ↔ Same (array_tree self.now.items) (array_tree other.now.items) }
     {
