@@ -102,7 +102,7 @@ pub fn compact<R: Source, W: Sink, S: BuildHasher>(
         error ≢ Write → Keeps (W.got output.old) (W.got output.new)) }
     ensures error { IfErr result (λ error.
         IfSome (R.left input.old) (λ bytes. IsCompactRefusal bytes error)) }
-    ensures told_apart { result ≢ Err (Json Memory) }
+    ensures never_memory { result ≢ Err (Json Memory) }
     // The cache holds what it held, and beyond that only what the bytes that were read spell.
     ensures cache { (read : List ℕ) × IfSome (R.left input.old) (λ bytes. bytes ≡ read)
         × AddsOnlyRead read cache.old cache.new }
@@ -127,7 +127,7 @@ fn compact_line<S: BuildHasher>(
     ensures error { IfErr result (λ error. IsCompactRefusal bytes.now error) }
     ensures not_read { result ≢ Err Read }
     ensures not_write { result ≢ Err Write }
-    ensures told_apart { result ≢ Err (Json Memory) }
+    ensures never_memory { result ≢ Err (Json Memory) }
     ensures cache { AddsOnlyRead bytes.now cache.old cache.new }
     ensures unread { result ≡ Err NotUtf8 → cache.new ≡ cache.old }
     ensures shared { OnOk result (SharesTextsOf bytes.now cache.new) }

@@ -14,7 +14,7 @@ pub trait Source {
     /// How many reads failed so far.
     ghost failed: { Self → ℕ };
 
-    /// The bytes that are left, where they are known.
+    /// The bytes that are left, where they are known, as `Read.remaining` of the standard library.
     ghost left: { Self → Option (List ℕ) };
 
     /// How many reads failed so far.
@@ -36,7 +36,7 @@ pub trait Sink {
     /// How many writes failed so far.
     ghost failed: { Self → ℕ };
 
-    /// The bytes that it got so far, where they are known.
+    /// The bytes that it got so far, where they are known, as `Write.contents` of the standard library.
     ghost got: { Self → Option (List ℕ) };
 
     /// How many writes failed so far.

@@ -1,10 +1,15 @@
 //! `compact` and `report` over devices that give and take few bytes at a time, and fail.
 
+ghost use Rattle.std.specs.Prelude.{IfOk};
+ghost use Rattle.ijson_json.specs.Compacts.{IsCompactLine};
+
 use super::empty_cache;
 use crate::json::{
     CompactError, DeviceFault, JsonError, MemorySink, MemorySource, Sink, Source, StreamSink,
     StreamSource, compact, report,
 };
+use std::alloc::Global;
+use std::collections::VecDeque;
 use std::io;
 use std::io::{ErrorKind, Read, Write};
 use std::test::Fail;
@@ -199,9 +204,20 @@ impl Write for Slow {
     }
 }
 
-/// A text longer than the room that is made at a time goes through streams that move few bytes a call.
+/// What is written of a queue's bytes, through streams that tell what their reader and writer tell.
+fn compacted(alloc: Global, input: VecDeque<u8>) -> Result<VecDeque<u8>, CompactError>
+    ensures line { IfOk result (λ written. IsCompactLine input.items written.items) }
+{
+    let mut source = StreamSource::new(input);
+    let mut sink = StreamSink::new(VecDeque::new(alloc));
+    compact(alloc, &mut source, &mut sink, &mut empty_cache(alloc))?;
+    Ok(sink.into_inner())
+}
+
+/// A text longer than the room that is made at a time goes through streams that move few bytes a call, and a
+/// short one through queues.
 #[test]
-fn slow_streams(rt: HostRuntime) -> Result<(), Fail> {
+fn streams_pass_bytes_on(rt: HostRuntime) -> Result<(), Fail> {
     let alloc = rt.alloc();
     let mut text = Vec::new(alloc);
     let mut line = Vec::new(alloc);
@@ -225,5 +241,13 @@ fn slow_streams(rt: HostRuntime) -> Result<(), Fail> {
     assert_eq!(rt; answer, Ok(()));
     assert_eq!(rt; (input.failures(), output.failures()), (0, 0));
     assert!(rt; output.into_inner().bytes == line);
+    let mut queue = VecDeque::new(alloc);
+    for byte in TEXT {
+        queue.push_back(*byte)?;
+    }
+    let Ok(written) = compacted(alloc, queue) else {
+        panic!(rt; "refused");
+    };
+    assert!(rt; written.iter().eq(LINE.iter()));
     Ok(())
 }
