@@ -1,12 +1,23 @@
-"""The tables that bench/run prints. A number in brackets is how many times as much as ijson a program takes: above 1, ijson takes less."""
+"""What bench/run and bench/calls print. A number in brackets is how many times as much as ijson a program takes: above 1, ijson takes less."""
 
+import datetime
+import os
 import statistics
 
 from measure import FIGURES
+from peers import kit_version
 
 OURS = "ijson"
 EARLIER = "earlier build"
 BETTER = "better peer"
+
+
+def print_conditions(turns):
+    """When, with what and on what machine: the first lines of a report."""
+    with open("/proc/cpuinfo", encoding="utf-8") as lines:
+        models = [line.partition(":")[2].strip() for line in lines if line.startswith("model name")]
+    print(f"{datetime.date.today()}, {kit_version()}, {len(models)} processors {models[0]}, {turns} turns.")
+    print(f"Other work on the machine at the start: {os.getloadavg()[0]:.1f} processors.\n")
 
 
 def row(*cells):
