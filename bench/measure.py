@@ -1,11 +1,13 @@
 """Times programs on files, turn by turn."""
 
 import os
+import pathlib
 import statistics
 import subprocess
 import sys
-import time
 from typing import NamedTuple
+
+BENCH = pathlib.Path(__file__).resolve().parent
 
 
 class Run(NamedTuple):
@@ -24,17 +26,14 @@ FIGURES = {
 }
 
 
-def run_once(command, path, sink_path=os.devnull):
+def run_once(command, path, sink=os.devnull):
     """One run on the file as standard input."""
-    with open(path, "rb") as source, open(sink_path, "wb") as sink:
-        start = time.perf_counter()
-        process = subprocess.Popen(command, stdin=source, stdout=sink)
-        _, status, usage = os.wait4(process.pid, 0)
-        elapsed = time.perf_counter() - start
-    process.returncode = os.waitstatus_to_exitcode(status)
-    if status:
+    once = [sys.executable, "-I", "-S", BENCH / "once.py", path, sink, *command]
+    done = subprocess.run(once, stdout=subprocess.PIPE, text=True)
+    if done.returncode:
         sys.exit(f"{command[0]} failed on {path}")
-    return Run(elapsed, usage.ru_utime + usage.ru_stime, usage.ru_maxrss * 1024 / 1e6)
+    elapsed, processor, memory = map(float, done.stdout.split())
+    return Run(elapsed, processor, memory / 1e6)
 
 
 def figures(jobs, turns):
