@@ -1,5 +1,5 @@
 #!/usr/bin/env python3
-"""Writes the benchmark's files, about SIZE bytes each (10,000,000 if left out), into a folder; the same at each run."""
+"""generate.py FOLDER SIZE NAME..: writes the named files, about SIZE bytes each, into the folder; the same at each run."""
 
 import random
 import sys
@@ -16,12 +16,28 @@ def number(rng):
     return f"{rng.uniform(-9, 9):.12f}e{rng.randrange(-300, 300)}"
 
 
-def numbers(rng, size):
-    parts, total = [], 2
-    while total < size:
-        parts.append(number(rng))
-        total += len(parts[-1]) + 2
-    return "[" + ", ".join(parts) + "]\n"
+def integer(rng):
+    bits = rng.choice([7, 31, 53, 63])
+    return str(rng.randrange(-(2**bits), 2**bits))
+
+
+def fraction(rng):
+    """A price, a coordinate, or a number with all the digits of a floating-point one."""
+    places = rng.choice([2, 6, 13])
+    return f"{rng.uniform(-1000, 1000):.{places}f}"
+
+
+def array_of(item):
+    """What makes an array of such items up to a size."""
+
+    def make(rng, size):
+        parts, total = [], 2
+        while total < size:
+            parts.append(item(rng))
+            total += len(parts[-1].encode()) + 2
+        return "[" + ", ".join(parts) + "]\n"
+
+    return make
 
 
 def nested(rng, depth):
@@ -30,12 +46,8 @@ def nested(rng, depth):
     return "[" + ", ".join(nested(rng, depth - 1) for _ in range(rng.randrange(1, 4))) + "]"
 
 
-def arrays(rng, size):
-    parts, total = [], 2
-    while total < size:
-        parts.append(nested(rng, 10))
-        total += len(parts[-1]) + 2
-    return "[" + ", ".join(parts) + "]\n"
+def shallow(rng):
+    return nested(rng, 10)
 
 
 WORDS = "alpha beta gamma delta epsilon zeta eta theta iota kappa lambda mu naïve café 東京 \\n \\\" \\u00e9 \\ud83d\\ude00".split(" ")
@@ -43,14 +55,6 @@ WORDS = "alpha beta gamma delta epsilon zeta eta theta iota kappa lambda mu naï
 
 def string(rng):
     return '"' + " ".join(rng.choice(WORDS) for _ in range(rng.randrange(1, 12))) + '"'
-
-
-def strings(rng, size):
-    parts, total = [], 2
-    while total < size:
-        parts.append(string(rng))
-        total += len(parts[-1].encode()) + 2
-    return "[" + ", ".join(parts) + "]\n"
 
 
 KEYS = ["id", "name", "price", "quantity", "description", "created_at", "updated_at", "is_available", "tags", "category"]
@@ -62,14 +66,6 @@ def record(rng):
         value = rng.choice([number, string, lambda r: r.choice(["true", "false", "null"])])(rng)
         members.append(f'"{key}": {value}')
     return "{" + ", ".join(members) + "}"
-
-
-def objects(rng, size):
-    parts, total = [], 2
-    while total < size:
-        parts.append(record(rng))
-        total += len(parts[-1].encode()) + 2
-    return "[" + ", ".join(parts) + "]\n"
 
 
 def deep(rng, depth):
@@ -85,50 +81,43 @@ def deep(rng, depth):
     return "[" + ", ".join(deep(rng, depth - 1) for _ in range(rng.randrange(1, 4))) + "]"
 
 
-def mixed(rng, size):
-    parts, total = [], 2
-    while total < size:
-        parts.append(deep(rng, 40))
-        total += len(parts[-1].encode()) + 2
-    return "[" + ", ".join(parts) + "]\n"
+def document(rng):
+    return deep(rng, 40)
 
 
 LONG_KEYS = [f"a_rather_long_key_of_the_column_number_{i}" for i in range(20)]
 
 
-def long_keys(rng, size):
-    parts, total = [], 2
-    while total < size:
-        parts.append("{" + ", ".join(f'"{key}": {rng.randrange(100)}' for key in LONG_KEYS) + "}")
-        total += len(parts[-1]) + 2
-    return "[" + ", ".join(parts) + "]\n"
+def row(rng):
+    return "{" + ", ".join(f'"{key}": {rng.randrange(100)}' for key in LONG_KEYS) + "}"
 
 
 def one_object(rng, size):
-    """One object of 300,000 keys, whatever the size."""
-    members = [f'"key number {i}": {i}' for i in range(300_000)]
+    """One object of 300,000 keys where the size is 10,000,000, and in proportion."""
+    members = [f'"key number {i}": {i}' for i in range(size * 3 // 100)]
     rng.shuffle(members)
     return "{" + ", ".join(members) + "}\n"
 
 
 FILES = {
-    "numbers": numbers,
-    "arrays": arrays,
-    "strings": strings,
-    "objects": objects,
-    "mixed": mixed,
-    "long_keys": long_keys,
+    "integers": array_of(integer),
+    "fractions": array_of(fraction),
+    "objects": array_of(record),
+    "strings": array_of(string),
+    "mixed": array_of(document),
     "one_object": one_object,
+    "numbers": array_of(number),
+    "arrays": array_of(shallow),
+    "long_keys": array_of(row),
 }
 
 
 def main():
-    folder = sys.argv[1]
-    size = int(sys.argv[2]) if len(sys.argv) > 2 else 10_000_000
-    for name, make in FILES.items():
+    folder, size, *names = sys.argv[1:]
+    for name in names:
         rng = random.Random(20261122)
         with open(f"{folder}/{name}.json", "w", encoding="utf-8") as file:
-            file.write(make(rng, size))
+            file.write(FILES[name](rng, int(size)))
 
 
 main()
