@@ -30,7 +30,8 @@ pub struct IObject {
 const _: () = prove!(size_of::<IObject>() == 16);
 
 impl Model for IObject {
-    ghost use Rattle.ijson_table.specs.Store.{Store, store_code};
+    ghost use Rattle.ijson_table.specs.Store.{Store};
+    ghost use Rattle.ijson_table.specs.laws.Store.{store_code};
     ghost use Rattle.ijson_value.specs.WellFormed.{WellFormed};
     ghost use Rattle.ijson_value.specs.laws.WellFormedCode.{well_formed_code};
     ghost use Rattle.ijson_value.specs.private.Boxed.{table_store};
