@@ -4,7 +4,7 @@ ghost use Rattle.std.specs.Prelude.{◌≡◌, ◌≤◌, ◌-◌, ◌+◌, ◌<
 ghost use Rattle.std.specs.Option.{option_copied};
 ghost use Rattle.ijson_table.specs.Store.{keys_of, lookup, put};
 ghost use Rattle.ijson_table.specs.Growth.{capacity_limit};
-ghost use Rattle.ijson_table.specs.Placed.{placed_with_value};
+ghost use Rattle.ijson_table.specs.laws.Placed.{placed_with_value};
 ghost use Rattle.ijson_table.specs.Fold.{fold_words};
 ghost use Rattle.ijson_table.specs.Places.{IsBounded};
 
@@ -24,7 +24,8 @@ pub struct FixedTable<V> {
 }
 
 impl<V> Model for FixedTable<V> {
-    ghost use Rattle.ijson_table.specs.Placed.{Placed, placed_code};
+    ghost use Rattle.ijson_table.specs.Placed.{Placed};
+    ghost use Rattle.ijson_table.specs.laws.Placed.{placed_code};
 
     ghost Value = { Placed V };
 

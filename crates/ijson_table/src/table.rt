@@ -1,10 +1,11 @@
 //! A pair store whose keys are found by their hash.
 
 ghost use Rattle.std.specs.Prelude.{◌≡◌, ◌+◌, ◌-◌, ◌<◌, ◌≤◌, ◌^◌, ◌/◌, [], length, get_or, map, Ok, Err, refl, vec_capacity, IfOk, IsOk, ◌↔◌};
-ghost use Rattle.ijson_table.specs.Store.{at, keys_of, put, swap_out, IsDistinct, IsDistinct-prop, lookup};
+ghost use Rattle.ijson_table.specs.Store.{at, keys_of, put, swap_out, IsDistinct, lookup};
+ghost use Rattle.ijson_table.specs.laws.Store.{IsDistinct-prop};
 ghost use Rattle.ijson_table.specs.Places.{IsBounded, IsTable};
 ghost use Rattle.ijson_table.specs.Growth.{capacity_limit};
-ghost use Rattle.ijson_table.specs.Placed.{placed_with_value};
+ghost use Rattle.ijson_table.specs.laws.Placed.{placed_with_value};
 ghost use Rattle.ijson_table.specs.private.Lookup.{Tells};
 ghost use Rattle.std.specs.Option.{option_copied};
 
@@ -35,7 +36,9 @@ pub struct Table<V, H: KeyHash> {
 
 impl<V, H: KeyHash> Model for Table<V, H> {
     ghost use Rattle.std.specs.Prelude.{◌≤◌, vec_capacity};
-    ghost use Rattle.ijson_table.specs.Placed.{Placed, placed_code, IsPlaced};
+    ghost use Rattle.ijson_table.specs.Placed.{Placed};
+    ghost use Rattle.ijson_table.specs.laws.Placed.{placed_code};
+    ghost use Rattle.ijson_table.specs.private.IsPlaced.{IsPlaced};
 
     ghost Value = { Placed V };
 

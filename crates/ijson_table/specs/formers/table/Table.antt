@@ -19,8 +19,10 @@ use Rattle.std.specs.declared.alloc.Global.{Global}
 use Rattle.std.specs.declared.marker.PhantomData.{PhantomData}
 use Rattle.std.specs.contracts.alloc.Global as heap
 use Rattle.std.specs.contracts.impls.GlobalAllocator.TheImpl.{ghosts}
-use Rattle.ijson_table.specs.Store.{IsDistinct, IsDistinct-prop, keys_of}
-use Rattle.ijson_table.specs.Placed.{Placed, IsPlaced-prop, placed_along}
+use Rattle.ijson_table.specs.Store.{IsDistinct, keys_of}
+use Rattle.ijson_table.specs.laws.Store.{IsDistinct-prop}
+use Rattle.ijson_table.specs.Placed.{Placed}
+use Rattle.ijson_table.specs.laws.Placed.{IsPlaced-prop, placed_along}
 use Rattle.ijson_table.specs.private.PlaceList.{Index}
 use Rattle.ijson_table.specs.declared.hash.KeyHash as hashing
 use Rattle.ijson_table.specs.formers.linear.LinearPairs as linear

@@ -1,5 +1,5 @@
 use Rattle.std.proofs.Common.{arith, sym, subst}
-use Rattle.ijson_table.specs.Placed.{IsPlaced}
+use Rattle.ijson_table.specs.private.IsPlaced.{IsPlaced}
 use Rattle.ijson_table.specs.Store.{keys_of}
 use Rattle.ijson_table.proofs.Writing.{put_back}
 use Rattle.ijson_table.proofs.table.TablePairStore.shrink_to_fit.Goals as goal
