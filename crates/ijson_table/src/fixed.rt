@@ -64,10 +64,8 @@ impl<V: Drop> FixedTable<V> {
         ensures answer { result ≡ lookup key self.old.store.pairs }
         ensures room { self.new.store.capacity ≡ self.old.store.capacity }
         ensures grows { looks.old ≤ looks.new }
-        ensures bounded {
-            IsBounded fold_words (keys_of self.old.store.pairs) self.old.places
-                self.old.store.capacity key (looks.new - looks.old)
-        }
+        ensures bounded { IsBounded fold_words (keys_of self.old.store.pairs) self.old.places
+            self.old.store.capacity key (looks.new - looks.old) }
     {
         self.table.put_counted(key, value, looks)
     }
@@ -93,10 +91,8 @@ impl<V> FixedTable<V> {
         requires { looks.old + capacity_limit + 1 < 2 ^ 128 }
         ensures value { option_copied result ≡ lookup key.now self.now.store.pairs }
         ensures grows { looks.old ≤ looks.new }
-        ensures bounded {
-            IsBounded fold_words (keys_of self.now.store.pairs) self.now.places
-                self.now.store.capacity key.now (looks.new - looks.old)
-        }
+        ensures bounded { IsBounded fold_words (keys_of self.now.store.pairs) self.now.places
+            self.now.store.capacity key.now (looks.new - looks.old) }
     {
         self.table.get_counted(key, looks)
     }

@@ -10,11 +10,7 @@ use std::alloc::{AllocError, Global};
 const CAPACITY_LIMIT: usize = 1 << 56;
 
 /// The capacity that a growth asks for, where it is within the limit.
-pub fn grown_capacity(
-    len: usize,
-    capacity: usize,
-    additional: usize,
-) -> Result<usize, ReserveError>
+pub fn grown_capacity(len: usize, capacity: usize, additional: usize) -> Result<usize, ReserveError>
     requires length { len ≤ capacity }
     requires limited { capacity ≤ capacity_limit }
     requires short { capacity < len + additional }

@@ -76,16 +76,12 @@ pub fn next_place(places: usize, place: usize) -> usize
 #[inline(always)]
 pub fn probe<P: ProbeTarget>(target: &P, looks: &mut Looks) -> Probed
     requires some { 0 < length (P.slots target.now) }
-    requires fits {
-        (m : ℕ) → m < length (P.slots target.now)
+    requires fits { (m : ℕ) → m < length (P.slots target.now)
         → Passed (P.displacements target.now) (length (P.slots target.now)) (P.home_place target.now) m
-        → looks.old + m + 1 < 2 ^ 128
-    }
+        → looks.old + m + 1 < 2 ^ 128 }
     ensures grows { looks.old ≤ looks.new }
-    ensures ends {
-        Ends (P.slots target.now) (P.displacements target.now) (P.home_place target.now)
-            (P.seeks target.now) (looks.new - looks.old) result
-    }
+    ensures ends { Ends (P.slots target.now) (P.displacements target.now) (P.home_place target.now)
+        (P.seeks target.now) (looks.new - looks.old) result }
 {
     let places = target.places();
     let mut place = target.home();

@@ -100,7 +100,11 @@ fn place_of(places: &[Place], position: usize, hash: u64) -> usize
     ensures within { result < length places.now }
     ensures there { resident (positions places.now) result ≡ Some position }
 {
-    let standing = Standing { places, position, hash };
+    let standing = Standing {
+        places,
+        position,
+        hash,
+    };
     match probe(&standing, &mut Looks::new()) {
         Probed::Found(_, place) => place,
         Probed::Vacant(_) | Probed::Full => unreachable!(),
@@ -167,13 +171,7 @@ fn shift_back(places: &mut [Place], from: usize)
 }
 
 /// Takes a position out of the places, and gives its number to the last one.
-pub fn remove(
-    places: &mut [Place],
-    position: usize,
-    hash: u64,
-    last: usize,
-    last_hash: u64,
-)
+pub fn remove(places: &mut [Place], position: usize, hash: u64, last: usize, last_hash: u64)
     ghost hashes: { List ℕ }
     requires table { IsTableOf hashes places.old }
     requires hashes { EndsWith hashes position hash last last_hash }
@@ -206,10 +204,8 @@ fn insert_each(from: &[Place], places: &mut [Place])
     ghost hashes: { List ℕ }
     requires { AcceptsEach hashes places.old from.now }
     ensures ordered { IsOrdered hashes (positions places.new) }
-    ensures placed {
-        (i : ℕ) → times i (positions places.new)
-        ≡ times i (positions places.old) + times i (positions from.now)
-    }
+    ensures placed { (i : ℕ) → times i (positions places.new)
+        ≡ times i (positions places.old) + times i (positions from.now) }
     ensures hashes { HaveHashes hashes places.new }
 {
     for index in 0..from.len() {

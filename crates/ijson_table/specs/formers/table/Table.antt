@@ -14,7 +14,6 @@ use denote.Hole.Fix.{over as within}
 use denote.Param.Weighed.{Weighed, most}
 use denote.Model.Placed.{view_places}
 use Rattle.std.specs.formers.vec.Vec as vec
-use Rattle.std.specs.declared.vec.Vec.{Vec}
 use Rattle.std.specs.declared.alloc.Global.{Global}
 use Rattle.std.specs.declared.marker.PhantomData.{PhantomData}
 use Rattle.std.specs.contracts.alloc.Global as heap
