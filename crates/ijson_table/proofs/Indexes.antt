@@ -1,9 +1,9 @@
 -- The invariant of a list of places.
-use Rattle.std.proofs.Common.{◌≡◌, ℕ, ◌+◌, ◌<◌, ◌≤◌, ◌^◌, arith, List, [], ◌∷◌, ◌++◌, length, take, drop, get_or, Option, None, refl, sym, ap, subst, ◌∙◌, length-append}
+use Rattle.std.proofs.Common.{◌≡◌, ℕ, ◌+◌, ◌<◌, ◌≤◌, ◌^◌, arith, List, [], ◌∷◌, ◌++◌, length, take, drop, get_or, None, refl, sym, ap, ◌∙◌, length-append}
 use Rattle.std.specs.List.{All}
 use Rattle.std.proofs.lemmas.Bool.Decides.{nat_tests}
 use Rattle.ijson_table.specs.declared.place.Place.{Place}
-use Rattle.ijson_table.specs.Places.{resident, times, below, IsTable}
+use Rattle.ijson_table.specs.Places.{times, below, IsTable}
 use Rattle.ijson_table.specs.private.Holds.{with_one, HasEmpty, Holds}
 use Rattle.ijson_table.specs.private.Insertion.{Accepts}
 use Rattle.ijson_table.specs.private.PlaceHashes.{position_in, positions, hashes_of, HaveHashes}

@@ -4,7 +4,8 @@ use Rattle.std.specs.Prelude.{bytes_eq, swap_remove, option_map, slice_get}
 use Rattle.std.specs.Cmp.Lexicographic.{bytes_decides}
 use Rattle.std.proofs.lemmas.Option.{get_or_from_slice_get}
 use Rattle.std.proofs.lemmas.List.{length-set, length-map, get_or-map, take-set-le, take-map, map-set, map-append}
-use Rattle.ijson_table.specs.Store.{keys_of, position_of, at, lookup, put, swap_out, with_value, keys-with_value, IsDistinct}
+use Rattle.ijson_table.specs.Store.{keys_of, position_of, at, lookup, put, swap_out, with_value, IsDistinct}
+use Rattle.ijson_table.specs.laws.Store.{keys-with_value}
 use Rattle.ijson_table.proofs.Cases.{below_or_not, same_or_not}
 use Rattle.ijson_table.proofs.Distinct.{AreApart, apart, distinct}
 

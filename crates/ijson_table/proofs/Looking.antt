@@ -1,13 +1,12 @@
 -- What a look tells of the key that is sought.
-use Rattle.std.proofs.Common.{◌≡◌, ◌≢◌, ℕ, ◌+◌, ◌%◌, ◌<◌, ◌&&◌, inl, inr, arith, Bool, true, false, eqb, List, [], length, map, get_or, Option, Some, None, refl, sym, ap, ◌∙◌, ◌↔◌, IsTrue}
+use Rattle.std.proofs.Common.{◌≡◌, ◌≢◌, ℕ, ◌+◌, ◌<◌, ◌&&◌, inl, inr, arith, Bool, true, false, eqb, List, [], length, map, get_or, Option, Some, refl, sym, ap, ◌∙◌, ◌↔◌, IsTrue}
 use Rattle.std.specs.Str.{bytes_eq}
 use Rattle.std.proofs.lemmas.Bool.Decides.{nat_tests}
 use Rattle.std.proofs.lemmas.List.{get_or-map}
 use Rattle.ijson_table.specs.declared.place.Place.{Place}
 use Rattle.ijson_table.specs.declared.places.Seen.{Seen}
 use Rattle.ijson_table.specs.declared.places.Seen.TheVariants.{Empty, Resident}
-use Rattle.ijson_table.specs.Crowd.{distance}
-use Rattle.ijson_table.specs.Places.{displacement, home_at, resident}
+use Rattle.ijson_table.specs.Places.{displacement, resident}
 use Rattle.ijson_table.specs.Sees.{Sees}
 use Rattle.ijson_table.specs.private.Lookup.{is_key, is_hashed_key}
 use Rattle.ijson_table.specs.private.PlaceHashes.{position_in, HasHash, SeenAs}
@@ -21,9 +20,9 @@ pub same_test : (r : Bool) (k key : List ℕ) → (IsTrue r ↔ (k ≡ key)) →
 same_test r k key is = elim (same_key k key) [
   | inl yes_it ↦ let up = is.1 yes_it.1 in let other = yes_it.0 in cc (up, other)
   | inr no_it ↦ elim r as (λ b. r ≡ b → r ≡ bytes_eq k key) [
-      | true ↦ λ e. absurd (no_it.1 (is.0 e))
-      | false ↦ λ e. e ∙ sym no_it.0
-    ] refl
+    | true ↦ λ e. absurd (no_it.1 (is.0 e))
+    | false ↦ λ e. e ∙ sym no_it.0
+  ] refl
 ]
 
 pub is_key-true : (keys : List (List ℕ)) (key : List ℕ) (i : ℕ) → is_key keys key i ≡ true → get_or keys i [] ≡ key

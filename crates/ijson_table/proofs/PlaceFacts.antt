@@ -1,5 +1,5 @@
 -- The hashes that places have beside positions.
-use Rattle.std.proofs.Common.{◌≡◌, ◌≢◌, zero, suc, Bool, inl, inr, get_or-set_other, get_or-set_same, ℕ, ◌<◌, ◌%◌, ◌+◌, arith, List, [], length, get_or, set, Option, Some, None, refl, ap, sym, subst, ◌∙◌}
+use Rattle.std.proofs.Common.{◌≡◌, ◌≢◌, zero, suc, Bool, inl, inr, get_or-set_other, get_or-set_same, ℕ, ◌<◌, ◌%◌, ◌+◌, arith, List, length, get_or, set, Option, Some, None, refl, ap, sym, subst, ◌∙◌}
 use Rattle.std.specs.List.{All, slice_index_or}
 use Rattle.std.proofs.lemmas.List.{get_or-map, length-map, length-set, map-set}
 use Rattle.std.proofs.lemmas.List.Elements.{All-get_or, All-from_get_or, All-set}

@@ -1,15 +1,15 @@
 -- What insertion needs of a table of the first positions.
-use Rattle.std.proofs.Common.{◌≡◌, ◌≢◌, ℕ, zero, suc, ◌+◌, ◌-◌, ◌<◌, ◌≤◌, ◌⊎◌, inl, inr, arith, List, [], ◌∷◌, length, get_or, set, Option, Some, None, refl, sym, ap, subst, ◌∙◌, get_or-set_other}
+use Rattle.std.proofs.Common.{◌≡◌, ◌≢◌, ℕ, zero, suc, ◌+◌, ◌-◌, ◌<◌, ◌≤◌, ◌⊎◌, inl, inr, arith, List, [], ◌∷◌, length, set, Option, Some, None, refl, sym, ap, subst, ◌∙◌, get_or-set_other}
 use Rattle.std.specs.Prelude.{sum, ltb, eqb, true, if◌then◌else◌}
 use Rattle.std.proofs.lemmas.Bool.Decides.{nat_tests}
 use Rattle.std.proofs.lemmas.List.{length-set}
 use Rattle.std.proofs.lemmas.List.Sums.{sum_by-set}
-use Rattle.ijson_table.specs.Crowd.{distance, home_of}
+use Rattle.ijson_table.specs.Crowd.{distance}
 use Rattle.ijson_table.specs.private.Holds.{one_if, Holds, MayStand, HasEmpty}
 use Rattle.ijson_table.specs.Places.{after, displacement, resident, home_at, times, below}
 use Rattle.ijson_table.specs.private.Probe.{onward, Passed}
 use Rattle.ijson_table.proofs.Cases.{below_or_not}
-use Rattle.ijson_table.proofs.Round.{after-below, after-injective, onward-below, after-onward, distance-below, distance-onward, onward-distance}
+use Rattle.ijson_table.proofs.Round.{after-injective, onward-below, after-onward, distance-below, distance-onward, onward-distance}
 use Rattle.ijson_table.proofs.Count.{covers}
 use Rattle.ijson_table.proofs.Residents.{times-some, stands_once}
 use Rattle.ijson_table.proofs.Walk.{displacement-none}

@@ -1,5 +1,5 @@
 -- What the end of a probe for a key tells.
-use Rattle.std.proofs.Common.{◌≡◌, ◌≢◌, ℕ, ◌+◌, ◌%◌, ◌<◌, ◌≤◌, inl, inr, arith, Bool, true, false, List, [], ◌∷◌, ◌++◌, length, map, get_or, Option, Some, None, sym, ap, subst, ◌∙◌}
+use Rattle.std.proofs.Common.{◌≡◌, ◌≢◌, ℕ, ◌%◌, ◌<◌, ◌≤◌, inl, inr, arith, Bool, true, false, List, [], ◌∷◌, ◌++◌, length, map, get_or, Option, Some, sym, ap, subst, ◌∙◌}
 use Rattle.std.proofs.lemmas.List.{length-map}
 use Rattle.std.proofs.Math.Nat.{mod-lt}
 use Rattle.ijson_table.specs.Crowd.{home_of, place_count}
@@ -7,7 +7,7 @@ use Rattle.ijson_table.specs.Places.{displacement, home_at, resident, IsTable, I
 use Rattle.ijson_table.specs.Store.{position_of, IsDistinct}
 use Rattle.ijson_table.specs.declared.probe.Probed.{Probed}
 use Rattle.ijson_table.specs.declared.probe.Probed.TheVariants.{Found, Vacant, Full}
-use Rattle.ijson_table.specs.private.Holds.{HasEmpty, MayStand}
+use Rattle.ijson_table.specs.private.Holds.{MayStand}
 use Rattle.ijson_table.specs.private.Lookup.{found_at, Tells}
 use Rattle.ijson_table.specs.private.Probe.{onward, Passed, PassedOthers, EndsAt, Ends}
 use Rattle.ijson_table.proofs.Round.{onward-below}

@@ -1,11 +1,11 @@
 -- The hashes of the positions are those that stand beside them.
-use Rattle.std.proofs.Common.{◌≡◌, ℕ, zero, suc, ◌+◌, ◌<◌, ◌≤◌, inl, inr, arith, List, [], ◌∷◌, length, get_or, drop, Option, Some, None, true, false, cond, refl, sym, ap, subst, ◌∙◌, drop-cons}
+use Rattle.std.proofs.Common.{◌≡◌, ℕ, zero, suc, ◌+◌, ◌<◌, ◌≤◌, inl, inr, arith, List, [], ◌∷◌, length, get_or, drop, Some, None, true, false, cond, refl, sym, ap, subst, ◌∙◌, drop-cons}
 use Rattle.std.specs.Prelude.{if◌then◌else◌}
 use Rattle.std.proofs.lemmas.Bool.Decides.{nat_tests}
 use Rattle.ijson_table.specs.declared.place.Place.{Place}
 use Rattle.ijson_table.specs.Places.{holds, times, below, IsTable}
 use Rattle.ijson_table.specs.private.Holds.{one_if}
-use Rattle.ijson_table.specs.private.PlaceHashes.{position_in, positions, blank, HasHash, HaveHashes, hash_beside, first_and, hashes_from, hashes_of}
+use Rattle.ijson_table.specs.private.PlaceHashes.{position_in, positions, blank, HaveHashes, hash_beside, first_and, hashes_from, hashes_of}
 use Rattle.ijson_table.specs.private.Insertion.{IsTableOf}
 use Rattle.ijson_table.specs.private.PlaceList.{IsIndex}
 use Rattle.ijson_table.proofs.Cases.{below_or_not}

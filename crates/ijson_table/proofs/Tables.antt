@@ -1,13 +1,14 @@
 -- A store with a table: the hashes of its keys, and what a probe for a key tells.
-use Rattle.std.proofs.Common.{◌≡◌, ℕ, ◌-◌, ◌<◌, ◌≤◌, arith, ◌+◌, ◌%◌, List, [], ◌∷◌, ◌++◌, length, take, map, get_or, set, Option, None, refl, sym, ap, subst, ◌∙◌}
+use Rattle.std.proofs.Common.{◌≡◌, ℕ, ◌-◌, ◌<◌, ◌≤◌, arith, ◌+◌, ◌%◌, List, [], ◌∷◌, ◌++◌, length, take, map, get_or, set, Option, sym, ap, subst, ◌∙◌}
 use Rattle.std.specs.List.{swap_remove}
 use Rattle.std.proofs.lemmas.Bool.Decides.{nat_tests}
 use Rattle.std.proofs.lemmas.List.{length-map, map-append, map-set, get_or-map, take-map}
-use Rattle.ijson_table.specs.Store.{keys_of, swap_out, keys-with_value, IsDistinct}
+use Rattle.ijson_table.specs.Store.{keys_of, swap_out, IsDistinct}
+use Rattle.ijson_table.specs.laws.Store.{keys-with_value}
 use Rattle.ijson_table.specs.declared.probe.Probed.{Probed}
 use Rattle.ijson_table.specs.declared.probe.Probed.TheVariants.{Full}
 use Rattle.ijson_table.specs.Crowd.{place_count}
-use Rattle.ijson_table.specs.Placed.{IsPlaced}
+use Rattle.ijson_table.specs.private.IsPlaced.{IsPlaced}
 use Rattle.ijson_table.specs.Places.{displacement, times, below, IsTable, IsBounded}
 use Rattle.ijson_table.specs.private.Holds.{HasEmpty}
 use Rattle.ijson_table.specs.private.Lookup.{is_hashed_key, Tells}

@@ -1,7 +1,8 @@
 -- Two stores with the same pairs and the same capacity are one.
 use Rattle.std.proofs.Common.{◌≡◌}
 use mathlib.Core.HLevel.{is_prop→PathP}
-use Rattle.ijson_table.specs.Store.{Store, IsDistinct, IsDistinct-prop, keys_of}
+use Rattle.ijson_table.specs.Store.{Store, IsDistinct, keys_of}
+use Rattle.ijson_table.specs.laws.Store.{IsDistinct-prop}
 use Rattle.ijson_table.specs.Placed.{Placed}
 use Rattle.ijson_table.specs.declared.hash.KeyHash as hashing
 use Rattle.ijson_table.specs.declared.table.Table.TheInside.{Inside}

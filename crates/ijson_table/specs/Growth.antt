@@ -1,6 +1,5 @@
 -- The capacity rule of a pair store.
 use Rattle.std.specs.Prelude.{◌≡◌, ◌≢◌, ℕ, ◌+◌, ◌*◌, ◌<◌, ◌≤◌, leb, max, Result, Ok, Err, if◌then◌else◌}
-use denote.Struct.Props.{props}
 use Rattle.ijson_table.specs.declared.growth.TheConstants.{CAPACITY_LIMIT}
 use Rattle.ijson_table.specs.declared.store.ReserveError.{ReserveError}
 use Rattle.ijson_table.specs.declared.store.ReserveError.TheVariants.{Memory, TooLarge}
@@ -24,14 +23,3 @@ abbrev pub Shrink : {A : Type 0} → ℕ → ℕ → Result A ReserveError → �
 Shrink len c (Ok _) c' = c' ≡ len
 Shrink len c (Err Memory) c' = (c' ≡ c) × (c ≢ len) × (0 < len)
 Shrink len c (Err TooLarge) c' = ⊥
-
--- Each pair has room, and the capacity is within the limit.
-pub record HasRoom (len c : ℕ) : Type 0 where
-  pub within : len ≤ c
-  pub limited : c ≤ capacity_limit
-
-pub HasRoom-prop : (len c : ℕ) → IsProp (HasRoom len c)
-HasRoom-prop len c x y =
-    let within_prop : IsProp (len ≤ c) = hlevel props in
-    let limited_prop : IsProp (c ≤ capacity_limit) = hlevel props in
-    λ i. record { within = within_prop x.within y.within i; limited = limited_prop x.limited y.limited i }

@@ -4,7 +4,7 @@ ghost use Rattle.std.specs.Prelude.{◌≡◌, ◌≤◌, ◌-◌, ◌+◌, ◌<
 ghost use Rattle.std.specs.Option.{option_copied};
 ghost use Rattle.ijson_table.specs.Store.{keys_of, lookup, put};
 ghost use Rattle.ijson_table.specs.Growth.{capacity_limit};
-ghost use Rattle.ijson_table.specs.Placed.{placed_with_value};
+ghost use Rattle.ijson_table.specs.laws.Placed.{placed_with_value};
 ghost use Rattle.ijson_table.specs.Fold.{fold_words};
 ghost use Rattle.ijson_table.specs.Places.{IsBounded};
 
@@ -24,7 +24,8 @@ pub struct FixedTable<V> {
 }
 
 impl<V> Model for FixedTable<V> {
-    ghost use Rattle.ijson_table.specs.Placed.{Placed, placed_code};
+    ghost use Rattle.ijson_table.specs.Placed.{Placed};
+    ghost use Rattle.ijson_table.specs.laws.Placed.{placed_code};
 
     ghost Value = { Placed V };
 
@@ -63,10 +64,8 @@ impl<V: Drop> FixedTable<V> {
         ensures answer { result ≡ lookup key self.old.store.pairs }
         ensures room { self.new.store.capacity ≡ self.old.store.capacity }
         ensures grows { looks.old ≤ looks.new }
-        ensures bounded {
-            IsBounded fold_words (keys_of self.old.store.pairs) self.old.places
-                self.old.store.capacity key (looks.new - looks.old)
-        }
+        ensures bounded { IsBounded fold_words (keys_of self.old.store.pairs) self.old.places
+            self.old.store.capacity key (looks.new - looks.old) }
     {
         self.table.put_counted(key, value, looks)
     }
@@ -92,10 +91,8 @@ impl<V> FixedTable<V> {
         requires { looks.old + capacity_limit + 1 < 2 ^ 128 }
         ensures value { option_copied result ≡ lookup key.now self.now.store.pairs }
         ensures grows { looks.old ≤ looks.new }
-        ensures bounded {
-            IsBounded fold_words (keys_of self.now.store.pairs) self.now.places
-                self.now.store.capacity key.now (looks.new - looks.old)
-        }
+        ensures bounded { IsBounded fold_words (keys_of self.now.store.pairs) self.now.places
+            self.now.store.capacity key.now (looks.new - looks.old) }
     {
         self.table.get_counted(key, looks)
     }

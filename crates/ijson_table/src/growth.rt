@@ -10,11 +10,7 @@ use std::alloc::{AllocError, Global};
 const CAPACITY_LIMIT: usize = 1 << 56;
 
 /// The capacity that a growth asks for, where it is within the limit.
-pub(crate) fn grown_capacity(
-    len: usize,
-    capacity: usize,
-    additional: usize,
-) -> Result<usize, ReserveError>
+pub fn grown_capacity(len: usize, capacity: usize, additional: usize) -> Result<usize, ReserveError>
     requires length { len ≤ capacity }
     requires limited { capacity ≤ capacity_limit }
     requires short { capacity < len + additional }
@@ -30,7 +26,7 @@ pub(crate) fn grown_capacity(
 }
 
 /// This capacity, where it is within the limit.
-pub(crate) fn limited(capacity: usize) -> Result<usize, ReserveError>
+pub fn limited(capacity: usize) -> Result<usize, ReserveError>
     ensures { MatchResult result (λ n. (n ≡ capacity) × (capacity ≤ capacity_limit)) (λ why. (why ≡ ReserveError.TooLarge) × (capacity_limit < capacity)) }
 {
     if capacity > CAPACITY_LIMIT {
@@ -40,7 +36,7 @@ pub(crate) fn limited(capacity: usize) -> Result<usize, ReserveError>
 }
 
 /// An empty list with room for so many items. Room for none takes no memory.
-pub(crate) fn list_with_room<T>(alloc: Global, room: usize) -> Result<Vec<T>, AllocError>
+pub fn list_with_room<T>(alloc: Global, room: usize) -> Result<Vec<T>, AllocError>
     ensures empty { IfOk result (λ list. list.items ≡ []) }
     ensures room { IfOk result (λ list. room ≤ vec_capacity list) }
     ensures refused { OnErr result (0 < room) }
@@ -52,7 +48,7 @@ pub(crate) fn list_with_room<T>(alloc: Global, room: usize) -> Result<Vec<T>, Al
 }
 
 /// Moves the items to a list that has room for them alone. Where that is refused, nothing changes.
-pub(crate) fn fit<T: Drop>(alloc: Global, list: &mut Vec<T>) -> Result<(), AllocError>
+pub fn fit<T: Drop>(alloc: Global, list: &mut Vec<T>) -> Result<(), AllocError>
     ensures items { list.new.items ≡ list.old.items }
     ensures room { length list.old.items ≤ vec_capacity list.new }
     ensures refused { OnErr result ((0 < length list.old.items) × (vec_capacity list.new ≡ vec_capacity list.old)) }

@@ -1,19 +1,19 @@
 //! Stores of pairs with distinct keys, in insertion order.
 #![tactic(auto)]
 
-pub mod commands;
-pub mod fixed;
+mod commands;
+mod fixed;
 mod growth;
-pub mod hash;
-pub mod linear;
+mod hash;
+mod linear;
 mod lookup;
 mod place;
 mod place_list;
-pub mod places;
+mod places;
 mod probe;
 mod shifts;
-pub mod store;
-pub mod table;
+mod store;
+mod table;
 
 pub use commands::{Command, Reply, run};
 pub use fixed::FixedTable;

@@ -2,7 +2,8 @@
 
 ghost use Rattle.std.specs.Prelude.{◌≡◌, ◌<◌, ◌≤◌, ◌^◌, [], length, Some, None, Ok, Err, refl, vec_capacity, IfOk, IsOk, ◌↔◌};
 ghost use Rattle.std.specs.Option.{option_copied};
-ghost use Rattle.ijson_table.specs.Store.{at, keys_of, swap_out, IsDistinct, IsDistinct-prop, lookup, put, store_with_value};
+ghost use Rattle.ijson_table.specs.Store.{at, keys_of, swap_out, IsDistinct, lookup, put};
+ghost use Rattle.ijson_table.specs.laws.Store.{IsDistinct-prop, store_with_value};
 ghost use Rattle.ijson_table.specs.Growth.{capacity_limit};
 
 use crate::growth::{fit, grown_capacity, limited, list_with_room};
@@ -22,8 +23,9 @@ pub struct LinearPairs<V> {
 
 impl<V> Model for LinearPairs<V> {
     ghost use Rattle.std.specs.Prelude.{◌≤◌, vec_capacity, length};
-    ghost use Rattle.ijson_table.specs.Store.{Store, store_code};
-    ghost use Rattle.ijson_table.specs.Growth.{HasRoom};
+    ghost use Rattle.ijson_table.specs.Store.{Store};
+    ghost use Rattle.ijson_table.specs.laws.Store.{store_code};
+    ghost use Rattle.ijson_table.specs.private.Room.{HasRoom};
 
     ghost Value = { Store V };
 

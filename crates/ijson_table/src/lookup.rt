@@ -13,10 +13,10 @@ use ijson_string::IString;
 /// A key that is sought among pairs, and its hash. It goes to the memory of a key only where the hashes are the same.
 #[derive(Drop)]
 pub struct Lookup<'a, V> {
-    pub(crate) pairs: &'a [(IString, V)],
-    pub(crate) places: &'a PlaceList,
-    pub(crate) hash: u64,
-    pub(crate) key: &'a str,
+    pub pairs: &'a [(IString, V)],
+    pub places: &'a PlaceList,
+    pub hash: u64,
+    pub key: &'a str,
     ghost listed: { length pairs.now ≡ length places.now.hashes },
 }
 
@@ -55,7 +55,7 @@ impl<'a, V> ProbeTarget for Lookup<'a, V> {
 }
 
 /// Whether the pair at a position has this key.
-pub(crate) fn has_key<V>(pairs: &[(IString, V)], position: usize, key: &str) -> bool
+pub fn has_key<V>(pairs: &[(IString, V)], position: usize, key: &str) -> bool
     requires { position < length pairs.now }
     ensures { IsTrue result ↔ (get_or (keys_of pairs.now) position [] ≡ key.now) }
 {

@@ -17,14 +17,14 @@ pub struct Place {
 
 impl Place {
     /// The place where nothing stands.
-    pub(crate) fn empty() -> Place
+    pub fn empty() -> Place
         ensures { position_in result ≡ None }
     {
         Place { code: 0, hash: 0 }
     }
 
     /// The place where this position stands, whose key has this hash.
-    pub(crate) fn of(position: usize, hash: u64) -> Place
+    pub fn of(position: usize, hash: u64) -> Place
         requires { position + 1 < 2 ^ 64 }
         ensures position { position_in result ≡ Some position }
         ensures hash { result.hash ≡ hash }
@@ -36,14 +36,14 @@ impl Place {
     }
 
     /// The hash of the key there.
-    pub(crate) fn hash(self) -> u64
+    pub fn hash(self) -> u64
         ensures { result ≡ self.hash }
     {
         self.hash
     }
 
     /// The position that stands there, or none.
-    pub(crate) fn position(self) -> Option<usize>
+    pub fn position(self) -> Option<usize>
         ensures { result ≡ position_in self }
     {
         if self.code == 0 {
@@ -54,7 +54,7 @@ impl Place {
     }
 
     /// How far this place is from the home of what stands there.
-    pub(crate) fn distance(self, places: usize, place: usize) -> usize
+    pub fn distance(self, places: usize, place: usize) -> usize
         requires { place < places }
         ensures { result ≡ distance places (self.hash % places) place }
     {
@@ -67,14 +67,14 @@ impl Place {
     }
 
     /// Whether the key there has this hash.
-    pub(crate) fn has_hash(self, hash: u64) -> bool
+    pub fn has_hash(self, hash: u64) -> bool
         ensures { IsTrue result ↔ (self.hash ≡ hash) }
     {
         self.hash == hash
     }
 
     /// What a look at this place tells, where `same` says whether it holds what is sought.
-    pub(crate) fn seen(self, places: usize, place: usize, same: bool) -> Seen
+    pub fn seen(self, places: usize, place: usize, same: bool) -> Seen
         requires { place < places }
         ensures { SeenAs self places place same result }
     {
@@ -90,7 +90,7 @@ impl Place {
 }
 
 /// The home of a key of this hash, among so many places.
-pub(crate) fn home_of_hash(places: usize, hash: u64) -> usize
+pub fn home_of_hash(places: usize, hash: u64) -> usize
     requires { 0 < places }
     ensures value { result ≡ hash % places }
     ensures within { result < places }

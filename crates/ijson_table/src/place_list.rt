@@ -32,7 +32,7 @@ impl Model for PlaceList {
 
 impl PlaceList {
     /// No places. They take no memory.
-    pub(crate) fn new(alloc: Global) -> PlaceList
+    pub fn new(alloc: Global) -> PlaceList
         ensures hashes { result.hashes ≡ [] }
         ensures slots { result.slots ≡ [] }
     {
@@ -42,7 +42,7 @@ impl PlaceList {
     }
 
     /// So many empty places.
-    pub(crate) fn with_places(alloc: Global, count: usize) -> Result<PlaceList, AllocError>
+    pub fn with_places(alloc: Global, count: usize) -> Result<PlaceList, AllocError>
         ensures hashes { IfOk result (λ list. list.hashes ≡ []) }
         ensures count { IfOk result (λ list. length list.slots ≡ count) }
         ensures refused { OnErr result (0 < count) }
@@ -53,7 +53,7 @@ impl PlaceList {
     }
 
     /// How many places there are.
-    pub(crate) fn len(&self) -> usize
+    pub fn len(&self) -> usize
         ensures count { result ≡ length self.now.slots }
         ensures table { IsTable self.now.hashes self.now.slots }
     {
@@ -61,7 +61,7 @@ impl PlaceList {
     }
 
     /// What stands at a place.
-    pub(crate) fn at(&self, place: usize) -> Place
+    pub fn at(&self, place: usize) -> Place
         requires { place < length self.now.slots }
         ensures position { position_in result ≡ resident self.now.slots place }
         ensures hash { HasHash self.now.hashes result }
@@ -70,7 +70,7 @@ impl PlaceList {
     }
 
     /// Puts the next position into the places, which have room for it. Its key has this hash.
-    pub(crate) fn push(&mut self, position: usize, hash: u64)
+    pub fn push(&mut self, position: usize, hash: u64)
         requires position { position ≡ length self.old.hashes }
         requires room { position < length self.old.slots }
         ensures hashes { self.new.hashes ≡ self.old.hashes ++ hash ∷ [] }
@@ -80,7 +80,7 @@ impl PlaceList {
     }
 
     /// The same, at the place where a probe for it ended.
-    pub(crate) fn push_at(&mut self, place: usize, position: usize, hash: u64)
+    pub fn push_at(&mut self, place: usize, position: usize, hash: u64)
         requires position { position ≡ length self.old.hashes }
         requires room { position < length self.old.slots }
         requires may { MayStand (self.old.hashes ++ hash ∷ []) self.old.slots position place }
@@ -91,7 +91,7 @@ impl PlaceList {
     }
 
     /// Takes a position out, and gives its number to the last one. The hashes are those of their keys.
-    pub(crate) fn swap_remove(&mut self, position: usize, hash: u64, last: usize, last_hash: u64)
+    pub fn swap_remove(&mut self, position: usize, hash: u64, last: usize, last_hash: u64)
         requires { EndsWith self.old.hashes position hash last last_hash }
         ensures hashes { self.new.hashes ≡ swap_remove self.old.hashes position 0 }
         ensures count { length self.new.slots ≡ length self.old.slots }
@@ -100,7 +100,7 @@ impl PlaceList {
     }
 
     /// So many places with the same positions. None takes no memory.
-    pub(crate) fn rehashed(&self, alloc: Global, count: usize) -> Result<PlaceList, AllocError>
+    pub fn rehashed(&self, alloc: Global, count: usize) -> Result<PlaceList, AllocError>
         requires room { length self.now.hashes ≤ count }
         ensures hashes { IfOk result (λ list. list.hashes ≡ self.now.hashes) }
         ensures count { IfOk result (λ list. length list.slots ≡ count) }
@@ -112,7 +112,7 @@ impl PlaceList {
     }
 
     /// Makes each place empty.
-    pub(crate) fn clear(&mut self)
+    pub fn clear(&mut self)
         ensures hashes { self.new.hashes ≡ [] }
         ensures count { length self.new.slots ≡ length self.old.slots }
     {

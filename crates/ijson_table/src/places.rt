@@ -88,10 +88,8 @@ pub fn locate<P: Places>(table: &P, key: &str, looks: &mut Looks) -> Option<usiz
     requires { looks.old + length (P.keys table.now) + 1 < 2 ^ 128 }
     ensures found { result ≡ position_of (P.keys table.now) key.now }
     ensures grows { looks.old ≤ looks.new }
-    ensures bounded {
-        IsBounded P.hash_of (P.keys table.now) (P.slots table.now) (P.room table.now) key.now
-            (looks.new - looks.old)
-    }
+    ensures bounded { IsBounded P.hash_of (P.keys table.now) (P.slots table.now) (P.room table.now) key.now
+        (looks.new - looks.old) }
 {
     if table.places() == 0 {
         return None;

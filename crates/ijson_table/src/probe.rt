@@ -21,7 +21,7 @@ pub enum Probed {
 
 impl Probed {
     /// The position that was found, or none.
-    pub(crate) fn found(self) -> Option<usize>
+    pub fn found(self) -> Option<usize>
         ensures { result ≡ found_at self }
     {
         match self {
@@ -64,7 +64,7 @@ pub trait ProbeTarget {
 }
 
 /// The place after this one, round the end.
-pub(crate) fn next_place(places: usize, place: usize) -> usize
+pub fn next_place(places: usize, place: usize) -> usize
     requires { place < places }
     ensures place { result ≡ after places place }
     ensures within { result < places }
@@ -74,18 +74,14 @@ pub(crate) fn next_place(places: usize, place: usize) -> usize
 
 /// Walks from the home on, up to what is sought, an empty place, or a resident that is nearer to its own home.
 #[inline(always)]
-pub(crate) fn probe<P: ProbeTarget>(target: &P, looks: &mut Looks) -> Probed
+pub fn probe<P: ProbeTarget>(target: &P, looks: &mut Looks) -> Probed
     requires some { 0 < length (P.slots target.now) }
-    requires fits {
-        (m : ℕ) → m < length (P.slots target.now)
+    requires fits { (m : ℕ) → m < length (P.slots target.now)
         → Passed (P.displacements target.now) (length (P.slots target.now)) (P.home_place target.now) m
-        → looks.old + m + 1 < 2 ^ 128
-    }
+        → looks.old + m + 1 < 2 ^ 128 }
     ensures grows { looks.old ≤ looks.new }
-    ensures ends {
-        Ends (P.slots target.now) (P.displacements target.now) (P.home_place target.now)
-            (P.seeks target.now) (looks.new - looks.old) result
-    }
+    ensures ends { Ends (P.slots target.now) (P.displacements target.now) (P.home_place target.now)
+        (P.seeks target.now) (looks.new - looks.old) result }
 {
     let places = target.places();
     let mut place = target.home();

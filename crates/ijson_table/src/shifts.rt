@@ -100,7 +100,11 @@ fn place_of(places: &[Place], position: usize, hash: u64) -> usize
     ensures within { result < length places.now }
     ensures there { resident (positions places.now) result ≡ Some position }
 {
-    let standing = Standing { places, position, hash };
+    let standing = Standing {
+        places,
+        position,
+        hash,
+    };
     match probe(&standing, &mut Looks::new()) {
         Probed::Found(_, place) => place,
         Probed::Vacant(_) | Probed::Full => unreachable!(),
@@ -109,7 +113,7 @@ fn place_of(places: &[Place], position: usize, hash: u64) -> usize
 
 /// Puts a position down at a place, whose key has this hash. The residents from there on move one place forward each, up to the next
 /// empty place.
-pub(crate) fn shift_forward(places: &mut [Place], from: usize, position: usize, hash: u64)
+pub fn shift_forward(places: &mut [Place], from: usize, position: usize, hash: u64)
     ghost hashes: { List ℕ }
     requires accepts { Accepts hashes places.old position hash }
     requires may { MayStand hashes (positions places.old) position from }
@@ -131,7 +135,7 @@ pub(crate) fn shift_forward(places: &mut [Place], from: usize, position: usize, 
 }
 
 /// Puts a position into the places, one of which is empty. Its key has this hash.
-pub(crate) fn insert(places: &mut [Place], position: usize, hash: u64)
+pub fn insert(places: &mut [Place], position: usize, hash: u64)
     ghost hashes: { List ℕ }
     requires { Accepts hashes places.old position hash }
     ensures holds { Holds hashes (with_one (positions places.old) position) None (positions places.new) }
@@ -167,13 +171,7 @@ fn shift_back(places: &mut [Place], from: usize)
 }
 
 /// Takes a position out of the places, and gives its number to the last one.
-pub(crate) fn remove(
-    places: &mut [Place],
-    position: usize,
-    hash: u64,
-    last: usize,
-    last_hash: u64,
-)
+pub fn remove(places: &mut [Place], position: usize, hash: u64, last: usize, last_hash: u64)
     ghost hashes: { List ℕ }
     requires table { IsTableOf hashes places.old }
     requires hashes { EndsWith hashes position hash last last_hash }
@@ -206,10 +204,8 @@ fn insert_each(from: &[Place], places: &mut [Place])
     ghost hashes: { List ℕ }
     requires { AcceptsEach hashes places.old from.now }
     ensures ordered { IsOrdered hashes (positions places.new) }
-    ensures placed {
-        (i : ℕ) → times i (positions places.new)
-        ≡ times i (positions places.old) + times i (positions from.now)
-    }
+    ensures placed { (i : ℕ) → times i (positions places.new)
+        ≡ times i (positions places.old) + times i (positions from.now) }
     ensures hashes { HaveHashes hashes places.new }
 {
     for index in 0..from.len() {
@@ -223,7 +219,7 @@ fn insert_each(from: &[Place], places: &mut [Place])
 
 /// Puts what stands at the places of a table into empty ones. It goes by their order, from the first resident that did
 /// not go round the end, so residents with the same home stay in their order; and it goes to the memory of no key.
-pub(crate) fn rehash(old: &[Place], places: &mut [Place])
+pub fn rehash(old: &[Place], places: &mut [Place])
     ghost hashes: { List ℕ }
     requires table { IsTableOf hashes old.now }
     requires empty { All (λ place. position_in place ≡ None) places.old }

@@ -1,10 +1,11 @@
 //! A pair store whose keys are found by their hash.
 
 ghost use Rattle.std.specs.Prelude.{◌≡◌, ◌+◌, ◌-◌, ◌<◌, ◌≤◌, ◌^◌, ◌/◌, [], length, get_or, map, Ok, Err, refl, vec_capacity, IfOk, IsOk, ◌↔◌};
-ghost use Rattle.ijson_table.specs.Store.{at, keys_of, put, swap_out, IsDistinct, IsDistinct-prop, lookup};
+ghost use Rattle.ijson_table.specs.Store.{at, keys_of, put, swap_out, IsDistinct, lookup};
+ghost use Rattle.ijson_table.specs.laws.Store.{IsDistinct-prop};
 ghost use Rattle.ijson_table.specs.Places.{IsBounded, IsTable};
 ghost use Rattle.ijson_table.specs.Growth.{capacity_limit};
-ghost use Rattle.ijson_table.specs.Placed.{placed_with_value};
+ghost use Rattle.ijson_table.specs.laws.Placed.{placed_with_value};
 ghost use Rattle.ijson_table.specs.private.Lookup.{Tells};
 ghost use Rattle.std.specs.Option.{option_copied};
 
@@ -35,22 +36,20 @@ pub struct Table<V, H: KeyHash> {
 
 impl<V, H: KeyHash> Model for Table<V, H> {
     ghost use Rattle.std.specs.Prelude.{◌≤◌, vec_capacity};
-    ghost use Rattle.ijson_table.specs.Placed.{Placed, placed_code, IsPlaced};
+    ghost use Rattle.ijson_table.specs.Placed.{Placed};
+    ghost use Rattle.ijson_table.specs.laws.Placed.{placed_code};
+    ghost use Rattle.ijson_table.specs.private.IsPlaced.{IsPlaced};
 
     ghost Value = { Placed V };
 
     ghost coded = { placed_code V.code };
 
-    ghost view = {
-        λ t. record {
-            store = record { pairs = t.pairs.items; capacity = t.capacity; distinct = t.distinct };
-            places = t.places.slots
-        }
-    };
+    ghost view = { λ t. record {
+      store = record { pairs = t.pairs.items; capacity = t.capacity; distinct = t.distinct };
+      places = t.places.slots;
+    } };
 
-    ghost invariant = {
-        λ t. IsPlaced H.hash_of t.pairs.items t.capacity t.places × (t.capacity ≤ vec_capacity t.pairs)
-    };
+    ghost invariant = { λ t. IsPlaced H.hash_of t.pairs.items t.capacity t.places × (t.capacity ≤ vec_capacity t.pairs) };
 }
 
 impl<V: Drop, H: KeyHash> Table<V, H> {
@@ -91,10 +90,8 @@ impl<V: Drop, H: KeyHash> Table<V, H> {
         ensures answer { result ≡ lookup key self.old.store.pairs }
         ensures room { self.new.store.capacity ≡ self.old.store.capacity }
         ensures grows { looks.old ≤ looks.new }
-        ensures bounded {
-            IsBounded H.hash_of (keys_of self.old.store.pairs) self.old.places
-                self.old.store.capacity key (looks.new - looks.old)
-        }
+        ensures bounded { IsBounded H.hash_of (keys_of self.old.store.pairs) self.old.places
+            self.old.store.capacity key (looks.new - looks.old) }
     {
         let position = self.pairs.len();
         let hash = H::hash(key.as_str());
@@ -130,10 +127,8 @@ impl<V, H: KeyHash> Table<V, H> {
         requires { looks.old + capacity_limit + 1 < 2 ^ 128 }
         ensures value { option_copied result ≡ lookup key.now self.now.store.pairs }
         ensures grows { looks.old ≤ looks.new }
-        ensures bounded {
-            IsBounded H.hash_of (keys_of self.now.store.pairs) self.now.places
-                self.now.store.capacity key.now (looks.new - looks.old)
-        }
+        ensures bounded { IsBounded H.hash_of (keys_of self.now.store.pairs) self.now.places
+            self.now.store.capacity key.now (looks.new - looks.old) }
     {
         match self.find(H::hash(key), key, looks).found() {
             Some(at) => Some(&self.pairs[at].1),
@@ -146,15 +141,11 @@ impl<V, H: KeyHash> Table<V, H> {
         requires hash { hash ≡ H.hash_of key.now }
         requires fits { looks.old + capacity_limit + 1 < 2 ^ 128 }
         ensures table { IsTable (map H.hash_of (keys_of self.now.store.pairs)) self.now.places }
-        ensures tells {
-            Tells (map H.hash_of (keys_of self.now.store.pairs)) (keys_of self.now.store.pairs) self.now.places
-                (H.hash_of key.now) key.now result
-        }
+        ensures tells { Tells (map H.hash_of (keys_of self.now.store.pairs)) (keys_of self.now.store.pairs) self.now.places
+            (H.hash_of key.now) key.now result }
         ensures grows { looks.old ≤ looks.new }
-        ensures bounded {
-            IsBounded H.hash_of (keys_of self.now.store.pairs) self.now.places
-                self.now.store.capacity key.now (looks.new - looks.old)
-        }
+        ensures bounded { IsBounded H.hash_of (keys_of self.now.store.pairs) self.now.places
+            self.now.store.capacity key.now (looks.new - looks.old) }
     {
         if self.places.len() == 0 {
             return Probed::Full;

@@ -1,4 +1,4 @@
-use Rattle.std.proofs.Common.{◌≡◌, [], get_or, ap, sym, ◌∙◌}
+use Rattle.std.proofs.Common.{◌≡◌, [], get_or, sym, ◌∙◌}
 use Rattle.ijson_table.specs.Store.{keys_of}
 use Rattle.ijson_table.proofs.Keys.{key_at}
 use Rattle.ijson_table.proofs.lookup.has_key.Goals as goal

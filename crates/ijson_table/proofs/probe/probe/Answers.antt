@@ -1,4 +1,4 @@
-use Rattle.std.proofs.Common.{◌≡◌, ◌<◌, ◌≤◌, ◌+◌, ℕ, List, Bool, true, false, length, Option, Some, arith, ap, sym, ◌∙◌, subst, inl, inr}
+use Rattle.std.proofs.Common.{◌≡◌, ◌<◌, ◌+◌, ℕ, List, Bool, false, length, Option, Some, arith, ap, sym, ◌∙◌, subst, inl, inr}
 use Rattle.ijson_table.specs.Places.{after, resident}
 use Rattle.ijson_table.specs.private.Probe.{onward, Passed, PassedOthers}
 use Rattle.ijson_table.proofs.Cases.{below_or_not}

@@ -1,4 +1,4 @@
-use Rattle.std.proofs.Common.{◌≡◌, ◌%◌, ◌<◌, ◌+◌, ◌≤◌, ℕ, List, length, get_or, arith, ap, sym, subst, ◌∙◌}
+use Rattle.std.proofs.Common.{◌≡◌, ◌%◌, ◌<◌, ℕ, List, length, get_or, arith, ap, sym, subst, ◌∙◌}
 use Rattle.std.proofs.Math.Nat.{mod-lt}
 use Rattle.ijson_table.specs.declared.place.Place.{Place}
 use Rattle.ijson_table.specs.Places.{displacement, home_at}

@@ -1,4 +1,4 @@
-use Rattle.std.proofs.Common.{◌≡◌, ◌≢◌, ℕ, ◌%◌, ◌+◌, ◌-◌, ◌<◌, ◌≤◌, ◌⊎◌, List, length, get_or, Option, Some, true, false, Bool, eqb, arith, ap, sym, ◌∙◌, subst, inl, inr}
+use Rattle.std.proofs.Common.{◌≡◌, ℕ, ◌%◌, ◌+◌, ◌-◌, ◌<◌, ◌≤◌, ◌⊎◌, List, length, get_or, Some, true, false, Bool, eqb, arith, ap, sym, ◌∙◌, inl, inr}
 use Rattle.std.proofs.lemmas.Bool.Decides.{nat_tests}
 use Rattle.std.proofs.Math.Nat.{mod-lt}
 use Rattle.ijson_table.specs.declared.place.Place.{Place}
@@ -75,9 +75,9 @@ no_other hashes places position hash looks s (Vacant p) ends is =
       | inr after ↦
           let home : home_at k hashes position ≡ h = sym (home_here hashes k position hash s.hash_is) ∙ ap (λ x. hash % x) size in
           let far : distance k h s.stands.0 + 1 ≤ displacement hashes (positions places) s.stands.0 =
-            omega (arith, displacement-some hashes (positions places) s.stands.0 position s.stands.2, ap (λ x. distance k x s.stands.0) home) in
+          omega (arith, displacement-some hashes (positions places) s.stands.0 position s.stands.2, ap (λ x. distance k x s.stands.0) home) in
           let up : m + 1 ≤ displacement hashes (positions places) (onward k h m) =
-            on_the_way hashes (positions places) s.ordered h s.stands.0 (omega (arith, lh, size)) (omega (arith, s.stands.1, size)) far (d - m) m (omega (arith, after, ap (λ x. distance x h s.stands.0) size)) in
+          on_the_way hashes (positions places) s.ordered h s.stands.0 (omega (arith, lh, size)) (omega (arith, s.stands.1, size)) far (d - m) m (omega (arith, after, ap (λ x. distance x h s.stands.0) size)) in
           let lp : p < n = omega (arith, ends.1.there, onward-below k h m (omega (arith, lh, size)) (omega (arith, ends.1.within)), size) in
           omega (arith, up, ends.2, displacement-in hashes places p s.hashes_are lp, ap (displacement hashes (positions places)) ends.1.there)
     ]

@@ -2,7 +2,7 @@ use Rattle.std.proofs.Common.{◌≡◌, ◌+◌, ◌-◌, ℕ, List, length, ta
 use Rattle.std.proofs.lemmas.List.Elements.{All-take, All-drop}
 use Rattle.std.proofs.lemmas.List.{take_all, length-drop, drop-map, take-map}
 use Rattle.ijson_table.specs.declared.place.Place.{Place}
-use Rattle.ijson_table.specs.Places.{times, below}
+use Rattle.ijson_table.specs.Places.{times}
 use Rattle.ijson_table.specs.private.Insertion.{IsTableOf}
 use Rattle.ijson_table.specs.private.PlaceHashes.{HasHash, HaveHashes, position_in, positions}
 use Rattle.ijson_table.proofs.Residents.{times-split}

@@ -1,11 +1,10 @@
-use Rattle.std.proofs.Common.{◌≡◌, ◌≢◌, ◌<◌, ◌+◌, ℕ, refl, List, length, get_or, set, Option, Some, None, arith, ap, sym, ◌∙◌, subst}
+use Rattle.std.proofs.Common.{◌≡◌, ◌≢◌, ◌<◌, ◌+◌, ℕ, List, length, get_or, set, Option, Some, None, arith, ap, sym, ◌∙◌, subst}
 use Rattle.std.specs.List.{swap_remove}
-use Rattle.std.proofs.lemmas.List.{length-set}
 use Rattle.ijson_table.specs.declared.place.Place.{Place}
 use Rattle.ijson_table.specs.Places.{below, resident, times, IsOrdered, IsTable}
 use Rattle.ijson_table.specs.private.Holds.{one_if, HasGap, Holds}
-use Rattle.ijson_table.specs.private.Insertion.{EndsWith, IsTableOf, Stands}
-use Rattle.ijson_table.specs.private.PlaceHashes.{position_in, positions, blank, HaveHashes}
+use Rattle.ijson_table.specs.private.Insertion.{EndsWith, IsTableOf}
+use Rattle.ijson_table.specs.private.PlaceHashes.{position_in, positions}
 use Rattle.ijson_table.proofs.Walk.{placed_at}
 use Rattle.ijson_table.proofs.Gaps.{gap_from}
 use Rattle.ijson_table.proofs.Placing.{held_below}

@@ -1,11 +1,11 @@
-use Rattle.std.proofs.Common.{◌≡◌, ◌⊎◌, ℕ, ◌%◌, ◌-◌, ◌<◌, List, Bool, false, length, arith, inl, inr}
+use Rattle.std.proofs.Common.{◌≡◌, ◌⊎◌, ℕ, ◌%◌, ◌-◌, ◌<◌, List, false, length, arith, inl, inr}
 use Rattle.std.proofs.Math.Nat.{mod-lt}
 use Rattle.ijson_table.specs.declared.place.Place.{Place}
 use Rattle.ijson_table.specs.declared.probe.Probed.{Probed}
 use Rattle.ijson_table.specs.declared.probe.Probed.TheVariants.{Found, Vacant, Full}
 use Rattle.ijson_table.specs.private.Holds.{HasEmpty}
 use Rattle.ijson_table.specs.private.PlaceHashes.{displacement_in, positions}
-use Rattle.ijson_table.specs.private.Probe.{Ends, IsVacancy}
+use Rattle.ijson_table.specs.private.Probe.{Ends}
 use Rattle.ijson_table.proofs.Placing.{not_round}
 use Rattle.ijson_table.proofs.PlaceFacts.{positions-length, displacement_in-none}
 use Rattle.ijson_table.proofs.shifts.vacancy.Goals as goal

@@ -22,8 +22,10 @@ use Rattle.std.specs.declared.alloc.Global.{Global}
 use Rattle.std.specs.contracts.alloc.Global as heap
 use Rattle.std.specs.contracts.impls.GlobalAllocator.TheImpl.{ghosts}
 use Rattle.ijson_string.specs.contracts.text.IString as text
-use Rattle.ijson_table.specs.Store.{Store, IsDistinct, IsDistinct-prop, keys_of}
-use Rattle.ijson_table.specs.Growth.{HasRoom, HasRoom-prop}
+use Rattle.ijson_table.specs.Store.{Store, IsDistinct, keys_of}
+use Rattle.ijson_table.specs.laws.Store.{IsDistinct-prop}
+use Rattle.ijson_table.specs.private.Room.{HasRoom}
+use Rattle.ijson_table.specs.laws.Room.{HasRoom-prop}
 use Rattle.ijson_table.specs.declared.linear.LinearPairs.TheInside.{Inside}
 use Rattle.ijson_table.specs.declared.linear.LinearPairs.TheView.{view, invariant}
 use Rattle.ijson_table.specs.contracts.linear.LinearPairs as C

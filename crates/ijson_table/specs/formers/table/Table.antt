@@ -14,13 +14,14 @@ use denote.Hole.Fix.{over as within}
 use denote.Param.Weighed.{Weighed, most}
 use denote.Model.Placed.{view_places}
 use Rattle.std.specs.formers.vec.Vec as vec
-use Rattle.std.specs.declared.vec.Vec.{Vec}
 use Rattle.std.specs.declared.alloc.Global.{Global}
 use Rattle.std.specs.declared.marker.PhantomData.{PhantomData}
 use Rattle.std.specs.contracts.alloc.Global as heap
 use Rattle.std.specs.contracts.impls.GlobalAllocator.TheImpl.{ghosts}
-use Rattle.ijson_table.specs.Store.{IsDistinct, IsDistinct-prop, keys_of}
-use Rattle.ijson_table.specs.Placed.{Placed, IsPlaced-prop, placed_along}
+use Rattle.ijson_table.specs.Store.{IsDistinct, keys_of}
+use Rattle.ijson_table.specs.laws.Store.{IsDistinct-prop}
+use Rattle.ijson_table.specs.Placed.{Placed}
+use Rattle.ijson_table.specs.laws.Placed.{IsPlaced-prop, placed_along}
 use Rattle.ijson_table.specs.private.PlaceList.{Index}
 use Rattle.ijson_table.specs.declared.hash.KeyHash as hashing
 use Rattle.ijson_table.specs.formers.linear.LinearPairs as linear

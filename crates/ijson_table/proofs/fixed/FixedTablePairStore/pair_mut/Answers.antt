@@ -1,6 +1,7 @@
 use Rattle.std.proofs.Common.{◌≡◌, refl, ap, subst, Some}
 use Rattle.std.specs.Prelude.{slice_get}
-use Rattle.ijson_table.specs.Placed.{Placed, placed_with_value}
+use Rattle.ijson_table.specs.Placed.{Placed}
+use Rattle.ijson_table.specs.laws.Placed.{placed_with_value}
 use Rattle.ijson_table.proofs.fixed.FixedTablePairStore.pair_mut.Goals as goal
 
 pub returns : goal.returns

@@ -1,4 +1,4 @@
-use Rattle.std.proofs.Common.{◌≡◌, ◌≢◌, ℕ, ◌<◌, List, [], length, get_or, Option, Some, None, true, false, Bool, IsTrue, ◌↔◌, arith, ap, sym, subst, ◌∙◌, refl}
+use Rattle.std.proofs.Common.{◌≡◌, ◌≢◌, ℕ, List, [], get_or, Option, Some, None, Bool, IsTrue, ◌↔◌, arith, sym, subst, ◌∙◌}
 use Rattle.std.specs.Str.{bytes_eq}
 use Rattle.ijson_table.specs.Places.{resident}
 use Rattle.ijson_table.specs.Store.{keys_of}

@@ -1,4 +1,4 @@
-use Rattle.std.proofs.Common.{◌≡◌, length, arith, ap, sym, subst, take, drop, ◌++◌, []}
+use Rattle.std.proofs.Common.{length, arith, ap, sym, subst, []}
 use Rattle.ijson_table.proofs.Indexes.{whole, empty_index, IsIndexOf}
 use Rattle.ijson_table.proofs.place_list.PlaceList.clear.Goals as goal
 

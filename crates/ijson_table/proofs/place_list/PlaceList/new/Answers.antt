@@ -1,4 +1,4 @@
-use Rattle.std.proofs.Common.{◌≡◌, length, arith, ap}
+use Rattle.std.proofs.Common.{length, arith, ap}
 use Rattle.ijson_table.proofs.Indexes.{empty_index}
 use Rattle.ijson_table.proofs.place_list.PlaceList.new.Goals as goal
 

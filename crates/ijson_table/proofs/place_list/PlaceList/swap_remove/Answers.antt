@@ -1,4 +1,4 @@
-use Rattle.std.proofs.Common.{◌≡◌, ◌<◌, ◌≤◌, ℕ, List, length, take, drop, ◌++◌, arith, ap, sym, ◌∙◌, subst}
+use Rattle.std.proofs.Common.{◌≡◌, ◌<◌, ℕ, List, length, take, drop, ◌++◌, arith, ap, sym, ◌∙◌, subst}
 use Rattle.std.specs.List.{swap_remove}
 use Rattle.ijson_table.specs.declared.place.Place.{Place}
 use Rattle.ijson_table.specs.private.Insertion.{IsTableOf}

@@ -1,4 +1,4 @@
-use Rattle.std.proofs.Common.{arith, ◌≡◌, Bool, Option, Some, ap, eqb, ◌∙◌, ℕ}
+use Rattle.std.proofs.Common.{arith, Some, ap, eqb, ◌∙◌}
 use Rattle.std.specs.Option.{option_eq}
 use Rattle.ijson_table.proofs.PlaceFacts.{looks_at, positions-length}
 use Rattle.ijson_table.proofs.shifts.StandingProbeTarget.look.Goals as goal

@@ -1,4 +1,4 @@
-use Rattle.std.proofs.Common.{◌≡◌, ℕ, ◌-◌, ◌%◌, ◌<◌, List, length, map, arith, ap, sym, subst}
+use Rattle.std.proofs.Common.{ℕ, ◌-◌, ◌%◌, ◌<◌, length, map, arith, ap, subst}
 use Rattle.std.proofs.Math.Nat.{mod-lt}
 use Rattle.ijson_table.specs.declared.probe.Probed.TheVariants.{Full}
 use Rattle.ijson_table.specs.Places.{IsTable, IsBounded}

@@ -1,7 +1,7 @@
-use Rattle.std.proofs.Common.{◌≡◌, ℕ, ◌<◌, [], ◌∷◌, ◌++◌, List, length, map, arith, ap, sym, ◌∙◌, subst, Some, None, Option}
+use Rattle.std.proofs.Common.{◌≡◌, [], ◌∷◌, ◌++◌, length, ap, sym, ◌∙◌, subst, Some, None}
 use Rattle.ijson_table.specs.Crowd.{place_count}
 use Rattle.ijson_table.specs.Placed.{Placed}
-use Rattle.ijson_table.specs.Store.{at, keys_of, lookup, put, with_value, IsDistinct}
+use Rattle.ijson_table.specs.Store.{at, keys_of, with_value, IsDistinct}
 use Rattle.ijson_table.proofs.Keys.{distinct_pushed, position_within, put-present, put-absent, lookup-found, lookup-absent}
 use Rattle.ijson_table.proofs.Tables.{room_empty}
 use Rattle.ijson_table.proofs.table.Table.put_counted.Goals as goal

@@ -1,4 +1,4 @@
-use Rattle.std.proofs.Common.{◌≡◌, length, map, arith, ap, sym, ◌∙◌}
+use Rattle.std.proofs.Common.{length, map, arith, ap, sym, ◌∙◌}
 use Rattle.ijson_table.specs.Store.{keys_of}
 use Rattle.ijson_table.proofs.table.TablePairStore.new.Goals as goal
 

@@ -1,6 +1,3 @@
-use Rattle.std.proofs.Common.{arith, sym, subst}
-use Rattle.ijson_table.specs.Placed.{IsPlaced}
-use Rattle.ijson_table.specs.Store.{keys_of}
 use Rattle.ijson_table.proofs.Writing.{put_back}
 use Rattle.ijson_table.proofs.table.TablePairStore.shrink_to_fit.Goals as goal
 
@@ -9,4 +6,3 @@ same-self g c = put_back g.H.KeyHash c.self.inside _
 
 pub same-self-in_err-places : goal.same-self-in_err-places
 same-self-in_err-places g c = put_back g.H.KeyHash c.self.inside _
-

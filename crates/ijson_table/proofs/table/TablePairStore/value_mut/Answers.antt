@@ -18,8 +18,7 @@ invariant_of-self-inside-lent g c = λ w.
 pub invariant_of-self-lent : goal.invariant_of-self-lent
 invariant_of-self-lent g c = λ w.
     let old = c.self.inside.pairs.items in
-    let li : c.args.index < length old = omega (arith, ap (λ (s : Placed g.row.V.Denot). length s.store.pairs) c.self.view_is, c.requires) in
-    (
+    let li : c.args.index < length old = omega (arith, ap (λ (s : Placed g.row.V.Denot). length s.store.pairs) c.self.view_is, c.requires) in (
       record {
         room = record { within = omega (arith, c.self.invariant.0.room.within, length-set old c.args.index (c.index_mut-pair.result.now.0, w)); limited = c.self.invariant.0.room.limited };
         hashes = c.self.invariant.0.hashes ∙ sym (hashes-set g.H.KeyHash.hash_of old c.args.index c.index_mut-pair.result.now w li c.index_mut-pair.ensures.value);

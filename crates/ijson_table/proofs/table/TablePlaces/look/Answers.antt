@@ -1,4 +1,4 @@
-use Rattle.std.proofs.Common.{◌≡◌, ◌<◌, ℕ, List, [], length, map, get_or, Option, Some, None, IsTrue, ◌↔◌, arith, ap, sym, subst, ◌∙◌}
+use Rattle.std.proofs.Common.{◌≡◌, ◌<◌, ℕ, List, [], length, get_or, Option, Some, None, IsTrue, ◌↔◌, arith, ap, sym, subst, ◌∙◌}
 use Rattle.ijson_table.specs.Placed.{Placed}
 use Rattle.ijson_table.specs.Places.{resident}
 use Rattle.ijson_table.specs.Sees.{Sees}
