@@ -6,7 +6,7 @@ ghost use Rattle.ijson_table.specs.laws.Store.{IsDistinct-prop};
 ghost use Rattle.ijson_table.specs.Places.{IsBounded, IsTable};
 ghost use Rattle.ijson_table.specs.Growth.{capacity_limit};
 ghost use Rattle.ijson_table.specs.laws.Placed.{placed_with_value};
-ghost use Rattle.ijson_table.specs.private.Lookup.{Tells};
+ghost use Rattle.ijson_table.specs.private.Lookup.{LookUpEnds};
 ghost use Rattle.std.specs.Option.{option_copied};
 
 use crate::growth::{fit, grown_capacity, limited, list_with_room};
@@ -141,7 +141,7 @@ impl<V, H: KeyHash> Table<V, H> {
         requires hash { hash ≡ H.hash_of key.now }
         requires fits { looks.old + capacity_limit + 1 < 2 ^ 128 }
         ensures table { IsTable (map H.hash_of (keys_of self.now.store.pairs)) self.now.places }
-        ensures tells { Tells (map H.hash_of (keys_of self.now.store.pairs)) (keys_of self.now.store.pairs) self.now.places
+        ensures ends { LookUpEnds (map H.hash_of (keys_of self.now.store.pairs)) (keys_of self.now.store.pairs) self.now.places
             (H.hash_of key.now) key.now result }
         ensures grows { looks.old ≤ looks.new }
         ensures bounded { IsBounded H.hash_of (keys_of self.now.store.pairs) self.now.places
