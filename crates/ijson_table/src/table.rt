@@ -83,6 +83,7 @@ impl<V: Drop, H: KeyHash> Table<V, H> {
     }
 
     /// The same, and each place that it looks at for the key is counted.
+    #[inline(always)]
     pub fn put_counted(&mut self, key: IString, value: V, looks: &mut Looks) -> Option<V>
         requires within { length self.old.store.pairs < self.old.store.capacity }
         requires fits { looks.old + capacity_limit + 1 < 2 ^ 128 }
@@ -123,6 +124,7 @@ impl<V, H: KeyHash> Table<V, H> {
     }
 
     /// The same, and each place that it looks at is counted.
+    #[inline(always)]
     pub fn get_counted(&self, key: &str, looks: &mut Looks) -> Option<&V>
         requires { looks.old + capacity_limit + 1 < 2 ^ 128 }
         ensures value { option_copied result ≡ lookup key.now self.now.store.pairs }
@@ -137,6 +139,7 @@ impl<V, H: KeyHash> Table<V, H> {
     }
 
     /// Probes for a key of this hash.
+    #[inline(always)]
     fn find(&self, hash: u64, key: &str, looks: &mut Looks) -> Probed
         requires hash { hash ≡ H.hash_of key.now }
         requires fits { looks.old + capacity_limit + 1 < 2 ^ 128 }
