@@ -58,7 +58,7 @@ pub may_end : (hashes : List ℕ) (places : List (Option ℕ)) (i m : ℕ) → m
     → Passed (displacement hashes places) (length places) (home_at (length places) hashes i) m
     → displacement hashes places (onward (length places) (home_at (length places) hashes i) m) ≤ m
     → MayStand hashes places i (onward (length places) (home_at (length places) hashes i) m)
-may_end hashes places i m lm lh led stop =
+may_end hashes places i m lm lh passed stop =
     let n : ℕ = length places in
     let h : ℕ = home_at n hashes i in
     let is : distance n h (onward n h m) ≡ m = distance-onward n h m lh lm in
@@ -70,7 +70,7 @@ may_end hashes places i m lm lh led stop =
             let k : ℕ = m - 1 in
             let back : after n (onward n h k) ≡ onward n h m = after-onward n h k lh (omega arith) ∙ ap (onward n h) (omega arith) in
             let same : q ≡ onward n h k = after-injective n q (onward n h k) lq (onward-below n h k lh (omega arith)) (at ∙ sym back) in
-            omega (arith, led.far k (omega arith), ap (displacement hashes places) same)
+            omega (arith, passed.far k (omega arith), ap (displacement hashes places) same)
         | inr start ↦ omega arith
       ];
     }

@@ -8,7 +8,7 @@ use Rattle.ijson_table.specs.Store.{position_of, IsDistinct}
 use Rattle.ijson_table.specs.declared.probe.Probed.{Probed}
 use Rattle.ijson_table.specs.declared.probe.Probed.TheVariants.{Found, Vacant, Full}
 use Rattle.ijson_table.specs.private.Holds.{MayStand}
-use Rattle.ijson_table.specs.private.Lookup.{found_at, Tells}
+use Rattle.ijson_table.specs.private.Lookup.{found_at, LookUpEnds}
 use Rattle.ijson_table.specs.private.Probe.{onward, Passed, PassedOthers, EndsAt, Ends}
 use Rattle.ijson_table.proofs.Round.{onward-below}
 use Rattle.ijson_table.proofs.Keys.{get_or-front, get_or-end, position-none, position-distinct}
@@ -60,20 +60,20 @@ module _ (hash : List ℕ → ℕ) (keys : List (List ℕ)) (places : List (Opti
       no_it_is i (listed (onward (length places) home j) i (onward-below (length places) home j (mod-lt (hash key) some) (omega arith)) there) (others j i lj there)
 
   -- which position it found, or that the key is not there
-  pub tells : IsDistinct keys → 0 < length places → (end : Probed) (looks : ℕ) → Ends places (displacement hashes places) home seeks looks end → Tells hashes keys places (hash key) key end
-  tells distinct some (Found i p) looks ends =
+  pub look_up_ends : IsDistinct keys → 0 < length places → (end : Probed) (looks : ℕ) → Ends places (displacement hashes places) home seeks looks end → LookUpEnds hashes keys places (hash key) key end
+  look_up_ends distinct some (Found i p) looks ends =
       let at : EndsAt places (displacement hashes places) home seeks looks p ends.0 = ends.1 in
       let lp : p < length places = omega (arith, onward-below (length places) home ends.0 (mod-lt (hash key) some) (omega (arith, at.within)), at.there) in
       let li : i < length keys = listed p i lp ends.2 in
       position-distinct keys key i distinct li (yes_it_is i li ends.3)
-  tells distinct some (Vacant p) looks ends =
+  look_up_ends distinct some (Vacant p) looks ends =
       let at : EndsAt places (displacement hashes places) home seeks looks p ends.0 = ends.1 in
       let near : displacement hashes places (onward (length places) home ends.0) ≤ ends.0 = omega (arith, ends.2, ap (displacement hashes places) at.there) in (
         position-none keys key (absent hash keys places t key ends.0 some at.passed (other_keys ends.0 some (omega (arith, at.within)) at.others) (inr near)),
         omega (arith, onward-below (length places) home ends.0 (mod-lt (hash key) some) (omega (arith, at.within)), at.there),
         may_last hashes places t (hash key) p ends.0 at.within at.there at.passed ends.2,
       )
-  tells distinct some Full looks ends = (
+  look_up_ends distinct some Full looks ends = (
     position-none keys key (absent hash keys places t key (length places) some ends.0 (other_keys (length places) some (omega arith) ends.1) (inl (omega arith))),
     λ e. not_round (displacement hashes places) (length places) home e.0 (mod-lt (hash key) some) e.1 (displacement-none hashes places e.0 e.2) ends.0,
   )
@@ -84,7 +84,7 @@ module _ (hash : List ℕ → ℕ) (keys : List (List ℕ)) (places : List (Opti
   bounded c size (Vacant p) looks ends = bounded_there hash keys places t c size key ends.0 looks ends.1.within ends.1.looked ends.1.passed
   bounded c size Full looks ends = bounded_all hash keys places t c size key looks ends.2 ends.0
 
-pub found-tells : (hs : List ℕ) (keys : List (List ℕ)) (places : List (Option ℕ)) (hash : ℕ) (key : List ℕ) (end : Probed) → Tells hs keys places hash key end → found_at end ≡ position_of keys key
-found-tells hs keys places hash key (Found i p) told = sym told
-found-tells hs keys places hash key (Vacant p) told = sym told.0
-found-tells hs keys places hash key Full told = sym told.0
+pub found_at-ends : (hs : List ℕ) (keys : List (List ℕ)) (places : List (Option ℕ)) (hash : ℕ) (key : List ℕ) (end : Probed) → LookUpEnds hs keys places hash key end → found_at end ≡ position_of keys key
+found_at-ends hs keys places hash key (Found i p) told = sym told
+found_at-ends hs keys places hash key (Vacant p) told = sym told.0
+found_at-ends hs keys places hash key Full told = sym told.0

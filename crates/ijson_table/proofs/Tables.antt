@@ -11,13 +11,13 @@ use Rattle.ijson_table.specs.Crowd.{place_count}
 use Rattle.ijson_table.specs.private.IsPlaced.{IsPlaced}
 use Rattle.ijson_table.specs.Places.{displacement, times, below, IsTable, IsBounded}
 use Rattle.ijson_table.specs.private.Holds.{HasEmpty}
-use Rattle.ijson_table.specs.private.Lookup.{is_hashed_key, Tells}
+use Rattle.ijson_table.specs.private.Lookup.{is_hashed_key, LookUpEnds}
 use Rattle.ijson_table.specs.private.PlaceList.{Index}
 use Rattle.ijson_table.specs.private.Probe.{Ends}
 use Rattle.ijson_table.proofs.Keys.{keys-length, keys-swap_out, set-value, position-none}
 use Rattle.ijson_table.proofs.Looking.{is_hashed_key-true, is_hashed_key-false}
 use Rattle.ijson_table.proofs.Placing.{some_empty}
-use Rattle.ijson_table.proofs.Seeking.{tells, bounded}
+use Rattle.ijson_table.proofs.Seeking.{look_up_ends, bounded}
 use Rattle.ijson_table.proofs.Walk.{placed_at}
 
 module _ {V : Type 0} (hash : List ℕ → ℕ) where
@@ -61,10 +61,10 @@ module _ {V : Type 0} (hash : List ℕ → ℕ) where
       (subst (λ ps. EndsBy (hashes pairs) ps h places.slots key looks end) is
       (subst (λ hs. EndsBy hs lent h places.slots key looks end) placed.hashes ends))
 
-  pub find_tells : (pairs lent : List (List ℕ × V)) (capacity : ℕ) (places : Index) (h : ℕ) (key : List ℕ) (looks : ℕ) (end : Probed) → IsPlaced hash pairs capacity places → lent ≡ pairs → h ≡ hash key
-      → IsDistinct (keys_of pairs) → IsTable places.hashes places.slots → 0 < length places.slots → EndsBy places.hashes lent h places.slots key looks end → Tells (hashes pairs) (keys_of pairs) places.slots (hash key) key end
-  find_tells pairs lent capacity places h key looks end placed is hashed distinct table some ends =
-      tells hash (keys_of pairs) places.slots (table_of pairs capacity places placed table) key (is_hashed_key (hashes pairs) (keys_of pairs) (hash key) key)
+  pub find_ends : (pairs lent : List (List ℕ × V)) (capacity : ℕ) (places : Index) (h : ℕ) (key : List ℕ) (looks : ℕ) (end : Probed) → IsPlaced hash pairs capacity places → lent ≡ pairs → h ≡ hash key
+      → IsDistinct (keys_of pairs) → IsTable places.hashes places.slots → 0 < length places.slots → EndsBy places.hashes lent h places.slots key looks end → LookUpEnds (hashes pairs) (keys_of pairs) places.slots (hash key) key end
+  find_ends pairs lent capacity places h key looks end placed is hashed distinct table some ends =
+      look_up_ends hash (keys_of pairs) places.slots (table_of pairs capacity places placed table) key (is_hashed_key (hashes pairs) (keys_of pairs) (hash key) key)
       (λ i li. is_hashed_key-true (hashes pairs) (keys_of pairs) (hash key) key i) (is_hashed_key-false hash (keys_of pairs) key) distinct some end looks (ends_for pairs lent capacity places h key looks end placed is hashed ends)
 
   pub find_bounded : (pairs lent : List (List ℕ × V)) (capacity : ℕ) (places : Index) (h : ℕ) (key : List ℕ) (looks : ℕ) (end : Probed) → IsPlaced hash pairs capacity places → lent ≡ pairs → h ≡ hash key
@@ -74,7 +74,7 @@ module _ {V : Type 0} (hash : List ℕ → ℕ) where
       (λ i li. is_hashed_key-true (hashes pairs) (keys_of pairs) (hash key) key i) (is_hashed_key-false hash (keys_of pairs) key) capacity placed.size end looks (ends_for pairs lent capacity places h key looks end placed is hashed ends)
 
   -- in no places there is no key
-  pub nowhere : (pairs : List (List ℕ × V)) (slots : List (Option ℕ)) (key : List ℕ) → IsTable (hashes pairs) slots → length slots ≡ 0 → Tells (hashes pairs) (keys_of pairs) slots (hash key) key Full
+  pub nowhere : (pairs : List (List ℕ × V)) (slots : List (Option ℕ)) (key : List ℕ) → IsTable (hashes pairs) slots → length slots ≡ 0 → LookUpEnds (hashes pairs) (keys_of pairs) slots (hash key) key Full
   nowhere pairs slots key table none = (
     position-none (keys_of pairs) key (λ j lj e.
         let spot = placed_at (hashes pairs) slots table j (omega (arith, lj, length-map (keys_of pairs) hash)) in

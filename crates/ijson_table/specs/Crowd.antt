@@ -25,4 +25,5 @@ greatest_below (suc m) f = max (f m) (greatest_below m f)
 -- The greatest n for which, with some s below the count of places, at least n + s keys
 -- have their home among the s + 1 places that end at the home of the key.
 unfoldable pub crowd : (List ℕ → ℕ) → List (List ℕ) → ℕ → List ℕ → ℕ
-crowd hash keys c key = greatest_below (place_count c) (λ s. homed hash (place_count c) keys (home_of hash (place_count c) key) s - s)
+crowd hash keys c key =
+    greatest_below (place_count c) (λ s. homed hash (place_count c) keys (home_of hash (place_count c) key) s - s)

@@ -17,11 +17,18 @@ Ungrown len c n why c' = Grow {A = Unit {0}} len c n (Err why) c'
 
 -- From these pairs and this capacity, the store may give this reply to the command and go on to those pairs and that capacity.
 abbrev pub Step : {V : Type 0} → List (List ℕ × V) → ℕ → Command V → Reply V → List (List ℕ × V) → ℕ → Type 0
-Step pairs c (Insert k v) Added pairs' c' = Grown (length pairs) c 1 c' × (at pairs k ≡ None) × (pairs' ≡ put pairs k v)
-Step {V} pairs c (Insert k v) (Replaced old) pairs' c' = Grown (length pairs) c 1 c' × ((i : ℕ) × (key : List ℕ) × (at pairs k ≡ Some i) × (slice_get pairs i ≡ Some (key, old))) × (pairs' ≡ put pairs k v)
-Step pairs c (Insert k v) (Refused key value why) pairs' c' = Ungrown (length pairs) c 1 why c' × (key ≡ k) × (value ≡ v) × (pairs' ≡ pairs)
+Step pairs c (Insert k v) Added pairs' c' =
+    Grown (length pairs) c 1 c' × (at pairs k ≡ None) × (pairs' ≡ put pairs k v)
+Step {V} pairs c (Insert k v) (Replaced old) pairs' c' =
+    Grown (length pairs) c 1 c'
+    × ((i : ℕ) × (key : List ℕ) × (at pairs k ≡ Some i) × (slice_get pairs i ≡ Some (key, old)))
+    × (pairs' ≡ put pairs k v)
+Step pairs c (Insert k v) (Refused key value why) pairs' c' =
+    Ungrown (length pairs) c 1 why c' × (key ≡ k) × (value ≡ v) × (pairs' ≡ pairs)
 Step pairs c (Find k) (Found i) pairs' c' = (i ≡ at pairs k) × (pairs' ≡ pairs) × (c' ≡ c)
-Step pairs c (Remove k) (Removed (Some pair)) pairs' c' = ((i : ℕ) × (at pairs k ≡ Some i) × (slice_get pairs i ≡ Some pair) × (pairs' ≡ swap_out pairs i)) × (c' ≡ c)
+Step pairs c (Remove k) (Removed (Some pair)) pairs' c' =
+    ((i : ℕ) × (at pairs k ≡ Some i) × (slice_get pairs i ≡ Some pair) × (pairs' ≡ swap_out pairs i))
+    × (c' ≡ c)
 Step pairs c (Remove k) (Removed None) pairs' c' = (at pairs k ≡ None) × (pairs' ≡ pairs) × (c' ≡ c)
 Step pairs c (Reserve n) Done pairs' c' = Grown (length pairs) c n c' × (pairs' ≡ pairs)
 Step pairs c (Reserve n) (NotDone why) pairs' c' = Ungrown (length pairs) c n why c' × (pairs' ≡ pairs)
@@ -34,6 +41,7 @@ Step pairs c command reply pairs' c' = ⊥
 -- the store may give these replies to these commands, one step after another
 abbrev pub Run : {V : Type 0} → List (List ℕ × V) → ℕ → List (Command V) → List (Reply V) → List (List ℕ × V) → ℕ → Type 0
 Run pairs c [] [] pairs' c' = (pairs' ≡ pairs) × (c' ≡ c)
-Run {V} pairs c (command ∷ commands) (reply ∷ replies) pairs' c' = (mid : List (List ℕ × V)) × (d : ℕ) × Step pairs c command reply mid d × Run mid d commands replies pairs' c'
+Run {V} pairs c (command ∷ commands) (reply ∷ replies) pairs' c' =
+    (mid : List (List ℕ × V)) × (d : ℕ) × Step pairs c command reply mid d × Run mid d commands replies pairs' c'
 Run pairs c [] (reply ∷ replies) pairs' c' = ⊥
 Run pairs c (command ∷ commands) [] pairs' c' = ⊥

@@ -44,7 +44,8 @@ pub enum Reply<V> {
 
 /// One command.
 fn step<V: Drop, P: PairStore<V>>(store: &mut P, command: Command<V>) -> Reply<V>
-    ensures { Step (P.pairs store.old) (P.room store.old) command result (P.pairs store.new) (P.room store.new) }
+    ensures { Step (P.pairs store.old) (P.room store.old) command result
+        (P.pairs store.new) (P.room store.new) }
 {
     match command {
         Command::Insert(key, value) => {
@@ -88,8 +89,11 @@ pub fn run<V: Drop, P: PairStore<V>>(
     store: &mut P,
     commands: Vec<Command<V>>,
 ) -> Result<Vec<Reply<V>>, AllocError>
-    ensures run { IfOk result (λ replies. Run (P.pairs store.old) (P.room store.old) commands.items replies.items (P.pairs store.new) (P.room store.new)) }
-    ensures err { OnErr result ((P.pairs store.new ≡ P.pairs store.old) × (P.room store.new ≡ P.room store.old)) }
+    ensures run { IfOk result (λ replies.
+        Run (P.pairs store.old) (P.room store.old) commands.items replies.items
+        (P.pairs store.new) (P.room store.new)) }
+    ensures err { OnErr result
+        ((P.pairs store.new ≡ P.pairs store.old) × (P.room store.new ≡ P.room store.old)) }
 {
     let mut replies = Vec::with_capacity(alloc, commands.len())?;
     for command in commands {

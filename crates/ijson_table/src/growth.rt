@@ -14,7 +14,9 @@ pub fn grown_capacity(len: usize, capacity: usize, additional: usize) -> Result<
     requires length { len ≤ capacity }
     requires limited { capacity ≤ capacity_limit }
     requires short { capacity < len + additional }
-    ensures { MatchResult result (λ n. (n ≡ wanted len capacity additional) × (n ≤ capacity_limit)) (λ why. (why ≡ ReserveError.TooLarge) × (capacity_limit < wanted len capacity additional)) }
+    ensures { MatchResult result
+        (λ n. (n ≡ wanted len capacity additional) × (n ≤ capacity_limit))
+        (λ why. (why ≡ ReserveError.TooLarge) × (capacity_limit < wanted len capacity additional)) }
 {
     if additional > CAPACITY_LIMIT
         || len + additional > CAPACITY_LIMIT
@@ -27,7 +29,9 @@ pub fn grown_capacity(len: usize, capacity: usize, additional: usize) -> Result<
 
 /// This capacity, where it is within the limit.
 pub fn limited(capacity: usize) -> Result<usize, ReserveError>
-    ensures { MatchResult result (λ n. (n ≡ capacity) × (capacity ≤ capacity_limit)) (λ why. (why ≡ ReserveError.TooLarge) × (capacity_limit < capacity)) }
+    ensures { MatchResult result
+        (λ n. (n ≡ capacity) × (capacity ≤ capacity_limit))
+        (λ why. (why ≡ ReserveError.TooLarge) × (capacity_limit < capacity)) }
 {
     if capacity > CAPACITY_LIMIT {
         return Err(ReserveError::TooLarge);
@@ -51,7 +55,8 @@ pub fn list_with_room<T>(alloc: Global, room: usize) -> Result<Vec<T>, AllocErro
 pub fn fit<T: Drop>(alloc: Global, list: &mut Vec<T>) -> Result<(), AllocError>
     ensures items { list.new.items ≡ list.old.items }
     ensures room { length list.old.items ≤ vec_capacity list.new }
-    ensures refused { OnErr result ((0 < length list.old.items) × (vec_capacity list.new ≡ vec_capacity list.old)) }
+    ensures refused { OnErr result
+        ((0 < length list.old.items) × (vec_capacity list.new ≡ vec_capacity list.old)) }
 {
     let mut fitted = list_with_room(alloc, list.len())?;
     let moved = fitted.append(list);

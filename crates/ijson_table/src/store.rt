@@ -84,13 +84,15 @@ pub trait PairStore<V>: Sized {
     /// Lends the value at a position.
     fn value_mut(&mut self, index: usize) -> &mut V
         requires { index < length (pairs self.old) }
-        ensures* writes_back { sem 𝓛 (Lends Self.row V.row self.entry result (λ w. set_value self.old index w)) }
+        ensures* writes_back { sem 𝓛
+            (Lends Self.row V.row self.entry result (λ w. set_value self.old index w)) }
         ensures value { (key : List ℕ) × (slice_get (pairs self.old) index ≡ Some (key, result.now)) };
 
     /// Lends the value at a position, and shows its key.
     fn pair_mut(&mut self, index: usize) -> (&IString, &mut V)
         requires { index < length (pairs self.old) }
-        ensures* writes_back { sem 𝓛 (Lends Self.row V.row self.entry result.1 (λ w. set_value self.old index w)) }
+        ensures* writes_back { sem 𝓛
+            (Lends Self.row V.row self.entry result.1 (λ w. set_value self.old index w)) }
         ensures pair { slice_get (pairs self.old) index ≡ Some (result.0.now, result.1.now) };
 
     /// Puts a pair last, in the room that there is.
@@ -117,5 +119,6 @@ pub trait PairStore<V>: Sized {
         ensures room { room self.new ≡ room self.old };
 
     /// Another value changes no key, no other pair and no room.
-    ghost set_value_is: { (s : Self) (i : ℕ) (v : V) → (pairs (set_value s i v) ≡ with_value (pairs s) i v) × (room (set_value s i v) ≡ room s) };
+    ghost set_value_is: { (s : Self) (i : ℕ) (v : V)
+        → (pairs (set_value s i v) ≡ with_value (pairs s) i v) × (room (set_value s i v) ≡ room s) };
 }

@@ -6,7 +6,7 @@ ghost use Rattle.ijson_table.specs.laws.Store.{IsDistinct-prop};
 ghost use Rattle.ijson_table.specs.Places.{IsBounded, IsTable};
 ghost use Rattle.ijson_table.specs.Growth.{capacity_limit};
 ghost use Rattle.ijson_table.specs.laws.Placed.{placed_with_value};
-ghost use Rattle.ijson_table.specs.private.Lookup.{Tells};
+ghost use Rattle.ijson_table.specs.private.Lookup.{LookUpEnds};
 ghost use Rattle.std.specs.Option.{option_copied};
 
 use crate::growth::{fit, grown_capacity, limited, list_with_room};
@@ -83,6 +83,7 @@ impl<V: Drop, H: KeyHash> Table<V, H> {
     }
 
     /// The same, and each place that it looks at for the key is counted.
+    #[inline(always)]
     pub fn put_counted(&mut self, key: IString, value: V, looks: &mut Looks) -> Option<V>
         requires within { length self.old.store.pairs < self.old.store.capacity }
         requires fits { looks.old + capacity_limit + 1 < 2 ^ 128 }
@@ -123,6 +124,7 @@ impl<V, H: KeyHash> Table<V, H> {
     }
 
     /// The same, and each place that it looks at is counted.
+    #[inline(always)]
     pub fn get_counted(&self, key: &str, looks: &mut Looks) -> Option<&V>
         requires { looks.old + capacity_limit + 1 < 2 ^ 128 }
         ensures value { option_copied result ≡ lookup key.now self.now.store.pairs }
@@ -137,11 +139,12 @@ impl<V, H: KeyHash> Table<V, H> {
     }
 
     /// Probes for a key of this hash.
+    #[inline(always)]
     fn find(&self, hash: u64, key: &str, looks: &mut Looks) -> Probed
         requires hash { hash ≡ H.hash_of key.now }
         requires fits { looks.old + capacity_limit + 1 < 2 ^ 128 }
         ensures table { IsTable (map H.hash_of (keys_of self.now.store.pairs)) self.now.places }
-        ensures tells { Tells (map H.hash_of (keys_of self.now.store.pairs)) (keys_of self.now.store.pairs) self.now.places
+        ensures ends { LookUpEnds (map H.hash_of (keys_of self.now.store.pairs)) (keys_of self.now.store.pairs) self.now.places
             (H.hash_of key.now) key.now result }
         ensures grows { looks.old ≤ looks.new }
         ensures bounded { IsBounded H.hash_of (keys_of self.now.store.pairs) self.now.places

@@ -31,6 +31,7 @@ pub record MayStand (hashes : List ℕ) (places : List (Option ℕ)) (i p : ℕ)
 pub record HasGap (hashes : List ℕ) (places : List (Option ℕ)) (p : ℕ) : Type 0 where
   pub within : p < length places
   pub empty : resident places p ≡ None
-  pub ordered : (q : ℕ) → q < length places → q ≢ p → displacement hashes places (after (length places) q) ≤ displacement hashes places q + 1
+  pub ordered : (q : ℕ) → q < length places → q ≢ p
+      → displacement hashes places (after (length places) q) ≤ displacement hashes places q + 1
   pub behind : (q : ℕ) → q < length places → after (length places) q ≡ p
       → displacement hashes places (after (length places) p) ≤ displacement hashes places q + 2

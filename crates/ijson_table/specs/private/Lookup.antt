@@ -1,4 +1,4 @@
--- What the look-up of a key tells.
+-- How the look-up of a key ends.
 use Rattle.std.specs.Prelude.{◌≡◌, ℕ, ◌<◌, Bool, ◌&&◌, eqb, List, [], ◌∷◌, ◌++◌, length, get_or, Option, Some, None}
 use Rattle.std.specs.Str.{bytes_eq}
 use Rattle.ijson_table.specs.declared.probe.Probed.{Probed}
@@ -21,8 +21,8 @@ found_at (Vacant p) = None
 found_at Full = None
 
 -- The position of the key; or that it is not there, and a place where it may stand as the last one of the list, or that no place is empty.
-abbrev pub Tells : List ℕ → List (List ℕ) → List (Option ℕ) → ℕ → List ℕ → Probed → Type 0
-Tells hashes keys places hash key (Found i p) = position_of keys key ≡ Some i
-Tells hashes keys places hash key (Vacant p) =
+abbrev pub LookUpEnds : List ℕ → List (List ℕ) → List (Option ℕ) → ℕ → List ℕ → Probed → Type 0
+LookUpEnds hashes keys places hash key (Found i p) = position_of keys key ≡ Some i
+LookUpEnds hashes keys places hash key (Vacant p) =
     (position_of keys key ≡ None) × (p < length places) × MayStand (hashes ++ hash ∷ []) places (length hashes) p
-Tells hashes keys places hash key Full = (position_of keys key ≡ None) × (HasEmpty places → ⊥)
+LookUpEnds hashes keys places hash key Full = (position_of keys key ≡ None) × (HasEmpty places → ⊥)

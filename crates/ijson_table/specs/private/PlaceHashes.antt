@@ -60,4 +60,5 @@ displacement_in places p = displaced_by (length places) p (get_or places p blank
 -- what a look at this one of n places tells
 abbrev pub SeenAs : Place → ℕ → ℕ → Bool → Seen → Type 0
 SeenAs place n p same Empty = position_in place ≡ None
-SeenAs place n p same (Resident i d sought) = (position_in place ≡ Some i) × (d ≡ distance n (place.hash % n) p) × (sought ≡ same)
+SeenAs place n p same (Resident i d sought) =
+    (position_in place ≡ Some i) × (d ≡ distance n (place.hash % n) p) × (sought ≡ same)

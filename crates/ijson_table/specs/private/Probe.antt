@@ -13,7 +13,8 @@ onward n p k = (if ltb (p + k) n then p + k else p + k - n)
 -- what one look of a probe tells: whether the place is empty; else the position there, how far it is displaced, and whether it is what the probe seeks
 abbrev pub LooksAt : List (Option ℕ) → (ℕ → ℕ) → (ℕ → Bool) → ℕ → Seen → Type 0
 LooksAt places displacements seeks p Empty = (resident places p ≡ None) × (displacements p ≡ 0)
-LooksAt places displacements seeks p (Resident i d same) = (resident places p ≡ Some i) × (displacements p ≡ d + 1) × (same ≡ seeks i)
+LooksAt places displacements seeks p (Resident i d same) =
+    (resident places p ≡ Some i) × (displacements p ≡ d + 1) × (same ≡ seeks i)
 
 -- A probe from home h has passed m of n places: each has a resident that is displaced at least as far as the probe was.
 pub record Passed (displacements : ℕ → ℕ) (n h m : ℕ) : Type 0 where
@@ -21,7 +22,8 @@ pub record Passed (displacements : ℕ → ℕ) (n h m : ℕ) : Type 0 where
 
 -- none of the residents that it passed is what it seeks
 abbrev pub PassedOthers : List (Option ℕ) → (ℕ → Bool) → ℕ → ℕ → Type 0
-PassedOthers places seeks h m = (j i : ℕ) → j < m → resident places (onward (length places) h j) ≡ Some i → seeks i ≡ false
+PassedOthers places seeks h m =
+    (j i : ℕ) → j < m → resident places (onward (length places) h j) ≡ Some i → seeks i ≡ false
 
 -- It ended at place p, the one after m that it passed, by one look at each.
 pub record EndsAt (places : List (Option ℕ)) (displacements : ℕ → ℕ) (h : ℕ) (seeks : ℕ → Bool) (looks p m : ℕ) : Type 0 where
@@ -34,11 +36,13 @@ pub record EndsAt (places : List (Option ℕ)) (displacements : ℕ → ℕ) (h 
 -- How a probe from home h ends, by so many looks: at what it seeks, at an empty place or a resident that is displaced no further than the probe, or after all places.
 abbrev pub Ends : List (Option ℕ) → (ℕ → ℕ) → ℕ → (ℕ → Bool) → ℕ → Probed → Type 0
 Ends places displacements h seeks looks (Found at p) =
-    (m : ℕ) × EndsAt places displacements h seeks looks p m × (resident places p ≡ Some at) × (seeks at ≡ true)
+    (m : ℕ) × EndsAt places displacements h seeks looks p m
+    × (resident places p ≡ Some at) × (seeks at ≡ true)
 Ends places displacements h seeks looks (Vacant p) =
     (m : ℕ) × EndsAt places displacements h seeks looks p m × (displacements p ≤ m)
 Ends places displacements h seeks looks Full =
-    Passed displacements (length places) h (length places) × PassedOthers places seeks h (length places) × (looks ≡ length places)
+    Passed displacements (length places) h (length places)
+    × PassedOthers places seeks h (length places) × (looks ≡ length places)
 
 -- Place p is where a probe from home h ends for a key that stands nowhere.
 abbrev pub IsVacancy : (ℕ → ℕ) → ℕ → ℕ → ℕ → Type 0

@@ -3,7 +3,7 @@
 use super::super::empty_cache;
 use super::{AlwaysZero, ByLength};
 use crate::string::IString;
-use crate::table::{Command, FixedHash, FixedTable, LinearPairs, PairStore, Table, run};
+use crate::table::{Command, FixedHash, FixedTable, LinearPairs, PairStore, Reply, Table, run};
 use std::alloc::{AllocError, Global};
 
 /// How many commands a list has.
@@ -89,6 +89,39 @@ fn agree<P: PairStore<u64>, Q: PairStore<u64>>(
     Ok(true)
 }
 
+/// Whether `put` and `get` answer as the insertions and look-ups of `run` do.
+fn put_and_get_agree(alloc: Global, seed: u64) -> Result<bool, AllocError> {
+    let expected = run(alloc, &mut LinearPairs::new(alloc), commands(alloc, seed)?)?;
+    let mut table = FixedTable::<u64>::new(alloc);
+    let mut replies = Vec::new(alloc);
+    for command in commands(alloc, seed)? {
+        let reply = match command {
+            Command::Insert(key, value) => {
+                if let Err(_) = table.reserve(1) {
+                    return Ok(false);
+                }
+                match table.put(key, value) {
+                    Some(old) => Reply::Replaced(old),
+                    None => Reply::Added,
+                }
+            }
+            Command::Find(key) => match table.get(key.as_str()) {
+                Some(_) => Reply::Found(table.position(key.as_str())),
+                None => Reply::Found(None),
+            },
+            other => {
+                let mut one = run(alloc, &mut table, vec![in alloc; other]?)?;
+                match one.pop() {
+                    Some(reply) => reply,
+                    None => return Ok(false),
+                }
+            }
+        };
+        replies.push(reply)?;
+    }
+    Ok(replies.as_slice() == expected.as_slice())
+}
+
 #[test]
 fn stores_agree(rt: HostRuntime) -> Result<(), AllocError> {
     let alloc = rt.alloc();
@@ -115,6 +148,7 @@ fn stores_agree(rt: HostRuntime) -> Result<(), AllocError> {
         );
         let linear = &mut LinearPairs::new(alloc);
         assert!(rt; agree(alloc, seed, &mut FixedTable::new(alloc), linear)?);
+        assert!(rt; put_and_get_agree(alloc, seed)?);
     }
     Ok(())
 }

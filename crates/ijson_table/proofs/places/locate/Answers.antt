@@ -6,7 +6,7 @@ use Rattle.ijson_table.specs.private.Lookup.{is_key}
 use Rattle.ijson_table.proofs.Keys.{position-none}
 use Rattle.ijson_table.proofs.Looked.{within_list}
 use Rattle.ijson_table.proofs.Looking.{is_key-true, is_key-false}
-use Rattle.ijson_table.proofs.Seeking.{tells, bounded, found-tells}
+use Rattle.ijson_table.proofs.Seeking.{look_up_ends, bounded, found_at-ends}
 use Rattle.ijson_table.proofs.Walk.{placed_at}
 use Rattle.ijson_table.proofs.places.locate.Goals as goal
 
@@ -33,8 +33,8 @@ returns-clause-found g c =
     let keys : List (List ℕ) = p.keys table in
     let key : List ℕ = c.args.key.now in
     let some : 0 < length (p.slots table) = omega (arith, c.if-places-eq0.false, c.places.ensures.count) in
-    c.found.ensures ∙ found-tells (map p.hash_of keys) keys (p.slots table) (p.hash_of key) key c.probe.result
-    (tells p.hash_of keys (p.slots table) c.places.ensures.table key (is_key keys key) (λ i li. is_key-true keys key i) (λ i li. is_key-false keys key i) (p.distinct table) some c.probe.result (c.probe.new.looks - c.args.looks.now) c.probe.ensures.ends)
+    c.found.ensures ∙ found_at-ends (map p.hash_of keys) keys (p.slots table) (p.hash_of key) key c.probe.result
+    (look_up_ends p.hash_of keys (p.slots table) c.places.ensures.table key (is_key keys key) (λ i li. is_key-true keys key i) (λ i li. is_key-false keys key i) (p.distinct table) some c.probe.result (c.probe.new.looks - c.args.looks.now) c.probe.ensures.ends)
 
 pub returns-clause-bounded : goal.returns-clause-bounded
 returns-clause-bounded g c =

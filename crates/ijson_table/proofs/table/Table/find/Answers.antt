@@ -4,9 +4,9 @@ use Rattle.ijson_table.specs.declared.probe.Probed.TheVariants.{Full}
 use Rattle.ijson_table.specs.Places.{IsTable, IsBounded}
 use Rattle.ijson_table.specs.Placed.{Placed}
 use Rattle.ijson_table.specs.Store.{keys_of}
-use Rattle.ijson_table.specs.private.Lookup.{Tells}
+use Rattle.ijson_table.specs.private.Lookup.{LookUpEnds}
 use Rattle.ijson_table.proofs.Looked.{within_list}
-use Rattle.ijson_table.proofs.Tables.{length-hashes, table_of, find_tells, find_bounded, nowhere}
+use Rattle.ijson_table.proofs.Tables.{length-hashes, table_of, find_ends, find_bounded, nowhere}
 use Rattle.ijson_table.proofs.table.Table.find.Goals as goal
 
 pub probe-requires-clause-fits : goal.probe-requires-clause-fits
@@ -21,10 +21,10 @@ returns-then-len-eq0-clause-table g c =
     subst (λ (t : Placed g.row.V.Denot). IsTable (map g.H.KeyHash.hash_of (keys_of t.store.pairs)) t.places) c.self.view_is
     (table_of g.H.KeyHash.hash_of c.self.inside.pairs.items c.self.inside.capacity c.self.inside.places c.self.invariant.0 c.len.ensures.table)
 
-pub returns-then-len-eq0-clause-tells : goal.returns-then-len-eq0-clause-tells
-returns-then-len-eq0-clause-tells g c =
+pub returns-then-len-eq0-clause-ends : goal.returns-then-len-eq0-clause-ends
+returns-then-len-eq0-clause-ends g c =
     let hash = g.H.KeyHash.hash_of in
-    subst (λ (t : Placed g.row.V.Denot). Tells (map hash (keys_of t.store.pairs)) (keys_of t.store.pairs) t.places (hash c.args.key.now) c.args.key.now Full) c.self.view_is
+    subst (λ (t : Placed g.row.V.Denot). LookUpEnds (map hash (keys_of t.store.pairs)) (keys_of t.store.pairs) t.places (hash c.args.key.now) c.args.key.now Full) c.self.view_is
     (nowhere hash c.self.inside.pairs.items c.self.inside.places.slots c.args.key.now (table_of hash c.self.inside.pairs.items c.self.inside.capacity c.self.inside.places c.self.invariant.0 c.len.ensures.table)
     (omega (arith, c.if-len-eq0.true, c.len.ensures.count)))
 
@@ -36,12 +36,12 @@ returns-clause-table g c =
     subst (λ (t : Placed g.row.V.Denot). IsTable (map g.H.KeyHash.hash_of (keys_of t.store.pairs)) t.places) c.self.view_is
     (table_of g.H.KeyHash.hash_of c.self.inside.pairs.items c.self.inside.capacity c.self.inside.places c.self.invariant.0 c.len.ensures.table)
 
-pub returns-clause-tells : goal.returns-clause-tells
-returns-clause-tells g c =
+pub returns-clause-ends : goal.returns-clause-ends
+returns-clause-ends g c =
     let hash = g.H.KeyHash.hash_of in
     let some : 0 < length c.self.inside.places.slots = omega (arith, c.if-len-eq0.false, c.len.ensures.count) in
-    subst (λ (t : Placed g.row.V.Denot). Tells (map hash (keys_of t.store.pairs)) (keys_of t.store.pairs) t.places (hash c.args.key.now) c.args.key.now c.probe.result) c.self.view_is
-    (find_tells hash c.self.inside.pairs.items c.deref.result.now c.self.inside.capacity c.self.inside.places c.args.hash c.args.key.now (c.probe.new.looks - c.args.looks.now) c.probe.result
+    subst (λ (t : Placed g.row.V.Denot). LookUpEnds (map hash (keys_of t.store.pairs)) (keys_of t.store.pairs) t.places (hash c.args.key.now) c.args.key.now c.probe.result) c.self.view_is
+    (find_ends hash c.self.inside.pairs.items c.deref.result.now c.self.inside.capacity c.self.inside.places c.args.hash c.args.key.now (c.probe.new.looks - c.args.looks.now) c.probe.result
     c.self.invariant.0 c.deref.ensures.value c.requires.hash c.self.inside.distinct c.len.ensures.table some c.probe.ensures.ends)
 
 pub returns-clause-bounded : goal.returns-clause-bounded
