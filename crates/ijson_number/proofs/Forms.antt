@@ -39,7 +39,7 @@ integer_digits n z p h v a b c =
     let words : FormOf = elim (fits_i64 z) [ true ↦ signed_word z | false ↦ elim (fits_u64 z) [ true ↦ unsigned_word (nat_abs z) | false ↦ digits_form n ] ] in
     left n.point _ _ h ∙ ap (integer_form n) is ∙ left (fits_packed z) (packed z (pos 0) false) words a ∙ left (fits_i64 z) _ _ b ∙ left (fits_u64 z) _ _ c
 
-within : (low high z : ℤ) → int_le low z && int_lt z high ≡ true → (low ≤ℤ z) × (z <ℤ high)
+pub within : (low high z : ℤ) → int_le low z && int_lt z high ≡ true → (low ≤ℤ z) × (z <ℤ high)
 within low high z t = let b = both_of (int_le low z) (int_lt z high) t in (test_le low z b.0, test_below z high b.1)
 
 -- what doesn't fit a signed word

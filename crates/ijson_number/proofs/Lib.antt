@@ -20,3 +20,4 @@ pub mod WholeValues
 pub mod Conversions
 pub mod Alike
 pub mod Forms
+pub mod FormNumbers

@@ -51,7 +51,7 @@ whole_stripped n h =
       last = λ _. rw (digits_of_step 10 n (omega arith) some, last_pushed (digits_of 10 (n / 10)) (n % 10)) h;
     }
 
-times_one : (m : ℤ) → m *ℤ pos 1 ≡ m
+pub times_one : (m : ℤ) → m *ℤ pos 1 ≡ m
 times_one (pos m) = let e : m * 1 ≡ m = omega arith in rw e refl
 times_one (negsuc m) = let e : suc m * 1 ≡ suc m = omega arith in rw e refl
 

@@ -17,5 +17,6 @@ pub mod Ordered
 pub mod Integers
 pub mod Words
 pub mod Form
+pub mod FormNumber
 pub mod FormValue
 pub mod Alike
