@@ -18,5 +18,6 @@ pub mod Integers
 pub mod Words
 pub mod Form
 pub mod FormNumber
+pub mod Word
 pub mod FormValue
 pub mod Alike

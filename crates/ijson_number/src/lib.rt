@@ -12,6 +12,7 @@ mod number;
 mod order;
 mod reading;
 mod text;
+mod word;
 
 pub use faults::first_fault;
 pub use form::Form;
