@@ -4,11 +4,11 @@ use Rattle.ijson_number.specs.Alike.{IsAlike}
 use Rattle.ijson_number.specs.Decimal.{Decimal}
 use Rattle.ijson_number.specs.Form.{FormOf, form_of}
 use Rattle.ijson_number.specs.Num.{Num}
-use Rattle.ijson_number.specs.Ordered.{equal_same, same_equal, tests_equal}
+use Rattle.ijson_number.specs.laws.Ordered.{equal_same, same_equal, tests_equal}
 use Rattle.std.specs.Ordering.{is_eq}
 use Rattle.ijson_number.specs.Grammar.{Spells}
 use Rattle.ijson_number.specs.Text.{num_text}
-use Rattle.ijson_number.proofs.Means.{same_decimal, spells_one}
+use Rattle.ijson_number.proofs.Denotes.{same_decimal, spells_one}
 use Rattle.ijson_number.proofs.RoundTrip.{num_text_spells}
 
 -- they are one number

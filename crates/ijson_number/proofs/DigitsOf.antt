@@ -7,10 +7,10 @@ use Rattle.std.proofs.lemmas.List.Elements.{recursion_from_All}
 use Rattle.std.proofs.lemmas.Int.Digits.{digits_of_step}
 use Rattle.std.specs.Int.Digits.{number_from_digits, number_from_digits_after, digits_of, digits_with_fuel}
 use Rattle.ijson_number.specs.Strips.{signed}
-use Rattle.ijson_number.specs.KeptNumber.{kept_number}
+use Rattle.ijson_number.specs.private.StoredNumber.{stored_number}
 use Rattle.ijson_number.specs.StrippedDigits.{digits_within, stripped_digits}
-use Rattle.ijson_number.specs.Stripped.{IsStripped}
-use Rattle.ijson_number.specs.Tens.{abs_signed}
+use Rattle.ijson_number.specs.private.Stripped.{IsStripped}
+use Rattle.ijson_number.specs.laws.Tens.{abs_signed}
 
 step : (m d : ℕ) → d < 10 → 0 < m * 10 + d → digits_of 10 (m * 10 + d) ≡ digits_of 10 m ++ d ∷ []
 step m d h p =
@@ -41,7 +41,7 @@ digits_are zero n = refl
 digits_are (suc turns) n = same_turn (nat_eq n 0) (digits_within turns (n / 10) ++ (n % 10 ∷ [])) (digits_with_fuel 10 turns (n / 10) ++ (n % 10 ∷ [])) (ap (λ x. x ++ (n % 10 ∷ [])) (digits_are turns (n / 10)))
 
 -- the digits of the stored number are those that are stored
-pub kept_digits_are : (negative : Bool) (ds : List ℕ) (e : ℤ) (point : Bool) → IsStripped ds → stripped_digits (kept_number negative ds e point) ≡ ds
-kept_digits_are negative ds e point s =
+pub stored_digits_are : (negative : Bool) (ds : List ℕ) (e : ℤ) (point : Bool) → IsStripped ds → stripped_digits (stored_number negative ds e point) ≡ ds
+stored_digits_are negative ds e point s =
     let m = nat_abs (signed negative (number_from_digits 10 ds)) in
     digits_are m m ∙ ap (digits_of 10) (abs_signed negative (number_from_digits 10 ds)) ∙ stripped_back ds s

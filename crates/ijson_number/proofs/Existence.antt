@@ -3,10 +3,10 @@ use Rattle.std.proofs.Common.{◌≡◌, ◌≢◌, ◌⊎◌, ℕ, suc, ◌-◌
 use Rattle.std.specs.Prelude.{pos}
 use Rattle.std.proofs.lemmas.Bool.{cases_eq}
 use Rattle.ijson_number.specs.Decimal.{Decimal}
-use Rattle.ijson_number.specs.KeptNumber.{kept_number}
-use Rattle.ijson_number.specs.Stripped.{digits_from_text}
+use Rattle.ijson_number.specs.private.StoredNumber.{stored_number}
+use Rattle.ijson_number.specs.private.Stripped.{digits_from_text}
 use Rattle.ijson_number.specs.Grammar.{Parts, IsSpelled, Spells}
-use Rattle.ijson_number.specs.Reading.{BeginsWithNoZero, EndsWithNoZero, exponent_of}
+use Rattle.ijson_number.specs.private.Reading.{BeginsWithNoZero, EndsWithNoZero, exponent_of}
 use Rattle.ijson_number.proofs.Scanning.{spells_number, spells_zero}
 
 -- the zeros at the front, and what follows them
@@ -48,6 +48,6 @@ parts_spell text p spelled =
     let f = front_zeros (p.whole ++ p.fraction) in
     let b = back_zeros f.1 in
     elim (length_cases b.1) [
-      | inl none ↦ (kept_number false (digits_from_text b.1) (pos 0) p.point, spells_zero text p spelled [] f.1 [] b.1 f.0 b.0 f.2 b.2 f.3 b.3 none)
-      | inr some ↦ (kept_number p.negative (digits_from_text b.1) (exponent_of p.exponent (length p.fraction) b.0) p.point, spells_number text p spelled [] f.1 [] b.1 f.0 b.0 f.2 b.2 f.3 b.3 some _ refl)
+      | inl none ↦ (stored_number false (digits_from_text b.1) (pos 0) p.point, spells_zero text p spelled [] f.1 [] b.1 f.0 b.0 f.2 b.2 f.3 b.3 none)
+      | inr some ↦ (stored_number p.negative (digits_from_text b.1) (exponent_of p.exponent (length p.fraction) b.0) p.point, spells_number text p spelled [] f.1 [] b.1 f.0 b.0 f.2 b.2 f.3 b.3 some _ refl)
     ]

@@ -1,18 +1,17 @@
 -- The stored form, case by case.
-use Rattle.std.proofs.Common.{◌≡◌, ◌∙◌, ℕ, suc, ◌+◌, ◌-◌, ◌^◌, ◌<◌, ◌≤◌, Bool, true, false, refl, ap, sym, arith}
+use Rattle.std.proofs.Common.{◌≡◌, ◌∙◌, ℕ, suc, ◌+◌, ◌-◌, ◌^◌, ◌<◌, ◌≤◌, Bool, true, false, refl, ap, sym, arith, List, inl, inr}
 use Rattle.std.specs.Prelude.{ℤ, pos, negsuc, neg_ℤ, nat_abs, int_le, int_lt, ◌&&◌, ◌*ℤ◌, ◌-ℤ◌, ◌≤ℤ◌, ◌<ℤ◌, FitsSigned}
 use Rattle.std.specs.Int.{FitsUnsigned}
-use Rattle.std.proofs.Common.{List, inl, inr}
 use Rattle.std.proofs.lemmas.Bool.{cases_lt}
 use Rattle.std.proofs.lemmas.Int.{ints}
 use mir.Syntax.{w64}
 use Rattle.ijson_number.specs.Decimal.{Decimal, IsPlain}
 use Rattle.ijson_number.specs.Form.{FormOf, packed, signed_word, unsigned_word, digits, fits_packed, fits_i64, fits_u64, digits_form, integer_form, smallest_packed, form_of}
 use Rattle.ijson_number.specs.Integers.{HasValue}
-use Rattle.ijson_number.specs.KeptNumber.{kept_number, IsKept}
-use Rattle.ijson_number.proofs.DigitsOf.{kept_digits_are}
+use Rattle.ijson_number.specs.private.StoredNumber.{stored_number, IsStored}
+use Rattle.ijson_number.proofs.DigitsOf.{stored_digits_are}
 use Rattle.ijson_number.proofs.Outcomes.{test_le, test_below, le_test, both_of, both_hold, first_fails, second_fails}
-use Rattle.ijson_number.proofs.SameParts.{kept_sign}
+use Rattle.ijson_number.proofs.SameParts.{stored_sign}
 use Rattle.ijson_number.proofs.WholeValues.{value_is, value_from}
 
 -- a test that holds takes the first, and one that fails the second
@@ -29,8 +28,8 @@ never true h = absurd (h refl)
 never false h = refl
 
 -- the digits of stored parts
-pub kept_form : (negative : Bool) (ds : List ℕ) (e : ℤ) (point : Bool) → IsKept negative ds → digits_form (kept_number negative ds e point) ≡ digits negative ds e point
-kept_form negative ds e point k = rw (kept_sign negative ds k, kept_digits_are negative ds e point k.stripped) refl
+pub stored_form : (negative : Bool) (ds : List ℕ) (e : ℤ) (point : Bool) → IsStored negative ds → digits_form (stored_number negative ds e point) ≡ digits negative ds e point
+stored_form negative ds e point k = rw (stored_sign negative ds k, stored_digits_are negative ds e point k.stripped) refl
 
 -- an integer that fits nothing has its digits
 pub integer_digits : (n : Decimal) (z : ℤ) → IsPlain n → n.point ≡ false → HasValue n z → fits_packed z ≡ false → fits_i64 z ≡ false → fits_u64 z ≡ false → form_of n ≡ digits_form n

@@ -4,7 +4,7 @@ pub mod Parts
 pub mod Tails
 pub mod Values
 pub mod Exponents
-pub mod Means
+pub mod Denotes
 pub mod Scanning
 pub mod DigitsOf
 pub mod Rows
@@ -15,7 +15,7 @@ pub mod SpelledBytes
 pub mod SameParts
 pub mod Sizes
 pub mod Signs
-pub mod KeptWords
+pub mod StoredWords
 pub mod WholeValues
 pub mod Conversions
 pub mod Alike

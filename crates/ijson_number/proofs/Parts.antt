@@ -2,7 +2,7 @@
 use Rattle.std.proofs.Common.{◌≡◌, ℕ, ◌<◌, Bool, List, [], ◌∷◌, ◌++◌, length, get_or, refl, sym, ◌∙◌, inl, inr, arith, append_assoc}
 use Rattle.std.specs.Prelude.{ℤ}
 use Rattle.ijson_number.specs.Grammar.{AllDigits, IsWhole, IsFraction, IsExponent, IsSigned, Parts, IsSpelled}
-use Rattle.ijson_number.specs.Reading.{BeginsWithNoDigit, IsTail, IsUnsigned, IsSignTaken}
+use Rattle.ijson_number.specs.private.Reading.{BeginsWithNoDigit, IsTail, IsUnsigned, IsSignTaken}
 use Rattle.ijson_number.proofs.Runs.{one_run, IsDigits_all}
 
 pub exponent_begins : (et : List ℕ) (z : ℤ) (w : Bool) → IsExponent et z w → BeginsWithNoDigit et

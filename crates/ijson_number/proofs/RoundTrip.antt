@@ -13,12 +13,12 @@ use Rattle.ijson_number.specs.Num.{IsNum}
 use Rattle.ijson_number.specs.Strips.{Strips, signed}
 use Rattle.ijson_number.specs.StrippedDigits.{digits_within}
 use Rattle.ijson_number.specs.Grammar.{AllDigits, IsDigits, IsWhole, IsFraction, IsExponent, IsSigned, Spells, value}
-use Rattle.ijson_number.specs.Stripped.{digits_from_text}
+use Rattle.ijson_number.specs.private.Stripped.{digits_from_text}
 use Rattle.ijson_number.specs.Text.{digits_text, zeros_text, whole_text, scientific_text, point_text, float_text, shape_text, minus_text, zero_text, num_text}
 use Rattle.ijson_number.proofs.Outcomes.{test_le, test_not_le, test_zero, test_not_zero, abs_zero}
 use Rattle.ijson_number.proofs.Runs.{AllDigits-append}
 use Rattle.ijson_number.proofs.Values.{value_zeros_back, value_zeros_front}
-use Rattle.ijson_number.specs.Tens.{signed_mul}
+use Rattle.ijson_number.specs.laws.Tens.{signed_mul}
 use Rattle.ijson_number.proofs.DigitsOf.{digits_are}
 
 abbrev Below : List ℕ → Type 0

@@ -2,7 +2,7 @@
 use Rattle.std.proofs.Common.{◌≡◌, ◌↔◌, ℕ, suc, ◌+◌, ◌-◌, ◌<◌, ◌≤◌, List, [], ◌∷◌, ◌++◌, length, get_or, drop, replicate, refl, ◌∙◌, arith}
 use Rattle.std.proofs.lemmas.List.{drop_more, append-nil}
 use Rattle.ijson_number.specs.Grammar.{AllDigits, IsDigits}
-use Rattle.ijson_number.specs.Reading.{BeginsWithNoDigit}
+use Rattle.ijson_number.specs.private.Reading.{BeginsWithNoDigit}
 
 pub zeros_from : (bs : List ℕ) (n : ℕ) → 0 < n → n ≤ length bs → get_or bs (n - 1) 0 ≡ 48 → drop n bs ≡ replicate (length bs - n) 48 → drop (n - 1) bs ≡ replicate (length bs - (n - 1)) 48
 zeros_from bs n p h e r =

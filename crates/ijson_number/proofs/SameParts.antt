@@ -1,7 +1,6 @@
 -- Stored parts of one value are the same parts.
 use Rattle.std.proofs.Common.{◌≡◌, ℕ, Bool, true, false, List, [], ◌∷◌, refl, ap, ap₂, sym, ◌∙◌, arith}
-use Rattle.std.specs.Prelude.{ℤ, pos, nat_abs, int_lt}
-use Rattle.std.specs.Prelude.{FitsSigned}
+use Rattle.std.specs.Prelude.{ℤ, pos, nat_abs, int_lt, FitsSigned}
 use Rattle.std.specs.Int.Digits.{number_from_digits}
 use Rattle.std.specs.Cmp.{both_ways}
 use Rattle.std.specs.Ordering.{is_eq}
@@ -18,17 +17,17 @@ use Rattle.ijson_number.specs.Decimal.{Decimal}
 use Rattle.ijson_number.specs.Num.{IsNum}
 use Rattle.ijson_number.specs.Strips.{signed}
 use Rattle.ijson_number.specs.StrippedDigits.{digits_within}
-use Rattle.ijson_number.specs.KeptNumber.{kept_number, IsKept}
+use Rattle.ijson_number.specs.private.StoredNumber.{stored_number, IsStored}
 use Rattle.ijson_number.specs.Order.{number_eq}
-use Rattle.ijson_number.specs.Ordered.{equal_same, same_equal, tests_equal}
-use Rattle.ijson_number.proofs.DigitsOf.{kept_digits_are}
-use Rattle.ijson_number.proofs.Means.{stripped_mod}
+use Rattle.ijson_number.specs.laws.Ordered.{equal_same, same_equal, tests_equal}
+use Rattle.ijson_number.proofs.DigitsOf.{stored_digits_are}
+use Rattle.ijson_number.proofs.Denotes.{stripped_mod}
 use Rattle.ijson_number.proofs.Writing.{below_zero}
 
 -- the sign of stored parts is that of their mantissa
-pub kept_sign : (negative : Bool) (ds : List ℕ) → IsKept negative ds → int_lt (signed negative (number_from_digits 10 ds)) (pos 0) ≡ negative
-kept_sign negative [] k = rw (k.no_minus refl) refl
-kept_sign negative (d ∷ ds) k =
+pub stored_sign : (negative : Bool) (ds : List ℕ) → IsStored negative ds → int_lt (signed negative (number_from_digits 10 ds)) (pos 0) ≡ negative
+stored_sign negative [] k = rw (k.no_minus refl) refl
+stored_sign negative (d ∷ ds) k =
     let n = stripped_mod (d ∷ ds) k.stripped (omega arith) in
     below_zero negative (number_from_digits 10 (d ∷ ds)) (omega (arith, n))
 
@@ -53,22 +52,22 @@ never : (v b : Bool) → v ≡ false → (b ≡ true → ⊥) → v ≡ b
 never v true e h = absurd (h refl)
 never v false e h = e
 
-module _ (n n' : Bool) (ds ds' : List ℕ) (e e' : ℤ) (p p' : Bool) (a b : Decimal) (view : kept_number n ds e p ≡ a) (view' : kept_number n' ds' e' p' ≡ b) (num : IsNum (kept_number n ds e p)) (num' : IsNum (kept_number n' ds' e' p')) (k : IsKept n ds) (k' : IsKept n' ds') where
+module _ (n n' : Bool) (ds ds' : List ℕ) (e e' : ℤ) (p p' : Bool) (a b : Decimal) (view : stored_number n ds e p ≡ a) (view' : stored_number n' ds' e' p' ≡ b) (num : IsNum (stored_number n ds e p)) (num' : IsNum (stored_number n' ds' e' p')) (k : IsStored n ds) (k' : IsStored n' ds') where
   module _ (is : number_eq a b ≡ true) where
-    parts_is : number_eq (kept_number n ds e p) (kept_number n' ds' e' p') ≡ true
+    parts_is : number_eq (stored_number n ds e p) (stored_number n' ds' e' p') ≡ true
     parts_is = ap₂ number_eq view view' ∙ is
 
     mantissa_exponent : (signed n (number_from_digits 10 ds) ≡ signed n' (number_from_digits 10 ds')) × (e ≡ e')
-    mantissa_exponent = equal_same (kept_number n ds e p) (kept_number n' ds' e' p') num.plain num'.plain (tests_equal _ parts_is)
+    mantissa_exponent = equal_same (stored_number n ds e p) (stored_number n' ds' e' p') num.plain num'.plain (tests_equal _ parts_is)
 
     equal_digits : ds ≡ ds'
-    equal_digits = sym (kept_digits_are n ds e p k.stripped) ∙ ap (λ (m : ℤ). digits_within (nat_abs m) (nat_abs m)) mantissa_exponent.0 ∙ kept_digits_are n' ds' e' p' k'.stripped
+    equal_digits = sym (stored_digits_are n ds e p k.stripped) ∙ ap (λ (m : ℤ). digits_within (nat_abs m) (nat_abs m)) mantissa_exponent.0 ∙ stored_digits_are n' ds' e' p' k'.stripped
 
     equal_sign : n ≡ n'
-    equal_sign = sym (kept_sign n ds k) ∙ ap (λ (m : ℤ). int_lt m (pos 0)) mantissa_exponent.0 ∙ kept_sign n' ds' k'
+    equal_sign = sym (stored_sign n ds k) ∙ ap (λ (m : ℤ). int_lt m (pos 0)) mantissa_exponent.0 ∙ stored_sign n' ds' k'
 
   parts_equal : n ≡ n' → ds ≡ ds' → e ≡ e' → number_eq a b ≡ true
-  parts_equal s d x = sym (ap₂ number_eq view view') ∙ ap is_eq (same_equal (kept_number n ds e p) (kept_number n' ds' e' p') (rw (s, d) refl) x)
+  parts_equal s d x = sym (ap₂ number_eq view view') ∙ ap is_eq (same_equal (stored_number n ds e p) (stored_number n' ds' e' p') (rw (s, d) refl) x)
 
   -- two numbers of one sign and one exponent are equal where their digits are
   pub digits_tell : (r : Bool) → beq n n' ≡ true → FitsSigned w32 e → FitsSigned w32 e' → eqb (of_z w32 e) (of_z w32 e') ≡ true → r ≡ pointwise eqb ds ds' → r ≡ number_eq a b

@@ -7,16 +7,15 @@ use Rattle.std.proofs.lemmas.List.Elements.{All-from_recursion}
 use Rattle.std.specs.Int.Digits.{number_from_digits}
 use Rattle.ijson_number.specs.Decimal.{Decimal}
 use Rattle.ijson_number.specs.Num.{IsNum}
-use Rattle.ijson_number.specs.Reading.{IsWithin, exponent_of}
-use Rattle.ijson_number.specs.KeptNumber.{IsKept, kept_number}
+use Rattle.ijson_number.specs.private.Reading.{IsWithin, exponent_of, BeginsWithNoZero, EndsWithNoZero}
+use Rattle.ijson_number.specs.private.StoredNumber.{IsStored, stored_number}
 use Rattle.ijson_number.specs.Grammar.{AllDigits, Parts, IsSpelled, IsFraction, Spells}
-use Rattle.ijson_number.specs.Reading.{BeginsWithNoZero, EndsWithNoZero}
-use Rattle.ijson_number.specs.Stripped.{IsStripped, digits_from_text}
+use Rattle.ijson_number.specs.private.Stripped.{IsStripped, digits_from_text}
 use Rattle.ijson_number.proofs.Runs.{AllDigits-append, AllDigits_left, AllDigits_right, IsDigits_all}
 use Rattle.ijson_number.proofs.Parts.{whole_all}
-use Rattle.ijson_number.specs.Tens.{signed_zero}
+use Rattle.ijson_number.specs.laws.Tens.{signed_zero}
 use Rattle.ijson_number.proofs.Exponents.{within_in_range, in_range_within}
-use Rattle.ijson_number.proofs.Means.{means_some, means_zero, spells_one, stripped_plain, stripped_mod, pointless}
+use Rattle.ijson_number.proofs.Denotes.{denotes_some, denotes_zero, spells_one, stripped_plain, stripped_mod, pointless}
 
 below_ten : (bs : List ℕ) → AllDigits bs → AllByRecursion (λ d. d < 10) (digits_from_text bs)
 below_ten [] h = tt
@@ -66,31 +65,31 @@ module _ (text : List ℕ) (p : Parts) (spelled : IsSpelled text p) (w f a b : L
   some_digits : 0 < length (a ++ b) → 0 < length (digits_from_text (a ++ b))
   some_digits h = rw (length-map {A = ℕ} {B = ℕ} (a ++ b) (λ b. b - 48)) h
 
-  pub spells_number : 0 < length (a ++ b) → (e : ℤ) → e ≡ exponent_of p.exponent (length p.fraction) k → Spells text (kept_number p.negative (digits_from_text (a ++ b)) e p.point)
-  spells_number h e is = rw is (p, spelled, means_some p (w ++ f) (a ++ b) j k front back (some_digits h) stripped (pointless text p k spelled))
+  pub spells_number : 0 < length (a ++ b) → (e : ℤ) → e ≡ exponent_of p.exponent (length p.fraction) k → Spells text (stored_number p.negative (digits_from_text (a ++ b)) e p.point)
+  spells_number h e is = rw is (p, spelled, denotes_some p (w ++ f) (a ++ b) j k front back (some_digits h) stripped (pointless text p k spelled))
 
-  pub spells_zero : length (a ++ b) ≡ 0 → Spells text (kept_number false (digits_from_text (a ++ b)) (pos 0) p.point)
+  pub spells_zero : length (a ++ b) ≡ 0 → Spells text (stored_number false (digits_from_text (a ++ b)) (pos 0) p.point)
   spells_zero h =
       let nil : a ++ b ≡ [] = nil_from_length (a ++ b) h in
-      rw nil (p, spelled, means_zero p (w ++ f) (a ++ b) j k front back h)
+      rw nil (p, spelled, denotes_zero p (w ++ f) (a ++ b) j k front back h)
 
-  pub keeps_number : 0 < length (a ++ b) → IsKept p.negative (digits_from_text (a ++ b))
-  keeps_number h = record {
+  pub stores_number : 0 < length (a ++ b) → IsStored p.negative (digits_from_text (a ++ b))
+  stores_number h = record {
     stripped = stripped;
     no_minus = λ nil. (let l : length (digits_from_text (a ++ b)) ≡ 0 = ap length nil in let s = some_digits h in absurd (omega arith));
   }
 
-  pub is_num : 0 < length (a ++ b) → (e : ℤ) → e ≡ exponent_of p.exponent (length p.fraction) k → IsWithin e → IsNum (kept_number p.negative (digits_from_text (a ++ b)) e p.point)
+  pub is_num : 0 < length (a ++ b) → (e : ℤ) → e ≡ exponent_of p.exponent (length p.fraction) k → IsWithin e → IsNum (stored_number p.negative (digits_from_text (a ++ b)) e p.point)
   is_num h e is within = record {
     plain = stripped_plain p.negative p.point (digits_from_text (a ++ b)) e stripped (some_digits h) (λ n. rw is (pointless text p k spelled n));
-    in_range = within_in_range (kept_number p.negative (digits_from_text (a ++ b)) e p.point) within;
+    in_range = within_in_range (stored_number p.negative (digits_from_text (a ++ b)) e p.point) within;
   }
 
   pub past_limit : 0 < length (a ++ b) → (IsWithin (exponent_of p.exponent (length p.fraction) k) → ⊥) → (n : Decimal) → Spells text n → IsNum n → ⊥
   past_limit h out n s num =
-      let e : n ≡ kept_number p.negative (digits_from_text (a ++ b)) (exponent_of p.exponent (length p.fraction) k) p.point = spells_one text n _ s (spells_number h _ refl) in
+      let e : n ≡ stored_number p.negative (digits_from_text (a ++ b)) (exponent_of p.exponent (length p.fraction) k) p.point = spells_one text n _ s (spells_number h _ refl) in
       let num' = rw e at num in
-      elim (in_range_within (kept_number p.negative (digits_from_text (a ++ b)) (exponent_of p.exponent (length p.fraction) k) p.point) num'.in_range) [
+      elim (in_range_within (stored_number p.negative (digits_from_text (a ++ b)) (exponent_of p.exponent (length p.fraction) k) p.point) num'.in_range) [
         | inl z ↦ stripped_mod (digits_from_text (a ++ b)) stripped (some_digits h) (rw (signed_zero p.negative (number_from_digits 10 (digits_from_text (a ++ b))) z) refl)
         | inr within ↦ out within
       ]

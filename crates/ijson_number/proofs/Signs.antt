@@ -9,12 +9,12 @@ use Rattle.std.specs.Ordering.{nat_cmp, int_cmp, ordering_index}
 use Rattle.std.proofs.lemmas.Bool.Decides.{nat_tests}
 use Rattle.std.proofs.lemmas.Int.{ints, clamps}
 use Rattle.ijson_number.specs.Decimal.{Decimal}
-use Rattle.ijson_number.specs.KeptNumber.{kept_number, IsKept}
+use Rattle.ijson_number.specs.private.StoredNumber.{stored_number, IsStored}
 use Rattle.ijson_number.specs.Order.{number_cmp, at_exponent}
-use Rattle.ijson_number.specs.Ordered.{rescale, scale_cmp}
+use Rattle.ijson_number.specs.laws.Ordered.{rescale, scale_cmp}
 use Rattle.ijson_number.specs.Strips.{signed}
-use Rattle.ijson_number.specs.Tens.{ten_pos, signed_mul}
-use Rattle.ijson_number.proofs.Means.{stripped_mod}
+use Rattle.ijson_number.specs.laws.Tens.{ten_pos, signed_mul}
+use Rattle.ijson_number.proofs.Denotes.{stripped_mod}
 use Rattle.ijson_number.proofs.Sizes.{below_cmp, above_cmp}
 
 -- no digits are zero
@@ -28,11 +28,11 @@ below_zero_cmp zero h = absurd (omega arith)
 below_zero_cmp (suc v) h = refl
 
 -- some digits are below zero with a minus
-pub sign_below : (negative : Bool) (ds : List ℕ) → negative ≡ true → IsKept negative ds → 0 < length ds → int_cmp (signed negative (number_from_digits 10 ds)) (pos 0) ≡ Less
+pub sign_below : (negative : Bool) (ds : List ℕ) → negative ≡ true → IsStored negative ds → 0 < length ds → int_cmp (signed negative (number_from_digits 10 ds)) (pos 0) ≡ Less
 sign_below negative ds is k h = let n = stripped_mod ds k.stripped h in rw is (below_zero_cmp (number_from_digits 10 ds) (omega (arith, n)))
 
 -- and above zero without
-pub sign_above : (negative : Bool) (ds : List ℕ) → negative ≡ false → IsKept negative ds → 0 < length ds → int_cmp (signed negative (number_from_digits 10 ds)) (pos 0) ≡ Greater
+pub sign_above : (negative : Bool) (ds : List ℕ) → negative ≡ false → IsStored negative ds → 0 < length ds → int_cmp (signed negative (number_from_digits 10 ds)) (pos 0) ≡ Greater
 sign_above negative ds is k h = let n = stripped_mod ds k.stripped h in rw is (above_cmp (number_from_digits 10 ds) 0 (omega (arith, n)))
 
 neg_cmp : (x y : ℕ) → int_cmp (neg_ℤ (pos x)) (neg_ℤ (pos y)) ≡ int_cmp (pos y) (pos x)
@@ -42,7 +42,7 @@ neg_cmp (suc x) zero = sym (below_cmp 0 (suc x) (omega arith))
 neg_cmp (suc x) (suc y) = grind (arith, nat_tests)
 
 -- below zero the order is turned round
-pub flipped : (ds es : List ℕ) (e f : ℤ) → number_cmp (kept_number true ds e true) (kept_number true es f true) ≡ number_cmp (kept_number false es f true) (kept_number false ds e true)
+pub flipped : (ds es : List ℕ) (e f : ℤ) → number_cmp (stored_number true ds e true) (stored_number true es f true) ≡ number_cmp (stored_number false es f true) (stored_number false ds e true)
 flipped ds es e f =
     let c = int_min f e in
     let u : c ≤ℤ e = omega (arith, ints, clamps) in
@@ -51,7 +51,7 @@ flipped ds es e f =
     let b = number_from_digits 10 es in
     let p = 10 ^ nat_abs (e -ℤ c) in
     let q = 10 ^ nat_abs (f -ℤ c) in
-    rescale (kept_number true ds e true) (kept_number true es f true) c u v ∙ rw (← signed_mul true a p, ← signed_mul true b q) (neg_cmp (a * p) (b * q))
+    rescale (stored_number true ds e true) (stored_number true es f true) c u v ∙ rw (← signed_mul true a p, ← signed_mul true b q) (neg_cmp (a * p) (b * q))
 
 sign_scaled : (x : ℤ) (k : ℕ) → 0 < k → int_cmp (x *ℤ pos k) (pos 0) ≡ int_cmp x (pos 0)
 sign_scaled x k h = let z : 0 * k ≡ 0 = omega arith in rw z at (scale_cmp x (pos 0) k h)
@@ -105,20 +105,20 @@ no_minus_above false v h = refl
 no_minus_above true zero h = absurd (cc)
 no_minus_above true (suc v) h = absurd (cc)
 
-module _ (n n' : Bool) (ds es : List ℕ) (e f : ℤ) (p p' : Bool) (a b : Decimal) (view : kept_number n ds e p ≡ a) (view' : kept_number n' es f p' ≡ b) where
+module _ (n n' : Bool) (ds es : List ℕ) (e f : ℤ) (p p' : Bool) (a b : Decimal) (view : stored_number n ds e p ≡ a) (view' : stored_number n' es f p' ≡ b) where
   -- below zero the sizes are compared the other way round
-  pub below_zero_is : int_cmp a.mantissa (pos 0) ≡ Less → int_cmp b.mantissa (pos 0) ≡ Less → number_cmp (kept_number false es f true) (kept_number false ds e true) ≡ number_cmp a b
+  pub below_zero_is : int_cmp a.mantissa (pos 0) ≡ Less → int_cmp b.mantissa (pos 0) ≡ Less → number_cmp (stored_number false es f true) (stored_number false ds e true) ≡ number_cmp a b
   below_zero_is h g =
       let m = minus_below n (number_from_digits 10 ds) (ap (λ (x : Decimal). int_cmp x.mantissa (pos 0)) view ∙ h) in
       let m' = minus_below n' (number_from_digits 10 es) (ap (λ (x : Decimal). int_cmp x.mantissa (pos 0)) view' ∙ g) in
-      sym (flipped ds es e f) ∙ ap₂ (λ (s t : Bool). number_cmp (kept_number s ds e p) (kept_number t es f p')) (sym m) (sym m') ∙ ap₂ number_cmp view view'
+      sym (flipped ds es e f) ∙ ap₂ (λ (s t : Bool). number_cmp (stored_number s ds e p) (stored_number t es f p')) (sym m) (sym m') ∙ ap₂ number_cmp view view'
 
   -- above zero as they stand
-  pub above_zero_is : int_cmp a.mantissa (pos 0) ≡ Greater → int_cmp b.mantissa (pos 0) ≡ Greater → number_cmp (kept_number false ds e true) (kept_number false es f true) ≡ number_cmp a b
+  pub above_zero_is : int_cmp a.mantissa (pos 0) ≡ Greater → int_cmp b.mantissa (pos 0) ≡ Greater → number_cmp (stored_number false ds e true) (stored_number false es f true) ≡ number_cmp a b
   above_zero_is h g =
       let m = no_minus_above n (number_from_digits 10 ds) (ap (λ (x : Decimal). int_cmp x.mantissa (pos 0)) view ∙ h) in
       let m' = no_minus_above n' (number_from_digits 10 es) (ap (λ (x : Decimal). int_cmp x.mantissa (pos 0)) view' ∙ g) in
-      ap₂ (λ (s t : Bool). number_cmp (kept_number s ds e p) (kept_number t es f p')) (sym m) (sym m') ∙ ap₂ number_cmp view view'
+      ap₂ (λ (s t : Bool). number_cmp (stored_number s ds e p) (stored_number t es f p')) (sym m) (sym m') ∙ ap₂ number_cmp view view'
 
 -- two signs are told apart by their places among the three
 pub tests_same : (s t : Ordering) (r : Bool) → r ≡ not (ordering_index s == ordering_index t) → r ≡ false → s ≡ t

@@ -13,10 +13,10 @@ use Rattle.std.proofs.lemmas.Bool.Decides.{nat_tests}
 use Rattle.std.proofs.lemmas.Int.{ints, clamps}
 use Rattle.std.proofs.lemmas.Int.Digits.{number_lt}
 use Rattle.std.proofs.lemmas.List.Elements.{recursion_from_All}
-use Rattle.ijson_number.specs.KeptNumber.{kept_number}
+use Rattle.ijson_number.specs.private.StoredNumber.{stored_number}
 use Rattle.ijson_number.specs.Order.{number_cmp}
-use Rattle.ijson_number.specs.Stripped.{IsStripped}
-use Rattle.ijson_number.specs.Tens.{ten_pos}
+use Rattle.ijson_number.specs.private.Stripped.{IsStripped}
+use Rattle.ijson_number.specs.laws.Tens.{ten_pos}
 
 pub below_cmp : (x y : ℕ) → x < y → int_cmp (pos x) (pos y) ≡ Less
 below_cmp x y h = grind (arith, nat_tests)
@@ -216,26 +216,26 @@ module _ (ds es : List ℕ) (e f : ℤ) (p : IsStripped ds) (q : IsStripped es) 
   right_gap = gap f least (omega (arith, ints, clamps))
 
   -- where the points stand at one place, the digits decide
-  pub same_place_cmp : pos (length ds) +ℤ e ≡ pos (length es) +ℤ f → number_cmp (kept_number false ds e true) (kept_number false es f true) ≡ slice_cmp nat_cmp ds es
+  pub same_place_cmp : pos (length ds) +ℤ e ≡ pos (length es) +ℤ f → number_cmp (stored_number false ds e true) (stored_number false es f true) ≡ slice_cmp nat_cmp ds es
   same_place_cmp h =
       let a = left_gap in
       let b = right_gap in
       aligned ds es left_tens right_tens below_left below_right (last_from ds p.last) (last_from es q.last) (same_sums (length ds) (length es) left_tens right_tens e f least a b h)
 
   -- and else the places do
-  pub lower_place_cmp : (pos (length ds) +ℤ e) <ℤ (pos (length es) +ℤ f) → number_cmp (kept_number false ds e true) (kept_number false es f true) ≡ Less
+  pub lower_place_cmp : (pos (length ds) +ℤ e) <ℤ (pos (length es) +ℤ f) → number_cmp (stored_number false ds e true) (stored_number false es f true) ≡ Less
   lower_place_cmp h =
       let a = left_gap in
       let b = right_gap in
       below_cmp _ _ (lower_place ds es left_tens right_tens below_left t (q.first t) (less_sums (length ds) (length es) left_tens right_tens e f least a b h))
 
-  pub upper_place_cmp : (pos (length es) +ℤ f) <ℤ (pos (length ds) +ℤ e) → number_cmp (kept_number false ds e true) (kept_number false es f true) ≡ Greater
+  pub upper_place_cmp : (pos (length es) +ℤ f) <ℤ (pos (length ds) +ℤ e) → number_cmp (stored_number false ds e true) (stored_number false es f true) ≡ Greater
   upper_place_cmp h =
       let a = left_gap in
       let b = right_gap in
       above_cmp _ _ (lower_place es ds right_tens left_tens below_right s (p.first s) (less_sums (length es) (length ds) right_tens left_tens f e least b a h))
 
-  pub places_cmp : (x y : ℤ) → x ≡ pos (length ds) +ℤ e → y ≡ pos (length es) +ℤ f → (x ≡ y → ⊥) → int_cmp x y ≡ number_cmp (kept_number false ds e true) (kept_number false es f true)
+  pub places_cmp : (x y : ℤ) → x ≡ pos (length ds) +ℤ e → y ≡ pos (length es) +ℤ f → (x ≡ y → ⊥) → int_cmp x y ≡ number_cmp (stored_number false ds e true) (stored_number false es f true)
   places_cmp x y p q n =
       elim (int_apart x y n) [
         | inl h ↦ int_below x y h ∙ sym (lower_place_cmp (rw (p, q) at h))

@@ -4,7 +4,7 @@ use Rattle.std.specs.Prelude.{ℤ, IsTrue, ◌||◌, ◌==◌}
 use Rattle.std.specs.List.{AllByRecursion}
 use Rattle.std.proofs.lemmas.Bool.{le-leb}
 use Rattle.ijson_number.specs.Decimal.{Decimal}
-use Rattle.ijson_number.specs.NumberBytes.{is_digit, is_number_byte}
+use Rattle.ijson_number.specs.private.NumberBytes.{is_digit, is_number_byte}
 use Rattle.ijson_number.specs.Grammar.{AllDigits, IsMinus, IsWhole, IsFraction, IsSigned, IsExponent, Spells}
 use Rattle.ijson_number.proofs.Parts.{whole_all}
 use Rattle.ijson_number.proofs.Runs.{IsDigits_all}

@@ -3,7 +3,7 @@ use Rattle.std.proofs.Common.{◌≡◌, ℕ, ◌-◌, ◌<◌, Bool, true, List
 use Rattle.std.specs.Prelude.{ℤ}
 use Rattle.std.proofs.lemmas.List.{take_rest}
 use Rattle.ijson_number.specs.Grammar.{AllDigits, IsDigits, IsFraction, IsExponent}
-use Rattle.ijson_number.specs.Reading.{BeginsWithNoDigit, IsTail}
+use Rattle.ijson_number.specs.private.Reading.{BeginsWithNoDigit, IsTail}
 use Rattle.ijson_number.proofs.Runs.{one_run, IsDigits_all, IsDigits_from}
 use Rattle.ijson_number.proofs.Parts.{exponent_begins, no_exponent}
 

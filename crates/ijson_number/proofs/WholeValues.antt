@@ -15,16 +15,16 @@ use Rattle.std.proofs.lemmas.List.Elements.{All-from_recursion, recursion_from_A
 use Rattle.ijson_number.specs.Decimal.{Decimal, IsPlain}
 use Rattle.ijson_number.specs.Integers.{integer, HasValue}
 use Rattle.ijson_number.specs.Order.{number_cmp}
-use Rattle.ijson_number.specs.Ordered.{rescale, tests_equal, cmp_equal}
-use Rattle.ijson_number.specs.Stripped.{IsStripped}
+use Rattle.ijson_number.specs.laws.Ordered.{rescale, tests_equal, cmp_equal}
+use Rattle.ijson_number.specs.private.Stripped.{IsStripped}
 use Rattle.ijson_number.proofs.RoundTrip.{below_take}
 use Rattle.ijson_number.proofs.Sizes.{same_int_cmp, scaled_below, power_le, above_none, number_least}
 use Rattle.ijson_number.specs.Num.{IsNum}
-use Rattle.ijson_number.specs.KeptNumber.{kept_number}
+use Rattle.ijson_number.specs.private.StoredNumber.{stored_number}
 use Rattle.ijson_number.specs.Strips.{signed}
-use Rattle.ijson_number.specs.Tens.{signed_mul, abs_signed}
+use Rattle.ijson_number.specs.laws.Tens.{signed_mul, abs_signed}
 use Rattle.ijson_number.proofs.Exponents.{within_in_range}
-use Rattle.ijson_number.proofs.Means.{stripped_plain}
+use Rattle.ijson_number.proofs.Denotes.{stripped_plain}
 
 -- the digit that is written next
 pub digit_step : (number rest start : ℕ) (buffer : List ℕ) → digits_of 10 number ≡ digits_of 10 rest ++ drop start buffer → 0 < rest → 0 < start → start ≤ length buffer → digits_of 10 number ≡ digits_of 10 (rest / 10) ++ drop (start - 1) (set buffer (start - 1) (rest % 10))
@@ -173,16 +173,16 @@ module _ (negative : Bool) (size s t : ℕ) (ds : List ℕ) (e : ℤ) (is : ds �
   number_is = rw is (number_digits_of 10 s (omega arith))
 
   -- the digits of an integer and its tens are a Num
-  pub whole_num : IsNum (kept_number negative ds e false)
+  pub whole_num : IsNum (stored_number negative ds e false)
   whole_num = record {
     plain = stripped_plain negative false ds e stripped_ds (digits_some ds s number_is n) (λ _. omega (arith, ints));
-    in_range = within_in_range (kept_number negative ds e false) (omega (arith, ints), omega (arith, ints));
+    in_range = within_in_range (stored_number negative ds e false) (omega (arith, ints), omega (arith, ints));
   }
 
   -- and have its value
-  pub whole_value : HasValue (kept_number negative ds e false) (signed negative size)
+  pub whole_value : HasValue (stored_number negative ds e false) (signed negative size)
   whole_value =
-      value_from (kept_number negative ds e false) (signed negative size) (omega (arith, ints)) (rw (tens, number_is, exact) (signed_mul negative s (10 ^ t)))
+      value_from (stored_number negative ds e false) (signed negative size) (omega (arith, ints)) (rw (tens, number_is, exact) (signed_mul negative s (10 ^ t)))
 
 -- stripped digits and zeros that are more than twenty together are large
 pub large_mantissa : (negative : Bool) (ds : List ℕ) (zeros : ℕ) → IsStripped ds → 0 < length ds → 20 < zeros + length ds → 10 ^ 20 ≤ nat_abs (signed negative (number_from_digits 10 ds) *ℤ pos (10 ^ zeros))

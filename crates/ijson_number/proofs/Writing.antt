@@ -1,24 +1,22 @@
 -- The text of whole numbers, as std writes it.
 use Rattle.std.proofs.Common.{◌≡◌, ℕ, zero, suc, ◌+◌, ◌/◌, ◌%◌, ◌^◌, ◌<◌, List, [], ◌∷◌, ◌++◌, length, take, drop, refl, ap, sym, ◌∙◌, arith}
-use Rattle.std.specs.Prelude.{ℤ, pos, negsuc, neg_ℤ, nat_abs, Bool, true, false, ◌||◌, int_le, int_lt, ◌<ℤ◌, ◌+ℤ◌, ◌-ℤ◌}
+use Rattle.std.specs.Prelude.{ℤ, pos, negsuc, neg_ℤ, nat_abs, Bool, true, false, ◌||◌, int_le, int_lt, ◌<ℤ◌, ◌+ℤ◌, ◌-ℤ◌, nat_eq}
 use Rattle.std.proofs.lemmas.Int.{ints}
 use Rattle.std.proofs.lemmas.Bool.Decides.{nat_tests}
 use Rattle.std.proofs.lemmas.Fmt.{decimal_by_steps_wide, decimal_digit}
 use Rattle.std.proofs.lemmas.List.{map-append}
 use Rattle.std.proofs.lemmas.Int.Digits.{digits_of_step}
 use Rattle.std.specs.Fmt.{decimal, signed_decimal}
-use Rattle.std.specs.Int.Digits.{digits_of}
+use Rattle.std.specs.Int.Digits.{digits_of, number_from_digits}
 use Rattle.ijson_number.specs.Text.{whole_text, digits_text, scientific_text, point_text, shape_text, minus_text, zero_text, num_text}
-use Rattle.ijson_number.proofs.DigitsOf.{digits_are, kept_digits_are}
-use Rattle.std.specs.Prelude.{nat_eq}
-use Rattle.std.specs.Int.Digits.{number_from_digits}
+use Rattle.ijson_number.proofs.DigitsOf.{digits_are, stored_digits_are}
 use Rattle.ijson_number.specs.Decimal.{Decimal}
 use Rattle.ijson_number.specs.Strips.{signed}
-use Rattle.ijson_number.specs.KeptNumber.{kept_number}
+use Rattle.ijson_number.specs.private.StoredNumber.{stored_number}
 use Rattle.ijson_number.specs.StrippedDigits.{stripped_digits}
-use Rattle.ijson_number.specs.Stripped.{IsStripped}
-use Rattle.ijson_number.proofs.Means.{stripped_mod}
-use Rattle.ijson_number.specs.Tens.{abs_signed}
+use Rattle.ijson_number.specs.private.Stripped.{IsStripped}
+use Rattle.ijson_number.proofs.Denotes.{stripped_mod}
+use Rattle.ijson_number.specs.laws.Tens.{abs_signed}
 
 decimal_is : (n : ℕ) → n < 10 ^ 64 → 0 < n → decimal n ≡ digits_text (digits_of 10 n)
 decimal_is n h p =
@@ -73,17 +71,17 @@ pub not_zero : (v : ℕ) → 0 < v → nat_eq v 0 ≡ false
 not_zero v h = grind arith
 
 -- the text of the stored number that isn't zero
-pub kept_text : (negative : Bool) (ds : List ℕ) (e : ℤ) (point : Bool) → IsStripped ds → 0 < length ds → minus_text negative ++ shape_text point ds e ≡ num_text (kept_number negative ds e point)
-kept_text negative ds e point s h =
+pub stored_text : (negative : Bool) (ds : List ℕ) (e : ℤ) (point : Bool) → IsStripped ds → 0 < length ds → minus_text negative ++ shape_text point ds e ≡ num_text (stored_number negative ds e point)
+stored_text negative ds e point s h =
     let m = signed negative (number_from_digits 10 ds) in
     let n = stripped_mod ds s h in
     let v : 0 < number_from_digits 10 ds = omega (arith, n) in
     let a : nat_eq (nat_abs m) 0 ≡ false = rw (abs_signed negative (number_from_digits 10 ds)) (not_zero (number_from_digits 10 ds) v) in
-    (rw (below_zero negative (number_from_digits 10 ds) v, kept_digits_are negative ds e point s) refl) ∙ left (nat_eq (nat_abs m) 0) (zero_text point) (minus_text (int_lt m (pos 0)) ++ shape_text point (stripped_digits (kept_number negative ds e point)) e) a
+    (rw (below_zero negative (number_from_digits 10 ds) v, stored_digits_are negative ds e point s) refl) ∙ left (nat_eq (nat_abs m) 0) (zero_text point) (minus_text (int_lt m (pos 0)) ++ shape_text point (stripped_digits (stored_number negative ds e point)) e) a
 
-module _ (n : Decimal) (negative : Bool) (ds shown : List ℕ) (e bits : ℤ) (point : Bool) (is : kept_number negative ds e point ≡ n) (same : shown ≡ ds) (exact : bits ≡ e) (s : IsStripped ds) (h : 0 < length shown) where
+module _ (n : Decimal) (negative : Bool) (ds shown : List ℕ) (e bits : ℤ) (point : Bool) (is : stored_number negative ds e point ≡ n) (same : shown ≡ ds) (exact : bits ≡ e) (s : IsStripped ds) (h : 0 < length shown) where
   shown_text : minus_text negative ++ shape_text point shown bits ≡ num_text n
-  shown_text = rw (same, exact, ← is) (kept_text negative ds e point s (rw same at h))
+  shown_text = rw (same, exact, ← is) (stored_text negative ds e point s (rw same at h))
 
   pub with_minus : negative ≡ true → 45 ∷ shape_text point shown bits ≡ num_text n
   with_minus t = rw (ap minus_text t) at shown_text

@@ -1,15 +1,11 @@
--- A decimal number: a whole mantissa times a power of ten, and whether it was written with a point or an exponent (as RFC 8259, section 6, writes numbers).
-use Rattle.std.specs.Prelude.{◌≡◌, ◌≢◌, ◌%◌, ℤ, pos, nat_abs, ◌≤ℤ◌, Bool, false, refl}
-use Rattle.std.specs.Coded.{Coded, code_by, coded×, coded_ℤ, coded_bool}
+-- A decimal number: a whole mantissa times a power of ten, and whether it was written with a point or an exponent (as
+-- RFC 8259, section 6, writes numbers).
+use Rattle.std.specs.Prelude.{◌≡◌, ◌≢◌, ◌%◌, ℤ, pos, nat_abs, ◌≤ℤ◌, Bool, false}
 
 pub record Decimal : Type 0 where
   pub mantissa : ℤ
   pub exponent : ℤ
   pub point : Bool
-
-abbrev pub decimal_code : Coded Decimal
-decimal_code =
-    code_by (ℤ × (ℤ × Bool)) (coded× coded_ℤ (coded× coded_ℤ coded_bool)) (λ n. (n.mantissa, (n.exponent, n.point))) (λ p. record { mantissa = p.0; exponent = p.1.0; point = p.1.1 }) (λ _. refl)
 
 -- zero has the exponent 0; ten divides no other mantissa; without the point the number is whole
 pub record IsPlain (n : Decimal) : Type 0 where

@@ -1,4 +1,4 @@
--- The stored form of a number.
+-- The stored form of a number. This project's own.
 use Rattle.std.specs.Prelude.{ℕ, zero, suc, ◌^◌, ℤ, pos, negsuc, neg_ℤ, nat_abs, ◌*ℤ◌, ◌-ℤ◌, int_lt, int_le, Bool, true, false, ◌&&◌, List}
 use Rattle.ijson_number.specs.Decimal.{Decimal}
 use Rattle.ijson_number.specs.StrippedDigits.{stripped_digits}
@@ -36,12 +36,15 @@ integer_form n m =
       ]
     ]
 
--- the smallest exponent from k on, of at most `tries` that are tried, that leaves a mantissa which fits
+-- the smallest exponent from k on, of at most `tries` that are tried, that leaves a mantissa that fits
 abbrev pub smallest_packed : (tries k : ℕ) → Decimal → FormOf
 smallest_packed zero k n = digits_form n
 smallest_packed (suc tries) k n =
     let m = n.mantissa *ℤ pos (10 ^ nat_abs (n.exponent -ℤ pos k)) in
-    elim (int_le (pos k) n.exponent && fits_packed m) [ true ↦ packed m (pos k) true | false ↦ smallest_packed tries (suc k) n ]
+    elim (int_le (pos k) n.exponent && fits_packed m) [
+      | true ↦ packed m (pos k) true
+      | false ↦ smallest_packed tries (suc k) n
+    ]
 
 abbrev pub form_of : Decimal → FormOf
 form_of n =

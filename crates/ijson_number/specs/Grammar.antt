@@ -1,6 +1,5 @@
 -- Which texts spell a number, and which number: the number grammar of RFC 8259, section 6.
-use Rattle.std.specs.Prelude.{◌≡◌, ◌⊎◌, ℕ, ◌≤◌, ◌-◌, ℤ, pos, neg_ℤ, ◌-ℤ◌, Bool, true, false, List, [], ◌∷◌, ◌++◌, map, length}
-use Rattle.std.specs.Prelude.{◌||◌}
+use Rattle.std.specs.Prelude.{◌≡◌, ◌⊎◌, ℕ, ◌≤◌, ◌-◌, ℤ, pos, neg_ℤ, ◌-ℤ◌, Bool, true, false, List, [], ◌∷◌, ◌++◌, map, length, ◌||◌}
 use Rattle.std.specs.List.{AllByRecursion}
 use Rattle.std.specs.Int.Digits.{number_from_digits}
 use Rattle.ijson_number.specs.Decimal.{Decimal}
@@ -40,7 +39,9 @@ IsFraction (b ∷ bs) digits written = b ≡ 46 × IsDigits bs × digits ≡ bs 
 abbrev pub IsSigned : List ℕ → ℤ → Type 0
 IsSigned [] z = ⊥
 IsSigned (b ∷ bs) z =
-    (b ≡ 43 × IsDigits bs × z ≡ pos (value bs)) ⊎ (b ≡ 45 × IsDigits bs × z ≡ neg_ℤ (pos (value bs))) ⊎ (IsDigits (b ∷ bs) × z ≡ pos (value (b ∷ bs)))
+    (b ≡ 43 × IsDigits bs × z ≡ pos (value bs))
+    ⊎ (b ≡ 45 × IsDigits bs × z ≡ neg_ℤ (pos (value bs)))
+    ⊎ (IsDigits (b ∷ bs) × z ≡ pos (value (b ∷ bs)))
 
 -- nothing, or 'e' or 'E' and a signed number
 abbrev pub IsExponent : List ℕ → ℤ → (written : Bool) → Type 0
@@ -69,10 +70,14 @@ pub record IsSpelled (text : List ℕ) (p : Parts) : Type 0 where
   pub exponent : IsExponent exponent_text p.exponent has_exponent
   pub point : p.point ≡ has_point || has_exponent
 
--- all digits as one whole number with the sign, times ten to the written exponent less the count of fraction digits
-abbrev pub Means : Parts → Decimal → Type 0
-Means p n = Strips (signed p.negative (value (p.whole ++ p.fraction))) (p.exponent -ℤ pos (length p.fraction)) n × n.point ≡ p.point
+-- the parts denote the number: all digits as one whole number with the sign, times ten to the written exponent less the
+-- count of fraction digits, with all tens taken out
+abbrev pub Denotes : Parts → Decimal → Type 0
+Denotes p n =
+    let mantissa = signed p.negative (value (p.whole ++ p.fraction)) in
+    let exponent = p.exponent -ℤ pos (length p.fraction) in
+    Strips mantissa exponent n × n.point ≡ p.point
 
 -- the text spells the number
 abbrev pub Spells : List ℕ → Decimal → Type 0
-Spells text n = (p : Parts) × IsSpelled text p × Means p n
+Spells text n = (p : Parts) × IsSpelled text p × Denotes p n

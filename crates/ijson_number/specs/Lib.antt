@@ -1,19 +1,11 @@
 pub mod Decimal
 pub mod Num
 pub mod Strips
-pub mod Stripped
 pub mod StrippedDigits
-pub mod KeptNumber
-pub mod KeptDigits
 pub mod Grammar
-pub mod NumberBytes
-pub mod Reading
-pub mod Spelled
 pub mod Refused
 pub mod Text
 pub mod Order
-pub mod Tens
-pub mod Ordered
 pub mod Integers
 pub mod Words
 pub mod Form
@@ -21,3 +13,5 @@ pub mod FormNumber
 pub mod Word
 pub mod FormValue
 pub mod Alike
+pub mod laws
+pub mod private

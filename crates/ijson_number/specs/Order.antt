@@ -1,4 +1,4 @@
--- The order of numbers by exact value; the point is not looked at.
+-- The order of numbers by exact value; the point is not looked at. This project's own.
 use Rattle.std.specs.Prelude.{◌^◌, ℤ, pos, nat_abs, ◌-ℤ◌, ◌*ℤ◌, Bool}
 use Rattle.std.specs.Int.{int_min}
 use Rattle.std.specs.declared.cmp.Ordering.{Ordering}
@@ -11,7 +11,9 @@ at_exponent c n = n.mantissa *ℤ pos (10 ^ nat_abs (n.exponent -ℤ c))
 
 -- the order of the mantissas at the smaller of the two exponents
 abbrev pub number_cmp : Decimal → Decimal → Ordering
-number_cmp a b = let c = int_min a.exponent b.exponent in int_cmp (at_exponent c a) (at_exponent c b)
+number_cmp a b =
+    let c = int_min a.exponent b.exponent in
+    int_cmp (at_exponent c a) (at_exponent c b)
 
 -- the two have one value
 abbrev pub number_eq : Decimal → Decimal → Bool

@@ -1,4 +1,4 @@
--- When a text is refused.
+-- Why a text is refused. This project's own.
 use Rattle.std.specs.Prelude.{ℕ, ◌<◌, List, length}
 use Rattle.ijson_number.specs.Decimal.{Decimal}
 use Rattle.ijson_number.specs.Num.{IsNum}

@@ -1,11 +1,15 @@
--- The decimal digits of a mantissa.
+-- The decimal digits of a mantissa. This project's own.
 use Rattle.std.specs.Prelude.{ℕ, zero, suc, ◌/◌, ◌%◌, nat_eq, nat_abs, true, false, List, [], ◌∷◌, ◌++◌}
 use Rattle.ijson_number.specs.Decimal.{Decimal}
 
 -- the digits of a number in at most so many turns
 abbrev pub digits_within : ℕ → ℕ → List ℕ
 digits_within zero n = []
-digits_within (suc turns) n = elim (nat_eq n 0) [ true ↦ [] | false ↦ digits_within turns (n / 10) ++ (n % 10 ∷ []) ]
+digits_within (suc turns) n =
+    elim (nat_eq n 0) [
+      | true ↦ []
+      | false ↦ digits_within turns (n / 10) ++ (n % 10 ∷ [])
+    ]
 
 -- the digits of the mantissa, the most significant first; none at zero
 abbrev pub stripped_digits : Decimal → List ℕ

@@ -1,4 +1,4 @@
--- Taking the tens out of a mantissa.
+-- Taking the tens out of a mantissa. This project's own.
 use Rattle.std.specs.Prelude.{◌≡◌, ◌⊎◌, ℕ, ◌^◌, ℤ, pos, neg_ℤ, ◌*ℤ◌, ◌+ℤ◌, Bool, cond}
 use Rattle.ijson_number.specs.Decimal.{Decimal, IsPlain}
 
@@ -9,4 +9,6 @@ signed negative n = cond negative (neg_ℤ (pos n)) (pos n)
 -- n is m * 10 ^ e with all tens taken out of m
 pub record Strips (m e : ℤ) (n : Decimal) : Type 0 where
   pub plain : IsPlain n
-  pub tens : (m ≡ pos 0 × n.mantissa ≡ pos 0) ⊎ ((k : ℕ) × (m ≡ n.mantissa *ℤ pos (10 ^ k)) × (n.exponent ≡ e +ℤ pos k))
+  pub tens :
+      (m ≡ pos 0 × n.mantissa ≡ pos 0)
+      ⊎ ((k : ℕ) × (m ≡ n.mantissa *ℤ pos (10 ^ k)) × (n.exponent ≡ e +ℤ pos k))

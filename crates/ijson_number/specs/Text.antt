@@ -1,4 +1,4 @@
--- How a number is written.
+-- How a number is written. The rules are this project's own; what they write is JSON (RFC 8259, section 6).
 use Rattle.std.specs.Prelude.{ℕ, ◌+◌, ℤ, pos, negsuc, nat_abs, ◌+ℤ◌, ◌-ℤ◌, int_lt, int_le, Bool, true, false, ◌||◌, List, [], ◌∷◌, ◌++◌, map, length, take, drop, replicate, nat_eq, zero, suc}
 use Rattle.ijson_number.specs.Decimal.{Decimal}
 use Rattle.ijson_number.specs.StrippedDigits.{digits_within, stripped_digits}
@@ -20,7 +20,8 @@ whole_text (negsuc n) = 45 ∷ digits_text (digits_within (suc n) (suc n))
 abbrev pub scientific_text : List ℕ → (p : ℤ) → List ℕ
 scientific_text [] p = []
 scientific_text (d ∷ []) p = (48 + d) ∷ 101 ∷ whole_text (p -ℤ pos 1)
-scientific_text (d ∷ c ∷ ds) p = (48 + d) ∷ 46 ∷ digits_text (c ∷ ds) ++ 101 ∷ whole_text (p -ℤ pos 1)
+scientific_text (d ∷ c ∷ ds) p =
+    (48 + d) ∷ 46 ∷ digits_text (c ∷ ds) ++ 101 ∷ whole_text (p -ℤ pos 1)
 
 -- the digits ds with the point p places behind their front, with zeros as far as they don't reach
 abbrev pub point_text : List ℕ → (p : ℤ) → List ℕ
@@ -43,7 +44,11 @@ float_text ds e =
 
 -- the digits ds and the exponent e, with float shape or without
 abbrev pub shape_text : Bool → List ℕ → ℤ → List ℕ
-shape_text point ds e = elim point [ true ↦ float_text ds e | false ↦ digits_text ds ++ zeros_text (nat_abs e) ]
+shape_text point ds e =
+    elim point [
+      | true ↦ float_text ds e
+      | false ↦ digits_text ds ++ zeros_text (nat_abs e)
+    ]
 
 abbrev pub zero_text : Bool → List ℕ
 zero_text true = 48 ∷ 46 ∷ 48 ∷ []
@@ -58,5 +63,7 @@ abbrev pub num_text : Decimal → List ℕ
 num_text n =
     elim (nat_eq (nat_abs n.mantissa) 0) [
       | true ↦ zero_text n.point
-      | false ↦ minus_text (int_lt n.mantissa (pos 0)) ++ shape_text n.point (stripped_digits n) n.exponent
+      | false ↦
+          minus_text (int_lt n.mantissa (pos 0))
+          ++ shape_text n.point (stripped_digits n) n.exponent
     ]

@@ -1,7 +1,7 @@
 //! Digits, of which few are kept in place.
 ghost use Rattle.std.specs.Prelude.{◌≡◌, ◌<◌, ◌≤◌, ◌+◌, ◌++◌, length, IfOk, OnOk, OnErr};
 ghost use Rattle.ijson_number.specs.Grammar.{AllDigits};
-ghost use Rattle.ijson_number.specs.Stripped.{IsStripped, digits_from_text};
+ghost use Rattle.ijson_number.specs.private.Stripped.{IsStripped, digits_from_text};
 ghost use Rattle.std.specs.Int.Digits.{digits_of};
 ghost use Rattle.std.specs.Prelude.{◌%◌, ◌≢◌, [], pos, neg_ℤ, ◌+ℤ◌, ◌<ℤ◌, ◌^◌, FitsSigned};
 ghost use mir.Syntax.{w128};
@@ -15,7 +15,7 @@ use std::marker::Model;
 pub const IN_PLACE: usize = 20;
 
 #[derive(Drop)]
-enum Kept {
+enum Storage {
     InPlace(ArrayVec<u8, 20>),
     Apart(Vec<u8>),
 }
@@ -23,7 +23,7 @@ enum Kept {
 /// Digits from 0 to 9, the most significant first, with no 0 at either end.
 #[derive(Drop)]
 pub struct Digits {
-    kept: Kept,
+    storage: Storage,
 }
 
 impl Model for Digits {
@@ -31,12 +31,12 @@ impl Model for Digits {
 
     ghost Value = { List ℕ };
 
-    ghost use Rattle.ijson_number.specs.KeptDigits.{kept_digits, IsKeptByLength};
-    ghost use Rattle.ijson_number.specs.Stripped.{IsStripped};
+    ghost use Rattle.ijson_number.specs.private.StoredDigits.{stored_digits, IsStoredByLength};
+    ghost use Rattle.ijson_number.specs.private.Stripped.{IsStripped};
 
-    ghost view = { λ d. kept_digits d.kept };
+    ghost view = { λ d. stored_digits d.storage };
 
-    ghost invariant = { λ d. IsKeptByLength d.kept × IsStripped (kept_digits d.kept) };
+    ghost invariant = { λ d. IsStoredByLength d.storage × IsStripped (stored_digits d.storage) };
 }
 
 /// Appends the digits that a text has.
@@ -76,14 +76,14 @@ impl Digits {
             push_in_place(&mut digits, front);
             push_in_place(&mut digits, back);
             return Ok(Digits {
-                kept: Kept::InPlace(digits),
+                storage: Storage::InPlace(digits),
             });
         }
         let mut digits = Vec::new(alloc);
         push_apart(&mut digits, front)?;
         push_apart(&mut digits, back)?;
         Ok(Digits {
-            kept: Kept::Apart(digits),
+            storage: Storage::Apart(digits),
         })
     }
 
@@ -92,7 +92,7 @@ impl Digits {
         ensures { result ≡ [] }
     {
         Digits {
-            kept: Kept::InPlace(ArrayVec::new()),
+            storage: Storage::InPlace(ArrayVec::new()),
         }
     }
 
@@ -114,7 +114,7 @@ impl Digits {
             digits.push(*digit);
         }
         Digits {
-            kept: Kept::InPlace(digits),
+            storage: Storage::InPlace(digits),
         }
     }
 
@@ -123,9 +123,9 @@ impl Digits {
         ensures value { result.now ≡ self.now }
         ensures stripped { IsStripped self.now }
     {
-        match &self.kept {
-            Kept::InPlace(digits) => digits.as_slice(),
-            Kept::Apart(digits) => digits.as_slice(),
+        match &self.storage {
+            Storage::InPlace(digits) => digits.as_slice(),
+            Storage::Apart(digits) => digits.as_slice(),
         }
     }
 }
@@ -136,11 +136,11 @@ impl Clone for Digits {
     ghost is_infallible = { λ digits. length digits ≤ 20 };
 
     fn clone(&self) -> Result<Digits, AllocError> {
-        let kept = match &self.kept {
-            Kept::InPlace(digits) => Kept::InPlace(digits.clone()?),
-            Kept::Apart(digits) => Kept::Apart(digits.clone()?),
+        let storage = match &self.storage {
+            Storage::InPlace(digits) => Storage::InPlace(digits.clone()?),
+            Storage::Apart(digits) => Storage::Apart(digits.clone()?),
         };
-        Ok(Digits { kept })
+        Ok(Digits { storage })
     }
 }
 

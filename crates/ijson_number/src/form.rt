@@ -1,5 +1,5 @@
 //! The stored form of a number, reckoned from its digits.
-ghost use Rattle.std.specs.Prelude.{◌≡◌, ◌^◌, ◌*ℤ◌, ◌≤ℤ◌, ◌<ℤ◌, ◌↔◌, pos, true, false, length, nat_abs, IfSome, IfNone, IsTrue};
+ghost use Rattle.std.specs.Prelude.{◌≡◌, ◌^◌, ◌*ℤ◌, ◌≤ℤ◌, ◌<ℤ◌, ◌↔◌, pos, true, false, IfSome, IfNone, IsTrue};
 ghost use Rattle.ijson_number.specs.Alike.{IsAlike};
 ghost use Rattle.ijson_number.specs.Num.{Num};
 ghost use Rattle.ijson_number.specs.Text.{num_text};
@@ -48,7 +48,8 @@ impl INumber {
     fn packed_mantissa(&self, zeros: usize) -> Option<i64>
         ensures some { IfSome result (λ m. m ≡ self.now.decimal.mantissa *ℤ pos (10 ^ zeros)) }
         ensures fits { IfSome result (λ m. IsTrue (fits_packed m)) }
-        ensures none { IfNone result (fits_packed (self.now.decimal.mantissa *ℤ pos (10 ^ zeros)) ≡ false) }
+        ensures none { IfNone result
+            (fits_packed (self.now.decimal.mantissa *ℤ pos (10 ^ zeros)) ≡ false) }
     {
         let mantissa = self.mantissa_with(zeros)?;
         if is_packed_mantissa(mantissa) {
@@ -136,8 +137,12 @@ impl INumber {
     /// The stored form. Numbers of one value and one shape have one form and one text, and no others have that text.
     pub fn form(&self) -> Form<'_>
         ensures form { form_value result ≡ form_of self.now.decimal }
-        ensures alike { (other : Num) → IsAlike self.now.decimal other.decimal → form_value result ≡ form_of other.decimal }
-        ensures text { (other : Num) → (num_text self.now.decimal ≡ num_text other.decimal) ↔ IsAlike self.now.decimal other.decimal }
+        ensures alike { (other : Num)
+            → IsAlike self.now.decimal other.decimal
+            → form_value result ≡ form_of other.decimal }
+        ensures text { (other : Num)
+            → (num_text self.now.decimal ≡ num_text other.decimal)
+            ↔ IsAlike self.now.decimal other.decimal }
     {
         if !self.point {
             self.integer_form()

@@ -1,7 +1,9 @@
 //! What a number feeds a hasher.
 ghost use Rattle.std.specs.Prelude.{◌≡◌, pos, ◌+ℤ◌, nat_abs, if◌then◌else◌};
-ghost use Rattle.ijson_number.specs.Ordered.{equal_feed};
-ghost use Rattle.ijson_number.specs.Words.{fed_words, number_words};
+ghost use Rattle.std.specs.List.{flat_map};
+ghost use Rattle.std.specs.Hash as fed;
+ghost use Rattle.ijson_number.specs.laws.Ordered.{equal_feed};
+ghost use Rattle.ijson_number.specs.Words.{number_words};
 
 use crate::number::INumber;
 use std::hash::{Hash, Hasher};
@@ -21,7 +23,7 @@ fn exponent_word(exponent: i32) -> u64
 /// Equal numbers feed the same words, and each word is one `write_u64`: 2, and 0 for zero; for another number 2, the
 /// sign (1 above zero, 2 below), the stripped exponent above -2^31, the count of stripped digits and each of these.
 impl Hash for INumber {
-    ghost hash_input = { λ n. fed_words (number_words n.decimal) };
+    ghost hash_input = { λ n. flat_map fed.u64 (number_words n.decimal) };
 
     ghost respects_eq = { λ a b e. equal_feed a b e };
 

@@ -1,5 +1,5 @@
 //! Numbers from integers, and integers from numbers.
-ghost use Rattle.std.specs.Prelude.{◌≡◌, ◌≢◌, ◌*◌, ◌/◌, ◌%◌, ◌+◌, ◌^◌, ◌<◌, ◌≤◌, ℕ, ℤ, pos, ◌*ℤ◌, false, length, nat_abs, IfSome, IfNone, FitsSigned};
+ghost use Rattle.std.specs.Prelude.{◌≡◌, ◌≢◌, ◌*◌, ◌%◌, ◌+◌, ◌^◌, ◌<◌, ◌≤◌, ℕ, ℤ, pos, ◌*ℤ◌, false, length, nat_abs, IfSome, IfNone, FitsSigned};
 ghost use Rattle.std.specs.List.{All};
 ghost use Rattle.std.specs.Int.Digits.{number_from_digits};
 ghost use mir.Syntax.{w32, w64};
@@ -168,7 +168,8 @@ impl INumber {
     pub(crate) fn mantissa_with(&self, zeros: usize) -> Option<i128>
         ensures some { IfSome result (λ m. m ≡ self.now.decimal.mantissa *ℤ pos (10 ^ zeros)) }
         ensures small { IfSome result (λ m. nat_abs m < 10 ^ 20) }
-        ensures none { IfNone result (10 ^ 20 ≤ nat_abs (self.now.decimal.mantissa *ℤ pos (10 ^ zeros))) }
+        ensures none { IfNone result
+            (10 ^ 20 ≤ nat_abs (self.now.decimal.mantissa *ℤ pos (10 ^ zeros))) }
     {
         let digits = self.digits.as_slice();
         if digits.is_empty() {
@@ -185,7 +186,8 @@ impl INumber {
     pub(crate) fn whole(&self) -> Option<i128>
         ensures some { IfSome result (λ z. HasValue self.now.decimal z) }
         ensures small { IfSome result (λ z. nat_abs z < 10 ^ 20) }
-        ensures none { IfNone result ((z : ℤ) → nat_abs z < 10 ^ 20 → HasValue self.now.decimal z → ⊥) }
+        ensures none { IfNone result
+            ((z : ℤ) → nat_abs z < 10 ^ 20 → HasValue self.now.decimal z → ⊥) }
     {
         if self.exponent < 0 {
             return None;
@@ -196,7 +198,8 @@ impl INumber {
     /// The value where it is whole and an `i64`, whatever the shape.
     pub fn to_i64(&self) -> Option<i64>
         ensures some { IfSome result (λ z. HasValue self.now.decimal z) }
-        ensures none { IfNone result ((z : ℤ) → FitsSigned w64 z → HasValue self.now.decimal z → ⊥) }
+        ensures none { IfNone result
+            ((z : ℤ) → FitsSigned w64 z → HasValue self.now.decimal z → ⊥) }
     {
         i64::try_from(self.whole()?).ok()
     }
@@ -204,7 +207,8 @@ impl INumber {
     /// The value where it is whole and an `i32`, whatever the shape.
     pub fn to_i32(&self) -> Option<i32>
         ensures some { IfSome result (λ z. HasValue self.now.decimal z) }
-        ensures none { IfNone result ((z : ℤ) → FitsSigned w32 z → HasValue self.now.decimal z → ⊥) }
+        ensures none { IfNone result
+            ((z : ℤ) → FitsSigned w32 z → HasValue self.now.decimal z → ⊥) }
     {
         i32::try_from(self.whole()?).ok()
     }
@@ -212,7 +216,8 @@ impl INumber {
     /// The value where it is whole and an `isize`, whatever the shape.
     pub fn to_isize(&self) -> Option<isize>
         ensures some { IfSome result (λ z. HasValue self.now.decimal z) }
-        ensures none { IfNone result ((z : ℤ) → FitsSigned w64 z → HasValue self.now.decimal z → ⊥) }
+        ensures none { IfNone result
+            ((z : ℤ) → FitsSigned w64 z → HasValue self.now.decimal z → ⊥) }
     {
         isize::try_from(self.whole()?).ok()
     }
@@ -220,7 +225,8 @@ impl INumber {
     /// The value where it is whole and a `u64`, whatever the shape.
     pub fn to_u64(&self) -> Option<u64>
         ensures some { IfSome result (λ n. HasValue self.now.decimal (pos n)) }
-        ensures none { IfNone result ((n : ℕ) → n < 2 ^ 64 → HasValue self.now.decimal (pos n) → ⊥) }
+        ensures none { IfNone result
+            ((n : ℕ) → n < 2 ^ 64 → HasValue self.now.decimal (pos n) → ⊥) }
     {
         u64::try_from(self.whole()?).ok()
     }
@@ -228,7 +234,8 @@ impl INumber {
     /// The value where it is whole and a `u32`, whatever the shape.
     pub fn to_u32(&self) -> Option<u32>
         ensures some { IfSome result (λ n. HasValue self.now.decimal (pos n)) }
-        ensures none { IfNone result ((n : ℕ) → n < 2 ^ 32 → HasValue self.now.decimal (pos n) → ⊥) }
+        ensures none { IfNone result
+            ((n : ℕ) → n < 2 ^ 32 → HasValue self.now.decimal (pos n) → ⊥) }
     {
         u32::try_from(self.whole()?).ok()
     }
@@ -236,7 +243,8 @@ impl INumber {
     /// The value where it is whole and a `usize`, whatever the shape.
     pub fn to_usize(&self) -> Option<usize>
         ensures some { IfSome result (λ n. HasValue self.now.decimal (pos n)) }
-        ensures none { IfNone result ((n : ℕ) → n < 2 ^ 64 → HasValue self.now.decimal (pos n) → ⊥) }
+        ensures none { IfNone result
+            ((n : ℕ) → n < 2 ^ 64 → HasValue self.now.decimal (pos n) → ⊥) }
     {
         usize::try_from(self.whole()?).ok()
     }

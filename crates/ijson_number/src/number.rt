@@ -1,20 +1,24 @@
 //! `INumber`, an exact decimal.
 ghost use Rattle.std.specs.Prelude.{◌≡◌, IfOk, IfErr};
 ghost use Rattle.ijson_number.specs.Grammar.{Spells};
-ghost use Rattle.ijson_number.specs.KeptNumber.{kept_number};
-ghost use Rattle.ijson_number.specs.Num.{IsNum, IsNum-prop};
+ghost use Rattle.ijson_number.specs.private.StoredNumber.{stored_number};
+ghost use Rattle.ijson_number.specs.Num.{IsNum};
+ghost use Rattle.ijson_number.specs.laws.Codes.{IsNum-prop};
 
 use crate::digits::Digits;
 use crate::reading;
 use std::alloc::Global;
 use std::marker::Model;
+use thiserror::Error;
 
 /// Why a text makes no number.
-#[derive(Clone, Copy, PartialEq, Eq, Debug, Drop)]
+#[derive(Clone, Copy, PartialEq, Eq, Debug, Drop, Error)]
 pub enum ParseNumberError {
     /// The text spells no number, or one whose stripped exponent is past the limit.
+    #[error("not a JSON number, or its exponent is out of range")]
     Invalid,
     /// The text spells a number of more than 20 stripped digits, and they found no memory.
+    #[error("out of memory")]
     Memory,
 }
 
@@ -26,20 +30,21 @@ pub struct INumber {
     pub(crate) digits: Digits,
     pub(crate) exponent: i32,
     pub(crate) point: bool,
-    ghost num: { IsNum (kept_number negative digits exponent point) } by { IsNum-prop (kept_number negative digits exponent point) },
+    ghost num: { IsNum (stored_number negative digits exponent point) } by { IsNum-prop (stored_number negative digits exponent point) },
 }
 
 impl Model for INumber {
-    ghost use Rattle.ijson_number.specs.Num.{Num, num_code};
-    ghost use Rattle.ijson_number.specs.KeptNumber.{kept_num, IsKept};
+    ghost use Rattle.ijson_number.specs.Num.{Num};
+    ghost use Rattle.ijson_number.specs.laws.Codes.{num_code};
+    ghost use Rattle.ijson_number.specs.private.StoredNumber.{stored_num, IsStored};
 
     ghost Value = { Num };
 
     ghost coded = { num_code };
 
-    ghost view = { λ n. kept_num n.negative n.digits n.exponent n.point n.num };
+    ghost view = { λ n. stored_num n.negative n.digits n.exponent n.point n.num };
 
-    ghost invariant = { λ n. IsKept n.negative n.digits };
+    ghost invariant = { λ n. IsStored n.negative n.digits };
 }
 
 impl INumber {

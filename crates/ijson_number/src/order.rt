@@ -1,12 +1,11 @@
 //! Equality and order by exact value.
 ghost use Rattle.std.specs.Prelude.{◌≡◌, ◌<◌, Some, pos, false, true, length, refl};
-ghost use Rattle.std.specs.Cmp.{eq_by_cmp_equiv, partial_equiv_from_equiv, on_equiv, on_total, po};
+ghost use Rattle.std.specs.Cmp.{partial_equiv_from_equiv, on_equiv, on_total, po};
 ghost use Rattle.std.specs.Ordering.{int_cmp};
-ghost use Rattle.ijson_number.specs.Decimal.{Decimal};
-ghost use Rattle.ijson_number.specs.KeptNumber.{kept_number};
+ghost use Rattle.ijson_number.specs.private.StoredNumber.{stored_number};
 ghost use Rattle.ijson_number.specs.Order.{number_cmp, number_eq};
-ghost use Rattle.ijson_number.specs.Ordered.{number_cmp_total, number_eq_equiv};
-ghost use Rattle.ijson_number.specs.Stripped.{IsStripped};
+ghost use Rattle.ijson_number.specs.laws.Ordered.{number_cmp_total, number_eq_equiv};
+ghost use Rattle.ijson_number.specs.private.Stripped.{IsStripped};
 
 use crate::digits::place_of;
 use crate::number::INumber;
@@ -35,7 +34,9 @@ fn cmp_above_zero(digits: &[u8], exponent: i32, others: &[u8], other_exponent: i
     requires some_digit { 0 < length digits.now }
     requires others { IsStripped others.now }
     requires some_other { 0 < length others.now }
-    ensures { result ≡ number_cmp (kept_number false digits.now exponent true) (kept_number false others.now other_exponent true) }
+    ensures { result
+        ≡ number_cmp (stored_number false digits.now exponent true)
+        (stored_number false others.now other_exponent true) }
 {
     let place = place_of(digits, exponent);
     let other_place = place_of(others, other_exponent);

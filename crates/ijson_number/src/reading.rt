@@ -3,11 +3,10 @@ ghost use Rattle.std.specs.Prelude.{◌≡◌, ◌++◌, ◌↔◌, ◌<◌, ◌
 ghost use mir.Syntax.{w128};
 ghost use Rattle.ijson_number.specs.Decimal.{Decimal};
 ghost use Rattle.ijson_number.specs.Num.{IsNum};
-ghost use Rattle.ijson_number.specs.Reading.{IsWithin, exponent_of};
+ghost use Rattle.ijson_number.specs.private.Reading.{IsWithin, exponent_of, BeginsWithNoDigit, BeginsWithNoZero, EndsWithNoZero, IsSignTaken, IsTail, IsUnsigned};
 ghost use Rattle.ijson_number.specs.Strips.{signed};
-ghost use Rattle.ijson_number.specs.Grammar.{AllDigits, IsDigits, IsExponent, IsDigit, IsSpelled, IsWhole, Parts, Spells, value};
-ghost use Rattle.ijson_number.specs.Reading.{BeginsWithNoDigit, BeginsWithNoZero, EndsWithNoZero, IsSignTaken, IsTail, IsUnsigned};
-ghost use Rattle.ijson_number.specs.Spelled.{IsScanned, parts_of, scanned_number};
+ghost use Rattle.ijson_number.specs.Grammar.{AllDigits, IsDigits, IsExponent, IsSpelled, IsWhole, Parts, Spells, value};
+ghost use Rattle.ijson_number.specs.private.Scanned.{IsScanned, parts_of, scanned_number};
 
 /// More than any exponent within the limit needs, whatever the length of a text.
 const CAP: u128 = 1 << 80;
@@ -36,7 +35,8 @@ fn is_digits(bytes: &[u8]) -> bool
 
 /// Takes the zeros off the front.
 fn without_leading_zeros(digits: &[u8]) -> &[u8]
-    ensures zeros { digits.now ≡ replicate (length digits.now - length result.now) 48 ++ result.now }
+    ensures zeros { digits.now
+        ≡ replicate (length digits.now - length result.now) 48 ++ result.now }
     ensures first { BeginsWithNoZero result.now }
 {
     let mut count = 0;
@@ -48,7 +48,8 @@ fn without_leading_zeros(digits: &[u8]) -> &[u8]
 
 /// Takes the zeros off the end.
 fn without_trailing_zeros(digits: &[u8]) -> &[u8]
-    ensures zeros { digits.now ≡ result.now ++ replicate (length digits.now - length result.now) 48 }
+    ensures zeros { digits.now
+        ≡ result.now ++ replicate (length digits.now - length result.now) 48 }
     ensures last { EndsWithNoZero result.now }
 {
     let mut end = digits.len();
@@ -60,7 +61,8 @@ fn without_trailing_zeros(digits: &[u8]) -> &[u8]
 
 /// The sign and the digits of an exponent, none of either where there is no exponent.
 fn read_exponent(bytes: &[u8]) -> Option<(bool, &[u8])>
-    ensures found { IfSome result (λ r. (written : Bool) × IsExponent bytes.now (signed r.0 (value r.1.now)) written) }
+    ensures found { IfSome result (λ r.
+        (written : Bool) × IsExponent bytes.now (signed r.0 (value r.1.now)) written) }
     ensures digits { IfSome result (λ r. AllDigits r.1.now) }
     ensures none { IfNone result ((z : ℤ) (written : Bool) → IsExponent bytes.now z written → ⊥) }
 {
@@ -93,9 +95,11 @@ pub struct Tail<'a> {
 
 /// Reads what follows the whole part.
 fn read_tail(bytes: &[u8]) -> Option<Tail<'_>>
-    ensures found { IfSome result (λ t. IsTail bytes.now t.fraction.now (signed t.negative (value t.exponent.now)) t.point) }
+    ensures found { IfSome result (λ t.
+        IsTail bytes.now t.fraction.now (signed t.negative (value t.exponent.now)) t.point) }
     ensures digits { IfSome result (λ t. AllDigits t.exponent.now) }
-    ensures none { IfNone result ((fraction : List ℕ) (z : ℤ) (point : Bool) → IsTail bytes.now fraction z point → ⊥) }
+    ensures none { IfNone result
+        ((fraction : List ℕ) (z : ℤ) (point : Bool) → IsTail bytes.now fraction z point → ⊥) }
 {
     if !bytes.is_empty() && bytes[0] == b'.' {
         let (fraction, rest) = split_digits(&bytes[1..]);
@@ -140,9 +144,13 @@ fn is_whole(digits: &[u8]) -> bool
 
 /// Reads a number's text without its sign: the whole part, and what follows it.
 fn read_unsigned(bytes: &[u8]) -> Option<(&[u8], Tail<'_>)>
-    ensures found { IfSome result (λ r. IsUnsigned bytes.now r.0.now r.1.fraction.now (signed r.1.negative (value r.1.exponent.now)) r.1.point) }
+    ensures found { IfSome result (λ r.
+        let exponent = signed r.1.negative (value r.1.exponent.now) in
+        IsUnsigned bytes.now r.0.now r.1.fraction.now exponent r.1.point) }
     ensures digits { IfSome result (λ r. AllDigits r.1.exponent.now) }
-    ensures none { IfNone result ((whole fraction : List ℕ) (z : ℤ) (point : Bool) → IsUnsigned bytes.now whole fraction z point → ⊥) }
+    ensures none { IfNone result ((whole fraction : List ℕ) (z : ℤ) (point : Bool)
+        → IsUnsigned bytes.now whole fraction z point
+        → ⊥) }
 {
     let (whole, rest) = split_digits(bytes);
     if !is_whole(whole) {
@@ -177,7 +185,8 @@ pub fn read(text: &[u8]) -> Option<Spelling<'_>>
 
 /// Takes the zeros off the front of digits in two pieces.
 pub fn strip_front<'a>(whole: &'a [u8], fraction: &'a [u8]) -> (&'a [u8], &'a [u8])
-    ensures zeros { (zeros : ℕ) × whole.now ++ fraction.now ≡ replicate zeros 48 ++ (result.0.now ++ result.1.now) }
+    ensures zeros { (zeros : ℕ)
+        × whole.now ++ fraction.now ≡ replicate zeros 48 ++ (result.0.now ++ result.1.now) }
     ensures first { BeginsWithNoZero (result.0.now ++ result.1.now) }
 {
     let front = without_leading_zeros(whole);
@@ -190,7 +199,9 @@ pub fn strip_front<'a>(whole: &'a [u8], fraction: &'a [u8]) -> (&'a [u8], &'a [u
 
 /// Takes the zeros off the end of digits in two pieces.
 pub fn strip_back<'a>(front: &'a [u8], back: &'a [u8]) -> (&'a [u8], &'a [u8])
-    ensures zeros { front.now ++ back.now ≡ (result.0.now ++ result.1.now) ++ replicate (length front.now - length result.0.now + (length back.now - length result.1.now)) 48 }
+    ensures zeros { let off_front = length front.now - length result.0.now in
+        let off_back = length back.now - length result.1.now in
+        front.now ++ back.now ≡ (result.0.now ++ result.1.now) ++ replicate (off_front + off_back) 48 }
     ensures front_len { length result.0.now ≤ length front.now }
     ensures back_len { length result.1.now ≤ length back.now }
     ensures last { EndsWithNoZero (result.0.now ++ result.1.now) }
@@ -203,10 +214,10 @@ pub fn strip_back<'a>(front: &'a [u8], back: &'a [u8]) -> (&'a [u8], &'a [u8])
     }
 }
 
-/// The digits as a number, or 2 ^ 80 where that is less.
+/// The digits as a number, or the cap where that is less.
 pub fn capped(digits: &[u8]) -> u128
     requires { AllDigits digits.now }
-    ensures { result ≡ min (value digits.now) (2 ^ 80) }
+    ensures { result ≡ min (value digits.now) CAP }
 {
     let mut number: u128 = 0;
     for digit in digits {
@@ -215,13 +226,20 @@ pub fn capped(digits: &[u8]) -> u128
     number
 }
 
-/// The greatest stripped exponent.
+/// The greatest stripped exponent. The limit is this project's own.
 pub const EXPONENT_LIMIT: i128 = 1 << 30;
 
-/// The written exponent, or 2 ^ 80 with its sign where that is nearer to zero.
+/// Whether a stripped exponent is within the limit.
+fn is_within_limit(exponent: i128) -> bool
+    ensures { IsTrue result ↔ IsWithin exponent }
+{
+    -EXPONENT_LIMIT <= exponent && exponent <= EXPONENT_LIMIT
+}
+
+/// The written exponent, or the cap with its sign where that is nearer to zero.
 fn written_exponent(tail: &Tail<'_>) -> i128
     requires { AllDigits tail.now.exponent.now }
-    ensures { result ≡ signed tail.now.negative (min (value tail.now.exponent.now) (2 ^ 80)) }
+    ensures { result ≡ signed tail.now.negative (min (value tail.now.exponent.now) CAP) }
 {
     let number = capped(tail.exponent) as i128;
     if tail.negative { -number } else { number }
@@ -231,7 +249,9 @@ fn written_exponent(tail: &Tail<'_>) -> i128
 fn capped_exponent(tail: &Tail<'_>, tens: u128) -> i128
     requires digits { AllDigits tail.now.exponent.now }
     requires tens { tens < 2 ^ 65 }
-    ensures value { result ≡ signed tail.now.negative (min (value tail.now.exponent.now) (2 ^ 80)) +ℤ (pos tens -ℤ pos (length tail.now.fraction.now)) }
+    ensures value { result
+        ≡ signed tail.now.negative (min (value tail.now.exponent.now) CAP)
+        +ℤ (pos tens -ℤ pos (length tail.now.fraction.now)) }
     ensures fits { FitsSigned w128 result }
 {
     written_exponent(tail) + (tens as i128 - tail.fraction.len() as i128)
@@ -242,14 +262,18 @@ fn capped_exponent(tail: &Tail<'_>, tens: u128) -> i128
 pub fn stripped_exponent(tail: &Tail<'_>, tens: u128) -> Option<i32>
     requires digits { AllDigits tail.now.exponent.now }
     requires tens { tens < 2 ^ 65 }
-    ensures some { IfSome result (λ e. e ≡ exponent_of (signed tail.now.negative (value tail.now.exponent.now)) (length tail.now.fraction.now) tens × IsWithin e) }
-    ensures none { IfNone result (IsWithin (exponent_of (signed tail.now.negative (value tail.now.exponent.now)) (length tail.now.fraction.now) tens) → ⊥) }
+    ensures some { let written = signed tail.now.negative (value tail.now.exponent.now) in
+        IfSome result (λ e.
+        e ≡ exponent_of written (length tail.now.fraction.now) tens × IsWithin e) }
+    ensures none { let written = signed tail.now.negative (value tail.now.exponent.now) in
+        IfNone result (IsWithin (exponent_of written (length tail.now.fraction.now) tens) → ⊥) }
 {
     let exponent = capped_exponent(tail, tens);
-    if exponent < -EXPONENT_LIMIT || exponent > EXPONENT_LIMIT {
-        return None;
+    if is_within_limit(exponent) {
+        Some(exponent as i32)
+    } else {
+        None
     }
-    Some(exponent as i32)
 }
 
 /// A number that isn't too large, whose stripped digits still lie in its text, in two pieces.
@@ -265,7 +289,7 @@ pub struct Scanned<'a> {
 /// Reads a number's text, and takes the zeros off its digits.
 pub fn scan(text: &[u8]) -> Option<Scanned<'_>>
     ensures spelled { IfSome result (λ s. Spells text.now (scanned_number s)) }
-    ensures kept { IfSome result IsScanned }
+    ensures scanned { IfSome result IsScanned }
     ensures none { IfNone result ((n : Decimal) → Spells text.now n → IsNum n → ⊥) }
 {
     let spelling = read(text)?;

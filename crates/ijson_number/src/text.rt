@@ -1,7 +1,6 @@
 //! Writes a number's text.
-ghost use Rattle.std.specs.Prelude.{Some, ◌<◌, ◌≤◌, ◌+◌, ◌≡◌, ◌≢◌, ◌^◌, pos, neg_ℤ, ◌<ℤ◌, ◌≤ℤ◌, FitsSigned, int_le, int_lt, negsuc, ◌+ℤ◌, ◌||◌, length};
+ghost use Rattle.std.specs.Prelude.{Some, ◌<◌, ◌≤◌, ◌+◌, ◌≡◌, ◌^◌, pos, neg_ℤ, ◌<ℤ◌, int_le, int_lt, negsuc, ◌||◌, length};
 ghost use Rattle.std.specs.List.{All};
-ghost use mir.Syntax.{w128};
 ghost use Rattle.ijson_number.specs.Text.{digits_text, num_text, point_text, scientific_text, shape_text, zeros_text};
 
 use crate::digits::place_of;

@@ -3,6 +3,7 @@ use crate::number::{Form, INumber, Looks, ParseNumberError, first_fault};
 use std::alloc::Global;
 use std::cell::{Cell, RefCell};
 use std::cmp::Ordering;
+use std::error::Error;
 use std::hash::{Hash, Hasher};
 use std::process::Abort;
 use std::test::Fail;
@@ -77,13 +78,45 @@ fn copies(rt: HostRuntime) -> Result<(), Fail> {
     debugs(&rt, rt.alloc(), &copy, "-1234567890123456789012345.5")
 }
 
+/// So many digits, none of them 0, of which no two runs of twenty side by side are alike.
+fn long_digits(alloc: Global, count: usize) -> Result<String, Fail> {
+    let mut text = String::new(alloc);
+    for place in 0..count {
+        text.push((b'1' + (place % 9) as u8) as char)?;
+    }
+    Ok(text)
+}
+
+/// A contract can't say that a formatter only gives up where its writer does, so long texts are tried.
+#[test]
+fn long_numbers_are_written_whole(rt: HostRuntime) -> Result<(), Fail> {
+    let alloc = rt.alloc();
+    for count in [101, 5000] {
+        let digits = long_digits(alloc, count)?;
+        let number = INumber::from_str(alloc, digits.as_str())?;
+        displays(&rt, alloc, &number, digits.as_str())?;
+        let fraction = format!(in alloc; "-0.{digits}")?;
+        let number = INumber::from_str(alloc, fraction.as_str())?;
+        displays(&rt, alloc, &number, fraction.as_str())?;
+        debugs(&rt, alloc, &number, fraction.as_str())?;
+    }
+    let greatest = INumber::from_str(alloc, "1e1073741824")?;
+    debugs(&rt, alloc, &greatest, "1e1073741824")
+}
+
 fn refused(rt: &impl Abort, alloc: Global, text: &str) {
     let refusal = INumber::from_str(alloc, text).err();
     assert!(rt; refusal == Some(ParseNumberError::Invalid));
 }
 
+fn tells(rt: &impl Abort, alloc: Global, error: &impl Error, want: &str) -> Result<(), Fail> {
+    let text = format!(in alloc; "{error}")?;
+    assert_eq!(rt; text.as_str(), want);
+    Ok(())
+}
+
 #[test]
-fn refusals(rt: HostRuntime) {
+fn refusals(rt: HostRuntime) -> Result<(), Fail> {
     let alloc = rt.alloc();
     refused(&rt, alloc, "");
     refused(&rt, alloc, "01");
@@ -97,6 +130,9 @@ fn refusals(rt: HostRuntime) {
     refused(&rt, alloc, "10e1073741824");
     refused(&rt, alloc, "1e-1073741825");
     refused(&rt, alloc, "1e99999999999999999999999999999999999999999999");
+    let invalid = "not a JSON number, or its exponent is out of range";
+    tells(&rt, alloc, &ParseNumberError::Invalid, invalid)?;
+    tells(&rt, alloc, &ParseNumberError::Memory, "out of memory")
 }
 
 fn fault(rt: &impl Abort, text: &str, want: Option<usize>) {
@@ -116,6 +152,7 @@ fn faults(rt: HostRuntime) {
     fault(&rt, "1e+", Some(3));
     fault(&rt, "1e5e", Some(3));
     fault(&rt, "1.5.5", Some(3));
+    fault(&rt, "1e1073741825-", Some(12));
     fault(&rt, "-0.50E-007", None);
     fault(&rt, "1e99999999999999999999999999999999999999999999", None);
 }
@@ -301,8 +338,8 @@ const PACKED: [(&str, i64, i8, bool); 9] = [
     ("-0", 0, 0, false),
 ];
 
-/// Texts whose digits are kept: the sign, the digits, the exponent, and whether the shape is float.
-const KEPT: [(&str, bool, &[u8], i32, bool); 7] = [
+/// Texts whose digits are stored: the sign, the digits, the exponent, and whether the shape is float.
+const STORED_DIGITS: [(&str, bool, &[u8], i32, bool); 7] = [
     (
         "36028797018963968.0",
         false,
@@ -382,7 +419,7 @@ fn word_forms(rt: HostRuntime) -> Result<(), Fail> {
 #[test]
 fn digit_forms(rt: HostRuntime) -> Result<(), Fail> {
     let alloc = rt.alloc();
-    for (text, negative, digits, exponent, point) in KEPT {
+    for (text, negative, digits, exponent, point) in STORED_DIGITS {
         let form = Form::Digits {
             negative,
             digits,

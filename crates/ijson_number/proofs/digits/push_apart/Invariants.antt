@@ -1,5 +1,5 @@
 use Rattle.std.proofs.Common.{◌≡◌, ◌++◌, take}
-use Rattle.ijson_number.specs.Stripped.{digits_from_text}
+use Rattle.ijson_number.specs.private.Stripped.{digits_from_text}
 use Rattle.ijson_number.proofs.digits.push_apart.Given as goal
 
 abbrev pub invariant-loop-byte : goal.invariant-loop-byte

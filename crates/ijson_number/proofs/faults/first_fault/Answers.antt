@@ -1,5 +1,5 @@
 use Rattle.std.proofs.Common.{refl}
-use Rattle.ijson_number.specs.Spelled.{parts_of}
+use Rattle.ijson_number.specs.private.Scanned.{parts_of}
 use Rattle.ijson_number.proofs.Existence.{parts_spell}
 use Rattle.ijson_number.proofs.faults.first_fault.Goals as goal
 

@@ -1,7 +1,7 @@
 use Rattle.std.proofs.Common.{◌≡◌, ◌∙◌, ◌<◌, ◌++◌, length, arith, length-append}
-use Rattle.ijson_number.specs.Spelled.{parts_of}
+use Rattle.ijson_number.specs.private.Scanned.{parts_of}
 use Rattle.ijson_number.proofs.Exponents.{w32_within}
-use Rattle.ijson_number.proofs.Scanning.{spells_number, spells_zero, is_num, keeps_number, past_limit, digits_front, digits_back}
+use Rattle.ijson_number.proofs.Scanning.{spells_number, spells_zero, is_num, stores_number, past_limit, digits_front, digits_back}
 use Rattle.ijson_number.proofs.reading.scan.Goals as goal
 use Rattle.ijson_number.proofs.reading.scan.Goals.{else-is_empty-via-then-is_empty+else-is_empty-2, else-is_empty-via-else-is_empty}
 
@@ -30,8 +30,8 @@ returns-clause-spelled c =
     let e = c.in_ok-exponent.ensures.some in
     spells_number c.args.text.now (parts_of c.in_ok-spelling.spelling) c.in_ok-spelling.ensures.found c.strip_front.result.0.now c.strip_front.result.1.now a b _ _ c.strip_front.ensures.zeros.1 c.strip_back.ensures.zeros c.strip_front.ensures.first c.strip_back.ensures.last some _ (w32_within c.in_ok-exponent.exponent e.1 ∙ e.0)
 
-pub returns-clause-kept : goal.returns-clause-kept
-returns-clause-kept c =
+pub returns-clause-scanned : goal.returns-clause-scanned
+returns-clause-scanned c =
     let a = c.strip_back.result.0.now in
     let b = c.strip_back.result.1.now in
     let some : 0 < length (a ++ b) = rw length-append (elim c.else-is_empty.branch [ else-is_empty-via-then-is_empty+else-is_empty-2 w ↦ grind arith | else-is_empty-via-else-is_empty w ↦ grind arith ]) in
@@ -40,5 +40,5 @@ returns-clause-kept c =
       front = digits_front c.args.text.now (parts_of c.in_ok-spelling.spelling) c.in_ok-spelling.ensures.found c.strip_front.result.0.now c.strip_front.result.1.now a b _ _ c.strip_front.ensures.zeros.1 c.strip_back.ensures.zeros c.strip_front.ensures.first c.strip_back.ensures.last;
       back = digits_back c.args.text.now (parts_of c.in_ok-spelling.spelling) c.in_ok-spelling.ensures.found c.strip_front.result.0.now c.strip_front.result.1.now a b _ _ c.strip_front.ensures.zeros.1 c.strip_back.ensures.zeros c.strip_front.ensures.first c.strip_back.ensures.last;
       num = is_num c.args.text.now (parts_of c.in_ok-spelling.spelling) c.in_ok-spelling.ensures.found c.strip_front.result.0.now c.strip_front.result.1.now a b _ _ c.strip_front.ensures.zeros.1 c.strip_back.ensures.zeros c.strip_front.ensures.first c.strip_back.ensures.last some _ (w32_within c.in_ok-exponent.exponent e.1 ∙ e.0) (rw (w32_within c.in_ok-exponent.exponent e.1) e.1);
-      kept = keeps_number c.args.text.now (parts_of c.in_ok-spelling.spelling) c.in_ok-spelling.ensures.found c.strip_front.result.0.now c.strip_front.result.1.now a b _ _ c.strip_front.ensures.zeros.1 c.strip_back.ensures.zeros c.strip_front.ensures.first c.strip_back.ensures.last some;
+      stored = stores_number c.args.text.now (parts_of c.in_ok-spelling.spelling) c.in_ok-spelling.ensures.found c.strip_front.result.0.now c.strip_front.result.1.now a b _ _ c.strip_front.ensures.zeros.1 c.strip_back.ensures.zeros c.strip_front.ensures.first c.strip_back.ensures.last some;
     }

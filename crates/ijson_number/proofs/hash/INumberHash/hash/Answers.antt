@@ -5,7 +5,7 @@ use Rattle.std.proofs.lemmas.List.{take_all}
 use Rattle.std.proofs.lemmas.Int.{to_z-of_z}
 use mir.Syntax.{w32}
 use Rattle.ijson_number.specs.Num.{Num}
-use Rattle.ijson_number.proofs.KeptWords.{zero_words, kept_words}
+use Rattle.ijson_number.proofs.StoredWords.{zero_words, stored_words}
 use Rattle.ijson_number.proofs.hash.INumberHash.hash.Goals as goal
 
 pub loop-digit-preserved : goal.loop-digit-preserved
@@ -27,4 +27,4 @@ returns g c =
     let all = take_all c.loop-digit.digit-index c.as_slice-digits.result.now c.loop-digit-test.false in
     let fits : FitsSigned w32 n.exponent = search rules in
     let exponent = rw (to_z-of_z w32 n.exponent fits) at c.exponent_word.ensures in
-    rw (kept_words n.negative n.digits n.exponent n.point c.args.self.now.decimal view c.self.invariant (rw digits at some), ← digits) (cc)
+    rw (stored_words n.negative n.digits n.exponent n.point c.args.self.now.decimal view c.self.invariant (rw digits at some), ← digits) (cc)

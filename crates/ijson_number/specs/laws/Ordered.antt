@@ -1,22 +1,22 @@
 -- The order of numbers is a total order.
-use Rattle.std.proofs.Common.{◌≡◌, ℕ, zero, suc, ◌+◌, ◌-◌, ◌*◌, ◌^◌, ◌<◌, ◌≤◌, true, false, refl, ap, sym, ◌∙◌, arith}
+use Rattle.std.proofs.Common.{◌≡◌, ℕ, zero, suc, ◌+◌, ◌-◌, ◌*◌, ◌^◌, ◌<◌, ◌≤◌, true, false, refl, ap, sym, ◌∙◌, arith, pow-add, inl, inr, ap₂}
 use Rattle.std.specs.Prelude.{ℤ, pos, negsuc, neg_ℤ, nat_abs, nat_lt, int_lt, ◌*ℤ◌, ◌-ℤ◌, ◌≤ℤ◌}
 use Rattle.std.specs.Int.{int_min}
 use Rattle.std.specs.declared.cmp.Ordering.{Ordering}
 use Rattle.std.specs.declared.cmp.Ordering.TheVariants.{Less, Equal, Greater}
-use Rattle.std.specs.Ordering.{int_cmp, is_eq}
+use Rattle.std.specs.Ordering.{int_cmp, is_eq, ordering_reverse}
 use Rattle.std.specs.Cmp.{IsTotalOrder, IsEquivalence, int_cmp_total, both_ways, eq_by_cmp_equiv, tied_itself}
+use Rattle.std.specs.List.{flat_map}
+use Rattle.std.specs.Hash as fed
 use Rattle.std.proofs.lemmas.Int.{ints, clamps}
 use Rattle.std.proofs.lemmas.Bool.Decides.{nat_tests}
 use Rattle.std.proofs.Math.Nat.{mul_assoc, mul-le-mul_right}
-use Rattle.std.proofs.Common.{pow-add, inl, inr, ap₂}
 use Rattle.std.proofs.lemmas.Bool.{cases_lt}
-use Rattle.std.specs.Ordering.{ordering_reverse}
 use Rattle.ijson_number.specs.Decimal.{Decimal, IsPlain}
 use Rattle.ijson_number.specs.Num.{Num}
 use Rattle.ijson_number.specs.Order.{number_cmp, number_eq, at_exponent}
-use Rattle.ijson_number.specs.Words.{number_words, fed_words}
-use Rattle.ijson_number.specs.Tens.{ten_pos, signed_mul, int_tens, zero_or_not}
+use Rattle.ijson_number.specs.Words.{number_words}
+use Rattle.ijson_number.specs.laws.Tens.{ten_pos, signed_mul, int_tens, zero_or_not}
 
 below_scaled : (x y k : ℕ) → 0 < k → x < y → x * k < y * k
 below_scaled x y k h l = let p : suc x * k ≤ y * k = mul-le-mul_right k l in grind (arith, p)
@@ -156,5 +156,6 @@ pub same_equal : (a b : Decimal) → a.mantissa ≡ b.mantissa → a.exponent �
 same_equal a b p q = ap₂ (λ (m e : ℤ). number_cmp a (record { mantissa = m; exponent = e; point = b.point })) (sym p) (sym q) ∙ tied_itself number_cmp_total a
 
 -- equal numbers feed a hasher the same
-pub equal_feed : (a b : Num) → number_eq a.decimal b.decimal ≡ true → fed_words (number_words a.decimal) ≡ fed_words (number_words b.decimal)
-equal_feed a b h = ap fed_words (equal_words a.decimal b.decimal a.is_num.plain b.is_num.plain (tests_equal _ h))
+pub equal_feed : (a b : Num) → number_eq a.decimal b.decimal ≡ true
+    → flat_map fed.u64 (number_words a.decimal) ≡ flat_map fed.u64 (number_words b.decimal)
+equal_feed a b h = ap (flat_map fed.u64) (equal_words a.decimal b.decimal a.is_num.plain b.is_num.plain (tests_equal _ h))

@@ -3,24 +3,30 @@ use Rattle.std.specs.Prelude.{ℕ, List, ◌++◌}
 use Rattle.ijson_number.specs.Decimal.{Decimal}
 use Rattle.ijson_number.specs.Num.{IsNum}
 use Rattle.ijson_number.specs.Strips.{signed}
-use Rattle.ijson_number.specs.KeptNumber.{kept_number, IsKept}
+use Rattle.ijson_number.specs.private.StoredNumber.{stored_number, IsStored}
 use Rattle.ijson_number.specs.Grammar.{AllDigits, Parts, value}
 use Rattle.ijson_number.specs.declared.reading.Spelling.{Spelling}
 use Rattle.ijson_number.specs.declared.reading.Scanned.{Scanned}
-use Rattle.ijson_number.specs.Stripped.{digits_from_text}
+use Rattle.ijson_number.specs.private.Stripped.{digits_from_text}
 
 abbrev pub parts_of : Spelling → Parts
-parts_of s = record { negative = s.negative; whole = s.whole.now; fraction = s.tail.fraction.now; exponent = signed s.tail.negative (value s.tail.exponent.now); point = s.tail.point }
+parts_of s = record {
+  negative = s.negative;
+  whole = s.whole.now;
+  fraction = s.tail.fraction.now;
+  exponent = signed s.tail.negative (value s.tail.exponent.now);
+  point = s.tail.point;
+}
 
 abbrev pub scanned_digits : Scanned → List ℕ
 scanned_digits s = digits_from_text (s.front.now ++ s.back.now)
 
 abbrev pub scanned_number : Scanned → Decimal
-scanned_number s = kept_number s.negative (scanned_digits s) s.exponent s.point
+scanned_number s = stored_number s.negative (scanned_digits s) s.exponent s.point
 
 -- digits that are still text, and the stripped parts of a Num
 pub record IsScanned (s : Scanned) : Type 0 where
   pub front : AllDigits s.front.now
   pub back : AllDigits s.back.now
   pub num : IsNum (scanned_number s)
-  pub kept : IsKept s.negative (scanned_digits s)
+  pub stored : IsStored s.negative (scanned_digits s)

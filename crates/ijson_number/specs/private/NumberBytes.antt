@@ -7,4 +7,5 @@ is_digit b = nat_le 48 b && nat_le b 57
 
 -- digits, '+', '-', '.', 'E' and 'e'
 abbrev pub is_number_byte : ℕ → Bool
-is_number_byte b = is_digit b || ((b == 43) || ((b == 45) || ((b == 46) || ((b == 69) || (b == 101)))))
+is_number_byte b =
+    is_digit b || ((b == 43) || ((b == 45) || ((b == 46) || ((b == 69) || (b == 101)))))

@@ -1,4 +1,4 @@
--- What a number's parts mean.
+-- What a number's parts denote.
 use Rattle.std.proofs.Common.{◌≡◌, ◌≢◌, ℕ, ◌+◌, ◌-◌, ◌*◌, ◌%◌, ◌^◌, ◌<◌, Bool, true, false, List, [], ◌∷◌, ◌++◌, length, get_or, take, replicate, refl, ap, sym, ◌∙◌, inl, inr, arith}
 use Rattle.std.specs.Prelude.{ℤ, pos, ◌-ℤ◌, ◌≤ℤ◌, ◌||◌}
 use Rattle.std.proofs.lemmas.Int.{ints}
@@ -6,19 +6,19 @@ use Rattle.std.proofs.lemmas.List.{take_more, take_all, nil_from_length}
 use Rattle.std.proofs.lemmas.Int.Digits.{number_push}
 use Rattle.std.specs.Int.Digits.{number_from_digits}
 use Rattle.ijson_number.specs.Decimal.{Decimal, IsPlain}
-use Rattle.ijson_number.specs.Reading.{exponent_of}
+use Rattle.ijson_number.specs.private.Reading.{exponent_of}
 use Rattle.ijson_number.specs.Strips.{signed}
-use Rattle.ijson_number.specs.Grammar.{Parts, IsSpelled, IsFraction, IsExponent, Means, Spells, value}
-use Rattle.ijson_number.specs.Stripped.{IsStripped, digits_from_text}
+use Rattle.ijson_number.specs.Grammar.{Parts, IsSpelled, IsFraction, IsExponent, Denotes, Spells, value}
+use Rattle.ijson_number.specs.private.Stripped.{IsStripped, digits_from_text}
 use Rattle.ijson_number.proofs.Values.{value_zeros_front, value_zeros_back}
-use Rattle.ijson_number.specs.Tens.{strips_one, signed_mul, signed_zero, abs_signed}
+use Rattle.ijson_number.specs.laws.Tens.{strips_one, signed_mul, signed_zero, abs_signed}
 use Rattle.ijson_number.proofs.Parts.{spelled_one}
 
 pub same_decimal : (m m' e e' : ℤ) (p p' : Bool) → m ≡ m' → e ≡ e' → p ≡ p' → (let a : Decimal = record { mantissa = m; exponent = e; point = p } in a) ≡ record { mantissa = m'; exponent = e'; point = p' }
 same_decimal m m' e e' p p' a b c = rw (a, b, c) refl
 
-pub means_one : (p : Parts) (n n' : Decimal) → Means p n → Means p n' → n ≡ n'
-means_one p n n' h g =
+pub denotes_one : (p : Parts) (n n' : Decimal) → Denotes p n → Denotes p n' → n ≡ n'
+denotes_one p n n' h g =
     let r = strips_one (signed p.negative (value (p.whole ++ p.fraction))) (p.exponent -ℤ pos (length p.fraction)) n n' h.0 g.0 in
     same_decimal n.mantissa n'.mantissa n.exponent n'.exponent n.point n'.point r.0 r.1 (h.1 ∙ sym g.1)
 
@@ -26,7 +26,7 @@ means_one p n n' h g =
 pub spells_one : (t : List ℕ) (n n' : Decimal) → Spells t n → Spells t n' → n ≡ n'
 spells_one t n n' h g =
     let e : h.0 ≡ g.0 = spelled_one t h.0 g.0 h.1 g.1 in
-    means_one g.0 n n' (rw e at h.2) g.2
+    denotes_one g.0 n n' (rw e at h.2) g.2
 
 split_last : (ds : List ℕ) → 0 < length ds → ds ≡ take (length ds - 1) ds ++ get_or ds (length ds - 1) 0 ∷ []
 split_last ds h =
@@ -59,8 +59,8 @@ module _ (p : Parts) (t s : List ℕ) (j k : ℕ) (front : p.whole ++ p.fraction
   digits_is : value (p.whole ++ p.fraction) ≡ value s * 10 ^ k
   digits_is = ap value front ∙ value_zeros_front j t ∙ ap value back ∙ value_zeros_back s k
 
-  pub means_some : 0 < length (digits_from_text s) → IsStripped (digits_from_text s) → (p.point ≡ false → pos 0 ≤ℤ exponent_of p.exponent (length p.fraction) k) → Means p (record { mantissa = signed p.negative (value s); exponent = exponent_of p.exponent (length p.fraction) k; point = p.point })
-  means_some h d w = (
+  pub denotes_some : 0 < length (digits_from_text s) → IsStripped (digits_from_text s) → (p.point ≡ false → pos 0 ≤ℤ exponent_of p.exponent (length p.fraction) k) → Denotes p (record { mantissa = signed p.negative (value s); exponent = exponent_of p.exponent (length p.fraction) k; point = p.point })
+  denotes_some h d w = (
     record {
       plain = stripped_plain p.negative p.point (digits_from_text s) (exponent_of p.exponent (length p.fraction) k) d h w;
       tens = inr (k, rw digits_is (signed_mul p.negative (value s) (10 ^ k)), refl);
@@ -68,8 +68,8 @@ module _ (p : Parts) (t s : List ℕ) (j k : ℕ) (front : p.whole ++ p.fraction
     refl,
   )
 
-  pub means_zero : length s ≡ 0 → Means p (record { mantissa = pos 0; exponent = pos 0; point = p.point })
-  means_zero h =
+  pub denotes_zero : length s ≡ 0 → Denotes p (record { mantissa = pos 0; exponent = pos 0; point = p.point })
+  denotes_zero h =
       let nil : s ≡ [] = nil_from_length s h in
       let no_digits : value (p.whole ++ p.fraction) ≡ 0 = digits_is ∙ rw nil (omega arith) in (
         record {
