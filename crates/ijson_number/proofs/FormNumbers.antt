@@ -8,18 +8,18 @@ use Rattle.std.proofs.lemmas.Int.{ints}
 use Rattle.std.proofs.lemmas.Int.Digits.{number_digits_of}
 use Rattle.ijson_number.specs.Decimal.{Decimal, IsPlain}
 use Rattle.ijson_number.specs.Form.{FormOf, packed, signed_word, unsigned_word, fits_packed, fits_i64, fits_u64, digits_form, integer_form, smallest_packed, form_of}
-use Rattle.ijson_number.specs.FormNumber.{with_ten, tens_out, exponent_above, stripped_number, form_number}
+use Rattle.ijson_number.specs.private.FormNumber.{with_ten, tens_out, exponent_above, stripped_number, form_number}
 use Rattle.ijson_number.specs.Num.{IsNum}
 use Rattle.ijson_number.specs.Strips.{Strips, signed}
 use Rattle.ijson_number.specs.StrippedDigits.{stripped_digits}
-use Rattle.ijson_number.specs.Tens.{int_tens, int_zero, signed_mul, abs_signed, zero_or_not}
+use Rattle.ijson_number.specs.laws.Tens.{int_tens, int_zero, signed_mul, abs_signed, zero_or_not}
 use Rattle.ijson_number.proofs.DigitsOf.{digits_are}
 use Rattle.ijson_number.proofs.Forms.{within}
-use Rattle.ijson_number.proofs.Means.{same_decimal}
+use Rattle.ijson_number.proofs.Denotes.{same_decimal}
 use Rattle.ijson_number.proofs.Outcomes.{both_of, test_le}
 use Rattle.ijson_number.proofs.WholeValues.{times_one}
 
-abbrev IsTensOut : ℕ → ℕ × ℕ → Type 0
+abbrev pub IsTensOut : ℕ → ℕ × ℕ → Type 0
 IsTensOut n r = (n ≡ r.0 * 10 ^ r.1) × (r.0 % 10 ≢ 0)
 
 ten_more : (n q k : ℕ) → n % 10 ≡ 0 → n / 10 ≡ q * 10 ^ k → n ≡ q * 10 ^ suc k
@@ -35,14 +35,14 @@ one_turn true n r e h =
     (ten_more n r.0 r.1 z t.0, t.1)
 one_turn false n r e h = (let p : n ≡ n * 10 ^ 0 = omega arith in p, λ z. (let t : nat_eq (n % 10) 0 ≡ true = grind arith in cc))
 
-tens_out_is : (turns n : ℕ) → n ≢ 0 → n < 10 ^ turns → IsTensOut n (tens_out turns n)
+pub tens_out_is : (turns n : ℕ) → n ≢ 0 → n < 10 ^ turns → IsTensOut n (tens_out turns n)
 unfolding tens_out
 tens_out_is zero n h l = absurd (h (omega arith))
 tens_out_is (suc turns) n h l =
     let p : 10 ^ suc turns ≡ 10 * 10 ^ turns = pow-succ' 10 turns in
     one_turn (nat_eq (n % 10) 0) n (tens_out turns (n / 10)) refl (λ z. tens_out_is turns (n / 10) (λ e. h (omega arith)) (omega arith))
 
-tens_out_zero : (turns : ℕ) → (tens_out turns 0).0 ≡ 0
+pub tens_out_zero : (turns : ℕ) → (tens_out turns 0).0 ≡ 0
 unfolding tens_out
 tens_out_zero zero = refl
 tens_out_zero (suc turns) = tens_out_zero turns
@@ -51,12 +51,12 @@ abs_zero : (m : ℤ) → m ≢ pos 0 → nat_abs m ≢ 0
 abs_zero (pos n) h e = h (ap pos e)
 abs_zero (negsuc n) h e = absurd (cc)
 
-sign_and_size : (m : ℤ) → signed (int_lt m (pos 0)) (nat_abs m) ≡ m
+pub sign_and_size : (m : ℤ) → signed (int_lt m (pos 0)) (nat_abs m) ≡ m
 sign_and_size (pos zero) = refl
 sign_and_size (pos (suc n)) = let t : int_lt (pos (suc n)) (pos 0) ≡ false = grind (arith, nat_tests) in rw t refl
 sign_and_size (negsuc n) = refl
 
-not_zero : (v : ℕ) → v ≢ 0 → nat_eq v 0 ≡ false
+pub not_zero : (v : ℕ) → v ≢ 0 → nat_eq v 0 ≡ false
 not_zero v h = let some : 0 < v = omega arith in grind arith
 
 same_exponent : (e f : ℤ) (j k : ℕ) → f ≡ e +ℤ pos k → j ≡ k → e +ℤ pos j ≡ f
@@ -112,7 +112,7 @@ not_below (negsuc n) t = let w = within (pos 0) (pos (2 ^ 64)) (negsuc n) t in a
 
 module _ (n : Decimal) (plain : IsPlain n) where
   -- the digits of the mantissa
-  digits_case : form_number (digits_form n) ≡ n
+  pub digits_case : form_number (digits_form n) ≡ n
   digits_case =
       let size = nat_abs n.mantissa in
       let is : number_from_digits 10 (stripped_digits n) ≡ size = ap (number_from_digits 10) (digits_are size size) ∙ number_digits_of 10 size (omega arith) in
@@ -136,9 +136,9 @@ module _ (n : Decimal) (plain : IsPlain n) where
   integer_case : (z : ℤ) → n.point ≡ false → z ≡ n.mantissa *ℤ pos (10 ^ nat_abs n.exponent) → form_number (integer_form n z) ≡ n
   integer_case z h is =
       integer_by z (fits_packed z) (fits_i64 z) (fits_u64 z)
-        (λ t. whole_case z h is (small_packed z t))
-        (λ t. whole_case z h is (small_within (neg_ℤ (pos (2 ^ 63))) (pos (2 ^ 63)) z (omega (arith, ints)) (omega (arith, ints)) t))
-        (λ t. ap (λ y. stripped_number y (pos 0) false) (not_below z t) ∙ whole_case z h is (small_within (pos 0) (pos (2 ^ 64)) z (omega (arith, ints)) (omega (arith, ints)) t))
+      (λ t. whole_case z h is (small_packed z t))
+      (λ t. whole_case z h is (small_within (neg_ℤ (pos (2 ^ 63))) (pos (2 ^ 63)) z (omega (arith, ints)) (omega (arith, ints)) t))
+      (λ t. ap (λ y. stripped_number y (pos 0) false) (not_below z t) ∙ whole_case z h is (small_within (pos 0) (pos (2 ^ 64)) z (omega (arith, ints)) (omega (arith, ints)) t))
 
   either : (b : Bool) (x y : FormOf) → (b ≡ true → form_number x ≡ n) → (b ≡ false → form_number y ≡ n) → form_number (elim b [ true ↦ x | false ↦ y ]) ≡ n
   either true x y p q = p refl

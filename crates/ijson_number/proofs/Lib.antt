@@ -21,3 +21,5 @@ pub mod Conversions
 pub mod Alike
 pub mod Forms
 pub mod FormNumbers
+pub mod IntegerWords
+pub mod DigitRows

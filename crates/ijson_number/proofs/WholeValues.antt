@@ -55,7 +55,7 @@ pub times_one : (m : ℤ) → m *ℤ pos 1 ≡ m
 times_one (pos m) = let e : m * 1 ≡ m = omega arith in rw e refl
 times_one (negsuc m) = let e : suc m * 1 ≡ suc m = omega arith in rw e refl
 
-abs_times : (m : ℤ) (k : ℕ) → nat_abs (m *ℤ pos k) ≡ nat_abs m * k
+pub abs_times : (m : ℤ) (k : ℕ) → nat_abs (m *ℤ pos k) ≡ nat_abs m * k
 abs_times (pos m) k = refl
 abs_times (negsuc m) k = abs_neg (suc m * k)
   where

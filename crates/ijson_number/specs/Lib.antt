@@ -9,8 +9,7 @@ pub mod Order
 pub mod Integers
 pub mod Words
 pub mod Form
-pub mod FormNumber
-pub mod Word
+pub mod DigitRow
 pub mod FormValue
 pub mod Alike
 pub mod laws
