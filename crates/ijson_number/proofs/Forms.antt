@@ -1,9 +1,11 @@
 -- The stored form, case by case.
-use Rattle.std.proofs.Common.{◌≡◌, ◌∙◌, ℕ, suc, ◌+◌, ◌-◌, ◌^◌, ◌<◌, ◌≤◌, Bool, true, false, refl, ap, sym, arith, List, inl, inr}
+use Rattle.std.proofs.Common.{◌≡◌, ◌∙◌, ℕ, zero, suc, ◌+◌, ◌-◌, ◌*◌, ◌^◌, ◌<◌, ◌≤◌, Bool, true, false, refl, ap, sym, subst, arith, List, inl, inr}
 use Rattle.std.specs.Prelude.{ℤ, pos, negsuc, neg_ℤ, nat_abs, int_le, int_lt, ◌&&◌, ◌*ℤ◌, ◌-ℤ◌, ◌≤ℤ◌, ◌<ℤ◌, FitsSigned}
 use Rattle.std.specs.Int.{FitsUnsigned}
 use Rattle.std.proofs.lemmas.Bool.{cases_lt}
 use Rattle.std.proofs.lemmas.Int.{ints}
+use Rattle.std.proofs.Math.Nat.{mul-le-mul_left}
+use Rattle.ijson_number.specs.laws.Tens.{ten_pos}
 use mir.Syntax.{w64}
 use Rattle.ijson_number.specs.Decimal.{Decimal, IsPlain}
 use Rattle.ijson_number.specs.Form.{FormOf, packed, signed_word, unsigned_word, digits, fits_packed, fits_i64, fits_u64, digits_form, integer_form, smallest_packed, form_of}
@@ -12,7 +14,7 @@ use Rattle.ijson_number.specs.private.StoredNumber.{stored_number, IsStored}
 use Rattle.ijson_number.proofs.DigitsOf.{stored_digits_are}
 use Rattle.ijson_number.proofs.Outcomes.{test_le, test_below, le_test, both_of, both_hold, first_fails, second_fails}
 use Rattle.ijson_number.proofs.SameParts.{stored_sign}
-use Rattle.ijson_number.proofs.WholeValues.{value_is, value_from}
+use Rattle.ijson_number.proofs.WholeValues.{abs_times, value_is, value_from}
 
 -- a test that holds takes the first, and one that fails the second
 taken : (b : Bool) (x y : FormOf) → b ≡ true → (let r : FormOf = elim b [ true ↦ x | false ↦ y ] in r) ≡ x
@@ -23,6 +25,10 @@ left : (b : Bool) (x y : FormOf) → b ≡ false → (let r : FormOf = elim b [ 
 left true x y e = absurd (cc)
 left false x y e = refl
 
+-- a packed form by its parts
+pub packed_is : (m m' e e' : ℤ) (p p' : Bool) → m ≡ m' → e ≡ e' → p ≡ p' → packed m e p ≡ packed m' e' p'
+packed_is m m' e e' p p' a b c = rw (a, b, c) refl
+
 never : (b : Bool) → (b ≡ true → ⊥) → b ≡ false
 never true h = absurd (h refl)
 never false h = refl
@@ -31,6 +37,28 @@ never false h = refl
 pub stored_form : (negative : Bool) (ds : List ℕ) (e : ℤ) (point : Bool) → IsStored negative ds → digits_form (stored_number negative ds e point) ≡ digits negative ds e point
 stored_form negative ds e point k = rw (stored_sign negative ds k, stored_digits_are negative ds e point k.stripped) refl
 
+module _ (n : Decimal) (z : ℤ) (plain : IsPlain n) (no_point : n.point ≡ false) (value : HasValue n z) where
+  integer_is : form_of n ≡ integer_form n z
+  integer_is = left n.point _ _ no_point ∙ ap (integer_form n) (sym (value_is n z plain value).1)
+
+  abbrev by_words : FormOf
+  by_words = elim (fits_i64 z) [ true ↦ signed_word z | false ↦ elim (fits_u64 z) [ true ↦ unsigned_word (nat_abs z) | false ↦ digits_form n ] ]
+
+  abbrev by_unsigned : FormOf
+  by_unsigned = elim (fits_u64 z) [ true ↦ unsigned_word (nat_abs z) | false ↦ digits_form n ]
+
+  -- an integer that fits a packed word
+  pub integer_packed : fits_packed z ≡ true → form_of n ≡ packed z (pos 0) false
+  integer_packed a = integer_is ∙ taken (fits_packed z) (packed z (pos 0) false) by_words a
+
+  -- an integer that fits a signed word alone
+  pub integer_signed : fits_packed z ≡ false → fits_i64 z ≡ true → form_of n ≡ signed_word z
+  integer_signed a b = integer_is ∙ left (fits_packed z) (packed z (pos 0) false) by_words a ∙ taken (fits_i64 z) (signed_word z) by_unsigned b
+
+  -- an integer that fits an unsigned word alone
+  pub integer_unsigned : fits_packed z ≡ false → fits_i64 z ≡ false → fits_u64 z ≡ true → form_of n ≡ unsigned_word (nat_abs z)
+  integer_unsigned a b c = integer_is ∙ left (fits_packed z) (packed z (pos 0) false) by_words a ∙ left (fits_i64 z) (signed_word z) by_unsigned b ∙ taken (fits_u64 z) (unsigned_word (nat_abs z)) (digits_form n) c
+
 -- an integer that fits nothing has its digits
 pub integer_digits : (n : Decimal) (z : ℤ) → IsPlain n → n.point ≡ false → HasValue n z → fits_packed z ≡ false → fits_i64 z ≡ false → fits_u64 z ≡ false → form_of n ≡ digits_form n
 integer_digits n z p h v a b c =
@@ -38,7 +66,7 @@ integer_digits n z p h v a b c =
     let words : FormOf = elim (fits_i64 z) [ true ↦ signed_word z | false ↦ elim (fits_u64 z) [ true ↦ unsigned_word (nat_abs z) | false ↦ digits_form n ] ] in
     left n.point _ _ h ∙ ap (integer_form n) is ∙ left (fits_packed z) (packed z (pos 0) false) words a ∙ left (fits_i64 z) _ _ b ∙ left (fits_u64 z) _ _ c
 
-within : (low high z : ℤ) → int_le low z && int_lt z high ≡ true → (low ≤ℤ z) × (z <ℤ high)
+pub within : (low high z : ℤ) → int_le low z && int_lt z high ≡ true → (low ≤ℤ z) × (z <ℤ high)
 within low high z t = let b = both_of (int_le low z) (int_lt z high) t in (test_le low z b.0, test_below z high b.1)
 
 -- what doesn't fit a signed word
@@ -113,3 +141,48 @@ module _ (n : Decimal) (k : ℕ) (whole : pos 0 ≤ℤ n.exponent) (so_far : for
   past_exponent h =
       let fails = never (int_le (pos k) n.exponent) (λ t. let l = test_le (pos k) n.exponent t in let p = passed n.exponent k whole h in omega (arith, ints)) in
       now ∙ left (int_le (pos k) n.exponent && fits_packed here) (packed here (pos k) true) rest (first_fails (int_le (pos k) n.exponent) (fits_packed here) fails) ∙ on
+
+-- a mantissa of more than twenty digits
+module _ (n : Decimal) (plain : IsPlain n) (long : 10 ^ 20 ≤ nat_abs n.mantissa) where
+  long_scaled : (k : ℕ) → 10 ^ 20 ≤ nat_abs (n.mantissa *ℤ pos (10 ^ k))
+  long_scaled k =
+      let p = ten_pos k in
+      let m : nat_abs n.mantissa * 1 ≤ nat_abs n.mantissa * 10 ^ k = mul-le-mul_left (nat_abs n.mantissa) p in
+      rw (abs_times n.mantissa (10 ^ k)) (omega arith)
+
+  not_packed : (z : ℤ) → 10 ^ 20 ≤ nat_abs z → fits_packed z ≡ false
+  not_packed z h = large_fails z (neg_ℤ (pos 36028797018963968)) (pos 36028797018963968) (omega (arith, ints)) (omega (arith, ints)) h
+
+  none_smallest : (tries k : ℕ) → smallest_packed tries k n ≡ digits_form n
+  none_smallest zero k = refl
+  none_smallest (suc tries) k =
+      let m = n.mantissa *ℤ pos (10 ^ nat_abs (n.exponent -ℤ pos k)) in
+      left (int_le (pos k) n.exponent && fits_packed m) (packed m (pos k) true) (smallest_packed tries (suc k) n) (second_fails (int_le (pos k) n.exponent) (fits_packed m) (not_packed m (long_scaled (nat_abs (n.exponent -ℤ pos k))))) ∙ none_smallest tries (suc k)
+
+  either_digits : (b : Bool) (x y : FormOf) → x ≡ digits_form n → y ≡ digits_form n → (let r : FormOf = elim b [ true ↦ x | false ↦ y ] in r) ≡ digits_form n
+  either_digits true x y p q = p
+  either_digits false x y p q = q
+
+  point_digits : n.point ≡ true → form_of n ≡ digits_form n
+  point_digits h =
+      taken n.point _ _ h ∙ either_digits (int_le (pos 0) n.exponent) _ _ (none_smallest 8 0)
+      (left (int_le (negsuc 6) n.exponent && fits_packed n.mantissa) _ _ (second_fails (int_le (negsuc 6) n.exponent) (fits_packed n.mantissa) (not_packed n.mantissa long)))
+
+  no_point_digits : n.point ≡ false → form_of n ≡ digits_form n
+  no_point_digits h = large_form n plain h (λ z small v. (let is : nat_abs z ≡ nat_abs (n.mantissa *ℤ pos (10 ^ nat_abs n.exponent)) = ap nat_abs (value_is n z plain v).1 in let l = long_scaled (nat_abs n.exponent) in omega arith))
+
+  -- has its digits
+  pub long_form : form_of n ≡ digits_form n
+  long_form = by_point n.point refl
+    where
+      by_point : (p : Bool) → n.point ≡ p → form_of n ≡ digits_form n
+      by_point true h = point_digits h
+      by_point false h = no_point_digits h
+
+-- digits that are stored part by part
+abbrev IsDigitsForm : Bool → List ℕ → ℤ → Bool → Type 0
+IsDigitsForm m ds e p = form_of (stored_number m ds e p) ≡ digits m ds e p
+
+pub stored_parts : (m n : Bool) (ds es : List ℕ) (e f : ℤ) (p q : Bool) → m ≡ n → ds ≡ es → e ≡ f → p ≡ q → IsDigitsForm n es f q → IsDigitsForm m ds e p
+stored_parts m n ds es e f p q a b c d h =
+    subst (λ x. IsDigitsForm m ds e x) (sym d) (subst (λ x. IsDigitsForm m ds x q) (sym c) (subst (λ x. IsDigitsForm m x f q) (sym b) (subst (λ x. IsDigitsForm x es f q) (sym a) h)))

@@ -20,3 +20,6 @@ pub mod WholeValues
 pub mod Conversions
 pub mod Alike
 pub mod Forms
+pub mod FormNumbers
+pub mod IntegerWords
+pub mod DigitRows

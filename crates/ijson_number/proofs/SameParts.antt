@@ -1,18 +1,14 @@
 -- Stored parts of one value are the same parts.
 use Rattle.std.proofs.Common.{◌≡◌, ℕ, Bool, true, false, List, [], ◌∷◌, refl, ap, ap₂, sym, ◌∙◌, arith}
-use Rattle.std.specs.Prelude.{ℤ, pos, nat_abs, int_lt, FitsSigned}
+use Rattle.std.specs.Prelude.{ℤ, pos, nat_abs, int_lt, not}
 use Rattle.std.specs.Int.Digits.{number_from_digits}
 use Rattle.std.specs.Cmp.{both_ways}
 use Rattle.std.specs.Ordering.{is_eq}
 use Rattle.std.specs.Cmp.Lexicographic.{pointwise}
 use Rattle.std.proofs.Math.Bool.{beq}
 use Rattle.std.proofs.Math.Dec.{eqb}
-use Rattle.std.proofs.lemmas.Bool.{eqb-true, eq-eqb}
 use Rattle.std.proofs.lemmas.Bool.Decides.{Decides-eqb}
-use Rattle.std.proofs.lemmas.Int.{to_z-of_z}
 use Rattle.std.proofs.lemmas.Slice.Eq.{slice_eq-Decides}
-use mir.Syntax.{w32}
-use mir.Val.{to_z, of_z}
 use Rattle.ijson_number.specs.Decimal.{Decimal}
 use Rattle.ijson_number.specs.Num.{IsNum}
 use Rattle.ijson_number.specs.Strips.{signed}
@@ -31,22 +27,18 @@ stored_sign negative (d ∷ ds) k =
     let n = stripped_mod (d ∷ ds) k.stripped (omega arith) in
     below_zero negative (number_from_digits 10 (d ∷ ds)) (omega (arith, n))
 
-bits_equal : (a b : ℤ) → FitsSigned w32 a → FitsSigned w32 b → eqb (of_z w32 a) (of_z w32 b) ≡ true → a ≡ b
-bits_equal a b f g h = sym (to_z-of_z w32 a f) ∙ ap (to_z w32) (eqb-true _ _ h) ∙ to_z-of_z w32 b g
+-- a test of two signs
+pub same_signs : (m n : Bool) → not (beq m n) ≡ false → m ≡ n
+same_signs true true h = refl
+same_signs true false h = absurd (cc)
+same_signs false true h = absurd (cc)
+same_signs false false h = refl
 
-signs_equal : (m n : Bool) → beq m n ≡ true → m ≡ n
-signs_equal true true h = refl
-signs_equal true false h = absurd (cc)
-signs_equal false true h = absurd (cc)
-signs_equal false false h = refl
-
-sign_itself : (n : Bool) → beq n n ≡ true
-sign_itself true = refl
-sign_itself false = refl
-
-not_both : (b : Bool) → b ≡ true → b ≡ false → ⊥
-not_both true h g = cc
-not_both false h g = cc
+pub other_signs : (m n : Bool) → not (beq m n) ≡ true → m ≡ n → ⊥
+other_signs true true h e = absurd (cc)
+other_signs true false h e = cc
+other_signs false true h e = cc
+other_signs false false h e = absurd (cc)
 
 never : (v b : Bool) → v ≡ false → (b ≡ true → ⊥) → v ≡ b
 never v true e h = absurd (h refl)
@@ -70,15 +62,15 @@ module _ (n n' : Bool) (ds ds' : List ℕ) (e e' : ℤ) (p p' : Bool) (a b : Dec
   parts_equal s d x = sym (ap₂ number_eq view view') ∙ ap is_eq (same_equal (stored_number n ds e p) (stored_number n' ds' e' p') (rw (s, d) refl) x)
 
   -- two numbers of one sign and one exponent are equal where their digits are
-  pub digits_tell : (r : Bool) → beq n n' ≡ true → FitsSigned w32 e → FitsSigned w32 e' → eqb (of_z w32 e) (of_z w32 e') ≡ true → r ≡ pointwise eqb ds ds' → r ≡ number_eq a b
-  digits_tell r s f g x d =
+  pub digits_tell : (r : Bool) → n ≡ n' → e ≡ e' → r ≡ pointwise eqb ds ds' → r ≡ number_eq a b
+  digits_tell r s x d =
       let tells = slice_eq-Decides Decides-eqb ds ds' r d in
-      both_ways r (number_eq a b) (λ t. parts_equal (signs_equal n n' s) (tells.0 t) (bits_equal e e' f g x)) (λ t. tells.1 (equal_digits t))
+      both_ways r (number_eq a b) (λ t. parts_equal s (tells.0 t) x) (λ t. tells.1 (equal_digits t))
 
   -- of two signs they differ
-  pub signs_tell : (v : Bool) → beq n n' ≡ false → v ≡ false → v ≡ number_eq a b
-  signs_tell v s t = never v (number_eq a b) t (λ is. not_both (beq n n') (rw (equal_sign is) (sign_itself n')) s)
+  pub signs_tell : (n ≡ n' → ⊥) → false ≡ number_eq a b
+  signs_tell h = never false (number_eq a b) refl (λ is. h (equal_sign is))
 
   -- of two exponents they differ
-  pub exponents_tell : (v : Bool) → v ≡ eqb (of_z w32 e) (of_z w32 e') → v ≡ false → v ≡ number_eq a b
-  exponents_tell v x t = never v (number_eq a b) t (λ is. not_both (eqb (of_z w32 e) (of_z w32 e')) (rw (mantissa_exponent is).1 (eq-eqb _ _ refl)) (sym x ∙ t))
+  pub exponents_tell : (e ≡ e' → ⊥) → false ≡ number_eq a b
+  exponents_tell h = never false (number_eq a b) refl (λ is. h (mantissa_exponent is).1)

@@ -51,11 +51,11 @@ whole_stripped n h =
       last = λ _. rw (digits_of_step 10 n (omega arith) some, last_pushed (digits_of 10 (n / 10)) (n % 10)) h;
     }
 
-times_one : (m : ℤ) → m *ℤ pos 1 ≡ m
+pub times_one : (m : ℤ) → m *ℤ pos 1 ≡ m
 times_one (pos m) = let e : m * 1 ≡ m = omega arith in rw e refl
 times_one (negsuc m) = let e : suc m * 1 ≡ suc m = omega arith in rw e refl
 
-abs_times : (m : ℤ) (k : ℕ) → nat_abs (m *ℤ pos k) ≡ nat_abs m * k
+pub abs_times : (m : ℤ) (k : ℕ) → nat_abs (m *ℤ pos k) ≡ nat_abs m * k
 abs_times (pos m) k = refl
 abs_times (negsuc m) k = abs_neg (suc m * k)
   where

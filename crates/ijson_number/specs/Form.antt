@@ -58,3 +58,10 @@ form_of n =
         ]
       ]
     ]
+
+-- a list of digits, which takes memory
+abbrev pub is_digits : FormOf → Bool
+is_digits (packed m e point) = false
+is_digits (signed_word z) = false
+is_digits (unsigned_word n) = false
+is_digits (digits negative ds e point) = true

@@ -9,6 +9,7 @@ pub mod Order
 pub mod Integers
 pub mod Words
 pub mod Form
+pub mod DigitRow
 pub mod FormValue
 pub mod Alike
 pub mod laws

@@ -1,13 +1,13 @@
 -- Why a text is refused. This project's own.
-use Rattle.std.specs.Prelude.{ℕ, ◌<◌, List, length}
+use Rattle.std.specs.Prelude.{◌≡◌, ℕ, List, true}
 use Rattle.ijson_number.specs.Decimal.{Decimal}
 use Rattle.ijson_number.specs.Num.{IsNum}
-use Rattle.ijson_number.specs.StrippedDigits.{stripped_digits}
+use Rattle.ijson_number.specs.Form.{is_digits, form_of}
 use Rattle.ijson_number.specs.Grammar.{Spells}
 use Rattle.ijson_number.specs.declared.number.ParseNumberError.{ParseNumberError}
 use Rattle.ijson_number.specs.declared.number.ParseNumberError.TheVariants.{Invalid, Memory}
 
--- the text spells no Num; or it spells one whose digits need memory
+-- the text spells no Num; or it spells one whose stored form is a list of digits
 abbrev pub IsRefused : List ℕ → ParseNumberError → Type 0
 IsRefused text Invalid = (n : Decimal) → Spells text n → IsNum n → ⊥
-IsRefused text Memory = (n : Decimal) × Spells text n × IsNum n × (20 < length (stripped_digits n))
+IsRefused text Memory = (n : Decimal) × Spells text n × IsNum n × (is_digits (form_of n) ≡ true)

@@ -4,3 +4,8 @@ pub mod Scanned
 pub mod StoredDigits
 pub mod StoredNumber
 pub mod Stripped
+pub mod FormNumber
+pub mod Word
+pub mod Stored
+pub mod StrippedNumber
+pub mod SizeOrder

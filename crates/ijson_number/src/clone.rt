@@ -1,23 +1,53 @@
 //! Copies of a number.
-ghost use Rattle.std.specs.Prelude.{◌≡◌, ◌≤◌, length};
-ghost use Rattle.ijson_number.specs.StrippedDigits.{stripped_digits};
+ghost use Rattle.std.specs.Prelude.{◌≡◌, false};
+ghost use Rattle.ijson_number.specs.Form.{form_of, is_digits};
 
 use crate::number::INumber;
+use crate::stored::{LongNumber, Stored};
 use std::alloc::AllocError;
+
+impl Clone for LongNumber {
+    ghost is_clone = { λ n copy. copy ≡ n };
+
+    fn clone(&self) -> Result<LongNumber, AllocError> {
+        let digits = self.digits.clone()?;
+        Ok(LongNumber {
+            negative: self.negative,
+            point: self.point,
+            exponent: self.exponent,
+            digits,
+        })
+    }
+}
+
+impl Clone for Stored {
+    ghost use Rattle.ijson_number.specs.private.Stored.{stored_form};
+
+    ghost is_clone = { λ s copy. stored_form copy ≡ stored_form s };
+
+    ghost is_infallible = { λ s. is_digits (stored_form s) ≡ false };
+
+    fn clone(&self) -> Result<Stored, AllocError> {
+        match self {
+            Stored::Packed(word) => Ok(Stored::Packed(*word)),
+            Stored::I64(value) => Ok(Stored::I64(*value)),
+            Stored::U64(value) => Ok(Stored::U64(*value)),
+            Stored::Digits(number) => {
+                let number = number.clone()?;
+                Ok(Stored::Digits(number))
+            }
+        }
+    }
+}
 
 impl Clone for INumber {
     ghost is_clone = { λ n copy. copy ≡ n };
 
-    ghost is_infallible = { λ n. length (stripped_digits n.decimal) ≤ 20 };
+    ghost is_infallible = { λ n. is_digits (form_of n.decimal) ≡ false };
 
-    /// Memory is taken for more than 20 stripped digits alone.
+    /// Memory is taken where the stored form is a list of digits alone.
     fn clone(&self) -> Result<INumber, AllocError> {
-        let digits = self.digits.clone()?;
-        Ok(INumber {
-            negative: self.negative,
-            digits,
-            exponent: self.exponent,
-            point: self.point,
-        })
+        let stored = self.stored.clone()?;
+        Ok(INumber { stored })
     }
 }

@@ -2,8 +2,7 @@
 ghost use Rattle.std.specs.Prelude.{◌≡◌, ◌<◌, ◌≤◌, ◌+◌, ◌++◌, length, IfOk, OnOk, OnErr};
 ghost use Rattle.ijson_number.specs.Grammar.{AllDigits};
 ghost use Rattle.ijson_number.specs.private.Stripped.{IsStripped, digits_from_text};
-ghost use Rattle.std.specs.Int.Digits.{digits_of};
-ghost use Rattle.std.specs.Prelude.{◌%◌, ◌≢◌, [], pos, neg_ℤ, ◌+ℤ◌, ◌<ℤ◌, ◌^◌, FitsSigned};
+ghost use Rattle.std.specs.Prelude.{pos, neg_ℤ, ◌+ℤ◌, ◌<ℤ◌, ◌^◌, FitsSigned};
 ghost use mir.Syntax.{w128};
 ghost use Rattle.arrayvec.specs.ArrayVec.{array_vec_len};
 
@@ -40,7 +39,7 @@ impl Model for Digits {
 }
 
 /// Appends the digits that a text has.
-fn push_in_place(digits: &mut ArrayVec<u8, 20>, text: &[u8])
+pub fn push_in_place(digits: &mut ArrayVec<u8, 20>, text: &[u8])
     requires digits { AllDigits text.now }
     requires room { array_vec_len digits.old + length text.now ≤ 20 }
     ensures items { digits.new.items ≡ digits.old.items ++ digits_from_text text.now }
@@ -85,37 +84,6 @@ impl Digits {
         Ok(Digits {
             storage: Storage::Apart(digits),
         })
-    }
-
-    /// No digits.
-    pub fn new() -> Digits
-        ensures { result ≡ [] }
-    {
-        Digits {
-            storage: Storage::InPlace(ArrayVec::new()),
-        }
-    }
-
-    /// The digits of a number that ten doesn't divide.
-    pub fn from_number(number: u64) -> Digits
-        requires { number % 10 ≢ 0 }
-        ensures { result ≡ digits_of 10 number }
-    {
-        let mut buffer = [0; 20];
-        let mut start = 20;
-        let mut rest = number;
-        while rest > 0 {
-            start -= 1;
-            buffer[start] = (rest % 10) as u8;
-            rest /= 10;
-        }
-        let mut digits = ArrayVec::new();
-        for digit in &buffer[start..] {
-            digits.push(*digit);
-        }
-        Digits {
-            storage: Storage::InPlace(digits),
-        }
     }
 
     /// The digits.

@@ -1,12 +1,17 @@
-//! The stored form of a number, reckoned from its digits.
+//! The stored form of a number, and how it is chosen.
 ghost use Rattle.std.specs.Prelude.{◌≡◌, ◌^◌, ◌*ℤ◌, ◌≤ℤ◌, ◌<ℤ◌, ◌↔◌, pos, true, false, IfSome, IfNone, IsTrue};
 ghost use Rattle.ijson_number.specs.Alike.{IsAlike};
 ghost use Rattle.ijson_number.specs.Num.{Num};
 ghost use Rattle.ijson_number.specs.Text.{num_text};
 ghost use Rattle.ijson_number.specs.Form.{digits_form, fits_packed, form_of};
 
-use crate::integers::scaled;
+use crate::digits::push_in_place;
 use crate::number::INumber;
+use crate::reading::Scanned;
+use crate::stored::Stored;
+use crate::stripped::{ROOM, StrippedNumber};
+use crate::word::Word;
+use arrayvec::ArrayVec;
 
 /// The stored form of a number.
 #[derive(Clone, Copy, PartialEq, Eq, Debug)]
@@ -35,21 +40,21 @@ pub enum Form<'a> {
 const PACKED_END: i128 = 1 << 55;
 
 /// Whether a mantissa fits a packed number.
-fn is_packed_mantissa(mantissa: i128) -> bool
+pub fn is_packed_mantissa(mantissa: i128) -> bool
     ensures { result ≡ fits_packed mantissa }
 {
     -PACKED_END <= mantissa && mantissa < PACKED_END
 }
 
-impl INumber {
-    ghost use Rattle.ijson_number.specs.FormValue.{form_value};
+impl StrippedNumber<'_> {
+    ghost use Rattle.ijson_number.specs.private.Stored.{stored_form};
+    ghost use Rattle.ijson_number.specs.private.StrippedNumber.{decimal_of};
 
     /// The mantissa with so many zeros behind it, where it fits a packed number.
     fn packed_mantissa(&self, zeros: usize) -> Option<i64>
-        ensures some { IfSome result (λ m. m ≡ self.now.decimal.mantissa *ℤ pos (10 ^ zeros)) }
+        ensures some { IfSome result (λ m. m ≡ (decimal_of self.now).mantissa *ℤ pos (10 ^ zeros)) }
         ensures fits { IfSome result (λ m. IsTrue (fits_packed m)) }
-        ensures none { IfNone result
-            (fits_packed (self.now.decimal.mantissa *ℤ pos (10 ^ zeros)) ≡ false) }
+        ensures none { IfNone result (fits_packed ((decimal_of self.now).mantissa *ℤ pos (10 ^ zeros)) ≡ false) }
     {
         let mantissa = self.mantissa_with(zeros)?;
         if is_packed_mantissa(mantissa) {
@@ -59,81 +64,120 @@ impl INumber {
         }
     }
 
-    fn digits_form(&self) -> Form<'_>
-        ensures { form_value result ≡ digits_form self.now.decimal }
+    /// What is stored of a number without the point, where it is a word.
+    fn integer_stored(&self) -> Option<Stored>
+        requires { self.now.point ≡ false }
+        ensures some { IfSome result (λ s. stored_form s ≡ form_of (decimal_of self.now)) }
+        ensures none { IfNone result (form_of (decimal_of self.now) ≡ digits_form (decimal_of self.now)) }
     {
-        Form::Digits {
-            negative: self.negative,
-            digits: self.digits.as_slice(),
-            exponent: self.exponent,
-            point: self.point,
-        }
-    }
-
-    /// The form of a number without the point.
-    fn integer_form(&self) -> Form<'_>
-        requires { self.now.decimal.point ≡ false }
-        ensures { form_value result ≡ form_of self.now.decimal }
-    {
-        let Some(value) = self.whole() else {
-            return self.digits_form();
-        };
+        let value = self.whole()?;
         if is_packed_mantissa(value) {
-            Form::Packed {
-                mantissa: value as i64,
-                exponent: 0,
-                point: false,
-            }
+            Some(Stored::Packed(Word::integer(value as i64)))
         } else if let Ok(value) = i64::try_from(value) {
-            Form::I64(value)
+            Some(Stored::I64(value))
         } else if let Ok(value) = u64::try_from(value) {
-            Form::U64(value)
+            Some(Stored::U64(value))
         } else {
-            self.digits_form()
+            None
         }
     }
 
-    /// The form of a number with the point and no fraction: the smallest packed exponent that leaves a mantissa which
-    /// fits.
-    fn whole_form(&self) -> Form<'_>
-        requires point { self.now.decimal.point ≡ true }
-        requires whole { pos 0 ≤ℤ self.now.decimal.exponent }
-        ensures { form_value result ≡ form_of self.now.decimal }
+    /// What is stored of a number with the point and no fraction, where it is a word: the smallest packed exponent that
+    /// leaves a mantissa which fits.
+    fn whole_stored(&self) -> Option<Stored>
+        requires point { self.now.point ≡ true }
+        requires whole { pos 0 ≤ℤ self.now.exponent }
+        ensures some { IfSome result (λ s. stored_form s ≡ form_of (decimal_of self.now)) }
+        ensures none { IfNone result (form_of (decimal_of self.now) ≡ digits_form (decimal_of self.now)) }
     {
         let zeros = self.exponent as usize;
         for exponent in 0..8usize {
             if exponent <= zeros {
                 if let Some(mantissa) = self.packed_mantissa(zeros - exponent) {
-                    return Form::Packed {
-                        mantissa,
-                        exponent: exponent as i8,
-                        point: true,
-                    };
+                    return Some(Stored::Packed(Word::pointed(mantissa, exponent as i8)));
                 }
             }
         }
-        self.digits_form()
+        None
     }
 
-    /// The form of a number with a fraction.
-    fn fraction_form(&self) -> Form<'_>
-        requires point { self.now.decimal.point ≡ true }
-        requires fraction { self.now.decimal.exponent <ℤ pos 0 }
-        ensures { form_value result ≡ form_of self.now.decimal }
+    /// What is stored of a number with a fraction, where it is a word.
+    fn fraction_stored(&self) -> Option<Stored>
+        requires point { self.now.point ≡ true }
+        requires fraction { self.now.exponent <ℤ pos 0 }
+        ensures some { IfSome result (λ s. stored_form s ≡ form_of (decimal_of self.now)) }
+        ensures none { IfNone result (form_of (decimal_of self.now) ≡ digits_form (decimal_of self.now)) }
     {
         if self.exponent < -7 {
-            return self.digits_form();
+            return None;
         }
-        match self.packed_mantissa(0) {
-            Some(mantissa) => Form::Packed {
-                mantissa,
-                exponent: self.exponent as i8,
-                point: true,
-            },
-            None => self.digits_form(),
-        }
+        let mantissa = self.packed_mantissa(0)?;
+        Some(Stored::Packed(Word::pointed(mantissa, self.exponent as i8)))
     }
 
+    /// What is stored of the number, where it is a word and no list of digits.
+    pub fn stored(&self) -> Option<Stored>
+        ensures some { IfSome result (λ s. stored_form s ≡ form_of (decimal_of self.now)) }
+        ensures none { IfNone result (form_of (decimal_of self.now) ≡ digits_form (decimal_of self.now)) }
+    {
+        if !self.point {
+            self.integer_stored()
+        } else if self.exponent >= 0 {
+            self.whole_stored()
+        } else {
+            self.fraction_stored()
+        }
+    }
+}
+
+impl Scanned<'_> {
+    ghost use Rattle.ijson_number.specs.private.Scanned.{IsScanned, scanned_number};
+    ghost use Rattle.ijson_number.specs.private.Stored.{stored_form};
+
+    /// What is stored of the number, where it is a word and no list of digits.
+    pub fn stored(&self) -> Option<Stored>
+        requires { IsScanned self.now }
+        ensures some { IfSome result (λ s. stored_form s ≡ form_of (scanned_number self.now)) }
+        ensures none { IfNone result (form_of (scanned_number self.now) ≡ digits_form (scanned_number self.now)) }
+    {
+        if self.front.len() as u128 + self.back.len() as u128 > ROOM as u128 {
+            return None;
+        }
+        let mut digits: ArrayVec<u8, ROOM> = ArrayVec::new();
+        push_in_place(&mut digits, self.front);
+        push_in_place(&mut digits, self.back);
+        let number = StrippedNumber {
+            negative: self.negative,
+            digits: digits.as_slice(),
+            exponent: self.exponent,
+            point: self.point,
+        };
+        number.stored()
+    }
+}
+
+impl INumber {
+    ghost use Rattle.ijson_number.specs.FormValue.{form_value};
+
+    fn form_of_stored(&self) -> Form<'_>
+        ensures { form_value result ≡ form_of self.now.decimal }
+    {
+        match &self.stored {
+            Stored::Packed(word) => Form::Packed {
+                mantissa: word.mantissa(),
+                exponent: word.exponent(),
+                point: word.point(),
+            },
+            Stored::I64(value) => Form::I64(*value),
+            Stored::U64(value) => Form::U64(*value),
+            Stored::Digits(number) => Form::Digits {
+                negative: number.negative,
+                digits: number.digits.as_slice(),
+                exponent: number.exponent,
+                point: number.point,
+            },
+        }
+    }
     /// The stored form. Numbers of one value and one shape have one form and one text, and no others have that text.
     pub fn form(&self) -> Form<'_>
         ensures form { form_value result ≡ form_of self.now.decimal }
@@ -144,12 +188,6 @@ impl INumber {
             → (num_text self.now.decimal ≡ num_text other.decimal)
             ↔ IsAlike self.now.decimal other.decimal }
     {
-        if !self.point {
-            self.integer_form()
-        } else if self.exponent >= 0 {
-            self.whole_form()
-        } else {
-            self.fraction_form()
-        }
+        self.form_of_stored()
     }
 }

@@ -6,6 +6,7 @@ ghost use Rattle.ijson_number.specs.laws.Ordered.{equal_feed};
 ghost use Rattle.ijson_number.specs.Words.{number_words};
 
 use crate::number::INumber;
+use crate::stripped::ROOM;
 use std::hash::{Hash, Hasher};
 
 fn sign_word(negative: bool) -> u64
@@ -28,14 +29,16 @@ impl Hash for INumber {
     ghost respects_eq = { λ a b e. equal_feed a b e };
 
     fn hash<H: Hasher>(&self, state: &mut H) {
-        let digits = self.digits.as_slice();
+        let mut room = [0; ROOM];
+        let number = self.stripped(&mut room);
+        let digits = number.digits;
         state.write_u64(2);
         if digits.is_empty() {
             state.write_u64(0);
             return;
         }
-        state.write_u64(sign_word(self.negative));
-        state.write_u64(exponent_word(self.exponent));
+        state.write_u64(sign_word(number.negative));
+        state.write_u64(exponent_word(number.exponent));
         state.write_u64(digits.len() as u64);
         for digit in digits {
             state.write_u64(u64::from(*digit));

@@ -1,16 +1,20 @@
 //! Numbers from integers, and integers from numbers.
-ghost use Rattle.std.specs.Prelude.{◌≡◌, ◌≢◌, ◌*◌, ◌%◌, ◌+◌, ◌^◌, ◌<◌, ◌≤◌, ℕ, ℤ, pos, ◌*ℤ◌, false, length, nat_abs, IfSome, IfNone, FitsSigned};
+ghost use Rattle.std.specs.Prelude.{◌≡◌, ◌≢◌, ◌*◌, ◌/◌, ◌%◌, ◌+◌, ◌^◌, ◌<◌, ◌≤◌, ℕ, ℤ, pos, length, nat_abs, IfSome, IfNone, FitsSigned};
 ghost use Rattle.std.specs.List.{All};
 ghost use Rattle.std.specs.Int.Digits.{number_from_digits};
 ghost use mir.Syntax.{w32, w64};
 ghost use Rattle.ijson_number.specs.Integers.{HasValue, IsInteger};
-ghost use Rattle.ijson_number.specs.Strips.{signed};
+ghost use Rattle.ijson_number.specs.private.FormNumber.{integer_word};
+ghost use Rattle.ijson_number.specs.private.Stored.{stored_form};
 
-use crate::digits::Digits;
+use crate::form::is_packed_mantissa;
 use crate::number::INumber;
+use crate::stored::Stored;
+use crate::stripped::ROOM;
+use crate::word::Word;
 
 /// Takes the tens out of a number that isn't zero, and counts them.
-fn without_tens(number: u64) -> (u64, u32)
+pub fn without_tens(number: u64) -> (u64, u32)
     requires { number ≢ 0 }
     ensures tens { number ≡ result.0 * 10 ^ result.1 }
     ensures few { result.1 < 20 }
@@ -24,24 +28,24 @@ fn without_tens(number: u64) -> (u64, u32)
     (rest, tens)
 }
 
-/// The number of a sign and a size.
-fn from_size(negative: bool, size: u64) -> INumber
-    ensures { IsInteger result.decimal (signed negative size) }
+/// What is stored of an integer.
+fn stored_signed(value: i64) -> Stored
+    ensures { stored_form result ≡ integer_word value }
 {
-    if size == 0 {
-        return INumber {
-            negative: false,
-            digits: Digits::new(),
-            exponent: 0,
-            point: false,
-        };
+    if is_packed_mantissa(i128::from(value)) {
+        Stored::Packed(Word::integer(value))
+    } else {
+        Stored::I64(value)
     }
-    let (stripped, tens) = without_tens(size);
-    INumber {
-        negative,
-        digits: Digits::from_number(stripped),
-        exponent: tens as i32,
-        point: false,
+}
+
+/// What is stored of an integer that isn't below zero.
+fn stored_unsigned(value: u64) -> Stored
+    ensures { stored_form result ≡ integer_word (pos value) }
+{
+    match i64::try_from(value) {
+        Ok(value) => stored_signed(value),
+        Err(_) => Stored::U64(value),
     }
 }
 
@@ -50,14 +54,14 @@ impl INumber {
     pub fn zero() -> INumber
         ensures { IsInteger result.decimal (pos 0) }
     {
-        from_size(false, 0)
+        INumber::from(0i64)
     }
 
     /// The integer 1.
     pub fn one() -> INumber
         ensures { IsInteger result.decimal (pos 1) }
     {
-        from_size(false, 1)
+        INumber::from(1i64)
     }
 }
 
@@ -73,7 +77,9 @@ impl From<i64> for INumber {
     ghost from_gives = { λ z n. IsInteger n.decimal z };
 
     fn from(value: i64) -> INumber {
-        from_size(value < 0, value.unsigned_abs())
+        INumber {
+            stored: stored_signed(value),
+        }
     }
 }
 
@@ -81,7 +87,9 @@ impl From<u64> for INumber {
     ghost from_gives = { λ value n. IsInteger n.decimal (pos value) };
 
     fn from(value: u64) -> INumber {
-        from_size(false, value)
+        INumber {
+            stored: stored_unsigned(value),
+        }
     }
 }
 
@@ -164,35 +172,14 @@ pub fn scaled(digits: &[u8], zeros: usize) -> u128
 }
 
 impl INumber {
-    /// The mantissa with so many zeros behind it, where that is nearer to zero than 10^20.
-    pub(crate) fn mantissa_with(&self, zeros: usize) -> Option<i128>
-        ensures some { IfSome result (λ m. m ≡ self.now.decimal.mantissa *ℤ pos (10 ^ zeros)) }
-        ensures small { IfSome result (λ m. nat_abs m < 10 ^ 20) }
-        ensures none { IfNone result
-            (10 ^ 20 ≤ nat_abs (self.now.decimal.mantissa *ℤ pos (10 ^ zeros))) }
-    {
-        let digits = self.digits.as_slice();
-        if digits.is_empty() {
-            return Some(0);
-        }
-        if zeros as u128 + digits.len() as u128 > 20 {
-            return None;
-        }
-        let size = scaled(digits, zeros) as i128;
-        Some(if self.negative { -size } else { size })
-    }
-
     /// The value where it is whole and nearer to zero than 10^20.
-    pub(crate) fn whole(&self) -> Option<i128>
+    fn whole(&self) -> Option<i128>
         ensures some { IfSome result (λ z. HasValue self.now.decimal z) }
         ensures small { IfSome result (λ z. nat_abs z < 10 ^ 20) }
         ensures none { IfNone result
             ((z : ℤ) → nat_abs z < 10 ^ 20 → HasValue self.now.decimal z → ⊥) }
     {
-        if self.exponent < 0 {
-            return None;
-        }
-        self.mantissa_with(self.exponent as usize)
+        self.stripped(&mut [0; ROOM]).whole()
     }
 
     /// The value where it is whole and an `i64`, whatever the shape.

@@ -2,6 +2,7 @@
 #![tactic(auto)]
 
 mod clone;
+mod digit_row;
 mod digits;
 mod faults;
 mod form;
@@ -11,8 +12,12 @@ mod looks;
 mod number;
 mod order;
 mod reading;
+mod stored;
+mod stripped;
 mod text;
+mod word;
 
+pub use digit_row::{DigitRow, compare};
 pub use faults::first_fault;
 pub use form::Form;
 pub use looks::Looks;

@@ -1,12 +1,12 @@
 //! `INumber`, an exact decimal.
 ghost use Rattle.std.specs.Prelude.{◌≡◌, IfOk, IfErr};
 ghost use Rattle.ijson_number.specs.Grammar.{Spells};
-ghost use Rattle.ijson_number.specs.private.StoredNumber.{stored_number};
 ghost use Rattle.ijson_number.specs.Num.{IsNum};
 ghost use Rattle.ijson_number.specs.laws.Codes.{IsNum-prop};
+ghost use Rattle.ijson_number.specs.private.Stored.{stored_decimal};
 
-use crate::digits::Digits;
 use crate::reading;
+use crate::stored::{LongNumber, Stored};
 use std::alloc::Global;
 use std::marker::Model;
 use thiserror::Error;
@@ -17,41 +17,38 @@ pub enum ParseNumberError {
     /// The text spells no number, or one whose stripped exponent is past the limit.
     #[error("not a JSON number, or its exponent is out of range")]
     Invalid,
-    /// The text spells a number of more than 20 stripped digits, and they found no memory.
+    /// The text spells a number whose stored form is a list of digits, and they found no memory.
     #[error("out of memory")]
     Memory,
 }
 
 /// An exact decimal: zero, or a whole mantissa that ten doesn't divide times a power of ten whose exponent lies from
-/// -2^30 to 2^30; and whether it was written with a point or an exponent.
+/// -2^30 to 2^30; and whether it was written with a point or an exponent. It is kept in its stored form.
 #[derive(Drop)]
 pub struct INumber {
-    pub(crate) negative: bool,
-    pub(crate) digits: Digits,
-    pub(crate) exponent: i32,
-    pub(crate) point: bool,
-    ghost num: { IsNum (stored_number negative digits exponent point) } by { IsNum-prop (stored_number negative digits exponent point) },
+    pub(crate) stored: Stored,
+    ghost num: { IsNum (stored_decimal stored) } by { IsNum-prop (stored_decimal stored) },
 }
 
 impl Model for INumber {
     ghost use Rattle.ijson_number.specs.Num.{Num};
     ghost use Rattle.ijson_number.specs.laws.Codes.{num_code};
-    ghost use Rattle.ijson_number.specs.private.StoredNumber.{stored_num, IsStored};
+    ghost use Rattle.ijson_number.specs.private.Stored.{stored_decimal, IsForm};
 
     ghost Value = { Num };
 
     ghost coded = { num_code };
 
-    ghost view = { λ n. stored_num n.negative n.digits n.exponent n.point n.num };
+    ghost view = { λ n. record { decimal = stored_decimal n.stored; is_num = n.num } };
 
-    ghost invariant = { λ n. IsStored n.negative n.digits };
+    ghost invariant = { λ n. IsForm n.stored };
 }
 
 impl INumber {
     ghost use Rattle.ijson_number.specs.Refused.{IsRefused};
 
-    /// The number that the whole text spells, with no white space round it. Memory is taken for more than 20 stripped
-    /// digits alone.
+    /// The number that the whole text spells, with no white space round it. Memory is taken where the stored form is a
+    /// list of digits alone.
     pub fn from_str(alloc: Global, text: &str) -> Result<INumber, ParseNumberError>
         ensures ok { IfOk result (λ n. Spells text.now n.decimal) }
         ensures err { IfErr result (λ e. IsRefused text.now e) }
@@ -59,14 +56,14 @@ impl INumber {
         let Some(scanned) = reading::scan(text.as_bytes()) else {
             return Err(ParseNumberError::Invalid);
         };
-        let Ok(digits) = Digits::from_text(alloc, scanned.front, scanned.back) else {
+        if let Some(stored) = scanned.stored() {
+            return Ok(INumber { stored });
+        }
+        let Ok(number) = LongNumber::from_scanned(alloc, &scanned) else {
             return Err(ParseNumberError::Memory);
         };
         Ok(INumber {
-            negative: scanned.negative,
-            digits,
-            exponent: scanned.exponent,
-            point: scanned.point,
+            stored: Stored::Digits(number),
         })
     }
 
@@ -74,6 +71,11 @@ impl INumber {
     pub fn has_decimal_point(&self) -> bool
         ensures { result ≡ self.now.decimal.point }
     {
-        self.point
+        match &self.stored {
+            Stored::Packed(word) => word.point(),
+            Stored::I64(_) => false,
+            Stored::U64(_) => false,
+            Stored::Digits(number) => number.point,
+        }
     }
 }

@@ -1,14 +1,13 @@
 //! Equality and order by exact value.
-ghost use Rattle.std.specs.Prelude.{◌≡◌, ◌<◌, Some, pos, false, true, length, refl};
+ghost use Rattle.std.specs.Prelude.{◌<◌, Some, false, refl};
 ghost use Rattle.std.specs.Cmp.{partial_equiv_from_equiv, on_equiv, on_total, po};
-ghost use Rattle.std.specs.Ordering.{int_cmp};
-ghost use Rattle.ijson_number.specs.private.StoredNumber.{stored_number};
 ghost use Rattle.ijson_number.specs.Order.{number_cmp, number_eq};
 ghost use Rattle.ijson_number.specs.laws.Ordered.{number_cmp_total, number_eq_equiv};
-ghost use Rattle.ijson_number.specs.private.Stripped.{IsStripped};
 
-use crate::digits::place_of;
+use crate::digit_row::{DigitRow, compare};
+use crate::looks::Looks;
 use crate::number::INumber;
+use crate::stripped::ROOM;
 use std::cmp::Ordering;
 
 /// Two numbers are equal where their values are, whether or not they were written with a point.
@@ -18,48 +17,17 @@ impl PartialEq for INumber {
     ghost laws = { partial_equiv_from_equiv (on_equiv (λ n. n.decimal) number_eq_equiv) };
 
     fn eq(&self, other: &INumber) -> bool {
-        self.negative == other.negative
-            && self.exponent == other.exponent
-            && self.digits.as_slice() == other.digits.as_slice()
+        let (mut room, mut other_room) = ([0; ROOM], [0; ROOM]);
+        let (a, b) = (self.stripped(&mut room), other.stripped(&mut other_room));
+        if a.negative != b.negative || a.exponent != b.exponent {
+            return false;
+        }
+        a.digits == b.digits
     }
 }
 
 impl Eq for INumber {
     ghost laws = { on_equiv (λ n. n.decimal) number_eq_equiv };
-}
-
-/// The order of two numbers above zero: by the place of the point, and only where it is the same by the digits.
-fn cmp_above_zero(digits: &[u8], exponent: i32, others: &[u8], other_exponent: i32) -> Ordering
-    requires digits { IsStripped digits.now }
-    requires some_digit { 0 < length digits.now }
-    requires others { IsStripped others.now }
-    requires some_other { 0 < length others.now }
-    ensures { result
-        ≡ number_cmp (stored_number false digits.now exponent true)
-        (stored_number false others.now other_exponent true) }
-{
-    let place = place_of(digits, exponent);
-    let other_place = place_of(others, other_exponent);
-    if place == other_place {
-        digits.cmp(others)
-    } else {
-        place.cmp(&other_place)
-    }
-}
-
-impl INumber {
-    /// `Less` below zero, `Equal` at zero and `Greater` above.
-    fn sign(&self) -> Ordering
-        ensures { result ≡ int_cmp self.now.decimal.mantissa (pos 0) }
-    {
-        if self.digits.as_slice().is_empty() {
-            Ordering::Equal
-        } else if self.negative {
-            Ordering::Less
-        } else {
-            Ordering::Greater
-        }
-    }
 }
 
 impl PartialOrd for INumber {
@@ -83,15 +51,8 @@ impl Ord for INumber {
     ghost matches_eq = { λ a b. refl };
 
     fn cmp(&self, other: &INumber) -> Ordering {
-        let (digits, others) = (self.digits.as_slice(), other.digits.as_slice());
-        let (sign, other_sign) = (self.sign(), other.sign());
-        if sign != other_sign {
-            return sign.cmp(&other_sign);
-        }
-        match sign {
-            Ordering::Less => cmp_above_zero(others, other.exponent, digits, self.exponent),
-            Ordering::Equal => Ordering::Equal,
-            Ordering::Greater => cmp_above_zero(digits, self.exponent, others, other.exponent),
-        }
+        // The looks fit, since the count of digits does.
+        let _count = self.count();
+        compare(self, other, &mut Looks::new())
     }
 }

@@ -5,6 +5,7 @@ ghost use Rattle.ijson_number.specs.Text.{digits_text, num_text, point_text, sci
 
 use crate::digits::place_of;
 use crate::number::INumber;
+use crate::stripped::ROOM;
 use arrayvec::ArrayString;
 use std::fmt;
 
@@ -163,9 +164,11 @@ impl fmt::Display for INumber {
     ghost output = { λ n. Some (num_text n.decimal) };
 
     fn fmt<W: fmt::Write>(&self, f: &mut fmt::Formatter<W>) -> fmt::Result {
-        let digits = self.digits.as_slice();
+        let mut room = [0; ROOM];
+        let number = self.stripped(&mut room);
+        let digits = number.digits;
         if digits.is_empty() {
-            return if self.point {
+            return if number.point {
                 write!(f, "0.0")
             } else {
                 write!(f, "0")
@@ -173,10 +176,10 @@ impl fmt::Display for INumber {
         }
         let shape = Shape {
             digits,
-            exponent: self.exponent,
-            point: self.point,
+            exponent: number.exponent,
+            point: number.point,
         };
-        if self.negative {
+        if number.negative {
             write!(f, "-{shape}")
         } else {
             fmt::Display::fmt(&shape, f)

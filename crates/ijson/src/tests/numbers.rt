@@ -1,6 +1,6 @@
 //! What no clause says: worked texts, and which texts are refused.
 use super::recorder::feeds;
-use crate::number::{Form, INumber, Looks, ParseNumberError, first_fault};
+use crate::number::{Form, INumber, Looks, ParseNumberError, compare, first_fault};
 use std::alloc::Global;
 use std::cmp::Ordering;
 use std::error::Error;
@@ -157,9 +157,12 @@ fn faults(rt: HostRuntime) {
 }
 
 /// Two texts, and whether their numbers are equal.
-const PAIRS: [(&str, &str, bool); 4] = [
+const PAIRS: [(&str, &str, bool); 7] = [
     ("-0", "-0.0", true),
     ("2", "20e-1", true),
+    ("100", "100.0", true),
+    ("100", "1e2", true),
+    ("18446744073709551616", "18446744073709551616.0", true),
     ("36028797018963968.0", "36028797018963968", true),
     ("1", "-1", false),
 ];
@@ -415,6 +418,106 @@ fn word_forms(rt: HostRuntime) -> Result<(), Fail> {
     formed(&rt, alloc, "-9223372036854775808", Form::I64(i64::MIN))
 }
 
+/// The kinds of stored form.
+#[derive(Clone, Copy, PartialEq, Eq, Debug)]
+enum Kind {
+    Packed,
+    I64,
+    U64,
+    Digits,
+}
+
+fn kind(form: Form<'_>) -> Kind {
+    match form {
+        Form::Packed { .. } => Kind::Packed,
+        Form::I64(_) => Kind::I64,
+        Form::U64(_) => Kind::U64,
+        Form::Digits { .. } => Kind::Digits,
+    }
+}
+
+/// Texts one below, at and one above each place where the stored form changes, of both signs and both shapes.
+const BOUNDARIES: [(&str, Kind); 44] = [
+    ("36028797018963967", Kind::Packed),
+    ("36028797018963968", Kind::I64),
+    ("36028797018963969", Kind::I64),
+    ("-36028797018963967", Kind::Packed),
+    ("-36028797018963968", Kind::Packed),
+    ("-36028797018963969", Kind::I64),
+    ("9223372036854775807", Kind::I64),
+    ("9223372036854775808", Kind::U64),
+    ("9223372036854775809", Kind::U64),
+    ("-9223372036854775807", Kind::I64),
+    ("-9223372036854775808", Kind::I64),
+    ("-9223372036854775809", Kind::Digits),
+    ("18446744073709551615", Kind::U64),
+    ("18446744073709551616", Kind::Digits),
+    ("18446744073709551617", Kind::Digits),
+    ("-18446744073709551615", Kind::Digits),
+    ("36028797018963967.0", Kind::Packed),
+    ("36028797018963968.0", Kind::Digits),
+    ("36028797018963969.0", Kind::Digits),
+    ("-36028797018963967.0", Kind::Packed),
+    ("-36028797018963968.0", Kind::Packed),
+    ("-36028797018963969.0", Kind::Digits),
+    ("9223372036854775807.0", Kind::Digits),
+    ("-9223372036854775808.0", Kind::Digits),
+    ("18446744073709551615.0", Kind::Digits),
+    ("360287970189639670.0", Kind::Packed),
+    ("360287970189639680.0", Kind::Digits),
+    ("-360287970189639680.0", Kind::Packed),
+    ("-360287970189639690.0", Kind::Digits),
+    ("3602879701896396.7", Kind::Packed),
+    ("3602879701896396.8", Kind::Digits),
+    ("3602879701896396.9", Kind::Digits),
+    ("-3602879701896396.7", Kind::Packed),
+    ("-3602879701896396.8", Kind::Packed),
+    ("-3602879701896396.9", Kind::Digits),
+    ("1e22", Kind::Packed),
+    ("1e23", Kind::Packed),
+    ("1e24", Kind::Digits),
+    ("-3e23", Kind::Packed),
+    ("-4e23", Kind::Digits),
+    ("0.000001", Kind::Packed),
+    ("0.0000001", Kind::Packed),
+    ("0.00000001", Kind::Digits),
+    ("-0.00000001", Kind::Digits),
+];
+
+#[test]
+fn form_boundaries(rt: HostRuntime) -> Result<(), Fail> {
+    for (text, want) in BOUNDARIES {
+        let number = INumber::from_str(rt.alloc(), text)?;
+        assert!(rt; kind(number.form()) == want, "{text}");
+    }
+    Ok(())
+}
+
+/// Two texts, their order, and how many digits may be read for it.
+const COMPARED: [(&str, &str, Ordering, u128); 4] = [
+    ("1e1073741824", "7", Ordering::Greater, 0),
+    (
+        "18446744073709551616",
+        "18446744073709551616.5",
+        Ordering::Less,
+        40,
+    ),
+    ("-2.5", "0", Ordering::Less, 0),
+    ("100.0", "1e2", Ordering::Equal, 2),
+];
+
+#[test]
+fn looks_of_compare(rt: HostRuntime) -> Result<(), Fail> {
+    let alloc = rt.alloc();
+    for (a, b, want, most) in COMPARED {
+        let (a, b) = (INumber::from_str(alloc, a)?, INumber::from_str(alloc, b)?);
+        let mut looks = Looks::new();
+        assert!(rt; compare(&a, &b, &mut looks) == want);
+        assert!(rt; looks.count() <= most);
+    }
+    Ok(())
+}
+
 #[test]
 fn digit_forms(rt: HostRuntime) -> Result<(), Fail> {
     let alloc = rt.alloc();
@@ -430,11 +533,25 @@ fn digit_forms(rt: HostRuntime) -> Result<(), Fail> {
     Ok(())
 }
 
+const WORDS_OF_I64: [u64; 21] = [
+    2, 1, 2147483648, 17, 3, 6, 0, 2, 8, 7, 9, 7, 0, 1, 8, 9, 6, 3, 9, 6, 8,
+];
+
+const WORDS_OF_DIGITS: [u64; 24] = [
+    2, 1, 2147483648, 20, 1, 8, 4, 4, 6, 7, 4, 4, 0, 7, 3, 7, 0, 9, 5, 5, 1, 6, 1, 6,
+];
+
 /// Texts, and the words that each feeds a hasher.
-const FED: [(&str, &[u64]); 5] = [
+const FED: [(&str, &[u64]); 11] = [
     ("2", &[2, 1, 2147483648, 1, 2]),
     ("2.0", &[2, 1, 2147483648, 1, 2]),
     ("100", &[2, 1, 2147483650, 1, 1]),
+    ("100.0", &[2, 1, 2147483650, 1, 1]),
+    ("1e2", &[2, 1, 2147483650, 1, 1]),
+    ("36028797018963968", &WORDS_OF_I64),
+    ("36028797018963968.0", &WORDS_OF_I64),
+    ("18446744073709551616", &WORDS_OF_DIGITS),
+    ("18446744073709551616.0", &WORDS_OF_DIGITS),
     ("-0.5", &[2, 2, 2147483647, 1, 5]),
     ("-0.0", &[2, 0]),
 ];

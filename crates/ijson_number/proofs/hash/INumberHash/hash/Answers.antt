@@ -1,10 +1,9 @@
-use Rattle.std.proofs.Common.{◌≡◌, ◌<◌, ap, length, arith, rules}
+use Rattle.std.proofs.Common.{◌≡◌, ◌<◌, length, arith, rules}
 use Rattle.std.specs.Prelude.{FitsSigned}
 use Rattle.std.proofs.lemmas.Grind.{common_steps, flat_map-append, fold-append}
 use Rattle.std.proofs.lemmas.List.{take_all}
 use Rattle.std.proofs.lemmas.Int.{to_z-of_z}
 use mir.Syntax.{w32}
-use Rattle.ijson_number.specs.Num.{Num}
 use Rattle.ijson_number.proofs.StoredWords.{zero_words, stored_words}
 use Rattle.ijson_number.proofs.hash.INumberHash.hash.Goals as goal
 
@@ -13,18 +12,15 @@ loop-digit-preserved g c = grind (arith, common_steps, flat_map-append, fold-app
 
 pub returns-then-is_empty : goal.returns-then-is_empty
 returns-then-is_empty g c =
-    let n = c.self.inside in
-    let none : length c.as_slice-digits.result.now ≡ 0 = grind arith in
-    let view = ap (λ (n : Num). n.decimal) c.self.view_is in
-    rw (zero_words n.negative n.digits n.exponent n.point c.args.self.now.decimal view (rw c.as_slice-digits.ensures.value at none)) (grind (arith, common_steps))
+    let n = c.stripped-number.result in
+    let none : length n.digits.now ≡ 0 = grind arith in
+    rw (zero_words n.negative n.digits.now n.exponent n.point c.args.self.now.decimal c.stripped-number.ensures none) (grind (arith, common_steps))
 
 pub returns : goal.returns
 returns g c =
-    let n = c.self.inside in
-    let some : 0 < length c.as_slice-digits.result.now = grind arith in
-    let view = ap (λ (n : Num). n.decimal) c.self.view_is in
-    let digits = c.as_slice-digits.ensures.value in
-    let all = take_all c.loop-digit.digit-index c.as_slice-digits.result.now c.loop-digit-test.false in
+    let n = c.stripped-number.result in
+    let some : 0 < length n.digits.now = grind arith in
+    let all = take_all c.loop-digit.digit-index n.digits.now c.loop-digit-test.false in
     let fits : FitsSigned w32 n.exponent = search rules in
     let exponent = rw (to_z-of_z w32 n.exponent fits) at c.exponent_word.ensures in
-    rw (stored_words n.negative n.digits n.exponent n.point c.args.self.now.decimal view c.self.invariant (rw digits at some), ← digits) (cc)
+    rw (stored_words n.negative n.digits.now n.exponent n.point c.args.self.now.decimal c.stripped-number.ensures n.stripped some) (cc)

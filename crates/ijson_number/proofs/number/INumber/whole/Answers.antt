@@ -1,21 +1,11 @@
-use Rattle.std.proofs.Common.{ap, rules}
-use Rattle.std.specs.Prelude.{pos, ◌<ℤ◌, FitsSigned}
-use Rattle.std.proofs.lemmas.Int.{to_z-of_z}
-use mir.Syntax.{w32}
-use Rattle.ijson_number.specs.Num.{Num}
-use Rattle.ijson_number.proofs.Outcomes.{test_below}
-use Rattle.ijson_number.proofs.WholeValues.{fraction_cmp, large_value}
+use Rattle.std.proofs.Common.{subst}
+use Rattle.std.specs.Prelude.{ℤ, ◌<◌, ◌^◌, nat_abs, IfSome, IfNone}
+use Rattle.ijson_number.specs.Decimal.{Decimal}
+use Rattle.ijson_number.specs.Integers.{HasValue}
 use Rattle.ijson_number.proofs.number.INumber.whole.Goals as goal
 
-pub returns-then-self-lt0-clause-none : goal.returns-then-self-lt0-clause-none
-returns-then-self-lt0-clause-none c = λ z small v.
-    let n = c.self.inside in
-    let fits : FitsSigned w32 n.exponent = search rules in
-    let below : n.exponent <ℤ pos 0 = test_below n.exponent (pos 0) (rw (to_z-of_z w32 n.exponent fits) at c.if-self-lt0.true) in
-    fraction_cmp c.args.self.now.decimal z c.args.self.now.is_num.plain (rw (ap (λ (n : Num). n.decimal.exponent) c.self.view_is) at below) v
+pub returns-clause-some : goal.returns-clause-some
+returns-clause-some c = subst (λ (n : Decimal). IfSome c.whole.result (λ z. HasValue n z)) c.stripped.ensures c.whole.ensures.some
 
 pub returns-clause-none : goal.returns-clause-none
-returns-clause-none c =
-    let n = c.self.inside in
-    let fits : FitsSigned w32 n.exponent = search rules in
-    large_value c.args.self.now.decimal c.mantissa_with.result c.args.self.now.is_num.plain (rw (to_z-of_z w32 n.exponent fits, ap (λ (n : Num). n.decimal.exponent) c.self.view_is) at c.mantissa_with.ensures.none)
+returns-clause-none c = subst (λ (n : Decimal). IfNone c.whole.result ((z : ℤ) → nat_abs z < 10 ^ 20 → HasValue n z → ⊥)) c.stripped.ensures c.whole.ensures.none

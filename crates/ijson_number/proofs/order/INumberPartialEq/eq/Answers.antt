@@ -1,31 +1,26 @@
-use Rattle.std.proofs.Common.{ap, rules}
+use Rattle.std.proofs.Common.{◌≡◌, ◌∙◌, ap, sym, rules}
 use Rattle.std.specs.Prelude.{FitsSigned}
+use Rattle.std.proofs.lemmas.Int.{to_z-of_z}
 use mir.Syntax.{w32}
-use Rattle.ijson_number.specs.Num.{Num}
-use Rattle.ijson_number.proofs.SameParts.{digits_tell, signs_tell, exponents_tell}
+use mir.Val.{to_z, of_z}
+use Rattle.ijson_number.proofs.SameParts.{same_signs, other_signs, digits_tell, signs_tell, exponents_tell}
 use Rattle.ijson_number.proofs.order.INumberPartialEq.eq.Goals as goal
-use Rattle.ijson_number.proofs.order.INumberPartialEq.eq.Goals.{then-self-other, else-self-other}
+use Rattle.ijson_number.proofs.order.INumberPartialEq.eq.Goals.{then-a-b-via-then-a-b, then-a-b-via-else-a-b+then-a-b-2}
 
-pub returns-then-self-other-2 : goal.returns-then-self-other-2
-returns-then-self-other-2 c =
-    let a = c.self.inside in
-    let b = c.other.inside in
-    let f : FitsSigned w32 a.exponent = search rules in
-    let g : FitsSigned w32 b.exponent = search rules in
-    let view = ap (λ (x : Num). x.decimal) c.self.view_is in
-    let view' = ap (λ (x : Num). x.decimal) c.other.view_is in
-    elim c.if-self-other.branch [
-      | then-self-other w ↦ digits_tell a.negative b.negative a.digits b.digits a.exponent b.exponent a.point b.point c.args.self.now.decimal c.args.other.now.decimal view view' a.num b.num c.self.invariant c.other.invariant c.eq.result w.if-self-other.true f g (cc) (rw (← c.as_slice.ensures.value, ← c.as_slice-then-self-other-2.ensures.value) c.eq.ensures)
-      | else-self-other w ↦ absurd (cc)
+pub returns-then-a-b : goal.returns-then-a-b
+returns-then-a-b c =
+    let x = c.stripped-a.result in
+    let y = c.stripped-b.result in
+    elim c.then-a-b.branch [
+      | then-a-b-via-then-a-b w ↦ signs_tell x.negative y.negative x.digits.now y.digits.now x.exponent y.exponent x.point y.point c.args.self.now.decimal c.args.other.now.decimal c.stripped-a.ensures c.stripped-b.ensures x.num y.num x.stripped y.stripped (other_signs x.negative y.negative w.if-a-b.true)
+      | then-a-b-via-else-a-b+then-a-b-2 w ↦ exponents_tell x.negative y.negative x.digits.now y.digits.now x.exponent y.exponent x.point y.point c.args.self.now.decimal c.args.other.now.decimal c.stripped-a.ensures c.stripped-b.ensures x.num y.num x.stripped y.stripped (λ e. w.if-a-b-2.true (ap (of_z w32) e))
     ]
 
-pub returns-else-self-other-2 : goal.returns-else-self-other-2
-returns-else-self-other-2 c =
-    let a = c.self.inside in
-    let b = c.other.inside in
-    let view = ap (λ (x : Num). x.decimal) c.self.view_is in
-    let view' = ap (λ (x : Num). x.decimal) c.other.view_is in
-    elim c.if-self-other.branch [
-      | then-self-other w ↦ exponents_tell a.negative b.negative a.digits b.digits a.exponent b.exponent a.point b.point c.args.self.now.decimal c.args.other.now.decimal view view' a.num b.num c.self.invariant c.other.invariant c.if-self-other.value w.value-is c.if-self-other-2.false
-      | else-self-other w ↦ signs_tell a.negative b.negative a.digits b.digits a.exponent b.exponent a.point b.point c.args.self.now.decimal c.args.other.now.decimal view view' a.num b.num c.self.invariant c.other.invariant c.if-self-other.value w.if-self-other.false c.if-self-other-2.false
-    ]
+pub returns : goal.returns
+returns c =
+    let x = c.stripped-a.result in
+    let y = c.stripped-b.result in
+    let f : FitsSigned w32 x.exponent = search rules in
+    let g : FitsSigned w32 y.exponent = search rules in
+    let same : x.exponent ≡ y.exponent = sym (to_z-of_z w32 x.exponent f) ∙ ap (to_z w32) c.if-a-b-2.false ∙ to_z-of_z w32 y.exponent g in
+    digits_tell x.negative y.negative x.digits.now y.digits.now x.exponent y.exponent x.point y.point c.args.self.now.decimal c.args.other.now.decimal c.stripped-a.ensures c.stripped-b.ensures x.num y.num x.stripped y.stripped c.eq.result (same_signs x.negative y.negative c.if-a-b.false) same c.eq.ensures

@@ -1,0 +1,21 @@
+-- What is stored of a number.
+use Rattle.std.specs.Prelude.{◌≡◌}
+use Rattle.ijson_number.specs.Decimal.{Decimal}
+use Rattle.ijson_number.specs.Form.{FormOf, packed, signed_word, unsigned_word, digits, form_of}
+use Rattle.ijson_number.specs.private.FormNumber.{form_number}
+use Rattle.ijson_number.specs.private.Word.{word_exponent, word_mantissa, word_point}
+use Rattle.ijson_number.specs.declared.stored.Stored.{Stored}
+use Rattle.ijson_number.specs.declared.stored.Stored.TheVariants.{Packed, I64, U64, Digits}
+
+abbrev pub stored_form : Stored → FormOf
+stored_form (Packed word) = packed (word_mantissa word.bits) (word_exponent word.bits) (word_point word.bits)
+stored_form (I64 value) = signed_word value
+stored_form (U64 value) = unsigned_word value
+stored_form (Digits number) = digits number.value.negative number.value.digits number.value.exponent number.value.point
+
+abbrev pub stored_decimal : Stored → Decimal
+stored_decimal stored = form_number (stored_form stored)
+
+-- what is stored is the form of the number
+abbrev pub IsForm : Stored → Type 0
+IsForm stored = form_of (stored_decimal stored) ≡ stored_form stored

@@ -1,0 +1,53 @@
+//! What is stored of a number.
+ghost use Rattle.std.specs.Prelude.{◌≡◌, IfOk};
+ghost use Rattle.ijson_number.specs.private.StoredNumber.{IsStored};
+ghost use Rattle.std.proofs.Props.{props};
+
+use crate::digits::Digits;
+use crate::reading::Scanned;
+use crate::word::Word;
+use std::alloc::{AllocError, Global};
+
+/// A number whose stripped digits are stored.
+#[derive(Drop)]
+pub struct LongNumber {
+    pub negative: bool,
+    pub point: bool,
+    pub exponent: i32,
+    pub digits: Digits,
+    ghost stripped: { IsStored negative digits } by { Prim.hlevel props },
+}
+
+/// The stored form of a number; the words lie beside the tag.
+#[derive(Drop)]
+pub enum Stored {
+    Packed(Word),
+    I64(i64),
+    U64(u64),
+    Digits(Box<LongNumber>),
+}
+
+impl LongNumber {
+    ghost use Rattle.ijson_number.specs.private.Scanned.{IsScanned, scanned_digits};
+
+    /// The number of a text.
+    pub fn from_scanned(alloc: Global, scanned: &Scanned<'_>) -> Result<Box<LongNumber>, AllocError>
+        requires { IsScanned scanned.now }
+        ensures negative { IfOk result (λ n. n.value.negative ≡ scanned.now.negative) }
+        ensures digits { IfOk result (λ n. n.value.digits ≡ scanned_digits scanned.now) }
+        ensures exponent { IfOk result (λ n. n.value.exponent ≡ scanned.now.exponent) }
+        ensures point { IfOk result (λ n. n.value.point ≡ scanned.now.point) }
+    {
+        let digits = Digits::from_text(alloc, scanned.front, scanned.back)?;
+        let number = Box::new(
+            alloc,
+            LongNumber {
+                negative: scanned.negative,
+                point: scanned.point,
+                exponent: scanned.exponent,
+                digits,
+            },
+        )?;
+        Ok(number)
+    }
+}

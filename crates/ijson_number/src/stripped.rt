@@ -1,0 +1,161 @@
+//! A number by its stripped digits.
+ghost use Rattle.std.specs.Prelude.{◌≡◌, ◌%◌, ◌+◌, ◌^◌, ◌<◌, pos, ◌*ℤ◌, nat_abs, IfSome, IfNone};
+ghost use Rattle.std.specs.Int.Digits.{digits_of};
+ghost use Rattle.ijson_number.specs.private.FormNumber.{stripped_number};
+ghost use Rattle.ijson_number.specs.private.StoredNumber.{IsStored, stored_number};
+ghost use Rattle.ijson_number.specs.Num.{IsNum};
+ghost use Rattle.ijson_number.specs.laws.Codes.{IsNum-prop};
+ghost use Rattle.ijson_number.specs.Strips.{signed};
+ghost use Rattle.std.proofs.Props.{props};
+
+use crate::integers::{scaled, without_tens};
+use crate::number::INumber;
+use crate::stored::{LongNumber, Stored};
+
+/// How many digits there is room for: a word has no more.
+pub const ROOM: usize = 20;
+
+/// The sign, the stripped digits, the power of ten and the shape of a number. The digits lie where the number is
+/// stored, or in room that was lent for them.
+#[derive(Clone, Copy)]
+pub struct StrippedNumber<'a> {
+    pub negative: bool,
+    pub digits: &'a [u8],
+    pub exponent: i32,
+    pub point: bool,
+    ghost num: { IsNum (stored_number negative digits.now exponent point) } by { IsNum-prop (stored_number negative digits.now exponent point) },
+    ghost stripped: { IsStored negative digits.now } by { Prim.hlevel props },
+}
+
+/// Writes the digits of a number to the end of the room.
+fn written(number: u64, room: &mut [u8; ROOM]) -> &[u8]
+    ensures { result.now ≡ digits_of 10 number }
+{
+    let mut start = ROOM;
+    let mut rest = number;
+    while rest > 0 {
+        start -= 1;
+        room[start] = (rest % 10) as u8;
+        rest /= 10;
+    }
+    &room[start..]
+}
+
+impl<'a> StrippedNumber<'a> {
+    ghost use Rattle.ijson_number.specs.private.StrippedNumber.{decimal_of};
+
+    /// A mantissa times a power of ten.
+    fn from_size(
+        negative: bool,
+        size: u64,
+        exponent: i8,
+        point: bool,
+        room: &'a mut [u8; ROOM],
+    ) -> StrippedNumber<'a>
+        requires { IsNum (stripped_number (signed negative size) exponent point) }
+        ensures { decimal_of result ≡ stripped_number (signed negative size) exponent point }
+    {
+        if size == 0 {
+            return StrippedNumber {
+                negative: false,
+                digits: &[],
+                exponent: 0,
+                point,
+            };
+        }
+        let (stripped, tens) = without_tens(size);
+        StrippedNumber {
+            negative,
+            digits: written(stripped, room),
+            exponent: i32::from(exponent) + tens as i32,
+            point,
+        }
+    }
+
+    /// A mantissa with its sign times a power of ten.
+    fn from_signed(
+        mantissa: i64,
+        exponent: i8,
+        point: bool,
+        room: &'a mut [u8; ROOM],
+    ) -> StrippedNumber<'a>
+        requires { IsNum (stripped_number mantissa exponent point) }
+        ensures { decimal_of result ≡ stripped_number mantissa exponent point }
+    {
+        let size = mantissa.unsigned_abs();
+        StrippedNumber::from_size(mantissa < 0, size, exponent, point, room)
+    }
+}
+
+impl StrippedNumber<'_> {
+    ghost use Rattle.ijson_number.specs.Integers.{HasValue};
+    ghost use Rattle.ijson_number.specs.private.StrippedNumber.{decimal_of};
+    ghost use Rattle.std.specs.Prelude.{ℤ, ◌≤◌};
+
+    /// The mantissa with so many zeros behind it, where that is nearer to zero than 10^20.
+    pub fn mantissa_with(&self, zeros: usize) -> Option<i128>
+        ensures some { IfSome result (λ m. m ≡ (decimal_of self.now).mantissa *ℤ pos (10 ^ zeros)) }
+        ensures small { IfSome result (λ m. nat_abs m < 10 ^ 20) }
+        ensures none { IfNone result
+            (10 ^ 20 ≤ nat_abs ((decimal_of self.now).mantissa *ℤ pos (10 ^ zeros))) }
+    {
+        if self.digits.is_empty() {
+            return Some(0);
+        }
+        if zeros as u128 + self.digits.len() as u128 > 20 {
+            return None;
+        }
+        let size = scaled(self.digits, zeros) as i128;
+        Some(if self.negative { -size } else { size })
+    }
+
+    /// The value where it is whole and nearer to zero than 10^20.
+    pub fn whole(&self) -> Option<i128>
+        ensures some { IfSome result (λ z. HasValue (decimal_of self.now) z) }
+        ensures small { IfSome result (λ z. nat_abs z < 10 ^ 20) }
+        ensures none { IfNone result
+            ((z : ℤ) → nat_abs z < 10 ^ 20 → HasValue (decimal_of self.now) z → ⊥) }
+    {
+        if self.exponent < 0 {
+            return None;
+        }
+        self.mantissa_with(self.exponent as usize)
+    }
+}
+
+impl INumber {
+    ghost use Rattle.ijson_number.specs.private.StrippedNumber.{decimal_of};
+
+    /// The number by its stripped digits, which go into the room where they are not stored.
+    pub(crate) fn stripped<'a>(&'a self, room: &'a mut [u8; ROOM]) -> StrippedNumber<'a>
+        ensures { decimal_of result ≡ self.now.decimal }
+    {
+        match &self.stored {
+            Stored::Packed(word) => {
+                StrippedNumber::from_signed(word.mantissa(), word.exponent(), word.point(), room)
+            }
+            Stored::I64(value) => StrippedNumber::from_signed(*value, 0, false, room),
+            Stored::U64(value) => StrippedNumber::from_size(false, *value, 0, false, room),
+            Stored::Digits(number) => number.stripped(),
+        }
+    }
+}
+
+impl LongNumber {
+    ghost use Rattle.ijson_number.specs.private.StrippedNumber.{decimal_of};
+
+    /// The number by its stripped digits.
+    fn stripped(&self) -> StrippedNumber<'_>
+        requires { IsNum
+            (stored_number self.now.negative self.now.digits self.now.exponent self.now.point) }
+        ensures { decimal_of result
+            ≡ stored_number self.now.negative self.now.digits self.now.exponent self.now.point }
+    {
+        StrippedNumber {
+            negative: self.negative,
+            digits: self.digits.as_slice(),
+            exponent: self.exponent,
+            point: self.point,
+        }
+    }
+}

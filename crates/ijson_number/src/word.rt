@@ -1,0 +1,131 @@
+//! A packed number in one word.
+ghost use Rattle.std.specs.Prelude.{◌≡◌, ◌%◌, ◌<◌, ◌≤ℤ◌, true, false, pos, negsuc, IsTrue};
+ghost use Rattle.ijson_number.specs.Form.{fits_packed};
+ghost use Rattle.ijson_number.specs.private.Word.{word_code, word_exponent, word_mantissa, word_point};
+
+/// Bits 8 to 63 are the mantissa in two's complement, bits 4 to 7 the exponent plus 7, or 15 for a number without the
+/// point, and bits 0 to 3 the value 8.
+#[derive(Clone, Copy)]
+pub struct Word {
+    bits: u64,
+}
+
+/// The bits 4 to 7 of a number without the point.
+const NO_POINT: u64 = 15;
+
+impl Word {
+    fn from_code(mantissa: i64, code: u64) -> Word
+        requires mantissa { IsTrue (fits_packed mantissa) }
+        requires code { code < 16 }
+        ensures mantissa { word_mantissa result.bits ≡ mantissa }
+        ensures code { word_code result.bits ≡ code }
+        ensures tag { result.bits % 16 ≡ 8 }
+    {
+        let above = if mantissa < 0 {
+            (mantissa + (1 << 56)) as u64
+        } else {
+            mantissa as u64
+        };
+        Word {
+            bits: above * 256 + code * 16 + 8,
+        }
+    }
+
+    /// An integer without the point.
+    pub fn integer(mantissa: i64) -> Word
+        requires { IsTrue (fits_packed mantissa) }
+        ensures mantissa { word_mantissa result.bits ≡ mantissa }
+        ensures exponent { word_exponent result.bits ≡ pos 0 }
+        ensures point { word_point result.bits ≡ false }
+        ensures tag { result.bits % 16 ≡ 8 }
+    {
+        Word::from_code(mantissa, NO_POINT)
+    }
+
+    /// A number with the point.
+    pub fn pointed(mantissa: i64, exponent: i8) -> Word
+        requires mantissa { IsTrue (fits_packed mantissa) }
+        requires low { negsuc 6 ≤ℤ exponent }
+        requires high { exponent ≤ℤ pos 7 }
+        ensures mantissa { word_mantissa result.bits ≡ mantissa }
+        ensures exponent { word_exponent result.bits ≡ exponent }
+        ensures point { word_point result.bits ≡ true }
+        ensures tag { result.bits % 16 ≡ 8 }
+    {
+        Word::from_code(mantissa, (exponent + 7) as u64)
+    }
+
+    /// The mantissa.
+    pub fn mantissa(self) -> i64
+        ensures value { result ≡ word_mantissa self.bits }
+    {
+        let above = self.bits / 256;
+        if above < 1 << 55 {
+            above as i64
+        } else {
+            above as i64 - (1 << 56)
+        }
+    }
+
+    /// Bits 4 to 7.
+    fn code(self) -> u64
+        ensures value { result ≡ word_code self.bits }
+        ensures small { result < 16 }
+    {
+        self.bits / 16 % 16
+    }
+
+    /// The exponent.
+    pub fn exponent(self) -> i8
+        ensures { result ≡ word_exponent self.bits }
+    {
+        let code = self.code();
+        if code == NO_POINT { 0 } else { code as i8 - 7 }
+    }
+
+    /// Whether the number has the point.
+    pub fn point(self) -> bool
+        ensures { result ≡ word_point self.bits }
+    {
+        self.code() != NO_POINT
+    }
+}
+
+#[cfg(test)]
+mod tests {
+    use crate::number::INumber;
+    use crate::stored::Stored;
+    use std::test::Fail;
+
+    /// Texts, and the word that each is kept in.
+    const WORDS: [(&str, u64); 15] = [
+        ("0", 0x00000000000000f8),
+        ("1", 0x00000000000001f8),
+        ("-1", 0xfffffffffffffff8),
+        ("0.0", 0x0000000000000078),
+        ("2.0", 0x0000000000000278),
+        ("0.5", 0x0000000000000568),
+        ("100.0", 0x0000000000006478),
+        ("63.5", 0x0000000000027b68),
+        ("36028797018963967", 0x7ffffffffffffff8),
+        ("-36028797018963968", 0x80000000000000f8),
+        ("1e20", 0x2386f26fc10000b8),
+        ("1e23", 0x2386f26fc10000e8),
+        ("-36028797018963968.0", 0x8000000000000078),
+        ("0.0000001", 0x0000000000000108),
+        ("360287970189639670.0", 0x7fffffffffffff88),
+    ];
+
+    #[test]
+    fn words(rt: HostRuntime) -> Result<(), Fail> {
+        for (text, want) in WORDS {
+            let number = INumber::from_str(rt.alloc(), text)?;
+            let is_kept = match &number.stored {
+                Stored::Packed(word) => word.bits == want,
+                _ => false,
+            };
+            assert!(rt; is_kept, "{text}");
+        }
+        Ok(())
+    }
+}
