@@ -13,6 +13,7 @@ use crate::same::same_value;
 use ijson_number::INumber;
 use ijson_string::IString;
 use std::marker::Model;
+use std::mem::size_of;
 
 /// A JSON value.
 #[cycle(value)]
@@ -20,6 +21,8 @@ use std::marker::Model;
 pub struct IValue {
     pub(crate) node: Node,
 }
+
+const _: () = prove!(size_of::<IValue>() == 24);
 
 /// What a value is made of, by its kind.
 #[cycle(value)]

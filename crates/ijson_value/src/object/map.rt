@@ -1,7 +1,7 @@
 //! `IObject`: what is looked up, and what is put.
 ghost use Rattle.std.specs.Prelude.{◌≡◌, ◌==◌, ◌≤◌, [], length, OnOk, IfOk, IfErr, IsSome, IsTrue, ◌↔◌};
 ghost use Rattle.std.specs.Option.{option_copied};
-ghost use Rattle.ijson_table.specs.Growth.{Grow};
+ghost use Rattle.ijson_table.specs.Growth.{Grow, capacity_limit};
 ghost use Rattle.ijson_table.specs.Store.{lookup, put};
 ghost use Rattle.ijson_value.specs.GrowthOf.{growth_of};
 ghost use Rattle.ijson_value.specs.Same.{Same};
@@ -52,7 +52,7 @@ impl Model for IObject {
 
 /// A pair that an object did not take, and why it did not grow.
 #[derive(Debug, Drop, Error)]
-#[error("the object did not grow for one more pair: {why:?}")]
+#[error("the object did not grow for one more pair: {why}")]
 pub struct RefusedPair {
     pub key: IString,
     pub value: IValue,
@@ -86,6 +86,7 @@ impl IObject {
     pub fn capacity(&self) -> usize
         ensures capacity { result ≡ self.now.capacity }
         ensures room { length self.now.pairs ≤ self.now.capacity }
+        ensures limited { self.now.capacity ≤ capacity_limit }
     {
         match &self.table {
             None => 0,
