@@ -1,6 +1,6 @@
 //! The places of a table: a list of its own, which knows of the keys no more than their hashes.
 
-ghost use Rattle.std.specs.Prelude.{◌≡◌, ℕ, ◌+◌, ◌<◌, ◌≤◌, ◌^◌, [], ◌∷◌, ◌++◌, length, None, IfOk, OnErr};
+ghost use Rattle.std.specs.Prelude.{◌≡◌, ◌<◌, ◌≤◌, [], ◌∷◌, ◌++◌, length, None, IfOk, OnErr};
 ghost use Rattle.std.specs.List.{All, swap_remove};
 ghost use Rattle.ijson_table.specs.Places.{resident, IsTable};
 ghost use Rattle.ijson_table.specs.private.Holds.{MayStand};

@@ -144,8 +144,8 @@ impl<V, H: KeyHash> Table<V, H> {
         requires hash { hash ≡ H.hash_of key.now }
         requires fits { looks.old + capacity_limit + 1 < 2 ^ 128 }
         ensures table { IsTable (map H.hash_of (keys_of self.now.store.pairs)) self.now.places }
-        ensures ends { LookUpEnds (map H.hash_of (keys_of self.now.store.pairs)) (keys_of self.now.store.pairs) self.now.places
-            (H.hash_of key.now) key.now result }
+        ensures ends { LookUpEnds (map H.hash_of (keys_of self.now.store.pairs))
+            (keys_of self.now.store.pairs) self.now.places (H.hash_of key.now) key.now result }
         ensures grows { looks.old ≤ looks.new }
         ensures bounded { IsBounded H.hash_of (keys_of self.now.store.pairs) self.now.places
             self.now.store.capacity key.now (looks.new - looks.old) }
