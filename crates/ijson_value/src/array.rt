@@ -6,6 +6,8 @@ ghost use Rattle.ijson_value.specs.Values.{array_tree, array_value};
 ghost use Rattle.ijson_value.specs.laws.Equality.{partial_equivalence, equivalence};
 
 mod edits;
+mod extend;
+mod index;
 mod iter;
 
 use crate::same::same_items;
