@@ -1,5 +1,5 @@
--- What an array is once what it lent is given back: the item that was lent is what was left there, or all of them are, and
--- the room stays. This project's own.
+-- What an array is once the item that it lent is given back: what was left there stands in the item's place, the other
+-- items and the room are as they were. This project's own.
 use Rattle.std.specs.Prelude.{ℕ, set}
 use Rattle.std.specs.Borrow.{Lends, MutBor, Fml}
 use Rattle.ijson_value.specs.WellFormed.{WellFormed}

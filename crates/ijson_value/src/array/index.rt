@@ -28,3 +28,15 @@ impl IndexMut<usize> for IArray {
         &mut self.list.as_mut().unwrap()[index]
     }
 }
+
+impl IArray {
+    /// The items, front to back, to be written.
+    pub fn as_mut_slice(&mut self) -> &mut [IValue]
+        ensures { result.now ≡ self.old.items }
+    {
+        match &mut self.list {
+            None => &mut [],
+            Some(list) => list.as_mut_slice(),
+        }
+    }
+}
