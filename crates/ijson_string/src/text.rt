@@ -18,6 +18,7 @@ use std::cmp::Ordering;
 use std::fmt;
 use std::hash::{BuildHasher, Hash, Hasher};
 use std::marker::Model;
+use std::mem::size_of;
 use std::rc::{Rc, RcStr};
 
 /// A text in UTF-8. One of at most 7 bytes lies in the value itself, and a longer one is shared with its clones and with
@@ -38,6 +39,8 @@ enum Stored {
     UpTo71(Rc<Block<71>>),
     Long(RcStr),
 }
+
+const _: () = prove!(size_of::<IString>() == 16);
 
 impl Model for IString {
     ghost use Rattle.std.specs.Prelude.{List, ℕ};

@@ -27,7 +27,7 @@ some_has-lacking : (k : List ℕ) (passes : Tree → Bool) (ps : List (List ℕ 
 some_has-lacking k passes [] h = refl
 some_has-lacking k passes (p ∷ ps) h =
     ap (λ b. (b && passes (tree_of p.1)) || some_has k passes (pair_trees ps)) (other_bytes k p.0 h.0)
-        ∙ some_has-lacking k passes ps h.1
+    ∙ some_has-lacking k passes ps h.1
 
 -- no pair passes under a key that is not looked up
 some_has-None : (k : List ℕ) (passes : Tree → Bool) (ps : List (List ℕ × WellFormed))
@@ -35,7 +35,7 @@ some_has-None : (k : List ℕ) (passes : Tree → Bool) (ps : List (List ℕ × 
 some_has-None k passes [] h = refl
 some_has-None k passes (p ∷ ps) h =
     elim (bytes_eq k p.0) as (λ b. None ≡ cond b (Some p.1) (lookup k ps)
-        → (b && passes (tree_of p.1)) || some_has k passes (pair_trees ps) ≡ false) [
+    → (b && passes (tree_of p.1)) || some_has k passes (pair_trees ps) ≡ false) [
       | true ↦ λ e. cc
       | false ↦ λ e. some_has-None k passes ps e
     ] h
@@ -50,13 +50,13 @@ some_has-Some : (k : List ℕ) (passes : Tree → Bool) (ps : List (List ℕ × 
 some_has-Some k passes [] u d h = cc
 some_has-Some k passes (p ∷ ps) u d h =
     elim (bytes_eq k p.0) as (λ b. bytes_eq k p.0 ≡ b → Some u ≡ cond b (Some p.1) (lookup k ps)
-        → (b && passes (tree_of p.1)) || some_has k passes (pair_trees ps) ≡ passes (tree_of u)) [
+    → (b && passes (tree_of p.1)) || some_has k passes (pair_trees ps) ≡ passes (tree_of u)) [
       | true ↦ λ e q.
           let k_is : k ≡ p.0 = (bytes_decides k p.0).0 e in
           let u_is : u ≡ p.1 = cc in
           let gone : some_has p.0 passes (pair_trees ps) ≡ false = some_has-lacking p.0 passes ps d.0 in
           ap (λ j. passes (tree_of p.1) || some_has j passes (pair_trees ps)) k_is
-              ∙ ap (λ b. passes (tree_of p.1) || b) gone
+          ∙ ap (λ b. passes (tree_of p.1) || b) gone
           ∙ or-false (passes (tree_of p.1)) ∙ ap (λ v. passes (tree_of v)) (sym u_is)
       | false ↦ λ e q. some_has-Some k passes ps u d.1 q
     ] refl h
@@ -113,8 +113,8 @@ pub objects-other_lengths : (ps qs : List (List ℕ × WellFormed)) → length p
 objects-other_lengths ps qs ne =
     let d = Decides-eqb (members_len (pair_trees ps)) (members_len (pair_trees qs)) in
     elim (members_len (pair_trees ps) == members_len (pair_trees qs))
-        as (λ b. (b ≡ true → members_len (pair_trees ps) ≡ members_len (pair_trees qs))
-        → (b && same_in (pair_trees ps) (pair_trees qs)) ≡ false) [
+    as (λ b. (b ≡ true → members_len (pair_trees ps) ≡ members_len (pair_trees qs))
+    → (b && same_in (pair_trees ps) (pair_trees qs)) ≡ false) [
       | true ↦ λ h. absurd (ne (sym (members_len-pairs ps) ∙ h refl ∙ members_len-pairs qs))
       | false ↦ λ h. refl
     ] d.0

@@ -15,6 +15,7 @@ use crate::value::IValue;
 pub use iter::IntoIter;
 use std::alloc::{AllocError, AllocFailed, Global};
 use std::marker::Model;
+use std::mem::size_of;
 use thiserror::Error;
 
 /// A list of values. Behind one pointer, which is there once the list has taken memory.
@@ -24,6 +25,8 @@ pub struct IArray {
     list: Option<Box<Vec<IValue>>>,
     alloc: Global,
 }
+
+const _: () = prove!(size_of::<IArray>() == 16);
 
 impl Model for IArray {
     ghost use Rattle.ijson_value.specs.Sequence.{Sequence};
@@ -183,7 +186,7 @@ impl PartialEq for IArray {
 
     ghost laws = { partial_equivalence (λ a. array_value a.items) };
 
-    #[tactic(auto, using(crate::specs::laws::Equality::is_same))]
+    #[tactic(auto, using(crate::specs::laws::Equality::is_same_array))]
     fn eq(&self, other: &IArray) -> bool
         ensures { IsTrue result ↔ Same (array_tree self.now.items) (array_tree other.now.items) }
     {

@@ -1,5 +1,5 @@
 //! Values of the six kinds.
-ghost use Rattle.std.specs.Prelude.{◌≡◌, ◌↔◌, IsTrue, true, false};
+ghost use Rattle.std.specs.Prelude.{◌≡◌, ◌↔◌, IsTrue};
 ghost use Rattle.ijson_value.specs.Kind.{kind_of};
 ghost use Rattle.ijson_value.specs.Opened.{ref_value};
 ghost use Rattle.ijson_value.specs.Same.{Same};
@@ -75,6 +75,8 @@ pub enum DestructuredRef<'a> {
     Object(&'a IObject),
 }
 
+// No clause can name a constant whose type has a model. What these are is the contract of what answers them: `default`
+// of `NULL`, and `from` a `bool` of `TRUE` and `FALSE`.
 impl IValue {
     /// The value null.
     pub const NULL: IValue = IValue { node: Node::Null };
@@ -115,6 +117,14 @@ impl IValue {
             Node::Array(a) => DestructuredRef::Array(a),
             Node::Object(o) => DestructuredRef::Object(o),
         }
+    }
+}
+
+impl Default for IValue {
+    ghost is_default = { λ v. v ≡ null_value };
+
+    fn default() -> IValue {
+        IValue::NULL
     }
 }
 

@@ -2,7 +2,6 @@ use crate::string::{IString, StringCache};
 use std::alloc::Global;
 use std::cell::{Cell, RefCell};
 use std::hash::{BuildHasherDefault, FoldHasher, Hash, Hasher};
-use std::mem::size_of;
 use std::test::Fail;
 
 #[test]
@@ -20,6 +19,28 @@ fn long_texts_alone_enter_the_cache(rt: HostRuntime) -> Result<(), Fail> {
     assert!(rt; short == short.clone()?);
     let owned = long.to_owned_string(rt.alloc())?;
     assert_eq!(rt; owned.as_str(), "eight888");
+    Ok(())
+}
+
+#[test]
+fn texts_of_each_length_are_shared_and_print(rt: HostRuntime) -> Result<(), Fail> {
+    let alloc = rt.alloc();
+    let mut text = String::new(alloc);
+    for _ in 0..20 {
+        text.push_str("0123456789")?;
+    }
+    let mut cache = StringCache::new(alloc, BuildHasherDefault::<FoldHasher>::new());
+    assert!(rt; cache.is_empty());
+    for length in [0, 7, 8, 23, 24, 39, 40, 55, 56, 71, 72, 200] {
+        let Some(part) = text.as_str().get(..length) else {
+            continue;
+        };
+        let interned = IString::intern(&mut cache, part)?;
+        assert_eq!(rt; interned.len(), length);
+        assert!(rt; interned.clone()?.eq_str(part));
+        assert_eq!(rt; format!(in alloc; "{interned}")?.as_str(), part);
+    }
+    assert_eq!(rt; cache.len(), 10);
     Ok(())
 }
 
@@ -92,12 +113,6 @@ fn a_text_feeds_its_words(rt: HostRuntime) -> Result<(), Fail> {
         seen.as_slice(),
         [3, 2, 104, 105, 3, 8, 101, 105, 103, 104, 116, 56, 56, 56].as_slice()
     );
-    Ok(())
-}
-
-#[test]
-fn an_istring_is_at_most_two_words(rt: HostRuntime) -> Result<(), Fail> {
-    assert!(rt; size_of::<IString>() <= 16);
     Ok(())
 }
 

@@ -19,5 +19,7 @@ member_keys-pairs [] = refl
 member_keys-pairs (p ∷ ps) = ap (λ l. p.0 ∷ l) (member_keys-pairs ps)
 
 pub IsWellFormed-object : (s : Store WellFormed) → IsWellFormed (object (pair_trees s.pairs))
-IsWellFormed-object s = (subst IsDistinct (sym (member_keys-pairs s.pairs)) s.distinct,
-    HaveWellFormed-pairs s.pairs)
+IsWellFormed-object s = (
+  subst IsDistinct (sym (member_keys-pairs s.pairs)) s.distinct,
+  HaveWellFormed-pairs s.pairs,
+)

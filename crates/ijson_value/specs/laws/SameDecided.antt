@@ -45,7 +45,7 @@ has_decides k p P d no_members = (λ e. absurd (true≢false (sym e)), λ h. abs
 has_decides k p P d (member j v qs) =
     along ((bytes_eq k j && p v) || some_has k p qs)
     (either (bytes_eq k j && p v) (some_has k p qs) (both (bytes_eq k j) (p v) (bytes_decides k j)
-        (d v)) (has_decides k p P d qs))
+    (d v)) (has_decides k p P d qs))
     (λ h. elim h [ inl x ↦ (v, inl (x.0, refl), x.1) | inr y ↦ (y.0, inr y.1, y.2) ])
     (λ h. elim h.1 [ inl e ↦ inl (e.0, subst P e.1 h.2) | inr m ↦ inr (h.0, m, h.2) ])
 

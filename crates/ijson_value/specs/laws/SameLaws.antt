@@ -25,8 +25,10 @@ mutual
 
   in_refl : (ps qs : Members) → ((k : List ℕ) (t : Tree) → Has k t ps → Has k t qs) → SameIn ps qs
   in_refl no_members qs h = tt
-  in_refl (member k t ps) qs h = ((t, h k t (inl (refl, refl)), same_refl t),
-      in_refl ps qs (λ j u m. h j u (inr m)))
+  in_refl (member k t ps) qs h = (
+    (t, h k t (inl (refl, refl)), same_refl t),
+    in_refl ps qs (λ j u m. h j u (inr m)),
+  )
 
 -- what SameIn says of a pair of the first
 partner : (ps qs : Members) (k : List ℕ) (t : Tree) → Has k t ps → SameIn ps qs
@@ -105,20 +107,20 @@ without_len no_members k u h = absurd h
 without_len (member j v qs) k u h = elim (bytes_eq k j)
     as (λ b. bytes_eq k j ≡ b → suc (members_len qs)
     ≡ suc (members_len (cond b qs (member j v (without k qs))))) [
-  | true ↦ λ e. refl
-  | false ↦ λ e. ap suc (elim h [
-    | inl f ↦ absurd (true≢false (sym ((bytes_decides k j).1 f.0) ∙ e))
-    | inr m ↦ without_len qs k u m
-  ])
-] refl
+      | true ↦ λ e. refl
+      | false ↦ λ e. ap suc (elim h [
+        | inl f ↦ absurd (true≢false (sym ((bytes_decides k j).1 f.0) ∙ e))
+        | inr m ↦ without_len qs k u m
+      ])
+    ] refl
 
 without_has : (qs : Members) (k j : List ℕ) (u : Tree) → j ≢ k → Has j u qs → Has j u (without k qs)
 without_has no_members k j u ne h = h
 without_has (member i v qs) k j u ne h = elim (bytes_eq k i)
     as (λ b. bytes_eq k i ≡ b → Has j u (cond b qs (member i v (without k qs)))) [
-  | true ↦ λ e. elim h [ inl f ↦ absurd (ne (f.0 ∙ sym ((bytes_decides k i).0 e))) | inr m ↦ m ]
-  | false ↦ λ e. elim h [ inl f ↦ inl f | inr m ↦ inr (without_has qs k j u ne m) ]
-] refl
+      | true ↦ λ e. elim h [ inl f ↦ absurd (ne (f.0 ∙ sym ((bytes_decides k i).0 e))) | inr m ↦ m ]
+      | false ↦ λ e. elim h [ inl f ↦ inl f | inr m ↦ inr (without_has qs k j u ne m) ]
+    ] refl
 
 pub without_in : (ps qs : Members) (k : List ℕ) → Lacks k (member_keys ps) → SameIn ps qs
     → SameIn ps (without k qs)
@@ -130,26 +132,26 @@ without_lacks : (qs : Members) (k j : List ℕ) → Lacks j (member_keys qs) →
 without_lacks no_members k j l = l
 without_lacks (member i v qs) k j l = elim (bytes_eq k i)
     as (λ b. Lacks j (member_keys (cond b qs (member i v (without k qs))))) [
-  | true ↦ l.1
-  | false ↦ (l.0, without_lacks qs k j l.1)
-]
+      | true ↦ l.1
+      | false ↦ (l.0, without_lacks qs k j l.1)
+    ]
 
 pub without_distinct : (qs : Members) (k : List ℕ) → IsDistinct (member_keys qs)
     → IsDistinct (member_keys (without k qs))
 without_distinct no_members k d = d
 without_distinct (member i v qs) k d = elim (bytes_eq k i)
     as (λ b. IsDistinct (member_keys (cond b qs (member i v (without k qs))))) [
-  | true ↦ d.1
-  | false ↦ (without_lacks qs k i d.0, without_distinct qs k d.1)
-]
+      | true ↦ d.1
+      | false ↦ (without_lacks qs k i d.0, without_distinct qs k d.1)
+    ]
 
 pub without_members : (qs : Members) (k : List ℕ) → HaveWellFormed qs → HaveWellFormed (without k qs)
 without_members no_members k d = d
 without_members (member i v qs) k d = elim (bytes_eq k i)
     as (λ b. HaveWellFormed (cond b qs (member i v (without k qs)))) [
-  | true ↦ d.1
-  | false ↦ (d.0, without_members qs k d.1)
-]
+      | true ↦ d.1
+      | false ↦ (d.0, without_members qs k d.1)
+    ]
 
 pub member_distinct : (qs : Members) → HaveWellFormed qs → (k : List ℕ) (u : Tree) → Has k u qs → IsWellFormed u
 member_distinct no_members d k u h = absurd h
@@ -185,16 +187,19 @@ mutual
   back no_members (member j v qs) dp dq mp mq len s k u h = absurd (omega arith)
   back (member j t ps) qs dp dq mp mq len s k u h = elim (bytes_eq k j)
       as (λ b. bytes_eq k j ≡ b → (w : Tree) × Has k w (member j t ps) × Same u w) [
-    | true ↦ λ e.
-        let k_is : k ≡ j = (bytes_decides k j).0 e in
-        let u_is : u ≡ s.0.0 = one_value qs dq j u s.0.0 (subst (λ i. Has i u qs) k_is h) s.0.1 in
-        (t, inl (k_is, refl), subst (λ w. Same w t) (sym u_is)
-            (same_symm t s.0.0 mp.0 (member_distinct qs mq j s.0.0 s.0.1) s.0.2))
-    | false ↦ λ e.
-        let ne : k ≢ j = λ f. true≢false (sym ((bytes_decides k j).1 f) ∙ e) in
-        let fewer : members_len ps ≡ members_len (without j qs) = let l =
+        | true ↦ λ e.
+            let k_is : k ≡ j = (bytes_decides k j).0 e in
+            let u_is : u ≡ s.0.0 = one_value qs dq j u s.0.0 (subst (λ i. Has i u qs) k_is h) s.0.1 in (
+              t,
+              inl (k_is, refl),
+              subst (λ w. Same w t) (sym u_is)
+                  (same_symm t s.0.0 mp.0 (member_distinct qs mq j s.0.0 s.0.1) s.0.2),
+            )
+        | false ↦ λ e.
+            let ne : k ≢ j = λ f. true≢false (sym ((bytes_decides k j).1 f) ∙ e) in
+            let fewer : members_len ps ≡ members_len (without j qs) = let l =
             without_len qs j s.0.0 s.0.1 in omega (arith, l, len) in
-        let r = back ps (without j qs) dp.1 (without_distinct qs j dq) mp.1 (without_members qs j mq)
+            let r = back ps (without j qs) dp.1 (without_distinct qs j dq) mp.1 (without_members qs j mq)
             fewer (without_in ps qs j dp.0 s.1) k u (without_has qs j k u ne h) in
-        (r.0, inr r.1, r.2)
-  ] refl
+            (r.0, inr r.1, r.2)
+      ] refl

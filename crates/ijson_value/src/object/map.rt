@@ -15,6 +15,7 @@ use ijson_string::IString;
 use ijson_table::{FixedTable, PairStore, ReserveError};
 use std::alloc::Global;
 use std::marker::Model;
+use std::mem::size_of;
 use thiserror::Error;
 
 /// Pairs of a key and a value in order, where no key stands twice. A key is found by its hash, however many there are.
@@ -25,6 +26,8 @@ pub struct IObject {
     table: Option<Box<FixedTable<IValue>>>,
     alloc: Global,
 }
+
+const _: () = prove!(size_of::<IObject>() == 16);
 
 impl Model for IObject {
     ghost use Rattle.ijson_table.specs.Store.{Store, store_code};
@@ -148,7 +151,7 @@ impl PartialEq for IObject {
 
     ghost laws = { partial_equivalence object_value };
 
-    #[tactic(auto, using(crate::specs::laws::Equality::is_same))]
+    #[tactic(auto, using(crate::specs::laws::Equality::is_same_object))]
     fn eq(&self, other: &IObject) -> bool
         ensures { IsTrue result ↔ Same (object_tree self.now.pairs) (object_tree other.now.pairs) }
     {

@@ -14,7 +14,7 @@ same_items-returns-then-xs-ys t c = sym (each-other_lengths c.args.xs.now c.args
 pub same_pairs-returns-then-len : goal.same_pairs-returns-then-len
 same_pairs-returns-then-len t c =
     sym (objects-other_lengths c.args.a.now.pairs c.args.b.now.pairs (λ e. c.if-len.true (c.len.ensures
-        ∙ e ∙ sym c.len-2.ensures)))
+    ∙ e ∙ sym c.len-2.ensures)))
 
 pub same_pairs-returns-in-None : goal.same_pairs-returns-in-None
 same_pairs-returns-in-None t c =
@@ -22,17 +22,23 @@ same_pairs-returns-in-None t c =
     let qs = c.args.b.now.pairs in
     let p = c.pair-item.result in
     let lengths : length c.args.a.now.pairs ≡ length qs = sym c.len.ensures ∙ c.if-len.false
-        ∙ c.len-2.ensures in
+    ∙ c.len-2.ensures in
     let none : None ≡ lookup p.0 qs = c.in-None.ensures ∙ ap (λ k. lookup k qs) c.as_str.ensures in
     sym (objects-lengths c.args.a.now.pairs qs lengths ∙ c.loop-pair.invariant
-        ∙ in-drop-None ps qs c.loop-pair.pair-index p c.loop-pair-test.true c.pair-item.is none)
+    ∙ in-drop-None ps qs c.loop-pair.pair-index p c.loop-pair-test.true c.pair-item.is none)
 
 pub same_pairs-same_value-requires : goal.same_pairs-same_value-requires
 same_pairs-same_value-requires t c =
     let below = pair-members_depth c.as_slice-pair-items.result.now c.loop-pair.pair-index
-        c.pair-item.result c.loop-pair-test.true c.pair-item.is in
-    (omega (arith, below, ap (λ ps. members_depth (pair_trees ps)) c.as_slice-pair-items.ensures,
-        c.decreases), tt)
+    c.pair-item.result c.loop-pair-test.true c.pair-item.is in (
+      omega (
+        arith,
+        below,
+        ap (λ ps. members_depth (pair_trees ps)) c.as_slice-pair-items.ensures,
+        c.decreases,
+      ),
+      tt,
+    )
 
 pub same_pairs-returns-then-not-same_value : goal.same_pairs-returns-then-not-same_value
 same_pairs-returns-then-not-same_value t c =
@@ -40,9 +46,9 @@ same_pairs-returns-then-not-same_value t c =
     let s = c.args.b.now in
     let p = c.pair-item.result in
     let lengths : length c.args.a.now.pairs ≡ length s.pairs = sym c.len.ensures ∙ c.if-len.false
-        ∙ c.len-2.ensures in
+    ∙ c.len-2.ensures in
     let some : Some c.in-Some.found.now ≡ lookup p.0 s.pairs =
-        c.in-Some.ensures ∙ ap (λ k. lookup k s.pairs) c.as_str.ensures in
+    c.in-Some.ensures ∙ ap (λ k. lookup k s.pairs) c.as_str.ensures in
     let rest = same_in (pair_trees (drop (suc c.loop-pair.pair-index) ps)) (pair_trees s.pairs) in
     sym (objects-lengths c.args.a.now.pairs s.pairs lengths ∙ c.loop-pair.invariant
     ∙ in-drop-Some ps s c.loop-pair.pair-index p c.in-Some.found.now c.same_value.result
@@ -55,7 +61,7 @@ same_pairs-loop-pair-preserved t c =
     let s = c.args.b.now in
     let p = c.pair-item.result in
     let some : Some c.in-Some.found.now ≡ lookup p.0 s.pairs =
-        c.in-Some.ensures ∙ ap (λ k. lookup k s.pairs) c.as_str.ensures in
+    c.in-Some.ensures ∙ ap (λ k. lookup k s.pairs) c.as_str.ensures in
     let rest = same_in (pair_trees (drop (suc c.loop-pair.pair-index) ps)) (pair_trees s.pairs) in
     rw add-one (c.loop-pair.invariant
     ∙ in-drop-Some ps s c.loop-pair.pair-index p c.in-Some.found.now c.same_value.result
@@ -67,7 +73,7 @@ same_pairs-returns t c =
     let ps = c.as_slice-pair-items.result.now in
     let qs = c.args.b.now.pairs in
     let lengths : length c.args.a.now.pairs ≡ length qs = sym c.len.ensures ∙ c.if-len.false
-        ∙ c.len-2.ensures in
+    ∙ c.len-2.ensures in
     sym (objects-lengths c.args.a.now.pairs qs lengths ∙ c.loop-pair.invariant
     ∙ ap (λ l. same_in (pair_trees l) (pair_trees qs)) (drop_of_length-le ps c.loop-pair-test.false))
 
@@ -76,5 +82,5 @@ same_value-same_items-requires t c =
     let vs = c.as_slice.result.now in
     let is : array (item_trees vs) ≡ c.args.a.now.tree =
     ap (λ l. array (item_trees l)) c.as_slice.ensures
-        ∙ sym (ap (λ n. (node_value n).tree) c.in-Array-Array.is-0) ∙ ap tree_of c.a.view_is in
+    ∙ sym (ap (λ n. (node_value n).tree) c.in-Array-Array.is-0) ∙ ap tree_of c.a.view_is in
     (omega (arith, items_below vs, ap depth is, c.decreases), tt)

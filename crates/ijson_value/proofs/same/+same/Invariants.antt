@@ -8,7 +8,7 @@ use Rattle.ijson_value.proofs.same.+same.Given as goal
 abbrev pub invariant-same_items-loop-i : goal.invariant-same_items-loop-i
 invariant-same_items-loop-i l =
     same_each (item_trees l.xs) (item_trees l.ys)
-        ≡ same_each (item_trees (drop l.i l.xs)) (item_trees (drop l.i l.ys))
+    ≡ same_each (item_trees (drop l.i l.xs)) (item_trees (drop l.i l.ys))
 
 abbrev pub invariant-same_pairs-loop-pair : goal.invariant-same_pairs-loop-pair
 invariant-same_pairs-loop-pair l =
