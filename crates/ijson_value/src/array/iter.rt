@@ -2,7 +2,9 @@
 ghost use Rattle.std.specs.Prelude.{◌≡◌, length, Some, IfSome};
 ghost use Rattle.std.specs.Iterator.{YieldsFirst, item_count, at_most, UpTo};
 ghost use Rattle.std.specs.Iterator.SizeHint.{IsWithinCount};
+ghost use Rattle.std.specs.Iterator.Adapters.{IterYieldsInOrder};
 ghost use Rattle.std.specs.Slice.Iter.{iter_rest};
+ghost use Rattle.ijson_value.specs.WellFormed.{WellFormed};
 
 use super::IArray;
 use crate::value::IValue;
@@ -33,7 +35,8 @@ impl Model for IntoIter {
 impl IArray {
     /// The items by reference, front to back.
     pub fn iter(&self) -> slice::Iter<'_, IValue>
-        ensures { iter_rest result ≡ self.now.items }
+        ensures items { iter_rest result ≡ self.now.items }
+        ensures runs { IterYieldsInOrder WellFormed }
     {
         self.as_slice().iter()
     }
