@@ -18,7 +18,7 @@ use std::marker::Model;
 use std::mem::size_of;
 use thiserror::Error;
 
-/// A list of values. Behind one pointer, which is there once the list has taken memory.
+/// A list of values. It lies behind one pointer, and an array that has taken no memory yet is without it.
 #[cycle(value)]
 #[derive(Debug, Drop)]
 pub struct IArray {

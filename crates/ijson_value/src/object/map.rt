@@ -19,7 +19,7 @@ use std::mem::size_of;
 use thiserror::Error;
 
 /// Pairs of a key and a value in order, where no key stands twice. A key is found by its hash, however many there are.
-/// Behind one pointer, which is there once the object has taken memory.
+/// It lies behind one pointer, and an object that has taken no memory yet is without it.
 #[cycle(value)]
 #[derive(Debug, Drop)]
 pub struct IObject {
