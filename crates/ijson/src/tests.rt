@@ -1,6 +1,7 @@
 //! What no clause says, of every crate: a module per kind of value, and what crosses the crates: the written texts and the places of
 //! faults, devices, and refusals of memory.
 
+mod arrays;
 mod cache;
 mod devices;
 mod equality;

@@ -1,5 +1,7 @@
+pub mod Gives
 pub mod GrowthOf
 pub mod Kind
+pub mod LendsItem
 pub mod Opened
 pub mod Same
 pub mod SameTest

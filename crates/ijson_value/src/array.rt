@@ -1,13 +1,19 @@
 //! Arrays of values.
-ghost use Rattle.std.specs.Prelude.{◌≡◌, ◌==◌, [], ◌∷◌, ◌++◌, ◌<◌, ◌≤◌, length, OnOk, IfErr, IsOk, IsTrue, ◌↔◌};
+ghost use Rattle.std.specs.Prelude.{◌≡◌, ◌==◌, [], ◌∷◌, ◌++◌, ◌+◌, ◌<◌, ◌≤◌, length, vec_capacity, OnOk, OnErr, IfOk, IfErr, IsOk, IsTrue, ◌↔◌};
 ghost use Rattle.ijson_value.specs.Same.{Same};
 ghost use Rattle.ijson_value.specs.SameTest.{same};
 ghost use Rattle.ijson_value.specs.Values.{array_tree, array_value};
 ghost use Rattle.ijson_value.specs.laws.Equality.{partial_equivalence, equivalence};
 
+mod edits;
+mod extend;
+mod index;
+mod iter;
+
 use crate::same::same_items;
 use crate::value::IValue;
-use std::alloc::Global;
+pub use iter::IntoIter;
+use std::alloc::{AllocError, AllocFailed, Global};
 use std::marker::Model;
 use std::mem::size_of;
 use thiserror::Error;
@@ -50,8 +56,38 @@ impl IArray {
     /// An array with no items. It takes no memory.
     pub fn new(alloc: Global) -> IArray
         ensures items { result.items ≡ [] }
+        ensures capacity { result.capacity ≡ 0 }
     {
         IArray { list: None, alloc }
+    }
+
+    /// An array with no items, and room for `capacity` of them. Room for none takes no memory.
+    pub fn with_capacity(alloc: Global, capacity: usize) -> Result<IArray, AllocError>
+        ensures items { IfOk result (λ array. array.items ≡ []) }
+        ensures room { IfOk result (λ array. capacity ≤ array.capacity) }
+        ensures none { capacity ≡ 0 → IsOk result }
+    {
+        if capacity == 0 {
+            return Ok(IArray::new(alloc));
+        }
+        match IArray::from_vec(alloc, Vec::with_capacity(alloc, capacity)?) {
+            Ok(array) => Ok(array),
+            Err(_) => Err(AllocError),
+        }
+    }
+
+    /// An array of the items of `list`, which are not copied. It takes memory for the place of the list, and the list comes
+    /// back where there is none.
+    pub fn from_vec(alloc: Global, list: Vec<IValue>) -> Result<IArray, AllocFailed<Vec<IValue>>>
+        ensures items { IfOk result (λ array. array.items ≡ list.items) }
+        ensures room { IfOk result (λ array. array.capacity ≡ vec_capacity list) }
+        ensures refused { IfErr result (λ refused. refused.value ≡ list) }
+    {
+        let list = Box::new(alloc, list)?;
+        Ok(IArray {
+            list: Some(list),
+            alloc,
+        })
     }
 
     /// How many items there are.
@@ -66,6 +102,17 @@ impl IArray {
         ensures { result ≡ (length self.now.items == 0) }
     {
         self.len() == 0
+    }
+
+    /// For how many items there is room in all.
+    pub fn capacity(&self) -> usize
+        ensures capacity { result ≡ self.now.capacity }
+        ensures room { length self.now.items ≤ self.now.capacity }
+    {
+        match &self.list {
+            None => 0,
+            Some(list) => list.capacity(),
+        }
     }
 
     /// The items, front to back.
@@ -96,6 +143,41 @@ impl IArray {
             Ok(()) => Ok(()),
             Err(refused) => Err(Refused(refused.value)),
         }
+    }
+
+    /// Makes room for `additional` items more, so that as many pushes take no memory. It takes memory only where there is
+    /// not that room.
+    pub fn reserve(&mut self, additional: usize) -> Result<(), AllocError>
+        ensures items { self.new.items ≡ self.old.items }
+        ensures ok { OnOk result (length self.new.items + additional ≤ self.new.capacity) }
+        ensures refused { OnErr result (self.new.capacity ≡ self.old.capacity) }
+        ensures room { length self.old.items + additional ≤ self.old.capacity → IsOk result }
+        ensures capacity { self.old.capacity ≤ self.new.capacity }
+    {
+        match &mut self.list {
+            Some(list) => list.reserve(additional),
+            None => {
+                *self = IArray::with_capacity(self.alloc, additional)?;
+                Ok(())
+            }
+        }
+    }
+
+    /// Gives back the room that no item fills.
+    pub fn shrink_to_fit(&mut self) -> Result<(), AllocError>
+        ensures items { self.new.items ≡ self.old.items }
+        ensures ok { OnOk result (self.new.capacity ≡ length self.new.items) }
+        ensures room { self.old.capacity ≡ length self.old.items → IsOk result }
+        ensures capacity { self.new.capacity ≤ self.old.capacity }
+    {
+        let Some(list) = &mut self.list else {
+            return Ok(());
+        };
+        list.shrink_to_fit();
+        if list.len() < list.capacity() {
+            return Err(AllocError);
+        }
+        Ok(())
     }
 }
 

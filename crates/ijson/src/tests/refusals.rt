@@ -46,6 +46,61 @@ fn array_push(rt: HostRuntime) {
     assert!(rt; array.as_slice().iter().all(|item| *item == IValue::TRUE));
 }
 
+#[test]
+fn array_room(rt: HostRuntime) -> Result<(), Fail> {
+    let mut array = IArray::new(rt.alloc());
+    if array.reserve(3).is_err() {
+        assert_eq!(rt; (array.len(), array.capacity()), (0, 0));
+        array.reserve(3)?;
+    }
+    for _ in 0..3usize {
+        assert!(rt; array.push(IValue::TRUE).is_ok());
+    }
+    assert_eq!(rt; array.len(), 3);
+    if let Err(refused) = array.insert(1, IValue::NULL) {
+        assert_eq!(rt; array.len(), 3);
+        assert!(rt; refused.0 == IValue::NULL);
+        array.insert(1, refused.0)?;
+    }
+    assert_eq!(rt; array.len(), 4);
+    assert!(rt; array.remove(1) == Some(IValue::NULL));
+    assert!(rt; array.shrink_to_fit().is_ok() || array.shrink_to_fit().is_ok());
+    assert_eq!(rt; array.capacity(), 3);
+    Ok(())
+}
+
+/// The item at a place of the arrays that follow.
+fn item(at: usize) -> IValue {
+    if at % 2 == 0 {
+        IValue::TRUE
+    } else {
+        IValue::NULL
+    }
+}
+
+#[test]
+fn array_extend(rt: HostRuntime) -> Result<(), Fail> {
+    let mut array = IArray::new(rt.alloc());
+    if let Err(refused) = array.extend((0..9usize).map(item)) {
+        let added = array.len();
+        assert!(rt; added < 9);
+        assert!(rt; refused.0 == item(added));
+        array.push(refused.0)?;
+        array.extend((added + 1..9).map(item))?;
+    }
+    assert_eq!(rt; array.len(), 9);
+    let again = match IArray::from_iter(rt.alloc(), (0..9usize).map(item)) {
+        Ok(again) => again,
+        Err(_) => IArray::from_iter(rt.alloc(), (0..9usize).map(item))?,
+    };
+    assert!(rt; array == again);
+    let list = Vec::new(rt.alloc());
+    if let Err(refused) = IArray::from_vec(rt.alloc(), list) {
+        assert!(rt; IArray::from_vec(rt.alloc(), refused.value)?.is_empty());
+    }
+    Ok(())
+}
+
 fn interned(cache: &mut Cache, text: &str) -> Result<IString, Fail> {
     let before = cache.len();
     match IString::intern(cache, text) {

@@ -1,0 +1,79 @@
+//! What puts items into an array at a place, and what takes them out.
+ghost use Rattle.std.specs.Prelude.{◌≡◌, ◌++◌, ◌-◌, ◌<◌, ◌≤◌, [], length, take, slice_get, OnOk, IfErr, IsOk, MatchOption};
+ghost use Rattle.std.specs.List.{insert, remove, swap_remove};
+
+use super::{IArray, Refused};
+use crate::value::IValue;
+
+impl IArray {
+    /// Puts an item at a place, and those from there on one place further. It takes memory only where there is no room for
+    /// one more.
+    pub fn insert(&mut self, index: usize, item: IValue) -> Result<(), Refused>
+        requires { index ≤ length self.old.items }
+        ensures ok { OnOk result (self.new.items ≡ insert self.old.items index item) }
+        ensures refused { IfErr result (λ refused.
+            (refused.0 ≡ item) × (self.new.items ≡ self.old.items)) }
+        ensures room { length self.old.items < self.old.capacity → IsOk result }
+        ensures capacity { self.old.capacity ≤ self.new.capacity }
+    {
+        if self.reserve(1).is_err() {
+            return Err(Refused(item));
+        }
+        match self.list.as_mut().unwrap().insert(index, item) {
+            Ok(()) => Ok(()),
+            Err(refused) => Err(Refused(refused.value)),
+        }
+    }
+
+    /// Takes the item at a place out, and closes up those behind it. None past the end.
+    pub fn remove(&mut self, index: usize) -> Option<IValue>
+        ensures item { result ≡ slice_get self.old.items index }
+        ensures items { self.new.items ≡ remove self.old.items index }
+        ensures capacity { self.new.capacity ≡ self.old.capacity }
+    {
+        if self.len() <= index {
+            return None;
+        }
+        Some(self.list.as_mut().unwrap().remove(index))
+    }
+
+    /// Takes the item at a place out, and puts the last one in its place. None past the end.
+    pub fn swap_remove(&mut self, index: usize) -> Option<IValue>
+        ensures item { result ≡ slice_get self.old.items index }
+        ensures items { MatchOption result (self.new.items ≡ self.old.items)
+            (λ item. self.new.items ≡ swap_remove self.old.items index item) }
+        ensures capacity { self.new.capacity ≡ self.old.capacity }
+    {
+        if self.len() <= index {
+            return None;
+        }
+        Some(self.list.as_mut().unwrap().swap_remove(index))
+    }
+
+    /// Takes the last item out. None where there is no item.
+    pub fn pop(&mut self) -> Option<IValue>
+        ensures item { result ≡ slice_get self.old.items (length self.old.items - 1) }
+        ensures items { self.new.items ≡ take (length self.old.items - 1) self.old.items }
+        ensures capacity { self.new.capacity ≡ self.old.capacity }
+    {
+        self.list.as_mut()?.pop()
+    }
+
+    /// Keeps the first `len` items. An array that has no more stays as it is.
+    pub fn truncate(&mut self, len: usize)
+        ensures items { self.new.items ≡ take len self.old.items }
+        ensures capacity { self.new.capacity ≡ self.old.capacity }
+    {
+        if let Some(list) = &mut self.list {
+            list.truncate(len);
+        }
+    }
+
+    /// Drops all items. The room stays.
+    pub fn clear(&mut self)
+        ensures items { self.new.items ≡ [] }
+        ensures capacity { self.new.capacity ≡ self.old.capacity }
+    {
+        self.truncate(0);
+    }
+}

@@ -1,0 +1,88 @@
+//! `iter`, and `IntoIter`: the items of an array, one after the other.
+ghost use Rattle.std.specs.Prelude.{◌≡◌, length, Some, IfSome};
+ghost use Rattle.std.specs.Iterator.{YieldsFirst, item_count, at_most, UpTo};
+ghost use Rattle.std.specs.Iterator.SizeHint.{IsWithinCount};
+ghost use Rattle.std.specs.Iterator.Adapters.{IterYieldsInOrder};
+ghost use Rattle.std.specs.Slice.Iter.{iter_rest};
+ghost use Rattle.ijson_value.specs.WellFormed.{WellFormed};
+
+use super::IArray;
+use crate::value::IValue;
+use std::iter::FusedIterator;
+use std::marker::Model;
+use std::{slice, vec};
+
+/// The items of an array that are left, front to back.
+#[derive(Debug, Drop)]
+pub struct IntoIter {
+    left: vec::IntoIter<IValue>,
+}
+
+impl Model for IntoIter {
+    ghost use Rattle.std.specs.Prelude.{List};
+    ghost use Rattle.std.specs.Vec.Iter.{into_iter_items};
+    ghost use Rattle.std.specs.Coded.{coded_list};
+    ghost use Rattle.ijson_value.specs.WellFormed.{WellFormed};
+    ghost use Rattle.ijson_value.specs.laws.WellFormedCode.{well_formed_code};
+
+    ghost Value = { List WellFormed };
+
+    ghost coded = { coded_list well_formed_code };
+
+    ghost view = { λ i. into_iter_items i.left };
+}
+
+impl IArray {
+    /// The items by reference, front to back.
+    pub fn iter(&self) -> slice::Iter<'_, IValue>
+        ensures items { iter_rest result ≡ self.now.items }
+        ensures runs { IterYieldsInOrder WellFormed }
+    {
+        self.as_slice().iter()
+    }
+}
+
+impl IntoIterator for IArray {
+    type Item = IValue;
+
+    type IntoIter = IntoIter;
+
+    ghost into_iter_gives = { λ array items. items ≡ array.items };
+
+    fn into_iter(self) -> IntoIter {
+        let left = match self.list {
+            None => Vec::new(self.alloc).into_iter(),
+            Some(list) => Box::into_inner(list).into_iter(),
+        };
+        IntoIter { left }
+    }
+}
+
+impl Iterator for IntoIter {
+    type Item = IValue;
+
+    ghost next_gives = { YieldsFirst (λ s. s) };
+
+    ghost remaining = { item_count (λ s. s) };
+
+    fn next(&mut self) -> Option<IValue> {
+        self.left.next()
+    }
+
+    fn size_hint(&self) -> (usize, Option<usize>)
+        ensures lower { IsWithinCount result.0 (at_most (length self.now)) }
+        ensures upper { IfSome result.1 (UpTo (at_most (length self.now))) }
+        ensures exact { (result.0 ≡ length self.now) × (result.1 ≡ Some (length self.now)) }
+    {
+        let len = self.len();
+        (len, Some(len))
+    }
+}
+
+impl FusedIterator for IntoIter {}
+
+impl ExactSizeIterator for IntoIter {
+    fn len(&self) -> usize {
+        self.left.len()
+    }
+}
