@@ -1,6 +1,6 @@
 //! What no clause says: worked texts, and which texts are refused.
 use super::recorder::feeds;
-use crate::number::{Form, INumber, Looks, ParseNumberError, compare, first_fault};
+use crate::number::{DigitRow, Form, INumber, Looks, ParseNumberError, compare, first_fault};
 use std::alloc::Global;
 use std::cmp::Ordering;
 use std::error::Error;
@@ -427,7 +427,7 @@ enum Kind {
     Digits,
 }
 
-fn kind(form: Form<'_>) -> Kind {
+fn kind_of(form: Form<'_>) -> Kind {
     match form {
         Form::Packed { .. } => Kind::Packed,
         Form::I64(_) => Kind::I64,
@@ -488,7 +488,7 @@ const BOUNDARIES: [(&str, Kind); 44] = [
 fn form_boundaries(rt: HostRuntime) -> Result<(), Fail> {
     for (text, want) in BOUNDARIES {
         let number = INumber::from_str(rt.alloc(), text)?;
-        assert!(rt; kind(number.form()) == want, "{text}");
+        assert!(rt; kind_of(number.form()) == want, "{text}");
     }
     Ok(())
 }
@@ -512,6 +512,8 @@ fn looks_of_compare(rt: HostRuntime) -> Result<(), Fail> {
     for (a, b, want, most) in COMPARED {
         let (a, b) = (INumber::from_str(alloc, a)?, INumber::from_str(alloc, b)?);
         let mut looks = Looks::new();
+        // The counts show that the looks fit.
+        assert!(rt; a.count() > 0 && b.count() < 40);
         assert!(rt; compare(&a, &b, &mut looks) == want);
         assert!(rt; looks.count() <= most);
     }
