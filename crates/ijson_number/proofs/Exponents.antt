@@ -5,8 +5,7 @@ use Rattle.std.proofs.lemmas.Int.{ints}
 use mir.Syntax.{w32, w128}
 use mir.Val.{SFits, to_z, of_z}
 use Rattle.ijson_number.specs.Decimal.{Decimal}
-use Rattle.ijson_number.specs.Num.{is_in_range}
-use Rattle.ijson_number.specs.declared.reading.TheConstants.{EXPONENT_LIMIT}
+use Rattle.ijson_number.specs.Num.{exponent_limit, is_in_range}
 use Rattle.ijson_number.proofs.Outcomes.{test_le, le_test, test_zero, abs_zero, both_of, both_hold, one_of, second_holds}
 use Rattle.ijson_number.specs.private.Reading.{IsWithin, exponent_of}
 use Rattle.ijson_number.specs.Strips.{signed}
@@ -43,5 +42,5 @@ pub in_range_within : (n : Decimal) → IsTrue (is_in_range n) → (n.mantissa �
 in_range_within n h =
     elim (one_of (nat_eq (nat_abs n.mantissa) 0) _ h) [
       | inl z ↦ inl (abs_zero n.mantissa (test_zero (nat_abs n.mantissa) z))
-      | inr w ↦ (let b = both_of (int_le (neg_ℤ EXPONENT_LIMIT) n.exponent) (int_le n.exponent EXPONENT_LIMIT) w in inr (test_le _ _ b.0, test_le _ _ b.1))
+      | inr w ↦ (let b = both_of (int_le (neg_ℤ exponent_limit) n.exponent) (int_le n.exponent exponent_limit) w in inr (test_le _ _ b.0, test_le _ _ b.1))
     ]

@@ -1,11 +1,17 @@
 -- The fold of words to one number below 2^64, this project's own.
 use Rattle.std.specs.Prelude.{ℕ, ◌+◌, ◌*◌, ◌%◌, ◌^◌, List, fold}
-use Rattle.ijson_table.specs.declared.hash.TheConstants.{BASIS, PRIME}
+
+-- where it starts, and what each step multiplies by
+abbrev pub basis : ℕ
+basis = 14695981039346656037
+
+abbrev pub prime : ℕ
+prime = 1099511628211
 
 -- one more word
 unfoldable pub fold_word : ℕ → ℕ → ℕ
-fold_word h word = (h * PRIME + word) % 2 ^ 64
+fold_word h word = (h * prime + word) % 2 ^ 64
 
 -- all words, from the basis on
 abbrev pub fold_words : List ℕ → ℕ
-fold_words words = fold fold_word BASIS words
+fold_words words = fold fold_word basis words

@@ -1,12 +1,11 @@
 -- The capacity rule of a pair store.
-use Rattle.std.specs.Prelude.{◌≡◌, ◌≢◌, ℕ, ◌+◌, ◌*◌, ◌<◌, ◌≤◌, leb, max, Result, Ok, Err, if◌then◌else◌}
-use Rattle.ijson_table.specs.declared.growth.TheConstants.{CAPACITY_LIMIT}
+use Rattle.std.specs.Prelude.{◌≡◌, ◌≢◌, ℕ, ◌+◌, ◌*◌, ◌^◌, ◌<◌, ◌≤◌, leb, max, Result, Ok, Err, if◌then◌else◌}
 use Rattle.ijson_table.specs.declared.store.ReserveError.{ReserveError}
 use Rattle.ijson_table.specs.declared.store.ReserveError.TheVariants.{Memory, TooLarge}
 
 -- the greatest capacity
 abbrev pub capacity_limit : ℕ
-capacity_limit = CAPACITY_LIMIT
+capacity_limit = 2 ^ 56
 
 -- the capacity that a store of this length and capacity takes, so that n more have room
 abbrev pub wanted : ℕ → ℕ → ℕ → ℕ

@@ -1,11 +1,11 @@
 -- What the steps of the reader promise.
 use Rattle.std.specs.Prelude.{true, false, ◌≡◌, ◌≢◌, ◌<◌, ◌-◌, length, slice_index, ◌⊎◌, ◌||◌, ℕ, ℤ, Bool, List, [], ◌∷◌, ◌++◌, pos, neg_ℤ, ◌≤ℤ◌, ◌+ℤ◌, ◌-ℤ◌}
-use Rattle.ijson_number.specs.declared.reading.TheConstants.{EXPONENT_LIMIT}
+use Rattle.ijson_number.specs.Num.{exponent_limit}
 use Rattle.ijson_number.specs.Grammar.{IsDigit, IsWhole, IsFraction, IsExponent}
 
 -- the exponent is within the limit
 abbrev pub IsWithin : ℤ → Type 0
-IsWithin e = (neg_ℤ EXPONENT_LIMIT ≤ℤ e) × (e ≤ℤ EXPONENT_LIMIT)
+IsWithin e = (neg_ℤ exponent_limit ≤ℤ e) × (e ≤ℤ exponent_limit)
 
 -- the exponent after some tens are taken out: the written one less the count of fraction digits, and those tens
 abbrev pub exponent_of : (written : ℤ) → (fraction tens : ℕ) → ℤ
