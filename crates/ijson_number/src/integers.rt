@@ -157,6 +157,35 @@ impl From<usize> for INumber {
     }
 }
 
+/// How many digits a word holds, whatever they are.
+const WORD_DIGITS: usize = 19;
+
+/// What so few digits write.
+fn word_of_digits(digits: &[u8]) -> u64
+    requires below_ten { All (λ d. d < 10) digits.now }
+    requires fits { length digits.now ≤ 19 }
+    ensures { result ≡ number_from_digits 10 digits.now }
+{
+    let mut number: u64 = 0;
+    for digit in digits {
+        number = number * 10 + u64::from(*digit);
+    }
+    number
+}
+
+/// What at most twenty digits write.
+fn number_of_digits(digits: &[u8]) -> u128
+    requires below_ten { All (λ d. d < 10) digits.now }
+    requires fits { length digits.now ≤ 20 }
+    ensures { result ≡ number_from_digits 10 digits.now }
+{
+    if digits.len() <= WORD_DIGITS {
+        return u128::from(word_of_digits(digits));
+    }
+    let most = u128::from(word_of_digits(&digits[..WORD_DIGITS]));
+    most * 10 + u128::from(digits[WORD_DIGITS])
+}
+
 /// What the digits write, and so many zeros behind them.
 pub fn scaled(digits: &[u8], zeros: usize) -> u128
     requires below_ten { All (λ d. d < 10) digits.now }
@@ -164,11 +193,7 @@ pub fn scaled(digits: &[u8], zeros: usize) -> u128
     ensures value { result ≡ number_from_digits 10 digits.now * 10 ^ zeros }
     ensures small { result < 10 ^ 20 }
 {
-    let mut number: u128 = 0;
-    for digit in digits {
-        number = number * 10 + u128::from(*digit);
-    }
-    number * 10u128.pow(zeros as u32)
+    number_of_digits(digits) * 10u128.pow(zeros as u32)
 }
 
 impl INumber {
