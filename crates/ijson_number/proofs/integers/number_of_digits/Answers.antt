@@ -8,4 +8,4 @@ pub returns : goal.returns
 returns c =
     let few : 19 < length c.args.digits.now = omega (arith, c.if-digits-le-WORD_DIGITS.false) in
     rw (c.from-most.ensures, c.word_of_digits-2.ensures, c.from-2.ensures)
-        (sym (number_more 10 c.args.digits.now 19 few) ∙ ap (number_from_digits 10) (take_all 20 c.args.digits.now (omega arith)))
+    (sym (number_more 10 c.args.digits.now 19 few) ∙ ap (number_from_digits 10) (take_all 20 c.args.digits.now (omega arith)))
