@@ -14,7 +14,7 @@ use crate::hash::KeyHash;
 use crate::lookup::{Lookup, has_key};
 use crate::place::home_of_hash;
 use crate::place_list::PlaceList;
-use crate::places::{Places, Seen};
+use crate::places::{Places, Seen, locate};
 use crate::probe::{Probed, probe};
 use crate::store::{PairStore, ReserveError};
 use ijson_number::Looks;
@@ -260,7 +260,10 @@ impl<V: Drop, H: KeyHash> PairStore<V> for Table<V, H> {
     }
 
     fn position(&self, key: &str) -> Option<usize> {
-        self.find(H::hash(key), key, &mut Looks::new()).found()
+        if self.pairs.is_empty() {
+            return None;
+        }
+        locate(self, key, &mut Looks::new())
     }
 
     fn pair_mut(&mut self, index: usize) -> (&IString, &mut V) {
