@@ -1,7 +1,9 @@
 pub mod Gives
 pub mod GrowthOf
+pub mod Integers
 pub mod Kind
 pub mod LendsItem
+pub mod Length
 pub mod Opened
 pub mod Same
 pub mod SameTest

@@ -2,6 +2,7 @@ pub mod ArrayFalls
 pub mod Equality
 pub mod Falls
 pub mod HoldsWellFormed
+pub mod Lengths
 pub mod NodeFalls
 pub mod ObjectFalls
 pub mod SameDecided

@@ -7,6 +7,9 @@ ghost use Rattle.ijson_value.specs.SameTest.{same};
 ghost use Rattle.ijson_value.specs.Values.{null_value, boolean_value, number_value, string_value, array_value, object_value};
 ghost use Rattle.ijson_value.specs.laws.Equality.{partial_equivalence, equivalence};
 
+mod kinds;
+mod parts;
+
 use crate::array::IArray;
 use crate::object::IObject;
 use crate::same::same_value;
