@@ -4,9 +4,10 @@ ghost use Rattle.ijson_value.specs.Kind.{kind_of};
 ghost use Rattle.ijson_value.specs.Opened.{ref_value};
 ghost use Rattle.ijson_value.specs.Same.{Same};
 ghost use Rattle.ijson_value.specs.SameTest.{same};
-ghost use Rattle.ijson_value.specs.Values.{null_value, boolean_value, number_value, string_value, array_value, object_value};
+ghost use Rattle.ijson_value.specs.Values.{null_value};
 ghost use Rattle.ijson_value.specs.laws.Equality.{partial_equivalence, equivalence};
 
+mod convert;
 mod kinds;
 mod parts;
 
@@ -131,54 +132,6 @@ impl Default for IValue {
 
     fn default() -> IValue {
         IValue::NULL
-    }
-}
-
-impl From<bool> for IValue {
-    ghost from_gives = { λ b v. v ≡ boolean_value b };
-
-    fn from(b: bool) -> IValue {
-        if b { IValue::TRUE } else { IValue::FALSE }
-    }
-}
-
-impl From<INumber> for IValue {
-    ghost from_gives = { λ n v. v ≡ number_value n };
-
-    fn from(n: INumber) -> IValue {
-        IValue {
-            node: Node::Number(n),
-        }
-    }
-}
-
-impl From<IString> for IValue {
-    ghost from_gives = { λ s v. v ≡ string_value s };
-
-    fn from(s: IString) -> IValue {
-        IValue {
-            node: Node::String(s),
-        }
-    }
-}
-
-impl From<IArray> for IValue {
-    ghost from_gives = { λ a v. v ≡ array_value a.items };
-
-    fn from(a: IArray) -> IValue {
-        IValue {
-            node: Node::Array(a),
-        }
-    }
-}
-
-impl From<IObject> for IValue {
-    ghost from_gives = { λ o v. v ≡ object_value o };
-
-    fn from(o: IObject) -> IValue {
-        IValue {
-            node: Node::Object(o),
-        }
     }
 }
 
