@@ -3,7 +3,9 @@ pub mod GrowthOf
 pub mod Integers
 pub mod Kind
 pub mod LendsItem
+pub mod LendsPart
 pub mod Length
+pub mod NodeValue
 pub mod Opened
 pub mod Same
 pub mod SameTest

@@ -1,19 +1,20 @@
 //! Values of the six kinds.
 ghost use Rattle.std.specs.Prelude.{◌≡◌, ◌↔◌, IsTrue};
 ghost use Rattle.ijson_value.specs.Kind.{kind_of};
-ghost use Rattle.ijson_value.specs.Opened.{ref_value};
 ghost use Rattle.ijson_value.specs.Same.{Same};
 ghost use Rattle.ijson_value.specs.SameTest.{same};
 ghost use Rattle.ijson_value.specs.Values.{null_value};
 ghost use Rattle.ijson_value.specs.laws.Equality.{partial_equivalence, equivalence};
 
 mod convert;
+mod destructure;
 mod kinds;
 mod parts;
 
 use crate::array::IArray;
 use crate::object::IObject;
 use crate::same::same_value;
+pub use destructure::{BoolMut, DestructuredMut, DestructuredRef};
 use ijson_number::INumber;
 use ijson_string::IString;
 use std::marker::Model;
@@ -23,15 +24,15 @@ use std::mem::size_of;
 #[cycle(value)]
 #[derive(Debug, Drop)]
 pub struct IValue {
-    pub(crate) node: Node,
+    pub(crate) node: Destructured,
 }
 
 const _: () = prove!(size_of::<IValue>() == 24);
 
-/// What a value is made of, by its kind.
+/// A value opened: what it is made of, by its kind.
 #[cycle(value)]
-#[derive(Debug, Drop)]
-pub(crate) enum Node {
+#[derive(Debug, Drop, PartialEq, Eq)]
+pub enum Destructured {
     Null,
     Bool(bool),
     Number(INumber),
@@ -48,7 +49,7 @@ impl Model for IValue {
 
     ghost coded = { well_formed_code };
 
-    ghost use Rattle.ijson_value.specs.private.NodeValue.{node_value};
+    ghost use Rattle.ijson_value.specs.NodeValue.{node_value};
     ghost use Rattle.ijson_value.specs.private.Sizes.{value_size};
 
     ghost view = { λ v. node_value v.node };
@@ -71,31 +72,22 @@ pub enum ValueType {
     Object,
 }
 
-/// A value opened, with what it holds by reference.
-#[derive(Clone, Copy, Debug, PartialEq, Eq)]
-pub enum DestructuredRef<'a> {
-    Null,
-    Bool(bool),
-    Number(&'a INumber),
-    String(&'a IString),
-    Array(&'a IArray),
-    Object(&'a IObject),
-}
-
 // No clause can name a constant whose type has a model. What these are is the contract of what answers them: `default`
 // of `NULL`, and `from` a `bool` of `TRUE` and `FALSE`.
 impl IValue {
     /// The value null.
-    pub const NULL: IValue = IValue { node: Node::Null };
+    pub const NULL: IValue = IValue {
+        node: Destructured::Null,
+    };
 
     /// The value true.
     pub const TRUE: IValue = IValue {
-        node: Node::Bool(true),
+        node: Destructured::Bool(true),
     };
 
     /// The value false.
     pub const FALSE: IValue = IValue {
-        node: Node::Bool(false),
+        node: Destructured::Bool(false),
     };
 
     /// The kind of the value.
@@ -103,26 +95,12 @@ impl IValue {
         ensures { result ≡ kind_of self.now.tree }
     {
         match &self.node {
-            Node::Null => ValueType::Null,
-            Node::Bool(_) => ValueType::Bool,
-            Node::Number(_) => ValueType::Number,
-            Node::String(_) => ValueType::String,
-            Node::Array(_) => ValueType::Array,
-            Node::Object(_) => ValueType::Object,
-        }
-    }
-
-    /// The value opened, to match on its kind.
-    pub fn destructure_ref(&self) -> DestructuredRef<'_>
-        ensures { ref_value result ≡ self.now }
-    {
-        match &self.node {
-            Node::Null => DestructuredRef::Null,
-            Node::Bool(b) => DestructuredRef::Bool(*b),
-            Node::Number(n) => DestructuredRef::Number(n),
-            Node::String(s) => DestructuredRef::String(s),
-            Node::Array(a) => DestructuredRef::Array(a),
-            Node::Object(o) => DestructuredRef::Object(o),
+            Destructured::Null => ValueType::Null,
+            Destructured::Bool(_) => ValueType::Bool,
+            Destructured::Number(_) => ValueType::Number,
+            Destructured::String(_) => ValueType::String,
+            Destructured::Array(_) => ValueType::Array,
+            Destructured::Object(_) => ValueType::Object,
         }
     }
 }

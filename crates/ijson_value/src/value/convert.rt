@@ -3,7 +3,7 @@ ghost use Rattle.std.specs.Prelude.{◌≡◌, pos, MatchOption};
 ghost use Rattle.ijson_value.specs.Integers.{IsIntegerTree};
 ghost use Rattle.ijson_value.specs.Values.{null_value, boolean_value, number_value, string_value, array_value, object_value};
 
-use super::{IValue, Node};
+use super::{Destructured, IValue};
 use crate::array::IArray;
 use crate::object::IObject;
 use ijson_number::INumber;
@@ -22,7 +22,7 @@ impl From<INumber> for IValue {
 
     fn from(n: INumber) -> IValue {
         IValue {
-            node: Node::Number(n),
+            node: Destructured::Number(n),
         }
     }
 }
@@ -32,7 +32,7 @@ impl From<IString> for IValue {
 
     fn from(s: IString) -> IValue {
         IValue {
-            node: Node::String(s),
+            node: Destructured::String(s),
         }
     }
 }
@@ -42,7 +42,7 @@ impl From<IArray> for IValue {
 
     fn from(a: IArray) -> IValue {
         IValue {
-            node: Node::Array(a),
+            node: Destructured::Array(a),
         }
     }
 }
@@ -52,7 +52,7 @@ impl From<IObject> for IValue {
 
     fn from(o: IObject) -> IValue {
         IValue {
-            node: Node::Object(o),
+            node: Destructured::Object(o),
         }
     }
 }

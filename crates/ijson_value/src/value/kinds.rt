@@ -6,7 +6,7 @@ ghost use Rattle.ijson_value.specs.Length.{length_of};
 ghost use Rattle.ijson_value.specs.Tree.{boolean};
 ghost use Rattle.ijson_value.specs.Values.{null_value};
 
-use super::{IValue, Node};
+use super::{Destructured, IValue};
 use std::mem;
 
 impl IValue {
@@ -14,56 +14,56 @@ impl IValue {
     pub fn is_null(&self) -> bool
         ensures { IsTrue result ↔ (kind_of self.now.tree ≡ kind.Null) }
     {
-        matches!(self.node, Node::Null)
+        matches!(self.node, Destructured::Null)
     }
 
     /// Whether the value is true or false.
     pub fn is_bool(&self) -> bool
         ensures { IsTrue result ↔ (kind_of self.now.tree ≡ kind.Bool) }
     {
-        matches!(self.node, Node::Bool(_))
+        matches!(self.node, Destructured::Bool(_))
     }
 
     /// Whether the value is true.
     pub fn is_true(&self) -> bool
         ensures { IsTrue result ↔ (self.now.tree ≡ boolean true) }
     {
-        matches!(self.node, Node::Bool(true))
+        matches!(self.node, Destructured::Bool(true))
     }
 
     /// Whether the value is false.
     pub fn is_false(&self) -> bool
         ensures { IsTrue result ↔ (self.now.tree ≡ boolean false) }
     {
-        matches!(self.node, Node::Bool(false))
+        matches!(self.node, Destructured::Bool(false))
     }
 
     /// Whether the value is a number.
     pub fn is_number(&self) -> bool
         ensures { IsTrue result ↔ (kind_of self.now.tree ≡ kind.Number) }
     {
-        matches!(self.node, Node::Number(_))
+        matches!(self.node, Destructured::Number(_))
     }
 
     /// Whether the value is a string.
     pub fn is_string(&self) -> bool
         ensures { IsTrue result ↔ (kind_of self.now.tree ≡ kind.String) }
     {
-        matches!(self.node, Node::String(_))
+        matches!(self.node, Destructured::String(_))
     }
 
     /// Whether the value is an array.
     pub fn is_array(&self) -> bool
         ensures { IsTrue result ↔ (kind_of self.now.tree ≡ kind.Array) }
     {
-        matches!(self.node, Node::Array(_))
+        matches!(self.node, Destructured::Array(_))
     }
 
     /// Whether the value is an object.
     pub fn is_object(&self) -> bool
         ensures { IsTrue result ↔ (kind_of self.now.tree ≡ kind.Object) }
     {
-        matches!(self.node, Node::Object(_))
+        matches!(self.node, Destructured::Object(_))
     }
 
     /// The truth value, where the value is one.
@@ -72,7 +72,7 @@ impl IValue {
         ensures none { IfNone result (kind_of self.now.tree ≢ kind.Bool) }
     {
         match self.node {
-            Node::Bool(b) => Some(b),
+            Destructured::Bool(b) => Some(b),
             _ => None,
         }
     }
@@ -83,8 +83,8 @@ impl IValue {
         ensures { result ≡ length_of self.now.tree }
     {
         match &self.node {
-            Node::Array(array) => Some(array.len()),
-            Node::Object(object) => Some(object.len()),
+            Destructured::Array(array) => Some(array.len()),
+            Destructured::Object(object) => Some(object.len()),
             _ => None,
         }
     }
@@ -95,8 +95,8 @@ impl IValue {
         ensures { result ≡ option_map (λ length. length == 0) (length_of self.now.tree) }
     {
         match &self.node {
-            Node::Array(array) => Some(array.is_empty()),
-            Node::Object(object) => Some(object.is_empty()),
+            Destructured::Array(array) => Some(array.is_empty()),
+            Destructured::Object(object) => Some(object.is_empty()),
             _ => None,
         }
     }
