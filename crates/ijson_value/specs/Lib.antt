@@ -2,6 +2,7 @@ pub mod Gives
 pub mod GrowthOf
 pub mod Kind
 pub mod LendsItem
+pub mod LendsValue
 pub mod Opened
 pub mod Same
 pub mod SameTest

@@ -1,7 +1,8 @@
 //! Objects: pairs of a key and a value, in order, with distinct keys.
 
+mod access;
 mod iter;
 mod map;
 
-pub use iter::Iter;
+pub use iter::{IntoIter, Iter, Keys, Values};
 pub use map::{IObject, RefusedPair};
