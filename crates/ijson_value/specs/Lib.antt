@@ -1,6 +1,8 @@
+pub mod AtKey
 pub mod Gives
 pub mod GrowthOf
 pub mod Kind
+pub mod LendsAtKey
 pub mod LendsItem
 pub mod LendsValue
 pub mod Opened

@@ -1,5 +1,5 @@
 //! The pairs of an object by position.
-ghost use Rattle.std.specs.Prelude.{◌≡◌, ◌<◌, ◌++◌, ◌∷◌, ℕ, List, [], length, slice_get, option_map, Some, None};
+ghost use Rattle.std.specs.Prelude.{◌≡◌, ◌<◌, ◌++◌, ◌∷◌, ℕ, List, [], length, slice_get, option_map, IfSome};
 ghost use Rattle.std.specs.Borrow.{sem};
 ghost use Rattle.ijson_table.specs.Store.{at, swap_out};
 ghost use Rattle.ijson_value.specs.LendsValue.{LendsValue, LendsValueIf};
@@ -24,8 +24,10 @@ impl IObject {
     }
 
     /// The position of a key.
+    #[tactic(auto, using(ijson_table::proofs::Keys::position_within))]
     pub(super) fn position(&self, key: &str) -> Option<usize>
-        ensures { result ≡ at self.now.pairs key.now }
+        ensures position { result ≡ at self.now.pairs key.now }
+        ensures within { IfSome result (λ position. position < length self.now.pairs) }
     {
         match &self.table {
             None => None,

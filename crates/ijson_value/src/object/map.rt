@@ -176,23 +176,6 @@ impl IObject {
         Ok(self.table.as_mut().unwrap().put(key, value))
     }
 
-    /// The value beside a key.
-    pub fn get(&self, key: &str) -> Option<&IValue>
-        ensures { option_copied result ≡ lookup key.now self.now.pairs }
-    {
-        match &self.table {
-            None => None,
-            Some(table) => table.get(key),
-        }
-    }
-
-    /// Whether a key is there.
-    pub fn contains_key(&self, key: &str) -> bool
-        ensures { IsTrue result ↔ IsSome (lookup key.now self.now.pairs) }
-    {
-        self.get(key).is_some()
-    }
-
     /// The pairs, front to back.
     pub(crate) fn as_slice(&self) -> &[(IString, IValue)]
         ensures { result.now ≡ self.now.pairs }
