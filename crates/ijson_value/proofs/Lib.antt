@@ -1,2 +1,3 @@
 pub mod DepthLemmas
 mod SameSteps
+mod Objects

@@ -1,9 +1,12 @@
+pub mod AtKey
 pub mod Gives
 pub mod GrowthOf
 pub mod Integers
 pub mod Kind
+pub mod LendsAtKey
 pub mod LendsItem
 pub mod LendsPart
+pub mod LendsValue
 pub mod Length
 pub mod NodeValue
 pub mod Opened
