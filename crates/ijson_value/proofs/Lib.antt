@@ -1,3 +1,4 @@
 pub mod DepthLemmas
+mod Found
 mod SameSteps
 mod Objects

@@ -6,6 +6,7 @@ pub mod Kind
 pub mod LendsAtKey
 pub mod LendsItem
 pub mod LendsPart
+pub mod LendsStep
 pub mod LendsValue
 pub mod Length
 pub mod NodeValue
@@ -13,6 +14,7 @@ pub mod Opened
 pub mod Same
 pub mod SameTest
 pub mod Sequence
+pub mod Step
 pub mod Tree
 pub mod Values
 pub mod WellFormed

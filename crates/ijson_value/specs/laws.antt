@@ -8,5 +8,6 @@ pub mod ObjectFalls
 pub mod SameDecided
 pub mod SameLaws
 pub mod SequenceCode
+pub mod Steps
 pub mod TreeCode
 pub mod WellFormedCode

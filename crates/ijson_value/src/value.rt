@@ -8,6 +8,7 @@ ghost use Rattle.ijson_value.specs.laws.Equality.{partial_equivalence, equivalen
 
 mod convert;
 mod destructure;
+mod index;
 mod kinds;
 mod parts;
 
@@ -17,6 +18,7 @@ use crate::same::same_value;
 pub use destructure::{BoolMut, DestructuredMut, DestructuredRef};
 use ijson_number::INumber;
 use ijson_string::IString;
+pub use index::ValueIndex;
 use std::marker::Model;
 use std::mem::size_of;
 
