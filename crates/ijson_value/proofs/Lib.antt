@@ -1,2 +1,4 @@
 pub mod DepthLemmas
+mod Found
 mod SameSteps
+mod Objects

@@ -6,6 +6,7 @@ use Rattle.std.proofs.lemmas.Bool.Decides.{Decides-eqb}
 use Rattle.std.specs.Cmp.Lexicographic.{bytes_decides}
 use Rattle.ijson_table.specs.Store.{Store, lookup, keys_of, Lacks, IsDistinct}
 use Rattle.ijson_value.specs.WellFormed.{WellFormed, tree_of, item_trees, pair_trees}
+use Rattle.ijson_value.specs.laws.Lengths.{members_len-pairs}
 use Rattle.ijson_value.specs.SameTest.{same, same_each, same_in, some_has}
 use Rattle.ijson_value.specs.Tree.{Tree, object, Members, members_len}
 
@@ -15,11 +16,6 @@ other_bytes k j ne = elim (bytes_eq k j) as (λ b. bytes_eq k j ≡ b → b ≡ 
   | true ↦ λ e. absurd (ne ((bytes_decides k j).0 e))
   | false ↦ λ e. refl
 ] refl
-
--- as many members as pairs
-members_len-pairs : (ps : List (List ℕ × WellFormed)) → members_len (pair_trees ps) ≡ length ps
-members_len-pairs [] = refl
-members_len-pairs (p ∷ ps) = ap suc (members_len-pairs ps)
 
 -- no pair passes under a key that is lacking
 some_has-lacking : (k : List ℕ) (passes : Tree → Bool) (ps : List (List ℕ × WellFormed))

@@ -29,6 +29,15 @@ abbrev pub members_of : List (List ℕ × Tree) → Members
 members_of [] = no_members
 members_of (p ∷ ps) = member p.0 p.1 (members_of ps)
 
+-- and the other way round
+abbrev pub items_list : Items → List Tree
+items_list no_items = []
+items_list (item t ts) = t ∷ items_list ts
+
+abbrev pub members_list : Members → List (List ℕ × Tree)
+members_list no_members = []
+members_list (member k t ps) = (k, t) ∷ members_list ps
+
 -- how many members there are
 abbrev pub members_len : Members → ℕ
 members_len no_members = 0

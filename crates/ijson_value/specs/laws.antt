@@ -2,10 +2,12 @@ pub mod ArrayFalls
 pub mod Equality
 pub mod Falls
 pub mod HoldsWellFormed
+pub mod Lengths
 pub mod NodeFalls
 pub mod ObjectFalls
 pub mod SameDecided
 pub mod SameLaws
 pub mod SequenceCode
+pub mod Steps
 pub mod TreeCode
 pub mod WellFormedCode

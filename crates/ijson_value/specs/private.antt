@@ -1,3 +1,2 @@
 pub mod Boxed
-pub mod NodeValue
 pub mod Sizes

@@ -1,7 +1,10 @@
 //! Objects: pairs of a key and a value, in order, with distinct keys.
 
+mod access;
+mod index;
 mod iter;
 mod map;
 
-pub use iter::Iter;
+pub use index::ObjectIndex;
+pub use iter::{IntoIter, Iter, Keys, Values};
 pub use map::{IObject, RefusedPair};

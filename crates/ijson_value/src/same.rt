@@ -4,7 +4,7 @@ ghost use Rattle.ijson_value.specs.Values.{array_tree, object_tree};
 ghost use Rattle.ijson_value.specs.SameTest.{same};
 
 use crate::object::IObject;
-use crate::value::{IValue, Node};
+use crate::value::{Destructured, IValue};
 
 /// Whether two values are the same.
 #[cycle(same)]
@@ -12,12 +12,12 @@ pub(crate) fn same_value(a: &IValue, b: &IValue) -> bool
     ensures { result ≡ same a.now.tree b.now.tree }
 {
     match (&a.node, &b.node) {
-        (Node::Null, Node::Null) => true,
-        (Node::Bool(x), Node::Bool(y)) => *x == *y,
-        (Node::Number(x), Node::Number(y)) => *x == *y,
-        (Node::String(x), Node::String(y)) => *x == *y,
-        (Node::Array(x), Node::Array(y)) => same_items(x.as_slice(), y.as_slice()),
-        (Node::Object(x), Node::Object(y)) => same_pairs(x, y),
+        (Destructured::Null, Destructured::Null) => true,
+        (Destructured::Bool(x), Destructured::Bool(y)) => *x == *y,
+        (Destructured::Number(x), Destructured::Number(y)) => *x == *y,
+        (Destructured::String(x), Destructured::String(y)) => *x == *y,
+        (Destructured::Array(x), Destructured::Array(y)) => same_items(x.as_slice(), y.as_slice()),
+        (Destructured::Object(x), Destructured::Object(y)) => same_pairs(x, y),
         _ => false,
     }
 }

@@ -1,17 +1,24 @@
 //! Values of the six kinds.
 ghost use Rattle.std.specs.Prelude.{◌≡◌, ◌↔◌, IsTrue};
 ghost use Rattle.ijson_value.specs.Kind.{kind_of};
-ghost use Rattle.ijson_value.specs.Opened.{ref_value};
 ghost use Rattle.ijson_value.specs.Same.{Same};
 ghost use Rattle.ijson_value.specs.SameTest.{same};
-ghost use Rattle.ijson_value.specs.Values.{null_value, boolean_value, number_value, string_value, array_value, object_value};
+ghost use Rattle.ijson_value.specs.Values.{null_value};
 ghost use Rattle.ijson_value.specs.laws.Equality.{partial_equivalence, equivalence};
+
+mod convert;
+mod destructure;
+mod index;
+mod kinds;
+mod parts;
 
 use crate::array::IArray;
 use crate::object::IObject;
 use crate::same::same_value;
+pub use destructure::{BoolMut, DestructuredMut, DestructuredRef};
 use ijson_number::INumber;
 use ijson_string::IString;
+pub use index::ValueIndex;
 use std::marker::Model;
 use std::mem::size_of;
 
@@ -19,15 +26,15 @@ use std::mem::size_of;
 #[cycle(value)]
 #[derive(Debug, Drop)]
 pub struct IValue {
-    pub(crate) node: Node,
+    pub(crate) node: Destructured,
 }
 
 const _: () = prove!(size_of::<IValue>() == 24);
 
-/// What a value is made of, by its kind.
+/// A value opened: what it is made of, by its kind.
 #[cycle(value)]
-#[derive(Debug, Drop)]
-pub(crate) enum Node {
+#[derive(Debug, Drop, PartialEq, Eq)]
+pub enum Destructured {
     Null,
     Bool(bool),
     Number(INumber),
@@ -44,7 +51,7 @@ impl Model for IValue {
 
     ghost coded = { well_formed_code };
 
-    ghost use Rattle.ijson_value.specs.private.NodeValue.{node_value};
+    ghost use Rattle.ijson_value.specs.NodeValue.{node_value};
     ghost use Rattle.ijson_value.specs.private.Sizes.{value_size};
 
     ghost view = { λ v. node_value v.node };
@@ -67,31 +74,22 @@ pub enum ValueType {
     Object,
 }
 
-/// A value opened, with what it holds by reference.
-#[derive(Clone, Copy, Debug, PartialEq, Eq)]
-pub enum DestructuredRef<'a> {
-    Null,
-    Bool(bool),
-    Number(&'a INumber),
-    String(&'a IString),
-    Array(&'a IArray),
-    Object(&'a IObject),
-}
-
 // No clause can name a constant whose type has a model. What these are is the contract of what answers them: `default`
 // of `NULL`, and `from` a `bool` of `TRUE` and `FALSE`.
 impl IValue {
     /// The value null.
-    pub const NULL: IValue = IValue { node: Node::Null };
+    pub const NULL: IValue = IValue {
+        node: Destructured::Null,
+    };
 
     /// The value true.
     pub const TRUE: IValue = IValue {
-        node: Node::Bool(true),
+        node: Destructured::Bool(true),
     };
 
     /// The value false.
     pub const FALSE: IValue = IValue {
-        node: Node::Bool(false),
+        node: Destructured::Bool(false),
     };
 
     /// The kind of the value.
@@ -99,26 +97,12 @@ impl IValue {
         ensures { result ≡ kind_of self.now.tree }
     {
         match &self.node {
-            Node::Null => ValueType::Null,
-            Node::Bool(_) => ValueType::Bool,
-            Node::Number(_) => ValueType::Number,
-            Node::String(_) => ValueType::String,
-            Node::Array(_) => ValueType::Array,
-            Node::Object(_) => ValueType::Object,
-        }
-    }
-
-    /// The value opened, to match on its kind.
-    pub fn destructure_ref(&self) -> DestructuredRef<'_>
-        ensures { ref_value result ≡ self.now }
-    {
-        match &self.node {
-            Node::Null => DestructuredRef::Null,
-            Node::Bool(b) => DestructuredRef::Bool(*b),
-            Node::Number(n) => DestructuredRef::Number(n),
-            Node::String(s) => DestructuredRef::String(s),
-            Node::Array(a) => DestructuredRef::Array(a),
-            Node::Object(o) => DestructuredRef::Object(o),
+            Destructured::Null => ValueType::Null,
+            Destructured::Bool(_) => ValueType::Bool,
+            Destructured::Number(_) => ValueType::Number,
+            Destructured::String(_) => ValueType::String,
+            Destructured::Array(_) => ValueType::Array,
+            Destructured::Object(_) => ValueType::Object,
         }
     }
 }
@@ -128,54 +112,6 @@ impl Default for IValue {
 
     fn default() -> IValue {
         IValue::NULL
-    }
-}
-
-impl From<bool> for IValue {
-    ghost from_gives = { λ b v. v ≡ boolean_value b };
-
-    fn from(b: bool) -> IValue {
-        if b { IValue::TRUE } else { IValue::FALSE }
-    }
-}
-
-impl From<INumber> for IValue {
-    ghost from_gives = { λ n v. v ≡ number_value n };
-
-    fn from(n: INumber) -> IValue {
-        IValue {
-            node: Node::Number(n),
-        }
-    }
-}
-
-impl From<IString> for IValue {
-    ghost from_gives = { λ s v. v ≡ string_value s };
-
-    fn from(s: IString) -> IValue {
-        IValue {
-            node: Node::String(s),
-        }
-    }
-}
-
-impl From<IArray> for IValue {
-    ghost from_gives = { λ a v. v ≡ array_value a.items };
-
-    fn from(a: IArray) -> IValue {
-        IValue {
-            node: Node::Array(a),
-        }
-    }
-}
-
-impl From<IObject> for IValue {
-    ghost from_gives = { λ o v. v ≡ object_value o };
-
-    fn from(o: IObject) -> IValue {
-        IValue {
-            node: Node::Object(o),
-        }
     }
 }
 

@@ -2,12 +2,12 @@
 use Rattle.std.specs.Prelude.{◌≤◌, max}
 use Rattle.std.proofs.Common.{arith}
 use Rattle.ijson_value.specs.private.Sizes.{value_size}
-use Rattle.ijson_value.specs.private.NodeValue.{node_value}
-use Rattle.ijson_value.specs.declared.value.Node.{Node}
-use Rattle.ijson_value.specs.declared.value.Node.TheVariants.{Null, Bool, Number, String, Array, Object}
-use Rattle.ijson_value.specs.declared.array.IArray.TheDeep.{deep-Node}
+use Rattle.ijson_value.specs.NodeValue.{node_value}
+use Rattle.ijson_value.specs.declared.value.Destructured.{Destructured}
+use Rattle.ijson_value.specs.declared.value.Destructured.TheVariants.{Null, Bool, Number, String, Array, Object}
+use Rattle.ijson_value.specs.declared.array.IArray.TheDeep.{deep-Destructured}
 
-pub node_falls : (n : Node) → max (deep-Node n) 0 ≤ value_size (node_value n)
+pub node_falls : (n : Destructured) → max (deep-Destructured n) 0 ≤ value_size (node_value n)
 node_falls Null = omega arith
 node_falls (Bool b) = omega arith
 node_falls (Number n) = omega arith

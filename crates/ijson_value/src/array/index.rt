@@ -1,7 +1,7 @@
 //! An array by position, and its items to be written.
-ghost use Rattle.std.specs.Prelude.{◌≡◌, ◌<◌, length, Some, slice_get};
+ghost use Rattle.std.specs.Prelude.{◌≡◌, ◌<◌, length, Some, slice_get, option_map};
 ghost use Rattle.std.specs.Borrow.{sem};
-ghost use Rattle.ijson_value.specs.LendsItem.{LendsItem};
+ghost use Rattle.ijson_value.specs.LendsItem.{LendsItem, LendsItemIf};
 
 use super::IArray;
 use crate::value::IValue;
@@ -30,6 +30,17 @@ impl IndexMut<usize> for IArray {
 }
 
 impl IArray {
+    /// The item at a place, to be written. None past the end.
+    pub(crate) fn get_mut(&mut self, index: usize) -> Option<&mut IValue>
+        ensures* writes_back { sem 𝓛 (LendsItemIf self.entry index result) }
+        ensures item { option_map (λ item. item.now) result ≡ slice_get self.old.items index }
+    {
+        match &mut self.list {
+            None => None,
+            Some(list) => list.get_mut(index),
+        }
+    }
+
     /// The items, front to back, to be written.
     pub fn as_mut_slice(&mut self) -> &mut [IValue]
         ensures { result.now ≡ self.old.items }

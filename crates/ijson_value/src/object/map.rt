@@ -1,7 +1,7 @@
 //! `IObject`: what is looked up, and what is put.
-ghost use Rattle.std.specs.Prelude.{◌≡◌, ◌==◌, ◌≤◌, [], length, OnOk, IfOk, IfErr, IsSome, IsTrue, ◌↔◌};
+ghost use Rattle.std.specs.Prelude.{◌≡◌, ◌==◌, ◌<◌, ◌≤◌, [], length, Err, OnOk, IfOk, IfErr, IsOk, IsSome, IsTrue, ◌↔◌};
 ghost use Rattle.std.specs.Option.{option_copied};
-ghost use Rattle.ijson_table.specs.Growth.{Grow, capacity_limit};
+ghost use Rattle.ijson_table.specs.Growth.{Grow, Shrink, capacity_limit};
 ghost use Rattle.ijson_table.specs.Store.{lookup, put};
 ghost use Rattle.ijson_value.specs.GrowthOf.{growth_of};
 ghost use Rattle.ijson_value.specs.Same.{Same};
@@ -23,8 +23,8 @@ use thiserror::Error;
 #[cycle(value)]
 #[derive(Debug, Drop)]
 pub struct IObject {
-    table: Option<Box<FixedTable<IValue>>>,
-    alloc: Global,
+    pub(super) table: Option<Box<FixedTable<IValue>>>,
+    pub(super) alloc: Global,
 }
 
 const _: () = prove!(size_of::<IObject>() == 16);
@@ -68,6 +68,27 @@ impl IObject {
         IObject { table: None, alloc }
     }
 
+    /// An object with no pairs and this capacity. It is refused as too large where that passes 2^56; a capacity of 0 takes no
+    /// memory.
+    pub fn with_capacity(alloc: Global, capacity: usize) -> Result<IObject, ReserveError>
+        ensures pairs { IfOk result (λ object. object.pairs ≡ []) }
+        ensures capacity { IfOk result (λ object. object.capacity ≡ capacity) }
+        ensures too_large { (result ≡ Err ReserveError.TooLarge) ↔ (capacity_limit < capacity) }
+        ensures none { capacity ≡ 0 → IsOk result }
+    {
+        if capacity == 0 {
+            return Ok(IObject::new(alloc));
+        }
+        let table = FixedTable::with_capacity(alloc, capacity)?;
+        match Box::new(alloc, table) {
+            Ok(table) => Ok(IObject {
+                table: Some(table),
+                alloc,
+            }),
+            Err(_) => Err(ReserveError::Memory),
+        }
+    }
+
     /// How many pairs there are.
     pub fn len(&self) -> usize
         ensures { result ≡ length self.now.pairs }
@@ -94,6 +115,51 @@ impl IObject {
         }
     }
 
+    /// Makes room for `additional` pairs more. Where they have none, the capacity becomes the greatest of twice the old one,
+    /// the length with them, and 4.
+    pub fn reserve(&mut self, additional: usize) -> Result<(), ReserveError>
+        ensures growth { Grow (length self.old.pairs) self.old.capacity additional result
+            self.new.capacity }
+        ensures pairs { self.new.pairs ≡ self.old.pairs }
+    {
+        if let Some(table) = &mut self.table {
+            return table.reserve(additional);
+        }
+        if additional == 0 {
+            return Ok(());
+        }
+        let mut table = FixedTable::new(self.alloc);
+        table.reserve(additional)?;
+        match Box::new(self.alloc, table) {
+            Ok(table) => {
+                self.table = Some(table);
+                Ok(())
+            }
+            Err(_) => Err(ReserveError::Memory),
+        }
+    }
+
+    /// Makes the capacity the length. That takes no memory where it is so already or the length is 0.
+    pub fn shrink_to_fit(&mut self) -> Result<(), ReserveError>
+        ensures capacity { Shrink (length self.old.pairs) self.old.capacity result self.new.capacity }
+        ensures pairs { self.new.pairs ≡ self.old.pairs }
+    {
+        match &mut self.table {
+            None => Ok(()),
+            Some(table) => table.shrink_to_fit(),
+        }
+    }
+
+    /// Drops all pairs. The capacity stays.
+    pub fn clear(&mut self)
+        ensures pairs { self.new.pairs ≡ [] }
+        ensures capacity { self.new.capacity ≡ self.old.capacity }
+    {
+        if let Some(table) = &mut self.table {
+            table.clear();
+        }
+    }
+
     /// Puts a pair. A key that is there keeps its place, and its old value is answered; a new key goes last. First there
     /// is room made for one pair more, and where that is refused the pair comes back.
     pub fn insert(&mut self, key: IString, value: IValue) -> Result<Option<IValue>, RefusedPair>
@@ -104,37 +170,10 @@ impl IObject {
         ensures refused { IfErr result (λ refused.
             (refused.key ≡ key) × (refused.value ≡ value) × (self.new.pairs ≡ self.old.pairs)) }
     {
-        if self.table.is_none() {
-            match Box::new(self.alloc, FixedTable::new(self.alloc)) {
-                Ok(table) => self.table = Some(table),
-                Err(_) => {
-                    let why = ReserveError::Memory;
-                    return Err(RefusedPair { key, value, why });
-                }
-            }
-        }
-        let table = self.table.as_mut().unwrap();
-        if let Err(why) = table.reserve(1) {
+        if let Err(why) = self.reserve(1) {
             return Err(RefusedPair { key, value, why });
         }
-        Ok(table.put(key, value))
-    }
-
-    /// The value beside a key.
-    pub fn get(&self, key: &str) -> Option<&IValue>
-        ensures { option_copied result ≡ lookup key.now self.now.pairs }
-    {
-        match &self.table {
-            None => None,
-            Some(table) => table.get(key),
-        }
-    }
-
-    /// Whether a key is there.
-    pub fn contains_key(&self, key: &str) -> bool
-        ensures { IsTrue result ↔ IsSome (lookup key.now self.now.pairs) }
-    {
-        self.get(key).is_some()
+        Ok(self.table.as_mut().unwrap().put(key, value))
     }
 
     /// The pairs, front to back.

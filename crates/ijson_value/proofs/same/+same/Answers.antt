@@ -3,7 +3,7 @@ use Rattle.ijson_table.specs.Store.{lookup}
 use Rattle.ijson_value.specs.WellFormed.{tree_of, pair_trees, item_trees}
 use Rattle.ijson_value.specs.SameTest.{same_in}
 use Rattle.ijson_value.specs.Tree.{array, depth, members_depth}
-use Rattle.ijson_value.specs.private.NodeValue.{node_value}
+use Rattle.ijson_value.specs.NodeValue.{node_value}
 use Rattle.ijson_value.proofs.DepthLemmas.{pair-members_depth, items_below}
 use Rattle.ijson_value.proofs.SameSteps.{in-drop-None, in-drop-Some, each-other_lengths, objects-lengths, objects-other_lengths}
 use Rattle.ijson_value.proofs.same.+same.Goals as goal

@@ -1,10 +1,10 @@
--- The value of a node, where each value inside is seen already.
+-- The value that stands open in a `Destructured`. As in the Rust crate `ijson`.
 use Rattle.ijson_value.specs.Values.{null_value, boolean_value, number_value, string_value, array_value, object_value}
 use Rattle.ijson_value.specs.WellFormed.{WellFormed}
-use Rattle.ijson_value.specs.declared.value.Node.{Node}
-use Rattle.ijson_value.specs.declared.value.Node.TheVariants.{Null, Bool, Number, String, Array, Object}
+use Rattle.ijson_value.specs.declared.value.Destructured.{Destructured}
+use Rattle.ijson_value.specs.declared.value.Destructured.TheVariants.{Null, Bool, Number, String, Array, Object}
 
-abbrev pub node_value : Node → WellFormed
+abbrev pub node_value : Destructured → WellFormed
 node_value Null = null_value
 node_value (Bool b) = boolean_value b
 node_value (Number n) = number_value n

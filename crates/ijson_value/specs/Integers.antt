@@ -1,0 +1,14 @@
+-- Whole numbers as values. This project's own.
+use Rattle.std.specs.Prelude.{ℤ}
+use Rattle.ijson_number.specs.Integers.{HasValue, IsInteger}
+use Rattle.ijson_value.specs.Tree.{Tree, null, boolean, number, string, array, object}
+
+-- the tree is a number of the value z
+abbrev pub HasInteger : Tree → ℤ → Type 0
+HasInteger (number n) z = HasValue n z
+HasInteger _ z = ⊥
+
+-- the tree is the number z, without the point
+abbrev pub IsIntegerTree : Tree → ℤ → Type 0
+IsIntegerTree (number n) z = IsInteger n z
+IsIntegerTree _ z = ⊥

@@ -1,0 +1,24 @@
+-- What an opened value is once the value one step inside that it lent is given back: what was left there stands in its place,
+-- and nothing else is changed. `specs/laws/Steps.antt` shows that its tree is then `tree_with`. This project's own.
+use Rattle.std.specs.Prelude.{Option}
+use Rattle.std.specs.Borrow.{Lends, LendsIf, MutBor, Fml}
+use Rattle.ijson_value.specs.LendsAtKey.{with_key}
+use Rattle.ijson_value.specs.LendsItem.{with_item}
+use Rattle.ijson_value.specs.Step.{Step, by_position, by_key}
+use Rattle.ijson_value.specs.WellFormed.{WellFormed}
+use Rattle.ijson_value.specs.contracts.value.Destructured as node
+use Rattle.ijson_value.specs.contracts.value.IValue as value
+use Rattle.ijson_value.specs.declared.value.Destructured.{Destructured}
+use Rattle.ijson_value.specs.declared.value.Destructured.TheVariants.{Array, Object}
+
+abbrev pub with_step : Destructured → Step → WellFormed → Destructured
+with_step (Array a) (by_position i) w = Array (with_item a i w)
+with_step (Object o) (by_key key) w = Object (with_key o key w)
+with_step n _ w = n
+
+abbrev pub LendsStep : MutBor Destructured → Step → MutBor WellFormed → Fml
+LendsStep s step r = Lends node.the_row value.the_row s r (with_step s.now step)
+
+-- the same, or nothing: then the value is as it was
+abbrev pub LendsStepIf : MutBor Destructured → Step → Option (MutBor WellFormed) → Fml
+LendsStepIf s step r = LendsIf node.the_row value.the_row s r (with_step s.now step) s.now

@@ -1,0 +1,140 @@
+-- What stands one step inside a value, what is left without it, and the value with another there: the trees of what a list of
+-- items and a store of pairs answer.
+use Rattle.std.specs.Prelude.{◌≡◌, ℕ, zero, suc, ◌-◌, ◌++◌, Bool, true, false, List, [], ◌∷◌, Option, Some, None, map, length, take, drop, set, swap, get_or, slice_get, option_map, IsSome, cond, if◌then◌else◌}
+use Rattle.std.specs.List.{remove}
+use Rattle.std.specs.Str.{bytes_eq}
+use Rattle.std.proofs.Common.{refl, sym, ap, ◌∙◌}
+use Rattle.std.proofs.lemmas.List.{map-append, map-set, take-map, drop-map, length-map}
+use Rattle.ijson_table.specs.Store.{Store, keys_of, position_of, at, lookup, put, swap_out, with_value}
+use Rattle.ijson_table.proofs.Keys.{lookup-absent, put-present}
+use Rattle.ijson_value.specs.AtKey.{swap_out_key}
+use Rattle.ijson_value.specs.Kind.{kind_of}
+use Rattle.ijson_value.specs.LendsAtKey.{with_found, with_key}
+use Rattle.ijson_value.specs.LendsStep.{with_step}
+use Rattle.ijson_value.specs.NodeValue.{node_value}
+use Rattle.ijson_value.specs.Step.{Step, by_position, by_key, kind_for, tree_at, tree_with, tree_without}
+use Rattle.ijson_value.specs.Tree.{Tree, null, boolean, number, string, array, object, items_of, items_list, members_of, members_list}
+use Rattle.ijson_value.specs.Values.{array_tree, object_tree}
+use Rattle.ijson_value.specs.WellFormed.{WellFormed, tree_of, item_trees, pair_trees}
+use Rattle.ijson_value.specs.declared.value.Destructured.{Destructured}
+use Rattle.ijson_value.specs.declared.value.Destructured.TheVariants.{Null, Bool as Truth, Number, String, Array, Object}
+
+abbrev pair_tree : List ℕ × WellFormed → List ℕ × Tree
+pair_tree p = (p.0, tree_of p.1)
+
+items_list-items : (vs : List WellFormed) → items_list (item_trees vs) ≡ map tree_of vs
+items_list-items [] = refl
+items_list-items (v ∷ vs) = ap (λ ts. v.tree ∷ ts) (items_list-items vs)
+
+members_list-pairs : (ps : List (List ℕ × WellFormed)) → members_list (pair_trees ps) ≡ map pair_tree ps
+members_list-pairs [] = refl
+members_list-pairs (p ∷ ps) = ap (λ ms. pair_tree p ∷ ms) (members_list-pairs ps)
+
+-- where something stands there, the kind is the one that the step starts from
+pub kind_at : (t : Tree) (step : Step) → IsSome (tree_at t step) → kind_of t ≡ kind_for step
+kind_at null step h = cc
+kind_at (boolean b) step h = cc
+kind_at (number n) step h = cc
+kind_at (string s) step h = cc
+kind_at (array ts) (by_position i) h = refl
+kind_at (array ts) (by_key key) h = cc
+kind_at (object ps) (by_position i) h = cc
+kind_at (object ps) (by_key key) h = refl
+
+-- the item at a position, and the value beside a key
+pub item_at : (vs : List WellFormed) (i : ℕ) → option_map tree_of (slice_get vs i) ≡ tree_at (array_tree vs) (by_position i)
+item_at [] i = refl
+item_at (v ∷ vs) zero = refl
+item_at (v ∷ vs) (suc i) = item_at vs i
+
+pub value_at : (ps : List (List ℕ × WellFormed)) (key : List ℕ)
+    → option_map tree_of (lookup key ps) ≡ tree_at (object_tree ps) (by_key key)
+value_at [] key = refl
+value_at (p ∷ ps) key = elim (bytes_eq key p.0) as (λ b. option_map tree_of (cond b (Some p.1) (lookup key ps))
+    ≡ cond b (Some p.1.tree) (lookup key (members_list (pair_trees ps)))) [
+      | true ↦ refl
+      | false ↦ value_at ps key
+    ]
+
+-- without it
+pub item_without : (vs : List WellFormed) (i : ℕ) → array_tree (remove vs i) ≡ tree_without (array_tree vs) (by_position i)
+item_without vs i =
+    ap (λ ts. array (items_of ts)) (map-append tree_of (take i vs) (drop (suc i) vs)
+    ∙ ap (λ ts. ts ++ map tree_of (drop (suc i) vs)) (sym (take-map tree_of i vs))
+    ∙ ap (λ ts. take i (map tree_of vs) ++ ts) (sym (drop-map tree_of (suc i) vs)))
+    ∙ ap (λ ts. array (items_of (remove ts i))) (sym (items_list-items vs))
+
+keys_of-trees : (ps : List (List ℕ × WellFormed)) → keys_of (map pair_tree ps) ≡ keys_of ps
+keys_of-trees [] = refl
+keys_of-trees (p ∷ ps) = ap (λ ks. p.0 ∷ ks) (keys_of-trees ps)
+
+get_or-trees : (ps : List (List ℕ × WellFormed)) (i : ℕ) (d : List ℕ × WellFormed)
+    → pair_tree (get_or ps i d) ≡ get_or (map pair_tree ps) i (pair_tree d)
+get_or-trees [] i d = refl
+get_or-trees (p ∷ ps) zero d = refl
+get_or-trees (p ∷ ps) (suc i) d = get_or-trees ps i d
+
+swap-trees : (ps : List (List ℕ × WellFormed)) (i j : ℕ) → map pair_tree (swap ps i j) ≡ swap (map pair_tree ps) i j
+swap-trees [] i j = refl
+swap-trees (d ∷ ps) i j =
+    map-set pair_tree (set (d ∷ ps) i (get_or (d ∷ ps) j d)) j (get_or (d ∷ ps) i d)
+    ∙ ap (λ x. set (map pair_tree (set (d ∷ ps) i (get_or (d ∷ ps) j d))) j x) (get_or-trees (d ∷ ps) i d)
+    ∙ ap (λ xs. set xs j (get_or (map pair_tree (d ∷ ps)) i (pair_tree d)))
+    (map-set pair_tree (d ∷ ps) i (get_or (d ∷ ps) j d)
+    ∙ ap (λ x. set (map pair_tree (d ∷ ps)) i x) (get_or-trees (d ∷ ps) j d))
+
+swap_out-trees : (ps : List (List ℕ × WellFormed)) (i : ℕ) → map pair_tree (swap_out ps i) ≡ swap_out (map pair_tree ps) i
+swap_out-trees ps i = rw (length-map ps pair_tree) (
+    sym (take-map pair_tree (length ps - 1) (swap ps i (length ps - 1)))
+    ∙ ap (take (length ps - 1)) (swap-trees ps i (length ps - 1)))
+
+swap_out_key-trees : (ps : List (List ℕ × WellFormed)) (key : List ℕ) (found : Option ℕ) → at ps key ≡ found
+    → map pair_tree (swap_out_key key ps) ≡ swap_out_key key (map pair_tree ps)
+swap_out_key-trees ps key None e =
+    let there : at (map pair_tree ps) key ≡ None = ap (λ ks. position_of ks key) (keys_of-trees ps) ∙ e in
+    rw e (rw there refl)
+swap_out_key-trees ps key (Some i) e =
+    let there : at (map pair_tree ps) key ≡ Some i = ap (λ ks. position_of ks key) (keys_of-trees ps) ∙ e in
+    rw e (rw there (swap_out-trees ps i))
+
+pub value_without : (ps : List (List ℕ × WellFormed)) (key : List ℕ)
+    → object_tree (swap_out_key key ps) ≡ tree_without (object_tree ps) (by_key key)
+value_without ps key = ap (λ ms. object (members_of ms)) (swap_out_key-trees ps key (at ps key) refl)
+    ∙ ap (λ ms. object (members_of (swap_out_key key ms))) (sym (members_list-pairs ps))
+
+-- with another there
+put-trees : (ps : List (List ℕ × WellFormed)) (key : List ℕ) (w : WellFormed)
+    → map pair_tree (put ps key w) ≡ put (map pair_tree ps) key w.tree
+put-trees [] key w = refl
+put-trees (p ∷ ps) key w = elim (bytes_eq p.0 key) as (λ b. map pair_tree (cond b ((p.0, w) ∷ ps) (p ∷ put ps key w))
+    ≡ cond b ((p.0, w.tree) ∷ map pair_tree ps) (pair_tree p ∷ put (map pair_tree ps) key w.tree)) [
+      | true ↦ refl
+      | false ↦ ap (λ ms. pair_tree p ∷ ms) (put-trees ps key w)
+    ]
+
+item_with : (vs : List WellFormed) (i : ℕ) (w : WellFormed)
+    → array_tree (set vs i w) ≡ tree_with (array_tree vs) (by_position i) w.tree
+item_with vs i w = ap (λ ts. array (items_of ts)) (map-set tree_of vs i w)
+    ∙ ap (λ ts. array (items_of (set ts i w.tree))) (sym (items_list-items vs))
+
+value_with : (o : Store WellFormed) (key : List ℕ) (w : WellFormed) → IsSome (tree_at (object_tree o.pairs) (by_key key))
+    → object_tree (with_key o key w).pairs ≡ tree_with (object_tree o.pairs) (by_key key) w.tree
+value_with o key w h = elim (at o.pairs key) as (λ found. at o.pairs key ≡ found
+    → object_tree (with_found o found w).pairs ≡ tree_with (object_tree o.pairs) (by_key key) w.tree) [
+      | None ↦ λ e. let absent = lookup-absent o.pairs key e in let there = value_at o.pairs key in cc
+      | Some i ↦ λ e. ap object_tree (sym (put-present o.pairs i key w e))
+          ∙ ap (λ ms. object (members_of ms)) (put-trees o.pairs key w)
+          ∙ ap (λ ms. object (members_of (put ms key w.tree))) (sym (members_list-pairs o.pairs))
+    ] refl
+
+-- an opened value that lent what stands one step inside is the tree with what was left there
+pub tree_with_step : (n : Destructured) (step : Step) (w : WellFormed) → IsSome (tree_at (node_value n).tree step)
+    → (node_value (with_step n step w)).tree ≡ tree_with (node_value n).tree step w.tree
+tree_with_step Null step w h = cc
+tree_with_step (Truth b) step w h = cc
+tree_with_step (Number n) step w h = cc
+tree_with_step (String s) step w h = cc
+tree_with_step (Array a) (by_position i) w h = item_with a.items i w
+tree_with_step (Array a) (by_key key) w h = cc
+tree_with_step (Object o) (by_position i) w h = cc
+tree_with_step (Object o) (by_key key) w h = value_with o key w h

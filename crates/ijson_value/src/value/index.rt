@@ -1,0 +1,215 @@
+//! A value inside a value, by position or by key.
+ghost use Rattle.std.specs.Prelude.{◌≡◌, Some, option_map, IsSome};
+ghost use Rattle.std.specs.Borrow.{sem};
+ghost use Rattle.ijson_value.specs.Kind.{kind_of};
+ghost use Rattle.ijson_value.specs.LendsPart.{LendsOpened};
+ghost use Rattle.ijson_value.specs.LendsStep.{LendsStep, LendsStepIf};
+ghost use Rattle.ijson_value.specs.NodeValue.{node_value};
+ghost use Rattle.ijson_value.specs.Step.{Step, by_position, by_key, kind_for, tree_at, tree_without};
+
+use super::{Destructured, IValue};
+use ijson_string::IString;
+use std::ops::{Deref, DerefMut, Index, IndexMut};
+
+/// A value opened, which it always is: what lends a value inside it is a call of the opened value.
+impl Deref for IValue {
+    type Target = Destructured;
+
+    ghost deref_gives = { λ value opened. node_value opened ≡ value };
+
+    fn deref(&self) -> &Destructured {
+        &self.node
+    }
+}
+
+impl DerefMut for IValue {
+    ghost deref_mut_gives = { λ value opened. node_value opened ≡ value };
+
+    fn deref_mut(&mut self) -> &mut Destructured
+        ensures* writes_back { sem 𝓛 (LendsOpened self.entry result) }
+        ensures value { node_value result.now ≡ self.old }
+    {
+        &mut self.node
+    }
+}
+
+/// Only positions and texts find values: no type outside of this crate can.
+pub trait Sealed: Copy {
+    /// The step that it tells.
+    ghost step: { Self → Step };
+
+    fn find_in<'v>(self, v: &'v Destructured) -> Option<&'v IValue>
+        requires { kind_of (node_value v.now).tree ≡ kind_for (step self) }
+        ensures { option_map (λ found. found.now.tree) result
+            ≡ tree_at (node_value v.now).tree (step self) };
+}
+
+/// What finds a value inside a value: a position of an array, or the text of a key of an object.
+pub trait ValueIndex: Sealed {
+    /// The value there. `v` is an array for a position, and an object for a key.
+    fn index_into<'v>(self, v: &'v IValue) -> Option<&'v IValue>
+        requires { kind_of v.now.tree ≡ kind_for (Self.Sealed.step self) }
+        ensures { option_map (λ found. found.now.tree) result
+            ≡ tree_at v.now.tree (Self.Sealed.step self) }
+    {
+        self.find_in(&v.node)
+    }
+
+    /// The value there, to be written.
+    fn index_into_mut<'v>(v: &'v mut Destructured, index: Self) -> Option<&'v mut IValue>
+        requires { kind_of (node_value v.old).tree ≡ kind_for (Self.Sealed.step index) }
+        ensures* writes_back { sem 𝓛 (LendsStepIf v.entry (Self.Sealed.step index) result) }
+        ensures value { option_map (λ found. found.now.tree) result
+            ≡ tree_at (node_value v.old).tree (Self.Sealed.step index) };
+
+    /// Takes the value there out. The items behind it close up; the last pair of an object moves into its place.
+    fn remove(self, v: &mut IValue) -> Option<IValue>
+        requires { kind_of v.old.tree ≡ kind_for (Self.Sealed.step self) }
+        ensures value { option_map (λ found. found.tree) result
+            ≡ tree_at v.old.tree (Self.Sealed.step self) }
+        ensures left { v.new.tree ≡ tree_without v.old.tree (Self.Sealed.step self) };
+}
+
+impl Sealed for usize {
+    ghost step = { λ position. by_position position };
+
+    fn find_in<'v>(self, v: &'v Destructured) -> Option<&'v IValue> {
+        match v {
+            Destructured::Array(array) => array.as_slice().get(self),
+            _ => None,
+        }
+    }
+}
+
+impl ValueIndex for usize {
+    fn index_into_mut<'v>(v: &'v mut Destructured, index: usize) -> Option<&'v mut IValue> {
+        match v {
+            Destructured::Array(array) => array.get_mut(index),
+            _ => None,
+        }
+    }
+
+    #[tactic(auto, using(crate::specs::laws::Steps::item_at, crate::specs::laws::Steps::item_without))]
+    fn remove(self, v: &mut IValue) -> Option<IValue> {
+        v.as_array_mut()?.remove(self)
+    }
+}
+
+impl Sealed for &str {
+    ghost step = { λ key. by_key key.now };
+
+    fn find_in<'v>(self, v: &'v Destructured) -> Option<&'v IValue> {
+        match v {
+            Destructured::Object(object) => object.get(self),
+            _ => None,
+        }
+    }
+}
+
+impl ValueIndex for &str {
+    fn index_into_mut<'v>(v: &'v mut Destructured, index: &str) -> Option<&'v mut IValue> {
+        match v {
+            Destructured::Object(object) => object.get_mut(index),
+            _ => None,
+        }
+    }
+
+    #[tactic(auto, using(crate::specs::laws::Steps::value_at, crate::specs::laws::Steps::value_without))]
+    fn remove(self, v: &mut IValue) -> Option<IValue> {
+        v.as_object_mut()?.remove(self)
+    }
+}
+
+impl Sealed for &IString {
+    ghost step = { λ key. by_key key.now };
+
+    fn find_in<'v>(self, v: &'v Destructured) -> Option<&'v IValue> {
+        self.as_str().find_in(v)
+    }
+}
+
+impl ValueIndex for &IString {
+    fn index_into_mut<'v>(v: &'v mut Destructured, index: &IString) -> Option<&'v mut IValue> {
+        <&str>::index_into_mut(v, index.as_str())
+    }
+
+    fn remove(self, v: &mut IValue) -> Option<IValue> {
+        self.as_str().remove(v)
+    }
+}
+
+impl<T: Sealed> Sealed for &T {
+    ghost step = { λ index. T.Sealed.step index.now };
+
+    fn find_in<'v>(self, v: &'v Destructured) -> Option<&'v IValue> {
+        (*self).find_in(v)
+    }
+}
+
+impl<T: ValueIndex> ValueIndex for &T {
+    fn index_into_mut<'v>(v: &'v mut Destructured, index: &T) -> Option<&'v mut IValue> {
+        T::index_into_mut(v, *index)
+    }
+
+    fn remove(self, v: &mut IValue) -> Option<IValue> {
+        (*self).remove(v)
+    }
+}
+
+impl IValue {
+    /// The value at a position of an array, or beside a key of an object. None where there is none.
+    pub fn get<I: ValueIndex>(&self, index: I) -> Option<&IValue>
+        requires { kind_of self.now.tree ≡ kind_for (I.Sealed.step index) }
+        ensures { option_map (λ found. found.now.tree) result
+            ≡ tree_at self.now.tree (I.Sealed.step index) }
+    {
+        index.index_into(self)
+    }
+
+    /// Takes out the value at a position of an array, or beside a key of an object. None where there is none.
+    pub fn remove<I: ValueIndex>(&mut self, index: I) -> Option<IValue>
+        requires { kind_of self.old.tree ≡ kind_for (I.Sealed.step index) }
+        ensures value { option_map (λ found. found.tree) result
+            ≡ tree_at self.old.tree (I.Sealed.step index) }
+        ensures left { self.new.tree ≡ tree_without self.old.tree (I.Sealed.step index) }
+    {
+        index.remove(self)
+    }
+}
+
+impl Destructured {
+    /// The value at a position of an array, or beside a key of an object, to be written. None where there is none.
+    pub fn get_mut<I: ValueIndex>(&mut self, index: I) -> Option<&mut IValue>
+        requires { kind_of (node_value self.old).tree ≡ kind_for (I.Sealed.step index) }
+        ensures* writes_back { sem 𝓛 (LendsStepIf self.entry (I.Sealed.step index) result) }
+        ensures value { option_map (λ found. found.now.tree) result
+            ≡ tree_at (node_value self.old).tree (I.Sealed.step index) }
+    {
+        I::index_into_mut(self, index)
+    }
+}
+
+impl<I: ValueIndex + Drop> Index<I> for Destructured {
+    type Output = IValue;
+
+    ghost can_index = { λ v index. IsSome (tree_at (node_value v).tree (I.Sealed.step index)) };
+
+    ghost index_gives = { λ v index found.
+        tree_at (node_value v).tree (I.Sealed.step index) ≡ Some found.tree };
+
+    #[tactic(auto, using(crate::specs::laws::Steps::kind_at))]
+    fn index(&self, index: I) -> &IValue {
+        index.find_in(self).unwrap()
+    }
+}
+
+impl<I: ValueIndex + Drop> IndexMut<I> for Destructured {
+    #[tactic(auto, using(crate::specs::laws::Steps::kind_at))]
+    fn index_mut(&mut self, index: I) -> &mut IValue
+        requires { IsSome (tree_at (node_value self.old).tree (I.Sealed.step index)) }
+        ensures* writes_back { sem 𝓛 (LendsStep self.entry (I.Sealed.step index) result) }
+        ensures value { tree_at (node_value self.old).tree (I.Sealed.step index) ≡ Some result.now.tree }
+    {
+        I::index_into_mut(self, index).unwrap()
+    }
+}
