@@ -1,2 +1,3 @@
 pub mod DepthLemmas
+mod OrderSteps
 mod SameSteps

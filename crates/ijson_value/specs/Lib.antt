@@ -1,13 +1,16 @@
 pub mod Gives
 pub mod GrowthOf
+pub mod HoldsNoObject
 pub mod Kind
 pub mod LendsItem
 pub mod Opened
+pub mod Order
 pub mod Same
 pub mod SameTest
 pub mod Sequence
 pub mod Tree
 pub mod Values
 pub mod WellFormed
+pub mod Words
 pub mod laws
 pub mod private

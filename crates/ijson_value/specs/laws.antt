@@ -4,8 +4,11 @@ pub mod Falls
 pub mod HoldsWellFormed
 pub mod NodeFalls
 pub mod ObjectFalls
+pub mod OrderLaws
 pub mod SameDecided
 pub mod SameLaws
+pub mod SameWords
 pub mod SequenceCode
 pub mod TreeCode
 pub mod WellFormedCode
+pub mod WordsEnd

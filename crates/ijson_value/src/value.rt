@@ -8,6 +8,7 @@ ghost use Rattle.ijson_value.specs.Values.{null_value, boolean_value, number_val
 ghost use Rattle.ijson_value.specs.laws.Equality.{partial_equivalence, equivalence};
 
 use crate::array::IArray;
+pub use crate::hash::words_law;
 use crate::object::IObject;
 use crate::same::same_value;
 use ijson_number::INumber;
