@@ -1,3 +1,5 @@
 pub mod DepthLemmas
+mod Feeds
 mod OrderSteps
 mod SameSteps
+mod WordFolds

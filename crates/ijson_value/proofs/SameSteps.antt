@@ -17,7 +17,7 @@ other_bytes k j ne = elim (bytes_eq k j) as (λ b. bytes_eq k j ≡ b → b ≡ 
 ] refl
 
 -- as many members as pairs
-members_len-pairs : (ps : List (List ℕ × WellFormed)) → members_len (pair_trees ps) ≡ length ps
+pub members_len-pairs : (ps : List (List ℕ × WellFormed)) → members_len (pair_trees ps) ≡ length ps
 members_len-pairs [] = refl
 members_len-pairs (p ∷ ps) = ap suc (members_len-pairs ps)
 

@@ -7,3 +7,4 @@ pub mod object;
 mod order;
 mod same;
 pub mod value;
+mod word_fold;

@@ -1,6 +1,8 @@
 -- Trees that are the same feed the same words, at every depth and in every order of pairs.
-use Rattle.std.proofs.Common.{◌≡◌, ℕ, suc, ◌+◌, ◌%◌, ◌^◌, true, false, cond, List, [], ◌∷◌, ◌++◌, inl, inr, refl, sym, ap, ◌∙◌, subst, arith}
+use Rattle.std.proofs.Common.{◌≡◌, ℕ, suc, ◌+◌, ◌%◌, ◌^◌, true, false, cond, List, [], ◌∷◌, ◌++◌, inl, inr, refl, sym, ap, ◌∙◌, subst, arith, IsTrue}
 use mathlib.Core.Bool.{true≢false}
+use Rattle.std.specs.Hash as fed
+use Rattle.std.specs.List.{flat_map}
 use Rattle.std.specs.Str.{bytes_eq}
 use Rattle.std.specs.Cmp.Lexicographic.{bytes_decides}
 use Rattle.ijson_number.specs.laws.Ordered.{equal_words}
@@ -8,9 +10,11 @@ use Rattle.ijson_string.specs.Words.{text_words}
 use Rattle.ijson_table.specs.Fold.{fold_words}
 use Rattle.ijson_table.specs.Store.{IsDistinct}
 use Rattle.ijson_value.specs.Tree.{Tree, null, boolean, number, string, array, object, Items, no_items, item, Members, no_members, member, members_len, member_keys}
-use Rattle.ijson_value.specs.WellFormed.{IsWellFormed, AreWellFormed, HaveWellFormed}
+use Rattle.ijson_value.specs.WellFormed.{WellFormed, IsWellFormed, AreWellFormed, HaveWellFormed}
 use Rattle.ijson_value.specs.Same.{Same, SameEach, SameIn, Has}
 use Rattle.ijson_value.specs.Words.{items_len, words, item_words, pair_sum}
+use Rattle.ijson_value.specs.SameTest.{same}
+use Rattle.ijson_value.specs.laws.SameDecided.{decides}
 use Rattle.ijson_value.specs.laws.SameLaws.{without, without_len, without_in, without_distinct, without_members, member_distinct, lacks_it}
 
 abbrev pair_fold : List ℕ → Tree → ℕ
@@ -75,3 +79,11 @@ mutual
       let here = same_words t u mp.0 (member_distinct qs mq j u s.0.1) s.0.2 in
       ap (λ ws. fold_words (text_words j ++ ws) + pair_sum ps) here
       ∙ ap (λ n. pair_fold j u + n) rest ∙ sym (sum_without qs j u dq s.0.1)
+
+-- and so whatever has a well-formed tree
+module _ {K : Type 0} (f : K → WellFormed) where
+  pub same_feed : (x y : K) → IsTrue (same (f x).tree (f y).tree)
+      → flat_map fed.u64 (words (f x).tree) ≡ flat_map fed.u64 (words (f y).tree)
+  same_feed x y h =
+      ap (flat_map fed.u64) (same_words (f x).tree (f y).tree (f x).well_formed (f y).well_formed
+      ((decides (f x).tree (f y).tree).0 h))
