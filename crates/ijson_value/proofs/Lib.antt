@@ -1,3 +1,4 @@
 pub mod DepthLemmas
 mod SameSteps
 mod Objects
+mod Entries

@@ -1,8 +1,10 @@
 pub mod AtKey
+pub mod EntryParts
+pub mod FindsEntry
 pub mod Gives
-pub mod GrowthOf
 pub mod Kind
 pub mod LendsAtKey
+pub mod LendsEntry
 pub mod LendsItem
 pub mod LendsValue
 pub mod Opened
@@ -12,5 +14,6 @@ pub mod Sequence
 pub mod Tree
 pub mod Values
 pub mod WellFormed
+pub mod WithEntry
 pub mod laws
 pub mod private
