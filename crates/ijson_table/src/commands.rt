@@ -3,7 +3,7 @@
 ghost use Rattle.std.specs.Prelude.{◌≡◌, IfOk, OnErr};
 ghost use Rattle.ijson_table.specs.Steps.{Step, Run};
 
-use crate::store::{PairStore, ReserveError};
+use crate::store::{PairStore, ReserveError, insert};
 use ijson_string::IString;
 use std::alloc::{AllocError, Global};
 
@@ -48,21 +48,11 @@ fn step<V: Drop, P: PairStore<V>>(store: &mut P, command: Command<V>) -> Reply<V
         (P.pairs store.new) (P.room store.new) }
 {
     match command {
-        Command::Insert(key, value) => {
-            if let Err(why) = store.reserve(1) {
-                return Reply::Refused(key, value, why);
-            }
-            match store.position(key.as_str()) {
-                Some(at) => {
-                    let place = store.value_mut(at);
-                    Reply::Replaced(std::mem::replace(place, value))
-                }
-                None => {
-                    store.push_new(key, value);
-                    Reply::Added
-                }
-            }
-        }
+        Command::Insert(key, value) => match insert(store, key, value) {
+            Ok(None) => Reply::Added,
+            Ok(Some(old)) => Reply::Replaced(old),
+            Err(refused) => Reply::Refused(refused.key, refused.value, refused.why),
+        },
         Command::Find(key) => Reply::Found(store.position(key.as_str())),
         Command::Remove(key) => match store.position(key.as_str()) {
             Some(at) => Reply::Removed(Some(store.swap_out(at))),

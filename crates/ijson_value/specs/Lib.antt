@@ -1,8 +1,14 @@
+pub mod AtKey
+pub mod EntryParts
+pub mod FindsEntry
 pub mod Gives
 pub mod GrowthOf
 pub mod HoldsNoObject
 pub mod Kind
+pub mod LendsAtKey
+pub mod LendsEntry
 pub mod LendsItem
+pub mod LendsValue
 pub mod Opened
 pub mod Order
 pub mod Same
@@ -11,6 +17,7 @@ pub mod Sequence
 pub mod Tree
 pub mod Values
 pub mod WellFormed
+pub mod WithEntry
 pub mod Words
 pub mod laws
 pub mod private

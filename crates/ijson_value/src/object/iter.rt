@@ -1,15 +1,17 @@
-//! `Iter`: the pairs of an object, one after the other.
-ghost use Rattle.std.specs.Prelude.{◌≡◌, length, Some, IfSome};
-ghost use Rattle.std.specs.Iterator.{YieldsFirstBy, item_count, at_most, UpTo};
+//! What goes over the pairs of an object, its keys or its values, one after the other.
+ghost use Rattle.std.specs.Prelude.{◌≡◌, length, map, Some, IfSome};
+ghost use Rattle.std.specs.Iterator.{YieldsFirst, YieldsFirstBy, item_count, at_most, UpTo};
 ghost use Rattle.std.specs.Iterator.SizeHint.{IsWithinCount};
 ghost use Rattle.std.specs.Map.Iter.{deref_pair};
+ghost use Rattle.ijson_table.specs.Store.{keys_of};
 
 use crate::object::map::IObject;
 use crate::value::IValue;
 use ijson_string::IString;
+use ijson_table::PairStore;
 use std::iter::FusedIterator;
 use std::marker::Model;
-use std::slice;
+use std::{slice, vec};
 
 /// The pairs of an object that are left, front to back.
 #[derive(Drop)]
@@ -31,6 +33,63 @@ impl<'a> Model for Iter<'a> {
     ghost view = { λ i. iter_rest i.left };
 }
 
+/// The keys that are left, front to back.
+#[derive(Drop)]
+pub struct Keys<'a> {
+    left: Iter<'a>,
+}
+
+impl<'a> Model for Keys<'a> {
+    ghost use Rattle.std.specs.Prelude.{ℕ, List};
+    ghost use Rattle.std.specs.Coded.{coded_list, coded_ℕ};
+    ghost use Rattle.ijson_table.specs.Store.{keys_of};
+
+    ghost Value = { List (List ℕ) };
+
+    ghost coded = { coded_list (coded_list coded_ℕ) };
+
+    ghost view = { λ keys. keys_of keys.left };
+}
+
+/// The values that are left, front to back.
+#[derive(Drop)]
+pub struct Values<'a> {
+    left: Iter<'a>,
+}
+
+impl<'a> Model for Values<'a> {
+    ghost use Rattle.std.specs.Prelude.{List, map};
+    ghost use Rattle.std.specs.Coded.{coded_list};
+    ghost use Rattle.ijson_value.specs.WellFormed.{WellFormed};
+    ghost use Rattle.ijson_value.specs.laws.WellFormedCode.{well_formed_code};
+
+    ghost Value = { List WellFormed };
+
+    ghost coded = { coded_list well_formed_code };
+
+    ghost view = { λ values. map (λ pair. pair.1) values.left };
+}
+
+/// The pairs that are left of an object that is gone, front to back.
+#[derive(Drop)]
+pub struct IntoIter {
+    left: vec::IntoIter<(IString, IValue)>,
+}
+
+impl Model for IntoIter {
+    ghost use Rattle.std.specs.Prelude.{ℕ, List};
+    ghost use Rattle.std.specs.Vec.Iter.{into_iter_items};
+    ghost use Rattle.std.specs.Coded.{coded×, coded_list, coded_ℕ};
+    ghost use Rattle.ijson_value.specs.WellFormed.{WellFormed};
+    ghost use Rattle.ijson_value.specs.laws.WellFormedCode.{well_formed_code};
+
+    ghost Value = { List (List ℕ × WellFormed) };
+
+    ghost coded = { coded_list (coded× (coded_list coded_ℕ) well_formed_code) };
+
+    ghost view = { λ i. into_iter_items i.left };
+}
+
 impl IObject {
     /// The pairs, front to back.
     pub fn iter(&self) -> Iter<'_>
@@ -39,6 +98,36 @@ impl IObject {
         Iter {
             left: self.as_slice().iter(),
         }
+    }
+
+    /// The keys, front to back.
+    pub fn keys(&self) -> Keys<'_>
+        ensures { result ≡ keys_of self.now.pairs }
+    {
+        Keys { left: self.iter() }
+    }
+
+    /// The values, front to back.
+    pub fn values(&self) -> Values<'_>
+        ensures { result ≡ map (λ pair. pair.1) self.now.pairs }
+    {
+        Values { left: self.iter() }
+    }
+}
+
+impl IntoIterator for IObject {
+    type Item = (IString, IValue);
+
+    type IntoIter = IntoIter;
+
+    ghost into_iter_gives = { λ object pairs. pairs ≡ object.pairs };
+
+    fn into_iter(self) -> IntoIter {
+        let left = match self.table {
+            None => Vec::new(self.alloc).into_iter(),
+            Some(table) => Box::into_inner(table).into_pairs().into_iter(),
+        };
+        IntoIter { left }
     }
 }
 
@@ -67,6 +156,95 @@ impl<'a> Iterator for Iter<'a> {
 impl<'a> FusedIterator for Iter<'a> {}
 
 impl<'a> ExactSizeIterator for Iter<'a> {
+    fn len(&self) -> usize {
+        self.left.len()
+    }
+}
+
+impl<'a> Iterator for Keys<'a> {
+    type Item = &'a IString;
+
+    ghost next_gives = { YieldsFirstBy (λ lent. lent.now) (λ s. s) };
+
+    ghost remaining = { item_count (λ s. s) };
+
+    fn next(&mut self) -> Option<&'a IString> {
+        let pair = self.left.next()?;
+        Some(pair.0)
+    }
+
+    fn size_hint(&self) -> (usize, Option<usize>)
+        ensures lower { IsWithinCount result.0 (at_most (length self.now)) }
+        ensures upper { IfSome result.1 (UpTo (at_most (length self.now))) }
+        ensures exact { (result.0 ≡ length self.now) × (result.1 ≡ Some (length self.now)) }
+    {
+        let len = self.len();
+        (len, Some(len))
+    }
+}
+
+impl<'a> FusedIterator for Keys<'a> {}
+
+impl<'a> ExactSizeIterator for Keys<'a> {
+    fn len(&self) -> usize {
+        self.left.len()
+    }
+}
+
+impl<'a> Iterator for Values<'a> {
+    type Item = &'a IValue;
+
+    ghost next_gives = { YieldsFirstBy (λ lent. lent.now) (λ s. s) };
+
+    ghost remaining = { item_count (λ s. s) };
+
+    fn next(&mut self) -> Option<&'a IValue> {
+        let pair = self.left.next()?;
+        Some(pair.1)
+    }
+
+    fn size_hint(&self) -> (usize, Option<usize>)
+        ensures lower { IsWithinCount result.0 (at_most (length self.now)) }
+        ensures upper { IfSome result.1 (UpTo (at_most (length self.now))) }
+        ensures exact { (result.0 ≡ length self.now) × (result.1 ≡ Some (length self.now)) }
+    {
+        let len = self.len();
+        (len, Some(len))
+    }
+}
+
+impl<'a> FusedIterator for Values<'a> {}
+
+impl<'a> ExactSizeIterator for Values<'a> {
+    fn len(&self) -> usize {
+        self.left.len()
+    }
+}
+
+impl Iterator for IntoIter {
+    type Item = (IString, IValue);
+
+    ghost next_gives = { YieldsFirst (λ s. s) };
+
+    ghost remaining = { item_count (λ s. s) };
+
+    fn next(&mut self) -> Option<(IString, IValue)> {
+        self.left.next()
+    }
+
+    fn size_hint(&self) -> (usize, Option<usize>)
+        ensures lower { IsWithinCount result.0 (at_most (length self.now)) }
+        ensures upper { IfSome result.1 (UpTo (at_most (length self.now))) }
+        ensures exact { (result.0 ≡ length self.now) × (result.1 ≡ Some (length self.now)) }
+    {
+        let len = self.len();
+        (len, Some(len))
+    }
+}
+
+impl FusedIterator for IntoIter {}
+
+impl ExactSizeIterator for IntoIter {
     fn len(&self) -> usize {
         self.left.len()
     }

@@ -1,9 +1,9 @@
 //! `IObject`: what is looked up, and what is put.
-ghost use Rattle.std.specs.Prelude.{◌≡◌, ◌==◌, ◌≤◌, [], length, OnOk, IfOk, IfErr, IsSome, IsTrue, ◌↔◌};
+ghost use Rattle.std.specs.Prelude.{◌≡◌, ◌==◌, ◌<◌, ◌≤◌, [], length, Err, OnOk, IfOk, IfErr, IsOk, IsSome, IsTrue, ◌↔◌};
 ghost use Rattle.std.specs.Option.{option_copied};
-ghost use Rattle.ijson_table.specs.Growth.{Grow, capacity_limit};
+ghost use Rattle.ijson_table.specs.Growth.{Grow, Shrink, capacity_limit};
 ghost use Rattle.ijson_table.specs.Store.{lookup, put};
-ghost use Rattle.ijson_value.specs.GrowthOf.{growth_of};
+ghost use Rattle.ijson_table.specs.Inserts.{Inserts};
 ghost use Rattle.ijson_value.specs.Same.{Same};
 ghost use Rattle.ijson_value.specs.SameTest.{same};
 ghost use Rattle.ijson_value.specs.Values.{object_tree, object_value};
@@ -16,15 +16,14 @@ use ijson_table::{FixedTable, PairStore, ReserveError};
 use std::alloc::Global;
 use std::marker::Model;
 use std::mem::size_of;
-use thiserror::Error;
 
 /// Pairs of a key and a value in order, where no key stands twice. A key is found by its hash, however many there are.
 /// It lies behind one pointer, and an object that has taken no memory yet is without it.
 #[cycle(value)]
 #[derive(Debug, Drop)]
 pub struct IObject {
-    table: Option<Box<FixedTable<IValue>>>,
-    alloc: Global,
+    pub(super) table: Option<Box<FixedTable<IValue>>>,
+    pub(super) alloc: Global,
 }
 
 const _: () = prove!(size_of::<IObject>() == 16);
@@ -51,13 +50,7 @@ impl Model for IObject {
 }
 
 /// A pair that an object did not take, and why it did not grow.
-#[derive(Debug, Drop, Error)]
-#[error("the object did not grow for one more pair: {why}")]
-pub struct RefusedPair {
-    pub key: IString,
-    pub value: IValue,
-    pub why: ReserveError,
-}
+pub type RefusedPair = ijson_table::RefusedPair<IValue>;
 
 impl IObject {
     /// An object with no pairs and the capacity 0. It takes no memory.
@@ -66,6 +59,27 @@ impl IObject {
         ensures capacity { result.capacity ≡ 0 }
     {
         IObject { table: None, alloc }
+    }
+
+    /// An object with no pairs and this capacity. It is refused as too large where that passes 2^56; a capacity of 0 takes no
+    /// memory.
+    pub fn with_capacity(alloc: Global, capacity: usize) -> Result<IObject, ReserveError>
+        ensures pairs { IfOk result (λ object. object.pairs ≡ []) }
+        ensures capacity { IfOk result (λ object. object.capacity ≡ capacity) }
+        ensures too_large { (result ≡ Err ReserveError.TooLarge) ↔ (capacity_limit < capacity) }
+        ensures none { capacity ≡ 0 → IsOk result }
+    {
+        if capacity == 0 {
+            return Ok(IObject::new(alloc));
+        }
+        let table = FixedTable::with_capacity(alloc, capacity)?;
+        match Box::new(alloc, table) {
+            Ok(table) => Ok(IObject {
+                table: Some(table),
+                alloc,
+            }),
+            Err(_) => Err(ReserveError::Memory),
+        }
     }
 
     /// How many pairs there are.
@@ -94,15 +108,56 @@ impl IObject {
         }
     }
 
-    /// Puts a pair. A key that is there keeps its place, and its old value is answered; a new key goes last. First there
-    /// is room made for one pair more, and where that is refused the pair comes back.
-    pub fn insert(&mut self, key: IString, value: IValue) -> Result<Option<IValue>, RefusedPair>
-        ensures growth { Grow (length self.old.pairs) self.old.capacity 1 (growth_of result)
+    /// Makes room for `additional` pairs more. Where they have none, the capacity becomes the greatest of twice the old one,
+    /// the length with them, and 4.
+    pub fn reserve(&mut self, additional: usize) -> Result<(), ReserveError>
+        ensures growth { Grow (length self.old.pairs) self.old.capacity additional result
             self.new.capacity }
-        ensures pairs { OnOk result (self.new.pairs ≡ put self.old.pairs key value) }
-        ensures answer { IfOk result (λ old. old ≡ lookup key self.old.pairs) }
-        ensures refused { IfErr result (λ refused.
-            (refused.key ≡ key) × (refused.value ≡ value) × (self.new.pairs ≡ self.old.pairs)) }
+        ensures pairs { self.new.pairs ≡ self.old.pairs }
+    {
+        if let Some(table) = &mut self.table {
+            return table.reserve(additional);
+        }
+        if additional == 0 {
+            return Ok(());
+        }
+        let mut table = FixedTable::new(self.alloc);
+        table.reserve(additional)?;
+        match Box::new(self.alloc, table) {
+            Ok(table) => {
+                self.table = Some(table);
+                Ok(())
+            }
+            Err(_) => Err(ReserveError::Memory),
+        }
+    }
+
+    /// Makes the capacity the length. That takes no memory where it is so already or the length is 0.
+    pub fn shrink_to_fit(&mut self) -> Result<(), ReserveError>
+        ensures capacity { Shrink (length self.old.pairs) self.old.capacity result self.new.capacity }
+        ensures pairs { self.new.pairs ≡ self.old.pairs }
+    {
+        match &mut self.table {
+            None => Ok(()),
+            Some(table) => table.shrink_to_fit(),
+        }
+    }
+
+    /// Drops all pairs. The capacity stays.
+    pub fn clear(&mut self)
+        ensures pairs { self.new.pairs ≡ [] }
+        ensures capacity { self.new.capacity ≡ self.old.capacity }
+    {
+        if let Some(table) = &mut self.table {
+            table.clear();
+        }
+    }
+
+    /// Puts a pair. A key that is there keeps its place and needs no memory, and its old value is answered; a new key goes
+    /// last, in room that is made first where there is none. Where that is refused, the pair comes back.
+    pub fn insert(&mut self, key: IString, value: IValue) -> Result<Option<IValue>, RefusedPair>
+        ensures { Inserts self.old.pairs self.old.capacity key value result self.new.pairs
+            self.new.capacity }
     {
         if self.table.is_none() {
             match Box::new(self.alloc, FixedTable::new(self.alloc)) {
@@ -113,28 +168,7 @@ impl IObject {
                 }
             }
         }
-        let table = self.table.as_mut().unwrap();
-        if let Err(why) = table.reserve(1) {
-            return Err(RefusedPair { key, value, why });
-        }
-        Ok(table.put(key, value))
-    }
-
-    /// The value beside a key.
-    pub fn get(&self, key: &str) -> Option<&IValue>
-        ensures { option_copied result ≡ lookup key.now self.now.pairs }
-    {
-        match &self.table {
-            None => None,
-            Some(table) => table.get(key),
-        }
-    }
-
-    /// Whether a key is there.
-    pub fn contains_key(&self, key: &str) -> bool
-        ensures { IsTrue result ↔ IsSome (lookup key.now self.now.pairs) }
-    {
-        self.get(key).is_some()
+        self.table.as_mut().unwrap().insert(key, value)
     }
 
     /// The pairs, front to back.

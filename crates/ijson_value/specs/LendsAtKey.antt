@@ -1,0 +1,24 @@
+-- What an object is once the value beside a key that it lent is given back: what was left there stands beside the key, and
+-- nothing else is changed. This project's own.
+use Rattle.std.specs.Prelude.{ℕ, List, Option, Some, None}
+use Rattle.std.specs.Borrow.{Lends, LendsIf, MutBor, Fml}
+use Rattle.ijson_table.specs.Store.{Store, at}
+use Rattle.ijson_table.specs.laws.Store.{store_with_value}
+use Rattle.ijson_value.specs.WellFormed.{WellFormed}
+use Rattle.ijson_value.specs.contracts.object.map.IObject as object
+use Rattle.ijson_value.specs.contracts.value.IValue as value
+
+abbrev pub with_found : Store WellFormed → Option ℕ → WellFormed → Store WellFormed
+with_found s None w = s
+with_found s (Some i) w = store_with_value s i w
+
+-- the object with this value beside a key that is there
+abbrev pub with_key : Store WellFormed → List ℕ → WellFormed → Store WellFormed
+with_key s key w = with_found s (at s.pairs key) w
+
+abbrev pub LendsAtKey : MutBor (Store WellFormed) → List ℕ → MutBor WellFormed → Fml
+LendsAtKey s key r = Lends object.the_row value.the_row s r (with_key s.now key)
+
+-- the same, or nothing: then the object is as it was
+abbrev pub LendsAtKeyIf : MutBor (Store WellFormed) → List ℕ → Option (MutBor WellFormed) → Fml
+LendsAtKeyIf s key r = LendsIf object.the_row value.the_row s r (with_key s.now key) s.now

@@ -1,0 +1,84 @@
+//! The pairs of an object by position.
+ghost use Rattle.std.specs.Prelude.{◌≡◌, ◌<◌, ◌++◌, ◌∷◌, ℕ, List, [], length, slice_get, option_map, IfSome};
+ghost use Rattle.std.specs.Borrow.{sem};
+ghost use Rattle.ijson_table.specs.Store.{at, swap_out};
+ghost use Rattle.ijson_value.specs.LendsValue.{LendsValue, LendsValueIf};
+
+use super::map::IObject;
+use crate::value::IValue;
+use ijson_string::IString;
+use ijson_table::PairStore;
+
+impl IObject {
+    /// The value at a position, to be written. None past the end.
+    pub fn value_at_mut(&mut self, position: usize) -> Option<&mut IValue>
+        ensures* writes_back { sem 𝓛 (LendsValueIf self.entry position result) }
+        ensures value { option_map (λ value. value.now) result
+            ≡ option_map (λ pair. pair.1) (slice_get self.old.pairs position) }
+    {
+        if position < self.len() {
+            Some(self.value_mut(position))
+        } else {
+            None
+        }
+    }
+
+    /// The position of a key.
+    #[tactic(auto, using(ijson_table::proofs::Keys::position_within))]
+    pub(super) fn position(&self, key: &str) -> Option<usize>
+        ensures position { result ≡ at self.now.pairs key.now }
+        ensures within { IfSome result (λ position. position < length self.now.pairs) }
+    {
+        match &self.table {
+            None => None,
+            Some(table) => table.position(key),
+        }
+    }
+
+    /// The pair at a position.
+    pub(super) fn pair(&self, position: usize) -> (&IString, &IValue)
+        requires { position < length self.now.pairs }
+        ensures { slice_get self.now.pairs position ≡ Some (result.0.now, result.1.now) }
+    {
+        let pair = &self.as_slice()[position];
+        (&pair.0, &pair.1)
+    }
+
+    /// The value at a position, to be written.
+    pub(super) fn value_mut(&mut self, position: usize) -> &mut IValue
+        requires { position < length self.old.pairs }
+        ensures* writes_back { sem 𝓛 (LendsValue self.entry position result) }
+        ensures value { (key : List ℕ) × (slice_get self.old.pairs position ≡ Some (key, result.now)) }
+    {
+        self.table.as_mut().unwrap().value_mut(position)
+    }
+
+    /// The key at a position, and its value to be written.
+    pub(super) fn pair_mut(&mut self, position: usize) -> (&IString, &mut IValue)
+        requires { position < length self.old.pairs }
+        ensures* writes_back { sem 𝓛 (LendsValue self.entry position result.1) }
+        ensures pair { slice_get self.old.pairs position ≡ Some (result.0.now, result.1.now) }
+    {
+        self.table.as_mut().unwrap().pair_mut(position)
+    }
+
+    /// Puts a pair last, in the room that there is.
+    pub(super) fn push_new(&mut self, key: IString, value: IValue)
+        requires missing { at self.old.pairs key ≡ None }
+        requires within { length self.old.pairs < self.old.capacity }
+        ensures pairs { self.new.pairs ≡ self.old.pairs ++ (key, value) ∷ [] }
+        ensures capacity { self.new.capacity ≡ self.old.capacity }
+    {
+        self.table.as_mut().unwrap().push_new(key, value);
+    }
+
+    /// Takes out the pair at a position. The last pair moves there.
+    pub(super) fn swap_out(&mut self, position: usize) -> (IString, IValue)
+        requires { position < length self.old.pairs }
+        ensures pair { slice_get self.old.pairs position ≡ Some result }
+        ensures pairs { self.new.pairs ≡ swap_out self.old.pairs position }
+        ensures capacity { self.new.capacity ≡ self.old.capacity }
+    {
+        self.table.as_mut().unwrap().swap_out(position)
+    }
+}

@@ -1,0 +1,156 @@
+//! An object by key.
+ghost use Rattle.std.specs.Prelude.{◌≡◌, ℕ, List, Some, option_map, IsSome, IsTrue, ◌↔◌};
+ghost use Rattle.std.specs.Borrow.{sem};
+ghost use Rattle.std.specs.Map.Iter.{deref_pair};
+ghost use Rattle.std.specs.Option.{option_copied, option_copied_mut};
+ghost use Rattle.ijson_table.specs.Store.{at, lookup};
+ghost use Rattle.ijson_value.specs.AtKey.{pair_at_key, swap_out_key};
+ghost use Rattle.ijson_value.specs.LendsAtKey.{LendsAtKey, LendsAtKeyIf};
+
+use super::map::IObject;
+use crate::value::IValue;
+use ijson_string::IString;
+use std::ops::{Index, IndexMut};
+
+/// Only texts are keys: no type outside of this crate can be one.
+pub trait Sealed {
+    /// The bytes of the key.
+    ghost key: { Self → List ℕ };
+
+    fn as_key(&self) -> &str
+        ensures { result.now ≡ key self.now };
+}
+
+impl Sealed for &str {
+    ghost key = { λ text. text.now };
+
+    fn as_key(&self) -> &str {
+        self
+    }
+}
+
+impl Sealed for &IString {
+    ghost key = { λ text. text.now };
+
+    fn as_key(&self) -> &str {
+        self.as_str()
+    }
+}
+
+impl<T: Sealed> Sealed for &T {
+    ghost key = { λ index. T.Sealed.key index.now };
+
+    fn as_key(&self) -> &str {
+        (**self).as_key()
+    }
+}
+
+/// What finds a pair of an object: the text of its key.
+pub trait ObjectIndex: Sealed + Copy {
+    /// The pair with the key.
+    fn index_into<'v>(self, v: &'v IObject) -> Option<(&'v IString, &'v IValue)>
+        ensures { option_map deref_pair result ≡ pair_at_key (Self.Sealed.key self) v.now.pairs }
+    {
+        match v.position(self.as_key()) {
+            Some(position) => Some(v.pair(position)),
+            None => None,
+        }
+    }
+
+    /// Takes the pair with the key out. The last pair moves into its place.
+    fn remove(self, v: &mut IObject) -> Option<(IString, IValue)>
+        ensures pair { result ≡ pair_at_key (Self.Sealed.key self) v.old.pairs }
+        ensures pairs { v.new.pairs ≡ swap_out_key (Self.Sealed.key self) v.old.pairs }
+        ensures capacity { v.new.capacity ≡ v.old.capacity }
+    {
+        match v.position(self.as_key()) {
+            Some(position) => Some(v.swap_out(position)),
+            None => None,
+        }
+    }
+}
+
+impl ObjectIndex for &str {}
+
+impl ObjectIndex for &IString {}
+
+impl<T: ObjectIndex> ObjectIndex for &T {}
+
+impl IObject {
+    /// The value beside a key.
+    pub fn get<I: ObjectIndex>(&self, index: I) -> Option<&IValue>
+        ensures { option_copied result ≡ lookup (I.Sealed.key index) self.now.pairs }
+    {
+        match &self.table {
+            None => None,
+            Some(table) => table.get(index.as_key()),
+        }
+    }
+
+    /// The value beside a key, to be written.
+    pub fn get_mut<I: ObjectIndex>(&mut self, index: I) -> Option<&mut IValue>
+        ensures* writes_back { sem 𝓛 (LendsAtKeyIf self.entry (I.Sealed.key index) result) }
+        ensures value { option_copied_mut result ≡ lookup (I.Sealed.key index) self.old.pairs }
+    {
+        match self.position(index.as_key()) {
+            Some(position) => Some(self.value_mut(position)),
+            None => None,
+        }
+    }
+
+    /// The pair with a key.
+    pub fn get_key_value<I: ObjectIndex>(&self, index: I) -> Option<(&IString, &IValue)>
+        ensures { option_map deref_pair result ≡ pair_at_key (I.Sealed.key index) self.now.pairs }
+    {
+        index.index_into(self)
+    }
+
+    /// Whether a key is there.
+    pub fn contains_key<I: ObjectIndex>(&self, index: I) -> bool
+        ensures { IsTrue result ↔ IsSome (lookup (I.Sealed.key index) self.now.pairs) }
+    {
+        self.get(index).is_some()
+    }
+
+    #[tactic(auto, using(crate::proofs::Objects::lookup_pair))]
+    /// Takes the pair with a key out, and answers its value. The last pair moves into its place.
+    pub fn remove<I: ObjectIndex>(&mut self, index: I) -> Option<IValue>
+        ensures value { result ≡ lookup (I.Sealed.key index) self.old.pairs }
+        ensures pairs { self.new.pairs ≡ swap_out_key (I.Sealed.key index) self.old.pairs }
+        ensures capacity { self.new.capacity ≡ self.old.capacity }
+    {
+        Some(index.remove(self)?.1)
+    }
+
+    /// Takes the pair with a key out. The last pair moves into its place.
+    pub fn remove_entry<I: ObjectIndex>(&mut self, index: I) -> Option<(IString, IValue)>
+        ensures pair { result ≡ pair_at_key (I.Sealed.key index) self.old.pairs }
+        ensures pairs { self.new.pairs ≡ swap_out_key (I.Sealed.key index) self.old.pairs }
+        ensures capacity { self.new.capacity ≡ self.old.capacity }
+    {
+        index.remove(self)
+    }
+}
+
+impl<I: ObjectIndex + Drop> Index<I> for IObject {
+    type Output = IValue;
+
+    ghost can_index = { λ object index. IsSome (lookup (I.Sealed.key index) object.pairs) };
+
+    ghost index_gives = { λ object index value. lookup (I.Sealed.key index) object.pairs ≡ Some value };
+
+    fn index(&self, index: I) -> &IValue {
+        self.get(index).unwrap()
+    }
+}
+
+impl<I: ObjectIndex + Drop> IndexMut<I> for IObject {
+    fn index_mut(&mut self, index: I) -> &mut IValue
+        requires { IsSome (lookup (I.Sealed.key index) self.old.pairs) }
+        ensures* writes_back { sem 𝓛 (LendsAtKey self.entry (I.Sealed.key index) result) }
+        ensures value { lookup (I.Sealed.key index) self.old.pairs ≡ Some result.now }
+    {
+        let position = self.position(index.as_key()).unwrap();
+        self.value_mut(position)
+    }
+}
