@@ -179,6 +179,10 @@ impl<V: Drop> PairStore<V> for FixedTable<V> {
         self.table.swap_out(index)
     }
 
+    fn shift_out(&mut self, index: usize) -> (IString, V) {
+        self.table.shift_out(index)
+    }
+
     fn into_pairs(self) -> Vec<(IString, V)> {
         self.table.into_pairs()
     }

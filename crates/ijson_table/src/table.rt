@@ -299,10 +299,20 @@ impl<V: Drop, H: KeyHash> PairStore<V> for Table<V, H> {
 
     fn swap_out(&mut self, index: usize) -> (IString, V) {
         let last = self.pairs.len() - 1;
+        if index == last {
+            return self.shift_out(index);
+        }
         let hash = self.hash_at(index);
         let last_hash = self.hash_at(last);
         self.places.swap_remove(index, hash, last, last_hash);
         self.pairs.swap_remove(index)
+    }
+
+    fn shift_out(&mut self, index: usize) -> (IString, V) {
+        let last = self.pairs.len() - 1;
+        let hash = self.hash_at(index);
+        self.places.shift_remove(index, hash, last);
+        self.pairs.remove(index)
     }
 
     fn pair(&self, index: usize) -> (&IString, &V) {
