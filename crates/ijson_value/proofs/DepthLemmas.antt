@@ -23,3 +23,8 @@ pair-members_depth (q ∷ ps) (suc i) p h e = omega (arith, pair-members_depth p
 pub items_below : (vs : List WellFormed) → most value_size vs ≤ 2 * items_depth (item_trees vs)
 items_below [] = omega arith
 items_below (v ∷ vs) = omega (arith, items_below vs)
+
+-- no value of a pair is larger than the pairs together
+pub pairs_below : (ps : List (List ℕ × WellFormed)) → most (λ p. value_size p.1) ps ≤ 2 * members_depth (pair_trees ps)
+pairs_below [] = omega arith
+pairs_below (p ∷ ps) = omega (arith, pairs_below ps)

@@ -1,4 +1,8 @@
 pub mod DepthLemmas
+mod Entries
+mod Feeds
 mod Found
-mod SameSteps
 mod Objects
+mod OrderSteps
+mod SameSteps
+mod WordFolds

@@ -6,7 +6,7 @@ use Rattle.ijson_table.specs.Store.{at, swap_out}
 abbrev pub pair_at_key : {V : Type 0} → List ℕ → List (List ℕ × V) → Option (List ℕ × V)
 pair_at_key key pairs = option_and_then (slice_get pairs) (at pairs key)
 
-abbrev swapped_at : {V : Type 0} → Option ℕ → List (List ℕ × V) → List (List ℕ × V)
+abbrev pub swapped_at : {V : Type 0} → Option ℕ → List (List ℕ × V) → List (List ℕ × V)
 swapped_at None pairs = pairs
 swapped_at (Some i) pairs = swap_out pairs i
 

@@ -1,13 +1,17 @@
 pub mod ArrayFalls
+pub mod EntryValid
 pub mod Equality
 pub mod Falls
 pub mod HoldsWellFormed
 pub mod Lengths
 pub mod NodeFalls
 pub mod ObjectFalls
+pub mod OrderLaws
 pub mod SameDecided
 pub mod SameLaws
+pub mod SameWords
 pub mod SequenceCode
 pub mod Steps
 pub mod TreeCode
 pub mod WellFormedCode
+pub mod WordsEnd

@@ -2,6 +2,9 @@
 #![tactic(auto)]
 
 pub mod array;
+mod hash;
 pub mod object;
+mod order;
 mod same;
 pub mod value;
+mod word_fold;

@@ -1,10 +1,12 @@
 //! Objects: pairs of a key and a value, in order, with distinct keys.
 
 mod access;
+mod entry;
 mod index;
 mod iter;
 mod map;
 
+pub use entry::{Entry, OccupiedEntry, RefusedKey, VacantEntry};
 pub use index::ObjectIndex;
 pub use iter::{IntoIter, Iter, Keys, Values};
 pub use map::{IObject, RefusedPair};

@@ -13,6 +13,7 @@ mod kinds;
 mod parts;
 
 use crate::array::IArray;
+pub use crate::hash::words_law;
 use crate::object::IObject;
 use crate::same::same_value;
 pub use destructure::{BoolMut, DestructuredMut, DestructuredRef};

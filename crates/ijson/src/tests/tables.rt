@@ -282,23 +282,22 @@ fn key(alloc: Global, text: &str) -> Result<IString, AllocError> {
 }
 
 #[test]
-fn pairs_are_put_in_the_room_that_there_is(rt: HostRuntime) -> Result<(), AllocError> {
+fn a_key_that_is_there_takes_no_room(rt: HostRuntime) -> Result<(), AllocError> {
     let alloc = rt.alloc();
+    let keys = ["a", "b", "c", "d"];
     let mut linear = LinearPairs::new(alloc);
+    insert_all(alloc, &mut linear, &keys)?;
+    assert!(rt; matches!(linear.insert(key(alloc, "a")?, 9), Ok(Some(0))));
     let mut table: Table<u64, AlwaysZero> = Table::new(alloc);
+    insert_all(alloc, &mut table, &keys)?;
+    assert!(rt; matches!(table.insert(key(alloc, "b")?, 9), Ok(Some(1))));
     let mut fixed = FixedTable::new(alloc);
-    for value in 1..3 {
-        if linear.reserve(1).is_ok() && linear.len() < linear.capacity() {
-            assert!(rt; linear.put(key(alloc, "a")?, value).unwrap_or(0) == value - 1);
-        }
-        if table.reserve(1).is_ok() && table.len() < table.capacity() {
-            assert!(rt; table.put(key(alloc, "a")?, value).unwrap_or(0) == value - 1);
-        }
-        if fixed.reserve(1).is_ok() && fixed.len() < fixed.capacity() {
-            assert!(rt; fixed.put(key(alloc, "a")?, value).unwrap_or(0) == value - 1);
-        }
-    }
-    assert_eq!(rt; (linear.len(), table.len(), fixed.len()), (1, 1, 1));
+    insert_all(alloc, &mut fixed, &keys)?;
+    assert!(rt; matches!(fixed.insert(key(alloc, "d")?, 9), Ok(Some(3))));
+    assert_eq!(rt;
+        (linear.capacity(), table.capacity(), fixed.capacity()),
+        (4, 4, 4)
+    );
     Ok(())
 }
 

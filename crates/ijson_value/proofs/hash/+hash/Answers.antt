@@ -1,0 +1,31 @@
+use Rattle.std.proofs.Common.{◌≡◌, fold, add-one, arith, sym, ap, ◌∙◌, drop_of_length-le}
+use Rattle.ijson_value.specs.Tree.{array, depth}
+use Rattle.ijson_value.specs.WellFormed.{tree_of, item_trees}
+use Rattle.ijson_value.specs.Words.{item_words}
+use Rattle.ijson_value.specs.NodeValue.{node_value}
+use Rattle.ijson_value.proofs.DepthLemmas.{items_below}
+use Rattle.ijson_value.proofs.Feeds.{feed, array_fed, item_fed}
+use Rattle.ijson_value.proofs.hash.+hash.Goals as goal
+
+pub hash_value-hash_items-requires : goal.hash_value-hash_items-requires
+hash_value-hash_items-requires g t c κs within =
+    let vs = c.as_slice.result.now in
+    let is : array (item_trees vs) ≡ c.args.value.now.tree =
+    ap (λ l. array (item_trees l)) c.as_slice.ensures
+    ∙ sym (ap (λ n. (node_value n).tree) c.in-Array.is) ∙ ap tree_of c.value.view_is in
+    (omega (arith, items_below vs, ap depth is, c.decreases), within)
+
+pub hash_items-loop-item-preserved : goal.hash_items-loop-item-preserved
+hash_items-loop-item-preserved g t c =
+    rw add-one (c.loop-item.invariant
+    ∙ item_fed g.H.Hasher.write c.loop-item.state c.hash_value.new.state c.args.items.now c.loop-item.item-index
+    c.item-item.result c.loop-item-test.true c.item-item.is c.hash_value.ensures)
+
+pub hash_items-returns : goal.hash_items-returns
+hash_items-returns g t c =
+    let vs = c.args.items.now in
+    array_fed g.H.Hasher.write c.args.state.now c.write_u64.new.self c.write_u64-2.new.self c.loop-item.state vs
+    c.write_u64.ensures c.write_u64-2.ensures
+    (c.loop-item.invariant
+    ∙ ap (λ l. fold g.H.Hasher.write c.loop-item.state (feed (item_words (item_trees l))))
+    (drop_of_length-le vs c.loop-item-test.false))

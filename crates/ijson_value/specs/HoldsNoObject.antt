@@ -1,0 +1,12 @@
+-- A tree that holds no object, at any depth. This project's own.
+use Rattle.ijson_value.specs.Tree.{Tree, array, object, Items, no_items, item}
+
+abbrev mutual
+  pub HoldsNoObject : Tree → Type 0
+  HoldsNoObject (array ts) = HoldNoObject ts
+  HoldsNoObject (object ps) = ⊥
+  HoldsNoObject _ = Unit {0}
+
+  pub HoldNoObject : Items → Type 0
+  HoldNoObject no_items = Unit {0}
+  HoldNoObject (item t ts) = HoldsNoObject t × HoldNoObject ts

@@ -1,0 +1,27 @@
+-- The words that a value feeds a hasher, by its tree. Each word is one `write_u64`. Those of an object do not turn on the
+-- order of its pairs. This project's own.
+use Rattle.std.specs.Prelude.{ℕ, ◌+◌, ◌%◌, ◌^◌, cond, List, [], ◌∷◌, ◌++◌}
+use Rattle.ijson_number.specs.Words.{number_words}
+use Rattle.ijson_string.specs.Words.{text_words}
+use Rattle.ijson_table.specs.Fold.{fold_words}
+use Rattle.ijson_value.specs.Length.{items_len}
+use Rattle.ijson_value.specs.Tree.{Tree, null, boolean, number, string, array, object, Items, no_items, item, Members, no_members, member, members_len}
+
+abbrev mutual
+  pub words : Tree → List ℕ
+  words null = 0 ∷ []
+  words (boolean b) = 1 ∷ cond b 1 0 ∷ []
+  words (number n) = number_words n
+  words (string s) = text_words s
+  words (array ts) = 4 ∷ items_len ts ∷ item_words ts
+  words (object ps) = 5 ∷ members_len ps ∷ (pair_sum ps % 2 ^ 64) ∷ []
+
+  -- the words of each item in order
+  pub item_words : Items → List ℕ
+  item_words no_items = []
+  item_words (item t ts) = words t ++ item_words ts
+
+  -- the sum, over the pairs, of the fold of the key's words and then the value's
+  pub pair_sum : Members → ℕ
+  pair_sum no_members = 0
+  pair_sum (member k t ps) = fold_words (text_words k ++ words t) + pair_sum ps

@@ -1,0 +1,224 @@
+-- The laws of the order, for whatever has a well-formed tree: it answers Equal exactly where `==` holds, turns round when its
+-- sides are swapped, and its Less is transitive.
+use Rattle.std.proofs.Common.{◌≡◌, ℕ, ◌<◌, ◌≤◌, Bool, true, false, cond, ◌==◌, Option, Some, None, refl, sym, ap, ◌∙◌, arith}
+use mathlib.Core.Bool.{true≢false, beq}
+use Rattle.std.specs.Bool.{Decides}
+use Rattle.std.specs.Option.{option_map, unwrap_or}
+use Rattle.std.specs.Prelude.{nat_lt}
+use Rattle.std.specs.Ordering.{nat_cmp, bool_cmp, ordering_reverse, partial_ordering_then, is_eq, MatchOrdering}
+use Rattle.std.specs.Cmp.{IsPartialOrder, Equal-is, bool_cmp_total, first_so, second_so, per_alike, ranks, some_flip, some_level}
+use Rattle.std.specs.Cmp.Lexicographic.{nat_list_cmp_total, texts_po}
+use Rattle.std.proofs.lemmas.Bool.Decides.{nat_tests}
+use Rattle.std.specs.declared.cmp.Ordering.{Ordering}
+use Rattle.std.specs.declared.cmp.Ordering.TheVariants.{Less, Equal, Greater}
+use Rattle.ijson_number.specs.Order.{number_cmp}
+use Rattle.ijson_number.specs.laws.Ordered.{number_cmp_total}
+use Rattle.ijson_value.specs.Order.{rank, tree_cmp, items_cmp}
+use Rattle.ijson_value.specs.SameTest.{same, same_each}
+use Rattle.ijson_value.specs.Tree.{Tree, null, boolean, number, string, array, object, Items, no_items, item}
+use Rattle.ijson_value.specs.WellFormed.{WellFormed, IsWellFormed, AreWellFormed}
+use Rattle.ijson_value.specs.laws.Equality.{partial_equivalence}
+use Rattle.ijson_value.specs.laws.SameDecided.{decides}
+
+-- objects answer Equal or nothing
+abbrev object_answer : Bool → Option Ordering
+object_answer b = cond b (Some Equal) None
+
+abbrev with_proof : (t : Tree) → IsWellFormed t → WellFormed
+with_proof t d = record { tree = t; well_formed = d }
+
+equal_turned : (t u : Tree) → IsWellFormed t → IsWellFormed u → same t u ≡ same u t
+equal_turned t u d e = (partial_equivalence (λ v. v)).symm (with_proof t d) (with_proof u e)
+
+equal_alike : (t u v : Tree) → IsWellFormed t → IsWellFormed u → IsWellFormed v → same t u ≡ true
+    → same t v ≡ same u v
+equal_alike t u v d e f =
+    per_alike (partial_equivalence (λ v. v)) (with_proof t d) (with_proof u e) (with_proof v f)
+
+-- ---- its sides swapped
+object_turned : (b : Bool) → object_answer b ≡ option_map ordering_reverse (object_answer b)
+object_turned true = refl
+object_turned false = refl
+
+mutual
+  cmp_turned : (t u : Tree) → IsWellFormed t → IsWellFormed u → tree_cmp t u ≡ option_map ordering_reverse (tree_cmp u t)
+  cmp_turned null null d e = refl
+  cmp_turned (boolean a) (boolean b) d e = ap Some (bool_cmp_total.antisymm a b)
+  cmp_turned (number m) (number n) d e = ap Some (number_cmp_total.antisymm m n)
+  cmp_turned (string r) (string s) d e = ap Some (nat_list_cmp_total.antisymm r s)
+  cmp_turned (array ts) (array us) d e = items_turned ts us d e
+  cmp_turned (object ps) (object qs) d e =
+      ap object_answer (equal_turned (object ps) (object qs) d e) ∙ object_turned (same (object qs) (object ps))
+  cmp_turned _ _ d e = refl
+
+  items_turned : (ts us : Items) → AreWellFormed ts → AreWellFormed us
+      → items_cmp ts us ≡ option_map ordering_reverse (items_cmp us ts)
+  items_turned no_items no_items d e = refl
+  items_turned no_items (item u us) d e = refl
+  items_turned (item t ts) no_items d e = refl
+  items_turned (item t ts) (item u us) d e =
+      (λ i. partial_ordering_then (cmp_turned t u d.0 e.0 i) (items_turned ts us d.1 e.1 i))
+      ∙ some_flip (tree_cmp u t) (items_cmp us ts)
+
+-- ---- Equal
+some_equal : (o : Ordering) → Decides (is_eq o) (Some o ≡ Some Equal)
+some_equal Less = (λ e. absurd (true≢false (sym e)), λ e. absurd (cc))
+some_equal Equal = (λ e. refl, λ e. refl)
+some_equal Greater = (λ e. absurd (true≢false (sym e)), λ e. absurd (cc))
+
+boolean_equal : (a b : Bool) → Decides (beq a b) (Some (bool_cmp a b) ≡ Some Equal)
+boolean_equal true true = (λ e. refl, λ e. refl)
+boolean_equal true false = (λ e. absurd (true≢false (sym e)), λ e. absurd (cc))
+boolean_equal false true = (λ e. absurd (true≢false (sym e)), λ e. absurd (cc))
+boolean_equal false false = (λ e. refl, λ e. refl)
+
+object_equal : (b : Bool) → Decides b (object_answer b ≡ Some Equal)
+object_equal true = (λ e. refl, λ e. refl)
+object_equal false = (λ e. absurd (true≢false (sym e)), λ e. absurd (cc))
+
+mutual
+  cmp_equal : (t u : Tree) → Decides (same t u) (tree_cmp t u ≡ Some Equal)
+  cmp_equal null null = (λ e. refl, λ e. refl)
+  cmp_equal (boolean a) (boolean b) = boolean_equal a b
+  cmp_equal (number m) (number n) = some_equal (number_cmp m n)
+  cmp_equal (string r) (string s) = texts_po.matches_eq r s
+  cmp_equal (array ts) (array us) = items_equal ts us
+  cmp_equal (object ps) (object qs) = object_equal (same (object ps) (object qs))
+  cmp_equal _ _ = (λ e. absurd (true≢false (sym e)), λ e. absurd (cc))
+
+  items_equal : (ts us : Items) → Decides (same_each ts us) (items_cmp ts us ≡ Some Equal)
+  items_equal no_items no_items = (λ e. refl, λ e. refl)
+  items_equal no_items (item u us) = (λ e. absurd (true≢false (sym e)), λ e. absurd (cc))
+  items_equal (item t ts) no_items = (λ e. absurd (true≢false (sym e)), λ e. absurd (cc))
+  items_equal (item t ts) (item u us) =
+      some_level (same t u) (same_each ts us) (tree_cmp t u) (items_cmp ts us) (cmp_equal t u) (items_equal ts us)
+
+-- ---- what is the same is ordered alike
+mutual
+  cmp_alike : (t u v : Tree) → IsWellFormed t → IsWellFormed u → IsWellFormed v → same t u ≡ true
+      → tree_cmp t v ≡ tree_cmp u v
+  cmp_alike null null v d e f h = refl
+  cmp_alike (boolean a) (boolean b) v d e f h = ap (λ c. tree_cmp (boolean c) v) ((decides (boolean a) (boolean b)).0 h)
+  cmp_alike (number m) (number n) (number l) d e f h =
+      ap Some (number_cmp_total.congr m n l ((Equal-is (number_cmp m n)).0 h))
+  cmp_alike (number m) (number n) v d e f h = refl
+  cmp_alike (string r) (string s) v d e f h = ap (λ c. tree_cmp (string c) v) ((decides (string r) (string s)).0 h)
+  cmp_alike (array ts) (array us) (array vs) d e f h = items_alike ts us vs d e f h
+  cmp_alike (array ts) (array us) v d e f h = refl
+  cmp_alike (object ps) (object qs) (object rs) d e f h =
+      ap object_answer (equal_alike (object ps) (object qs) (object rs) d e f h)
+  cmp_alike (object ps) (object qs) v d e f h = refl
+  cmp_alike _ _ v d e f h = absurd (true≢false (sym h))
+
+  items_alike : (ts us vs : Items) → AreWellFormed ts → AreWellFormed us → AreWellFormed vs
+      → same_each ts us ≡ true → items_cmp ts vs ≡ items_cmp us vs
+  items_alike no_items no_items vs d e f h = refl
+  items_alike no_items (item u us) vs d e f h = absurd (true≢false (sym h))
+  items_alike (item t ts) no_items vs d e f h = absurd (true≢false (sym h))
+  items_alike (item t ts) (item u us) no_items d e f h = refl
+  items_alike (item t ts) (item u us) (item v vs) d e f h =
+      λ i. partial_ordering_then (cmp_alike t u v d.0 e.0 f.0 (first_so (same t u) (same_each ts us) h) i)
+      (items_alike ts us vs d.1 e.1 f.1 (second_so (same t u) (same_each ts us) h) i)
+
+-- ---- Less is transitive
+nat_below : (m n : ℕ) → Some (nat_cmp m n) ≡ Some Less → m ≤ n
+nat_below m n = elim (nat_cmp m n) as (λ o. MatchOrdering o (m < n) (m ≡ n) (n < m) → Some o ≡ Some Less → m ≤ n) [
+  | Less ↦ λ r e. omega (arith, r)
+  | Equal ↦ λ r e. omega (arith, r)
+  | Greater ↦ λ r e. absurd (cc)
+] (ranks m n)
+
+pub nat_less : (m n : ℕ) → m < n → Some (nat_cmp m n) ≡ Some Less
+nat_less m n h =
+    let t : nat_lt m n ≡ true = grind (arith, nat_tests) in
+    ap (λ b. Some (cond b Less (cond (m == n) Equal Greater))) t
+
+-- a lesser value is of no later kind
+below : (t u : Tree) → tree_cmp t u ≡ Some Less → rank t ≤ rank u
+below null null h = omega arith
+below (boolean a) (boolean b) h = omega arith
+below (number m) (number n) h = omega arith
+below (string r) (string s) h = omega arith
+below (array ts) (array us) h = omega arith
+below (object ps) (object qs) h = omega arith
+below t u h = nat_below (rank t) (rank u) h
+
+-- and one of an earlier kind is lesser
+earlier : (t u : Tree) → rank t < rank u → tree_cmp t u ≡ Some Less
+earlier null null h = absurd (omega (arith, h))
+earlier (boolean a) (boolean b) h = absurd (omega (arith, h))
+earlier (number m) (number n) h = absurd (omega (arith, h))
+earlier (string r) (string s) h = absurd (omega (arith, h))
+earlier (array ts) (array us) h = absurd (omega (arith, h))
+earlier (object ps) (object qs) h = absurd (omega (arith, h))
+earlier t u h = nat_less (rank t) (rank u) h
+
+inside : (r s : Ordering) → Some r ≡ Some s → r ≡ s
+inside r s e = ap (λ p. unwrap_or p Equal) e
+
+-- Equal and Greater are not Less
+apart : (o : Ordering) → Some o ≡ Some Less → MatchOrdering o (Unit {0}) ⊥ ⊥
+apart Less e = tt
+apart Equal e = absurd (cc)
+apart Greater e = absurd (cc)
+
+not_less : (b : Bool) → object_answer b ≡ Some Less → ⊥
+not_less true e = absurd (cc)
+not_less false e = absurd (cc)
+
+-- the first items of three arrays, where p, q and s are what the rests answer
+module _ (t u v : Tree) (d : IsWellFormed t) (e : IsWellFormed u) (f : IsWellFormed v) (p q s : Option Ordering) where
+  alike_right : tree_cmp u v ≡ Some Equal → tree_cmp t v ≡ tree_cmp t u
+  alike_right b =
+      cmp_turned t v d f ∙ ap (option_map ordering_reverse) (sym (cmp_alike u v t e f d ((cmp_equal u v).1 b)))
+      ∙ sym (cmp_turned t u d e)
+
+  chain : (tree_cmp t u ≡ Some Less → tree_cmp u v ≡ Some Less → tree_cmp t v ≡ Some Less)
+      → (p ≡ Some Less → q ≡ Some Less → s ≡ Some Less) → (k m : Option Ordering)
+      → tree_cmp t u ≡ k → tree_cmp u v ≡ m → partial_ordering_then k p ≡ Some Less
+      → partial_ordering_then m q ≡ Some Less → partial_ordering_then (tree_cmp t v) s ≡ Some Less
+  chain heads rests None m a b h g = absurd (cc)
+  chain heads rests (Some Greater) m a b h g = absurd (cc)
+  chain heads rests (Some Less) None a b h g = absurd (cc)
+  chain heads rests (Some Less) (Some Greater) a b h g = absurd (cc)
+  chain heads rests (Some Less) (Some Less) a b h g = ap (λ k. partial_ordering_then k s) (heads a b)
+  chain heads rests (Some Less) (Some Equal) a b h g = ap (λ k. partial_ordering_then k s) (alike_right b ∙ a)
+  chain heads rests (Some Equal) None a b h g = absurd (cc)
+  chain heads rests (Some Equal) (Some Greater) a b h g = absurd (cc)
+  chain heads rests (Some Equal) (Some Less) a b h g =
+      ap (λ k. partial_ordering_then k s) (cmp_alike t u v d e f ((cmp_equal t u).1 a) ∙ b)
+  chain heads rests (Some Equal) (Some Equal) a b h g =
+      ap (λ k. partial_ordering_then k s) (cmp_alike t u v d e f ((cmp_equal t u).1 a) ∙ b) ∙ rests h g
+
+mutual
+  cmp_less : (t u v : Tree) → IsWellFormed t → IsWellFormed u → IsWellFormed v → tree_cmp t u ≡ Some Less
+      → tree_cmp u v ≡ Some Less → tree_cmp t v ≡ Some Less
+  cmp_less null null null d e f h g = h
+  cmp_less (boolean a) (boolean b) (boolean c) d e f h g =
+      ap Some (bool_cmp_total.trans a b c (inside (bool_cmp a b) Less h) (inside (bool_cmp b c) Less g))
+  cmp_less (number l) (number m) (number n) d e f h g =
+      ap Some (number_cmp_total.trans l m n (inside (number_cmp l m) Less h) (inside (number_cmp m n) Less g))
+  cmp_less (string l) (string m) (string n) d e f h g = texts_po.trans l m n h g
+  cmp_less (array ts) (array us) (array vs) d e f h g = items_less ts us vs d e f h g
+  cmp_less (object ps) (object qs) (object rs) d e f h g = absurd (not_less (same (object ps) (object qs)) h)
+  cmp_less t u v d e f h g = earlier t v (omega (arith, below t u h, below u v g))
+
+  items_less : (ts us vs : Items) → AreWellFormed ts → AreWellFormed us → AreWellFormed vs
+      → items_cmp ts us ≡ Some Less → items_cmp us vs ≡ Some Less → items_cmp ts vs ≡ Some Less
+  items_less no_items no_items vs d e f h g = absurd (apart Equal h)
+  items_less no_items (item u us) no_items d e f h g = absurd (apart Greater g)
+  items_less no_items (item u us) (item v vs) d e f h g = refl
+  items_less (item t ts) no_items vs d e f h g = absurd (apart Greater h)
+  items_less (item t ts) (item u us) no_items d e f h g = absurd (apart Greater g)
+  items_less (item t ts) (item u us) (item v vs) d e f h g =
+      chain t u v d.0 e.0 f.0 (items_cmp ts us) (items_cmp us vs) (items_cmp ts vs)
+      (cmp_less t u v d.0 e.0 f.0) (items_less ts us vs d.1 e.1 f.1) (tree_cmp t u) (tree_cmp u v) refl refl h g
+
+module _ {K : Type 0} (f : K → WellFormed) where
+  pub partial_order : IsPartialOrder (λ x y. same (f x).tree (f y).tree) (λ x y. tree_cmp (f x).tree (f y).tree)
+  partial_order = record {
+    antisymm = λ x y. cmp_turned (f x).tree (f y).tree (f x).well_formed (f y).well_formed;
+    trans = λ x y z. cmp_less (f x).tree (f y).tree (f z).tree (f x).well_formed (f y).well_formed (f z).well_formed;
+    matches_eq = λ x y. cmp_equal (f x).tree (f y).tree;
+    congr = λ x y z. cmp_alike (f x).tree (f y).tree (f z).tree (f x).well_formed (f y).well_formed (f z).well_formed;
+  }

@@ -1,0 +1,8 @@
+-- What a fold of words becomes by one write of a hasher: a write of eight bytes is a word, the lowest byte first, and any
+-- other changes nothing.
+use Rattle.std.specs.Prelude.{ℕ, List, cond, length, ◌==◌}
+use Rattle.std.specs.Int.{w64, from_le_bytes}
+use Rattle.ijson_table.specs.Fold.{fold_word}
+
+abbrev pub folded : ℕ → List ℕ → ℕ
+folded h bytes = cond (length bytes == 8) (fold_word h (from_le_bytes w64 bytes)) h
