@@ -2,3 +2,6 @@ pub mod DepthLemmas
 mod SameSteps
 mod Objects
 mod Entries
+mod Retained
+mod Inserted
+mod Cases

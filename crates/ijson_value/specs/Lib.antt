@@ -2,12 +2,14 @@ pub mod AtKey
 pub mod EntryParts
 pub mod FindsEntry
 pub mod Gives
+pub mod InsertsEach
 pub mod Kind
 pub mod LendsAtKey
 pub mod LendsEntry
 pub mod LendsItem
 pub mod LendsValue
 pub mod Opened
+pub mod Retains
 pub mod Same
 pub mod SameTest
 pub mod Sequence
