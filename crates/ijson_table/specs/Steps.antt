@@ -1,10 +1,10 @@
 -- What each command to a pair store may reply, and what it leaves.
 use Rattle.std.specs.Prelude.{◌≡◌, ℕ, List, [], ◌∷◌, length, Some, None, Ok, Err, slice_get}
 use Rattle.ijson_table.specs.declared.commands.Command.{Command}
-use Rattle.ijson_table.specs.declared.commands.Command.TheVariants.{Insert, Find, Remove, Reserve, ShrinkToFit, Clear}
+use Rattle.ijson_table.specs.declared.commands.Command.TheVariants.{Insert, Find, Remove, ShiftRemove, Reserve, ShrinkToFit, Clear}
 use Rattle.ijson_table.specs.declared.commands.Reply.{Reply}
 use Rattle.ijson_table.specs.declared.commands.Reply.TheVariants.{Added, Replaced, Refused, Found, Removed, Done, NotDone}
-use Rattle.ijson_table.specs.Store.{at, swap_out}
+use Rattle.ijson_table.specs.Store.{at, swap_out, shift_out}
 use Rattle.ijson_table.specs.Growth.{Grown, Ungrown, Shrink}
 use Rattle.ijson_table.specs.Inserts.{Inserts}
 
@@ -19,6 +19,10 @@ Step pairs c (Remove k) (Removed (Some pair)) pairs' c' =
     ((i : ℕ) × (at pairs k ≡ Some i) × (slice_get pairs i ≡ Some pair) × (pairs' ≡ swap_out pairs i))
     × (c' ≡ c)
 Step pairs c (Remove k) (Removed None) pairs' c' = (at pairs k ≡ None) × (pairs' ≡ pairs) × (c' ≡ c)
+Step pairs c (ShiftRemove k) (Removed (Some pair)) pairs' c' =
+    ((i : ℕ) × (at pairs k ≡ Some i) × (slice_get pairs i ≡ Some pair) × (pairs' ≡ shift_out pairs i))
+    × (c' ≡ c)
+Step pairs c (ShiftRemove k) (Removed None) pairs' c' = (at pairs k ≡ None) × (pairs' ≡ pairs) × (c' ≡ c)
 Step pairs c (Reserve n) Done pairs' c' = Grown (length pairs) c n c' × (pairs' ≡ pairs)
 Step pairs c (Reserve n) (NotDone why) pairs' c' = Ungrown (length pairs) c n why c' × (pairs' ≡ pairs)
 Step pairs c ShrinkToFit Done pairs' c' = Shrink {A = Unit {0}} (length pairs) c (Ok tt) c' × (pairs' ≡ pairs)

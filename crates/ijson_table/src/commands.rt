@@ -10,12 +10,14 @@ use std::alloc::{AllocError, Global};
 /// A command to a store.
 #[derive(Debug, Drop)]
 pub enum Command<V> {
-    /// Puts the value beside the key: in place of the old one, or as a new pair last.
+    /// Puts the value beside the key: in place of the old one, which needs no memory, or as a new pair last.
     Insert(IString, V),
     /// Asks for the position of the key.
     Find(IString),
     /// Takes out the pair with the key. The last pair moves there.
     Remove(IString),
+    /// Takes out the pair with the key. Those behind it move one forward.
+    ShiftRemove(IString),
     /// Makes room for so many more pairs.
     Reserve(usize),
     /// Makes the capacity the length.
@@ -56,6 +58,10 @@ fn step<V: Drop, P: PairStore<V>>(store: &mut P, command: Command<V>) -> Reply<V
         Command::Find(key) => Reply::Found(store.position(key.as_str())),
         Command::Remove(key) => match store.position(key.as_str()) {
             Some(at) => Reply::Removed(Some(store.swap_out(at))),
+            None => Reply::Removed(None),
+        },
+        Command::ShiftRemove(key) => match store.position(key.as_str()) {
+            Some(at) => Reply::Removed(Some(store.shift_out(at))),
             None => Reply::Removed(None),
         },
         Command::Reserve(additional) => match store.reserve(additional) {

@@ -1,6 +1,6 @@
 //! The table under the fixed hash.
 
-ghost use Rattle.std.specs.Prelude.{◌≡◌, ◌≤◌, ◌-◌, ◌+◌, ◌<◌, ◌^◌, ◌↔◌, [], length, Ok, Err, IfOk, IsOk, refl};
+ghost use Rattle.std.specs.Prelude.{◌≡◌, ◌≤◌, ◌-◌, ◌+◌, ◌<◌, ◌^◌, ◌↔◌, [], length, Ok, Err, IfOk, IsOk, OnErr, refl};
 ghost use Rattle.std.specs.Option.{option_copied};
 ghost use Rattle.ijson_table.specs.Store.{keys_of, lookup};
 ghost use Rattle.ijson_table.specs.Growth.{capacity_limit};
@@ -15,7 +15,7 @@ use crate::store::{PairStore, RefusedPair, ReserveError};
 use crate::table::Table;
 use ijson_number::Looks;
 use ijson_string::IString;
-use std::alloc::Global;
+use std::alloc::{AllocError, Global};
 use std::marker::Model;
 
 /// A [`Table`] whose places go by [`FixedHash`].
@@ -43,6 +43,22 @@ impl<V: Drop> FixedTable<V> {
         ensures none { capacity ≡ 0 → IsOk result }
     {
         let table = Table::with_capacity(alloc, capacity)?;
+        Ok(FixedTable { table })
+    }
+
+    /// A store of pairs with the same keys in the same order, for a copy of this one: it has room for them alone, and no key
+    /// is hashed again. Room for none takes no memory. Where memory is refused, the pairs are dropped.
+    pub fn with_same_keys(
+        &self,
+        alloc: Global,
+        pairs: Vec<(IString, V)>,
+    ) -> Result<FixedTable<V>, AllocError>
+        requires { keys_of pairs.items ≡ keys_of self.now.store.pairs }
+        ensures pairs { IfOk result (λ t. t.store.pairs ≡ pairs.items) }
+        ensures capacity { IfOk result (λ t. t.store.capacity ≡ length pairs.items) }
+        ensures refused { OnErr result (0 < length pairs.items) }
+    {
+        let table = self.table.with_same_keys(alloc, pairs)?;
         Ok(FixedTable { table })
     }
 
@@ -177,6 +193,10 @@ impl<V: Drop> PairStore<V> for FixedTable<V> {
 
     fn swap_out(&mut self, index: usize) -> (IString, V) {
         self.table.swap_out(index)
+    }
+
+    fn shift_out(&mut self, index: usize) -> (IString, V) {
+        self.table.shift_out(index)
     }
 
     fn into_pairs(self) -> Vec<(IString, V)> {

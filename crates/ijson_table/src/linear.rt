@@ -163,6 +163,10 @@ impl<V: Drop> PairStore<V> for LinearPairs<V> {
         self.pairs.swap_remove(index)
     }
 
+    fn shift_out(&mut self, index: usize) -> (IString, V) {
+        self.pairs.remove(index)
+    }
+
     fn into_pairs(self) -> Vec<(IString, V)> {
         self.pairs
     }

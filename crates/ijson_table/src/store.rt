@@ -1,7 +1,7 @@
 //! What a pair store is.
 
 ghost use Rattle.std.specs.Prelude.{◌≡◌, ℕ, ◌+◌, ◌<◌, ◌≤◌, List, [], ◌∷◌, ◌++◌, length, slice_get, Some, None, OnOk};
-ghost use Rattle.ijson_table.specs.Store.{at, keys_of, swap_out, IsDistinct, with_value};
+ghost use Rattle.ijson_table.specs.Store.{at, keys_of, shift_out, swap_out, IsDistinct, with_value};
 ghost use Rattle.ijson_table.specs.Growth.{Grow, Shrink, capacity_limit};
 ghost use Rattle.ijson_table.specs.Inserts.{Inserts};
 ghost use Rattle.std.specs.Borrow.{Lends, sem};
@@ -118,6 +118,13 @@ pub trait PairStore<V>: Sized {
         requires { index < length (pairs self.old) }
         ensures pair { slice_get (pairs self.old) index ≡ Some result }
         ensures pairs { pairs self.new ≡ swap_out (pairs self.old) index }
+        ensures room { room self.new ≡ room self.old };
+
+    /// Takes out the pair at a position. Those behind it move one forward. That needs no memory.
+    fn shift_out(&mut self, index: usize) -> (IString, V)
+        requires { index < length (pairs self.old) }
+        ensures pair { slice_get (pairs self.old) index ≡ Some result }
+        ensures pairs { pairs self.new ≡ shift_out (pairs self.old) index }
         ensures room { room self.new ≡ room self.old };
 
     /// The pairs, in order.

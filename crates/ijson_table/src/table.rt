@@ -1,6 +1,7 @@
 //! A pair store whose keys are found by their hash.
 
-ghost use Rattle.std.specs.Prelude.{◌≡◌, ◌+◌, ◌-◌, ◌<◌, ◌≤◌, ◌^◌, ◌/◌, [], length, get_or, map, Ok, Err, refl, vec_capacity, IfOk, IsOk, ◌↔◌, None};
+ghost use Rattle.std.specs.Prelude.{◌≡◌, ◌+◌, ◌-◌, ◌<◌, ◌≤◌, ◌^◌, ◌/◌, [], length, get_or, map, vec_capacity};
+ghost use Rattle.std.specs.Prelude.{Ok, Err, refl, IfOk, IsOk, OnErr, ◌↔◌, None};
 ghost use Rattle.ijson_table.specs.Store.{at, keys_of, swap_out, IsDistinct, lookup};
 ghost use Rattle.ijson_table.specs.laws.Store.{IsDistinct-prop};
 ghost use Rattle.ijson_table.specs.Places.{IsBounded, IsTable};
@@ -20,7 +21,7 @@ use crate::probe::{Probed, probe};
 use crate::store::{PairStore, RefusedPair, ReserveError};
 use ijson_number::Looks;
 use ijson_string::IString;
-use std::alloc::Global;
+use std::alloc::{AllocError, Global};
 use std::marker::{Model, PhantomData};
 use std::mem;
 
@@ -63,6 +64,29 @@ impl<V: Drop, H: KeyHash> Table<V, H> {
         let capacity = limited(capacity)?;
         let pairs = list_with_room(alloc, capacity)?;
         let places = PlaceList::with_places(alloc, capacity + capacity / 4)?;
+        Ok(Table {
+            pairs,
+            places,
+            capacity,
+            alloc,
+            hash: PhantomData,
+        })
+    }
+
+    /// A store of pairs with the same keys in the same order, for a copy of this one: it has room for them alone, and no key
+    /// is hashed again. Room for none takes no memory. Where memory is refused, the pairs are dropped.
+    pub fn with_same_keys(
+        &self,
+        alloc: Global,
+        pairs: Vec<(IString, V)>,
+    ) -> Result<Table<V, H>, AllocError>
+        requires { keys_of pairs.items ≡ keys_of self.now.store.pairs }
+        ensures pairs { IfOk result (λ table. table.store.pairs ≡ pairs.items) }
+        ensures capacity { IfOk result (λ table. table.store.capacity ≡ length pairs.items) }
+        ensures refused { OnErr result (0 < length pairs.items) }
+    {
+        let capacity = pairs.len();
+        let places = self.places.rehashed(alloc, capacity + capacity / 4)?;
         Ok(Table {
             pairs,
             places,
@@ -299,10 +323,20 @@ impl<V: Drop, H: KeyHash> PairStore<V> for Table<V, H> {
 
     fn swap_out(&mut self, index: usize) -> (IString, V) {
         let last = self.pairs.len() - 1;
+        if index == last {
+            return self.shift_out(index);
+        }
         let hash = self.hash_at(index);
         let last_hash = self.hash_at(last);
         self.places.swap_remove(index, hash, last, last_hash);
         self.pairs.swap_remove(index)
+    }
+
+    fn shift_out(&mut self, index: usize) -> (IString, V) {
+        let last = self.pairs.len() - 1;
+        let hash = self.hash_at(index);
+        self.places.shift_remove(index, hash, last);
+        self.pairs.remove(index)
     }
 
     fn pair(&self, index: usize) -> (&IString, &V) {

@@ -1,4 +1,4 @@
-use Rattle.ijson_table.proofs.shifts.remove.Given as goal
+use Rattle.ijson_table.proofs.shifts.take_out.Given as goal
 
 abbrev pub ghost-place_of : goal.ghost-place_of
 ghost-place_of g a = g.hashes
