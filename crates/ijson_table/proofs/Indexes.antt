@@ -72,3 +72,11 @@ module _ (places : List Place) (index : IsIndex places) (position hash : ℕ) (n
   pushed new same held have =
       let size : length (hashes ++ hash ∷ []) ≡ position + 1 = omega (arith, length-append hashes (hash ∷ []), next) in
       index_is (hashes ++ hash ∷ []) new (record { ordered = held.ordered; placed = λ i. grind (arith, nat_tests, held.placed i, index.table.table.placed i, next, size) }) have (omega (arith, size, room, same))
+
+-- the places after a call that was lent them as a whole and put one position more into them, and their hashes
+pub after_push : (old lent new : List Place) (position hash len : ℕ) → IsIndex old → position ≡ length (hashes_of old) → position < length old → lent ≡ old → length new ≡ length lent → len ≡ length old
+    → Holds (hashes_of lent ++ hash ∷ []) (with_one (positions lent) position) None (positions new) → HaveHashes (hashes_of lent ++ hash ∷ []) new → IsIndexOf (hashes_of old ++ hash ∷ []) (take len (new ++ drop (length new) old))
+after_push old lent new position hash len index next room is same size held have =
+    let now : length new ≡ length old = same ∙ ap length is in
+    subst (IsIndexOf (hashes_of old ++ hash ∷ [])) (sym (whole len new old now size))
+    (pushed old index position hash next room new now (subst (λ ps. Holds (hashes_of ps ++ hash ∷ []) (with_one (positions ps) position) None (positions new)) is held) (subst (λ ps. HaveHashes (hashes_of ps ++ hash ∷ []) new) is have))

@@ -1,6 +1,7 @@
 //! A pair store whose keys are found by their hash.
 
-ghost use Rattle.std.specs.Prelude.{◌≡◌, ◌+◌, ◌-◌, ◌<◌, ◌≤◌, ◌^◌, ◌/◌, [], length, get_or, map, Ok, Err, refl, vec_capacity, IfOk, IsOk, OnErr, ◌↔◌, None};
+ghost use Rattle.std.specs.Prelude.{◌≡◌, ◌+◌, ◌-◌, ◌<◌, ◌≤◌, ◌^◌, ◌/◌, [], length, get_or, map, vec_capacity};
+ghost use Rattle.std.specs.Prelude.{Ok, Err, refl, IfOk, IsOk, OnErr, ◌↔◌, None};
 ghost use Rattle.ijson_table.specs.Store.{at, keys_of, swap_out, IsDistinct, lookup};
 ghost use Rattle.ijson_table.specs.laws.Store.{IsDistinct-prop};
 ghost use Rattle.ijson_table.specs.Places.{IsBounded, IsTable};

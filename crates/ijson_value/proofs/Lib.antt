@@ -1,8 +1,11 @@
+mod Cases
 pub mod DepthLemmas
 mod Entries
 mod Feeds
 mod Found
+mod Inserted
 mod Objects
 mod OrderSteps
+mod Retained
 mod SameSteps
 mod WordFolds

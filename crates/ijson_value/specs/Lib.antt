@@ -4,6 +4,7 @@ pub mod FindsEntry
 pub mod Gives
 pub mod GrowthOf
 pub mod HoldsNoObject
+pub mod InsertsEach
 pub mod Integers
 pub mod Kind
 pub mod LendsAtKey
@@ -16,6 +17,7 @@ pub mod Length
 pub mod NodeValue
 pub mod Opened
 pub mod Order
+pub mod Retains
 pub mod Same
 pub mod SameTest
 pub mod Sequence

@@ -2,9 +2,11 @@
 
 mod access;
 mod entry;
+mod extend;
 mod index;
 mod iter;
 mod map;
+mod retain;
 
 pub use entry::{Entry, OccupiedEntry, RefusedKey, VacantEntry};
 pub use index::ObjectIndex;

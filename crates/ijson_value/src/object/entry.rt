@@ -65,7 +65,7 @@ pub struct RefusedKey {
 
 impl IObject {
     ghost use Rattle.ijson_value.specs.EntryParts.{entry_object, entry_key, entry_value};
-    ghost use Rattle.ijson_value.specs.FindsEntry.{FindsEntry, FindsNoRoom};
+    ghost use Rattle.ijson_value.specs.FindsEntry.{FindsEntry, FindsNoRoom, FindsNoRoomOrCopy};
     ghost use Rattle.ijson_value.specs.LendsEntry.{RestsIfNoEntry};
     ghost use Rattle.ijson_value.specs.WithEntry.{PutsThrough};
 
@@ -89,6 +89,35 @@ impl IObject {
             None => match self.reserve(1) {
                 Ok(()) => Ok(Entry::Vacant(VacantEntry { object: self, key })),
                 Err(why) => Err(RefusedKey { key, why }),
+            },
+        }
+    }
+
+    /// The place of a key that is copied only where it is not there, before room is made for it. Where there is no memory for
+    /// the copy or no room, the object is as it was.
+    pub fn entry_or_clone(&mut self, key: &IString) -> Result<Entry<'_>, ReserveError>
+        ensures same_object { IfOk result (λ e. (entry_object e).ghost_name ≡ self.entry.ghost_name) }
+        ensures found { IfOk result (FindsEntry self.old key.now) }
+        ensures key { IfOk result (λ e. entry_key e ≡ key.now) }
+        ensures value { IfOk result (λ e. entry_value e ≡ lookup key.now self.old.pairs) }
+        ensures update { IfOk result (PutsThrough self.old.pairs key.now) }
+        ensures refused { IfErr result (FindsNoRoomOrCopy self.old key.now) }
+        ensures* rests { sem 𝓛 (RestsIfNoEntry self.entry result) }
+    {
+        match self.position(key.as_str()) {
+            Some(index) => Ok(Entry::Occupied(OccupiedEntry {
+                object: self,
+                index,
+            })),
+            None => match key.clone() {
+                Ok(key) => match self.reserve(1) {
+                    Ok(()) => Ok(Entry::Vacant(VacantEntry { object: self, key })),
+                    Err(why) => {
+                        drop(key);
+                        Err(why)
+                    }
+                },
+                Err(_) => Err(ReserveError::Memory),
             },
         }
     }

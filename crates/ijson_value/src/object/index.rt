@@ -1,13 +1,15 @@
 //! An object by key.
-ghost use Rattle.std.specs.Prelude.{◌≡◌, ℕ, List, Some, option_map, IsSome, IsTrue, ◌↔◌};
+ghost use Rattle.std.specs.Prelude.{◌≡◌, ℕ, List, Some, option_map, IsSome, IsTrue, IfOk, IfErr, ◌↔◌};
 ghost use Rattle.std.specs.Borrow.{sem};
 ghost use Rattle.std.specs.Map.Iter.{deref_pair};
-ghost use Rattle.std.specs.Option.{option_copied, option_copied_mut};
+ghost use Rattle.std.specs.Option.{option_copied, option_copied_mut, unwrap_or};
 ghost use Rattle.ijson_table.specs.Store.{at, lookup};
 ghost use Rattle.ijson_value.specs.AtKey.{pair_at_key, swap_out_key};
-ghost use Rattle.ijson_value.specs.LendsAtKey.{LendsAtKey, LendsAtKeyIf};
+ghost use Rattle.ijson_value.specs.LendsAtKey.{LendsAtKey, LendsAtKeyIf, LendsPut};
+ghost use Rattle.ijson_value.specs.FindsEntry.{FindsNoRoom};
+ghost use Rattle.ijson_value.specs.Values.{null_value};
 
-use super::map::IObject;
+use super::map::{IObject, RefusedPair};
 use crate::value::IValue;
 use ijson_string::IString;
 use std::ops::{Index, IndexMut};
@@ -129,6 +131,33 @@ impl IObject {
         ensures capacity { self.new.capacity ≡ self.old.capacity }
     {
         index.remove(self)
+    }
+}
+
+impl IObject {
+    /// The value beside a key, to be written. A key that is not there is put last with null beside it; where there is no room
+    /// for that, the key comes back with null.
+    pub fn index_or_insert(&mut self, key: IString) -> Result<&mut IValue, RefusedPair>
+        ensures* writes_back { sem 𝓛 (LendsPut self.entry key result) }
+        ensures value { IfOk result (λ value. value.now ≡ unwrap_or (lookup key self.old.pairs) null_value) }
+        ensures refused { IfErr result (λ refused. (refused.key ≡ key)
+            × (refused.value ≡ null_value) × FindsNoRoom self.old key refused.why) }
+    {
+        match self.position(key.as_str()) {
+            Some(position) => Ok(self.value_mut(position)),
+            None => match self.reserve(1) {
+                Ok(()) => {
+                    let position = self.len();
+                    self.push_new(key, IValue::default());
+                    Ok(self.value_mut(position))
+                }
+                Err(why) => Err(RefusedPair {
+                    key,
+                    value: IValue::default(),
+                    why,
+                }),
+            },
+        }
     }
 }
 

@@ -54,7 +54,8 @@ fn commands(alloc: Global, seed: u64) -> Result<Vec<Command<u64>>, AllocError> {
         let command = match (state >> 40) % 64 {
             0..=35 => Command::Insert(key, state),
             36..=43 => Command::Find(key),
-            44..=55 => Command::Remove(key),
+            44..=49 => Command::Remove(key),
+            50..=55 => Command::ShiftRemove(key),
             56..=59 => Command::Reserve((state >> 20) as usize % 12),
             60..=62 => Command::ShrinkToFit,
             _ => Command::Clear,

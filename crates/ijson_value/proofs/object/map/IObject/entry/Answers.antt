@@ -53,7 +53,7 @@ returns c =
         update = tt;
         refused = (
           refl,
-          (missing, subst (λ n. Ungrown (length old.pairs) old.capacity 1 why n) (refused_capacity (length old.pairs) old.capacity 1 new.capacity why growth) growth),
+          (lookup-absent old.pairs key missing, subst (λ n. Ungrown (length old.pairs) old.capacity 1 why n) (refused_capacity (length old.pairs) old.capacity 1 new.capacity why growth) growth),
         );
         rests = tt;
       },
