@@ -117,7 +117,7 @@ module _ (z : ℤ) (word : nat_abs z < 2 ^ 64) where
     pub word_integer : IsInteger (form_number f) z
     word_integer = subst (λ n. IsInteger n z) (sym (form_has number f is_num.plain form_is)) (record { value = has_value; no_point = refl })
 
-below_test : (a b : ℤ) → a <ℤ b → int_lt a b ≡ true
+pub below_test : (a b : ℤ) → a <ℤ b → int_lt a b ≡ true
 below_test a b h = grind (arith, ints)
 
 -- a signed word

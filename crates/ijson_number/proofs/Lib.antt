@@ -23,3 +23,4 @@ pub mod Forms
 pub mod FormNumbers
 pub mod IntegerWords
 pub mod DigitRows
+pub mod WordTexts

@@ -16,6 +16,7 @@ mod stored;
 mod stripped;
 mod text;
 mod word;
+mod word_text;
 
 pub use digit_row::{DigitRow, compare};
 pub use faults::first_fault;
