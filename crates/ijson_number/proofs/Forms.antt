@@ -21,7 +21,7 @@ pub taken : (b : Bool) (x y : FormOf) → b ≡ true → (let r : FormOf = elim 
 taken true x y e = refl
 taken false x y e = absurd (cc)
 
-left : (b : Bool) (x y : FormOf) → b ≡ false → (let r : FormOf = elim b [ true ↦ x | false ↦ y ] in r) ≡ y
+pub left : (b : Bool) (x y : FormOf) → b ≡ false → (let r : FormOf = elim b [ true ↦ x | false ↦ y ] in r) ≡ y
 left true x y e = absurd (cc)
 left false x y e = refl
 

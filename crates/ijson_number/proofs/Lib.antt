@@ -24,3 +24,4 @@ pub mod FormNumbers
 pub mod IntegerWords
 pub mod DigitRows
 pub mod WordTexts
+pub mod FewDigits

@@ -5,6 +5,7 @@ mod clone;
 mod digit_row;
 mod digits;
 mod faults;
+mod few_digits;
 mod form;
 mod hash;
 mod integers;
