@@ -83,7 +83,7 @@ both_false : (a b : Bool) → a || b ≡ false → (a ≡ false) × (b ≡ false
 both_false true b e = absurd (cc)
 both_false false b e = (refl, e)
 
-no_point : (ft et f : List ℕ) (z : ℤ) (a b : Bool) → IsFraction ft f a → IsExponent et z b → a || b ≡ false → (f ≡ []) × (z ≡ pos 0)
+pub no_point : (ft et f : List ℕ) (z : ℤ) (a b : Bool) → IsFraction ft f a → IsExponent et z b → a || b ≡ false → (f ≡ []) × (z ≡ pos 0)
 no_point [] [] f z a b g h e = (g.0, h.0)
 no_point [] (x ∷ et) f z a b g h e = let r = both_false a b e in absurd (cc (r.1, h.2))
 no_point (x ∷ ft) et f z a b g h e = let r = both_false a b e in absurd (cc (r.0, g.3))

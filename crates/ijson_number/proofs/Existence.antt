@@ -5,9 +5,9 @@ use Rattle.std.proofs.lemmas.Bool.{cases_eq}
 use Rattle.ijson_number.specs.Decimal.{Decimal}
 use Rattle.ijson_number.specs.private.StoredNumber.{stored_number}
 use Rattle.ijson_number.specs.private.Stripped.{digits_from_text}
-use Rattle.ijson_number.specs.Grammar.{Parts, IsSpelled, Spells}
+use Rattle.ijson_number.specs.Grammar.{Denotes, Parts, IsSpelled, Spells}
 use Rattle.ijson_number.specs.private.Reading.{BeginsWithNoZero, EndsWithNoZero, exponent_of}
-use Rattle.ijson_number.proofs.Scanning.{spells_number, spells_zero}
+use Rattle.ijson_number.proofs.Scanning.{denotes_number, denotes_nought}
 
 -- the zeros at the front, and what follows them
 front_zeros : (bs : List ℕ) → (j : ℕ) × (t : List ℕ) × (bs ≡ replicate j 48 ++ t) × BeginsWithNoZero t
@@ -43,11 +43,14 @@ length_cases : (s : List ℕ) → (length s ≡ 0) ⊎ (0 < length s)
 length_cases [] = inl refl
 length_cases (x ∷ s) = inr (omega arith)
 
-pub parts_spell : (text : List ℕ) (p : Parts) → IsSpelled text p → (n : Decimal) × Spells text n
-parts_spell text p spelled =
+pub parts_denote : (text : List ℕ) (p : Parts) → IsSpelled text p → (n : Decimal) × Denotes p n
+parts_denote text p spelled =
     let f = front_zeros (p.whole ++ p.fraction) in
     let b = back_zeros f.1 in
     elim (length_cases b.1) [
-      | inl none ↦ (stored_number false (digits_from_text b.1) (pos 0) p.point, spells_zero text p spelled [] f.1 [] b.1 f.0 b.0 f.2 b.2 f.3 b.3 none)
-      | inr some ↦ (stored_number p.negative (digits_from_text b.1) (exponent_of p.exponent (length p.fraction) b.0) p.point, spells_number text p spelled [] f.1 [] b.1 f.0 b.0 f.2 b.2 f.3 b.3 some _ refl)
+      | inl none ↦ (stored_number false (digits_from_text b.1) (pos 0) p.point, denotes_nought text p spelled [] f.1 [] b.1 f.0 b.0 f.2 b.2 f.3 b.3 none)
+      | inr some ↦ (stored_number p.negative (digits_from_text b.1) (exponent_of p.exponent (length p.fraction) b.0) p.point, denotes_number text p spelled [] f.1 [] b.1 f.0 b.0 f.2 b.2 f.3 b.3 some _ refl)
     ]
+
+pub parts_spell : (text : List ℕ) (p : Parts) → IsSpelled text p → (n : Decimal) × Spells text n
+parts_spell text p spelled = let n = parts_denote text p spelled in (n.0, (p, spelled, n.1))

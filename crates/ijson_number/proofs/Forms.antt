@@ -17,11 +17,11 @@ use Rattle.ijson_number.proofs.SameParts.{stored_sign}
 use Rattle.ijson_number.proofs.WholeValues.{abs_times, value_is, value_from}
 
 -- a test that holds takes the first, and one that fails the second
-taken : (b : Bool) (x y : FormOf) → b ≡ true → (let r : FormOf = elim b [ true ↦ x | false ↦ y ] in r) ≡ x
+pub taken : (b : Bool) (x y : FormOf) → b ≡ true → (let r : FormOf = elim b [ true ↦ x | false ↦ y ] in r) ≡ x
 taken true x y e = refl
 taken false x y e = absurd (cc)
 
-left : (b : Bool) (x y : FormOf) → b ≡ false → (let r : FormOf = elim b [ true ↦ x | false ↦ y ] in r) ≡ y
+pub left : (b : Bool) (x y : FormOf) → b ≡ false → (let r : FormOf = elim b [ true ↦ x | false ↦ y ] in r) ≡ y
 left true x y e = absurd (cc)
 left false x y e = refl
 

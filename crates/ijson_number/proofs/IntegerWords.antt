@@ -105,7 +105,7 @@ module _ (z : ℤ) (word : nat_abs z < 2 ^ 64) where
   same_word n false false false h = absurd (let e : false ≡ true = h refl in cc)
 
   module _ (f : FormOf) (fits : fits_i64 z ≡ false → fits_u64 z ≡ true) (is : f ≡ integer_word z) where
-    form_is : f ≡ form_of number
+    pub form_is : f ≡ form_of number
     form_is = is ∙ sym (ap (integer_form number) (sym (value_is number z is_num.plain has_value).1) ∙ same_word number (fits_packed z) (fits_i64 z) (fits_u64 z) fits)
 
     pub word_num : IsNum (form_number f)
@@ -117,7 +117,7 @@ module _ (z : ℤ) (word : nat_abs z < 2 ^ 64) where
     pub word_integer : IsInteger (form_number f) z
     word_integer = subst (λ n. IsInteger n z) (sym (form_has number f is_num.plain form_is)) (record { value = has_value; no_point = refl })
 
-below_test : (a b : ℤ) → a <ℤ b → int_lt a b ≡ true
+pub below_test : (a b : ℤ) → a <ℤ b → int_lt a b ≡ true
 below_test a b h = grind (arith, ints)
 
 -- a signed word

@@ -23,3 +23,5 @@ pub mod Forms
 pub mod FormNumbers
 pub mod IntegerWords
 pub mod DigitRows
+pub mod WordTexts
+pub mod FewDigits

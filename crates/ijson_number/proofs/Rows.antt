@@ -1,5 +1,5 @@
 -- The worked rows, by computation.
-use Rattle.std.proofs.Common.{◌≡◌, true, false, [], ◌∷◌, refl, inl, inr, arith}
+use Rattle.std.proofs.Common.{◌≡◌, ℕ, ◌%◌, true, false, [], ◌∷◌, refl, inl, inr, arith}
 use Rattle.ijson_number.specs.Grammar.{Spells}
 use Rattle.std.specs.Prelude.{ℤ, pos, negsuc, neg_ℤ, codes}
 use Rattle.std.specs.declared.cmp.Ordering.TheVariants.{Less, Equal, Greater}
@@ -8,6 +8,7 @@ use Rattle.ijson_number.specs.StrippedDigits.{stripped_digits}
 use Rattle.ijson_number.specs.Text.{num_text}
 use Rattle.ijson_number.specs.Order.{number_cmp}
 use Rattle.ijson_number.specs.Words.{number_words}
+use Rattle.ijson_number.specs.private.Word.{word_exponent, word_mantissa, word_point}
 use Rattle.ijson_number.specs.Form.{form_of, packed, signed_word, unsigned_word, digits}
 
 abbrev float : ℤ → ℤ → Decimal
@@ -132,3 +133,52 @@ spelled-1_5E-3 = (
   },
   (record { plain = record { zero = λ h. absurd (cc); stripped = λ _ h. absurd (omega arith); whole = λ h. absurd (cc) }; tens = inr (0, refl, refl) }, refl),
 )
+
+-- the word that a packed number is kept in, and its last four bits
+abbrev IsKept : ℕ → Decimal → Type 0
+IsKept bits n = (packed (word_mantissa bits) (word_exponent bits) (word_point bits) ≡ form_of n) × (bits % 16 ≡ 8)
+
+word-0 : IsKept 248 (whole (pos 0) (pos 0))
+word-0 = (refl, refl)
+
+word-1 : IsKept 504 (whole (pos 1) (pos 0))
+word-1 = (refl, refl)
+
+word-minus_1 : IsKept 18446744073709551608 (whole (negsuc 0) (pos 0))
+word-minus_1 = (refl, refl)
+
+word-zero_float : IsKept 120 (float (pos 0) (pos 0))
+word-zero_float = (refl, refl)
+
+word-2_0 : IsKept 632 (float (pos 2) (pos 0))
+word-2_0 = (refl, refl)
+
+word-0_5 : IsKept 1384 (float (pos 5) (negsuc 0))
+word-0_5 = (refl, refl)
+
+word-100_0 : IsKept 25720 (float (pos 1) (pos 2))
+word-100_0 = (refl, refl)
+
+word-63_5 : IsKept 162664 (float (pos 635) (negsuc 0))
+word-63_5 = (refl, refl)
+
+word-largest : IsKept 9223372036854775800 (whole (pos 36028797018963967) (pos 0))
+word-largest = (refl, refl)
+
+word-least : IsKept 9223372036854776056 (whole (negsuc 36028797018963967) (pos 0))
+word-least = (refl, refl)
+
+word-1e20 : IsKept 2560000000000000184 (float (pos 1) (pos 20))
+word-1e20 = (refl, refl)
+
+word-1e23 : IsKept 2560000000000000232 (float (pos 1) (pos 23))
+word-1e23 = (refl, refl)
+
+word-least_float : IsKept 9223372036854775928 (float (negsuc 36028797018963967) (pos 0))
+word-least_float = (refl, refl)
+
+word-tenth_micro : IsKept 264 (float (pos 1) (negsuc 6))
+word-tenth_micro = (refl, refl)
+
+word-ten_times_largest : IsKept 9223372036854775688 (float (pos 36028797018963967) (pos 1))
+word-ten_times_largest = (refl, refl)

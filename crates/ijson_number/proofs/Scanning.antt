@@ -9,7 +9,7 @@ use Rattle.ijson_number.specs.Decimal.{Decimal}
 use Rattle.ijson_number.specs.Num.{IsNum}
 use Rattle.ijson_number.specs.private.Reading.{IsWithin, exponent_of, BeginsWithNoZero, EndsWithNoZero}
 use Rattle.ijson_number.specs.private.StoredNumber.{IsStored, stored_number}
-use Rattle.ijson_number.specs.Grammar.{AllDigits, Parts, IsSpelled, IsFraction, Spells}
+use Rattle.ijson_number.specs.Grammar.{AllDigits, Denotes, Parts, IsSpelled, IsFraction, Spells}
 use Rattle.ijson_number.specs.private.Stripped.{IsStripped, digits_from_text}
 use Rattle.ijson_number.proofs.Runs.{AllDigits-append, AllDigits_left, AllDigits_right, IsDigits_all}
 use Rattle.ijson_number.proofs.Parts.{whole_all}
@@ -65,13 +65,13 @@ module _ (text : List ℕ) (p : Parts) (spelled : IsSpelled text p) (w f a b : L
   some_digits : 0 < length (a ++ b) → 0 < length (digits_from_text (a ++ b))
   some_digits h = rw (length-map {A = ℕ} {B = ℕ} (a ++ b) (λ b. b - 48)) h
 
-  pub spells_number : 0 < length (a ++ b) → (e : ℤ) → e ≡ exponent_of p.exponent (length p.fraction) k → Spells text (stored_number p.negative (digits_from_text (a ++ b)) e p.point)
-  spells_number h e is = rw is (p, spelled, denotes_some p (w ++ f) (a ++ b) j k front back (some_digits h) stripped (pointless text p k spelled))
+  pub denotes_number : 0 < length (a ++ b) → (e : ℤ) → e ≡ exponent_of p.exponent (length p.fraction) k → Denotes p (stored_number p.negative (digits_from_text (a ++ b)) e p.point)
+  denotes_number h e is = rw is (denotes_some p (w ++ f) (a ++ b) j k front back (some_digits h) stripped (pointless text p k spelled))
 
-  pub spells_zero : length (a ++ b) ≡ 0 → Spells text (stored_number false (digits_from_text (a ++ b)) (pos 0) p.point)
-  spells_zero h =
+  pub denotes_nought : length (a ++ b) ≡ 0 → Denotes p (stored_number false (digits_from_text (a ++ b)) (pos 0) p.point)
+  denotes_nought h =
       let nil : a ++ b ≡ [] = nil_from_length (a ++ b) h in
-      rw nil (p, spelled, denotes_zero p (w ++ f) (a ++ b) j k front back h)
+      rw nil (denotes_zero p (w ++ f) (a ++ b) j k front back h)
 
   pub stores_number : 0 < length (a ++ b) → IsStored p.negative (digits_from_text (a ++ b))
   stores_number h = record {
@@ -87,7 +87,7 @@ module _ (text : List ℕ) (p : Parts) (spelled : IsSpelled text p) (w f a b : L
 
   pub past_limit : 0 < length (a ++ b) → (IsWithin (exponent_of p.exponent (length p.fraction) k) → ⊥) → (n : Decimal) → Spells text n → IsNum n → ⊥
   past_limit h out n s num =
-      let e : n ≡ stored_number p.negative (digits_from_text (a ++ b)) (exponent_of p.exponent (length p.fraction) k) p.point = spells_one text n _ s (spells_number h _ refl) in
+      let e : n ≡ stored_number p.negative (digits_from_text (a ++ b)) (exponent_of p.exponent (length p.fraction) k) p.point = spells_one text n _ s (p, spelled, denotes_number h _ refl) in
       let num' = rw e at num in
       elim (in_range_within (stored_number p.negative (digits_from_text (a ++ b)) (exponent_of p.exponent (length p.fraction) k) p.point) num'.in_range) [
         | inl z ↦ stripped_mod (digits_from_text (a ++ b)) stripped (some_digits h) (rw (signed_zero p.negative (number_from_digits 10 (digits_from_text (a ++ b))) z) refl)

@@ -18,7 +18,7 @@ use Rattle.ijson_number.specs.private.Stripped.{IsStripped}
 use Rattle.ijson_number.proofs.Denotes.{stripped_mod}
 use Rattle.ijson_number.specs.laws.Tens.{abs_signed}
 
-decimal_is : (n : ℕ) → n < 10 ^ 64 → 0 < n → decimal n ≡ digits_text (digits_of 10 n)
+pub decimal_is : (n : ℕ) → n < 10 ^ 64 → 0 < n → decimal n ≡ digits_text (digits_of 10 n)
 decimal_is n h p =
     let P : ℕ → List ℕ → Type 0 = λ n ds. 0 < n → ds ≡ digits_text (digits_of 10 n) in
     decimal_by_steps_wide P

@@ -9,3 +9,4 @@ pub mod Word
 pub mod Stored
 pub mod StrippedNumber
 pub mod SizeOrder
+pub mod WordText

@@ -4,6 +4,7 @@ ghost use Rattle.std.specs.Cmp.Lexicographic.{slice_cmp};
 ghost use Rattle.std.specs.Ordering.{int_cmp, nat_cmp};
 ghost use Rattle.ijson_number.specs.DigitRow.{NeedsDigits, digit_count, leading_place, most_looks};
 ghost use Rattle.ijson_number.specs.private.SizeOrder.{size_cmp};
+ghost use Rattle.ijson_number.specs.private.StrippedNumber.{row_num};
 ghost use Rattle.ijson_number.specs.Num.{Num};
 ghost use Rattle.ijson_number.specs.Order.{number_cmp};
 ghost use Rattle.ijson_number.specs.StrippedDigits.{stripped_digits};
@@ -11,7 +12,7 @@ ghost use Rattle.ijson_number.specs.StrippedDigits.{stripped_digits};
 use crate::digits::place_of;
 use crate::looks::Looks;
 use crate::number::INumber;
-use crate::stripped::ROOM;
+use crate::stripped::{ROOM, StrippedNumber};
 use std::cmp::Ordering;
 
 /// A number that tells its stripped digits one by one.
@@ -101,15 +102,13 @@ pub fn compare<D: DigitRow>(a: &D, b: &D, looks: &mut Looks) -> Ordering
     }
 }
 
-impl DigitRow for INumber {
-    ghost num = { λ n. n };
+impl DigitRow for StrippedNumber<'_> {
+    ghost num = { row_num };
 
     fn sign(&self) -> Ordering {
-        let mut room = [0; ROOM];
-        let number = self.stripped(&mut room);
-        if number.digits.is_empty() {
+        if self.digits.is_empty() {
             Ordering::Equal
-        } else if number.negative {
+        } else if self.negative {
             Ordering::Less
         } else {
             Ordering::Greater
@@ -117,17 +116,35 @@ impl DigitRow for INumber {
     }
 
     fn count(&self) -> usize {
-        self.stripped(&mut [0; ROOM]).digits.len()
+        self.digits.len()
     }
 
     fn lead(&self) -> i128 {
-        let mut room = [0; ROOM];
-        let number = self.stripped(&mut room);
-        place_of(number.digits, number.exponent)
+        place_of(self.digits, self.exponent)
     }
 
     fn digit(&self, at: usize, looks: &mut Looks) -> u8 {
         looks.add_one();
-        self.stripped(&mut [0; ROOM]).digits[at]
+        self.digits[at]
+    }
+}
+
+impl DigitRow for INumber {
+    ghost num = { λ n. n };
+
+    fn sign(&self) -> Ordering {
+        self.stripped(&mut [0; ROOM]).sign()
+    }
+
+    fn count(&self) -> usize {
+        self.stripped(&mut [0; ROOM]).count()
+    }
+
+    fn lead(&self) -> i128 {
+        self.stripped(&mut [0; ROOM]).lead()
+    }
+
+    fn digit(&self, at: usize, looks: &mut Looks) -> u8 {
+        self.stripped(&mut [0; ROOM]).digit(at, looks)
     }
 }

@@ -143,6 +143,9 @@ impl Scanned<'_> {
         if self.front.len() as u128 + self.back.len() as u128 > ROOM as u128 {
             return None;
         }
+        if self.point && self.exponent < -7 {
+            return None;
+        }
         let mut digits: ArrayVec<u8, ROOM> = ArrayVec::new();
         push_in_place(&mut digits, self.front);
         push_in_place(&mut digits, self.back);

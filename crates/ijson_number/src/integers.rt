@@ -29,7 +29,7 @@ pub fn without_tens(number: u64) -> (u64, u32)
 }
 
 /// What is stored of an integer.
-fn stored_signed(value: i64) -> Stored
+pub fn stored_signed(value: i64) -> Stored
     ensures { stored_form result ≡ integer_word value }
 {
     if is_packed_mantissa(i128::from(value)) {

@@ -5,6 +5,7 @@ mod clone;
 mod digit_row;
 mod digits;
 mod faults;
+mod few_digits;
 mod form;
 mod hash;
 mod integers;
@@ -16,6 +17,7 @@ mod stored;
 mod stripped;
 mod text;
 mod word;
+mod word_text;
 
 pub use digit_row::{DigitRow, compare};
 pub use faults::first_fault;

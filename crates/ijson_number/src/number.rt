@@ -53,7 +53,13 @@ impl INumber {
         ensures ok { IfOk result (λ n. Spells text.now n.decimal) }
         ensures err { IfErr result (λ e. IsRefused text.now e) }
     {
-        let Some(scanned) = reading::scan(text.as_bytes()) else {
+        let Some(spelling) = reading::read(text.as_bytes()) else {
+            return Err(ParseNumberError::Invalid);
+        };
+        if let Some(stored) = spelling.word() {
+            return Ok(INumber { stored });
+        }
+        let Some(scanned) = spelling.scan() else {
             return Err(ParseNumberError::Invalid);
         };
         if let Some(stored) = scanned.stored() {

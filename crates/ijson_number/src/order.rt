@@ -4,7 +4,7 @@ ghost use Rattle.std.specs.Cmp.{partial_equiv_from_equiv, on_equiv, on_total, po
 ghost use Rattle.ijson_number.specs.Order.{number_cmp, number_eq};
 ghost use Rattle.ijson_number.specs.laws.Ordered.{number_cmp_total, number_eq_equiv};
 
-use crate::digit_row::{DigitRow, compare};
+use crate::digit_row::compare;
 use crate::looks::Looks;
 use crate::number::INumber;
 use crate::stripped::ROOM;
@@ -17,6 +17,9 @@ impl PartialEq for INumber {
     ghost laws = { partial_equiv_from_equiv (on_equiv (λ n. n.decimal) number_eq_equiv) };
 
     fn eq(&self, other: &INumber) -> bool {
+        if self.stored.is_same_word(&other.stored) {
+            return true;
+        }
         let (mut room, mut other_room) = ([0; ROOM], [0; ROOM]);
         let (a, b) = (self.stripped(&mut room), other.stripped(&mut other_room));
         if a.negative != b.negative || a.exponent != b.exponent {
@@ -51,8 +54,8 @@ impl Ord for INumber {
     ghost matches_eq = { λ a b. refl };
 
     fn cmp(&self, other: &INumber) -> Ordering {
-        // The looks fit, since the count of digits does.
-        let _count = self.count();
-        compare(self, other, &mut Looks::new())
+        let (mut room, mut other_room) = ([0; ROOM], [0; ROOM]);
+        let (a, b) = (self.stripped(&mut room), other.stripped(&mut other_room));
+        compare(&a, &b, &mut Looks::new())
     }
 }

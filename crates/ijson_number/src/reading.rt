@@ -5,7 +5,7 @@ ghost use Rattle.ijson_number.specs.Decimal.{Decimal};
 ghost use Rattle.ijson_number.specs.Num.{IsNum};
 ghost use Rattle.ijson_number.specs.private.Reading.{IsWithin, exponent_of, BeginsWithNoDigit, BeginsWithNoZero, EndsWithNoZero, IsSignTaken, IsTail, IsUnsigned};
 ghost use Rattle.ijson_number.specs.Strips.{signed};
-ghost use Rattle.ijson_number.specs.Grammar.{AllDigits, IsDigits, IsExponent, IsSpelled, IsWhole, Parts, Spells, value};
+ghost use Rattle.ijson_number.specs.Grammar.{AllDigits, Denotes, IsDigits, IsExponent, IsSpelled, IsWhole, Parts, value};
 ghost use Rattle.ijson_number.specs.private.Scanned.{IsScanned, parts_of, scanned_number};
 
 /// More than any exponent within the limit needs, whatever the length of a text.
@@ -286,32 +286,38 @@ pub struct Scanned<'a> {
     pub point: bool,
 }
 
-/// Reads a number's text, and takes the zeros off its digits.
-pub fn scan(text: &[u8]) -> Option<Scanned<'_>>
-    ensures spelled { IfSome result (λ s. Spells text.now (scanned_number s)) }
-    ensures scanned { IfSome result IsScanned }
-    ensures none { IfNone result ((n : Decimal) → Spells text.now n → IsNum n → ⊥) }
-{
-    let spelling = read(text)?;
-    let tail = spelling.tail;
-    let (whole, fraction) = strip_front(spelling.whole, tail.fraction);
-    let (front, back) = strip_back(whole, fraction);
-    if front.is_empty() && back.is_empty() {
-        return Some(Scanned {
-            negative: false,
+impl<'a> Spelling<'a> {
+    /// The number of the parts, with the zeros taken off its digits.
+    pub fn scan(&self) -> Option<Scanned<'a>>
+        requires spelled { (text : List ℕ) × IsSpelled text (parts_of self.now) }
+        requires digits { AllDigits self.now.tail.exponent.now }
+        ensures denoted { IfSome result (λ s. Denotes (parts_of self.now) (scanned_number s)) }
+        ensures scanned { IfSome result IsScanned }
+        ensures none { IfNone result ((n : Decimal)
+            → Denotes (parts_of self.now) n
+            → IsNum n
+            → ⊥) }
+    {
+        let tail = self.tail;
+        let (whole, fraction) = strip_front(self.whole, tail.fraction);
+        let (front, back) = strip_back(whole, fraction);
+        if front.is_empty() && back.is_empty() {
+            return Some(Scanned {
+                negative: false,
+                front,
+                back,
+                exponent: 0,
+                point: tail.point,
+            });
+        }
+        let tens = (whole.len() - front.len()) as u128 + (fraction.len() - back.len()) as u128;
+        let exponent = stripped_exponent(&tail, tens)?;
+        Some(Scanned {
+            negative: self.negative,
             front,
             back,
-            exponent: 0,
+            exponent,
             point: tail.point,
-        });
+        })
     }
-    let tens = (whole.len() - front.len()) as u128 + (fraction.len() - back.len()) as u128;
-    let exponent = stripped_exponent(&tail, tens)?;
-    Some(Scanned {
-        negative: spelling.negative,
-        front,
-        back,
-        exponent,
-        point: tail.point,
-    })
 }

@@ -1,5 +1,5 @@
 //! What is stored of a number.
-ghost use Rattle.std.specs.Prelude.{◌≡◌, IfOk};
+ghost use Rattle.std.specs.Prelude.{◌≡◌, IfOk, IsTrue};
 ghost use Rattle.ijson_number.specs.private.StoredNumber.{IsStored};
 ghost use Rattle.std.proofs.Props.{props};
 
@@ -25,6 +25,20 @@ pub enum Stored {
     I64(i64),
     U64(u64),
     Digits(Box<LongNumber>),
+}
+
+impl Stored {
+    /// Whether both are one word.
+    pub fn is_same_word(&self, other: &Stored) -> bool
+        ensures { IsTrue result → self.now ≡ other.now }
+    {
+        match (self, other) {
+            (Stored::Packed(word), Stored::Packed(other_word)) => word == other_word,
+            (Stored::I64(value), Stored::I64(other_value)) => value == other_value,
+            (Stored::U64(value), Stored::U64(other_value)) => value == other_value,
+            _ => false,
+        }
+    }
 }
 
 impl LongNumber {

@@ -6,8 +6,8 @@ ghost use Rattle.ijson_number.specs.Text.{digits_text, num_text, point_text, sci
 use crate::digits::place_of;
 use crate::number::INumber;
 use crate::stripped::ROOM;
-use arrayvec::ArrayString;
-use std::fmt;
+use crate::word_text::TEXT_ROOM;
+use std::{fmt, str};
 
 /// How many digits are written at once.
 const RUN: usize = 20;
@@ -27,17 +27,16 @@ impl fmt::Display for Zeros {
     }
 }
 
-/// The text of a run of digits.
-fn run_text(digits: &[u8]) -> ArrayString<RUN>
+/// The text of a run of digits, which is written into the room.
+fn run_text<'a>(digits: &[u8], room: &'a mut [u8; RUN]) -> &'a str
     requires below_ten { All (λ d. d < 10) digits.now }
     requires short { length digits.now ≤ 20 }
-    ensures { result.bytes ≡ digits_text digits.now }
+    ensures { result.now ≡ digits_text digits.now }
 {
-    let mut text = ArrayString::new();
-    for digit in digits {
-        text.push((b'0' + *digit) as char);
+    for at in 0..digits.len() {
+        room[at] = b'0' + digits[at];
     }
-    text
+    unsafe { str::from_utf8_unchecked(&room[..digits.len()]) }
 }
 
 /// Digits from 0 to 9.
@@ -51,12 +50,13 @@ impl fmt::Display for DigitsText<'_> {
     ghost output = { λ t. Some (digits_text t.digits.now) };
 
     fn fmt<W: fmt::Write>(&self, f: &mut fmt::Formatter<W>) -> fmt::Result {
+        let mut room = [0; RUN];
         let runs = self.digits.len() / RUN;
         for run in 0..runs {
             let digits = &self.digits[run * RUN..run * RUN + RUN];
-            f.write_str(run_text(digits).as_str())?;
+            f.write_str(run_text(digits, &mut room))?;
         }
-        f.write_str(run_text(&self.digits[runs * RUN..]).as_str())
+        f.write_str(run_text(&self.digits[runs * RUN..], &mut room))
     }
 }
 
@@ -164,6 +164,10 @@ impl fmt::Display for INumber {
     ghost output = { λ n. Some (num_text n.decimal) };
 
     fn fmt<W: fmt::Write>(&self, f: &mut fmt::Formatter<W>) -> fmt::Result {
+        let mut text_room = [0; TEXT_ROOM];
+        if let Some(text) = self.word_text(&mut text_room) {
+            return f.write_str(text);
+        }
         let mut room = [0; ROOM];
         let number = self.stripped(&mut room);
         let digits = number.digits;

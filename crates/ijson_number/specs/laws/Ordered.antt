@@ -33,7 +33,7 @@ neg_is : (t : ℕ) → 0 < t → neg_ℤ (pos t) ≡ negsuc (t - 1)
 neg_is zero h = absurd (omega arith)
 neg_is (suc t) h = let e : suc t - 1 ≡ t = omega arith in rw e refl
 
-times : (x : ℤ) (a b : ℕ) → x *ℤ pos (a * b) ≡ x *ℤ pos a *ℤ pos b
+pub times : (x : ℤ) (a b : ℕ) → x *ℤ pos (a * b) ≡ x *ℤ pos a *ℤ pos b
 times (pos x) a b = ap pos (sym (mul_assoc x a b))
 times (negsuc x) a b = ap (λ t. neg_ℤ (pos t)) (sym (mul_assoc (suc x) a b)) ∙ signed_mul true (suc x * a) b
 

@@ -3,6 +3,11 @@ use Rattle.std.specs.Prelude.{FitsSigned}
 use Rattle.std.proofs.lemmas.Int.{to_z-of_z}
 use mir.Syntax.{w32}
 use mir.Val.{to_z, of_z}
+use Rattle.std.specs.Ordering.{is_eq}
+use Rattle.ijson_number.specs.Decimal.{Decimal}
+use Rattle.ijson_number.specs.Num.{Num}
+use Rattle.ijson_number.specs.laws.Ordered.{same_equal}
+use Rattle.ijson_number.specs.private.Stored.{stored_decimal}
 use Rattle.ijson_number.proofs.SameParts.{same_signs, other_signs, digits_tell, signs_tell, exponents_tell}
 use Rattle.ijson_number.proofs.order.INumberPartialEq.eq.Goals as goal
 use Rattle.ijson_number.proofs.order.INumberPartialEq.eq.Goals.{then-a-b-via-then-a-b, then-a-b-via-else-a-b+then-a-b-2}
@@ -24,3 +29,10 @@ returns c =
     let g : FitsSigned w32 y.exponent = search rules in
     let same : x.exponent ≡ y.exponent = sym (to_z-of_z w32 x.exponent f) ∙ ap (to_z w32) c.if-a-b-2.false ∙ to_z-of_z w32 y.exponent g in
     digits_tell x.negative y.negative x.digits.now y.digits.now x.exponent y.exponent x.point y.point c.args.self.now.decimal c.args.other.now.decimal c.stripped-a.ensures c.stripped-b.ensures x.num y.num x.stripped y.stripped c.eq.result (same_signs x.negative y.negative c.if-a-b.false) same c.eq.ensures
+
+pub returns-then-is_same_word : goal.returns-then-is_same_word
+returns-then-is_same_word c =
+    let a = c.args.self.now.decimal in
+    let b = c.args.other.now.decimal in
+    let same : a ≡ b = sym (ap (λ (x : Num). x.decimal) c.self.view_is) ∙ ap stored_decimal (c.is_same_word.ensures c.if-is_same_word.true) ∙ ap (λ (x : Num). x.decimal) c.other.view_is in
+    sym (ap is_eq (same_equal a b (ap (λ (n : Decimal). n.mantissa) same) (ap (λ (n : Decimal). n.exponent) same)))

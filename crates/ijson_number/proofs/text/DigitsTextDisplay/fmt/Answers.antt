@@ -16,8 +16,8 @@ loop-run-preserved g c = λ plain.
     let digits = c.args.self.now.digits.now in
     let front : ℕ = c.loop-run.run * 20 in
     let was = c.loop-run.invariant plain in
-    let text : c.as_str.result.now ≡ digits_text (take (front + 20 - front) (drop front digits)) = c.as_str.ensures.value ∙ c.run_text.ensures in
-    put_two g.W.Write.write_str_gives c.args.f.now c.loop-run.f c.write_str.new.self (digits_text (take front digits)) c.as_str.result.now (digits_text (take ((c.loop-run.run + 1) * 20) digits)) was
+    let text : c.run_text.result.now ≡ digits_text (take (front + 20 - front) (drop front digits)) = c.run_text.ensures in
+    put_two g.W.Write.write_str_gives c.args.f.now c.loop-run.f c.write_str.new.self (digits_text (take front digits)) c.run_text.result.now (digits_text (take ((c.loop-run.run + 1) * 20) digits)) was
     (c.in_ok-write_str.ensures.writes was.plain refl)
     (ap (λ s. digits_text (take front digits) ++ s) text ∙ joined digits front (front + 20 - front) ((c.loop-run.run + 1) * 20) (omega arith))
 
@@ -29,8 +29,8 @@ returns-clause-writes g c = λ plain ok.
     let rest : ℕ = length digits - front in
     let last : c.loop-run.run ≡ runs = omega (arith, c.loop-run-test.false, c.loop-run.auto.run-end) in
     let was = c.loop-run.invariant plain in
-    let text : c.as_str-2.result.now ≡ digits_text (take rest (drop front digits)) = c.as_str-2.ensures.value ∙ c.run_text-2.ensures in
-    put_two g.W.Write.write_str_gives c.args.f.now c.loop-run.f c.write_str-2.new.self (digits_text (take (c.loop-run.run * 20) digits)) c.as_str-2.result.now (digits_text digits) was
+    let text : c.run_text-2.result.now ≡ digits_text (take rest (drop front digits)) = c.run_text-2.ensures in
+    put_two g.W.Write.write_str_gives c.args.f.now c.loop-run.f c.write_str-2.new.self (digits_text (take (c.loop-run.run * 20) digits)) c.run_text-2.result.now (digits_text digits) was
     (c.write_str-2.ensures.writes was.plain ok)
-    (ap (λ n. digits_text (take (n * 20) digits) ++ c.as_str-2.result.now) last
+    (ap (λ n. digits_text (take (n * 20) digits) ++ c.run_text-2.result.now) last
     ∙ (ap (λ s. digits_text (take front digits) ++ s) text ∙ (joined digits front rest (length digits) (omega (arith, div-mul-le_self (length digits) 20)) ∙ ap digits_text (take_all (length digits) digits (omega arith)))))

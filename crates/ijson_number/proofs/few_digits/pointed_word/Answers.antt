@@ -1,0 +1,25 @@
+use Rattle.std.proofs.Common.{◌≡◌, ◌∙◌, ◌≤◌, ◌<◌, ◌^◌, sym, true, rules, arith}
+use Rattle.std.specs.Prelude.{pos, neg_ℤ, FitsSigned}
+use Rattle.std.proofs.lemmas.Int.{ints, to_z-of_z}
+use mir.Syntax.{w64}
+use Rattle.ijson_number.specs.Strips.{signed}
+use Rattle.ijson_number.proofs.FewDigits.{pointed_form}
+use Rattle.ijson_number.proofs.Forms.{packed_is}
+use Rattle.ijson_number.specs.private.Word.{word_exponent, word_mantissa, word_point}
+use Rattle.ijson_number.proofs.few_digits.pointed_word.Goals as goal
+
+pub returns : goal.returns
+returns c = λ n point s.
+    let a = c.args in
+    let w = c.without_zeros-mantissa in
+    let few = c.if-left-gt7.false in
+    let small = c.if-mantissa.false in
+    let below : w.result.0 < 2 ^ 55 = omega arith in
+    let most : w.result.1 ≤ 7 = omega arith in
+    let bits = c.pointed-word.result.bits in
+    let e = c.pointed-word.ensures in
+    let exponent : word_exponent bits ≡ neg_ℤ (pos w.result.1) = omega (arith, ints, e.exponent) in
+    let value = c.with_sign.result in
+    let fits : FitsSigned w64 value = search rules in
+    let mantissa : word_mantissa bits ≡ signed a.negative w.result.0 = rw (to_z-of_z w64 value fits) at e.mantissa ∙ c.with_sign.ensures in
+    pointed_form a.negative a.size w.result.0 a.places w.result.1 n w.ensures.tens w.ensures.fewer w.ensures.stripped most below point s ∙ sym (packed_is (word_mantissa bits) (signed a.negative w.result.0) (word_exponent bits) (neg_ℤ (pos w.result.1)) (word_point bits) true mantissa exponent e.point)

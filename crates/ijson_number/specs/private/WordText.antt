@@ -1,0 +1,16 @@
+-- The text of a number that is kept in one word, put together from its sign, its whole part and its fraction.
+use Rattle.std.specs.Prelude.{ℕ, zero, suc, ◌+◌, ◌/◌, ◌%◌, Bool, List, [], ◌∷◌, ◌++◌}
+use Rattle.std.specs.Fmt.{decimal}
+use Rattle.ijson_number.specs.Text.{minus_text}
+
+-- so many last digits of a number, with zeros in front where it has fewer
+unfoldable pub last_digits : (count n : ℕ) → List ℕ
+last_digits zero n = []
+last_digits (suc count) n = last_digits count (n / 10) ++ (48 + n % 10) ∷ []
+
+abbrev pub integer_text : (negative : Bool) → (size : ℕ) → List ℕ
+integer_text negative size = minus_text negative ++ decimal size
+
+abbrev pub pointed_text : (negative : Bool) → (whole places fraction : ℕ) → List ℕ
+pointed_text negative whole places fraction =
+    minus_text negative ++ (decimal whole ++ 46 ∷ last_digits places fraction)

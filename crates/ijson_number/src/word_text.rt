@@ -1,0 +1,101 @@
+//! The text of a number that is kept in one word, written at once.
+ghost use Rattle.std.specs.Prelude.{◌≡◌, ◌+◌, ◌/◌, ◌%◌, ◌^◌, ◌<◌, ◌≤◌, ◌∷◌, ◌++◌, drop, length, true, false, pos, IfSome, IsTrue};
+ghost use Rattle.std.specs.Fmt.{decimal};
+ghost use Rattle.ijson_number.specs.Form.{fits_packed, form_of, packed};
+ghost use Rattle.ijson_number.specs.Text.{minus_text, num_text};
+ghost use Rattle.ijson_number.specs.private.FormNumber.{stripped_number};
+ghost use Rattle.ijson_number.specs.private.WordText.{integer_text, last_digits, pointed_text};
+
+use crate::number::INumber;
+use crate::stored::Stored;
+use itoa::write_digits;
+use std::str;
+
+/// Room for a sign, twenty digits, the point and seven digits behind it.
+pub const TEXT_ROOM: usize = 32;
+
+/// Writes a whole number so that it ends at `end`, and returns where it starts.
+fn put_integer(negative: bool, size: u64, room: &mut [u8; TEXT_ROOM], end: usize) -> usize
+    requires low { 24 ≤ end }
+    requires high { end ≤ 32 }
+    ensures within { result ≤ end }
+    ensures text { drop result room.new ≡ integer_text negative size ++ drop end room.old }
+{
+    let start = write_digits(size, room, end);
+    if !negative {
+        return start;
+    }
+    room[start - 1] = b'-';
+    start - 1
+}
+
+/// Writes the point and so many digits of a fraction to the end of the room, and returns where the point stands.
+fn put_fraction(places: u32, scale: u64, fraction: u64, room: &mut [u8; TEXT_ROOM]) -> usize
+    requires few { places < 8 }
+    requires scale { scale ≡ 10 ^ places }
+    requires below { fraction < scale }
+    ensures start { result + places + 1 ≡ 32 }
+    ensures text { drop result room.new ≡ 46 ∷ last_digits places fraction }
+{
+    // the 1 in front keeps the zeros behind it, and makes room for the point
+    let start = write_digits(scale + fraction, room, TEXT_ROOM);
+    room[start] = b'.';
+    start
+}
+
+/// The text of a whole number without the point.
+fn integer(negative: bool, size: u64, room: &mut [u8; TEXT_ROOM]) -> &str
+    ensures { result.now ≡ integer_text negative size }
+{
+    let start = put_integer(negative, size, room, TEXT_ROOM);
+    unsafe { str::from_utf8_unchecked(&room[start..]) }
+}
+
+/// The text of a whole number over ten to the places, with so many digits behind the point.
+fn fraction(negative: bool, size: u64, places: u32, room: &mut [u8; TEXT_ROOM]) -> &str
+    requires some { 1 ≤ places }
+    requires few { places < 8 }
+    ensures { result.now
+        ≡ pointed_text negative (size / 10 ^ places) places (size % 10 ^ places) }
+{
+    let scale = 10u64.pow(places);
+    let point = put_fraction(places, scale, size % scale, room);
+    let start = put_integer(negative, size / scale, room, point);
+    unsafe { str::from_utf8_unchecked(&room[start..]) }
+}
+
+/// The text of a packed number with the point, where no exponent is written and none is above zero.
+fn pointed(mantissa: i64, exponent: i8, room: &mut [u8; TEXT_ROOM]) -> Option<&str>
+    requires fits { IsTrue (fits_packed mantissa) }
+    requires form { form_of (stripped_number mantissa exponent true) ≡ packed mantissa exponent true }
+    ensures { IfSome result (λ text. text.now ≡ num_text (stripped_number mantissa exponent true)) }
+{
+    let (negative, size) = (mantissa < 0, mantissa.unsigned_abs());
+    if exponent == 0 {
+        return Some(fraction(negative, size * 10, 1, room));
+    }
+    if exponent > 0 || (exponent < -6 && size < 10) {
+        return None;
+    }
+    Some(fraction(negative, size, u32::from(exponent.unsigned_abs()), room))
+}
+
+impl INumber {
+    /// The text, where the number is kept in one word and no exponent is written.
+    pub(crate) fn word_text<'a>(&self, room: &'a mut [u8; TEXT_ROOM]) -> Option<&'a str>
+        ensures { IfSome result (λ text. text.now ≡ num_text self.now.decimal) }
+    {
+        match &self.stored {
+            Stored::Packed(word) => {
+                let mantissa = word.mantissa();
+                if word.point() {
+                    return pointed(mantissa, word.exponent(), room);
+                }
+                Some(integer(mantissa < 0, mantissa.unsigned_abs(), room))
+            }
+            Stored::I64(value) => Some(integer(*value < 0, value.unsigned_abs(), room)),
+            Stored::U64(value) => Some(integer(false, *value, room)),
+            Stored::Digits(_) => None,
+        }
+    }
+}
