@@ -1,5 +1,5 @@
 -- One insertion more.
-use Rattle.std.proofs.Common.{◌≡◌, ◌++◌, ◌∷◌, [], List, ℕ, Option, Ok, refl, sym, subst}
+use Rattle.std.proofs.Common.{◌++◌, ◌∷◌, [], List, ℕ, Option, Ok, refl, subst}
 use Rattle.ijson_table.specs.Inserts.{Inserts}
 use Rattle.ijson_value.specs.InsertsEach.{InsertsEach}
 

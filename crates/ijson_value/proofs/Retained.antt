@@ -1,5 +1,5 @@
 -- One question of `retain`, and then the rest.
-use Rattle.std.proofs.Common.{◌≡◌, ◌<◌, ◌≤◌, ℕ, zero, suc, ◌+◌, ◌-◌, List, [], ◌∷◌, length, get_or, set, take, Bool, true, false, Some, sym, ap, subst, ◌∙◌, arith, ◌⊎◌, inl, inr, length-set}
+use Rattle.std.proofs.Common.{◌≡◌, ◌<◌, ℕ, zero, suc, ◌+◌, ◌-◌, List, [], ◌∷◌, length, get_or, set, take, Bool, true, false, Some, sym, ap, subst, ◌∙◌, arith, inl, inr, length-set}
 use Rattle.std.specs.Prelude.{slice_get, swap_remove}
 use Rattle.std.proofs.lemmas.List.{take-set-le, set-set, get_or-set_other}
 

@@ -4,7 +4,7 @@ use Rattle.std.specs.Borrow.{MutBor}
 use Rattle.ijson_table.specs.Store.{Store, keys_of}
 use Rattle.ijson_value.specs.WellFormed.{WellFormed}
 use Rattle.ijson_value.specs.declared.object.entry.Entry.{Entry}
-pub use Rattle.ijson_value.specs.declared.object.entry.Entry.TheVariants.{Occupied, Vacant}
+use Rattle.ijson_value.specs.declared.object.entry.Entry.TheVariants.{Occupied, Vacant}
 
 -- the reference to the object
 abbrev pub entry_object : Entry → MutBor (Store WellFormed)

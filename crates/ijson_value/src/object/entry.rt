@@ -105,9 +105,9 @@ impl IObject {
         ensures* rests { sem 𝓛 (RestsIfNoEntry self.entry result) }
     {
         match self.position(key.as_str()) {
-            Some(index) => Ok(Entry::Occupied(OccupiedEntry {
+            Some(position) => Ok(Entry::Occupied(OccupiedEntry {
                 object: self,
-                index,
+                index: position,
             })),
             None => match key.clone() {
                 Ok(key) => match self.reserve(1) {
@@ -188,7 +188,8 @@ impl<'a> Entry<'a> {
 
 impl<'a> OccupiedEntry<'a> {
     ghost use Rattle.ijson_value.specs.AtKey.{swap_out_key};
-    ghost use Rattle.ijson_value.specs.EntryParts.{Occupied, entry_object, entry_key, entry_value};
+    ghost use Rattle.ijson_value.specs.EntryParts.{entry_object, entry_key, entry_value};
+    ghost use Rattle.ijson_value.specs.declared.object.entry.Entry.TheVariants.{Occupied};
     ghost use Rattle.ijson_value.specs.LendsEntry.{EntryLends, OccupiedLends};
     ghost use Rattle.ijson_value.specs.WithEntry.{with_entry_value};
 
@@ -259,7 +260,8 @@ impl<'a> OccupiedEntry<'a> {
 }
 
 impl<'a> VacantEntry<'a> {
-    ghost use Rattle.ijson_value.specs.EntryParts.{Vacant, entry_object, entry_key};
+    ghost use Rattle.ijson_value.specs.EntryParts.{entry_object, entry_key};
+    ghost use Rattle.ijson_value.specs.declared.object.entry.Entry.TheVariants.{Vacant};
     ghost use Rattle.ijson_value.specs.LendsEntry.{EntryLends};
 
     /// The key.
@@ -274,7 +276,7 @@ impl<'a> VacantEntry<'a> {
         ensures key { result ≡ entry_key (Vacant self.entry) }
         ensures stays { self.exit.0.now ≡ (entry_object (Vacant self.entry)).now }
     {
-        let VacantEntry { object: _, key } = self;
+        let VacantEntry { key, object: _ } = self;
         key
     }
 

@@ -4,7 +4,7 @@ ghost use Rattle.std.specs.Borrow.{sem};
 ghost use Rattle.std.specs.Map.Iter.{deref_pair};
 ghost use Rattle.std.specs.Option.{option_copied, option_copied_mut, unwrap_or};
 ghost use Rattle.ijson_table.specs.Store.{at, lookup};
-ghost use Rattle.ijson_value.specs.AtKey.{pair_at_key, swap_out_key};
+ghost use Rattle.ijson_value.specs.AtKey.{pair_at_key, shift_out_key, swap_out_key};
 ghost use Rattle.ijson_value.specs.LendsAtKey.{LendsAtKey, LendsAtKeyIf, LendsPut};
 ghost use Rattle.ijson_value.specs.FindsEntry.{FindsNoRoom};
 ghost use Rattle.ijson_value.specs.Values.{null_value};
@@ -70,6 +70,18 @@ pub trait ObjectIndex: Sealed + Copy {
             None => None,
         }
     }
+
+    /// Takes the pair with the key out. Those behind it close up, so the order stays.
+    fn shift_remove(self, v: &mut IObject) -> Option<(IString, IValue)>
+        ensures pair { result ≡ pair_at_key (Self.Sealed.key self) v.old.pairs }
+        ensures pairs { v.new.pairs ≡ shift_out_key (Self.Sealed.key self) v.old.pairs }
+        ensures capacity { v.new.capacity ≡ v.old.capacity }
+    {
+        match v.position(self.as_key()) {
+            Some(position) => Some(v.shift_out(position)),
+            None => None,
+        }
+    }
 }
 
 impl ObjectIndex for &str {}
@@ -131,6 +143,25 @@ impl IObject {
         ensures capacity { self.new.capacity ≡ self.old.capacity }
     {
         index.remove(self)
+    }
+
+    /// Takes the pair with a key out, and answers its value. Those behind it close up, so the order stays.
+    #[tactic(auto, using(crate::proofs::Objects::lookup_pair))]
+    pub fn shift_remove<I: ObjectIndex>(&mut self, index: I) -> Option<IValue>
+        ensures value { result ≡ lookup (I.Sealed.key index) self.old.pairs }
+        ensures pairs { self.new.pairs ≡ shift_out_key (I.Sealed.key index) self.old.pairs }
+        ensures capacity { self.new.capacity ≡ self.old.capacity }
+    {
+        Some(index.shift_remove(self)?.1)
+    }
+
+    /// Takes the pair with a key out. Those behind it close up, so the order stays.
+    pub fn shift_remove_entry<I: ObjectIndex>(&mut self, index: I) -> Option<(IString, IValue)>
+        ensures pair { result ≡ pair_at_key (I.Sealed.key index) self.old.pairs }
+        ensures pairs { self.new.pairs ≡ shift_out_key (I.Sealed.key index) self.old.pairs }
+        ensures capacity { self.new.capacity ≡ self.old.capacity }
+    {
+        index.shift_remove(self)
     }
 }
 

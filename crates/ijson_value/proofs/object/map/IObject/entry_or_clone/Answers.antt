@@ -9,7 +9,7 @@ use Rattle.ijson_value.proofs.object.map.IObject.entry_or_clone.Goals as goal
 
 pub returns-in-Some : goal.returns-in-Some
 returns-in-Some c =
-    let old : Store WellFormed = c.args.self.now in let key = c.args.key.now in let i : ℕ = c.in-Some.index in
+    let old : Store WellFormed = c.args.self.now in let key = c.args.key.now in let i : ℕ = c.in-Some.position in
     let found : at old.pairs key ≡ Some i = ap (at old.pairs) (sym c.as_str.ensures) ∙ sym c.position.ensures.position ∙ c.in-Some.is in (
       (refl, λ w. refl, tt),
       record {

@@ -1,7 +1,6 @@
 use Rattle.std.proofs.Common.{◌≡◌, ℕ, List, rules, sym, subst, ◌∙◌, length, Some}
 use Rattle.ijson_table.specs.Growth.{Ungrown}
 use Rattle.ijson_table.specs.Store.{Store, lookup}
-use Rattle.ijson_value.specs.Gives.{GivesThen}
 use Rattle.ijson_value.specs.InsertsEach.{InsertsEach}
 use Rattle.ijson_value.specs.WellFormed.{WellFormed}
 use Rattle.ijson_value.proofs.Entries.{refused_capacity}

@@ -1,4 +1,3 @@
-use Rattle.std.proofs.Common.{◌≡◌}
 use Rattle.ijson_value.specs.InsertsEach.{InsertsEach}
 use Rattle.ijson_value.proofs.object.map.IObject.extend.Given as goal
 
