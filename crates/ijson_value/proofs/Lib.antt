@@ -1,3 +1,4 @@
+mod Clones
 pub mod DepthLemmas
 mod Entries
 mod Feeds

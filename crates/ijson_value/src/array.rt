@@ -125,6 +125,11 @@ impl IArray {
         }
     }
 
+    /// What the array takes memory from.
+    pub(crate) fn allocator(&self) -> Global {
+        self.alloc
+    }
+
     /// Puts an item last. It takes memory only where there is no room for one more.
     pub fn push(&mut self, item: IValue) -> Result<(), Refused>
         ensures ok { OnOk result (self.new.items ≡ self.old.items ++ item ∷ []) }

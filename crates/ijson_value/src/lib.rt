@@ -2,6 +2,7 @@
 #![tactic(auto)]
 
 pub mod array;
+mod clone;
 mod hash;
 pub mod object;
 mod order;
