@@ -20,7 +20,7 @@ use thiserror::Error;
 
 /// A list of values. It lies behind one pointer, and an array that has taken no memory yet is without it.
 #[cycle(value)]
-#[derive(Debug, Drop)]
+#[derive(Drop)]
 pub struct IArray {
     list: Option<Box<Vec<IValue>>>,
     alloc: Global,

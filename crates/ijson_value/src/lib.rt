@@ -3,6 +3,7 @@
 
 pub mod array;
 mod clone;
+mod debug;
 mod hash;
 pub mod object;
 mod order;

@@ -18,7 +18,7 @@ use std::mem::size_of;
 
 /// A JSON value.
 #[cycle(value)]
-#[derive(Debug, Drop)]
+#[derive(Drop)]
 pub struct IValue {
     pub(crate) node: Node,
 }
@@ -27,7 +27,7 @@ const _: () = prove!(size_of::<IValue>() == 24);
 
 /// What a value is made of, by its kind.
 #[cycle(value)]
-#[derive(Debug, Drop)]
+#[derive(Drop)]
 pub(crate) enum Node {
     Null,
     Bool(bool),
