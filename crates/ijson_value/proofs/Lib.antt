@@ -1,4 +1,5 @@
 mod Cases
+mod Clones
 pub mod DepthLemmas
 mod Entries
 mod Feeds

@@ -20,7 +20,7 @@ use thiserror::Error;
 
 /// A list of values. It lies behind one pointer, and an array that has taken no memory yet is without it.
 #[cycle(value)]
-#[derive(Debug, Drop)]
+#[derive(Drop)]
 pub struct IArray {
     list: Option<Box<Vec<IValue>>>,
     alloc: Global,
@@ -123,6 +123,11 @@ impl IArray {
             None => &[],
             Some(list) => list.as_slice(),
         }
+    }
+
+    /// What the array takes memory from.
+    pub(crate) fn allocator(&self) -> Global {
+        self.alloc
     }
 
     /// Puts an item last. It takes memory only where there is no room for one more.

@@ -2,6 +2,8 @@
 #![tactic(auto)]
 
 pub mod array;
+mod clone;
+mod debug;
 mod hash;
 pub mod object;
 mod order;

@@ -1,6 +1,7 @@
 //! Objects: pairs of a key and a value, in order, with distinct keys.
 
 mod access;
+mod copy;
 mod entry;
 mod extend;
 mod index;

@@ -25,7 +25,7 @@ use std::mem::size_of;
 
 /// A JSON value.
 #[cycle(value)]
-#[derive(Debug, Drop)]
+#[derive(Drop)]
 pub struct IValue {
     pub(crate) node: Destructured,
 }

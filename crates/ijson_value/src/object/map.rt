@@ -20,7 +20,7 @@ use std::mem::size_of;
 /// Pairs of a key and a value in order, where no key stands twice. A key is found by its hash, however many there are.
 /// It lies behind one pointer, and an object that has taken no memory yet is without it.
 #[cycle(value)]
-#[derive(Debug, Drop)]
+#[derive(Drop)]
 pub struct IObject {
     pub(super) table: Option<Box<FixedTable<IValue>>>,
     pub(super) alloc: Global,

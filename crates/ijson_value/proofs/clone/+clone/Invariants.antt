@@ -1,0 +1,19 @@
+use Rattle.std.proofs.Common.{◌≡◌, ◌*◌, ◌+◌, take}
+use denote.Param.Weighed.{most}
+use Rattle.ijson_value.specs.private.Sizes.{value_size}
+use Rattle.ijson_value.proofs.clone.+clone.Given as goal
+
+abbrev pub invariant-clone_items-loop-item : goal.invariant-clone_items-loop-item
+invariant-clone_items-loop-item l = l.copy.items ≡ take l.item-index l.items
+
+abbrev pub invariant-clone_pairs-loop-pair : goal.invariant-clone_pairs-loop-pair
+invariant-clone_pairs-loop-pair l = l.copies.items ≡ take l.pair-index l.pairs
+
+abbrev pub decreases-clone_value : goal.decreases-clone_value
+decreases-clone_value l = 2 * value_size l.value.now
+
+abbrev pub decreases-clone_items : goal.decreases-clone_items
+decreases-clone_items l = 2 * most value_size l.items.now + 1
+
+abbrev pub decreases-clone_pairs : goal.decreases-clone_pairs
+decreases-clone_pairs l = 2 * most (λ p. value_size p.1) l.pairs.now + 1

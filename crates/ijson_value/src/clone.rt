@@ -1,0 +1,94 @@
+//! Copies, as one walk over a value, a slice of values and an object's pairs.
+ghost use Rattle.std.specs.Prelude.{◌≡◌, IfOk, length};
+ghost use Rattle.ijson_table.specs.Store.{keys_of};
+
+use crate::array::IArray;
+use crate::object::IObject;
+use crate::value::{Destructured, IValue};
+use ijson_string::IString;
+use std::alloc::{AllocError, Global};
+
+/// A copy of a value.
+#[cycle(clone)]
+fn clone_value(value: &IValue) -> Result<IValue, AllocError>
+    ensures { IfOk result (λ copy. copy ≡ value.now) }
+{
+    let node = match &value.node {
+        Destructured::Null => Destructured::Null,
+        Destructured::Bool(b) => Destructured::Bool(*b),
+        Destructured::Number(number) => Destructured::Number(number.clone()?),
+        Destructured::String(text) => Destructured::String(text.clone()?),
+        Destructured::Array(array) => Destructured::Array(clone_items(array.allocator(), array.as_slice())?),
+        Destructured::Object(object) => {
+            let pairs = clone_pairs(object.allocator(), object.as_slice())?;
+            Destructured::Object(object.with_same_keys(pairs)?)
+        }
+    };
+    Ok(IValue { node })
+}
+
+/// An array of copies of these items. An array of none takes no memory.
+#[cycle(clone)]
+pub(crate) fn clone_items(alloc: Global, items: &[IValue]) -> Result<IArray, AllocError>
+    ensures { IfOk result (λ copy. copy.items ≡ items.now) }
+{
+    let mut copy = IArray::with_capacity(alloc, items.len())?;
+    for item in items {
+        let item = clone_value(item)?;
+        if copy.push(item).is_err() {
+            return Err(AllocError);
+        }
+    }
+    Ok(copy)
+}
+
+/// Copies of these pairs.
+#[cycle(clone)]
+fn clone_pairs(
+    alloc: Global,
+    pairs: &[(IString, IValue)],
+) -> Result<Vec<(IString, IValue)>, AllocError>
+    ensures { IfOk result (λ copies. copies.items ≡ pairs.now) }
+{
+    let mut copies = Vec::with_capacity(alloc, pairs.len())?;
+    for pair in pairs {
+        let key = pair.0.clone()?;
+        let value = clone_value(&pair.1)?;
+        copies.push((key, value))?;
+    }
+    Ok(copies)
+}
+
+impl Clone for IValue {
+    ghost is_clone = { λ v copy. copy ≡ v };
+
+    fn clone(&self) -> Result<IValue, AllocError> {
+        clone_value(self)
+    }
+}
+
+impl Clone for IArray {
+    ghost is_clone = { λ a copy. copy.items ≡ a.items };
+
+    fn clone(&self) -> Result<IArray, AllocError> {
+        clone_items(self.allocator(), self.as_slice())
+    }
+}
+
+impl Clone for IObject {
+    ghost is_clone = { λ o copy. (copy.pairs ≡ o.pairs) × (copy.capacity ≡ length o.pairs) };
+
+    fn clone(&self) -> Result<IObject, AllocError> {
+        let pairs = clone_pairs(self.allocator(), self.as_slice())?;
+        self.with_same_keys(pairs)
+    }
+}
+
+impl IArray {
+    /// An array of copies of these items. An array of none takes no memory.
+    pub fn from_slice(alloc: Global, items: &[IValue]) -> Result<IArray, AllocError>
+        ensures { IfOk result (λ array. array.items ≡ items.now) }
+    {
+        clone_items(alloc, items)
+    }
+}

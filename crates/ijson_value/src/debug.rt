@@ -1,0 +1,42 @@
+//! Values shown for debugging, as JSON with the escapes of `str`: what they hold, and no private field.
+
+use crate::array::IArray;
+use crate::object::IObject;
+use crate::value::{Destructured, IValue};
+use std::fmt;
+
+impl fmt::Debug for IValue {
+    #[cycle(debug)]
+    fn fmt<W: fmt::Write>(&self, f: &mut fmt::Formatter<W>) -> fmt::Result {
+        match &self.node {
+            Destructured::Null => f.write_str("null"),
+            Destructured::Bool(b) => fmt::Debug::fmt(b, f),
+            Destructured::Number(number) => fmt::Debug::fmt(number, f),
+            Destructured::String(text) => fmt::Debug::fmt(text, f),
+            Destructured::Array(array) => fmt::Debug::fmt(array, f),
+            Destructured::Object(object) => fmt::Debug::fmt(object, f),
+        }
+    }
+}
+
+impl fmt::Debug for IArray {
+    #[cycle(debug)]
+    fn fmt<W: fmt::Write>(&self, f: &mut fmt::Formatter<W>) -> fmt::Result {
+        let mut list = f.debug_list();
+        for item in self.as_slice() {
+            list.entry(item);
+        }
+        list.finish()
+    }
+}
+
+impl fmt::Debug for IObject {
+    #[cycle(debug)]
+    fn fmt<W: fmt::Write>(&self, f: &mut fmt::Formatter<W>) -> fmt::Result {
+        let mut map = f.debug_map();
+        for pair in self.as_slice() {
+            map.entry(&pair.0, &pair.1);
+        }
+        map.finish()
+    }
+}
