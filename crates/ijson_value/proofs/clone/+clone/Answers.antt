@@ -2,7 +2,7 @@ use Rattle.std.proofs.Common.{◌≡◌, arith, sym, ap, ◌∙◌}
 use Rattle.ijson_value.specs.Tree.{array, object, depth}
 use Rattle.ijson_value.specs.Values.{number_value, string_value, array_value}
 use Rattle.ijson_value.specs.WellFormed.{tree_of, item_trees, pair_trees}
-use Rattle.ijson_value.specs.private.NodeValue.{node_value}
+use Rattle.ijson_value.specs.NodeValue.{node_value}
 use Rattle.ijson_value.proofs.Clones.{same_pairs_value}
 use Rattle.ijson_value.proofs.DepthLemmas.{items_below, pairs_below}
 use Rattle.ijson_value.proofs.clone.+clone.Goals as goal
