@@ -10,6 +10,7 @@ ghost use Rattle.ijson_number.specs.private.Scanned.{parts_of};
 ghost use Rattle.ijson_number.specs.private.Stored.{stored_form};
 ghost use Rattle.ijson_number.specs.private.Stripped.{digits_from_text};
 
+use crate::form::PACKED_END;
 use crate::integers::stored_signed;
 use crate::reading::Spelling;
 use crate::stored::Stored;
@@ -77,7 +78,7 @@ fn pointed_word(negative: bool, size: u64, places: usize) -> Option<Stored>
         → form_of n ≡ stored_form s) }
 {
     let (mantissa, left) = without_zeros(size, places);
-    if left > 7 || mantissa >= 1 << 55 {
+    if left > 7 || i128::from(mantissa) >= PACKED_END {
         return None;
     }
     let word = Word::pointed(with_sign(negative, mantissa), -(left as i8));
@@ -86,6 +87,7 @@ fn pointed_word(negative: bool, size: u64, places: usize) -> Option<Stored>
 
 impl Spelling<'_> {
     /// What is stored of a number of few digits without an exponent, where it is a word.
+    #[inline(always)]
     pub fn word(&self) -> Option<Stored>
         requires { (text : List ℕ) × IsSpelled text (parts_of self.now) }
         ensures { IfSome result (λ s. (n : Decimal)

@@ -37,7 +37,7 @@ pub enum Form<'a> {
 }
 
 /// One past the greatest mantissa of a packed number.
-const PACKED_END: i128 = 1 << 55;
+pub const PACKED_END: i128 = 1 << 55;
 
 /// Whether a mantissa fits a packed number.
 pub fn is_packed_mantissa(mantissa: i128) -> bool

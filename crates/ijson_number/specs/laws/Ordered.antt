@@ -22,7 +22,8 @@ below_scaled : (x y k : ℕ) → 0 < k → x < y → x * k < y * k
 below_scaled x y k h l = let p : suc x * k ≤ y * k = mul-le-mul_right k l in grind (arith, p)
 
 above_scaled : (x y k : ℕ) → x * k < y * k → x < y
-above_scaled x y k l = elim (cases_lt x y) [ inl p ↦ p | inr q ↦ (let r : y * k ≤ x * k = mul-le-mul_right k q in absurd (omega arith)) ]
+above_scaled x y k l =
+    elim (cases_lt x y) [ inl p ↦ p | inr q ↦ (let r : y * k ≤ x * k = mul-le-mul_right k q in absurd (omega arith)) ]
 
 scale_lt : (x y k : ℕ) → 0 < k → nat_lt (x * k) (y * k) ≡ nat_lt x y
 scale_lt x y k h = both_ways (nat_lt (x * k) (y * k)) (nat_lt x y)
@@ -69,18 +70,23 @@ span e c d h g =
     let r = nonneg (c -ℤ d) (omega (arith, ints)) in
     omega (arith, ints)
 
-lower : (n : Decimal) (c d : ℤ) → d ≤ℤ c → c ≤ℤ n.exponent → at_exponent d n ≡ at_exponent c n *ℤ pos (10 ^ nat_abs (c -ℤ d))
+lower : (n : Decimal) (c d : ℤ) → d ≤ℤ c → c ≤ℤ n.exponent
+    → at_exponent d n ≡ at_exponent c n *ℤ pos (10 ^ nat_abs (c -ℤ d))
 lower n c d h g =
-    ap (λ k. n.mantissa *ℤ pos (10 ^ k)) (span n.exponent c d h g) ∙ ap (λ k. n.mantissa *ℤ pos k) (pow-add 10 (nat_abs (n.exponent -ℤ c)) (nat_abs (c -ℤ d))) ∙ times n.mantissa (10 ^ nat_abs (n.exponent -ℤ c)) (10 ^ nat_abs (c -ℤ d))
+    ap (λ k. n.mantissa *ℤ pos (10 ^ k)) (span n.exponent c d h g)
+    ∙ ap (λ k. n.mantissa *ℤ pos k) (pow-add 10 (nat_abs (n.exponent -ℤ c)) (nat_abs (c -ℤ d)))
+    ∙ times n.mantissa (10 ^ nat_abs (n.exponent -ℤ c)) (10 ^ nat_abs (c -ℤ d))
 
 -- any exponent that is no greater than both serves
-pub rescale : (a b : Decimal) (d : ℤ) → d ≤ℤ a.exponent → d ≤ℤ b.exponent → number_cmp a b ≡ int_cmp (at_exponent d a) (at_exponent d b)
+pub rescale : (a b : Decimal) (d : ℤ) → d ≤ℤ a.exponent → d ≤ℤ b.exponent
+    → number_cmp a b ≡ int_cmp (at_exponent d a) (at_exponent d b)
 rescale a b d h g =
     let c = int_min a.exponent b.exponent in
     let u : d ≤ℤ c = omega (arith, ints, clamps) in
     let v : c ≤ℤ a.exponent = omega (arith, ints, clamps) in
     let w : c ≤ℤ b.exponent = omega (arith, ints, clamps) in
-    sym (rw (lower a c d u v, lower b c d u w) (scale_cmp (at_exponent c a) (at_exponent c b) (10 ^ nat_abs (c -ℤ d)) (ten_pos (nat_abs (c -ℤ d)))))
+    sym (rw (lower a c d u v, lower b c d u w)
+    (scale_cmp (at_exponent c a) (at_exponent c b) (10 ^ nat_abs (c -ℤ d)) (ten_pos (nat_abs (c -ℤ d)))))
 
 module _ (x y z : Decimal) where
   abbrev least : ℤ
@@ -96,13 +102,24 @@ module _ (x y z : Decimal) where
   least_z = omega (arith, ints, clamps)
 
   order_trans : number_cmp x y ≡ Less → number_cmp y z ≡ Less → number_cmp x z ≡ Less
-  order_trans p q = rescale x z least least_x least_z ∙ int_cmp_total.trans (at_exponent least x) (at_exponent least y) (at_exponent least z) (sym (rescale x y least least_x least_y) ∙ p) (sym (rescale y z least least_y least_z) ∙ q)
+  order_trans p q =
+      rescale x z least least_x least_z
+      ∙ int_cmp_total.trans (at_exponent least x) (at_exponent least y) (at_exponent least z)
+      (sym (rescale x y least least_x least_y) ∙ p)
+      (sym (rescale y z least least_y least_z) ∙ q)
 
   order_congr : number_cmp x y ≡ Equal → number_cmp x z ≡ number_cmp y z
-  order_congr p = rescale x z least least_x least_z ∙ int_cmp_total.congr (at_exponent least x) (at_exponent least y) (at_exponent least z) (sym (rescale x y least least_x least_y) ∙ p) ∙ sym (rescale y z least least_y least_z)
+  order_congr p =
+      rescale x z least least_x least_z
+      ∙ int_cmp_total.congr (at_exponent least x) (at_exponent least y) (at_exponent least z)
+      (sym (rescale x y least least_x least_y) ∙ p)
+      ∙ sym (rescale y z least least_y least_z)
 
   order_antisymm : number_cmp x y ≡ ordering_reverse (number_cmp y x)
-  order_antisymm = rescale x y least least_x least_y ∙ int_cmp_total.antisymm (at_exponent least x) (at_exponent least y) ∙ ap ordering_reverse (sym (rescale y x least least_y least_x))
+  order_antisymm =
+      rescale x y least least_x least_y
+      ∙ int_cmp_total.antisymm (at_exponent least x) (at_exponent least y)
+      ∙ ap ordering_reverse (sym (rescale y x least least_y least_x))
 
 pub number_cmp_total : IsTotalOrder number_cmp
 number_cmp_total = record {
@@ -128,7 +145,8 @@ same_span : (a b c : ℤ) (j k : ℕ) → a -ℤ c ≡ pos j → b -ℤ c ≡ po
 same_span a b c j k x y e = omega (arith, ints)
 
 -- plain numbers of one value have one mantissa and one exponent
-pub equal_same : (a b : Decimal) → IsPlain a → IsPlain b → number_cmp a b ≡ Equal → (a.mantissa ≡ b.mantissa) × (a.exponent ≡ b.exponent)
+pub equal_same : (a b : Decimal) → IsPlain a → IsPlain b → number_cmp a b ≡ Equal
+    → (a.mantissa ≡ b.mantissa) × (a.exponent ≡ b.exponent)
 equal_same a b p q h =
     let c = int_min a.exponent b.exponent in
     let v : c ≤ℤ a.exponent = omega (arith, ints, clamps) in
@@ -149,11 +167,14 @@ equal_same a b p q h =
 pub equal_words : (a b : Decimal) → IsPlain a → IsPlain b → number_cmp a b ≡ Equal → number_words a ≡ number_words b
 equal_words a b p q h =
     let r = equal_same a b p q h in
-    ap (λ (m : ℤ). number_words (record { mantissa = m; exponent = a.exponent; point = false })) r.0 ∙ ap (λ (e : ℤ). number_words (record { mantissa = b.mantissa; exponent = e; point = false })) r.1
+    ap (λ (m : ℤ). number_words (record { mantissa = m; exponent = a.exponent; point = false })) r.0
+    ∙ ap (λ (e : ℤ). number_words (record { mantissa = b.mantissa; exponent = e; point = false })) r.1
 
 -- numbers of one mantissa and one exponent have one value
 pub same_equal : (a b : Decimal) → a.mantissa ≡ b.mantissa → a.exponent ≡ b.exponent → number_cmp a b ≡ Equal
-same_equal a b p q = ap₂ (λ (m e : ℤ). number_cmp a (record { mantissa = m; exponent = e; point = b.point })) (sym p) (sym q) ∙ tied_itself number_cmp_total a
+same_equal a b p q =
+    ap₂ (λ (m e : ℤ). number_cmp a (record { mantissa = m; exponent = e; point = b.point })) (sym p) (sym q)
+    ∙ tied_itself number_cmp_total a
 
 -- equal numbers feed a hasher the same
 pub equal_feed : (a b : Num) → number_eq a.decimal b.decimal ≡ true

@@ -32,7 +32,8 @@ one_less a b j k e =
     omega arith
 
 -- ten divides neither, so the tens are as many
-nat_tens : (a b j k : ℕ) → (a ≢ 0 → a % 10 ≢ 0) → (b ≢ 0 → b % 10 ≢ 0) → a * 10 ^ j ≡ b * 10 ^ k → (a ≡ b) × (a ≢ 0 → j ≡ k)
+nat_tens : (a b j k : ℕ) → (a ≢ 0 → a % 10 ≢ 0) → (b ≢ 0 → b % 10 ≢ 0) → a * 10 ^ j ≡ b * 10 ^ k
+    → (a ≡ b) × (a ≢ 0 → j ≡ k)
 nat_tens a b zero zero p q e = (omega arith, λ _. refl)
 nat_tens a b zero (suc k) p q e =
     let r : a ≡ 0 = mod_zero a p (tens_mod a b k e) in
@@ -56,7 +57,9 @@ neg_same zero (suc b) e = absurd (cc)
 neg_same (suc a) zero e = absurd (cc)
 neg_same (suc a) (suc b) e = cc
 
-pub int_tens : (a b : ℤ) (j k : ℕ) → (a ≢ pos 0 → nat_abs a % 10 ≢ 0) → (b ≢ pos 0 → nat_abs b % 10 ≢ 0) → a *ℤ pos (10 ^ j) ≡ b *ℤ pos (10 ^ k) → (a ≡ b) × (a ≢ pos 0 → j ≡ k)
+pub int_tens : (a b : ℤ) (j k : ℕ) → (a ≢ pos 0 → nat_abs a % 10 ≢ 0)
+    → (b ≢ pos 0 → nat_abs b % 10 ≢ 0) → a *ℤ pos (10 ^ j) ≡ b *ℤ pos (10 ^ k)
+    → (a ≡ b) × (a ≢ pos 0 → j ≡ k)
 int_tens (pos a) (pos b) j k p q e =
     let r = nat_tens a b j k (λ n. p (λ h. n (cc))) (λ n. q (λ h. n (cc))) (cc) in
     (ap pos r.0, λ n. r.1 (λ h. n (ap pos h)))
@@ -90,7 +93,9 @@ zero_or_not (pos zero) = inl refl
 zero_or_not (pos (suc a)) = inr (λ h. cc)
 zero_or_not (negsuc a) = inr (λ h. cc)
 
-strips_apart : (m e : ℤ) (n n' : Decimal) (j k : ℕ) → IsPlain n → IsPlain n' → m ≡ n.mantissa *ℤ pos (10 ^ j) → m ≡ n'.mantissa *ℤ pos (10 ^ k) → n.exponent ≡ e +ℤ pos j → n'.exponent ≡ e +ℤ pos k → (n.mantissa ≡ n'.mantissa) × (n.exponent ≡ n'.exponent)
+strips_apart : (m e : ℤ) (n n' : Decimal) (j k : ℕ) → IsPlain n → IsPlain n'
+    → m ≡ n.mantissa *ℤ pos (10 ^ j) → m ≡ n'.mantissa *ℤ pos (10 ^ k) → n.exponent ≡ e +ℤ pos j
+    → n'.exponent ≡ e +ℤ pos k → (n.mantissa ≡ n'.mantissa) × (n.exponent ≡ n'.exponent)
 strips_apart m e n n' j k g h p q x y =
     let r = int_tens n.mantissa n'.mantissa j k g.stripped h.stripped (sym p ∙ q) in (
       r.0,
@@ -101,7 +106,8 @@ strips_apart m e n n' j k g h p q x y =
     )
 
 -- taking the tens out gives one number
-pub strips_one : (m e : ℤ) (n n' : Decimal) → Strips m e n → Strips m e n' → (n.mantissa ≡ n'.mantissa) × (n.exponent ≡ n'.exponent)
+pub strips_one : (m e : ℤ) (n n' : Decimal) → Strips m e n → Strips m e n'
+    → (n.mantissa ≡ n'.mantissa) × (n.exponent ≡ n'.exponent)
 strips_one m e n n' s t =
     elim s.tens [
       | inl p ↦ elim t.tens [

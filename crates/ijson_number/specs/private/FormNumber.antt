@@ -36,4 +36,8 @@ form_number (digits negative ds e point) = stored_number negative ds e point
 
 -- the stored form of an integer of 64 bits, with a sign or without
 abbrev pub integer_word : ℤ → FormOf
-integer_word z = elim (fits_packed z) [ true ↦ packed z (pos 0) false | false ↦ elim (fits_i64 z) [ true ↦ signed_word z | false ↦ unsigned_word (nat_abs z) ] ]
+integer_word z =
+    elim (fits_packed z) [
+      | true ↦ packed z (pos 0) false
+      | false ↦ elim (fits_i64 z) [ true ↦ signed_word z | false ↦ unsigned_word (nat_abs z) ]
+    ]
