@@ -7,7 +7,7 @@ use crate::json::{
     CompactError, JsonError, MemorySink, MemorySource, compact, from_json, report, to_json,
 };
 use crate::number::{INumber, ParseNumberError};
-use crate::object::IObject;
+use crate::object::{IObject, RefusedKey, RefusedPair};
 use crate::string::IString;
 use crate::table::ReserveError;
 use crate::value::IValue;
@@ -170,6 +170,30 @@ fn object_room(rt: HostRuntime) -> Result<(), Fail> {
     Ok(())
 }
 
+fn refused_copy(object: &mut IObject, key: &IString) -> Option<ReserveError> {
+    match object.entry_or_clone(key) {
+        Ok(_) => None,
+        Err(why) => Some(why),
+    }
+}
+
+fn refused_entry(object: &mut IObject, key: IString) -> Option<RefusedKey> {
+    match object.entry(key) {
+        Ok(entry) => {
+            entry.or_insert(IValue::TRUE);
+            None
+        }
+        Err(refused) => Some(refused),
+    }
+}
+
+fn refused_index(object: &mut IObject, key: IString) -> Option<RefusedPair> {
+    match object.index_or_insert(key) {
+        Ok(_) => None,
+        Err(refused) => Some(refused),
+    }
+}
+
 #[test]
 fn object_entries(rt: HostRuntime) -> Result<(), Fail> {
     let mut cache = empty_cache(rt.alloc());
@@ -178,25 +202,22 @@ fn object_entries(rt: HostRuntime) -> Result<(), Fail> {
         let (len, capacity) = (object.len(), object.capacity());
         let there = object.contains_key(key);
         let key = interned(&mut cache, key)?;
-        if let Err(why) = object.entry_or_clone(&key) {
+        if let Some(why) = refused_copy(&mut object, &key) {
             assert!(rt; !there && why == ReserveError::Memory);
             assert_eq!(rt; (object.len(), object.capacity()), (len, capacity));
         }
-        match object.entry(key) {
-            Ok(entry) => {
-                entry.or_insert(IValue::TRUE);
-            }
-            Err(refused) => {
-                assert!(rt; !there && refused.why == ReserveError::Memory);
-                assert_eq!(rt; (object.len(), object.capacity()), (len, capacity));
-                assert!(rt; object.index_or_insert(refused.key).is_ok());
-            }
+        if let Some(refused) = refused_entry(&mut object, key) {
+            assert!(rt; !there && refused.why == ReserveError::Memory);
+            assert_eq!(rt; (object.len(), object.capacity()), (len, capacity));
+            assert!(rt; refused_entry(&mut object, refused.key).is_none());
         }
     }
     assert_eq!(rt; (object.len(), object.capacity()), (5, 8));
+    if object.shrink_to_fit().is_err() {
+        object.shrink_to_fit()?;
+    }
     let key = interned(&mut cache, "f")?;
-    object.shrink_to_fit().or_else(|_| object.shrink_to_fit())?;
-    if let Err(refused) = object.index_or_insert(key) {
+    if let Some(refused) = refused_index(&mut object, key) {
         assert!(rt; refused.why == ReserveError::Memory && refused.value == IValue::NULL);
         assert_eq!(rt; (object.len(), object.capacity()), (5, 5));
         assert!(rt; object.insert(refused.key, refused.value).is_ok());
