@@ -155,9 +155,11 @@ impl IObject {
 
     /// Puts a pair. A key that is there keeps its place and needs no memory, and its old value is answered; a new key goes
     /// last, in room that is made first where there is none. Where that is refused, the pair comes back.
+    #[tactic(auto, using(crate::proofs::Inserted::put_where_ok))]
     pub fn insert(&mut self, key: IString, value: IValue) -> Result<Option<IValue>, RefusedPair>
-        ensures { Inserts self.old.pairs self.old.capacity key value result self.new.pairs
+        ensures inserts { Inserts self.old.pairs self.old.capacity key value result self.new.pairs
             self.new.capacity }
+        ensures pairs { OnOk result (self.new.pairs ≡ put self.old.pairs key value) }
     {
         if self.table.is_none() {
             match Box::new(self.alloc, FixedTable::new(self.alloc)) {
