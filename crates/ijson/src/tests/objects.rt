@@ -51,7 +51,9 @@ fn insertions_and_removals(rt: HostRuntime) -> Result<(), Fail> {
 
     let mut object = of_keys(alloc, &mut cache, &["a", "b", "c", "d"])?;
     assert_eq!(rt; object.capacity(), 4);
-    assert!(rt; object.insert(IString::intern(&mut cache, "a")?, of_number(9))? == Some(of_number(0)));
+    assert!(rt;
+        object.insert(IString::intern(&mut cache, "a")?, of_number(9))? == Some(of_number(0))
+    );
     assert!(rt; object.capacity() == 4 && object["a"] == of_number(9));
     assert!(rt; object.remove("b") == Some(of_number(1)));
     assert!(rt; has_keys(&object, &["a", "d", "c"]));
@@ -86,10 +88,12 @@ fn room(rt: HostRuntime) -> Result<(), Fail> {
     let alloc = rt.alloc();
     let mut cache = empty_cache(alloc);
     assert!(rt; IObject::new(alloc) == IObject::with_capacity(alloc, 10)?);
-    assert!(rt; matches!(
-        IObject::with_capacity(alloc, 72057594037927937),
-        Err(ReserveError::TooLarge)
-    ));
+    assert!(rt;
+        matches!(
+            IObject::with_capacity(alloc, 72057594037927937),
+            Err(ReserveError::TooLarge)
+        )
+    );
     let mut object = IObject::with_capacity(alloc, 8)?;
     object.insert(IString::intern(&mut cache, "a")?, IValue::TRUE)?;
     object.insert(IString::intern(&mut cache, "b")?, IValue::TRUE)?;
@@ -127,18 +131,28 @@ fn entries(rt: HostRuntime) -> Result<(), Fail> {
     };
     assert!(rt; key.eq_str("k") && object.is_empty() && object.capacity() == 4);
 
-    assert_eq!(rt; number_of(object.entry(a.clone()?)?.or_insert(of_number(1))), 1);
-    assert_eq!(rt; number_of(object.entry(a.clone()?)?.or_insert(of_number(2))), 1);
+    assert_eq!(rt;
+        number_of(object.entry(a.clone()?)?.or_insert(of_number(1))),
+        1
+    );
+    assert_eq!(rt;
+        number_of(object.entry(a.clone()?)?.or_insert(of_number(2))),
+        1
+    );
     let mut calls = 0usize;
-    let there = number_of(object.entry(a.clone()?)?.or_insert_with(|| {
-        calls = calls.wrapping_add(1);
-        of_number(3)
-    }));
+    let there = number_of(
+        object.entry(a.clone()?)?.or_insert_with(|| {
+            calls = calls.wrapping_add(1);
+            of_number(3)
+        }),
+    );
     assert_eq!(rt; (there, calls), (1, 0));
-    let made = number_of(object.entry_or_clone(&key)?.or_insert_with(|| {
-        calls = calls.wrapping_add(1);
-        of_number(3)
-    }));
+    let made = number_of(
+        object.entry_or_clone(&key)?.or_insert_with(|| {
+            calls = calls.wrapping_add(1);
+            of_number(3)
+        }),
+    );
     assert_eq!(rt; (made, calls), (3, 1));
     for key in ["a", "x"] {
         object

@@ -244,8 +244,10 @@ fn object_extend(rt: HostRuntime) -> Result<(), Fail> {
     let mut object = IObject::new(rt.alloc());
     if let Err(refused) = object.extend(five(rt.alloc(), &mut cache)?) {
         assert_eq!(rt; refused.why, ReserveError::Memory);
-        assert!(rt; (object.len(), object.capacity()) == (0, 0) && refused.key.eq_str("a")
-            || (object.len(), object.capacity()) == (4, 4) && refused.key.eq_str("e"));
+        assert!(rt;
+            (object.len(), object.capacity()) == (0, 0) && refused.key.eq_str("a")
+                || (object.len(), object.capacity()) == (4, 4) && refused.key.eq_str("e")
+        );
         object.extend(five(rt.alloc(), &mut cache)?)?;
     }
     assert_eq!(rt; (object.len(), object.capacity()), (5, 8));
