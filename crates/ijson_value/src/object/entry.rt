@@ -1,5 +1,5 @@
 //! The place of a key in an object: at its pair, or where there is room for one.
-ghost use Rattle.std.specs.Prelude.{◌≡◌, ◌<◌, ◌⊎◌, ℕ, List, length, Some, None, IfOk, IfErr};
+ghost use Rattle.std.specs.Prelude.{◌≡◌, ◌<◌, ℕ, List, length, Some, None, IfOk, IfErr};
 ghost use Rattle.std.specs.Borrow.{sem};
 ghost use Rattle.ijson_table.specs.Store.{at, lookup};
 

@@ -1,5 +1,5 @@
 //! What adds the pairs of an iterator to an object.
-ghost use Rattle.std.specs.Prelude.{◌≡◌, ℕ, List, [], MatchResult};
+ghost use Rattle.std.specs.Prelude.{ℕ, List, [], MatchResult};
 ghost use Rattle.std.specs.Iterator.{IsFiniteIterable};
 ghost use Rattle.ijson_value.specs.FindsEntry.{FindsNoRoom};
 ghost use Rattle.ijson_value.specs.Gives.{GivesAll, GivesThen};

@@ -1,8 +1,7 @@
 //! `IObject`: what is looked up, and what is put.
-ghost use Rattle.std.specs.Prelude.{◌≡◌, ◌==◌, ◌<◌, ◌≤◌, [], length, Err, OnOk, IfOk, IfErr, IsOk, IsSome, IsTrue, ◌↔◌};
-ghost use Rattle.std.specs.Option.{option_copied};
+ghost use Rattle.std.specs.Prelude.{◌≡◌, ◌==◌, ◌<◌, ◌≤◌, [], length, Err, OnOk, IfOk, IsOk, IsTrue, ◌↔◌};
 ghost use Rattle.ijson_table.specs.Growth.{Grow, Shrink, capacity_limit};
-ghost use Rattle.ijson_table.specs.Store.{lookup, put};
+ghost use Rattle.ijson_table.specs.Store.{put};
 ghost use Rattle.ijson_table.specs.Inserts.{Inserts};
 ghost use Rattle.ijson_value.specs.Same.{Same};
 ghost use Rattle.ijson_value.specs.SameTest.{same};
