@@ -8,6 +8,7 @@ mod equality;
 mod errors;
 mod faults;
 mod numbers;
+mod objects;
 mod recorder;
 mod refusals;
 mod strings;

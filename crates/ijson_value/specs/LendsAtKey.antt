@@ -35,4 +35,5 @@ IsPut s key w n = (n.pairs ≡ put s.pairs key w) × grown_at (at s.pairs key) (
 -- the value beside a key that is put where it is not there; or no room for that: then the object is as it was
 abbrev pub LendsPut : {E : Type 0} → MutBor (Store WellFormed) → List ℕ → Result (MutBor WellFormed) E → Fml
 LendsPut s key r =
-    LendsSoOk object.the_row value.the_row s r (λ n w. IsPut s.now key w n) (λ n. (n.pairs ≡ s.now.pairs) × (n.capacity ≡ s.now.capacity))
+    LendsSoOk object.the_row value.the_row s r (λ n w. IsPut s.now key w n)
+    (λ n. (n.pairs ≡ s.now.pairs) × (n.capacity ≡ s.now.capacity))

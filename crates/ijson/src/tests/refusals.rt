@@ -7,7 +7,7 @@ use crate::json::{
     CompactError, JsonError, MemorySink, MemorySource, compact, from_json, report, to_json,
 };
 use crate::number::{INumber, ParseNumberError};
-use crate::object::IObject;
+use crate::object::{IObject, RefusedKey, RefusedPair};
 use crate::string::IString;
 use crate::table::ReserveError;
 use crate::value::IValue;
@@ -139,6 +139,123 @@ fn object_insert(rt: HostRuntime) -> Result<(), Fail> {
         text.as_str(),
         "{\"a\":true,\"b\":true,\"c\":true,\"d\":true,\"e\":true}"
     );
+    Ok(())
+}
+
+#[test]
+fn object_room(rt: HostRuntime) -> Result<(), Fail> {
+    let mut cache = empty_cache(rt.alloc());
+    let mut object = match IObject::with_capacity(rt.alloc(), 2) {
+        Ok(object) => object,
+        Err(why) => {
+            assert_eq!(rt; why, ReserveError::Memory);
+            IObject::with_capacity(rt.alloc(), 2)?
+        }
+    };
+    for key in ["a", "longlong"] {
+        let key = interned(&mut cache, key)?;
+        assert!(rt; object.insert(key, IValue::TRUE).is_ok());
+    }
+    if object.reserve(1).is_err() {
+        assert_eq!(rt; (object.len(), object.capacity()), (2, 2));
+        object.reserve(1)?;
+    }
+    assert_eq!(rt; object.capacity(), 4);
+    if object.shrink_to_fit().is_err() {
+        assert_eq!(rt; (object.len(), object.capacity()), (2, 4));
+        object.shrink_to_fit()?;
+    }
+    assert_eq!(rt; (object.len(), object.capacity()), (2, 2));
+    assert!(rt; object.contains_key("longlong"));
+    Ok(())
+}
+
+fn refused_copy(object: &mut IObject, key: &IString) -> Option<ReserveError> {
+    match object.entry_or_clone(key) {
+        Ok(_) => None,
+        Err(why) => Some(why),
+    }
+}
+
+fn refused_entry(object: &mut IObject, key: IString) -> Option<RefusedKey> {
+    match object.entry(key) {
+        Ok(entry) => {
+            entry.or_insert(IValue::TRUE);
+            None
+        }
+        Err(refused) => Some(refused),
+    }
+}
+
+fn refused_index(object: &mut IObject, key: IString) -> Option<RefusedPair> {
+    match object.index_or_insert(key) {
+        Ok(_) => None,
+        Err(refused) => Some(refused),
+    }
+}
+
+#[test]
+fn object_entries(rt: HostRuntime) -> Result<(), Fail> {
+    let mut cache = empty_cache(rt.alloc());
+    let mut object = IObject::new(rt.alloc());
+    for key in ["a", "b", "c", "d", "a", "eight888"] {
+        let (len, capacity) = (object.len(), object.capacity());
+        let there = object.contains_key(key);
+        let key = interned(&mut cache, key)?;
+        if let Some(why) = refused_copy(&mut object, &key) {
+            assert!(rt; !there && why == ReserveError::Memory);
+            assert_eq!(rt; (object.len(), object.capacity()), (len, capacity));
+        }
+        if let Some(refused) = refused_entry(&mut object, key) {
+            assert!(rt; !there && refused.why == ReserveError::Memory);
+            assert_eq!(rt; (object.len(), object.capacity()), (len, capacity));
+            assert!(rt; refused_entry(&mut object, refused.key).is_none());
+        }
+    }
+    assert_eq!(rt; (object.len(), object.capacity()), (5, 8));
+    if object.shrink_to_fit().is_err() {
+        object.shrink_to_fit()?;
+    }
+    let key = interned(&mut cache, "f")?;
+    if let Some(refused) = refused_index(&mut object, key) {
+        assert!(rt; refused.why == ReserveError::Memory && refused.value == IValue::NULL);
+        assert_eq!(rt; (object.len(), object.capacity()), (5, 5));
+        assert!(rt; object.insert(refused.key, refused.value).is_ok());
+    }
+    assert_eq!(rt; (object.len(), object.capacity()), (6, 10));
+    Ok(())
+}
+
+/// An object of the keys a to e.
+fn five(alloc: Global, cache: &mut Cache) -> Result<IObject, Fail> {
+    let mut object = IObject::new(alloc);
+    for key in ["a", "b", "c", "d", "e"] {
+        let key = interned(cache, key)?;
+        if let Err(refused) = object.insert(key, IValue::TRUE) {
+            object.insert(refused.key, refused.value)?;
+        }
+    }
+    Ok(object)
+}
+
+#[test]
+fn object_extend(rt: HostRuntime) -> Result<(), Fail> {
+    let mut cache = empty_cache(rt.alloc());
+    let mut object = IObject::new(rt.alloc());
+    if let Err(refused) = object.extend(five(rt.alloc(), &mut cache)?) {
+        assert_eq!(rt; refused.why, ReserveError::Memory);
+        assert!(rt;
+            (object.len(), object.capacity()) == (0, 0) && refused.key.eq_str("a")
+                || (object.len(), object.capacity()) == (4, 4) && refused.key.eq_str("e")
+        );
+        object.extend(five(rt.alloc(), &mut cache)?)?;
+    }
+    assert_eq!(rt; (object.len(), object.capacity()), (5, 8));
+    let again = match IObject::from_iter(rt.alloc(), five(rt.alloc(), &mut cache)?) {
+        Ok(again) => again,
+        Err(_) => IObject::from_iter(rt.alloc(), five(rt.alloc(), &mut cache)?)?,
+    };
+    assert!(rt; again == object);
     Ok(())
 }
 

@@ -1,5 +1,5 @@
 //! The place of a key in an object: at its pair, or where there is room for one.
-ghost use Rattle.std.specs.Prelude.{◌≡◌, ◌<◌, ◌⊎◌, ℕ, List, length, Some, None, IfOk, IfErr};
+ghost use Rattle.std.specs.Prelude.{◌≡◌, ◌<◌, ℕ, List, length, Some, None, IfOk, IfErr};
 ghost use Rattle.std.specs.Borrow.{sem};
 ghost use Rattle.ijson_table.specs.Store.{at, lookup};
 
@@ -7,7 +7,7 @@ use super::map::IObject;
 use crate::value::IValue;
 use ijson_string::IString;
 use ijson_table::ReserveError;
-use std::mem;
+use std::{fmt, mem};
 use thiserror::Error;
 
 /// The place of a key.
@@ -289,5 +289,29 @@ impl<'a> VacantEntry<'a> {
         let index = object.len();
         object.push_new(key, value);
         object.value_mut(index)
+    }
+}
+
+impl<'a> fmt::Debug for Entry<'a> {
+    fn fmt<W: fmt::Write>(&self, f: &mut fmt::Formatter<W>) -> fmt::Result {
+        match self {
+            Entry::Occupied(entry) => f.debug_tuple("Occupied").field(entry).finish(),
+            Entry::Vacant(entry) => f.debug_tuple("Vacant").field(entry).finish(),
+        }
+    }
+}
+
+impl<'a> fmt::Debug for OccupiedEntry<'a> {
+    fn fmt<W: fmt::Write>(&self, f: &mut fmt::Formatter<W>) -> fmt::Result {
+        f.debug_struct("OccupiedEntry")
+            .field("key", self.key())
+            .field("value", self.get())
+            .finish()
+    }
+}
+
+impl<'a> fmt::Debug for VacantEntry<'a> {
+    fn fmt<W: fmt::Write>(&self, f: &mut fmt::Formatter<W>) -> fmt::Result {
+        f.debug_tuple("VacantEntry").field(self.key()).finish()
     }
 }

@@ -1,5 +1,5 @@
 //! What adds the pairs of an iterator to an object.
-ghost use Rattle.std.specs.Prelude.{◌≡◌, ℕ, List, [], MatchResult};
+ghost use Rattle.std.specs.Prelude.{ℕ, List, [], MatchResult};
 ghost use Rattle.std.specs.Iterator.{IsFiniteIterable};
 ghost use Rattle.ijson_value.specs.FindsEntry.{FindsNoRoom};
 ghost use Rattle.ijson_value.specs.Gives.{GivesAll, GivesThen};
@@ -24,7 +24,7 @@ impl IObject {
             × MatchResult result
             (λ _. GivesAll I.into_iter_gives I.IntoIter.next_gives pairs added)
             (λ refused. GivesThen I.into_iter_gives I.IntoIter.next_gives pairs added
-                (refused.key, refused.value) × FindsNoRoom self.new refused.key refused.why) }
+            (refused.key, refused.value) × FindsNoRoom self.new refused.key refused.why) }
     {
         for (key, value) in pairs {
             match self.insert(key, value) {
@@ -44,9 +44,9 @@ impl IObject {
         requires { IsFiniteIterable I.into_iter_gives I.IntoIter.can_next I.IntoIter.remaining pairs }
         ensures { (added : List (List ℕ × WellFormed)) × MatchResult result
             (λ object. InsertsEach [] 0 added object.pairs object.capacity
-                × GivesAll I.into_iter_gives I.IntoIter.next_gives pairs added)
+            × GivesAll I.into_iter_gives I.IntoIter.next_gives pairs added)
             (λ refused. GivesThen I.into_iter_gives I.IntoIter.next_gives pairs added
-                (refused.key, refused.value)) }
+            (refused.key, refused.value)) }
     {
         let mut object = IObject::new(alloc);
         object.extend(pairs)?;

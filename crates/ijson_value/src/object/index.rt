@@ -1,7 +1,7 @@
 //! An object by key.
 ghost use Rattle.std.specs.Prelude.{◌≡◌, ℕ, List, Some, option_map, IsSome, IsTrue, IfOk, IfErr, ◌↔◌};
 ghost use Rattle.std.specs.Borrow.{sem};
-ghost use Rattle.std.specs.Map.Iter.{deref_pair};
+ghost use Rattle.std.specs.Map.Iter.{deref_pair, deref_pair_mut};
 ghost use Rattle.std.specs.Option.{option_copied, option_copied_mut, unwrap_or};
 ghost use Rattle.ijson_table.specs.Store.{at, lookup};
 ghost use Rattle.ijson_value.specs.AtKey.{pair_at_key, shift_out_key, swap_out_key};
@@ -55,6 +55,16 @@ pub trait ObjectIndex: Sealed + Copy {
     {
         match v.position(self.as_key()) {
             Some(position) => Some(v.pair(position)),
+            None => None,
+        }
+    }
+
+    /// The pair with the key, its value to be written.
+    fn index_into_mut<'v>(self, v: &'v mut IObject) -> Option<(&'v IString, &'v mut IValue)>
+        ensures { option_map deref_pair_mut result ≡ pair_at_key (Self.Sealed.key self) v.old.pairs }
+    {
+        match v.position(self.as_key()) {
+            Some(position) => Some(v.pair_mut(position)),
             None => None,
         }
     }
@@ -117,6 +127,13 @@ impl IObject {
         ensures { option_map deref_pair result ≡ pair_at_key (I.Sealed.key index) self.now.pairs }
     {
         index.index_into(self)
+    }
+
+    /// The pair with a key, its value to be written.
+    pub fn get_key_value_mut<I: ObjectIndex>(&mut self, index: I) -> Option<(&IString, &mut IValue)>
+        ensures { option_map deref_pair_mut result ≡ pair_at_key (I.Sealed.key index) self.old.pairs }
+    {
+        index.index_into_mut(self)
     }
 
     /// Whether a key is there.

@@ -11,7 +11,7 @@ use ijson_string::IString;
 use ijson_table::PairStore;
 use std::iter::FusedIterator;
 use std::marker::Model;
-use std::{slice, vec};
+use std::{fmt, slice, vec};
 
 /// The pairs of an object that are left, front to back.
 #[derive(Drop)]
@@ -247,5 +247,17 @@ impl FusedIterator for IntoIter {}
 impl ExactSizeIterator for IntoIter {
     fn len(&self) -> usize {
         self.left.len()
+    }
+}
+
+impl<'a> fmt::Debug for Iter<'a> {
+    fn fmt<W: fmt::Write>(&self, f: &mut fmt::Formatter<W>) -> fmt::Result {
+        f.debug_list().entries(self.left.as_slice()).finish()
+    }
+}
+
+impl fmt::Debug for IntoIter {
+    fn fmt<W: fmt::Write>(&self, f: &mut fmt::Formatter<W>) -> fmt::Result {
+        fmt::Debug::fmt(&self.left, f)
     }
 }

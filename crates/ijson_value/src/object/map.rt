@@ -1,8 +1,7 @@
 //! `IObject`: what is looked up, and what is put.
-ghost use Rattle.std.specs.Prelude.{◌≡◌, ◌==◌, ◌<◌, ◌≤◌, [], length, Err, OnOk, IfOk, IfErr, IsOk, IsSome, IsTrue, ◌↔◌};
-ghost use Rattle.std.specs.Option.{option_copied};
+ghost use Rattle.std.specs.Prelude.{◌≡◌, ◌==◌, ◌<◌, ◌≤◌, [], length, Err, OnOk, IfOk, IsOk, IsTrue, ◌↔◌};
 ghost use Rattle.ijson_table.specs.Growth.{Grow, Shrink, capacity_limit};
-ghost use Rattle.ijson_table.specs.Store.{lookup, put};
+ghost use Rattle.ijson_table.specs.Store.{put};
 ghost use Rattle.ijson_table.specs.Inserts.{Inserts};
 ghost use Rattle.ijson_value.specs.Same.{Same};
 ghost use Rattle.ijson_value.specs.SameTest.{same};
@@ -155,9 +154,11 @@ impl IObject {
 
     /// Puts a pair. A key that is there keeps its place and needs no memory, and its old value is answered; a new key goes
     /// last, in room that is made first where there is none. Where that is refused, the pair comes back.
+    #[tactic(auto, using(crate::proofs::Inserted::put_where_ok))]
     pub fn insert(&mut self, key: IString, value: IValue) -> Result<Option<IValue>, RefusedPair>
-        ensures { Inserts self.old.pairs self.old.capacity key value result self.new.pairs
+        ensures inserts { Inserts self.old.pairs self.old.capacity key value result self.new.pairs
             self.new.capacity }
+        ensures pairs { OnOk result (self.new.pairs ≡ put self.old.pairs key value) }
     {
         if self.table.is_none() {
             match Box::new(self.alloc, FixedTable::new(self.alloc)) {

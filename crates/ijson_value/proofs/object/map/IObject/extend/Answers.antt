@@ -12,16 +12,16 @@ loop-key-preserved g c =
     let old : Store WellFormed = c.args.self.now in let mid : Store WellFormed = c.loop-key.self in let new : Store WellFormed = c.insert.new.self in (
       search rules,
       search rules,
-      one_more old.pairs old.capacity c.loop-key.yielded mid.pairs mid.capacity (c.in-Some.key, c.in-Some.value) c.in-Ok.old new.pairs new.capacity c.loop-key.invariant.2 c.in-Ok.ensures,
+      one_more old.pairs old.capacity c.loop-key.yielded mid.pairs mid.capacity (c.in-Some.key, c.in-Some.value) c.in-Ok.old new.pairs new.capacity c.loop-key.invariant.2 c.in-Ok.ensures.inserts,
     )
 
 pub returns-in-Err : goal.returns-in-Err
 returns-in-Err g c =
     let old : Store WellFormed = c.args.self.now in let mid : Store WellFormed = c.loop-key.self in let new : Store WellFormed = c.insert.new.self in
     let why = c.in-Err.refused.why in
-    let missing = c.in-Err.ensures.0 in let key = c.in-Err.ensures.1 in let value = c.in-Err.ensures.2 in
-    let same : new.pairs ≡ mid.pairs = c.in-Err.ensures.3 in
-    let room : new.capacity ≡ mid.capacity = refused_capacity (length mid.pairs) mid.capacity 1 new.capacity why c.in-Err.ensures.4 in (
+    let missing = c.in-Err.ensures.inserts.0 in let key = c.in-Err.ensures.inserts.1 in let value = c.in-Err.ensures.inserts.2 in
+    let same : new.pairs ≡ mid.pairs = c.in-Err.ensures.inserts.3 in
+    let room : new.capacity ≡ mid.capacity = refused_capacity (length mid.pairs) mid.capacity 1 new.capacity why c.in-Err.ensures.inserts.4 in (
       c.loop-key.yielded,
       subst (λ (s : List (List ℕ × WellFormed) × ℕ). InsertsEach old.pairs old.capacity c.loop-key.yielded s.0 s.1) (λ i. (sym same i, sym room i)) c.loop-key.invariant.2,
       (
@@ -38,7 +38,7 @@ returns-in-Err g c =
         (
           (λ i. lookup (key i) (same i)) ∙ missing,
           subst (λ (s : List (List ℕ × WellFormed) × ℕ). Ungrown (length s.0) s.1 1 why s.1) (λ i. (sym same i, sym room i))
-              (subst (λ n. Ungrown (length mid.pairs) mid.capacity 1 why n) room c.in-Err.ensures.4),
+              (subst (λ n. Ungrown (length mid.pairs) mid.capacity 1 why n) room c.in-Err.ensures.inserts.4),
         ),
       ),
     )

@@ -57,7 +57,7 @@ loop-index-preserved g c =
       c.swap_out.ensures.capacity ∙ was.1,
       omega (arith, within, count),
       λ qs h. was.3 qs (gone (CalledAtPair g.F.FnMut) (length now.pairs - i) (length new.pairs - i) c.loop-index.asks c.asks.new.self i now.pairs qs _ _ w (omega (arith, within, count)) c.pair_mut-value.ensures.pair asked
-      (subst (λ ps. RetainsFrom (CalledAtPair g.F.FnMut) (length new.pairs - i) c.asks.new.self i ps qs) (is ∙ swap_out_written now.pairs i w within) h)),
+          (subst (λ ps. RetainsFrom (CalledAtPair g.F.FnMut) (length new.pairs - i) c.asks.new.self i ps qs) (is ∙ swap_out_written now.pairs i w within) h)),
     )
 
 pub returns-clause-pairs : goal.returns-clause-pairs
