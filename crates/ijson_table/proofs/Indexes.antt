@@ -1,11 +1,11 @@
 -- The invariant of a list of places.
-use Rattle.std.proofs.Common.{◌≡◌, ℕ, ◌+◌, ◌<◌, ◌≤◌, ◌^◌, arith, List, [], ◌∷◌, ◌++◌, length, take, drop, get_or, None, refl, sym, ap, ◌∙◌, length-append}
+use Rattle.std.proofs.Common.{◌≡◌, ℕ, ◌+◌, ◌<◌, ◌≤◌, ◌^◌, arith, List, [], ◌∷◌, ◌++◌, length, take, drop, get_or, None, refl, sym, ap, subst, ◌∙◌, length-append}
 use Rattle.std.specs.List.{All}
 use Rattle.std.proofs.lemmas.Bool.Decides.{nat_tests}
 use Rattle.ijson_table.specs.declared.place.Place.{Place}
 use Rattle.ijson_table.specs.Places.{times, below, IsTable}
 use Rattle.ijson_table.specs.private.Holds.{with_one, HasEmpty, Holds}
-use Rattle.ijson_table.specs.private.Insertion.{Accepts}
+use Rattle.ijson_table.specs.private.Insertion.{Accepts, IsTableOf}
 use Rattle.ijson_table.specs.private.PlaceHashes.{position_in, positions, hashes_of, HaveHashes}
 use Rattle.ijson_table.specs.private.PlaceList.{IsIndex}
 use Rattle.ijson_table.proofs.Keys.{get_or-front, get_or-end}
@@ -31,6 +31,14 @@ pub record IsIndexOf (hashes : List ℕ) (places : List Place) : Type 0 where
 
 pub index_is : (hashes : List ℕ) (places : List Place) → IsTable hashes (positions places) → HaveHashes hashes places → length hashes ≤ length places → IsIndexOf hashes places
 index_is hashes places table have fits = record { index = index_of hashes places table have fits; is = hashes_of-table hashes places table have fits }
+
+-- the places after a call that was lent them as a whole, and their hashes
+pub after_call : (f : List ℕ → List ℕ) (old lent new : List Place) (len : ℕ) → length (f (hashes_of old)) ≤ length old → lent ≡ old → length new ≡ length lent → len ≡ length old
+    → IsTableOf (f (hashes_of lent)) new → IsIndexOf (f (hashes_of old)) (take len (new ++ drop (length new) old))
+after_call f old lent new len room is same size table =
+    let now : length new ≡ length old = same ∙ ap length is in
+    let t : IsTableOf (f (hashes_of old)) new = subst (λ ps. IsTableOf (f (hashes_of ps)) new) is table in
+    subst (IsIndexOf (f (hashes_of old))) (sym (whole len new old now size)) (index_is (f (hashes_of old)) new t.table t.hashes_are (omega (arith, room, now)))
 
 -- where no position stands
 pub empty_index : (places : List Place) → All (λ place. position_in place ≡ None) places → IsIndexOf [] places
@@ -64,3 +72,11 @@ module _ (places : List Place) (index : IsIndex places) (position hash : ℕ) (n
   pushed new same held have =
       let size : length (hashes ++ hash ∷ []) ≡ position + 1 = omega (arith, length-append hashes (hash ∷ []), next) in
       index_is (hashes ++ hash ∷ []) new (record { ordered = held.ordered; placed = λ i. grind (arith, nat_tests, held.placed i, index.table.table.placed i, next, size) }) have (omega (arith, size, room, same))
+
+-- the places after a call that was lent them as a whole and put one position more into them, and their hashes
+pub after_push : (old lent new : List Place) (position hash len : ℕ) → IsIndex old → position ≡ length (hashes_of old) → position < length old → lent ≡ old → length new ≡ length lent → len ≡ length old
+    → Holds (hashes_of lent ++ hash ∷ []) (with_one (positions lent) position) None (positions new) → HaveHashes (hashes_of lent ++ hash ∷ []) new → IsIndexOf (hashes_of old ++ hash ∷ []) (take len (new ++ drop (length new) old))
+after_push old lent new position hash len index next room is same size held have =
+    let now : length new ≡ length old = same ∙ ap length is in
+    subst (IsIndexOf (hashes_of old ++ hash ∷ [])) (sym (whole len new old now size))
+    (pushed old index position hash next room new now (subst (λ ps. Holds (hashes_of ps ++ hash ∷ []) (with_one (positions ps) position) None (positions new)) is held) (subst (λ ps. HaveHashes (hashes_of ps ++ hash ∷ []) new) is have))

@@ -15,6 +15,8 @@ mod Gaps
 mod Looked
 mod Placing
 mod Removing
+mod Closing
+mod ShiftOut
 mod Seeking
 mod StoredHashes
 mod SwapRemove

@@ -3,7 +3,8 @@ use Rattle.std.proofs.Common.{◌≡◌, ◌≢◌, ℕ, ◌+◌, ◌%◌, ◌<�
 use Rattle.std.proofs.lemmas.Bool.Decides.{nat_tests}
 use Rattle.std.proofs.lemmas.List.{length-set}
 use Rattle.ijson_table.specs.Crowd.{distance}
-use Rattle.std.specs.List.{swap_remove}
+use Rattle.std.specs.List.{remove, swap_remove}
+use Rattle.std.proofs.lemmas.List.Edits.{length-remove, get_or-remove_below}
 use Rattle.ijson_table.specs.private.Holds.{one_if, Holds}
 use Rattle.ijson_table.specs.Places.{after, displacement, resident, home_at, times, IsTable, displaced, below}
 use Rattle.ijson_table.proofs.Cases.{below_or_not, same_or_not}
@@ -63,13 +64,13 @@ home-as n hashes hashes' i j e = ap (λ x. x % n) e
 
 module _ (hashes : List ℕ) (places : List (Option ℕ)) where
   -- the last pair was taken out
-  pub last_out : (i : ℕ) → i + 1 ≡ length hashes → Holds hashes (below (length hashes)) (Some i) places → IsTable (swap_remove hashes i 0) places
+  pub last_out : (i : ℕ) → i + 1 ≡ length hashes → Holds hashes (below (length hashes)) (Some i) places → IsTable (remove hashes i) places
   last_out i last held =
-      let size : length (swap_remove hashes i 0) + 1 ≡ length hashes = length-swap_remove hashes i (omega arith) in
+      let size : length (remove hashes i) + 1 ≡ length hashes = length-remove hashes i (omega arith) in
       let apart : (p k : ℕ) → p < length places → resident places p ≡ Some k → k < i = λ p k lp e.
       omega (arith, last, held_below (length hashes) (Some i) places held.placed p k lp e, not_pending hashes (length hashes) i places held p k lp e) in
-      let now : Holds (swap_remove hashes i 0) (below (length hashes)) (Some i) places = other_hashes hashes (swap_remove hashes i 0) (length hashes) (Some i) places held
-      (λ p k lp e. let lt = apart p k lp e in swap_remove-other hashes i k (omega arith) (omega arith) (λ same. omega arith)) in
+      let now : Holds (remove hashes i) (below (length hashes)) (Some i) places = other_hashes hashes (remove hashes i) (length hashes) (Some i) places held
+      (λ p k lp e. get_or-remove_below hashes i 0 k (apart p k lp e) (omega arith)) in
       record {
         ordered = now.ordered;
         placed = λ k. elim (same_or_not k i) [

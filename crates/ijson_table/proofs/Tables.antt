@@ -1,5 +1,5 @@
 -- A store with a table: the hashes of its keys, and what a probe for a key tells.
-use Rattle.std.proofs.Common.{◌≡◌, ℕ, ◌-◌, ◌<◌, ◌≤◌, arith, ◌+◌, ◌%◌, List, [], ◌∷◌, ◌++◌, length, take, map, get_or, set, Option, sym, ap, subst, ◌∙◌}
+use Rattle.std.proofs.Common.{◌≡◌, ℕ, ◌-◌, ◌<◌, arith, ◌%◌, List, [], ◌∷◌, ◌++◌, length, take, map, get_or, set, Option, sym, ap, subst, ◌∙◌}
 use Rattle.std.specs.List.{swap_remove}
 use Rattle.std.proofs.lemmas.Bool.Decides.{nat_tests}
 use Rattle.std.proofs.lemmas.List.{length-map, map-append, map-set, get_or-map, take-map}
@@ -7,16 +7,14 @@ use Rattle.ijson_table.specs.Store.{keys_of, swap_out, IsDistinct}
 use Rattle.ijson_table.specs.laws.Store.{keys-with_value}
 use Rattle.ijson_table.specs.declared.probe.Probed.{Probed}
 use Rattle.ijson_table.specs.declared.probe.Probed.TheVariants.{Full}
-use Rattle.ijson_table.specs.Crowd.{place_count}
+use Rattle.ijson_table.specs.Growth.{Grown}
 use Rattle.ijson_table.specs.private.IsPlaced.{IsPlaced}
-use Rattle.ijson_table.specs.Places.{displacement, times, below, IsTable, IsBounded}
-use Rattle.ijson_table.specs.private.Holds.{HasEmpty}
+use Rattle.ijson_table.specs.Places.{displacement, IsTable, IsBounded}
 use Rattle.ijson_table.specs.private.Lookup.{is_hashed_key, LookUpEnds}
 use Rattle.ijson_table.specs.private.PlaceList.{Index}
 use Rattle.ijson_table.specs.private.Probe.{Ends}
 use Rattle.ijson_table.proofs.Keys.{keys-length, keys-swap_out, set-value, position-none}
 use Rattle.ijson_table.proofs.Looking.{is_hashed_key-true, is_hashed_key-false}
-use Rattle.ijson_table.proofs.Placing.{some_empty}
 use Rattle.ijson_table.proofs.Seeking.{look_up_ends, bounded}
 use Rattle.ijson_table.proofs.Walk.{placed_at}
 
@@ -82,10 +80,6 @@ module _ {V : Type 0} (hash : List ℕ → ℕ) where
     λ e. omega (arith, e.1, none),
   )
 
-  -- where there is room for a pair more, some place is empty
-  pub room_empty : (pairs : List (List ℕ × V)) (capacity : ℕ) (slots : List (Option ℕ)) → IsTable (hashes pairs) slots → length slots ≡ place_count capacity → length pairs < capacity → HasEmpty slots
-  room_empty pairs capacity slots table size fits =
-      let count : length (hashes pairs) ≡ length pairs = length-hashes pairs in
-      let few : (i : ℕ) → times i slots ≤ below (length pairs + 1) i = λ i. grind (arith, nat_tests, table.placed i, count) in
-      let none : times (length pairs) slots ≡ 0 = grind (arith, nat_tests, table.placed (length pairs), count) in
-      some_empty slots (length pairs + 1) (length pairs) few (omega arith) none (omega (arith, size, fits))
+-- where there is room for one more, there is no growth
+pub had_room : (len c : ℕ) → len < c → Grown len c 1 c
+had_room len c room = (grind (arith, nat_tests, room), λ less. absurd (omega (arith, less)))

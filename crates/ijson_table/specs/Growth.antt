@@ -22,3 +22,10 @@ abbrev pub Shrink : {A : Type 0} → ℕ → ℕ → Result A ReserveError → �
 Shrink len c (Ok _) c' = c' ≡ len
 Shrink len c (Err Memory) c' = (c' ≡ c) × (c ≢ len) × (0 < len)
 Shrink len c (Err TooLarge) c' = ⊥
+
+-- a growth that succeeded, or that was refused
+abbrev pub Grown : ℕ → ℕ → ℕ → ℕ → Type 0
+Grown len c n c' = Grow {A = Unit {0}} len c n (Ok tt) c'
+
+abbrev pub Ungrown : ℕ → ℕ → ℕ → ReserveError → ℕ → Type 0
+Ungrown len c n why c' = Grow {A = Unit {0}} len c n (Err why) c'

@@ -1,5 +1,6 @@
 pub mod Store
 pub mod Growth
+pub mod Inserts
 pub mod Steps
 pub mod Fold
 pub mod Crowd

@@ -1,5 +1,7 @@
--- The places of a table: each is empty or holds a position of the list of keys. They are ordered by the distance from home, as in Robin Hood hashing.
-use Rattle.std.specs.Prelude.{◌≡◌, ◌≢◌, ℕ, ◌+◌, ◌%◌, ◌<◌, ◌≤◌, Bool, false, eqb, ltb, List, length, get_or, count_by, Option, Some, None, if◌then◌else◌}
+-- The places of a table: each is empty or holds a position of the list of keys. They are ordered by the distance from
+-- home, as in Robin Hood hashing.
+use Rattle.std.specs.Prelude.{◌≡◌, ◌≢◌, ℕ, ◌+◌, ◌%◌, ◌<◌, ◌≤◌, Bool, false, eqb, ltb, List}
+use Rattle.std.specs.Prelude.{length, get_or, count_by, Option, Some, None, if◌then◌else◌}
 use Rattle.ijson_table.specs.Crowd.{distance, crowd}
 
 -- the place after p, round the end of n places

@@ -1,35 +1,28 @@
 -- What each command to a pair store may reply, and what it leaves.
 use Rattle.std.specs.Prelude.{◌≡◌, ℕ, List, [], ◌∷◌, length, Some, None, Ok, Err, slice_get}
-use Rattle.ijson_table.specs.declared.store.ReserveError.{ReserveError}
 use Rattle.ijson_table.specs.declared.commands.Command.{Command}
-use Rattle.ijson_table.specs.declared.commands.Command.TheVariants.{Insert, Find, Remove, Reserve, ShrinkToFit, Clear}
+use Rattle.ijson_table.specs.declared.commands.Command.TheVariants.{Insert, Find, Remove, ShiftRemove, Reserve, ShrinkToFit, Clear}
 use Rattle.ijson_table.specs.declared.commands.Reply.{Reply}
 use Rattle.ijson_table.specs.declared.commands.Reply.TheVariants.{Added, Replaced, Refused, Found, Removed, Done, NotDone}
-use Rattle.ijson_table.specs.Store.{at, put, swap_out}
-use Rattle.ijson_table.specs.Growth.{Grow, Shrink}
-
--- a growth that succeeded, or that was refused
-abbrev pub Grown : ℕ → ℕ → ℕ → ℕ → Type 0
-Grown len c n c' = Grow {A = Unit {0}} len c n (Ok tt) c'
-
-abbrev pub Ungrown : ℕ → ℕ → ℕ → ReserveError → ℕ → Type 0
-Ungrown len c n why c' = Grow {A = Unit {0}} len c n (Err why) c'
+use Rattle.ijson_table.specs.Store.{at, swap_out, shift_out}
+use Rattle.ijson_table.specs.Growth.{Grown, Ungrown, Shrink}
+use Rattle.ijson_table.specs.Inserts.{Inserts}
 
 -- From these pairs and this capacity, the store may give this reply to the command and go on to those pairs and that capacity.
 abbrev pub Step : {V : Type 0} → List (List ℕ × V) → ℕ → Command V → Reply V → List (List ℕ × V) → ℕ → Type 0
-Step pairs c (Insert k v) Added pairs' c' =
-    Grown (length pairs) c 1 c' × (at pairs k ≡ None) × (pairs' ≡ put pairs k v)
-Step {V} pairs c (Insert k v) (Replaced old) pairs' c' =
-    Grown (length pairs) c 1 c'
-    × ((i : ℕ) × (key : List ℕ) × (at pairs k ≡ Some i) × (slice_get pairs i ≡ Some (key, old)))
-    × (pairs' ≡ put pairs k v)
+Step pairs c (Insert k v) Added pairs' c' = Inserts pairs c k v (Ok None) pairs' c'
+Step pairs c (Insert k v) (Replaced old) pairs' c' = Inserts pairs c k v (Ok (Some old)) pairs' c'
 Step pairs c (Insert k v) (Refused key value why) pairs' c' =
-    Ungrown (length pairs) c 1 why c' × (key ≡ k) × (value ≡ v) × (pairs' ≡ pairs)
+    Inserts pairs c k v (Err (record { key = key; value = value; why = why })) pairs' c'
 Step pairs c (Find k) (Found i) pairs' c' = (i ≡ at pairs k) × (pairs' ≡ pairs) × (c' ≡ c)
 Step pairs c (Remove k) (Removed (Some pair)) pairs' c' =
     ((i : ℕ) × (at pairs k ≡ Some i) × (slice_get pairs i ≡ Some pair) × (pairs' ≡ swap_out pairs i))
     × (c' ≡ c)
 Step pairs c (Remove k) (Removed None) pairs' c' = (at pairs k ≡ None) × (pairs' ≡ pairs) × (c' ≡ c)
+Step pairs c (ShiftRemove k) (Removed (Some pair)) pairs' c' =
+    ((i : ℕ) × (at pairs k ≡ Some i) × (slice_get pairs i ≡ Some pair) × (pairs' ≡ shift_out pairs i))
+    × (c' ≡ c)
+Step pairs c (ShiftRemove k) (Removed None) pairs' c' = (at pairs k ≡ None) × (pairs' ≡ pairs) × (c' ≡ c)
 Step pairs c (Reserve n) Done pairs' c' = Grown (length pairs) c n c' × (pairs' ≡ pairs)
 Step pairs c (Reserve n) (NotDone why) pairs' c' = Ungrown (length pairs) c n why c' × (pairs' ≡ pairs)
 Step pairs c ShrinkToFit Done pairs' c' = Shrink {A = Unit {0}} (length pairs) c (Ok tt) c' × (pairs' ≡ pairs)

@@ -1,3 +1,4 @@
+pub mod Closing
 pub mod Holds
 pub mod Insertion
 pub mod IsPlaced

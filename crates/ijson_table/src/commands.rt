@@ -3,19 +3,21 @@
 ghost use Rattle.std.specs.Prelude.{◌≡◌, IfOk, OnErr};
 ghost use Rattle.ijson_table.specs.Steps.{Step, Run};
 
-use crate::store::{PairStore, ReserveError};
+use crate::store::{PairStore, ReserveError, insert};
 use ijson_string::IString;
 use std::alloc::{AllocError, Global};
 
 /// A command to a store.
 #[derive(Debug, Drop)]
 pub enum Command<V> {
-    /// Puts the value beside the key: in place of the old one, or as a new pair last.
+    /// Puts the value beside the key: in place of the old one, which needs no memory, or as a new pair last.
     Insert(IString, V),
     /// Asks for the position of the key.
     Find(IString),
     /// Takes out the pair with the key. The last pair moves there.
     Remove(IString),
+    /// Takes out the pair with the key. Those behind it move one forward.
+    ShiftRemove(IString),
     /// Makes room for so many more pairs.
     Reserve(usize),
     /// Makes the capacity the length.
@@ -48,24 +50,18 @@ fn step<V: Drop, P: PairStore<V>>(store: &mut P, command: Command<V>) -> Reply<V
         (P.pairs store.new) (P.room store.new) }
 {
     match command {
-        Command::Insert(key, value) => {
-            if let Err(why) = store.reserve(1) {
-                return Reply::Refused(key, value, why);
-            }
-            match store.position(key.as_str()) {
-                Some(at) => {
-                    let place = store.value_mut(at);
-                    Reply::Replaced(std::mem::replace(place, value))
-                }
-                None => {
-                    store.push_new(key, value);
-                    Reply::Added
-                }
-            }
-        }
+        Command::Insert(key, value) => match insert(store, key, value) {
+            Ok(None) => Reply::Added,
+            Ok(Some(old)) => Reply::Replaced(old),
+            Err(refused) => Reply::Refused(refused.key, refused.value, refused.why),
+        },
         Command::Find(key) => Reply::Found(store.position(key.as_str())),
         Command::Remove(key) => match store.position(key.as_str()) {
             Some(at) => Reply::Removed(Some(store.swap_out(at))),
+            None => Reply::Removed(None),
+        },
+        Command::ShiftRemove(key) => match store.position(key.as_str()) {
+            Some(at) => Reply::Removed(Some(store.shift_out(at))),
             None => Reply::Removed(None),
         },
         Command::Reserve(additional) => match store.reserve(additional) {

@@ -1,20 +1,21 @@
 //! The table under the fixed hash.
 
-ghost use Rattle.std.specs.Prelude.{◌≡◌, ◌≤◌, ◌-◌, ◌+◌, ◌<◌, ◌^◌, ◌↔◌, [], length, Ok, Err, IfOk, IsOk, refl};
+ghost use Rattle.std.specs.Prelude.{◌≡◌, ◌≤◌, ◌-◌, ◌+◌, ◌<◌, ◌^◌, ◌↔◌, [], length, Ok, Err, IfOk, IsOk, OnErr, refl};
 ghost use Rattle.std.specs.Option.{option_copied};
-ghost use Rattle.ijson_table.specs.Store.{keys_of, lookup, put};
+ghost use Rattle.ijson_table.specs.Store.{keys_of, lookup};
 ghost use Rattle.ijson_table.specs.Growth.{capacity_limit};
+ghost use Rattle.ijson_table.specs.Inserts.{Inserts};
 ghost use Rattle.ijson_table.specs.laws.Placed.{placed_with_value};
 ghost use Rattle.ijson_table.specs.Fold.{fold_words};
 ghost use Rattle.ijson_table.specs.Places.{IsBounded};
 
 use crate::hash::FixedHash;
 use crate::places::{Places, Seen};
-use crate::store::{PairStore, ReserveError};
+use crate::store::{PairStore, RefusedPair, ReserveError};
 use crate::table::Table;
 use ijson_number::Looks;
 use ijson_string::IString;
-use std::alloc::Global;
+use std::alloc::{AllocError, Global};
 use std::marker::Model;
 
 /// A [`Table`] whose places go by [`FixedHash`].
@@ -45,29 +46,46 @@ impl<V: Drop> FixedTable<V> {
         Ok(FixedTable { table })
     }
 
-    /// Puts a pair, in the room that there is. A key that is there keeps its place, and its old value is answered; a new
-    /// key goes last.
-    pub fn put(&mut self, key: IString, value: V) -> Option<V>
-        requires within { length self.old.store.pairs < self.old.store.capacity }
-        ensures pairs { self.new.store.pairs ≡ put self.old.store.pairs key value }
-        ensures answer { result ≡ lookup key self.old.store.pairs }
-        ensures room { self.new.store.capacity ≡ self.old.store.capacity }
+    /// A store of pairs with the same keys in the same order, for a copy of this one: it has room for them alone, and no key
+    /// is hashed again. Room for none takes no memory. Where memory is refused, the pairs are dropped.
+    pub fn with_same_keys(
+        &self,
+        alloc: Global,
+        pairs: Vec<(IString, V)>,
+    ) -> Result<FixedTable<V>, AllocError>
+        requires { keys_of pairs.items ≡ keys_of self.now.store.pairs }
+        ensures pairs { IfOk result (λ t. t.store.pairs ≡ pairs.items) }
+        ensures capacity { IfOk result (λ t. t.store.capacity ≡ length pairs.items) }
+        ensures refused { OnErr result (0 < length pairs.items) }
     {
-        self.table.put(key, value)
+        let table = self.table.with_same_keys(alloc, pairs)?;
+        Ok(FixedTable { table })
+    }
+
+    /// Puts a pair. A key that is there keeps its place and needs no memory, and its old value is answered; a new key
+    /// goes last, in room that is made first where there is none. Where that is refused, the pair comes back.
+    pub fn insert(&mut self, key: IString, value: V) -> Result<Option<V>, RefusedPair<V>>
+        ensures { Inserts self.old.store.pairs self.old.store.capacity key value result
+            self.new.store.pairs self.new.store.capacity }
+    {
+        self.table.insert(key, value)
     }
 
     /// The same, and each place that it looks at for the key is counted.
-    pub fn put_counted(&mut self, key: IString, value: V, looks: &mut Looks) -> Option<V>
-        requires within { length self.old.store.pairs < self.old.store.capacity }
+    pub fn insert_counted(
+        &mut self,
+        key: IString,
+        value: V,
+        looks: &mut Looks,
+    ) -> Result<Option<V>, RefusedPair<V>>
         requires fits { looks.old + capacity_limit + 1 < 2 ^ 128 }
-        ensures pairs { self.new.store.pairs ≡ put self.old.store.pairs key value }
-        ensures answer { result ≡ lookup key self.old.store.pairs }
-        ensures room { self.new.store.capacity ≡ self.old.store.capacity }
+        ensures inserts { Inserts self.old.store.pairs self.old.store.capacity key value result
+            self.new.store.pairs self.new.store.capacity }
         ensures grows { looks.old ≤ looks.new }
         ensures bounded { IsBounded fold_words (keys_of self.old.store.pairs) self.old.places
             self.old.store.capacity key (looks.new - looks.old) }
     {
-        self.table.put_counted(key, value, looks)
+        self.table.insert_counted(key, value, looks)
     }
 }
 
@@ -175,6 +193,10 @@ impl<V: Drop> PairStore<V> for FixedTable<V> {
 
     fn swap_out(&mut self, index: usize) -> (IString, V) {
         self.table.swap_out(index)
+    }
+
+    fn shift_out(&mut self, index: usize) -> (IString, V) {
+        self.table.shift_out(index)
     }
 
     fn into_pairs(self) -> Vec<(IString, V)> {

@@ -20,5 +20,5 @@ pub use fixed::FixedTable;
 pub use hash::{FixedHash, KeyHash};
 pub use linear::LinearPairs;
 pub use places::{Places, Seen, locate};
-pub use store::{PairStore, ReserveError};
+pub use store::{PairStore, RefusedPair, ReserveError};
 pub use table::Table;

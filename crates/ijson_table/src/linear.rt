@@ -2,16 +2,16 @@
 
 ghost use Rattle.std.specs.Prelude.{◌≡◌, ◌<◌, ◌≤◌, ◌^◌, [], length, Some, None, Ok, Err, refl, vec_capacity, IfOk, IsOk, ◌↔◌};
 ghost use Rattle.std.specs.Option.{option_copied};
-ghost use Rattle.ijson_table.specs.Store.{at, keys_of, swap_out, IsDistinct, lookup, put};
+ghost use Rattle.ijson_table.specs.Store.{at, keys_of, swap_out, IsDistinct, lookup};
 ghost use Rattle.ijson_table.specs.laws.Store.{IsDistinct-prop, store_with_value};
 ghost use Rattle.ijson_table.specs.Growth.{capacity_limit};
+ghost use Rattle.ijson_table.specs.Inserts.{Inserts};
 
 use crate::growth::{fit, grown_capacity, limited, list_with_room};
-use crate::store::{PairStore, ReserveError};
+use crate::store::{PairStore, RefusedPair, ReserveError, insert};
 use ijson_string::IString;
 use std::alloc::Global;
 use std::marker::Model;
-use std::mem;
 
 /// Pairs in a list, searched from the front.
 #[derive(Debug, Drop)]
@@ -81,21 +81,13 @@ impl<V> LinearPairs<V> {
 }
 
 impl<V: Drop> LinearPairs<V> {
-    /// Puts a pair, in the room that there is. A key that is there keeps its place, and its old value is answered; a new
-    /// key goes last.
-    pub fn put(&mut self, key: IString, value: V) -> Option<V>
-        requires within { length self.old.pairs < self.old.capacity }
-        ensures pairs { self.new.pairs ≡ put self.old.pairs key value }
-        ensures answer { result ≡ lookup key self.old.pairs }
-        ensures room { self.new.capacity ≡ self.old.capacity }
+    /// Puts a pair. A key that is there keeps its place and needs no memory, and its old value is answered; a new key
+    /// goes last, in room that is made first where there is none. Where that is refused, the pair comes back.
+    pub fn insert(&mut self, key: IString, value: V) -> Result<Option<V>, RefusedPair<V>>
+        ensures { Inserts self.old.pairs self.old.capacity key value result
+            self.new.pairs self.new.capacity }
     {
-        match self.position(key.as_str()) {
-            Some(at) => Some(mem::replace(self.value_mut(at), value)),
-            None => {
-                self.push_new(key, value);
-                None
-            }
-        }
+        insert(self, key, value)
     }
 }
 
@@ -169,6 +161,10 @@ impl<V: Drop> PairStore<V> for LinearPairs<V> {
 
     fn swap_out(&mut self, index: usize) -> (IString, V) {
         self.pairs.swap_remove(index)
+    }
+
+    fn shift_out(&mut self, index: usize) -> (IString, V) {
+        self.pairs.remove(index)
     }
 
     fn into_pairs(self) -> Vec<(IString, V)> {

@@ -2,6 +2,7 @@
 
 ghost use Rattle.std.specs.Prelude.{◌≡◌, ◌+◌, ◌<◌, ◌%◌, ◌^◌, Some, None, IsTrue, ◌↔◌};
 ghost use Rattle.ijson_table.specs.Crowd.{distance};
+ghost use Rattle.ijson_table.specs.private.Closing.{closed};
 ghost use Rattle.ijson_table.specs.private.PlaceHashes.{position_in, SeenAs};
 
 use crate::places::Seen;
@@ -63,6 +64,20 @@ impl Place {
             place - home
         } else {
             places - (home - place)
+        }
+    }
+
+    /// The place once a position is out: a later one is one less.
+    pub fn closed(self, gone: usize) -> Place
+        requires { gone + 1 < 2 ^ 64 }
+        ensures { result ≡ closed gone self }
+    {
+        if self.code <= gone + 1 {
+            return self;
+        }
+        Place {
+            code: self.code - 1,
+            hash: self.hash,
         }
     }
 

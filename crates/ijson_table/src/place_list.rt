@@ -1,7 +1,7 @@
 //! The places of a table: a list of its own, which knows of the keys no more than their hashes.
 
-ghost use Rattle.std.specs.Prelude.{◌≡◌, ◌<◌, ◌≤◌, [], ◌∷◌, ◌++◌, length, None, IfOk, OnErr};
-ghost use Rattle.std.specs.List.{All, swap_remove};
+ghost use Rattle.std.specs.Prelude.{◌≡◌, ◌+◌, ◌<◌, ◌≤◌, [], ◌∷◌, ◌++◌, length, get_or, None, IfOk, OnErr};
+ghost use Rattle.std.specs.List.{All, remove, swap_remove as swapped_out};
 ghost use Rattle.ijson_table.specs.Places.{resident, IsTable};
 ghost use Rattle.ijson_table.specs.private.Holds.{MayStand};
 ghost use Rattle.ijson_table.specs.private.Insertion.{EndsWith};
@@ -9,7 +9,7 @@ ghost use Rattle.ijson_table.specs.private.PlaceHashes.{position_in, HasHash};
 
 use crate::growth::list_with_room;
 use crate::place::Place;
-use crate::shifts::{insert, rehash, remove, shift_forward};
+use crate::shifts::{insert, rehash, shift_forward, shift_remove, swap_remove};
 use std::alloc::{AllocError, Global};
 use std::marker::Model;
 
@@ -90,13 +90,24 @@ impl PlaceList {
         shift_forward(&mut self.places, place, position, hash);
     }
 
-    /// Takes a position out, and gives its number to the last one. The hashes are those of their keys.
+    /// Takes a position out, and gives its number to the last one, which is another. The hashes are those of their keys.
     pub fn swap_remove(&mut self, position: usize, hash: u64, last: usize, last_hash: u64)
         requires { EndsWith self.old.hashes position hash last last_hash }
-        ensures hashes { self.new.hashes ≡ swap_remove self.old.hashes position 0 }
+        ensures hashes { self.new.hashes ≡ swapped_out self.old.hashes position 0 }
         ensures count { length self.new.slots ≡ length self.old.slots }
     {
-        remove(&mut self.places, position, hash, last, last_hash);
+        swap_remove(&mut self.places, position, hash, last, last_hash);
+    }
+
+    /// Takes a position out, and makes each later one one less. Its key has this hash.
+    pub fn shift_remove(&mut self, position: usize, hash: u64, last: usize)
+        requires within { position ≤ last }
+        requires last { last + 1 ≡ length self.old.hashes }
+        requires hash { hash ≡ get_or self.old.hashes position 0 }
+        ensures hashes { self.new.hashes ≡ remove self.old.hashes position }
+        ensures count { length self.new.slots ≡ length self.old.slots }
+    {
+        shift_remove(&mut self.places, position, hash, last);
     }
 
     /// So many places with the same positions. None takes no memory.

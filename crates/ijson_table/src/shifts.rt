@@ -1,12 +1,13 @@
 //! How the residents of places move: insertion, backward shift and rehash.
 
-ghost use Rattle.std.specs.Prelude.{◌≡◌, ℕ, ◌+◌, ◌<◌, ◌≤◌, ◌%◌, List, length, Some, None};
-ghost use Rattle.ijson_table.specs.Places.{resident, times, IsOrdered};
+ghost use Rattle.std.specs.Prelude.{◌≡◌, ℕ, ◌+◌, ◌<◌, ◌≤◌, ◌%◌, ◌^◌, List, length, get_or, map, Some, None};
+ghost use Rattle.ijson_table.specs.Places.{below, resident, times, IsOrdered};
+ghost use Rattle.ijson_table.specs.private.Closing.{closed};
 ghost use Rattle.ijson_table.specs.private.Holds.{with_one, Holds, HasEmpty, HasGap, MayStand};
 ghost use Rattle.ijson_table.specs.private.Insertion.{Accepts, AcceptsEach, EndsWith, IsTableOf, Stands};
 ghost use Rattle.ijson_table.specs.private.PlaceHashes.{displacement_in, positions, position_in, HaveHashes};
 ghost use Rattle.ijson_table.specs.private.Probe.{IsVacancy};
-ghost use Rattle.std.specs.List.{All, swap_remove};
+ghost use Rattle.std.specs.List.{All, remove, swap_remove as swapped_out};
 
 use crate::place::{Place, home_of_hash};
 use crate::places::Seen;
@@ -170,19 +171,55 @@ fn shift_back(places: &mut [Place], from: usize)
     }
 }
 
-/// Takes a position out of the places, and gives its number to the last one.
-pub fn remove(places: &mut [Place], position: usize, hash: u64, last: usize, last_hash: u64)
+/// Takes a position out of the places of a table. Its key has this hash.
+fn take_out(places: &mut [Place], position: usize, hash: u64)
     ghost hashes: { List ℕ }
     requires table { IsTableOf hashes places.old }
-    requires hashes { EndsWith hashes position hash last last_hash }
-    ensures { IsTableOf (swap_remove hashes position 0) places.new }
+    requires within { position < length hashes }
+    requires hash { hash ≡ get_or hashes position 0 }
+    ensures holds { Holds hashes (below (length hashes)) (Some position) (positions places.new) }
+    ensures hashes { HaveHashes hashes places.new }
 {
     let place = place_of(places, position, hash);
     places[place] = Place::empty();
     shift_back(places, place);
+}
+
+/// Takes a position out, and gives its number to the last one, which is another.
+pub fn swap_remove(places: &mut [Place], position: usize, hash: u64, last: usize, last_hash: u64)
+    ghost hashes: { List ℕ }
+    requires table { IsTableOf hashes places.old }
+    requires hashes { EndsWith hashes position hash last last_hash }
+    ensures { IsTableOf (swapped_out hashes position 0) places.new }
+{
+    take_out(places, position, hash);
+    let there = place_of(places, last, last_hash);
+    places[there] = Place::of(position, last_hash);
+}
+
+/// Makes each position behind one that is out one less.
+fn close_up(places: &mut [Place], gone: usize)
+    requires { gone + 1 < 2 ^ 64 }
+    ensures { places.new ≡ map (closed gone) places.old }
+{
+    for place in places.iter_mut() {
+        *place = place.closed(gone);
+    }
+}
+
+/// Takes a position out, and makes each later one one less. There is none behind the last.
+pub fn shift_remove(places: &mut [Place], position: usize, hash: u64, last: usize)
+    ghost hashes: { List ℕ }
+    requires table { IsTableOf hashes places.old }
+    requires within { position ≤ last }
+    requires last { last + 1 ≡ length hashes }
+    requires fits { last + 1 < 2 ^ 64 }
+    requires hash { hash ≡ get_or hashes position 0 }
+    ensures { IsTableOf (remove hashes position) places.new }
+{
+    take_out(places, position, hash);
     if position < last {
-        let there = place_of(places, last, last_hash);
-        places[there] = Place::of(position, last_hash);
+        close_up(places, position);
     }
 }
 

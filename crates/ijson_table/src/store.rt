@@ -1,12 +1,14 @@
 //! What a pair store is.
 
 ghost use Rattle.std.specs.Prelude.{◌≡◌, ℕ, ◌+◌, ◌<◌, ◌≤◌, List, [], ◌∷◌, ◌++◌, length, slice_get, Some, None, OnOk};
-ghost use Rattle.ijson_table.specs.Store.{at, keys_of, swap_out, IsDistinct, with_value};
+ghost use Rattle.ijson_table.specs.Store.{at, keys_of, shift_out, swap_out, IsDistinct, with_value};
 ghost use Rattle.ijson_table.specs.Growth.{Grow, Shrink, capacity_limit};
+ghost use Rattle.ijson_table.specs.Inserts.{Inserts};
 ghost use Rattle.std.specs.Borrow.{Lends, sem};
 
 use ijson_string::IString;
 use std::alloc::{AllocError, Global};
+use std::mem;
 use thiserror::Error;
 
 /// Why the capacity of a store did not change.
@@ -29,6 +31,15 @@ impl From<AllocError> for ReserveError {
     fn from(_refused: AllocError) -> ReserveError {
         ReserveError::Memory
     }
+}
+
+/// A pair that a store did not take, and why it did not grow.
+#[derive(Debug, Drop, Error)]
+#[error("the store did not grow for one more pair: {why}")]
+pub struct RefusedPair<V> {
+    pub key: IString,
+    pub value: V,
+    pub why: ReserveError,
 }
 
 /// A list of pairs with distinct keys, and a capacity: the number of pairs that it has room for.
@@ -109,6 +120,13 @@ pub trait PairStore<V>: Sized {
         ensures pairs { pairs self.new ≡ swap_out (pairs self.old) index }
         ensures room { room self.new ≡ room self.old };
 
+    /// Takes out the pair at a position. Those behind it move one forward. That needs no memory.
+    fn shift_out(&mut self, index: usize) -> (IString, V)
+        requires { index < length (pairs self.old) }
+        ensures pair { slice_get (pairs self.old) index ≡ Some result }
+        ensures pairs { pairs self.new ≡ shift_out (pairs self.old) index }
+        ensures room { room self.new ≡ room self.old };
+
     /// The pairs, in order.
     fn into_pairs(self) -> Vec<(IString, V)>
         ensures { result.items ≡ pairs self };
@@ -121,4 +139,24 @@ pub trait PairStore<V>: Sized {
     /// Another value changes no key, no other pair and no room.
     ghost set_value_is: { (s : Self) (i : ℕ) (v : V)
         → (pairs (set_value s i v) ≡ with_value (pairs s) i v) × (room (set_value s i v) ≡ room s) };
+}
+
+/// Puts a pair into a store. A key that is there keeps its place and needs no memory, and its old value is answered; a
+/// new key goes last, in room that is made first where there is none. Where that is refused, the pair comes back.
+pub fn insert<V: Drop, P: PairStore<V>>(
+    store: &mut P,
+    key: IString,
+    value: V,
+) -> Result<Option<V>, RefusedPair<V>>
+    ensures { Inserts (P.pairs store.old) (P.room store.old) key value result
+        (P.pairs store.new) (P.room store.new) }
+{
+    if let Some(at) = store.position(key.as_str()) {
+        return Ok(Some(mem::replace(store.value_mut(at), value)));
+    }
+    if let Err(why) = store.reserve(1) {
+        return Err(RefusedPair { key, value, why });
+    }
+    store.push_new(key, value);
+    Ok(None)
 }

@@ -1,10 +1,12 @@
 //! A pair store whose keys are found by their hash.
 
-ghost use Rattle.std.specs.Prelude.{◌≡◌, ◌+◌, ◌-◌, ◌<◌, ◌≤◌, ◌^◌, ◌/◌, [], length, get_or, map, Ok, Err, refl, vec_capacity, IfOk, IsOk, ◌↔◌};
-ghost use Rattle.ijson_table.specs.Store.{at, keys_of, put, swap_out, IsDistinct, lookup};
+ghost use Rattle.std.specs.Prelude.{◌≡◌, ◌+◌, ◌-◌, ◌<◌, ◌≤◌, ◌^◌, ◌/◌, [], length, get_or, map, vec_capacity};
+ghost use Rattle.std.specs.Prelude.{Ok, Err, refl, IfOk, IsOk, OnErr, ◌↔◌, None};
+ghost use Rattle.ijson_table.specs.Store.{at, keys_of, swap_out, IsDistinct, lookup};
 ghost use Rattle.ijson_table.specs.laws.Store.{IsDistinct-prop};
 ghost use Rattle.ijson_table.specs.Places.{IsBounded, IsTable};
 ghost use Rattle.ijson_table.specs.Growth.{capacity_limit};
+ghost use Rattle.ijson_table.specs.Inserts.{Inserts};
 ghost use Rattle.ijson_table.specs.laws.Placed.{placed_with_value};
 ghost use Rattle.ijson_table.specs.private.Lookup.{LookUpEnds};
 ghost use Rattle.std.specs.Option.{option_copied};
@@ -16,10 +18,10 @@ use crate::place::home_of_hash;
 use crate::place_list::PlaceList;
 use crate::places::{Places, Seen, locate};
 use crate::probe::{Probed, probe};
-use crate::store::{PairStore, ReserveError};
+use crate::store::{PairStore, RefusedPair, ReserveError};
 use ijson_number::Looks;
 use ijson_string::IString;
-use std::alloc::Global;
+use std::alloc::{AllocError, Global};
 use std::marker::{Model, PhantomData};
 use std::mem;
 
@@ -71,25 +73,50 @@ impl<V: Drop, H: KeyHash> Table<V, H> {
         })
     }
 
-    /// Puts a pair, in the room that there is. A key that is there keeps its place, and its old value is answered; a new
-    /// key goes last. It walks the places once.
-    pub fn put(&mut self, key: IString, value: V) -> Option<V>
-        requires within { length self.old.store.pairs < self.old.store.capacity }
-        ensures pairs { self.new.store.pairs ≡ put self.old.store.pairs key value }
-        ensures answer { result ≡ lookup key self.old.store.pairs }
-        ensures room { self.new.store.capacity ≡ self.old.store.capacity }
+    /// A store of pairs with the same keys in the same order, for a copy of this one: it has room for them alone, and no key
+    /// is hashed again. Room for none takes no memory. Where memory is refused, the pairs are dropped.
+    pub fn with_same_keys(
+        &self,
+        alloc: Global,
+        pairs: Vec<(IString, V)>,
+    ) -> Result<Table<V, H>, AllocError>
+        requires { keys_of pairs.items ≡ keys_of self.now.store.pairs }
+        ensures pairs { IfOk result (λ table. table.store.pairs ≡ pairs.items) }
+        ensures capacity { IfOk result (λ table. table.store.capacity ≡ length pairs.items) }
+        ensures refused { OnErr result (0 < length pairs.items) }
     {
-        self.put_counted(key, value, &mut Looks::new())
+        let capacity = pairs.len();
+        let places = self.places.rehashed(alloc, capacity + capacity / 4)?;
+        Ok(Table {
+            pairs,
+            places,
+            capacity,
+            alloc,
+            hash: PhantomData,
+        })
+    }
+
+    /// Puts a pair. A key that is there keeps its place and needs no memory, and its old value is answered; a new key
+    /// goes last, in room that is made first where there is none. Where that is refused, the pair comes back. It walks
+    /// the places once, and once more only where the store grew.
+    pub fn insert(&mut self, key: IString, value: V) -> Result<Option<V>, RefusedPair<V>>
+        ensures { Inserts self.old.store.pairs self.old.store.capacity key value result
+            self.new.store.pairs self.new.store.capacity }
+    {
+        self.insert_counted(key, value, &mut Looks::new())
     }
 
     /// The same, and each place that it looks at for the key is counted.
     #[inline(always)]
-    pub fn put_counted(&mut self, key: IString, value: V, looks: &mut Looks) -> Option<V>
-        requires within { length self.old.store.pairs < self.old.store.capacity }
+    pub fn insert_counted(
+        &mut self,
+        key: IString,
+        value: V,
+        looks: &mut Looks,
+    ) -> Result<Option<V>, RefusedPair<V>>
         requires fits { looks.old + capacity_limit + 1 < 2 ^ 128 }
-        ensures pairs { self.new.store.pairs ≡ put self.old.store.pairs key value }
-        ensures answer { result ≡ lookup key self.old.store.pairs }
-        ensures room { self.new.store.capacity ≡ self.old.store.capacity }
+        ensures inserts { Inserts self.old.store.pairs self.old.store.capacity key value result
+            self.new.store.pairs self.new.store.capacity }
         ensures grows { looks.old ≤ looks.new }
         ensures bounded { IsBounded H.hash_of (keys_of self.old.store.pairs) self.old.places
             self.old.store.capacity key (looks.new - looks.old) }
@@ -97,14 +124,30 @@ impl<V: Drop, H: KeyHash> Table<V, H> {
         let position = self.pairs.len();
         let hash = H::hash(key.as_str());
         match self.find(hash, key.as_str(), looks) {
-            Probed::Found(at, _) => Some(mem::replace(self.value_mut(at), value)),
-            Probed::Vacant(place) => {
+            Probed::Found(at, _) => Ok(Some(mem::replace(self.value_mut(at), value))),
+            Probed::Vacant(place) if position < self.capacity => {
                 self.pairs.push_reserved((key, value));
                 self.places.push_at(place, position, hash);
-                None
+                Ok(None)
             }
-            Probed::Full => unreachable!(),
+            Probed::Vacant(_) | Probed::Full => self.push_grown(key, value, hash),
         }
+    }
+
+    /// Puts a pair last whose key is new and has this hash, in room that is made first where there is none.
+    fn push_grown(&mut self, key: IString, value: V, hash: u64) -> Result<Option<V>, RefusedPair<V>>
+        requires missing { at self.old.store.pairs key ≡ None }
+        requires hash { hash ≡ H.hash_of key }
+        ensures { Inserts self.old.store.pairs self.old.store.capacity key value result
+            self.new.store.pairs self.new.store.capacity }
+    {
+        if let Err(why) = self.reserve(1) {
+            return Err(RefusedPair { key, value, why });
+        }
+        let position = self.pairs.len();
+        self.pairs.push_reserved((key, value));
+        self.places.push(position, hash);
+        Ok(None)
     }
 }
 
@@ -280,10 +323,20 @@ impl<V: Drop, H: KeyHash> PairStore<V> for Table<V, H> {
 
     fn swap_out(&mut self, index: usize) -> (IString, V) {
         let last = self.pairs.len() - 1;
+        if index == last {
+            return self.shift_out(index);
+        }
         let hash = self.hash_at(index);
         let last_hash = self.hash_at(last);
         self.places.swap_remove(index, hash, last, last_hash);
         self.pairs.swap_remove(index)
+    }
+
+    fn shift_out(&mut self, index: usize) -> (IString, V) {
+        let last = self.pairs.len() - 1;
+        let hash = self.hash_at(index);
+        self.places.shift_remove(index, hash, last);
+        self.pairs.remove(index)
     }
 
     fn pair(&self, index: usize) -> (&IString, &V) {

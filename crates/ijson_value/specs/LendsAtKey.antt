@@ -1,8 +1,9 @@
 -- What an object is once the value beside a key that it lent is given back: what was left there stands beside the key, and
 -- nothing else is changed. This project's own.
-use Rattle.std.specs.Prelude.{ℕ, List, Option, Some, None}
-use Rattle.std.specs.Borrow.{Lends, LendsIf, MutBor, Fml}
-use Rattle.ijson_table.specs.Store.{Store, at}
+use Rattle.std.specs.Prelude.{◌≡◌, ℕ, List, Option, Some, None, Result, length}
+use Rattle.std.specs.Borrow.{Lends, LendsIf, LendsSoOk, MutBor, Fml}
+use Rattle.ijson_table.specs.Growth.{Grown}
+use Rattle.ijson_table.specs.Store.{Store, at, put}
 use Rattle.ijson_table.specs.laws.Store.{store_with_value}
 use Rattle.ijson_value.specs.WellFormed.{WellFormed}
 use Rattle.ijson_value.specs.contracts.object.map.IObject as object
@@ -22,3 +23,16 @@ LendsAtKey s key r = Lends object.the_row value.the_row s r (with_key s.now key)
 -- the same, or nothing: then the object is as it was
 abbrev pub LendsAtKeyIf : MutBor (Store WellFormed) → List ℕ → Option (MutBor WellFormed) → Fml
 LendsAtKeyIf s key r = LendsIf object.the_row value.the_row s r (with_key s.now key) s.now
+
+abbrev pub grown_at : Option ℕ → ℕ → ℕ → ℕ → Type 0
+grown_at (Some i) len c c' = c' ≡ c
+grown_at None len c c' = Grown len c 1 c'
+
+-- the object once this value is put beside a key, with the room that the key needs
+abbrev pub IsPut : Store WellFormed → List ℕ → WellFormed → Store WellFormed → Type 0
+IsPut s key w n = (n.pairs ≡ put s.pairs key w) × grown_at (at s.pairs key) (length s.pairs) s.capacity n.capacity
+
+-- the value beside a key that is put where it is not there; or no room for that: then the object is as it was
+abbrev pub LendsPut : {E : Type 0} → MutBor (Store WellFormed) → List ℕ → Result (MutBor WellFormed) E → Fml
+LendsPut s key r =
+    LendsSoOk object.the_row value.the_row s r (λ n w. IsPut s.now key w n) (λ n. (n.pairs ≡ s.now.pairs) × (n.capacity ≡ s.now.capacity))

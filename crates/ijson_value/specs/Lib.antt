@@ -1,9 +1,13 @@
 pub mod AtKey
+pub mod EntryParts
+pub mod FindsEntry
 pub mod Gives
 pub mod GrowthOf
+pub mod InsertsEach
 pub mod Integers
 pub mod Kind
 pub mod LendsAtKey
+pub mod LendsEntry
 pub mod LendsItem
 pub mod LendsPart
 pub mod LendsStep
@@ -11,6 +15,7 @@ pub mod LendsValue
 pub mod Length
 pub mod NodeValue
 pub mod Opened
+pub mod Retains
 pub mod Same
 pub mod SameTest
 pub mod Sequence
@@ -18,5 +23,6 @@ pub mod Step
 pub mod Tree
 pub mod Values
 pub mod WellFormed
+pub mod WithEntry
 pub mod laws
 pub mod private

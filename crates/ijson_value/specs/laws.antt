@@ -1,4 +1,5 @@
 pub mod ArrayFalls
+pub mod EntryValid
 pub mod Equality
 pub mod Falls
 pub mod HoldsWellFormed

@@ -1,10 +1,14 @@
 //! Objects: pairs of a key and a value, in order, with distinct keys.
 
 mod access;
+mod entry;
+mod extend;
 mod index;
 mod iter;
 mod map;
+mod retain;
 
+pub use entry::{Entry, OccupiedEntry, RefusedKey, VacantEntry};
 pub use index::ObjectIndex;
 pub use iter::{IntoIter, Iter, Keys, Values};
 pub use map::{IObject, RefusedPair};

@@ -77,16 +77,24 @@ fn insert_all<P: PairStore<u64>>(
     run(alloc, store, commands)
 }
 
-/// Takes out one key.
+/// Takes out one key. The last pair moves there.
 fn remove<P: PairStore<u64>>(
     alloc: Global,
     store: &mut P,
     key: &str,
 ) -> Result<Vec<Reply<u64>>, AllocError> {
     let key = IString::intern(&mut empty_cache(alloc), key)?;
-    let mut commands = Vec::new(alloc);
-    commands.push(Command::Remove(key))?;
-    run(alloc, store, commands)
+    run(alloc, store, vec![in alloc; Command::Remove(key)]?)
+}
+
+/// Takes out one key. Those behind it move one forward.
+fn shift_remove<P: PairStore<u64>>(
+    alloc: Global,
+    store: &mut P,
+    key: &str,
+) -> Result<Vec<Reply<u64>>, AllocError> {
+    let key = IString::intern(&mut empty_cache(alloc), key)?;
+    run(alloc, store, vec![in alloc; Command::ShiftRemove(key)]?)
 }
 
 /// Whether these are the keys, in order.
@@ -112,6 +120,12 @@ fn lengths_meet(rt: HostRuntime) -> Result<(), AllocError> {
     assert!(rt; shown(alloc, &table)?.as_slice() == [9, 2, 1, 0, 9].as_slice());
     assert_eq!(rt; table.position("c"), Some(2));
     assert_eq!(rt; table.position("dd"), Some(0));
+    let mut table: Table<u64, ByLength> = Table::new(alloc);
+    insert_all(alloc, &mut table, &["a", "bb", "c", "dd"])?;
+    shift_remove(alloc, &mut table, "a")?;
+    assert!(rt; has_keys(table.as_slice(), &["bb", "c", "dd"]));
+    assert!(rt; shown(alloc, &table)?.as_slice() == [9, 1, 0, 2, 9].as_slice());
+    assert_eq!(rt; table.position("dd"), Some(2));
     Ok(())
 }
 
@@ -200,27 +214,33 @@ fn keeps_order_and_capacity<P: PairStore<u64>>(
     let replies = insert_all(alloc, store, &["a", "b", "c", "d", "e"])?;
     assert!(rt; replies.iter().all(|reply| matches!(reply, Reply::Added)));
     assert_eq!(rt; (store.len(), store.capacity()), (5, 8));
-    remove(alloc, store, "e")?;
-    remove(alloc, store, "b")?;
-    assert_eq!(rt;
-        (
-            store.position("a"),
-            store.position("d"),
-            store.position("c")
-        ),
-        (Some(0), Some(1), Some(2))
-    );
-    let gone = remove(alloc, store, "b")?;
+    let removed = shift_remove(alloc, store, "b")?;
     assert!(rt;
-        gone.iter()
-            .all(|reply| matches!(reply, Reply::Removed(None)))
+        removed
+            .iter()
+            .all(|reply| matches!(reply, Reply::Removed(Some((_, 1)))))
     );
+    for (i, key) in ["a", "c", "d", "e"].iter().enumerate() {
+        assert_eq!(rt; store.position(key), Some(i));
+    }
+    remove(alloc, store, "e")?;
+    remove(alloc, store, "a")?;
+    assert_eq!(rt;
+        (store.position("d"), store.position("c")),
+        (Some(0), Some(1))
+    );
+    for gone in [remove(alloc, store, "b")?, shift_remove(alloc, store, "b")?].iter() {
+        assert!(rt;
+            gone.iter()
+                .all(|reply| matches!(reply, Reply::Removed(None)))
+        );
+    }
     assert_eq!(rt; store.capacity(), 8);
     assert!(rt; store.shrink_to_fit().is_ok());
-    assert_eq!(rt; (store.len(), store.capacity()), (3, 3));
+    assert_eq!(rt; (store.len(), store.capacity()), (2, 2));
     assert!(rt; store.reserve(usize::MAX) == Err(ReserveError::TooLarge));
     store.clear();
-    assert_eq!(rt; (store.len(), store.capacity()), (0, 3));
+    assert_eq!(rt; (store.len(), store.capacity()), (0, 2));
     Ok(())
 }
 
@@ -273,32 +293,6 @@ fn a_run(rt: HostRuntime) -> Result<(), AllocError> {
     expected.push(Reply::Done)?;
     assert!(rt; replies.as_slice() == expected.as_slice());
     assert_eq!(rt; store.capacity(), 0);
-    Ok(())
-}
-
-/// A text of one byte, which takes no memory.
-fn key(alloc: Global, text: &str) -> Result<IString, AllocError> {
-    IString::intern(&mut empty_cache(alloc), text)
-}
-
-#[test]
-fn pairs_are_put_in_the_room_that_there_is(rt: HostRuntime) -> Result<(), AllocError> {
-    let alloc = rt.alloc();
-    let mut linear = LinearPairs::new(alloc);
-    let mut table: Table<u64, AlwaysZero> = Table::new(alloc);
-    let mut fixed = FixedTable::new(alloc);
-    for value in 1..3 {
-        if linear.reserve(1).is_ok() && linear.len() < linear.capacity() {
-            assert!(rt; linear.put(key(alloc, "a")?, value).unwrap_or(0) == value - 1);
-        }
-        if table.reserve(1).is_ok() && table.len() < table.capacity() {
-            assert!(rt; table.put(key(alloc, "a")?, value).unwrap_or(0) == value - 1);
-        }
-        if fixed.reserve(1).is_ok() && fixed.len() < fixed.capacity() {
-            assert!(rt; fixed.put(key(alloc, "a")?, value).unwrap_or(0) == value - 1);
-        }
-    }
-    assert_eq!(rt; (linear.len(), table.len(), fixed.len()), (1, 1, 1));
     Ok(())
 }
 

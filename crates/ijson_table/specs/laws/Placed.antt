@@ -14,13 +14,15 @@ use Rattle.ijson_table.specs.private.Room.{HasRoom}
 
 abbrev pub placed_code : {V : Type 0} → Coded V → Coded (Placed V)
 placed_code {V} c =
-    code_by (Store V × List (Option ℕ)) (coded× (store_code c) (coded_list (coded_option coded_ℕ))) (λ t. (t.store, t.places)) (λ v. record { store = v.0; places = v.1 }) (λ _. refl)
+    code_by (Store V × List (Option ℕ)) (coded× (store_code c) (coded_list (coded_option coded_ℕ))) (λ t. (t.store, t.places))
+    (λ v. record { store = v.0; places = v.1 }) (λ _. refl)
 
 -- the store with this value at i, its places left
 abbrev pub placed_with_value : {V : Type 0} → Placed V → ℕ → V → Placed V
 placed_with_value t i value = record { store = store_with_value t.store i value; places = t.places }
 
-pub IsPlaced-prop : {V : Type 0} (hash : List ℕ → ℕ) (pairs : List (List ℕ × V)) (capacity : ℕ) (places : Index) → IsProp (IsPlaced hash pairs capacity places)
+pub IsPlaced-prop : {V : Type 0} (hash : List ℕ → ℕ) (pairs : List (List ℕ × V)) (capacity : ℕ) (places : Index)
+    → IsProp (IsPlaced hash pairs capacity places)
 IsPlaced-prop hash pairs capacity places x y =
     let hashes_prop : IsProp (places.hashes ≡ map hash (keys_of pairs)) = hlevel props in
     let size_prop : IsProp (length places.slots ≡ place_count capacity) = hlevel props in

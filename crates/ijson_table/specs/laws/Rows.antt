@@ -25,7 +25,8 @@ unfolding crowd homed distance
 crowd_of_none = refl
 
 -- empty, a, c, bb, dd
-displacements : map (displacement (map by_length four) (None ∷ Some 0 ∷ Some 2 ∷ Some 1 ∷ Some 3 ∷ [])) (0 ∷ 1 ∷ 2 ∷ 3 ∷ 4 ∷ []) ≡ 0 ∷ 1 ∷ 2 ∷ 2 ∷ 3 ∷ []
+displacements : map (displacement (map by_length four) (None ∷ Some 0 ∷ Some 2 ∷ Some 1 ∷ Some 3 ∷ []))
+    (0 ∷ 1 ∷ 2 ∷ 3 ∷ 4 ∷ []) ≡ 0 ∷ 1 ∷ 2 ∷ 2 ∷ 3 ∷ []
 unfolding displacement home_at distance
 displacements = refl
 

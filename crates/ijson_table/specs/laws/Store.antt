@@ -18,7 +18,8 @@ Parts V = ((pairs : List (List ℕ × V)) × IsDistinct (keys_of pairs)) × ℕ
 
 abbrev pub store_code : {V : Type 0} → Coded V → Coded (Store V)
 store_code {V} c =
-    code_by (Parts V) (coded× (coded_sub (coded_list (coded× (coded_list coded_ℕ) c)) (λ pairs. IsDistinct (keys_of pairs)) (λ pairs. IsDistinct-prop (keys_of pairs))) coded_ℕ)
+    code_by (Parts V) (coded× (coded_sub (coded_list (coded× (coded_list coded_ℕ) c)) (λ pairs. IsDistinct (keys_of pairs))
+    (λ pairs. IsDistinct-prop (keys_of pairs))) coded_ℕ)
     (λ s. ((s.pairs, s.distinct), s.capacity)) (λ p. record { pairs = p.0.0; capacity = p.1; distinct = p.0.1 }) (λ _. refl)
 
 pub keys-with_value : {V : Type 0} (pairs : List (List ℕ × V)) (i : ℕ) (value : V) → keys_of (with_value pairs i value) ≡ keys_of pairs
@@ -28,4 +29,8 @@ keys-with_value (pair ∷ pairs) (suc i) value = ap (λ ks. pair.0 ∷ ks) (keys
 
 -- the store with this value at i, its keys and its capacity left
 abbrev pub store_with_value : {V : Type 0} → Store V → ℕ → V → Store V
-store_with_value s i value = record { pairs = with_value s.pairs i value; capacity = s.capacity; distinct = subst IsDistinct (sym (keys-with_value s.pairs i value)) s.distinct }
+store_with_value s i value = record {
+  pairs = with_value s.pairs i value;
+  capacity = s.capacity;
+  distinct = subst IsDistinct (sym (keys-with_value s.pairs i value)) s.distinct;
+}

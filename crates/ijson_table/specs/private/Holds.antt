@@ -27,7 +27,8 @@ pub record MayStand (hashes : List ℕ) (places : List (Option ℕ)) (i p : ℕ)
   pub led_to : (q : ℕ) → q < length places → after (length places) q ≡ p
       → distance (length places) (home_at (length places) hashes i) p ≤ displacement hashes places q
 
--- A table with a gap at p, behind which the order is open by one: a resident behind it may be one further from its home than a resident of p could be.
+-- A table with a gap at p, behind which the order is open by one: a resident behind it may be one further from its
+-- home than a resident of p could be.
 pub record HasGap (hashes : List ℕ) (places : List (Option ℕ)) (p : ℕ) : Type 0 where
   pub within : p < length places
   pub empty : resident places p ≡ None

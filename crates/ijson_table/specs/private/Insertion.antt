@@ -33,9 +33,9 @@ pub record IsTableOf (hashes : List ℕ) (places : List Place) : Type 0 where
   pub table : IsTable hashes (positions places)
   pub hashes_are : HaveHashes hashes places
 
--- These are the hashes of a position's key and of the last one's.
+-- These are the hashes of a position's key and of the last one's, which is another.
 pub record EndsWith (hashes : List ℕ) (position hash last last_hash : ℕ) : Type 0 where
-  pub within : position ≤ last
+  pub within : position < last
   pub is_last : last + 1 ≡ length hashes
   pub hash_is : hash ≡ get_or hashes position 0
   pub last_hash_is : last_hash ≡ get_or hashes last 0

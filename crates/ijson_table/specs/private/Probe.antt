@@ -10,7 +10,8 @@ use Rattle.ijson_table.specs.Places.{resident}
 unfoldable pub onward : ℕ → ℕ → ℕ → ℕ
 onward n p k = (if ltb (p + k) n then p + k else p + k - n)
 
--- what one look of a probe tells: whether the place is empty; else the position there, how far it is displaced, and whether it is what the probe seeks
+-- what one look of a probe tells: whether the place is empty; else the position there, how far it is displaced, and
+-- whether it is what the probe seeks
 abbrev pub LooksAt : List (Option ℕ) → (ℕ → ℕ) → (ℕ → Bool) → ℕ → Seen → Type 0
 LooksAt places displacements seeks p Empty = (resident places p ≡ None) × (displacements p ≡ 0)
 LooksAt places displacements seeks p (Resident i d same) =
@@ -33,7 +34,8 @@ pub record EndsAt (places : List (Option ℕ)) (displacements : ℕ → ℕ) (h 
   pub others : PassedOthers places seeks h m
   pub looked : looks ≡ m + 1
 
--- How a probe from home h ends, by so many looks: at what it seeks, at an empty place or a resident that is displaced no further than the probe, or after all places.
+-- How a probe from home h ends, by so many looks: at what it seeks, at an empty place or a resident that is displaced
+-- no further than the probe, or after all places.
 abbrev pub Ends : List (Option ℕ) → (ℕ → ℕ) → ℕ → (ℕ → Bool) → ℕ → Probed → Type 0
 Ends places displacements h seeks looks (Found at p) =
     (m : ℕ) × EndsAt places displacements h seeks looks p m

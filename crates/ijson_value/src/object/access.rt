@@ -1,7 +1,7 @@
 //! The pairs of an object by position.
 ghost use Rattle.std.specs.Prelude.{◌≡◌, ◌<◌, ◌++◌, ◌∷◌, ℕ, List, [], length, slice_get, option_map, IfSome};
 ghost use Rattle.std.specs.Borrow.{sem};
-ghost use Rattle.ijson_table.specs.Store.{at, swap_out};
+ghost use Rattle.ijson_table.specs.Store.{at, swap_out, shift_out};
 ghost use Rattle.ijson_value.specs.LendsValue.{LendsValue, LendsValueIf};
 
 use super::map::IObject;
@@ -80,5 +80,15 @@ impl IObject {
         ensures capacity { self.new.capacity ≡ self.old.capacity }
     {
         self.table.as_mut().unwrap().swap_out(position)
+    }
+
+    /// Takes out the pair at a position. Those behind it close up.
+    pub(super) fn shift_out(&mut self, position: usize) -> (IString, IValue)
+        requires { position < length self.old.pairs }
+        ensures pair { slice_get self.old.pairs position ≡ Some result }
+        ensures pairs { self.new.pairs ≡ shift_out self.old.pairs position }
+        ensures capacity { self.new.capacity ≡ self.old.capacity }
+    {
+        self.table.as_mut().unwrap().shift_out(position)
     }
 }

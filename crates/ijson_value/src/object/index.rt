@@ -1,13 +1,15 @@
 //! An object by key.
-ghost use Rattle.std.specs.Prelude.{◌≡◌, ℕ, List, Some, option_map, IsSome, IsTrue, ◌↔◌};
+ghost use Rattle.std.specs.Prelude.{◌≡◌, ℕ, List, Some, option_map, IsSome, IsTrue, IfOk, IfErr, ◌↔◌};
 ghost use Rattle.std.specs.Borrow.{sem};
 ghost use Rattle.std.specs.Map.Iter.{deref_pair};
-ghost use Rattle.std.specs.Option.{option_copied, option_copied_mut};
+ghost use Rattle.std.specs.Option.{option_copied, option_copied_mut, unwrap_or};
 ghost use Rattle.ijson_table.specs.Store.{at, lookup};
-ghost use Rattle.ijson_value.specs.AtKey.{pair_at_key, swap_out_key};
-ghost use Rattle.ijson_value.specs.LendsAtKey.{LendsAtKey, LendsAtKeyIf};
+ghost use Rattle.ijson_value.specs.AtKey.{pair_at_key, shift_out_key, swap_out_key};
+ghost use Rattle.ijson_value.specs.LendsAtKey.{LendsAtKey, LendsAtKeyIf, LendsPut};
+ghost use Rattle.ijson_value.specs.FindsEntry.{FindsNoRoom};
+ghost use Rattle.ijson_value.specs.Values.{null_value};
 
-use super::map::IObject;
+use super::map::{IObject, RefusedPair};
 use crate::value::IValue;
 use ijson_string::IString;
 use std::ops::{Index, IndexMut};
@@ -65,6 +67,18 @@ pub trait ObjectIndex: Sealed + Copy {
     {
         match v.position(self.as_key()) {
             Some(position) => Some(v.swap_out(position)),
+            None => None,
+        }
+    }
+
+    /// Takes the pair with the key out. Those behind it close up, so the order stays.
+    fn shift_remove(self, v: &mut IObject) -> Option<(IString, IValue)>
+        ensures pair { result ≡ pair_at_key (Self.Sealed.key self) v.old.pairs }
+        ensures pairs { v.new.pairs ≡ shift_out_key (Self.Sealed.key self) v.old.pairs }
+        ensures capacity { v.new.capacity ≡ v.old.capacity }
+    {
+        match v.position(self.as_key()) {
+            Some(position) => Some(v.shift_out(position)),
             None => None,
         }
     }
@@ -129,6 +143,52 @@ impl IObject {
         ensures capacity { self.new.capacity ≡ self.old.capacity }
     {
         index.remove(self)
+    }
+
+    /// Takes the pair with a key out, and answers its value. Those behind it close up, so the order stays.
+    #[tactic(auto, using(crate::proofs::Objects::lookup_pair))]
+    pub fn shift_remove<I: ObjectIndex>(&mut self, index: I) -> Option<IValue>
+        ensures value { result ≡ lookup (I.Sealed.key index) self.old.pairs }
+        ensures pairs { self.new.pairs ≡ shift_out_key (I.Sealed.key index) self.old.pairs }
+        ensures capacity { self.new.capacity ≡ self.old.capacity }
+    {
+        Some(index.shift_remove(self)?.1)
+    }
+
+    /// Takes the pair with a key out. Those behind it close up, so the order stays.
+    pub fn shift_remove_entry<I: ObjectIndex>(&mut self, index: I) -> Option<(IString, IValue)>
+        ensures pair { result ≡ pair_at_key (I.Sealed.key index) self.old.pairs }
+        ensures pairs { self.new.pairs ≡ shift_out_key (I.Sealed.key index) self.old.pairs }
+        ensures capacity { self.new.capacity ≡ self.old.capacity }
+    {
+        index.shift_remove(self)
+    }
+}
+
+impl IObject {
+    /// The value beside a key, to be written. A key that is not there is put last with null beside it; where there is no room
+    /// for that, the key comes back with null.
+    pub fn index_or_insert(&mut self, key: IString) -> Result<&mut IValue, RefusedPair>
+        ensures* writes_back { sem 𝓛 (LendsPut self.entry key result) }
+        ensures value { IfOk result (λ value. value.now ≡ unwrap_or (lookup key self.old.pairs) null_value) }
+        ensures refused { IfErr result (λ refused. (refused.key ≡ key)
+            × (refused.value ≡ null_value) × FindsNoRoom self.old key refused.why) }
+    {
+        match self.position(key.as_str()) {
+            Some(position) => Ok(self.value_mut(position)),
+            None => match self.reserve(1) {
+                Ok(()) => {
+                    let position = self.len();
+                    self.push_new(key, IValue::default());
+                    Ok(self.value_mut(position))
+                }
+                Err(why) => Err(RefusedPair {
+                    key,
+                    value: IValue::default(),
+                    why,
+                }),
+            },
+        }
     }
 }
 

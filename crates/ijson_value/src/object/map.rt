@@ -3,7 +3,7 @@ ghost use Rattle.std.specs.Prelude.{◌≡◌, ◌==◌, ◌<◌, ◌≤◌, [],
 ghost use Rattle.std.specs.Option.{option_copied};
 ghost use Rattle.ijson_table.specs.Growth.{Grow, Shrink, capacity_limit};
 ghost use Rattle.ijson_table.specs.Store.{lookup, put};
-ghost use Rattle.ijson_value.specs.GrowthOf.{growth_of};
+ghost use Rattle.ijson_table.specs.Inserts.{Inserts};
 ghost use Rattle.ijson_value.specs.Same.{Same};
 ghost use Rattle.ijson_value.specs.SameTest.{same};
 ghost use Rattle.ijson_value.specs.Values.{object_tree, object_value};
@@ -16,7 +16,6 @@ use ijson_table::{FixedTable, PairStore, ReserveError};
 use std::alloc::Global;
 use std::marker::Model;
 use std::mem::size_of;
-use thiserror::Error;
 
 /// Pairs of a key and a value in order, where no key stands twice. A key is found by its hash, however many there are.
 /// It lies behind one pointer, and an object that has taken no memory yet is without it.
@@ -51,13 +50,7 @@ impl Model for IObject {
 }
 
 /// A pair that an object did not take, and why it did not grow.
-#[derive(Debug, Drop, Error)]
-#[error("the object did not grow for one more pair: {why}")]
-pub struct RefusedPair {
-    pub key: IString,
-    pub value: IValue,
-    pub why: ReserveError,
-}
+pub type RefusedPair = ijson_table::RefusedPair<IValue>;
 
 impl IObject {
     /// An object with no pairs and the capacity 0. It takes no memory.
@@ -160,20 +153,22 @@ impl IObject {
         }
     }
 
-    /// Puts a pair. A key that is there keeps its place, and its old value is answered; a new key goes last. First there
-    /// is room made for one pair more, and where that is refused the pair comes back.
+    /// Puts a pair. A key that is there keeps its place and needs no memory, and its old value is answered; a new key goes
+    /// last, in room that is made first where there is none. Where that is refused, the pair comes back.
     pub fn insert(&mut self, key: IString, value: IValue) -> Result<Option<IValue>, RefusedPair>
-        ensures growth { Grow (length self.old.pairs) self.old.capacity 1 (growth_of result)
+        ensures { Inserts self.old.pairs self.old.capacity key value result self.new.pairs
             self.new.capacity }
-        ensures pairs { OnOk result (self.new.pairs ≡ put self.old.pairs key value) }
-        ensures answer { IfOk result (λ old. old ≡ lookup key self.old.pairs) }
-        ensures refused { IfErr result (λ refused.
-            (refused.key ≡ key) × (refused.value ≡ value) × (self.new.pairs ≡ self.old.pairs)) }
     {
-        if let Err(why) = self.reserve(1) {
-            return Err(RefusedPair { key, value, why });
+        if self.table.is_none() {
+            match Box::new(self.alloc, FixedTable::new(self.alloc)) {
+                Ok(table) => self.table = Some(table),
+                Err(_) => {
+                    let why = ReserveError::Memory;
+                    return Err(RefusedPair { key, value, why });
+                }
+            }
         }
-        Ok(self.table.as_mut().unwrap().put(key, value))
+        self.table.as_mut().unwrap().insert(key, value)
     }
 
     /// The pairs, front to back.

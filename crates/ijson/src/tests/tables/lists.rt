@@ -54,7 +54,8 @@ fn commands(alloc: Global, seed: u64) -> Result<Vec<Command<u64>>, AllocError> {
         let command = match (state >> 40) % 64 {
             0..=35 => Command::Insert(key, state),
             36..=43 => Command::Find(key),
-            44..=55 => Command::Remove(key),
+            44..=49 => Command::Remove(key),
+            50..=55 => Command::ShiftRemove(key),
             56..=59 => Command::Reserve((state >> 20) as usize % 12),
             60..=62 => Command::ShrinkToFit,
             _ => Command::Clear,
@@ -89,22 +90,18 @@ fn agree<P: PairStore<u64>, Q: PairStore<u64>>(
     Ok(true)
 }
 
-/// Whether `put` and `get` answer as the insertions and look-ups of `run` do.
-fn put_and_get_agree(alloc: Global, seed: u64) -> Result<bool, AllocError> {
+/// Whether `insert` and `get` answer as the insertions and look-ups of `run` do.
+fn insert_and_get_agree(alloc: Global, seed: u64) -> Result<bool, AllocError> {
     let expected = run(alloc, &mut LinearPairs::new(alloc), commands(alloc, seed)?)?;
     let mut table = FixedTable::<u64>::new(alloc);
     let mut replies = Vec::new(alloc);
     for command in commands(alloc, seed)? {
         let reply = match command {
-            Command::Insert(key, value) => {
-                if let Err(_) = table.reserve(1) {
-                    return Ok(false);
-                }
-                match table.put(key, value) {
-                    Some(old) => Reply::Replaced(old),
-                    None => Reply::Added,
-                }
-            }
+            Command::Insert(key, value) => match table.insert(key, value) {
+                Ok(None) => Reply::Added,
+                Ok(Some(old)) => Reply::Replaced(old),
+                Err(refused) => Reply::Refused(refused.key, refused.value, refused.why),
+            },
             Command::Find(key) => match table.get(key.as_str()) {
                 Some(_) => Reply::Found(table.position(key.as_str())),
                 None => Reply::Found(None),
@@ -148,7 +145,7 @@ fn stores_agree(rt: HostRuntime) -> Result<(), AllocError> {
         );
         let linear = &mut LinearPairs::new(alloc);
         assert!(rt; agree(alloc, seed, &mut FixedTable::new(alloc), linear)?);
-        assert!(rt; put_and_get_agree(alloc, seed)?);
+        assert!(rt; insert_and_get_agree(alloc, seed)?);
     }
     Ok(())
 }

@@ -3,18 +3,25 @@
 use super::super::empty_cache;
 use super::AlwaysZero;
 use crate::string::IString;
-use crate::table::{Command, FixedTable, LinearPairs, PairStore, Reply, ReserveError, Table, run};
+use crate::table::{
+    Command, FixedTable, LinearPairs, PairStore, RefusedPair, Reply, ReserveError, Table, run,
+};
 use std::alloc::{AllocError, Global};
 use std::process::Abort;
 
-/// Adds a pair where there is room. A key of one byte takes no memory.
+/// A text of one byte, which takes no memory.
+fn key(alloc: Global, text: &str) -> Result<IString, AllocError> {
+    IString::intern(&mut empty_cache(alloc), text)
+}
+
+/// Adds a pair where there is room.
 fn add<P: PairStore<u32>>(
     alloc: Global,
     store: &mut P,
     text: &str,
     value: u32,
 ) -> Result<(), AllocError> {
-    let key = IString::intern(&mut empty_cache(alloc), text)?;
+    let key = key(alloc, text)?;
     if store.position(text).is_none() && store.len() < store.capacity() {
         store.push_new(key, value);
     }
@@ -59,30 +66,49 @@ fn asks_again<P: PairStore<u32>>(
     Ok(())
 }
 
+/// What an insertion of e into a full store may answer: the pair is new, or it comes back.
+fn added_or_back(answer: Result<Option<u32>, RefusedPair<u32>>) -> bool {
+    match answer {
+        Ok(old) => old.is_none(),
+        Err(refused) => {
+            refused.key.eq_str("e") && refused.value == 5 && refused.why == ReserveError::Memory
+        }
+    }
+}
+
 #[test]
 fn linear_pairs(rt: HostRuntime) -> Result<(), AllocError> {
     let alloc = rt.alloc();
-    asks_again(&rt, alloc, &mut LinearPairs::new(alloc))
+    let mut store = LinearPairs::new(alloc);
+    asks_again(&rt, alloc, &mut store)?;
+    assert!(rt; matches!(store.insert(key(alloc, "a")?, 9), Ok(Some(1))) && holds_four(&store, 4));
+    assert!(rt; added_or_back(store.insert(key(alloc, "e")?, 5)));
+    Ok(())
 }
 
 #[test]
 fn a_table(rt: HostRuntime) -> Result<(), AllocError> {
     let alloc = rt.alloc();
-    asks_again(&rt, alloc, &mut Table::<u32, AlwaysZero>::new(alloc))
+    let mut store: Table<u32, AlwaysZero> = Table::new(alloc);
+    asks_again(&rt, alloc, &mut store)?;
+    assert!(rt; matches!(store.insert(key(alloc, "a")?, 9), Ok(Some(1))) && holds_four(&store, 4));
+    assert!(rt; added_or_back(store.insert(key(alloc, "e")?, 5)));
+    Ok(())
 }
 
 #[test]
 fn a_fixed_table(rt: HostRuntime) -> Result<(), AllocError> {
     let alloc = rt.alloc();
-    asks_again(&rt, alloc, &mut FixedTable::new(alloc))
+    let mut store = FixedTable::new(alloc);
+    asks_again(&rt, alloc, &mut store)?;
+    assert!(rt; matches!(store.insert(key(alloc, "a")?, 9), Ok(Some(1))) && holds_four(&store, 4));
+    assert!(rt; added_or_back(store.insert(key(alloc, "e")?, 5)));
+    Ok(())
 }
 
 /// One command that inserts a.
 fn insertion(alloc: Global) -> Result<Vec<Command<u32>>, AllocError> {
-    let key = IString::intern(&mut empty_cache(alloc), "a")?;
-    let mut commands = Vec::new(alloc);
-    commands.push(Command::Insert(key, 1))?;
-    Ok(commands)
+    Ok(vec![in alloc; Command::Insert(key(alloc, "a")?, 1)]?)
 }
 
 #[test]

@@ -1,6 +1,6 @@
-use Rattle.std.proofs.Common.{◌≡◌, ℕ, ◌+◌, ◌<◌, List, length, get_or, set, Option, Some, None, arith, ap, sym, ◌∙◌, subst}
+use Rattle.std.proofs.Common.{◌≡◌, ℕ, ◌+◌, ◌<◌, ◌≤◌, List, length, get_or, set, Option, Some, None, arith, ap, sym, ◌∙◌, subst}
 use Rattle.ijson_table.specs.declared.place.Place.{Place}
-use Rattle.ijson_table.specs.Places.{after, displacement, resident, times}
+use Rattle.ijson_table.specs.Places.{after, displacement, resident, times, IsOrdered}
 use Rattle.ijson_table.specs.private.Holds.{HasGap}
 use Rattle.ijson_table.specs.private.PlaceHashes.{position_in, positions, blank}
 use Rattle.ijson_table.proofs.Walk.{displacement-none}
@@ -8,27 +8,25 @@ use Rattle.ijson_table.proofs.Gaps.{gap_closed, moved_back, times-moved_back, sh
 use Rattle.ijson_table.proofs.PlaceFacts.{positions-length, positions-put, positions-set, position-at, nothing_has_hash, hashes-at, hashes-set, displacement-read}
 use Rattle.ijson_table.proofs.shifts.shift_back.Goals as goal
 
+-- where nothing behind the gap may move back
+closed_before : (hashes : List ℕ) (places : List Place) (gap next : ℕ) → HasGap hashes (positions places) gap → next ≡ after (length places) gap → displacement hashes (positions places) next ≤ 1 → IsOrdered hashes (positions places)
+closed_before hashes places gap next left to near =
+    let reached : next ≡ after (length (positions places)) gap = to ∙ ap (λ n. after n gap) (sym (positions-length places)) in
+    gap_closed hashes (positions places) gap left.within left (omega (arith, near, ap (displacement hashes (positions places)) reached))
+
 pub returns-in_default-clause-ordered : goal.returns-in_default-clause-ordered
 returns-in_default-clause-ordered g c =
-    let hashes : List ℕ = g.hashes in
-    let places : List (Option ℕ) = positions c.loop-resident.places in
-    let gap : ℕ = c.loop-resident.gap in
+    let places : List Place = c.loop-resident.places in
     let next : ℕ = c.next_place-next.result in
-    let size : length places ≡ length c.loop-resident.places = positions-length c.loop-resident.places in
-    let to : next ≡ after (length places) gap = c.next_place-next.ensures.place ∙ ap (λ n. after n gap) (sym size) in
-    let none : displacement hashes places next ≡ 0 = displacement-none hashes places next (position-at c.loop-resident.places next None c.next_place-next.ensures.within (sym c.in_default.is ∙ c.position.ensures)) in
-    gap_closed hashes places gap (c.loop-resident.invariant.gap.within) c.loop-resident.invariant.gap (omega (arith, none, ap (displacement hashes places) to))
+    closed_before g.hashes places c.loop-resident.gap next c.loop-resident.invariant.gap c.next_place-next.ensures.place
+    (omega (arith, displacement-none g.hashes (positions places) next (position-at places next None c.next_place-next.ensures.within (sym c.in_default.is ∙ c.position.ensures))))
 
 pub returns-then-distance-eq0-clause-ordered : goal.returns-then-distance-eq0-clause-ordered
 returns-then-distance-eq0-clause-ordered g c =
-    let hashes : List ℕ = g.hashes in
-    let places : List (Option ℕ) = positions c.loop-resident.places in
-    let gap : ℕ = c.loop-resident.gap in
+    let places : List Place = c.loop-resident.places in
     let next : ℕ = c.next_place-next.result in
-    let size : length places ≡ length c.loop-resident.places = positions-length c.loop-resident.places in
-    let to : next ≡ after (length places) gap = c.next_place-next.ensures.place ∙ ap (λ n. after n gap) (sym size) in
-    let is : displacement hashes places next ≡ c.distance.result + 1 = displacement-read hashes c.loop-resident.places next c.in-Some._resident c.distance.result c.loop-resident.invariant.hashes c.next_place-next.ensures.within (sym c.in-Some.is ∙ c.position.ensures) c.distance.ensures in
-    gap_closed hashes places gap (c.loop-resident.invariant.gap.within) c.loop-resident.invariant.gap (omega (arith, is, c.if-distance-eq0.true, ap (displacement hashes places) to))
+    let is = displacement-read g.hashes places next c.in-Some._resident c.distance.result c.loop-resident.invariant.hashes c.next_place-next.ensures.within (sym c.in-Some.is ∙ c.position.ensures) c.distance.ensures in
+    closed_before g.hashes places c.loop-resident.gap next c.loop-resident.invariant.gap c.next_place-next.ensures.place (omega (arith, is, c.if-distance-eq0.true))
 
 -- a resident is moved one place back: what that does to the positions
 moved : (places : List Place) (gap next i : ℕ) (empty : Place) → Some i ≡ position_in (get_or places next blank) → position_in empty ≡ None

@@ -40,7 +40,8 @@ fields = via (the_former this) (λ X. Inside X) (λ X u. u.table) (λ X v. recor
 
 module _ (R S : RattleType) (h : R.Denot → S.Denot) where
   pub the_places : Alike R S h → Alike (C.the_row R) (C.the_row S) ((the_former this).map R.Denot S.Denot h)
-  the_places a = view_places fields (the_former this) (λ X. view X) (λ X Y k u. refl) (λ X u. refl) R.Denot S.Denot h (C.the_row R).coded (C.the_row S).coded
+  the_places a = view_places fields (the_former this) (λ X. view X) (λ X Y k u. refl) (λ X u. refl) R.Denot S.Denot h
+      (C.the_row R).coded (C.the_row S).coded
       (invariant R.Denot) (invariant S.Denot) (λ u p q. refl) (λ u p q. refl) (λ u e. tt) (λ u e. tt)
       (within (I.the_row R)) (within (I.the_row S))
       (struct_places (I.the_type R) (I.the_type S) ((the_former this).map R.Denot S.Denot h, tt) _ (λ d. refl) refl

@@ -1,10 +1,10 @@
-use Rattle.std.proofs.Common.{◌≡◌, ◌<◌, ℕ, [], ◌∷◌, ◌++◌, List, length, take, drop, None, arith, ap, sym, ◌∙◌, subst}
+use Rattle.std.proofs.Common.{◌≡◌, [], ◌∷◌, ◌++◌, List, length, arith, ap, sym, ◌∙◌, subst}
 use Rattle.ijson_table.specs.declared.place.Place.{Place}
-use Rattle.ijson_table.specs.private.Holds.{with_one, Holds, MayStand}
+use Rattle.ijson_table.specs.private.Holds.{MayStand}
 use Rattle.ijson_table.specs.private.Insertion.{Accepts}
-use Rattle.ijson_table.specs.private.PlaceHashes.{positions, hashes_of, HaveHashes}
-use Rattle.ijson_table.specs.private.PlaceList.{Index, IsIndex}
-use Rattle.ijson_table.proofs.Indexes.{whole, accepts, pushed, IsIndexOf}
+use Rattle.ijson_table.specs.private.PlaceHashes.{positions, hashes_of}
+use Rattle.ijson_table.specs.private.PlaceList.{Index}
+use Rattle.ijson_table.proofs.Indexes.{accepts, after_push}
 use Rattle.ijson_table.proofs.PlaceFacts.{positions-length}
 use Rattle.ijson_table.proofs.place_list.PlaceList.push_at.Goals as goal
 
@@ -18,14 +18,6 @@ shift_forward-requires c =
       subst (λ ps. MayStand (hashes_of ps ++ c.args.hash ∷ []) (positions ps) c.args.position c.args.place) (sym c.deref_mut.ensures.value)
           (subst (λ (l : Index). MayStand (l.hashes ++ c.args.hash ∷ []) l.slots c.args.position c.args.place) (sym c.self.view_is) c.requires.may),
     )
-
--- the places after the call, and their hashes
-after_push : (old lent new : List Place) (position hash len : ℕ) → IsIndex old → position ≡ length (hashes_of old) → position < length old → lent ≡ old → length new ≡ length lent → len ≡ length old
-    → Holds (hashes_of lent ++ hash ∷ []) (with_one (positions lent) position) None (positions new) → HaveHashes (hashes_of lent ++ hash ∷ []) new → IsIndexOf (hashes_of old ++ hash ∷ []) (take len (new ++ drop (length new) old))
-after_push old lent new position hash len index next room is same size held have =
-    let now : length new ≡ length old = same ∙ ap length is in
-    subst (IsIndexOf (hashes_of old ++ hash ∷ [])) (sym (whole len new old now size))
-    (pushed old index position hash next room new now (subst (λ ps. Holds (hashes_of ps ++ hash ∷ []) (with_one (positions ps) position) None (positions new)) is held) (subst (λ ps. HaveHashes (hashes_of ps ++ hash ∷ []) new) is have))
 
 pub invariant_of-self : goal.invariant_of-self
 invariant_of-self c =

@@ -1,0 +1,41 @@
+use Rattle.std.proofs.Common.{◌≡◌, ◌<◌, [], ◌∷◌, ◌++◌, length, arith, refl, ap, sym, ◌∙◌, subst, Some, None}
+use Rattle.ijson_table.specs.Growth.{Grown}
+use Rattle.ijson_table.specs.Placed.{Placed}
+use Rattle.ijson_table.specs.Store.{at, keys_of, with_value, IsDistinct}
+use Rattle.ijson_table.proofs.Keys.{distinct_pushed, position_within, put-present, put-absent, lookup-found, lookup-absent}
+use Rattle.ijson_table.proofs.Tables.{had_room}
+use Rattle.ijson_table.proofs.table.Table.insert_counted.Goals as goal
+
+pub value_mut-requires : goal.value_mut-requires
+value_mut-requires g c = position_within c.args.self.now.store.pairs c.as_str-2.result.now c.in-Found.at c.in-Found.ensures.ends
+
+pub invariant_of-self-inside : goal.invariant_of-self-inside
+invariant_of-self-inside g c =
+    let old = c.self.inside.pairs.items in
+    let pairs = c.args.self.now.store.pairs in
+    let viewed : old ≡ pairs = ap (λ (t : Placed g.row.V.Denot). t.store.pairs) c.self.view_is in
+    let now : c.push_reserved.new.self.items ≡ old ++ (c.args.key, c.args.value) ∷ [] = c.push_reserved.ensures.items in
+    let missing : at old c.args.key ≡ None = ap (λ ps. at ps c.args.key) viewed ∙ (ap (at pairs) (sym c.as_str-2.ensures) ∙ c.in-Vacant.ensures.ends.0) in
+    (subst (λ ps. IsDistinct (keys_of ps)) (sym now) (distinct_pushed old c.args.key c.args.value c.self.inside.distinct missing), tt)
+
+pub returns-in-Found-clause-inserts : goal.returns-in-Found-clause-inserts
+returns-in-Found-clause-inserts g c =
+    let pairs = c.args.self.now.store.pairs in
+    let found : at pairs c.args.key ≡ Some c.in-Found.at = ap (at pairs) (sym c.as_str-2.ensures) ∙ c.in-Found.ensures.ends in
+    let told = c.value_mut.ensures.value in (
+      lookup-found pairs c.args.key c.in-Found.at (told.0, c.value_mut.result.now) found told.1 ∙ ap Some (sym c.replace.ensures.value),
+      ap (with_value pairs c.in-Found.at) c.replace.ensures.after ∙ sym (put-present pairs c.in-Found.at c.args.key c.args.value found),
+      refl,
+    )
+
+pub returns-in-Vacant-clause-inserts : goal.returns-in-Vacant-clause-inserts
+returns-in-Vacant-clause-inserts g c =
+    let old = c.self.inside.pairs.items in
+    let pairs = c.args.self.now.store.pairs in
+    let viewed : old ≡ pairs = ap (λ (t : Placed g.row.V.Denot). t.store.pairs) c.self.view_is in
+    let missing : at pairs c.args.key ≡ None = ap (at pairs) (sym c.as_str-2.ensures) ∙ c.in-Vacant.ensures.ends.0 in
+    let room : length old < c.self.inside.capacity = omega (arith, c.if-position-self.true, c.len-position.ensures) in (
+      lookup-absent pairs c.args.key missing,
+      c.push_reserved.ensures.items ∙ (ap (λ ps. ps ++ (c.args.key, c.args.value) ∷ []) viewed ∙ sym (put-absent pairs c.args.key c.args.value missing)),
+      subst (λ (t : Placed g.row.V.Denot). Grown (length t.store.pairs) t.store.capacity 1 c.self.inside.capacity) c.self.view_is (had_room (length old) c.self.inside.capacity room),
+    )

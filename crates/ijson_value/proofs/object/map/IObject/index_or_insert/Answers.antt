@@ -1,0 +1,71 @@
+use Rattle.std.proofs.Common.{◌≡◌, ◌++◌, ◌∷◌, [], ℕ, length, refl, sym, ap, subst, ◌∙◌, Some, None}
+use Rattle.std.specs.Prelude.{slice_get}
+use Rattle.std.specs.Option.{unwrap_or}
+use Rattle.std.proofs.lemmas.Bool.{false≢true}
+use Rattle.ijson_table.proofs.Keys.{put-present, put-absent, lookup-found, lookup-absent}
+use Rattle.ijson_table.specs.Growth.{Grown, Ungrown}
+use Rattle.ijson_table.specs.Store.{Store, at, with_value}
+use Rattle.ijson_value.specs.LendsAtKey.{grown_at}
+use Rattle.ijson_value.specs.Values.{null_value}
+use Rattle.ijson_value.specs.WellFormed.{WellFormed}
+use Rattle.ijson_value.proofs.Entries.{refused_capacity, written_last, got_last, same_value}
+use Rattle.ijson_value.proofs.object.map.IObject.index_or_insert.Goals as goal
+
+pub returns-in-Some : goal.returns-in-Some
+returns-in-Some c =
+    let old : Store WellFormed = c.args.self.now in let key = c.args.key in let i : ℕ = c.in-Some.position in
+    let found : at old.pairs key ≡ Some i = ap (at old.pairs) (sym c.as_str.ensures) ∙ sym c.position.ensures.position ∙ c.in-Some.is in
+    let got = c.value_mut.ensures.value in (
+      (
+        refl,
+        (λ w _. (
+          sym (put-present old.pairs i key w found),
+          subst (λ o. grown_at o (length old.pairs) old.capacity old.capacity) (sym found) refl,
+        )),
+        tt,
+      ),
+      record {
+        writes_back = tt;
+        value = ap (λ o. unwrap_or o null_value) (sym (lookup-found old.pairs key i (got.0, c.value_mut.result.now) found got.1));
+        refused = tt;
+      },
+    )
+
+pub returns-in-Ok : goal.returns-in-Ok
+returns-in-Ok c =
+    let old : Store WellFormed = c.args.self.now in let key = c.args.key in let grown : Store WellFormed = c.reserve.new.self in let new : Store WellFormed = c.push_new.new.self in
+    let missing : at old.pairs key ≡ None = ap (at old.pairs) (sym c.as_str.ensures) ∙ sym c.position.ensures.position ∙ c.in-None.is in
+    let i : ℕ = c.len-position.result in
+    let null : WellFormed = c.default.result in
+    let pushed : new.pairs ≡ old.pairs ++ (key, null) ∷ [] = c.push_new.ensures.pairs ∙ ap (λ ps. ps ++ (key, null) ∷ []) c.in-Ok.ensures.pairs in
+    let last : i ≡ length old.pairs = c.len-position.ensures ∙ ap length c.in-Ok.ensures.pairs in
+    let got = c.value_mut-in-Ok.ensures.value in (
+      (
+        refl,
+        (λ w _. (
+          (λ j. with_value (pushed j) (last j) w) ∙ written_last old.pairs key null w ∙ sym (put-absent old.pairs key w missing),
+          subst (λ o. grown_at o (length old.pairs) old.capacity new.capacity) (sym missing)
+              (subst (λ n. Grown (length old.pairs) old.capacity 1 n) (sym c.push_new.ensures.capacity) c.in-Ok.ensures.growth),
+        )),
+        tt,
+      ),
+      record {
+        writes_back = tt;
+        value = same_value (sym got.1 ∙ (λ j. slice_get (pushed j) (last j)) ∙ got_last old.pairs key null) ∙ c.default.ensures ∙ ap (λ o. unwrap_or o null_value) (sym (lookup-absent old.pairs key missing));
+        refused = tt;
+      },
+    )
+
+pub returns : goal.returns
+returns c =
+    let old : Store WellFormed = c.args.self.now in let key = c.args.key in let new : Store WellFormed = c.reserve.new.self in
+    let missing : at old.pairs key ≡ None = ap (at old.pairs) (sym c.as_str.ensures) ∙ sym c.position.ensures.position ∙ c.in-None.is in
+    let why = c.in-Err.why in let growth = c.in-Err.ensures.growth in
+    let room = refused_capacity (length old.pairs) old.capacity 1 new.capacity why growth in (
+      (refl, λ w e. absurd (false≢true e), (c.in-Err.ensures.pairs, room)),
+      record {
+        writes_back = tt;
+        value = tt;
+        refused = (refl, c.default-in-Err.ensures, (lookup-absent old.pairs key missing, subst (λ n. Ungrown (length old.pairs) old.capacity 1 why n) room growth));
+      },
+    )

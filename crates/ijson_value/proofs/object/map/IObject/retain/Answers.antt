@@ -1,0 +1,70 @@
+use Rattle.std.proofs.Common.{of_calls, ◌≡◌, ◌<◌, ℕ, length, ◌+◌, ◌-◌, true, false, refl, sym, ap, subst, ◌∙◌, arith}
+use Rattle.std.specs.Map.Calls.{CalledAtPair}
+use Rattle.ijson_table.specs.Store.{Store, with_value, swap_out}
+use Rattle.ijson_table.proofs.Keys.{length-swap_out, keys-length}
+use Rattle.ijson_value.specs.Retains.{RetainsFrom}
+use Rattle.ijson_value.specs.WellFormed.{WellFormed}
+use Rattle.ijson_value.specs.laws.EntryValid.{length-with_value}
+use Rattle.ijson_value.proofs.Retained.{kept, gone, swap_out_written}
+use Rattle.ijson_value.proofs.object.map.IObject.retain.Goals as goal
+
+pub loop-index-init : goal.loop-index-init
+loop-index-init g c =
+    let start : Store WellFormed = c.args.self.now in let all : length start.pairs - 0 ≡ length start.pairs = omega arith in
+    (λ a. a, refl, omega arith, λ qs h. subst (λ k. RetainsFrom (CalledAtPair g.F.FnMut) k c.args.asks 0 start.pairs qs) all h)
+
+pub loop-index-smaller-then-asks : goal.loop-index-smaller-then-asks
+loop-index-smaller-then-asks g c =
+    let now : Store WellFormed = c.loop-index.self in
+    omega (arith, c.loop-index-test.true, c.len.ensures, length-with_value now.pairs c.loop-index.index c.asks.new.arg3)
+
+pub loop-index-preserved-then-asks : goal.loop-index-preserved-then-asks
+loop-index-preserved-then-asks g c =
+    let now : Store WellFormed = c.loop-index.self in let i : ℕ = c.loop-index.index in let w : WellFormed = c.asks.new.arg3 in
+    let was = c.loop-index.invariant in
+    let size = length-with_value now.pairs i w in
+    let asked : CalledAtPair g.F.FnMut c.loop-index.asks c.pair_mut-value.result.0.now c.pair_mut-value.result.1.now true w c.asks.new.self = record { key = _; value = _; shows = (refl, refl); left = _; called = c.if-asks.ensures; leaves = refl } in (
+      search of_calls,
+      was.1,
+      omega (arith, c.loop-index-test.true, c.len.ensures, size),
+      λ qs h. was.3 qs (kept (CalledAtPair g.F.FnMut) (length now.pairs - i) (length (with_value now.pairs i w) - (i + 1)) c.loop-index.asks c.asks.new.self i now.pairs qs _ _ w (omega (arith, c.loop-index-test.true, c.len.ensures, size)) c.pair_mut-value.ensures.pair asked h),
+    )
+
+pub swap_out-requires : goal.swap_out-requires
+swap_out-requires g c =
+    let now : Store WellFormed = c.loop-index.self in
+    omega (arith, c.loop-index-test.true, c.len.ensures, length-with_value now.pairs c.loop-index.index c.asks.new.arg3)
+
+pub loop-index-smaller : goal.loop-index-smaller
+loop-index-smaller g c =
+    let now : Store WellFormed = c.loop-index.self in let new : Store WellFormed = c.swap_out.new.self in let i : ℕ = c.loop-index.index in let w : WellFormed = c.asks.new.arg3 in
+    let size = length-with_value now.pairs i w in
+    let within : i < length now.pairs = omega (arith, c.loop-index-test.true, c.len.ensures) in
+    let shorter = length-swap_out (with_value now.pairs i w) i (omega (arith, within, size)) in
+    omega (arith, within, size, shorter, ap length c.swap_out.ensures.pairs, keys-length (swap_out (with_value now.pairs i w) i))
+
+pub loop-index-preserved : goal.loop-index-preserved
+loop-index-preserved g c =
+    let now : Store WellFormed = c.loop-index.self in let new : Store WellFormed = c.swap_out.new.self in let i : ℕ = c.loop-index.index in let w : WellFormed = c.asks.new.arg3 in
+    let was = c.loop-index.invariant in
+    let size = length-with_value now.pairs i w in
+    let within : i < length now.pairs = omega (arith, c.loop-index-test.true, c.len.ensures) in
+    let shorter = length-swap_out (with_value now.pairs i w) i (omega (arith, within, size)) in
+    let is : new.pairs ≡ swap_out (with_value now.pairs i w) i = c.swap_out.ensures.pairs in
+    let count : length new.pairs + 1 ≡ length now.pairs = omega (arith, size, shorter, ap length is, keys-length (swap_out (with_value now.pairs i w) i)) in
+    let asked : CalledAtPair g.F.FnMut c.loop-index.asks c.pair_mut-value.result.0.now c.pair_mut-value.result.1.now false w c.asks.new.self = record { key = _; value = _; shows = (refl, refl); left = _; called = c.if-asks.ensures; leaves = refl } in (
+      search of_calls,
+      c.swap_out.ensures.capacity ∙ was.1,
+      omega (arith, within, count),
+      λ qs h. was.3 qs (gone (CalledAtPair g.F.FnMut) (length now.pairs - i) (length new.pairs - i) c.loop-index.asks c.asks.new.self i now.pairs qs _ _ w (omega (arith, within, count)) c.pair_mut-value.ensures.pair asked
+      (subst (λ ps. RetainsFrom (CalledAtPair g.F.FnMut) (length new.pairs - i) c.asks.new.self i ps qs) (is ∙ swap_out_written now.pairs i w within) h)),
+    )
+
+pub returns-clause-pairs : goal.returns-clause-pairs
+returns-clause-pairs g c =
+    let now : Store WellFormed = c.loop-index.self in let i : ℕ = c.loop-index.index in
+    let none : length now.pairs - i ≡ 0 = omega (arith, c.loop-index-test.false, c.len.ensures) in
+    c.loop-index.invariant.3 now.pairs (subst (λ k. RetainsFrom (CalledAtPair g.F.FnMut) k c.loop-index.asks i now.pairs now.pairs) (sym none) refl)
+
+pub returns-clause-capacity : goal.returns-clause-capacity
+returns-clause-capacity g c = c.loop-index.invariant.1

@@ -1,0 +1,9 @@
+-- Pairs put one after the other, each with the room that it needs. This project's own.
+use Rattle.std.specs.Prelude.{◌≡◌, ℕ, List, [], ◌∷◌, Option, Ok}
+use Rattle.ijson_table.specs.Inserts.{Inserts}
+
+abbrev pub InsertsEach : {V : Type 0} → List (List ℕ × V) → ℕ → List (List ℕ × V) → List (List ℕ × V) → ℕ → Type 0
+InsertsEach pairs c [] pairs' c' = (pairs' ≡ pairs) × (c' ≡ c)
+InsertsEach {V} pairs c (pair ∷ added) pairs' c' =
+    (old : Option V) × (mid : List (List ℕ × V)) × (d : ℕ) × Inserts pairs c pair.0 pair.1 (Ok old) mid d
+    × InsertsEach mid d added pairs' c'

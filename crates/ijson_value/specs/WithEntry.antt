@@ -1,0 +1,31 @@
+-- What an object and an entry are once a value is written beside the entry's key. This project's own.
+use Rattle.std.specs.Prelude.{◌≡◌, ℕ, List, [], ◌∷◌, ◌++◌}
+use Rattle.ijson_table.specs.Store.{Store, put}
+use Rattle.ijson_table.specs.laws.Store.{store_with_value}
+use Rattle.ijson_table.proofs.Keys.{distinct_pushed}
+use Rattle.ijson_value.specs.WellFormed.{WellFormed}
+use Rattle.ijson_value.specs.declared.object.entry.Entry.{Entry}
+use Rattle.ijson_value.specs.declared.object.entry.Entry.TheVariants.{Occupied, Vacant}
+use Rattle.ijson_value.specs.declared.object.entry.OccupiedEntry.{OccupiedEntry}
+use Rattle.ijson_value.specs.laws.EntryValid.{still_valid}
+
+-- the object, once w is the value beside the key
+abbrev pub with_entry : Entry → WellFormed → Store WellFormed
+with_entry (Occupied o) w = store_with_value o.object.now o.index w
+with_entry (Vacant v) w = record {
+  pairs = v.object.now.pairs ++ (v.key, w) ∷ [];
+  capacity = v.object.now.capacity;
+  distinct = distinct_pushed v.object.now.pairs v.key w v.object.now.distinct v.missing;
+}
+
+-- writing through the entry is to put
+abbrev pub PutsThrough : List (List ℕ × WellFormed) → List ℕ → Entry → Type 0
+PutsThrough pairs key e = (w : WellFormed) → (with_entry e w).pairs ≡ put pairs key w
+
+-- the entry, once w is its value
+abbrev pub with_entry_value : OccupiedEntry → WellFormed → OccupiedEntry
+with_entry_value o w = record {
+  object = record o.object { now = store_with_value o.object.now o.index w };
+  index = o.index;
+  valid = still_valid o w;
+}

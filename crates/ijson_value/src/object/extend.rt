@@ -1,0 +1,55 @@
+//! What adds the pairs of an iterator to an object.
+ghost use Rattle.std.specs.Prelude.{◌≡◌, ℕ, List, [], MatchResult};
+ghost use Rattle.std.specs.Iterator.{IsFiniteIterable};
+ghost use Rattle.ijson_value.specs.FindsEntry.{FindsNoRoom};
+ghost use Rattle.ijson_value.specs.Gives.{GivesAll, GivesThen};
+ghost use Rattle.ijson_value.specs.InsertsEach.{InsertsEach};
+ghost use Rattle.ijson_value.specs.WellFormed.{WellFormed};
+
+use super::map::{IObject, RefusedPair};
+use crate::value::IValue;
+use ijson_string::IString;
+use std::alloc::Global;
+
+impl IObject {
+    /// Inserts the pairs of an iterator, one after the other. A pair that there is no room for comes back; those before it
+    /// stay, and the rest of the iterator is dropped.
+    pub fn extend<I: IntoIterator<Item = (IString, IValue)>>(
+        &mut self,
+        pairs: I,
+    ) -> Result<(), RefusedPair>
+        requires { IsFiniteIterable I.into_iter_gives I.IntoIter.can_next I.IntoIter.remaining pairs }
+        ensures { (added : List (List ℕ × WellFormed))
+            × InsertsEach self.old.pairs self.old.capacity added self.new.pairs self.new.capacity
+            × MatchResult result
+            (λ _. GivesAll I.into_iter_gives I.IntoIter.next_gives pairs added)
+            (λ refused. GivesThen I.into_iter_gives I.IntoIter.next_gives pairs added
+                (refused.key, refused.value) × FindsNoRoom self.new refused.key refused.why) }
+    {
+        for (key, value) in pairs {
+            match self.insert(key, value) {
+                Ok(old) => drop(old),
+                Err(refused) => return Err(refused),
+            }
+        }
+        Ok(())
+    }
+
+    /// An object of the pairs of an iterator, inserted one after the other. A pair that there is no room for comes back; what was
+    /// made and the rest of the iterator are dropped.
+    pub fn from_iter<I: IntoIterator<Item = (IString, IValue)>>(
+        alloc: Global,
+        pairs: I,
+    ) -> Result<IObject, RefusedPair>
+        requires { IsFiniteIterable I.into_iter_gives I.IntoIter.can_next I.IntoIter.remaining pairs }
+        ensures { (added : List (List ℕ × WellFormed)) × MatchResult result
+            (λ object. InsertsEach [] 0 added object.pairs object.capacity
+                × GivesAll I.into_iter_gives I.IntoIter.next_gives pairs added)
+            (λ refused. GivesThen I.into_iter_gives I.IntoIter.next_gives pairs added
+                (refused.key, refused.value)) }
+    {
+        let mut object = IObject::new(alloc);
+        object.extend(pairs)?;
+        Ok(object)
+    }
+}
