@@ -1,5 +1,6 @@
 pub mod DepthLemmas
 mod Found
+mod PutInside
 mod SameSteps
 mod Objects
 mod Entries

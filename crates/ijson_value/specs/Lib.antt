@@ -2,7 +2,6 @@ pub mod AtKey
 pub mod EntryParts
 pub mod FindsEntry
 pub mod Gives
-pub mod GrowthOf
 pub mod InsertsEach
 pub mod Integers
 pub mod Kind
