@@ -7,6 +7,7 @@ mod Found
 mod Inserted
 mod Objects
 mod OrderSteps
+mod PutInside
 mod Retained
 mod SameSteps
 mod WordFolds

@@ -1,8 +1,9 @@
 -- What an opened value is once the value one step inside that it lent is given back: what was left there stands in its place,
 -- and nothing else is changed. `specs/laws/Steps.antt` shows that its tree is then `tree_with`. This project's own.
-use Rattle.std.specs.Prelude.{Option}
-use Rattle.std.specs.Borrow.{Lends, LendsIf, MutBor, Fml}
-use Rattle.ijson_value.specs.LendsAtKey.{with_key}
+use Rattle.std.specs.Prelude.{◌≡◌, ℕ, List, Option, Result}
+use Rattle.std.specs.Borrow.{Lends, LendsIf, LendsSoOk, MutBor, Fml}
+use Rattle.ijson_table.specs.Store.{Store}
+use Rattle.ijson_value.specs.LendsAtKey.{with_key, IsPut}
 use Rattle.ijson_value.specs.LendsItem.{with_item}
 use Rattle.ijson_value.specs.Step.{Step, by_position, by_key}
 use Rattle.ijson_value.specs.WellFormed.{WellFormed}
@@ -22,3 +23,15 @@ LendsStep s step r = Lends node.the_row value.the_row s r (with_step s.now step)
 -- the same, or nothing: then the value is as it was
 abbrev pub LendsStepIf : MutBor Destructured → Step → Option (MutBor WellFormed) → Fml
 LendsStepIf s step r = LendsIf node.the_row value.the_row s r (with_step s.now step) s.now
+
+-- an opened object, of which this holds
+abbrev pub InObject : (Store WellFormed → Type 0) → Destructured → Type 0
+InObject P (Object o) = P o
+InObject P _ = ⊥
+
+-- the value beside a key that is put where it is not there; or no room for that: then the object is as it was
+abbrev pub LendsPutInside : {E : Type 0} → MutBor Destructured → List ℕ → Result (MutBor WellFormed) E → Fml
+LendsPutInside s key r =
+    LendsSoOk node.the_row value.the_row s r
+    (λ n w. InObject (λ old. InObject (λ new. IsPut old key w new) n) s.now)
+    (λ n. InObject (λ old. InObject (λ new. (new.pairs ≡ old.pairs) × (new.capacity ≡ old.capacity)) n) s.now)

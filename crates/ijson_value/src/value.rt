@@ -10,6 +10,7 @@ mod convert;
 mod destructure;
 mod index;
 mod kinds;
+mod lent;
 mod parts;
 
 use crate::array::IArray;

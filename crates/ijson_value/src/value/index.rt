@@ -1,13 +1,17 @@
 //! A value inside a value, by position or by key.
-ghost use Rattle.std.specs.Prelude.{◌≡◌, Some, option_map, IsSome};
+ghost use Rattle.std.specs.Prelude.{◌≡◌, Some, option_map, unwrap_or, IsSome, IfOk, IfErr};
 ghost use Rattle.std.specs.Borrow.{sem};
+ghost use Rattle.ijson_value.specs.FindsEntry.{FindsNoRoom};
 ghost use Rattle.ijson_value.specs.Kind.{kind_of};
 ghost use Rattle.ijson_value.specs.LendsPart.{LendsOpened};
-ghost use Rattle.ijson_value.specs.LendsStep.{LendsStep, LendsStepIf};
+ghost use Rattle.ijson_value.specs.LendsStep.{InObject, LendsPutInside, LendsStep, LendsStepIf};
 ghost use Rattle.ijson_value.specs.NodeValue.{node_value};
 ghost use Rattle.ijson_value.specs.Step.{Step, by_position, by_key, kind_for, tree_at, tree_without};
+ghost use Rattle.ijson_value.specs.Tree.{null};
+ghost use Rattle.ijson_value.specs.Values.{null_value};
 
 use super::{Destructured, IValue};
+use crate::object::RefusedPair;
 use ijson_string::IString;
 use std::ops::{Deref, DerefMut, Index, IndexMut};
 
@@ -186,6 +190,22 @@ impl Destructured {
             ≡ tree_at (node_value self.old).tree (I.Sealed.step index) }
     {
         I::index_into_mut(self, index)
+    }
+
+    /// The value beside a key of an object, to be written. A key that is not there is put last with null beside it; where there
+    /// is no room for that, the key comes back with null.
+    pub fn index_or_insert(&mut self, key: IString) -> Result<&mut IValue, RefusedPair>
+        requires { kind_of (node_value self.old).tree ≡ kind_for (by_key key) }
+        ensures* writes_back { sem 𝓛 (LendsPutInside self.entry key result) }
+        ensures value { IfOk result (λ value.
+            value.now.tree ≡ unwrap_or (tree_at (node_value self.old).tree (by_key key)) null) }
+        ensures refused { IfErr result (λ refused. (refused.key ≡ key) × (refused.value ≡ null_value)
+            × InObject (λ old. FindsNoRoom old key refused.why) self.old) }
+    {
+        match self {
+            Destructured::Object(object) => object.index_or_insert(key),
+            _ => unreachable!(),
+        }
     }
 }
 

@@ -1,11 +1,9 @@
-//! What a value holds, by its kind: lent, given out, and as an integer.
+//! What a value holds, by its kind: by reference, given out, and as an integer.
 ghost use Rattle.std.specs.Prelude.{◌≡◌, ◌≢◌, ◌^◌, ◌<◌, ℕ, ℤ, pos, IfSome, IfNone, IfOk, IfErr, FitsSigned};
-ghost use Rattle.std.specs.Borrow.{sem};
 ghost use mir.Syntax.{w32, w64};
 ghost use Rattle.ijson_value.specs.Integers.{HasInteger};
 ghost use Rattle.ijson_value.specs.Kind.{kind_of};
 ghost use Rattle.ijson_value.specs.declared.value.ValueType.TheVariants as kind;
-ghost use Rattle.ijson_value.specs.LendsPart.{LendsNumber, LendsString, LendsArray, LendsObject};
 ghost use Rattle.ijson_value.specs.Values.{number_value, string_value, array_value, object_value};
 
 use super::{Destructured, IValue};
@@ -54,54 +52,6 @@ impl IValue {
         ensures none { IfNone result (kind_of self.now.tree ≢ kind.Object) }
     {
         match &self.node {
-            Destructured::Object(object) => Some(object),
-            _ => None,
-        }
-    }
-
-    /// The number to be written, where the value is one.
-    pub fn as_number_mut(&mut self) -> Option<&mut INumber>
-        ensures* writes_back { sem 𝓛 (LendsNumber self.entry result) }
-        ensures some { IfSome result (λ number. self.old ≡ number_value number.now) }
-        ensures none { IfNone result (kind_of self.old.tree ≢ kind.Number) }
-    {
-        match &mut self.node {
-            Destructured::Number(number) => Some(number),
-            _ => None,
-        }
-    }
-
-    /// The string to be written, where the value is one.
-    pub fn as_string_mut(&mut self) -> Option<&mut IString>
-        ensures* writes_back { sem 𝓛 (LendsString self.entry result) }
-        ensures some { IfSome result (λ string. self.old ≡ string_value string.now) }
-        ensures none { IfNone result (kind_of self.old.tree ≢ kind.String) }
-    {
-        match &mut self.node {
-            Destructured::String(string) => Some(string),
-            _ => None,
-        }
-    }
-
-    /// The array to be written, where the value is one.
-    pub fn as_array_mut(&mut self) -> Option<&mut IArray>
-        ensures* writes_back { sem 𝓛 (LendsArray self.entry result) }
-        ensures some { IfSome result (λ array. self.old ≡ array_value array.now.items) }
-        ensures none { IfNone result (kind_of self.old.tree ≢ kind.Array) }
-    {
-        match &mut self.node {
-            Destructured::Array(array) => Some(array),
-            _ => None,
-        }
-    }
-
-    /// The object to be written, where the value is one.
-    pub fn as_object_mut(&mut self) -> Option<&mut IObject>
-        ensures* writes_back { sem 𝓛 (LendsObject self.entry result) }
-        ensures some { IfSome result (λ object. self.old ≡ object_value object.now) }
-        ensures none { IfNone result (kind_of self.old.tree ≢ kind.Object) }
-    {
-        match &mut self.node {
             Destructured::Object(object) => Some(object),
             _ => None,
         }
