@@ -87,7 +87,6 @@ fn pointed_word(negative: bool, size: u64, places: usize) -> Option<Stored>
 
 impl Spelling<'_> {
     /// What is stored of a number of few digits without an exponent, where it is a word.
-    #[inline(always)]
     pub fn word(&self) -> Option<Stored>
         requires { (text : List ℕ) × IsSpelled text (parts_of self.now) }
         ensures { IfSome result (λ s. (n : Decimal)

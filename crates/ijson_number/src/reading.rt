@@ -169,8 +169,6 @@ pub struct Spelling<'a> {
 }
 
 /// Reads a number's text into its parts.
-// Inlined, so that the parts needn't go through memory.
-#[inline(always)]
 pub fn read(text: &[u8]) -> Option<Spelling<'_>>
     ensures found { IfSome result (λ s. IsSpelled text.now (parts_of s)) }
     ensures digits { IfSome result (λ s. AllDigits s.tail.exponent.now) }
@@ -290,7 +288,6 @@ pub struct Scanned<'a> {
 
 impl<'a> Spelling<'a> {
     /// The number of the parts, with the zeros taken off its digits.
-    #[inline(never)]
     pub fn scan(&self) -> Option<Scanned<'a>>
         requires spelled { (text : List ℕ) × IsSpelled text (parts_of self.now) }
         requires digits { AllDigits self.now.tail.exponent.now }
