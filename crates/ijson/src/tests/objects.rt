@@ -30,6 +30,14 @@ fn number_of(value: &IValue) -> usize {
     }
 }
 
+/// Whether there is a pair, and this is its key.
+fn has_key(pair: Option<(IString, IValue)>, key: &str) -> bool {
+    match pair {
+        Some((text, _value)) => text.eq_str(key),
+        None => false,
+    }
+}
+
 /// Whether these are the keys, in this order.
 fn has_keys(object: &IObject, keys: &[&str]) -> bool {
     let mut found = object.keys();
@@ -58,7 +66,7 @@ fn insertions_and_removals(rt: HostRuntime) -> Result<(), Fail> {
     assert!(rt; object.remove("b") == Some(of_number(1)));
     assert!(rt; has_keys(&object, &["a", "d", "c"]));
     let d = IString::intern(&mut cache, "d")?;
-    assert!(rt; matches!(object.remove_entry(&d), Some((key, _)) if key.eq_str("d")));
+    assert!(rt; has_key(object.remove_entry(&d), "d"));
     assert!(rt; has_keys(&object, &["a", "c"]) && object.remove("b").is_none());
     assert_eq!(rt; object.capacity(), 4);
     object.shrink_to_fit()?;
@@ -206,7 +214,7 @@ fn retained(rt: HostRuntime) -> Result<(), Fail> {
     let mut owned = object.into_iter();
     for (left, key) in [(3, "0"), (2, "4"), (1, "2")] {
         assert_eq!(rt; owned.size_hint(), (left, Some(left)));
-        assert!(rt; matches!(owned.next(), Some((text, _)) if text.eq_str(key)));
+        assert!(rt; has_key(owned.next(), key));
     }
     assert!(rt; owned.next().is_none() && IObject::new(alloc).into_iter().next().is_none());
     Ok(())
