@@ -15,6 +15,7 @@ mod strings;
 mod tables;
 mod texts;
 mod values;
+mod walks;
 
 use crate::json::{JsonError, from_json, to_json};
 use crate::string::StringCache;

@@ -313,3 +313,24 @@ fn compacting(rt: HostRuntime) {
     }
     assert!(rt; false, "refused more than once");
 }
+
+#[test]
+fn cloning(rt: HostRuntime) -> Result<(), Fail> {
+    let text =
+        "[12345678901234567890123.5,\"eight888\",[true,[]],{\"k\":1,\"longlong\":{\"a\":[]}}]";
+    let value = read(rt.alloc(), text)?;
+    let copy = match value.clone() {
+        Ok(copy) => copy,
+        Err(_) => value.clone()?,
+    };
+    assert!(rt; copy == value);
+    let found = written(rt.alloc(), &copy)?;
+    assert_eq!(rt; found.as_str(), text);
+    let items = [copy, value];
+    let array = match IArray::from_slice(rt.alloc(), &items) {
+        Ok(array) => array,
+        Err(_) => IArray::from_slice(rt.alloc(), &items)?,
+    };
+    assert!(rt; array.as_slice() == items.as_slice());
+    Ok(())
+}
