@@ -1,9 +1,50 @@
-use super::{Cache, empty_cache};
+//! Values: questions, parts, conversions, and callers that know by the contracts alone what a write leaves.
+ghost use Rattle.std.specs.Prelude.{◌≡◌, IsSome, IsTrue, IsFalse, not, string_bytes};
+ghost use Rattle.ijson_value.specs.Kind.{kind_of};
+ghost use Rattle.ijson_value.specs.Step.{by_position, by_key, kind_for, tree_at, tree_with};
+ghost use Rattle.ijson_value.specs.Tree.{boolean, null};
+
+use super::{Cache, empty_cache, read};
 use crate::number::INumber;
 use crate::string::IString;
-use crate::{DestructuredRef, IArray, IObject, IValue, ValueType};
+use crate::{Destructured, DestructuredMut, DestructuredRef, IArray, IObject, IValue, ValueType};
 use std::alloc::Global;
 use std::test::Fail;
+
+/// Sets the value at a position to null.
+#[tactic(auto, using(ijson_value::specs::laws::Steps::tree_with_step))]
+fn clear_item(value: &mut IValue, position: usize)
+    requires { IsSome (tree_at value.old.tree (by_position position)) }
+    ensures { value.new.tree ≡ tree_with value.old.tree (by_position position) null }
+{
+    value[position] = IValue::NULL;
+}
+
+/// Sets the value beside a key to null, if there is one.
+#[tactic(auto, using(ijson_value::specs::laws::Steps::tree_with_step))]
+fn clear_member(value: &mut IValue, key: &str) -> bool
+    requires { kind_of value.old.tree ≡ kind_for (by_key key.now) }
+    ensures there { IsTrue result → value.new.tree ≡ tree_with value.old.tree (by_key key.now) null }
+    ensures missing { IsFalse result → value.new ≡ value.old }
+{
+    match value.get_mut(key) {
+        Some(found) => {
+            *found = IValue::NULL;
+            true
+        }
+        None => false,
+    }
+}
+
+/// Turns a truth value round.
+fn turn(value: &mut IValue, was: bool)
+    requires { value.old.tree ≡ boolean was }
+    ensures { value.new.tree ≡ boolean (not was) }
+{
+    if let Destructured::Bool(truth) = &mut **value {
+        *truth = !*truth;
+    }
+}
 
 /// An object of these keys and numbers, put in this order.
 fn object(alloc: Global, cache: &mut Cache, members: &[(&str, &str)]) -> Result<IObject, Fail> {
@@ -49,5 +90,133 @@ fn objects_are_equal_as_maps(rt: HostRuntime) -> Result<(), Fail> {
     assert!(rt; one == other);
     assert!(rt; one != less);
     assert!(rt; less != one);
+    Ok(())
+}
+
+/// What the questions about a value answer.
+fn answers(value: &IValue) -> (ValueType, Option<bool>, Option<usize>, Option<bool>) {
+    (value.type_(), value.to_bool(), value.len(), value.is_empty())
+}
+
+/// Whether a value is of a kind, by each question that tells it.
+fn is_of_kind(value: &IValue, kind: ValueType) -> bool {
+    match kind {
+        ValueType::Null => value.is_null() && value.destructure_ref() == DestructuredRef::Null,
+        ValueType::Bool => value.is_bool() && value.is_true() != value.is_false(),
+        ValueType::Number => value.is_number() && value.as_number().is_some(),
+        ValueType::String => value.is_string() && value.as_string().is_some(),
+        ValueType::Array => value.is_array() && value.as_array().is_some(),
+        ValueType::Object => value.is_object() && value.as_object().is_some(),
+    }
+}
+
+/// What is handed back where a value is none of the four kinds that hold something.
+fn handed_back(value: IValue) -> Option<IValue> {
+    let value = value.into_number().err()?;
+    let value = value.into_string().err()?;
+    let value = value.into_array().err()?;
+    value.into_object().err()
+}
+
+/// Writes the opposite, or the empty value, of each kind.
+fn empty(value: &mut IValue) {
+    match value.destructure_mut() {
+        DestructuredMut::Null => {}
+        DestructuredMut::Bool(mut truth) => truth.set(!truth.get()),
+        DestructuredMut::Number(number) => *number = INumber::zero(),
+        DestructuredMut::String(string) => *string = IString::new(),
+        DestructuredMut::Array(array) => array.clear(),
+        DestructuredMut::Object(object) => object.clear(),
+    }
+}
+
+#[test]
+fn kinds_and_parts(rt: HostRuntime) -> Result<(), Fail> {
+    for (text, told, left) in [
+        ("null", (ValueType::Null, None, None, None), "null"),
+        ("true", (ValueType::Bool, Some(true), None, None), "false"),
+        ("2.5", (ValueType::Number, None, None, None), "0"),
+        ("\"s\"", (ValueType::String, None, None, None), "\"\""),
+        ("[]", (ValueType::Array, None, Some(0), Some(true)), "[]"),
+        ("[1,2]", (ValueType::Array, None, Some(2), Some(false)), "[]"),
+        ("{\"k\":0}", (ValueType::Object, None, Some(1), Some(false)), "{}"),
+    ] {
+        let mut value = read(rt.alloc(), text)?;
+        assert!(rt; answers(&value) == told);
+        assert!(rt; is_of_kind(&value, told.0));
+        empty(&mut value);
+        assert!(rt; value == read(rt.alloc(), left)?);
+        let taken = value.take();
+        assert!(rt; value.is_null() && is_of_kind(&taken, told.0));
+        let back = handed_back(taken).is_some();
+        assert_eq!(rt; back, told.0 < ValueType::Number);
+    }
+    Ok(())
+}
+
+/// Whether a number answers these integers, and whether the others are these as well.
+fn are_integers(value: &IValue, i32_: Option<i32>, u32_: Option<u32>, i64_: Option<i64>, u64_: Option<u64>) -> bool {
+    value.to_i32() == i32_
+        && value.to_u32() == u32_
+        && value.to_i64() == i64_
+        && value.to_u64() == u64_
+        && value.to_isize().map(|z| z as i64) == i64_
+        && value.to_usize().map(|n| n as u64) == u64_
+}
+
+#[test]
+fn integers(rt: HostRuntime) -> Result<(), Fail> {
+    for (text, i32_, u32_, i64_, u64_) in [
+        ("2.0", Some(2), Some(2), Some(2), Some(2)),
+        ("-1", Some(-1), None, Some(-1), None),
+        ("12345678901234567890.0", None, None, None, Some(12345678901234567890)),
+        ("2.5", None, None, None, None),
+        ("\"2\"", None, None, None, None),
+    ] {
+        assert!(rt; are_integers(&read(rt.alloc(), text)?, i32_, u32_, i64_, u64_));
+    }
+    assert!(rt; IValue::from(i8::MIN).to_i32() == Some(-128));
+    assert!(rt; IValue::from(i16::MAX).to_i32() == Some(32767));
+    assert!(rt; IValue::from(i32::MIN).to_i32() == Some(i32::MIN));
+    assert!(rt; IValue::from(i64::MIN).to_i64() == Some(i64::MIN));
+    assert!(rt; IValue::from(isize::MAX).to_isize() == Some(isize::MAX));
+    assert!(rt; IValue::from(u8::MAX).to_u32() == Some(255));
+    assert!(rt; IValue::from(u16::MAX).to_u32() == Some(65535));
+    assert!(rt; IValue::from(u32::MAX).to_u32() == Some(u32::MAX));
+    assert!(rt; IValue::from(u64::MAX).to_u64() == Some(u64::MAX));
+    assert!(rt; IValue::from(usize::MAX).to_usize() == Some(usize::MAX));
+    assert!(rt; IValue::from(Some(true)).is_true());
+    assert!(rt; IValue::from(None::<u8>).is_null());
+    Ok(())
+}
+
+/// Writes into the array beside `b`, and sets `c` to null.
+fn edit(value: &mut IValue) -> bool
+    requires { kind_of value.old.tree ≡ kind_for (by_key (string_bytes "b")) }
+{
+    let Some(items) = value.get_mut(&"b") else {
+        return false;
+    };
+    if !items.is_array() || items.get(1usize).is_none() {
+        return false;
+    }
+    clear_item(items, 1);
+    true
+}
+
+#[test]
+fn one_value_is_found_written_and_taken_out(rt: HostRuntime) -> Result<(), Fail> {
+    let alloc = rt.alloc();
+    let mut value = read(alloc, "{\"a\":1,\"b\":[2,3],\"c\":{\"d\":0.5}}")?;
+    assert_eq!(rt; value.len(), Some(3));
+    assert!(rt; value.is_object());
+    assert!(rt; value.get("a").and_then(IValue::to_i64) == Some(1));
+    assert!(rt; value.get(&"b").and_then(IValue::len) == Some(2));
+    assert!(rt; edit(&mut value));
+    assert!(rt; value.is_object());
+    assert!(rt; clear_member(&mut value, "c"));
+    assert!(rt; value.is_object());
+    assert!(rt; value.remove("a").is_some());
+    assert!(rt; value == read(alloc, "{\"c\":null,\"b\":[2,null]}")?);
     Ok(())
 }
