@@ -13,7 +13,9 @@ pub use ijson_string::IString;
 pub use ijson_table as table;
 pub use ijson_value::array::IArray;
 pub use ijson_value::object::IObject;
-pub use ijson_value::value::{BoolMut, Destructured, DestructuredMut, DestructuredRef, IValue, ValueIndex, ValueType};
+pub use ijson_value::value::{
+    BoolMut, Destructured, DestructuredMut, DestructuredRef, IValue, ValueIndex, ValueType,
+};
 pub use ijson_value::{array, object, value};
 
 #[cfg(test)]

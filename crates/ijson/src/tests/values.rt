@@ -95,7 +95,12 @@ fn objects_are_equal_as_maps(rt: HostRuntime) -> Result<(), Fail> {
 
 /// What the questions about a value answer.
 fn answers(value: &IValue) -> (ValueType, Option<bool>, Option<usize>, Option<bool>) {
-    (value.type_(), value.to_bool(), value.len(), value.is_empty())
+    (
+        value.type_(),
+        value.to_bool(),
+        value.len(),
+        value.is_empty(),
+    )
 }
 
 /// Whether a value is of a kind, by each question that tells it.
@@ -138,8 +143,16 @@ fn kinds_and_parts(rt: HostRuntime) -> Result<(), Fail> {
         ("2.5", (ValueType::Number, None, None, None), "0"),
         ("\"s\"", (ValueType::String, None, None, None), "\"\""),
         ("[]", (ValueType::Array, None, Some(0), Some(true)), "[]"),
-        ("[1,2]", (ValueType::Array, None, Some(2), Some(false)), "[]"),
-        ("{\"k\":0}", (ValueType::Object, None, Some(1), Some(false)), "{}"),
+        (
+            "[1,2]",
+            (ValueType::Array, None, Some(2), Some(false)),
+            "[]",
+        ),
+        (
+            "{\"k\":0}",
+            (ValueType::Object, None, Some(1), Some(false)),
+            "{}",
+        ),
     ] {
         let mut value = read(rt.alloc(), text)?;
         assert!(rt; answers(&value) == told);
@@ -155,7 +168,13 @@ fn kinds_and_parts(rt: HostRuntime) -> Result<(), Fail> {
 }
 
 /// Whether a number answers these integers, and whether the others are these as well.
-fn are_integers(value: &IValue, i32_: Option<i32>, u32_: Option<u32>, i64_: Option<i64>, u64_: Option<u64>) -> bool {
+fn are_integers(
+    value: &IValue,
+    i32_: Option<i32>,
+    u32_: Option<u32>,
+    i64_: Option<i64>,
+    u64_: Option<u64>,
+) -> bool {
     value.to_i32() == i32_
         && value.to_u32() == u32_
         && value.to_i64() == i64_
@@ -169,7 +188,13 @@ fn integers(rt: HostRuntime) -> Result<(), Fail> {
     for (text, i32_, u32_, i64_, u64_) in [
         ("2.0", Some(2), Some(2), Some(2), Some(2)),
         ("-1", Some(-1), None, Some(-1), None),
-        ("12345678901234567890.0", None, None, None, Some(12345678901234567890)),
+        (
+            "12345678901234567890.0",
+            None,
+            None,
+            None,
+            Some(12345678901234567890),
+        ),
         ("2.5", None, None, None, None),
         ("\"2\"", None, None, None, None),
     ] {
