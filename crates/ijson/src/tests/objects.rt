@@ -72,6 +72,14 @@ fn insertions_and_removals(rt: HostRuntime) -> Result<(), Fail> {
     object.shrink_to_fit()?;
     assert_eq!(rt; object.capacity(), 2);
 
+    Ok(())
+}
+
+#[test]
+fn shift_removals_and_writes(rt: HostRuntime) -> Result<(), Fail> {
+    let alloc = rt.alloc();
+    let mut cache = empty_cache(alloc);
+    let d = IString::intern(&mut cache, "d")?;
     let mut object = of_keys(alloc, &mut cache, &["a", "b", "c", "d"])?;
     assert!(rt; object.shift_remove("b") == Some(of_number(1)));
     assert!(rt; object.shift_remove(&"b").is_none() && object.shift_remove_entry("b").is_none());
