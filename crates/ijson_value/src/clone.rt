@@ -18,7 +18,10 @@ fn clone_value(value: &IValue) -> Result<IValue, AllocError>
         Destructured::Bool(b) => Destructured::Bool(*b),
         Destructured::Number(number) => Destructured::Number(number.clone()?),
         Destructured::String(text) => Destructured::String(text.clone()?),
-        Destructured::Array(array) => Destructured::Array(clone_items(array.allocator(), array.as_slice())?),
+        Destructured::Array(array) => Destructured::Array(clone_items(
+            array.allocator(),
+            array.as_slice(),
+        )?),
         Destructured::Object(object) => {
             let pairs = clone_pairs(object.allocator(), object.as_slice())?;
             Destructured::Object(object.with_same_keys(pairs)?)
