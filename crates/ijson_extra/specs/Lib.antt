@@ -1,3 +1,4 @@
+pub mod Pointer
 pub mod Sorted
 pub mod Canonical
 pub mod OneCanonicalText
