@@ -3,11 +3,13 @@
 
 mod arrays;
 mod cache;
+mod canonical;
 mod devices;
 mod equality;
 mod errors;
 mod faults;
 mod numbers;
+mod pointer;
 mod recorder;
 mod refusals;
 mod strings;
