@@ -5,6 +5,7 @@
 //! takes memory can answer that there is none. This crate gives the library's modules on.
 #![tactic(auto)]
 
+pub use ijson_extra::{canonical, pointer};
 pub use ijson_json as json;
 pub use ijson_number as number;
 pub use ijson_number::{INumber, ParseNumberError};

@@ -3,12 +3,14 @@
 
 mod arrays;
 mod cache;
+mod canonical;
 mod devices;
 mod equality;
 mod errors;
 mod faults;
 mod numbers;
 mod objects;
+mod pointer;
 mod recorder;
 mod refusals;
 mod strings;

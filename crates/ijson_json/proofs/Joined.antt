@@ -1,7 +1,7 @@
 -- The items of an array and the members of an object, as they are written one by one.
 use Rattle.std.proofs.Common.{◌≡◌, Bool, true, false, ℕ, List, [], ◌∷◌, ◌++◌, map, refl, ap, append-nil}
 use Rattle.ijson_value.specs.WellFormed.{WellFormed, item_trees, pair_trees}
-use Rattle.ijson_json.specs.private.Separator.{separator}
+use Rattle.ijson_json.specs.Separator.{separator}
 use Rattle.ijson_json.specs.Print.{quoted, print, print_items, print_members}
 
 -- texts one by one, each behind its separator

@@ -18,7 +18,7 @@ use Rattle.ijson_json.proofs.Unique.{value-past_space, value_same}
 use Rattle.ijson_json.proofs.Settles.{settles}
 
 -- one text spells one tree as written
-text_same : (text : List ℕ) (t u : Tree) → Spaced (λ value. IsValue t value) text → Spaced (λ value. IsValue u value) text → t ≡ u
+pub text_same : (text : List ℕ) (t u : Tree) → Spaced (λ value. IsValue t value) text → Spaced (λ value. IsValue u value) text → t ≡ u
 text_same text t u (b, v, a, s, w, sa, e) (b', v', a', s', w', sa', e') =
     let p = run_same is_space b b' (v ++ a) (v' ++ a') s s' (value-past_space t v a w) (value-past_space u v' a' w') (sym e ∙ e') in
     let q = space-Stops a [] sa tt in
@@ -35,12 +35,12 @@ one_tree text t u d e r s a b = a.tree_is ∙ ap settled (text_same text a.writt
 
 -- no white space is white space
 
-spaced : (P : List ℕ → Type 0) (text : List ℕ) → P text → Spaced P text
+pub spaced : (P : List ℕ → Type 0) (text : List ℕ) → P text → Spaced P text
 spaced P text p = ([], text, [], tt, p, tt, sym (append-nil text))
 
 -- a quoted text is a string for it
 
-quoted_is : (s : List ℕ) → IsString s (quoted s)
+pub quoted_is : (s : List ℕ) → IsString s (quoted s)
 quoted_is s = (all_escaped s, all_escaped_is s, refl)
 
 -- the text of a tree spells it

@@ -4,6 +4,7 @@ pub mod Settled
 pub mod Strings
 pub mod Grammar
 pub mod Print
+pub mod Separator
 pub mod OneTree
 pub mod PrintedIsAccepted
 pub mod Refuses

@@ -27,11 +27,12 @@ pub use device::{DeviceFault, Sink, Source};
 pub use fault::JsonError;
 pub use memory_sink::MemorySink;
 pub use memory_source::MemorySource;
+pub use quote::push_quoted;
 pub use read::from_json;
 pub use reporting::report;
 pub use stream_sink::StreamSink;
 pub use stream_source::StreamSource;
-pub use write::to_json;
+pub use write::{push_separator, to_json};
 
 /// A text has at most one tree, and what is printed of a tree within the limits is accepted as that
 /// tree.

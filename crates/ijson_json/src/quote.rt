@@ -49,8 +49,8 @@ fn push_escape(out: &mut String, character: char) -> Result<(), AllocError>
     }
 }
 
-/// Appends the text between quotes, with its escapes.
-pub(crate) fn push_quoted(out: &mut String, text: &str) -> Result<(), AllocError>
+/// Appends the text between quotes, with its escapes. The error comes where there was not enough memory.
+pub fn push_quoted(out: &mut String, text: &str) -> Result<(), AllocError>
     ensures { OnOk result (string_bytes out.new ≡ string_bytes out.old ++ quoted text.now) }
 {
     out.push('"')?;

@@ -3,7 +3,7 @@ ghost use Rattle.std.specs.Prelude.{◌≡◌, ◌++◌, IfOk, OnOk};
 ghost use Rattle.std.specs.String.{string_bytes};
 ghost use Rattle.ijson_value.specs.WellFormed.{item_trees, pair_trees};
 ghost use Rattle.ijson_json.specs.Print.{print, print_items, print_members};
-ghost use Rattle.ijson_json.specs.private.Separator.{separator};
+ghost use Rattle.ijson_json.specs.Separator.{separator};
 
 use crate::quote::push_quoted;
 use ijson_value::object::IObject;
@@ -76,8 +76,8 @@ fn push_members(out: &mut String, object: &IObject) -> Result<(), AllocError>
     Ok(())
 }
 
-/// A comma, but not before the first item or member.
-fn push_separator(out: &mut String, is_first: bool) -> Result<(), AllocError>
+/// Appends a comma, but not before the first item or member. The error comes where there was not enough memory.
+pub fn push_separator(out: &mut String, is_first: bool) -> Result<(), AllocError>
     ensures { OnOk result (string_bytes out.new ≡ string_bytes out.old ++ separator is_first) }
 {
     if is_first {

@@ -21,17 +21,17 @@ use Rattle.ijson_number.proofs.Values.{value_zeros_back, value_zeros_front}
 use Rattle.ijson_number.specs.laws.Tens.{signed_mul}
 use Rattle.ijson_number.proofs.DigitsOf.{digits_are}
 
-abbrev Below : List ℕ → Type 0
+abbrev pub Below : List ℕ → Type 0
 Below ds = AllByRecursion (λ d. d < 10) ds
 
 back : (ds : List ℕ) → digits_from_text (digits_text ds) ≡ ds
 back [] = refl
 back (d ∷ ds) = let h : 48 + d - 48 ≡ d = omega arith in rw (h, back ds) refl
 
-value_text : (ds : List ℕ) → value (digits_text ds) ≡ number_from_digits 10 ds
+pub value_text : (ds : List ℕ) → value (digits_text ds) ≡ number_from_digits 10 ds
 value_text ds = ap (number_from_digits 10) (back ds)
 
-text_digits : (ds : List ℕ) → Below ds → AllDigits (digits_text ds)
+pub text_digits : (ds : List ℕ) → Below ds → AllDigits (digits_text ds)
 text_digits [] h = tt
 text_digits (d ∷ ds) h = ((omega arith, omega arith), text_digits ds h.1)
 
@@ -40,7 +40,7 @@ zeros_digits zero = tt
 zeros_digits (suc k) = ((omega arith, omega arith), zeros_digits k)
 
 -- digits that begin with no zero may stand before the point, with more digits behind them
-whole_from : (ds xs : List ℕ) → Below ds → 0 < get_or ds 0 0 → AllDigits xs → IsWhole (digits_text ds ++ xs)
+pub whole_from : (ds xs : List ℕ) → Below ds → 0 < get_or ds 0 0 → AllDigits xs → IsWhole (digits_text ds ++ xs)
 whole_from [] xs h f x = absurd (omega arith)
 whole_from (d ∷ ds) xs h f x = inr (omega arith, omega arith, AllDigits-append (digits_text ds) xs (text_digits ds h.1) x)
 
@@ -58,16 +58,16 @@ below_drop zero ds h = h
 below_drop (suc k) [] h = tt
 below_drop (suc k) (d ∷ ds) h = below_drop k ds h.1
 
-within_below : (n : ℕ) → Below (digits_within n n)
+pub within_below : (n : ℕ) → Below (digits_within n n)
 within_below n = rw (digits_are n n) (all_below_base_digits_of 10 n (omega arith))
 
-within_value : (n : ℕ) → number_from_digits 10 (digits_within n n) ≡ n
+pub within_value : (n : ℕ) → number_from_digits 10 (digits_within n n) ≡ n
 within_value n = ap (number_from_digits 10) (digits_are n n) ∙ number_digits_of 10 n (omega arith)
 
-within_first : (n : ℕ) → 0 < n → 0 < get_or (digits_within n n) 0 0
+pub within_first : (n : ℕ) → 0 < n → 0 < get_or (digits_within n n) 0 0
 within_first n h = rw (digits_are n n) (first_digits_of 10 n (omega arith) h)
 
-first_some : (ds : List ℕ) → 0 < get_or ds 0 0 → 0 < length ds
+pub first_some : (ds : List ℕ) → 0 < get_or ds 0 0 → 0 < length ds
 first_some [] h = absurd (omega arith)
 first_some (d ∷ ds) h = omega arith
 
@@ -84,7 +84,7 @@ number_digits n h =
 number_value : (n : ℕ) → value (digits_text (digits_within n n)) ≡ n
 number_value n = value_text (digits_within n n) ∙ within_value n
 
-signed_text : (z : ℤ) → IsSigned (whole_text z) z
+pub signed_text : (z : ℤ) → IsSigned (whole_text z) z
 signed_text (pos zero) = inr (inr (((omega arith, omega arith), tt), refl))
 signed_text (pos (suc n)) = rw (number_value (suc n)) at (signed_digits (digits_text (digits_within (suc n) (suc n))) (number_digits (suc n) (omega arith)))
 signed_text (negsuc n) = inr (inl (refl, number_digits (suc n) (omega arith), ap (λ v. neg_ℤ (pos v)) (sym (number_value (suc n)))))
@@ -98,14 +98,14 @@ module _ (n : Decimal) (plain : IsPlain n) (ds : List ℕ) (negative : Bool) (be
   strips_by : (v k : ℕ) (x : ℤ) → v ≡ number_from_digits 10 ds * 10 ^ k → n.exponent ≡ x +ℤ pos k → Strips (signed negative v) x n
   strips_by v k x e f = record { plain = plain; tens = inr (k, rw (e, mantissa_is) (signed_mul negative (number_from_digits 10 ds) (10 ^ k)), f) }
 
-  build : (whole fraction fraction_text exponent_text : List ℕ) (has_point has_exponent : Bool) (z : ℤ) (k : ℕ) → IsWhole whole → IsFraction fraction_text fraction has_point → IsExponent exponent_text z has_exponent → n.point ≡ has_point || has_exponent → value (whole ++ fraction) ≡ number_from_digits 10 ds * 10 ^ k → n.exponent ≡ (z -ℤ pos (length fraction)) +ℤ pos k → Spells (minus_text negative ++ whole ++ fraction_text ++ exponent_text) n
+  pub build : (whole fraction fraction_text exponent_text : List ℕ) (has_point has_exponent : Bool) (z : ℤ) (k : ℕ) → IsWhole whole → IsFraction fraction_text fraction has_point → IsExponent exponent_text z has_exponent → n.point ≡ has_point || has_exponent → value (whole ++ fraction) ≡ number_from_digits 10 ds * 10 ^ k → n.exponent ≡ (z -ℤ pos (length fraction)) +ℤ pos k → Spells (minus_text negative ++ whole ++ fraction_text ++ exponent_text) n
   build whole fraction fraction_text exponent_text has_point has_exponent z k w f x p v e = (
     record { negative = negative; whole = whole; fraction = fraction; exponent = z; point = has_point || has_exponent },
     record { minus_text = minus_text negative; fraction_text = fraction_text; exponent_text = exponent_text; has_point = has_point; has_exponent = has_exponent; text_is = refl; minus = minus_is negative; whole = w; fraction = f; exponent = x; point = refl },
     (strips_by (value (whole ++ fraction)) k (z -ℤ pos (length fraction)) v e, p),
   )
 
-at_text : (t u : List ℕ) (n : Decimal) → t ≡ u → Spells t n → Spells u n
+pub at_text : (t u : List ℕ) (n : Decimal) → t ≡ u → Spells t n → Spells u n
 at_text t u n e s = rw e at s
 
 nonneg : (z : ℤ) → pos 0 ≤ℤ z → z ≡ pos (nat_abs z)
@@ -187,17 +187,17 @@ scientific_case n plain (d ∷ c ∷ ds) negative below first mantissa_is t p pe
     let v : value ((48 + d) ∷ fraction) ≡ number_from_digits 10 (d ∷ c ∷ ds) * 10 ^ 0 = value_text (d ∷ c ∷ ds) ∙ omega arith in
     at_text _ _ n (append_assoc (minus_text negative ++ ((48 + d) ∷ [])) (46 ∷ fraction) power ∙ append_assoc (minus_text negative) ((48 + d) ∷ []) ((46 ∷ fraction) ++ power)) (build n plain (d ∷ c ∷ ds) negative below first mantissa_is ((48 + d) ∷ []) fraction (46 ∷ fraction) power true true (p -ℤ pos 1) 0 (inr (omega arith, omega arith, tt)) (refl, text_digits (c ∷ ds) below.1, refl, refl) (inl refl, signed_text (p -ℤ pos 1), refl) t v (omega (arith, ints)))
 
-choose : (P : List ℕ → Type 0) (b : Bool) (xs ys : List ℕ) → (b ≡ true → P xs) → (b ≡ false → P ys) → P (elim b [ true ↦ xs | false ↦ ys ])
+pub choose : (P : List ℕ → Type 0) (b : Bool) (xs ys : List ℕ) → (b ≡ true → P xs) → (b ≡ false → P ys) → P (elim b [ true ↦ xs | false ↦ ys ])
 choose P true xs ys f g = f refl
 choose P false xs ys f g = g refl
 
-sign_of : (m : ℤ) → 0 < nat_abs m → m ≡ signed (int_lt m (pos 0)) (nat_abs m)
+pub sign_of : (m : ℤ) → 0 < nat_abs m → m ≡ signed (int_lt m (pos 0)) (nat_abs m)
 sign_of (pos zero) h = refl
 sign_of (pos (suc m)) h = let b : int_lt (pos (suc m)) (pos 0) ≡ false = grind (arith, nat_tests) in rw b refl
 sign_of (negsuc m) h = refl
 
 module _ (n : Decimal) (plain : IsPlain n) where
-  zero_parts : (b : Bool) → n.point ≡ b → n.mantissa ≡ pos 0 → Spells (zero_text b) n
+  pub zero_parts : (b : Bool) → n.point ≡ b → n.mantissa ≡ pos 0 → Spells (zero_text b) n
   zero_parts true p m = (
     record { negative = false; whole = 48 ∷ []; fraction = 48 ∷ []; exponent = pos 0; point = true },
     record { minus_text = []; fraction_text = 46 ∷ 48 ∷ []; exponent_text = []; has_point = true; has_exponent = false; text_is = refl; minus = inl (refl, refl); whole = inl (refl, refl); fraction = (refl, ((omega arith, omega arith), tt), refl, refl); exponent = (refl, refl); point = refl },

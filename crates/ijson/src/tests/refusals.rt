@@ -3,6 +3,7 @@
 
 use super::{Cache, empty_cache};
 use crate::array::IArray;
+use crate::canonical::canonical_json;
 use crate::json::{
     CompactError, JsonError, MemorySink, MemorySource, compact, from_json, report, to_json,
 };
@@ -11,7 +12,7 @@ use crate::object::{IObject, RefusedKey, RefusedPair};
 use crate::string::IString;
 use crate::table::ReserveError;
 use crate::value::IValue;
-use std::alloc::Global;
+use std::alloc::{AllocError, Global};
 use std::test::Fail;
 
 #[test]
@@ -281,6 +282,21 @@ fn reading_and_writing(rt: HostRuntime) -> Result<(), Fail> {
     let value = read(rt.alloc(), text)?;
     let found = written(rt.alloc(), &value)?;
     assert_eq!(rt; found.as_str(), text);
+    Ok(())
+}
+
+#[test]
+fn canonical(rt: HostRuntime) -> Result<(), Fail> {
+    let text = "{\"b\":{\"d\":2.0,\"c\":[10,0.0]},\"a\":\"longlong\"}";
+    let value = read(rt.alloc(), text)?;
+    let found = match canonical_json(rt.alloc(), &value) {
+        Ok(found) => found,
+        Err(AllocError) => canonical_json(rt.alloc(), &value)?,
+    };
+    assert_eq!(rt;
+        found.as_str(),
+        "{\"a\":\"longlong\",\"b\":{\"c\":[1e1,0],\"d\":2e0}}"
+    );
     Ok(())
 }
 

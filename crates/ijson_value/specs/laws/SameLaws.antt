@@ -31,7 +31,7 @@ mutual
   )
 
 -- what SameIn says of a pair of the first
-partner : (ps qs : Members) (k : List ℕ) (t : Tree) → Has k t ps → SameIn ps qs
+pub partner : (ps qs : Members) (k : List ℕ) (t : Tree) → Has k t ps → SameIn ps qs
     → (u : Tree) × Has k u qs × Same t u
 partner no_members qs k t h s = absurd h
 partner (member j v ps) qs k t h s = elim h [
@@ -114,7 +114,7 @@ without_len (member j v qs) k u h = elim (bytes_eq k j)
       ])
     ] refl
 
-without_has : (qs : Members) (k j : List ℕ) (u : Tree) → j ≢ k → Has j u qs → Has j u (without k qs)
+pub without_has : (qs : Members) (k j : List ℕ) (u : Tree) → j ≢ k → Has j u qs → Has j u (without k qs)
 without_has no_members k j u ne h = h
 without_has (member i v qs) k j u ne h = elim (bytes_eq k i)
     as (λ b. bytes_eq k i ≡ b → Has j u (cond b qs (member i v (without k qs)))) [

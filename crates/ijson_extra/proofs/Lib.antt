@@ -1,0 +1,9 @@
+pub mod Arranged
+pub mod Renumbered
+pub mod Numbers
+pub mod Law
+pub mod Rows
+pub mod Permuted
+pub mod Pointers
+pub mod Children
+pub mod InOrder

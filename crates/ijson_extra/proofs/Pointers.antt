@@ -1,0 +1,258 @@
+-- The tokens of a pointer, one after the other.
+use Rattle.std.proofs.Common.{◌≡◌, ◌≢◌, ◌⊎◌, inl, inr, ◌↔◌, IsTrue, ℕ, zero, suc, ◌+◌, ◌<◌, ◌≤◌, ◌^◌, Result, Ok, Err, not, drop, is_some, Bool, true, false, List, [], ◌∷◌, ◌++◌, eqb, length, get_or, refl, sym, ap, ◌∙◌, arith, Option, Some, None, option_map}
+use mathlib.Core.Bool.{true≢false}
+use Rattle.std.specs.Prelude.{◌==◌, option_and_then, slice_get}
+use Rattle.std.proofs.lemmas.Bool.{cases_lt}
+use Rattle.std.proofs.lemmas.List.{get_or_default}
+use Rattle.std.proofs.lemmas.Option.{slice_get_past}
+use Rattle.std.proofs.lemmas.Bool.Decides.{nat_tests}
+use Rattle.std.proofs.lemmas.Str.Parse.{IsNumeralModel, numerals_by_value, tells_all_ascii_digits, not_in_digits, parse_digits}
+use Rattle.std.specs.Char.{is_ascii_digit}
+use Rattle.std.specs.Str.{all_ascii_digits}
+use Rattle.std.specs.Str.Parse.{digits_value, ParsesUnsigned}
+use Rattle.std.specs.Result.{OkIff, MatchResult}
+use Rattle.std.specs.Int.{IsInRange}
+use Rattle.ijson_value.specs.Tree.{Tree}
+use Rattle.ijson_extra.proofs.Numbers.{one_up, and_left, and_right}
+use Rattle.ijson_extra.specs.Pointer.{names_position, position_named, in_first, written_tokens, meant, escape_meant, all_meant, child_at, followed}
+
+abbrev pub LacksByte : ℕ → List ℕ → Type 0
+LacksByte c text = (i : ℕ) → i < length text → get_or text i 0 ≢ c
+
+not_byte : (b c : ℕ) → b ≢ c → eqb b c ≡ false
+not_byte b c ne = grind (arith, nat_tests)
+
+tail_lacks : (c b : ℕ) (text : List ℕ) → LacksByte c (b ∷ text) → LacksByte c text
+tail_lacks c b text h i l = h (suc i) (omega (arith, l))
+
+in_token : (b : ℕ) (text : List ℕ) → eqb b 47 ≡ false → written_tokens (b ∷ text) ≡ in_first b (written_tokens text)
+in_token b text e = ap (λ (r : Bool). elim r [ true ↦ [] ∷ written_tokens text | false ↦ in_first b (written_tokens text) ]) e
+
+written_split : (token rest : List ℕ) → LacksByte 47 token → written_tokens (token ++ 47 ∷ rest) ≡ token ∷ written_tokens rest
+written_split [] rest h = refl
+written_split (b ∷ token) rest h =
+    in_token b (token ++ 47 ∷ rest) (not_byte b 47 (h 0 (omega arith))) ∙ ap (in_first b) (written_split token rest (tail_lacks 47 b token h))
+
+written_last : (token : List ℕ) → LacksByte 47 token → written_tokens token ≡ token ∷ []
+written_last [] h = refl
+written_last (b ∷ token) h =
+    in_token b token (not_byte b 47 (h 0 (omega arith))) ∙ ap (in_first b) (written_last token (tail_lacks 47 b token h))
+
+-- what comes of a value that was found so far, or of none, and of what is left of the pointer
+abbrev pub outcome : Option Tree → List ℕ → Option (Option Tree)
+outcome found left = option_map (λ tokens. option_and_then (λ t. followed t tokens) found) (all_meant (written_tokens left))
+
+abbrev stepped : Option Tree → List ℕ → Option Tree
+stepped found m = option_and_then (λ t. child_at t m) found
+
+abbrev of_list : Option Tree → List (List ℕ) → Option (Option Tree)
+of_list found ws = option_map (λ tokens. option_and_then (λ t. followed t tokens) found) (all_meant ws)
+
+one_on : (found : Option Tree) (m : List ℕ) (tokens : Option (List (List ℕ)))
+    → option_map (λ ts. option_and_then (λ t. followed t ts) found) (option_map (λ ts. m ∷ ts) tokens) ≡ option_map (λ ts. option_and_then (λ t. followed t ts) (stepped found m)) tokens
+one_on found m None = refl
+one_on None m (Some ts) = refl
+one_on (Some t) m (Some ts) = refl
+
+head_meant : (found : Option Tree) (token m : List ℕ) (ws : List (List ℕ)) → meant token ≡ Some m → of_list found (token ∷ ws) ≡ of_list (stepped found m) ws
+head_meant found token m ws e =
+    ap (λ o. option_map (λ ts. option_and_then (λ t. followed t ts) found) (option_and_then (λ x. option_map (λ ts. x ∷ ts) (all_meant ws)) o)) e ∙ one_on found m (all_meant ws)
+
+head_none : (found : Option Tree) (token : List ℕ) (ws : List (List ℕ)) → meant token ≡ None → of_list found (token ∷ ws) ≡ None
+head_none found token ws e = ap (λ o. option_map (λ ts. option_and_then (λ t. followed t ts) found) (option_and_then (λ x. option_map (λ ts. x ∷ ts) (all_meant ws)) o)) e
+
+-- a token that stands before a `/`
+pub token_meant : (found : Option Tree) (text token rest m : List ℕ) → text ≡ token ++ 47 ∷ rest → LacksByte 47 token → meant token ≡ Some m → outcome found text ≡ outcome (stepped found m) rest
+token_meant found text token rest m is h e = ap (of_list found) (ap written_tokens is ∙ written_split token rest h) ∙ head_meant found token m (written_tokens rest) e
+
+pub token_none : (found : Option Tree) (text token rest : List ℕ) → text ≡ token ++ 47 ∷ rest → LacksByte 47 token → meant token ≡ None → outcome found text ≡ None
+token_none found text token rest is h e = ap (of_list found) (ap written_tokens is ∙ written_split token rest h) ∙ head_none found token (written_tokens rest) e
+
+ended : (found : Option Tree) → option_and_then (λ t. followed t []) found ≡ found
+ended None = refl
+ended (Some t) = refl
+
+-- the last token
+pub last_meant : (found : Option Tree) (token m : List ℕ) → LacksByte 47 token → meant token ≡ Some m → outcome found token ≡ Some (stepped found m)
+last_meant found token m h e = ap (of_list found) (written_last token h) ∙ head_meant found token m [] e ∙ ap (λ x. Some x) (ended (stepped found m))
+
+pub last_none : (found : Option Tree) (token : List ℕ) → LacksByte 47 token → meant token ≡ None → outcome found token ≡ None
+last_none found token h e = ap (of_list found) (written_last token h) ∙ head_none found token [] e
+
+-- ---- what a token means
+pub tilde : (b : ℕ) (text : List ℕ) → eqb b 126 ≡ false → meant (b ∷ text) ≡ option_map (λ token. b ∷ token) (meant text)
+tilde b text e = ap (λ (r : Bool). elim r [ true ↦ escape_meant text | false ↦ option_map (λ token. b ∷ token) (meant text) ]) e
+
+-- a token without `~` means itself
+pub meant_itself : (token : List ℕ) → LacksByte 126 token → meant token ≡ Some token
+meant_itself [] h = refl
+meant_itself (b ∷ token) h = tilde b token (not_byte b 126 (h 0 (omega arith))) ∙ ap (option_map (λ t. b ∷ t)) (meant_itself token (tail_lacks 126 b token h))
+
+abbrev tail_of : List ℕ → List ℕ
+tail_of [] = []
+tail_of (b ∷ bs) = bs
+
+abbrev first_of : Option (List ℕ) → ℕ
+first_of None = 0
+first_of (Some []) = 0
+first_of (Some (b ∷ bs)) = b
+
+drop-step : (key : List ℕ) (i c : ℕ) → i < length key → c ≡ get_or key i c → drop i key ≡ c ∷ drop (i + 1) key
+drop-step [] i c l e = absurd (omega (arith, l))
+drop-step (k ∷ key) zero c l e = ap (λ x. x ∷ key) (sym e)
+drop-step (k ∷ key) (suc i) c l e = drop-step key i c (omega (arith, l)) e ∙ ap (λ n. c ∷ drop n (k ∷ key)) (sym (one_up i))
+
+-- nothing but the empty text means the empty key
+some_longer : (b : ℕ) (o : Option (List ℕ)) → option_map (λ token. b ∷ token) o ≡ Some [] → ⊥
+some_longer b None e = absurd (cc)
+some_longer b (Some t) e = absurd (cc)
+
+by_tests : (P : Option (List ℕ) → Type 0) (r : Bool) (x y : Option (List ℕ)) → P x → P y → P (elim r [ true ↦ x | false ↦ y ])
+by_tests P true x y p q = p
+by_tests P false x y p q = q
+
+escape_longer : (text : List ℕ) → escape_meant text ≡ Some [] → ⊥
+escape_longer [] e = absurd (cc)
+escape_longer (b ∷ text) e =
+    by_tests (λ o. o ≡ Some [] → ⊥) (eqb b 48) _ _ (some_longer 126 (meant text))
+    (by_tests (λ o. o ≡ Some [] → ⊥) (eqb b 49) _ _ (some_longer 47 (meant text)) (λ f. absurd (cc))) e
+
+meant_longer : (b : ℕ) (text : List ℕ) → meant (b ∷ text) ≡ Some [] → ⊥
+meant_longer b text e = by_tests (λ o. o ≡ Some [] → ⊥) (eqb b 126) _ _ (escape_longer text) (some_longer b (meant text)) e
+
+none_zero : (n : ℕ) → false ≡ (suc n == 0)
+none_zero n = grind (arith, nat_tests)
+
+-- where no byte can be taken any more
+pub none_left : (left : List ℕ) → (meant left ≡ None) ⊎ (left ≡ []) → is_some (meant left) ≡ (length left == 0)
+none_left [] h = refl
+none_left (b ∷ text) (inl e) = ap is_some e ∙ none_zero (length text)
+none_left (b ∷ text) (inr e) = absurd (cc)
+
+pub all_left : (left : List ℕ) (r : Bool) → r ≡ (length left == 0) → IsTrue r ↔ (meant left ≡ Some [])
+all_left [] r e = (λ t. refl, λ f. e)
+all_left (b ∷ text) r e = (λ t. absurd (true≢false (sym t ∙ e ∙ sym (none_zero (length text)))), λ f. absurd (meant_longer b text f))
+
+same_rest : (b : ℕ) (o : Option (List ℕ)) (d : List ℕ) → option_map (λ token. b ∷ token) o ≡ Some (b ∷ d) → o ≡ Some d
+same_rest b None d e = absurd (cc)
+same_rest b (Some t) d e = ap (option_map tail_of) e
+
+other_first : (b c : ℕ) (o : Option (List ℕ)) (d : List ℕ) → b ≢ c → option_map (λ token. b ∷ token) o ≡ Some (c ∷ d) → ⊥
+other_first b c None d ne e = absurd (cc)
+other_first b c (Some t) d ne e = ne (ap first_of e)
+
+-- one byte more is the key's
+pub byte_more : (whole key left rest : List ℕ) (i b c : ℕ) → i < length key → c ≡ get_or key i c → b ≡ c → meant left ≡ option_map (λ token. b ∷ token) (meant rest)
+    → (meant whole ≡ Some key) ↔ (meant left ≡ Some (drop i key)) → (meant whole ≡ Some key) ↔ (meant rest ≡ Some (drop (i + 1) key))
+byte_more whole key left rest i b c l is same e both =
+    let d = drop-step key i c l is in (
+      λ f. same_rest b (meant rest) (drop (i + 1) key) (sym e ∙ both.0 f ∙ ap (λ x. Some x) d ∙ ap (λ x. Some (x ∷ drop (i + 1) key)) (sym same)),
+      λ f. both.1 (e ∙ ap (option_map (λ token. b ∷ token)) f ∙ ap (λ x. Some (x ∷ drop (i + 1) key)) same ∙ ap (λ x. Some x) (sym d)),
+    )
+
+-- one byte is another than the key's
+pub byte_other : (whole key left rest : List ℕ) (i b c : ℕ) → i < length key → c ≡ get_or key i c → b ≢ c → meant left ≡ option_map (λ token. b ∷ token) (meant rest)
+    → (meant whole ≡ Some key) ↔ (meant left ≡ Some (drop i key)) → meant whole ≡ Some key → ⊥
+byte_other whole key left rest i b c l is ne e both f =
+    other_first b c (meant rest) (drop (i + 1) key) ne (sym e ∙ both.0 f ∙ ap (λ x. Some x) (drop-step key i c l is))
+
+-- no byte is left for one of the key's
+pub byte_none : (P : Type 0) (key left : List ℕ) (i : ℕ) → i < length key → (meant left ≡ None) ⊎ (left ≡ []) → P ↔ (meant left ≡ Some (drop i key)) → P → ⊥
+byte_none P key left i l (inl e) both f = let g = sym e ∙ both.0 f in absurd (cc)
+byte_none P key left i l (inr e) both f =
+    let c = get_or key i 0 in
+    let g = ap meant (sym e) ∙ both.0 f ∙ ap (λ x. Some x) (drop-step key i c l (get_or_default key i 0 c l)) in absurd (cc)
+
+drop-past : (key : List ℕ) (i : ℕ) → length key ≤ i → drop i key ≡ []
+drop-past [] zero h = refl
+drop-past [] (suc i) h = refl
+drop-past (k ∷ key) zero h = absurd (omega (arith, h))
+drop-past (k ∷ key) (suc i) h = drop-past key i (omega (arith, h))
+
+-- no byte of the key is left
+pub key_ended : (P : Type 0) (key left : List ℕ) (i : ℕ) (r : Bool) → length key ≤ i → r ≡ (length left == 0) → P ↔ (meant left ≡ Some (drop i key)) → IsTrue r ↔ P
+key_ended P key left i r h e both =
+    let tells = all_left left r e in
+    let past = ap (λ (x : List ℕ). Some x) (drop-past key i h) in
+    (λ t. both.1 (tells.0 t ∙ sym past), λ f. tells.1 (both.0 f ∙ past))
+
+-- ---- positions
+own : IsNumeralModel (λ ds. all_ascii_digits ds ≡ true) (digits_value 10)
+own = numerals_by_value (λ ds. all_ascii_digits ds ≡ true) tells_all_ascii_digits
+
+not_digit : IsInRange 48 57 126 → ⊥
+not_digit h = omega (arith, h)
+
+pub position_digits : (token : List ℕ) → names_position token ≡ true → all_ascii_digits token ≡ true
+position_digits [] e = absurd (cc)
+position_digits (b ∷ []) e = e
+position_digits (b ∷ c ∷ token) e = and_right (not (b == 48)) (all_ascii_digits (b ∷ c ∷ token)) e
+
+digits_meant : (token : List ℕ) → all_ascii_digits token ≡ true → meant token ≡ Some token
+digits_meant token e = meant_itself token (not_in_digits own token 126 e not_digit)
+
+abbrev or_none : Option (List ℕ) → List ℕ
+or_none None = []
+or_none (Some t) = t
+
+pub from_some : {x y : List ℕ} → Some x ≡ Some y → x ≡ y
+from_some e = ap or_none e
+
+-- digits that a text with an escape in front would mean
+no_escape : (b : ℕ) (o : Option (List ℕ)) (m : List ℕ) → is_ascii_digit b ≡ false → option_map (λ token. b ∷ token) o ≡ Some m → all_ascii_digits m ≡ true → ⊥
+no_escape b None m n e h = absurd (cc)
+no_escape b (Some t) m n e h = true≢false (sym (and_left (is_ascii_digit b) (all_ascii_digits t) (ap all_ascii_digits (from_some e) ∙ h)) ∙ n)
+
+no_escapes : (text m : List ℕ) → escape_meant text ≡ Some m → all_ascii_digits m ≡ true → ⊥
+no_escapes [] m e h = absurd (cc)
+no_escapes (b ∷ text) m e h =
+    by_tests (λ o. o ≡ Some m → ⊥) (eqb b 48) _ _ (λ f. no_escape 126 (meant text) m refl f h)
+    (by_tests (λ o. o ≡ Some m → ⊥) (eqb b 49) _ _ (λ f. no_escape 47 (meant text) m refl f h) (λ f. absurd (cc))) e
+
+same_tail : (b : ℕ) (text m : List ℕ) (o : Option (List ℕ)) → meant text ≡ o → ((n : List ℕ) → meant text ≡ Some n → all_ascii_digits n ≡ true → text ≡ n) → option_map (λ token. b ∷ token) o ≡ Some m → all_ascii_digits m ≡ true → b ∷ text ≡ m
+same_tail b text m None is back e h = absurd (cc)
+same_tail b text m (Some t) is back e h =
+    let all : all_ascii_digits (b ∷ t) ≡ true = ap all_ascii_digits (from_some e) ∙ h in
+    ap (λ x. b ∷ x) (back t is (and_right (is_ascii_digit b) (all_ascii_digits t) all)) ∙ from_some e
+
+-- a token that means digits is those
+digits_back : (token m : List ℕ) → meant token ≡ Some m → all_ascii_digits m ≡ true → token ≡ m
+digits_back [] m e h = from_some e
+digits_back (b ∷ text) m e h =
+    by_tests (λ o. o ≡ Some m → b ∷ text ≡ m) (eqb b 126) _ _ (λ f. absurd (no_escapes text m f h)) (λ f. same_tail b text m (meant text) refl (λ n. digits_back text n) f h) e
+
+pub not_named : (token : List ℕ) → names_position token ≡ false → position_named token ≡ None
+not_named token e = ap (λ (r : Bool). elim r [ true ↦ Some (digits_value 10 token) | false ↦ None ]) e
+
+pub named : (token : List ℕ) → names_position token ≡ true → position_named token ≡ Some (digits_value 10 token)
+named token e = ap (λ (r : Bool). elim r [ true ↦ Some (digits_value 10 token) | false ↦ None ]) e
+
+by_position : (token m : List ℕ) (p q : Bool) → names_position token ≡ p → names_position m ≡ q → meant token ≡ Some m → position_named token ≡ position_named m
+by_position token m p true f g e = ap position_named (digits_back token m e (position_digits m g))
+by_position token m true false f g e = ap position_named (from_some (sym (digits_meant token (position_digits token f)) ∙ e))
+by_position token m false false f g e = not_named token f ∙ sym (not_named m g)
+
+-- a token names the position that it names as it is meant
+pub same_position : (token m : List ℕ) → meant token ≡ Some m → position_named token ≡ position_named m
+same_position token m e = by_position token m (names_position token) (names_position m) refl refl e
+
+at_least : (n k : ℕ) → k < 2 ^ 64 → (n < 2 ^ 64 → ⊥) → k ≤ n
+at_least n k l h = elim (cases_lt n (2 ^ 64)) [ inl a ↦ absurd (h a) | inr b ↦ omega (arith, l, b) ]
+
+position_some : (token : List ℕ) → names_position token ≡ true → 0 < length token
+position_some [] e = absurd (cc)
+position_some (b ∷ token) e = omega arith
+
+read_by : {X E : Type 0} (xs : List X) (token : List ℕ) (r : Result ℕ E) → OkIff r ((0 < length token) × (digits_value 10 token < 2 ^ 64)) (digits_value 10 token) → names_position token ≡ true → 0 < length token → length xs < 2 ^ 64
+    → MatchResult r (λ n. option_and_then (slice_get xs) (position_named token) ≡ slice_get xs n) (λ e. option_and_then (slice_get xs) (position_named token) ≡ None)
+read_by xs token (Ok n) h p s l = ap (option_and_then (slice_get xs)) (named token p) ∙ ap (slice_get xs) (sym h.1)
+read_by xs token (Err x) h p s l =
+    ap (option_and_then (slice_get xs)) (named token p)
+    ∙ slice_get_past xs (digits_value 10 token) (at_least (digits_value 10 token) (length xs) l (λ m. h (s, m)))
+
+-- the item at a position that was read, and none where it was too large
+pub position_read : {X E : Type 0} (xs : List X) (token : List ℕ) (r : Result ℕ E) → ParsesUnsigned 64 10 token r → names_position token ≡ true → length xs < 2 ^ 64
+    → MatchResult r (λ n. option_and_then (slice_get xs) (position_named token) ≡ slice_get xs n) (λ e. option_and_then (slice_get xs) (position_named token) ≡ None)
+position_read xs token r h p l =
+    let d = position_digits token p in
+    read_by xs token r (parse_digits own 64 token r h d) p (position_some token p) l

@@ -1,0 +1,13 @@
+use Rattle.std.proofs.Common.{◌≡◌, ◌∙◌, false, rules, sym, ap, arith}
+use Rattle.std.proofs.lemmas.Str.Pattern.{contains_char}
+use mathlib.Core.Bool.{true≢false}
+use Rattle.ijson_table.specs.Store.{lookup}
+use Rattle.ijson_extra.proofs.Pointers.{from_some, meant_itself}
+use Rattle.ijson_extra.proofs.pointer.member.Goals as goal
+
+pub returns-then-not-contains : goal.returns-then-not-contains
+returns-then-not-contains c = λ m e.
+    let none : c.contains.result ≡ false = search rules in
+    let found = contains_char 126 c.args.token.now c.contains.result c.contains.ensures.cases (omega arith) in
+    let itself = meant_itself c.args.token.now (λ i l is. true≢false (sym (found.1 i l is) ∙ none)) in
+    c.get.ensures ∙ ap (λ k. lookup k c.args.object.now.pairs) (from_some (sym itself ∙ e))

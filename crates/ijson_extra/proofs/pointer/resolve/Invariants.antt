@@ -1,0 +1,16 @@
+use Rattle.std.proofs.Common.{◌≡◌, length, option_map}
+use denote.Text.{Utf8}
+use denote.Shadow.{shadow}
+use Rattle.ijson_extra.specs.Pointer.{resolved}
+use Rattle.ijson_extra.proofs.Pointers.{outcome}
+use Rattle.ijson_extra.proofs.pointer.resolve.Given as goal
+
+-- what comes of the pointer is what comes of the value that was found so far and of what is left
+abbrev pub invariant-loop-token : goal.invariant-loop-token
+invariant-loop-token l = record {
+  utf8 : shadow (Utf8 l.left);
+  same : resolved l.fn.value.tree l.fn.pointer ≡ outcome (option_map (λ v. v.now.tree) l.found) l.left;
+}
+
+abbrev pub decreases-loop-token : goal.decreases-loop-token
+decreases-loop-token l = length l.left

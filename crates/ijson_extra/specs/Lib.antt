@@ -1,0 +1,4 @@
+pub mod Pointer
+pub mod Sorted
+pub mod Canonical
+pub mod OneCanonicalText
