@@ -63,5 +63,5 @@ some_of_items tree (x ∷ xs) (suc i) d old new h s =
     let first = texts_of (tree x) in
     let before = items_texts (items_of (map tree (take i xs))) in
     some_behind first (items_texts (items_of (map tree xs))) old new
-        (some_of_items tree xs i d (all_interned first old) new (omega arith)
-        (subst (λ c. SomeInterned (texts_of (tree (get_or xs i d))) c new) (both_interned first before old) s))
+    (some_of_items tree xs i d (all_interned first old) new (omega arith)
+    (subst (λ c. SomeInterned (texts_of (tree (get_or xs i d))) c new) (both_interned first before old) s))

@@ -1,2 +1,3 @@
-pub mod Integers
 pub mod Interning
+pub mod Pairs
+pub mod Lists

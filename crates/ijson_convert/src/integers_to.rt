@@ -13,7 +13,7 @@ use std::hash::BuildHasher;
 impl ToIValue for i8 {
     ghost tree = { λ z. integer_tree z };
 
-    #[tactic(auto, using(crate::proofs::Integers::signed_is))]
+    #[tactic(auto, using(crate::specs::laws::Integers::signed_is))]
     fn to_ivalue<S: BuildHasher>(
         &self,
         _alloc: Global,
@@ -26,7 +26,7 @@ impl ToIValue for i8 {
 impl ToIValue for i16 {
     ghost tree = { λ z. integer_tree z };
 
-    #[tactic(auto, using(crate::proofs::Integers::signed_is))]
+    #[tactic(auto, using(crate::specs::laws::Integers::signed_is))]
     fn to_ivalue<S: BuildHasher>(
         &self,
         _alloc: Global,
@@ -39,7 +39,7 @@ impl ToIValue for i16 {
 impl ToIValue for i32 {
     ghost tree = { λ z. integer_tree z };
 
-    #[tactic(auto, using(crate::proofs::Integers::signed_is))]
+    #[tactic(auto, using(crate::specs::laws::Integers::signed_is))]
     fn to_ivalue<S: BuildHasher>(
         &self,
         _alloc: Global,
@@ -52,7 +52,7 @@ impl ToIValue for i32 {
 impl ToIValue for i64 {
     ghost tree = { λ z. integer_tree z };
 
-    #[tactic(auto, using(crate::proofs::Integers::signed_is))]
+    #[tactic(auto, using(crate::specs::laws::Integers::signed_is))]
     fn to_ivalue<S: BuildHasher>(
         &self,
         _alloc: Global,
@@ -65,7 +65,7 @@ impl ToIValue for i64 {
 impl ToIValue for isize {
     ghost tree = { λ z. integer_tree z };
 
-    #[tactic(auto, using(crate::proofs::Integers::signed_is))]
+    #[tactic(auto, using(crate::specs::laws::Integers::signed_is))]
     fn to_ivalue<S: BuildHasher>(
         &self,
         _alloc: Global,
@@ -78,7 +78,7 @@ impl ToIValue for isize {
 impl ToIValue for u8 {
     ghost tree = { λ n. integer_tree (pos n) };
 
-    #[tactic(auto, using(crate::proofs::Integers::unsigned_is))]
+    #[tactic(auto, using(crate::specs::laws::Integers::unsigned_is))]
     fn to_ivalue<S: BuildHasher>(
         &self,
         _alloc: Global,
@@ -91,7 +91,7 @@ impl ToIValue for u8 {
 impl ToIValue for u16 {
     ghost tree = { λ n. integer_tree (pos n) };
 
-    #[tactic(auto, using(crate::proofs::Integers::unsigned_is))]
+    #[tactic(auto, using(crate::specs::laws::Integers::unsigned_is))]
     fn to_ivalue<S: BuildHasher>(
         &self,
         _alloc: Global,
@@ -104,7 +104,7 @@ impl ToIValue for u16 {
 impl ToIValue for u32 {
     ghost tree = { λ n. integer_tree (pos n) };
 
-    #[tactic(auto, using(crate::proofs::Integers::unsigned_is))]
+    #[tactic(auto, using(crate::specs::laws::Integers::unsigned_is))]
     fn to_ivalue<S: BuildHasher>(
         &self,
         _alloc: Global,
@@ -117,7 +117,7 @@ impl ToIValue for u32 {
 impl ToIValue for u64 {
     ghost tree = { λ n. integer_tree (pos n) };
 
-    #[tactic(auto, using(crate::proofs::Integers::unsigned_is))]
+    #[tactic(auto, using(crate::specs::laws::Integers::unsigned_is))]
     fn to_ivalue<S: BuildHasher>(
         &self,
         _alloc: Global,
@@ -130,7 +130,7 @@ impl ToIValue for u64 {
 impl ToIValue for usize {
     ghost tree = { λ n. integer_tree (pos n) };
 
-    #[tactic(auto, using(crate::proofs::Integers::unsigned_is))]
+    #[tactic(auto, using(crate::specs::laws::Integers::unsigned_is))]
     fn to_ivalue<S: BuildHasher>(
         &self,
         _alloc: Global,

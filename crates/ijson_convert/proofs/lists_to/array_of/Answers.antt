@@ -1,4 +1,4 @@
-use Rattle.std.proofs.Common.{◌≡◌, map, ◌<◌, List, [], ◌∷◌, ◌++◌, take, get_or, ◌+◌, refl, ap, ap₂, sym, subst, ◌∙◌, arith, rules}
+use Rattle.std.proofs.Common.{◌≡◌, map, [], ◌∷◌, ◌++◌, take, ◌+◌, refl, ap, ap₂, sym, subst, ◌∙◌, arith}
 use Rattle.std.proofs.lemmas.List.{take_more, map-append}
 use Rattle.std.proofs.lemmas.Result.{err_from_is_err_and}
 use Rattle.ijson_value.specs.WellFormed.{tree_of}
@@ -32,8 +32,7 @@ loop-x-preserved g c =
     let xs = c.args.items.now in
     let before = take c.loop-x.x-index xs in
     let more : map tree (take (c.loop-x.x-index + 1) xs) ≡ map tree before ++ tree c.x-item.result ∷ [] =
-        ap (map tree) (take_more xs c.loop-x.x-index c.x-item.result (omega (arith, c.loop-x-test.true))) ∙ map-append tree before _ ∙ ap (λ x. map tree before ++ tree x ∷ []) (sym c.x-item.is) in
-    (
+    ap (map tree) (take_more xs c.loop-x.x-index c.x-item.result (omega (arith, c.loop-x-test.true))) ∙ map-append tree before _ ∙ ap (λ x. map tree before ++ tree x ∷ []) (sym c.x-item.is) in (
       ap (map tree_of) c.in_ok-push.ensures.ok ∙ map-append tree_of c.loop-x.array.items _ ∙ ap₂ (λ l t. l ++ t ∷ []) c.loop-x.invariant.0 c.in_ok-item.ensures.tree ∙ sym more,
       pushed_interned (map tree before) (tree c.x-item.result) c.args.cache.now c.loop-x.cache c.to_ivalue.new.cache c.loop-x.invariant.1 c.in_ok-item.ensures.cache ∙ ap (λ l. all_interned (items_texts (items_of l)) c.args.cache.now) (sym more),
     )

@@ -1,16 +1,15 @@
 -- The number of an integer.
-use Rattle.std.proofs.Common.{◌≡◌, ℕ, ◌^◌, ◌<◌, Bool, true, false, refl, ap, sym, subst, ◌∙◌, arith}
+use Rattle.std.proofs.Common.{◌≡◌, ℕ, ◌^◌, ◌<◌, Bool, true, false, refl, ap, sym, subst, ◌∙◌}
 use Rattle.std.specs.Prelude.{ℤ, pos, negsuc, nat_abs, FitsSigned}
 use Rattle.std.specs.Cmp.{tied_back}
 use Rattle.std.specs.declared.cmp.Ordering.TheVariants.{Equal}
 use mir.Syntax.{w64}
-use Rattle.ijson_number.specs.Decimal.{Decimal}
 use Rattle.ijson_number.specs.Form.{packed, signed_word, unsigned_word, fits_packed, fits_i64, fits_u64}
 use Rattle.ijson_number.specs.Integers.{integer, HasValue, IsInteger}
 use Rattle.ijson_number.specs.Num.{Num, IsNum}
 use Rattle.ijson_number.specs.Order.{number_cmp}
 use Rattle.ijson_number.specs.laws.Ordered.{number_cmp_total, tests_equal, equal_same}
-use Rattle.ijson_number.specs.private.FormNumber.{form_number, integer_word, stripped_number}
+use Rattle.ijson_number.specs.private.FormNumber.{form_number, integer_word}
 use Rattle.ijson_number.proofs.Denotes.{same_decimal}
 use Rattle.ijson_number.proofs.IntegerWords.{word_num, word_integer, signed_small, signed_fits, unsigned_fits}
 use Rattle.ijson_value.specs.Tree.{number}
@@ -24,7 +23,7 @@ same_integer a b z h k =
     let c = number_cmp_total.congr a.decimal (integer z) b.decimal p ∙ tied_back number_cmp_total b.decimal (integer z) q in
     let e = equal_same a.decimal b.decimal a.is_num.plain b.is_num.plain c in
     same_decimal a.decimal.mantissa b.decimal.mantissa a.decimal.exponent b.decimal.exponent
-        a.decimal.point b.decimal.point e.0 e.1 (h.no_point ∙ sym k.no_point)
+    a.decimal.point b.decimal.point e.0 e.1 (h.no_point ∙ sym k.no_point)
 
 -- what isn't below zero is its size
 size_is : (z : ℤ) → fits_u64 z ≡ true → pos (nat_abs z) ≡ z
