@@ -3,6 +3,7 @@
 
 mod arrays;
 mod cache;
+mod conversions;
 mod devices;
 mod equality;
 mod errors;
