@@ -4,6 +4,7 @@
 mod arrays;
 mod cache;
 mod canonical;
+mod conversions;
 mod devices;
 mod equality;
 mod errors;

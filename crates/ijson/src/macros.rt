@@ -1,0 +1,127 @@
+//! `ijson!`: values written as literals. It takes the tokens of a literal one value at a time, after the Rust crate's.
+
+/// The value of a literal, as a `Result<IValue, ConvertError>`: `null`, a list in brackets, an object in braces, or an
+/// expression whose type has `ToIValue`, nested at will. A key is an expression of type `&str`, and a later equal key
+/// replaces the value. A trailing comma is allowed; a misplaced token does not compile.
+///
+/// ```
+/// let value = ijson!(alloc, &mut cache; {"name": "ijson", "sizes": [1u8, 2u8, null], "nested": {"deep": true}})?;
+/// ```
+#[macro_export]
+macro_rules! ijson {
+    ($alloc:expr, $cache:expr; $($json:tt)+) => {{
+        let alloc = $alloc;
+        let cache = $cache;
+        let built: std::result::Result<$crate::IValue, $crate::convert::ConvertError> = 'built: {
+            Ok($crate::ijson_internal!(alloc cache 'built; $($json)+))
+        };
+        built
+    }};
+}
+
+/// A hidden helper of `ijson!`.
+#[macro_export]
+macro_rules! ijson_internal {
+    // `?`, which leaves the block and not the caller's function.
+    (@try $out:lifetime $step:expr) => {
+        match $step {
+            Ok(done) => done,
+            Err(refused) => break $out Err($crate::convert::ConvertError::from(refused)),
+        }
+    };
+
+    // Items: what comes next is a value, or an expression up to a comma.
+    (@array $a:ident $c:ident $out:lifetime $list:ident) => {};
+    (@array $a:ident $c:ident $out:lifetime $list:ident null $($rest:tt)*) => {
+        $crate::ijson_internal!(@item $a $c $out $list (null) $($rest)*);
+    };
+    (@array $a:ident $c:ident $out:lifetime $list:ident [$($inner:tt)*] $($rest:tt)*) => {
+        $crate::ijson_internal!(@item $a $c $out $list ([$($inner)*]) $($rest)*);
+    };
+    (@array $a:ident $c:ident $out:lifetime $list:ident {$($inner:tt)*} $($rest:tt)*) => {
+        $crate::ijson_internal!(@item $a $c $out $list ({$($inner)*}) $($rest)*);
+    };
+    (@array $a:ident $c:ident $out:lifetime $list:ident $next:expr, $($rest:tt)*) => {
+        $crate::ijson_internal!(@item $a $c $out $list ($next) , $($rest)*);
+    };
+    (@array $a:ident $c:ident $out:lifetime $list:ident $last:expr) => {
+        $crate::ijson_internal!(@item $a $c $out $list ($last));
+    };
+    (@array $a:ident $c:ident $out:lifetime $list:ident , $($rest:tt)*) => {
+        $crate::ijson_unexpected!(,)
+    };
+    (@item $a:ident $c:ident $out:lifetime $list:ident ($($value:tt)+)) => {
+        let item = $crate::ijson_internal!($a $c $out; $($value)+);
+        $crate::ijson_internal!(@try $out $list.push(item));
+    };
+    (@item $a:ident $c:ident $out:lifetime $list:ident ($($value:tt)+) , $($rest:tt)*) => {
+        let item = $crate::ijson_internal!($a $c $out; $($value)+);
+        $crate::ijson_internal!(@try $out $list.push(item));
+        $crate::ijson_internal!(@array $a $c $out $list $($rest)*);
+    };
+    (@item $a:ident $c:ident $out:lifetime $list:ident ($($value:tt)+) $unexpected:tt $($rest:tt)*) => {
+        $crate::ijson_unexpected!($unexpected)
+    };
+
+    // Pairs: the tokens of the key are gathered up to the colon.
+    (@object $a:ident $c:ident $out:lifetime $pairs:ident () ()) => {};
+    (@object $a:ident $c:ident $out:lifetime $pairs:ident ($($key:tt)+) (: null $($rest:tt)*)) => {
+        $crate::ijson_internal!(@pair $a $c $out $pairs ($($key)+) (null) $($rest)*);
+    };
+    (@object $a:ident $c:ident $out:lifetime $pairs:ident ($($key:tt)+) (: [$($inner:tt)*] $($rest:tt)*)) => {
+        $crate::ijson_internal!(@pair $a $c $out $pairs ($($key)+) ([$($inner)*]) $($rest)*);
+    };
+    (@object $a:ident $c:ident $out:lifetime $pairs:ident ($($key:tt)+) (: {$($inner:tt)*} $($rest:tt)*)) => {
+        $crate::ijson_internal!(@pair $a $c $out $pairs ($($key)+) ({$($inner)*}) $($rest)*);
+    };
+    (@object $a:ident $c:ident $out:lifetime $pairs:ident ($($key:tt)+) (: $value:expr, $($rest:tt)*)) => {
+        $crate::ijson_internal!(@pair $a $c $out $pairs ($($key)+) ($value) , $($rest)*);
+    };
+    (@object $a:ident $c:ident $out:lifetime $pairs:ident ($($key:tt)+) (: $value:expr)) => {
+        $crate::ijson_internal!(@pair $a $c $out $pairs ($($key)+) ($value));
+    };
+    (@object $a:ident $c:ident $out:lifetime $pairs:ident () ($next:tt $($rest:tt)*)) => {
+        $crate::ijson_internal!(@object $a $c $out $pairs ($next) ($($rest)*));
+    };
+    (@object $a:ident $c:ident $out:lifetime $pairs:ident ($($key:tt)+) ($next:tt $($rest:tt)*)) => {
+        $crate::ijson_internal!(@object $a $c $out $pairs ($($key)+ $next) ($($rest)*));
+    };
+    (@put $a:ident $c:ident $out:lifetime $pairs:ident ($($key:tt)+) ($($value:tt)+)) => {
+        let key = $crate::ijson_internal!(@try $out $crate::IString::intern($c, $($key)+));
+        let value = $crate::ijson_internal!($a $c $out; $($value)+);
+        drop($crate::ijson_internal!(@try $out $pairs.insert(key, value)));
+    };
+    (@pair $a:ident $c:ident $out:lifetime $pairs:ident ($($key:tt)+) ($($value:tt)+)) => {
+        $crate::ijson_internal!(@put $a $c $out $pairs ($($key)+) ($($value)+));
+    };
+    (@pair $a:ident $c:ident $out:lifetime $pairs:ident ($($key:tt)+) ($($value:tt)+) , $($rest:tt)*) => {
+        $crate::ijson_internal!(@put $a $c $out $pairs ($($key)+) ($($value)+));
+        $crate::ijson_internal!(@object $a $c $out $pairs () ($($rest)*));
+    };
+    (@pair $a:ident $c:ident $out:lifetime $pairs:ident ($($key:tt)+) ($($value:tt)+) $unexpected:tt $($rest:tt)*) => {
+        $crate::ijson_unexpected!($unexpected)
+    };
+
+    ($a:ident $c:ident $out:lifetime; null) => {
+        $crate::IValue::NULL
+    };
+    ($a:ident $c:ident $out:lifetime; [$($items:tt)*]) => {{
+        let mut list = $crate::IArray::new($a);
+        $crate::ijson_internal!(@array $a $c $out list $($items)*);
+        $crate::IValue::from(list)
+    }};
+    ($a:ident $c:ident $out:lifetime; {$($members:tt)*}) => {{
+        let mut pairs = $crate::IObject::new($a);
+        $crate::ijson_internal!(@object $a $c $out pairs () ($($members)*));
+        $crate::IValue::from(pairs)
+    }};
+    ($a:ident $c:ident $out:lifetime; $other:expr) => {
+        $crate::ijson_internal!(@try $out $crate::to_value($a, $c, &$other))
+    };
+}
+
+/// A hidden helper of `ijson!`: no rule takes a token.
+#[macro_export]
+macro_rules! ijson_unexpected {
+    () => {};
+}

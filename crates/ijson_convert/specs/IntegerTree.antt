@@ -1,0 +1,13 @@
+-- An integer as a tree: the number of its value without the point, with the tens taken out of the mantissa. This
+-- project's own.
+use Rattle.std.specs.Prelude.{ℤ, pos, false}
+use Rattle.ijson_number.specs.Decimal.{Decimal}
+use Rattle.ijson_number.specs.private.FormNumber.{stripped_number}
+use Rattle.ijson_value.specs.Tree.{Tree, number}
+
+-- an integer of at most 20 digits as a number
+abbrev pub integer_number : ℤ → Decimal
+integer_number z = stripped_number z (pos 0) false
+
+abbrev pub integer_tree : ℤ → Tree
+integer_tree z = number (integer_number z)

@@ -1,0 +1,6 @@
+-- A tree that nothing refuses. This project's own.
+use Rattle.ijson_value.specs.Tree.{Tree}
+use Rattle.ijson_convert.specs.declared.convert_error.ConvertError.{ConvertError}
+
+abbrev pub IsRead : (Tree → ConvertError → Type 0) → Tree → Type 0
+IsRead Refused t = (e : ConvertError) → Refused t e → ⊥

@@ -1,0 +1,9 @@
+pub mod IntegerTree
+pub mod OptionTree
+pub mod ListTree
+pub mod MapTree
+pub mod TextsOf
+pub mod Interned
+pub mod IsRead
+pub mod Refused
+pub mod laws

@@ -1,0 +1,6 @@
+-- A list as a tree: the trees of its items, in order. This project's own.
+use Rattle.std.specs.Prelude.{List, map}
+use Rattle.ijson_value.specs.Tree.{Tree, array, items_of}
+
+abbrev pub list_tree : {X : Type 0} → (X → Tree) → List X → Tree
+list_tree tree xs = array (items_of (map tree xs))

@@ -1,0 +1,7 @@
+-- What may be missing as a tree: null where it is missing. This project's own.
+use Rattle.std.specs.Prelude.{Option, None, Some}
+use Rattle.ijson_value.specs.Tree.{Tree, null}
+
+abbrev pub option_tree : {X : Type 0} → (X → Tree) → Option X → Tree
+option_tree tree None = null
+option_tree tree (Some x) = tree x

@@ -1,0 +1,52 @@
+-- Why a tree is not read as a Rust value, by the type: a tree of another kind is refused as such, a number that is not
+-- whole or not in range as out of range, and a list or a map for the first refusal in its order. This project's own.
+use Rattle.std.specs.Prelude.{◌≡◌, ◌⊎◌, ◌<◌, ℕ, ℤ, pos, Option, None, Some, List, [], ◌∷◌, ⊤, FitsSigned}
+use Rattle.std.specs.Int.{Width}
+use Rattle.ijson_number.specs.Integers.{HasValue}
+use Rattle.ijson_value.specs.Tree.{Tree, null, boolean, number, string, array, Items, no_items, item}
+use Rattle.ijson_convert.specs.IsRead.{IsRead}
+use Rattle.ijson_convert.specs.declared.convert_error.ConvertError.{ConvertError}
+use Rattle.ijson_convert.specs.declared.convert_error.ConvertError.TheVariants.{WrongKind, OutOfRange}
+
+abbrev pub BoolRefused : Tree → ConvertError → Type 0
+BoolRefused (boolean b) e = ⊥
+BoolRefused _ e = e ≡ WrongKind
+
+abbrev pub TextRefused : Tree → ConvertError → Type 0
+TextRefused (string s) e = ⊥
+TextRefused _ e = e ≡ WrongKind
+
+-- an integer with a sign, of this width
+abbrev pub SignedRefused : Width → Tree → ConvertError → Type 0
+SignedRefused width (number n) e =
+    (e ≡ OutOfRange) × ((z : ℤ) → FitsSigned width z → HasValue n z → ⊥)
+SignedRefused width _ e = e ≡ WrongKind
+
+-- an integer without a sign, below this limit
+abbrev pub UnsignedRefused : ℕ → Tree → ConvertError → Type 0
+UnsignedRefused limit (number n) e =
+    (e ≡ OutOfRange) × ((m : ℕ) → m < limit → HasValue n (pos m) → ⊥)
+UnsignedRefused limit _ e = e ≡ WrongKind
+
+abbrev pub OptionRefused : (Tree → ConvertError → Type 0) → Tree → ConvertError → Type 0
+OptionRefused Refused null e = ⊥
+OptionRefused Refused t e = Refused t e
+
+-- the first refusal of an item
+abbrev pub FirstRefused : (Tree → ConvertError → Type 0) → Items → ConvertError → Type 0
+FirstRefused Refused no_items e = ⊥
+FirstRefused Refused (item t more) e =
+    Refused t e ⊎ (IsRead Refused t × FirstRefused Refused more e)
+
+abbrev pub ListRefused : (Tree → ConvertError → Type 0) → Tree → ConvertError → Type 0
+ListRefused Refused (array items) e = FirstRefused Refused items e
+ListRefused Refused _ e = e ≡ WrongKind
+
+-- what holds of the integers in what may be missing, and in a list
+abbrev pub option_in_range : {X : Type 0} → (X → Type 0) → Option X → Type 0
+option_in_range in_range None = ⊤
+option_in_range in_range (Some x) = in_range x
+
+abbrev pub all_in_range : {X : Type 0} → (X → Type 0) → List X → Type 0
+all_in_range in_range [] = ⊤
+all_in_range in_range (x ∷ xs) = in_range x × all_in_range in_range xs

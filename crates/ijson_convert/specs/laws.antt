@@ -1,0 +1,3 @@
+pub mod Complete
+pub mod Integers
+pub mod Whole

@@ -1,0 +1,74 @@
+-- A tree that is refused is no value's.
+use Rattle.std.specs.Prelude.{ℕ, Bool, List, [], ◌∷◌, map, Option, None, Some, ⊤}
+use Rattle.std.proofs.Common.{inl, inr}
+use Rattle.ijson_value.specs.Same.{Same, SameEach}
+use Rattle.ijson_value.specs.Tree.{Tree, null, boolean, number, string, array, object, Items, no_items, item, items_of}
+use Rattle.ijson_value.specs.WellFormed.{IsWellFormed, AreWellFormed}
+use Rattle.ijson_convert.specs.ListTree.{list_tree}
+use Rattle.ijson_convert.specs.OptionTree.{option_tree}
+use Rattle.ijson_convert.specs.Refused.{BoolRefused, TextRefused, OptionRefused, FirstRefused, ListRefused, option_in_range, all_in_range}
+use Rattle.ijson_convert.specs.declared.convert_error.ConvertError.{ConvertError}
+
+pub bool_complete : (b : Bool) (t : Tree) (e : ConvertError) → ⊤ → IsWellFormed (boolean b) → IsWellFormed t
+    → Same (boolean b) t → BoolRefused t e → ⊥
+bool_complete b (boolean c) e i w v s r = r
+bool_complete b null e i w v s r = s
+bool_complete b (number n) e i w v s r = s
+bool_complete b (string n) e i w v s r = s
+bool_complete b (array n) e i w v s r = s
+bool_complete b (object n) e i w v s r = s
+
+pub text_complete : (text : List ℕ) (t : Tree) (e : ConvertError) → ⊤ → IsWellFormed (string text) → IsWellFormed t
+    → Same (string text) t → TextRefused t e → ⊥
+text_complete b (string s) e i w v h r = r
+text_complete b null e i w v s r = s
+text_complete b (boolean n) e i w v s r = s
+text_complete b (number n) e i w v s r = s
+text_complete b (array n) e i w v s r = s
+text_complete b (object n) e i w v s r = s
+
+module _ {X : Type 0} (tree : X → Tree) (Refused : Tree → ConvertError → Type 0) (in_range : X → Type 0)
+    (complete : (x : X) (t : Tree) (e : ConvertError) → in_range x → IsWellFormed (tree x) → IsWellFormed t
+    → Same (tree x) t → Refused t e → ⊥) where
+  refused_inside : (t : Tree) (e : ConvertError) → OptionRefused Refused t e → Refused t e
+  refused_inside null e r = absurd r
+  refused_inside (boolean b) e r = r
+  refused_inside (number n) e r = r
+  refused_inside (string s) e r = r
+  refused_inside (array ts) e r = r
+  refused_inside (object ps) e r = r
+
+  none_complete : (t : Tree) (e : ConvertError) → Same null t → OptionRefused Refused t e → ⊥
+  none_complete null e s r = r
+  none_complete (boolean b) e s r = s
+  none_complete (number n) e s r = s
+  none_complete (string n) e s r = s
+  none_complete (array n) e s r = s
+  none_complete (object n) e s r = s
+
+  pub option_complete : (o : Option X) (t : Tree) (e : ConvertError) → option_in_range in_range o
+      → IsWellFormed (option_tree tree o) → IsWellFormed t → Same (option_tree tree o) t
+      → OptionRefused Refused t e → ⊥
+  option_complete None t e i w v s r = none_complete t e s r
+  option_complete (Some x) t e i w v s r = complete x t e i w v s (refused_inside t e r)
+
+  items_complete : (xs : List X) (ts : Items) (e : ConvertError) → all_in_range in_range xs
+      → AreWellFormed (items_of (map tree xs)) → AreWellFormed ts → SameEach (items_of (map tree xs)) ts
+      → FirstRefused Refused ts e → ⊥
+  items_complete [] no_items e i w v s r = r
+  items_complete [] (item t ts) e i w v s r = s
+  items_complete (x ∷ xs) no_items e i w v s r = s
+  items_complete (x ∷ xs) (item t ts) e i w v s r = elim r [
+    | inl here ↦ complete x t e i.0 w.0 v.0 s.0 here
+    | inr later ↦ items_complete xs ts e i.1 w.1 v.1 s.1 later.1
+  ]
+
+  pub list_complete : (xs : List X) (t : Tree) (e : ConvertError) → all_in_range in_range xs
+      → IsWellFormed (list_tree tree xs) → IsWellFormed t → Same (list_tree tree xs) t
+      → ListRefused Refused t e → ⊥
+  list_complete xs (array ts) e i w v s r = items_complete xs ts e i w v s r
+  list_complete xs null e i w v s r = s
+  list_complete xs (boolean n) e i w v s r = s
+  list_complete xs (number n) e i w v s r = s
+  list_complete xs (string n) e i w v s r = s
+  list_complete xs (object n) e i w v s r = s

@@ -1,0 +1,49 @@
+//! Why a conversion is refused.
+ghost use Rattle.std.specs.Prelude.{◌≡◌};
+ghost use Rattle.ijson_convert.specs.declared.convert_error.ConvertError.TheVariants.{Memory};
+
+use ijson_value::array::Refused;
+use ijson_value::object::RefusedPair;
+use std::alloc::AllocError;
+use thiserror::Error;
+
+/// Why a value was not converted.
+#[derive(Clone, Copy, PartialEq, Eq, Debug, Drop, Error)]
+pub enum ConvertError {
+    /// The JSON value is of another kind than the Rust type.
+    #[error("a value of another kind")]
+    WrongKind,
+    /// The number is not whole, or not in the range of the integer type.
+    #[error("not a whole number in the range of the type")]
+    OutOfRange,
+    /// The value of the number is neither an `i64` nor a `u64`, or it is a float of `serde_json`.
+    #[error("a number that is neither an i64 nor a u64")]
+    Number,
+    /// Memory was refused.
+    #[error("out of memory")]
+    Memory,
+}
+
+impl From<AllocError> for ConvertError {
+    ghost from_gives = { λ _ e. e ≡ Memory };
+
+    fn from(_refused: AllocError) -> ConvertError {
+        ConvertError::Memory
+    }
+}
+
+impl From<Refused> for ConvertError {
+    ghost from_gives = { λ _ e. e ≡ Memory };
+
+    fn from(_refused: Refused) -> ConvertError {
+        ConvertError::Memory
+    }
+}
+
+impl From<RefusedPair> for ConvertError {
+    ghost from_gives = { λ _ e. e ≡ Memory };
+
+    fn from(_refused: RefusedPair) -> ConvertError {
+        ConvertError::Memory
+    }
+}

@@ -1,0 +1,51 @@
+//! `FromIValue`: what can be made of a JSON value.
+ghost use Rattle.std.specs.Prelude.{◌≡◌, ◌⊎◌, IfOk, IfErr};
+ghost use Rattle.ijson_value.specs.Same.{Same};
+ghost use Rattle.ijson_value.specs.Tree.{Tree};
+ghost use Rattle.ijson_value.specs.WellFormed.{IsWellFormed};
+ghost use Rattle.ijson_convert.specs.IsRead.{IsRead};
+ghost use Rattle.ijson_convert.specs.declared.convert_error.ConvertError.{ConvertError};
+ghost use Rattle.ijson_convert.specs.declared.convert_error.ConvertError.TheVariants.{Memory};
+
+use crate::convert_error::ConvertError;
+use ijson_value::value::IValue;
+use std::alloc::Global;
+
+/// What has a tree, and can be made of a JSON value whose tree is the same.
+pub trait FromIValue: Sized {
+    /// The tree of a value.
+    ghost tree: { Self → Tree };
+
+    ghost use Rattle.std.specs.Prelude.{◌≡◌, ◌⊎◌, IfOk, IfErr};
+    ghost use Rattle.ijson_value.specs.Same.{Same};
+    ghost use Rattle.ijson_value.specs.WellFormed.{IsWellFormed};
+    ghost use Rattle.ijson_convert.specs.IsRead.{IsRead};
+    ghost use Rattle.ijson_convert.specs.declared.convert_error.ConvertError.{ConvertError};
+    ghost use Rattle.ijson_convert.specs.declared.convert_error.ConvertError.TheVariants.{Memory};
+
+    /// Why a tree is refused: the first reason in order.
+    ghost refused: { Tree → ConvertError → Type 0 };
+
+    /// What holds of the integers in each value: in a law, an integer type has any whole number.
+    ghost in_range: { Self → Type 0 };
+
+    /// What the JSON value says. Want of memory apart, it is refused exactly where its tree is.
+    fn from_ivalue(alloc: Global, value: &IValue) -> Result<Self, ConvertError>
+        ensures same { IfOk result (λ x. Same (tree x) value.now.tree) }
+        ensures read { IfOk result (λ x. IsRead refused value.now.tree) }
+        ensures refused { IfErr result (λ e. (e ≡ Memory) ⊎ refused value.now.tree e) };
+
+    /// Only a tree that is no value's is refused.
+    ghost complete: { (x : Self) (t : Tree) (e : ConvertError) → in_range x → IsWellFormed (tree x)
+        → IsWellFormed t → Same (tree x) t → refused t e → ⊥ };
+}
+
+/// What the JSON value says, as a `T`. Want of memory apart, it is refused exactly where its tree is no `T`'s, with the
+/// first reason in order.
+pub fn from_value<T: FromIValue>(alloc: Global, value: &IValue) -> Result<T, ConvertError>
+    ensures same { IfOk result (λ x. Same (T.FromIValue.tree x) value.now.tree) }
+    ensures read { IfOk result (λ x. IsRead T.FromIValue.refused value.now.tree) }
+    ensures refused { IfErr result (λ e. (e ≡ Memory) ⊎ T.FromIValue.refused value.now.tree e) }
+{
+    T::from_ivalue(alloc, value)
+}

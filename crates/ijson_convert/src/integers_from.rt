@@ -1,0 +1,233 @@
+//! `FromIValue` of the integers.
+ghost use Rattle.std.specs.Prelude.{◌<◌, ◌^◌, pos, FitsSigned};
+ghost use Rattle.std.specs.Int.{w8, w16, w32, w64};
+ghost use Rattle.ijson_convert.specs.IntegerTree.{integer_tree};
+ghost use Rattle.ijson_convert.specs.Refused.{SignedRefused, UnsignedRefused};
+ghost use Rattle.ijson_convert.specs.laws.Whole.{signed_complete, unsigned_complete, wide_8, wide_16, wide_32, wide_64, below_8, below_16, below_32, below_64};
+
+use crate::convert_error::ConvertError;
+use crate::from_ivalue::FromIValue;
+use ijson_value::value::{DestructuredRef, IValue};
+use std::alloc::Global;
+
+impl FromIValue for i8 {
+    ghost tree = { λ z. integer_tree z };
+
+    ghost refused = { SignedRefused w8 };
+
+    ghost in_range = { λ z. FitsSigned w8 z };
+
+    #[tactic(auto, using(crate::specs::laws::Whole::signed_read, crate::specs::laws::Whole::wide_8, crate::specs::laws::Whole::signed_past))]
+    fn from_ivalue(_alloc: Global, value: &IValue) -> Result<i8, ConvertError> {
+        let DestructuredRef::Number(number) = value.destructure_ref() else {
+            return Err(ConvertError::WrongKind);
+        };
+        match number.to_i32() {
+            Some(z) => match i8::try_from(z) {
+                Ok(z) => Ok(z),
+                Err(_) => Err(ConvertError::OutOfRange),
+            },
+            None => Err(ConvertError::OutOfRange),
+        }
+    }
+
+    ghost complete = { signed_complete w8 wide_8 };
+}
+
+impl FromIValue for i16 {
+    ghost tree = { λ z. integer_tree z };
+
+    ghost refused = { SignedRefused w16 };
+
+    ghost in_range = { λ z. FitsSigned w16 z };
+
+    #[tactic(auto, using(crate::specs::laws::Whole::signed_read, crate::specs::laws::Whole::wide_16, crate::specs::laws::Whole::signed_past))]
+    fn from_ivalue(_alloc: Global, value: &IValue) -> Result<i16, ConvertError> {
+        let DestructuredRef::Number(number) = value.destructure_ref() else {
+            return Err(ConvertError::WrongKind);
+        };
+        match number.to_i32() {
+            Some(z) => match i16::try_from(z) {
+                Ok(z) => Ok(z),
+                Err(_) => Err(ConvertError::OutOfRange),
+            },
+            None => Err(ConvertError::OutOfRange),
+        }
+    }
+
+    ghost complete = { signed_complete w16 wide_16 };
+}
+
+impl FromIValue for i32 {
+    ghost tree = { λ z. integer_tree z };
+
+    ghost refused = { SignedRefused w32 };
+
+    ghost in_range = { λ z. FitsSigned w32 z };
+
+    #[tactic(auto, using(crate::specs::laws::Whole::signed_read, crate::specs::laws::Whole::wide_32))]
+    fn from_ivalue(_alloc: Global, value: &IValue) -> Result<i32, ConvertError> {
+        let DestructuredRef::Number(number) = value.destructure_ref() else {
+            return Err(ConvertError::WrongKind);
+        };
+        match number.to_i32() {
+            Some(z) => Ok(z),
+            None => Err(ConvertError::OutOfRange),
+        }
+    }
+
+    ghost complete = { signed_complete w32 wide_32 };
+}
+
+impl FromIValue for i64 {
+    ghost tree = { λ z. integer_tree z };
+
+    ghost refused = { SignedRefused w64 };
+
+    ghost in_range = { λ z. FitsSigned w64 z };
+
+    #[tactic(auto, using(crate::specs::laws::Whole::signed_read, crate::specs::laws::Whole::wide_64))]
+    fn from_ivalue(_alloc: Global, value: &IValue) -> Result<i64, ConvertError> {
+        let DestructuredRef::Number(number) = value.destructure_ref() else {
+            return Err(ConvertError::WrongKind);
+        };
+        match number.to_i64() {
+            Some(z) => Ok(z),
+            None => Err(ConvertError::OutOfRange),
+        }
+    }
+
+    ghost complete = { signed_complete w64 wide_64 };
+}
+
+impl FromIValue for isize {
+    ghost tree = { λ z. integer_tree z };
+
+    ghost refused = { SignedRefused w64 };
+
+    ghost in_range = { λ z. FitsSigned w64 z };
+
+    #[tactic(auto, using(crate::specs::laws::Whole::signed_read, crate::specs::laws::Whole::wide_64))]
+    fn from_ivalue(_alloc: Global, value: &IValue) -> Result<isize, ConvertError> {
+        let DestructuredRef::Number(number) = value.destructure_ref() else {
+            return Err(ConvertError::WrongKind);
+        };
+        match number.to_isize() {
+            Some(z) => Ok(z),
+            None => Err(ConvertError::OutOfRange),
+        }
+    }
+
+    ghost complete = { signed_complete w64 wide_64 };
+}
+
+impl FromIValue for u8 {
+    ghost tree = { λ m. integer_tree (pos m) };
+
+    ghost refused = { UnsignedRefused (2 ^ 8) };
+
+    ghost in_range = { λ m. m < 2 ^ 8 };
+
+    #[tactic(auto, using(crate::specs::laws::Whole::unsigned_read, crate::specs::laws::Whole::below_8, crate::specs::laws::Whole::unsigned_past))]
+    fn from_ivalue(_alloc: Global, value: &IValue) -> Result<u8, ConvertError> {
+        let DestructuredRef::Number(number) = value.destructure_ref() else {
+            return Err(ConvertError::WrongKind);
+        };
+        match number.to_u32() {
+            Some(m) => match u8::try_from(m) {
+                Ok(m) => Ok(m),
+                Err(_) => Err(ConvertError::OutOfRange),
+            },
+            None => Err(ConvertError::OutOfRange),
+        }
+    }
+
+    ghost complete = { unsigned_complete (2 ^ 8) below_8 };
+}
+
+impl FromIValue for u16 {
+    ghost tree = { λ m. integer_tree (pos m) };
+
+    ghost refused = { UnsignedRefused (2 ^ 16) };
+
+    ghost in_range = { λ m. m < 2 ^ 16 };
+
+    #[tactic(auto, using(crate::specs::laws::Whole::unsigned_read, crate::specs::laws::Whole::below_16, crate::specs::laws::Whole::unsigned_past))]
+    fn from_ivalue(_alloc: Global, value: &IValue) -> Result<u16, ConvertError> {
+        let DestructuredRef::Number(number) = value.destructure_ref() else {
+            return Err(ConvertError::WrongKind);
+        };
+        match number.to_u32() {
+            Some(m) => match u16::try_from(m) {
+                Ok(m) => Ok(m),
+                Err(_) => Err(ConvertError::OutOfRange),
+            },
+            None => Err(ConvertError::OutOfRange),
+        }
+    }
+
+    ghost complete = { unsigned_complete (2 ^ 16) below_16 };
+}
+
+impl FromIValue for u32 {
+    ghost tree = { λ m. integer_tree (pos m) };
+
+    ghost refused = { UnsignedRefused (2 ^ 32) };
+
+    ghost in_range = { λ m. m < 2 ^ 32 };
+
+    #[tactic(auto, using(crate::specs::laws::Whole::unsigned_read, crate::specs::laws::Whole::below_32))]
+    fn from_ivalue(_alloc: Global, value: &IValue) -> Result<u32, ConvertError> {
+        let DestructuredRef::Number(number) = value.destructure_ref() else {
+            return Err(ConvertError::WrongKind);
+        };
+        match number.to_u32() {
+            Some(m) => Ok(m),
+            None => Err(ConvertError::OutOfRange),
+        }
+    }
+
+    ghost complete = { unsigned_complete (2 ^ 32) below_32 };
+}
+
+impl FromIValue for u64 {
+    ghost tree = { λ m. integer_tree (pos m) };
+
+    ghost refused = { UnsignedRefused (2 ^ 64) };
+
+    ghost in_range = { λ m. m < 2 ^ 64 };
+
+    #[tactic(auto, using(crate::specs::laws::Whole::unsigned_read, crate::specs::laws::Whole::below_64))]
+    fn from_ivalue(_alloc: Global, value: &IValue) -> Result<u64, ConvertError> {
+        let DestructuredRef::Number(number) = value.destructure_ref() else {
+            return Err(ConvertError::WrongKind);
+        };
+        match number.to_u64() {
+            Some(m) => Ok(m),
+            None => Err(ConvertError::OutOfRange),
+        }
+    }
+
+    ghost complete = { unsigned_complete (2 ^ 64) below_64 };
+}
+
+impl FromIValue for usize {
+    ghost tree = { λ m. integer_tree (pos m) };
+
+    ghost refused = { UnsignedRefused (2 ^ 64) };
+
+    ghost in_range = { λ m. m < 2 ^ 64 };
+
+    #[tactic(auto, using(crate::specs::laws::Whole::unsigned_read, crate::specs::laws::Whole::below_64))]
+    fn from_ivalue(_alloc: Global, value: &IValue) -> Result<usize, ConvertError> {
+        let DestructuredRef::Number(number) = value.destructure_ref() else {
+            return Err(ConvertError::WrongKind);
+        };
+        match number.to_usize() {
+            Some(m) => Ok(m),
+            None => Err(ConvertError::OutOfRange),
+        }
+    }
+
+    ghost complete = { unsigned_complete (2 ^ 64) below_64 };
+}

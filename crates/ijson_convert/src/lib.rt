@@ -1,0 +1,17 @@
+//! Rust values as JSON values, and JSON values as Rust values.
+#![tactic(auto)]
+
+mod convert_error;
+mod from_ivalue;
+mod integers_from;
+mod integers_to;
+mod lists_from;
+mod lists_to;
+mod maps_to;
+mod scalars_from;
+mod scalars_to;
+mod to_ivalue;
+
+pub use convert_error::ConvertError;
+pub use from_ivalue::{FromIValue, from_value};
+pub use to_ivalue::{ToIValue, to_value};

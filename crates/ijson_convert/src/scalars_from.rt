@@ -1,0 +1,67 @@
+//! `FromIValue` of truth values, texts, and what may be missing.
+ghost use Rattle.std.specs.Prelude.{⊤, string_bytes};
+ghost use Rattle.ijson_value.specs.Tree.{boolean, string};
+ghost use Rattle.ijson_convert.specs.OptionTree.{option_tree};
+ghost use Rattle.ijson_convert.specs.Refused.{BoolRefused, TextRefused, OptionRefused, option_in_range};
+ghost use Rattle.ijson_convert.specs.laws.Complete.{bool_complete, text_complete, option_complete};
+
+use crate::convert_error::ConvertError;
+use crate::from_ivalue::FromIValue;
+use ijson_value::value::{DestructuredRef, IValue};
+use std::alloc::Global;
+
+impl FromIValue for bool {
+    ghost tree = { λ b. boolean b };
+
+    ghost refused = { BoolRefused };
+
+    ghost in_range = { λ _. ⊤ };
+
+    fn from_ivalue(_alloc: Global, value: &IValue) -> Result<bool, ConvertError> {
+        match value.destructure_ref() {
+            DestructuredRef::Bool(b) => Ok(b),
+            _ => Err(ConvertError::WrongKind),
+        }
+    }
+
+    ghost complete = { bool_complete };
+}
+
+impl FromIValue for String {
+    ghost tree = { λ s. string (string_bytes s) };
+
+    ghost refused = { TextRefused };
+
+    ghost in_range = { λ _. ⊤ };
+
+    fn from_ivalue(alloc: Global, value: &IValue) -> Result<String, ConvertError> {
+        match value.destructure_ref() {
+            DestructuredRef::String(text) => Ok(text.to_owned_string(alloc)?),
+            _ => Err(ConvertError::WrongKind),
+        }
+    }
+
+    ghost complete = { λ s. text_complete (string_bytes s) };
+}
+
+/// None where the value is null.
+impl<T: FromIValue> FromIValue for Option<T> {
+    ghost tree = { option_tree T.FromIValue.tree };
+
+    ghost refused = { OptionRefused T.FromIValue.refused };
+
+    ghost in_range = { option_in_range T.FromIValue.in_range };
+
+    fn from_ivalue(alloc: Global, value: &IValue) -> Result<Option<T>, ConvertError> {
+        match value.destructure_ref() {
+            DestructuredRef::Null => Ok(None),
+            _ => match T::from_ivalue(alloc, value) {
+                Ok(x) => Ok(Some(x)),
+                Err(e) => Err(e),
+            },
+        }
+    }
+
+    ghost complete = { option_complete T.FromIValue.tree T.FromIValue.refused T.FromIValue.in_range
+        T.FromIValue.complete };
+}
