@@ -2,7 +2,7 @@
 -- project's own.
 use Rattle.std.specs.Prelude.{ℤ, pos, false}
 use Rattle.ijson_number.specs.Decimal.{Decimal}
-use Rattle.ijson_number.specs.private.FormNumber.{stripped_number}
+use Rattle.ijson_number.specs.Stripped.{stripped_number}
 use Rattle.ijson_value.specs.Tree.{Tree, number}
 
 -- an integer of at most 20 digits as a number

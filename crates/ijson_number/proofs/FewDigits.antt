@@ -11,7 +11,8 @@ use Rattle.ijson_number.specs.Form.{packed, fits_i64, fits_packed, fits_u64, sma
 use Rattle.ijson_number.specs.Grammar.{AllDigits, IsSpelled, Parts, value}
 use Rattle.ijson_number.specs.Num.{IsNum}
 use Rattle.ijson_number.specs.Strips.{Strips, signed}
-use Rattle.ijson_number.specs.private.FormNumber.{tens_out, stripped_number, integer_word}
+use Rattle.ijson_number.specs.private.FormNumber.{integer_word}
+use Rattle.ijson_number.specs.Stripped.{tens_out, stripped_number}
 use Rattle.ijson_number.specs.private.Stripped.{digits_from_text}
 use Rattle.ijson_number.specs.laws.Tens.{abs_signed, int_tens, int_zero, signed_mul, signed_zero, zero_or_not}
 use Rattle.std.proofs.lemmas.Bool.{cases_lt}

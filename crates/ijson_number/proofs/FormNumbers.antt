@@ -8,7 +8,8 @@ use Rattle.std.proofs.lemmas.Int.{ints}
 use Rattle.std.proofs.lemmas.Int.Digits.{number_digits_of}
 use Rattle.ijson_number.specs.Decimal.{Decimal, IsPlain}
 use Rattle.ijson_number.specs.Form.{FormOf, packed, signed_word, unsigned_word, fits_packed, fits_i64, fits_u64, digits_form, integer_form, smallest_packed, form_of}
-use Rattle.ijson_number.specs.private.FormNumber.{with_ten, tens_out, exponent_above, stripped_number, form_number}
+use Rattle.ijson_number.specs.private.FormNumber.{form_number}
+use Rattle.ijson_number.specs.Stripped.{with_ten, tens_out, exponent_above, stripped_number}
 use Rattle.ijson_number.specs.Num.{IsNum}
 use Rattle.ijson_number.specs.Strips.{Strips, signed}
 use Rattle.ijson_number.specs.StrippedDigits.{stripped_digits}

@@ -17,7 +17,7 @@ use Rattle.std.specs.Int.Digits.{digits_of}
 use Rattle.ijson_number.specs.Decimal.{Decimal}
 use Rattle.ijson_number.specs.Form.{FormOf, packed, digits_form, integer_form, fits_packed, smallest_packed, form_of}
 use Rattle.ijson_number.specs.Text.{digits_text, zeros_text, point_text, scientific_text, float_text, shape_text, minus_text, num_text}
-use Rattle.ijson_number.specs.private.FormNumber.{tens_out, stripped_number}
+use Rattle.ijson_number.specs.Stripped.{tens_out, stripped_number}
 use Rattle.ijson_number.specs.private.StoredNumber.{stored_number}
 use Rattle.ijson_number.specs.private.Word.{word_code, word_exponent, word_mantissa, word_point}
 use Rattle.ijson_number.specs.private.WordText.{last_digits, integer_text, pointed_text}

@@ -1,5 +1,6 @@
 pub mod Decimal
 pub mod Num
+pub mod Stripped
 pub mod Strips
 pub mod StrippedDigits
 pub mod Grammar

@@ -1,7 +1,7 @@
 //! A number by its stripped digits.
 ghost use Rattle.std.specs.Prelude.{◌≡◌, ◌%◌, ◌+◌, ◌^◌, ◌<◌, pos, ◌*ℤ◌, nat_abs, IfSome, IfNone};
 ghost use Rattle.std.specs.Int.Digits.{digits_of};
-ghost use Rattle.ijson_number.specs.private.FormNumber.{stripped_number};
+ghost use Rattle.ijson_number.specs.Stripped.{stripped_number};
 ghost use Rattle.ijson_number.specs.private.StoredNumber.{IsStored, stored_number};
 ghost use Rattle.ijson_number.specs.Num.{IsNum};
 ghost use Rattle.ijson_number.specs.laws.Codes.{IsNum-prop};

@@ -3,7 +3,7 @@ ghost use Rattle.std.specs.Prelude.{◌≡◌, ◌+◌, ◌/◌, ◌%◌, ◌^�
 ghost use Rattle.std.specs.Fmt.{decimal};
 ghost use Rattle.ijson_number.specs.Form.{fits_packed, form_of, packed};
 ghost use Rattle.ijson_number.specs.Text.{minus_text, num_text};
-ghost use Rattle.ijson_number.specs.private.FormNumber.{stripped_number};
+ghost use Rattle.ijson_number.specs.Stripped.{stripped_number};
 ghost use Rattle.ijson_number.specs.private.WordText.{integer_text, last_digits, pointed_text};
 
 use crate::number::INumber;

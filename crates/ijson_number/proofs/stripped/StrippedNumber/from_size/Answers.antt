@@ -4,7 +4,7 @@ use Rattle.std.proofs.lemmas.Int.{ints, to_z-of_z}
 use mir.Syntax.{w8, w32}
 use mir.Val.{to_z, of_z}
 use Rattle.ijson_number.specs.Num.{IsNum}
-use Rattle.ijson_number.specs.private.FormNumber.{stripped_number}
+use Rattle.ijson_number.specs.Stripped.{stripped_number}
 use Rattle.ijson_number.specs.Strips.{signed}
 use Rattle.ijson_number.proofs.IntegerWords.{zero_is, some_is, some_stored}
 use Rattle.ijson_number.proofs.stripped.StrippedNumber.from_size.Goals as goal
