@@ -1,6 +1,7 @@
 //! Values: questions, parts, conversions, and callers that know by the contracts alone what a write leaves.
-ghost use Rattle.std.specs.Prelude.{◌≡◌, IsSome, IsTrue, IsFalse, not, string_bytes};
+ghost use Rattle.std.specs.Prelude.{◌≡◌, IsSome, IsTrue, IsFalse, not};
 ghost use Rattle.ijson_value.specs.Kind.{kind_of};
+ghost use Rattle.ijson_value.specs.declared.value.ValueType.TheVariants as kind;
 ghost use Rattle.ijson_value.specs.Step.{by_position, by_key, kind_for, tree_at, tree_with};
 ghost use Rattle.ijson_value.specs.Tree.{boolean, null};
 
@@ -217,7 +218,7 @@ fn integers(rt: HostRuntime) -> Result<(), Fail> {
 
 /// Writes into the array beside `b`, and sets `c` to null.
 fn edit(value: &mut IValue) -> bool
-    requires { kind_of value.old.tree ≡ kind_for (by_key (string_bytes "b")) }
+    requires { kind_of value.old.tree ≡ kind.Object }
 {
     let Some(items) = value.get_mut(&"b") else {
         return false;
