@@ -30,6 +30,15 @@ fn number_of(value: &IValue) -> usize {
     }
 }
 
+/// The number beside a key, 99 where there is none.
+fn number_at(object: &IObject, key: &str) -> usize {
+    if object.contains_key(key) {
+        number_of(&object[key])
+    } else {
+        99
+    }
+}
+
 /// Whether there is a pair, and this is its key.
 fn has_key(pair: Option<(IString, IValue)>, key: &str) -> bool {
     match pair {
@@ -62,7 +71,7 @@ fn insertions_and_removals(rt: HostRuntime) -> Result<(), Fail> {
     assert!(rt;
         object.insert(IString::intern(&mut cache, "a")?, of_number(9))? == Some(of_number(0))
     );
-    assert!(rt; object.capacity() == 4 && object["a"] == of_number(9));
+    assert!(rt; object.capacity() == 4 && number_at(&object, "a") == 9);
     assert!(rt; object.remove("b") == Some(of_number(1)));
     assert!(rt; has_keys(&object, &["a", "d", "c"]));
     let d = IString::intern(&mut cache, "d")?;
@@ -84,7 +93,9 @@ fn shift_removals_and_writes(rt: HostRuntime) -> Result<(), Fail> {
     assert!(rt; object.shift_remove("b") == Some(of_number(1)));
     assert!(rt; object.shift_remove(&"b").is_none() && object.shift_remove_entry("b").is_none());
     assert!(rt; has_keys(&object, &["a", "c", "d"]));
-    object["c"] = of_number(7);
+    if object.contains_key("c") {
+        object["c"] = of_number(7);
+    }
     if let Some(value) = object.get_mut(&d) {
         *value = of_number(8);
     }
@@ -180,11 +191,11 @@ fn entries(rt: HostRuntime) -> Result<(), Fail> {
             .or_insert(of_number(6));
     }
     assert_eq!(rt; calls, 2);
-    assert!(rt; object["a"] == of_number(5) && object["x"] == of_number(6));
+    assert!(rt; number_at(&object, "a") == 5 && number_at(&object, "x") == 6);
 
     assert!(rt; *object.index_or_insert(IString::intern(&mut cache, "n")?)? == IValue::NULL);
     *object.index_or_insert(a)? = of_number(7);
-    assert!(rt; has_keys(&object, &["a", "k", "x", "n"]) && object["a"] == of_number(7));
+    assert!(rt; has_keys(&object, &["a", "k", "x", "n"]) && number_at(&object, "a") == 7);
     assert_eq!(rt; object.capacity(), 4);
     if let Entry::Occupied(mut entry) = object.entry_or_clone(&key)? {
         assert!(rt; entry.key().eq_str("k") && entry.insert(of_number(8)) == of_number(3));
