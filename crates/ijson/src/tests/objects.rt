@@ -7,6 +7,7 @@ use crate::string::IString;
 use crate::table::ReserveError;
 use crate::value::{DestructuredRef, IValue};
 use std::alloc::Global;
+use std::process::Abort;
 use std::test::Fail;
 
 /// An object of these keys, each with its position beside it.
@@ -30,6 +31,15 @@ fn number_of(value: &IValue) -> usize {
     }
 }
 
+/// The number beside a key, 99 where there is none.
+fn number_at(object: &IObject, key: &str) -> usize {
+    if object.contains_key(key) {
+        number_of(&object[key])
+    } else {
+        99
+    }
+}
+
 /// Whether there is a pair, and this is its key.
 fn has_key(pair: Option<(IString, IValue)>, key: &str) -> bool {
     match pair {
@@ -50,29 +60,58 @@ fn has_keys(object: &IObject, keys: &[&str]) -> bool {
     found.next().is_none()
 }
 
+/// Puts another number beside the first of four keys.
+fn replaces(rt: &impl Abort, cache: &mut Cache, object: &mut IObject) -> Result<(), Fail> {
+    let old = object.insert(IString::intern(cache, "a")?, of_number(9))?;
+    assert!(rt; old == Some(of_number(0)));
+    assert!(rt; object.capacity() == 4 && number_at(object, "a") == 9);
+    Ok(())
+}
+
+/// Takes two of the keys a to d out. The last pair moves there.
+fn removes(rt: &impl Abort, object: &mut IObject, d: &IString) {
+    assert!(rt; object.remove("b") == Some(of_number(1)));
+    assert!(rt; has_keys(object, &["a", "d", "c"]));
+    assert!(rt; has_key(object.remove_entry(d), "d"));
+    assert!(rt; has_keys(object, &["a", "c"]) && object.remove("b").is_none());
+    assert_eq!(rt; object.capacity(), 4);
+}
+
 #[test]
 fn insertions_and_removals(rt: HostRuntime) -> Result<(), Fail> {
     let alloc = rt.alloc();
     let mut cache = empty_cache(alloc);
     let five = of_keys(alloc, &mut cache, &["a", "b", "c", "d", "e"])?;
     assert!(rt; has_keys(&five, &["a", "b", "c", "d", "e"]) && five.capacity() == 8);
-
+    let d = IString::intern(&mut cache, "d")?;
     let mut object = of_keys(alloc, &mut cache, &["a", "b", "c", "d"])?;
     assert_eq!(rt; object.capacity(), 4);
-    assert!(rt;
-        object.insert(IString::intern(&mut cache, "a")?, of_number(9))? == Some(of_number(0))
-    );
-    assert!(rt; object.capacity() == 4 && object["a"] == of_number(9));
-    assert!(rt; object.remove("b") == Some(of_number(1)));
-    assert!(rt; has_keys(&object, &["a", "d", "c"]));
-    let d = IString::intern(&mut cache, "d")?;
-    assert!(rt; has_key(object.remove_entry(&d), "d"));
-    assert!(rt; has_keys(&object, &["a", "c"]) && object.remove("b").is_none());
-    assert_eq!(rt; object.capacity(), 4);
+    replaces(&rt, &mut cache, &mut object)?;
+    removes(&rt, &mut object, &d);
     object.shrink_to_fit()?;
     assert_eq!(rt; object.capacity(), 2);
-
     Ok(())
+}
+
+/// Takes b out of the keys a to d. Those behind it move one forward.
+fn shift_removes(rt: &impl Abort, object: &mut IObject) {
+    assert!(rt; object.shift_remove("b") == Some(of_number(1)));
+    assert!(rt; object.shift_remove(&"b").is_none() && object.shift_remove_entry("b").is_none());
+    assert!(rt; has_keys(object, &["a", "c", "d"]));
+}
+
+/// Writes beside each of the keys a, c and d, each in another way.
+fn writes(rt: &impl Abort, object: &mut IObject, d: &IString) {
+    if object.contains_key("c") {
+        object["c"] = of_number(7);
+    }
+    if let Some(value) = object.get_mut(d) {
+        *value = of_number(8);
+    }
+    if let Some(value) = object.value_at_mut(0) {
+        *value = of_number(6);
+    }
+    assert!(rt; object.value_at_mut(3).is_none() && object.get_mut("b").is_none());
 }
 
 #[test]
@@ -81,20 +120,11 @@ fn shift_removals_and_writes(rt: HostRuntime) -> Result<(), Fail> {
     let mut cache = empty_cache(alloc);
     let d = IString::intern(&mut cache, "d")?;
     let mut object = of_keys(alloc, &mut cache, &["a", "b", "c", "d"])?;
-    assert!(rt; object.shift_remove("b") == Some(of_number(1)));
-    assert!(rt; object.shift_remove(&"b").is_none() && object.shift_remove_entry("b").is_none());
-    assert!(rt; has_keys(&object, &["a", "c", "d"]));
-    object["c"] = of_number(7);
-    if let Some(value) = object.get_mut(&d) {
-        *value = of_number(8);
-    }
-    if let Some(value) = object.value_at_mut(0) {
-        *value = of_number(6);
-    }
-    assert!(rt; object.value_at_mut(3).is_none() && object.get_mut("b").is_none());
+    shift_removes(&rt, &mut object);
+    writes(&rt, &mut object, &d);
     for (key, number) in [("a", 6), ("c", 7), ("d", 8)] {
         assert!(rt; object.get(key) == Some(&of_number(number)) && object.contains_key(key));
-        assert!(rt; matches!(object.get_key_value(&key), Some((text, _)) if text.eq_str(key)));
+        assert!(rt; matches!(object.get_key_value(&key), Some((text, _value)) if text.eq_str(key)));
     }
     Ok(())
 }
@@ -102,7 +132,6 @@ fn shift_removals_and_writes(rt: HostRuntime) -> Result<(), Fail> {
 #[test]
 fn room(rt: HostRuntime) -> Result<(), Fail> {
     let alloc = rt.alloc();
-    let mut cache = empty_cache(alloc);
     assert!(rt; IObject::new(alloc) == IObject::with_capacity(alloc, 10)?);
     assert!(rt;
         matches!(
@@ -110,29 +139,77 @@ fn room(rt: HostRuntime) -> Result<(), Fail> {
             Err(ReserveError::TooLarge)
         )
     );
-    let mut object = IObject::with_capacity(alloc, 8)?;
-    object.insert(IString::intern(&mut cache, "a")?, IValue::TRUE)?;
-    object.insert(IString::intern(&mut cache, "b")?, IValue::TRUE)?;
+    let mut object = of_keys(alloc, &mut empty_cache(alloc), &["a", "b", "c", "d", "e"])?;
     object.clear();
     assert!(rt; object.is_empty() && object.capacity() == 8);
     object.reserve(9)?;
     assert_eq!(rt; object.capacity(), 16);
+    Ok(())
+}
 
+#[test]
+fn extensions(rt: HostRuntime) -> Result<(), Fail> {
+    let alloc = rt.alloc();
+    let mut cache = empty_cache(alloc);
     let mut object = of_keys(alloc, &mut cache, &["a", "b", "c", "d"])?;
     object.extend(of_keys(alloc, &mut cache, &["a"])?)?;
     assert!(rt; object.capacity() == 4 && has_keys(&object, &["a", "b", "c", "d"]));
     object.extend(of_keys(alloc, &mut cache, &["e"])?)?;
     assert!(rt; object.capacity() == 8 && has_keys(&object, &["a", "b", "c", "d", "e"]));
-
-    let digits = of_keys(alloc, &mut cache, &["0", "1", "2"])?;
-    let again = IObject::from_iter(alloc, of_keys(alloc, &mut cache, &["0", "1", "2"])?)?;
-    assert!(rt; again == digits && again.capacity() == 4);
-    let mixed = of_keys(alloc, &mut cache, &["id", "interned_string_a", "no"])?;
-    assert_eq!(rt; mixed.len(), 3);
-    for (position, key) in ["id", "interned_string_a", "no"].iter().enumerate() {
-        assert!(rt; mixed.get(key) == Some(&of_number(position)));
-    }
     Ok(())
+}
+
+#[test]
+fn keys_of_each_length(rt: HostRuntime) -> Result<(), Fail> {
+    let alloc = rt.alloc();
+    let mut cache = empty_cache(alloc);
+    let keys = ["id", "interned_string_a", "no"];
+    let mixed = of_keys(alloc, &mut cache, &keys)?;
+    assert_eq!(rt; mixed.len(), 3);
+    for (position, key) in keys.iter().enumerate() {
+        assert_eq!(rt; number_at(&mixed, key), position);
+    }
+    let again = IObject::from_iter(alloc, of_keys(alloc, &mut cache, &keys)?)?;
+    assert!(rt; again == mixed && again.capacity() == 4);
+    Ok(())
+}
+
+/// Asks for the entry of a key that is not there, and takes the key back.
+fn asked(object: &mut IObject, key: IString) -> Result<IString, Fail> {
+    match object.entry(key)? {
+        Entry::Vacant(entry) => Ok(entry.into_key()),
+        Entry::Occupied(entry) => Ok(entry.remove_entry().0),
+    }
+}
+
+/// The number beside a key that gets this one where it is not there.
+fn or_insert(object: &mut IObject, key: &IString, number: usize) -> Result<usize, Fail> {
+    Ok(number_of(object.entry(key.clone()?)?.or_insert(of_number(number))))
+}
+
+/// The number beside a key that gets 3 where it is not there, and how often the closure was called.
+fn or_insert_with(object: &mut IObject, key: &IString) -> Result<(usize, usize), Fail> {
+    let mut calls = 0usize;
+    let number = number_of(
+        object.entry_or_clone(key)?.or_insert_with(|| {
+            calls = calls.wrapping_add(1);
+            of_number(3)
+        }),
+    );
+    Ok((number, calls))
+}
+
+/// Puts 5 beside a key that is there, 6 beside one that is not, and tells how often the closure was called.
+fn and_modify(object: &mut IObject, key: IString) -> Result<usize, Fail> {
+    let mut calls = 0usize;
+    object
+        .entry(key)?
+        .and_modify(|value| {
+            calls = calls.wrapping_add(1);
+            *value = of_number(5);
+        })
+        .or_insert(of_number(6));
+    Ok(calls)
 }
 
 #[test]
@@ -141,59 +218,69 @@ fn entries(rt: HostRuntime) -> Result<(), Fail> {
     let mut cache = empty_cache(alloc);
     let a = IString::intern(&mut cache, "a")?;
     let mut object = IObject::new(alloc);
-    let key = match object.entry(IString::intern(&mut cache, "k")?)? {
-        Entry::Vacant(entry) => entry.into_key(),
-        Entry::Occupied(entry) => entry.remove_entry().0,
-    };
+    let key = asked(&mut object, IString::intern(&mut cache, "k")?)?;
     assert!(rt; key.eq_str("k") && object.is_empty() && object.capacity() == 4);
-
+    assert_eq!(rt; or_insert(&mut object, &a, 1)?, 1);
+    assert_eq!(rt; or_insert(&mut object, &a, 2)?, 1);
+    assert_eq!(rt; or_insert_with(&mut object, &a)?, (1, 0));
+    assert_eq!(rt; or_insert_with(&mut object, &key)?, (3, 1));
+    assert_eq!(rt; and_modify(&mut object, a)?, 1);
     assert_eq!(rt;
-        number_of(object.entry(a.clone()?)?.or_insert(of_number(1))),
-        1
+        and_modify(&mut object, IString::intern(&mut cache, "x")?)?,
+        0
     );
-    assert_eq!(rt;
-        number_of(object.entry(a.clone()?)?.or_insert(of_number(2))),
-        1
-    );
-    let mut calls = 0usize;
-    let there = number_of(
-        object.entry(a.clone()?)?.or_insert_with(|| {
-            calls = calls.wrapping_add(1);
-            of_number(3)
-        }),
-    );
-    assert_eq!(rt; (there, calls), (1, 0));
-    let made = number_of(
-        object.entry_or_clone(&key)?.or_insert_with(|| {
-            calls = calls.wrapping_add(1);
-            of_number(3)
-        }),
-    );
-    assert_eq!(rt; (made, calls), (3, 1));
-    for key in ["a", "x"] {
-        object
-            .entry(IString::intern(&mut cache, key)?)?
-            .and_modify(|value| {
-                calls = calls.wrapping_add(1);
-                *value = of_number(5);
-            })
-            .or_insert(of_number(6));
-    }
-    assert_eq!(rt; calls, 2);
-    assert!(rt; object["a"] == of_number(5) && object["x"] == of_number(6));
+    assert!(rt; number_at(&object, "a") == 5 && number_at(&object, "x") == 6);
+    assert!(rt; has_keys(&object, &["a", "k", "x"]));
+    Ok(())
+}
 
-    assert!(rt; *object.index_or_insert(IString::intern(&mut cache, "n")?)? == IValue::NULL);
-    *object.index_or_insert(a)? = of_number(7);
-    assert!(rt; has_keys(&object, &["a", "k", "x", "n"]) && object["a"] == of_number(7));
-    assert_eq!(rt; object.capacity(), 4);
-    if let Entry::Occupied(mut entry) = object.entry_or_clone(&key)? {
-        assert!(rt; entry.key().eq_str("k") && entry.insert(of_number(8)) == of_number(3));
+/// Writes through the entry of k, the second of four keys, and takes it out.
+fn occupied(rt: &impl Abort, object: &mut IObject, key: &IString) -> Result<(), Fail> {
+    if let Entry::Occupied(mut entry) = object.entry_or_clone(key)? {
+        assert!(rt; entry.key().eq_str("k") && entry.insert(of_number(8)) == of_number(1));
         *entry.get_mut() = of_number(9);
         assert!(rt; *entry.get() == of_number(9));
         assert!(rt; entry.remove_entry().1 == of_number(9));
     }
+    Ok(())
+}
+
+#[test]
+fn indexed_entries(rt: HostRuntime) -> Result<(), Fail> {
+    let alloc = rt.alloc();
+    let mut cache = empty_cache(alloc);
+    let key = IString::intern(&mut cache, "k")?;
+    let mut object = of_keys(alloc, &mut cache, &["a", "k", "x"])?;
+    assert!(rt; *object.index_or_insert(IString::intern(&mut cache, "n")?)? == IValue::NULL);
+    *object.index_or_insert(IString::intern(&mut cache, "a")?)? = of_number(7);
+    assert!(rt; has_keys(&object, &["a", "k", "x", "n"]) && number_at(&object, "a") == 7);
+    assert_eq!(rt; object.capacity(), 4);
+    occupied(&rt, &mut object, &key)?;
     assert!(rt; has_keys(&object, &["a", "n", "x"]));
     Ok(())
+}
+
+/// Iterates over the keys 0, 4 and 2, beside ten times their numbers.
+fn iterates(rt: &impl Abort, object: &IObject) {
+    let mut pairs = object.iter();
+    for (left, number) in [(3, 0), (2, 40), (1, 20)] {
+        assert_eq!(rt; pairs.len(), left);
+        assert!(rt; matches!(pairs.next(), Some((_key, value)) if *value == of_number(number)));
+    }
+    assert!(rt; pairs.next().is_none() && pairs.next().is_none());
+    let mut values = object.values();
+    assert_eq!(rt; (values.len(), object.keys().len()), (3, 3));
+    assert!(rt; values.next() == Some(&of_number(0)) && values.next() == Some(&of_number(40)));
+}
+
+/// Gives the keys 0, 4 and 2 out.
+fn gives_out(rt: &impl Abort, object: IObject) {
+    let mut owned = object.into_iter();
+    for (left, key) in [(3, "0"), (2, "4"), (1, "2")] {
+        assert_eq!(rt; owned.size_hint(), (left, Some(left)));
+        assert!(rt; has_key(owned.next(), key));
+    }
+    assert!(rt; owned.next().is_none());
 }
 
 #[test]
@@ -210,20 +297,8 @@ fn retained(rt: HostRuntime) -> Result<(), Fail> {
     });
     assert_eq!(rt; asked, 7015423);
     assert!(rt; has_keys(&object, &["0", "4", "2"]));
-    let mut pairs = object.iter();
-    for (left, number) in [(3, 0), (2, 40), (1, 20)] {
-        assert_eq!(rt; pairs.len(), left);
-        assert!(rt; matches!(pairs.next(), Some((_, value)) if *value == of_number(number)));
-    }
-    assert!(rt; pairs.next().is_none() && pairs.next().is_none());
-    let mut values = object.values();
-    assert_eq!(rt; (values.len(), object.keys().len()), (3, 3));
-    assert!(rt; values.next() == Some(&of_number(0)) && values.next() == Some(&of_number(40)));
-    let mut owned = object.into_iter();
-    for (left, key) in [(3, "0"), (2, "4"), (1, "2")] {
-        assert_eq!(rt; owned.size_hint(), (left, Some(left)));
-        assert!(rt; has_key(owned.next(), key));
-    }
-    assert!(rt; owned.next().is_none() && IObject::new(alloc).into_iter().next().is_none());
+    iterates(&rt, &object);
+    gives_out(&rt, object);
+    assert!(rt; IObject::new(alloc).into_iter().next().is_none());
     Ok(())
 }

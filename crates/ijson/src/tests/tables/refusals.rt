@@ -22,7 +22,7 @@ fn add<P: PairStore<u32>>(
     value: u32,
 ) -> Result<(), AllocError> {
     let key = key(alloc, text)?;
-    if store.position(text).is_none() && store.len() < store.capacity() {
+    if store.position(key.as_str()).is_none() && store.len() < store.capacity() {
         store.push_new(key, value);
     }
     Ok(())
