@@ -1,5 +1,5 @@
 -- What words leave of a fold that takes each write of eight bytes as a word.
-use Rattle.std.proofs.Common.{◌≡◌, ℕ, suc, ◌%◌, ◌^◌, List, [], ◌∷◌, length, fold, refl, sym, ap, ◌∙◌, arith}
+use Rattle.std.proofs.Common.{◌≡◌, ℕ, ◌%◌, ◌^◌, List, [], ◌∷◌, length, fold, sym, ap, ◌∙◌, arith}
 use Rattle.std.specs.Hash as fed
 use Rattle.std.specs.Int.{w64, from_le_bytes, to_le_bytes}
 use Rattle.std.specs.List.{flat_map}
@@ -8,7 +8,6 @@ use Rattle.ijson_value.specs.declared.word_fold.WordFold.{WordFold}
 use Rattle.ijson_value.specs.private.Folded.{folded}
 use Rattle.ijson_value.specs.Values.{array_tree, object_tree}
 use Rattle.ijson_value.specs.WellFormed.{WellFormed, item_trees, pair_trees}
-use Rattle.ijson_value.specs.Length.{items_len}
 use Rattle.ijson_value.specs.Words.{words, item_words, pair_sum}
 use Rattle.ijson_value.specs.laws.Lengths.{items_len-items, members_len-pairs}
 

@@ -1,7 +1,7 @@
 -- Whole numbers as values. This project's own.
 use Rattle.std.specs.Prelude.{ℤ}
 use Rattle.ijson_number.specs.Integers.{HasValue, IsInteger}
-use Rattle.ijson_value.specs.Tree.{Tree, null, boolean, number, string, array, object}
+use Rattle.ijson_value.specs.Tree.{Tree, number}
 
 -- the tree is a number of the value z
 abbrev pub HasInteger : Tree → ℤ → Type 0

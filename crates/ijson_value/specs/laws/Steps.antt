@@ -1,11 +1,11 @@
 -- What stands one step inside a value, what is left without it, and the value with another there: the trees of what a list of
 -- items and a store of pairs answer.
-use Rattle.std.specs.Prelude.{◌≡◌, ℕ, zero, suc, ◌-◌, ◌++◌, Bool, true, false, List, [], ◌∷◌, Option, Some, None, map, length, take, drop, set, swap, get_or, slice_get, option_map, IsSome, cond, if◌then◌else◌}
+use Rattle.std.specs.Prelude.{◌≡◌, ℕ, zero, suc, ◌-◌, ◌++◌, true, false, List, [], ◌∷◌, Option, Some, None, map, length, take, drop, set, swap, get_or, slice_get, option_map, IsSome, cond}
 use Rattle.std.specs.List.{remove}
 use Rattle.std.specs.Str.{bytes_eq}
 use Rattle.std.proofs.Common.{refl, sym, ap, ◌∙◌}
 use Rattle.std.proofs.lemmas.List.{map-append, map-set, take-map, drop-map, length-map}
-use Rattle.ijson_table.specs.Store.{Store, keys_of, position_of, at, lookup, put, swap_out, with_value}
+use Rattle.ijson_table.specs.Store.{Store, keys_of, position_of, at, lookup, put, swap_out}
 use Rattle.ijson_table.proofs.Keys.{lookup-absent, put-present}
 use Rattle.ijson_value.specs.AtKey.{swap_out_key}
 use Rattle.ijson_value.specs.Kind.{kind_of}

@@ -1,8 +1,5 @@
 use Rattle.std.proofs.Common.{rules, ◌≡◌, refl, sym, ap, ◌∙◌}
-use Rattle.ijson_table.specs.Store.{Store}
 use Rattle.ijson_value.specs.LendsAtKey.{IsPut}
-use Rattle.ijson_value.specs.WellFormed.{WellFormed}
-use Rattle.ijson_value.specs.declared.value.Destructured.{Destructured}
 use Rattle.ijson_value.specs.declared.value.Destructured.TheVariants.{Object}
 use Rattle.ijson_value.proofs.PutInside.{put_value, put_refused, both_inside, on_err}
 use Rattle.ijson_value.proofs.value.Destructured.index_or_insert.Goals as goal
