@@ -1,6 +1,7 @@
 //! What adds the pairs of an iterator to an object.
 ghost use Rattle.std.specs.Prelude.{ℕ, List, [], MatchResult};
 ghost use Rattle.std.specs.Iterator.{IsFiniteIterable};
+ghost use Rattle.ijson_table.specs.Store.{Store};
 ghost use Rattle.ijson_value.specs.FindsEntry.{FindsNoRoom};
 ghost use Rattle.ijson_value.specs.Gives.{GivesAll, GivesThen};
 ghost use Rattle.ijson_value.specs.InsertsEach.{InsertsEach};
@@ -45,11 +46,15 @@ impl IObject {
         ensures { (added : List (List ℕ × WellFormed)) × MatchResult result
             (λ object. InsertsEach [] 0 added object.pairs object.capacity
             × GivesAll I.into_iter_gives I.IntoIter.next_gives pairs added)
-            (λ refused. GivesThen I.into_iter_gives I.IntoIter.next_gives pairs added
-            (refused.key, refused.value)) }
+            (λ refused. (made : Store WellFormed)
+            × InsertsEach [] 0 added made.pairs made.capacity
+            × GivesThen I.into_iter_gives I.IntoIter.next_gives pairs added
+            (refused.key, refused.value) × FindsNoRoom made refused.key refused.why) }
     {
         let mut object = IObject::new(alloc);
-        object.extend(pairs)?;
-        Ok(object)
+        match object.extend(pairs) {
+            Ok(()) => Ok(object),
+            Err(refused) => Err(refused),
+        }
     }
 }

@@ -143,8 +143,8 @@ impl IObject {
         self.get(index).is_some()
     }
 
-    #[tactic(auto, using(crate::proofs::Objects::lookup_pair))]
     /// Takes the pair with a key out, and answers its value. The last pair moves into its place.
+    #[tactic(auto, using(crate::proofs::Objects::lookup_pair))]
     pub fn remove<I: ObjectIndex>(&mut self, index: I) -> Option<IValue>
         ensures value { result ≡ lookup (I.Sealed.key index) self.old.pairs }
         ensures pairs { self.new.pairs ≡ swap_out_key (I.Sealed.key index) self.old.pairs }
