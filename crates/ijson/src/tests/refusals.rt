@@ -5,7 +5,8 @@ use super::{Cache, empty_cache};
 use crate::array::IArray;
 use crate::canonical::canonical_json;
 use crate::json::{
-    CompactError, JsonError, MemorySink, MemorySource, compact, from_json, report, to_json,
+    CompactError, JsonError, MemorySink, MemorySource, compact, from_json, push_quoted,
+    push_separator, report, to_json,
 };
 use crate::number::{INumber, ParseNumberError};
 use crate::object::{IObject, RefusedKey, RefusedPair};
@@ -26,6 +27,11 @@ fn number_of_many_digits(rt: HostRuntime) -> Result<(), Fail> {
         }
     };
     assert!(rt; number.has_decimal_point());
+    let copy = match number.clone() {
+        Ok(copy) => copy,
+        Err(AllocError) => number.clone()?,
+    };
+    assert!(rt; copy == number);
     assert!(rt;
         number
             == INumber::from_str(rt.alloc(), text).or_else(|_| INumber::from_str(rt.alloc(), text))?
@@ -49,9 +55,13 @@ fn array_push(rt: HostRuntime) {
 
 #[test]
 fn array_room(rt: HostRuntime) -> Result<(), Fail> {
-    let mut array = IArray::new(rt.alloc());
+    let mut array = match IArray::with_capacity(rt.alloc(), 2) {
+        Ok(array) => array,
+        Err(AllocError) => IArray::with_capacity(rt.alloc(), 2)?,
+    };
+    let room = array.capacity();
     if array.reserve(3).is_err() {
-        assert_eq!(rt; (array.len(), array.capacity()), (0, 0));
+        assert_eq!(rt; (array.len(), array.capacity()), (0, room));
         array.reserve(3)?;
     }
     for _ in 0..3usize {
@@ -115,7 +125,14 @@ fn interned(cache: &mut Cache, text: &str) -> Result<IString, Fail> {
 fn intern(rt: HostRuntime) -> Result<(), Fail> {
     let mut cache = empty_cache(rt.alloc());
     for text in ["seven77", "eight888", "interned_string_a"] {
-        assert!(rt; interned(&mut cache, text)?.eq_str(text));
+        let key = interned(&mut cache, text)?;
+        assert!(rt; key.eq_str(text));
+        assert!(rt; key.clone()? == key);
+        let Ok(copy) = key.to_owned_string(rt.alloc()) else {
+            assert!(rt; key.to_owned_string(rt.alloc())?.as_str() == text);
+            continue;
+        };
+        assert!(rt; copy.as_str() == text);
     }
     assert_eq!(rt; cache.len(), 2);
     Ok(())
@@ -280,8 +297,15 @@ fn reading_and_writing(rt: HostRuntime) -> Result<(), Fail> {
     let text =
         "[1.5,[true,{\"a\":\"longlong\",\"longlong\":\"\\n\"}],12345678901234567890123,null]";
     let value = read(rt.alloc(), text)?;
-    let found = written(rt.alloc(), &value)?;
+    let mut found = written(rt.alloc(), &value)?;
     assert_eq!(rt; found.as_str(), text);
+    if push_separator(&mut found, false).is_err() {
+        push_separator(&mut found, false)?;
+    }
+    assert_eq!(rt; found.len(), text.len() + 1);
+    if push_quoted(&mut found, "\n").is_err() {
+        assert!(rt; found.as_str().starts_with(text));
+    }
     Ok(())
 }
 

@@ -79,7 +79,14 @@ fn added_or_back(answer: Result<Option<u32>, RefusedPair<u32>>) -> bool {
 #[test]
 fn linear_pairs(rt: HostRuntime) -> Result<(), AllocError> {
     let alloc = rt.alloc();
-    let mut store = LinearPairs::new(alloc);
+    let mut store = match LinearPairs::with_capacity(alloc, 4) {
+        Ok(store) => store,
+        Err(why) => {
+            assert_eq!(rt; why, ReserveError::Memory);
+            LinearPairs::new(alloc)
+        }
+    };
+    assert!(rt; store.shrink_to_fit().is_ok());
     asks_again(&rt, alloc, &mut store)?;
     assert!(rt; matches!(store.insert(key(alloc, "a")?, 9), Ok(Some(1))) && holds_four(&store, 4));
     assert!(rt; added_or_back(store.insert(key(alloc, "e")?, 5)));
@@ -89,7 +96,14 @@ fn linear_pairs(rt: HostRuntime) -> Result<(), AllocError> {
 #[test]
 fn a_table(rt: HostRuntime) -> Result<(), AllocError> {
     let alloc = rt.alloc();
-    let mut store: Table<u32, AlwaysZero> = Table::new(alloc);
+    let mut store: Table<u32, AlwaysZero> = match Table::with_capacity(alloc, 4) {
+        Ok(store) => store,
+        Err(why) => {
+            assert_eq!(rt; why, ReserveError::Memory);
+            Table::new(alloc)
+        }
+    };
+    assert!(rt; store.shrink_to_fit().is_ok());
     asks_again(&rt, alloc, &mut store)?;
     assert!(rt; matches!(store.insert(key(alloc, "a")?, 9), Ok(Some(1))) && holds_four(&store, 4));
     assert!(rt; added_or_back(store.insert(key(alloc, "e")?, 5)));
@@ -99,7 +113,14 @@ fn a_table(rt: HostRuntime) -> Result<(), AllocError> {
 #[test]
 fn a_fixed_table(rt: HostRuntime) -> Result<(), AllocError> {
     let alloc = rt.alloc();
-    let mut store = FixedTable::new(alloc);
+    let mut store = match FixedTable::with_capacity(alloc, 4) {
+        Ok(store) => store,
+        Err(why) => {
+            assert_eq!(rt; why, ReserveError::Memory);
+            FixedTable::new(alloc)
+        }
+    };
+    assert!(rt; store.shrink_to_fit().is_ok());
     asks_again(&rt, alloc, &mut store)?;
     assert!(rt; matches!(store.insert(key(alloc, "a")?, 9), Ok(Some(1))) && holds_four(&store, 4));
     assert!(rt; added_or_back(store.insert(key(alloc, "e")?, 5)));

@@ -1,0 +1,121 @@
+"""The public surface of the crates, as their sources declare it: what the scripts of this folder compare the pages with."""
+
+import collections
+import pathlib
+import re
+
+TOP = pathlib.Path(__file__).resolve().parent.parent
+
+# The crates, lowest first.
+ORDER = re.findall(r"^(\w+):", (TOP / "crates.txt").read_text(), re.M)
+BLOCK = re.compile(r"^(?:pub(?:\([a-z]+\))? )?(impl|trait)\b(?:<[^{]*?>(?= ))? ?(.*?)(?: \{)?$")
+FUNCTION = re.compile(r"^( *)(pub )?fn (\w+)")
+GHOST = re.compile(r"^    ghost (\w+)(?: =|:)")
+CLAUSE = re.compile(r"^ +ensures\*? (\w+) \{")
+TYPE = re.compile(r"^pub (struct|enum|trait) (\w+)")
+ENDS = re.compile(r"^ +(?:requires|ensures|decreases|ghost)\b|^\s*(?:where\b|\}|//)")
+
+# Traits with no promise of their own: what contracts see of a type, and markers.
+SKIPPED = ("Model for ", "Eq for ", "FusedIterator for ")
+
+# One call, or one ghost member of an implementation. The group is the implementation of a trait that it belongs to, if any.
+Call = collections.namedtuple("Call", "crate path owner name signature sentence clauses group")
+
+# A struct, an enum or a trait.
+Type = collections.namedtuple("Type", "crate path kind name sentence")
+
+
+def without_generics(text):
+    """`text` without what stands between angle brackets."""
+    shorter = re.sub(r"<[^<>]*>", "", text)
+    return shorter if shorter == text else without_generics(shorter)
+
+
+def exports(module):
+    """The names that a module, or the crate of a `lib.rt`, gives out."""
+    text = module.read_text()
+    inside = module.parent if module.name == "lib.rt" else module.with_suffix("")
+    names = set(re.findall(r"^pub (?:fn|struct|enum|trait) (\w+)", text, re.M))
+    for group in re.findall(r"^pub use \w+(?:::\w+)*::\{?([^;}]*)\}?;", text, re.M):
+        names |= {name.strip() for name in group.split(",")}
+    for name in re.findall(r"^pub mod (\w+);", text, re.M):
+        names |= exports(inside / f"{name}.rt")
+    return names
+
+
+def doc_above(lines, at):
+    """The doc comment that stands above a line, as one text."""
+    texts, at = [], at - 1
+    while at >= 0 and re.match(r"\s*(///|#\[)", lines[at]):
+        if "///" in lines[at]:
+            texts.append(lines[at].split("///", 1)[1].strip())
+        at -= 1
+    return " ".join(reversed(texts))
+
+
+def signature_at(lines, at):
+    """A function's head as one line: up to its body or its first clause."""
+    parts = []
+    for line in lines[at:]:
+        if parts and ENDS.match(line):
+            break
+        parts.append(line.strip())
+        if line.rstrip().endswith(("{", ";")):
+            break
+    text = re.sub(r"([(<]) ", r"\1", " ".join(parts)).replace(", )", ")")
+    return re.sub(r"\s*[{;]$", "", text)
+
+
+def calls_in(crate, path, public):
+    """The public calls of a file, with the names of their clauses. Those of one block of a trait are one group."""
+    owner = group = call = None
+    lines = path.read_text().splitlines()
+    for at, line in enumerate(lines):
+        if line and not line[0].isspace() and not line.startswith(("}", "/", "#", ")", "ghost use")):
+            owner = group = call = None
+            block = BLOCK.match(without_generics(line))
+            if block:
+                kind, header = block.groups()
+                owner = re.split(r"[\s:{]", header.split(" for ")[-1].strip())[0]
+                group = f"{path}: {header}" if kind == "trait" or " for " in header else None
+                if header.startswith(SKIPPED):
+                    owner = "nothing public"
+        if owner and owner not in public:
+            continue
+        function, ghost, clause = FUNCTION.match(line), GHOST.match(line), CLAUSE.match(line)
+        if function:
+            indent, is_public, name = function.groups()
+            free = not indent and not owner and name in public
+            call = None
+            if free or (owner and indent == "    " and (is_public or group)):
+                call = Call(crate, path, owner, name, signature_at(lines, at), doc_above(lines, at), set(), group)
+                yield call
+        elif ghost and group:
+            yield Call(crate, path, owner, ghost.group(1), None, "", set(), group)
+        elif clause and call:
+            call.clauses.add(clause.group(1))
+
+
+def types_in(crate, path, public):
+    lines = path.read_text().splitlines()
+    for at, line in enumerate(lines):
+        found = TYPE.match(line)
+        if found and found.group(2) in public:
+            yield Type(crate, path, *found.groups(), doc_above(lines, at))
+
+
+def sources():
+    """(crate, file, names that the crate gives out) of each source file of a library below the top crate."""
+    for crate in sorted(TOP.glob("crates/ijson_*")):
+        if (crate / "src/lib.rt").exists():
+            public = exports(crate / "src/lib.rt")
+            for path in sorted(crate.glob("src/**/*.rt")):
+                yield crate.name, path, public
+
+
+def public_calls():
+    return [call for source in sources() for call in calls_in(*source)]
+
+
+def public_types():
+    return [item for source in sources() for item in types_in(*source)]
