@@ -17,30 +17,33 @@ fn canonical(alloc: Global, text: &str) -> Result<String, JsonError> {
     }
 }
 
+/// Texts, and the canonical text of what each spells.
+const TEXTS: [(&str, &str); 9] = [
+    ("{\"b\":2.0,\"a\":[10,0.0]}", "{\"a\":[1e1,0],\"b\":2e0}"),
+    (
+        "{\"a\":-0.5,\"b\":100,\"c\":[1.50]}",
+        "{\"a\":-5e-1,\"b\":1e2,\"c\":[15e-1]}",
+    ),
+    ("{\"é\":1,\"z\":2}", "{\"z\":2e0,\"é\":1e0}"),
+    ("10e1073741823", "1e1073741824"),
+    ("-0.0", "0"),
+    ("12345678901234567890.5", "123456789012345678905e-1"),
+    (
+        "{\"\u{10000}\":null,\"\u{ffff}\":true}",
+        "{\"\u{ffff}\":true,\"\u{10000}\":null}",
+    ),
+    ("{\"A\":[],\"\\\"\":{}}", "{\"\\\"\":{},\"A\":[]}"),
+    (
+        "[{\"b\":{\"d\":\"\\n\",\"c\":false},\"a\":{\"ab\":[],\"\":{}}}]",
+        "[{\"a\":{\"\":{},\"ab\":[]},\"b\":{\"c\":false,\"d\":\"\\n\"}}]",
+    ),
+];
+
 /// The keys are in the order of their bytes: `\u{10000}` is the greater one, though the lesser in UTF-16, and `"` the lesser one,
 /// though not where both are written with their escapes.
 #[test]
 fn canonical_texts(rt: HostRuntime) -> Result<(), Fail> {
-    for (text, written) in [
-        ("{\"b\":2.0,\"a\":[10,0.0]}", "{\"a\":[1e1,0],\"b\":2e0}"),
-        (
-            "{\"a\":-0.5,\"b\":100,\"c\":[1.50]}",
-            "{\"a\":-5e-1,\"b\":1e2,\"c\":[15e-1]}",
-        ),
-        ("{\"é\":1,\"z\":2}", "{\"z\":2e0,\"é\":1e0}"),
-        ("10e1073741823", "1e1073741824"),
-        ("-0.0", "0"),
-        ("12345678901234567890.5", "123456789012345678905e-1"),
-        (
-            "{\"\u{10000}\":null,\"\u{ffff}\":true}",
-            "{\"\u{ffff}\":true,\"\u{10000}\":null}",
-        ),
-        ("{\"A\":[],\"\\\"\":{}}", "{\"\\\"\":{},\"A\":[]}"),
-        (
-            "[{\"b\":{\"d\":\"\\n\",\"c\":false},\"a\":{\"ab\":[],\"\":{}}}]",
-            "[{\"a\":{\"\":{},\"ab\":[]},\"b\":{\"c\":false,\"d\":\"\\n\"}}]",
-        ),
-    ] {
+    for (text, written) in TEXTS {
         let found = canonical(rt.alloc(), text)?;
         assert_eq!(rt; found.as_str(), written);
     }

@@ -71,22 +71,25 @@ fn a_source_that_fails_leaves_the_sink(rt: HostRuntime) -> Result<(), Fail> {
     Ok(())
 }
 
+/// Texts, what is written of each, the line and the status.
+const TEXTS: [(&[u8], &[u8], &[u8], u8); 6] = [
+    (b" [1.50, true ] ", LINE, b"", 0),
+    (b"[1,]", b"", b"ijson: syntax at byte 3\n", 1),
+    (b"[1 2]", b"", b"ijson: syntax at byte 3\n", 1),
+    (
+        b"10e1073741824",
+        b"",
+        b"ijson: number out of range at byte 0\n",
+        1,
+    ),
+    (&[0x22, 0xff, 0x22], b"", b"ijson: input is not UTF-8\n", 1),
+    (&[0x22, 0x09, 0x22], b"", b"ijson: syntax at byte 1\n", 1),
+];
+
 /// What `compact` and `report` write of a text, and the status.
 #[test]
 fn texts_and_their_lines(rt: HostRuntime) -> Result<(), Fail> {
-    for (text, written, line, status) in [
-        (b" [1.50, true ] ".as_slice(), LINE, b"".as_slice(), 0u8),
-        (b"[1,]", b"", b"ijson: syntax at byte 3\n", 1),
-        (b"[1 2]", b"", b"ijson: syntax at byte 3\n", 1),
-        (
-            b"10e1073741824",
-            b"",
-            b"ijson: number out of range at byte 0\n",
-            1,
-        ),
-        (&[0x22, 0xff, 0x22], b"", b"ijson: input is not UTF-8\n", 1),
-        (&[0x22, 0x09, 0x22], b"", b"ijson: syntax at byte 1\n", 1),
-    ] {
+    for (text, written, line, status) in TEXTS {
         let mut input = MemorySource::new(text, 4, 100);
         let mut output = MemorySink::new(rt.alloc(), 4, 100)?;
         let mut errors = MemorySink::new(rt.alloc(), 4, 100)?;
@@ -103,28 +106,31 @@ fn texts_and_their_lines(rt: HostRuntime) -> Result<(), Fail> {
     Ok(())
 }
 
+/// Faults, the status of each, and the line.
+const REPORTS: [(CompactError, u8, &[u8]); 6] = [
+    (
+        CompactError::Json(JsonError::TooDeep { at: 127 }),
+        1,
+        b"ijson: nesting too deep at byte 127\n",
+    ),
+    (
+        CompactError::Json(JsonError::NumberRange { at: usize::MAX }),
+        1,
+        b"ijson: number out of range at byte 18446744073709551615\n",
+    ),
+    (
+        CompactError::Json(JsonError::Memory),
+        3,
+        b"ijson: out of memory\n",
+    ),
+    (CompactError::Read, 2, b"ijson: read failed\n"),
+    (CompactError::Write, 2, b"ijson: write failed\n"),
+    (CompactError::Memory, 3, b"ijson: out of memory\n"),
+];
+
 #[test]
 fn reports_have_a_line_and_a_status(rt: HostRuntime) -> Result<(), Fail> {
-    for (error, status, line) in [
-        (
-            CompactError::Json(JsonError::TooDeep { at: 127 }),
-            1u8,
-            b"ijson: nesting too deep at byte 127\n".as_slice(),
-        ),
-        (
-            CompactError::Json(JsonError::NumberRange { at: usize::MAX }),
-            1,
-            b"ijson: number out of range at byte 18446744073709551615\n",
-        ),
-        (
-            CompactError::Json(JsonError::Memory),
-            3,
-            b"ijson: out of memory\n",
-        ),
-        (CompactError::Read, 2, b"ijson: read failed\n"),
-        (CompactError::Write, 2, b"ijson: write failed\n"),
-        (CompactError::Memory, 3, b"ijson: out of memory\n"),
-    ] {
+    for (error, status, line) in REPORTS {
         let mut errors = MemorySink::new(rt.alloc(), 7, 100)?;
         assert_eq!(rt; report(&Err(error), &mut errors), status);
         assert_eq!(rt; errors.bytes(), line);

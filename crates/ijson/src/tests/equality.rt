@@ -3,36 +3,27 @@
 use super::read;
 use std::test::Fail;
 
-#[test]
-fn equal(rt: HostRuntime) -> Result<(), Fail> {
-    for (left, right) in [
-        ("-0", "-0.0"),
-        ("2", "2.0"),
-        ("1e2", "100"),
-        ("{\"x\":1,\"y\":2}", "{\"y\":2.0,\"x\":1e0}"),
-        ("{\"k\":2,\"l\":[1,{}]}", "{\"l\":[1.0,{}],\"k\":2.0}"),
-    ] {
-        let left = read(rt.alloc(), left)?;
-        let right = read(rt.alloc(), right)?;
-        assert!(rt; left == right);
-        assert!(rt; right == left);
-    }
-    Ok(())
-}
+/// Two texts, and whether their values are equal.
+const PAIRS: [(&str, &str, bool); 10] = [
+    ("-0", "-0.0", true),
+    ("2", "2.0", true),
+    ("1e2", "100", true),
+    ("{\"x\":1,\"y\":2}", "{\"y\":2.0,\"x\":1e0}", true),
+    ("{\"k\":2,\"l\":[1,{}]}", "{\"l\":[1.0,{}],\"k\":2.0}", true),
+    ("{\"x\":1}", "{\"x\":1,\"y\":null}", false),
+    ("[1,2]", "[2,1]", false),
+    ("1", "\"1\"", false),
+    ("0.1", "0.10000000000000000001", false),
+    ("null", "false", false),
+];
 
 #[test]
-fn unequal(rt: HostRuntime) -> Result<(), Fail> {
-    for (left, right) in [
-        ("{\"x\":1}", "{\"x\":1,\"y\":null}"),
-        ("[1,2]", "[2,1]"),
-        ("1", "\"1\""),
-        ("0.1", "0.10000000000000000001"),
-        ("null", "false"),
-    ] {
+fn pairs(rt: HostRuntime) -> Result<(), Fail> {
+    for (left, right, want) in PAIRS {
         let left = read(rt.alloc(), left)?;
         let right = read(rt.alloc(), right)?;
-        assert!(rt; left != right);
-        assert!(rt; right != left);
+        assert!(rt; (left == right) == want);
+        assert!(rt; (right == left) == want);
     }
     Ok(())
 }

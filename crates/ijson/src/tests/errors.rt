@@ -1,7 +1,9 @@
 //! Each fault goes by `?` into an error that keeps its text.
 
 use crate::json::{CompactError, DeviceFault, JsonError};
+use std::alloc::Global;
 use std::error::Error;
+use std::process::Abort;
 use std::test::Fail;
 
 fn passed_on<E: Error>(fault: E) -> anyhow::Result<()> {
@@ -9,34 +11,48 @@ fn passed_on<E: Error>(fault: E) -> anyhow::Result<()> {
     Ok(())
 }
 
+fn keeps<E: Error>(rt: &impl Abort, alloc: Global, fault: E, text: &str) -> Result<(), Fail> {
+    let Err(error) = passed_on(fault) else {
+        panic!(rt; "{text}");
+    };
+    let found = format!(in alloc; "{error}")?;
+    assert_eq!(rt; found.as_str(), text);
+    Ok(())
+}
+
+/// Faults of a text, and the text of each.
+const OF_TEXTS: [(JsonError, &str); 4] = [
+    (JsonError::Syntax { at: 3 }, "syntax at byte 3"),
+    (
+        JsonError::TooDeep { at: 127 },
+        "nesting too deep at byte 127",
+    ),
+    (
+        JsonError::NumberRange { at: 0 },
+        "number out of range at byte 0",
+    ),
+    (JsonError::Memory, "out of memory"),
+];
+
+/// Faults of `compact`, and the text of each.
+const OF_COMPACT: [(CompactError, &str); 5] = [
+    (CompactError::Read, "read failed"),
+    (CompactError::NotUtf8, "input is not UTF-8"),
+    (
+        CompactError::Json(JsonError::Syntax { at: 3 }),
+        "syntax at byte 3",
+    ),
+    (CompactError::Write, "write failed"),
+    (CompactError::Memory, "out of memory"),
+];
+
 #[test]
 fn faults_become_errors(rt: HostRuntime) -> Result<(), Fail> {
-    for (answer, text) in [
-        (passed_on(JsonError::Syntax { at: 3 }), "syntax at byte 3"),
-        (
-            passed_on(JsonError::TooDeep { at: 127 }),
-            "nesting too deep at byte 127",
-        ),
-        (
-            passed_on(JsonError::NumberRange { at: 0 }),
-            "number out of range at byte 0",
-        ),
-        (passed_on(JsonError::Memory), "out of memory"),
-        (passed_on(CompactError::Read), "read failed"),
-        (passed_on(CompactError::NotUtf8), "input is not UTF-8"),
-        (
-            passed_on(CompactError::Json(JsonError::Syntax { at: 3 })),
-            "syntax at byte 3",
-        ),
-        (passed_on(CompactError::Write), "write failed"),
-        (passed_on(CompactError::Memory), "out of memory"),
-        (passed_on(DeviceFault), "a read or a write failed"),
-    ] {
-        let Err(error) = answer else {
-            panic!(rt; "{text}");
-        };
-        let found = format!(in rt.alloc(); "{error}")?;
-        assert_eq!(rt; found.as_str(), text);
+    for (fault, text) in OF_TEXTS {
+        keeps(&rt, rt.alloc(), fault, text)?;
     }
-    Ok(())
+    for (fault, text) in OF_COMPACT {
+        keeps(&rt, rt.alloc(), fault, text)?;
+    }
+    keeps(&rt, rt.alloc(), DeviceFault, "a read or a write failed")
 }

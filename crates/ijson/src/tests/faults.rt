@@ -2,98 +2,110 @@
 
 use super::{push_times, read};
 use crate::json::JsonError;
+use std::alloc::Global;
+use std::process::Abort;
 use std::test::Fail;
+
+/// Texts that are no JSON, and where that is told.
+const SYNTAX: [(&str, usize); 22] = [
+    ("", 0),
+    (" ", 1),
+    ("]", 0),
+    ("x", 0),
+    ("tru", 3),
+    ("nulx", 3),
+    ("falsy", 4),
+    ("nullx", 4),
+    ("1 2", 2),
+    ("[1 2]", 3),
+    ("[1,]", 3),
+    ("[,1]", 1),
+    ("[1", 2),
+    ("[", 1),
+    ("{\"a\":1,}", 7),
+    ("{\"a\" 1}", 5),
+    ("{\"a\":}", 5),
+    ("{a", 1),
+    ("{", 1),
+    ("\u{feff}1", 0),
+    ("\u{a0}1", 0),
+    ("\u{c}1", 0),
+];
+
+/// Texts of numbers that are no JSON, and where that is told.
+const NUMBER_SYNTAX: [(&str, usize); 14] = [
+    ("01", 1),
+    ("1.", 2),
+    ("1.x", 2),
+    ("-", 1),
+    ("-x", 1),
+    ("+1", 0),
+    (".5", 0),
+    ("1e", 2),
+    ("1e+", 3),
+    ("1e+]", 3),
+    ("1-2", 1),
+    ("1.5.2", 3),
+    ("1e5e", 3),
+    ("[1.]", 3),
+];
+
+/// Texts of strings that are no JSON, and where that is told.
+const STRING_SYNTAX: [(&str, usize); 15] = [
+    ("\"", 1),
+    ("\"abc", 4),
+    ("\"a\tb\"", 2),
+    ("\"\u{1f}\"", 1),
+    ("\"\\ud83d\"", 1),
+    ("\"\\ud834\\u0041\"", 1),
+    ("\"\\udd1e\"", 1),
+    ("\"\\ud834x\"", 1),
+    ("\"\\x\"", 1),
+    ("\"\\u12g4\"", 1),
+    ("\"a\\ud834\"", 2),
+    ("\"ab\\u12", 3),
+    ("\"ab\\", 3),
+    ("\"\\nab", 5),
+    ("\"\\nab\\x\"", 5),
+];
+
+/// Texts with a number whose exponent is out of range, and where that is told.
+const NUMBER_RANGE: [(&str, usize); 6] = [
+    ("10e1073741824", 0),
+    ("1e-1073741825", 0),
+    ("1e99999999999999999999999", 0),
+    ("1e1073741825-", 0),
+    ("[1e1073741825,]", 1),
+    ("{\"a\":1e1073741825,\"a\":1}", 5),
+];
+
+fn refused(rt: &impl Abort, alloc: Global, text: &str, fault: JsonError) {
+    assert!(rt; read(alloc, text).err() == Some(fault), "{text}");
+}
+
+fn no_syntax(rt: &impl Abort, alloc: Global, rows: &[(&str, usize)]) {
+    for (text, at) in rows {
+        refused(rt, alloc, text, JsonError::Syntax { at: *at });
+    }
+}
 
 #[test]
 fn syntax(rt: HostRuntime) {
-    for (text, at) in [
-        ("", 0),
-        (" ", 1),
-        ("]", 0),
-        ("x", 0),
-        ("tru", 3),
-        ("nulx", 3),
-        ("falsy", 4),
-        ("nullx", 4),
-        ("1 2", 2),
-        ("[1 2]", 3),
-        ("[1,]", 3),
-        ("[,1]", 1),
-        ("[1", 2),
-        ("[", 1),
-        ("{\"a\":1,}", 7),
-        ("{\"a\" 1}", 5),
-        ("{\"a\":}", 5),
-        ("{a", 1),
-        ("{", 1),
-        ("\u{feff}1", 0),
-        ("\u{a0}1", 0),
-        ("\u{c}1", 0),
-    ] {
-        assert_eq!(rt;
-            read(rt.alloc(), text).err(),
-            Some(JsonError::Syntax { at }),
-            "{text}"
-        );
-    }
+    no_syntax(&rt, rt.alloc(), &SYNTAX);
+    no_syntax(&rt, rt.alloc(), &NUMBER_SYNTAX);
+    no_syntax(&rt, rt.alloc(), &STRING_SYNTAX);
 }
 
 #[test]
-fn number_syntax(rt: HostRuntime) {
-    for (text, at) in [
-        ("01", 1),
-        ("1.", 2),
-        ("1.x", 2),
-        ("-", 1),
-        ("-x", 1),
-        ("+1", 0),
-        (".5", 0),
-        ("1e", 2),
-        ("1e+", 3),
-        ("1e+]", 3),
-        ("1-2", 1),
-        ("1.5.2", 3),
-        ("1e5e", 3),
-        ("[1.]", 3),
-    ] {
-        assert_eq!(rt;
-            read(rt.alloc(), text).err(),
-            Some(JsonError::Syntax { at }),
-            "{text}"
-        );
-    }
-}
-
-#[test]
-fn string_syntax(rt: HostRuntime) {
-    for (text, at) in [
-        ("\"", 1),
-        ("\"abc", 4),
-        ("\"a\tb\"", 2),
-        ("\"\u{1f}\"", 1),
-        ("\"\\ud83d\"", 1),
-        ("\"\\ud834\\u0041\"", 1),
-        ("\"\\udd1e\"", 1),
-        ("\"\\ud834x\"", 1),
-        ("\"\\x\"", 1),
-        ("\"\\u12g4\"", 1),
-        ("\"a\\ud834\"", 2),
-        ("\"ab\\u12", 3),
-        ("\"ab\\", 3),
-        ("\"\\nab", 5),
-        ("\"\\nab\\x\"", 5),
-    ] {
-        assert_eq!(rt;
-            read(rt.alloc(), text).err(),
-            Some(JsonError::Syntax { at }),
-            "{text}"
-        );
+fn number_range(rt: HostRuntime) {
+    for (text, at) in NUMBER_RANGE {
+        refused(&rt, rt.alloc(), text, JsonError::NumberRange { at });
     }
 }
 
 /// Each proper beginning of a text is refused: inside the escape at its backslash, else at its end.
 #[test]
-fn beginnings(rt: HostRuntime) -> Result<(), Fail> {
+fn beginnings(rt: HostRuntime) {
     let text = "{\"a\":[1.5e3,\"\\u00e9\"],\"b\":null}";
     assert_eq!(rt; text.len(), 31);
     for length in 0..31usize {
@@ -105,58 +117,28 @@ fn beginnings(rt: HostRuntime) -> Result<(), Fail> {
         } else {
             length
         };
-        assert_eq!(rt;
-            read(rt.alloc(), beginning).err(),
-            Some(JsonError::Syntax { at })
-        );
+        refused(&rt, rt.alloc(), beginning, JsonError::Syntax { at });
     }
-    Ok(())
 }
 
-#[test]
-fn number_range(rt: HostRuntime) {
-    for (text, at) in [
-        ("10e1073741824", 0),
-        ("1e-1073741825", 0),
-        ("1e99999999999999999999999", 0),
-        ("1e1073741825-", 0),
-        ("[1e1073741825,]", 1),
-        ("{\"a\":1e1073741825,\"a\":1}", 5),
-    ] {
-        assert_eq!(rt;
-            read(rt.alloc(), text).err(),
-            Some(JsonError::NumberRange { at }),
-            "{text}"
-        );
-    }
-}
+/// Texts that are too deep: what stands in front, an opening, how often, what is inside, a closing, what stands behind, and where it is told.
+const DEEP: [(&str, &str, usize, &str, &str, &str, usize); 3] = [
+    ("", "[", 128, "", "]", "", 127),
+    ("", "{\"a\":", 128, "null", "}", "", 635),
+    ("{\"a\":", "[", 127, "", "]", ",\"a\":1}", 131),
+];
 
 #[test]
 fn too_deep(rt: HostRuntime) -> Result<(), Fail> {
     let alloc = rt.alloc();
-    let mut arrays = String::new(alloc);
-    push_times(&mut arrays, "[", 128)?;
-    push_times(&mut arrays, "]", 128)?;
-    assert_eq!(rt;
-        read(alloc, arrays.as_str()).err(),
-        Some(JsonError::TooDeep { at: 127 })
-    );
-    let mut objects = String::new(alloc);
-    push_times(&mut objects, "{\"a\":", 128)?;
-    push_times(&mut objects, "null", 1)?;
-    push_times(&mut objects, "}", 128)?;
-    assert_eq!(rt;
-        read(alloc, objects.as_str()).err(),
-        Some(JsonError::TooDeep { at: 635 })
-    );
-    let mut replaced = String::new(alloc);
-    push_times(&mut replaced, "{\"a\":", 1)?;
-    push_times(&mut replaced, "[", 127)?;
-    push_times(&mut replaced, "]", 127)?;
-    push_times(&mut replaced, ",\"a\":1}", 1)?;
-    assert_eq!(rt;
-        read(alloc, replaced.as_str()).err(),
-        Some(JsonError::TooDeep { at: 131 })
-    );
+    for (front, opening, count, inside, closing, behind, at) in DEEP {
+        let mut text = String::new(alloc);
+        push_times(&mut text, front, 1)?;
+        push_times(&mut text, opening, count)?;
+        push_times(&mut text, inside, 1)?;
+        push_times(&mut text, closing, count)?;
+        push_times(&mut text, behind, 1)?;
+        refused(&rt, alloc, text.as_str(), JsonError::TooDeep { at });
+    }
     Ok(())
 }

@@ -94,8 +94,11 @@ fn objects_are_equal_as_maps(rt: HostRuntime) -> Result<(), Fail> {
     Ok(())
 }
 
+/// The kind of a value, and what it answers as a truth value, for its length, and whether it is empty.
+type Answers = (ValueType, Option<bool>, Option<usize>, Option<bool>);
+
 /// What the questions about a value answer.
-fn answers(value: &IValue) -> (ValueType, Option<bool>, Option<usize>, Option<bool>) {
+fn answers(value: &IValue) -> Answers {
     (
         value.type_(),
         value.to_bool(),
@@ -136,25 +139,28 @@ fn empty(value: &mut IValue) {
     }
 }
 
+/// Texts, what is answered of each value, and what is left once it is emptied.
+const KINDS: [(&str, Answers, &str); 7] = [
+    ("null", (ValueType::Null, None, None, None), "null"),
+    ("true", (ValueType::Bool, Some(true), None, None), "false"),
+    ("2.5", (ValueType::Number, None, None, None), "0"),
+    ("\"s\"", (ValueType::String, None, None, None), "\"\""),
+    ("[]", (ValueType::Array, None, Some(0), Some(true)), "[]"),
+    (
+        "[1,2]",
+        (ValueType::Array, None, Some(2), Some(false)),
+        "[]",
+    ),
+    (
+        "{\"k\":0}",
+        (ValueType::Object, None, Some(1), Some(false)),
+        "{}",
+    ),
+];
+
 #[test]
 fn kinds_and_parts(rt: HostRuntime) -> Result<(), Fail> {
-    for (text, told, left) in [
-        ("null", (ValueType::Null, None, None, None), "null"),
-        ("true", (ValueType::Bool, Some(true), None, None), "false"),
-        ("2.5", (ValueType::Number, None, None, None), "0"),
-        ("\"s\"", (ValueType::String, None, None, None), "\"\""),
-        ("[]", (ValueType::Array, None, Some(0), Some(true)), "[]"),
-        (
-            "[1,2]",
-            (ValueType::Array, None, Some(2), Some(false)),
-            "[]",
-        ),
-        (
-            "{\"k\":0}",
-            (ValueType::Object, None, Some(1), Some(false)),
-            "{}",
-        ),
-    ] {
+    for (text, told, left) in KINDS {
         let mut value = read(rt.alloc(), text)?;
         assert!(rt; answers(&value) == told);
         assert!(rt; is_of_kind(&value, told.0));
@@ -184,21 +190,24 @@ fn are_integers(
         && value.to_usize().map(|n| n as u64) == u64_
 }
 
+/// Texts, and what each is as an `i32`, a `u32`, an `i64` and a `u64`.
+const INTEGERS: [(&str, Option<i32>, Option<u32>, Option<i64>, Option<u64>); 5] = [
+    ("2.0", Some(2), Some(2), Some(2), Some(2)),
+    ("-1", Some(-1), None, Some(-1), None),
+    (
+        "12345678901234567890.0",
+        None,
+        None,
+        None,
+        Some(12345678901234567890),
+    ),
+    ("2.5", None, None, None, None),
+    ("\"2\"", None, None, None, None),
+];
+
 #[test]
 fn integers(rt: HostRuntime) -> Result<(), Fail> {
-    for (text, i32_, u32_, i64_, u64_) in [
-        ("2.0", Some(2), Some(2), Some(2), Some(2)),
-        ("-1", Some(-1), None, Some(-1), None),
-        (
-            "12345678901234567890.0",
-            None,
-            None,
-            None,
-            Some(12345678901234567890),
-        ),
-        ("2.5", None, None, None, None),
-        ("\"2\"", None, None, None, None),
-    ] {
+    for (text, i32_, u32_, i64_, u64_) in INTEGERS {
         assert!(rt; are_integers(&read(rt.alloc(), text)?, i32_, u32_, i64_, u64_));
     }
     assert!(rt; IValue::from(i8::MIN).to_i32() == Some(-128));
