@@ -6,4 +6,6 @@ pub mod Rows
 pub mod Permuted
 pub mod Pointers
 pub mod Children
+pub mod Counted
+pub mod Walked
 pub mod InOrder

@@ -28,12 +28,12 @@ tail_lacks c b text h i l = h (suc i) (omega (arith, l))
 in_token : (b : ℕ) (text : List ℕ) → eqb b 47 ≡ false → written_tokens (b ∷ text) ≡ in_first b (written_tokens text)
 in_token b text e = ap (λ (r : Bool). elim r [ true ↦ [] ∷ written_tokens text | false ↦ in_first b (written_tokens text) ]) e
 
-written_split : (token rest : List ℕ) → LacksByte 47 token → written_tokens (token ++ 47 ∷ rest) ≡ token ∷ written_tokens rest
+pub written_split : (token rest : List ℕ) → LacksByte 47 token → written_tokens (token ++ 47 ∷ rest) ≡ token ∷ written_tokens rest
 written_split [] rest h = refl
 written_split (b ∷ token) rest h =
     in_token b (token ++ 47 ∷ rest) (not_byte b 47 (h 0 (omega arith))) ∙ ap (in_first b) (written_split token rest (tail_lacks 47 b token h))
 
-written_last : (token : List ℕ) → LacksByte 47 token → written_tokens token ≡ token ∷ []
+pub written_last : (token : List ℕ) → LacksByte 47 token → written_tokens token ≡ token ∷ []
 written_last [] h = refl
 written_last (b ∷ token) h =
     in_token b token (not_byte b 47 (h 0 (omega arith))) ∙ ap (in_first b) (written_last token (tail_lacks 47 b token h))
@@ -188,7 +188,7 @@ position_digits [] e = absurd (cc)
 position_digits (b ∷ []) e = e
 position_digits (b ∷ c ∷ token) e = and_right (not (b == 48)) (all_ascii_digits (b ∷ c ∷ token)) e
 
-digits_meant : (token : List ℕ) → all_ascii_digits token ≡ true → meant token ≡ Some token
+pub digits_meant : (token : List ℕ) → all_ascii_digits token ≡ true → meant token ≡ Some token
 digits_meant token e = meant_itself token (not_in_digits own token 126 e not_digit)
 
 abbrev or_none : Option (List ℕ) → List ℕ
@@ -243,16 +243,23 @@ position_some : (token : List ℕ) → names_position token ≡ true → 0 < len
 position_some [] e = absurd (cc)
 position_some (b ∷ token) e = omega arith
 
-read_by : {X E : Type 0} (xs : List X) (token : List ℕ) (r : Result ℕ E) → OkIff r ((0 < length token) × (digits_value 10 token < 2 ^ 64)) (digits_value 10 token) → names_position token ≡ true → 0 < length token → length xs < 2 ^ 64
-    → MatchResult r (λ n. option_and_then (slice_get xs) (position_named token) ≡ slice_get xs n) (λ e. option_and_then (slice_get xs) (position_named token) ≡ None)
-read_by xs token (Ok n) h p s l = ap (option_and_then (slice_get xs)) (named token p) ∙ ap (slice_get xs) (sym h.1)
-read_by xs token (Err x) h p s l =
-    ap (option_and_then (slice_get xs)) (named token p)
-    ∙ slice_get_past xs (digits_value 10 token) (at_least (digits_value 10 token) (length xs) l (λ m. h (s, m)))
+number_is : (n i : ℕ) → Some n ≡ Some i → n ≡ i
+number_is n i e = ap (λ (o : Option ℕ). elim o [ None ↦ n | Some j ↦ j ]) e
 
--- the item at a position that was read, and none where it was too large
-pub position_read : {X E : Type 0} (xs : List X) (token : List ℕ) (r : Result ℕ E) → ParsesUnsigned 64 10 token r → names_position token ≡ true → length xs < 2 ^ 64
-    → MatchResult r (λ n. option_and_then (slice_get xs) (position_named token) ≡ slice_get xs n) (λ e. option_and_then (slice_get xs) (position_named token) ≡ None)
-position_read xs token r h p l =
-    let d = position_digits token p in
-    read_by xs token r (parse_digits own 64 token r h d) p (position_some token p) l
+read_by : {E : Type 0} (token : List ℕ) (count : ℕ) (r : Result ℕ E) → OkIff r ((0 < length token) × (digits_value 10 token < 2 ^ 64)) (digits_value 10 token) → names_position token ≡ true → 0 < length token → count < 2 ^ 64
+    → MatchResult r (λ n. position_named token ≡ Some n) (λ e. (i : ℕ) → position_named token ≡ Some i → count ≤ i)
+read_by token count (Ok n) h p s l = named token p ∙ ap (λ (k : ℕ). Some k) (sym h.1)
+read_by token count (Err x) h p s l = λ i e.
+    let is = number_is (digits_value 10 token) i (sym (named token p) ∙ e) in
+    let past = at_least (digits_value 10 token) count l (λ m. h (s, m)) in
+    omega (arith, is, past)
+
+-- a position that was read, and where it was too large, none below a count
+pub position_read : {E : Type 0} (token : List ℕ) (count : ℕ) (r : Result ℕ E) → ParsesUnsigned 64 10 token r → names_position token ≡ true → count < 2 ^ 64
+    → MatchResult r (λ n. position_named token ≡ Some n) (λ e. (i : ℕ) → position_named token ≡ Some i → count ≤ i)
+position_read token count r h p l = read_by token count r (parse_digits own 64 token r h (position_digits token p)) p (position_some token p) l
+
+-- no item stands at a position past the end
+pub none_there : {X : Type 0} (xs : List X) (position : Option ℕ) → ((i : ℕ) → position ≡ Some i → length xs ≤ i) → option_and_then (slice_get xs) position ≡ None
+none_there xs None h = refl
+none_there xs (Some i) h = slice_get_past xs i (h i refl)

@@ -1,4 +1,6 @@
 pub mod Pointer
+pub mod LendsResolved
 pub mod Sorted
 pub mod Canonical
 pub mod OneCanonicalText
+pub mod private

@@ -1,9 +1,9 @@
 -- What a JSON Pointer leads to (RFC 6901, sections 3 and 4).
-use Rattle.std.specs.Prelude.{ℕ, Bool, true, false, ◌&&◌, ◌==◌, not, List, [], ◌∷◌, Option, Some, None, option_map, option_and_then, slice_get}
+use Rattle.std.specs.Prelude.{ℕ, Bool, true, false, ◌&&◌, ◌==◌, not, List, [], ◌∷◌, Option, Some, None, option_map, option_and_then}
 use Rattle.std.specs.Str.{all_ascii_digits}
 use Rattle.std.specs.Str.Parse.{digits_value}
-use Rattle.ijson_table.specs.Store.{lookup}
-use Rattle.ijson_value.specs.Tree.{Tree, array, object, Items, no_items, item, Members, no_members, member}
+use Rattle.ijson_value.specs.Step.{Step, by_position, by_key, tree_at, tree_with}
+use Rattle.ijson_value.specs.Tree.{Tree, array, object}
 
 -- ---- the tokens of a text (section 3): each stands behind a `/`, which is 47
 
@@ -73,20 +73,23 @@ position_named token =
       | false ↦ None
     ]
 
--- the items and the members as lists
-abbrev pub listed_items : Items → List Tree
-listed_items no_items = []
-listed_items (item t more) = t ∷ listed_items more
+-- the step that a token names in a value: to the key of an object, or to a position of an array
+abbrev pub step_named : Tree → List ℕ → Option Step
+step_named (array items) token = option_map by_position (position_named token)
+step_named (object _) token = Some (by_key token)
+step_named _ token = None
 
-abbrev pub listed_members : Members → List (List ℕ × Tree)
-listed_members no_members = []
-listed_members (member k t more) = (k, t) ∷ listed_members more
-
--- the value that a token names in a value: beside the key of an object, or at the position of an array
+-- the value that a token names in a value
 abbrev pub child_at : Tree → List ℕ → Option Tree
-child_at (array items) token = option_and_then (slice_get (listed_items items)) (position_named token)
-child_at (object members) token = lookup token (listed_members members)
-child_at _ token = None
+child_at t token = option_and_then (tree_at t) (step_named t token)
+
+-- the value with another one there
+abbrev pub stepped_with : Tree → Option Step → Tree → Tree
+stepped_with t None u = t
+stepped_with t (Some step) u = tree_with t step u
+
+abbrev pub child_with : Tree → List ℕ → Tree → Tree
+child_with t token u = stepped_with t (step_named t token) u
 
 -- ---- the whole
 
@@ -97,3 +100,19 @@ followed t (token ∷ more) = option_and_then (λ u. followed u more) (child_at 
 -- the tree at a pointer, or none; and nothing at all where the text is no pointer
 abbrev pub resolved : Tree → List ℕ → Option (Option Tree)
 resolved t pointer = option_map (followed t) (tokens_of pointer)
+
+-- ---- another value there
+
+-- a tree that is there, with another one where the tokens lead to
+abbrev pub followed_with : Option Tree → List (List ℕ) → Tree → Tree
+followed_with t [] u = u
+followed_with None (token ∷ more) u = u
+followed_with (Some t) (token ∷ more) u = child_with t token (followed_with (child_at t token) more u)
+
+abbrev pub tokens_with : Tree → Option (List (List ℕ)) → Tree → Tree
+tokens_with t None u = t
+tokens_with t (Some tokens) u = followed_with (Some t) tokens u
+
+-- the tree with another one at a pointer that names a tree in it, and all else as it was
+abbrev pub resolved_with : Tree → List ℕ → Tree → Tree
+resolved_with t pointer u = tokens_with t (tokens_of pointer) u

@@ -1,12 +1,15 @@
 //! JSON Pointer (RFC 6901): the value inside a value that a text names.
-ghost use Rattle.std.specs.Prelude.{◌≡◌, ◌<◌, ◌⊎◌, ◌∷◌, ℕ, List, [], length, Some, None, option_map, option_and_then, is_some, IfOk, IfErr, IfSome, IfNone, IsTrue, ◌↔◌, slice_get};
+ghost use Rattle.std.specs.Prelude.{◌≡◌, ◌<◌, ◌≤◌, ◌⊎◌, ◌∷◌, ℕ, List, [], length, Some, None, option_map, option_and_then, is_some, IfOk, IfErr, IfSome, IfNone, IsTrue, ◌↔◌, slice_get};
 ghost use Rattle.std.specs.Str.{all_ascii_digits};
 ghost use Rattle.std.specs.Option.{option_copied};
-ghost use Rattle.ijson_table.specs.Store.{lookup};
+ghost use Rattle.ijson_table.specs.Store.{at, lookup};
 ghost use Rattle.ijson_extra.specs.Pointer.{meant, position_named, names_position, child_at, resolved};
+
+mod lend;
 
 use ijson_value::object::IObject;
 use ijson_value::value::{DestructuredRef, IValue};
+pub use lend::{Unresolved, resolve_mut};
 use thiserror::Error;
 
 /// Why a pointer names nothing at all.
@@ -120,10 +123,27 @@ fn member<'a>(object: &'a IObject, token: &str) -> Option<&'a IValue>
     if !token.contains('~') {
         return object.get(token);
     }
+    match find_member(object, token) {
+        Some((_, value)) => Some(value),
+        None => None,
+    }
+}
+
+/// The position of the key that a token means, and the value beside it. Each key is compared with the token as it is written.
+fn find_member<'a>(object: &'a IObject, token: &str) -> Option<(usize, &'a IValue)>
+    ensures position { option_map (λ found. found.0) result
+        ≡ option_and_then (at object.now.pairs) (meant token.now) }
+    ensures value { option_map (λ found. found.1.now) result
+        ≡ option_and_then (λ m. lookup m object.now.pairs) (meant token.now) }
+{
+    // There are as many keys as a `usize` can count, so it can count the position.
+    let _count = object.len();
+    let mut position: usize = 0;
     for (key, value) in object.iter() {
         if means(token, key.as_str()) {
-            return Some(value);
+            return Some((position, value));
         }
+        position += 1;
     }
     None
 }
@@ -132,13 +152,28 @@ fn member<'a>(object: &'a IObject, token: &str) -> Option<&'a IValue>
 fn item<'a>(items: &'a [IValue], token: &str) -> Option<&'a IValue>
     ensures { option_copied result ≡ option_and_then (slice_get items.now) (position_named token.now) }
 {
+    match position_below(token, items.len()) {
+        Some(position) => items.get(position),
+        None => None,
+    }
+}
+
+/// The position that a token names, where that is below a count.
+fn position_below(token: &str, count: usize) -> Option<usize>
+    ensures some { IfSome result (λ position. (position_named token.now ≡ Some position) × (position < count)) }
+    ensures none { IfNone result ((position : ℕ) → position_named token.now ≡ Some position → count ≤ position) }
+{
     if !is_position(token.as_bytes()) {
         return None;
     }
     let Ok(position) = token.parse::<usize>() else {
         return None;
     };
-    items.get(position)
+    if position < count {
+        Some(position)
+    } else {
+        None
+    }
 }
 
 /// Whether a text is `0`, or digits without a zero in front.

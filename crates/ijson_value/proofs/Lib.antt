@@ -3,7 +3,7 @@ mod Clones
 pub mod DepthLemmas
 mod Entries
 mod Feeds
-mod Found
+pub mod Found
 mod Inserted
 mod Objects
 mod OrderSteps

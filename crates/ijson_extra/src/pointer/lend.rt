@@ -1,0 +1,182 @@
+//! The value inside a value that a pointer names, to be written.
+ghost use Rattle.std.specs.Prelude.{◌≡◌, ◌<◌, ◌^◌, [], ◌∷◌, suc, drop, length, Some, None, IsSome, IfOk, IfErr, IfSome, IfNone};
+ghost use Rattle.std.specs.Borrow.{sem};
+ghost use Rattle.ijson_value.specs.NodeValue.{node_value};
+ghost use Rattle.ijson_value.specs.Values.{array_tree, object_tree};
+ghost use Rattle.ijson_extra.specs.LendsResolved.{LendsResolved, unresolved};
+ghost use Rattle.ijson_extra.specs.Pointer.{all_meant, written_tokens, resolved};
+ghost use Rattle.ijson_extra.specs.private.Walked.{LendsNamedItem, LendsNamedMember, LendsNamed, LendsWalked, tree_lent, node_tree, steps_of, walked, written_at};
+
+use super::{PointerError, find_member, is_token, position_below};
+use ijson_value::array::IArray;
+use ijson_value::object::IObject;
+use ijson_value::value::{Destructured, IValue};
+use std::marker::PhantomData;
+use thiserror::Error;
+
+/// Why `resolve_mut` lends no value.
+#[derive(Clone, Copy, PartialEq, Eq, Debug, Drop, Error)]
+pub enum Unresolved {
+    /// The pointer names nothing in the value.
+    #[error("nothing is at the JSON Pointer")]
+    Nothing,
+    /// The text is no pointer.
+    #[error("not a JSON Pointer")]
+    NoPointer(PointerError),
+}
+
+/// The value that `pointer` names inside `value`, as RFC 6901 has it, opened, to be written: the value itself where the text is
+/// empty. What is written changes that one value. It takes no memory.
+pub fn resolve_mut<'a>(
+    value: &'a mut IValue,
+    pointer: &str,
+) -> Result<&'a mut Destructured, Unresolved>
+    ensures* writes_back { sem 𝓛 (LendsResolved value.entry pointer.now result) }
+    ensures found { IfOk result (λ opened.
+        resolved value.old.tree pointer.now ≡ Some (Some (node_value opened.now).tree)) }
+    ensures refused { IfErr result (λ why. resolved value.old.tree pointer.now ≡ unresolved why) }
+{
+    if pointer.is_empty() {
+        return Ok(&mut **value);
+    }
+    let Some(left) = pointer.strip_prefix('/') else {
+        return Err(Unresolved::NoPointer(PointerError::Syntax));
+    };
+    let Some(more) = count_more(left) else {
+        return Err(Unresolved::NoPointer(PointerError::Syntax));
+    };
+    match Steps64::walk(&mut **value, left, more) {
+        Some(found) => Ok(&mut **found),
+        None => Err(Unresolved::Nothing),
+    }
+}
+
+/// How many tokens stand behind the first one. None where one of all of them means nothing.
+fn count_more(tokens: &str) -> Option<usize>
+    ensures some { IfSome result (λ more. IsSome (all_meant (written_tokens tokens.now))
+        × (length (written_tokens tokens.now) ≡ suc more)) }
+    ensures none { IfNone result (all_meant (written_tokens tokens.now) ≡ None) }
+{
+    let mut left = tokens;
+    let mut more: usize = 0;
+    while let Some((token, behind)) = left.split_once('/') {
+        if !is_token(token) {
+            return None;
+        }
+        more += 1;
+        left = behind;
+    }
+    if is_token(left) { Some(more) } else { None }
+}
+
+/// What goes down a value by as many tokens as it can, which are fewer than 2 ^ `bits` and one.
+///
+/// A lend out of a value that a loop goes down, or a function that calls itself, cannot be proved. So each type goes twice as
+/// far as the one that it stands on, by two calls to it.
+trait Walks {
+    ghost use Rattle.std.specs.Prelude.{ℕ};
+
+    ghost bits: { ℕ };
+
+    /// The value that the first token of `left` and `more` further ones lead to.
+    fn walk<'a>(opened: &'a mut Destructured, left: &str, more: usize) -> Option<&'a mut IValue>
+        requires within { more < 2 ^ bits }
+        requires there { more < length (written_tokens left.now) }
+        ensures* writes_back { sem 𝓛 (LendsWalked opened.entry left.now more result) }
+        ensures value { tree_lent result ≡ walked (steps_of left.now more) (Some (node_tree opened.old)) };
+}
+
+/// One token.
+struct One;
+
+impl Walks for One {
+    ghost bits = { 0 };
+
+    fn walk<'a>(opened: &'a mut Destructured, left: &str, more: usize) -> Option<&'a mut IValue> {
+        child_mut(opened, first_token(left))
+    }
+}
+
+/// Twice as many tokens.
+struct Twice<W> {
+    half: PhantomData<W>,
+}
+
+impl<W: Walks> Walks for Twice<W> {
+    ghost bits = { suc W.Walks.bits };
+
+    fn walk<'a>(opened: &'a mut Destructured, left: &str, more: usize) -> Option<&'a mut IValue> {
+        if more == 0 {
+            return W::walk(opened, left, more);
+        }
+        let half = more / 2;
+        match W::walk(opened, left, half) {
+            None => None,
+            Some(found) => W::walk(&mut **found, behind(left, half + 1), more - (half + 1)),
+        }
+    }
+}
+
+type Steps8<W> = Twice<Twice<Twice<Twice<Twice<Twice<Twice<Twice<W>>>>>>>>;
+
+/// As many tokens as a text can have.
+type Steps64 = Steps8<Steps8<Steps8<Steps8<Steps8<Steps8<Steps8<Steps8<One>>>>>>>>;
+
+/// The first token.
+fn first_token(left: &str) -> &str
+    ensures { steps_of left.now 0 ≡ result.now ∷ [] }
+{
+    match left.split_once('/') {
+        Some((token, _)) => token,
+        None => left,
+    }
+}
+
+/// What stands behind so many tokens.
+fn behind(tokens: &str, count: usize) -> &str
+    requires { count < length (written_tokens tokens.now) }
+    ensures { written_tokens result.now ≡ drop count (written_tokens tokens.now) }
+{
+    let mut left = tokens;
+    for _ in 0..count {
+        left = left.split_once('/').unwrap().1;
+    }
+    left
+}
+
+/// The value that a token names in an opened value, to be written.
+fn child_mut<'a>(opened: &'a mut Destructured, token: &str) -> Option<&'a mut IValue>
+    ensures* writes_back { sem 𝓛 (LendsNamed opened.entry token.now result) }
+    ensures value { tree_lent result ≡ written_at (node_tree opened.old) token.now }
+{
+    match opened {
+        Destructured::Array(array) => item_mut(array, token),
+        Destructured::Object(object) => member_mut(object, token),
+        _ => None,
+    }
+}
+
+/// The item at the position that a token names, to be written.
+fn item_mut<'a>(array: &'a mut IArray, token: &str) -> Option<&'a mut IValue>
+    ensures* writes_back { sem 𝓛 (LendsNamedItem array.entry token.now result) }
+    ensures value { tree_lent result ≡ written_at (array_tree array.old.items) token.now }
+{
+    match position_below(token, array.len()) {
+        Some(position) => Some(&mut array[position]),
+        None => None,
+    }
+}
+
+/// The value beside the key that a token means, to be written.
+fn member_mut<'a>(object: &'a mut IObject, token: &str) -> Option<&'a mut IValue>
+    ensures* writes_back { sem 𝓛 (LendsNamedMember object.entry token.now result) }
+    ensures value { tree_lent result ≡ written_at (object_tree object.old.pairs) token.now }
+{
+    if !token.contains('~') {
+        return object.get_mut(token);
+    }
+    match find_member(object, token) {
+        Some((position, _)) => object.value_at_mut(position),
+        None => None,
+    }
+}
