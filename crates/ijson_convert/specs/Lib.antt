@@ -6,4 +6,6 @@ pub mod TextsOf
 pub mod Interned
 pub mod IsRead
 pub mod Refused
+pub mod SerdeTree
+pub mod SerdeTexts
 pub mod laws

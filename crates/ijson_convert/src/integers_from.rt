@@ -3,7 +3,8 @@ ghost use Rattle.std.specs.Prelude.{◌<◌, ◌^◌, pos, FitsSigned};
 ghost use Rattle.std.specs.Int.{w8, w16, w32, w64};
 ghost use Rattle.ijson_convert.specs.IntegerTree.{integer_tree};
 ghost use Rattle.ijson_convert.specs.Refused.{SignedRefused, UnsignedRefused};
-ghost use Rattle.ijson_convert.specs.laws.Whole.{signed_complete, unsigned_complete, wide_8, wide_16, wide_32, wide_64, below_8, below_16, below_32, below_64};
+ghost use Rattle.ijson_convert.specs.laws.Whole.{signed_complete, unsigned_complete};
+ghost use Rattle.ijson_convert.specs.laws.Whole.{wide_8, wide_16, wide_32, wide_64, below_8, below_16, below_32, below_64};
 
 use crate::convert_error::ConvertError;
 use crate::from_ivalue::FromIValue;
@@ -17,7 +18,7 @@ impl FromIValue for i8 {
 
     ghost in_range = { λ z. FitsSigned w8 z };
 
-    #[tactic(auto, using(crate::specs::laws::Whole::signed_read, crate::specs::laws::Whole::wide_8, crate::specs::laws::Whole::signed_past))]
+    #[tactic(auto, using(crate::proofs::Whole::signed_read, crate::specs::laws::Whole::wide_8, crate::proofs::Whole::signed_past))]
     fn from_ivalue(_alloc: Global, value: &IValue) -> Result<i8, ConvertError> {
         let DestructuredRef::Number(number) = value.destructure_ref() else {
             return Err(ConvertError::WrongKind);
@@ -41,7 +42,7 @@ impl FromIValue for i16 {
 
     ghost in_range = { λ z. FitsSigned w16 z };
 
-    #[tactic(auto, using(crate::specs::laws::Whole::signed_read, crate::specs::laws::Whole::wide_16, crate::specs::laws::Whole::signed_past))]
+    #[tactic(auto, using(crate::proofs::Whole::signed_read, crate::specs::laws::Whole::wide_16, crate::proofs::Whole::signed_past))]
     fn from_ivalue(_alloc: Global, value: &IValue) -> Result<i16, ConvertError> {
         let DestructuredRef::Number(number) = value.destructure_ref() else {
             return Err(ConvertError::WrongKind);
@@ -65,7 +66,7 @@ impl FromIValue for i32 {
 
     ghost in_range = { λ z. FitsSigned w32 z };
 
-    #[tactic(auto, using(crate::specs::laws::Whole::signed_read, crate::specs::laws::Whole::wide_32))]
+    #[tactic(auto, using(crate::proofs::Whole::signed_read, crate::specs::laws::Whole::wide_32))]
     fn from_ivalue(_alloc: Global, value: &IValue) -> Result<i32, ConvertError> {
         let DestructuredRef::Number(number) = value.destructure_ref() else {
             return Err(ConvertError::WrongKind);
@@ -86,7 +87,7 @@ impl FromIValue for i64 {
 
     ghost in_range = { λ z. FitsSigned w64 z };
 
-    #[tactic(auto, using(crate::specs::laws::Whole::signed_read, crate::specs::laws::Whole::wide_64))]
+    #[tactic(auto, using(crate::proofs::Whole::signed_read, crate::specs::laws::Whole::wide_64))]
     fn from_ivalue(_alloc: Global, value: &IValue) -> Result<i64, ConvertError> {
         let DestructuredRef::Number(number) = value.destructure_ref() else {
             return Err(ConvertError::WrongKind);
@@ -107,7 +108,7 @@ impl FromIValue for isize {
 
     ghost in_range = { λ z. FitsSigned w64 z };
 
-    #[tactic(auto, using(crate::specs::laws::Whole::signed_read, crate::specs::laws::Whole::wide_64))]
+    #[tactic(auto, using(crate::proofs::Whole::signed_read, crate::specs::laws::Whole::wide_64))]
     fn from_ivalue(_alloc: Global, value: &IValue) -> Result<isize, ConvertError> {
         let DestructuredRef::Number(number) = value.destructure_ref() else {
             return Err(ConvertError::WrongKind);
@@ -128,7 +129,7 @@ impl FromIValue for u8 {
 
     ghost in_range = { λ m. m < 2 ^ 8 };
 
-    #[tactic(auto, using(crate::specs::laws::Whole::unsigned_read, crate::specs::laws::Whole::below_8, crate::specs::laws::Whole::unsigned_past))]
+    #[tactic(auto, using(crate::proofs::Whole::unsigned_read, crate::specs::laws::Whole::below_8, crate::proofs::Whole::unsigned_past))]
     fn from_ivalue(_alloc: Global, value: &IValue) -> Result<u8, ConvertError> {
         let DestructuredRef::Number(number) = value.destructure_ref() else {
             return Err(ConvertError::WrongKind);
@@ -152,7 +153,7 @@ impl FromIValue for u16 {
 
     ghost in_range = { λ m. m < 2 ^ 16 };
 
-    #[tactic(auto, using(crate::specs::laws::Whole::unsigned_read, crate::specs::laws::Whole::below_16, crate::specs::laws::Whole::unsigned_past))]
+    #[tactic(auto, using(crate::proofs::Whole::unsigned_read, crate::specs::laws::Whole::below_16, crate::proofs::Whole::unsigned_past))]
     fn from_ivalue(_alloc: Global, value: &IValue) -> Result<u16, ConvertError> {
         let DestructuredRef::Number(number) = value.destructure_ref() else {
             return Err(ConvertError::WrongKind);
@@ -176,7 +177,7 @@ impl FromIValue for u32 {
 
     ghost in_range = { λ m. m < 2 ^ 32 };
 
-    #[tactic(auto, using(crate::specs::laws::Whole::unsigned_read, crate::specs::laws::Whole::below_32))]
+    #[tactic(auto, using(crate::proofs::Whole::unsigned_read, crate::specs::laws::Whole::below_32))]
     fn from_ivalue(_alloc: Global, value: &IValue) -> Result<u32, ConvertError> {
         let DestructuredRef::Number(number) = value.destructure_ref() else {
             return Err(ConvertError::WrongKind);
@@ -197,7 +198,7 @@ impl FromIValue for u64 {
 
     ghost in_range = { λ m. m < 2 ^ 64 };
 
-    #[tactic(auto, using(crate::specs::laws::Whole::unsigned_read, crate::specs::laws::Whole::below_64))]
+    #[tactic(auto, using(crate::proofs::Whole::unsigned_read, crate::specs::laws::Whole::below_64))]
     fn from_ivalue(_alloc: Global, value: &IValue) -> Result<u64, ConvertError> {
         let DestructuredRef::Number(number) = value.destructure_ref() else {
             return Err(ConvertError::WrongKind);
@@ -218,7 +219,7 @@ impl FromIValue for usize {
 
     ghost in_range = { λ m. m < 2 ^ 64 };
 
-    #[tactic(auto, using(crate::specs::laws::Whole::unsigned_read, crate::specs::laws::Whole::below_64))]
+    #[tactic(auto, using(crate::proofs::Whole::unsigned_read, crate::specs::laws::Whole::below_64))]
     fn from_ivalue(_alloc: Global, value: &IValue) -> Result<usize, ConvertError> {
         let DestructuredRef::Number(number) = value.destructure_ref() else {
             return Err(ConvertError::WrongKind);

@@ -10,8 +10,12 @@ mod lists_to;
 mod maps_to;
 mod scalars_from;
 mod scalars_to;
+mod serde;
 mod to_ivalue;
 
 pub use convert_error::ConvertError;
 pub use from_ivalue::{FromIValue, from_value};
+pub use serde::{
+    from_serde, from_serde_map, from_serde_number, to_serde, to_serde_map, to_serde_number,
+};
 pub use to_ivalue::{ToIValue, to_value};

@@ -1,34 +1,24 @@
 -- Numbers and the integers that they are.
-use Rattle.std.proofs.Common.{◌≡◌, ◌<◌, ◌≤◌, ◌^◌, ℕ, refl, ap, sym, subst, ◌∙◌, arith}
+use Rattle.std.proofs.Common.{◌≡◌, ◌<◌, ◌≤◌, ◌^◌, ℕ, ap, sym, ◌∙◌, arith}
 use Rattle.std.specs.Prelude.{ℤ, pos, negsuc, FitsSigned}
-use Rattle.std.specs.Cmp.{tied_back}
 use Rattle.std.specs.Int.{Width, w8, w16, w32, w64}
 use Rattle.std.specs.Ordering.{is_eq}
 use Rattle.std.specs.declared.cmp.Ordering.TheVariants.{Equal}
 use Rattle.ijson_number.specs.Decimal.{Decimal}
 use Rattle.ijson_number.specs.Integers.{integer, HasValue}
-use Rattle.ijson_number.specs.Num.{Num}
 use Rattle.ijson_number.specs.Order.{number_cmp}
 use Rattle.ijson_number.specs.laws.Ordered.{number_cmp_total, tests_equal}
-use Rattle.ijson_number.proofs.WholeValues.{value_one}
 use Rattle.ijson_value.specs.Same.{Same}
 use Rattle.ijson_value.specs.Tree.{Tree, null, boolean, number, string, array, object}
 use Rattle.ijson_value.specs.WellFormed.{IsWellFormed}
 use Rattle.ijson_convert.specs.IntegerTree.{integer_number, integer_tree}
-use Rattle.ijson_convert.specs.IsRead.{IsRead}
 use Rattle.ijson_convert.specs.Refused.{SignedRefused, UnsignedRefused}
 use Rattle.ijson_convert.specs.declared.convert_error.ConvertError.{ConvertError}
-use Rattle.ijson_convert.specs.declared.convert_error.ConvertError.TheVariants.{OutOfRange}
 use Rattle.ijson_convert.specs.laws.Integers.{signed_has, unsigned_has}
 
 -- a number that is equal to one of this value has it
-has_too : (a n : Decimal) (z : ℤ) → HasValue a z → number_cmp a n ≡ Equal → HasValue n z
+pub has_too : (a n : Decimal) (z : ℤ) → HasValue a z → number_cmp a n ≡ Equal → HasValue n z
 has_too a n z h s = ap is_eq (sym (number_cmp_total.congr a n (integer z) s) ∙ tests_equal _ h)
-
--- two of one value are equal
-has_same : (a n : Decimal) (z : ℤ) → HasValue a z → HasValue n z → number_cmp a n ≡ Equal
-has_same a n z h k =
-    number_cmp_total.congr a (integer z) n (tests_equal _ h) ∙ tied_back number_cmp_total n (integer z) (tests_equal _ k)
 
 -- the integers of a narrower type are among those of 64 bits
 pub wide_8 : (z : ℤ) → FitsSigned w8 z → FitsSigned w64 z
@@ -68,20 +58,6 @@ module _ (width : Width) (wide : (z : ℤ) → FitsSigned width z → FitsSigned
   signed_complete z (array b) e i w v s r = s
   signed_complete z (object b) e i w v s r = s
 
-  pub signed_read : (z : ℤ) (t : Tree) (n : Decimal) → t ≡ number n → HasValue n z → FitsSigned width z
-      → Same (integer_tree z) t × IsRead (SignedRefused width) t
-  signed_read z t n is h i = subst (λ u. Same (integer_tree z) u × IsRead (SignedRefused width) u) (sym is) (
-    has_same (integer_number z) n z (signed_has z (wide z i)) h,
-    λ e r. r.1 z i h,
-  )
-
-  pub signed_past : (z : ℤ) (t : Tree) (n : Num) → t ≡ number n.decimal → HasValue n.decimal z → (FitsSigned width z → ⊥)
-      → SignedRefused width t OutOfRange
-  signed_past z t n is h past = subst (λ u. SignedRefused width u OutOfRange) (sym is) (
-    refl,
-    λ y i k. past (subst (FitsSigned width) (value_one n.decimal y z n.is_num.plain k h) i),
-  )
-
 module _ (limit : ℕ) (below : limit ≤ 2 ^ 64) where
   pub unsigned_complete : (m : ℕ) (t : Tree) (e : ConvertError) → m < limit
       → IsWellFormed (integer_tree (pos m)) → IsWellFormed t → Same (integer_tree (pos m)) t
@@ -93,19 +69,3 @@ module _ (limit : ℕ) (below : limit ≤ 2 ^ 64) where
   unsigned_complete z (string b) e i w v s r = s
   unsigned_complete z (array b) e i w v s r = s
   unsigned_complete z (object b) e i w v s r = s
-
-  pub unsigned_read : (m : ℕ) (t : Tree) (n : Decimal) → t ≡ number n → HasValue n (pos m) → m < limit
-      → Same (integer_tree (pos m)) t × IsRead (UnsignedRefused limit) t
-  unsigned_read m t n is h i =
-      subst (λ u. Same (integer_tree (pos m)) u × IsRead (UnsignedRefused limit) u) (sym is) (
-        has_same (integer_number (pos m)) n (pos m) (unsigned_has m (omega (arith, below, i))) h,
-        λ e r. r.1 m i h,
-      )
-
-  pub unsigned_past : (m : ℕ) (t : Tree) (n : Num) → t ≡ number n.decimal → HasValue n.decimal (pos m)
-      → (m < limit → ⊥) → UnsignedRefused limit t OutOfRange
-  unsigned_past m t n is h past = subst (λ u. UnsignedRefused limit u OutOfRange) (sym is) (
-    refl,
-    λ y i k. past (let e : pos y ≡ pos m = value_one n.decimal (pos y) (pos m) n.is_num.plain k h in
-        let q : y ≡ m = cc in omega (arith, q, i)),
-  )

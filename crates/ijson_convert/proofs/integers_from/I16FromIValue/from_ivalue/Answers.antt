@@ -6,7 +6,8 @@ use Rattle.ijson_number.specs.Integers.{HasValue}
 use Rattle.ijson_value.specs.Opened.{ref_value}
 use Rattle.ijson_value.specs.Same.{Same}
 use Rattle.ijson_convert.specs.IntegerTree.{integer_tree}
-use Rattle.ijson_convert.specs.laws.Whole.{signed_read, wide_16}
+use Rattle.ijson_convert.specs.laws.Whole.{wide_16}
+use Rattle.ijson_convert.proofs.Whole.{signed_read}
 use Rattle.ijson_convert.proofs.integers_from.I16FromIValue.from_ivalue.Goals as goal
 
 pub returns-in-Ok-clause-same : goal.returns-in-Ok-clause-same

@@ -5,7 +5,8 @@ use Rattle.std.specs.Int.{w64}
 use Rattle.ijson_value.specs.Opened.{ref_value}
 use Rattle.ijson_value.specs.Same.{Same}
 use Rattle.ijson_convert.specs.IntegerTree.{integer_tree}
-use Rattle.ijson_convert.specs.laws.Whole.{signed_read, wide_64}
+use Rattle.ijson_convert.specs.laws.Whole.{wide_64}
+use Rattle.ijson_convert.proofs.Whole.{signed_read}
 use Rattle.ijson_convert.proofs.integers_from.I64FromIValue.from_ivalue.Goals as goal
 
 pub returns-in-Some-clause-same : goal.returns-in-Some-clause-same

@@ -1,0 +1,22 @@
+use Rattle.std.proofs.Common.{◌≡◌, List, ◌++◌, take}
+use Rattle.std.specs.List.{flat_map}
+use Rattle.serde_json.specs.View.{items_view, members_view}
+use Rattle.serde_json.proofs.Views.{Entry}
+use Rattle.ijson_value.specs.WellFormed.{item_trees, pair_trees}
+use Rattle.ijson_convert.specs.Interned.{all_interned}
+use Rattle.ijson_convert.specs.SerdeTree.{SerdeItems, SerdeMembers}
+use Rattle.ijson_convert.proofs.SerdeTrees.{value_texts, entry_texts}
+use Rattle.ijson_convert.proofs.serde.+from.Given as goal
+
+-- the items so far have their trees, and their texts are interned
+abbrev pub invariant-from_items-loop-item : goal.invariant-from_items-loop-item
+invariant-from_items-loop-item g l =
+    SerdeItems (items_view (take l.item-index l.item-items)) (item_trees l.array.items)
+    × (l.cache ≡ all_interned (flat_map value_texts (take l.item-index l.item-items)) l.fn.cache)
+
+-- so have the members so far
+abbrev pub invariant-from_serde_map-loop-key : goal.invariant-from_serde_map-loop-key
+invariant-from_serde_map-loop-key g l =
+    (done : List Entry) × (l.map.entries ≡ done ++ l.key-iterator)
+    × SerdeMembers (members_view done) (pair_trees l.object.pairs)
+    × (l.cache ≡ all_interned (flat_map entry_texts done) l.fn.cache)

@@ -1,0 +1,49 @@
+-- A value of `serde_json` as a tree: null, truth values, numbers that an i64 or a u64 holds (without the point), texts, lists,
+-- and pairs in the order of their keys. A value that holds any other number has no tree. This project's own.
+use Rattle.std.specs.Prelude.{◌≡◌, ◌<◌, ◌^◌, pos, ⊤, FitsSigned}
+use Rattle.std.specs.Int.{w64}
+use Rattle.serde_json.specs.Data as serde
+use Rattle.serde_json.specs.Data.{Num, Data}
+use Rattle.ijson_number.specs.Decimal.{Decimal}
+use Rattle.ijson_value.specs.Same.{Same}
+use Rattle.ijson_value.specs.Tree.{Tree, null, boolean, number, string, array, object, Items, no_items, item, Members, no_members, member}
+use Rattle.ijson_value.specs.WellFormed.{IsWellFormed}
+use Rattle.ijson_convert.specs.IntegerTree.{integer_number}
+
+-- a number of `serde_json` as a number
+abbrev pub SerdeNumber : Num → Decimal → Type 0
+SerdeNumber (serde.unsigned m) n = (m < 2 ^ 64) × (n ≡ integer_number (pos m))
+SerdeNumber (serde.negative z) n = FitsSigned w64 z × (n ≡ integer_number z)
+SerdeNumber (serde.float x) n = ⊥
+
+abbrev mutual
+  pub SerdeTree : Data → Tree → Type 0
+  SerdeTree serde.null null = ⊤
+  SerdeTree (serde.boolean a) (boolean b) = a ≡ b
+  SerdeTree (serde.number m) (number n) = SerdeNumber m n
+  SerdeTree (serde.string s) (string t) = s ≡ t
+  SerdeTree (serde.array ds) (array ts) = SerdeItems ds ts
+  SerdeTree (serde.object ms) (object ps) = SerdeMembers ms ps
+  SerdeTree _ _ = ⊥
+
+  pub SerdeItems : serde.Items → Items → Type 0
+  SerdeItems serde.no_items no_items = ⊤
+  SerdeItems (serde.item d ds) (item t ts) = SerdeTree d t × SerdeItems ds ts
+  SerdeItems _ _ = ⊥
+
+  pub SerdeMembers : serde.Members → Members → Type 0
+  SerdeMembers serde.no_members no_members = ⊤
+  SerdeMembers (serde.member k d ms) (member j t ps) = (k ≡ j) × SerdeTree d t × SerdeMembers ms ps
+  SerdeMembers _ _ = ⊥
+
+-- no tree is that of the value
+abbrev pub HasNoTree : Data → Type 0
+HasNoTree d = (t : Tree) → SerdeTree d t → ⊥
+
+-- the value has a tree that means the same as this one
+abbrev pub SerdeMeans : Data → Tree → Type 0
+SerdeMeans d u = (t : Tree) × IsWellFormed t × SerdeTree d t × Same t u
+
+-- no value has
+abbrev pub NoSerdeMeans : Tree → Type 0
+NoSerdeMeans u = (d : Data) → SerdeMeans d u → ⊥

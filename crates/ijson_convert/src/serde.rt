@@ -1,0 +1,189 @@
+//! Values, maps and numbers of `serde_json` as JSON values, objects and numbers, and back.
+ghost use Rattle.std.specs.Prelude.{◌≡◌, ◌⊎◌, OnOk, OnErr, IfOk, IfErr};
+ghost use Rattle.serde_json.specs.Data.{array as data_array, object as data_object, number as data_number};
+ghost use Rattle.serde_json.specs.View.{view, number_view, items_view, members_view};
+ghost use Rattle.ijson_value.specs.Tree.{number as number_tree};
+ghost use Rattle.ijson_value.specs.Values.{array_tree, object_tree};
+ghost use Rattle.ijson_convert.specs.Interned.{all_interned, SomeInterned};
+ghost use Rattle.ijson_convert.specs.SerdeTexts.{serde_texts};
+ghost use Rattle.ijson_convert.specs.SerdeTree.{SerdeNumber, SerdeTree, HasNoTree, SerdeMeans, NoSerdeMeans};
+ghost use Rattle.ijson_convert.specs.TextsOf.{texts_of};
+ghost use Rattle.ijson_convert.specs.declared.convert_error.ConvertError.TheVariants as why;
+
+use crate::convert_error::ConvertError;
+use ijson_number::INumber;
+use ijson_string::{IString, StringCache};
+use ijson_value::array::IArray;
+use ijson_value::object::IObject;
+use ijson_value::value::{DestructuredRef, IValue};
+use serde_json::{Map, Number, Value};
+use std::alloc::Global;
+use std::hash::BuildHasher;
+
+/// The number that a number of `serde_json` is, without the point. A float of `serde_json` is refused as such a number,
+/// whatever its value. It takes no memory.
+pub fn from_serde_number(number: &Number) -> Result<INumber, ConvertError>
+    ensures number { IfOk result (λ made. SerdeNumber (number_view number.now) made.decimal) }
+    ensures refused { IfErr result (λ e.
+        (e ≡ why.Number) × HasNoTree (data_number (number_view number.now))) }
+{
+    if let Some(unsigned) = number.as_u64() {
+        return Ok(INumber::from(unsigned));
+    }
+    match number.as_i64() {
+        Some(signed) => Ok(INumber::from(signed)),
+        None => Err(ConvertError::Number),
+    }
+}
+
+/// The number of `serde_json` with the value of a number, whose shape is lost. A value that is neither an `i64` nor a
+/// `u64` is refused. It takes no memory.
+pub fn to_serde_number(number: &INumber) -> Result<Number, ConvertError>
+    ensures number { IfOk result (λ made.
+        SerdeMeans (data_number (number_view made)) (number_tree number.now.decimal)) }
+    ensures refused { IfErr result (λ e.
+        (e ≡ why.Number) × NoSerdeMeans (number_tree number.now.decimal)) }
+{
+    if let Some(unsigned) = number.to_u64() {
+        return Ok(Number::from(unsigned));
+    }
+    match number.to_i64() {
+        Some(signed) => Ok(Number::from(signed)),
+        None => Err(ConvertError::Number),
+    }
+}
+
+/// The JSON value of a value of `serde_json`: members come in the order of its map, which is that of their keys. Its texts
+/// and keys are interned in `cache`, in their order; where it is refused, a beginning of them may have been. `Number`
+/// comes where a number in it is a float, and `Memory` where memory for an array, an object or a text was refused.
+#[cycle(from)]
+pub fn from_serde<S: BuildHasher>(
+    alloc: Global,
+    cache: &mut StringCache<S>,
+    value: &Value,
+) -> Result<IValue, ConvertError>
+    ensures tree { IfOk result (λ made. SerdeTree (view value.now) made.tree) }
+    ensures cache { IfOk result (λ made. cache.new ≡ all_interned (texts_of made.tree) cache.old) }
+    ensures refused { IfErr result (λ e.
+        (e ≡ why.Memory) ⊎ ((e ≡ why.Number) × HasNoTree (view value.now))) }
+    ensures begun { OnErr result (SomeInterned (serde_texts (view value.now)) cache.old cache.new) }
+{
+    match value {
+        Value::Null => Ok(IValue::default()),
+        Value::Bool(truth) => Ok(IValue::from(*truth)),
+        Value::Number(number) => Ok(IValue::from(from_serde_number(number)?)),
+        Value::String(text) => Ok(IValue::from(IString::intern(cache, text.as_str())?)),
+        Value::Array(items) => Ok(IValue::from(from_items(alloc, cache, items)?)),
+        Value::Object(map) => Ok(IValue::from(from_serde_map(alloc, cache, map)?)),
+    }
+}
+
+/// The items of a list of `serde_json` as an array, which grows once.
+#[cycle(from)]
+fn from_items<S: BuildHasher>(
+    alloc: Global,
+    cache: &mut StringCache<S>,
+    items: &Vec<Value>,
+) -> Result<IArray, ConvertError>
+    ensures tree { IfOk result (λ made.
+        SerdeTree (data_array (items_view items.now.items)) (array_tree made.items)) }
+    ensures cache { OnOk result (cache.new
+        ≡ all_interned (serde_texts (data_array (items_view items.now.items))) cache.old) }
+    ensures refused { IfErr result (λ e. (e ≡ why.Memory)
+        ⊎ ((e ≡ why.Number) × HasNoTree (data_array (items_view items.now.items)))) }
+    ensures begun { OnErr result
+        (SomeInterned (serde_texts (data_array (items_view items.now.items))) cache.old cache.new) }
+{
+    let mut array = IArray::with_capacity(alloc, items.len())?;
+    for item in items {
+        let value = from_serde(alloc, cache, item)?;
+        array.push(value)?;
+    }
+    Ok(array)
+}
+
+/// The object of a map of `serde_json`, in its order, which is that of the keys. Room for all pairs is made first. The keys
+/// and the texts are interned in `cache`, in their order; where the map is refused, a beginning of them may have been.
+/// `Number` comes where a number in it is a float, and `Memory` where memory was refused.
+#[cycle(from)]
+pub fn from_serde_map<S: BuildHasher>(
+    alloc: Global,
+    cache: &mut StringCache<S>,
+    map: &Map<String, Value>,
+) -> Result<IObject, ConvertError>
+    ensures tree { IfOk result (λ made.
+        SerdeTree (data_object (members_view map.now.entries)) (object_tree made.pairs)) }
+    ensures cache { IfOk result (λ made.
+        cache.new ≡ all_interned (texts_of (object_tree made.pairs)) cache.old) }
+    ensures refused { IfErr result (λ e. (e ≡ why.Memory)
+        ⊎ ((e ≡ why.Number) × HasNoTree (data_object (members_view map.now.entries)))) }
+    ensures begun { OnErr result
+        (SomeInterned (serde_texts (data_object (members_view map.now.entries))) cache.old cache.new) }
+{
+    let Ok(mut object) = IObject::with_capacity(alloc, map.len()) else {
+        return Err(ConvertError::Memory);
+    };
+    for (key, member) in map.iter() {
+        let key = IString::intern(cache, key.as_str())?;
+        let value = from_serde(alloc, cache, member)?;
+        drop(object.insert(key, value)?);
+    }
+    Ok(object)
+}
+
+/// The value of `serde_json` of a JSON value. A number goes over by its value, and its shape is lost; members come in the
+/// order of their keys. `Number` comes where the value of a number in it is neither an `i64` nor a `u64`, and `Memory`
+/// where memory for a list, a map or a text was refused.
+#[cycle(to)]
+pub fn to_serde(alloc: Global, value: &IValue) -> Result<Value, ConvertError>
+    ensures means { IfOk result (λ made. SerdeMeans (view made) value.now.tree) }
+    ensures refused { IfErr result (λ e.
+        (e ≡ why.Memory) ⊎ ((e ≡ why.Number) × NoSerdeMeans value.now.tree)) }
+{
+    match value.destructure_ref() {
+        DestructuredRef::Null => Ok(Value::Null),
+        DestructuredRef::Bool(truth) => Ok(Value::Bool(truth)),
+        DestructuredRef::Number(number) => Ok(Value::Number(to_serde_number(number)?)),
+        DestructuredRef::String(text) => Ok(Value::String(text.to_owned_string(alloc)?)),
+        DestructuredRef::Array(array) => Ok(Value::Array(to_items(alloc, array.as_slice())?)),
+        DestructuredRef::Object(object) => Ok(Value::Object(to_serde_map(alloc, object)?)),
+    }
+}
+
+/// The items as a list of values of `serde_json`, which grows once.
+#[cycle(to)]
+fn to_items(alloc: Global, items: &[IValue]) -> Result<Vec<Value>, ConvertError>
+    ensures means { IfOk result (λ made.
+        SerdeMeans (data_array (items_view made.items)) (array_tree items.now)) }
+    ensures refused { IfErr result (λ e.
+        (e ≡ why.Memory) ⊎ ((e ≡ why.Number) × NoSerdeMeans (array_tree items.now))) }
+{
+    let mut list = Vec::with_capacity(alloc, items.len())?;
+    for item in items {
+        let value = to_serde(alloc, item)?;
+        if list.push(value).is_err() {
+            return Err(ConvertError::Memory);
+        }
+    }
+    Ok(list)
+}
+
+/// The map of `serde_json` of an object, which keeps its pairs in the order of their keys. `Number` comes where the value
+/// of a number in it is neither an `i64` nor a `u64`, and `Memory` where memory was refused.
+#[cycle(to)]
+pub fn to_serde_map(alloc: Global, object: &IObject) -> Result<Map<String, Value>, ConvertError>
+    ensures means { IfOk result (λ made.
+        SerdeMeans (data_object (members_view made.entries)) (object_tree object.now.pairs)) }
+    ensures refused { IfErr result (λ e.
+        (e ≡ why.Memory) ⊎ ((e ≡ why.Number) × NoSerdeMeans (object_tree object.now.pairs))) }
+{
+    let mut map = Map::new(alloc);
+    for (key, value) in object.iter() {
+        let key = key.to_owned_string(alloc)?;
+        let member = to_serde(alloc, value)?;
+        if map.insert(key, member).is_err() {
+            return Err(ConvertError::Memory);
+        }
+    }
+    Ok(map)
+}
