@@ -4,6 +4,7 @@ pub mod DepthLemmas
 mod Entries
 mod Feeds
 mod Found
+pub mod FromMaps
 mod Inserted
 mod Objects
 mod OrderSteps
