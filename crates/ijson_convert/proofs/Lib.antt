@@ -1,3 +1,4 @@
 pub mod Interning
 pub mod Pairs
 pub mod Lists
+pub mod Members
