@@ -63,7 +63,7 @@ macro_rules! ijson_internal {
         $crate::ijson_unexpected!($unexpected)
     };
 
-    // Pairs: the tokens of the key are gathered up to the colon.
+    // Pairs: the tokens of the key are gathered up to the colon. A comma there, and a colon with no value behind it, is misplaced.
     (@object $a:ident $c:ident $out:lifetime $pairs:ident () ()) => {};
     (@object $a:ident $c:ident $out:lifetime $pairs:ident ($($key:tt)+) (: null $($rest:tt)*)) => {
         $crate::ijson_internal!(@pair $a $c $out $pairs ($($key)+) (null) $($rest)*);
@@ -79,6 +79,15 @@ macro_rules! ijson_internal {
     };
     (@object $a:ident $c:ident $out:lifetime $pairs:ident ($($key:tt)+) (: $value:expr)) => {
         $crate::ijson_internal!(@pair $a $c $out $pairs ($($key)+) ($value));
+    };
+    (@object $a:ident $c:ident $out:lifetime $pairs:ident () (: $($rest:tt)*)) => {
+        $crate::ijson_unexpected!(:)
+    };
+    (@object $a:ident $c:ident $out:lifetime $pairs:ident ($($key:tt)+) (: $($rest:tt)*)) => {
+        $crate::ijson_expect_expr_comma!($($rest)*)
+    };
+    (@object $a:ident $c:ident $out:lifetime $pairs:ident ($($key:tt)*) (, $($rest:tt)*)) => {
+        $crate::ijson_unexpected!(,)
     };
     (@object $a:ident $c:ident $out:lifetime $pairs:ident () ($next:tt $($rest:tt)*)) => {
         $crate::ijson_internal!(@object $a $c $out $pairs ($next) ($($rest)*));
@@ -124,4 +133,10 @@ macro_rules! ijson_internal {
 #[macro_export]
 macro_rules! ijson_unexpected {
     () => {};
+}
+
+/// A hidden helper of `ijson!`: what stands behind a colon begins with an expression and a comma, or is refused.
+#[macro_export]
+macro_rules! ijson_expect_expr_comma {
+    ($value:expr, $($rest:tt)*) => {};
 }

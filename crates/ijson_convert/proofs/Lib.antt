@@ -5,3 +5,4 @@ pub mod SerdeTrees
 pub mod SerdeNumbers
 pub mod SerdeMeant
 pub mod Whole
+pub mod Members

@@ -1,20 +1,14 @@
 -- Pairs that are put in an object, one after the other.
-use Rattle.std.proofs.Common.{◌≡◌, ◌≢◌, ℕ, List, [], ◌∷◌, ◌++◌, map, true, false, refl, ap, sym, subst, ◌∙◌, inl, inr}
+use Rattle.std.proofs.Common.{◌≡◌, ℕ, List, [], ◌∷◌, ◌++◌, map, refl, ap, sym, subst, ◌∙◌}
 use Rattle.std.specs.Prelude.{String, string_bytes, string_eq, string_cmp}
 use Rattle.std.specs.declared.alloc.Global.{Global}
-use Rattle.std.specs.declared.cmp.Ordering.TheVariants.{Less, Equal}
-use Rattle.std.specs.Cmp.{tied_itself}
-use Rattle.std.specs.Cmp.Lexicographic.{slice_cmp, pointwise}
-use Rattle.std.specs.List.{AllByRecursion, IsDistinct}
+use Rattle.std.specs.List.{IsDistinct}
 use Rattle.std.specs.List.Sorted.{IsStrictlySortedBy}
 use Rattle.std.specs.Map.{keys_of}
-use Rattle.std.specs.Ordering.{nat_cmp}
-use Rattle.std.specs.Prelude.{nat_eq}
-use Rattle.std.specs.String.{string_eq_equiv, string_cmp_total}
 use Rattle.std.proofs.lemmas.List.{append_assoc, append-nil, map-append}
 use Rattle.ijson_string.specs.Cache.{Texts}
 use Rattle.ijson_table.specs.Store.{Lacks, IsDistinct as NoneTwice, keys_of as store_keys, put}
-use Rattle.ijson_table.proofs.Keys.{same_key}
+use Rattle.ijson_value.proofs.FromMaps.{lacks_before, unique_keys, ordered_keys, put_lacking}
 use Rattle.ijson_value.specs.Tree.{Tree, members_of}
 use Rattle.ijson_value.specs.WellFormed.{WellFormed, tree_of}
 use Rattle.ijson_convert.specs.Interned.{all_interned, SomeInterned}
@@ -32,49 +26,22 @@ pairs_texts ps = members_texts (members_of ps)
 
 -- ---- no key stands twice in a map
 module _ {X : Type 0} (tree : X → Tree) where
-  lacks_other : (x : String Global) (es : List (String Global × X))
-      → AllByRecursion (λ y. string_eq x y ≡ false) (keys_of es)
-      → Lacks (string_bytes x) (store_keys (map (pair_tree tree) es))
-  lacks_other x [] a = tt
-  lacks_other x (e ∷ es) a = (
-    λ q. (let same : string_eq x e.0 ≡ true = ap (pointwise nat_eq (string_bytes x)) (sym q) ∙ string_eq_equiv.refl x in cc),
-    lacks_other x es a.1,
-  )
+  keys_are : (es : List (String Global × X)) → store_keys (map (pair_tree tree) es) ≡ map (λ e. string_bytes e.0) es
+  keys_are [] = refl
+  keys_are (e ∷ es) = ap (λ l. string_bytes e.0 ∷ l) (keys_are es)
 
   pub unique_pairs : (es : List (String Global × X)) → IsDistinct string_eq (keys_of es)
       → NoneTwice (store_keys (map (pair_tree tree) es))
-  unfolding IsDistinct
-  unique_pairs [] d = tt
-  unique_pairs (e ∷ es) d = (lacks_other e.0 es d.0, unique_pairs es d.1)
-
-  lacks_below : (x : String Global) (es : List (String Global × X))
-      → AllByRecursion (λ y. string_cmp x y ≡ Less) (keys_of es)
-      → Lacks (string_bytes x) (store_keys (map (pair_tree tree) es))
-  lacks_below x [] a = tt
-  lacks_below x (e ∷ es) a = (
-    λ q. (let same : string_cmp x e.0 ≡ Equal = ap (slice_cmp nat_cmp (string_bytes x)) (sym q) ∙ tied_itself string_cmp_total x in cc),
-    lacks_below x es a.1,
-  )
+  unique_pairs es d = subst NoneTwice (sym (keys_are es)) (unique_keys string_bytes es d)
 
   pub ordered_pairs : (es : List (String Global × X)) → IsStrictlySortedBy string_cmp (keys_of es)
       → NoneTwice (store_keys (map (pair_tree tree) es))
-  unfolding IsStrictlySortedBy
-  ordered_pairs [] d = tt
-  ordered_pairs (e ∷ es) d = (lacks_below e.0 es d.0, ordered_pairs es d.1)
+  ordered_pairs es d = subst NoneTwice (sym (keys_are es)) (ordered_keys string_bytes es d)
 
--- ---- a new key goes last
-lacks_middle : (ps : List (List ℕ × Tree)) (k : List ℕ) (t : Tree) (rest : List (List ℕ × Tree)) (j : List ℕ)
-    → Lacks j (store_keys (ps ++ (k, t) ∷ rest)) → j ≢ k
-lacks_middle [] k t rest j l = l.0
-lacks_middle (p ∷ ps) k t rest j l = lacks_middle ps k t rest j l.1
-
-put_new : (ps : List (List ℕ × WellFormed)) (k : List ℕ) (v : WellFormed) (t : Tree) (rest : List (List ℕ × Tree))
-    → NoneTwice (store_keys (tree_pairs ps ++ (k, t) ∷ rest)) → put ps k v ≡ ps ++ (k, v) ∷ []
-put_new [] k v t rest d = refl
-put_new (p ∷ ps) k v t rest d = elim (same_key p.0 k) [
-  | inl h ↦ absurd (lacks_middle (tree_pairs ps) k t rest p.0 d.0 h.1)
-  | inr h ↦ rw h.0 (ap (λ l. p ∷ l) (put_new ps k v t rest d.1))
-]
+tree_keys : (ps : List (List ℕ × WellFormed)) (rest : List (List ℕ × Tree))
+    → store_keys (tree_pairs ps ++ rest) ≡ store_keys ps ++ store_keys rest
+tree_keys [] rest = refl
+tree_keys (p ∷ ps) rest = ap (λ l. p.0 ∷ l) (tree_keys ps rest)
 
 -- ---- the texts of pairs
 pub joined_texts : (ps qs : List (List ℕ × Tree)) → pairs_texts (ps ++ qs) ≡ pairs_texts ps ++ pairs_texts qs
@@ -83,34 +50,48 @@ joined_texts (p ∷ ps) qs =
     ap (λ l. p.0 ∷ (texts_of p.1 ++ l)) (joined_texts ps qs)
     ∙ ap (λ l. p.0 ∷ l) (sym (append_assoc (texts_of p.1) (pairs_texts ps) (pairs_texts qs)))
 
--- ---- one pair more of the pairs `all`, whose keys are distinct
-module _ (all : List (List ℕ × Tree)) (ps : List (List ℕ × WellFormed)) (k : List ℕ) (t : Tree)
-    (left : List (List ℕ × Tree)) (old middle : Texts)
-    (so_far : tree_pairs ps ++ (k, t) ∷ left ≡ all)
-    (distinct : NoneTwice (store_keys all))
-    (cache : middle ≡ all_interned (pairs_texts (tree_pairs ps)) old) where
-  module _ (v : WellFormed) (is : v.tree ≡ t) (ps' : List (List ℕ × WellFormed)) (puts : ps' ≡ put ps k v) where
-    pairs_are : tree_pairs ps' ≡ tree_pairs ps ++ (k, t) ∷ []
-    pairs_are =
-        ap tree_pairs (puts ∙ put_new ps k v t left (subst (λ l. NoneTwice (store_keys l)) (sym so_far) distinct))
+-- ---- one pair more of the entries of a map, whose keys are distinct
+module _ {X : Type 0} (tree : X → Tree) (entries : List (String Global × X)) (old : Texts) where
+  -- the pairs so far and those that are left are all, and the texts so far are interned
+  abbrev pub SoFar : List (List ℕ × WellFormed) → List (String Global × X) → Texts → Type 0
+  SoFar ps left cache =
+      (tree_pairs ps ++ map (pair_tree tree) left ≡ map (pair_tree tree) entries)
+      × (cache ≡ all_interned (pairs_texts (tree_pairs ps)) old)
+
+  module _ (distinct : NoneTwice (store_keys (map (pair_tree tree) entries)))
+      (ps : List (List ℕ × WellFormed)) (rest left : List (String Global × X)) (cache : Texts) (so_far : SoFar ps rest cache)
+      (key : String Global) (x : X) (next : rest ≡ (key, x) ∷ left) (k : List ℕ) (is : k ≡ string_bytes key) where
+    parts : tree_pairs ps ++ (k, tree x) ∷ map (pair_tree tree) left ≡ map (pair_tree tree) entries
+    parts =
+        ap (λ j. tree_pairs ps ++ (j, tree x) ∷ map (pair_tree tree) left) is
+        ∙ ap (λ l. tree_pairs ps ++ map (pair_tree tree) l) (sym next) ∙ so_far.0
+
+    is_new : Lacks k (store_keys ps)
+    is_new =
+        lacks_before (store_keys ps) k (store_keys (map (pair_tree tree) left))
+        (subst NoneTwice (tree_keys ps ((k, tree x) ∷ map (pair_tree tree) left)) (subst (λ l. NoneTwice (store_keys l)) (sym parts) distinct))
+
+    pub one_more : (v : WellFormed) → v.tree ≡ tree x → (ps' : List (List ℕ × WellFormed)) → ps' ≡ put ps k v
+        → (new : Texts) → new ≡ all_interned (k ∷ texts_of (tree x)) cache → SoFar ps' left new
+    one_more v v_is ps' puts new n =
+        let pairs_are : tree_pairs ps' ≡ tree_pairs ps ++ (k, tree x) ∷ [] =
+        ap tree_pairs (puts ∙ put_lacking ps k v is_new)
         ∙ map-append (λ p. (p.0, tree_of p.1)) ps ((k, v) ∷ [])
-        ∙ ap (λ u. tree_pairs ps ++ (k, u) ∷ []) is
+        ∙ ap (λ u. tree_pairs ps ++ (k, u) ∷ []) v_is in (
+          ap (λ l. l ++ map (pair_tree tree) left) pairs_are
+              ∙ append_assoc (tree_pairs ps) ((k, tree x) ∷ []) (map (pair_tree tree) left) ∙ parts,
+          n ∙ ap (all_interned (k ∷ texts_of (tree x))) so_far.1
+              ∙ sym (both_interned (pairs_texts (tree_pairs ps)) (k ∷ texts_of (tree x)) old)
+              ∙ ap (λ l. all_interned (pairs_texts (tree_pairs ps) ++ k ∷ l) old) (sym (append-nil (texts_of (tree x))))
+              ∙ ap (λ l. all_interned l old) (sym (joined_texts (tree_pairs ps) ((k, tree x) ∷ [])))
+              ∙ ap (λ l. all_interned (pairs_texts l) old) (sym pairs_are),
+        )
 
-    pub more_pairs : tree_pairs ps' ++ left ≡ all
-    more_pairs = ap (λ l. l ++ left) pairs_are ∙ append_assoc (tree_pairs ps) ((k, t) ∷ []) left ∙ so_far
-
-    pub more_interned : (new : Texts) → new ≡ all_interned (k ∷ texts_of t) middle
-        → new ≡ all_interned (pairs_texts (tree_pairs ps')) old
-    more_interned new n =
-        n ∙ ap (all_interned (k ∷ texts_of t)) cache
-        ∙ sym (both_interned (pairs_texts (tree_pairs ps)) (k ∷ texts_of t) old)
-        ∙ ap (λ l. all_interned (pairs_texts (tree_pairs ps) ++ k ∷ l) old) (sym (append-nil (texts_of t)))
-        ∙ ap (λ l. all_interned l old) (sym (joined_texts (tree_pairs ps) ((k, t) ∷ [])))
-        ∙ ap (λ l. all_interned (pairs_texts l) old) (sym pairs_are)
-
-  pub some_pairs : (new : Texts) → SomeInterned (k ∷ texts_of t) middle new → SomeInterned (pairs_texts all) old new
-  some_pairs new s =
-      let behind = some_before (k ∷ texts_of t) (pairs_texts left) (all_interned (pairs_texts (tree_pairs ps)) old) new
-      (subst (λ m. SomeInterned (k ∷ texts_of t) m new) cache s) in
-      subst (λ l. SomeInterned l old new) (sym (joined_texts (tree_pairs ps) ((k, t) ∷ left)) ∙ ap pairs_texts so_far)
-      (some_behind (pairs_texts (tree_pairs ps)) (k ∷ (texts_of t ++ pairs_texts left)) old new behind)
+    pub one_refused : (new : Texts) → SomeInterned (k ∷ texts_of (tree x)) cache new
+        → SomeInterned (pairs_texts (map (pair_tree tree) entries)) old new
+    one_refused new s =
+        let behind = map (pair_tree tree) left in
+        let mine = some_before (k ∷ texts_of (tree x)) (pairs_texts behind) (all_interned (pairs_texts (tree_pairs ps)) old) new
+        (subst (λ m. SomeInterned (k ∷ texts_of (tree x)) m new) so_far.1 s) in
+        subst (λ l. SomeInterned l old new) (sym (joined_texts (tree_pairs ps) ((k, tree x) ∷ behind)) ∙ ap pairs_texts parts)
+        (some_behind (pairs_texts (tree_pairs ps)) (k ∷ (texts_of (tree x) ++ pairs_texts behind)) old new mine)

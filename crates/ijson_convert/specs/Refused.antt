@@ -3,7 +3,7 @@
 use Rattle.std.specs.Prelude.{◌≡◌, ◌⊎◌, ◌<◌, ℕ, ℤ, pos, Option, None, Some, List, [], ◌∷◌, ⊤, FitsSigned}
 use Rattle.std.specs.Int.{Width}
 use Rattle.ijson_number.specs.Integers.{HasValue}
-use Rattle.ijson_value.specs.Tree.{Tree, null, boolean, number, string, array, Items, no_items, item}
+use Rattle.ijson_value.specs.Tree.{Tree, null, boolean, number, string, array, object, Items, no_items, item, Members, no_members, member}
 use Rattle.ijson_convert.specs.IsRead.{IsRead}
 use Rattle.ijson_convert.specs.declared.convert_error.ConvertError.{ConvertError}
 use Rattle.ijson_convert.specs.declared.convert_error.ConvertError.TheVariants.{WrongKind, OutOfRange}
@@ -42,7 +42,16 @@ abbrev pub ListRefused : (Tree → ConvertError → Type 0) → Tree → Convert
 ListRefused Refused (array items) e = FirstRefused Refused items e
 ListRefused Refused _ e = e ≡ WrongKind
 
--- what holds of the integers in what may be missing, and in a list
+-- the values of members, as the items of a list
+abbrev pub member_values : Members → Items
+member_values no_members = no_items
+member_values (member k t more) = item t (member_values more)
+
+abbrev pub MapRefused : (Tree → ConvertError → Type 0) → Tree → ConvertError → Type 0
+MapRefused Refused (object members) e = FirstRefused Refused (member_values members) e
+MapRefused Refused _ e = e ≡ WrongKind
+
+-- what holds of the integers in what may be missing, in a list, and in a map
 abbrev pub option_in_range : {X : Type 0} → (X → Type 0) → Option X → Type 0
 option_in_range in_range None = ⊤
 option_in_range in_range (Some x) = in_range x
@@ -50,3 +59,7 @@ option_in_range in_range (Some x) = in_range x
 abbrev pub all_in_range : {X : Type 0} → (X → Type 0) → List X → Type 0
 all_in_range in_range [] = ⊤
 all_in_range in_range (x ∷ xs) = in_range x × all_in_range in_range xs
+
+abbrev pub values_in_range : {K X : Type 0} → (X → Type 0) → List (K × X) → Type 0
+values_in_range in_range [] = ⊤
+values_in_range in_range (e ∷ es) = in_range e.1 × values_in_range in_range es

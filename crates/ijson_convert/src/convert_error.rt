@@ -2,6 +2,7 @@
 ghost use Rattle.std.specs.Prelude.{◌≡◌};
 ghost use Rattle.ijson_convert.specs.declared.convert_error.ConvertError.TheVariants.{Memory};
 
+use ijson_table::ReserveError;
 use ijson_value::array::Refused;
 use ijson_value::object::RefusedPair;
 use std::alloc::AllocError;
@@ -19,7 +20,7 @@ pub enum ConvertError {
     /// The value of the number is neither an `i64` nor a `u64`, or it is a float of `serde_json`.
     #[error("a number that is neither an i64 nor a u64")]
     Number,
-    /// Memory was refused.
+    /// Memory was refused, or an object would have had to grow past the capacity 2^56.
     #[error("out of memory")]
     Memory,
 }
@@ -44,6 +45,14 @@ impl From<RefusedPair> for ConvertError {
     ghost from_gives = { λ _ e. e ≡ Memory };
 
     fn from(_refused: RefusedPair) -> ConvertError {
+        ConvertError::Memory
+    }
+}
+
+impl From<ReserveError> for ConvertError {
+    ghost from_gives = { λ _ e. e ≡ Memory };
+
+    fn from(_refused: ReserveError) -> ConvertError {
         ConvertError::Memory
     }
 }

@@ -7,6 +7,7 @@ mod integers_from;
 mod integers_to;
 mod lists_from;
 mod lists_to;
+mod maps_from;
 mod maps_to;
 mod scalars_from;
 mod scalars_to;

@@ -41,7 +41,7 @@ fn put_pair<T: ToIValue, S: BuildHasher>(
     Ok(())
 }
 
-/// The pairs of a map as an object, in the order of the keys.
+/// The pairs of a map as an object, in the order of the keys. Its capacity is their count, and it grows once.
 fn object_of_btree_map<T: ToIValue, S: BuildHasher>(
     alloc: Global,
     cache: &mut StringCache<S>,
@@ -55,14 +55,14 @@ fn object_of_btree_map<T: ToIValue, S: BuildHasher>(
         (e ≡ Memory)
         × SomeInterned (texts_of (map_tree T.ToIValue.tree map.now.entries)) cache.old cache.new) }
 {
-    let mut object = IObject::new(alloc);
+    let mut object = IObject::with_capacity(alloc, map.len())?;
     for (key, x) in map.iter() {
         put_pair(alloc, cache, &mut object, key.as_str(), x)?;
     }
     Ok(object)
 }
 
-/// The pairs of a map as an object, in the order of the map.
+/// The pairs of a map as an object, in the order of the map. Its capacity is their count, and it grows once.
 fn object_of_index_map<T: ToIValue, S: BuildHasher>(
     alloc: Global,
     cache: &mut StringCache<S>,
@@ -76,7 +76,7 @@ fn object_of_index_map<T: ToIValue, S: BuildHasher>(
         (e ≡ Memory)
         × SomeInterned (texts_of (map_tree T.ToIValue.tree map.now.entries)) cache.old cache.new) }
 {
-    let mut object = IObject::new(alloc);
+    let mut object = IObject::with_capacity(alloc, map.len())?;
     for (key, x) in map.iter() {
         put_pair(alloc, cache, &mut object, key.as_str(), x)?;
     }

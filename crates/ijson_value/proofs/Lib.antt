@@ -4,6 +4,7 @@ pub mod DepthLemmas
 mod Entries
 mod Feeds
 pub mod Found
+pub mod FromMaps
 mod Inserted
 mod Objects
 mod OrderSteps

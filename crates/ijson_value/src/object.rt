@@ -4,6 +4,7 @@ mod access;
 mod copy;
 mod entry;
 mod extend;
+mod from_map;
 mod index;
 mod iter;
 mod map;

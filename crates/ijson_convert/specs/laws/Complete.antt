@@ -1,12 +1,15 @@
 -- A tree that is refused is no value's.
-use Rattle.std.specs.Prelude.{ℕ, Bool, List, [], ◌∷◌, map, Option, None, Some, ⊤}
-use Rattle.std.proofs.Common.{inl, inr}
-use Rattle.ijson_value.specs.Same.{Same, SameEach}
-use Rattle.ijson_value.specs.Tree.{Tree, null, boolean, number, string, array, object, Items, no_items, item, items_of}
-use Rattle.ijson_value.specs.WellFormed.{IsWellFormed, AreWellFormed}
+use Rattle.std.specs.Prelude.{◌≡◌, ℕ, Bool, List, [], ◌∷◌, map, Option, None, Some, ⊤, String, string_bytes}
+use Rattle.std.proofs.Common.{inl, inr, refl, subst}
+use Rattle.std.specs.declared.alloc.Global.{Global}
+use Rattle.ijson_value.specs.Same.{Same, SameEach, SameIn, Has}
+use Rattle.ijson_value.specs.Tree.{Tree, null, boolean, number, string, array, object, Items, no_items, item, items_of, Members, no_members, member, members_of}
+use Rattle.ijson_value.specs.WellFormed.{IsWellFormed, AreWellFormed, HaveWellFormed}
+use Rattle.ijson_value.specs.laws.SameLaws.{same_symm}
 use Rattle.ijson_convert.specs.ListTree.{list_tree}
+use Rattle.ijson_convert.specs.MapTree.{pair_tree, map_tree}
 use Rattle.ijson_convert.specs.OptionTree.{option_tree}
-use Rattle.ijson_convert.specs.Refused.{BoolRefused, TextRefused, OptionRefused, FirstRefused, ListRefused, option_in_range, all_in_range}
+use Rattle.ijson_convert.specs.Refused.{BoolRefused, TextRefused, OptionRefused, FirstRefused, ListRefused, MapRefused, member_values, option_in_range, all_in_range, values_in_range}
 use Rattle.ijson_convert.specs.declared.convert_error.ConvertError.{ConvertError}
 
 pub bool_complete : (b : Bool) (t : Tree) (e : ConvertError) → ⊤ → IsWellFormed (boolean b) → IsWellFormed t
@@ -72,3 +75,37 @@ module _ {X : Type 0} (tree : X → Tree) (Refused : Tree → ConvertError → T
   list_complete xs (number n) e i w v s r = s
   list_complete xs (string n) e i w v s r = s
   list_complete xs (object n) e i w v s r = s
+
+  -- the pair of a map that has this key and this tree
+  pair_of : (es : List (String Global × X)) → values_in_range in_range es → HaveWellFormed (members_of (map (pair_tree tree) es))
+      → (k : List ℕ) (u : Tree) → Has k u (members_of (map (pair_tree tree) es))
+      → (x : X) × (u ≡ tree x) × in_range x × IsWellFormed (tree x)
+  pair_of [] i w k u h = absurd h
+  pair_of (e ∷ es) i w k u h = elim h [
+    | inl here ↦ (e.1, here.1, i.0, w.0)
+    | inr later ↦ pair_of es i.1 w.1 k u later
+  ]
+
+  members_complete : (es : List (String Global × X)) (ts : Members) (e : ConvertError) → values_in_range in_range es
+      → HaveWellFormed (members_of (map (pair_tree tree) es)) → HaveWellFormed ts
+      → SameIn ts (members_of (map (pair_tree tree) es)) → FirstRefused Refused (member_values ts) e → ⊥
+  members_complete es no_members e i w v s r = r
+  members_complete es (member k t ts) e i w v s r = elim r [
+    | inl here ↦
+        let pair = pair_of es i w k s.0.0 s.0.1 in
+        let same : Same t (tree pair.0) = subst (Same t) pair.1 s.0.2 in
+        complete pair.0 t e pair.2 pair.3 v.0 (same_symm t (tree pair.0) v.0 pair.3 same) here
+    | inr later ↦ members_complete es ts e i w v.1 s.1 later.1
+  ]
+
+  pub map_complete : (es : List (String Global × X)) (t : Tree) (e : ConvertError) → values_in_range in_range es
+      → IsWellFormed (map_tree tree es) → IsWellFormed t → Same (map_tree tree es) t
+      → MapRefused Refused t e → ⊥
+  map_complete es (object ts) e i w v s r =
+      let turned = same_symm (map_tree tree es) (object ts) w v s in
+      members_complete es ts e i w.1 v.1 turned.1 r
+  map_complete es null e i w v s r = s
+  map_complete es (boolean n) e i w v s r = s
+  map_complete es (number n) e i w v s r = s
+  map_complete es (string n) e i w v s r = s
+  map_complete es (array n) e i w v s r = s

@@ -1,0 +1,39 @@
+//! `FromIValue` of maps.
+ghost use Rattle.ijson_convert.specs.MapTree.{map_tree};
+ghost use Rattle.ijson_convert.specs.Refused.{MapRefused, values_in_range};
+ghost use Rattle.ijson_convert.specs.laws.Complete.{map_complete};
+
+use crate::convert_error::ConvertError;
+use crate::from_ivalue::FromIValue;
+use ijson_value::value::{DestructuredRef, IValue};
+use std::alloc::Global;
+use std::collections::BTreeMap;
+
+impl<T: FromIValue + Drop> FromIValue for BTreeMap<String, T> {
+    ghost tree = { λ map. map_tree T.FromIValue.tree map.entries };
+
+    ghost refused = { MapRefused T.FromIValue.refused };
+
+    ghost in_range = { λ map. values_in_range T.FromIValue.in_range map.entries };
+
+    fn from_ivalue(alloc: Global, value: &IValue) -> Result<BTreeMap<String, T>, ConvertError> {
+        let DestructuredRef::Object(object) = value.destructure_ref() else {
+            return Err(ConvertError::WrongKind);
+        };
+        let mut map = BTreeMap::new(alloc);
+        for (key, item) in object.iter() {
+            let x = match T::from_ivalue(alloc, item) {
+                Ok(x) => x,
+                Err(e) => return Err(e),
+            };
+            let key = key.to_owned_string(alloc)?;
+            if map.insert(key, x).is_err() {
+                return Err(ConvertError::Memory);
+            }
+        }
+        Ok(map)
+    }
+
+    ghost complete = { λ map. map_complete T.FromIValue.tree T.FromIValue.refused
+        T.FromIValue.in_range T.FromIValue.complete map.entries };
+}

@@ -1,0 +1,93 @@
+//! Objects of the pairs of maps.
+ghost use Rattle.std.specs.Prelude.{◌≡◌, ◌<◌, ◌≤◌, ◌↔◌, ℕ, List, Err, IfOk, IsOk, length};
+ghost use Rattle.std.specs.BTreeMap.{btree_map_len};
+ghost use Rattle.std.specs.HashMap.{hash_map_len};
+ghost use Rattle.std.specs.Iterator.{IsFiniteIterable};
+ghost use Rattle.indexmap.specs.IndexMap.{index_map_len};
+ghost use Rattle.ijson_table.specs.Growth.{capacity_limit};
+ghost use Rattle.ijson_table.specs.Store.{IsDistinct, keys_of};
+ghost use Rattle.ijson_value.specs.Gives.{GivesAll, GivesThen};
+ghost use Rattle.ijson_value.specs.WellFormed.{WellFormed};
+
+use super::map::IObject;
+use crate::value::IValue;
+use ijson_string::IString;
+use ijson_table::ReserveError;
+use indexmap::IndexMap;
+use std::alloc::Global;
+use std::collections::{BTreeMap, HashMap};
+use std::hash::BuildHasher;
+
+impl IObject {
+    /// An object of the pairs of a hash map, in the order in which the map goes over them. Its capacity is their count, which is
+    /// the one growth, made before a pair is moved. It is refused as too large where that passes 2^56; what was made and the map
+    /// are then dropped, as where memory is refused. An empty map takes no memory.
+    pub fn from_hash_map<S: BuildHasher + Drop>(
+        alloc: Global,
+        map: HashMap<IString, IValue, S>,
+    ) -> Result<IObject, ReserveError>
+        ensures pairs { IfOk result (λ object. object.pairs ≡ map.entries) }
+        ensures capacity { IfOk result (λ object. object.capacity ≡ hash_map_len map) }
+        ensures too_large { (result ≡ Err ReserveError.TooLarge) ↔ (capacity_limit < hash_map_len map) }
+        ensures none { hash_map_len map ≡ 0 → IsOk result }
+    {
+        IObject::from_pairs(alloc, map.len(), map)
+    }
+
+    /// An object of the pairs of a sorted map, in the order of their keys. Its capacity is their count, which is the one growth,
+    /// made before a pair is moved. It is refused as too large where that passes 2^56; what was made and the map are then
+    /// dropped, as where memory is refused. An empty map takes no memory.
+    pub fn from_btree_map(
+        alloc: Global,
+        map: BTreeMap<IString, IValue>,
+    ) -> Result<IObject, ReserveError>
+        ensures pairs { IfOk result (λ object. object.pairs ≡ map.entries) }
+        ensures capacity { IfOk result (λ object. object.capacity ≡ btree_map_len map) }
+        ensures too_large { (result ≡ Err ReserveError.TooLarge) ↔ (capacity_limit < btree_map_len map) }
+        ensures none { btree_map_len map ≡ 0 → IsOk result }
+    {
+        IObject::from_pairs(alloc, map.len(), map)
+    }
+
+    /// An object of the pairs of a map in insertion order, in that order. Its capacity is their count, which is the one growth,
+    /// made before a pair is moved. It is refused as too large where that passes 2^56; what was made and the map are then
+    /// dropped, as where memory is refused. An empty map takes no memory.
+    pub fn from_index_map<S: BuildHasher + Drop>(
+        alloc: Global,
+        map: IndexMap<IString, IValue, S>,
+    ) -> Result<IObject, ReserveError>
+        ensures pairs { IfOk result (λ object. object.pairs ≡ map.entries) }
+        ensures capacity { IfOk result (λ object. object.capacity ≡ index_map_len map) }
+        ensures too_large { (result ≡ Err ReserveError.TooLarge) ↔ (capacity_limit < index_map_len map) }
+        ensures none { index_map_len map ≡ 0 → IsOk result }
+    {
+        IObject::from_pairs(alloc, map.len(), map)
+    }
+
+    /// An object of pairs of which none has the key of another, and whose count is told. Their room is made first, so none of
+    /// them is refused.
+    fn from_pairs<I: IntoIterator<Item = (IString, IValue)> + Drop>(
+        alloc: Global,
+        count: usize,
+        pairs: I,
+    ) -> Result<IObject, ReserveError>
+        requires finite { IsFiniteIterable I.into_iter_gives I.IntoIter.can_next I.IntoIter.remaining pairs }
+        requires all { (added : List (List ℕ × WellFormed))
+            → GivesAll I.into_iter_gives I.IntoIter.next_gives pairs added
+            → IsDistinct (keys_of added) × (length added ≤ count) }
+        requires more { (added : List (List ℕ × WellFormed)) (next : List ℕ × WellFormed)
+            → GivesThen I.into_iter_gives I.IntoIter.next_gives pairs added next
+            → IsDistinct (keys_of added) × (length added < count) }
+        ensures pairs { IfOk result (λ object.
+            GivesAll I.into_iter_gives I.IntoIter.next_gives pairs object.pairs) }
+        ensures capacity { IfOk result (λ object. object.capacity ≡ count) }
+        ensures too_large { (result ≡ Err ReserveError.TooLarge) ↔ (capacity_limit < count) }
+        ensures none { count ≡ 0 → IsOk result }
+    {
+        let mut object = IObject::with_capacity(alloc, count)?;
+        match object.extend(pairs) {
+            Ok(()) => Ok(object),
+            Err(refused) => Err(refused.why),
+        }
+    }
+}
