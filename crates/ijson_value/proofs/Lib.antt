@@ -1,6 +1,7 @@
 mod Cases
 mod Clones
 pub mod DepthLemmas
+mod EmptySlice
 mod Entries
 mod Feeds
 pub mod Found

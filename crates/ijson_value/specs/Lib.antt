@@ -9,6 +9,7 @@ pub mod Kind
 pub mod LendsAtKey
 pub mod LendsEntry
 pub mod LendsItem
+pub mod LendsItems
 pub mod LendsPart
 pub mod LendsStep
 pub mod LendsValue

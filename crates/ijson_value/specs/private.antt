@@ -1,3 +1,4 @@
 pub mod Boxed
 pub mod Folded
+pub mod LendsList
 pub mod Sizes

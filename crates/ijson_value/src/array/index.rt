@@ -1,7 +1,10 @@
 //! An array by position, and its items to be written.
-ghost use Rattle.std.specs.Prelude.{◌≡◌, ◌<◌, length, Some, slice_get, option_map};
+ghost use Rattle.std.specs.Prelude.{◌≡◌, ◌<◌, [], length, Some, slice_get, option_map};
 ghost use Rattle.std.specs.Borrow.{sem};
 ghost use Rattle.ijson_value.specs.LendsItem.{LendsItem, LendsItemIf};
+ghost use Rattle.ijson_value.specs.LendsItems.{LendsItems};
+ghost use Rattle.ijson_value.specs.private.Boxed.{list_items};
+ghost use Rattle.ijson_value.specs.private.LendsList.{LendsListItems, LendsNoItems};
 
 use super::IArray;
 use crate::value::IValue;
@@ -43,11 +46,28 @@ impl IArray {
 
     /// The items, front to back, to be written.
     pub fn as_mut_slice(&mut self) -> &mut [IValue]
-        ensures { result.now ≡ self.old.items }
+        ensures* writes_back { sem 𝓛 (LendsItems self.entry result) }
+        ensures items { result.now ≡ self.old.items }
     {
-        match &mut self.list {
-            None => &mut [],
-            Some(list) => list.as_mut_slice(),
-        }
+        items_mut(&mut self.list)
     }
+}
+
+/// The items of a list, to be written; none where there is no list.
+fn items_mut(place: &mut Option<Box<Vec<IValue>>>) -> &mut [IValue]
+    ensures* writes_back { sem 𝓛 (LendsListItems place.entry result) }
+    ensures items { result.now ≡ list_items place.old }
+{
+    match place {
+        Some(list) => list.as_mut_slice(),
+        None => no_items(place),
+    }
+}
+
+/// No items, to be written. The place stays as it is.
+fn no_items(place: &mut Option<Box<Vec<IValue>>>) -> &mut [IValue]
+    ensures* writes_back { sem 𝓛 (LendsNoItems place.entry result) }
+    ensures items { result.now ≡ [] }
+{
+    &mut []
 }

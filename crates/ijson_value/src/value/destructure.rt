@@ -42,7 +42,8 @@ impl IValue {
     pub fn destructure(self) -> Destructured
         ensures { node_value result ≡ self }
     {
-        self.node
+        let IValue { node } = self;
+        node
     }
 
     /// The value opened by reference, to match on its kind.

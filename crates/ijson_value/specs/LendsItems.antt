@@ -1,0 +1,15 @@
+-- What an array is once the slice of its items that it lent is given back: what was left there are its items, as many as before;
+-- the room is as it was. This project's own.
+use Rattle.std.specs.Prelude.{List, ◌++◌, length, take, drop}
+use Rattle.std.specs.Borrow.{Lends, MutBor, Array, Fml}
+use Rattle.ijson_value.specs.WellFormed.{WellFormed}
+use Rattle.ijson_value.specs.Sequence.{Sequence}
+use Rattle.ijson_value.specs.contracts.array.IArray as arrays
+use Rattle.ijson_value.specs.contracts.value.IValue as value
+
+-- the array with these items. A list of another length is cut, or filled up from the old items, so that the length stays
+abbrev pub with_items : Sequence → List WellFormed → Sequence
+with_items a ws = record { items = take (length a.items) (ws ++ drop (length ws) a.items); capacity = a.capacity }
+
+abbrev pub LendsItems : MutBor Sequence → MutBor (List WellFormed) → Fml
+LendsItems s r = Lends arrays.the_row (Array value.the_row 0) s r (with_items s.now)
