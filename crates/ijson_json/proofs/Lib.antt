@@ -23,3 +23,4 @@ pub mod Rows
 pub mod Caches
 pub mod Joined
 pub mod Moves
+pub mod Stacks

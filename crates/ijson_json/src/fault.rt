@@ -3,9 +3,9 @@
 ghost use Rattle.std.specs.Prelude.{◌≡◌};
 ghost use Rattle.ijson_json.specs.declared.fault.Fault.TheVariants.{Memory};
 
-use ijson_value::array::Refused;
 use ijson_value::object::RefusedPair;
-use std::alloc::AllocError;
+use ijson_value::value::IValue;
+use std::alloc::{AllocError, AllocFailed};
 use thiserror::Error;
 
 /// Why no value was read from a text. `at` is a byte offset from 0, at most the length of the text.
@@ -35,10 +35,10 @@ pub(crate) enum Fault {
     Memory,
 }
 
-impl From<Refused> for Fault {
+impl From<AllocFailed<IValue>> for Fault {
     ghost from_gives = { λ _ fault. fault ≡ Memory };
 
-    fn from(_refused: Refused) -> Fault {
+    fn from(_refused: AllocFailed<IValue>) -> Fault {
         Fault::Memory
     }
 }

@@ -1,6 +1,6 @@
 //! Reading a text.
 
-ghost use Rattle.std.specs.Prelude.{◌≡◌, ◌∷◌, ◌<◌, ◌≤◌, length, MatchResult, IfOk, IfErr};
+ghost use Rattle.std.specs.Prelude.{◌≡◌, ◌∷◌, ◌<◌, ◌≤◌, length, take, drop, MatchResult, IfOk, IfErr, OnOk};
 ghost use Rattle.ijson_value.specs.Tree.{Tree, array, object, depth};
 ghost use Rattle.ijson_value.specs.WellFormed.{IsWellFormed, item_trees, pair_trees};
 ghost use Rattle.ijson_json.specs.Grammar.{Accepted};
@@ -22,11 +22,15 @@ use ijson_string::{IString, StringCache};
 use ijson_value::array::IArray;
 use ijson_value::object::IObject;
 use ijson_value::value::IValue;
-use std::alloc::Global;
+use std::alloc::{AllocError, Global};
 use std::hash::BuildHasher;
+use std::mem;
 
 /// The most containers that may be open at once.
 const MAX_DEPTH: usize = 127;
+
+/// More items than these are not copied where they need not be.
+const MANY_ITEMS: usize = 64;
 
 /// Refuses a container at the front of the text inside as many as may be open.
 fn check_depth(text: &str, opened: usize) -> Result<(), Fault>
@@ -41,11 +45,28 @@ fn check_depth(text: &str, opened: usize) -> Result<(), Fault>
     Ok(())
 }
 
-/// The value at the front of the text, inside so many open containers.
+/// Takes the items from `base` on off the stack, as an array with no more room than they need. Where they are many and all
+/// that there are, they are not copied, and the array has the room of the stack.
+fn take_items(alloc: Global, stack: &mut Vec<IValue>, base: usize) -> Result<IArray, AllocError>
+    requires { base ≤ length stack.old.items }
+    ensures items { IfOk result (λ array. array.items ≡ drop base stack.old.items) }
+    ensures stack { OnOk result (stack.new.items ≡ take base stack.old.items) }
+{
+    let items = if base == 0 && stack.len() > MANY_ITEMS {
+        mem::replace(stack, Vec::new(alloc))
+    } else {
+        stack.split_off(base)?
+    };
+    IArray::from_vec(alloc, items).map_err(|_| AllocError)
+}
+
+/// The value at the front of the text, inside so many open containers. The items of arrays that are not read to their end
+/// lie on the stack.
 #[cycle(read)]
 fn read_value<'a, S: BuildHasher>(
     alloc: Global,
     cache: &mut StringCache<S>,
+    stack: &mut Vec<IValue>,
     text: &'a str,
     opened: usize,
 ) -> Result<(IValue, &'a str), Fault>
@@ -54,6 +75,7 @@ fn read_value<'a, S: BuildHasher>(
         (λ x. ReadAs opened text.now x.0.tree x.1.now)
         (λ fault. Explains opened text.now fault) }
     ensures cache { AddsOnlyRead text.now cache.old cache.new }
+    ensures stack { OnOk result (stack.new.items ≡ stack.old.items) }
     ensures shared { IfOk result (λ x. AreShared cache.new x.0.tree) }
 {
     let Some((first, inside)) = split_ascii(text) else {
@@ -62,12 +84,12 @@ fn read_value<'a, S: BuildHasher>(
     match first {
         b'[' => {
             check_depth(text, opened)?;
-            let (items, rest) = read_array(alloc, cache, inside, opened)?;
+            let (items, rest) = read_array(alloc, cache, stack, inside, opened)?;
             Ok((IValue::from(items), rest))
         }
         b'{' => {
             check_depth(text, opened)?;
-            let (members, rest) = read_object(alloc, cache, inside, opened)?;
+            let (members, rest) = read_object(alloc, cache, stack, inside, opened)?;
             Ok((IValue::from(members), rest))
         }
         b'"' => {
@@ -93,11 +115,13 @@ fn read_value<'a, S: BuildHasher>(
     }
 }
 
-/// The items of an array, behind its opening bracket.
+/// The items of an array, behind its opening bracket. They are gathered on the stack, above those that lie there, so that
+/// each array is made once, of the size that it has.
 #[cycle(read)]
 fn read_array<'a, S: BuildHasher>(
     alloc: Global,
     cache: &mut StringCache<S>,
+    stack: &mut Vec<IValue>,
     inside: &'a str,
     opened: usize,
 ) -> Result<(IArray, &'a str), Fault>
@@ -106,18 +130,20 @@ fn read_array<'a, S: BuildHasher>(
         (λ x. ReadAs opened (91 ∷ inside.now) (array (item_trees x.0.items)) x.1.now)
         (λ fault. Explains opened (91 ∷ inside.now) fault) }
     ensures cache { AddsOnlyRead (91 ∷ inside.now) cache.old cache.new }
+    ensures stack { OnOk result (stack.new.items ≡ stack.old.items) }
     ensures shared { IfOk result (λ x. ItemsAreShared cache.new (item_trees x.0.items)) }
 {
-    let mut items = IArray::new(alloc);
     let mut rest = skip_space(inside);
     if let Some(behind) = strip_byte(rest, b']') {
-        return Ok((items, behind));
+        return Ok((IArray::new(alloc), behind));
     }
+    let base = stack.len();
     loop {
-        let (item, after) = read_value(alloc, cache, rest, opened + 1)?;
-        items.push(item)?;
+        let (item, after) = read_value(alloc, cache, stack, rest, opened + 1)?;
+        stack.push(item)?;
         let after = skip_space(after);
         if let Some(behind) = strip_byte(after, b']') {
+            let items = take_items(alloc, stack, base)?;
             return Ok((items, behind));
         }
         let Some(more) = strip_byte(after, b',') else {
@@ -133,6 +159,7 @@ fn read_array<'a, S: BuildHasher>(
 fn read_object<'a, S: BuildHasher>(
     alloc: Global,
     cache: &mut StringCache<S>,
+    stack: &mut Vec<IValue>,
     inside: &'a str,
     opened: usize,
 ) -> Result<(IObject, &'a str), Fault>
@@ -141,6 +168,7 @@ fn read_object<'a, S: BuildHasher>(
         (λ x. ReadAs opened (123 ∷ inside.now) (object (pair_trees x.0.pairs)) x.1.now)
         (λ fault. Explains opened (123 ∷ inside.now) fault) }
     ensures cache { AddsOnlyRead (123 ∷ inside.now) cache.old cache.new }
+    ensures stack { OnOk result (stack.new.items ≡ stack.old.items) }
     ensures shared { IfOk result (λ x. MembersAreShared cache.new (pair_trees x.0.pairs)) }
 {
     let mut members = IObject::new(alloc);
@@ -149,7 +177,7 @@ fn read_object<'a, S: BuildHasher>(
         return Ok((members, behind));
     }
     loop {
-        let (key, value, after) = read_member(alloc, cache, rest, opened + 1)?;
+        let (key, value, after) = read_member(alloc, cache, stack, rest, opened + 1)?;
         members.insert(key, value)?;
         let after = skip_space(after);
         if let Some(behind) = strip_byte(after, b'}') {
@@ -167,6 +195,7 @@ fn read_object<'a, S: BuildHasher>(
 fn read_member<'a, S: BuildHasher>(
     alloc: Global,
     cache: &mut StringCache<S>,
+    stack: &mut Vec<IValue>,
     text: &'a str,
     opened: usize,
 ) -> Result<(IString, IValue, &'a str), Fault>
@@ -175,6 +204,7 @@ fn read_member<'a, S: BuildHasher>(
         (λ x. MemberAs opened text.now x.0 x.1.tree x.2.now)
         (λ fault. ExplainsMember opened text.now fault) }
     ensures cache { AddsOnlyRead text.now cache.old cache.new }
+    ensures stack { OnOk result (stack.new.items ≡ stack.old.items) }
     ensures shared { IfOk result (λ x. IsShared cache.new x.0 × AreShared cache.new x.1.tree) }
 {
     let (key, after) = read_string(alloc, cache, text)?;
@@ -183,7 +213,7 @@ fn read_member<'a, S: BuildHasher>(
         return Err(Fault::Syntax { left: after.len() });
     };
     let start = skip_space(more);
-    let (value, rest) = read_value(alloc, cache, start, opened)?;
+    let (value, rest) = read_value(alloc, cache, stack, start, opened)?;
     Ok((key, value, rest))
 }
 
@@ -216,7 +246,8 @@ fn read_text<S: BuildHasher>(
     ensures shared { IfOk result (λ value. AreShared cache.new value.tree) }
 {
     let start = skip_space(text);
-    match read_value(alloc, cache, start, 0) {
+    let mut stack = Vec::new(alloc);
+    match read_value(alloc, cache, &mut stack, start, 0) {
         Ok((value, rest)) => {
             let rest = skip_space(rest);
             if rest.is_empty() {

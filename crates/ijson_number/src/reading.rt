@@ -94,6 +94,7 @@ pub struct Tail<'a> {
 }
 
 /// Reads what follows the whole part.
+#[inline(always)]
 fn read_tail(bytes: &[u8]) -> Option<Tail<'_>>
     ensures found { IfSome result (λ t.
         IsTail bytes.now t.fraction.now (signed t.negative (value t.exponent.now)) t.point) }
@@ -143,6 +144,7 @@ fn is_whole(digits: &[u8]) -> bool
 }
 
 /// Reads a number's text without its sign: the whole part, and what follows it.
+#[inline(always)]
 fn read_unsigned(bytes: &[u8]) -> Option<(&[u8], Tail<'_>)>
     ensures found { IfSome result (λ r.
         let exponent = signed r.1.negative (value r.1.exponent.now) in
@@ -169,6 +171,7 @@ pub struct Spelling<'a> {
 }
 
 /// Reads a number's text into its parts.
+#[inline(always)]
 pub fn read(text: &[u8]) -> Option<Spelling<'_>>
     ensures found { IfSome result (λ s. IsSpelled text.now (parts_of s)) }
     ensures digits { IfSome result (λ s. AllDigits s.tail.exponent.now) }

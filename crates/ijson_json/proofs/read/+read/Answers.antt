@@ -5,10 +5,12 @@ use Rattle.ijson_value.specs.WellFormed.{WellFormed, item_trees, pair_trees}
 use Rattle.ijson_json.proofs.Unique.{items_shape, members_shape}
 use Rattle.ijson_json.proofs.Listing.{reached_start, reached_more, reached_end, reached_stuck, reached_shorter, empty_read}
 use Rattle.ijson_json.proofs.Containers.{arrays, objects, array_fault, object_fault}
-use Rattle.ijson_json.specs.AreShared.{AreShared, ItemsAreShared, MembersAreShared}
+use Rattle.ijson_json.specs.AreShared.{AreShared, MembersAreShared}
 use Rattle.ijson_json.proofs.Caches.{adds_none, adds_more, string_adds, string_shared, shared_more, item_shared, member_shared}
 use Rattle.ijson_json.proofs.Members.{key_head, key_behind, key_read, member_read, member_fault, no_colon}
 use Rattle.ijson_json.proofs.Values.{read_null, read_boolean, array_too_deep, object_too_deep, begins, other_fault, string_fault, key_fault, front_shorter, skips_shorter, no_character, null_fault, true_fault, false_fault}
+use Rattle.std.proofs.lemmas.List.{append-nil}
+use Rattle.ijson_json.proofs.Stacks.{pushed_above, taken_above, left_below}
 use Rattle.ijson_json.proofs.Trees.{item_pushed, member_put, pair_list}
 use Rattle.ijson_json.proofs.read.+read.Goals as goal
 
@@ -70,63 +72,67 @@ read_array-returns-in-Some-clause-read g t c =
     let s = c.skip_space-rest.ensures in (
       array (items_of []),
       empty_read Tree items_shape arrays c.args.opened c.args.inside.now s.space c.in-Some.behind.now (omega arith) (s.is ∙ ap (λ (l : List ℕ). s.space ++ l) c.in-Some.ensures) s.passed,
-      ap (λ vs. array (item_trees vs)) c.new-items.ensures.items,
+      ap (λ vs. array (item_trees vs)) c.new.ensures.items,
     )
 
-pub read_array-loop-items-init : goal.read_array-loop-items-init
-read_array-loop-items-init g t c =
+pub read_array-loop-item-init : goal.read_array-loop-item-init
+read_array-loop-item-init g t c =
     let s = c.skip_space-rest.ensures in (
+      [],
+      sym (append-nil c.args.stack.now.items),
       (
         [],
         reached_start Tree items_shape arrays c.args.opened c.args.inside.now s.space c.skip_space-rest.result.now (omega arith) s.is s.passed s.past c.in_default.ensures,
-        ap item_trees c.new-items.ensures.items,
+        refl,
       ),
-      (adds_none _ _, subst (λ (l : List WellFormed). ItemsAreShared c.args.cache.now (item_trees l)) (sym c.new-items.ensures.items) tt),
+      (adds_none _ _, tt),
       c.skip_space-rest.utf8,
     )
 
 pub read_array-returns-in_err-item-clause-read : goal.read_array-returns-in_err-item-clause-read
 read_array-returns-in_err-item-clause-read g t c =
     let p = err_from_is_err_and c.from_residual.result c.from_residual.ensures.1 in
-    rw (p.1, p.2) (array_fault c.args.opened (91 ∷ c.args.inside.now) c.loop-items.rest.now c.loop-items.invariant.0.0 c.in_err-item.field-0.0 c.loop-items.invariant.0.1 c.in_err-item.ensures.read)
+    rw (p.1, p.2) (array_fault c.args.opened (91 ∷ c.args.inside.now) c.loop-item.rest.now c.loop-item.invariant.2.0 c.in_err-item.field-0.0 c.loop-item.invariant.2.1 c.in_err-item.ensures.read)
 
 pub read_array-returns-in-Some-strip_byte-clause-read : goal.read_array-returns-in-Some-strip_byte-clause-read
 read_array-returns-in-Some-strip_byte-clause-read g t c =
     let s = c.skip_space-after.ensures in
-    let i = c.loop-items.invariant.0 in
+    let i = c.loop-item.invariant.2 in
     let r = c.in_ok-item.ensures.read in (
       array (items_of (i.0 ++ r.0 ∷ [])),
-      reached_end Tree items_shape arrays c.args.opened (91 ∷ c.args.inside.now) c.loop-items.rest.now c.in_ok-item.after.now s.space c.in-Some-strip_byte.behind.now i.0 r.0 i.1 r.1 (s.is ∙ ap (λ (l : List ℕ). s.space ++ l) c.in-Some-strip_byte.ensures) s.passed,
-      ap array (item_pushed c.loop-items.items.items c.push.new.self.items c.in_ok-item.item i.0 r.0 c.in_ok-push.ensures.ok r.2 i.2),
+      reached_end Tree items_shape arrays c.args.opened (91 ∷ c.args.inside.now) c.loop-item.rest.now c.in_ok-item.after.now s.space c.in-Some-strip_byte.behind.now i.0 r.0 i.1 r.1 (s.is ∙ ap (λ (l : List ℕ). s.space ++ l) c.in-Some-strip_byte.ensures) s.passed,
+      ap array (ap item_trees (taken_above c.args.stack.now.items (c.loop-item.invariant.0 ++ c.in_ok-item.item ∷ []) c.push.new.self.items c.in_ok-items.items.items c.len-base.result (c.len-base.ensures ∙ c.args.stack.now.ok.0) (pushed_above c.args.stack.now.items c.loop-item.invariant.0 c.loop-item.stack.items c.read_value.new.stack.items c.push.new.self.items c.in_ok-item.item c.loop-item.invariant.1 c.in_ok-item.ensures.stack c.in_ok-push.ensures.items) c.in_ok-items.ensures.items) ∙ item_pushed c.loop-item.invariant.0 _ c.in_ok-item.item i.0 r.0 refl r.2 i.2),
     )
 
 pub read_array-returns-in_default-strip_byte-2-clause-read : goal.read_array-returns-in_default-strip_byte-2-clause-read
 read_array-returns-in_default-strip_byte-2-clause-read g t c =
     let s = c.skip_space-after.ensures in
-    let i = c.loop-items.invariant.0 in
+    let i = c.loop-item.invariant.2 in
     let r = c.in_ok-item.ensures.read in
     let text : List ℕ = 91 ∷ c.args.inside.now in
-    let short : length c.skip_space-after.result.now ≤ length c.loop-items.rest.now = omega (arith, skips_shorter c.in_ok-item.after.now c.skip_space-after.result.now s, front_shorter _ c.loop-items.rest.now c.in_ok-item.after.now r.1.found) in (
-      reached_shorter Tree items_shape arrays c.args.opened text c.loop-items.rest.now i.0 (length c.skip_space-after.result.now) i.1 short,
-      reached_stuck Tree items_shape arrays c.args.opened text c.loop-items.rest.now c.in_ok-item.after.now s.space c.skip_space-after.result.now i.0 r.0 i.1 r.1 s.is s.passed s.past c.in_default-strip_byte-2.ensures c.in_default-strip_byte.ensures,
+    let short : length c.skip_space-after.result.now ≤ length c.loop-item.rest.now = omega (arith, skips_shorter c.in_ok-item.after.now c.skip_space-after.result.now s, front_shorter _ c.loop-item.rest.now c.in_ok-item.after.now r.1.found) in (
+      reached_shorter Tree items_shape arrays c.args.opened text c.loop-item.rest.now i.0 (length c.skip_space-after.result.now) i.1 short,
+      reached_stuck Tree items_shape arrays c.args.opened text c.loop-item.rest.now c.in_ok-item.after.now s.space c.skip_space-after.result.now i.0 r.0 i.1 r.1 s.is s.passed s.past c.in_default-strip_byte-2.ensures c.in_default-strip_byte.ensures,
     )
 
-pub read_array-loop-items-preserved : goal.read_array-loop-items-preserved
-read_array-loop-items-preserved g t c =
+pub read_array-loop-item-preserved : goal.read_array-loop-item-preserved
+read_array-loop-item-preserved g t c =
     let s = c.skip_space-after.ensures in
-    let s' = c.skip_space-rest-in-loop-items.ensures in
-    let i = c.loop-items.invariant.0 in
+    let s' = c.skip_space-rest-in-loop-item.ensures in
+    let i = c.loop-item.invariant.2 in
     let r = c.in_ok-item.ensures.read in (
+      c.loop-item.invariant.0 ++ c.in_ok-item.item ∷ [],
+      pushed_above c.args.stack.now.items c.loop-item.invariant.0 c.loop-item.stack.items c.read_value.new.stack.items c.push.new.self.items c.in_ok-item.item c.loop-item.invariant.1 c.in_ok-item.ensures.stack c.in_ok-push.ensures.items,
       (
         i.0 ++ r.0 ∷ [],
-        reached_more Tree items_shape arrays c.args.opened (91 ∷ c.args.inside.now) c.loop-items.rest.now c.in_ok-item.after.now s.space c.in-Some-strip_byte-2.more.now s'.space c.skip_space-rest-in-loop-items.result.now i.0 r.0 i.1 r.1 (s.is ∙ ap (λ (l : List ℕ). s.space ++ l) c.in-Some-strip_byte-2.ensures) s.passed s'.is s'.passed s'.past,
-        item_pushed c.loop-items.items.items c.push.new.self.items c.in_ok-item.item i.0 r.0 c.in_ok-push.ensures.ok r.2 i.2,
+        reached_more Tree items_shape arrays c.args.opened (91 ∷ c.args.inside.now) c.loop-item.rest.now c.in_ok-item.after.now s.space c.in-Some-strip_byte-2.more.now s'.space c.skip_space-rest-in-loop-item.result.now i.0 r.0 i.1 r.1 (s.is ∙ ap (λ (l : List ℕ). s.space ++ l) c.in-Some-strip_byte-2.ensures) s.passed s'.is s'.passed s'.past,
+        item_pushed c.loop-item.invariant.0 _ c.in_ok-item.item i.0 r.0 refl r.2 i.2,
       ),
       (
-        adds_more (91 ∷ c.args.inside.now) c.loop-items.invariant.0.1.head c.loop-items.rest.now c.args.cache.now c.loop-items.cache c.read_value.new.cache c.loop-items.invariant.0.1.is c.loop-items.invariant.1.0 c.read_value.ensures.cache,
-        item_shared c.loop-items.rest.now c.loop-items.cache c.read_value.new.cache c.loop-items.items.items c.push.new.self.items c.in_ok-item.item c.in_ok-push.ensures.ok c.read_value.ensures.cache c.loop-items.invariant.1.1 c.in_ok-item.ensures.shared,
+        adds_more (91 ∷ c.args.inside.now) c.loop-item.invariant.2.1.head c.loop-item.rest.now c.args.cache.now c.loop-item.cache c.read_value.new.cache c.loop-item.invariant.2.1.is c.loop-item.invariant.3.0 c.read_value.ensures.cache,
+        item_shared c.loop-item.rest.now c.loop-item.cache c.read_value.new.cache c.loop-item.invariant.0 _ c.in_ok-item.item refl c.read_value.ensures.cache c.loop-item.invariant.3.1 c.in_ok-item.ensures.shared,
       ),
-      c.skip_space-rest-in-loop-items.utf8,
+      c.skip_space-rest-in-loop-item.utf8,
     )
 
 -- ---- an object
@@ -148,6 +154,7 @@ read_object-loop-members-init g t c =
         ap pair_list c.new-members.ensures.pairs,
       ),
       (adds_none _ _, subst (λ (l : List (List ℕ × WellFormed)). MembersAreShared c.args.cache.now (pair_trees l)) (sym c.new-members.ensures.pairs) tt),
+      refl,
       c.skip_space-rest.utf8,
     )
 
@@ -194,6 +201,7 @@ read_object-loop-members-preserved g t c =
         adds_more (123 ∷ c.args.inside.now) c.loop-members.invariant.0.1.head c.loop-members.rest.now c.args.cache.now c.loop-members.cache c.read_member.new.cache c.loop-members.invariant.0.1.is c.loop-members.invariant.1.0 c.read_member.ensures.cache,
         member_shared c.loop-members.rest.now c.loop-members.cache c.read_member.new.cache c.loop-members.members.pairs c.insert.new.self.pairs c.in_ok-key.key c.in_ok-key.value c.in_ok-insert.ensures.pairs c.read_member.ensures.cache c.loop-members.invariant.1.1 c.in_ok-key.ensures.shared.0 c.in_ok-key.ensures.shared.1,
       ),
+      c.in_ok-key.ensures.stack ∙ c.loop-members.invariant.2,
       c.skip_space-rest-in-loop-members.utf8,
     )
 
@@ -233,28 +241,33 @@ read_value-returns-in_ok-string-in-34-clause-shared g t c =
 
 pub read_array-returns-in_err-item-clause-cache : goal.read_array-returns-in_err-item-clause-cache
 read_array-returns-in_err-item-clause-cache g t c =
-    let i = c.loop-items.invariant in
-    adds_more (91 ∷ c.args.inside.now) i.0.1.head c.loop-items.rest.now c.args.cache.now c.loop-items.cache c.read_value.new.cache i.0.1.is i.1.0 c.read_value.ensures.cache
+    let i = c.loop-item.invariant in
+    adds_more (91 ∷ c.args.inside.now) i.2.1.head c.loop-item.rest.now c.args.cache.now c.loop-item.cache c.read_value.new.cache i.2.1.is i.3.0 c.read_value.ensures.cache
 
 pub read_array-returns-in_err-push-clause-cache : goal.read_array-returns-in_err-push-clause-cache
 read_array-returns-in_err-push-clause-cache g t c =
-    let i = c.loop-items.invariant in
-    adds_more (91 ∷ c.args.inside.now) i.0.1.head c.loop-items.rest.now c.args.cache.now c.loop-items.cache c.read_value.new.cache i.0.1.is i.1.0 c.read_value.ensures.cache
+    let i = c.loop-item.invariant in
+    adds_more (91 ∷ c.args.inside.now) i.2.1.head c.loop-item.rest.now c.args.cache.now c.loop-item.cache c.read_value.new.cache i.2.1.is i.3.0 c.read_value.ensures.cache
+
+pub read_array-returns-in_err-items-clause-cache : goal.read_array-returns-in_err-items-clause-cache
+read_array-returns-in_err-items-clause-cache g t c =
+    let i = c.loop-item.invariant in
+    adds_more (91 ∷ c.args.inside.now) i.2.1.head c.loop-item.rest.now c.args.cache.now c.loop-item.cache c.read_value.new.cache i.2.1.is i.3.0 c.read_value.ensures.cache
 
 pub read_array-returns-in-Some-strip_byte-clause-cache : goal.read_array-returns-in-Some-strip_byte-clause-cache
 read_array-returns-in-Some-strip_byte-clause-cache g t c =
-    let i = c.loop-items.invariant in
-    adds_more (91 ∷ c.args.inside.now) i.0.1.head c.loop-items.rest.now c.args.cache.now c.loop-items.cache c.read_value.new.cache i.0.1.is i.1.0 c.read_value.ensures.cache
+    let i = c.loop-item.invariant in
+    adds_more (91 ∷ c.args.inside.now) i.2.1.head c.loop-item.rest.now c.args.cache.now c.loop-item.cache c.read_value.new.cache i.2.1.is i.3.0 c.read_value.ensures.cache
 
 pub read_array-returns-in_default-strip_byte-2-clause-cache : goal.read_array-returns-in_default-strip_byte-2-clause-cache
 read_array-returns-in_default-strip_byte-2-clause-cache g t c =
-    let i = c.loop-items.invariant in
-    adds_more (91 ∷ c.args.inside.now) i.0.1.head c.loop-items.rest.now c.args.cache.now c.loop-items.cache c.read_value.new.cache i.0.1.is i.1.0 c.read_value.ensures.cache
+    let i = c.loop-item.invariant in
+    adds_more (91 ∷ c.args.inside.now) i.2.1.head c.loop-item.rest.now c.args.cache.now c.loop-item.cache c.read_value.new.cache i.2.1.is i.3.0 c.read_value.ensures.cache
 
 pub read_array-returns-in-Some-strip_byte-clause-shared : goal.read_array-returns-in-Some-strip_byte-clause-shared
 read_array-returns-in-Some-strip_byte-clause-shared g t c =
-    let i = c.loop-items.invariant in
-    item_shared c.loop-items.rest.now c.loop-items.cache c.read_value.new.cache c.loop-items.items.items c.push.new.self.items c.in_ok-item.item c.in_ok-push.ensures.ok c.read_value.ensures.cache i.1.1 c.in_ok-item.ensures.shared
+    let i = c.loop-item.invariant in
+    item_shared c.loop-item.rest.now c.loop-item.cache c.read_value.new.cache c.loop-item.invariant.0 _ c.in_ok-item.item (taken_above c.args.stack.now.items (c.loop-item.invariant.0 ++ c.in_ok-item.item ∷ []) c.push.new.self.items c.in_ok-items.items.items c.len-base.result (c.len-base.ensures ∙ c.args.stack.now.ok.0) (pushed_above c.args.stack.now.items c.loop-item.invariant.0 c.loop-item.stack.items c.read_value.new.stack.items c.push.new.self.items c.in_ok-item.item c.loop-item.invariant.1 c.in_ok-item.ensures.stack c.in_ok-push.ensures.items) c.in_ok-items.ensures.items) c.read_value.ensures.cache i.3.1 c.in_ok-item.ensures.shared
 
 pub read_object-returns-in_err-key-clause-cache : goal.read_object-returns-in_err-key-clause-cache
 read_object-returns-in_err-key-clause-cache g t c =
@@ -300,3 +313,9 @@ read_member-returns-clause-cache g t c =
 pub read_member-returns-clause-shared : goal.read_member-returns-clause-shared
 read_member-returns-clause-shared g t c =
     (shared_more c.skip_space-start.result.now c.read_string.new.cache c.read_value.new.cache c.in_ok-key.key c.read_value.ensures.cache (string_shared c.in_ok-key.key c.args.cache.now c.read_string.new.cache c.in_ok-key.ensures.cache), c.in_ok-value.ensures.shared)
+
+-- ---- the stack
+
+pub read_array-returns-in-Some-strip_byte-clause-stack : goal.read_array-returns-in-Some-strip_byte-clause-stack
+read_array-returns-in-Some-strip_byte-clause-stack g t c =
+    left_below c.args.stack.now.items (c.loop-item.invariant.0 ++ c.in_ok-item.item ∷ []) c.push.new.self.items _ c.len-base.result (c.len-base.ensures ∙ c.args.stack.now.ok.0) (pushed_above c.args.stack.now.items c.loop-item.invariant.0 c.loop-item.stack.items c.read_value.new.stack.items c.push.new.self.items c.in_ok-item.item c.loop-item.invariant.1 c.in_ok-item.ensures.stack c.in_ok-push.ensures.items) c.in_ok-items.ensures.stack

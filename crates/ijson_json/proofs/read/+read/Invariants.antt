@@ -1,8 +1,8 @@
-use Rattle.std.proofs.Common.{◌≡◌, ℕ, List, [], ◌+◌, ◌-◌, ◌*◌, length, ◌∷◌}
+use Rattle.std.proofs.Common.{◌≡◌, ℕ, List, [], ◌+◌, ◌-◌, ◌*◌, length, ◌∷◌, ◌++◌}
 use denote.Shadow.{shadow}
 use denote.Text.{Utf8}
 use Rattle.ijson_value.specs.Tree.{Tree, items_of, members_of}
-use Rattle.ijson_value.specs.WellFormed.{item_trees, pair_trees}
+use Rattle.ijson_value.specs.WellFormed.{WellFormed, item_trees, pair_trees}
 use Rattle.ijson_json.specs.Settled.{settled_items, settled_pairs, put_all}
 use Rattle.ijson_json.specs.AddsOnlyRead.{AddsOnlyRead}
 use Rattle.ijson_json.specs.AreShared.{ItemsAreShared, MembersAreShared}
@@ -25,15 +25,16 @@ decreases-read_member g l = 3 * (max_depth - l.opened) + 2
 abbrev pub decreases-read_value : goal.decreases-read_value
 decreases-read_value g l = 3 * (max_depth - l.opened) + 1
 
--- so many items were read, and another begins at the rest
-abbrev pub invariant-read_array-loop-items : goal.invariant-read_array-loop-items
-invariant-read_array-loop-items g l =
-    ((written : List Tree) × Reached Tree items_shape arrays l.opened (91 ∷ l.inside) written l.rest × (item_trees l.items.items ≡ settled_items (items_of written)))
-    × (AddsOnlyRead (91 ∷ l.inside) l.fn.cache l.cache × ItemsAreShared l.cache (item_trees l.items.items))
+-- so many items were read, they lie on the stack above those that lay there, and another begins at the rest
+abbrev pub invariant-read_array-loop-item : goal.invariant-read_array-loop-item
+invariant-read_array-loop-item g l =
+    (items : List WellFormed) × (l.stack.items ≡ l.fn.stack.items ++ items)
+    × ((written : List Tree) × Reached Tree items_shape arrays l.opened (91 ∷ l.inside) written l.rest × (item_trees items ≡ settled_items (items_of written)))
+    × (AddsOnlyRead (91 ∷ l.inside) l.fn.cache l.cache × ItemsAreShared l.cache (item_trees items))
     × shadow (Utf8 l.rest)
 
-abbrev pub decreases-read_array-loop-items : goal.decreases-read_array-loop-items
-decreases-read_array-loop-items g l = length l.rest
+abbrev pub decreases-read_array-loop-item : goal.decreases-read_array-loop-item
+decreases-read_array-loop-item g l = length l.rest
 
 -- so many members were read and put, and another begins at the rest
 abbrev pub invariant-read_object-loop-members : goal.invariant-read_object-loop-members
@@ -41,6 +42,7 @@ invariant-read_object-loop-members g l =
     ((written : List (List ℕ × Tree)) × Reached (List ℕ × Tree) members_shape objects l.opened (123 ∷ l.inside) written l.rest
     × (pair_list l.members.pairs ≡ put_all [] (settled_pairs (members_of written))))
     × (AddsOnlyRead (123 ∷ l.inside) l.fn.cache l.cache × MembersAreShared l.cache (pair_trees l.members.pairs))
+    × (l.stack.items ≡ l.fn.stack.items)
     × shadow (Utf8 l.rest)
 
 abbrev pub decreases-read_object-loop-members : goal.decreases-read_object-loop-members
