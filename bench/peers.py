@@ -25,10 +25,10 @@ def kit_version():
     return subprocess.run(["rt", "version"], capture_output=True, text=True, check=True).stdout.strip()
 
 
-def library_crates():
-    """The lines of crates.txt for the crates that `ijson_json` stands on and for itself, by name."""
+def library_crates(top="ijson_json"):
+    """The lines of crates.txt for the crates that a crate of the library stands on and for itself, by name."""
     lines = {line.partition(":")[0]: line for line in (BENCH.parent / "crates.txt").read_text().splitlines() if not line.startswith("#")}
-    wanted, found = ["ijson_json"], {}
+    wanted, found = [top], {}
     while wanted:
         name = wanted.pop()
         if name in lines and name not in found:
@@ -81,6 +81,11 @@ def kit_serde_json():
 def calls_of_ijson():
     """Calls of the library. It wants the library's crates to be built, else it proves them first, which takes long."""
     return rattle_program("calls_of_ijson", "ijson_json ijson_string ijson_value", library_crates())
+
+
+def canonical_of_ijson():
+    """Canonical and plain texts of the library. It wants the library's crates to be built, as `calls_of_ijson` does."""
+    return rattle_program("canonical_of_ijson", "ijson_extra ijson_json ijson_string ijson_value", library_crates("ijson_extra"))
 
 
 def calls_of_kit():

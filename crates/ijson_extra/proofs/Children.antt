@@ -1,8 +1,6 @@
 -- The value that a token names in a value, as the lists of items and of pairs give it.
-use Rattle.std.proofs.Common.{◌≡◌, ℕ, Bool, true, false, List, [], ◌∷◌, Option, Some, None, Result, Ok, Err, IfOk, IfErr, IfSome, MatchOption, get_or, ◌<◌, ◌≤◌, option_map, option_copied, eqb, length, refl, sym, ap, ◌∙◌}
+use Rattle.std.proofs.Common.{◌≡◌, ℕ, Bool, true, false, List, [], ◌∷◌, Option, Some, None, Result, Ok, Err, IfOk, IfErr, option_map, option_copied, eqb, length, refl, ap, ◌∙◌}
 use Rattle.std.specs.Prelude.{◌==◌, ◌≢◌, option_and_then, slice_get}
-use Rattle.std.proofs.lemmas.Option.{slice_get_past, slice_get_read}
-use Rattle.std.specs.List.{HoldsAt}
 use Rattle.std.proofs.lemmas.Bool.{eqb-true}
 use denote.Ref.{Bor}
 use mathlib.Core.Bool.{true≢false}
@@ -16,21 +14,15 @@ use Rattle.ijson_value.specs.Tree.{Tree}
 use Rattle.ijson_extra.specs.Pointer.{meant, all_meant, written_tokens, position_named, child_at, followed, resolved}
 use Rattle.ijson_extra.proofs.Pointers.{same_position}
 
--- what a look-up at a position lends
-pub item_got : (r : Option (Bor WellFormed)) (xs : List WellFormed) (i : ℕ) → MatchOption r (length xs ≤ i) (λ x. (i < length xs) × HoldsAt (λ y. x.now ≡ y) xs i)
-    → IfSome r (λ x. x.now ≡ get_or xs i x.now) → option_copied r ≡ slice_get xs i
-item_got None xs i m s = sym (slice_get_past xs i m)
-item_got (Some x) xs i m s = sym (slice_get_read xs (length xs) i x.now refl m.0 s)
-
 item_named : (vs : List WellFormed) (o : Option ℕ) → option_map tree_of (option_and_then (slice_get vs) o) ≡ option_and_then (tree_at (array_tree vs)) (option_map by_position o)
 item_named vs None = refl
 item_named vs (Some i) = item_at vs i
 
 -- the item at the position that a token names
-pub child_item : (v : WellFormed) (vs : List WellFormed) (o : Option (Bor WellFormed)) (token m : List ℕ) → array_value vs ≡ v → option_copied o ≡ option_and_then (slice_get vs) (position_named token) → meant token ≡ Some m
+pub child_item : (v : WellFormed) (vs : List WellFormed) (o : Option (Bor WellFormed)) (token m : List ℕ) → array_value vs ≡ v → option_map (λ x. x.now.tree) o ≡ option_map tree_of (option_and_then (slice_get vs) (position_named token)) → meant token ≡ Some m
     → option_map (λ x. x.now.tree) o ≡ child_at v.tree m
 child_item v vs o token m is e f =
-    found_tree o ∙ ap (option_map tree_of) e ∙ item_named vs (position_named token) ∙ ap (λ p. option_and_then (tree_at (array_tree vs)) (option_map by_position p)) (same_position token m f) ∙ ap (λ w. child_at (tree_of w) m) is
+    e ∙ item_named vs (position_named token) ∙ ap (λ p. option_and_then (tree_at (array_tree vs)) (option_map by_position p)) (same_position token m f) ∙ ap (λ w. child_at (tree_of w) m) is
 
 -- the value beside the key that a token means
 pub child_member : (v : WellFormed) (s : Store WellFormed) (o : Option (Bor WellFormed)) (m : List ℕ) → object_value s ≡ v → option_copied o ≡ lookup m s.pairs

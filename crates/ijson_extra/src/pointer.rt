@@ -3,6 +3,7 @@ ghost use Rattle.std.specs.Prelude.{◌≡◌, ◌<◌, ◌≤◌, ◌⊎◌, �
 ghost use Rattle.std.specs.Str.{all_ascii_digits};
 ghost use Rattle.std.specs.Option.{option_copied};
 ghost use Rattle.ijson_table.specs.Store.{at, lookup};
+ghost use Rattle.ijson_value.specs.WellFormed.{tree_of};
 ghost use Rattle.ijson_extra.specs.Pointer.{meant, position_named, names_position, child_at, resolved};
 
 mod lend;
@@ -150,7 +151,8 @@ fn find_member<'a>(object: &'a IObject, token: &str) -> Option<(usize, &'a IValu
 
 /// The item at the position that a token names.
 fn item<'a>(items: &'a [IValue], token: &str) -> Option<&'a IValue>
-    ensures { option_copied result ≡ option_and_then (slice_get items.now) (position_named token.now) }
+    ensures { option_map (λ v. v.now.tree) result
+        ≡ option_map tree_of (option_and_then (slice_get items.now) (position_named token.now)) }
 {
     match position_below(token, items.len()) {
         Some(position) => items.get(position),
