@@ -1,48 +1,32 @@
 -- The number at the front of a text.
-use Rattle.std.proofs.Common.{◌≡◌, ℕ, ◌-◌, Bool, true, false, List, [], ◌∷◌, ◌++◌, length, take, drop, refl, sym, ap, subst, ◌∙◌, append_assoc, arith}
-use Rattle.std.specs.Prelude.{nat_lt, slice_range, IsTrue, ◌↔◌}
+use Rattle.std.proofs.Common.{◌≡◌, ℕ, zero, suc, ◌+◌, ◌<◌, ◌≤◌, Bool, get_or, true, false, List, ◌++◌, length, take, drop, refl, sym, ap, subst, ◌∙◌, append_assoc, arith}
+use Rattle.std.specs.Prelude.{slice_range, IsTrue, ◌↔◌}
 use Rattle.std.specs.Str.{IsUtf8, IsCharBoundary}
 use Rattle.std.proofs.lemmas.Bool.Decides.{nat_tests}
-use Rattle.std.proofs.lemmas.List.{length-append, take-append-drop}
-use Rattle.std.proofs.lemmas.Str.{IsCharBoundary-at_seam}
-use Rattle.std.proofs.Math.Seq.{take-append_seam, drop-append_seam}
+use Rattle.std.proofs.lemmas.List.{take-append-drop}
+use Rattle.std.proofs.lemmas.Str.{IsCharBoundary-start, IsCharBoundary-after_ascii}
+use Rattle.std.specs.List.{prefix_len}
+use Rattle.std.proofs.lemmas.List.Sums.{prefix_len_passes, prefix_len-le-length}
 use Rattle.ijson_number.specs.Decimal.{Decimal}
 use Rattle.ijson_number.specs.Num.{IsNum, is_in_range}
 use Rattle.ijson_number.specs.Grammar.{Spells}
 use Rattle.ijson_number.specs.private.NumberBytes.{is_number_byte}
 use Rattle.ijson_number.proofs.Denotes.{spells_one}
 use Rattle.ijson_number.proofs.SpelledBytes.{spells_bytes}
-use Rattle.ijson_json.specs.private.Reading.{Past, Stops, NumberAt, NoNumber, IsPastLimit, PastLimitAt}
+use Rattle.ijson_json.specs.private.Reading.{Stops, NumberAt, NoNumber, IsPastLimit, PastLimitAt}
 use Rattle.ijson_json.proofs.Bytes.{Run, run_same, not_both}
 
--- a byte from 128 on is none of a number
+-- a byte of a number is a character
+number_ascii : (b : ℕ) → is_number_byte b ≡ true → b < 128
+number_ascii b h = grind (arith, nat_tests)
 
-other_byte : (b : ℕ) → nat_lt b 128 ≡ false → is_number_byte b ≡ false
-other_byte b h = grind (arith, nat_tests)
-
--- no number goes on with a byte that is no character
-pub other_Stops : (text : List ℕ) → Past (λ b. nat_lt b 128) text → Stops text
-other_Stops [] h = tt
-other_Stops (b ∷ text) h = other_byte b h
-
--- the length of what stands in front of the rest
-
-front_length : (text run rest : List ℕ) → text ≡ run ++ rest → length text - length rest ≡ length run
-front_length text run rest e = omega (arith, ap length e, length-append run rest)
-
--- the text is cut where the rest begins
-pub front_take : (text run rest : List ℕ) → text ≡ run ++ rest → take (length text - length rest) text ≡ run
-front_take text run rest e = rw (front_length text run rest e) (ap (λ (l : List ℕ). take (length run) l) e ∙ take-append_seam run rest)
-
--- and so is the rest
-
-pub front_drop : (text run rest : List ℕ) → text ≡ run ++ rest → drop (length text - length rest) text ≡ rest
-front_drop text run rest e = rw (front_length text run rest e) (ap (λ (l : List ℕ). drop (length run) l) e ∙ drop-append_seam run rest)
-
--- a text may be cut there
-
-pub front_boundary : (text run rest : List ℕ) → IsUtf8 rest → text ≡ run ++ rest → IsCharBoundary text (length text - length rest)
-front_boundary text run rest u e = subst (λ (n : ℕ). IsCharBoundary text n) (sym (front_length text run rest e)) (IsCharBoundary-at_seam text run rest e u)
+-- a text may be cut behind the bytes of a number
+pub number_boundary : (text : List ℕ) → IsUtf8 text → IsCharBoundary text (prefix_len is_number_byte text)
+number_boundary text u = cut (prefix_len is_number_byte text) (prefix_len-le-length is_number_byte text) (prefix_len_passes is_number_byte text)
+  where
+    cut : (n : ℕ) → n ≤ length text → ((k d : ℕ) → k < n → is_number_byte (get_or text k d) ≡ true) → IsCharBoundary text n
+    cut zero h p = IsCharBoundary-start text u
+    cut (suc k) h p = let e : suc k ≡ k + 1 = omega arith in subst (λ (n : ℕ). IsCharBoundary text n) (sym e) (IsCharBoundary-after_ascii text k u (omega arith) (number_ascii _ (p k 0 (omega arith))))
 
 -- a number at the front is the whole run of number bytes
 number_is_run : (text run rest : List ℕ) (n : Decimal) (other : List ℕ) → text ≡ run ++ rest → Run is_number_byte run → Stops rest → (a : NumberAt text n other) → run ≡ a.found.front

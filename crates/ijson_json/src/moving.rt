@@ -8,7 +8,7 @@ ghost use Rattle.ijson_json.specs.declared.moving.ReadFault.TheVariants.{Device,
 use crate::device::{DeviceFault, Sink, Source};
 use std::alloc::{AllocError, Global};
 
-/// The least number of bytes that room is made for at a time.
+/// For how many bytes room is made at a time.
 const PIECE: usize = 65_536;
 
 /// Why not all was read.
@@ -82,13 +82,12 @@ fn read_piece<R: Source>(
     Ok(count)
 }
 
-/// Doubles the length, and makes it at least `PIECE`.
+/// Makes the list longer by a piece. Its memory doubles where it is full, and what is not read into stays untouched.
 fn make_room(bytes: &mut Vec<u8>) -> Result<(), AllocError>
     ensures kept { take (vec_len bytes.old) bytes.new.items ≡ bytes.old.items }
     ensures longer { OnOk result (vec_len bytes.old < vec_len bytes.new) }
 {
-    let more = bytes.len().max(PIECE);
-    let Some(len) = bytes.len().checked_add(more) else {
+    let Some(len) = bytes.len().checked_add(PIECE) else {
         return Err(AllocError);
     };
     bytes.resize(len, 0)

@@ -1,13 +1,12 @@
 //! Reading a number.
 
-ghost use Rattle.std.specs.Prelude.{◌≡◌, ◌++◌, ◌↔◌, IsTrue, MatchResult};
-ghost use Rattle.std.specs.List.{AllByRecursion};
+ghost use Rattle.std.specs.Prelude.{◌≡◌, ◌++◌, ◌↔◌, IsTrue, MatchResult, not};
+ghost use Rattle.std.specs.List.{AllByRecursion, position, prefix_len};
 ghost use Rattle.ijson_number.specs.private.NumberBytes.{is_number_byte};
 ghost use Rattle.ijson_json.specs.private.Explains.{NumberFault};
 ghost use Rattle.ijson_json.specs.private.Reading.{IsPastLimit, NumberRead, Stops};
 
 use crate::fault::Fault;
-use crate::front::split_ascii;
 use ijson_number::{INumber, ParseNumberError, first_fault};
 use std::alloc::Global;
 
@@ -23,20 +22,27 @@ fn in_number(byte: u8) -> bool
         || byte == b'e'
 }
 
+/// Where the first byte is that no number is made of.
+fn first_other(bytes: &[u8]) -> Option<usize>
+    ensures { result ≡ position (λ byte. not (is_number_byte byte)) bytes.now }
+{
+    bytes.iter().position(|byte| !in_number(*byte))
+}
+
+/// How many bytes at the front may be those of a number.
+fn number_length(text: &str) -> usize
+    ensures { result ≡ prefix_len is_number_byte text.now }
+{
+    first_other(text.as_bytes()).unwrap_or(text.len())
+}
+
 /// The bytes of a number that the text begins with, and the text behind them.
 fn split_number(text: &str) -> (&str, &str)
     ensures run { AllByRecursion (λ b. IsTrue (is_number_byte b)) result.0.now }
     ensures whole { text.now ≡ result.0.now ++ result.1.now }
     ensures stops { Stops result.1.now }
 {
-    let mut rest = text;
-    while let Some((byte, more)) = split_ascii(rest) {
-        if !in_number(byte) {
-            break;
-        }
-        rest = more;
-    }
-    text.split_at(text.len() - rest.len())
+    text.split_at(number_length(text))
 }
 
 /// Whether the text spells a number past the limit.
