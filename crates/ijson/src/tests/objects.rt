@@ -1,4 +1,7 @@
-//! Objects: what each call answers and leaves, each iterator in full, and how often each closure is called.
+//! Objects: what each call answers and leaves, each iterator in full, how often each closure is called, and a caller that knows the list
+//! by the contracts alone.
+ghost use Rattle.std.specs.Prelude.{◌≡◌, ◌≢◌, [], ◌∷◌, true, false, OnOk};
+ghost use Rattle.ijson_value.specs.Values.{boolean_value};
 
 use super::{Cache, empty_cache};
 use crate::number::INumber;
@@ -260,6 +263,30 @@ fn indexed_entries(rt: HostRuntime) -> Result<(), Fail> {
     Ok(())
 }
 
+/// Puts two pairs through entries, and writes the second value.
+fn put_two(object: &mut IObject, first: &IString, second: &IString) -> Result<(), ReserveError>
+    requires empty { object.old.pairs ≡ [] }
+    requires apart { first.now ≢ second.now }
+    ensures { OnOk result (object.new.pairs
+        ≡ (first.now, boolean_value false) ∷ (second.now, boolean_value true) ∷ []) }
+{
+    object.entry_or_clone(first)?.or_insert(IValue::FALSE);
+    object.entry_or_clone(second)?.or_insert(IValue::NULL);
+    *object.get_mut(second).unwrap() = IValue::TRUE;
+    Ok(())
+}
+
+/// Keeps what is true of two pairs, and tells whether there is a first pair to go over and then none.
+fn keep_true(object: &mut IObject, first: &IString, second: &IString) -> (bool, bool)
+    requires { object.old.pairs ≡ (first.now, boolean_value false) ∷ (second.now, boolean_value true) ∷ [] }
+    ensures list { object.new.pairs ≡ (second.now, boolean_value true) ∷ [] }
+    ensures seen { result ≡ (true, true) }
+{
+    object.retain(|_key, value| value.is_true());
+    let mut pairs = object.iter();
+    (pairs.next().is_some(), pairs.next().is_none())
+}
+
 /// Iterates over the keys 0, 4 and 2, beside ten times their numbers.
 fn iterates(rt: &impl Abort, object: &IObject) {
     let mut pairs = object.iter();
@@ -300,5 +327,10 @@ fn retained(rt: HostRuntime) -> Result<(), Fail> {
     iterates(&rt, &object);
     gives_out(&rt, object);
     assert!(rt; IObject::new(alloc).into_iter().next().is_none());
+    let first = IString::intern(&mut cache, "a")?;
+    let second = IString::intern(&mut cache, "b")?;
+    let mut object = IObject::new(alloc);
+    put_two(&mut object, &first, &second)?;
+    assert_eq!(rt; keep_true(&mut object, &first, &second), (true, true));
     Ok(())
 }
