@@ -5,12 +5,12 @@
 //! takes memory can answer that there is none. This crate gives the library's modules on.
 #![tactic(auto)]
 
+pub mod json;
 pub mod macros;
 
 pub use ijson_convert as convert;
 pub use ijson_convert::{from_value, to_value};
 pub use ijson_extra::{canonical, pointer};
-pub use ijson_json as json;
 pub use ijson_number as number;
 pub use ijson_number::{INumber, ParseNumberError};
 pub use ijson_string as string;
