@@ -14,6 +14,7 @@ mod objects;
 mod pointer;
 mod recorder;
 mod refusals;
+mod serde;
 mod strings;
 mod tables;
 mod texts;

@@ -1,9 +1,11 @@
+use super::refusals::object_of_map;
 use super::{empty_cache, read};
-use crate::convert::{ConvertError, ToIValue, from_value, to_value};
+use crate::convert::{ConvertError, FromIValue, ToIValue, from_value, to_value};
 use crate::ijson;
 use crate::json::to_json;
+use crate::value::IValue;
 use indexmap::IndexMap;
-use std::alloc::Global;
+use std::alloc::{AllocError, Global};
 use std::collections::BTreeMap;
 use std::test::Fail;
 
@@ -71,44 +73,170 @@ fn maps_keep_their_order(rt: HostRuntime) -> Result<(), Fail> {
     Ok(())
 }
 
-/// What `from_value::<i32>` and `from_value::<u8>` answer of a text's value.
-fn integers(
+#[test]
+fn pairs_of_maps_are_objects(rt: HostRuntime) -> Result<(), Fail> {
+    let alloc = rt.alloc();
+    let mut cache = empty_cache(alloc);
+    let same = read(alloc, r#"{"a":2,"b":1,"eight888":3}"#)?;
+    let orders = [
+        None,
+        Some(r#"{"a":2,"b":1,"eight888":3}"#),
+        Some(r#"{"b":1,"a":2,"eight888":3}"#),
+    ];
+    for kind in 0..3usize {
+        let object = object_of_map(alloc, &mut cache, kind).ok_or(AllocError)?;
+        assert_eq!(rt; (object.len(), object.capacity()), (3, 3));
+        let value = IValue::from(object);
+        assert!(rt; value == same);
+        if let Some(text) = orders[kind] {
+            assert_eq!(rt; to_json(alloc, &value)?.as_str(), text);
+        }
+    }
+    Ok(())
+}
+
+/// A text, and what is written again of what its value says as some type, or why it says none.
+type Case = (&'static str, Result<&'static str, ConvertError>);
+
+const PAST: Result<&str, ConvertError> = Err(ConvertError::OutOfRange);
+
+const WRONG_KIND: Result<&str, ConvertError> = Err(ConvertError::WrongKind);
+
+/// The least and the greatest `i8`, and the integers past them.
+const OF_I8: [Case; 4] = [
+    ("-128", Ok("-128")),
+    ("127", Ok("127")),
+    ("-129", PAST),
+    ("128", PAST),
+];
+
+/// The least and the greatest `u8`, and the integers past them.
+const OF_U8: [Case; 4] = [
+    ("0", Ok("0")),
+    ("255", Ok("255")),
+    ("-1", PAST),
+    ("256", PAST),
+];
+
+/// The least and the greatest `i16`, and the integers past them.
+const OF_I16: [Case; 4] = [
+    ("-32768", Ok("-32768")),
+    ("32767", Ok("32767")),
+    ("-32769", PAST),
+    ("32768", PAST),
+];
+
+/// The least and the greatest `u16`, and the integers past them.
+const OF_U16: [Case; 4] = [
+    ("0", Ok("0")),
+    ("65535", Ok("65535")),
+    ("-1", PAST),
+    ("65536", PAST),
+];
+
+/// The least and the greatest `i32`, and the integers past them.
+const OF_I32: [Case; 4] = [
+    ("-2147483648", Ok("-2147483648")),
+    ("2147483647", Ok("2147483647")),
+    ("-2147483649", PAST),
+    ("2147483648", PAST),
+];
+
+/// The least and the greatest `u32`, and the integers past them.
+const OF_U32: [Case; 4] = [
+    ("0", Ok("0")),
+    ("4294967295", Ok("4294967295")),
+    ("-1", PAST),
+    ("4294967296", PAST),
+];
+
+/// The least and the greatest `i64`, and `isize`, and the integers past them.
+const OF_I64: [Case; 4] = [
+    ("-9223372036854775808", Ok("-9223372036854775808")),
+    ("9223372036854775807", Ok("9223372036854775807")),
+    ("-9223372036854775809", PAST),
+    ("9223372036854775808", PAST),
+];
+
+/// The least and the greatest `u64`, and `usize`, and the integers past them.
+const OF_U64: [Case; 4] = [
+    ("0", Ok("0")),
+    ("18446744073709551615", Ok("18446744073709551615")),
+    ("-1", PAST),
+    ("18446744073709551616", PAST),
+];
+
+/// What is said as an `i32`.
+const INTEGERS: [Case; 3] = [("2.0", Ok("2")), ("2.5", PAST), ("\"x\"", WRONG_KIND)];
+
+/// What is said as a list of integers that may be missing.
+const OPTIONS: [Case; 2] = [("[1,null,2.0]", Ok("[1,null,2]")), ("{}", WRONG_KIND)];
+
+/// What is said as a list of bytes.
+const BYTES: [Case; 2] = [("[1,256,\"x\"]", PAST), ("[1,\"x\",256]", WRONG_KIND)];
+
+/// What is said as a map of truth values.
+const TRUTHS: [Case; 3] = [
+    (r#"{"b":true,"a":false}"#, Ok(r#"{"a":false,"b":true}"#)),
+    (r#"{"b":true,"a":1}"#, WRONG_KIND),
+    ("[]", WRONG_KIND),
+];
+
+/// What is said as a map of lists of integers that may be missing.
+const NESTED: [Case; 5] = [
+    (
+        r#"{"b":[1,null],"eight888":[],"a":[-2.0]}"#,
+        Ok(r#"{"a":[-2],"b":[1,null],"eight888":[]}"#),
+    ),
+    ("{}", Ok("{}")),
+    (r#"{"b":[1,2.5],"a":[true]}"#, PAST),
+    (r#"{"a":[1,true],"b":[2.5]}"#, WRONG_KIND),
+    (r#"{"a":null}"#, WRONG_KIND),
+];
+
+/// Whether a case holds.
+fn is_read<T: FromIValue + ToIValue + Drop>(
     alloc: Global,
     text: &str,
-) -> Result<(Result<i32, ConvertError>, Result<u8, ConvertError>), Fail> {
-    let value = read(alloc, text)?;
-    Ok((
-        from_value::<i32>(alloc, &value),
-        from_value::<u8>(alloc, &value),
-    ))
+    wanted: Result<&str, ConvertError>,
+) -> Result<bool, Fail> {
+    match from_value::<T>(alloc, &read(alloc, text)?) {
+        Ok(x) => {
+            let found = text_of(alloc, &x)?;
+            Ok(wanted == Ok(found.as_str()))
+        }
+        Err(why) => Ok(wanted == Err(why)),
+    }
+}
+
+/// Whether each of the cases holds.
+fn reads<T: FromIValue + ToIValue + Drop>(alloc: Global, cases: &[Case]) -> Result<bool, Fail> {
+    for (text, wanted) in cases {
+        if !is_read::<T>(alloc, text, *wanted)? {
+            return Ok(false);
+        }
+    }
+    Ok(true)
 }
 
 #[test]
 fn integers_are_whole_and_in_range(rt: HostRuntime) -> Result<(), Fail> {
     let alloc = rt.alloc();
-    let cases = [
-        ("2.0", Ok(2), Ok(2)),
-        (
-            "2.5",
-            Err(ConvertError::OutOfRange),
-            Err(ConvertError::OutOfRange),
-        ),
-        ("256", Ok(256), Err(ConvertError::OutOfRange)),
-        (
-            "\"x\"",
-            Err(ConvertError::WrongKind),
-            Err(ConvertError::WrongKind),
-        ),
-        (
-            "-2147483648",
-            Ok(-2147483648),
-            Err(ConvertError::OutOfRange),
-        ),
-    ];
-    for (text, signed, unsigned) in cases.iter() {
-        let answers = integers(alloc, *text)?;
-        assert!(rt; answers.0 == *signed);
-        assert!(rt; answers.1 == *unsigned);
-    }
+    assert!(rt; reads::<i8>(alloc, &OF_I8)? && reads::<i16>(alloc, &OF_I16)?);
+    assert!(rt; reads::<i32>(alloc, &OF_I32)? && reads::<i64>(alloc, &OF_I64)?);
+    assert!(rt; reads::<isize>(alloc, &OF_I64)? && reads::<u8>(alloc, &OF_U8)?);
+    assert!(rt; reads::<u16>(alloc, &OF_U16)? && reads::<u32>(alloc, &OF_U32)?);
+    assert!(rt; reads::<u64>(alloc, &OF_U64)? && reads::<usize>(alloc, &OF_U64)?);
+    assert!(rt; reads::<i32>(alloc, &INTEGERS)?);
+    Ok(())
+}
+
+#[test]
+fn values_are_read_as_their_types(rt: HostRuntime) -> Result<(), Fail> {
+    let alloc = rt.alloc();
+    assert!(rt; reads::<Vec<Option<i64>>>(alloc, &OPTIONS)?);
+    assert!(rt; reads::<Vec<u8>>(alloc, &BYTES)?);
+    assert!(rt; reads::<BTreeMap<String, bool>>(alloc, &TRUTHS)?);
+    assert!(rt; reads::<BTreeMap<String, Vec<Option<i32>>>>(alloc, &NESTED)?);
     Ok(())
 }

@@ -4,6 +4,7 @@
 use super::{Cache, empty_cache};
 use crate::array::IArray;
 use crate::canonical::canonical_json;
+use crate::convert::{ConvertError, from_serde, from_value, to_serde, to_value};
 use crate::json::{
     CompactError, JsonError, MemorySink, MemorySource, compact, from_json, push_quoted,
     push_separator, report, to_json,
@@ -13,7 +14,9 @@ use crate::object::{IObject, RefusedKey, RefusedPair};
 use crate::string::IString;
 use crate::table::ReserveError;
 use crate::value::IValue;
+use indexmap::IndexMap;
 use std::alloc::{AllocError, Global};
+use std::collections::{BTreeMap, HashMap};
 use std::test::Fail;
 
 #[test]
@@ -372,5 +375,80 @@ fn cloning(rt: HostRuntime) -> Result<(), Fail> {
         Err(_) => IArray::from_slice(rt.alloc(), &items)?,
     };
     assert!(rt; array.as_slice() == items.as_slice());
+    Ok(())
+}
+
+/// An object of the pairs `b`: 1, `a`: 2 and `eight888`: 3, through a map that hashes (0), sorts (1), or keeps the order of
+/// insertion (2). None where memory was refused.
+pub(super) fn object_of_map(alloc: Global, cache: &mut Cache, kind: usize) -> Option<IObject> {
+    let mut hashed: HashMap<IString, IValue> = HashMap::new(alloc);
+    let mut sorted: BTreeMap<IString, IValue> = BTreeMap::new(alloc);
+    let mut inserted: IndexMap<IString, IValue> = IndexMap::new(alloc);
+    for (key, n) in [("b", 1i8), ("a", 2), ("eight888", 3)].iter() {
+        let key = IString::intern(cache, *key).ok()?;
+        match kind {
+            0 => drop(hashed.insert(key, IValue::from(*n)).ok()?),
+            1 => drop(sorted.insert(key, IValue::from(*n)).ok()?),
+            _ => drop(inserted.insert(key, IValue::from(*n)).ok()?),
+        }
+    }
+    let object = match kind {
+        0 => IObject::from_hash_map(alloc, hashed),
+        1 => IObject::from_btree_map(alloc, sorted),
+        _ => IObject::from_index_map(alloc, inserted),
+    };
+    object.ok()
+}
+
+/// The maps of the test that follows.
+type Lists = BTreeMap<String, Vec<Option<i32>>>;
+
+#[test]
+fn conversions(rt: HostRuntime) -> Result<(), Fail> {
+    let mut cache = empty_cache(rt.alloc());
+    for kind in 0..3usize {
+        let object = match object_of_map(rt.alloc(), &mut cache, kind) {
+            Some(object) => object,
+            None => object_of_map(rt.alloc(), &mut cache, kind).ok_or(AllocError)?,
+        };
+        assert_eq!(rt; (object.len(), object.capacity()), (3, 3));
+        assert!(rt; object.contains_key("a") && object.contains_key("b"));
+        assert!(rt; object.contains_key("eight888"));
+    }
+    let text = "{\"a\":[1,null],\"b\":[],\"eight888\":[-2]}";
+    let value = read(rt.alloc(), text)?;
+    let lists = match from_value::<Lists>(rt.alloc(), &value) {
+        Ok(lists) => lists,
+        Err(refused) => {
+            assert_eq!(rt; refused, ConvertError::Memory);
+            from_value::<Lists>(rt.alloc(), &value)?
+        }
+    };
+    let again = match to_value(rt.alloc(), &mut cache, &lists) {
+        Ok(again) => again,
+        Err(refused) => {
+            assert_eq!(rt; refused, ConvertError::Memory);
+            to_value(rt.alloc(), &mut cache, &lists)?
+        }
+    };
+    let found = written(rt.alloc(), &again)?;
+    assert_eq!(rt; found.as_str(), text);
+    Ok(())
+}
+
+#[test]
+fn values_of_serde(rt: HostRuntime) -> Result<(), Fail> {
+    let text = "{\"longlong\":[\"eight888\",{}],\"n\":[1,{\"m\":2.0}]}";
+    let value = read(rt.alloc(), text)?;
+    let there = match to_serde(rt.alloc(), &value) {
+        Err(ConvertError::Memory) => to_serde(rt.alloc(), &value)?,
+        answer => answer?,
+    };
+    let mut cache = empty_cache(rt.alloc());
+    let back = match from_serde(rt.alloc(), &mut cache, &there) {
+        Err(ConvertError::Memory) => from_serde(rt.alloc(), &mut cache, &there)?,
+        answer => answer?,
+    };
+    assert!(rt; back == value);
     Ok(())
 }
