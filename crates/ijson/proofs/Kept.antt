@@ -1,6 +1,6 @@
 -- Lists of two pairs: both put, the second one's value written, and what is left where a question keeps the second one and writes
 -- nothing.
-use Rattle.std.proofs.Common.{◌≡◌, ◌≢◌, ◌↔◌, ◌<◌, ℕ, List, [], ◌∷◌, length, get_or, Bool, true, false, Option, Some, None, MutBor, refl, sym, ap, subst, ◌∙◌, arith, inl, inr}
+use Rattle.std.proofs.Common.{◌≡◌, ◌≢◌, ◌↔◌, ℕ, List, [], ◌∷◌, length, get_or, Bool, true, false, Option, Some, None, MutBor, refl, sym, ap, subst, ◌∙◌, arith, inl, inr}
 use Rattle.std.specs.Option.{option_copied_mut, unwrap_or}
 use Rattle.std.specs.Prelude.{if◌then◌else◌, cond, IsSome, IsTrue}
 use Rattle.std.specs.Str.{bytes_eq}

@@ -1,5 +1,5 @@
 //! Numbers of few digits, which are read straight into one word.
-ghost use Rattle.std.specs.Prelude.{◌≡◌, ◌≢◌, ◌<◌, ◌≤◌, ◌+◌, ◌-◌, ◌*◌, ◌%◌, ◌^◌, ◌++◌, List, ℕ, pos, neg_ℤ, true, length, IfSome};
+ghost use Rattle.std.specs.Prelude.{◌≡◌, ◌≢◌, ◌<◌, ◌≤◌, ◌+◌, ◌-◌, ◌*◌, ◌%◌, ◌^◌, ◌++◌, List, ℕ, pos, neg_ℤ, true, false, [], length, IsSome, IfSome};
 ghost use Rattle.std.specs.Int.Digits.{number_from_digits_after};
 ghost use Rattle.ijson_number.specs.Decimal.{Decimal};
 ghost use Rattle.ijson_number.specs.Form.{form_of};
@@ -89,9 +89,11 @@ impl Spelling<'_> {
     /// What is stored of a number of few digits without an exponent, where it is a word.
     pub fn word(&self) -> Option<Stored>
         requires { (text : List ℕ) × IsSpelled text (parts_of self.now) }
-        ensures { IfSome result (λ s. (n : Decimal)
+        ensures word { IfSome result (λ s. (n : Decimal)
             → Denotes (parts_of self.now) n
             → (form_of n ≡ stored_form s) × IsNum n) }
+        ensures whole { self.now.tail.point ≡ false → self.now.tail.exponent.now ≡ []
+            → length self.now.whole.now + length self.now.tail.fraction.now ≤ 18 → IsSome result }
     {
         let tail = self.tail;
         let (front, back) = (self.whole, tail.fraction);

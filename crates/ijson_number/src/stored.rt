@@ -1,5 +1,5 @@
 //! What is stored of a number.
-ghost use Rattle.std.specs.Prelude.{◌≡◌, IfOk, IsTrue};
+ghost use Rattle.std.specs.Prelude.{◌≡◌, IfOk, IsTrue, IsFalse};
 ghost use Rattle.ijson_number.specs.private.StoredNumber.{IsStored};
 ghost use Rattle.std.proofs.Props.{props};
 
@@ -28,9 +28,12 @@ pub enum Stored {
 }
 
 impl Stored {
+    ghost use Rattle.ijson_number.specs.private.Stored.{IsList};
+
     /// Whether both are one word.
     pub fn is_same_word(&self, other: &Stored) -> bool
-        ensures { IsTrue result → self.now ≡ other.now }
+        ensures same { IsTrue result → self.now ≡ other.now }
+        ensures word { IsFalse result → self.now ≡ other.now → IsList self.now }
     {
         match (self, other) {
             (Stored::Packed(word), Stored::Packed(other_word)) => word == other_word,

@@ -5,6 +5,7 @@ ghost use Rattle.ijson_value.specs.Values.{null_value, boolean_value};
 use crate::array::{IArray, Refused};
 use crate::value::IValue;
 use std::alloc::{AllocError, Global};
+use std::process::Abort;
 use std::test::Fail;
 
 /// The array that letters spell: `n` is null, `t` true and `f` false.
@@ -18,6 +19,28 @@ fn spelled(alloc: Global, letters: &str) -> Result<IArray, Refused> {
         })?;
     }
     Ok(array)
+}
+
+/// The letter of an item.
+fn letter(item: &IValue) -> u8 {
+    match item.to_bool() {
+        Some(true) => b't',
+        Some(false) => b'f',
+        None => b'n',
+    }
+}
+
+/// Whether these letters spell the array.
+fn is_spelled(array: &IArray, letters: &str) -> bool {
+    array.iter().map(letter).eq(letters.bytes())
+}
+
+/// Whether an item was there, and this is its letter.
+fn is_item(item: Option<IValue>, want: u8) -> bool {
+    match item {
+        Some(item) => letter(&item) == want,
+        None => false,
+    }
 }
 
 /// Inserts, removes and writes items, and knows which are left.
@@ -45,85 +68,106 @@ fn push_three(array: &mut IArray) -> Result<(), AllocError>
     Ok(())
 }
 
-#[test]
-fn insertions_and_removals(rt: HostRuntime) -> Result<(), Fail> {
-    let alloc = rt.alloc();
-    let mut array = IArray::new(alloc);
-    assert_eq!(rt; array.capacity(), 0);
+/// Takes out where there is nothing, and inserts before, behind and between.
+fn inserts(rt: &impl Abort, array: &mut IArray) -> Result<(), Refused> {
     assert!(rt; array.remove(0).is_none() && array.swap_remove(0).is_none());
     assert!(rt; array.pop().is_none());
     array.insert(0, IValue::NULL)?;
     array.push(IValue::TRUE)?;
-    array.insert(1, IValue::FALSE)?;
-    assert!(rt; array == spelled(alloc, "nft")?);
+    array.insert(1, IValue::FALSE)
+}
 
-    let mut array = spelled(alloc, "ntf")?;
-    assert!(rt; array.remove(1) == Some(IValue::TRUE));
-    assert!(rt; array.pop() == Some(IValue::FALSE));
-    assert!(rt; array == spelled(alloc, "n")?);
-
-    let mut array = spelled(alloc, "ntf")?;
-    assert!(rt; array.swap_remove(3).is_none() && array.remove(3).is_none());
-    assert!(rt; array.swap_remove(0) == Some(IValue::NULL));
-    assert!(rt; array == spelled(alloc, "ft")?);
-
-    let mut array = edited(alloc, IValue::FALSE)?;
-    assert!(rt; array == spelled(alloc, "tf")?);
-    assert_eq!(rt; array.len(), 2);
-    assert!(rt; array[1] == IValue::FALSE);
-    array.as_mut_slice().reverse();
-    assert!(rt; array == spelled(alloc, "ft")?);
+#[test]
+fn insertions(rt: HostRuntime) -> Result<(), Fail> {
+    let mut array = IArray::new(rt.alloc());
+    assert_eq!(rt; array.capacity(), 0);
+    inserts(&rt, &mut array)?;
+    assert!(rt; is_spelled(&array, "nft"));
     Ok(())
+}
+
+/// Takes the items of `ntf` out in two ways, and leaves the first.
+fn removes(rt: &impl Abort, array: &mut IArray) {
+    assert!(rt; array.swap_remove(3).is_none() && array.remove(3).is_none());
+    assert!(rt; is_item(array.remove(1), b't') && is_item(array.pop(), b'f'));
+    assert!(rt; is_spelled(array, "n"));
+}
+
+#[test]
+fn removals(rt: HostRuntime) -> Result<(), Fail> {
+    removes(&rt, &mut spelled(rt.alloc(), "ntf")?);
+    let mut array = spelled(rt.alloc(), "ntf")?;
+    assert!(rt; is_item(array.swap_remove(0), b'n') && is_spelled(&array, "ft"));
+    Ok(())
+}
+
+#[test]
+fn edits(rt: HostRuntime) -> Result<(), Fail> {
+    let mut array = edited(rt.alloc(), IValue::FALSE)?;
+    assert!(rt; is_spelled(&array, "tf") && array[1].is_false());
+    array.as_mut_slice().reverse();
+    assert!(rt; is_spelled(&array, "ft"));
+    Ok(())
+}
+
+/// Cuts `ntf` to a length past its own, to one item, and to none. The room stays.
+fn cuts(rt: &impl Abort, array: &mut IArray) {
+    array.truncate(5);
+    assert!(rt; is_spelled(array, "ntf"));
+    array.truncate(1);
+    assert!(rt; is_spelled(array, "n"));
+    let room = array.capacity();
+    array.clear();
+    assert!(rt; array.is_empty() && array.capacity() == room);
 }
 
 #[test]
 fn lengths_and_room(rt: HostRuntime) -> Result<(), Fail> {
-    let alloc = rt.alloc();
-    let mut array = spelled(alloc, "ntf")?;
-    array.truncate(5);
-    assert!(rt; array == spelled(alloc, "ntf")?);
-    array.truncate(1);
-    assert!(rt; array == spelled(alloc, "n")?);
-    let room = array.capacity();
-    array.clear();
-    assert!(rt; array.is_empty() && array.capacity() == room);
+    let mut array = spelled(rt.alloc(), "ntf")?;
+    cuts(&rt, &mut array);
     array.shrink_to_fit()?;
     assert_eq!(rt; array.capacity(), 0);
     push_three(&mut array)?;
-    assert!(rt; array == spelled(alloc, "nnn")?);
-    assert!(rt; IArray::with_capacity(alloc, 7)?.capacity() >= 7);
+    assert!(rt; is_spelled(&array, "nnn"));
+    assert!(rt; IArray::with_capacity(rt.alloc(), 7)?.capacity() >= 7);
     Ok(())
 }
 
+/// Gives the items of `ntf` out.
+fn gives_out(rt: &impl Abort, array: IArray) {
+    let mut items = array.into_iter();
+    for (left, item) in GIVEN {
+        assert_eq!(rt; items.size_hint(), (left, Some(left)));
+        assert!(rt; items.len() == left && is_item(items.next(), item));
+    }
+    assert!(rt; items.len() == 0 && items.next().is_none() && items.next().is_none());
+}
+
+/// How many items are left, and the letter of the next one.
+const GIVEN: [(usize, u8); 3] = [(3, b'n'), (2, b't'), (1, b'f')];
+
 #[test]
 fn iterators(rt: HostRuntime) -> Result<(), Fail> {
-    let alloc = rt.alloc();
-    let array = spelled(alloc, "ntf")?;
-    let mut borrowed = array.iter();
-    assert_eq!(rt; borrowed.len(), 3);
-    assert!(rt; borrowed.next() == Some(&IValue::NULL));
-    assert!(rt; borrowed.all(|item| *item != IValue::NULL));
-
-    let mut items = array.into_iter();
-    for (left, item) in [(3, IValue::NULL), (2, IValue::TRUE), (1, IValue::FALSE)] {
-        assert_eq!(rt; items.len(), left);
-        assert_eq!(rt; items.size_hint(), (left, Some(left)));
-        assert!(rt; items.next() == Some(item));
-    }
-    assert_eq!(rt; items.len(), 0);
-    assert!(rt; items.next().is_none() && items.next().is_none());
-    assert!(rt; IArray::new(alloc).into_iter().next().is_none());
+    let array = spelled(rt.alloc(), "ntf")?;
+    assert!(rt; array.iter().len() == 3 && is_spelled(&array, "ntf"));
+    gives_out(&rt, array);
+    assert!(rt; IArray::new(rt.alloc()).into_iter().next().is_none());
     Ok(())
+}
+
+/// The array `nt`, extended by `ff` and by nothing.
+fn extended(alloc: Global) -> Result<IArray, Refused> {
+    let mut array = IArray::from_iter(alloc, spelled(alloc, "nt")?)?;
+    array.extend(spelled(alloc, "ff")?)?;
+    array.extend(IArray::new(alloc))?;
+    Ok(array)
 }
 
 #[test]
 fn arrays_of_other_items(rt: HostRuntime) -> Result<(), Fail> {
-    let alloc = rt.alloc();
-    let mut array = IArray::from_iter(alloc, spelled(alloc, "nt")?)?;
-    array.extend(spelled(alloc, "ff")?)?;
-    array.extend(IArray::new(alloc))?;
-    assert!(rt; array == spelled(alloc, "ntff")?);
-    let list: Vec<IValue> = array.into_iter().collect(alloc)?;
-    assert!(rt; IArray::from_vec(alloc, list)? == spelled(alloc, "ntff")?);
+    let array = extended(rt.alloc())?;
+    assert!(rt; is_spelled(&array, "ntff"));
+    let list: Vec<IValue> = array.into_iter().collect(rt.alloc())?;
+    assert!(rt; is_spelled(&IArray::from_vec(rt.alloc(), list)?, "ntff"));
     Ok(())
 }

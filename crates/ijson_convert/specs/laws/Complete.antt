@@ -1,6 +1,6 @@
 -- A tree that is refused is no value's.
-use Rattle.std.specs.Prelude.{◌≡◌, ℕ, Bool, List, [], ◌∷◌, map, Option, None, Some, ⊤, String, string_bytes}
-use Rattle.std.proofs.Common.{inl, inr, refl, subst}
+use Rattle.std.specs.Prelude.{◌≡◌, ℕ, Bool, List, [], ◌∷◌, map, Option, None, Some, ⊤, String}
+use Rattle.std.proofs.Common.{inl, inr, subst}
 use Rattle.std.specs.declared.alloc.Global.{Global}
 use Rattle.ijson_value.specs.Same.{Same, SameEach, SameIn, Has}
 use Rattle.ijson_value.specs.Tree.{Tree, null, boolean, number, string, array, object, Items, no_items, item, items_of, Members, no_members, member, members_of}

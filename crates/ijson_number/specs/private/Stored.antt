@@ -1,5 +1,5 @@
 -- What is stored of a number.
-use Rattle.std.specs.Prelude.{◌≡◌}
+use Rattle.std.specs.Prelude.{◌≡◌, ⊤}
 use Rattle.ijson_number.specs.Decimal.{Decimal}
 use Rattle.ijson_number.specs.Form.{FormOf, packed, signed_word, unsigned_word, digits, form_of}
 use Rattle.ijson_number.specs.private.FormNumber.{form_number}
@@ -19,3 +19,10 @@ stored_decimal stored = form_number (stored_form stored)
 -- what is stored is the form of the number
 abbrev pub IsForm : Stored → Type 0
 IsForm stored = form_of (stored_decimal stored) ≡ stored_form stored
+
+-- its digits are a list
+abbrev pub IsList : Stored → Type 0
+IsList (Digits number) = ⊤
+IsList (Packed word) = ⊥
+IsList (I64 value) = ⊥
+IsList (U64 value) = ⊥

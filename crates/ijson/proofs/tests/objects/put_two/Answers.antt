@@ -1,4 +1,4 @@
-use Rattle.std.proofs.Common.{rules, sym, ap, ◌∙◌, false}
+use Rattle.std.proofs.Common.{sym, ap, ◌∙◌, false}
 use Rattle.std.specs.Option.{unwrap_or}
 use Rattle.ijson_table.specs.Store.{Store}
 use Rattle.ijson_value.specs.Values.{null_value, boolean_value}

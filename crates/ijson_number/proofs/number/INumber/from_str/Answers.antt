@@ -19,18 +19,18 @@ returns-in_default-clause-err c = λ n s num. (let none = rw c.as_bytes.ensures.
 
 pub invariant_of-result : goal.invariant_of-result
 invariant_of-result c =
-    let w = number_of_word _ (parts_of c.in-Some.spelling) _ c.in-Some.ensures.found c.in-Some-word.ensures in
+    let w = number_of_word _ (parts_of c.in-Some.spelling) _ c.in-Some.ensures.found c.in-Some-word.ensures.word in
     (stored_num w.0 _ w.3 w.2, tt)
 
 pub invariant_of-result-in-Some-word : goal.invariant_of-result-in-Some-word
 invariant_of-result-in-Some-word c =
-    let w = number_of_word _ (parts_of c.in-Some.spelling) _ c.in-Some.ensures.found c.in-Some-word.ensures in
+    let w = number_of_word _ (parts_of c.in-Some.spelling) _ c.in-Some.ensures.found c.in-Some-word.ensures.word in
     stored_form_of w.0 _ w.3 w.2
 
 pub returns-in-Some-word-clause-ok : goal.returns-in-Some-word-clause-ok
 returns-in-Some-word-clause-ok c =
     let p = parts_of c.in-Some.spelling in
-    let w = number_of_word _ p _ c.in-Some.ensures.found c.in-Some-word.ensures in
+    let w = number_of_word _ p _ c.in-Some.ensures.found c.in-Some-word.ensures.word in
     (p, rw c.as_bytes.ensures.value at c.in-Some.ensures.found, subst (Denotes p) (sym (form_has w.0 _ w.3.plain w.2)) w.1)
 
 pub returns-in_default-scan-clause-err : goal.returns-in_default-scan-clause-err

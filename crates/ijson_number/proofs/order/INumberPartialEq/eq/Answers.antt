@@ -34,5 +34,5 @@ pub returns-then-is_same_word : goal.returns-then-is_same_word
 returns-then-is_same_word c =
     let a = c.args.self.now.decimal in
     let b = c.args.other.now.decimal in
-    let same : a ≡ b = sym (ap (λ (x : Num). x.decimal) c.self.view_is) ∙ ap stored_decimal (c.is_same_word.ensures c.if-is_same_word.true) ∙ ap (λ (x : Num). x.decimal) c.other.view_is in
+    let same : a ≡ b = sym (ap (λ (x : Num). x.decimal) c.self.view_is) ∙ ap stored_decimal (c.is_same_word.ensures.same c.if-is_same_word.true) ∙ ap (λ (x : Num). x.decimal) c.other.view_is in
     sym (ap is_eq (same_equal a b (ap (λ (n : Decimal). n.mantissa) same) (ap (λ (n : Decimal). n.exponent) same)))

@@ -16,8 +16,8 @@ use Rattle.ijson_number.proofs.reading.Spelling.word.Goals as goal
 whole_strips : (p : Parts) (written : List ℕ) (minus : Bool) (size : ℕ) (n : Decimal) → p.exponent ≡ signed minus (value written) → length written ≡ 0 → size ≡ value (p.whole ++ p.fraction) → Denotes p n → Strips (signed p.negative size) (neg_ℤ (pos (length p.fraction))) n
 whole_strips p written minus size n e none is d = rw (is, ← no_exponent minus written (length p.fraction) none, ← e) d.0
 
-pub returns-then-tail : goal.returns-then-tail
-returns-then-tail c =
+pub returns-then-tail-clause-word : goal.returns-then-tail-clause-word
+returns-then-tail-clause-word c =
     let s = c.args.self.now in
     let size = c.joined_value-size in
     let none : length s.tail.exponent.now ≡ 0 = grind arith in
@@ -26,8 +26,8 @@ returns-then-tail c =
     let strips = whole_strips (parts_of s) s.tail.exponent.now s.tail.negative size.result n refl none size.ensures.value d in
     (h n (d.1 ∙ c.if-tail.true) strips, few_num (signed s.negative size.result) (length s.tail.fraction.now) n (rw (abs_signed s.negative size.result) (let small = size.ensures.small in omega arith)) few strips))
 
-pub returns : goal.returns
-returns c = λ n d.
+pub returns-clause-word : goal.returns-clause-word
+returns-clause-word c = λ n d.
     let s = c.args.self.now in
     let size = c.joined_value-size in
     let none : length s.tail.exponent.now ≡ 0 = grind arith in

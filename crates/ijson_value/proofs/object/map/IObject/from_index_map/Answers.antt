@@ -1,4 +1,4 @@
-use Rattle.std.proofs.Common.{Ok, Err, sym, ◌∙◌}
+use Rattle.std.proofs.Common.{sym, ◌∙◌}
 use Rattle.ijson_value.specs.WellFormed.{WellFormed}
 use Rattle.ijson_value.proofs.FromMaps.{unique_keys, map_all, map_more, all_given, ok_more}
 use Rattle.ijson_value.proofs.object.map.IObject.from_index_map.Goals as goal
