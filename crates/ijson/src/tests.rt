@@ -22,15 +22,20 @@ mod values;
 mod walks;
 
 use crate::json::{JsonError, from_json, to_json};
-use crate::string::StringCache;
+use crate::string::{IString, StringCache};
 use crate::value::IValue;
-use std::alloc::Global;
+use std::alloc::{AllocError, Global};
 use std::hash::{BuildHasherDefault, FoldHasher};
 
 type Cache = StringCache<BuildHasherDefault<FoldHasher>>;
 
 fn empty_cache(alloc: Global) -> Cache {
     StringCache::new(alloc, BuildHasherDefault::<FoldHasher>::new())
+}
+
+/// A text through a cache of its own.
+fn text(alloc: Global, letters: &str) -> Result<IString, AllocError> {
+    IString::intern(&mut empty_cache(alloc), letters)
 }
 
 /// What `text` spells, through a cache of its own.

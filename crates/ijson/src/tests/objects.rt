@@ -3,9 +3,9 @@
 ghost use Rattle.std.specs.Prelude.{◌≡◌, ◌≢◌, [], ◌∷◌, true, false, OnOk};
 ghost use Rattle.ijson_value.specs.Values.{boolean_value};
 
-use super::{Cache, empty_cache};
+use super::text;
 use crate::number::INumber;
-use crate::object::{Entry, IObject};
+use crate::object::{Entry, IObject, RefusedPair};
 use crate::string::IString;
 use crate::table::ReserveError;
 use crate::value::{DestructuredRef, IValue};
@@ -14,10 +14,10 @@ use std::process::Abort;
 use std::test::Fail;
 
 /// An object of these keys, each with its position beside it.
-fn of_keys(alloc: Global, cache: &mut Cache, keys: &[&str]) -> Result<IObject, Fail> {
+fn of_keys(alloc: Global, keys: &[&str]) -> Result<IObject, Fail> {
     let mut object = IObject::new(alloc);
     for (position, key) in keys.iter().enumerate() {
-        object.insert(IString::intern(cache, key)?, of_number(position))?;
+        object.insert(text(alloc, key)?, of_number(position))?;
     }
     Ok(object)
 }
@@ -43,6 +43,14 @@ fn number_at(object: &IObject, key: &str) -> usize {
     }
 }
 
+/// Whether there is a value, and it is this number.
+fn is_number(value: Option<IValue>, number: usize) -> bool {
+    match value {
+        Some(value) => number_of(&value) == number,
+        None => false,
+    }
+}
+
 /// Whether there is a pair, and this is its key.
 fn has_key(pair: Option<(IString, IValue)>, key: &str) -> bool {
     match pair {
@@ -64,33 +72,40 @@ fn has_keys(object: &IObject, keys: &[&str]) -> bool {
 }
 
 /// Puts another number beside the first of four keys.
-fn replaces(rt: &impl Abort, cache: &mut Cache, object: &mut IObject) -> Result<(), Fail> {
-    let old = object.insert(IString::intern(cache, "a")?, of_number(9))?;
-    assert!(rt; old == Some(of_number(0)));
-    assert!(rt; object.capacity() == 4 && number_at(object, "a") == 9);
+fn replaces(rt: &impl Abort, a: IString, object: &mut IObject) -> Result<(), RefusedPair> {
+    let old = object.insert(a, of_number(9))?;
+    assert!(rt; is_number(old, 0) && object.capacity() == 4 && number_at(object, "a") == 9);
     Ok(())
 }
 
 /// Takes two of the keys a to d out. The last pair moves there.
 fn removes(rt: &impl Abort, object: &mut IObject, d: &IString) {
-    assert!(rt; object.remove("b") == Some(of_number(1)));
+    assert!(rt; is_number(object.remove("b"), 1));
     assert!(rt; has_keys(object, &["a", "d", "c"]));
     assert!(rt; has_key(object.remove_entry(d), "d"));
     assert!(rt; has_keys(object, &["a", "c"]) && object.remove("b").is_none());
     assert_eq!(rt; object.capacity(), 4);
 }
 
+/// An object of the keys a to d.
+fn four(alloc: Global) -> Result<IObject, Fail> {
+    of_keys(alloc, &["a", "b", "c", "d"])
+}
+
 #[test]
-fn insertions_and_removals(rt: HostRuntime) -> Result<(), Fail> {
-    let alloc = rt.alloc();
-    let mut cache = empty_cache(alloc);
-    let five = of_keys(alloc, &mut cache, &["a", "b", "c", "d", "e"])?;
-    assert!(rt; has_keys(&five, &["a", "b", "c", "d", "e"]) && five.capacity() == 8);
-    let d = IString::intern(&mut cache, "d")?;
-    let mut object = of_keys(alloc, &mut cache, &["a", "b", "c", "d"])?;
+fn insertions(rt: HostRuntime) -> Result<(), Fail> {
+    let object = of_keys(rt.alloc(), &["a", "b", "c", "d", "e"])?;
+    assert!(rt; has_keys(&object, &["a", "b", "c", "d", "e"]) && object.capacity() == 8);
+    let mut object = four(rt.alloc())?;
     assert_eq!(rt; object.capacity(), 4);
-    replaces(&rt, &mut cache, &mut object)?;
-    removes(&rt, &mut object, &d);
+    replaces(&rt, text(rt.alloc(), "a")?, &mut object)?;
+    Ok(())
+}
+
+#[test]
+fn removals(rt: HostRuntime) -> Result<(), Fail> {
+    let mut object = four(rt.alloc())?;
+    removes(&rt, &mut object, &text(rt.alloc(), "d")?);
     object.shrink_to_fit()?;
     assert_eq!(rt; object.capacity(), 2);
     Ok(())
@@ -98,7 +113,7 @@ fn insertions_and_removals(rt: HostRuntime) -> Result<(), Fail> {
 
 /// Takes b out of the keys a to d. Those behind it move one forward.
 fn shift_removes(rt: &impl Abort, object: &mut IObject) {
-    assert!(rt; object.shift_remove("b") == Some(of_number(1)));
+    assert!(rt; is_number(object.shift_remove("b"), 1));
     assert!(rt; object.shift_remove(&"b").is_none() && object.shift_remove_entry("b").is_none());
     assert!(rt; has_keys(object, &["a", "c", "d"]));
 }
@@ -120,13 +135,14 @@ fn writes(rt: &impl Abort, object: &mut IObject, d: &IString) {
 #[test]
 fn shift_removals_and_writes(rt: HostRuntime) -> Result<(), Fail> {
     let alloc = rt.alloc();
-    let mut cache = empty_cache(alloc);
-    let d = IString::intern(&mut cache, "d")?;
-    let mut object = of_keys(alloc, &mut cache, &["a", "b", "c", "d"])?;
+    let d = text(alloc, "d")?;
+    let mut object = four(alloc)?;
     shift_removes(&rt, &mut object);
     writes(&rt, &mut object, &d);
     for (key, number) in [("a", 6), ("c", 7), ("d", 8)] {
-        assert!(rt; object.get(key) == Some(&of_number(number)) && object.contains_key(key));
+        assert!(rt;
+            object.get(key).map(number_of) == Some(number) && number_at(&object, key) == number
+        );
         assert!(rt; matches!(object.get_key_value(&key), Some((text, _value)) if text.eq_str(key)));
     }
     Ok(())
@@ -134,15 +150,7 @@ fn shift_removals_and_writes(rt: HostRuntime) -> Result<(), Fail> {
 
 #[test]
 fn room(rt: HostRuntime) -> Result<(), Fail> {
-    let alloc = rt.alloc();
-    assert!(rt; IObject::new(alloc) == IObject::with_capacity(alloc, 10)?);
-    assert!(rt;
-        matches!(
-            IObject::with_capacity(alloc, 72057594037927937),
-            Err(ReserveError::TooLarge)
-        )
-    );
-    let mut object = of_keys(alloc, &mut empty_cache(alloc), &["a", "b", "c", "d", "e"])?;
+    let mut object = of_keys(rt.alloc(), &["a", "b", "c", "d", "e"])?;
     object.clear();
     assert!(rt; object.is_empty() && object.capacity() == 8);
     object.reserve(9)?;
@@ -151,13 +159,21 @@ fn room(rt: HostRuntime) -> Result<(), Fail> {
 }
 
 #[test]
+fn room_made_ahead(rt: HostRuntime) -> Result<(), Fail> {
+    let object = IObject::with_capacity(rt.alloc(), 10)?;
+    assert!(rt; object.capacity() == 10 && object == IObject::new(rt.alloc()));
+    let past = IObject::with_capacity(rt.alloc(), 72_057_594_037_927_937);
+    assert!(rt; matches!(past, Err(ReserveError::TooLarge)));
+    Ok(())
+}
+
+#[test]
 fn extensions(rt: HostRuntime) -> Result<(), Fail> {
     let alloc = rt.alloc();
-    let mut cache = empty_cache(alloc);
-    let mut object = of_keys(alloc, &mut cache, &["a", "b", "c", "d"])?;
-    object.extend(of_keys(alloc, &mut cache, &["a"])?)?;
+    let mut object = four(alloc)?;
+    object.extend(of_keys(alloc, &["a"])?)?;
     assert!(rt; object.capacity() == 4 && has_keys(&object, &["a", "b", "c", "d"]));
-    object.extend(of_keys(alloc, &mut cache, &["e"])?)?;
+    object.extend(of_keys(alloc, &["e"])?)?;
     assert!(rt; object.capacity() == 8 && has_keys(&object, &["a", "b", "c", "d", "e"]));
     Ok(())
 }
@@ -165,14 +181,13 @@ fn extensions(rt: HostRuntime) -> Result<(), Fail> {
 #[test]
 fn keys_of_each_length(rt: HostRuntime) -> Result<(), Fail> {
     let alloc = rt.alloc();
-    let mut cache = empty_cache(alloc);
     let keys = ["id", "interned_string_a", "no"];
-    let mixed = of_keys(alloc, &mut cache, &keys)?;
+    let mixed = of_keys(alloc, &keys)?;
     assert_eq!(rt; mixed.len(), 3);
     for (position, key) in keys.iter().enumerate() {
         assert_eq!(rt; number_at(&mixed, key), position);
     }
-    let again = IObject::from_iter(alloc, of_keys(alloc, &mut cache, &keys)?)?;
+    let again = IObject::from_iter(alloc, of_keys(alloc, &keys)?)?;
     assert!(rt; again == mixed && again.capacity() == 4);
     Ok(())
 }
@@ -218,20 +233,16 @@ fn and_modify(object: &mut IObject, key: IString) -> Result<usize, Fail> {
 #[test]
 fn entries(rt: HostRuntime) -> Result<(), Fail> {
     let alloc = rt.alloc();
-    let mut cache = empty_cache(alloc);
-    let a = IString::intern(&mut cache, "a")?;
+    let a = text(alloc, "a")?;
     let mut object = IObject::new(alloc);
-    let key = asked(&mut object, IString::intern(&mut cache, "k")?)?;
+    let key = asked(&mut object, text(alloc, "k")?)?;
     assert!(rt; key.eq_str("k") && object.is_empty() && object.capacity() == 4);
     assert_eq!(rt; or_insert(&mut object, &a, 1)?, 1);
     assert_eq!(rt; or_insert(&mut object, &a, 2)?, 1);
     assert_eq!(rt; or_insert_with(&mut object, &a)?, (1, 0));
     assert_eq!(rt; or_insert_with(&mut object, &key)?, (3, 1));
     assert_eq!(rt; and_modify(&mut object, a)?, 1);
-    assert_eq!(rt;
-        and_modify(&mut object, IString::intern(&mut cache, "x")?)?,
-        0
-    );
+    assert_eq!(rt; and_modify(&mut object, text(alloc, "x")?)?, 0);
     assert!(rt; number_at(&object, "a") == 5 && number_at(&object, "x") == 6);
     assert!(rt; has_keys(&object, &["a", "k", "x"]));
     Ok(())
@@ -240,10 +251,10 @@ fn entries(rt: HostRuntime) -> Result<(), Fail> {
 /// Writes through the entry of k, the second of four keys, and takes it out.
 fn occupied(rt: &impl Abort, object: &mut IObject, key: &IString) -> Result<(), Fail> {
     if let Entry::Occupied(mut entry) = object.entry_or_clone(key)? {
-        assert!(rt; entry.key().eq_str("k") && entry.insert(of_number(8)) == of_number(1));
+        assert!(rt; entry.key().eq_str("k") && number_of(&entry.insert(of_number(8))) == 1);
         *entry.get_mut() = of_number(9);
-        assert!(rt; *entry.get() == of_number(9));
-        assert!(rt; entry.remove_entry().1 == of_number(9));
+        assert!(rt; number_of(entry.get()) == 9);
+        assert!(rt; number_of(&entry.remove_entry().1) == 9);
     }
     Ok(())
 }
@@ -251,11 +262,10 @@ fn occupied(rt: &impl Abort, object: &mut IObject, key: &IString) -> Result<(), 
 #[test]
 fn indexed_entries(rt: HostRuntime) -> Result<(), Fail> {
     let alloc = rt.alloc();
-    let mut cache = empty_cache(alloc);
-    let key = IString::intern(&mut cache, "k")?;
-    let mut object = of_keys(alloc, &mut cache, &["a", "k", "x"])?;
-    assert!(rt; *object.index_or_insert(IString::intern(&mut cache, "n")?)? == IValue::NULL);
-    *object.index_or_insert(IString::intern(&mut cache, "a")?)? = of_number(7);
+    let key = text(alloc, "k")?;
+    let mut object = of_keys(alloc, &["a", "k", "x"])?;
+    assert!(rt; *object.index_or_insert(text(alloc, "n")?)? == IValue::NULL);
+    *object.index_or_insert(text(alloc, "a")?)? = of_number(7);
     assert!(rt; has_keys(&object, &["a", "k", "x", "n"]) && number_at(&object, "a") == 7);
     assert_eq!(rt; object.capacity(), 4);
     occupied(&rt, &mut object, &key)?;
@@ -292,12 +302,14 @@ fn iterates(rt: &impl Abort, object: &IObject) {
     let mut pairs = object.iter();
     for (left, number) in [(3, 0), (2, 40), (1, 20)] {
         assert_eq!(rt; pairs.len(), left);
-        assert!(rt; matches!(pairs.next(), Some((_key, value)) if *value == of_number(number)));
+        assert!(rt; matches!(pairs.next(), Some((_key, value)) if number_of(value) == number));
     }
     assert!(rt; pairs.next().is_none() && pairs.next().is_none());
     let mut values = object.values();
     assert_eq!(rt; (values.len(), object.keys().len()), (3, 3));
-    assert!(rt; values.next() == Some(&of_number(0)) && values.next() == Some(&of_number(40)));
+    assert!(rt;
+        values.next().map(number_of) == Some(0) && values.next().map(number_of) == Some(40)
+    );
 }
 
 /// Gives the keys 0, 4 and 2 out.
@@ -312,9 +324,7 @@ fn gives_out(rt: &impl Abort, object: IObject) {
 
 #[test]
 fn retained(rt: HostRuntime) -> Result<(), Fail> {
-    let alloc = rt.alloc();
-    let mut cache = empty_cache(alloc);
-    let mut object = of_keys(alloc, &mut cache, &["0", "1", "2", "3", "4", "5"])?;
+    let mut object = of_keys(rt.alloc(), &["0", "1", "2", "3", "4", "5"])?;
     let mut asked = 7usize;
     object.retain(|_key, value| {
         let number = number_of(value);
@@ -322,15 +332,20 @@ fn retained(rt: HostRuntime) -> Result<(), Fail> {
         *value = of_number(number.wrapping_mul(10));
         number % 2 == 0
     });
-    assert_eq!(rt; asked, 7015423);
-    assert!(rt; has_keys(&object, &["0", "4", "2"]));
+    assert!(rt; asked == 7015423 && has_keys(&object, &["0", "4", "2"]));
     iterates(&rt, &object);
     gives_out(&rt, object);
-    assert!(rt; IObject::new(alloc).into_iter().next().is_none());
-    let first = IString::intern(&mut cache, "a")?;
-    let second = IString::intern(&mut cache, "b")?;
-    let mut object = IObject::new(alloc);
+    Ok(())
+}
+
+#[test]
+fn two_are_put_and_one_is_kept(rt: HostRuntime) -> Result<(), Fail> {
+    let first = text(rt.alloc(), "a")?;
+    let second = text(rt.alloc(), "b")?;
+    let mut object = IObject::new(rt.alloc());
+    assert!(rt; object.iter().next().is_none());
     put_two(&mut object, &first, &second)?;
     assert_eq!(rt; keep_true(&mut object, &first, &second), (true, true));
+    assert!(rt; IObject::new(rt.alloc()).into_iter().next().is_none());
     Ok(())
 }

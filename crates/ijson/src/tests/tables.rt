@@ -3,7 +3,7 @@
 mod lists;
 mod refusals;
 
-use super::empty_cache;
+use super::text;
 use crate::number::Looks;
 use crate::string::IString;
 use crate::table::{
@@ -73,10 +73,9 @@ fn insert_all<P: PairStore<u64>>(
     store: &mut P,
     keys: &[&str],
 ) -> Result<Vec<Reply<u64>>, AllocError> {
-    let mut cache = empty_cache(alloc);
     let mut commands = Vec::new(alloc);
     for (i, key) in keys.iter().enumerate() {
-        let key = IString::intern(&mut cache, key)?;
+        let key = text(alloc, key)?;
         commands.push(Command::Insert(key, i as u64))?;
     }
     run(alloc, store, commands)
@@ -88,7 +87,7 @@ fn remove<P: PairStore<u64>>(
     store: &mut P,
     key: &str,
 ) -> Result<Vec<Reply<u64>>, AllocError> {
-    let key = IString::intern(&mut empty_cache(alloc), key)?;
+    let key = text(alloc, key)?;
     run(alloc, store, vec![in alloc; Command::Remove(key)]?)
 }
 
@@ -98,7 +97,7 @@ fn shift_remove<P: PairStore<u64>>(
     store: &mut P,
     key: &str,
 ) -> Result<Vec<Reply<u64>>, AllocError> {
-    let key = IString::intern(&mut empty_cache(alloc), key)?;
+    let key = text(alloc, key)?;
     run(alloc, store, vec![in alloc; Command::ShiftRemove(key)]?)
 }
 
@@ -110,27 +109,38 @@ fn has_keys(pairs: &[(IString, u64)], keys: &[&str]) -> bool {
         .eq(keys.iter().copied())
 }
 
+/// A table of the keys `a`, `bb`, `c` and `dd`, whose homes are their lengths.
+fn of_lengths(alloc: Global) -> Result<Table<u64, ByLength>, AllocError> {
+    let mut table = Table::new(alloc);
+    insert_all(alloc, &mut table, &["a", "bb", "c", "dd"])?;
+    Ok(table)
+}
+
 #[test]
 fn lengths_meet(rt: HostRuntime) -> Result<(), AllocError> {
-    let alloc = rt.alloc();
-    let mut table: Table<u64, ByLength> = Table::new(alloc);
-    insert_all(alloc, &mut table, &["a", "bb", "c", "dd"])?;
-    assert_eq!(rt; table.capacity(), 4);
-    assert!(rt; has_places(&table, &[9, 0, 2, 1, 3]));
+    let table = of_lengths(rt.alloc())?;
+    assert!(rt; table.capacity() == 4 && has_places(&table, &[9, 0, 2, 1, 3]));
     assert!(rt; found(&table, "dd") == (Some(3), 3));
-    assert!(rt; found(&table, "z") == (None, 3));
-    assert!(rt; found(&table, "zz") == (None, 4));
-    remove(alloc, &mut table, "a")?;
+    assert!(rt; found(&table, "z") == (None, 3) && found(&table, "zz") == (None, 4));
+    Ok(())
+}
+
+#[test]
+fn the_last_pair_moves_into_a_gap(rt: HostRuntime) -> Result<(), AllocError> {
+    let mut table = of_lengths(rt.alloc())?;
+    remove(rt.alloc(), &mut table, "a")?;
     assert!(rt; has_keys(table.as_slice(), &["dd", "bb", "c"]));
     assert!(rt; has_places(&table, &[9, 2, 1, 0, 9]));
-    assert_eq!(rt; table.position("c"), Some(2));
-    assert_eq!(rt; table.position("dd"), Some(0));
-    let mut table: Table<u64, ByLength> = Table::new(alloc);
-    insert_all(alloc, &mut table, &["a", "bb", "c", "dd"])?;
-    shift_remove(alloc, &mut table, "a")?;
+    assert!(rt; table.position("c") == Some(2) && table.position("dd") == Some(0));
+    Ok(())
+}
+
+#[test]
+fn pairs_behind_a_gap_move_forward(rt: HostRuntime) -> Result<(), AllocError> {
+    let mut table = of_lengths(rt.alloc())?;
+    shift_remove(rt.alloc(), &mut table, "a")?;
     assert!(rt; has_keys(table.as_slice(), &["bb", "c", "dd"]));
-    assert!(rt; has_places(&table, &[9, 1, 0, 2, 9]));
-    assert_eq!(rt; table.position("dd"), Some(2));
+    assert!(rt; has_places(&table, &[9, 1, 0, 2, 9]) && table.position("dd") == Some(2));
     Ok(())
 }
 
@@ -283,12 +293,12 @@ fn the_limit(rt: HostRuntime) {
 #[test]
 fn a_run(rt: HostRuntime) -> Result<(), AllocError> {
     let alloc = rt.alloc();
-    let a = || IString::intern(&mut empty_cache(alloc), "a");
+    let a = || text(alloc, "a");
     let mut commands = Vec::new(alloc);
     commands.push(Command::Insert(a()?, 1))?;
     commands.push(Command::Insert(a()?, 2))?;
     commands.push(Command::Find(a()?))?;
-    commands.push(Command::Find(IString::intern(&mut empty_cache(alloc), "b")?))?;
+    commands.push(Command::Find(text(alloc, "b")?))?;
     commands.push(Command::Remove(a()?))?;
     commands.push(Command::ShrinkToFit)?;
     let mut store = LinearPairs::new(alloc);

@@ -5,7 +5,7 @@ ghost use Rattle.ijson_value.specs.declared.value.ValueType.TheVariants as kind;
 ghost use Rattle.ijson_value.specs.Step.{by_position, by_key, kind_for, tree_at, tree_with};
 ghost use Rattle.ijson_value.specs.Tree.{boolean, null};
 
-use super::{Cache, empty_cache, read};
+use super::{read, text};
 use crate::number::INumber;
 use crate::string::IString;
 use crate::{Destructured, DestructuredMut, DestructuredRef, IArray, IObject, IValue, ValueType};
@@ -48,10 +48,10 @@ fn turn(value: &mut IValue, was: bool)
 }
 
 /// An object of these keys and numbers, put in this order.
-fn object(alloc: Global, cache: &mut Cache, members: &[(&str, &str)]) -> Result<IObject, Fail> {
+fn object(alloc: Global, members: &[(&str, &str)]) -> Result<IObject, Fail> {
     let mut object = IObject::new(alloc);
     for (key, number) in members {
-        let key = IString::intern(cache, key)?;
+        let key = text(alloc, key)?;
         let number = INumber::from_str(alloc, number)?;
         object.insert(key, number.into())?;
     }
@@ -61,13 +61,12 @@ fn object(alloc: Global, cache: &mut Cache, members: &[(&str, &str)]) -> Result<
 #[test]
 fn values_take_what_they_are_given(rt: HostRuntime) -> Result<(), Fail> {
     let alloc = rt.alloc();
-    let mut cache = empty_cache(alloc);
     let mut array = IArray::new(alloc);
     array.push(IValue::TRUE)?;
     array.push(IValue::NULL)?;
     assert_eq!(rt; array.len(), 2);
     assert!(rt; IValue::NULL.type_() == ValueType::Null);
-    let object = object(alloc, &mut cache, &[("x", "1"), ("y", "2"), ("x", "3")])?;
+    let object = object(alloc, &[("x", "1"), ("y", "2"), ("x", "3")])?;
     assert_eq!(rt; object.len(), 2);
     assert_eq!(rt; object.capacity(), 4);
     assert!(rt; object.contains_key("y"));
@@ -84,10 +83,9 @@ fn values_take_what_they_are_given(rt: HostRuntime) -> Result<(), Fail> {
 #[test]
 fn objects_are_equal_as_maps(rt: HostRuntime) -> Result<(), Fail> {
     let alloc = rt.alloc();
-    let mut cache = empty_cache(alloc);
-    let one = object(alloc, &mut cache, &[("x", "1"), ("y", "2")])?;
-    let other = object(alloc, &mut cache, &[("y", "2.0"), ("x", "1e0")])?;
-    let less = object(alloc, &mut cache, &[("x", "1")])?;
+    let one = object(alloc, &[("x", "1"), ("y", "2")])?;
+    let other = object(alloc, &[("y", "2.0"), ("x", "1e0")])?;
+    let less = object(alloc, &[("x", "1")])?;
     assert!(rt; one == other);
     assert!(rt; one != less);
     assert!(rt; less != one);

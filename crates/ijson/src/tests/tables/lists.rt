@@ -1,8 +1,7 @@
 //! Long lists of commands, which each store answers alike.
 
-use super::super::empty_cache;
+use super::super::text;
 use super::{AlwaysZero, ByLength};
-use crate::string::IString;
 use crate::table::{Command, FixedHash, FixedTable, LinearPairs, PairStore, Reply, Table, run};
 use std::alloc::{AllocError, Global};
 
@@ -45,12 +44,11 @@ fn next(state: u64) -> u64 {
 
 /// The list of commands that begins with this number.
 fn commands(alloc: Global, seed: u64) -> Result<Vec<Command<u64>>, AllocError> {
-    let mut cache = empty_cache(alloc);
     let mut state = seed;
     let mut commands = Vec::new(alloc);
     for _ in 0..COUNT {
         state = next(state);
-        let key = IString::intern(&mut cache, KEYS[(state >> 33) as usize % KEYS.len()])?;
+        let key = text(alloc, KEYS[(state >> 33) as usize % KEYS.len()])?;
         let command = match (state >> 40) % 64 {
             0..=35 => Command::Insert(key, state),
             36..=43 => Command::Find(key),
@@ -65,29 +63,27 @@ fn commands(alloc: Global, seed: u64) -> Result<Vec<Command<u64>>, AllocError> {
     Ok(commands)
 }
 
-/// Whether two stores give the same replies and end with the same pairs at the same positions and the same capacity.
-fn agree<P: PairStore<u64>, Q: PairStore<u64>>(
-    alloc: Global,
-    seed: u64,
-    one: &mut P,
-    other: &mut Q,
-) -> Result<bool, AllocError> {
-    let replies = run(alloc, one, commands(alloc, seed)?)?;
-    let expected = run(alloc, other, commands(alloc, seed)?)?;
-    if replies.as_slice() != expected.as_slice()
-        || one.capacity() != other.capacity()
-        || one.len() != other.len()
-    {
-        return Ok(false);
+/// Whether a store gives the same replies as `LinearPairs`, and ends with the same pairs at the same positions and the same capacity.
+fn agrees<P: PairStore<u64>>(alloc: Global, seed: u64, store: &mut P) -> Result<bool, AllocError> {
+    let mut linear = LinearPairs::new(alloc);
+    let replies = run(alloc, store, commands(alloc, seed)?)?;
+    let expected = run(alloc, &mut linear, commands(alloc, seed)?)?;
+    Ok(replies.as_slice() == expected.as_slice() && are_alike(store, &linear))
+}
+
+/// Whether two stores have the same pairs at the same positions and the same capacity.
+fn are_alike<P: PairStore<u64>, Q: PairStore<u64>>(one: &P, other: &Q) -> bool {
+    if one.capacity() != other.capacity() || one.len() != other.len() {
+        return false;
     }
     for i in 0..one.len() {
         let (key, value) = one.pair(i);
         let (other_key, other_value) = other.pair(i);
         if key != other_key || value != other_value || one.position(key.as_str()) != Some(i) {
-            return Ok(false);
+            return false;
         }
     }
-    Ok(true)
+    true
 }
 
 /// Whether `insert` and `get` answer as the insertions and look-ups of `run` do.
@@ -123,28 +119,10 @@ fn insert_and_get_agree(alloc: Global, seed: u64) -> Result<bool, AllocError> {
 fn stores_agree(rt: HostRuntime) -> Result<(), AllocError> {
     let alloc = rt.alloc();
     for seed in 0..40 {
-        let linear = &mut LinearPairs::new(alloc);
-        assert!(rt;
-            agree(
-                alloc,
-                seed,
-                &mut Table::<u64, AlwaysZero>::new(alloc),
-                linear
-            )?
-        );
-        let linear = &mut LinearPairs::new(alloc);
-        assert!(rt; agree(alloc, seed, &mut Table::<u64, ByLength>::new(alloc), linear)?);
-        let linear = &mut LinearPairs::new(alloc);
-        assert!(rt;
-            agree(
-                alloc,
-                seed,
-                &mut Table::<u64, FixedHash>::new(alloc),
-                linear
-            )?
-        );
-        let linear = &mut LinearPairs::new(alloc);
-        assert!(rt; agree(alloc, seed, &mut FixedTable::new(alloc), linear)?);
+        assert!(rt; agrees(alloc, seed, &mut Table::<u64, AlwaysZero>::new(alloc))?);
+        assert!(rt; agrees(alloc, seed, &mut Table::<u64, ByLength>::new(alloc))?);
+        assert!(rt; agrees(alloc, seed, &mut Table::<u64, FixedHash>::new(alloc))?);
+        assert!(rt; agrees(alloc, seed, &mut FixedTable::new(alloc))?);
         assert!(rt; insert_and_get_agree(alloc, seed)?);
     }
     Ok(())
