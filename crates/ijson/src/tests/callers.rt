@@ -2,3 +2,4 @@
 //! the calls promise.
 
 mod canonical_key;
+mod records;
