@@ -1,1 +1,3 @@
+pub mod Items
 pub mod Records
+pub mod Totals

@@ -3,3 +3,4 @@
 
 mod canonical_key;
 mod records;
+mod total;

@@ -14,15 +14,15 @@ loop-item-preserved c =
     let within = loop.invariant.within in
     elim c.if-not-has_id.branch [
       | then-not-has_id w ↦ record {
-          within = let e = w.count-is in omega (arith, within, e);
-          so_far = one_lacks vs loop.item-index loop.count v c.loop-item-test.true c.item-item.is loop.invariant.so_far _ w.count-is
-              (λ h. let yes = c.has_id.ensures.1 h in let no = w.if-not-has_id.true in absurd (cc));
-        }
+        within = let e = w.count-is in omega (arith, within, e);
+        so_far = one_lacks vs loop.item-index loop.count v c.loop-item-test.true c.item-item.is loop.invariant.so_far _ w.count-is
+            (λ h. let yes = c.has_id.ensures.1 h in let no = w.if-not-has_id.true in absurd (cc));
+      }
       | else-not-has_id w ↦ record {
-          within = let e = w.count-is in omega (arith, within, e);
-          so_far = one_has vs loop.item-index loop.count v c.loop-item-test.true c.item-item.is loop.invariant.so_far _ w.count-is
-              (c.has_id.ensures.0 w.if-not-has_id.false);
-        }
+        within = let e = w.count-is in omega (arith, within, e);
+        so_far = one_has vs loop.item-index loop.count v c.loop-item-test.true c.item-item.is loop.invariant.so_far _ w.count-is
+            (c.has_id.ensures.0 w.if-not-has_id.false);
+      }
     ]
 
 pub returns-clause-some : goal.returns-clause-some
