@@ -2,5 +2,6 @@
 //! the calls promise.
 
 mod canonical_key;
+mod documents;
 mod records;
 mod total;
