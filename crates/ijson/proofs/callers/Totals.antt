@@ -1,14 +1,10 @@
--- The sum of the numbers of a tree: there is one at most, and it grows by what is summed of the first of what is left.
-use Rattle.std.proofs.Common.{◌≡◌, ◌↔◌, ℕ, ◌+◌, ◌<◌, ◌≤◌, ◌^◌, List, length, get_or, drop, refl, sym, subst, ◌∙◌, arith}
+-- The sum of the numbers of a tree: there is one at most, and a loop over values finds it, one value after the other.
+use Rattle.std.proofs.Common.{◌≡◌, ℕ, ◌+◌, ◌<◌, ◌≤◌, ◌^◌, max, List, [], ◌∷◌, map, refl, sym, ap, subst, ◌∙◌, arith}
 use Rattle.std.specs.Prelude.{pos}
 use Rattle.ijson_number.proofs.WholeValues.{value_one}
-use Rattle.ijson_value.specs.Tree.{Tree, null, boolean, number, string, array, object, Items, no_items, item, Members, no_members, member}
-use Rattle.ijson_value.specs.WellFormed.{WellFormed, IsWellFormed, AreWellFormed, HaveWellFormed, item_trees}
+use Rattle.ijson_value.specs.Tree.{Tree, null, boolean, number, string, array, object, Items, no_items, item, Members, no_members, member, depth, items_depth, members_depth}
+use Rattle.ijson_value.specs.WellFormed.{WellFormed, IsWellFormed, AreWellFormed, HaveWellFormed, item_trees, pair_trees}
 use Rattle.ijson.specs.callers.Total.{SumsTo, EachSumsTo, ValuesSumTo}
-use Rattle.ijson.proofs.callers.Items.{front}
-
-abbrev pub Pairs : Type 0
-Pairs = List (List ℕ × WellFormed)
 
 mutual
   one_sum : (t : Tree) (x y : ℕ) → IsWellFormed t → SumsTo t x → SumsTo t y → x ≡ y
@@ -33,44 +29,67 @@ mutual
       let rest = one_sum_values ps h.1 k.1 w.1 h.3 k.3 in
       omega (arith, first, rest, h.4, k.4)
 
--- the first of what is left, and the rest
-abbrev pub Then : Tree → (ℕ → Type 0) → ℕ → Type 0
-Then t Rest sum = (x y : ℕ) × SumsTo t x × Rest y × (sum ≡ x + y)
+-- so much is summed of a whole, and these values are left of it
+pub record IsLeft (Whole : ℕ → Type 0) (deepest : ℕ) (left : List WellFormed) (so_far : ℕ) : Type 0 where
+  pub parts : (n : ℕ) → Whole n → (m : ℕ) × EachSumsTo (item_trees left) m × (n ≡ so_far + m)
+  pub whole : (m : ℕ) → EachSumsTo (item_trees left) m → Whole (so_far + m)
+  pub below : items_depth (item_trees left) ≤ deepest
 
--- the sum of the whole is what is summed so far and the sum of what is left
-abbrev pub IsLeft : (ℕ → Type 0) → (ℕ → Type 0) → ℕ → Type 0
-IsLeft Whole Rest so_far = (n : ℕ) → Whole n ↔ ((m : ℕ) × Rest m × (n ≡ so_far + m))
+pub all_left : (vs : List WellFormed) → IsLeft (EachSumsTo (item_trees vs)) (items_depth (item_trees vs)) vs 0
+all_left vs = record {
+  parts = λ n h. (n, h, omega arith);
+  whole = λ m h. let e : m ≡ 0 + m = omega arith in subst (EachSumsTo (item_trees vs)) e h;
+  below = omega arith;
+}
 
-pub all_left : (Whole : ℕ → Type 0) → IsLeft Whole Whole 0
-all_left Whole n = (λ h. (n, h, omega arith), λ h. let e : h.0 ≡ n = let s = h.2 in omega (arith, s) in subst Whole e h.1)
+values_sum : (ps : List (List ℕ × WellFormed)) → ◌≡◌ {A = ℕ → Type 0} (EachSumsTo (item_trees (map (λ p. p.1) ps))) (ValuesSumTo (pair_trees ps))
+values_sum [] = refl
+values_sum (p ∷ ps) = ap (λ (Rest : ℕ → Type 0). λ (sum : ℕ). (x y : ℕ) × SumsTo p.1.tree x × Rest y × (sum ≡ x + y)) (values_sum ps)
 
-pub none_left : (Whole : ℕ → Type 0) (so_far : ℕ) → IsLeft Whole (λ m. m ≡ 0) so_far → Whole so_far
-none_left Whole so_far left = (left so_far).1 (0, refl, omega arith)
+values_depth : (ps : List (List ℕ × WellFormed)) → items_depth (item_trees (map (λ p. p.1) ps)) ≡ members_depth (pair_trees ps)
+values_depth [] = refl
+values_depth (p ∷ ps) = ap (max (depth p.1.tree)) (values_depth ps)
 
-module _ (Whole Rest : ℕ → Type 0) (v : WellFormed) (so_far : ℕ) (left : IsLeft Whole (Then v.tree Rest) so_far) where
-  pub one_more : (x : ℕ) → SumsTo v.tree x → IsLeft Whole Rest (so_far + x)
-  one_more x is n = (
-    λ h. let r = (left n).0 h in
-        let parts = r.1 in
-        let same = one_sum v.tree parts.0 x v.well_formed parts.2 is in
-        (parts.1, parts.3, let e = parts.4 in let f = r.2 in omega (arith, same, e, f)),
-    λ h. (left n).1 (x + h.0, (x, h.0, is, h.1, refl), let e = h.2 in omega (arith, e)),
-  )
+pub all_values_left : (ps : List (List ℕ × WellFormed)) → IsLeft (ValuesSumTo (pair_trees ps)) (members_depth (pair_trees ps)) (map (λ p. p.1) ps) 0
+all_values_left ps =
+    let vs : List WellFormed = map (λ p. p.1) ps in
+    subst (λ (Whole : ℕ → Type 0). IsLeft Whole (members_depth (pair_trees ps)) vs 0) (values_sum ps)
+    (subst (λ (n : ℕ). IsLeft (EachSumsTo (item_trees vs)) n vs 0) (values_depth ps) (all_left vs))
 
-  pub none_first : ((x : ℕ) → x < 2 ^ 64 → SumsTo v.tree x → ⊥) → (n : ℕ) → n < 2 ^ 64 → Whole n → ⊥
-  none_first none n small h =
-      let r = (left n).0 h in
-      let parts = r.1 in
-      none parts.0 (let e = parts.4 in let f = r.2 in omega (arith, small, e, f)) parts.2
+module _ (Whole : ℕ → Type 0) (deepest so_far : ℕ) (left : List WellFormed) (h : IsLeft Whole deepest left so_far) where
+  pub none_left : left ≡ [] → Whole so_far
+  none_left is =
+      let e : so_far + 0 ≡ so_far = omega arith in
+      subst Whole e (h.whole 0 (subst (λ vs. EachSumsTo (item_trees vs) 0) (sym is) refl))
 
-  pub none_more : (x : ℕ) → SumsTo v.tree x → 2 ^ 64 ≤ so_far + x → (n : ℕ) → n < 2 ^ 64 → Whole n → ⊥
-  none_more x is large n small h =
-      let r = ((one_more x is) n).0 h in
-      let e = r.2 in omega (arith, large, small, e)
+  module _ (v : WellFormed) (rest : List WellFormed) (is : left ≡ v ∷ rest) where
+    pub first_below : depth v.tree ≤ deepest
+    first_below = let b = subst (λ vs. items_depth (item_trees vs) ≤ deepest) is h.below in omega (arith, b)
 
--- the first of the items that are left
-pub item_left : (vs : List WellFormed) (i : ℕ) (v : WellFormed) (so_far : ℕ) → i < length vs → v ≡ get_or vs i v
-    → IsLeft (EachSumsTo (item_trees vs)) (EachSumsTo (item_trees (drop i vs))) so_far
-    → IsLeft (EachSumsTo (item_trees vs)) (Then v.tree (EachSumsTo (item_trees (drop (i + 1) vs)))) so_far
-item_left vs i v so_far below is left =
-    subst (λ us. IsLeft (EachSumsTo (item_trees vs)) (EachSumsTo (item_trees us)) so_far) (front vs i v below is) left
+    parts_of : (n : ℕ) → Whole n → (x y : ℕ) × SumsTo v.tree x × EachSumsTo (item_trees rest) y × (n ≡ so_far + (x + y))
+    parts_of n w =
+        let r = h.parts n w in
+        let both = subst (λ vs. EachSumsTo (item_trees vs) r.0) is r.1 in
+        (both.0, both.1, both.2, both.3, let e = r.2 in let f = both.4 in omega (arith, e, f))
+
+    pub none_first : ((x : ℕ) → x < 2 ^ 64 → SumsTo v.tree x → ⊥) → (n : ℕ) → n < 2 ^ 64 → Whole n → ⊥
+    none_first none n small w = let r = parts_of n w in none r.0 (let e = r.4 in omega (arith, e, small)) r.2
+
+    module _ (x next : ℕ) (sums : SumsTo v.tree x) where
+      pub none_more : (so_far + x < 2 ^ 64 → ⊥) → (n : ℕ) → n < 2 ^ 64 → Whole n → ⊥
+      none_more large n small w =
+          let r = parts_of n w in
+          let same = one_sum v.tree r.0 x v.well_formed r.2 sums in
+          large (let e = r.4 in omega (arith, e, same, small))
+
+      pub one_more : next ≡ so_far + x → IsLeft Whole deepest rest next
+      one_more is_next = record {
+        parts = λ n w.
+            let r = parts_of n w in
+            let same = one_sum v.tree r.0 x v.well_formed r.2 sums in
+            (r.1, r.3, let e = r.4 in omega (arith, e, same, is_next));
+        whole = λ m w.
+            let e : so_far + (x + m) ≡ next + m = omega (arith, is_next) in
+            subst Whole e (h.whole (x + m) (subst (λ vs. EachSumsTo (item_trees vs) (x + m)) (sym is) (x, m, sums, w, refl)));
+        below = let b = subst (λ vs. items_depth (item_trees vs) ≤ deepest) is h.below in omega (arith, b);
+      }

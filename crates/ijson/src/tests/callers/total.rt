@@ -40,7 +40,7 @@ fn total_of_members(object: &IObject) -> Option<u64>
     ensures none { IfNone result ((sum : ℕ) → sum < 2 ^ 64 → ValuesSumTo (pair_trees object.now.pairs) sum → ⊥) }
 {
     let mut sum: u64 = 0;
-    for (_, value) in object.iter() {
+    for value in object.values() {
         sum = sum.checked_add(total(value)?)?;
     }
     Some(sum)

@@ -1,4 +1,4 @@
-use Rattle.std.proofs.Common.{◌+◌, ◌*◌, ◌≤◌, drop}
+use Rattle.std.proofs.Common.{◌+◌, ◌*◌, drop}
 use Rattle.ijson_value.specs.Tree.{depth, items_depth, members_depth}
 use Rattle.ijson_value.specs.WellFormed.{item_trees, pair_trees}
 use Rattle.ijson.specs.callers.Total.{EachSumsTo, ValuesSumTo}
@@ -7,13 +7,11 @@ use Rattle.ijson.proofs.tests.callers.total.+total.Given as goal
 
 abbrev pub invariant-total_of_items-loop-item : goal.invariant-total_of_items-loop-item
 invariant-total_of_items-loop-item l =
-    IsLeft (EachSumsTo (item_trees l.items)) (EachSumsTo (item_trees (drop l.item-index l.items))) l.sum
+    IsLeft (EachSumsTo (item_trees l.items)) (items_depth (item_trees l.items)) (drop l.item-index l.items) l.sum
 
 abbrev pub invariant-total_of_members-loop-value : goal.invariant-total_of_members-loop-value
-invariant-total_of_members-loop-value l = record {
-  left : IsLeft (ValuesSumTo (pair_trees l.fn.object.pairs)) (ValuesSumTo (pair_trees l.value-iterator)) l.sum;
-  below : members_depth (pair_trees l.value-iterator) ≤ members_depth (pair_trees l.fn.object.pairs);
-}
+invariant-total_of_members-loop-value l =
+    IsLeft (ValuesSumTo (pair_trees l.fn.object.pairs)) (members_depth (pair_trees l.fn.object.pairs)) l.value-iterator l.sum
 
 abbrev pub decreases-total : goal.decreases-total
 decreases-total l = 2 * depth l.value.now.tree
