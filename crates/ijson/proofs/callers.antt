@@ -1,0 +1,4 @@
+pub mod Documents
+pub mod Items
+pub mod Records
+pub mod Totals

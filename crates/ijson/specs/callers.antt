@@ -1,0 +1,3 @@
+pub mod Documents
+pub mod Records
+pub mod Total

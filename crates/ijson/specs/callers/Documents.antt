@@ -1,0 +1,16 @@
+-- Documents in the order in which they came, where one is found that is equal.
+use Rattle.std.specs.Prelude.{◌≡◌, ◌⊎◌, ◌++◌, ◌∷◌, [], ℕ, List, Some, slice_get}
+use Rattle.ijson_value.specs.Same.{Same}
+use Rattle.ijson_value.specs.Tree.{Tree}
+use Rattle.ijson_value.specs.WellFormed.{WellFormed}
+
+-- the document at this position means the same
+abbrev pub StandsAt : List WellFormed → Tree → ℕ → Type 0
+StandsAt documents t position =
+    (found : WellFormed) × (slice_get documents position ≡ Some found) × Same t found.tree
+
+-- a document was there, or it is put last
+abbrev pub Stores : List WellFormed → WellFormed → List WellFormed → Type 0
+Stores old document new =
+    (((position : ℕ) × StandsAt old document.tree position) × (new ≡ old))
+    ⊎ (((position : ℕ) → StandsAt old document.tree position → ⊥) × (new ≡ old ++ document ∷ []))

@@ -1,0 +1,24 @@
+-- Records with an id, and how many items of an array are none.
+use Rattle.std.specs.Prelude.{◌≡◌, ◌⊎◌, ◌<◌, ◌^◌, ℕ, suc, pos, Some, codes}
+use Rattle.ijson_value.specs.Integers.{HasInteger}
+use Rattle.ijson_value.specs.Step.{by_key, tree_at}
+use Rattle.ijson_value.specs.Tree.{Tree, array, Items, no_items, item}
+
+-- an object with a member `id` that is a whole number from 0 to 2^64 - 1
+pub record HasId (t : Tree) : Type 0 where
+  pub id : Tree
+  pub number : ℕ
+  pub beside : tree_at t (by_key (codes "id")) ≡ Some id
+  pub fits : number < 2 ^ 64
+  pub value : HasInteger id (pos number)
+
+-- so many of these items have no id
+abbrev pub LackId : Items → ℕ → Type 0
+LackId no_items count = count ≡ 0
+LackId (item t ts) count =
+    (HasId t × LackId ts count) ⊎ ((HasId t → ⊥) × (rest : ℕ) × (count ≡ suc rest) × LackId ts rest)
+
+-- an array in which so many items have no id
+abbrev pub RefusesSoMany : Tree → ℕ → Type 0
+RefusesSoMany (array ts) count = LackId ts count
+RefusesSoMany _ count = ⊥

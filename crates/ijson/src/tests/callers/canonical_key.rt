@@ -1,0 +1,59 @@
+//! A key of a value: the keys of two values are equal exactly where the values are.
+ghost use Rattle.std.specs.Prelude.{◌≡◌, ◌↔◌, IfOk, IsTrue};
+ghost use Rattle.std.specs.String.{string_bytes};
+ghost use Rattle.ijson_extra.specs.Canonical.{canonical};
+ghost use Rattle.ijson_value.specs.Same.{Same};
+ghost use Rattle.ijson_value.specs.WellFormed.{WellFormed};
+
+use crate::canonical::canonical_json;
+use crate::tests::read;
+use crate::value::IValue;
+use std::alloc::{AllocError, Global};
+use std::test::Fail;
+
+/// A text that stands for a value and for those that are equal to it.
+#[derive(Drop, PartialEq, Eq)]
+struct CanonicalKey {
+    text: String,
+}
+
+/// The key of a value.
+fn key_of(alloc: Global, value: &IValue) -> Result<CanonicalKey, AllocError>
+    ensures text { IfOk result (λ key. string_bytes key.text ≡ canonical value.now.tree) }
+    ensures equal { IfOk result (λ key. (other : WellFormed)
+        → (string_bytes key.text ≡ canonical other.tree) ↔ Same value.now.tree other.tree) }
+{
+    let text = canonical_json(alloc, value)?;
+    Ok(CanonicalKey { text })
+}
+
+/// Whether two values have one key, which is whether they are equal.
+fn same_key(alloc: Global, a: &IValue, b: &IValue) -> Result<bool, AllocError>
+    ensures { IfOk result (λ same. IsTrue same ↔ Same a.now.tree b.now.tree) }
+{
+    let key = key_of(alloc, a)?;
+    let other = key_of(alloc, b)?;
+    Ok(key == other)
+}
+
+/// Two texts, and whether their values are equal.
+const PAIRS: [(&str, &str, bool); 5] = [
+    (
+        "{\"b\":2.0,\"a\":[10,0.0]}",
+        "{\"a\":[1e1,-0],\"b\":2}",
+        true,
+    ),
+    ("[1,2]", "[2,1]", false),
+    ("{\"a\":1}", "{\"a\":1,\"b\":null}", false),
+    ("\"1\"", "1", false),
+    ("1e400", "10e399", true),
+];
+
+#[test]
+fn keys_tell_values_apart(rt: HostRuntime) -> Result<(), Fail> {
+    let alloc = rt.alloc();
+    for (a, b, same) in PAIRS {
+        assert_eq!(rt; same_key(alloc, &read(alloc, a)?, &read(alloc, b)?)?, same);
+    }
+    Ok(())
+}
