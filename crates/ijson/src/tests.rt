@@ -3,6 +3,7 @@
 
 mod arrays;
 mod cache;
+mod callers;
 mod canonical;
 mod conversions;
 mod devices;
