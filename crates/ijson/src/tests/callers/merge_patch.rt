@@ -27,6 +27,7 @@ fn merge(alloc: Global, target: IValue, patch: &IValue) -> Result<IValue, AllocE
                 return Err(AllocError);
             };
             let value = merge(alloc, place.take(), change)?;
+            // Not `*place = value`, which has a path for each kind that the old value may be of.
             drop(mem::replace(place, value));
         }
     }

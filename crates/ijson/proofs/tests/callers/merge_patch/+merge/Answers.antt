@@ -1,5 +1,6 @@
 use Rattle.std.proofs.Common.{◌≡◌, ◌≢◌, ◌∷◌, arith, sym, ap, ◌∙◌}
 use Rattle.std.specs.Option.{unwrap_or}
+use Rattle.std.specs.Prelude.{is_ok}
 use mathlib.Core.Bool.{true≢false}
 use Rattle.ijson_table.specs.Store.{lookup, put}
 use Rattle.ijson_value.specs.Kind.{kind_of}
@@ -8,7 +9,8 @@ use Rattle.ijson_value.specs.Values.{null_value, object_tree}
 use Rattle.ijson_value.specs.WellFormed.{tree_of, pair_trees}
 use Rattle.ijson_value.specs.declared.value.ValueType.TheVariants.{Null}
 use Rattle.ijson.specs.MergePatch.{members_in, merged_into}
-use Rattle.ijson.proofs.Merged.{one_taken_out, one_put, is_ok_at, joined_again}
+use Rattle.ijson.proofs.MemberTrees.{joined_again}
+use Rattle.ijson.proofs.Merged.{one_taken_out, one_put}
 use Rattle.ijson.proofs.tests.callers.merge_patch.+merge.Goals as goal
 
 pub loop-key-preserved-then-is_null : goal.loop-key-preserved-then-is_null
@@ -38,7 +40,7 @@ loop-key-preserved t c =
     let not_null : kind_of change.tree ≢ Null = λ e. absurd (true≢false (sym (c.is_null.ensures.1 e) ∙ c.if-is_null.false)) in
     let old = c.take.ensures.taken ∙ c.in-Ok.ensures.value ∙ ap (λ k. unwrap_or (lookup k ps) null_value) copied in
     let made = ap tree_of c.replace.ensures.after ∙ c.in_ok-value.ensures in
-    let kept = (c.index_or_insert.follows.holds w (is_ok_at c.index_or_insert.result c.in-Ok.place c.in-Ok.is)).0 ∙ ap (λ k. put ps k w) copied in
+    let kept = (c.index_or_insert.follows.holds w (ap is_ok c.in-Ok.is)).0 ∙ ap (λ k. put ps k w) copied in
     record {
       below = omega (arith, ap (λ ps. members_depth (pair_trees ps)) left, c.loop-key.invariant.below);
       whole = ap (λ ms. object (members_of ms)) (one_put ps (c.index_or_insert.follows.lender w).pairs rest key change c.take.result w not_null old made kept
