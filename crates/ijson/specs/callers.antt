@@ -1,3 +1,4 @@
 pub mod Documents
+pub mod MergePatch
 pub mod Records
 pub mod Total

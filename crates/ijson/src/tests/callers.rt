@@ -3,5 +3,6 @@
 
 mod canonical_key;
 mod documents;
+mod merge_patch;
 mod records;
 mod total;
