@@ -11,7 +11,7 @@ use Rattle.ijson_value.specs.WellFormed.{WellFormed, tree_of, pair_trees}
 use Rattle.ijson_value.specs.declared.value.ValueType.TheVariants.{Null}
 use Rattle.ijson_value.specs.laws.Steps.{value_at}
 use Rattle.ijson.specs.callers.MergePatch.{members_in, changed, merged, merged_into}
-use Rattle.ijson.proofs.callers.MemberTrees.{put-members, shift-members}
+use Rattle.ijson_value.specs.laws.MemberTrees.{put-members, shift_out-members}
 
 -- what null takes out, and what any other value puts
 changed-null : (ms : List (List ℕ × Tree)) (key : List ℕ) (patch value : Tree) → kind_of patch ≡ Null
@@ -40,7 +40,7 @@ pub one_taken_out : (ps new rest : List (List ℕ × WellFormed)) (key : List �
 one_taken_out ps new rest key v is_null left =
     let ms = members_in (object_tree ps) in
     ap (λ ms. merged_into ms (pair_trees rest))
-    (ap (λ qs. members_in (object_tree qs)) left ∙ shift-members ps key
+    (ap (λ qs. members_in (object_tree qs)) left ∙ shift_out-members ps key
     ∙ sym (changed-null ms key v.tree (merged (unwrap_or (lookup key ms) null) v.tree) is_null))
 
 -- and once its first member put one

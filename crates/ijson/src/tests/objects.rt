@@ -231,18 +231,39 @@ fn and_modify(object: &mut IObject, key: IString) -> Result<usize, Fail> {
 }
 
 #[test]
-fn entries(rt: HostRuntime) -> Result<(), Fail> {
-    let alloc = rt.alloc();
-    let a = text(alloc, "a")?;
-    let mut object = IObject::new(alloc);
-    let key = asked(&mut object, text(alloc, "k")?)?;
+fn an_entry_gives_its_key_back(rt: HostRuntime) -> Result<(), Fail> {
+    let mut object = IObject::new(rt.alloc());
+    let key = asked(&mut object, text(rt.alloc(), "k")?)?;
     assert!(rt; key.eq_str("k") && object.is_empty() && object.capacity() == 4);
+    Ok(())
+}
+
+#[test]
+fn entries_put_once(rt: HostRuntime) -> Result<(), Fail> {
+    let a = text(rt.alloc(), "a")?;
+    let mut object = IObject::new(rt.alloc());
     assert_eq!(rt; or_insert(&mut object, &a, 1)?, 1);
     assert_eq!(rt; or_insert(&mut object, &a, 2)?, 1);
     assert_eq!(rt; or_insert_with(&mut object, &a)?, (1, 0));
-    assert_eq!(rt; or_insert_with(&mut object, &key)?, (3, 1));
-    assert_eq!(rt; and_modify(&mut object, a)?, 1);
-    assert_eq!(rt; and_modify(&mut object, text(alloc, "x")?)?, 0);
+    Ok(())
+}
+
+#[test]
+fn entries_call_where_nothing_is(rt: HostRuntime) -> Result<(), Fail> {
+    let mut object = IObject::new(rt.alloc());
+    assert_eq!(rt;
+        or_insert_with(&mut object, &text(rt.alloc(), "k")?)?,
+        (3, 1)
+    );
+    assert_eq!(rt; number_at(&object, "k"), 3);
+    Ok(())
+}
+
+#[test]
+fn entries_are_modified(rt: HostRuntime) -> Result<(), Fail> {
+    let mut object = of_keys(rt.alloc(), &["a", "k"])?;
+    assert_eq!(rt; and_modify(&mut object, text(rt.alloc(), "a")?)?, 1);
+    assert_eq!(rt; and_modify(&mut object, text(rt.alloc(), "x")?)?, 0);
     assert!(rt; number_at(&object, "a") == 5 && number_at(&object, "x") == 6);
     assert!(rt; has_keys(&object, &["a", "k", "x"]));
     Ok(())
@@ -260,16 +281,20 @@ fn occupied(rt: &impl Abort, object: &mut IObject, key: &IString) -> Result<(), 
 }
 
 #[test]
+fn occupied_entries(rt: HostRuntime) -> Result<(), Fail> {
+    let mut object = of_keys(rt.alloc(), &["a", "k", "x", "n"])?;
+    occupied(&rt, &mut object, &text(rt.alloc(), "k")?)?;
+    assert!(rt; has_keys(&object, &["a", "n", "x"]));
+    Ok(())
+}
+
+#[test]
 fn indexed_entries(rt: HostRuntime) -> Result<(), Fail> {
-    let alloc = rt.alloc();
-    let key = text(alloc, "k")?;
-    let mut object = of_keys(alloc, &["a", "k", "x"])?;
-    assert!(rt; *object.index_or_insert(text(alloc, "n")?)? == IValue::NULL);
-    *object.index_or_insert(text(alloc, "a")?)? = of_number(7);
+    let mut object = of_keys(rt.alloc(), &["a", "k", "x"])?;
+    assert!(rt; object.index_or_insert(text(rt.alloc(), "n")?)?.is_null());
+    *object.index_or_insert(text(rt.alloc(), "a")?)? = of_number(7);
     assert!(rt; has_keys(&object, &["a", "k", "x", "n"]) && number_at(&object, "a") == 7);
     assert_eq!(rt; object.capacity(), 4);
-    occupied(&rt, &mut object, &key)?;
-    assert!(rt; has_keys(&object, &["a", "n", "x"]));
     Ok(())
 }
 

@@ -16,19 +16,13 @@ use Rattle.ijson_value.specs.Step.{Step, by_position, by_key, kind_for, tree_at,
 use Rattle.ijson_value.specs.Tree.{Tree, null, boolean, number, string, array, object, items_of, items_list, members_of, members_list}
 use Rattle.ijson_value.specs.Values.{array_tree, object_tree}
 use Rattle.ijson_value.specs.WellFormed.{WellFormed, tree_of, item_trees, pair_trees}
+use Rattle.ijson_value.specs.laws.MemberTrees.{pair_tree, members_list-pairs, keys_of-trees, put-trees}
 use Rattle.ijson_value.specs.declared.value.Destructured.{Destructured}
 use Rattle.ijson_value.specs.declared.value.Destructured.TheVariants.{Null, Bool as Truth, Number, String, Array, Object}
-
-abbrev pair_tree : List ℕ × WellFormed → List ℕ × Tree
-pair_tree p = (p.0, tree_of p.1)
 
 items_list-items : (vs : List WellFormed) → items_list (item_trees vs) ≡ map tree_of vs
 items_list-items [] = refl
 items_list-items (v ∷ vs) = ap (λ ts. v.tree ∷ ts) (items_list-items vs)
-
-members_list-pairs : (ps : List (List ℕ × WellFormed)) → members_list (pair_trees ps) ≡ map pair_tree ps
-members_list-pairs [] = refl
-members_list-pairs (p ∷ ps) = ap (λ ms. pair_tree p ∷ ms) (members_list-pairs ps)
 
 -- where something stands there, the kind is the one that the step starts from
 pub kind_at : (t : Tree) (step : Step) → IsSome (tree_at t step) → kind_of t ≡ kind_for step
@@ -63,10 +57,6 @@ item_without vs i =
     ∙ ap (λ ts. ts ++ map tree_of (drop (suc i) vs)) (sym (take-map tree_of i vs))
     ∙ ap (λ ts. take i (map tree_of vs) ++ ts) (sym (drop-map tree_of (suc i) vs)))
     ∙ ap (λ ts. array (items_of (remove ts i))) (sym (items_list-items vs))
-
-keys_of-trees : (ps : List (List ℕ × WellFormed)) → keys_of (map pair_tree ps) ≡ keys_of ps
-keys_of-trees [] = refl
-keys_of-trees (p ∷ ps) = ap (λ ks. p.0 ∷ ks) (keys_of-trees ps)
 
 get_or-trees : (ps : List (List ℕ × WellFormed)) (i : ℕ) (d : List ℕ × WellFormed)
     → pair_tree (get_or ps i d) ≡ get_or (map pair_tree ps) i (pair_tree d)
@@ -103,15 +93,6 @@ value_without ps key = ap (λ ms. object (members_of ms)) (swap_out_key-trees ps
     ∙ ap (λ ms. object (members_of (swap_out_key key ms))) (sym (members_list-pairs ps))
 
 -- with another there
-put-trees : (ps : List (List ℕ × WellFormed)) (key : List ℕ) (w : WellFormed)
-    → map pair_tree (put ps key w) ≡ put (map pair_tree ps) key w.tree
-put-trees [] key w = refl
-put-trees (p ∷ ps) key w = elim (bytes_eq p.0 key) as (λ b. map pair_tree (cond b ((p.0, w) ∷ ps) (p ∷ put ps key w))
-    ≡ cond b ((p.0, w.tree) ∷ map pair_tree ps) (pair_tree p ∷ put (map pair_tree ps) key w.tree)) [
-      | true ↦ refl
-      | false ↦ ap (λ ms. pair_tree p ∷ ms) (put-trees ps key w)
-    ]
-
 item_with : (vs : List WellFormed) (i : ℕ) (w : WellFormed)
     → array_tree (set vs i w) ≡ tree_with (array_tree vs) (by_position i) w.tree
 item_with vs i w = ap (λ ts. array (items_of ts)) (map-set tree_of vs i w)

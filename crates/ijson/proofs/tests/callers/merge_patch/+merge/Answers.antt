@@ -9,7 +9,7 @@ use Rattle.ijson_value.specs.Values.{null_value, object_tree}
 use Rattle.ijson_value.specs.WellFormed.{tree_of, pair_trees}
 use Rattle.ijson_value.specs.declared.value.ValueType.TheVariants.{Null}
 use Rattle.ijson.specs.callers.MergePatch.{members_in, merged_into}
-use Rattle.ijson.proofs.callers.MemberTrees.{joined_again}
+use Rattle.ijson_value.specs.laws.MemberTrees.{members_of-list}
 use Rattle.ijson.proofs.callers.Merged.{one_taken_out, one_put}
 use Rattle.ijson.proofs.tests.callers.merge_patch.+merge.Goals as goal
 
@@ -52,6 +52,6 @@ pub returns : goal.returns
 returns t c =
     let ps = c.loop-key.object.pairs in
     ap tree_of c.from.ensures
-    ∙ ap object (sym (joined_again (pair_trees ps)))
+    ∙ ap object (sym (members_of-list (pair_trees ps)))
     ∙ ap (λ l. object (members_of (merged_into (members_in (object_tree ps)) (pair_trees l)))) (sym c.in-None.ensures.steps.0)
     ∙ c.loop-key.invariant.whole
