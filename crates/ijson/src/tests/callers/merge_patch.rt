@@ -11,7 +11,7 @@ use std::mem;
 use std::test::Fail;
 
 /// What `patch` makes of `target`. The error comes where there was no memory for a copy of a value or of a key of the patch, or for
-/// one pair more; the target is gone then.
+/// one pair more, which also is where an object has as many as it can have (2^56); the target is gone then.
 fn merge(alloc: Global, target: IValue, patch: &IValue) -> Result<IValue, AllocError>
     ensures { IfOk result (λ value. value.tree ≡ merged target.tree patch.now.tree) }
 {
