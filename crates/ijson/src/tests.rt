@@ -1,5 +1,5 @@
 //! What no clause says, of every crate: a module per kind of value, and what crosses the crates: the written texts and the places of
-//! faults, devices, and refusals of memory.
+//! faults, devices, and refusals of memory; and callers with contracts of their own.
 
 mod arrays;
 mod cache;
