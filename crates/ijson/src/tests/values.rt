@@ -10,6 +10,7 @@ use crate::number::INumber;
 use crate::string::IString;
 use crate::{Destructured, DestructuredMut, DestructuredRef, IArray, IObject, IValue, ValueType};
 use std::alloc::Global;
+use std::process::Abort;
 use std::test::Fail;
 
 /// Sets the value at a position to null.
@@ -164,12 +165,16 @@ fn kinds_and_parts(rt: HostRuntime) -> Result<(), Fail> {
         assert!(rt; is_of_kind(&value, told.0));
         empty(&mut value);
         assert!(rt; value == read(rt.alloc(), left)?);
-        let taken = value.take();
-        assert!(rt; value.is_null() && is_of_kind(&taken, told.0));
-        let back = handed_back(taken).is_some();
-        assert_eq!(rt; back, told.0 < ValueType::Number);
+        is_taken(&rt, value, told.0);
     }
     Ok(())
+}
+
+/// Takes a value of a kind, which leaves null, and takes it apart.
+fn is_taken(rt: &impl Abort, mut value: IValue, kind: ValueType) {
+    let taken = value.take();
+    assert!(rt; value.is_null() && is_of_kind(&taken, kind));
+    assert_eq!(rt; handed_back(taken).is_some(), kind < ValueType::Number);
 }
 
 /// Whether a number answers these integers, and whether the others are these as well.
@@ -208,19 +213,32 @@ fn integers(rt: HostRuntime) -> Result<(), Fail> {
     for (text, i32_, u32_, i64_, u64_) in INTEGERS {
         assert!(rt; are_integers(&read(rt.alloc(), text)?, i32_, u32_, i64_, u64_));
     }
-    assert!(rt; IValue::from(i8::MIN).to_i32() == Some(-128));
-    assert!(rt; IValue::from(i16::MAX).to_i32() == Some(32767));
-    assert!(rt; IValue::from(i32::MIN).to_i32() == Some(i32::MIN));
-    assert!(rt; IValue::from(i64::MIN).to_i64() == Some(i64::MIN));
-    assert!(rt; IValue::from(isize::MAX).to_isize() == Some(isize::MAX));
-    assert!(rt; IValue::from(u8::MAX).to_u32() == Some(255));
-    assert!(rt; IValue::from(u16::MAX).to_u32() == Some(65535));
-    assert!(rt; IValue::from(u32::MAX).to_u32() == Some(u32::MAX));
-    assert!(rt; IValue::from(u64::MAX).to_u64() == Some(u64::MAX));
-    assert!(rt; IValue::from(usize::MAX).to_usize() == Some(usize::MAX));
-    assert!(rt; IValue::from(Some(true)).is_true());
-    assert!(rt; IValue::from(None::<u8>).is_null());
     Ok(())
+}
+
+/// Whether a value is this integer.
+fn is_signed(value: IValue, want: i64) -> bool {
+    value.to_i64() == Some(want)
+}
+
+/// Whether a value is this integer.
+fn is_unsigned(value: IValue, want: u64) -> bool {
+    value.to_u64() == Some(want)
+}
+
+#[test]
+fn each_width(rt: HostRuntime) {
+    assert!(rt; is_signed(i8::MIN.into(), -128) && is_signed(i16::MAX.into(), 32767));
+    assert!(rt; is_signed(i32::MIN.into(), -2147483648));
+    assert!(rt; is_signed(i64::MIN.into(), i64::MIN) && is_signed(isize::MAX.into(), i64::MAX));
+    assert!(rt; is_unsigned(u8::MAX.into(), 255) && is_unsigned(u16::MAX.into(), 65535));
+    assert!(rt; is_unsigned(u32::MAX.into(), 4294967295));
+    assert!(rt; is_unsigned(u64::MAX.into(), u64::MAX) && is_unsigned(usize::MAX.into(), u64::MAX));
+}
+
+#[test]
+fn options(rt: HostRuntime) {
+    assert!(rt; IValue::from(Some(true)).is_true() && IValue::from(None::<u8>).is_null());
 }
 
 /// Writes into the array beside `b`, and sets `c` to null.
