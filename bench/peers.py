@@ -46,17 +46,18 @@ def stamp(source, crates):
     return made_of.hexdigest() + "\n"
 
 
-def rattle_program(name, dependencies, crates):
-    """Proves and builds NAME/main.rt.txt in a workspace for itself, which has copies of the crates, unless the program that is kept is of these sources.
+def rattle_program(name, dependencies, crates, folder=BENCH):
+    """Proves and builds NAME/main.rt.txt of a folder in a workspace for itself, which has copies of the crates, unless the program that is kept
+    is of these sources.
 
     The workspace is no folder of the repository, since the gate wants the one list of crates at the top.
     """
-    source, program, kept_stamp = BENCH / name / "main.rt.txt", KEPT / name, KEPT / f"{name}.stamp"
+    source, program, kept_stamp = folder / name / "main.rt.txt", KEPT / name, KEPT / f"{name}.stamp"
     made_of = stamp(source, crates)
     if program.exists() and kept_stamp.exists() and kept_stamp.read_text() == made_of:
         return program
-    with tempfile.TemporaryDirectory() as folder:
-        work = pathlib.Path(folder)
+    with tempfile.TemporaryDirectory() as workspace:
+        work = pathlib.Path(workspace)
         for crate in crates:
             for part in "src", "specs", "proofs", "out/rlib":
                 if (CRATES / crate / part).exists():

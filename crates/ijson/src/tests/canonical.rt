@@ -3,7 +3,7 @@
 use super::{push_times, read};
 use crate::array::IArray;
 use crate::canonical::canonical_json;
-use crate::json::JsonError;
+use crate::json::{JsonError, to_json};
 use crate::value::IValue;
 use std::alloc::Global;
 use std::test::Fail;
@@ -50,7 +50,7 @@ fn canonical_texts(rt: HostRuntime) -> Result<(), Fail> {
     Ok(())
 }
 
-/// 128 arrays, one inside the other, which is more than is read.
+/// 128 arrays, one inside the other, which are written and not read.
 #[test]
 fn canonical_at_any_depth(rt: HostRuntime) -> Result<(), Fail> {
     let alloc = rt.alloc();
@@ -65,5 +65,7 @@ fn canonical_at_any_depth(rt: HostRuntime) -> Result<(), Fail> {
     }
     let found = canonical_json(alloc, &value)?;
     assert_eq!(rt; found.as_str(), text.as_str());
+    assert_eq!(rt; to_json(alloc, &value)?.as_str(), text.as_str());
+    assert!(rt; read(alloc, text.as_str()).err() == Some(JsonError::TooDeep { at: 127 }));
     Ok(())
 }

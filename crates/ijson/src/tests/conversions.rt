@@ -5,7 +5,7 @@ use crate::ijson;
 use crate::json::to_json;
 use crate::value::IValue;
 use indexmap::IndexMap;
-use std::alloc::{AllocError, Global};
+use std::alloc::Global;
 use std::collections::BTreeMap;
 use std::test::Fail;
 
@@ -84,7 +84,7 @@ fn pairs_of_maps_are_objects(rt: HostRuntime) -> Result<(), Fail> {
         Some(r#"{"b":1,"a":2,"eight888":3}"#),
     ];
     for kind in 0..3usize {
-        let object = object_of_map(alloc, &mut cache, kind).ok_or(AllocError)?;
+        let object = object_of_map(alloc, &mut cache, kind)?;
         assert_eq!(rt; (object.len(), object.capacity()), (3, 3));
         let value = IValue::from(object);
         assert!(rt; value == same);

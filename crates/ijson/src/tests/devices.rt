@@ -12,6 +12,7 @@ use std::alloc::Global;
 use std::collections::VecDeque;
 use std::io;
 use std::io::{ErrorKind, Read, Write};
+use std::process::Abort;
 use std::test::Fail;
 
 /// The most bytes that a `Slow` moves in one call.
@@ -20,6 +21,19 @@ const SLOW: usize = 3;
 const TEXT: &[u8] = b"[1.50,true]";
 
 const LINE: &[u8] = b"[1.5,true]\n";
+
+/// Asserts that this line and the status 2 are reported of an answer.
+fn reported(
+    rt: &impl Abort,
+    alloc: Global,
+    answer: &Result<(), CompactError>,
+    line: &[u8],
+) -> Result<(), Fail> {
+    let mut errors = MemorySink::new(alloc, 3, 100)?;
+    assert_eq!(rt; report(answer, &mut errors), 2);
+    assert_eq!(rt; errors.bytes(), line);
+    Ok(())
+}
 
 #[test]
 fn a_sink_that_fails_got_a_beginning(rt: HostRuntime) -> Result<(), Fail> {
@@ -34,6 +48,7 @@ fn a_sink_that_fails_got_a_beginning(rt: HostRuntime) -> Result<(), Fail> {
                 &mut empty_cache(rt.alloc()),
             );
             assert_eq!(rt; answer, Err(CompactError::Write));
+            reported(&rt, rt.alloc(), &answer, b"ijson: write failed\n")?;
             assert!(rt; LINE.starts_with(output.bytes()));
             assert_eq!(rt; (output.bytes().len(), output.failures()), (fail_at, 1));
         }
@@ -65,43 +80,53 @@ fn a_source_that_fails_leaves_the_sink(rt: HostRuntime) -> Result<(), Fail> {
                 &mut empty_cache(rt.alloc()),
             );
             assert_eq!(rt; answer, Err(CompactError::Read));
+            reported(&rt, rt.alloc(), &answer, b"ijson: read failed\n")?;
             assert_eq!(rt; (output.bytes().len(), input.failures()), (0, 1));
         }
     }
     Ok(())
 }
 
-/// Texts, what is written of each, the line and the status.
-const TEXTS: [(&[u8], &[u8], &[u8], u8); 6] = [
-    (b" [1.50, true ] ", LINE, b"", 0),
-    (b"[1,]", b"", b"ijson: syntax at byte 3\n", 1),
-    (b"[1 2]", b"", b"ijson: syntax at byte 3\n", 1),
-    (
-        b"10e1073741824",
-        b"",
-        b"ijson: number out of range at byte 0\n",
-        1,
-    ),
-    (&[0x22, 0xff, 0x22], b"", b"ijson: input is not UTF-8\n", 1),
-    (&[0x22, 0x09, 0x22], b"", b"ijson: syntax at byte 1\n", 1),
-];
-
-/// What `compact` and `report` write of a text, and the status.
-#[test]
-fn texts_and_their_lines(rt: HostRuntime) -> Result<(), Fail> {
-    for (text, written, line, status) in TEXTS {
-        let mut input = MemorySource::new(text, 4, 100);
-        let mut output = MemorySink::new(rt.alloc(), 4, 100)?;
-        let mut errors = MemorySink::new(rt.alloc(), 4, 100)?;
-        let answer = compact(
-            rt.alloc(),
-            &mut input,
-            &mut output,
-            &mut empty_cache(rt.alloc()),
-        );
+/// Asserts what `compact` and `report` write of a text over devices that move 1, 2 or 3 bytes a call, and the status.
+pub fn compacts(
+    rt: &impl Abort,
+    alloc: Global,
+    text: &[u8],
+    written: &[u8],
+    line: &[u8],
+    status: u8,
+) -> Result<(), Fail> {
+    for piece in 1..4usize {
+        let mut input = MemorySource::new(text, piece, text.len() + 1);
+        let mut output = MemorySink::new(alloc, piece, written.len() + 1)?;
+        let mut errors = MemorySink::new(alloc, piece, 100)?;
+        let answer = compact(alloc, &mut input, &mut output, &mut empty_cache(alloc));
         assert_eq!(rt; report(&answer, &mut errors), status);
         assert_eq!(rt; output.bytes(), written);
         assert_eq!(rt; errors.bytes(), line);
+    }
+    Ok(())
+}
+
+/// Bytes, what is written of each, the line and the status.
+const TEXTS: [(&[u8], &[u8], &[u8], u8); 6] = [
+    (b" [1.50, true ] ", LINE, b"", 0),
+    (&[0x22, 0x7f, 0x22], &[0x22, 0x7f, 0x22, 0x0a], b"", 0),
+    (b"[1,]", b"", b"ijson: syntax at byte 3\n", 1),
+    (&[0x22, 0xff, 0x22], b"", b"ijson: input is not UTF-8\n", 1),
+    (&[0x22, 0x09, 0x22], b"", b"ijson: syntax at byte 1\n", 1),
+    (
+        &[0xef, 0xbb, 0xbf, 0x31],
+        b"",
+        b"ijson: syntax at byte 0\n",
+        1,
+    ),
+];
+
+#[test]
+fn texts_and_their_lines(rt: HostRuntime) -> Result<(), Fail> {
+    for (text, written, line, status) in TEXTS {
+        compacts(&rt, rt.alloc(), text, written, line, status)?;
     }
     Ok(())
 }

@@ -1,8 +1,9 @@
 //! Where faults are told: byte offsets from 0.
 
+use super::devices::compacts;
 use super::{push_times, read};
 use crate::json::JsonError;
-use std::alloc::Global;
+use std::alloc::{AllocError, Global};
 use std::process::Abort;
 use std::test::Fail;
 
@@ -51,9 +52,10 @@ const NUMBER_SYNTAX: [(&str, usize); 14] = [
 ];
 
 /// Texts of strings that are no JSON, and where that is told.
-const STRING_SYNTAX: [(&str, usize); 15] = [
+const STRING_SYNTAX: [(&str, usize); 16] = [
     ("\"", 1),
     ("\"abc", 4),
+    ("\"\t\"", 1),
     ("\"a\tb\"", 2),
     ("\"\u{1f}\"", 1),
     ("\"\\ud83d\"", 1),
@@ -79,33 +81,50 @@ const NUMBER_RANGE: [(&str, usize); 6] = [
     ("{\"a\":1e1073741825,\"a\":1}", 5),
 ];
 
-fn refused(rt: &impl Abort, alloc: Global, text: &str, fault: JsonError) {
+/// The line that reports a fault.
+fn line_of(alloc: Global, fault: JsonError) -> Result<String, AllocError> {
+    match fault {
+        JsonError::Syntax { at } => format!(in alloc; "ijson: syntax at byte {at}\n"),
+        JsonError::TooDeep { at } => format!(in alloc; "ijson: nesting too deep at byte {at}\n"),
+        JsonError::NumberRange { at } => {
+            format!(in alloc; "ijson: number out of range at byte {at}\n")
+        }
+        JsonError::Memory => format!(in alloc; "ijson: out of memory\n"),
+    }
+}
+
+/// Asserts that a text is refused with a fault, as it is and from a device.
+fn refused(rt: &impl Abort, alloc: Global, text: &str, fault: JsonError) -> Result<(), Fail> {
     assert!(rt; read(alloc, text).err() == Some(fault), "{text}");
+    let line = line_of(alloc, fault)?;
+    compacts(rt, alloc, text.as_bytes(), b"", line.as_bytes(), 1)
 }
 
-fn no_syntax(rt: &impl Abort, alloc: Global, rows: &[(&str, usize)]) {
+fn no_syntax(rt: &impl Abort, alloc: Global, rows: &[(&str, usize)]) -> Result<(), Fail> {
     for (text, at) in rows {
-        refused(rt, alloc, text, JsonError::Syntax { at: *at });
+        refused(rt, alloc, text, JsonError::Syntax { at: *at })?;
     }
+    Ok(())
 }
 
 #[test]
-fn syntax(rt: HostRuntime) {
-    no_syntax(&rt, rt.alloc(), &SYNTAX);
-    no_syntax(&rt, rt.alloc(), &NUMBER_SYNTAX);
-    no_syntax(&rt, rt.alloc(), &STRING_SYNTAX);
+fn syntax(rt: HostRuntime) -> Result<(), Fail> {
+    no_syntax(&rt, rt.alloc(), &SYNTAX)?;
+    no_syntax(&rt, rt.alloc(), &NUMBER_SYNTAX)?;
+    no_syntax(&rt, rt.alloc(), &STRING_SYNTAX)
 }
 
 #[test]
-fn number_range(rt: HostRuntime) {
+fn number_range(rt: HostRuntime) -> Result<(), Fail> {
     for (text, at) in NUMBER_RANGE {
-        refused(&rt, rt.alloc(), text, JsonError::NumberRange { at });
+        refused(&rt, rt.alloc(), text, JsonError::NumberRange { at })?;
     }
+    Ok(())
 }
 
 /// Each proper beginning of a text is refused: inside the escape at its backslash, else at its end.
 #[test]
-fn beginnings(rt: HostRuntime) {
+fn beginnings(rt: HostRuntime) -> Result<(), Fail> {
     let text = "{\"a\":[1.5e3,\"\\u00e9\"],\"b\":null}";
     assert_eq!(rt; text.len(), 31);
     for length in 0..31usize {
@@ -117,8 +136,9 @@ fn beginnings(rt: HostRuntime) {
         } else {
             length
         };
-        refused(&rt, rt.alloc(), beginning, JsonError::Syntax { at });
+        refused(&rt, rt.alloc(), beginning, JsonError::Syntax { at })?;
     }
+    Ok(())
 }
 
 /// Texts that are too deep: what stands in front, an opening, how often, what is inside, a closing, what stands behind, and where it is told.
@@ -138,7 +158,7 @@ fn too_deep(rt: HostRuntime) -> Result<(), Fail> {
         push_times(&mut text, inside, 1)?;
         push_times(&mut text, closing, count)?;
         push_times(&mut text, behind, 1)?;
-        refused(&rt, alloc, text.as_str(), JsonError::TooDeep { at });
+        refused(&rt, alloc, text.as_str(), JsonError::TooDeep { at })?;
     }
     Ok(())
 }

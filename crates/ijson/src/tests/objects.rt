@@ -3,7 +3,7 @@
 ghost use Rattle.std.specs.Prelude.{◌≡◌, ◌≢◌, [], ◌∷◌, true, false, OnOk};
 ghost use Rattle.ijson_value.specs.Values.{boolean_value};
 
-use super::text;
+use super::{empty_cache, text};
 use crate::number::INumber;
 use crate::object::{Entry, IObject, RefusedPair};
 use crate::string::IString;
@@ -365,10 +365,9 @@ fn retained(rt: HostRuntime) -> Result<(), Fail> {
 
 #[test]
 fn two_are_put_and_one_is_kept(rt: HostRuntime) -> Result<(), Fail> {
-    let first = text(rt.alloc(), "a")?;
-    let second = text(rt.alloc(), "b")?;
+    let first = IString::intern(&mut empty_cache(rt.alloc()), "a")?;
+    let second = IString::intern(&mut empty_cache(rt.alloc()), "b")?;
     let mut object = IObject::new(rt.alloc());
-    assert!(rt; object.iter().next().is_none());
     put_two(&mut object, &first, &second)?;
     assert_eq!(rt; keep_true(&mut object, &first, &second), (true, true));
     assert!(rt; IObject::new(rt.alloc()).into_iter().next().is_none());

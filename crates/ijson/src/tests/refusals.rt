@@ -1,5 +1,8 @@
-//! Each test here holds under any one refused request for memory: a refused call is checked for what it promises to leave, and made again.
+//! Each test here holds under any one refused request for memory: what a refused call leaves is compared whole, and the call is made again.
 //! The repository's `check` runs each with its first request refused, with its second, and so on.
+
+mod no_memory;
+mod objects;
 
 use super::{Cache, empty_cache};
 use crate::array::IArray;
@@ -10,13 +13,14 @@ use crate::json::{
     push_separator, report, to_json,
 };
 use crate::number::{INumber, ParseNumberError};
-use crate::object::{IObject, RefusedKey, RefusedPair};
+use crate::object::IObject;
 use crate::string::IString;
 use crate::table::ReserveError;
 use crate::value::IValue;
 use indexmap::IndexMap;
 use std::alloc::{AllocError, Global};
 use std::collections::{BTreeMap, HashMap};
+use std::process::Abort;
 use std::test::Fail;
 
 #[test]
@@ -42,77 +46,116 @@ fn number_of_many_digits(rt: HostRuntime) -> Result<(), Fail> {
     Ok(())
 }
 
+fn number(at: usize) -> IValue {
+    IValue::from(at)
+}
+
+/// Whether the items of an array are the numbers from 0 on, so many of them.
+fn counts(array: &IArray, len: usize) -> bool {
+    array.len() == len
+        && array
+            .iter()
+            .enumerate()
+            .all(|(at, item)| item.to_usize() == Some(at))
+}
+
 #[test]
 fn array_push(rt: HostRuntime) {
     let mut array = IArray::new(rt.alloc());
     for len in 0..20usize {
-        if let Err(refused) = array.push(IValue::TRUE) {
-            assert_eq!(rt; array.len(), len);
-            assert!(rt; refused.0 == IValue::TRUE);
+        let capacity = array.capacity();
+        if let Err(refused) = array.push(number(len)) {
+            assert!(rt; counts(&array, len) && array.capacity() == capacity);
+            assert!(rt; refused.0 == number(len));
             assert!(rt; array.push(refused.0).is_ok());
         }
     }
-    assert_eq!(rt; array.len(), 20);
-    assert!(rt; array.as_slice().iter().all(|item| *item == IValue::TRUE));
+    assert!(rt; counts(&array, 20));
+}
+
+/// An array of the numbers 1 and 2.
+fn one_and_two(alloc: Global) -> Result<IArray, Fail> {
+    let mut array = match IArray::with_capacity(alloc, 2) {
+        Ok(array) => array,
+        Err(AllocError) => IArray::with_capacity(alloc, 2)?,
+    };
+    array.push(number(1))?;
+    array.push(number(2))?;
+    Ok(array)
 }
 
 #[test]
 fn array_room(rt: HostRuntime) -> Result<(), Fail> {
-    let mut array = match IArray::with_capacity(rt.alloc(), 2) {
-        Ok(array) => array,
-        Err(AllocError) => IArray::with_capacity(rt.alloc(), 2)?,
-    };
-    let room = array.capacity();
-    if array.reserve(3).is_err() {
-        assert_eq!(rt; (array.len(), array.capacity()), (0, room));
-        array.reserve(3)?;
+    let mut array = one_and_two(rt.alloc())?;
+    let capacity = array.capacity();
+    if let Err(refused) = array.insert(0, number(0)) {
+        assert!(rt; refused.0 == number(0) && array.capacity() == capacity);
+        assert!(rt; array == one_and_two(rt.alloc())?);
+        array.insert(0, refused.0)?;
     }
-    for _ in 0..3usize {
-        assert!(rt; array.push(IValue::TRUE).is_ok());
+    let capacity = array.capacity();
+    if array.reserve(20).is_err() {
+        assert!(rt; counts(&array, 3) && array.capacity() == capacity);
+        array.reserve(20)?;
     }
-    assert_eq!(rt; array.len(), 3);
-    if let Err(refused) = array.insert(1, IValue::NULL) {
-        assert_eq!(rt; array.len(), 3);
-        assert!(rt; refused.0 == IValue::NULL);
-        array.insert(1, refused.0)?;
+    let capacity = array.capacity();
+    assert!(rt; counts(&array, 3) && capacity >= 23);
+    if array.shrink_to_fit().is_err() {
+        assert!(rt; counts(&array, 3) && array.capacity() <= capacity);
+        array.shrink_to_fit()?;
     }
-    assert_eq!(rt; array.len(), 4);
-    assert!(rt; array.remove(1) == Some(IValue::NULL));
-    assert!(rt; array.shrink_to_fit().is_ok() || array.shrink_to_fit().is_ok());
-    assert_eq!(rt; array.capacity(), 3);
+    assert!(rt; counts(&array, 3) && array.capacity() == 3);
     Ok(())
 }
 
-/// The item at a place of the arrays that follow.
-fn item(at: usize) -> IValue {
-    if at % 2 == 0 {
-        IValue::TRUE
-    } else {
-        IValue::NULL
-    }
+/// A list of the numbers from 0 to 2.
+fn three(alloc: Global) -> Result<Vec<IValue>, AllocError> {
+    Ok(vec![in alloc; number(0), number(1), number(2)]?)
 }
 
 #[test]
 fn array_extend(rt: HostRuntime) -> Result<(), Fail> {
     let mut array = IArray::new(rt.alloc());
-    if let Err(refused) = array.extend((0..9usize).map(item)) {
+    if let Err(refused) = array.extend((0..9usize).map(number)) {
         let added = array.len();
-        assert!(rt; added < 9);
-        assert!(rt; refused.0 == item(added));
+        assert!(rt; added < 9 && counts(&array, added));
+        assert!(rt; refused.0 == number(added));
         array.push(refused.0)?;
-        array.extend((added + 1..9).map(item))?;
+        array.extend((added + 1..9).map(number))?;
     }
-    assert_eq!(rt; array.len(), 9);
-    let again = match IArray::from_iter(rt.alloc(), (0..9usize).map(item)) {
+    assert!(rt; counts(&array, 9));
+    let again = match IArray::from_iter(rt.alloc(), array) {
         Ok(again) => again,
-        Err(_) => IArray::from_iter(rt.alloc(), (0..9usize).map(item))?,
+        Err(refused) => {
+            assert!(rt; refused.0.to_usize().unwrap_or(9) < 9);
+            IArray::from_iter(rt.alloc(), (0..9usize).map(number))?
+        }
     };
-    assert!(rt; array == again);
-    let list = Vec::new(rt.alloc());
-    if let Err(refused) = IArray::from_vec(rt.alloc(), list) {
-        assert!(rt; IArray::from_vec(rt.alloc(), refused.value)?.is_empty());
-    }
+    assert!(rt; counts(&again, 9));
+    let list = match three(rt.alloc()) {
+        Ok(list) => list,
+        Err(AllocError) => three(rt.alloc())?,
+    };
+    let listed = match IArray::from_vec(rt.alloc(), list) {
+        Ok(listed) => listed,
+        Err(refused) => IArray::from_vec(rt.alloc(), refused.value)?,
+    };
+    assert!(rt; counts(&listed, 3));
     Ok(())
+}
+
+/// A cache that holds one text.
+fn used_cache(alloc: Global) -> Result<Cache, Fail> {
+    let mut cache = empty_cache(alloc);
+    if IString::intern(&mut cache, "a text that was there").is_err() {
+        IString::intern(&mut cache, "a text that was there")?;
+    }
+    Ok(cache)
+}
+
+/// Whether a cache that held one text holds it still, and at most so many in all.
+fn is_kept(cache: &Cache, most: usize) -> bool {
+    cache.contains("a text that was there") && cache.len() <= most
 }
 
 fn interned(cache: &mut Cache, text: &str) -> Result<IString, Fail> {
@@ -124,159 +167,36 @@ fn interned(cache: &mut Cache, text: &str) -> Result<IString, Fail> {
     }
 }
 
+/// Texts, and how many a cache of one other text holds once each is interned.
+const TEXTS: [(&str, usize); 4] = [
+    ("seven77", 1),
+    ("eight888", 2),
+    ("interned_string_a", 3),
+    ("eight888", 3),
+];
+
 #[test]
 fn intern(rt: HostRuntime) -> Result<(), Fail> {
-    let mut cache = empty_cache(rt.alloc());
-    for text in ["seven77", "eight888", "interned_string_a"] {
-        let key = interned(&mut cache, text)?;
-        assert!(rt; key.eq_str(text));
-        assert!(rt; key.clone()? == key);
-        let Ok(copy) = key.to_owned_string(rt.alloc()) else {
-            assert!(rt; key.to_owned_string(rt.alloc())?.as_str() == text);
-            continue;
+    let mut cache = used_cache(rt.alloc())?;
+    for (text, count) in TEXTS {
+        let was_there = cache.contains(text);
+        let before = cache.len();
+        let key = match IString::intern(&mut cache, text) {
+            Ok(key) => key,
+            Err(AllocError) => {
+                assert!(rt; !was_there && !cache.contains(text));
+                assert!(rt; count > before && cache.len() == before && is_kept(&cache, 2));
+                IString::intern(&mut cache, text)?
+            }
         };
-        assert!(rt; copy.as_str() == text);
+        assert!(rt; key.eq_str(text) && key.clone()? == key);
+        assert!(rt; cache.len() == count && cache.contains(text) == (text.len() > 7));
+        let copy = match key.to_owned_string(rt.alloc()) {
+            Ok(copy) => copy,
+            Err(AllocError) => key.to_owned_string(rt.alloc())?,
+        };
+        assert!(rt; copy.as_str() == text && key.eq_str(text));
     }
-    assert_eq!(rt; cache.len(), 2);
-    Ok(())
-}
-
-#[test]
-fn object_insert(rt: HostRuntime) -> Result<(), Fail> {
-    let mut cache = empty_cache(rt.alloc());
-    let mut object = IObject::new(rt.alloc());
-    for key in ["a", "b", "c", "d", "e"] {
-        let (len, capacity) = (object.len(), object.capacity());
-        let key = interned(&mut cache, key)?;
-        if let Err(refused) = object.insert(key, IValue::TRUE) {
-            assert_eq!(rt; refused.why, ReserveError::Memory);
-            assert_eq!(rt; (object.len(), object.capacity()), (len, capacity));
-            assert!(rt; object.insert(refused.key, refused.value).is_ok());
-        }
-    }
-    assert_eq!(rt; (object.len(), object.capacity()), (5, 8));
-    let text = written(rt.alloc(), &IValue::from(object))?;
-    assert_eq!(rt;
-        text.as_str(),
-        "{\"a\":true,\"b\":true,\"c\":true,\"d\":true,\"e\":true}"
-    );
-    Ok(())
-}
-
-#[test]
-fn object_room(rt: HostRuntime) -> Result<(), Fail> {
-    let mut cache = empty_cache(rt.alloc());
-    let mut object = match IObject::with_capacity(rt.alloc(), 2) {
-        Ok(object) => object,
-        Err(why) => {
-            assert_eq!(rt; why, ReserveError::Memory);
-            IObject::with_capacity(rt.alloc(), 2)?
-        }
-    };
-    for key in ["a", "longlong"] {
-        let key = interned(&mut cache, key)?;
-        assert!(rt; object.insert(key, IValue::TRUE).is_ok());
-    }
-    if object.reserve(1).is_err() {
-        assert_eq!(rt; (object.len(), object.capacity()), (2, 2));
-        object.reserve(1)?;
-    }
-    assert_eq!(rt; object.capacity(), 4);
-    if object.shrink_to_fit().is_err() {
-        assert_eq!(rt; (object.len(), object.capacity()), (2, 4));
-        object.shrink_to_fit()?;
-    }
-    assert_eq!(rt; (object.len(), object.capacity()), (2, 2));
-    assert!(rt; object.contains_key("longlong"));
-    Ok(())
-}
-
-fn refused_copy(object: &mut IObject, key: &IString) -> Option<ReserveError> {
-    match object.entry_or_clone(key) {
-        Ok(_) => None,
-        Err(why) => Some(why),
-    }
-}
-
-fn refused_entry(object: &mut IObject, key: IString) -> Option<RefusedKey> {
-    match object.entry(key) {
-        Ok(entry) => {
-            entry.or_insert(IValue::TRUE);
-            None
-        }
-        Err(refused) => Some(refused),
-    }
-}
-
-fn refused_index(object: &mut IObject, key: IString) -> Option<RefusedPair> {
-    match object.index_or_insert(key) {
-        Ok(_) => None,
-        Err(refused) => Some(refused),
-    }
-}
-
-#[test]
-fn object_entries(rt: HostRuntime) -> Result<(), Fail> {
-    let mut cache = empty_cache(rt.alloc());
-    let mut object = IObject::new(rt.alloc());
-    for key in ["a", "b", "c", "d", "a", "eight888"] {
-        let (len, capacity) = (object.len(), object.capacity());
-        let there = object.contains_key(key);
-        let key = interned(&mut cache, key)?;
-        if let Some(why) = refused_copy(&mut object, &key) {
-            assert!(rt; !there && why == ReserveError::Memory);
-            assert_eq!(rt; (object.len(), object.capacity()), (len, capacity));
-        }
-        if let Some(refused) = refused_entry(&mut object, key) {
-            assert!(rt; !there && refused.why == ReserveError::Memory);
-            assert_eq!(rt; (object.len(), object.capacity()), (len, capacity));
-            assert!(rt; refused_entry(&mut object, refused.key).is_none());
-        }
-    }
-    assert_eq!(rt; (object.len(), object.capacity()), (5, 8));
-    if object.shrink_to_fit().is_err() {
-        object.shrink_to_fit()?;
-    }
-    let key = interned(&mut cache, "f")?;
-    if let Some(refused) = refused_index(&mut object, key) {
-        assert!(rt; refused.why == ReserveError::Memory && refused.value == IValue::NULL);
-        assert_eq!(rt; (object.len(), object.capacity()), (5, 5));
-        assert!(rt; object.insert(refused.key, refused.value).is_ok());
-    }
-    assert_eq!(rt; (object.len(), object.capacity()), (6, 10));
-    Ok(())
-}
-
-/// An object of the keys a to e.
-fn five(alloc: Global, cache: &mut Cache) -> Result<IObject, Fail> {
-    let mut object = IObject::new(alloc);
-    for key in ["a", "b", "c", "d", "e"] {
-        let key = interned(cache, key)?;
-        if let Err(refused) = object.insert(key, IValue::TRUE) {
-            object.insert(refused.key, refused.value)?;
-        }
-    }
-    Ok(object)
-}
-
-#[test]
-fn object_extend(rt: HostRuntime) -> Result<(), Fail> {
-    let mut cache = empty_cache(rt.alloc());
-    let mut object = IObject::new(rt.alloc());
-    if let Err(refused) = object.extend(five(rt.alloc(), &mut cache)?) {
-        assert_eq!(rt; refused.why, ReserveError::Memory);
-        assert!(rt;
-            (object.len(), object.capacity()) == (0, 0) && refused.key.eq_str("a")
-                || (object.len(), object.capacity()) == (4, 4) && refused.key.eq_str("e")
-        );
-        object.extend(five(rt.alloc(), &mut cache)?)?;
-    }
-    assert_eq!(rt; (object.len(), object.capacity()), (5, 8));
-    let again = match IObject::from_iter(rt.alloc(), five(rt.alloc(), &mut cache)?) {
-        Ok(again) => again,
-        Err(_) => IObject::from_iter(rt.alloc(), five(rt.alloc(), &mut cache)?)?,
-    };
-    assert!(rt; again == object);
     Ok(())
 }
 
@@ -295,21 +215,44 @@ fn written(alloc: Global, value: &IValue) -> Result<String, Fail> {
     }
 }
 
-#[test]
-fn reading_and_writing(rt: HostRuntime) -> Result<(), Fail> {
-    let text =
-        "[1.5,[true,{\"a\":\"longlong\",\"longlong\":\"\\n\"}],12345678901234567890123,null]";
-    let value = read(rt.alloc(), text)?;
-    let mut found = written(rt.alloc(), &value)?;
-    assert_eq!(rt; found.as_str(), text);
+/// Texts that are written as they are read, and how many texts a cache of one other text holds then.
+const DOCUMENTS: [(&str, usize); 2] = [
+    (r#"["longlong",[1]]"#, 2),
+    (
+        r#"[1.5,[true,{"a":"longlong","eight888":"\n"}],12345678901234567890123,null]"#,
+        3,
+    ),
+];
+
+/// Puts a comma and a string behind a text.
+fn parts(rt: &impl Abort, alloc: Global) -> Result<(), Fail> {
+    let mut found = written(alloc, &IValue::TRUE)?;
     if push_separator(&mut found, false).is_err() {
         push_separator(&mut found, false)?;
     }
-    assert_eq!(rt; found.len(), text.len() + 1);
+    assert_eq!(rt; found.as_str(), "true,");
     if push_quoted(&mut found, "\n").is_err() {
-        assert!(rt; found.as_str().starts_with(text));
+        assert!(rt; found.as_str().starts_with("true,"));
     }
     Ok(())
+}
+
+#[test]
+fn reading_and_writing(rt: HostRuntime) -> Result<(), Fail> {
+    for (text, held) in DOCUMENTS {
+        let mut cache = used_cache(rt.alloc())?;
+        let value = match from_json(rt.alloc(), &mut cache, text) {
+            Ok(value) => value,
+            Err(refused) => {
+                assert!(rt; refused == JsonError::Memory && is_kept(&cache, held));
+                from_json(rt.alloc(), &mut cache, text)?
+            }
+        };
+        assert!(rt; is_kept(&cache, held) && cache.len() == held);
+        let found = written(rt.alloc(), &value)?;
+        assert_eq!(rt; found.as_str(), text);
+    }
+    parts(&rt, rt.alloc())
 }
 
 #[test]
@@ -324,37 +267,73 @@ fn canonical(rt: HostRuntime) -> Result<(), Fail> {
         found.as_str(),
         "{\"a\":\"longlong\",\"b\":{\"c\":[1e1,0],\"d\":2e0}}"
     );
+    let again = written(rt.alloc(), &value)?;
+    assert_eq!(rt; again.as_str(), text);
     Ok(())
 }
 
-#[test]
-fn compacting(rt: HostRuntime) {
-    for _ in 0..3usize {
-        let mut input = MemorySource::new(b"[1.50]", 4, 100);
-        let Ok(mut output) = MemorySink::new(rt.alloc(), 4, 100) else {
-            continue;
-        };
-        let Ok(mut errors) = MemorySink::new(rt.alloc(), 4, 100) else {
-            continue;
-        };
-        let answer = compact(
-            rt.alloc(),
-            &mut input,
-            &mut output,
-            &mut empty_cache(rt.alloc()),
-        );
-        let status = report(&answer, &mut errors);
-        if answer.is_ok() {
-            assert_eq!(rt; status, 0);
-            assert_eq!(rt; output.bytes(), b"[1.5]\n".as_slice());
-            return;
-        }
-        assert_eq!(rt; answer, Err(CompactError::Memory));
-        assert!(rt; output.bytes().is_empty());
-        assert_eq!(rt; status, 3);
-        assert_eq!(rt; errors.bytes(), b"ijson: out of memory\n".as_slice());
+/// A sink of room for one line.
+fn sink(alloc: Global) -> Result<MemorySink, AllocError> {
+    match MemorySink::new(alloc, 4, 100) {
+        Ok(sink) => Ok(sink),
+        Err(AllocError) => MemorySink::new(alloc, 4, 100),
     }
-    assert!(rt; false, "refused more than once");
+}
+
+/// Texts, and what is written of each.
+const COMPACTED: [(&[u8], &[u8]); 2] = [
+    (b"[1.50]", b"[1.5]\n"),
+    (b"[ \"longlong\" ]", b"[\"longlong\"]\n"),
+];
+
+/// Compacts a text and reports the answer. Whether it was done: where it was refused, nothing is written but the line.
+fn is_compacted(
+    rt: &impl Abort,
+    alloc: Global,
+    cache: &mut Cache,
+    text: &[u8],
+    written: &[u8],
+) -> Result<bool, Fail> {
+    let mut input = MemorySource::new(text, 4, 100);
+    let (mut output, mut errors) = (sink(alloc)?, sink(alloc)?);
+    let answer = compact(alloc, &mut input, &mut output, cache);
+    let status = report(&answer, &mut errors);
+    assert!(rt; is_kept(cache, 2));
+    if answer.is_ok() {
+        assert_eq!(rt; (status, errors.bytes().len()), (0, 0));
+        assert_eq!(rt; output.bytes(), written);
+        return Ok(true);
+    }
+    assert_eq!(rt; answer, Err(CompactError::Memory));
+    assert_eq!(rt; (status, output.bytes().len()), (3, 0));
+    assert_eq!(rt; errors.bytes(), b"ijson: out of memory\n".as_slice());
+    Ok(false)
+}
+
+#[test]
+fn compacting(rt: HostRuntime) -> Result<(), Fail> {
+    for (text, line) in COMPACTED {
+        let mut cache = used_cache(rt.alloc())?;
+        if !is_compacted(&rt, rt.alloc(), &mut cache, text, line)? {
+            assert!(rt; is_compacted(&rt, rt.alloc(), &mut cache, text, line)?);
+        }
+    }
+    Ok(())
+}
+
+/// Copies an array and an object by their own calls.
+fn copies(rt: &impl Abort, array: &IArray, object: &IObject) -> Result<(), Fail> {
+    let copy = match array.clone() {
+        Ok(copy) => copy,
+        Err(AllocError) => array.clone()?,
+    };
+    assert!(rt; copy == *array);
+    let copy = match object.clone() {
+        Ok(copy) => copy,
+        Err(AllocError) => object.clone()?,
+    };
+    assert!(rt; copy == *object && copy.capacity() == 2 && object.capacity() == 4);
+    Ok(())
 }
 
 #[test]
@@ -367,6 +346,11 @@ fn cloning(rt: HostRuntime) -> Result<(), Fail> {
         Err(_) => value.clone()?,
     };
     assert!(rt; copy == value);
+    if let Some(array) = value.as_array() {
+        if let Some(object) = array.as_slice().last().and_then(IValue::as_object) {
+            copies(&rt, array, object)?;
+        }
+    }
     let found = written(rt.alloc(), &copy)?;
     assert_eq!(rt; found.as_str(), text);
     let items = [copy, value];
@@ -379,25 +363,50 @@ fn cloning(rt: HostRuntime) -> Result<(), Fail> {
 }
 
 /// An object of the pairs `b`: 1, `a`: 2 and `eight888`: 3, through a map that hashes (0), sorts (1), or keeps the order of
-/// insertion (2). None where memory was refused.
-pub(super) fn object_of_map(alloc: Global, cache: &mut Cache, kind: usize) -> Option<IObject> {
+/// insertion (2).
+pub(super) fn object_of_map(
+    alloc: Global,
+    cache: &mut Cache,
+    kind: usize,
+) -> Result<IObject, ReserveError> {
     let mut hashed: HashMap<IString, IValue> = HashMap::new(alloc);
     let mut sorted: BTreeMap<IString, IValue> = BTreeMap::new(alloc);
     let mut inserted: IndexMap<IString, IValue> = IndexMap::new(alloc);
     for (key, n) in [("b", 1i8), ("a", 2), ("eight888", 3)].iter() {
-        let key = IString::intern(cache, *key).ok()?;
-        match kind {
-            0 => drop(hashed.insert(key, IValue::from(*n)).ok()?),
-            1 => drop(sorted.insert(key, IValue::from(*n)).ok()?),
-            _ => drop(inserted.insert(key, IValue::from(*n)).ok()?),
+        let key = IString::intern(cache, *key)?;
+        let refused = match kind {
+            0 => hashed.insert(key, IValue::from(*n)).is_err(),
+            1 => sorted.insert(key, IValue::from(*n)).is_err(),
+            _ => inserted.insert(key, IValue::from(*n)).is_err(),
+        };
+        if refused {
+            return Err(ReserveError::Memory);
         }
     }
-    let object = match kind {
+    match kind {
         0 => IObject::from_hash_map(alloc, hashed),
         1 => IObject::from_btree_map(alloc, sorted),
         _ => IObject::from_index_map(alloc, inserted),
-    };
-    object.ok()
+    }
+}
+
+#[test]
+fn maps(rt: HostRuntime) -> Result<(), Fail> {
+    let mut cache = empty_cache(rt.alloc());
+    for kind in 0..3usize {
+        let object = match object_of_map(rt.alloc(), &mut cache, kind) {
+            Ok(object) => object,
+            Err(why) => {
+                assert_eq!(rt; why, ReserveError::Memory);
+                object_of_map(rt.alloc(), &mut cache, kind)?
+            }
+        };
+        assert_eq!(rt; (object.len(), object.capacity()), (3, 3));
+        for (key, n) in [("b", 1i8), ("a", 2), ("eight888", 3)] {
+            assert!(rt; object.get(key) == Some(&IValue::from(n)));
+        }
+    }
+    Ok(())
 }
 
 /// The maps of the test that follows.
@@ -405,16 +414,6 @@ type Lists = BTreeMap<String, Vec<Option<i32>>>;
 
 #[test]
 fn conversions(rt: HostRuntime) -> Result<(), Fail> {
-    let mut cache = empty_cache(rt.alloc());
-    for kind in 0..3usize {
-        let object = match object_of_map(rt.alloc(), &mut cache, kind) {
-            Some(object) => object,
-            None => object_of_map(rt.alloc(), &mut cache, kind).ok_or(AllocError)?,
-        };
-        assert_eq!(rt; (object.len(), object.capacity()), (3, 3));
-        assert!(rt; object.contains_key("a") && object.contains_key("b"));
-        assert!(rt; object.contains_key("eight888"));
-    }
     let text = "{\"a\":[1,null],\"b\":[],\"eight888\":[-2]}";
     let value = read(rt.alloc(), text)?;
     let lists = match from_value::<Lists>(rt.alloc(), &value) {
@@ -424,13 +423,15 @@ fn conversions(rt: HostRuntime) -> Result<(), Fail> {
             from_value::<Lists>(rt.alloc(), &value)?
         }
     };
+    let mut cache = used_cache(rt.alloc())?;
     let again = match to_value(rt.alloc(), &mut cache, &lists) {
         Ok(again) => again,
         Err(refused) => {
-            assert_eq!(rt; refused, ConvertError::Memory);
+            assert!(rt; refused == ConvertError::Memory && is_kept(&cache, 2));
             to_value(rt.alloc(), &mut cache, &lists)?
         }
     };
+    assert!(rt; is_kept(&cache, 2) && cache.contains("eight888") && again == value);
     let found = written(rt.alloc(), &again)?;
     assert_eq!(rt; found.as_str(), text);
     Ok(())

@@ -1,5 +1,6 @@
 //! Texts that are read, and what is written of them.
 
+use super::devices::compacts;
 use super::{push_times, read, rewritten};
 use std::alloc::Global;
 use std::process::Abort;
@@ -54,11 +55,13 @@ const CONTAINERS: [(&str, &str); 9] = [
 ];
 
 /// Texts of strings, and how each is written.
-const STRINGS: [(&str, &str); 6] = [
+const STRINGS: [(&str, &str); 8] = [
     ("\"\\ud83d\\ude00\"", "\"\u{1f600}\""),
     ("\"\\uD834\\uDD1E\"", "\"\u{1d11e}\""),
     ("\"\\/\\u001F\"", "\"/\\u001f\""),
     ("\"\\\"\\\\\\b\\f\\n\\r\\t\"", "\"\\\"\\\\\\b\\f\\n\\r\\t\""),
+    ("\"\u{7f}\"", "\"\u{7f}\""),
+    ("\"\\u0000\"", "\"\\u0000\""),
     ("\"\\u0000\u{7f}\"", "\"\\u0000\u{7f}\""),
     (
         "\"a run, an escape\\nand one more run é 東京\"",
@@ -66,10 +69,17 @@ const STRINGS: [(&str, &str); 6] = [
     ),
 ];
 
+/// Asserts what is written of a text, as it is and from a device.
+fn is_written(rt: &impl Abort, alloc: Global, text: &str, want: &str) -> Result<(), Fail> {
+    let found = rewritten(alloc, text)?;
+    assert!(rt; found.as_str() == want, "{text}");
+    let line = format!(in alloc; "{want}\n")?;
+    compacts(rt, alloc, text.as_bytes(), line.as_bytes(), b"", 0)
+}
+
 fn written(rt: &impl Abort, alloc: Global, rows: &[(&str, &str)]) -> Result<(), Fail> {
     for (text, want) in rows {
-        let found = rewritten(alloc, text)?;
-        assert!(rt; found.as_str() == *want, "{text}");
+        is_written(rt, alloc, text, want)?;
     }
     Ok(())
 }
@@ -142,8 +152,31 @@ fn deepest(rt: HostRuntime) -> Result<(), Fail> {
         push_times(&mut text, opening, 127)?;
         push_times(&mut text, inside, 1)?;
         push_times(&mut text, closing, 127)?;
-        let found = rewritten(alloc, text.as_str())?;
-        assert!(rt; found == text);
+        is_written(&rt, alloc, text.as_str(), text.as_str())?;
     }
     Ok(())
+}
+
+/// 10,000 members of one object, each with its number as the value. The keys are `k`, and the number too where they are to differ.
+fn members(alloc: Global, differ: bool) -> Result<String, Fail> {
+    let mut text = String::from_str(alloc, "{")?;
+    for number in 0..10_000u32 {
+        let comma = if number == 0 { "" } else { "," };
+        let member = if differ {
+            format!(in alloc; "{comma}\"k{number}\":{number}")?
+        } else {
+            format!(in alloc; "{comma}\"k\":{number}")?
+        };
+        text.push_str(member.as_str())?;
+    }
+    text.push('}')?;
+    Ok(text)
+}
+
+#[test]
+fn many_members(rt: HostRuntime) -> Result<(), Fail> {
+    let same = members(rt.alloc(), false)?;
+    is_written(&rt, rt.alloc(), same.as_str(), "{\"k\":9999}")?;
+    let different = members(rt.alloc(), true)?;
+    is_written(&rt, rt.alloc(), different.as_str(), different.as_str())
 }

@@ -103,7 +103,7 @@ const ALL_KINDS: &str =
     {\"a\":1.0},{\"a\":2},{\"b\":1},{\"a\":1,\"b\":[1]},{\"b\":[1],\"a\":1},{\"b\":[1],\"c\":1},{\"longlonglong\":{\"a\":null}},\
     {\"a\":{\"a\":{}}}]";
 
-fn hash_of<T: Hash>(value: &T) -> u64 {
+pub fn hash_of<T: Hash>(value: &T) -> u64 {
     let mut hasher = DefaultHasher::new();
     value.hash(&mut hasher);
     hasher.finish()
