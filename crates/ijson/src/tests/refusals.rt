@@ -7,7 +7,10 @@ mod objects;
 use super::{Cache, empty_cache};
 use crate::array::IArray;
 use crate::canonical::canonical_json;
-use crate::convert::{ConvertError, from_serde, from_value, to_serde, to_value};
+use crate::convert::{
+    ConvertError, from_serde, from_serde_map, from_value, to_serde, to_serde_map, to_value,
+};
+use crate::ijson;
 use crate::json::{
     CompactError, JsonError, MemorySink, MemorySource, compact, from_json, push_quoted,
     push_separator, report, to_json,
@@ -437,19 +440,89 @@ fn conversions(rt: HostRuntime) -> Result<(), Fail> {
     Ok(())
 }
 
+/// The value of a literal, in which a key stands twice.
+fn literal(alloc: Global, cache: &mut Cache) -> Result<IValue, ConvertError> {
+    ijson!(alloc, cache; {"a": [1u8, null, "eight888"], "longlong": {"b": [true, {}]}, "c": {}, "a": ["x"]})
+}
+
+#[test]
+fn literals(rt: HostRuntime) -> Result<(), Fail> {
+    let mut cache = used_cache(rt.alloc())?;
+    let value = match literal(rt.alloc(), &mut cache) {
+        Ok(value) => value,
+        Err(refused) => {
+            assert!(rt; refused == ConvertError::Memory && is_kept(&cache, 3));
+            literal(rt.alloc(), &mut cache)?
+        }
+    };
+    assert!(rt; is_kept(&cache, 3));
+    let found = written(rt.alloc(), &value)?;
+    assert_eq!(rt;
+        found.as_str(),
+        r#"{"a":["x"],"longlong":{"b":[true,{}]},"c":{}}"#
+    );
+    Ok(())
+}
+
+/// A value gone to `serde_json` and back.
+fn there_and_back(
+    rt: &impl Abort,
+    alloc: Global,
+    cache: &mut Cache,
+    value: &IValue,
+) -> Result<IValue, Fail> {
+    let there = match to_serde(alloc, value) {
+        Ok(there) => there,
+        Err(refused) => {
+            assert_eq!(rt; refused, ConvertError::Memory);
+            to_serde(alloc, value)?
+        }
+    };
+    match from_serde(alloc, cache, &there) {
+        Ok(back) => Ok(back),
+        Err(refused) => {
+            assert!(rt; refused == ConvertError::Memory && is_kept(cache, 3));
+            Ok(from_serde(alloc, cache, &there)?)
+        }
+    }
+}
+
+/// The same of an object, as a map of `serde_json`.
+fn map_and_back(
+    rt: &impl Abort,
+    alloc: Global,
+    cache: &mut Cache,
+    object: &IObject,
+) -> Result<IObject, Fail> {
+    let there = match to_serde_map(alloc, object) {
+        Ok(there) => there,
+        Err(refused) => {
+            assert_eq!(rt; refused, ConvertError::Memory);
+            to_serde_map(alloc, object)?
+        }
+    };
+    match from_serde_map(alloc, cache, &there) {
+        Ok(back) => Ok(back),
+        Err(refused) => {
+            assert!(rt; refused == ConvertError::Memory && is_kept(cache, 3));
+            Ok(from_serde_map(alloc, cache, &there)?)
+        }
+    }
+}
+
 #[test]
 fn values_of_serde(rt: HostRuntime) -> Result<(), Fail> {
     let text = "{\"longlong\":[\"eight888\",{}],\"n\":[1,{\"m\":2.0}]}";
     let value = read(rt.alloc(), text)?;
-    let there = match to_serde(rt.alloc(), &value) {
-        Err(ConvertError::Memory) => to_serde(rt.alloc(), &value)?,
-        answer => answer?,
-    };
-    let mut cache = empty_cache(rt.alloc());
-    let back = match from_serde(rt.alloc(), &mut cache, &there) {
-        Err(ConvertError::Memory) => from_serde(rt.alloc(), &mut cache, &there)?,
-        answer => answer?,
-    };
-    assert!(rt; back == value);
+    let mut cache = used_cache(rt.alloc())?;
+    assert!(rt; there_and_back(&rt, rt.alloc(), &mut cache, &value)? == value);
+    assert_eq!(rt; cache.len(), 3);
+    if let Some(object) = value.as_object() {
+        let mut cache = used_cache(rt.alloc())?;
+        assert!(rt; map_and_back(&rt, rt.alloc(), &mut cache, object)? == *object);
+        assert_eq!(rt; cache.len(), 3);
+    }
+    let found = written(rt.alloc(), &value)?;
+    assert_eq!(rt; found.as_str(), text);
     Ok(())
 }
