@@ -1,5 +1,6 @@
 //! Each test here holds under any one refused request for memory: what a refused call leaves is compared whole, and the call is made again.
 //! The repository's `check` runs each with its first request refused, with its second, and so on.
+ghost use Rattle.std.specs.Prelude.{◌≡◌, IfOk};
 
 mod no_memory;
 mod objects;
@@ -276,7 +277,9 @@ fn canonical(rt: HostRuntime) -> Result<(), Fail> {
 }
 
 /// A sink of room for one line.
-fn sink(alloc: Global) -> Result<MemorySink, AllocError> {
+fn sink(alloc: Global) -> Result<MemorySink, AllocError>
+    ensures { IfOk result (λ sink. sink.failed ≡ 0) }
+{
     match MemorySink::new(alloc, 4, 100) {
         Ok(sink) => Ok(sink),
         Err(AllocError) => MemorySink::new(alloc, 4, 100),
