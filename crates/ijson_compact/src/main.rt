@@ -11,6 +11,9 @@ use std::io::Write;
 use std::mem;
 use std::process::ExitCode;
 
+#[cfg(test)]
+mod tests;
+
 /// The answer, once what was written has left `writer`. A failed flush after Ok counts as a failed write.
 fn flushed<W: Write + Drop>(
     answer: Result<(), CompactError>,

@@ -1,6 +1,6 @@
 //! Canonical texts.
 
-use super::{push_times, read};
+use super::read;
 use crate::array::IArray;
 use crate::canonical::canonical_json;
 use crate::json::{JsonError, to_json};
@@ -54,9 +54,8 @@ fn canonical_texts(rt: HostRuntime) -> Result<(), Fail> {
 #[test]
 fn canonical_at_any_depth(rt: HostRuntime) -> Result<(), Fail> {
     let alloc = rt.alloc();
-    let mut text = String::new(alloc);
-    push_times(&mut text, "[", 128)?;
-    push_times(&mut text, "]", 128)?;
+    let (front, behind) = ("[".repeat(alloc, 128)?, "]".repeat(alloc, 128)?);
+    let text = format!(in alloc; "{front}{behind}")?;
     let mut value = IValue::from(IArray::new(alloc));
     for _ in 1..128usize {
         let mut outer = IArray::new(alloc);

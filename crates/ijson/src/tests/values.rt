@@ -179,7 +179,7 @@ fn is_taken(rt: &impl Abort, mut value: IValue, kind: ValueType) {
 
 /// Whether a number answers these integers, and whether the others are these as well.
 fn are_integers(
-    value: &IValue,
+    value: IValue,
     i32_: Option<i32>,
     u32_: Option<u32>,
     i64_: Option<i64>,
@@ -211,29 +211,59 @@ const INTEGERS: [(&str, Option<i32>, Option<u32>, Option<i64>, Option<u64>); 5] 
 #[test]
 fn integers(rt: HostRuntime) -> Result<(), Fail> {
     for (text, i32_, u32_, i64_, u64_) in INTEGERS {
-        assert!(rt; are_integers(&read(rt.alloc(), text)?, i32_, u32_, i64_, u64_));
+        assert!(rt; are_integers(read(rt.alloc(), text)?, i32_, u32_, i64_, u64_));
     }
     Ok(())
 }
 
-/// Whether a value is this integer.
-fn is_signed(value: IValue, want: i64) -> bool {
-    value.to_i64() == Some(want)
+/// Whether a value is this integer below zero, which an `i32` holds.
+fn is_negative(value: IValue, want: i32) -> bool {
+    are_integers(value, Some(want), None, Some(i64::from(want)), None)
 }
 
-/// Whether a value is this integer.
-fn is_unsigned(value: IValue, want: u64) -> bool {
-    value.to_u64() == Some(want)
+/// Whether a value is this integer, which each of the four types holds.
+fn is_small(value: IValue, want: u16) -> bool {
+    let want = i32::from(want);
+    are_integers(
+        value,
+        Some(want),
+        Some(want as u32),
+        Some(want as i64),
+        Some(want as u64),
+    )
 }
 
 #[test]
-fn each_width(rt: HostRuntime) {
-    assert!(rt; is_signed(i8::MIN.into(), -128) && is_signed(i16::MAX.into(), 32767));
-    assert!(rt; is_signed(i32::MIN.into(), -2147483648));
-    assert!(rt; is_signed(i64::MIN.into(), i64::MIN) && is_signed(isize::MAX.into(), i64::MAX));
-    assert!(rt; is_unsigned(u8::MAX.into(), 255) && is_unsigned(u16::MAX.into(), 65535));
-    assert!(rt; is_unsigned(u32::MAX.into(), 4294967295));
-    assert!(rt; is_unsigned(u64::MAX.into(), u64::MAX) && is_unsigned(usize::MAX.into(), u64::MAX));
+fn narrow_widths(rt: HostRuntime) {
+    assert!(rt; is_negative(i8::MIN.into(), -128) && is_negative(i32::MIN.into(), i32::MIN));
+    assert!(rt; is_small(i16::MAX.into(), 32767));
+    assert!(rt; is_small(u8::MAX.into(), 255) && is_small(u16::MAX.into(), 65535));
+}
+
+/// The greatest of `u64` and of `i64`, and the least of `i64`.
+const GREATEST: u64 = 18446744073709551615;
+
+const GREATEST_SIGNED: i64 = 9223372036854775807;
+
+const LEAST: i64 = -9223372036854775808;
+
+#[test]
+fn wide_widths(rt: HostRuntime) {
+    let u32_max = 4294967295;
+    assert!(rt;
+        are_integers(
+            u32::MAX.into(),
+            None,
+            Some(u32_max),
+            Some(4294967295),
+            Some(4294967295)
+        )
+    );
+    assert!(rt; are_integers(i64::MIN.into(), None, None, Some(LEAST), None));
+    let both = (Some(GREATEST_SIGNED), Some(9223372036854775807));
+    assert!(rt; are_integers(isize::MAX.into(), None, None, both.0, both.1));
+    assert!(rt; are_integers(u64::MAX.into(), None, None, None, Some(GREATEST)));
+    assert!(rt; are_integers(usize::MAX.into(), None, None, None, Some(GREATEST)));
 }
 
 #[test]

@@ -1,7 +1,7 @@
 //! Calls that take no memory. They are right whichever request is refused, so also where it is the next one after them, and a thousand rounds
 //! of them make as many requests as one does.
 
-use super::objects::{PAIRS, holds, key, refused_entry, with_pairs};
+use super::objects::{PAIRS, holds, refused_entry, with_pairs};
 use super::{interned, number};
 use crate::array::IArray;
 use crate::convert::{from_serde_number, to_serde_number};
@@ -11,8 +11,8 @@ use crate::object::{Entry, IObject};
 use crate::pointer::{resolve, resolve_mut};
 use crate::string::IString;
 use crate::table::{FixedTable, LinearPairs, PairStore};
-use crate::tests::empty_cache;
 use crate::tests::walks::hash_of;
+use crate::tests::{empty_cache, text as key};
 use crate::value::{Destructured, IValue, ValueType};
 use std::alloc::{AllocError, Global};
 use std::cmp::Ordering;

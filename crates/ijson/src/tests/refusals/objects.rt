@@ -7,9 +7,9 @@ use super::interned;
 use crate::object::{Entry, IObject, RefusedKey, RefusedPair};
 use crate::string::IString;
 use crate::table::ReserveError;
-use crate::tests::empty_cache;
+use crate::tests::{empty_cache, text as key};
 use crate::value::IValue;
-use std::alloc::{AllocError, Global};
+use std::alloc::Global;
 use std::process::Abort;
 use std::test::Fail;
 
@@ -30,11 +30,6 @@ pub fn holds(object: &IObject, len: usize, capacity: usize) -> bool {
         }
     }
     pairs.next().is_none() && object.capacity() == capacity
-}
-
-/// A text of one byte, which takes no memory.
-pub fn key(alloc: Global, text: &str) -> Result<IString, AllocError> {
-    IString::intern(&mut empty_cache(alloc), text)
 }
 
 /// An object of the first `len` of the pairs, and the capacity that is asked for.

@@ -1,22 +1,16 @@
 //! What holds after a refused request for memory. Each of these tests passes whichever one of its requests is refused.
 
-use super::super::empty_cache;
 use super::AlwaysZero;
-use crate::string::IString;
 use crate::table::{
     Command, FixedTable, LinearPairs, PairStore, RefusedPair, Reply, ReserveError, Table, run,
 };
+use crate::tests::text as key;
 use std::alloc::{AllocError, Global};
 use std::process::Abort;
 use std::test::Fail;
 
 /// The pairs of the stores that follow.
 const PAIRS: [(&str, u32); 5] = [("a", 1), ("b", 2), ("c", 3), ("d", 4), ("e", 5)];
-
-/// A text of one byte, which takes no memory.
-fn key(alloc: Global, text: &str) -> Result<IString, AllocError> {
-    IString::intern(&mut empty_cache(alloc), text)
-}
 
 /// Adds those of the first `len` pairs that are not there, where there is room.
 fn fill<P: PairStore<u32>>(alloc: Global, store: &mut P, len: usize) -> Result<(), AllocError> {

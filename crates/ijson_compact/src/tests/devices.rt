@@ -4,7 +4,7 @@ ghost use Rattle.std.specs.Prelude.{IfOk};
 ghost use Rattle.ijson_json.specs.Compacts.{IsCompactLine};
 
 use super::empty_cache;
-use crate::json::{
+use ijson_json::{
     CompactError, DeviceFault, JsonError, MemorySink, MemorySource, Sink, Source, StreamSink,
     StreamSource, compact, report,
 };

@@ -1,8 +1,8 @@
 //! Where faults are told: byte offsets from 0.
 
 use super::devices::compacts;
-use super::{push_times, read};
-use crate::json::JsonError;
+use super::{nested, rewritten};
+use ijson_json::JsonError;
 use std::alloc::{AllocError, Global};
 use std::process::Abort;
 use std::test::Fail;
@@ -95,7 +95,7 @@ fn line_of(alloc: Global, fault: JsonError) -> Result<String, AllocError> {
 
 /// Asserts that a text is refused with a fault, as it is and from a device.
 fn refused(rt: &impl Abort, alloc: Global, text: &str, fault: JsonError) -> Result<(), Fail> {
-    assert!(rt; read(alloc, text).err() == Some(fault), "{text}");
+    assert!(rt; rewritten(alloc, text).err() == Some(fault), "{text}");
     let line = line_of(alloc, fault)?;
     compacts(rt, alloc, text.as_bytes(), b"", line.as_bytes(), 1)
 }
@@ -152,12 +152,8 @@ const DEEP: [(&str, &str, usize, &str, &str, &str, usize); 3] = [
 fn too_deep(rt: HostRuntime) -> Result<(), Fail> {
     let alloc = rt.alloc();
     for (front, opening, count, inside, closing, behind, at) in DEEP {
-        let mut text = String::new(alloc);
-        push_times(&mut text, front, 1)?;
-        push_times(&mut text, opening, count)?;
-        push_times(&mut text, inside, 1)?;
-        push_times(&mut text, closing, count)?;
-        push_times(&mut text, behind, 1)?;
+        let deep = nested(alloc, opening, count, inside, closing)?;
+        let text = format!(in alloc; "{front}{deep}{behind}")?;
         refused(&rt, alloc, text.as_str(), JsonError::TooDeep { at })?;
     }
     Ok(())

@@ -1,7 +1,7 @@
 //! Texts that are read, and what is written of them.
 
 use super::devices::compacts;
-use super::{push_times, read, rewritten};
+use super::{nested, rewritten};
 use std::alloc::Global;
 use std::process::Abort;
 use std::test::Fail;
@@ -136,7 +136,7 @@ fn control_characters(rt: HostRuntime) -> Result<(), Fail> {
         let found = rewritten(alloc, text.as_str())?;
         assert!(rt; found.as_str() == ESCAPES[code as usize]);
         let raw = format!(in alloc; "\"{}\"", code as char)?;
-        assert!(rt; read(alloc, raw.as_str()).is_err());
+        assert!(rt; rewritten(alloc, raw.as_str()).is_err());
     }
     Ok(())
 }
@@ -148,10 +148,7 @@ const DEEPEST: [(&str, &str, &str); 2] = [("[", "", "]"), ("{\"a\":", "null", "}
 fn deepest(rt: HostRuntime) -> Result<(), Fail> {
     let alloc = rt.alloc();
     for (opening, inside, closing) in DEEPEST {
-        let mut text = String::new(alloc);
-        push_times(&mut text, opening, 127)?;
-        push_times(&mut text, inside, 1)?;
-        push_times(&mut text, closing, 127)?;
+        let text = nested(alloc, opening, 127, inside, closing)?;
         is_written(&rt, alloc, text.as_str(), text.as_str())?;
     }
     Ok(())
