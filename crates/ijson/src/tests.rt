@@ -1,23 +1,14 @@
-//! What no clause says, of every library: a module per kind of value, refusals of memory, and callers with contracts of their own. Texts and
-//! devices are tested where they meet, in the program's tests.
+//! What no clause says: objects, conversions, canonical texts and pointers, the errors, and refusals of memory in all libraries; and callers
+//! with contracts of their own. The crates that the program stands on are tested there.
 
-mod arrays;
-mod cache;
 mod callers;
 mod canonical;
 mod conversions;
-mod equality;
 mod errors;
-mod numbers;
 mod objects;
 mod pointer;
-mod recorder;
 mod refusals;
 mod serde;
-mod strings;
-mod tables;
-mod values;
-mod walks;
 
 use crate::json::{JsonError, from_json};
 use crate::string::{IString, StringCache};

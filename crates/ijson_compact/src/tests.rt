@@ -1,11 +1,23 @@
-//! What no clause says of whole texts: what is written of them, where their faults are told, and devices that give and take little, and fail.
+//! What no clause says of the crates that the program stands on: numbers, strings, tables, arrays and values; what is written of texts, where
+//! their faults are told, and devices that give and take little, and fail. Objects, refused memory, and what stands above these crates are
+//! tested in `ijson`, beside this one.
 
+mod arrays;
+mod cache;
 mod devices;
+mod equality;
 mod faults;
+mod numbers;
+mod recorder;
+mod strings;
+mod tables;
 mod texts;
+mod values;
+mod walks;
 
 use ijson_json::{JsonError, from_json, to_json};
-use ijson_string::StringCache;
+use ijson_string::{IString, StringCache};
+use ijson_value::value::IValue;
 use std::alloc::{AllocError, Global};
 use std::hash::{BuildHasherDefault, FoldHasher};
 
@@ -15,9 +27,19 @@ fn empty_cache(alloc: Global) -> Cache {
     StringCache::new(alloc, BuildHasherDefault::<FoldHasher>::new())
 }
 
+/// A text through a cache of its own.
+fn text(alloc: Global, letters: &str) -> Result<IString, AllocError> {
+    IString::intern(&mut empty_cache(alloc), letters)
+}
+
+/// What `text` spells, through a cache of its own.
+fn read(alloc: Global, text: &str) -> Result<IValue, JsonError> {
+    from_json(alloc, &mut empty_cache(alloc), text)
+}
+
 /// What is written of what `text` spells.
 fn rewritten(alloc: Global, text: &str) -> Result<String, JsonError> {
-    let value = from_json(alloc, &mut empty_cache(alloc), text)?;
+    let value = read(alloc, text)?;
     match to_json(alloc, &value) {
         Ok(written) => Ok(written),
         Err(AllocError) => Err(JsonError::Memory),

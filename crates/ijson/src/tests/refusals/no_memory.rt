@@ -11,13 +11,19 @@ use crate::object::{Entry, IObject};
 use crate::pointer::{resolve, resolve_mut};
 use crate::string::IString;
 use crate::table::{FixedTable, LinearPairs, PairStore};
-use crate::tests::walks::hash_of;
 use crate::tests::{empty_cache, text as key};
 use crate::value::{Destructured, IValue, ValueType};
 use std::alloc::{AllocError, Global};
 use std::cmp::Ordering;
+use std::hash::{DefaultHasher, Hash, Hasher};
 use std::process::Abort;
 use std::test::Fail;
+
+fn hash_of<T: Hash>(value: &T) -> u64 {
+    let mut hasher = DefaultHasher::new();
+    value.hash(&mut hasher);
+    hasher.finish()
+}
 
 /// A number whose stored form is a list of digits.
 fn of_digits(alloc: Global, text: &str) -> Result<INumber, Fail> {

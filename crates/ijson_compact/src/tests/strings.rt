@@ -1,6 +1,6 @@
 use super::empty_cache;
 use super::recorder::feeds;
-use crate::string::IString;
+use ijson_string::IString;
 use std::alloc::Global;
 use std::test::Fail;
 

@@ -6,9 +6,11 @@ ghost use Rattle.ijson_value.specs.Step.{by_position, by_key, kind_for, tree_at,
 ghost use Rattle.ijson_value.specs.Tree.{boolean, null};
 
 use super::{read, text};
-use crate::number::INumber;
-use crate::string::IString;
-use crate::{Destructured, DestructuredMut, DestructuredRef, IArray, IObject, IValue, ValueType};
+use ijson_number::INumber;
+use ijson_string::IString;
+use ijson_value::array::IArray;
+use ijson_value::object::IObject;
+use ijson_value::value::{Destructured, DestructuredMut, DestructuredRef, IValue, ValueType};
 use std::alloc::Global;
 use std::process::Abort;
 use std::test::Fail;

@@ -1,7 +1,7 @@
 //! What reading leaves in the cache, and that no answer depends on it.
 
 use super::empty_cache;
-use crate::json::{from_json, to_json};
+use ijson_json::{from_json, to_json};
 use std::test::Fail;
 
 #[test]

@@ -1,6 +1,6 @@
 //! What no clause says: worked texts, and which texts are refused.
 use super::recorder::feeds;
-use crate::number::{DigitRow, Form, INumber, Looks, ParseNumberError, compare, first_fault};
+use ijson_number::{DigitRow, Form, INumber, Looks, ParseNumberError, compare, first_fault};
 use std::alloc::Global;
 use std::cmp::Ordering;
 use std::error::Error;

@@ -4,8 +4,10 @@ ghost use Rattle.std.specs.Prelude.{◌≡◌, true, IfOk};
 
 use super::read;
 use super::recorder::feeds;
-use crate::json::to_json;
-use crate::{DestructuredRef, IArray, IObject, IValue};
+use ijson_json::to_json;
+use ijson_value::array::IArray;
+use ijson_value::object::IObject;
+use ijson_value::value::{DestructuredRef, IValue};
 use std::alloc::{AllocError, Global};
 use std::cmp::Ordering;
 use std::collections::HashMap;
@@ -103,7 +105,7 @@ const ALL_KINDS: &str =
     {\"a\":1.0},{\"a\":2},{\"b\":1},{\"a\":1,\"b\":[1]},{\"b\":[1],\"a\":1},{\"b\":[1],\"c\":1},{\"longlonglong\":{\"a\":null}},\
     {\"a\":{\"a\":{}}}]";
 
-pub fn hash_of<T: Hash>(value: &T) -> u64 {
+fn hash_of<T: Hash>(value: &T) -> u64 {
     let mut hasher = DefaultHasher::new();
     value.hash(&mut hasher);
     hasher.finish()

@@ -2,7 +2,7 @@
 
 use super::super::text;
 use super::{AlwaysZero, ByLength};
-use crate::table::{Command, FixedHash, FixedTable, LinearPairs, PairStore, Reply, Table, run};
+use ijson_table::{Command, FixedHash, FixedTable, LinearPairs, PairStore, Reply, Table, run};
 use std::alloc::{AllocError, Global};
 
 /// How many commands a list has.

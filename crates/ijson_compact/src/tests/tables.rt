@@ -4,9 +4,9 @@ mod lists;
 mod refusals;
 
 use super::text;
-use crate::number::Looks;
-use crate::string::IString;
-use crate::table::{
+use ijson_number::Looks;
+use ijson_string::IString;
+use ijson_table::{
     Command, FixedHash, FixedTable, KeyHash, LinearPairs, PairStore, Places, Reply, ReserveError,
     Seen, Table, locate, run,
 };

@@ -1,10 +1,10 @@
 //! What holds after a refused request for memory. Each of these tests passes whichever one of its requests is refused.
 
 use super::AlwaysZero;
-use crate::table::{
+use crate::tests::text as key;
+use ijson_table::{
     Command, FixedTable, LinearPairs, PairStore, RefusedPair, Reply, ReserveError, Table, run,
 };
-use crate::tests::text as key;
 use std::alloc::{AllocError, Global};
 use std::process::Abort;
 use std::test::Fail;
