@@ -3,5 +3,6 @@
 
 pub use ijson_json::{
     CompactError, DeviceFault, JsonError, MemorySink, MemorySource, Sink, Source, StreamSink,
-    StreamSource, compact, from_json, grammar_law, push_quoted, push_separator, report, to_json,
+    StreamSource, compact, compact_value, from_json, grammar_law, push_quoted, push_separator,
+    report, to_json,
 };

@@ -4,7 +4,7 @@
 ghost use Rattle.std.specs.Prelude.{◌≡◌, OnOk, OnErr, IfErr};
 ghost use Rattle.ijson_json.specs.declared.compacting.CompactError.TheVariants as errors;
 
-use ijson_json::{CompactError, StreamSink, StreamSource, compact, report};
+use ijson_json::{CompactError, StreamSink, StreamSource, compact_value, report};
 use ijson_string::StringCache;
 use std::hash::RandomState;
 use std::io::Write;
@@ -33,10 +33,10 @@ fn compact_input(rt: HostRuntime) -> Result<(), CompactError> {
     let mut cache = StringCache::new(rt.alloc(), hasher);
     let mut input = StreamSource::new(rt.stdin());
     let mut output = StreamSink::new(rt.stdout());
-    let answer = compact(rt.alloc(), &mut input, &mut output, &mut cache);
-    // The process ends soon, and its memory goes as a whole: to give back the texts one by one would take time alone.
+    let answer = compact_value(rt.alloc(), &mut input, &mut output, &mut cache);
+    // The process ends soon, and its memory goes as a whole: to give back texts and values one by one would take time alone.
     mem::forget(cache);
-    flushed(answer, output.into_inner())
+    flushed(answer.map(mem::forget), output.into_inner())
 }
 
 fn main(rt: HostRuntime) -> ExitCode {

@@ -1,14 +1,14 @@
 //! `compact`: from a source to a sink.
-ghost use Rattle.std.specs.Prelude.{◌≡◌, ◌≢◌, ◌+◌, ◌^◌, ◌<◌, ◌↔◌, ◌⊎◌, ℕ, List, [], IfOk, IfErr, OnOk, IfSome, Some, Err};
+ghost use Rattle.std.specs.Prelude.{◌≡◌, ◌≢◌, ◌+◌, ◌^◌, ◌<◌, ◌↔◌, ◌⊎◌, ℕ, List, [], IfOk, IfErr, OnOk, IfSome, Some, Err, IsUtf8};
 ghost use Rattle.std.specs.Io.KnownBytes.{Appends, Keeps};
 ghost use Rattle.std.specs.String.{string_bytes};
 ghost use Rattle.ijson_json.specs.AddsOnlyRead.{AddsOnlyRead};
 ghost use Rattle.ijson_json.specs.AreShared.{SharesTextsOf};
 ghost use Rattle.ijson_json.specs.CompactErrorOf.{compact_error_of};
 ghost use Rattle.ijson_json.specs.private.CompactErrorOfReadFault.{compact_error_of_read_fault};
-ghost use Rattle.ijson_json.specs.Compacts.{Compacts, IsCompactLine};
+ghost use Rattle.ijson_json.specs.Compacts.{IsCompactLine};
 ghost use Rattle.ijson_json.specs.CompactRefusal.{IsCompactRefusal};
-ghost use Rattle.ijson_json.specs.Refuses.{Refuses};
+ghost use Rattle.ijson_json.specs.Grammar.{Accepted};
 ghost use Rattle.ijson_json.specs.WritesBeginning.{WritesBeginning};
 ghost use Rattle.ijson_json.specs.declared.compacting.CompactError.TheVariants.{Read, NotUtf8, Write, Json, Memory as NoMemory};
 ghost use Rattle.ijson_json.specs.declared.fault.JsonError.TheVariants.{Memory};
@@ -17,8 +17,9 @@ use crate::device::{Sink, Source};
 use crate::fault::JsonError;
 use crate::moving::{ReadFault, read_all, write_all};
 use crate::read::from_json;
-use crate::write::to_json;
+use crate::write::push_value;
 use ijson_string::StringCache;
+use ijson_value::value::IValue;
 use simdutf8::basic::from_utf8;
 use std::alloc::{AllocError, Global};
 use std::hash::BuildHasher;
@@ -112,43 +113,83 @@ pub fn compact<R: Source, W: Sink, S: BuildHasher>(
     ensures shared { OnOk result (IfSome (R.left input.old)
         (λ bytes. SharesTextsOf bytes cache.new)) }
 {
-    let bytes = read_all(alloc, input)?;
-    let line = compact_line(alloc, cache, &bytes)?;
-    write_all(output, line.as_bytes()).map_err(|_| CompactError::Write)
+    compact_value(alloc, input, output, cache)?;
+    Ok(())
 }
 
-/// The compact text of `bytes` and a line feed.
+/// As `compact`, and answers the value that was read. Where there is an error it is dropped.
+pub fn compact_value<R: Source, W: Sink, S: BuildHasher>(
+    alloc: Global,
+    input: &mut R,
+    output: &mut W,
+    cache: &mut StringCache<S>,
+) -> Result<IValue, CompactError>
+    requires source { R.failed input.old + 1 < 2 ^ 64 }
+    requires sink { W.failed output.old + 1 < 2 ^ 64 }
+    ensures read { (result ≡ Err Read) ↔ (R.failed input.old < R.failed input.new) }
+    ensures write { (result ≡ Err Write) ↔ (W.failed output.old < W.failed output.new) }
+    // The line is written whole, of all that was left in the source.
+    ensures done { OnOk result (IfSome (R.left input.old) (λ bytes. (R.left input.new ≡ Some [])
+        × ((line : List ℕ) × IsCompactLine bytes line
+        × Appends (W.got output.old) (W.got output.new) line))) }
+    // A failed write leaves a beginning of the line, and each other error leaves the sink.
+    ensures beginning { result ≡ Err Write → IfSome (R.left input.old) (λ bytes.
+        (line : List ℕ) × IsCompactLine bytes line
+        × WritesBeginning (W.got output.old) (W.got output.new) line) }
+    ensures nothing { IfErr result (λ error.
+        error ≢ Write → Keeps (W.got output.old) (W.got output.new)) }
+    ensures error { IfErr result (λ error.
+        IfSome (R.left input.old) (λ bytes. IsCompactRefusal bytes error)) }
+    ensures never_memory { result ≢ Err (Json Memory) }
+    // The cache holds what it held, and beyond that only what the bytes that were read spell.
+    ensures cache { (read : List ℕ) × IfSome (R.left input.old) (λ bytes. bytes ≡ read)
+        × AddsOnlyRead read cache.old cache.new }
+    // It is as it was where none were read as JSON.
+    ensures unread { (result ≡ Err Read) ⊎ (result ≡ Err NotUtf8) → cache.new ≡ cache.old }
+    // It holds each long text and key of what was read.
+    ensures shared { OnOk result (IfSome (R.left input.old)
+        (λ bytes. SharesTextsOf bytes cache.new)) }
+    // The value is the tree that the bytes spell.
+    ensures value { IfOk result (λ value.
+        IfSome (R.left input.old) (λ bytes. Accepted bytes value.tree)) }
+{
+    let bytes = read_all(alloc, input)?;
+    let (value, line) = compact_line(alloc, cache, bytes)?;
+    let written = write_all(output, line.as_bytes()).map_err(|_| CompactError::Write);
+    written.and(Ok(value))
+}
+
+/// The value that `bytes` spell, and its compact text and a line feed, in the memory of `bytes` as far as that goes.
 fn compact_line<S: BuildHasher>(
     alloc: Global,
     cache: &mut StringCache<S>,
-    bytes: &[u8],
-) -> Result<String, CompactError>
-    ensures line { IfOk result (λ line. IsCompactLine bytes.now (string_bytes line)) }
-    ensures error { IfErr result (λ error. IsCompactRefusal bytes.now error) }
+    bytes: Vec<u8>,
+) -> Result<(IValue, String), CompactError>
+    ensures line { IfOk result (λ x. IsCompactLine bytes.items (string_bytes x.1)) }
+    ensures value { IfOk result (λ x. Accepted bytes.items x.0.tree) }
+    ensures error { IfErr result (λ error. IsCompactRefusal bytes.items error) }
     ensures not_read { result ≢ Err Read }
     ensures not_write { result ≢ Err Write }
     ensures never_memory { result ≢ Err (Json Memory) }
-    ensures cache { AddsOnlyRead bytes.now cache.old cache.new }
+    ensures cache { AddsOnlyRead bytes.items cache.old cache.new }
     ensures unread { result ≡ Err NotUtf8 → cache.new ≡ cache.old }
-    ensures shared { OnOk result (SharesTextsOf bytes.now cache.new) }
+    ensures shared { OnOk result (SharesTextsOf bytes.items cache.new) }
 {
-    let text = from_utf8(bytes).map_err(|_| CompactError::NotUtf8)?;
-    let mut line = compact_text(alloc, cache, text)?;
+    let mut line = text_of(bytes)?;
+    let value = from_json(alloc, cache, line.as_str())?;
+    line.clear();
+    push_value(&mut line, &value)?;
     line.push('\n')?;
-    Ok(line)
+    Ok((value, line))
 }
 
-/// The compact text of `text`.
-fn compact_text<S: BuildHasher>(
-    alloc: Global,
-    cache: &mut StringCache<S>,
-    text: &str,
-) -> Result<String, JsonError>
-    ensures written { IfOk result (λ written. Compacts text.now (string_bytes written)) }
-    ensures refused { IfErr result (λ error. Refuses text.now error) }
-    ensures cache { AddsOnlyRead text.now cache.old cache.new }
-    ensures shared { OnOk result (SharesTextsOf text.now cache.new) }
+/// The text that `bytes` are, in their memory.
+fn text_of(bytes: Vec<u8>) -> Result<String, CompactError>
+    ensures text { IfOk result (λ text. (string_bytes text ≡ bytes.items) × IsUtf8 bytes.items) }
+    ensures refused { IfErr result (λ error. (error ≡ NotUtf8) × ¬ (IsUtf8 bytes.items)) }
 {
-    let value = from_json(alloc, cache, text)?;
-    to_json(alloc, &value).map_err(|_| JsonError::Memory)
+    if from_utf8(&bytes).is_err() {
+        return Err(CompactError::NotUtf8);
+    }
+    Ok(unsafe { String::from_utf8_unchecked(bytes) })
 }

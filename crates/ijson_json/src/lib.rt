@@ -22,7 +22,7 @@ mod write;
 ghost use Rattle.ijson_json.specs.OneTree.{OneTree};
 ghost use Rattle.ijson_json.specs.PrintedIsAccepted.{PrintedIsAccepted};
 
-pub use compacting::{CompactError, compact};
+pub use compacting::{CompactError, compact, compact_value};
 pub use device::{DeviceFault, Sink, Source};
 pub use fault::JsonError;
 pub use memory_sink::MemorySink;

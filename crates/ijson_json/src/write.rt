@@ -22,7 +22,7 @@ pub fn to_json(alloc: Global, value: &IValue) -> Result<String, AllocError>
 }
 
 #[cycle(push)]
-fn push_value(out: &mut String, value: &IValue) -> Result<(), AllocError>
+pub(crate) fn push_value(out: &mut String, value: &IValue) -> Result<(), AllocError>
     ensures { OnOk result (string_bytes out.new ≡ string_bytes out.old ++ print value.now.tree) }
 {
     match value.destructure_ref() {

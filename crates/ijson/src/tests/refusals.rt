@@ -13,8 +13,8 @@ use crate::convert::{
 };
 use crate::ijson;
 use crate::json::{
-    CompactError, JsonError, MemorySink, MemorySource, compact, from_json, push_quoted,
-    push_separator, report, to_json,
+    CompactError, JsonError, MemorySink, MemorySource, compact, compact_value, from_json,
+    push_quoted, push_separator, report, to_json,
 };
 use crate::number::{INumber, ParseNumberError};
 use crate::object::IObject;
@@ -324,6 +324,25 @@ fn compacting(rt: HostRuntime) -> Result<(), Fail> {
             assert!(rt; is_compacted(&rt, rt.alloc(), &mut cache, text, line)?);
         }
     }
+    Ok(())
+}
+
+#[test]
+fn compacting_to_a_value(rt: HostRuntime) -> Result<(), Fail> {
+    let mut cache = used_cache(rt.alloc())?;
+    let mut input = MemorySource::new(b"[1.50]", 4, 100);
+    let mut output = sink(rt.alloc())?;
+    let value = match compact_value(rt.alloc(), &mut input, &mut output, &mut cache) {
+        Ok(value) => value,
+        Err(refused) => {
+            assert!(rt; refused == CompactError::Memory && output.bytes().is_empty());
+            let mut again = MemorySource::new(b"[1.50]", 4, 100);
+            compact_value(rt.alloc(), &mut again, &mut output, &mut cache)?
+        }
+    };
+    assert_eq!(rt; output.bytes(), b"[1.5]\n");
+    let found = written(rt.alloc(), &value)?;
+    assert_eq!(rt; found.as_str(), "[1.5]");
     Ok(())
 }
 
