@@ -10,6 +10,7 @@ pub mod Quoting
 pub mod Lists
 pub mod Unique
 pub mod Settles
+pub mod Lanes
 pub mod Law
 pub mod Listing
 pub mod Containers

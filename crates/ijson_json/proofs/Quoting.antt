@@ -1,16 +1,15 @@
 -- What is written of a string.
-use Rattle.std.proofs.Common.{◌≡◌, ℕ, ◌<◌, false, List, [], ◌∷◌, ◌++◌, length, Result, Ok, Err, refl, sym, ap, ap₂, ◌∙◌, append_assoc, arith}
-use Rattle.std.specs.Prelude.{IsTrue, OnOk, is_ok, if◌then◌else◌}
+use Rattle.std.proofs.Common.{◌≡◌, ℕ, false, List, [], ◌∷◌, ◌++◌, length, Result, Ok, Err, refl, sym, ap, ap₂, ◌∙◌, append_assoc, arith}
+use Rattle.std.specs.Prelude.{IsTrue, nat_lt, OnOk, is_ok, if◌then◌else◌}
 use Rattle.std.specs.Char.{encode_utf8}
 use Rattle.std.proofs.lemmas.Bool.Decides.{nat_tests}
-use Rattle.std.proofs.lemmas.List.{append-nil, length-append}
-use Rattle.std.proofs.lemmas.Str.{encode_ascii, length-encode, len_utf8_bounds}
+use Rattle.std.proofs.lemmas.List.{append-nil}
+use Rattle.std.proofs.lemmas.Str.{encode_ascii}
 use Rattle.ijson_json.specs.Strings.{is_unescaped}
 use Rattle.ijson_json.specs.Print.{escaped, all_escaped}
 use Rattle.ijson_json.specs.Print.{quoted}
 use Rattle.ijson_json.specs.private.Reading.{Past}
 use Rattle.ijson_json.proofs.Bytes.{Run}
-use Rattle.ijson_json.proofs.Escapes.{first_is}
 use Rattle.ijson_json.proofs.Runs.{special_ascii}
 
 all_escaped-append : (s t : List ℕ) → all_escaped (s ++ t) ≡ all_escaped s ++ all_escaped t
@@ -49,13 +48,14 @@ read_on text done left run after rest b e f g =
     e ∙ ap (λ (l : List ℕ). done ++ l) (f ∙ ap (λ (l : List ℕ). run ++ l) g)
     ∙ sym (append_assoc done run (b ∷ rest)) ∙ sym (append_assoc (done ++ run) (b ∷ []) rest)
 
--- the character that ends a run is one byte, and needs an escape
-pub special_first : (after rest : List ℕ) (c : ℕ) → Past is_unescaped after → after ≡ encode_utf8 c ++ rest → (is_unescaped c ≡ false) × (after ≡ c ∷ rest)
-special_first [] rest c p e = absurd (omega (arith, ap length e, length-append (encode_utf8 c) rest, length-encode c, (len_utf8_bounds c).0))
-special_first (b ∷ more) rest c p e =
-    let ascii : b < 128 = special_ascii b p in
-    let same : c ≡ b = first_is (b ∷ more) rest more c b e refl ascii in
-    (rw same p, e ∙ ap (λ (l : List ℕ). l ++ rest) (encode_ascii c (rw same ascii)))
+-- nothing stands behind the last run
+pub nothing_left : (after : List ℕ) → Past is_unescaped after → Past (λ b. nat_lt b 128) after → length after ≡ 0
+nothing_left [] p q = refl
+nothing_left (b ∷ more) p q = absurd (grind (arith, nat_tests, special_ascii b p, q))
+
+-- the byte that ends a run needs an escape
+pub special_first : (after rest : List ℕ) (b : ℕ) → Past is_unescaped after → after ≡ b ∷ rest → is_unescaped b ≡ false
+special_first after rest b p e = rw e at p
 
 -- the clause of a last call that appends
 pub on_ok : {A E : Type 0} (r : Result A E) (new longer same want : List ℕ) → new ≡ (if is_ok r then longer else same) → longer ≡ want → OnOk r (new ≡ want)

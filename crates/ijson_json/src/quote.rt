@@ -5,6 +5,7 @@ ghost use Rattle.std.specs.String.{string_bytes};
 ghost use Rattle.ijson_json.specs.Strings.{is_unescaped};
 ghost use Rattle.ijson_json.specs.Print.{escaped, hex_text, quoted};
 
+use crate::front::split_ascii;
 use crate::run::split_run;
 use std::alloc::AllocError;
 
@@ -58,11 +59,10 @@ pub fn push_quoted(out: &mut String, text: &str) -> Result<(), AllocError>
     loop {
         let (run, after) = split_run(left);
         out.push_str(run)?;
-        let mut characters = after.chars();
-        let Some(character) = characters.next() else {
+        let Some((byte, rest)) = split_ascii(after) else {
             return out.push('"');
         };
-        push_escape(out, character)?;
-        left = characters.as_str();
+        push_escape(out, byte as char)?;
+        left = rest;
     }
 }

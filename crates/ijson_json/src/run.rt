@@ -1,9 +1,12 @@
 //! Runs of a string's bytes that stand for themselves.
 
-ghost use Rattle.std.specs.Prelude.{◌≡◌, ◌++◌, IsTrue, not};
+ghost use Rattle.std.specs.Prelude.{◌≡◌, ◌++◌, IsTrue, map, not};
 ghost use Rattle.std.specs.List.{AllByRecursion, position, prefix_len};
+ghost use Rattle.std.specs.Simd.Lanes.{mask_l};
 ghost use Rattle.ijson_json.specs.Strings.{is_unescaped};
 ghost use Rattle.ijson_json.specs.private.Reading.{Past};
+
+use std::simd::prelude::*;
 
 /// Where the first byte is that must stand in an escape, or ends the string.
 fn first_special(bytes: &[u8]) -> Option<usize>
@@ -14,11 +17,61 @@ fn first_special(bytes: &[u8]) -> Option<usize>
         .position(|byte| *byte < b' ' || *byte == b'"' || *byte == b'\\')
 }
 
-/// How many bytes at the front stand for themselves.
-fn run_length(text: &str) -> usize
-    ensures { result ≡ prefix_len is_unescaped text.now }
+/// How many bytes at the front stand for themselves, one byte at a time.
+fn run_by_bytes(bytes: &[u8]) -> usize
+    ensures { result ≡ prefix_len is_unescaped bytes.now }
 {
-    first_special(text.as_bytes()).unwrap_or(text.len())
+    first_special(bytes).unwrap_or(bytes.len())
+}
+
+/// Which of the bytes must stand in an escape, or end the string. The lowest bit is that of the first.
+#[inline(always)]
+fn specials_of_8(bytes: u8x8) -> u64
+    ensures { result ≡ mask_l (map (λ byte. not (is_unescaped byte)) bytes) }
+{
+    (bytes.simd_eq(u8x8::splat(b'"'))
+        | bytes.simd_eq(u8x8::splat(b'\\'))
+        | bytes.simd_lt(u8x8::splat(b' '))).to_bitmask()
+}
+
+/// The same of twice as many.
+#[inline(always)]
+fn specials_of_16(bytes: u8x16) -> u64
+    ensures { result ≡ mask_l (map (λ byte. not (is_unescaped byte)) bytes) }
+{
+    (bytes.simd_eq(u8x16::splat(b'"'))
+        | bytes.simd_eq(u8x16::splat(b'\\'))
+        | bytes.simd_lt(u8x16::splat(b' '))).to_bitmask()
+}
+
+/// How many bytes at the front stand for themselves, where there are fewer than 16.
+#[inline(always)]
+fn short_run(bytes: &[u8]) -> usize
+    ensures { result ≡ prefix_len is_unescaped bytes.now }
+{
+    if bytes.len() < 8 {
+        return run_by_bytes(bytes);
+    }
+    let found = specials_of_8(u8x8::from_slice(bytes));
+    if found != 0 {
+        return found.trailing_zeros() as usize;
+    }
+    8 + run_by_bytes(&bytes[8..])
+}
+
+/// How many bytes at the front stand for themselves, 16 at a time.
+fn run_length(bytes: &[u8]) -> usize
+    ensures { result ≡ prefix_len is_unescaped bytes.now }
+{
+    let mut at = 0;
+    while bytes.len() - at >= 16 {
+        let found = specials_of_16(u8x16::from_slice(&bytes[at..]));
+        if found != 0 {
+            return at + found.trailing_zeros() as usize;
+        }
+        at += 16;
+    }
+    at + short_run(&bytes[at..])
 }
 
 /// The longest run of bytes at the front that stand for themselves, and the rest.
@@ -27,5 +80,5 @@ pub(crate) fn split_run(text: &str) -> (&str, &str)
     ensures run { AllByRecursion (λ byte. IsTrue (is_unescaped byte)) result.0.now }
     ensures stops { Past is_unescaped result.1.now }
 {
-    text.split_at(run_length(text))
+    text.split_at(run_length(text.as_bytes()))
 }

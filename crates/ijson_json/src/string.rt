@@ -15,6 +15,9 @@ use ijson_string::{IString, StringCache};
 use std::alloc::Global;
 use std::hash::BuildHasher;
 
+/// Room for so many bytes behind the first escape is made along with that for those before it.
+const ROOM: usize = 64;
+
 /// Appends what is left of a string's content, and gives the text behind its closing quote.
 fn push_content<'a>(content: &mut String, text: &'a str) -> Result<&'a str, Fault>
     ensures read { IfOk result (λ rest. (s : List ℕ) × ContentAt text.now s rest.now
@@ -56,7 +59,8 @@ pub(crate) fn read_string<'a, S: BuildHasher>(
     if let Some(rest) = after.strip_prefix('"') {
         return Ok((IString::intern(cache, run)?, rest));
     }
-    let mut content = String::from_str(alloc, run)?;
+    let mut content = String::with_capacity(alloc, run.len() + ROOM)?;
+    content.push_str(run)?;
     let rest = push_content(&mut content, after)?;
     Ok((IString::intern(cache, content.as_str())?, rest))
 }

@@ -1,3 +1,4 @@
 pub mod AllAreLong
+pub mod Keys
 pub mod IsText
 pub mod Stored

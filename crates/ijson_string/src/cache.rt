@@ -2,33 +2,39 @@
 ghost use Rattle.std.specs.Prelude.{◌≡◌, ◌<◌, ◌≤◌, ◌==◌, false, length, IfOk, OnOk, OnErr};
 ghost use Rattle.std.specs.FinSet as set;
 
-use crate::cached::CachedText;
+use crate::cached::{CachedText, SoughtText};
 use crate::text::IString;
 use indexmap::IndexSet;
 use std::alloc::{AllocError, Global};
-use std::hash::BuildHasher;
+use std::hash::{BuildHasher, BuildHasherDefault, FoldHasher};
 use std::marker::Model;
 
 /// A set of texts of more than 7 bytes, each kept once. `IString::intern` adds to it, and shares what it holds.
 #[derive(Drop)]
 pub struct StringCache<S: BuildHasher> {
     alloc: Global,
-    texts: IndexSet<CachedText, S>,
+    /// Their keys are hashes, which is why a fixed hasher does.
+    texts: IndexSet<CachedText, BuildHasherDefault<FoldHasher>>,
+    hasher: S,
 }
 
 impl<S: BuildHasher> Model for StringCache<S> {
     ghost use Rattle.std.specs.Coded.{coded_ℕ, coded_list};
     ghost use Rattle.std.specs.FinSet as set;
+    ghost use Rattle.std.specs.Hash as fed;
+    ghost use Rattle.std.specs.Prelude.{fold};
     ghost use Rattle.ijson_string.specs.Cache.{Texts};
     ghost use Rattle.ijson_string.specs.private.AllAreLong.{AllAreLong};
+    ghost use Rattle.ijson_string.specs.private.Keys.{texts_of, AreHashed};
 
     ghost Value = { Texts };
 
     ghost coded = { set.code (coded_list coded_ℕ) };
 
-    ghost view = { λ c. set.from_list c.texts.keys };
+    ghost view = { λ c. set.from_list (texts_of c.texts.keys) };
 
-    ghost invariant = { λ c. AllAreLong (set.from_list c.texts.keys) };
+    ghost invariant = { λ c. AllAreLong (set.from_list (texts_of c.texts.keys))
+        × AreHashed (λ text. S.Hasher.finish (fold S.Hasher.write (S.build_hasher c.hasher) (fed.str text))) c.texts.keys };
 }
 
 impl<S: BuildHasher> StringCache<S> {
@@ -39,7 +45,8 @@ impl<S: BuildHasher> StringCache<S> {
     {
         StringCache {
             alloc,
-            texts: IndexSet::with_hasher(alloc, hasher),
+            texts: IndexSet::new(alloc),
+            hasher,
         }
     }
 
@@ -62,7 +69,8 @@ impl<S: BuildHasher> StringCache<S> {
         ensures exact { result ≡ set.contains self.now text.now }
         ensures short { length text.now ≤ 7 → result ≡ false }
     {
-        self.texts.contains(text)
+        let hash = self.hasher.hash_one(text);
+        self.texts.contains(SoughtText { hash, text })
     }
 
     /// Takes out every text. Each `IString` keeps the text that it has.
@@ -80,12 +88,13 @@ impl<S: BuildHasher> StringCache<S> {
         ensures added { OnOk result (self.new ≡ set.insert self.old text.now) }
         ensures refused { OnErr result (self.new ≡ self.old) }
     {
-        if let Some(shared) = self.texts.get(text) {
+        let hash = self.hasher.hash_one(text);
+        if let Some(shared) = self.texts.get(SoughtText { hash, text }) {
             return shared.text.clone();
         }
         let shared = IString::long(self.alloc, text)?;
         let text = shared.clone()?;
-        self.texts.insert(CachedText { text })?;
+        self.texts.insert(CachedText { hash, text })?;
         Ok(shared)
     }
 }

@@ -1,12 +1,28 @@
-use Rattle.std.proofs.Common.{ap, ◌∙◌, length}
-use Rattle.std.specs.Prelude.{unwrap_or, not}
-use Rattle.std.specs.List.{position}
+use Rattle.std.proofs.Common.{sym, ap, ◌∙◌, arith}
+use Rattle.std.specs.List.{prefix_len}
+use Rattle.std.proofs.lemmas.List.{take_rest}
+use lib.Count.{count_trailing_zeros}
 use Rattle.ijson_json.specs.Strings.{is_unescaped}
-use Rattle.ijson_json.proofs.Runs.{run_end}
+use Rattle.ijson_json.proofs.Lanes.{run_through, run_within, run_bound}
 use Rattle.ijson_json.proofs.run.run_length.Goals as goal
+
+pub returns-then-found-ne0 : goal.returns-then-found-ne0
+returns-then-found-ne0 c =
+    let found = c.specials_of_16-found in
+    let run = run_within is_unescaped c.args.bytes.now c.loop-at.at 16 (omega arith) (omega arith) (omega (arith, found.ensures)) ∙ ap (count_trailing_zeros 64) (sym found.ensures) in
+    omega (arith, run, c.loop-at.invariant.0)
+
+pub loop-at-preserved : goal.loop-at-preserved
+loop-at-preserved c =
+    let run = run_through is_unescaped c.args.bytes.now c.loop-at.at 16 (omega arith) (omega (arith, c.specials_of_16-found.ensures)) in
+    (omega (arith, run, c.loop-at.invariant.0), omega arith)
+
+pub overflow_add-result-2 : goal.overflow_add-result-2
+overflow_add-result-2 c =
+    let rest = c.short_run.ensures ∙ ap (prefix_len is_unescaped) (take_rest c.args.bytes.now c.loop-at.at) in
+    omega (arith, rest, run_bound is_unescaped c.args.bytes.now c.loop-at.at c.loop-at.invariant.1)
 
 pub returns : goal.returns
 returns c =
-    c.unwrap_or.ensures
-    ∙ ap (λ o. unwrap_or o (length c.args.text.now)) (c.first_special.ensures ∙ ap (position (λ byte. not (is_unescaped byte))) c.as_bytes.ensures.value)
-    ∙ run_end is_unescaped c.args.text.now
+    let rest = c.short_run.ensures ∙ ap (prefix_len is_unescaped) (take_rest c.args.bytes.now c.loop-at.at) in
+    omega (arith, rest, c.loop-at.invariant.0)

@@ -37,4 +37,4 @@ returns-clause-read g c =
     string_found c.args.text.now inside (run ++ content.0) _ c.in_ok-rest.rest.now
     (strips_char 34 c.args.text.now inside c.in-Some.ensures.cases (omega arith))
     (reached_content inside run after content.0 c.in_ok-rest.rest.now reached content.1)
-    (c.in_ok-intern-2.ensures.text ∙ c.as_str.ensures.value ∙ content.2 ∙ ap (λ (l : List ℕ). l ++ content.0) c.in_ok-content.ensures.ok)
+    (c.in_ok-intern-2.ensures.text ∙ c.as_str.ensures.value ∙ content.2 ∙ ap (λ (l : List ℕ). l ++ content.0) (c.in_ok-push_str.ensures.bytes ∙ ap (λ (l : List ℕ). l ++ run) c.in_ok-content.ensures.bytes))
