@@ -7,6 +7,7 @@ mod digits;
 mod faults;
 mod few_digits;
 mod form;
+mod front;
 mod hash;
 mod integers;
 mod looks;
