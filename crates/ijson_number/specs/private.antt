@@ -11,3 +11,4 @@ pub mod Stored
 pub mod StrippedNumber
 pub mod SizeOrder
 pub mod WordText
+pub mod RowText
