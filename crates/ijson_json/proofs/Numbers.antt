@@ -3,7 +3,8 @@ use Rattle.std.proofs.Common.{◌≡◌, ℕ, zero, suc, ◌+◌, ◌<◌, ◌�
 use Rattle.std.specs.Prelude.{slice_range, IsTrue, ◌↔◌}
 use Rattle.std.specs.Str.{IsUtf8, IsCharBoundary}
 use Rattle.std.proofs.lemmas.Bool.Decides.{nat_tests}
-use Rattle.std.proofs.lemmas.List.{take-append-drop}
+use Rattle.std.proofs.lemmas.List.{get_or-take, length-take-le, take-append-drop}
+use Rattle.std.proofs.lemmas.List.Elements.{All-from_recursion}
 use Rattle.std.proofs.lemmas.Str.{IsCharBoundary-start, IsCharBoundary-after_ascii}
 use Rattle.std.specs.List.{prefix_len}
 use Rattle.std.proofs.lemmas.List.Sums.{prefix_len_passes, prefix_len-le-length}
@@ -21,12 +22,15 @@ number_ascii : (b : ℕ) → is_number_byte b ≡ true → b < 128
 number_ascii b h = grind (arith, nat_tests)
 
 -- a text may be cut behind the bytes of a number
+boundary : (text : List ℕ) → IsUtf8 text → (n : ℕ) → n ≤ length text → ((k d : ℕ) → k < n → is_number_byte (get_or text k d) ≡ true) → IsCharBoundary text n
+boundary text u zero h p = IsCharBoundary-start text u
+boundary text u (suc k) h p = let e : suc k ≡ k + 1 = omega arith in subst (λ (n : ℕ). IsCharBoundary text n) (sym e) (IsCharBoundary-after_ascii text k u (omega arith) (number_ascii _ (p k 0 (omega arith))))
+
 pub number_boundary : (text : List ℕ) → IsUtf8 text → IsCharBoundary text (prefix_len is_number_byte text)
-number_boundary text u = cut (prefix_len is_number_byte text) (prefix_len-le-length is_number_byte text) (prefix_len_passes is_number_byte text)
-  where
-    cut : (n : ℕ) → n ≤ length text → ((k d : ℕ) → k < n → is_number_byte (get_or text k d) ≡ true) → IsCharBoundary text n
-    cut zero h p = IsCharBoundary-start text u
-    cut (suc k) h p = let e : suc k ≡ k + 1 = omega arith in subst (λ (n : ℕ). IsCharBoundary text n) (sym e) (IsCharBoundary-after_ascii text k u (omega arith) (number_ascii _ (p k 0 (omega arith))))
+number_boundary text u = boundary text u (prefix_len is_number_byte text) (prefix_len-le-length is_number_byte text) (prefix_len_passes is_number_byte text)
+
+pub spelled_boundary : (text : List ℕ) (count : ℕ) (n : Decimal) → IsUtf8 text → count ≤ length text → Spells (take count text) n → IsCharBoundary text count
+spelled_boundary text count n u within s = boundary text u count within (λ k d h. rw (get_or-take count text k d h) at (All-from_recursion (λ b. IsTrue (is_number_byte b)) (take count text) (spells_bytes (take count text) n s) k d (let e = length-take-le count text within in omega arith)))
 
 -- a number at the front is the whole run of number bytes
 number_is_run : (text run rest : List ℕ) (n : Decimal) (other : List ℕ) → text ≡ run ++ rest → Run is_number_byte run → Stops rest → (a : NumberAt text n other) → run ≡ a.found.front

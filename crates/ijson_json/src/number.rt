@@ -1,6 +1,6 @@
 //! Reading a number.
 
-ghost use Rattle.std.specs.Prelude.{◌≡◌, ◌++◌, ◌↔◌, IsTrue, MatchResult, not};
+ghost use Rattle.std.specs.Prelude.{◌≡◌, ◌++◌, ◌↔◌, IfOk, IfSome, IsTrue, MatchResult, not};
 ghost use Rattle.std.specs.List.{AllByRecursion, position, prefix_len};
 ghost use Rattle.ijson_number.specs.private.NumberBytes.{is_number_byte};
 ghost use Rattle.ijson_json.specs.private.Explains.{NumberFault};
@@ -8,7 +8,7 @@ ghost use Rattle.ijson_json.specs.private.Reading.{IsPastLimit, NumberRead, Stop
 
 use crate::fault::Fault;
 use ijson_number::{INumber, ParseNumberError, first_fault};
-use std::alloc::Global;
+use std::alloc::{AllocError, Global};
 
 /// A byte that a number may be made of.
 fn in_number(byte: u8) -> bool
@@ -56,12 +56,39 @@ fn is_past_limit(alloc: Global, text: &str) -> bool
     }
 }
 
+/// Whether no byte of a number stands at the front.
+fn stops(text: &str) -> bool
+    ensures { IsTrue result ↔ Stops text.now }
+{
+    text.is_empty() || !in_number(text.as_bytes()[0])
+}
+
+/// The number at the front, where one pass reads it.
+#[inline(always)]
+fn read_short(alloc: Global, text: &str) -> Result<Option<(INumber, &str)>, AllocError>
+    ensures { IfOk result (λ found. IfSome found (λ x.
+        NumberRead text.now x.0.decimal x.1.now)) }
+{
+    let Some((number, length)) = INumber::at_front(alloc, text)? else {
+        return Ok(None);
+    };
+    let (_, rest) = text.split_at(length);
+    if stops(rest) {
+        Ok(Some((number, rest)))
+    } else {
+        Ok(None)
+    }
+}
+
 /// The number at the front. One past the limit is told at its first byte, whatever follows it.
 pub(crate) fn read_number(alloc: Global, text: &str) -> Result<(INumber, &str), Fault>
     ensures { MatchResult result
         (λ x. NumberRead text.now x.0.decimal x.1.now)
         (λ fault. NumberFault text.now fault) }
 {
+    if let Some(read) = read_short(alloc, text)? {
+        return Ok(read);
+    }
     let (run, rest) = split_number(text);
     match INumber::from_str(alloc, run) {
         Ok(number) => Ok((number, rest)),

@@ -1,14 +1,14 @@
 -- Numbers of few digits, read straight into a word.
-use Rattle.std.proofs.Common.{◌≡◌, ◌≢◌, ℕ, zero, suc, ◌+◌, ◌-◌, ◌*◌, ◌%◌, ◌^◌, ◌<◌, ◌≤◌, Bool, true, false, List, [], ◌∷◌, ◌++◌, length, get_or, take, drop, refl, ap, sym, ◌∙◌, inl, inr, arith, pow-add}
+use Rattle.std.proofs.Common.{◌≡◌, ◌≢◌, ℕ, zero, suc, ◌+◌, ◌-◌, ◌*◌, ◌%◌, ◌^◌, ◌<◌, ◌≤◌, Bool, true, false, List, [], ◌∷◌, ◌++◌, length, get_or, take, refl, ap, sym, ◌∙◌, inl, inr, arith, pow-add}
 use Rattle.std.specs.Prelude.{Option, Some, None, IfSome, ℤ, pos, negsuc, neg_ℤ, nat_abs, int_le, int_lt, ◌≤ℤ◌, ◌<ℤ◌, ◌+ℤ◌, ◌-ℤ◌, ◌*ℤ◌, ◌&&◌}
 use Rattle.std.specs.Int.Digits.{number_from_digits, number_from_digits_after, AllBelowBase}
 use Rattle.std.proofs.Math.Nat.{mul-le-mul_left, mul-le-mul_right}
 use Rattle.std.proofs.lemmas.Int.{ints}
 use Rattle.std.proofs.lemmas.Int.Digits.{number_after_append, number_after_lt, number_lt}
-use Rattle.std.proofs.lemmas.List.{length-map, length-take-le, map-append, nil_from_length, take-append-drop, take_more}
+use Rattle.std.proofs.lemmas.List.{length-map, length-take-le, map-append, nil_from_length, take_more}
 use Rattle.ijson_number.specs.Decimal.{Decimal}
-use Rattle.ijson_number.specs.Form.{packed, fits_i64, fits_packed, fits_u64, smallest_packed, form_of}
-use Rattle.ijson_number.specs.Grammar.{AllDigits, IsSpelled, Parts, value}
+use Rattle.ijson_number.specs.Form.{FormOf, packed, fits_i64, fits_packed, fits_u64, smallest_packed, form_of}
+use Rattle.ijson_number.specs.Grammar.{AllDigits, Denotes, IsDigit, IsSpelled, Parts, value}
 use Rattle.ijson_number.specs.Num.{IsNum}
 use Rattle.ijson_number.specs.Strips.{Strips, signed}
 use Rattle.ijson_number.specs.private.FormNumber.{integer_word}
@@ -17,13 +17,14 @@ use Rattle.ijson_number.specs.private.Stripped.{digits_from_text}
 use Rattle.ijson_number.specs.laws.Tens.{abs_signed, int_tens, int_zero, signed_mul, signed_zero, zero_or_not}
 use Rattle.std.proofs.lemmas.Bool.{cases_lt}
 use Rattle.ijson_number.proofs.Denotes.{no_point, signed_nought}
+use Rattle.ijson_number.proofs.Existence.{parts_denote}
 use Rattle.ijson_number.proofs.Exponents.{within_in_range}
 use Rattle.ijson_number.proofs.FormNumbers.{IsTensOut, tens_out_is, sign_and_size, stripped_is}
 use Rattle.ijson_number.proofs.Forms.{left, packed_here, packed_is, taken}
-use Rattle.ijson_number.proofs.IntegerWords.{below_test, form_is}
+use Rattle.ijson_number.proofs.IntegerWords.{below_test, form_is, signed_known, unsigned_fits}
 use Rattle.ijson_number.proofs.Outcomes.{abs_zero, both_hold, le_test}
 use Rattle.ijson_number.specs.laws.Ordered.{times}
-use Rattle.ijson_number.proofs.Runs.{AllDigits_left}
+use Rattle.ijson_number.proofs.Runs.{AllDigits-append}
 use Rattle.ijson_number.proofs.Sizes.{power_le}
 use Rattle.ijson_number.proofs.WholeValues.{abs_times, tens_few, times_one}
 
@@ -40,41 +41,40 @@ append_step n bs i h =
     let split : digits_from_text (take (i + 1) bs) ≡ digits_from_text (take i bs) ++ (get_or bs i 0 - 48) ∷ [] = ap digits_from_text (take_more bs i 0 h) ∙ map-append {A = ℕ} {B = ℕ} (λ b. b - 48) (take i bs) (get_or bs i 0 ∷ []) in
     sym (ap (number_from_digits_after 10 n) split ∙ number_after_append 10 n (digits_from_text (take i bs)) ((get_or bs i 0 - 48) ∷ []))
 
--- what was read so far stays below a word
-pub so_far_small : (n : ℕ) (bs : List ℕ) (i : ℕ) → AllDigits bs → i < length bs → (n + 1) * 10 ^ length bs ≤ 10 ^ 18 → number_from_digits_after 10 n (digits_from_text (take i bs)) < 10 ^ 18
-so_far_small n bs i h l room =
-    let front = AllDigits_left (take i bs) (drop i bs) (rw take-append-drop h) in
-    let below = number_after_lt 10 n (digits_from_text (take i bs)) (below_base (take i bs) front) in
-    let count : length (digits_from_text (take i bs)) ≡ i = count_of (take i bs) ∙ length-take-le i bs (omega arith) in
-    let p : 10 ^ i ≤ 10 ^ length bs = power_le i (length bs) (omega arith) in
-    let m : (n + 1) * 10 ^ i ≤ (n + 1) * 10 ^ length bs = mul-le-mul_left (n + 1) p in
-    let small : number_from_digits_after 10 n (digits_from_text (take i bs)) < (n + 1) * 10 ^ i = rw count at below in
+-- few digits more stay below a word
+pub digits_small : (n : ℕ) (bs : List ℕ) (most : ℕ) → AllDigits bs → length bs ≤ most → (n + 1) * 10 ^ most ≤ 10 ^ 19 → number_from_digits_after 10 n (digits_from_text bs) < 10 ^ 19
+digits_small n bs most h l room =
+    let below = number_after_lt 10 n (digits_from_text bs) (below_base bs h) in
+    let p : 10 ^ length bs ≤ 10 ^ most = power_le (length bs) most l in
+    let m : (n + 1) * 10 ^ length bs ≤ (n + 1) * 10 ^ most = mul-le-mul_left (n + 1) p in
+    let small : number_from_digits_after 10 n (digits_from_text bs) < (n + 1) * 10 ^ length bs = rw (count_of bs) at below in
     omega arith
+
+pub digits_more : (bs : List ℕ) (i : ℕ) → AllDigits (take i bs) → i < length bs → IsDigit (get_or bs i 0) → AllDigits (take (i + 1) bs)
+digits_more bs i front inside digit = rw (take_more bs i 0 inside) (AllDigits-append (take i bs) (get_or bs i 0 ∷ []) front (digit, tt))
+
+-- and so does one digit more
+pub step_small : (n : ℕ) (bs : List ℕ) (i most : ℕ) → AllDigits (take i bs) → i < length bs → i < most → IsDigit (get_or bs i 0) → (n + 1) * 10 ^ most ≤ 10 ^ 19 → number_from_digits_after 10 n (digits_from_text (take i bs)) * 10 + (get_or bs i 0 - 48) < 10 ^ 19
+step_small n bs i most front inside few digit room =
+    let all = digits_more bs i front inside digit in
+    let count : length (take (i + 1) bs) ≡ i + 1 = length-take-le (i + 1) bs (omega arith) in
+    rw (append_step n bs i inside) (digits_small n (take (i + 1) bs) most all (omega arith) room)
 
 value_small : (bs : List ℕ) → AllDigits bs → value bs < 10 ^ length bs
 value_small bs h = rw (count_of bs) at (number_lt 10 (digits_from_text bs) (below_base bs h))
 
-module _ (front back : List ℕ) (f : AllDigits front) (b : AllDigits back) (few : length front + length back ≤ 18) where
-  pub front_room : 1 * 10 ^ length front ≤ 10 ^ 18
-  front_room = let p = power_le (length front) 18 (omega arith) in omega arith
+-- digits behind others
+pub joined_value : (front back : List ℕ) → number_from_digits_after 10 (value front) (digits_from_text back) ≡ value (front ++ back)
+joined_value front back = sym (ap (number_from_digits 10) (map-append {A = ℕ} {B = ℕ} (λ b. b - 48) front back) ∙ number_after_append 10 0 (digits_from_text front) (digits_from_text back))
 
-  pub back_room : (value front + 1) * 10 ^ length back ≤ 10 ^ 18
-  back_room =
-      let v = value_small front f in
-      let m : (value front + 1) * 10 ^ length back ≤ 10 ^ length front * 10 ^ length back = mul-le-mul_right (10 ^ length back) (omega arith) in
-      let s = pow-add 10 (length front) (length back) in
-      let p = power_le (length front + length back) 18 few in
-      omega arith
-
-  pub joined_value : number_from_digits_after 10 (value front) (digits_from_text back) ≡ value (front ++ back)
-  joined_value = sym (ap (number_from_digits 10) (map-append {A = ℕ} {B = ℕ} (λ b. b - 48) front back) ∙ number_after_append 10 0 (digits_from_text front) (digits_from_text back))
-
-  pub joined_small : number_from_digits_after 10 (value front) (digits_from_text back) < 10 ^ 18
-  joined_small =
-      let below = number_after_lt 10 (value front) (digits_from_text back) (below_base back b) in
-      let small : number_from_digits_after 10 (value front) (digits_from_text back) < (value front + 1) * 10 ^ length back = rw (count_of back) at below in
-      let r = back_room in
-      omega arith
+-- digits leave room for so many more
+pub room_left : (front : List ℕ) (k : ℕ) → AllDigits front → length front ≡ k → k ≤ 19 → (value front + 1) * 10 ^ (19 - k) ≤ 10 ^ 19
+room_left front k digits count few =
+    let v : value front < 10 ^ k = rw count at (value_small front digits) in
+    let m : (value front + 1) * 10 ^ (19 - k) ≤ 10 ^ k * 10 ^ (19 - k) = mul-le-mul_right (10 ^ (19 - k)) (omega arith) in
+    let all : k + (19 - k) ≡ 19 = omega arith in
+    let whole : 10 ^ k * 10 ^ (19 - k) ≡ 10 ^ 19 = sym (pow-add 10 k (19 - k)) ∙ ap (λ j. 10 ^ j) all in
+    omega arith
 
 not_le : (a b : ℤ) → b <ℤ a → int_le a b ≡ false
 not_le a b h = grind (arith, ints)
@@ -175,11 +175,15 @@ no_exponent negative written k none =
     let z : signed negative (value written) ≡ pos 0 = rw nil (signed_nought negative) in
     rw z (omega (arith, ints))
 
+-- the mantissa and the exponent of parts with no exponent
+pub whole_strips : (p : Parts) (written : List ℕ) (minus : Bool) (size : ℕ) (n : Decimal) → p.exponent ≡ signed minus (value written) → length written ≡ 0 → size ≡ value (p.whole ++ p.fraction) → Denotes p n → Strips (signed p.negative size) (neg_ℤ (pos (length p.fraction))) n
+whole_strips p written minus size n e none is d = rw (is, ← no_exponent minus written (length p.fraction) none, ← e) d.0
+
 pub no_fraction : (text : List ℕ) (p : Parts) → IsSpelled text p → p.point ≡ false → length p.fraction ≡ 0
 no_fraction text p s e = ap (λ (x : List ℕ). length x) (no_point s.fraction_text s.exponent_text p.fraction p.exponent s.has_point s.has_exponent s.fraction s.exponent (sym s.point ∙ e)).0
 
 -- a number of few digits is within the limit
-pub few_num : (m : ℤ) (places : ℕ) (n : Decimal) → nat_abs m < 2 ^ 64 → places ≤ 18 → Strips m (neg_ℤ (pos places)) n → IsNum n
+pub few_num : (m : ℤ) (places : ℕ) (n : Decimal) → nat_abs m < 2 ^ 64 → places ≤ 19 → Strips m (neg_ℤ (pos places)) n → IsNum n
 few_num m places n word few s = record {
   plain = s.plain;
   in_range = elim (zero_or_not n.mantissa) [
@@ -203,7 +207,16 @@ integer_form_is z n word fits point s =
     let is : stripped_number z (pos 0) false ≡ n = ap (λ p. stripped_number z (pos 0) p) (sym point) ∙ stripped_is z (pos 0) n (omega arith) s in
     ap form_of (sym is) ∙ sym (form_is z word (integer_word z) fits refl)
 
+-- a word that fits its sign is of 64 bits
+pub fits_known : (negative : Bool) (size : ℕ) → size < 2 ^ 64 → (negative ≡ true → size < 2 ^ 63) → fits_i64 (signed negative size) ≡ false → fits_u64 (signed negative size) ≡ true
+fits_known false size word h = λ _. unsigned_fits size word
+fits_known true size word h = let small : size < 2 ^ 63 = h refl in signed_known (neg_ℤ (pos size)) (grind (arith, ints, small))
+
 -- what is known of a value holds of what follows from it
 pub some_with : {A : Type 0} (o : Option A) (P Q : A → Type 0) → IfSome o P → ((x : A) → P x → Q x) → IfSome o Q
 some_with (Some x) P Q h f = f x h
 some_with None P Q h f = tt
+
+-- the number of the parts, whose form a word is
+pub number_of_word : (text : List ℕ) (p : Parts) (f : FormOf) → IsSpelled text p → ((n : Decimal) → Denotes p n → (form_of n ≡ f) × IsNum n) → (n : Decimal) × Denotes p n × (f ≡ form_of n) × IsNum n
+number_of_word text p f spelled known = let d = parts_denote text p spelled in let k = known d.0 d.1 in (d.0, d.1, sym k.0, k.1)

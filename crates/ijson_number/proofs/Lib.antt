@@ -25,3 +25,4 @@ pub mod IntegerWords
 pub mod DigitRows
 pub mod WordTexts
 pub mod FewDigits
+pub mod RowTexts

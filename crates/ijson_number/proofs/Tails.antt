@@ -35,7 +35,7 @@ no_tail bytes a rest e d n none f z p t =
 
 -- the two, at a text that is looked at from its first byte on
 module _ (bytes a rest : List ℕ) (h : 0 < length bytes) (e : get_or bytes 0 0 ≡ 46) (s : take (length bytes - 1) (drop 1 bytes) ≡ a ++ rest) where
-  point_first : bytes ≡ 46 ∷ (a ++ rest)
+  pub point_first : bytes ≡ 46 ∷ (a ++ rest)
   point_first = begun bytes (a ++ rest) 46 h e (sym (take_rest bytes 1) ∙ s)
 
   pub tail_at_point : (z : ℤ) (w : Bool) → 0 < length a → AllDigits a → IsExponent rest z w → IsTail bytes a z true

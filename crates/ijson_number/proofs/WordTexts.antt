@@ -397,7 +397,7 @@ pub many_places : (e x : ℤ) (k n : ℕ) → x ≡ e → k ≡ nat_abs e → ((
 many_places e x k n s p (inl t) l h = t.1
 many_places e x k n s p (inr t) l h = absurd (let u : int_lt e (negsuc 5) ≡ false = rw s at t in let v = below_test e (negsuc 5) (omega (arith, ints)) in cc)
 
-sign_ascii : (negative : Bool) → IsAscii (minus_text negative)
+pub sign_ascii : (negative : Bool) → IsAscii (minus_text negative)
 sign_ascii true = IsAscii-cons 45 [] (omega arith) IsAscii-nil
 sign_ascii false = IsAscii-nil
 

@@ -1,6 +1,7 @@
 pub mod NumberBytes
 pub mod Reading
 pub mod Scanned
+pub mod Front
 pub mod StoredDigits
 pub mod StoredNumber
 pub mod Stripped
@@ -10,3 +11,4 @@ pub mod Stored
 pub mod StrippedNumber
 pub mod SizeOrder
 pub mod WordText
+pub mod RowText

@@ -40,7 +40,7 @@ pub fn stored_signed(value: i64) -> Stored
 }
 
 /// What is stored of an integer that isn't below zero.
-fn stored_unsigned(value: u64) -> Stored
+pub fn stored_unsigned(value: u64) -> Stored
     ensures { stored_form result ≡ integer_word (pos value) }
 {
     match i64::try_from(value) {

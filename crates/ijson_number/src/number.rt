@@ -5,9 +5,10 @@ ghost use Rattle.ijson_number.specs.Num.{IsNum};
 ghost use Rattle.ijson_number.specs.laws.Codes.{IsNum-prop};
 ghost use Rattle.ijson_number.specs.private.Stored.{stored_decimal};
 
-use crate::reading;
+use crate::front::{read_front, read_word};
+use crate::reading::{self, Spelling};
 use crate::stored::{LongNumber, Stored};
-use std::alloc::Global;
+use std::alloc::{AllocError, Global};
 use std::marker::Model;
 use thiserror::Error;
 
@@ -45,7 +46,10 @@ impl Model for INumber {
 }
 
 impl INumber {
+    ghost use Rattle.std.specs.Prelude.{◌≤◌, List, ℕ, length, take, IfSome};
+    ghost use Rattle.ijson_number.specs.Grammar.{AllDigits, Denotes, IsSpelled};
     ghost use Rattle.ijson_number.specs.Refused.{IsRefused};
+    ghost use Rattle.ijson_number.specs.private.Scanned.{parts_of};
 
     /// The number that the whole text spells, with no white space round it. Memory is taken where the stored form is a
     /// list of digits alone.
@@ -53,12 +57,25 @@ impl INumber {
         ensures ok { IfOk result (λ n. Spells text.now n.decimal) }
         ensures err { IfErr result (λ e. IsRefused text.now e) }
     {
-        let Some(spelling) = reading::read(text.as_bytes()) else {
-            return Err(ParseNumberError::Invalid);
-        };
-        if let Some(stored) = spelling.word() {
+        let bytes = text.as_bytes();
+        if let Some(stored) = read_word(bytes) {
             return Ok(INumber { stored });
         }
+        match reading::read(bytes) {
+            Some(spelling) => INumber::from_spelling(alloc, &spelling),
+            None => Err(ParseNumberError::Invalid),
+        }
+    }
+
+    /// The number of the parts.
+    fn from_spelling(alloc: Global, spelling: &Spelling<'_>) -> Result<INumber, ParseNumberError>
+        requires spelled { (text : List ℕ) × IsSpelled text (parts_of spelling.now) }
+        requires digits { AllDigits spelling.now.tail.exponent.now }
+        ensures ok { IfOk result (λ n. Denotes (parts_of spelling.now) n.decimal) }
+        ensures err { IfErr result (λ e. (text : List ℕ)
+            → IsSpelled text (parts_of spelling.now)
+            → IsRefused text e) }
+    {
         let Some(scanned) = spelling.scan() else {
             return Err(ParseNumberError::Invalid);
         };
@@ -71,6 +88,25 @@ impl INumber {
         Ok(INumber {
             stored: Stored::Digits(number),
         })
+    }
+
+    /// A number that the text begins with, and how many bytes spell it, in one pass over them. None tells nothing: what
+    /// has an exponent or many digits is left to `from_str`. Memory is taken as there.
+    pub fn at_front(alloc: Global, text: &str) -> Result<Option<(INumber, usize)>, AllocError>
+        ensures { IfOk result (λ found. IfSome found (λ f.
+            (f.1 ≤ length text.now) × Spells (take f.1 text.now) f.0.decimal)) }
+    {
+        let Some(front) = read_front(text.as_bytes()) else {
+            return Ok(None);
+        };
+        if let Some(stored) = front.word() {
+            return Ok(Some((INumber { stored }, front.length)));
+        }
+        match INumber::from_spelling(alloc, &front.spelling) {
+            Ok(number) => Ok(Some((number, front.length))),
+            Err(ParseNumberError::Memory) => Err(AllocError),
+            Err(ParseNumberError::Invalid) => Ok(None),
+        }
     }
 
     /// Whether the number was written with a point or an exponent.

@@ -136,7 +136,7 @@ pub fn split_sign(text: &[u8]) -> (bool, &[u8])
 }
 
 /// Whether digits may stand before the point.
-fn is_whole(digits: &[u8]) -> bool
+pub fn is_whole(digits: &[u8]) -> bool
     requires { AllDigits digits.now }
     ensures { IsTrue result ↔ IsWhole digits.now }
 {

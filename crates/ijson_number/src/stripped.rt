@@ -145,7 +145,7 @@ impl LongNumber {
     ghost use Rattle.ijson_number.specs.private.StrippedNumber.{decimal_of};
 
     /// The number by its stripped digits.
-    fn stripped(&self) -> StrippedNumber<'_>
+    pub fn stripped(&self) -> StrippedNumber<'_>
         requires { IsNum
             (stored_number self.now.negative self.now.digits self.now.exponent self.now.point) }
         ensures { decimal_of result

@@ -1,4 +1,4 @@
-//! The text of a number that is kept in one word, written at once.
+//! The text of a number, written at once; here of one that is kept in one word.
 ghost use Rattle.std.specs.Prelude.{◌≡◌, ◌+◌, ◌/◌, ◌%◌, ◌^◌, ◌<◌, ◌≤◌, ◌∷◌, ◌++◌, drop, length, true, false, pos, IfSome, IsTrue};
 ghost use Rattle.std.specs.Fmt.{decimal};
 ghost use Rattle.ijson_number.specs.Form.{fits_packed, form_of, packed};
@@ -14,6 +14,20 @@ use std::str;
 /// Room for a sign, twenty digits, the point and seven digits behind it.
 pub const TEXT_ROOM: usize = 32;
 
+/// Writes the minus in front of what starts there, if there is one, and returns where the whole starts.
+pub fn put_minus(negative: bool, room: &mut [u8; TEXT_ROOM], start: usize) -> usize
+    requires low { 1 ≤ start }
+    requires high { start ≤ 32 }
+    ensures within { result ≤ start }
+    ensures text { drop result room.new ≡ minus_text negative ++ drop start room.old }
+{
+    if !negative {
+        return start;
+    }
+    room[start - 1] = b'-';
+    start - 1
+}
+
 /// Writes a whole number so that it ends at `end`, and returns where it starts.
 fn put_integer(negative: bool, size: u64, room: &mut [u8; TEXT_ROOM], end: usize) -> usize
     requires low { 24 ≤ end }
@@ -22,11 +36,7 @@ fn put_integer(negative: bool, size: u64, room: &mut [u8; TEXT_ROOM], end: usize
     ensures text { drop result room.new ≡ integer_text negative size ++ drop end room.old }
 {
     let start = write_digits(size, room, end);
-    if !negative {
-        return start;
-    }
-    room[start - 1] = b'-';
-    start - 1
+    put_minus(negative, room, start)
 }
 
 /// Writes the point and so many digits of a fraction to the end of the room, and returns where the point stands.
@@ -81,7 +91,7 @@ fn pointed(mantissa: i64, exponent: i8, room: &mut [u8; TEXT_ROOM]) -> Option<&s
 }
 
 impl INumber {
-    /// The text, where the number is kept in one word and no exponent is written.
+    /// The text, where the number has few digits and neither an exponent nor zeros are written beside them.
     pub(crate) fn word_text<'a>(&self, room: &'a mut [u8; TEXT_ROOM]) -> Option<&'a str>
         ensures { IfSome result (λ text. text.now ≡ num_text self.now.decimal) }
     {
@@ -95,7 +105,7 @@ impl INumber {
             }
             Stored::I64(value) => Some(integer(*value < 0, value.unsigned_abs(), room)),
             Stored::U64(value) => Some(integer(false, *value, room)),
-            Stored::Digits(_) => None,
+            Stored::Digits(number) => number.stripped().row_text(room),
         }
     }
 }

@@ -50,6 +50,25 @@ fn number_of_many_digits(rt: HostRuntime) -> Result<(), Fail> {
     Ok(())
 }
 
+#[test]
+fn number_at_the_front(rt: HostRuntime) -> Result<(), Fail> {
+    let text = "-123.4567890123450, 2";
+    let read = match INumber::at_front(rt.alloc(), text) {
+        Ok(read) => read,
+        Err(AllocError) => INumber::at_front(rt.alloc(), text)?,
+    };
+    let Some((number, length)) = read else {
+        panic!(rt; "none");
+    };
+    assert_eq!(rt; length, 18);
+    let same = "-123.456789012345";
+    assert!(rt;
+        number
+            == INumber::from_str(rt.alloc(), same).or_else(|_| INumber::from_str(rt.alloc(), same))?
+    );
+    Ok(())
+}
+
 fn number(at: usize) -> IValue {
     IValue::from(at)
 }
