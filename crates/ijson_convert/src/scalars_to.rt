@@ -22,6 +22,7 @@ impl ToIValue for bool {
     }
 }
 
+/// The text, interned.
 impl ToIValue for &str {
     ghost tree = { λ s. string s.now };
 
@@ -35,6 +36,7 @@ impl ToIValue for &str {
     }
 }
 
+/// The text, interned.
 impl ToIValue for String {
     ghost tree = { λ s. string (string_bytes s) };
 

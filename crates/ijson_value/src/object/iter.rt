@@ -70,7 +70,7 @@ impl<'a> Model for Values<'a> {
     ghost view = { λ values. map (λ pair. pair.1) values.left };
 }
 
-/// The pairs that are left of an object that is gone, front to back.
+/// The pairs that are left of an object that is gone, front to back. Those that are not taken are dropped with it.
 #[derive(Drop)]
 pub struct IntoIter {
     left: vec::IntoIter<(IString, IValue)>,
@@ -91,7 +91,7 @@ impl Model for IntoIter {
 }
 
 impl IObject {
-    /// The pairs, front to back.
+    /// The pairs, front to back. It borrows the object, and takes no memory. `len` says how many are left.
     pub fn iter(&self) -> Iter<'_>
         ensures { result ≡ self.now.pairs }
     {
@@ -100,14 +100,14 @@ impl IObject {
         }
     }
 
-    /// The keys, front to back.
+    /// The keys, front to back. It takes no memory.
     pub fn keys(&self) -> Keys<'_>
         ensures { result ≡ keys_of self.now.pairs }
     {
         Keys { left: self.iter() }
     }
 
-    /// The values, front to back.
+    /// The values, front to back. It takes no memory.
     pub fn values(&self) -> Values<'_>
         ensures { result ≡ map (λ pair. pair.1) self.now.pairs }
     {
@@ -115,6 +115,7 @@ impl IObject {
     }
 }
 
+/// The pairs, front to back, which are moved and not copied.
 impl IntoIterator for IObject {
     type Item = (IString, IValue);
 
