@@ -10,6 +10,7 @@ use ijson_value::value::IValue;
 use std::alloc::Global;
 use std::hash::BuildHasher;
 
+/// The truth value. It takes no memory.
 impl ToIValue for bool {
     ghost tree = { λ b. boolean b };
 

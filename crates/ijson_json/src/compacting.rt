@@ -56,6 +56,7 @@ impl From<ReadFault> for CompactError {
     }
 }
 
+/// `Memory` for want of memory, and `Json` for each other fault.
 impl From<JsonError> for CompactError {
     ghost from_gives = { λ error becomes. becomes ≡ compact_error_of error };
 
@@ -67,6 +68,7 @@ impl From<JsonError> for CompactError {
     }
 }
 
+/// `Memory`.
 impl From<AllocError> for CompactError {
     ghost from_gives = { λ _ error. error ≡ NoMemory };
 

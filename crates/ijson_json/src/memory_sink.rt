@@ -62,6 +62,7 @@ impl MemorySink {
     }
 }
 
+/// No call takes memory.
 impl Sink for MemorySink {
     ghost failed = { λ s. s.failed };
 

@@ -52,6 +52,7 @@ impl<'a> MemorySource<'a> {
     }
 }
 
+/// No call takes memory.
 impl Source for MemorySource<'_> {
     ghost failed = { λ s. s.failed };
 

@@ -122,6 +122,7 @@ impl<V> FixedTable<V> {
     }
 }
 
+/// As `Table`.
 impl<V> Places for FixedTable<V> {
     ghost hash_of = { λ text. fold_words text };
 
@@ -146,6 +147,7 @@ impl<V> Places for FixedTable<V> {
     }
 }
 
+/// As `Table`.
 impl<V: Drop> PairStore<V> for FixedTable<V> {
     ghost pairs = { λ t. t.store.pairs };
 

@@ -18,6 +18,7 @@ pub trait KeyHash {
 #[derive(Clone, Copy, Debug, Drop)]
 pub struct FixedHash;
 
+/// Four bytes are taken at a time.
 impl KeyHash for FixedHash {
     ghost hash_of = { λ text. fold_words text };
 

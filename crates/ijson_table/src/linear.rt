@@ -93,6 +93,7 @@ impl<V: Drop> LinearPairs<V> {
     }
 }
 
+/// A look-up compares the keys from the front.
 impl<V: Drop> PairStore<V> for LinearPairs<V> {
     ghost pairs = { λ s. s.pairs };
 

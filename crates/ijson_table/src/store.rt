@@ -22,6 +22,7 @@ pub enum ReserveError {
     TooLarge,
 }
 
+/// `Memory`.
 impl From<AllocError> for ReserveError {
     ghost use Rattle.std.specs.Prelude.{◌≡◌};
     ghost use Rattle.ijson_table.specs.declared.store.ReserveError.TheVariants.{Memory};

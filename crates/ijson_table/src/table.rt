@@ -219,6 +219,7 @@ impl<V, H: KeyHash> Table<V, H> {
     }
 }
 
+/// A look compares the key with that of the resident, if there is one.
 impl<V, H: KeyHash> Places for Table<V, H> {
     ghost hash_of = { H.hash_of };
 
@@ -250,6 +251,7 @@ impl<V, H: KeyHash> Places for Table<V, H> {
     }
 }
 
+/// Each key that is sought, put or taken out is hashed; growth and shrinking hash none.
 impl<V: Drop, H: KeyHash> PairStore<V> for Table<V, H> {
     ghost pairs = { λ t. t.store.pairs };
 

@@ -59,6 +59,7 @@ impl IntoIterator for IArray {
     }
 }
 
+/// Front to back, each item once, and then None again and again. It takes no memory.
 impl Iterator for IntoIter {
     type Item = IValue;
 

@@ -51,6 +51,7 @@ pub struct VacantEntry<'a, K: Text = IString> {
     ghost room: { length object.now.pairs < object.now.capacity },
 }
 
+/// The key goes, and the object stays as it is, with the room that was made.
 impl<'a, K: Text + Drop> Drop for VacantEntry<'a, K> {
     fn drop(self)
         ensures { self.exit.0.now ≡ self.entry.object.now }
@@ -301,6 +302,7 @@ impl<'a> VacantEntry<'a> {
     }
 }
 
+/// As what it is: occupied or vacant.
 impl<'a> fmt::Debug for Entry<'a> {
     fn fmt<W: fmt::Write>(&self, f: &mut fmt::Formatter<W>) -> fmt::Result {
         match self {
@@ -310,6 +312,7 @@ impl<'a> fmt::Debug for Entry<'a> {
     }
 }
 
+/// The key and the value.
 impl<'a> fmt::Debug for OccupiedEntry<'a> {
     fn fmt<W: fmt::Write>(&self, f: &mut fmt::Formatter<W>) -> fmt::Result {
         f.debug_struct("OccupiedEntry")
@@ -319,6 +322,7 @@ impl<'a> fmt::Debug for OccupiedEntry<'a> {
     }
 }
 
+/// The key.
 impl<'a> fmt::Debug for VacantEntry<'a> {
     fn fmt<W: fmt::Write>(&self, f: &mut fmt::Formatter<W>) -> fmt::Result {
         f.debug_tuple("VacantEntry").field(self.key()).finish()

@@ -132,6 +132,7 @@ impl IntoIterator for IObject {
     }
 }
 
+/// Front to back, each once, and then None again and again. It takes no memory.
 impl<'a> Iterator for Iter<'a> {
     type Item = (&'a IString, &'a IValue);
 
@@ -162,6 +163,7 @@ impl<'a> ExactSizeIterator for Iter<'a> {
     }
 }
 
+/// Front to back, each once, and then None again and again. It takes no memory.
 impl<'a> Iterator for Keys<'a> {
     type Item = &'a IString;
 
@@ -192,6 +194,7 @@ impl<'a> ExactSizeIterator for Keys<'a> {
     }
 }
 
+/// Front to back, each once, and then None again and again. It takes no memory.
 impl<'a> Iterator for Values<'a> {
     type Item = &'a IValue;
 
@@ -222,6 +225,7 @@ impl<'a> ExactSizeIterator for Values<'a> {
     }
 }
 
+/// Front to back, each once, and then None again and again. It takes no memory.
 impl Iterator for IntoIter {
     type Item = (IString, IValue);
 
@@ -251,12 +255,14 @@ impl ExactSizeIterator for IntoIter {
     }
 }
 
+/// The pairs that are left.
 impl<'a> fmt::Debug for Iter<'a> {
     fn fmt<W: fmt::Write>(&self, f: &mut fmt::Formatter<W>) -> fmt::Result {
         f.debug_list().entries(self.left.as_slice()).finish()
     }
 }
 
+/// The pairs that are left.
 impl fmt::Debug for IntoIter {
     fn fmt<W: fmt::Write>(&self, f: &mut fmt::Formatter<W>) -> fmt::Result {
         fmt::Debug::fmt(&self.left, f)

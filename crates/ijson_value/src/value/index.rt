@@ -26,6 +26,7 @@ impl Deref for IValue {
     }
 }
 
+/// The opened value, to be written: another one written there is another value.
 impl DerefMut for IValue {
     ghost deref_mut_gives = { λ value opened. node_value opened ≡ value };
 
@@ -88,6 +89,7 @@ impl Sealed for usize {
     }
 }
 
+/// A position of an array, from 0.
 impl ValueIndex for usize {
     fn index_into_mut<'v>(v: &'v mut Destructured, index: usize) -> Option<&'v mut IValue> {
         match v {
@@ -113,6 +115,7 @@ impl Sealed for &str {
     }
 }
 
+/// The text of a key of an object.
 impl ValueIndex for &str {
     fn index_into_mut<'v>(v: &'v mut Destructured, index: &str) -> Option<&'v mut IValue> {
         match v {
@@ -135,6 +138,7 @@ impl Sealed for &IString {
     }
 }
 
+/// The text of a key of an object.
 impl ValueIndex for &IString {
     fn index_into_mut<'v>(v: &'v mut Destructured, index: &IString) -> Option<&'v mut IValue> {
         <&str>::index_into_mut(v, index.as_str())
@@ -153,6 +157,7 @@ impl<T: Sealed> Sealed for &T {
     }
 }
 
+/// As what it refers to.
 impl<T: ValueIndex> ValueIndex for &T {
     fn index_into_mut<'v>(v: &'v mut Destructured, index: &T) -> Option<&'v mut IValue> {
         T::index_into_mut(v, *index)
