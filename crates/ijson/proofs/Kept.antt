@@ -12,43 +12,40 @@ use Rattle.ijson_value.specs.Tree.{boolean}
 use Rattle.ijson_value.specs.Values.{boolean_value}
 use Rattle.ijson_value.specs.WellFormed.{WellFormed}
 
-pub second_written : (s : Store WellFormed) (k₁ k₂ : List ℕ) (v₁ v₂ w : WellFormed)
-    → s.pairs ≡ (k₁, v₁) ∷ (k₂, v₂) ∷ [] → (with_found s (at s.pairs k₂) w).pairs ≡ (k₁, v₁) ∷ (k₂, w) ∷ []
-second_written s k₁ k₂ v₁ v₂ w is =
-    let found : at s.pairs k₂ ≡ Some 1 =
-    position-distinct (keys_of s.pairs) k₂ 1 s.distinct (omega (arith, ap (λ (ps : List (List ℕ × WellFormed)). length (keys_of ps)) is))
-    (ap (λ (ps : List (List ℕ × WellFormed)). get_or (keys_of ps) 1 []) is) in
-    ap (λ i. (with_found s i w).pairs) found ∙ ap (λ ps. with_value ps 1 w) is
-
 differ : (k₁ k₂ : List ℕ) → k₁ ≢ k₂ → bytes_eq k₁ k₂ ≡ false
 differ k₁ k₂ apart = elim (same_key k₁ k₂) [ inl e ↦ absurd (apart e.1) | inr e ↦ e.0 ]
 
 agree : (k : List ℕ) → bytes_eq k k ≡ true
 agree k = elim (same_key k k) [ inl e ↦ e.0 | inr e ↦ absurd (e.1 refl) ]
 
--- two keys put into an empty list, each with the value that it gets where it is not there
-pub two_put : (k₁ k₂ : List ℕ) (v₁ v₂ r₁ r₂ : WellFormed) (old ps₁ ps₂ : List (List ℕ × WellFormed)) → old ≡ [] → k₁ ≢ k₂
-    → ps₁ ≡ put old k₁ r₁ → r₁ ≡ unwrap_or (lookup k₁ old) v₁ → ps₂ ≡ put ps₁ k₂ r₂ → r₂ ≡ unwrap_or (lookup k₂ ps₁) v₂
-    → ps₂ ≡ (k₁, v₁) ∷ (k₂, v₂) ∷ []
-two_put k₁ k₂ v₁ v₂ r₁ r₂ old ps₁ ps₂ empty apart p₁ w₁ p₂ w₂ =
-    let first : ps₁ ≡ (k₁, v₁) ∷ [] =
-    p₁ ∙ ap (λ ps. put ps k₁ r₁) empty ∙ ap (λ w. (k₁, w) ∷ []) (w₁ ∙ ap (λ ps. unwrap_or (lookup k₁ ps) v₁) empty) in
-    let missing : lookup k₂ ps₁ ≡ None =
-    ap (lookup k₂) first ∙ ap (λ b. cond b (Some v₁) None) (differ k₂ k₁ (λ e. apart (sym e))) in
-    let second : r₂ ≡ v₂ = w₂ ∙ ap (λ o. unwrap_or o v₂) missing in
-    p₂ ∙ ap (λ ps. put ps k₂ r₂) first ∙ ap (λ b. if b then (k₁, r₂) ∷ [] else (k₁, v₁) ∷ (k₂, r₂) ∷ []) (differ k₁ k₂ apart)
-    ∙ ap (λ w. (k₁, v₁) ∷ (k₂, w) ∷ []) second
-
 some_there : (r : Option (MutBor WellFormed)) (v : WellFormed) → option_copied_mut r ≡ Some v → IsSome r
 some_there None v e = cc
 some_there (Some x) v e = cc
 
--- the second key is found
-pub second_there : (k₁ k₂ : List ℕ) (v₁ v₂ : WellFormed) (ps : List (List ℕ × WellFormed)) (r : Option (MutBor WellFormed)) → k₁ ≢ k₂
-    → ps ≡ (k₁, v₁) ∷ (k₂, v₂) ∷ [] → option_copied_mut r ≡ lookup k₂ ps → IsSome r
-second_there k₁ k₂ v₁ v₂ ps r apart is got =
-    some_there r v₂ (got ∙ ap (lookup k₂) is ∙ ap (λ b. cond b (Some v₁) (lookup k₂ ((k₂, v₂) ∷ []))) (differ k₂ k₁ (λ e. apart (sym e)))
-    ∙ ap (λ b. cond b (Some v₂) None) (agree k₂))
+-- two keys put into an empty list, each with the value that it gets where it is not there
+module _ (k₁ k₂ : List ℕ) (v₁ v₂ : WellFormed) (old ps : List (List ℕ × WellFormed)) (s : Store WellFormed) (empty : old ≡ []) (apart : k₁ ≢ k₂)
+    (first : ps ≡ put old k₁ (unwrap_or (lookup k₁ old) v₁)) (second : s.pairs ≡ put ps k₂ (unwrap_or (lookup k₂ ps) v₂)) where
+  two_put : s.pairs ≡ (k₁, v₁) ∷ (k₂, v₂) ∷ []
+  two_put =
+      let one : ps ≡ (k₁, v₁) ∷ [] = first ∙ ap (λ ps. put ps k₁ (unwrap_or (lookup k₁ ps) v₁)) empty in
+      let missing : lookup k₂ ps ≡ None =
+      ap (lookup k₂) one ∙ ap (λ b. cond b (Some v₁) None) (differ k₂ k₁ (λ e. apart (sym e))) in
+      second ∙ ap (λ o. put ps k₂ (unwrap_or o v₂)) missing ∙ ap (λ ps. put ps k₂ v₂) one
+      ∙ ap (λ b. if b then (k₁, v₂) ∷ [] else (k₁, v₁) ∷ (k₂, v₂) ∷ []) (differ k₁ k₂ apart)
+
+  -- the second key is found
+  pub second_there : (r : Option (MutBor WellFormed)) → option_copied_mut r ≡ lookup k₂ s.pairs → IsSome r
+  second_there r got =
+      some_there r v₂ (got ∙ ap (lookup k₂) two_put ∙ ap (λ b. cond b (Some v₁) (lookup k₂ ((k₂, v₂) ∷ []))) (differ k₂ k₁ (λ e. apart (sym e)))
+      ∙ ap (λ b. cond b (Some v₂) None) (agree k₂))
+
+  -- and what is written beside it
+  pub second_written : (w : WellFormed) → (with_found s (at s.pairs k₂) w).pairs ≡ (k₁, v₁) ∷ (k₂, w) ∷ []
+  second_written w =
+      let found : at s.pairs k₂ ≡ Some 1 =
+      position-distinct (keys_of s.pairs) k₂ 1 s.distinct (omega (arith, ap (λ (ps : List (List ℕ × WellFormed)). length (keys_of ps)) two_put))
+      (ap (λ (ps : List (List ℕ × WellFormed)). get_or (keys_of ps) 1 []) two_put) in
+      ap (λ i. (with_found s i w).pairs) found ∙ ap (λ ps. with_value ps 1 w) two_put
 
 -- a question that says whether a value is true says no of false
 pub tells_false : (keeps : Bool) (v : WellFormed) → v ≡ boolean_value false → (IsTrue keeps ↔ (v.tree ≡ boolean true)) → keeps ≡ false

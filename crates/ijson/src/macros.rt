@@ -2,7 +2,8 @@
 
 /// The value of a literal, as a `Result<IValue, ConvertError>`: `null`, a list in brackets, an object in braces, or an
 /// expression whose type has `ToIValue`, nested at will. A key is an expression of type `&str`, and a later equal key
-/// replaces the value. A trailing comma is allowed; a misplaced token does not compile.
+/// replaces the value. A trailing comma is allowed; a misplaced token does not compile. Room grows as by `push` and `insert`.
+/// Where it is refused, what was made is dropped, and some of the texts may be in the cache.
 ///
 /// ```
 /// let value = ijson!(alloc, &mut cache; {"name": "ijson", "sizes": [1u8, 2u8, null], "nested": {"deep": true}})?;

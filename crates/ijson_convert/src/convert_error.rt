@@ -25,6 +25,7 @@ pub enum ConvertError {
     Memory,
 }
 
+/// `Memory`.
 impl From<AllocError> for ConvertError {
     ghost from_gives = { λ _ e. e ≡ Memory };
 
@@ -33,6 +34,7 @@ impl From<AllocError> for ConvertError {
     }
 }
 
+/// `Memory`; what came back is dropped.
 impl From<Refused> for ConvertError {
     ghost from_gives = { λ _ e. e ≡ Memory };
 
@@ -41,6 +43,7 @@ impl From<Refused> for ConvertError {
     }
 }
 
+/// `Memory`; what came back is dropped.
 impl From<RefusedPair> for ConvertError {
     ghost from_gives = { λ _ e. e ≡ Memory };
 
@@ -49,6 +52,7 @@ impl From<RefusedPair> for ConvertError {
     }
 }
 
+/// `Memory`.
 impl From<ReserveError> for ConvertError {
     ghost from_gives = { λ _ e. e ≡ Memory };
 

@@ -11,7 +11,9 @@ use crate::convert_error::ConvertError;
 use ijson_value::value::IValue;
 use std::alloc::Global;
 
-/// What has a tree, and can be made of a JSON value whose tree is the same.
+/// What has a tree, and can be made of a JSON value whose tree is the same. These are `bool`, the integers of up to 64 bits,
+/// `String`, and of what has it itself `Option`, where null is None, `Vec`, and `BTreeMap` with `String` keys. A number of any
+/// shape is an integer where its value is whole: `2.0` is 2.
 pub trait FromIValue: Sized {
     /// The tree of a value.
     ghost tree: { Self → Tree };
@@ -29,7 +31,8 @@ pub trait FromIValue: Sized {
     /// What holds of the integers in each value: in a law, an integer type has any whole number.
     ghost in_range: { Self → Type 0 };
 
-    /// What the JSON value says. Want of memory apart, it is refused exactly where its tree is.
+    /// What the JSON value says. Want of memory apart, it is refused exactly where its tree is. Texts are copied, and what was
+    /// made is dropped where it is refused.
     fn from_ivalue(alloc: Global, value: &IValue) -> Result<Self, ConvertError>
         ensures same { IfOk result (λ x. Same (tree x) value.now.tree) }
         ensures read { IfOk result (λ x. IsRead refused value.now.tree) }
@@ -41,7 +44,11 @@ pub trait FromIValue: Sized {
 }
 
 /// What the JSON value says, as a `T`. Want of memory apart, it is refused exactly where its tree is no `T`'s, with the
-/// first reason in order.
+/// first reason in order. Texts are copied.
+///
+/// ```
+/// let ids: Vec<u64> = from_value(alloc, &value)?; // of [1,2.0]; [1,"2"] is refused as WrongKind, [1,2.5] as OutOfRange
+/// ```
 pub fn from_value<T: FromIValue>(alloc: Global, value: &IValue) -> Result<T, ConvertError>
     ensures same { IfOk result (λ x. Same (T.FromIValue.tree x) value.now.tree) }
     ensures read { IfOk result (λ x. IsRead T.FromIValue.refused value.now.tree) }

@@ -11,6 +11,7 @@ use crate::from_ivalue::FromIValue;
 use ijson_value::value::{DestructuredRef, IValue};
 use std::alloc::Global;
 
+/// A number whose value is whole and in the range, whatever its shape: else `WrongKind` or `OutOfRange`.
 impl FromIValue for i8 {
     ghost tree = { λ z. integer_tree z };
 
@@ -35,6 +36,7 @@ impl FromIValue for i8 {
     ghost complete = { signed_complete w8 wide_8 };
 }
 
+/// A number whose value is whole and in the range, whatever its shape: else `WrongKind` or `OutOfRange`.
 impl FromIValue for i16 {
     ghost tree = { λ z. integer_tree z };
 
@@ -59,6 +61,7 @@ impl FromIValue for i16 {
     ghost complete = { signed_complete w16 wide_16 };
 }
 
+/// A number whose value is whole and in the range, whatever its shape: else `WrongKind` or `OutOfRange`.
 impl FromIValue for i32 {
     ghost tree = { λ z. integer_tree z };
 
@@ -80,6 +83,7 @@ impl FromIValue for i32 {
     ghost complete = { signed_complete w32 wide_32 };
 }
 
+/// A number whose value is whole and in the range, whatever its shape: else `WrongKind` or `OutOfRange`.
 impl FromIValue for i64 {
     ghost tree = { λ z. integer_tree z };
 
@@ -101,6 +105,7 @@ impl FromIValue for i64 {
     ghost complete = { signed_complete w64 wide_64 };
 }
 
+/// A number whose value is whole and in the range, whatever its shape: else `WrongKind` or `OutOfRange`.
 impl FromIValue for isize {
     ghost tree = { λ z. integer_tree z };
 
@@ -122,6 +127,7 @@ impl FromIValue for isize {
     ghost complete = { signed_complete w64 wide_64 };
 }
 
+/// A number whose value is whole and in the range, whatever its shape: else `WrongKind` or `OutOfRange`.
 impl FromIValue for u8 {
     ghost tree = { λ m. integer_tree (pos m) };
 
@@ -146,6 +152,7 @@ impl FromIValue for u8 {
     ghost complete = { unsigned_complete (2 ^ 8) below_8 };
 }
 
+/// A number whose value is whole and in the range, whatever its shape: else `WrongKind` or `OutOfRange`.
 impl FromIValue for u16 {
     ghost tree = { λ m. integer_tree (pos m) };
 
@@ -170,6 +177,7 @@ impl FromIValue for u16 {
     ghost complete = { unsigned_complete (2 ^ 16) below_16 };
 }
 
+/// A number whose value is whole and in the range, whatever its shape: else `WrongKind` or `OutOfRange`.
 impl FromIValue for u32 {
     ghost tree = { λ m. integer_tree (pos m) };
 
@@ -191,6 +199,7 @@ impl FromIValue for u32 {
     ghost complete = { unsigned_complete (2 ^ 32) below_32 };
 }
 
+/// A number whose value is whole and in the range, whatever its shape: else `WrongKind` or `OutOfRange`.
 impl FromIValue for u64 {
     ghost tree = { λ m. integer_tree (pos m) };
 
@@ -212,6 +221,7 @@ impl FromIValue for u64 {
     ghost complete = { unsigned_complete (2 ^ 64) below_64 };
 }
 
+/// A number whose value is whole and in the range, whatever its shape: else `WrongKind` or `OutOfRange`.
 impl FromIValue for usize {
     ghost tree = { λ m. integer_tree (pos m) };
 

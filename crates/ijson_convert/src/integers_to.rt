@@ -10,6 +10,7 @@ use ijson_value::value::IValue;
 use std::alloc::Global;
 use std::hash::BuildHasher;
 
+/// The integer, without the point. It takes no memory.
 impl ToIValue for i8 {
     ghost tree = { λ z. integer_tree z };
 
@@ -23,6 +24,7 @@ impl ToIValue for i8 {
     }
 }
 
+/// The integer, without the point. It takes no memory.
 impl ToIValue for i16 {
     ghost tree = { λ z. integer_tree z };
 
@@ -36,6 +38,7 @@ impl ToIValue for i16 {
     }
 }
 
+/// The integer, without the point. It takes no memory.
 impl ToIValue for i32 {
     ghost tree = { λ z. integer_tree z };
 
@@ -49,6 +52,7 @@ impl ToIValue for i32 {
     }
 }
 
+/// The integer, without the point. It takes no memory.
 impl ToIValue for i64 {
     ghost tree = { λ z. integer_tree z };
 
@@ -62,6 +66,7 @@ impl ToIValue for i64 {
     }
 }
 
+/// The integer, without the point. It takes no memory.
 impl ToIValue for isize {
     ghost tree = { λ z. integer_tree z };
 
@@ -75,6 +80,7 @@ impl ToIValue for isize {
     }
 }
 
+/// The integer, without the point. It takes no memory.
 impl ToIValue for u8 {
     ghost tree = { λ n. integer_tree (pos n) };
 
@@ -88,6 +94,7 @@ impl ToIValue for u8 {
     }
 }
 
+/// The integer, without the point. It takes no memory.
 impl ToIValue for u16 {
     ghost tree = { λ n. integer_tree (pos n) };
 
@@ -101,6 +108,7 @@ impl ToIValue for u16 {
     }
 }
 
+/// The integer, without the point. It takes no memory.
 impl ToIValue for u32 {
     ghost tree = { λ n. integer_tree (pos n) };
 
@@ -114,6 +122,7 @@ impl ToIValue for u32 {
     }
 }
 
+/// The integer, without the point. It takes no memory.
 impl ToIValue for u64 {
     ghost tree = { λ n. integer_tree (pos n) };
 
@@ -127,6 +136,7 @@ impl ToIValue for u64 {
     }
 }
 
+/// The integer, without the point. It takes no memory.
 impl ToIValue for usize {
     ghost tree = { λ n. integer_tree (pos n) };
 

@@ -8,6 +8,7 @@ use crate::from_ivalue::FromIValue;
 use ijson_value::value::{DestructuredRef, IValue};
 use std::alloc::Global;
 
+/// An array, item by item; the list takes its room once.
 impl<T: FromIValue + Drop> FromIValue for Vec<T> {
     ghost tree = { λ list. list_tree T.FromIValue.tree list.items };
 

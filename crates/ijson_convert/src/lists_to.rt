@@ -36,6 +36,7 @@ fn array_of<T: ToIValue, S: BuildHasher>(
     Ok(array)
 }
 
+/// An array of what is made of the items, which takes its room once.
 impl<T: ToIValue> ToIValue for &[T] {
     ghost tree = { λ items. list_tree T.ToIValue.tree items.now };
 
@@ -49,6 +50,7 @@ impl<T: ToIValue> ToIValue for &[T] {
     }
 }
 
+/// As the slice of its items.
 impl<T: ToIValue> ToIValue for Vec<T> {
     ghost tree = { λ list. list_tree T.ToIValue.tree list.items };
 

@@ -9,6 +9,7 @@ use ijson_value::value::{DestructuredRef, IValue};
 use std::alloc::Global;
 use std::collections::BTreeMap;
 
+/// An object, value by value; its keys are copied, and its order is lost.
 impl<T: FromIValue + Drop> FromIValue for BTreeMap<String, T> {
     ghost tree = { λ map. map_tree T.FromIValue.tree map.entries };
 

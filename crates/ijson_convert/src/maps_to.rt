@@ -83,6 +83,7 @@ fn object_of_index_map<T: ToIValue, S: BuildHasher>(
     Ok(object)
 }
 
+/// An object in the order of the keys, whose capacity is their count.
 impl<T: ToIValue> ToIValue for BTreeMap<String, T> {
     ghost tree = { λ map. map_tree T.ToIValue.tree map.entries };
 
@@ -96,6 +97,7 @@ impl<T: ToIValue> ToIValue for BTreeMap<String, T> {
     }
 }
 
+/// An object in the order of the map, whose capacity is the count of its pairs.
 impl<T: ToIValue> ToIValue for IndexMap<String, T> {
     ghost tree = { λ map. map_tree T.ToIValue.tree map.entries };
 

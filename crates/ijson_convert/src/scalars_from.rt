@@ -10,6 +10,7 @@ use crate::from_ivalue::FromIValue;
 use ijson_value::value::{DestructuredRef, IValue};
 use std::alloc::Global;
 
+/// True or false.
 impl FromIValue for bool {
     ghost tree = { λ b. boolean b };
 
@@ -27,6 +28,7 @@ impl FromIValue for bool {
     ghost complete = { bool_complete };
 }
 
+/// A string, which is copied.
 impl FromIValue for String {
     ghost tree = { λ s. string (string_bytes s) };
 

@@ -10,6 +10,7 @@ use ijson_value::value::IValue;
 use std::alloc::Global;
 use std::hash::BuildHasher;
 
+/// The truth value. It takes no memory.
 impl ToIValue for bool {
     ghost tree = { λ b. boolean b };
 
@@ -22,6 +23,7 @@ impl ToIValue for bool {
     }
 }
 
+/// The text, interned.
 impl ToIValue for &str {
     ghost tree = { λ s. string s.now };
 
@@ -35,6 +37,7 @@ impl ToIValue for &str {
     }
 }
 
+/// The text, interned.
 impl ToIValue for String {
     ghost tree = { λ s. string (string_bytes s) };
 

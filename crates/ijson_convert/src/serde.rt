@@ -55,7 +55,8 @@ pub fn to_serde_number(number: &INumber) -> Result<Number, ConvertError>
 
 /// The JSON value of a value of `serde_json`: members come in the order of its map, which is that of their keys. Its texts
 /// and keys are interned in `cache`, in their order; where it is refused, a beginning of them may have been. `Number`
-/// comes where a number in it is a float, and `Memory` where memory for an array, an object or a text was refused.
+/// comes where a number in it is a float, and `Memory` where memory for an array, an object or a text was refused. Numbers have
+/// no point then. It calls itself once a level.
 #[cycle(from)]
 pub fn from_serde<S: BuildHasher>(
     alloc: Global,
@@ -133,7 +134,7 @@ pub fn from_serde_map<S: BuildHasher>(
 
 /// The value of `serde_json` of a JSON value. A number goes over by its value, and its shape is lost; members come in the
 /// order of their keys. `Number` comes where the value of a number in it is neither an `i64` nor a `u64`, and `Memory`
-/// where memory for a list, a map or a text was refused.
+/// where memory for a list, a map or a text was refused. Texts are copied. It calls itself once a level.
 #[cycle(to)]
 pub fn to_serde(alloc: Global, value: &IValue) -> Result<Value, ConvertError>
     ensures means { IfOk result (λ made. SerdeMeans (view made) value.now.tree) }

@@ -11,7 +11,9 @@ use ijson_value::value::IValue;
 use std::alloc::Global;
 use std::hash::BuildHasher;
 
-/// What has a tree, and can be made a JSON value with that tree.
+/// What has a tree, and can be made a JSON value with that tree. These are `bool`, the integers of up to 64 bits, `&str` and
+/// `String`, and of what has it itself `Option`, where None is null, `&[T]`, `Vec`, and `BTreeMap` and `IndexMap` with `String`
+/// keys.
 pub trait ToIValue {
     /// The tree of a value.
     ghost tree: { Self → Tree };
@@ -35,7 +37,12 @@ pub trait ToIValue {
 }
 
 /// The JSON value of `x`. Its texts and keys are interned in `cache`, in their order. Only want of memory is refused, and
-/// a beginning of them may then have been interned.
+/// a beginning of them may then have been interned. Lists and maps are gone over once, and their arrays and objects take their
+/// room at once.
+///
+/// ```
+/// let sizes = to_value(alloc, &mut cache, &vec![in alloc; 1u8, 2]?)?; // [1,2]
+/// ```
 pub fn to_value<T: ToIValue, S: BuildHasher>(
     alloc: Global,
     cache: &mut StringCache<S>,

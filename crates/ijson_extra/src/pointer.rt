@@ -24,6 +24,14 @@ pub enum PointerError {
 
 /// The value that `pointer` names inside `value`, as RFC 6901 has it: the value itself where the text is empty. None where it
 /// names nothing. It takes no memory.
+///
+/// Each token takes one look-up by its hash, or one position; but in an object a token with `~` is compared with the keys, one
+/// after the other. The whole text is looked at, also behind a token that names nothing.
+///
+/// ```
+/// let port = resolve(&value, "/servers/0/port")?; // Some of 80 in {"servers":[{"port":80}]}, where "/servers/1" is None
+/// let slash = resolve(&value, "/a~1b")?; // beside the key a/b, as ~1 means / and ~0 means ~
+/// ```
 pub fn resolve<'a>(value: &'a IValue, pointer: &str) -> Result<Option<&'a IValue>, PointerError>
     ensures found { IfOk result (λ found.
         Some (option_map (λ inner. inner.now.tree) found) ≡ resolved value.now.tree pointer.now) }

@@ -57,6 +57,7 @@ impl From<ReadFault> for CompactError {
     }
 }
 
+/// `Memory` for want of memory, and `Json` for each other fault.
 impl From<JsonError> for CompactError {
     ghost from_gives = { λ error becomes. becomes ≡ compact_error_of error };
 
@@ -68,6 +69,7 @@ impl From<JsonError> for CompactError {
     }
 }
 
+/// `Memory`.
 impl From<AllocError> for CompactError {
     ghost from_gives = { λ _ error. error ≡ NoMemory };
 
@@ -81,6 +83,9 @@ impl From<AllocError> for CompactError {
 ///
 /// Each error says when it comes at `CompactError`. The whole line is made before its first byte is
 /// written.
+///
+/// The input, its value and the line are in memory at once. The time is that of `from_json` and `to_json`, and of the calls of
+/// the devices: each read is offered at least one byte of room, and each write what is left of the line.
 pub fn compact<R: Source, W: Sink, S: BuildHasher>(
     alloc: Global,
     input: &mut R,

@@ -9,7 +9,7 @@ use thiserror::Error;
 #[error("a read or a write failed")]
 pub struct DeviceFault;
 
-/// Gives bytes in pieces, and counts the reads that failed.
+/// Gives bytes in pieces, and counts the reads that failed. `MemorySource` and `StreamSource` are such.
 pub trait Source {
     /// How many reads failed so far.
     ghost failed: { Self → ℕ };
@@ -31,7 +31,7 @@ pub trait Source {
         ensures bytes { ReadConsumes (left self.old) (left self.new) result into.new };
 }
 
-/// Takes bytes in pieces, and counts the writes that failed.
+/// Takes bytes in pieces, and counts the writes that failed. `MemorySink` and `StreamSink` are such.
 pub trait Sink {
     /// How many writes failed so far.
     ghost failed: { Self → ℕ };

@@ -8,7 +8,8 @@ use ijson_value::value::IValue;
 use std::alloc::{AllocError, AllocFailed};
 use thiserror::Error;
 
-/// Why no value was read from a text. `at` is a byte offset from 0, at most the length of the text.
+/// Why no value was read from a text. `at` is a byte offset from 0, at most the length of the text. `[1 2]` is `Syntax` at 3,
+/// `[1,` at 3 too, `01` at 1, and `1e2000000000` is `NumberRange` at 0.
 #[derive(Clone, Copy, PartialEq, Eq, Debug, Error)]
 pub enum JsonError {
     /// The text is not JSON: the first byte that no JSON text could have there, or the length of a

@@ -35,7 +35,7 @@ pub use stream_source::StreamSource;
 pub use write::{push_separator, to_json};
 
 /// A text has at most one tree, and what is printed of a tree within the limits is accepted as that
-/// tree.
+/// tree. It does nothing: a call of it gives a proof the law.
 pub fn grammar_law()
     ensures one_tree { OneTree }
     ensures printed { PrintedIsAccepted }

@@ -6,7 +6,8 @@ use crate::device::{DeviceFault, Sink};
 use std::alloc::{AllocError, Global};
 use std::marker::Model;
 
-/// Keeps what it gets, at most `piece` bytes of a call, and fails once it got `fail_at` bytes.
+/// Keeps what it gets, at most `piece` bytes of a call, and fails once it got `fail_at` bytes. It takes `fail_at` bytes of
+/// memory, whatever it gets.
 #[derive(Drop)]
 pub struct MemorySink {
     room: Vec<u8>,
@@ -34,7 +35,7 @@ impl Model for MemorySink {
 impl MemorySink {
     /// A sink that takes `fail_at` bytes: a call that would pass them stops there, and each later one
     /// that has a byte is a fault. Room for them is taken here, so that `write` needs no memory; the
-    /// error comes where there is none.
+    /// error comes where there is none. `piece` is at least 1.
     pub fn new(alloc: Global, piece: usize, fail_at: usize) -> Result<MemorySink, AllocError>
         requires { 0 < piece }
         ensures { IfOk result (λ s. s ≡ record {
@@ -53,7 +54,7 @@ impl MemorySink {
         })
     }
 
-    /// What it got so far.
+    /// What it got so far. They are lent, and not copied.
     pub fn bytes(&self) -> &[u8]
         ensures { result.now ≡ self.now.got }
     {
@@ -61,6 +62,7 @@ impl MemorySink {
     }
 }
 
+/// No call takes memory.
 impl Sink for MemorySink {
     ghost failed = { λ s. s.failed };
 

@@ -5,7 +5,7 @@ ghost use Rattle.std.specs.Io.KnownBytes.{ReadConsumes};
 use crate::device::{DeviceFault, Source};
 use std::marker::Model;
 
-/// Gives the bytes of a slice, at most `piece` in a call, and fails once `fail_at` bytes were given.
+/// Gives the bytes of a slice, at most `piece` in a call, and fails once `fail_at` bytes were given. It takes no memory.
 #[derive(Drop)]
 pub struct MemorySource<'a> {
     left: &'a [u8],
@@ -32,7 +32,8 @@ impl<'a> Model for MemorySource<'a> {
 
 impl<'a> MemorySource<'a> {
     /// A source of `bytes`. A call that would pass the first `fail_at` of them stops there, and each
-    /// later one is a fault, the one that would tell the end too.
+    /// later one is a fault, the one that would tell the end too. `piece` is at least 1. With `fail_at` at `usize::MAX` no call
+    /// fails.
     pub fn new(bytes: &'a [u8], piece: usize, fail_at: usize) -> MemorySource<'a>
         requires { 0 < piece }
         ensures { result ≡ record {
@@ -51,6 +52,7 @@ impl<'a> MemorySource<'a> {
     }
 }
 
+/// No call takes memory.
 impl Source for MemorySource<'_> {
     ghost failed = { λ s. s.failed };
 

@@ -50,7 +50,9 @@ fn push_escape(out: &mut String, character: char) -> Result<(), AllocError>
     }
 }
 
-/// Appends the text between quotes, with its escapes. The error comes where there was not enough memory.
+/// Appends the text between quotes, with its escapes. The error comes where there was not enough memory. A beginning of what
+/// was to be appended may then stand in `out`. Escaped are `"`, `\`, and what is below a space: by a letter where there is one,
+/// and else as `\u001f`. It takes time linear in the text.
 pub fn push_quoted(out: &mut String, text: &str) -> Result<(), AllocError>
     ensures { OnOk result (string_bytes out.new ≡ string_bytes out.old ++ quoted text.now) }
 {

@@ -269,6 +269,14 @@ fn read_text<S: BuildHasher>(
 /// The text is refused where it is not JSON, where more than 127 containers are open at once, where a
 /// number's stripped exponent is past 2^30 either way, and where memory is refused; of several faults
 /// the first from the left is told.
+///
+/// The time is linear in the text, but for the look-ups of keys and texts by their hashes, and it calls itself once a level,
+/// 127 times at most. Beside the value it takes memory for the items of the arrays that are open, and for each text that has an
+/// escape.
+///
+/// ```
+/// let value = from_json(alloc, &mut cache, "{\"a\": [1.50, 1e2]}")?;
+/// ```
 pub fn from_json<S: BuildHasher>(
     alloc: Global,
     cache: &mut StringCache<S>,

@@ -5,7 +5,8 @@ use crate::device::{DeviceFault, Sink};
 use std::io::Write;
 use std::marker::Model;
 
-/// Writes to a writer. Any error is a fault, and so is a write that takes none of some bytes.
+/// Writes to a writer. Any error is a fault, and so is a write that takes none of some bytes. It takes no memory: each call is
+/// one write of the writer, which is not flushed.
 #[derive(Drop)]
 pub struct StreamSink<W> {
     inner: W,
@@ -31,7 +32,7 @@ impl<W: Write> StreamSink<W> {
         StreamSink { inner, failures: 0 }
     }
 
-    /// Gives the writer back.
+    /// Gives the writer back. It is not flushed.
     pub fn into_inner(self) -> W
         ensures { result ≡ self.inner }
     {

@@ -5,7 +5,7 @@ use crate::device::{DeviceFault, Source};
 use std::io::Read;
 use std::marker::Model;
 
-/// Reads from a reader. Any error is a fault.
+/// Reads from a reader. Any error is a fault. It takes no memory: each call is one read of the reader.
 #[derive(Drop)]
 pub struct StreamSource<R> {
     inner: R,
@@ -31,7 +31,7 @@ impl<R: Read> StreamSource<R> {
         StreamSource { inner, failures: 0 }
     }
 
-    /// Gives the reader back.
+    /// Gives the reader back. What was read of it is gone, and nothing more was read.
     pub fn into_inner(self) -> R
         ensures { result ≡ self.inner }
     {

@@ -40,12 +40,13 @@ impl Clone for Stored {
     }
 }
 
+/// The same number in the same shape.
 impl Clone for INumber {
     ghost is_clone = { λ n copy. copy ≡ n };
 
     ghost is_infallible = { λ n. is_digits (form_of n.decimal) ≡ false };
 
-    /// Memory is taken where the stored form is a list of digits alone.
+    /// Memory is taken, and time linear in the digits, where the stored form is a list of digits alone.
     fn clone(&self) -> Result<INumber, AllocError> {
         let stored = self.stored.clone()?;
         Ok(INumber { stored })

@@ -15,7 +15,11 @@ use crate::number::INumber;
 use crate::stripped::{ROOM, StrippedNumber};
 use std::cmp::Ordering;
 
-/// A number that tells its stripped digits one by one.
+/// A number that tells its stripped digits one by one. `1.50` has the digits 1 and 5, and the first stands one place before the
+/// point.
+///
+/// An `INumber` that is stored as a word writes its digits out anew for each call, 20 at most, and one that is stored as a list
+/// answers at once. No call takes memory.
 pub trait DigitRow {
     /// The number.
     ghost num: { Self → Num };
@@ -29,7 +33,7 @@ pub trait DigitRow {
         ensures { result ≡ digit_count (num self.now).decimal };
 
     /// How many places the first digit stands before the point, which is the count of stripped digits and the stripped
-    /// exponent; 0 for zero.
+    /// exponent; 0 for zero. It is 1 for `1.50`, 0 for `0.5` and -1 for `0.05`.
     fn lead(&self) -> i128
         ensures { result ≡ leading_place (num self.now).decimal };
 
@@ -82,7 +86,8 @@ fn compare_sizes<D: DigitRow>(a: &D, b: &D, looks: &mut Looks) -> Ordering
 }
 
 /// The order by exact value; the point isn't looked at. It takes no memory, writes no exponent out, and reads digits
-/// where the signs and the leading places are the same alone.
+/// where the signs and the leading places are the same alone. Those are at most twice as many as the number with fewer has.
+/// `1e1000000000` and `2` differ by their leading places, so no digit of them is read.
 pub fn compare<D: DigitRow>(a: &D, b: &D, looks: &mut Looks) -> Ordering
     requires fits { NeedsDigits (D.num a.now).decimal (D.num b.now).decimal →
         looks.old + most_looks (D.num a.now).decimal (D.num b.now).decimal < 2 ^ 128 }

@@ -64,7 +64,8 @@ fn after_number(text: &[u8]) -> &[u8]
 }
 
 /// The offset of the first byte that no number could have there, or the text's length where it ends too early. There is
-/// none where the whole text spells a number, however large its exponent.
+/// none where the whole text spells a number, however large its exponent. It takes no memory, and time linear in the text. It
+/// is 1 for `01` and `-x`, and 2 for `1.`, `1e` and `12a`; there is none for `1e2000000000`.
 pub fn first_fault(text: &str) -> Option<usize>
     ensures none { IsNone result ↔ ((n : Decimal) × Spells text.now n) }
     ensures at { IfSome result (λ at. at ≤ length text.now) }

@@ -13,7 +13,7 @@ use crate::stripped::{ROOM, StrippedNumber};
 use crate::word::Word;
 use arrayvec::ArrayVec;
 
-/// The stored form of a number.
+/// The stored form of a number. `point` says whether the number was written with a point or an exponent.
 #[derive(Clone, Copy, PartialEq, Eq, Debug)]
 pub enum Form<'a> {
     /// `mantissa` times ten to the `exponent`, which is from -7 to 7; the mantissa is at least -2^55 and below 2^55.
@@ -181,7 +181,9 @@ impl INumber {
             },
         }
     }
-    /// The stored form. Numbers of one value and one shape have one form and one text, and no others have that text.
+    /// The stored form. Numbers of one value and one shape have one form and one text, and no others have that text. It takes
+    /// no memory, and digits are lent. `1.50` is `Packed` with the mantissa 15 and the exponent -1, `9223372036854775807` is
+    /// `I64`, and `1e-9` is a list of one digit.
     pub fn form(&self) -> Form<'_>
         ensures form { form_value result ≡ form_of self.now.decimal }
         ensures alike { (other : Num)

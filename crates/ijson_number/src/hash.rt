@@ -22,7 +22,8 @@ fn exponent_word(exponent: i32) -> u64
 }
 
 /// Equal numbers feed the same words, and each word is one `write_u64`: 2, and 0 for zero; for another number 2, the
-/// sign (1 above zero, 2 below), the stripped exponent above -2^31, the count of stripped digits and each of these.
+/// sign (1 above zero, 2 below), the stripped exponent above -2^31, the count of stripped digits and each of these. It takes
+/// time linear in the stripped digits, and no memory.
 impl Hash for INumber {
     ghost hash_input = { λ n. flat_map fed.u64 (number_words n.decimal) };
 

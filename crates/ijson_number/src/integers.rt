@@ -50,14 +50,14 @@ pub fn stored_unsigned(value: u64) -> Stored
 }
 
 impl INumber {
-    /// The integer 0.
+    /// The integer 0. It takes no memory.
     pub fn zero() -> INumber
         ensures { IsInteger result.decimal (pos 0) }
     {
         INumber::from(0i64)
     }
 
-    /// The integer 1.
+    /// The integer 1. It takes no memory.
     pub fn one() -> INumber
         ensures { IsInteger result.decimal (pos 1) }
     {
@@ -65,6 +65,7 @@ impl INumber {
     }
 }
 
+/// The integer 0.
 impl Default for INumber {
     ghost is_default = { λ n. IsInteger n.decimal (pos 0) };
 
@@ -73,6 +74,7 @@ impl Default for INumber {
     }
 }
 
+/// The integer, without the point. It takes no memory.
 impl From<i64> for INumber {
     ghost from_gives = { λ z n. IsInteger n.decimal z };
 
@@ -83,6 +85,7 @@ impl From<i64> for INumber {
     }
 }
 
+/// The integer, without the point. It takes no memory.
 impl From<u64> for INumber {
     ghost from_gives = { λ value n. IsInteger n.decimal (pos value) };
 
@@ -93,6 +96,7 @@ impl From<u64> for INumber {
     }
 }
 
+/// The integer, without the point. It takes no memory.
 impl From<i8> for INumber {
     ghost from_gives = { λ value n. IsInteger n.decimal value };
 
@@ -101,6 +105,7 @@ impl From<i8> for INumber {
     }
 }
 
+/// The integer, without the point. It takes no memory.
 impl From<i16> for INumber {
     ghost from_gives = { λ value n. IsInteger n.decimal value };
 
@@ -109,6 +114,7 @@ impl From<i16> for INumber {
     }
 }
 
+/// The integer, without the point. It takes no memory.
 impl From<i32> for INumber {
     ghost from_gives = { λ value n. IsInteger n.decimal value };
 
@@ -117,6 +123,7 @@ impl From<i32> for INumber {
     }
 }
 
+/// The integer, without the point. It takes no memory.
 impl From<isize> for INumber {
     ghost from_gives = { λ value n. IsInteger n.decimal value };
 
@@ -125,6 +132,7 @@ impl From<isize> for INumber {
     }
 }
 
+/// The integer, without the point. It takes no memory.
 impl From<u8> for INumber {
     ghost from_gives = { λ value n. IsInteger n.decimal (pos value) };
 
@@ -133,6 +141,7 @@ impl From<u8> for INumber {
     }
 }
 
+/// The integer, without the point. It takes no memory.
 impl From<u16> for INumber {
     ghost from_gives = { λ value n. IsInteger n.decimal (pos value) };
 
@@ -141,6 +150,7 @@ impl From<u16> for INumber {
     }
 }
 
+/// The integer, without the point. It takes no memory.
 impl From<u32> for INumber {
     ghost from_gives = { λ value n. IsInteger n.decimal (pos value) };
 
@@ -149,6 +159,7 @@ impl From<u32> for INumber {
     }
 }
 
+/// The integer, without the point. It takes no memory.
 impl From<usize> for INumber {
     ghost from_gives = { λ value n. IsInteger n.decimal (pos value) };
 
@@ -207,7 +218,8 @@ impl INumber {
         self.stripped(&mut [0; ROOM]).whole()
     }
 
-    /// The value where it is whole and an `i64`, whatever the shape.
+    /// The value where it is whole and an `i64`, whatever the shape. None where it has a fraction or is past the range. `2.0`
+    /// and `20e-1` are 2. It takes no memory, and the same time for a number of any length.
     pub fn to_i64(&self) -> Option<i64>
         ensures some { IfSome result (λ z. HasValue self.now.decimal z) }
         ensures none { IfNone result
@@ -216,7 +228,8 @@ impl INumber {
         i64::try_from(self.whole()?).ok()
     }
 
-    /// The value where it is whole and an `i32`, whatever the shape.
+    /// The value where it is whole and an `i32`, whatever the shape. None where it has a fraction or is past the range, as
+    /// `to_i64`.
     pub fn to_i32(&self) -> Option<i32>
         ensures some { IfSome result (λ z. HasValue self.now.decimal z) }
         ensures none { IfNone result
@@ -225,7 +238,8 @@ impl INumber {
         i32::try_from(self.whole()?).ok()
     }
 
-    /// The value where it is whole and an `isize`, whatever the shape.
+    /// The value where it is whole and an `isize`, whatever the shape. None where it has a fraction or is past the range, as
+    /// `to_i64`.
     pub fn to_isize(&self) -> Option<isize>
         ensures some { IfSome result (λ z. HasValue self.now.decimal z) }
         ensures none { IfNone result
@@ -234,7 +248,8 @@ impl INumber {
         isize::try_from(self.whole()?).ok()
     }
 
-    /// The value where it is whole and a `u64`, whatever the shape.
+    /// The value where it is whole and a `u64`, whatever the shape. None where it has a fraction or is past the range, as
+    /// `to_i64`.
     pub fn to_u64(&self) -> Option<u64>
         ensures some { IfSome result (λ n. HasValue self.now.decimal (pos n)) }
         ensures none { IfNone result
@@ -243,7 +258,8 @@ impl INumber {
         u64::try_from(self.whole()?).ok()
     }
 
-    /// The value where it is whole and a `u32`, whatever the shape.
+    /// The value where it is whole and a `u32`, whatever the shape. None where it has a fraction or is past the range, as
+    /// `to_i64`.
     pub fn to_u32(&self) -> Option<u32>
         ensures some { IfSome result (λ n. HasValue self.now.decimal (pos n)) }
         ensures none { IfNone result
@@ -252,7 +268,8 @@ impl INumber {
         u32::try_from(self.whole()?).ok()
     }
 
-    /// The value where it is whole and a `usize`, whatever the shape.
+    /// The value where it is whole and a `usize`, whatever the shape. None where it has a fraction or is past the range, as
+    /// `to_i64`.
     pub fn to_usize(&self) -> Option<usize>
         ensures some { IfSome result (λ n. HasValue self.now.decimal (pos n)) }
         ensures none { IfNone result

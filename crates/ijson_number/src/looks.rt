@@ -4,7 +4,7 @@ ghost use Rattle.std.specs.Prelude.{◌≡◌, ◌+◌, ◌<◌, ◌^◌};
 
 use std::marker::Model;
 
-/// How often something was looked at: places of a table, or digits of a number.
+/// How often something was looked at: places of a table, or digits of a number. The count is below 2^128.
 #[derive(Debug, Drop)]
 pub struct Looks {
     seen: u128,
@@ -33,7 +33,7 @@ impl Looks {
         self.seen
     }
 
-    /// Counts one more look.
+    /// Counts one more look. The count with it must be below 2^128.
     pub fn add_one(&mut self)
         requires { self.old + 1 < 2 ^ 128 }
         ensures { self.new ≡ self.old + 1 }

@@ -24,7 +24,9 @@ pub enum ParseNumberError {
 }
 
 /// An exact decimal: zero, or a whole mantissa that ten doesn't divide times a power of ten whose exponent lies from
-/// -2^30 to 2^30; and whether it was written with a point or an exponent. It is kept in its stored form.
+/// -2^30 to 2^30; and whether it was written with a point or an exponent. It is kept in its stored form. It takes 16 bytes; a
+/// number that is stored as a list of digits has these in memory of its own. `2`, `2.0` and `20e-1` are equal, and the last two
+/// are printed as `2.0`.
 #[derive(Drop)]
 pub struct INumber {
     pub(crate) stored: Stored,
@@ -52,7 +54,8 @@ impl INumber {
     ghost use Rattle.ijson_number.specs.private.Scanned.{parts_of};
 
     /// The number that the whole text spells, with no white space round it. Memory is taken where the stored form is a
-    /// list of digits alone.
+    /// list of digits alone. The time is linear in the length of the text, whatever the exponent. `1.50` and `15e-1` spell
+    /// equal numbers; `01`, `+1`, `.5`, `1.` and ` 1` are `Invalid`, and so is `1e2000000000`.
     pub fn from_str(alloc: Global, text: &str) -> Result<INumber, ParseNumberError>
         ensures ok { IfOk result (λ n. Spells text.now n.decimal) }
         ensures err { IfErr result (λ e. IsRefused text.now e) }
@@ -109,7 +112,7 @@ impl INumber {
         }
     }
 
-    /// Whether the number was written with a point or an exponent.
+    /// Whether the number was written with a point or an exponent. `2.0` and `2e0` were, `2` was not.
     pub fn has_decimal_point(&self) -> bool
         ensures { result ≡ self.now.decimal.point }
     {

@@ -10,7 +10,8 @@ use crate::number::INumber;
 use crate::stripped::ROOM;
 use std::cmp::Ordering;
 
-/// Two numbers are equal where their values are, whether or not they were written with a point.
+/// Two numbers are equal where their values are, whether or not they were written with a point. It takes no memory, and looks
+/// at each digit once at most.
 impl PartialEq for INumber {
     ghost eq = { λ a b. number_eq a.decimal b.decimal };
 
@@ -33,6 +34,7 @@ impl Eq for INumber {
     ghost laws = { on_equiv (λ n. n.decimal) number_eq_equiv };
 }
 
+/// As `cmp`: any two numbers are ordered.
 impl PartialOrd for INumber {
     ghost partial_cmp = { λ a b. Some (number_cmp a.decimal b.decimal) };
 
@@ -43,7 +45,8 @@ impl PartialOrd for INumber {
     }
 }
 
-/// By exact value; the point isn't looked at. It takes no memory and writes no exponent out.
+/// By exact value; the point isn't looked at. It takes no memory and writes no exponent out. Digits are read where signs and
+/// leading places are the same alone, and then at most twice as many as the number with fewer has.
 impl Ord for INumber {
     ghost cmp = { λ a b. number_cmp a.decimal b.decimal };
 

@@ -159,7 +159,9 @@ impl fmt::Display for Shape<'_> {
     }
 }
 
-/// The text of a number, as JSON writes it.
+/// The text of a number, as JSON writes it. It takes no memory, and time linear in what is written: a number without the point
+/// is written with all its digits, and one with it by an exponent where the stripped one is past 20 or the first digit stands
+/// more than 6 places behind the point. `1e2` is written `100.0`, `1e21` as `1e21`, and `0.0000001` as `1e-7`.
 impl fmt::Display for INumber {
     ghost output = { λ n. Some (num_text n.decimal) };
 

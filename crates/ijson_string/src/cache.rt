@@ -9,7 +9,9 @@ use std::alloc::{AllocError, Global};
 use std::hash::{BuildHasher, BuildHasherDefault, FoldHasher};
 use std::marker::Model;
 
-/// A set of texts of more than 7 bytes, each kept once. `IString::intern` adds to it, and shares what it holds.
+/// A set of texts of more than 7 bytes, each kept once. `IString::intern` adds to it, and shares what it holds. A text stays
+/// until `clear`, also where nobody else has it. Texts that a stranger chose want a hasher with a random seed, as `RandomState`
+/// is.
 #[derive(Drop)]
 pub struct StringCache<S: BuildHasher> {
     alloc: Global,
@@ -38,7 +40,7 @@ impl<S: BuildHasher> Model for StringCache<S> {
 }
 
 impl<S: BuildHasher> StringCache<S> {
-    /// An empty cache, which takes its memory from `alloc` as it grows.
+    /// An empty cache, which takes its memory from `alloc` as it grows. It takes none before the first long text.
     #[tactic(auto, using(crate::proofs::Sets::AllAreLong_no_keys))]
     pub fn new(alloc: Global, hasher: S) -> StringCache<S>
         ensures { result ≡ set.empty }
@@ -64,7 +66,8 @@ impl<S: BuildHasher> StringCache<S> {
         self.len() == 0
     }
 
-    /// Whether `text` is there. A text of at most 7 bytes never is.
+    /// Whether `text` is there. A text of at most 7 bytes never is. The text is hashed and looked up, in expected time linear
+    /// in its length.
     pub fn contains(&self, text: &str) -> bool
         ensures exact { result ≡ set.contains self.now text.now }
         ensures short { length text.now ≤ 7 → result ≡ false }
@@ -73,7 +76,8 @@ impl<S: BuildHasher> StringCache<S> {
         self.texts.contains(SoughtText { hash, text })
     }
 
-    /// Takes out every text. Each `IString` keeps the text that it has.
+    /// Takes out every text. Each `IString` keeps the text that it has. It takes time linear in their count, and keeps the room
+    /// for as many.
     #[tactic(auto, using(crate::proofs::Sets::AllAreLong_no_keys))]
     pub fn clear(&mut self)
         ensures { self.new ≡ set.empty }

@@ -22,7 +22,8 @@ use std::mem::size_of;
 use std::rc::{Rc, RcStr};
 
 /// A text in UTF-8. One of at most 7 bytes lies in the value itself, and a longer one is shared with its clones and with
-/// the cache that it was interned in. Equality, order and hash are those of its bytes, whatever the cache.
+/// the cache that it was interned in. Equality, order and hash are those of its bytes, whatever the cache. It takes 16 bytes;
+/// the memory of a longer text goes with its last owner, of which the cache is one.
 #[derive(Drop)]
 pub struct IString {
     stored: Stored,
@@ -55,7 +56,7 @@ impl Model for IString {
 }
 
 impl IString {
-    /// The empty text.
+    /// The empty text. It takes no memory.
     pub fn new() -> IString
         ensures { result ≡ [] }
     {
@@ -65,7 +66,13 @@ impl IString {
     }
 
     /// The text, kept in place up to 7 bytes, and otherwise shared through `cache`, which takes it in if it is new there.
-    /// Only a text of more than 7 bytes can want memory, and the cache is then as it was.
+    /// Only a text of more than 7 bytes can want memory, and the cache is then as it was. The text is hashed and looked up, in
+    /// expected time linear in its length; a new one is copied, and the cache grows at times.
+    ///
+    /// ```
+    /// let name = IString::intern(&mut cache, "name")?; // in place
+    /// let long = IString::intern(&mut cache, "a longer text")?; // in the cache, and each further one of this text shares it
+    /// ```
     pub fn intern<S: BuildHasher>(
         cache: &mut StringCache<S>,
         text: &str,
@@ -98,7 +105,7 @@ impl IString {
         Ok(IString { stored })
     }
 
-    /// The text.
+    /// The text. It is lent, and not copied.
     pub fn as_str(&self) -> &str
         ensures { result.now ≡ self.now }
     {
@@ -112,7 +119,7 @@ impl IString {
         }
     }
 
-    /// The bytes of the text.
+    /// The bytes of the text. They are lent, and not copied.
     pub fn as_bytes(&self) -> &[u8]
         ensures { result.now ≡ self.now }
     {
@@ -133,14 +140,14 @@ impl IString {
         self.len() == 0
     }
 
-    /// Whether this is `text`, byte by byte.
+    /// Whether this is `text`, byte by byte. Where the lengths differ, no byte is read.
     pub fn eq_str(&self, text: &str) -> bool
         ensures { IsTrue result ↔ (self.now ≡ text.now) }
     {
         self.as_str() == text
     }
 
-    /// A copy of the text on `alloc`; the error is want of memory.
+    /// A copy of the text on `alloc`; the error is want of memory. An empty text takes none.
     pub fn to_owned_string(&self, alloc: Global) -> Result<String, AllocError>
         ensures { IfOk result (λ s. string_bytes s ≡ self.now) }
     {
@@ -148,6 +155,8 @@ impl IString {
     }
 }
 
+/// The same text, in constant time and with no memory: up to 7 bytes are copied, and a longer text has one owner more. That is
+/// refused alone where the count of its owners is full.
 impl Clone for IString {
     ghost is_clone = { λ s copy. copy ≡ s };
 
@@ -166,6 +175,7 @@ impl Clone for IString {
     }
 }
 
+/// By the bytes; where the lengths differ, none is read.
 impl PartialEq for IString {
     ghost eq = { λ x y. pointwise nat_eq x y };
 
@@ -180,6 +190,7 @@ impl Eq for IString {
     ghost laws = { nat_list_eq_equiv };
 }
 
+/// As `cmp`: any two texts are ordered.
 impl PartialOrd for IString {
     ghost partial_cmp = { λ x y. Some (slice_cmp nat_cmp x y) };
 
@@ -190,6 +201,8 @@ impl PartialOrd for IString {
     }
 }
 
+/// By the bytes, from the front, which is the order of the characters' code points; a text comes before those that go on from
+/// it.
 impl Ord for IString {
     ghost cmp = { λ x y. slice_cmp nat_cmp x y };
 
@@ -204,6 +217,7 @@ impl Ord for IString {
     }
 }
 
+/// Equal texts feed the same words, and each word is one `write_u64`: 3, the length in bytes, and each byte.
 impl Hash for IString {
     ghost hash_input = { λ s. flat_map fed.u64 (text_words s) };
 
@@ -219,6 +233,7 @@ impl Hash for IString {
     }
 }
 
+/// The empty text.
 impl Default for IString {
     ghost is_default = { λ s. s ≡ [] };
 
@@ -227,6 +242,7 @@ impl Default for IString {
     }
 }
 
+/// The text, as it is.
 impl fmt::Display for IString {
     ghost output = { λ s. Some s };
 
@@ -235,6 +251,7 @@ impl fmt::Display for IString {
     }
 }
 
+/// The text between quotes, with the escapes of `str`.
 impl fmt::Debug for IString {
     fn fmt<W: fmt::Write>(&self, f: &mut fmt::Formatter<W>) -> fmt::Result {
         fmt::Debug::fmt(self.as_str(), f)

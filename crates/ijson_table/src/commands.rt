@@ -39,6 +39,7 @@ pub enum Reply<V> {
     Found(Option<usize>),
     /// The pair that was taken out, or none.
     Removed(Option<(IString, V)>),
+    /// What was asked for is so.
     Done,
     /// The capacity stays.
     NotDone(ReserveError),
@@ -79,7 +80,13 @@ fn step<V: Drop, P: PairStore<V>>(store: &mut P, command: Command<V>) -> Reply<V
     }
 }
 
-/// The commands in order. The replies and what the store has in the end are a run, however it is kept.
+/// The commands in order. The replies and what the store has in the end are a run, however it is kept. Room for the replies is
+/// made first: where that is refused, no command was run, and they are dropped.
+///
+/// ```
+/// let commands = vec![in alloc; Command::Insert(key, 1u64), Command::Reserve(10), Command::Clear]?;
+/// let replies = run(alloc, &mut store, commands)?; // Added, Done, Done
+/// ```
 pub fn run<V: Drop, P: PairStore<V>>(
     alloc: Global,
     store: &mut P,

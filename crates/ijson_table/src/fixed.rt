@@ -18,7 +18,8 @@ use ijson_string::IString;
 use std::alloc::{AllocError, Global};
 use std::marker::Model;
 
-/// A [`Table`] whose places go by [`FixedHash`].
+/// A [`Table`] whose places go by [`FixedHash`]. It is what objects are kept in. Its look-ups cost what those of a [`Table`]
+/// do; keys that were chosen to have one hash make one crowd, which is walked.
 #[derive(Debug, Drop)]
 pub struct FixedTable<V> {
     table: Table<V, FixedHash>,
@@ -36,7 +37,8 @@ impl<V> Model for FixedTable<V> {
 }
 
 impl<V: Drop> FixedTable<V> {
-    /// An empty store with room for so many pairs. It is refused as too large where that passes 2^56.
+    /// An empty store with room for so many pairs. It is refused as too large where that passes 2^56. Room for none takes no
+    /// memory.
     pub fn with_capacity(alloc: Global, capacity: usize) -> Result<FixedTable<V>, ReserveError>
         ensures made { IfOk result (λ t. (t.store.pairs ≡ []) × (t.store.capacity ≡ capacity)) }
         ensures too_large { (result ≡ Err ReserveError.TooLarge) ↔ (capacity_limit < capacity) }
@@ -47,7 +49,8 @@ impl<V: Drop> FixedTable<V> {
     }
 
     /// A store of pairs with the same keys in the same order, for a copy of this one: it has room for them alone, and no key
-    /// is hashed again. Room for none takes no memory. Where memory is refused, the pairs are dropped.
+    /// is hashed again. Room for none takes no memory. Where memory is refused, the pairs are dropped. It takes time linear in
+    /// the capacities of both.
     pub fn with_same_keys(
         &self,
         alloc: Global,
@@ -63,7 +66,8 @@ impl<V: Drop> FixedTable<V> {
     }
 
     /// Puts a pair. A key that is there keeps its place and needs no memory, and its old value is answered; a new key
-    /// goes last, in room that is made first where there is none. Where that is refused, the pair comes back.
+    /// goes last, in room that is made first where there is none. Where that is refused, the pair comes back. Its key is hashed
+    /// once, and it walks the places once, and once more only where the store grew.
     pub fn insert(&mut self, key: IString, value: V) -> Result<Option<V>, RefusedPair<V>>
         ensures { Inserts self.old.store.pairs self.old.store.capacity key value result
             self.new.store.pairs self.new.store.capacity }
@@ -71,7 +75,8 @@ impl<V: Drop> FixedTable<V> {
         self.table.insert(key, value)
     }
 
-    /// The same, and each place that it looks at for the key is counted.
+    /// The same, and each place that it looks at for the key is counted. The walk that puts the pair down after a growth is not
+    /// counted.
     pub fn insert_counted(
         &mut self,
         key: IString,
@@ -90,14 +95,15 @@ impl<V: Drop> FixedTable<V> {
 }
 
 impl<V> FixedTable<V> {
-    /// The pairs, in order.
+    /// The pairs, in order. They are lent, and not copied.
     pub fn as_slice(&self) -> &[(IString, V)]
         ensures { result.now ≡ self.now.store.pairs }
     {
         self.table.as_slice()
     }
 
-    /// The value beside a key.
+    /// The value beside a key. It hashes the key once, and looks at what stands in the crowd of its home. None where the key is
+    /// not there.
     pub fn get(&self, key: &str) -> Option<&V>
         ensures { option_copied result ≡ lookup key.now self.now.store.pairs }
     {
@@ -116,6 +122,7 @@ impl<V> FixedTable<V> {
     }
 }
 
+/// As `Table`.
 impl<V> Places for FixedTable<V> {
     ghost hash_of = { λ text. fold_words text };
 
@@ -140,6 +147,7 @@ impl<V> Places for FixedTable<V> {
     }
 }
 
+/// As `Table`.
 impl<V: Drop> PairStore<V> for FixedTable<V> {
     ghost pairs = { λ t. t.store.pairs };
 

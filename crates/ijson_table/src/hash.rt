@@ -5,16 +5,20 @@ ghost use Rattle.ijson_table.specs.Fold.{fold_word, fold_words};
 
 /// A hash of texts: any function of the text.
 pub trait KeyHash {
+    /// What it answers, by the bytes of a text.
     ghost hash_of: { List ℕ → ℕ };
 
+    /// The hash of a text.
     fn hash(text: &str) -> u64
         ensures { result ≡ hash_of text.now };
 }
 
-/// The fold of the bytes of a text, the same in each run.
+/// The fold of the bytes of a text, the same in each run. Anybody can choose texts that have one hash. It takes time linear in
+/// the text.
 #[derive(Clone, Copy, Debug, Drop)]
 pub struct FixedHash;
 
+/// Four bytes are taken at a time.
 impl KeyHash for FixedHash {
     ghost hash_of = { λ text. fold_words text };
 

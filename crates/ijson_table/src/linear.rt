@@ -13,7 +13,7 @@ use ijson_string::IString;
 use std::alloc::Global;
 use std::marker::Model;
 
-/// Pairs in a list, searched from the front.
+/// Pairs in a list, searched from the front. It hashes nothing, and a look-up takes time linear in the pairs.
 #[derive(Debug, Drop)]
 pub struct LinearPairs<V> {
     pairs: Vec<(IString, V)>,
@@ -49,7 +49,8 @@ fn find<V>(pairs: &[(IString, V)], key: &str) -> Option<usize>
 }
 
 impl<V> LinearPairs<V> {
-    /// An empty store with room for so many pairs. It is refused as too large where that passes 2^56.
+    /// An empty store with room for so many pairs. It is refused as too large where that passes 2^56. Room for none takes no
+    /// memory.
     pub fn with_capacity(alloc: Global, capacity: usize) -> Result<LinearPairs<V>, ReserveError>
         ensures made { IfOk result (λ s. (s.pairs ≡ []) × (s.capacity ≡ capacity)) }
         ensures too_large { (result ≡ Err ReserveError.TooLarge) ↔ (capacity_limit < capacity) }
@@ -62,14 +63,14 @@ impl<V> LinearPairs<V> {
         })
     }
 
-    /// The pairs, in order.
+    /// The pairs, in order. They are lent, and not copied.
     pub fn as_slice(&self) -> &[(IString, V)]
         ensures { result.now ≡ self.now.pairs }
     {
         self.pairs.as_slice()
     }
 
-    /// The value beside a key.
+    /// The value beside a key. None where the key is not there.
     pub fn get(&self, key: &str) -> Option<&V>
         ensures { option_copied result ≡ lookup key.now self.now.pairs }
     {
@@ -82,7 +83,8 @@ impl<V> LinearPairs<V> {
 
 impl<V: Drop> LinearPairs<V> {
     /// Puts a pair. A key that is there keeps its place and needs no memory, and its old value is answered; a new key
-    /// goes last, in room that is made first where there is none. Where that is refused, the pair comes back.
+    /// goes last, in room that is made first where there is none. Where that is refused, the pair comes back. The keys are
+    /// compared from the front.
     pub fn insert(&mut self, key: IString, value: V) -> Result<Option<V>, RefusedPair<V>>
         ensures { Inserts self.old.pairs self.old.capacity key value result
             self.new.pairs self.new.capacity }
@@ -91,6 +93,7 @@ impl<V: Drop> LinearPairs<V> {
     }
 }
 
+/// A look-up compares the keys from the front.
 impl<V: Drop> PairStore<V> for LinearPairs<V> {
     ghost pairs = { λ s. s.pairs };
 

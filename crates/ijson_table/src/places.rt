@@ -13,16 +13,23 @@ use ijson_number::Looks;
 /// What one look at a place tells.
 #[derive(Clone, Copy, Debug, PartialEq, Eq, Drop)]
 pub enum Seen {
+    /// Nothing stands there.
     Empty,
+    /// A position stands there.
     Resident {
+        /// The position.
         at: usize,
+        /// How many places behind its home it stands, round the end.
         distance: usize,
+        /// Whether its key is the one that is sought.
         same: bool,
     },
 }
 
-/// A table: a list of keys, and places that hold their positions, ordered by the distance from home.
+/// A table: a list of keys, and places that hold their positions, ordered by the distance from home. There are five places for
+/// four of its capacity.
 pub trait Places {
+    /// The hash by which a key has its home.
     ghost hash_of: { List ℕ → ℕ };
 
     /// The keys, in order.
@@ -37,16 +44,19 @@ pub trait Places {
     /// No key stands twice.
     ghost distinct: { (table : Self) → IsDistinct (keys table) };
 
+    /// How many places there are.
     fn places(&self) -> usize
         ensures count { result ≡ length (slots self.now) }
         ensures size { length (slots self.now) ≡ place_count (room self.now) }
         ensures table { IsTable (map hash_of (keys self.now)) (slots self.now) };
 
+    /// The home of a key: its hash modulo the count of places.
     fn home(&self, key: &str) -> usize
         requires { 0 < length (slots self.now) }
         ensures { result ≡ home_of hash_of (length (slots self.now)) key.now };
 
-    /// Looks at one place, and at the key whose position stands there.
+    /// Looks at one place, and at the key whose position stands there. It is one look, and `distance` of what stands there is
+    /// told from that one's own home.
     fn look(&self, place: usize, key: &str, looks: &mut Looks) -> Seen
         requires within { place < length (slots self.now) }
         requires fits { looks.old + 1 < 2 ^ 128 }
@@ -83,7 +93,8 @@ impl<'a, P: Places> ProbeTarget for KeyProbe<'a, P> {
     }
 }
 
-/// The position of a key.
+/// The position of a key. None where it is not there. It begins at the home of the key, and ends at the key, at an empty place
+/// or at a resident that is nearer to its own home; so it looks at no more than the crowd of that home and one place.
 pub fn locate<P: Places>(table: &P, key: &str, looks: &mut Looks) -> Option<usize>
     requires { looks.old + length (P.keys table.now) + 1 < 2 ^ 128 }
     ensures found { result ≡ position_of (P.keys table.now) key.now }

@@ -22,6 +22,7 @@ pub enum ReserveError {
     TooLarge,
 }
 
+/// `Memory`.
 impl From<AllocError> for ReserveError {
     ghost use Rattle.std.specs.Prelude.{◌≡◌};
     ghost use Rattle.ijson_table.specs.declared.store.ReserveError.TheVariants.{Memory};
@@ -33,16 +34,21 @@ impl From<AllocError> for ReserveError {
     }
 }
 
-/// A pair that a store did not take, and why it did not grow.
+/// A pair that a store did not take, and why it did not grow. The store is as it was.
 #[derive(Debug, Drop, Error)]
 #[error("the store did not grow for one more pair: {why}")]
 pub struct RefusedPair<V> {
+    /// The key that was given.
     pub key: IString,
+    /// The value that was given.
     pub value: V,
+    /// Why there is no room for them.
     pub why: ReserveError,
 }
 
-/// A list of pairs with distinct keys, and a capacity: the number of pairs that it has room for.
+/// A list of pairs with distinct keys, and a capacity: the number of pairs that it has room for. A list takes 16 bytes and
+/// those of a value for each pair of its capacity. A table takes 20 more, and hashes no key again when it grows, shrinks or is
+/// copied.
 pub trait PairStore<V>: Sized {
     /// The pairs, in order.
     ghost pairs: { Self → List (List ℕ × V) };
@@ -72,66 +78,72 @@ pub trait PairStore<V>: Sized {
         ensures limited { room self.now ≤ capacity_limit };
 
     /// Makes room for so many more pairs. Where they have none, the capacity becomes the greatest of twice the old one,
-    /// the length with them, and 4.
+    /// the length with them, and 4. So pairs that are put one by one take room for 4, 8, 16 and so on, and each of them
+    /// constant time on average. A growth moves each pair once. Refused, the store is as it was: `TooLarge` where the capacity
+    /// would pass 2^56, `Memory` where it was not granted.
     fn reserve(&mut self, additional: usize) -> Result<(), ReserveError>
         ensures grown { Grow (length (pairs self.old)) (room self.old) additional result (room self.new) }
         ensures room { OnOk result (length (pairs self.new) + additional ≤ room self.new) }
         ensures pairs { pairs self.new ≡ pairs self.old };
 
-    /// Makes the capacity the length. That takes no memory where it is so already or the length is 0.
+    /// Makes the capacity the length. That takes no memory where it is so already or the length is 0. Each pair is moved once.
+    /// Refused, the store is as it was.
     fn shrink_to_fit(&mut self) -> Result<(), ReserveError>
         ensures room { Shrink (length (pairs self.old)) (room self.old) result (room self.new) }
         ensures pairs { pairs self.new ≡ pairs self.old };
 
-    /// The position of a key, from 0.
+    /// The position of a key, from 0. A list compares each key with it from the front; a table hashes it once and looks at what
+    /// stands in the crowd of its home.
     fn position(&self, key: &str) -> Option<usize>
         ensures { result ≡ at (pairs self.now) key.now };
 
-    /// The pair at a position.
+    /// The pair at a position. It takes constant time.
     fn pair(&self, index: usize) -> (&IString, &V)
         requires { index < length (pairs self.now) }
         ensures { slice_get (pairs self.now) index ≡ Some (result.0.now, result.1.now) };
 
-    /// Lends the value at a position.
+    /// Lends the value at a position. It takes constant time.
     fn value_mut(&mut self, index: usize) -> &mut V
         requires { index < length (pairs self.old) }
         ensures* writes_back { sem 𝓛
             (Lends Self.row V.row self.entry result (λ w. set_value self.old index w)) }
         ensures value { (key : List ℕ) × (slice_get (pairs self.old) index ≡ Some (key, result.now)) };
 
-    /// Lends the value at a position, and shows its key.
+    /// Lends the value at a position, and shows its key. It takes constant time.
     fn pair_mut(&mut self, index: usize) -> (&IString, &mut V)
         requires { index < length (pairs self.old) }
         ensures* writes_back { sem 𝓛
             (Lends Self.row V.row self.entry result.1 (λ w. set_value self.old index w)) }
         ensures pair { slice_get (pairs self.old) index ≡ Some (result.0.now, result.1.now) };
 
-    /// Puts a pair last, in the room that there is.
+    /// Puts a pair last, in the room that there is. A table hashes its key.
     fn push_new(&mut self, key: IString, value: V)
         requires missing { at (pairs self.old) key ≡ None }
         requires within { length (pairs self.old) < room self.old }
         ensures pairs { pairs self.new ≡ pairs self.old ++ (key, value) ∷ [] }
         ensures room { room self.new ≡ room self.old };
 
-    /// Takes out the pair at a position. The last pair moves there.
+    /// Takes out the pair at a position. The last pair moves there. A list does it in constant time; a table hashes both keys,
+    /// and closes the gap among the places. It takes no memory.
     fn swap_out(&mut self, index: usize) -> (IString, V)
         requires { index < length (pairs self.old) }
         ensures pair { slice_get (pairs self.old) index ≡ Some result }
         ensures pairs { pairs self.new ≡ swap_out (pairs self.old) index }
         ensures room { room self.new ≡ room self.old };
 
-    /// Takes out the pair at a position. Those behind it move one forward. That needs no memory.
+    /// Takes out the pair at a position. Those behind it move one forward. That needs no memory, and time linear in their count;
+    /// a table goes over all its places too, unless the pair is the last.
     fn shift_out(&mut self, index: usize) -> (IString, V)
         requires { index < length (pairs self.old) }
         ensures pair { slice_get (pairs self.old) index ≡ Some result }
         ensures pairs { pairs self.new ≡ shift_out (pairs self.old) index }
         ensures room { room self.new ≡ room self.old };
 
-    /// The pairs, in order.
+    /// The pairs, in order. They are not copied.
     fn into_pairs(self) -> Vec<(IString, V)>
         ensures { result.items ≡ pairs self };
 
-    /// Drops each pair. The capacity stays.
+    /// Drops each pair. The capacity stays. A table goes over all its places too.
     fn clear(&mut self)
         ensures pairs { pairs self.new ≡ [] }
         ensures room { room self.new ≡ room self.old };

@@ -25,7 +25,8 @@ use std::alloc::{AllocError, Global};
 use std::marker::{Model, PhantomData};
 use std::mem;
 
-/// Pairs in a list, and their positions in places by the hash of their keys.
+/// Pairs in a list, and their positions in places by the hash of their keys. A place is 16 bytes, and there are five for four
+/// pairs of the capacity. A look-up goes to the memory of a key only where the hashes are the same.
 #[derive(Debug, Drop)]
 pub struct Table<V, H: KeyHash> {
     pairs: Vec<(IString, V)>,
@@ -55,7 +56,8 @@ impl<V, H: KeyHash> Model for Table<V, H> {
 }
 
 impl<V: Drop, H: KeyHash> Table<V, H> {
-    /// An empty store with room for so many pairs. It is refused as too large where that passes 2^56.
+    /// An empty store with room for so many pairs. It is refused as too large where that passes 2^56. Room for none takes no
+    /// memory.
     pub fn with_capacity(alloc: Global, capacity: usize) -> Result<Table<V, H>, ReserveError>
         ensures made { IfOk result (λ t. (t.store.pairs ≡ []) × (t.store.capacity ≡ capacity)) }
         ensures too_large { (result ≡ Err ReserveError.TooLarge) ↔ (capacity_limit < capacity) }
@@ -74,7 +76,8 @@ impl<V: Drop, H: KeyHash> Table<V, H> {
     }
 
     /// A store of pairs with the same keys in the same order, for a copy of this one: it has room for them alone, and no key
-    /// is hashed again. Room for none takes no memory. Where memory is refused, the pairs are dropped.
+    /// is hashed again. Room for none takes no memory. Where memory is refused, the pairs are dropped. It takes time linear in
+    /// the capacities of both.
     pub fn with_same_keys(
         &self,
         alloc: Global,
@@ -98,7 +101,7 @@ impl<V: Drop, H: KeyHash> Table<V, H> {
 
     /// Puts a pair. A key that is there keeps its place and needs no memory, and its old value is answered; a new key
     /// goes last, in room that is made first where there is none. Where that is refused, the pair comes back. It walks
-    /// the places once, and once more only where the store grew.
+    /// the places once, and once more only where the store grew. Its key is hashed once.
     pub fn insert(&mut self, key: IString, value: V) -> Result<Option<V>, RefusedPair<V>>
         ensures { Inserts self.old.store.pairs self.old.store.capacity key value result
             self.new.store.pairs self.new.store.capacity }
@@ -106,7 +109,8 @@ impl<V: Drop, H: KeyHash> Table<V, H> {
         self.insert_counted(key, value, &mut Looks::new())
     }
 
-    /// The same, and each place that it looks at for the key is counted.
+    /// The same, and each place that it looks at for the key is counted. The walk that puts the pair down after a growth is not
+    /// counted.
     #[inline(always)]
     pub fn insert_counted(
         &mut self,
@@ -152,14 +156,15 @@ impl<V: Drop, H: KeyHash> Table<V, H> {
 }
 
 impl<V, H: KeyHash> Table<V, H> {
-    /// The pairs, in order.
+    /// The pairs, in order. They are lent, and not copied.
     pub fn as_slice(&self) -> &[(IString, V)]
         ensures { result.now ≡ self.now.store.pairs }
     {
         self.pairs.as_slice()
     }
 
-    /// The value beside a key.
+    /// The value beside a key. It hashes the key once, and looks at what stands in the crowd of its home. None where the key is
+    /// not there.
     pub fn get(&self, key: &str) -> Option<&V>
         ensures { option_copied result ≡ lookup key.now self.now.store.pairs }
     {
@@ -214,6 +219,7 @@ impl<V, H: KeyHash> Table<V, H> {
     }
 }
 
+/// A look compares the key with that of the resident, if there is one.
 impl<V, H: KeyHash> Places for Table<V, H> {
     ghost hash_of = { H.hash_of };
 
@@ -245,6 +251,7 @@ impl<V, H: KeyHash> Places for Table<V, H> {
     }
 }
 
+/// Each key that is sought, put or taken out is hashed; growth and shrinking hash none.
 impl<V: Drop, H: KeyHash> PairStore<V> for Table<V, H> {
     ghost pairs = { λ t. t.store.pairs };
 

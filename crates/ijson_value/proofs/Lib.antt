@@ -13,3 +13,4 @@ mod PutInside
 mod Retained
 mod SameSteps
 mod WordFolds
+pub mod Walks

@@ -18,7 +18,8 @@ use std::marker::Model;
 use std::mem::size_of;
 use thiserror::Error;
 
-/// A list of values. It lies behind one pointer, and an array that has taken no memory yet is without it.
+/// A list of values. It lies behind one pointer, and an array that has taken no memory yet is without it. It takes 16 bytes,
+/// and beside them the place of its list and 24 bytes for each item of its capacity.
 #[cycle(value)]
 #[derive(Drop)]
 pub struct IArray {
@@ -47,7 +48,7 @@ impl Model for IArray {
     ghost size_decreases = { λ a h. array_falls a.list a.alloc };
 }
 
-/// An item that an array had no memory for.
+/// An item that an array had no memory for. The array is as it was.
 #[derive(Debug, Drop, Error)]
 #[error("no memory for one more item")]
 pub struct Refused(pub IValue);
@@ -61,7 +62,7 @@ impl IArray {
         IArray { list: None, alloc }
     }
 
-    /// An array with no items, and room for `capacity` of them. Room for none takes no memory.
+    /// An array with no items, and room for `capacity` of them. Room for none takes no memory. The error is want of memory.
     pub fn with_capacity(alloc: Global, capacity: usize) -> Result<IArray, AllocError>
         ensures items { IfOk result (λ array. array.items ≡ []) }
         ensures room { IfOk result (λ array. capacity ≤ array.capacity) }
@@ -130,7 +131,8 @@ impl IArray {
         self.alloc
     }
 
-    /// Puts an item last. It takes memory only where there is no room for one more.
+    /// Puts an item last. It takes memory only where there is no room for one more. Room then at least doubles, so pushes take
+    /// constant time on average. Where that is refused, the item comes back and the array is as it was.
     pub fn push(&mut self, item: IValue) -> Result<(), Refused>
         ensures ok { OnOk result (self.new.items ≡ self.old.items ++ item ∷ []) }
         ensures refused { IfErr result (λ refused.
@@ -151,7 +153,8 @@ impl IArray {
     }
 
     /// Makes room for `additional` items more, so that as many pushes take no memory. It takes memory only where there is
-    /// not that room.
+    /// not that room. The room then at least doubles, and each item is moved once. Where that is refused, the array is as it
+    /// was.
     pub fn reserve(&mut self, additional: usize) -> Result<(), AllocError>
         ensures items { self.new.items ≡ self.old.items }
         ensures ok { OnOk result (length self.new.items + additional ≤ self.new.capacity) }
@@ -168,7 +171,8 @@ impl IArray {
         }
     }
 
-    /// Gives back the room that no item fills.
+    /// Gives back the room that no item fills. The items move to a list of their length, for which memory is asked; where that
+    /// is refused, they stay, and the capacity is no greater than it was.
     pub fn shrink_to_fit(&mut self) -> Result<(), AllocError>
         ensures items { self.new.items ≡ self.old.items }
         ensures ok { OnOk result (self.new.capacity ≡ length self.new.items) }
@@ -186,6 +190,7 @@ impl IArray {
     }
 }
 
+/// Whether there are as many items and each means the same as the one at its position. It takes no memory.
 impl PartialEq for IArray {
     ghost eq = { λ a b. same (array_tree a.items) (array_tree b.items) };
 

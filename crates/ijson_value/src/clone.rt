@@ -62,6 +62,9 @@ fn clone_pairs(
     Ok(copies)
 }
 
+/// The same value. Texts are shared with it, and memory is taken for each array and object in it that is not empty, and for
+/// each number that is stored as a list of digits; where one of these requests is refused, what was made is dropped. It takes
+/// time linear in the value, and hashes no key.
 impl Clone for IValue {
     ghost is_clone = { λ v copy. copy ≡ v };
 
@@ -70,6 +73,7 @@ impl Clone for IValue {
     }
 }
 
+/// An array of copies of the items, with room for them; its cost is that of `IValue::clone`.
 impl Clone for IArray {
     ghost is_clone = { λ a copy. copy.items ≡ a.items };
 
@@ -78,6 +82,8 @@ impl Clone for IArray {
     }
 }
 
+/// An object of copies of the pairs, in their order, whose capacity is their count; its cost is that of `IValue::clone`, and no
+/// key is hashed.
 impl Clone for IObject {
     ghost is_clone = { λ o copy. (copy.pairs ≡ o.pairs) × (copy.capacity ≡ length o.pairs) };
 
@@ -88,7 +94,7 @@ impl Clone for IObject {
 }
 
 impl IArray {
-    /// An array of copies of these items. An array of none takes no memory.
+    /// An array of copies of these items. An array of none takes no memory. Their texts are shared, as by `IValue::clone`.
     pub fn from_slice(alloc: Global, items: &[IValue]) -> Result<IArray, AllocError>
         ensures { IfOk result (λ array. array.items ≡ items.now) }
     {

@@ -5,6 +5,7 @@ use crate::object::IObject;
 use crate::value::{Destructured, IValue};
 use std::fmt;
 
+/// As JSON, but a string has the escapes of `str`. `to_json` of `ijson_json` writes JSON.
 impl fmt::Debug for IValue {
     #[cycle(debug)]
     fn fmt<W: fmt::Write>(&self, f: &mut fmt::Formatter<W>) -> fmt::Result {
@@ -19,6 +20,7 @@ impl fmt::Debug for IValue {
     }
 }
 
+/// As the value that holds it.
 impl fmt::Debug for IArray {
     #[cycle(debug)]
     fn fmt<W: fmt::Write>(&self, f: &mut fmt::Formatter<W>) -> fmt::Result {
@@ -30,6 +32,7 @@ impl fmt::Debug for IArray {
     }
 }
 
+/// As the value that holds it.
 impl fmt::Debug for IObject {
     #[cycle(debug)]
     fn fmt<W: fmt::Write>(&self, f: &mut fmt::Formatter<W>) -> fmt::Result {

@@ -18,7 +18,7 @@ use ijson_string::IString;
 use std::hash::{Hash, Hasher};
 
 /// Values that mean the same feed the same words, at every depth and in every order of pairs. No value's words go on to be
-/// another's, and where the first holds no object, the two mean the same.
+/// another's, and where the first holds no object, the two mean the same. It does nothing: a call of it gives a proof the law.
 pub fn words_law()
     ensures same { (t u : Tree) → IsWellFormed t → IsWellFormed u → Same t u → words t ≡ words u }
     ensures ends { (t u : Tree) (x y : List ℕ) → IsWellFormed t → IsWellFormed u
@@ -66,6 +66,8 @@ fn hash_pairs<H: Hasher>(pairs: &[(IString, IValue)], state: &mut H)
     state.write_u64(sum_of_pairs(pairs));
 }
 
+/// Values that are equal feed the same words, each by one `write_u64`. An object feeds the count of its pairs and one word that
+/// is the same in every order of them. It takes time linear in the value, and no memory.
 impl Hash for IValue {
     ghost hash_input = { λ v. flat_map fed.u64 (words v.tree) };
 
@@ -76,6 +78,7 @@ impl Hash for IValue {
     }
 }
 
+/// As the value that holds it.
 impl Hash for IArray {
     ghost hash_input = { λ a. flat_map fed.u64 (words (array_tree a.items)) };
 
@@ -86,6 +89,7 @@ impl Hash for IArray {
     }
 }
 
+/// As the value that holds it.
 impl Hash for IObject {
     ghost hash_input = { λ o. flat_map fed.u64 (words (object_tree o.pairs)) };
 

@@ -55,6 +55,9 @@ fn pairs_cmp(a: &IObject, b: &IObject) -> Option<Ordering>
     }
 }
 
+/// Values of two kinds are in the order of `ValueType`; numbers are by value, strings by their bytes, and arrays by the first
+/// items that are not equal, then by length. Objects are Equal where they mean the same, and else have no order. It takes no
+/// memory.
 impl PartialOrd for IValue {
     ghost partial_cmp = { λ a b. tree_cmp a.tree b.tree };
 
@@ -65,6 +68,7 @@ impl PartialOrd for IValue {
     }
 }
 
+/// By the first items that are not equal, then by length; no order where these have none.
 impl PartialOrd for IArray {
     ghost partial_cmp = { λ a b. tree_cmp (array_tree a.items) (array_tree b.items) };
 
@@ -75,6 +79,7 @@ impl PartialOrd for IArray {
     }
 }
 
+/// Equal where they mean the same, and else no order.
 impl PartialOrd for IObject {
     ghost partial_cmp = { λ a b. tree_cmp (object_tree a.pairs) (object_tree b.pairs) };
 

@@ -24,7 +24,8 @@ pub use index::ValueIndex;
 use std::marker::Model;
 use std::mem::size_of;
 
-/// A JSON value.
+/// A JSON value. It takes 24 bytes, and what it holds beyond these lies behind one pointer. What goes through a whole value (a
+/// copy, `==`, a hash, the drop) calls itself once a level, so a value that nests very deep can want more stack than there is.
 #[cycle(value)]
 #[derive(Drop)]
 pub struct IValue {
@@ -33,15 +34,22 @@ pub struct IValue {
 
 const _: () = prove!(size_of::<IValue>() == 24);
 
-/// A value opened: what it is made of, by its kind.
+/// A value opened: what it is made of, by its kind. It is moved out of its value and into one (`IValue::from` of a part) with
+/// no copy.
 #[cycle(value)]
 #[derive(Debug, Drop, PartialEq, Eq)]
 pub enum Destructured {
+    /// `null`.
     Null,
+    /// `true` or `false`.
     Bool(bool),
+    /// An exact decimal.
     Number(INumber),
+    /// A text.
     String(IString),
+    /// A list of values.
     Array(IArray),
+    /// Pairs with distinct keys, in order.
     Object(IObject),
 }
 
@@ -65,7 +73,7 @@ impl Model for IValue {
     ghost size_decreases = { λ v h. node_falls v.node };
 }
 
-/// The kinds of values, in their order.
+/// The kinds of values, in their order. Values of two kinds are ordered as these are.
 #[derive(Clone, Copy, Debug, PartialEq, Eq, PartialOrd, Ord, Hash)]
 pub enum ValueType {
     Null,
@@ -109,6 +117,7 @@ impl IValue {
     }
 }
 
+/// Null.
 impl Default for IValue {
     ghost is_default = { λ v. v ≡ null_value };
 
@@ -117,6 +126,8 @@ impl Default for IValue {
     }
 }
 
+/// Whether two values mean the same: numbers by value, whatever their shape, arrays item by item, and objects in any order of
+/// their pairs. It takes no memory, and expected time linear in the values: each key of one object is looked up in the other.
 impl PartialEq for IValue {
     ghost eq = { λ a b. same a.tree b.tree };
 

@@ -9,9 +9,9 @@ use Rattle.ijson_value.specs.Tree.{Tree, null}
 use Rattle.ijson_value.specs.Values.{null_value, object_tree}
 use Rattle.ijson_value.specs.WellFormed.{WellFormed, tree_of, pair_trees}
 use Rattle.ijson_value.specs.declared.value.ValueType.TheVariants.{Null}
+use Rattle.ijson_value.specs.laws.MemberTrees.{put-members, shift_out-members}
 use Rattle.ijson_value.specs.laws.Steps.{value_at}
 use Rattle.ijson.specs.callers.MergePatch.{members_in, changed, merged, merged_into}
-use Rattle.ijson_value.specs.laws.MemberTrees.{put-members, shift_out-members}
 
 -- what null takes out, and what any other value puts
 changed-null : (ms : List (List ℕ × Tree)) (key : List ℕ) (patch value : Tree) → kind_of patch ≡ Null

@@ -2,7 +2,7 @@
 use Rattle.std.proofs.Common.{◌≡◌, ℕ, suc, ◌+◌, ◌<◌, List, length, drop, get_or, refl, sym, subst, arith, inl, inr}
 use Rattle.ijson_value.specs.WellFormed.{WellFormed, item_trees}
 use Rattle.ijson.specs.callers.Records.{HasId, LackId}
-use Rattle.ijson.proofs.callers.Items.{front}
+use Rattle.ijson_value.proofs.Walks.{front}
 
 module _ (vs : List WellFormed) (i count : ℕ) (v : WellFormed) (below : i < length vs) (is : v ≡ get_or vs i v)
     (so_far : (n : ℕ) → LackId (item_trees (drop i vs)) n → LackId (item_trees vs) (count + n)) where

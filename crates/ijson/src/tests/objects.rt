@@ -1,6 +1,8 @@
 //! Objects: what each call answers and leaves, each iterator in full, how often each closure is called, and a caller that knows the list
 //! by the contracts alone.
 ghost use Rattle.std.specs.Prelude.{◌≡◌, ◌≢◌, [], ◌∷◌, true, false, OnOk};
+ghost use Rattle.std.specs.Option.{unwrap_or};
+ghost use Rattle.ijson_table.specs.Store.{lookup, put};
 ghost use Rattle.ijson_value.specs.Values.{boolean_value};
 
 use super::{empty_cache, text};
@@ -298,6 +300,15 @@ fn indexed_entries(rt: HostRuntime) -> Result<(), Fail> {
     Ok(())
 }
 
+/// Puts false beside a key that is not there.
+fn put_false(object: &mut IObject, key: &IString) -> Result<(), ReserveError>
+    ensures { OnOk result (object.new.pairs ≡ put object.old.pairs key.now
+        (unwrap_or (lookup key.now object.old.pairs) (boolean_value false))) }
+{
+    object.entry_or_clone(key)?.or_insert(IValue::FALSE);
+    Ok(())
+}
+
 /// Puts two pairs through entries, and writes the second value.
 fn put_two(object: &mut IObject, first: &IString, second: &IString) -> Result<(), ReserveError>
     requires empty { object.old.pairs ≡ [] }
@@ -305,8 +316,8 @@ fn put_two(object: &mut IObject, first: &IString, second: &IString) -> Result<()
     ensures { OnOk result (object.new.pairs
         ≡ (first.now, boolean_value false) ∷ (second.now, boolean_value true) ∷ []) }
 {
-    object.entry_or_clone(first)?.or_insert(IValue::FALSE);
-    object.entry_or_clone(second)?.or_insert(IValue::NULL);
+    put_false(object, first)?;
+    put_false(object, second)?;
     *object.get_mut(second).unwrap() = IValue::TRUE;
     Ok(())
 }

@@ -26,7 +26,12 @@ pub enum Unresolved {
 }
 
 /// The value that `pointer` names inside `value`, as RFC 6901 has it, opened, to be written: the value itself where the text is
-/// empty. What is written changes that one value. It takes no memory.
+/// empty. What is written changes that one value. It takes no memory. It costs what `resolve` does, and the text is gone over
+/// once more for each doubling of its tokens.
+///
+/// ```
+/// *resolve_mut(&mut value, "/servers/0/port")? = IValue::from(8080u64).destructure();
+/// ```
 pub fn resolve_mut<'a>(
     value: &'a mut IValue,
     pointer: &str,

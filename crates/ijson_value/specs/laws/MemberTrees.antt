@@ -16,9 +16,13 @@ pub members_list-pairs : (ps : List (List ℕ × WellFormed)) → members_list (
 members_list-pairs [] = refl
 members_list-pairs (p ∷ ps) = ap (λ ms. pair_tree p ∷ ms) (members_list-pairs ps)
 
-pub keys_of-trees : (ps : List (List ℕ × WellFormed)) → keys_of (map pair_tree ps) ≡ keys_of ps
+keys_of-trees : (ps : List (List ℕ × WellFormed)) → keys_of (map pair_tree ps) ≡ keys_of ps
 keys_of-trees [] = refl
 keys_of-trees (p ∷ ps) = ap (λ ks. p.0 ∷ ks) (keys_of-trees ps)
+
+-- a key stands among the members where it stands among the pairs
+pub at-trees : (ps : List (List ℕ × WellFormed)) (key : List ℕ) → at (map pair_tree ps) key ≡ at ps key
+at-trees ps key = ap (λ ks. position_of ks key) (keys_of-trees ps)
 
 -- members listed and joined again
 pub members_of-list : (ps : Members) → members_of (members_list ps) ≡ ps
@@ -50,11 +54,9 @@ remove-trees ps i =
 shift_out-trees : (ps : List (List ℕ × WellFormed)) (key : List ℕ) (found : Option ℕ) → at ps key ≡ found
     → map pair_tree (shift_out_key key ps) ≡ shift_out_key key (map pair_tree ps)
 shift_out-trees ps key None e =
-    let there : at (map pair_tree ps) key ≡ None = ap (λ ks. position_of ks key) (keys_of-trees ps) ∙ e in
-    rw e (rw there refl)
+    let there = at-trees ps key ∙ e in rw e (rw there refl)
 shift_out-trees ps key (Some i) e =
-    let there : at (map pair_tree ps) key ≡ Some i = ap (λ ks. position_of ks key) (keys_of-trees ps) ∙ e in
-    rw e (rw there (remove-trees ps i))
+    let there = at-trees ps key ∙ e in rw e (rw there (remove-trees ps i))
 
 pub shift_out-members : (ps : List (List ℕ × WellFormed)) (key : List ℕ)
     → members_list (pair_trees (shift_out_key key ps)) ≡ shift_out_key key (members_list (pair_trees ps))

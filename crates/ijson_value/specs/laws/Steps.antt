@@ -5,7 +5,7 @@ use Rattle.std.specs.List.{remove}
 use Rattle.std.specs.Str.{bytes_eq}
 use Rattle.std.proofs.Common.{refl, sym, ap, ◌∙◌}
 use Rattle.std.proofs.lemmas.List.{map-append, map-set, take-map, drop-map, length-map}
-use Rattle.ijson_table.specs.Store.{Store, keys_of, position_of, at, lookup, put, swap_out}
+use Rattle.ijson_table.specs.Store.{Store, at, lookup, put, swap_out}
 use Rattle.ijson_table.proofs.Keys.{lookup-absent, put-present}
 use Rattle.ijson_value.specs.AtKey.{swap_out_key}
 use Rattle.ijson_value.specs.Kind.{kind_of}
@@ -16,7 +16,7 @@ use Rattle.ijson_value.specs.Step.{Step, by_position, by_key, kind_for, tree_at,
 use Rattle.ijson_value.specs.Tree.{Tree, null, boolean, number, string, array, object, items_of, items_list, members_of, members_list}
 use Rattle.ijson_value.specs.Values.{array_tree, object_tree}
 use Rattle.ijson_value.specs.WellFormed.{WellFormed, tree_of, item_trees, pair_trees}
-use Rattle.ijson_value.specs.laws.MemberTrees.{pair_tree, members_list-pairs, keys_of-trees, put-trees}
+use Rattle.ijson_value.specs.laws.MemberTrees.{pair_tree, members_list-pairs, at-trees, put-trees}
 use Rattle.ijson_value.specs.declared.value.Destructured.{Destructured}
 use Rattle.ijson_value.specs.declared.value.Destructured.TheVariants.{Null, Bool as Truth, Number, String, Array, Object}
 
@@ -81,11 +81,9 @@ swap_out-trees ps i = rw (length-map ps pair_tree) (
 swap_out_key-trees : (ps : List (List ℕ × WellFormed)) (key : List ℕ) (found : Option ℕ) → at ps key ≡ found
     → map pair_tree (swap_out_key key ps) ≡ swap_out_key key (map pair_tree ps)
 swap_out_key-trees ps key None e =
-    let there : at (map pair_tree ps) key ≡ None = ap (λ ks. position_of ks key) (keys_of-trees ps) ∙ e in
-    rw e (rw there refl)
+    let there = at-trees ps key ∙ e in rw e (rw there refl)
 swap_out_key-trees ps key (Some i) e =
-    let there : at (map pair_tree ps) key ≡ Some i = ap (λ ks. position_of ks key) (keys_of-trees ps) ∙ e in
-    rw e (rw there (swap_out-trees ps i))
+    let there = at-trees ps key ∙ e in rw e (rw there (swap_out-trees ps i))
 
 pub value_without : (ps : List (List ℕ × WellFormed)) (key : List ℕ)
     → object_tree (swap_out_key key ps) ≡ tree_without (object_tree ps) (by_key key)

@@ -7,7 +7,8 @@ use crate::value::IValue;
 
 impl IArray {
     /// Puts an item at a place, and those from there on one place further. It takes memory only where there is no room for
-    /// one more.
+    /// one more. Where that is refused, the item comes back and the array is as it was. It takes time linear in the items
+    /// behind the place, of which `len` is the last.
     pub fn insert(&mut self, index: usize, item: IValue) -> Result<(), Refused>
         requires { index ≤ length self.old.items }
         ensures ok { OnOk result (self.new.items ≡ insert self.old.items index item) }
@@ -25,7 +26,8 @@ impl IArray {
         }
     }
 
-    /// Takes the item at a place out, and closes up those behind it. None past the end.
+    /// Takes the item at a place out, and closes up those behind it. None past the end. It takes time linear in these. The room
+    /// stays.
     pub fn remove(&mut self, index: usize) -> Option<IValue>
         ensures item { result ≡ slice_get self.old.items index }
         ensures items { self.new.items ≡ remove self.old.items index }
@@ -37,7 +39,8 @@ impl IArray {
         Some(self.list.as_mut().unwrap().remove(index))
     }
 
-    /// Takes the item at a place out, and puts the last one in its place. None past the end.
+    /// Takes the item at a place out, and puts the last one in its place. None past the end. It takes constant time: of
+    /// `[1,2,3]` the first one leaves `[3,2]`. The room stays.
     pub fn swap_remove(&mut self, index: usize) -> Option<IValue>
         ensures item { result ≡ slice_get self.old.items index }
         ensures items { MatchOption result (self.new.items ≡ self.old.items)
@@ -50,7 +53,7 @@ impl IArray {
         Some(self.list.as_mut().unwrap().swap_remove(index))
     }
 
-    /// Takes the last item out. None where there is no item.
+    /// Takes the last item out. None where there is no item. The room stays.
     pub fn pop(&mut self) -> Option<IValue>
         ensures item { result ≡ slice_get self.old.items (length self.old.items - 1) }
         ensures items { self.new.items ≡ take (length self.old.items - 1) self.old.items }
@@ -59,7 +62,8 @@ impl IArray {
         self.list.as_mut()?.pop()
     }
 
-    /// Keeps the first `len` items. An array that has no more stays as it is.
+    /// Keeps the first `len` items. An array that has no more stays as it is. Those behind them are dropped, and the room
+    /// stays.
     pub fn truncate(&mut self, len: usize)
         ensures items { self.new.items ≡ take len self.old.items }
         ensures capacity { self.new.capacity ≡ self.old.capacity }

@@ -10,7 +10,7 @@ use std::alloc::Global;
 
 impl IArray {
     /// Puts the items of an iterator last, one after the other. An item that there is no memory for comes back; those before
-    /// it stay, and the rest of the iterator is dropped.
+    /// it stay, and the rest of the iterator is dropped. It takes room as pushes do, and asks the iterator for no hint.
     pub fn extend<I: IntoIterator<Item = IValue>>(&mut self, items: I) -> Result<(), Refused>
         requires { IsFiniteIterable I.into_iter_gives I.IntoIter.can_next I.IntoIter.remaining items }
         ensures items { (added : List WellFormed) × (self.new.items ≡ self.old.items ++ added)
@@ -27,7 +27,7 @@ impl IArray {
     }
 
     /// An array of the items of an iterator. An item that there is no memory for comes back; what was made and the rest of the
-    /// iterator are dropped.
+    /// iterator are dropped. It takes room as pushes do.
     pub fn from_iter<I: IntoIterator<Item = IValue>>(
         alloc: Global,
         items: I,

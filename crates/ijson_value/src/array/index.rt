@@ -10,6 +10,7 @@ use super::IArray;
 use crate::value::IValue;
 use std::ops::{Index, IndexMut};
 
+/// `array[0]`: the item at a position, which has to be below the length.
 impl Index<usize> for IArray {
     type Output = IValue;
 
@@ -22,6 +23,7 @@ impl Index<usize> for IArray {
     }
 }
 
+/// `array[0] = item`: the item at a position, which has to be below the length, to be written.
 impl IndexMut<usize> for IArray {
     fn index_mut(&mut self, index: usize) -> &mut IValue
         requires { index < length self.old.items }

@@ -12,7 +12,7 @@ use std::iter::FusedIterator;
 use std::marker::Model;
 use std::{slice, vec};
 
-/// The items of an array that are left, front to back.
+/// The items of an array that are left, front to back. Those that are not taken are dropped with it.
 #[derive(Debug, Drop)]
 pub struct IntoIter {
     left: vec::IntoIter<IValue>,
@@ -33,7 +33,7 @@ impl Model for IntoIter {
 }
 
 impl IArray {
-    /// The items by reference, front to back.
+    /// The items by reference, front to back. It borrows the array, and takes no memory.
     pub fn iter(&self) -> slice::Iter<'_, IValue>
         ensures items { iter_rest result ≡ self.now.items }
         ensures runs { IterYieldsInOrder WellFormed }
@@ -42,6 +42,7 @@ impl IArray {
     }
 }
 
+/// The items, front to back, which are moved and not copied.
 impl IntoIterator for IArray {
     type Item = IValue;
 
@@ -58,6 +59,7 @@ impl IntoIterator for IArray {
     }
 }
 
+/// Front to back, each item once, and then None again and again. It takes no memory.
 impl Iterator for IntoIter {
     type Item = IValue;
 

@@ -10,7 +10,7 @@ use ijson_string::IString;
 use ijson_table::PairStore;
 
 impl IObject {
-    /// The value at a position, to be written. None past the end.
+    /// The value at a position, to be written. None past the end. It takes constant time.
     pub fn value_at_mut(&mut self, position: usize) -> Option<&mut IValue>
         ensures* writes_back { sem 𝓛 (LendsValueIf self.entry position result) }
         ensures value { option_map (λ value. value.now) result

@@ -10,7 +10,12 @@ use ijson_table::ReserveError;
 use std::{fmt, mem};
 use thiserror::Error;
 
-/// The place of a key.
+/// The place of a key. An occupied one keeps the position that the look-up found, and a vacant one that is filled hashes its
+/// key again.
+///
+/// ```
+/// let count = object.entry(key)?.or_insert(IValue::from(0u64)); // the value that is there, or 0
+/// ```
 #[derive(Drop)]
 pub enum Entry<'a> {
     /// The key is there.
@@ -46,6 +51,7 @@ pub struct VacantEntry<'a, K: Text = IString> {
     ghost room: { length object.now.pairs < object.now.capacity },
 }
 
+/// The key goes, and the object stays as it is, with the room that was made.
 impl<'a, K: Text + Drop> Drop for VacantEntry<'a, K> {
     fn drop(self)
         ensures { self.exit.0.now ≡ self.entry.object.now }
@@ -55,11 +61,13 @@ impl<'a, K: Text + Drop> Drop for VacantEntry<'a, K> {
     }
 }
 
-/// A key that an object did not make room for, and why it did not grow.
+/// A key that an object did not make room for, and why it did not grow. The object is as it was.
 #[derive(Debug, Drop, Error)]
 #[error("the object did not grow for one more key: {why}")]
 pub struct RefusedKey {
+    /// The key that was given.
     pub key: IString,
+    /// Why there is no room for it.
     pub why: ReserveError,
 }
 
@@ -70,7 +78,7 @@ impl IObject {
     ghost use Rattle.ijson_value.specs.WithEntry.{PutsThrough};
 
     /// The place of a key. A key that is there needs no memory; for another one there is room made where there is none, and
-    /// where that is refused the key comes back.
+    /// where that is refused the key comes back. A vacant one that is not filled leaves the room made.
     pub fn entry(&mut self, key: IString) -> Result<Entry<'_>, RefusedKey>
         ensures same_object { IfOk result (λ e. (entry_object e).ghost_name ≡ self.entry.ghost_name) }
         ensures found { IfOk result (FindsEntry self.old key) }
@@ -94,7 +102,7 @@ impl IObject {
     }
 
     /// The place of a key that is copied only where it is not there, before room is made for it. Where there is no memory for
-    /// the copy or no room, the object is as it was.
+    /// the copy or no room, the object is as it was. A copy of a key shares its text, and so takes no memory.
     pub fn entry_or_clone(&mut self, key: &IString) -> Result<Entry<'_>, ReserveError>
         ensures same_object { IfOk result (λ e. (entry_object e).ghost_name ≡ self.entry.ghost_name) }
         ensures found { IfOk result (FindsEntry self.old key.now) }
@@ -142,7 +150,8 @@ impl<'a> Entry<'a> {
         }
     }
 
-    /// The value beside the key, which is `default` where there was none.
+    /// The value beside the key, which is `default` where there was none. It takes no memory; where there was one, `default` is
+    /// dropped.
     pub fn or_insert(self, default: IValue) -> &'a mut IValue
         ensures* writes_back { sem 𝓛 (EntryLends self.entry result) }
         ensures value { result.now ≡ unwrap_or (entry_value self.entry) default }
@@ -156,7 +165,8 @@ impl<'a> Entry<'a> {
         }
     }
 
-    /// The value beside the key, which is what `default` makes where there was none. Where there is one it is not called.
+    /// The value beside the key, which is what `default` makes where there was none. Where there is one it is not called. It
+    /// takes no memory.
     pub fn or_insert_with<F: FnOnce() -> IValue>(self, default: F) -> &'a mut IValue
         requires { entry_value self ≡ None → F.pre default }
         ensures* writes_back { sem 𝓛 (EntryLends self.entry result) }
@@ -168,7 +178,7 @@ impl<'a> Entry<'a> {
         }
     }
 
-    /// The entry, once `change` was called on the value that is there.
+    /// The entry, once `change` was called on the value that is there. On a vacant one it is not called.
     pub fn and_modify<F: FnOnce(&mut IValue)>(self, change: F) -> Entry<'a>
         requires { (value : MutBor WellFormed) → entry_value self ≡ Some value.now → F.pre change value }
         ensures same_object { (entry_object result).ghost_name ≡ (entry_object self.entry).ghost_name }
@@ -226,7 +236,7 @@ impl<'a> OccupiedEntry<'a> {
         object.value_mut(index)
     }
 
-    /// Puts another value beside the key, and answers the old one.
+    /// Puts another value beside the key, and answers the old one. It takes no memory.
     pub fn insert(&mut self, value: IValue) -> IValue
         ensures old { entry_value (Occupied self.old) ≡ Some result }
         ensures written { self.new ≡ with_entry_value self.old value }
@@ -234,7 +244,7 @@ impl<'a> OccupiedEntry<'a> {
         mem::replace(self.get_mut(), value)
     }
 
-    /// Takes the pair out, and answers its value. The last pair moves into its place.
+    /// Takes the pair out, and answers its value. The last pair moves into its place. It takes no memory.
     pub fn remove(self) -> IValue
         ensures value { entry_value (Occupied self.entry) ≡ Some result }
         ensures removed { self.exit.0.now.pairs ≡ swap_out_key (entry_key (Occupied self.entry))
@@ -245,7 +255,7 @@ impl<'a> OccupiedEntry<'a> {
         self.remove_entry().1
     }
 
-    /// Takes the pair out. The last pair moves into its place.
+    /// Takes the pair out. The last pair moves into its place. It takes no memory.
     pub fn remove_entry(self) -> (IString, IValue)
         ensures key { result.0 ≡ entry_key (Occupied self.entry) }
         ensures value { entry_value (Occupied self.entry) ≡ Some result.1 }
@@ -292,6 +302,7 @@ impl<'a> VacantEntry<'a> {
     }
 }
 
+/// As what it is: occupied or vacant.
 impl<'a> fmt::Debug for Entry<'a> {
     fn fmt<W: fmt::Write>(&self, f: &mut fmt::Formatter<W>) -> fmt::Result {
         match self {
@@ -301,6 +312,7 @@ impl<'a> fmt::Debug for Entry<'a> {
     }
 }
 
+/// The key and the value.
 impl<'a> fmt::Debug for OccupiedEntry<'a> {
     fn fmt<W: fmt::Write>(&self, f: &mut fmt::Formatter<W>) -> fmt::Result {
         f.debug_struct("OccupiedEntry")
@@ -310,6 +322,7 @@ impl<'a> fmt::Debug for OccupiedEntry<'a> {
     }
 }
 
+/// The key.
 impl<'a> fmt::Debug for VacantEntry<'a> {
     fn fmt<W: fmt::Write>(&self, f: &mut fmt::Formatter<W>) -> fmt::Result {
         f.debug_tuple("VacantEntry").field(self.key()).finish()

@@ -21,7 +21,8 @@ use std::hash::BuildHasher;
 impl IObject {
     /// An object of the pairs of a hash map, in the order in which the map goes over them. Its capacity is their count, which is
     /// the one growth, made before a pair is moved. It is refused as too large where that passes 2^56; what was made and the map
-    /// are then dropped, as where memory is refused. An empty map takes no memory.
+    /// are then dropped, as where memory is refused. An empty map takes no memory. Each key is hashed once, and nothing is
+    /// copied.
     pub fn from_hash_map<S: BuildHasher + Drop>(
         alloc: Global,
         map: HashMap<IString, IValue, S>,
@@ -36,7 +37,7 @@ impl IObject {
 
     /// An object of the pairs of a sorted map, in the order of their keys. Its capacity is their count, which is the one growth,
     /// made before a pair is moved. It is refused as too large where that passes 2^56; what was made and the map are then
-    /// dropped, as where memory is refused. An empty map takes no memory.
+    /// dropped, as where memory is refused. An empty map takes no memory. Each key is hashed once, and nothing is copied.
     pub fn from_btree_map(
         alloc: Global,
         map: BTreeMap<IString, IValue>,
@@ -51,7 +52,7 @@ impl IObject {
 
     /// An object of the pairs of a map in insertion order, in that order. Its capacity is their count, which is the one growth,
     /// made before a pair is moved. It is refused as too large where that passes 2^56; what was made and the map are then
-    /// dropped, as where memory is refused. An empty map takes no memory.
+    /// dropped, as where memory is refused. An empty map takes no memory. Each key is hashed once, and nothing is copied.
     pub fn from_index_map<S: BuildHasher + Drop>(
         alloc: Global,
         map: IndexMap<IString, IValue, S>,

@@ -47,9 +47,10 @@ impl<T: Sealed> Sealed for &T {
     }
 }
 
-/// What finds a pair of an object: the text of its key.
+/// What finds a pair of an object: the text of its key. `&str`, `&IString`, and references to these. A look-up needs no cache
+/// and no memory.
 pub trait ObjectIndex: Sealed + Copy {
-    /// The pair with the key.
+    /// The pair with the key. None where it is not there.
     fn index_into<'v>(self, v: &'v IObject) -> Option<(&'v IString, &'v IValue)>
         ensures { option_map deref_pair result ≡ pair_at_key (Self.Sealed.key self) v.now.pairs }
     {
@@ -59,7 +60,7 @@ pub trait ObjectIndex: Sealed + Copy {
         }
     }
 
-    /// The pair with the key, its value to be written.
+    /// The pair with the key, its value to be written. None where it is not there.
     fn index_into_mut<'v>(self, v: &'v mut IObject) -> Option<(&'v IString, &'v mut IValue)>
         ensures { option_map deref_pair_mut result ≡ pair_at_key (Self.Sealed.key self) v.old.pairs }
     {
@@ -69,7 +70,7 @@ pub trait ObjectIndex: Sealed + Copy {
         }
     }
 
-    /// Takes the pair with the key out. The last pair moves into its place.
+    /// Takes the pair with the key out. The last pair moves into its place. None where it is not there.
     fn remove(self, v: &mut IObject) -> Option<(IString, IValue)>
         ensures pair { result ≡ pair_at_key (Self.Sealed.key self) v.old.pairs }
         ensures pairs { v.new.pairs ≡ swap_out_key (Self.Sealed.key self) v.old.pairs }
@@ -81,7 +82,7 @@ pub trait ObjectIndex: Sealed + Copy {
         }
     }
 
-    /// Takes the pair with the key out. Those behind it close up, so the order stays.
+    /// Takes the pair with the key out. Those behind it close up, so the order stays. None where it is not there.
     fn shift_remove(self, v: &mut IObject) -> Option<(IString, IValue)>
         ensures pair { result ≡ pair_at_key (Self.Sealed.key self) v.old.pairs }
         ensures pairs { v.new.pairs ≡ shift_out_key (Self.Sealed.key self) v.old.pairs }
@@ -101,7 +102,7 @@ impl ObjectIndex for &IString {}
 impl<T: ObjectIndex> ObjectIndex for &T {}
 
 impl IObject {
-    /// The value beside a key.
+    /// The value beside a key. None where it is not there. The key is hashed once, and looked up among those of its home.
     pub fn get<I: ObjectIndex>(&self, index: I) -> Option<&IValue>
         ensures { option_copied result ≡ lookup (I.Sealed.key index) self.now.pairs }
     {
@@ -111,7 +112,7 @@ impl IObject {
         }
     }
 
-    /// The value beside a key, to be written.
+    /// The value beside a key, to be written. None where it is not there.
     pub fn get_mut<I: ObjectIndex>(&mut self, index: I) -> Option<&mut IValue>
         ensures* writes_back { sem 𝓛 (LendsAtKeyIf self.entry (I.Sealed.key index) result) }
         ensures value { option_copied_mut result ≡ lookup (I.Sealed.key index) self.old.pairs }
@@ -122,14 +123,14 @@ impl IObject {
         }
     }
 
-    /// The pair with a key.
+    /// The pair with a key. None where it is not there.
     pub fn get_key_value<I: ObjectIndex>(&self, index: I) -> Option<(&IString, &IValue)>
         ensures { option_map deref_pair result ≡ pair_at_key (I.Sealed.key index) self.now.pairs }
     {
         index.index_into(self)
     }
 
-    /// The pair with a key, its value to be written.
+    /// The pair with a key, its value to be written. None where it is not there.
     pub fn get_key_value_mut<I: ObjectIndex>(&mut self, index: I) -> Option<(&IString, &mut IValue)>
         ensures { option_map deref_pair_mut result ≡ pair_at_key (I.Sealed.key index) self.old.pairs }
     {
@@ -143,7 +144,8 @@ impl IObject {
         self.get(index).is_some()
     }
 
-    /// Takes the pair with a key out, and answers its value. The last pair moves into its place.
+    /// Takes the pair with a key out, and answers its value. The last pair moves into its place. None where it is not there. No
+    /// other pair moves, and no memory is taken; `shift_remove` keeps the order.
     #[tactic(auto, using(crate::proofs::Objects::lookup_pair))]
     pub fn remove<I: ObjectIndex>(&mut self, index: I) -> Option<IValue>
         ensures value { result ≡ lookup (I.Sealed.key index) self.old.pairs }
@@ -153,7 +155,7 @@ impl IObject {
         Some(index.remove(self)?.1)
     }
 
-    /// Takes the pair with a key out. The last pair moves into its place.
+    /// Takes the pair with a key out. The last pair moves into its place. None where it is not there.
     pub fn remove_entry<I: ObjectIndex>(&mut self, index: I) -> Option<(IString, IValue)>
         ensures pair { result ≡ pair_at_key (I.Sealed.key index) self.old.pairs }
         ensures pairs { self.new.pairs ≡ swap_out_key (I.Sealed.key index) self.old.pairs }
@@ -162,7 +164,8 @@ impl IObject {
         index.remove(self)
     }
 
-    /// Takes the pair with a key out, and answers its value. Those behind it close up, so the order stays.
+    /// Takes the pair with a key out, and answers its value. Those behind it close up, so the order stays. That takes time
+    /// linear in the object. None where the key is not there.
     #[tactic(auto, using(crate::proofs::Objects::lookup_pair))]
     pub fn shift_remove<I: ObjectIndex>(&mut self, index: I) -> Option<IValue>
         ensures value { result ≡ lookup (I.Sealed.key index) self.old.pairs }
@@ -172,7 +175,8 @@ impl IObject {
         Some(index.shift_remove(self)?.1)
     }
 
-    /// Takes the pair with a key out. Those behind it close up, so the order stays.
+    /// Takes the pair with a key out. Those behind it close up, so the order stays. That takes time linear in the object. None
+    /// where the key is not there.
     pub fn shift_remove_entry<I: ObjectIndex>(&mut self, index: I) -> Option<(IString, IValue)>
         ensures pair { result ≡ pair_at_key (I.Sealed.key index) self.old.pairs }
         ensures pairs { self.new.pairs ≡ shift_out_key (I.Sealed.key index) self.old.pairs }
@@ -185,6 +189,10 @@ impl IObject {
 impl IObject {
     /// The value beside a key, to be written. A key that is not there is put last with null beside it; where there is no room
     /// for that, the key comes back with null.
+    ///
+    /// ```
+    /// *object.index_or_insert(key)? = IValue::from(1u64);
+    /// ```
     pub fn index_or_insert(&mut self, key: IString) -> Result<&mut IValue, RefusedPair>
         ensures* writes_back { sem 𝓛 (LendsPut self.entry key result) }
         ensures value { IfOk result (λ value. value.now ≡ unwrap_or (lookup key self.old.pairs) null_value) }
@@ -209,6 +217,7 @@ impl IObject {
     }
 }
 
+/// `object["port"]`: the value beside a key, which has to be there.
 impl<I: ObjectIndex + Drop> Index<I> for IObject {
     type Output = IValue;
 
@@ -221,6 +230,8 @@ impl<I: ObjectIndex + Drop> Index<I> for IObject {
     }
 }
 
+/// `object["port"] = value`: the value beside a key, which has to be there, to be written. `index_or_insert` puts one that is
+/// not.
 impl<I: ObjectIndex + Drop> IndexMut<I> for IObject {
     fn index_mut(&mut self, index: I) -> &mut IValue
         requires { IsSome (lookup (I.Sealed.key index) self.old.pairs) }

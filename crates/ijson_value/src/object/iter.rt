@@ -70,7 +70,7 @@ impl<'a> Model for Values<'a> {
     ghost view = { λ values. map (λ pair. pair.1) values.left };
 }
 
-/// The pairs that are left of an object that is gone, front to back.
+/// The pairs that are left of an object that is gone, front to back. Those that are not taken are dropped with it.
 #[derive(Drop)]
 pub struct IntoIter {
     left: vec::IntoIter<(IString, IValue)>,
@@ -91,7 +91,7 @@ impl Model for IntoIter {
 }
 
 impl IObject {
-    /// The pairs, front to back.
+    /// The pairs, front to back. It borrows the object, and takes no memory. `len` says how many are left.
     pub fn iter(&self) -> Iter<'_>
         ensures { result ≡ self.now.pairs }
     {
@@ -100,14 +100,14 @@ impl IObject {
         }
     }
 
-    /// The keys, front to back.
+    /// The keys, front to back. It takes no memory.
     pub fn keys(&self) -> Keys<'_>
         ensures { result ≡ keys_of self.now.pairs }
     {
         Keys { left: self.iter() }
     }
 
-    /// The values, front to back.
+    /// The values, front to back. It takes no memory.
     pub fn values(&self) -> Values<'_>
         ensures { result ≡ map (λ pair. pair.1) self.now.pairs }
     {
@@ -115,6 +115,7 @@ impl IObject {
     }
 }
 
+/// The pairs, front to back, which are moved and not copied.
 impl IntoIterator for IObject {
     type Item = (IString, IValue);
 
@@ -131,6 +132,7 @@ impl IntoIterator for IObject {
     }
 }
 
+/// Front to back, each once, and then None again and again. It takes no memory.
 impl<'a> Iterator for Iter<'a> {
     type Item = (&'a IString, &'a IValue);
 
@@ -161,6 +163,7 @@ impl<'a> ExactSizeIterator for Iter<'a> {
     }
 }
 
+/// Front to back, each once, and then None again and again. It takes no memory.
 impl<'a> Iterator for Keys<'a> {
     type Item = &'a IString;
 
@@ -191,6 +194,7 @@ impl<'a> ExactSizeIterator for Keys<'a> {
     }
 }
 
+/// Front to back, each once, and then None again and again. It takes no memory.
 impl<'a> Iterator for Values<'a> {
     type Item = &'a IValue;
 
@@ -221,6 +225,7 @@ impl<'a> ExactSizeIterator for Values<'a> {
     }
 }
 
+/// Front to back, each once, and then None again and again. It takes no memory.
 impl Iterator for IntoIter {
     type Item = (IString, IValue);
 
@@ -250,12 +255,14 @@ impl ExactSizeIterator for IntoIter {
     }
 }
 
+/// The pairs that are left.
 impl<'a> fmt::Debug for Iter<'a> {
     fn fmt<W: fmt::Write>(&self, f: &mut fmt::Formatter<W>) -> fmt::Result {
         f.debug_list().entries(self.left.as_slice()).finish()
     }
 }
 
+/// The pairs that are left.
 impl fmt::Debug for IntoIter {
     fn fmt<W: fmt::Write>(&self, f: &mut fmt::Formatter<W>) -> fmt::Result {
         fmt::Debug::fmt(&self.left, f)

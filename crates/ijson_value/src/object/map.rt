@@ -17,7 +17,10 @@ use std::marker::Model;
 use std::mem::size_of;
 
 /// Pairs of a key and a value in order, where no key stands twice. A key is found by its hash, however many there are.
-/// It lies behind one pointer, and an object that has taken no memory yet is without it.
+/// It lies behind one pointer, and an object that has taken no memory yet is without it. It takes 16 bytes, and beside them the
+/// place of its table and 60 bytes for each pair of its capacity: 40 for the pair, and 20 for the places by hash. Objects are
+/// equal in any order of their pairs. The hash is the same in each run, so keys that somebody chose to have one hash are looked
+/// at one after the other.
 #[cycle(value)]
 #[derive(Drop)]
 pub struct IObject {
@@ -48,7 +51,7 @@ impl Model for IObject {
     ghost size_decreases = { λ o h. object_falls o.table o.alloc };
 }
 
-/// A pair that an object did not take, and why it did not grow.
+/// A pair that an object did not take, and why it did not grow. The object is as it was.
 pub type RefusedPair = ijson_table::RefusedPair<IValue>;
 
 impl IObject {
@@ -108,7 +111,9 @@ impl IObject {
     }
 
     /// Makes room for `additional` pairs more. Where they have none, the capacity becomes the greatest of twice the old one,
-    /// the length with them, and 4.
+    /// the length with them, and 4. So pairs that are put one by one take room for 4, 8, 16 and so on. Each pair is moved once,
+    /// and no key is hashed again. Refused, the object is as it was: `TooLarge` where the capacity would pass 2^56, `Memory`
+    /// where it was not granted.
     pub fn reserve(&mut self, additional: usize) -> Result<(), ReserveError>
         ensures growth { Grow (length self.old.pairs) self.old.capacity additional result
             self.new.capacity }
@@ -131,7 +136,8 @@ impl IObject {
         }
     }
 
-    /// Makes the capacity the length. That takes no memory where it is so already or the length is 0.
+    /// Makes the capacity the length. That takes no memory where it is so already or the length is 0. Each pair is moved once.
+    /// Refused, the object is as it was.
     pub fn shrink_to_fit(&mut self) -> Result<(), ReserveError>
         ensures capacity { Shrink (length self.old.pairs) self.old.capacity result self.new.capacity }
         ensures pairs { self.new.pairs ≡ self.old.pairs }
@@ -153,7 +159,12 @@ impl IObject {
     }
 
     /// Puts a pair. A key that is there keeps its place and needs no memory, and its old value is answered; a new key goes
-    /// last, in room that is made first where there is none. Where that is refused, the pair comes back.
+    /// last, in room that is made first where there is none. Where that is refused, the pair comes back. The key is hashed
+    /// once, and a pair takes constant time on average but for the walk of the look-up.
+    ///
+    /// ```
+    /// let old = object.insert(key, IValue::from(1u64))?; // None where the key is new
+    /// ```
     #[tactic(auto, using(crate::proofs::Inserted::put_where_ok))]
     pub fn insert(&mut self, key: IString, value: IValue) -> Result<Option<IValue>, RefusedPair>
         ensures inserts { Inserts self.old.pairs self.old.capacity key value result self.new.pairs
@@ -183,6 +194,7 @@ impl IObject {
     }
 }
 
+/// Whether there are as many pairs and each key has a value in the other that means the same. It takes no memory.
 impl PartialEq for IObject {
     ghost eq = { λ a b. same (object_tree a.pairs) (object_tree b.pairs) };
 

@@ -9,6 +9,7 @@ use crate::object::IObject;
 use ijson_number::INumber;
 use ijson_string::IString;
 
+/// The truth value.
 impl From<bool> for IValue {
     ghost from_gives = { λ b v. v ≡ boolean_value b };
 
@@ -17,6 +18,7 @@ impl From<bool> for IValue {
     }
 }
 
+/// The number, which is moved.
 impl From<INumber> for IValue {
     ghost from_gives = { λ n v. v ≡ number_value n };
 
@@ -27,6 +29,7 @@ impl From<INumber> for IValue {
     }
 }
 
+/// The text, which is moved.
 impl From<IString> for IValue {
     ghost from_gives = { λ s v. v ≡ string_value s };
 
@@ -37,6 +40,7 @@ impl From<IString> for IValue {
     }
 }
 
+/// The array, which is moved.
 impl From<IArray> for IValue {
     ghost from_gives = { λ a v. v ≡ array_value a.items };
 
@@ -47,6 +51,7 @@ impl From<IArray> for IValue {
     }
 }
 
+/// The object, which is moved.
 impl From<IObject> for IValue {
     ghost from_gives = { λ o v. v ≡ object_value o };
 
@@ -57,6 +62,7 @@ impl From<IObject> for IValue {
     }
 }
 
+/// The integer, without the point. It takes no memory.
 impl From<i8> for IValue {
     ghost from_gives = { λ value v. IsIntegerTree v.tree value };
 
@@ -65,6 +71,7 @@ impl From<i8> for IValue {
     }
 }
 
+/// The integer, without the point. It takes no memory.
 impl From<i16> for IValue {
     ghost from_gives = { λ value v. IsIntegerTree v.tree value };
 
@@ -73,6 +80,7 @@ impl From<i16> for IValue {
     }
 }
 
+/// The integer, without the point. It takes no memory.
 impl From<i32> for IValue {
     ghost from_gives = { λ value v. IsIntegerTree v.tree value };
 
@@ -81,6 +89,7 @@ impl From<i32> for IValue {
     }
 }
 
+/// The integer, without the point. It takes no memory.
 impl From<i64> for IValue {
     ghost from_gives = { λ value v. IsIntegerTree v.tree value };
 
@@ -89,6 +98,7 @@ impl From<i64> for IValue {
     }
 }
 
+/// The integer, without the point. It takes no memory.
 impl From<isize> for IValue {
     ghost from_gives = { λ value v. IsIntegerTree v.tree value };
 
@@ -97,6 +107,7 @@ impl From<isize> for IValue {
     }
 }
 
+/// The integer, without the point. It takes no memory.
 impl From<u8> for IValue {
     ghost from_gives = { λ value v. IsIntegerTree v.tree (pos value) };
 
@@ -105,6 +116,7 @@ impl From<u8> for IValue {
     }
 }
 
+/// The integer, without the point. It takes no memory.
 impl From<u16> for IValue {
     ghost from_gives = { λ value v. IsIntegerTree v.tree (pos value) };
 
@@ -113,6 +125,7 @@ impl From<u16> for IValue {
     }
 }
 
+/// The integer, without the point. It takes no memory.
 impl From<u32> for IValue {
     ghost from_gives = { λ value v. IsIntegerTree v.tree (pos value) };
 
@@ -121,6 +134,7 @@ impl From<u32> for IValue {
     }
 }
 
+/// The integer, without the point. It takes no memory.
 impl From<u64> for IValue {
     ghost from_gives = { λ value v. IsIntegerTree v.tree (pos value) };
 
@@ -129,6 +143,7 @@ impl From<u64> for IValue {
     }
 }
 
+/// The integer, without the point. It takes no memory.
 impl From<usize> for IValue {
     ghost from_gives = { λ value v. IsIntegerTree v.tree (pos value) };
 
@@ -137,6 +152,7 @@ impl From<usize> for IValue {
     }
 }
 
+/// What is there, and null where nothing is.
 impl<T: Into<IValue>> From<Option<T>> for IValue {
     ghost from_gives = { λ x v. MatchOption x (v ≡ null_value) (λ y. T.Into.converts y v) };
 

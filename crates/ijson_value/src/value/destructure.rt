@@ -9,7 +9,7 @@ use crate::object::IObject;
 use ijson_number::INumber;
 use ijson_string::IString;
 
-/// A value opened, with what it holds by reference.
+/// A value opened, with what it holds by reference. Nothing is copied but a truth value.
 #[derive(Clone, Copy, Debug, PartialEq, Eq)]
 pub enum DestructuredRef<'a> {
     Null,
@@ -38,7 +38,15 @@ pub struct BoolMut<'a> {
 }
 
 impl IValue {
-    /// The value opened, to match on its kind.
+    /// The value opened, to match on its kind. Nothing is copied.
+    ///
+    /// ```
+    /// match value.destructure() {
+    ///     Destructured::Array(items) => items.len(),
+    ///     Destructured::Object(pairs) => pairs.len(),
+    ///     _ => 0,
+    /// }
+    /// ```
     pub fn destructure(self) -> Destructured
         ensures { node_value result ≡ self }
     {
@@ -53,7 +61,7 @@ impl IValue {
         self.node.as_ref()
     }
 
-    /// The value opened to be written, to match on its kind.
+    /// The value opened to be written, to match on its kind. What is written stays in the value, and its kind stays too.
     pub fn destructure_mut(&mut self) -> DestructuredMut<'_>
         ensures { mut_value result ≡ self.old }
     {

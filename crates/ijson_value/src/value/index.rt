@@ -26,6 +26,7 @@ impl Deref for IValue {
     }
 }
 
+/// The opened value, to be written: another one written there is another value.
 impl DerefMut for IValue {
     ghost deref_mut_gives = { λ value opened. node_value opened ≡ value };
 
@@ -48,9 +49,11 @@ pub trait Sealed: Copy {
             ≡ tree_at (node_value v.now).tree (step self) };
 }
 
-/// What finds a value inside a value: a position of an array, or the text of a key of an object.
+/// What finds a value inside a value: a position of an array, or the text of a key of an object. `usize`, `&str`, `&IString`,
+/// and references to these.
 pub trait ValueIndex: Sealed {
-    /// The value there. `v` is an array for a position, and an object for a key.
+    /// The value there. `v` is an array for a position, and an object for a key. None past the end, or where the key is not
+    /// there.
     fn index_into<'v>(self, v: &'v IValue) -> Option<&'v IValue>
         requires { kind_of v.now.tree ≡ kind_for (Self.Sealed.step self) }
         ensures { option_map (λ found. found.now.tree) result
@@ -59,14 +62,15 @@ pub trait ValueIndex: Sealed {
         self.find_in(&v.node)
     }
 
-    /// The value there, to be written.
+    /// The value there, to be written. As `index_into`.
     fn index_into_mut<'v>(v: &'v mut Destructured, index: Self) -> Option<&'v mut IValue>
         requires { kind_of (node_value v.old).tree ≡ kind_for (Self.Sealed.step index) }
         ensures* writes_back { sem 𝓛 (LendsStepIf v.entry (Self.Sealed.step index) result) }
         ensures value { option_map (λ found. found.now.tree) result
             ≡ tree_at (node_value v.old).tree (Self.Sealed.step index) };
 
-    /// Takes the value there out. The items behind it close up; the last pair of an object moves into its place.
+    /// Takes the value there out. The items behind it close up; the last pair of an object moves into its place. None as by
+    /// `index_into`.
     fn remove(self, v: &mut IValue) -> Option<IValue>
         requires { kind_of v.old.tree ≡ kind_for (Self.Sealed.step self) }
         ensures value { option_map (λ found. found.tree) result
@@ -85,6 +89,7 @@ impl Sealed for usize {
     }
 }
 
+/// A position of an array, from 0.
 impl ValueIndex for usize {
     fn index_into_mut<'v>(v: &'v mut Destructured, index: usize) -> Option<&'v mut IValue> {
         match v {
@@ -110,6 +115,7 @@ impl Sealed for &str {
     }
 }
 
+/// The text of a key of an object.
 impl ValueIndex for &str {
     fn index_into_mut<'v>(v: &'v mut Destructured, index: &str) -> Option<&'v mut IValue> {
         match v {
@@ -132,6 +138,7 @@ impl Sealed for &IString {
     }
 }
 
+/// The text of a key of an object.
 impl ValueIndex for &IString {
     fn index_into_mut<'v>(v: &'v mut Destructured, index: &IString) -> Option<&'v mut IValue> {
         <&str>::index_into_mut(v, index.as_str())
@@ -150,6 +157,7 @@ impl<T: Sealed> Sealed for &T {
     }
 }
 
+/// As what it refers to.
 impl<T: ValueIndex> ValueIndex for &T {
     fn index_into_mut<'v>(v: &'v mut Destructured, index: &T) -> Option<&'v mut IValue> {
         T::index_into_mut(v, *index)
@@ -161,7 +169,13 @@ impl<T: ValueIndex> ValueIndex for &T {
 }
 
 impl IValue {
-    /// The value at a position of an array, or beside a key of an object. None where there is none.
+    /// The value at a position of an array, or beside a key of an object. None where there is none. The value has to be of the
+    /// kind that the index is for. A position takes constant time, and a key a look-up by its hash.
+    ///
+    /// ```
+    /// let port = value.get("port"); // of an object
+    /// let first = value.get(0); // of an array
+    /// ```
     pub fn get<I: ValueIndex>(&self, index: I) -> Option<&IValue>
         requires { kind_of self.now.tree ≡ kind_for (I.Sealed.step index) }
         ensures { option_map (λ found. found.now.tree) result
@@ -170,7 +184,9 @@ impl IValue {
         index.index_into(self)
     }
 
-    /// Takes out the value at a position of an array, or beside a key of an object. None where there is none.
+    /// Takes out the value at a position of an array, or beside a key of an object. None where there is none. The value has to
+    /// be of the kind that the index is for. Items behind a position move one forward, and the last pair of an object moves
+    /// into the place of the one that goes.
     pub fn remove<I: ValueIndex>(&mut self, index: I) -> Option<IValue>
         requires { kind_of self.old.tree ≡ kind_for (I.Sealed.step index) }
         ensures value { option_map (λ found. found.tree) result
@@ -182,7 +198,9 @@ impl IValue {
 }
 
 impl Destructured {
-    /// The value at a position of an array, or beside a key of an object, to be written. None where there is none.
+    /// The value at a position of an array, or beside a key of an object, to be written. None where there is none. It is called
+    /// on a value, which derefs to what it is opened: `value.get_mut("port")`. The value has to be of the kind that the index
+    /// is for.
     pub fn get_mut<I: ValueIndex>(&mut self, index: I) -> Option<&mut IValue>
         requires { kind_of (node_value self.old).tree ≡ kind_for (I.Sealed.step index) }
         ensures* writes_back { sem 𝓛 (LendsStepIf self.entry (I.Sealed.step index) result) }
@@ -193,7 +211,7 @@ impl Destructured {
     }
 
     /// The value beside a key of an object, to be written. A key that is not there is put last with null beside it; where there
-    /// is no room for that, the key comes back with null.
+    /// is no room for that, the key comes back with null. The value has to be an object.
     pub fn index_or_insert(&mut self, key: IString) -> Result<&mut IValue, RefusedPair>
         requires { kind_of (node_value self.old).tree ≡ kind_for (by_key key) }
         ensures* writes_back { sem 𝓛 (LendsPutInside self.entry key result) }
@@ -209,6 +227,7 @@ impl Destructured {
     }
 }
 
+/// `value[0]` or `value["port"]`: the item or the value there, which has to be there.
 impl<I: ValueIndex + Drop> Index<I> for Destructured {
     type Output = IValue;
 
@@ -223,6 +242,7 @@ impl<I: ValueIndex + Drop> Index<I> for Destructured {
     }
 }
 
+/// `value[0] = IValue::NULL`: what is there, to be written. It has to be there; `index_or_insert` puts a key that is not.
 impl<I: ValueIndex + Drop> IndexMut<I> for Destructured {
     #[tactic(auto, using(crate::specs::laws::Steps::kind_at))]
     fn index_mut(&mut self, index: I) -> &mut IValue

@@ -66,7 +66,7 @@ impl IValue {
         matches!(self.node, Destructured::Object(_))
     }
 
-    /// The truth value, where the value is one.
+    /// The truth value, where the value is one. None of another kind.
     pub fn to_bool(&self) -> Option<bool>
         ensures some { IfSome result (λ b. self.now.tree ≡ boolean b) }
         ensures none { IfNone result (kind_of self.now.tree ≢ kind.Bool) }
@@ -101,7 +101,7 @@ impl IValue {
         }
     }
 
-    /// Takes the value out, and leaves null.
+    /// Takes the value out, and leaves null. Nothing is copied.
     pub fn take(&mut self) -> IValue
         ensures taken { result ≡ self.old }
         ensures left { self.new ≡ null_value }

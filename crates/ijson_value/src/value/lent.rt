@@ -13,7 +13,8 @@ use ijson_number::INumber;
 use ijson_string::IString;
 
 impl IValue {
-    /// The number to be written, where the value is one.
+    /// The number to be written, where the value is one. None of another kind. `*number = INumber::from(2u64)` writes another
+    /// one.
     pub fn as_number_mut(&mut self) -> Option<&mut INumber>
         ensures* writes_back { sem 𝓛 (LendsNumber self.entry result) }
         ensures some { IfSome result (λ number. self.old ≡ number_value number.now) }
@@ -25,7 +26,7 @@ impl IValue {
         }
     }
 
-    /// The string to be written, where the value is one.
+    /// The string to be written, where the value is one. None of another kind.
     pub fn as_string_mut(&mut self) -> Option<&mut IString>
         ensures* writes_back { sem 𝓛 (LendsString self.entry result) }
         ensures some { IfSome result (λ string. self.old ≡ string_value string.now) }
@@ -37,7 +38,7 @@ impl IValue {
         }
     }
 
-    /// The array to be written, where the value is one.
+    /// The array to be written, where the value is one. None of another kind.
     pub fn as_array_mut(&mut self) -> Option<&mut IArray>
         ensures* writes_back { sem 𝓛 (LendsArray self.entry result) }
         ensures some { IfSome result (λ array. self.old ≡ array_value array.now.items) }
@@ -49,7 +50,7 @@ impl IValue {
         }
     }
 
-    /// The object to be written, where the value is one.
+    /// The object to be written, where the value is one. None of another kind.
     pub fn as_object_mut(&mut self) -> Option<&mut IObject>
         ensures* writes_back { sem 𝓛 (LendsObject self.entry result) }
         ensures some { IfSome result (λ object. self.old ≡ object_value object.now) }

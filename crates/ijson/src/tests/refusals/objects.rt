@@ -10,7 +10,6 @@ use crate::table::ReserveError;
 use crate::tests::{empty_cache, text as key};
 use crate::value::IValue;
 use std::alloc::Global;
-use std::process::Abort;
 use std::test::Fail;
 
 /// The pairs of the objects that follow.

@@ -1,5 +1,4 @@
 use Rattle.std.proofs.Common.{◌≡◌, rules, true, false, ◌∷◌, []}
-use Rattle.std.specs.Map.Calls.{CalledAtPair}
 use Rattle.ijson.proofs.Kept.{second_kept, tells_false}
 use Rattle.ijson_value.specs.Values.{boolean_value}
 use Rattle.ijson.proofs.tests.objects.keep_true.Goals as goal

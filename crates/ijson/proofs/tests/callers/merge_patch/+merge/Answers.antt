@@ -8,8 +8,8 @@ use Rattle.ijson_value.specs.Tree.{object, members_of, members_depth}
 use Rattle.ijson_value.specs.Values.{null_value, object_tree}
 use Rattle.ijson_value.specs.WellFormed.{tree_of, pair_trees}
 use Rattle.ijson_value.specs.declared.value.ValueType.TheVariants.{Null}
-use Rattle.ijson.specs.callers.MergePatch.{members_in, merged_into}
 use Rattle.ijson_value.specs.laws.MemberTrees.{members_of-list}
+use Rattle.ijson.specs.callers.MergePatch.{members_in, merged_into}
 use Rattle.ijson.proofs.callers.Merged.{one_taken_out, one_put}
 use Rattle.ijson.proofs.tests.callers.merge_patch.+merge.Goals as goal
 

@@ -1,14 +1,14 @@
-use Rattle.std.proofs.Common.{sym, subst, ◌∙◌, arith, drop_of_length-le}
+use Rattle.std.proofs.Common.{refl, sym, subst, ◌∙◌, arith, drop_of_length-le}
 use Rattle.ijson_value.specs.Tree.{members_depth}
 use Rattle.ijson_value.specs.WellFormed.{pair_trees}
 use Rattle.ijson.specs.callers.Total.{ValuesSumTo}
-use Rattle.ijson.proofs.callers.Items.{front}
-use Rattle.ijson.proofs.callers.Totals.{IsLeft, all_left, all_values_left, none_left, first_below, none_first, none_more, one_more}
+use Rattle.ijson_value.proofs.Walks.{front, values_depth}
+use Rattle.ijson.proofs.callers.Totals.{values_sum, IsLeft, all_left, none_left, first_below, none_first, none_more, one_more}
 use Rattle.ijson.proofs.tests.callers.total.+total.Goals as goal
 
 -- ---- items
 pub total_of_items-loop-item-init : goal.total_of_items-loop-item-init
-total_of_items-loop-item-init t c = all_left c.args.items.now
+total_of_items-loop-item-init t c = all_left c.args.items.now _ _ refl refl
 
 pub total_of_items-total-requires : goal.total_of_items-total-requires
 total_of_items-total-requires t c =
@@ -41,7 +41,7 @@ pub total_of_members-loop-value-init : goal.total_of_members-loop-value-init
 total_of_members-loop-value-init t c =
     let ps = c.args.object.now.pairs in
     let is = sym (c.into_iter-value-iterator.ensures.into_iter_gives ∙ c.values-value-items.ensures) in
-    subst (λ vs. IsLeft (ValuesSumTo (pair_trees ps)) (members_depth (pair_trees ps)) vs 0) is (all_values_left ps)
+    subst (λ vs. IsLeft (ValuesSumTo (pair_trees ps)) (members_depth (pair_trees ps)) vs 0) is (all_left _ _ _ (values_sum ps) (values_depth ps))
 
 pub total_of_members-total-requires : goal.total_of_members-total-requires
 total_of_members-total-requires t c =
