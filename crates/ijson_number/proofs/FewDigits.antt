@@ -11,7 +11,10 @@ use Rattle.ijson_number.specs.Form.{FormOf, packed, fits_i64, fits_packed, fits_
 use Rattle.ijson_number.specs.Grammar.{AllDigits, Denotes, IsDigit, IsSpelled, Parts, value}
 use Rattle.ijson_number.specs.Num.{IsNum}
 use Rattle.ijson_number.specs.Strips.{Strips, signed}
+use Rattle.ijson_number.specs.declared.front.Front.{Front}
 use Rattle.ijson_number.specs.private.FormNumber.{integer_word}
+use Rattle.ijson_number.specs.private.Front.{IsFront}
+use Rattle.ijson_number.specs.private.Scanned.{parts_of}
 use Rattle.ijson_number.specs.Stripped.{tens_out, stripped_number}
 use Rattle.ijson_number.specs.private.Stripped.{digits_from_text}
 use Rattle.ijson_number.specs.laws.Tens.{abs_signed, int_tens, int_zero, signed_mul, signed_zero, zero_or_not}
@@ -220,3 +223,10 @@ some_with None P Q h f = tt
 -- the number of the parts, whose form a word is
 pub number_of_word : (text : List ℕ) (p : Parts) (f : FormOf) → IsSpelled text p → ((n : Decimal) → Denotes p n → (form_of n ≡ f) × IsNum n) → (n : Decimal) × Denotes p n × (f ≡ form_of n) × IsNum n
 number_of_word text p f spelled known = let d = parts_denote text p spelled in let k = known d.0 d.1 in (d.0, d.1, sym k.0, k.1)
+
+-- what a number of few digits at the front denotes is a Num
+pub front_num : (text : List ℕ) (f : Front) (n : Decimal) → f.size < 2 ^ 64 → IsFront text f → Denotes (parts_of f.spelling) n → IsNum n
+front_num text f n word i d =
+    let s = f.spelling in
+    let few : length s.tail.fraction.now ≤ 19 = let m = i.few in omega (arith, m) in
+    few_num (signed s.negative f.size) (length s.tail.fraction.now) n (rw (abs_signed s.negative f.size) word) few (whole_strips (parts_of s) s.tail.exponent.now s.tail.negative f.size n refl i.no_exponent i.size d)

@@ -1,6 +1,7 @@
 pub mod Outcomes
 pub mod Runs
 pub mod Parts
+pub mod PlainFronts
 pub mod Tails
 pub mod Values
 pub mod Exponents

@@ -87,7 +87,8 @@ sign_one (b ∷ t) r r' n n' g h =
       | inr p ↦ elim h [ inl q ↦ (let e : b ≡ 45 = cc in absurd (p.2 (omega arith) e)) | inr q ↦ (cc, cc) ]
     ]
 
-whole_no_sign : (w rest : List ℕ) → IsWhole w → 0 < length (w ++ rest) → get_or (w ++ rest) 0 0 ≡ 45 → ⊥
+-- a whole part does not begin with a minus
+pub whole_no_sign : (w rest : List ℕ) → IsWhole w → 0 < length (w ++ rest) → get_or (w ++ rest) 0 0 ≡ 45 → ⊥
 whole_no_sign [] rest h l e = absurd h
 whole_no_sign (b ∷ w) rest h l e = elim h [ inl q ↦ omega arith | inr q ↦ omega arith ]
 

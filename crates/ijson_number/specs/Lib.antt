@@ -4,6 +4,7 @@ pub mod Stripped
 pub mod Strips
 pub mod StrippedDigits
 pub mod Grammar
+pub mod PlainFront
 pub mod Refused
 pub mod Text
 pub mod Order

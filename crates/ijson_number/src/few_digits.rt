@@ -1,5 +1,5 @@
 //! Numbers of few digits, which are read straight into one word.
-ghost use Rattle.std.specs.Prelude.{◌≡◌, ◌≢◌, ◌<◌, ◌≤◌, ◌-◌, ◌*◌, ◌%◌, ◌^◌, pos, neg_ℤ, true, IfSome};
+ghost use Rattle.std.specs.Prelude.{◌≡◌, ◌≢◌, ◌<◌, ◌≤◌, ◌-◌, ◌*◌, ◌%◌, ◌^◌, pos, neg_ℤ, true, IfSome, IsSome};
 ghost use Rattle.ijson_number.specs.Decimal.{Decimal};
 ghost use Rattle.ijson_number.specs.Form.{form_of};
 ghost use Rattle.ijson_number.specs.Strips.{Strips, signed};
@@ -54,8 +54,9 @@ pub fn pointed_word(negative: bool, size: u64, places: usize) -> Option<Stored>
 
 /// What is stored of a number without the point, where its size fits its sign.
 pub fn whole_word(negative: bool, size: u64) -> Option<Stored>
-    ensures { IfSome result (λ s. stored_form s ≡ integer_word (signed negative size)
+    ensures word { IfSome result (λ s. stored_form s ≡ integer_word (signed negative size)
         × (negative ≡ true → size < 2 ^ 63)) }
+    ensures small { size < 2 ^ 63 → IsSome result }
 {
     if !negative {
         return Some(stored_unsigned(size));

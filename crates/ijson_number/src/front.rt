@@ -1,11 +1,13 @@
 //! A number of few digits at the front of a text, read in one pass.
-ghost use Rattle.std.specs.Prelude.{◌≡◌, ◌+◌, ◌*◌, ◌^◌, ◌≤◌, List, ℕ, take, length, IfSome};
+ghost use Rattle.std.specs.Prelude.{◌≡◌, ◌+◌, ◌*◌, ◌^◌, ◌<◌, ◌≤◌, List, ℕ, take, drop, length, IfNone, IfSome, IsSome, false};
 ghost use Rattle.std.specs.Int.Digits.{number_from_digits_after};
 ghost use Rattle.ijson_number.specs.Decimal.{Decimal};
 ghost use Rattle.ijson_number.specs.Form.{form_of};
-ghost use Rattle.ijson_number.specs.Grammar.{AllDigits, Denotes, Spells};
+ghost use Rattle.ijson_number.specs.Grammar.{AllDigits, Denotes, Parts, Spells};
 ghost use Rattle.ijson_number.specs.Num.{IsNum};
-ghost use Rattle.ijson_number.specs.private.Front.{IsFront, IsFrontTail};
+ghost use Rattle.ijson_number.specs.PlainFront.{IsPlainFront};
+ghost use Rattle.ijson_number.specs.private.Front.{IsFront, IsFrontTail, IsPlainTail};
+ghost use Rattle.ijson_number.specs.private.Reading.{BeginsWithNoDigit};
 ghost use Rattle.ijson_number.specs.private.Scanned.{parts_of};
 ghost use Rattle.ijson_number.specs.private.Stored.{stored_form};
 ghost use Rattle.ijson_number.specs.private.Stripped.{digits_from_text};
@@ -22,6 +24,8 @@ const MOST: usize = 19;
 fn take_digits(number: u64, bytes: &[u8], most: usize) -> (u64, usize)
     requires { (number + 1) * 10 ^ most ≤ 10 ^ 19 }
     ensures few { result.1 ≤ most }
+    // They are all that stand there, unless there are as many as may be taken.
+    ensures all { result.1 < most → BeginsWithNoDigit (drop result.1 bytes.now) }
     ensures within { result.1 ≤ length bytes.now }
     ensures digits { AllDigits (take result.1 bytes.now) }
     ensures value { result.0
@@ -44,6 +48,10 @@ fn take_tail(number: u64, bytes: &[u8], most: usize) -> Option<(u64, Tail<'_>, &
     ensures few { IfSome result (λ r. length r.1.fraction.now ≤ most) }
     ensures value { IfSome result (λ r.
         r.0 ≡ number_from_digits_after 10 number (digits_from_text r.1.fraction.now)) }
+    ensures rest { IfSome result (λ r. (front rest : List ℕ)
+        → IsPlainTail most bytes.now front rest → r.2.now ≡ rest) }
+    ensures none { IfNone result ((front rest : List ℕ)
+        → IsPlainTail most bytes.now front rest → ⊥) }
 {
     if !bytes.is_empty() && bytes[0] == b'.' {
         let behind = &bytes[1..];
@@ -80,7 +88,8 @@ pub struct Front<'a> {
 /// The number at the front, where it has few digits and nothing goes on with it.
 #[inline(always)]
 pub fn read_front(text: &[u8]) -> Option<Front<'_>>
-    ensures { IfSome result (λ f. IsFront text.now f) }
+    ensures found { IfSome result (λ f. IsFront text.now f) }
+    ensures none { IfNone result ((p : Parts) → IsPlainFront text.now p → ⊥) }
 {
     let (negative, unsigned) = split_sign(text);
     let (number, count) = take_digits(0, unsigned, MOST);
@@ -122,10 +131,12 @@ impl Front<'_> {
     #[inline(always)]
     pub fn word(&self) -> Option<Stored>
         requires { (text : List ℕ) × IsFront text self.now }
-        ensures { IfSome result (λ s. (n : Decimal)
+        ensures word { IfSome result (λ s. (n : Decimal)
             × Denotes (parts_of self.now.spelling) n
             × (stored_form s ≡ form_of n)
             × IsNum n) }
+        ensures whole { self.now.spelling.tail.point ≡ false → self.now.size < 2 ^ 63
+            → IsSome result }
     {
         let Spelling { negative, tail, .. } = self.spelling;
         if tail.point {

@@ -48,8 +48,9 @@ impl Model for INumber {
 }
 
 impl INumber {
-    ghost use Rattle.std.specs.Prelude.{◌≤◌, List, ℕ, length, take, IfSome};
-    ghost use Rattle.ijson_number.specs.Grammar.{AllDigits, Denotes, IsSpelled};
+    ghost use Rattle.std.specs.Prelude.{◌≤◌, List, ℕ, length, take, IfNone, IfSome};
+    ghost use Rattle.ijson_number.specs.Grammar.{AllDigits, Denotes, IsSpelled, Parts};
+    ghost use Rattle.ijson_number.specs.PlainFront.{IsPlainFront};
     ghost use Rattle.ijson_number.specs.Refused.{IsRefused};
     ghost use Rattle.ijson_number.specs.private.Scanned.{parts_of};
 
@@ -93,11 +94,14 @@ impl INumber {
         })
     }
 
-    /// A number that the text begins with, and how many bytes spell it, in one pass over them. None tells nothing: what
-    /// has an exponent or many digits is left to `from_str`. Memory is taken as there.
+    /// The number that the text begins with, and how many bytes spell it, in one pass over them, where it has at most 19
+    /// digits and no exponent, and no digit, letter or point is behind it. Else None may be answered, and `from_str` reads
+    /// what stands there. Memory is taken as there.
     pub fn at_front(alloc: Global, text: &str) -> Result<Option<(INumber, usize)>, AllocError>
-        ensures { IfOk result (λ found. IfSome found (λ f.
+        ensures found { IfOk result (λ found. IfSome found (λ f.
             (f.1 ≤ length text.now) × Spells (take f.1 text.now) f.0.decimal)) }
+        ensures none { IfOk result (λ found.
+            IfNone found ((p : Parts) → IsPlainFront text.now p → ⊥)) }
     {
         let Some(front) = read_front(text.as_bytes()) else {
             return Ok(None);

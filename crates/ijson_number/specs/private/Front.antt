@@ -1,6 +1,7 @@
 -- What the pass over the front of a text finds there.
-use Rattle.std.specs.Prelude.{◌≡◌, ℕ, ◌+◌, ◌≤◌, List, ◌++◌, length, take}
-use Rattle.ijson_number.specs.Grammar.{IsSpelled, value}
+use Rattle.std.specs.Prelude.{◌≡◌, ℕ, ◌+◌, ◌≤◌, Bool, List, ◌++◌, length, take}
+use Rattle.ijson_number.specs.Grammar.{IsFraction, IsSpelled, value}
+use Rattle.ijson_number.specs.PlainFront.{GoesOnWithNone}
 use Rattle.ijson_number.specs.Strips.{signed}
 use Rattle.ijson_number.specs.private.Reading.{IsTail}
 use Rattle.ijson_number.specs.private.Scanned.{parts_of}
@@ -13,6 +14,15 @@ pub record IsFrontTail (text : List ℕ) (t : Tail) (rest : List ℕ) : Type 0 w
   pub text_is : text ≡ front ++ rest
   pub tail : IsTail front t.fraction.now (signed t.negative (value t.exponent.now)) t.point
   pub no_exponent : length t.exponent.now ≡ 0
+
+-- a fraction of at most so many digits or none, and what follows it
+pub record IsPlainTail (most : ℕ) (text front rest : List ℕ) : Type 0 where
+  pub digits : List ℕ
+  pub has_point : Bool
+  pub text_is : text ≡ front ++ rest
+  pub fraction : IsFraction front digits has_point
+  pub few : length digits ≤ most
+  pub stops : GoesOnWithNone rest
 
 -- a number's text at the front, with no exponent
 pub record IsFront (text : List ℕ) (f : Front) : Type 0 where

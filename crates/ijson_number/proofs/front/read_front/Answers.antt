@@ -1,10 +1,11 @@
-use Rattle.std.proofs.Common.{◌≡◌, ℕ, ◌+◌, ◌-◌, List, [], ◌∷◌, ◌++◌, length, take, refl, sym, ap, ◌∙◌, inl, inr, append_assoc, arith}
+use Rattle.std.proofs.Common.{◌≡◌, ℕ, ◌+◌, ◌-◌, ◌<◌, List, [], ◌∷◌, ◌++◌, length, take, refl, sym, ap, ◌∙◌, inl, inr, append_assoc, arith}
 use Rattle.std.proofs.Math.Seq.{take-append_seam}
 use Rattle.std.proofs.lemmas.List.{length-append, length-take-le, take-append-drop}
 use Rattle.ijson_number.specs.Grammar.{IsWhole, IsSpelled, Parts, value}
 use Rattle.ijson_number.specs.Strips.{signed}
 use Rattle.ijson_number.specs.private.Reading.{IsSignTaken, IsTail}
 use Rattle.ijson_number.proofs.FewDigits.{joined_value, room_left}
+use Rattle.ijson_number.proofs.PlainFronts.{goes_on, plain_parts}
 use Rattle.ijson_number.proofs.front.read_front.Goals as goal
 
 -- the sign, the whole part and the tail are a number's text
@@ -21,8 +22,8 @@ take_tail-requires c =
     let count : length (take t.result.1 c.split_sign-negative.result.1.now) ≡ t.result.1 = length-take-le t.result.1 c.split_sign-negative.result.1.now t.ensures.within in
     rw t.ensures.value (room_left (take t.result.1 c.split_sign-negative.result.1.now) t.result.1 t.ensures.digits count t.ensures.few)
 
-pub returns : goal.returns
-returns c =
+pub returns-clause-found : goal.returns-clause-found
+returns-clause-found c =
     let t = c.take_digits-number in
     let unsigned = c.split_sign-negative.result.1.now in
     let whole = c.split_at.result.0.now in
@@ -43,3 +44,25 @@ returns c =
       few = let m = e.few in omega arith;
       size = rw number at e.value ∙ joined_value whole tail.fraction.now;
     }
+
+pub returns-then-not-is_whole-clause-none : goal.returns-then-not-is_whole-clause-none
+returns-then-not-is_whole-clause-none c = λ p f.
+    let t = c.take_digits-number.ensures in
+    let s = c.split_at.ensures in
+    let is = c.is_whole.ensures.1 (plain_parts c.args.text.now _ _ _ _ p _ c.split_sign-negative.ensures s.front s.back s.front_len t.digits t.all f).0 in
+    let not = c.if-not-is_whole.true in
+    grind (arith, is, not)
+
+pub returns-in_err-size-clause-none : goal.returns-in_err-size-clause-none
+returns-in_err-size-clause-none c =
+    let t = c.take_digits-number.ensures in
+    let s = c.split_at.ensures in
+    rw c.from_residual.ensures (λ p f. c.in_err-size.ensures.none f.fraction_text f.rest (plain_parts c.args.text.now _ _ _ _ p _ c.split_sign-negative.ensures s.front s.back s.front_len t.digits t.all f).1)
+
+pub returns-then-is_ascii_alphanumeric-clause-none : goal.returns-then-is_ascii_alphanumeric-clause-none
+returns-then-is_ascii_alphanumeric-clause-none c = λ p f.
+    let t = c.take_digits-number.ensures in
+    let s = c.split_at.ensures in
+    let rest = c.in_ok-size.ensures.rest f.fraction_text f.rest (plain_parts c.args.text.now _ _ _ _ p _ c.split_sign-negative.ensures s.front s.back s.front_len t.digits t.all f).1 in
+    let some : 0 < length c.in_ok-size.rest.now = grind arith in
+    goes_on c.in_ok-size.rest.now some (sym c.is_ascii_alphanumeric.ensures.value ∙ c.if-is_ascii_alphanumeric.true) (rw rest f.stops)

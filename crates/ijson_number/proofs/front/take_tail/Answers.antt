@@ -2,6 +2,7 @@ use Rattle.std.proofs.Common.{◌≡◌, ◌-◌, ◌<◌, List, ℕ, [], ◌∷
 use Rattle.std.specs.Prelude.{pos}
 use Rattle.std.proofs.lemmas.List.{append-nil, take-append-drop}
 use Rattle.ijson_number.specs.Grammar.{AllDigits, IsDigits}
+use Rattle.ijson_number.proofs.PlainFronts.{point_tail}
 use Rattle.ijson_number.proofs.Runs.{IsDigits_from}
 use Rattle.ijson_number.proofs.Tails.{point_first, tail_with_point}
 use Rattle.ijson_number.proofs.front.take_tail.Goals as goal
@@ -30,3 +31,16 @@ returns-clause-tail c = record {
   tail = record { fraction_text = []; exponent_text = []; has_point = false; has_exponent = false; text_is = refl; fraction_is = (refl, refl); exponent_is = (refl, refl); point_is = refl };
   no_exponent = refl;
 }
+
+pub returns-then-bytes-eq46-clause-rest : goal.returns-then-bytes-eq46-clause-rest
+returns-then-bytes-eq46-clause-rest c = λ front rest t.
+    let bytes = c.args.bytes.now in
+    let digits = c.split_at.result.0.now in
+    let after = c.split_at.result.1.now in
+    let taken = c.take_digits-longer in
+    let behind = take (length bytes - 1) (drop 1 bytes) in
+    let some : 0 < length bytes = grind arith in
+    let split : behind ≡ digits ++ after = rw (c.split_at.ensures.front, c.split_at.ensures.back) (sym (take-append-drop taken.result.1 behind)) in
+    let all : AllDigits digits = rw c.split_at.ensures.front taken.ensures.digits in
+    let count : length digits ≡ taken.result.1 = c.split_at.ensures.front_len in
+    (point_tail c.args.most bytes front rest digits after (point_first bytes digits after some c.if-bytes-eq46.true split) all (λ h. rw c.split_at.ensures.back (taken.ensures.all (omega arith))) t).1
