@@ -1,7 +1,7 @@
 -- The text of a number that is kept in one word, from its whole part and its fraction.
 use Rattle.std.proofs.Common.{◌≡◌, ◌≢◌, ℕ, zero, suc, ◌+◌, ◌-◌, ◌*◌, ◌/◌, ◌%◌, ◌^◌, ◌<◌, ◌≤◌, ◌⊎◌, Bool, true, false, List, [], ◌∷◌, ◌++◌, length, refl, ap, sym, ◌∙◌, arith, append_assoc, inl, inr}
 use Rattle.std.specs.Prelude.{ℤ, pos, negsuc, neg_ℤ, nat_abs, int_le, int_lt, ◌≤ℤ◌, ◌<ℤ◌, ◌+ℤ◌, ◌-ℤ◌, ◌*ℤ◌, ◌||◌, ◌&&◌, nat_eq, not}
-use Rattle.std.proofs.Math.Nat.{pow-succ', div-le_self, mul-le-mul_right, mul_comm}
+use Rattle.std.proofs.Math.Nat.{pow-succ', mul-le-mul_right, mul_comm}
 use Rattle.std.proofs.lemmas.Bool.{cases_lt}
 use Rattle.std.proofs.lemmas.Fmt.{decimal_digit, decimal_step_wide, decimal_nonempty, IsAscii-decimal}
 use Rattle.std.proofs.lemmas.Int.{ints}
@@ -86,9 +86,6 @@ whole_small w p f h l =
     let m : 1 * w ≤ p * w = mul-le-mul_right w h in
     let e : p * w ≡ w * p = mul_comm p w in
     omega arith
-
-pub quotient_small : (size scale : ℕ) → size < 2 ^ 64 → size / scale < 2 ^ 64
-quotient_small size scale h = let d : size / scale ≤ size = div-le_self size scale in omega arith
 
 not_le : (a b : ℤ) → b <ℤ a → int_le a b ≡ false
 not_le a b h = grind (arith, ints)

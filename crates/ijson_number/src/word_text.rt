@@ -61,6 +61,27 @@ fn integer(negative: bool, size: u64, room: &mut [u8; TEXT_ROOM]) -> &str
     unsafe { str::from_utf8_unchecked(&room[start..]) }
 }
 
+/// The number without its last places, these places, and ten to their count. Each division is by a number that is known
+/// when the code is built, which takes a fraction of the time.
+fn split_places(size: u64, places: u32) -> (u64, u64, u64)
+    requires { places < 8 }
+    ensures whole { result.0 ≡ size / 10 ^ places }
+    ensures rest { result.1 ≡ size % 10 ^ places }
+    ensures scale { result.2 ≡ 10 ^ places }
+    ensures below { result.1 < result.2 }
+{
+    match places {
+        0 => (size, 0, 1),
+        1 => (size / 10, size % 10, 10),
+        2 => (size / 100, size % 100, 100),
+        3 => (size / 1000, size % 1000, 1000),
+        4 => (size / 10_000, size % 10_000, 10_000),
+        5 => (size / 100_000, size % 100_000, 100_000),
+        6 => (size / 1_000_000, size % 1_000_000, 1_000_000),
+        _ => (size / 10_000_000, size % 10_000_000, 10_000_000),
+    }
+}
+
 /// The text of a whole number over ten to the places, with so many digits behind the point.
 fn fraction(negative: bool, size: u64, places: u32, room: &mut [u8; TEXT_ROOM]) -> &str
     requires some { 1 ≤ places }
@@ -68,9 +89,9 @@ fn fraction(negative: bool, size: u64, places: u32, room: &mut [u8; TEXT_ROOM]) 
     ensures { result.now
         ≡ pointed_text negative (size / 10 ^ places) places (size % 10 ^ places) }
 {
-    let scale = 10u64.pow(places);
-    let point = put_fraction(places, scale, size % scale, room);
-    let start = put_integer(negative, size / scale, room, point);
+    let (whole, rest, scale) = split_places(size, places);
+    let point = put_fraction(places, scale, rest, room);
+    let start = put_integer(negative, whole, room, point);
     unsafe { str::from_utf8_unchecked(&room[start..]) }
 }
 
