@@ -76,15 +76,17 @@ plain_parts t u a x n p count h is behind c d l f =
     let w : length p.whole ≤ 19 = omega (arith, few) in
     let e : a ++ x ≡ p.whole ++ (f.fraction_text ++ f.rest) = rw (is, behind) (take-append-drop count u) ∙ plain_unsigned t u n p h f in
     let r = same_run 19 a p.whole x (f.fraction_text ++ f.rest) (rw is d) (whole_all p.whole f.whole) (λ m. rw behind (l (omega (arith, c, m)))) (behind_begins f.fraction_text p.fraction f.rest f.has_point f.fraction f.stops) w e in
-    let same : length p.whole ≡ count = ap length (sym r.0) ∙ c in
-    (rw r.0 f.whole, record {
-      digits = p.fraction;
-      has_point = f.has_point;
-      text_is = r.1;
-      fraction = f.fraction;
-      few = omega (arith, few, same);
-      stops = f.stops;
-    })
+    let same : length p.whole ≡ count = ap length (sym r.0) ∙ c in (
+      rw r.0 f.whole,
+      record {
+        digits = p.fraction;
+        has_point = f.has_point;
+        text_is = r.1;
+        fraction = f.fraction;
+        few = omega (arith, few, same);
+        stops = f.stops;
+      },
+    )
 
 -- where a digit or letter stands, a number goes on
 pub goes_on : (rest : List ℕ) → 0 < length rest → is_ascii_alphanumeric (get_or rest 0 0) ≡ true → GoesOnWithNone rest → ⊥
