@@ -3,3 +3,4 @@ pub mod CompactErrorOfReadFault
 pub mod Reading
 pub mod Explains
 pub mod StringReading
+pub mod PutEach

@@ -3,6 +3,7 @@
 ghost use Rattle.std.specs.Prelude.{◌≡◌};
 ghost use Rattle.ijson_json.specs.declared.fault.Fault.TheVariants.{Memory};
 
+use ijson_string::IString;
 use ijson_value::object::RefusedPair;
 use ijson_value::value::IValue;
 use std::alloc::{AllocError, AllocFailed};
@@ -40,6 +41,14 @@ impl From<AllocFailed<IValue>> for Fault {
     ghost from_gives = { λ _ fault. fault ≡ Memory };
 
     fn from(_refused: AllocFailed<IValue>) -> Fault {
+        Fault::Memory
+    }
+}
+
+impl From<AllocFailed<(IString, IValue)>> for Fault {
+    ghost from_gives = { λ _ fault. fault ≡ Memory };
+
+    fn from(_refused: AllocFailed<(IString, IValue)>) -> Fault {
         Fault::Memory
     }
 }

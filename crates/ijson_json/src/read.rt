@@ -1,18 +1,19 @@
 //! Reading a text.
 
-ghost use Rattle.std.specs.Prelude.{◌≡◌, ◌∷◌, ◌<◌, ◌≤◌, length, take, drop, MatchResult, IfOk, IfErr, OnOk};
+ghost use Rattle.std.specs.Prelude.{◌≡◌, [], ◌∷◌, ◌<◌, ◌≤◌, length, take, drop, MatchResult, IfOk, IfErr, OnOk};
 ghost use Rattle.ijson_value.specs.Tree.{Tree, array, object, depth};
 ghost use Rattle.ijson_value.specs.WellFormed.{IsWellFormed, item_trees, pair_trees};
 ghost use Rattle.ijson_json.specs.Grammar.{Accepted};
 ghost use Rattle.ijson_json.specs.Limits.{max_depth};
 ghost use Rattle.ijson_json.specs.Print.{print};
+ghost use Rattle.ijson_json.specs.private.PutEach.{put_each};
 ghost use Rattle.ijson_json.specs.private.Reading.{ReadAs, MemberAs};
 ghost use Rattle.ijson_json.specs.AddsOnlyRead.{AddsOnlyRead};
 ghost use Rattle.ijson_json.specs.AreShared.{IsShared, AreShared, ItemsAreShared, MembersAreShared};
 ghost use Rattle.ijson_json.specs.private.Explains.{Explains, ExplainsMember, Answers, error_of};
 ghost use Rattle.ijson_json.specs.Refuses.{Refuses};
 ghost use Rattle.ijson_json.specs.declared.fault.JsonError;
-ghost use Rattle.ijson_json.specs.declared.fault.Fault.TheVariants.{TooDeep};
+ghost use Rattle.ijson_json.specs.declared.fault.Fault.TheVariants.{Memory, TooDeep};
 
 use crate::fault::{Fault, JsonError};
 use crate::front::{skip_space, split_ascii, strip_byte, strip_word};
@@ -60,6 +61,32 @@ fn take_items(alloc: Global, stack: &mut Vec<IValue>, base: usize) -> Result<IAr
     IArray::from_vec(alloc, items).map_err(|_| AllocError)
 }
 
+/// Takes the members from `base` on off the stack, and puts them one after the other into an object with room for as many.
+fn take_members(
+    alloc: Global,
+    stack: &mut Vec<(IString, IValue)>,
+    base: usize,
+) -> Result<IObject, Fault>
+    requires { base ≤ length stack.old.items }
+    ensures members { IfOk result (λ object.
+        object.pairs ≡ put_each [] (drop base stack.old.items)) }
+    ensures refused { IfErr result (λ fault. fault ≡ Memory) }
+    ensures stack { OnOk result (stack.new.items ≡ take base stack.old.items) }
+{
+    let mut object = object_with_room(alloc, stack.len() - base)?;
+    for (key, value) in stack.drain(base..) {
+        drop(object.insert(key, value)?);
+    }
+    Ok(object)
+}
+
+/// An object with room for so many members.
+fn object_with_room(alloc: Global, room: usize) -> Result<IObject, Fault>
+    ensures { MatchResult result (λ object. object.pairs ≡ []) (λ fault. fault ≡ Memory) }
+{
+    IObject::with_capacity(alloc, room).map_err(|_| Fault::Memory)
+}
+
 /// The value at the front of the text, inside so many open containers. The items of arrays that are not read to their end
 /// lie on the stack.
 #[cycle(read)]
@@ -67,6 +94,7 @@ fn read_value<'a, S: BuildHasher>(
     alloc: Global,
     cache: &mut StringCache<S>,
     stack: &mut Vec<IValue>,
+    members: &mut Vec<(IString, IValue)>,
     text: &'a str,
     opened: usize,
 ) -> Result<(IValue, &'a str), Fault>
@@ -76,6 +104,7 @@ fn read_value<'a, S: BuildHasher>(
         (λ fault. Explains opened text.now fault) }
     ensures cache { AddsOnlyRead text.now cache.old cache.new }
     ensures stack { OnOk result (stack.new.items ≡ stack.old.items) }
+    ensures members { OnOk result (members.new.items ≡ members.old.items) }
     ensures shared { IfOk result (λ x. AreShared cache.new x.0.tree) }
 {
     let Some((first, inside)) = split_ascii(text) else {
@@ -84,13 +113,13 @@ fn read_value<'a, S: BuildHasher>(
     match first {
         b'[' => {
             check_depth(text, opened)?;
-            let (items, rest) = read_array(alloc, cache, stack, inside, opened)?;
+            let (items, rest) = read_array(alloc, cache, stack, members, inside, opened)?;
             Ok((IValue::from(items), rest))
         }
         b'{' => {
             check_depth(text, opened)?;
-            let (members, rest) = read_object(alloc, cache, stack, inside, opened)?;
-            Ok((IValue::from(members), rest))
+            let (object, rest) = read_object(alloc, cache, stack, members, inside, opened)?;
+            Ok((IValue::from(object), rest))
         }
         b'"' => {
             let (string, rest) = read_string(alloc, cache, text)?;
@@ -122,6 +151,7 @@ fn read_array<'a, S: BuildHasher>(
     alloc: Global,
     cache: &mut StringCache<S>,
     stack: &mut Vec<IValue>,
+    members: &mut Vec<(IString, IValue)>,
     inside: &'a str,
     opened: usize,
 ) -> Result<(IArray, &'a str), Fault>
@@ -131,6 +161,7 @@ fn read_array<'a, S: BuildHasher>(
         (λ fault. Explains opened (91 ∷ inside.now) fault) }
     ensures cache { AddsOnlyRead (91 ∷ inside.now) cache.old cache.new }
     ensures stack { OnOk result (stack.new.items ≡ stack.old.items) }
+    ensures members { OnOk result (members.new.items ≡ members.old.items) }
     ensures shared { IfOk result (λ x. ItemsAreShared cache.new (item_trees x.0.items)) }
 {
     let mut rest = skip_space(inside);
@@ -139,7 +170,7 @@ fn read_array<'a, S: BuildHasher>(
     }
     let base = stack.len();
     loop {
-        let (item, after) = read_value(alloc, cache, stack, rest, opened + 1)?;
+        let (item, after) = read_value(alloc, cache, stack, members, rest, opened + 1)?;
         stack.push(item)?;
         let after = skip_space(after);
         if let Some(behind) = strip_byte(after, b']') {
@@ -160,6 +191,7 @@ fn read_object<'a, S: BuildHasher>(
     alloc: Global,
     cache: &mut StringCache<S>,
     stack: &mut Vec<IValue>,
+    members: &mut Vec<(IString, IValue)>,
     inside: &'a str,
     opened: usize,
 ) -> Result<(IObject, &'a str), Fault>
@@ -169,19 +201,21 @@ fn read_object<'a, S: BuildHasher>(
         (λ fault. Explains opened (123 ∷ inside.now) fault) }
     ensures cache { AddsOnlyRead (123 ∷ inside.now) cache.old cache.new }
     ensures stack { OnOk result (stack.new.items ≡ stack.old.items) }
+    ensures members { OnOk result (members.new.items ≡ members.old.items) }
     ensures shared { IfOk result (λ x. MembersAreShared cache.new (pair_trees x.0.pairs)) }
 {
-    let mut members = IObject::new(alloc);
     let mut rest = skip_space(inside);
     if let Some(behind) = strip_byte(rest, b'}') {
-        return Ok((members, behind));
+        return Ok((IObject::new(alloc), behind));
     }
+    let base = members.len();
     loop {
-        let (key, value, after) = read_member(alloc, cache, stack, rest, opened + 1)?;
-        members.insert(key, value)?;
+        let (key, value, after) = read_member(alloc, cache, stack, members, rest, opened + 1)?;
+        members.push((key, value))?;
         let after = skip_space(after);
         if let Some(behind) = strip_byte(after, b'}') {
-            return Ok((members, behind));
+            let object = take_members(alloc, members, base)?;
+            return Ok((object, behind));
         }
         let Some(more) = strip_byte(after, b',') else {
             return Err(Fault::Syntax { left: after.len() });
@@ -196,6 +230,7 @@ fn read_member<'a, S: BuildHasher>(
     alloc: Global,
     cache: &mut StringCache<S>,
     stack: &mut Vec<IValue>,
+    members: &mut Vec<(IString, IValue)>,
     text: &'a str,
     opened: usize,
 ) -> Result<(IString, IValue, &'a str), Fault>
@@ -205,6 +240,7 @@ fn read_member<'a, S: BuildHasher>(
         (λ fault. ExplainsMember opened text.now fault) }
     ensures cache { AddsOnlyRead text.now cache.old cache.new }
     ensures stack { OnOk result (stack.new.items ≡ stack.old.items) }
+    ensures members { OnOk result (members.new.items ≡ members.old.items) }
     ensures shared { IfOk result (λ x. IsShared cache.new x.0 × AreShared cache.new x.1.tree) }
 {
     let (key, after) = read_string(alloc, cache, text)?;
@@ -213,7 +249,7 @@ fn read_member<'a, S: BuildHasher>(
         return Err(Fault::Syntax { left: after.len() });
     };
     let start = skip_space(more);
-    let (value, rest) = read_value(alloc, cache, stack, start, opened)?;
+    let (value, rest) = read_value(alloc, cache, stack, members, start, opened)?;
     Ok((key, value, rest))
 }
 
@@ -247,7 +283,8 @@ fn read_text<S: BuildHasher>(
 {
     let start = skip_space(text);
     let mut stack = Vec::new(alloc);
-    match read_value(alloc, cache, &mut stack, start, 0) {
+    let mut members = Vec::new(alloc);
+    match read_value(alloc, cache, &mut stack, &mut members, start, 0) {
         Ok((value, rest)) => {
             let rest = skip_space(rest);
             if rest.is_empty() {

@@ -359,7 +359,7 @@ fn compacting_to_a_value(rt: HostRuntime) -> Result<(), Fail> {
             compact_value(rt.alloc(), &mut again, &mut output, &mut cache)?
         }
     };
-    assert_eq!(rt; output.bytes(), b"[1.5]\n");
+    assert_eq!(rt; output.bytes(), b"[1.5]\n".as_slice());
     let found = written(rt.alloc(), &value)?;
     assert_eq!(rt; found.as_str(), "[1.5]");
     Ok(())

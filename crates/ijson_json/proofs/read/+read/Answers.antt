@@ -5,13 +5,14 @@ use Rattle.ijson_value.specs.WellFormed.{WellFormed, item_trees, pair_trees}
 use Rattle.ijson_json.proofs.Unique.{items_shape, members_shape}
 use Rattle.ijson_json.proofs.Listing.{reached_start, reached_more, reached_end, reached_stuck, reached_shorter, empty_read}
 use Rattle.ijson_json.proofs.Containers.{arrays, objects, array_fault, object_fault}
-use Rattle.ijson_json.specs.AreShared.{AreShared, MembersAreShared}
+use Rattle.ijson_json.specs.AreShared.{AreShared}
+use Rattle.ijson_json.specs.private.PutEach.{put_each}
 use Rattle.ijson_json.proofs.Caches.{adds_none, adds_more, string_adds, string_shared, shared_more, item_shared, member_shared}
 use Rattle.ijson_json.proofs.Members.{key_head, key_behind, key_read, member_read, member_fault, no_colon}
 use Rattle.ijson_json.proofs.Values.{read_null, read_boolean, array_too_deep, object_too_deep, begins, other_fault, string_fault, key_fault, front_shorter, skips_shorter, no_character, null_fault, true_fault, false_fault}
 use Rattle.std.proofs.lemmas.List.{append-nil}
-use Rattle.ijson_json.proofs.Stacks.{pushed_above, taken_above, left_below}
-use Rattle.ijson_json.proofs.Trees.{item_pushed, member_put, pair_list}
+use Rattle.ijson_json.proofs.Stacks.{pushed_above, taken_above, left_below, put_last}
+use Rattle.ijson_json.proofs.Trees.{item_pushed, member_put}
 use Rattle.ijson_json.proofs.read.+read.Goals as goal
 
 -- ---- a value
@@ -87,6 +88,7 @@ read_array-loop-item-init g t c =
       ),
       (adds_none _ _, tt),
       c.skip_space-rest.utf8,
+      refl,
     )
 
 pub read_array-returns-in_err-item-clause-read : goal.read_array-returns-in_err-item-clause-read
@@ -133,6 +135,7 @@ read_array-loop-item-preserved g t c =
         item_shared c.loop-item.rest.now c.loop-item.cache c.read_value.new.cache c.loop-item.invariant.0 _ c.in_ok-item.item refl c.read_value.ensures.cache c.loop-item.invariant.3.1 c.in_ok-item.ensures.shared,
       ),
       c.skip_space-rest-in-loop-item.utf8,
+      c.in_ok-item.ensures.members ∙ c.loop-item.invariant.5,
     )
 
 -- ---- an object
@@ -142,18 +145,20 @@ read_object-returns-in-Some-clause-read g t c =
     let s = c.skip_space-rest.ensures in (
       object (members_of []),
       empty_read (List ℕ × Tree) members_shape objects c.args.opened c.args.inside.now s.space c.in-Some.behind.now (omega arith) (s.is ∙ ap (λ (l : List ℕ). s.space ++ l) c.in-Some.ensures) s.passed,
-      ap (λ ps. object (pair_trees ps)) c.new-members.ensures.pairs,
+      ap (λ ps. object (pair_trees ps)) c.new.ensures.pairs,
     )
 
-pub read_object-loop-members-init : goal.read_object-loop-members-init
-read_object-loop-members-init g t c =
+pub read_object-loop-key-init : goal.read_object-loop-key-init
+read_object-loop-key-init g t c =
     let s = c.skip_space-rest.ensures in (
+      [],
+      sym (append-nil c.args.members.now.items),
       (
         [],
         reached_start (List ℕ × Tree) members_shape objects c.args.opened c.args.inside.now s.space c.skip_space-rest.result.now (omega arith) s.is s.passed s.past c.in_default.ensures,
-        ap pair_list c.new-members.ensures.pairs,
+        refl,
       ),
-      (adds_none _ _, subst (λ (l : List (List ℕ × WellFormed)). MembersAreShared c.args.cache.now (pair_trees l)) (sym c.new-members.ensures.pairs) tt),
+      (adds_none _ _, tt),
       refl,
       c.skip_space-rest.utf8,
     )
@@ -161,48 +166,50 @@ read_object-loop-members-init g t c =
 pub read_object-returns-in_err-key-clause-read : goal.read_object-returns-in_err-key-clause-read
 read_object-returns-in_err-key-clause-read g t c =
     let p = err_from_is_err_and c.from_residual.result c.from_residual.ensures.1 in
-    rw (p.1, p.2) (object_fault c.args.opened (123 ∷ c.args.inside.now) c.loop-members.rest.now c.loop-members.invariant.0.0 c.in_err-key.field-0.0 c.loop-members.invariant.0.1 c.in_err-key.ensures.read)
+    rw (p.1, p.2) (object_fault c.args.opened (123 ∷ c.args.inside.now) c.loop-key.rest.now c.loop-key.invariant.2.0 c.in_err-key.field-0.0 c.loop-key.invariant.2.1 c.in_err-key.ensures.read)
 
 pub read_object-returns-in-Some-strip_byte-clause-read : goal.read_object-returns-in-Some-strip_byte-clause-read
 read_object-returns-in-Some-strip_byte-clause-read g t c =
     let s = c.skip_space-after.ensures in
-    let i = c.loop-members.invariant.0 in
+    let i = c.loop-key.invariant.2 in
     let r = c.in_ok-key.ensures.read in
     let k = c.in_ok-key.key in (
       object (members_of (i.0 ++ (k, r.0) ∷ [])),
-      reached_end (List ℕ × Tree) members_shape objects c.args.opened (123 ∷ c.args.inside.now) c.loop-members.rest.now c.in_ok-key.after.now s.space c.in-Some-strip_byte.behind.now i.0 (k, r.0) i.1 r.1 (s.is ∙ ap (λ (l : List ℕ). s.space ++ l) c.in-Some-strip_byte.ensures) s.passed,
-      ap (λ ps. object (members_of ps)) (member_put c.loop-members.members.pairs c.insert.new.self.pairs k c.in_ok-key.value i.0 r.0 c.in_ok-insert.ensures.pairs r.2 i.2),
+      reached_end (List ℕ × Tree) members_shape objects c.args.opened (123 ∷ c.args.inside.now) c.loop-key.rest.now c.in_ok-key.after.now s.space c.in-Some-strip_byte.behind.now i.0 (k, r.0) i.1 r.1 (s.is ∙ ap (λ (l : List ℕ). s.space ++ l) c.in-Some-strip_byte.ensures) s.passed,
+      ap (λ ps. object (members_of ps)) (member_put (put_each [] c.loop-key.invariant.0) c.in_ok-object.object.pairs k c.in_ok-key.value i.0 r.0 (c.in_ok-object.ensures.members ∙ ap (put_each []) (taken_above c.args.members.now.items (c.loop-key.invariant.0 ++ (c.in_ok-key.key, c.in_ok-key.value) ∷ []) c.push.new.self.items _ c.len-base.result (c.len-base.ensures ∙ c.args.members.now.ok.0) (pushed_above c.args.members.now.items c.loop-key.invariant.0 c.loop-key.members.items c.read_member.new.members.items c.push.new.self.items (c.in_ok-key.key, c.in_ok-key.value) c.loop-key.invariant.1 c.in_ok-key.ensures.members c.in_ok-push.ensures.items) refl) ∙ put_last [] c.loop-key.invariant.0 (c.in_ok-key.key, c.in_ok-key.value)) r.2 i.2),
     )
 
 pub read_object-returns-in_default-strip_byte-2-clause-read : goal.read_object-returns-in_default-strip_byte-2-clause-read
 read_object-returns-in_default-strip_byte-2-clause-read g t c =
     let s = c.skip_space-after.ensures in
-    let i = c.loop-members.invariant.0 in
+    let i = c.loop-key.invariant.2 in
     let r = c.in_ok-key.ensures.read in
     let text : List ℕ = 123 ∷ c.args.inside.now in
-    let short : length c.skip_space-after.result.now ≤ length c.loop-members.rest.now = omega (arith, skips_shorter c.in_ok-key.after.now c.skip_space-after.result.now s, front_shorter _ c.loop-members.rest.now c.in_ok-key.after.now r.1.found) in (
-      reached_shorter (List ℕ × Tree) members_shape objects c.args.opened text c.loop-members.rest.now i.0 (length c.skip_space-after.result.now) i.1 short,
-      reached_stuck (List ℕ × Tree) members_shape objects c.args.opened text c.loop-members.rest.now c.in_ok-key.after.now s.space c.skip_space-after.result.now i.0 (c.in_ok-key.key, r.0) i.1 r.1 s.is s.passed s.past c.in_default-strip_byte-2.ensures c.in_default-strip_byte.ensures,
+    let short : length c.skip_space-after.result.now ≤ length c.loop-key.rest.now = omega (arith, skips_shorter c.in_ok-key.after.now c.skip_space-after.result.now s, front_shorter _ c.loop-key.rest.now c.in_ok-key.after.now r.1.found) in (
+      reached_shorter (List ℕ × Tree) members_shape objects c.args.opened text c.loop-key.rest.now i.0 (length c.skip_space-after.result.now) i.1 short,
+      reached_stuck (List ℕ × Tree) members_shape objects c.args.opened text c.loop-key.rest.now c.in_ok-key.after.now s.space c.skip_space-after.result.now i.0 (c.in_ok-key.key, r.0) i.1 r.1 s.is s.passed s.past c.in_default-strip_byte-2.ensures c.in_default-strip_byte.ensures,
     )
 
-pub read_object-loop-members-preserved : goal.read_object-loop-members-preserved
-read_object-loop-members-preserved g t c =
+pub read_object-loop-key-preserved : goal.read_object-loop-key-preserved
+read_object-loop-key-preserved g t c =
     let s = c.skip_space-after.ensures in
-    let s' = c.skip_space-rest-in-loop-members.ensures in
-    let i = c.loop-members.invariant.0 in
+    let s' = c.skip_space-rest-in-loop-key.ensures in
+    let i = c.loop-key.invariant.2 in
     let r = c.in_ok-key.ensures.read in
     let k = c.in_ok-key.key in (
+      c.loop-key.invariant.0 ++ (k, c.in_ok-key.value) ∷ [],
+      pushed_above c.args.members.now.items c.loop-key.invariant.0 c.loop-key.members.items c.read_member.new.members.items c.push.new.self.items (c.in_ok-key.key, c.in_ok-key.value) c.loop-key.invariant.1 c.in_ok-key.ensures.members c.in_ok-push.ensures.items,
       (
         i.0 ++ (k, r.0) ∷ [],
-        reached_more (List ℕ × Tree) members_shape objects c.args.opened (123 ∷ c.args.inside.now) c.loop-members.rest.now c.in_ok-key.after.now s.space c.in-Some-strip_byte-2.more.now s'.space c.skip_space-rest-in-loop-members.result.now i.0 (k, r.0) i.1 r.1 (s.is ∙ ap (λ (l : List ℕ). s.space ++ l) c.in-Some-strip_byte-2.ensures) s.passed s'.is s'.passed s'.past,
-        member_put c.loop-members.members.pairs c.insert.new.self.pairs k c.in_ok-key.value i.0 r.0 c.in_ok-insert.ensures.pairs r.2 i.2,
+        reached_more (List ℕ × Tree) members_shape objects c.args.opened (123 ∷ c.args.inside.now) c.loop-key.rest.now c.in_ok-key.after.now s.space c.in-Some-strip_byte-2.more.now s'.space c.skip_space-rest-in-loop-key.result.now i.0 (k, r.0) i.1 r.1 (s.is ∙ ap (λ (l : List ℕ). s.space ++ l) c.in-Some-strip_byte-2.ensures) s.passed s'.is s'.passed s'.past,
+        member_put (put_each [] c.loop-key.invariant.0) _ k c.in_ok-key.value i.0 r.0 (put_last [] c.loop-key.invariant.0 (k, c.in_ok-key.value)) r.2 i.2,
       ),
       (
-        adds_more (123 ∷ c.args.inside.now) c.loop-members.invariant.0.1.head c.loop-members.rest.now c.args.cache.now c.loop-members.cache c.read_member.new.cache c.loop-members.invariant.0.1.is c.loop-members.invariant.1.0 c.read_member.ensures.cache,
-        member_shared c.loop-members.rest.now c.loop-members.cache c.read_member.new.cache c.loop-members.members.pairs c.insert.new.self.pairs c.in_ok-key.key c.in_ok-key.value c.in_ok-insert.ensures.pairs c.read_member.ensures.cache c.loop-members.invariant.1.1 c.in_ok-key.ensures.shared.0 c.in_ok-key.ensures.shared.1,
+        adds_more (123 ∷ c.args.inside.now) c.loop-key.invariant.2.1.head c.loop-key.rest.now c.args.cache.now c.loop-key.cache c.read_member.new.cache c.loop-key.invariant.2.1.is c.loop-key.invariant.3.0 c.read_member.ensures.cache,
+        member_shared c.loop-key.rest.now c.loop-key.cache c.read_member.new.cache (put_each [] c.loop-key.invariant.0) _ c.in_ok-key.key c.in_ok-key.value (put_last [] c.loop-key.invariant.0 (k, c.in_ok-key.value)) c.read_member.ensures.cache c.loop-key.invariant.3.1 c.in_ok-key.ensures.shared.0 c.in_ok-key.ensures.shared.1,
       ),
-      c.in_ok-key.ensures.stack ∙ c.loop-members.invariant.2,
-      c.skip_space-rest-in-loop-members.utf8,
+      c.in_ok-key.ensures.stack ∙ c.loop-key.invariant.4,
+      c.skip_space-rest-in-loop-key.utf8,
     )
 
 -- ---- a member
@@ -271,28 +278,33 @@ read_array-returns-in-Some-strip_byte-clause-shared g t c =
 
 pub read_object-returns-in_err-key-clause-cache : goal.read_object-returns-in_err-key-clause-cache
 read_object-returns-in_err-key-clause-cache g t c =
-    let i = c.loop-members.invariant in
-    adds_more (123 ∷ c.args.inside.now) i.0.1.head c.loop-members.rest.now c.args.cache.now c.loop-members.cache c.read_member.new.cache i.0.1.is i.1.0 c.read_member.ensures.cache
+    let i = c.loop-key.invariant in
+    adds_more (123 ∷ c.args.inside.now) i.2.1.head c.loop-key.rest.now c.args.cache.now c.loop-key.cache c.read_member.new.cache i.2.1.is i.3.0 c.read_member.ensures.cache
 
-pub read_object-returns-in_err-insert-clause-cache : goal.read_object-returns-in_err-insert-clause-cache
-read_object-returns-in_err-insert-clause-cache g t c =
-    let i = c.loop-members.invariant in
-    adds_more (123 ∷ c.args.inside.now) i.0.1.head c.loop-members.rest.now c.args.cache.now c.loop-members.cache c.read_member.new.cache i.0.1.is i.1.0 c.read_member.ensures.cache
+pub read_object-returns-in_err-push-clause-cache : goal.read_object-returns-in_err-push-clause-cache
+read_object-returns-in_err-push-clause-cache g t c =
+    let i = c.loop-key.invariant in
+    adds_more (123 ∷ c.args.inside.now) i.2.1.head c.loop-key.rest.now c.args.cache.now c.loop-key.cache c.read_member.new.cache i.2.1.is i.3.0 c.read_member.ensures.cache
+
+pub read_object-returns-in_err-object-clause-cache : goal.read_object-returns-in_err-object-clause-cache
+read_object-returns-in_err-object-clause-cache g t c =
+    let i = c.loop-key.invariant in
+    adds_more (123 ∷ c.args.inside.now) i.2.1.head c.loop-key.rest.now c.args.cache.now c.loop-key.cache c.read_member.new.cache i.2.1.is i.3.0 c.read_member.ensures.cache
 
 pub read_object-returns-in-Some-strip_byte-clause-cache : goal.read_object-returns-in-Some-strip_byte-clause-cache
 read_object-returns-in-Some-strip_byte-clause-cache g t c =
-    let i = c.loop-members.invariant in
-    adds_more (123 ∷ c.args.inside.now) i.0.1.head c.loop-members.rest.now c.args.cache.now c.loop-members.cache c.read_member.new.cache i.0.1.is i.1.0 c.read_member.ensures.cache
+    let i = c.loop-key.invariant in
+    adds_more (123 ∷ c.args.inside.now) i.2.1.head c.loop-key.rest.now c.args.cache.now c.loop-key.cache c.read_member.new.cache i.2.1.is i.3.0 c.read_member.ensures.cache
 
 pub read_object-returns-in_default-strip_byte-2-clause-cache : goal.read_object-returns-in_default-strip_byte-2-clause-cache
 read_object-returns-in_default-strip_byte-2-clause-cache g t c =
-    let i = c.loop-members.invariant in
-    adds_more (123 ∷ c.args.inside.now) i.0.1.head c.loop-members.rest.now c.args.cache.now c.loop-members.cache c.read_member.new.cache i.0.1.is i.1.0 c.read_member.ensures.cache
+    let i = c.loop-key.invariant in
+    adds_more (123 ∷ c.args.inside.now) i.2.1.head c.loop-key.rest.now c.args.cache.now c.loop-key.cache c.read_member.new.cache i.2.1.is i.3.0 c.read_member.ensures.cache
 
 pub read_object-returns-in-Some-strip_byte-clause-shared : goal.read_object-returns-in-Some-strip_byte-clause-shared
 read_object-returns-in-Some-strip_byte-clause-shared g t c =
-    let i = c.loop-members.invariant in
-    member_shared c.loop-members.rest.now c.loop-members.cache c.read_member.new.cache c.loop-members.members.pairs c.insert.new.self.pairs c.in_ok-key.key c.in_ok-key.value c.in_ok-insert.ensures.pairs c.read_member.ensures.cache i.1.1 c.in_ok-key.ensures.shared.0 c.in_ok-key.ensures.shared.1
+    let i = c.loop-key.invariant in
+    member_shared c.loop-key.rest.now c.loop-key.cache c.read_member.new.cache (put_each [] i.0) c.in_ok-object.object.pairs c.in_ok-key.key c.in_ok-key.value (c.in_ok-object.ensures.members ∙ ap (put_each []) (taken_above c.args.members.now.items (c.loop-key.invariant.0 ++ (c.in_ok-key.key, c.in_ok-key.value) ∷ []) c.push.new.self.items _ c.len-base.result (c.len-base.ensures ∙ c.args.members.now.ok.0) (pushed_above c.args.members.now.items c.loop-key.invariant.0 c.loop-key.members.items c.read_member.new.members.items c.push.new.self.items (c.in_ok-key.key, c.in_ok-key.value) c.loop-key.invariant.1 c.in_ok-key.ensures.members c.in_ok-push.ensures.items) refl) ∙ put_last [] c.loop-key.invariant.0 (c.in_ok-key.key, c.in_ok-key.value)) c.read_member.ensures.cache i.3.1 c.in_ok-key.ensures.shared.0 c.in_ok-key.ensures.shared.1
 
 pub read_member-returns-in_default-clause-cache : goal.read_member-returns-in_default-clause-cache
 read_member-returns-in_default-clause-cache g t c =
@@ -319,3 +331,7 @@ read_member-returns-clause-shared g t c =
 pub read_array-returns-in-Some-strip_byte-clause-stack : goal.read_array-returns-in-Some-strip_byte-clause-stack
 read_array-returns-in-Some-strip_byte-clause-stack g t c =
     left_below c.args.stack.now.items (c.loop-item.invariant.0 ++ c.in_ok-item.item ∷ []) c.push.new.self.items _ c.len-base.result (c.len-base.ensures ∙ c.args.stack.now.ok.0) (pushed_above c.args.stack.now.items c.loop-item.invariant.0 c.loop-item.stack.items c.read_value.new.stack.items c.push.new.self.items c.in_ok-item.item c.loop-item.invariant.1 c.in_ok-item.ensures.stack c.in_ok-push.ensures.items) c.in_ok-items.ensures.stack
+
+pub read_object-returns-in-Some-strip_byte-clause-members : goal.read_object-returns-in-Some-strip_byte-clause-members
+read_object-returns-in-Some-strip_byte-clause-members g t c =
+    left_below c.args.members.now.items (c.loop-key.invariant.0 ++ (c.in_ok-key.key, c.in_ok-key.value) ∷ []) c.push.new.self.items _ c.len-base.result (c.len-base.ensures ∙ c.args.members.now.ok.0) (pushed_above c.args.members.now.items c.loop-key.invariant.0 c.loop-key.members.items c.read_member.new.members.items c.push.new.self.items (c.in_ok-key.key, c.in_ok-key.value) c.loop-key.invariant.1 c.in_ok-key.ensures.members c.in_ok-push.ensures.items) c.in_ok-object.ensures.stack

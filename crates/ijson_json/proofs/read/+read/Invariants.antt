@@ -4,6 +4,7 @@ use denote.Text.{Utf8}
 use Rattle.ijson_value.specs.Tree.{Tree, items_of, members_of}
 use Rattle.ijson_value.specs.WellFormed.{WellFormed, item_trees, pair_trees}
 use Rattle.ijson_json.specs.Settled.{settled_items, settled_pairs, put_all}
+use Rattle.ijson_json.specs.private.PutEach.{put_each}
 use Rattle.ijson_json.specs.AddsOnlyRead.{AddsOnlyRead}
 use Rattle.ijson_json.specs.AreShared.{ItemsAreShared, MembersAreShared}
 use Rattle.ijson_json.proofs.Unique.{items_shape, members_shape}
@@ -32,18 +33,20 @@ invariant-read_array-loop-item g l =
     × ((written : List Tree) × Reached Tree items_shape arrays l.opened (91 ∷ l.inside) written l.rest × (item_trees items ≡ settled_items (items_of written)))
     × (AddsOnlyRead (91 ∷ l.inside) l.fn.cache l.cache × ItemsAreShared l.cache (item_trees items))
     × shadow (Utf8 l.rest)
+    × (l.members.items ≡ l.fn.members.items)
 
 abbrev pub decreases-read_array-loop-item : goal.decreases-read_array-loop-item
 decreases-read_array-loop-item g l = length l.rest
 
--- so many members were read and put, and another begins at the rest
-abbrev pub invariant-read_object-loop-members : goal.invariant-read_object-loop-members
-invariant-read_object-loop-members g l =
-    ((written : List (List ℕ × Tree)) × Reached (List ℕ × Tree) members_shape objects l.opened (123 ∷ l.inside) written l.rest
-    × (pair_list l.members.pairs ≡ put_all [] (settled_pairs (members_of written))))
-    × (AddsOnlyRead (123 ∷ l.inside) l.fn.cache l.cache × MembersAreShared l.cache (pair_trees l.members.pairs))
+-- so many members were read, they lie on the stack above those that lay there, and another begins at the rest
+abbrev pub invariant-read_object-loop-key : goal.invariant-read_object-loop-key
+invariant-read_object-loop-key g l =
+    (gathered : List (List ℕ × WellFormed)) × (l.members.items ≡ l.fn.members.items ++ gathered)
+    × ((written : List (List ℕ × Tree)) × Reached (List ℕ × Tree) members_shape objects l.opened (123 ∷ l.inside) written l.rest
+    × (pair_list (put_each [] gathered) ≡ put_all [] (settled_pairs (members_of written))))
+    × (AddsOnlyRead (123 ∷ l.inside) l.fn.cache l.cache × MembersAreShared l.cache (pair_trees (put_each [] gathered)))
     × (l.stack.items ≡ l.fn.stack.items)
     × shadow (Utf8 l.rest)
 
-abbrev pub decreases-read_object-loop-members : goal.decreases-read_object-loop-members
-decreases-read_object-loop-members g l = length l.rest
+abbrev pub decreases-read_object-loop-key : goal.decreases-read_object-loop-key
+decreases-read_object-loop-key g l = length l.rest
