@@ -2,7 +2,7 @@
 ghost use Rattle.std.specs.Prelude.{◌≡◌, ◌<◌, ◌≤◌, ◌==◌, false, length, IfOk, OnOk, OnErr};
 ghost use Rattle.std.specs.FinSet as set;
 
-use crate::cached::{CachedText, SoughtText};
+use crate::cached::{CachedText, SoughtText, hash_of};
 use crate::text::IString;
 use indexmap::IndexSet;
 use std::alloc::{AllocError, Global};
@@ -23,8 +23,7 @@ pub struct StringCache<S: BuildHasher> {
 impl<S: BuildHasher> Model for StringCache<S> {
     ghost use Rattle.std.specs.Coded.{coded_ℕ, coded_list};
     ghost use Rattle.std.specs.FinSet as set;
-    ghost use Rattle.std.specs.Hash as fed;
-    ghost use Rattle.std.specs.Prelude.{fold};
+    ghost use Rattle.std.specs.Prelude.{[], ◌∷◌, fold};
     ghost use Rattle.ijson_string.specs.Cache.{Texts};
     ghost use Rattle.ijson_string.specs.private.AllAreLong.{AllAreLong};
     ghost use Rattle.ijson_string.specs.private.Keys.{texts_of, AreHashed};
@@ -36,7 +35,7 @@ impl<S: BuildHasher> Model for StringCache<S> {
     ghost view = { λ c. set.from_list (texts_of c.texts.keys) };
 
     ghost invariant = { λ c. AllAreLong (set.from_list (texts_of c.texts.keys))
-        × AreHashed (λ text. S.Hasher.finish (fold S.Hasher.write (S.build_hasher c.hasher) (fed.str text))) c.texts.keys };
+        × AreHashed (λ text. S.Hasher.finish (fold S.Hasher.write (S.build_hasher c.hasher) (text ∷ []))) c.texts.keys };
 }
 
 impl<S: BuildHasher> StringCache<S> {
@@ -72,7 +71,7 @@ impl<S: BuildHasher> StringCache<S> {
         ensures exact { result ≡ set.contains self.now text.now }
         ensures short { length text.now ≤ 7 → result ≡ false }
     {
-        let hash = self.hasher.hash_one(text);
+        let hash = hash_of(&self.hasher, text);
         self.texts.contains(SoughtText { hash, text })
     }
 
@@ -92,7 +91,7 @@ impl<S: BuildHasher> StringCache<S> {
         ensures added { OnOk result (self.new ≡ set.insert self.old text.now) }
         ensures refused { OnErr result (self.new ≡ self.old) }
     {
-        let hash = self.hasher.hash_one(text);
+        let hash = hash_of(&self.hasher, text);
         if let Some(shared) = self.texts.get(SoughtText { hash, text }) {
             return shared.text.clone();
         }
