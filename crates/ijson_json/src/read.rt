@@ -308,8 +308,8 @@ fn read_text<S: BuildHasher>(
 /// the first from the left is told.
 ///
 /// The time is linear in the text, but for the look-ups of keys and texts by their hashes, and it calls itself once a level,
-/// 127 times at most. Beside the value it takes memory for the items of the arrays that are open, and for each text that has an
-/// escape.
+/// 127 times at most. Beside the value it takes memory for the items and members of the arrays and objects that are open, and for
+/// each text that has an escape.
 ///
 /// ```
 /// let value = from_json(alloc, &mut cache, "{\"a\": [1.50, 1e2]}")?;
