@@ -84,8 +84,9 @@ impl From<AllocError> for CompactError {
 /// Each error says when it comes at `CompactError`. The whole line is made before its first byte is
 /// written.
 ///
-/// The input, its value and the line are in memory at once. The time is that of `from_json` and `to_json`, and of the calls of
-/// the devices: each read is offered at least one byte of room, and each write what is left of the line.
+/// The input and its value are in memory at once, and then the value and the line, which is made in the memory of the input as
+/// far as that goes. The time is that of `from_json` and `to_json`, and of the calls of the devices: each read is offered at
+/// least one byte of room, and each write what is left of the line.
 pub fn compact<R: Source, W: Sink, S: BuildHasher>(
     alloc: Global,
     input: &mut R,
