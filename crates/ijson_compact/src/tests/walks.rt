@@ -150,7 +150,7 @@ fn a_copy_of_an_object_has_its_length_as_capacity(rt: HostRuntime) -> Result<(),
         return Err(Fail::from(AllocError));
     };
     let copy = object.clone()?;
-    assert_eq!(rt; (object.capacity(), copy.capacity()), (4, 3));
+    assert_eq!(rt; (object.capacity(), copy.capacity()), (3, 3));
     assert_eq!(rt; copy.get("a").is_some(), true);
     assert_eq!(rt; to_json(alloc, &copy.into())?.as_str(), text);
     assert_eq!(rt; IObject::with_capacity(alloc, 10)?.clone()?.capacity(), 0);
