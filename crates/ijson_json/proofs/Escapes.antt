@@ -1,12 +1,14 @@
 -- Escapes at the front of a text: digits, four of them, one escape or a pair of two.
 use Rattle.std.proofs.Common.{◌≡◌, ℕ, ◌+◌, ◌*◌, ◌<◌, ◌≤◌, false, List, [], ◌∷◌, ◌++◌, length, get_or, Some, None, refl, sym, ap, subst, ◌∙◌, append_assoc, arith, inl, inr}
-use Rattle.std.specs.Prelude.{IsTrue, ◌⊎◌, ◌≢◌}
-use Rattle.std.specs.Char.{encode_utf8, digit_value, InScalarRange, OutOfScalarRange}
+use Rattle.std.specs.Prelude.{IsTrue, ◌⊎◌, ◌≢◌, nat_lt}
+use Rattle.std.specs.Char.{encode_utf8, InScalarRange, OutOfScalarRange}
 use Rattle.std.specs.Str.Pattern.{FindsCharPrefix, FindsTextPrefix, StripsPrefix}
+use Rattle.std.proofs.lemmas.Bool.{lt-ltb}
 use Rattle.std.proofs.lemmas.Bool.Decides.{nat_tests}
 use Rattle.std.proofs.lemmas.Str.{encode_ascii, char_from_byte}
 use Rattle.std.proofs.lemmas.Str.Pattern.{drop_at_char}
 use Rattle.ijson_json.specs.Strings.{is_unescaped, short_escape, hex_digit, Hex, is_high_surrogate, is_low_surrogate, Character, unescaped, short, unicode, pair}
+use Rattle.ijson_json.specs.private.Reading.{Past}
 use Rattle.ijson_json.specs.private.StringReading.{DigitAt, HexAt, CharacterAt, NoDigit, NoHex, NoCharacter, NoEscape, NoLow, LowAt}
 use Rattle.ijson_json.proofs.Bytes.{not_both, heads, tails}
 use Rattle.ijson_json.proofs.Strings.{hex_same}
@@ -30,26 +32,24 @@ first_is text rest more c b e f ascii =
     let first : get_or text 0 0 ≡ b = rw f refl in
     char_from_byte text rest c e (omega (arith, first, ascii)) (omega (arith, ap length f)) ∙ first
 
--- a hexadecimal digit is ASCII, and has its value
-hex_value : (a n : ℕ) → hex_digit a ≡ Some n → (a < 128) × (digit_value a < 16)
+none_some : (c : ℕ) → None ≡ Some c → ⊥
+none_some c h = cc
+
+-- a hexadecimal digit is ASCII
+hex_ascii : (a n : ℕ) → hex_digit a ≡ Some n → a < 128
 unfolding hex_digit
-hex_value a n h = (grind (arith, nat_tests), grind (arith, nat_tests))
+hex_ascii a n h = grind (arith, nat_tests)
 
-value_ascii : (c : ℕ) → digit_value c < 16 → c < 128
-value_ascii c h = grind (arith, nat_tests)
+pub no_digit : (text : List ℕ) → Past (λ b. nat_lt b 128) text → NoDigit text
+no_digit [] p n rest (a, h, e) = cc
+no_digit (b ∷ more) p n rest (a, h, e) =
+    let small : b < 128 = rw (heads _ _ _ _ e) (hex_ascii a n h) in
+    not_both (nat_lt b 128) (lt-ltb b 128 small) p
 
-value_hex : (c : ℕ) → digit_value c < 16 → hex_digit c ≡ Some (digit_value c)
-unfolding hex_digit
-value_hex c h = grind (arith, nat_tests)
-
-pub digit_found : (text rest : List ℕ) (c n : ℕ) → text ≡ encode_utf8 c ++ rest → digit_value c < 16 → n ≡ digit_value c → DigitAt text n rest
-digit_found text rest c n e small f = (c, value_hex c small ∙ ap Some (sym f), e ∙ ap (λ (l : List ℕ). l ++ rest) (encode_ascii c (value_ascii c small)))
-
-pub digit_none : (text rest : List ℕ) (c : ℕ) → text ≡ encode_utf8 c ++ rest → (digit_value c < 16 → ⊥) → NoDigit text
-digit_none text rest c e large n more (a, h, f) =
-    let value = hex_value a n h in
-    let same : c ≡ a = first_is text rest more c a e f value.0 in
-    large (rw same value.1)
+pub not_digit : (text rest : List ℕ) (b : ℕ) → text ≡ b ∷ rest → hex_digit b ≡ None → NoDigit text
+not_digit text rest b e none n more (a, h, f) =
+    let same : b ≡ a = heads _ _ _ _ (sym e ∙ f) in
+    none_some n (sym none ∙ ap hex_digit same ∙ h)
 
 -- a letter of a short escape is ASCII, and so is what it stands for
 short_ascii : (b m : ℕ) → short_escape b ≡ Some m → (b < 128) × (m < 128)
@@ -155,9 +155,6 @@ escape_letter letters m more (w, c, e) = go c e
     go (short {b} {c} g) e = (b, more, tails _ _ _ _ e, inl (c, g))
     go (unicode {h} {u} g i j) e = (117, h ++ more, tails _ _ _ _ e, inr refl)
     go (pair {h} {l} {u} {v} g i j k) e = (117, (h ++ 92 ∷ 117 ∷ l) ++ more, tails _ _ _ _ e, inr refl)
-
-none_some : (c : ℕ) → None ≡ Some c → ⊥
-none_some c h = cc
 
 pub same_text : (text other m rest : List ℕ) → text ≡ other → CharacterAt other m rest → CharacterAt text m rest
 same_text text other m rest e h = subst (λ (l : List ℕ). CharacterAt l m rest) (sym e) h

@@ -2,8 +2,10 @@
 
 ghost use Rattle.std.specs.Prelude.{◌≡◌, ◌∷◌, ◌<◌, IsTrue, IfSome, MatchOption};
 ghost use Rattle.std.specs.Char.{encode_utf8};
-ghost use Rattle.ijson_json.specs.Strings.{short_escape, is_high_surrogate, is_low_surrogate};
+ghost use Rattle.ijson_json.specs.Strings.{short_escape, hex_digit, is_high_surrogate, is_low_surrogate};
 ghost use Rattle.ijson_json.specs.private.StringReading.{DigitAt, NoDigit, HexAt, NoHex, CharacterAt, NoCharacter, NoEscape, LowAt, NoLow};
+
+use crate::front::split_ascii;
 
 /// Whether the code is the first of a surrogate pair.
 fn is_high_surrogate(unit: u32) -> bool
@@ -35,14 +37,28 @@ fn short_meaning(letter: char) -> Option<char>
     }
 }
 
+/// The value of a hexadecimal digit.
+#[tactic(auto, unfolding(crate::specs::Strings::hex_digit))]
+fn hex_digit(byte: u8) -> Option<u32>
+    ensures value { result ≡ hex_digit byte }
+    ensures small { IfSome result (λ digit. digit < 16) }
+{
+    match byte {
+        b'0'..=b'9' => Some(u32::from(byte - b'0')),
+        b'a'..=b'f' => Some(u32::from(byte - b'a' + 10)),
+        b'A'..=b'F' => Some(u32::from(byte - b'A' + 10)),
+        _ => None,
+    }
+}
+
 /// The hexadecimal digit at the front, and the text behind it.
 fn take_digit(text: &str) -> Option<(u32, &str)>
     ensures found { MatchOption result (NoDigit text.now) (λ x. DigitAt text.now x.0 x.1.now) }
     ensures small { IfSome result (λ x. x.0 < 16) }
 {
-    let mut letters = text.chars();
-    let digit = letters.next()?.to_digit(16)?;
-    Some((digit, letters.as_str()))
+    let (byte, rest) = split_ascii(text)?;
+    let digit = hex_digit(byte)?;
+    Some((digit, rest))
 }
 
 /// The number of the four hexadecimal digits at the front, and the text behind them.
