@@ -88,14 +88,6 @@ reached_stuck text s rest r q n t x h = let o = r.only t x h in go o.1.1 o.1.2
     go empty g = q x g
     go (one_more {written} {meant} {body} {text} d h) g = n meant (body ++ 34 ∷ x) (written, d, g ∙ append_assoc written body (34 ∷ x))
 
--- what stands behind what was reached is the rest of the content
-pub reached_content : (text s rest t behind : List ℕ) → Reached text s rest → ContentAt rest t behind → ContentAt text (s ++ t) behind
-reached_content text s rest t behind r (body, h, e) =
-    (r.written ++ body, body-append r.body h, r.is ∙ ap (λ (l : List ℕ). r.written ++ l) e ∙ sym (append_assoc r.written body (34 ∷ behind)))
-
-pub reached_none : (text s rest : List ℕ) → Reached text s rest → NoContent rest → NoContent text
-reached_none text s rest r n t x h = let o = r.only t x h in n o.0 x o.1
-
 pub reached_shorter : (text s rest : List ℕ) → Reached text s rest → length rest ≤ length text
 reached_shorter text s rest r = omega (arith, ap length r.is, length-append r.written rest)
 
@@ -117,8 +109,8 @@ no_quote text q s rest f = q _ (string_first text s rest f)
 pub no_content : (text inside : List ℕ) → text ≡ 34 ∷ inside → NoContent inside → (s rest : List ℕ) → Front (λ front. IsString s front) text rest → ⊥
 no_content text inside e n s rest f = n s rest (f.holds.0, f.holds.1, tails _ _ _ _ (sym e ∙ string_first text s rest f))
 
-pub no_string : (text inside s rest : List ℕ) → text ≡ 34 ∷ inside → Reached inside s rest → (fault : Fault) → ContentFault rest fault → StringFault text fault
-no_string text inside s rest e r (faults.Syntax left) h = (omega (arith, h.0, ap length e, reached_shorter inside s rest r), no_content text inside e (reached_none inside s rest r h.1))
-no_string text inside s rest e r (faults.TooDeep left) h = h
-no_string text inside s rest e r (faults.NumberRange left) h = h
-no_string text inside s rest e r faults.Memory h = h
+pub no_string : (text inside : List ℕ) → text ≡ 34 ∷ inside → (fault : Fault) → ContentFault inside fault → StringFault text fault
+no_string text inside e (faults.Syntax left) h = (omega (arith, h.0, ap length e), no_content text inside e h.1)
+no_string text inside e (faults.TooDeep left) h = h
+no_string text inside e (faults.NumberRange left) h = h
+no_string text inside e faults.Memory h = h

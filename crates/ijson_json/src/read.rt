@@ -33,6 +33,17 @@ const MAX_DEPTH: usize = 127;
 /// More items than these are not copied where they need not be.
 const MANY_ITEMS: usize = 64;
 
+/// What was read and is in no value yet.
+#[derive(Drop)]
+struct Scratch {
+    /// The items of the arrays that are open, those of an inner one above those of the outer.
+    values: Vec<IValue>,
+    /// The members of the objects that are open, in the same way.
+    members: Vec<(IString, IValue)>,
+    /// The content of a string that has an escape.
+    content: String,
+}
+
 /// Refuses a container at the front of the text inside as many as may be open.
 fn check_depth(text: &str, opened: usize) -> Result<(), Fault>
     requires { opened ≤ max_depth }
@@ -87,14 +98,12 @@ fn object_with_room(alloc: Global, room: usize) -> Result<IObject, Fault>
     IObject::with_capacity(alloc, room).map_err(|_| Fault::Memory)
 }
 
-/// The value at the front of the text, inside so many open containers. The items of arrays that are not read to their end
-/// lie on the stack.
+/// The value at the front of the text, inside so many open containers.
 #[cycle(read)]
 fn read_value<'a, S: BuildHasher>(
     alloc: Global,
     cache: &mut StringCache<S>,
-    stack: &mut Vec<IValue>,
-    members: &mut Vec<(IString, IValue)>,
+    scratch: &mut Scratch,
     text: &'a str,
     opened: usize,
 ) -> Result<(IValue, &'a str), Fault>
@@ -103,8 +112,8 @@ fn read_value<'a, S: BuildHasher>(
         (λ x. ReadAs opened text.now x.0.tree x.1.now)
         (λ fault. Explains opened text.now fault) }
     ensures cache { AddsOnlyRead text.now cache.old cache.new }
-    ensures stack { OnOk result (stack.new.items ≡ stack.old.items) }
-    ensures members { OnOk result (members.new.items ≡ members.old.items) }
+    ensures values { OnOk result (scratch.new.values.items ≡ scratch.old.values.items) }
+    ensures members { OnOk result (scratch.new.members.items ≡ scratch.old.members.items) }
     ensures shared { IfOk result (λ x. AreShared cache.new x.0.tree) }
 {
     let Some((first, inside)) = split_ascii(text) else {
@@ -113,16 +122,16 @@ fn read_value<'a, S: BuildHasher>(
     match first {
         b'[' => {
             check_depth(text, opened)?;
-            let (items, rest) = read_array(alloc, cache, stack, members, inside, opened)?;
+            let (items, rest) = read_array(alloc, cache, scratch, inside, opened)?;
             Ok((IValue::from(items), rest))
         }
         b'{' => {
             check_depth(text, opened)?;
-            let (object, rest) = read_object(alloc, cache, stack, members, inside, opened)?;
+            let (object, rest) = read_object(alloc, cache, scratch, inside, opened)?;
             Ok((IValue::from(object), rest))
         }
         b'"' => {
-            let (string, rest) = read_string(alloc, cache, text)?;
+            let (string, rest) = read_string(cache, &mut scratch.content, text)?;
             Ok((IValue::from(string), rest))
         }
         b'n' => {
@@ -144,14 +153,13 @@ fn read_value<'a, S: BuildHasher>(
     }
 }
 
-/// The items of an array, behind its opening bracket. They are gathered on the stack, above those that lie there, so that
+/// The items of an array, behind its opening bracket. They are gathered in `scratch`, above those that lie there, so that
 /// each array is made once, of the size that it has.
 #[cycle(read)]
 fn read_array<'a, S: BuildHasher>(
     alloc: Global,
     cache: &mut StringCache<S>,
-    stack: &mut Vec<IValue>,
-    members: &mut Vec<(IString, IValue)>,
+    scratch: &mut Scratch,
     inside: &'a str,
     opened: usize,
 ) -> Result<(IArray, &'a str), Fault>
@@ -160,21 +168,21 @@ fn read_array<'a, S: BuildHasher>(
         (λ x. ReadAs opened (91 ∷ inside.now) (array (item_trees x.0.items)) x.1.now)
         (λ fault. Explains opened (91 ∷ inside.now) fault) }
     ensures cache { AddsOnlyRead (91 ∷ inside.now) cache.old cache.new }
-    ensures stack { OnOk result (stack.new.items ≡ stack.old.items) }
-    ensures members { OnOk result (members.new.items ≡ members.old.items) }
+    ensures values { OnOk result (scratch.new.values.items ≡ scratch.old.values.items) }
+    ensures members { OnOk result (scratch.new.members.items ≡ scratch.old.members.items) }
     ensures shared { IfOk result (λ x. ItemsAreShared cache.new (item_trees x.0.items)) }
 {
     let mut rest = skip_space(inside);
     if let Some(behind) = strip_byte(rest, b']') {
         return Ok((IArray::new(alloc), behind));
     }
-    let base = stack.len();
+    let base = scratch.values.len();
     loop {
-        let (item, after) = read_value(alloc, cache, stack, members, rest, opened + 1)?;
-        stack.push(item)?;
+        let (item, after) = read_value(alloc, cache, scratch, rest, opened + 1)?;
+        scratch.values.push(item)?;
         let after = skip_space(after);
         if let Some(behind) = strip_byte(after, b']') {
-            let items = take_items(alloc, stack, base)?;
+            let items = take_items(alloc, &mut scratch.values, base)?;
             return Ok((items, behind));
         }
         let Some(more) = strip_byte(after, b',') else {
@@ -190,8 +198,7 @@ fn read_array<'a, S: BuildHasher>(
 fn read_object<'a, S: BuildHasher>(
     alloc: Global,
     cache: &mut StringCache<S>,
-    stack: &mut Vec<IValue>,
-    members: &mut Vec<(IString, IValue)>,
+    scratch: &mut Scratch,
     inside: &'a str,
     opened: usize,
 ) -> Result<(IObject, &'a str), Fault>
@@ -200,21 +207,21 @@ fn read_object<'a, S: BuildHasher>(
         (λ x. ReadAs opened (123 ∷ inside.now) (object (pair_trees x.0.pairs)) x.1.now)
         (λ fault. Explains opened (123 ∷ inside.now) fault) }
     ensures cache { AddsOnlyRead (123 ∷ inside.now) cache.old cache.new }
-    ensures stack { OnOk result (stack.new.items ≡ stack.old.items) }
-    ensures members { OnOk result (members.new.items ≡ members.old.items) }
+    ensures values { OnOk result (scratch.new.values.items ≡ scratch.old.values.items) }
+    ensures members { OnOk result (scratch.new.members.items ≡ scratch.old.members.items) }
     ensures shared { IfOk result (λ x. MembersAreShared cache.new (pair_trees x.0.pairs)) }
 {
     let mut rest = skip_space(inside);
     if let Some(behind) = strip_byte(rest, b'}') {
         return Ok((IObject::new(alloc), behind));
     }
-    let base = members.len();
+    let base = scratch.members.len();
     loop {
-        let (key, value, after) = read_member(alloc, cache, stack, members, rest, opened + 1)?;
-        members.push((key, value))?;
+        let (key, value, after) = read_member(alloc, cache, scratch, rest, opened + 1)?;
+        scratch.members.push((key, value))?;
         let after = skip_space(after);
         if let Some(behind) = strip_byte(after, b'}') {
-            let object = take_members(alloc, members, base)?;
+            let object = take_members(alloc, &mut scratch.members, base)?;
             return Ok((object, behind));
         }
         let Some(more) = strip_byte(after, b',') else {
@@ -229,8 +236,7 @@ fn read_object<'a, S: BuildHasher>(
 fn read_member<'a, S: BuildHasher>(
     alloc: Global,
     cache: &mut StringCache<S>,
-    stack: &mut Vec<IValue>,
-    members: &mut Vec<(IString, IValue)>,
+    scratch: &mut Scratch,
     text: &'a str,
     opened: usize,
 ) -> Result<(IString, IValue, &'a str), Fault>
@@ -239,17 +245,17 @@ fn read_member<'a, S: BuildHasher>(
         (λ x. MemberAs opened text.now x.0 x.1.tree x.2.now)
         (λ fault. ExplainsMember opened text.now fault) }
     ensures cache { AddsOnlyRead text.now cache.old cache.new }
-    ensures stack { OnOk result (stack.new.items ≡ stack.old.items) }
-    ensures members { OnOk result (members.new.items ≡ members.old.items) }
+    ensures values { OnOk result (scratch.new.values.items ≡ scratch.old.values.items) }
+    ensures members { OnOk result (scratch.new.members.items ≡ scratch.old.members.items) }
     ensures shared { IfOk result (λ x. IsShared cache.new x.0 × AreShared cache.new x.1.tree) }
 {
-    let (key, after) = read_string(alloc, cache, text)?;
+    let (key, after) = read_string(cache, &mut scratch.content, text)?;
     let after = skip_space(after);
     let Some(more) = strip_byte(after, b':') else {
         return Err(Fault::Syntax { left: after.len() });
     };
     let start = skip_space(more);
-    let (value, rest) = read_value(alloc, cache, stack, members, start, opened)?;
+    let (value, rest) = read_value(alloc, cache, scratch, start, opened)?;
     Ok((key, value, rest))
 }
 
@@ -282,9 +288,12 @@ fn read_text<S: BuildHasher>(
     ensures shared { IfOk result (λ value. AreShared cache.new value.tree) }
 {
     let start = skip_space(text);
-    let mut stack = Vec::new(alloc);
-    let mut members = Vec::new(alloc);
-    match read_value(alloc, cache, &mut stack, &mut members, start, 0) {
+    let mut scratch = Scratch {
+        values: Vec::new(alloc),
+        members: Vec::new(alloc),
+        content: String::new(alloc),
+    };
+    match read_value(alloc, cache, &mut scratch, start, 0) {
         Ok((value, rest)) => {
             let rest = skip_space(rest);
             if rest.is_empty() {
@@ -309,7 +318,7 @@ fn read_text<S: BuildHasher>(
 ///
 /// The time is linear in the text, but for the look-ups of keys and texts by their hashes, and it calls itself once a level,
 /// 127 times at most. Beside the value it takes memory for the items and members of the arrays and objects that are open, and for
-/// each text that has an escape.
+/// the content of the longest string that has an escape.
 ///
 /// ```
 /// let value = from_json(alloc, &mut cache, "{\"a\": [1.50, 1e2]}")?;

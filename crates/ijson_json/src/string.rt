@@ -12,11 +12,7 @@ use crate::escape::take_escape;
 use crate::fault::Fault;
 use crate::run::split_run;
 use ijson_string::{IString, StringCache};
-use std::alloc::Global;
 use std::hash::BuildHasher;
-
-/// Room for so many bytes behind the first escape is made along with that for those before it.
-const ROOM: usize = 64;
 
 /// Appends what is left of a string's content, and gives the text behind its closing quote.
 fn push_content<'a>(content: &mut String, text: &'a str) -> Result<&'a str, Fault>
@@ -39,11 +35,11 @@ fn push_content<'a>(content: &mut String, text: &'a str) -> Result<&'a str, Faul
     }
 }
 
-/// The string at the front, interned in `cache`, and the text behind it. One without an escape needs
-/// no buffer.
+/// The string at the front, interned in `cache`, and the text behind it. The content of one that has an escape is put
+/// together in `content`, in the place of what is there.
 pub(crate) fn read_string<'a, S: BuildHasher>(
-    alloc: Global,
     cache: &mut StringCache<S>,
+    content: &mut String,
     text: &'a str,
 ) -> Result<(IString, &'a str), Fault>
     ensures read { MatchResult result
@@ -59,8 +55,7 @@ pub(crate) fn read_string<'a, S: BuildHasher>(
     if let Some(rest) = after.strip_prefix('"') {
         return Ok((IString::intern(cache, run)?, rest));
     }
-    let mut content = String::with_capacity(alloc, run.len() + ROOM)?;
-    content.push_str(run)?;
-    let rest = push_content(&mut content, after)?;
+    content.clear();
+    let rest = push_content(content, inside)?;
     Ok((IString::intern(cache, content.as_str())?, rest))
 }

@@ -80,7 +80,7 @@ pub read_array-loop-item-init : goal.read_array-loop-item-init
 read_array-loop-item-init g t c =
     let s = c.skip_space-rest.ensures in (
       [],
-      sym (append-nil c.args.stack.now.items),
+      sym (append-nil c.args.scratch.now.values.items),
       (
         [],
         reached_start Tree items_shape arrays c.args.opened c.args.inside.now s.space c.skip_space-rest.result.now (omega arith) s.is s.passed s.past c.in_default.ensures,
@@ -103,7 +103,7 @@ read_array-returns-in-Some-strip_byte-clause-read g t c =
     let r = c.in_ok-item.ensures.read in (
       array (items_of (i.0 ++ r.0 ∷ [])),
       reached_end Tree items_shape arrays c.args.opened (91 ∷ c.args.inside.now) c.loop-item.rest.now c.in_ok-item.after.now s.space c.in-Some-strip_byte.behind.now i.0 r.0 i.1 r.1 (s.is ∙ ap (λ (l : List ℕ). s.space ++ l) c.in-Some-strip_byte.ensures) s.passed,
-      ap array (ap item_trees (taken_above c.args.stack.now.items (c.loop-item.invariant.0 ++ c.in_ok-item.item ∷ []) c.push.new.self.items c.in_ok-items.items.items c.len-base.result (c.len-base.ensures ∙ c.args.stack.now.ok.0) (pushed_above c.args.stack.now.items c.loop-item.invariant.0 c.loop-item.stack.items c.read_value.new.stack.items c.push.new.self.items c.in_ok-item.item c.loop-item.invariant.1 c.in_ok-item.ensures.stack c.in_ok-push.ensures.items) c.in_ok-items.ensures.items) ∙ item_pushed c.loop-item.invariant.0 _ c.in_ok-item.item i.0 r.0 refl r.2 i.2),
+      ap array (ap item_trees (taken_above c.args.scratch.now.values.items (c.loop-item.invariant.0 ++ c.in_ok-item.item ∷ []) c.push.new.self.items c.in_ok-items.items.items c.len-base.result (c.len-base.ensures ∙ c.args.scratch.now.values.ok.0) (pushed_above c.args.scratch.now.values.items c.loop-item.invariant.0 c.loop-item.scratch.values.items c.read_value.new.scratch.values.items c.push.new.self.items c.in_ok-item.item c.loop-item.invariant.1 c.in_ok-item.ensures.values c.in_ok-push.ensures.items) c.in_ok-items.ensures.items) ∙ item_pushed c.loop-item.invariant.0 _ c.in_ok-item.item i.0 r.0 refl r.2 i.2),
     )
 
 pub read_array-returns-in_default-strip_byte-2-clause-read : goal.read_array-returns-in_default-strip_byte-2-clause-read
@@ -124,7 +124,7 @@ read_array-loop-item-preserved g t c =
     let i = c.loop-item.invariant.2 in
     let r = c.in_ok-item.ensures.read in (
       c.loop-item.invariant.0 ++ c.in_ok-item.item ∷ [],
-      pushed_above c.args.stack.now.items c.loop-item.invariant.0 c.loop-item.stack.items c.read_value.new.stack.items c.push.new.self.items c.in_ok-item.item c.loop-item.invariant.1 c.in_ok-item.ensures.stack c.in_ok-push.ensures.items,
+      pushed_above c.args.scratch.now.values.items c.loop-item.invariant.0 c.loop-item.scratch.values.items c.read_value.new.scratch.values.items c.push.new.self.items c.in_ok-item.item c.loop-item.invariant.1 c.in_ok-item.ensures.values c.in_ok-push.ensures.items,
       (
         i.0 ++ r.0 ∷ [],
         reached_more Tree items_shape arrays c.args.opened (91 ∷ c.args.inside.now) c.loop-item.rest.now c.in_ok-item.after.now s.space c.in-Some-strip_byte-2.more.now s'.space c.skip_space-rest-in-loop-item.result.now i.0 r.0 i.1 r.1 (s.is ∙ ap (λ (l : List ℕ). s.space ++ l) c.in-Some-strip_byte-2.ensures) s.passed s'.is s'.passed s'.past,
@@ -152,7 +152,7 @@ pub read_object-loop-key-init : goal.read_object-loop-key-init
 read_object-loop-key-init g t c =
     let s = c.skip_space-rest.ensures in (
       [],
-      sym (append-nil c.args.members.now.items),
+      sym (append-nil c.args.scratch.now.members.items),
       (
         [],
         reached_start (List ℕ × Tree) members_shape objects c.args.opened c.args.inside.now s.space c.skip_space-rest.result.now (omega arith) s.is s.passed s.past c.in_default.ensures,
@@ -176,7 +176,7 @@ read_object-returns-in-Some-strip_byte-clause-read g t c =
     let k = c.in_ok-key.key in (
       object (members_of (i.0 ++ (k, r.0) ∷ [])),
       reached_end (List ℕ × Tree) members_shape objects c.args.opened (123 ∷ c.args.inside.now) c.loop-key.rest.now c.in_ok-key.after.now s.space c.in-Some-strip_byte.behind.now i.0 (k, r.0) i.1 r.1 (s.is ∙ ap (λ (l : List ℕ). s.space ++ l) c.in-Some-strip_byte.ensures) s.passed,
-      ap (λ ps. object (members_of ps)) (member_put (put_each [] c.loop-key.invariant.0) c.in_ok-object.object.pairs k c.in_ok-key.value i.0 r.0 (c.in_ok-object.ensures.members ∙ ap (put_each []) (taken_above c.args.members.now.items (c.loop-key.invariant.0 ++ (c.in_ok-key.key, c.in_ok-key.value) ∷ []) c.push.new.self.items _ c.len-base.result (c.len-base.ensures ∙ c.args.members.now.ok.0) (pushed_above c.args.members.now.items c.loop-key.invariant.0 c.loop-key.members.items c.read_member.new.members.items c.push.new.self.items (c.in_ok-key.key, c.in_ok-key.value) c.loop-key.invariant.1 c.in_ok-key.ensures.members c.in_ok-push.ensures.items) refl) ∙ put_last [] c.loop-key.invariant.0 (c.in_ok-key.key, c.in_ok-key.value)) r.2 i.2),
+      ap (λ ps. object (members_of ps)) (member_put (put_each [] c.loop-key.invariant.0) c.in_ok-object.object.pairs k c.in_ok-key.value i.0 r.0 (c.in_ok-object.ensures.members ∙ ap (put_each []) (taken_above c.args.scratch.now.members.items (c.loop-key.invariant.0 ++ (c.in_ok-key.key, c.in_ok-key.value) ∷ []) c.push.new.self.items _ c.len-base.result (c.len-base.ensures ∙ c.args.scratch.now.members.ok.0) (pushed_above c.args.scratch.now.members.items c.loop-key.invariant.0 c.loop-key.scratch.members.items c.read_member.new.scratch.members.items c.push.new.self.items (c.in_ok-key.key, c.in_ok-key.value) c.loop-key.invariant.1 c.in_ok-key.ensures.members c.in_ok-push.ensures.items) refl) ∙ put_last [] c.loop-key.invariant.0 (c.in_ok-key.key, c.in_ok-key.value)) r.2 i.2),
     )
 
 pub read_object-returns-in_default-strip_byte-2-clause-read : goal.read_object-returns-in_default-strip_byte-2-clause-read
@@ -198,7 +198,7 @@ read_object-loop-key-preserved g t c =
     let r = c.in_ok-key.ensures.read in
     let k = c.in_ok-key.key in (
       c.loop-key.invariant.0 ++ (k, c.in_ok-key.value) ∷ [],
-      pushed_above c.args.members.now.items c.loop-key.invariant.0 c.loop-key.members.items c.read_member.new.members.items c.push.new.self.items (c.in_ok-key.key, c.in_ok-key.value) c.loop-key.invariant.1 c.in_ok-key.ensures.members c.in_ok-push.ensures.items,
+      pushed_above c.args.scratch.now.members.items c.loop-key.invariant.0 c.loop-key.scratch.members.items c.read_member.new.scratch.members.items c.push.new.self.items (c.in_ok-key.key, c.in_ok-key.value) c.loop-key.invariant.1 c.in_ok-key.ensures.members c.in_ok-push.ensures.items,
       (
         i.0 ++ (k, r.0) ∷ [],
         reached_more (List ℕ × Tree) members_shape objects c.args.opened (123 ∷ c.args.inside.now) c.loop-key.rest.now c.in_ok-key.after.now s.space c.in-Some-strip_byte-2.more.now s'.space c.skip_space-rest-in-loop-key.result.now i.0 (k, r.0) i.1 r.1 (s.is ∙ ap (λ (l : List ℕ). s.space ++ l) c.in-Some-strip_byte-2.ensures) s.passed s'.is s'.passed s'.past,
@@ -208,7 +208,7 @@ read_object-loop-key-preserved g t c =
         adds_more (123 ∷ c.args.inside.now) c.loop-key.invariant.2.1.head c.loop-key.rest.now c.args.cache.now c.loop-key.cache c.read_member.new.cache c.loop-key.invariant.2.1.is c.loop-key.invariant.3.0 c.read_member.ensures.cache,
         member_shared c.loop-key.rest.now c.loop-key.cache c.read_member.new.cache (put_each [] c.loop-key.invariant.0) _ c.in_ok-key.key c.in_ok-key.value (put_last [] c.loop-key.invariant.0 (k, c.in_ok-key.value)) c.read_member.ensures.cache c.loop-key.invariant.3.1 c.in_ok-key.ensures.shared.0 c.in_ok-key.ensures.shared.1,
       ),
-      c.in_ok-key.ensures.stack ∙ c.loop-key.invariant.4,
+      c.in_ok-key.ensures.values ∙ c.loop-key.invariant.4,
       c.skip_space-rest-in-loop-key.utf8,
     )
 
@@ -274,7 +274,7 @@ read_array-returns-in_default-strip_byte-2-clause-cache g t c =
 pub read_array-returns-in-Some-strip_byte-clause-shared : goal.read_array-returns-in-Some-strip_byte-clause-shared
 read_array-returns-in-Some-strip_byte-clause-shared g t c =
     let i = c.loop-item.invariant in
-    item_shared c.loop-item.rest.now c.loop-item.cache c.read_value.new.cache c.loop-item.invariant.0 _ c.in_ok-item.item (taken_above c.args.stack.now.items (c.loop-item.invariant.0 ++ c.in_ok-item.item ∷ []) c.push.new.self.items c.in_ok-items.items.items c.len-base.result (c.len-base.ensures ∙ c.args.stack.now.ok.0) (pushed_above c.args.stack.now.items c.loop-item.invariant.0 c.loop-item.stack.items c.read_value.new.stack.items c.push.new.self.items c.in_ok-item.item c.loop-item.invariant.1 c.in_ok-item.ensures.stack c.in_ok-push.ensures.items) c.in_ok-items.ensures.items) c.read_value.ensures.cache i.3.1 c.in_ok-item.ensures.shared
+    item_shared c.loop-item.rest.now c.loop-item.cache c.read_value.new.cache c.loop-item.invariant.0 _ c.in_ok-item.item (taken_above c.args.scratch.now.values.items (c.loop-item.invariant.0 ++ c.in_ok-item.item ∷ []) c.push.new.self.items c.in_ok-items.items.items c.len-base.result (c.len-base.ensures ∙ c.args.scratch.now.values.ok.0) (pushed_above c.args.scratch.now.values.items c.loop-item.invariant.0 c.loop-item.scratch.values.items c.read_value.new.scratch.values.items c.push.new.self.items c.in_ok-item.item c.loop-item.invariant.1 c.in_ok-item.ensures.values c.in_ok-push.ensures.items) c.in_ok-items.ensures.items) c.read_value.ensures.cache i.3.1 c.in_ok-item.ensures.shared
 
 pub read_object-returns-in_err-key-clause-cache : goal.read_object-returns-in_err-key-clause-cache
 read_object-returns-in_err-key-clause-cache g t c =
@@ -304,7 +304,7 @@ read_object-returns-in_default-strip_byte-2-clause-cache g t c =
 pub read_object-returns-in-Some-strip_byte-clause-shared : goal.read_object-returns-in-Some-strip_byte-clause-shared
 read_object-returns-in-Some-strip_byte-clause-shared g t c =
     let i = c.loop-key.invariant in
-    member_shared c.loop-key.rest.now c.loop-key.cache c.read_member.new.cache (put_each [] i.0) c.in_ok-object.object.pairs c.in_ok-key.key c.in_ok-key.value (c.in_ok-object.ensures.members ∙ ap (put_each []) (taken_above c.args.members.now.items (c.loop-key.invariant.0 ++ (c.in_ok-key.key, c.in_ok-key.value) ∷ []) c.push.new.self.items _ c.len-base.result (c.len-base.ensures ∙ c.args.members.now.ok.0) (pushed_above c.args.members.now.items c.loop-key.invariant.0 c.loop-key.members.items c.read_member.new.members.items c.push.new.self.items (c.in_ok-key.key, c.in_ok-key.value) c.loop-key.invariant.1 c.in_ok-key.ensures.members c.in_ok-push.ensures.items) refl) ∙ put_last [] c.loop-key.invariant.0 (c.in_ok-key.key, c.in_ok-key.value)) c.read_member.ensures.cache i.3.1 c.in_ok-key.ensures.shared.0 c.in_ok-key.ensures.shared.1
+    member_shared c.loop-key.rest.now c.loop-key.cache c.read_member.new.cache (put_each [] i.0) c.in_ok-object.object.pairs c.in_ok-key.key c.in_ok-key.value (c.in_ok-object.ensures.members ∙ ap (put_each []) (taken_above c.args.scratch.now.members.items (c.loop-key.invariant.0 ++ (c.in_ok-key.key, c.in_ok-key.value) ∷ []) c.push.new.self.items _ c.len-base.result (c.len-base.ensures ∙ c.args.scratch.now.members.ok.0) (pushed_above c.args.scratch.now.members.items c.loop-key.invariant.0 c.loop-key.scratch.members.items c.read_member.new.scratch.members.items c.push.new.self.items (c.in_ok-key.key, c.in_ok-key.value) c.loop-key.invariant.1 c.in_ok-key.ensures.members c.in_ok-push.ensures.items) refl) ∙ put_last [] c.loop-key.invariant.0 (c.in_ok-key.key, c.in_ok-key.value)) c.read_member.ensures.cache i.3.1 c.in_ok-key.ensures.shared.0 c.in_ok-key.ensures.shared.1
 
 pub read_member-returns-in_default-clause-cache : goal.read_member-returns-in_default-clause-cache
 read_member-returns-in_default-clause-cache g t c =
@@ -326,12 +326,12 @@ pub read_member-returns-clause-shared : goal.read_member-returns-clause-shared
 read_member-returns-clause-shared g t c =
     (shared_more c.skip_space-start.result.now c.read_string.new.cache c.read_value.new.cache c.in_ok-key.key c.read_value.ensures.cache (string_shared c.in_ok-key.key c.args.cache.now c.read_string.new.cache c.in_ok-key.ensures.cache), c.in_ok-value.ensures.shared)
 
--- ---- the stack
+-- ---- the scratch
 
-pub read_array-returns-in-Some-strip_byte-clause-stack : goal.read_array-returns-in-Some-strip_byte-clause-stack
-read_array-returns-in-Some-strip_byte-clause-stack g t c =
-    left_below c.args.stack.now.items (c.loop-item.invariant.0 ++ c.in_ok-item.item ∷ []) c.push.new.self.items _ c.len-base.result (c.len-base.ensures ∙ c.args.stack.now.ok.0) (pushed_above c.args.stack.now.items c.loop-item.invariant.0 c.loop-item.stack.items c.read_value.new.stack.items c.push.new.self.items c.in_ok-item.item c.loop-item.invariant.1 c.in_ok-item.ensures.stack c.in_ok-push.ensures.items) c.in_ok-items.ensures.stack
+pub read_array-returns-in-Some-strip_byte-clause-values : goal.read_array-returns-in-Some-strip_byte-clause-values
+read_array-returns-in-Some-strip_byte-clause-values g t c =
+    left_below c.args.scratch.now.values.items (c.loop-item.invariant.0 ++ c.in_ok-item.item ∷ []) c.push.new.self.items _ c.len-base.result (c.len-base.ensures ∙ c.args.scratch.now.values.ok.0) (pushed_above c.args.scratch.now.values.items c.loop-item.invariant.0 c.loop-item.scratch.values.items c.read_value.new.scratch.values.items c.push.new.self.items c.in_ok-item.item c.loop-item.invariant.1 c.in_ok-item.ensures.values c.in_ok-push.ensures.items) c.in_ok-items.ensures.stack
 
 pub read_object-returns-in-Some-strip_byte-clause-members : goal.read_object-returns-in-Some-strip_byte-clause-members
 read_object-returns-in-Some-strip_byte-clause-members g t c =
-    left_below c.args.members.now.items (c.loop-key.invariant.0 ++ (c.in_ok-key.key, c.in_ok-key.value) ∷ []) c.push.new.self.items _ c.len-base.result (c.len-base.ensures ∙ c.args.members.now.ok.0) (pushed_above c.args.members.now.items c.loop-key.invariant.0 c.loop-key.members.items c.read_member.new.members.items c.push.new.self.items (c.in_ok-key.key, c.in_ok-key.value) c.loop-key.invariant.1 c.in_ok-key.ensures.members c.in_ok-push.ensures.items) c.in_ok-object.ensures.stack
+    left_below c.args.scratch.now.members.items (c.loop-key.invariant.0 ++ (c.in_ok-key.key, c.in_ok-key.value) ∷ []) c.push.new.self.items _ c.len-base.result (c.len-base.ensures ∙ c.args.scratch.now.members.ok.0) (pushed_above c.args.scratch.now.members.items c.loop-key.invariant.0 c.loop-key.scratch.members.items c.read_member.new.scratch.members.items c.push.new.self.items (c.in_ok-key.key, c.in_ok-key.value) c.loop-key.invariant.1 c.in_ok-key.ensures.members c.in_ok-push.ensures.items) c.in_ok-object.ensures.stack

@@ -26,26 +26,26 @@ decreases-read_member g l = 3 * (max_depth - l.opened) + 2
 abbrev pub decreases-read_value : goal.decreases-read_value
 decreases-read_value g l = 3 * (max_depth - l.opened) + 1
 
--- so many items were read, they lie on the stack above those that lay there, and another begins at the rest
+-- so many items were read, they lie in the scratch above those that lay there, and another begins at the rest
 abbrev pub invariant-read_array-loop-item : goal.invariant-read_array-loop-item
 invariant-read_array-loop-item g l =
-    (items : List WellFormed) × (l.stack.items ≡ l.fn.stack.items ++ items)
+    (items : List WellFormed) × (l.scratch.values.items ≡ l.fn.scratch.values.items ++ items)
     × ((written : List Tree) × Reached Tree items_shape arrays l.opened (91 ∷ l.inside) written l.rest × (item_trees items ≡ settled_items (items_of written)))
     × (AddsOnlyRead (91 ∷ l.inside) l.fn.cache l.cache × ItemsAreShared l.cache (item_trees items))
     × shadow (Utf8 l.rest)
-    × (l.members.items ≡ l.fn.members.items)
+    × (l.scratch.members.items ≡ l.fn.scratch.members.items)
 
 abbrev pub decreases-read_array-loop-item : goal.decreases-read_array-loop-item
 decreases-read_array-loop-item g l = length l.rest
 
--- so many members were read, they lie on the stack above those that lay there, and another begins at the rest
+-- so many members were read, they lie in the scratch above those that lay there, and another begins at the rest
 abbrev pub invariant-read_object-loop-key : goal.invariant-read_object-loop-key
 invariant-read_object-loop-key g l =
-    (gathered : List (List ℕ × WellFormed)) × (l.members.items ≡ l.fn.members.items ++ gathered)
+    (gathered : List (List ℕ × WellFormed)) × (l.scratch.members.items ≡ l.fn.scratch.members.items ++ gathered)
     × ((written : List (List ℕ × Tree)) × Reached (List ℕ × Tree) members_shape objects l.opened (123 ∷ l.inside) written l.rest
     × (pair_list (put_each [] gathered) ≡ put_all [] (settled_pairs (members_of written))))
     × (AddsOnlyRead (123 ∷ l.inside) l.fn.cache l.cache × MembersAreShared l.cache (pair_trees (put_each [] gathered)))
-    × (l.stack.items ≡ l.fn.stack.items)
+    × (l.scratch.values.items ≡ l.fn.scratch.values.items)
     × shadow (Utf8 l.rest)
 
 abbrev pub decreases-read_object-loop-key : goal.decreases-read_object-loop-key
