@@ -1,6 +1,7 @@
 mod Cases
 pub mod Distinct
 pub mod Keys
+pub mod Puts
 mod Runs
 pub mod Writing
 mod Folding
@@ -23,3 +24,4 @@ mod SwapRemove
 mod Indexes
 mod Tables
 mod Looking
+mod FirstPairs

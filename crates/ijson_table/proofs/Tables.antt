@@ -45,31 +45,31 @@ module _ {V : Type 0} (hash : List ℕ → ℕ) where
       ∙ ap (λ k. take k (set (hashes pairs) i (get_or (hashes pairs) k 0))) (sym size))))
 
   -- the places are a table of the keys' hashes
-  pub table_of : (pairs : List (List ℕ × V)) (capacity : ℕ) (places : Index) → IsPlaced hash pairs capacity places → IsTable places.hashes places.slots → IsTable (hashes pairs) places.slots
-  table_of pairs capacity places placed table = subst (λ hs. IsTable hs places.slots) placed.hashes table
+  pub table_of : (pairs : List (List ℕ × V)) (places : Index) → places.hashes ≡ hashes pairs → IsTable places.hashes places.slots → IsTable (hashes pairs) places.slots
+  table_of pairs places stored table = subst (λ hs. IsTable hs places.slots) stored table
 
   -- what ended a probe by the stored hashes
   abbrev EndsBy : List ℕ → List (List ℕ × V) → ℕ → List (Option ℕ) → List ℕ → ℕ → Probed → Type 0
   EndsBy hs ps h slots key looks end = Ends slots (displacement hs slots) (h % length slots) (is_hashed_key hs (keys_of ps) h key) looks end
 
-  ends_for : (pairs lent : List (List ℕ × V)) (capacity : ℕ) (places : Index) (h : ℕ) (key : List ℕ) (looks : ℕ) (end : Probed) → IsPlaced hash pairs capacity places → lent ≡ pairs → h ≡ hash key
+  ends_for : (pairs lent : List (List ℕ × V)) (places : Index) (h : ℕ) (key : List ℕ) (looks : ℕ) (end : Probed) → places.hashes ≡ hashes pairs → lent ≡ pairs → h ≡ hash key
       → EndsBy places.hashes lent h places.slots key looks end → EndsBy (hashes pairs) pairs (hash key) places.slots key looks end
-  ends_for pairs lent capacity places h key looks end placed is hashed ends =
+  ends_for pairs lent places h key looks end stored is hashed ends =
       subst (λ x. EndsBy (hashes pairs) pairs x places.slots key looks end) hashed
       (subst (λ ps. EndsBy (hashes pairs) ps h places.slots key looks end) is
-      (subst (λ hs. EndsBy hs lent h places.slots key looks end) placed.hashes ends))
+      (subst (λ hs. EndsBy hs lent h places.slots key looks end) stored ends))
 
-  pub find_ends : (pairs lent : List (List ℕ × V)) (capacity : ℕ) (places : Index) (h : ℕ) (key : List ℕ) (looks : ℕ) (end : Probed) → IsPlaced hash pairs capacity places → lent ≡ pairs → h ≡ hash key
+  pub find_ends : (pairs lent : List (List ℕ × V)) (places : Index) (h : ℕ) (key : List ℕ) (looks : ℕ) (end : Probed) → places.hashes ≡ hashes pairs → lent ≡ pairs → h ≡ hash key
       → IsDistinct (keys_of pairs) → IsTable places.hashes places.slots → 0 < length places.slots → EndsBy places.hashes lent h places.slots key looks end → LookUpEnds (hashes pairs) (keys_of pairs) places.slots (hash key) key end
-  find_ends pairs lent capacity places h key looks end placed is hashed distinct table some ends =
-      look_up_ends hash (keys_of pairs) places.slots (table_of pairs capacity places placed table) key (is_hashed_key (hashes pairs) (keys_of pairs) (hash key) key)
-      (λ i li. is_hashed_key-true (hashes pairs) (keys_of pairs) (hash key) key i) (is_hashed_key-false hash (keys_of pairs) key) distinct some end looks (ends_for pairs lent capacity places h key looks end placed is hashed ends)
+  find_ends pairs lent places h key looks end stored is hashed distinct table some ends =
+      look_up_ends hash (keys_of pairs) places.slots (table_of pairs places stored table) key (is_hashed_key (hashes pairs) (keys_of pairs) (hash key) key)
+      (λ i li. is_hashed_key-true (hashes pairs) (keys_of pairs) (hash key) key i) (is_hashed_key-false hash (keys_of pairs) key) distinct some end looks (ends_for pairs lent places h key looks end stored is hashed ends)
 
   pub find_bounded : (pairs lent : List (List ℕ × V)) (capacity : ℕ) (places : Index) (h : ℕ) (key : List ℕ) (looks : ℕ) (end : Probed) → IsPlaced hash pairs capacity places → lent ≡ pairs → h ≡ hash key
       → IsTable places.hashes places.slots → EndsBy places.hashes lent h places.slots key looks end → IsBounded hash (keys_of pairs) places.slots capacity key looks
   find_bounded pairs lent capacity places h key looks end placed is hashed table ends =
-      bounded hash (keys_of pairs) places.slots (table_of pairs capacity places placed table) key (is_hashed_key (hashes pairs) (keys_of pairs) (hash key) key)
-      (λ i li. is_hashed_key-true (hashes pairs) (keys_of pairs) (hash key) key i) (is_hashed_key-false hash (keys_of pairs) key) capacity placed.size end looks (ends_for pairs lent capacity places h key looks end placed is hashed ends)
+      bounded hash (keys_of pairs) places.slots (table_of pairs places placed.hashes table) key (is_hashed_key (hashes pairs) (keys_of pairs) (hash key) key)
+      (λ i li. is_hashed_key-true (hashes pairs) (keys_of pairs) (hash key) key i) (is_hashed_key-false hash (keys_of pairs) key) capacity placed.size end looks (ends_for pairs lent places h key looks end placed.hashes is hashed ends)
 
   -- in no places there is no key
   pub nowhere : (pairs : List (List ℕ × V)) (slots : List (Option ℕ)) (key : List ℕ) → IsTable (hashes pairs) slots → length slots ≡ 0 → LookUpEnds (hashes pairs) (keys_of pairs) slots (hash key) key Full

@@ -1,4 +1,5 @@
 pub mod Closing
+pub mod FirstPlaced
 pub mod Holds
 pub mod Insertion
 pub mod IsPlaced

@@ -2,7 +2,7 @@
 
 ghost use Rattle.std.specs.Prelude.{◌≡◌, ◌≤◌, ◌-◌, ◌+◌, ◌<◌, ◌^◌, ◌↔◌, [], length, Ok, Err, IfOk, IsOk, OnErr, refl};
 ghost use Rattle.std.specs.Option.{option_copied};
-ghost use Rattle.ijson_table.specs.Store.{keys_of, lookup};
+ghost use Rattle.ijson_table.specs.Store.{keys_of, lookup, put_each};
 ghost use Rattle.ijson_table.specs.Growth.{capacity_limit};
 ghost use Rattle.ijson_table.specs.Inserts.{Inserts};
 ghost use Rattle.ijson_table.specs.laws.Placed.{placed_with_value};
@@ -62,6 +62,24 @@ impl<V: Drop> FixedTable<V> {
         ensures refused { OnErr result (0 < length pairs.items) }
     {
         let table = self.table.with_same_keys(alloc, pairs)?;
+        Ok(FixedTable { table })
+    }
+
+    /// A store of these pairs as if they were put one after the other: a key that comes again keeps its place, and has the value
+    /// that it came with last. The list becomes that of the store: its length is the capacity, and room beyond that is given back.
+    /// From the first key on that comes again, the pairs are taken off and put one by one; those before are not moved. It is refused
+    /// as too large where the length passes 2^56; the pairs are then dropped, as where memory is refused. No pairs take no memory.
+    /// Each key is hashed once.
+    pub fn from_pairs(
+        alloc: Global,
+        pairs: Vec<(IString, V)>,
+    ) -> Result<FixedTable<V>, ReserveError>
+        ensures pairs { IfOk result (λ t. t.store.pairs ≡ put_each [] pairs.items) }
+        ensures capacity { IfOk result (λ t. t.store.capacity ≡ length pairs.items) }
+        ensures too_large { (result ≡ Err ReserveError.TooLarge) ↔ (capacity_limit < length pairs.items) }
+        ensures none { length pairs.items ≡ 0 → IsOk result }
+    {
+        let table = Table::from_pairs(alloc, pairs)?;
         Ok(FixedTable { table })
     }
 

@@ -1,6 +1,6 @@
 //! How a store grows and shrinks.
 
-ghost use Rattle.std.specs.Prelude.{◌≡◌, ◌+◌, ◌<◌, ◌≤◌, [], length, vec_capacity, Ok, Err, IfOk, OnErr, MatchResult};
+ghost use Rattle.std.specs.Prelude.{◌≡◌, ◌+◌, ◌<◌, ◌≤◌, [], length, take, drop, vec_capacity, Ok, Err, IfOk, OnOk, OnErr, MatchResult};
 ghost use Rattle.ijson_table.specs.Growth.{wanted, capacity_limit};
 
 use crate::store::ReserveError;
@@ -63,4 +63,19 @@ pub fn fit<T: Drop>(alloc: Global, list: &mut Vec<T>) -> Result<(), AllocError>
     moved.unwrap();
     *list = fitted;
     Ok(())
+}
+
+/// Takes off what stands from a position on. Nothing takes no memory. The room of the list stays. Where memory is refused, nothing
+/// changes.
+pub fn split_rest<T>(alloc: Global, list: &mut Vec<T>, at: usize) -> Result<Vec<T>, AllocError>
+    requires { at ≤ length list.old.items }
+    ensures rest { IfOk result (λ rest. rest.items ≡ drop at list.old.items) }
+    ensures kept { OnOk result (list.new.items ≡ take at list.old.items) }
+    ensures room { vec_capacity list.new ≡ vec_capacity list.old }
+    ensures refused { OnErr result (at < length list.old.items) }
+{
+    if at == list.len() {
+        return Ok(Vec::new(alloc));
+    }
+    list.split_off(at)
 }

@@ -11,6 +11,8 @@ ghost use Rattle.ijson_table.specs.laws.Placed.{placed_with_value};
 ghost use Rattle.ijson_table.specs.private.Lookup.{LookUpEnds};
 ghost use Rattle.std.specs.Option.{option_copied};
 
+mod from_list;
+
 use crate::growth::{fit, grown_capacity, limited, list_with_room};
 use crate::hash::KeyHash;
 use crate::lookup::{Lookup, has_key};

@@ -19,13 +19,13 @@ probe-requires-clause-fits g c = λ m lm passed.
 pub returns-then-len-eq0-clause-table : goal.returns-then-len-eq0-clause-table
 returns-then-len-eq0-clause-table g c =
     subst (λ (t : Placed g.row.V.Denot). IsTable (map g.H.KeyHash.hash_of (keys_of t.store.pairs)) t.places) c.self.view_is
-    (table_of g.H.KeyHash.hash_of c.self.inside.pairs.items c.self.inside.capacity c.self.inside.places c.self.invariant.0 c.len.ensures.table)
+    (table_of g.H.KeyHash.hash_of c.self.inside.pairs.items c.self.inside.places c.self.invariant.0.hashes c.len.ensures.table)
 
 pub returns-then-len-eq0-clause-ends : goal.returns-then-len-eq0-clause-ends
 returns-then-len-eq0-clause-ends g c =
     let hash = g.H.KeyHash.hash_of in
     subst (λ (t : Placed g.row.V.Denot). LookUpEnds (map hash (keys_of t.store.pairs)) (keys_of t.store.pairs) t.places (hash c.args.key.now) c.args.key.now Full) c.self.view_is
-    (nowhere hash c.self.inside.pairs.items c.self.inside.places.slots c.args.key.now (table_of hash c.self.inside.pairs.items c.self.inside.capacity c.self.inside.places c.self.invariant.0 c.len.ensures.table)
+    (nowhere hash c.self.inside.pairs.items c.self.inside.places.slots c.args.key.now (table_of hash c.self.inside.pairs.items c.self.inside.places c.self.invariant.0.hashes c.len.ensures.table)
     (omega (arith, c.if-len-eq0.true, c.len.ensures.count)))
 
 pub returns-then-len-eq0-clause-bounded : goal.returns-then-len-eq0-clause-bounded
@@ -34,15 +34,15 @@ returns-then-len-eq0-clause-bounded g c = record { some_empty = λ p lp none. om
 pub returns-clause-table : goal.returns-clause-table
 returns-clause-table g c =
     subst (λ (t : Placed g.row.V.Denot). IsTable (map g.H.KeyHash.hash_of (keys_of t.store.pairs)) t.places) c.self.view_is
-    (table_of g.H.KeyHash.hash_of c.self.inside.pairs.items c.self.inside.capacity c.self.inside.places c.self.invariant.0 c.len.ensures.table)
+    (table_of g.H.KeyHash.hash_of c.self.inside.pairs.items c.self.inside.places c.self.invariant.0.hashes c.len.ensures.table)
 
 pub returns-clause-ends : goal.returns-clause-ends
 returns-clause-ends g c =
     let hash = g.H.KeyHash.hash_of in
     let some : 0 < length c.self.inside.places.slots = omega (arith, c.if-len-eq0.false, c.len.ensures.count) in
     subst (λ (t : Placed g.row.V.Denot). LookUpEnds (map hash (keys_of t.store.pairs)) (keys_of t.store.pairs) t.places (hash c.args.key.now) c.args.key.now c.probe.result) c.self.view_is
-    (find_ends hash c.self.inside.pairs.items c.deref.result.now c.self.inside.capacity c.self.inside.places c.args.hash c.args.key.now (c.probe.new.looks - c.args.looks.now) c.probe.result
-    c.self.invariant.0 c.deref.ensures.value c.requires.hash c.self.inside.distinct c.len.ensures.table some c.probe.ensures.ends)
+    (find_ends hash c.self.inside.pairs.items c.deref.result.now c.self.inside.places c.args.hash c.args.key.now (c.probe.new.looks - c.args.looks.now) c.probe.result
+    c.self.invariant.0.hashes c.deref.ensures.value c.requires.hash c.self.inside.distinct c.len.ensures.table some c.probe.ensures.ends)
 
 pub returns-clause-bounded : goal.returns-clause-bounded
 returns-clause-bounded g c =

@@ -1,0 +1,40 @@
+-- Places of the first pairs of a list: a look-up of the next key among them, and the next one put.
+use Rattle.std.proofs.Common.{◌≡◌, ℕ, ◌+◌, ◌%◌, ◌<◌, arith, List, [], ◌∷◌, ◌++◌, length, take, get_or, None, sym, ap, subst, ◌∙◌, length-take}
+use Rattle.std.proofs.lemmas.List.{take_more}
+use Rattle.ijson_table.specs.declared.probe.Probed.TheVariants.{Vacant}
+use Rattle.ijson_table.specs.Places.{displacement, IsTable}
+use Rattle.ijson_table.specs.Store.{at, keys_of, IsDistinct}
+use Rattle.ijson_table.specs.private.FirstPlaced.{FirstPlaced}
+use Rattle.ijson_table.specs.private.Holds.{MayStand}
+use Rattle.ijson_table.specs.private.Lookup.{is_hashed_key}
+use Rattle.ijson_table.specs.private.PlaceList.{Index}
+use Rattle.ijson_table.specs.private.Probe.{Ends}
+use Rattle.ijson_table.proofs.Keys.{distinct_pushed}
+use Rattle.ijson_table.proofs.Tables.{hashes, length-hashes, hashes-push, find_ends}
+
+module _ {V : Type 0} (hash : List ℕ → ℕ) (pairs : List (List ℕ × V)) (n : ℕ) (places : Index) (placed : FirstPlaced hash pairs n places) (within : n < length pairs) where
+  -- a key that is none of theirs, and where it may stand as the next
+  pub next_ends : (h : ℕ) (key : List ℕ) (looks p : ℕ) → h ≡ hash key → IsTable places.hashes places.slots → 0 < length places.slots
+      → Ends places.slots (displacement places.hashes places.slots) (h % length places.slots) (is_hashed_key places.hashes (keys_of (take n pairs)) h key) looks (Vacant p)
+      → (at (take n pairs) key ≡ None) × MayStand (places.hashes ++ h ∷ []) places.slots n p
+  next_ends h key looks p hashed table some ends =
+      let first : List (List ℕ × V) = take n pairs in
+      let told = find_ends hash first first places h key looks (Vacant p) placed.hashes (λ _. first) hashed placed.distinct table some ends in
+      let size : length (hashes hash first) ≡ n = omega (arith, length-hashes hash first, length-take n pairs, within) in (
+        told.0,
+        subst (λ hs. MayStand (hs ++ h ∷ []) places.slots n p) (sym placed.hashes)
+            (subst (λ x. MayStand (hashes hash first ++ x ∷ []) places.slots n p) (sym hashed)
+            (subst (λ k. MayStand (hashes hash first ++ hash key ∷ []) places.slots k p) size told.2)),
+      )
+
+  -- with its hash they are one more
+  pub next_placed : (pair : List ℕ × V) (h : ℕ) (new : Index) → pair ≡ get_or pairs n pair → h ≡ hash pair.0 → at (take n pairs) pair.0 ≡ None
+      → new.hashes ≡ places.hashes ++ h ∷ [] → FirstPlaced hash pairs (n + 1) new
+  next_placed pair h new is hashed missing now =
+      let first : List (List ℕ × V) = take n pairs in
+      let more : take (n + 1) pairs ≡ first ++ pair ∷ [] = take_more pairs n pair within ∙ ap (λ p. first ++ p ∷ []) (sym is) in
+      record {
+        hashes = now ∙ (ap (λ hs. hs ++ h ∷ []) placed.hashes ∙ (ap (λ x. hashes hash first ++ x ∷ []) hashed
+            ∙ (sym (hashes-push hash first pair.0 pair.1) ∙ ap (hashes hash) (sym more))));
+        distinct = subst (λ ps. IsDistinct (keys_of ps)) (sym more) (distinct_pushed first pair.0 pair.1 placed.distinct missing);
+      }

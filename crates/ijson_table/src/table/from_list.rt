@@ -1,0 +1,109 @@
+//! Tables over lists of pairs.
+
+ghost use Rattle.std.specs.Prelude.{◌≡◌, ◌↔◌, ◌+◌, ◌<◌, ◌≤◌, [], length, Err, IfOk, IsOk, IsTrue, IsFalse};
+ghost use Rattle.ijson_table.specs.Growth.{capacity_limit};
+ghost use Rattle.ijson_table.specs.Store.{put_each};
+ghost use Rattle.ijson_table.specs.private.FirstPlaced.{FirstPlaced};
+
+use super::Table;
+use crate::growth::{limited, split_rest};
+use crate::hash::KeyHash;
+use crate::lookup::Lookup;
+use crate::place_list::PlaceList;
+use crate::probe::{Probed, probe};
+use crate::store::{PairStore, ReserveError};
+use ijson_number::Looks;
+use ijson_string::IString;
+use std::alloc::Global;
+use std::marker::PhantomData;
+
+impl<V: Drop, H: KeyHash> Table<V, H> {
+    /// A store of these pairs as if they were put one after the other: a key that comes again keeps its place, and has the value
+    /// that it came with last. The list becomes that of the store: its length is the capacity, and room beyond that is given back.
+    /// From the first key on that comes again, the pairs are taken off and put one by one; those before are not moved. It is refused
+    /// as too large where the length passes 2^56; the pairs are then dropped, as where memory is refused. No pairs take no memory.
+    /// Each key is hashed once.
+    pub fn from_pairs(
+        alloc: Global,
+        mut pairs: Vec<(IString, V)>,
+    ) -> Result<Table<V, H>, ReserveError>
+        ensures pairs { IfOk result (λ table. table.store.pairs ≡ put_each [] pairs.items) }
+        ensures capacity { IfOk result (λ table. table.store.capacity ≡ length pairs.items) }
+        ensures too_large { (result ≡ Err ReserveError.TooLarge) ↔ (capacity_limit < length pairs.items) }
+        ensures none { length pairs.items ≡ 0 → IsOk result }
+    {
+        let capacity = limited(pairs.len())?;
+        pairs.shrink_to_fit();
+        let mut places = PlaceList::with_places(alloc, capacity + capacity / 4)?;
+        let placed = place_new_keys::<V, H>(&pairs, &mut places);
+        let rest = split_rest(alloc, &mut pairs, placed)?;
+        let mut table = Table {
+            pairs,
+            places,
+            capacity,
+            alloc,
+            hash: PhantomData,
+        };
+        table.insert_each(rest);
+        Ok(table)
+    }
+
+    /// Inserts pairs one after the other, in the room that there is.
+    fn insert_each(&mut self, pairs: Vec<(IString, V)>)
+        requires { length self.old.store.pairs + length pairs.items ≤ self.old.store.capacity }
+        ensures pairs { self.new.store.pairs ≡ put_each self.old.store.pairs pairs.items }
+        ensures capacity { self.new.store.capacity ≡ self.old.store.capacity }
+    {
+        for (key, value) in pairs {
+            let inserted = self.insert(key, value);
+            drop(inserted.unwrap());
+        }
+    }
+}
+
+/// Puts the positions of pairs into empty places, up to the first pair whose key stands before it, and answers how many they are.
+fn place_new_keys<V, H: KeyHash>(pairs: &[(IString, V)], places: &mut PlaceList) -> usize
+    requires { places.old.hashes ≡ [] }
+    ensures within { result ≤ length pairs.now }
+    ensures placed { FirstPlaced H.hash_of pairs.now result places.new }
+    ensures count { length places.new.slots ≡ length places.old.slots }
+{
+    for position in 0..pairs.len() {
+        if !place_new_key::<V, H>(pairs, places, position) {
+            return position;
+        }
+    }
+    pairs.len()
+}
+
+/// Puts the next position into places, where one is left and its key is none of those before, and answers whether it did.
+fn place_new_key<V, H: KeyHash>(
+    pairs: &[(IString, V)],
+    places: &mut PlaceList,
+    position: usize,
+) -> bool
+    requires within { position < length pairs.now }
+    requires placed { FirstPlaced H.hash_of pairs.now position places.old }
+    ensures placed { IsTrue result → FirstPlaced H.hash_of pairs.now (position + 1) places.new }
+    ensures left { IsFalse result → places.new ≡ places.old }
+    ensures count { length places.new.slots ≡ length places.old.slots }
+{
+    if position >= places.len() {
+        return false;
+    }
+    let key = pairs[position].0.as_str();
+    let hash = H::hash(key);
+    let lookup = Lookup {
+        pairs: &pairs[..position],
+        places,
+        hash,
+        key,
+    };
+    match probe(&lookup, &mut Looks::new()) {
+        Probed::Vacant(place) => {
+            places.push_at(place, position, hash);
+            true
+        }
+        Probed::Found(..) | Probed::Full => false,
+    }
+}
