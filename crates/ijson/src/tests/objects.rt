@@ -170,6 +170,21 @@ fn room_made_ahead(rt: HostRuntime) -> Result<(), Fail> {
 }
 
 #[test]
+fn lists_of_pairs(rt: HostRuntime) -> Result<(), Fail> {
+    let alloc = rt.alloc();
+    let mut pairs = Vec::new(alloc);
+    for (number, key) in [(1, "a"), (2, "b"), (3, "a")] {
+        pairs.push((text(alloc, key)?, of_number(number)))?;
+    }
+    let object = IObject::from_pairs(alloc, pairs)?;
+    assert!(rt; has_keys(&object, &["a", "b"]) && object.capacity() == 3);
+    assert!(rt; number_at(&object, "a") == 3 && number_at(&object, "b") == 2);
+    let none = IObject::from_pairs(alloc, Vec::new(alloc))?;
+    assert!(rt; none.is_empty() && none.capacity() == 0);
+    Ok(())
+}
+
+#[test]
 fn extensions(rt: HostRuntime) -> Result<(), Fail> {
     let alloc = rt.alloc();
     let mut object = four(alloc)?;

@@ -32,7 +32,7 @@ impl IObject {
         ensures too_large { (result ≡ Err ReserveError.TooLarge) ↔ (capacity_limit < hash_map_len map) }
         ensures none { hash_map_len map ≡ 0 → IsOk result }
     {
-        IObject::from_pairs(alloc, map.len(), map)
+        IObject::from_distinct_pairs(alloc, map.len(), map)
     }
 
     /// An object of the pairs of a sorted map, in the order of their keys. Its capacity is their count, which is the one growth,
@@ -47,7 +47,7 @@ impl IObject {
         ensures too_large { (result ≡ Err ReserveError.TooLarge) ↔ (capacity_limit < btree_map_len map) }
         ensures none { btree_map_len map ≡ 0 → IsOk result }
     {
-        IObject::from_pairs(alloc, map.len(), map)
+        IObject::from_distinct_pairs(alloc, map.len(), map)
     }
 
     /// An object of the pairs of a map in insertion order, in that order. Its capacity is their count, which is the one growth,
@@ -62,12 +62,12 @@ impl IObject {
         ensures too_large { (result ≡ Err ReserveError.TooLarge) ↔ (capacity_limit < index_map_len map) }
         ensures none { index_map_len map ≡ 0 → IsOk result }
     {
-        IObject::from_pairs(alloc, map.len(), map)
+        IObject::from_distinct_pairs(alloc, map.len(), map)
     }
 
     /// An object of pairs of which none has the key of another, and whose count is told. Their room is made first, so none of
     /// them is refused.
-    fn from_pairs<I: IntoIterator<Item = (IString, IValue)> + Drop>(
+    fn from_distinct_pairs<I: IntoIterator<Item = (IString, IValue)> + Drop>(
         alloc: Global,
         count: usize,
         pairs: I,

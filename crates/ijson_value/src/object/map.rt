@@ -1,7 +1,7 @@
 //! `IObject`: what is looked up, and what is put.
-ghost use Rattle.std.specs.Prelude.{◌≡◌, ◌==◌, ◌<◌, ◌≤◌, [], length, Err, OnOk, IfOk, IsOk, IsTrue, ◌↔◌};
+ghost use Rattle.std.specs.Prelude.{◌≡◌, ◌==◌, ◌<◌, ◌≤◌, [], length, Err, OnOk, IfOk, IsOk, IsTrue, ◌↔◌, MatchResult};
 ghost use Rattle.ijson_table.specs.Growth.{Grow, Shrink, capacity_limit};
-ghost use Rattle.ijson_table.specs.Store.{put};
+ghost use Rattle.ijson_table.specs.Store.{put, put_each};
 ghost use Rattle.ijson_table.specs.Inserts.{Inserts};
 ghost use Rattle.ijson_value.specs.Same.{Same};
 ghost use Rattle.ijson_value.specs.SameTest.{same};
@@ -75,6 +75,37 @@ impl IObject {
             return Ok(IObject::new(alloc));
         }
         let table = FixedTable::with_capacity(alloc, capacity)?;
+        IObject::of_table(alloc, table)
+    }
+
+    /// An object of these pairs as if they were put one after the other: a key that comes again keeps its place, and has the value
+    /// that it came with last. The list becomes that of the object: its length is the capacity, and room beyond that is given back.
+    /// From the first key on that comes again, the pairs are taken off and put one by one; those before are not moved. It is refused
+    /// as too large where the length passes 2^56; the pairs are then dropped, as where memory is refused. No pairs take no memory.
+    /// Each key is hashed once.
+    ///
+    /// ```
+    /// let object = IObject::from_pairs(alloc, pairs)?; // of a: 1, b: 2, a: 3 it is a: 3, b: 2
+    /// ```
+    pub fn from_pairs(alloc: Global, pairs: Vec<(IString, IValue)>) -> Result<IObject, ReserveError>
+        ensures pairs { IfOk result (λ object. object.pairs ≡ put_each [] pairs.items) }
+        ensures capacity { IfOk result (λ object. object.capacity ≡ length pairs.items) }
+        ensures too_large { (result ≡ Err ReserveError.TooLarge) ↔ (capacity_limit < length pairs.items) }
+        ensures none { length pairs.items ≡ 0 → IsOk result }
+    {
+        if pairs.is_empty() {
+            return Ok(IObject::new(alloc));
+        }
+        let table = FixedTable::from_pairs(alloc, pairs)?;
+        IObject::of_table(alloc, table)
+    }
+
+    /// The object that is kept in this table.
+    fn of_table(alloc: Global, table: FixedTable<IValue>) -> Result<IObject, ReserveError>
+        ensures { MatchResult result
+            (λ object. (object.pairs ≡ table.store.pairs) × (object.capacity ≡ table.store.capacity))
+            (λ why. why ≡ ReserveError.Memory) }
+    {
         match Box::new(alloc, table) {
             Ok(table) => Ok(IObject {
                 table: Some(table),

@@ -9,7 +9,7 @@ use crate::string::IString;
 use crate::table::ReserveError;
 use crate::tests::{empty_cache, text as key};
 use crate::value::IValue;
-use std::alloc::Global;
+use std::alloc::{AllocError, Global};
 use std::test::Fail;
 
 /// The pairs of the objects that follow.
@@ -54,6 +54,32 @@ fn is_back(refused: &RefusedPair, len: usize) -> bool {
         }
         None => false,
     }
+}
+
+/// A list of the pairs, and the first of them once more.
+fn listed(alloc: Global) -> Result<Vec<(IString, IValue)>, Fail> {
+    let mut pairs = match Vec::with_capacity(alloc, 6) {
+        Ok(pairs) => pairs,
+        Err(AllocError) => Vec::with_capacity(alloc, 6)?,
+    };
+    for (text, value) in PAIRS.iter().chain(PAIRS.iter().take(1)) {
+        pairs.push((key(alloc, text)?, IValue::from(*value)))?;
+    }
+    Ok(pairs)
+}
+
+#[test]
+fn pairs(rt: HostRuntime) -> Result<(), Fail> {
+    let alloc = rt.alloc();
+    let object = match IObject::from_pairs(alloc, listed(alloc)?) {
+        Ok(object) => object,
+        Err(why) => {
+            assert_eq!(rt; why, ReserveError::Memory);
+            IObject::from_pairs(alloc, listed(alloc)?)?
+        }
+    };
+    assert!(rt; holds(&object, 5, 6));
+    Ok(())
 }
 
 #[test]

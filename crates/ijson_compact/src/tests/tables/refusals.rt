@@ -2,6 +2,7 @@
 
 use super::AlwaysZero;
 use crate::tests::text as key;
+use ijson_string::IString;
 use ijson_table::{
     Command, FixedTable, LinearPairs, PairStore, RefusedPair, Reply, ReserveError, Table, run,
 };
@@ -131,6 +132,40 @@ fn a_fixed_table(rt: HostRuntime) -> Result<(), Fail> {
         assert!(rt; matches!(store.insert(refused.key, refused.value), Ok(None)));
     }
     assert!(rt; holds(&store, 5, 8));
+    Ok(())
+}
+
+/// A list of the pairs, and the first of them once more.
+fn listed(alloc: Global) -> Result<Vec<(IString, u32)>, AllocError> {
+    let mut pairs = match Vec::with_capacity(alloc, 6) {
+        Ok(pairs) => pairs,
+        Err(AllocError) => Vec::with_capacity(alloc, 6)?,
+    };
+    for (text, value) in PAIRS.iter().chain(PAIRS.iter().take(1)) {
+        pairs.push((key(alloc, text)?, *value))?;
+    }
+    Ok(pairs)
+}
+
+#[test]
+fn lists_of_pairs(rt: HostRuntime) -> Result<(), Fail> {
+    let alloc = rt.alloc();
+    let store: Table<u32, AlwaysZero> = match Table::from_pairs(alloc, listed(alloc)?) {
+        Ok(store) => store,
+        Err(why) => {
+            assert_eq!(rt; why, ReserveError::Memory);
+            Table::from_pairs(alloc, listed(alloc)?)?
+        }
+    };
+    assert!(rt; holds(&store, 5, 6));
+    let store = match FixedTable::from_pairs(alloc, listed(alloc)?) {
+        Ok(store) => store,
+        Err(why) => {
+            assert_eq!(rt; why, ReserveError::Memory);
+            FixedTable::from_pairs(alloc, listed(alloc)?)?
+        }
+    };
+    assert!(rt; holds(&store, 5, 6));
     Ok(())
 }
 

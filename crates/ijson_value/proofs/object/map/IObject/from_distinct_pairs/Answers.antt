@@ -1,7 +1,7 @@
 use Rattle.std.proofs.Common.{sym, subst}
 use Rattle.ijson_value.specs.Gives.{GivesAll}
 use Rattle.ijson_value.proofs.FromMaps.{filled, never_refused}
-use Rattle.ijson_value.proofs.object.map.IObject.from_pairs.Goals as goal
+use Rattle.ijson_value.proofs.object.map.IObject.from_distinct_pairs.Goals as goal
 
 pub returns-in-Ok-clause-pairs : goal.returns-in-Ok-clause-pairs
 returns-in-Ok-clause-pairs g c =
