@@ -9,7 +9,6 @@ use crate::quote::push_quoted;
 use ijson_value::object::IObject;
 use ijson_value::value::{DestructuredRef, IValue};
 use std::alloc::{AllocError, Global};
-use std::fmt::Write;
 
 /// The JSON text of `value`, without white space. The error comes where there was not enough memory for
 /// it.
@@ -36,7 +35,7 @@ pub(crate) fn push_value(out: &mut String, value: &IValue) -> Result<(), AllocEr
         DestructuredRef::Null => out.push_str("null"),
         DestructuredRef::Bool(false) => out.push_str("false"),
         DestructuredRef::Bool(true) => out.push_str("true"),
-        DestructuredRef::Number(number) => write!(out, "{number}"),
+        DestructuredRef::Number(number) => number.push_to(out),
         DestructuredRef::String(text) => push_quoted(out, text.as_str()),
         DestructuredRef::Array(array) => {
             out.push('[')?;

@@ -247,13 +247,16 @@ const DOCUMENTS: [(&str, usize); 2] = [
     ),
 ];
 
-/// Puts a comma and a string behind a text.
+/// Puts a comma, a number and a string behind a text.
 fn parts(rt: &impl Abort, alloc: Global) -> Result<(), Fail> {
     let mut found = written(alloc, &IValue::TRUE)?;
     if push_separator(&mut found, false).is_err() {
         push_separator(&mut found, false)?;
     }
     assert_eq!(rt; found.as_str(), "true,");
+    if INumber::from(u64::MAX).push_to(&mut found).is_err() {
+        assert!(rt; found.as_str().starts_with("true,"));
+    }
     if push_quoted(&mut found, "\n").is_err() {
         assert!(rt; found.as_str().starts_with("true,"));
     }

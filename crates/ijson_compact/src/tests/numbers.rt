@@ -42,6 +42,14 @@ fn displays(rt: &impl Abort, alloc: Global, number: &INumber, want: &str) -> Res
     Ok(())
 }
 
+fn appends(rt: &impl Abort, alloc: Global, number: &INumber, want: &str) -> Result<(), Fail> {
+    let mut text = format!(in alloc; "[")?;
+    number.push_to(&mut text)?;
+    let behind = format!(in alloc; "[{want}")?;
+    assert_eq!(rt; text.as_str(), behind.as_str());
+    Ok(())
+}
+
 fn written(
     rt: &impl Abort,
     alloc: Global,
@@ -51,6 +59,7 @@ fn written(
 ) -> Result<(), Fail> {
     let number = INumber::from_str(alloc, text)?;
     assert!(rt; number.has_decimal_point() == point, "{text}");
+    appends(rt, alloc, &number, want)?;
     displays(rt, alloc, &number, want)
 }
 
