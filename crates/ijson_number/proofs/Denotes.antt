@@ -51,7 +51,7 @@ stripped_plain negative point ds e s h w =
       whole = w;
     }
 
-pub signed_nought : (negative : Bool) → signed negative 0 ≡ pos 0
+signed_nought : (negative : Bool) → signed negative 0 ≡ pos 0
 signed_nought true = refl
 signed_nought false = refl
 

@@ -1,25 +1,21 @@
 -- Numbers of few digits, read straight into a word.
-use Rattle.std.proofs.Common.{◌≡◌, ◌≢◌, ℕ, zero, suc, ◌+◌, ◌-◌, ◌*◌, ◌%◌, ◌^◌, ◌<◌, ◌≤◌, Bool, true, false, List, [], ◌∷◌, ◌++◌, length, get_or, take, refl, ap, sym, ◌∙◌, inl, inr, arith, pow-add}
+use Rattle.std.proofs.Common.{◌≡◌, ◌≢◌, ℕ, zero, suc, ◌+◌, ◌-◌, ◌*◌, ◌%◌, ◌^◌, ◌<◌, ◌≤◌, Bool, true, false, List, [], ◌∷◌, ◌++◌, length, get_or, take, refl, ap, sym, subst, ◌∙◌, inl, inr, arith, pow-add}
 use Rattle.std.specs.Prelude.{Option, Some, None, IfSome, ℤ, pos, negsuc, neg_ℤ, nat_abs, int_le, int_lt, ◌≤ℤ◌, ◌<ℤ◌, ◌+ℤ◌, ◌-ℤ◌, ◌*ℤ◌, ◌&&◌}
 use Rattle.std.specs.Int.Digits.{number_from_digits, number_from_digits_after, AllBelowBase}
 use Rattle.std.proofs.Math.Nat.{mul-le-mul_left, mul-le-mul_right}
 use Rattle.std.proofs.lemmas.Int.{ints}
 use Rattle.std.proofs.lemmas.Int.Digits.{number_after_append, number_after_lt, number_lt}
-use Rattle.std.proofs.lemmas.List.{length-map, length-take-le, map-append, nil_from_length, take_more}
+use Rattle.std.proofs.lemmas.List.{length-map, length-take-le, map-append, take_more}
 use Rattle.ijson_number.specs.Decimal.{Decimal}
-use Rattle.ijson_number.specs.Form.{FormOf, packed, fits_i64, fits_packed, fits_u64, smallest_packed, form_of}
-use Rattle.ijson_number.specs.Grammar.{AllDigits, Denotes, IsDigit, IsSpelled, Parts, value}
+use Rattle.ijson_number.specs.Form.{packed, fits_i64, fits_packed, fits_u64, smallest_packed, form_of}
+use Rattle.ijson_number.specs.Grammar.{AllDigits, Denotes, IsDigit, IsSpelled, Parts, Spells, value}
 use Rattle.ijson_number.specs.Num.{IsNum}
 use Rattle.ijson_number.specs.Strips.{Strips, signed}
-use Rattle.ijson_number.specs.declared.front.Front.{Front}
 use Rattle.ijson_number.specs.private.FormNumber.{integer_word}
-use Rattle.ijson_number.specs.private.Front.{IsFront}
-use Rattle.ijson_number.specs.private.Scanned.{parts_of}
 use Rattle.ijson_number.specs.Stripped.{tens_out, stripped_number}
 use Rattle.ijson_number.specs.private.Stripped.{digits_from_text}
 use Rattle.ijson_number.specs.laws.Tens.{abs_signed, int_tens, int_zero, signed_mul, signed_zero, zero_or_not}
 use Rattle.std.proofs.lemmas.Bool.{cases_lt}
-use Rattle.ijson_number.proofs.Denotes.{no_point, signed_nought}
 use Rattle.ijson_number.proofs.Existence.{parts_denote}
 use Rattle.ijson_number.proofs.Exponents.{within_in_range}
 use Rattle.ijson_number.proofs.FormNumbers.{IsTensOut, tens_out_is, sign_and_size, stripped_is}
@@ -171,22 +167,14 @@ pointed_form negative size m places k n tens fewer stripped few small point s =
           )
     ]
 
--- no digit behind the point, and no exponent
-pub no_exponent : (negative : Bool) (written : List ℕ) (k : ℕ) → length written ≡ 0 → signed negative (value written) -ℤ pos k ≡ neg_ℤ (pos k)
-no_exponent negative written k none =
-    let nil : written ≡ [] = nil_from_length written none in
-    let z : signed negative (value written) ≡ pos 0 = rw nil (signed_nought negative) in
-    rw z (omega (arith, ints))
-
 -- the mantissa and the exponent of parts with no exponent
-pub whole_strips : (p : Parts) (written : List ℕ) (minus : Bool) (size : ℕ) (n : Decimal) → p.exponent ≡ signed minus (value written) → length written ≡ 0 → size ≡ value (p.whole ++ p.fraction) → Denotes p n → Strips (signed p.negative size) (neg_ℤ (pos (length p.fraction))) n
-whole_strips p written minus size n e none is d = rw (is, ← no_exponent minus written (length p.fraction) none, ← e) d.0
-
-pub no_fraction : (text : List ℕ) (p : Parts) → IsSpelled text p → p.point ≡ false → length p.fraction ≡ 0
-no_fraction text p s e = ap (λ (x : List ℕ). length x) (no_point s.fraction_text s.exponent_text p.fraction p.exponent s.has_point s.has_exponent s.fraction s.exponent (sym s.point ∙ e)).0
+parts_strip : (p : Parts) (size : ℕ) (n : Decimal) → p.exponent ≡ pos 0 → size ≡ value (p.whole ++ p.fraction) → Denotes p n → Strips (signed p.negative size) (neg_ℤ (pos (length p.fraction))) n
+parts_strip p size n none is d =
+    let e : pos 0 -ℤ pos (length p.fraction) ≡ neg_ℤ (pos (length p.fraction)) = omega (arith, ints) in
+    rw (is, ← e, ← none) d.0
 
 -- a number of few digits is within the limit
-pub few_num : (m : ℤ) (places : ℕ) (n : Decimal) → nat_abs m < 2 ^ 64 → places ≤ 19 → Strips m (neg_ℤ (pos places)) n → IsNum n
+few_num : (m : ℤ) (places : ℕ) (n : Decimal) → nat_abs m < 2 ^ 64 → places ≤ 19 → Strips m (neg_ℤ (pos places)) n → IsNum n
 few_num m places n word few s = record {
   plain = s.plain;
   in_range = elim (zero_or_not n.mantissa) [
@@ -220,13 +208,13 @@ pub some_with : {A : Type 0} (o : Option A) (P Q : A → Type 0) → IfSome o P 
 some_with (Some x) P Q h f = f x h
 some_with None P Q h f = tt
 
--- the number of the parts, whose form a word is
-pub number_of_word : (text : List ℕ) (p : Parts) (f : FormOf) → IsSpelled text p → ((n : Decimal) → Denotes p n → (form_of n ≡ f) × IsNum n) → (n : Decimal) × Denotes p n × (f ≡ form_of n) × IsNum n
-number_of_word text p f spelled known = let d = parts_denote text p spelled in let k = known d.0 d.1 in (d.0, d.1, sym k.0, k.1)
-
--- what a number of few digits at the front denotes is a Num
-pub front_num : (text : List ℕ) (f : Front) (n : Decimal) → f.size < 2 ^ 64 → IsFront text f → Denotes (parts_of f.spelling) n → IsNum n
-front_num text f n word i d =
-    let s = f.spelling in
-    let few : length s.tail.fraction.now ≤ 19 = let m = i.few in omega (arith, m) in
-    few_num (signed s.negative f.size) (length s.tail.fraction.now) n (rw (abs_signed s.negative f.size) word) few (whole_strips (parts_of s) s.tail.exponent.now s.tail.negative f.size n refl i.no_exponent i.size d)
+-- few digits with no exponent spell the number that they and the places are
+pub parts_number : (t : List ℕ) (p : Parts) (size places : ℕ) → IsSpelled t p → p.exponent ≡ pos 0 → length p.fraction ≡ places → places ≤ 19 → size ≡ value (p.whole ++ p.fraction) → size < 2 ^ 64 → let n : Decimal = stripped_number (signed p.negative size) (neg_ℤ (pos places)) p.point in Spells t n × Strips (signed p.negative size) (neg_ℤ (pos places)) n × IsNum n
+parts_number t p size places spelled none count few is word =
+    let m : ℤ = signed p.negative size in
+    let e : ℤ = neg_ℤ (pos places) in
+    let small : nat_abs m < 2 ^ 64 = rw (abs_signed p.negative size) word in
+    let d = parts_denote t p spelled in
+    let s : Strips m e d.0 = rw count at (parts_strip p size d.0 none is d.1) in
+    let same : stripped_number m e p.point ≡ d.0 = ap (stripped_number m e) (sym d.1.1) ∙ stripped_is m e d.0 (omega arith) s in
+    subst (λ (n : Decimal). Spells t n × Strips m e n × IsNum n) (sym same) ((p, spelled, d.1), s, few_num m places d.0 small few s)

@@ -11,7 +11,7 @@ begun : (bytes after : List ℕ) (b : ℕ) → 0 < length bytes → get_or bytes
 begun [] after b h e d = absurd (omega arith)
 begun (x ∷ xs) after b h e d = cc
 
-pub tail_with_point : (bytes a rest : List ℕ) (z : ℤ) (w : Bool) → bytes ≡ 46 ∷ (a ++ rest) → IsDigits a → IsExponent rest z w → IsTail bytes a z true
+tail_with_point : (bytes a rest : List ℕ) (z : ℤ) (w : Bool) → bytes ≡ 46 ∷ (a ++ rest) → IsDigits a → IsExponent rest z w → IsTail bytes a z true
 tail_with_point bytes a rest z w e d x = record {
   fraction_text = 46 ∷ a;
   exponent_text = rest;

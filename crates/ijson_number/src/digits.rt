@@ -86,6 +86,20 @@ impl Digits {
         })
     }
 
+    /// The same digits.
+    pub fn from_digits(alloc: Global, digits: &[u8]) -> Result<Self, AllocError>
+        requires { IsStripped digits.now }
+        ensures ok { IfOk result (λ d. d ≡ digits.now) }
+        ensures err { OnErr result (20 < length digits.now) }
+    {
+        let mut few = ArrayVec::new();
+        let storage = match few.try_extend_from_slice(digits) {
+            Ok(()) => Storage::InPlace(few),
+            Err(_) => Storage::Apart(Vec::from_slice(alloc, digits)?),
+        };
+        Ok(Digits { storage })
+    }
+
     /// The digits.
     pub fn as_slice(&self) -> &[u8]
         ensures value { result.now ≡ self.now }

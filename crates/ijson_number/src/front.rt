@@ -1,20 +1,21 @@
 //! A number of few digits at the front of a text, read in one pass.
-ghost use Rattle.std.specs.Prelude.{◌≡◌, ◌+◌, ◌*◌, ◌^◌, ◌<◌, ◌≤◌, List, ℕ, take, drop, length, IfNone, IfSome, IsSome, false};
+ghost use Rattle.std.specs.Prelude.{◌≡◌, ◌+◌, ◌*◌, ◌^◌, ◌<◌, ◌≤◌, List, ℕ, take, drop, length, IfNone, IfSome, IsSome};
 ghost use Rattle.std.specs.Int.Digits.{number_from_digits_after};
 ghost use Rattle.ijson_number.specs.Decimal.{Decimal};
 ghost use Rattle.ijson_number.specs.Form.{form_of};
-ghost use Rattle.ijson_number.specs.Grammar.{AllDigits, Denotes, Parts, Spells};
+ghost use Rattle.ijson_number.specs.Grammar.{AllDigits, Parts, Spells};
 ghost use Rattle.ijson_number.specs.Num.{IsNum};
 ghost use Rattle.ijson_number.specs.PlainFront.{IsPlainFront};
-ghost use Rattle.ijson_number.specs.private.Front.{IsFront, IsFrontTail, IsPlainTail};
+ghost use Rattle.ijson_number.specs.private.Front.{IsFront, IsFrontTail, IsPlainTail, front_number};
 ghost use Rattle.ijson_number.specs.private.Reading.{BeginsWithNoDigit};
-ghost use Rattle.ijson_number.specs.private.Scanned.{parts_of};
 ghost use Rattle.ijson_number.specs.private.Stored.{stored_form};
 ghost use Rattle.ijson_number.specs.private.Stripped.{digits_from_text};
+ghost use Rattle.ijson_number.specs.private.StrippedNumber.{decimal_of};
 
 use crate::few_digits::{pointed_word, whole_word};
-use crate::reading::{Spelling, Tail, is_whole, split_sign};
+use crate::reading::{is_whole, split_sign};
 use crate::stored::Stored;
+use crate::stripped::{ROOM, StrippedNumber};
 
 /// How many digits a word without a sign holds, whatever they are.
 const MOST: usize = 19;
@@ -39,15 +40,13 @@ fn take_digits(number: u64, bytes: &[u8], most: usize) -> (u64, usize)
     (longer, count)
 }
 
-/// The point at the front and at most so many digits behind it, if it is there, and the text behind them; and the number
-/// that the digits make of one.
+/// The point at the front and at most so many digits behind it, if it is there: the number that they make of one, how many
+/// digits they are, and the text behind them.
 #[inline(always)]
-fn take_tail(number: u64, bytes: &[u8], most: usize) -> Option<(u64, Tail<'_>, &[u8])>
+fn take_tail(number: u64, bytes: &[u8], most: usize) -> Option<(u64, usize, &[u8])>
     requires { (number + 1) * 10 ^ most ≤ 10 ^ 19 }
-    ensures tail { IfSome result (λ r. IsFrontTail bytes.now r.1 r.2.now) }
-    ensures few { IfSome result (λ r. length r.1.fraction.now ≤ most) }
-    ensures value { IfSome result (λ r.
-        r.0 ≡ number_from_digits_after 10 number (digits_from_text r.1.fraction.now)) }
+    ensures tail { IfSome result (λ r. IsFrontTail number bytes.now r.0 r.1 r.2.now) }
+    ensures few { IfSome result (λ r. r.1 ≤ most) }
     ensures rest { IfSome result (λ r. (front rest : List ℕ)
         → IsPlainTail most bytes.now front rest → r.2.now ≡ rest) }
     ensures none { IfNone result ((front rest : List ℕ)
@@ -59,35 +58,25 @@ fn take_tail(number: u64, bytes: &[u8], most: usize) -> Option<(u64, Tail<'_>, &
         if places == 0 {
             return None;
         }
-        let (fraction, rest) = behind.split_at(places);
-        let tail = Tail {
-            fraction,
-            negative: false,
-            exponent: &[],
-            point: true,
-        };
-        return Some((longer, tail, rest));
+        let (_, rest) = behind.split_at(places);
+        return Some((longer, places, rest));
     }
-    let tail = Tail {
-        fraction: &[],
-        negative: false,
-        exponent: &[],
-        point: false,
-    };
-    Some((number, tail, bytes))
+    Some((number, 0, bytes))
 }
 
-/// A number's text at the front of another, with no exponent; what its digits write; and how many bytes it has.
+/// The number at the front of a text that has no exponent: what its digits write, how many of them stand behind the point, and
+/// how many bytes it has. There is a point where digits stand behind it.
 #[derive(Clone, Copy)]
-pub struct Front<'a> {
-    pub spelling: Spelling<'a>,
+pub struct Front {
+    pub negative: bool,
     pub size: u64,
+    pub places: usize,
     pub length: usize,
 }
 
 /// The number at the front, where it has few digits and nothing goes on with it.
 #[inline(always)]
-pub fn read_front(text: &[u8]) -> Option<Front<'_>>
+pub fn read_front(text: &[u8]) -> Option<Front>
     ensures found { IfSome result (λ f. IsFront text.now f) }
     ensures none { IfNone result ((p : Parts) → IsPlainFront text.now p → ⊥) }
 {
@@ -97,17 +86,14 @@ pub fn read_front(text: &[u8]) -> Option<Front<'_>>
     if !is_whole(whole) {
         return None;
     }
-    let (size, tail, rest) = take_tail(number, behind, MOST - count)?;
+    let (size, places, rest) = take_tail(number, behind, MOST - count)?;
     if !rest.is_empty() && rest[0].is_ascii_alphanumeric() {
         return None;
     }
     Some(Front {
-        spelling: Spelling {
-            negative,
-            whole,
-            tail,
-        },
+        negative,
         size,
+        places,
         length: text.len() - rest.len(),
     })
 }
@@ -126,22 +112,26 @@ pub fn read_word(text: &[u8]) -> Option<Stored>
     }
 }
 
-impl Front<'_> {
+impl Front {
     /// What is stored of the number, where it is a word.
     #[inline(always)]
     pub fn word(&self) -> Option<Stored>
         requires { (text : List ℕ) × IsFront text self.now }
-        ensures word { IfSome result (λ s. (n : Decimal)
-            × Denotes (parts_of self.now.spelling) n
-            × (stored_form s ≡ form_of n)
-            × IsNum n) }
-        ensures whole { self.now.spelling.tail.point ≡ false → self.now.size < 2 ^ 63
-            → IsSome result }
+        ensures word { IfSome result (λ s. stored_form s ≡ form_of (front_number self.now)) }
+        ensures whole { self.now.places ≡ 0 → self.now.size < 2 ^ 63 → IsSome result }
     {
-        let Spelling { negative, tail, .. } = self.spelling;
-        if tail.point {
-            return pointed_word(negative, self.size, tail.fraction.len());
+        if self.places > 0 {
+            return pointed_word(self.negative, self.size, self.places);
         }
-        whole_word(negative, self.size)
+        whole_word(self.negative, self.size)
+    }
+
+    /// The number by its stripped digits, which are written into the room.
+    pub fn stripped<'a>(&self, room: &'a mut [u8; ROOM]) -> StrippedNumber<'a>
+        requires { (text : List ℕ) × IsFront text self.now }
+        ensures { decimal_of result ≡ front_number self.now }
+    {
+        let exponent = -(self.places as i8);
+        StrippedNumber::from_size(self.negative, self.size, exponent, self.places > 0, room)
     }
 }

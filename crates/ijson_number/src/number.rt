@@ -8,6 +8,7 @@ ghost use Rattle.ijson_number.specs.private.Stored.{stored_decimal};
 use crate::front::{read_front, read_word};
 use crate::reading::{self, Spelling};
 use crate::stored::{LongNumber, Stored};
+use crate::stripped::{ROOM, StrippedNumber};
 use std::alloc::{AllocError, Global};
 use std::marker::Model;
 use thiserror::Error;
@@ -53,6 +54,7 @@ impl INumber {
     ghost use Rattle.ijson_number.specs.PlainFront.{IsPlainFront};
     ghost use Rattle.ijson_number.specs.Refused.{IsRefused};
     ghost use Rattle.ijson_number.specs.private.Scanned.{parts_of};
+    ghost use Rattle.ijson_number.specs.private.StrippedNumber.{decimal_of};
 
     /// The number that the whole text spells, with no white space round it. Memory is taken where the stored form is a
     /// list of digits alone. The time is linear in the length of the text, whatever the exponent. `1.50` and `15e-1` spell
@@ -109,11 +111,21 @@ impl INumber {
         if let Some(stored) = front.word() {
             return Ok(Some((INumber { stored }, front.length)));
         }
-        match INumber::from_spelling(alloc, &front.spelling) {
-            Ok(number) => Ok(Some((number, front.length))),
-            Err(ParseNumberError::Memory) => Err(AllocError),
-            Err(ParseNumberError::Invalid) => Ok(None),
+        let number = INumber::from_stripped(alloc, &front.stripped(&mut [0; ROOM]))?;
+        Ok(Some((number, front.length)))
+    }
+
+    /// The number of stripped digits.
+    fn from_stripped(alloc: Global, number: &StrippedNumber<'_>) -> Result<INumber, AllocError>
+        ensures { IfOk result (λ n. n.decimal ≡ decimal_of number.now) }
+    {
+        if let Some(stored) = number.stored() {
+            return Ok(INumber { stored });
         }
+        let number = LongNumber::from_stripped(alloc, number)?;
+        Ok(INumber {
+            stored: Stored::Digits(number),
+        })
     }
 
     /// Whether the number was written with a point or an exponent. `2.0` and `2e0` were, `2` was not.

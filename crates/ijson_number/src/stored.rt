@@ -5,6 +5,7 @@ ghost use Rattle.std.proofs.Props.{props};
 
 use crate::digits::Digits;
 use crate::reading::Scanned;
+use crate::stripped::StrippedNumber;
 use crate::word::Word;
 use std::alloc::{AllocError, Global};
 
@@ -62,6 +63,29 @@ impl LongNumber {
                 negative: scanned.negative,
                 point: scanned.point,
                 exponent: scanned.exponent,
+                digits,
+            },
+        )?;
+        Ok(number)
+    }
+
+    /// The number of stripped digits.
+    pub fn from_stripped(
+        alloc: Global,
+        number: &StrippedNumber<'_>,
+    ) -> Result<Box<LongNumber>, AllocError>
+        ensures negative { IfOk result (λ n. n.value.negative ≡ number.now.negative) }
+        ensures digits { IfOk result (λ n. n.value.digits ≡ number.now.digits.now) }
+        ensures exponent { IfOk result (λ n. n.value.exponent ≡ number.now.exponent) }
+        ensures point { IfOk result (λ n. n.value.point ≡ number.now.point) }
+    {
+        let digits = Digits::from_digits(alloc, number.digits)?;
+        let number = Box::new(
+            alloc,
+            LongNumber {
+                negative: number.negative,
+                point: number.point,
+                exponent: number.exponent,
                 digits,
             },
         )?;

@@ -45,7 +45,7 @@ impl<'a> StrippedNumber<'a> {
     ghost use Rattle.ijson_number.specs.private.StrippedNumber.{decimal_of};
 
     /// A mantissa times a power of ten.
-    fn from_size(
+    pub fn from_size(
         negative: bool,
         size: u64,
         exponent: i8,

@@ -1,19 +1,23 @@
 -- What the pass over the front of a text finds there.
-use Rattle.std.specs.Prelude.{◌≡◌, ℕ, ◌+◌, ◌≤◌, Bool, List, ◌++◌, length, take}
-use Rattle.ijson_number.specs.Grammar.{IsFraction, IsSpelled, value}
+use Rattle.std.specs.Prelude.{◌≡◌, ℕ, ◌≤◌, Bool, List, ◌++◌, length, nat_lt, take, pos, neg_ℤ}
+use Rattle.std.specs.Int.Digits.{number_from_digits_after}
+use Rattle.ijson_number.specs.Decimal.{Decimal}
+use Rattle.ijson_number.specs.Grammar.{IsFraction, Spells}
+use Rattle.ijson_number.specs.Num.{IsNum}
 use Rattle.ijson_number.specs.PlainFront.{GoesOnWithNone}
-use Rattle.ijson_number.specs.Strips.{signed}
-use Rattle.ijson_number.specs.private.Reading.{IsTail}
-use Rattle.ijson_number.specs.private.Scanned.{parts_of}
-use Rattle.ijson_number.specs.declared.reading.Tail.{Tail}
+use Rattle.ijson_number.specs.Stripped.{stripped_number}
+use Rattle.ijson_number.specs.Strips.{Strips, signed}
+use Rattle.ijson_number.specs.private.Stripped.{digits_from_text}
 use Rattle.ijson_number.specs.declared.front.Front.{Front}
 
--- what follows a whole part, with no exponent, and the text behind it
-pub record IsFrontTail (text : List ℕ) (t : Tail) (rest : List ℕ) : Type 0 where
+-- a fraction of so many places or none, the text behind it, and the number that its digits make of one
+pub record IsFrontTail (number : ℕ) (text : List ℕ) (longer places : ℕ) (rest : List ℕ) : Type 0 where
   pub front : List ℕ
+  pub digits : List ℕ
   pub text_is : text ≡ front ++ rest
-  pub tail : IsTail front t.fraction.now (signed t.negative (value t.exponent.now)) t.point
-  pub no_exponent : length t.exponent.now ≡ 0
+  pub fraction : IsFraction front digits (nat_lt 0 places)
+  pub count : length digits ≡ places
+  pub value : longer ≡ number_from_digits_after 10 number (digits_from_text digits)
 
 -- a fraction of at most so many digits or none, and what follows it
 pub record IsPlainTail (most : ℕ) (text front rest : List ℕ) : Type 0 where
@@ -24,10 +28,14 @@ pub record IsPlainTail (most : ℕ) (text front rest : List ℕ) : Type 0 where
   pub few : length digits ≤ most
   pub stops : GoesOnWithNone rest
 
--- a number's text at the front, with no exponent
+-- what the digits and the places are
+abbrev pub front_number : Front → Decimal
+front_number f = stripped_number (signed f.negative f.size) (neg_ℤ (pos f.places)) (nat_lt 0 f.places)
+
+-- a number of few digits at the front
 pub record IsFront (text : List ℕ) (f : Front) : Type 0 where
   pub within : f.length ≤ length text
-  pub spelled : IsSpelled (take f.length text) (parts_of f.spelling)
-  pub no_exponent : length f.spelling.tail.exponent.now ≡ 0
-  pub few : length f.spelling.whole.now + length f.spelling.tail.fraction.now ≤ 19
-  pub size : f.size ≡ value (f.spelling.whole.now ++ f.spelling.tail.fraction.now)
+  pub spelled : Spells (take f.length text) (front_number f)
+  pub few : f.places ≤ 19
+  pub strips : Strips (signed f.negative f.size) (neg_ℤ (pos f.places)) (front_number f)
+  pub num : IsNum (front_number f)
