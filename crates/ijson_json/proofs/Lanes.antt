@@ -1,12 +1,12 @@
 -- The bytes of a vector that must stand in an escape, or end the string, as a mask; and the run that a mask tells of.
-use Rattle.std.proofs.Common.{◌≡◌, ℕ, ◌+◌, ◌*◌, ◌%◌, ◌^◌, ◌<◌, ◌≤◌, Bool, true, false, cond, eqb, ltb, List, [], ◌∷◌, map, length, drop, replicate, refl, sym, ap, ap₂, ◌∙◌, arith}
+use Rattle.std.proofs.Common.{◌≡◌, ℕ, ◌+◌, ◌-◌, ◌*◌, ◌%◌, ◌^◌, ◌<◌, ◌≤◌, Bool, true, false, cond, eqb, ltb, List, [], ◌∷◌, map, length, drop, replicate, refl, sym, ap, ap₂, ◌∙◌, arith}
 use Rattle.std.specs.Prelude.{not, ◌&&◌, nat_le}
 use Rattle.std.specs.List.{prefix_len}
-use Rattle.std.proofs.lemmas.Bool.{eq-eqb, ne_eqb}
+use Rattle.std.proofs.lemmas.Bool.{eq-eqb, ne_eqb, eqb-false}
 use Rattle.std.proofs.lemmas.Bool.Decides.{nat_tests}
-use Rattle.std.proofs.lemmas.List.{length-drop, length-map}
+use Rattle.std.proofs.lemmas.List.{length-map}
 use Rattle.std.proofs.lemmas.List.Folds.{prefix_len-append}
-use Rattle.std.proofs.lemmas.List.Sums.{prefix_len-le-length}
+use Rattle.std.proofs.lemmas.List.Sums.{prefix_len-le-length, prefix_len-drop_all}
 use Rattle.std.proofs.lemmas.Simd.{zip2_splat, zip2-map, mask_l-mod, chunk-drop, length-chunk, leading_from_mask_l, trailing_mask_l}
 use lib.Bits.{bit_or}
 use lib.Count.{count_trailing_zeros}
@@ -93,6 +93,27 @@ module _ (p : ℕ → Bool) where
       ∙ ap (λ b. cond b (length c + prefix_len p (drop (i + n) d)) (prefix_len p c)) (ne_eqb _ _ (λ (e : prefix_len p c ≡ length c). omega (arith, all_pass c e)))
       ∙ sym (opposite c) ∙ sym (trailing_mask_l fails 64 c (omega (arith, length-chunk i n d room)) some)
 
-  -- the run that begins at i ends within
-  pub run_bound : (d : List ℕ) (i : ℕ) → i ≤ length d → i + prefix_len p (drop i d) ≤ length d
-  run_bound d i within = omega (arith, prefix_len-le-length p (drop i d), length-drop i d, within)
+  -- a run that goes as far as i ends where the one that begins there does
+  pub run_behind : (d : List ℕ) (i : ℕ) → i ≤ prefix_len p d → prefix_len p d ≡ i + prefix_len p (drop i d)
+  run_behind d i h =
+      let c = chunk 0 i d in
+      let zero : 0 + i ≡ i = omega arith in
+      let long : length c ≡ i = length-chunk 0 i d (omega (arith, h, prefix_len-le-length p d)) in
+      let cut : Bool → ℕ = λ b. cond b (length c + prefix_len p (drop i d)) (prefix_len p c) in
+      let whole : prefix_len p d ≡ cut (eqb (prefix_len p c) (length c)) = split d 0 i ∙ ap (λ k. cond (eqb (prefix_len p c) (length c)) (length c + prefix_len p (drop k d)) (prefix_len p c)) zero in
+      elim (eqb (prefix_len p c) (length c)) as (λ v. eqb (prefix_len p c) (length c) ≡ v → prefix_len p d ≡ i + prefix_len p (drop i d)) [
+        | true ↦ λ e. whole ∙ ap cut e ∙ ap (λ k. k + prefix_len p (drop i d)) long
+        | false ↦ λ e.
+            let ends : prefix_len p d ≡ prefix_len p c = whole ∙ ap cut e in
+            absurd (eqb-false _ _ e (omega (arith, ends, long, h, prefix_len-le-length p c)))
+      ] refl
+
+  -- where only the last n bytes are in doubt: one of them fails, or none
+  pub run_stops_in_last : (d : List ℕ) (n : ℕ) → n ≤ length d → n ≤ 64 → length d ≤ prefix_len p d + n → 0 < mask_l (map (λ b. not (p b)) (chunk (length d - n) n d))
+      → prefix_len p d ≡ (length d - n) + count_trailing_zeros 64 (mask_l (map (λ b. not (p b)) (chunk (length d - n) n d)))
+  run_stops_in_last d n room short far some =
+      omega (arith, run_within d (length d - n) n (omega (arith, room)) short some, run_behind d (length d - n) (omega (arith, far)))
+
+  pub run_is_whole : (d : List ℕ) (n : ℕ) → n ≤ length d → length d ≤ prefix_len p d + n → mask_l (map (λ b. not (p b)) (chunk (length d - n) n d)) ≡ 0 → prefix_len p d ≡ length d
+  run_is_whole d n room far none =
+      omega (arith, run_through d (length d - n) n (omega (arith, room)) none, run_behind d (length d - n) (omega (arith, far)), room, prefix_len-drop_all p d ((length d - n) + n) (omega (arith, room)))

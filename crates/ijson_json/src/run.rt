@@ -1,6 +1,6 @@
 //! Runs of a string's bytes that stand for themselves.
 
-ghost use Rattle.std.specs.Prelude.{◌≡◌, ◌++◌, IsTrue, map, not};
+ghost use Rattle.std.specs.Prelude.{◌≡◌, ◌+◌, ◌<◌, ◌≤◌, ◌++◌, IsTrue, length, map, not};
 ghost use Rattle.std.specs.List.{AllByRecursion, position, prefix_len};
 ghost use Rattle.std.specs.Simd.Lanes.{mask_l};
 ghost use Rattle.ijson_json.specs.Strings.{is_unescaped};
@@ -47,6 +47,7 @@ fn specials_of_16(bytes: u8x16) -> u64
 /// How many bytes at the front stand for themselves, where there are fewer than 16.
 #[inline(always)]
 fn short_run(bytes: &[u8]) -> usize
+    requires { length bytes.now < 16 }
     ensures { result ≡ prefix_len is_unescaped bytes.now }
 {
     if bytes.len() < 8 {
@@ -56,7 +57,30 @@ fn short_run(bytes: &[u8]) -> usize
     if found != 0 {
         return found.trailing_zeros() as usize;
     }
-    8 + run_by_bytes(&bytes[8..])
+    let last = bytes.len() - 8;
+    let behind = specials_of_8(u8x8::from_slice(&bytes[last..]));
+    if behind != 0 {
+        return last + behind.trailing_zeros() as usize;
+    }
+    bytes.len()
+}
+
+/// How many bytes at the front stand for themselves, where all before the last 16 do. Where a string is read, more of the text
+/// stands behind it and this is seldom called, so it is not made part of its callers.
+#[inline(never)]
+fn last_run(bytes: &[u8]) -> usize
+    requires { length bytes.now ≤ prefix_len is_unescaped bytes.now + 16 }
+    ensures { result ≡ prefix_len is_unescaped bytes.now }
+{
+    if bytes.len() < 16 {
+        return short_run(bytes);
+    }
+    let last = bytes.len() - 16;
+    let found = specials_of_16(u8x16::from_slice(&bytes[last..]));
+    if found != 0 {
+        return last + found.trailing_zeros() as usize;
+    }
+    bytes.len()
 }
 
 /// How many bytes at the front stand for themselves, 16 at a time.
@@ -71,7 +95,7 @@ fn run_length(bytes: &[u8]) -> usize
         }
         at += 16;
     }
-    at + short_run(&bytes[at..])
+    last_run(bytes)
 }
 
 /// The longest run of bytes at the front that stand for themselves, and the rest.

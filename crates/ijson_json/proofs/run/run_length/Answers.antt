@@ -1,9 +1,7 @@
 use Rattle.std.proofs.Common.{sym, ap, ◌∙◌, arith}
-use Rattle.std.specs.List.{prefix_len}
-use Rattle.std.proofs.lemmas.List.{take_rest}
 use lib.Count.{count_trailing_zeros}
 use Rattle.ijson_json.specs.Strings.{is_unescaped}
-use Rattle.ijson_json.proofs.Lanes.{run_through, run_within, run_bound}
+use Rattle.ijson_json.proofs.Lanes.{run_through, run_within}
 use Rattle.ijson_json.proofs.run.run_length.Goals as goal
 
 pub returns-then-found-ne0 : goal.returns-then-found-ne0
@@ -17,12 +15,5 @@ loop-at-preserved c =
     let run = run_through is_unescaped c.args.bytes.now c.loop-at.at 16 (omega arith) (omega (arith, c.specials_of_16-found.ensures)) in
     (omega (arith, run, c.loop-at.invariant.0), omega arith)
 
-pub overflow_add-result-2 : goal.overflow_add-result-2
-overflow_add-result-2 c =
-    let rest = c.short_run.ensures ∙ ap (prefix_len is_unescaped) (take_rest c.args.bytes.now c.loop-at.at) in
-    omega (arith, rest, run_bound is_unescaped c.args.bytes.now c.loop-at.at c.loop-at.invariant.1)
-
-pub returns : goal.returns
-returns c =
-    let rest = c.short_run.ensures ∙ ap (prefix_len is_unescaped) (take_rest c.args.bytes.now c.loop-at.at) in
-    omega (arith, rest, c.loop-at.invariant.0)
+pub last_run-requires : goal.last_run-requires
+last_run-requires c = omega (arith, c.loop-at.invariant.0, c.loop-at.invariant.1)
