@@ -3,10 +3,10 @@ use Rattle.std.proofs.Common.{◌≡◌, ℕ, suc, ◌+◌, Bool, List, [], ◌�
 use Rattle.std.specs.Prelude.{◌&&◌}
 use Rattle.ijson_json.specs.declared.fault.Fault.{Fault}
 use Rattle.ijson_json.specs.declared.fault.Fault.TheVariants as faults
-use Rattle.ijson_table.specs.Store.{put}
+use Rattle.ijson_table.specs.Store.{put, put_each}
 use Rattle.ijson_value.specs.Tree.{Tree, array, object, Items, no_items, item, items_of, Members, no_members, member, members_of, depth}
 use Rattle.ijson_json.specs.Ranged.{is_ranged}
-use Rattle.ijson_json.specs.Settled.{settled, settled_items, settled_pairs, put_all}
+use Rattle.ijson_json.specs.Settled.{settled, settled_items, settled_pairs}
 use Rattle.ijson_json.specs.Grammar.{IsValue}
 use Rattle.ijson_json.specs.private.Reading.{Front}
 use Rattle.ijson_json.specs.private.Explains.{Explains, ExplainsMember}
@@ -128,13 +128,13 @@ settled-push (t' ∷ ts) t (u ∷ us) e =
 
 -- the last pair is put last
 
-put_all-push : (ms : List (List ℕ × Tree)) (k : List ℕ) (t : Tree) (into : List (List ℕ × Tree)) → put_all into (settled_pairs (members_of (ms ++ (k, t) ∷ []))) ≡ put (put_all into (settled_pairs (members_of ms))) k (settled t)
-put_all-push [] k t into = refl
-put_all-push (m ∷ ms) k t into = put_all-push ms k t (put into m.0 (settled m.1))
+put_each-push : (ms : List (List ℕ × Tree)) (k : List ℕ) (t : Tree) (into : List (List ℕ × Tree)) → put_each into (settled_pairs (members_of (ms ++ (k, t) ∷ []))) ≡ put (put_each into (settled_pairs (members_of ms))) k (settled t)
+put_each-push [] k t into = refl
+put_each-push (m ∷ ms) k t into = put_each-push ms k t (put into m.0 (settled m.1))
 
 -- one more member is put behind those that were
-pub settled-put : (ms : List (List ℕ × Tree)) (k : List ℕ) (t : Tree) (now : List (List ℕ × Tree)) → now ≡ put_all [] (settled_pairs (members_of ms)) → put now k (settled t) ≡ put_all [] (settled_pairs (members_of (ms ++ (k, t) ∷ [])))
-settled-put ms k t now e = ap (λ (n : List (List ℕ × Tree)). put n k (settled t)) e ∙ sym (put_all-push ms k t [])
+pub settled-put : (ms : List (List ℕ × Tree)) (k : List ℕ) (t : Tree) (now : List (List ℕ × Tree)) → now ≡ put_each [] (settled_pairs (members_of ms)) → put now k (settled t) ≡ put_each [] (settled_pairs (members_of (ms ++ (k, t) ∷ [])))
+settled-put ms k t now e = ap (λ (n : List (List ℕ × Tree)). put n k (settled t)) e ∙ sym (put_each-push ms k t [])
 
 -- ---- a fault in an element
 

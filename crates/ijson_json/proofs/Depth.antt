@@ -2,14 +2,14 @@
 use Rattle.std.proofs.Common.{ℕ, ◌≤◌, true, false, List, [], ◌∷◌, Result, Ok, Err, arith, ap}
 use Rattle.std.specs.Prelude.{max, if◌then◌else◌, IfOk}
 use Rattle.std.specs.Str.{bytes_eq}
-use Rattle.ijson_table.specs.Store.{put}
+use Rattle.ijson_table.specs.Store.{put, put_each}
 use Rattle.ijson_value.specs.Tree.{Tree, null, boolean, number, string, array, object, Items, no_items, item, Members, no_members, member, members_of, depth, items_depth, members_depth}
 use Rattle.ijson_value.specs.WellFormed.{WellFormed}
 use Rattle.ijson_json.specs.declared.fault.JsonError.{JsonError}
 use Rattle.ijson_json.specs.private.Explains.{Answers}
 use Rattle.ijson_json.specs.Grammar.{Accepted}
 use Rattle.ijson_json.specs.Limits.{max_depth}
-use Rattle.ijson_json.specs.Settled.{put_all, settled, settled_items, settled_pairs}
+use Rattle.ijson_json.specs.Settled.{settled, settled_items, settled_pairs}
 
 -- a pair that is put makes the pairs no deeper than it or they were
 put_depth : (ps : List (List ℕ × Tree)) (k : List ℕ) (t : Tree) → members_depth (members_of (put ps k t)) ≤ max (depth t) (members_depth (members_of ps))
@@ -22,10 +22,10 @@ put_depth (p ∷ ps) k t =
     ]
 
 -- nor do pairs that are put one after the other
-put_all_depth : (into ps : List (List ℕ × Tree)) → members_depth (members_of (put_all into ps)) ≤ max (members_depth (members_of into)) (members_depth (members_of ps))
-put_all_depth into [] = omega arith
-put_all_depth into (p ∷ ps) =
-    let more = put_all_depth (put into p.0 p.1) ps in
+put_each_depth : (into ps : List (List ℕ × Tree)) → members_depth (members_of (put_each into ps)) ≤ max (members_depth (members_of into)) (members_depth (members_of ps))
+put_each_depth into [] = omega arith
+put_each_depth into (p ∷ ps) =
+    let more = put_each_depth (put into p.0 p.1) ps in
     let one = put_depth into p.0 p.1 in
     omega (arith, more, one)
 
@@ -37,7 +37,7 @@ mutual
   settled_depth (number n) = omega arith
   settled_depth (string s) = omega arith
   settled_depth (array is) = omega (arith, items_settled_depth is)
-  settled_depth (object ms) = omega (arith, put_all_depth [] (settled_pairs ms), pairs_settled_depth ms)
+  settled_depth (object ms) = omega (arith, put_each_depth [] (settled_pairs ms), pairs_settled_depth ms)
 
   items_settled_depth : (is : Items) → items_depth (settled_items is) ≤ items_depth is
   items_settled_depth no_items = omega arith

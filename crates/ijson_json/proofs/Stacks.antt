@@ -1,8 +1,6 @@
 -- What lies on a stack above what lay there.
-use Rattle.std.proofs.Common.{◌≡◌, ℕ, List, [], ◌∷◌, ◌++◌, length, take, drop, refl, sym, ap, ◌∙◌, append_assoc}
+use Rattle.std.proofs.Common.{◌≡◌, ℕ, List, [], ◌∷◌, ◌++◌, length, take, drop, sym, ap, ◌∙◌, append_assoc}
 use Rattle.std.proofs.lemmas.List.{drop_at, take_at}
-use Rattle.ijson_table.specs.Store.{put}
-use Rattle.ijson_json.specs.private.PutEach.{put_each}
 
 -- what is pushed lies behind the others above
 pub pushed_above : {A : Type 0} (below above now read new : List A) (v : A) → now ≡ below ++ above → read ≡ now → new ≡ read ++ v ∷ [] → new ≡ below ++ (above ++ v ∷ [])
@@ -15,8 +13,3 @@ taken_above below above now taken base b i t = t ∙ ap (drop base) i ∙ drop_a
 -- and what lay there is left
 pub left_below : {A : Type 0} (below above now left : List A) (base : ℕ) → base ≡ length below → now ≡ below ++ above → left ≡ take base now → left ≡ below
 left_below below above now left base b i t = t ∙ ap (take base) i ∙ take_at below above base (sym b)
-
--- one member put behind others
-pub put_last : {V : Type 0} (into added : List (List ℕ × V)) (pair : List ℕ × V) → put_each into (added ++ pair ∷ []) ≡ put (put_each into added) pair.0 pair.1
-put_last into [] pair = refl
-put_last into (p ∷ added) pair = put_last (put into p.0 p.1) added pair

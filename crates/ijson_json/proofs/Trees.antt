@@ -2,10 +2,10 @@
 use Rattle.std.proofs.Common.{◌≡◌, ℕ, Bool, true, false, List, [], ◌∷◌, ◌++◌, map, refl, ap, ◌∙◌}
 use Rattle.std.specs.Str.{bytes_eq}
 use Rattle.std.proofs.lemmas.List.{map-append}
-use Rattle.ijson_table.specs.Store.{put}
+use Rattle.ijson_table.specs.Store.{put, put_each}
 use Rattle.ijson_value.specs.Tree.{Tree, items_of, members_of}
 use Rattle.ijson_value.specs.WellFormed.{WellFormed, tree_of, item_trees}
-use Rattle.ijson_json.specs.Settled.{settled, settled_items, settled_pairs, put_all}
+use Rattle.ijson_json.specs.Settled.{settled, settled_items, settled_pairs}
 use Rattle.ijson_json.proofs.Containers.{settled-push, settled-put}
 
 -- an item pushed behind what was read
@@ -31,6 +31,6 @@ put-trees (p ∷ ps) k v = same (bytes_eq p.0 k) refl (ap (λ (l : List (List �
 
 -- a member put behind what was read
 pub member_put : (ps ps' : List (List ℕ × WellFormed)) (k : List ℕ) (v : WellFormed) (ms : List (List ℕ × Tree)) (t : Tree) → ps' ≡ put ps k v → v.tree ≡ settled t
-    → pair_list ps ≡ put_all [] (settled_pairs (members_of ms)) → pair_list ps' ≡ put_all [] (settled_pairs (members_of (ms ++ (k, t) ∷ [])))
+    → pair_list ps ≡ put_each [] (settled_pairs (members_of ms)) → pair_list ps' ≡ put_each [] (settled_pairs (members_of (ms ++ (k, t) ∷ [])))
 member_put ps ps' k v ms t e f h =
     ap pair_list e ∙ put-trees ps k v ∙ ap (λ (u : Tree). put (pair_list ps) k u) f ∙ settled-put ms k t (pair_list ps) h

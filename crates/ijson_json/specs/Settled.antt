@@ -1,13 +1,8 @@
 -- The tree of what was written, where a key may come again. RFC 8259, section 4, leaves repeated names
 -- open; this project keeps the place of the first and the value of the last.
 use Rattle.std.specs.Prelude.{ℕ, List, [], ◌∷◌}
-use Rattle.ijson_table.specs.Store.{put}
+use Rattle.ijson_table.specs.Store.{put_each}
 use Rattle.ijson_value.specs.Tree.{Tree, null, boolean, number, string, array, object, Items, no_items, item, Members, no_members, member, members_of}
-
--- the pairs put in, in order
-abbrev pub put_all : List (List ℕ × Tree) → List (List ℕ × Tree) → List (List ℕ × Tree)
-put_all into [] = into
-put_all into (pair ∷ more) = put_all (put into pair.0 pair.1) more
 
 -- in each object the members are put, in order, into the empty list
 abbrev mutual
@@ -17,7 +12,7 @@ abbrev mutual
   settled (number n) = number n
   settled (string s) = string s
   settled (array items) = array (settled_items items)
-  settled (object members) = object (members_of (put_all [] (settled_pairs members)))
+  settled (object members) = object (members_of (put_each [] (settled_pairs members)))
 
   pub settled_items : Items → Items
   settled_items no_items = no_items

@@ -3,4 +3,3 @@ pub mod CompactErrorOfReadFault
 pub mod Reading
 pub mod Explains
 pub mod StringReading
-pub mod PutEach

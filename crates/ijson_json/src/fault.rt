@@ -4,7 +4,6 @@ ghost use Rattle.std.specs.Prelude.{◌≡◌};
 ghost use Rattle.ijson_json.specs.declared.fault.Fault.TheVariants.{Memory};
 
 use ijson_string::IString;
-use ijson_value::object::RefusedPair;
 use ijson_value::value::IValue;
 use std::alloc::{AllocError, AllocFailed};
 use thiserror::Error;
@@ -49,14 +48,6 @@ impl From<AllocFailed<(IString, IValue)>> for Fault {
     ghost from_gives = { λ _ fault. fault ≡ Memory };
 
     fn from(_refused: AllocFailed<(IString, IValue)>) -> Fault {
-        Fault::Memory
-    }
-}
-
-impl From<RefusedPair> for Fault {
-    ghost from_gives = { λ _ fault. fault ≡ Memory };
-
-    fn from(_refused: RefusedPair) -> Fault {
         Fault::Memory
     }
 }

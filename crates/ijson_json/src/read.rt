@@ -1,12 +1,12 @@
 //! Reading a text.
 
 ghost use Rattle.std.specs.Prelude.{◌≡◌, [], ◌∷◌, ◌<◌, ◌≤◌, length, take, drop, MatchResult, IfOk, IfErr, OnOk};
+ghost use Rattle.ijson_table.specs.Store.{put_each};
 ghost use Rattle.ijson_value.specs.Tree.{Tree, array, object, depth};
 ghost use Rattle.ijson_value.specs.WellFormed.{IsWellFormed, item_trees, pair_trees};
 ghost use Rattle.ijson_json.specs.Grammar.{Accepted};
 ghost use Rattle.ijson_json.specs.Limits.{max_depth};
 ghost use Rattle.ijson_json.specs.Print.{print};
-ghost use Rattle.ijson_json.specs.private.PutEach.{put_each};
 ghost use Rattle.ijson_json.specs.private.Reading.{ReadAs, MemberAs};
 ghost use Rattle.ijson_json.specs.AddsOnlyRead.{AddsOnlyRead};
 ghost use Rattle.ijson_json.specs.AreShared.{IsShared, AreShared, ItemsAreShared, MembersAreShared};
@@ -30,7 +30,7 @@ use std::mem;
 /// The most containers that may be open at once.
 const MAX_DEPTH: usize = 127;
 
-/// More items than these are not copied where they need not be.
+/// More items or members than these are not copied where they need not be.
 const MANY_ITEMS: usize = 64;
 
 /// What was read and is in no value yet.
@@ -72,30 +72,24 @@ fn take_items(alloc: Global, stack: &mut Vec<IValue>, base: usize) -> Result<IAr
     IArray::from_vec(alloc, items).map_err(|_| AllocError)
 }
 
-/// Takes the members from `base` on off the stack, and puts them one after the other into an object with room for as many.
+/// Takes the members from `base` on off the stack, as an object with room for as many. Where they are many and all that there
+/// are, they are not copied.
 fn take_members(
     alloc: Global,
     stack: &mut Vec<(IString, IValue)>,
     base: usize,
-) -> Result<IObject, Fault>
+) -> Result<IObject, AllocError>
     requires { base ≤ length stack.old.items }
     ensures members { IfOk result (λ object.
         object.pairs ≡ put_each [] (drop base stack.old.items)) }
-    ensures refused { IfErr result (λ fault. fault ≡ Memory) }
     ensures stack { OnOk result (stack.new.items ≡ take base stack.old.items) }
 {
-    let mut object = object_with_room(alloc, stack.len() - base)?;
-    for (key, value) in stack.drain(base..) {
-        drop(object.insert(key, value)?);
-    }
-    Ok(object)
-}
-
-/// An object with room for so many members.
-fn object_with_room(alloc: Global, room: usize) -> Result<IObject, Fault>
-    ensures { MatchResult result (λ object. object.pairs ≡ []) (λ fault. fault ≡ Memory) }
-{
-    IObject::with_capacity(alloc, room).map_err(|_| Fault::Memory)
+    let members = if base == 0 && stack.len() > MANY_ITEMS {
+        mem::replace(stack, Vec::new(alloc))
+    } else {
+        stack.split_off(base)?
+    };
+    IObject::from_pairs(alloc, members).map_err(|_| AllocError)
 }
 
 /// The value at the front of the text, inside so many open containers.

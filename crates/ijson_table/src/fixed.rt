@@ -69,7 +69,7 @@ impl<V: Drop> FixedTable<V> {
     /// that it came with last. The list becomes that of the store: its length is the capacity, and room beyond that is given back.
     /// From the first key on that comes again, the pairs are taken off and put one by one; those before are not moved. It is refused
     /// as too large where the length passes 2^56; the pairs are then dropped, as where memory is refused. No pairs take no memory.
-    /// Each key is hashed once.
+    /// Each key is hashed once, and the first that comes again twice.
     pub fn from_pairs(
         alloc: Global,
         pairs: Vec<(IString, V)>,

@@ -1,17 +1,18 @@
 use Rattle.std.proofs.Common.{◌≢◌, List, subst, [], ◌∷◌, ◌++◌, ℕ, sym, ap, ◌∙◌, arith, length, true, false, ◌≤◌, refl}
 use Rattle.std.proofs.lemmas.Result.{err_from_is_err_and}
+use Rattle.ijson_table.specs.Store.{put_each}
+use Rattle.ijson_table.proofs.Puts.{put_each-append}
 use Rattle.ijson_value.specs.Tree.{Tree, null, boolean, array, object, items_of, members_of}
 use Rattle.ijson_value.specs.WellFormed.{WellFormed, item_trees, pair_trees}
 use Rattle.ijson_json.proofs.Unique.{items_shape, members_shape}
 use Rattle.ijson_json.proofs.Listing.{reached_start, reached_more, reached_end, reached_stuck, reached_shorter, empty_read}
 use Rattle.ijson_json.proofs.Containers.{arrays, objects, array_fault, object_fault}
 use Rattle.ijson_json.specs.AreShared.{AreShared}
-use Rattle.ijson_json.specs.private.PutEach.{put_each}
 use Rattle.ijson_json.proofs.Caches.{adds_none, adds_more, string_adds, string_shared, shared_more, item_shared, member_shared}
 use Rattle.ijson_json.proofs.Members.{key_head, key_behind, key_read, member_read, member_fault, no_colon}
 use Rattle.ijson_json.proofs.Values.{read_null, read_boolean, array_too_deep, object_too_deep, begins, other_fault, string_fault, key_fault, front_shorter, skips_shorter, no_character, null_fault, true_fault, false_fault}
 use Rattle.std.proofs.lemmas.List.{append-nil}
-use Rattle.ijson_json.proofs.Stacks.{pushed_above, taken_above, left_below, put_last}
+use Rattle.ijson_json.proofs.Stacks.{pushed_above, taken_above, left_below}
 use Rattle.ijson_json.proofs.Trees.{item_pushed, member_put}
 use Rattle.ijson_json.proofs.read.+read.Goals as goal
 
@@ -176,7 +177,7 @@ read_object-returns-in-Some-strip_byte-clause-read g t c =
     let k = c.in_ok-key.key in (
       object (members_of (i.0 ++ (k, r.0) ∷ [])),
       reached_end (List ℕ × Tree) members_shape objects c.args.opened (123 ∷ c.args.inside.now) c.loop-key.rest.now c.in_ok-key.after.now s.space c.in-Some-strip_byte.behind.now i.0 (k, r.0) i.1 r.1 (s.is ∙ ap (λ (l : List ℕ). s.space ++ l) c.in-Some-strip_byte.ensures) s.passed,
-      ap (λ ps. object (members_of ps)) (member_put (put_each [] c.loop-key.invariant.0) c.in_ok-object.object.pairs k c.in_ok-key.value i.0 r.0 (c.in_ok-object.ensures.members ∙ ap (put_each []) (taken_above c.args.scratch.now.members.items (c.loop-key.invariant.0 ++ (c.in_ok-key.key, c.in_ok-key.value) ∷ []) c.push.new.self.items _ c.len-base.result (c.len-base.ensures ∙ c.args.scratch.now.members.ok.0) (pushed_above c.args.scratch.now.members.items c.loop-key.invariant.0 c.loop-key.scratch.members.items c.read_member.new.scratch.members.items c.push.new.self.items (c.in_ok-key.key, c.in_ok-key.value) c.loop-key.invariant.1 c.in_ok-key.ensures.members c.in_ok-push.ensures.items) refl) ∙ put_last [] c.loop-key.invariant.0 (c.in_ok-key.key, c.in_ok-key.value)) r.2 i.2),
+      ap (λ ps. object (members_of ps)) (member_put (put_each [] c.loop-key.invariant.0) c.in_ok-object.object.pairs k c.in_ok-key.value i.0 r.0 (c.in_ok-object.ensures.members ∙ ap (put_each []) (taken_above c.args.scratch.now.members.items (c.loop-key.invariant.0 ++ (c.in_ok-key.key, c.in_ok-key.value) ∷ []) c.push.new.self.items _ c.len-base.result (c.len-base.ensures ∙ c.args.scratch.now.members.ok.0) (pushed_above c.args.scratch.now.members.items c.loop-key.invariant.0 c.loop-key.scratch.members.items c.read_member.new.scratch.members.items c.push.new.self.items (c.in_ok-key.key, c.in_ok-key.value) c.loop-key.invariant.1 c.in_ok-key.ensures.members c.in_ok-push.ensures.items) refl) ∙ put_each-append [] c.loop-key.invariant.0 ((c.in_ok-key.key, c.in_ok-key.value) ∷ [])) r.2 i.2),
     )
 
 pub read_object-returns-in_default-strip_byte-2-clause-read : goal.read_object-returns-in_default-strip_byte-2-clause-read
@@ -202,11 +203,11 @@ read_object-loop-key-preserved g t c =
       (
         i.0 ++ (k, r.0) ∷ [],
         reached_more (List ℕ × Tree) members_shape objects c.args.opened (123 ∷ c.args.inside.now) c.loop-key.rest.now c.in_ok-key.after.now s.space c.in-Some-strip_byte-2.more.now s'.space c.skip_space-rest-in-loop-key.result.now i.0 (k, r.0) i.1 r.1 (s.is ∙ ap (λ (l : List ℕ). s.space ++ l) c.in-Some-strip_byte-2.ensures) s.passed s'.is s'.passed s'.past,
-        member_put (put_each [] c.loop-key.invariant.0) _ k c.in_ok-key.value i.0 r.0 (put_last [] c.loop-key.invariant.0 (k, c.in_ok-key.value)) r.2 i.2,
+        member_put (put_each [] c.loop-key.invariant.0) _ k c.in_ok-key.value i.0 r.0 (put_each-append [] c.loop-key.invariant.0 ((k, c.in_ok-key.value) ∷ [])) r.2 i.2,
       ),
       (
         adds_more (123 ∷ c.args.inside.now) c.loop-key.invariant.2.1.head c.loop-key.rest.now c.args.cache.now c.loop-key.cache c.read_member.new.cache c.loop-key.invariant.2.1.is c.loop-key.invariant.3.0 c.read_member.ensures.cache,
-        member_shared c.loop-key.rest.now c.loop-key.cache c.read_member.new.cache (put_each [] c.loop-key.invariant.0) _ c.in_ok-key.key c.in_ok-key.value (put_last [] c.loop-key.invariant.0 (k, c.in_ok-key.value)) c.read_member.ensures.cache c.loop-key.invariant.3.1 c.in_ok-key.ensures.shared.0 c.in_ok-key.ensures.shared.1,
+        member_shared c.loop-key.rest.now c.loop-key.cache c.read_member.new.cache (put_each [] c.loop-key.invariant.0) _ c.in_ok-key.key c.in_ok-key.value (put_each-append [] c.loop-key.invariant.0 ((k, c.in_ok-key.value) ∷ [])) c.read_member.ensures.cache c.loop-key.invariant.3.1 c.in_ok-key.ensures.shared.0 c.in_ok-key.ensures.shared.1,
       ),
       c.in_ok-key.ensures.values ∙ c.loop-key.invariant.4,
       c.skip_space-rest-in-loop-key.utf8,
@@ -304,7 +305,7 @@ read_object-returns-in_default-strip_byte-2-clause-cache g t c =
 pub read_object-returns-in-Some-strip_byte-clause-shared : goal.read_object-returns-in-Some-strip_byte-clause-shared
 read_object-returns-in-Some-strip_byte-clause-shared g t c =
     let i = c.loop-key.invariant in
-    member_shared c.loop-key.rest.now c.loop-key.cache c.read_member.new.cache (put_each [] i.0) c.in_ok-object.object.pairs c.in_ok-key.key c.in_ok-key.value (c.in_ok-object.ensures.members ∙ ap (put_each []) (taken_above c.args.scratch.now.members.items (c.loop-key.invariant.0 ++ (c.in_ok-key.key, c.in_ok-key.value) ∷ []) c.push.new.self.items _ c.len-base.result (c.len-base.ensures ∙ c.args.scratch.now.members.ok.0) (pushed_above c.args.scratch.now.members.items c.loop-key.invariant.0 c.loop-key.scratch.members.items c.read_member.new.scratch.members.items c.push.new.self.items (c.in_ok-key.key, c.in_ok-key.value) c.loop-key.invariant.1 c.in_ok-key.ensures.members c.in_ok-push.ensures.items) refl) ∙ put_last [] c.loop-key.invariant.0 (c.in_ok-key.key, c.in_ok-key.value)) c.read_member.ensures.cache i.3.1 c.in_ok-key.ensures.shared.0 c.in_ok-key.ensures.shared.1
+    member_shared c.loop-key.rest.now c.loop-key.cache c.read_member.new.cache (put_each [] i.0) c.in_ok-object.object.pairs c.in_ok-key.key c.in_ok-key.value (c.in_ok-object.ensures.members ∙ ap (put_each []) (taken_above c.args.scratch.now.members.items (c.loop-key.invariant.0 ++ (c.in_ok-key.key, c.in_ok-key.value) ∷ []) c.push.new.self.items _ c.len-base.result (c.len-base.ensures ∙ c.args.scratch.now.members.ok.0) (pushed_above c.args.scratch.now.members.items c.loop-key.invariant.0 c.loop-key.scratch.members.items c.read_member.new.scratch.members.items c.push.new.self.items (c.in_ok-key.key, c.in_ok-key.value) c.loop-key.invariant.1 c.in_ok-key.ensures.members c.in_ok-push.ensures.items) refl) ∙ put_each-append [] c.loop-key.invariant.0 ((c.in_ok-key.key, c.in_ok-key.value) ∷ [])) c.read_member.ensures.cache i.3.1 c.in_ok-key.ensures.shared.0 c.in_ok-key.ensures.shared.1
 
 pub read_member-returns-in_default-clause-cache : goal.read_member-returns-in_default-clause-cache
 read_member-returns-in_default-clause-cache g t c =

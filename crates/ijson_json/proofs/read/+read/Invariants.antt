@@ -1,10 +1,10 @@
 use Rattle.std.proofs.Common.{◌≡◌, ℕ, List, [], ◌+◌, ◌-◌, ◌*◌, length, ◌∷◌, ◌++◌}
 use denote.Shadow.{shadow}
 use denote.Text.{Utf8}
+use Rattle.ijson_table.specs.Store.{put_each}
 use Rattle.ijson_value.specs.Tree.{Tree, items_of, members_of}
 use Rattle.ijson_value.specs.WellFormed.{WellFormed, item_trees, pair_trees}
-use Rattle.ijson_json.specs.Settled.{settled_items, settled_pairs, put_all}
-use Rattle.ijson_json.specs.private.PutEach.{put_each}
+use Rattle.ijson_json.specs.Settled.{settled_items, settled_pairs}
 use Rattle.ijson_json.specs.AddsOnlyRead.{AddsOnlyRead}
 use Rattle.ijson_json.specs.AreShared.{ItemsAreShared, MembersAreShared}
 use Rattle.ijson_json.proofs.Unique.{items_shape, members_shape}
@@ -43,7 +43,7 @@ abbrev pub invariant-read_object-loop-key : goal.invariant-read_object-loop-key
 invariant-read_object-loop-key g l =
     (gathered : List (List ℕ × WellFormed)) × (l.scratch.members.items ≡ l.fn.scratch.members.items ++ gathered)
     × ((written : List (List ℕ × Tree)) × Reached (List ℕ × Tree) members_shape objects l.opened (123 ∷ l.inside) written l.rest
-    × (pair_list (put_each [] gathered) ≡ put_all [] (settled_pairs (members_of written))))
+    × (pair_list (put_each [] gathered) ≡ put_each [] (settled_pairs (members_of written))))
     × (AddsOnlyRead (123 ∷ l.inside) l.fn.cache l.cache × MembersAreShared l.cache (pair_trees (put_each [] gathered)))
     × (l.scratch.values.items ≡ l.fn.scratch.values.items)
     × shadow (Utf8 l.rest)
