@@ -24,12 +24,13 @@ use Rattle.ijson_number.proofs.DigitsOf.{digits_are}
 abbrev pub Below : List ℕ → Type 0
 Below ds = AllByRecursion (λ d. d < 10) ds
 
-back : (ds : List ℕ) → digits_from_text (digits_text ds) ≡ ds
-back [] = refl
-back (d ∷ ds) = let h : 48 + d - 48 ≡ d = omega arith in rw (h, back ds) refl
+-- digits that are written are read as they were
+pub read_back : (ds : List ℕ) → digits_from_text (digits_text ds) ≡ ds
+read_back [] = refl
+read_back (d ∷ ds) = let h : 48 + d - 48 ≡ d = omega arith in rw (h, read_back ds) refl
 
 pub value_text : (ds : List ℕ) → value (digits_text ds) ≡ number_from_digits 10 ds
-value_text ds = ap (number_from_digits 10) (back ds)
+value_text ds = ap (number_from_digits 10) (read_back ds)
 
 pub text_digits : (ds : List ℕ) → Below ds → AllDigits (digits_text ds)
 text_digits [] h = tt

@@ -1,5 +1,5 @@
 -- Numbers that are whole, and their digits.
-use Rattle.std.proofs.Common.{◌≡◌, ◌≢◌, ◌⊎◌, ℕ, zero, suc, ◌+◌, ◌-◌, ◌*◌, ◌/◌, ◌%◌, ◌^◌, ◌<◌, ◌≤◌, Bool, false, List, [], ◌∷◌, ◌++◌, length, get_or, drop, take, set, Option, Some, None, refl, ap, sym, ◌∙◌, inl, inr, arith, append_assoc, pow-add}
+use Rattle.std.proofs.Common.{◌≡◌, ◌≢◌, ◌⊎◌, ℕ, zero, suc, ◌+◌, ◌-◌, ◌*◌, ◌/◌, ◌%◌, ◌^◌, ◌<◌, ◌≤◌, Bool, false, List, [], ◌∷◌, ◌++◌, length, get_or, take, Option, Some, None, refl, ap, sym, ◌∙◌, inl, inr, arith, pow-add}
 use Rattle.std.specs.Prelude.{ℤ, pos, negsuc, neg_ℤ, nat_abs, IfNone, ◌-ℤ◌, ◌*ℤ◌, ◌≤ℤ◌, ◌<ℤ◌}
 use Rattle.std.specs.Int.Digits.{digits_of, number_from_digits}
 use Rattle.std.specs.Ordering.{int_cmp, is_eq}
@@ -10,7 +10,7 @@ use Rattle.std.proofs.lemmas.Int.{ints}
 use Rattle.std.proofs.lemmas.Int.Digits.{digits_of_step, all_below_base_digits_of, first_digits_of, number_digits_of, number_lt}
 use Rattle.std.specs.List.{All}
 use Rattle.std.proofs.lemmas.Bool.{cases_lt}
-use Rattle.std.proofs.lemmas.List.{drop-set, length-take}
+use Rattle.std.proofs.lemmas.List.{length-take}
 use Rattle.std.proofs.lemmas.List.Elements.{All-from_recursion, recursion_from_All}
 use Rattle.ijson_number.specs.Decimal.{Decimal, IsPlain}
 use Rattle.ijson_number.specs.Integers.{integer, HasValue}
@@ -25,13 +25,6 @@ use Rattle.ijson_number.specs.Strips.{signed}
 use Rattle.ijson_number.specs.laws.Tens.{signed_mul, abs_signed}
 use Rattle.ijson_number.proofs.Exponents.{within_in_range}
 use Rattle.ijson_number.proofs.Denotes.{stripped_plain}
-
--- the digit that is written next
-pub digit_step : (number rest start : ℕ) (buffer : List ℕ) → digits_of 10 number ≡ digits_of 10 rest ++ drop start buffer → 0 < rest → 0 < start → start ≤ length buffer → digits_of 10 number ≡ digits_of 10 (rest / 10) ++ drop (start - 1) (set buffer (start - 1) (rest % 10))
-digit_step number rest start buffer e r s l =
-    let k : start - 1 + 1 ≡ start = omega arith in
-    let d : drop (start - 1) (set buffer (start - 1) (rest % 10)) ≡ rest % 10 ∷ drop (start - 1 + 1) buffer = drop-set buffer (start - 1) (rest % 10) (omega arith) in
-    e ∙ rw (digits_of_step 10 rest (omega arith) r, d, k) (append_assoc (digits_of 10 (rest / 10)) (rest % 10 ∷ []) (drop start buffer))
 
 last_pushed : (ds : List ℕ) (d : ℕ) → get_or (ds ++ d ∷ []) (length (ds ++ d ∷ []) - 1) 0 ≡ d
 last_pushed [] d = refl
@@ -147,19 +140,6 @@ ten_out number rest tens h e =
     let r : rest ≡ rest / 10 * 10 = omega arith in
     let p : 10 ^ (tens + 1) ≡ 10 ^ tens * 10 ^ 1 = pow-add 10 tens 1 in
     e ∙ rw p (ten_moved (rest / 10) rest (10 ^ tens) r)
-
--- there is room for one more digit
-pub room_left : (rest start : ℕ) → 0 < rest → rest < 10 ^ start → 0 < start
-room_left rest zero r s = absurd (omega arith)
-room_left rest (suc k) r s = omega arith
-
--- one digit fewer is left
-pub rest_small : (rest start : ℕ) → 0 < start → rest < 10 ^ start → rest / 10 < 10 ^ (start - 1)
-rest_small rest zero h s = absurd (omega arith)
-rest_small rest (suc k) h s =
-    let e : suc k - 1 ≡ k = omega arith in
-    let t : rest < 10 * 10 ^ k = rw (pow-succ' 10 k) at s in
-    rw e (omega arith)
 
 digits_some : (ds : List ℕ) (v : ℕ) → number_from_digits 10 ds ≡ v → v % 10 ≢ 0 → 0 < length ds
 digits_some [] v h m = absurd (m (rw (← h) refl))

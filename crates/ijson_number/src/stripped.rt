@@ -11,6 +11,7 @@ ghost use Rattle.std.proofs.Props.{props};
 use crate::integers::{scaled, without_tens};
 use crate::number::INumber;
 use crate::stored::{LongNumber, Stored};
+use itoa::write_digits;
 
 /// How many digits there is room for: a word has no more.
 pub const ROOM: usize = 20;
@@ -27,16 +28,16 @@ pub struct StrippedNumber<'a> {
     ghost stripped: { IsStored negative digits.now } by { Prim.hlevel props },
 }
 
-/// Writes the digits of a number to the end of the room.
+/// Writes the digits of a number that isn't zero to the end of the room. Their text is written first, four at a time, and then
+/// all of it is made digits at once, with what stands in front of them.
 fn written(number: u64, room: &mut [u8; ROOM]) -> &[u8]
+    requires { 0 < number }
     ensures { result.now ≡ digits_of 10 number }
 {
-    let mut start = ROOM;
-    let mut rest = number;
-    while rest > 0 {
-        start -= 1;
-        room[start] = (rest % 10) as u8;
-        rest /= 10;
+    let mut text = [0; ROOM];
+    let start = write_digits(number, &mut text, ROOM);
+    for at in 0..ROOM {
+        room[at] = text[at].saturating_sub(b'0');
     }
     &room[start..]
 }
