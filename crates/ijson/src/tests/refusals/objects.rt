@@ -56,15 +56,16 @@ fn is_back(refused: &RefusedPair, len: usize) -> bool {
     }
 }
 
-/// A list of the pairs, and the first of them once more.
+/// A list of the five pairs, and the first of them once more.
 fn listed(alloc: Global) -> Result<Vec<(IString, IValue)>, Fail> {
     let mut pairs = match Vec::with_capacity(alloc, 6) {
         Ok(pairs) => pairs,
         Err(AllocError) => Vec::with_capacity(alloc, 6)?,
     };
-    for (text, value) in PAIRS.iter().chain(PAIRS.iter().take(1)) {
+    for (text, value) in PAIRS.iter() {
         pairs.push((key(alloc, text)?, IValue::from(*value)))?;
     }
+    pairs.push((key(alloc, "a")?, IValue::from(1u8)))?;
     Ok(pairs)
 }
 

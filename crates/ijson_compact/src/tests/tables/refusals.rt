@@ -135,15 +135,16 @@ fn a_fixed_table(rt: HostRuntime) -> Result<(), Fail> {
     Ok(())
 }
 
-/// A list of the pairs, and the first of them once more.
+/// A list of the five pairs, and the first of them once more.
 fn listed(alloc: Global) -> Result<Vec<(IString, u32)>, AllocError> {
     let mut pairs = match Vec::with_capacity(alloc, 6) {
         Ok(pairs) => pairs,
         Err(AllocError) => Vec::with_capacity(alloc, 6)?,
     };
-    for (text, value) in PAIRS.iter().chain(PAIRS.iter().take(1)) {
+    for (text, value) in PAIRS.iter() {
         pairs.push((key(alloc, text)?, *value))?;
     }
+    pairs.push((key(alloc, "a")?, 1))?;
     Ok(pairs)
 }
 
