@@ -63,6 +63,8 @@ def signature_at(lines, at):
         if line.rstrip().endswith(("{", ";")):
             break
     text = re.sub(r"([(<]) ", r"\1", " ".join(parts)).replace(", )", ")")
+    # whether a body may write to its own parameter is no matter of its callers
+    text = re.sub(r"([(,] ?)mut (\w+:)", r"\1\2", text)
     return re.sub(r"\s*[{;]$", "", text)
 
 
