@@ -15,11 +15,22 @@ use crate::string::{IString, StringCache};
 use crate::value::IValue;
 use std::alloc::{AllocError, Global};
 use std::hash::{BuildHasherDefault, FoldHasher};
+use std::process::Abort;
 
 type Cache = StringCache<BuildHasherDefault<FoldHasher>>;
 
 fn empty_cache(alloc: Global) -> Cache {
     StringCache::new(alloc, BuildHasherDefault::<FoldHasher>::new())
+}
+
+/// A text through a cache of its own.
+fn key(rt: &impl Abort, alloc: Global, letters: &str) -> IString {
+    IString::intern(&mut empty_cache(alloc), letters).expect(rt, "a text")
+}
+
+/// What `text` spells, through a cache of its own.
+fn parsed(rt: &impl Abort, alloc: Global, text: &str) -> IValue {
+    from_json(alloc, &mut empty_cache(alloc), text).expect(rt, text)
 }
 
 /// A text through a cache of its own.

@@ -20,11 +20,22 @@ use ijson_string::{IString, StringCache};
 use ijson_value::value::IValue;
 use std::alloc::{AllocError, Global};
 use std::hash::{BuildHasherDefault, FoldHasher};
+use std::process::Abort;
 
 type Cache = StringCache<BuildHasherDefault<FoldHasher>>;
 
 fn empty_cache(alloc: Global) -> Cache {
     StringCache::new(alloc, BuildHasherDefault::<FoldHasher>::new())
+}
+
+/// A text through a cache of its own.
+fn key(rt: &impl Abort, alloc: Global, letters: &str) -> IString {
+    IString::intern(&mut empty_cache(alloc), letters).expect(rt, "a text")
+}
+
+/// What `text` spells, through a cache of its own.
+fn parsed(rt: &impl Abort, alloc: Global, text: &str) -> IValue {
+    from_json(alloc, &mut empty_cache(alloc), text).expect(rt, text)
 }
 
 /// A text through a cache of its own.
@@ -48,12 +59,14 @@ fn rewritten(alloc: Global, text: &str) -> Result<String, JsonError> {
 
 /// `inside` between `count` times `opening` and `count` times `closing`.
 fn nested(
+    rt: &impl Abort,
     alloc: Global,
     opening: &str,
     count: usize,
     inside: &str,
     closing: &str,
-) -> Result<String, AllocError> {
-    let (front, behind) = (opening.repeat(alloc, count)?, closing.repeat(alloc, count)?);
-    format!(in alloc; "{front}{inside}{behind}")
+) -> String {
+    let front = opening.repeat(alloc, count).expect(rt, "the openings");
+    let behind = closing.repeat(alloc, count).expect(rt, "the closings");
+    format!(in alloc; "{front}{inside}{behind}").expect(rt, "a text")
 }

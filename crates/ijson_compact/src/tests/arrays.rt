@@ -9,16 +9,17 @@ use std::process::Abort;
 use std::test::Fail;
 
 /// The array that letters spell: `n` is null, `t` true and `f` false.
-fn spelled(alloc: Global, letters: &str) -> Result<IArray, Refused> {
+fn spelled(rt: &impl Abort, alloc: Global, letters: &str) -> IArray {
     let mut array = IArray::new(alloc);
     for letter in letters.bytes() {
-        array.push(match letter {
+        let item = match letter {
             b't' => IValue::TRUE,
             b'f' => IValue::FALSE,
             _ => IValue::NULL,
-        })?;
+        };
+        array.push(item).expect(rt, "an item");
     }
-    Ok(array)
+    array
 }
 
 /// The letter of an item.
@@ -69,21 +70,20 @@ fn push_three(array: &mut IArray) -> Result<(), AllocError>
 }
 
 /// Takes out where there is nothing, and inserts before, behind and between.
-fn inserts(rt: &impl Abort, array: &mut IArray) -> Result<(), Refused> {
+fn inserts(rt: &impl Abort, array: &mut IArray) {
     assert!(rt; array.remove(0).is_none() && array.swap_remove(0).is_none());
     assert!(rt; array.pop().is_none());
-    array.insert(0, IValue::NULL)?;
-    array.push(IValue::TRUE)?;
-    array.insert(1, IValue::FALSE)
+    array.insert(0, IValue::NULL).expect(rt, "an item");
+    array.push(IValue::TRUE).expect(rt, "an item");
+    array.insert(1, IValue::FALSE).expect(rt, "an item");
 }
 
 #[test]
-fn insertions(rt: HostRuntime) -> Result<(), Fail> {
+fn insertions(rt: HostRuntime) {
     let mut array = IArray::new(rt.alloc());
-    assert_eq!(rt; array.capacity(), 0);
-    inserts(&rt, &mut array)?;
+    assert!(rt; array.capacity() == 0);
+    inserts(&rt, &mut array);
     assert!(rt; is_spelled(&array, "nft"));
-    Ok(())
 }
 
 /// Takes the items of `ntf` out in two ways, and leaves the first.
@@ -94,20 +94,18 @@ fn removes(rt: &impl Abort, array: &mut IArray) {
 }
 
 #[test]
-fn removals(rt: HostRuntime) -> Result<(), Fail> {
-    removes(&rt, &mut spelled(rt.alloc(), "ntf")?);
-    let mut array = spelled(rt.alloc(), "ntf")?;
+fn removals(rt: HostRuntime) {
+    removes(&rt, &mut spelled(&rt, rt.alloc(), "ntf"));
+    let mut array = spelled(&rt, rt.alloc(), "ntf");
     assert!(rt; is_item(array.swap_remove(0), b'n') && is_spelled(&array, "ft"));
-    Ok(())
 }
 
 #[test]
-fn edits(rt: HostRuntime) -> Result<(), Fail> {
-    let mut array = edited(rt.alloc(), IValue::FALSE)?;
+fn edits(rt: HostRuntime) {
+    let mut array = edited(rt.alloc(), IValue::FALSE).expect(&rt, "an array");
     assert!(rt; is_spelled(&array, "tf") && array[1].is_false());
     array.as_mut_slice().reverse();
     assert!(rt; is_spelled(&array, "ft"));
-    Ok(())
 }
 
 /// Cuts `ntf` to a length past its own, to one item, and to none. The room stays.
@@ -122,22 +120,22 @@ fn cuts(rt: &impl Abort, array: &mut IArray) {
 }
 
 #[test]
-fn lengths_and_room(rt: HostRuntime) -> Result<(), Fail> {
-    let mut array = spelled(rt.alloc(), "ntf")?;
+fn lengths_and_room(rt: HostRuntime) {
+    let mut array = spelled(&rt, rt.alloc(), "ntf");
     cuts(&rt, &mut array);
-    array.shrink_to_fit()?;
-    assert_eq!(rt; array.capacity(), 0);
-    push_three(&mut array)?;
+    array.shrink_to_fit().expect(&rt, "no room");
+    assert!(rt; array.capacity() == 0);
+    push_three(&mut array).expect(&rt, "three items");
     assert!(rt; is_spelled(&array, "nnn"));
-    assert!(rt; IArray::with_capacity(rt.alloc(), 7)?.capacity() >= 7);
-    Ok(())
+    let roomy = IArray::with_capacity(rt.alloc(), 7).expect(&rt, "room");
+    assert!(rt; roomy.capacity() >= 7);
 }
 
 /// Gives the items of `ntf` out.
 fn gives_out(rt: &impl Abort, array: IArray) {
     let mut items = array.into_iter();
     for (left, item) in GIVEN {
-        assert_eq!(rt; items.size_hint(), (left, Some(left)));
+        assert!(rt; items.size_hint() == (left, Some(left)));
         assert!(rt; items.len() == left && is_item(items.next(), item));
     }
     assert!(rt; items.len() == 0 && items.next().is_none() && items.next().is_none());
@@ -147,27 +145,28 @@ fn gives_out(rt: &impl Abort, array: IArray) {
 const GIVEN: [(usize, u8); 3] = [(3, b'n'), (2, b't'), (1, b'f')];
 
 #[test]
-fn iterators(rt: HostRuntime) -> Result<(), Fail> {
-    let array = spelled(rt.alloc(), "ntf")?;
+fn iterators(rt: HostRuntime) {
+    let array = spelled(&rt, rt.alloc(), "ntf");
     assert!(rt; array.iter().len() == 3 && is_spelled(&array, "ntf"));
     gives_out(&rt, array);
     assert!(rt; IArray::new(rt.alloc()).into_iter().next().is_none());
-    Ok(())
 }
 
 /// The array `nt`, extended by `ff` and by nothing.
-fn extended(alloc: Global) -> Result<IArray, Refused> {
-    let mut array = IArray::from_iter(alloc, spelled(alloc, "nt")?)?;
-    array.extend(spelled(alloc, "ff")?)?;
-    array.extend(IArray::new(alloc))?;
-    Ok(array)
+fn extended(rt: &impl Abort, alloc: Global) -> IArray {
+    let mut array = IArray::from_iter(alloc, spelled(rt, alloc, "nt")).expect(rt, "two items");
+    array
+        .extend(spelled(rt, alloc, "ff"))
+        .expect(rt, "two more");
+    array.extend(IArray::new(alloc)).expect(rt, "no more");
+    array
 }
 
 #[test]
-fn arrays_of_other_items(rt: HostRuntime) -> Result<(), Fail> {
-    let array = extended(rt.alloc())?;
+fn arrays_of_other_items(rt: HostRuntime) {
+    let array = extended(&rt, rt.alloc());
     assert!(rt; is_spelled(&array, "ntff"));
-    let list: Vec<IValue> = array.into_iter().collect(rt.alloc())?;
-    assert!(rt; is_spelled(&IArray::from_vec(rt.alloc(), list)?, "ntff"));
-    Ok(())
+    let list: Vec<IValue> = array.into_iter().collect(rt.alloc()).expect(&rt, "a list");
+    let again = IArray::from_vec(rt.alloc(), list).expect(&rt, "an array");
+    assert!(rt; is_spelled(&again, "ntff"));
 }

@@ -2,19 +2,26 @@
 
 use super::empty_cache;
 use ijson_json::{from_json, to_json};
-use std::test::Fail;
+use ijson_value::value::IValue;
+use std::alloc::Global;
+use std::process::Abort;
+
+/// Asserts what is written of a value.
+fn is_written(rt: &impl Abort, alloc: Global, value: &IValue, want: &str) {
+    let written = to_json(alloc, value).expect(rt, "a text");
+    assert!(rt; written.as_str() == want);
+}
 
 #[test]
-fn long_texts_are_interned_once(rt: HostRuntime) -> Result<(), Fail> {
+fn long_texts_are_interned_once(rt: HostRuntime) {
     let text = "{\"longlong\":[\"longlong\",\"short\"]}";
     let mut cache = empty_cache(rt.alloc());
-    let before = from_json(rt.alloc(), &mut cache, text)?;
-    assert_eq!(rt; cache.len(), 1);
+    let before = from_json(rt.alloc(), &mut cache, text).expect(&rt, "a value");
+    assert!(rt; cache.len() == 1);
     assert!(rt; cache.contains("longlong"));
     cache.clear();
-    let after = from_json(rt.alloc(), &mut cache, text)?;
+    let after = from_json(rt.alloc(), &mut cache, text).expect(&rt, "a value");
     assert!(rt; before == after);
-    assert_eq!(rt; to_json(rt.alloc(), &before)?.as_str(), text);
-    assert_eq!(rt; to_json(rt.alloc(), &after)?.as_str(), text);
-    Ok(())
+    is_written(&rt, rt.alloc(), &before, text);
+    is_written(&rt, rt.alloc(), &after, text);
 }

@@ -1,6 +1,6 @@
 //! `compact` and `report` over devices that give and take few bytes at a time, and fail.
 
-ghost use Rattle.std.specs.Prelude.{IfOk};
+ghost use Rattle.std.specs.Prelude.{◌<◌, IfOk};
 ghost use Rattle.ijson_json.specs.Compacts.{IsCompactLine};
 
 use super::empty_cache;
@@ -13,7 +13,6 @@ use std::collections::VecDeque;
 use std::io;
 use std::io::{ErrorKind, Read, Write};
 use std::process::Abort;
-use std::test::Fail;
 
 /// The most bytes that a `Slow` moves in one call.
 const SLOW: usize = 3;
@@ -23,68 +22,57 @@ const TEXT: &[u8] = b"[1.50,true]";
 const LINE: &[u8] = b"[1.5,true]\n";
 
 /// Asserts that this line and the status 2 are reported of an answer.
-fn reported(
+fn reported(rt: &impl Abort, alloc: Global, answer: &Result<(), CompactError>, line: &[u8]) {
+    let mut errors = MemorySink::new(alloc, 3, 100).expect(rt, "a sink");
+    assert!(rt; report(answer, &mut errors) == 2);
+    assert!(rt; errors.bytes() == line);
+}
+
+/// Compacts a text over a sink that fails after so many bytes, and tells the answer and the sink.
+fn written_until(
     rt: &impl Abort,
     alloc: Global,
-    answer: &Result<(), CompactError>,
-    line: &[u8],
-) -> Result<(), Fail> {
-    let mut errors = MemorySink::new(alloc, 3, 100)?;
-    assert_eq!(rt; report(answer, &mut errors), 2);
-    assert_eq!(rt; errors.bytes(), line);
-    Ok(())
+    piece: usize,
+    fail_at: usize,
+) -> (Result<(), CompactError>, MemorySink)
+    requires { 0 < piece }
+{
+    let mut input = MemorySource::new(TEXT, piece, 12);
+    let mut output = MemorySink::new(alloc, piece, fail_at).expect(rt, "a sink");
+    let answer = compact(alloc, &mut input, &mut output, &mut empty_cache(alloc));
+    (answer, output)
 }
 
 #[test]
-fn a_sink_that_fails_got_a_beginning(rt: HostRuntime) -> Result<(), Fail> {
+fn a_sink_that_fails_got_a_beginning(rt: HostRuntime) {
     for piece in 1..4usize {
         for fail_at in 0..11usize {
-            let mut input = MemorySource::new(TEXT, piece, 12);
-            let mut output = MemorySink::new(rt.alloc(), piece, fail_at)?;
-            let answer = compact(
-                rt.alloc(),
-                &mut input,
-                &mut output,
-                &mut empty_cache(rt.alloc()),
-            );
-            assert_eq!(rt; answer, Err(CompactError::Write));
-            reported(&rt, rt.alloc(), &answer, b"ijson: write failed\n")?;
+            let (answer, output) = written_until(&rt, rt.alloc(), piece, fail_at);
+            assert!(rt; answer == Err(CompactError::Write));
+            reported(&rt, rt.alloc(), &answer, b"ijson: write failed\n");
             assert!(rt; LINE.starts_with(output.bytes()));
-            assert_eq!(rt; (output.bytes().len(), output.failures()), (fail_at, 1));
+            assert!(rt; output.bytes().len() == fail_at && output.failures() == 1);
         }
-        let mut input = MemorySource::new(TEXT, piece, 12);
-        let mut output = MemorySink::new(rt.alloc(), piece, 11)?;
-        let answer = compact(
-            rt.alloc(),
-            &mut input,
-            &mut output,
-            &mut empty_cache(rt.alloc()),
-        );
-        assert_eq!(rt; answer, Ok(()));
-        assert_eq!(rt; output.bytes(), LINE);
-        assert_eq!(rt; output.failures(), 0);
+        let (answer, output) = written_until(&rt, rt.alloc(), piece, 11);
+        assert!(rt; answer == Ok(()));
+        assert!(rt; output.bytes() == LINE);
+        assert!(rt; output.failures() == 0);
     }
-    Ok(())
 }
 
 #[test]
-fn a_source_that_fails_leaves_the_sink(rt: HostRuntime) -> Result<(), Fail> {
+fn a_source_that_fails_leaves_the_sink(rt: HostRuntime) {
+    let alloc = rt.alloc();
     for piece in 1..4usize {
         for fail_at in 0..12usize {
             let mut input = MemorySource::new(TEXT, piece, fail_at);
-            let mut output = MemorySink::new(rt.alloc(), piece, 100)?;
-            let answer = compact(
-                rt.alloc(),
-                &mut input,
-                &mut output,
-                &mut empty_cache(rt.alloc()),
-            );
-            assert_eq!(rt; answer, Err(CompactError::Read));
-            reported(&rt, rt.alloc(), &answer, b"ijson: read failed\n")?;
-            assert_eq!(rt; (output.bytes().len(), input.failures()), (0, 1));
+            let mut output = MemorySink::new(alloc, piece, 100).expect(&rt, "a sink");
+            let answer = compact(alloc, &mut input, &mut output, &mut empty_cache(alloc));
+            assert!(rt; answer == Err(CompactError::Read));
+            reported(&rt, alloc, &answer, b"ijson: read failed\n");
+            assert!(rt; output.bytes().is_empty() && input.failures() == 1);
         }
     }
-    Ok(())
 }
 
 /// Asserts what `compact` and `report` write of a text over devices that move 1, 2 or 3 bytes a call, and the status.
@@ -95,17 +83,16 @@ pub fn compacts(
     written: &[u8],
     line: &[u8],
     status: u8,
-) -> Result<(), Fail> {
+) {
     for piece in 1..4usize {
         let mut input = MemorySource::new(text, piece, text.len() + 1);
-        let mut output = MemorySink::new(alloc, piece, written.len() + 1)?;
-        let mut errors = MemorySink::new(alloc, piece, 100)?;
+        let mut output = MemorySink::new(alloc, piece, written.len() + 1).expect(rt, "a sink");
+        let mut errors = MemorySink::new(alloc, piece, 100).expect(rt, "a sink");
         let answer = compact(alloc, &mut input, &mut output, &mut empty_cache(alloc));
-        assert_eq!(rt; report(&answer, &mut errors), status);
-        assert_eq!(rt; output.bytes(), written);
-        assert_eq!(rt; errors.bytes(), line);
+        assert!(rt; report(&answer, &mut errors) == status);
+        assert!(rt; output.bytes() == written);
+        assert!(rt; errors.bytes() == line);
     }
-    Ok(())
 }
 
 /// Bytes, what is written of each, the line and the status.
@@ -124,11 +111,10 @@ const TEXTS: [(&[u8], &[u8], &[u8], u8); 6] = [
 ];
 
 #[test]
-fn texts_and_their_lines(rt: HostRuntime) -> Result<(), Fail> {
+fn texts_and_their_lines(rt: HostRuntime) {
     for (text, written, line, status) in TEXTS {
-        compacts(&rt, rt.alloc(), text, written, line, status)?;
+        compacts(&rt, rt.alloc(), text, written, line, status);
     }
-    Ok(())
 }
 
 /// Faults, the status of each, and the line.
@@ -154,16 +140,15 @@ const REPORTS: [(CompactError, u8, &[u8]); 6] = [
 ];
 
 #[test]
-fn reports_have_a_line_and_a_status(rt: HostRuntime) -> Result<(), Fail> {
+fn reports_have_a_line_and_a_status(rt: HostRuntime) {
     for (error, status, line) in REPORTS {
-        let mut errors = MemorySink::new(rt.alloc(), 7, 100)?;
-        assert_eq!(rt; report(&Err(error), &mut errors), status);
-        assert_eq!(rt; errors.bytes(), line);
-        let mut broken = MemorySink::new(rt.alloc(), 7, 3)?;
-        assert_eq!(rt; report(&Err(error), &mut broken), status);
-        assert_eq!(rt; broken.bytes(), b"ijs".as_slice());
+        let mut errors = MemorySink::new(rt.alloc(), 7, 100).expect(&rt, "a sink");
+        assert!(rt; report(&Err(error), &mut errors) == status);
+        assert!(rt; errors.bytes() == line);
+        let mut broken = MemorySink::new(rt.alloc(), 7, 3).expect(&rt, "a sink");
+        assert!(rt; report(&Err(error), &mut broken) == status);
+        assert!(rt; broken.bytes() == b"ijs".as_slice());
     }
-    Ok(())
 }
 
 /// A reader and writer that always fails.
@@ -187,13 +172,13 @@ impl Write for Broken {
 }
 
 #[test]
-fn streams_that_fail_are_faults(rt: HostRuntime) -> Result<(), Fail> {
+fn streams_that_fail_are_faults(rt: HostRuntime) {
     let mut source = StreamSource::new(Broken);
     let mut sink = StreamSink::new(Broken);
-    assert_eq!(rt; source.read(&mut [0; 4]), Err(DeviceFault));
-    assert_eq!(rt; sink.write(&[]), Ok(0));
-    assert_eq!(rt; sink.write(b"a"), Err(DeviceFault));
-    assert_eq!(rt; (source.failures(), sink.failures()), (1, 1));
+    assert!(rt; source.read(&mut [0; 4]) == Err(DeviceFault));
+    assert!(rt; sink.write(&[]) == Ok(0));
+    assert!(rt; sink.write(b"a") == Err(DeviceFault));
+    assert!(rt; source.failures() == 1 && sink.failures() == 1);
     let mut input = StreamSource::new(Broken);
     let mut output = StreamSink::new(Broken);
     let answer = compact(
@@ -202,8 +187,7 @@ fn streams_that_fail_are_faults(rt: HostRuntime) -> Result<(), Fail> {
         &mut output,
         &mut empty_cache(rt.alloc()),
     );
-    assert_eq!(rt; answer, Err(CompactError::Read));
-    Ok(())
+    assert!(rt; answer == Err(CompactError::Read));
 }
 
 /// A reader of its bytes, and a writer behind them, that move three bytes a call.
@@ -245,40 +229,39 @@ fn compacted(alloc: Global, input: VecDeque<u8>) -> Result<VecDeque<u8>, Compact
     Ok(sink.into_inner())
 }
 
+/// A text of this front, 10,000 times this item, and this end.
+fn listed(rt: &impl Abort, alloc: Global, front: &[u8], item: &[u8], end: &[u8]) -> Slow {
+    let mut bytes = Vec::new(alloc);
+    bytes.extend_from_slice(front).expect(rt, "a text");
+    for _ in 0..10_000u32 {
+        bytes.extend_from_slice(item).expect(rt, "a longer text");
+    }
+    bytes.extend_from_slice(end).expect(rt, "a longer text");
+    Slow { bytes, given: 0 }
+}
+
+/// The text goes through queues.
+fn passes_queues(rt: &impl Abort, alloc: Global) {
+    let mut queue = VecDeque::new(alloc);
+    for byte in TEXT {
+        queue.push_back(*byte).expect(rt, "a byte");
+    }
+    let written = compacted(alloc, queue).expect(rt, "a line");
+    assert!(rt; written.iter().eq(LINE.iter()));
+}
+
 /// A text longer than the room that is made at a time goes through streams that move few bytes a call, and a
 /// short one through queues.
 #[test]
-fn streams_pass_bytes_on(rt: HostRuntime) -> Result<(), Fail> {
+fn streams_pass_bytes_on(rt: HostRuntime) {
     let alloc = rt.alloc();
-    let mut text = Vec::new(alloc);
-    let mut line = Vec::new(alloc);
-    text.extend_from_slice(b"[1.50")?;
-    line.extend_from_slice(b"[1.5")?;
-    for _ in 0..10_000u32 {
-        text.extend_from_slice(b", true ")?;
-        line.extend_from_slice(b",true")?;
-    }
-    text.extend_from_slice(b"]")?;
-    line.extend_from_slice(b"]\n")?;
-    let mut input = StreamSource::new(Slow {
-        bytes: text,
-        given: 0,
-    });
-    let mut output = StreamSink::new(Slow {
-        bytes: Vec::new(alloc),
-        given: 0,
-    });
+    let mut input = StreamSource::new(listed(&rt, alloc, b"[1.50", b", true ", b"]"));
+    let line = listed(&rt, alloc, b"[1.5", b",true", b"]\n").bytes;
+    let bytes = Vec::new(alloc);
+    let mut output = StreamSink::new(Slow { bytes, given: 0 });
     let answer = compact(alloc, &mut input, &mut output, &mut empty_cache(alloc));
-    assert_eq!(rt; answer, Ok(()));
-    assert_eq!(rt; (input.failures(), output.failures()), (0, 0));
+    assert!(rt; answer == Ok(()));
+    assert!(rt; input.failures() == 0 && output.failures() == 0);
     assert!(rt; output.into_inner().bytes == line);
-    let mut queue = VecDeque::new(alloc);
-    for byte in TEXT {
-        queue.push_back(*byte)?;
-    }
-    let Ok(written) = compacted(alloc, queue) else {
-        panic!(rt; "refused");
-    };
-    assert!(rt; written.iter().eq(LINE.iter()));
-    Ok(())
+    passes_queues(&rt, alloc);
 }

@@ -1,7 +1,6 @@
 //! Values that are equal, and values that are not.
 
-use super::read;
-use std::test::Fail;
+use super::parsed;
 
 /// Two texts, and whether their values are equal.
 const PAIRS: [(&str, &str, bool); 10] = [
@@ -18,12 +17,11 @@ const PAIRS: [(&str, &str, bool); 10] = [
 ];
 
 #[test]
-fn pairs(rt: HostRuntime) -> Result<(), Fail> {
+fn pairs(rt: HostRuntime) {
     for (left, right, want) in PAIRS {
-        let left = read(rt.alloc(), left)?;
-        let right = read(rt.alloc(), right)?;
+        let left = parsed(&rt, rt.alloc(), left);
+        let right = parsed(&rt, rt.alloc(), right);
         assert!(rt; (left == right) == want);
         assert!(rt; (right == left) == want);
     }
-    Ok(())
 }

@@ -5,7 +5,6 @@ use super::{nested, rewritten};
 use ijson_json::JsonError;
 use std::alloc::{AllocError, Global};
 use std::process::Abort;
-use std::test::Fail;
 
 /// Texts that are no JSON, and where that is told.
 const SYNTAX: [(&str, usize); 22] = [
@@ -94,51 +93,46 @@ fn line_of(alloc: Global, fault: JsonError) -> Result<String, AllocError> {
 }
 
 /// Asserts that a text is refused with a fault, as it is and from a device.
-fn refused(rt: &impl Abort, alloc: Global, text: &str, fault: JsonError) -> Result<(), Fail> {
+fn refused(rt: &impl Abort, alloc: Global, text: &str, fault: JsonError) {
     assert!(rt; rewritten(alloc, text).err() == Some(fault), "{text}");
-    let line = line_of(alloc, fault)?;
-    compacts(rt, alloc, text.as_bytes(), b"", line.as_bytes(), 1)
+    let line = line_of(alloc, fault).expect(rt, "a line");
+    compacts(rt, alloc, text.as_bytes(), b"", line.as_bytes(), 1);
 }
 
-fn no_syntax(rt: &impl Abort, alloc: Global, rows: &[(&str, usize)]) -> Result<(), Fail> {
+fn no_syntax(rt: &impl Abort, alloc: Global, rows: &[(&str, usize)]) {
     for (text, at) in rows {
-        refused(rt, alloc, text, JsonError::Syntax { at: *at })?;
+        refused(rt, alloc, text, JsonError::Syntax { at: *at });
     }
-    Ok(())
 }
 
 #[test]
-fn syntax(rt: HostRuntime) -> Result<(), Fail> {
-    no_syntax(&rt, rt.alloc(), &SYNTAX)?;
-    no_syntax(&rt, rt.alloc(), &NUMBER_SYNTAX)?;
-    no_syntax(&rt, rt.alloc(), &STRING_SYNTAX)
+fn syntax(rt: HostRuntime) {
+    no_syntax(&rt, rt.alloc(), &SYNTAX);
+    no_syntax(&rt, rt.alloc(), &NUMBER_SYNTAX);
+    no_syntax(&rt, rt.alloc(), &STRING_SYNTAX);
 }
 
 #[test]
-fn number_range(rt: HostRuntime) -> Result<(), Fail> {
+fn number_range(rt: HostRuntime) {
     for (text, at) in NUMBER_RANGE {
-        refused(&rt, rt.alloc(), text, JsonError::NumberRange { at })?;
+        refused(&rt, rt.alloc(), text, JsonError::NumberRange { at });
     }
-    Ok(())
 }
 
 /// Each proper beginning of a text is refused: inside the escape at its backslash, else at its end.
 #[test]
-fn beginnings(rt: HostRuntime) -> Result<(), Fail> {
+fn beginnings(rt: HostRuntime) {
     let text = "{\"a\":[1.5e3,\"\\u00e9\"],\"b\":null}";
     assert_eq!(rt; text.len(), 31);
     for length in 0..31usize {
-        let Some(beginning) = text.get(..length) else {
-            continue;
-        };
+        let beginning = text.get(..length).expect(&rt, "a beginning");
         let at = if 14 <= length && length <= 18 {
             13
         } else {
             length
         };
-        refused(&rt, rt.alloc(), beginning, JsonError::Syntax { at })?;
+        refused(&rt, rt.alloc(), beginning, JsonError::Syntax { at });
     }
-    Ok(())
 }
 
 /// Texts that are too deep: what stands in front, an opening, how often, what is inside, a closing, what stands behind, and where it is told.
@@ -149,12 +143,11 @@ const DEEP: [(&str, &str, usize, &str, &str, &str, usize); 3] = [
 ];
 
 #[test]
-fn too_deep(rt: HostRuntime) -> Result<(), Fail> {
+fn too_deep(rt: HostRuntime) {
     let alloc = rt.alloc();
     for (front, opening, count, inside, closing, behind, at) in DEEP {
-        let deep = nested(alloc, opening, count, inside, closing)?;
-        let text = format!(in alloc; "{front}{deep}{behind}")?;
-        refused(&rt, alloc, text.as_str(), JsonError::TooDeep { at })?;
+        let deep = nested(&rt, alloc, opening, count, inside, closing);
+        let text = format!(in alloc; "{front}{deep}{behind}").expect(&rt, "a text");
+        refused(&rt, alloc, text.as_str(), JsonError::TooDeep { at });
     }
-    Ok(())
 }

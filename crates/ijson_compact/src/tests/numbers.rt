@@ -5,7 +5,6 @@ use std::alloc::Global;
 use std::cmp::Ordering;
 use std::error::Error;
 use std::process::Abort;
-use std::test::Fail;
 
 /// Texts, the text that each is written as, and whether it has float shape.
 const ROWS: [(&str, &str, bool); 17] = [
@@ -36,80 +35,77 @@ const ROWS: [(&str, &str, bool); 17] = [
     ),
 ];
 
-fn displays(rt: &impl Abort, alloc: Global, number: &INumber, want: &str) -> Result<(), Fail> {
-    let text = format!(in alloc; "{number}")?;
-    assert_eq!(rt; text.as_str(), want);
-    Ok(())
+/// The number of a text.
+fn number(rt: &impl Abort, alloc: Global, text: &str) -> INumber {
+    INumber::from_str(alloc, text).expect(rt, text)
 }
 
-fn appends(rt: &impl Abort, alloc: Global, number: &INumber, want: &str) -> Result<(), Fail> {
-    let mut text = format!(in alloc; "[")?;
-    number.push_to(&mut text)?;
-    let behind = format!(in alloc; "[{want}")?;
-    assert_eq!(rt; text.as_str(), behind.as_str());
-    Ok(())
+fn displays(rt: &impl Abort, alloc: Global, number: &INumber, want: &str) {
+    let text = format!(in alloc; "{number}").expect(rt, "a text");
+    assert!(rt; text.as_str() == want);
 }
 
-fn written(
-    rt: &impl Abort,
-    alloc: Global,
-    text: &str,
-    want: &str,
-    point: bool,
-) -> Result<(), Fail> {
-    let number = INumber::from_str(alloc, text)?;
+fn appends(rt: &impl Abort, alloc: Global, number: &INumber, want: &str) {
+    let mut text = String::from_str(alloc, "[").expect(rt, "a text");
+    number.push_to(&mut text).expect(rt, "a longer text");
+    assert!(rt; text.as_str().strip_prefix("[") == Some(want));
+}
+
+fn written(rt: &impl Abort, alloc: Global, text: &str, want: &str, point: bool) {
+    let number = number(rt, alloc, text);
     assert!(rt; number.has_decimal_point() == point, "{text}");
-    appends(rt, alloc, &number, want)?;
-    displays(rt, alloc, &number, want)
+    appends(rt, alloc, &number, want);
+    displays(rt, alloc, &number, want);
 }
 
 #[test]
-fn rows(rt: HostRuntime) -> Result<(), Fail> {
-    let alloc = rt.alloc();
+fn rows(rt: HostRuntime) {
     for (text, want, point) in ROWS {
-        written(&rt, alloc, text, want, point)?;
+        written(&rt, rt.alloc(), text, want, point);
     }
-    Ok(())
 }
 
-fn debugs(rt: &impl Abort, alloc: Global, number: &INumber, want: &str) -> Result<(), Fail> {
-    let text = format!(in alloc; "{number:?}")?;
-    assert_eq!(rt; text.as_str(), want);
-    Ok(())
+fn debugs(rt: &impl Abort, alloc: Global, number: &INumber, want: &str) {
+    let text = format!(in alloc; "{number:?}").expect(rt, "a text");
+    assert!(rt; text.as_str() == want);
 }
 
 #[test]
-fn copies(rt: HostRuntime) -> Result<(), Fail> {
-    let long = INumber::from_str(rt.alloc(), "-1234567890123456789012345.5")?;
-    let copy = long.clone()?;
+fn copies(rt: HostRuntime) {
+    let long = number(&rt, rt.alloc(), "-1234567890123456789012345.5");
+    let copy = long.clone().expect(&rt, "a copy");
     assert!(rt; copy == long);
-    debugs(&rt, rt.alloc(), &copy, "-1234567890123456789012345.5")
+    debugs(&rt, rt.alloc(), &copy, "-1234567890123456789012345.5");
 }
 
 /// So many digits, none of them 0, of which no two runs of twenty side by side are alike.
-fn long_digits(alloc: Global, count: usize) -> Result<String, Fail> {
+fn long_digits(rt: &impl Abort, alloc: Global, count: usize) -> String {
     let mut text = String::new(alloc);
     for place in 0..count {
-        text.push((b'1' + (place % 9) as u8) as char)?;
+        let digit = (b'1' + (place % 9) as u8) as char;
+        text.push(digit).expect(rt, "a longer text");
     }
-    Ok(text)
+    text
+}
+
+/// Asserts that a text is what both formats write of its number.
+fn is_written_whole(rt: &impl Abort, alloc: Global, text: &str) {
+    let number = number(rt, alloc, text);
+    displays(rt, alloc, &number, text);
+    debugs(rt, alloc, &number, text);
 }
 
 /// A contract can't say that a formatter only gives up where its writer does, so long texts are tried.
 #[test]
-fn long_numbers_are_written_whole(rt: HostRuntime) -> Result<(), Fail> {
+fn long_numbers_are_written_whole(rt: HostRuntime) {
     let alloc = rt.alloc();
     for count in [101, 5000] {
-        let digits = long_digits(alloc, count)?;
-        let number = INumber::from_str(alloc, digits.as_str())?;
-        displays(&rt, alloc, &number, digits.as_str())?;
-        let fraction = format!(in alloc; "-0.{digits}")?;
-        let number = INumber::from_str(alloc, fraction.as_str())?;
-        displays(&rt, alloc, &number, fraction.as_str())?;
-        debugs(&rt, alloc, &number, fraction.as_str())?;
+        let digits = long_digits(&rt, alloc, count);
+        is_written_whole(&rt, alloc, digits.as_str());
+        let fraction = format!(in alloc; "-0.{digits}").expect(&rt, "a text");
+        is_written_whole(&rt, alloc, fraction.as_str());
     }
-    let greatest = INumber::from_str(alloc, "1e1073741824")?;
-    debugs(&rt, alloc, &greatest, "1e1073741824")
+    is_written_whole(&rt, alloc, "1e1073741824");
 }
 
 fn refused(rt: &impl Abort, alloc: Global, text: &str) {
@@ -117,52 +113,60 @@ fn refused(rt: &impl Abort, alloc: Global, text: &str) {
     assert!(rt; refusal == Some(ParseNumberError::Invalid));
 }
 
-fn tells(rt: &impl Abort, alloc: Global, error: &impl Error, want: &str) -> Result<(), Fail> {
-    let text = format!(in alloc; "{error}")?;
-    assert_eq!(rt; text.as_str(), want);
-    Ok(())
+fn tells(rt: &impl Abort, alloc: Global, error: &impl Error, want: &str) {
+    let text = format!(in alloc; "{error}").expect(rt, "a text");
+    assert!(rt; text.as_str() == want);
 }
+
+/// Texts of no number, or of none in range.
+const INVALID: [&str; 12] = [
+    "",
+    "01",
+    "1.",
+    "+1",
+    " 1",
+    "1 ",
+    "1e1073741825",
+    "1e",
+    ".5",
+    "10e1073741824",
+    "1e-1073741825",
+    "1e99999999999999999999999999999999999999999999",
+];
 
 #[test]
-fn refusals(rt: HostRuntime) -> Result<(), Fail> {
-    let alloc = rt.alloc();
-    refused(&rt, alloc, "");
-    refused(&rt, alloc, "01");
-    refused(&rt, alloc, "1.");
-    refused(&rt, alloc, "+1");
-    refused(&rt, alloc, " 1");
-    refused(&rt, alloc, "1 ");
-    refused(&rt, alloc, "1e1073741825");
-    refused(&rt, alloc, "1e");
-    refused(&rt, alloc, ".5");
-    refused(&rt, alloc, "10e1073741824");
-    refused(&rt, alloc, "1e-1073741825");
-    refused(&rt, alloc, "1e99999999999999999999999999999999999999999999");
+fn refusals(rt: HostRuntime) {
+    for text in INVALID {
+        refused(&rt, rt.alloc(), text);
+    }
     let invalid = "not a JSON number, or its exponent is out of range";
-    tells(&rt, alloc, &ParseNumberError::Invalid, invalid)?;
-    tells(&rt, alloc, &ParseNumberError::Memory, "out of memory")
+    tells(&rt, rt.alloc(), &ParseNumberError::Invalid, invalid);
+    tells(&rt, rt.alloc(), &ParseNumberError::Memory, "out of memory");
 }
 
-fn fault(rt: &impl Abort, text: &str, want: Option<usize>) {
-    assert!(rt; first_fault(text) == want, "{text}");
-}
+/// Texts, and where the first fault of each is, if it has one.
+const FAULTS: [(&str, Option<usize>); 14] = [
+    ("", Some(0)),
+    ("+1", Some(0)),
+    ("-", Some(1)),
+    ("01", Some(1)),
+    ("-01", Some(2)),
+    ("1-2", Some(1)),
+    ("1.", Some(2)),
+    ("1.x", Some(2)),
+    ("1e+", Some(3)),
+    ("1e5e", Some(3)),
+    ("1.5.5", Some(3)),
+    ("1e1073741825-", Some(12)),
+    ("-0.50E-007", None),
+    ("1e99999999999999999999999999999999999999999999", None),
+];
 
 #[test]
 fn faults(rt: HostRuntime) {
-    fault(&rt, "", Some(0));
-    fault(&rt, "+1", Some(0));
-    fault(&rt, "-", Some(1));
-    fault(&rt, "01", Some(1));
-    fault(&rt, "-01", Some(2));
-    fault(&rt, "1-2", Some(1));
-    fault(&rt, "1.", Some(2));
-    fault(&rt, "1.x", Some(2));
-    fault(&rt, "1e+", Some(3));
-    fault(&rt, "1e5e", Some(3));
-    fault(&rt, "1.5.5", Some(3));
-    fault(&rt, "1e1073741825-", Some(12));
-    fault(&rt, "-0.50E-007", None);
-    fault(&rt, "1e99999999999999999999999999999999999999999999", None);
+    for (text, want) in FAULTS {
+        assert!(rt; first_fault(text) == want, "{text}");
+    }
 }
 
 /// Two texts, and whether their numbers are equal.
@@ -176,19 +180,12 @@ const PAIRS: [(&str, &str, bool); 7] = [
     ("1", "-1", false),
 ];
 
-fn equal(rt: &impl Abort, alloc: Global, a: &str, b: &str, want: bool) -> Result<(), Fail> {
-    let is_equal = INumber::from_str(alloc, a)? == INumber::from_str(alloc, b)?;
-    assert!(rt; is_equal == want, "{a} {b}");
-    Ok(())
-}
-
 #[test]
-fn equality(rt: HostRuntime) -> Result<(), Fail> {
-    let alloc = rt.alloc();
+fn equality(rt: HostRuntime) {
     for (a, b, want) in PAIRS {
-        equal(&rt, alloc, a, b, want)?;
+        let is_equal = number(&rt, rt.alloc(), a) == number(&rt, rt.alloc(), b);
+        assert!(rt; is_equal == want, "{a} {b}");
     }
-    Ok(())
 }
 
 /// What a number is as an `i64` and as an `i32`.
@@ -217,12 +214,10 @@ const SIGNED: [(&str, Option<i64>, Option<i32>); 5] = [
 ];
 
 #[test]
-fn signed_texts(rt: HostRuntime) -> Result<(), Fail> {
-    let alloc = rt.alloc();
+fn signed_texts(rt: HostRuntime) {
     for (text, long, short) in SIGNED {
-        signed(&rt, INumber::from_str(alloc, text)?, long, short);
+        signed(&rt, number(&rt, rt.alloc(), text), long, short);
     }
-    Ok(())
 }
 
 /// Texts, and what each is as a `u64` and as a `u32`.
@@ -234,12 +229,10 @@ const UNSIGNED: [(&str, Option<u64>, Option<u32>); 4] = [
 ];
 
 #[test]
-fn unsigned_texts(rt: HostRuntime) -> Result<(), Fail> {
-    let alloc = rt.alloc();
+fn unsigned_texts(rt: HostRuntime) {
     for (text, long, short) in UNSIGNED {
-        unsigned(&rt, INumber::from_str(alloc, text)?, long, short);
+        unsigned(&rt, number(&rt, rt.alloc(), text), long, short);
     }
-    Ok(())
 }
 
 #[test]
@@ -314,21 +307,15 @@ fn compares(rt: &impl Abort, a: &INumber, b: &INumber, want: Ordering) {
     assert!(rt; (a == b) == (want == Ordering::Equal));
 }
 
-fn ordered(rt: &impl Abort, alloc: Global, a: &str, b: &str, want: Ordering) -> Result<(), Fail> {
-    let (a, b) = (INumber::from_str(alloc, a)?, INumber::from_str(alloc, b)?);
-    compares(rt, &a, &b, want);
-    Ok(())
-}
-
 #[test]
-fn order(rt: HostRuntime) -> Result<(), Fail> {
-    let alloc = rt.alloc();
+fn order(rt: HostRuntime) {
     for i in 0..ASCENDING.len() {
+        let a = number(&rt, rt.alloc(), ASCENDING[i]);
         for j in 0..ASCENDING.len() {
-            ordered(&rt, alloc, ASCENDING[i], ASCENDING[j], i.cmp(&j))?;
+            let b = number(&rt, rt.alloc(), ASCENDING[j]);
+            compares(&rt, &a, &b, i.cmp(&j));
         }
     }
-    Ok(())
 }
 
 /// Texts that are packed: the mantissa, the exponent, and whether the shape is float.
@@ -390,41 +377,34 @@ const STORED_DIGITS: [(&str, bool, &[u8], i32, bool); 7] = [
     ),
 ];
 
-fn formed(rt: &impl Abort, alloc: Global, text: &str, form: Form<'_>) -> Result<(), Fail> {
-    assert!(rt; INumber::from_str(alloc, text)?.form() == form, "{text}");
-    Ok(())
+fn formed(rt: &impl Abort, alloc: Global, text: &str, form: Form<'_>) {
+    assert!(rt; number(rt, alloc, text).form() == form, "{text}");
 }
 
 #[test]
-fn packed_forms(rt: HostRuntime) -> Result<(), Fail> {
-    let alloc = rt.alloc();
+fn packed_forms(rt: HostRuntime) {
     for (text, mantissa, exponent, point) in PACKED {
         let form = Form::Packed {
             mantissa,
             exponent,
             point,
         };
-        formed(&rt, alloc, text, form)?;
+        formed(&rt, rt.alloc(), text, form);
     }
-    Ok(())
 }
 
+/// Texts, and the word that each is kept in.
+const STORED_WORDS: [(&str, Form<'static>); 3] = [
+    ("36028797018963968", Form::I64(36028797018963968)),
+    ("9223372036854775808", Form::U64(9223372036854775808)),
+    ("-9223372036854775808", Form::I64(i64::MIN)),
+];
+
 #[test]
-fn word_forms(rt: HostRuntime) -> Result<(), Fail> {
-    let alloc = rt.alloc();
-    formed(
-        &rt,
-        alloc,
-        "36028797018963968",
-        Form::I64(36028797018963968),
-    )?;
-    formed(
-        &rt,
-        alloc,
-        "9223372036854775808",
-        Form::U64(9223372036854775808),
-    )?;
-    formed(&rt, alloc, "-9223372036854775808", Form::I64(i64::MIN))
+fn word_forms(rt: HostRuntime) {
+    for (text, form) in STORED_WORDS {
+        formed(&rt, rt.alloc(), text, form);
+    }
 }
 
 /// The kinds of stored form.
@@ -494,12 +474,11 @@ const BOUNDARIES: [(&str, Kind); 44] = [
 ];
 
 #[test]
-fn form_boundaries(rt: HostRuntime) -> Result<(), Fail> {
+fn form_boundaries(rt: HostRuntime) {
     for (text, want) in BOUNDARIES {
-        let number = INumber::from_str(rt.alloc(), text)?;
+        let number = number(&rt, rt.alloc(), text);
         assert!(rt; kind_of(number.form()) == want, "{text}");
     }
-    Ok(())
 }
 
 /// Two texts, their order, and how many digits may be read for it.
@@ -516,22 +495,19 @@ const COMPARED: [(&str, &str, Ordering, u128); 4] = [
 ];
 
 #[test]
-fn looks_of_compare(rt: HostRuntime) -> Result<(), Fail> {
-    let alloc = rt.alloc();
+fn looks_of_compare(rt: HostRuntime) {
     for (a, b, want, most) in COMPARED {
-        let (a, b) = (INumber::from_str(alloc, a)?, INumber::from_str(alloc, b)?);
+        let (a, b) = (number(&rt, rt.alloc(), a), number(&rt, rt.alloc(), b));
         let mut looks = Looks::new();
         // The counts show that the looks fit.
         assert!(rt; a.count() > 0 && b.count() < 40);
         assert!(rt; compare(&a, &b, &mut looks) == want);
         assert!(rt; looks.count() <= most);
     }
-    Ok(())
 }
 
 #[test]
-fn digit_forms(rt: HostRuntime) -> Result<(), Fail> {
-    let alloc = rt.alloc();
+fn digit_forms(rt: HostRuntime) {
     for (text, negative, digits, exponent, point) in STORED_DIGITS {
         let form = Form::Digits {
             negative,
@@ -539,9 +515,8 @@ fn digit_forms(rt: HostRuntime) -> Result<(), Fail> {
             exponent,
             point,
         };
-        formed(&rt, alloc, text, form)?;
+        formed(&rt, rt.alloc(), text, form);
     }
-    Ok(())
 }
 
 const WORDS_OF_I64: [u64; 21] = [
@@ -568,11 +543,8 @@ const FED: [(&str, &[u64]); 11] = [
 ];
 
 #[test]
-fn words(rt: HostRuntime) -> Result<(), Fail> {
-    let alloc = rt.alloc();
+fn words(rt: HostRuntime) {
     for (text, want) in FED {
-        let number = INumber::from_str(alloc, text)?;
-        feeds(&rt, alloc, &number, want)?;
+        feeds(&rt, rt.alloc(), &number(&rt, rt.alloc(), text), want);
     }
-    Ok(())
 }

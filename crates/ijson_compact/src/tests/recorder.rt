@@ -4,7 +4,6 @@ use std::alloc::Global;
 use std::cell::{Cell, RefCell};
 use std::hash::{Hash, Hasher};
 use std::process::Abort;
-use std::test::Fail;
 
 /// It notes the words of `write_u64`, and whether it was fed anything else or had no memory for a word. What a cell holds is no part of a value,
 /// so for a contract it stays as it was.
@@ -38,7 +37,7 @@ impl Hasher for Recorder<'_> {
 }
 
 /// Asserts that `value` feeds these words, each by `write_u64`, and nothing else.
-pub fn feeds<T: Hash>(rt: &impl Abort, alloc: Global, value: &T, want: &[u64]) -> Result<(), Fail> {
+pub fn feeds<T: Hash>(rt: &impl Abort, alloc: Global, value: &T, want: &[u64]) {
     let words = RefCell::new(Vec::new(alloc));
     let others = Cell::new(false);
     let mut recorder = Recorder {
@@ -47,7 +46,6 @@ pub fn feeds<T: Hash>(rt: &impl Abort, alloc: Global, value: &T, want: &[u64]) -
     };
     value.hash(&mut recorder);
     assert!(rt; !others.get());
-    let seen = words.try_borrow()?;
-    assert_eq!(rt; seen.as_slice(), want);
-    Ok(())
+    let seen = words.try_borrow().expect(rt, "the words");
+    assert!(rt; seen.as_slice() == want);
 }

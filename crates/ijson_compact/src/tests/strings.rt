@@ -1,68 +1,67 @@
-use super::empty_cache;
 use super::recorder::feeds;
+use super::{Cache, empty_cache};
 use ijson_string::IString;
 use std::alloc::Global;
-use std::test::Fail;
+use std::process::Abort;
+
+fn interned(rt: &impl Abort, cache: &mut Cache, text: &str) -> IString {
+    IString::intern(cache, text).expect(rt, "a text")
+}
 
 #[test]
-fn long_texts_alone_enter_the_cache(rt: HostRuntime) -> Result<(), Fail> {
+fn long_texts_alone_enter_the_cache(rt: HostRuntime) {
     let mut cache = empty_cache(rt.alloc());
-    let short = IString::intern(&mut cache, "seven77")?;
-    assert_eq!(rt; cache.len(), 0);
-    let long = IString::intern(&mut cache, "eight888")?;
-    let again = IString::intern(&mut cache, "eight888")?;
-    assert_eq!(rt; cache.len(), 1);
+    let short = interned(&rt, &mut cache, "seven77");
+    assert!(rt; cache.is_empty());
+    let long = interned(&rt, &mut cache, "eight888");
+    let again = interned(&rt, &mut cache, "eight888");
+    assert!(rt; cache.len() == 1);
     assert!(rt; cache.contains("eight888"));
     cache.clear();
-    assert_eq!(rt; cache.len(), 0);
+    assert!(rt; cache.is_empty());
     assert!(rt; long == again);
-    assert!(rt; short == short.clone()?);
-    let owned = long.to_owned_string(rt.alloc())?;
-    assert_eq!(rt; owned.as_str(), "eight888");
-    Ok(())
+    assert!(rt; short == short.clone().expect(&rt, "a copy"));
+    let owned = long.to_owned_string(rt.alloc()).expect(&rt, "a text");
+    assert!(rt; owned.as_str() == "eight888");
+}
+
+/// Asserts that a text and its copy are these letters, and print them.
+fn is_text(rt: &impl Abort, alloc: Global, text: &IString, letters: &str) {
+    assert!(rt; text.len() == letters.len());
+    assert!(rt; text.clone().expect(rt, "a copy").eq_str(letters));
+    let printed = format!(in alloc; "{text}").expect(rt, "a text");
+    assert!(rt; printed.as_str() == letters);
 }
 
 #[test]
-fn texts_of_each_length_are_shared_and_print(rt: HostRuntime) -> Result<(), Fail> {
-    let alloc = rt.alloc();
-    let mut text = String::new(alloc);
-    for _ in 0..20 {
-        text.push_str("0123456789")?;
-    }
-    let mut cache = empty_cache(alloc);
+fn texts_of_each_length_are_shared_and_print(rt: HostRuntime) {
+    let text = "0123456789".repeat(rt.alloc(), 20).expect(&rt, "a text");
+    let mut cache = empty_cache(rt.alloc());
     assert!(rt; cache.is_empty());
     for length in [0, 7, 8, 23, 24, 39, 40, 55, 56, 71, 72, 200] {
-        let Some(part) = text.as_str().get(..length) else {
-            continue;
-        };
-        let interned = IString::intern(&mut cache, part)?;
-        assert_eq!(rt; interned.len(), length);
-        assert!(rt; interned.clone()?.eq_str(part));
-        assert_eq!(rt; format!(in alloc; "{interned}")?.as_str(), part);
+        let letters = text.as_str().get(..length).expect(&rt, "a beginning");
+        let text = interned(&rt, &mut cache, letters);
+        assert!(rt; text.len() == length);
+        is_text(&rt, rt.alloc(), &text, letters);
     }
-    assert_eq!(rt; cache.len(), 10);
-    Ok(())
+    assert!(rt; cache.len() == 10);
 }
 
 #[test]
-fn texts_compare_by_bytes_and_print(rt: HostRuntime) -> Result<(), Fail> {
+fn texts_compare_by_bytes_and_print(rt: HostRuntime) {
     let mut cache = empty_cache(rt.alloc());
-    let a = IString::intern(&mut cache, "interned_string_a")?;
-    let b = IString::intern(&mut cache, "interned_string_b")?;
-    let z = IString::intern(&mut cache, "z")?;
-    let e_acute = IString::intern(&mut cache, "é")?;
+    let a = interned(&rt, &mut cache, "interned_string_a");
+    let b = interned(&rt, &mut cache, "interned_string_b");
+    let z = interned(&rt, &mut cache, "z");
+    let e_acute = interned(&rt, &mut cache, "é");
     assert!(rt; a < b);
     assert!(rt; z < e_acute);
-    assert_eq!(rt; e_acute.as_bytes(), [0xc3, 0xa9].as_slice());
-    let printed = format!(in rt.alloc(); "{a} {e_acute} {b:?}")?;
-    assert_eq!(rt;
-        printed.as_str(),
-        "interned_string_a é \"interned_string_b\""
-    );
+    assert!(rt; e_acute.as_bytes() == [0xc3, 0xa9].as_slice());
+    let printed = format!(in rt.alloc(); "{a} {e_acute} {b:?}").expect(&rt, "a text");
+    assert!(rt; printed.as_str() == "interned_string_a é \"interned_string_b\"");
     let empty: IString = IString::default();
     assert!(rt; empty.is_empty());
-    assert_eq!(rt; IString::new().len(), 0);
-    Ok(())
+    assert!(rt; IString::new().len() == 0);
 }
 
 /// Texts, and the words that each feeds a hasher.
@@ -72,36 +71,34 @@ const FED: [(&str, &[u64]); 2] = [
 ];
 
 #[test]
-fn a_text_feeds_its_words(rt: HostRuntime) -> Result<(), Fail> {
+fn a_text_feeds_its_words(rt: HostRuntime) {
     let mut cache = empty_cache(rt.alloc());
     for (text, want) in FED {
-        let text = IString::intern(&mut cache, text)?;
-        feeds(&rt, rt.alloc(), &text, want)?;
+        let text = interned(&rt, &mut cache, text);
+        feeds(&rt, rt.alloc(), &text, want);
     }
-    Ok(())
 }
 
 /// Interns a long text and a short one, and then interns and clones both `further` times more.
-fn intern_again_and_again(alloc: Global, further: u32) -> Result<(), Fail> {
+fn intern_again_and_again(rt: &impl Abort, alloc: Global, further: u32) {
     let mut cache = empty_cache(alloc);
-    let long = IString::intern(&mut cache, "eight888")?;
-    let short = IString::intern(&mut cache, "seven77")?;
+    let long = interned(rt, &mut cache, "eight888");
+    let short = interned(rt, &mut cache, "seven77");
     for _ in 0..further {
-        let _long_again = IString::intern(&mut cache, "eight888")?;
-        let _short_again = IString::intern(&mut cache, "seven77")?;
-        let _long_copy = long.clone()?;
-        let _short_copy = short.clone()?;
+        let _long_again = interned(rt, &mut cache, "eight888");
+        let _short_again = interned(rt, &mut cache, "seven77");
+        let _long_copy = long.clone().expect(rt, "a copy");
+        let _short_copy = short.clone().expect(rt, "a copy");
     }
-    Ok(())
 }
 
 // Runs of this test and of the next one make the same number of requests for memory.
 #[test]
-fn one_intern_of_each_text(rt: HostRuntime) -> Result<(), Fail> {
-    intern_again_and_again(rt.alloc(), 0)
+fn one_intern_of_each_text(rt: HostRuntime) {
+    intern_again_and_again(&rt, rt.alloc(), 0);
 }
 
 #[test]
-fn a_thousand_further_interns_and_clones_take_no_memory(rt: HostRuntime) -> Result<(), Fail> {
-    intern_again_and_again(rt.alloc(), 1000)
+fn a_thousand_further_interns_and_clones_take_no_memory(rt: HostRuntime) {
+    intern_again_and_again(&rt, rt.alloc(), 1000);
 }

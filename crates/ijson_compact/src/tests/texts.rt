@@ -4,7 +4,6 @@ use super::devices::compacts;
 use super::{nested, rewritten};
 use std::alloc::Global;
 use std::process::Abort;
-use std::test::Fail;
 
 /// Texts of numbers, and how each is written.
 const NUMBERS: [(&str, &str); 19] = [
@@ -70,25 +69,24 @@ const STRINGS: [(&str, &str); 8] = [
 ];
 
 /// Asserts what is written of a text, as it is and from a device.
-fn is_written(rt: &impl Abort, alloc: Global, text: &str, want: &str) -> Result<(), Fail> {
-    let found = rewritten(alloc, text)?;
+fn is_written(rt: &impl Abort, alloc: Global, text: &str, want: &str) {
+    let found = rewritten(alloc, text).expect(rt, text);
     assert!(rt; found.as_str() == want, "{text}");
-    let line = format!(in alloc; "{want}\n")?;
-    compacts(rt, alloc, text.as_bytes(), line.as_bytes(), b"", 0)
+    let line = format!(in alloc; "{want}\n").expect(rt, "a line");
+    compacts(rt, alloc, text.as_bytes(), line.as_bytes(), b"", 0);
 }
 
-fn written(rt: &impl Abort, alloc: Global, rows: &[(&str, &str)]) -> Result<(), Fail> {
+fn written(rt: &impl Abort, alloc: Global, rows: &[(&str, &str)]) {
     for (text, want) in rows {
-        is_written(rt, alloc, text, want)?;
+        is_written(rt, alloc, text, want);
     }
-    Ok(())
 }
 
 #[test]
-fn texts(rt: HostRuntime) -> Result<(), Fail> {
-    written(&rt, rt.alloc(), &NUMBERS)?;
-    written(&rt, rt.alloc(), &CONTAINERS)?;
-    written(&rt, rt.alloc(), &STRINGS)
+fn texts(rt: HostRuntime) {
+    written(&rt, rt.alloc(), &NUMBERS);
+    written(&rt, rt.alloc(), &CONTAINERS);
+    written(&rt, rt.alloc(), &STRINGS);
 }
 
 /// How a control character is written between quotes.
@@ -129,51 +127,49 @@ const ESCAPES: [&str; 32] = [
 
 /// Each byte below 20 hexadecimal is refused raw, and written with a short escape or by its number.
 #[test]
-fn control_characters(rt: HostRuntime) -> Result<(), Fail> {
+fn control_characters(rt: HostRuntime) {
     let alloc = rt.alloc();
     for code in 0..32u8 {
-        let text = format!(in alloc; "\"\\u{code:04x}\"")?;
-        let found = rewritten(alloc, text.as_str())?;
+        let text = format!(in alloc; "\"\\u{code:04x}\"").expect(&rt, "a text");
+        let found = rewritten(alloc, text.as_str()).expect(&rt, "an escape");
         assert!(rt; found.as_str() == ESCAPES[code as usize]);
-        let raw = format!(in alloc; "\"{}\"", code as char)?;
+        let raw = format!(in alloc; "\"{}\"", code as char).expect(&rt, "a text");
         assert!(rt; rewritten(alloc, raw.as_str()).is_err());
     }
-    Ok(())
 }
 
 /// Texts that are as deep as they may be: an opening, what is inside, and a closing.
 const DEEPEST: [(&str, &str, &str); 2] = [("[", "", "]"), ("{\"a\":", "null", "}")];
 
 #[test]
-fn deepest(rt: HostRuntime) -> Result<(), Fail> {
-    let alloc = rt.alloc();
+fn deepest(rt: HostRuntime) {
     for (opening, inside, closing) in DEEPEST {
-        let text = nested(alloc, opening, 127, inside, closing)?;
-        is_written(&rt, alloc, text.as_str(), text.as_str())?;
+        let text = nested(&rt, rt.alloc(), opening, 127, inside, closing);
+        is_written(&rt, rt.alloc(), text.as_str(), text.as_str());
     }
-    Ok(())
 }
 
 /// 10,000 members of one object, each with its number as the value. The keys are `k`, and the number too where they are to differ.
-fn members(alloc: Global, differ: bool) -> Result<String, Fail> {
-    let mut text = String::from_str(alloc, "{")?;
+fn members(rt: &impl Abort, alloc: Global, differ: bool) -> String {
+    let mut text = String::from_str(alloc, "{").expect(rt, "a text");
     for number in 0..10_000u32 {
         let comma = if number == 0 { "" } else { "," };
         let member = if differ {
-            format!(in alloc; "{comma}\"k{number}\":{number}")?
+            format!(in alloc; "{comma}\"k{number}\":{number}")
         } else {
-            format!(in alloc; "{comma}\"k\":{number}")?
+            format!(in alloc; "{comma}\"k\":{number}")
         };
-        text.push_str(member.as_str())?;
+        let member = member.expect(rt, "a member");
+        text.push_str(member.as_str()).expect(rt, "a longer text");
     }
-    text.push('}')?;
-    Ok(text)
+    text.push('}').expect(rt, "a longer text");
+    text
 }
 
 #[test]
-fn many_members(rt: HostRuntime) -> Result<(), Fail> {
-    let same = members(rt.alloc(), false)?;
-    is_written(&rt, rt.alloc(), same.as_str(), "{\"k\":9999}")?;
-    let different = members(rt.alloc(), true)?;
-    is_written(&rt, rt.alloc(), different.as_str(), different.as_str())
+fn many_members(rt: HostRuntime) {
+    let same = members(&rt, rt.alloc(), false);
+    is_written(&rt, rt.alloc(), same.as_str(), "{\"k\":9999}");
+    let different = members(&rt, rt.alloc(), true);
+    is_written(&rt, rt.alloc(), different.as_str(), different.as_str());
 }

@@ -39,10 +39,10 @@ fn values_feed_their_words(rt: HostRuntime) -> Result<(), Fail> {
     let alloc = rt.alloc();
     for (text, words) in WORDS {
         let value = read(alloc, text)?;
-        feeds(&rt, alloc, &value, words)?;
+        feeds(&rt, alloc, &value, words);
         match value.destructure_ref() {
-            DestructuredRef::Array(array) => feeds(&rt, alloc, array, words)?,
-            DestructuredRef::Object(object) => feeds(&rt, alloc, object, words)?,
+            DestructuredRef::Array(array) => feeds(&rt, alloc, array, words),
+            DestructuredRef::Object(object) => feeds(&rt, alloc, object, words),
             _ => {}
         }
     }
