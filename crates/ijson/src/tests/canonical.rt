@@ -1,20 +1,17 @@
 //! Canonical texts.
 
-use super::read;
+use super::{empty_cache, parsed};
 use crate::array::IArray;
 use crate::canonical::canonical_json;
-use crate::json::{JsonError, to_json};
+use crate::json::{JsonError, from_json, to_json};
 use crate::value::IValue;
 use std::alloc::Global;
-use std::test::Fail;
+use std::process::Abort;
 
-/// The canonical text of what `text` spells.
-fn canonical(alloc: Global, text: &str) -> Result<String, JsonError> {
-    let value = read(alloc, text)?;
-    match canonical_json(alloc, &value) {
-        Ok(written) => Ok(written),
-        Err(_) => Err(JsonError::Memory),
-    }
+/// Asserts the canonical text of a value.
+fn is_canonical(rt: &impl Abort, alloc: Global, value: &IValue, want: &str) {
+    let found = canonical_json(alloc, value).expect(rt, "a text");
+    assert!(rt; found.as_str() == want);
 }
 
 /// Texts, and the canonical text of what each spells.
@@ -42,29 +39,49 @@ const TEXTS: [(&str, &str); 9] = [
 /// The keys are in the order of their bytes: `\u{10000}` is the greater one, though the lesser in UTF-16, and `"` the lesser one,
 /// though not where both are written with their escapes.
 #[test]
-fn canonical_texts(rt: HostRuntime) -> Result<(), Fail> {
+fn canonical_texts(rt: HostRuntime) {
     for (text, written) in TEXTS {
-        let found = canonical(rt.alloc(), text)?;
-        assert_eq!(rt; found.as_str(), written);
+        let value = parsed(&rt, rt.alloc(), text);
+        is_canonical(&rt, rt.alloc(), &value, written);
     }
-    Ok(())
+}
+
+/// So many arrays, one inside the other.
+fn arrays(rt: &impl Abort, alloc: Global, count: usize) -> IValue {
+    let mut value = IValue::from(IArray::new(alloc));
+    for _ in 1..count {
+        let mut outer = IArray::new(alloc);
+        outer.push(value).expect(rt, "an item");
+        value = IValue::from(outer);
+    }
+    value
+}
+
+/// What is written of so many arrays, one inside the other.
+fn brackets(rt: &impl Abort, alloc: Global, count: usize) -> String {
+    let front = "[".repeat(alloc, count).expect(rt, "the openings");
+    let behind = "]".repeat(alloc, count).expect(rt, "the closings");
+    format!(in alloc; "{front}{behind}").expect(rt, "a text")
+}
+
+/// Asserts what is written of a value.
+fn is_written(rt: &impl Abort, alloc: Global, value: &IValue, want: &str) {
+    let found = to_json(alloc, value).expect(rt, "a text");
+    assert!(rt; found.as_str() == want);
+}
+
+/// Asserts that a text is refused as too deep at its 128th opening.
+fn is_too_deep(rt: &impl Abort, alloc: Global, text: &str) {
+    let fault = from_json(alloc, &mut empty_cache(alloc), text).err();
+    assert!(rt; fault == Some(JsonError::TooDeep { at: 127 }));
 }
 
 /// 128 arrays, one inside the other, which are written and not read.
 #[test]
-fn canonical_at_any_depth(rt: HostRuntime) -> Result<(), Fail> {
-    let alloc = rt.alloc();
-    let (front, behind) = ("[".repeat(alloc, 128)?, "]".repeat(alloc, 128)?);
-    let text = format!(in alloc; "{front}{behind}")?;
-    let mut value = IValue::from(IArray::new(alloc));
-    for _ in 1..128usize {
-        let mut outer = IArray::new(alloc);
-        outer.push(value)?;
-        value = IValue::from(outer);
-    }
-    let found = canonical_json(alloc, &value)?;
-    assert_eq!(rt; found.as_str(), text.as_str());
-    assert_eq!(rt; to_json(alloc, &value)?.as_str(), text.as_str());
-    assert!(rt; read(alloc, text.as_str()).err() == Some(JsonError::TooDeep { at: 127 }));
-    Ok(())
+fn canonical_at_any_depth(rt: HostRuntime) {
+    let text = brackets(&rt, rt.alloc(), 128);
+    let value = arrays(&rt, rt.alloc(), 128);
+    is_canonical(&rt, rt.alloc(), &value, text.as_str());
+    is_written(&rt, rt.alloc(), &value, text.as_str());
+    is_too_deep(&rt, rt.alloc(), text.as_str());
 }

@@ -4,20 +4,18 @@ use crate::json::{CompactError, DeviceFault, JsonError};
 use std::alloc::Global;
 use std::error::Error;
 use std::process::Abort;
-use std::test::Fail;
 
 fn passed_on<E: Error>(fault: E) -> anyhow::Result<()> {
     Err(fault)?;
     Ok(())
 }
 
-fn keeps<E: Error>(rt: &impl Abort, alloc: Global, fault: E, text: &str) -> Result<(), Fail> {
+fn keeps<E: Error>(rt: &impl Abort, alloc: Global, fault: E, text: &str) {
     let Err(error) = passed_on(fault) else {
         panic!(rt; "{text}");
     };
-    let found = format!(in alloc; "{error}")?;
-    assert_eq!(rt; found.as_str(), text);
-    Ok(())
+    let found = format!(in alloc; "{error}").expect(rt, "a text");
+    assert!(rt; found.as_str() == text);
 }
 
 /// Faults of a text, and the text of each.
@@ -47,12 +45,12 @@ const OF_COMPACT: [(CompactError, &str); 5] = [
 ];
 
 #[test]
-fn faults_become_errors(rt: HostRuntime) -> Result<(), Fail> {
+fn faults_become_errors(rt: HostRuntime) {
     for (fault, text) in OF_TEXTS {
-        keeps(&rt, rt.alloc(), fault, text)?;
+        keeps(&rt, rt.alloc(), fault, text);
     }
     for (fault, text) in OF_COMPACT {
-        keeps(&rt, rt.alloc(), fault, text)?;
+        keeps(&rt, rt.alloc(), fault, text);
     }
-    keeps(&rt, rt.alloc(), DeviceFault, "a read or a write failed")
+    keeps(&rt, rt.alloc(), DeviceFault, "a read or a write failed");
 }

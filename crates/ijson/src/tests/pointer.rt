@@ -1,149 +1,174 @@
 //! Values that pointers name.
 
-use super::read;
+use super::parsed;
 use crate::json::to_json;
 use crate::pointer::{PointerError, Unresolved, resolve, resolve_mut};
 use crate::value::{Destructured, IValue};
 use std::alloc::Global;
-use std::test::Fail;
+use std::process::Abort;
 
-/// The text of the value that a pointer names, or `none`.
-fn named(alloc: Global, value: &IValue, pointer: &str) -> Result<String, Fail> {
-    match resolve(value, pointer)? {
-        Some(found) => Ok(to_json(alloc, found)?),
-        None => Ok(String::from_str(alloc, "none")?),
+/// Asserts what is written of a value.
+fn is_written(rt: &impl Abort, alloc: Global, value: &IValue, want: &str) {
+    let found = to_json(alloc, value).expect(rt, "a text");
+    assert!(rt; found.as_str() == want);
+}
+
+/// Asserts the text of the value that a pointer names, or `none`.
+fn names(rt: &impl Abort, alloc: Global, value: &IValue, pointer: &str, want: &str) {
+    match resolve(value, pointer).expect(rt, "a pointer") {
+        Some(found) => is_written(rt, alloc, found, want),
+        None => assert!(rt; want == "none"),
+    }
+}
+
+fn names_each(rt: &impl Abort, alloc: Global, text: &str, rows: &[(&str, &str)]) {
+    let value = parsed(rt, alloc, text);
+    for (pointer, want) in rows {
+        names(rt, alloc, &value, pointer, want);
+    }
+}
+
+/// A text whose values are named, or written to.
+const TEXT: &str = "{\"foo\":[\"bar\",\"baz\"],\"\":0,\"a/b\":1,\"m~n\":8,\"~1\":9}";
+
+/// Pointers, and the text of the value that each names in `TEXT`, or `none`.
+const NAMED: [(&str, &str); 15] = [
+    ("", TEXT),
+    ("/foo/0", "\"bar\""),
+    ("/", "0"),
+    ("/a~1b", "1"),
+    ("/m~0n", "8"),
+    ("/~01", "9"),
+    ("/foo/2", "none"),
+    ("/foo/-", "none"),
+    ("/foo/01", "none"),
+    ("/foo/99999999999999999999", "none"),
+    ("/foo/0/x", "none"),
+    ("/foo/+1", "none"),
+    ("/foo/", "none"),
+    ("/nope", "none"),
+    ("/nope/nope", "none"),
+];
+
+/// Texts that are no pointers.
+const NO_POINTERS: [&str; 6] = ["foo", "/~", "/~2", "/nope/~2", "/foo/0/~", "~0"];
+
+fn are_no_pointers(rt: &impl Abort, value: &IValue) {
+    for pointer in NO_POINTERS {
+        assert!(rt; resolve(value, pointer) == Err(PointerError::Syntax));
     }
 }
 
 #[test]
-fn pointers(rt: HostRuntime) -> Result<(), Fail> {
-    let alloc = rt.alloc();
-    let text = "{\"foo\":[\"bar\",\"baz\"],\"\":0,\"a/b\":1,\"m~n\":8,\"~1\":9}";
-    let value = read(alloc, text)?;
-    for (pointer, written) in [
-        ("", text),
-        ("/foo/0", "\"bar\""),
-        ("/", "0"),
-        ("/a~1b", "1"),
-        ("/m~0n", "8"),
-        ("/~01", "9"),
-        ("/foo/2", "none"),
-        ("/foo/-", "none"),
-        ("/foo/01", "none"),
-        ("/foo/99999999999999999999", "none"),
-        ("/foo/0/x", "none"),
-        ("/foo/+1", "none"),
-        ("/foo/", "none"),
-        ("/nope", "none"),
-        ("/nope/nope", "none"),
-    ] {
-        let found = named(alloc, &value, pointer)?;
-        assert_eq!(rt; found.as_str(), written);
-    }
-    for pointer in ["foo", "/~", "/~2", "/nope/~2", "/foo/0/~", "~0"] {
-        assert!(rt; resolve(&value, pointer) == Err(PointerError::Syntax));
-    }
-    Ok(())
+fn pointers(rt: HostRuntime) {
+    names_each(&rt, rt.alloc(), TEXT, &NAMED);
+    are_no_pointers(&rt, &parsed(&rt, rt.alloc(), TEXT));
 }
+
+/// The text of RFC 6901, section 5.
+const RFC: &str =
+    "{\"foo\":[\"bar\",\"baz\"],\"\":0,\"a/b\":1,\"c%d\":2,\"e^f\":3,\"g|h\":4,\"i\\\\j\":5,\"k\\\"l\":6,\" \":7,\"m~n\":8}";
+
+/// Pointers, and the text of the value that each names in `RFC`.
+const NAMED_IN_RFC: [(&str, &str); 12] = [
+    ("", RFC),
+    ("/foo", "[\"bar\",\"baz\"]"),
+    ("/foo/0", "\"bar\""),
+    ("/", "0"),
+    ("/a~1b", "1"),
+    ("/c%d", "2"),
+    ("/e^f", "3"),
+    ("/g|h", "4"),
+    ("/i\\j", "5"),
+    ("/k\"l", "6"),
+    ("/ ", "7"),
+    ("/m~0n", "8"),
+];
 
 /// The examples of RFC 6901, section 5.
 #[test]
-fn pointers_of_the_rfc(rt: HostRuntime) -> Result<(), Fail> {
-    let alloc = rt.alloc();
-    let text =
-        "{\"foo\":[\"bar\",\"baz\"],\"\":0,\"a/b\":1,\"c%d\":2,\"e^f\":3,\"g|h\":4,\"i\\\\j\":5,\"k\\\"l\":6,\" \":7,\"m~n\":8}";
-    let value = read(alloc, text)?;
-    for (pointer, written) in [
-        ("", text),
-        ("/foo", "[\"bar\",\"baz\"]"),
-        ("/foo/0", "\"bar\""),
-        ("/", "0"),
-        ("/a~1b", "1"),
-        ("/c%d", "2"),
-        ("/e^f", "3"),
-        ("/g|h", "4"),
-        ("/i\\j", "5"),
-        ("/k\"l", "6"),
-        ("/ ", "7"),
-        ("/m~0n", "8"),
-    ] {
-        let found = named(alloc, &value, pointer)?;
-        assert_eq!(rt; found.as_str(), written);
-    }
-    Ok(())
+fn pointers_of_the_rfc(rt: HostRuntime) {
+    names_each(&rt, rt.alloc(), RFC, &NAMED_IN_RFC);
 }
 
-/// What is written of what `text` spells, once true is put where a pointer leads, and why it leads nowhere.
-fn with_true(
-    alloc: Global,
-    text: &str,
-    pointer: &str,
-) -> Result<(String, Option<Unresolved>), Fail> {
-    let mut value = read(alloc, text)?;
-    let refused = match resolve_mut(&mut value, pointer) {
+/// Puts true where a pointer leads, or tells why it leads nowhere.
+fn put_true(value: &mut IValue, pointer: &str) -> Option<Unresolved> {
+    match resolve_mut(value, pointer) {
         Ok(found) => {
             *found = Destructured::Bool(true);
             None
         }
         Err(why) => Some(why),
-    };
-    Ok((to_json(alloc, &value)?, refused))
+    }
 }
+
+/// Asserts what is written of what `text` spells, once true is put where a pointer leads, and why it leads nowhere.
+fn becomes(
+    rt: &impl Abort,
+    alloc: Global,
+    text: &str,
+    pointer: &str,
+    want: &str,
+    refused: Option<Unresolved>,
+) {
+    let mut value = parsed(rt, alloc, text);
+    assert!(rt; put_true(&mut value, pointer) == refused);
+    is_written(rt, alloc, &value, want);
+}
+
+const NO_POINTER: Option<Unresolved> = Some(Unresolved::NoPointer(PointerError::Syntax));
+
+/// Pointers, what is written of `TEXT` once true is put where each leads, and why it leads nowhere.
+const WRITTEN: [(&str, &str, Option<Unresolved>); 17] = [
+    ("", "true", None),
+    (
+        "/foo",
+        "{\"foo\":true,\"\":0,\"a/b\":1,\"m~n\":8,\"~1\":9}",
+        None,
+    ),
+    (
+        "/foo/0",
+        "{\"foo\":[true,\"baz\"],\"\":0,\"a/b\":1,\"m~n\":8,\"~1\":9}",
+        None,
+    ),
+    (
+        "/",
+        "{\"foo\":[\"bar\",\"baz\"],\"\":true,\"a/b\":1,\"m~n\":8,\"~1\":9}",
+        None,
+    ),
+    (
+        "/a~1b",
+        "{\"foo\":[\"bar\",\"baz\"],\"\":0,\"a/b\":true,\"m~n\":8,\"~1\":9}",
+        None,
+    ),
+    (
+        "/m~0n",
+        "{\"foo\":[\"bar\",\"baz\"],\"\":0,\"a/b\":1,\"m~n\":true,\"~1\":9}",
+        None,
+    ),
+    (
+        "/~01",
+        "{\"foo\":[\"bar\",\"baz\"],\"\":0,\"a/b\":1,\"m~n\":8,\"~1\":true}",
+        None,
+    ),
+    ("/foo/2", TEXT, Some(Unresolved::Nothing)),
+    ("/foo/-", TEXT, Some(Unresolved::Nothing)),
+    ("/foo/01", TEXT, Some(Unresolved::Nothing)),
+    ("/foo/99999999999999999999", TEXT, Some(Unresolved::Nothing)),
+    ("/foo/0/x", TEXT, Some(Unresolved::Nothing)),
+    ("/nope", TEXT, Some(Unresolved::Nothing)),
+    ("foo", TEXT, NO_POINTER),
+    ("/~", TEXT, NO_POINTER),
+    ("/~2", TEXT, NO_POINTER),
+    ("/nope/~2", TEXT, NO_POINTER),
+];
 
 /// One value is another one, and all else as it was.
 #[test]
-fn pointers_to_be_written(rt: HostRuntime) -> Result<(), Fail> {
-    let alloc = rt.alloc();
-    let text = "{\"foo\":[\"bar\",\"baz\"],\"\":0,\"a/b\":1,\"m~n\":8,\"~1\":9}";
-    let no_pointer = Some(Unresolved::NoPointer(PointerError::Syntax));
-    for (pointer, written, refused) in [
-        ("", "true", None),
-        (
-            "/foo",
-            "{\"foo\":true,\"\":0,\"a/b\":1,\"m~n\":8,\"~1\":9}",
-            None,
-        ),
-        (
-            "/foo/0",
-            "{\"foo\":[true,\"baz\"],\"\":0,\"a/b\":1,\"m~n\":8,\"~1\":9}",
-            None,
-        ),
-        (
-            "/",
-            "{\"foo\":[\"bar\",\"baz\"],\"\":true,\"a/b\":1,\"m~n\":8,\"~1\":9}",
-            None,
-        ),
-        (
-            "/a~1b",
-            "{\"foo\":[\"bar\",\"baz\"],\"\":0,\"a/b\":true,\"m~n\":8,\"~1\":9}",
-            None,
-        ),
-        (
-            "/m~0n",
-            "{\"foo\":[\"bar\",\"baz\"],\"\":0,\"a/b\":1,\"m~n\":true,\"~1\":9}",
-            None,
-        ),
-        (
-            "/~01",
-            "{\"foo\":[\"bar\",\"baz\"],\"\":0,\"a/b\":1,\"m~n\":8,\"~1\":true}",
-            None,
-        ),
-        ("/foo/2", text, Some(Unresolved::Nothing)),
-        ("/foo/-", text, Some(Unresolved::Nothing)),
-        ("/foo/01", text, Some(Unresolved::Nothing)),
-        ("/foo/99999999999999999999", text, Some(Unresolved::Nothing)),
-        ("/foo/0/x", text, Some(Unresolved::Nothing)),
-        ("/nope", text, Some(Unresolved::Nothing)),
-        ("foo", text, no_pointer),
-        ("/~", text, no_pointer),
-        ("/~2", text, no_pointer),
-        ("/nope/~2", text, no_pointer),
-    ] {
-        let found = with_true(alloc, text, pointer)?;
-        assert_eq!(rt; found.0.as_str(), written);
-        assert!(rt; found.1 == refused);
+fn pointers_to_be_written(rt: HostRuntime) {
+    for (pointer, written, refused) in WRITTEN {
+        becomes(&rt, rt.alloc(), TEXT, pointer, written, refused);
     }
-    let deep = with_true(alloc, "[[[0,{\"a\":[1,[2]]}]],3]", "/0/0/1/a/1/0")?;
-    assert_eq!(rt; deep.0.as_str(), "[[[0,{\"a\":[1,[true]]}]],3]");
-    Ok(())
+    let (deep, written) = ("[[[0,{\"a\":[1,[2]]}]],3]", "[[[0,{\"a\":[1,[true]]}]],3]");
+    becomes(&rt, rt.alloc(), deep, "/0/0/1/a/1/0", written, None);
 }

@@ -2,11 +2,11 @@
 ghost use Rattle.std.specs.Prelude.{◌≡◌, ℕ, IfErr, IfNone, IfOk, IfSome, OnErr, OnOk};
 ghost use Rattle.ijson.specs.callers.Documents.{StandsAt, Stores};
 
-use crate::tests::read;
+use crate::tests::parsed;
 use crate::value::IValue;
 use indexmap::IndexSet;
 use std::alloc::AllocFailed;
-use std::test::Fail;
+use std::process::Abort;
 
 /// The position of the document that is equal to this one.
 fn find(documents: &IndexSet<IValue>, document: &IValue) -> Option<usize>
@@ -38,14 +38,19 @@ const STORED: [(&str, usize); 6] = [
     ("{\"k\":2,\"l\":[1,null]}", 3),
 ];
 
+/// Asserts the position that a document is told.
+fn is_stored(rt: &impl Abort, documents: &mut IndexSet<IValue>, document: IValue, want: usize) {
+    let position = store(documents, document).expect(rt, "room");
+    assert!(rt; position == want);
+}
+
 #[test]
-fn equal_documents_are_stored_once(rt: HostRuntime) -> Result<(), Fail> {
+fn equal_documents_are_stored_once(rt: HostRuntime) {
     let alloc = rt.alloc();
     let mut documents = IndexSet::new(alloc);
     for (text, position) in STORED {
-        assert_eq!(rt; store(&mut documents, read(alloc, text)?)?, position);
+        is_stored(&rt, &mut documents, parsed(&rt, alloc, text), position);
     }
-    assert_eq!(rt; find(&documents, &read(alloc, "[2.0,1]")?), Some(2));
-    assert_eq!(rt; find(&documents, &read(alloc, "[2]")?), None);
-    Ok(())
+    assert!(rt; find(&documents, &parsed(&rt, alloc, "[2.0,1]")) == Some(2));
+    assert!(rt; find(&documents, &parsed(&rt, alloc, "[2]")) == None);
 }

@@ -4,11 +4,11 @@ ghost use Rattle.ijson.specs.callers.MergePatch.{merged, members_in};
 ghost use Rattle.ijson_value.specs.Values.{object_tree};
 
 use crate::json::to_json;
-use crate::tests::read;
+use crate::tests::parsed;
 use crate::{IObject, IValue};
 use std::alloc::{AllocError, Global};
 use std::mem;
-use std::test::Fail;
+use std::process::Abort;
 
 /// What `patch` makes of `target`. The error comes where there was no memory for a copy of a value or of a key of the patch, or for
 /// one pair more, which also is where an object has as many as it can have (2^56); the target is gone then.
@@ -75,13 +75,18 @@ const MERGED: [(&str, &str, &str); 15] = [
     ),
 ];
 
+/// What a patch makes of a target, both as texts.
+fn patched(rt: &impl Abort, alloc: Global, target: &str, patch: &str) -> IValue {
+    let target = parsed(rt, alloc, target);
+    let patch = parsed(rt, alloc, patch);
+    merge(alloc, target, &patch).expect(rt, "a value")
+}
+
 #[test]
-fn patches(rt: HostRuntime) -> Result<(), Fail> {
-    let alloc = rt.alloc();
+fn patches(rt: HostRuntime) {
     for (target, patch, want) in MERGED {
-        let value = merge(alloc, read(alloc, target)?, &read(alloc, patch)?)?;
-        let found = to_json(alloc, &value)?;
+        let value = patched(&rt, rt.alloc(), target, patch);
+        let found = to_json(rt.alloc(), &value).expect(&rt, "a text");
         assert!(rt; found.as_str() == want, "{target} {patch}");
     }
-    Ok(())
 }

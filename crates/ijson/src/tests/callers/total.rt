@@ -4,9 +4,8 @@ ghost use Rattle.ijson.specs.callers.Total.{EachSumsTo, SumsTo, ValuesSumTo};
 ghost use Rattle.ijson_value.specs.WellFormed.{item_trees, pair_trees};
 
 use crate::object::IObject;
-use crate::tests::read;
+use crate::tests::parsed;
 use crate::value::{DestructuredRef, IValue};
-use std::test::Fail;
 
 /// The sum of the numbers in a value, at any depth. None where one of them is below 0 or not whole, or where the sum is 2^64 or more.
 #[cycle(total)]
@@ -60,9 +59,9 @@ const TOTALS: [(&str, Option<u64>); 6] = [
 ];
 
 #[test]
-fn numbers_are_summed(rt: HostRuntime) -> Result<(), Fail> {
+fn numbers_are_summed(rt: HostRuntime) {
     for (text, sum) in TOTALS {
-        assert_eq!(rt; total(&read(rt.alloc(), text)?), sum);
+        let value = parsed(&rt, rt.alloc(), text);
+        assert!(rt; total(&value) == sum);
     }
-    Ok(())
 }
