@@ -5,7 +5,7 @@ ghost use Rattle.ijson_value.specs.declared.value.ValueType.TheVariants as kind;
 ghost use Rattle.ijson_value.specs.Step.{by_position, by_key, kind_for, tree_at, tree_with};
 ghost use Rattle.ijson_value.specs.Tree.{boolean, null};
 
-use super::{read, text};
+use super::{key, parsed};
 use ijson_number::INumber;
 use ijson_string::IString;
 use ijson_value::array::IArray;
@@ -13,7 +13,6 @@ use ijson_value::object::IObject;
 use ijson_value::value::{Destructured, DestructuredMut, DestructuredRef, IValue, ValueType};
 use std::alloc::Global;
 use std::process::Abort;
-use std::test::Fail;
 
 /// Sets the value at a position to null.
 #[tactic(auto, using(ijson_value::specs::laws::Steps::tree_with_step))]
@@ -51,61 +50,87 @@ fn turn(value: &mut IValue, was: bool)
 }
 
 /// An object of these keys and numbers, put in this order.
-fn object(alloc: Global, members: &[(&str, &str)]) -> Result<IObject, Fail> {
+fn object(rt: &impl Abort, alloc: Global, members: &[(&str, &str)]) -> IObject {
     let mut object = IObject::new(alloc);
-    for (key, number) in members {
-        let key = text(alloc, key)?;
-        let number = INumber::from_str(alloc, number)?;
-        object.insert(key, number.into())?;
+    for (name, number) in members {
+        let number = INumber::from_str(alloc, number).expect(rt, "a number");
+        let inserted: Result<_, _> = object.insert(key(rt, alloc, name), number.into());
+        inserted.expect(rt, "room");
     }
-    Ok(object)
+    object
 }
 
-#[test]
-fn values_take_what_they_are_given(rt: HostRuntime) -> Result<(), Fail> {
-    let alloc = rt.alloc();
+/// An array of true and null.
+fn two_items(rt: &impl Abort, alloc: Global) -> IArray {
     let mut array = IArray::new(alloc);
-    array.push(IValue::TRUE)?;
-    array.push(IValue::NULL)?;
-    assert_eq!(rt; array.len(), 2);
-    assert!(rt; IValue::NULL.type_() == ValueType::Null);
-    let object = object(alloc, &[("x", "1"), ("y", "2"), ("x", "3")])?;
-    assert_eq!(rt; object.len(), 2);
-    assert_eq!(rt; object.capacity(), 4);
+    array.push(IValue::TRUE).expect(rt, "an item");
+    array.push(IValue::NULL).expect(rt, "an item");
+    array
+}
+
+/// Asserts that an object has `x` and one key more, `y`, and room for four.
+fn has_two_pairs(rt: &impl Abort, object: &IObject) {
+    assert!(rt; object.len() == 2 && object.capacity() == 4);
     assert!(rt; object.contains_key("y"));
     let mut pairs = object.iter();
-    assert_eq!(rt; pairs.len(), 2);
+    assert!(rt; pairs.len() == 2);
     assert!(rt; matches!(pairs.next(), Some((key, _)) if key.eq_str("x")));
-    array.push(object.into())?;
-    let value = IValue::from(array);
+}
+
+/// Asserts that a value is an array, by its type and by its parts.
+fn is_array(rt: &impl Abort, value: &IValue) {
     assert!(rt; value.type_() == ValueType::Array);
     assert!(rt; matches!(value.destructure_ref(), DestructuredRef::Array(_)));
-    Ok(())
 }
 
 #[test]
-fn objects_are_equal_as_maps(rt: HostRuntime) -> Result<(), Fail> {
-    let alloc = rt.alloc();
-    let one = object(alloc, &[("x", "1"), ("y", "2")])?;
-    let other = object(alloc, &[("y", "2.0"), ("x", "1e0")])?;
-    let less = object(alloc, &[("x", "1")])?;
-    assert!(rt; one == other);
-    assert!(rt; one != less);
-    assert!(rt; less != one);
-    Ok(())
+fn values_take_what_they_are_given(rt: HostRuntime) {
+    let mut array = two_items(&rt, rt.alloc());
+    assert!(rt; array.len() == 2);
+    assert!(rt; IValue::NULL.type_() == ValueType::Null);
+    let object = object(&rt, rt.alloc(), &[("x", "1"), ("y", "2"), ("x", "3")]);
+    has_two_pairs(&rt, &object);
+    array.push(object.into()).expect(&rt, "an item");
+    is_array(&rt, &array.into());
+}
+
+/// Keys and numbers, in the order that they are put in.
+type Members = &'static [(&'static str, &'static str)];
+
+/// Members of two objects, and whether these are equal.
+const OBJECTS: [(Members, Members, bool); 3] = [
+    (
+        &[("x", "1"), ("y", "2")],
+        &[("y", "2.0"), ("x", "1e0")],
+        true,
+    ),
+    (&[("x", "1"), ("y", "2")], &[("x", "1")], false),
+    (&[("x", "1")], &[("x", "1"), ("y", "2")], false),
+];
+
+/// Asserts that two objects are equal, or that they differ.
+fn are_equal(rt: &impl Abort, left: &IObject, right: &IObject, want: bool) {
+    assert!(rt; (*left == *right) == want);
+    assert!(rt; (*left != *right) != want);
+}
+
+#[test]
+fn objects_are_equal_as_maps(rt: HostRuntime) {
+    for (left, right, want) in OBJECTS {
+        let left = object(&rt, rt.alloc(), left);
+        are_equal(&rt, &left, &object(&rt, rt.alloc(), right), want);
+    }
 }
 
 /// The kind of a value, and what it answers as a truth value, for its length, and whether it is empty.
 type Answers = (ValueType, Option<bool>, Option<usize>, Option<bool>);
 
-/// What the questions about a value answer.
-fn answers(value: &IValue) -> Answers {
-    (
-        value.type_(),
-        value.to_bool(),
-        value.len(),
-        value.is_empty(),
-    )
+/// Whether the questions about a value answer this.
+fn answers(value: &IValue, told: Answers) -> bool {
+    value.type_() == told.0
+        && value.to_bool() == told.1
+        && value.len() == told.2
+        && value.is_empty() == told.3
 }
 
 /// Whether a value is of a kind, by each question that tells it.
@@ -159,24 +184,28 @@ const KINDS: [(&str, Answers, &str); 7] = [
     ),
 ];
 
+/// Asserts what a value answers, and that emptied it is what is left of it.
+fn is_emptied(rt: &impl Abort, value: &mut IValue, told: Answers, left: &IValue) {
+    assert!(rt; answers(value, told));
+    assert!(rt; is_of_kind(value, told.0));
+    empty(value);
+    assert!(rt; *value == *left);
+}
+
 #[test]
-fn kinds_and_parts(rt: HostRuntime) -> Result<(), Fail> {
+fn kinds_and_parts(rt: HostRuntime) {
     for (text, told, left) in KINDS {
-        let mut value = read(rt.alloc(), text)?;
-        assert!(rt; answers(&value) == told);
-        assert!(rt; is_of_kind(&value, told.0));
-        empty(&mut value);
-        assert!(rt; value == read(rt.alloc(), left)?);
+        let mut value = parsed(&rt, rt.alloc(), text);
+        is_emptied(&rt, &mut value, told, &parsed(&rt, rt.alloc(), left));
         is_taken(&rt, value, told.0);
     }
-    Ok(())
 }
 
 /// Takes a value of a kind, which leaves null, and takes it apart.
 fn is_taken(rt: &impl Abort, mut value: IValue, kind: ValueType) {
     let taken = value.take();
     assert!(rt; value.is_null() && is_of_kind(&taken, kind));
-    assert_eq!(rt; handed_back(taken).is_some(), kind < ValueType::Number);
+    assert!(rt; handed_back(taken).is_some() == (kind < ValueType::Number));
 }
 
 /// Whether a number answers these integers, and whether the others are these as well.
@@ -211,11 +240,11 @@ const INTEGERS: [(&str, Option<i32>, Option<u32>, Option<i64>, Option<u64>); 5] 
 ];
 
 #[test]
-fn integers(rt: HostRuntime) -> Result<(), Fail> {
+fn integers(rt: HostRuntime) {
     for (text, i32_, u32_, i64_, u64_) in INTEGERS {
-        assert!(rt; are_integers(read(rt.alloc(), text)?, i32_, u32_, i64_, u64_));
+        let value = parsed(&rt, rt.alloc(), text);
+        assert!(rt; are_integers(value, i32_, u32_, i64_, u64_));
     }
-    Ok(())
 }
 
 /// Whether a value is this integer below zero, which an `i32` holds.
@@ -287,19 +316,30 @@ fn edit(value: &mut IValue) -> bool
     true
 }
 
-#[test]
-fn one_value_is_found_written_and_taken_out(rt: HostRuntime) -> Result<(), Fail> {
-    let alloc = rt.alloc();
-    let mut value = read(alloc, "{\"a\":1,\"b\":[2,3],\"c\":{\"d\":0.5}}")?;
-    assert_eq!(rt; value.len(), Some(3));
+/// Asserts that a value is an object of three members, with 1 beside `a` and two items beside `b`.
+fn is_found(rt: &impl Abort, value: &IValue) {
+    assert!(rt; value.len() == Some(3));
     assert!(rt; value.is_object());
     assert!(rt; value.get("a").and_then(IValue::to_i64) == Some(1));
     assert!(rt; value.get(&"b").and_then(IValue::len) == Some(2));
-    assert!(rt; edit(&mut value));
+}
+
+/// Writes into an object beside `b` and `c`, and takes out what stands beside `a`.
+fn is_written(rt: &impl Abort, value: &mut IValue) {
     assert!(rt; value.is_object());
-    assert!(rt; clear_member(&mut value, "c"));
+    assert!(rt; edit(value));
+    assert!(rt; value.is_object());
+    assert!(rt; clear_member(value, "c"));
     assert!(rt; value.is_object());
     assert!(rt; value.remove("a").is_some());
-    assert!(rt; value == read(alloc, "{\"c\":null,\"b\":[2,null]}")?);
-    Ok(())
+}
+
+#[test]
+fn one_value_is_found_written_and_taken_out(rt: HostRuntime) {
+    let text = "{\"a\":1,\"b\":[2,3],\"c\":{\"d\":0.5}}";
+    let mut value = parsed(&rt, rt.alloc(), text);
+    is_found(&rt, &value);
+    is_written(&rt, &mut value);
+    let left = parsed(&rt, rt.alloc(), "{\"c\":null,\"b\":[2,null]}");
+    assert!(rt; value == left);
 }

@@ -2,7 +2,7 @@
 //! alone.
 ghost use Rattle.std.specs.Prelude.{◌≡◌, true, IfOk};
 
-use super::read;
+use super::parsed;
 use super::recorder::feeds;
 use ijson_json::to_json;
 use ijson_value::array::IArray;
@@ -13,7 +13,6 @@ use std::cmp::Ordering;
 use std::collections::HashMap;
 use std::hash::{BuildHasherDefault, DefaultHasher, FoldHasher, Hash, Hasher};
 use std::process::Abort;
-use std::test::Fail;
 
 /// Texts, and the words that the value of each feeds a hasher.
 const WORDS: [(&str, &[u64]); 15] = [
@@ -34,19 +33,21 @@ const WORDS: [(&str, &[u64]); 15] = [
     ("{\"l\":[1.0,{}],\"k\":2}", &[5, 2, 4038060259889821969]),
 ];
 
-#[test]
-fn values_feed_their_words(rt: HostRuntime) -> Result<(), Fail> {
-    let alloc = rt.alloc();
-    for (text, words) in WORDS {
-        let value = read(alloc, text)?;
-        feeds(&rt, alloc, &value, words);
-        match value.destructure_ref() {
-            DestructuredRef::Array(array) => feeds(&rt, alloc, array, words),
-            DestructuredRef::Object(object) => feeds(&rt, alloc, object, words),
-            _ => {}
-        }
+/// Asserts that a value feeds these words, and that an array or object in it feeds the same.
+fn feeds_whole(rt: &impl Abort, alloc: Global, value: &IValue, words: &[u64]) {
+    feeds(rt, alloc, value, words);
+    match value.destructure_ref() {
+        DestructuredRef::Array(array) => feeds(rt, alloc, array, words),
+        DestructuredRef::Object(object) => feeds(rt, alloc, object, words),
+        _ => {}
     }
-    Ok(())
+}
+
+#[test]
+fn values_feed_their_words(rt: HostRuntime) {
+    for (text, words) in WORDS {
+        feeds_whole(&rt, rt.alloc(), &parsed(&rt, rt.alloc(), text), words);
+    }
 }
 
 /// Texts, and how the value of the first is ordered to that of the second.
@@ -85,17 +86,19 @@ const ORDERED: [(&str, &str, Option<Ordering>); 24] = [
     ),
 ];
 
+/// Asserts how two values are ordered, and that they are equal where the order is Equal.
+fn are_ordered(rt: &impl Abort, left: &IValue, right: &IValue, want: Option<Ordering>) {
+    assert!(rt; left.partial_cmp(right) == want);
+    assert!(rt; right.partial_cmp(left) == want.map(|order| order.reverse()));
+    assert!(rt; (left == right) == (want == Some(Ordering::Equal)));
+}
+
 #[test]
-fn values_are_ordered(rt: HostRuntime) -> Result<(), Fail> {
-    let alloc = rt.alloc();
+fn values_are_ordered(rt: HostRuntime) {
     for (left, right, want) in ORDERED {
-        let left = read(alloc, left)?;
-        let right = read(alloc, right)?;
-        assert_eq!(rt; left.partial_cmp(&right), want);
-        assert_eq!(rt; right.partial_cmp(&left), want.map(|order| order.reverse()));
-        assert_eq!(rt; left == right, want == Some(Ordering::Equal));
+        let left = parsed(&rt, rt.alloc(), left);
+        are_ordered(&rt, &left, &parsed(&rt, rt.alloc(), right), want);
     }
-    Ok(())
 }
 
 /// Values of all kinds, some of them equal to others.
@@ -114,72 +117,93 @@ fn hash_of<T: Hash>(value: &T) -> u64 {
 /// Asserts that the order turns round, is Equal where the two are equal, and that equal ones have one hash.
 fn agree(rt: &impl Abort, left: &IValue, right: &IValue) {
     let order = left.partial_cmp(right);
-    assert_eq!(rt; order, right.partial_cmp(left).map(|order| order.reverse()));
-    assert_eq!(rt; left == right, order == Some(Ordering::Equal));
+    assert!(rt; order == right.partial_cmp(left).map(|order| order.reverse()));
+    assert!(rt; (left == right) == (order == Some(Ordering::Equal)));
     assert!(rt; left != right || hash_of(left) == hash_of(right));
 }
 
-#[test]
-fn each_pair_of_values_agrees(rt: HostRuntime) -> Result<(), Fail> {
-    let alloc = rt.alloc();
-    let all = read(alloc, ALL_KINDS)?;
-    let copy = all.clone()?;
-    let DestructuredRef::Array(values) = all.destructure_ref() else {
-        return Err(Fail::from(AllocError));
-    };
-    let copies = IArray::from_slice(alloc, values.as_slice())?;
-    assert!(rt; copy == all && copies == *values);
-    assert_eq!(rt;
-        to_json(alloc, &copy)?.as_str(),
-        to_json(alloc, &all)?.as_str()
-    );
-    for left in values.as_slice() {
-        for right in copies.as_slice() {
-            agree(&rt, left, right);
-        }
+/// Asserts what is written of a value.
+fn is_written(rt: &impl Abort, alloc: Global, value: &IValue, want: &str) {
+    let written = to_json(alloc, value).expect(rt, "a text");
+    assert!(rt; written.as_str() == want);
+}
+
+/// Asserts that a copy of a value is equal to it, and is written as it is.
+fn is_copied(rt: &impl Abort, alloc: Global, value: &IValue) {
+    let copy = value.clone().expect(rt, "a copy");
+    assert!(rt; copy == *value);
+    let written = to_json(alloc, value).expect(rt, "a text");
+    is_written(rt, alloc, &copy, written.as_str());
+}
+
+/// Asserts that a value agrees with each of these.
+fn agrees_with_each(rt: &impl Abort, left: &IValue, values: &[IValue]) {
+    for right in values {
+        agree(rt, left, right);
     }
-    Ok(())
 }
 
 #[test]
-fn a_copy_of_an_object_has_its_length_as_capacity(rt: HostRuntime) -> Result<(), Fail> {
-    let alloc = rt.alloc();
+fn each_pair_of_values_agrees(rt: HostRuntime) {
+    let all = parsed(&rt, rt.alloc(), ALL_KINDS);
+    is_copied(&rt, rt.alloc(), &all);
+    let values = all.as_array().expect(&rt, "an array");
+    let copies = IArray::from_slice(rt.alloc(), values.as_slice()).expect(&rt, "copies");
+    assert!(rt; copies == *values);
+    for left in values.as_slice() {
+        agrees_with_each(&rt, left, copies.as_slice());
+    }
+}
+
+/// Asserts what is written of a copy of an object of three pairs, one of them of `a`, and that both have room for three.
+fn is_copied_tightly(rt: &impl Abort, alloc: Global, object: &IObject, want: &str) {
+    let copy = object.clone().expect(rt, "a copy");
+    assert!(rt; object.capacity() == 3 && copy.capacity() == 3);
+    assert!(rt; copy.get("a").is_some());
+    is_written(rt, alloc, &copy.into(), want);
+}
+
+/// Asserts that a copy of an object that has room and no pairs has no room.
+fn room_is_not_copied(rt: &impl Abort, alloc: Global) {
+    let roomy = IObject::with_capacity(alloc, 10).expect(rt, "room");
+    let copy = roomy.clone().expect(rt, "a copy");
+    assert!(rt; copy.capacity() == 0);
+}
+
+/// Asserts what is shown of a value.
+fn is_shown(rt: &impl Abort, alloc: Global, value: &IValue, want: &str) {
+    let shown = format!(in alloc; "{value:?}").expect(rt, "a text");
+    assert!(rt; shown.as_str() == want);
+}
+
+#[test]
+fn a_copy_of_an_object_has_its_length_as_capacity(rt: HostRuntime) {
     let text = "{\"b\":1.0,\"a\":[2],\"c\":{\"d\":null}}";
-    let value = read(alloc, text)?;
-    let DestructuredRef::Object(object) = value.destructure_ref() else {
-        return Err(Fail::from(AllocError));
-    };
-    let copy = object.clone()?;
-    assert_eq!(rt; (object.capacity(), copy.capacity()), (3, 3));
-    assert_eq!(rt; copy.get("a").is_some(), true);
-    assert_eq!(rt; to_json(alloc, &copy.into())?.as_str(), text);
-    assert_eq!(rt; IObject::with_capacity(alloc, 10)?.clone()?.capacity(), 0);
-    let shown = format!(in alloc; "{value:?}")?;
-    assert_eq!(rt;
-        shown.as_str(),
-        "{\"b\": 1.0, \"a\": [2], \"c\": {\"d\": null}}"
-    );
-    Ok(())
+    let shown = "{\"b\": 1.0, \"a\": [2], \"c\": {\"d\": null}}";
+    let value = parsed(&rt, rt.alloc(), text);
+    let object = value.as_object().expect(&rt, "an object");
+    is_copied_tightly(&rt, rt.alloc(), object, text);
+    room_is_not_copied(&rt, rt.alloc());
+    is_shown(&rt, rt.alloc(), &value, shown);
 }
 
 /// An array in an array, so many of them.
-fn nested(alloc: Global, depth: usize) -> Result<IValue, Fail> {
+fn nested(rt: &impl Abort, alloc: Global, depth: usize) -> IValue {
     let mut value = IValue::NULL;
     for _ in 0..depth {
         let mut array = IArray::new(alloc);
-        array.push(value)?;
+        array.push(value).expect(rt, "an item");
         value = IValue::from(array);
     }
-    Ok(value)
+    value
 }
 
 #[test]
-fn a_deep_value_is_walked(rt: HostRuntime) -> Result<(), Fail> {
-    let value = nested(rt.alloc(), 1_000)?;
-    let copy = value.clone()?;
+fn a_deep_value_is_walked(rt: HostRuntime) {
+    let value = nested(&rt, rt.alloc(), 1_000);
+    let copy = value.clone().expect(&rt, "a copy");
     agree(&rt, &value, &copy);
     assert!(rt; value == copy);
-    Ok(())
 }
 
 /// A copy of a value finds the value in a map.
@@ -192,13 +216,22 @@ fn found_by_copy(alloc: Global, value: IValue) -> Result<bool, AllocError>
     Ok(map.contains_key(&copy))
 }
 
-#[test]
-fn a_map_of_values_finds_an_equal_one(rt: HostRuntime) -> Result<(), Fail> {
-    let alloc = rt.alloc();
-    assert!(rt; found_by_copy(alloc, read(alloc, ALL_KINDS)?)?);
+type Map = HashMap<IValue, u8, BuildHasherDefault<FoldHasher>>;
+
+/// A map of one value alone.
+fn map_of(rt: &impl Abort, alloc: Global, value: IValue) -> Map {
     let mut map = HashMap::with_hasher(alloc, BuildHasherDefault::<FoldHasher>::new());
-    map.insert(read(alloc, "{\"k\":2,\"l\":[1,{}]}")?, 1u8)?;
-    assert!(rt; map.contains_key(&read(alloc, "{\"l\":[1.0,{}],\"k\":2.0}")?));
-    assert!(rt; !map.contains_key(&read(alloc, "{\"l\":[1.0,{}],\"k\":3}")?));
-    Ok(())
+    let inserted: Result<_, _> = map.insert(value, 1u8);
+    inserted.expect(rt, "room");
+    map
+}
+
+#[test]
+fn a_map_of_values_finds_an_equal_one(rt: HostRuntime) {
+    let alloc = rt.alloc();
+    let found = found_by_copy(alloc, parsed(&rt, alloc, ALL_KINDS));
+    assert!(rt; found.expect(&rt, "room"));
+    let map = map_of(&rt, alloc, parsed(&rt, alloc, "{\"k\":2,\"l\":[1,{}]}"));
+    assert!(rt; map.contains_key(&parsed(&rt, alloc, "{\"l\":[1.0,{}],\"k\":2.0}")));
+    assert!(rt; !map.contains_key(&parsed(&rt, alloc, "{\"l\":[1.0,{}],\"k\":3}")));
 }
