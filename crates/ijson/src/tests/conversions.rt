@@ -1,5 +1,5 @@
 use super::refusals::object_of_map;
-use super::{empty_cache, read};
+use super::{Cache, empty_cache, parsed};
 use crate::convert::{ConvertError, FromIValue, ToIValue, from_value, to_value};
 use crate::ijson;
 use crate::json::to_json;
@@ -7,92 +7,135 @@ use crate::value::IValue;
 use indexmap::IndexMap;
 use std::alloc::Global;
 use std::collections::BTreeMap;
-use std::test::Fail;
+use std::process::Abort;
 
-/// What is written of the value of a literal.
-fn written(alloc: Global, n: i64, key: &str) -> Result<String, Fail> {
-    let mut cache = empty_cache(alloc);
-    let value = ijson!(alloc, &mut cache; {
-        "name": "ijson", "sizes": [1u8, n, null,], key: {"deep": true, "none": {}}, "name": [[], -7i32],
-    })?;
-    Ok(to_json(alloc, &value)?)
+/// What is written of a value.
+fn written(rt: &impl Abort, alloc: Global, value: &IValue) -> String {
+    to_json(alloc, value).expect(rt, "a text")
+}
+
+/// Asserts what is written of the value of a literal.
+fn is_literal(rt: &impl Abort, alloc: Global, value: Result<IValue, ConvertError>, want: &str) {
+    let value = value.expect(rt, "a value");
+    assert!(rt; written(rt, alloc, &value).as_str() == want);
+}
+
+// Each literal stands in a function of its own, with nothing else there to drop: each call that its tokens make is a way out of it, on which the
+// lists and objects made so far are dropped.
+
+/// Pairs of each kind of value, one key again, a key that is an expression, and a comma behind the last pair.
+fn pairs(alloc: Global, cache: &mut Cache, key: &str) -> Result<IValue, ConvertError> {
+    ijson!(alloc, cache; {"name": "ijson", "sizes": [], key: {}, "name": [],})
+}
+
+/// Items that are expressions, and a comma behind the last one.
+fn items(alloc: Global, cache: &mut Cache, n: i64) -> Result<IValue, ConvertError> {
+    ijson!(alloc, cache; {"sizes": [1u8, n, null,]})
+}
+
+/// An object in an object in an object.
+fn objects(alloc: Global, cache: &mut Cache, key: &str) -> Result<IValue, ConvertError> {
+    ijson!(alloc, cache; {key: {"deep": true, "none": {}}})
+}
+
+/// A list in a list, and an item that is more than one token.
+fn lists(alloc: Global, cache: &mut Cache) -> Result<IValue, ConvertError> {
+    ijson!(alloc, cache; {"name": [[], -7i32]})
 }
 
 #[test]
-fn literals_are_values(rt: HostRuntime) -> Result<(), Fail> {
+fn literals_are_values(rt: HostRuntime) {
     let alloc = rt.alloc();
-    let text = written(alloc, 100, "nested")?;
-    assert_eq!(rt;
-        text.as_str(),
-        r#"{"name":[[],-7],"sizes":[1,100,null],"nested":{"deep":true,"none":{}}}"#
-    );
-    Ok(())
+    let mut cache = empty_cache(alloc);
+    let value = pairs(alloc, &mut cache, "nested");
+    is_literal(&rt, alloc, value, r#"{"name":[],"sizes":[],"nested":{}}"#);
+    let value = items(alloc, &mut cache, 100);
+    is_literal(&rt, alloc, value, r#"{"sizes":[1,100,null]}"#);
+    let value = objects(alloc, &mut cache, "nested");
+    is_literal(&rt, alloc, value, r#"{"nested":{"deep":true,"none":{}}}"#);
+    let value = lists(alloc, &mut cache);
+    is_literal(&rt, alloc, value, r#"{"name":[[],-7]}"#);
 }
 
 /// The example of the documentation.
-fn example(alloc: Global) -> Result<String, Fail> {
-    let mut cache = empty_cache(alloc);
-    let value =
-        ijson!(alloc, &mut cache; {"name": "ijson", "sizes": [1u8, 2u8, null], "nested": {"deep": true}})?;
-    Ok(to_json(alloc, &value)?)
+fn example(alloc: Global, cache: &mut Cache) -> Result<IValue, ConvertError> {
+    ijson!(alloc, cache; {"name": "ijson", "sizes": [1u8, 2u8, null], "nested": {"deep": true}})
 }
 
 #[test]
-fn the_example_is_written(rt: HostRuntime) -> Result<(), Fail> {
-    let text = example(rt.alloc())?;
-    assert_eq!(rt;
-        text.as_str(),
-        r#"{"name":"ijson","sizes":[1,2,null],"nested":{"deep":true}}"#
+fn the_example_is_written(rt: HostRuntime) {
+    let value = example(rt.alloc(), &mut empty_cache(rt.alloc()));
+    is_literal(
+        &rt,
+        rt.alloc(),
+        value,
+        r#"{"name":"ijson","sizes":[1,2,null],"nested":{"deep":true}}"#,
     );
-    Ok(())
 }
 
 /// What is written of the value of `x`.
-fn text_of<T: ToIValue>(alloc: Global, x: &T) -> Result<String, Fail> {
-    let value = to_value(alloc, &mut empty_cache(alloc), x)?;
-    Ok(to_json(alloc, &value)?)
+fn text_of<T: ToIValue>(rt: &impl Abort, alloc: Global, x: &T) -> String {
+    let value = to_value(alloc, &mut empty_cache(alloc), x).expect(rt, "a value");
+    written(rt, alloc, &value)
 }
 
-#[test]
-fn maps_keep_their_order(rt: HostRuntime) -> Result<(), Fail> {
-    let alloc = rt.alloc();
-    let mut sorted: BTreeMap<String, Vec<Option<u8>>> = BTreeMap::new(alloc);
-    let mut inserted: IndexMap<String, Vec<Option<u8>>> = IndexMap::new(alloc);
-    for key in ["b", "a"].iter() {
-        drop(sorted.insert(
-            String::from_str(alloc, *key)?,
-            vec![in alloc; Some(255), None]?,
-        )?);
-        drop(inserted.insert(String::from_str(alloc, *key)?, Vec::new(alloc))?);
+/// A map that sorts its keys, b and a put in this order, with a list beside each.
+fn sorted(rt: &impl Abort, alloc: Global) -> BTreeMap<String, Vec<Option<u8>>> {
+    let mut map: BTreeMap<String, Vec<Option<u8>>> = BTreeMap::new(alloc);
+    for letters in ["b", "a"].iter() {
+        let key = String::from_str(alloc, *letters).expect(rt, "a text");
+        let list = vec![in alloc; Some(255), None].expect(rt, "a list");
+        let old: Result<_, _> = map.insert(key, list);
+        drop(old.expect(rt, "room"));
     }
-    assert_eq!(rt;
-        text_of(alloc, &sorted)?.as_str(),
-        r#"{"a":[255,null],"b":[255,null]}"#
-    );
-    assert_eq!(rt; text_of(alloc, &inserted)?.as_str(), r#"{"b":[],"a":[]}"#);
-    Ok(())
+    map
+}
+
+/// A map that keeps the order of its keys, b and a put in this order, with an empty list beside each.
+fn inserted(rt: &impl Abort, alloc: Global) -> IndexMap<String, Vec<Option<u8>>> {
+    let mut map: IndexMap<String, Vec<Option<u8>>> = IndexMap::new(alloc);
+    for letters in ["b", "a"].iter() {
+        let key = String::from_str(alloc, *letters).expect(rt, "a text");
+        let old: Result<_, _> = map.insert(key, Vec::new(alloc));
+        drop(old.expect(rt, "room"));
+    }
+    map
 }
 
 #[test]
-fn pairs_of_maps_are_objects(rt: HostRuntime) -> Result<(), Fail> {
+fn maps_keep_their_order(rt: HostRuntime) {
+    let text = text_of(&rt, rt.alloc(), &sorted(&rt, rt.alloc()));
+    assert!(rt; text.as_str() == r#"{"a":[255,null],"b":[255,null]}"#);
+    let text = text_of(&rt, rt.alloc(), &inserted(&rt, rt.alloc()));
+    assert!(rt; text.as_str() == r#"{"b":[],"a":[]}"#);
+}
+
+/// What is written of an object of each kind of map, where the map has an order.
+const ORDERS: [Option<&str>; 3] = [
+    None,
+    Some(r#"{"a":2,"b":1,"eight888":3}"#),
+    Some(r#"{"b":1,"a":2,"eight888":3}"#),
+];
+
+/// The object of a kind of map, which has no more room than pairs.
+fn of_map(rt: &impl Abort, alloc: Global, cache: &mut Cache, kind: usize) -> IValue {
+    let object = object_of_map(alloc, cache, kind).expect(rt, "an object");
+    assert!(rt; object.len() == 3 && object.capacity() == 3);
+    IValue::from(object)
+}
+
+#[test]
+fn pairs_of_maps_are_objects(rt: HostRuntime) {
     let alloc = rt.alloc();
     let mut cache = empty_cache(alloc);
-    let same = read(alloc, r#"{"a":2,"b":1,"eight888":3}"#)?;
-    let orders = [
-        None,
-        Some(r#"{"a":2,"b":1,"eight888":3}"#),
-        Some(r#"{"b":1,"a":2,"eight888":3}"#),
-    ];
-    for kind in 0..3usize {
-        let object = object_of_map(alloc, &mut cache, kind)?;
-        assert_eq!(rt; (object.len(), object.capacity()), (3, 3));
-        let value = IValue::from(object);
+    let same = parsed(&rt, alloc, r#"{"a":2,"b":1,"eight888":3}"#);
+    for (kind, order) in ORDERS.iter().enumerate() {
+        let value = of_map(&rt, alloc, &mut cache, kind);
         assert!(rt; value == same);
-        if let Some(text) = orders[kind] {
-            assert_eq!(rt; to_json(alloc, &value)?.as_str(), text);
+        if let Some(text) = order {
+            assert!(rt; written(&rt, alloc, &value).as_str() == *text);
         }
     }
-    Ok(())
 }
 
 /// A text, and what is written again of what its value says as some type, or why it says none.
@@ -194,49 +237,60 @@ const NESTED: [Case; 5] = [
     (r#"{"a":null}"#, WRONG_KIND),
 ];
 
+/// What a text's value says as some type, or why it says none.
+fn said<T: FromIValue + Drop>(
+    rt: &impl Abort,
+    alloc: Global,
+    text: &str,
+) -> Result<T, ConvertError> {
+    let value = parsed(rt, alloc, text);
+    from_value::<T>(alloc, &value)
+}
+
 /// Whether a case holds.
 fn is_read<T: FromIValue + ToIValue + Drop>(
+    rt: &impl Abort,
     alloc: Global,
     text: &str,
     wanted: Result<&str, ConvertError>,
-) -> Result<bool, Fail> {
-    match from_value::<T>(alloc, &read(alloc, text)?) {
+) -> bool {
+    match said::<T>(rt, alloc, text) {
         Ok(x) => {
-            let found = text_of(alloc, &x)?;
-            Ok(wanted == Ok(found.as_str()))
+            let found = text_of(rt, alloc, &x);
+            wanted == Ok(found.as_str())
         }
-        Err(why) => Ok(wanted == Err(why)),
+        Err(why) => wanted == Err(why),
     }
 }
 
-/// Whether each of the cases holds.
-fn reads<T: FromIValue + ToIValue + Drop>(alloc: Global, cases: &[Case]) -> Result<bool, Fail> {
+/// Asserts that each of the cases holds.
+fn reads<T: FromIValue + ToIValue + Drop>(rt: &impl Abort, alloc: Global, cases: &[Case]) {
     for (text, wanted) in cases {
-        if !is_read::<T>(alloc, text, *wanted)? {
-            return Ok(false);
-        }
+        assert!(rt; is_read::<T>(rt, alloc, text, *wanted));
     }
-    Ok(true)
 }
 
 #[test]
-fn integers_are_whole_and_in_range(rt: HostRuntime) -> Result<(), Fail> {
+fn integers_are_whole_and_in_range(rt: HostRuntime) {
     let alloc = rt.alloc();
-    assert!(rt; reads::<i8>(alloc, &OF_I8)? && reads::<i16>(alloc, &OF_I16)?);
-    assert!(rt; reads::<i32>(alloc, &OF_I32)? && reads::<i64>(alloc, &OF_I64)?);
-    assert!(rt; reads::<isize>(alloc, &OF_I64)? && reads::<u8>(alloc, &OF_U8)?);
-    assert!(rt; reads::<u16>(alloc, &OF_U16)? && reads::<u32>(alloc, &OF_U32)?);
-    assert!(rt; reads::<u64>(alloc, &OF_U64)? && reads::<usize>(alloc, &OF_U64)?);
-    assert!(rt; reads::<i32>(alloc, &INTEGERS)?);
-    Ok(())
+    reads::<i8>(&rt, alloc, &OF_I8);
+    reads::<i16>(&rt, alloc, &OF_I16);
+    reads::<i32>(&rt, alloc, &OF_I32);
+    reads::<i64>(&rt, alloc, &OF_I64);
+    reads::<isize>(&rt, alloc, &OF_I64);
+    reads::<u8>(&rt, alloc, &OF_U8);
+    reads::<u16>(&rt, alloc, &OF_U16);
+    reads::<u32>(&rt, alloc, &OF_U32);
+    reads::<u64>(&rt, alloc, &OF_U64);
+    reads::<usize>(&rt, alloc, &OF_U64);
+    reads::<i32>(&rt, alloc, &INTEGERS);
 }
 
 #[test]
-fn values_are_read_as_their_types(rt: HostRuntime) -> Result<(), Fail> {
+fn values_are_read_as_their_types(rt: HostRuntime) {
     let alloc = rt.alloc();
-    assert!(rt; reads::<Vec<Option<i64>>>(alloc, &OPTIONS)?);
-    assert!(rt; reads::<Vec<u8>>(alloc, &BYTES)?);
-    assert!(rt; reads::<BTreeMap<String, bool>>(alloc, &TRUTHS)?);
-    assert!(rt; reads::<BTreeMap<String, Vec<Option<i32>>>>(alloc, &NESTED)?);
-    Ok(())
+    reads::<Vec<Option<i64>>>(&rt, alloc, &OPTIONS);
+    reads::<Vec<u8>>(&rt, alloc, &BYTES);
+    reads::<BTreeMap<String, bool>>(&rt, alloc, &TRUTHS);
+    reads::<BTreeMap<String, Vec<Option<i32>>>>(&rt, alloc, &NESTED);
 }

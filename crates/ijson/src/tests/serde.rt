@@ -1,6 +1,6 @@
 //! Values of `serde_json`: there, back, and by the call for each kind.
 
-use super::{empty_cache, read};
+use super::{Cache, empty_cache, parsed};
 use crate::convert::{
     ConvertError, from_serde, from_serde_map, from_serde_number, to_serde, to_serde_map,
     to_serde_number,
@@ -9,7 +9,7 @@ use crate::json::to_json;
 use crate::value::{DestructuredRef, IValue};
 use serde_json::Value;
 use std::alloc::Global;
-use std::test::Fail;
+use std::process::Abort;
 
 /// Texts; what is written of the value of each, once it went to `serde_json` and back; and of what `serde_json` reads there.
 const SERDE: [(&str, Result<&str, ConvertError>, Result<&str, ConvertError>); 17] = [
@@ -89,8 +89,7 @@ const SERDE: [(&str, Result<&str, ConvertError>, Result<&str, ConvertError>); 17
 ];
 
 /// What becomes of a value of `serde_json`: by the call for its kind, which answers as the one for values does.
-fn from_kind(alloc: Global, value: &Value) -> Result<IValue, ConvertError> {
-    let cache = &mut empty_cache(alloc);
+fn from_kind(alloc: Global, cache: &mut Cache, value: &Value) -> Result<IValue, ConvertError> {
     match value {
         Value::Number(number) => Ok(IValue::from(from_serde_number(number)?)),
         Value::Object(map) => Ok(IValue::from(from_serde_map(alloc, cache, map)?)),
@@ -109,45 +108,57 @@ fn to_kind(alloc: Global, value: &IValue) -> Result<Value, ConvertError> {
 
 /// Whether what is written of an answer is the text wanted, or the refusal is.
 fn is_wanted(
+    rt: &impl Abort,
     alloc: Global,
     answer: Result<IValue, ConvertError>,
     wanted: Result<&str, ConvertError>,
-) -> Result<bool, Fail> {
+) -> bool {
     match answer {
         Ok(value) => {
-            let found = to_json(alloc, &value)?;
-            Ok(wanted == Ok(found.as_str()))
+            let found = to_json(alloc, &value).expect(rt, "a text");
+            wanted == Ok(found.as_str())
         }
-        Err(why) => Ok(wanted == Err(why)),
+        Err(why) => wanted == Err(why),
     }
 }
 
 /// A value gone to `serde_json` and back.
 fn there_and_back(alloc: Global, value: &IValue) -> Result<IValue, ConvertError> {
-    from_serde(alloc, &mut empty_cache(alloc), &to_serde(alloc, value)?)
+    let there = to_serde(alloc, value)?;
+    from_serde(alloc, &mut empty_cache(alloc), &there)
 }
 
 /// The same by the call for each kind.
 fn by_kind(alloc: Global, value: &IValue) -> Result<IValue, ConvertError> {
-    from_kind(alloc, &to_kind(alloc, value)?)
+    let there = to_kind(alloc, value)?;
+    from_kind(alloc, &mut empty_cache(alloc), &there)
+}
+
+/// Asserts what becomes of a text's value that goes there and back.
+fn goes_back(rt: &impl Abort, alloc: Global, text: &str, back: Result<&str, ConvertError>) {
+    let value = parsed(rt, alloc, text);
+    let answer = there_and_back(alloc, &value);
+    assert!(rt; is_wanted(rt, alloc, answer, back), "{text}");
+    let answer = by_kind(alloc, &value);
+    assert!(rt; is_wanted(rt, alloc, answer, back), "{text}");
+}
+
+/// Asserts what becomes of what `serde_json` reads in a text.
+fn goes_over(rt: &impl Abort, alloc: Global, text: &str, over: Result<&str, ConvertError>) {
+    let value = Value::from_str(alloc, text).expect(rt, text);
+    let answer = from_serde(alloc, &mut empty_cache(alloc), &value);
+    assert!(rt; is_wanted(rt, alloc, answer, over), "{text}");
+    let answer = from_kind(alloc, &mut empty_cache(alloc), &value);
+    assert!(rt; is_wanted(rt, alloc, answer, over), "{text}");
 }
 
 #[test]
-fn values_go_over_and_back(rt: HostRuntime) -> Result<(), Fail> {
+fn values_go_over_and_back(rt: HostRuntime) {
     let alloc = rt.alloc();
     for (text, back, over) in SERDE {
-        let value = read(alloc, text)?;
-        assert!(rt;
-            is_wanted(alloc, there_and_back(alloc, &value), back)?,
-            "{text}"
-        );
-        assert!(rt; is_wanted(alloc, by_kind(alloc, &value), back)?, "{text}");
-        let value = Value::from_str(alloc, text)?;
-        let answer = from_serde(alloc, &mut empty_cache(alloc), &value);
-        assert!(rt; is_wanted(alloc, answer, over)?, "{text}");
-        assert!(rt; is_wanted(alloc, from_kind(alloc, &value), over)?, "{text}");
+        goes_back(&rt, alloc, text, back);
+        goes_over(&rt, alloc, text, over);
     }
-    let past = to_serde(alloc, &read(alloc, "1e400")?);
+    let past = to_serde(alloc, &parsed(&rt, alloc, "1e400"));
     assert!(rt; past.err() == Some(ConvertError::Number));
-    Ok(())
 }
