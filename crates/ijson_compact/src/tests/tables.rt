@@ -3,14 +3,14 @@
 mod lists;
 mod refusals;
 
-use super::text;
+use super::key;
 use ijson_number::Looks;
 use ijson_string::IString;
 use ijson_table::{
     Command, FixedHash, FixedTable, KeyHash, LinearPairs, PairStore, Places, Reply, ReserveError,
     Seen, Table, locate, run,
 };
-use std::alloc::{AllocError, Global};
+use std::alloc::Global;
 use std::process::Abort;
 
 /// The length of the text in bytes.
@@ -39,14 +39,19 @@ impl KeyHash for AlwaysZero {
     }
 }
 
-/// The position of a key and how many looks that took.
-fn found<H: KeyHash>(table: &Table<u64, H>, key: &str) -> (Option<usize>, u128) {
+/// Whether a key is at this position, and found there, or missed, with so many looks.
+fn finds<H: KeyHash>(
+    table: &Table<u64, H>,
+    key: &str,
+    position: Option<usize>,
+    count: u128,
+) -> bool {
     if table.len() > 1000 {
-        return (None, 0);
+        return false;
     }
     let mut looks = Looks::new();
-    let position = locate(table, key, &mut looks);
-    (position, looks.count())
+    let found = locate(table, key, &mut looks);
+    found == position && looks.count() == count
 }
 
 /// Whether these are the positions at the places, 9 where one is empty.
@@ -67,38 +72,58 @@ fn has_places<P: Places>(table: &P, positions: &[usize]) -> bool {
     true
 }
 
+/// Insertions of these keys, each beside its index.
+fn insertions(rt: &impl Abort, alloc: Global, keys: &[&str]) -> Vec<Command<u64>> {
+    let mut commands = Vec::new(alloc);
+    for (i, letters) in keys.iter().enumerate() {
+        let command = Command::Insert(key(rt, alloc, letters), i as u64);
+        commands.push(command).expect(rt, "a command");
+    }
+    commands
+}
+
+/// The reply to one command.
+fn reply<P: PairStore<u64>>(
+    rt: &impl Abort,
+    alloc: Global,
+    store: &mut P,
+    command: Command<u64>,
+) -> Reply<u64> {
+    let commands = vec![in alloc; command].expect(rt, "a list");
+    let mut replies = run(alloc, store, commands).expect(rt, "the replies");
+    replies.pop().expect(rt, "a reply")
+}
+
 /// Inserts these keys, each beside its index.
 fn insert_all<P: PairStore<u64>>(
+    rt: &impl Abort,
     alloc: Global,
     store: &mut P,
     keys: &[&str],
-) -> Result<Vec<Reply<u64>>, AllocError> {
-    let mut commands = Vec::new(alloc);
-    for (i, key) in keys.iter().enumerate() {
-        let key = text(alloc, key)?;
-        commands.push(Command::Insert(key, i as u64))?;
-    }
-    run(alloc, store, commands)
+) -> Vec<Reply<u64>> {
+    run(alloc, store, insertions(rt, alloc, keys)).expect(rt, "the replies")
 }
 
 /// Takes out one key. The last pair moves there.
 fn remove<P: PairStore<u64>>(
+    rt: &impl Abort,
     alloc: Global,
     store: &mut P,
-    key: &str,
-) -> Result<Vec<Reply<u64>>, AllocError> {
-    let key = text(alloc, key)?;
-    run(alloc, store, vec![in alloc; Command::Remove(key)]?)
+    letters: &str,
+) -> Reply<u64> {
+    let command = Command::Remove(key(rt, alloc, letters));
+    reply(rt, alloc, store, command)
 }
 
 /// Takes out one key. Those behind it move one forward.
 fn shift_remove<P: PairStore<u64>>(
+    rt: &impl Abort,
     alloc: Global,
     store: &mut P,
-    key: &str,
-) -> Result<Vec<Reply<u64>>, AllocError> {
-    let key = text(alloc, key)?;
-    run(alloc, store, vec![in alloc; Command::ShiftRemove(key)]?)
+    letters: &str,
+) -> Reply<u64> {
+    let command = Command::ShiftRemove(key(rt, alloc, letters));
+    reply(rt, alloc, store, command)
 }
 
 /// Whether these are the keys, in order.
@@ -109,167 +134,151 @@ fn has_keys(pairs: &[(IString, u64)], keys: &[&str]) -> bool {
         .eq(keys.iter().copied())
 }
 
-/// A table of the keys `a`, `bb`, `c` and `dd`, whose homes are their lengths.
-fn of_lengths(alloc: Global) -> Result<Table<u64, ByLength>, AllocError> {
+/// A table of these keys, whose homes are their lengths.
+fn of_lengths(rt: &impl Abort, alloc: Global, keys: &[&str]) -> Table<u64, ByLength> {
     let mut table = Table::new(alloc);
-    insert_all(alloc, &mut table, &["a", "bb", "c", "dd"])?;
-    Ok(table)
+    insert_all(rt, alloc, &mut table, keys);
+    table
 }
 
+/// Keys of two lengths.
+const SHORT_KEYS: [&str; 4] = ["a", "bb", "c", "dd"];
+
 #[test]
-fn lengths_meet(rt: HostRuntime) -> Result<(), AllocError> {
-    let table = of_lengths(rt.alloc())?;
+fn lengths_meet(rt: HostRuntime) {
+    let table = of_lengths(&rt, rt.alloc(), &SHORT_KEYS);
     assert!(rt; table.capacity() == 4 && has_places(&table, &[9, 0, 2, 1, 3]));
-    assert!(rt; found(&table, "dd") == (Some(3), 3));
-    assert!(rt; found(&table, "z") == (None, 3) && found(&table, "zz") == (None, 4));
-    Ok(())
+    assert!(rt; finds(&table, "dd", Some(3), 3));
+    assert!(rt; finds(&table, "z", None, 3) && finds(&table, "zz", None, 4));
 }
 
 #[test]
-fn the_last_pair_moves_into_a_gap(rt: HostRuntime) -> Result<(), AllocError> {
-    let mut table = of_lengths(rt.alloc())?;
-    remove(rt.alloc(), &mut table, "a")?;
+fn the_last_pair_moves_into_a_gap(rt: HostRuntime) {
+    let mut table = of_lengths(&rt, rt.alloc(), &SHORT_KEYS);
+    remove(&rt, rt.alloc(), &mut table, "a");
     assert!(rt; has_keys(table.as_slice(), &["dd", "bb", "c"]));
     assert!(rt; has_places(&table, &[9, 2, 1, 0, 9]));
     assert!(rt; table.position("c") == Some(2) && table.position("dd") == Some(0));
-    Ok(())
 }
 
 #[test]
-fn pairs_behind_a_gap_move_forward(rt: HostRuntime) -> Result<(), AllocError> {
-    let mut table = of_lengths(rt.alloc())?;
-    shift_remove(rt.alloc(), &mut table, "a")?;
+fn pairs_behind_a_gap_move_forward(rt: HostRuntime) {
+    let mut table = of_lengths(&rt, rt.alloc(), &SHORT_KEYS);
+    shift_remove(&rt, rt.alloc(), &mut table, "a");
     assert!(rt; has_keys(table.as_slice(), &["bb", "c", "dd"]));
     assert!(rt; has_places(&table, &[9, 1, 0, 2, 9]) && table.position("dd") == Some(2));
-    Ok(())
 }
 
 #[test]
-fn lengths_meet_round_the_end(rt: HostRuntime) -> Result<(), AllocError> {
-    let alloc = rt.alloc();
-    let mut table: Table<u64, ByLength> = Table::new(alloc);
-    insert_all(alloc, &mut table, &["aaaa", "bbbb", "ccccc"])?;
+fn lengths_meet_round_the_end(rt: HostRuntime) {
+    let mut table = of_lengths(&rt, rt.alloc(), &["aaaa", "bbbb", "ccccc"]);
     assert!(rt; has_places(&table, &[1, 2, 9, 9, 0]));
-    remove(alloc, &mut table, "aaaa")?;
+    remove(&rt, rt.alloc(), &mut table, "aaaa");
     assert!(rt; has_keys(table.as_slice(), &["ccccc", "bbbb"]));
     assert!(rt; has_places(&table, &[0, 9, 9, 9, 1]));
-    assert!(rt; found(&table, "dddd") == (None, 2));
-    Ok(())
+    assert!(rt; finds(&table, "dddd", None, 2));
 }
 
 /// Who went round the end stays behind those of the same home when the table grows.
 #[test]
-fn growth_keeps_the_order_of_a_home(rt: HostRuntime) -> Result<(), AllocError> {
-    let alloc = rt.alloc();
-    let mut table: Table<u64, ByLength> = Table::new(alloc);
-    insert_all(alloc, &mut table, &["aaaa", "bbbb", "cccc", "dddd"])?;
+fn growth_keeps_the_order_of_a_home(rt: HostRuntime) {
+    let mut table = of_lengths(&rt, rt.alloc(), &["aaaa", "bbbb", "cccc", "dddd"]);
     assert!(rt; has_places(&table, &[1, 2, 3, 9, 0]));
-    insert_all(alloc, &mut table, &["eeee"])?;
+    insert_all(&rt, rt.alloc(), &mut table, &["eeee"]);
     assert!(rt; has_places(&table, &[9, 9, 9, 9, 0, 1, 2, 3, 4, 9]));
-    Ok(())
 }
 
 #[test]
-fn all_meet(rt: HostRuntime) -> Result<(), AllocError> {
-    let alloc = rt.alloc();
-    let mut table: Table<u64, AlwaysZero> = Table::new(alloc);
-    assert!(rt; found(&table, "a") == (None, 0));
+fn all_meet(rt: HostRuntime) {
+    let mut table: Table<u64, AlwaysZero> = Table::new(rt.alloc());
+    assert!(rt; finds(&table, "a", None, 0));
     assert!(rt; table.reserve(0).is_ok());
-    insert_all(alloc, &mut table, &["a", "b", "c", "d", "e"])?;
-    assert_eq!(rt; table.capacity(), 8);
-    assert!(rt; found(&table, "z") == (None, 6));
-    Ok(())
+    insert_all(&rt, rt.alloc(), &mut table, &["a", "b", "c", "d", "e"]);
+    assert!(rt; table.capacity() == 8);
+    assert!(rt; finds(&table, "z", None, 6));
+}
+
+/// A table of these keys, which was made with room for them alone. All have one home.
+fn full(rt: &impl Abort, alloc: Global, keys: &[&str]) -> Table<u64, AlwaysZero> {
+    let mut table = Table::with_capacity(alloc, keys.len()).expect(rt, "a table");
+    insert_all(rt, alloc, &mut table, keys);
+    table
 }
 
 #[test]
-fn one_place(rt: HostRuntime) -> Result<(), AllocError> {
-    let alloc = rt.alloc();
-    let Ok(mut table) = Table::<u64, AlwaysZero>::with_capacity(alloc, 1) else {
-        return Err(AllocError);
-    };
-    insert_all(alloc, &mut table, &["a"])?;
-    assert_eq!(rt; (table.capacity(), table.places()), (1, 1));
-    assert!(rt; found(&table, "a") == (Some(0), 1));
-    assert!(rt; found(&table, "b") == (None, 1));
-    Ok(())
+fn one_place(rt: HostRuntime) {
+    let table = full(&rt, rt.alloc(), &["a"]);
+    assert!(rt; table.capacity() == 1 && table.places() == 1);
+    assert!(rt; finds(&table, "a", Some(0), 1));
+    assert!(rt; finds(&table, "b", None, 1));
 }
 
 #[test]
-fn full_to_the_last_place(rt: HostRuntime) -> Result<(), AllocError> {
-    let alloc = rt.alloc();
-    let Ok(mut table) = Table::<u64, AlwaysZero>::with_capacity(alloc, 3) else {
-        return Err(AllocError);
-    };
-    insert_all(alloc, &mut table, &["a", "b", "c"])?;
-    assert_eq!(rt; table.capacity(), 3);
-    assert!(rt; has_places(&table, &[0, 1, 2]));
-    assert!(rt; found(&table, "z") == (None, 3));
-    remove(alloc, &mut table, "a")?;
+fn full_to_the_last_place(rt: HostRuntime) {
+    let mut table = full(&rt, rt.alloc(), &["a", "b", "c"]);
+    assert!(rt; table.capacity() == 3 && has_places(&table, &[0, 1, 2]));
+    assert!(rt; finds(&table, "z", None, 3));
+    remove(&rt, rt.alloc(), &mut table, "a");
     assert!(rt; has_keys(table.as_slice(), &["c", "b"]));
-    assert_eq!(rt;
-        (table.position("c"), table.position("b")),
-        (Some(0), Some(1))
-    );
+    assert!(rt; table.position("c") == Some(0) && table.position("b") == Some(1));
     assert!(rt; has_places(&table, &[1, 0, 9]));
-    Ok(())
 }
 
 #[test]
 fn fixed_hashes(rt: HostRuntime) {
-    assert_eq!(rt; FixedHash::hash(""), 0xcbf2_9ce4_8422_2325);
-    assert_eq!(rt; FixedHash::hash("a"), 0xaf63_bd4c_8601_b840);
+    assert!(rt; FixedHash::hash("") == 0xcbf2_9ce4_8422_2325);
+    assert!(rt; FixedHash::hash("a") == 0xaf63_bd4c_8601_b840);
+}
+
+/// Asserts that an empty store takes five keys, and makes room for eight.
+fn takes_five<P: PairStore<u64>>(rt: &impl Abort, alloc: Global, store: &mut P) {
+    let replies = insert_all(rt, alloc, store, &["a", "b", "c", "d", "e"]);
+    assert!(rt; replies.iter().all(|reply| matches!(reply, Reply::Added)));
+    assert!(rt; store.len() == 5 && store.capacity() == 8);
+}
+
+/// Takes `b` out of the five keys, which leaves the others in order.
+fn gives_one<P: PairStore<u64>>(rt: &impl Abort, alloc: Global, store: &mut P) {
+    let removed = shift_remove(rt, alloc, store, "b");
+    assert!(rt; matches!(removed, Reply::Removed(Some((_, 1)))));
+    assert!(rt; store.position("a") == Some(0) && store.position("c") == Some(1));
+    assert!(rt; store.position("e") == Some(3));
+}
+
+/// Takes the last of the four keys that are left and then the first out, and asks in vain for the one that is gone.
+fn gives_two_more<P: PairStore<u64>>(rt: &impl Abort, alloc: Global, store: &mut P) {
+    remove(rt, alloc, store, "e");
+    remove(rt, alloc, store, "a");
+    assert!(rt; store.position("d") == Some(0) && store.position("c") == Some(1));
+    let gone = shift_remove(rt, alloc, store, "b");
+    assert!(rt; matches!(gone, Reply::Removed(None)));
+    assert!(rt; store.capacity() == 8);
+}
+
+/// Asserts what room a store of two pairs gives back, makes and keeps.
+fn fits_and_clears<P: PairStore<u64>>(rt: &impl Abort, store: &mut P) {
+    assert!(rt; store.shrink_to_fit().is_ok());
+    assert!(rt; store.len() == 2 && store.capacity() == 2);
+    assert!(rt; store.reserve(usize::MAX) == Err(ReserveError::TooLarge));
+    store.clear();
+    assert!(rt; store.len() == 0 && store.capacity() == 2);
 }
 
 /// What each store does, the same for all of them.
-fn keeps_order_and_capacity<P: PairStore<u64>>(
-    rt: &impl Abort,
-    alloc: Global,
-    store: &mut P,
-) -> Result<(), AllocError> {
-    let replies = insert_all(alloc, store, &["a", "b", "c", "d", "e"])?;
-    assert!(rt; replies.iter().all(|reply| matches!(reply, Reply::Added)));
-    assert_eq!(rt; (store.len(), store.capacity()), (5, 8));
-    let removed = shift_remove(alloc, store, "b")?;
-    assert!(rt;
-        removed
-            .iter()
-            .all(|reply| matches!(reply, Reply::Removed(Some((_, 1)))))
-    );
-    assert_eq!(rt;
-        (
-            store.position("a"),
-            store.position("c"),
-            store.position("e")
-        ),
-        (Some(0), Some(1), Some(3))
-    );
-    remove(alloc, store, "e")?;
-    remove(alloc, store, "a")?;
-    assert_eq!(rt;
-        (store.position("d"), store.position("c")),
-        (Some(0), Some(1))
-    );
-    let gone = shift_remove(alloc, store, "b")?;
-    assert!(rt;
-        gone.iter()
-            .all(|reply| matches!(reply, Reply::Removed(None)))
-    );
-    assert_eq!(rt; store.capacity(), 8);
-    assert!(rt; store.shrink_to_fit().is_ok());
-    assert_eq!(rt; (store.len(), store.capacity()), (2, 2));
-    assert!(rt; store.reserve(usize::MAX) == Err(ReserveError::TooLarge));
-    store.clear();
-    assert_eq!(rt; (store.len(), store.capacity()), (0, 2));
-    Ok(())
+fn keeps_order_and_capacity<P: PairStore<u64>>(rt: &impl Abort, alloc: Global, store: &mut P) {
+    takes_five(rt, alloc, store);
+    gives_one(rt, alloc, store);
+    gives_two_more(rt, alloc, store);
+    fits_and_clears(rt, store);
 }
 
 #[test]
-fn each_store_keeps_order_and_capacity(rt: HostRuntime) -> Result<(), AllocError> {
+fn each_store_keeps_order_and_capacity(rt: HostRuntime) {
     let alloc = rt.alloc();
-    keeps_order_and_capacity(&rt, alloc, &mut LinearPairs::new(alloc))?;
-    keeps_order_and_capacity(&rt, alloc, &mut Table::<u64, AlwaysZero>::new(alloc))?;
-    keeps_order_and_capacity(&rt, alloc, &mut Table::<u64, ByLength>::new(alloc))?;
-    keeps_order_and_capacity(&rt, alloc, &mut FixedTable::new(alloc))
+    keeps_order_and_capacity(&rt, alloc, &mut LinearPairs::new(alloc));
+    keeps_order_and_capacity(&rt, alloc, &mut Table::<u64, AlwaysZero>::new(alloc));
+    keeps_order_and_capacity(&rt, alloc, &mut Table::<u64, ByLength>::new(alloc));
+    keeps_order_and_capacity(&rt, alloc, &mut FixedTable::new(alloc));
 }
 
 #[test]
@@ -290,38 +299,43 @@ fn the_limit(rt: HostRuntime) {
     );
 }
 
-#[test]
-fn a_run(rt: HostRuntime) -> Result<(), AllocError> {
-    let alloc = rt.alloc();
-    let a = || text(alloc, "a");
-    let mut commands = Vec::new(alloc);
-    commands.push(Command::Insert(a()?, 1))?;
-    commands.push(Command::Insert(a()?, 2))?;
-    commands.push(Command::Find(a()?))?;
-    commands.push(Command::Find(text(alloc, "b")?))?;
-    commands.push(Command::Remove(a()?))?;
-    commands.push(Command::ShrinkToFit)?;
-    let mut store = LinearPairs::new(alloc);
-    let replies = run(alloc, &mut store, commands)?;
-    let mut expected = Vec::new(alloc);
-    expected.push(Reply::Added)?;
-    expected.push(Reply::Replaced(1))?;
-    expected.push(Reply::Found(Some(0)))?;
-    expected.push(Reply::Found(None))?;
-    expected.push(Reply::Removed(Some((a()?, 2))))?;
-    expected.push(Reply::Done)?;
-    assert!(rt; replies.as_slice() == expected.as_slice());
-    assert_eq!(rt; store.capacity(), 0);
-    Ok(())
+/// Commands of each kind but those that shift, clear and make room.
+fn commands(rt: &impl Abort, alloc: Global) -> Vec<Command<u64>> {
+    vec![in alloc;
+        Command::Insert(key(rt, alloc, "a"), 1),
+        Command::Insert(key(rt, alloc, "a"), 2),
+        Command::Find(key(rt, alloc, "a")),
+        Command::Find(key(rt, alloc, "b")),
+        Command::Remove(key(rt, alloc, "a")),
+        Command::ShrinkToFit,
+    ]
+    .expect(rt, "the commands")
 }
 
-/// A value is written through each lending call, and all pairs come back.
-fn lends<P: PairStore<u64> + Drop>(
-    rt: &impl Abort,
-    alloc: Global,
-    mut store: P,
-) -> Result<(), AllocError> {
-    insert_all(alloc, &mut store, &["a", "b", "c"])?;
+/// What is replied to these commands.
+fn replies(rt: &impl Abort, alloc: Global) -> Vec<Reply<u64>> {
+    vec![in alloc;
+        Reply::Added,
+        Reply::Replaced(1),
+        Reply::Found(Some(0)),
+        Reply::Found(None),
+        Reply::Removed(Some((key(rt, alloc, "a"), 2))),
+        Reply::Done,
+    ]
+    .expect(rt, "the replies")
+}
+
+#[test]
+fn a_run(rt: HostRuntime) {
+    let alloc = rt.alloc();
+    let mut store = LinearPairs::new(alloc);
+    let found = run(alloc, &mut store, commands(&rt, alloc)).expect(&rt, "the replies");
+    assert!(rt; found.as_slice() == replies(&rt, alloc).as_slice());
+    assert!(rt; store.capacity() == 0);
+}
+
+/// Writes a value through each call that lends one, and looks at a third pair.
+fn writes<P: PairStore<u64>>(rt: &impl Abort, store: &mut P) {
     if store.len() > 0 {
         *store.value_mut(0) = 7;
     }
@@ -334,15 +348,20 @@ fn lends<P: PairStore<u64> + Drop>(
         let (key, value) = store.pair(2);
         assert!(rt; key.eq_str("c") && *value == 2);
     }
+}
+
+/// A value is written through each lending call, and all pairs come back.
+fn lends<P: PairStore<u64> + Drop>(rt: &impl Abort, alloc: Global, mut store: P) {
+    insert_all(rt, alloc, &mut store, &["a", "b", "c"]);
+    writes(rt, &mut store);
     let pairs = store.into_pairs();
     assert!(rt; has_keys(&pairs, &["a", "b", "c"]));
     assert!(rt; pairs.iter().map(|pair| pair.1).eq([7, 8, 2]));
-    Ok(())
 }
 
 #[test]
-fn each_store_lends(rt: HostRuntime) -> Result<(), AllocError> {
+fn each_store_lends(rt: HostRuntime) {
     let alloc = rt.alloc();
-    lends(&rt, alloc, LinearPairs::new(alloc))?;
-    lends(&rt, alloc, FixedTable::new(alloc))
+    lends(&rt, alloc, LinearPairs::new(alloc));
+    lends(&rt, alloc, FixedTable::new(alloc));
 }

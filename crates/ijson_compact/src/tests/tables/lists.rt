@@ -1,9 +1,11 @@
 //! Long lists of commands, which each store answers alike.
 
-use super::super::text;
-use super::{AlwaysZero, ByLength};
+use super::super::key;
+use super::{AlwaysZero, ByLength, reply};
+use ijson_string::IString;
 use ijson_table::{Command, FixedHash, FixedTable, LinearPairs, PairStore, Reply, Table, run};
-use std::alloc::{AllocError, Global};
+use std::alloc::Global;
+use std::process::Abort;
 
 /// How many commands a list has.
 const COUNT: usize = 200;
@@ -42,33 +44,48 @@ fn next(state: u64) -> u64 {
         .wrapping_add(1_442_695_040_888_963_407)
 }
 
+/// The command that a number stands for.
+fn command(rt: &impl Abort, alloc: Global, number: u64) -> Command<u64> {
+    let key = key(rt, alloc, KEYS[(number >> 33) as usize % KEYS.len()]);
+    match (number >> 40) % 64 {
+        0..=35 => Command::Insert(key, number),
+        36..=43 => Command::Find(key),
+        44..=49 => Command::Remove(key),
+        50..=55 => Command::ShiftRemove(key),
+        56..=59 => Command::Reserve((number >> 20) as usize % 12),
+        60..=62 => Command::ShrinkToFit,
+        _ => Command::Clear,
+    }
+}
+
 /// The list of commands that begins with this number.
-fn commands(alloc: Global, seed: u64) -> Result<Vec<Command<u64>>, AllocError> {
+fn commands(rt: &impl Abort, alloc: Global, seed: u64) -> Vec<Command<u64>> {
     let mut state = seed;
     let mut commands = Vec::new(alloc);
     for _ in 0..COUNT {
         state = next(state);
-        let key = text(alloc, KEYS[(state >> 33) as usize % KEYS.len()])?;
-        let command = match (state >> 40) % 64 {
-            0..=35 => Command::Insert(key, state),
-            36..=43 => Command::Find(key),
-            44..=49 => Command::Remove(key),
-            50..=55 => Command::ShiftRemove(key),
-            56..=59 => Command::Reserve((state >> 20) as usize % 12),
-            60..=62 => Command::ShrinkToFit,
-            _ => Command::Clear,
-        };
-        commands.push(command)?;
+        let command = command(rt, alloc, state);
+        commands.push(command).expect(rt, "a command");
     }
-    Ok(commands)
+    commands
+}
+
+/// What a store replies to this list.
+fn replies<P: PairStore<u64>>(
+    rt: &impl Abort,
+    alloc: Global,
+    seed: u64,
+    store: &mut P,
+) -> Vec<Reply<u64>> {
+    run(alloc, store, commands(rt, alloc, seed)).expect(rt, "the replies")
 }
 
 /// Whether a store gives the same replies as `LinearPairs`, and ends with the same pairs at the same positions and the same capacity.
-fn agrees<P: PairStore<u64>>(alloc: Global, seed: u64, store: &mut P) -> Result<bool, AllocError> {
+fn agrees<P: PairStore<u64>>(rt: &impl Abort, alloc: Global, seed: u64, store: &mut P) -> bool {
     let mut linear = LinearPairs::new(alloc);
-    let replies = run(alloc, store, commands(alloc, seed)?)?;
-    let expected = run(alloc, &mut linear, commands(alloc, seed)?)?;
-    Ok(replies.as_slice() == expected.as_slice() && are_alike(store, &linear))
+    let found = replies(rt, alloc, seed, store);
+    let expected = replies(rt, alloc, seed, &mut linear);
+    found.as_slice() == expected.as_slice() && are_alike(store, &linear)
 }
 
 /// Whether two stores have the same pairs at the same positions and the same capacity.
@@ -86,44 +103,62 @@ fn are_alike<P: PairStore<u64>, Q: PairStore<u64>>(one: &P, other: &Q) -> bool {
     true
 }
 
-/// Whether `insert` and `get` answer as the insertions and look-ups of `run` do.
-fn insert_and_get_agree(alloc: Global, seed: u64) -> Result<bool, AllocError> {
-    let expected = run(alloc, &mut LinearPairs::new(alloc), commands(alloc, seed)?)?;
-    let mut table = FixedTable::<u64>::new(alloc);
-    let mut replies = Vec::new(alloc);
-    for command in commands(alloc, seed)? {
-        let reply = match command {
-            Command::Insert(key, value) => match table.insert(key, value) {
-                Ok(None) => Reply::Added,
-                Ok(Some(old)) => Reply::Replaced(old),
-                Err(refused) => Reply::Refused(refused.key, refused.value, refused.why),
-            },
-            Command::Find(key) => match table.get(key.as_str()) {
-                Some(_) => Reply::Found(table.position(key.as_str())),
-                None => Reply::Found(None),
-            },
-            other => {
-                let mut one = run(alloc, &mut table, vec![in alloc; other]?)?;
-                match one.pop() {
-                    Some(reply) => reply,
-                    None => return Ok(false),
-                }
-            }
-        };
-        replies.push(reply)?;
+/// What `insert` answers, as a reply.
+fn inserted(table: &mut FixedTable<u64>, key: IString, value: u64) -> Reply<u64> {
+    match table.insert(key, value) {
+        Ok(None) => Reply::Added,
+        Ok(Some(old)) => Reply::Replaced(old),
+        Err(refused) => Reply::Refused(refused.key, refused.value, refused.why),
     }
-    Ok(replies.as_slice() == expected.as_slice())
+}
+
+/// What `get` answers, as a reply.
+fn got(table: &FixedTable<u64>, key: &str) -> Reply<u64> {
+    match table.get(key) {
+        Some(_) => Reply::Found(table.position(key)),
+        None => Reply::Found(None),
+    }
+}
+
+/// What a table replies to a command, where `insert` and `get` make insertions and look-ups.
+fn answer(
+    rt: &impl Abort,
+    alloc: Global,
+    table: &mut FixedTable<u64>,
+    command: Command<u64>,
+) -> Reply<u64> {
+    match command {
+        Command::Insert(key, value) => inserted(table, key, value),
+        Command::Find(key) => got(table, key.as_str()),
+        other => reply(rt, alloc, table, other),
+    }
+}
+
+/// What a table replies to this list, where `insert` and `get` make insertions and look-ups.
+fn answers(rt: &impl Abort, alloc: Global, seed: u64) -> Vec<Reply<u64>> {
+    let mut table = FixedTable::new(alloc);
+    let mut replies = Vec::new(alloc);
+    for command in commands(rt, alloc, seed) {
+        let reply = answer(rt, alloc, &mut table, command);
+        replies.push(reply).expect(rt, "a reply");
+    }
+    replies
+}
+
+/// Whether `insert` and `get` answer as the insertions and look-ups of `run` do.
+fn insert_and_get_agree(rt: &impl Abort, alloc: Global, seed: u64) -> bool {
+    let expected = replies(rt, alloc, seed, &mut LinearPairs::new(alloc));
+    answers(rt, alloc, seed).as_slice() == expected.as_slice()
 }
 
 #[test]
-fn stores_agree(rt: HostRuntime) -> Result<(), AllocError> {
+fn stores_agree(rt: HostRuntime) {
     let alloc = rt.alloc();
     for seed in 0..40 {
-        assert!(rt; agrees(alloc, seed, &mut Table::<u64, AlwaysZero>::new(alloc))?);
-        assert!(rt; agrees(alloc, seed, &mut Table::<u64, ByLength>::new(alloc))?);
-        assert!(rt; agrees(alloc, seed, &mut Table::<u64, FixedHash>::new(alloc))?);
-        assert!(rt; agrees(alloc, seed, &mut FixedTable::new(alloc))?);
-        assert!(rt; insert_and_get_agree(alloc, seed)?);
+        assert!(rt; agrees(&rt, alloc, seed, &mut Table::<u64, AlwaysZero>::new(alloc)));
+        assert!(rt; agrees(&rt, alloc, seed, &mut Table::<u64, ByLength>::new(alloc)));
+        assert!(rt; agrees(&rt, alloc, seed, &mut Table::<u64, FixedHash>::new(alloc)));
+        assert!(rt; agrees(&rt, alloc, seed, &mut FixedTable::new(alloc)));
+        assert!(rt; insert_and_get_agree(&rt, alloc, seed));
     }
-    Ok(())
 }

@@ -1,27 +1,64 @@
 //! What holds after a refused request for memory. Each of these tests passes whichever one of its requests is refused.
 
 use super::AlwaysZero;
-use crate::tests::text as key;
+use crate::tests::key;
 use ijson_string::IString;
 use ijson_table::{
     Command, FixedTable, LinearPairs, PairStore, RefusedPair, Reply, ReserveError, Table, run,
 };
 use std::alloc::{AllocError, Global};
 use std::process::Abort;
-use std::test::Fail;
 
 /// The pairs of the stores that follow.
 const PAIRS: [(&str, u32); 5] = [("a", 1), ("b", 2), ("c", 3), ("d", 4), ("e", 5)];
 
+/// A store of these pairs, with the two calls that each store has beside those of `PairStore`.
+trait Store: PairStore<u32> + Drop {
+    /// Its `with_capacity`.
+    fn with_room(alloc: Global, capacity: usize) -> Result<Self, ReserveError>;
+
+    /// Its `insert`.
+    fn put(&mut self, key: IString, value: u32) -> Result<Option<u32>, RefusedPair<u32>>;
+}
+
+impl Store for LinearPairs<u32> {
+    fn with_room(alloc: Global, capacity: usize) -> Result<Self, ReserveError> {
+        LinearPairs::with_capacity(alloc, capacity)
+    }
+
+    fn put(&mut self, key: IString, value: u32) -> Result<Option<u32>, RefusedPair<u32>> {
+        self.insert(key, value)
+    }
+}
+
+impl Store for Table<u32, AlwaysZero> {
+    fn with_room(alloc: Global, capacity: usize) -> Result<Self, ReserveError> {
+        Table::with_capacity(alloc, capacity)
+    }
+
+    fn put(&mut self, key: IString, value: u32) -> Result<Option<u32>, RefusedPair<u32>> {
+        self.insert(key, value)
+    }
+}
+
+impl Store for FixedTable<u32> {
+    fn with_room(alloc: Global, capacity: usize) -> Result<Self, ReserveError> {
+        FixedTable::with_capacity(alloc, capacity)
+    }
+
+    fn put(&mut self, key: IString, value: u32) -> Result<Option<u32>, RefusedPair<u32>> {
+        self.insert(key, value)
+    }
+}
+
 /// Adds those of the first `len` pairs that are not there, where there is room.
-fn fill<P: PairStore<u32>>(alloc: Global, store: &mut P, len: usize) -> Result<(), AllocError> {
+fn fill<P: PairStore<u32>>(rt: &impl Abort, alloc: Global, store: &mut P, len: usize) {
     for (text, value) in PAIRS.iter().take(len) {
-        let key = key(alloc, text)?;
+        let key = key(rt, alloc, text);
         if store.position(key.as_str()).is_none() && store.len() < store.capacity() {
             store.push_new(key, *value);
         }
     }
-    Ok(())
 }
 
 /// Whether a pair is at a position, and found there.
@@ -43,28 +80,33 @@ fn holds<P: PairStore<u32>>(store: &P, len: usize, capacity: usize) -> bool {
     store.len() == len && store.capacity() == capacity
 }
 
-/// Growth and shrinking of an empty store of capacity 0: what is refused leaves the store, and is granted when it is asked for again.
-fn asks_again<P: PairStore<u32>>(
-    rt: &impl Abort,
-    alloc: Global,
-    store: &mut P,
-) -> Result<(), AllocError> {
-    if store.reserve(3).is_err() {
-        assert!(rt; holds(store, 0, 0) && store.reserve(3).is_ok());
-    }
-    fill(alloc, store, 4)?;
-    assert!(rt; holds(store, 4, 4));
+/// Room for one more pair than a full store of four has: where it is refused, it is granted when it is asked for again.
+fn grows<P: PairStore<u32>>(rt: &impl Abort, store: &mut P) {
     if let Err(why) = store.reserve(1) {
         assert!(rt; why == ReserveError::Memory && holds(store, 4, 4));
         assert!(rt; store.reserve(1).is_ok());
     }
     assert!(rt; holds(store, 4, 8));
+}
+
+/// The same of giving that room back.
+fn shrinks<P: PairStore<u32>>(rt: &impl Abort, store: &mut P) {
     if let Err(why) = store.shrink_to_fit() {
         assert!(rt; why == ReserveError::Memory && holds(store, 4, 8));
         assert!(rt; store.shrink_to_fit().is_ok());
     }
     assert!(rt; holds(store, 4, 4));
-    Ok(())
+}
+
+/// Growth and shrinking of an empty store of capacity 0: what is refused leaves the store, and is granted when it is asked for again.
+fn asks_again<P: PairStore<u32>>(rt: &impl Abort, alloc: Global, store: &mut P) {
+    if store.reserve(3).is_err() {
+        assert!(rt; holds(store, 0, 0) && store.reserve(3).is_ok());
+    }
+    fill(rt, alloc, store, 4);
+    assert!(rt; holds(store, 4, 4));
+    grows(rt, store);
+    shrinks(rt, store);
 }
 
 /// Whether the pair of e came back, for want of memory.
@@ -72,127 +114,130 @@ fn is_e_back(refused: &RefusedPair<u32>) -> bool {
     refused.key.eq_str("e") && refused.value == 5 && refused.why == ReserveError::Memory
 }
 
-#[test]
-fn linear_pairs(rt: HostRuntime) -> Result<(), Fail> {
-    let alloc = rt.alloc();
-    let mut store = match LinearPairs::with_capacity(alloc, 4) {
+/// A key that a full store of four pairs has takes no memory, and where a new one is refused, it is taken when it is put again.
+fn puts<S: Store>(rt: &impl Abort, alloc: Global, store: &mut S) {
+    assert!(rt; matches!(store.put(key(rt, alloc, "a"), 1), Ok(Some(1))) && holds(store, 4, 4));
+    if let Err(refused) = store.put(key(rt, alloc, "e"), 5) {
+        assert!(rt; is_e_back(&refused) && holds(store, 4, 4));
+        assert!(rt; matches!(store.put(refused.key, refused.value), Ok(None)));
+    }
+    assert!(rt; holds(store, 5, 8));
+}
+
+/// An empty store with room for four pairs, which is granted when it is asked for again.
+fn roomy<S: Store>(rt: &impl Abort, alloc: Global) -> S {
+    match S::with_room(alloc, 4) {
         Ok(store) => store,
         Err(why) => {
-            assert_eq!(rt; why, ReserveError::Memory);
-            LinearPairs::with_capacity(alloc, 4)?
+            assert!(rt; why == ReserveError::Memory);
+            S::with_room(alloc, 4).expect(rt, "room")
         }
-    };
-    assert!(rt; store.shrink_to_fit().is_ok());
-    asks_again(&rt, alloc, &mut store)?;
-    assert!(rt; matches!(store.insert(key(alloc, "a")?, 1), Ok(Some(1))) && holds(&store, 4, 4));
-    if let Err(refused) = store.insert(key(alloc, "e")?, 5) {
-        assert!(rt; is_e_back(&refused) && holds(&store, 4, 4));
-        assert!(rt; matches!(store.insert(refused.key, refused.value), Ok(None)));
     }
-    assert!(rt; holds(&store, 5, 8));
-    Ok(())
+}
+
+/// What holds of an empty store with room for four pairs, whichever request is refused.
+fn bears_refusals<S: Store>(rt: &impl Abort, alloc: Global, mut store: S) {
+    assert!(rt; store.shrink_to_fit().is_ok());
+    asks_again(rt, alloc, &mut store);
+    puts(rt, alloc, &mut store);
 }
 
 #[test]
-fn a_table(rt: HostRuntime) -> Result<(), Fail> {
-    let alloc = rt.alloc();
-    let mut store: Table<u32, AlwaysZero> = match Table::with_capacity(alloc, 4) {
-        Ok(store) => store,
-        Err(why) => {
-            assert_eq!(rt; why, ReserveError::Memory);
-            Table::with_capacity(alloc, 4)?
-        }
-    };
-    assert!(rt; store.shrink_to_fit().is_ok());
-    asks_again(&rt, alloc, &mut store)?;
-    assert!(rt; matches!(store.insert(key(alloc, "a")?, 1), Ok(Some(1))) && holds(&store, 4, 4));
-    if let Err(refused) = store.insert(key(alloc, "e")?, 5) {
-        assert!(rt; is_e_back(&refused) && holds(&store, 4, 4));
-        assert!(rt; matches!(store.insert(refused.key, refused.value), Ok(None)));
-    }
-    assert!(rt; holds(&store, 5, 8));
-    Ok(())
+fn linear_pairs(rt: HostRuntime) {
+    let store: LinearPairs<u32> = roomy(&rt, rt.alloc());
+    bears_refusals(&rt, rt.alloc(), store);
 }
 
 #[test]
-fn a_fixed_table(rt: HostRuntime) -> Result<(), Fail> {
-    let alloc = rt.alloc();
-    let mut store = match FixedTable::with_capacity(alloc, 4) {
-        Ok(store) => store,
-        Err(why) => {
-            assert_eq!(rt; why, ReserveError::Memory);
-            FixedTable::with_capacity(alloc, 4)?
-        }
-    };
-    assert!(rt; store.shrink_to_fit().is_ok());
-    asks_again(&rt, alloc, &mut store)?;
-    assert!(rt; matches!(store.insert(key(alloc, "a")?, 1), Ok(Some(1))) && holds(&store, 4, 4));
-    if let Err(refused) = store.insert(key(alloc, "e")?, 5) {
-        assert!(rt; is_e_back(&refused) && holds(&store, 4, 4));
-        assert!(rt; matches!(store.insert(refused.key, refused.value), Ok(None)));
-    }
-    assert!(rt; holds(&store, 5, 8));
-    Ok(())
+fn a_table(rt: HostRuntime) {
+    let store: Table<u32, AlwaysZero> = roomy(&rt, rt.alloc());
+    bears_refusals(&rt, rt.alloc(), store);
+}
+
+#[test]
+fn a_fixed_table(rt: HostRuntime) {
+    let store: FixedTable<u32> = roomy(&rt, rt.alloc());
+    bears_refusals(&rt, rt.alloc(), store);
 }
 
 /// A list of the five pairs, and the first of them once more.
-fn listed(alloc: Global) -> Result<Vec<(IString, u32)>, AllocError> {
+fn listed(rt: &impl Abort, alloc: Global) -> Vec<(IString, u32)> {
     let mut pairs = match Vec::with_capacity(alloc, 6) {
         Ok(pairs) => pairs,
-        Err(AllocError) => Vec::with_capacity(alloc, 6)?,
+        Err(AllocError) => Vec::with_capacity(alloc, 6).expect(rt, "a list"),
     };
     for (text, value) in PAIRS.iter() {
-        pairs.push((key(alloc, text)?, *value))?;
+        pairs
+            .push((key(rt, alloc, text), *value))
+            .expect(rt, "a pair");
     }
-    pairs.push((key(alloc, "a")?, 1))?;
-    Ok(pairs)
+    pairs.push((key(rt, alloc, "a"), 1)).expect(rt, "a pair");
+    pairs
+}
+
+/// A table of this list, which is granted when it is asked for again.
+fn table_of_list(rt: &impl Abort, alloc: Global) -> Table<u32, AlwaysZero> {
+    match Table::from_pairs(alloc, listed(rt, alloc)) {
+        Ok(store) => store,
+        Err(why) => {
+            assert!(rt; why == ReserveError::Memory);
+            Table::from_pairs(alloc, listed(rt, alloc)).expect(rt, "a table")
+        }
+    }
+}
+
+/// The same under the fixed hash.
+fn fixed_table_of_list(rt: &impl Abort, alloc: Global) -> FixedTable<u32> {
+    match FixedTable::from_pairs(alloc, listed(rt, alloc)) {
+        Ok(store) => store,
+        Err(why) => {
+            assert!(rt; why == ReserveError::Memory);
+            FixedTable::from_pairs(alloc, listed(rt, alloc)).expect(rt, "a table")
+        }
+    }
 }
 
 #[test]
-fn lists_of_pairs(rt: HostRuntime) -> Result<(), Fail> {
-    let alloc = rt.alloc();
-    let store: Table<u32, AlwaysZero> = match Table::from_pairs(alloc, listed(alloc)?) {
-        Ok(store) => store,
-        Err(why) => {
-            assert_eq!(rt; why, ReserveError::Memory);
-            Table::from_pairs(alloc, listed(alloc)?)?
-        }
-    };
-    assert!(rt; holds(&store, 5, 6));
-    let store = match FixedTable::from_pairs(alloc, listed(alloc)?) {
-        Ok(store) => store,
-        Err(why) => {
-            assert_eq!(rt; why, ReserveError::Memory);
-            FixedTable::from_pairs(alloc, listed(alloc)?)?
-        }
-    };
-    assert!(rt; holds(&store, 5, 6));
-    Ok(())
+fn lists_of_pairs(rt: HostRuntime) {
+    let table = table_of_list(&rt, rt.alloc());
+    assert!(rt; holds(&table, 5, 6));
+    let fixed = fixed_table_of_list(&rt, rt.alloc());
+    assert!(rt; holds(&fixed, 5, 6));
 }
 
 /// One command that inserts e.
-fn insertion(alloc: Global) -> Result<Vec<Command<u32>>, AllocError> {
-    match vec![in alloc; Command::Insert(key(alloc, "e")?, 5)] {
-        Ok(commands) => Ok(commands),
-        Err(_) => Ok(vec![in alloc; Command::Insert(key(alloc, "e")?, 5)]?),
+fn insertion(rt: &impl Abort, alloc: Global) -> Vec<Command<u32>> {
+    match vec![in alloc; Command::Insert(key(rt, alloc, "e"), 5)] {
+        Ok(commands) => commands,
+        Err(_) => vec![in alloc; Command::Insert(key(rt, alloc, "e"), 5)].expect(rt, "a list"),
+    }
+}
+
+/// A full store of the first four pairs.
+fn four(rt: &impl Abort, alloc: Global) -> LinearPairs<u32> {
+    let mut store = LinearPairs::new(alloc);
+    if store.reserve(4).is_err() {
+        store.reserve(4).expect(rt, "room");
+    }
+    fill(rt, alloc, &mut store, 4);
+    store
+}
+
+/// The replies to the command. Where the list of them is refused, the store is as it was.
+fn replies(rt: &impl Abort, alloc: Global, store: &mut LinearPairs<u32>) -> Vec<Reply<u32>> {
+    match run(alloc, store, insertion(rt, alloc)) {
+        Ok(replies) => replies,
+        Err(AllocError) => {
+            assert!(rt; holds(store, 4, 4));
+            run(alloc, store, insertion(rt, alloc)).expect(rt, "the replies")
+        }
     }
 }
 
 #[test]
-fn a_list_of_replies(rt: HostRuntime) -> Result<(), Fail> {
-    let alloc = rt.alloc();
-    let mut store = LinearPairs::new(alloc);
-    if store.reserve(4).is_err() {
-        store.reserve(4)?;
-    }
-    fill(alloc, &mut store, 4)?;
-    let replies = match run(alloc, &mut store, insertion(alloc)?) {
-        Ok(replies) => replies,
-        Err(AllocError) => {
-            assert!(rt; holds(&store, 4, 4));
-            run(alloc, &mut store, insertion(alloc)?)?
-        }
-    };
+fn a_list_of_replies(rt: HostRuntime) {
+    let mut store = four(&rt, rt.alloc());
+    let replies = replies(&rt, rt.alloc(), &mut store);
     assert!(rt;
         match replies.first() {
             Some(Reply::Added) => holds(&store, 5, 8),
@@ -202,5 +247,4 @@ fn a_list_of_replies(rt: HostRuntime) -> Result<(), Fail> {
             _ => false,
         }
     );
-    Ok(())
 }
