@@ -22,51 +22,54 @@ use crate::string::IString;
 use crate::table::ReserveError;
 use crate::value::IValue;
 use indexmap::IndexMap;
+use serde_json::{Map, Value};
 use std::alloc::{AllocError, Global};
 use std::collections::{BTreeMap, HashMap};
 use std::process::Abort;
-use std::test::Fail;
 
-#[test]
-fn number_of_many_digits(rt: HostRuntime) -> Result<(), Fail> {
-    let text = "123456789012345678901234567890.5";
-    let number = match INumber::from_str(rt.alloc(), text) {
+/// The number that a text spells.
+fn spelled(rt: &impl Abort, alloc: Global, text: &str) -> INumber {
+    match INumber::from_str(alloc, text) {
         Ok(number) => number,
         Err(error) => {
-            assert_eq!(rt; error, ParseNumberError::Memory);
-            INumber::from_str(rt.alloc(), text)?
+            assert!(rt; error == ParseNumberError::Memory);
+            INumber::from_str(alloc, text).expect(rt, "a number")
         }
-    };
-    assert!(rt; number.has_decimal_point());
+    }
+}
+
+/// Asserts that a copy of a number is equal to it.
+fn copies_number(rt: &impl Abort, number: &INumber) {
     let copy = match number.clone() {
         Ok(copy) => copy,
-        Err(AllocError) => number.clone()?,
+        Err(AllocError) => number.clone().expect(rt, "a copy"),
     };
-    assert!(rt; copy == number);
-    assert!(rt;
-        number
-            == INumber::from_str(rt.alloc(), text).or_else(|_| INumber::from_str(rt.alloc(), text))?
-    );
-    Ok(())
+    assert!(rt; copy == *number);
 }
 
 #[test]
-fn number_at_the_front(rt: HostRuntime) -> Result<(), Fail> {
-    let text = "-123.4567890123450, 2";
-    let read = match INumber::at_front(rt.alloc(), text) {
+fn number_of_many_digits(rt: HostRuntime) {
+    let text = "123456789012345678901234567890.5";
+    let number = spelled(&rt, rt.alloc(), text);
+    assert!(rt; number.has_decimal_point());
+    copies_number(&rt, &number);
+    assert!(rt; number == spelled(&rt, rt.alloc(), text));
+}
+
+/// The number at the front of a text, and its length.
+fn at_front(rt: &impl Abort, alloc: Global, text: &str) -> (INumber, usize) {
+    let read = match INumber::at_front(alloc, text) {
         Ok(read) => read,
-        Err(AllocError) => INumber::at_front(rt.alloc(), text)?,
+        Err(AllocError) => INumber::at_front(alloc, text).expect(rt, "room"),
     };
-    let Some((number, length)) = read else {
-        panic!(rt; "none");
-    };
-    assert_eq!(rt; length, 18);
-    let same = "-123.456789012345";
-    assert!(rt;
-        number
-            == INumber::from_str(rt.alloc(), same).or_else(|_| INumber::from_str(rt.alloc(), same))?
-    );
-    Ok(())
+    read.expect(rt, "a number")
+}
+
+#[test]
+fn number_at_the_front(rt: HostRuntime) {
+    let (number, length) = at_front(&rt, rt.alloc(), "-123.4567890123450, 2");
+    assert!(rt; length == 18);
+    assert!(rt; number == spelled(&rt, rt.alloc(), "-123.456789012345"));
 }
 
 fn number(at: usize) -> IValue {
@@ -82,98 +85,136 @@ fn counts(array: &IArray, len: usize) -> bool {
             .all(|(at, item)| item.to_usize() == Some(at))
 }
 
+/// Pushes the number that follows so many others.
+fn pushes(rt: &impl Abort, array: &mut IArray, len: usize) {
+    let capacity = array.capacity();
+    if let Err(refused) = array.push(number(len)) {
+        assert!(rt; counts(array, len) && array.capacity() == capacity);
+        assert!(rt; refused.0 == number(len));
+        assert!(rt; array.push(refused.0).is_ok());
+    }
+}
+
 #[test]
 fn array_push(rt: HostRuntime) {
     let mut array = IArray::new(rt.alloc());
     for len in 0..20usize {
-        let capacity = array.capacity();
-        if let Err(refused) = array.push(number(len)) {
-            assert!(rt; counts(&array, len) && array.capacity() == capacity);
-            assert!(rt; refused.0 == number(len));
-            assert!(rt; array.push(refused.0).is_ok());
-        }
+        pushes(&rt, &mut array, len);
     }
     assert!(rt; counts(&array, 20));
 }
 
-/// An array of the numbers 1 and 2.
-fn one_and_two(alloc: Global) -> Result<IArray, Fail> {
-    let mut array = match IArray::with_capacity(alloc, 2) {
+/// An empty array that has room for so many items.
+fn array_of_room(rt: &impl Abort, alloc: Global, capacity: usize) -> IArray {
+    match IArray::with_capacity(alloc, capacity) {
         Ok(array) => array,
-        Err(AllocError) => IArray::with_capacity(alloc, 2)?,
-    };
-    array.push(number(1))?;
-    array.push(number(2))?;
-    Ok(array)
+        Err(AllocError) => IArray::with_capacity(alloc, capacity).expect(rt, "an array"),
+    }
 }
 
-#[test]
-fn array_room(rt: HostRuntime) -> Result<(), Fail> {
-    let mut array = one_and_two(rt.alloc())?;
+/// An array of the numbers 1 and 2.
+fn one_and_two(rt: &impl Abort, alloc: Global) -> IArray {
+    let mut array = array_of_room(rt, alloc, 2);
+    array.push(number(1)).expect(rt, "room");
+    array.push(number(2)).expect(rt, "room");
+    array
+}
+
+/// Inserts 0 before the numbers 1 and 2.
+fn inserts_zero(rt: &impl Abort, alloc: Global, array: &mut IArray) {
     let capacity = array.capacity();
     if let Err(refused) = array.insert(0, number(0)) {
         assert!(rt; refused.0 == number(0) && array.capacity() == capacity);
-        assert!(rt; array == one_and_two(rt.alloc())?);
-        array.insert(0, refused.0)?;
+        assert!(rt; *array == one_and_two(rt, alloc));
+        array.insert(0, refused.0).expect(rt, "an item");
     }
-    let capacity = array.capacity();
-    if array.reserve(20).is_err() {
-        assert!(rt; counts(&array, 3) && array.capacity() == capacity);
-        array.reserve(20)?;
-    }
-    let capacity = array.capacity();
-    assert!(rt; counts(&array, 3) && capacity >= 23);
-    if array.shrink_to_fit().is_err() {
-        assert!(rt; counts(&array, 3) && array.capacity() <= capacity);
-        array.shrink_to_fit()?;
-    }
-    assert!(rt; counts(&array, 3) && array.capacity() == 3);
-    Ok(())
 }
 
-/// A list of the numbers from 0 to 2.
-fn three(alloc: Global) -> Result<Vec<IValue>, AllocError> {
-    Ok(vec![in alloc; number(0), number(1), number(2)]?)
+/// Makes room for 20 items more than the numbers from 0 to 2.
+fn grows(rt: &impl Abort, array: &mut IArray) {
+    let capacity = array.capacity();
+    if array.reserve(20).is_err() {
+        assert!(rt; counts(array, 3) && array.capacity() == capacity);
+        array.reserve(20).expect(rt, "room");
+    }
+    assert!(rt; counts(array, 3) && array.capacity() >= 23);
+}
+
+/// Gives up all room but that of the numbers from 0 to 2.
+fn shrinks(rt: &impl Abort, array: &mut IArray) {
+    let capacity = array.capacity();
+    if array.shrink_to_fit().is_err() {
+        assert!(rt; counts(array, 3) && array.capacity() <= capacity);
+        array.shrink_to_fit().expect(rt, "less room");
+    }
+    assert!(rt; counts(array, 3) && array.capacity() == 3);
 }
 
 #[test]
-fn array_extend(rt: HostRuntime) -> Result<(), Fail> {
-    let mut array = IArray::new(rt.alloc());
+fn array_room(rt: HostRuntime) {
+    let mut array = one_and_two(&rt, rt.alloc());
+    inserts_zero(&rt, rt.alloc(), &mut array);
+    grows(&rt, &mut array);
+    shrinks(&rt, &mut array);
+}
+
+/// An array of the numbers from 0 to 8, which an empty one is extended by.
+fn extended(rt: &impl Abort, alloc: Global) -> IArray {
+    let mut array = IArray::new(alloc);
     if let Err(refused) = array.extend((0..9usize).map(number)) {
         let added = array.len();
         assert!(rt; added < 9 && counts(&array, added));
         assert!(rt; refused.0 == number(added));
-        array.push(refused.0)?;
-        array.extend((added + 1..9).map(number))?;
+        array.push(refused.0).expect(rt, "an item");
+        let rest = (added + 1..9).map(number);
+        array.extend(rest).expect(rt, "the other items");
     }
-    assert!(rt; counts(&array, 9));
-    let again = match IArray::from_iter(rt.alloc(), array) {
+    array
+}
+
+/// An array of the numbers from 0 to 8, from those of another one.
+fn made_again(rt: &impl Abort, alloc: Global, array: IArray) -> IArray {
+    match IArray::from_iter(alloc, array) {
         Ok(again) => again,
         Err(refused) => {
             assert!(rt; refused.0.to_usize().unwrap_or(9) < 9);
-            IArray::from_iter(rt.alloc(), (0..9usize).map(number))?
+            IArray::from_iter(alloc, (0..9usize).map(number)).expect(rt, "an array")
         }
-    };
-    assert!(rt; counts(&again, 9));
-    let list = match three(rt.alloc()) {
+    }
+}
+
+/// A list of the numbers from 0 to 2.
+fn three(rt: &impl Abort, alloc: Global) -> Vec<IValue> {
+    match vec![in alloc; number(0), number(1), number(2)] {
         Ok(list) => list,
-        Err(AllocError) => three(rt.alloc())?,
-    };
-    let listed = match IArray::from_vec(rt.alloc(), list) {
-        Ok(listed) => listed,
-        Err(refused) => IArray::from_vec(rt.alloc(), refused.value)?,
-    };
-    assert!(rt; counts(&listed, 3));
-    Ok(())
+        Err(_) => vec![in alloc; number(0), number(1), number(2)].expect(rt, "a list"),
+    }
+}
+
+/// An array of the items of a list.
+fn of_list(rt: &impl Abort, alloc: Global, list: Vec<IValue>) -> IArray {
+    match IArray::from_vec(alloc, list) {
+        Ok(array) => array,
+        Err(refused) => IArray::from_vec(alloc, refused.value).expect(rt, "an array"),
+    }
+}
+
+#[test]
+fn array_extend(rt: HostRuntime) {
+    let array = extended(&rt, rt.alloc());
+    assert!(rt; counts(&array, 9));
+    assert!(rt; counts(&made_again(&rt, rt.alloc(), array), 9));
+    let list = three(&rt, rt.alloc());
+    assert!(rt; counts(&of_list(&rt, rt.alloc(), list), 3));
 }
 
 /// A cache that holds one text.
-fn used_cache(alloc: Global) -> Result<Cache, Fail> {
+fn used_cache(rt: &impl Abort, alloc: Global) -> Cache {
     let mut cache = empty_cache(alloc);
     if IString::intern(&mut cache, "a text that was there").is_err() {
-        IString::intern(&mut cache, "a text that was there")?;
+        IString::intern(&mut cache, "a text that was there").expect(rt, "a text");
     }
-    Ok(cache)
+    cache
 }
 
 /// Whether a cache that held one text holds it still, and at most so many in all.
@@ -181,12 +222,14 @@ fn is_kept(cache: &Cache, most: usize) -> bool {
     cache.contains("a text that was there") && cache.len() <= most
 }
 
-fn interned(cache: &mut Cache, text: &str) -> Result<IString, Fail> {
+fn interned(rt: &impl Abort, cache: &mut Cache, text: &str) -> IString {
     let before = cache.len();
     match IString::intern(cache, text) {
-        Ok(text) => Ok(text),
-        Err(_) if cache.len() == before => Ok(IString::intern(cache, text)?),
-        Err(error) => Err(Fail::from(error)),
+        Ok(text) => text,
+        Err(AllocError) => {
+            assert!(rt; cache.len() == before);
+            IString::intern(cache, text).expect(rt, "a text")
+        }
     }
 }
 
@@ -198,44 +241,62 @@ const TEXTS: [(&str, usize); 4] = [
     ("eight888", 3),
 ];
 
-#[test]
-fn intern(rt: HostRuntime) -> Result<(), Fail> {
-    let mut cache = used_cache(rt.alloc())?;
-    for (text, count) in TEXTS {
-        let was_there = cache.contains(text);
-        let before = cache.len();
-        let key = match IString::intern(&mut cache, text) {
-            Ok(key) => key,
-            Err(AllocError) => {
-                assert!(rt; !was_there && !cache.contains(text));
-                assert!(rt; count > before && cache.len() == before && is_kept(&cache, 2));
-                IString::intern(&mut cache, text)?
-            }
-        };
-        assert!(rt; key.eq_str(text) && key.clone()? == key);
-        assert!(rt; cache.len() == count && cache.contains(text) == (text.len() > 7));
-        let copy = match key.to_owned_string(rt.alloc()) {
-            Ok(copy) => copy,
-            Err(AllocError) => key.to_owned_string(rt.alloc())?,
-        };
-        assert!(rt; copy.as_str() == text && key.eq_str(text));
+/// A text in a cache that holds so many once it is there.
+fn counted(rt: &impl Abort, cache: &mut Cache, text: &str, count: usize) -> IString {
+    let was_there = cache.contains(text);
+    let before = cache.len();
+    match IString::intern(cache, text) {
+        Ok(key) => key,
+        Err(AllocError) => {
+            assert!(rt; !was_there && !cache.contains(text));
+            assert!(rt; count > before && cache.len() == before && is_kept(cache, 2));
+            IString::intern(cache, text).expect(rt, "a text")
+        }
     }
-    Ok(())
 }
 
-fn read(alloc: Global, text: &str) -> Result<IValue, JsonError> {
+/// Asserts that a text and its copies are these letters.
+fn copies_text(rt: &impl Abort, alloc: Global, key: &IString, text: &str) {
+    assert!(rt; key.eq_str(text) && key.clone().expect(rt, "a copy") == *key);
+    let copy = match key.to_owned_string(alloc) {
+        Ok(copy) => copy,
+        Err(AllocError) => key.to_owned_string(alloc).expect(rt, "a copy"),
+    };
+    assert!(rt; copy.as_str() == text && key.eq_str(text));
+}
+
+#[test]
+fn intern(rt: HostRuntime) {
+    let mut cache = used_cache(&rt, rt.alloc());
+    for (text, count) in TEXTS {
+        let key = counted(&rt, &mut cache, text, count);
+        assert!(rt; cache.len() == count && cache.contains(text) == (text.len() > 7));
+        copies_text(&rt, rt.alloc(), &key, text);
+    }
+}
+
+/// What `text` spells, through a cache of its own.
+fn read(rt: &impl Abort, alloc: Global, text: &str) -> IValue {
     let mut cache = empty_cache(alloc);
     match from_json(alloc, &mut cache, text) {
-        Err(JsonError::Memory) => from_json(alloc, &mut cache, text),
-        answer => answer,
+        Ok(value) => value,
+        Err(refused) => {
+            assert!(rt; refused == JsonError::Memory);
+            from_json(alloc, &mut cache, text).expect(rt, text)
+        }
     }
 }
 
-fn written(alloc: Global, value: &IValue) -> Result<String, Fail> {
+fn written(rt: &impl Abort, alloc: Global, value: &IValue) -> String {
     match to_json(alloc, value) {
-        Ok(text) => Ok(text),
-        Err(_) => Ok(to_json(alloc, value)?),
+        Ok(text) => text,
+        Err(AllocError) => to_json(alloc, value).expect(rt, "a text"),
     }
+}
+
+/// Asserts that a text is what is written of a value.
+fn is_written(rt: &impl Abort, alloc: Global, value: &IValue, text: &str) {
+    assert!(rt; written(rt, alloc, value).as_str() == text);
 }
 
 /// Texts that are written as they are read, and how many texts a cache of one other text holds then.
@@ -247,55 +308,59 @@ const DOCUMENTS: [(&str, usize); 2] = [
     ),
 ];
 
-/// Puts a comma, a number and a string behind a text.
-fn parts(rt: &impl Abort, alloc: Global) -> Result<(), Fail> {
-    let mut found = written(alloc, &IValue::TRUE)?;
-    if push_separator(&mut found, false).is_err() {
-        push_separator(&mut found, false)?;
+/// What `text` spells, through a cache that holds at most so many texts then.
+fn read_into(rt: &impl Abort, alloc: Global, cache: &mut Cache, text: &str, held: usize) -> IValue {
+    match from_json(alloc, cache, text) {
+        Ok(value) => value,
+        Err(refused) => {
+            assert!(rt; refused == JsonError::Memory && is_kept(cache, held));
+            from_json(alloc, cache, text).expect(rt, text)
+        }
     }
-    assert_eq!(rt; found.as_str(), "true,");
+}
+
+/// Puts a comma, a number and a string behind a text.
+fn parts(rt: &impl Abort, alloc: Global) {
+    let mut found = written(rt, alloc, &IValue::TRUE);
+    if push_separator(&mut found, false).is_err() {
+        push_separator(&mut found, false).expect(rt, "a longer text");
+    }
+    assert!(rt; found.as_str() == "true,");
     if INumber::from(u64::MAX).push_to(&mut found).is_err() {
         assert!(rt; found.as_str().starts_with("true,"));
     }
     if push_quoted(&mut found, "\n").is_err() {
         assert!(rt; found.as_str().starts_with("true,"));
     }
-    Ok(())
 }
 
 #[test]
-fn reading_and_writing(rt: HostRuntime) -> Result<(), Fail> {
+fn reading_and_writing(rt: HostRuntime) {
     for (text, held) in DOCUMENTS {
-        let mut cache = used_cache(rt.alloc())?;
-        let value = match from_json(rt.alloc(), &mut cache, text) {
-            Ok(value) => value,
-            Err(refused) => {
-                assert!(rt; refused == JsonError::Memory && is_kept(&cache, held));
-                from_json(rt.alloc(), &mut cache, text)?
-            }
-        };
+        let mut cache = used_cache(&rt, rt.alloc());
+        let value = read_into(&rt, rt.alloc(), &mut cache, text, held);
         assert!(rt; is_kept(&cache, held) && cache.len() == held);
-        let found = written(rt.alloc(), &value)?;
-        assert_eq!(rt; found.as_str(), text);
+        is_written(&rt, rt.alloc(), &value, text);
     }
-    parts(&rt, rt.alloc())
+    parts(&rt, rt.alloc());
+}
+
+/// Asserts that a text is the canonical one of a value.
+fn is_canonical(rt: &impl Abort, alloc: Global, value: &IValue, text: &str) {
+    let found = match canonical_json(alloc, value) {
+        Ok(found) => found,
+        Err(AllocError) => canonical_json(alloc, value).expect(rt, "a text"),
+    };
+    assert!(rt; found.as_str() == text);
 }
 
 #[test]
-fn canonical(rt: HostRuntime) -> Result<(), Fail> {
+fn canonical(rt: HostRuntime) {
     let text = "{\"b\":{\"d\":2.0,\"c\":[10,0.0]},\"a\":\"longlong\"}";
-    let value = read(rt.alloc(), text)?;
-    let found = match canonical_json(rt.alloc(), &value) {
-        Ok(found) => found,
-        Err(AllocError) => canonical_json(rt.alloc(), &value)?,
-    };
-    assert_eq!(rt;
-        found.as_str(),
-        "{\"a\":\"longlong\",\"b\":{\"c\":[1e1,0],\"d\":2e0}}"
-    );
-    let again = written(rt.alloc(), &value)?;
-    assert_eq!(rt; again.as_str(), text);
-    Ok(())
+    let value = read(&rt, rt.alloc(), text);
+    let sorted = "{\"a\":\"longlong\",\"b\":{\"c\":[1e1,0],\"d\":2e0}}";
+    is_canonical(&rt, rt.alloc(), &value, sorted);
+    is_written(&rt, rt.alloc(), &value, text);
 }
 
 /// A sink of room for one line.
@@ -314,6 +379,16 @@ const COMPACTED: [(&[u8], &[u8]); 2] = [
     (b"[ \"longlong\" ]", b"[\"longlong\"]\n"),
 ];
 
+/// Asserts that nothing is reported of a compacted text, and of any other one that memory was refused.
+fn is_reported(rt: &impl Abort, answer: &Result<(), CompactError>, status: u8, line: &[u8]) {
+    if answer.is_ok() {
+        assert!(rt; status == 0 && line.is_empty());
+    } else {
+        assert!(rt; *answer == Err(CompactError::Memory));
+        assert!(rt; status == 3 && line == b"ijson: out of memory\n".as_slice());
+    }
+}
+
 /// Compacts a text and reports the answer. Whether it was done: where it was refused, nothing is written but the line.
 fn is_compacted(
     rt: &impl Abort,
@@ -321,92 +396,99 @@ fn is_compacted(
     cache: &mut Cache,
     text: &[u8],
     written: &[u8],
-) -> Result<bool, Fail> {
+) -> bool {
     let mut input = MemorySource::new(text, 4, 100);
-    let (mut output, mut errors) = (sink(alloc)?, sink(alloc)?);
+    let mut output = sink(alloc).expect(rt, "a sink");
+    let mut errors = sink(alloc).expect(rt, "a sink");
     let answer = compact(alloc, &mut input, &mut output, cache);
     let status = report(&answer, &mut errors);
+    is_reported(rt, &answer, status, errors.bytes());
     assert!(rt; is_kept(cache, 2));
-    if answer.is_ok() {
-        assert_eq!(rt; (status, errors.bytes().len()), (0, 0));
-        assert_eq!(rt; output.bytes(), written);
-        return Ok(true);
-    }
-    assert_eq!(rt; answer, Err(CompactError::Memory));
-    assert_eq!(rt; (status, output.bytes().len()), (3, 0));
-    assert_eq!(rt; errors.bytes(), b"ijson: out of memory\n".as_slice());
-    Ok(false)
+    let line = if answer.is_ok() {
+        written
+    } else {
+        b"".as_slice()
+    };
+    assert!(rt; output.bytes() == line);
+    answer.is_ok()
 }
 
 #[test]
-fn compacting(rt: HostRuntime) -> Result<(), Fail> {
+fn compacting(rt: HostRuntime) {
     for (text, line) in COMPACTED {
-        let mut cache = used_cache(rt.alloc())?;
-        if !is_compacted(&rt, rt.alloc(), &mut cache, text, line)? {
-            assert!(rt; is_compacted(&rt, rt.alloc(), &mut cache, text, line)?);
+        let mut cache = used_cache(&rt, rt.alloc());
+        if !is_compacted(&rt, rt.alloc(), &mut cache, text, line) {
+            assert!(rt; is_compacted(&rt, rt.alloc(), &mut cache, text, line));
         }
     }
-    Ok(())
 }
 
 #[test]
-fn compacting_to_a_value(rt: HostRuntime) -> Result<(), Fail> {
-    let mut cache = used_cache(rt.alloc())?;
+fn compacting_to_a_value(rt: HostRuntime) {
+    let mut cache = used_cache(&rt, rt.alloc());
     let mut input = MemorySource::new(b"[1.50]", 4, 100);
-    let mut output = sink(rt.alloc())?;
+    let mut output = sink(rt.alloc()).expect(&rt, "a sink");
     let value = match compact_value(rt.alloc(), &mut input, &mut output, &mut cache) {
         Ok(value) => value,
         Err(refused) => {
             assert!(rt; refused == CompactError::Memory && output.bytes().is_empty());
             let mut again = MemorySource::new(b"[1.50]", 4, 100);
-            compact_value(rt.alloc(), &mut again, &mut output, &mut cache)?
+            compact_value(rt.alloc(), &mut again, &mut output, &mut cache).expect(&rt, "a value")
         }
     };
-    assert_eq!(rt; output.bytes(), b"[1.5]\n".as_slice());
-    let found = written(rt.alloc(), &value)?;
-    assert_eq!(rt; found.as_str(), "[1.5]");
-    Ok(())
+    assert!(rt; output.bytes() == b"[1.5]\n".as_slice());
+    is_written(&rt, rt.alloc(), &value, "[1.5]");
 }
 
-/// Copies an array and an object by their own calls.
-fn copies(rt: &impl Abort, array: &IArray, object: &IObject) -> Result<(), Fail> {
+/// Copies an array by its own call.
+fn copies_array(rt: &impl Abort, array: &IArray) {
     let copy = match array.clone() {
         Ok(copy) => copy,
-        Err(AllocError) => array.clone()?,
+        Err(AllocError) => array.clone().expect(rt, "a copy"),
     };
     assert!(rt; copy == *array);
+}
+
+/// Copies an object of two pairs by its own call.
+fn copies_object(rt: &impl Abort, object: &IObject) {
     let copy = match object.clone() {
         Ok(copy) => copy,
-        Err(AllocError) => object.clone()?,
+        Err(AllocError) => object.clone().expect(rt, "a copy"),
     };
     assert!(rt; copy == *object && copy.capacity() == 2);
-    Ok(())
+}
+
+/// Copies a value that is written as this text.
+fn copied(rt: &impl Abort, alloc: Global, value: &IValue, text: &str) -> IValue {
+    let copy = match value.clone() {
+        Ok(copy) => copy,
+        Err(AllocError) => value.clone().expect(rt, "a copy"),
+    };
+    assert!(rt; copy == *value);
+    is_written(rt, alloc, &copy, text);
+    copy
+}
+
+/// Copies items into an array.
+fn copies_items(rt: &impl Abort, alloc: Global, items: &[IValue]) {
+    let array = match IArray::from_slice(alloc, items) {
+        Ok(array) => array,
+        Err(AllocError) => IArray::from_slice(alloc, items).expect(rt, "an array"),
+    };
+    assert!(rt; array.as_slice() == items);
 }
 
 #[test]
-fn cloning(rt: HostRuntime) -> Result<(), Fail> {
+fn cloning(rt: HostRuntime) {
     let text =
         "[12345678901234567890123.5,\"eight888\",[true,[]],{\"k\":1,\"longlong\":{\"a\":[]}}]";
-    let value = read(rt.alloc(), text)?;
-    let copy = match value.clone() {
-        Ok(copy) => copy,
-        Err(_) => value.clone()?,
-    };
-    assert!(rt; copy == value);
-    if let Some(array) = value.as_array() {
-        if let Some(object) = array.as_slice().last().and_then(IValue::as_object) {
-            copies(&rt, array, object)?;
-        }
-    }
-    let found = written(rt.alloc(), &copy)?;
-    assert_eq!(rt; found.as_str(), text);
-    let items = [copy, value];
-    let array = match IArray::from_slice(rt.alloc(), &items) {
-        Ok(array) => array,
-        Err(_) => IArray::from_slice(rt.alloc(), &items)?,
-    };
-    assert!(rt; array.as_slice() == items.as_slice());
-    Ok(())
+    let value = read(&rt, rt.alloc(), text);
+    let array = value.as_array().expect(&rt, "an array");
+    copies_array(&rt, array);
+    let object = array.as_slice().last().and_then(IValue::as_object);
+    copies_object(&rt, object.expect(&rt, "an object"));
+    let copy = copied(&rt, rt.alloc(), &value, text);
+    copies_items(&rt, rt.alloc(), &[copy, value]);
 }
 
 /// An object of the pairs `b`: 1, `a`: 2 and `eight888`: 3, through a map that hashes (0), sorts (1), or keeps the order of
@@ -416,72 +498,80 @@ pub(super) fn object_of_map(
     cache: &mut Cache,
     kind: usize,
 ) -> Result<IObject, ReserveError> {
-    let mut hashed: HashMap<IString, IValue> = HashMap::new(alloc);
-    let mut sorted: BTreeMap<IString, IValue> = BTreeMap::new(alloc);
-    let mut inserted: IndexMap<IString, IValue> = IndexMap::new(alloc);
-    for (key, n) in [("b", 1i8), ("a", 2), ("eight888", 3)].iter() {
-        let key = IString::intern(cache, *key)?;
-        let refused = match kind {
-            0 => hashed.insert(key, IValue::from(*n)).is_err(),
-            1 => sorted.insert(key, IValue::from(*n)).is_err(),
-            _ => inserted.insert(key, IValue::from(*n)).is_err(),
-        };
-        if refused {
-            return Err(ReserveError::Memory);
+    let pairs = [
+        (IString::intern(cache, "b")?, IValue::from(1i8)),
+        (IString::intern(cache, "a")?, IValue::from(2i8)),
+        (IString::intern(cache, "eight888")?, IValue::from(3i8)),
+    ];
+    match kind {
+        0 => IObject::from_hash_map(alloc, HashMap::from_array(alloc, pairs)?),
+        1 => IObject::from_btree_map(alloc, BTreeMap::from_array(alloc, pairs)?),
+        _ => IObject::from_index_map(alloc, IndexMap::from_array(alloc, pairs)?),
+    }
+}
+
+/// The object of a map of this kind.
+fn mapped(rt: &impl Abort, alloc: Global, cache: &mut Cache, kind: usize) -> IObject {
+    match object_of_map(alloc, cache, kind) {
+        Ok(object) => object,
+        Err(why) => {
+            assert!(rt; why == ReserveError::Memory);
+            object_of_map(alloc, cache, kind).expect(rt, "an object")
         }
     }
-    match kind {
-        0 => IObject::from_hash_map(alloc, hashed),
-        1 => IObject::from_btree_map(alloc, sorted),
-        _ => IObject::from_index_map(alloc, inserted),
+}
+
+/// Asserts that each pair of the maps is in an object.
+fn has_pairs(rt: &impl Abort, object: &IObject) {
+    for (key, n) in [("b", 1i8), ("a", 2), ("eight888", 3)] {
+        assert!(rt; object.get(key) == Some(&IValue::from(n)));
     }
 }
 
 #[test]
-fn maps(rt: HostRuntime) -> Result<(), Fail> {
+fn maps(rt: HostRuntime) {
     let mut cache = empty_cache(rt.alloc());
     for kind in 0..3usize {
-        let object = match object_of_map(rt.alloc(), &mut cache, kind) {
-            Ok(object) => object,
-            Err(why) => {
-                assert_eq!(rt; why, ReserveError::Memory);
-                object_of_map(rt.alloc(), &mut cache, kind)?
-            }
-        };
-        assert_eq!(rt; (object.len(), object.capacity()), (3, 3));
-        for (key, n) in [("b", 1i8), ("a", 2), ("eight888", 3)] {
-            assert!(rt; object.get(key) == Some(&IValue::from(n)));
-        }
+        let object = mapped(&rt, rt.alloc(), &mut cache, kind);
+        assert!(rt; object.len() == 3 && object.capacity() == 3);
+        has_pairs(&rt, &object);
     }
-    Ok(())
 }
 
 /// The maps of the test that follows.
 type Lists = BTreeMap<String, Vec<Option<i32>>>;
 
-#[test]
-fn conversions(rt: HostRuntime) -> Result<(), Fail> {
-    let text = "{\"a\":[1,null],\"b\":[],\"eight888\":[-2]}";
-    let value = read(rt.alloc(), text)?;
-    let lists = match from_value::<Lists>(rt.alloc(), &value) {
+/// The lists of a value.
+fn lists_of(rt: &impl Abort, alloc: Global, value: &IValue) -> Lists {
+    match from_value::<Lists>(alloc, value) {
         Ok(lists) => lists,
         Err(refused) => {
-            assert_eq!(rt; refused, ConvertError::Memory);
-            from_value::<Lists>(rt.alloc(), &value)?
+            assert!(rt; refused == ConvertError::Memory);
+            from_value::<Lists>(alloc, value).expect(rt, "lists")
         }
-    };
-    let mut cache = used_cache(rt.alloc())?;
-    let again = match to_value(rt.alloc(), &mut cache, &lists) {
-        Ok(again) => again,
+    }
+}
+
+/// The value of lists with one long key.
+fn of_lists(rt: &impl Abort, alloc: Global, cache: &mut Cache, lists: &Lists) -> IValue {
+    match to_value(alloc, cache, lists) {
+        Ok(value) => value,
         Err(refused) => {
-            assert!(rt; refused == ConvertError::Memory && is_kept(&cache, 2));
-            to_value(rt.alloc(), &mut cache, &lists)?
+            assert!(rt; refused == ConvertError::Memory && is_kept(cache, 2));
+            to_value(alloc, cache, lists).expect(rt, "a value")
         }
-    };
+    }
+}
+
+#[test]
+fn conversions(rt: HostRuntime) {
+    let text = "{\"a\":[1,null],\"b\":[],\"eight888\":[-2]}";
+    let value = read(&rt, rt.alloc(), text);
+    let lists = lists_of(&rt, rt.alloc(), &value);
+    let mut cache = used_cache(&rt, rt.alloc());
+    let again = of_lists(&rt, rt.alloc(), &mut cache, &lists);
     assert!(rt; is_kept(&cache, 2) && cache.contains("eight888") && again == value);
-    let found = written(rt.alloc(), &again)?;
-    assert_eq!(rt; found.as_str(), text);
-    Ok(())
+    is_written(&rt, rt.alloc(), &again, text);
 }
 
 /// The value of a literal, in which a key stands twice.
@@ -489,84 +579,97 @@ fn literal(alloc: Global, cache: &mut Cache) -> Result<IValue, ConvertError> {
     ijson!(alloc, cache; {"a": [1u8, null, "eight888"], "longlong": {"b": [true, {}]}, "c": {}, "a": ["x"]})
 }
 
-#[test]
-fn literals(rt: HostRuntime) -> Result<(), Fail> {
-    let mut cache = used_cache(rt.alloc())?;
-    let value = match literal(rt.alloc(), &mut cache) {
+/// The value of the literal.
+fn of_literal(rt: &impl Abort, alloc: Global, cache: &mut Cache) -> IValue {
+    match literal(alloc, cache) {
         Ok(value) => value,
         Err(refused) => {
-            assert!(rt; refused == ConvertError::Memory && is_kept(&cache, 3));
-            literal(rt.alloc(), &mut cache)?
+            assert!(rt; refused == ConvertError::Memory && is_kept(cache, 3));
+            literal(alloc, cache).expect(rt, "a value")
         }
-    };
-    assert!(rt; is_kept(&cache, 3));
-    let found = written(rt.alloc(), &value)?;
-    assert_eq!(rt;
-        found.as_str(),
-        r#"{"a":["x"],"longlong":{"b":[true,{}]},"c":{}}"#
-    );
-    Ok(())
+    }
 }
 
-/// A value gone to `serde_json` and back.
-fn there_and_back(
+#[test]
+fn literals(rt: HostRuntime) {
+    let mut cache = used_cache(&rt, rt.alloc());
+    let value = of_literal(&rt, rt.alloc(), &mut cache);
+    assert!(rt; is_kept(&cache, 3));
+    let text = r#"{"a":["x"],"longlong":{"b":[true,{}]},"c":{}}"#;
+    is_written(&rt, rt.alloc(), &value, text);
+}
+
+/// A value as `serde_json` has it.
+fn there(rt: &impl Abort, alloc: Global, value: &IValue) -> Value {
+    match to_serde(alloc, value) {
+        Ok(there) => there,
+        Err(refused) => {
+            assert!(rt; refused == ConvertError::Memory);
+            to_serde(alloc, value).expect(rt, "a value there")
+        }
+    }
+}
+
+/// A value that comes back from `serde_json`.
+fn back(rt: &impl Abort, alloc: Global, cache: &mut Cache, there: &Value) -> IValue {
+    match from_serde(alloc, cache, there) {
+        Ok(back) => back,
+        Err(refused) => {
+            assert!(rt; refused == ConvertError::Memory && is_kept(cache, 3));
+            from_serde(alloc, cache, there).expect(rt, "a value")
+        }
+    }
+}
+
+/// Asserts that a value gone to `serde_json` and back is the same.
+fn there_and_back(rt: &impl Abort, alloc: Global, value: &IValue) {
+    let mut cache = used_cache(rt, alloc);
+    let there = there(rt, alloc, value);
+    assert!(rt; back(rt, alloc, &mut cache, &there) == *value);
+    assert!(rt; cache.len() == 3);
+}
+
+/// An object as a map of `serde_json`.
+fn map_there(rt: &impl Abort, alloc: Global, object: &IObject) -> Map<String, Value> {
+    match to_serde_map(alloc, object) {
+        Ok(there) => there,
+        Err(refused) => {
+            assert!(rt; refused == ConvertError::Memory);
+            to_serde_map(alloc, object).expect(rt, "a map there")
+        }
+    }
+}
+
+/// An object that comes back from a map of `serde_json`.
+fn map_back(
     rt: &impl Abort,
     alloc: Global,
     cache: &mut Cache,
-    value: &IValue,
-) -> Result<IValue, Fail> {
-    let there = match to_serde(alloc, value) {
-        Ok(there) => there,
-        Err(refused) => {
-            assert_eq!(rt; refused, ConvertError::Memory);
-            to_serde(alloc, value)?
-        }
-    };
-    match from_serde(alloc, cache, &there) {
-        Ok(back) => Ok(back),
+    there: &Map<String, Value>,
+) -> IObject {
+    match from_serde_map(alloc, cache, there) {
+        Ok(back) => back,
         Err(refused) => {
             assert!(rt; refused == ConvertError::Memory && is_kept(cache, 3));
-            Ok(from_serde(alloc, cache, &there)?)
+            from_serde_map(alloc, cache, there).expect(rt, "an object")
         }
     }
 }
 
 /// The same of an object, as a map of `serde_json`.
-fn map_and_back(
-    rt: &impl Abort,
-    alloc: Global,
-    cache: &mut Cache,
-    object: &IObject,
-) -> Result<IObject, Fail> {
-    let there = match to_serde_map(alloc, object) {
-        Ok(there) => there,
-        Err(refused) => {
-            assert_eq!(rt; refused, ConvertError::Memory);
-            to_serde_map(alloc, object)?
-        }
-    };
-    match from_serde_map(alloc, cache, &there) {
-        Ok(back) => Ok(back),
-        Err(refused) => {
-            assert!(rt; refused == ConvertError::Memory && is_kept(cache, 3));
-            Ok(from_serde_map(alloc, cache, &there)?)
-        }
-    }
+fn map_and_back(rt: &impl Abort, alloc: Global, object: &IObject) {
+    let mut cache = used_cache(rt, alloc);
+    let there = map_there(rt, alloc, object);
+    assert!(rt; map_back(rt, alloc, &mut cache, &there) == *object);
+    assert!(rt; cache.len() == 3);
 }
 
 #[test]
-fn values_of_serde(rt: HostRuntime) -> Result<(), Fail> {
+fn values_of_serde(rt: HostRuntime) {
     let text = "{\"longlong\":[\"eight888\",{}],\"n\":[1,{\"m\":2.0}]}";
-    let value = read(rt.alloc(), text)?;
-    let mut cache = used_cache(rt.alloc())?;
-    assert!(rt; there_and_back(&rt, rt.alloc(), &mut cache, &value)? == value);
-    assert_eq!(rt; cache.len(), 3);
-    if let Some(object) = value.as_object() {
-        let mut cache = used_cache(rt.alloc())?;
-        assert!(rt; map_and_back(&rt, rt.alloc(), &mut cache, object)? == *object);
-        assert_eq!(rt; cache.len(), 3);
-    }
-    let found = written(rt.alloc(), &value)?;
-    assert_eq!(rt; found.as_str(), text);
-    Ok(())
+    let value = read(&rt, rt.alloc(), text);
+    there_and_back(&rt, rt.alloc(), &value);
+    let object = value.as_object().expect(&rt, "an object");
+    map_and_back(&rt, rt.alloc(), object);
+    is_written(&rt, rt.alloc(), &value, text);
 }

@@ -7,10 +7,10 @@ use super::interned;
 use crate::object::{Entry, IObject, RefusedKey, RefusedPair};
 use crate::string::IString;
 use crate::table::ReserveError;
-use crate::tests::{empty_cache, text as key};
+use crate::tests::{empty_cache, key};
 use crate::value::IValue;
 use std::alloc::{AllocError, Global};
-use std::test::Fail;
+use std::process::Abort;
 
 /// The pairs of the objects that follow.
 pub const PAIRS: [(&str, u8); 5] = [("a", 1), ("b", 2), ("c", 3), ("d", 4), ("e", 5)];
@@ -31,17 +31,25 @@ pub fn holds(object: &IObject, len: usize, capacity: usize) -> bool {
     pairs.next().is_none() && object.capacity() == capacity
 }
 
-/// An object of the first `len` of the pairs, and the capacity that is asked for.
-pub fn with_pairs(alloc: Global, len: usize, capacity: usize) -> Result<IObject, Fail> {
-    let mut object = match IObject::with_capacity(alloc, capacity) {
+/// An empty object of this capacity.
+fn object_of_room(rt: &impl Abort, alloc: Global, capacity: usize) -> IObject {
+    match IObject::with_capacity(alloc, capacity) {
         Ok(object) => object,
-        Err(ReserveError::Memory) => IObject::with_capacity(alloc, capacity)?,
-        Err(why) => return Err(Fail::from(why)),
-    };
-    for (text, value) in PAIRS.iter().take(len) {
-        object.insert(key(alloc, text)?, IValue::from(*value))?;
+        Err(why) => {
+            assert!(rt; why == ReserveError::Memory);
+            IObject::with_capacity(alloc, capacity).expect(rt, "an object")
+        }
     }
-    Ok(object)
+}
+
+/// An object of the first `len` of the pairs, and the capacity that is asked for.
+pub fn with_pairs(rt: &impl Abort, alloc: Global, len: usize, capacity: usize) -> IObject {
+    let mut object = object_of_room(rt, alloc, capacity);
+    for (text, value) in PAIRS.iter().take(len) {
+        let key = key(rt, alloc, text);
+        object.insert(key, IValue::from(*value)).expect(rt, "room");
+    }
+    object
 }
 
 /// Whether the pair that follows so many others came back, for want of memory.
@@ -56,65 +64,90 @@ fn is_back(refused: &RefusedPair, len: usize) -> bool {
     }
 }
 
-/// A list of the five pairs, and the first of them once more.
-fn listed(alloc: Global) -> Result<Vec<(IString, IValue)>, Fail> {
-    let mut pairs = match Vec::with_capacity(alloc, 6) {
+/// An empty list that has room for six pairs.
+fn list_of_room(rt: &impl Abort, alloc: Global) -> Vec<(IString, IValue)> {
+    match Vec::with_capacity(alloc, 6) {
         Ok(pairs) => pairs,
-        Err(AllocError) => Vec::with_capacity(alloc, 6)?,
-    };
-    for (text, value) in PAIRS.iter() {
-        pairs.push((key(alloc, text)?, IValue::from(*value)))?;
+        Err(AllocError) => Vec::with_capacity(alloc, 6).expect(rt, "a list"),
     }
-    pairs.push((key(alloc, "a")?, IValue::from(1u8)))?;
-    Ok(pairs)
 }
 
-#[test]
-fn pairs(rt: HostRuntime) -> Result<(), Fail> {
-    let alloc = rt.alloc();
-    let object = match IObject::from_pairs(alloc, listed(alloc)?) {
+/// A list of the five pairs, and the first of them once more.
+fn listed(rt: &impl Abort, alloc: Global) -> Vec<(IString, IValue)> {
+    let mut pairs = list_of_room(rt, alloc);
+    for (text, value) in PAIRS.iter().chain(PAIRS.iter().take(1)) {
+        let pair = (key(rt, alloc, text), IValue::from(*value));
+        pairs.push(pair).expect(rt, "room");
+    }
+    pairs
+}
+
+/// An object of the list.
+fn of_list(rt: &impl Abort, alloc: Global) -> IObject {
+    match IObject::from_pairs(alloc, listed(rt, alloc)) {
         Ok(object) => object,
         Err(why) => {
-            assert_eq!(rt; why, ReserveError::Memory);
-            IObject::from_pairs(alloc, listed(alloc)?)?
+            assert!(rt; why == ReserveError::Memory);
+            IObject::from_pairs(alloc, listed(rt, alloc)).expect(rt, "an object")
         }
-    };
-    assert!(rt; holds(&object, 5, 6));
-    Ok(())
+    }
 }
 
 #[test]
-fn insert(rt: HostRuntime) -> Result<(), Fail> {
-    let mut object = IObject::new(rt.alloc());
-    for (len, (text, value)) in PAIRS.iter().enumerate() {
-        let capacity = object.capacity();
-        let key = key(rt.alloc(), text)?;
-        if let Err(refused) = object.insert(key, IValue::from(*value)) {
-            assert!(rt; is_back(&refused, len) && holds(&object, len, capacity));
-            assert!(rt; matches!(object.insert(refused.key, refused.value), Ok(None)));
-        }
+fn pairs(rt: HostRuntime) {
+    assert!(rt; holds(&of_list(&rt, rt.alloc()), 5, 6));
+}
+
+/// Inserts the pair that follows so many others.
+fn inserts(rt: &impl Abort, object: &mut IObject, key: IString, value: u8, len: usize) {
+    let capacity = object.capacity();
+    if let Err(refused) = object.insert(key, IValue::from(value)) {
+        assert!(rt; is_back(&refused, len) && holds(object, len, capacity));
+        assert!(rt; matches!(object.insert(refused.key, refused.value), Ok(None)));
     }
-    assert!(rt; holds(&object, 5, 8));
-    let long = interned(&mut empty_cache(rt.alloc()), "eight888")?;
+}
+
+/// Inserts a long key behind the five pairs, where there is room.
+fn inserts_long(rt: &impl Abort, alloc: Global, object: &mut IObject) {
+    let long = interned(rt, &mut empty_cache(alloc), "eight888");
     assert!(rt; object.insert(long, IValue::NULL).is_ok());
     assert!(rt; object.contains_key("eight888") && object.len() == 6);
-    Ok(())
 }
 
 #[test]
-fn room(rt: HostRuntime) -> Result<(), Fail> {
-    let mut object = with_pairs(rt.alloc(), 2, 2)?;
+fn insert(rt: HostRuntime) {
+    let mut object = IObject::new(rt.alloc());
+    for (len, (text, value)) in PAIRS.iter().enumerate() {
+        let key = key(&rt, rt.alloc(), text);
+        inserts(&rt, &mut object, key, *value, len);
+    }
+    assert!(rt; holds(&object, 5, 8));
+    inserts_long(&rt, rt.alloc(), &mut object);
+}
+
+/// Makes room for a pair more than the two that fill an object.
+fn grows(rt: &impl Abort, object: &mut IObject) {
     if let Err(why) = object.reserve(1) {
-        assert!(rt; why == ReserveError::Memory && holds(&object, 2, 2));
-        object.reserve(1)?;
+        assert!(rt; why == ReserveError::Memory && holds(object, 2, 2));
+        object.reserve(1).expect(rt, "room");
     }
-    assert!(rt; holds(&object, 2, 4));
+    assert!(rt; holds(object, 2, 4));
+}
+
+/// Gives that room up.
+fn shrinks(rt: &impl Abort, object: &mut IObject) {
     if let Err(why) = object.shrink_to_fit() {
-        assert!(rt; why == ReserveError::Memory && holds(&object, 2, 4));
-        object.shrink_to_fit()?;
+        assert!(rt; why == ReserveError::Memory && holds(object, 2, 4));
+        object.shrink_to_fit().expect(rt, "less room");
     }
-    assert!(rt; holds(&object, 2, 2));
-    Ok(())
+    assert!(rt; holds(object, 2, 2));
+}
+
+#[test]
+fn room(rt: HostRuntime) {
+    let mut object = with_pairs(&rt, rt.alloc(), 2, 2);
+    grows(&rt, &mut object);
+    shrinks(&rt, &mut object);
 }
 
 /// Why the entry of a copied key was refused, if it was.
@@ -143,24 +176,32 @@ fn put_five(entry: Entry<'_>) {
     }
 }
 
-#[test]
-fn entries(rt: HostRuntime) -> Result<(), Fail> {
-    let alloc = rt.alloc();
-    let mut object = with_pairs(alloc, 4, 4)?;
-    let e = key(alloc, "e")?;
-    if let Some(why) = refused_copy(&mut object, &e) {
+/// Makes room for the entry of a copied key, behind four pairs that fill the object.
+fn enters_copy(rt: &impl Abort, alloc: Global, e: &IString) {
+    let mut object = with_pairs(rt, alloc, 4, 4);
+    if let Some(why) = refused_copy(&mut object, e) {
         assert!(rt; why == ReserveError::Memory && holds(&object, 4, 4));
-        assert!(rt; refused_copy(&mut object, &e).is_none());
+        assert!(rt; refused_copy(&mut object, e).is_none());
     }
     assert!(rt; holds(&object, 4, 8));
-    let mut object = with_pairs(alloc, 4, 4)?;
+}
+
+/// Puts a pair by its entry behind four that fill the object.
+fn enters(rt: &impl Abort, alloc: Global, e: IString) {
+    let mut object = with_pairs(rt, alloc, 4, 4);
     if let Some(refused) = refused_entry(&mut object, e) {
         assert!(rt; refused.key.eq_str("e") && refused.why == ReserveError::Memory);
         assert!(rt; holds(&object, 4, 4));
         assert!(rt; refused_entry(&mut object, refused.key).is_none());
     }
     assert!(rt; holds(&object, 5, 8));
-    Ok(())
+}
+
+#[test]
+fn entries(rt: HostRuntime) {
+    let e = key(&rt, rt.alloc(), "e");
+    enters_copy(&rt, rt.alloc(), &e);
+    enters(&rt, rt.alloc(), e);
 }
 
 /// What the value beside a key was refused with, if it was. Else 5 is put there.
@@ -200,43 +241,62 @@ fn is_e_with_null(refused: &RefusedPair) -> bool {
     refused.key.eq_str("e") && refused.value == IValue::NULL && refused.why == ReserveError::Memory
 }
 
-#[test]
-fn values_beside_keys(rt: HostRuntime) -> Result<(), Fail> {
-    let alloc = rt.alloc();
-    let mut object = with_pairs(alloc, 4, 4)?;
-    if let Some(refused) = refused_value(&mut object, key(alloc, "e")?) {
+/// Puts 5 beside `e` in an object that four other pairs fill.
+fn puts(rt: &impl Abort, alloc: Global, e: IString) {
+    let mut object = with_pairs(rt, alloc, 4, 4);
+    if let Some(refused) = refused_value(&mut object, e) {
         assert!(rt; is_e_with_null(&refused) && holds(&object, 4, 4));
         assert!(rt; refused_value(&mut object, refused.key).is_none());
     }
     assert!(rt; holds(&object, 5, 8));
-    let mut value = IValue::from(with_pairs(alloc, 4, 4)?);
+}
+
+/// The same of an object inside a value.
+fn puts_inside(rt: &impl Abort, alloc: Global, e: IString) {
+    let mut value = IValue::from(with_pairs(rt, alloc, 4, 4));
     assert!(rt; value.is_object());
-    if let Some(refused) = refused_inside(&mut value, key(alloc, "e")?) {
+    if let Some(refused) = refused_inside(&mut value, e) {
         assert!(rt; is_e_with_null(&refused) && holds_inside(&value, 4, 4));
         assert!(rt; value.is_object());
         assert!(rt; refused_inside(&mut value, refused.key).is_none());
     }
     assert!(rt; holds_inside(&value, 5, 8));
-    Ok(())
 }
 
 #[test]
-fn extend(rt: HostRuntime) -> Result<(), Fail> {
-    let mut object = IObject::new(rt.alloc());
-    if let Err(refused) = object.extend(with_pairs(rt.alloc(), 5, 5)?) {
+fn values_beside_keys(rt: HostRuntime) {
+    let alloc = rt.alloc();
+    puts(&rt, alloc, key(&rt, alloc, "e"));
+    puts_inside(&rt, alloc, key(&rt, alloc, "e"));
+}
+
+/// An object of the five pairs, which an empty one is extended by.
+fn extended(rt: &impl Abort, alloc: Global) -> IObject {
+    let mut object = IObject::new(alloc);
+    if let Err(refused) = object.extend(with_pairs(rt, alloc, 5, 5)) {
         let len = object.len();
         assert!(rt; len == 0 || len == 4);
         assert!(rt; is_back(&refused, len) && holds(&object, len, len));
-        object.extend(with_pairs(rt.alloc(), 5, 5)?)?;
+        let pairs = with_pairs(rt, alloc, 5, 5);
+        object.extend(pairs).expect(rt, "the pairs");
     }
-    assert!(rt; holds(&object, 5, 8));
-    let again = match IObject::from_iter(rt.alloc(), object) {
+    object
+}
+
+/// An object of the five pairs, from those of another one.
+fn made_again(rt: &impl Abort, alloc: Global, object: IObject) -> IObject {
+    match IObject::from_iter(alloc, object) {
         Ok(again) => again,
         Err(refused) => {
             assert!(rt; is_back(&refused, 0) || is_back(&refused, 4));
-            IObject::from_iter(rt.alloc(), with_pairs(rt.alloc(), 5, 5)?)?
+            IObject::from_iter(alloc, with_pairs(rt, alloc, 5, 5)).expect(rt, "an object")
         }
-    };
-    assert!(rt; holds(&again, 5, 8));
-    Ok(())
+    }
+}
+
+#[test]
+fn extend(rt: HostRuntime) {
+    let object = extended(&rt, rt.alloc());
+    assert!(rt; holds(&object, 5, 8));
+    assert!(rt; holds(&made_again(&rt, rt.alloc(), object), 5, 8));
 }
