@@ -10,10 +10,10 @@ mod pointer;
 mod refusals;
 mod serde;
 
-use crate::json::{JsonError, from_json};
+use crate::json::{from_json, to_json};
 use crate::string::{IString, StringCache};
 use crate::value::IValue;
-use std::alloc::{AllocError, Global};
+use std::alloc::Global;
 use std::hash::{BuildHasherDefault, FoldHasher};
 use std::process::Abort;
 
@@ -33,12 +33,8 @@ fn parsed(rt: &impl Abort, alloc: Global, text: &str) -> IValue {
     from_json(alloc, &mut empty_cache(alloc), text).expect(rt, text)
 }
 
-/// A text through a cache of its own.
-fn text(alloc: Global, letters: &str) -> Result<IString, AllocError> {
-    IString::intern(&mut empty_cache(alloc), letters)
-}
-
-/// What `text` spells, through a cache of its own.
-fn read(alloc: Global, text: &str) -> Result<IValue, JsonError> {
-    from_json(alloc, &mut empty_cache(alloc), text)
+/// Asserts what is written of a value.
+fn is_written(rt: &impl Abort, alloc: Global, value: &IValue, want: &str) {
+    let written = to_json(alloc, value).expect(rt, "a text");
+    assert!(rt; written.as_str() == want);
 }

@@ -38,19 +38,15 @@ fn parsed(rt: &impl Abort, alloc: Global, text: &str) -> IValue {
     from_json(alloc, &mut empty_cache(alloc), text).expect(rt, text)
 }
 
-/// A text through a cache of its own.
-fn text(alloc: Global, letters: &str) -> Result<IString, AllocError> {
-    IString::intern(&mut empty_cache(alloc), letters)
-}
-
-/// What `text` spells, through a cache of its own.
-fn read(alloc: Global, text: &str) -> Result<IValue, JsonError> {
-    from_json(alloc, &mut empty_cache(alloc), text)
+/// Asserts what is written of a value.
+fn is_written(rt: &impl Abort, alloc: Global, value: &IValue, want: &str) {
+    let written = to_json(alloc, value).expect(rt, "a text");
+    assert!(rt; written.as_str() == want);
 }
 
 /// What is written of what `text` spells.
 fn rewritten(alloc: Global, text: &str) -> Result<String, JsonError> {
-    let value = read(alloc, text)?;
+    let value = from_json(alloc, &mut empty_cache(alloc), text)?;
     match to_json(alloc, &value) {
         Ok(written) => Ok(written),
         Err(AllocError) => Err(JsonError::Memory),

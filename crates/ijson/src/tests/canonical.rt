@@ -1,9 +1,9 @@
 //! Canonical texts.
 
-use super::{empty_cache, parsed};
+use super::{empty_cache, is_written, parsed};
 use crate::array::IArray;
 use crate::canonical::canonical_json;
-use crate::json::{JsonError, from_json, to_json};
+use crate::json::{JsonError, from_json};
 use crate::value::IValue;
 use std::alloc::Global;
 use std::process::Abort;
@@ -62,12 +62,6 @@ fn brackets(rt: &impl Abort, alloc: Global, count: usize) -> String {
     let front = "[".repeat(alloc, count).expect(rt, "the openings");
     let behind = "]".repeat(alloc, count).expect(rt, "the closings");
     format!(in alloc; "{front}{behind}").expect(rt, "a text")
-}
-
-/// Asserts what is written of a value.
-fn is_written(rt: &impl Abort, alloc: Global, value: &IValue, want: &str) {
-    let found = to_json(alloc, value).expect(rt, "a text");
-    assert!(rt; found.as_str() == want);
 }
 
 /// Asserts that a text is refused as too deep at its 128th opening.

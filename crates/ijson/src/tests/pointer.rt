@@ -1,17 +1,10 @@
 //! Values that pointers name.
 
-use super::parsed;
-use crate::json::to_json;
+use super::{is_written, parsed};
 use crate::pointer::{PointerError, Unresolved, resolve, resolve_mut};
 use crate::value::{Destructured, IValue};
 use std::alloc::Global;
 use std::process::Abort;
-
-/// Asserts what is written of a value.
-fn is_written(rt: &impl Abort, alloc: Global, value: &IValue, want: &str) {
-    let found = to_json(alloc, value).expect(rt, "a text");
-    assert!(rt; found.as_str() == want);
-}
 
 /// Asserts the text of the value that a pointer names, or `none`.
 fn names(rt: &impl Abort, alloc: Global, value: &IValue, pointer: &str, want: &str) {

@@ -1,16 +1,7 @@
 //! What reading leaves in the cache, and that no answer depends on it.
 
-use super::empty_cache;
-use ijson_json::{from_json, to_json};
-use ijson_value::value::IValue;
-use std::alloc::Global;
-use std::process::Abort;
-
-/// Asserts what is written of a value.
-fn is_written(rt: &impl Abort, alloc: Global, value: &IValue, want: &str) {
-    let written = to_json(alloc, value).expect(rt, "a text");
-    assert!(rt; written.as_str() == want);
-}
+use super::{empty_cache, is_written};
+use ijson_json::from_json;
 
 #[test]
 fn long_texts_are_interned_once(rt: HostRuntime) {

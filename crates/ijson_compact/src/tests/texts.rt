@@ -69,7 +69,7 @@ const STRINGS: [(&str, &str); 8] = [
 ];
 
 /// Asserts what is written of a text, as it is and from a device.
-fn is_written(rt: &impl Abort, alloc: Global, text: &str, want: &str) {
+fn is_rewritten(rt: &impl Abort, alloc: Global, text: &str, want: &str) {
     let found = rewritten(alloc, text).expect(rt, text);
     assert!(rt; found.as_str() == want, "{text}");
     let line = format!(in alloc; "{want}\n").expect(rt, "a line");
@@ -78,7 +78,7 @@ fn is_written(rt: &impl Abort, alloc: Global, text: &str, want: &str) {
 
 fn written(rt: &impl Abort, alloc: Global, rows: &[(&str, &str)]) {
     for (text, want) in rows {
-        is_written(rt, alloc, text, want);
+        is_rewritten(rt, alloc, text, want);
     }
 }
 
@@ -145,7 +145,7 @@ const DEEPEST: [(&str, &str, &str); 2] = [("[", "", "]"), ("{\"a\":", "null", "}
 fn deepest(rt: HostRuntime) {
     for (opening, inside, closing) in DEEPEST {
         let text = nested(&rt, rt.alloc(), opening, 127, inside, closing);
-        is_written(&rt, rt.alloc(), text.as_str(), text.as_str());
+        is_rewritten(&rt, rt.alloc(), text.as_str(), text.as_str());
     }
 }
 
@@ -169,7 +169,7 @@ fn members(rt: &impl Abort, alloc: Global, differ: bool) -> String {
 #[test]
 fn many_members(rt: HostRuntime) {
     let same = members(&rt, rt.alloc(), false);
-    is_written(&rt, rt.alloc(), same.as_str(), "{\"k\":9999}");
+    is_rewritten(&rt, rt.alloc(), same.as_str(), "{\"k\":9999}");
     let different = members(&rt, rt.alloc(), true);
-    is_written(&rt, rt.alloc(), different.as_str(), different.as_str());
+    is_rewritten(&rt, rt.alloc(), different.as_str(), different.as_str());
 }

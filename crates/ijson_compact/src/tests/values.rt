@@ -325,7 +325,7 @@ fn is_found(rt: &impl Abort, value: &IValue) {
 }
 
 /// Writes into an object beside `b` and `c`, and takes out what stands beside `a`.
-fn is_written(rt: &impl Abort, value: &mut IValue) {
+fn is_edited(rt: &impl Abort, value: &mut IValue) {
     assert!(rt; value.is_object());
     assert!(rt; edit(value));
     assert!(rt; value.is_object());
@@ -339,7 +339,7 @@ fn one_value_is_found_written_and_taken_out(rt: HostRuntime) {
     let text = "{\"a\":1,\"b\":[2,3],\"c\":{\"d\":0.5}}";
     let mut value = parsed(&rt, rt.alloc(), text);
     is_found(&rt, &value);
-    is_written(&rt, &mut value);
+    is_edited(&rt, &mut value);
     let left = parsed(&rt, rt.alloc(), "{\"c\":null,\"b\":[2,null]}");
     assert!(rt; value == left);
 }

@@ -2,8 +2,8 @@
 //! alone.
 ghost use Rattle.std.specs.Prelude.{◌≡◌, true, IfOk};
 
-use super::parsed;
 use super::recorder::feeds;
+use super::{is_written, parsed};
 use ijson_json::to_json;
 use ijson_value::array::IArray;
 use ijson_value::object::IObject;
@@ -120,12 +120,6 @@ fn agree(rt: &impl Abort, left: &IValue, right: &IValue) {
     assert!(rt; order == right.partial_cmp(left).map(|order| order.reverse()));
     assert!(rt; (left == right) == (order == Some(Ordering::Equal)));
     assert!(rt; left != right || hash_of(left) == hash_of(right));
-}
-
-/// Asserts what is written of a value.
-fn is_written(rt: &impl Abort, alloc: Global, value: &IValue, want: &str) {
-    let written = to_json(alloc, value).expect(rt, "a text");
-    assert!(rt; written.as_str() == want);
 }
 
 /// Asserts that a copy of a value is equal to it, and is written as it is.
