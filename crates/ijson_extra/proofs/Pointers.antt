@@ -133,29 +133,6 @@ pub all_left : (left : List ℕ) (r : Bool) → r ≡ (length left == 0) → IsT
 all_left [] r e = (λ t. refl, λ f. e)
 all_left (b ∷ text) r e = (λ t. absurd (true≢false (sym t ∙ e ∙ sym (none_zero (length text)))), λ f. absurd (meant_longer b text f))
 
-same_rest : (b : ℕ) (o : Option (List ℕ)) (d : List ℕ) → option_map (λ token. b ∷ token) o ≡ Some (b ∷ d) → o ≡ Some d
-same_rest b None d e = absurd (cc)
-same_rest b (Some t) d e = ap (option_map tail_of) e
-
-other_first : (b c : ℕ) (o : Option (List ℕ)) (d : List ℕ) → b ≢ c → option_map (λ token. b ∷ token) o ≡ Some (c ∷ d) → ⊥
-other_first b c None d ne e = absurd (cc)
-other_first b c (Some t) d ne e = ne (ap first_of e)
-
--- one byte more is the key's
-pub byte_more : (whole key left rest : List ℕ) (i b c : ℕ) → i < length key → c ≡ get_or key i c → b ≡ c → meant left ≡ option_map (λ token. b ∷ token) (meant rest)
-    → (meant whole ≡ Some key) ↔ (meant left ≡ Some (drop i key)) → (meant whole ≡ Some key) ↔ (meant rest ≡ Some (drop (i + 1) key))
-byte_more whole key left rest i b c l is same e both =
-    let d = drop-step key i c l is in (
-      λ f. same_rest b (meant rest) (drop (i + 1) key) (sym e ∙ both.0 f ∙ ap (λ x. Some x) d ∙ ap (λ x. Some (x ∷ drop (i + 1) key)) (sym same)),
-      λ f. both.1 (e ∙ ap (option_map (λ token. b ∷ token)) f ∙ ap (λ x. Some (x ∷ drop (i + 1) key)) same ∙ ap (λ x. Some x) (sym d)),
-    )
-
--- one byte is another than the key's
-pub byte_other : (whole key left rest : List ℕ) (i b c : ℕ) → i < length key → c ≡ get_or key i c → b ≢ c → meant left ≡ option_map (λ token. b ∷ token) (meant rest)
-    → (meant whole ≡ Some key) ↔ (meant left ≡ Some (drop i key)) → meant whole ≡ Some key → ⊥
-byte_other whole key left rest i b c l is ne e both f =
-    other_first b c (meant rest) (drop (i + 1) key) ne (sym e ∙ both.0 f ∙ ap (λ x. Some x) (drop-step key i c l is))
-
 -- no byte is left for one of the key's
 pub byte_none : (P : Type 0) (key left : List ℕ) (i : ℕ) → i < length key → (meant left ≡ None) ⊎ (left ≡ []) → P ↔ (meant left ≡ Some (drop i key)) → P → ⊥
 byte_none P key left i l (inl e) both f = let g = sym e ∙ both.0 f in absurd (cc)

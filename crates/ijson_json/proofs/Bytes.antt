@@ -1,8 +1,9 @@
 -- Runs of bytes that pass a test, at the front of a text.
-use Rattle.std.proofs.Common.{◌≡◌, ℕ, Bool, true, false, List, [], ◌∷◌, ◌++◌, refl, sym, append_assoc, eqb, eq-eqb}
+use Rattle.std.proofs.Common.{◌≡◌, ℕ, ◌≤◌, Bool, true, false, List, [], ◌∷◌, ◌++◌, length, refl, sym, ap, ◌∙◌, append_assoc, eqb, eq-eqb, arith}
 use Rattle.std.specs.Prelude.{IsTrue}
 use Rattle.std.specs.List.{AllByRecursion}
-use Rattle.ijson_json.specs.private.Reading.{Past}
+use Rattle.std.proofs.lemmas.List.{length-append}
+use Rattle.ijson_json.specs.private.Reading.{Closes, Front, Past, Skips}
 
 -- each byte passes
 
@@ -56,3 +57,18 @@ run-append p (c ∷ a) b ra rb = (ra.0, run-append p a b ra.1 rb)
 -- one more byte passes
 pub run_more : (p : ℕ → Bool) (text rest more : List ℕ) {b : ℕ} → (s : List ℕ) × Run p s × (text ≡ s ++ rest) → rest ≡ b ∷ more → true ≡ p b → (s : List ℕ) × Run p s × (text ≡ s ++ more)
 run_more p text rest more {b} (s, r, e) f h = (s ++ b ∷ [], run-append p s (b ∷ []) r (sym h, tt), rw (e, f) (simp append_assoc))
+
+-- what stands behind the front is no longer than the text
+
+pub front_shorter : (P : List ℕ → Type 0) (text rest : List ℕ) → Front P text rest → length rest ≤ length text
+front_shorter P text rest f = omega (arith, ap length f.is, length-append f.front rest)
+
+-- nor is what stands behind white space
+
+pub skips_shorter : (text rest : List ℕ) → Skips text rest → length rest ≤ length text
+skips_shorter text rest s = omega (arith, ap length s.is, length-append s.space rest)
+
+-- white space was passed, and the closing byte stands behind it
+
+pub closes : (closing : ℕ) (text start rest : List ℕ) → Skips text start → start ≡ closing ∷ rest → Closes closing text rest
+closes closing text start rest s e = record { space = s.space; passed = s.passed; is = s.is ∙ ap (λ (l : List ℕ). s.space ++ l) e }

@@ -13,7 +13,8 @@ use Rattle.ijson_table.specs.Store.{put}
 use Rattle.ijson_value.specs.Tree.{Tree, null, boolean, number, string, array, object, Items, no_items, item, Members, no_members, member}
 use Rattle.ijson_value.specs.WellFormed.{WellFormed, item_trees, pair_trees}
 use Rattle.ijson_json.specs.Grammar.{IsString}
-use Rattle.ijson_json.specs.private.Reading.{Front}
+use Rattle.ijson_json.specs.private.Reading.{Front, KeyRead}
+use Rattle.ijson_json.proofs.Members.{key_head, key_behind}
 use Rattle.ijson_json.specs.AddsOnlyRead.{IsSpelledIn, AddsOnlyRead}
 use Rattle.ijson_json.specs.AreShared.{IsShared, AreShared, ItemsAreShared, MembersAreShared}
 
@@ -37,6 +38,10 @@ adds_more text head rest old middle new e a b = record {
 
 pub adds_behind : (text head rest : List ℕ) (old new : Texts) → text ≡ head ++ rest → AddsOnlyRead rest old new → AddsOnlyRead text old new
 adds_behind text head rest old new e a = adds_more text head rest old old new e (adds_none text old) a
+
+-- more was read behind a key
+pub adds_behind_key : (k text cur : List ℕ) (old middle new : Texts) → KeyRead k text cur → AddsOnlyRead text old middle → AddsOnlyRead cur middle new → AddsOnlyRead text old new
+adds_behind_key k text cur old middle new r a b = adds_more text (key_head k text cur r) cur old middle new (key_behind k text cur r) a b
 
 -- ---- a string that is interned
 

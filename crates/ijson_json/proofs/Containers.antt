@@ -1,20 +1,17 @@
 -- Arrays and objects, read element by element.
-use Rattle.std.proofs.Common.{◌≡◌, ℕ, suc, ◌+◌, Bool, List, [], ◌∷◌, ◌++◌, refl, sym, ap, ap₂, subst, ◌∙◌, append_assoc, arith, inl, inr}
+use Rattle.std.proofs.Common.{◌≡◌, ℕ, suc, Bool, List, [], ◌∷◌, ◌++◌, refl, sym, ap, ap₂, subst, ◌∙◌, append_assoc, arith, inl, inr}
 use Rattle.std.specs.Prelude.{◌&&◌}
-use Rattle.ijson_json.specs.declared.fault.Fault.{Fault}
-use Rattle.ijson_json.specs.declared.fault.Fault.TheVariants as faults
 use Rattle.ijson_table.specs.Store.{put, put_each}
 use Rattle.ijson_value.specs.Tree.{Tree, array, object, Items, no_items, item, items_of, Members, no_members, member, members_of, depth}
 use Rattle.ijson_json.specs.Ranged.{is_ranged}
 use Rattle.ijson_json.specs.Settled.{settled, settled_items, settled_pairs}
 use Rattle.ijson_json.specs.Grammar.{IsValue}
 use Rattle.ijson_json.specs.private.Reading.{Front}
-use Rattle.ijson_json.specs.private.Explains.{Explains, ExplainsMember}
 use Rattle.ijson_json.proofs.Bytes.{heads, tails}
 use Rattle.ijson_json.proofs.First.{kind, tree_kind, value_first}
 use Rattle.ijson_json.proofs.Lists.{IsList}
 use Rattle.ijson_json.proofs.Unique.{items_list, members_list, items_shape, members_shape, items_to, items_from, members_to, members_from, value_same, pair_same}
-use Rattle.ijson_json.proofs.Listing.{Listing, Reached, deepest, all_ranged, reached_no_value, reached_too_deep, reached_out_of_range, reached_shorter}
+use Rattle.ijson_json.proofs.Listing.{Listing, deepest, all_ranged}
 
 -- ---- lists of elements
 
@@ -137,19 +134,3 @@ pub settled-put : (ms : List (List ℕ × Tree)) (k : List ℕ) (t : Tree) (now 
 settled-put ms k t now e = ap (λ (n : List (List ℕ × Tree)). put n k (settled t)) e ∙ sym (put_each-push ms k t [])
 
 -- ---- a fault in an element
-
--- a fault in an item is one of the array
-
-pub array_fault : (opened : ℕ) (text cur : List ℕ) (found : List Tree) (fault : Fault) → Reached Tree items_shape arrays opened text found cur → Explains (opened + 1) cur fault → Explains opened text fault
-array_fault opened text cur found (faults.Syntax left) r h = (reached_shorter Tree items_shape arrays opened text cur found left r h.0, reached_no_value Tree items_shape arrays opened text cur found r h.1)
-array_fault opened text cur found (faults.TooDeep left) r h = (reached_shorter Tree items_shape arrays opened text cur found left r h.0, reached_too_deep Tree items_shape arrays opened text cur found r h.1)
-array_fault opened text cur found (faults.NumberRange left) r h = (reached_shorter Tree items_shape arrays opened text cur found left r h.0, reached_out_of_range Tree items_shape arrays opened text cur found r h.1)
-array_fault opened text cur found faults.Memory r h = tt
-
--- a fault in a member is one of the object
-
-pub object_fault : (opened : ℕ) (text cur : List ℕ) (found : List (List ℕ × Tree)) (fault : Fault) → Reached (List ℕ × Tree) members_shape objects opened text found cur → ExplainsMember (opened + 1) cur fault → Explains opened text fault
-object_fault opened text cur found (faults.Syntax left) r h = (reached_shorter (List ℕ × Tree) members_shape objects opened text cur found left r h.0, reached_no_value (List ℕ × Tree) members_shape objects opened text cur found r h.1)
-object_fault opened text cur found (faults.TooDeep left) r h = (reached_shorter (List ℕ × Tree) members_shape objects opened text cur found left r h.0, reached_too_deep (List ℕ × Tree) members_shape objects opened text cur found r h.1)
-object_fault opened text cur found (faults.NumberRange left) r h = (reached_shorter (List ℕ × Tree) members_shape objects opened text cur found left r h.0, reached_out_of_range (List ℕ × Tree) members_shape objects opened text cur found r h.1)
-object_fault opened text cur found faults.Memory r h = tt

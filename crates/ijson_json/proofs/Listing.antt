@@ -5,8 +5,12 @@ use Rattle.std.proofs.lemmas.List.{append-nil, length-append}
 use Rattle.ijson_value.specs.Tree.{Tree, depth}
 use Rattle.ijson_json.specs.Ranged.{is_ranged}
 use Rattle.ijson_json.specs.Grammar.{is_space, IsSpace, IsValue, IsClosers}
-use Rattle.ijson_json.specs.private.Reading.{Past, Ends, Front, Found, Beyond, NoneAt, IsRead, IsBeyond, IsTooDeep, IsOutOfRange, NoValue}
-use Rattle.ijson_json.proofs.Bytes.{run_same, run-append, not_both, tails, heads_apart}
+use Rattle.ijson_json.specs.private.Reading.{Closes, GoesOn, IsStuck, Past, Ends, Front, Found, Beyond, NoneAt, IsRead, IsBeyond, IsTooDeep, IsOutOfRange, NoValue}
+use Rattle.ijson_json.specs.private.Explains.{Explains, ExplainsOf}
+use Rattle.ijson_json.specs.private.Separators.{NoSeparator}
+use Rattle.ijson_json.specs.declared.fault.Fault.{Fault}
+use Rattle.ijson_json.specs.declared.fault.Fault.TheVariants as faults
+use Rattle.ijson_json.proofs.Bytes.{run_same, run-append, not_both, tails, heads_apart, front_shorter, skips_shorter}
 use Rattle.ijson_json.proofs.Lists.{IsList, Shape, At, ElementSame, at_elements, left-past_space, at-Stops, Ends-any}
 use Rattle.ijson_json.specs.Limits.{max_depth}
 
@@ -137,16 +141,15 @@ module _ (E : Type 0) (S : Shape E) (L : Listing E S) where
 
   -- one more element was read, and a comma
 
-  pub reached_more : (opened : ℕ) (text cur after s more s' next : List ℕ) (found : List E) (t : E) → Reached opened text found cur → ElementRead E S (opened + 1) cur t after
-      → after ≡ s ++ 44 ∷ more → IsSpace s → more ≡ s' ++ next → IsSpace s' → Past is_space next → Reached opened text (found ++ t ∷ []) next
-  reached_more opened text cur after s more s' next found t r d e h f h' p = record {
-    head = r.head ++ (d.found.front ++ (s ++ 44 ∷ s'));
-    is = r.is ∙ rw (d.found.is, e, f) (simp append_assoc);
-    past = p;
+  pub reached_more : (opened : ℕ) (text cur after next : List ℕ) (found : List E) (t : E) → Reached opened text found cur → ElementRead E S (opened + 1) cur t after → GoesOn after next → Reached opened text (found ++ t ∷ []) next
+  reached_more opened text cur after next found t r d s = record {
+    head = r.head ++ (d.found.front ++ (s.gap ++ 44 ∷ s.gap'));
+    is = r.is ∙ rw (d.found.is, s.is) (simp append_assoc);
+    past = s.past;
     builds = λ u rest others v.
-        let whole = r.builds t (u ∷ rest) (d.found.front ++ (s ++ 44 ∷ (s' ++ others))) (one_more E S t u rest d.found.front s (s' ++ others) d.found.holds h (absorb E S u rest s' others h' v)) in
-        let text_is : r.head ++ ((d.found.front ++ (s ++ 44 ∷ (s' ++ others))) ++ S.closing ∷ []) ≡ (r.head ++ (d.found.front ++ (s ++ 44 ∷ s'))) ++ (others ++ S.closing ∷ []) = simp append_assoc in
-        subst (λ (es : List E). IsValue (L.wrap es) ((r.head ++ (d.found.front ++ (s ++ 44 ∷ s'))) ++ (others ++ S.closing ∷ []))) (sym (append_assoc found (t ∷ []) (u ∷ rest)))
+        let whole = r.builds t (u ∷ rest) (d.found.front ++ (s.gap ++ 44 ∷ (s.gap' ++ others))) (one_more E S t u rest d.found.front s.gap (s.gap' ++ others) d.found.holds s.space (absorb E S u rest s.gap' others s.space' v)) in
+        let text_is : r.head ++ ((d.found.front ++ (s.gap ++ 44 ∷ (s.gap' ++ others))) ++ S.closing ∷ []) ≡ (r.head ++ (d.found.front ++ (s.gap ++ 44 ∷ s.gap'))) ++ (others ++ S.closing ∷ []) = simp append_assoc in
+        subst (λ (es : List E). IsValue (L.wrap es) ((r.head ++ (d.found.front ++ (s.gap ++ 44 ∷ s.gap'))) ++ (others ++ S.closing ∷ []))) (sym (append_assoc found (t ∷ []) (u ∷ rest)))
         (subst (λ (l : List ℕ). IsValue (L.wrap (found ++ t ∷ u ∷ rest)) l) text_is whole);
     only = λ t' x g. let o = r.only t' x g in go t' x o.next o.more o.is o.at;
     deep = push_depth opened found t r.deep d.deep;
@@ -155,23 +158,22 @@ module _ (E : Type 0) (S : Shape E) (L : Listing E S) where
     where
       go : (t' : Tree) (x : List ℕ) (u : E) (es : List E) → t' ≡ L.wrap (found ++ u ∷ es) → At E S u es cur x → Goes (found ++ t ∷ []) t' next x
       go t' x u [] g a =
-          let same = item_is (opened + 1) u t [] cur x after s (44 ∷ more) a d e h refl in
+          let same = item_is (opened + 1) u t [] cur x after s.gap (44 ∷ (s.gap' ++ next)) a d s.is s.space refl in
           absurd (heads_apart S.closing 44 _ _ (sym a.left ∙ same.1) S.closing-comma)
       go t' x u (w ∷ ws) g a =
-          let same = item_is (opened + 1) u t (w ∷ ws) cur x after s (44 ∷ more) a d e h refl in
+          let same = item_is (opened + 1) u t (w ∷ ws) cur x after s.gap (44 ∷ (s.gap' ++ next)) a d s.is s.space refl in
           let others = a.left in
-          let rest : more ≡ others.0 ++ S.closing ∷ x = tails 44 44 _ _ (sym same.1 ∙ others.2) in
-          record { next = w; more = ws; is = g ∙ ap (λ (v : E). L.wrap (found ++ v ∷ w ∷ ws)) same.0 ∙ ap L.wrap (sym (append_assoc found (t ∷ []) (w ∷ ws))); at = at_elements E S w ws s' next others.0 x h' p others.1 (sym f ∙ rest) }
+          let rest : s.gap' ++ next ≡ others.0 ++ S.closing ∷ x = tails 44 44 _ _ (sym same.1 ∙ others.2) in
+          record { next = w; more = ws; is = g ∙ ap (λ (v : E). L.wrap (found ++ v ∷ w ∷ ws)) same.0 ∙ ap L.wrap (sym (append_assoc found (t ∷ []) (w ∷ ws))); at = at_elements E S w ws s.gap' next others.0 x s.space' s.past others.1 rest }
 
   -- the last element was read, and the closing bracket
 
-  pub reached_end : (opened : ℕ) (text cur after s rest : List ℕ) (found : List E) (t : E) → Reached opened text found cur → ElementRead E S (opened + 1) cur t after
-      → after ≡ s ++ S.closing ∷ rest → IsSpace s → IsRead opened text (L.wrap (found ++ t ∷ [])) rest
-  reached_end opened text cur after s rest found t r d e h = record {
+  pub reached_end : (opened : ℕ) (text cur after rest : List ℕ) (found : List E) (t : E) → Reached opened text found cur → ElementRead E S (opened + 1) cur t after → Closes S.closing after rest → IsRead opened text (L.wrap (found ++ t ∷ [])) rest
+  reached_end opened text cur after rest found t r d s = record {
     found = record {
-      front = r.head ++ ((d.found.front ++ s) ++ S.closing ∷ []);
-      holds = r.builds t [] (d.found.front ++ s) ([], d.found.front, s, tt, d.found.holds, h, refl);
-      is = r.is ∙ rw (d.found.is, e) (simp append_assoc);
+      front = r.head ++ ((d.found.front ++ s.space) ++ S.closing ∷ []);
+      holds = r.builds t [] (d.found.front ++ s.space) ([], d.found.front, s.space, tt, d.found.holds, s.passed, refl);
+      is = r.is ∙ rw (d.found.is, s.is) (simp append_assoc);
     };
     ends = L.ends (found ++ t ∷ []) rest;
     deep = omega (arith, L.depth_is (found ++ t ∷ []), push_depth opened found t r.deep d.deep);
@@ -180,26 +182,25 @@ module _ (E : Type 0) (S : Shape E) (L : Listing E S) where
 
   -- neither a comma nor the closing bracket follows
 
-  pub reached_stuck : (opened : ℕ) (text cur after s other : List ℕ) (found : List E) (t : E) → Reached opened text found cur → ElementRead E S (opened + 1) cur t after
-      → after ≡ s ++ other → IsSpace s → Past is_space other → Past (λ b. b == 44) other → Past (λ b. b == S.closing) other → NoValue text
-  reached_stuck opened text cur after s other found t r d e h p p44 p93 t' x stops g =
+  reached_stuck : (opened : ℕ) (text cur after left : List ℕ) (found : List E) (t : E) → Reached opened text found cur → ElementRead E S (opened + 1) cur t after → IsStuck S.closing after left → NoValue text
+  reached_stuck opened text cur after left found t r d s t' x stops g =
       let o = r.only t' x g in go o.next o.more o.at
     where
       go : (u : E) (es : List E) → At E S u es cur x → ⊥
       go u [] a =
-          let same = item_is (opened + 1) u t [] cur x after s other a d e h p in
-          let not : Past (λ b. b == S.closing) (S.closing ∷ x) = rw (sym same.1 ∙ a.left) at p93 in
+          let same = item_is (opened + 1) u t [] cur x after s.skipped.space left a d s.skipped.is s.skipped.passed s.skipped.past in
+          let not : Past (λ b. b == S.closing) (S.closing ∷ x) = rw (sym same.1 ∙ a.left) at s.not_closed in
           not_both (S.closing == S.closing) (eq-eqb S.closing S.closing refl) not
       go u (w ∷ ws) a =
-          let same = item_is (opened + 1) u t (w ∷ ws) cur x after s other a d e h p in
-          let not : Past (λ b. b == 44) (44 ∷ (a.left.0 ++ S.closing ∷ x)) = rw (sym same.1 ∙ a.left.2) at p44 in
+          let same = item_is (opened + 1) u t (w ∷ ws) cur x after s.skipped.space left a d s.skipped.is s.skipped.passed s.skipped.past in
+          let not : Past (λ b. b == 44) (44 ∷ (a.left.0 ++ S.closing ∷ x)) = rw (sym same.1 ∙ a.left.2) at s.no_comma in
           not_both true refl not
 
   -- no elements
 
-  pub empty_read : (opened : ℕ) (inside s rest : List ℕ) → opened < max_depth → inside ≡ s ++ S.closing ∷ rest → IsSpace s → IsRead opened (L.opening ∷ inside) (L.wrap []) rest
-  empty_read opened inside s rest o e h = record {
-    found = record { front = L.opening ∷ (s ++ S.closing ∷ []); holds = L.builds [] s h; is = rw e (simp append_assoc) };
+  pub empty_read : (opened : ℕ) (inside rest : List ℕ) → opened < max_depth → Closes S.closing inside rest → IsRead opened (L.opening ∷ inside) (L.wrap []) rest
+  empty_read opened inside rest o s = record {
+    found = record { front = L.opening ∷ (s.space ++ S.closing ∷ []); holds = L.builds [] s.space s.passed; is = rw s.is (simp append_assoc) };
     ends = L.ends [] rest;
     deep = omega (arith, L.depth_is []);
     ranged = L.ranged_is [];
@@ -209,7 +210,7 @@ module _ (E : Type 0) (S : Shape E) (L : Listing E S) where
 
   -- no element stands where one must
 
-  pub reached_no_value : (opened : ℕ) (text cur : List ℕ) (found : List E) → Reached opened text found cur → NoElement E S cur → NoValue text
+  reached_no_value : (opened : ℕ) (text cur : List ℕ) (found : List E) → Reached opened text found cur → NoElement E S cur → NoValue text
   reached_no_value opened text cur found r none t x stops f =
       let o = r.only t x f in
       none o.next (o.at.after ++ o.at.tail) (at-Stops E S o.next o.more cur x o.at) (record { front = o.at.value; holds = o.at.holds; is = o.at.is })
@@ -245,19 +246,32 @@ module _ (E : Type 0) (S : Shape E) (L : Listing E S) where
 
   -- an element is too deep
 
-  pub reached_too_deep : (opened : ℕ) (text cur : List ℕ) (found : List E) → Reached opened text found cur → ElementBeyond E S (λ t. max_depth < (opened + 1) + depth t) (λ t. (opened + 1) + depth t ≡ max_depth + 1) cur → IsTooDeep opened text
+  reached_too_deep : (opened : ℕ) (text cur : List ℕ) (found : List E) → Reached opened text found cur → ElementBeyond E S (λ t. max_depth < (opened + 1) + depth t) (λ t. (opened + 1) + depth t ≡ max_depth + 1) cur → IsTooDeep opened text
   reached_too_deep opened text cur found r b = reached_beyond opened text cur found _ _ _ _ r
       (λ u more h. omega (arith, L.depth_is (found ++ u ∷ more), deepest-append E S found (u ∷ more), h, r.deep))
       (λ u h. omega (arith, L.depth_is (found ++ u ∷ []), deepest-append E S found (u ∷ []), h, r.deep)) b
 
   -- an element has a number past the limit
 
-  pub reached_out_of_range : (opened : ℕ) (text cur : List ℕ) (found : List E) → Reached opened text found cur → ElementBeyond E S (λ t. is_ranged t ≡ false) (λ t. is_ranged t ≡ false) cur → IsOutOfRange text
+  reached_out_of_range : (opened : ℕ) (text cur : List ℕ) (found : List E) → Reached opened text found cur → ElementBeyond E S (λ t. is_ranged t ≡ false) (λ t. is_ranged t ≡ false) cur → IsOutOfRange text
   reached_out_of_range opened text cur found r b = reached_beyond opened text cur found _ _ _ _ r
       (λ u more h. L.ranged_is (found ++ u ∷ more) ∙ ranged-append E S found (u ∷ more) ∙ ap₂ ◌&&◌ r.ranged (ap (λ (b : Bool). b && all_ranged E S more) h))
       (λ u h. L.ranged_is (found ++ u ∷ []) ∙ ranged-append E S found (u ∷ []) ∙ ap₂ ◌&&◌ r.ranged (ap (λ (b : Bool). b && true) h)) b
 
   -- what is left is shorter than the text
 
-  pub reached_shorter : (opened : ℕ) (text cur : List ℕ) (found : List E) (left : ℕ) → Reached opened text found cur → left ≤ length cur → left ≤ length text
+  reached_shorter : (opened : ℕ) (text cur : List ℕ) (found : List E) (left : ℕ) → Reached opened text found cur → left ≤ length cur → left ≤ length text
   reached_shorter opened text cur found left r h = omega (arith, h, ap length r.is, length-append r.head cur)
+
+  -- a fault in an element is one of the whole
+  pub element_fault : (opened : ℕ) (text cur : List ℕ) (found : List E) (fault : Fault) → Reached opened text found cur → ExplainsOf E (λ e text. S.Is e text) (λ e. S.inner e) (opened + 1) cur fault → Explains opened text fault
+  element_fault opened text cur found (faults.Syntax left) r h = (reached_shorter opened text cur found left r h.0, reached_no_value opened text cur found r h.1)
+  element_fault opened text cur found (faults.TooDeep left) r h = (reached_shorter opened text cur found left r h.0, reached_too_deep opened text cur found r h.1)
+  element_fault opened text cur found (faults.NumberRange left) r h = (reached_shorter opened text cur found left r h.0, reached_out_of_range opened text cur found r h.1)
+  element_fault opened text cur found faults.Memory r h = tt
+
+  -- and so is one behind an element
+  pub separator_fault : (opened : ℕ) (text cur after : List ℕ) (found : List E) (t : E) (fault : Fault) → Reached opened text found cur → ElementRead E S (opened + 1) cur t after → NoSeparator S.closing after fault → Explains opened text fault
+  separator_fault opened text cur after found t fault r d (left, stuck, e) =
+      let short : length left ≤ length cur = omega (arith, skips_shorter after left stuck.skipped, front_shorter _ cur after d.found) in
+      subst (λ (f : Fault). Explains opened text f) (sym e) (reached_shorter opened text cur found (length left) r short, reached_stuck opened text cur after left found t r d stuck)

@@ -5,22 +5,11 @@ use Rattle.std.proofs.lemmas.List.{length-append}
 use Rattle.ijson_json.specs.declared.fault.Fault.{Fault}
 use Rattle.ijson_json.specs.declared.fault.Fault.TheVariants as faults
 use Rattle.ijson_value.specs.Tree.{Tree}
-use Rattle.ijson_json.specs.Grammar.{is_space, IsSpace, IsString, IsValue}
-use Rattle.ijson_json.specs.private.Reading.{Past, Front, Found, Beyond, NoneAt, Pair, IsRead, IsBeyond, Skips}
+use Rattle.ijson_json.specs.Grammar.{is_space, IsString, IsValue}
+use Rattle.ijson_json.specs.private.Reading.{KeyRead, Past, Front, Found, Beyond, NoneAt, Pair, IsRead, IsBeyond, Skips}
 use Rattle.ijson_json.specs.private.Explains.{Explains, ExplainsMember}
 use Rattle.ijson_json.proofs.Bytes.{run_same, not_both, tails}
 use Rattle.ijson_json.proofs.Unique.{string_same, value-past_space}
-
--- a key and `:` were read, and the value begins at cur
-pub record KeyRead (k text cur : List ℕ) : Type 0 where
-  pub key : List ℕ
-  pub gap : List ℕ
-  pub gap' : List ℕ
-  pub is_key : IsString k key
-  pub space : IsSpace gap
-  pub space' : IsSpace gap'
-  pub is : text ≡ key ++ (gap ++ 58 ∷ (gap' ++ cur))
-  pub past : Past is_space cur
 
 -- a key, `:` and white space were read
 

@@ -3,14 +3,14 @@ use Rattle.std.proofs.Common.{◌≡◌, ℕ, ◌+◌, ◌<◌, ◌≤◌, Bool,
 use Rattle.std.specs.Prelude.{◌==◌, ◌≢◌, nat_lt}
 use Rattle.std.proofs.lemmas.Bool.{eqb-true}
 use Rattle.std.proofs.lemmas.Bool.Decides.{nat_tests}
-use Rattle.std.proofs.lemmas.List.{length-append, append-nil}
+use Rattle.std.proofs.lemmas.List.{append-nil}
 use Rattle.ijson_json.specs.declared.fault.Fault.{Fault}
 use Rattle.ijson_json.specs.declared.fault.Fault.TheVariants as faults
 use Rattle.ijson_value.specs.Tree.{Tree, null, boolean, number, string, array, object, no_items, no_members, depth}
 use Rattle.ijson_number.proofs.SpelledBytes.{spells_first}
 use Rattle.ijson_json.specs.Ranged.{is_ranged}
 use Rattle.ijson_json.specs.Grammar.{IsValue, IsString, null_text, boolean_text}
-use Rattle.ijson_json.specs.private.Reading.{Past, Stops, Front, Skips, IsRead, IsTooDeep, IsOutOfRange, NoValue, NoNumber, PastLimitAt}
+use Rattle.ijson_json.specs.private.Reading.{Past, Stops, Front, IsRead, IsTooDeep, IsOutOfRange, NoValue, NoNumber, PastLimitAt}
 use Rattle.ijson_json.specs.private.Explains.{Explains, ExplainsMember, NumberFault, StringFault, WordFault}
 use Rattle.ijson_json.proofs.First.{kind, tree_kind, number_kind, value_first}
 use Rattle.ijson_json.proofs.Members.{no_key}
@@ -217,13 +217,3 @@ key_fault opened text (faults.Syntax left) h = (h.0, no_key text h.1)
 key_fault opened text (faults.TooDeep left) h = absurd h
 key_fault opened text (faults.NumberRange left) h = absurd h
 key_fault opened text faults.Memory h = tt
-
--- what stands behind the front is no longer than the text
-
-pub front_shorter : (P : List ℕ → Type 0) (text rest : List ℕ) → Front P text rest → length rest ≤ length text
-front_shorter P text rest f = omega (arith, ap length f.is, length-append f.front rest)
-
--- nor is what stands behind white space
-
-pub skips_shorter : (text rest : List ℕ) → Skips text rest → length rest ≤ length text
-skips_shorter text rest s = omega (arith, ap length s.is, length-append s.space rest)

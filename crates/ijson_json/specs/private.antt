@@ -1,5 +1,6 @@
 -- What the clauses of private functions alone cite.
 pub mod CompactErrorOfReadFault
 pub mod Reading
+pub mod Separators
 pub mod Explains
 pub mod StringReading

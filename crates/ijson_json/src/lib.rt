@@ -14,6 +14,8 @@ mod quote;
 mod read;
 mod reporting;
 mod run;
+mod scalar;
+mod separator;
 mod stream_sink;
 mod stream_source;
 mod string;

@@ -16,9 +16,10 @@ ghost use Rattle.ijson_json.specs.declared.fault.JsonError;
 ghost use Rattle.ijson_json.specs.declared.fault.Fault.TheVariants.{Memory, TooDeep};
 
 use crate::fault::{Fault, JsonError};
-use crate::front::{skip_space, split_ascii, strip_byte, strip_word};
-use crate::number::read_number;
-use crate::string::read_string;
+use crate::front::{skip_space, split_ascii, strip_byte};
+use crate::scalar::read_scalar;
+use crate::separator::{Separator, read_separator};
+use crate::string::read_key;
 use ijson_string::{IString, StringCache};
 use ijson_value::array::IArray;
 use ijson_value::object::IObject;
@@ -124,26 +125,7 @@ fn read_value<'a, S: BuildHasher>(
             let (object, rest) = read_object(alloc, cache, scratch, inside, opened)?;
             Ok((IValue::from(object), rest))
         }
-        b'"' => {
-            let (string, rest) = read_string(cache, &mut scratch.content, text)?;
-            Ok((IValue::from(string), rest))
-        }
-        b'n' => {
-            let rest = strip_word(text, "null")?;
-            Ok((IValue::NULL, rest))
-        }
-        b't' => {
-            let rest = strip_word(text, "true")?;
-            Ok((IValue::TRUE, rest))
-        }
-        b'f' => {
-            let rest = strip_word(text, "false")?;
-            Ok((IValue::FALSE, rest))
-        }
-        _ => {
-            let (number, rest) = read_number(alloc, text)?;
-            Ok((IValue::from(number), rest))
-        }
+        _ => read_scalar(alloc, cache, &mut scratch.content, text, first),
     }
 }
 
@@ -174,15 +156,13 @@ fn read_array<'a, S: BuildHasher>(
     loop {
         let (item, after) = read_value(alloc, cache, scratch, rest, opened + 1)?;
         scratch.values.push(item)?;
-        let after = skip_space(after);
-        if let Some(behind) = strip_byte(after, b']') {
-            let items = take_items(alloc, &mut scratch.values, base)?;
-            return Ok((items, behind));
+        match read_separator(after, b']')? {
+            Separator::Comma(next) => rest = next,
+            Separator::End(behind) => {
+                let items = take_items(alloc, &mut scratch.values, base)?;
+                return Ok((items, behind));
+            }
         }
-        let Some(more) = strip_byte(after, b',') else {
-            return Err(Fault::Syntax { left: after.len() });
-        };
-        rest = skip_space(more);
     }
 }
 
@@ -213,15 +193,13 @@ fn read_object<'a, S: BuildHasher>(
     loop {
         let (key, value, after) = read_member(alloc, cache, scratch, rest, opened + 1)?;
         scratch.members.push((key, value))?;
-        let after = skip_space(after);
-        if let Some(behind) = strip_byte(after, b'}') {
-            let object = take_members(alloc, &mut scratch.members, base)?;
-            return Ok((object, behind));
+        match read_separator(after, b'}')? {
+            Separator::Comma(next) => rest = next,
+            Separator::End(behind) => {
+                let object = take_members(alloc, &mut scratch.members, base)?;
+                return Ok((object, behind));
+            }
         }
-        let Some(more) = strip_byte(after, b',') else {
-            return Err(Fault::Syntax { left: after.len() });
-        };
-        rest = skip_space(more);
     }
 }
 
@@ -243,12 +221,7 @@ fn read_member<'a, S: BuildHasher>(
     ensures members { OnOk result (scratch.new.members.items ≡ scratch.old.members.items) }
     ensures shared { IfOk result (λ x. IsShared cache.new x.0 × AreShared cache.new x.1.tree) }
 {
-    let (key, after) = read_string(cache, &mut scratch.content, text)?;
-    let after = skip_space(after);
-    let Some(more) = strip_byte(after, b':') else {
-        return Err(Fault::Syntax { left: after.len() });
-    };
-    let start = skip_space(more);
+    let (key, start) = read_key(cache, &mut scratch.content, text)?;
     let (value, rest) = read_value(alloc, cache, scratch, start, opened)?;
     Ok((key, value, rest))
 }

@@ -4,12 +4,15 @@ ghost use Rattle.std.specs.Prelude.{◌≡◌, ◌++◌, List, ℕ, IfOk, IfErr,
 ghost use Rattle.std.specs.String.{string_bytes};
 ghost use Rattle.ijson_string.specs.Cache.{interned};
 ghost use Rattle.ijson_json.specs.Grammar.{IsString};
-ghost use Rattle.ijson_json.specs.private.Reading.{Front};
-ghost use Rattle.ijson_json.specs.private.Explains.{StringFault};
+ghost use Rattle.ijson_json.specs.AddsOnlyRead.{AddsOnlyRead};
+ghost use Rattle.ijson_json.specs.AreShared.{IsShared};
+ghost use Rattle.ijson_json.specs.private.Reading.{Front, KeyRead};
+ghost use Rattle.ijson_json.specs.private.Explains.{ExplainsMember, StringFault};
 ghost use Rattle.ijson_json.specs.private.StringReading.{ContentAt, ContentFault};
 
 use crate::escape::take_escape;
 use crate::fault::Fault;
+use crate::front::{skip_space, strip_byte};
 use crate::run::split_run;
 use ijson_string::{IString, StringCache};
 use std::hash::BuildHasher;
@@ -58,4 +61,24 @@ pub(crate) fn read_string<'a, S: BuildHasher>(
     content.clear();
     let rest = push_content(content, inside)?;
     Ok((IString::intern(cache, content.as_str())?, rest))
+}
+
+/// The key at the front and the text where its value begins, behind the `:` and white space. The key is read as any string is.
+pub(crate) fn read_key<'a, S: BuildHasher>(
+    cache: &mut StringCache<S>,
+    content: &mut String,
+    text: &'a str,
+) -> Result<(IString, &'a str), Fault>
+    ensures read { MatchResult result
+        (λ x. KeyRead x.0 text.now x.1.now)
+        (λ fault. (opened : ℕ) → ExplainsMember opened text.now fault) }
+    ensures cache { AddsOnlyRead text.now cache.old cache.new }
+    ensures shared { IfOk result (λ x. IsShared cache.new x.0) }
+{
+    let (key, after) = read_string(cache, content, text)?;
+    let after = skip_space(after);
+    match strip_byte(after, b':') {
+        Some(more) => Ok((key, skip_space(more))),
+        None => Err(Fault::Syntax { left: after.len() }),
+    }
 }

@@ -1,6 +1,6 @@
 -- The exponent reckoned with a capped written exponent.
-use Rattle.std.proofs.Common.{◌≡◌, ℕ, ◌^◌, ◌<◌, ◌≤◌, min, Bool, true, false, arith, ◌⊎◌, inl, inr}
-use Rattle.std.specs.Prelude.{ℤ, pos, neg_ℤ, ◌+ℤ◌, ◌-ℤ◌, ◌≤ℤ◌, nat_eq, nat_abs, int_le, IsTrue}
+use Rattle.std.proofs.Common.{◌≡◌, ℕ, ◌^◌, ◌<◌, min, Bool, true, false, arith, ◌⊎◌, inl, inr}
+use Rattle.std.specs.Prelude.{ℤ, pos, neg_ℤ, ◌+ℤ◌, ◌-ℤ◌, nat_eq, nat_abs, int_le, IsTrue}
 use Rattle.std.proofs.lemmas.Int.{ints}
 use mir.Syntax.{w32, w128}
 use mir.Val.{SFits, to_z, of_z}
@@ -9,14 +9,6 @@ use Rattle.ijson_number.specs.Num.{exponent_limit, is_in_range}
 use Rattle.ijson_number.proofs.Outcomes.{test_le, le_test, test_zero, abs_zero, both_of, both_hold, one_of, second_holds}
 use Rattle.ijson_number.specs.private.Reading.{IsWithin, exponent_of}
 use Rattle.ijson_number.specs.Strips.{signed}
-
-pub signed_low : (negative : Bool) (v n : ℕ) → v ≤ n → neg_ℤ (pos n) ≤ℤ signed negative v
-signed_low true v n h = omega (arith, ints)
-signed_low false v n h = omega (arith, ints)
-
-pub signed_high : (negative : Bool) (v n : ℕ) → v ≤ n → signed negative v ≤ℤ pos n
-signed_high true v n h = omega (arith, ints)
-signed_high false v n h = omega (arith, ints)
 
 -- within the limit the cap makes no difference
 pub capped_within : (negative : Bool) (v f k : ℕ) (w e : ℤ) → f < 2 ^ 64 → k < 2 ^ 65 → w ≡ signed negative (min v (2 ^ 80)) → e ≡ w +ℤ (pos k -ℤ pos f) → IsWithin e → e ≡ exponent_of (signed negative v) f k

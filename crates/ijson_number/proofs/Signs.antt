@@ -1,5 +1,5 @@
 -- The sign of stored parts, and the order of numbers by their signs.
-use Rattle.std.proofs.Common.{◌≡◌, ℕ, zero, suc, ◌*◌, ◌^◌, ◌<◌, Bool, true, false, List, [], ◌∷◌, length, refl, ap, ap₂, sym, ◌∙◌, arith}
+use Rattle.std.proofs.Common.{◌≡◌, ℕ, zero, suc, ◌*◌, ◌^◌, ◌<◌, Bool, true, false, List, length, refl, ap, ap₂, sym, ◌∙◌, arith}
 use Rattle.std.specs.Prelude.{ℤ, pos, negsuc, neg_ℤ, nat_abs, ◌-ℤ◌, ◌*ℤ◌, ◌≤ℤ◌, ◌==◌, not}
 use Rattle.std.specs.Int.{int_min}
 use Rattle.std.specs.Int.Digits.{number_from_digits}
@@ -16,12 +16,6 @@ use Rattle.ijson_number.specs.Strips.{signed}
 use Rattle.ijson_number.specs.laws.Tens.{ten_pos, signed_mul}
 use Rattle.ijson_number.proofs.Denotes.{stripped_mod}
 use Rattle.ijson_number.proofs.Sizes.{below_cmp, above_cmp}
-
--- no digits are zero
-pub sign_of_none : (negative : Bool) (ds : List ℕ) → length ds ≡ 0 → int_cmp (signed negative (number_from_digits 10 ds)) (pos 0) ≡ Equal
-sign_of_none true [] h = refl
-sign_of_none false [] h = refl
-sign_of_none negative (d ∷ ds) h = absurd (omega arith)
 
 below_zero_cmp : (v : ℕ) → 0 < v → int_cmp (neg_ℤ (pos v)) (pos 0) ≡ Less
 below_zero_cmp zero h = absurd (omega arith)

@@ -1,5 +1,5 @@
 -- What the reader's private functions find at the front of a text.
-use Rattle.std.specs.Prelude.{◌≡◌, ℕ, ◌+◌, ◌<◌, ◌≤◌, Bool, true, false, List, [], ◌∷◌, ◌++◌, ⊤}
+use Rattle.std.specs.Prelude.{◌≡◌, ◌==◌, ℕ, ◌+◌, ◌<◌, ◌≤◌, Bool, true, false, List, [], ◌∷◌, ◌++◌, ⊤}
 use Rattle.ijson_number.specs.Decimal.{Decimal}
 use Rattle.ijson_number.specs.Num.{is_in_range}
 use Rattle.ijson_number.specs.Grammar.{Spells}
@@ -81,6 +81,38 @@ pub record Pair (m : List ℕ × Tree) (text : List ℕ) : Type 0 where
   pub space' : IsSpace gap'
   pub is_value : IsValue m.1 value
   pub is : text ≡ key ++ (gap ++ 58 ∷ (gap' ++ value))
+
+-- a key and `:` were read, and the value begins at cur
+pub record KeyRead (k text cur : List ℕ) : Type 0 where
+  pub key : List ℕ
+  pub gap : List ℕ
+  pub gap' : List ℕ
+  pub is_key : IsString k key
+  pub space : IsSpace gap
+  pub space' : IsSpace gap'
+  pub is : text ≡ key ++ (gap ++ 58 ∷ (gap' ++ cur))
+  pub past : Past is_space cur
+
+-- behind white space stands the closing byte, and the rest behind that
+pub record Closes (closing : ℕ) (text rest : List ℕ) : Type 0 where
+  pub space : List ℕ
+  pub passed : IsSpace space
+  pub is : text ≡ space ++ closing ∷ rest
+
+-- behind white space stands a comma, and the rest behind that and all white space that follows it
+pub record GoesOn (text rest : List ℕ) : Type 0 where
+  pub gap : List ℕ
+  pub gap' : List ℕ
+  pub space : IsSpace gap
+  pub space' : IsSpace gap'
+  pub is : text ≡ gap ++ 44 ∷ (gap' ++ rest)
+  pub past : Past is_space rest
+
+-- behind all white space stands neither a comma nor the closing byte
+pub record IsStuck (closing : ℕ) (text left : List ℕ) : Type 0 where
+  pub skipped : Skips text left
+  pub no_comma : Past (λ b. b == 44) left
+  pub not_closed : Past (λ b. b == closing) left
 
 abbrev pub IsRead : ℕ → List ℕ → Tree → List ℕ → Type 0
 IsRead opened text t rest = Found Tree (λ t value. IsValue t value) (λ t. t) opened text t rest

@@ -150,8 +150,8 @@ impl<'a> Iterator for Iter<'a> {
         ensures upper { IfSome result.1 (UpTo (at_most (length self.now))) }
         ensures exact { (result.0 ≡ length self.now) × (result.1 ≡ Some (length self.now)) }
     {
-        let len = self.len();
-        (len, Some(len))
+        let pairs = self.len();
+        (pairs, Some(pairs))
     }
 }
 
