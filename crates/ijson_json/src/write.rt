@@ -10,10 +10,13 @@ use ijson_value::object::IObject;
 use ijson_value::value::{DestructuredRef, IValue};
 use std::alloc::{AllocError, Global};
 
+/// For how many bytes a text has room at first, so that a short one is made in one request for memory.
+const FIRST_ROOM: usize = 128;
+
 /// The JSON text of `value`, without white space. The error comes where there was not enough memory for
 /// it.
 ///
-/// The time is linear in what is written, and so is the memory, which doubles as the text grows. It writes any value, however
+/// The time is linear in what is written, and so is the memory, which is 128 bytes at first and doubles as the text grows. It writes any value, however
 /// deep: it calls itself once a level. Objects keep the order of their pairs, and numbers their shape.
 ///
 /// ```
@@ -22,7 +25,7 @@ use std::alloc::{AllocError, Global};
 pub fn to_json(alloc: Global, value: &IValue) -> Result<String, AllocError>
     ensures { IfOk result (λ text. string_bytes text ≡ print value.now.tree) }
 {
-    let mut out = String::new(alloc);
+    let mut out = String::with_capacity(alloc, FIRST_ROOM)?;
     push_value(&mut out, value)?;
     Ok(out)
 }

@@ -4,9 +4,11 @@ ghost use Rattle.std.specs.Prelude.{◌≡◌, ◌≤◌, ◌<◌, length};
 use std::marker::Model;
 use std::str;
 
-/// A text in UTF-8 of at most `N` bytes. The bytes past `len` are no part of it.
+/// A text in UTF-8 of at most `N` bytes. The bytes past `len` are no part of it. It lies where a word of 8 bytes may lie, so that an
+/// `IString` is moved by whole words, whichever variant it is.
 #[derive(Drop)]
 pub(crate) struct Block<const N: usize> {
+    aligned: [u64; 0],
     bytes: [u8; N],
     len: u8,
 }
@@ -32,6 +34,7 @@ impl<const N: usize> Block<N> {
         let mut bytes = [0; N];
         bytes[..text.len()].copy_from_slice(text.as_bytes());
         Block {
+            aligned: [],
             bytes,
             len: text.len() as u8,
         }
@@ -42,6 +45,7 @@ impl<const N: usize> Block<N> {
         ensures { result ≡ self.now }
     {
         Block {
+            aligned: [],
             bytes: self.bytes,
             len: self.len,
         }

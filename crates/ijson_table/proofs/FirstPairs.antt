@@ -1,7 +1,9 @@
 -- Places of the first pairs of a list: a look-up of the next key among them, and the next one put.
-use Rattle.std.proofs.Common.{◌≡◌, ℕ, ◌+◌, ◌%◌, ◌<◌, arith, List, [], ◌∷◌, ◌++◌, length, take, get_or, None, sym, ap, subst, ◌∙◌, length-take}
+use Rattle.std.proofs.Common.{◌≡◌, ◌≢◌, ◌⊎◌, inl, inr, ℕ, ◌+◌, ◌%◌, ◌<◌, arith, List, [], ◌∷◌, ◌++◌, length, take, get_or, None, sym, ap, subst, ◌∙◌, length-take}
+use Rattle.std.proofs.lemmas.Bool.Decides.{nat_tests}
 use Rattle.std.proofs.lemmas.List.{take_more}
-use Rattle.ijson_table.specs.declared.probe.Probed.TheVariants.{Vacant}
+use Rattle.ijson_table.specs.declared.probe.Probed.{Probed}
+use Rattle.ijson_table.specs.declared.probe.Probed.TheVariants.{Found, Vacant, Full}
 use Rattle.ijson_table.specs.Places.{displacement, IsTable}
 use Rattle.ijson_table.specs.Store.{at, keys_of, IsDistinct}
 use Rattle.ijson_table.specs.private.FirstPlaced.{FirstPlaced}
@@ -10,6 +12,7 @@ use Rattle.ijson_table.specs.private.Lookup.{is_hashed_key}
 use Rattle.ijson_table.specs.private.PlaceList.{Index}
 use Rattle.ijson_table.specs.private.Probe.{Ends}
 use Rattle.ijson_table.proofs.Keys.{distinct_pushed}
+use Rattle.ijson_table.proofs.Placing.{some_empty}
 use Rattle.ijson_table.proofs.Tables.{hashes, length-hashes, hashes-push, find_ends}
 
 module _ {V : Type 0} (hash : List ℕ → ℕ) (pairs : List (List ℕ × V)) (n : ℕ) (places : Index) (placed : FirstPlaced hash pairs n places) (within : n < length pairs) where
@@ -26,6 +29,23 @@ module _ {V : Type 0} (hash : List ℕ → ℕ) (pairs : List (List ℕ × V)) (
             (subst (λ x. MayStand (hashes hash first ++ x ∷ []) places.slots n p) (sym hashed)
             (subst (λ k. MayStand (hashes hash first ++ hash key ∷ []) places.slots k p) size told.2)),
       )
+
+  -- where a place is left, the key for which there is no vacancy is one of theirs
+  pub comes_again : (h : ℕ) (key : List ℕ) (looks : ℕ) (end : Probed) → h ≡ hash key → IsTable places.hashes places.slots → n < length places.slots
+      → Ends places.slots (displacement places.hashes places.slots) (h % length places.slots) (is_hashed_key places.hashes (keys_of (take n pairs)) h key) looks end
+      → ((i : ℕ) × (p : ℕ) × (end ≡ Found i p)) ⊎ (end ≡ Full) → at (take n pairs) key ≢ None
+  comes_again h key looks (Found i p) hashed table room ends is none =
+      let first : List (List ℕ × V) = take n pairs in
+      let told = find_ends hash first first places h key looks (Found i p) placed.hashes (λ _. first) hashed placed.distinct table (omega (arith, room)) ends in
+      cc
+  comes_again h key looks (Vacant p) hashed table room ends (inl is) none = let e = is.2 in cc
+  comes_again h key looks (Vacant p) hashed table room ends (inr is) none = cc
+  comes_again h key looks Full hashed table room ends is none =
+      let first : List (List ℕ × V) = take n pairs in
+      let told = find_ends hash first first places h key looks Full placed.hashes (λ _. first) hashed placed.distinct table (omega (arith, room)) ends in
+      let size : length (hashes hash first) ≡ n = omega (arith, length-hashes hash first, length-take n pairs, within) in
+      let count : length places.hashes ≡ n = ap length placed.hashes ∙ size in
+      told.1 (some_empty places.slots (n + 1) n (λ i. grind (arith, nat_tests, table.placed i, count)) (omega arith) (grind (arith, nat_tests, table.placed n, count)) (omega (arith, room)))
 
   -- with its hash they are one more
   pub next_placed : (pair : List ℕ × V) (h : ℕ) (new : Index) → pair ≡ get_or pairs n pair → h ≡ hash pair.0 → at (take n pairs) pair.0 ≡ None

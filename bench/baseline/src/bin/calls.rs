@@ -16,6 +16,10 @@ fn found(objects: &[Value], keys: &[Value]) -> usize {
     }).sum()
 }
 
+fn copied(values: &[Value]) -> usize {
+    values.iter().map(|value| black_box(black_box(value).clone())).count()
+}
+
 fn written(values: &[Value]) -> usize {
     values.iter().map(|value| serde_json::to_string(black_box(value)).unwrap().len()).sum()
 }
@@ -37,6 +41,7 @@ fn main() -> Result<(), Box<dyn std::error::Error>> {
             timed(&format!("look-up/{size}"), || found(objects, keys));
         }
         timed("equality", || equal(items("values"), again["values"].as_array().unwrap()));
+        timed("clone", || copied(items("values")));
         timed("to_json", || written(items("values")));
     }
     Ok(())

@@ -1,9 +1,13 @@
 -- Places of the first pairs of a list.
-use Rattle.std.specs.Prelude.{◌≡◌, ℕ, List, map, take}
-use Rattle.ijson_table.specs.Store.{keys_of, IsDistinct}
+use Rattle.std.specs.Prelude.{◌≡◌, ◌≢◌, ℕ, List, [], None, get_or, map, take}
+use Rattle.ijson_table.specs.Store.{at, keys_of, IsDistinct}
 use Rattle.ijson_table.specs.private.PlaceList.{Index}
 
 -- the places have the first n pairs by the hashes of their keys, none of which stands twice among them
 pub record FirstPlaced {V : Type 0} (hash : List ℕ → ℕ) (pairs : List (List ℕ × V)) (n : ℕ) (places : Index) : Type 0 where
   pub hashes : places.hashes ≡ map hash (keys_of (take n pairs))
   pub distinct : IsDistinct (keys_of (take n pairs))
+
+-- the key of the pair at n is that of one before it
+abbrev pub ComesAgain : {V : Type 0} → List (List ℕ × V) → ℕ → Type 0
+ComesAgain pairs n = at (take n pairs) (get_or (keys_of pairs) n []) ≢ None

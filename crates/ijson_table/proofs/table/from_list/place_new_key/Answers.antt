@@ -1,6 +1,7 @@
-use Rattle.std.proofs.Common.{◌≡◌, ◌-◌, take, arith, ap, sym, ◌∙◌}
-use Rattle.ijson_table.specs.Store.{at}
-use Rattle.ijson_table.proofs.FirstPairs.{next_ends, next_placed}
+use Rattle.std.proofs.Common.{◌≡◌, ◌-◌, [], get_or, take, arith, ap, sym, ◌∙◌}
+use Rattle.ijson_table.specs.Store.{at, keys_of}
+use Rattle.ijson_table.proofs.FirstPairs.{comes_again, next_ends, next_placed}
+use Rattle.ijson_table.proofs.Keys.{key_at}
 use Rattle.ijson_table.proofs.table.from_list.place_new_key.Goals as goal
 
 pub push_at-requires-clause-may : goal.push_at-requires-clause-may
@@ -18,3 +19,11 @@ returns-in-Vacant-clause-placed g c = λ _.
     c.hash-hash.ensures c.len.ensures.table (omega (arith, c.if-position-len.false, c.len.ensures.count)) c.in-Vacant.ensures.ends).0 in
     next_placed hash c.args.pairs.now c.args.position c.args.places.now c.requires.placed c.requires.within pair c.hash-hash.result c.push_at.new.self c.index-pairs-position.is hashed
     (ap (at (take c.args.position c.args.pairs.now)) (sym key) ∙ missing) c.push_at.ensures.hashes
+
+pub returns-in-Found-clause-stops : goal.returns-in-Found-clause-stops
+returns-in-Found-clause-stops g c = λ _ room none.
+    let pairs = c.args.pairs.now in
+    let n = c.args.position in
+    let key : get_or (keys_of pairs) n [] ≡ c.as_str-key.result.now = key_at pairs n c.index-pairs-position.result c.requires.within ∙ sym c.as_str-key.ensures in
+    comes_again g.H.KeyHash.hash_of pairs n c.args.places.now c.requires.placed c.requires.within c.hash-hash.result c.as_str-key.result.now (c.probe.new.looks - c.new.result) c.probe.result
+    c.hash-hash.ensures c.len.ensures.table room c.probe.ensures.ends c.in-Found.is (ap (at (take n pairs)) (sym key) ∙ none)
