@@ -66,7 +66,8 @@ fn place_new_keys<V, H: KeyHash>(pairs: &[(IString, V)], places: &mut PlaceList)
     requires { places.old.hashes ≡ [] }
     ensures within { result ≤ length pairs.now }
     ensures placed { FirstPlaced H.hash_of pairs.now result places.new }
-    ensures stops { result < length pairs.now → result < length places.old.slots → ComesAgain pairs.now result }
+    ensures stops { result < length pairs.now → result < length places.old.slots
+        → ComesAgain pairs.now result }
     ensures count { length places.new.slots ≡ length places.old.slots }
 {
     for position in 0..pairs.len() {
@@ -87,7 +88,8 @@ fn place_new_key<V, H: KeyHash>(
     requires placed { FirstPlaced H.hash_of pairs.now position places.old }
     ensures placed { IsTrue result → FirstPlaced H.hash_of pairs.now (position + 1) places.new }
     ensures left { IsFalse result → places.new ≡ places.old }
-    ensures stops { IsFalse result → position < length places.old.slots → ComesAgain pairs.now position }
+    ensures stops { IsFalse result → position < length places.old.slots
+        → ComesAgain pairs.now position }
     ensures count { length places.new.slots ≡ length places.old.slots }
 {
     if position >= places.len() {
