@@ -35,7 +35,8 @@ impl<S: BuildHasher> Model for StringCache<S> {
     ghost view = { λ c. set.from_list (texts_of c.texts.keys) };
 
     ghost invariant = { λ c. AllAreLong (set.from_list (texts_of c.texts.keys))
-        × AreHashed (λ text. S.Hasher.finish (fold S.Hasher.write (S.build_hasher c.hasher) (text ∷ []))) c.texts.keys };
+        × AreHashed (λ text. S.Hasher.finish (fold S.Hasher.write (S.build_hasher c.hasher) (text ∷ [])))
+            c.texts.keys };
 }
 
 impl<S: BuildHasher> StringCache<S> {

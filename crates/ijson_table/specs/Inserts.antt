@@ -6,8 +6,10 @@ use Rattle.ijson_table.specs.Growth.{Grown, Ungrown}
 
 -- A pair is put into a store of these pairs and capacity c, which then has pairs' and c'. A key that is there takes no room;
 -- for a new one there is growth first, and where that is refused the pair comes back.
-abbrev pub Inserts : {V : Type 0} → List (List ℕ × V) → ℕ → List ℕ → V → Result (Option V) (RefusedPair V) → List (List ℕ × V) → ℕ → Type 0
-Inserts pairs c key value (Ok (Some old)) pairs' c' = (lookup key pairs ≡ Some old) × (pairs' ≡ put pairs key value) × (c' ≡ c)
+abbrev pub Inserts : {V : Type 0} → List (List ℕ × V) → ℕ → List ℕ → V → Result (Option V) (RefusedPair V)
+    → List (List ℕ × V) → ℕ → Type 0
+Inserts pairs c key value (Ok (Some old)) pairs' c' =
+    (lookup key pairs ≡ Some old) × (pairs' ≡ put pairs key value) × (c' ≡ c)
 Inserts pairs c key value (Ok None) pairs' c' =
     (lookup key pairs ≡ None) × (pairs' ≡ put pairs key value) × Grown (length pairs) c 1 c'
 Inserts pairs c key value (Err refused) pairs' c' =

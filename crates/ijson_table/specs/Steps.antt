@@ -32,7 +32,8 @@ Step pairs c Clear Done pairs' c' = (pairs' ≡ []) × (c' ≡ c)
 Step pairs c command reply pairs' c' = ⊥
 
 -- the store may give these replies to these commands, one step after another
-abbrev pub Run : {V : Type 0} → List (List ℕ × V) → ℕ → List (Command V) → List (Reply V) → List (List ℕ × V) → ℕ → Type 0
+abbrev pub Run : {V : Type 0} → List (List ℕ × V) → ℕ → List (Command V) → List (Reply V)
+    → List (List ℕ × V) → ℕ → Type 0
 Run pairs c [] [] pairs' c' = (pairs' ≡ pairs) × (c' ≡ c)
 Run {V} pairs c (command ∷ commands) (reply ∷ replies) pairs' c' =
     (mid : List (List ℕ × V)) × (d : ℕ) × Step pairs c command reply mid d × Run mid d commands replies pairs' c'

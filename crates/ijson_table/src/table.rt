@@ -54,7 +54,8 @@ impl<V, H: KeyHash> Model for Table<V, H> {
       places = t.places.slots;
     } };
 
-    ghost invariant = { λ t. IsPlaced H.hash_of t.pairs.items t.capacity t.places × (t.capacity ≤ vec_capacity t.pairs) };
+    ghost invariant = { λ t. IsPlaced H.hash_of t.pairs.items t.capacity t.places
+        × (t.capacity ≤ vec_capacity t.pairs) };
 }
 
 impl<V: Drop, H: KeyHash> Table<V, H> {

@@ -9,7 +9,8 @@ module _ {F V : Type 0} (asked : F → List ℕ → V → Bool → V → F → T
   abbrev pub RetainsFrom : ℕ → F → ℕ → List (List ℕ × V) → List (List ℕ × V) → Type 0
   RetainsFrom zero f i pairs kept = kept ≡ pairs
   RetainsFrom (suc n) f i pairs kept =
-      (key : List ℕ) × (v : V) × (keeps : Bool) × (w : V) × (g : F) × (slice_get pairs i ≡ Some (key, v)) × asked f key v keeps w g
+      (key : List ℕ) × (v : V) × (keeps : Bool) × (w : V) × (g : F)
+      × (slice_get pairs i ≡ Some (key, v)) × asked f key v keeps w g
       × RetainsFrom n g (if keeps then i + 1 else i) (if keeps then with_value pairs i w else swap_out pairs i) kept
 
   abbrev pub Retains : F → List (List ℕ × V) → List (List ℕ × V) → Type 0
