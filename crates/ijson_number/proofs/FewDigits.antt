@@ -14,7 +14,7 @@ use Rattle.ijson_number.specs.Strips.{Strips, signed}
 use Rattle.ijson_number.specs.private.FormNumber.{integer_word}
 use Rattle.ijson_number.specs.Stripped.{tens_out, stripped_number}
 use Rattle.ijson_number.specs.private.Stripped.{digits_from_text}
-use Rattle.ijson_number.specs.laws.Tens.{abs_signed, int_tens, int_zero, signed_mul, signed_zero, zero_or_not}
+use Rattle.ijson_number.specs.laws.Tens.{ten_pos, abs_signed, int_tens, int_zero, signed_mul, signed_zero, zero_or_not}
 use Rattle.std.proofs.lemmas.Bool.{cases_lt}
 use Rattle.ijson_number.proofs.Existence.{parts_denote}
 use Rattle.ijson_number.proofs.Exponents.{within_in_range}
@@ -152,6 +152,10 @@ fraction_packed negative m k n point some few small last s =
           (sym r.0, omega (arith, ints))
           )
     ]
+
+-- zeros behind a number make it no less
+pub no_more : (n k : ℕ) → n ≤ n * 10 ^ k
+no_more n k = let m : n * 1 ≤ n * 10 ^ k = mul-le-mul_left n (ten_pos k) in omega arith
 
 pub pointed_form : (negative : Bool) (size m places k : ℕ) (n : Decimal) → size ≡ m * 10 ^ (places - k) → k ≤ places → (0 < k → m % 10 ≢ 0) → k ≤ 7 → m < 2 ^ 55 → n.point ≡ true → Strips (signed negative size) (neg_ℤ (pos places)) n → form_of n ≡ packed (signed negative m) (neg_ℤ (pos k)) true
 pointed_form negative size m places k n tens fewer stripped few small point s =

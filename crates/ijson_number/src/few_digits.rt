@@ -39,10 +39,11 @@ fn without_zeros(size: u64, places: usize) -> (u64, usize)
 /// What is stored of a number with the point and so many places behind it, where it is packed.
 pub fn pointed_word(negative: bool, size: u64, places: usize) -> Option<Stored>
     requires few { places ≤ 19 }
-    ensures { IfSome result (λ s. (n : Decimal)
+    ensures word { IfSome result (λ s. (n : Decimal)
         → n.point ≡ true
         → Strips (signed negative size) (neg_ℤ (pos places)) n
         → form_of n ≡ stored_form s) }
+    ensures short { places ≤ 7 → size < 2 ^ 55 → IsSome result }
 {
     let (mantissa, left) = without_zeros(size, places);
     if left > 7 || i128::from(mantissa) >= PACKED_END {

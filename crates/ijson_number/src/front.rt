@@ -119,6 +119,7 @@ impl Front {
         requires { (text : List ℕ) × IsFront text self.now }
         ensures word { IfSome result (λ s. stored_form s ≡ form_of (front_number self.now)) }
         ensures whole { self.now.places ≡ 0 → self.now.size < 2 ^ 63 → IsSome result }
+        ensures short { self.now.places ≤ 7 → self.now.size < 2 ^ 55 → IsSome result }
     {
         if self.places > 0 {
             return pointed_word(self.negative, self.size, self.places);

@@ -24,8 +24,7 @@ pub struct StrippedNumber<'a> {
     pub digits: &'a [u8],
     pub exponent: i32,
     pub point: bool,
-    ghost num: { IsNum (stored_number negative digits.now exponent point) }
-        by { IsNum-prop (stored_number negative digits.now exponent point) },
+    ghost num: { IsNum (stored_number negative digits.now exponent point) } by { IsNum-prop (stored_number negative digits.now exponent point) },
     ghost stripped: { IsStored negative digits.now } by { Prim.hlevel props },
 }
 

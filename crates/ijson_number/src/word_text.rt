@@ -1,7 +1,7 @@
 //! The text of a number, written at once; here of one that is kept in one word.
-ghost use Rattle.std.specs.Prelude.{◌≡◌, ◌+◌, ◌/◌, ◌%◌, ◌^◌, ◌<◌, ◌≤◌, ◌∷◌, ◌++◌, drop, length, true, false, pos, IfSome, IsTrue};
+ghost use Rattle.std.specs.Prelude.{◌≡◌, ◌+◌, ◌/◌, ◌%◌, ◌^◌, ◌<◌, ◌≤◌, ◌≤ℤ◌, ◌∷◌, ◌++◌, drop, length, true, false, pos, neg_ℤ, IfSome, IsSome, IsTrue};
 ghost use Rattle.std.specs.Fmt.{decimal};
-ghost use Rattle.ijson_number.specs.Form.{fits_packed, form_of, packed};
+ghost use Rattle.ijson_number.specs.Form.{fits_packed, form_of, is_digits, packed};
 ghost use Rattle.ijson_number.specs.Text.{minus_text, num_text};
 ghost use Rattle.ijson_number.specs.Stripped.{stripped_number};
 ghost use Rattle.ijson_number.specs.private.WordText.{integer_text, last_digits, pointed_text};
@@ -99,7 +99,8 @@ fn fraction(negative: bool, size: u64, places: u32, room: &mut [u8; TEXT_ROOM]) 
 fn pointed(mantissa: i64, exponent: i8, room: &mut [u8; TEXT_ROOM]) -> Option<&str>
     requires fits { IsTrue (fits_packed mantissa) }
     requires form { form_of (stripped_number mantissa exponent true) ≡ packed mantissa exponent true }
-    ensures { IfSome result (λ text. text.now ≡ num_text (stripped_number mantissa exponent true)) }
+    ensures text { IfSome result (λ text. text.now ≡ num_text (stripped_number mantissa exponent true)) }
+    ensures short { neg_ℤ (pos 6) ≤ℤ exponent → exponent ≤ℤ pos 0 → IsSome result }
 {
     let (negative, size) = (mantissa < 0, mantissa.unsigned_abs());
     if exponent == 0 {
@@ -114,7 +115,9 @@ fn pointed(mantissa: i64, exponent: i8, room: &mut [u8; TEXT_ROOM]) -> Option<&s
 impl INumber {
     /// The text, where the number has few digits and neither an exponent nor zeros are written beside them.
     pub(crate) fn word_text<'a>(&self, room: &'a mut [u8; TEXT_ROOM]) -> Option<&'a str>
-        ensures { IfSome result (λ text. text.now ≡ num_text self.now.decimal) }
+        ensures text { IfSome result (λ text. text.now ≡ num_text self.now.decimal) }
+        ensures whole { is_digits (form_of self.now.decimal) ≡ false
+            → self.now.decimal.point ≡ false → IsSome result }
     {
         match &self.stored {
             Stored::Packed(word) => {

@@ -36,7 +36,7 @@ impl<S: BuildHasher> Model for StringCache<S> {
 
     ghost invariant = { λ c. AllAreLong (set.from_list (texts_of c.texts.keys))
         × AreHashed (λ text. S.Hasher.finish (fold S.Hasher.write (S.build_hasher c.hasher) (text ∷ [])))
-            c.texts.keys };
+        c.texts.keys };
 }
 
 impl<S: BuildHasher> StringCache<S> {

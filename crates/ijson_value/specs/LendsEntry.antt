@@ -21,7 +21,7 @@ EntryLends e r = follows object.the_row value.the_row (entry_object e).ghost_nam
 abbrev pub OccupiedLends : MutBor OccupiedEntry → MutBor WellFormed → Fml
 OccupiedLends o r =
     follows (occupied.the_row (record { mir = named 1; lft = [] })) value.the_row
-        o.ghost_name r.ghost_name (with_entry_value o.now)
+    o.ghost_name r.ghost_name (with_entry_value o.now)
 
 -- where there is no entry, the object is as it was
 abbrev pub RestsIfNoEntry : {E : Type 0} → MutBor (Store WellFormed) → Result Entry E → Fml

@@ -6,8 +6,8 @@ use mir.Val.{of_z, to_z}
 use Rattle.ijson_number.proofs.WordTexts.{below_point, exponent_small, fraction_shown, many_places, whole_shown}
 use Rattle.ijson_number.proofs.word_text.pointed.Goals as goal
 
-pub returns-then-exponent-eq0 : goal.returns-then-exponent-eq0
-returns-then-exponent-eq0 c =
+pub returns-then-exponent-eq0-clause-text : goal.returns-then-exponent-eq0-clause-text
+returns-then-exponent-eq0-clause-text c =
     let a = c.args in
     let n = c.unsigned_abs-size in
     let exact = to_z-of_z w64 a.mantissa (search rules) in
@@ -23,8 +23,8 @@ fraction-requires-2-clause-few c =
     let small = exponent_small a.mantissa a.exponent below c.requires.form in
     rw (c.from.ensures, c.unsigned_abs.ensures.value, exact) small
 
-pub returns : goal.returns
-returns c =
+pub returns-clause-text : goal.returns-clause-text
+returns-clause-text c =
     let a = c.args in
     let n = c.unsigned_abs-size in
     let exact = to_z-of_z w64 a.mantissa (search rules) in

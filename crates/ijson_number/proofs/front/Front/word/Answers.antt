@@ -11,7 +11,7 @@ pub returns-then-self-gt0-clause-word : goal.returns-then-self-gt0-clause-word
 returns-then-self-gt0-clause-word c =
     let f = c.args.self.now in
     let point : nat_lt 0 f.places ≡ true = grind (arith, nat_tests) in
-    some_with c.pointed_word.result _ _ c.pointed_word.ensures (λ s h. sym (h (front_number f) point c.requires.1.strips))
+    some_with c.pointed_word.result _ _ c.pointed_word.ensures.word (λ s h. sym (h (front_number f) point c.requires.1.strips))
 
 pub returns-clause-word : goal.returns-clause-word
 returns-clause-word c =
