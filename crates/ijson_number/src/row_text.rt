@@ -1,5 +1,5 @@
 //! The text of a number with the point between its digits, written at once.
-ghost use Rattle.std.specs.Prelude.{◌≡◌, ◌+◌, ◌-◌, ◌<◌, ◌≤◌, ◌++◌, drop, length, IfSome};
+ghost use Rattle.std.specs.Prelude.{◌≡◌, ◌+◌, ◌-◌, ◌<◌, ◌<ℤ◌, ◌≤◌, ◌++◌, drop, length, nat_abs, pos, true, IfSome, IsSome};
 ghost use Rattle.std.specs.List.{All};
 ghost use Rattle.ijson_number.specs.Text.{digits_text, num_text};
 ghost use Rattle.ijson_number.specs.private.RowText.{split_text};
@@ -49,7 +49,10 @@ fn split_row<'a>(
 impl StrippedNumber<'_> {
     /// The text, where the point stands between two of its few digits.
     pub fn row_text<'a>(&self, room: &'a mut [u8; TEXT_ROOM]) -> Option<&'a str>
-        ensures { IfSome result (λ text. text.now ≡ num_text (decimal_of self.now)) }
+        ensures text { IfSome result (λ text. text.now ≡ num_text (decimal_of self.now)) }
+        ensures between { self.now.point ≡ true → self.now.exponent <ℤ pos 0
+            → nat_abs self.now.exponent < length self.now.digits.now
+            → length self.now.digits.now ≤ 20 → IsSome result }
     {
         let places = self.exponent.unsigned_abs() as usize;
         let digits = self.digits;

@@ -8,8 +8,8 @@ use Rattle.ijson_number.proofs.stripped.StrippedNumber.row_text.Goals as goal
 below_zero : (e x : ℤ) → x ≡ e → int_le (pos 0) x ≡ false → e <ℤ pos 0
 below_zero e x same test = grind (arith, ints)
 
-pub returns : goal.returns
-returns c =
+pub returns-clause-text : goal.returns-clause-text
+returns-clause-text c =
     let n = c.args.self.now in
     let fits : FitsSigned w32 n.exponent = search rules in
     let exact = to_z-of_z w32 n.exponent fits in
