@@ -4,13 +4,14 @@
 ghost use Rattle.std.specs.Prelude.{◌≡◌, OnOk, OnErr, IfErr};
 ghost use Rattle.ijson_json.specs.declared.compacting.CompactError.TheVariants as errors;
 
+use crate::seeded::SeededState;
 use ijson_json::{CompactError, StreamSink, StreamSource, compact_value, report};
 use ijson_string::StringCache;
-use std::hash::RandomState;
 use std::io::Write;
 use std::mem;
 use std::process::ExitCode;
 
+mod seeded;
 #[cfg(test)]
 mod tests;
 
@@ -29,7 +30,7 @@ fn flushed<W: Write + Drop>(
 /// Compacts standard input to standard output. Strings are a stranger's, so their hashes have a random seed, and no way to have one counts as
 /// a failed read.
 fn compact_input(rt: HostRuntime) -> Result<(), CompactError> {
-    let hasher = RandomState::new(&rt).map_err(|_| CompactError::Read)?;
+    let hasher = SeededState::new(&rt).map_err(|_| CompactError::Read)?;
     let mut cache = StringCache::new(rt.alloc(), hasher);
     let mut input = StreamSource::new(rt.stdin());
     let mut output = StreamSink::new(rt.stdout());

@@ -9,6 +9,7 @@ mod equality;
 mod faults;
 mod numbers;
 mod recorder;
+mod seeds;
 mod strings;
 mod tables;
 mod texts;

@@ -98,20 +98,6 @@ pub fn read_front(text: &[u8]) -> Option<Front>
     })
 }
 
-/// What is stored of the number that the whole text spells, where it has few digits and is a word.
-#[inline(always)]
-pub fn read_word(text: &[u8]) -> Option<Stored>
-    ensures { IfSome result (λ s. (n : Decimal)
-        × Spells text.now n × (stored_form s ≡ form_of n) × IsNum n) }
-{
-    let front = read_front(text)?;
-    if front.length == text.len() {
-        front.word()
-    } else {
-        None
-    }
-}
-
 impl Front {
     /// What is stored of the number, where it is a word.
     #[inline(always)]

@@ -5,7 +5,7 @@ ghost use Rattle.ijson_number.specs.Num.{IsNum};
 ghost use Rattle.ijson_number.specs.laws.Codes.{IsNum-prop};
 ghost use Rattle.ijson_number.specs.private.Stored.{stored_decimal};
 
-use crate::front::{read_front, read_word};
+use crate::front::read_front;
 use crate::reading::{self, Spelling};
 use crate::stored::{LongNumber, Stored};
 use crate::stripped::{ROOM, StrippedNumber};
@@ -49,10 +49,12 @@ impl Model for INumber {
 }
 
 impl INumber {
-    ghost use Rattle.std.specs.Prelude.{◌≤◌, List, ℕ, length, take, IfNone, IfSome};
+    ghost use Rattle.std.specs.Prelude.{◌≤◌, List, ℕ, length, take, true, IfNone, IfSome, OnErr};
+    ghost use Rattle.ijson_number.specs.Form.{form_of, is_digits};
     ghost use Rattle.ijson_number.specs.Grammar.{AllDigits, Denotes, IsSpelled, Parts};
     ghost use Rattle.ijson_number.specs.PlainFront.{IsPlainFront};
     ghost use Rattle.ijson_number.specs.Refused.{IsRefused};
+    ghost use Rattle.ijson_number.specs.declared.number.ParseNumberError.TheVariants.{Memory};
     ghost use Rattle.ijson_number.specs.private.Scanned.{parts_of};
     ghost use Rattle.ijson_number.specs.private.StrippedNumber.{decimal_of};
 
@@ -64,8 +66,12 @@ impl INumber {
         ensures err { IfErr result (λ e. IsRefused text.now e) }
     {
         let bytes = text.as_bytes();
-        if let Some(stored) = read_word(bytes) {
-            return Ok(INumber { stored });
+        if let Some(front) = read_front(bytes) {
+            if front.length == bytes.len() {
+                if let Some(stored) = front.word() {
+                    return Ok(INumber { stored });
+                }
+            }
         }
         match reading::read(bytes) {
             Some(spelling) => INumber::from_spelling(alloc, &spelling),
@@ -104,6 +110,7 @@ impl INumber {
             (f.1 ≤ length text.now) × Spells (take f.1 text.now) f.0.decimal)) }
         ensures none { IfOk result (λ found.
             IfNone found ((p : Parts) → IsPlainFront text.now p → ⊥)) }
+        ensures refused { OnErr result ((count : ℕ) × IsRefused (take count text.now) Memory) }
     {
         let Some(front) = read_front(text.as_bytes()) else {
             return Ok(None);
@@ -117,7 +124,8 @@ impl INumber {
 
     /// The number of stripped digits.
     fn from_stripped(alloc: Global, number: &StrippedNumber<'_>) -> Result<INumber, AllocError>
-        ensures { IfOk result (λ n. n.decimal ≡ decimal_of number.now) }
+        ensures number { IfOk result (λ n. n.decimal ≡ decimal_of number.now) }
+        ensures refused { OnErr result (is_digits (form_of (decimal_of number.now)) ≡ true) }
     {
         if let Some(stored) = number.stored() {
             return Ok(INumber { stored });

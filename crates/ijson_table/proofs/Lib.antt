@@ -6,6 +6,7 @@ mod Runs
 pub mod Writing
 mod Folding
 mod Round
+mod Reciprocal
 mod Count
 mod Residents
 mod Walk

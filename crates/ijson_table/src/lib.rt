@@ -7,6 +7,7 @@ mod growth;
 mod hash;
 mod linear;
 mod lookup;
+mod modulus;
 mod place;
 mod place_list;
 mod places;

@@ -3,7 +3,7 @@
 ghost use Rattle.std.specs.Prelude.{◌≡◌, ◌↔◌, ◌<◌, [], length, get_or, IsTrue};
 ghost use Rattle.ijson_table.specs.Store.{keys_of};
 
-use crate::place::home_of_hash;
+use crate::modulus::Modulus;
 use crate::place_list::PlaceList;
 use crate::places::Seen;
 use crate::probe::ProbeTarget;
@@ -15,9 +15,12 @@ use ijson_string::IString;
 pub struct Lookup<'a, V> {
     pub pairs: &'a [(IString, V)],
     pub places: &'a PlaceList,
+    /// How many places there are.
+    pub modulus: Modulus,
     pub hash: u64,
     pub key: &'a str,
     ghost listed: { length pairs.now ≡ length places.now.hashes },
+    ghost counted: { modulus.count ≡ length places.now.slots },
 }
 
 impl<'a, V> ProbeTarget for Lookup<'a, V> {
@@ -39,18 +42,17 @@ impl<'a, V> ProbeTarget for Lookup<'a, V> {
     }
 
     fn home(&self) -> usize {
-        home_of_hash(self.places.len(), self.hash)
+        self.modulus.home_of_hash(self.hash)
     }
 
     fn look(&self, place: usize, looks: &mut Looks) -> Seen {
         looks.add_one();
-        let places = self.places.len();
         let there = self.places.at(place);
         let same = match there.position() {
             None => false,
             Some(at) => there.has_hash(self.hash) && has_key(self.pairs, at, self.key),
         };
-        there.seen(places, place, same)
+        there.seen(self.modulus, place, same)
     }
 }
 

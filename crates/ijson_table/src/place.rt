@@ -5,6 +5,7 @@ ghost use Rattle.ijson_table.specs.Crowd.{distance};
 ghost use Rattle.ijson_table.specs.private.Closing.{closed};
 ghost use Rattle.ijson_table.specs.private.PlaceHashes.{position_in, SeenAs};
 
+use crate::modulus::Modulus;
 use crate::places::Seen;
 
 /// Nothing, or the position of a pair beside the hash of its key, which tells how far the place is from the key's home, and
@@ -55,15 +56,15 @@ impl Place {
     }
 
     /// How far this place is from the home of what stands there.
-    pub fn distance(self, places: usize, place: usize) -> usize
-        requires { place < places }
-        ensures { result ≡ distance places (self.hash % places) place }
+    pub fn distance(self, places: Modulus, place: usize) -> usize
+        requires { place < places.count }
+        ensures { result ≡ distance places.count (self.hash % places.count) place }
     {
-        let home = home_of_hash(places, self.hash);
+        let home = places.home_of_hash(self.hash);
         if home <= place {
             place - home
         } else {
-            places - (home - place)
+            places.count - (home - place)
         }
     }
 
@@ -89,9 +90,9 @@ impl Place {
     }
 
     /// What a look at this place tells, where `same` says whether it holds what is sought.
-    pub fn seen(self, places: usize, place: usize, same: bool) -> Seen
-        requires { place < places }
-        ensures { SeenAs self places place same result }
+    pub fn seen(self, places: Modulus, place: usize, same: bool) -> Seen
+        requires { place < places.count }
+        ensures { SeenAs self places.count place same result }
     {
         match self.position() {
             None => Seen::Empty,
@@ -102,13 +103,4 @@ impl Place {
             },
         }
     }
-}
-
-/// The home of a key of this hash, among so many places.
-pub fn home_of_hash(places: usize, hash: u64) -> usize
-    requires { 0 < places }
-    ensures value { result ≡ hash % places }
-    ensures within { result < places }
-{
-    (hash % places as u64) as usize
 }

@@ -65,6 +65,7 @@ impl PlaceList {
         requires { place < length self.now.slots }
         ensures position { position_in result ≡ resident self.now.slots place }
         ensures hash { HasHash self.now.hashes result }
+        ensures table { IsTable self.now.hashes self.now.slots }
     {
         self.places[place]
     }

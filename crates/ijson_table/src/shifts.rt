@@ -9,7 +9,8 @@ ghost use Rattle.ijson_table.specs.private.PlaceHashes.{displacement_in, positio
 ghost use Rattle.ijson_table.specs.private.Probe.{IsVacancy};
 ghost use Rattle.std.specs.List.{All, remove, swap_remove as swapped_out};
 
-use crate::place::{Place, home_of_hash};
+use crate::modulus::Modulus;
+use crate::place::Place;
 use crate::places::Seen;
 use crate::probe::{ProbeTarget, Probed, next_place, probe};
 use ijson_number::Looks;
@@ -38,12 +39,12 @@ impl<'a> ProbeTarget for Newcomer<'a> {
     }
 
     fn home(&self) -> usize {
-        home_of_hash(self.places.len(), self.hash)
+        Modulus::new(self.places.len()).home_of_hash(self.hash)
     }
 
     fn look(&self, place: usize, looks: &mut Looks) -> Seen {
         looks.add_one();
-        self.places[place].seen(self.places.len(), place, false)
+        self.places[place].seen(Modulus::new(self.places.len()), place, false)
     }
 }
 
@@ -72,14 +73,14 @@ impl<'a> ProbeTarget for Standing<'a> {
     }
 
     fn home(&self) -> usize {
-        home_of_hash(self.places.len(), self.hash)
+        Modulus::new(self.places.len()).home_of_hash(self.hash)
     }
 
     fn look(&self, place: usize, looks: &mut Looks) -> Seen {
         looks.add_one();
         let there = self.places[place];
         let same = there.position() == Some(self.position);
-        there.seen(self.places.len(), place, same)
+        there.seen(Modulus::new(self.places.len()), place, same)
     }
 }
 
@@ -162,7 +163,7 @@ fn shift_back(places: &mut [Place], from: usize)
         let Some(_resident) = behind.position() else {
             return;
         };
-        if behind.distance(places.len(), next) == 0 {
+        if behind.distance(Modulus::new(places.len()), next) == 0 {
             return;
         }
         places[gap] = behind;
@@ -229,7 +230,9 @@ fn wrapped(places: &[Place]) -> usize
 {
     for place in 0..places.len() {
         let there = places[place];
-        if there.position().is_none() || there.distance(places.len(), place) <= place {
+        if there.position().is_none()
+            || there.distance(Modulus::new(places.len()), place) <= place
+        {
             return place;
         }
     }

@@ -16,7 +16,7 @@ mod from_list;
 use crate::growth::{fit, grown_capacity, limited, list_with_room};
 use crate::hash::KeyHash;
 use crate::lookup::{Lookup, has_key};
-use crate::place::home_of_hash;
+use crate::modulus::Modulus;
 use crate::place_list::PlaceList;
 use crate::places::{Places, Seen, locate};
 use crate::probe::{Probed, probe};
@@ -207,6 +207,7 @@ impl<V, H: KeyHash> Table<V, H> {
         let lookup = Lookup {
             pairs: &self.pairs,
             places: &self.places,
+            modulus: Modulus::new(self.places.len()),
             hash,
             key,
         };
@@ -239,12 +240,12 @@ impl<V, H: KeyHash> Places for Table<V, H> {
     }
 
     fn home(&self, key: &str) -> usize {
-        home_of_hash(self.places.len(), H::hash(key))
+        Modulus::new(self.places.len()).home_of_hash(H::hash(key))
     }
 
     fn look(&self, place: usize, key: &str, looks: &mut Looks) -> Seen {
         looks.add_one();
-        let places = self.places.len();
+        let places = Modulus::new(self.places.len());
         let there = self.places.at(place);
         let same = match there.position() {
             None => false,

@@ -9,6 +9,7 @@ use super::Table;
 use crate::growth::{limited, split_rest};
 use crate::hash::KeyHash;
 use crate::lookup::Lookup;
+use crate::modulus::Modulus;
 use crate::place_list::PlaceList;
 use crate::probe::{Probed, probe};
 use crate::store::{PairStore, ReserveError};
@@ -70,8 +71,12 @@ fn place_new_keys<V, H: KeyHash>(pairs: &[(IString, V)], places: &mut PlaceList)
         → ComesAgain pairs.now result }
     ensures count { length places.new.slots ≡ length places.old.slots }
 {
+    if places.len() == 0 {
+        return 0;
+    }
+    let modulus = Modulus::new(places.len());
     for position in 0..pairs.len() {
-        if !place_new_key::<V, H>(pairs, places, position) {
+        if !place_new_key::<V, H>(pairs, places, modulus, position) {
             return position;
         }
     }
@@ -82,8 +87,10 @@ fn place_new_keys<V, H: KeyHash>(pairs: &[(IString, V)], places: &mut PlaceList)
 fn place_new_key<V, H: KeyHash>(
     pairs: &[(IString, V)],
     places: &mut PlaceList,
+    modulus: Modulus,
     position: usize,
 ) -> bool
+    requires counted { modulus.count ≡ length places.old.slots }
     requires within { position < length pairs.now }
     requires placed { FirstPlaced H.hash_of pairs.now position places.old }
     ensures placed { IsTrue result → FirstPlaced H.hash_of pairs.now (position + 1) places.new }
@@ -100,6 +107,7 @@ fn place_new_key<V, H: KeyHash>(
     let lookup = Lookup {
         pairs: &pairs[..position],
         places,
+        modulus,
         hash,
         key,
     };

@@ -14,8 +14,8 @@ invariant_of-result-in-Some c =
     let s = c.args.number.now in
     stored_form_of (decimal_of s) _ s.num c.in-Some.ensures.some
 
-pub returns-in-Some : goal.returns-in-Some
-returns-in-Some c =
+pub returns-in-Some-clause-number : goal.returns-in-Some-clause-number
+returns-in-Some-clause-number c =
     let s = c.args.number.now in
     form_has (decimal_of s) _ s.num.plain c.in-Some.ensures.some
 

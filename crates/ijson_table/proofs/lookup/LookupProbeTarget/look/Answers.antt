@@ -13,7 +13,7 @@ pub has_key-requires : goal.has_key-requires
 has_key-requires g c =
     let places = c.args.self.now.places.now in
     let there : resident places.slots c.args.place ≡ Some c.in-Some.at = sym c.at-there.ensures.position ∙ (sym c.position.ensures ∙ c.in-Some.is) in
-    omega (arith, in_list places.hashes places.slots c.len-places.ensures.table c.args.place c.in-Some.at c.requires.within there, c.args.self.now.listed)
+    omega (arith, in_list places.hashes places.slots c.at-there.ensures.table c.args.place c.in-Some.at c.requires.within there, c.args.self.now.listed)
 
 pub returns-clause-sees : goal.returns-clause-sees
 returns-clause-sees g c =
@@ -39,4 +39,4 @@ returns-clause-sees g c =
           w.same-is ∙ (w.if-has_hash.false ∙ other_hash (get_or places.hashes i 0) self.hash (bytes_eq (get_or keys i []) self.key.now) apart)
     ] in
     looks_at_place places.hashes places.slots c.args.place there c.match-position.same test c.seen.result c.at-there.ensures.position c.at-there.ensures.hash
-    (subst (λ n. SeenAs there n c.args.place c.match-position.same c.seen.result) c.len-places.ensures.count c.seen.ensures) sought
+    (subst (λ n. SeenAs there n c.args.place c.match-position.same c.seen.result) c.args.self.now.counted c.seen.ensures) sought

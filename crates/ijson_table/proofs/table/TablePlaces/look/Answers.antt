@@ -15,7 +15,7 @@ has_key-same-requires g c =
     let places = c.self.inside.places in
     let there : resident places.slots c.args.place ≡ Some c.in-Some.at = sym c.at-there.ensures.position ∙ (sym c.position.ensures ∙ c.in-Some.is) in
     let within : c.args.place < length places.slots = omega (arith, c.requires.within, ap (λ (t : Placed g.row.V.Denot). length t.places) c.self.view_is) in
-    omega (arith, in_list places.hashes places.slots c.len-places.ensures.table c.args.place c.in-Some.at within there, ap length c.self.invariant.0.hashes, length-hashes g.H.KeyHash.hash_of c.self.inside.pairs.items, ap length c.deref.ensures.value)
+    omega (arith, in_list places.hashes places.slots c.at-there.ensures.table c.args.place c.in-Some.at within there, ap length c.self.invariant.0.hashes, length-hashes g.H.KeyHash.hash_of c.self.inside.pairs.items, ap length c.deref.ensures.value)
 
 pub returns-clause-sees : goal.returns-clause-sees
 returns-clause-sees g c =
@@ -40,4 +40,4 @@ returns-clause-sees g c =
     ] in
     subst (λ (t : Placed g.row.V.Denot). Sees hash (keys_of t.store.pairs) t.places c.args.place key c.seen.result) c.self.view_is
     (sees_place hash keys places.slots c.args.place there c.match-position.same key c.seen.result c.at-there.ensures.position (subst (λ hs. HasHash hs there) c.self.invariant.0.hashes c.at-there.ensures.hash)
-    (subst (λ n. SeenAs there n c.args.place c.match-position.same c.seen.result) c.len-places.ensures.count c.seen.ensures) sought)
+    (subst (λ n. SeenAs there n c.args.place c.match-position.same c.seen.result) (c.new-places.ensures ∙ c.len.ensures.count) c.seen.ensures) sought)

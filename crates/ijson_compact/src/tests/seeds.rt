@@ -1,0 +1,43 @@
+//! The seed of the program's hasher.
+
+use crate::seeded::SeededState;
+use std::hash::BuildHasher;
+use std::io;
+use std::io::ErrorKind;
+use std::process::Abort;
+use std::random::RandomSource;
+
+/// Gives one byte over and over, or fails where it has none.
+#[derive(Drop)]
+struct OneByte {
+    byte: Option<u8>,
+}
+
+impl RandomSource for OneByte {
+    fn fill_bytes(&self, buf: &mut [u8]) -> io::Result<()> {
+        match self.byte {
+            Some(byte) => {
+                buf.fill(byte);
+                Ok(())
+            }
+            None => Err(io::Error::from(ErrorKind::Other)),
+        }
+    }
+}
+
+/// The hash of a word with a seed of this byte.
+fn hash(rt: &impl Abort, byte: u8) -> u64 {
+    let source = OneByte { byte: Some(byte) };
+    SeededState::new(&source)
+        .expect(rt, "a seed")
+        .hash_one(7u64)
+}
+
+#[test]
+fn a_seed_decides_each_hash(rt: HostRuntime) {
+    for byte in 0..50u8 {
+        assert!(rt; hash(&rt, byte) == hash(&rt, byte));
+        assert!(rt; hash(&rt, byte) != hash(&rt, byte + 1));
+    }
+    assert!(rt; SeededState::new(&OneByte { byte: None }).is_err());
+}
