@@ -1,4 +1,8 @@
 pub mod AllAreLong
-pub mod Keys
+pub mod Chains
+pub mod IsCache
+pub mod IsTable
 pub mod IsText
+pub mod Keys
 pub mod Stored
+pub mod Kinds

@@ -2,21 +2,21 @@
 ghost use Rattle.std.specs.Prelude.{◌≡◌, ◌<◌, ◌≤◌, ◌==◌, false, length, IfOk, OnOk, OnErr};
 ghost use Rattle.std.specs.FinSet as set;
 
-use crate::cached::{CachedText, SoughtText, hash_of};
+use crate::hash::hash_of;
+use crate::table::{TextTable, half_of_hash};
 use crate::text::IString;
-use indexmap::IndexSet;
 use std::alloc::{AllocError, Global};
-use std::hash::{BuildHasher, BuildHasherDefault, FoldHasher};
+use std::hash::BuildHasher;
 use std::marker::Model;
 
 /// A set of texts of more than 7 bytes, each kept once. `IString::intern` adds to it, and shares what it holds. A text stays
-/// until `clear`, also where nobody else has it. Texts that a stranger chose want a hasher with a random seed, as `RandomState`
-/// is.
+/// until `clear`, also where nobody else has it. Beside its own memory it takes 24 bytes here, in a list that doubles where it is
+/// full, and 5 to 10 for the home that its hash leads to. At most 2^32 - 1 texts fit, and one more is refused as for want of
+/// memory. Texts that a stranger chose want a hasher with a random seed, as `RandomState` is.
 #[derive(Drop)]
 pub struct StringCache<S: BuildHasher> {
     alloc: Global,
-    /// Their keys are hashes, which is why a fixed hasher does.
-    texts: IndexSet<CachedText, BuildHasherDefault<FoldHasher>>,
+    texts: TextTable,
     hasher: S,
 }
 
@@ -25,29 +25,27 @@ impl<S: BuildHasher> Model for StringCache<S> {
     ghost use Rattle.std.specs.FinSet as set;
     ghost use Rattle.std.specs.Prelude.{[], ◌∷◌, fold};
     ghost use Rattle.ijson_string.specs.Cache.{Texts};
-    ghost use Rattle.ijson_string.specs.private.AllAreLong.{AllAreLong};
-    ghost use Rattle.ijson_string.specs.private.Keys.{texts_of, AreHashed};
+    ghost use Rattle.ijson_string.specs.private.IsCache.{IsCache};
+    ghost use Rattle.ijson_string.specs.private.Keys.{texts_of};
 
     ghost Value = { Texts };
 
     ghost coded = { set.code (coded_list coded_ℕ) };
 
-    ghost view = { λ c. set.from_list (texts_of c.texts.keys) };
+    ghost view = { λ c. set.from_list (texts_of c.texts) };
 
-    ghost invariant = { λ c. AllAreLong (set.from_list (texts_of c.texts.keys))
-        × AreHashed (λ text. S.Hasher.finish (fold S.Hasher.write (S.build_hasher c.hasher) (text ∷ [])))
-        c.texts.keys };
+    ghost invariant = { λ c. IsCache (λ text. S.Hasher.finish (fold S.Hasher.write (S.build_hasher c.hasher) (text ∷ [])))
+        c.texts };
 }
 
 impl<S: BuildHasher> StringCache<S> {
     /// An empty cache, which takes its memory from `alloc` as it grows. It takes none before the first long text.
-    #[tactic(auto, using(crate::proofs::Sets::AllAreLong_no_keys))]
     pub fn new(alloc: Global, hasher: S) -> StringCache<S>
         ensures { result ≡ set.empty }
     {
         StringCache {
             alloc,
-            texts: IndexSet::new(alloc),
+            texts: TextTable::new(alloc),
             hasher,
         }
     }
@@ -72,33 +70,33 @@ impl<S: BuildHasher> StringCache<S> {
         ensures exact { result ≡ set.contains self.now text.now }
         ensures short { length text.now ≤ 7 → result ≡ false }
     {
-        let hash = hash_of(&self.hasher, text);
-        self.texts.contains(SoughtText { hash, text })
+        let half = half_of_hash(hash_of(&self.hasher, text));
+        self.texts.find(half, text).is_some()
     }
 
-    /// Takes out every text. Each `IString` keeps the text that it has. It takes time linear in their count, and keeps the room
-    /// for as many.
-    #[tactic(auto, using(crate::proofs::Sets::AllAreLong_no_keys))]
+    /// Takes out every text. Each `IString` keeps the text that it has. The room for the most texts that there were stays, and it
+    /// takes time linear in that.
     pub fn clear(&mut self)
         ensures { self.new ≡ set.empty }
     {
         self.texts.clear();
     }
 
-    /// The shared copy of a long text, which is added if it is new. Refused memory leaves the set.
+    /// The shared copy of a long text, which is added if it is new. Where memory is refused, or 2^32 - 1 texts are there, the set
+    /// stays as it was.
     pub(crate) fn share(&mut self, text: &str) -> Result<IString, AllocError>
         requires { 7 < length text.now }
         ensures text { IfOk result (λ shared. shared ≡ text.now) }
         ensures added { OnOk result (self.new ≡ set.insert self.old text.now) }
         ensures refused { OnErr result (self.new ≡ self.old) }
     {
-        let hash = hash_of(&self.hasher, text);
-        if let Some(shared) = self.texts.get(SoughtText { hash, text }) {
-            return shared.text.clone();
+        let half = half_of_hash(hash_of(&self.hasher, text));
+        if let Some(shared) = self.texts.find(half, text) {
+            return shared.clone();
         }
         let shared = IString::long(self.alloc, text)?;
         let text = shared.clone()?;
-        self.texts.insert(CachedText { hash, text })?;
+        self.texts.push(half, text)?;
         Ok(shared)
     }
 }

@@ -3,7 +3,8 @@
 
 mod block;
 mod cache;
-mod cached;
+mod hash;
+mod table;
 mod text;
 
 pub use cache::StringCache;

@@ -1,20 +1,24 @@
--- The keys of a cache: texts, each beside its hash. This project's own.
-use Rattle.std.specs.Prelude.{◌≡◌, ◌&&◌, ℕ, List, map, nat_eq, true}
-use Rattle.std.proofs.lemmas.Bool.Decides.{Decides-eqb}
-use Rattle.std.specs.Cmp.{first_so, second_so}
-use Rattle.std.specs.Cmp.Lexicographic.{bytes_decides}
+-- The keys of a cache: texts, each beside a half of its hash. This project's own.
+use Rattle.std.specs.Prelude.{◌≡◌, ◌&&◌, ℕ, Bool, List, map, nat_eq}
 use Rattle.std.specs.List.{AllByRecursion}
 use Rattle.std.specs.Str.{bytes_eq}
-use Rattle.ijson_string.specs.declared.cached.CachedText.{CachedText}
+use Rattle.ijson_string.specs.private.Chains.{half_of, home_of}
 
-abbrev pub texts_of : List CachedText → List (List ℕ)
+pub record Key : Type 0 where
+  pub half : ℕ
+  pub text : List ℕ
+
+abbrev pub texts_of : List Key → List (List ℕ)
 texts_of keys = map (λ k. k.text) keys
 
--- each stands beside the hash of its own text
-abbrev pub AreHashed : (List ℕ → ℕ) → List CachedText → Type 0
-AreHashed hash keys = AllByRecursion (λ k. k.hash ≡ hash k.text) keys
+-- the home of each, among so many
+abbrev pub homes_of : ℕ → List Key → List ℕ
+homes_of count keys = map (λ k. home_of count k.half) keys
 
--- keys whose tests both hold are one
-pub same_key : (m n : ℕ) (s t : List ℕ) → (nat_eq m n && bytes_eq s t) ≡ true → (m ≡ n) × (s ≡ t)
-same_key m n s t h =
-    ((Decides-eqb m n).0 (first_so (nat_eq m n) (bytes_eq s t) h), (bytes_decides s t).0 (second_so (nat_eq m n) (bytes_eq s t) h))
+-- whether a key has this half and this text
+abbrev pub is_key : ℕ → List ℕ → Key → Bool
+is_key half text k = nat_eq half k.half && bytes_eq text k.text
+
+-- each stands beside the half of its own text's hash
+abbrev pub AreHashed : (List ℕ → ℕ) → List Key → Type 0
+AreHashed hash keys = AllByRecursion (λ k. k.half ≡ half_of (hash k.text)) keys

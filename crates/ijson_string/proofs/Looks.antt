@@ -1,0 +1,140 @@
+-- A look-up goes along the chain of a home, from the last text back.
+use Rattle.std.proofs.Common.{◌≡◌, ◌∙◌, ap, ap₂, sym, subst, refl, ℕ, zero, suc, ◌+◌, ◌-◌, ◌<◌, ◌≤◌, ◌≢◌, true, false, ◌&&◌, ◌||◌, List, [], ◌∷◌, length, get_or, take, if◌then◌else◌, arith, add-one}
+use Rattle.std.specs.Prelude.{◌==◌, nat_eq}
+use Rattle.std.specs.Cmp.Lexicographic.{bytes_decides}
+use Rattle.std.specs.List.{list_any}
+use Rattle.std.specs.Str.{bytes_eq}
+use Rattle.std.proofs.lemmas.Bool.{eq-eqb, eqb-false, ne_eqb}
+use Rattle.std.proofs.Math.Bool.{and-false, or-false}
+use Rattle.std.proofs.Math.Dec.{eqb-suc-zero}
+use Rattle.std.proofs.Math.Seq.{take-length}
+use Rattle.std.proofs.lemmas.List.{get_or-map, get_or-take, length-map, length-take, length-take-le, take-map, take-take}
+use Rattle.std.proofs.lemmas.List.Folds.{list_any_at, list_any_more}
+use Rattle.ijson_string.specs.declared.table.Entry.{Entry}
+use Rattle.ijson_string.specs.private.Chains.{home_of, last_of, IsChained}
+use Rattle.ijson_string.specs.private.IsTable.{key_of, keys_of, befores_of}
+use Rattle.ijson_string.specs.private.Keys.{Key, homes_of, is_key}
+use Rattle.ijson_string.proofs.Chains.{last_of-within, last_of-here}
+
+module _ (half : ℕ) (text : List ℕ) where
+  -- a key of this half and this text is the key
+  pub is_same : (k : Key) → k.half ≡ half → k.text ≡ text → is_key half text k ≡ true
+  is_same k h t = ap₂ ◌&&◌ (eq-eqb half k.half (sym h)) ((bytes_decides text k.text).1 (sym t))
+
+  -- one of another half is not
+  pub is_other_half : (k : Key) → k.half ≢ half → is_key half text k ≡ false
+  is_other_half k h = ap (λ b. b && bytes_eq text k.text) (ne_eqb half k.half (λ e. h (sym e)))
+
+  -- and neither is one of another text
+  pub is_other_text : (k : Key) → k.text ≢ text → is_key half text k ≡ false
+  is_other_text k t = elim (bytes_eq text k.text)
+      as (λ b. bytes_eq text k.text ≡ b → (nat_eq half k.half && b) ≡ false) [
+        | true ↦ λ same. absurd (t (sym ((bytes_decides text k.text).0 same)))
+        | false ↦ λ _. and-false (nat_eq half k.half)
+      ] refl
+
+module _ (count half : ℕ) (text : List ℕ) where
+  -- nor one of another home
+  is_other_home : (k : Key) → (home_of count k.half == home_of count half) ≡ false → is_key half text k ≡ false
+  is_other_home k other = is_other_half half text k (λ e. eqb-false _ _ other (ap (home_of count) e))
+
+  -- the key is not past the last one of its home
+  any-last : (keys : List Key)
+      → list_any (is_key half text) keys
+      ≡ list_any (is_key half text) (take (last_of (home_of count half) (homes_of count keys)) keys)
+  any-last [] = refl
+  any-last (k ∷ keys) =
+      elim (last_of (home_of count half) (homes_of count keys))
+      as (λ n. list_any (is_key half text) keys ≡ list_any (is_key half text) (take n keys)
+      → list_any (is_key half text) (k ∷ keys)
+      ≡ list_any (is_key half text) (take (if n == 0 then (if home_of count k.half == home_of count half then 1 else 0) else n + 1) (k ∷ keys))) [
+        | zero ↦ λ none. elim (home_of count k.half == home_of count half)
+            as (λ b. (home_of count k.half == home_of count half) ≡ b
+            → list_any (is_key half text) (k ∷ keys) ≡ list_any (is_key half text) (take (if b then 1 else 0) (k ∷ keys))) [
+              | true ↦ λ _. ap (λ b. is_key half text k || b) none
+              | false ↦ λ other. ap₂ ◌||◌ (is_other_home k other) none
+            ] refl
+        | suc n ↦ λ some.
+            subst (λ b. list_any (is_key half text) (k ∷ keys) ≡ list_any (is_key half text) (take (if b then (if home_of count k.half == home_of count half then 1 else 0) else suc n + 1) (k ∷ keys)))
+            (sym (eqb-suc-zero n)) (rw (add-one (suc n)) (ap (λ b. is_key half text k || b) some))
+      ] (any-last keys)
+
+  -- What a look-up has before it: the key, if it is anywhere, is among the first `at` keys, the last of which has its home.
+  pub record IsAhead (keys : List Key) (at : ℕ) : Type 0 where
+    pub within : at ≤ length keys
+    pub here : 0 < at → get_or (homes_of count keys) (at - 1) 0 ≡ home_of count half
+    pub ahead : list_any (is_key half text) keys ≡ list_any (is_key half text) (take at keys)
+
+  -- where it is among the first n, it is so up to the last of its home there
+  IsAhead-last : (keys : List Key) (n at : ℕ) → n ≤ length keys
+      → list_any (is_key half text) keys ≡ list_any (is_key half text) (take n keys)
+      → at ≡ last_of (home_of count half) (take n (homes_of count keys)) → IsAhead keys at
+  IsAhead-last keys n at some ahead e =
+      let homes = homes_of count keys in
+      let as_many = length-map keys (λ k. home_of count k.half) in
+      let first = length-take-le n homes (omega arith) in
+      let least : at ≤ n = omega (arith, last_of-within (home_of count half) (take n homes)) in
+      record {
+        within = omega arith;
+        here = λ there.
+            sym (get_or-take n homes (at - 1) 0 (omega arith)) ∙ ap (λ m. get_or (take n homes) (m - 1) 0) e
+            ∙ last_of-here (home_of count half) (take n homes) (omega arith);
+        ahead =
+            ahead ∙ any-last (take n keys)
+            ∙ ap (λ m. list_any (is_key half text) (take m (take n keys)))
+            (ap (last_of (home_of count half)) (sym (take-map (λ k. home_of count k.half) n keys)) ∙ sym e)
+            ∙ ap (list_any (is_key half text)) (take-take at n keys least);
+      }
+
+  module _ (entries : List Entry) (last : List ℕ) (chained : IsChained (homes_of count (keys_of entries)) (befores_of entries) last) where
+    -- at the start
+    pub IsAhead-start : home_of count half < length last → IsAhead (keys_of entries) (get_or last (home_of count half) 0)
+    IsAhead-start inside =
+        let keys = keys_of entries in
+        let as_many = length-map keys (λ k. home_of count k.half) in
+        IsAhead-last keys (length keys) _ (omega arith) (ap (list_any (is_key half text)) (sym (take-length keys)))
+        (chained.ends _ inside ∙ ap (last_of (home_of count half)) (sym (take-length (homes_of count keys)) ∙ ap (λ n. take n (homes_of count keys)) as_many))
+
+    module _ (at : ℕ) (e : Entry) (ahead : IsAhead (keys_of entries) at) (some : 0 < at) (there : e ≡ get_or entries (at - 1) e) where
+      -- the look is at an entry
+      looks_within : at - 1 < length entries
+      looks_within = let as_many = length-map entries key_of in let within = ahead.within in omega arith
+
+      key_there : key_of e ≡ get_or (keys_of entries) (at - 1) (key_of e)
+      key_there = ap key_of there ∙ sym (get_or-map key_of entries (at - 1) e (key_of e) looks_within)
+
+      leads : e.before ≡ last_of (home_of count half) (take (at - 1) (homes_of count (keys_of entries)))
+      leads =
+          let as_many = length-map entries key_of in
+          let homes = length-map (keys_of entries) (λ k. home_of count k.half) in
+          let within = looks_within in
+          ap (λ e. e.before) there ∙ sym (get_or-map (λ e. e.before) entries (at - 1) e 0 looks_within)
+          ∙ chained.links (at - 1) (omega arith) ∙ ap (λ h. last_of h (take (at - 1) (homes_of count (keys_of entries)))) (ahead.here some)
+
+      -- an entry that is the key
+      pub is_there : is_key half text (key_of e) ≡ true → list_any (is_key half text) (keys_of entries) ≡ true
+      is_there same =
+          let as_many = length-map entries key_of in
+          let within = looks_within in
+          list_any_at (is_key half text) (keys_of entries) (at - 1) (key_of e) (omega arith)
+          (ap (is_key half text) (sym key_there) ∙ same)
+
+      -- the one before it is nearer to the front
+      pub falls : e.before < at
+      falls =
+          let homes = homes_of count (keys_of entries) in
+          omega (arith, leads, last_of-within (home_of count half) (take (at - 1) homes), length-take (at - 1) homes)
+
+      -- and the key is there or further on, where this is another
+      pub IsAhead-step : is_key half text (key_of e) ≡ false → IsAhead (keys_of entries) e.before
+      IsAhead-step other =
+          let keys = keys_of entries in
+          let as_many = length-map entries key_of in
+          let within = looks_within in
+          let on : at - 1 + 1 ≡ at = omega arith in
+          IsAhead-last keys (at - 1) _ (omega arith)
+          (ahead.ahead ∙ ap (λ n. list_any (is_key half text) (take n keys)) (sym on)
+          ∙ list_any_more (is_key half text) keys (at - 1) (key_of e) (omega arith)
+          ∙ ap (λ b. list_any (is_key half text) (take (at - 1) keys) || b) (ap (is_key half text) (sym key_there) ∙ other)
+          ∙ or-false _)
+          leads

@@ -1,0 +1,31 @@
+//! The hash of a text.
+ghost use Rattle.std.specs.Prelude.{[], ◌∷◌, ◌≡◌, fold};
+ghost use Rattle.std.proofs.Common.{ap};
+ghost use Rattle.std.specs.Cmp.Lexicographic.{bytes_decides};
+
+use std::hash::{BuildHasher, Hash, Hasher};
+
+/// A text as it is hashed: its bytes in one write, with nothing behind them, since nothing but the text is hashed.
+#[derive(Clone, Copy, PartialEq, Eq)]
+pub(crate) struct TextBytes<'a> {
+    pub(crate) bytes: &'a [u8],
+}
+
+impl<'a> Hash for TextBytes<'a> {
+    ghost hash_input = { λ t. t.bytes.now ∷ [] };
+
+    ghost respects_eq = { λ x y h. ap (λ bytes. bytes ∷ []) ((bytes_decides x.bytes.now y.bytes.now).0 h) };
+
+    fn hash<H: Hasher>(&self, state: &mut H) {
+        state.write(self.bytes);
+    }
+}
+
+/// The hash of a text.
+pub(crate) fn hash_of<S: BuildHasher>(hasher: &S, text: &str) -> u64
+    ensures { result ≡ S.Hasher.finish (fold S.Hasher.write (S.build_hasher hasher.now) (text.now ∷ [])) }
+{
+    hasher.hash_one(TextBytes {
+        bytes: text.as_bytes(),
+    })
+}
