@@ -75,7 +75,7 @@ room_left front k digits count few =
     let whole : 10 ^ k * 10 ^ (19 - k) ≡ 10 ^ 19 = sym (pow-add 10 k (19 - k)) ∙ ap (λ j. 10 ^ j) all in
     omega arith
 
-not_le : (a b : ℤ) → b <ℤ a → int_le a b ≡ false
+pub not_le : (a b : ℤ) → b <ℤ a → int_le a b ≡ false
 not_le a b h = grind (arith, ints)
 
 -- taking tens out of the mantissa first changes nothing

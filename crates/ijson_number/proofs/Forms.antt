@@ -1,5 +1,5 @@
 -- The stored form, case by case.
-use Rattle.std.proofs.Common.{◌≡◌, ◌∙◌, ℕ, zero, suc, ◌+◌, ◌-◌, ◌*◌, ◌^◌, ◌<◌, ◌≤◌, Bool, true, false, refl, ap, sym, subst, arith, List, inl, inr}
+use Rattle.std.proofs.Common.{◌≡◌, ◌∙◌, ℕ, zero, suc, ◌+◌, ◌-◌, ◌*◌, ◌^◌, ◌<◌, ◌≤◌, Bool, true, false, refl, ap, sym, arith, List, inl, inr}
 use Rattle.std.specs.Prelude.{ℤ, pos, negsuc, neg_ℤ, nat_abs, int_le, int_lt, ◌&&◌, ◌*ℤ◌, ◌-ℤ◌, ◌≤ℤ◌, ◌<ℤ◌, FitsSigned}
 use Rattle.std.specs.Int.{FitsUnsigned}
 use Rattle.std.proofs.lemmas.Bool.{cases_lt}
@@ -178,11 +178,3 @@ module _ (n : Decimal) (plain : IsPlain n) (long : 10 ^ 20 ≤ nat_abs n.mantiss
       by_point : (p : Bool) → n.point ≡ p → form_of n ≡ digits_form n
       by_point true h = point_digits h
       by_point false h = no_point_digits h
-
--- digits that are stored part by part
-abbrev IsDigitsForm : Bool → List ℕ → ℤ → Bool → Type 0
-IsDigitsForm m ds e p = form_of (stored_number m ds e p) ≡ digits m ds e p
-
-pub stored_parts : (m n : Bool) (ds es : List ℕ) (e f : ℤ) (p q : Bool) → m ≡ n → ds ≡ es → e ≡ f → p ≡ q → IsDigitsForm n es f q → IsDigitsForm m ds e p
-stored_parts m n ds es e f p q a b c d h =
-    subst (λ x. IsDigitsForm m ds e x) (sym d) (subst (λ x. IsDigitsForm m ds x q) (sym c) (subst (λ x. IsDigitsForm m x f q) (sym b) (subst (λ x. IsDigitsForm x es f q) (sym a) h)))

@@ -26,4 +26,5 @@ pub mod IntegerWords
 pub mod DigitRows
 pub mod WordTexts
 pub mod FewDigits
+pub mod ShortNumbers
 pub mod RowTexts

@@ -1,8 +1,8 @@
 -- What the scanner owes, once the zeros are off.
-use Rattle.std.proofs.Common.{◌≡◌, ◌≢◌, ℕ, zero, suc, ◌-◌, ◌<◌, ◌≤◌, Bool, false, List, [], ◌∷◌, ◌++◌, length, get_or, replicate, refl, ap, inl, inr, arith}
+use Rattle.std.proofs.Common.{◌≡◌, ◌≢◌, ℕ, zero, suc, ◌+◌, ◌-◌, ◌<◌, ◌≤◌, Bool, false, List, [], ◌∷◌, ◌++◌, length, get_or, replicate, refl, ap, sym, ◌∙◌, length-append, inl, inr, arith}
 use Rattle.std.specs.Prelude.{ℤ, pos}
 use Rattle.std.specs.List.{AllByRecursion}
-use Rattle.std.proofs.lemmas.List.{length-map, nil_from_length}
+use Rattle.std.proofs.lemmas.List.{length-map, map-append, nil_from_length}
 use Rattle.std.proofs.lemmas.List.Elements.{All-from_recursion}
 use Rattle.std.specs.Int.Digits.{number_from_digits}
 use Rattle.ijson_number.specs.Decimal.{Decimal}
@@ -28,6 +28,13 @@ digit_at (b ∷ bs) (suc i) h l = digit_at bs i h.1 (omega arith)
 
 not_zero_at : (bs : List ℕ) (i : ℕ) → AllDigits bs → i < length bs → get_or bs i 0 ≢ 48 → get_or (digits_from_text bs) i 0 ≢ 0
 not_zero_at bs i h l n e = let r = digit_at bs i h l in n (omega arith)
+
+pub count_is : (front back : List ℕ) → length (digits_from_text (front ++ back)) ≡ length front + length back
+count_is front back = length-map {A = ℕ} {B = ℕ} (front ++ back) (λ b. b - 48) ∙ length-append front back
+
+-- the digits of one text and then of another
+pub joined : (front back one two : List ℕ) → one ≡ digits_from_text front → two ≡ one ++ digits_from_text back → two ≡ digits_from_text (front ++ back)
+joined front back one two a b = b ∙ ap (λ x. x ++ digits_from_text back) a ∙ sym (map-append {A = ℕ} {B = ℕ} (λ b. b - 48) front back)
 
 pub text_stripped : (bs : List ℕ) → AllDigits bs → BeginsWithNoZero bs → EndsWithNoZero bs → IsStripped (digits_from_text bs)
 text_stripped bs h f l =

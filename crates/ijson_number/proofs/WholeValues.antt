@@ -76,11 +76,14 @@ below_cmp_is n z h =
     let e : n.exponent -ℤ n.exponent ≡ pos 0 = omega (arith, ints) in
     rescale n (integer z) n.exponent (omega (arith, ints)) h ∙ rw (e, times_one n.mantissa) refl
 
+-- a number times ten or a hundred or more ends in zero
+pub ends_in_zero : (n k : ℕ) → n * 10 ^ suc k % 10 ≡ 0
+ends_in_zero n k =
+    let e : n * (10 * 10 ^ k) ≡ n * 10 ^ k * 10 = omega arith in
+    rw (pow-succ' 10 k, e) (mul-mod_left (n * 10 ^ k) 10)
+
 ten_divides : (m z : ℤ) (k : ℕ) → m ≡ z *ℤ pos (10 ^ suc k) → nat_abs m % 10 ≡ 0
-ten_divides m z k e =
-    let f : nat_abs m ≡ nat_abs z * (10 * 10 ^ k) = rw (pow-succ' 10 k) at (ap nat_abs e ∙ abs_times z (10 ^ suc k)) in
-    let g : nat_abs m ≡ nat_abs z * 10 ^ k * 10 = omega arith in
-    rw g (mul-mod_left (nat_abs z * 10 ^ k) 10)
+ten_divides m z k e = rw (ap nat_abs e ∙ abs_times z (10 ^ suc k)) (ends_in_zero (nat_abs z) k)
 
 -- a number with a fraction has no whole value
 pub fraction_cmp : (n : Decimal) (z : ℤ) → IsPlain n → n.exponent <ℤ pos 0 → HasValue n z → ⊥

@@ -2,7 +2,7 @@ pub mod NumberBytes
 pub mod Reading
 pub mod Scanned
 pub mod Front
-pub mod StoredDigits
+pub mod ShortDigits
 pub mod StoredNumber
 pub mod Stripped
 pub mod FormNumber

@@ -7,14 +7,16 @@ use crate::stored::{LongNumber, Stored};
 use std::alloc::AllocError;
 
 impl Clone for LongNumber {
-    ghost is_clone = { λ n copy. copy ≡ n };
+    ghost use Rattle.ijson_number.specs.private.Stored.{long_form};
+
+    ghost is_clone = { λ n copy. long_form copy ≡ long_form n };
 
     fn clone(&self) -> Result<LongNumber, AllocError> {
         let digits = self.digits.clone()?;
         Ok(LongNumber {
+            exponent: self.exponent,
             negative: self.negative,
             point: self.point,
-            exponent: self.exponent,
             digits,
         })
     }
@@ -32,9 +34,13 @@ impl Clone for Stored {
             Stored::Packed(word) => Ok(Stored::Packed(*word)),
             Stored::I64(value) => Ok(Stored::I64(*value)),
             Stored::U64(value) => Ok(Stored::U64(*value)),
-            Stored::Digits(number) => {
+            Stored::Short(number) => {
                 let number = number.clone()?;
-                Ok(Stored::Digits(number))
+                Ok(Stored::Short(number))
+            }
+            Stored::Long(number) => {
+                let number = number.clone()?;
+                Ok(Stored::Long(number))
             }
         }
     }

@@ -1,41 +1,79 @@
-//! Digits, of which few are kept in place.
-ghost use Rattle.std.specs.Prelude.{◌≡◌, ◌<◌, ◌≤◌, ◌+◌, ◌++◌, length, IfOk, OnOk, OnErr};
+//! The digits that a number keeps.
+ghost use Rattle.std.specs.Prelude.{◌≡◌, ◌<◌, ◌≤◌, ◌+◌, ◌++◌, length, IfSome, IfNone, OnOk};
 ghost use Rattle.ijson_number.specs.Grammar.{AllDigits};
-ghost use Rattle.ijson_number.specs.private.Stripped.{IsStripped, digits_from_text};
+ghost use Rattle.ijson_number.specs.private.Stripped.{digits_from_text};
 ghost use Rattle.std.specs.Prelude.{pos, neg_ℤ, ◌+ℤ◌, ◌<ℤ◌, ◌^◌, FitsSigned};
+ghost use Rattle.std.specs.Int.Digits.{digits_of};
 ghost use mir.Syntax.{w128};
 ghost use Rattle.arrayvec.specs.ArrayVec.{array_vec_len};
 
 use arrayvec::ArrayVec;
-use std::alloc::{AllocError, Global};
-use std::marker::Model;
+use itoa::write_digits;
+use std::alloc::AllocError;
 
-/// How many digits are kept in place.
-pub const IN_PLACE: usize = 20;
+/// How many digits a short number has at most: all that the front of a text has.
+pub const SHORT: usize = 19;
 
-#[derive(Drop)]
-enum Storage {
-    InPlace(ArrayVec<u8, 20>),
-    Apart(Vec<u8>),
+/// Makes digits of all of a text at once, and 0 of what stands in front of them.
+#[inline(always)]
+pub fn make_digits(text: &[u8], room: &mut [u8])
+    requires { length room.old ≡ length text.now }
+    ensures { room.new ≡ digits_from_text text.now }
+{
+    for at in 0..room.len() {
+        room[at] = text[at].saturating_sub(b'0');
+    }
 }
 
-/// Digits from 0 to 9, the most significant first, with no 0 at either end.
-#[derive(Drop)]
-pub struct Digits {
-    storage: Storage,
+/// At most 19 digits, at the end of their room, which has 0 before them.
+#[derive(Clone, Copy, Drop)]
+pub struct ShortDigits {
+    count: u8,
+    room: [u8; SHORT],
+    ghost few: { count ≤ 19 },
 }
 
-impl Model for Digits {
-    ghost use Rattle.std.specs.Prelude.{List, ℕ};
+impl ShortDigits {
+    ghost use Rattle.ijson_number.specs.private.ShortDigits.{short_digits};
 
-    ghost Value = { List ℕ };
+    /// The same digits, where they are so few.
+    pub fn new(digits: &[u8]) -> Option<ShortDigits>
+        ensures same { IfSome result (λ d. short_digits d ≡ digits.now) }
+        ensures none { IfNone result (19 < length digits.now) }
+    {
+        let count = digits.len();
+        if count > SHORT {
+            return None;
+        }
+        let mut room = [0; SHORT];
+        room[SHORT - count..].copy_from_slice(digits);
+        Some(ShortDigits {
+            count: count as u8,
+            room,
+        })
+    }
 
-    ghost use Rattle.ijson_number.specs.private.StoredDigits.{stored_digits, IsStoredByLength};
-    ghost use Rattle.ijson_number.specs.private.Stripped.{IsStripped};
+    /// The digits of a number that isn't zero.
+    pub fn of_number(number: u64) -> ShortDigits
+        requires some { 0 < number }
+        requires few { number < 10 ^ 19 }
+        ensures { short_digits result ≡ digits_of 10 number }
+    {
+        let (mut text, mut room) = ([0; SHORT], [0; SHORT]);
+        let start = write_digits(number, &mut text, SHORT);
+        make_digits(&text, &mut room);
+        ShortDigits {
+            count: (SHORT - start) as u8,
+            room,
+        }
+    }
 
-    ghost view = { λ d. stored_digits d.storage };
-
-    ghost invariant = { λ d. IsStoredByLength d.storage × IsStripped (stored_digits d.storage) };
+    /// The digits.
+    pub fn as_slice(&self) -> &[u8]
+        ensures { result.now ≡ short_digits self.now }
+    {
+        &self.room[SHORT - self.count as usize..]
+    }
 }
 
 /// Appends the digits that a text has.
@@ -51,7 +89,7 @@ pub fn push_in_place(digits: &mut ArrayVec<u8, 20>, text: &[u8])
 }
 
 /// Appends the digits that a text has.
-fn push_apart(digits: &mut Vec<u8>, text: &[u8]) -> Result<(), AllocError>
+pub fn push_apart(digits: &mut Vec<u8>, text: &[u8]) -> Result<(), AllocError>
     requires { AllDigits text.now }
     ensures { OnOk result (digits.new.items ≡ digits.old.items ++ digits_from_text text.now) }
 {
@@ -59,71 +97,6 @@ fn push_apart(digits: &mut Vec<u8>, text: &[u8]) -> Result<(), AllocError>
         digits.push(*byte - b'0')?;
     }
     Ok(())
-}
-
-impl Digits {
-    /// The digits that two texts have, one after the other.
-    pub fn from_text(alloc: Global, front: &[u8], back: &[u8]) -> Result<Self, AllocError>
-        requires front { AllDigits front.now }
-        requires back { AllDigits back.now }
-        requires stripped { IsStripped (digits_from_text (front.now ++ back.now)) }
-        ensures ok { IfOk result (λ d. d ≡ digits_from_text (front.now ++ back.now)) }
-        ensures err { OnErr result (20 < length front.now + length back.now) }
-    {
-        if front.len() <= IN_PLACE && back.len() <= IN_PLACE - front.len() {
-            let mut digits = ArrayVec::new();
-            push_in_place(&mut digits, front);
-            push_in_place(&mut digits, back);
-            return Ok(Digits {
-                storage: Storage::InPlace(digits),
-            });
-        }
-        let mut digits = Vec::new(alloc);
-        push_apart(&mut digits, front)?;
-        push_apart(&mut digits, back)?;
-        Ok(Digits {
-            storage: Storage::Apart(digits),
-        })
-    }
-
-    /// The same digits.
-    pub fn from_digits(alloc: Global, digits: &[u8]) -> Result<Self, AllocError>
-        requires { IsStripped digits.now }
-        ensures ok { IfOk result (λ d. d ≡ digits.now) }
-        ensures err { OnErr result (20 < length digits.now) }
-    {
-        let mut few = ArrayVec::new();
-        let storage = match few.try_extend_from_slice(digits) {
-            Ok(()) => Storage::InPlace(few),
-            Err(_) => Storage::Apart(Vec::from_slice(alloc, digits)?),
-        };
-        Ok(Digits { storage })
-    }
-
-    /// The digits.
-    pub fn as_slice(&self) -> &[u8]
-        ensures value { result.now ≡ self.now }
-        ensures stripped { IsStripped self.now }
-    {
-        match &self.storage {
-            Storage::InPlace(digits) => digits.as_slice(),
-            Storage::Apart(digits) => digits.as_slice(),
-        }
-    }
-}
-
-impl Clone for Digits {
-    ghost is_clone = { λ digits copy. copy ≡ digits };
-
-    ghost is_infallible = { λ digits. length digits ≤ 20 };
-
-    fn clone(&self) -> Result<Digits, AllocError> {
-        let storage = match &self.storage {
-            Storage::InPlace(digits) => Storage::InPlace(digits.clone()?),
-            Storage::Apart(digits) => Storage::Apart(digits.clone()?),
-        };
-        Ok(Digits { storage })
-    }
 }
 
 /// Where the point stands, counted from the front of the digits.

@@ -23,7 +23,7 @@ fn with_sign(negative: bool, size: u64) -> i64
 }
 
 /// Takes the zeros off the end of so many places behind the point, and tells how many places are left.
-fn without_zeros(size: u64, places: usize) -> (u64, usize)
+pub fn without_zeros(size: u64, places: usize) -> (u64, usize)
     ensures tens { size ≡ result.0 * 10 ^ (places - result.1) }
     ensures fewer { result.1 ≤ places }
     ensures stripped { 0 < result.1 → result.0 % 10 ≢ 0 }

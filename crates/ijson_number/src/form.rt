@@ -5,13 +5,10 @@ ghost use Rattle.ijson_number.specs.Num.{Num};
 ghost use Rattle.ijson_number.specs.Text.{num_text};
 ghost use Rattle.ijson_number.specs.Form.{digits_form, fits_packed, form_of};
 
-use crate::digits::push_in_place;
 use crate::number::INumber;
-use crate::reading::Scanned;
 use crate::stored::Stored;
-use crate::stripped::{ROOM, StrippedNumber};
+use crate::stripped::StrippedNumber;
 use crate::word::Word;
-use arrayvec::ArrayVec;
 
 /// The stored form of a number. `point` says whether the number was written with a point or an exponent.
 #[derive(Clone, Copy, PartialEq, Eq, Debug)]
@@ -130,35 +127,6 @@ impl StrippedNumber<'_> {
     }
 }
 
-impl Scanned<'_> {
-    ghost use Rattle.ijson_number.specs.private.Scanned.{IsScanned, scanned_number};
-    ghost use Rattle.ijson_number.specs.private.Stored.{stored_form};
-
-    /// What is stored of the number, where it is a word and no list of digits.
-    pub fn stored(&self) -> Option<Stored>
-        requires { IsScanned self.now }
-        ensures some { IfSome result (λ s. stored_form s ≡ form_of (scanned_number self.now)) }
-        ensures none { IfNone result (form_of (scanned_number self.now) ≡ digits_form (scanned_number self.now)) }
-    {
-        if self.front.len() as u128 + self.back.len() as u128 > ROOM as u128 {
-            return None;
-        }
-        if self.point && self.exponent < -7 {
-            return None;
-        }
-        let mut digits: ArrayVec<u8, ROOM> = ArrayVec::new();
-        push_in_place(&mut digits, self.front);
-        push_in_place(&mut digits, self.back);
-        let number = StrippedNumber {
-            negative: self.negative,
-            digits: digits.as_slice(),
-            exponent: self.exponent,
-            point: self.point,
-        };
-        number.stored()
-    }
-}
-
 impl INumber {
     ghost use Rattle.ijson_number.specs.FormValue.{form_value};
 
@@ -173,7 +141,13 @@ impl INumber {
             },
             Stored::I64(value) => Form::I64(*value),
             Stored::U64(value) => Form::U64(*value),
-            Stored::Digits(number) => Form::Digits {
+            Stored::Short(number) => Form::Digits {
+                negative: number.negative,
+                digits: number.digits.as_slice(),
+                exponent: i32::from(number.exponent),
+                point: number.point,
+            },
+            Stored::Long(number) => Form::Digits {
                 negative: number.negative,
                 digits: number.digits.as_slice(),
                 exponent: number.exponent,
@@ -181,6 +155,7 @@ impl INumber {
             },
         }
     }
+
     /// The stored form. Numbers of one value and one shape have one form and one text, and no others have that text. It takes
     /// no memory, and digits are lent. `1.50` is `Packed` with the mantissa 15 and the exponent -1, `9223372036854775807` is
     /// `I64`, and `1e-9` is a list of one digit.

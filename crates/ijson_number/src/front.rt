@@ -1,5 +1,5 @@
 //! A number of few digits at the front of a text, read in one pass.
-ghost use Rattle.std.specs.Prelude.{◌≡◌, ◌+◌, ◌*◌, ◌^◌, ◌<◌, ◌≤◌, List, ℕ, take, drop, length, IfNone, IfSome, IsSome};
+ghost use Rattle.std.specs.Prelude.{◌≡◌, ◌≢◌, ◌+◌, ◌*◌, ◌%◌, ◌^◌, ◌<◌, ◌≤◌, List, ℕ, take, drop, length, IfNone, IfSome, IsSome};
 ghost use Rattle.std.specs.Int.Digits.{number_from_digits_after};
 ghost use Rattle.ijson_number.specs.Decimal.{Decimal};
 ghost use Rattle.ijson_number.specs.Form.{form_of};
@@ -8,13 +8,14 @@ ghost use Rattle.ijson_number.specs.Num.{IsNum};
 ghost use Rattle.ijson_number.specs.PlainFront.{IsPlainFront};
 ghost use Rattle.ijson_number.specs.private.Front.{IsFront, IsFrontTail, IsPlainTail, front_number};
 ghost use Rattle.ijson_number.specs.private.Reading.{BeginsWithNoDigit};
-ghost use Rattle.ijson_number.specs.private.Stored.{stored_form};
+ghost use Rattle.ijson_number.specs.private.Stored.{short_form, stored_form};
 ghost use Rattle.ijson_number.specs.private.Stripped.{digits_from_text};
 ghost use Rattle.ijson_number.specs.private.StrippedNumber.{decimal_of};
 
-use crate::few_digits::{pointed_word, whole_word};
+use crate::digits::ShortDigits;
+use crate::few_digits::{pointed_word, whole_word, without_zeros};
 use crate::reading::{is_whole, split_sign};
-use crate::stored::Stored;
+use crate::stored::{ShortNumber, Stored};
 use crate::stripped::{ROOM, StrippedNumber};
 
 /// How many digits a word without a sign holds, whatever they are.
@@ -47,6 +48,7 @@ fn take_tail(number: u64, bytes: &[u8], most: usize) -> Option<(u64, usize, &[u8
     requires { (number + 1) * 10 ^ most ≤ 10 ^ 19 }
     ensures tail { IfSome result (λ r. IsFrontTail number bytes.now r.0 r.1 r.2.now) }
     ensures few { IfSome result (λ r. r.1 ≤ most) }
+    ensures small { IfSome result (λ r. r.0 < 10 ^ 19) }
     ensures rest { IfSome result (λ r. (front rest : List ℕ)
         → IsPlainTail most bytes.now front rest → r.2.now ≡ rest) }
     ensures none { IfNone result ((front rest : List ℕ)
@@ -111,6 +113,24 @@ impl Front {
             return pointed_word(self.negative, self.size, self.places);
         }
         whole_word(self.negative, self.size)
+    }
+
+    /// The number in 24 bytes, where too many of its digits stand behind the point for a word.
+    pub fn short(&self) -> Option<ShortNumber>
+        requires { (text : List ℕ) × IsFront text self.now }
+        ensures form { IfSome result (λ n. short_form n ≡ form_of (front_number self.now)) }
+        ensures deep { 7 < self.now.places → self.now.size % 10 ≢ 0 → IsSome result }
+    {
+        let (number, places) = without_zeros(self.size, self.places);
+        if places <= 7 {
+            return None;
+        }
+        Some(ShortNumber {
+            exponent: -(places as i16),
+            negative: self.negative,
+            point: true,
+            digits: ShortDigits::of_number(number),
+        })
     }
 
     /// The number by its stripped digits, which are written into the room.

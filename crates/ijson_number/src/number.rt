@@ -5,10 +5,12 @@ ghost use Rattle.ijson_number.specs.Num.{IsNum};
 ghost use Rattle.ijson_number.specs.laws.Codes.{IsNum-prop};
 ghost use Rattle.ijson_number.specs.private.Stored.{stored_decimal};
 
-use crate::front::read_front;
-use crate::reading::{self, Spelling};
-use crate::stored::{LongNumber, Stored};
+use crate::digits::push_in_place;
+use crate::front::{Front, read_front};
+use crate::reading::{self, Scanned, Spelling};
+use crate::stored::Stored;
 use crate::stripped::{ROOM, StrippedNumber};
+use arrayvec::ArrayVec;
 use std::alloc::{AllocError, Global};
 use std::marker::Model;
 use thiserror::Error;
@@ -55,7 +57,8 @@ impl INumber {
     ghost use Rattle.ijson_number.specs.PlainFront.{IsPlainFront};
     ghost use Rattle.ijson_number.specs.Refused.{IsRefused};
     ghost use Rattle.ijson_number.specs.declared.number.ParseNumberError.TheVariants.{Memory};
-    ghost use Rattle.ijson_number.specs.private.Scanned.{parts_of};
+    ghost use Rattle.ijson_number.specs.private.Front.{IsFront, front_number};
+    ghost use Rattle.ijson_number.specs.private.Scanned.{IsScanned, parts_of, scanned_number};
     ghost use Rattle.ijson_number.specs.private.StrippedNumber.{decimal_of};
 
     /// The number that the whole text spells, with no white space round it. Memory is taken where the stored form is a
@@ -68,9 +71,10 @@ impl INumber {
         let bytes = text.as_bytes();
         if let Some(front) = read_front(bytes) {
             if front.length == bytes.len() {
-                if let Some(stored) = front.word() {
-                    return Ok(INumber { stored });
-                }
+                let Ok(number) = INumber::from_front(alloc, &front) else {
+                    return Err(ParseNumberError::Memory);
+                };
+                return Ok(number);
             }
         }
         match reading::read(bytes) {
@@ -91,15 +95,32 @@ impl INumber {
         let Some(scanned) = spelling.scan() else {
             return Err(ParseNumberError::Invalid);
         };
-        if let Some(stored) = scanned.stored() {
-            return Ok(INumber { stored });
-        }
-        let Ok(number) = LongNumber::from_scanned(alloc, &scanned) else {
+        let Ok(number) = INumber::from_scanned(alloc, &scanned) else {
             return Err(ParseNumberError::Memory);
         };
-        Ok(INumber {
-            stored: Stored::Digits(number),
-        })
+        Ok(number)
+    }
+
+    /// The number whose digits still lie in its text. Where there is room for them, they are made digits in it.
+    fn from_scanned(alloc: Global, scanned: &Scanned<'_>) -> Result<INumber, AllocError>
+        requires { IsScanned scanned.now }
+        ensures number { IfOk result (λ n. n.decimal ≡ scanned_number scanned.now) }
+        ensures refused { OnErr result (is_digits (form_of (scanned_number scanned.now)) ≡ true) }
+    {
+        if scanned.front.len() as u128 + scanned.back.len() as u128 > ROOM as u128 {
+            let stored = Stored::from_scanned(alloc, scanned)?;
+            return Ok(INumber { stored });
+        }
+        let mut digits: ArrayVec<u8, ROOM> = ArrayVec::new();
+        push_in_place(&mut digits, scanned.front);
+        push_in_place(&mut digits, scanned.back);
+        let number = StrippedNumber {
+            negative: scanned.negative,
+            digits: digits.as_slice(),
+            exponent: scanned.exponent,
+            point: scanned.point,
+        };
+        INumber::from_stripped(alloc, &number)
     }
 
     /// The number that the text begins with, and how many bytes spell it, in one pass over them, where it has at most 19
@@ -115,11 +136,27 @@ impl INumber {
         let Some(front) = read_front(text.as_bytes()) else {
             return Ok(None);
         };
-        if let Some(stored) = front.word() {
-            return Ok(Some((INumber { stored }, front.length)));
-        }
-        let number = INumber::from_stripped(alloc, &front.stripped(&mut [0; ROOM]))?;
+        let number = INumber::from_front(alloc, &front)?;
         Ok(Some((number, front.length)))
+    }
+
+    /// The number of a front.
+    #[inline(always)]
+    fn from_front(alloc: Global, front: &Front) -> Result<INumber, AllocError>
+        requires { (text : List ℕ) × IsFront text front.now }
+        ensures number { IfOk result (λ n. n.decimal ≡ front_number front.now) }
+        ensures refused { OnErr result (is_digits (form_of (front_number front.now)) ≡ true) }
+    {
+        if let Some(stored) = front.word() {
+            return Ok(INumber { stored });
+        }
+        if let Some(short) = front.short() {
+            let number = Box::new(alloc, short)?;
+            return Ok(INumber {
+                stored: Stored::Short(number),
+            });
+        }
+        INumber::from_stripped(alloc, &front.stripped(&mut [0; ROOM]))
     }
 
     /// The number of stripped digits.
@@ -130,10 +167,8 @@ impl INumber {
         if let Some(stored) = number.stored() {
             return Ok(INumber { stored });
         }
-        let number = LongNumber::from_stripped(alloc, number)?;
-        Ok(INumber {
-            stored: Stored::Digits(number),
-        })
+        let stored = Stored::from_stripped(alloc, number)?;
+        Ok(INumber { stored })
     }
 
     /// Whether the number was written with a point or an exponent. `2.0` and `2e0` were, `2` was not.
@@ -144,7 +179,8 @@ impl INumber {
             Stored::Packed(word) => word.point(),
             Stored::I64(_) => false,
             Stored::U64(_) => false,
-            Stored::Digits(number) => number.point,
+            Stored::Short(number) => number.point,
+            Stored::Long(number) => number.point,
         }
     }
 }

@@ -2,15 +2,17 @@
 ghost use Rattle.std.specs.Prelude.{◌≡◌, ◌%◌, ◌+◌, ◌^◌, ◌<◌, pos, ◌*ℤ◌, nat_abs, IfSome, IfNone};
 ghost use Rattle.std.specs.Int.Digits.{digits_of};
 ghost use Rattle.ijson_number.specs.Stripped.{stripped_number};
+ghost use Rattle.ijson_number.specs.private.ShortDigits.{short_digits};
 ghost use Rattle.ijson_number.specs.private.StoredNumber.{IsStored, stored_number};
 ghost use Rattle.ijson_number.specs.Num.{IsNum};
 ghost use Rattle.ijson_number.specs.laws.Codes.{IsNum-prop};
 ghost use Rattle.ijson_number.specs.Strips.{signed};
 ghost use Rattle.std.proofs.Props.{props};
 
+use crate::digits::make_digits;
 use crate::integers::{scaled, without_tens};
 use crate::number::INumber;
-use crate::stored::{LongNumber, Stored};
+use crate::stored::{LongNumber, ShortNumber, Stored};
 use itoa::write_digits;
 
 /// How many digits there is room for: a word has no more.
@@ -28,17 +30,14 @@ pub struct StrippedNumber<'a> {
     ghost stripped: { IsStored negative digits.now } by { Prim.hlevel props },
 }
 
-/// Writes the digits of a number that isn't zero to the end of the room. Their text is written first, four at a time, and then
-/// all of it is made digits at once, with what stands in front of them.
+/// Writes the digits of a number that isn't zero to the end of the room. Their text is written first, four digits at a time.
 fn written(number: u64, room: &mut [u8; ROOM]) -> &[u8]
     requires { 0 < number }
     ensures { result.now ≡ digits_of 10 number }
 {
     let mut text = [0; ROOM];
     let start = write_digits(number, &mut text, ROOM);
-    for at in 0..ROOM {
-        room[at] = text[at].saturating_sub(b'0');
-    }
+    make_digits(&text, room);
     &room[start..]
 }
 
@@ -137,7 +136,27 @@ impl INumber {
             }
             Stored::I64(value) => StrippedNumber::from_signed(*value, 0, false, room),
             Stored::U64(value) => StrippedNumber::from_size(false, *value, 0, false, room),
-            Stored::Digits(number) => number.stripped(),
+            Stored::Short(number) => number.stripped(),
+            Stored::Long(number) => number.stripped(),
+        }
+    }
+}
+
+impl ShortNumber {
+    ghost use Rattle.ijson_number.specs.private.StrippedNumber.{decimal_of};
+
+    /// The number by its stripped digits.
+    pub fn stripped(&self) -> StrippedNumber<'_>
+        requires { IsNum
+            (stored_number self.now.negative (short_digits self.now.digits) self.now.exponent self.now.point) }
+        ensures { decimal_of result
+            ≡ stored_number self.now.negative (short_digits self.now.digits) self.now.exponent self.now.point }
+    {
+        StrippedNumber {
+            negative: self.negative,
+            digits: self.digits.as_slice(),
+            exponent: i32::from(self.exponent),
+            point: self.point,
         }
     }
 }
@@ -148,9 +167,9 @@ impl LongNumber {
     /// The number by its stripped digits.
     pub fn stripped(&self) -> StrippedNumber<'_>
         requires { IsNum
-            (stored_number self.now.negative self.now.digits self.now.exponent self.now.point) }
+            (stored_number self.now.negative self.now.digits.items self.now.exponent self.now.point) }
         ensures { decimal_of result
-            ≡ stored_number self.now.negative self.now.digits self.now.exponent self.now.point }
+            ≡ stored_number self.now.negative self.now.digits.items self.now.exponent self.now.point }
     {
         StrippedNumber {
             negative: self.negative,

@@ -129,7 +129,8 @@ impl INumber {
             }
             Stored::I64(value) => Some(integer(*value < 0, value.unsigned_abs(), room)),
             Stored::U64(value) => Some(integer(false, *value, room)),
-            Stored::Digits(number) => number.stripped().row_text(room),
+            Stored::Short(number) => number.stripped().row_text(room),
+            Stored::Long(number) => number.stripped().row_text(room),
         }
     }
 }

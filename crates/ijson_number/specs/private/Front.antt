@@ -1,5 +1,5 @@
 -- What the pass over the front of a text finds there.
-use Rattle.std.specs.Prelude.{◌≡◌, ℕ, ◌≤◌, Bool, List, ◌++◌, length, nat_lt, take, pos, neg_ℤ}
+use Rattle.std.specs.Prelude.{◌≡◌, ℕ, ◌^◌, ◌<◌, ◌≤◌, Bool, List, ◌++◌, length, nat_lt, take, pos, neg_ℤ}
 use Rattle.std.specs.Int.Digits.{number_from_digits_after}
 use Rattle.ijson_number.specs.Decimal.{Decimal}
 use Rattle.ijson_number.specs.Grammar.{IsFraction, Spells}
@@ -37,5 +37,6 @@ pub record IsFront (text : List ℕ) (f : Front) : Type 0 where
   pub within : f.length ≤ length text
   pub spelled : Spells (take f.length text) (front_number f)
   pub few : f.places ≤ 19
+  pub small : f.size < 10 ^ 19
   pub strips : Strips (signed f.negative f.size) (neg_ℤ (pos f.places)) (front_number f)
   pub num : IsNum (front_number f)

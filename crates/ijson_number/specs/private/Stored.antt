@@ -3,15 +3,25 @@ use Rattle.std.specs.Prelude.{◌≡◌, ⊤}
 use Rattle.ijson_number.specs.Decimal.{Decimal}
 use Rattle.ijson_number.specs.Form.{FormOf, packed, signed_word, unsigned_word, digits, form_of}
 use Rattle.ijson_number.specs.private.FormNumber.{form_number}
+use Rattle.ijson_number.specs.private.ShortDigits.{short_digits}
 use Rattle.ijson_number.specs.private.Word.{word_exponent, word_mantissa, word_point}
+use Rattle.ijson_number.specs.declared.stored.LongNumber.{LongNumber}
+use Rattle.ijson_number.specs.declared.stored.ShortNumber.{ShortNumber}
 use Rattle.ijson_number.specs.declared.stored.Stored.{Stored}
-use Rattle.ijson_number.specs.declared.stored.Stored.TheVariants.{Packed, I64, U64, Digits}
+use Rattle.ijson_number.specs.declared.stored.Stored.TheVariants.{Packed, I64, U64, Short, Long}
+
+abbrev pub short_form : ShortNumber → FormOf
+short_form n = digits n.negative (short_digits n.digits) n.exponent n.point
+
+abbrev pub long_form : LongNumber → FormOf
+long_form n = digits n.negative n.digits.items n.exponent n.point
 
 abbrev pub stored_form : Stored → FormOf
 stored_form (Packed word) = packed (word_mantissa word.bits) (word_exponent word.bits) (word_point word.bits)
 stored_form (I64 value) = signed_word value
 stored_form (U64 value) = unsigned_word value
-stored_form (Digits number) = digits number.value.negative number.value.digits number.value.exponent number.value.point
+stored_form (Short number) = short_form number.value
+stored_form (Long number) = long_form number.value
 
 abbrev pub stored_decimal : Stored → Decimal
 stored_decimal stored = form_number (stored_form stored)
@@ -22,7 +32,8 @@ IsForm stored = form_of (stored_decimal stored) ≡ stored_form stored
 
 -- its digits are a list
 abbrev pub IsList : Stored → Type 0
-IsList (Digits number) = ⊤
+IsList (Short number) = ⊤
+IsList (Long number) = ⊤
 IsList (Packed word) = ⊥
 IsList (I64 value) = ⊥
 IsList (U64 value) = ⊥

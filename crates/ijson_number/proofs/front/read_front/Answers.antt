@@ -46,7 +46,7 @@ returns-clause-found c =
     let word : c.in_ok-size.size < 2 ^ 64 = search rules in
     let few : places ≤ 19 = let m = e.few in omega arith in
     let number = parts_number (take (length text - length rest) text) p c.in_ok-size.size places (rw taken f.2) refl tail.count few size word in
-    record { within = omega arith; spelled = number.0; few = few; strips = number.1; num = number.2 }
+    record { within = omega arith; spelled = number.0; few = few; small = e.small; strips = number.1; num = number.2 }
 
 pub returns-then-not-is_whole-clause-none : goal.returns-then-not-is_whole-clause-none
 returns-then-not-is_whole-clause-none c = λ p f.

@@ -1,10 +1,11 @@
-use Rattle.std.proofs.Common.{◌≡◌, ◌-◌, ◌<◌, List, ℕ, [], ◌∷◌, ◌++◌, length, take, drop, true, refl, sym, ap, ◌∙◌, arith}
+use Rattle.std.proofs.Common.{◌≡◌, ◌+◌, ◌-◌, ◌<◌, List, ℕ, [], ◌∷◌, ◌++◌, length, take, drop, true, refl, sym, ap, ◌∙◌, arith}
 use Rattle.std.specs.Prelude.{nat_lt}
 use Rattle.std.specs.Int.Digits.{number_from_digits_after}
 use Rattle.std.proofs.lemmas.Bool.Decides.{nat_tests}
-use Rattle.std.proofs.lemmas.List.{take-append-drop}
+use Rattle.std.proofs.lemmas.List.{length-take-le, take-append-drop}
 use Rattle.ijson_number.specs.Grammar.{AllDigits}
 use Rattle.ijson_number.specs.private.Stripped.{digits_from_text}
+use Rattle.ijson_number.proofs.FewDigits.{digits_small, no_more}
 use Rattle.ijson_number.proofs.PlainFronts.{point_tail}
 use Rattle.ijson_number.proofs.Runs.{IsDigits_from}
 use Rattle.ijson_number.proofs.Tails.{point_first}
@@ -47,3 +48,16 @@ returns-then-bytes-eq46-clause-rest c = λ front rest t.
     let all : AllDigits digits = rw c.split_at.ensures.front taken.ensures.digits in
     let count : length digits ≡ taken.result.1 = c.split_at.ensures.front_len in
     (point_tail c.args.most bytes front rest digits after (point_first bytes digits after some c.if-bytes-eq46.true split) all (λ h. rw c.split_at.ensures.back (taken.ensures.all (omega arith))) t).1
+
+pub returns-then-bytes-eq46-clause-small : goal.returns-then-bytes-eq46-clause-small
+returns-then-bytes-eq46-clause-small c =
+    let bytes = c.args.bytes.now in
+    let taken = c.take_digits-longer in
+    let behind = take (length bytes - 1) (drop 1 bytes) in
+    let count : length (take taken.result.1 behind) ≡ taken.result.1 = length-take-le taken.result.1 behind taken.ensures.within in
+    rw taken.ensures.value (digits_small c.args.number (take taken.result.1 behind) c.args.most taken.ensures.digits (omega arith) c.requires)
+
+pub returns-clause-small : goal.returns-clause-small
+returns-clause-small c =
+    let more = no_more (c.args.number + 1) c.args.most in
+    omega (arith, more, c.requires)

@@ -1,7 +1,6 @@
+use Rattle.std.proofs.Common.{◌∙◌, sym}
 use Rattle.ijson_number.specs.private.StrippedNumber.{decimal_of}
 use Rattle.ijson_number.proofs.FormNumbers.{form_has, stored_num, stored_form_of}
-use Rattle.ijson_number.proofs.Forms.{stored_form, stored_parts}
-use Rattle.std.proofs.Common.{◌∙◌}
 use Rattle.ijson_number.proofs.number.INumber.from_stripped.Goals as goal
 
 pub invariant_of-result : goal.invariant_of-result
@@ -22,5 +21,14 @@ returns-in-Some-clause-number c =
 pub invariant_of-result-3 : goal.invariant_of-result-3
 invariant_of-result-3 c =
     let s = c.args.number.now in
-    let e = c.in_ok-number.ensures in
-    stored_parts _ s.negative _ s.digits.now _ s.exponent _ s.point e.negative e.digits e.exponent e.point (c.in_default.ensures.none ∙ stored_form s.negative s.digits.now s.exponent s.point s.stripped)
+    stored_form_of (decimal_of s) _ s.num (c.in_ok-stored.ensures ∙ sym c.in_default.ensures.none)
+
+pub invariant_of-result-2 : goal.invariant_of-result-2
+invariant_of-result-2 c =
+    let s = c.args.number.now in
+    (stored_num (decimal_of s) _ s.num (c.in_ok-stored.ensures ∙ sym c.in_default.ensures.none), tt)
+
+pub returns-clause-number : goal.returns-clause-number
+returns-clause-number c =
+    let s = c.args.number.now in
+    form_has (decimal_of s) _ s.num.plain (c.in_ok-stored.ensures ∙ sym c.in_default.ensures.none)

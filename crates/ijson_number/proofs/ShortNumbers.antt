@@ -1,0 +1,45 @@
+-- Numbers of few digits that are no word.
+use Rattle.std.proofs.Common.{◌≡◌, ◌≢◌, ◌∙◌, ℕ, ◌-◌, ◌*◌, ◌%◌, ◌^◌, ◌<◌, ◌≤◌, ◌++◌, List, [], drop, ap, Bool, true, false, arith}
+use Rattle.std.specs.Fmt.{decimal}
+use Rattle.std.specs.Int.Digits.{digits_of, number_from_digits}
+use Rattle.std.specs.List.{drop-map}
+use Rattle.std.specs.Int.{Width}
+use Rattle.std.specs.Prelude.{ℤ, pos, negsuc, neg_ℤ, int_le, ◌+ℤ◌, ◌-ℤ◌, ◌<ℤ◌, ◌&&◌, FitsSigned}
+use Rattle.std.proofs.lemmas.Fmt.{decimal-digits_of}
+use Rattle.std.proofs.lemmas.Int.{ints, to_z-of_z}
+use mir.Val.{to_z, of_z}
+use Rattle.std.proofs.lemmas.List.{append-nil}
+use Rattle.ijson_number.specs.Form.{digits, fits_packed, form_of}
+use Rattle.ijson_number.specs.Strips.{signed}
+use Rattle.ijson_number.specs.Stripped.{stripped_number}
+use Rattle.ijson_number.specs.Text.{digits_text}
+use Rattle.ijson_number.specs.private.Stripped.{digits_from_text}
+use Rattle.ijson_number.proofs.FewDigits.{no_more, not_le}
+use Rattle.ijson_number.proofs.Forms.{left, stored_form}
+use Rattle.ijson_number.proofs.IntegerWords.{some_is, some_stored}
+use Rattle.ijson_number.proofs.Outcomes.{first_fails}
+use Rattle.ijson_number.proofs.RoundTrip.{read_back}
+
+-- the text of a number, made digits
+pub made : (n start : ℕ) (text room : List ℕ) → 0 < n → n < 2 ^ 64 → drop start text ≡ decimal n ++ [] → room ≡ digits_from_text text → drop start room ≡ digits_of 10 n
+made n start text room some word written is =
+    let shown : drop start text ≡ digits_text (digits_of 10 n) = written ∙ append-nil (decimal n) ∙ decimal-digits_of n some word in
+    ap (drop start) is ∙ drop-map {X = ℕ} {Y = ℕ} (λ b. b - 48) start text ∙ ap digits_from_text shown ∙ read_back (digits_of 10 n)
+
+-- a count of places that fits a width, as it stands and below zero, is an exponent there
+pub negated : (w : Width) (places : ℕ) → to_z w places ≡ pos places → FitsSigned w (pos 0 -ℤ pos places) → to_z w (of_z w (pos 0 -ℤ to_z w places)) ≡ neg_ℤ (pos places)
+negated w places is fits = rw (is, to_z-of_z w (pos 0 -ℤ pos places) fits) (omega (arith, ints))
+
+-- a number with the point and more places than a word has
+pub deep_form : (negative : Bool) (size m places k : ℕ) → size ≡ m * 10 ^ (places - k) → k ≤ places → m % 10 ≢ 0 → 7 < k → size < 2 ^ 64 → form_of (stripped_number (signed negative size) (neg_ℤ (pos places)) true) ≡ digits negative (digits_of 10 m) (neg_ℤ (pos k)) true
+deep_form negative size m places k tens fewer last many word =
+    let t = places - k in
+    let exponent : neg_ℤ (pos places) +ℤ pos t ≡ neg_ℤ (pos k) = omega (arith, ints) in
+    let less : m ≤ m * 10 ^ t = no_more m t in
+    let above : 0 < m = omega arith in
+    let number = rw exponent at (some_is size m t (omega arith) (omega arith) tens last negative (neg_ℤ (pos places)) true) in
+    let deep : neg_ℤ (pos k) <ℤ negsuc 6 = omega (arith, ints) in
+    let below : int_le (pos 0) (neg_ℤ (pos k)) ≡ false = not_le (pos 0) (neg_ℤ (pos k)) (omega (arith, ints)) in
+    let mantissa : ℤ = signed negative (number_from_digits 10 (digits_of 10 m)) in
+    let no_word : int_le (negsuc 6) (neg_ℤ (pos k)) && fits_packed mantissa ≡ false = first_fails (int_le (negsuc 6) (neg_ℤ (pos k))) (fits_packed mantissa) (not_le (negsuc 6) (neg_ℤ (pos k)) deep) in
+    rw number (left (int_le (pos 0) (neg_ℤ (pos k))) _ _ below ∙ left (int_le (negsuc 6) (neg_ℤ (pos k)) && fits_packed mantissa) _ _ no_word ∙ stored_form negative (digits_of 10 m) (neg_ℤ (pos k)) true (some_stored m last negative))

@@ -1,0 +1,6 @@
+-- The digits at the end of their room.
+use Rattle.std.specs.Prelude.{ℕ, ◌-◌, List, drop}
+use Rattle.ijson_number.specs.declared.digits.ShortDigits.{ShortDigits}
+
+abbrev pub short_digits : ShortDigits → List ℕ
+short_digits d = drop (19 - d.count) d.room
