@@ -10,7 +10,7 @@ pub struct Modulus {
     pub count: usize,
     reciprocal: u64,
     ghost some: { 0 < count },
-    ghost inverse: { reciprocal ≡ (2 ^ 64 - 1) / count },
+    ghost divided: { reciprocal ≡ (2 ^ 64 - 1) / count },
 }
 
 impl Modulus {

@@ -56,15 +56,15 @@ impl Place {
     }
 
     /// How far this place is from the home of what stands there.
-    pub fn distance(self, places: Modulus, place: usize) -> usize
-        requires { place < places.count }
-        ensures { result ≡ distance places.count (self.hash % places.count) place }
+    pub fn distance(self, modulus: Modulus, place: usize) -> usize
+        requires { place < modulus.count }
+        ensures { result ≡ distance modulus.count (self.hash % modulus.count) place }
     {
-        let home = places.home_of_hash(self.hash);
+        let home = modulus.home_of_hash(self.hash);
         if home <= place {
             place - home
         } else {
-            places.count - (home - place)
+            modulus.count - (home - place)
         }
     }
 
@@ -90,15 +90,15 @@ impl Place {
     }
 
     /// What a look at this place tells, where `same` says whether it holds what is sought.
-    pub fn seen(self, places: Modulus, place: usize, same: bool) -> Seen
-        requires { place < places.count }
-        ensures { SeenAs self places.count place same result }
+    pub fn seen(self, modulus: Modulus, place: usize, same: bool) -> Seen
+        requires { place < modulus.count }
+        ensures { SeenAs self modulus.count place same result }
     {
         match self.position() {
             None => Seen::Empty,
             Some(at) => Seen::Resident {
                 at,
-                distance: self.distance(places, place),
+                distance: self.distance(modulus, place),
                 same,
             },
         }

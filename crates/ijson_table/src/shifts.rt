@@ -19,7 +19,9 @@ use ijson_number::Looks;
 #[derive(Drop)]
 struct Newcomer<'a> {
     places: &'a [Place],
+    modulus: Modulus,
     hash: u64,
+    ghost counted: { modulus.count ≡ length places.now },
 }
 
 impl<'a> ProbeTarget for Newcomer<'a> {
@@ -39,12 +41,12 @@ impl<'a> ProbeTarget for Newcomer<'a> {
     }
 
     fn home(&self) -> usize {
-        Modulus::new(self.places.len()).home_of_hash(self.hash)
+        self.modulus.home_of_hash(self.hash)
     }
 
     fn look(&self, place: usize, looks: &mut Looks) -> Seen {
         looks.add_one();
-        self.places[place].seen(Modulus::new(self.places.len()), place, false)
+        self.places[place].seen(self.modulus, place, false)
     }
 }
 
@@ -52,8 +54,10 @@ impl<'a> ProbeTarget for Newcomer<'a> {
 #[derive(Drop)]
 struct Standing<'a> {
     places: &'a [Place],
+    modulus: Modulus,
     position: usize,
     hash: u64,
+    ghost counted: { modulus.count ≡ length places.now },
 }
 
 impl<'a> ProbeTarget for Standing<'a> {
@@ -73,14 +77,14 @@ impl<'a> ProbeTarget for Standing<'a> {
     }
 
     fn home(&self) -> usize {
-        Modulus::new(self.places.len()).home_of_hash(self.hash)
+        self.modulus.home_of_hash(self.hash)
     }
 
     fn look(&self, place: usize, looks: &mut Looks) -> Seen {
         looks.add_one();
         let there = self.places[place];
         let same = there.position() == Some(self.position);
-        there.seen(Modulus::new(self.places.len()), place, same)
+        there.seen(self.modulus, place, same)
     }
 }
 
@@ -89,7 +93,12 @@ fn vacancy(places: &[Place], hash: u64) -> usize
     requires { HasEmpty (positions places.now) }
     ensures { IsVacancy (displacement_in places.now) (length places.now) (hash % length places.now) result }
 {
-    match probe(&Newcomer { places, hash }, &mut Looks::new()) {
+    let newcomer = Newcomer {
+        places,
+        modulus: Modulus::new(places.len()),
+        hash,
+    };
+    match probe(&newcomer, &mut Looks::new()) {
         Probed::Vacant(place) => place,
         Probed::Found(..) | Probed::Full => unreachable!(),
     }
@@ -104,6 +113,7 @@ fn place_of(places: &[Place], position: usize, hash: u64) -> usize
 {
     let standing = Standing {
         places,
+        modulus: Modulus::new(places.len()),
         position,
         hash,
     };
@@ -156,6 +166,7 @@ fn shift_back(places: &mut [Place], from: usize)
     ensures placed { (i : ℕ) → times i (positions places.new) ≡ times i (positions places.old) }
     ensures hashes { HaveHashes hashes places.new }
 {
+    let modulus = Modulus::new(places.len());
     let mut gap = from;
     loop {
         let next = next_place(places.len(), gap);
@@ -163,7 +174,7 @@ fn shift_back(places: &mut [Place], from: usize)
         let Some(_resident) = behind.position() else {
             return;
         };
-        if behind.distance(Modulus::new(places.len()), next) == 0 {
+        if behind.distance(modulus, next) == 0 {
             return;
         }
         places[gap] = behind;
@@ -228,11 +239,13 @@ pub fn shift_remove(places: &mut [Place], position: usize, hash: u64, last: usiz
 fn wrapped(places: &[Place]) -> usize
     ensures { result ≤ length places.now }
 {
+    if places.is_empty() {
+        return 0;
+    }
+    let modulus = Modulus::new(places.len());
     for place in 0..places.len() {
         let there = places[place];
-        if there.position().is_none()
-            || there.distance(Modulus::new(places.len()), place) <= place
-        {
+        if there.position().is_none() || there.distance(modulus, place) <= place {
             return place;
         }
     }

@@ -245,13 +245,13 @@ impl<V, H: KeyHash> Places for Table<V, H> {
 
     fn look(&self, place: usize, key: &str, looks: &mut Looks) -> Seen {
         looks.add_one();
-        let places = Modulus::new(self.places.len());
+        let modulus = Modulus::new(self.places.len());
         let there = self.places.at(place);
         let same = match there.position() {
             None => false,
             Some(at) => has_key(&self.pairs, at, key),
         };
-        there.seen(places, place, same)
+        there.seen(modulus, place, same)
     }
 }
 

@@ -83,4 +83,4 @@ no_other hashes places position hash looks s (Vacant p) ends is =
     ]
 
 pub unreachable-requires : goal.unreachable-requires
-unreachable-requires g c = no_other g.hashes c.args.places.now c.args.position c.args.hash (c.probe.new.looks - c.new.result) c.requires c.probe.result c.probe.ensures.ends c.in-Vacant.is
+unreachable-requires g c = no_other g.hashes c.args.places.now c.args.position c.args.hash (c.probe.new.looks - c.new-2.result) c.requires c.probe.result c.probe.ensures.ends c.in-Vacant.is

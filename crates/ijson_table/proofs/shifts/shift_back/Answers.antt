@@ -1,4 +1,5 @@
 use Rattle.std.proofs.Common.{◌≡◌, ℕ, ◌+◌, ◌%◌, ◌<◌, ◌≤◌, List, length, get_or, set, Option, Some, None, arith, ap, sym, ◌∙◌, subst}
+use Rattle.std.proofs.lemmas.List.{length-set}
 use Rattle.ijson_table.specs.declared.place.Place.{Place}
 use Rattle.ijson_table.specs.Crowd.{distance}
 use Rattle.ijson_table.specs.Places.{after, displacement, resident, times, IsOrdered}
@@ -30,7 +31,7 @@ pub returns-then-distance-eq0-clause-ordered : goal.returns-then-distance-eq0-cl
 returns-then-distance-eq0-clause-ordered g c =
     let places : List Place = c.loop-resident.places in
     let next : ℕ = c.next_place-next.result in
-    let is = displacement-read g.hashes places next c.in-Some._resident c.distance.result c.loop-resident.invariant.hashes c.next_place-next.ensures.within (sym c.in-Some.is ∙ c.position.ensures) (distance_by c.loop-resident.places c.new.result.count c.next_place-next.result c.distance.result c.new.ensures c.distance.ensures) in
+    let is = displacement-read g.hashes places next c.in-Some._resident c.distance.result c.loop-resident.invariant.hashes c.next_place-next.ensures.within (sym c.in-Some.is ∙ c.position.ensures) (distance_by c.loop-resident.places c.new-modulus.result.count c.next_place-next.result c.distance.result (c.new-modulus.ensures ∙ sym c.loop-resident.invariant.size) c.distance.ensures) in
     closed_before g.hashes places c.loop-resident.gap next c.loop-resident.invariant.gap c.next_place-next.ensures.place (omega (arith, is, c.if-distance-eq0.true))
 
 -- a resident is moved one place back: what that does to the positions
@@ -51,7 +52,7 @@ loop-resident-smaller g c =
     let to : next ≡ after (length places) gap = c.next_place-next.ensures.place ∙ ap (λ n. after n gap) (sym size) in
     let there : Some k ≡ position_in (get_or c.loop-resident.places next blank) = sym c.in-Some.is ∙ c.position.ensures in
     let at : resident places next ≡ Some k = position-at c.loop-resident.places next (Some k) c.next_place-next.ensures.within there in
-    let is : displacement hashes places next ≡ c.distance.result + 1 = displacement-read hashes c.loop-resident.places next k c.distance.result c.loop-resident.invariant.hashes c.next_place-next.ensures.within there (distance_by c.loop-resident.places c.new.result.count c.next_place-next.result c.distance.result c.new.ensures c.distance.ensures) in
+    let is : displacement hashes places next ≡ c.distance.result + 1 = displacement-read hashes c.loop-resident.places next k c.distance.result c.loop-resident.invariant.hashes c.next_place-next.ensures.within there (distance_by c.loop-resident.places c.new-modulus.result.count c.next_place-next.result c.distance.result (c.new-modulus.ensures ∙ sym c.loop-resident.invariant.size) c.distance.ensures) in
     subst (λ ps. all_displacements hashes ps < all_displacements hashes places) (sym (moved c.loop-resident.places gap next k c.empty.result there c.empty.ensures))
     (subst (λ x. all_displacements hashes (set (set places gap (Some k)) x None) < all_displacements hashes places) (sym to)
     (shift_falls hashes places gap k (c.loop-resident.invariant.gap.within) c.loop-resident.invariant.gap.empty (ap (resident places) (sym to) ∙ at) (omega (arith, is, c.if-distance-eq0.false, ap (displacement hashes places) to))))
@@ -67,7 +68,7 @@ loop-resident-preserved g c =
     let to : next ≡ after (length places) gap = c.next_place-next.ensures.place ∙ ap (λ n. after n gap) (sym size) in
     let there : Some k ≡ position_in (get_or c.loop-resident.places next blank) = sym c.in-Some.is ∙ c.position.ensures in
     let at : resident places next ≡ Some k = position-at c.loop-resident.places next (Some k) c.next_place-next.ensures.within there in
-    let is : displacement hashes places next ≡ c.distance.result + 1 = displacement-read hashes c.loop-resident.places next k c.distance.result c.loop-resident.invariant.hashes c.next_place-next.ensures.within there (distance_by c.loop-resident.places c.new.result.count c.next_place-next.result c.distance.result c.new.ensures c.distance.ensures) in
+    let is : displacement hashes places next ≡ c.distance.result + 1 = displacement-read hashes c.loop-resident.places next k c.distance.result c.loop-resident.invariant.hashes c.next_place-next.ensures.within there (distance_by c.loop-resident.places c.new-modulus.result.count c.next_place-next.result c.distance.result (c.new-modulus.ensures ∙ sym c.loop-resident.invariant.size) c.distance.ensures) in
     let behind : Place = get_or c.loop-resident.places next blank in
     record {
       gap = subst (λ ps. HasGap hashes ps next) (sym (moved c.loop-resident.places gap next k c.empty.result there c.empty.ensures))
@@ -78,4 +79,5 @@ loop-resident-preserved g c =
           (λ e. omega (arith, is, c.if-distance-eq0.false, ap (displacement hashes places) e, displacement-none hashes places gap c.loop-resident.invariant.gap.empty)) c.loop-resident.invariant.gap.empty at ∙ c.loop-resident.invariant.placed i);
       hashes = hashes-set hashes (set c.loop-resident.places gap behind) next c.empty.result (nothing_has_hash hashes c.empty.result c.empty.ensures)
           (hashes-set hashes c.loop-resident.places gap behind (hashes-at hashes c.loop-resident.places next c.loop-resident.invariant.hashes c.next_place-next.ensures.within) c.loop-resident.invariant.hashes);
+      size = length-set (set c.loop-resident.places gap behind) next c.empty.result ∙ (length-set c.loop-resident.places gap behind ∙ c.loop-resident.invariant.size);
     }

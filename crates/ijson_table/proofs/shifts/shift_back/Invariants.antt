@@ -1,4 +1,4 @@
-use Rattle.std.proofs.Common.{◌≡◌, ℕ}
+use Rattle.std.proofs.Common.{◌≡◌, ℕ, length}
 use Rattle.ijson_table.specs.Places.{times}
 use Rattle.ijson_table.specs.private.Holds.{HasGap}
 use Rattle.ijson_table.specs.private.PlaceHashes.{positions, HaveHashes}
@@ -10,6 +10,7 @@ invariant-loop-resident g l = record {
   gap : HasGap g.hashes (positions l.places) l.gap;
   placed : (i : ℕ) → times i (positions l.places) ≡ times i (positions l.fn.places);
   hashes : HaveHashes g.hashes l.places;
+  size : length l.places ≡ length l.fn.places;
 }
 
 abbrev pub decreases-loop-resident : goal.decreases-loop-resident

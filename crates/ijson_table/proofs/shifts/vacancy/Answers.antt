@@ -25,7 +25,7 @@ no_other places hash looks e Full ends is =
     not_round (displacement_in places) (length (positions places)) (hash % length places) e.0 (omega (arith, home_within hash (length places) (omega (arith, le)), size)) e.1 (displacement_in-none places e.0 le e.2) ends.0
 
 pub unreachable-requires : goal.unreachable-requires
-unreachable-requires c = no_other c.args.places.now c.args.hash (c.probe.new.looks - c.new.result) c.requires c.probe.result c.probe.ensures.ends c.in-Found.is
+unreachable-requires c = no_other c.args.places.now c.args.hash (c.probe.new.looks - c.new-2.result) c.requires c.probe.result c.probe.ensures.ends c.in-Found.is
 
 pub probe-requires-clause-some : goal.probe-requires-clause-some
 probe-requires-clause-some c = omega (arith, c.requires.1, positions-length c.args.places.now)

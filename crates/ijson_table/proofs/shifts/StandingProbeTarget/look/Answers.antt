@@ -10,5 +10,5 @@ returns-clause-sees c =
     let standing = c.args.self.now in
     let places : List Place = standing.places.now in
     looks_at places c.args.place c.eq-same.result (λ i. eqb i standing.position) c.seen.result (omega (arith, c.requires.within, positions-length places))
-    (subst (λ n. SeenAs (get_or places c.args.place blank) n c.args.place c.eq-same.result c.seen.result) c.new.ensures c.seen.ensures)
+    (subst (λ n. SeenAs (get_or places c.args.place blank) n c.args.place c.eq-same.result c.seen.result) standing.counted c.seen.ensures)
     (λ i e. c.eq-same.ensures ∙ ap (λ o. option_eq eqb o (Some standing.position)) (c.position.ensures ∙ e))

@@ -40,4 +40,4 @@ returns-clause-sees g c =
     ] in
     subst (λ (t : Placed g.row.V.Denot). Sees hash (keys_of t.store.pairs) t.places c.args.place key c.seen.result) c.self.view_is
     (sees_place hash keys places.slots c.args.place there c.match-position.same key c.seen.result c.at-there.ensures.position (subst (λ hs. HasHash hs there) c.self.invariant.0.hashes c.at-there.ensures.hash)
-    (subst (λ n. SeenAs there n c.args.place c.match-position.same c.seen.result) (c.new-places.ensures ∙ c.len.ensures.count) c.seen.ensures) sought)
+    (subst (λ n. SeenAs there n c.args.place c.match-position.same c.seen.result) (c.new-modulus.ensures ∙ c.len.ensures.count) c.seen.ensures) sought)
