@@ -91,6 +91,17 @@ reached_stuck text s rest r q n t x h = let o = r.only t x h in go o.1.1 o.1.2
 pub reached_shorter : (text s rest : List ℕ) → Reached text s rest → length rest ≤ length text
 reached_shorter text s rest r = omega (arith, ap length r.is, length-append r.written rest)
 
+-- what is read of the rest is read of the whole
+pub reached_content : (text s rest t behind : List ℕ) → Reached text s rest → ContentAt rest t behind → ContentAt text (s ++ t) behind
+reached_content text s rest t behind r (body, h, e) =
+    (r.written ++ body, body-append r.body h, r.is ∙ ap (λ (l : List ℕ). r.written ++ l) e ∙ sym (append_assoc r.written body (34 ∷ behind)))
+
+pub reached_fault : (text s rest : List ℕ) → Reached text s rest → (fault : Fault) → ContentFault rest fault → ContentFault text fault
+reached_fault text s rest r (faults.Syntax left) h = (omega (arith, h.0, reached_shorter text s rest r), λ t x found. let o = r.only t x found in h.1 o.0 x o.1)
+reached_fault text s rest r (faults.TooDeep left) h = h
+reached_fault text s rest r (faults.NumberRange left) h = h
+reached_fault text s rest r faults.Memory h = h
+
 -- what is appended piece by piece
 pub pushed : (old content new s piece : List ℕ) → content ≡ old ++ s → new ≡ content ++ piece → new ≡ old ++ (s ++ piece)
 pushed old content new s piece e f = f ∙ ap (λ (l : List ℕ). l ++ piece) e ∙ append_assoc old s piece

@@ -1,12 +1,13 @@
 //! Reading a string.
 
-ghost use Rattle.std.specs.Prelude.{◌≡◌, ◌++◌, List, ℕ, IfOk, IfErr, OnErr, MatchResult};
+ghost use Rattle.std.specs.Prelude.{◌≡◌, ◌≢◌, ◌++◌, ◌∷◌, List, ℕ, IfOk, IfErr, OnErr, MatchResult};
 ghost use Rattle.std.specs.String.{string_bytes};
 ghost use Rattle.ijson_string.specs.Cache.{interned};
 ghost use Rattle.ijson_json.specs.Grammar.{IsString};
 ghost use Rattle.ijson_json.specs.AddsOnlyRead.{AddsOnlyRead};
 ghost use Rattle.ijson_json.specs.AreShared.{IsShared};
-ghost use Rattle.ijson_json.specs.private.Reading.{Front, KeyRead};
+ghost use Rattle.ijson_json.specs.Strings.{is_unescaped};
+ghost use Rattle.ijson_json.specs.private.Reading.{Front, KeyRead, Past};
 ghost use Rattle.ijson_json.specs.private.Explains.{ExplainsMember, StringFault};
 ghost use Rattle.ijson_json.specs.private.StringReading.{ContentAt, ContentFault};
 
@@ -17,24 +18,26 @@ use crate::run::split_run;
 use ijson_string::{IString, StringCache};
 use std::hash::BuildHasher;
 
-/// Appends what is left of a string's content, and gives the text behind its closing quote.
+/// Appends what is left of a string's content, from an escape on, and gives the text behind its closing quote.
 fn push_content<'a>(content: &mut String, text: &'a str) -> Result<&'a str, Fault>
+    requires escape { Past is_unescaped text.now }
+    requires unclosed { (behind : List ℕ) → text.now ≢ 34 ∷ behind }
     ensures read { IfOk result (λ rest. (s : List ℕ) × ContentAt text.now s rest.now
         × (string_bytes content.new ≡ string_bytes content.old ++ s)) }
     ensures fault { IfErr result (λ fault. ContentFault text.now fault) }
 {
     let mut left = text;
     loop {
-        let (run, after) = split_run(left);
+        let Some((character, more)) = take_escape(left) else {
+            return Err(Fault::Syntax { left: left.len() });
+        };
+        content.push(character)?;
+        let (run, after) = split_run(more);
         content.push_str(run)?;
         if let Some(rest) = after.strip_prefix('"') {
             return Ok(rest);
         }
-        let Some((character, more)) = take_escape(after) else {
-            return Err(Fault::Syntax { left: after.len() });
-        };
-        content.push(character)?;
-        left = more;
+        left = after;
     }
 }
 
@@ -59,7 +62,8 @@ pub(crate) fn read_string<'a, S: BuildHasher>(
         return Ok((IString::intern(cache, run)?, rest));
     }
     content.clear();
-    let rest = push_content(content, inside)?;
+    content.push_str(run)?;
+    let rest = push_content(content, after)?;
     Ok((IString::intern(cache, content.as_str())?, rest))
 }
 

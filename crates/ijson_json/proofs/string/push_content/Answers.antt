@@ -6,47 +6,55 @@ use Rattle.ijson_json.proofs.Escapes.{strips_char, no_char}
 use Rattle.ijson_json.proofs.Content.{Reached, reached_start, reached_run, reached_character, reached_quote, reached_stuck, reached_shorter, after_run, pushed}
 use Rattle.ijson_json.proofs.string.push_content.Goals as goal
 
-pub loop-rest-init : goal.loop-rest-init
-loop-rest-init c = record {
+pub loop-character-init : goal.loop-character-init
+loop-character-init c = record {
   utf8 = c.utf8.text;
   read = ([], reached_start c.args.text.now, sym (append-nil (string_bytes c.args.content.now)));
+  escape = c.requires.escape;
+  unclosed = c.requires.unclosed;
 }
 
-pub returns-in-Some-clause-read : goal.returns-in-Some-clause-read
-returns-in-Some-clause-read c =
-    let i = c.loop-rest.invariant.read in
-    let run : List ℕ = c.split_run.result.0.now in
-    let after : List ℕ = c.split_run.result.1.now in
-    let reached : Reached c.args.text.now (i.0 ++ run) after = reached_run c.args.text.now i.0 run c.loop-rest.left.now after i.1 c.split_run.ensures.run c.split_run.ensures.whole in (
-      i.0 ++ run,
-      reached_quote c.args.text.now (i.0 ++ run) after c.in-Some.rest.now reached (strips_char 34 after c.in-Some.rest.now c.in-Some.ensures.cases (omega arith)),
-      pushed (string_bytes c.args.content.now) (string_bytes c.loop-rest.content) (string_bytes c.push_str.new.self) i.0 run i.2 c.in_ok-push_str.ensures.bytes,
+pub returns-in_default-clause-fault : goal.returns-in_default-clause-fault
+returns-in_default-clause-fault c =
+    let i = c.loop-character.invariant.read in
+    let left : List ℕ = c.loop-character.left.now in (
+      reached_shorter c.args.text.now i.0 left i.1,
+      reached_stuck c.args.text.now i.0 left i.1 c.loop-character.invariant.unclosed (after_run left c.loop-character.invariant.escape c.in_default.ensures),
     )
 
-pub returns-in_default-take_escape-clause-fault : goal.returns-in_default-take_escape-clause-fault
-returns-in_default-take_escape-clause-fault c =
-    let i = c.loop-rest.invariant.read in
+pub returns-in-Some-strip_prefix-clause-read : goal.returns-in-Some-strip_prefix-clause-read
+returns-in-Some-strip_prefix-clause-read c =
+    let i = c.loop-character.invariant.read in
+    let text : List ℕ = c.args.text.now in
+    let old : List ℕ = string_bytes c.args.content.now in
+    let character : List ℕ = encode_utf8 c.in-Some.character in
     let run : List ℕ = c.split_run.result.0.now in
     let after : List ℕ = c.split_run.result.1.now in
-    let reached : Reached c.args.text.now (i.0 ++ run) after = reached_run c.args.text.now i.0 run c.loop-rest.left.now after i.1 c.split_run.ensures.run c.split_run.ensures.whole in (
-      reached_shorter c.args.text.now (i.0 ++ run) after reached,
-      reached_stuck c.args.text.now (i.0 ++ run) after reached (no_char 34 after c.in_default.ensures.cases (omega arith)) (after_run after c.split_run.ensures.stops c.in_default-take_escape.ensures),
+    let reached : Reached text (i.0 ++ character ++ run) after = reached_run text (i.0 ++ character) run c.in-Some.more.now after (reached_character text i.0 c.loop-character.left.now character c.in-Some.more.now i.1 c.in-Some.ensures) c.split_run.ensures.run c.split_run.ensures.whole in (
+      i.0 ++ character ++ run,
+      reached_quote text (i.0 ++ character ++ run) after c.in-Some-strip_prefix.rest.now reached (strips_char 34 after c.in-Some-strip_prefix.rest.now c.in-Some-strip_prefix.ensures.cases (omega arith)),
+      pushed old (string_bytes c.push.new.self) (string_bytes c.push_str.new.self) (i.0 ++ character) run
+          (pushed old (string_bytes c.loop-character.content) (string_bytes c.push.new.self) i.0 character i.2 c.in_ok-push.ensures.bytes)
+          c.in_ok-push_str.ensures.bytes,
     )
 
-pub loop-rest-preserved : goal.loop-rest-preserved
-loop-rest-preserved c =
-    let i = c.loop-rest.invariant.read in
+pub loop-character-preserved : goal.loop-character-preserved
+loop-character-preserved c =
+    let i = c.loop-character.invariant.read in
+    let text : List ℕ = c.args.text.now in
+    let old : List ℕ = string_bytes c.args.content.now in
+    let character : List ℕ = encode_utf8 c.in-Some.character in
     let run : List ℕ = c.split_run.result.0.now in
     let after : List ℕ = c.split_run.result.1.now in
-    let character : List ℕ = encode_utf8 c.in-Some-take_escape.character in
-    let reached : Reached c.args.text.now (i.0 ++ run) after = reached_run c.args.text.now i.0 run c.loop-rest.left.now after i.1 c.split_run.ensures.run c.split_run.ensures.whole in
     record {
       utf8 = search rules;
       read = (
-        (i.0 ++ run) ++ character,
-        reached_character c.args.text.now (i.0 ++ run) after character c.in-Some-take_escape.more.now reached c.in-Some-take_escape.ensures,
-        pushed (string_bytes c.args.content.now) (string_bytes c.push_str.new.self) (string_bytes c.push.new.self) (i.0 ++ run) character
-            (pushed (string_bytes c.args.content.now) (string_bytes c.loop-rest.content) (string_bytes c.push_str.new.self) i.0 run i.2 c.in_ok-push_str.ensures.bytes)
-            c.in_ok-push.ensures.bytes,
+        i.0 ++ character ++ run,
+        reached_run text (i.0 ++ character) run c.in-Some.more.now after (reached_character text i.0 c.loop-character.left.now character c.in-Some.more.now i.1 c.in-Some.ensures) c.split_run.ensures.run c.split_run.ensures.whole,
+        pushed old (string_bytes c.push.new.self) (string_bytes c.push_str.new.self) (i.0 ++ character) run
+            (pushed old (string_bytes c.loop-character.content) (string_bytes c.push.new.self) i.0 character i.2 c.in_ok-push.ensures.bytes)
+            c.in_ok-push_str.ensures.bytes,
       );
+      escape = c.split_run.ensures.stops;
+      unclosed = no_char 34 after c.in_default-strip_prefix.ensures.cases (omega arith);
     }
