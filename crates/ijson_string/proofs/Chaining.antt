@@ -1,13 +1,31 @@
 -- Entries are chained one by one, from the first on.
-use Rattle.std.proofs.Common.{◌≡◌, ◌∙◌, ap, ap₂, sym, subst, ℕ, ◌+◌, ◌<◌, List, [], ◌∷◌, ◌++◌, length, get_or, take, arith}
+use Rattle.std.proofs.Common.{◌≡◌, ◌∙◌, ap, ap₂, sym, subst, refl, ℕ, ◌+◌, ◌*◌, ◌^◌, ◌<◌, ◌≤◌, List, [], ◌∷◌, ◌++◌, length, get_or, take, replicate, arith}
 use Rattle.std.proofs.Math.ListN.{set}
 use Rattle.std.proofs.Math.Seq.{map-set_same}
-use Rattle.std.proofs.lemmas.List.{get_or-map, length-append, length-map, length-set, length-take-le, map-append, map-set, take_more, take_more_set}
+use Rattle.std.proofs.lemmas.List.{get_or-map, get_or-replicate, length-append, length-map, length-replicate, length-set, length-take-le, map-append, map-set, take_more, take_more_set}
 use Rattle.ijson_string.specs.declared.table.Entry.{Entry}
+use Rattle.ijson_string.specs.declared.table.Home.{Home}
 use Rattle.ijson_string.specs.private.Chains.{home_of, IsChained}
-use Rattle.ijson_string.specs.private.IsTable.{key_of, keys_of, befores_of, IsTable}
+use Rattle.ijson_string.specs.private.IsTable.{key_of, keys_of, befores_of, lasts_of, kinds_of, AreChained, IsTable}
 use Rattle.ijson_string.specs.private.Keys.{homes_of}
+use Rattle.ijson_string.specs.private.Kinds.{marked}
 use Rattle.ijson_string.proofs.Chains.{IsChained-push}
+use Rattle.ijson_string.proofs.Marks.{AreMarked-mark}
+
+abbrev pub no_text : Home
+no_text = record { last = 0; kinds = 0 }
+
+-- homes with no text lead to none
+pub IsChained-none : (n : ℕ) → IsChained [] [] (lasts_of (replicate n no_text))
+IsChained-none n =
+    let empty = replicate n no_text in
+    record {
+      ends = λ h lt.
+          let inside : h < length empty = rw (← length-map empty (λ h. h.last)) lt in
+          get_or-map (λ h. h.last) empty h no_text 0 inside
+          ∙ ap (λ h. h.last) (get_or-replicate n h no_text no_text (rw (← length-replicate n no_text) inside));
+      links = λ p lt. absurd (omega arith);
+    }
 
 -- the first so many entries are chained, and each is what it was but for its chain
 pub record IsBegun (old entries : List Entry) (last : List ℕ) (position : ℕ) : Type 0 where
@@ -46,29 +64,62 @@ IsBegun-step old entries last i h e begun lt there is inside =
           (subst (λ n. IsChained (take i homes ++ h ∷ []) (take i befores ++ get_or last h 0 ∷ []) (set last h (n + 1))) first_homes pushed);
     }
 
--- an entry behind the others, where there is a home for it
-pub IsTable-push : (entries : List Entry) (last : List ℕ) (h : ℕ) (e : Entry) → IsTable entries last
-    → length entries < length last → h ≡ home_of (length last) e.half → h < length last → e.before ≡ get_or last h 0
-    → IsTable (entries ++ e ∷ []) (set last h (length entries + 1))
-IsTable-push entries last h e table room is inside leads =
+-- an entry behind the others
+AreChained-push : (entries : List Entry) (last : List ℕ) (e : Entry) → AreChained entries last
+    → home_of (length last) e.half < length last → e.before ≡ get_or last (home_of (length last) e.half) 0
+    → AreChained (entries ++ e ∷ []) (set last (home_of (length last) e.half) (length entries + 1))
+AreChained-push entries last e chained inside leads =
     let count = length last in
+    let h = home_of count e.half in
     let homes = homes_of count (keys_of entries) in
     let befores = befores_of entries in
     let as_many_homes : length homes ≡ length entries = length-map (keys_of entries) (λ k. home_of count k.half) ∙ length-map entries key_of in
     let as_many_befores = length-map entries (λ e. e.before) in
-    let same = length-set last h (length entries + 1) in
-    let one_more = length-append entries (e ∷ []) in
     let homes_now : homes_of (length (set last h (length entries + 1))) (keys_of (entries ++ e ∷ [])) ≡ homes ++ h ∷ [] =
-    ap₂ homes_of same (map-append key_of entries (e ∷ [])) ∙ map-append (λ k. home_of count k.half) (keys_of entries) (key_of e ∷ [])
-    ∙ ap (λ h. homes ++ h ∷ []) (sym is) in
+    ap₂ homes_of (length-set last h (length entries + 1)) (map-append key_of entries (e ∷ []))
+    ∙ map-append (λ k. home_of count k.half) (keys_of entries) (key_of e ∷ []) in
     let befores_now : befores_of (entries ++ e ∷ []) ≡ befores ++ get_or last h 0 ∷ [] =
     map-append (λ e. e.before) entries (e ∷ []) ∙ ap (λ n. befores ++ n ∷ []) leads in
+    let pushed = IsChained-push homes befores last h chained (as_many_befores ∙ sym as_many_homes) inside in
+    rw (homes_now, befores_now)
+    (subst (λ n. IsChained (homes ++ h ∷ []) (befores ++ get_or last h 0 ∷ []) (set last h (n + 1))) as_many_homes pushed)
+
+-- homes into which such a text was put
+pub record IsEntered (homes after : List Home) (half link : ℕ) : Type 0 where
+  pub as_many : length after ≡ length homes
+  pub inside : home_of (length homes) half < length homes
+  pub last : lasts_of after ≡ set (lasts_of homes) (home_of (length homes) half) link
+  pub kinds : kinds_of after ≡ marked (kinds_of homes) half
+
+-- a text that goes behind the others, where there is room for it
+pub IsTable-push : (entries : List Entry) (homes after : List Home) (e : Entry) → IsTable entries homes → length entries < 2 * length homes
+    → IsEntered homes after e.half (length entries + 1) → e.before ≡ get_or (lasts_of homes) (home_of (length homes) e.half) 0
+    → IsTable (entries ++ e ∷ []) after
+IsTable-push entries homes after e table room entered leads =
+    let last = lasts_of homes in
+    let as_many : length last ≡ length homes = length-map homes (λ h. h.last) in
+    let as_many_kinds : length (kinds_of homes) ≡ length homes = length-map homes (λ h. h.kinds) in
+    let same = entered.as_many in
+    let one_more = length-append entries (e ∷ []) in
     let bounded = table.bounded in
     record {
       room = omega arith;
       bounded = omega arith;
       chained =
-          let pushed = IsChained-push homes befores last h table.chained (as_many_befores ∙ sym as_many_homes) inside in
-          rw (homes_now, befores_now)
-          (subst (λ n. IsChained (homes ++ h ∷ []) (befores ++ get_or last h 0 ∷ []) (set last h (n + 1))) as_many_homes pushed);
+          rw (entered.last, ← as_many)
+          (AreChained-push entries last e table.chained (rw as_many entered.inside) (rw as_many leads));
+      marked =
+          rw (entered.kinds, map-append key_of entries (e ∷ []))
+          (AreMarked-mark (kinds_of homes) e.half (rw as_many_kinds entered.inside) (keys_of entries) (key_of e) table.marked refl);
+    }
+
+-- a table of no text
+pub IsTable-none : (n : ℕ) → n ≤ 2 ^ 32 → IsTable [] (replicate n no_text)
+IsTable-none n bounded =
+    let count = length-replicate n no_text in
+    record {
+      room = omega arith;
+      bounded = omega arith;
+      chained = IsChained-none n;
+      marked = tt;
     }

@@ -1,5 +1,5 @@
 -- The kinds that are marked at the homes of texts.
-use Rattle.std.proofs.Common.{◌≡◌, ◌∙◌, ap, sym, subst, refl, ℕ, ◌+◌, ◌^◌, ◌<◌, ◌≤◌, max, true, false, ◌&&◌, ◌||◌, List, [], ◌∷◌, ◌++◌, length, get_or, take, arith}
+use Rattle.std.proofs.Common.{◌≡◌, ◌∙◌, ap, sym, subst, refl, ℕ, ◌+◌, ◌<◌, max, true, false, ◌&&◌, ◌||◌, List, [], ◌∷◌, ◌++◌, length, get_or, take, arith}
 use Rattle.std.specs.Prelude.{◌==◌, nat_eq}
 use Rattle.std.specs.Int.{bit_at}
 use Rattle.std.specs.Int.Bits.{bit_or}
@@ -12,7 +12,7 @@ use Rattle.ijson_string.specs.declared.table.Entry.{Entry}
 use Rattle.ijson_string.specs.private.Chains.{home_of}
 use Rattle.ijson_string.specs.private.IsTable.{key_of, keys_of}
 use Rattle.ijson_string.specs.private.Keys.{Key, is_key}
-use Rattle.ijson_string.specs.private.Kinds.{AreMarked, IsMarked, covers, kind_of, marked}
+use Rattle.ijson_string.specs.private.Kinds.{AreMarked, covers, kind_of, marked}
 
 greatest_kept : (a b c : ℕ) → max a c ≡ a → max (max a b) c ≡ max a b
 greatest_kept a b c e = omega arith
@@ -84,17 +84,6 @@ AreMarked-step kinds entries i e all lt there inside =
     let key : get_or keys i (key_of e) ≡ key_of e = get_or-map key_of entries i e (key_of e) lt ∙ ap key_of (sym there) in
     subst (AreMarked (marked kinds e.half)) (sym (take_more keys i (key_of e) (omega arith) ∙ ap (λ k. take i keys ++ k ∷ []) key))
     (AreMarked-mark kinds e.half inside (take i keys) (key_of e) all refl)
-
--- a key that goes behind the others
-pub IsMarked-push : (kinds : List ℕ) (homes half : ℕ) (keys : List Key) (k : Key) → IsMarked kinds homes keys → home_of (length kinds) half < length kinds
-    → k.half ≡ half → IsMarked (marked kinds half) homes (keys ++ k ∷ [])
-IsMarked-push kinds homes half keys k was inside e =
-    let same = length-set kinds (home_of (length kinds) half) (bit_or (get_or kinds (home_of (length kinds) half) 0) (kind_of half)) in
-    record {
-      wide = subst (λ n. homes ≤ n) (sym same) was.wide;
-      bounded = subst (λ n. n ≤ 2 ^ 32) (sym same) was.bounded;
-      each = AreMarked-mark kinds half inside keys k was.each e;
-    }
 
 -- no key of a kind that is not marked is there
 pub is_nowhere : (kinds : List ℕ) (half : ℕ) (text : List ℕ) (keys : List Key) → AreMarked kinds keys → covers kinds half ≡ false

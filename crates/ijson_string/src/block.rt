@@ -5,12 +5,13 @@ use std::marker::Model;
 use std::str;
 
 /// A text in UTF-8 of at most `N` bytes. The bytes past `len` are no part of it. It lies where a word of 8 bytes may lie, so that an
-/// `IString` is moved by whole words, whichever variant it is.
+/// `IString` is moved by whole words, whichever variant it is. Its length comes first, so that it is at one place in a block of any
+/// size, and a text is found without a branch on its size.
 #[derive(Drop)]
 pub(crate) struct Block<const N: usize> {
     aligned: [u64; 0],
-    bytes: [u8; N],
     len: u8,
+    bytes: [u8; N],
 }
 
 impl<const N: usize> Model for Block<N> {
@@ -35,8 +36,8 @@ impl<const N: usize> Block<N> {
         bytes[..text.len()].copy_from_slice(text.as_bytes());
         Block {
             aligned: [],
-            bytes,
             len: text.len() as u8,
+            bytes,
         }
     }
 
@@ -46,8 +47,8 @@ impl<const N: usize> Block<N> {
     {
         Block {
             aligned: [],
-            bytes: self.bytes,
             len: self.len,
+            bytes: self.bytes,
         }
     }
 

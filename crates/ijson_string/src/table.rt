@@ -1,9 +1,9 @@
 //! `TextTable`: texts in the order in which they came, found by their hash.
-ghost use Rattle.std.specs.Prelude.{◌≡◌, ◌+◌, ◌<◌, ◌≤◌, ◌^◌, [], ◌∷◌, ◌++◌, length, IfSome, OnOk, OnErr, is_some};
+ghost use Rattle.std.specs.Prelude.{◌≡◌, ◌+◌, ◌*◌, ◌<◌, ◌≤◌, ◌^◌, [], ◌∷◌, ◌++◌, length, get_or, slice_set, IfSome, OnOk, OnErr, is_some, true, false};
 ghost use Rattle.std.specs.List.{list_any};
 ghost use Rattle.ijson_string.specs.private.Chains.{half_of, home_of};
-ghost use Rattle.ijson_string.specs.private.Kinds.{AreMarked, IsMarked, covers, kind_of, marked};
-ghost use Rattle.ijson_string.specs.private.IsTable.{keys_of, AreChained, IsTable};
+ghost use Rattle.ijson_string.specs.private.Kinds.{AreMarked, covers, kind_of, marked};
+ghost use Rattle.ijson_string.specs.private.IsTable.{keys_of, kinds_of, lasts_of, AreChained, IsTable};
 ghost use Rattle.ijson_string.specs.private.Keys.{is_key};
 
 use crate::text::IString;
@@ -20,6 +20,9 @@ const MIN_HOMES: usize = 16;
 /// The most homes: with so many, each half has a home of its own.
 const MAX_HOMES: usize = 1 << 32;
 
+/// How many texts there are for each home before there are more homes.
+const TEXTS_PER_HOME: usize = 2;
+
 /// A text, a half of its hash, and the text that came before it among those of its home.
 #[derive(Drop)]
 struct Entry {
@@ -31,33 +34,43 @@ struct Entry {
 
 const _: () = prove!(size_of::<Entry>() == 24);
 
+/// The texts of one home: the last that came, and their kinds. Both lie in one word, so that a look-up of a text that is not there
+/// waits for memory once.
+#[derive(Clone, Copy, Drop)]
+struct Home {
+    /// One more than a position, and 0 where there is no text.
+    last: u32,
+    /// A bit for each kind.
+    kinds: u32,
+}
+
+const _: () = prove!(size_of::<Home>() == 8);
+
+/// No text.
+const NO_TEXT: Home = Home { last: 0, kinds: 0 };
+
 /// Texts in a list, in the order in which they came. Those of one home are a chain, from the last that came to the first, so
 /// that positions fall along it. A chain is gone along only where a text of the kind that is sought came into its home: of the
-/// texts that are not there, nine in ten are told by one byte. An entry takes 24 bytes, and from 16 texts on there are one to
-/// two homes of 5 bytes for each; each list doubles where it is full. The memory of a text is read only where its half is the
-/// one that is sought. At most 2^32 - 1 texts fit.
+/// texts that are not there, nineteen in twenty are told by the word of their home. An entry takes 24 bytes, and from 32 texts on
+/// there are one to two for each home of 8 bytes; each list doubles where it is full. The memory of a text is read only where its
+/// half is the one that is sought. At most 2^32 - 1 texts fit.
 #[derive(Drop)]
 pub(crate) struct TextTable {
     entries: Vec<Entry>,
-    /// For each home, one more than the position of the last text there, and 0 where there is none.
-    last: Vec<u32>,
-    /// For each home, the kinds of the texts there, a bit for each kind.
-    kinds: Vec<u8>,
+    homes: Vec<Home>,
 }
 
 impl Model for TextTable {
-    ghost use Rattle.std.specs.Prelude.{List, length};
+    ghost use Rattle.std.specs.Prelude.{List};
     ghost use Rattle.ijson_string.specs.private.Keys.{Key};
 
     ghost Value = { List Key };
 
     ghost use Rattle.ijson_string.specs.private.IsTable.{keys_of, IsTable};
-    ghost use Rattle.ijson_string.specs.private.Kinds.{IsMarked};
 
     ghost view = { λ t. keys_of t.entries.items };
 
-    ghost invariant = { λ t. IsTable t.entries.items t.last.items
-        × IsMarked t.kinds.items (length t.last.items) (keys_of t.entries.items) };
+    ghost invariant = { λ t. IsTable t.entries.items t.homes.items };
 }
 
 impl TextTable {
@@ -67,8 +80,7 @@ impl TextTable {
     {
         TextTable {
             entries: Vec::new(alloc),
-            last: Vec::new(alloc),
-            kinds: Vec::new(alloc),
+            homes: Vec::new(alloc),
         }
     }
 
@@ -79,19 +91,16 @@ impl TextTable {
         self.entries.len()
     }
 
-    /// The text that is there like this one, beside this half. It goes along one chain at most, which has at most one text on the
+    /// The text that is there like this one, beside this half. It goes along one chain at most, which has at most two texts on the
     /// average.
     pub(crate) fn find(&self, half: u32, text: &str) -> Option<&IString>
         ensures found { IfSome result (λ found. found.now ≡ text.now) }
         ensures exact { is_some result ≡ list_any (is_key half text.now) self.now }
     {
-        if self.last.is_empty() {
+        if self.homes.is_empty() {
             return None;
         }
-        if !may_have(&self.kinds, half) {
-            return None;
-        }
-        let mut at = self.last[home_of_half(half, self.last.len())];
+        let mut at = first_to_see(&self.homes, half);
         while at > 0 {
             let entry = &self.entries[at as usize - 1];
             if entry.half == half && entry.text.eq_str(text) {
@@ -107,20 +116,14 @@ impl TextTable {
         ensures pushed { OnOk result (self.new ≡ self.old ++ record { half = half; text = text } ∷ []) }
         ensures refused { OnErr result (self.new ≡ self.old) }
     {
-        let position = self.entries.len();
         // A link is one more than a position.
-        let Ok(link) = u32::try_from(position + 1) else {
+        let Ok(link) = u32::try_from(self.entries.len() + 1) else {
             return Err(AllocError);
         };
-        make_room(&mut self.entries, &mut self.last, &mut self.kinds)?;
-        let home = home_of_half(half, self.last.len());
-        self.entries.push(Entry {
-            text,
-            half,
-            before: self.last[home],
-        })?;
-        mark(&mut self.kinds, half);
-        self.last[home] = link;
+        make_room(&mut self.entries, &mut self.homes)?;
+        self.entries.reserve(1)?;
+        let before = enter(&mut self.homes, half, link);
+        self.entries.push_reserved(Entry { text, half, before });
         Ok(())
     }
 
@@ -129,62 +132,76 @@ impl TextTable {
         ensures { self.new ≡ [] }
     {
         self.entries.clear();
-        self.last.fill(0);
-        self.kinds.fill(0);
+        self.homes.fill(NO_TEXT);
     }
 }
 
-/// Makes twice as many homes, where there are as many texts as homes. Where memory is refused, there are the same texts, in the
-/// homes that they had.
-fn make_room(
-    entries: &mut [Entry],
-    last: &mut Vec<u32>,
-    kinds: &mut Vec<u8>,
-) -> Result<(), AllocError>
-    requires table { IsTable entries.old last.old.items }
-    requires marked { IsMarked kinds.old.items (length last.old.items) (keys_of entries.old) }
+/// Makes twice as many homes, where there are twice as many texts as homes. Where memory is refused, there are the same texts, in
+/// the homes that they had.
+fn make_room(entries: &mut [Entry], homes: &mut Vec<Home>) -> Result<(), AllocError>
+    requires table { IsTable entries.old homes.old.items }
     requires few { length entries.old < 2 ^ 32 }
-    ensures table { IsTable entries.new last.new.items }
-    ensures marked { IsMarked kinds.new.items (length last.new.items) (keys_of entries.new) }
+    ensures table { IsTable entries.new homes.new.items }
     ensures kept { keys_of entries.new ≡ keys_of entries.old }
-    ensures room { OnOk result (length entries.new < length last.new.items) }
+    ensures room { OnOk result (length entries.new < 2 * length homes.new.items) }
 {
-    if entries.len() < last.len() {
+    if entries.len() < TEXTS_PER_HOME * homes.len() {
         return Ok(());
     }
-    let count = (2 * last.len()).clamp(MIN_HOMES, MAX_HOMES);
-    kinds.resize(count, 0)?;
-    mark_each(entries, kinds);
-    last.resize(count, 0)?;
-    chain(entries, last);
+    let count = (2 * homes.len()).clamp(MIN_HOMES, MAX_HOMES);
+    homes.resize(count, NO_TEXT)?;
+    chain(entries, homes);
     Ok(())
 }
 
-/// Marks each text anew, at its home among so many. No text is hashed or looked at.
-fn mark_each(entries: &[Entry], kinds: &mut [u8])
-    requires some { 0 < length kinds.old }
-    requires bounded { length kinds.old ≤ 2 ^ 32 }
-    ensures { AreMarked kinds.new (keys_of entries.now) }
+/// Makes the chains anew, from the first text to the last. No text is hashed or looked at.
+fn chain(entries: &mut [Entry], homes: &mut [Home])
+    requires some { 0 < length homes.old }
+    requires bounded { length homes.old ≤ 2 ^ 32 }
+    requires few { length entries.old < 2 ^ 32 }
+    ensures kept { keys_of entries.new ≡ keys_of entries.old }
+    ensures chained { AreChained entries.new (lasts_of homes.new) }
+    ensures marked { AreMarked (kinds_of homes.new) (keys_of entries.new) }
+    ensures as_many { length homes.new ≡ length homes.old }
 {
-    kinds.fill(0);
-    for entry in entries {
-        mark(kinds, entry.half);
+    homes.fill(NO_TEXT);
+    for (position, entry) in entries.iter_mut().enumerate() {
+        entry.before = enter(homes, entry.half, position as u32 + 1);
     }
 }
 
-/// Makes the chains anew, from the first text to the last. No text is hashed or looked at.
-fn chain(entries: &mut [Entry], last: &mut [u32])
-    requires some { 0 < length last.old }
-    requires bounded { length last.old ≤ 2 ^ 32 }
-    requires few { length entries.old < 2 ^ 32 }
-    ensures kept { keys_of entries.new ≡ keys_of entries.old }
-    ensures chained { AreChained entries.new last.new }
+/// Makes a text the last of its home, marks its kind there, and gives the one that was the last.
+fn enter(homes: &mut [Home], half: u32, link: u32) -> u32
+    requires some { 0 < length homes.old }
+    requires bounded { length homes.old ≤ 2 ^ 32 }
+    ensures as_many { length homes.new ≡ length homes.old }
+    ensures inside { home_of (length homes.old) half < length homes.old }
+    ensures before { result ≡ get_or (lasts_of homes.old) (home_of (length homes.old) half) 0 }
+    ensures last { lasts_of homes.new ≡ slice_set (lasts_of homes.old) (home_of (length homes.old) half) link }
+    ensures kinds { kinds_of homes.new ≡ marked (kinds_of homes.old) half }
 {
-    last.fill(0);
-    for (position, entry) in entries.iter_mut().enumerate() {
-        let home = home_of_half(entry.half, last.len());
-        entry.before = last[home];
-        last[home] = position as u32 + 1;
+    let at = home_of_half(half, homes.len());
+    let Home { last, kinds } = homes[at];
+    homes[at] = Home {
+        last: link,
+        kinds: kinds | kind_of_half(half),
+    };
+    last
+}
+
+/// One more than the position of the last text in the home of a half, and 0 where no text of its kind was put there.
+fn first_to_see(homes: &[Home], half: u32) -> u32
+    requires some { 0 < length homes.now }
+    requires bounded { length homes.now ≤ 2 ^ 32 }
+    ensures inside { home_of (length homes.now) half < length homes.now }
+    ensures there { covers (kinds_of homes.now) half ≡ true → result ≡ get_or (lasts_of homes.now) (home_of (length homes.now) half) 0 }
+    ensures nowhere { covers (kinds_of homes.now) half ≡ false → result ≡ 0 }
+{
+    let Home { last, kinds } = homes[home_of_half(half, homes.len())];
+    if kinds | kind_of_half(half) == kinds {
+        last
+    } else {
+        0
     }
 }
 
@@ -210,29 +227,8 @@ fn home_of_half(half: u32, count: usize) -> usize
 
 /// The kind of a half, by its lower bits: its home goes by the upper ones.
 #[tactic(auto, unfolding(crate::specs::private::Kinds::kind_of))]
-fn kind_of_half(half: u32) -> u8
+fn kind_of_half(half: u32) -> u32
     ensures { result ≡ kind_of half }
 {
-    1 << (half % 8)
-}
-
-/// Marks the kind of a half at its home.
-fn mark(kinds: &mut [u8], half: u32)
-    requires some { 0 < length kinds.old }
-    requires bounded { length kinds.old ≤ 2 ^ 32 }
-    ensures written { kinds.new ≡ marked kinds.old half }
-    ensures inside { home_of (length kinds.old) half < length kinds.old }
-{
-    let home = home_of_half(half, kinds.len());
-    kinds[home] |= kind_of_half(half);
-}
-
-/// Whether a text of the kind of this half was put into its home.
-fn may_have(kinds: &[u8], half: u32) -> bool
-    requires some { 0 < length kinds.now }
-    requires bounded { length kinds.now ≤ 2 ^ 32 }
-    ensures { result ≡ covers kinds.now half }
-{
-    let there = kinds[home_of_half(half, kinds.len())];
-    there | kind_of_half(half) == there
+    1 << (half % 32)
 }

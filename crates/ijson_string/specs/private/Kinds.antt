@@ -1,12 +1,12 @@
--- The kinds of the texts of each home: eight, a bit for each. This project's own.
-use Rattle.std.specs.Prelude.{◌≡◌, ℕ, ◌%◌, ◌^◌, ◌≤◌, ◌==◌, Bool, true, List, length, get_or, slice_set}
+-- The kinds of the texts of each home: thirty-two, a bit for each. This project's own.
+use Rattle.std.specs.Prelude.{◌≡◌, ℕ, ◌%◌, ◌^◌, ◌==◌, Bool, true, List, length, get_or, slice_set}
 use Rattle.std.specs.Int.Bits.{bit_or}
 use Rattle.std.specs.List.{AllByRecursion}
 use Rattle.ijson_string.specs.private.Chains.{home_of}
 use Rattle.ijson_string.specs.private.Keys.{Key}
 
 unfoldable pub kind_of : ℕ → ℕ
-kind_of half = 2 ^ (half % 8)
+kind_of half = 2 ^ (half % 32)
 
 -- whether the kind of a half is marked at its home
 abbrev pub covers : List ℕ → ℕ → Bool
@@ -19,9 +19,3 @@ marked kinds half = slice_set kinds (home_of (length kinds) half) (bit_or (get_o
 -- the kind of each key is marked
 abbrev pub AreMarked : List ℕ → List Key → Type 0
 AreMarked kinds keys = AllByRecursion (λ k. covers kinds k.half ≡ true) keys
-
--- and there are at least as many homes of kinds as of chains
-pub record IsMarked (kinds : List ℕ) (homes : ℕ) (keys : List Key) : Type 0 where
-  pub wide : homes ≤ length kinds
-  pub bounded : length kinds ≤ 2 ^ 32
-  pub each : AreMarked kinds keys
