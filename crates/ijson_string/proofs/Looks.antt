@@ -13,11 +13,9 @@ use Rattle.std.proofs.lemmas.List.Folds.{list_any_at, list_any_more}
 use Rattle.ijson_string.specs.declared.table.Entry.{Entry}
 use Rattle.ijson_string.specs.private.Chains.{home_of, last_of, IsChained}
 use Rattle.ijson_string.specs.declared.table.Home.{Home}
-use Rattle.ijson_string.specs.private.IsTable.{key_of, keys_of, befores_of, kinds_of, lasts_of, IsTable}
+use Rattle.ijson_string.specs.private.IsTable.{key_of, keys_of, befores_of, lasts_of, IsTable}
 use Rattle.ijson_string.specs.private.Keys.{Key, homes_of, is_key}
-use Rattle.ijson_string.specs.private.Kinds.{covers}
 use Rattle.ijson_string.proofs.Chains.{last_of-within, last_of-here}
-use Rattle.ijson_string.proofs.Marks.{is_nowhere}
 
 module _ (half : ℕ) (text : List ℕ) where
   -- a key of this half and this text is the key
@@ -142,24 +140,11 @@ module _ (count half : ℕ) (text : List ℕ) where
           ∙ or-false _)
           leads
 
--- what a look-up sees first: the last text of the home, where the kind of the one that is sought is marked, and else none
+-- what a look-up sees first: the last text of the home
 pub IsAhead-first : (half : ℕ) (text : List ℕ) (entries : List Entry) (homes : List Home) (at : ℕ) → IsTable entries homes
-    → home_of (length homes) half < length homes
-    → (covers (kinds_of homes) half ≡ true → at ≡ get_or (lasts_of homes) (home_of (length homes) half) 0)
-    → (covers (kinds_of homes) half ≡ false → at ≡ 0)
+    → home_of (length homes) half < length homes → at ≡ get_or (lasts_of homes) (home_of (length homes) half) 0
     → IsAhead (length (lasts_of homes)) half text (keys_of entries) at
-IsAhead-first half text entries homes at table inside there nowhere =
+IsAhead-first half text entries homes at table inside is =
     let last = lasts_of homes in
     let as_many : length last ≡ length homes = length-map homes (λ h. h.last) in
-    elim (covers (kinds_of homes) half)
-    as (λ b. covers (kinds_of homes) half ≡ b → IsAhead (length last) half text (keys_of entries) at) [
-      | true ↦ λ marked.
-          rw (there marked, ← as_many) (IsAhead-start (length last) half text entries last table.chained (rw as_many inside))
-      | false ↦ λ unmarked.
-          rw (nowhere unmarked)
-          (record {
-            within = omega arith;
-            here = λ some. absurd (omega arith);
-            ahead = is_nowhere (kinds_of homes) half text (keys_of entries) table.marked unmarked;
-          })
-    ] refl
+    rw (is, ← as_many) (IsAhead-start (length last) half text entries last table.chained (rw as_many inside))

@@ -1,5 +1,5 @@
 //! `Block`: a text of a few bytes beside its length.
-ghost use Rattle.std.specs.Prelude.{◌≡◌, ◌≤◌, ◌<◌, length};
+ghost use Rattle.std.specs.Prelude.{◌≡◌, ◌+◌, ◌≤◌, ◌<◌, length, take};
 
 use std::marker::Model;
 use std::str;
@@ -41,6 +41,26 @@ impl<const N: usize> Block<N> {
         }
     }
 
+    /// A block that holds a long `text`, which leaves at most 15 of its bytes free.
+    #[inline(always)]
+    pub(crate) fn filled(text: &str) -> Block<N>
+        requires long { 16 ≤ length text.now }
+        requires fits { length text.now ≤ N }
+        requires filled { N ≤ length text.now + 15 }
+        requires small { N < 256 }
+        ensures { result ≡ text.now }
+    {
+        let source = text.as_bytes();
+        let mut bytes = [0; N];
+        put_piece(&mut bytes, source, 0, N - 15);
+        put_piece(&mut bytes, source, source.len() - 16, 16);
+        Block {
+            aligned: [],
+            len: text.len() as u8,
+            bytes,
+        }
+    }
+
     /// A block that holds the same text.
     pub(crate) fn copy(&self) -> Block<N>
         ensures { result ≡ self.now }
@@ -58,4 +78,39 @@ impl<const N: usize> Block<N> {
     {
         unsafe { str::from_utf8_unchecked(&self.bytes[..usize::from(self.len)]) }
     }
+}
+
+impl Block<23> {
+    /// A block that holds a `text` of 8 bytes or more.
+    #[inline(always)]
+    pub(crate) fn of_words(text: &str) -> Block<23>
+        requires long { 8 ≤ length text.now }
+        requires fits { length text.now ≤ 23 }
+        ensures { result ≡ text.now }
+    {
+        let source = text.as_bytes();
+        let last = source.len() - 8;
+        let mut bytes = [0; 23];
+        put_piece(&mut bytes, source, 0, 8);
+        put_piece(&mut bytes, source, last.min(8), 8);
+        put_piece(&mut bytes, source, last, 8);
+        Block {
+            aligned: [],
+            len: text.len() as u8,
+            bytes,
+        }
+    }
+}
+
+/// Copies so many bytes of the text to where they stand in it, behind those that were copied before. A copy of a size that is known
+/// where this is compiled is a few moves, and any other is a call, which branches on its size.
+#[inline(always)]
+fn put_piece(bytes: &mut [u8], text: &[u8], start: usize, size: usize)
+    requires inside { start + size ≤ length text.now }
+    requires room { length text.now ≤ length bytes.old }
+    requires begun { take start bytes.old ≡ take start text.now }
+    ensures put { take (start + size) bytes.new ≡ take (start + size) text.now }
+    ensures same { length bytes.new ≡ length bytes.old }
+{
+    bytes[start..start + size].copy_from_slice(&text[start..start + size]);
 }

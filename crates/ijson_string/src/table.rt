@@ -1,5 +1,5 @@
 //! `TextTable`: texts in the order in which they came, found by their hash.
-ghost use Rattle.std.specs.Prelude.{◌≡◌, ◌+◌, ◌*◌, ◌<◌, ◌≤◌, ◌^◌, [], ◌∷◌, ◌++◌, length, get_or, slice_set, IfSome, OnOk, OnErr, is_some, true, false};
+ghost use Rattle.std.specs.Prelude.{◌≡◌, ◌+◌, ◌*◌, ◌<◌, ◌≤◌, ◌^◌, [], ◌∷◌, ◌++◌, length, get_or, slice_set, IfSome, IfNone, OnOk, OnErr, is_some, false};
 ghost use Rattle.std.specs.List.{list_any};
 ghost use Rattle.ijson_string.specs.private.Chains.{half_of, home_of};
 ghost use Rattle.ijson_string.specs.private.Kinds.{AreMarked, covers, kind_of, marked};
@@ -100,7 +100,7 @@ impl TextTable {
         if self.homes.is_empty() {
             return None;
         }
-        let mut at = first_to_see(&self.homes, half);
+        let mut at = last_like(&self.homes, half)?;
         while at > 0 {
             let entry = &self.entries[at as usize - 1];
             if entry.half == half && entry.text.eq_str(text) {
@@ -189,20 +189,20 @@ fn enter(homes: &mut [Home], half: u32, link: u32) -> u32
     last
 }
 
-/// One more than the position of the last text in the home of a half, and 0 where no text of its kind was put there.
-fn first_to_see(homes: &[Home], half: u32) -> u32
+/// One more than the position of the last text in the home of a half, where a text of its kind was put there. The kinds are tested
+/// alone: whether a home has a text of another kind is what no processor foretells.
+fn last_like(homes: &[Home], half: u32) -> Option<u32>
     requires some { 0 < length homes.now }
     requires bounded { length homes.now ≤ 2 ^ 32 }
     ensures inside { home_of (length homes.now) half < length homes.now }
-    ensures there { covers (kinds_of homes.now) half ≡ true → result ≡ get_or (lasts_of homes.now) (home_of (length homes.now) half) 0 }
-    ensures nowhere { covers (kinds_of homes.now) half ≡ false → result ≡ 0 }
+    ensures there { IfSome result (λ last. last ≡ get_or (lasts_of homes.now) (home_of (length homes.now) half) 0) }
+    ensures nowhere { IfNone result (covers (kinds_of homes.now) half ≡ false) }
 {
     let Home { last, kinds } = homes[home_of_half(half, homes.len())];
-    if kinds | kind_of_half(half) == kinds {
-        last
-    } else {
-        0
+    if kinds | kind_of_half(half) != kinds {
+        return None;
     }
+    Some(last)
 }
 
 /// The half of a hash that finds its text. It is the upper one of a product, in which each bit of the hash counts, so that a

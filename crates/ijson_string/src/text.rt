@@ -96,10 +96,10 @@ impl IString {
         ensures { IfOk result (λ s. s ≡ text.now) }
     {
         let stored = match text.len() {
-            0..=23 => Stored::UpTo23(Rc::new(alloc, Block::new(text))?),
-            24..=39 => Stored::UpTo39(Rc::new(alloc, Block::new(text))?),
-            40..=55 => Stored::UpTo55(Rc::new(alloc, Block::new(text))?),
-            56..=71 => Stored::UpTo71(Rc::new(alloc, Block::new(text))?),
+            0..=23 => Stored::UpTo23(Rc::new(alloc, Block::of_words(text))?),
+            24..=39 => Stored::UpTo39(Rc::new(alloc, Block::filled(text))?),
+            40..=55 => Stored::UpTo55(Rc::new(alloc, Block::filled(text))?),
+            56..=71 => Stored::UpTo71(Rc::new(alloc, Block::filled(text))?),
             _ => Stored::Long(RcStr::from_str(alloc, text)?),
         };
         Ok(IString { stored })

@@ -1,15 +1,23 @@
-use Rattle.std.proofs.Common.{◌≡◌, ◌∙◌, ap, sym, refl, false, arith}
+use Rattle.std.proofs.Common.{◌≡◌, ◌∙◌, ap, sym, refl, false, is_some, arith}
 use Rattle.std.specs.List.{list_any}
-use Rattle.ijson_string.specs.private.IsTable.{key_of}
+use Rattle.ijson_string.specs.private.IsTable.{key_of, keys_of, kinds_of}
+use Rattle.ijson_string.proofs.Marks.{is_nowhere}
 use Rattle.ijson_string.specs.private.Keys.{is_key}
 use Rattle.ijson_string.proofs.Looks.{IsAhead-first, IsAhead-step, falls, is_other_half, is_other_text, is_same, is_there}
 use Rattle.ijson_string.proofs.table.TextTable.find.Goals as goal
 use Rattle.ijson_string.proofs.table.TextTable.find.Goals.{else-entry-half-via-then-entry-half+else-eq_str, else-entry-half-via-else-entry-half}
 
+pub returns-in_err-at-clause-exact : goal.returns-in_err-at-clause-exact
+returns-in_err-at-clause-exact c =
+    let known = rw c.deref.ensures.value at c.in_err-at.ensures in
+    ap is_some c.from_residual.ensures
+    ∙ sym (ap (list_any (is_key c.args.half c.args.text.now)) (sym c.self.view_is)
+    ∙ is_nowhere (kinds_of c.self.inside.homes.items) c.args.half c.args.text.now (keys_of c.self.inside.entries.items) c.self.invariant.marked known.nowhere)
+
 pub loop-at-init : goal.loop-at-init
 loop-at-init c =
-    let first = rw c.deref.ensures.value at c.first_to_see-at.ensures in
-    IsAhead-first c.args.half c.args.text.now c.self.inside.entries.items c.self.inside.homes.items _ c.self.invariant first.inside first.there first.nowhere
+    let known = rw c.deref.ensures.value at c.in_ok-at.ensures in
+    IsAhead-first c.args.half c.args.text.now c.self.inside.entries.items c.self.inside.homes.items c.in_ok-at.at c.self.invariant known.inside known.there
 
 pub returns-then-eq_str-clause-exact : goal.returns-then-eq_str-clause-exact
 returns-then-eq_str-clause-exact c =
