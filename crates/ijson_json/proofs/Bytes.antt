@@ -18,7 +18,7 @@ not_both false e f = cc
 
 -- a text whose first byte fails does not begin with one that passes
 
-past_first : (p : ℕ → Bool) (x : List ℕ) (c : ℕ) (cs : List ℕ) → Past p x → x ≡ c ∷ cs → IsTrue (p c) → ⊥
+pub past_first : (p : ℕ → Bool) (x : List ℕ) (c : ℕ) (cs : List ℕ) → Past p x → x ≡ c ∷ cs → IsTrue (p c) → ⊥
 past_first p [] c cs h e t = cc
 past_first p (b ∷ x) c cs h e t = let same : b ≡ c = cc in not_both (p c) t (rw (← same) h)
 

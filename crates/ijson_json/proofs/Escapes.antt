@@ -1,81 +1,53 @@
 -- Escapes at the front of a text: digits, four of them, one escape or a pair of two.
-use Rattle.std.proofs.Common.{◌≡◌, ℕ, ◌+◌, ◌*◌, ◌<◌, ◌≤◌, false, List, [], ◌∷◌, ◌++◌, length, get_or, Some, None, refl, sym, ap, subst, ◌∙◌, append_assoc, arith, inl, inr}
-use Rattle.std.specs.Prelude.{IsTrue, ◌⊎◌, ◌≢◌, nat_lt}
+use Rattle.std.proofs.Common.{◌≡◌, ℕ, ◌+◌, ◌*◌, ◌<◌, ◌≤◌, false, cond, List, [], ◌∷◌, ◌++◌, length, get_or, drop, Some, None, refl, sym, ap, subst, ◌∙◌, append_assoc, arith, inl, inr}
+use Rattle.std.specs.Prelude.{IsTrue, ◌||◌, ◌==◌, ◌⊎◌, ◌≢◌, nat_lt}
 use Rattle.std.specs.Char.{encode_utf8, InScalarRange, OutOfScalarRange}
-use Rattle.std.specs.Str.Pattern.{FindsCharPrefix, FindsTextPrefix, StripsPrefix}
+use Rattle.std.specs.Str.Pattern.{FindsTextPrefix, StripsPrefix}
 use Rattle.std.proofs.lemmas.Bool.{lt-ltb}
 use Rattle.std.proofs.lemmas.Bool.Decides.{nat_tests}
-use Rattle.std.proofs.lemmas.Str.{encode_ascii, char_from_byte}
-use Rattle.std.proofs.lemmas.Str.Pattern.{drop_at_char}
+use Rattle.std.proofs.lemmas.Str.{encode_ascii}
 use Rattle.ijson_json.specs.Strings.{is_unescaped, short_escape, hex_digit, Hex, is_high_surrogate, is_low_surrogate, Character, unescaped, short, unicode, pair}
 use Rattle.ijson_json.specs.private.Reading.{Past}
-use Rattle.ijson_json.specs.private.StringReading.{DigitAt, HexAt, CharacterAt, NoDigit, NoHex, NoCharacter, NoEscape, NoLow, LowAt}
-use Rattle.ijson_json.proofs.Bytes.{not_both, heads, tails}
+use Rattle.ijson_json.specs.private.StringReading.{HexAt, CharacterAt, NoHex, NoCharacter, NoEscape, NoLow, LowAt}
+use Rattle.ijson_json.proofs.Bytes.{not_both, past_first, heads, tails}
 use Rattle.ijson_json.proofs.Strings.{hex_same}
 
--- ---- the first character of a text
+-- ---- the front of a text
 
--- what `strip_prefix` gives at an ASCII character, where it is there and where it is not
-pub strips_char : (b : ℕ) (text rest : List ℕ) → StripsPrefix (FindsCharPrefix b) text rest → b < 128 → text ≡ b ∷ rest
-strips_char b text rest (n, at, e, f) ascii = drop_at_char b text 0 n at ascii ∙ ap (λ (l : List ℕ). b ∷ l) (sym e)
-
-pub no_char : (b : ℕ) (text : List ℕ) → FindsCharPrefix b text None → b < 128 → (rest : List ℕ) → text ≢ b ∷ rest
-no_char b text none ascii rest e = none rest (e ∙ ap (λ (l : List ℕ). l ++ rest) (sym (encode_ascii b ascii)))
-
--- what it gives at a text
+-- what `strip_prefix` gives at a text
 pub strips_text : (prefix text rest : List ℕ) → StripsPrefix (FindsTextPrefix prefix) text rest → text ≡ prefix ++ rest
 strips_text prefix text rest (n, at, e, f) = at.1 ∙ ap (λ (l : List ℕ). prefix ++ l) (sym e)
 
--- a text that begins with an ASCII byte begins with that character
-pub first_is : (text rest more : List ℕ) (c b : ℕ) → text ≡ encode_utf8 c ++ rest → text ≡ b ∷ more → b < 128 → c ≡ b
-first_is text rest more c b e f ascii =
-    let first : get_or text 0 0 ≡ b = rw f refl in
-    char_from_byte text rest c e (omega (arith, first, ascii)) (omega (arith, ap length f)) ∙ first
-
-none_some : (c : ℕ) → None ≡ Some c → ⊥
-none_some c h = cc
-
--- a hexadecimal digit is ASCII
-hex_ascii : (a n : ℕ) → hex_digit a ≡ Some n → a < 128
-unfolding hex_digit
-hex_ascii a n h = grind (arith, nat_tests)
-
-pub no_digit : (text : List ℕ) → Past (λ b. nat_lt b 128) text → NoDigit text
-no_digit [] p n rest (a, h, e) = cc
-no_digit (b ∷ more) p n rest (a, h, e) =
-    let small : b < 128 = rw (heads _ _ _ _ e) (hex_ascii a n h) in
-    not_both (nat_lt b 128) (lt-ltb b 128 small) p
-
-pub not_digit : (text rest : List ℕ) (b : ℕ) → text ≡ b ∷ rest → hex_digit b ≡ None → NoDigit text
-not_digit text rest b e none n more (a, h, f) =
-    let same : b ≡ a = heads _ _ _ _ (sym e ∙ f) in
-    none_some n (sym none ∙ ap hex_digit same ∙ h)
-
--- a letter of a short escape is ASCII, and so is what it stands for
-short_ascii : (b m : ℕ) → short_escape b ≡ Some m → (b < 128) × (m < 128)
+-- a letter of a short escape is ASCII
+short_ascii : (b m : ℕ) → short_escape b ≡ Some m → b < 128
 unfolding short_escape
-short_ascii b m h = (grind (arith, nat_tests), grind (arith, nat_tests))
+short_ascii b m h = grind (arith, nat_tests)
+
+-- what a letter stands for, or a full stop
+abbrev pub meaning_of : ℕ → ℕ
+meaning_of b =
+    cond ((b == 34) || ((b == 92) || (b == 47))) b
+    (cond (b == 98) 8 (cond (b == 102) 12 (cond (b == 110) 10 (cond (b == 114) 13 (cond (b == 116) 9 46)))))
+
+pub meaning_found : (b : ℕ) → meaning_of b ≢ 46 → (short_escape b ≡ Some (meaning_of b)) × (meaning_of b < 128)
+unfolding short_escape
+meaning_found b h = (grind (arith, nat_tests), grind (arith, nat_tests))
+
+pub meaning_none : (b : ℕ) → meaning_of b ≡ 46 → short_escape b ≡ None
+unfolding short_escape
+meaning_none b h = grind (arith, nat_tests)
 
 -- ---- four digits
 
-pub hex_at : (text r1 r2 r3 r4 : List ℕ) (x y z w : ℕ) → DigitAt text x r1 → DigitAt r1 y r2 → DigitAt r2 z r3 → DigitAt r3 w r4 → HexAt text (x * 4096 + (y * 256 + (z * 16 + w))) r4
-hex_at text r1 r2 r3 r4 x y z w (a, da, ea) (b, db, eb) (c, dc, ec) (d, dd, ed) =
-    (a ∷ b ∷ c ∷ d ∷ [], record { a = a; b = b; c = c; d = d; x = x; y = y; z = z; w = w; text_is = refl; first = da; second = db; third = dc; fourth = dd; is = refl }, rw (ea, eb, ec, ed) refl)
-
-whole : (text : List ℕ) (u : ℕ) (rest : List ℕ) (h : HexAt text u rest) → text ≡ h.1.a ∷ h.1.b ∷ h.1.c ∷ h.1.d ∷ rest
-whole text u rest (h, x, e) = e ∙ ap (λ (l : List ℕ). l ++ rest) x.text_is
-
-pub no_hex_1 : (text : List ℕ) → NoDigit text → NoHex text
-no_hex_1 text n u rest h = n h.1.x (h.1.b ∷ h.1.c ∷ h.1.d ∷ rest) (h.1.a, h.1.first, whole text u rest h)
-
-pub no_hex_2 : (text r1 : List ℕ) (x : ℕ) → DigitAt text x r1 → NoDigit r1 → NoHex text
-no_hex_2 text r1 x (a, d, e) n u rest h = n h.1.y (h.1.c ∷ h.1.d ∷ rest) (h.1.b, h.1.second, tails _ _ _ _ (sym e ∙ whole text u rest h))
-
-pub no_hex_3 : (text r1 r2 : List ℕ) (x y : ℕ) → DigitAt text x r1 → DigitAt r1 y r2 → NoDigit r2 → NoHex text
-no_hex_3 text r1 r2 x y (a, d, e) (b, d', e') n u rest h = n h.1.z (h.1.d ∷ rest) (h.1.c, h.1.third, tails _ _ _ _ (sym e' ∙ tails _ _ _ _ (sym e ∙ whole text u rest h)))
-
-pub no_hex_4 : (text r1 r2 r3 : List ℕ) (x y z : ℕ) → DigitAt text x r1 → DigitAt r1 y r2 → DigitAt r2 z r3 → NoDigit r3 → NoHex text
-no_hex_4 text r1 r2 r3 x y z (a, d, e) (b, d', e') (c, d'', e'') n u rest h = n h.1.w rest (h.1.d, h.1.fourth, tails _ _ _ _ (sym e'' ∙ tails _ _ _ _ (sym e' ∙ tails _ _ _ _ (sym e ∙ whole text u rest h))))
+-- four digits, and the text behind them
+pub hex_at : (text bytes rest : List ℕ) (x y z w : ℕ) → bytes ≡ text → 4 ≤ length bytes → rest ≡ drop 4 text → hex_digit (get_or bytes 0 0) ≡ Some x → hex_digit (get_or bytes 1 0) ≡ Some y → hex_digit (get_or bytes 2 0) ≡ Some z → hex_digit (get_or bytes 3 0) ≡ Some w → HexAt text (x * 4096 + (y * 256 + (z * 16 + w))) rest
+hex_at text [] rest x y z w t l e f g h i = absurd (omega arith)
+hex_at text (a ∷ []) rest x y z w t l e f g h i = absurd (omega arith)
+hex_at text (a ∷ b ∷ []) rest x y z w t l e f g h i = absurd (omega arith)
+hex_at text (a ∷ b ∷ c ∷ []) rest x y z w t l e f g h i = absurd (omega arith)
+hex_at text (a ∷ b ∷ c ∷ d ∷ more) rest x y z w t l e f g h i =
+    let behind : rest ≡ more = e ∙ ap (λ (l : List ℕ). drop 4 l) (sym t) in
+    (a ∷ b ∷ c ∷ d ∷ [], record { a = a; b = b; c = c; d = d; x = x; y = y; z = z; w = w; text_is = refl; first = f; second = g; third = h; fourth = i; is = refl }, sym t ∙ ap (λ (l : List ℕ). a ∷ b ∷ c ∷ d ∷ l) (sym behind))
 
 -- ---- behind a backslash and `u`
 
@@ -162,21 +134,15 @@ same_text text other m rest e h = subst (λ (l : List ℕ). CharacterAt l m rest
 pub same_none : (text other : List ℕ) → text ≡ other → NoCharacter other → NoCharacter text
 same_none text other e h = subst (λ (l : List ℕ). NoCharacter l) (sym e) h
 
-pub escape_found : (text letters rest : List ℕ) (c m : ℕ) → text ≡ 92 ∷ letters → letters ≡ encode_utf8 c ++ rest → short_escape c ≡ Some m → CharacterAt text (encode_utf8 m) rest
-escape_found text letters rest c m e f h =
-    let ascii = short_ascii c m h in
-    subst (λ (l : List ℕ). CharacterAt text l rest) (sym (encode_ascii m ascii.1))
-    (92 ∷ c ∷ [], short h, e ∙ ap (λ (l : List ℕ). 92 ∷ l) (f ∙ ap (λ (l : List ℕ). l ++ rest) (encode_ascii c ascii.0)))
+pub escape_found : (text letters rest : List ℕ) (c m : ℕ) → text ≡ 92 ∷ letters → letters ≡ c ∷ rest → short_escape c ≡ Some m → m < 128 → CharacterAt text (encode_utf8 m) rest
+escape_found text letters rest c m e f h ascii =
+    subst (λ (l : List ℕ). CharacterAt text l rest) (sym (encode_ascii m ascii))
+    (92 ∷ c ∷ [], short h, e ∙ ap (λ (l : List ℕ). 92 ∷ l) f)
 
-pub escape_none : (text letters rest : List ℕ) (c : ℕ) → text ≡ 92 ∷ letters → letters ≡ encode_utf8 c ++ rest → c ≢ 117 → short_escape c ≡ None → NoEscape text
-escape_none text letters rest c e f other h others g m more at =
-    let same : others ≡ letters = tails _ _ _ _ (sym g ∙ e) in
+-- no escape has a letter beyond ASCII
+pub escape_wide : (text letters : List ℕ) → text ≡ 92 ∷ letters → Past (λ b. nat_lt b 128) letters → NoEscape text
+escape_wide text letters e past others g m more at =
     let found : CharacterAt (92 ∷ letters) m more = subst (λ (l : List ℕ). CharacterAt l m more) e at in
     let l = escape_letter letters m more found in
-    elim l.3 [
-      | inl (d, k) ↦ none_some d (sym h ∙ (rw (first_is letters rest l.1 c l.0 f l.2 (short_ascii l.0 d k).0) k))
-      | inr u ↦ other (first_is letters rest l.1 c l.0 f l.2 (rw u (omega arith)) ∙ u)
-    ]
-
-pub escape_unicode : (text letters rest : List ℕ) (c : ℕ) → text ≡ 92 ∷ letters → letters ≡ encode_utf8 c ++ rest → c ≡ 117 → text ≡ 92 ∷ 117 ∷ rest
-escape_unicode text letters rest c e f u = e ∙ ap (λ (l : List ℕ). 92 ∷ l) (f ∙ ap (λ (l : List ℕ). l ++ rest) (ap encode_utf8 u ∙ encode_ascii 117 (omega arith)))
+    let small : l.0 < 128 = elim l.3 [ inl (d, k) ↦ short_ascii l.0 d k | inr u ↦ rw u (omega arith) ] in
+    past_first (λ b. nat_lt b 128) letters l.0 l.1 past l.2 (lt-ltb l.0 128 small)

@@ -6,6 +6,7 @@ pub mod Options
 pub mod Escapes
 pub mod Runs
 pub mod Content
+pub mod Tables
 pub mod Quoting
 pub mod Lists
 pub mod Unique

@@ -1,13 +1,12 @@
 -- What is written of a string.
-use Rattle.std.proofs.Common.{◌≡◌, ℕ, false, List, [], ◌∷◌, ◌++◌, length, Result, Ok, Err, refl, sym, ap, ap₂, ◌∙◌, append_assoc, arith}
-use Rattle.std.specs.Prelude.{IsTrue, nat_lt, OnOk, is_ok, if◌then◌else◌}
+use Rattle.std.proofs.Common.{◌≡◌, ℕ, ◌<◌, ◌/◌, ◌%◌, false, cond, List, [], ◌∷◌, ◌++◌, length, Result, Ok, Err, refl, sym, ap, ap₂, ◌∙◌, append_assoc, arith}
+use Rattle.std.specs.Prelude.{IsTrue, ◌==◌, ◌≢◌, nat_lt, OnOk, is_ok, if◌then◌else◌}
 use Rattle.std.specs.Char.{encode_utf8}
 use Rattle.std.proofs.lemmas.Bool.Decides.{nat_tests}
 use Rattle.std.proofs.lemmas.List.{append-nil}
 use Rattle.std.proofs.lemmas.Str.{encode_ascii}
 use Rattle.ijson_json.specs.Strings.{is_unescaped}
-use Rattle.ijson_json.specs.Print.{escaped, all_escaped}
-use Rattle.ijson_json.specs.Print.{quoted}
+use Rattle.ijson_json.specs.Print.{escaped, all_escaped, hex_text, quoted}
 use Rattle.ijson_json.specs.private.Reading.{Past}
 use Rattle.ijson_json.proofs.Bytes.{Run}
 use Rattle.ijson_json.proofs.Runs.{special_ascii}
@@ -61,3 +60,29 @@ special_first after rest b p e = rw e at p
 pub on_ok : {A E : Type 0} (r : Result A E) (new longer same want : List ℕ) → new ≡ (if is_ok r then longer else same) → longer ≡ want → OnOk r (new ≡ want)
 on_ok (Ok a) new longer same want e f = e ∙ f
 on_ok (Err x) new longer same want e f = tt
+
+-- ---- the escape of a byte
+
+-- the letter of a byte behind a backslash
+abbrev pub letter_of : ℕ → ℕ
+letter_of b =
+    cond (b == 34) 34 (cond (b == 92) 92
+    (cond (b == 8) 98 (cond (b == 9) 116 (cond (b == 10) 110 (cond (b == 12) 102 (cond (b == 13) 114 117))))))
+
+letter_ascii : (b : ℕ) → letter_of b < 128
+letter_ascii b = grind (arith, nat_tests)
+
+escaped_letter : (b : ℕ) → letter_of b ≢ 117 → escaped b ≡ 92 ∷ letter_of b ∷ []
+unfolding escaped
+escaped_letter b h = grind (arith, nat_tests)
+
+pub escaped_control : (b : ℕ) → is_unescaped b ≡ false → letter_of b ≡ 117 → (b < 32) × (escaped b ≡ 92 ∷ 117 ∷ 48 ∷ 48 ∷ hex_text (b / 16) ∷ hex_text (b % 16) ∷ [])
+unfolding escaped
+escaped_control b h k = (grind (arith, nat_tests), grind (arith, nat_tests))
+
+-- a backslash and a letter are written
+pub letter_written : (old out : List ℕ) (b letter : ℕ) → letter ≡ letter_of b → letter ≢ 117 → out ≡ old ++ encode_utf8 92 → out ++ encode_utf8 letter ≡ old ++ escaped b
+letter_written old out b letter e other f =
+    let same : letter ∷ [] ≡ letter_of b ∷ [] = ap (λ (n : ℕ). n ∷ []) e in
+    ap₂ ◌++◌ (f ∙ ap (λ (l : List ℕ). old ++ l) (encode_ascii 92 (omega arith))) (encode_ascii letter (omega (arith, letter_ascii b, e)) ∙ same)
+    ∙ append_assoc old (92 ∷ []) (letter_of b ∷ []) ∙ ap (λ (l : List ℕ). old ++ l) (sym (escaped_letter b (rw e at other)))

@@ -3,9 +3,9 @@
 ghost use Rattle.std.specs.Prelude.{◌≡◌, ◌∷◌, ◌<◌, IsTrue, IfSome, MatchOption};
 ghost use Rattle.std.specs.Char.{encode_utf8};
 ghost use Rattle.ijson_json.specs.Strings.{short_escape, hex_digit, is_high_surrogate, is_low_surrogate};
-ghost use Rattle.ijson_json.specs.private.StringReading.{DigitAt, NoDigit, HexAt, NoHex, CharacterAt, NoCharacter, NoEscape, LowAt, NoLow};
+ghost use Rattle.ijson_json.specs.private.StringReading.{HexAt, NoHex, CharacterAt, NoCharacter, NoEscape, LowAt, NoLow};
 
-use crate::front::split_ascii;
+use crate::front::{split_ascii, strip_byte};
 
 /// Whether the code is the first of a surrogate pair.
 fn is_high_surrogate(unit: u32) -> bool
@@ -21,27 +21,30 @@ fn is_low_surrogate(unit: u32) -> bool
     (0xdc00..0xe000).contains(&unit)
 }
 
-/// What a backslash and this letter stand for, where that is one character.
-#[tactic(auto, unfolding(crate::specs::Strings::short_escape))]
-fn short_meaning(letter: char) -> Option<char>
-    ensures { result ≡ short_escape letter }
+/// For each letter the byte that a backslash and it stand for, or `.` where they stand for none. A look into a table costs the
+/// same for each letter, where a jump that depends on the letter is seldom foretold.
+static MEANINGS: [u8; 128] = *b"\
+    ................................\
+    ..\"............/................\
+    ............................\\...\
+    ..\x08...\x0c.......\n...\r.\t...........";
+
+/// What a backslash and this letter stand for, where that is one byte.
+fn short_meaning(letter: u8) -> Option<u8>
+    requires { letter < 128 }
+    ensures value { result ≡ short_escape letter }
+    ensures ascii { IfSome result (λ meaning. meaning < 128) }
 {
-    match letter {
-        '"' | '\\' | '/' => Some(letter),
-        'b' => Some('\u{8}'),
-        'f' => Some('\u{c}'),
-        'n' => Some('\n'),
-        'r' => Some('\r'),
-        't' => Some('\t'),
-        _ => None,
-    }
+    let meaning = MEANINGS[letter as usize];
+    if meaning == b'.' { None } else { Some(meaning) }
 }
 
-/// The value of a hexadecimal digit.
+/// The value of a hexadecimal digit, and nothing where the byte is none.
 #[tactic(auto, unfolding(crate::specs::Strings::hex_digit))]
 fn hex_digit(byte: u8) -> Option<u32>
     ensures value { result ≡ hex_digit byte }
     ensures small { IfSome result (λ digit. digit < 16) }
+    ensures ascii { IfSome result (λ digit. byte < 128) }
 {
     match byte {
         b'0'..=b'9' => Some(u32::from(byte - b'0')),
@@ -51,26 +54,23 @@ fn hex_digit(byte: u8) -> Option<u32>
     }
 }
 
-/// The hexadecimal digit at the front, and the text behind it.
-fn take_digit(text: &str) -> Option<(u32, &str)>
-    ensures found { MatchOption result (NoDigit text.now) (λ x. DigitAt text.now x.0 x.1.now) }
-    ensures small { IfSome result (λ x. x.0 < 16) }
-{
-    let (byte, rest) = split_ascii(text)?;
-    let digit = hex_digit(byte)?;
-    Some((digit, rest))
-}
-
 /// The number of the four hexadecimal digits at the front, and the text behind them.
+#[inline(always)]
 fn take_unit(text: &str) -> Option<(u32, &str)>
     ensures found { MatchOption result (NoHex text.now) (λ x. HexAt text.now x.0 x.1.now) }
     ensures small { IfSome result (λ x. x.0 < 65536) }
 {
-    let (first, rest) = take_digit(text)?;
-    let (second, rest) = take_digit(rest)?;
-    let (third, rest) = take_digit(rest)?;
-    let (fourth, rest) = take_digit(rest)?;
-    Some((first * 4096 + (second * 256 + (third * 16 + fourth)), rest))
+    let [a, b, c, d, ..] = text.as_bytes() else {
+        return None;
+    };
+    let first = hex_digit(*a)?;
+    let second = hex_digit(*b)?;
+    let third = hex_digit(*c)?;
+    let fourth = hex_digit(*d)?;
+    Some((
+        first * 4096 + (second * 256 + (third * 16 + fourth)),
+        &text[4..],
+    ))
 }
 
 /// The character of a high surrogate and of the low one whose escape is at the front.
@@ -106,11 +106,11 @@ pub(crate) fn take_escape(text: &str) -> Option<(char, &str)>
     ensures { MatchOption result (NoEscape text.now)
         (λ x. CharacterAt text.now (encode_utf8 x.0) x.1.now) }
 {
-    let mut letters = text.strip_prefix('\\')?.chars();
-    let letter = letters.next()?;
-    if letter == 'u' {
-        return take_unicode(letters.as_str());
+    let letters = strip_byte(text, b'\\')?;
+    let (letter, rest) = split_ascii(letters)?;
+    if letter == b'u' {
+        return take_unicode(rest);
     }
-    let character = short_meaning(letter)?;
-    Some((character, letters.as_str()))
+    let meaning = short_meaning(letter)?;
+    Some((meaning as char, rest))
 }

@@ -32,22 +32,25 @@ fn push_unicode(out: &mut String, control: u8) -> Result<(), AllocError>
     out.push(hex_letter(control % 16))
 }
 
-/// Appends the escape of a character that does not stand for itself.
-#[tactic(auto, unfolding(crate::specs::Print::escaped))]
-fn push_escape(out: &mut String, character: char) -> Result<(), AllocError>
-    requires { is_unescaped character ≡ false }
-    ensures { OnOk result (string_bytes out.new ≡ string_bytes out.old ++ escaped character) }
+/// For each byte the letter that stands for it behind a backslash, or `u` where it has none of its own. A look into a table
+/// costs the same for each byte, where a jump that depends on the byte is seldom foretold.
+static LETTERS: [u8; 128] = *b"\
+    uuuuuuuubtnufruuuuuuuuuuuuuuuuuu\
+    uu\"uuuuuuuuuuuuuuuuuuuuuuuuuuuuu\
+    uuuuuuuuuuuuuuuuuuuuuuuuuuuu\\uuu\
+    uuuuuuuuuuuuuuuuuuuuuuuuuuuuuuuu";
+
+/// Appends the escape of a byte that does not stand for itself.
+fn push_escape(out: &mut String, byte: u8) -> Result<(), AllocError>
+    requires { is_unescaped byte ≡ false }
+    ensures { OnOk result (string_bytes out.new ≡ string_bytes out.old ++ escaped byte) }
 {
-    match character {
-        '"' => out.push_str("\\\""),
-        '\\' => out.push_str("\\\\"),
-        '\u{8}' => out.push_str("\\b"),
-        '\t' => out.push_str("\\t"),
-        '\n' => out.push_str("\\n"),
-        '\u{c}' => out.push_str("\\f"),
-        '\r' => out.push_str("\\r"),
-        control => push_unicode(out, control as u8),
+    let letter = LETTERS[byte as usize];
+    if letter == b'u' {
+        return push_unicode(out, byte);
     }
+    out.push('\\')?;
+    out.push(letter as char)
 }
 
 /// Appends the text between quotes, with its escapes. The error comes where there was not enough memory. A beginning of what
@@ -64,7 +67,7 @@ pub fn push_quoted(out: &mut String, text: &str) -> Result<(), AllocError>
         let Some((byte, rest)) = split_ascii(after) else {
             return out.push('"');
         };
-        push_escape(out, byte as char)?;
+        push_escape(out, byte)?;
         left = rest;
     }
 }

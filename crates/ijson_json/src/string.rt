@@ -34,7 +34,7 @@ fn push_content<'a>(content: &mut String, text: &'a str) -> Result<&'a str, Faul
         content.push(character)?;
         let (run, after) = split_run(more);
         content.push_str(run)?;
-        if let Some(rest) = after.strip_prefix('"') {
+        if let Some(rest) = strip_byte(after, b'"') {
             return Ok(rest);
         }
         left = after;
@@ -54,11 +54,11 @@ pub(crate) fn read_string<'a, S: BuildHasher>(
     ensures cache { IfOk result (λ x. cache.new ≡ interned x.0 cache.old) }
     ensures refused { OnErr result (cache.new ≡ cache.old) }
 {
-    let Some(inside) = text.strip_prefix('"') else {
+    let Some(inside) = strip_byte(text, b'"') else {
         return Err(Fault::Syntax { left: text.len() });
     };
     let (run, after) = split_run(inside);
-    if let Some(rest) = after.strip_prefix('"') {
+    if let Some(rest) = strip_byte(after, b'"') {
         return Ok((IString::intern(cache, run)?, rest));
     }
     content.clear();

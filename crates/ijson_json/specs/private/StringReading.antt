@@ -1,17 +1,11 @@
 -- What the functions that read a string find at the front of a text.
-use Rattle.std.specs.Prelude.{◌≡◌, ℕ, ◌≤◌, List, ◌∷◌, ◌++◌, ⊤, length, IsTrue, Some}
+use Rattle.std.specs.Prelude.{◌≡◌, ℕ, ◌≤◌, List, ◌∷◌, ◌++◌, ⊤, length, IsTrue}
 use Rattle.std.specs.Char.{encode_utf8}
-use Rattle.ijson_json.specs.Strings.{hex_digit, Hex, Character, is_low_surrogate, paired, StringBody}
+use Rattle.ijson_json.specs.Strings.{Hex, Character, is_low_surrogate, paired, StringBody}
 use Rattle.ijson_json.specs.declared.fault.Fault.{Fault}
 use Rattle.ijson_json.specs.declared.fault.Fault.TheVariants as faults
 
--- a hexadecimal digit, or four of them, and the number that they spell
-abbrev pub DigitAt : List ℕ → ℕ → List ℕ → Type 0
-DigitAt text n rest = (a : ℕ) × (hex_digit a ≡ Some n) × (text ≡ a ∷ rest)
-
-abbrev pub NoDigit : List ℕ → Type 0
-NoDigit text = (n : ℕ) (rest : List ℕ) → DigitAt text n rest → ⊥
-
+-- four hexadecimal digits, and the number that they spell
 abbrev pub HexAt : List ℕ → ℕ → List ℕ → Type 0
 HexAt text u rest = (h : List ℕ) × Hex h u × (text ≡ h ++ rest)
 

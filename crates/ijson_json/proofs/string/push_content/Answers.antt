@@ -1,8 +1,8 @@
-use Rattle.std.proofs.Common.{◌++◌, [], List, ℕ, sym, arith, rules}
+use Rattle.std.proofs.Common.{◌++◌, [], List, ℕ, refl, sym, rules}
 use Rattle.std.specs.String.{string_bytes}
 use Rattle.std.specs.Char.{encode_utf8}
 use Rattle.std.proofs.lemmas.List.{append-nil}
-use Rattle.ijson_json.proofs.Escapes.{strips_char, no_char}
+use Rattle.ijson_json.proofs.Bytes.{past_first}
 use Rattle.ijson_json.proofs.Content.{Reached, reached_start, reached_run, reached_character, reached_quote, reached_stuck, reached_shorter, after_run, pushed}
 use Rattle.ijson_json.proofs.string.push_content.Goals as goal
 
@@ -22,8 +22,8 @@ returns-in_default-clause-fault c =
       reached_stuck c.args.text.now i.0 left i.1 c.loop-character.invariant.unclosed (after_run left c.loop-character.invariant.escape c.in_default.ensures),
     )
 
-pub returns-in-Some-strip_prefix-clause-read : goal.returns-in-Some-strip_prefix-clause-read
-returns-in-Some-strip_prefix-clause-read c =
+pub returns-in-Some-strip_byte-clause-read : goal.returns-in-Some-strip_byte-clause-read
+returns-in-Some-strip_byte-clause-read c =
     let i = c.loop-character.invariant.read in
     let text : List ℕ = c.args.text.now in
     let old : List ℕ = string_bytes c.args.content.now in
@@ -32,7 +32,7 @@ returns-in-Some-strip_prefix-clause-read c =
     let after : List ℕ = c.split_run.result.1.now in
     let reached : Reached text (i.0 ++ character ++ run) after = reached_run text (i.0 ++ character) run c.in-Some.more.now after (reached_character text i.0 c.loop-character.left.now character c.in-Some.more.now i.1 c.in-Some.ensures) c.split_run.ensures.run c.split_run.ensures.whole in (
       i.0 ++ character ++ run,
-      reached_quote text (i.0 ++ character ++ run) after c.in-Some-strip_prefix.rest.now reached (strips_char 34 after c.in-Some-strip_prefix.rest.now c.in-Some-strip_prefix.ensures.cases (omega arith)),
+      reached_quote text (i.0 ++ character ++ run) after c.in-Some-strip_byte.rest.now reached c.in-Some-strip_byte.ensures,
       pushed old (string_bytes c.push.new.self) (string_bytes c.push_str.new.self) (i.0 ++ character) run
           (pushed old (string_bytes c.loop-character.content) (string_bytes c.push.new.self) i.0 character i.2 c.in_ok-push.ensures.bytes)
           c.in_ok-push_str.ensures.bytes,
@@ -56,5 +56,5 @@ loop-character-preserved c =
             c.in_ok-push_str.ensures.bytes,
       );
       escape = c.split_run.ensures.stops;
-      unclosed = no_char 34 after c.in_default-strip_prefix.ensures.cases (omega arith);
+      unclosed = λ behind e. past_first _ after 34 behind c.in_default-strip_byte.ensures e refl;
     }

@@ -1,0 +1,20 @@
+use Rattle.std.proofs.Common.{◌≡◌, ℕ, false, refl, sym, ◌∙◌, get_or}
+use Rattle.std.specs.String.{string_bytes}
+use Rattle.ijson_json.specs.declared.quote.TheConstants.{LETTERS}
+use Rattle.ijson_json.specs.Strings.{is_unescaped}
+use Rattle.ijson_json.proofs.Runs.{special_ascii}
+use Rattle.ijson_json.proofs.Tables.{agree_below, from_table}
+use Rattle.ijson_json.proofs.Quoting.{letter_of, letter_written, escaped_control, on_ok}
+use Rattle.ijson_json.proofs.quote.push_escape.Goals as goal
+
+in_table : (b : ℕ) → is_unescaped b ≡ false → get_or LETTERS b 0 ≡ letter_of b
+unfolding agree_below
+in_table b h = from_table LETTERS letter_of b (special_ascii b h) refl
+
+pub returns-then-letter-eq117 : goal.returns-then-letter-eq117
+returns-then-letter-eq117 c = rw (escaped_control c.args.byte c.requires (sym (in_table c.args.byte c.requires) ∙ c.if-letter-eq117.true)).1 c.push_unicode.ensures
+
+pub returns : goal.returns
+returns c =
+    on_ok c.push-2.result _ _ _ _ c.push-2.ensures.bytes
+    (letter_written (string_bytes c.args.out.now) (string_bytes c.push.new.self) c.args.byte _ (in_table c.args.byte c.requires) c.if-letter-eq117.false c.in_ok-push.ensures.bytes)
