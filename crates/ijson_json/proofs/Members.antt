@@ -11,12 +11,6 @@ use Rattle.ijson_json.specs.private.Explains.{Explains, ExplainsMember}
 use Rattle.ijson_json.proofs.Bytes.{run_same, not_both, tails}
 use Rattle.ijson_json.proofs.Unique.{string_same, value-past_space}
 
--- a key, `:` and white space were read
-
-pub key_read : (k text after colon more cur : List ℕ) → Front (λ front. IsString k front) text after → Skips after colon → colon ≡ 58 ∷ more → Skips more cur → KeyRead k text cur
-key_read k text after colon more cur f s e s' =
-    record { key = f.front; gap = s.space; gap' = s'.space; is_key = f.holds; space = s.passed; space' = s'.passed; is = f.is ∙ ap (λ (l : List ℕ). f.front ++ l) (s.is ∙ ap (λ (l : List ℕ). s.space ++ l) (e ∙ ap (λ (l : List ℕ). 58 ∷ l) s'.is)); past = s'.past }
-
 -- a member whose value was read
 
 pub member_read : (opened : ℕ) (k text cur : List ℕ) (t : Tree) (rest : List ℕ) → KeyRead k text cur → IsRead opened cur t rest → Found (List ℕ × Tree) (λ m text. Pair m text) (λ m. m.1) opened text (k, t) rest

@@ -69,7 +69,7 @@ impl ShortNumber {
 impl Stored {
     ghost use Rattle.ijson_number.specs.Form.{digits_form};
     ghost use Rattle.ijson_number.specs.private.Scanned.{IsScanned, scanned_number};
-    ghost use Rattle.ijson_number.specs.private.Stored.{IsList, stored_form};
+    ghost use Rattle.ijson_number.specs.private.Stored.{IsList, IsShort, stored_form};
     ghost use Rattle.ijson_number.specs.private.StrippedNumber.{decimal_of};
 
     /// Whether both are one word.
@@ -85,9 +85,10 @@ impl Stored {
         }
     }
 
-    /// The stripped digits, in one block of 24 bytes where they are few.
+    /// The stripped digits, in one block of 24 bytes where they are few and the exponent is small.
     pub fn from_stripped(alloc: Global, number: &StrippedNumber<'_>) -> Result<Stored, AllocError>
-        ensures { IfOk result (λ s. stored_form s ≡ digits_form (decimal_of number.now)) }
+        ensures few { length number.now.digits.now ≤ 19 → FitsSigned w16 number.now.exponent → IfOk result IsShort }
+        ensures form { IfOk result (λ s. stored_form s ≡ digits_form (decimal_of number.now)) }
     {
         if let Some(short) = ShortNumber::new(number) {
             let short = Box::new(alloc, short)?;

@@ -12,7 +12,7 @@ use Rattle.ijson_string.specs.private.Kinds.{marked}
 use Rattle.ijson_string.proofs.Chains.{IsChained-push}
 use Rattle.ijson_string.proofs.Marks.{AreMarked-mark}
 
-abbrev pub no_text : Home
+abbrev no_text : Home
 no_text = record { last = 0; kinds = 0 }
 
 -- homes with no text lead to none

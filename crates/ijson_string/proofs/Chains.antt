@@ -37,7 +37,7 @@ last_of-here home (h ∷ homes) some =
     ] refl some
 
 -- the last position after one text more
-pub last_of-push : (home : ℕ) (homes : List ℕ) (h : ℕ)
+last_of-push : (home : ℕ) (homes : List ℕ) (h : ℕ)
     → last_of home (homes ++ h ∷ []) ≡ (if h == home then length homes + 1 else last_of home homes)
 last_of-push home [] h = refl
 last_of-push home (x ∷ homes) h = rw (last_of-push home homes h) (grind (arith, nat_tests))

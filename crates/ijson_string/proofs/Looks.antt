@@ -89,7 +89,7 @@ module _ (count half : ℕ) (text : List ℕ) where
 
   module _ (entries : List Entry) (last : List ℕ) (chained : IsChained (homes_of count (keys_of entries)) (befores_of entries) last) where
     -- at the start
-    pub IsAhead-start : home_of count half < length last → IsAhead (keys_of entries) (get_or last (home_of count half) 0)
+    IsAhead-start : home_of count half < length last → IsAhead (keys_of entries) (get_or last (home_of count half) 0)
     IsAhead-start inside =
         let keys = keys_of entries in
         let as_many = length-map keys (λ k. home_of count k.half) in

@@ -190,7 +190,9 @@ fn enter(homes: &mut [Home], half: u32, link: u32) -> u32
 }
 
 /// One more than the position of the last text in the home of a half, where a text of its kind was put there. The kinds are tested
-/// alone: whether a home has a text of another kind is what no processor foretells.
+/// alone: whether a home has a text of another kind is what no processor foretells. It stays a call, since a compiler that puts it
+/// into `find` tests first whether the home has any.
+#[inline(never)]
 fn last_like(homes: &[Home], half: u32) -> Option<u32>
     requires some { 0 < length homes.now }
     requires bounded { length homes.now ≤ 2 ^ 32 }

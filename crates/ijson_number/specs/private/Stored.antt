@@ -30,6 +30,14 @@ stored_decimal stored = form_number (stored_form stored)
 abbrev pub IsForm : Stored → Type 0
 IsForm stored = form_of (stored_decimal stored) ≡ stored_form stored
 
+-- its digits are few, in the number itself
+abbrev pub IsShort : Stored → Type 0
+IsShort (Short number) = ⊤
+IsShort (Long number) = ⊥
+IsShort (Packed word) = ⊥
+IsShort (I64 value) = ⊥
+IsShort (U64 value) = ⊥
+
 -- its digits are a list
 abbrev pub IsList : Stored → Type 0
 IsList (Short number) = ⊤

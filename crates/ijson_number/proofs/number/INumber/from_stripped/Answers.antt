@@ -21,14 +21,14 @@ returns-in-Some-clause-number c =
 pub invariant_of-result-3 : goal.invariant_of-result-3
 invariant_of-result-3 c =
     let s = c.args.number.now in
-    stored_form_of (decimal_of s) _ s.num (c.in_ok-stored.ensures ∙ sym c.in_default.ensures.none)
+    stored_form_of (decimal_of s) _ s.num (c.in_ok-stored.ensures.form ∙ sym c.in_default.ensures.none)
 
 pub invariant_of-result-2 : goal.invariant_of-result-2
 invariant_of-result-2 c =
     let s = c.args.number.now in
-    (stored_num (decimal_of s) _ s.num (c.in_ok-stored.ensures ∙ sym c.in_default.ensures.none), tt)
+    (stored_num (decimal_of s) _ s.num (c.in_ok-stored.ensures.form ∙ sym c.in_default.ensures.none), tt)
 
 pub returns-clause-number : goal.returns-clause-number
 returns-clause-number c =
     let s = c.args.number.now in
-    form_has (decimal_of s) _ s.num.plain (c.in_ok-stored.ensures ∙ sym c.in_default.ensures.none)
+    form_has (decimal_of s) _ s.num.plain (c.in_ok-stored.ensures.form ∙ sym c.in_default.ensures.none)

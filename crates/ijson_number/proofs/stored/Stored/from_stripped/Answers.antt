@@ -6,11 +6,11 @@ use Rattle.ijson_number.specs.private.Stored.{short_form, long_form}
 use Rattle.ijson_number.proofs.Forms.{stored_form}
 use Rattle.ijson_number.proofs.stored.Stored.from_stripped.Goals as goal
 
-pub returns-in-Some : goal.returns-in-Some
-returns-in-Some c = ap short_form c.in_ok-short.ensures.ok ∙ c.in-Some.ensures.form
+pub returns-in-Some-clause-form : goal.returns-in-Some-clause-form
+returns-in-Some-clause-form c = ap short_form c.in_ok-short.ensures.ok ∙ c.in-Some.ensures.form
 
-pub returns : goal.returns
-returns c =
+pub returns-clause-form : goal.returns-clause-form
+returns-clause-form c =
     let n = c.args.number.now in
     let fits : FitsSigned w32 n.exponent = search rules in
     ap long_form c.in_ok-long.ensures.ok ∙ rw (c.in_ok-digits.ensures.items, to_z-of_z w32 n.exponent fits) (sym (stored_form n.negative n.digits.now n.exponent n.point n.stripped))
