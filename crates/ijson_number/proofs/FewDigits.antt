@@ -27,11 +27,11 @@ use Rattle.ijson_number.proofs.Runs.{AllDigits-append}
 use Rattle.ijson_number.proofs.Sizes.{power_le}
 use Rattle.ijson_number.proofs.WholeValues.{abs_times, tens_few, times_one}
 
-below_base : (bs : List ℕ) → AllDigits bs → AllBelowBase 10 (digits_from_text bs)
+pub below_base : (bs : List ℕ) → AllDigits bs → AllBelowBase 10 (digits_from_text bs)
 below_base [] h = tt
 below_base (b ∷ bs) h = (let d = h.0 in omega arith, below_base bs h.1)
 
-count_of : (bs : List ℕ) → length (digits_from_text bs) ≡ length bs
+pub count_of : (bs : List ℕ) → length (digits_from_text bs) ≡ length bs
 count_of bs = length-map {A = ℕ} {B = ℕ} bs (λ b. b - 48)
 
 -- one more digit

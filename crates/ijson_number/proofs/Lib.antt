@@ -26,5 +26,7 @@ pub mod IntegerWords
 pub mod DigitRows
 pub mod WordTexts
 pub mod FewDigits
+pub mod Vectors
+pub mod Taken
 pub mod ShortNumbers
 pub mod RowTexts

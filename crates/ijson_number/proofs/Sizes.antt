@@ -62,7 +62,8 @@ spread n d p v = grind arith
 from_first : (d : ℕ) (ds : List ℕ) → number_from_digits 10 (d ∷ ds) ≡ number_from_digits_after 10 d ds
 from_first d ds = let z : 0 * 10 + d ≡ d = omega arith in ap (λ x. number_from_digits_after 10 x ds) z
 
-number_after_is : (n : ℕ) (ds : List ℕ) → number_from_digits_after 10 n ds ≡ n * 10 ^ length ds + number_from_digits 10 ds
+-- digits behind a number
+pub number_after_is : (n : ℕ) (ds : List ℕ) → number_from_digits_after 10 n ds ≡ n * 10 ^ length ds + number_from_digits 10 ds
 number_after_is n [] = omega arith
 number_after_is n (d ∷ ds) =
     let t : 10 ^ suc (length ds) ≡ 10 * 10 ^ length ds = pow-succ' 10 (length ds) in

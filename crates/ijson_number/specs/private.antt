@@ -1,5 +1,6 @@
 pub mod NumberBytes
 pub mod Reading
+pub mod Taken
 pub mod Scanned
 pub mod Front
 pub mod ShortDigits

@@ -1,37 +1,34 @@
 //! A number of few digits at the front of a text, read in one pass.
 ghost use Rattle.std.specs.Prelude.{◌≡◌, ◌≢◌, ◌+◌, ◌*◌, ◌%◌, ◌^◌, ◌<◌, ◌≤◌, List, ℕ, take, drop, length, IfNone, IfSome, IsSome};
-ghost use Rattle.std.specs.Int.Digits.{number_from_digits_after};
 ghost use Rattle.ijson_number.specs.Decimal.{Decimal};
 ghost use Rattle.ijson_number.specs.Form.{form_of};
-ghost use Rattle.ijson_number.specs.Grammar.{AllDigits, Parts, Spells};
+ghost use Rattle.ijson_number.specs.Grammar.{Parts, Spells};
 ghost use Rattle.ijson_number.specs.Num.{IsNum};
 ghost use Rattle.ijson_number.specs.PlainFront.{IsPlainFront};
 ghost use Rattle.ijson_number.specs.private.Front.{IsFront, IsFrontTail, IsPlainTail, front_number};
-ghost use Rattle.ijson_number.specs.private.Reading.{BeginsWithNoDigit};
 ghost use Rattle.ijson_number.specs.private.Stored.{short_form, stored_form};
-ghost use Rattle.ijson_number.specs.private.Stripped.{digits_from_text};
 ghost use Rattle.ijson_number.specs.private.StrippedNumber.{decimal_of};
+ghost use Rattle.ijson_number.specs.private.Taken.{IsTaken};
 
 use crate::digits::ShortDigits;
 use crate::few_digits::{pointed_word, whole_word, without_zeros};
 use crate::reading::{is_whole, split_sign};
+use crate::row::{ROW, digit_count, number_of, power_of_ten};
 use crate::stored::{ShortNumber, Stored};
 use crate::stripped::{ROOM, StrippedNumber};
+use std::simd::prelude::*;
 
 /// How many digits a word without a sign holds, whatever they are.
 const MOST: usize = 19;
+
+/// How many digits of a whole part are read one by one.
+const FEW: usize = 4;
 
 /// The number that the digits at the front, but at most so many, make of one, and how many they are.
 #[inline(always)]
 fn take_digits(number: u64, bytes: &[u8], most: usize) -> (u64, usize)
     requires { (number + 1) * 10 ^ most ≤ 10 ^ 19 }
-    ensures few { result.1 ≤ most }
-    // They are all that stand there, unless there are as many as may be taken.
-    ensures all { result.1 < most → BeginsWithNoDigit (drop result.1 bytes.now) }
-    ensures within { result.1 ≤ length bytes.now }
-    ensures digits { AllDigits (take result.1 bytes.now) }
-    ensures value { result.0
-        ≡ number_from_digits_after 10 number (digits_from_text (take result.1 bytes.now)) }
+    ensures { IsTaken number bytes.now most result.0 result.1 }
 {
     let (mut longer, mut count) = (number, 0);
     while count < most && count < bytes.len() && bytes[count].is_ascii_digit() {
@@ -39,6 +36,39 @@ fn take_digits(number: u64, bytes: &[u8], most: usize) -> (u64, usize)
         count += 1;
     }
     (longer, count)
+}
+
+/// The same of 16 bytes at once, and of those behind them one by one.
+#[inline(always)]
+fn take_row(number: u64, bytes: &[u8], most: usize) -> (u64, usize)
+    requires { (number + 1) * 10 ^ most ≤ 10 ^ 19 }
+    ensures { IsTaken number bytes.now most result.0 result.1 }
+{
+    if bytes.len() < ROW {
+        return take_digits(number, bytes, most);
+    }
+    let row = u8x16::from_slice(bytes);
+    let count = digit_count(row).min(most);
+    let longer = number * power_of_ten(count) + number_of(row, count);
+    if count < ROW {
+        return (longer, count);
+    }
+    let (longest, more) = take_digits(longer, &bytes[ROW..], most - ROW);
+    (longest, ROW + more)
+}
+
+/// The number that the digits at the front make, and how many they are. Of most numbers the whole part has a few digits, which
+/// take less time one by one.
+#[inline(always)]
+fn take_whole(bytes: &[u8]) -> (u64, usize)
+    ensures { IsTaken 0 bytes.now 19 result.0 result.1 }
+{
+    let (number, count) = take_digits(0, bytes, FEW);
+    if count < FEW {
+        return (number, count);
+    }
+    let (longer, more) = take_row(number, &bytes[FEW..], MOST - FEW);
+    (longer, FEW + more)
 }
 
 /// The point at the front and at most so many digits behind it, if it is there: the number that they make of one, how many
@@ -56,7 +86,7 @@ fn take_tail(number: u64, bytes: &[u8], most: usize) -> Option<(u64, usize, &[u8
 {
     if !bytes.is_empty() && bytes[0] == b'.' {
         let behind = &bytes[1..];
-        let (longer, places) = take_digits(number, behind, most);
+        let (longer, places) = take_row(number, behind, most);
         if places == 0 {
             return None;
         }
@@ -83,7 +113,7 @@ pub fn read_front(text: &[u8]) -> Option<Front>
     ensures none { IfNone result ((p : Parts) → IsPlainFront text.now p → ⊥) }
 {
     let (negative, unsigned) = split_sign(text);
-    let (number, count) = take_digits(0, unsigned, MOST);
+    let (number, count) = take_whole(unsigned);
     let (whole, behind) = unsigned.split_at(count);
     if !is_whole(whole) {
         return None;

@@ -14,6 +14,7 @@ mod looks;
 mod number;
 mod order;
 mod reading;
+mod row;
 mod row_text;
 mod stored;
 mod stripped;

@@ -22,14 +22,14 @@ front_is text unsigned behind ft rest p sign u b whole fraction exponent =
 
 pub take_tail-requires : goal.take_tail-requires
 take_tail-requires c =
-    let t = c.take_digits-number in
+    let t = c.take_whole-number in
     let count : length (take t.result.1 c.split_sign-negative.result.1.now) ≡ t.result.1 = length-take-le t.result.1 c.split_sign-negative.result.1.now t.ensures.within in
     rw t.ensures.value (room_left (take t.result.1 c.split_sign-negative.result.1.now) t.result.1 t.ensures.digits count t.ensures.few)
 
 pub returns-clause-found : goal.returns-clause-found
 returns-clause-found c =
     let text = c.args.text.now in
-    let t = c.take_digits-number in
+    let t = c.take_whole-number in
     let unsigned = c.split_sign-negative.result.1.now in
     let whole = c.split_at.result.0.now in
     let e = c.in_ok-size.ensures in
@@ -50,7 +50,7 @@ returns-clause-found c =
 
 pub returns-then-not-is_whole-clause-none : goal.returns-then-not-is_whole-clause-none
 returns-then-not-is_whole-clause-none c = λ p f.
-    let t = c.take_digits-number.ensures in
+    let t = c.take_whole-number.ensures in
     let s = c.split_at.ensures in
     let is = c.is_whole.ensures.1 (plain_parts c.args.text.now _ _ _ _ p _ c.split_sign-negative.ensures s.front s.back s.front_len t.digits t.all f).0 in
     let not = c.if-not-is_whole.true in
@@ -58,13 +58,13 @@ returns-then-not-is_whole-clause-none c = λ p f.
 
 pub returns-in_err-size-clause-none : goal.returns-in_err-size-clause-none
 returns-in_err-size-clause-none c =
-    let t = c.take_digits-number.ensures in
+    let t = c.take_whole-number.ensures in
     let s = c.split_at.ensures in
     rw c.from_residual.ensures (λ p f. c.in_err-size.ensures.none f.fraction_text f.rest (plain_parts c.args.text.now _ _ _ _ p _ c.split_sign-negative.ensures s.front s.back s.front_len t.digits t.all f).1)
 
 pub returns-then-is_ascii_alphanumeric-clause-none : goal.returns-then-is_ascii_alphanumeric-clause-none
 returns-then-is_ascii_alphanumeric-clause-none c = λ p f.
-    let t = c.take_digits-number.ensures in
+    let t = c.take_whole-number.ensures in
     let s = c.split_at.ensures in
     let rest = c.in_ok-size.ensures.rest f.fraction_text f.rest (plain_parts c.args.text.now _ _ _ _ p _ c.split_sign-negative.ensures s.front s.back s.front_len t.digits t.all f).1 in
     let some : 0 < length c.in_ok-size.rest.now = grind arith in

@@ -16,7 +16,7 @@ returns-then-bytes-eq46-clause-tail c =
     let bytes = c.args.bytes.now in
     let digits = c.split_at.result.0.now in
     let rest = c.split_at.result.1.now in
-    let taken = c.take_digits-longer in
+    let taken = c.take_row-longer in
     let behind = take (length bytes - 1) (drop 1 bytes) in
     let some : 0 < length bytes = grind arith in
     let split : behind ≡ digits ++ rest = rw (c.split_at.ensures.front, c.split_at.ensures.back) (sym (take-append-drop taken.result.1 behind)) in
@@ -41,7 +41,7 @@ returns-then-bytes-eq46-clause-rest c = λ front rest t.
     let bytes = c.args.bytes.now in
     let digits = c.split_at.result.0.now in
     let after = c.split_at.result.1.now in
-    let taken = c.take_digits-longer in
+    let taken = c.take_row-longer in
     let behind = take (length bytes - 1) (drop 1 bytes) in
     let some : 0 < length bytes = grind arith in
     let split : behind ≡ digits ++ after = rw (c.split_at.ensures.front, c.split_at.ensures.back) (sym (take-append-drop taken.result.1 behind)) in
@@ -52,7 +52,7 @@ returns-then-bytes-eq46-clause-rest c = λ front rest t.
 pub returns-then-bytes-eq46-clause-small : goal.returns-then-bytes-eq46-clause-small
 returns-then-bytes-eq46-clause-small c =
     let bytes = c.args.bytes.now in
-    let taken = c.take_digits-longer in
+    let taken = c.take_row-longer in
     let behind = take (length bytes - 1) (drop 1 bytes) in
     let count : length (take taken.result.1 behind) ≡ taken.result.1 = length-take-le taken.result.1 behind taken.ensures.within in
     rw taken.ensures.value (digits_small c.args.number (take taken.result.1 behind) c.args.most taken.ensures.digits (omega arith) c.requires)
