@@ -1,16 +1,14 @@
-//! What no clause says: objects, conversions, canonical texts and pointers, the errors, and refusals of memory in all libraries; and callers
-//! with contracts of their own. The crates that the program stands on are tested there.
+//! What no clause says: objects, conversions, the errors, and refusals of memory in all libraries; and callers with contracts of their own.
+//! Canonical texts and pointers are tested in `ijson_extra`, and the crates that the program stands on in the program.
 
 mod callers;
-mod canonical;
 mod conversions;
 mod errors;
 mod objects;
-mod pointer;
 mod refusals;
 mod serde;
 
-use crate::json::{from_json, to_json};
+use crate::json::from_json;
 use crate::string::{IString, StringCache};
 use crate::value::IValue;
 use std::alloc::Global;
@@ -31,10 +29,4 @@ fn key(rt: &impl Abort, alloc: Global, letters: &str) -> IString {
 /// What `text` spells, through a cache of its own.
 fn parsed(rt: &impl Abort, alloc: Global, text: &str) -> IValue {
     from_json(alloc, &mut empty_cache(alloc), text).expect(rt, text)
-}
-
-/// Asserts what is written of a value.
-fn is_written(rt: &impl Abort, alloc: Global, value: &IValue, want: &str) {
-    let written = to_json(alloc, value).expect(rt, "a text");
-    assert!(rt; written.as_str() == want);
 }

@@ -3,3 +3,5 @@
 
 pub mod canonical;
 pub mod pointer;
+#[cfg(test)]
+mod tests;

@@ -2,7 +2,7 @@
 
 use super::{is_written, parsed};
 use crate::pointer::{PointerError, Unresolved, resolve, resolve_mut};
-use crate::value::{Destructured, IValue};
+use ijson_value::value::{Destructured, IValue};
 use std::alloc::Global;
 use std::process::Abort;
 

@@ -1,10 +1,10 @@
 //! Canonical texts.
 
 use super::{empty_cache, is_written, parsed};
-use crate::array::IArray;
 use crate::canonical::canonical_json;
-use crate::json::{JsonError, from_json};
-use crate::value::IValue;
+use ijson_json::{JsonError, from_json};
+use ijson_value::array::IArray;
+use ijson_value::value::IValue;
 use std::alloc::Global;
 use std::process::Abort;
 

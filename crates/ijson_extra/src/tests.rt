@@ -1,0 +1,26 @@
+//! What no clause says of canonical texts and pointers. That memory is refused is tested in `ijson`, above this crate.
+
+mod canonical;
+mod pointer;
+
+use ijson_json::{from_json, to_json};
+use ijson_string::StringCache;
+use ijson_value::value::IValue;
+use std::alloc::Global;
+use std::hash::{BuildHasherDefault, FoldHasher};
+use std::process::Abort;
+
+fn empty_cache(alloc: Global) -> StringCache<BuildHasherDefault<FoldHasher>> {
+    StringCache::new(alloc, BuildHasherDefault::<FoldHasher>::new())
+}
+
+/// What `text` spells, through a cache of its own.
+fn parsed(rt: &impl Abort, alloc: Global, text: &str) -> IValue {
+    from_json(alloc, &mut empty_cache(alloc), text).expect(rt, text)
+}
+
+/// Asserts what is written of a value.
+fn is_written(rt: &impl Abort, alloc: Global, value: &IValue, want: &str) {
+    let written = to_json(alloc, value).expect(rt, "a text");
+    assert!(rt; written.as_str() == want);
+}
