@@ -1,2 +1,1 @@
-mod Kept
 mod callers

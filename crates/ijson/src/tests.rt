@@ -1,10 +1,9 @@
-//! What no clause says: objects, conversions, the errors, and refusals of memory in all libraries; and callers with contracts of their own.
-//! Canonical texts and pointers are tested in `ijson_extra`, and the crates that the program stands on in the program.
+//! What no clause says: conversions, literals, the errors, and refusals of memory in all libraries; and callers with contracts of their own.
+//! Objects, canonical texts and pointers are tested in `ijson_extra`, and all else of the crates that the program stands on in the program.
 
 mod callers;
 mod conversions;
 mod errors;
-mod objects;
 mod refusals;
 mod serde;
 

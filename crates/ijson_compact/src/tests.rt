@@ -1,6 +1,6 @@
 //! What no clause says of the crates that the program stands on: numbers, strings, tables, arrays and values; what is written of texts, where
-//! their faults are told, and devices that give and take little, and fail. Objects, refused memory, and what stands above these crates are
-//! tested in `ijson`, beside this one.
+//! their faults are told, and devices that give and take little, and fail. Objects are tested in `ijson_extra`, and refused memory and what
+//! stands above these crates in `ijson`, beside this one.
 
 mod arrays;
 mod cache;

@@ -1,3 +1,4 @@
+mod Kept
 pub mod Arranged
 pub mod Renumbered
 pub mod Numbers

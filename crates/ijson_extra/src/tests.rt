@@ -1,10 +1,11 @@
-//! What no clause says of canonical texts and pointers. That memory is refused is tested in `ijson`, above this crate.
+//! What no clause says of objects, canonical texts and pointers. That memory is refused is tested in `ijson`, above this crate.
 
 mod canonical;
+mod objects;
 mod pointer;
 
 use ijson_json::{from_json, to_json};
-use ijson_string::StringCache;
+use ijson_string::{IString, StringCache};
 use ijson_value::value::IValue;
 use std::alloc::Global;
 use std::hash::{BuildHasherDefault, FoldHasher};
@@ -12,6 +13,11 @@ use std::process::Abort;
 
 fn empty_cache(alloc: Global) -> StringCache<BuildHasherDefault<FoldHasher>> {
     StringCache::new(alloc, BuildHasherDefault::<FoldHasher>::new())
+}
+
+/// A text through a cache of its own.
+fn key(rt: &impl Abort, alloc: Global, letters: &str) -> IString {
+    IString::intern(&mut empty_cache(alloc), letters).expect(rt, "a text")
 }
 
 /// What `text` spells, through a cache of its own.

@@ -6,11 +6,11 @@ ghost use Rattle.ijson_table.specs.Store.{lookup, put};
 ghost use Rattle.ijson_value.specs.Values.{boolean_value};
 
 use super::{empty_cache, key};
-use crate::number::INumber;
-use crate::object::{Entry, IObject};
-use crate::string::IString;
-use crate::table::ReserveError;
-use crate::value::{DestructuredRef, IValue};
+use ijson_number::INumber;
+use ijson_string::IString;
+use ijson_table::ReserveError;
+use ijson_value::object::{Entry, IObject};
+use ijson_value::value::{DestructuredRef, IValue};
 use std::alloc::Global;
 use std::process::Abort;
 
