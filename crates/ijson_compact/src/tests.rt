@@ -1,6 +1,6 @@
-//! What no clause says of the crates that the program stands on: numbers, strings, tables, arrays and values; what is written of texts, where
-//! their faults are told, and devices that give and take little, and fail. Objects are tested in `ijson_extra`, and refused memory and what
-//! stands above these crates in `ijson`, beside this one.
+//! What no clause says of the crates that the program stands on: numbers, strings, tables, arrays and values; what is written of texts,
+//! where their faults are told, and devices that give and take little, and fail. Objects and refused memory are tested in `ijson_extra`,
+//! and what stands above these crates there and in `ijson`.
 
 mod arrays;
 mod cache;

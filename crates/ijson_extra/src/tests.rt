@@ -1,8 +1,9 @@
-//! What no clause says of objects, canonical texts and pointers. That memory is refused is tested in `ijson`, above this crate.
+//! What no clause says of objects, canonical texts and pointers, and refusals of memory in this crate and in those below it.
 
 mod canonical;
 mod objects;
 mod pointer;
+mod refusals;
 
 use ijson_json::{from_json, to_json};
 use ijson_string::{IString, StringCache};
@@ -11,7 +12,9 @@ use std::alloc::Global;
 use std::hash::{BuildHasherDefault, FoldHasher};
 use std::process::Abort;
 
-fn empty_cache(alloc: Global) -> StringCache<BuildHasherDefault<FoldHasher>> {
+type Cache = StringCache<BuildHasherDefault<FoldHasher>>;
+
+fn empty_cache(alloc: Global) -> Cache {
     StringCache::new(alloc, BuildHasherDefault::<FoldHasher>::new())
 }
 

@@ -4,11 +4,11 @@ ghost use Rattle.ijson_value.specs.Kind.{kind_of};
 ghost use Rattle.ijson_value.specs.declared.value.ValueType.TheVariants as kind;
 
 use super::interned;
-use crate::object::{Entry, IObject, RefusedKey, RefusedPair};
-use crate::string::IString;
-use crate::table::ReserveError;
 use crate::tests::{empty_cache, key};
-use crate::value::IValue;
+use ijson_string::IString;
+use ijson_table::ReserveError;
+use ijson_value::object::{Entry, IObject, RefusedKey, RefusedPair};
+use ijson_value::value::IValue;
 use std::alloc::{AllocError, Global};
 use std::process::Abort;
 

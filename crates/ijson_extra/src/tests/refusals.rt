@@ -1,0 +1,484 @@
+//! Each test here holds under any one refused request for memory: what a refused call leaves is compared whole, and the call is made again.
+//! The repository's `check` runs each with its first request refused, with its second, and so on.
+ghost use Rattle.std.specs.Prelude.{◌≡◌, IfOk};
+
+mod no_memory;
+mod objects;
+
+use super::{Cache, empty_cache};
+use crate::canonical::canonical_json;
+use ijson_json::{
+    CompactError, JsonError, MemorySink, MemorySource, compact, compact_value, from_json,
+    push_quoted, push_separator, report, to_json,
+};
+use ijson_number::{INumber, ParseNumberError};
+use ijson_string::IString;
+use ijson_value::array::IArray;
+use ijson_value::object::IObject;
+use ijson_value::value::IValue;
+use std::alloc::{AllocError, Global};
+use std::process::Abort;
+
+/// The number that a text spells.
+fn spelled(rt: &impl Abort, alloc: Global, text: &str) -> INumber {
+    match INumber::from_str(alloc, text) {
+        Ok(number) => number,
+        Err(error) => {
+            assert!(rt; error == ParseNumberError::Memory);
+            INumber::from_str(alloc, text).expect(rt, "a number")
+        }
+    }
+}
+
+/// Asserts that a copy of a number is equal to it.
+fn copies_number(rt: &impl Abort, number: &INumber) {
+    let copy = match number.clone() {
+        Ok(copy) => copy,
+        Err(AllocError) => number.clone().expect(rt, "a copy"),
+    };
+    assert!(rt; copy == *number);
+}
+
+#[test]
+fn number_of_many_digits(rt: HostRuntime) {
+    let text = "123456789012345678901234567890.5";
+    let number = spelled(&rt, rt.alloc(), text);
+    assert!(rt; number.has_decimal_point());
+    copies_number(&rt, &number);
+    assert!(rt; number == spelled(&rt, rt.alloc(), text));
+}
+
+/// The number at the front of a text, and its length.
+fn at_front(rt: &impl Abort, alloc: Global, text: &str) -> (INumber, usize) {
+    let read = match INumber::at_front(alloc, text) {
+        Ok(read) => read,
+        Err(AllocError) => INumber::at_front(alloc, text).expect(rt, "room"),
+    };
+    read.expect(rt, "a number")
+}
+
+#[test]
+fn number_at_the_front(rt: HostRuntime) {
+    let (number, length) = at_front(&rt, rt.alloc(), "-123.4567890123450, 2");
+    assert!(rt; length == 18);
+    assert!(rt; number == spelled(&rt, rt.alloc(), "-123.456789012345"));
+}
+
+fn number(at: usize) -> IValue {
+    IValue::from(at)
+}
+
+/// Whether the items of an array are the numbers from 0 on, so many of them.
+fn counts(array: &IArray, len: usize) -> bool {
+    array.len() == len
+        && array
+            .iter()
+            .enumerate()
+            .all(|(at, item)| item.to_usize() == Some(at))
+}
+
+/// Pushes the number that follows so many others.
+fn pushes(rt: &impl Abort, array: &mut IArray, len: usize) {
+    let capacity = array.capacity();
+    if let Err(refused) = array.push(number(len)) {
+        assert!(rt; counts(array, len) && array.capacity() == capacity);
+        assert!(rt; refused.0 == number(len));
+        assert!(rt; array.push(refused.0).is_ok());
+    }
+}
+
+#[test]
+fn array_push(rt: HostRuntime) {
+    let mut array = IArray::new(rt.alloc());
+    for len in 0..20usize {
+        pushes(&rt, &mut array, len);
+    }
+    assert!(rt; counts(&array, 20));
+}
+
+/// An empty array that has room for so many items.
+fn array_of_room(rt: &impl Abort, alloc: Global, capacity: usize) -> IArray {
+    match IArray::with_capacity(alloc, capacity) {
+        Ok(array) => array,
+        Err(AllocError) => IArray::with_capacity(alloc, capacity).expect(rt, "an array"),
+    }
+}
+
+/// An array of the numbers 1 and 2.
+fn one_and_two(rt: &impl Abort, alloc: Global) -> IArray {
+    let mut array = array_of_room(rt, alloc, 2);
+    array.push(number(1)).expect(rt, "room");
+    array.push(number(2)).expect(rt, "room");
+    array
+}
+
+/// Inserts 0 before the numbers 1 and 2.
+fn inserts_zero(rt: &impl Abort, alloc: Global, array: &mut IArray) {
+    let capacity = array.capacity();
+    if let Err(refused) = array.insert(0, number(0)) {
+        assert!(rt; refused.0 == number(0) && array.capacity() == capacity);
+        assert!(rt; *array == one_and_two(rt, alloc));
+        array.insert(0, refused.0).expect(rt, "an item");
+    }
+}
+
+/// Makes room for 20 items more than the numbers from 0 to 2.
+fn grows(rt: &impl Abort, array: &mut IArray) {
+    let capacity = array.capacity();
+    if array.reserve(20).is_err() {
+        assert!(rt; counts(array, 3) && array.capacity() == capacity);
+        array.reserve(20).expect(rt, "room");
+    }
+    assert!(rt; counts(array, 3) && array.capacity() >= 23);
+}
+
+/// Gives up all room but that of the numbers from 0 to 2.
+fn shrinks(rt: &impl Abort, array: &mut IArray) {
+    let capacity = array.capacity();
+    if array.shrink_to_fit().is_err() {
+        assert!(rt; counts(array, 3) && array.capacity() <= capacity);
+        array.shrink_to_fit().expect(rt, "less room");
+    }
+    assert!(rt; counts(array, 3) && array.capacity() == 3);
+}
+
+#[test]
+fn array_room(rt: HostRuntime) {
+    let mut array = one_and_two(&rt, rt.alloc());
+    inserts_zero(&rt, rt.alloc(), &mut array);
+    grows(&rt, &mut array);
+    shrinks(&rt, &mut array);
+}
+
+/// An array of the numbers from 0 to 8, which an empty one is extended by.
+fn extended(rt: &impl Abort, alloc: Global) -> IArray {
+    let mut array = IArray::new(alloc);
+    if let Err(refused) = array.extend((0..9usize).map(number)) {
+        let added = array.len();
+        assert!(rt; added < 9 && counts(&array, added));
+        assert!(rt; refused.0 == number(added));
+        array.push(refused.0).expect(rt, "an item");
+        let rest = (added + 1..9).map(number);
+        array.extend(rest).expect(rt, "the other items");
+    }
+    array
+}
+
+/// An array of the numbers from 0 to 8, from those of another one.
+fn made_again(rt: &impl Abort, alloc: Global, array: IArray) -> IArray {
+    match IArray::from_iter(alloc, array) {
+        Ok(again) => again,
+        Err(refused) => {
+            assert!(rt; refused.0.to_usize().unwrap_or(9) < 9);
+            IArray::from_iter(alloc, (0..9usize).map(number)).expect(rt, "an array")
+        }
+    }
+}
+
+/// A list of the numbers from 0 to 2.
+fn three(rt: &impl Abort, alloc: Global) -> Vec<IValue> {
+    match vec![in alloc; number(0), number(1), number(2)] {
+        Ok(list) => list,
+        Err(_) => vec![in alloc; number(0), number(1), number(2)].expect(rt, "a list"),
+    }
+}
+
+/// An array of the items of a list.
+fn of_list(rt: &impl Abort, alloc: Global, list: Vec<IValue>) -> IArray {
+    match IArray::from_vec(alloc, list) {
+        Ok(array) => array,
+        Err(refused) => IArray::from_vec(alloc, refused.value).expect(rt, "an array"),
+    }
+}
+
+#[test]
+fn array_extend(rt: HostRuntime) {
+    let array = extended(&rt, rt.alloc());
+    assert!(rt; counts(&array, 9));
+    assert!(rt; counts(&made_again(&rt, rt.alloc(), array), 9));
+    let list = three(&rt, rt.alloc());
+    assert!(rt; counts(&of_list(&rt, rt.alloc(), list), 3));
+}
+
+/// A cache that holds one text.
+fn used_cache(rt: &impl Abort, alloc: Global) -> Cache {
+    let mut cache = empty_cache(alloc);
+    if IString::intern(&mut cache, "a text that was there").is_err() {
+        IString::intern(&mut cache, "a text that was there").expect(rt, "a text");
+    }
+    cache
+}
+
+/// Whether a cache that held one text holds it still, and at most so many in all.
+fn is_kept(cache: &Cache, most: usize) -> bool {
+    cache.contains("a text that was there") && cache.len() <= most
+}
+
+fn interned(rt: &impl Abort, cache: &mut Cache, text: &str) -> IString {
+    let before = cache.len();
+    match IString::intern(cache, text) {
+        Ok(text) => text,
+        Err(AllocError) => {
+            assert!(rt; cache.len() == before);
+            IString::intern(cache, text).expect(rt, "a text")
+        }
+    }
+}
+
+/// Texts, and how many a cache of one other text holds once each is interned.
+const TEXTS: [(&str, usize); 4] = [
+    ("seven77", 1),
+    ("eight888", 2),
+    ("interned_string_a", 3),
+    ("eight888", 3),
+];
+
+/// A text in a cache that holds so many once it is there.
+fn counted(rt: &impl Abort, cache: &mut Cache, text: &str, count: usize) -> IString {
+    let was_there = cache.contains(text);
+    let before = cache.len();
+    match IString::intern(cache, text) {
+        Ok(key) => key,
+        Err(AllocError) => {
+            assert!(rt; !was_there && !cache.contains(text));
+            assert!(rt; count > before && cache.len() == before && is_kept(cache, 2));
+            IString::intern(cache, text).expect(rt, "a text")
+        }
+    }
+}
+
+/// Asserts that a text and its copies are these letters.
+fn copies_text(rt: &impl Abort, alloc: Global, key: &IString, text: &str) {
+    assert!(rt; key.eq_str(text) && key.clone().expect(rt, "a copy") == *key);
+    let copy = match key.to_owned_string(alloc) {
+        Ok(copy) => copy,
+        Err(AllocError) => key.to_owned_string(alloc).expect(rt, "a copy"),
+    };
+    assert!(rt; copy.as_str() == text && key.eq_str(text));
+}
+
+#[test]
+fn intern(rt: HostRuntime) {
+    let mut cache = used_cache(&rt, rt.alloc());
+    for (text, count) in TEXTS {
+        let key = counted(&rt, &mut cache, text, count);
+        assert!(rt; cache.len() == count && cache.contains(text) == (text.len() > 7));
+        copies_text(&rt, rt.alloc(), &key, text);
+    }
+}
+
+/// What `text` spells, through a cache of its own.
+fn read(rt: &impl Abort, alloc: Global, text: &str) -> IValue {
+    let mut cache = empty_cache(alloc);
+    match from_json(alloc, &mut cache, text) {
+        Ok(value) => value,
+        Err(refused) => {
+            assert!(rt; refused == JsonError::Memory);
+            from_json(alloc, &mut cache, text).expect(rt, text)
+        }
+    }
+}
+
+fn written(rt: &impl Abort, alloc: Global, value: &IValue) -> String {
+    match to_json(alloc, value) {
+        Ok(text) => text,
+        Err(AllocError) => to_json(alloc, value).expect(rt, "a text"),
+    }
+}
+
+/// Asserts that a text is what is written of a value.
+fn is_written(rt: &impl Abort, alloc: Global, value: &IValue, text: &str) {
+    assert!(rt; written(rt, alloc, value).as_str() == text);
+}
+
+/// Texts that are written as they are read, and how many texts a cache of one other text holds then.
+const DOCUMENTS: [(&str, usize); 2] = [
+    (r#"["longlong",[1]]"#, 2),
+    (
+        r#"[1.5,[true,{"a":"longlong","eight888":"\n"}],12345678901234567890123,null]"#,
+        3,
+    ),
+];
+
+/// What `text` spells, through a cache that holds at most so many texts then.
+fn read_into(rt: &impl Abort, alloc: Global, cache: &mut Cache, text: &str, held: usize) -> IValue {
+    match from_json(alloc, cache, text) {
+        Ok(value) => value,
+        Err(refused) => {
+            assert!(rt; refused == JsonError::Memory && is_kept(cache, held));
+            from_json(alloc, cache, text).expect(rt, text)
+        }
+    }
+}
+
+/// Puts a comma, a number and a string behind a text.
+fn parts(rt: &impl Abort, alloc: Global) {
+    let mut found = written(rt, alloc, &IValue::TRUE);
+    if push_separator(&mut found, false).is_err() {
+        push_separator(&mut found, false).expect(rt, "a longer text");
+    }
+    assert!(rt; found.as_str() == "true,");
+    if INumber::from(u64::MAX).push_to(&mut found).is_err() {
+        assert!(rt; found.as_str().starts_with("true,"));
+    }
+    if push_quoted(&mut found, "\n").is_err() {
+        assert!(rt; found.as_str().starts_with("true,"));
+    }
+}
+
+#[test]
+fn reading_and_writing(rt: HostRuntime) {
+    for (text, held) in DOCUMENTS {
+        let mut cache = used_cache(&rt, rt.alloc());
+        let value = read_into(&rt, rt.alloc(), &mut cache, text, held);
+        assert!(rt; is_kept(&cache, held) && cache.len() == held);
+        is_written(&rt, rt.alloc(), &value, text);
+    }
+    parts(&rt, rt.alloc());
+}
+
+/// Asserts that a text is the canonical one of a value.
+fn is_canonical(rt: &impl Abort, alloc: Global, value: &IValue, text: &str) {
+    let found = match canonical_json(alloc, value) {
+        Ok(found) => found,
+        Err(AllocError) => canonical_json(alloc, value).expect(rt, "a text"),
+    };
+    assert!(rt; found.as_str() == text);
+}
+
+#[test]
+fn canonical(rt: HostRuntime) {
+    let text = "{\"b\":{\"d\":2.0,\"c\":[10,0.0]},\"a\":\"longlong\"}";
+    let value = read(&rt, rt.alloc(), text);
+    let sorted = "{\"a\":\"longlong\",\"b\":{\"c\":[1e1,0],\"d\":2e0}}";
+    is_canonical(&rt, rt.alloc(), &value, sorted);
+    is_written(&rt, rt.alloc(), &value, text);
+}
+
+/// A sink of room for one line.
+fn sink(alloc: Global) -> Result<MemorySink, AllocError>
+    ensures { IfOk result (λ sink. sink.failed ≡ 0) }
+{
+    match MemorySink::new(alloc, 4, 100) {
+        Ok(sink) => Ok(sink),
+        Err(AllocError) => MemorySink::new(alloc, 4, 100),
+    }
+}
+
+/// Texts, and what is written of each.
+const COMPACTED: [(&[u8], &[u8]); 2] = [
+    (b"[1.50]", b"[1.5]\n"),
+    (b"[ \"longlong\" ]", b"[\"longlong\"]\n"),
+];
+
+/// Asserts that nothing is reported of a compacted text, and of any other one that memory was refused.
+fn is_reported(rt: &impl Abort, answer: &Result<(), CompactError>, status: u8, line: &[u8]) {
+    if answer.is_ok() {
+        assert!(rt; status == 0 && line.is_empty());
+    } else {
+        assert!(rt; *answer == Err(CompactError::Memory));
+        assert!(rt; status == 3 && line == b"ijson: out of memory\n".as_slice());
+    }
+}
+
+/// Compacts a text and reports the answer. Whether it was done: where it was refused, nothing is written but the line.
+fn is_compacted(
+    rt: &impl Abort,
+    alloc: Global,
+    cache: &mut Cache,
+    text: &[u8],
+    written: &[u8],
+) -> bool {
+    let mut input = MemorySource::new(text, 4, 100);
+    let mut output = sink(alloc).expect(rt, "a sink");
+    let mut errors = sink(alloc).expect(rt, "a sink");
+    let answer = compact(alloc, &mut input, &mut output, cache);
+    let status = report(&answer, &mut errors);
+    is_reported(rt, &answer, status, errors.bytes());
+    assert!(rt; is_kept(cache, 2));
+    let line = if answer.is_ok() {
+        written
+    } else {
+        b"".as_slice()
+    };
+    assert!(rt; output.bytes() == line);
+    answer.is_ok()
+}
+
+#[test]
+fn compacting(rt: HostRuntime) {
+    for (text, line) in COMPACTED {
+        let mut cache = used_cache(&rt, rt.alloc());
+        if !is_compacted(&rt, rt.alloc(), &mut cache, text, line) {
+            assert!(rt; is_compacted(&rt, rt.alloc(), &mut cache, text, line));
+        }
+    }
+}
+
+#[test]
+fn compacting_to_a_value(rt: HostRuntime) {
+    let mut cache = used_cache(&rt, rt.alloc());
+    let mut input = MemorySource::new(b"[1.50]", 4, 100);
+    let mut output = sink(rt.alloc()).expect(&rt, "a sink");
+    let value = match compact_value(rt.alloc(), &mut input, &mut output, &mut cache) {
+        Ok(value) => value,
+        Err(refused) => {
+            assert!(rt; refused == CompactError::Memory && output.bytes().is_empty());
+            let mut again = MemorySource::new(b"[1.50]", 4, 100);
+            compact_value(rt.alloc(), &mut again, &mut output, &mut cache).expect(&rt, "a value")
+        }
+    };
+    assert!(rt; output.bytes() == b"[1.5]\n".as_slice());
+    is_written(&rt, rt.alloc(), &value, "[1.5]");
+}
+
+/// Copies an array by its own call.
+fn copies_array(rt: &impl Abort, array: &IArray) {
+    let copy = match array.clone() {
+        Ok(copy) => copy,
+        Err(AllocError) => array.clone().expect(rt, "a copy"),
+    };
+    assert!(rt; copy == *array);
+}
+
+/// Copies an object of two pairs by its own call.
+fn copies_object(rt: &impl Abort, object: &IObject) {
+    let copy = match object.clone() {
+        Ok(copy) => copy,
+        Err(AllocError) => object.clone().expect(rt, "a copy"),
+    };
+    assert!(rt; copy == *object && copy.capacity() == 2);
+}
+
+/// Copies a value that is written as this text.
+fn copied(rt: &impl Abort, alloc: Global, value: &IValue, text: &str) -> IValue {
+    let copy = match value.clone() {
+        Ok(copy) => copy,
+        Err(AllocError) => value.clone().expect(rt, "a copy"),
+    };
+    assert!(rt; copy == *value);
+    is_written(rt, alloc, &copy, text);
+    copy
+}
+
+/// Copies items into an array.
+fn copies_items(rt: &impl Abort, alloc: Global, items: &[IValue]) {
+    let array = match IArray::from_slice(alloc, items) {
+        Ok(array) => array,
+        Err(AllocError) => IArray::from_slice(alloc, items).expect(rt, "an array"),
+    };
+    assert!(rt; array.as_slice() == items);
+}
+
+#[test]
+fn cloning(rt: HostRuntime) {
+    let text =
+        "[12345678901234567890123.5,\"eight888\",[true,[]],{\"k\":1,\"longlong\":{\"a\":[]}}]";
+    let value = read(&rt, rt.alloc(), text);
+    let array = value.as_array().expect(&rt, "an array");
+    copies_array(&rt, array);
+    let object = array.as_slice().last().and_then(IValue::as_object);
+    copies_object(&rt, object.expect(&rt, "an object"));
+    let copy = copied(&rt, rt.alloc(), &value, text);
+    copies_items(&rt, rt.alloc(), &[copy, value]);
+}

@@ -1,0 +1,310 @@
+//! Calls that take no memory. They are right whichever request is refused, so also where it is the next one after them, and a thousand rounds
+//! of them make as many requests as one does.
+
+use super::objects::{PAIRS, holds, refused_entry, with_pairs};
+use super::{Cache, array_of_room, interned, number, spelled};
+use crate::pointer::{resolve, resolve_mut};
+use crate::tests::{empty_cache, key};
+use ijson_json::{CompactError, MemorySink, Sink, report};
+use ijson_number::{Form, INumber};
+use ijson_string::IString;
+use ijson_table::{FixedTable, LinearPairs, PairStore};
+use ijson_value::array::IArray;
+use ijson_value::object::{Entry, IObject};
+use ijson_value::value::{Destructured, IValue, ValueType};
+use std::alloc::{AllocError, Global};
+use std::cmp::Ordering;
+use std::hash::{DefaultHasher, Hash, Hasher};
+use std::process::Abort;
+
+fn hash_of<T: Hash>(value: &T) -> u64 {
+    let mut hasher = DefaultHasher::new();
+    value.hash(&mut hasher);
+    hasher.finish()
+}
+
+/// Compares two numbers whose stored form is a list of digits, and looks into them.
+fn finds_order(rt: &impl Abort, less: &INumber, more: &INumber) {
+    assert!(rt; less < more && less != more && less.cmp(more) == Ordering::Less);
+    assert!(rt; matches!(more.form(), Form::Digits { .. }) && more.has_decimal_point());
+    assert!(rt; hash_of(less) == hash_of(less) && less.to_u64().is_none());
+}
+
+fn numbers(rt: &impl Abort, alloc: Global, rounds: u32) {
+    let less = spelled(rt, alloc, "18446744073709551616");
+    let more = spelled(rt, alloc, "18446744073709551616.5");
+    for _ in 0..rounds {
+        finds_order(rt, &less, &more);
+    }
+}
+
+fn copied(rt: &impl Abort, text: &IString) -> IString {
+    text.clone().expect(rt, "a copy")
+}
+
+/// Interns a long text that is there, and a short one.
+fn interns(rt: &impl Abort, cache: &mut Cache, long: &IString) {
+    let again = IString::intern(cache, "eight888").expect(rt, "a text");
+    let short = IString::intern(cache, "seven77").expect(rt, "a text");
+    assert!(rt; copied(rt, &again) == *long);
+    assert!(rt; copied(rt, &short).eq_str("seven77"));
+    assert!(rt; *long < short && hash_of(long) == hash_of(&again));
+    assert!(rt; cache.len() == 1 && cache.contains(long.as_str()));
+}
+
+fn texts(rt: &impl Abort, alloc: Global, rounds: u32) {
+    let mut cache = empty_cache(alloc);
+    let long = interned(rt, &mut cache, "eight888");
+    for _ in 0..rounds {
+        interns(rt, &mut cache, &long);
+    }
+    cache.clear();
+    assert!(rt; cache.is_empty() && long.eq_str("eight888"));
+}
+
+/// Fills an array that has room for three items, and takes two of them out.
+fn fills(rt: &impl Abort, array: &mut IArray) {
+    array.clear();
+    for at in 0..3usize {
+        assert!(rt; array.push(number(at)).is_ok());
+    }
+    assert!(rt; array.swap_remove(0) == Some(number(0)) && array.remove(0) == Some(number(2)));
+    assert!(rt; array.reserve(2).is_ok() && array.insert(0, IValue::NULL).is_ok());
+    assert!(rt; array.pop() == Some(number(1)) && array.remove(1).is_none());
+    array.truncate(1);
+    assert!(rt; array.as_slice() == [IValue::NULL].as_slice());
+}
+
+/// Compares an array of one item with itself.
+fn array_is_itself(rt: &impl Abort, array: &IArray) {
+    assert!(rt; array == array && array.partial_cmp(array) == Some(Ordering::Equal));
+    assert!(rt; hash_of(array) == hash_of(array) && array.iter().len() == 1);
+}
+
+fn arrays(rt: &impl Abort, alloc: Global, rounds: u32) {
+    let mut array = array_of_room(rt, alloc, 3);
+    for _ in 0..rounds {
+        fills(rt, &mut array);
+        array_is_itself(rt, &array);
+    }
+    let mut items = array.into_iter();
+    assert!(rt; items.next() == Some(IValue::NULL) && items.next().is_none());
+}
+
+fn is_occupied(entry: Entry<'_>) -> bool {
+    match entry {
+        Entry::Occupied(_) => true,
+        Entry::Vacant(_) => false,
+    }
+}
+
+/// Puts 9 in place of 1 in a full object, finds the entry, and puts 1 back.
+fn finds_entries(rt: &impl Abort, object: &mut IObject, a: &IString) {
+    let former = object.insert(copied(rt, a), IValue::from(9u8));
+    assert!(rt; former.expect(rt, "a pair") == Some(IValue::from(1u8)));
+    assert!(rt; is_occupied(object.entry(copied(rt, a)).expect(rt, "an entry")));
+    assert!(rt; is_occupied(object.entry_or_clone(a).expect(rt, "an entry")));
+    let value = object.index_or_insert(copied(rt, a));
+    *value.expect(rt, "a value") = IValue::from(1u8);
+}
+
+/// Finds and writes what is there in a full object.
+fn finds(rt: &impl Abort, object: &mut IObject, a: &IString) {
+    finds_entries(rt, object, a);
+    if let Some(value) = object.get_mut("b") {
+        *value = IValue::from(2u8);
+    }
+    if let Some(value) = object.value_at_mut(2) {
+        *value = IValue::from(3u8);
+    }
+    assert!(rt; object.reserve(0).is_ok() && object.shrink_to_fit().is_ok());
+    assert!(rt; object.contains_key(a) && object.get_key_value("e").is_none());
+    assert!(rt; object.keys().len() == 4 && object.values().len() == 4 && holds(object, 4, 4));
+}
+
+/// Puts another pair into the room of the last one, and takes it out.
+fn fills_room(rt: &impl Abort, object: &mut IObject, e: &IString) {
+    assert!(rt; holds(object, 3, 4) && object.reserve(1).is_ok());
+    assert!(rt; refused_entry(object, copied(rt, e)).is_none());
+    assert!(rt; object.shift_remove(e) == Some(IValue::from(5u8)));
+}
+
+/// Takes the last pair out, puts another one into the room, and puts the first one back.
+fn changes(rt: &impl Abort, object: &mut IObject, e: &IString) {
+    let (key, value) = object.remove_entry("d").expect(rt, "a pair");
+    fills_room(rt, object, e);
+    let entry = object.entry(key).expect(rt, "an entry");
+    *entry.or_insert(IValue::NULL) = value;
+    object.retain(|_key, _value| true);
+    assert!(rt; holds(object, 4, 4) && object.remove(e).is_none());
+}
+
+/// Compares an object with itself, and with another one.
+fn object_is_itself(rt: &impl Abort, object: &IObject, other: &IObject) {
+    assert!(rt; object == object && object.partial_cmp(object) == Some(Ordering::Equal));
+    assert!(rt; hash_of(object) == hash_of(object) && object != other);
+}
+
+/// Whether there is a pair, and it is the first of all.
+fn is_first(pair: Option<(IString, IValue)>) -> bool {
+    match pair {
+        Some((key, value)) => key.eq_str("a") && value == IValue::from(1u8),
+        None => false,
+    }
+}
+
+/// Adds a pair that is there, and gives the pairs out.
+fn gives_out(rt: &impl Abort, mut object: IObject, first: IObject) {
+    object.extend(first).expect(rt, "a pair");
+    assert!(rt; holds(&object, 4, 4));
+    let mut pairs = object.into_iter();
+    assert!(rt; is_first(pairs.next()) && pairs.len() == 3);
+}
+
+fn objects(rt: &impl Abort, alloc: Global, rounds: u32) {
+    let mut object = with_pairs(rt, alloc, 4, 4);
+    let first = with_pairs(rt, alloc, 1, 1);
+    let (a, e) = (key(rt, alloc, "a"), key(rt, alloc, "e"));
+    for _ in 0..rounds {
+        finds(rt, &mut object, &a);
+        changes(rt, &mut object, &e);
+        object_is_itself(rt, &object, &first);
+    }
+    gives_out(rt, object, first);
+}
+
+/// Puts the first three pairs into a store, where there is room.
+fn put_three<P: PairStore<u8>>(rt: &impl Abort, alloc: Global, store: &mut P) {
+    for (text, value) in PAIRS.iter().take(3) {
+        let key = key(rt, alloc, text);
+        if store.position(key.as_str()).is_none() && store.len() < store.capacity() {
+            store.push_new(key, *value);
+        }
+    }
+}
+
+/// Takes the first pair out, which the last one comes in place of, and puts it back last.
+fn turns_by_swap<P: PairStore<u8>>(rt: &impl Abort, store: &mut P) {
+    if store.len() > 0 {
+        let (key, value) = store.swap_out(0);
+        assert!(rt; store.position(key.as_str()).is_none() && store.len() < store.capacity());
+        store.push_new(key, value);
+    }
+}
+
+/// Takes the first pair out, which the others move up for, and puts it back last.
+fn turns_by_shift<P: PairStore<u8>>(rt: &impl Abort, store: &mut P) {
+    if store.len() > 0 {
+        let (key, value) = store.shift_out(0);
+        assert!(rt; store.position(key.as_str()).is_none() && store.len() < store.capacity());
+        store.push_new(key, value);
+    }
+}
+
+/// Takes the first pair out, in both ways, and puts it back last.
+fn turns<P: PairStore<u8>>(rt: &impl Abort, store: &mut P) {
+    turns_by_swap(rt, store);
+    turns_by_shift(rt, store);
+}
+
+/// Two turns of three pairs bring each of them back to its place.
+fn turns_twice<P: PairStore<u8>>(rt: &impl Abort, store: &mut P, rounds: u32) {
+    for _ in 0..rounds {
+        turns(rt, store);
+        assert!(rt; store.position("b") == Some(0) && store.position("a") == Some(1));
+        turns(rt, store);
+        assert!(rt; store.position("a") == Some(0) && store.position("b") == Some(1));
+        assert!(rt; store.position("c") == Some(2) && store.shrink_to_fit().is_ok());
+    }
+}
+
+fn lists(rt: &impl Abort, alloc: Global, rounds: u32) {
+    let mut list = match LinearPairs::with_capacity(alloc, 3) {
+        Ok(list) => list,
+        Err(_) => LinearPairs::with_capacity(alloc, 3).expect(rt, "a list"),
+    };
+    put_three(rt, alloc, &mut list);
+    turns_twice(rt, &mut list, rounds);
+}
+
+fn tables(rt: &impl Abort, alloc: Global, rounds: u32) {
+    let mut table = match FixedTable::with_capacity(alloc, 3) {
+        Ok(table) => table,
+        Err(_) => FixedTable::with_capacity(alloc, 3).expect(rt, "a table"),
+    };
+    put_three(rt, alloc, &mut table);
+    turns_twice(rt, &mut table, rounds);
+    assert!(rt; table.into_pairs().len() == 3);
+}
+
+/// Takes a value out and puts it back.
+fn takes(rt: &impl Abort, value: &mut IValue) {
+    let taken = value.take();
+    assert!(rt; value.is_null() && taken.type_() == ValueType::Object);
+    if let Ok(object) = taken.into_object() {
+        *value = IValue::from(object);
+    }
+}
+
+/// Finds and writes what is inside.
+fn opens(rt: &impl Abort, value: &mut IValue) {
+    let found = resolve(value, "/a").expect(rt, "a value");
+    assert!(rt; found == Some(&IValue::from(1u8)));
+    if let Ok(found) = resolve_mut(value, "/d") {
+        *found = Destructured::Number(INumber::from(4u8));
+    }
+    assert!(rt; value.as_object().is_some() && value.len() == Some(4));
+}
+
+/// Compares two values that are equal.
+fn is_same(rt: &impl Abort, value: &IValue, same: &IValue) {
+    assert!(rt; value == same && value.partial_cmp(same) == Some(Ordering::Equal));
+    assert!(rt; hash_of(value) == hash_of(same));
+}
+
+fn values(rt: &impl Abort, alloc: Global, rounds: u32) {
+    let mut value = IValue::from(with_pairs(rt, alloc, 4, 4));
+    let same = IValue::from(with_pairs(rt, alloc, 4, 4));
+    for _ in 0..rounds {
+        takes(rt, &mut value);
+        opens(rt, &mut value);
+        is_same(rt, &value, &same);
+    }
+}
+
+fn reports(rt: &impl Abort, alloc: Global, rounds: u32) {
+    let mut errors = match MemorySink::new(alloc, 4, 21_000) {
+        Ok(errors) => errors,
+        Err(AllocError) => MemorySink::new(alloc, 4, 21_000).expect(rt, "a sink"),
+    };
+    for _ in 0..rounds {
+        assert!(rt; errors.failures() == 0);
+        assert!(rt; report(&Err(CompactError::Memory), &mut errors) == 3);
+        assert!(rt; errors.bytes().ends_with(b"ijson: out of memory\n"));
+    }
+}
+
+fn all(rt: &impl Abort, alloc: Global, rounds: u32) {
+    numbers(rt, alloc, rounds);
+    texts(rt, alloc, rounds);
+    arrays(rt, alloc, rounds);
+    objects(rt, alloc, rounds);
+    lists(rt, alloc, rounds);
+    tables(rt, alloc, rounds);
+    values(rt, alloc, rounds);
+    reports(rt, alloc, rounds);
+    // The request behind the last of them.
+    let last = spelled(rt, alloc, "18446744073709551616");
+    assert!(rt; last.to_u64().is_none());
+}
+
+// Runs of this test and of the next one make the same number of requests for memory.
+#[test]
+fn once(rt: HostRuntime) {
+    all(&rt, rt.alloc(), 1);
+}
+
+#[test]
+fn a_thousand_times(rt: HostRuntime) {
+    all(&rt, rt.alloc(), 1000);
+}
