@@ -1,14 +1,17 @@
-//! What no clause says: conversions, literals, the errors, and refusals of memory in these; and callers with contracts of their own. Objects,
-//! canonical texts, pointers and all other refusals of memory are tested in `ijson_extra`, and all else that the program stands on in the program.
+//! What no clause says: arrays and values, conversions, literals, the errors, and refusals of memory in these; and callers with contracts of
+//! their own. Objects, canonical texts, pointers and all other refusals of memory are tested in `ijson_extra`, and all else that the program
+//! stands on in the program.
 
+mod arrays;
 mod callers;
 mod conversions;
 mod errors;
 mod refusals;
 mod serde;
+mod values;
 
 use crate::json::from_json;
-use crate::string::StringCache;
+use crate::string::{IString, StringCache};
 use crate::value::IValue;
 use std::alloc::Global;
 use std::hash::{BuildHasherDefault, FoldHasher};
@@ -18,6 +21,11 @@ type Cache = StringCache<BuildHasherDefault<FoldHasher>>;
 
 fn empty_cache(alloc: Global) -> Cache {
     StringCache::new(alloc, BuildHasherDefault::<FoldHasher>::new())
+}
+
+/// A text through a cache of its own.
+fn key(rt: &impl Abort, alloc: Global, letters: &str) -> IString {
+    IString::intern(&mut empty_cache(alloc), letters).expect(rt, "a text")
 }
 
 /// What `text` spells, through a cache of its own.

@@ -1,8 +1,7 @@
-//! What no clause says of the crates that the program stands on: numbers, strings, tables, arrays and values; what is written of texts,
+//! What no clause says of the crates that the program stands on: numbers, strings, tables and walks over values; what is written of texts,
 //! where their faults are told, and devices that give and take little, and fail. Objects and refused memory are tested in `ijson_extra`,
-//! and what stands above these crates there and in `ijson`.
+//! arrays and values in `ijson`, and what stands above these crates in both.
 
-mod arrays;
 mod cache;
 mod devices;
 mod equality;
@@ -13,7 +12,6 @@ mod seeds;
 mod strings;
 mod tables;
 mod texts;
-mod values;
 mod walks;
 
 use ijson_json::{JsonError, from_json, to_json};

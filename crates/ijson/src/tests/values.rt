@@ -6,11 +6,11 @@ ghost use Rattle.ijson_value.specs.Step.{by_position, by_key, kind_for, tree_at,
 ghost use Rattle.ijson_value.specs.Tree.{boolean, null};
 
 use super::{key, parsed};
-use ijson_number::INumber;
-use ijson_string::IString;
-use ijson_value::array::IArray;
-use ijson_value::object::IObject;
-use ijson_value::value::{Destructured, DestructuredMut, DestructuredRef, IValue, ValueType};
+use crate::array::IArray;
+use crate::number::INumber;
+use crate::object::IObject;
+use crate::string::IString;
+use crate::value::{Destructured, DestructuredMut, DestructuredRef, IValue, ValueType};
 use std::alloc::Global;
 use std::process::Abort;
 

@@ -2,8 +2,8 @@
 ghost use Rattle.std.specs.Prelude.{◌≡◌, [], ◌∷◌, ◌++◌, true, IfOk, OnOk};
 ghost use Rattle.ijson_value.specs.Values.{null_value, boolean_value};
 
-use ijson_value::array::{IArray, Refused};
-use ijson_value::value::IValue;
+use crate::array::{IArray, Refused};
+use crate::value::IValue;
 use std::alloc::{AllocError, Global};
 use std::process::Abort;
 use std::test::Fail;
