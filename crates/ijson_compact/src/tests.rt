@@ -1,12 +1,12 @@
-//! What no clause says of the crates that the program stands on: numbers, strings, tables and walks over values; what is written of texts,
-//! where their faults are told, and devices that give and take little, and fail. Objects and refused memory are tested in `ijson_extra`,
-//! arrays and values in `ijson`, and what stands above these crates in both.
+//! What no clause says of the crates that the program stands on: strings, tables and walks over values; the words that values feed a hasher;
+//! what is written of texts, where their faults are told, and devices that give and take little, and fail. Numbers are tested in
+//! `ijson_number`, objects and refused memory in `ijson_extra`, arrays and values in `ijson`, and what stands above these crates in both.
 
 mod cache;
 mod devices;
 mod equality;
 mod faults;
-mod numbers;
+mod hashes;
 mod recorder;
 mod seeds;
 mod strings;

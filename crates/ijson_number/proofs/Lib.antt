@@ -23,8 +23,10 @@ pub mod Alike
 pub mod Forms
 pub mod FormNumbers
 pub mod IntegerWords
+pub mod LastDigits
 pub mod DigitRows
 pub mod WordTexts
+pub mod WrittenRows
 pub mod FewDigits
 pub mod Vectors
 pub mod Taken

@@ -19,6 +19,7 @@ use Rattle.ijson_number.specs.Grammar.{AllDigits, IsDigit, value}
 use Rattle.ijson_number.specs.private.Stripped.{digits_from_text}
 use Rattle.ijson_number.specs.private.Taken.{IsCount}
 use Rattle.ijson_number.specs.declared.row.TheConstants.{BACK, HUNDREDS, POWERS, UNITS}
+use Rattle.ijson_number.specs.declared.written_row.TheConstants.{FRONT}
 use Rattle.ijson_number.proofs.FewDigits.{below_base}
 
 -- a fact of each number below one
@@ -40,10 +41,10 @@ spelled P n h xs long =
     let many = length-map-range_with_len f 0 n in
     subst P (ext_get_or 0 _ xs (many ∙ sym long) (λ i l. get_or-map-range_with_len f 0 n i i 0 (omega arith) (omega arith))) (h f)
 
--- ---- lanes that are moved to the end
+-- ---- lanes that are moved to an end
 
-abbrev pub positions : ℕ → List ℕ
-positions count = chunk 0 16 (take (32 - count) (drop count BACK))
+abbrev pub positions : (table : List ℕ) → ℕ → List ℕ
+positions table n = chunk 0 16 (take (32 - n) (drop n table))
 
 abbrev is_position : ℕ → Bool
 is_position j = zeroes 16 w8 j || ltb j 16
@@ -56,22 +57,20 @@ each_position : (js : List ℕ) → T (are_positions js) → Each1 (λ j. T (is_
 each_position [] h = tt
 each_position (j ∷ js) h = (and_l (is_position j) (are_positions js) h, each_position js (and_r (is_position j) (are_positions js) h))
 
-abbrev Moved : List ℕ → ℕ → Type 0
-Moved xs count = T (are_positions (positions count)) × (length (positions count) ≡ 16) × (swz_l w8 16 xs 0 (positions count) ≡ replicate (16 - count) 0 ++ take count xs)
+-- by the positions of a table from place n on, the lanes come to stand as they are told to
+abbrev Moved : (table : List ℕ) (to : List ℕ → ℕ → List ℕ) → List ℕ → ℕ → Type 0
+Moved table to xs n = T (are_positions (positions table n)) × (length (positions table n) ≡ 16) × (swz_l w8 16 xs 0 (positions table n) ≡ to xs n)
 
-moved : (count : ℕ) → count ≤ 16 → (xs : List ℕ) → length xs ≡ 16 → Moved xs count
-moved count few = spelled (λ xs. Moved xs count) 16 (λ f. each (Moved (listed f 16)) 17 count
-    ((tt, refl, refl), ((tt, refl, refl), ((tt, refl, refl), ((tt, refl, refl), ((tt, refl, refl), ((tt, refl, refl), ((tt, refl, refl), ((tt, refl, refl), ((tt, refl, refl), ((tt, refl, refl), ((tt, refl, refl), ((tt, refl, refl), ((tt, refl, refl), ((tt, refl, refl), ((tt, refl, refl), ((tt, refl, refl), ((tt, refl, refl), tt)))))))))))))))))
-    (omega arith))
+moved : (table : List ℕ) (to : List ℕ → ℕ → List ℕ) → ((f : ℕ → ℕ) → Each (Moved table to (listed f 16)) 17) → (n : ℕ) → n ≤ 16 → (xs : List ℕ) → length xs ≡ 16 → SwzOk w8 16 16 0 (positions table n) × (swz_l w8 16 xs 0 (positions table n) ≡ to xs n)
+moved table to cases n few xs long =
+    let m = spelled (λ xs. Moved table to xs n) 16 (λ f. each (Moved table to (listed f 16)) 17 n (cases f) (omega arith)) xs long in
+    (SwzOk-from_Each1 w8 16 1 16 0 (positions table n) refl (omega (arith, m.1)) (each_position (positions table n) m.0), m.2)
 
--- each position is within the vector, or asks for a zero
-pub positions_are_within : (count : ℕ) → count ≤ 16 → (xs : List ℕ) → length xs ≡ 16 → SwzOk w8 16 16 0 (positions count)
-positions_are_within count few xs long =
-    let m = moved count few xs long in
-    SwzOk-from_Each1 w8 16 1 16 0 (positions count) refl (omega (arith, m.1)) (each_position (positions count) m.0)
+pub moved_back_is : (count : ℕ) → count ≤ 16 → (xs : List ℕ) → length xs ≡ 16 → SwzOk w8 16 16 0 (positions BACK count) × (swz_l w8 16 xs 0 (positions BACK count) ≡ replicate (16 - count) 0 ++ take count xs)
+moved_back_is = moved BACK (λ xs n. replicate (16 - n) 0 ++ take n xs) (λ f. ((tt, refl, refl), ((tt, refl, refl), ((tt, refl, refl), ((tt, refl, refl), ((tt, refl, refl), ((tt, refl, refl), ((tt, refl, refl), ((tt, refl, refl), ((tt, refl, refl), ((tt, refl, refl), ((tt, refl, refl), ((tt, refl, refl), ((tt, refl, refl), ((tt, refl, refl), ((tt, refl, refl), ((tt, refl, refl), ((tt, refl, refl), tt))))))))))))))))))
 
-pub moved_is : (count : ℕ) → count ≤ 16 → (xs : List ℕ) → length xs ≡ 16 → swz_l w8 16 xs 0 (positions count) ≡ replicate (16 - count) 0 ++ take count xs
-moved_is count few xs long = (moved count few xs long).2
+pub moved_front_is : (start : ℕ) → start ≤ 16 → (xs : List ℕ) → length xs ≡ 16 → SwzOk w8 16 16 0 (positions FRONT start) × (swz_l w8 16 xs 0 (positions FRONT start) ≡ drop start xs ++ replicate start 0)
+moved_front_is = moved FRONT (λ xs n. drop n xs ++ replicate n 0) (λ f. ((tt, refl, refl), ((tt, refl, refl), ((tt, refl, refl), ((tt, refl, refl), ((tt, refl, refl), ((tt, refl, refl), ((tt, refl, refl), ((tt, refl, refl), ((tt, refl, refl), ((tt, refl, refl), ((tt, refl, refl), ((tt, refl, refl), ((tt, refl, refl), ((tt, refl, refl), ((tt, refl, refl), ((tt, refl, refl), ((tt, refl, refl), tt))))))))))))))))))
 
 -- ---- the number that sixteen digits make, four in each lane
 

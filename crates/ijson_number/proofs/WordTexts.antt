@@ -3,12 +3,11 @@ use Rattle.std.proofs.Common.{◌≡◌, ◌≢◌, ℕ, zero, suc, ◌+◌, ◌
 use Rattle.std.specs.Prelude.{ℤ, pos, negsuc, neg_ℤ, nat_abs, int_le, int_lt, ◌≤ℤ◌, ◌<ℤ◌, ◌+ℤ◌, ◌-ℤ◌, ◌*ℤ◌, ◌||◌, ◌&&◌, nat_eq, not}
 use Rattle.std.proofs.Math.Nat.{pow-succ', mul-le-mul_right, mul_comm}
 use Rattle.std.proofs.lemmas.Bool.{cases_lt}
-use Rattle.std.proofs.lemmas.Fmt.{decimal_digit, decimal_step_wide, decimal_nonempty, IsAscii-decimal}
+use Rattle.std.proofs.lemmas.Fmt.{decimal_digit, decimal_step_wide, decimal_nonempty}
 use Rattle.std.proofs.lemmas.Int.{ints}
 use Rattle.std.proofs.lemmas.Int.Digits.{length-digits_of-le}
 use Rattle.std.proofs.lemmas.List.{append-nil, length-append, length-map, length_push, replicate_more, take_at, drop_at, take-map, drop-map}
 use Rattle.std.proofs.lemmas.List.Elements.{recursion_from_All}
-use Rattle.std.proofs.lemmas.Str.{IsAscii-append}
 use Rattle.std.proofs.lemmas.Str.Ascii.{IsAscii-nil, IsAscii-cons, IsAscii-push}
 use Rattle.std.specs.Fmt.{decimal}
 use Rattle.std.specs.List.{All, AllByRecursion}
@@ -26,7 +25,6 @@ use Rattle.ijson_number.proofs.FormNumbers.{IsTensOut, tens_out_is, sign_and_siz
 use Rattle.ijson_number.proofs.Forms.{taken as form_taken}
 use Rattle.ijson_number.proofs.IntegerWords.{below_test, zero_is, some_is, some_stored}
 use Rattle.ijson_number.proofs.Outcomes.{abs_zero, both_of, le_test, test_le}
-use Rattle.ijson_number.proofs.Sizes.{power_le}
 use Rattle.ijson_number.proofs.WholeValues.{tens_few}
 use Rattle.ijson_number.proofs.Writing.{decimal_is, stored_text, taken, left}
 
@@ -133,13 +131,6 @@ module _ (size : ℕ) (some : 0 < size) (small : size < 2 ^ 64) where
 
     pub fraction_is : point_text ds place ≡ decimal whole ++ 46 ∷ last_digits k fraction
     fraction_is = elim (cases_lt 0 whole) [ inl above ↦ between_digits above | inr none ↦ before_digits (omega arith) ]
-
--- a 1 in front of the digits
-pub led_by_one : (places fraction : ℕ) → places < 8 → fraction < 10 ^ places → decimal (10 ^ places + fraction) ≡ 49 ∷ last_digits places fraction
-led_by_one k f few below =
-    let p : 10 ^ k ≤ 10 ^ 7 = power_le k 7 (omega arith) in
-    let e : 1 * 10 ^ k + f ≡ 10 ^ k + f = omega arith in
-    ap decimal (sym e) ∙ joined k 1 f (omega arith) below (omega arith) ∙ ap (λ x. x ++ last_digits k f) (decimal_digit 1 (omega arith))
 
 -- a whole number, whose zeros at the end are taken off
 module _ (z : ℤ) (word : nat_abs z < 2 ^ 64) where
@@ -351,11 +342,10 @@ module _ (m e : ℤ) (k : ℕ) (word : nat_abs m < 2 ^ 64) (places : 0 < k) (bel
         ∙ ap (λ x. minus_text sign ++ x) (sym (left (int_le point_place (negsuc 5) || int_lt (pos 20) e) (scientific_text shown_digits point_place) (point_text shown_digits point_place) plain) ∙ fraction_is abs positive word k (abs / 10 ^ k) (abs % 10 ^ k) places parts rest_below point_place (omega (arith, ints)))
 
 -- the text that is put together is the number's
-pub whole_shown : (m e s : ℤ) (n : ℕ) (shown : List ℕ) → s ≡ m → n ≡ nat_abs m → e ≡ pos 0 → n < 2 ^ 64 → shown ≡ pointed_text (int_lt s (pos 0)) (n * 10 / 10 ^ 1) 1 (n * 10 % 10 ^ 1) → shown ≡ num_text (stripped_number m e true)
-whole_shown m e s n shown sign size none word is =
-    let front : n * 10 / 10 ^ 1 ≡ n = omega arith in
-    let rest : n * 10 % 10 ^ 1 ≡ 0 = omega arith in
-    is ∙ rw (front, rest, sign, size) (sym (whole_num_text m (rw (← size) word))) ∙ ap (λ x. num_text (stripped_number m x true)) (sym none)
+pub whole_shown : (m e s : ℤ) (n : ℕ) → s ≡ m → n ≡ nat_abs m → e ≡ pos 0 → n < 2 ^ 64 → minus_text (int_lt s (pos 0)) ++ (decimal n ++ 46 ∷ 48 ∷ []) ≡ num_text (stripped_number m e true)
+whole_shown m e s n sign size none word =
+    let zero : 48 ∷ [] ≡ last_digits 1 0 = sym (last_zeros 1) in
+    rw (zero, sign, size) (sym (whole_num_text m (rw (← size) word))) ∙ ap (λ x. num_text (stripped_number m x true)) (sym none)
 
 pub integer_shown : (n : Decimal) (z s : ℤ) (size : ℕ) (shown : List ℕ) → n ≡ stripped_number z (pos 0) false → s ≡ z → size ≡ nat_abs z → size < 2 ^ 64 → shown ≡ integer_text (int_lt s (pos 0)) size → shown ≡ num_text n
 integer_shown n z s size shown number sign abs word is = is ∙ rw (number, sign, abs) (sym (integer_num_text z (rw (← abs) word)))
@@ -399,16 +389,10 @@ sign_ascii true = IsAscii-cons 45 [] (omega arith) IsAscii-nil
 sign_ascii false = IsAscii-nil
 
 -- the texts are ASCII
-pub integer_ascii : (negative : Bool) (size : ℕ) → size < 2 ^ 64 → IsAscii (integer_text negative size)
-integer_ascii negative size h = IsAscii-append (minus_text negative) (decimal size) (sign_ascii negative) (IsAscii-decimal size h)
-
-digits_ascii : (places n : ℕ) → IsAscii (last_digits places n)
+pub digits_ascii : (places n : ℕ) → IsAscii (last_digits places n)
 unfolding last_digits
 digits_ascii zero n = IsAscii-nil
 digits_ascii (suc k) n = IsAscii-push (last_digits k (n / 10)) (48 + n % 10) (digits_ascii k (n / 10)) (omega arith)
-
-pub pointed_ascii : (negative : Bool) (whole places fraction : ℕ) → whole < 2 ^ 64 → IsAscii (pointed_text negative whole places fraction)
-pointed_ascii negative whole places fraction h = IsAscii-append (minus_text negative) (decimal whole ++ 46 ∷ last_digits places fraction) (sign_ascii negative) (IsAscii-append (decimal whole) (46 ∷ last_digits places fraction) (IsAscii-decimal whole h) (IsAscii-cons 46 (last_digits places fraction) (omega arith) (digits_ascii places fraction)))
 
 digits_below : (ds : List ℕ) → AllByRecursion (λ d. d < 10) ds → IsAscii (digits_text ds)
 digits_below [] h = IsAscii-nil

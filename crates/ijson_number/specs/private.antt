@@ -12,4 +12,5 @@ pub mod Stored
 pub mod StrippedNumber
 pub mod SizeOrder
 pub mod WordText
+pub mod ZerosInFront
 pub mod RowText

@@ -1,15 +1,19 @@
 //! The digits that a number keeps.
-ghost use Rattle.std.specs.Prelude.{◌≡◌, ◌<◌, ◌≤◌, ◌+◌, ◌++◌, length, IfSome, IfNone, OnOk};
+ghost use Rattle.std.specs.Prelude.{◌≡◌, ◌<◌, ◌≤◌, ◌+◌, ◌-◌, ◌++◌, drop, length, IfSome, IfNone, OnOk};
 ghost use Rattle.ijson_number.specs.Grammar.{AllDigits};
 ghost use Rattle.ijson_number.specs.private.Stripped.{digits_from_text};
 ghost use Rattle.std.specs.Prelude.{pos, neg_ℤ, ◌+ℤ◌, ◌<ℤ◌, ◌^◌, FitsSigned};
 ghost use Rattle.std.specs.Int.Digits.{digits_of};
 ghost use mir.Syntax.{w128};
+ghost use Rattle.std.specs.List.{All};
+ghost use Rattle.ijson_number.specs.Text.{digits_text};
 ghost use Rattle.arrayvec.specs.ArrayVec.{array_vec_len};
 
+use crate::row::ROW;
 use arrayvec::ArrayVec;
 use itoa::write_digits;
 use std::alloc::AllocError;
+use std::simd::prelude::*;
 
 /// How many digits a short number has at most: all that the front of a text has.
 pub const SHORT: usize = 19;
@@ -66,6 +70,16 @@ impl ShortDigits {
             count: (SHORT - start) as u8,
             room,
         }
+    }
+
+    /// The text of the last 16 digits, which has the whole where there are no more.
+    #[inline(always)]
+    pub fn row(&self) -> u8x16
+        ensures all { length result ≡ 16 }
+        ensures row { All (λ d. d < 10) (short_digits self.now) → length (short_digits self.now) ≤ 16
+            → drop (16 - length (short_digits self.now)) result ≡ digits_text (short_digits self.now) }
+    {
+        u8x16::from_slice(&self.room[SHORT - ROW..]) + u8x16::splat(b'0')
     }
 
     /// The digits.

@@ -13,14 +13,17 @@ mod integers;
 mod looks;
 mod number;
 mod order;
+mod push;
 mod reading;
 mod row;
 mod row_text;
 mod stored;
 mod stripped;
+#[cfg(test)]
+mod tests;
 mod text;
 mod word;
-mod word_text;
+mod written_row;
 
 pub use digit_row::{DigitRow, compare};
 pub use faults::first_fault;

@@ -1,13 +1,29 @@
 //! The text of a number with the point between its digits, written at once.
 ghost use Rattle.std.specs.Prelude.{◌≡◌, ◌+◌, ◌-◌, ◌<◌, ◌<ℤ◌, ◌≤◌, ◌++◌, drop, length, nat_abs, pos, true, IfSome, IsSome};
 ghost use Rattle.std.specs.List.{All};
-ghost use Rattle.ijson_number.specs.Text.{digits_text, num_text};
+ghost use Rattle.ijson_number.specs.Text.{digits_text, minus_text, num_text};
 ghost use Rattle.ijson_number.specs.private.RowText.{split_text};
 ghost use Rattle.ijson_number.specs.private.StrippedNumber.{decimal_of};
 
 use crate::stripped::{ROOM, StrippedNumber};
-use crate::word_text::{TEXT_ROOM, put_minus};
 use std::str;
+
+/// Room for a sign, twenty digits and the point.
+pub const TEXT_ROOM: usize = 32;
+
+/// Writes the minus in front of what starts there, if there is one, and returns where the whole starts.
+fn put_minus(negative: bool, room: &mut [u8; TEXT_ROOM], start: usize) -> usize
+    requires low { 1 ≤ start }
+    requires high { start ≤ 32 }
+    ensures within { result ≤ start }
+    ensures text { drop result room.new ≡ minus_text negative ++ drop start room.old }
+{
+    if !negative {
+        return start;
+    }
+    room[start - 1] = b'-';
+    start - 1
+}
 
 /// Writes digits so that they end at `end`, and returns where they start.
 fn put_row(digits: &[u8], room: &mut [u8; TEXT_ROOM], end: usize) -> usize

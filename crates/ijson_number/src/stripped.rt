@@ -149,8 +149,9 @@ impl ShortNumber {
     pub fn stripped(&self) -> StrippedNumber<'_>
         requires { IsNum
             (stored_number self.now.negative (short_digits self.now.digits) self.now.exponent self.now.point) }
-        ensures { decimal_of result
+        ensures number { decimal_of result
             ≡ stored_number self.now.negative (short_digits self.now.digits) self.now.exponent self.now.point }
+        ensures digits { result.digits.now ≡ short_digits self.now.digits }
     {
         StrippedNumber {
             negative: self.negative,

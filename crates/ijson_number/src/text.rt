@@ -7,8 +7,6 @@ ghost use Rattle.ijson_number.specs.Text.{digits_text, num_text, point_text, sci
 use crate::digits::place_of;
 use crate::number::INumber;
 use crate::stripped::ROOM;
-use crate::word_text::TEXT_ROOM;
-use std::alloc::AllocError;
 use std::fmt::Write;
 use std::{fmt, str};
 
@@ -169,10 +167,6 @@ impl fmt::Display for INumber {
     ghost output = { λ n. Some (num_text n.decimal) };
 
     fn fmt<W: fmt::Write>(&self, f: &mut fmt::Formatter<W>) -> fmt::Result {
-        let mut text_room = [0; TEXT_ROOM];
-        if let Some(text) = self.word_text(&mut text_room) {
-            return f.write_str(text);
-        }
         let mut room = [0; ROOM];
         let number = self.stripped(&mut room);
         let digits = number.digits;
@@ -193,21 +187,6 @@ impl fmt::Display for INumber {
         } else {
             fmt::Display::fmt(&shape, f)
         }
-    }
-}
-
-impl INumber {
-    /// Appends the text that `Display` writes, in less time: that of few digits is appended at once, by no formatter. The error
-    /// comes where there was not enough memory. A beginning of the text may then stand in `out`. It takes time linear in the text.
-    pub fn push_to(&self, out: &mut String) -> Result<(), AllocError>
-        ensures { OnOk result (string_bytes out.new
-            ≡ string_bytes out.old ++ num_text self.now.decimal) }
-    {
-        let mut room = [0; TEXT_ROOM];
-        if let Some(text) = self.word_text(&mut room) {
-            return out.push_str(text);
-        }
-        write!(out, "{self}")
     }
 }
 

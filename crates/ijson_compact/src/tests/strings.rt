@@ -1,4 +1,3 @@
-use super::recorder::feeds;
 use super::{Cache, empty_cache};
 use ijson_string::IString;
 use std::alloc::Global;
@@ -62,21 +61,6 @@ fn texts_compare_by_bytes_and_print(rt: HostRuntime) {
     let empty: IString = IString::default();
     assert!(rt; empty.is_empty());
     assert!(rt; IString::new().len() == 0);
-}
-
-/// Texts, and the words that each feeds a hasher.
-const FED: [(&str, &[u64]); 2] = [
-    ("hi", &[3, 2, 104, 105]),
-    ("eight888", &[3, 8, 101, 105, 103, 104, 116, 56, 56, 56]),
-];
-
-#[test]
-fn a_text_feeds_its_words(rt: HostRuntime) {
-    let mut cache = empty_cache(rt.alloc());
-    for (text, want) in FED {
-        let text = interned(&rt, &mut cache, text);
-        feeds(&rt, rt.alloc(), &text, want);
-    }
 }
 
 /// Interns a long text and a short one, and then interns and clones both `further` times more.

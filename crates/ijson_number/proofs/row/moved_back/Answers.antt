@@ -1,8 +1,8 @@
-use Rattle.ijson_number.proofs.Vectors.{moved_is, positions_are_within}
+use Rattle.ijson_number.proofs.Vectors.{moved_back_is}
 use Rattle.ijson_number.proofs.row.moved_back.Goals as goal
 
 pub swizzle : goal.swizzle
-swizzle c = positions_are_within c.args.count c.requires.few c.args.lanes c.requires.all
+swizzle c = (moved_back_is c.args.count c.requires.few c.args.lanes c.requires.all).0
 
 pub returns : goal.returns
-returns c = moved_is c.args.count c.requires.few c.args.lanes c.requires.all
+returns c = (moved_back_is c.args.count c.requires.few c.args.lanes c.requires.all).1

@@ -1,0 +1,159 @@
+-- The last digits of a number, and the digits before them.
+use Rattle.std.proofs.Common.{◌≡◌, ℕ, zero, suc, ◌+◌, ◌-◌, ◌*◌, ◌/◌, ◌%◌, ◌^◌, ◌<◌, ◌≤◌, min, get_or, replicate, take, drop, List, [], ◌∷◌, ◌++◌, length, refl, sym, ap, ◌∙◌, inl, inr, arith, append_assoc, pow-add}
+use Rattle.std.proofs.lemmas.Bool.{cases_lt}
+use Rattle.std.proofs.lemmas.Fmt.{decimal_digit, decimal_nonempty, first_decimal, length-decimal-le}
+use Rattle.std.proofs.lemmas.List.{append-nil, get_or_append_left, get_or-replicate, get_or-take, length-replicate, replicate_more, take_at, drop_at}
+use Rattle.std.proofs.Math.Nat.{pow-succ'}
+use Rattle.std.specs.Fmt.{decimal}
+use native.Mathlib.Nat.{add-mul-div_left, div-div-eq-div-mul, div-le_self, div-lt_iff_lt-mul}
+use lib.Seq.{get_or-append-add}
+use Rattle.ijson_number.specs.Text.{zeros_text}
+use Rattle.ijson_number.specs.private.WordText.{last_digits}
+use Rattle.ijson_number.specs.private.ZerosInFront.{IsZerosInFront}
+use Rattle.ijson_number.specs.laws.Tens.{ten_pos}
+use Rattle.ijson_number.proofs.Sizes.{power_le}
+use Rattle.ijson_number.proofs.WordTexts.{joined, last_count, last_zeros, padded}
+
+-- digits in front don't change the last ones
+pub last_behind : (places more n : ℕ) → last_digits places (more * 10 ^ places + n) ≡ last_digits places n
+unfolding last_digits
+last_behind zero more n = refl
+last_behind (suc p) more n =
+    let ten : more * 10 ^ suc p ≡ 10 * (more * 10 ^ p) = rw (pow-succ' 10 p) (grind arith) in
+    let front : (more * 10 ^ suc p + n) / 10 ≡ more * 10 ^ p + n / 10 = omega arith in
+    let last : (more * 10 ^ suc p + n) % 10 ≡ n % 10 = omega arith in
+    rw (front, last, last_behind p more (n / 10)) refl
+
+pub last_rest : (places n : ℕ) → last_digits places (n % 10 ^ places) ≡ last_digits places n
+last_rest p n =
+    let t = ten_pos p in
+    let parts : n / 10 ^ p * 10 ^ p + n % 10 ^ p ≡ n = omega arith in
+    sym (last_behind p (n / 10 ^ p) (n % 10 ^ p)) ∙ ap (last_digits p) parts
+
+-- the last digits are those before the places, and those behind them
+pub last_split : (count places n : ℕ) → last_digits (count + places) n ≡ last_digits count (n / 10 ^ places) ++ last_digits places n
+unfolding last_digits
+last_split count zero n =
+    let same : count + 0 ≡ count = omega arith in
+    let whole : n / 10 ^ 0 ≡ n = omega arith in
+    rw (same, whole) (sym (append-nil (last_digits count n)))
+last_split count (suc p) n =
+    let next : count + suc p ≡ suc (count + p) = omega arith in
+    let over : n / 10 / 10 ^ p ≡ n / 10 ^ suc p = div-div-eq-div-mul n 10 (10 ^ p) ∙ ap (λ d. n / d) (sym (pow-succ' 10 p)) in
+    ap (λ k. last_digits k n) next
+    ∙ ap (λ l. l ++ (48 + n % 10) ∷ []) (last_split count p (n / 10) ∙ ap (λ m. last_digits count m ++ last_digits p (n / 10)) over)
+    ∙ append_assoc (last_digits count (n / 10 ^ suc p)) (last_digits p (n / 10)) ((48 + n % 10) ∷ [])
+
+-- a number that fits into so many digits has zeros in front of it there
+fitted : (count n : ℕ) → 1 ≤ count → n < 10 ^ count → n < 10 ^ 64 → last_digits count n ≡ zeros_text (count - length (decimal n)) ++ decimal n
+fitted count zero some less small =
+    let one : length (decimal 0) ≡ 1 = ap (λ (x : List ℕ). length x) (decimal_digit 0 (omega arith)) in
+    let next : count - 1 + 1 ≡ count = omega arith in
+    last_zeros count ∙ ap zeros_text (sym next) ∙ sym (replicate_more {X = ℕ} (count - 1) 48) ∙ rw (one, decimal_digit 0 (omega arith)) refl
+fitted count (suc n) some less small = sym (padded count (suc n) (omega arith) less small)
+
+-- where the zeros in front end, the number begins
+module _ (row : List ℕ) (zeros : ℕ) (shown behind : List ℕ) (lead : ℕ) (is : row ≡ replicate lead 48 ++ (shown ++ behind)) (counted : IsZerosInFront row zeros) where
+  zero_at : (k : ℕ) → k < lead → get_or row k 0 ≡ 48
+  zero_at k l = rw is (get_or_append_left (replicate lead 48) (shown ++ behind) 0 k (omega (arith, length-replicate {A = ℕ} lead 48)) ∙ get_or-replicate lead k 48 0 l)
+
+  not_fewer : lead ≤ 15 → lead ≤ zeros
+  not_fewer few = elim (cases_lt zeros lead) [ inl l ↦ absurd (counted.stops (omega arith) (zero_at zeros l)) | inr g ↦ g ]
+
+  first_at : 0 < length shown → get_or row lead 0 ≡ get_or shown 0 0
+  first_at some =
+      let at : length (replicate {A = ℕ} lead 48) + 0 ≡ lead = omega (arith, length-replicate {A = ℕ} lead 48) in
+      rw is (ap (λ n. get_or (replicate lead 48 ++ (shown ++ behind)) n 0) (sym at) ∙ get_or-append-add (replicate lead 48) (shown ++ behind) 0 0 ∙ get_or_append_left shown behind 0 0 some)
+
+  not_more : 0 < length shown → 48 < get_or shown 0 0 → zeros ≤ lead
+  not_more some above = elim (cases_lt lead zeros) [
+    | inl l ↦ absurd (let zero : get_or row lead 0 ≡ 48 = sym (get_or-take zeros row lead 0 l) ∙ rw counted.zeros (get_or-replicate zeros lead 48 0 l) in let first = first_at some in omega arith)
+    | inr g ↦ g
+  ]
+
+  pub shown_at : take (length shown) (drop lead row) ≡ shown
+  shown_at = rw (is, drop_at (replicate lead 48) (shown ++ behind) lead (length-replicate {A = ℕ} lead 48)) (take_at shown behind (length shown) refl)
+
+-- the number without its last places, in a row of 16 digits, behind the zeros there
+module _ (n places : ℕ) (small : n < 10 ^ 16) (few : places < 16) (row : List ℕ) (is : row ≡ last_digits 16 n) (zeros : ℕ) (counted : IsZerosInFront row zeros) where
+  abbrev whole : ℕ
+  whole = n / 10 ^ places
+
+  abbrev end : ℕ
+  end = 16 - places
+
+  all : end + places ≡ 16
+  all = omega arith
+
+  whole_below : whole < 10 ^ end
+  whole_below =
+      let split : 10 ^ end * 10 ^ places ≡ 10 ^ 16 = sym (pow-add 10 end places) ∙ ap (λ k. 10 ^ k) all in
+      (div-lt_iff_lt-mul (ten_pos places)).1 (rw split small)
+
+  whole_small : whole < 2 ^ 64
+  whole_small = let most : 10 ^ end ≤ 10 ^ 16 = power_le end 16 (omega arith) in omega (arith, whole_below)
+
+  abbrev shown : List ℕ
+  shown = decimal whole
+
+  abbrev lead : ℕ
+  lead = end - length shown
+
+  row_is : row ≡ replicate lead 48 ++ (shown ++ last_digits places n)
+  row_is = is ∙ ap (λ k. last_digits k n) (sym all) ∙ last_split end places n ∙ ap (λ l. l ++ last_digits places n) (fitted end whole (omega arith) whole_below (omega (arith, whole_small))) ∙ append_assoc (zeros_text lead) shown (last_digits places n)
+
+  start_is : (start : ℕ) → start ≡ min zeros (end - 1) → start ≡ lead
+  start_is start s =
+      let some = decimal_nonempty whole whole_small in
+      let least = not_fewer row zeros shown (last_digits places n) lead row_is counted (omega arith) in
+      elim (cases_lt 0 whole) [
+        | inl above ↦ (let most = not_more row zeros shown (last_digits places n) lead row_is counted some (first_decimal whole above whole_small) in omega arith)
+        | inr none ↦ (let one : length shown ≡ 1 = let zero : whole ≡ 0 = omega arith in ap (λ w. length (decimal w)) zero ∙ ap (λ (x : List ℕ). length x) (decimal_digit 0 (omega arith)) in omega arith)
+      ]
+
+  pub front_is : (start : ℕ) → start ≡ min zeros (end - 1) → take (end - start) (drop start row) ≡ decimal whole
+  front_is start s =
+      let fits = length-decimal-le end whole (omega arith) whole_below whole_small in
+      let count : end - lead ≡ length shown = omega arith in
+      rw (start_is start s, count) (shown_at row zeros shown (last_digits places n) lead row_is counted)
+
+-- a number of more than 16 digits: those in front, and those of the last row before the places
+module _ (size places : ℕ) (few : places < 16) (word : size < 2 ^ 64) (wide : 10 ^ 16 ≤ size) where
+  abbrev before : ℕ
+  before = 16 - places
+
+  abbrev last : ℕ
+  last = size % 10 ^ 16
+
+  split_row : 10 ^ places * 10 ^ before ≡ 10 ^ 16
+  split_row = let both : places + before ≡ 16 = omega arith in sym (pow-add 10 places before) ∙ ap (λ k. 10 ^ k) both
+
+  last_below : last / 10 ^ places < 10 ^ before
+  last_below =
+      let turned : 10 ^ before * 10 ^ places ≡ 10 ^ 16 = grind (arith, split_row) in
+      (div-lt_iff_lt-mul (ten_pos places)).1 (rw turned (omega arith))
+
+  over : size / 10 ^ places ≡ size / 10 ^ 16 * 10 ^ before + last / 10 ^ places
+  over =
+      let first : ℕ = size / 10 ^ 16 in
+      let times : 10 ^ places * (first * 10 ^ before) ≡ first * 10 ^ 16 = rw (← split_row) (grind arith) in
+      let parts : size ≡ last + 10 ^ places * (first * 10 ^ before) = omega arith in
+      let sum : last / 10 ^ places + first * 10 ^ before ≡ first * 10 ^ before + last / 10 ^ places = omega arith in
+      ap (λ n. n / 10 ^ places) parts ∙ add-mul-div_left last (first * 10 ^ before) (ten_pos places) ∙ sum
+
+  pub wide_whole : decimal (size / 10 ^ 16) ++ take before (last_digits 16 last) ≡ decimal (size / 10 ^ places)
+  wide_whole =
+      let both : before + places ≡ 16 = omega arith in
+      let row : take before (last_digits 16 last) ≡ last_digits before (last / 10 ^ places) = ap (λ k. take before (last_digits k last)) (sym both) ∙ ap (take before) (last_split before places last) ∙ take_at (last_digits before (last / 10 ^ places)) (last_digits places last) before (last_count before (last / 10 ^ places)) in
+      let small : size / 10 ^ 16 * 10 ^ before + last / 10 ^ places < 10 ^ 64 = rw (← over) (let le = div-le_self size (10 ^ places) in omega arith) in
+      rw row (sym (ap decimal over ∙ joined before (size / 10 ^ 16) (last / 10 ^ places) (omega arith) last_below small))
+
+-- the digits behind the point
+pub behind_point : (size places : ℕ) → places < 16 → drop (16 - places) (last_digits 16 (size % 10 ^ 16)) ≡ last_digits places (size % 10 ^ places)
+behind_point size places few =
+    let both : 16 - places + places ≡ 16 = omega arith in
+    let last : ℕ = size % 10 ^ 16 in
+    let row : drop (16 - places) (last_digits 16 last) ≡ last_digits places last = ap (λ k. drop (16 - places) (last_digits k last)) (sym both) ∙ ap (drop (16 - places)) (last_split (16 - places) places last) ∙ drop_at (last_digits (16 - places) (last / 10 ^ places)) (last_digits places last) (16 - places) (last_count (16 - places) (last / 10 ^ places)) in
+    let times : size / 10 ^ 16 * 10 ^ (16 - places) * 10 ^ places ≡ size / 10 ^ 16 * 10 ^ 16 = let split : 10 ^ (16 - places) * 10 ^ places ≡ 10 ^ 16 = sym (pow-add 10 (16 - places) places) ∙ ap (λ k. 10 ^ k) both in rw (← split) (grind arith) in
+    let parts : size / 10 ^ 16 * 10 ^ (16 - places) * 10 ^ places + last ≡ size = omega arith in
+    row ∙ sym (last_behind places (size / 10 ^ 16 * 10 ^ (16 - places)) last) ∙ ap (last_digits places) parts ∙ sym (last_rest places size)

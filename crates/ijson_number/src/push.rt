@@ -1,0 +1,166 @@
+//! Appends a number's text, 16 digits at a time.
+ghost use Rattle.std.specs.Prelude.{◌≡◌, ◌+◌, ◌-◌, ◌/◌, ◌%◌, ◌^◌, ◌<◌, ◌≤◌, ◌∷◌, ◌++◌, ℕ, drop, length, true, false, IfOk, IsFalse, IsTrue, OnOk};
+ghost use Rattle.std.specs.Fmt.{decimal};
+ghost use Rattle.std.specs.Str.{IsAscii};
+ghost use Rattle.std.specs.String.{string_bytes};
+ghost use Rattle.ijson_number.specs.Form.{form_of, packed};
+ghost use Rattle.ijson_number.specs.Text.{digits_text, minus_text, num_text};
+ghost use Rattle.ijson_number.specs.Stripped.{stripped_number};
+ghost use Rattle.ijson_number.specs.private.StrippedNumber.{decimal_of};
+ghost use Rattle.ijson_number.specs.private.WordText.{integer_text, last_digits, pointed_text};
+
+use crate::number::INumber;
+use crate::row::ROW;
+use crate::row_text::TEXT_ROOM;
+use crate::stored::Stored;
+use crate::stripped::{ROOM, StrippedNumber};
+use crate::written_row::{ROW_END, push_lanes, row_of, zeros_in_front};
+use std::alloc::AllocError;
+use std::fmt::Write;
+use std::simd::prelude::*;
+
+/// Appends the minus, if there is one. It is written in any case, since a processor cannot guess which numbers have one.
+fn push_minus(negative: bool, out: &mut String) -> Result<(), AllocError>
+    ensures { OnOk result (string_bytes out.new ≡ string_bytes out.old ++ minus_text negative) }
+{
+    let end = out.len() + usize::from(negative);
+    out.push_str("-")?;
+    out.truncate(end);
+    Ok(())
+}
+
+/// Appends the number whose digits a row has, without so many of the last ones.
+fn push_front(row: u8x16, places: usize, out: &mut String) -> Result<(), AllocError>
+    requires all { length row ≡ 16 }
+    requires ascii { IsAscii row }
+    requires few { places < 16 }
+    ensures { (n : ℕ) → n < 10 ^ 16 → row ≡ last_digits 16 n → OnOk result (string_bytes out.new
+        ≡ string_bytes out.old ++ decimal (n / 10 ^ places)) }
+{
+    let end = ROW - places;
+    let start = zeros_in_front(row).min(end - 1);
+    push_lanes(row, start, end - start, out)
+}
+
+/// Appends a number without so many of its last digits, where `row` has the last 16.
+fn push_whole(size: u64, row: u8x16, places: usize, out: &mut String) -> Result<(), AllocError>
+    requires row { row ≡ last_digits 16 (size % 10 ^ 16) }
+    requires few { places < 16 }
+    ensures { OnOk result (string_bytes out.new ≡ string_bytes out.old ++ decimal (size / 10 ^ places)) }
+{
+    if size < ROW_END {
+        return push_front(row, places, out);
+    }
+    push_front(row_of(size / ROW_END), 0, out)?;
+    push_lanes(row, 0, ROW - places, out)
+}
+
+/// Appends a whole number over ten to the places, with so many digits behind the point; without it where there are no places.
+fn push_size(size: u64, places: usize, out: &mut String) -> Result<(), AllocError>
+    requires few { places < 16 }
+    ensures whole { places ≡ 0 → OnOk result (string_bytes out.new ≡ string_bytes out.old ++ decimal size) }
+    ensures pointed { 0 < places → OnOk result (string_bytes out.new
+        ≡ string_bytes out.old ++ (decimal (size / 10 ^ places) ++ 46 ∷ last_digits places (size % 10 ^ places))) }
+{
+    let row = row_of(size % ROW_END);
+    push_whole(size, row, places, out)?;
+    if places == 0 {
+        return Ok(());
+    }
+    out.push_str(".")?;
+    push_lanes(row, ROW - places, places, out)
+}
+
+/// Appends an integer without the point.
+fn push_integer(negative: bool, size: u64, out: &mut String) -> Result<(), AllocError>
+    ensures { OnOk result (string_bytes out.new ≡ string_bytes out.old ++ integer_text negative size) }
+{
+    push_minus(negative, out)?;
+    push_size(size, 0, out)
+}
+
+/// Appends a packed number with the point, where no exponent is written and none is above zero. Where it tells `false` it
+/// appended nothing.
+fn push_pointed(mantissa: i64, exponent: i8, out: &mut String) -> Result<bool, AllocError>
+    requires { form_of (stripped_number mantissa exponent true) ≡ packed mantissa exponent true }
+    ensures done { IfOk result (λ d. IsTrue d → string_bytes out.new
+        ≡ string_bytes out.old ++ num_text (stripped_number mantissa exponent true)) }
+    ensures left { IfOk result (λ d. IsFalse d → string_bytes out.new ≡ string_bytes out.old) }
+{
+    let (negative, size) = (mantissa < 0, mantissa.unsigned_abs());
+    if exponent > 0 || (exponent < -6 && size < 10) {
+        return Ok(false);
+    }
+    push_minus(negative, out)?;
+    push_size(size, usize::from(exponent.unsigned_abs()), out)?;
+    if exponent == 0 {
+        out.push_str(".0")?;
+    }
+    Ok(true)
+}
+
+impl StrippedNumber<'_> {
+    /// Appends the number, where the point stands between two of its digits and `row` has all of them, at its end. Where it
+    /// tells `false` it appended nothing.
+    fn push_row(&self, row: u8x16, out: &mut String) -> Result<bool, AllocError>
+        requires all { length row ≡ 16 }
+        requires row { length self.now.digits.now ≤ 16
+            → drop (16 - length self.now.digits.now) row ≡ digits_text self.now.digits.now }
+        ensures done { IfOk result (λ d. IsTrue d → string_bytes out.new
+            ≡ string_bytes out.old ++ num_text (decimal_of self.now)) }
+        ensures left { IfOk result (λ d. IsFalse d → string_bytes out.new ≡ string_bytes out.old) }
+    {
+        let places = self.exponent.unsigned_abs() as usize;
+        let count = self.digits.len();
+        if !self.point || self.exponent >= 0 || places >= count || count > ROW {
+            return Ok(false);
+        }
+        push_minus(self.negative, out)?;
+        push_lanes(row, ROW - count, count - places, out)?;
+        out.push_str(".")?;
+        push_lanes(row, ROW - places, places, out)?;
+        Ok(true)
+    }
+}
+
+impl INumber {
+    /// Appends the text, where the number has few digits and neither an exponent nor zeros are written beside them. Where it
+    /// tells `false` it appended nothing.
+    fn push_plain(&self, out: &mut String) -> Result<bool, AllocError>
+        ensures done { IfOk result (λ d. IsTrue d → string_bytes out.new
+            ≡ string_bytes out.old ++ num_text self.now.decimal) }
+        ensures left { IfOk result (λ d. IsFalse d → string_bytes out.new ≡ string_bytes out.old) }
+    {
+        match &self.stored {
+            Stored::Packed(word) => {
+                let mantissa = word.mantissa();
+                if word.point() {
+                    return push_pointed(mantissa, word.exponent(), out);
+                }
+                push_integer(mantissa < 0, mantissa.unsigned_abs(), out)?;
+            }
+            Stored::I64(value) => push_integer(*value < 0, value.unsigned_abs(), out)?,
+            Stored::U64(value) => push_integer(false, *value, out)?,
+            Stored::Short(number) => return number.stripped().push_row(number.digits.row(), out),
+            Stored::Long(_) => return Ok(false),
+        }
+        Ok(true)
+    }
+
+    /// Appends the text that `Display` writes, in less time: that of few digits is appended at once, by no formatter. It may want
+    /// room for 16 bytes more than the text has. The error comes where there was not enough memory. A beginning of the text may then
+    /// stand in `out`. It takes time linear in the text.
+    pub fn push_to(&self, out: &mut String) -> Result<(), AllocError>
+        ensures { OnOk result (string_bytes out.new
+            ≡ string_bytes out.old ++ num_text self.now.decimal) }
+    {
+        if self.push_plain(out)? {
+            return Ok(());
+        }
+        let (mut room, mut text_room) = ([0; ROOM], [0; TEXT_ROOM]);
+        if let Some(text) = self.stripped(&mut room).row_text(&mut text_room) {
+            return out.push_str(text);
+        }
+        write!(out, "{self}")
+    }
+}

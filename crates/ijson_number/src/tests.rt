@@ -1,0 +1,3 @@
+//! What no clause says of numbers.
+
+mod numbers;
