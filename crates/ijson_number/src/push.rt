@@ -1,9 +1,9 @@
 //! Appends a number's text, 16 digits at a time.
-ghost use Rattle.std.specs.Prelude.{◌≡◌, ◌+◌, ◌-◌, ◌/◌, ◌%◌, ◌^◌, ◌<◌, ◌≤◌, ◌∷◌, ◌++◌, ℕ, drop, length, true, false, IfOk, IsFalse, IsTrue, OnOk};
+ghost use Rattle.std.specs.Prelude.{◌≡◌, ◌+◌, ◌-◌, ◌/◌, ◌%◌, ◌^◌, ◌<◌, ◌≤◌, ◌∷◌, ◌++◌, ℕ, drop, length, nat_abs, neg_ℤ, pos, true, false, ◌<ℤ◌, ◌≤ℤ◌, IfOk, IsFalse, IsTrue, OnOk};
 ghost use Rattle.std.specs.Fmt.{decimal};
 ghost use Rattle.std.specs.Str.{IsAscii};
 ghost use Rattle.std.specs.String.{string_bytes};
-ghost use Rattle.ijson_number.specs.Form.{form_of, packed};
+ghost use Rattle.ijson_number.specs.Form.{form_of, is_digits, packed};
 ghost use Rattle.ijson_number.specs.Text.{digits_text, minus_text, num_text};
 ghost use Rattle.ijson_number.specs.Stripped.{stripped_number};
 ghost use Rattle.ijson_number.specs.private.StrippedNumber.{decimal_of};
@@ -86,6 +86,7 @@ fn push_pointed(mantissa: i64, exponent: i8, out: &mut String) -> Result<bool, A
     ensures done { IfOk result (λ d. IsTrue d → string_bytes out.new
         ≡ string_bytes out.old ++ num_text (stripped_number mantissa exponent true)) }
     ensures left { IfOk result (λ d. IsFalse d → string_bytes out.new ≡ string_bytes out.old) }
+    ensures short { neg_ℤ (pos 6) ≤ℤ exponent → exponent ≤ℤ pos 0 → IfOk result (λ d. IsTrue d) }
 {
     let (negative, size) = (mantissa < 0, mantissa.unsigned_abs());
     if exponent > 0 || (exponent < -6 && size < 10) {
@@ -109,6 +110,9 @@ impl StrippedNumber<'_> {
         ensures done { IfOk result (λ d. IsTrue d → string_bytes out.new
             ≡ string_bytes out.old ++ num_text (decimal_of self.now)) }
         ensures left { IfOk result (λ d. IsFalse d → string_bytes out.new ≡ string_bytes out.old) }
+        ensures between { self.now.point ≡ true → self.now.exponent <ℤ pos 0
+            → nat_abs self.now.exponent < length self.now.digits.now
+            → length self.now.digits.now ≤ 16 → IfOk result (λ d. IsTrue d) }
     {
         let places = self.exponent.unsigned_abs() as usize;
         let count = self.digits.len();
@@ -130,6 +134,8 @@ impl INumber {
         ensures done { IfOk result (λ d. IsTrue d → string_bytes out.new
             ≡ string_bytes out.old ++ num_text self.now.decimal) }
         ensures left { IfOk result (λ d. IsFalse d → string_bytes out.new ≡ string_bytes out.old) }
+        ensures whole { is_digits (form_of self.now.decimal) ≡ false
+            → self.now.decimal.point ≡ false → IfOk result (λ d. IsTrue d) }
     {
         match &self.stored {
             Stored::Packed(word) => {
