@@ -15,7 +15,7 @@ use Rattle.ijson_number.proofs.Sizes.{power_le}
 use Rattle.ijson_number.proofs.WordTexts.{joined, last_count, last_zeros, padded}
 
 -- digits in front don't change the last ones
-pub last_behind : (places more n : ℕ) → last_digits places (more * 10 ^ places + n) ≡ last_digits places n
+last_behind : (places more n : ℕ) → last_digits places (more * 10 ^ places + n) ≡ last_digits places n
 unfolding last_digits
 last_behind zero more n = refl
 last_behind (suc p) more n =
@@ -24,14 +24,14 @@ last_behind (suc p) more n =
     let last : (more * 10 ^ suc p + n) % 10 ≡ n % 10 = omega arith in
     rw (front, last, last_behind p more (n / 10)) refl
 
-pub last_rest : (places n : ℕ) → last_digits places (n % 10 ^ places) ≡ last_digits places n
+last_rest : (places n : ℕ) → last_digits places (n % 10 ^ places) ≡ last_digits places n
 last_rest p n =
     let t = ten_pos p in
     let parts : n / 10 ^ p * 10 ^ p + n % 10 ^ p ≡ n = omega arith in
     sym (last_behind p (n / 10 ^ p) (n % 10 ^ p)) ∙ ap (last_digits p) parts
 
 -- the last digits are those before the places, and those behind them
-pub last_split : (count places n : ℕ) → last_digits (count + places) n ≡ last_digits count (n / 10 ^ places) ++ last_digits places n
+last_split : (count places n : ℕ) → last_digits (count + places) n ≡ last_digits count (n / 10 ^ places) ++ last_digits places n
 unfolding last_digits
 last_split count zero n =
     let same : count + 0 ≡ count = omega arith in
@@ -43,6 +43,14 @@ last_split count (suc p) n =
     ap (λ k. last_digits k n) next
     ∙ ap (λ l. l ++ (48 + n % 10) ∷ []) (last_split count p (n / 10) ∙ ap (λ m. last_digits count m ++ last_digits p (n / 10)) over)
     ∙ append_assoc (last_digits count (n / 10 ^ suc p)) (last_digits p (n / 10)) ((48 + n % 10) ∷ [])
+
+-- the powers of ten of both parts of a row of 16 digits
+row_powers : (places : ℕ) → places < 16 → 10 ^ (16 - places) * 10 ^ places ≡ 10 ^ 16
+row_powers places few = let both : 16 - places + places ≡ 16 = omega arith in sym (pow-add 10 (16 - places) places) ∙ ap (λ k. 10 ^ k) both
+
+-- a row of 16 digits is those before the places, and those behind them
+row_split : (places n : ℕ) → places < 16 → last_digits 16 n ≡ last_digits (16 - places) (n / 10 ^ places) ++ last_digits places n
+row_split places n few = let both : 16 - places + places ≡ 16 = omega arith in ap (λ k. last_digits k n) (sym both) ∙ last_split (16 - places) places n
 
 -- a number that fits into so many digits has zeros in front of it there
 fitted : (count n : ℕ) → 1 ≤ count → n < 10 ^ count → n < 10 ^ 64 → last_digits count n ≡ zeros_text (count - length (decimal n)) ++ decimal n
@@ -82,13 +90,8 @@ module _ (n places : ℕ) (small : n < 10 ^ 16) (few : places < 16) (row : List 
   abbrev end : ℕ
   end = 16 - places
 
-  all : end + places ≡ 16
-  all = omega arith
-
   whole_below : whole < 10 ^ end
-  whole_below =
-      let split : 10 ^ end * 10 ^ places ≡ 10 ^ 16 = sym (pow-add 10 end places) ∙ ap (λ k. 10 ^ k) all in
-      (div-lt_iff_lt-mul (ten_pos places)).1 (rw split small)
+  whole_below = (div-lt_iff_lt-mul (ten_pos places)).1 (rw (row_powers places few) small)
 
   whole_small : whole < 2 ^ 64
   whole_small = let most : 10 ^ end ≤ 10 ^ 16 = power_le end 16 (omega arith) in omega (arith, whole_below)
@@ -100,7 +103,7 @@ module _ (n places : ℕ) (small : n < 10 ^ 16) (few : places < 16) (row : List 
   lead = end - length shown
 
   row_is : row ≡ replicate lead 48 ++ (shown ++ last_digits places n)
-  row_is = is ∙ ap (λ k. last_digits k n) (sym all) ∙ last_split end places n ∙ ap (λ l. l ++ last_digits places n) (fitted end whole (omega arith) whole_below (omega (arith, whole_small))) ∙ append_assoc (zeros_text lead) shown (last_digits places n)
+  row_is = is ∙ row_split places n few ∙ ap (λ l. l ++ last_digits places n) (fitted end whole (omega arith) whole_below (omega (arith, whole_small))) ∙ append_assoc (zeros_text lead) shown (last_digits places n)
 
   start_is : (start : ℕ) → start ≡ min zeros (end - 1) → start ≡ lead
   start_is start s =
@@ -125,35 +128,28 @@ module _ (size places : ℕ) (few : places < 16) (word : size < 2 ^ 64) (wide : 
   abbrev last : ℕ
   last = size % 10 ^ 16
 
-  split_row : 10 ^ places * 10 ^ before ≡ 10 ^ 16
-  split_row = let both : places + before ≡ 16 = omega arith in sym (pow-add 10 places before) ∙ ap (λ k. 10 ^ k) both
-
   last_below : last / 10 ^ places < 10 ^ before
-  last_below =
-      let turned : 10 ^ before * 10 ^ places ≡ 10 ^ 16 = grind (arith, split_row) in
-      (div-lt_iff_lt-mul (ten_pos places)).1 (rw turned (omega arith))
+  last_below = (div-lt_iff_lt-mul (ten_pos places)).1 (rw (row_powers places few) (omega arith))
 
   over : size / 10 ^ places ≡ size / 10 ^ 16 * 10 ^ before + last / 10 ^ places
   over =
       let first : ℕ = size / 10 ^ 16 in
-      let times : 10 ^ places * (first * 10 ^ before) ≡ first * 10 ^ 16 = rw (← split_row) (grind arith) in
+      let times : 10 ^ places * (first * 10 ^ before) ≡ first * 10 ^ 16 = rw (← row_powers places few) (grind arith) in
       let parts : size ≡ last + 10 ^ places * (first * 10 ^ before) = omega arith in
       let sum : last / 10 ^ places + first * 10 ^ before ≡ first * 10 ^ before + last / 10 ^ places = omega arith in
       ap (λ n. n / 10 ^ places) parts ∙ add-mul-div_left last (first * 10 ^ before) (ten_pos places) ∙ sum
 
   pub wide_whole : decimal (size / 10 ^ 16) ++ take before (last_digits 16 last) ≡ decimal (size / 10 ^ places)
   wide_whole =
-      let both : before + places ≡ 16 = omega arith in
-      let row : take before (last_digits 16 last) ≡ last_digits before (last / 10 ^ places) = ap (λ k. take before (last_digits k last)) (sym both) ∙ ap (take before) (last_split before places last) ∙ take_at (last_digits before (last / 10 ^ places)) (last_digits places last) before (last_count before (last / 10 ^ places)) in
+      let row : take before (last_digits 16 last) ≡ last_digits before (last / 10 ^ places) = ap (take before) (row_split places last few) ∙ take_at (last_digits before (last / 10 ^ places)) (last_digits places last) before (last_count before (last / 10 ^ places)) in
       let small : size / 10 ^ 16 * 10 ^ before + last / 10 ^ places < 10 ^ 64 = rw (← over) (let le = div-le_self size (10 ^ places) in omega arith) in
       rw row (sym (ap decimal over ∙ joined before (size / 10 ^ 16) (last / 10 ^ places) (omega arith) last_below small))
 
 -- the digits behind the point
 pub behind_point : (size places : ℕ) → places < 16 → drop (16 - places) (last_digits 16 (size % 10 ^ 16)) ≡ last_digits places (size % 10 ^ places)
 behind_point size places few =
-    let both : 16 - places + places ≡ 16 = omega arith in
     let last : ℕ = size % 10 ^ 16 in
-    let row : drop (16 - places) (last_digits 16 last) ≡ last_digits places last = ap (λ k. drop (16 - places) (last_digits k last)) (sym both) ∙ ap (drop (16 - places)) (last_split (16 - places) places last) ∙ drop_at (last_digits (16 - places) (last / 10 ^ places)) (last_digits places last) (16 - places) (last_count (16 - places) (last / 10 ^ places)) in
-    let times : size / 10 ^ 16 * 10 ^ (16 - places) * 10 ^ places ≡ size / 10 ^ 16 * 10 ^ 16 = let split : 10 ^ (16 - places) * 10 ^ places ≡ 10 ^ 16 = sym (pow-add 10 (16 - places) places) ∙ ap (λ k. 10 ^ k) both in rw (← split) (grind arith) in
+    let row : drop (16 - places) (last_digits 16 last) ≡ last_digits places last = ap (drop (16 - places)) (row_split places last few) ∙ drop_at (last_digits (16 - places) (last / 10 ^ places)) (last_digits places last) (16 - places) (last_count (16 - places) (last / 10 ^ places)) in
+    let times : size / 10 ^ 16 * 10 ^ (16 - places) * 10 ^ places ≡ size / 10 ^ 16 * 10 ^ 16 = rw (← row_powers places few) (grind arith) in
     let parts : size / 10 ^ 16 * 10 ^ (16 - places) * 10 ^ places + last ≡ size = omega arith in
     row ∙ sym (last_behind places (size / 10 ^ 16 * 10 ^ (16 - places)) last) ∙ ap (last_digits places) parts ∙ sym (last_rest places size)

@@ -20,6 +20,9 @@ not_le a b h = grind (arith, ints)
 not_lt : (a b : ℤ) → b <ℤ a → int_lt a b ≡ false
 not_lt a b h = grind (arith, ints)
 
+pub below_zero : (e x : ℤ) → x ≡ e → int_le (pos 0) x ≡ false → e <ℤ pos 0
+below_zero e x same test = grind (arith, ints)
+
 pub row_shown : (negative : Bool) (ds : List ℕ) (e : ℤ) (point : Bool) (k : ℕ) → IsStripped ds → point ≡ true → e <ℤ pos 0 → k ≡ nat_abs e → k < length ds → split_text negative ds (length ds - k) ≡ num_text (stored_number negative ds e point)
 row_shown negative ds e point k s p below is inside =
     let m : ℕ = length ds - k in

@@ -7,7 +7,7 @@ ghost use Rattle.ijson_number.specs.Form.{form_of, is_digits, packed};
 ghost use Rattle.ijson_number.specs.Text.{digits_text, minus_text, num_text};
 ghost use Rattle.ijson_number.specs.Stripped.{stripped_number};
 ghost use Rattle.ijson_number.specs.private.StrippedNumber.{decimal_of};
-ghost use Rattle.ijson_number.specs.private.WordText.{integer_text, last_digits, pointed_text};
+ghost use Rattle.ijson_number.specs.private.WordText.{integer_text, last_digits};
 
 use crate::number::INumber;
 use crate::row::ROW;

@@ -1,17 +1,14 @@
-use Rattle.std.proofs.Common.{◌≡◌, ◌∙◌, ◌-◌, ◌+◌, ◌≤◌, ◌∷◌, ◌++◌, [], ◌<◌, List, ℕ, refl, length, take, drop, drop-drop, take_all, ap, sym, append_assoc, true, false, arith, rules}
-use Rattle.std.specs.Prelude.{ℤ, pos, nat_abs, int_le, ◌<ℤ◌, FitsSigned}
+use Rattle.std.proofs.Common.{◌≡◌, ◌∙◌, ◌-◌, ◌+◌, ◌≤◌, ◌∷◌, ◌++◌, [], ◌<◌, List, ℕ, refl, length, take, drop, drop-drop, take_all, ap, sym, append_assoc, true, arith, rules}
+use Rattle.std.specs.Prelude.{nat_abs, FitsSigned}
 use Rattle.std.specs.String.{string_bytes}
-use Rattle.std.proofs.lemmas.Int.{ints, to_z-of_z}
+use Rattle.std.proofs.lemmas.Int.{to_z-of_z}
 use Rattle.std.proofs.lemmas.List.{drop-map, length-drop, take-map}
 use Rattle.std.proofs.lemmas.List.Elements.{All-drop}
 use mir.Syntax.{w32}
 use Rattle.ijson_number.specs.Text.{digits_text, minus_text}
-use Rattle.ijson_number.proofs.RowTexts.{row_shown}
+use Rattle.ijson_number.proofs.RowTexts.{below_zero, row_shown}
 use Rattle.ijson_number.proofs.WordTexts.{digits_text_ascii}
 use Rattle.ijson_number.proofs.stripped.StrippedNumber.push_row.Goals as goal
-
-below_zero : (e x : ℤ) → x ≡ e → int_le (pos 0) x ≡ false → e <ℤ pos 0
-below_zero e x same test = grind (arith, ints)
 
 -- the digits behind the point stand at the end of the row
 module _ (row ds : List ℕ) (long : length row ≡ 16) (few : length ds ≤ 16) (is : drop (16 - length ds) row ≡ digits_text ds) (places : ℕ) (inside : places ≤ length ds) where

@@ -1,12 +1,9 @@
-use Rattle.std.proofs.Common.{◌≡◌, ◌∙◌, ap, rules, true, false, arith}
-use Rattle.std.specs.Prelude.{ℤ, pos, nat_abs, int_le, ◌<ℤ◌, FitsSigned}
-use Rattle.std.proofs.lemmas.Int.{ints, to_z-of_z}
+use Rattle.std.proofs.Common.{◌≡◌, ◌∙◌, ap, rules, true, arith}
+use Rattle.std.specs.Prelude.{nat_abs, FitsSigned}
+use Rattle.std.proofs.lemmas.Int.{to_z-of_z}
 use mir.Syntax.{w32}
-use Rattle.ijson_number.proofs.RowTexts.{row_shown}
+use Rattle.ijson_number.proofs.RowTexts.{below_zero, row_shown}
 use Rattle.ijson_number.proofs.stripped.StrippedNumber.row_text.Goals as goal
-
-below_zero : (e x : ℤ) → x ≡ e → int_le (pos 0) x ≡ false → e <ℤ pos 0
-below_zero e x same test = grind (arith, ints)
 
 pub returns-clause-text : goal.returns-clause-text
 returns-clause-text c =
