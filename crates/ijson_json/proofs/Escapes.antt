@@ -3,7 +3,7 @@ use Rattle.std.proofs.Common.{◌≡◌, ℕ, ◌+◌, ◌*◌, ◌<◌, ◌≤�
 use Rattle.std.specs.Prelude.{IsTrue, ◌||◌, ◌==◌, ◌⊎◌, ◌≢◌, nat_lt}
 use Rattle.std.specs.Char.{encode_utf8, InScalarRange, OutOfScalarRange}
 use Rattle.std.specs.Str.Pattern.{FindsTextPrefix, StripsPrefix}
-use Rattle.std.proofs.lemmas.Bool.{lt-ltb}
+use Rattle.std.proofs.lemmas.Bool.{cases_lt, lt-ltb}
 use Rattle.std.proofs.lemmas.Bool.Decides.{nat_tests}
 use Rattle.std.proofs.lemmas.Str.{encode_ascii}
 use Rattle.ijson_json.specs.Strings.{is_unescaped, short_escape, hex_digit, Hex, is_high_surrogate, is_low_surrogate, Character, unescaped, short, unicode, pair}
@@ -48,6 +48,22 @@ hex_at text (a ∷ b ∷ c ∷ []) rest x y z w t l e f g h i = absurd (omega ar
 hex_at text (a ∷ b ∷ c ∷ d ∷ more) rest x y z w t l e f g h i =
     let behind : rest ≡ more = e ∙ ap (λ (l : List ℕ). drop 4 l) (sym t) in
     (a ∷ b ∷ c ∷ d ∷ [], record { a = a; b = b; c = c; d = d; x = x; y = y; z = z; w = w; text_is = refl; first = f; second = g; third = h; fourth = i; is = refl }, sym t ∙ ap (λ (l : List ℕ). a ∷ b ∷ c ∷ d ∷ l) (sym behind))
+
+-- a byte that is no digit counts more than four digits can
+pub digit_below : (v sum : ℕ) (P : Type 0) → (16 ≤ v → (v ≡ 65536) × P) → v ≤ sum → sum < 65536 → v < 16
+digit_below v sum P none within less = elim (cases_lt v 16) [ inl l ↦ l | inr g ↦ absurd (let e = (none g).0 in omega arith) ]
+
+digit_counts : (v b x : ℕ) → (16 ≤ v → (v ≡ 65536) × (hex_digit b ≡ None)) → hex_digit b ≡ Some x → v < 16
+digit_counts v b x none some = elim (cases_lt v 16) [ inl l ↦ l | inr g ↦ absurd (let e = (none g).1 in cc) ]
+
+pub no_hex : (text bytes : List ℕ) (x y z w : ℕ) → bytes ≡ text → (16 ≤ x → (x ≡ 65536) × (hex_digit (get_or bytes 0 0) ≡ None)) → (16 ≤ y → (y ≡ 65536) × (hex_digit (get_or bytes 1 0) ≡ None)) → (16 ≤ z → (z ≡ 65536) × (hex_digit (get_or bytes 2 0) ≡ None)) → (16 ≤ w → (w ≡ 65536) × (hex_digit (get_or bytes 3 0) ≡ None)) → 65536 ≤ x * 4096 + (y * 256 + (z * 16 + w)) → NoHex text
+no_hex text bytes x y z w t nx ny nz nw over u rest (h, hex, e) =
+    let is : bytes ≡ hex.a ∷ hex.b ∷ hex.c ∷ hex.d ∷ rest = t ∙ e ∙ ap (λ (l : List ℕ). l ++ rest) hex.text_is in
+    let first = digit_counts x (get_or bytes 0 0) hex.x nx (ap (λ (l : List ℕ). hex_digit (get_or l 0 0)) is ∙ hex.first) in
+    let second = digit_counts y (get_or bytes 1 0) hex.y ny (ap (λ (l : List ℕ). hex_digit (get_or l 1 0)) is ∙ hex.second) in
+    let third = digit_counts z (get_or bytes 2 0) hex.z nz (ap (λ (l : List ℕ). hex_digit (get_or l 2 0)) is ∙ hex.third) in
+    let fourth = digit_counts w (get_or bytes 3 0) hex.w nw (ap (λ (l : List ℕ). hex_digit (get_or l 3 0)) is ∙ hex.fourth) in
+    omega arith
 
 -- ---- behind a backslash and `u`
 

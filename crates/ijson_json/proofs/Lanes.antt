@@ -93,6 +93,12 @@ module _ (p : ℕ → Bool) where
       ∙ ap (λ b. cond b (length c + prefix_len p (drop (i + n) d)) (prefix_len p c)) (ne_eqb _ _ (λ (e : prefix_len p c ≡ length c). omega (arith, all_pass c e)))
       ∙ sym (opposite c) ∙ sym (trailing_mask_l fails 64 c (omega (arith, length-chunk i n d room)) some)
 
+  -- it ends within the piece
+  pub run_short : (d : List ℕ) (i n : ℕ) → i + n ≤ length d → n ≤ 64 → 0 < mask_l (map (λ b. not (p b)) (chunk i n d)) → count_trailing_zeros 64 (mask_l (map (λ b. not (p b)) (chunk i n d))) ≤ n
+  run_short d i n room short some =
+      let c = chunk i n d in
+      omega (arith, trailing_mask_l fails 64 c (omega (arith, length-chunk i n d room)) some, prefix_len-le-length (λ b. not (fails b)) c, length-chunk i n d room)
+
   -- a run that goes as far as i ends where the one that begins there does
   pub run_behind : (d : List ℕ) (i : ℕ) → i ≤ prefix_len p d → prefix_len p d ≡ i + prefix_len p (drop i d)
   run_behind d i h =

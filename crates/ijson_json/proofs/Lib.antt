@@ -5,6 +5,7 @@ pub mod Strings
 pub mod Options
 pub mod Escapes
 pub mod Runs
+pub mod AppendedRuns
 pub mod Content
 pub mod Tables
 pub mod Quoting

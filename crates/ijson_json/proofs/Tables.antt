@@ -7,7 +7,7 @@ unfoldable pub agree_below : (ℕ → ℕ) → (ℕ → ℕ) → ℕ → Bool
 agree_below f g zero = true
 agree_below f g (suc n) = eqb (f n) (g n) && agree_below f g n
 
-agree_at : (f g : ℕ → ℕ) (n : ℕ) → agree_below f g n ≡ true → (b : ℕ) → b < n → f b ≡ g b
+pub agree_at : (f g : ℕ → ℕ) (n : ℕ) → agree_below f g n ≡ true → (b : ℕ) → b < n → f b ≡ g b
 unfolding agree_below
 agree_at f g zero h b lt = absurd (omega arith)
 agree_at f g (suc n) h b lt =

@@ -1,6 +1,6 @@
 //! The escapes of a string.
 
-ghost use Rattle.std.specs.Prelude.{◌≡◌, ◌∷◌, ◌<◌, IsTrue, IfSome, MatchOption};
+ghost use Rattle.std.specs.Prelude.{◌≡◌, ◌∷◌, ◌<◌, ◌≤◌, None, Some, IsTrue, IfSome, MatchOption};
 ghost use Rattle.std.specs.Char.{encode_utf8};
 ghost use Rattle.ijson_json.specs.Strings.{short_escape, hex_digit, is_high_surrogate, is_low_surrogate};
 ghost use Rattle.ijson_json.specs.private.StringReading.{HexAt, NoHex, CharacterAt, NoCharacter, NoEscape, LowAt, NoLow};
@@ -39,19 +39,48 @@ fn short_meaning(letter: u8) -> Option<u8>
     if meaning == b'.' { None } else { Some(meaning) }
 }
 
-/// The value of a hexadecimal digit, and nothing where the byte is none.
-#[tactic(auto, unfolding(crate::specs::Strings::hex_digit))]
-fn hex_digit(byte: u8) -> Option<u32>
-    ensures value { result ≡ hex_digit byte }
-    ensures small { IfSome result (λ digit. digit < 16) }
-    ensures ascii { IfSome result (λ digit. byte < 128) }
+/// What stands for a hexadecimal digit where a byte is none: more than four digits can count.
+const NO_DIGIT: u32 = 0x10000;
+
+/// For each byte the value of the hexadecimal digit that it is, and `NO_DIGIT` where it is none.
+static DIGITS: [u32; 256] = [
+    NO_DIGIT, NO_DIGIT, NO_DIGIT, NO_DIGIT, NO_DIGIT, NO_DIGIT, NO_DIGIT, NO_DIGIT, NO_DIGIT,
+    NO_DIGIT, NO_DIGIT, NO_DIGIT, NO_DIGIT, NO_DIGIT, NO_DIGIT, NO_DIGIT, NO_DIGIT, NO_DIGIT,
+    NO_DIGIT, NO_DIGIT, NO_DIGIT, NO_DIGIT, NO_DIGIT, NO_DIGIT, NO_DIGIT, NO_DIGIT, NO_DIGIT,
+    NO_DIGIT, NO_DIGIT, NO_DIGIT, NO_DIGIT, NO_DIGIT, NO_DIGIT, NO_DIGIT, NO_DIGIT, NO_DIGIT,
+    NO_DIGIT, NO_DIGIT, NO_DIGIT, NO_DIGIT, NO_DIGIT, NO_DIGIT, NO_DIGIT, NO_DIGIT, NO_DIGIT,
+    NO_DIGIT, NO_DIGIT, NO_DIGIT, 0, 1, 2, 3, 4, 5, 6, 7, 8, 9, NO_DIGIT, NO_DIGIT, NO_DIGIT,
+    NO_DIGIT, NO_DIGIT, NO_DIGIT, NO_DIGIT, 10, 11, 12, 13, 14, 15, NO_DIGIT, NO_DIGIT, NO_DIGIT,
+    NO_DIGIT, NO_DIGIT, NO_DIGIT, NO_DIGIT, NO_DIGIT, NO_DIGIT, NO_DIGIT, NO_DIGIT, NO_DIGIT,
+    NO_DIGIT, NO_DIGIT, NO_DIGIT, NO_DIGIT, NO_DIGIT, NO_DIGIT, NO_DIGIT, NO_DIGIT, NO_DIGIT,
+    NO_DIGIT, NO_DIGIT, NO_DIGIT, NO_DIGIT, NO_DIGIT, 10, 11, 12, 13, 14, 15, NO_DIGIT, NO_DIGIT,
+    NO_DIGIT, NO_DIGIT, NO_DIGIT, NO_DIGIT, NO_DIGIT, NO_DIGIT, NO_DIGIT, NO_DIGIT, NO_DIGIT,
+    NO_DIGIT, NO_DIGIT, NO_DIGIT, NO_DIGIT, NO_DIGIT, NO_DIGIT, NO_DIGIT, NO_DIGIT, NO_DIGIT,
+    NO_DIGIT, NO_DIGIT, NO_DIGIT, NO_DIGIT, NO_DIGIT, NO_DIGIT, NO_DIGIT, NO_DIGIT, NO_DIGIT,
+    NO_DIGIT, NO_DIGIT, NO_DIGIT, NO_DIGIT, NO_DIGIT, NO_DIGIT, NO_DIGIT, NO_DIGIT, NO_DIGIT,
+    NO_DIGIT, NO_DIGIT, NO_DIGIT, NO_DIGIT, NO_DIGIT, NO_DIGIT, NO_DIGIT, NO_DIGIT, NO_DIGIT,
+    NO_DIGIT, NO_DIGIT, NO_DIGIT, NO_DIGIT, NO_DIGIT, NO_DIGIT, NO_DIGIT, NO_DIGIT, NO_DIGIT,
+    NO_DIGIT, NO_DIGIT, NO_DIGIT, NO_DIGIT, NO_DIGIT, NO_DIGIT, NO_DIGIT, NO_DIGIT, NO_DIGIT,
+    NO_DIGIT, NO_DIGIT, NO_DIGIT, NO_DIGIT, NO_DIGIT, NO_DIGIT, NO_DIGIT, NO_DIGIT, NO_DIGIT,
+    NO_DIGIT, NO_DIGIT, NO_DIGIT, NO_DIGIT, NO_DIGIT, NO_DIGIT, NO_DIGIT, NO_DIGIT, NO_DIGIT,
+    NO_DIGIT, NO_DIGIT, NO_DIGIT, NO_DIGIT, NO_DIGIT, NO_DIGIT, NO_DIGIT, NO_DIGIT, NO_DIGIT,
+    NO_DIGIT, NO_DIGIT, NO_DIGIT, NO_DIGIT, NO_DIGIT, NO_DIGIT, NO_DIGIT, NO_DIGIT, NO_DIGIT,
+    NO_DIGIT, NO_DIGIT, NO_DIGIT, NO_DIGIT, NO_DIGIT, NO_DIGIT, NO_DIGIT, NO_DIGIT, NO_DIGIT,
+    NO_DIGIT, NO_DIGIT, NO_DIGIT, NO_DIGIT, NO_DIGIT, NO_DIGIT, NO_DIGIT, NO_DIGIT, NO_DIGIT,
+    NO_DIGIT, NO_DIGIT, NO_DIGIT, NO_DIGIT, NO_DIGIT, NO_DIGIT, NO_DIGIT, NO_DIGIT, NO_DIGIT,
+    NO_DIGIT, NO_DIGIT, NO_DIGIT, NO_DIGIT, NO_DIGIT, NO_DIGIT, NO_DIGIT, NO_DIGIT, NO_DIGIT,
+    NO_DIGIT, NO_DIGIT, NO_DIGIT, NO_DIGIT, NO_DIGIT, NO_DIGIT, NO_DIGIT, NO_DIGIT, NO_DIGIT,
+    NO_DIGIT, NO_DIGIT, NO_DIGIT, NO_DIGIT, NO_DIGIT, NO_DIGIT, NO_DIGIT,
+];
+
+/// The value of a hexadecimal digit, and `NO_DIGIT` where the byte is none.
+#[inline(always)]
+fn hex_value(byte: u8) -> u32
+    ensures digit { result < 16 → hex_digit byte ≡ Some result }
+    ensures none { 16 ≤ result → (result ≡ 65536) × (hex_digit byte ≡ None) }
+    ensures ascii { result < 16 → byte < 128 }
 {
-    match byte {
-        b'0'..=b'9' => Some(u32::from(byte - b'0')),
-        b'a'..=b'f' => Some(u32::from(byte - b'a' + 10)),
-        b'A'..=b'F' => Some(u32::from(byte - b'A' + 10)),
-        _ => None,
-    }
+    DIGITS[byte as usize]
 }
 
 /// The number of the four hexadecimal digits at the front, and the text behind them.
@@ -63,14 +92,13 @@ fn take_unit(text: &str) -> Option<(u32, &str)>
     let [a, b, c, d, ..] = text.as_bytes() else {
         return None;
     };
-    let first = hex_digit(*a)?;
-    let second = hex_digit(*b)?;
-    let third = hex_digit(*c)?;
-    let fourth = hex_digit(*d)?;
-    Some((
-        first * 4096 + (second * 256 + (third * 16 + fourth)),
-        &text[4..],
-    ))
+    let (first, second) = (hex_value(*a), hex_value(*b));
+    let (third, fourth) = (hex_value(*c), hex_value(*d));
+    let unit = first * 4096 + (second * 256 + (third * 16 + fourth));
+    if unit >= NO_DIGIT {
+        return None;
+    }
+    Some((unit, &text[4..]))
 }
 
 /// The character of a high surrogate and of the low one whose escape is at the front.

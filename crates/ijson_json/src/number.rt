@@ -80,15 +80,13 @@ fn read_short(alloc: Global, text: &str) -> Result<Option<(INumber, &str)>, Allo
     }
 }
 
-/// The number at the front. One past the limit is told at its first byte, whatever follows it.
-pub(crate) fn read_number(alloc: Global, text: &str) -> Result<(INumber, &str), Fault>
+/// The number at the front, by a split of the text. It stays a call, since few numbers want it.
+#[inline(never)]
+fn read_long(alloc: Global, text: &str) -> Result<(INumber, &str), Fault>
     ensures { MatchResult result
         (λ x. NumberRead text.now x.0.decimal x.1.now)
         (λ fault. NumberFault text.now fault) }
 {
-    if let Some(read) = read_short(alloc, text)? {
-        return Ok(read);
-    }
     let (run, rest) = split_number(text);
     match INumber::from_str(alloc, run) {
         Ok(number) => Ok((number, rest)),
@@ -104,5 +102,18 @@ pub(crate) fn read_number(alloc: Global, text: &str) -> Result<(INumber, &str), 
                 })
             }
         },
+    }
+}
+
+/// The number at the front. One past the limit is told at its first byte, whatever follows it.
+#[inline(always)]
+pub(crate) fn read_number(alloc: Global, text: &str) -> Result<(INumber, &str), Fault>
+    ensures { MatchResult result
+        (λ x. NumberRead text.now x.0.decimal x.1.now)
+        (λ fault. NumberFault text.now fault) }
+{
+    match read_short(alloc, text)? {
+        Some(read) => Ok(read),
+        None => read_long(alloc, text),
     }
 }

@@ -95,6 +95,7 @@ fn take_members(
 
 /// The value at the front of the text, inside so many open containers.
 #[cycle(read)]
+#[inline(always)]
 fn read_value<'a, S: BuildHasher>(
     alloc: Global,
     cache: &mut StringCache<S>,
@@ -132,6 +133,7 @@ fn read_value<'a, S: BuildHasher>(
 /// The items of an array, behind its opening bracket. They are gathered in `scratch`, above those that lie there, so that
 /// each array is made once, of the size that it has.
 #[cycle(read)]
+#[inline(never)]
 fn read_array<'a, S: BuildHasher>(
     alloc: Global,
     cache: &mut StringCache<S>,
@@ -169,6 +171,7 @@ fn read_array<'a, S: BuildHasher>(
 /// The members of an object, behind its opening bracket. A key that comes again replaces the value in
 /// place.
 #[cycle(read)]
+#[inline(never)]
 fn read_object<'a, S: BuildHasher>(
     alloc: Global,
     cache: &mut StringCache<S>,

@@ -1,11 +1,14 @@
 //! Runs of a string's bytes that stand for themselves.
 
-ghost use Rattle.std.specs.Prelude.{◌≡◌, ◌+◌, ◌<◌, ◌≤◌, ◌++◌, IsTrue, length, map, not};
+ghost use Rattle.std.specs.Prelude.{◌≡◌, ◌+◌, ◌<◌, ◌≤◌, ◌++◌, ℕ, List, IfOk, IsTrue, length, map, not, take};
 ghost use Rattle.std.specs.List.{AllByRecursion, position, prefix_len};
 ghost use Rattle.std.specs.Simd.Lanes.{mask_l};
+ghost use Rattle.std.specs.String.{string_bytes};
 ghost use Rattle.ijson_json.specs.Strings.{is_unescaped};
 ghost use Rattle.ijson_json.specs.private.Reading.{Past};
 
+use std::alloc::AllocError;
+use std::mem;
 use std::simd::prelude::*;
 
 /// Where the first byte is that must stand in an escape, or ends the string.
@@ -96,6 +99,44 @@ fn run_length(bytes: &[u8]) -> usize
         at += 16;
     }
     last_run(bytes)
+}
+
+/// Appends the bytes at the front that stand for themselves, and tells how many they are. All 16 bytes of a row are appended, and
+/// those behind the run cut off: a copy whose size is not known where this is compiled is a call, which branches on the size.
+fn append_run(content: &mut Vec<u8>, bytes: &[u8]) -> Result<usize, AllocError>
+    ensures count { IfOk result (λ n. n ≡ prefix_len is_unescaped bytes.now) }
+    ensures run { IfOk result (λ n. content.new.items ≡ content.old.items ++ take n bytes.now) }
+{
+    let mut at = 0;
+    while bytes.len() - at >= 16 {
+        let row = u8x16::from_slice(&bytes[at..]);
+        content.extend_from_slice(&row.to_array())?;
+        let found = specials_of_16(row);
+        if found != 0 {
+            let count = found.trailing_zeros() as usize;
+            content.truncate(content.len() - (16 - count));
+            return Ok(at + count);
+        }
+        at += 16;
+    }
+    let last = &bytes[at..];
+    let count = short_run(last);
+    content.extend_from_slice(&last[..count])?;
+    Ok(at + count)
+}
+
+/// Appends the longest run of bytes at the front that stand for themselves, and gives the rest.
+pub(crate) fn push_run<'a>(content: &mut String, text: &'a str) -> Result<&'a str, AllocError>
+    ensures { IfOk result (λ rest. (run : List ℕ) × (text.now ≡ run ++ rest.now)
+        × AllByRecursion (λ byte. IsTrue (is_unescaped byte)) run × Past is_unescaped rest.now
+        × (string_bytes content.new ≡ string_bytes content.old ++ run)) }
+{
+    let empty = String::new(*content.allocator());
+    let mut bytes = mem::replace(content, empty).into_bytes();
+    let count = append_run(&mut bytes, text.as_bytes())?;
+    let (_, rest) = text.split_at(count);
+    *content = unsafe { String::from_utf8_unchecked(bytes) };
+    Ok(rest)
 }
 
 /// The longest run of bytes at the front that stand for themselves, and the rest.

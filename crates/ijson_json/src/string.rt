@@ -14,7 +14,7 @@ ghost use Rattle.ijson_json.specs.private.StringReading.{ContentAt, ContentFault
 use crate::escape::take_escape;
 use crate::fault::Fault;
 use crate::front::{skip_space, strip_byte};
-use crate::run::split_run;
+use crate::run::{push_run, split_run};
 use ijson_string::{IString, StringCache};
 use std::hash::BuildHasher;
 
@@ -32,8 +32,7 @@ fn push_content<'a>(content: &mut String, text: &'a str) -> Result<&'a str, Faul
             return Err(Fault::Syntax { left: left.len() });
         };
         content.push(character)?;
-        let (run, after) = split_run(more);
-        content.push_str(run)?;
+        let after = push_run(content, more)?;
         if let Some(rest) = strip_byte(after, b'"') {
             return Ok(rest);
         }

@@ -31,6 +31,7 @@ pub fn to_json(alloc: Global, value: &IValue) -> Result<String, AllocError>
 }
 
 #[cycle(push)]
+#[inline(always)]
 pub(crate) fn push_value(out: &mut String, value: &IValue) -> Result<(), AllocError>
     ensures { OnOk result (string_bytes out.new ≡ string_bytes out.old ++ print value.now.tree) }
 {
@@ -55,6 +56,7 @@ pub(crate) fn push_value(out: &mut String, value: &IValue) -> Result<(), AllocEr
 
 /// The items of an array, with commas between them.
 #[cycle(push)]
+#[inline(never)]
 fn push_items(out: &mut String, items: &[IValue]) -> Result<(), AllocError>
     ensures { OnOk result (string_bytes out.new
         ≡ string_bytes out.old ++ print_items (item_trees items.now)) }
@@ -70,6 +72,7 @@ fn push_items(out: &mut String, items: &[IValue]) -> Result<(), AllocError>
 
 /// The members of an object, with commas between them.
 #[cycle(push)]
+#[inline(never)]
 fn push_members(out: &mut String, object: &IObject) -> Result<(), AllocError>
     ensures { OnOk result (string_bytes out.new
         ≡ string_bytes out.old ++ print_members (pair_trees object.now.pairs)) }

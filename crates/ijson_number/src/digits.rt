@@ -1,5 +1,5 @@
 //! The digits that a number keeps.
-ghost use Rattle.std.specs.Prelude.{◌≡◌, ◌<◌, ◌≤◌, ◌+◌, ◌-◌, ◌++◌, drop, length, IfSome, IfNone, OnOk};
+ghost use Rattle.std.specs.Prelude.{ℕ, ◌≡◌, ◌<◌, ◌≤◌, ◌+◌, ◌-◌, ◌++◌, drop, length, IfSome, IfNone, OnOk};
 ghost use Rattle.ijson_number.specs.Grammar.{AllDigits};
 ghost use Rattle.ijson_number.specs.private.Stripped.{digits_from_text};
 ghost use Rattle.std.specs.Prelude.{pos, neg_ℤ, ◌+ℤ◌, ◌<ℤ◌, ◌^◌, FitsSigned};
@@ -8,8 +8,10 @@ ghost use mir.Syntax.{w128};
 ghost use Rattle.std.specs.List.{All};
 ghost use Rattle.ijson_number.specs.Text.{digits_text};
 ghost use Rattle.arrayvec.specs.ArrayVec.{array_vec_len};
+ghost use Rattle.ijson_number.specs.private.WordText.{last_digits};
 
 use crate::row::ROW;
+use crate::written_row::{ROW_END, row_of, zeros_in_front};
 use arrayvec::ArrayVec;
 use itoa::write_digits;
 use std::alloc::AllocError;
@@ -57,12 +59,29 @@ impl ShortDigits {
         })
     }
 
+    /// The digits that a row has behind the zeros in front.
+    #[inline(always)]
+    fn of_row(row: u8x16) -> ShortDigits
+        requires all { length row ≡ 16 }
+        ensures { (n : ℕ) → 0 < n → n < 10 ^ 16 → row ≡ last_digits 16 n → short_digits result ≡ digits_of 10 n }
+    {
+        let mut room = [0; SHORT];
+        room[SHORT - ROW..].copy_from_slice(&(row - u8x16::splat(b'0')).to_array());
+        ShortDigits {
+            count: (ROW - zeros_in_front(row)) as u8,
+            room,
+        }
+    }
+
     /// The digits of a number that isn't zero.
     pub fn of_number(number: u64) -> ShortDigits
         requires some { 0 < number }
         requires few { number < 10 ^ 19 }
         ensures { short_digits result ≡ digits_of 10 number }
     {
+        if number < ROW_END {
+            return ShortDigits::of_row(row_of(number));
+        }
         let (mut text, mut room) = ([0; SHORT], [0; SHORT]);
         let start = write_digits(number, &mut text, SHORT);
         make_digits(&text, &mut room);

@@ -126,6 +126,7 @@ impl INumber {
     /// The number that the text begins with, and how many bytes spell it, in one pass over them, where it has at most 19
     /// digits and no exponent, and no digit, letter or point is behind it. Else None may be answered, and `from_str` reads
     /// what stands there. Memory is taken as there.
+    #[inline(always)]
     pub fn at_front(alloc: Global, text: &str) -> Result<Option<(INumber, usize)>, AllocError>
         ensures found { IfOk result (λ found. IfSome found (λ f.
             (f.1 ≤ length text.now) × Spells (take f.1 text.now) f.0.decimal)) }

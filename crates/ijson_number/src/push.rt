@@ -81,6 +81,7 @@ fn push_integer(negative: bool, size: u64, out: &mut String) -> Result<(), Alloc
 
 /// Appends a packed number with the point, where no exponent is written and none is above zero. Where it tells `false` it
 /// appended nothing.
+#[inline(always)]
 fn push_pointed(mantissa: i64, exponent: i8, out: &mut String) -> Result<bool, AllocError>
     requires { form_of (stripped_number mantissa exponent true) ≡ packed mantissa exponent true }
     ensures done { IfOk result (λ d. IsTrue d → string_bytes out.new
@@ -103,6 +104,7 @@ fn push_pointed(mantissa: i64, exponent: i8, out: &mut String) -> Result<bool, A
 impl StrippedNumber<'_> {
     /// Appends the number, where the point stands between two of its digits and `row` has all of them, at its end. Where it
     /// tells `false` it appended nothing.
+    #[inline(always)]
     fn push_row(&self, row: u8x16, out: &mut String) -> Result<bool, AllocError>
         requires all { length row ≡ 16 }
         requires row { length self.now.digits.now ≤ 16
@@ -130,6 +132,7 @@ impl StrippedNumber<'_> {
 impl INumber {
     /// Appends the text, where the number has few digits and neither an exponent nor zeros are written beside them. Where it
     /// tells `false` it appended nothing.
+    #[inline(always)]
     fn push_plain(&self, out: &mut String) -> Result<bool, AllocError>
         ensures done { IfOk result (λ d. IsTrue d → string_bytes out.new
             ≡ string_bytes out.old ++ num_text self.now.decimal) }
@@ -153,9 +156,23 @@ impl INumber {
         Ok(true)
     }
 
+    /// Appends the text of any number. It stays a call, since few numbers want it.
+    #[inline(never)]
+    fn push_any(&self, out: &mut String) -> Result<(), AllocError>
+        ensures { OnOk result (string_bytes out.new
+            ≡ string_bytes out.old ++ num_text self.now.decimal) }
+    {
+        let (mut room, mut text_room) = ([0; ROOM], [0; TEXT_ROOM]);
+        if let Some(text) = self.stripped(&mut room).row_text(&mut text_room) {
+            return out.push_str(text);
+        }
+        write!(out, "{self}")
+    }
+
     /// Appends the text that `Display` writes, in less time: that of few digits is appended at once, by no formatter. It may want
     /// room for 16 bytes more than the text has. The error comes where there was not enough memory. A beginning of the text may then
     /// stand in `out`. It takes time linear in the text.
+    #[inline(always)]
     pub fn push_to(&self, out: &mut String) -> Result<(), AllocError>
         ensures { OnOk result (string_bytes out.new
             ≡ string_bytes out.old ++ num_text self.now.decimal) }
@@ -163,10 +180,6 @@ impl INumber {
         if self.push_plain(out)? {
             return Ok(());
         }
-        let (mut room, mut text_room) = ([0; ROOM], [0; TEXT_ROOM]);
-        if let Some(text) = self.stripped(&mut room).row_text(&mut text_room) {
-            return out.push_str(text);
-        }
-        write!(out, "{self}")
+        self.push_any(out)
     }
 }

@@ -92,7 +92,7 @@ pub record IsEntered (homes after : List Home) (half link : ℕ) : Type 0 where
   pub kinds : kinds_of after ≡ marked (kinds_of homes) half
 
 -- a text that goes behind the others, where there is room for it
-pub IsTable-push : (entries : List Entry) (homes after : List Home) (e : Entry) → IsTable entries homes → length entries < 2 * length homes
+pub IsTable-push : (entries : List Entry) (homes after : List Home) (e : Entry) → IsTable entries homes → length entries < 4 * length homes
     → IsEntered homes after e.half (length entries + 1) → e.before ≡ get_or (lasts_of homes) (home_of (length homes) e.half) 0
     → IsTable (entries ++ e ∷ []) after
 IsTable-push entries homes after e table room entered leads =

@@ -11,7 +11,7 @@ use std::marker::Model;
 
 /// A set of texts of more than 7 bytes, each kept once. `IString::intern` adds to it, and shares what it holds. A text stays
 /// until `clear`, also where nobody else has it. Beside its own memory it takes 24 bytes here, in a list that doubles where it is
-/// full, and, from 16 texts on, 4 to 8 for the home that its hash leads to. At most 2^32 - 1 texts fit, and one more is refused as for want of
+/// full, and, from 32 texts on, 2 to 4 for the home that its hash leads to. At most 2^32 - 1 texts fit, and one more is refused as for want of
 /// memory. Texts that a stranger chose want a hasher with a random seed, as `RandomState` is.
 #[derive(Drop)]
 pub struct StringCache<S: BuildHasher> {

@@ -21,7 +21,7 @@ const MIN_HOMES: usize = 16;
 const MAX_HOMES: usize = 1 << 32;
 
 /// How many texts there are for each home before there are more homes.
-const TEXTS_PER_HOME: usize = 2;
+const TEXTS_PER_HOME: usize = 4;
 
 /// A text, a half of its hash, and the text that came before it among those of its home.
 #[derive(Drop)]
@@ -40,7 +40,7 @@ const _: () = prove!(size_of::<Entry>() == 24);
 struct Home {
     /// One more than a position, and 0 where there is no text.
     last: u32,
-    /// A bit for each kind.
+    /// Two bits for each kind, or one.
     kinds: u32,
 }
 
@@ -51,8 +51,8 @@ const NO_TEXT: Home = Home { last: 0, kinds: 0 };
 
 /// Texts in a list, in the order in which they came. Those of one home are a chain, from the last that came to the first, so
 /// that positions fall along it. A chain is gone along only where a text of the kind that is sought came into its home: of the
-/// texts that are not there, nineteen in twenty are told by the word of their home. An entry takes 24 bytes, and from 32 texts on
-/// there are one to two for each home of 8 bytes; each list doubles where it is full. The memory of a text is read only where its
+/// texts that are not there, nineteen in twenty are told by the word of their home. An entry takes 24 bytes, and from 64 texts on
+/// there are two to four for each home of 8 bytes; each list doubles where it is full. The memory of a text is read only where its
 /// half is the one that is sought. At most 2^32 - 1 texts fit.
 #[derive(Drop)]
 pub(crate) struct TextTable {
@@ -91,7 +91,7 @@ impl TextTable {
         self.entries.len()
     }
 
-    /// The text that is there like this one, beside this half. It goes along one chain at most, which has at most two texts on the
+    /// The text that is there like this one, beside this half. It goes along one chain at most, which has at most four texts on the
     /// average.
     pub(crate) fn find(&self, half: u32, text: &str) -> Option<&IString>
         ensures found { IfSome result (λ found. found.now ≡ text.now) }
@@ -136,14 +136,14 @@ impl TextTable {
     }
 }
 
-/// Makes twice as many homes, where there are twice as many texts as homes. Where memory is refused, there are the same texts, in
+/// Makes twice as many homes, where there are four times as many texts as homes. Where memory is refused, there are the same texts, in
 /// the homes that they had.
 fn make_room(entries: &mut [Entry], homes: &mut Vec<Home>) -> Result<(), AllocError>
     requires table { IsTable entries.old homes.old.items }
     requires few { length entries.old < 2 ^ 32 }
     ensures table { IsTable entries.new homes.new.items }
     ensures kept { keys_of entries.new ≡ keys_of entries.old }
-    ensures room { OnOk result (length entries.new < 2 * length homes.new.items) }
+    ensures room { OnOk result (length entries.new < 4 * length homes.new.items) }
 {
     if entries.len() < TEXTS_PER_HOME * homes.len() {
         return Ok(());
@@ -227,10 +227,10 @@ fn home_of_half(half: u32, count: usize) -> usize
     ((u64::from(half) * count as u64) >> 32) as usize
 }
 
-/// The kind of a half, by its lower bits: its home goes by the upper ones.
+/// The kind of a half, by its ten lower bits: its home goes by the upper ones.
 #[tactic(auto, unfolding(crate::specs::private::Kinds::kind_of))]
 fn kind_of_half(half: u32) -> u32
     ensures { result ≡ kind_of half }
 {
-    1 << (half % 32)
+    1 << (half % 32) | 1 << (half / 32 % 32)
 }

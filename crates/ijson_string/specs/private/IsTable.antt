@@ -27,7 +27,7 @@ AreChained entries last = IsChained (homes_of (length last) (keys_of entries)) (
 
 -- and there are at most twice as many as homes
 pub record IsTable (entries : List Entry) (homes : List Home) : Type 0 where
-  pub room : length entries ≤ 2 * length homes
+  pub room : length entries ≤ 4 * length homes
   pub bounded : length homes ≤ 2 ^ 32
   pub chained : AreChained entries (lasts_of homes)
   pub marked : AreMarked (kinds_of homes) (keys_of entries)

@@ -1,12 +1,12 @@
--- The kinds of the texts of each home: thirty-two, a bit for each. This project's own.
-use Rattle.std.specs.Prelude.{◌≡◌, ℕ, ◌%◌, ◌^◌, ◌==◌, Bool, true, List, length, get_or, slice_set}
+-- The kinds of the texts of each home: each is two of thirty-two bits, or one where both are the same. This project's own.
+use Rattle.std.specs.Prelude.{◌≡◌, ℕ, ◌/◌, ◌%◌, ◌^◌, ◌==◌, Bool, true, List, length, get_or, slice_set}
 use Rattle.std.specs.Int.Bits.{bit_or}
 use Rattle.std.specs.List.{AllByRecursion}
 use Rattle.ijson_string.specs.private.Chains.{home_of}
 use Rattle.ijson_string.specs.private.Keys.{Key}
 
 unfoldable pub kind_of : ℕ → ℕ
-kind_of half = 2 ^ (half % 32)
+kind_of half = bit_or (2 ^ (half % 32)) (2 ^ (half / 32 % 32))
 
 -- whether the kind of a half is marked at its home
 abbrev pub covers : List ℕ → ℕ → Bool

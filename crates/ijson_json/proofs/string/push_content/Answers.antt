@@ -28,14 +28,15 @@ returns-in-Some-strip_byte-clause-read c =
     let text : List ℕ = c.args.text.now in
     let old : List ℕ = string_bytes c.args.content.now in
     let character : List ℕ = encode_utf8 c.in-Some.character in
-    let run : List ℕ = c.split_run.result.0.now in
-    let after : List ℕ = c.split_run.result.1.now in
-    let reached : Reached text (i.0 ++ character ++ run) after = reached_run text (i.0 ++ character) run c.in-Some.more.now after (reached_character text i.0 c.loop-character.left.now character c.in-Some.more.now i.1 c.in-Some.ensures) c.split_run.ensures.run c.split_run.ensures.whole in (
+    let e = c.in_ok-after.ensures in
+    let run : List ℕ = e.0 in
+    let after : List ℕ = c.in_ok-after.after.now in
+    let reached : Reached text (i.0 ++ character ++ run) after = reached_run text (i.0 ++ character) run c.in-Some.more.now after (reached_character text i.0 c.loop-character.left.now character c.in-Some.more.now i.1 c.in-Some.ensures) e.2 e.1 in (
       i.0 ++ character ++ run,
       reached_quote text (i.0 ++ character ++ run) after c.in-Some-strip_byte.rest.now reached c.in-Some-strip_byte.ensures,
-      pushed old (string_bytes c.push.new.self) (string_bytes c.push_str.new.self) (i.0 ++ character) run
+      pushed old (string_bytes c.push.new.self) (string_bytes c.push_run.new.content) (i.0 ++ character) run
           (pushed old (string_bytes c.loop-character.content) (string_bytes c.push.new.self) i.0 character i.2 c.in_ok-push.ensures.bytes)
-          c.in_ok-push_str.ensures.bytes,
+          e.4,
     )
 
 pub loop-character-preserved : goal.loop-character-preserved
@@ -44,17 +45,18 @@ loop-character-preserved c =
     let text : List ℕ = c.args.text.now in
     let old : List ℕ = string_bytes c.args.content.now in
     let character : List ℕ = encode_utf8 c.in-Some.character in
-    let run : List ℕ = c.split_run.result.0.now in
-    let after : List ℕ = c.split_run.result.1.now in
+    let e = c.in_ok-after.ensures in
+    let run : List ℕ = e.0 in
+    let after : List ℕ = c.in_ok-after.after.now in
     record {
       utf8 = search rules;
       read = (
         i.0 ++ character ++ run,
-        reached_run text (i.0 ++ character) run c.in-Some.more.now after (reached_character text i.0 c.loop-character.left.now character c.in-Some.more.now i.1 c.in-Some.ensures) c.split_run.ensures.run c.split_run.ensures.whole,
-        pushed old (string_bytes c.push.new.self) (string_bytes c.push_str.new.self) (i.0 ++ character) run
+        reached_run text (i.0 ++ character) run c.in-Some.more.now after (reached_character text i.0 c.loop-character.left.now character c.in-Some.more.now i.1 c.in-Some.ensures) e.2 e.1,
+        pushed old (string_bytes c.push.new.self) (string_bytes c.push_run.new.content) (i.0 ++ character) run
             (pushed old (string_bytes c.loop-character.content) (string_bytes c.push.new.self) i.0 character i.2 c.in_ok-push.ensures.bytes)
-            c.in_ok-push_str.ensures.bytes,
+            e.4,
       );
-      escape = c.split_run.ensures.stops;
+      escape = e.3;
       unclosed = λ behind e. past_first _ after 34 behind c.in_default-strip_byte.ensures e refl;
     }
