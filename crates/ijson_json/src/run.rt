@@ -125,7 +125,7 @@ fn append_run(content: &mut Vec<u8>, bytes: &[u8]) -> Result<usize, AllocError>
     Ok(at + count)
 }
 
-/// Appends the longest run of bytes at the front that stand for themselves, and gives the rest.
+/// Appends the longest run of bytes at the front that stand for themselves, and gives the rest. Where memory is refused, `content` is empty.
 pub(crate) fn push_run<'a>(content: &mut String, text: &'a str) -> Result<&'a str, AllocError>
     ensures { IfOk result (λ rest. (run : List ℕ) × (text.now ≡ run ++ rest.now)
         × AllByRecursion (λ byte. IsTrue (is_unescaped byte)) run × Past is_unescaped rest.now

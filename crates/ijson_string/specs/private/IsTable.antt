@@ -25,7 +25,7 @@ kinds_of homes = map (λ h. h.kinds) homes
 abbrev pub AreChained : List Entry → List ℕ → Type 0
 AreChained entries last = IsChained (homes_of (length last) (keys_of entries)) (befores_of entries) last
 
--- and there are at most twice as many as homes
+-- and there are at most four times as many as homes
 pub record IsTable (entries : List Entry) (homes : List Home) : Type 0 where
   pub room : length entries ≤ 4 * length homes
   pub bounded : length homes ≤ 2 ^ 32
