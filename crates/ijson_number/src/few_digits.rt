@@ -12,7 +12,7 @@ use crate::stored::Stored;
 use crate::word::Word;
 
 fn with_sign(negative: bool, size: u64) -> i64
-    requires { size < 10 ^ 18 }
+    requires { size < 2 ^ 63 }
     ensures { result ≡ signed negative size }
 {
     if negative {
@@ -59,9 +59,11 @@ pub fn whole_word(negative: bool, size: u64) -> Option<Stored>
         × (negative ≡ true → size < 2 ^ 63)) }
     ensures small { size < 2 ^ 63 → IsSome result }
 {
-    if !negative {
-        return Some(stored_unsigned(size));
+    if size < 1 << 63 {
+        return Some(stored_signed(with_sign(negative, size)));
     }
-    let size = i64::try_from(size).ok()?;
-    Some(stored_signed(-size))
+    if negative {
+        return None;
+    }
+    Some(stored_unsigned(size))
 }

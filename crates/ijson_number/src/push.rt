@@ -19,17 +19,19 @@ use std::alloc::AllocError;
 use std::fmt::Write;
 use std::simd::prelude::*;
 
-/// Appends the minus, if there is one. It is written in any case, since a processor cannot guess which numbers have one.
+/// Appends the minus, if there is one. Two bytes are written in any case, and one or both cut off, since a processor cannot guess which
+/// numbers have a minus, and a cut that is made for some alone is a branch.
 fn push_minus(negative: bool, out: &mut String) -> Result<(), AllocError>
     ensures { OnOk result (string_bytes out.new ≡ string_bytes out.old ++ minus_text negative) }
 {
     let end = out.len() + usize::from(negative);
-    out.push_str("-")?;
+    out.push_str("--")?;
     out.truncate(end);
     Ok(())
 }
 
 /// Appends the number whose digits a row has, without so many of the last ones.
+#[inline(always)]
 fn push_front(row: u8x16, places: usize, out: &mut String) -> Result<(), AllocError>
     requires all { length row ≡ 16 }
     requires ascii { IsAscii row }
@@ -43,6 +45,7 @@ fn push_front(row: u8x16, places: usize, out: &mut String) -> Result<(), AllocEr
 }
 
 /// Appends a number without so many of its last digits, where `row` has the last 16.
+#[inline(always)]
 fn push_whole(size: u64, row: u8x16, places: usize, out: &mut String) -> Result<(), AllocError>
     requires row { row ≡ last_digits 16 (size % 10 ^ 16) }
     requires few { places < 16 }
@@ -56,6 +59,7 @@ fn push_whole(size: u64, row: u8x16, places: usize, out: &mut String) -> Result<
 }
 
 /// Appends a whole number over ten to the places, with so many digits behind the point; without it where there are no places.
+#[inline(never)]
 fn push_size(size: u64, places: usize, out: &mut String) -> Result<(), AllocError>
     requires few { places < 16 }
     ensures whole { places ≡ 0 → OnOk result (string_bytes out.new ≡ string_bytes out.old ++ decimal size) }
@@ -67,16 +71,17 @@ fn push_size(size: u64, places: usize, out: &mut String) -> Result<(), AllocErro
     if places == 0 {
         return Ok(());
     }
-    out.push_str(".")?;
+    out.push('.')?;
     push_lanes(row, ROW - places, places, out)
 }
 
 /// Appends an integer without the point.
+#[inline(never)]
 fn push_integer(negative: bool, size: u64, out: &mut String) -> Result<(), AllocError>
     ensures { OnOk result (string_bytes out.new ≡ string_bytes out.old ++ integer_text negative size) }
 {
     push_minus(negative, out)?;
-    push_size(size, 0, out)
+    push_whole(size, row_of(size % ROW_END), 0, out)
 }
 
 /// Appends a packed number with the point, where no exponent is written and none is above zero. Where it tells `false` it
@@ -104,7 +109,7 @@ fn push_pointed(mantissa: i64, exponent: i8, out: &mut String) -> Result<bool, A
 impl StrippedNumber<'_> {
     /// Appends the number, where the point stands between two of its digits and `row` has all of them, at its end. Where it
     /// tells `false` it appended nothing.
-    #[inline(always)]
+    #[inline(never)]
     fn push_row(&self, row: u8x16, out: &mut String) -> Result<bool, AllocError>
         requires all { length row ≡ 16 }
         requires row { length self.now.digits.now ≤ 16
@@ -123,7 +128,7 @@ impl StrippedNumber<'_> {
         }
         push_minus(self.negative, out)?;
         push_lanes(row, ROW - count, count - places, out)?;
-        out.push_str(".")?;
+        out.push('.')?;
         push_lanes(row, ROW - places, places, out)?;
         Ok(true)
     }

@@ -55,16 +55,13 @@ impl Word {
         Word::from_code(mantissa, (exponent + 7) as u64)
     }
 
-    /// The mantissa.
+    /// The mantissa. No branch goes by its sign, which a processor cannot foretell.
     pub fn mantissa(self) -> i64
         ensures value { result ≡ word_mantissa self.bits }
     {
         let above = self.bits / 256;
-        if above < 1 << 55 {
-            above as i64
-        } else {
-            above as i64 - (1 << 56)
-        }
+        let sign = above / (1 << 55);
+        above as i64 - (sign * (1 << 56)) as i64
     }
 
     /// Bits 4 to 7.

@@ -40,6 +40,7 @@ push_lanes-requires-2-clause-ascii c =
     rw (behind c.args.row n.digits.now c.requires.all few (c.requires.row few) places (omega (arith, c.if-places-count.false))) (digits_text_ascii (drop (length n.digits.now - places) n.digits.now) (All-drop (λ d. d < 10) (length n.digits.now - places) n.digits.now n.stripped.stripped.below_ten))
 
 pub returns-clause-done : goal.returns-clause-done
+unfolding lib.Utf8.encode
 returns-clause-done c = λ t.
     let n = c.args.self.now in
     let ds = n.digits.now in
@@ -55,4 +56,4 @@ returns-clause-done c = λ t.
     let whole = digits_text (take (length ds - places) ds) in
     let front : string_bytes c.push_lanes.new.out ≡ (string_bytes c.args.out.now ++ minus) ++ whole = c.in_ok-push_lanes.ensures ∙ rw (c.in_ok-push_minus.ensures, before c.args.row ds c.requires.all few row places inside) refl in
     let fraction = behind_all c.args.row ds c.requires.all few row places inside in
-    c.in_ok-push_lanes-2.ensures ∙ ap (λ x. string_bytes c.push_str.new.self ++ x) fraction ∙ joined (string_bytes c.args.out.now) minus whole (digits_text (drop (length ds - places) ds)) (string_bytes c.push_str.new.self) _ (c.in_ok-push_str.ensures.bytes ∙ ap (λ x. x ++ 46 ∷ []) front) (sym shown)
+    c.in_ok-push_lanes-2.ensures ∙ ap (λ x. string_bytes c.push.new.self ++ x) fraction ∙ joined (string_bytes c.args.out.now) minus whole (digits_text (drop (length ds - places) ds)) (string_bytes c.push.new.self) _ (c.in_ok-push.ensures.bytes ∙ ap (λ x. x ++ 46 ∷ []) front) (sym shown)
