@@ -58,7 +58,8 @@ fn push_whole(size: u64, row: u8x16, places: usize, out: &mut String) -> Result<
     push_lanes(row, 0, ROW - places, out)
 }
 
-/// Appends a whole number over ten to the places, with so many digits behind the point; without it where there are no places.
+/// Appends a whole number over ten to the places, with so many digits behind the point; without it where there are no places. It
+/// stays a call, as `push_integer` and `push_row` do: in a longer function a compiler leaves each append of a few bytes a call.
 #[inline(never)]
 fn push_size(size: u64, places: usize, out: &mut String) -> Result<(), AllocError>
     requires few { places < 16 }
