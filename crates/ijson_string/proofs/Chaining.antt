@@ -1,12 +1,12 @@
--- Entries are chained one by one, from the first on.
-use Rattle.std.proofs.Common.{◌≡◌, ◌∙◌, ap, ap₂, sym, subst, refl, ℕ, ◌+◌, ◌*◌, ◌^◌, ◌<◌, ◌≤◌, List, [], ◌∷◌, ◌++◌, length, get_or, take, replicate, arith}
+-- Links are chained one by one, from the first on.
+use Rattle.std.proofs.Common.{◌≡◌, ◌∙◌, ap, ap₂, sym, subst, ℕ, ◌+◌, ◌*◌, ◌^◌, ◌<◌, ◌≤◌, List, [], ◌∷◌, ◌++◌, length, get_or, take, replicate, arith}
 use Rattle.std.proofs.Math.ListN.{set}
 use Rattle.std.proofs.Math.Seq.{map-set_same}
 use Rattle.std.proofs.lemmas.List.{get_or-map, get_or-replicate, length-append, length-map, length-replicate, length-set, length-take-le, map-append, map-set, take_more, take_more_set}
-use Rattle.ijson_string.specs.declared.table.Entry.{Entry}
+use Rattle.ijson_string.specs.declared.table.Link.{Link}
 use Rattle.ijson_string.specs.declared.table.Home.{Home}
 use Rattle.ijson_string.specs.private.Chains.{home_of, IsChained}
-use Rattle.ijson_string.specs.private.IsTable.{key_of, keys_of, befores_of, lasts_of, kinds_of, AreChained, IsTable}
+use Rattle.ijson_string.specs.private.IsTable.{halves_of, befores_of, lasts_of, kinds_of, AreChained, IsTable}
 use Rattle.ijson_string.specs.private.Keys.{homes_of}
 use Rattle.ijson_string.specs.private.Kinds.{marked}
 use Rattle.ijson_string.proofs.Chains.{IsChained-push}
@@ -27,33 +27,33 @@ IsChained-none n =
       links = λ p lt. absurd (omega arith);
     }
 
--- the first so many entries are chained, and each is what it was but for its chain
-pub record IsBegun (old entries : List Entry) (last : List ℕ) (position : ℕ) : Type 0 where
-  pub kept : keys_of entries ≡ keys_of old
-  pub chained : IsChained (take position (homes_of (length last) (keys_of entries))) (take position (befores_of entries)) last
+-- the first so many links are chained, and each has the half that it had
+pub record IsBegun (old links : List Link) (last : List ℕ) (position : ℕ) : Type 0 where
+  pub kept : halves_of links ≡ halves_of old
+  pub chained : IsChained (take position (homes_of (length last) (halves_of links))) (take position (befores_of links)) last
 
--- one entry more
-pub IsBegun-step : (old entries : List Entry) (last : List ℕ) (i h : ℕ) (e : Entry) → IsBegun old entries last i
-    → i < length entries → e ≡ get_or entries i e → h ≡ home_of (length last) e.half → h < length last
-    → IsBegun old (set entries i (record e { before = get_or last h 0 })) (set last h (i + 1)) (i + 1)
-IsBegun-step old entries last i h e begun lt there is inside =
+-- one link more
+pub IsBegun-step : (old links : List Link) (last : List ℕ) (i h : ℕ) (l : Link) → IsBegun old links last i
+    → i < length links → l ≡ get_or links i l → h ≡ home_of (length last) l.half → h < length last
+    → IsBegun old (set links i (record l { before = get_or last h 0 })) (set last h (i + 1)) (i + 1)
+IsBegun-step old links last i h l begun lt there is inside =
     let count = length last in
-    let keys = keys_of entries in
-    let homes = homes_of count keys in
-    let befores = befores_of entries in
-    let as_many_keys = length-map entries key_of in
-    let as_many_homes = length-map keys (λ k. home_of count k.half) in
-    let as_many_befores = length-map entries (λ e. e.before) in
-    let written : Entry = record e { before = get_or last h 0 } in
-    let same : keys_of (set entries i written) ≡ keys = map-set_same key_of entries i written e (ap key_of there) in
+    let halves = halves_of links in
+    let homes = homes_of count halves in
+    let befores = befores_of links in
+    let as_many_halves = length-map links (λ l. l.half) in
+    let as_many_homes = length-map halves (home_of count) in
+    let as_many_befores = length-map links (λ l. l.before) in
+    let written : Link = record l { before = get_or last h 0 } in
+    let same : halves_of (set links i written) ≡ halves = map-set_same (λ l. l.half) links i written l (ap (λ l. l.half) there) in
     let home : get_or homes i 0 ≡ h =
-    get_or-map (λ k. home_of count k.half) keys i (key_of e) 0 (omega arith)
-    ∙ ap (λ k. home_of count k.half) (get_or-map key_of entries i e (key_of e) lt ∙ ap key_of (sym there)) ∙ sym is in
-    let homes_now : take (i + 1) (homes_of (length (set last h (i + 1))) (keys_of (set entries i written))) ≡ take i homes ++ h ∷ [] =
-    ap₂ (λ n ks. take (i + 1) (homes_of n ks)) (length-set last h (i + 1)) same
+    get_or-map (home_of count) halves i l.half 0 (omega arith)
+    ∙ ap (home_of count) (get_or-map (λ l. l.half) links i l l.half lt ∙ ap (λ l. l.half) (sym there)) ∙ sym is in
+    let homes_now : take (i + 1) (homes_of (length (set last h (i + 1))) (halves_of (set links i written))) ≡ take i homes ++ h ∷ [] =
+    ap₂ (λ n hs. take (i + 1) (homes_of n hs)) (length-set last h (i + 1)) same
     ∙ take_more homes i 0 (omega arith) ∙ ap (λ x. take i homes ++ x ∷ []) home in
-    let befores_now : take (i + 1) (befores_of (set entries i written)) ≡ take i befores ++ get_or last h 0 ∷ [] =
-    ap (take (i + 1)) (map-set (λ e. e.before) entries i written) ∙ take_more_set befores i (get_or last h 0) (omega arith) in
+    let befores_now : take (i + 1) (befores_of (set links i written)) ≡ take i befores ++ get_or last h 0 ∷ [] =
+    ap (take (i + 1)) (map-set (λ l. l.before) links i written) ∙ take_more_set befores i (get_or last h 0) (omega arith) in
     let first_homes = length-take-le i homes (omega arith) in
     let first_befores = length-take-le i befores (omega arith) in
     record {
@@ -64,22 +64,22 @@ IsBegun-step old entries last i h e begun lt there is inside =
           (subst (λ n. IsChained (take i homes ++ h ∷ []) (take i befores ++ get_or last h 0 ∷ []) (set last h (n + 1))) first_homes pushed);
     }
 
--- an entry behind the others
-AreChained-push : (entries : List Entry) (last : List ℕ) (e : Entry) → AreChained entries last
-    → home_of (length last) e.half < length last → e.before ≡ get_or last (home_of (length last) e.half) 0
-    → AreChained (entries ++ e ∷ []) (set last (home_of (length last) e.half) (length entries + 1))
-AreChained-push entries last e chained inside leads =
+-- a link behind the others
+AreChained-push : (links : List Link) (last : List ℕ) (l : Link) → AreChained links last
+    → home_of (length last) l.half < length last → l.before ≡ get_or last (home_of (length last) l.half) 0
+    → AreChained (links ++ l ∷ []) (set last (home_of (length last) l.half) (length links + 1))
+AreChained-push links last l chained inside leads =
     let count = length last in
-    let h = home_of count e.half in
-    let homes = homes_of count (keys_of entries) in
-    let befores = befores_of entries in
-    let as_many_homes : length homes ≡ length entries = length-map (keys_of entries) (λ k. home_of count k.half) ∙ length-map entries key_of in
-    let as_many_befores = length-map entries (λ e. e.before) in
-    let homes_now : homes_of (length (set last h (length entries + 1))) (keys_of (entries ++ e ∷ [])) ≡ homes ++ h ∷ [] =
-    ap₂ homes_of (length-set last h (length entries + 1)) (map-append key_of entries (e ∷ []))
-    ∙ map-append (λ k. home_of count k.half) (keys_of entries) (key_of e ∷ []) in
-    let befores_now : befores_of (entries ++ e ∷ []) ≡ befores ++ get_or last h 0 ∷ [] =
-    map-append (λ e. e.before) entries (e ∷ []) ∙ ap (λ n. befores ++ n ∷ []) leads in
+    let h = home_of count l.half in
+    let homes = homes_of count (halves_of links) in
+    let befores = befores_of links in
+    let as_many_homes : length homes ≡ length links = length-map (halves_of links) (home_of count) ∙ length-map links (λ l. l.half) in
+    let as_many_befores = length-map links (λ l. l.before) in
+    let homes_now : homes_of (length (set last h (length links + 1))) (halves_of (links ++ l ∷ [])) ≡ homes ++ h ∷ [] =
+    ap₂ homes_of (length-set last h (length links + 1)) (map-append (λ l. l.half) links (l ∷ []))
+    ∙ map-append (home_of count) (halves_of links) (l.half ∷ []) in
+    let befores_now : befores_of (links ++ l ∷ []) ≡ befores ++ get_or last h 0 ∷ [] =
+    map-append (λ l. l.before) links (l ∷ []) ∙ ap (λ n. befores ++ n ∷ []) leads in
     let pushed = IsChained-push homes befores last h chained (as_many_befores ∙ sym as_many_homes) inside in
     rw (homes_now, befores_now)
     (subst (λ n. IsChained (homes ++ h ∷ []) (befores ++ get_or last h 0 ∷ []) (set last h (n + 1))) as_many_homes pushed)
@@ -92,25 +92,25 @@ pub record IsEntered (homes after : List Home) (half link : ℕ) : Type 0 where
   pub kinds : kinds_of after ≡ marked (kinds_of homes) half
 
 -- a text that goes behind the others, where there is room for it
-pub IsTable-push : (entries : List Entry) (homes after : List Home) (e : Entry) → IsTable entries homes → length entries < 4 * length homes
-    → IsEntered homes after e.half (length entries + 1) → e.before ≡ get_or (lasts_of homes) (home_of (length homes) e.half) 0
-    → IsTable (entries ++ e ∷ []) after
-IsTable-push entries homes after e table room entered leads =
+pub IsTable-push : (links : List Link) (homes after : List Home) (l : Link) → IsTable links homes → length links < 4 * length homes
+    → IsEntered homes after l.half (length links + 1) → l.before ≡ get_or (lasts_of homes) (home_of (length homes) l.half) 0
+    → IsTable (links ++ l ∷ []) after
+IsTable-push links homes after l table room entered leads =
     let last = lasts_of homes in
     let as_many : length last ≡ length homes = length-map homes (λ h. h.last) in
     let as_many_kinds : length (kinds_of homes) ≡ length homes = length-map homes (λ h. h.kinds) in
     let same = entered.as_many in
-    let one_more = length-append entries (e ∷ []) in
+    let one_more = length-append links (l ∷ []) in
     let bounded = table.bounded in
     record {
       room = omega arith;
       bounded = omega arith;
       chained =
           rw (entered.last, ← as_many)
-          (AreChained-push entries last e table.chained (rw as_many entered.inside) (rw as_many leads));
+          (AreChained-push links last l table.chained (rw as_many entered.inside) (rw as_many leads));
       marked =
-          rw (entered.kinds, map-append key_of entries (e ∷ []))
-          (AreMarked-mark (kinds_of homes) e.half (rw as_many_kinds entered.inside) (keys_of entries) (key_of e) table.marked refl);
+          rw (entered.kinds, map-append (λ l. l.half) links (l ∷ []))
+          (AreMarked-mark (kinds_of homes) l.half (rw as_many_kinds entered.inside) (halves_of links) table.marked);
     }
 
 -- a table of no text

@@ -8,10 +8,10 @@ use Rattle.std.specs.Str.{bytes_eq}
 use Rattle.std.proofs.lemmas.Bool.{eq-eqb, eqb-true, eqb-false}
 use Rattle.std.proofs.lemmas.List.{get_or-map, get_or-set_same, get_or-set_other, length-map, length-set, take_more}
 use Rattle.std.proofs.lemmas.Nat.Bits.{bit_at_or, same_from_bits}
-use Rattle.ijson_string.specs.declared.table.Entry.{Entry}
+use Rattle.ijson_string.specs.declared.table.Link.{Link}
 use Rattle.ijson_string.specs.private.Chains.{home_of}
-use Rattle.ijson_string.specs.private.IsTable.{key_of, keys_of}
-use Rattle.ijson_string.specs.private.Keys.{Key, is_key}
+use Rattle.ijson_string.specs.private.IsTable.{halves_of}
+use Rattle.ijson_string.specs.private.Keys.{is_key, keys_of}
 use Rattle.ijson_string.specs.private.Kinds.{AreMarked, covers, kind_of, marked}
 
 greatest_kept : (a b c : ℕ) → max a c ≡ a → max (max a b) c ≡ max a b
@@ -66,31 +66,28 @@ module _ (kinds : List ℕ) (half : ℕ) (inside : home_of (length kinds) half <
             was
       ] refl
 
-  AreMarked-kept : (keys : List Key) → AreMarked kinds keys → AreMarked (marked kinds half) keys
-  AreMarked-kept [] all = tt
-  AreMarked-kept (k ∷ keys) all = (covers-kept k.half all.0, AreMarked-kept keys all.1)
+  -- a half more, whose kind is marked
+  pub AreMarked-mark : (halves : List ℕ) → AreMarked kinds halves → AreMarked (marked kinds half) (halves ++ half ∷ [])
+  AreMarked-mark [] all = (covers-marked, tt)
+  AreMarked-mark (h ∷ halves) all = (covers-kept h all.0, AreMarked-mark halves all.1)
 
-  -- a key more, whose kind is marked
-  pub AreMarked-mark : (keys : List Key) (k : Key) → AreMarked kinds keys → k.half ≡ half → AreMarked (marked kinds half) (keys ++ k ∷ [])
-  AreMarked-mark [] k all e = (subst (λ h. covers (marked kinds half) h ≡ true) (sym e) covers-marked, tt)
-  AreMarked-mark (x ∷ keys) k all e = (covers-kept x.half all.0, AreMarked-mark keys k all.1 e)
-
--- the next entry is marked
-pub AreMarked-step : (kinds : List ℕ) (entries : List Entry) (i : ℕ) (e : Entry) → AreMarked kinds (take i (keys_of entries)) → i < length entries
-    → e ≡ get_or entries i e → home_of (length kinds) e.half < length kinds → AreMarked (marked kinds e.half) (take (i + 1) (keys_of entries))
-AreMarked-step kinds entries i e all lt there inside =
-    let keys = keys_of entries in
-    let as_many = length-map entries key_of in
-    let key : get_or keys i (key_of e) ≡ key_of e = get_or-map key_of entries i e (key_of e) lt ∙ ap key_of (sym there) in
-    subst (AreMarked (marked kinds e.half)) (sym (take_more keys i (key_of e) (omega arith) ∙ ap (λ k. take i keys ++ k ∷ []) key))
-    (AreMarked-mark kinds e.half inside (take i keys) (key_of e) all refl)
+-- the next link is marked
+pub AreMarked-step : (kinds : List ℕ) (links : List Link) (i : ℕ) (l : Link) → AreMarked kinds (take i (halves_of links)) → i < length links
+    → l ≡ get_or links i l → home_of (length kinds) l.half < length kinds → AreMarked (marked kinds l.half) (take (i + 1) (halves_of links))
+AreMarked-step kinds links i l all lt there inside =
+    let halves = halves_of links in
+    let as_many = length-map links (λ l. l.half) in
+    let half : get_or halves i l.half ≡ l.half = get_or-map (λ l. l.half) links i l l.half lt ∙ ap (λ l. l.half) (sym there) in
+    subst (AreMarked (marked kinds l.half)) (sym (take_more halves i l.half (omega arith) ∙ ap (λ h. take i halves ++ h ∷ []) half))
+    (AreMarked-mark kinds l.half inside (take i halves) all)
 
 -- no key of a kind that is not marked is there
-pub is_nowhere : (kinds : List ℕ) (half : ℕ) (text : List ℕ) (keys : List Key) → AreMarked kinds keys → covers kinds half ≡ false
-    → list_any (is_key half text) keys ≡ false
-is_nowhere kinds half text [] all none = refl
-is_nowhere kinds half text (k ∷ keys) all none =
-    elim (nat_eq half k.half) as (λ b. nat_eq half k.half ≡ b → ((b && bytes_eq text k.text) || list_any (is_key half text) keys) ≡ false) [
-      | true ↦ λ same. absurd (let e : half ≡ k.half = eqb-true half k.half same in let f : covers kinds half ≡ true = subst (λ h. covers kinds h ≡ true) (sym e) all.0 in cc)
-      | false ↦ λ _. is_nowhere kinds half text keys all.1 none
+pub is_nowhere : (kinds : List ℕ) (half : ℕ) (text : List ℕ) (halves : List ℕ) (texts : List (List ℕ)) → AreMarked kinds halves → covers kinds half ≡ false
+    → list_any (is_key half text) (keys_of halves texts) ≡ false
+is_nowhere kinds half text [] texts all none = refl
+is_nowhere kinds half text (h ∷ halves) [] all none = refl
+is_nowhere kinds half text (h ∷ halves) (t ∷ texts) all none =
+    elim (nat_eq half h) as (λ b. nat_eq half h ≡ b → ((b && bytes_eq text t) || list_any (is_key half text) (keys_of halves texts)) ≡ false) [
+      | true ↦ λ same. absurd (let e : half ≡ h = eqb-true half h same in let f : covers kinds half ≡ true = subst (λ h. covers kinds h ≡ true) (sym e) all.0 in cc)
+      | false ↦ λ _. is_nowhere kinds half text halves texts all.1 none
     ] refl

@@ -3,8 +3,8 @@ ghost use Rattle.std.specs.Prelude.{◌≡◌, ◌+◌, ◌*◌, ◌<◌, ◌≤
 ghost use Rattle.std.specs.List.{list_any};
 ghost use Rattle.ijson_string.specs.private.Chains.{half_of, home_of};
 ghost use Rattle.ijson_string.specs.private.Kinds.{AreMarked, covers, kind_of, marked};
-ghost use Rattle.ijson_string.specs.private.IsTable.{keys_of, kinds_of, lasts_of, AreChained, IsTable};
-ghost use Rattle.ijson_string.specs.private.Keys.{is_key};
+ghost use Rattle.ijson_string.specs.private.IsTable.{halves_of, kinds_of, lasts_of, AreChained, IsTable};
+ghost use Rattle.ijson_string.specs.private.Keys.{is_key, no_key, IsKeyAt};
 
 use crate::text::IString;
 use std::alloc::{AllocError, Global};
@@ -23,16 +23,18 @@ const MAX_HOMES: usize = 1 << 32;
 /// How many texts there are for each home before there are more homes.
 const TEXTS_PER_HOME: usize = 4;
 
-/// A text, a half of its hash, and the text that came before it among those of its home.
-#[derive(Drop)]
-struct Entry {
-    text: IString,
+/// How many texts are noted, once there are as many homes.
+const NOTES: usize = 2048;
+
+/// What leads to a text: a half of its hash, and the text that came before it among those of its home.
+#[derive(Clone, Copy, Drop)]
+struct Link {
     half: u32,
     /// One more than a position, and 0 where there is none before it.
     before: u32,
 }
 
-const _: () = prove!(size_of::<Entry>() == 24);
+const _: () = prove!(size_of::<Link>() == 8);
 
 /// The texts of one home: the last that came, and their kinds. Both lie in one word, so that a look-up of a text that is not there
 /// waits for memory once.
@@ -40,7 +42,7 @@ const _: () = prove!(size_of::<Entry>() == 24);
 struct Home {
     /// One more than a position, and 0 where there is no text.
     last: u32,
-    /// Two bits for each kind, or one.
+    /// Three bits for each kind, or fewer.
     kinds: u32,
 }
 
@@ -49,28 +51,46 @@ const _: () = prove!(size_of::<Home>() == 8);
 /// No text.
 const NO_TEXT: Home = Home { last: 0, kinds: 0 };
 
-/// Texts in a list, in the order in which they came. Those of one home are a chain, from the last that came to the first, so
-/// that positions fall along it. A chain is gone along only where a text of the kind that is sought came into its home: of the
-/// texts that are not there, nineteen in twenty are told by the word of their home. An entry takes 24 bytes, and from 64 texts on
-/// there are two to four for each home of 8 bytes; each list doubles where it is full. The memory of a text is read only where its
-/// half is the one that is sought. At most 2^32 - 1 texts fit.
+/// A half, and the position of the text that was found by it. It is a hint alone, since it stays where the texts are taken out: what
+/// stands there is tested in any case.
+#[derive(Clone, Copy, Drop)]
+struct Note {
+    half: u32,
+    position: u32,
+}
+
+/// What stands where nothing was noted yet: a hint too, to the text that came first.
+const NO_NOTE: Note = Note {
+    half: 0,
+    position: 0,
+};
+
+/// Texts in a list, in the order in which they came, and beside it a list of what leads to them, which a look-up goes along. Those
+/// of one home are a chain, from the last that came to the first, so that positions fall along it. A chain is gone along only where
+/// a text of the kind that is sought came into its home: of the texts that are not there, thirty-nine in forty are told by the word
+/// of their home. A text takes 16 bytes and its link 8, and from 64 texts on there are two to four for each home of 8 bytes; each
+/// list doubles where it is full. The memory of a text is read only where its half is the one that is sought. Where there are many,
+/// a text that was found is noted: one that comes again and again stands at the end of its chain, and is found with no look at the
+/// others. At most 2^32 - 1 texts fit.
 #[derive(Drop)]
 pub(crate) struct TextTable {
-    entries: Vec<Entry>,
+    texts: Vec<IString>,
+    links: Vec<Link>,
     homes: Vec<Home>,
+    notes: Vec<Note>,
 }
 
 impl Model for TextTable {
-    ghost use Rattle.std.specs.Prelude.{List};
-    ghost use Rattle.ijson_string.specs.private.Keys.{Key};
+    ghost use Rattle.std.specs.Prelude.{List, length, ◌≡◌};
+    ghost use Rattle.ijson_string.specs.private.Keys.{keys_of, Key};
 
     ghost Value = { List Key };
 
-    ghost use Rattle.ijson_string.specs.private.IsTable.{keys_of, IsTable};
+    ghost use Rattle.ijson_string.specs.private.IsTable.{halves_of, IsTable};
 
-    ghost view = { λ t. keys_of t.entries.items };
+    ghost view = { λ t. keys_of (halves_of t.links.items) t.texts.items };
 
-    ghost invariant = { λ t. IsTable t.entries.items t.homes.items };
+    ghost invariant = { λ t. IsTable t.links.items t.homes.items × (length t.texts.items ≡ length t.links.items) };
 }
 
 impl TextTable {
@@ -79,8 +99,10 @@ impl TextTable {
         ensures { result ≡ [] }
     {
         TextTable {
-            entries: Vec::new(alloc),
+            texts: Vec::new(alloc),
+            links: Vec::new(alloc),
             homes: Vec::new(alloc),
+            notes: Vec::new(alloc),
         }
     }
 
@@ -88,13 +110,44 @@ impl TextTable {
     pub(crate) fn len(&self) -> usize
         ensures { result ≡ length self.now }
     {
-        self.entries.len()
+        self.texts.len()
     }
 
-    /// The text that is there like this one, beside this half. It goes along one chain at most, which has at most four texts on the
-    /// average.
-    pub(crate) fn find(&self, half: u32, text: &str) -> Option<&IString>
-        ensures found { IfSome result (λ found. found.now ≡ text.now) }
+    /// Where the text is that is there like this one, beside this half. Where it is not noted, one chain is gone along at most, which
+    /// has at most four texts on the average.
+    pub(crate) fn find(&self, half: u32, text: &str) -> Option<u32>
+        ensures found { IfSome result (λ at. IsKeyAt half text.now self.now at) }
+        ensures exact { is_some result ≡ list_any (is_key half text.now) self.now }
+    {
+        if let Some(position) = self.noted(half, text) {
+            return Some(position);
+        }
+        self.chained(half, text)
+    }
+
+    /// The same, where it is noted.
+    fn noted(&self, half: u32, text: &str) -> Option<u32>
+        ensures { IfSome result (λ at. IsKeyAt half text.now self.now at) }
+    {
+        let note = self.notes.get(half as usize % NOTES)?;
+        let position = note.position as usize;
+        if note.half == half && position < self.texts.len() && self.is_at(position, half, text) {
+            return Some(note.position);
+        }
+        None
+    }
+
+    /// Whether the text at a position is this one, beside this half. Its memory is read only where the half is the same.
+    fn is_at(&self, position: usize, half: u32, text: &str) -> bool
+        requires { position < length self.now }
+        ensures { result ≡ is_key half text.now (get_or self.now position no_key) }
+    {
+        self.links[position].half == half && self.texts[position].eq_str(text)
+    }
+
+    /// The same, by the chain of its home.
+    fn chained(&self, half: u32, text: &str) -> Option<u32>
+        ensures found { IfSome result (λ at. IsKeyAt half text.now self.now at) }
         ensures exact { is_some result ≡ list_any (is_key half text.now) self.now }
     {
         if self.homes.is_empty() {
@@ -102,13 +155,30 @@ impl TextTable {
         }
         let mut at = last_like(&self.homes, half)?;
         while at > 0 {
-            let entry = &self.entries[at as usize - 1];
-            if entry.half == half && entry.text.eq_str(text) {
-                return Some(&entry.text);
+            let position = at as usize - 1;
+            if self.is_at(position, half, text) {
+                return Some(at - 1);
             }
-            at = entry.before;
+            at = self.links[position].before;
         }
         None
+    }
+
+    /// The text at a position.
+    pub(crate) fn text(&self, position: u32) -> &IString
+        requires { position < length self.now }
+        ensures { result.now ≡ (get_or self.now position no_key).text }
+    {
+        &self.texts[position as usize]
+    }
+
+    /// Notes where a text was found by its half.
+    pub(crate) fn note(&mut self, half: u32, position: u32)
+        ensures { self.new ≡ self.old }
+    {
+        if let Some(note) = self.notes.get_mut(half as usize % NOTES) {
+            *note = Note { half, position };
+        }
     }
 
     /// Puts a text behind the others. Where memory is refused, or the table is full, they are as they were.
@@ -117,13 +187,15 @@ impl TextTable {
         ensures refused { OnErr result (self.new ≡ self.old) }
     {
         // A link is one more than a position.
-        let Ok(link) = u32::try_from(self.entries.len() + 1) else {
+        let Ok(link) = u32::try_from(self.links.len() + 1) else {
             return Err(AllocError);
         };
-        make_room(&mut self.entries, &mut self.homes)?;
-        self.entries.reserve(1)?;
+        make_room(&mut self.links, &mut self.homes, &mut self.notes)?;
+        self.links.reserve(1)?;
+        self.texts.reserve(1)?;
         let before = enter(&mut self.homes, half, link);
-        self.entries.push_reserved(Entry { text, half, before });
+        self.links.push_reserved(Link { half, before });
+        self.texts.push_reserved(text);
         Ok(())
     }
 
@@ -131,42 +203,50 @@ impl TextTable {
     pub(crate) fn clear(&mut self)
         ensures { self.new ≡ [] }
     {
-        self.entries.clear();
+        self.texts.clear();
+        self.links.clear();
         self.homes.fill(NO_TEXT);
     }
 }
 
-/// Makes twice as many homes, where there are four times as many texts as homes. Where memory is refused, there are the same texts, in
-/// the homes that they had.
-fn make_room(entries: &mut [Entry], homes: &mut Vec<Home>) -> Result<(), AllocError>
-    requires table { IsTable entries.old homes.old.items }
-    requires few { length entries.old < 2 ^ 32 }
-    ensures table { IsTable entries.new homes.new.items }
-    ensures kept { keys_of entries.new ≡ keys_of entries.old }
-    ensures room { OnOk result (length entries.new < 4 * length homes.new.items) }
+/// Makes twice as many homes, where there are four times as many texts as homes, and makes the notes where there are homes enough.
+/// Where memory is refused, there are the same texts, in the homes that they had.
+fn make_room(
+    links: &mut [Link],
+    homes: &mut Vec<Home>,
+    notes: &mut Vec<Note>,
+) -> Result<(), AllocError>
+    requires table { IsTable links.old homes.old.items }
+    requires few { length links.old < 2 ^ 32 }
+    ensures table { IsTable links.new homes.new.items }
+    ensures kept { halves_of links.new ≡ halves_of links.old }
+    ensures room { OnOk result (length links.new < 4 * length homes.new.items) }
 {
-    if entries.len() < TEXTS_PER_HOME * homes.len() {
+    if links.len() < TEXTS_PER_HOME * homes.len() {
         return Ok(());
     }
     let count = (2 * homes.len()).clamp(MIN_HOMES, MAX_HOMES);
+    if count >= NOTES {
+        notes.resize(NOTES, NO_NOTE)?;
+    }
     homes.resize(count, NO_TEXT)?;
-    chain(entries, homes);
+    chain(links, homes);
     Ok(())
 }
 
 /// Makes the chains anew, from the first text to the last. No text is hashed or looked at.
-fn chain(entries: &mut [Entry], homes: &mut [Home])
+fn chain(links: &mut [Link], homes: &mut [Home])
     requires some { 0 < length homes.old }
     requires bounded { length homes.old ≤ 2 ^ 32 }
-    requires few { length entries.old < 2 ^ 32 }
-    ensures kept { keys_of entries.new ≡ keys_of entries.old }
-    ensures chained { AreChained entries.new (lasts_of homes.new) }
-    ensures marked { AreMarked (kinds_of homes.new) (keys_of entries.new) }
+    requires few { length links.old < 2 ^ 32 }
+    ensures kept { halves_of links.new ≡ halves_of links.old }
+    ensures chained { AreChained links.new (lasts_of homes.new) }
+    ensures marked { AreMarked (kinds_of homes.new) (halves_of links.new) }
     ensures as_many { length homes.new ≡ length homes.old }
 {
     homes.fill(NO_TEXT);
-    for (position, entry) in entries.iter_mut().enumerate() {
-        entry.before = enter(homes, entry.half, position as u32 + 1);
+    for (position, link) in links.iter_mut().enumerate() {
+        link.before = enter(homes, link.half, position as u32 + 1);
     }
 }
 
@@ -227,10 +307,10 @@ fn home_of_half(half: u32, count: usize) -> usize
     ((u64::from(half) * count as u64) >> 32) as usize
 }
 
-/// The kind of a half, by its ten lower bits: its home goes by the upper ones.
+/// The kind of a half, by its fifteen lower bits: its home goes by the upper ones.
 #[tactic(auto, unfolding(crate::specs::private::Kinds::kind_of))]
 fn kind_of_half(half: u32) -> u32
     ensures { result ≡ kind_of half }
 {
-    1 << (half % 32) | 1 << (half / 32 % 32)
+    1 << (half % 32) | 1 << (half / 32 % 32) | 1 << (half / 1024 % 32)
 }

@@ -1,8 +1,9 @@
 use Rattle.std.proofs.Common.{◌≡◌, ◌∙◌, ◌<◌, ap, sym, subst, refl, length, get_or, take, ◌+◌, arith}
 use Rattle.std.proofs.Math.Seq.{map-set_same}
-use Rattle.std.proofs.lemmas.List.{length-map}
+use Rattle.std.proofs.lemmas.List.{get_or_default, length-map}
+use Rattle.ijson_string.specs.declared.table.Link.{Link}
 use Rattle.ijson_string.specs.private.Chains.{home_of}
-use Rattle.ijson_string.specs.private.IsTable.{key_of, kinds_of, lasts_of}
+use Rattle.ijson_string.specs.private.IsTable.{kinds_of, lasts_of}
 use Rattle.ijson_string.specs.private.Kinds.{AreMarked, marked}
 use Rattle.ijson_string.proofs.Chaining.{IsBegun-step, IsChained-none}
 use Rattle.ijson_string.proofs.Marks.{AreMarked-step}
@@ -17,24 +18,24 @@ loop-position-init c = record {
 
 pub loop-position-preserved : goal.loop-position-preserved
 loop-position-preserved c =
-    let entries = c.loop-position.entries in
+    let links = c.loop-position.links in
     let homes = c.loop-position.homes in
     let i = c.loop-position.position in
-    let e = get_or entries i c.index-entries-position.result in
+    let l : Link = get_or links i (record { half = 0; before = 0 }) in
     let was = c.loop-position.invariant in
-    let entered = c.enter-entry.ensures in
-    let there : e ≡ get_or entries i e = ap (λ e. get_or entries i e) c.index-entries-position.is in
-    let within : i < length entries = omega arith in
+    let entered = c.enter-link.ensures in
+    let within : i < length links = omega arith in
+    let there : l ≡ get_or links i l = get_or_default links i (record { half = 0; before = 0 }) l within in
     let as_many : length (lasts_of homes) ≡ length homes = length-map homes (λ h. h.last) in
     let as_many_kinds : length (kinds_of homes) ≡ length homes = length-map homes (λ h. h.kinds) in
-    let begun = IsBegun-step _ entries (lasts_of homes) i (home_of (length homes) e.half) e was.begun within there
-    (ap (λ n. home_of n e.half) (sym as_many)) (rw as_many entered.inside) in
+    let begun = IsBegun-step _ links (lasts_of homes) i (home_of (length homes) l.half) l was.begun within there
+    (ap (λ n. home_of n l.half) (sym as_many)) (rw as_many entered.inside) in
     record {
       same = entered.as_many ∙ was.same;
       begun = rw (entered.last, entered.before) begun;
       marked =
           rw entered.kinds
-          (subst (λ ks. AreMarked (marked (kinds_of homes) e.half) (take (i + 1) ks))
-          (sym (map-set_same key_of entries i (record e { before = c.enter-entry.result }) e (ap key_of there)))
-          (AreMarked-step (kinds_of homes) entries i e was.marked within there (rw as_many_kinds entered.inside)));
+          (subst (λ ks. AreMarked (marked (kinds_of homes) l.half) (take (i + 1) ks))
+          (sym (map-set_same (λ l. l.half) links i (record l { before = c.enter-link.result }) l (ap (λ l. l.half) there)))
+          (AreMarked-step (kinds_of homes) links i l was.marked within there (rw as_many_kinds entered.inside)));
     }

@@ -1,5 +1,5 @@
 use Rattle.std.proofs.Common.{◌≡◌, length, take}
-use Rattle.ijson_string.specs.private.IsTable.{keys_of, lasts_of, kinds_of}
+use Rattle.ijson_string.specs.private.IsTable.{halves_of, lasts_of, kinds_of}
 use Rattle.ijson_string.specs.private.Kinds.{AreMarked}
 use Rattle.ijson_string.proofs.Chaining.{IsBegun}
 use Rattle.ijson_string.proofs.table.chain.Given as goal
@@ -8,6 +8,6 @@ use Rattle.ijson_string.proofs.table.chain.Given as goal
 abbrev pub invariant-loop-position : goal.invariant-loop-position
 invariant-loop-position l = record {
   same : length l.homes ≡ length l.fn.homes;
-  begun : IsBegun l.initial.entries l.entries (lasts_of l.homes) l.position;
-  marked : AreMarked (kinds_of l.homes) (take l.position (keys_of l.entries));
+  begun : IsBegun l.initial.links l.links (lasts_of l.homes) l.position;
+  marked : AreMarked (kinds_of l.homes) (take l.position (halves_of l.links));
 }

@@ -1,34 +1,64 @@
-use Rattle.std.proofs.Common.{◌≡◌, ◌+◌, ◌∙◌, ap, [], ◌∷◌, ◌++◌, length, take, drop, arith}
+use Rattle.std.proofs.Common.{◌≡◌, ◌+◌, ◌∙◌, ap, ap₂, sym, [], ◌∷◌, ◌++◌, length, take, drop, arith}
 use Rattle.std.specs.Prelude.{slice_set}
 use Rattle.std.proofs.Math.Seq.{take-append_seam}
-use Rattle.ijson_string.specs.declared.table.Entry.{Entry}
+use Rattle.std.proofs.lemmas.List.{length-append, length-map, map-append}
+use Rattle.ijson_string.specs.declared.table.Link.{Link}
 use Rattle.ijson_string.specs.private.Chains.{home_of}
-use Rattle.ijson_string.specs.private.IsTable.{lasts_of}
+use Rattle.ijson_string.specs.private.IsTable.{halves_of, lasts_of}
+use Rattle.ijson_string.specs.private.Keys.{keys_of}
 use Rattle.ijson_string.proofs.Chaining.{IsEntered, IsTable-push}
+use Rattle.ijson_string.proofs.Listed.{keys-push}
 use Rattle.ijson_string.proofs.table.TextTable.push.Goals as goal
+use Rattle.ijson_string.proofs.table.TextTable.push.Goals.{After-push_reserved-2}
+
+abbrev link_of : After-push_reserved-2 → Link
+link_of c = record { half = c.args.half; before = c.enter-before.result }
+
+-- the link stands behind the others
+links_now : (c : After-push_reserved-2) → c.push_reserved.new.self.items ≡ c.make_room.new.links ++ link_of c ∷ []
+links_now c =
+    let links = c.make_room.new.links in
+    let as_many : c.self.inside.links.len ≡ length links = omega arith in
+    let rest = drop (length links) c.self.inside.links.items in
+    let back : take c.self.inside.links.len (links ++ rest) ≡ links = ap (λ n. take n (links ++ rest)) as_many ∙ take-append_seam links rest in
+    c.push_reserved.ensures.items ∙ ap (λ ls. ls ++ link_of c ∷ []) (c.in_ok-reserve.ensures.items ∙ back)
+
+-- and so does the text
+texts_now : (c : After-push_reserved-2) → c.push_reserved-2.new.self.items ≡ c.self.inside.texts.items ++ c.args.text ∷ []
+texts_now c = c.push_reserved-2.ensures.items ∙ ap (λ ts. ts ++ c.args.text ∷ []) c.in_ok-reserve-2.ensures.items
+
+listed : (c : After-push_reserved-2) → length c.self.inside.texts.items ≡ length c.make_room.new.links
+listed c = let was = c.self.invariant.1 in omega (arith, was)
 
 pub invariant_of-self-2 : goal.invariant_of-self-2
 invariant_of-self-2 c =
-    let entries = c.make_room.new.entries in
+    let links = c.make_room.new.links in
     let homes = c.make_room.new.homes.items in
     let after = c.enter-before.new.homes in
     let half = c.args.half in
-    let e : Entry = record { text = c.args.text; half = half; before = c.enter-before.result } in
     let known = rw c.deref_mut-2.ensures.value at c.enter-before.ensures in
-    let as_many_entries : c.self.inside.entries.len ≡ length entries = omega arith in
-    let rest = drop (length entries) c.self.inside.entries.items in
-    let back : take c.self.inside.entries.len (entries ++ rest) ≡ entries = ap (λ n. take n (entries ++ rest)) as_many_entries ∙ take-append_seam entries rest in
-    let pushed : c.push_reserved.new.self.items ≡ entries ++ e ∷ [] = c.push_reserved.ensures.items ∙ ap (λ l. l ++ e ∷ []) (c.in_ok-reserve.ensures.items ∙ back) in
     let same : length after ≡ length homes = known.as_many in
     let as_many_homes : c.make_room.new.homes.len ≡ length after = omega arith in
     let rest_of_homes = drop (length after) homes in
     let homes_back : take c.make_room.new.homes.len (after ++ rest_of_homes) ≡ after =
     ap (λ n. take n (after ++ rest_of_homes)) as_many_homes ∙ take-append_seam after rest_of_homes in
-    let link : c.in-Ok.link ≡ length entries + 1 = omega (arith, c.in-Ok.ensures) in
-    let entered : IsEntered homes after half (length entries + 1) = record {
+    let link : c.in-Ok.link ≡ length links + 1 = omega (arith, c.in-Ok.ensures) in
+    let entered : IsEntered homes after half (length links + 1) = record {
       as_many = same;
       inside = known.inside;
       last = known.last ∙ ap (slice_set (lasts_of homes) (home_of (length homes) half)) link;
       kinds = known.kinds;
     } in
-    rw (pushed, homes_back) (IsTable-push entries homes after e c.in_ok-make_room.ensures.table c.in_ok-make_room.ensures.room entered known.before)
+    let more = length-append links (link_of c ∷ []) in
+    let more_texts = length-append c.self.inside.texts.items (c.args.text ∷ []) in (
+      rw (links_now c, homes_back) (IsTable-push links homes after (link_of c) c.in_ok-make_room.ensures.table c.in_ok-make_room.ensures.room entered known.before),
+      rw (links_now c, texts_now c) (omega (arith, more, more_texts, listed c)),
+    )
+
+pub returns-clause-pushed : goal.returns-clause-pushed
+returns-clause-pushed c =
+    let links = c.make_room.new.links in
+    let texts = c.self.inside.texts.items in
+    ap₂ keys_of (ap halves_of (links_now c) ∙ map-append (λ l. l.half) links (link_of c ∷ [])) (texts_now c)
+    ∙ keys-push (halves_of links) texts c.args.half c.args.text (listed c ∙ sym (length-map links (λ l. l.half)))
+    ∙ ap (λ keys. keys ++ record { half = c.args.half; text = c.args.text } ∷ []) (ap (λ halves. keys_of halves texts) (c.make_room.ensures.kept ∙ ap halves_of c.deref_mut.ensures.value) ∙ c.self.view_is)
