@@ -1,6 +1,7 @@
 -- Where a text may be cut.
-use Rattle.std.proofs.Common.{◌≡◌, ℕ, ◌<◌, List, ◌∷◌, length, get_or, drop, refl, sym, ap, subst, ◌∙◌, arith}
+use Rattle.std.proofs.Common.{◌≡◌, ℕ, ◌+◌, ◌<◌, List, ◌∷◌, ◌++◌, length, length-append, length-drop, get_or, drop, refl, sym, ap, subst, ◌∙◌, arith, add-zero}
 use Rattle.std.specs.Str.{IsUtf8, IsCharBoundary}
+use Rattle.std.proofs.lemmas.List.{get_or-append-add, get_or-drop}
 use Rattle.std.proofs.lemmas.Str.{IsCharBoundary-after_ascii, IsUtf8-drop}
 
 -- behind a first byte that is a character
@@ -16,3 +17,14 @@ pub text_behind : (text : List ℕ) (b : ℕ) (more : List ℕ) → IsUtf8 text 
 text_behind text b more u e h =
     let cut : IsUtf8 (drop 1 text) = IsUtf8-drop text 1 u (after_first text text b more u refl e h) in
     subst IsUtf8 (ap (λ (l : List ℕ). drop 1 l) e) cut
+
+-- behind a character of one byte, which stands behind some others
+pub behind_byte : (text run after rest : List ℕ) (b start : ℕ) → IsUtf8 text → drop start text ≡ run ++ after → after ≡ b ∷ rest → b < 128 → IsCharBoundary text (start + (length run + 1))
+behind_byte text run after rest b start u e f h =
+    let left : drop start text ≡ run ++ b ∷ rest = e ∙ ap (λ l. run ++ l) f in
+    let inside : start + length run < length text = omega (arith, length-drop start text, ap length left, length-append run (b ∷ rest)) in
+    let byte : get_or text (start + length run) 0 ≡ b =
+    sym (get_or-drop start text (length run) 0) ∙ ap (λ l. get_or l (length run) 0) left
+    ∙ ap (λ n. get_or (run ++ b ∷ rest) n 0) (sym (add-zero (length run))) ∙ get_or-append-add run (b ∷ rest) 0 0 in
+    let end : start + (length run + 1) ≡ start + length run + 1 = omega arith in
+    rw end (IsCharBoundary-after_ascii text (start + length run) u inside (omega (arith, byte, h)))

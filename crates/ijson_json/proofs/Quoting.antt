@@ -1,9 +1,10 @@
 -- What is written of a string.
-use Rattle.std.proofs.Common.{◌≡◌, ℕ, ◌<◌, ◌/◌, ◌%◌, false, cond, List, [], ◌∷◌, ◌++◌, length, Result, Ok, Err, refl, sym, ap, ap₂, ◌∙◌, append_assoc, arith}
+use Rattle.std.proofs.Common.{◌≡◌, ℕ, ◌+◌, ◌<◌, ◌/◌, ◌%◌, false, cond, List, [], ◌∷◌, ◌++◌, length, length-append, take, drop, Result, Ok, Err, refl, sym, ap, ap₂, ◌∙◌, append_assoc, arith}
 use Rattle.std.specs.Prelude.{IsTrue, ◌==◌, ◌≢◌, nat_lt, OnOk, is_ok, if◌then◌else◌}
 use Rattle.std.specs.Char.{encode_utf8}
 use Rattle.std.proofs.lemmas.Bool.Decides.{nat_tests}
-use Rattle.std.proofs.lemmas.List.{append-nil}
+use Rattle.std.proofs.Math.Seq.{take-add}
+use Rattle.std.proofs.lemmas.List.{append-nil, take_at, take-append-drop}
 use Rattle.std.proofs.lemmas.Str.{encode_ascii}
 use Rattle.ijson_json.specs.Strings.{is_unescaped}
 use Rattle.ijson_json.specs.Print.{escaped, all_escaped, hex_text, quoted}
@@ -37,15 +38,22 @@ pub written_end : (old out text : List ℕ) → out ≡ old ++ 34 ∷ all_escape
 written_end old out text e =
     ap₂ ◌++◌ e (encode_ascii 34 (omega arith)) ∙ append_assoc old (34 ∷ all_escaped text) (34 ∷ [])
 
--- a run is written, and what is left begins behind it
-pub read_all : (text done left run after : List ℕ) → text ≡ done ++ left → left ≡ run ++ after → length after ≡ 0 → text ≡ done ++ run
-read_all text done left run [] e f none = e ∙ ap (λ (l : List ℕ). done ++ l) (f ∙ append-nil run)
-read_all text done left run (b ∷ after) e f none = absurd (omega (arith, none))
+-- the text before a run and the run are the text as far as it goes
+read_run : (text run after : List ℕ) (start : ℕ) → drop start text ≡ run ++ after → take (start + length run) text ≡ take start text ++ run
+read_run text run after start e =
+    take-add start (length run) text ∙ ap (λ l. take start text ++ l) (ap (take (length run)) e ∙ take_at run after (length run) refl)
 
-pub read_on : (text done left run after rest : List ℕ) (b : ℕ) → text ≡ done ++ left → left ≡ run ++ after → after ≡ b ∷ rest → text ≡ ((done ++ run) ++ b ∷ []) ++ rest
-read_on text done left run after rest b e f g =
-    e ∙ ap (λ (l : List ℕ). done ++ l) (f ∙ ap (λ (l : List ℕ). run ++ l) g)
-    ∙ sym (append_assoc done run (b ∷ rest)) ∙ sym (append_assoc (done ++ run) (b ∷ []) rest)
+-- nothing stands behind the run, so that these are all of it
+pub read_all : (text run after : List ℕ) (start : ℕ) → drop start text ≡ run ++ after → length after ≡ 0 → text ≡ take start text ++ run
+read_all text run [] start e none = sym (take-append-drop start text) ∙ ap (λ l. take start text ++ l) (e ∙ append-nil run)
+read_all text run (b ∷ after) start e none = absurd (omega (arith, none))
+
+-- a byte stands behind the run
+pub read_on : (text run after rest : List ℕ) (b start : ℕ) → drop start text ≡ run ++ after → after ≡ b ∷ rest → take (start + (length run + 1)) text ≡ (take start text ++ run) ++ b ∷ []
+read_on text run after rest b start e f =
+    ap (λ n. take (start + n) text) (sym (length-append run (b ∷ [])))
+    ∙ read_run text (run ++ b ∷ []) rest start (e ∙ ap (λ l. run ++ l) f ∙ sym (append_assoc run (b ∷ []) rest))
+    ∙ sym (append_assoc (take start text) run (b ∷ []))
 
 -- nothing stands behind the last run
 pub nothing_left : (after : List ℕ) → Past is_unescaped after → Past (λ b. nat_lt b 128) after → length after ≡ 0

@@ -6,7 +6,7 @@ ghost use Rattle.ijson_json.specs.Strings.{is_unescaped};
 ghost use Rattle.ijson_json.specs.Print.{escaped, hex_text, quoted};
 
 use crate::front::split_ascii;
-use crate::run::split_run;
+use crate::run::split_run_at;
 use std::alloc::AllocError;
 
 /// A digit below sixteen, in lower case.
@@ -60,14 +60,14 @@ pub fn push_quoted(out: &mut String, text: &str) -> Result<(), AllocError>
     ensures { OnOk result (string_bytes out.new ≡ string_bytes out.old ++ quoted text.now) }
 {
     out.push('"')?;
-    let mut left = text;
+    let mut start = 0;
     loop {
-        let (run, after) = split_run(left);
+        let (run, after) = split_run_at(text, start);
         out.push_str(run)?;
-        let Some((byte, rest)) = split_ascii(after) else {
+        let Some((byte, _)) = split_ascii(after) else {
             return out.push('"');
         };
         push_escape(out, byte)?;
-        left = rest;
+        start += run.len() + 1;
     }
 }

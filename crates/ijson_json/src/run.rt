@@ -1,8 +1,9 @@
 //! Runs of a string's bytes that stand for themselves.
 
-ghost use Rattle.std.specs.Prelude.{◌≡◌, ◌+◌, ◌<◌, ◌≤◌, ◌++◌, ℕ, List, IfOk, IsTrue, length, map, not, take};
+ghost use Rattle.std.specs.Prelude.{◌≡◌, ◌+◌, ◌*◌, ◌^◌, ◌<◌, ◌≤◌, ◌++◌, ℕ, List, IfOk, IsTrue, drop, length, map, not, take};
 ghost use Rattle.std.specs.List.{AllByRecursion, position, prefix_len};
 ghost use Rattle.std.specs.Simd.Lanes.{mask_l};
+ghost use Rattle.std.specs.Str.{IsCharBoundary};
 ghost use Rattle.std.specs.String.{string_bytes};
 ghost use Rattle.ijson_json.specs.Strings.{is_unescaped};
 ghost use Rattle.ijson_json.specs.private.Reading.{Past};
@@ -29,76 +30,68 @@ fn run_by_bytes(bytes: &[u8]) -> usize
 
 /// Which of the bytes must stand in an escape, or end the string. The lowest bit is that of the first.
 #[inline(always)]
-fn specials_of_8(bytes: u8x8) -> u64
-    ensures { result ≡ mask_l (map (λ byte. not (is_unescaped byte)) bytes) }
+fn specials<const N: usize>(bytes: Simd<u8, N>) -> u64
+    requires { N ≤ 64 }
+    ensures { result ≡ mask_l (map (λ byte. not (is_unescaped byte)) bytes.entry) }
 {
-    (bytes.simd_eq(u8x8::splat(b'"'))
-        | bytes.simd_eq(u8x8::splat(b'\\'))
-        | bytes.simd_lt(u8x8::splat(b' '))).to_bitmask()
+    (bytes.simd_eq(Simd::splat(b'"'))
+        | bytes.simd_eq(Simd::splat(b'\\'))
+        | bytes.simd_lt(Simd::splat(b' '))).to_bitmask()
 }
 
-/// The same of twice as many.
-#[inline(always)]
-fn specials_of_16(bytes: u8x16) -> u64
-    ensures { result ≡ mask_l (map (λ byte. not (is_unescaped byte)) bytes) }
+/// The same with a bit behind them that stands for the end, so that no branch asks whether a byte ends a run or the bytes do.
+fn specials_and_end<const N: usize>(bytes: Simd<u8, N>) -> u64
+    requires { N < 64 }
+    ensures { result ≡ mask_l (map (λ byte. not (is_unescaped byte)) bytes.entry) + 2 ^ N }
 {
-    (bytes.simd_eq(u8x16::splat(b'"'))
-        | bytes.simd_eq(u8x16::splat(b'\\'))
-        | bytes.simd_lt(u8x16::splat(b' '))).to_bitmask()
+    specials(bytes) | 1 << N
 }
 
-/// How many bytes at the front stand for themselves, where there are fewer than 16.
-#[inline(always)]
-fn short_run(bytes: &[u8]) -> usize
-    requires { length bytes.now < 16 }
-    ensures { result ≡ prefix_len is_unescaped bytes.now }
+/// Where the run that begins at `start` ends, in at most twice N bytes. The first N and the last N are tested, which are all.
+fn run_end_in_two<const N: usize>(bytes: &[u8], start: usize) -> usize
+    requires { (N < 32) × (N ≤ length bytes.now) × (length bytes.now ≤ 2 * N) × (start ≤ length bytes.now) }
+    ensures { result ≡ start + prefix_len is_unescaped (drop start bytes.now) }
 {
-    if bytes.len() < 8 {
-        return run_by_bytes(bytes);
-    }
-    let found = specials_of_8(u8x8::from_slice(bytes));
-    if found != 0 {
-        return found.trailing_zeros() as usize;
-    }
-    let last = bytes.len() - 8;
-    let behind = specials_of_8(u8x8::from_slice(&bytes[last..]));
-    if behind != 0 {
-        return last + behind.trailing_zeros() as usize;
-    }
-    bytes.len()
+    let last = bytes.len() - N;
+    let first = specials(Simd::<u8, N>::from_slice(bytes));
+    let behind = specials_and_end(Simd::<u8, N>::from_slice(&bytes[last..]));
+    let found = first | behind << last;
+    start + (found >> start).trailing_zeros() as usize
 }
 
-/// How many bytes at the front stand for themselves, where all before the last 16 do. Where a string is read, more of the text
-/// stands behind it and this is seldom called, so it is not made part of its callers.
-#[inline(never)]
-fn last_run(bytes: &[u8]) -> usize
-    requires { length bytes.now ≤ prefix_len is_unescaped bytes.now + 16 }
-    ensures { result ≡ prefix_len is_unescaped bytes.now }
+/// Where the run that begins at `start` ends, where fewer than 16 bytes are left. If all are 16 or more, the last 16 of them are
+/// tested, and what is found before `start` is dropped. Only where all are fewer than 4 are they tested one by one.
+fn last_run_end(bytes: &[u8], start: usize) -> usize
+    requires { (start ≤ length bytes.now) × (length bytes.now < start + 16) }
+    ensures { result ≡ start + prefix_len is_unescaped (drop start bytes.now) }
 {
-    if bytes.len() < 16 {
-        return short_run(bytes);
+    if bytes.len() >= 16 {
+        let last = bytes.len() - 16;
+        let found = specials_and_end(u8x16::from_slice(&bytes[last..]));
+        start + (found >> (start - last)).trailing_zeros() as usize
+    } else if bytes.len() >= 8 {
+        run_end_in_two::<8>(bytes, start)
+    } else if bytes.len() >= 4 {
+        run_end_in_two::<4>(bytes, start)
+    } else {
+        start + run_by_bytes(&bytes[start..])
     }
-    let last = bytes.len() - 16;
-    let found = specials_of_16(u8x16::from_slice(&bytes[last..]));
-    if found != 0 {
-        return last + found.trailing_zeros() as usize;
-    }
-    bytes.len()
 }
 
-/// How many bytes at the front stand for themselves, 16 at a time.
-fn run_length(bytes: &[u8]) -> usize
-    ensures { result ≡ prefix_len is_unescaped bytes.now }
+/// Where the run that begins at `start` ends, 16 bytes at a time.
+fn run_end(bytes: &[u8], start: usize) -> usize
+    requires { start ≤ length bytes.now }
+    ensures { result ≡ start + prefix_len is_unescaped (drop start bytes.now) }
 {
-    let mut at = 0;
+    let mut at = start;
     while bytes.len() - at >= 16 {
-        let found = specials_of_16(u8x16::from_slice(&bytes[at..]));
+        let found = specials(u8x16::from_slice(&bytes[at..]));
         if found != 0 {
             return at + found.trailing_zeros() as usize;
         }
         at += 16;
     }
-    last_run(bytes)
+    last_run_end(bytes, at)
 }
 
 /// Appends the bytes at the front that stand for themselves, and tells how many they are. All 16 bytes of a row are appended, and
@@ -111,7 +104,7 @@ fn append_run(content: &mut Vec<u8>, bytes: &[u8]) -> Result<usize, AllocError>
     while bytes.len() - at >= 16 {
         let row = u8x16::from_slice(&bytes[at..]);
         content.extend_from_slice(&row.to_array())?;
-        let found = specials_of_16(row);
+        let found = specials(row);
         if found != 0 {
             let count = found.trailing_zeros() as usize;
             content.truncate(content.len() - (16 - count));
@@ -119,10 +112,9 @@ fn append_run(content: &mut Vec<u8>, bytes: &[u8]) -> Result<usize, AllocError>
         }
         at += 16;
     }
-    let last = &bytes[at..];
-    let count = short_run(last);
-    content.extend_from_slice(&last[..count])?;
-    Ok(at + count)
+    let end = last_run_end(bytes, at);
+    content.extend_from_slice(&bytes[at..end])?;
+    Ok(end)
 }
 
 /// Appends the longest run of bytes at the front that stand for themselves, and gives the rest. Where memory is refused, `content` is empty.
@@ -139,11 +131,23 @@ pub(crate) fn push_run<'a>(content: &mut String, text: &'a str) -> Result<&'a st
     Ok(rest)
 }
 
+/// The longest run of bytes from `start` on that stand for themselves, and the rest. Given the whole text and a place, the few
+/// bytes at its end can be tested together with those before them.
+pub(crate) fn split_run_at(text: &str, start: usize) -> (&str, &str)
+    requires { IsCharBoundary text.now start }
+    ensures whole { drop start text.now ≡ result.0.now ++ result.1.now }
+    ensures run { AllByRecursion (λ byte. IsTrue (is_unescaped byte)) result.0.now }
+    ensures stops { Past is_unescaped result.1.now }
+{
+    let end = run_end(text.as_bytes(), start);
+    (&text[start..end], &text[end..])
+}
+
 /// The longest run of bytes at the front that stand for themselves, and the rest.
 pub(crate) fn split_run(text: &str) -> (&str, &str)
     ensures whole { text.now ≡ result.0.now ++ result.1.now }
     ensures run { AllByRecursion (λ byte. IsTrue (is_unescaped byte)) result.0.now }
     ensures stops { Past is_unescaped result.1.now }
 {
-    text.split_at(run_length(text.as_bytes()))
+    split_run_at(text, 0)
 }

@@ -8,7 +8,7 @@ use Rattle.std.proofs.lemmas.Int.Digits.{number_after_append, number_after_lt, n
 use Rattle.std.proofs.lemmas.List.{length-map, length-take-le, map-append, take_more}
 use Rattle.ijson_number.specs.Decimal.{Decimal}
 use Rattle.ijson_number.specs.Form.{packed, fits_i64, fits_packed, fits_u64, smallest_packed, form_of}
-use Rattle.ijson_number.specs.Grammar.{AllDigits, Denotes, IsDigit, IsSpelled, Parts, Spells, value}
+use Rattle.ijson_number.specs.Grammar.{AllDigits, IsDigit, IsSpelled, Parts, Spells, value}
 use Rattle.ijson_number.specs.Num.{IsNum}
 use Rattle.ijson_number.specs.Strips.{Strips, signed}
 use Rattle.ijson_number.specs.private.FormNumber.{integer_word}
@@ -59,7 +59,7 @@ step_small n bs i most front inside few digit room =
     let count : length (take (i + 1) bs) ≡ i + 1 = length-take-le (i + 1) bs (omega arith) in
     rw (append_step n bs i inside) (digits_small n (take (i + 1) bs) most all (omega arith) room)
 
-value_small : (bs : List ℕ) → AllDigits bs → value bs < 10 ^ length bs
+pub value_small : (bs : List ℕ) → AllDigits bs → value bs < 10 ^ length bs
 value_small bs h = rw (count_of bs) at (number_lt 10 (digits_from_text bs) (below_base bs h))
 
 -- digits behind others
@@ -171,15 +171,9 @@ pointed_form negative size m places k n tens fewer stripped few small point s =
           )
     ]
 
--- the mantissa and the exponent of parts with no exponent
-parts_strip : (p : Parts) (size : ℕ) (n : Decimal) → p.exponent ≡ pos 0 → size ≡ value (p.whole ++ p.fraction) → Denotes p n → Strips (signed p.negative size) (neg_ℤ (pos (length p.fraction))) n
-parts_strip p size n none is d =
-    let e : pos 0 -ℤ pos (length p.fraction) ≡ neg_ℤ (pos (length p.fraction)) = omega (arith, ints) in
-    rw (is, ← e, ← none) d.0
-
--- a number of few digits is within the limit
-few_num : (m : ℤ) (places : ℕ) (n : Decimal) → nat_abs m < 2 ^ 64 → places ≤ 19 → Strips m (neg_ℤ (pos places)) n → IsNum n
-few_num m places n word few s = record {
+-- a number of few digits and a small exponent is within the limit
+few_num : (m e : ℤ) (n : Decimal) → nat_abs m < 2 ^ 64 → neg_ℤ (pos 20000) ≤ℤ e → e ≤ℤ pos 20000 → Strips m e n → IsNum n
+few_num m e n word low high s = record {
   plain = s.plain;
   in_range = elim (zero_or_not n.mantissa) [
     | inl z ↦ rw z refl
@@ -189,7 +183,7 @@ few_num m places n word few s = record {
           let k : ℕ = p.0 in
           let abs : nat_abs m ≡ nat_abs n.mantissa * 10 ^ k = ap nat_abs p.1 ∙ abs_times n.mantissa (10 ^ k) in
           let t : k < 20 = tens_few (nat_abs m) (nat_abs n.mantissa) k word (λ z. some (abs_zero n.mantissa z)) abs in
-          let x : n.exponent ≡ neg_ℤ (pos places) +ℤ pos k = p.2 in
+          let x : n.exponent ≡ e +ℤ pos k = p.2 in
           (omega (arith, ints), omega (arith, ints))
           )
     ])
@@ -212,13 +206,12 @@ pub some_with : {A : Type 0} (o : Option A) (P Q : A → Type 0) → IfSome o P 
 some_with (Some x) P Q h f = f x h
 some_with None P Q h f = tt
 
--- few digits with no exponent spell the number that they and the places are
-pub parts_number : (t : List ℕ) (p : Parts) (size places : ℕ) → IsSpelled t p → p.exponent ≡ pos 0 → length p.fraction ≡ places → places ≤ 19 → size ≡ value (p.whole ++ p.fraction) → size < 2 ^ 64 → let n : Decimal = stripped_number (signed p.negative size) (neg_ℤ (pos places)) p.point in Spells t n × Strips (signed p.negative size) (neg_ℤ (pos places)) n × IsNum n
-parts_number t p size places spelled none count few is word =
+-- few digits and a small exponent spell the number that they and the places are
+pub parts_number : (t : List ℕ) (p : Parts) (size : ℕ) (e : ℤ) → IsSpelled t p → e ≡ p.exponent -ℤ pos (length p.fraction) → neg_ℤ (pos 20000) ≤ℤ e → e ≤ℤ pos 20000 → size ≡ value (p.whole ++ p.fraction) → size < 2 ^ 64 → let n : Decimal = stripped_number (signed p.negative size) e p.point in Spells t n × Strips (signed p.negative size) e n × IsNum n
+parts_number t p size e spelled exponent low high is word =
     let m : ℤ = signed p.negative size in
-    let e : ℤ = neg_ℤ (pos places) in
     let small : nat_abs m < 2 ^ 64 = rw (abs_signed p.negative size) word in
     let d = parts_denote t p spelled in
-    let s : Strips m e d.0 = rw count at (parts_strip p size d.0 none is d.1) in
+    let s : Strips m e d.0 = rw (is, exponent) d.1.0 in
     let same : stripped_number m e p.point ≡ d.0 = ap (stripped_number m e) (sym d.1.1) ∙ stripped_is m e d.0 (omega arith) s in
-    subst (λ (n : Decimal). Spells t n × Strips m e n × IsNum n) (sym same) ((p, spelled, d.1), s, few_num m places d.0 small few s)
+    subst (λ (n : Decimal). Spells t n × Strips m e n × IsNum n) (sym same) ((p, spelled, d.1), s, few_num m e d.0 small low high s)

@@ -81,7 +81,7 @@ large_apart : (z low high : ℤ) → neg_ℤ (pos (2 ^ 64)) ≤ℤ low → high 
 large_apart (pos n) low high a b h l u = omega (arith, ints)
 large_apart (negsuc n) low high a b h l u = omega (arith, ints)
 
-large_fails : (z low high : ℤ) → neg_ℤ (pos (2 ^ 64)) ≤ℤ low → high ≤ℤ pos (2 ^ 64) → 10 ^ 20 ≤ nat_abs z → int_le low z && int_lt z high ≡ false
+pub large_fails : (z low high : ℤ) → neg_ℤ (pos (2 ^ 64)) ≤ℤ low → high ≤ℤ pos (2 ^ 64) → 10 ^ 20 ≤ nat_abs z → int_le low z && int_lt z high ≡ false
 large_fails z low high a b h = never (int_le low z && int_lt z high) (λ t. let c = within low high z t in large_apart z low high a b h c.0 c.1)
 
 -- a large integer has its digits

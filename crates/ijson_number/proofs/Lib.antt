@@ -32,3 +32,5 @@ pub mod Vectors
 pub mod Taken
 pub mod ShortNumbers
 pub mod RowTexts
+pub mod Mantissas
+pub mod Refusals

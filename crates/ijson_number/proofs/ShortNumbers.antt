@@ -1,29 +1,37 @@
 -- Numbers of few digits that are no word.
-use Rattle.std.proofs.Common.{◌≡◌, ◌≢◌, ◌∙◌, ℕ, ◌+◌, ◌-◌, ◌*◌, ◌/◌, ◌%◌, ◌^◌, ◌<◌, ◌≤◌, ◌++◌, List, [], ◌∷◌, map, drop, length, length-drop, refl, sym, ap, ap₂, Bool, true, false, arith}
+use Rattle.std.proofs.Common.{◌≡◌, ◌≢◌, ◌∙◌, ◌⊎◌, inl, inr, ℕ, zero, suc, ◌+◌, ◌-◌, ◌*◌, ◌/◌, ◌%◌, ◌^◌, ◌<◌, ◌≤◌, ◌++◌, List, [], ◌∷◌, map, drop, length, length-drop, refl, sym, ap, ap₂, Bool, true, false, arith}
 use Rattle.std.specs.Fmt.{decimal}
 use Rattle.std.specs.Int.Digits.{AllBelowBase, digits_of, number_from_digits}
 use Rattle.std.specs.List.{drop-map}
 use Rattle.std.specs.Int.{Width}
-use Rattle.std.specs.Prelude.{ℤ, pos, negsuc, neg_ℤ, int_le, ◌+ℤ◌, ◌-ℤ◌, ◌<ℤ◌, ◌&&◌, FitsSigned}
+use Rattle.std.specs.Prelude.{ℤ, pos, negsuc, neg_ℤ, nat_abs, int_le, ◌+ℤ◌, ◌-ℤ◌, ◌*ℤ◌, ◌<ℤ◌, ◌≤ℤ◌, ◌&&◌, FitsSigned}
 use Rattle.std.proofs.lemmas.Fmt.{decimal-digits_of}
 use Rattle.std.proofs.lemmas.Int.{ints, to_z-of_z}
+use mir.Syntax.{w16}
 use mir.Val.{to_z, of_z}
-use Rattle.std.proofs.lemmas.Int.Digits.{all_below_base_digits_of}
+use Rattle.std.proofs.Math.Nat.{mul-le-mul_left}
+use Rattle.std.proofs.lemmas.Int.Digits.{all_below_base_digits_of, number_digits_of}
 use Rattle.std.proofs.lemmas.List.{append-nil, take_all}
 use Rattle.std.proofs.lemmas.Simd.{zip2_splat}
-use Rattle.ijson_number.specs.Form.{digits, fits_packed, form_of}
+use Rattle.ijson_number.specs.Decimal.{Decimal}
+use Rattle.ijson_number.specs.Form.{digits, digits_form, fits_packed, form_of, packed, smallest_packed}
 use Rattle.ijson_number.specs.Strips.{signed}
 use Rattle.ijson_number.specs.Stripped.{stripped_number}
 use Rattle.ijson_number.specs.Text.{digits_text}
+use Rattle.ijson_number.specs.laws.Tens.{abs_signed}
+use Rattle.ijson_number.specs.private.Front.{IsPowerSmall}
+use Rattle.ijson_number.specs.private.StoredNumber.{stored_number}
 use Rattle.ijson_number.specs.private.Stripped.{digits_from_text}
 use Rattle.ijson_number.specs.private.WordText.{last_digits}
 use Rattle.ijson_number.specs.private.ZerosInFront.{IsZerosInFront}
 use Rattle.ijson_number.proofs.FewDigits.{no_more, not_le}
-use Rattle.ijson_number.proofs.Forms.{left, stored_form}
+use Rattle.ijson_number.proofs.Forms.{large_fails, left, stored_form, taken}
 use Rattle.ijson_number.proofs.IntegerWords.{some_is, some_stored}
 use Rattle.ijson_number.proofs.LastDigits.{front_is}
-use Rattle.ijson_number.proofs.Outcomes.{first_fails}
+use Rattle.ijson_number.proofs.Outcomes.{first_fails, le_test, second_fails}
+use Rattle.ijson_number.proofs.Sizes.{power_le}
 use Rattle.ijson_number.proofs.Vectors.{digit_lanes}
+use Rattle.ijson_number.proofs.WholeValues.{abs_times}
 use Rattle.ijson_number.proofs.RoundTrip.{read_back}
 
 -- the text of a number, made digits
@@ -53,16 +61,68 @@ row_digits n zeros row some small long is counted =
 pub negated : (w : Width) (places : ℕ) → to_z w places ≡ pos places → FitsSigned w (pos 0 -ℤ pos places) → to_z w (of_z w (pos 0 -ℤ to_z w places)) ≡ neg_ℤ (pos places)
 negated w places is fits = rw (is, to_z-of_z w (pos 0 -ℤ pos places) fits) (omega (arith, ints))
 
+-- a number with the point whose exponent is too large for a word
+module _ (negative : Bool) (m : ℕ) (x : ℤ) (above : 0 < m) (large : pos 27 ≤ℤ x) where
+  abbrev number : Decimal
+  number = stored_number negative (digits_of 10 m) x true
+
+  size_is : nat_abs number.mantissa ≡ m
+  size_is = abs_signed negative (number_from_digits 10 (digits_of 10 m)) ∙ number_digits_of 10 m (omega arith)
+
+  none_packed : (tries k : ℕ) → k + tries ≤ 8 → smallest_packed tries k number ≡ digits_form number
+  none_packed zero k few = refl
+  none_packed (suc tries) k few =
+      let j : ℕ = nat_abs (x -ℤ pos k) in
+      let scaled = number.mantissa *ℤ pos (10 ^ j) in
+      let enough : 20 ≤ j = omega (arith, ints) in
+      let p = power_le 20 j enough in
+      let times : nat_abs number.mantissa * 10 ^ 20 ≤ nat_abs number.mantissa * 10 ^ j = mul-le-mul_left (nat_abs number.mantissa) p in
+      let long : 10 ^ 20 ≤ nat_abs scaled = rw (abs_times number.mantissa (10 ^ j)) (omega (arith, size_is, times)) in
+      left (int_le (pos k) x && fits_packed scaled) (packed scaled (pos k) true) (smallest_packed tries (suc k) number)
+      (second_fails (int_le (pos k) x) (fits_packed scaled) (large_fails scaled (neg_ℤ (pos 36028797018963968)) (pos 36028797018963968) (omega (arith, ints)) (omega (arith, ints)) long))
+      ∙ none_packed tries (suc k) (omega arith)
+
+  large_form : form_of number ≡ digits_form number
+  large_form = taken (int_le (pos 0) x) _ _ (le_test (pos 0) x (omega (arith, ints))) ∙ none_packed 8 0 (omega arith)
+
+-- or too small
+small_form : (negative : Bool) (m : ℕ) (x : ℤ) → x <ℤ negsuc 6 → form_of (stored_number negative (digits_of 10 m) x true) ≡ digits_form (stored_number negative (digits_of 10 m) x true)
+small_form negative m x small =
+    let mantissa : ℤ = signed negative (number_from_digits 10 (digits_of 10 m)) in
+    let below : int_le (pos 0) x ≡ false = not_le (pos 0) x (omega (arith, ints)) in
+    left (int_le (pos 0) x) _ _ below
+    ∙ left (int_le (negsuc 6) x && fits_packed mantissa) _ _ (first_fails (int_le (negsuc 6) x) (fits_packed mantissa) (not_le (negsuc 6) x small))
+
+-- is a list of digits
+pub outside_form : (negative : Bool) (size m t : ℕ) (e x : ℤ) → size ≡ m * 10 ^ t → m % 10 ≢ 0 → size < 2 ^ 64 → x ≡ e +ℤ pos t → (x <ℤ negsuc 6) ⊎ (pos 27 ≤ℤ x)
+    → form_of (stripped_number (signed negative size) e true) ≡ digits negative (digits_of 10 m) x true
+outside_form negative size m t e x tens last word is outside =
+    let less : m ≤ m * 10 ^ t = no_more m t in
+    let above : 0 < m = omega arith in
+    let number = some_is size m t (omega arith) (omega arith) tens last negative e true ∙ ap (λ y. stored_number negative (digits_of 10 m) y true) (sym is) in
+    ap form_of number ∙ elim outside [ inl small ↦ small_form negative m x small | inr large ↦ large_form negative m x above large ]
+    ∙ stored_form negative (digits_of 10 m) x true (some_stored m last negative)
+
 -- a number with the point and more places than a word has
 pub deep_form : (negative : Bool) (size m places k : ℕ) → size ≡ m * 10 ^ (places - k) → k ≤ places → m % 10 ≢ 0 → 7 < k → size < 2 ^ 64 → form_of (stripped_number (signed negative size) (neg_ℤ (pos places)) true) ≡ digits negative (digits_of 10 m) (neg_ℤ (pos k)) true
 deep_form negative size m places k tens fewer last many word =
-    let t = places - k in
-    let exponent : neg_ℤ (pos places) +ℤ pos t ≡ neg_ℤ (pos k) = omega (arith, ints) in
-    let less : m ≤ m * 10 ^ t = no_more m t in
-    let above : 0 < m = omega arith in
-    let number = rw exponent at (some_is size m t (omega arith) (omega arith) tens last negative (neg_ℤ (pos places)) true) in
-    let deep : neg_ℤ (pos k) <ℤ negsuc 6 = omega (arith, ints) in
-    let below : int_le (pos 0) (neg_ℤ (pos k)) ≡ false = not_le (pos 0) (neg_ℤ (pos k)) (omega (arith, ints)) in
-    let mantissa : ℤ = signed negative (number_from_digits 10 (digits_of 10 m)) in
-    let no_word : int_le (negsuc 6) (neg_ℤ (pos k)) && fits_packed mantissa ≡ false = first_fails (int_le (negsuc 6) (neg_ℤ (pos k))) (fits_packed mantissa) (not_le (negsuc 6) (neg_ℤ (pos k)) deep) in
-    rw number (left (int_le (pos 0) (neg_ℤ (pos k))) _ _ below ∙ left (int_le (negsuc 6) (neg_ℤ (pos k)) && fits_packed mantissa) _ _ no_word ∙ stored_form negative (digits_of 10 m) (neg_ℤ (pos k)) true (some_stored m last negative))
+    outside_form negative size m (places - k) (neg_ℤ (pos places)) (neg_ℤ (pos k)) tens last word (omega (arith, ints)) (inl (omega (arith, ints)))
+
+-- a small exponent has 16 bits
+pub small_exact : (power : ℤ) → IsPowerSmall power → to_z w16 (of_z w16 power) ≡ power
+small_exact power small = let low = small.0 in let high = small.1 in to_z-of_z w16 power (omega (arith, ints))
+
+-- and so it has less a few places
+pub lowered : (power : ℤ) (places : ℕ) → IsPowerSmall power → places ≤ 19 → to_z w16 (of_z w16 (to_z w16 (of_z w16 power) -ℤ to_z w16 places)) ≡ power -ℤ pos places
+lowered power places small few =
+    let low = small.0 in
+    let high = small.1 in
+    let same = small_exact power small in
+    let less : to_z w16 places ≡ pos places = omega (arith, ints) in
+    rw (same, less) (to_z-of_z w16 (power -ℤ pos places) (omega (arith, ints)))
+
+-- and with a few tens more
+pub raised : (e : ℤ) (tens : ℕ) → neg_ℤ (pos 20000) ≤ℤ e → e ≤ℤ pos 20000 → tens ≤ 19 → to_z w16 (of_z w16 (e +ℤ to_z w16 tens)) ≡ e +ℤ pos tens
+raised e tens low high few =
+    let more : to_z w16 tens ≡ pos tens = omega (arith, ints) in
+    rw more (to_z-of_z w16 (e +ℤ pos tens) (omega (arith, ints)))

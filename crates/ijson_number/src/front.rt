@@ -1,11 +1,11 @@
 //! A number of few digits at the front of a text, read in one pass.
-ghost use Rattle.std.specs.Prelude.{◌≡◌, ◌≢◌, ◌+◌, ◌*◌, ◌%◌, ◌^◌, ◌<◌, ◌≤◌, List, ℕ, take, drop, length, IfNone, IfSome, IsSome};
+ghost use Rattle.std.specs.Prelude.{◌≡◌, ◌≢◌, ◌+◌, ◌*◌, ◌%◌, ◌^◌, ◌<◌, ◌≤◌, List, ℕ, take, drop, length, IfNone, IfSome, IsSome, IsTrue};
 ghost use Rattle.ijson_number.specs.Decimal.{Decimal};
 ghost use Rattle.ijson_number.specs.Form.{form_of};
 ghost use Rattle.ijson_number.specs.Grammar.{Parts, Spells};
 ghost use Rattle.ijson_number.specs.Num.{IsNum};
-ghost use Rattle.ijson_number.specs.PlainFront.{IsPlainFront};
-ghost use Rattle.ijson_number.specs.private.Front.{IsFront, IsFrontTail, IsPlainTail, front_number};
+ghost use Rattle.ijson_number.specs.PlainFront.{GoesOnWithNone, IsPlainFront};
+ghost use Rattle.ijson_number.specs.private.Front.{IsFront, IsFrontTail, IsMantissa, IsPlainTail, front_number};
 ghost use Rattle.ijson_number.specs.private.Stored.{short_form, stored_form};
 ghost use Rattle.ijson_number.specs.private.StrippedNumber.{decimal_of};
 ghost use Rattle.ijson_number.specs.private.Taken.{IsTaken};
@@ -19,14 +19,14 @@ use crate::stripped::{ROOM, StrippedNumber};
 use std::simd::prelude::*;
 
 /// How many digits a word without a sign holds, whatever they are.
-const MOST: usize = 19;
+pub const MOST: usize = 19;
 
 /// How many digits of a whole part are read one by one.
 const FEW: usize = 4;
 
 /// The number that the digits at the front, but at most so many, make of one, and how many they are.
 #[inline(always)]
-fn take_digits(number: u64, bytes: &[u8], most: usize) -> (u64, usize)
+pub fn take_digits(number: u64, bytes: &[u8], most: usize) -> (u64, usize)
     requires { (number + 1) * 10 ^ most ≤ 10 ^ 19 }
     ensures { IsTaken number bytes.now most result.0 result.1 }
 {
@@ -106,10 +106,11 @@ pub struct Front {
     pub length: usize,
 }
 
-/// The number at the front, where it has few digits and nothing goes on with it.
+/// The sign, the whole part and the fraction at the front, where they have few digits, and the text behind them, whatever stands there.
 #[inline(always)]
-pub fn read_front(text: &[u8]) -> Option<Front>
-    ensures found { IfSome result (λ f. IsFront text.now f) }
+pub fn read_mantissa(text: &[u8]) -> Option<(Front, &[u8])>
+    ensures found { IfSome result (λ r. IsMantissa text.now r.0 r.1.now) }
+    ensures plain { IfSome result (λ r. (p : Parts) → IsPlainFront text.now p → GoesOnWithNone r.1.now) }
     ensures none { IfNone result ((p : Parts) → IsPlainFront text.now p → ⊥) }
 {
     let (negative, unsigned) = split_sign(text);
@@ -119,15 +120,34 @@ pub fn read_front(text: &[u8]) -> Option<Front>
         return None;
     }
     let (size, places, rest) = take_tail(number, behind, MOST - count)?;
-    if !rest.is_empty() && rest[0].is_ascii_alphanumeric() {
-        return None;
-    }
-    Some(Front {
+    let front = Front {
         negative,
         size,
         places,
         length: text.len() - rest.len(),
-    })
+    };
+    Some((front, rest))
+}
+
+/// Whether a number may go on here: with a digit or a letter.
+#[inline(always)]
+pub fn goes_on(bytes: &[u8]) -> bool
+    ensures { IsTrue result → GoesOnWithNone bytes.now → ⊥ }
+{
+    !bytes.is_empty() && bytes[0].is_ascii_alphanumeric()
+}
+
+/// The number at the front, where it has few digits and nothing goes on with it.
+#[inline(always)]
+pub fn read_front(text: &[u8]) -> Option<Front>
+    ensures found { IfSome result (λ f. IsFront text.now f) }
+    ensures none { IfNone result ((p : Parts) → IsPlainFront text.now p → ⊥) }
+{
+    let (front, rest) = read_mantissa(text)?;
+    if goes_on(rest) {
+        return None;
+    }
+    Some(front)
 }
 
 impl Front {
@@ -168,7 +188,7 @@ impl Front {
         requires { (text : List ℕ) × IsFront text self.now }
         ensures { decimal_of result ≡ front_number self.now }
     {
-        let exponent = -(self.places as i8);
+        let exponent = -(self.places as i16);
         StrippedNumber::from_size(self.negative, self.size, exponent, self.places > 0, room)
     }
 }

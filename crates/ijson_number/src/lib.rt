@@ -4,6 +4,7 @@
 mod clone;
 mod digit_row;
 mod digits;
+mod exponent;
 mod faults;
 mod few_digits;
 mod form;

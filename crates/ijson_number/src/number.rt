@@ -6,7 +6,8 @@ ghost use Rattle.ijson_number.specs.laws.Codes.{IsNum-prop};
 ghost use Rattle.ijson_number.specs.private.Stored.{stored_decimal};
 
 use crate::digits::push_in_place;
-use crate::front::{Front, read_front};
+use crate::exponent::read_power;
+use crate::front::{Front, goes_on, read_front, read_mantissa};
 use crate::reading::{self, Scanned, Spelling};
 use crate::stored::Stored;
 use crate::stripped::{ROOM, StrippedNumber};
@@ -51,13 +52,13 @@ impl Model for INumber {
 }
 
 impl INumber {
-    ghost use Rattle.std.specs.Prelude.{◌≤◌, List, ℕ, length, take, true, IfNone, IfSome, OnErr};
+    ghost use Rattle.std.specs.Prelude.{◌+◌, ◌<◌, ◌≤◌, ◌^◌, List, ℕ, length, take, true, IfNone, IfSome, OnErr};
     ghost use Rattle.ijson_number.specs.Form.{form_of, is_digits};
     ghost use Rattle.ijson_number.specs.Grammar.{AllDigits, Denotes, IsSpelled, Parts};
     ghost use Rattle.ijson_number.specs.PlainFront.{IsPlainFront};
     ghost use Rattle.ijson_number.specs.Refused.{IsRefused};
     ghost use Rattle.ijson_number.specs.declared.number.ParseNumberError.TheVariants.{Memory};
-    ghost use Rattle.ijson_number.specs.private.Front.{IsFront, front_number};
+    ghost use Rattle.ijson_number.specs.private.Front.{IsFront, IsMantissa, IsPowerSmall, front_number, power_number};
     ghost use Rattle.ijson_number.specs.private.Scanned.{IsScanned, parts_of, scanned_number};
     ghost use Rattle.ijson_number.specs.private.StrippedNumber.{decimal_of};
 
@@ -124,8 +125,8 @@ impl INumber {
     }
 
     /// The number that the text begins with, and how many bytes spell it, in one pass over them, where it has at most 19
-    /// digits and no exponent, and no digit, letter or point is behind it. Else None may be answered, and `from_str` reads
-    /// what stands there. Memory is taken as there.
+    /// digits and no exponent, and no digit, letter or point is behind it; one with an exponent of at most four digits may be
+    /// answered too. Else None may be answered, and `from_str` reads what stands there. Memory is taken as there.
     #[inline(always)]
     pub fn at_front(alloc: Global, text: &str) -> Result<Option<(INumber, usize)>, AllocError>
         ensures found { IfOk result (λ found. IfSome found (λ f.
@@ -134,11 +135,55 @@ impl INumber {
             IfNone found ((p : Parts) → IsPlainFront text.now p → ⊥)) }
         ensures refused { OnErr result ((count : ℕ) × IsRefused (take count text.now) Memory) }
     {
-        let Some(front) = read_front(text.as_bytes()) else {
+        let Some((front, rest)) = read_mantissa(text.as_bytes()) else {
             return Ok(None);
         };
+        if goes_on(rest) {
+            let found = INumber::with_exponent(alloc, &front, rest)?;
+            return Ok(found);
+        }
         let number = INumber::from_front(alloc, &front)?;
         Ok(Some((number, front.length)))
+    }
+
+    /// The number that the text begins with, where an exponent of few digits stands behind the others. It stays a call, since few
+    /// numbers have one.
+    #[inline(never)]
+    fn with_exponent(
+        alloc: Global,
+        front: &Front,
+        rest: &[u8],
+    ) -> Result<Option<(INumber, usize)>, AllocError>
+        requires mantissa { (text : List ℕ) × IsMantissa text front.now rest.now }
+        requires length { front.now.length + length rest.now < 2 ^ 64 }
+        ensures found { IfOk result (λ found. IfSome found (λ f. (text : List ℕ) → IsMantissa text front.now rest.now
+            → (f.1 ≤ length text) × Spells (take f.1 text) f.0.decimal)) }
+        ensures refused { OnErr result ((text : List ℕ) → IsMantissa text front.now rest.now
+            → (count : ℕ) × IsRefused (take count text) Memory) }
+    {
+        let Some((power, length)) = read_power(rest) else {
+            return Ok(None);
+        };
+        let number = INumber::from_power(alloc, front, power)?;
+        Ok(Some((number, front.length + length)))
+    }
+
+    /// The number of a front times a power of ten.
+    fn from_power(alloc: Global, front: &Front, power: i16) -> Result<INumber, AllocError>
+        requires few { front.now.places ≤ 19 }
+        requires small { front.now.size < 10 ^ 19 }
+        requires power { IsPowerSmall power }
+        requires num { IsNum (power_number front.now power) }
+        ensures number { IfOk result (λ n. n.decimal ≡ power_number front.now power) }
+        ensures refused { OnErr result (is_digits (form_of (power_number front.now power)) ≡ true) }
+    {
+        if let Some(short) = front.short_power(power) {
+            let number = Box::new(alloc, short)?;
+            return Ok(INumber {
+                stored: Stored::Short(number),
+            });
+        }
+        INumber::from_stripped(alloc, &front.stripped_power(power, &mut [0; ROOM]))
     }
 
     /// The number of a front.

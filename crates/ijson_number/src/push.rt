@@ -1,19 +1,22 @@
 //! Appends a number's text, 16 digits at a time.
-ghost use Rattle.std.specs.Prelude.{◌≡◌, ◌+◌, ◌-◌, ◌/◌, ◌%◌, ◌^◌, ◌<◌, ◌≤◌, ◌∷◌, ◌++◌, ℕ, drop, length, nat_abs, neg_ℤ, pos, true, false, ◌<ℤ◌, ◌≤ℤ◌, IfOk, IsFalse, IsTrue, OnOk};
+ghost use Rattle.std.specs.Prelude.{◌≡◌, ◌+◌, ◌-◌, ◌/◌, ◌%◌, ◌^◌, ◌<◌, ◌≤◌, ◌∷◌, ◌++◌, ◌||◌, ℕ, drop, length, nat_abs, neg_ℤ, negsuc, pos, int_le, int_lt, true, false, ◌+ℤ◌, ◌<ℤ◌, ◌≤ℤ◌, IfOk, IsFalse, IsTrue, OnOk};
 ghost use Rattle.std.specs.Fmt.{decimal};
 ghost use Rattle.std.specs.Str.{IsAscii};
 ghost use Rattle.std.specs.String.{string_bytes};
 ghost use Rattle.ijson_number.specs.Form.{form_of, is_digits, packed};
 ghost use Rattle.ijson_number.specs.Text.{digits_text, minus_text, num_text};
 ghost use Rattle.ijson_number.specs.Stripped.{stripped_number};
+ghost use Rattle.ijson_number.specs.private.RowText.{split_text};
 ghost use Rattle.ijson_number.specs.private.StrippedNumber.{decimal_of};
 ghost use Rattle.ijson_number.specs.private.WordText.{integer_text, last_digits};
 
+use crate::digits::place_of;
 use crate::number::INumber;
 use crate::row::ROW;
 use crate::row_text::TEXT_ROOM;
 use crate::stored::Stored;
 use crate::stripped::{ROOM, StrippedNumber};
+use crate::text::is_scientific;
 use crate::written_row::{ROW_END, push_lanes, row_of, zeros_in_front};
 use std::alloc::AllocError;
 use std::fmt::Write;
@@ -108,8 +111,52 @@ fn push_pointed(mantissa: i64, exponent: i8, out: &mut String) -> Result<bool, A
 }
 
 impl StrippedNumber<'_> {
-    /// Appends the number, where the point stands between two of its digits and `row` has all of them, at its end. Where it
-    /// tells `false` it appended nothing.
+    /// Appends the minus, if there is one, and the digits, all of which `row` has at its end, with the point before the last so many.
+    /// It is no call of its own, since `push_row` is one already, and appends most numbers that have a point.
+    #[inline(always)]
+    fn push_split(&self, row: u8x16, places: usize, out: &mut String) -> Result<(), AllocError>
+        requires all { length row ≡ 16 }
+        requires few { length self.now.digits.now ≤ 16 }
+        requires inside { places ≤ length self.now.digits.now }
+        requires row { drop (16 - length self.now.digits.now) row ≡ digits_text self.now.digits.now }
+        ensures { OnOk result (string_bytes out.new ≡ string_bytes out.old
+            ++ split_text self.now.negative self.now.digits.now (length self.now.digits.now - places)) }
+    {
+        let count = self.digits.len();
+        push_minus(self.negative, out)?;
+        push_lanes(row, ROW - count, count - places, out)?;
+        out.push('.')?;
+        push_lanes(row, ROW - places, places, out)
+    }
+
+    /// Appends the number, where its text has an exponent and two digits or more, all of which `row` has at its end. Where it tells
+    /// `false` it appended nothing. It stays a call, as `push_row` does.
+    #[inline(never)]
+    fn push_scientific(&self, row: u8x16, out: &mut String) -> Result<bool, AllocError>
+        requires all { length row ≡ 16 }
+        requires few { length self.now.digits.now ≤ 16 }
+        requires point { self.now.point ≡ true }
+        requires row { drop (16 - length self.now.digits.now) row ≡ digits_text self.now.digits.now }
+        ensures done { IfOk result (λ d. IsTrue d → string_bytes out.new
+            ≡ string_bytes out.old ++ num_text (decimal_of self.now)) }
+        ensures left { IfOk result (λ d. IsFalse d → string_bytes out.new ≡ string_bytes out.old) }
+        ensures exponent { (int_le (pos (length self.now.digits.now) +ℤ self.now.exponent) (negsuc 5)
+            || int_lt (pos 20) self.now.exponent) ≡ true → 1 < length self.now.digits.now → IfOk result (λ d. IsTrue d) }
+    {
+        let count = self.digits.len();
+        let place = place_of(self.digits, self.exponent);
+        if count < 2 || !is_scientific(place, self.exponent) {
+            return Ok(false);
+        }
+        self.push_split(row, count - 1, out)?;
+        out.push('e')?;
+        let power = place - 1;
+        push_integer(power < 0, power.unsigned_abs() as u64, out)?;
+        Ok(true)
+    }
+
+    /// Appends the number, where the point stands between two of its digits, or an exponent behind two or more, and `row` has all of
+    /// them, at its end. Where it tells `false` it appended nothing.
     #[inline(never)]
     fn push_row(&self, row: u8x16, out: &mut String) -> Result<bool, AllocError>
         requires all { length row ≡ 16 }
@@ -121,23 +168,27 @@ impl StrippedNumber<'_> {
         ensures between { self.now.point ≡ true → self.now.exponent <ℤ pos 0
             → nat_abs self.now.exponent < length self.now.digits.now
             → length self.now.digits.now ≤ 16 → IfOk result (λ d. IsTrue d) }
+        ensures exponent { self.now.point ≡ true
+            → (int_le (pos (length self.now.digits.now) +ℤ self.now.exponent) (negsuc 5)
+            || int_lt (pos 20) self.now.exponent) ≡ true
+            → 1 < length self.now.digits.now → length self.now.digits.now ≤ 16 → IfOk result (λ d. IsTrue d) }
     {
         let places = self.exponent.unsigned_abs() as usize;
         let count = self.digits.len();
-        if !self.point || self.exponent >= 0 || places >= count || count > ROW {
+        if !self.point || count > ROW {
             return Ok(false);
         }
-        push_minus(self.negative, out)?;
-        push_lanes(row, ROW - count, count - places, out)?;
-        out.push('.')?;
-        push_lanes(row, ROW - places, places, out)?;
+        if self.exponent >= 0 || places >= count {
+            return self.push_scientific(row, out);
+        }
+        self.push_split(row, places, out)?;
         Ok(true)
     }
 }
 
 impl INumber {
-    /// Appends the text, where the number has few digits and neither an exponent nor zeros are written beside them. Where it
-    /// tells `false` it appended nothing.
+    /// Appends the text, where the number has few digits, no zeros are written beside them, and no exponent beside a single one.
+    /// Where it tells `false` it appended nothing.
     #[inline(always)]
     fn push_plain(&self, out: &mut String) -> Result<bool, AllocError>
         ensures done { IfOk result (λ d. IsTrue d → string_bytes out.new

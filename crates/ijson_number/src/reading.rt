@@ -3,7 +3,7 @@ ghost use Rattle.std.specs.Prelude.{◌≡◌, ◌++◌, ◌↔◌, ◌<◌, ◌
 ghost use mir.Syntax.{w128};
 ghost use Rattle.ijson_number.specs.Decimal.{Decimal};
 ghost use Rattle.ijson_number.specs.Num.{IsNum};
-ghost use Rattle.ijson_number.specs.private.Reading.{IsWithin, exponent_of, BeginsWithNoDigit, BeginsWithNoZero, EndsWithNoZero, IsSignTaken, IsTail, IsUnsigned};
+ghost use Rattle.ijson_number.specs.private.Reading.{IsWithin, exponent_of, BeginsWithNoDigit, BeginsWithNoZero, EndsWithNoZero, IsExponentSignTaken, IsSignTaken, IsTail, IsUnsigned};
 ghost use Rattle.ijson_number.specs.Strips.{signed};
 ghost use Rattle.ijson_number.specs.Grammar.{AllDigits, Denotes, IsDigits, IsExponent, IsSpelled, IsWhole, Parts, value};
 ghost use Rattle.ijson_number.specs.private.Scanned.{IsScanned, parts_of, scanned_number};
@@ -59,6 +59,17 @@ fn without_trailing_zeros(digits: &[u8]) -> &[u8]
     &digits[..end]
 }
 
+/// Takes a sign off the front of an exponent.
+pub fn split_exponent_sign(number: &[u8]) -> (bool, &[u8])
+    ensures { IsExponentSignTaken number.now result.0 result.1.now }
+{
+    match number {
+        [b'-', digits @ ..] => (true, digits),
+        [b'+', digits @ ..] => (false, digits),
+        _ => (false, number),
+    }
+}
+
 /// The sign and the digits of an exponent, none of either where there is no exponent.
 fn read_exponent(bytes: &[u8]) -> Option<(bool, &[u8])>
     ensures found { IfSome result (λ r.
@@ -72,11 +83,7 @@ fn read_exponent(bytes: &[u8]) -> Option<(bool, &[u8])>
     let [b'e' | b'E', number @ ..] = bytes else {
         return None;
     };
-    let (negative, digits) = match number {
-        [b'-', digits @ ..] => (true, digits),
-        [b'+', digits @ ..] => (false, digits),
-        _ => (false, number),
-    };
+    let (negative, digits) = split_exponent_sign(number);
     if is_digits(digits) {
         Some((negative, digits))
     } else {

@@ -48,7 +48,7 @@ impl<'a> StrippedNumber<'a> {
     pub fn from_size(
         negative: bool,
         size: u64,
-        exponent: i8,
+        exponent: i16,
         point: bool,
         room: &'a mut [u8; ROOM],
     ) -> StrippedNumber<'a>
@@ -83,7 +83,7 @@ impl<'a> StrippedNumber<'a> {
         ensures { decimal_of result ≡ stripped_number mantissa exponent point }
     {
         let size = mantissa.unsigned_abs();
-        StrippedNumber::from_size(mantissa < 0, size, exponent, point, room)
+        StrippedNumber::from_size(mantissa < 0, size, i16::from(exponent), point, room)
     }
 }
 

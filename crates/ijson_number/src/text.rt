@@ -124,7 +124,7 @@ impl fmt::Display for Pointed<'_> {
 }
 
 /// Whether a number with float shape is written with an exponent.
-fn is_scientific(place: i128, exponent: i32) -> bool
+pub fn is_scientific(place: i128, exponent: i32) -> bool
     ensures { result ≡ (int_le place (negsuc 5) || int_lt (pos 20) exponent) }
 {
     place <= -6 || exponent > 20

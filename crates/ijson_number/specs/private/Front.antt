@@ -1,8 +1,8 @@
 -- What the pass over the front of a text finds there.
-use Rattle.std.specs.Prelude.{◌≡◌, ℕ, ◌^◌, ◌<◌, ◌≤◌, Bool, List, ◌++◌, length, nat_lt, take, pos, neg_ℤ}
+use Rattle.std.specs.Prelude.{◌≡◌, ℕ, ◌^◌, ◌<◌, ◌≤◌, Bool, List, ◌++◌, length, nat_lt, take, true, ℤ, pos, neg_ℤ, ◌-ℤ◌, ◌≤ℤ◌}
 use Rattle.std.specs.Int.Digits.{number_from_digits_after}
 use Rattle.ijson_number.specs.Decimal.{Decimal}
-use Rattle.ijson_number.specs.Grammar.{IsFraction, Spells}
+use Rattle.ijson_number.specs.Grammar.{IsExponent, IsFraction, IsMinus, IsWhole, Spells, value}
 use Rattle.ijson_number.specs.Num.{IsNum}
 use Rattle.ijson_number.specs.PlainFront.{GoesOnWithNone}
 use Rattle.ijson_number.specs.Stripped.{stripped_number}
@@ -27,6 +27,36 @@ pub record IsPlainTail (most : ℕ) (text front rest : List ℕ) : Type 0 where
   pub fraction : IsFraction front digits has_point
   pub few : length digits ≤ most
   pub stops : GoesOnWithNone rest
+
+-- a sign, a whole part and a fraction of few digits at the front, and the text behind them
+pub record IsMantissa (text : List ℕ) (f : Front) (rest : List ℕ) : Type 0 where
+  pub minus_text : List ℕ
+  pub whole : List ℕ
+  pub fraction_text : List ℕ
+  pub fraction : List ℕ
+  pub text_is : text ≡ (minus_text ++ (whole ++ fraction_text)) ++ rest
+  pub length_is : f.length ≡ length (minus_text ++ (whole ++ fraction_text))
+  pub minus : IsMinus minus_text f.negative
+  pub whole_is : IsWhole whole
+  pub fraction_is : IsFraction fraction_text fraction (nat_lt 0 f.places)
+  pub count : length fraction ≡ f.places
+  pub size_is : f.size ≡ value (whole ++ fraction)
+  pub few : f.places ≤ 19
+  pub small : f.size < 10 ^ 19
+
+-- few digits make no more of an exponent
+abbrev pub IsPowerSmall : ℤ → Type 0
+IsPowerSmall power = (neg_ℤ (pos 9999) ≤ℤ power) × (power ≤ℤ pos 9999)
+
+-- an exponent of so many bytes at the front
+pub record IsPower (text : List ℕ) (power : ℤ) (count : ℕ) : Type 0 where
+  pub within : count ≤ length text
+  pub exponent : IsExponent (take count text) power true
+  pub small : IsPowerSmall power
+
+-- what the digits, the places and a power of ten are
+abbrev pub power_number : Front → ℤ → Decimal
+power_number f power = stripped_number (signed f.negative f.size) (power -ℤ pos f.places) true
 
 -- what the digits and the places are
 abbrev pub front_number : Front → Decimal

@@ -47,3 +47,10 @@ abbrev pub IsSignTaken : (text : List ℕ) → (negative : Bool) → (rest : Lis
 IsSignTaken text negative rest =
     (text ≡ 45 ∷ rest × negative ≡ true)
     ⊎ (text ≡ rest × negative ≡ false × (0 < length text → slice_index text 0 ≢ 45))
+
+-- a sign taken off the front of an exponent
+abbrev pub IsExponentSignTaken : (text : List ℕ) → (negative : Bool) → (rest : List ℕ) → Type 0
+IsExponentSignTaken text negative rest =
+    (text ≡ 45 ∷ rest × negative ≡ true)
+    ⊎ (text ≡ 43 ∷ rest × negative ≡ false)
+    ⊎ (text ≡ rest × negative ≡ false × (0 < length text → slice_index text 0 ≢ 45 × slice_index text 0 ≢ 43))

@@ -1,5 +1,7 @@
-use Rattle.std.proofs.Common.{◌-◌, ◌≤◌, ◌++◌, length, length-drop, take, drop, sym, ap, ◌∙◌, arith}
-use Rattle.std.proofs.lemmas.List.{append-nil, take_all}
+use Rattle.std.proofs.Common.{◌≤◌, ◌++◌, length-drop, take, drop, sym, ap, ◌∙◌, arith}
+use Rattle.std.proofs.lemmas.List.{append-nil}
+use Rattle.std.specs.List.{prefix_len}
+use Rattle.std.proofs.lemmas.List.Sums.{prefix_len-le-length}
 use lib.Count.{count_trailing_zeros}
 use Rattle.ijson_json.specs.Strings.{is_unescaped}
 use Rattle.ijson_json.proofs.AppendedRuns.{appended, appended_row, cut_row}
@@ -14,12 +16,12 @@ overflow_sub-bytes c = c.loop-at.invariant.1
 
 pub overflow_sub-count : goal.overflow_sub-count
 overflow_sub-count c =
-    let found = c.specials_of_16-found.ensures in
+    let found = c.specials-found.ensures in
     omega (arith, run_short is_unescaped c.args.bytes.now c.loop-at.at 16 (omega arith) (omega arith) (omega (arith, found)), ap (count_trailing_zeros 64) found)
 
 pub returns-then-found-ne0-clause-count : goal.returns-then-found-ne0-clause-count
 returns-then-found-ne0-clause-count c =
-    let found = c.specials_of_16-found in
+    let found = c.specials-found in
     let run = run_within is_unescaped c.args.bytes.now c.loop-at.at 16 (omega arith) (omega arith) (omega (arith, found.ensures)) ∙ ap (count_trailing_zeros 64) (sym found.ensures) in
     omega (arith, run, c.loop-at.invariant.0)
 
@@ -28,22 +30,30 @@ returns-then-found-ne0-clause-run c =
     let old = c.args.content.now.items in
     let bytes = c.args.bytes.now in
     let at = c.loop-at.at in
-    let found = c.specials_of_16-found.ensures in
-    let few : count_trailing_zeros 64 c.specials_of_16-found.result ≤ 16 = omega (arith, run_short is_unescaped bytes at 16 (omega arith) (omega arith) (omega (arith, found)), ap (count_trailing_zeros 64) found) in
+    let found = c.specials-found.ensures in
+    let few : count_trailing_zeros 64 c.specials-found.result ≤ 16 = omega (arith, run_short is_unescaped bytes at 16 (omega arith) (omega arith) (omega (arith, found)), ap (count_trailing_zeros 64) found) in
     let longer = appended_row old bytes at (omega arith) c.loop-at.content.items _ c.loop-at.invariant.2 c.in_ok-extend_from_slice.ensures.items in
-    c.truncate.ensures.items ∙ cut_row old bytes at (omega arith) c.extend_from_slice.new.self.items (count_trailing_zeros 64 c.specials_of_16-found.result) _ few longer (omega (arith, c.len.ensures, c.extend_from_slice.new.self.ok))
+    c.truncate.ensures.items ∙ cut_row old bytes at (omega arith) c.extend_from_slice.new.self.items (count_trailing_zeros 64 c.specials-found.result) _ few longer (omega (arith, c.len.ensures, c.extend_from_slice.new.self.ok))
 
 pub loop-at-preserved : goal.loop-at-preserved
 loop-at-preserved c =
-    let run = run_through is_unescaped c.args.bytes.now c.loop-at.at 16 (omega arith) (omega (arith, c.specials_of_16-found.ensures)) in
+    let run = run_through is_unescaped c.args.bytes.now c.loop-at.at 16 (omega arith) (omega (arith, c.specials-found.ensures)) in
     (omega (arith, run, c.loop-at.invariant.0), omega arith, appended_row c.args.content.now.items c.args.bytes.now c.loop-at.at (omega arith) c.loop-at.content.items _ c.loop-at.invariant.2 (c.in_ok-extend_from_slice.ensures.items))
+
+pub slice_bounds-extend_from_slice-end-2 : goal.slice_bounds-extend_from_slice-end-2
+slice_bounds-extend_from_slice-end-2 c =
+    let at = c.loop-at.at in
+    let bytes = c.args.bytes.now in
+    omega (arith, c.last_run_end-end.ensures, prefix_len-le-length is_unescaped (drop at bytes), length-drop at bytes)
 
 pub returns-clause-run : goal.returns-clause-run
 returns-clause-run c =
+    let old = c.args.content.now.items in
     let at = c.loop-at.at in
-    let bytes = c.args.bytes.now in
-    let count = c.short_run-count.result in
+    let left = drop at c.args.bytes.now in
+    let count = prefix_len is_unescaped left in
     c.in_ok-extend_from_slice-2.ensures.items
-    ∙ ap (λ l. c.loop-at.content.items ++ take count l) (take_all (length bytes - at) (drop at bytes) (omega (arith, length-drop at bytes)))
-    ∙ ap (λ l. l ++ take count (drop at bytes)) c.loop-at.invariant.2
-    ∙ appended c.args.content.now.items bytes at count
+    ∙ ap (λ n. c.loop-at.content.items ++ take n left) (omega (arith, c.last_run_end-end.ensures))
+    ∙ ap (λ l. l ++ take count left) c.loop-at.invariant.2
+    ∙ appended old c.args.bytes.now at count
+    ∙ ap (λ n. old ++ take n c.args.bytes.now) (sym c.last_run_end-end.ensures)

@@ -1,7 +1,7 @@
 use Rattle.std.proofs.Common.{◌≡◌, ◌<◌, ◌^◌, ℕ, ◌∙◌, ap, sym, subst, rules, arith}
 use Rattle.std.specs.Prelude.{ℤ, pos, ◌+ℤ◌, FitsSigned}
 use Rattle.std.proofs.lemmas.Int.{ints, to_z-of_z}
-use mir.Syntax.{w8, w32}
+use mir.Syntax.{w16, w32}
 use mir.Val.{to_z, of_z}
 use Rattle.ijson_number.specs.Num.{IsNum}
 use Rattle.ijson_number.specs.Stripped.{stripped_number}
@@ -10,9 +10,9 @@ use Rattle.ijson_number.proofs.IntegerWords.{zero_is, some_is, some_stored}
 use Rattle.ijson_number.proofs.stripped.StrippedNumber.from_size.Goals as goal
 
 -- a small power of ten and few tens
-exact_sum : (e f : ℤ) (t : ℕ) → f ≡ to_z w8 (of_z w8 e) → FitsSigned w8 e → t < 20 → to_z w32 (of_z w32 (to_z w32 (of_z w32 f) +ℤ to_z w32 t)) ≡ e +ℤ pos t
+exact_sum : (e f : ℤ) (t : ℕ) → f ≡ to_z w16 (of_z w16 e) → FitsSigned w16 e → t < 20 → to_z w32 (of_z w32 (to_z w32 (of_z w32 f) +ℤ to_z w32 t)) ≡ e +ℤ pos t
 exact_sum e f t is fits few =
-    let a : f ≡ e = rw (to_z-of_z w8 e fits) at is in
+    let a : f ≡ e = rw (to_z-of_z w16 e fits) at is in
     let b : to_z w32 t ≡ pos t = omega (arith, ints) in
     let g : FitsSigned w32 f = omega (arith, ints) in
     let h : FitsSigned w32 (f +ℤ pos t) = omega (arith, ints) in
@@ -25,7 +25,7 @@ pub invariant_of-result-2 : goal.invariant_of-result-2
 invariant_of-result-2 c =
     let a = c.args in
     let s = c.without_tens-stripped in
-    let fits : FitsSigned w8 a.exponent = search rules in
+    let fits : FitsSigned w16 a.exponent = search rules in
     let exact = exact_sum a.exponent c.from.result s.result.1 c.from.ensures fits s.ensures.few in
     let size : a.size < 2 ^ 64 = search rules in
     let is = some_is a.size s.result.0 s.result.1 c.if-size-eq0.false (omega arith) s.ensures.tens s.ensures.stripped a.negative a.exponent a.point in
@@ -38,7 +38,7 @@ pub returns : goal.returns
 returns c =
     let a = c.args in
     let s = c.without_tens-stripped in
-    let fits : FitsSigned w8 a.exponent = search rules in
+    let fits : FitsSigned w16 a.exponent = search rules in
     let exact = exact_sum a.exponent c.from.result s.result.1 c.from.ensures fits s.ensures.few in
     let size : a.size < 2 ^ 64 = search rules in
     rw (c.written.ensures, exact) (sym (some_is a.size s.result.0 s.result.1 c.if-size-eq0.false (omega arith) s.ensures.tens s.ensures.stripped a.negative a.exponent a.point))

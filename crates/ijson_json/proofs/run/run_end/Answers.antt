@@ -2,18 +2,15 @@ use Rattle.std.proofs.Common.{sym, ap, ◌∙◌, arith}
 use lib.Count.{count_trailing_zeros}
 use Rattle.ijson_json.specs.Strings.{is_unescaped}
 use Rattle.ijson_json.proofs.Lanes.{run_through, run_within}
-use Rattle.ijson_json.proofs.run.run_length.Goals as goal
+use Rattle.ijson_json.proofs.run.run_end.Goals as goal
 
 pub returns-then-found-ne0 : goal.returns-then-found-ne0
 returns-then-found-ne0 c =
-    let found = c.specials_of_16-found in
+    let found = c.specials-found in
     let run = run_within is_unescaped c.args.bytes.now c.loop-at.at 16 (omega arith) (omega arith) (omega (arith, found.ensures)) ∙ ap (count_trailing_zeros 64) (sym found.ensures) in
     omega (arith, run, c.loop-at.invariant.0)
 
 pub loop-at-preserved : goal.loop-at-preserved
 loop-at-preserved c =
-    let run = run_through is_unescaped c.args.bytes.now c.loop-at.at 16 (omega arith) (omega (arith, c.specials_of_16-found.ensures)) in
+    let run = run_through is_unescaped c.args.bytes.now c.loop-at.at 16 (omega arith) (omega (arith, c.specials-found.ensures)) in
     (omega (arith, run, c.loop-at.invariant.0), omega arith)
-
-pub last_run-requires : goal.last_run-requires
-last_run-requires c = omega (arith, c.loop-at.invariant.0, c.loop-at.invariant.1)

@@ -1,6 +1,0 @@
-use Rattle.std.proofs.Common.{arith}
-use Rattle.ijson_json.proofs.Lanes.{specials_mask}
-use Rattle.ijson_json.proofs.run.specials_of_8.Goals as goal
-
-pub returns : goal.returns
-returns c = specials_mask c.args.bytes 8 c.fits-bytes.0 (omega arith)

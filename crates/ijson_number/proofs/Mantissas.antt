@@ -1,0 +1,135 @@
+-- The digits at the front of a text, and an exponent behind them.
+use Rattle.std.proofs.Common.{◌≡◌, ◌∙◌, ◌⊎◌, get_or, ℕ, ◌+◌, ◌-◌, ◌<◌, ◌≤◌, ◌^◌, Bool, true, false, List, [], ◌∷◌, ◌++◌, length, drop, take, refl, sym, ap, inl, inr, append_assoc, arith}
+use Rattle.std.specs.Prelude.{ℤ, pos, neg_ℤ, ◌-ℤ◌, nat_lt, ◌||◌}
+use Rattle.std.proofs.Math.Seq.{take-append_seam}
+use Rattle.std.proofs.Math.Bool.{or-false, or-true}
+use Rattle.std.proofs.lemmas.Int.{ints}
+use Rattle.std.proofs.lemmas.List.{length-append, length-take-le, take-append-drop}
+use Rattle.ijson_number.specs.Grammar.{AllDigits, IsExponent, IsMinus, IsSigned, IsSpelled, Parts, Spells, value}
+use Rattle.ijson_number.specs.Num.{IsNum}
+use Rattle.ijson_number.specs.Strips.{signed}
+use Rattle.ijson_number.specs.declared.front.Front.{Front}
+use Rattle.ijson_number.specs.private.Front.{IsFront, IsMantissa, IsPower, IsPowerSmall, power_number}
+use Rattle.ijson_number.specs.private.Reading.{IsExponentSignTaken, IsSignTaken}
+use Rattle.ijson_number.specs.private.Taken.{IsTaken}
+use Rattle.ijson_number.proofs.FewDigits.{parts_number, value_small}
+use Rattle.ijson_number.proofs.Runs.{IsDigits_from}
+use Rattle.ijson_number.proofs.Sizes.{power_le}
+
+-- a sign that was taken off stood in front
+pub minus_of : (text unsigned : List ℕ) (negative : Bool) → IsSignTaken text negative unsigned → (minus : List ℕ) × IsMinus minus negative × (text ≡ minus ++ unsigned)
+minus_of text unsigned negative sign = elim sign [
+  | inl e ↦ (45 ∷ [], inr (refl, e.1), e.0)
+  | inr e ↦ ([], inl (refl, e.1), e.0)
+]
+
+module _ (text : List ℕ) (f : Front) (rest : List ℕ) (m : IsMantissa text f rest) where
+  abbrev front : List ℕ
+  front = m.minus_text ++ (m.whole ++ m.fraction_text)
+
+  abbrev parts : (z : ℤ) (written : Bool) → Parts
+  parts z written = record { negative = f.negative; whole = m.whole; fraction = m.fraction; exponent = z; point = nat_lt 0 f.places || written }
+
+  spelled : (exponent_text : List ℕ) (z : ℤ) (written : Bool) → IsExponent exponent_text z written → IsSpelled (front ++ exponent_text) (parts z written)
+  spelled exponent_text z written is = record {
+    minus_text = m.minus_text;
+    fraction_text = m.fraction_text;
+    exponent_text = exponent_text;
+    has_point = nat_lt 0 f.places;
+    has_exponent = written;
+    text_is = simp append_assoc;
+    minus = m.minus;
+    whole = m.whole_is;
+    fraction = m.fraction_is;
+    exponent = is;
+    point = refl;
+  }
+
+  word : f.size < 2 ^ 64
+  word = let small = m.small in omega arith
+
+  taken : (count : ℕ) → count ≤ length rest → take (f.length + count) text ≡ front ++ take count rest
+  taken count within =
+      let long : length (front ++ take count rest) ≡ f.length + count = omega (arith, length-append front (take count rest), length-take-le count rest within, m.length_is) in
+      let split : text ≡ (front ++ take count rest) ++ drop count rest = m.text_is ∙ ap (λ r. front ++ r) (sym (take-append-drop count rest)) ∙ sym (append_assoc front (take count rest) (drop count rest)) in
+      ap (λ n. take n text) (sym long) ∙ ap (take (length (front ++ take count rest))) split ∙ take-append_seam (front ++ take count rest) (drop count rest)
+
+  all_taken : take f.length text ≡ front ++ []
+  all_taken =
+      let none : f.length + 0 ≡ f.length = omega arith in
+      ap (λ n. take n text) (sym none) ∙ taken 0 (omega arith)
+
+  -- with no exponent they are a number
+  pub front_of : IsFront text f
+  front_of =
+      let e : neg_ℤ (pos f.places) ≡ pos 0 -ℤ pos (length m.fraction) = rw m.count (omega (arith, ints)) in
+      let few = m.few in
+      let n = parts_number (front ++ []) (parts (pos 0) false) f.size (neg_ℤ (pos f.places)) (spelled [] (pos 0) false (refl, refl)) e (omega (arith, ints)) (omega (arith, ints)) m.size_is word in
+      let point : nat_lt 0 f.places || false ≡ nat_lt 0 f.places = or-false _ in
+      let long = ap length m.text_is ∙ length-append front rest in
+      record {
+        within = omega (arith, long, m.length_is);
+        spelled = rw (all_taken, ← point) n.0;
+        few = few;
+        small = m.small;
+        strips = rw (← point) n.1;
+        num = rw (← point) n.2;
+      }
+
+  -- with one, a number times a power of ten
+  pub power_of : (power : ℤ) (count : ℕ) → IsPower rest power count
+      → (f.length + count ≤ length text) × Spells (take (f.length + count) text) (power_number f power) × IsNum (power_number f power)
+  power_of power count is =
+      let e : power -ℤ pos f.places ≡ power -ℤ pos (length m.fraction) = rw m.count refl in
+      let few = m.few in
+      let small = is.small in
+      let n = parts_number (front ++ take count rest) (parts power true) f.size (power -ℤ pos f.places) (spelled (take count rest) power true is.exponent) e (omega (arith, ints)) (omega (arith, ints)) m.size_is word in
+      let point : nat_lt 0 f.places || true ≡ true = or-true _ in
+      let long = ap length m.text_is ∙ length-append front rest in
+      (omega (arith, long, m.length_is, is.within), rw (taken count is.within, ← point) n.0, rw (← point) n.2)
+
+signed_of : (ds : List ℕ) (z : ℤ) → 0 < length ds → AllDigits ds → z ≡ pos (value ds) → IsSigned ds z
+signed_of [] z some all is = absurd (omega arith)
+signed_of (d ∷ ds) z some all is = inr (inr ((all.0, all.1), is))
+
+-- `e`, a sign or none and digits are an exponent
+exponent_at : (b : ℕ) (number digits : List ℕ) (negative : Bool) (count : ℕ) (z : ℤ) → b ≡ 101 ⊎ b ≡ 69 → IsExponentSignTaken number negative digits
+    → 0 < count → count ≤ length digits → AllDigits (take count digits) → z ≡ signed negative (value (take count digits))
+    → (text : List ℕ) × (b ∷ number ≡ text ++ drop count digits) × IsExponent text z true
+exponent_at b number digits negative count z begins sign some within all is =
+    let ds : List ℕ = take count digits in
+    let long : length ds ≡ count = length-take-le count digits within in
+    let split : digits ≡ ds ++ drop count digits = sym (take-append-drop count digits) in
+    elim sign [
+      | inl e ↦ (b ∷ 45 ∷ ds, ap (λ n. b ∷ n) (e.0 ∙ ap (λ d. 45 ∷ d) split), (begins, inr (inl (refl, IsDigits_from ds (omega (arith, long)) all, is ∙ ap (λ n. signed n (value ds)) e.1)), refl))
+      | inr e ↦ elim e [
+        | inl p ↦ (b ∷ 43 ∷ ds, ap (λ n. b ∷ n) (p.0 ∙ ap (λ d. 43 ∷ d) split), (begins, inl (refl, IsDigits_from ds (omega (arith, long)) all, is ∙ ap (λ n. signed n (value ds)) p.1), refl))
+        | inr p ↦ (b ∷ ds, ap (λ n. b ∷ n) (p.0 ∙ split), (begins, signed_of ds z (omega (arith, long)) all (is ∙ ap (λ n. signed n (value ds)) p.1), refl))
+      ]
+    ]
+
+few_small : (ds : List ℕ) → AllDigits ds → length ds ≤ 4 → value ds < 10 ^ 4
+few_small ds all few = let v = value_small ds all in let p = power_le (length ds) 4 few in omega arith
+
+-- the digits behind `e` and a sign are few
+pub digits_few : (digits : List ℕ) (size count : ℕ) → IsTaken 0 digits 4 size count → size < 10 ^ 4
+digits_few digits size count t = rw t.value (few_small (take count digits) t.digits (let few = t.few in omega (arith, length-take-le count digits t.within)))
+
+pub power_at : (bytes digits : List ℕ) (negative : Bool) (size count : ℕ) (z : ℤ) → 0 < length bytes → get_or bytes 0 0 ≡ 101 ⊎ get_or bytes 0 0 ≡ 69
+    → IsExponentSignTaken (drop 1 bytes) negative digits → 0 < count → IsTaken 0 digits 4 size count → z ≡ signed negative size
+    → IsPower bytes z (length bytes - length (drop count digits))
+power_at [] digits negative size count z some begins sign one t is = absurd (omega arith)
+power_at (b ∷ number) digits negative size count z some begins sign one t is =
+    let e = exponent_at b number digits negative count z begins sign one t.within t.digits (is ∙ ap (signed negative) t.value) in
+    let long = ap length e.1 ∙ length-append e.0 (drop count digits) in
+    let all : take (length (b ∷ number) - length (drop count digits)) (b ∷ number) ≡ e.0 =
+    (let n : length (b ∷ number) - length (drop count digits) ≡ length e.0 = omega (arith, long) in rw n (ap (take (length e.0)) e.1 ∙ take-append_seam e.0 (drop count digits))) in
+    record {
+      within = omega arith;
+      exponent = rw all e.2;
+      small = rw is (signed_small negative size (digits_few digits size count t));
+    }
+  where
+    signed_small : (negative : Bool) (n : ℕ) → n < 10 ^ 4 → IsPowerSmall (signed negative n)
+    signed_small true n h = (omega (arith, ints), omega (arith, ints))
+    signed_small false n h = (omega (arith, ints), omega (arith, ints))

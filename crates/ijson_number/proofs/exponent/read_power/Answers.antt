@@ -1,0 +1,42 @@
+use Rattle.std.proofs.Common.{◌≡◌, ℕ, ◌<◌, ◌^◌, ◌⊎◌, inl, inr, get_or, ap, sym, ◌∙◌, arith}
+use Rattle.std.specs.Prelude.{pos}
+use mir.Syntax.{w16}
+use mir.Val.{to_z}
+use Rattle.ijson_number.specs.Strips.{signed}
+use Rattle.std.proofs.lemmas.Bool.Decides.{nat_tests}
+use Rattle.std.proofs.lemmas.Int.{ints}
+use Rattle.std.proofs.lemmas.List.{take_rest}
+use Rattle.ijson_number.proofs.Mantissas.{digits_few, power_at}
+use Rattle.ijson_number.proofs.ShortNumbers.{negated}
+use Rattle.ijson_number.proofs.exponent.read_power.Goals as goal
+use Rattle.ijson_number.proofs.exponent.read_power.Goals.{then-bytes-ne101, else-bytes-ne101, then-negative, else-negative}
+
+pub overflow_cast-size : goal.overflow_cast-size
+overflow_cast-size c =
+    let small = digits_few c.split_exponent_sign-negative.result.1.now c.take_digits-size.result.0 c.take_digits-size.result.1 c.take_digits-size.ensures in
+    omega (arith, ints)
+
+pub overflow_sub-power : goal.overflow_sub-power
+overflow_sub-power c =
+    let small = digits_few c.split_exponent_sign-negative.result.1.now c.take_digits-size.result.0 c.take_digits-size.result.1 c.take_digits-size.ensures in
+    omega (arith, ints)
+
+exact : (size : ℕ) → size < 10 ^ 4 → to_z w16 size ≡ pos size
+exact size small = omega (arith, ints)
+
+pub returns : goal.returns
+returns c =
+    let bytes = c.args.bytes.now in
+    let digits = c.split_exponent_sign-negative.result.1.now in
+    let negative = c.split_exponent_sign-negative.result.0 in
+    let t = c.take_digits-size in
+    let small = digits_few digits t.result.0 t.result.1 t.ensures in
+    let begins : get_or bytes 0 0 ≡ 101 ⊎ get_or bytes 0 0 ≡ 69 = elim c.if-bytes-ne101.branch [
+      | then-bytes-ne101 w ↦ inr (grind (arith, nat_tests))
+      | else-bytes-ne101 w ↦ inl (grind (arith, nat_tests))
+    ] in
+    let power : to_z w16 c.if-negative.power-bits ≡ signed negative t.result.0 = elim c.if-negative.branch [
+      | then-negative w ↦ w.power-is ∙ negated w16 t.result.0 (omega (arith, ints, small)) (omega (arith, ints, small)) ∙ ap (λ n. signed n t.result.0) (sym w.if-negative.true)
+      | else-negative w ↦ w.power-is ∙ exact t.result.0 small ∙ ap (λ n. signed n t.result.0) (sym w.if-negative.false)
+    ] in
+    rw c.split_at.ensures.back (power_at bytes digits negative t.result.0 t.result.1 (to_z w16 c.if-negative.power-bits) (grind arith) begins (rw (take_rest bytes 1) at c.split_exponent_sign-negative.ensures) (omega (arith, c.if-count-eq0.false)) t.ensures power)
