@@ -23,6 +23,7 @@ minus_of text unsigned negative sign = elim sign [
   | inr e ↦ ([], inl (refl, e.1), e.0)
 ]
 
+-- what the digits at the front are, with an exponent behind them or with none
 module _ (text : List ℕ) (f : Front) (rest : List ℕ) (m : IsMantissa text f rest) where
   abbrev front : List ℕ
   front = m.minus_text ++ (m.whole ++ m.fraction_text)
@@ -30,6 +31,7 @@ module _ (text : List ℕ) (f : Front) (rest : List ℕ) (m : IsMantissa text f 
   abbrev parts : (z : ℤ) (written : Bool) → Parts
   parts z written = record { negative = f.negative; whole = m.whole; fraction = m.fraction; exponent = z; point = nat_lt 0 f.places || written }
 
+  -- with an exponent's text behind them they spell these parts
   spelled : (exponent_text : List ℕ) (z : ℤ) (written : Bool) → IsExponent exponent_text z written → IsSpelled (front ++ exponent_text) (parts z written)
   spelled exponent_text z written is = record {
     minus_text = m.minus_text;
@@ -45,15 +47,18 @@ module _ (text : List ℕ) (f : Front) (rest : List ℕ) (m : IsMantissa text f 
     point = refl;
   }
 
+  -- they fit a word
   word : f.size < 2 ^ 64
   word = let small = m.small in omega arith
 
+  -- the text as far as an exponent of so many bytes goes
   taken : (count : ℕ) → count ≤ length rest → take (f.length + count) text ≡ front ++ take count rest
   taken count within =
       let long : length (front ++ take count rest) ≡ f.length + count = omega (arith, length-append front (take count rest), length-take-le count rest within, m.length_is) in
       let split : text ≡ (front ++ take count rest) ++ drop count rest = m.text_is ∙ ap (λ r. front ++ r) (sym (take-append-drop count rest)) ∙ sym (append_assoc front (take count rest) (drop count rest)) in
       ap (λ n. take n text) (sym long) ∙ ap (take (length (front ++ take count rest))) split ∙ take-append_seam (front ++ take count rest) (drop count rest)
 
+  -- and as far as the digits go
   all_taken : take f.length text ≡ front ++ []
   all_taken =
       let none : f.length + 0 ≡ f.length = omega arith in
@@ -88,6 +93,7 @@ module _ (text : List ℕ) (f : Front) (rest : List ℕ) (m : IsMantissa text f 
       let long = ap length m.text_is ∙ length-append front rest in
       (omega (arith, long, m.length_is, is.within), rw (taken count is.within, ← point) n.0, rw (← point) n.2)
 
+-- digits with no sign in front are a signed number
 signed_of : (ds : List ℕ) (z : ℤ) → 0 < length ds → AllDigits ds → z ≡ pos (value ds) → IsSigned ds z
 signed_of [] z some all is = absurd (omega arith)
 signed_of (d ∷ ds) z some all is = inr (inr ((all.0, all.1), is))
@@ -108,13 +114,15 @@ exponent_at b number digits negative count z begins sign some within all is =
       ]
     ]
 
+-- four digits make a number below 10^4
 few_small : (ds : List ℕ) → AllDigits ds → length ds ≤ 4 → value ds < 10 ^ 4
 few_small ds all few = let v = value_small ds all in let p = power_le (length ds) 4 few in omega arith
 
--- the digits behind `e` and a sign are few
+-- and so does what was taken of the digits behind `e` and a sign
 pub digits_few : (digits : List ℕ) (size count : ℕ) → IsTaken 0 digits 4 size count → size < 10 ^ 4
 digits_few digits size count t = rw t.value (few_small (take count digits) t.digits (let few = t.few in omega (arith, length-take-le count digits t.within)))
 
+-- the `e`, the sign and the digits that were taken off the front are an exponent that stands there
 pub power_at : (bytes digits : List ℕ) (negative : Bool) (size count : ℕ) (z : ℤ) → 0 < length bytes → get_or bytes 0 0 ≡ 101 ⊎ get_or bytes 0 0 ≡ 69
     → IsExponentSignTaken (drop 1 bytes) negative digits → 0 < count → IsTaken 0 digits 4 size count → z ≡ signed negative size
     → IsPower bytes z (length bytes - length (drop count digits))

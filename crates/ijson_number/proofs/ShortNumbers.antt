@@ -66,9 +66,11 @@ module _ (negative : Bool) (m : ℕ) (x : ℤ) (above : 0 < m) (large : pos 27 �
   abbrev number : Decimal
   number = stored_number negative (digits_of 10 m) x true
 
+  -- its mantissa has the digits
   size_is : nat_abs number.mantissa ≡ m
   size_is = abs_signed negative (number_from_digits 10 (digits_of 10 m)) ∙ number_digits_of 10 m (omega arith)
 
+  -- with no exponent that a word has does its mantissa fit
   none_packed : (tries k : ℕ) → k + tries ≤ 8 → smallest_packed tries k number ≡ digits_form number
   none_packed zero k few = refl
   none_packed (suc tries) k few =
@@ -82,10 +84,11 @@ module _ (negative : Bool) (m : ℕ) (x : ℤ) (above : 0 < m) (large : pos 27 �
       (second_fails (int_le (pos k) x) (fits_packed scaled) (large_fails scaled (neg_ℤ (pos 36028797018963968)) (pos 36028797018963968) (omega (arith, ints)) (omega (arith, ints)) long))
       ∙ none_packed tries (suc k) (omega arith)
 
+  -- so its form is its digits
   large_form : form_of number ≡ digits_form number
   large_form = taken (int_le (pos 0) x) _ _ (le_test (pos 0) x (omega (arith, ints))) ∙ none_packed 8 0 (omega arith)
 
--- or too small
+-- and so it is where the exponent is too small
 small_form : (negative : Bool) (m : ℕ) (x : ℤ) → x <ℤ negsuc 6 → form_of (stored_number negative (digits_of 10 m) x true) ≡ digits_form (stored_number negative (digits_of 10 m) x true)
 small_form negative m x small =
     let mantissa : ℤ = signed negative (number_from_digits 10 (digits_of 10 m)) in
@@ -93,7 +96,7 @@ small_form negative m x small =
     left (int_le (pos 0) x) _ _ below
     ∙ left (int_le (negsuc 6) x && fits_packed mantissa) _ _ (first_fails (int_le (negsuc 6) x) (fits_packed mantissa) (not_le (negsuc 6) x small))
 
--- is a list of digits
+-- a number with the point whose stripped exponent no word has is a list of digits
 pub outside_form : (negative : Bool) (size m t : ℕ) (e x : ℤ) → size ≡ m * 10 ^ t → m % 10 ≢ 0 → size < 2 ^ 64 → x ≡ e +ℤ pos t → (x <ℤ negsuc 6) ⊎ (pos 27 ≤ℤ x)
     → form_of (stripped_number (signed negative size) e true) ≡ digits negative (digits_of 10 m) x true
 outside_form negative size m t e x tens last word is outside =

@@ -16,7 +16,8 @@ use crate::stripped::{ROOM, StrippedNumber};
 /// The most digits of an exponent that is read in one pass with what stands before it.
 const FEW: usize = 4;
 
-/// The exponent at the front, and how many bytes it has, where it has few digits and nothing goes on with it.
+/// The exponent at the front, and how many bytes it has, where it has few digits and nothing goes on with it. None says nothing: the
+/// number is read by the slower way then.
 pub fn read_power(bytes: &[u8]) -> Option<(i16, usize)>
     ensures { IfSome result (λ r. IsPower bytes.now r.0 r.1) }
 {
@@ -35,7 +36,8 @@ pub fn read_power(bytes: &[u8]) -> Option<(i16, usize)>
 }
 
 impl Front {
-    /// The number times a power of ten, in 24 bytes, where it is too small or too large for a word.
+    /// The number times a power of ten, in 24 bytes, where it is too small or too large for a word. None says nothing: `stripped_power`
+    /// does for any number.
     pub fn short_power(&self, power: i16) -> Option<ShortNumber>
         requires few { self.now.places ≤ 19 }
         requires small { self.now.size < 10 ^ 19 }

@@ -48,6 +48,7 @@ module _ (links : List Link) (texts : List (List ℕ)) (keys : List Key) (listed
   pub as_many_keys : length keys ≡ length links
   as_many_keys = ap length (sym are) ∙ length-keys (halves_of links) texts listed_halves ∙ length-map links (λ l. l.half)
 
+  -- a key is the half and the text at its position
   key_at : (i : ℕ) → get_or keys i no_key ≡ record { half = get_or (halves_of links) i 0; text = get_or texts i [] }
   key_at i = ap (λ keys. get_or keys i no_key) (sym are) ∙ get_or-keys (halves_of links) texts i listed_halves
 

@@ -108,9 +108,11 @@ module _ (count half : ℕ) (text : List ℕ) where
     abbrev keys : List Key
     keys = keys_of (halves_of links) texts
 
+    -- there are as many keys as links
     as_many : length keys ≡ length links
     as_many = as_many_keys links texts keys listed refl
 
+    -- the chains of the links are those of the keys
     by_home : IsChained (homes_of_keys count keys) (befores_of links) last
     by_home =
         subst (λ homes. IsChained homes (befores_of links) last)
@@ -130,6 +132,7 @@ module _ (count half : ℕ) (text : List ℕ) where
       within : at - 1 < length links
       within = let last = ahead.within in omega (arith, as_many)
 
+      -- the link leads to the last key of its home before it
       leads : l.before ≡ last_of (home_of count half) (take (at - 1) (homes_of_keys count keys))
       leads =
           ap (λ l. l.before) there ∙ sym (get_or-map (λ l. l.before) links (at - 1) l 0 within)

@@ -11,9 +11,9 @@ use std::marker::Model;
 
 /// A set of texts of more than 7 bytes, each kept once. `IString::intern` adds to it, and shares what it holds. A text stays
 /// until `clear`, also where nobody else has it. Beside its own memory it takes 24 bytes here, in two lists that double where they
-/// are full, from 32 texts on 2 to 4 for the home that its hash leads to, and from 4,096 texts on 16 KB are taken for notes of those
-/// that came again. At most 2^32 - 1 texts fit, and one more is refused as for want of
-/// memory. Texts that a stranger chose want a hasher with a random seed, as `RandomState` is.
+/// are full, and from 32 texts on 2 to 4 for the home that its hash leads to; from 4,096 texts on 16 KB are taken for notes of those
+/// that came again. At most 2^32 - 1 texts fit, and one more is refused as for want of memory. Texts that a stranger chose want a
+/// hasher with a random seed, as `RandomState` is.
 #[derive(Drop)]
 pub struct StringCache<S: BuildHasher> {
     alloc: Global,

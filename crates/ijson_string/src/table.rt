@@ -125,7 +125,7 @@ impl TextTable {
         self.chained(half, text)
     }
 
-    /// The same, where it is noted.
+    /// The same, where it is noted. None says nothing: the chain is gone along then.
     fn noted(&self, half: u32, text: &str) -> Option<u32>
         ensures { IfSome result (λ at. IsKeyAt half text.now self.now at) }
     {
@@ -172,7 +172,7 @@ impl TextTable {
         &self.texts[position as usize]
     }
 
-    /// Notes where a text was found by its half.
+    /// Notes where a text was found by its half. No contract tells a note, since no answer depends on one.
     pub(crate) fn note(&mut self, half: u32, position: u32)
         ensures { self.new ≡ self.old }
     {

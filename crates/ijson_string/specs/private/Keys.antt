@@ -25,6 +25,7 @@ homes_of count halves = map (home_of count) halves
 abbrev pub is_key : ℕ → List ℕ → Key → Bool
 is_key half text k = nat_eq half k.half && bytes_eq text k.text
 
+-- what is read past the last key
 abbrev pub no_key : Key
 no_key = record { half = 0; text = [] }
 
