@@ -9,15 +9,25 @@ use Rattle.std.specs.Str.{bytes_eq}
 use Rattle.std.proofs.Math.Bool.{and-false}
 use Rattle.std.proofs.lemmas.Bool.{eq-eqb}
 use Rattle.std.proofs.lemmas.List.{length-append, map-append}
+use Rattle.ijson_string.specs.Cache.{AreLong}
+use Rattle.ijson_string.specs.laws.Longer.{longer_empty, longer_insert}
 use Rattle.ijson_string.specs.private.Chains.{half_of}
 use Rattle.ijson_string.specs.private.IsCache.{set_of, IsCache}
 use Rattle.ijson_string.specs.private.Keys.{Key, texts_of, is_key, AreHashed}
-use Rattle.ijson_string.proofs.Sets.{order, exact, contains-from_list, AllAreLong-empty, AllAreLong-insert}
+use Rattle.ijson_string.proofs.Sets.{order, exact, contains-from_list}
 
 -- a key more is a text more
 pub set_of-push : (keys : List Key) (k : Key) → set_of (keys ++ k ∷ []) ≡ set.insert (set_of keys) k.text
 set_of-push keys k =
     ap set.from_list (map-append (λ k. k.text) keys (k ∷ [])) ∙ set.from_list_push order exact (texts_of keys) k.text
+
+-- where the texts are long and this one is, they stay so
+pub AreLong-push : (keys : List Key) (k : Key) → AreLong (set_of keys) → 7 < length k.text → AreLong (set_of (keys ++ k ∷ []))
+AreLong-push keys k all long = rw (set_of-push keys k) (longer_insert 7 (set_of keys) k.text all long)
+
+-- no key has a short text
+pub AreLong-none : (keys : List Key) → keys ≡ [] → AreLong (set_of keys)
+AreLong-none keys none = rw none (longer_empty 7)
 
 module _ (hash : List ℕ → ℕ) where
   -- beside the half of its own text's hash, a key is told by its text alone
@@ -41,11 +51,10 @@ module _ (hash : List ℕ → ℕ) where
   hashed-push [] k all e = (e, tt)
   hashed-push (x ∷ keys) k all e = (all.0, hashed-push keys k all.1 e)
 
-  -- a long text that is not there may be put behind the others
-  pub IsCache-push : (keys : List Key) (k : Key) → IsCache hash keys → 7 < length k.text → k.half ≡ half_of (hash k.text)
+  -- a text that is not there may be put behind the others
+  pub IsCache-push : (keys : List Key) (k : Key) → IsCache hash keys → k.half ≡ half_of (hash k.text)
       → set.contains (set_of keys) k.text ≡ false → IsCache hash (keys ++ k ∷ [])
-  IsCache-push keys k cache long hashed new = record {
-    long = rw (set_of-push keys k) (AllAreLong-insert (set_of keys) k.text cache.long long);
+  IsCache-push keys k cache hashed new = record {
     hashed = hashed-push keys k cache.hashed hashed;
     each_once =
         ap set.len (set_of-push keys k) ∙ set.len-insert order (set_of keys) k.text
@@ -56,7 +65,6 @@ module _ (hash : List ℕ → ℕ) where
   -- no key is a cache
   pub IsCache_none : (keys : List Key) → keys ≡ [] → IsCache hash keys
   IsCache_none keys none = rw none (record {
-    long = AllAreLong-empty;
     hashed = tt;
     each_once = set.len-empty (slice_cmp nat_cmp);
   })

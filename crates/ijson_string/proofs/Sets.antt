@@ -1,5 +1,5 @@
 -- The texts of a list, as a finite set.
-use Rattle.std.proofs.Common.{◌≡◌, ◌∙◌, sym, refl, ℕ, ◌<◌, true, false, ◌||◌, List, [], ◌∷◌, length}
+use Rattle.std.proofs.Common.{◌≡◌, ◌∙◌, sym, refl, ℕ, true, false, ◌||◌, List, [], ◌∷◌}
 use Rattle.std.specs.List.{list_any}
 use Rattle.std.specs.Ordering.{nat_cmp, eq_by_cmp}
 use Rattle.std.specs.Cmp.{IsTotalOrder, Equal-is}
@@ -8,8 +8,6 @@ use Rattle.std.specs.Str.{bytes_eq}
 use Rattle.std.specs.FinSet as set
 use Rattle.std.specs.FinMap.{IsAntisymmetric, slice_cmp-IsAntisymmetric, nat_cmp-IsAntisymmetric}
 use Rattle.std.proofs.lemmas.Map.Text.{is_eq-slice_cmp}
-use Rattle.ijson_string.specs.Cache.{Texts}
-use Rattle.ijson_string.specs.private.AllAreLong.{AllAreLong}
 
 -- texts are totally ordered by their bytes
 pub order : IsTotalOrder (slice_cmp nat_cmp)
@@ -31,7 +29,7 @@ pub contains-from_list : (keys : List (List ℕ)) (q : List ℕ)
 contains-from_list keys q = set.contains-from_list order keys q ∙ tied keys q
 
 -- a text that is there already changes nothing
-pub insert-present : (texts : Texts) (text : List ℕ) → set.contains texts text ≡ true
+pub insert-present : (texts : set.FinSet (slice_cmp nat_cmp)) (text : List ℕ) → set.contains texts text ≡ true
     → set.insert texts text ≡ texts
 insert-present texts text present =
     set.same_set order exact _ _ (λ q. set.contains-insert order texts text q ∙
@@ -40,17 +38,3 @@ insert-present texts text present =
       | true ↦ λ same. sym present ∙ set.contains_tied order texts q text ((Equal-is (slice_cmp nat_cmp q text)).0 same)
       | false ↦ λ _. refl
     ] refl)
-
--- an empty cache holds long texts alone
-pub AllAreLong-empty : AllAreLong set.empty
-AllAreLong-empty q present = cc (sym (set.contains-empty (slice_cmp nat_cmp) q) ∙ present)
-
--- and one that takes in a long text
-pub AllAreLong-insert : (texts : Texts) (text : List ℕ) → AllAreLong texts → 7 < length text
-    → AllAreLong (set.insert texts text)
-AllAreLong-insert texts text all long q present =
-    elim (eq_by_cmp (slice_cmp nat_cmp) q text)
-    as (λ b. eq_by_cmp (slice_cmp nat_cmp) q text ≡ b → (b || set.contains texts q) ≡ true → 7 < length q) [
-      | true ↦ λ same _. rw (exact q text ((Equal-is (slice_cmp nat_cmp q text)).0 same)) long
-      | false ↦ λ _ here. all q here
-    ] refl (sym (set.contains-insert order texts text q) ∙ present)

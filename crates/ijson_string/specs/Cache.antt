@@ -1,12 +1,19 @@
--- A cache is a finite set of texts, each a list of bytes. As in the Rust crate `ijson`; that 7 bytes stay in place is
--- this project's own.
-use Rattle.std.specs.Prelude.{ℕ, List, Bool, length, ltb, if◌then◌else◌}
+-- A cache is a finite set of texts, each a list of more than 7 bytes. As in the Rust crate `ijson`; that 7 bytes stay in place
+-- is this project's own.
+use Rattle.std.specs.Prelude.{◌≡◌, ◌<◌, ℕ, List, Bool, true, length, ltb, if◌then◌else◌}
 use Rattle.std.specs.Ordering.{nat_cmp}
 use Rattle.std.specs.Cmp.Lexicographic.{slice_cmp}
 use Rattle.std.specs.FinSet as set
+use Rattle.ijson_string.specs.laws.Longer.{longer_with}
 
-abbrev pub Texts : Type 0
-Texts = set.FinSet (slice_cmp nat_cmp)
+-- each text of the set has more than 7 bytes
+abbrev pub AreLong : set.FinSet (slice_cmp nat_cmp) → Type 0
+AreLong texts = (text : List ℕ) → set.contains texts text ≡ true → 7 < length text
+
+-- a finite set of texts, with the proof that each has more than 7 bytes
+pub record Texts : Type 0 where
+  pub texts : set.FinSet (slice_cmp nat_cmp)
+  pub long : AreLong texts
 
 -- whether a text is too long to be kept in place
 abbrev pub is_long : List ℕ → Bool
@@ -14,4 +21,7 @@ is_long text = ltb 7 (length text)
 
 -- interning adds a long text, and leaves the cache at a short one
 abbrev pub interned : List ℕ → Texts → Texts
-interned text texts = if is_long text then set.insert texts text else texts
+interned text cache = record {
+  texts = if is_long text then set.insert cache.texts text else cache.texts;
+  long = longer_with 7 cache.texts text cache.long;
+}

@@ -1,4 +1,3 @@
-pub mod AllAreLong
 pub mod Chains
 pub mod IsCache
 pub mod IsTable

@@ -1,6 +1,9 @@
 //! `StringCache`: the set of long texts that were interned.
 ghost use Rattle.std.specs.Prelude.{◌≡◌, ◌<◌, ◌≤◌, ◌==◌, false, length, IfOk, OnOk, OnErr};
 ghost use Rattle.std.specs.FinSet as set;
+ghost use Rattle.ijson_string.specs.Cache.{AreLong};
+ghost use Rattle.ijson_string.specs.laws.Texts.{AreLong-prop};
+ghost use Rattle.ijson_string.specs.private.IsCache.{set_of};
 
 use crate::hash::hash_of;
 use crate::table::{TextTable, half_of_hash};
@@ -19,21 +22,20 @@ pub struct StringCache<S: BuildHasher> {
     alloc: Global,
     texts: TextTable,
     hasher: S,
+    ghost long: { AreLong (set_of texts) } by { AreLong-prop (set_of texts) },
 }
 
 impl<S: BuildHasher> Model for StringCache<S> {
-    ghost use Rattle.std.specs.Coded.{coded_ℕ, coded_list};
-    ghost use Rattle.std.specs.FinSet as set;
     ghost use Rattle.std.specs.Prelude.{[], ◌∷◌, fold};
     ghost use Rattle.ijson_string.specs.Cache.{Texts};
-    ghost use Rattle.ijson_string.specs.private.IsCache.{IsCache};
-    ghost use Rattle.ijson_string.specs.private.Keys.{texts_of};
+    ghost use Rattle.ijson_string.specs.laws.Texts.{texts_code};
+    ghost use Rattle.ijson_string.specs.private.IsCache.{IsCache, set_of};
 
     ghost Value = { Texts };
 
-    ghost coded = { set.code (coded_list coded_ℕ) };
+    ghost coded = { texts_code };
 
-    ghost view = { λ c. set.from_list (texts_of c.texts) };
+    ghost view = { λ c. record { texts = set_of c.texts; long = c.long } };
 
     ghost invariant = { λ c. IsCache (λ text. S.Hasher.finish (fold S.Hasher.write (S.build_hasher c.hasher) (text ∷ [])))
         c.texts };
@@ -42,7 +44,7 @@ impl<S: BuildHasher> Model for StringCache<S> {
 impl<S: BuildHasher> StringCache<S> {
     /// An empty cache, which takes its memory from `alloc` as it grows. It takes none before the first long text.
     pub fn new(alloc: Global, hasher: S) -> StringCache<S>
-        ensures { result ≡ set.empty }
+        ensures { result.texts ≡ set.empty }
     {
         StringCache {
             alloc,
@@ -53,14 +55,14 @@ impl<S: BuildHasher> StringCache<S> {
 
     /// How many texts there are.
     pub fn len(&self) -> usize
-        ensures { result ≡ set.len self.now }
+        ensures { result ≡ set.len self.now.texts }
     {
         self.texts.len()
     }
 
     /// Whether there is no text.
     pub fn is_empty(&self) -> bool
-        ensures { result ≡ (set.len self.now == 0) }
+        ensures { result ≡ (set.len self.now.texts == 0) }
     {
         self.len() == 0
     }
@@ -68,7 +70,7 @@ impl<S: BuildHasher> StringCache<S> {
     /// Whether `text` is there. A text of at most 7 bytes never is. The text is hashed and looked up, in expected time linear
     /// in its length.
     pub fn contains(&self, text: &str) -> bool
-        ensures exact { result ≡ set.contains self.now text.now }
+        ensures exact { result ≡ set.contains self.now.texts text.now }
         ensures short { length text.now ≤ 7 → result ≡ false }
     {
         let half = half_of_hash(hash_of(&self.hasher, text));
@@ -78,7 +80,7 @@ impl<S: BuildHasher> StringCache<S> {
     /// Takes out every text. Each `IString` keeps the text that it has. The room for the most texts that there were stays, and it
     /// takes time linear in that.
     pub fn clear(&mut self)
-        ensures { self.new ≡ set.empty }
+        ensures { self.new.texts ≡ set.empty }
     {
         self.texts.clear();
     }
@@ -88,7 +90,7 @@ impl<S: BuildHasher> StringCache<S> {
     pub(crate) fn share(&mut self, text: &str) -> Result<IString, AllocError>
         requires { 7 < length text.now }
         ensures text { IfOk result (λ shared. shared ≡ text.now) }
-        ensures added { OnOk result (self.new ≡ set.insert self.old text.now) }
+        ensures added { OnOk result (self.new.texts ≡ set.insert self.old.texts text.now) }
         ensures refused { OnErr result (self.new ≡ self.old) }
     {
         let half = half_of_hash(hash_of(&self.hasher, text));

@@ -1,14 +1,13 @@
--- What the keys of a cache are: long texts, each once, beside a half of its hash. This project's own.
+-- What the keys of a cache are: texts, each once, beside a half of its hash. This project's own.
 use Rattle.std.specs.Prelude.{◌≡◌, ℕ, List, length}
+use Rattle.std.specs.Ordering.{nat_cmp}
+use Rattle.std.specs.Cmp.Lexicographic.{slice_cmp}
 use Rattle.std.specs.FinSet as set
-use Rattle.ijson_string.specs.Cache.{Texts}
-use Rattle.ijson_string.specs.private.AllAreLong.{AllAreLong}
 use Rattle.ijson_string.specs.private.Keys.{Key, texts_of, AreHashed}
 
-abbrev pub set_of : List Key → Texts
+abbrev pub set_of : List Key → set.FinSet (slice_cmp nat_cmp)
 set_of keys = set.from_list (texts_of keys)
 
 pub record IsCache (hash : List ℕ → ℕ) (keys : List Key) : Type 0 where
-  pub long : AllAreLong (set_of keys)
   pub hashed : AreHashed hash keys
   pub each_once : set.len (set_of keys) ≡ length keys

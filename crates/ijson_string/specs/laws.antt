@@ -1,0 +1,2 @@
+pub mod Longer
+pub mod Texts
