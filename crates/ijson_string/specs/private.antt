@@ -5,3 +5,4 @@ pub mod IsText
 pub mod Keys
 pub mod Stored
 pub mod Kinds
+pub mod Table

@@ -22,7 +22,7 @@ pub struct StringCache<S: BuildHasher> {
     alloc: Global,
     texts: TextTable,
     hasher: S,
-    ghost long: { AreLong (set_of texts) } by { AreLong-prop (set_of texts) },
+    ghost long: { AreLong (set_of texts.keys) } by { AreLong-prop (set_of texts.keys) },
 }
 
 impl<S: BuildHasher> Model for StringCache<S> {
@@ -35,10 +35,10 @@ impl<S: BuildHasher> Model for StringCache<S> {
 
     ghost coded = { texts_code };
 
-    ghost view = { λ c. record { texts = set_of c.texts; long = c.long } };
+    ghost view = { λ c. record { texts = set_of c.texts.keys; long = c.long } };
 
     ghost invariant = { λ c. IsCache (λ text. S.Hasher.finish (fold S.Hasher.write (S.build_hasher c.hasher) (text ∷ [])))
-        c.texts };
+        c.texts.keys };
 }
 
 impl<S: BuildHasher> StringCache<S> {
@@ -95,8 +95,7 @@ impl<S: BuildHasher> StringCache<S> {
     {
         let half = half_of_hash(hash_of(&self.hasher, text));
         if let Some(position) = self.texts.find(half, text) {
-            self.texts.note(half, position);
-            return self.texts.text(position).clone();
+            return self.texts.shared(half, position);
         }
         let shared = IString::long(self.alloc, text)?;
         let text = shared.clone()?;

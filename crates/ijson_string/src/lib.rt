@@ -5,6 +5,8 @@ mod block;
 mod cache;
 mod hash;
 mod table;
+#[cfg(test)]
+mod tests;
 mod text;
 
 pub use cache::StringCache;

@@ -1,10 +1,11 @@
 //! `TextTable`: texts in the order in which they came, found by their hash.
-ghost use Rattle.std.specs.Prelude.{◌≡◌, ◌+◌, ◌*◌, ◌<◌, ◌≤◌, ◌^◌, [], ◌∷◌, ◌++◌, length, get_or, slice_set, IfSome, IfNone, OnOk, OnErr, is_some, false};
+ghost use Rattle.std.specs.Prelude.{◌≡◌, ℕ, ◌+◌, ◌*◌, ◌<◌, ◌≤◌, ◌^◌, [], ◌∷◌, ◌++◌, length, get_or, slice_set, take, Some, IfSome, IfNone, IfOk, OnOk, OnErr, is_some, true, false};
 ghost use Rattle.std.specs.List.{list_any};
 ghost use Rattle.ijson_string.specs.private.Chains.{half_of, home_of};
 ghost use Rattle.ijson_string.specs.private.Kinds.{AreMarked, covers, kind_of, marked};
 ghost use Rattle.ijson_string.specs.private.IsTable.{halves_of, kinds_of, lasts_of, AreChained, IsTable};
 ghost use Rattle.ijson_string.specs.private.Keys.{is_key, no_key, IsKeyAt};
+ghost use Rattle.ijson_string.specs.private.Table.{no_table, homes_for, notes_for, with_note, IsNoted};
 
 use crate::text::IString;
 use std::alloc::{AllocError, Global};
@@ -16,9 +17,6 @@ const MIXER: u64 = 0x9E37_79B9_7F4A_7C15;
 
 /// The fewest homes of a table that holds a text.
 const MIN_HOMES: usize = 16;
-
-/// The most homes: with so many, each half has a home of its own.
-const MAX_HOMES: usize = 1 << 32;
 
 /// How many texts there are for each home before there are more homes.
 const TEXTS_PER_HOME: usize = 4;
@@ -81,22 +79,27 @@ pub(crate) struct TextTable {
 }
 
 impl Model for TextTable {
-    ghost use Rattle.std.specs.Prelude.{List, length, ◌≡◌};
-    ghost use Rattle.ijson_string.specs.private.Keys.{keys_of, Key};
-
-    ghost Value = { List Key };
-
+    ghost use Rattle.std.specs.Prelude.{length, ◌≡◌};
+    ghost use Rattle.ijson_string.specs.private.Keys.{keys_of};
     ghost use Rattle.ijson_string.specs.private.IsTable.{halves_of, IsTable};
+    ghost use Rattle.ijson_string.specs.private.Table.{Table, notes_for};
 
-    ghost view = { λ t. keys_of (halves_of t.links.items) t.texts.items };
+    ghost Value = { Table };
 
-    ghost invariant = { λ t. IsTable t.links.items t.homes.items × (length t.texts.items ≡ length t.links.items) };
+    ghost view = { λ t. record {
+      keys = keys_of (halves_of t.links.items) t.texts.items;
+      homes = length t.homes.items;
+      notes = t.notes.items;
+    } };
+
+    ghost invariant = { λ t. IsTable t.links.items t.homes.items × (length t.texts.items ≡ length t.links.items)
+        × (length t.notes.items ≡ notes_for (length t.homes.items)) };
 }
 
 impl TextTable {
     /// No text. It takes no memory.
     pub(crate) fn new(alloc: Global) -> TextTable
-        ensures { result ≡ [] }
+        ensures { result ≡ no_table }
     {
         TextTable {
             texts: Vec::new(alloc),
@@ -108,7 +111,7 @@ impl TextTable {
 
     /// How many texts there are.
     pub(crate) fn len(&self) -> usize
-        ensures { result ≡ length self.now }
+        ensures { result ≡ length self.now.keys }
     {
         self.texts.len()
     }
@@ -116,8 +119,8 @@ impl TextTable {
     /// Where the text is that is there like this one, beside this half. Where it is not noted, one chain is gone along at most, which
     /// has at most four texts on the average.
     pub(crate) fn find(&self, half: u32, text: &str) -> Option<u32>
-        ensures found { IfSome result (λ at. IsKeyAt half text.now self.now at) }
-        ensures exact { is_some result ≡ list_any (is_key half text.now) self.now }
+        ensures found { IfSome result (λ at. IsKeyAt half text.now self.now.keys at) }
+        ensures exact { is_some result ≡ list_any (is_key half text.now) self.now.keys }
     {
         if let Some(position) = self.noted(half, text) {
             return Some(position);
@@ -125,9 +128,11 @@ impl TextTable {
         self.chained(half, text)
     }
 
-    /// The same, where it is noted. None says nothing: the chain is gone along then.
+    /// The same, where it is noted. None says nothing else: the chain is gone along then.
     fn noted(&self, half: u32, text: &str) -> Option<u32>
-        ensures { IfSome result (λ at. IsKeyAt half text.now self.now at) }
+        ensures found { IfSome result (λ at. IsKeyAt half text.now self.now.keys at) }
+        ensures noted { (at : ℕ) → IsNoted half at self.now.notes → IsKeyAt half text.now self.now.keys at
+            → result ≡ Some at }
     {
         let note = self.notes.get(half as usize % NOTES)?;
         let position = note.position as usize;
@@ -139,16 +144,16 @@ impl TextTable {
 
     /// Whether the text at a position is this one, beside this half. Its memory is read only where the half is the same.
     fn is_at(&self, position: usize, half: u32, text: &str) -> bool
-        requires { position < length self.now }
-        ensures { result ≡ is_key half text.now (get_or self.now position no_key) }
+        requires { position < length self.now.keys }
+        ensures { result ≡ is_key half text.now (get_or self.now.keys position no_key) }
     {
         self.links[position].half == half && self.texts[position].eq_str(text)
     }
 
     /// The same, by the chain of its home.
     fn chained(&self, half: u32, text: &str) -> Option<u32>
-        ensures found { IfSome result (λ at. IsKeyAt half text.now self.now at) }
-        ensures exact { is_some result ≡ list_any (is_key half text.now) self.now }
+        ensures found { IfSome result (λ at. IsKeyAt half text.now self.now.keys at) }
+        ensures exact { is_some result ≡ list_any (is_key half text.now) self.now.keys }
     {
         if self.homes.is_empty() {
             return None;
@@ -164,17 +169,20 @@ impl TextTable {
         None
     }
 
-    /// The text at a position.
-    pub(crate) fn text(&self, position: u32) -> &IString
-        requires { position < length self.now }
-        ensures { result.now ≡ (get_or self.now position no_key).text }
+    /// One more owner of the text at a position, which was found by this half: that is noted.
+    pub(crate) fn shared(&mut self, half: u32, position: u32) -> Result<IString, AllocError>
+        requires { position < length self.old.keys }
+        ensures text { IfOk result (λ text. text ≡ (get_or self.old.keys position no_key).text) }
+        ensures noted { self.new ≡ record self.old { notes = with_note half position self.old.notes } }
     {
-        &self.texts[position as usize]
+        let text: Result<IString, AllocError> = self.texts[position as usize].clone();
+        self.note(half, position);
+        text
     }
 
-    /// Notes where a text was found by its half. No contract tells a note, since no answer depends on one.
-    pub(crate) fn note(&mut self, half: u32, position: u32)
-        ensures { self.new ≡ self.old }
+    /// Notes where a text was found by its half, where there are notes.
+    fn note(&mut self, half: u32, position: u32)
+        ensures { self.new ≡ record self.old { notes = with_note half position self.old.notes } }
     {
         if let Some(note) = self.notes.get_mut(half as usize % NOTES) {
             *note = Note { half, position };
@@ -183,16 +191,18 @@ impl TextTable {
 
     /// Puts a text behind the others. Where memory is refused, or the table is full, they are as they were.
     pub(crate) fn push(&mut self, half: u32, text: IString) -> Result<(), AllocError>
-        ensures pushed { OnOk result (self.new ≡ self.old ++ record { half = half; text = text } ∷ []) }
+        ensures pushed { OnOk result (self.new.keys ≡ self.old.keys ++ record { half = half; text = text } ∷ []) }
+        ensures homes { OnOk result (self.new.homes ≡ homes_for (length self.old.keys) self.old.homes) }
+        ensures notes { take (length self.old.notes) self.new.notes ≡ self.old.notes }
         ensures refused { OnErr result (self.new ≡ self.old) }
     {
         // A link is one more than a position.
         let Ok(link) = u32::try_from(self.links.len() + 1) else {
             return Err(AllocError);
         };
-        make_room(&mut self.links, &mut self.homes, &mut self.notes)?;
         self.links.reserve(1)?;
         self.texts.reserve(1)?;
+        make_room(&mut self.links, &mut self.homes, &mut self.notes)?;
         let before = enter(&mut self.homes, half, link);
         self.links.push_reserved(Link { half, before });
         self.texts.push_reserved(text);
@@ -201,7 +211,7 @@ impl TextTable {
 
     /// Takes out every text, and keeps the room, in time linear in it.
     pub(crate) fn clear(&mut self)
-        ensures { self.new ≡ [] }
+        ensures { self.new ≡ record self.old { keys = [] } }
     {
         self.texts.clear();
         self.links.clear();
@@ -210,7 +220,7 @@ impl TextTable {
 }
 
 /// Makes twice as many homes, where there are four times as many texts as homes, and makes the notes where there are homes enough.
-/// Where memory is refused, there are the same texts, in the homes that they had.
+/// Where memory is refused, there are the same homes and notes.
 fn make_room(
     links: &mut [Link],
     homes: &mut Vec<Home>,
@@ -218,14 +228,20 @@ fn make_room(
 ) -> Result<(), AllocError>
     requires table { IsTable links.old homes.old.items }
     requires few { length links.old < 2 ^ 32 }
+    requires noted { length notes.old.items ≡ notes_for (length homes.old.items) }
     ensures table { IsTable links.new homes.new.items }
     ensures kept { halves_of links.new ≡ halves_of links.old }
     ensures room { OnOk result (length links.new < 4 * length homes.new.items) }
+    ensures homes { OnOk result (length homes.new.items ≡ homes_for (length links.old) (length homes.old.items)) }
+    ensures noted { length notes.new.items ≡ notes_for (length homes.new.items) }
+    ensures notes { take (length notes.old.items) notes.new.items ≡ notes.old.items }
+    ensures refused { OnErr result ((homes.new.items ≡ homes.old.items) × (notes.new.items ≡ notes.old.items)) }
 {
     if links.len() < TEXTS_PER_HOME * homes.len() {
         return Ok(());
     }
-    let count = (2 * homes.len()).clamp(MIN_HOMES, MAX_HOMES);
+    let count = (2 * homes.len()).max(MIN_HOMES);
+    homes.reserve(count - homes.len())?;
     if count >= NOTES {
         notes.resize(NOTES, NO_NOTE)?;
     }
@@ -278,6 +294,7 @@ fn last_like(homes: &[Home], half: u32) -> Option<u32>
     requires bounded { length homes.now ≤ 2 ^ 32 }
     ensures inside { home_of (length homes.now) half < length homes.now }
     ensures there { IfSome result (λ last. last ≡ get_or (lasts_of homes.now) (home_of (length homes.now) half) 0) }
+    ensures like { IfSome result (λ _. covers (kinds_of homes.now) half ≡ true) }
     ensures nowhere { IfNone result (covers (kinds_of homes.now) half ≡ false) }
 {
     let Home { last, kinds } = homes[home_of_half(half, homes.len())];

@@ -1,5 +1,5 @@
 -- A set of texts that are longer than a number of bytes.
-use Rattle.std.specs.Prelude.{◌≡◌, ◌<◌, ℕ, List, Bool, true, false, ◌||◌, length, ltb, if◌then◌else◌}
+use Rattle.std.specs.Prelude.{◌≡◌, ◌<◌, ℕ, List, true, false, ◌||◌, length, ltb, if◌then◌else◌}
 use Rattle.std.proofs.Common.{◌∙◌, sym, subst, refl, ltb-true}
 use Rattle.std.specs.Ordering.{nat_cmp, eq_by_cmp}
 use Rattle.std.specs.Cmp.{Equal-is}

@@ -1,5 +1,5 @@
 -- That the texts of a set are long is one fact; the code of what contracts see of a cache; and when two are one.
-use Rattle.std.specs.Prelude.{◌≡◌, ℕ, List, refl}
+use Rattle.std.specs.Prelude.{◌≡◌, refl}
 use Rattle.std.specs.Coded.{Coded, code_by, coded_list, coded_ℕ, le_prop, Π_prop, →_prop}
 use Rattle.std.specs.Ordering.{nat_cmp}
 use Rattle.std.specs.Cmp.Lexicographic.{slice_cmp}

@@ -1,0 +1,80 @@
+//! Texts of each length, one by one.
+use super::{empty_cache, interned};
+use crate::IString;
+use std::alloc::Global;
+use std::process::Abort;
+
+#[test]
+fn long_texts_alone_enter_the_cache(rt: HostRuntime) {
+    let mut cache = empty_cache(rt.alloc());
+    let short = interned(&rt, &mut cache, "seven77");
+    assert!(rt; cache.is_empty());
+    let long = interned(&rt, &mut cache, "eight888");
+    let again = interned(&rt, &mut cache, "eight888");
+    assert!(rt; cache.len() == 1);
+    assert!(rt; cache.contains("eight888"));
+    cache.clear();
+    assert!(rt; cache.is_empty());
+    assert!(rt; long == again);
+    assert!(rt; short == short.clone().expect(&rt, "a copy"));
+    let owned = long.to_owned_string(rt.alloc()).expect(&rt, "a text");
+    assert!(rt; owned.as_str() == "eight888");
+}
+
+/// Asserts that a text and its copy are these letters, and print them.
+fn is_text(rt: &impl Abort, alloc: Global, text: &IString, letters: &str) {
+    assert!(rt; text.len() == letters.len());
+    assert!(rt; text.clone().expect(rt, "a copy").eq_str(letters));
+    let printed = format!(in alloc; "{text}").expect(rt, "a text");
+    assert!(rt; printed.as_str() == letters);
+}
+
+/// A text of each form that is stored, at its least and its greatest length, and long ones.
+const LENGTHS: [usize; 14] = [
+    0, 7, 8, 23, 24, 39, 40, 55, 56, 71, 72, 200, 41_000, 1_000_000,
+];
+
+#[test]
+fn texts_of_each_length_are_shared_and_print(rt: HostRuntime) {
+    let text = "0123456789"
+        .repeat(rt.alloc(), 100_000)
+        .expect(&rt, "a text");
+    let mut cache = empty_cache(rt.alloc());
+    for length in LENGTHS {
+        let letters = text.as_str().get(..length).expect(&rt, "a beginning");
+        let text = interned(&rt, &mut cache, letters);
+        is_text(&rt, rt.alloc(), &text, letters);
+    }
+    assert!(rt; cache.len() == 12);
+}
+
+/// Texts, and what `Debug` prints of each.
+const DEBUGGED: [(&str, &str); 4] = [
+    ("", r#""""#),
+    ("interned_string_b", r#""interned_string_b""#),
+    ("a \"quote\" and \\", r#""a \"quote\" and \\""#),
+    (
+        "two\nlines, \u{e9} and \u{1}",
+        "\"two\\nlines, \u{e9} and \\u{1}\"",
+    ),
+];
+
+#[test]
+fn texts_compare_by_bytes_and_print(rt: HostRuntime) {
+    let mut cache = empty_cache(rt.alloc());
+    let a = interned(&rt, &mut cache, "interned_string_a");
+    let b = interned(&rt, &mut cache, "interned_string_b");
+    let z = interned(&rt, &mut cache, "z");
+    let e_acute = interned(&rt, &mut cache, "é");
+    assert!(rt; a < b);
+    assert!(rt; z < e_acute);
+    assert!(rt; e_acute.as_bytes() == [0xc3, 0xa9].as_slice());
+    for (letters, want) in DEBUGGED {
+        let text = interned(&rt, &mut cache, letters);
+        let printed = format!(in rt.alloc(); "{text:?}").expect(&rt, "a text");
+        assert!(rt; printed.as_str() == want, "{want}");
+    }
+    let empty: IString = IString::default();
+    assert!(rt; empty.is_empty());
+    assert!(rt; IString::new().len() == 0);
+}

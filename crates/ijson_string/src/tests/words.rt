@@ -1,0 +1,68 @@
+//! The words that texts feed a hasher.
+use super::{empty_cache, interned};
+use std::alloc::Global;
+use std::cell::{Cell, RefCell};
+use std::hash::{Hash, Hasher};
+use std::process::Abort;
+
+/// It notes the words of `write_u64`, and whether it was fed anything else or had no memory for a word. What a cell holds is no part of a value,
+/// so for a contract it stays as it was.
+#[derive(Drop)]
+struct Recorder<'a> {
+    words: &'a RefCell<Vec<u64>>,
+    others: &'a Cell<bool>,
+}
+
+impl Hasher for Recorder<'_> {
+    ghost write = { λ s _. s };
+
+    ghost finish = { λ _. 0 };
+
+    fn finish(&self) -> u64 {
+        0
+    }
+
+    fn write(&mut self, _bytes: &[u8]) {
+        self.others.set(true);
+    }
+
+    fn write_u64(&mut self, word: u64) {
+        match self.words.try_borrow_mut() {
+            Ok(mut words) => self
+                .others
+                .set(self.others.get() || words.push(word).is_err()),
+            Err(_) => self.others.set(true),
+        }
+    }
+}
+
+/// Asserts that `value` feeds these words, each by `write_u64`, and nothing else.
+fn feeds<T: Hash>(rt: &impl Abort, alloc: Global, value: &T, want: &[u64]) {
+    let words = RefCell::new(Vec::new(alloc));
+    let others = Cell::new(false);
+    let mut recorder = Recorder {
+        words: &words,
+        others: &others,
+    };
+    value.hash(&mut recorder);
+    assert!(rt; !others.get());
+    let seen = words.try_borrow().expect(rt, "the words");
+    assert!(rt; seen.as_slice() == want);
+}
+
+/// Texts, and the words that each feeds a hasher.
+const WORDS: [(&str, &[u64]); 4] = [
+    ("", &[3, 0]),
+    ("hi", &[3, 2, 104, 105]),
+    ("é", &[3, 2, 195, 169]),
+    ("eight888", &[3, 8, 101, 105, 103, 104, 116, 56, 56, 56]),
+];
+
+#[test]
+fn a_text_feeds_its_words(rt: HostRuntime) {
+    let mut cache = empty_cache(rt.alloc());
+    for (letters, want) in WORDS {
+        let text = interned(&rt, &mut cache, letters);
+        feeds(&rt, rt.alloc(), &text, want);
+    }
+}
