@@ -1,8 +1,6 @@
-//! The words that numbers and strings feed a hasher.
-use super::empty_cache;
+//! The words that numbers feed a hasher.
 use super::recorder::feeds;
 use ijson_number::INumber;
-use ijson_string::IString;
 
 const WORDS_OF_I64: [u64; 21] = [
     2, 1, 2147483648, 17, 3, 6, 0, 2, 8, 7, 9, 7, 0, 1, 8, 9, 6, 3, 9, 6, 8,
@@ -32,20 +30,5 @@ fn a_number_feeds_its_words(rt: HostRuntime) {
     for (text, want) in NUMBERS {
         let number = INumber::from_str(rt.alloc(), text).expect(&rt, text);
         feeds(&rt, rt.alloc(), &number, want);
-    }
-}
-
-/// Strings, and the words that each feeds a hasher.
-const STRINGS: [(&str, &[u64]); 2] = [
-    ("hi", &[3, 2, 104, 105]),
-    ("eight888", &[3, 8, 101, 105, 103, 104, 116, 56, 56, 56]),
-];
-
-#[test]
-fn a_text_feeds_its_words(rt: HostRuntime) {
-    let mut cache = empty_cache(rt.alloc());
-    for (text, want) in STRINGS {
-        let text = IString::intern(&mut cache, text).expect(&rt, text);
-        feeds(&rt, rt.alloc(), &text, want);
     }
 }

@@ -1,5 +1,5 @@
-//! Which requests for memory texts and their cache make. Of these tests two and two make the same number of requests, which `refuse/same-requests`
-//! compares.
+//! Which requests for memory texts and their cache make. Of these tests two and two make the same number of requests, which
+//! `refuse/same-requests` compares.
 use super::{Cache, empty_cache, interned};
 use std::alloc::Global;
 use std::process::Abort;
