@@ -111,16 +111,14 @@ impl PlaceList {
         shift_remove(&mut self.places, position, hash, last);
     }
 
-    /// So many places with the same positions. None takes no memory.
-    pub fn rehashed(&self, alloc: Global, count: usize) -> Result<PlaceList, AllocError>
-        requires room { length self.now.hashes ≤ count }
-        ensures hashes { IfOk result (λ list. list.hashes ≡ self.now.hashes) }
-        ensures count { IfOk result (λ list. length list.slots ≡ count) }
-        ensures refused { OnErr result (0 < count) }
+    /// Puts the positions of other places into these, which are empty and have room for each.
+    pub fn rehash_from(&mut self, other: &PlaceList)
+        requires empty { self.old.hashes ≡ [] }
+        requires room { length other.now.hashes ≤ length self.old.slots }
+        ensures hashes { self.new.hashes ≡ other.now.hashes }
+        ensures count { length self.new.slots ≡ length self.old.slots }
     {
-        let mut places = empty_places(alloc, count)?;
-        rehash(&self.places, &mut places);
-        Ok(PlaceList { places })
+        rehash(&other.places, &mut self.places);
     }
 
     /// Makes each place empty.
