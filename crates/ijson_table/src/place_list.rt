@@ -1,6 +1,6 @@
 //! The places of a table: a list of its own, which knows of the keys no more than their hashes.
 
-ghost use Rattle.std.specs.Prelude.{◌≡◌, ◌+◌, ◌<◌, ◌≤◌, [], ◌∷◌, ◌++◌, length, get_or, None, IfOk, OnErr};
+ghost use Rattle.std.specs.Prelude.{◌≡◌, ◌+◌, ◌<◌, ◌≤◌, [], ◌∷◌, ◌++◌, length, get_or, vec_capacity, None, IfOk, OnErr};
 ghost use Rattle.std.specs.List.{All, remove, swap_remove as swapped_out};
 ghost use Rattle.ijson_table.specs.Places.{resident, IsTable};
 ghost use Rattle.ijson_table.specs.private.Holds.{MayStand};
@@ -130,10 +130,11 @@ impl PlaceList {
     }
 }
 
-/// So many empty places.
+/// So many empty places, in a list that has room for no more.
 fn empty_places(alloc: Global, count: usize) -> Result<Vec<Place>, AllocError>
     ensures empty { IfOk result (λ places. All (λ place. position_in place ≡ None) places.items) }
     ensures count { IfOk result (λ places. length places.items ≡ count) }
+    ensures room { IfOk result (λ places. vec_capacity places ≡ count) }
     ensures refused { OnErr result (0 < count) }
 {
     let mut places = list_with_room(alloc, count)?;
