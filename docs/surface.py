@@ -107,12 +107,13 @@ def types_in(crate, path, public):
 
 
 def sources():
-    """(crate, file, names that the crate gives out) of each source file of a library below the top crate."""
+    """(crate, file, names that the crate gives out) of each source file of a library below the top crate, but its tests."""
     for crate in sorted(TOP.glob("crates/ijson_*")):
         if (crate / "src/lib.rt").exists():
             public = exports(crate / "src/lib.rt")
             for path in sorted(crate.glob("src/**/*.rt")):
-                yield crate.name, path, public
+                if not path.relative_to(crate / "src").parts[0].startswith("tests"):
+                    yield crate.name, path, public
 
 
 def public_calls():

@@ -1,7 +1,8 @@
 /* Counts the requests for memory of one run, and refuses one of them.
  *
  * Loaded before the C library (LD_PRELOAD), it answers null to the request whose number, from 1, stands in REFUSE_AT (none where it is
- * absent or 0). At the end of the run it writes the count of requests to the file that REFUSE_COUNT names. */
+ * absent or 0). At the end of the run it writes the count of requests to the file that REFUSE_COUNT names, and how many granted blocks
+ * were not given back to the file that REFUSE_HELD names. */
 #define _GNU_SOURCE
 #include <dlfcn.h>
 #include <errno.h>
@@ -10,16 +11,20 @@
 #include <stdlib.h>
 
 static atomic_ulong requests;
+static atomic_long held;
 static unsigned long refuse_at;
 static void *(*next_malloc)(size_t);
 static void *(*next_realloc)(void *, size_t);
+static void (*next_free)(void *);
 
 __attribute__((constructor)) static void begin(void) {
     next_malloc = (void *(*)(size_t))dlsym(RTLD_NEXT, "malloc");
     next_realloc = (void *(*)(void *, size_t))dlsym(RTLD_NEXT, "realloc");
+    next_free = (void (*)(void *))dlsym(RTLD_NEXT, "free");
     const char *at = getenv("REFUSE_AT");
     refuse_at = at ? strtoul(at, NULL, 10) : 0;
     atomic_store(&requests, 0);
+    atomic_store(&held, 0);
 }
 
 static int refused(void) {
@@ -30,20 +35,37 @@ static int refused(void) {
 
 void *malloc(size_t size) {
     if (!next_malloc) next_malloc = (void *(*)(size_t))dlsym(RTLD_NEXT, "malloc");
-    return refused() ? NULL : next_malloc(size);
+    void *granted = refused() ? NULL : next_malloc(size);
+    if (granted) atomic_fetch_add(&held, 1);
+    return granted;
 }
 
 void *realloc(void *block, size_t size) {
     if (!next_realloc) next_realloc = (void *(*)(void *, size_t))dlsym(RTLD_NEXT, "realloc");
-    return refused() ? NULL : next_realloc(block, size);
+    void *granted = refused() ? NULL : next_realloc(block, size);
+    if (granted && !block) atomic_fetch_add(&held, 1);
+    return granted;
+}
+
+void free(void *block) {
+    if (!next_free) next_free = (void (*)(void *))dlsym(RTLD_NEXT, "free");
+    if (block) atomic_fetch_sub(&held, 1);
+    next_free(block);
+}
+
+/* Writes a count to the file that a variable names. */
+static void write_count(const char *variable, long count) {
+    const char *name = getenv(variable);
+    FILE *file = name ? fopen(name, "w") : NULL;
+    if (!file) return;
+    fprintf(file, "%ld\n", count);
+    fclose(file);
 }
 
 __attribute__((destructor)) static void end(void) {
-    unsigned long count = atomic_load(&requests);
+    long count = atomic_load(&requests);
+    long left = atomic_load(&held);
     refuse_at = 0;
-    const char *name = getenv("REFUSE_COUNT");
-    FILE *file = name ? fopen(name, "w") : NULL;
-    if (!file) return;
-    fprintf(file, "%lu\n", count);
-    fclose(file);
+    write_count("REFUSE_COUNT", count);
+    write_count("REFUSE_HELD", left);
 }

@@ -1,6 +1,6 @@
-//! What no clause says of the crates that the program stands on: tables and walks over values; the words that values feed a hasher; what
-//! is written of texts, where their faults are told, and devices that give and take little, and fail. Numbers are tested in
-//! `ijson_number`, texts and their cache in `ijson_string`, objects and refused memory in `ijson_extra`, arrays and values in `ijson`, and
+//! What no clause says of the crates that the program stands on: walks over values; the words that values feed a hasher; what is written
+//! of texts, where their faults are told, and devices that give and take little, and fail. Numbers are tested in `ijson_number`, texts and
+//! their cache in `ijson_string`, tables in `ijson_table`, objects and refused memory in `ijson_extra`, arrays and values in `ijson`, and
 //! what stands above these crates in both.
 
 mod cache;
@@ -10,7 +10,6 @@ mod faults;
 mod hashes;
 mod recorder;
 mod seeds;
-mod tables;
 mod texts;
 mod walks;
 

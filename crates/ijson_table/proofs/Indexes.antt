@@ -1,17 +1,19 @@
 -- The invariant of a list of places.
-use Rattle.std.proofs.Common.{◌≡◌, ℕ, ◌+◌, ◌<◌, ◌≤◌, ◌^◌, arith, List, [], ◌∷◌, ◌++◌, length, take, drop, get_or, None, refl, sym, ap, subst, ◌∙◌, length-append}
+use Rattle.std.proofs.Common.{◌≡◌, ℕ, ◌+◌, ◌<◌, ◌≤◌, ◌^◌, arith, List, [], ◌∷◌, ◌++◌, length, take, drop, get_or, Option, Some, None, refl, sym, ap, subst, ◌∙◌, length-append}
 use Rattle.std.specs.List.{All}
 use Rattle.std.proofs.lemmas.Bool.Decides.{nat_tests}
+use Rattle.std.proofs.lemmas.List.Elements.{All-from_get_or}
 use Rattle.ijson_table.specs.declared.place.Place.{Place}
 use Rattle.ijson_table.specs.Places.{times, below, IsTable}
 use Rattle.ijson_table.specs.private.Holds.{with_one, HasEmpty, Holds}
 use Rattle.ijson_table.specs.private.Insertion.{Accepts, IsTableOf}
-use Rattle.ijson_table.specs.private.PlaceHashes.{position_in, positions, hashes_of, HaveHashes}
+use Rattle.ijson_table.specs.private.PlaceHashes.{position_in, positions, blank, hashes_of, HaveHashes}
 use Rattle.ijson_table.specs.private.PlaceList.{IsIndex}
 use Rattle.ijson_table.proofs.Keys.{get_or-front, get_or-end}
-use Rattle.ijson_table.proofs.PlaceFacts.{positions-length, all_empty, hashes-none, hashes-as}
+use Rattle.ijson_table.proofs.PlaceFacts.{positions-length, position-at, all_empty, hashes-none, hashes-as}
 use Rattle.ijson_table.proofs.Placing.{some_empty}
 use Rattle.ijson_table.proofs.Removing.{holds_none, holds_pushed, table-holds}
+use Rattle.ijson_table.proofs.Residents.{times-some}
 use Rattle.ijson_table.proofs.StoredHashes.{hashes_of-table, index_of}
 use Rattle.ijson_table.proofs.Walk.{in_list}
 
@@ -45,6 +47,18 @@ pub empty_index : (places : List Place) → All (λ place. position_in place ≡
 empty_index places empty =
     let held : Holds [] (below 0) None (positions places) = holds_none [] (positions places) (all_empty places empty) in
     index_is [] places (table-holds [] 0 (positions places) refl held) (hashes-none [] places empty) (omega arith)
+
+-- where no position has a hash, nothing stands at any place
+nothing_there : (places : List Place) → IsIndex places → hashes_of places ≡ [] → (p : ℕ) → p < length places → (read : Option ℕ) → read ≡ position_in (get_or places p blank) → position_in (get_or places p blank) ≡ None
+nothing_there places index none p lp None e = sym e
+nothing_there places index none p lp (Some i) e =
+    let one = times-some i (positions places) p (omega (arith, lp, positions-length places)) (position-at places p (Some i) lp e) in
+    let never : times i (positions places) ≡ below 0 i = index.table.table.placed i ∙ ap (λ hs. below (length hs) i) none in
+    absurd (grind (arith, nat_tests, one, never))
+
+pub each_empty : (places : List Place) → IsIndex places → hashes_of places ≡ [] → All (λ place. position_in place ≡ None) places
+each_empty places index none = All-from_get_or (λ place. position_in place ≡ None) places blank
+    (λ p lp. nothing_there places index none p lp (position_in (get_or places p blank)) refl)
 
 module _ (places : List Place) (index : IsIndex places) (position hash : ℕ) (next : position ≡ length (hashes_of places)) (room : position < length places) where
   abbrev hashes : List ℕ

@@ -75,6 +75,7 @@ module _ (hash : List ℕ → ℕ) (keys : List (List ℕ)) (places : List (Opti
     some_empty = λ p lp none. omega (arith, is, within_crowd hash keys places t c size key m p (omega arith) lp (displacement-none hashes places p none) passed);
     none_empty = λ full. omega (arith, is, filled hashes places t full, length-map keys hash);
     always = omega (arith, is, within_list hashes places t (home_of hash (length places) key) m (mod-lt (hash key) (omega arith)) (omega arith) passed, length-map keys hash);
+    some_look = λ some. omega (arith, is);
   }
 
   -- it passed all places
@@ -85,11 +86,13 @@ module _ (hash : List ℕ → ℕ) (keys : List (List ℕ)) (places : List (Opti
       some_empty = λ p lp none. omega (arith, is, within_crowd hash keys places t c size key (length places) p (omega arith) lp (displacement-none hashes places p none) passed);
       none_empty = λ full. omega (arith, is, filled hashes places t full, length-map keys hash);
       always = omega (arith, is, within_list hashes places t (home_of hash (length places) key) (length places) (mod-lt (hash key) some) (omega arith) passed, length-map keys hash);
+      some_look = λ some. omega (arith, is);
     }
     | inr empty ↦ record {
       some_empty = λ p lp none. omega arith;
       none_empty = λ full. omega arith;
       always = omega arith;
+      some_look = λ some. omega arith;
     }
   ]
 

@@ -57,3 +57,5 @@ pub record IsBounded (hash : List ℕ → ℕ) (keys : List (List ℕ)) (places 
   pub none_empty : ((p : ℕ) → p < length places → resident places p ≢ None) → looks ≤ length keys
   -- so always
   pub always : looks ≤ length keys + 1
+  -- and at least one, where there is a place
+  pub some_look : 0 < length places → 0 < looks

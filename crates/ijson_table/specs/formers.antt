@@ -1,3 +1,2 @@
 pub mod linear
 pub mod table
-pub mod fixed

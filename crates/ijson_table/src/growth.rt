@@ -5,6 +5,7 @@ ghost use Rattle.ijson_table.specs.Growth.{wanted, capacity_limit};
 
 use crate::store::ReserveError;
 use std::alloc::{AllocError, Global};
+use std::mem;
 
 /// The greatest capacity.
 const CAPACITY_LIMIT: usize = 1 << 56;
@@ -39,10 +40,10 @@ pub fn limited(capacity: usize) -> Result<usize, ReserveError>
     Ok(capacity)
 }
 
-/// An empty list with room for so many items. Room for none takes no memory.
+/// An empty list with room for so many items and no more. Room for none takes no memory.
 pub fn list_with_room<T>(alloc: Global, room: usize) -> Result<Vec<T>, AllocError>
     ensures empty { IfOk result (λ list. list.items ≡ []) }
-    ensures room { IfOk result (λ list. room ≤ vec_capacity list) }
+    ensures room { IfOk result (λ list. vec_capacity list ≡ room) }
     ensures refused { OnErr result (0 < room) }
 {
     if room == 0 {
@@ -54,15 +55,28 @@ pub fn list_with_room<T>(alloc: Global, room: usize) -> Result<Vec<T>, AllocErro
 /// Moves the items to a list that has room for them alone. Where that is refused, nothing changes.
 pub fn fit<T: Drop>(alloc: Global, list: &mut Vec<T>) -> Result<(), AllocError>
     ensures items { list.new.items ≡ list.old.items }
-    ensures room { length list.old.items ≤ vec_capacity list.new }
+    ensures room { OnOk result (vec_capacity list.new ≡ length list.old.items) }
     ensures refused { OnErr result
         ((0 < length list.old.items) × (vec_capacity list.new ≡ vec_capacity list.old)) }
 {
-    let mut fitted = list_with_room(alloc, list.len())?;
-    let moved = fitted.append(list);
-    moved.unwrap();
-    *list = fitted;
+    let fitted = list_with_room(alloc, list.len())?;
+    for item in mem::replace(list, fitted) {
+        list.push_reserved(item);
+    }
     Ok(())
+}
+
+/// Gives back the room beyond the items: in place where the allocator does that, else by a move, which may be refused.
+pub fn tighten<T: Drop>(alloc: Global, list: &mut Vec<T>) -> Result<(), AllocError>
+    ensures items { list.new.items ≡ list.old.items }
+    ensures room { OnOk result (vec_capacity list.new ≡ length list.old.items) }
+    ensures refused { OnErr result (0 < length list.old.items) }
+{
+    list.shrink_to_fit();
+    if list.capacity() == list.len() {
+        return Ok(());
+    }
+    fit(alloc, list)
 }
 
 /// Takes off what stands from a position on. Nothing takes no memory. The room of the list stays. Where memory is refused, nothing

@@ -15,6 +15,8 @@ mod probe;
 mod shifts;
 mod store;
 mod table;
+#[cfg(test)]
+mod tests;
 
 pub use commands::{Command, Reply, run};
 pub use fixed::FixedTable;

@@ -22,7 +22,7 @@ pub struct LinearPairs<V> {
 }
 
 impl<V> Model for LinearPairs<V> {
-    ghost use Rattle.std.specs.Prelude.{◌≤◌, vec_capacity, length};
+    ghost use Rattle.std.specs.Prelude.{◌≡◌, vec_capacity, length};
     ghost use Rattle.ijson_table.specs.Store.{Store};
     ghost use Rattle.ijson_table.specs.laws.Store.{store_code};
     ghost use Rattle.ijson_table.specs.private.Room.{HasRoom};
@@ -33,7 +33,7 @@ impl<V> Model for LinearPairs<V> {
 
     ghost view = { λ s. record { pairs = s.pairs.items; capacity = s.capacity; distinct = s.distinct } };
 
-    ghost invariant = { λ s. HasRoom (length s.pairs.items) s.capacity × (s.capacity ≤ vec_capacity s.pairs) };
+    ghost invariant = { λ s. HasRoom (length s.pairs.items) s.capacity × (s.capacity ≡ vec_capacity s.pairs) };
 }
 
 /// The position of a key.

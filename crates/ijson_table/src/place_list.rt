@@ -1,6 +1,6 @@
 //! The places of a table: a list of its own, which knows of the keys no more than their hashes.
 
-ghost use Rattle.std.specs.Prelude.{◌≡◌, ◌+◌, ◌<◌, ◌≤◌, [], ◌∷◌, ◌++◌, length, get_or, None, IfOk, OnErr};
+ghost use Rattle.std.specs.Prelude.{◌≡◌, ◌+◌, ◌<◌, ◌≤◌, [], ◌∷◌, ◌++◌, length, get_or, vec_capacity, None, IfOk, OnErr};
 ghost use Rattle.std.specs.List.{All, remove, swap_remove as swapped_out};
 ghost use Rattle.ijson_table.specs.Places.{resident, IsTable};
 ghost use Rattle.ijson_table.specs.private.Holds.{MayStand};
@@ -111,16 +111,14 @@ impl PlaceList {
         shift_remove(&mut self.places, position, hash, last);
     }
 
-    /// So many places with the same positions. None takes no memory.
-    pub fn rehashed(&self, alloc: Global, count: usize) -> Result<PlaceList, AllocError>
-        requires room { length self.now.hashes ≤ count }
-        ensures hashes { IfOk result (λ list. list.hashes ≡ self.now.hashes) }
-        ensures count { IfOk result (λ list. length list.slots ≡ count) }
-        ensures refused { OnErr result (0 < count) }
+    /// Puts the positions of other places into these, which are empty and have room for each.
+    pub fn rehash_from(&mut self, other: &PlaceList)
+        requires empty { self.old.hashes ≡ [] }
+        requires room { length other.now.hashes ≤ length self.old.slots }
+        ensures hashes { self.new.hashes ≡ other.now.hashes }
+        ensures count { length self.new.slots ≡ length self.old.slots }
     {
-        let mut places = empty_places(alloc, count)?;
-        rehash(&self.places, &mut places);
-        Ok(PlaceList { places })
+        rehash(&other.places, &mut self.places);
     }
 
     /// Makes each place empty.
@@ -132,10 +130,11 @@ impl PlaceList {
     }
 }
 
-/// So many empty places.
+/// So many empty places, in a list that has room for no more.
 fn empty_places(alloc: Global, count: usize) -> Result<Vec<Place>, AllocError>
     ensures empty { IfOk result (λ places. All (λ place. position_in place ≡ None) places.items) }
     ensures count { IfOk result (λ places. length places.items ≡ count) }
+    ensures room { IfOk result (λ places. vec_capacity places ≡ count) }
     ensures refused { OnErr result (0 < count) }
 {
     let mut places = list_with_room(alloc, count)?;

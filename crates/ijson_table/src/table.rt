@@ -13,7 +13,7 @@ ghost use Rattle.std.specs.Option.{option_copied};
 
 mod from_list;
 
-use crate::growth::{fit, grown_capacity, limited, list_with_room};
+use crate::growth::{fit, grown_capacity, limited, list_with_room, tighten};
 use crate::hash::KeyHash;
 use crate::lookup::{Lookup, has_key};
 use crate::modulus::Modulus;
@@ -40,7 +40,7 @@ pub struct Table<V, H: KeyHash> {
 }
 
 impl<V, H: KeyHash> Model for Table<V, H> {
-    ghost use Rattle.std.specs.Prelude.{◌≤◌, vec_capacity};
+    ghost use Rattle.std.specs.Prelude.{◌≡◌, vec_capacity};
     ghost use Rattle.ijson_table.specs.Placed.{Placed};
     ghost use Rattle.ijson_table.specs.laws.Placed.{placed_code};
     ghost use Rattle.ijson_table.specs.private.IsPlaced.{IsPlaced};
@@ -55,7 +55,7 @@ impl<V, H: KeyHash> Model for Table<V, H> {
     } };
 
     ghost invariant = { λ t. IsPlaced H.hash_of t.pairs.items t.capacity t.places
-        × (t.capacity ≤ vec_capacity t.pairs) };
+        × (t.capacity ≡ vec_capacity t.pairs) };
 }
 
 impl<V: Drop, H: KeyHash> Table<V, H> {
@@ -84,7 +84,7 @@ impl<V: Drop, H: KeyHash> Table<V, H> {
     pub fn with_same_keys(
         &self,
         alloc: Global,
-        pairs: Vec<(IString, V)>,
+        mut pairs: Vec<(IString, V)>,
     ) -> Result<Table<V, H>, AllocError>
         requires { keys_of pairs.items ≡ keys_of self.now.store.pairs }
         ensures pairs { IfOk result (λ table. table.store.pairs ≡ pairs.items) }
@@ -92,7 +92,9 @@ impl<V: Drop, H: KeyHash> Table<V, H> {
         ensures refused { OnErr result (0 < length pairs.items) }
     {
         let capacity = pairs.len();
-        let places = self.places.rehashed(alloc, capacity + capacity / 4)?;
+        let mut places = PlaceList::with_places(alloc, capacity + capacity / 4)?;
+        tighten(alloc, &mut pairs)?;
+        places.rehash_from(&self.places);
         Ok(Table {
             pairs,
             places,
@@ -187,6 +189,13 @@ impl<V, H: KeyHash> Table<V, H> {
             Some(at) => Some(&self.pairs[at].1),
             None => None,
         }
+    }
+
+    /// The position of a key, by the same probe as `get`. None where the key is not there.
+    pub fn index_of(&self, key: &str) -> Option<usize>
+        ensures { result ≡ at self.now.store.pairs key.now }
+    {
+        self.find(H::hash(key), key, &mut Looks::new()).found()
     }
 
     /// Probes for a key of this hash.
@@ -294,8 +303,9 @@ impl<V: Drop, H: KeyHash> PairStore<V> for Table<V, H> {
             return Ok(());
         }
         let capacity = grown_capacity(len, self.capacity, additional)?;
-        let places = self.places.rehashed(self.alloc, capacity + capacity / 4)?;
+        let mut places = PlaceList::with_places(self.alloc, capacity + capacity / 4)?;
         self.pairs.reserve_exact(capacity - len)?;
+        places.rehash_from(&self.places);
         self.places = places;
         self.capacity = capacity;
         Ok(())
@@ -306,8 +316,9 @@ impl<V: Drop, H: KeyHash> PairStore<V> for Table<V, H> {
         if self.capacity == len {
             return Ok(());
         }
-        let places = self.places.rehashed(self.alloc, len + len / 4)?;
+        let mut places = PlaceList::with_places(self.alloc, len + len / 4)?;
         fit(self.alloc, &mut self.pairs)?;
+        places.rehash_from(&self.places);
         self.places = places;
         self.capacity = len;
         Ok(())

@@ -6,7 +6,7 @@ ghost use Rattle.ijson_table.specs.Store.{put_each};
 ghost use Rattle.ijson_table.specs.private.FirstPlaced.{ComesAgain, FirstPlaced};
 
 use super::Table;
-use crate::growth::{limited, split_rest};
+use crate::growth::{limited, split_rest, tighten};
 use crate::hash::KeyHash;
 use crate::lookup::Lookup;
 use crate::modulus::Modulus;
@@ -34,7 +34,7 @@ impl<V: Drop, H: KeyHash> Table<V, H> {
         ensures none { length pairs.items ≡ 0 → IsOk result }
     {
         let capacity = limited(pairs.len())?;
-        pairs.shrink_to_fit();
+        tighten(alloc, &mut pairs)?;
         let mut places = PlaceList::with_places(alloc, capacity + capacity / 4)?;
         let placed = place_new_keys::<V, H>(&pairs, &mut places);
         let rest = split_rest(alloc, &mut pairs, placed)?;

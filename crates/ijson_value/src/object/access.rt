@@ -31,7 +31,7 @@ impl IObject {
     {
         match &self.table {
             None => None,
-            Some(table) => table.position(key),
+            Some(table) => table.index_of(key),
         }
     }
 

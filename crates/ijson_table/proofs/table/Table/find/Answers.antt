@@ -29,7 +29,12 @@ returns-then-len-eq0-clause-ends g c =
     (omega (arith, c.if-len-eq0.true, c.len.ensures.count)))
 
 pub returns-then-len-eq0-clause-bounded : goal.returns-then-len-eq0-clause-bounded
-returns-then-len-eq0-clause-bounded g c = record { some_empty = λ p lp none. omega arith; none_empty = λ full. omega arith; always = omega arith }
+returns-then-len-eq0-clause-bounded g c = record {
+  some_empty = λ p lp none. omega arith;
+  none_empty = λ full. omega arith;
+  always = omega arith;
+  some_look = λ some. omega (arith, some, c.if-len-eq0.true, c.len.ensures.count, ap (λ (t : Placed g.row.V.Denot). length t.places) c.self.view_is);
+}
 
 pub returns-clause-table : goal.returns-clause-table
 returns-clause-table g c =

@@ -7,7 +7,7 @@ pub returns-clause-pairs : goal.returns-clause-pairs
 returns-clause-pairs g c =
     let pairs = c.args.pairs.items in
     let n = c.place_new_keys-placed.result in
-    let same : c.deref.result.now ≡ pairs = c.deref.ensures.value ∙ c.shrink_to_fit.ensures.items in
-    let kept : c.split_rest.new.list.items ≡ take n pairs = c.in_ok-rest.ensures.kept ∙ ap (take n) c.shrink_to_fit.ensures.items in
-    let rest : c.in_ok-rest.rest.items ≡ drop n pairs = c.in_ok-rest.ensures.rest ∙ ap (drop n) c.shrink_to_fit.ensures.items in
+    let same : c.deref.result.now ≡ pairs = c.deref.ensures.value ∙ c.tighten.ensures.items in
+    let kept : c.split_rest.new.list.items ≡ take n pairs = c.in_ok-rest.ensures.kept ∙ ap (take n) c.tighten.ensures.items in
+    let rest : c.in_ok-rest.rest.items ≡ drop n pairs = c.in_ok-rest.ensures.rest ∙ ap (drop n) c.tighten.ensures.items in
     c.insert_each.ensures.pairs ∙ (ap₂ put_each kept rest ∙ put_each-split pairs n (subst (λ ps. IsDistinct (keys_of (take n ps))) same c.place_new_keys-placed.ensures.placed.distinct))

@@ -9,5 +9,5 @@ invariant_of-result-2 g c = (
     hashes = c.in_ok-places.ensures.hashes ∙ sym (ap (λ ps. map g.H.KeyHash.hash_of (keys_of ps)) c.in_ok-pairs.ensures.empty);
     size = c.in_ok-places.ensures.count;
   },
-  c.in_ok-pairs.ensures.room,
+  sym c.in_ok-pairs.ensures.room,
 )

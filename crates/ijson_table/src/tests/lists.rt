@@ -1,9 +1,8 @@
 //! Long lists of commands, which each store answers alike.
 
-use super::super::key;
-use super::{AlwaysZero, ByLength, reply};
+use super::{AlwaysZero, ByLength, key, reply};
+use crate::{Command, FixedTable, LinearPairs, PairStore, Reply, Table, run};
 use ijson_string::IString;
-use ijson_table::{Command, FixedHash, FixedTable, LinearPairs, PairStore, Reply, Table, run};
 use std::alloc::Global;
 use std::process::Abort;
 
@@ -157,7 +156,6 @@ fn stores_agree(rt: HostRuntime) {
     for seed in 0..40 {
         assert!(rt; agrees(&rt, alloc, seed, &mut Table::<u64, AlwaysZero>::new(alloc)));
         assert!(rt; agrees(&rt, alloc, seed, &mut Table::<u64, ByLength>::new(alloc)));
-        assert!(rt; agrees(&rt, alloc, seed, &mut Table::<u64, FixedHash>::new(alloc)));
         assert!(rt; agrees(&rt, alloc, seed, &mut FixedTable::new(alloc)));
         assert!(rt; insert_and_get_agree(&rt, alloc, seed));
     }

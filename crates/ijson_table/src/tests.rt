@@ -2,16 +2,24 @@
 
 mod lists;
 mod refusals;
+mod shown;
+mod sizes;
 
-use super::key;
-use ijson_number::Looks;
-use ijson_string::IString;
-use ijson_table::{
+use crate::{
     Command, FixedHash, FixedTable, KeyHash, LinearPairs, PairStore, Places, Reply, ReserveError,
     Seen, Table, locate, run,
 };
+use ijson_number::Looks;
+use ijson_string::{IString, StringCache};
 use std::alloc::Global;
+use std::hash::{BuildHasherDefault, FoldHasher};
 use std::process::Abort;
+
+/// A text through a cache of its own.
+fn key(rt: &impl Abort, alloc: Global, letters: &str) -> IString {
+    let mut cache = StringCache::new(alloc, BuildHasherDefault::<FoldHasher>::new());
+    IString::intern(&mut cache, letters).expect(rt, "a text")
+}
 
 /// The length of the text in bytes.
 #[derive(Drop)]
@@ -39,7 +47,7 @@ impl KeyHash for AlwaysZero {
     }
 }
 
-/// Whether a key is at this position, and found there, or missed, with so many looks.
+/// Whether a key is at this position, and found there, or missed, with so many looks, by `locate` and by `get_counted`.
 fn finds<H: KeyHash>(
     table: &Table<u64, H>,
     key: &str,
@@ -51,7 +59,13 @@ fn finds<H: KeyHash>(
     }
     let mut looks = Looks::new();
     let found = locate(table, key, &mut looks);
-    found == position && looks.count() == count
+    let mut looks_of_get = Looks::new();
+    let there = table.get_counted(key, &mut looks_of_get).is_some();
+    found == position
+        && table.index_of(key) == position
+        && looks.count() == count
+        && there == position.is_some()
+        && looks_of_get.count() == count
 }
 
 /// Whether these are the positions at the places, 9 where one is empty.
@@ -152,10 +166,25 @@ fn lengths_meet(rt: HostRuntime) {
     assert!(rt; finds(&table, "z", None, 3) && finds(&table, "zz", None, 4));
 }
 
+/// How many looks the insertions of these keys take, and that of the first one once more. The walk after a growth is not counted.
+const LOOKS_OF_INSERTIONS: [(&str, u128); 5] = [("a", 0), ("bb", 1), ("c", 2), ("dd", 3), ("a", 1)];
+
+#[test]
+fn insertions_count_their_looks(rt: HostRuntime) {
+    let mut table: Table<u64, ByLength> = Table::new(rt.alloc());
+    for (letters, count) in LOOKS_OF_INSERTIONS {
+        let mut looks = Looks::new();
+        let key = key(&rt, rt.alloc(), letters);
+        assert!(rt; table.insert_counted(key, 7, &mut looks).is_ok());
+        assert!(rt; looks.count() == count);
+    }
+}
+
 #[test]
 fn the_last_pair_moves_into_a_gap(rt: HostRuntime) {
     let mut table = of_lengths(&rt, rt.alloc(), &SHORT_KEYS);
-    remove(&rt, rt.alloc(), &mut table, "a");
+    let removed = remove(&rt, rt.alloc(), &mut table, "a");
+    assert!(rt; removed == Reply::Removed(Some((key(&rt, rt.alloc(), "a"), 0))));
     assert!(rt; has_keys(table.as_slice(), &["dd", "bb", "c"]));
     assert!(rt; has_places(&table, &[9, 2, 1, 0, 9]));
     assert!(rt; table.position("c") == Some(2) && table.position("dd") == Some(0));
@@ -224,10 +253,15 @@ fn full_to_the_last_place(rt: HostRuntime) {
     assert!(rt; has_places(&table, &[1, 0, 9]));
 }
 
+/// The homes of a, b, c and d are 2, 3, 4 and 0 of 5.
 #[test]
 fn fixed_hashes(rt: HostRuntime) {
     assert!(rt; FixedHash::hash("") == 0xcbf2_9ce4_8422_2325);
     assert!(rt; FixedHash::hash("a") == 0xaf63_bd4c_8601_b840);
+    let mut table = FixedTable::new(rt.alloc());
+    insert_all(&rt, rt.alloc(), &mut table, &["a", "b", "c", "d"]);
+    assert!(rt; has_places(&table, &[3, 9, 0, 1, 2]) && table.home("d") == 0);
+    assert!(rt; finds(&table, "d", Some(3), 1));
 }
 
 /// Asserts that an empty store takes five keys, and makes room for eight.
@@ -264,12 +298,40 @@ fn fits_and_clears<P: PairStore<u64>>(rt: &impl Abort, store: &mut P) {
     assert!(rt; store.len() == 0 && store.capacity() == 2);
 }
 
+/// Asserts the capacities of an empty store that is put three pairs, loses one, and is made as small as it can be.
+fn holds_three_and_two<P: PairStore<u64>>(rt: &impl Abort, alloc: Global, store: &mut P) {
+    insert_all(rt, alloc, store, &["a", "b", "c"]);
+    assert!(rt; store.capacity() == 4);
+    remove(rt, alloc, store, "b");
+    assert!(rt; store.capacity() == 4 && store.shrink_to_fit().is_ok());
+    assert!(rt; store.capacity() == 2 && store.len() == 2);
+    assert!(rt; store.position("a") == Some(0) && store.position("c") == Some(1));
+}
+
+/// Puts three new pairs into an empty store in the room that is made for them.
+fn reserves_three<P: PairStore<u64>>(rt: &impl Abort, alloc: Global, store: &mut P) {
+    assert!(rt; store.reserve(3).is_ok() && store.capacity() == 4);
+    for letters in ["a", "bb", "c"] {
+        let key = key(rt, alloc, letters);
+        if store.position(letters).is_none() && store.len() < store.capacity() {
+            store.push_new(key, 1);
+        }
+    }
+    assert!(rt; store.len() == 3 && store.capacity() == 4);
+}
+
 /// What each store does, the same for all of them.
 fn keeps_order_and_capacity<P: PairStore<u64>>(rt: &impl Abort, alloc: Global, store: &mut P) {
     takes_five(rt, alloc, store);
     gives_one(rt, alloc, store);
     gives_two_more(rt, alloc, store);
     fits_and_clears(rt, store);
+}
+
+/// The same of the capacities of a new store.
+fn rooms_are_told<P: PairStore<u64> + Drop>(rt: &impl Abort, alloc: Global) {
+    holds_three_and_two(rt, alloc, &mut P::new(alloc));
+    reserves_three(rt, alloc, &mut P::new(alloc));
 }
 
 #[test]
@@ -279,6 +341,10 @@ fn each_store_keeps_order_and_capacity(rt: HostRuntime) {
     keeps_order_and_capacity(&rt, alloc, &mut Table::<u64, AlwaysZero>::new(alloc));
     keeps_order_and_capacity(&rt, alloc, &mut Table::<u64, ByLength>::new(alloc));
     keeps_order_and_capacity(&rt, alloc, &mut FixedTable::new(alloc));
+    rooms_are_told::<LinearPairs<u64>>(&rt, alloc);
+    rooms_are_told::<Table<u64, AlwaysZero>>(&rt, alloc);
+    rooms_are_told::<Table<u64, ByLength>>(&rt, alloc);
+    rooms_are_told::<FixedTable<u64>>(&rt, alloc);
 }
 
 #[test]
@@ -297,6 +363,42 @@ fn the_limit(rt: HostRuntime) {
             Err(ReserveError::TooLarge)
         )
     );
+    assert!(rt;
+        matches!(
+            Table::<u64, ByLength>::with_capacity(alloc, past),
+            Err(ReserveError::TooLarge)
+        )
+    );
+}
+
+#[test]
+fn a_table_has_five_places_for_four_pairs(rt: HostRuntime) {
+    for (capacity, places) in [(0, 0), (3, 3), (4, 5), (8, 10), (10, 12)] {
+        let table: FixedTable<u64> = Table::with_capacity(rt.alloc(), capacity).expect(
+            &rt, "a table",
+        );
+        assert!(rt; table.capacity() == capacity && table.places() == places);
+    }
+}
+
+/// A copy of a table that has spare room has none.
+fn copied_tightly(rt: &impl Abort, alloc: Global, table: &FixedTable<u64>) -> FixedTable<u64> {
+    let mut pairs = Vec::new(alloc);
+    for pair in table.as_slice() {
+        let key = pair.0.clone().expect(rt, "a copy");
+        pairs.push((key, pair.1)).expect(rt, "a pair");
+    }
+    FixedTable::from_pairs(alloc, pairs).expect(rt, "a table")
+}
+
+#[test]
+fn what_is_made_of_pairs_has_no_spare_room(rt: HostRuntime) {
+    let alloc = rt.alloc();
+    let mut table = FixedTable::new(alloc);
+    insert_all(&rt, alloc, &mut table, &["a", "b", "c"]);
+    let copy = copied_tightly(&rt, alloc, &table);
+    assert!(rt; table.capacity() == 4 && copy.capacity() == 3 && copy.places() == 3);
+    assert!(rt; has_keys(copy.as_slice(), &["a", "b", "c"]) && copy.index_of("c") == Some(2));
 }
 
 /// Commands of each kind but those that shift, clear and make room.
@@ -357,6 +459,14 @@ fn lends<P: PairStore<u64> + Drop>(rt: &impl Abort, alloc: Global, mut store: P)
     let pairs = store.into_pairs();
     assert!(rt; has_keys(&pairs, &["a", "b", "c"]));
     assert!(rt; pairs.iter().map(|pair| pair.1).eq([7, 8, 2]));
+}
+
+#[test]
+fn a_list_shows_its_pairs(rt: HostRuntime) {
+    let mut store = LinearPairs::new(rt.alloc());
+    insert_all(&rt, rt.alloc(), &mut store, &["a", "b"]);
+    assert!(rt; has_keys(store.as_slice(), &["a", "b"]));
+    assert!(rt; store.get("b") == Some(&1) && store.get("c").is_none());
 }
 
 #[test]

@@ -1,11 +1,10 @@
 //! What holds after a refused request for memory. Each of these tests passes whichever one of its requests is refused.
 
-use super::AlwaysZero;
-use crate::tests::key;
-use ijson_string::IString;
-use ijson_table::{
+use super::{AlwaysZero, key};
+use crate::{
     Command, FixedTable, LinearPairs, PairStore, RefusedPair, Reply, ReserveError, Table, run,
 };
+use ijson_string::IString;
 use std::alloc::{AllocError, Global};
 use std::process::Abort;
 
@@ -98,6 +97,16 @@ fn shrinks<P: PairStore<u32>>(rt: &impl Abort, store: &mut P) {
     assert!(rt; holds(store, 4, 4));
 }
 
+/// The same of a store of two pairs that has room for four.
+fn shrinks_to_two<P: PairStore<u32>>(rt: &impl Abort, alloc: Global, store: &mut P) {
+    fill(rt, alloc, store, 2);
+    if let Err(why) = store.shrink_to_fit() {
+        assert!(rt; why == ReserveError::Memory && holds(store, 2, 4));
+        assert!(rt; store.shrink_to_fit().is_ok());
+    }
+    assert!(rt; holds(store, 2, 2));
+}
+
 /// Growth and shrinking of an empty store of capacity 0: what is refused leaves the store, and is granted when it is asked for again.
 fn asks_again<P: PairStore<u32>>(rt: &impl Abort, alloc: Global, store: &mut P) {
     if store.reserve(3).is_err() {
@@ -135,11 +144,14 @@ fn roomy<S: Store>(rt: &impl Abort, alloc: Global) -> S {
     }
 }
 
-/// What holds of an empty store with room for four pairs, whichever request is refused.
-fn bears_refusals<S: Store>(rt: &impl Abort, alloc: Global, mut store: S) {
-    assert!(rt; store.shrink_to_fit().is_ok());
+/// What holds of an empty store with room for four pairs and of a new one, whichever request is refused.
+fn bears_refusals<S: Store>(rt: &impl Abort, alloc: Global, mut roomy: S) {
+    shrinks_to_two(rt, alloc, &mut roomy);
+    let mut store = S::new(alloc);
     asks_again(rt, alloc, &mut store);
     puts(rt, alloc, &mut store);
+    store.clear();
+    assert!(rt; store.shrink_to_fit().is_ok() && holds(&store, 0, 0));
 }
 
 #[test]
