@@ -141,7 +141,8 @@ impl INumber {
             → IsPlainFront text.now p rest → ⊥)) }
         ensures no_power { IfOk result (λ found. IfNone found ((p : Parts) (rest : List ℕ)
             → IsPowerFront text.now p rest → ⊥)) }
-        ensures refused { OnErr result ((count : ℕ) × IsRefused (take count text.now) Memory) }
+        ensures refused { OnErr result ((count : ℕ)
+            × IsRefused (take count text.now) Memory × GoesOnWithNone (drop count text.now)) }
     {
         let Some((front, rest)) = read_mantissa(text.as_bytes()) else {
             return Ok(None);
@@ -172,7 +173,7 @@ impl INumber {
             → IsPowerTail rest.now behind → f.1 + length behind ≡ front.now.length + length rest.now)) }
         ensures none { IfOk result (λ found. IfNone found ((behind : List ℕ) → IsPowerTail rest.now behind → ⊥)) }
         ensures refused { OnErr result ((text : List ℕ) → IsMantissa text front.now rest.now
-            → (count : ℕ) × IsRefused (take count text) Memory) }
+            → (count : ℕ) × IsRefused (take count text) Memory × GoesOnWithNone (drop count text)) }
     {
         let Some((power, length)) = read_power(rest) else {
             return Ok(None);

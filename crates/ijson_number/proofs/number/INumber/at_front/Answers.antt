@@ -52,8 +52,13 @@ from_front-requires c = (c.as_bytes.result.now, front_of c.as_bytes.result.now c
 
 pub returns-in_err-number-clause-refused : goal.returns-in_err-number-clause-refused
 returns-in_err-number-clause-refused c =
-    let is = front_of c.args.text.now c.in-Some.front c.in-Some.rest.now (rw c.as_bytes.ensures.value at c.in-Some.ensures.found) in
-    where_refused c.from_residual-in_err-number.result (c.in-Some.front.length, (front_number c.in-Some.front, is.spelled, is.num, c.in_err-number.ensures.refused))
+    let m : IsMantissa c.args.text.now c.in-Some.front c.in-Some.rest.now = rw c.as_bytes.ensures.value at c.in-Some.ensures.found in
+    let is = front_of c.args.text.now c.in-Some.front c.in-Some.rest.now m in
+    where_refused c.from_residual-in_err-number.result (
+      c.in-Some.front.length,
+      (front_number c.in-Some.front, is.spelled, is.num, c.in_err-number.ensures.refused),
+      rw (rest_is c.args.text.now c.in-Some.front c.in-Some.rest.now m) (c.goes_on.ensures.stops (rw c.if-goes_on.false refl)),
+    )
 
 pub returns-clause-found : goal.returns-clause-found
 returns-clause-found c =

@@ -13,8 +13,11 @@ from_power-requires-clause-num c =
 
 pub returns-in_err-number-clause-refused : goal.returns-in_err-number-clause-refused
 returns-in_err-number-clause-refused c = where_refused c.from_residual.result (λ text m.
-    let is = power_of text c.args.front.now c.args.rest.now m c.in-Some.power c.in-Some.length c.in-Some.ensures.power in
-    (c.args.front.now.length + c.in-Some.length, (power_number c.args.front.now c.in-Some.power, is.1, is.2, rw (small_exact c.in-Some.power c.in-Some.ensures.power.small) at c.in_err-number.ensures.refused)))
+    let is = power_of text c.args.front.now c.args.rest.now m c.in-Some.power c.in-Some.length c.in-Some.ensures.power in (
+      c.args.front.now.length + c.in-Some.length,
+      (power_number c.args.front.now c.in-Some.power, is.1, is.2, rw (small_exact c.in-Some.power c.in-Some.ensures.power.small) at c.in_err-number.ensures.refused),
+      rw (behind text c.args.front.now c.args.rest.now m c.in-Some.length) c.in-Some.ensures.stops,
+    ))
 
 pub returns-clause-found : goal.returns-clause-found
 returns-clause-found c = λ text m.
