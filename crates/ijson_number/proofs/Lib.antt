@@ -2,6 +2,7 @@ pub mod Outcomes
 pub mod Runs
 pub mod Parts
 pub mod PlainFronts
+mod PowerTails
 pub mod Tails
 pub mod Values
 pub mod Exponents

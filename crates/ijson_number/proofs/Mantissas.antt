@@ -1,7 +1,7 @@
 -- The digits at the front of a text, and an exponent behind them.
 use Rattle.std.proofs.Common.{◌≡◌, ◌∙◌, ◌⊎◌, get_or, ℕ, ◌+◌, ◌-◌, ◌<◌, ◌≤◌, ◌^◌, Bool, true, false, List, [], ◌∷◌, ◌++◌, length, drop, take, refl, sym, ap, inl, inr, append_assoc, arith}
 use Rattle.std.specs.Prelude.{ℤ, pos, neg_ℤ, ◌-ℤ◌, nat_lt, ◌||◌}
-use Rattle.std.proofs.Math.Seq.{take-append_seam}
+use Rattle.std.proofs.Math.Seq.{drop-append-add, drop-append_seam, take-append_seam}
 use Rattle.std.proofs.Math.Bool.{or-false, or-true}
 use Rattle.std.proofs.lemmas.Int.{ints}
 use Rattle.std.proofs.lemmas.List.{length-append, length-take-le, take-append-drop}
@@ -57,6 +57,18 @@ module _ (text : List ℕ) (f : Front) (rest : List ℕ) (m : IsMantissa text f 
       let long : length (front ++ take count rest) ≡ f.length + count = omega (arith, length-append front (take count rest), length-take-le count rest within, m.length_is) in
       let split : text ≡ (front ++ take count rest) ++ drop count rest = m.text_is ∙ ap (λ r. front ++ r) (sym (take-append-drop count rest)) ∙ sym (append_assoc front (take count rest) (drop count rest)) in
       ap (λ n. take n text) (sym long) ∙ ap (take (length (front ++ take count rest))) split ∙ take-append_seam (front ++ take count rest) (drop count rest)
+
+  -- and what stands behind it
+  pub behind : (count : ℕ) → drop (f.length + count) text ≡ drop count rest
+  behind count = ap (λ n. drop (n + count) text) m.length_is ∙ ap (drop (length front + count)) m.text_is ∙ drop-append-add front rest count
+
+  -- what stands behind the digits
+  pub rest_is : drop f.length text ≡ rest
+  rest_is = ap (λ n. drop n text) m.length_is ∙ ap (drop (length front)) m.text_is ∙ drop-append_seam front rest
+
+  -- the text is as long as both
+  pub whole_length : length text ≡ f.length + length rest
+  whole_length = ap length m.text_is ∙ length-append front rest ∙ ap (λ n. n + length rest) (sym m.length_is)
 
   -- and as far as the digits go
   all_taken : take f.length text ≡ front ++ []

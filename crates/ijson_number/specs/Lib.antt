@@ -4,7 +4,9 @@ pub mod Stripped
 pub mod Strips
 pub mod StrippedDigits
 pub mod Grammar
+pub mod DigitFront
 pub mod PlainFront
+pub mod PowerFront
 pub mod Refused
 pub mod Text
 pub mod Order

@@ -23,9 +23,9 @@ impl Clone for LongNumber {
 }
 
 impl Clone for Stored {
-    ghost use Rattle.ijson_number.specs.private.Stored.{stored_form};
+    ghost use Rattle.ijson_number.specs.private.Stored.{IsCopy, stored_form};
 
-    ghost is_clone = { λ s copy. stored_form copy ≡ stored_form s };
+    ghost is_clone = { IsCopy };
 
     ghost is_infallible = { λ s. is_digits (stored_form s) ≡ false };
 

@@ -1,7 +1,9 @@
 //! An exponent behind the digits at the front of a text.
-ghost use Rattle.std.specs.Prelude.{◌≡◌, ◌<◌, ◌≤◌, ◌^◌, IfSome};
+ghost use Rattle.std.specs.Prelude.{◌≡◌, ◌≢◌, ◌⊎◌, ◌+◌, ◌<◌, ◌≤◌, ◌≤ℤ◌, ◌^◌, List, ℕ, drop, length, negsuc, pos, IfNone, IfSome, IsSome};
 ghost use Rattle.ijson_number.specs.Form.{form_of};
 ghost use Rattle.ijson_number.specs.Num.{IsNum};
+ghost use Rattle.ijson_number.specs.PlainFront.{GoesOnWithNone};
+ghost use Rattle.ijson_number.specs.PowerFront.{IsPowerTail};
 ghost use Rattle.ijson_number.specs.private.Front.{IsPower, IsPowerSmall, power_number};
 ghost use Rattle.ijson_number.specs.private.Stored.{short_form};
 ghost use Rattle.ijson_number.specs.private.StrippedNumber.{decimal_of};
@@ -16,10 +18,13 @@ use crate::stripped::{ROOM, StrippedNumber};
 /// The most digits of an exponent that is read in one pass with what stands before it.
 const FEW: usize = 4;
 
-/// The exponent at the front, and how many bytes it has, where it has few digits and nothing goes on with it. None says nothing: the
-/// number is read by the slower way then.
+/// The exponent at the front, and how many bytes it has, where it has few digits and nothing goes on with it.
 pub fn read_power(bytes: &[u8]) -> Option<(i16, usize)>
-    ensures { IfSome result (λ r. IsPower bytes.now r.0 r.1) }
+    ensures power { IfSome result (λ r. IsPower bytes.now r.0 r.1) }
+    ensures stops { IfSome result (λ r. GoesOnWithNone (drop r.1 bytes.now)) }
+    ensures rest { IfSome result (λ r. (rest : List ℕ)
+        → IsPowerTail bytes.now rest → r.1 + length rest ≡ length bytes.now) }
+    ensures none { IfNone result ((rest : List ℕ) → IsPowerTail bytes.now rest → ⊥) }
 {
     if bytes.is_empty() || (bytes[0] != b'e' && bytes[0] != b'E') {
         return None;
@@ -36,13 +41,15 @@ pub fn read_power(bytes: &[u8]) -> Option<(i16, usize)>
 }
 
 impl Front {
-    /// The number times a power of ten, in 24 bytes, where it is too small or too large for a word. None says nothing: `stripped_power`
-    /// does for any number.
+    /// The number times a power of ten, in 24 bytes, where its exponent is too small or too large for a word. It may be stored so
+    /// where None is answered too: `stripped_power` does for any number.
     pub fn short_power(&self, power: i16) -> Option<ShortNumber>
         requires few { self.now.places ≤ 19 }
         requires small { self.now.size < 10 ^ 19 }
         requires power { IsPowerSmall power }
-        ensures { IfSome result (λ n. short_form n ≡ form_of (power_number self.now power)) }
+        ensures form { IfSome result (λ n. short_form n ≡ form_of (power_number self.now power)) }
+        ensures outside { let exponent = (power_number self.now power).exponent in
+            self.now.size ≢ 0 → (exponent ≤ℤ negsuc 7 ⊎ pos 27 ≤ℤ exponent) → IsSome result }
     {
         if self.size == 0 {
             return None;

@@ -1,9 +1,10 @@
 //! A number of few digits at the front of a text, read in one pass.
-ghost use Rattle.std.specs.Prelude.{◌≡◌, ◌≢◌, ◌+◌, ◌*◌, ◌%◌, ◌^◌, ◌<◌, ◌≤◌, List, ℕ, take, drop, length, IfNone, IfSome, IsSome, IsTrue};
+ghost use Rattle.std.specs.Prelude.{◌≡◌, ◌≢◌, ◌+◌, ◌*◌, ◌%◌, ◌^◌, ◌<◌, ◌≤◌, List, ℕ, take, drop, length, IfNone, IfSome, IsFalse, IsSome, IsTrue};
 ghost use Rattle.ijson_number.specs.Decimal.{Decimal};
 ghost use Rattle.ijson_number.specs.Form.{form_of};
 ghost use Rattle.ijson_number.specs.Grammar.{Parts, Spells};
 ghost use Rattle.ijson_number.specs.Num.{IsNum};
+ghost use Rattle.ijson_number.specs.DigitFront.{IsDigitFront};
 ghost use Rattle.ijson_number.specs.PlainFront.{GoesOnWithNone, IsPlainFront};
 ghost use Rattle.ijson_number.specs.private.Front.{IsFront, IsFrontTail, IsMantissa, IsPlainTail, front_number};
 ghost use Rattle.ijson_number.specs.private.Stored.{short_form, stored_form};
@@ -110,8 +111,9 @@ pub struct Front {
 #[inline(always)]
 pub fn read_mantissa(text: &[u8]) -> Option<(Front, &[u8])>
     ensures found { IfSome result (λ r. IsMantissa text.now r.0 r.1.now) }
-    ensures plain { IfSome result (λ r. (p : Parts) → IsPlainFront text.now p → GoesOnWithNone r.1.now) }
-    ensures none { IfNone result ((p : Parts) → IsPlainFront text.now p → ⊥) }
+    ensures rest { IfSome result (λ r. (p : Parts) (rest : List ℕ)
+        → IsDigitFront text.now p rest → r.1.now ≡ rest) }
+    ensures none { IfNone result ((p : Parts) (rest : List ℕ) → IsDigitFront text.now p rest → ⊥) }
 {
     let (negative, unsigned) = split_sign(text);
     let (number, count) = take_whole(unsigned);
@@ -132,7 +134,8 @@ pub fn read_mantissa(text: &[u8]) -> Option<(Front, &[u8])>
 /// Whether a number may go on here: with a digit or a letter.
 #[inline(always)]
 pub fn goes_on(bytes: &[u8]) -> bool
-    ensures { IsTrue result → GoesOnWithNone bytes.now → ⊥ }
+    ensures on { IsTrue result → GoesOnWithNone bytes.now → ⊥ }
+    ensures stops { IsFalse result → GoesOnWithNone bytes.now }
 {
     !bytes.is_empty() && bytes[0].is_ascii_alphanumeric()
 }
@@ -141,7 +144,7 @@ pub fn goes_on(bytes: &[u8]) -> bool
 #[inline(always)]
 pub fn read_front(text: &[u8]) -> Option<Front>
     ensures found { IfSome result (λ f. IsFront text.now f) }
-    ensures none { IfNone result ((p : Parts) → IsPlainFront text.now p → ⊥) }
+    ensures none { IfNone result ((p : Parts) (rest : List ℕ) → IsPlainFront text.now p rest → ⊥) }
 {
     let (front, rest) = read_mantissa(text)?;
     if goes_on(rest) {

@@ -52,10 +52,11 @@ impl Model for INumber {
 }
 
 impl INumber {
-    ghost use Rattle.std.specs.Prelude.{◌+◌, ◌<◌, ◌≤◌, ◌^◌, List, ℕ, length, take, true, IfNone, IfSome, OnErr};
+    ghost use Rattle.std.specs.Prelude.{◌+◌, ◌<◌, ◌≤◌, ◌^◌, List, ℕ, drop, length, take, true, IfNone, IfSome, OnErr};
     ghost use Rattle.ijson_number.specs.Form.{form_of, is_digits};
     ghost use Rattle.ijson_number.specs.Grammar.{AllDigits, Denotes, IsSpelled, Parts};
-    ghost use Rattle.ijson_number.specs.PlainFront.{IsPlainFront};
+    ghost use Rattle.ijson_number.specs.PlainFront.{GoesOnWithNone, IsPlainFront};
+    ghost use Rattle.ijson_number.specs.PowerFront.{IsPowerFront, IsPowerTail};
     ghost use Rattle.ijson_number.specs.Refused.{IsRefused};
     ghost use Rattle.ijson_number.specs.declared.number.ParseNumberError.TheVariants.{Memory};
     ghost use Rattle.ijson_number.specs.private.Front.{IsFront, IsMantissa, IsPowerSmall, front_number, power_number};
@@ -125,15 +126,23 @@ impl INumber {
     }
 
     /// The number that the text begins with, and how many bytes spell it, in one pass over them, where it has at most 19
-    /// digits and no exponent, and no digit, letter or point is behind it; one with an exponent of at most four digits may be
-    /// answered too. Else None may be answered, and `from_str` reads what stands there. Memory is taken as there.
+    /// digits, no exponent or one of at most four digits, and no digit or letter is behind it. Of `1.5.5` that is `1.5`; `1.`
+    /// begins with none. Else None may be answered, and `from_str` reads what stands there. Memory is taken as there.
     #[inline(always)]
     pub fn at_front(alloc: Global, text: &str) -> Result<Option<(INumber, usize)>, AllocError>
         ensures found { IfOk result (λ found. IfSome found (λ f.
             (f.1 ≤ length text.now) × Spells (take f.1 text.now) f.0.decimal)) }
-        ensures none { IfOk result (λ found.
-            IfNone found ((p : Parts) → IsPlainFront text.now p → ⊥)) }
-        ensures refused { OnErr result ((count : ℕ) × IsRefused (take count text.now) Memory) }
+        ensures stops { IfOk result (λ found. IfSome found (λ f. GoesOnWithNone (drop f.1 text.now))) }
+        ensures plain { IfOk result (λ found. IfSome found (λ f. (p : Parts) (rest : List ℕ)
+            → IsPlainFront text.now p rest → f.1 + length rest ≡ length text.now)) }
+        ensures power { IfOk result (λ found. IfSome found (λ f. (p : Parts) (rest : List ℕ)
+            → IsPowerFront text.now p rest → f.1 + length rest ≡ length text.now)) }
+        ensures none { IfOk result (λ found. IfNone found ((p : Parts) (rest : List ℕ)
+            → IsPlainFront text.now p rest → ⊥)) }
+        ensures no_power { IfOk result (λ found. IfNone found ((p : Parts) (rest : List ℕ)
+            → IsPowerFront text.now p rest → ⊥)) }
+        ensures refused { OnErr result ((count : ℕ)
+            × IsRefused (take count text.now) Memory × GoesOnWithNone (drop count text.now)) }
     {
         let Some((front, rest)) = read_mantissa(text.as_bytes()) else {
             return Ok(None);
@@ -158,8 +167,13 @@ impl INumber {
         requires length { front.now.length + length rest.now < 2 ^ 64 }
         ensures found { IfOk result (λ found. IfSome found (λ f. (text : List ℕ) → IsMantissa text front.now rest.now
             → (f.1 ≤ length text) × Spells (take f.1 text) f.0.decimal)) }
+        ensures stops { IfOk result (λ found. IfSome found (λ f. (text : List ℕ) → IsMantissa text front.now rest.now
+            → GoesOnWithNone (drop f.1 text))) }
+        ensures power { IfOk result (λ found. IfSome found (λ f. (behind : List ℕ)
+            → IsPowerTail rest.now behind → f.1 + length behind ≡ front.now.length + length rest.now)) }
+        ensures none { IfOk result (λ found. IfNone found ((behind : List ℕ) → IsPowerTail rest.now behind → ⊥)) }
         ensures refused { OnErr result ((text : List ℕ) → IsMantissa text front.now rest.now
-            → (count : ℕ) × IsRefused (take count text) Memory) }
+            → (count : ℕ) × IsRefused (take count text) Memory × GoesOnWithNone (drop count text)) }
     {
         let Some((power, length)) = read_power(rest) else {
             return Ok(None);

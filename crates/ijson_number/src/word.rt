@@ -80,6 +80,12 @@ impl Word {
         if code == NO_POINT { 0 } else { code as i8 - 7 }
     }
 
+    /// The bits as they stand.
+    #[cfg(test)]
+    pub(crate) fn bits(self) -> u64 {
+        self.bits
+    }
+
     /// Whether the number has the point.
     pub fn point(self) -> bool
         ensures { result ≡ word_point self.bits }

@@ -4,7 +4,7 @@ use Rattle.std.specs.Int.Digits.{number_from_digits_after}
 use Rattle.ijson_number.specs.Decimal.{Decimal}
 use Rattle.ijson_number.specs.Grammar.{IsExponent, IsFraction, IsMinus, IsWhole, Spells, value}
 use Rattle.ijson_number.specs.Num.{IsNum}
-use Rattle.ijson_number.specs.PlainFront.{GoesOnWithNone}
+use Rattle.ijson_number.specs.DigitFront.{EndsDigits}
 use Rattle.ijson_number.specs.Stripped.{stripped_number}
 use Rattle.ijson_number.specs.Strips.{Strips, signed}
 use Rattle.ijson_number.specs.private.Stripped.{digits_from_text}
@@ -26,7 +26,7 @@ pub record IsPlainTail (most : ℕ) (text front rest : List ℕ) : Type 0 where
   pub text_is : text ≡ front ++ rest
   pub fraction : IsFraction front digits has_point
   pub few : length digits ≤ most
-  pub stops : GoesOnWithNone rest
+  pub ends : EndsDigits has_point rest
 
 -- a sign, a whole part and a fraction of few digits at the front, and the text behind them
 pub record IsMantissa (text : List ℕ) (f : Front) (rest : List ℕ) : Type 0 where

@@ -1,5 +1,5 @@
 -- What is stored of a number.
-use Rattle.std.specs.Prelude.{◌≡◌, ⊤}
+use Rattle.std.specs.Prelude.{◌≡◌, ◌↔◌, ⊤}
 use Rattle.ijson_number.specs.Decimal.{Decimal}
 use Rattle.ijson_number.specs.Form.{FormOf, packed, signed_word, unsigned_word, digits, form_of}
 use Rattle.ijson_number.specs.private.FormNumber.{form_number}
@@ -37,6 +37,11 @@ IsShort (Long number) = ⊥
 IsShort (Packed word) = ⊥
 IsShort (I64 value) = ⊥
 IsShort (U64 value) = ⊥
+
+-- a copy has the form of the other, and few digits in itself where the other has
+pub record IsCopy (stored copy : Stored) : Type 0 where
+  pub form : stored_form copy ≡ stored_form stored
+  pub short : IsShort stored ↔ IsShort copy
 
 -- its digits are a list
 abbrev pub IsList : Stored → Type 0

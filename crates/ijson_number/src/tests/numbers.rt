@@ -1,12 +1,14 @@
 //! What no clause says: worked texts, and which texts are refused.
+use crate::stored::Stored;
 use crate::{DigitRow, Form, INumber, Looks, ParseNumberError, compare, first_fault};
 use std::alloc::Global;
 use std::cmp::Ordering;
 use std::error::Error;
+use std::fmt::Debug;
 use std::process::Abort;
 
 /// Texts, the text that each is written as, and whether it has float shape.
-const ROWS: [(&str, &str, bool); 17] = [
+const ROWS: [(&str, &str, bool); 18] = [
     ("-0", "0", false),
     ("-0.0", "0.0", true),
     ("1.50", "1.5", true),
@@ -30,6 +32,11 @@ const ROWS: [(&str, &str, bool); 17] = [
     (
         "123456789012345678901234567890",
         "123456789012345678901234567890",
+        false,
+    ),
+    (
+        "-1000000000000000000000000",
+        "-1000000000000000000000000",
         false,
     ),
 ];
@@ -64,9 +71,44 @@ fn rows(rt: HostRuntime) {
     }
 }
 
-fn debugs(rt: &impl Abort, alloc: Global, number: &INumber, want: &str) {
-    let text = format!(in alloc; "{number:?}").expect(rt, "a text");
+fn debugs(rt: &impl Abort, alloc: Global, value: &impl Debug, want: &str) {
+    let text = format!(in alloc; "{value:?}").expect(rt, "a text");
     assert!(rt; text.as_str() == want);
+}
+
+/// Forms, and what `Debug` writes of each.
+const SHOWN: [(Form<'static>, &str); 4] = [
+    (
+        Form::Packed {
+            mantissa: -25,
+            exponent: -1,
+            point: true,
+        },
+        "Packed { mantissa: -25, exponent: -1, point: true }",
+    ),
+    (Form::I64(36028797018963968), "I64(36028797018963968)"),
+    (Form::U64(9223372036854775808), "U64(9223372036854775808)"),
+    (
+        Form::Digits {
+            negative: false,
+            digits: &[1, 5],
+            exponent: 30,
+            point: true,
+        },
+        "Digits { negative: false, digits: [1, 5], exponent: 30, point: true }",
+    ),
+];
+
+#[test]
+fn debug_texts(rt: HostRuntime) {
+    for (form, want) in SHOWN {
+        debugs(&rt, rt.alloc(), &form, want);
+    }
+    let mut looks = Looks::new();
+    looks.add_one();
+    debugs(&rt, rt.alloc(), &looks, "Looks { seen: 1 }");
+    debugs(&rt, rt.alloc(), &ParseNumberError::Invalid, "Invalid");
+    debugs(&rt, rt.alloc(), &ParseNumberError::Memory, "Memory");
 }
 
 #[test]
@@ -87,14 +129,28 @@ fn long_digits(rt: &impl Abort, alloc: Global, count: usize) -> String {
     text
 }
 
-/// Asserts that a text is what both formats write of its number.
+/// Three hundred zeros.
+const ZEROS: &str =
+    "0000000000000000000000000000000000000000000000000000000000000000000000000000000000000000000000000000\
+    0000000000000000000000000000000000000000000000000000000000000000000000000000000000000000000000000000\
+    0000000000000000000000000000000000000000000000000000000000000000000000000000000000000000000000000000";
+
+/// A one with as many zeros behind it.
+const ONE_AND_ZEROS: &str =
+    "10000000000000000000000000000000000000000000000000000000000000000000000000000000000000000000000000000\
+    0000000000000000000000000000000000000000000000000000000000000000000000000000000000000000000000000000\
+    0000000000000000000000000000000000000000000000000000000000000000000000000000000000000000000000000000";
+
+/// Asserts that a text is what is written of its number by every way.
 fn is_written_whole(rt: &impl Abort, alloc: Global, text: &str) {
     let number = number(rt, alloc, text);
+    appends(rt, alloc, &number, text);
     displays(rt, alloc, &number, text);
     debugs(rt, alloc, &number, text);
 }
 
-/// A contract can't say that a formatter only gives up where its writer does, so long texts are tried.
+/// A contract can't say that a formatter only gives up where its writer does, nor that memory is all that a reader wants, so long
+/// texts are tried.
 #[test]
 fn long_numbers_are_written_whole(rt: HostRuntime) {
     let alloc = rt.alloc();
@@ -103,7 +159,10 @@ fn long_numbers_are_written_whole(rt: HostRuntime) {
         is_written_whole(&rt, alloc, digits.as_str());
         let fraction = format!(in alloc; "-0.{digits}").expect(&rt, "a text");
         is_written_whole(&rt, alloc, fraction.as_str());
+        let tens = format!(in alloc; "-{digits}{ZEROS}").expect(&rt, "a text");
+        is_written_whole(&rt, alloc, tens.as_str());
     }
+    is_written_whole(&rt, alloc, ONE_AND_ZEROS);
     is_written_whole(&rt, alloc, "1e1073741824");
 }
 
@@ -165,6 +224,31 @@ const FAULTS: [(&str, Option<usize>); 14] = [
 fn faults(rt: HostRuntime) {
     for (text, want) in FAULTS {
         assert!(rt; first_fault(text) == want, "{text}");
+    }
+}
+
+/// Texts, and how many bytes of each are read at the front.
+const FRONTS: [(&str, Option<usize>); 9] = [
+    ("12", Some(2)),
+    ("-1.50]", Some(5)),
+    ("1.5.5", Some(3)),
+    ("1E-0007,2", Some(7)),
+    ("12e5x", None),
+    ("1e12345", None),
+    ("1e+", None),
+    ("1.", None),
+    ("01", None),
+];
+
+#[test]
+fn fronts(rt: HostRuntime) {
+    for (text, want) in FRONTS {
+        let found = INumber::at_front(rt.alloc(), text).expect(&rt, "room");
+        let length = match found {
+            Some((_, length)) => Some(length),
+            None => None,
+        };
+        assert!(rt; length == want, "{text}");
     }
 }
 
@@ -317,22 +401,55 @@ fn order(rt: HostRuntime) {
     }
 }
 
-/// Texts that are packed: the mantissa, the exponent, and whether the shape is float.
-const PACKED: [(&str, i64, i8, bool); 9] = [
-    ("0.1", 1, -1, true),
+/// Texts that are packed: the word, and the mantissa, the exponent and whether the shape is float in it.
+const PACKED: [(&str, u64, i64, i8, bool); 17] = [
+    ("0", 0x00000000000000f8, 0, 0, false),
+    ("-0", 0x00000000000000f8, 0, 0, false),
+    ("1", 0x00000000000001f8, 1, 0, false),
+    ("-1", 0xfffffffffffffff8, -1, 0, false),
+    ("0.0", 0x0000000000000078, 0, 0, true),
+    ("2.0", 0x0000000000000278, 2, 0, true),
+    ("0.5", 0x0000000000000568, 5, -1, true),
     (
-        "0.100000000000000000000000000000000000000000000000000",
-        1,
+        "0.50000000000000000000000000000000",
+        0x0000000000000568,
+        5,
         -1,
         true,
     ),
-    ("36028797018963967", 36028797018963967, 0, false),
-    ("-36028797018963968", -36028797018963968, 0, false),
-    ("1e23", 10000000000000000, 7, true),
-    ("360287970189639670.0", 36028797018963967, 1, true),
-    ("-36028797018963968.0", -36028797018963968, 0, true),
-    ("0.0000001", 1, -7, true),
-    ("-0", 0, 0, false),
+    ("100.0", 0x0000000000006478, 100, 0, true),
+    ("63.5", 0x0000000000027b68, 635, -1, true),
+    (
+        "36028797018963967",
+        0x7ffffffffffffff8,
+        36028797018963967,
+        0,
+        false,
+    ),
+    (
+        "-36028797018963968",
+        0x80000000000000f8,
+        -36028797018963968,
+        0,
+        false,
+    ),
+    ("1e20", 0x2386f26fc10000b8, 10000000000000000, 4, true),
+    ("1e23", 0x2386f26fc10000e8, 10000000000000000, 7, true),
+    (
+        "-36028797018963968.0",
+        0x8000000000000078,
+        -36028797018963968,
+        0,
+        true,
+    ),
+    ("0.0000001", 0x0000000000000108, 1, -7, true),
+    (
+        "360287970189639670.0",
+        0x7fffffffffffff88,
+        36028797018963967,
+        1,
+        true,
+    ),
 ];
 
 /// Texts whose digits are stored: the sign, the digits, the exponent, and whether the shape is float.
@@ -380,15 +497,26 @@ fn formed(rt: &impl Abort, alloc: Global, text: &str, form: Form<'_>) {
     assert!(rt; number(rt, alloc, text).form() == form, "{text}");
 }
 
+fn word_of(number: &INumber) -> Option<u64> {
+    match &number.stored {
+        Stored::Packed(word) => Some(word.bits()),
+        _ => None,
+    }
+}
+
 #[test]
 fn packed_forms(rt: HostRuntime) {
-    for (text, mantissa, exponent, point) in PACKED {
+    for (text, word, mantissa, exponent, point) in PACKED {
         let form = Form::Packed {
             mantissa,
             exponent,
             point,
         };
         formed(&rt, rt.alloc(), text, form);
+        assert!(rt;
+            word_of(&number(&rt, rt.alloc(), text)) == Some(word),
+            "{text}"
+        );
     }
 }
 
@@ -480,8 +608,8 @@ fn form_boundaries(rt: HostRuntime) {
     }
 }
 
-/// Two texts, their order, and how many digits may be read for it.
-const COMPARED: [(&str, &str, Ordering, u128); 4] = [
+/// Two texts, their order, and how many digits are read for it.
+const COMPARED: [(&str, &str, Ordering, u128); 8] = [
     ("1e1073741824", "7", Ordering::Greater, 0),
     (
         "18446744073709551616",
@@ -491,17 +619,21 @@ const COMPARED: [(&str, &str, Ordering, u128); 4] = [
     ),
     ("-2.5", "0", Ordering::Less, 0),
     ("100.0", "1e2", Ordering::Equal, 2),
+    ("1.25", "1.35", Ordering::Less, 4),
+    ("-3", "-4", Ordering::Greater, 2),
+    ("0", "0.0", Ordering::Equal, 0),
+    ("0.5", "0.05", Ordering::Greater, 0),
 ];
 
 #[test]
 fn looks_of_compare(rt: HostRuntime) {
-    for (a, b, want, most) in COMPARED {
+    for (a, b, want, count) in COMPARED {
         let (a, b) = (number(&rt, rt.alloc(), a), number(&rt, rt.alloc(), b));
         let mut looks = Looks::new();
         // The counts show that the looks fit.
-        assert!(rt; a.count() > 0 && b.count() < 40);
+        assert!(rt; a.count() < 40);
         assert!(rt; compare(&a, &b, &mut looks) == want);
-        assert!(rt; looks.count() <= most);
+        assert!(rt; looks.count() == count);
     }
 }
 

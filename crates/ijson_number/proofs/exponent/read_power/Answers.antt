@@ -1,15 +1,16 @@
-use Rattle.std.proofs.Common.{◌≡◌, ℕ, ◌<◌, ◌^◌, ◌⊎◌, inl, inr, get_or, ap, sym, ◌∙◌, arith}
+use Rattle.std.proofs.Common.{◌≡◌, ℕ, ◌<◌, ◌^◌, ◌⊎◌, inl, inr, get_or, ap, sym, ◌∙◌, length, refl, arith}
 use Rattle.std.specs.Prelude.{pos}
 use mir.Syntax.{w16}
 use mir.Val.{to_z}
 use Rattle.ijson_number.specs.Strips.{signed}
 use Rattle.std.proofs.lemmas.Bool.Decides.{nat_tests}
 use Rattle.std.proofs.lemmas.Int.{ints}
-use Rattle.std.proofs.lemmas.List.{take_rest}
+use Rattle.std.proofs.lemmas.List.{length-append, take_rest}
 use Rattle.ijson_number.proofs.Mantissas.{digits_few, power_at}
+use Rattle.ijson_number.proofs.PowerTails.{behind_taken, power_rest}
 use Rattle.ijson_number.proofs.ShortNumbers.{negated}
 use Rattle.ijson_number.proofs.exponent.read_power.Goals as goal
-use Rattle.ijson_number.proofs.exponent.read_power.Goals.{then-bytes-ne101, else-bytes-ne101, then-negative, else-negative}
+use Rattle.ijson_number.proofs.exponent.read_power.Goals.{then-bytes-ne101, else-bytes-ne101, then-negative, else-negative, then-count-eq0-via-then-count-eq0, then-count-eq0-via-else-count-eq0+then-goes_on}
 
 pub overflow_cast-size : goal.overflow_cast-size
 overflow_cast-size c =
@@ -24,8 +25,8 @@ overflow_sub-power c =
 exact : (size : ℕ) → size < 10 ^ 4 → to_z w16 size ≡ pos size
 exact size small = omega (arith, ints)
 
-pub returns : goal.returns
-returns c =
+pub returns-clause-power : goal.returns-clause-power
+returns-clause-power c =
     let bytes = c.args.bytes.now in
     let digits = c.split_exponent_sign-negative.result.1.now in
     let negative = c.split_exponent_sign-negative.result.0 in
@@ -40,3 +41,30 @@ returns c =
       | else-negative w ↦ w.power-is ∙ exact t.result.0 small ∙ ap (λ n. signed n t.result.0) (sym w.if-negative.false)
     ] in
     rw c.split_at.ensures.back (power_at bytes digits negative t.result.0 t.result.1 (to_z w16 c.if-negative.power-bits) (grind arith) begins (rw (take_rest bytes 1) at c.split_exponent_sign-negative.ensures) (omega (arith, c.if-count-eq0.false)) t.ensures power)
+
+pub returns-clause-stops : goal.returns-clause-stops
+returns-clause-stops c =
+    let bytes = c.args.bytes.now in
+    let sign = rw (take_rest bytes 1) at c.split_exponent_sign-negative.ensures in
+    rw (c.split_at.ensures.back, behind_taken bytes c.split_exponent_sign-negative.result.1.now c.split_exponent_sign-negative.result.0 c.take_digits-size.result.1 (grind arith) sign)
+    (rw c.split_at.ensures.back at c.goes_on.ensures.stops (rw c.if-goes_on.false refl))
+
+pub returns-clause-rest : goal.returns-clause-rest
+returns-clause-rest c = λ rest p.
+    let bytes = c.args.bytes.now in
+    let t = c.take_digits-size in
+    let sign = rw (take_rest bytes 1) at c.split_exponent_sign-negative.ensures in
+    let r = power_rest bytes rest c.split_exponent_sign-negative.result.1.now c.split_exponent_sign-negative.result.0 t.result.0 t.result.1 sign t.ensures p in
+    let same : length c.split_at.result.1.now ≡ length rest = ap length (c.split_at.ensures.back ∙ r.1) in
+    omega (arith, same, ap length p.text_is ∙ length-append p.exponent_text rest)
+
+pub returns-then-count-eq0-clause-none : goal.returns-then-count-eq0-clause-none
+returns-then-count-eq0-clause-none c = λ rest p.
+    let bytes = c.args.bytes.now in
+    let t = c.take_digits-size in
+    let sign = rw (take_rest bytes 1) at c.split_exponent_sign-negative.ensures in
+    let r = power_rest bytes rest c.split_exponent_sign-negative.result.1.now c.split_exponent_sign-negative.result.0 t.result.0 t.result.1 sign t.ensures p in
+    elim c.then-count-eq0.branch [
+      | then-count-eq0-via-then-count-eq0 w ↦ (let none = w.if-count-eq0.true in omega (arith, r.0, none))
+      | then-count-eq0-via-else-count-eq0+then-goes_on w ↦ w.if-goes_on.ensures.on refl (rw (c.split_at.ensures.back, r.1) p.stops)
+    ]

@@ -46,17 +46,17 @@ returns-clause-found c =
       small = e.small;
     }
 
-pub returns-clause-plain : goal.returns-clause-plain
-returns-clause-plain c = λ p f.
+pub returns-clause-rest : goal.returns-clause-rest
+returns-clause-rest c = λ p rest f.
     let t = c.take_whole-number.ensures in
     let s = c.split_at.ensures in
-    rw (c.in_ok-size.ensures.rest f.fraction_text f.rest (plain_parts c.args.text.now _ _ _ _ p _ c.split_sign-negative.ensures s.front s.back s.front_len t.digits t.all f).1) f.stops
+    c.in_ok-size.ensures.rest f.fraction_text rest (plain_parts c.args.text.now _ _ _ _ p rest _ c.split_sign-negative.ensures s.front s.back s.front_len t.digits t.all f).1
 
 pub returns-then-not-is_whole-clause-none : goal.returns-then-not-is_whole-clause-none
-returns-then-not-is_whole-clause-none c = λ p f.
+returns-then-not-is_whole-clause-none c = λ p rest f.
     let t = c.take_whole-number.ensures in
     let s = c.split_at.ensures in
-    let is = c.is_whole.ensures.1 (plain_parts c.args.text.now _ _ _ _ p _ c.split_sign-negative.ensures s.front s.back s.front_len t.digits t.all f).0 in
+    let is = c.is_whole.ensures.1 (plain_parts c.args.text.now _ _ _ _ p rest _ c.split_sign-negative.ensures s.front s.back s.front_len t.digits t.all f).0 in
     let not = c.if-not-is_whole.true in
     grind (arith, is, not)
 
@@ -64,4 +64,4 @@ pub returns-in_err-size-clause-none : goal.returns-in_err-size-clause-none
 returns-in_err-size-clause-none c =
     let t = c.take_whole-number.ensures in
     let s = c.split_at.ensures in
-    rw c.from_residual.ensures (λ p f. c.in_err-size.ensures.none f.fraction_text f.rest (plain_parts c.args.text.now _ _ _ _ p _ c.split_sign-negative.ensures s.front s.back s.front_len t.digits t.all f).1)
+    rw c.from_residual.ensures (λ p rest f. c.in_err-size.ensures.none f.fraction_text rest (plain_parts c.args.text.now _ _ _ _ p rest _ c.split_sign-negative.ensures s.front s.back s.front_len t.digits t.all f).1)

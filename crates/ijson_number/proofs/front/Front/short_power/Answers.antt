@@ -1,10 +1,12 @@
-use Rattle.std.proofs.Common.{◌≡◌, ◌*◌, ℕ, ◌-◌, ◌<◌, ◌⊎◌, inl, inr, sym, refl, rules, arith}
+use Rattle.std.proofs.Common.{◌≡◌, ◌*◌, ℕ, ◌-◌, ◌<◌, ◌≤◌, ◌⊎◌, true, ap, inl, inr, sym, refl, rules, arith}
 use Rattle.std.specs.Prelude.{ℤ, pos, negsuc, ◌+ℤ◌, ◌-ℤ◌, ◌<ℤ◌, ◌≤ℤ◌, ◌^◌}
 use Rattle.std.proofs.lemmas.Bool.{cases_lt}
 use Rattle.std.proofs.lemmas.Int.{ints}
 use mir.Syntax.{w16}
 use mir.Val.{to_z, of_z}
-use Rattle.ijson_number.proofs.IntegerWords.{some_stored}
+use Rattle.ijson_number.specs.Decimal.{Decimal}
+use Rattle.ijson_number.specs.private.Front.{IsPowerSmall, power_number}
+use Rattle.ijson_number.proofs.IntegerWords.{some_is, some_stored}
 use Rattle.ijson_number.proofs.ShortNumbers.{lowered, outside_form, raised}
 use Rattle.ijson_number.proofs.front.Front.short_power.Goals as goal
 use Rattle.ijson_number.proofs.front.Front.short_power.Goals.{else-exponent-gtminus8-via-then-exponent-gtminus8+else-exponent-lt27, else-exponent-gtminus8-via-else-exponent-gtminus8}
@@ -16,26 +18,49 @@ some_left size m left tens some small = elim (cases_lt 0 left) [
   | inr none ↦ (let z : left ≡ 0 = omega arith in let all = rw z at tens in absurd (omega (arith, all, some)))
 ]
 
+-- the exponent in 16 bits
+exponent_is : (power : ℤ) (places left : ℕ) → IsPowerSmall power → places ≤ 19
+    → to_z w16 (of_z w16 (to_z w16 (of_z w16 (to_z w16 (of_z w16 power) -ℤ to_z w16 places)) +ℤ to_z w16 (19 - left))) ≡ (power -ℤ pos places) +ℤ pos (19 - left)
+exponent_is power places left small few =
+    let low = small.0 in
+    let high = small.1 in
+    let e : ℤ = power -ℤ pos places in
+    rw (lowered power places small few) (raised e (19 - left) (omega (arith, ints)) (omega (arith, ints)) (omega arith))
+
 pub invariant_of-result : goal.invariant_of-result
 invariant_of-result c =
     let w = c.without_zeros-number in
     record { stripped = rw c.of_number.ensures (some_stored w.result.0 (w.ensures.stripped (some_left c.args.self.now.size w.result.0 w.result.1 w.ensures.tens c.if-self-eq0.false c.requires.small)) c.args.self.now.negative) }
 
-pub returns : goal.returns
-returns c =
+pub returns-clause-form : goal.returns-clause-form
+returns-clause-form c =
     let f = c.args.self.now in
     let w = c.without_zeros-number in
     let left = w.result.1 in
     let e : ℤ = c.args.power -ℤ pos f.places in
     let x : ℤ = e +ℤ pos (19 - left) in
-    let low = c.requires.power.0 in
-    let high = c.requires.power.1 in
-    let few = c.requires.few in
-    let exact : to_z w16 (of_z w16 (to_z w16 (of_z w16 (to_z w16 (of_z w16 c.args.power) -ℤ to_z w16 f.places)) +ℤ to_z w16 (19 - left))) ≡ x =
-    rw (lowered c.args.power f.places c.requires.power few) (raised e (19 - left) (omega (arith, ints)) (omega (arith, ints)) (omega arith)) in
+    let exact = exponent_is c.args.power f.places left c.requires.power c.requires.few in
     let outside : (x <ℤ negsuc 6) ⊎ (pos 27 ≤ℤ x) = elim c.else-exponent-gtminus8.branch [
       | else-exponent-gtminus8-via-then-exponent-gtminus8+else-exponent-lt27 b ↦ inr (let h = b.if-exponent-lt27.false in omega (arith, ints, exact, h))
       | else-exponent-gtminus8-via-else-exponent-gtminus8 b ↦ inl (let h = b.if-exponent-gtminus8.false in omega (arith, ints, exact, h))
     ] in
     let word : f.size < 2 ^ 64 = search rules in
     rw (c.of_number.ensures, exact) (sym (outside_form f.negative f.size w.result.0 (19 - left) e x w.ensures.tens (w.ensures.stripped (some_left f.size w.result.0 left w.ensures.tens c.if-self-eq0.false c.requires.small)) word refl outside))
+
+pub returns-then-exponent-lt27-clause-outside : goal.returns-then-exponent-lt27-clause-outside
+returns-then-exponent-lt27-clause-outside c = λ some outside.
+    let f = c.args.self.now in
+    let w = c.without_zeros-number in
+    let left = w.result.1 in
+    let e : ℤ = c.args.power -ℤ pos f.places in
+    let exact = exponent_is c.args.power f.places left c.requires.power c.requires.few in
+    let last = w.ensures.stripped (some_left f.size w.result.0 left w.ensures.tens some c.requires.small) in
+    let small = c.requires.small in
+    let few : f.size < 10 ^ 20 = omega (arith, small) in
+    let is : (power_number f c.args.power).exponent ≡ e +ℤ pos (19 - left) = ap (λ (n : Decimal). n.exponent) (some_is f.size w.result.0 (19 - left) some few w.ensures.tens last f.negative e true) in
+    let low = c.if-exponent-gtminus8.true in
+    let high = c.if-exponent-lt27.true in
+    elim outside [
+      | inl below ↦ absurd (omega (arith, ints, exact, is, low, below))
+      | inr above ↦ absurd (omega (arith, ints, exact, is, high, above))
+    ]
