@@ -1,10 +1,11 @@
 //! Which requests for memory texts and their cache make. Of these tests two and two make the same number of requests, which
 //! `refuse/same-requests` compares.
 use super::{Cache, empty_cache, interned};
+use crate::IString;
 use std::alloc::Global;
 use std::process::Abort;
 
-/// Interns a long text and a short one, and then interns and clones both `further` times more.
+/// Interns a long text and a short one, and then interns and clones both `further` times more, and copies an empty one.
 fn intern_again_and_again(rt: &impl Abort, alloc: Global, further: u32) {
     let mut cache = empty_cache(alloc);
     let long = interned(rt, &mut cache, "eight888");
@@ -14,6 +15,7 @@ fn intern_again_and_again(rt: &impl Abort, alloc: Global, further: u32) {
         let _short_again = interned(rt, &mut cache, "seven77");
         let _long_copy = long.clone().expect(rt, "a copy");
         let _short_copy = short.clone().expect(rt, "a copy");
+        let _empty = IString::new().to_owned_string(alloc).expect(rt, "a text");
     }
 }
 

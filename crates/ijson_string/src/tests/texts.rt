@@ -21,12 +21,15 @@ fn long_texts_alone_enter_the_cache(rt: HostRuntime) {
     assert!(rt; owned.as_str() == "eight888");
 }
 
-/// Asserts that a text and its copy are these letters, and print them.
+/// Asserts that a text and its copies are these letters, and print them. `Debug` puts them between quotes, since none is escaped.
 fn is_text(rt: &impl Abort, alloc: Global, text: &IString, letters: &str) {
     assert!(rt; text.len() == letters.len());
     assert!(rt; text.clone().expect(rt, "a copy").eq_str(letters));
-    let printed = format!(in alloc; "{text}").expect(rt, "a text");
-    assert!(rt; printed.as_str() == letters);
+    let owned = text.to_owned_string(alloc).expect(rt, "a text");
+    assert!(rt; owned.as_str() == letters);
+    let printed = format!(in alloc; "{text}{text:?}").expect(rt, "a text");
+    let want = format!(in alloc; "{letters}\"{letters}\"").expect(rt, "a text");
+    assert!(rt; printed == want);
 }
 
 /// A text of each form that is stored, at its least and its greatest length, and long ones.
@@ -51,7 +54,7 @@ fn texts_of_each_length_are_shared_and_print(rt: HostRuntime) {
 /// Texts, and what `Debug` prints of each.
 const DEBUGGED: [(&str, &str); 4] = [
     ("", r#""""#),
-    ("interned_string_b", r#""interned_string_b""#),
+    ("seven77", r#""seven77""#),
     ("a \"quote\" and \\", r#""a \"quote\" and \\""#),
     (
         "two\nlines, \u{e9} and \u{1}",
