@@ -101,7 +101,8 @@ impl Clone for IObject {
 }
 
 impl IArray {
-    /// An array of copies of these items, whose capacity is their count. An array of none takes no memory. Their texts are shared, as by `IValue::clone`.
+    /// An array of copies of these items. Its capacity is their count, and an array of none takes no memory. Their texts are
+    /// shared, as by `IValue::clone`.
     pub fn from_slice(alloc: Global, items: &[IValue]) -> Result<IArray, AllocError>
         ensures items { IfOk result (λ array. array.items ≡ items.now) }
         ensures room { IfOk result (λ array. array.capacity ≡ length items.now) }
