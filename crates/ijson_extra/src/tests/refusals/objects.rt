@@ -153,8 +153,8 @@ fn room(rt: HostRuntime) {
     }
 }
 
-/// The key and the value of a pair, which counts the pairs with it; how many others are before it and fill an object; and the capacity that it
-/// needs. The first of the objects has no memory yet.
+/// The key and the value of a pair, which counts the pairs with it; how many others are before it and fill an object; and the
+/// capacity that it needs. The first of the objects has no memory yet.
 const FULL: [(&str, u8, usize, usize); 2] = [("a", 1, 0, 4), ("e", 5, 4, 8)];
 
 /// Why the entry of a copied key was refused, if it was.
