@@ -6,7 +6,7 @@ use Rattle.std.proofs.lemmas.Option.{slice_get_past, slice_get-get_or}
 use Rattle.std.specs.Str.{bytes_eq}
 use Rattle.ijson_table.specs.Store.{Store, at, lookup, put}
 use Rattle.ijson_table.proofs.Keys.{same_key, lookup-found, position_within}
-use Rattle.ijson_table.specs.laws.Store.{store_with_value}
+use Rattle.ijson_table.specs.StoreWithValue.{store_with_value}
 use Rattle.ijson_value.specs.LendsAtKey.{with_found, with_key}
 use Rattle.ijson_value.specs.Sequence.{Sequence}
 use Rattle.ijson_value.specs.Step.{Step, by_position, by_key, tree_at, tree_with}

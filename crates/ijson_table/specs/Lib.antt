@@ -1,4 +1,5 @@
 pub mod Store
+pub mod StoreWithValue
 pub mod Growth
 pub mod Inserts
 pub mod Steps

@@ -8,7 +8,7 @@ use Rattle.ijson_table.specs.Growth.{Ungrown}
 use Rattle.ijson_table.specs.Store.{Store, at, lookup, keys_of, swap_out, with_value}
 use Rattle.ijson_table.specs.declared.store.ReserveError.{ReserveError}
 use Rattle.ijson_table.specs.declared.store.ReserveError.TheVariants.{Memory, TooLarge}
-use Rattle.ijson_table.specs.laws.Store.{store_with_value}
+use Rattle.ijson_table.specs.StoreWithValue.{store_with_value}
 use Rattle.ijson_value.specs.AtKey.{swap_out_key, swapped_at}
 use Rattle.ijson_value.specs.WellFormed.{WellFormed}
 use Rattle.ijson_value.specs.WithEntry.{with_entry_value}

@@ -1,9 +1,10 @@
 -- One question of `retain`, and then the rest.
-use Rattle.std.proofs.Common.{◌≡◌, ◌<◌, ℕ, zero, suc, ◌+◌, ◌-◌, List, [], ◌∷◌, length, get_or, set, take, Bool, true, false, Some, sym, ap, subst, ◌∙◌, arith, inl, inr, length-set}
-use Rattle.std.specs.Prelude.{slice_get, swap_remove}
+use Rattle.std.proofs.Common.{◌≡◌, ◌<◌, ℕ, zero, suc, ◌+◌, ◌-◌, List, [], ◌∷◌, length, get_or, set, take, Bool, true, false, Some, refl, sym, ap, subst, ◌∙◌, arith, inl, inr, length-set}
+use Rattle.std.specs.Prelude.{slice_get, swap_remove, if◌then◌else◌}
 use Rattle.std.proofs.lemmas.List.{take-set-le, set-set, get_or-set_other}
 use Rattle.ijson_table.proofs.Keys.{set-value, swap_out-is}
 use Rattle.ijson_table.specs.Store.{with_value, swap_out}
+use Rattle.ijson_value.specs.MayAsk.{MayAskFrom}
 use Rattle.ijson_value.specs.Retains.{RetainsFrom}
 use Rattle.ijson_value.specs.laws.EntryValid.{length-with_value}
 use Rattle.ijson_value.proofs.Cases.{below_or_not}
@@ -47,3 +48,15 @@ module _ {F V : Type 0} (asked : F → List ℕ → V → Bool → V → F → T
   pub gone : (n m : ℕ) (f g : F) (i : ℕ) (ps qs : List (List ℕ × V)) (key : List ℕ) (v w : V) → n ≡ suc m
       → slice_get ps i ≡ Some (key, v) → asked f key v false w g → RetainsFrom asked m g i (swap_out ps i) qs → RetainsFrom asked n f i ps qs
   gone n m f g i ps qs key v w e got did rest = subst (λ k. RetainsFrom asked k f i ps qs) (sym e) (key, v, false, w, g, got, did, rest)
+
+  -- the question about the pair at i may be asked, and once it was, so may those that follow
+  module _ (may : F → List ℕ → V → Type 0) where
+    pub asks_now : (f : F) (i : ℕ) (ps : List (List ℕ × V)) (key : List ℕ) (v : V) → MayAskFrom asked may f i ps → slice_get ps i ≡ Some (key, v) → may f key v
+    asks_now f i ps key v may_ask got = may_ask.at 0 f i ps key v (refl, refl, refl) got
+
+    pub may_ask_next : (f g : F) (i : ℕ) (ps : List (List ℕ × V)) (key : List ℕ) (v : V) (keeps : Bool) (w : V)
+        → MayAskFrom asked may f i ps → slice_get ps i ≡ Some (key, v) → asked f key v keeps w g
+        → MayAskFrom asked may g (if keeps then i + 1 else i) (if keeps then with_value ps i w else swap_out ps i)
+    may_ask_next f g i ps key v keeps w may_ask got did = record {
+      at = λ n h j left k u run there. may_ask.at (suc n) h j left k u (key, v, keeps, w, g, got, did, run) there;
+    }

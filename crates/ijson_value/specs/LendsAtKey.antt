@@ -4,7 +4,7 @@ use Rattle.std.specs.Prelude.{◌≡◌, ℕ, List, Option, Some, None, Result, 
 use Rattle.std.specs.Borrow.{Lends, LendsIf, LendsSoOk, MutBor, Fml}
 use Rattle.ijson_table.specs.Growth.{Grown}
 use Rattle.ijson_table.specs.Store.{Store, at, put}
-use Rattle.ijson_table.specs.laws.Store.{store_with_value}
+use Rattle.ijson_table.specs.StoreWithValue.{store_with_value}
 use Rattle.ijson_value.specs.WellFormed.{WellFormed}
 use Rattle.ijson_value.specs.contracts.object.map.IObject as object
 use Rattle.ijson_value.specs.contracts.value.IValue as value

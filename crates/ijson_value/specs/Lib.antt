@@ -14,6 +14,7 @@ pub mod LendsPart
 pub mod LendsStep
 pub mod LendsValue
 pub mod Length
+pub mod MayAsk
 pub mod NodeValue
 pub mod Opened
 pub mod Order

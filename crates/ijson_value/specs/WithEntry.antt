@@ -1,7 +1,7 @@
 -- What an object and an entry are once a value is written beside the entry's key. This project's own.
 use Rattle.std.specs.Prelude.{◌≡◌, ℕ, List, [], ◌∷◌, ◌++◌}
 use Rattle.ijson_table.specs.Store.{Store, put}
-use Rattle.ijson_table.specs.laws.Store.{store_with_value}
+use Rattle.ijson_table.specs.StoreWithValue.{store_with_value}
 use Rattle.ijson_table.proofs.Keys.{distinct_pushed}
 use Rattle.ijson_value.specs.WellFormed.{WellFormed}
 use Rattle.ijson_value.specs.declared.object.entry.Entry.{Entry}

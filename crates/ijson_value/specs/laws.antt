@@ -4,6 +4,7 @@ pub mod Equality
 pub mod Falls
 pub mod HoldsWellFormed
 pub mod Lengths
+pub mod MayAskAlways
 pub mod MemberTrees
 pub mod NodeFalls
 pub mod ObjectFalls

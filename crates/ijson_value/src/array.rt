@@ -1,5 +1,5 @@
 //! Arrays of values.
-ghost use Rattle.std.specs.Prelude.{◌≡◌, ◌==◌, [], ◌∷◌, ◌++◌, ◌+◌, ◌<◌, ◌≤◌, length, vec_capacity, OnOk, OnErr, IfOk, IfErr, IsOk, IsTrue, ◌↔◌};
+ghost use Rattle.std.specs.Prelude.{◌≡◌, ◌==◌, [], ◌∷◌, ◌++◌, ◌+◌, ◌*◌, ◌<◌, ◌≤◌, length, vec_capacity, OnOk, OnErr, IfOk, IfErr, IsOk, IsTrue, ◌↔◌};
 ghost use Rattle.ijson_value.specs.Same.{Same};
 ghost use Rattle.ijson_value.specs.SameTest.{same};
 ghost use Rattle.ijson_value.specs.Values.{array_tree, array_value};
@@ -66,6 +66,7 @@ impl IArray {
     pub fn with_capacity(alloc: Global, capacity: usize) -> Result<IArray, AllocError>
         ensures items { IfOk result (λ array. array.items ≡ []) }
         ensures room { IfOk result (λ array. capacity ≤ array.capacity) }
+        ensures exact { IfOk result (λ array. array.capacity ≡ capacity) }
         ensures none { capacity ≡ 0 → IsOk result }
     {
         if capacity == 0 {
@@ -132,24 +133,24 @@ impl IArray {
     }
 
     /// Puts an item last. It takes memory only where there is no room for one more. Room then at least doubles, so pushes take
-    /// constant time on average. Where that is refused, the item comes back and the array is as it was.
+    /// constant time on average. Where that is refused, the item comes back and the array is as it was, with the room that it had.
     pub fn push(&mut self, item: IValue) -> Result<(), Refused>
         ensures ok { OnOk result (self.new.items ≡ self.old.items ++ item ∷ []) }
         ensures refused { IfErr result (λ refused.
             (refused.0 ≡ item) × (self.new.items ≡ self.old.items)) }
+        ensures kept { OnErr result (self.new.capacity ≡ self.old.capacity) }
         ensures room { length self.old.items < self.old.capacity → IsOk result }
+        ensures stays { length self.old.items < self.old.capacity
+            → self.new.capacity ≡ self.old.capacity }
+        ensures doubles { OnOk result (self.old.capacity ≤ length self.old.items
+            → 2 * self.old.capacity ≤ self.new.capacity) }
         ensures capacity { self.old.capacity ≤ self.new.capacity }
     {
-        if self.list.is_none() {
-            match Box::new(self.alloc, Vec::new(self.alloc)) {
-                Ok(list) => self.list = Some(list),
-                Err(_) => return Err(Refused(item)),
-            }
+        if self.reserve(1).is_err() {
+            return Err(Refused(item));
         }
-        match self.list.as_mut().unwrap().push(item) {
-            Ok(()) => Ok(()),
-            Err(refused) => Err(Refused(refused.value)),
-        }
+        self.list.as_mut().unwrap().push_reserved(item);
+        Ok(())
     }
 
     /// Makes room for `additional` items more, so that as many pushes take no memory. It takes memory only where there is
@@ -160,15 +161,22 @@ impl IArray {
         ensures ok { OnOk result (length self.new.items + additional ≤ self.new.capacity) }
         ensures refused { OnErr result (self.new.capacity ≡ self.old.capacity) }
         ensures room { length self.old.items + additional ≤ self.old.capacity → IsOk result }
+        ensures stays { length self.old.items + additional ≤ self.old.capacity
+            → self.new.capacity ≡ self.old.capacity }
+        ensures doubles { OnOk result (self.old.capacity < length self.old.items + additional
+            → 2 * self.old.capacity ≤ self.new.capacity) }
         ensures capacity { self.old.capacity ≤ self.new.capacity }
     {
-        match &mut self.list {
-            Some(list) => list.reserve(additional),
-            None => {
-                *self = IArray::with_capacity(self.alloc, additional)?;
-                Ok(())
-            }
+        if let Some(list) = &mut self.list {
+            return grow(list, additional);
         }
+        if additional == 0 {
+            return Ok(());
+        }
+        let mut list = Vec::new(self.alloc);
+        grow(&mut list, additional)?;
+        self.list = Some(Box::new(self.alloc, list)?);
+        Ok(())
     }
 
     /// Gives back the room that no item fills. The items move to a list of their length, for which memory is asked; where that
@@ -188,6 +196,28 @@ impl IArray {
         }
         Ok(())
     }
+}
+
+/// Makes room in a list for `additional` items more. Where it has not that room, its capacity becomes the greatest of twice the
+/// old one, the length with them, and 4.
+fn grow(list: &mut Vec<IValue>, additional: usize) -> Result<(), AllocError>
+    ensures items { list.new.items ≡ list.old.items }
+    ensures ok { OnOk result (length list.new.items + additional ≤ vec_capacity list.new) }
+    ensures refused { OnErr result (vec_capacity list.new ≡ vec_capacity list.old) }
+    ensures room { length list.old.items + additional ≤ vec_capacity list.old → IsOk result }
+    ensures stays { length list.old.items + additional ≤ vec_capacity list.old
+        → vec_capacity list.new ≡ vec_capacity list.old }
+    ensures doubles { OnOk result (vec_capacity list.old < length list.old.items + additional
+        → 2 * vec_capacity list.old ≤ vec_capacity list.new) }
+{
+    let len = list.len();
+    if additional <= list.capacity() - len {
+        return Ok(());
+    }
+    let Some(twice) = list.capacity().checked_mul(2) else {
+        return Err(AllocError);
+    };
+    list.reserve_exact(additional.max(twice.max(4) - len))
 }
 
 /// Whether there are as many items and each means the same as the one at its position. It takes no memory.

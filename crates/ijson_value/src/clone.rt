@@ -1,5 +1,5 @@
 //! Copies, as one walk over a value, a slice of values and an object's pairs.
-ghost use Rattle.std.specs.Prelude.{◌≡◌, IfOk, length};
+ghost use Rattle.std.specs.Prelude.{◌≡◌, IfOk, IsOk, length};
 ghost use Rattle.ijson_table.specs.Store.{keys_of};
 
 use crate::array::IArray;
@@ -33,7 +33,9 @@ fn clone_value(value: &IValue) -> Result<IValue, AllocError>
 /// An array of copies of these items. An array of none takes no memory.
 #[cycle(clone)]
 pub(crate) fn clone_items(alloc: Global, items: &[IValue]) -> Result<IArray, AllocError>
-    ensures { IfOk result (λ copy. copy.items ≡ items.now) }
+    ensures items { IfOk result (λ copy. copy.items ≡ items.now) }
+    ensures room { IfOk result (λ copy. copy.capacity ≡ length items.now) }
+    ensures none { length items.now ≡ 0 → IsOk result }
 {
     let mut copy = IArray::with_capacity(alloc, items.len())?;
     for item in items {
@@ -51,7 +53,8 @@ fn clone_pairs(
     alloc: Global,
     pairs: &[(IString, IValue)],
 ) -> Result<Vec<(IString, IValue)>, AllocError>
-    ensures { IfOk result (λ copies. copies.items ≡ pairs.now) }
+    ensures pairs { IfOk result (λ copies. copies.items ≡ pairs.now) }
+    ensures none { length pairs.now ≡ 0 → IsOk result }
 {
     let mut copies = Vec::with_capacity(alloc, pairs.len())?;
     for pair in pairs {
@@ -73,9 +76,11 @@ impl Clone for IValue {
     }
 }
 
-/// An array of copies of the items, with room for them; its cost is that of `IValue::clone`.
+/// An array of copies of the items, whose capacity is their count; its cost is that of `IValue::clone`.
 impl Clone for IArray {
-    ghost is_clone = { λ a copy. copy.items ≡ a.items };
+    ghost is_clone = { λ a copy. (copy.items ≡ a.items) × (copy.capacity ≡ length a.items) };
+
+    ghost is_infallible = { λ a. length a.items ≡ 0 };
 
     fn clone(&self) -> Result<IArray, AllocError> {
         clone_items(self.allocator(), self.as_slice())
@@ -87,6 +92,8 @@ impl Clone for IArray {
 impl Clone for IObject {
     ghost is_clone = { λ o copy. (copy.pairs ≡ o.pairs) × (copy.capacity ≡ length o.pairs) };
 
+    ghost is_infallible = { λ o. length o.pairs ≡ 0 };
+
     fn clone(&self) -> Result<IObject, AllocError> {
         let pairs = clone_pairs(self.allocator(), self.as_slice())?;
         self.with_same_keys(pairs)
@@ -94,9 +101,12 @@ impl Clone for IObject {
 }
 
 impl IArray {
-    /// An array of copies of these items. An array of none takes no memory. Their texts are shared, as by `IValue::clone`.
+    /// An array of copies of these items. Its capacity is their count, and an array of none takes no memory. Their texts are
+    /// shared, as by `IValue::clone`.
     pub fn from_slice(alloc: Global, items: &[IValue]) -> Result<IArray, AllocError>
-        ensures { IfOk result (λ array. array.items ≡ items.now) }
+        ensures items { IfOk result (λ array. array.items ≡ items.now) }
+        ensures room { IfOk result (λ array. array.capacity ≡ length items.now) }
+        ensures none { length items.now ≡ 0 → IsOk result }
     {
         clone_items(alloc, items)
     }

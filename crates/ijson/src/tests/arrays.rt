@@ -148,6 +148,9 @@ const GIVEN: [(usize, u8); 3] = [(3, b'n'), (2, b't'), (1, b'f')];
 fn iterators(rt: HostRuntime) {
     let array = spelled(&rt, rt.alloc(), "ntf");
     assert!(rt; array.iter().len() == 3 && is_spelled(&array, "ntf"));
+    let given = spelled(&rt, rt.alloc(), "nf").into_iter();
+    let shown = format!(in rt.alloc(); "{given:?}").expect(&rt, "a text");
+    assert!(rt; shown.as_str() == "IntoIter([null, false])");
     gives_out(&rt, array);
     assert!(rt; IArray::new(rt.alloc()).into_iter().next().is_none());
 }

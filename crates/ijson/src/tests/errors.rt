@@ -1,6 +1,11 @@
 //! Each fault goes by `?` into an error that keeps its text.
 
+use crate::array::Refused;
 use crate::json::{CompactError, DeviceFault, JsonError};
+use crate::object::{RefusedKey, RefusedPair};
+use crate::string::IString;
+use crate::table::ReserveError;
+use crate::value::IValue;
 use std::alloc::Global;
 use std::error::Error;
 use std::process::Abort;
@@ -53,4 +58,21 @@ fn faults_become_errors(rt: HostRuntime) {
         keeps(&rt, rt.alloc(), fault, text);
     }
     keeps(&rt, rt.alloc(), DeviceFault, "a read or a write failed");
+}
+
+#[test]
+fn refusals_become_errors(rt: HostRuntime) {
+    let (key, value) = (IString::new(), IValue::NULL);
+    let why = ReserveError::Memory;
+    keeps(
+        &rt,
+        rt.alloc(),
+        Refused(IValue::NULL),
+        "no memory for one more item",
+    );
+    let text = "the object did not grow for one more key: a request for memory was refused";
+    keeps(&rt, rt.alloc(), RefusedKey { key, why }, text);
+    let (key, why) = (IString::new(), ReserveError::TooLarge);
+    let text = "the store did not grow for one more pair: the capacity would pass 2^56";
+    keeps(&rt, rt.alloc(), RefusedPair { key, value, why }, text);
 }

@@ -12,6 +12,7 @@ use crate::object::IObject;
 use crate::string::IString;
 use crate::value::{Destructured, DestructuredMut, DestructuredRef, IValue, ValueType};
 use std::alloc::Global;
+use std::fmt::Debug;
 use std::process::Abort;
 
 /// Sets the value at a position to null.
@@ -165,6 +166,22 @@ fn empty(value: &mut IValue) {
     }
 }
 
+/// Does the same through the part that is lent by its kind; a truth value stays.
+fn empty_part(value: &mut IValue) {
+    if let Some(number) = value.as_number_mut() {
+        *number = INumber::zero();
+    }
+    if let Some(string) = value.as_string_mut() {
+        *string = IString::new();
+    }
+    if let Some(array) = value.as_array_mut() {
+        array.clear();
+    }
+    if let Some(object) = value.as_object_mut() {
+        object.clear();
+    }
+}
+
 /// Texts, what is answered of each value, and what is left once it is emptied.
 const KINDS: [(&str, Answers, &str); 7] = [
     ("null", (ValueType::Null, None, None, None), "null"),
@@ -192,13 +209,137 @@ fn is_emptied(rt: &impl Abort, value: &mut IValue, told: Answers, left: &IValue)
     assert!(rt; *value == *left);
 }
 
+/// Asserts that a value emptied by its part is what is left of it, but for a truth value.
+fn is_emptied_by_part(rt: &impl Abort, value: &mut IValue, left: &IValue) {
+    empty_part(value);
+    assert!(rt; *value == *left || value.is_bool());
+}
+
 #[test]
 fn kinds_and_parts(rt: HostRuntime) {
     for (text, told, left) in KINDS {
         let mut value = parsed(&rt, rt.alloc(), text);
-        is_emptied(&rt, &mut value, told, &parsed(&rt, rt.alloc(), left));
+        let left = parsed(&rt, rt.alloc(), left);
+        is_emptied(&rt, &mut value, told, &left);
         is_taken(&rt, value, told.0);
+        is_emptied_by_part(&rt, &mut parsed(&rt, rt.alloc(), text), &left);
     }
+}
+
+/// Texts, whether the values of both are equal once they are opened, and what is shown of the first.
+const OPENED: [(&str, &str, bool, &str); 6] = [
+    ("null", "null", true, "Null"),
+    ("true", "false", false, "Bool(true)"),
+    ("2", "2.0", true, "Number(2)"),
+    ("\"s\"", "\"t\"", false, "String(\"s\")"),
+    ("[1]", "1", false, "Array([1])"),
+    (
+        "{\"a\":1,\"b\":2}",
+        "{\"b\":2,\"a\":1}",
+        true,
+        "Object({\"a\": 1, \"b\": 2})",
+    ),
+];
+
+/// Asserts what is shown of something.
+fn is_shown<T: Debug>(rt: &impl Abort, alloc: Global, shown: &T, want: &str) {
+    let text = format!(in alloc; "{shown:?}").expect(rt, "a text");
+    assert!(rt; text.as_str() == want);
+}
+
+/// Opens a value in each way, and asserts what is shown of it.
+fn is_shown_open(rt: &impl Abort, alloc: Global, mut value: IValue, want: &str) {
+    is_shown(rt, alloc, &value.destructure_ref(), want);
+    is_shown_to_be_written(rt, alloc, value.destructure_mut(), want);
+    is_shown(rt, alloc, &value.destructure(), want);
+}
+
+/// The same of one that is opened to be written, where a truth value is shown by itself.
+fn is_shown_to_be_written(rt: &impl Abort, alloc: Global, value: DestructuredMut<'_>, want: &str) {
+    match value {
+        DestructuredMut::Bool(truth) => is_shown(rt, alloc, &truth, "BoolMut { place: true }"),
+        other => is_shown(rt, alloc, &other, want),
+    }
+}
+
+/// Compares two values once they are opened.
+fn are_equal_open(rt: &impl Abort, left: IValue, right: IValue, want: bool) {
+    let (left, right) = (left.destructure(), right.destructure());
+    assert!(rt; (left == right) == want && (left.as_ref() == right.as_ref()) == want);
+}
+
+#[test]
+fn values_opened(rt: HostRuntime) {
+    let alloc = rt.alloc();
+    for (text, other, want, shown) in OPENED {
+        let (left, right) = (parsed(&rt, alloc, text), parsed(&rt, alloc, other));
+        are_equal_open(&rt, left, right, want);
+        is_shown_open(&rt, alloc, parsed(&rt, alloc, text), shown);
+    }
+    is_shown(&rt, alloc, &ValueType::Object, "Object");
+}
+
+/// For how many items or pairs there is room in a value.
+fn room(value: &IValue) -> Option<usize> {
+    match value.destructure_ref() {
+        DestructuredRef::Array(array) => Some(array.capacity()),
+        DestructuredRef::Object(object) => Some(object.capacity()),
+        _ => None,
+    }
+}
+
+/// For how many items or pairs there is room in the part that a value gives out.
+fn room_given(value: IValue) -> Option<usize> {
+    match value.into_array() {
+        Ok(array) => Some(array.capacity()),
+        Err(value) => Some(value.into_object().ok()?.capacity()),
+    }
+}
+
+/// Asserts that an array or an object keeps its room while it is lent, and once it is given out.
+fn keeps_room(rt: &impl Abort, mut value: IValue, want: usize) {
+    empty(&mut value);
+    assert!(rt; room(&value) == Some(want));
+    empty_part(&mut value);
+    assert!(rt; room(&value) == Some(want));
+    assert!(rt; room_given(value.take()) == Some(want));
+}
+
+#[test]
+fn room_goes_along(rt: HostRuntime) {
+    let array = IArray::with_capacity(rt.alloc(), 7).expect(&rt, "room");
+    keeps_room(&rt, array.into(), 7);
+    let object = IObject::with_capacity(rt.alloc(), 7).expect(&rt, "room");
+    keeps_room(&rt, object.into(), 7);
+}
+
+/// Texts, and for how many items or pairs there is room in the value of each: no more than there are.
+const READ: [(&str, usize); 4] = [
+    ("[]", 0),
+    ("[1,2,3]", 3),
+    ("{}", 0),
+    ("{\"a\":1,\"b\":2,\"c\":3}", 3),
+];
+
+/// The text of an array of so many zeros, of which there are some.
+fn zeros(rt: &impl Abort, alloc: Global, count: u32) -> String {
+    let mut text = String::new(alloc);
+    text.push_str("[0").expect(rt, "room");
+    for _ in 1..count {
+        text.push_str(",0").expect(rt, "room");
+    }
+    text.push_str("]").expect(rt, "room");
+    text
+}
+
+#[test]
+fn room_of_what_is_read(rt: HostRuntime) {
+    for (text, want) in READ {
+        assert!(rt; room(&parsed(&rt, rt.alloc(), text)) == Some(want));
+    }
+    let long = zeros(&rt, rt.alloc(), 700_000);
+    let value = parsed(&rt, rt.alloc(), long.as_str());
+    assert!(rt; value.len() == Some(700_000));
 }
 
 /// Takes a value of a kind, which leaves null, and takes it apart.

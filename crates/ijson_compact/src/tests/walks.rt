@@ -15,7 +15,7 @@ use std::hash::{BuildHasherDefault, DefaultHasher, FoldHasher, Hash, Hasher};
 use std::process::Abort;
 
 /// Texts, and the words that the value of each feeds a hasher.
-const WORDS: [(&str, &[u64]); 15] = [
+const WORDS: [(&str, &[u64]); 16] = [
     ("null", &[0]),
     ("false", &[1, 0]),
     ("true", &[1, 1]),
@@ -31,6 +31,7 @@ const WORDS: [(&str, &[u64]); 15] = [
     ("[{\"k\":1.0}]", &[4, 1, 5, 1, 7714392845486680433]),
     ("{\"o\":{\"k\":1}}", &[5, 1, 14594105837547140109]),
     ("{\"l\":[1.0,{}],\"k\":2}", &[5, 2, 4038060259889821969]),
+    ("{\"k\":2.0,\"l\":[1,{}]}", &[5, 2, 4038060259889821969]),
 ];
 
 /// Asserts that a value feeds these words, and that an array or object in it feeds the same.

@@ -12,6 +12,7 @@ use ijson_table::ReserveError;
 use ijson_value::object::{Entry, IObject};
 use ijson_value::value::{DestructuredRef, IValue};
 use std::alloc::Global;
+use std::fmt::Debug;
 use std::process::Abort;
 
 /// An object of these keys, each with its position beside it.
@@ -171,6 +172,18 @@ fn room_made_ahead(rt: HostRuntime) {
     assert!(rt; matches!(past, Err(ReserveError::TooLarge)));
 }
 
+/// Copies an object of the keys a to c that has room for one more.
+fn copies(rt: &impl Abort, object: &IObject) {
+    let copy = object.clone().expect(rt, "a copy");
+    assert!(rt; object.capacity() == 4 && copy.capacity() == 3 && copy == *object);
+    assert!(rt; has_keys(&copy, &["a", "b", "c"]) && number_at(&copy, "c") == 2);
+}
+
+#[test]
+fn copied(rt: HostRuntime) {
+    copies(&rt, &of_keys(&rt, rt.alloc(), &["a", "b", "c"]));
+}
+
 /// A list of pairs, one key of which comes again.
 fn listed(rt: &impl Abort, alloc: Global) -> Vec<(IString, IValue)> {
     let mut pairs = Vec::new(alloc);
@@ -191,10 +204,13 @@ fn lists_of_pairs(rt: HostRuntime) {
     assert!(rt; none.is_empty() && none.capacity() == 0);
 }
 
-/// Puts the pairs of an object of this one key into another object.
+/// Extends an object of the keys a and so on by the pair of this key and 9.
 fn extends(rt: &impl Abort, alloc: Global, object: &mut IObject, letters: &str) {
-    let more = of_keys(rt, alloc, &[letters]);
+    let mut more = IObject::new(alloc);
+    let old = more.insert(key(rt, alloc, letters), of_number(9));
+    drop(old.expect(rt, "room"));
     object.extend(more).expect(rt, "room");
+    assert!(rt; number_at(object, letters) == 9 && number_at(object, "b") == 1);
 }
 
 #[test]
@@ -225,10 +241,15 @@ fn keys_of_each_length(rt: HostRuntime) {
     assert!(rt; again == mixed(&rt, alloc) && again.capacity() == 4);
 }
 
-/// Asks for the entry of a key that is not there, and takes the key back.
+/// Asks for the entry of k, and takes the key back: that of a pair that is there comes out with it.
 fn asked(rt: &impl Abort, object: &mut IObject, key: IString) -> IString {
-    match object.entry(key).expect(rt, "room") {
-        Entry::Vacant(entry) => entry.into_key(),
+    let entry = object.entry(key).expect(rt, "room");
+    assert!(rt; entry.key().eq_str("k"));
+    match entry {
+        Entry::Vacant(entry) => {
+            assert!(rt; entry.key().eq_str("k"));
+            entry.into_key()
+        }
         Entry::Occupied(entry) => entry.remove_entry().0,
     }
 }
@@ -266,10 +287,15 @@ fn and_modify(rt: &impl Abort, object: &mut IObject, key: IString) -> usize {
 
 #[test]
 fn an_entry_gives_its_key_back(rt: HostRuntime) {
-    let mut object = IObject::new(rt.alloc());
-    let back = asked(&rt, &mut object, key(&rt, rt.alloc(), "k"));
-    assert!(rt; back.eq_str("k") && object.is_empty() && object.capacity() == 4);
+    for (keys, left) in ASKED {
+        let mut object = of_keys(&rt, rt.alloc(), keys);
+        let back = asked(&rt, &mut object, key(&rt, rt.alloc(), "k"));
+        assert!(rt; back.eq_str("k") && has_keys(&object, left) && object.capacity() == 4);
+    }
 }
+
+/// Keys, and those that are left once k is asked for.
+const ASKED: [(&[&str], &[&str]); 2] = [(&[], &[]), (&["a", "k", "x"], &["a", "x"])];
 
 #[test]
 fn entries_put_once(rt: HostRuntime) {
@@ -304,7 +330,7 @@ fn occupied(rt: &impl Abort, object: &mut IObject, key: &IString) {
         assert!(rt; entry.key().eq_str("k") && number_of(&entry.insert(of_number(8))) == 1);
         *entry.get_mut() = of_number(9);
         assert!(rt; number_of(entry.get()) == 9);
-        assert!(rt; number_of(&entry.remove_entry().1) == 9);
+        assert!(rt; number_of(&entry.remove()) == 9);
     }
 }
 
@@ -411,6 +437,35 @@ fn retained(rt: HostRuntime) {
     iterates(&rt, &object);
     iterates_apart(&rt, &object);
     gives_out(&rt, object);
+}
+
+/// Asserts what is shown of a value.
+fn is_shown<T: Debug>(rt: &impl Abort, alloc: Global, value: &T, want: &str) {
+    let shown = format!(in alloc; "{value:?}").expect(rt, "a text");
+    assert!(rt; shown.as_str() == want);
+}
+
+/// What is shown of the entries of a, which is there, and of x, which is not.
+const ENTRIES: [(&str, &str); 2] = [
+    ("a", "Occupied(OccupiedEntry { key: \"a\", value: 0 })"),
+    ("x", "Vacant(VacantEntry(\"x\"))"),
+];
+
+#[test]
+fn what_is_shown(rt: HostRuntime) {
+    let alloc = rt.alloc();
+    let mut object = of_keys(&rt, alloc, &["a", "k"]);
+    for (letters, want) in ENTRIES {
+        let entry = object.entry(key(&rt, alloc, letters)).expect(&rt, "room");
+        is_shown(&rt, alloc, &entry, want);
+    }
+    is_shown(&rt, alloc, &object.iter(), "[(\"a\", 0), (\"k\", 1)]");
+    is_shown(
+        &rt,
+        alloc,
+        &object.into_iter(),
+        "IntoIter([(\"a\", 0), (\"k\", 1)])",
+    );
 }
 
 // The texts are not made by `key`: `put_two` asks for two that differ, and no contract tells what `key` gives.

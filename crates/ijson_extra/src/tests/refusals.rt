@@ -142,8 +142,33 @@ fn shrinks(rt: &impl Abort, array: &mut IArray) {
     assert!(rt; counts(array, 3) && array.capacity() == 3);
 }
 
+/// Puts an item into an array that has no memory yet.
+fn inserts_first(rt: &impl Abort, alloc: Global) {
+    let mut array = IArray::new(alloc);
+    if let Err(refused) = array.insert(0, number(0)) {
+        assert!(rt; refused.0 == number(0) && array.is_empty() && array.capacity() == 0);
+        array.insert(0, refused.0).expect(rt, "an item");
+    }
+    assert!(rt; counts(&array, 1));
+}
+
+/// Makes room for three items in an array that has no memory yet, and pushes three.
+fn reserves_three(rt: &impl Abort, alloc: Global) {
+    let mut array = IArray::new(alloc);
+    if array.reserve(3).is_err() {
+        assert!(rt; array.is_empty() && array.capacity() == 0);
+        array.reserve(3).expect(rt, "room");
+    }
+    for at in 0..3usize {
+        array.push(number(at)).expect(rt, "room");
+    }
+    assert!(rt; counts(&array, 3));
+}
+
 #[test]
 fn array_room(rt: HostRuntime) {
+    inserts_first(&rt, rt.alloc());
+    reserves_three(&rt, rt.alloc());
     let mut array = one_and_two(&rt, rt.alloc());
     inserts_zero(&rt, rt.alloc(), &mut array);
     grows(&rt, &mut array);
@@ -311,19 +336,32 @@ fn read_into(rt: &impl Abort, alloc: Global, cache: &mut Cache, text: &str, held
     }
 }
 
-/// Puts a comma, a number and a string behind a text.
+/// The text `true`, which has no room for more.
+fn full_text(rt: &impl Abort, alloc: Global) -> String {
+    let mut text = match String::with_capacity(alloc, 4) {
+        Ok(text) => text,
+        Err(AllocError) => String::with_capacity(alloc, 4).expect(rt, "a text"),
+    };
+    text.push_str("true").expect(rt, "room");
+    text
+}
+
+/// Puts a comma, a number or a string behind a text that has no room.
 fn parts(rt: &impl Abort, alloc: Global) {
-    let mut found = written(rt, alloc, &IValue::TRUE);
+    let mut found = full_text(rt, alloc);
     if push_separator(&mut found, false).is_err() {
+        assert!(rt; found.as_str() == "true");
         push_separator(&mut found, false).expect(rt, "a longer text");
     }
     assert!(rt; found.as_str() == "true,");
-    if INumber::from(u64::MAX).push_to(&mut found).is_err() {
-        assert!(rt; found.as_str().starts_with("true,"));
-    }
-    if push_quoted(&mut found, "\n").is_err() {
-        assert!(rt; found.as_str().starts_with("true,"));
-    }
+    let mut found = full_text(rt, alloc);
+    let pushed = INumber::from(u64::MAX).push_to(&mut found);
+    assert!(rt; found.as_str().starts_with("true") && (pushed.is_ok() == (found.len() == 24)));
+    let mut found = full_text(rt, alloc);
+    let pushed = push_quoted(&mut found, "\n");
+    assert!(rt;
+        found.as_str().starts_with("true") && (pushed.is_ok() == found.as_str().ends_with("\""))
+    );
 }
 
 #[test]

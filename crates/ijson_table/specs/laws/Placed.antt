@@ -7,7 +7,8 @@ use Rattle.ijson_table.specs.Crowd.{place_count}
 use Rattle.ijson_table.specs.Placed.{Placed}
 use Rattle.ijson_table.specs.Store.{Store, keys_of}
 use Rattle.ijson_table.specs.laws.Room.{HasRoom-prop}
-use Rattle.ijson_table.specs.laws.Store.{store_code, store_with_value}
+use Rattle.ijson_table.specs.StoreWithValue.{store_with_value}
+use Rattle.ijson_table.specs.laws.Store.{store_code}
 use Rattle.ijson_table.specs.private.IsPlaced.{IsPlaced}
 use Rattle.ijson_table.specs.private.PlaceList.{Index}
 use Rattle.ijson_table.specs.private.Room.{HasRoom}

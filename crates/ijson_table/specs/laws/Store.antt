@@ -1,7 +1,7 @@
--- That keys are distinct is one fact; the code of a store; and a store with another value.
+-- That keys are distinct is one fact; the code of a store; and that another value leaves the keys.
 use Rattle.std.specs.Prelude.{◌≡◌, ℕ, zero, suc, List, [], ◌∷◌, refl}
 use Rattle.std.specs.Coded.{Coded, code_by, coded_list, coded_ℕ, coded×, →_prop, ×_prop, Unit-prop}
-use Rattle.std.proofs.Common.{sym, ap, subst}
+use Rattle.std.proofs.Common.{ap}
 use base.Stored.{coded_sub}
 use Rattle.ijson_table.specs.Store.{Store, Lacks, IsDistinct, keys_of, with_value}
 
@@ -26,11 +26,3 @@ pub keys-with_value : {V : Type 0} (pairs : List (List ℕ × V)) (i : ℕ) (val
 keys-with_value [] i value = refl
 keys-with_value (pair ∷ pairs) zero value = refl
 keys-with_value (pair ∷ pairs) (suc i) value = ap (λ ks. pair.0 ∷ ks) (keys-with_value pairs i value)
-
--- the store with this value at i, its keys and its capacity left
-abbrev pub store_with_value : {V : Type 0} → Store V → ℕ → V → Store V
-store_with_value s i value = record {
-  pairs = with_value s.pairs i value;
-  capacity = s.capacity;
-  distinct = subst IsDistinct (sym (keys-with_value s.pairs i value)) s.distinct;
-}

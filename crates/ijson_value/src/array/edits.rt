@@ -1,5 +1,5 @@
 //! What puts items into an array at a place, and what takes them out.
-ghost use Rattle.std.specs.Prelude.{◌≡◌, ◌++◌, ◌-◌, ◌<◌, ◌≤◌, [], length, take, slice_get, OnOk, IfErr, IsOk, MatchOption};
+ghost use Rattle.std.specs.Prelude.{◌≡◌, ◌++◌, ◌-◌, ◌*◌, ◌<◌, ◌≤◌, [], length, take, slice_get, OnOk, OnErr, IfErr, IsOk, MatchOption};
 ghost use Rattle.std.specs.List.{insert, remove, swap_remove};
 
 use super::{IArray, Refused};
@@ -7,14 +7,19 @@ use crate::value::IValue;
 
 impl IArray {
     /// Puts an item at a place, and those from there on one place further. It takes memory only where there is no room for
-    /// one more. Where that is refused, the item comes back and the array is as it was. It takes time linear in the items
-    /// behind the place, of which `len` is the last.
+    /// one more. Where that is refused, the item comes back and the array is as it was, with the room that it had. It takes time
+    /// linear in the items behind the place, of which `len` is the last.
     pub fn insert(&mut self, index: usize, item: IValue) -> Result<(), Refused>
         requires { index ≤ length self.old.items }
         ensures ok { OnOk result (self.new.items ≡ insert self.old.items index item) }
         ensures refused { IfErr result (λ refused.
             (refused.0 ≡ item) × (self.new.items ≡ self.old.items)) }
+        ensures kept { OnErr result (self.new.capacity ≡ self.old.capacity) }
         ensures room { length self.old.items < self.old.capacity → IsOk result }
+        ensures stays { length self.old.items < self.old.capacity
+            → self.new.capacity ≡ self.old.capacity }
+        ensures doubles { OnOk result (self.old.capacity ≤ length self.old.items
+            → 2 * self.old.capacity ≤ self.new.capacity) }
         ensures capacity { self.old.capacity ≤ self.new.capacity }
     {
         if self.reserve(1).is_err() {

@@ -10,10 +10,10 @@ use super::IArray;
 use crate::value::IValue;
 use std::iter::FusedIterator;
 use std::marker::Model;
-use std::{slice, vec};
+use std::{fmt, slice, vec};
 
 /// The items of an array that are left, front to back. Those that are not taken are dropped with it.
-#[derive(Debug, Drop)]
+#[derive(Drop)]
 pub struct IntoIter {
     left: vec::IntoIter<IValue>,
 }
@@ -86,5 +86,12 @@ impl FusedIterator for IntoIter {}
 impl ExactSizeIterator for IntoIter {
     fn len(&self) -> usize {
         self.left.len()
+    }
+}
+
+/// The items that are left.
+impl fmt::Debug for IntoIter {
+    fn fmt<W: fmt::Write>(&self, f: &mut fmt::Formatter<W>) -> fmt::Result {
+        fmt::Debug::fmt(&self.left, f)
     }
 }

@@ -1,5 +1,5 @@
 //! What a copy of an object is made of.
-ghost use Rattle.std.specs.Prelude.{◌≡◌, IfOk, length};
+ghost use Rattle.std.specs.Prelude.{◌≡◌, IfOk, IsOk, length};
 ghost use Rattle.ijson_table.specs.Store.{keys_of};
 
 use crate::object::map::IObject;
@@ -22,6 +22,7 @@ impl IObject {
         requires { keys_of pairs.items ≡ keys_of self.now.pairs }
         ensures pairs { IfOk result (λ copy. copy.pairs ≡ pairs.items) }
         ensures capacity { IfOk result (λ copy. copy.capacity ≡ length pairs.items) }
+        ensures none { length pairs.items ≡ 0 → IsOk result }
     {
         match &self.table {
             Some(table) if !pairs.is_empty() => {

@@ -1,6 +1,7 @@
 //! What keeps some of the pairs.
 ghost use Rattle.std.specs.Prelude.{◌≡◌};
-ghost use Rattle.std.specs.Map.Calls.{CalledAtPair};
+ghost use Rattle.std.specs.Map.Calls.{CalledAtPair, TakesPair};
+ghost use Rattle.ijson_value.specs.MayAsk.{MayAsk};
 ghost use Rattle.ijson_value.specs.Retains.{Retains};
 
 use super::map::IObject;
@@ -12,7 +13,7 @@ impl IObject {
     /// last pair moves into the place of one that goes, and is asked about next. So the order stays where nothing goes. It
     /// takes no memory, and time linear in the pairs but for what `asks` takes.
     pub fn retain<F: FnMut(&IString, &mut IValue) -> bool>(&mut self, mut asks: F)
-        requires { F.IsAlwaysCallable asks }
+        requires { MayAsk (CalledAtPair F.FnMut) (TakesPair F.FnMut) asks self.old.pairs }
         ensures pairs { Retains (CalledAtPair F.FnMut) asks self.old.pairs self.new.pairs }
         ensures capacity { self.new.capacity ≡ self.old.capacity }
     {

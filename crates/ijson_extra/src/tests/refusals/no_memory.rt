@@ -27,7 +27,7 @@ fn hash_of<T: Hash>(value: &T) -> u64 {
 fn finds_order(rt: &impl Abort, less: &INumber, more: &INumber) {
     assert!(rt; less < more && less != more && less.cmp(more) == Ordering::Less);
     assert!(rt; matches!(more.form(), Form::Digits { .. }) && more.has_decimal_point());
-    assert!(rt; hash_of(less) == hash_of(less) && less.to_u64().is_none());
+    assert!(rt; hash_of(less) != hash_of(more) && less.to_u64().is_none());
 }
 
 fn numbers(rt: &impl Abort, alloc: Global, rounds: u32) {
@@ -75,17 +75,26 @@ fn fills(rt: &impl Abort, array: &mut IArray) {
     assert!(rt; array.as_slice() == [IValue::NULL].as_slice());
 }
 
-/// Compares an array of one item with itself.
-fn array_is_itself(rt: &impl Abort, array: &IArray) {
-    assert!(rt; array == array && array.partial_cmp(array) == Some(Ordering::Equal));
-    assert!(rt; hash_of(array) == hash_of(array) && array.iter().len() == 1);
+/// Compares an array of one item with another one.
+fn is_same_array(rt: &impl Abort, array: &IArray, same: &IArray) {
+    assert!(rt; array == same && array.partial_cmp(same) == Some(Ordering::Equal));
+    assert!(rt; hash_of(array) == hash_of(same) && array.iter().len() == 1);
+}
+
+/// The copies of an array of no items, and of an object of no pairs.
+fn copies_nothing(rt: &impl Abort, alloc: Global) {
+    assert!(rt; IArray::new(alloc).clone().expect(rt, "a copy").capacity() == 0);
+    assert!(rt; IObject::new(alloc).clone().expect(rt, "a copy").capacity() == 0);
 }
 
 fn arrays(rt: &impl Abort, alloc: Global, rounds: u32) {
     let mut array = array_of_room(rt, alloc, 3);
+    let mut same = array_of_room(rt, alloc, 1);
+    assert!(rt; same.push(IValue::NULL).is_ok());
     for _ in 0..rounds {
         fills(rt, &mut array);
-        array_is_itself(rt, &array);
+        is_same_array(rt, &array, &same);
+        copies_nothing(rt, alloc);
     }
     let mut items = array.into_iter();
     assert!(rt; items.next() == Some(IValue::NULL) && items.next().is_none());
@@ -125,7 +134,7 @@ fn finds(rt: &impl Abort, object: &mut IObject, a: &IString) {
 /// Puts another pair into the room of the last one, and takes it out.
 fn fills_room(rt: &impl Abort, object: &mut IObject, e: &IString) {
     assert!(rt; holds(object, 3, 4) && object.reserve(1).is_ok());
-    assert!(rt; refused_entry(object, copied(rt, e)).is_none());
+    assert!(rt; refused_entry(object, copied(rt, e), 5).is_none());
     assert!(rt; object.shift_remove(e) == Some(IValue::from(5u8)));
 }
 
@@ -139,10 +148,10 @@ fn changes(rt: &impl Abort, object: &mut IObject, e: &IString) {
     assert!(rt; holds(object, 4, 4) && object.remove(e).is_none());
 }
 
-/// Compares an object with itself, and with another one.
-fn object_is_itself(rt: &impl Abort, object: &IObject, other: &IObject) {
-    assert!(rt; object == object && object.partial_cmp(object) == Some(Ordering::Equal));
-    assert!(rt; hash_of(object) == hash_of(object) && object != other);
+/// Compares an object with one that is equal, and with another one.
+fn is_same_object(rt: &impl Abort, object: &IObject, same: &IObject, other: &IObject) {
+    assert!(rt; object == same && object.partial_cmp(same) == Some(Ordering::Equal));
+    assert!(rt; hash_of(object) == hash_of(same) && object != other);
 }
 
 /// Whether there is a pair, and it is the first of all.
@@ -163,12 +172,13 @@ fn gives_out(rt: &impl Abort, mut object: IObject, first: IObject) {
 
 fn objects(rt: &impl Abort, alloc: Global, rounds: u32) {
     let mut object = with_pairs(rt, alloc, 4, 4);
+    let same = with_pairs(rt, alloc, 4, 4);
     let first = with_pairs(rt, alloc, 1, 1);
     let (a, e) = (key(rt, alloc, "a"), key(rt, alloc, "e"));
     for _ in 0..rounds {
         finds(rt, &mut object, &a);
         changes(rt, &mut object, &e);
-        object_is_itself(rt, &object, &first);
+        is_same_object(rt, &object, &same, &first);
     }
     gives_out(rt, object, first);
 }

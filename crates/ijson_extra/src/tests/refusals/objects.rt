@@ -125,30 +125,37 @@ fn insert(rt: HostRuntime) {
     inserts_long(&rt, rt.alloc(), &mut object);
 }
 
-/// Makes room for a pair more than the two that fill an object.
-fn grows(rt: &impl Abort, object: &mut IObject) {
+/// Makes room for a pair more than those that fill an object.
+fn grows(rt: &impl Abort, object: &mut IObject, len: usize) {
     if let Err(why) = object.reserve(1) {
-        assert!(rt; why == ReserveError::Memory && holds(object, 2, 2));
+        assert!(rt; why == ReserveError::Memory && holds(object, len, len));
         object.reserve(1).expect(rt, "room");
     }
-    assert!(rt; holds(object, 2, 4));
+    assert!(rt; holds(object, len, 4));
 }
 
-/// Gives that room up.
-fn shrinks(rt: &impl Abort, object: &mut IObject) {
+/// Gives that room up. It takes no memory where there is no pair.
+fn shrinks(rt: &impl Abort, object: &mut IObject, len: usize) {
     if let Err(why) = object.shrink_to_fit() {
-        assert!(rt; why == ReserveError::Memory && holds(object, 2, 4));
+        assert!(rt; len > 0 && why == ReserveError::Memory && holds(object, len, 4));
         object.shrink_to_fit().expect(rt, "less room");
     }
-    assert!(rt; holds(object, 2, 2));
+    assert!(rt; holds(object, len, len));
 }
 
+// The first of the objects has no memory yet.
 #[test]
 fn room(rt: HostRuntime) {
-    let mut object = with_pairs(&rt, rt.alloc(), 2, 2);
-    grows(&rt, &mut object);
-    shrinks(&rt, &mut object);
+    for len in [0usize, 2] {
+        let mut object = with_pairs(&rt, rt.alloc(), len, len);
+        grows(&rt, &mut object, len);
+        shrinks(&rt, &mut object, len);
+    }
 }
+
+/// The key and the value of a pair, which counts the pairs with it; how many others are before it and fill an object; and the
+/// capacity that it needs. The first of the objects has no memory yet.
+const FULL: [(&str, u8, usize, usize); 2] = [("a", 1, 0, 4), ("e", 5, 4, 8)];
 
 /// Why the entry of a copied key was refused, if it was.
 fn refused_copy(object: &mut IObject, key: &IString) -> Option<ReserveError> {
@@ -158,57 +165,58 @@ fn refused_copy(object: &mut IObject, key: &IString) -> Option<ReserveError> {
     }
 }
 
-/// What the entry of a key was refused with, if it was. Else 5 is put beside the key where it is vacant.
-pub fn refused_entry(object: &mut IObject, key: IString) -> Option<RefusedKey> {
+/// What the entry of a key was refused with, if it was. Else a number is put beside the key where it is vacant.
+pub fn refused_entry(object: &mut IObject, key: IString, number: u8) -> Option<RefusedKey> {
     match object.entry(key) {
         Ok(entry) => {
-            put_five(entry);
+            put(entry, number);
             None
         }
         Err(refused) => Some(refused),
     }
 }
 
-/// Puts 5 into a vacant entry.
-fn put_five(entry: Entry<'_>) {
+/// Puts a number into a vacant entry.
+fn put(entry: Entry<'_>, number: u8) {
     if let Entry::Vacant(vacant) = entry {
-        vacant.insert(IValue::from(5u8));
+        vacant.insert(IValue::from(number));
     }
 }
 
-/// Makes room for the entry of a copied key, behind four pairs that fill the object.
-fn enters_copy(rt: &impl Abort, alloc: Global, e: &IString) {
-    let mut object = with_pairs(rt, alloc, 4, 4);
-    if let Some(why) = refused_copy(&mut object, e) {
-        assert!(rt; why == ReserveError::Memory && holds(&object, 4, 4));
-        assert!(rt; refused_copy(&mut object, e).is_none());
+/// Makes room for the entry of a copied key, behind pairs that fill the object.
+fn enters_copy(rt: &impl Abort, alloc: Global, key: &IString, len: usize, capacity: usize) {
+    let mut object = with_pairs(rt, alloc, len, len);
+    if let Some(why) = refused_copy(&mut object, key) {
+        assert!(rt; why == ReserveError::Memory && holds(&object, len, len));
+        assert!(rt; refused_copy(&mut object, key).is_none());
     }
-    assert!(rt; holds(&object, 4, 8));
+    assert!(rt; holds(&object, len, capacity));
 }
 
-/// Puts a pair by its entry behind four that fill the object.
-fn enters(rt: &impl Abort, alloc: Global, e: IString) {
-    let mut object = with_pairs(rt, alloc, 4, 4);
-    if let Some(refused) = refused_entry(&mut object, e) {
-        assert!(rt; refused.key.eq_str("e") && refused.why == ReserveError::Memory);
-        assert!(rt; holds(&object, 4, 4));
-        assert!(rt; refused_entry(&mut object, refused.key).is_none());
+/// Puts the pair that follows so many others by its entry into an object that these fill.
+fn enters(rt: &impl Abort, object: &mut IObject, key: IString, number: u8, len: usize) {
+    if let Some(refused) = refused_entry(object, key, number) {
+        assert!(rt; refused.why == ReserveError::Memory && holds(object, len, len));
+        assert!(rt; refused_entry(object, refused.key, number).is_none());
     }
-    assert!(rt; holds(&object, 5, 8));
 }
 
 #[test]
 fn entries(rt: HostRuntime) {
-    let e = key(&rt, rt.alloc(), "e");
-    enters_copy(&rt, rt.alloc(), &e);
-    enters(&rt, rt.alloc(), e);
+    for (text, number, len, capacity) in FULL {
+        let next = key(&rt, rt.alloc(), text);
+        enters_copy(&rt, rt.alloc(), &next, len, capacity);
+        let mut object = with_pairs(&rt, rt.alloc(), len, len);
+        enters(&rt, &mut object, next, number, len);
+        assert!(rt; holds(&object, usize::from(number), capacity));
+    }
 }
 
-/// What the value beside a key was refused with, if it was. Else 5 is put there.
-fn refused_value(object: &mut IObject, key: IString) -> Option<RefusedPair> {
+/// What the value beside a key was refused with, if it was. Else a number is put there.
+fn refused_value(object: &mut IObject, key: IString, number: u8) -> Option<RefusedPair> {
     match object.index_or_insert(key) {
         Ok(value) => {
-            *value = IValue::from(5u8);
+            *value = IValue::from(number);
             None
         }
         Err(refused) => Some(refused),
@@ -216,12 +224,12 @@ fn refused_value(object: &mut IObject, key: IString) -> Option<RefusedPair> {
 }
 
 /// The same of an object inside a value.
-fn refused_inside(value: &mut IValue, key: IString) -> Option<RefusedPair>
+fn refused_inside(value: &mut IValue, key: IString, number: u8) -> Option<RefusedPair>
     requires { kind_of value.old.tree ≡ kind.Object }
 {
     match value.index_or_insert(key) {
         Ok(value) => {
-            *value = IValue::from(5u8);
+            *value = IValue::from(number);
             None
         }
         Err(refused) => Some(refused),
@@ -236,38 +244,40 @@ fn holds_inside(value: &IValue, len: usize, capacity: usize) -> bool {
     }
 }
 
-/// Whether e came back with null, for want of memory.
-fn is_e_with_null(refused: &RefusedPair) -> bool {
-    refused.key.eq_str("e") && refused.value == IValue::NULL && refused.why == ReserveError::Memory
+/// Whether a key came back with null, for want of memory.
+fn is_with_null(refused: &RefusedPair) -> bool {
+    refused.value == IValue::NULL && refused.why == ReserveError::Memory
 }
 
-/// Puts 5 beside `e` in an object that four other pairs fill.
-fn puts(rt: &impl Abort, alloc: Global, e: IString) {
-    let mut object = with_pairs(rt, alloc, 4, 4);
-    if let Some(refused) = refused_value(&mut object, e) {
-        assert!(rt; is_e_with_null(&refused) && holds(&object, 4, 4));
-        assert!(rt; refused_value(&mut object, refused.key).is_none());
+/// Puts a number beside the key that follows so many others, in an object that these fill.
+fn puts(rt: &impl Abort, object: &mut IObject, key: IString, number: u8, len: usize) {
+    if let Some(refused) = refused_value(object, key, number) {
+        assert!(rt; is_with_null(&refused) && holds(object, len, len));
+        assert!(rt; refused_value(object, refused.key, number).is_none());
     }
-    assert!(rt; holds(&object, 5, 8));
 }
 
 /// The same of an object inside a value.
-fn puts_inside(rt: &impl Abort, alloc: Global, e: IString) {
-    let mut value = IValue::from(with_pairs(rt, alloc, 4, 4));
+fn puts_inside(rt: &impl Abort, value: &mut IValue, key: IString, number: u8, len: usize) {
     assert!(rt; value.is_object());
-    if let Some(refused) = refused_inside(&mut value, e) {
-        assert!(rt; is_e_with_null(&refused) && holds_inside(&value, 4, 4));
+    if let Some(refused) = refused_inside(value, key, number) {
+        assert!(rt; is_with_null(&refused) && holds_inside(value, len, len));
         assert!(rt; value.is_object());
-        assert!(rt; refused_inside(&mut value, refused.key).is_none());
+        assert!(rt; refused_inside(value, refused.key, number).is_none());
     }
-    assert!(rt; holds_inside(&value, 5, 8));
 }
 
 #[test]
 fn values_beside_keys(rt: HostRuntime) {
     let alloc = rt.alloc();
-    puts(&rt, alloc, key(&rt, alloc, "e"));
-    puts_inside(&rt, alloc, key(&rt, alloc, "e"));
+    for (text, number, len, capacity) in FULL {
+        let mut object = with_pairs(&rt, alloc, len, len);
+        puts(&rt, &mut object, key(&rt, alloc, text), number, len);
+        assert!(rt; holds(&object, usize::from(number), capacity));
+        let mut value = IValue::from(with_pairs(&rt, alloc, len, len));
+        puts_inside(&rt, &mut value, key(&rt, alloc, text), number, len);
+        assert!(rt; holds_inside(&value, usize::from(number), capacity));
+    }
 }
 
 /// An object of the five pairs, which an empty one is extended by.

@@ -35,10 +35,10 @@ clone_value-returns t c = elim c.match-value.branch [
       ap node_value w.node-is ∙ ap string_value w.in_ok-clone-in-String.ensures.cases
       ∙ sym (ap node_value w.in-String.is) ∙ c.value.view_is
   | clone_value-in-Array+in_ok-clone_items-in-Array w ↦
-      ap node_value w.node-is ∙ ap array_value (w.in_ok-clone_items-in-Array.ensures ∙ w.as_slice.ensures)
+      ap node_value w.node-is ∙ ap array_value (w.in_ok-clone_items-in-Array.ensures.items ∙ w.as_slice.ensures)
       ∙ sym (ap node_value w.in-Array.is) ∙ c.value.view_is
   | clone_value-in-Object+in_ok-pairs-in-Object+in_ok-with_same_keys-in-Object w ↦
-      let pairs = w.in_ok-with_same_keys-in-Object.ensures.pairs ∙ w.in_ok-pairs-in-Object.ensures
+      let pairs = w.in_ok-with_same_keys-in-Object.ensures.pairs ∙ w.in_ok-pairs-in-Object.ensures.pairs
       ∙ w.as_slice-in-Object.ensures in
       ap node_value w.node-is ∙ same_pairs_value _ w.in-Object.object pairs
       ∙ sym (ap node_value w.in-Object.is) ∙ c.value.view_is

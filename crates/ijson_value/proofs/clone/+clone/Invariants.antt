@@ -1,10 +1,10 @@
-use Rattle.std.proofs.Common.{◌≡◌, ◌*◌, ◌+◌, take}
+use Rattle.std.proofs.Common.{◌≡◌, ◌*◌, ◌+◌, take, length}
 use denote.Param.Weighed.{most}
 use Rattle.ijson_value.specs.private.Sizes.{value_size}
 use Rattle.ijson_value.proofs.clone.+clone.Given as goal
 
 abbrev pub invariant-clone_items-loop-item : goal.invariant-clone_items-loop-item
-invariant-clone_items-loop-item l = l.copy.items ≡ take l.item-index l.items
+invariant-clone_items-loop-item l = (l.copy.items ≡ take l.item-index l.items) × (l.copy.capacity ≡ length l.items)
 
 abbrev pub invariant-clone_pairs-loop-pair : goal.invariant-clone_pairs-loop-pair
 invariant-clone_pairs-loop-pair l = l.copies.items ≡ take l.pair-index l.pairs

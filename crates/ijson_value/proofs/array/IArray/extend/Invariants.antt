@@ -1,9 +1,18 @@
-use Rattle.std.proofs.Common.{◌≡◌, ◌≤◌, ◌++◌}
+use Rattle.std.proofs.Common.{◌≡◌, ◌++◌, ◌≤◌, List, length, ◌-◌, ◌^◌, ◌<◌}
+use Rattle.std.specs.Iterator.{Yields}
+use Rattle.ijson_value.specs.WellFormed.{WellFormed}
 use Rattle.ijson_value.proofs.array.IArray.extend.Given as goal
 
-abbrev pub invariant-loop-item : goal.invariant-loop-item
-invariant-loop-item g l =
-    (goal.iterator-loop-item g).can_next l.item-iterator
-    × (goal.iterator-loop-item g).is_finite l.item-iterator
-    × (l.self.items ≡ l.initial.self.items ++ l.yielded)
+abbrev pub invariant-items : goal.invariant-items
+invariant-items g l =
+    g.I.IntoIter.Iterator.can_next l.rest
     × (l.initial.self.capacity ≤ l.self.capacity)
+    × (length l.self.items ≤ l.self.capacity)
+    × (l.self.capacity < 2 ^ 64)
+    × ((it : g.row.I-IntoIter.Denot) × (added : List WellFormed)
+    × g.I.IntoIterator.into_iter_gives l.fn.items it
+    × Yields g.I.IntoIter.Iterator.next_gives it added l.rest
+    × (l.self.items ≡ l.initial.self.items ++ added))
+
+abbrev pub decreases-items : goal.decreases-items
+decreases-items g l = 2 ^ 64 - length l.self.items

@@ -2,7 +2,7 @@ use Rattle.std.proofs.Common.{◌≡◌, ◌++◌, ◌∷◌, [], ℕ, refl, sym
 use Rattle.std.specs.Prelude.{slice_get}
 use Rattle.ijson_table.proofs.Writing.{store_path}
 use Rattle.ijson_table.specs.Store.{Store, with_value}
-use Rattle.ijson_table.specs.laws.Store.{store_with_value}
+use Rattle.ijson_table.specs.StoreWithValue.{store_with_value}
 use Rattle.ijson_value.specs.declared.object.entry.Entry.TheVariants.{Vacant}
 use Rattle.ijson_value.specs.WellFormed.{WellFormed}
 use Rattle.ijson_value.specs.WithEntry.{with_entry}

@@ -1,7 +1,7 @@
 use Rattle.std.proofs.Common.{◌≡◌, refl, ap, subst, Some}
 use Rattle.std.specs.Prelude.{slice_get}
 use Rattle.ijson_table.specs.Store.{Store}
-use Rattle.ijson_table.specs.laws.Store.{store_with_value}
+use Rattle.ijson_table.specs.StoreWithValue.{store_with_value}
 use Rattle.ijson_value.specs.WellFormed.{WellFormed}
 use Rattle.ijson_value.proofs.Objects.{opened}
 use Rattle.ijson_value.proofs.object.map.IObject.pair_mut.Goals as goal

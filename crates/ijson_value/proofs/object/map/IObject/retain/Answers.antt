@@ -1,17 +1,23 @@
-use Rattle.std.proofs.Common.{of_calls, ◌≡◌, ◌<◌, ℕ, length, ◌+◌, ◌-◌, true, false, refl, sym, ap, subst, ◌∙◌, arith}
-use Rattle.std.specs.Map.Calls.{CalledAtPair}
+use Rattle.std.proofs.Common.{◌≡◌, ◌<◌, ℕ, length, ◌+◌, ◌-◌, true, false, refl, sym, ap, subst, ◌∙◌, arith}
+use Rattle.std.specs.Map.Calls.{CalledAtPair, TakesPair}
 use Rattle.ijson_table.specs.Store.{Store, with_value, swap_out}
 use Rattle.ijson_table.proofs.Keys.{length-swap_out, keys-length}
+use Rattle.ijson_value.specs.MayAsk.{MayAskFrom}
 use Rattle.ijson_value.specs.Retains.{RetainsFrom}
 use Rattle.ijson_value.specs.WellFormed.{WellFormed}
 use Rattle.ijson_value.specs.laws.EntryValid.{length-with_value}
-use Rattle.ijson_value.proofs.Retained.{kept, gone, swap_out_written}
+use Rattle.ijson_value.proofs.Retained.{kept, gone, swap_out_written, may_ask_next, asks_now}
 use Rattle.ijson_value.proofs.object.map.IObject.retain.Goals as goal
 
 pub loop-index-init : goal.loop-index-init
 loop-index-init g c =
     let start : Store WellFormed = c.args.self.now in let all : length start.pairs - 0 ≡ length start.pairs = omega arith in
-    (λ a. a, refl, omega arith, λ qs h. subst (λ k. RetainsFrom (CalledAtPair g.F.FnMut) k c.args.asks 0 start.pairs qs) all h)
+    (c.requires, refl, omega arith, λ qs h. subst (λ k. RetainsFrom (CalledAtPair g.F.FnMut) k c.args.asks 0 start.pairs qs) all h)
+
+pub asks-requires : goal.asks-requires
+asks-requires g c =
+    let now : Store WellFormed = c.loop-index.self in
+    asks_now (CalledAtPair g.F.FnMut) (TakesPair g.F.FnMut) c.loop-index.asks c.loop-index.index now.pairs _ _ c.loop-index.invariant.0 c.pair_mut-value.ensures.pair _ _ refl refl
 
 pub loop-index-smaller-then-asks : goal.loop-index-smaller-then-asks
 loop-index-smaller-then-asks g c =
@@ -24,7 +30,7 @@ loop-index-preserved-then-asks g c =
     let was = c.loop-index.invariant in
     let size = length-with_value now.pairs i w in
     let asked : CalledAtPair g.F.FnMut c.loop-index.asks c.pair_mut-value.result.0.now c.pair_mut-value.result.1.now true w c.asks.new.self = record { key = _; value = _; shows = (refl, refl); left = _; called = c.if-asks.ensures; leaves = refl } in (
-      search of_calls,
+      may_ask_next (CalledAtPair g.F.FnMut) (TakesPair g.F.FnMut) _ _ i now.pairs _ _ true w was.0 c.pair_mut-value.ensures.pair asked,
       was.1,
       omega (arith, c.loop-index-test.true, c.len.ensures, size),
       λ qs h. was.3 qs (kept (CalledAtPair g.F.FnMut) (length now.pairs - i) (length (with_value now.pairs i w) - (i + 1)) c.loop-index.asks c.asks.new.self i now.pairs qs _ _ w (omega (arith, c.loop-index-test.true, c.len.ensures, size)) c.pair_mut-value.ensures.pair asked h),
@@ -53,7 +59,8 @@ loop-index-preserved g c =
     let is : new.pairs ≡ swap_out (with_value now.pairs i w) i = c.swap_out.ensures.pairs in
     let count : length new.pairs + 1 ≡ length now.pairs = omega (arith, size, shorter, ap length is, keys-length (swap_out (with_value now.pairs i w) i)) in
     let asked : CalledAtPair g.F.FnMut c.loop-index.asks c.pair_mut-value.result.0.now c.pair_mut-value.result.1.now false w c.asks.new.self = record { key = _; value = _; shows = (refl, refl); left = _; called = c.if-asks.ensures; leaves = refl } in (
-      search of_calls,
+      subst (λ ps. MayAskFrom (CalledAtPair g.F.FnMut) (TakesPair g.F.FnMut) c.asks.new.self i ps) (sym (is ∙ swap_out_written now.pairs i w within))
+          (may_ask_next (CalledAtPair g.F.FnMut) (TakesPair g.F.FnMut) _ _ i now.pairs _ _ false w was.0 c.pair_mut-value.ensures.pair asked),
       c.swap_out.ensures.capacity ∙ was.1,
       omega (arith, within, count),
       λ qs h. was.3 qs (gone (CalledAtPair g.F.FnMut) (length now.pairs - i) (length new.pairs - i) c.loop-index.asks c.asks.new.self i now.pairs qs _ _ w (omega (arith, within, count)) c.pair_mut-value.ensures.pair asked

@@ -1,14 +1,14 @@
 use Rattle.std.proofs.Common.{◌≡◌, ℕ, List, length, ◌-◌, ◌≤◌}
-use denote.Param.Always.{always_mut}
-use Rattle.std.specs.Map.Calls.{CalledAtPair}
+use Rattle.std.specs.Map.Calls.{CalledAtPair, TakesPair}
+use Rattle.ijson_value.specs.MayAsk.{MayAskFrom}
 use Rattle.ijson_value.specs.Retains.{RetainsFrom}
 use Rattle.ijson_value.specs.WellFormed.{WellFormed}
 use Rattle.ijson_value.proofs.object.map.IObject.retain.Given as goal
 
--- what the calls that are still to come do, all calls do
+-- the calls that are still to come may be made, and what they do, all calls do
 abbrev pub invariant-loop-index : goal.invariant-loop-index
 invariant-loop-index g l =
-    (always_mut g.F.FnMut l.initial.asks → always_mut g.F.FnMut l.asks) × (l.self.capacity ≡ l.fn.self.capacity) × (l.index ≤ length l.self.pairs)
+    MayAskFrom (CalledAtPair g.F.FnMut) (TakesPair g.F.FnMut) l.asks l.index l.self.pairs × (l.self.capacity ≡ l.fn.self.capacity) × (l.index ≤ length l.self.pairs)
     × ((qs : List (List ℕ × WellFormed)) → RetainsFrom (CalledAtPair g.F.FnMut) (length l.self.pairs - l.index) l.asks l.index l.self.pairs qs → RetainsFrom (CalledAtPair g.F.FnMut) (length l.fn.self.pairs) l.fn.asks 0 l.fn.self.pairs qs)
 
 abbrev pub decreases-loop-index : goal.decreases-loop-index
