@@ -9,7 +9,7 @@ TOP = pathlib.Path(__file__).resolve().parent.parent
 # The crates, lowest first.
 ORDER = re.findall(r"^(\w+):", (TOP / "crates.txt").read_text(), re.M)
 BLOCK = re.compile(r"^(?:pub(?:\([a-z]+\))? )?(impl|trait)\b(?:<[^{]*?>(?= ))? ?(.*?)(?: \{)?$")
-FUNCTION = re.compile(r"^( *)(pub )?fn (\w+)")
+FUNCTION = re.compile(r"^( *)(pub )?(?:final )?fn (\w+)")
 GHOST = re.compile(r"^    ghost (\w+)(?: =|:)")
 CLAUSE = re.compile(r"^ +ensures\*? (\w+) \{")
 TYPE = re.compile(r"^pub (struct|enum|trait) (\w+)")
@@ -59,7 +59,7 @@ def signature_at(lines, at):
     for line in lines[at:]:
         if parts and ENDS.match(line):
             break
-        parts.append(line.strip())
+        parts.append(line.strip().removeprefix("final "))
         if line.rstrip().endswith(("{", ";")):
             break
     text = re.sub(r"([(<]) ", r"\1", " ".join(parts)).replace(", )", ")")

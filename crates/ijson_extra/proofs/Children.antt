@@ -1,7 +1,8 @@
 -- The value that a token names in a value, as the lists of items and of pairs give it.
-use Rattle.std.proofs.Common.{◌≡◌, ℕ, Bool, true, false, List, [], ◌∷◌, Option, Some, None, Result, Ok, Err, IfOk, IfErr, option_map, option_copied, eqb, length, refl, ap, ◌∙◌}
+use Rattle.std.proofs.Common.{◌≡◌, ℕ, Bool, true, false, List, [], ◌∷◌, Option, Some, None, Result, Ok, Err, IfOk, IfErr, option_map, option_copied, eqb, length, refl, ap, ◌∙◌, arith}
 use Rattle.std.specs.Prelude.{◌==◌, ◌≢◌, option_and_then, slice_get}
 use Rattle.std.proofs.lemmas.Bool.{eqb-true}
+use Rattle.std.proofs.lemmas.Bool.Decides.{nat_tests}
 use denote.Ref.{Bor}
 use mathlib.Core.Bool.{true≢false}
 use Rattle.ijson_table.specs.Store.{Store, lookup}
@@ -50,3 +51,7 @@ begins_by t b text false e h = ap (λ (r : Bool). option_map (followed t) (elim 
 pub no_pointer : (t : Tree) (text : List ℕ) → (length text == 0) ≡ false → ((rest : List ℕ) → text ≢ 47 ∷ rest) → resolved t text ≡ None
 no_pointer t [] e h = absurd (true≢false e)
 no_pointer t (b ∷ text) e h = begins_by t b text (eqb b 47) refl h
+
+pub not_empty : (text : List ℕ) → (text ≡ [] → ⊥) → (length text == 0) ≡ false
+not_empty [] h = absurd (h refl)
+not_empty (b ∷ text) h = grind (arith, nat_tests)

@@ -9,4 +9,5 @@ pub mod Pointers
 pub mod Children
 pub mod Counted
 pub mod Walked
+pub mod Results
 pub mod InOrder

@@ -1,5 +1,5 @@
 -- What tokens lead to one after the other, and the tree with another one there.
-use Rattle.std.proofs.Common.{◌≡◌, ◌⊎◌, inl, inr, ℕ, zero, suc, ◌+◌, ◌-◌, ◌≤◌, Bool, true, false, List, [], ◌∷◌, ◌++◌, Option, Some, None, refl, sym, ap, ◌∙◌, arith, length, take, drop, MutBor}
+use Rattle.std.proofs.Common.{◌≡◌, ◌⊎◌, inl, inr, ℕ, zero, suc, ◌+◌, ◌-◌, ◌≤◌, Bool, true, false, List, [], ◌∷◌, ◌++◌, Option, Some, None, refl, sym, ap, subst, ◌∙◌, arith, length, take, drop, MutBor}
 use Rattle.std.specs.Prelude.{OnSome, IsSome, option_map, option_and_then, slice_get, set, get_or}
 use Rattle.std.proofs.lemmas.List.{take_all}
 use Rattle.std.proofs.lemmas.Option.{slice_get_past, slice_get-get_or}
@@ -17,7 +17,7 @@ use Rattle.ijson_value.specs.laws.Steps.{item_at, value_at, tree_with_step}
 use Rattle.ijson_value.proofs.Found.{lent_tree}
 use Rattle.ijson_value.specs.declared.value.Destructured.TheVariants.{Array, Object}
 use Rattle.ijson_extra.specs.Pointer.{meant, all_meant, written_tokens, position_named, names_position, step_named, child_at, stepped_with, child_with, followed, followed_with, tokens_with, resolved, resolved_with}
-use Rattle.ijson_extra.specs.private.Walked.{written_at, meant_with, written_with, walked, walked_with, steps_of}
+use Rattle.ijson_extra.specs.private.Walked.{HasTokens, written_at, meant_with, written_with, walked, walked_with, steps_of}
 use Rattle.ijson_extra.proofs.Pointers.{digits_meant, position_digits, not_named, same_position}
 
 abbrev or_this : {A : Type 0} → A → Option A → A
@@ -295,3 +295,12 @@ module _ (t : Tree) (pointer left : List ℕ) (more : ℕ) (is : pointer ≡ 47 
   whole_with u =
       ap (λ ws. walked_with ws (Some t) u) steps_are ∙ with_meant (written_tokens left) tokens.0 tokens.1 (Some t) u
       ∙ sym (ap (λ p. resolved_with t p u) is ∙ ap (λ ts. tokens_with t ts u) tokens.1)
+
+-- what the tokens of a pointer are, behind its first `/`
+pub with_tokens : (pointer left : List ℕ) (more : ℕ) → pointer ≡ 47 ∷ left → HasTokens pointer more → IsSome (all_meant (written_tokens left)) × (length (written_tokens left) ≡ suc more)
+with_tokens pointer left more is has =
+    subst (λ (p : List ℕ). IsSome (all_meant (written_tokens (drop 1 p))) × (length (written_tokens (drop 1 p)) ≡ suc more)) is (has.1, has.2)
+
+-- what is lent is what was found
+pub lent_here : (r : Option (MutBor WellFormed)) (t : Tree) (o : Option (Option Tree)) → Some (option_map (λ v. v.now.tree) r) ≡ o → Some (Some t) ≡ o → option_map (λ v. v.now.tree) r ≡ Some t
+lent_here r t o is found = some_is (option_map (λ v. v.now.tree) r) (Some t) (is ∙ sym found)

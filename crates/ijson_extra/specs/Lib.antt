@@ -1,4 +1,5 @@
 pub mod Pointer
+pub mod LendsNamedValue
 pub mod LendsResolved
 pub mod Sorted
 pub mod Canonical

@@ -10,7 +10,7 @@ mod lend;
 
 use ijson_value::object::IObject;
 use ijson_value::value::{DestructuredRef, IValue};
-pub use lend::{Unresolved, resolve_mut};
+pub use lend::{Unresolved, resolve_mut, resolve_opened_mut};
 use thiserror::Error;
 
 /// Why a pointer names nothing at all.

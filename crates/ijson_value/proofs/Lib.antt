@@ -14,3 +14,4 @@ mod Retained
 mod SameSteps
 mod WordFolds
 pub mod Walks
+pub mod lends

@@ -1,20 +1,23 @@
 -- What a value is once the part that it lent is given back: the value of what was left there, or the same value where it
 -- lent none. This project's own.
-use Rattle.std.specs.Prelude.{ℕ, List, Option}
-use Rattle.std.specs.Borrow.{Lends, LendsIf, MutBor, Fml}
+use Rattle.std.specs.Prelude.{ℕ, Bool, List, Option}
+use Rattle.std.specs.Borrow.{Lends, LendsIf, MutBor, Fml, bool}
 use Rattle.ijson_number.specs.Num.{Num}
 use Rattle.ijson_number.specs.contracts.number.INumber as numbers
 use Rattle.ijson_string.specs.contracts.text.IString as strings
 use Rattle.ijson_table.specs.Store.{Store}
 use Rattle.ijson_value.specs.NodeValue.{node_value}
 use Rattle.ijson_value.specs.Sequence.{Sequence}
-use Rattle.ijson_value.specs.Values.{number_value, string_value, array_value, object_value}
+use Rattle.ijson_value.specs.Values.{boolean_value, number_value, string_value, array_value, object_value}
 use Rattle.ijson_value.specs.WellFormed.{WellFormed}
 use Rattle.ijson_value.specs.contracts.array.IArray as arrays
 use Rattle.ijson_value.specs.contracts.object.map.IObject as objects
 use Rattle.ijson_value.specs.contracts.value.Destructured as node
 use Rattle.ijson_value.specs.contracts.value.IValue as value
 use Rattle.ijson_value.specs.declared.value.Destructured.{Destructured}
+
+abbrev pub LendsTruth : MutBor WellFormed → Option (MutBor Bool) → Fml
+LendsTruth s r = LendsIf value.the_row bool s r boolean_value s.now
 
 abbrev pub LendsNumber : MutBor WellFormed → Option (MutBor Num) → Fml
 LendsNumber s r = LendsIf value.the_row numbers.the_row s r number_value s.now

@@ -8,9 +8,12 @@ pub mod Integers
 pub mod Kind
 pub mod LendsAtKey
 pub mod LendsEntry
+pub mod LendsInside
 pub mod LendsItem
 pub mod LendsItems
+pub mod LendsPair
 pub mod LendsPart
+pub mod LendsParts
 pub mod LendsStep
 pub mod LendsValue
 pub mod Length

@@ -1,5 +1,5 @@
 -- What tokens lead to as they are written: a token that means nothing leads to nothing.
-use Rattle.std.specs.Prelude.{◌≡◌, ℕ, suc, List, [], ◌∷◌, Option, Some, None, OnSome, option_map, option_and_then, take}
+use Rattle.std.specs.Prelude.{◌≡◌, ℕ, suc, List, [], ◌∷◌, Option, Some, None, IsSome, OnSome, option_map, option_and_then, length, drop, take}
 use Rattle.std.specs.Borrow.{LendsSo, MutBor, Fml}
 use Rattle.ijson_table.specs.Store.{Store}
 use Rattle.ijson_value.specs.NodeValue.{node_value}
@@ -12,7 +12,7 @@ use Rattle.ijson_value.specs.contracts.object.map.IObject as objects
 use Rattle.ijson_value.specs.contracts.value.Destructured as node
 use Rattle.ijson_value.specs.contracts.value.IValue as value
 use Rattle.ijson_value.specs.declared.value.Destructured.{Destructured}
-use Rattle.ijson_extra.specs.Pointer.{meant, written_tokens, child_at, child_with}
+use Rattle.ijson_extra.specs.Pointer.{meant, all_meant, written_tokens, child_at, child_with, resolved_with}
 
 -- what a token leads to, and the tree with another one there
 abbrev pub written_at : Tree → List ℕ → Option Tree
@@ -65,4 +65,15 @@ LendsNamed s token r =
 abbrev pub LendsWalked : MutBor Destructured → List ℕ → ℕ → Option (MutBor WellFormed) → Fml
 LendsWalked s left more r =
     LendsSo node.the_row value.the_row s r (λ n w. OnSome r (node_tree n ≡ walked_with (steps_of left more) (Some (node_tree s.now)) w.tree))
+    (λ n. node_tree n ≡ node_tree s.now)
+
+-- a pointer that isn't empty, with so many tokens behind its first one
+abbrev pub HasTokens : List ℕ → ℕ → Type 0
+HasTokens p more =
+    (p ≡ 47 ∷ drop 1 p) × IsSome (all_meant (written_tokens (drop 1 p))) × (length (written_tokens (drop 1 p)) ≡ suc more)
+
+-- the same of all tokens of a pointer
+abbrev pub LendsNamedInside : MutBor Destructured → List ℕ → Option (MutBor WellFormed) → Fml
+LendsNamedInside s pointer r =
+    LendsSo node.the_row value.the_row s r (λ n w. OnSome r (node_tree n ≡ resolved_with (node_tree s.now) pointer w.tree))
     (λ n. node_tree n ≡ node_tree s.now)

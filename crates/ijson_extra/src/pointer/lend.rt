@@ -1,11 +1,14 @@
 //! The value inside a value that a pointer names, to be written.
-ghost use Rattle.std.specs.Prelude.{◌≡◌, ◌<◌, ◌^◌, [], ◌∷◌, suc, drop, length, Some, None, IsSome, IfOk, IfErr, IfSome, IfNone};
+ghost use Rattle.std.specs.Prelude.{◌≡◌, ◌<◌, ◌^◌, ◌↔◌, [], ◌∷◌, suc, drop, length, Some, None, IsSome, IsTrue, IfOk, IfErr, IfSome, IfNone};
 ghost use Rattle.std.specs.Borrow.{sem};
+ghost use Rattle.ijson_value.specs.LendsPart.{LendsOpened};
 ghost use Rattle.ijson_value.specs.NodeValue.{node_value};
+ghost use Rattle.ijson_value.specs.Tree.{Tree};
 ghost use Rattle.ijson_value.specs.Values.{array_tree, object_tree};
+ghost use Rattle.ijson_extra.specs.LendsNamedValue.{LendsNamedValue};
 ghost use Rattle.ijson_extra.specs.LendsResolved.{LendsResolved, unresolved};
 ghost use Rattle.ijson_extra.specs.Pointer.{all_meant, written_tokens, resolved};
-ghost use Rattle.ijson_extra.specs.private.Walked.{LendsNamedItem, LendsNamedMember, LendsNamed, LendsWalked, tree_lent, node_tree, steps_of, walked, written_at};
+ghost use Rattle.ijson_extra.specs.private.Walked.{HasTokens, LendsNamedInside, LendsNamedItem, LendsNamedMember, LendsNamed, LendsWalked, tree_lent, node_tree, steps_of, walked, written_at};
 
 use super::{PointerError, find_member, is_token, position_below};
 use ijson_value::array::IArray;
@@ -14,7 +17,7 @@ use ijson_value::value::{Destructured, IValue};
 use std::marker::PhantomData;
 use thiserror::Error;
 
-/// Why `resolve_mut` lends no value.
+/// Why `resolve_opened_mut` lends no value.
 #[derive(Clone, Copy, PartialEq, Eq, Debug, Drop, Error)]
 pub enum Unresolved {
     /// The pointer names nothing in the value.
@@ -25,14 +28,43 @@ pub enum Unresolved {
     NoPointer(PointerError),
 }
 
-/// The value that `pointer` names inside `value`, as RFC 6901 has it, opened, to be written: the value itself where the text is
-/// empty. What is written changes that one value. It takes no memory. It costs what `resolve` does, and the text is gone over
-/// once more for each doubling of its tokens.
+/// The value that `pointer` names inside `value`, as RFC 6901 has it, to be written: the value itself where the text is empty.
+/// None where it names nothing. What is written changes that one value. It takes no memory. It costs what `resolve` does, and
+/// the text is gone over once more for each doubling of its tokens.
+///
+/// The proof of a caller that writes there and says what the whole value then is has to be written by hand. One that calls
+/// `resolve_opened_mut` learns it by itself.
 ///
 /// ```
-/// *resolve_mut(&mut value, "/servers/0/port")? = IValue::from(8080u64).destructure();
+/// if let Some(port) = resolve_mut(&mut value, "/servers/0/port")? {
+///     *port = IValue::from(8080u64);
+/// }
 /// ```
 pub fn resolve_mut<'a>(
+    value: &'a mut IValue,
+    pointer: &str,
+) -> Result<Option<&'a mut IValue>, PointerError>
+    ensures* writes_back { sem 𝓛 (LendsNamedValue value.entry pointer.now result) }
+    ensures found { IfOk result (λ found.
+        Some (tree_lent found) ≡ resolved value.old.tree pointer.now) }
+    ensures refused { IfErr result (λ _. resolved value.old.tree pointer.now ≡ None) }
+{
+    if names_itself(pointer) {
+        return Ok(Some(value));
+    }
+    match count_pointer(pointer) {
+        Some(more) => Ok(inside(opened(value), pointer, more)),
+        None => Err(PointerError::Syntax),
+    }
+}
+
+/// As `resolve_mut`, with the value opened, and a refusal where the pointer names nothing. Take it where a contract says what is
+/// written: the proof of its caller learns what the whole value then is.
+///
+/// ```
+/// *resolve_opened_mut(&mut value, "/servers/0/port")? = IValue::from(8080u64).destructure();
+/// ```
+pub fn resolve_opened_mut<'a>(
     value: &'a mut IValue,
     pointer: &str,
 ) -> Result<&'a mut Destructured, Unresolved>
@@ -44,15 +76,51 @@ pub fn resolve_mut<'a>(
     if pointer.is_empty() {
         return Ok(&mut **value);
     }
-    let Some(left) = pointer.strip_prefix('/') else {
+    let Some(more) = count_pointer(pointer) else {
         return Err(Unresolved::NoPointer(PointerError::Syntax));
     };
-    let Some(more) = count_more(left) else {
-        return Err(Unresolved::NoPointer(PointerError::Syntax));
-    };
-    match Steps64::walk(&mut **value, left, more) {
+    match inside(&mut **value, pointer, more) {
         Some(found) => Ok(&mut **found),
         None => Err(Unresolved::Nothing),
+    }
+}
+
+/// Whether a pointer names the value itself.
+fn names_itself(pointer: &str) -> bool
+    ensures { IsTrue result ↔ (pointer.now ≡ []) }
+{
+    pointer.is_empty()
+}
+
+/// The value opened, which it always is.
+fn opened(value: &mut IValue) -> &mut Destructured
+    ensures* writes_back { sem 𝓛 (LendsOpened value.entry result) }
+    ensures value { node_value result.now ≡ value.old }
+{
+    &mut **value
+}
+
+/// The value that a pointer names inside an opened value, where `more` of its tokens stand behind the first one.
+fn inside<'a>(opened: &'a mut Destructured, pointer: &str, more: usize) -> Option<&'a mut IValue>
+    requires { HasTokens pointer.now more }
+    ensures* writes_back { sem 𝓛 (LendsNamedInside opened.entry pointer.now result) }
+    ensures value { Some (tree_lent result) ≡ resolved (node_tree opened.old) pointer.now }
+{
+    let Some(left) = pointer.strip_prefix('/') else {
+        unreachable!();
+    };
+    Steps64::walk(opened, left, more)
+}
+
+/// How many tokens of a pointer that isn't empty stand behind its first one. None where the text is no pointer.
+fn count_pointer(pointer: &str) -> Option<usize>
+    requires { (pointer.now ≡ []) → ⊥ }
+    ensures some { IfSome result (HasTokens pointer.now) }
+    ensures none { IfNone result ((t : Tree) → resolved t pointer.now ≡ None) }
+{
+    match pointer.strip_prefix('/') {
+        Some(left) => count_more(left),
+        None => None,
     }
 }
 

@@ -1,7 +1,7 @@
 //! Values that pointers name.
 
 use super::{is_written, parsed};
-use crate::pointer::{PointerError, Unresolved, resolve, resolve_mut};
+use crate::pointer::{PointerError, Unresolved, resolve, resolve_mut, resolve_opened_mut};
 use ijson_value::value::{Destructured, IValue};
 use std::alloc::Global;
 use std::process::Abort;
@@ -87,6 +87,18 @@ fn pointers_of_the_rfc(rt: HostRuntime) {
 /// Puts true where a pointer leads, or tells why it leads nowhere.
 fn put_true(value: &mut IValue, pointer: &str) -> Option<Unresolved> {
     match resolve_mut(value, pointer) {
+        Ok(Some(found)) => {
+            *found = IValue::TRUE;
+            None
+        }
+        Ok(None) => Some(Unresolved::Nothing),
+        Err(why) => Some(Unresolved::NoPointer(why)),
+    }
+}
+
+/// The same through the value opened.
+fn put_true_opened(value: &mut IValue, pointer: &str) -> Option<Unresolved> {
+    match resolve_opened_mut(value, pointer) {
         Ok(found) => {
             *found = Destructured::Bool(true);
             None
@@ -107,6 +119,9 @@ fn becomes(
     let mut value = parsed(rt, alloc, text);
     assert!(rt; put_true(&mut value, pointer) == refused);
     is_written(rt, alloc, &value, want);
+    let mut opened = parsed(rt, alloc, text);
+    assert!(rt; put_true_opened(&mut opened, pointer) == refused);
+    is_written(rt, alloc, &opened, want);
 }
 
 const NO_POINTER: Option<Unresolved> = Some(Unresolved::NoPointer(PointerError::Syntax));

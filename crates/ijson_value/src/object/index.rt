@@ -1,5 +1,6 @@
 //! An object by key.
-ghost use Rattle.std.specs.Prelude.{◌≡◌, ℕ, List, Some, option_map, IsSome, IsTrue, IfOk, IfErr, ◌↔◌};
+ghost use Rattle.std.specs.Prelude.{◌≡◌, ◌<◌, ℕ, List, Some, length, option_map, IsSome, IsTrue, IfSome, IfOk, IfErr, ◌↔◌};
+ghost use Rattle.ijson_value.specs.LendsPair.{LendsPairIf};
 ghost use Rattle.std.specs.Borrow.{sem};
 ghost use Rattle.std.specs.Map.Iter.{deref_pair, deref_pair_mut};
 ghost use Rattle.std.specs.Option.{option_copied, option_copied_mut, unwrap_or};
@@ -61,13 +62,11 @@ pub trait ObjectIndex: Sealed + Copy {
     }
 
     /// The pair with the key, its value to be written. None where it is not there.
-    fn index_into_mut<'v>(self, v: &'v mut IObject) -> Option<(&'v IString, &'v mut IValue)>
-        ensures { option_map deref_pair_mut result ≡ pair_at_key (Self.Sealed.key self) v.old.pairs }
+    final fn index_into_mut<'v>(self, v: &'v mut IObject) -> Option<(&'v IString, &'v mut IValue)>
+        ensures* writes_back { sem 𝓛 (LendsPairIf v.entry (Self.Sealed.key self) result) }
+        ensures value { option_map deref_pair_mut result ≡ pair_at_key (Self.Sealed.key self) v.old.pairs }
     {
-        match v.position(self.as_key()) {
-            Some(position) => Some(v.pair_mut(position)),
-            None => None,
-        }
+        v.get_key_value_mut(self)
     }
 
     /// Takes the pair with the key out. The last pair moves into its place. None where it is not there.
@@ -132,9 +131,22 @@ impl IObject {
 
     /// The pair with a key, its value to be written. None where it is not there.
     pub fn get_key_value_mut<I: ObjectIndex>(&mut self, index: I) -> Option<(&IString, &mut IValue)>
-        ensures { option_map deref_pair_mut result ≡ pair_at_key (I.Sealed.key index) self.old.pairs }
+        ensures* writes_back { sem 𝓛 (LendsPairIf self.entry (I.Sealed.key index) result) }
+        ensures value { option_map deref_pair_mut result ≡ pair_at_key (I.Sealed.key index) self.old.pairs }
     {
-        index.index_into_mut(self)
+        match self.position_of(index) {
+            Some(position) => Some(self.pair_mut(position)),
+            None => None,
+        }
+    }
+
+    /// The position of a key. The object is as it was.
+    fn position_of<I: ObjectIndex>(&mut self, index: I) -> Option<usize>
+        ensures same { self.new ≡ self.old }
+        ensures position { result ≡ at self.old.pairs (I.Sealed.key index) }
+        ensures within { IfSome result (λ position. position < length self.old.pairs) }
+    {
+        self.position(index.as_key())
     }
 
     /// Whether a key is there.

@@ -1,9 +1,14 @@
 //! Values opened, to match on their kinds: given out, by reference, and to be written.
 ghost use Rattle.std.specs.Prelude.{◌≡◌};
+ghost use Rattle.std.specs.Borrow.{sem};
+ghost use Rattle.ijson_value.specs.Kind.{kind_of};
+ghost use Rattle.ijson_value.specs.LendsParts.{LendsParts, LendsBoolPart, LendsNumberPart, LendsStringPart, LendsArrayPart, LendsObjectPart};
 ghost use Rattle.ijson_value.specs.NodeValue.{node_value};
 ghost use Rattle.ijson_value.specs.Opened.{ref_value, mut_value};
+ghost use Rattle.ijson_value.specs.Values.{boolean_value, number_value, string_value, array_value, object_value};
+ghost use Rattle.ijson_value.specs.declared.value.ValueType.TheVariants as kind;
 
-use super::{Destructured, IValue};
+use super::{Destructured, IValue, ValueType};
 use crate::array::IArray;
 use crate::object::IObject;
 use ijson_number::INumber;
@@ -61,18 +66,76 @@ impl IValue {
         self.node.as_ref()
     }
 
-    /// The value opened to be written, to match on its kind. What is written stays in the value, and its kind stays too.
+    /// The value opened to be written, to match on its kind. What is written stays in the value, and its kind stays too. A caller
+    /// learns what the value then is only by a proof by hand; those of `as_*_mut`, and of a `match` on `&mut **value`, learn it
+    /// without one.
     pub fn destructure_mut(&mut self) -> DestructuredMut<'_>
-        ensures { mut_value result ≡ self.old }
+        ensures* writes_back { sem 𝓛 (LendsParts self.entry result) }
+        ensures value { mut_value result ≡ self.old }
     {
-        match &mut self.node {
-            Destructured::Null => DestructuredMut::Null,
-            Destructured::Bool(place) => DestructuredMut::Bool(BoolMut { place }),
-            Destructured::Number(number) => DestructuredMut::Number(number),
-            Destructured::String(string) => DestructuredMut::String(string),
-            Destructured::Array(array) => DestructuredMut::Array(array),
-            Destructured::Object(object) => DestructuredMut::Object(object),
+        match self.kind_kept() {
+            ValueType::Null => DestructuredMut::Null,
+            ValueType::Bool => DestructuredMut::Bool(self.bool_part()),
+            ValueType::Number => DestructuredMut::Number(self.number_part()),
+            ValueType::String => DestructuredMut::String(self.string_part()),
+            ValueType::Array => DestructuredMut::Array(self.array_part()),
+            ValueType::Object => DestructuredMut::Object(self.object_part()),
         }
+    }
+
+    /// The kind. The value is as it was.
+    fn kind_kept(&mut self) -> ValueType
+        ensures same { self.new ≡ self.old }
+        ensures kind { result ≡ kind_of self.old.tree }
+    {
+        self.type_()
+    }
+
+    /// The place of the truth value that the value is.
+    fn bool_part(&mut self) -> BoolMut<'_>
+        requires { kind_of self.old.tree ≡ kind.Bool }
+        ensures* writes_back { sem 𝓛 (LendsBoolPart self.entry result.place) }
+        ensures value { boolean_value result.place.now ≡ self.old }
+    {
+        BoolMut {
+            place: self.bool_mut().unwrap(),
+        }
+    }
+
+    /// The number that the value is.
+    fn number_part(&mut self) -> &mut INumber
+        requires { kind_of self.old.tree ≡ kind.Number }
+        ensures* writes_back { sem 𝓛 (LendsNumberPart self.entry result) }
+        ensures value { number_value result.now ≡ self.old }
+    {
+        self.as_number_mut().unwrap()
+    }
+
+    /// The string that the value is.
+    fn string_part(&mut self) -> &mut IString
+        requires { kind_of self.old.tree ≡ kind.String }
+        ensures* writes_back { sem 𝓛 (LendsStringPart self.entry result) }
+        ensures value { string_value result.now ≡ self.old }
+    {
+        self.as_string_mut().unwrap()
+    }
+
+    /// The array that the value is.
+    fn array_part(&mut self) -> &mut IArray
+        requires { kind_of self.old.tree ≡ kind.Array }
+        ensures* writes_back { sem 𝓛 (LendsArrayPart self.entry result) }
+        ensures value { array_value result.now.items ≡ self.old }
+    {
+        self.as_array_mut().unwrap()
+    }
+
+    /// The object that the value is.
+    fn object_part(&mut self) -> &mut IObject
+        requires { kind_of self.old.tree ≡ kind.Object }
+        ensures* writes_back { sem 𝓛 (LendsObjectPart self.entry result) }
+        ensures value { object_value result.now ≡ self.old }
+    {
+        self.as_object_mut().unwrap()
     }
 }
 

@@ -4,6 +4,7 @@ ghost use Rattle.std.specs.Borrow.{sem};
 ghost use Rattle.ijson_value.specs.FindsEntry.{FindsNoRoom};
 ghost use Rattle.ijson_value.specs.Kind.{kind_of};
 ghost use Rattle.ijson_value.specs.LendsPart.{LendsOpened};
+ghost use Rattle.ijson_value.specs.LendsInside.{LendsInsideIf};
 ghost use Rattle.ijson_value.specs.LendsStep.{InObject, LendsPutInside, LendsStep, LendsStepIf};
 ghost use Rattle.ijson_value.specs.NodeValue.{node_value};
 ghost use Rattle.ijson_value.specs.Step.{Step, by_position, by_key, kind_for, tree_at, tree_without};
@@ -62,8 +63,19 @@ pub trait ValueIndex: Sealed {
         self.find_in(&v.node)
     }
 
-    /// The value there, to be written. As `index_into`.
-    fn index_into_mut<'v>(v: &'v mut Destructured, index: Self) -> Option<&'v mut IValue>
+    /// The value there, to be written. As `index_into`. What is written changes that one value. A caller learns so only by a proof
+    /// by hand; `value.get_mut(index)` lends the same, and its callers learn it without one.
+    final fn index_into_mut<'v>(self, v: &'v mut IValue) -> Option<&'v mut IValue>
+        requires { kind_of v.old.tree ≡ kind_for (Self.Sealed.step self) }
+        ensures* writes_back { sem 𝓛 (LendsInsideIf v.entry (Self.Sealed.step self) result) }
+        ensures value { option_map (λ found. found.now.tree) result
+            ≡ tree_at v.old.tree (Self.Sealed.step self) }
+    {
+        IValue::get_mut(opened(v), self)
+    }
+
+    /// The value there in an opened value, to be written. As `index_into_mut`.
+    fn index_opened_mut<'v>(v: &'v mut Destructured, index: Self) -> Option<&'v mut IValue>
         requires { kind_of (node_value v.old).tree ≡ kind_for (Self.Sealed.step index) }
         ensures* writes_back { sem 𝓛 (LendsStepIf v.entry (Self.Sealed.step index) result) }
         ensures value { option_map (λ found. found.now.tree) result
@@ -91,7 +103,7 @@ impl Sealed for usize {
 
 /// A position of an array, from 0.
 impl ValueIndex for usize {
-    fn index_into_mut<'v>(v: &'v mut Destructured, index: usize) -> Option<&'v mut IValue> {
+    fn index_opened_mut<'v>(v: &'v mut Destructured, index: usize) -> Option<&'v mut IValue> {
         match v {
             Destructured::Array(array) => array.get_mut(index),
             _ => None,
@@ -117,7 +129,7 @@ impl Sealed for &str {
 
 /// The text of a key of an object.
 impl ValueIndex for &str {
-    fn index_into_mut<'v>(v: &'v mut Destructured, index: &str) -> Option<&'v mut IValue> {
+    fn index_opened_mut<'v>(v: &'v mut Destructured, index: &str) -> Option<&'v mut IValue> {
         match v {
             Destructured::Object(object) => object.get_mut(index),
             _ => None,
@@ -140,8 +152,8 @@ impl Sealed for &IString {
 
 /// The text of a key of an object.
 impl ValueIndex for &IString {
-    fn index_into_mut<'v>(v: &'v mut Destructured, index: &IString) -> Option<&'v mut IValue> {
-        <&str>::index_into_mut(v, index.as_str())
+    fn index_opened_mut<'v>(v: &'v mut Destructured, index: &IString) -> Option<&'v mut IValue> {
+        <&str>::index_opened_mut(v, index.as_str())
     }
 
     fn remove(self, v: &mut IValue) -> Option<IValue> {
@@ -159,8 +171,8 @@ impl<T: Sealed> Sealed for &T {
 
 /// As what it refers to.
 impl<T: ValueIndex> ValueIndex for &T {
-    fn index_into_mut<'v>(v: &'v mut Destructured, index: &T) -> Option<&'v mut IValue> {
-        T::index_into_mut(v, *index)
+    fn index_opened_mut<'v>(v: &'v mut Destructured, index: &T) -> Option<&'v mut IValue> {
+        T::index_opened_mut(v, *index)
     }
 
     fn remove(self, v: &mut IValue) -> Option<IValue> {
@@ -197,6 +209,42 @@ impl IValue {
     }
 }
 
+impl IValue {
+    /// `get_mut` of the opened value by the path of the value, which is opened where it is passed: `IValue::get_mut(&mut value,
+    /// "port")`. `value.get_mut("port")` is the same call.
+    pub fn get_mut<I: ValueIndex>(opened: &mut Destructured, index: I) -> Option<&mut IValue>
+        requires { kind_of (node_value opened.old).tree ≡ kind_for (I.Sealed.step index) }
+        ensures* writes_back { sem 𝓛 (LendsStepIf opened.entry (I.Sealed.step index) result) }
+        ensures value { option_map (λ found. found.now.tree) result
+            ≡ tree_at (node_value opened.old).tree (I.Sealed.step index) }
+    {
+        I::index_opened_mut(opened, index)
+    }
+
+    /// `index_or_insert` of the opened value by the path of the value, as `IValue::get_mut`.
+    pub fn index_or_insert(
+        opened: &mut Destructured,
+        key: IString,
+    ) -> Result<&mut IValue, RefusedPair>
+        requires { kind_of (node_value opened.old).tree ≡ kind_for (by_key key) }
+        ensures* writes_back { sem 𝓛 (LendsPutInside opened.entry key result) }
+        ensures value { IfOk result (λ value.
+            value.now.tree ≡ unwrap_or (tree_at (node_value opened.old).tree (by_key key)) null) }
+        ensures refused { IfErr result (λ refused. (refused.key ≡ key) × (refused.value ≡ null_value)
+            × InObject (λ old. FindsNoRoom old key refused.why) opened.old) }
+    {
+        opened.index_or_insert(key)
+    }
+}
+
+/// The value opened, which it always is.
+fn opened(value: &mut IValue) -> &mut Destructured
+    ensures* writes_back { sem 𝓛 (LendsOpened value.entry result) }
+    ensures value { node_value result.now ≡ value.old }
+{
+    &mut **value
+}
+
 impl Destructured {
     /// The value at a position of an array, or beside a key of an object, to be written. None where there is none. It is called
     /// on a value, which derefs to what it is opened: `value.get_mut("port")`. The value has to be of the kind that the index
@@ -207,7 +255,7 @@ impl Destructured {
         ensures value { option_map (λ found. found.now.tree) result
             ≡ tree_at (node_value self.old).tree (I.Sealed.step index) }
     {
-        I::index_into_mut(self, index)
+        I::index_opened_mut(self, index)
     }
 
     /// The value beside a key of an object, to be written. A key that is not there is put last with null beside it; where there
@@ -250,6 +298,6 @@ impl<I: ValueIndex + Drop> IndexMut<I> for Destructured {
         ensures* writes_back { sem 𝓛 (LendsStep self.entry (I.Sealed.step index) result) }
         ensures value { tree_at (node_value self.old).tree (I.Sealed.step index) ≡ Some result.now.tree }
     {
-        I::index_into_mut(self, index).unwrap()
+        I::index_opened_mut(self, index).unwrap()
     }
 }

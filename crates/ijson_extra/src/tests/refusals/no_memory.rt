@@ -11,7 +11,7 @@ use ijson_string::IString;
 use ijson_table::{FixedTable, LinearPairs, PairStore};
 use ijson_value::array::IArray;
 use ijson_value::object::{Entry, IObject};
-use ijson_value::value::{Destructured, IValue, ValueType};
+use ijson_value::value::{IValue, ValueType};
 use std::alloc::{AllocError, Global};
 use std::cmp::Ordering;
 use std::hash::{DefaultHasher, Hash, Hasher};
@@ -260,8 +260,8 @@ fn takes(rt: &impl Abort, value: &mut IValue) {
 fn opens(rt: &impl Abort, value: &mut IValue) {
     let found = resolve(value, "/a").expect(rt, "a value");
     assert!(rt; found == Some(&IValue::from(1u8)));
-    if let Ok(found) = resolve_mut(value, "/d") {
-        *found = Destructured::Number(INumber::from(4u8));
+    if let Ok(Some(found)) = resolve_mut(value, "/d") {
+        *found = IValue::from(4u8);
     }
     assert!(rt; value.as_object().is_some() && value.len() == Some(4));
 }

@@ -6,7 +6,7 @@ use Rattle.ijson_value.specs.Step.{by_key, tree_at}
 use Rattle.ijson_value.specs.WellFormed.{WellFormed, tree_of}
 use Rattle.ijson_value.specs.laws.Steps.{value_at}
 use Rattle.ijson_value.proofs.Found.{lent_tree}
-use Rattle.ijson_value.proofs.value.index.RefStrValueIndex.index_into_mut.Goals as goal
+use Rattle.ijson_value.proofs.value.index.RefStrValueIndex.index_opened_mut.Goals as goal
 
 pub returns-in-Object : goal.returns-in-Object
 returns-in-Object c = (

@@ -6,7 +6,7 @@ use Rattle.ijson_value.specs.Step.{by_position, tree_at}
 use Rattle.ijson_value.specs.WellFormed.{tree_of}
 use Rattle.ijson_value.specs.laws.Steps.{item_at}
 use Rattle.ijson_value.proofs.Found.{lent_tree}
-use Rattle.ijson_value.proofs.value.index.UsizeValueIndex.index_into_mut.Goals as goal
+use Rattle.ijson_value.proofs.value.index.UsizeValueIndex.index_opened_mut.Goals as goal
 
 pub returns-in-Array : goal.returns-in-Array
 returns-in-Array c = (

@@ -1,0 +1,4 @@
+pub mod LentOn
+pub mod Parts
+pub mod Steps
+pub mod Variants

@@ -1,0 +1,19 @@
+-- What an object is once the value that it lent beside its key is given back: what was left there stands beside the key, and
+-- nothing else is changed. This project's own.
+use Rattle.std.specs.Prelude.{ℕ, List, Option, Some, None}
+use Rattle.std.specs.Borrow.{follows_if, GName, Bor, MutBor, Fml}
+use mathlib.Core.Option as maybe
+use Rattle.ijson_table.specs.Store.{Store}
+use Rattle.ijson_value.specs.LendsAtKey.{with_key}
+use Rattle.ijson_value.specs.WellFormed.{WellFormed}
+use Rattle.ijson_value.specs.contracts.object.map.IObject as object
+use Rattle.ijson_value.specs.contracts.value.IValue as value
+
+-- the name of the reference to the value
+abbrev pub pair_name : Option (Bor (List ℕ) × MutBor WellFormed) → maybe.Option GName
+pair_name (Some pair) = maybe.some pair.1.ghost_name
+pair_name None = maybe.none
+
+-- the pair with a key, or nothing: then the object is as it was
+abbrev pub LendsPairIf : MutBor (Store WellFormed) → List ℕ → Option (Bor (List ℕ) × MutBor WellFormed) → Fml
+LendsPairIf s key r = follows_if object.the_row value.the_row s.ghost_name (pair_name r) (with_key s.now key) s.now
