@@ -1,6 +1,8 @@
 use super::refusals::object_of_map;
 use super::{Cache, empty_cache, parsed};
-use crate::convert::{ConvertError, FromIValue, ToIValue, from_value, to_value};
+use crate::convert::{
+    ConvertError, FromIValue, ToIValue, from_serde, from_value, to_serde, to_value,
+};
 use crate::ijson;
 use crate::json::to_json;
 use crate::value::IValue;
@@ -349,16 +351,6 @@ fn numbers(rt: &impl Abort, alloc: Global, count: u32) -> Vec<u32> {
     list
 }
 
-/// More items than any list or table here has room for at first.
-#[test]
-fn many_items_go_there_and_back(rt: HostRuntime) {
-    let list = numbers(&rt, rt.alloc(), 100_000);
-    let value = to_value(rt.alloc(), &mut empty_cache(rt.alloc()), &list).expect(&rt, "a value");
-    assert!(rt; value.len() == Some(100_000));
-    let back = from_value::<Vec<u32>>(rt.alloc(), &value).expect(&rt, "a list");
-    assert!(rt; back.as_slice() == list.as_slice());
-}
-
 /// The numbers below a count, each beside its digits.
 fn numbered(rt: &impl Abort, alloc: Global, count: u32) -> BTreeMap<String, u32> {
     let mut map: BTreeMap<String, u32> = BTreeMap::new(alloc);
@@ -370,11 +362,27 @@ fn numbered(rt: &impl Abort, alloc: Global, count: u32) -> BTreeMap<String, u32>
     map
 }
 
+/// Asserts that the value of `x` says `x` again, and that it is equal once it went to `serde_json` and back. Answers the value.
+fn goes_back<T: ToIValue + FromIValue + PartialEq + Drop>(
+    rt: &impl Abort,
+    alloc: Global,
+    x: &T,
+) -> IValue {
+    let value = to_value(alloc, &mut empty_cache(alloc), x).expect(rt, "a value");
+    assert!(rt; from_value::<T>(alloc, &value).expect(rt, "the same") == *x);
+    let there = to_serde(alloc, &value).expect(rt, "a value there");
+    assert!(rt; from_serde(alloc, &mut empty_cache(alloc), &there).expect(rt, "a value") == value);
+    value
+}
+
+/// Many more items, pairs and letters than there is room for at first. The object of a map has room for its pairs alone.
 #[test]
-fn many_pairs_go_there_and_back(rt: HostRuntime) {
-    let map = numbered(&rt, rt.alloc(), 10_000);
-    let value = to_value(rt.alloc(), &mut empty_cache(rt.alloc()), &map).expect(&rt, "a value");
-    assert!(rt; value.len() == Some(10_000));
-    let back = from_value::<BTreeMap<String, u32>>(rt.alloc(), &value).expect(&rt, "a map");
-    assert!(rt; back == map);
+fn much_goes_there_and_back(rt: HostRuntime) {
+    let letters = "a".repeat(rt.alloc(), 100_000).expect(&rt, "the letters");
+    drop(goes_back(&rt, rt.alloc(), &letters));
+    let items = goes_back(&rt, rt.alloc(), &numbers(&rt, rt.alloc(), 100_000));
+    assert!(rt; items.len() == Some(100_000));
+    let pairs = goes_back(&rt, rt.alloc(), &numbered(&rt, rt.alloc(), 10_000));
+    let object = pairs.as_object().expect(&rt, "an object");
+    assert!(rt; object.len() == 10_000 && object.capacity() == 10_000);
 }
