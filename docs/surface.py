@@ -12,7 +12,8 @@ BLOCK = re.compile(r"^(?:pub(?:\([a-z]+\))? )?(impl|trait)\b(?:<[^{]*?>(?= ))? ?
 FUNCTION = re.compile(r"^( *)(pub )?(?:final )?fn (\w+)")
 GHOST = re.compile(r"^    ghost (\w+)(?: =|:)")
 CLAUSE = re.compile(r"^ +ensures\*? (\w+) \{")
-TYPE = re.compile(r"^pub (struct|enum|trait) (\w+)")
+TYPE = re.compile(r"^pub (struct|enum|trait|type) (\w+)")
+CONSTANT = re.compile(r"^( *)pub const (\w+): ([^=]+?) =")
 ENDS = re.compile(r"^ +(?:requires|ensures|decreases|ghost)\b|^\s*(?:where\b|\}|//)")
 
 # Traits with no promise of their own: what contracts see of a type, and markers.
@@ -21,8 +22,14 @@ SKIPPED = ("Model for ", "Eq for ", "FusedIterator for ")
 # One call, or one ghost member of an implementation. The group is the implementation of a trait that it belongs to, if any.
 Call = collections.namedtuple("Call", "crate path owner name signature sentence clauses group")
 
-# A struct, an enum or a trait.
+# A struct, an enum, a trait or an alias of a type.
 Type = collections.namedtuple("Type", "crate path kind name sentence")
+
+# A constant of a type, or of a module, which has no owner then.
+Constant = collections.namedtuple("Constant", "crate path owner name kind sentence")
+
+# A trait that a public type has, but for those that are derived.
+Implementation = collections.namedtuple("Implementation", "crate path trait owner")
 
 
 def without_generics(text):
@@ -35,7 +42,7 @@ def exports(module):
     """The names that a module, or the crate of a `lib.rt`, gives out."""
     text = module.read_text()
     inside = module.parent if module.name == "lib.rt" else module.with_suffix("")
-    names = set(re.findall(r"^pub (?:fn|struct|enum|trait) (\w+)", text, re.M))
+    names = set(re.findall(r"^pub (?:fn|struct|enum|trait|type|const) (\w+)", text, re.M))
     for group in re.findall(r"^pub use \w+(?:::\w+)*::\{?([^;}]*)\}?;", text, re.M):
         names |= {name.strip() for name in group.split(",")}
     for name in re.findall(r"^pub mod (\w+);", text, re.M):
@@ -68,17 +75,30 @@ def signature_at(lines, at):
     return re.sub(r"\s*[{;]$", "", text)
 
 
+def is_outermost(line):
+    """Whether a line ends the block that stands before it, if any."""
+    return bool(line) and not line[0].isspace() and not line.startswith(("}", "/", "#", ")", "ghost use"))
+
+
+def block_at(line):
+    """(kind, header, owner) of the implementation or the trait that begins in a line, or None."""
+    block = BLOCK.match(without_generics(line))
+    if not block:
+        return None
+    kind, header = block.groups()
+    return kind, header, re.split(r"[\s:{]", header.split(" for ")[-1].strip())[0]
+
+
 def calls_in(crate, path, public):
     """The public calls of a file, with the names of their clauses. Those of one block of a trait are one group."""
     owner = group = call = None
     lines = path.read_text().splitlines()
     for at, line in enumerate(lines):
-        if line and not line[0].isspace() and not line.startswith(("}", "/", "#", ")", "ghost use")):
+        if is_outermost(line):
             owner = group = call = None
-            block = BLOCK.match(without_generics(line))
+            block = block_at(line)
             if block:
-                kind, header = block.groups()
-                owner = re.split(r"[\s:{]", header.split(" for ")[-1].strip())[0]
+                kind, header, owner = block
                 group = f"{path}: {header}" if kind == "trait" or " for " in header else None
                 if header.startswith(SKIPPED):
                     owner = "nothing public"
@@ -106,6 +126,26 @@ def types_in(crate, path, public):
             yield Type(crate, path, *found.groups(), doc_above(lines, at))
 
 
+def constants_in(crate, path, public):
+    """The public constants of a file."""
+    lines, owner = path.read_text().splitlines(), None
+    for at, line in enumerate(lines):
+        if is_outermost(line):
+            block = block_at(line)
+            owner = block[2] if block else None
+        found = CONSTANT.match(line)
+        if found and (owner if found.group(1) else found.group(2)) in public:
+            yield Constant(crate, path, owner, *found.groups()[1:], doc_above(lines, at))
+
+
+def implementations_in(crate, path, public):
+    """The traits that are implemented by hand for the public types of a file, but for what contracts see of a type."""
+    for line in path.read_text().splitlines():
+        block = block_at(line) if line.startswith("impl") else None
+        if block and " for " in block[1] and block[2] in public and not block[1].startswith("Model for "):
+            yield Implementation(crate, path, block[1].split(" for ")[0].replace("fmt::", ""), block[2])
+
+
 def sources():
     """(crate, file, names that the crate gives out) of each source file of a library below the top crate, but its tests."""
     for crate in sorted(TOP.glob("crates/ijson_*")):
@@ -122,3 +162,11 @@ def public_calls():
 
 def public_types():
     return [item for source in sources() for item in types_in(*source)]
+
+
+def public_constants():
+    return [item for source in sources() for item in constants_in(*source)]
+
+
+def implementations():
+    return [item for source in sources() for item in implementations_in(*source)]

@@ -1,5 +1,6 @@
 pub mod IntegerTree
 pub mod OptionTree
+pub mod NullIsNone
 pub mod ListTree
 pub mod MapTree
 pub mod TextsOf

@@ -13,7 +13,8 @@ use std::alloc::Global;
 
 /// What has a tree, and can be made of a JSON value whose tree is the same. These are `bool`, the integers of up to 64 bits,
 /// `String`, and of what has it itself `Option`, where null is None, `Vec`, and `BTreeMap` with `String` keys. A number of any
-/// shape is an integer where its value is whole: `2.0` is 2.
+/// shape is an integer where its value is whole: `2.0` is 2. Null is None of the outermost `Option`: of `Option<Option<u8>>` it
+/// is None, and never `Some(None)`.
 pub trait FromIValue: Sized {
     /// The tree of a value.
     ghost tree: { Self → Tree };
@@ -31,11 +32,15 @@ pub trait FromIValue: Sized {
     /// What holds of the integers in each value: in a law, an integer type has any whole number.
     ghost in_range: { Self → Type 0 };
 
+    /// What holds of each value that is read: where a part of it may be missing and has the tree null, it is missing.
+    ghost null_is_none: { Self → Type 0 };
+
     /// What the JSON value says. Want of memory apart, it is refused exactly where its tree is. Texts are copied, and what was
     /// made is dropped where it is refused.
     fn from_ivalue(alloc: Global, value: &IValue) -> Result<Self, ConvertError>
         ensures same { IfOk result (λ x. Same (tree x) value.now.tree) }
         ensures read { IfOk result (λ x. IsRead refused value.now.tree) }
+        ensures none { IfOk result (λ x. null_is_none x) }
         ensures refused { IfErr result (λ e. (e ≡ Memory) ⊎ refused value.now.tree e) };
 
     /// Only a tree that is no value's is refused.
@@ -44,7 +49,7 @@ pub trait FromIValue: Sized {
 }
 
 /// What the JSON value says, as a `T`. Want of memory apart, it is refused exactly where its tree is no `T`'s, with the
-/// first reason in order. Texts are copied.
+/// first reason in order. Texts are copied. For an `Option`, null is None.
 ///
 /// ```
 /// let ids: Vec<u64> = from_value(alloc, &value)?; // of [1,2.0]; [1,"2"] is refused as WrongKind, [1,2.5] as OutOfRange
@@ -52,6 +57,7 @@ pub trait FromIValue: Sized {
 pub fn from_value<T: FromIValue>(alloc: Global, value: &IValue) -> Result<T, ConvertError>
     ensures same { IfOk result (λ x. Same (T.FromIValue.tree x) value.now.tree) }
     ensures read { IfOk result (λ x. IsRead T.FromIValue.refused value.now.tree) }
+    ensures none { IfOk result (λ x. T.FromIValue.null_is_none x) }
     ensures refused { IfErr result (λ e. (e ≡ Memory) ⊎ T.FromIValue.refused value.now.tree e) }
 {
     T::from_ivalue(alloc, value)

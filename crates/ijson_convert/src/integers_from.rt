@@ -1,5 +1,5 @@
 //! `FromIValue` of the integers.
-ghost use Rattle.std.specs.Prelude.{◌<◌, ◌^◌, pos, FitsSigned};
+ghost use Rattle.std.specs.Prelude.{◌<◌, ◌^◌, pos, ⊤, FitsSigned};
 ghost use Rattle.std.specs.Int.{w8, w16, w32, w64};
 ghost use Rattle.ijson_convert.specs.IntegerTree.{integer_tree};
 ghost use Rattle.ijson_convert.specs.Refused.{SignedRefused, UnsignedRefused};
@@ -18,6 +18,8 @@ impl FromIValue for i8 {
     ghost refused = { SignedRefused w8 };
 
     ghost in_range = { λ z. FitsSigned w8 z };
+
+    ghost null_is_none = { λ _. ⊤ };
 
     #[tactic(auto, using(crate::proofs::Whole::signed_read, crate::specs::laws::Whole::wide_8, crate::proofs::Whole::signed_past))]
     fn from_ivalue(_alloc: Global, value: &IValue) -> Result<i8, ConvertError> {
@@ -44,6 +46,8 @@ impl FromIValue for i16 {
 
     ghost in_range = { λ z. FitsSigned w16 z };
 
+    ghost null_is_none = { λ _. ⊤ };
+
     #[tactic(auto, using(crate::proofs::Whole::signed_read, crate::specs::laws::Whole::wide_16, crate::proofs::Whole::signed_past))]
     fn from_ivalue(_alloc: Global, value: &IValue) -> Result<i16, ConvertError> {
         let DestructuredRef::Number(number) = value.destructure_ref() else {
@@ -69,6 +73,8 @@ impl FromIValue for i32 {
 
     ghost in_range = { λ z. FitsSigned w32 z };
 
+    ghost null_is_none = { λ _. ⊤ };
+
     #[tactic(auto, using(crate::proofs::Whole::signed_read, crate::specs::laws::Whole::wide_32))]
     fn from_ivalue(_alloc: Global, value: &IValue) -> Result<i32, ConvertError> {
         let DestructuredRef::Number(number) = value.destructure_ref() else {
@@ -90,6 +96,8 @@ impl FromIValue for i64 {
     ghost refused = { SignedRefused w64 };
 
     ghost in_range = { λ z. FitsSigned w64 z };
+
+    ghost null_is_none = { λ _. ⊤ };
 
     #[tactic(auto, using(crate::proofs::Whole::signed_read, crate::specs::laws::Whole::wide_64))]
     fn from_ivalue(_alloc: Global, value: &IValue) -> Result<i64, ConvertError> {
@@ -113,6 +121,8 @@ impl FromIValue for isize {
 
     ghost in_range = { λ z. FitsSigned w64 z };
 
+    ghost null_is_none = { λ _. ⊤ };
+
     #[tactic(auto, using(crate::proofs::Whole::signed_read, crate::specs::laws::Whole::wide_64))]
     fn from_ivalue(_alloc: Global, value: &IValue) -> Result<isize, ConvertError> {
         let DestructuredRef::Number(number) = value.destructure_ref() else {
@@ -134,6 +144,8 @@ impl FromIValue for u8 {
     ghost refused = { UnsignedRefused (2 ^ 8) };
 
     ghost in_range = { λ m. m < 2 ^ 8 };
+
+    ghost null_is_none = { λ _. ⊤ };
 
     #[tactic(auto, using(crate::proofs::Whole::unsigned_read, crate::specs::laws::Whole::below_8, crate::proofs::Whole::unsigned_past))]
     fn from_ivalue(_alloc: Global, value: &IValue) -> Result<u8, ConvertError> {
@@ -160,6 +172,8 @@ impl FromIValue for u16 {
 
     ghost in_range = { λ m. m < 2 ^ 16 };
 
+    ghost null_is_none = { λ _. ⊤ };
+
     #[tactic(auto, using(crate::proofs::Whole::unsigned_read, crate::specs::laws::Whole::below_16, crate::proofs::Whole::unsigned_past))]
     fn from_ivalue(_alloc: Global, value: &IValue) -> Result<u16, ConvertError> {
         let DestructuredRef::Number(number) = value.destructure_ref() else {
@@ -185,6 +199,8 @@ impl FromIValue for u32 {
 
     ghost in_range = { λ m. m < 2 ^ 32 };
 
+    ghost null_is_none = { λ _. ⊤ };
+
     #[tactic(auto, using(crate::proofs::Whole::unsigned_read, crate::specs::laws::Whole::below_32))]
     fn from_ivalue(_alloc: Global, value: &IValue) -> Result<u32, ConvertError> {
         let DestructuredRef::Number(number) = value.destructure_ref() else {
@@ -207,6 +223,8 @@ impl FromIValue for u64 {
 
     ghost in_range = { λ m. m < 2 ^ 64 };
 
+    ghost null_is_none = { λ _. ⊤ };
+
     #[tactic(auto, using(crate::proofs::Whole::unsigned_read, crate::specs::laws::Whole::below_64))]
     fn from_ivalue(_alloc: Global, value: &IValue) -> Result<u64, ConvertError> {
         let DestructuredRef::Number(number) = value.destructure_ref() else {
@@ -228,6 +246,8 @@ impl FromIValue for usize {
     ghost refused = { UnsignedRefused (2 ^ 64) };
 
     ghost in_range = { λ m. m < 2 ^ 64 };
+
+    ghost null_is_none = { λ _. ⊤ };
 
     #[tactic(auto, using(crate::proofs::Whole::unsigned_read, crate::specs::laws::Whole::below_64))]
     fn from_ivalue(_alloc: Global, value: &IValue) -> Result<usize, ConvertError> {

@@ -1,4 +1,5 @@
 //! `FromIValue` of lists.
+ghost use Rattle.std.specs.Prelude.{All};
 ghost use Rattle.ijson_convert.specs.ListTree.{list_tree};
 ghost use Rattle.ijson_convert.specs.Refused.{ListRefused, all_in_range};
 ghost use Rattle.ijson_convert.specs.laws.Complete.{list_complete};
@@ -15,6 +16,8 @@ impl<T: FromIValue + Drop> FromIValue for Vec<T> {
     ghost refused = { ListRefused T.FromIValue.refused };
 
     ghost in_range = { λ list. all_in_range T.FromIValue.in_range list.items };
+
+    ghost null_is_none = { λ list. All T.FromIValue.null_is_none list.items };
 
     fn from_ivalue(alloc: Global, value: &IValue) -> Result<Vec<T>, ConvertError> {
         let DestructuredRef::Array(items) = value.destructure_ref() else {

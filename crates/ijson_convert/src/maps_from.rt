@@ -1,4 +1,6 @@
 //! `FromIValue` of maps.
+ghost use Rattle.std.specs.Map.{values_of};
+ghost use Rattle.std.specs.Prelude.{All};
 ghost use Rattle.ijson_convert.specs.MapTree.{map_tree};
 ghost use Rattle.ijson_convert.specs.Refused.{MapRefused, values_in_range};
 ghost use Rattle.ijson_convert.specs.laws.Complete.{map_complete};
@@ -16,6 +18,8 @@ impl<T: FromIValue + Drop> FromIValue for BTreeMap<String, T> {
     ghost refused = { MapRefused T.FromIValue.refused };
 
     ghost in_range = { λ map. values_in_range T.FromIValue.in_range map.entries };
+
+    ghost null_is_none = { λ map. All T.FromIValue.null_is_none (values_of map.entries) };
 
     fn from_ivalue(alloc: Global, value: &IValue) -> Result<BTreeMap<String, T>, ConvertError> {
         let DestructuredRef::Object(object) = value.destructure_ref() else {

@@ -1,6 +1,7 @@
 //! `FromIValue` of truth values, texts, and what may be missing.
 ghost use Rattle.std.specs.Prelude.{⊤, string_bytes};
 ghost use Rattle.ijson_value.specs.Tree.{boolean, string};
+ghost use Rattle.ijson_convert.specs.NullIsNone.{option_null_is_none};
 ghost use Rattle.ijson_convert.specs.OptionTree.{option_tree};
 ghost use Rattle.ijson_convert.specs.Refused.{BoolRefused, TextRefused, OptionRefused, option_in_range};
 ghost use Rattle.ijson_convert.specs.laws.Complete.{bool_complete, text_complete, option_complete};
@@ -17,6 +18,8 @@ impl FromIValue for bool {
     ghost refused = { BoolRefused };
 
     ghost in_range = { λ _. ⊤ };
+
+    ghost null_is_none = { λ _. ⊤ };
 
     fn from_ivalue(_alloc: Global, value: &IValue) -> Result<bool, ConvertError> {
         match value.destructure_ref() {
@@ -36,6 +39,8 @@ impl FromIValue for String {
 
     ghost in_range = { λ _. ⊤ };
 
+    ghost null_is_none = { λ _. ⊤ };
+
     fn from_ivalue(alloc: Global, value: &IValue) -> Result<String, ConvertError> {
         match value.destructure_ref() {
             DestructuredRef::String(text) => Ok(text.to_owned_string(alloc)?),
@@ -46,13 +51,15 @@ impl FromIValue for String {
     ghost complete = { λ s. text_complete (string_bytes s) };
 }
 
-/// None where the value is null.
+/// None where the value is null, also where what is in it would be read of null too.
 impl<T: FromIValue> FromIValue for Option<T> {
     ghost tree = { option_tree T.FromIValue.tree };
 
     ghost refused = { OptionRefused T.FromIValue.refused };
 
     ghost in_range = { option_in_range T.FromIValue.in_range };
+
+    ghost null_is_none = { option_null_is_none T.FromIValue.tree T.FromIValue.null_is_none };
 
     fn from_ivalue(alloc: Global, value: &IValue) -> Result<Option<T>, ConvertError> {
         match value.destructure_ref() {

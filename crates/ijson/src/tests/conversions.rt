@@ -1,6 +1,8 @@
 use super::refusals::object_of_map;
 use super::{Cache, empty_cache, parsed};
-use crate::convert::{ConvertError, FromIValue, ToIValue, from_value, to_value};
+use crate::convert::{
+    ConvertError, FromIValue, ToIValue, from_serde, from_value, to_serde, to_value,
+};
 use crate::ijson;
 use crate::json::to_json;
 use crate::value::IValue;
@@ -28,9 +30,9 @@ fn pairs(alloc: Global, cache: &mut Cache, key: &str) -> Result<IValue, ConvertE
     ijson!(alloc, cache; {"name": "ijson", "sizes": [], key: {}, "name": [],})
 }
 
-/// Items that are expressions, and a comma behind the last one.
-fn items(alloc: Global, cache: &mut Cache, n: i64) -> Result<IValue, ConvertError> {
-    ijson!(alloc, cache; {"sizes": [1u8, n, null,]})
+/// A text, and items that are plain, with a comma behind the last one.
+fn items(alloc: Global, cache: &mut Cache) -> Result<IValue, ConvertError> {
+    ijson!(alloc, cache; {"foo": "bar", "x": [], "y": [1, null, true,]})
 }
 
 /// An object in an object in an object.
@@ -39,8 +41,8 @@ fn objects(alloc: Global, cache: &mut Cache, key: &str) -> Result<IValue, Conver
 }
 
 /// A list in a list, and an item that is more than one token.
-fn lists(alloc: Global, cache: &mut Cache) -> Result<IValue, ConvertError> {
-    ijson!(alloc, cache; {"name": [[], -7i32]})
+fn lists(alloc: Global, cache: &mut Cache, n: i64) -> Result<IValue, ConvertError> {
+    ijson!(alloc, cache; {"name": [[], n / 2]})
 }
 
 #[test]
@@ -49,11 +51,16 @@ fn literals_are_values(rt: HostRuntime) {
     let mut cache = empty_cache(alloc);
     let value = pairs(alloc, &mut cache, "nested");
     is_literal(&rt, alloc, value, r#"{"name":[],"sizes":[],"nested":{}}"#);
-    let value = items(alloc, &mut cache, 100);
-    is_literal(&rt, alloc, value, r#"{"sizes":[1,100,null]}"#);
+    let value = items(alloc, &mut cache);
+    is_literal(
+        &rt,
+        alloc,
+        value,
+        r#"{"foo":"bar","x":[],"y":[1,null,true]}"#,
+    );
     let value = objects(alloc, &mut cache, "nested");
     is_literal(&rt, alloc, value, r#"{"nested":{"deep":true,"none":{}}}"#);
-    let value = lists(alloc, &mut cache);
+    let value = lists(alloc, &mut cache, -14);
     is_literal(&rt, alloc, value, r#"{"name":[[],-7]}"#);
 }
 
@@ -79,24 +86,26 @@ fn text_of<T: ToIValue>(rt: &impl Abort, alloc: Global, x: &T) -> String {
     written(rt, alloc, &value)
 }
 
-/// A map that sorts its keys, b and a put in this order, with a list beside each.
-fn sorted(rt: &impl Abort, alloc: Global) -> BTreeMap<String, Vec<Option<u8>>> {
-    let mut map: BTreeMap<String, Vec<Option<u8>>> = BTreeMap::new(alloc);
-    for letters in ["b", "a"].iter() {
-        let key = String::from_str(alloc, *letters).expect(rt, "a text");
-        let list = vec![in alloc; Some(255), None].expect(rt, "a list");
-        let old: Result<_, _> = map.insert(key, list);
+/// The pairs of two maps, in the order in which they are put.
+const PUT: [(&str, u8); 2] = [("b", 1), ("a", 2)];
+
+/// A map that sorts its keys.
+fn sorted(rt: &impl Abort, alloc: Global) -> BTreeMap<String, u8> {
+    let mut map: BTreeMap<String, u8> = BTreeMap::new(alloc);
+    for (letters, n) in PUT {
+        let key = String::from_str(alloc, letters).expect(rt, "a text");
+        let old: Result<_, _> = map.insert(key, n);
         drop(old.expect(rt, "room"));
     }
     map
 }
 
-/// A map that keeps the order of its keys, b and a put in this order, with an empty list beside each.
-fn inserted(rt: &impl Abort, alloc: Global) -> IndexMap<String, Vec<Option<u8>>> {
-    let mut map: IndexMap<String, Vec<Option<u8>>> = IndexMap::new(alloc);
-    for letters in ["b", "a"].iter() {
-        let key = String::from_str(alloc, *letters).expect(rt, "a text");
-        let old: Result<_, _> = map.insert(key, Vec::new(alloc));
+/// A map that keeps the order of its keys.
+fn inserted(rt: &impl Abort, alloc: Global) -> IndexMap<String, u8> {
+    let mut map: IndexMap<String, u8> = IndexMap::new(alloc);
+    for (letters, n) in PUT {
+        let key = String::from_str(alloc, letters).expect(rt, "a text");
+        let old: Result<_, _> = map.insert(key, n);
         drop(old.expect(rt, "room"));
     }
     map
@@ -105,9 +114,18 @@ fn inserted(rt: &impl Abort, alloc: Global) -> IndexMap<String, Vec<Option<u8>>>
 #[test]
 fn maps_keep_their_order(rt: HostRuntime) {
     let text = text_of(&rt, rt.alloc(), &sorted(&rt, rt.alloc()));
-    assert!(rt; text.as_str() == r#"{"a":[255,null],"b":[255,null]}"#);
+    assert!(rt; text.as_str() == r#"{"a":2,"b":1}"#);
     let text = text_of(&rt, rt.alloc(), &inserted(&rt, rt.alloc()));
-    assert!(rt; text.as_str() == r#"{"b":[],"a":[]}"#);
+    assert!(rt; text.as_str() == r#"{"b":1,"a":2}"#);
+}
+
+#[test]
+fn slices_and_texts_are_values(rt: HostRuntime) {
+    let slice: &[Option<u8>] = &[Some(255), None];
+    let text = text_of(&rt, rt.alloc(), &slice);
+    assert!(rt; text.as_str() == "[255,null]");
+    let text = text_of(&rt, rt.alloc(), &"a \"text\" of many bytes");
+    assert!(rt; text.as_str() == r#""a \"text\" of many bytes""#);
 }
 
 /// What is written of an object of each kind of map, where the map has an order.
@@ -212,6 +230,22 @@ const OF_U64: [Case; 4] = [
 /// What is said as an `i32`.
 const INTEGERS: [Case; 3] = [("2.0", Ok("2")), ("2.5", PAST), ("\"x\"", WRONG_KIND)];
 
+/// What is said as a truth value.
+const TRUTH: [Case; 4] = [
+    ("true", Ok("true")),
+    ("false", Ok("false")),
+    ("0", WRONG_KIND),
+    ("null", WRONG_KIND),
+];
+
+/// What is said as a text.
+const TEXT: [Case; 4] = [
+    (r#""a text of many bytes""#, Ok(r#""a text of many bytes""#)),
+    (r#""""#, Ok(r#""""#)),
+    ("1", WRONG_KIND),
+    (r#"["a"]"#, WRONG_KIND),
+];
+
 /// What is said as a list of integers that may be missing.
 const OPTIONS: [Case; 2] = [("[1,null,2.0]", Ok("[1,null,2]")), ("{}", WRONG_KIND)];
 
@@ -289,8 +323,66 @@ fn integers_are_whole_and_in_range(rt: HostRuntime) {
 #[test]
 fn values_are_read_as_their_types(rt: HostRuntime) {
     let alloc = rt.alloc();
+    reads::<bool>(&rt, alloc, &TRUTH);
+    reads::<String>(&rt, alloc, &TEXT);
     reads::<Vec<Option<i64>>>(&rt, alloc, &OPTIONS);
     reads::<Vec<u8>>(&rt, alloc, &BYTES);
     reads::<BTreeMap<String, bool>>(&rt, alloc, &TRUTHS);
     reads::<BTreeMap<String, Vec<Option<i32>>>>(&rt, alloc, &NESTED);
+}
+
+/// What null says where it can be missing in two ways: it is missing, and nothing is there that is missing.
+#[test]
+fn null_is_none(rt: HostRuntime) {
+    let twice = said::<Option<Option<u8>>>(&rt, rt.alloc(), "null");
+    assert!(rt; twice == Ok(None));
+    let twice = said::<Option<Option<u8>>>(&rt, rt.alloc(), "7.0");
+    assert!(rt; twice == Ok(Some(Some(7))));
+    let list = said::<Vec<Option<Option<u8>>>>(&rt, rt.alloc(), "[null,7]").expect(&rt, "a list");
+    assert!(rt; list.as_slice() == [None, Some(Some(7))].as_slice());
+}
+
+/// The numbers below a count.
+fn numbers(rt: &impl Abort, alloc: Global, count: u32) -> Vec<u32> {
+    let mut list = Vec::new(alloc);
+    for n in 0..count {
+        list.push(n).expect(rt, "room");
+    }
+    list
+}
+
+/// The numbers below a count, each beside its digits.
+fn numbered(rt: &impl Abort, alloc: Global, count: u32) -> BTreeMap<String, u32> {
+    let mut map: BTreeMap<String, u32> = BTreeMap::new(alloc);
+    for n in 0..count {
+        let key = format!(in alloc; "{n}").expect(rt, "a text");
+        let old: Result<_, _> = map.insert(key, n);
+        drop(old.expect(rt, "room"));
+    }
+    map
+}
+
+/// Asserts that the value of `x` says `x` again, and that it is equal once it went to `serde_json` and back. Answers the value.
+fn goes_back<T: ToIValue + FromIValue + PartialEq + Drop>(
+    rt: &impl Abort,
+    alloc: Global,
+    x: &T,
+) -> IValue {
+    let value = to_value(alloc, &mut empty_cache(alloc), x).expect(rt, "a value");
+    assert!(rt; from_value::<T>(alloc, &value).expect(rt, "the same") == *x);
+    let there = to_serde(alloc, &value).expect(rt, "a value there");
+    assert!(rt; from_serde(alloc, &mut empty_cache(alloc), &there).expect(rt, "a value") == value);
+    value
+}
+
+/// Many more items, pairs and letters than there is room for at first. The object of a map has room for its pairs alone.
+#[test]
+fn much_goes_there_and_back(rt: HostRuntime) {
+    let letters = "a".repeat(rt.alloc(), 100_000).expect(&rt, "the letters");
+    drop(goes_back(&rt, rt.alloc(), &letters));
+    let items = goes_back(&rt, rt.alloc(), &numbers(&rt, rt.alloc(), 100_000));
+    assert!(rt; items.len() == Some(100_000));
+    let pairs = goes_back(&rt, rt.alloc(), &numbered(&rt, rt.alloc(), 10_000));
+    let object = pairs.as_object().expect(&rt, "an object");
+    assert!(rt; object.len() == 10_000 && object.capacity() == 10_000);
 }

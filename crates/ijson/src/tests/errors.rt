@@ -1,13 +1,16 @@
-//! Each fault goes by `?` into an error that keeps its text.
+//! Each fault goes by `?` into an error that keeps its text. Those of conversions and pointers are shown by their names too.
 
 use crate::array::Refused;
+use crate::convert::ConvertError;
 use crate::json::{CompactError, DeviceFault, JsonError};
 use crate::object::{RefusedKey, RefusedPair};
+use crate::pointer::PointerError;
 use crate::string::IString;
 use crate::table::ReserveError;
 use crate::value::IValue;
 use std::alloc::Global;
 use std::error::Error;
+use std::fmt::Debug;
 use std::process::Abort;
 
 fn passed_on<E: Error>(fault: E) -> anyhow::Result<()> {
@@ -21,6 +24,11 @@ fn keeps<E: Error>(rt: &impl Abort, alloc: Global, fault: E, text: &str) {
     };
     let found = format!(in alloc; "{error}").expect(rt, "a text");
     assert!(rt; found.as_str() == text);
+}
+
+fn shows<E: Debug>(rt: &impl Abort, alloc: Global, fault: &E, name: &str) {
+    let found = format!(in alloc; "{fault:?}").expect(rt, "a text");
+    assert!(rt; found.as_str() == name);
 }
 
 /// Faults of a text, and the text of each.
@@ -48,6 +56,37 @@ const OF_COMPACT: [(CompactError, &str); 5] = [
     (CompactError::Write, "write failed"),
     (CompactError::Memory, "out of memory"),
 ];
+
+/// Refusals of a conversion, and the text and the name of each.
+const OF_CONVERSIONS: [(ConvertError, &str, &str); 4] = [
+    (
+        ConvertError::WrongKind,
+        "a value of another kind",
+        "WrongKind",
+    ),
+    (
+        ConvertError::OutOfRange,
+        "not a whole number in the range of the type",
+        "OutOfRange",
+    ),
+    (
+        ConvertError::Number,
+        "a number that is neither an i64 nor a u64",
+        "Number",
+    ),
+    (ConvertError::Memory, "out of memory", "Memory"),
+];
+
+#[test]
+fn refusals_have_texts_and_names(rt: HostRuntime) {
+    for (fault, text, name) in OF_CONVERSIONS {
+        keeps(&rt, rt.alloc(), fault, text);
+        shows(&rt, rt.alloc(), &fault, name);
+    }
+    let fault = PointerError::Syntax;
+    keeps(&rt, rt.alloc(), fault, "not a JSON Pointer");
+    shows(&rt, rt.alloc(), &fault, "Syntax");
+}
 
 #[test]
 fn faults_become_errors(rt: HostRuntime) {

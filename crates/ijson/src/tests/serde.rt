@@ -134,10 +134,13 @@ fn by_kind(alloc: Global, value: &IValue) -> Result<IValue, ConvertError> {
     from_kind(alloc, &mut empty_cache(alloc), &there)
 }
 
-/// Asserts what becomes of a text's value that goes there and back.
+/// Asserts what becomes of a text's value that goes there and back: it is equal, or refused.
 fn goes_back(rt: &impl Abort, alloc: Global, text: &str, back: Result<&str, ConvertError>) {
     let value = parsed(rt, alloc, text);
     let answer = there_and_back(alloc, &value);
+    if let Ok(made) = &answer {
+        assert!(rt; *made == value, "{text}");
+    }
     assert!(rt; is_wanted(rt, alloc, answer, back), "{text}");
     let answer = by_kind(alloc, &value);
     assert!(rt; is_wanted(rt, alloc, answer, back), "{text}");

@@ -79,3 +79,22 @@ fn canonical_at_any_depth(rt: HostRuntime) {
     is_written(&rt, rt.alloc(), &value, text.as_str());
     is_too_deep(&rt, rt.alloc(), text.as_str());
 }
+
+/// A list of a text, a number and zeros, of 5,000 letters, digits and items, with something behind the number.
+fn much(rt: &impl Abort, alloc: Global, behind: &str) -> String {
+    let letters = "a".repeat(alloc, 5000).expect(rt, "the letters");
+    let digits = "1".repeat(alloc, 5000).expect(rt, "the digits");
+    let zeros = "0,".repeat(alloc, 5000).expect(rt, "the zeros");
+    format!(in alloc; "[\"{letters}\",{zeros}{digits}{behind}]").expect(rt, "a text")
+}
+
+#[test]
+fn canonical_of_much(rt: HostRuntime) {
+    let value = parsed(&rt, rt.alloc(), much(&rt, rt.alloc(), "").as_str());
+    is_canonical(
+        &rt,
+        rt.alloc(),
+        &value,
+        much(&rt, rt.alloc(), "e0").as_str(),
+    );
+}

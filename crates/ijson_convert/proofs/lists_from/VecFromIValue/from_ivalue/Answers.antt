@@ -1,5 +1,7 @@
 use Rattle.std.proofs.Common.{◌≡◌, ◌+◌, ◌∷◌, [], ◌++◌, take, map, ap, sym, subst, ◌∙◌, inl, inr, arith, rules}
 use Rattle.std.proofs.lemmas.List.{map_more, map_push}
+use Rattle.std.proofs.lemmas.List.Elements.{All-push}
+use Rattle.std.specs.Prelude.{All}
 use Rattle.ijson_value.specs.Opened.{ref_value}
 use Rattle.ijson_value.specs.Same.{SameEach}
 use Rattle.ijson_value.specs.Tree.{items_of}
@@ -27,6 +29,7 @@ pub loop-item-preserved : goal.loop-item-preserved
 loop-item-preserved g c =
     let tree = g.T.FromIValue.tree in
     let refused = g.T.FromIValue.refused in
+    let none = g.T.FromIValue.null_is_none in
     let xs = c.as_slice-item-items.result.now in
     let i = c.loop-item.item-index in
     let us = map tree_of (take i xs) in
@@ -41,4 +44,5 @@ loop-item-preserved g c =
     let read = read_pushed refused us u c.loop-item.invariant.1 c.in-Ok.ensures.read in (
       subst (λ l. SameEach (items_of l) (items_of (map tree_of (take (i + 1) xs)))) (sym pushed) (subst (λ l. SameEach (items_of (ts ++ tree c.in-Ok.x ∷ [])) (items_of l)) (sym more) same),
       subst (AllRead refused) (sym more) read,
+      subst (All none) (sym items_are) (All-push none c.loop-item.list.items c.in-Ok.x c.loop-item.invariant.2 c.in-Ok.ensures.none),
     )

@@ -1,9 +1,11 @@
 use Rattle.std.proofs.Common.{◌≡◌, ◌∷◌, [], ◌++◌, ap, sym, subst, ◌∙◌, inl, inr, rules}
 use Rattle.std.specs.BTreeMap.{insert_entry}
+use Rattle.std.specs.Map.{values_of}
 use Rattle.std.specs.Map.Iter.{deref_pair}
-use Rattle.std.specs.Prelude.{string_cmp}
+use Rattle.std.specs.Prelude.{All, string_cmp}
 use Rattle.std.proofs.lemmas.List.{append_assoc, append-nil}
 use Rattle.std.proofs.lemmas.Map.Iter.{rest_more, rest_all}
+use Rattle.std.proofs.lemmas.Map.Views.{All-values-insert_entry}
 use Rattle.ijson_value.specs.Opened.{ref_value}
 use Rattle.ijson_value.specs.Same.{Same}
 use Rattle.ijson_value.specs.Values.{object_tree}
@@ -28,6 +30,8 @@ loop-key-preserved g c =
       append_assoc done ((k, v) ∷ []) c.next.new.self ∙ ap (λ l. done ++ l) (sym next) ∙ c.loop-key.invariant.1,
       subst (λ es. Same (map_tree tree es) (object_tree (done ++ (k, v) ∷ []))) (sym entries_are) same,
       member_read g.T.FromIValue.refused done k v c.loop-key.invariant.3 c.in-Ok.ensures.read,
+      subst (λ es. All g.T.FromIValue.null_is_none (values_of es)) (sym entries_are)
+          (All-values-insert_entry string_cmp c.in_ok-key.key c.in-Ok.x g.T.FromIValue.null_is_none c.loop-key.map.entries c.loop-key.invariant.4 c.in-Ok.ensures.none),
     )
 
 pub returns-in-Err-clause-refused : goal.returns-in-Err-clause-refused
