@@ -6,9 +6,10 @@ use Rattle.std.specs.Str.{bytes_eq}
 use Rattle.std.specs.Cmp.Lexicographic.{nat_list_cmp_total}
 use Rattle.std.proofs.lemmas.Slice.Eq.{bytes_eq-Decides}
 use Rattle.std.proofs.lemmas.Map.Text.{is_eq-slice_cmp}
-use Rattle.std.proofs.lemmas.Bool.{le-leb}
-use borrow.Author.Tests.{ltb-true}
+use Rattle.std.proofs.lemmas.Bool.{ltb-true, ltb-false}
 use Rattle.ijson_string.specs.Cache.{Texts, interned}
+use Rattle.ijson_string.specs.laws.Texts.{texts_same}
+use Rattle.ijson_string.proofs.Interning.{interned_long, interned_short}
 use Rattle.ijson_table.specs.Store.{put}
 use Rattle.ijson_value.specs.Tree.{Tree, null, boolean, number, string, array, object, Items, no_items, item, Members, no_members, member}
 use Rattle.ijson_value.specs.WellFormed.{WellFormed, item_trees, pair_trees}
@@ -47,8 +48,8 @@ adds_behind_key k text cur old middle new r a b = adds_more text (key_head k tex
 
 -- what a cache holds with one text more
 
-contains_insert : (cache : Texts) (s q : List ℕ) → set.contains (set.insert cache s) q ≡ (bytes_eq q s || set.contains cache q)
-contains_insert cache s q = set.contains-insert nat_list_cmp_total cache s q ∙ ap (λ (b : Bool). b || set.contains cache q) (is_eq-slice_cmp q s)
+contains_insert : (cache : Texts) (s q : List ℕ) → set.contains (set.insert cache.texts s) q ≡ (bytes_eq q s || set.contains cache.texts q)
+contains_insert cache s q = set.contains-insert nat_list_cmp_total cache.texts s q ∙ ap (λ (b : Bool). b || set.contains cache.texts q) (is_eq-slice_cmp q s)
 
 -- one of the two holds
 
@@ -62,25 +63,30 @@ or_right : (a b : Bool) → b ≡ true → (a || b) ≡ true
 or_right true b e = refl
 or_right false b e = e
 
--- a long text that is spelled is added
+-- interning adds a long text
 
-insert_adds : (text : List ℕ) (cache : Texts) (s : List ℕ) → 7 < length s → IsSpelledIn text s → AddsOnlyRead text cache (set.insert cache s)
-insert_adds text cache s long p = record {
-  kept = λ q h. contains_insert cache s q ∙ or_right (bytes_eq q s) (set.contains cache q) h;
-  added = λ q h. elim (or_cases (bytes_eq q s) (set.contains cache q) (sym (contains_insert cache s q) ∙ h)) [
+interned_contains : (cache : Texts) (s q : List ℕ) → 7 < length s → set.contains (interned s cache).texts q ≡ (bytes_eq q s || set.contains cache.texts q)
+interned_contains cache s q long = ap (λ texts. set.contains texts q) (interned_long s cache long) ∙ contains_insert cache s q
+
+long_adds : (text : List ℕ) (cache : Texts) (s : List ℕ) → 7 < length s → IsSpelledIn text s → AddsOnlyRead text cache (interned s cache)
+long_adds text cache s long p = record {
+  kept = λ q h. interned_contains cache s q long ∙ or_right (bytes_eq q s) (set.contains cache.texts q) h;
+  added = λ q h. elim (or_cases (bytes_eq q s) (set.contains cache.texts q) (sym (interned_contains cache s q long) ∙ h)) [
     | inl old ↦ inl old
     | inr same ↦ inr (subst (λ (l : List ℕ). (7 < length l) × IsSpelledIn text l) (sym ((bytes_eq-Decides q s).0 same)) (long, p))
   ];
 }
 
--- interning adds a long text alone
+-- and no short one
 
 interned_adds : (text : List ℕ) (cache : Texts) (s : List ℕ) → IsSpelledIn text s → AddsOnlyRead text cache (interned s cache)
 interned_adds text cache s p = go (ltb 7 (length s)) refl
   where
-    go : (b : Bool) → ltb 7 (length s) ≡ b → AddsOnlyRead text cache (if b then set.insert cache s else cache)
-    go true e = insert_adds text cache s (ltb-true 7 (length s) e) p
-    go false e = adds_none text cache
+    go : (b : Bool) → ltb 7 (length s) ≡ b → AddsOnlyRead text cache (interned s cache)
+    go true e = long_adds text cache s (ltb-true 7 (length s) e) p
+    go false e =
+        subst (λ (c : Texts). AddsOnlyRead text cache c)
+        (texts_same cache (interned s cache) (sym (interned_short s cache (ltb-false 7 (length s) e)))) (adds_none text cache)
 
 -- a text is itself
 
@@ -90,9 +96,7 @@ same_bytes s = (bytes_eq-Decides s s).1 refl
 -- what was interned is shared
 
 interned_shared : (cache : Texts) (s : List ℕ) → IsShared (interned s cache) s
-interned_shared cache s h =
-    let long : ltb 7 (length s) ≡ true = le-leb 8 (length s) h in
-    subst (λ (b : Bool). set.contains (if b then set.insert cache s else cache) s ≡ true) (sym long) (contains_insert cache s s ∙ ap (λ (b : Bool). b || set.contains cache s) (same_bytes s))
+interned_shared cache s h = interned_contains cache s s h ∙ ap (λ (b : Bool). b || set.contains cache.texts s) (same_bytes s)
 
 -- the string at the front was interned
 pub string_adds : (text rest s : List ℕ) (old new : Texts) → Front (λ front. IsString s front) text rest → new ≡ interned s old → AddsOnlyRead text old new

@@ -13,6 +13,6 @@ IsSpelledIn text s =
 -- the cache holds what it held, and beyond that only texts of more than 7 bytes that a slice of the
 -- text that was read spells
 pub record AddsOnlyRead (text : List ℕ) (old new : Texts) : Type 0 where
-  pub kept : (s : List ℕ) → set.contains old s ≡ true → set.contains new s ≡ true
-  pub added : (s : List ℕ) → set.contains new s ≡ true
-      → (set.contains old s ≡ true) ⊎ ((7 < length s) × IsSpelledIn text s)
+  pub kept : (s : List ℕ) → set.contains old.texts s ≡ true → set.contains new.texts s ≡ true
+  pub added : (s : List ℕ) → set.contains new.texts s ≡ true
+      → (set.contains old.texts s ≡ true) ⊎ ((7 < length s) × IsSpelledIn text s)

@@ -8,7 +8,7 @@ use Rattle.ijson_json.specs.Grammar.{Accepted}
 
 -- the cache holds the text, if it is more than 7 bytes long
 abbrev pub IsShared : Texts → List ℕ → Type 0
-IsShared cache s = 7 < length s → set.contains cache s ≡ true
+IsShared cache s = 7 < length s → set.contains cache.texts s ≡ true
 
 -- the cache holds each text and each key of the tree that is more than 7 bytes long
 abbrev mutual
