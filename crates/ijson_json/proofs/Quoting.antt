@@ -1,6 +1,6 @@
 -- What is written of a string.
 use Rattle.std.proofs.Common.{◌≡◌, ℕ, ◌+◌, ◌<◌, ◌/◌, ◌%◌, false, cond, List, [], ◌∷◌, ◌++◌, length, length-append, take, drop, Result, Ok, Err, refl, sym, ap, ap₂, ◌∙◌, append_assoc, arith}
-use Rattle.std.specs.Prelude.{IsTrue, ◌==◌, ◌≢◌, nat_lt, OnOk, is_ok, if◌then◌else◌}
+use Rattle.std.specs.Prelude.{IsTrue, ◌==◌, ◌≢◌, nat_lt, OnOk, OnErr, Some, is_ok, if◌then◌else◌}
 use Rattle.std.specs.Char.{encode_utf8}
 use Rattle.std.proofs.lemmas.Bool.Decides.{nat_tests}
 use Rattle.std.proofs.Math.Seq.{take-add}
@@ -8,6 +8,7 @@ use Rattle.std.proofs.lemmas.List.{append-nil, take_at, take-append-drop}
 use Rattle.std.proofs.lemmas.Str.{encode_ascii}
 use Rattle.ijson_json.specs.Strings.{is_unescaped}
 use Rattle.ijson_json.specs.Print.{escaped, all_escaped, hex_text, quoted}
+use Rattle.ijson_json.specs.WritesBeginning.{WritesBeginning}
 use Rattle.ijson_json.specs.private.Reading.{Past}
 use Rattle.ijson_json.proofs.Bytes.{Run}
 use Rattle.ijson_json.proofs.Runs.{special_ascii}
@@ -69,6 +70,64 @@ pub on_ok : {A E : Type 0} (r : Result A E) (new longer same want : List ℕ) �
 on_ok (Ok a) new longer same want e f = e ∙ f
 on_ok (Err x) new longer same want e f = tt
 
+-- ---- where memory is refused
+
+-- the clause of a last call that appends, and left all as it was
+pub on_refused : {A E : Type 0} {P : Type 0} (r : Result A E) (new longer same : List ℕ) → new ≡ (if is_ok r then longer else same) → (new ≡ same → P) → OnErr r P
+on_refused (Ok a) new longer same e f = tt
+on_refused (Err x) new longer same e f = f e
+
+-- more was to follow what was written
+pub begun : (old new done more text : List ℕ) → new ≡ old ++ done → more ≢ [] → text ≡ done ++ more → WritesBeginning (Some old) (Some new) text
+begun old new done more text e some f = record {
+  front = done;
+  rest = more;
+  is = f;
+  unfinished = some;
+  taken = e;
+}
+
+not_empty : (s t : List ℕ) → s ≢ [] → s ++ t ≢ []
+not_empty [] t some e = some refl
+not_empty (b ∷ s) t some e = cc e
+
+-- a beginning of a piece, behind what was written of the whole
+pub begun_piece : (old out new done piece behind text : List ℕ) → out ≡ old ++ done → WritesBeginning (Some out) (Some new) piece → text ≡ done ++ (piece ++ behind) → WritesBeginning (Some old) (Some new) text
+begun_piece old out new done piece behind text e w f = record {
+  front = done ++ w.front;
+  rest = w.rest ++ behind;
+  is = f ∙ ap (λ (l : List ℕ). done ++ (l ++ behind)) w.is ∙ ap (λ (l : List ℕ). done ++ l) (append_assoc w.front w.rest behind) ∙ sym (append_assoc done w.front (w.rest ++ behind));
+  unfinished = not_empty w.rest behind w.unfinished;
+  taken = w.taken ∙ ap (λ (l : List ℕ). l ++ w.front) e ∙ append_assoc old done w.front;
+}
+
+quote_left : (s : List ℕ) → s ++ 34 ∷ [] ≢ []
+quote_left [] e = cc e
+quote_left (b ∷ s) e = cc e
+
+-- the text before a run, the run, the byte that ends it, and the rest
+pub read_to : (text run after rest : List ℕ) (b start : ℕ) → drop start text ≡ run ++ after → after ≡ b ∷ rest → text ≡ (take start text ++ run) ++ b ∷ rest
+read_to text run after rest b start e f =
+    sym (take-append-drop start text) ∙ ap (λ (l : List ℕ). take start text ++ l) (e ∙ ap (λ (l : List ℕ). run ++ l) f)
+    ∙ sym (append_assoc (take start text) run (b ∷ rest))
+
+-- what is quoted of a text that is cut
+quoted_cut : (text done more : List ℕ) → text ≡ done ++ more → quoted text ≡ (34 ∷ all_escaped done) ++ (all_escaped more ++ 34 ∷ [])
+quoted_cut text done more e =
+    ap quoted e ∙ ap (λ (l : List ℕ). 34 ∷ (l ++ 34 ∷ [])) (all_escaped-append done more)
+    ∙ ap (λ (l : List ℕ). 34 ∷ l) (append_assoc (all_escaped done) (all_escaped more) (34 ∷ []))
+
+-- the quote and a beginning of the text were written
+pub quoted_begun : (old new text done more : List ℕ) → text ≡ done ++ more → new ≡ old ++ 34 ∷ all_escaped done → WritesBeginning (Some old) (Some new) (quoted text)
+quoted_begun old new text done more e f =
+    begun old new (34 ∷ all_escaped done) (all_escaped more ++ 34 ∷ []) (quoted text) f (quote_left (all_escaped more)) (quoted_cut text done more e)
+
+-- and a beginning of the escape of the byte behind them
+pub quoted_begun_escape : (old out new text done rest : List ℕ) (b : ℕ) → text ≡ done ++ b ∷ rest → out ≡ old ++ 34 ∷ all_escaped done → WritesBeginning (Some out) (Some new) (escaped b) → WritesBeginning (Some old) (Some new) (quoted text)
+quoted_begun_escape old out new text done rest b e f w =
+    begun_piece old out new (34 ∷ all_escaped done) (escaped b) (all_escaped rest ++ 34 ∷ []) (quoted text) f w
+    (quoted_cut text done (b ∷ rest) e ∙ ap (λ (l : List ℕ). (34 ∷ all_escaped done) ++ l) (append_assoc (escaped b) (all_escaped rest) (34 ∷ [])))
+
 -- ---- the escape of a byte
 
 -- the letter of a byte behind a backslash
@@ -94,3 +153,12 @@ letter_written old out b letter e other f =
     let same : letter ∷ [] ≡ letter_of b ∷ [] = ap (λ (n : ℕ). n ∷ []) e in
     ap₂ ◌++◌ (f ∙ ap (λ (l : List ℕ). old ++ l) (encode_ascii 92 (omega arith))) (encode_ascii letter (omega (arith, letter_ascii b, e)) ∙ same)
     ∙ append_assoc old (92 ∷ []) (letter_of b ∷ []) ∙ ap (λ (l : List ℕ). old ++ l) (sym (escaped_letter b (rw e at other)))
+
+-- where the letter, or the backslash before it, is not written
+pub letter_begun : (old out new : List ℕ) (b letter : ℕ) → letter ≡ letter_of b → letter ≢ 117 → out ≡ old ++ encode_utf8 92 → new ≡ out → WritesBeginning (Some old) (Some new) (escaped b)
+letter_begun old out new b letter e other f same =
+    begun old new (92 ∷ []) (letter_of b ∷ []) (escaped b) (same ∙ f ∙ ap (λ (l : List ℕ). old ++ l) (encode_ascii 92 (omega arith))) (λ n. cc n) (escaped_letter b (rw e at other))
+
+pub letter_unbegun : (old new : List ℕ) (b letter : ℕ) → letter ≡ letter_of b → letter ≢ 117 → new ≡ old → WritesBeginning (Some old) (Some new) (escaped b)
+letter_unbegun old new b letter e other same =
+    begun old new [] (92 ∷ letter_of b ∷ []) (escaped b) (same ∙ sym (append-nil old)) (λ n. cc n) (escaped_letter b (rw e at other))

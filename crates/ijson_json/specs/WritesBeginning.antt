@@ -1,4 +1,4 @@
--- What a sink got of a text that was not written whole. This project's own.
+-- What was taken of a text that was not written whole, by a sink or at the end of another text. This project's own.
 use Rattle.std.specs.Prelude.{◌≡◌, ◌≢◌, ℕ, List, [], ◌++◌, Option}
 use Rattle.std.specs.Io.KnownBytes.{Appends}
 

@@ -1,9 +1,10 @@
 //! Writing a string.
 
-ghost use Rattle.std.specs.Prelude.{◌≡◌, ◌++◌, ◌∷◌, [], ◌/◌, ◌%◌, ◌<◌, false, OnOk};
+ghost use Rattle.std.specs.Prelude.{◌≡◌, ◌++◌, ◌∷◌, [], ◌/◌, ◌%◌, ◌<◌, false, OnOk, OnErr, Some};
 ghost use Rattle.std.specs.String.{string_bytes};
 ghost use Rattle.ijson_json.specs.Strings.{is_unescaped};
 ghost use Rattle.ijson_json.specs.Print.{escaped, hex_text, quoted};
+ghost use Rattle.ijson_json.specs.WritesBeginning.{WritesBeginning};
 
 use crate::front::split_ascii;
 use crate::run::split_run_at;
@@ -24,8 +25,10 @@ fn hex_letter(digit: u8) -> char
 /// Appends the escape of a control character that has no letter.
 fn push_unicode(out: &mut String, control: u8) -> Result<(), AllocError>
     requires { control < 32 }
-    ensures { OnOk result (string_bytes out.new ≡ string_bytes out.old
+    ensures written { OnOk result (string_bytes out.new ≡ string_bytes out.old
         ++ 92 ∷ 117 ∷ 48 ∷ 48 ∷ hex_text (control / 16) ∷ hex_text (control % 16) ∷ []) }
+    ensures refused { OnErr result (WritesBeginning (Some (string_bytes out.old)) (Some (string_bytes out.new))
+        (92 ∷ 117 ∷ 48 ∷ 48 ∷ hex_text (control / 16) ∷ hex_text (control % 16) ∷ [])) }
 {
     out.push_str("\\u00")?;
     out.push(hex_letter(control / 16))?;
@@ -43,7 +46,9 @@ static LETTERS: [u8; 128] = *b"\
 /// Appends the escape of a byte that does not stand for itself.
 fn push_escape(out: &mut String, byte: u8) -> Result<(), AllocError>
     requires { is_unescaped byte ≡ false }
-    ensures { OnOk result (string_bytes out.new ≡ string_bytes out.old ++ escaped byte) }
+    ensures written { OnOk result (string_bytes out.new ≡ string_bytes out.old ++ escaped byte) }
+    ensures refused { OnErr result (WritesBeginning (Some (string_bytes out.old)) (Some (string_bytes out.new))
+        (escaped byte)) }
 {
     let letter = LETTERS[byte as usize];
     if letter == b'u' {
@@ -54,10 +59,13 @@ fn push_escape(out: &mut String, byte: u8) -> Result<(), AllocError>
 }
 
 /// Appends the text between quotes, with its escapes. The error comes where there was not enough memory. A beginning of what
-/// was to be appended may then stand in `out`. Escaped are `"`, `\`, and what is below a space: by a letter where there is one,
-/// and else as `\u001f`. It takes time linear in the text.
+/// was to be appended may then stand in `out`, behind what was there. Escaped are `"`, `\`, and what is below a space: by a
+/// letter where there is one, and else as `\u001f`. It takes time linear in the text.
 pub fn push_quoted(out: &mut String, text: &str) -> Result<(), AllocError>
-    ensures { OnOk result (string_bytes out.new ≡ string_bytes out.old ++ quoted text.now) }
+    ensures written { OnOk result (string_bytes out.new ≡ string_bytes out.old ++ quoted text.now) }
+    // Where memory is refused, a beginning of it stands behind what was there.
+    ensures refused { OnErr result (WritesBeginning (Some (string_bytes out.old)) (Some (string_bytes out.new))
+        (quoted text.now)) }
 {
     out.push('"')?;
     let mut start = 0;

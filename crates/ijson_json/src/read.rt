@@ -83,6 +83,7 @@ fn take_members(
     requires { base ≤ length stack.old.items }
     ensures members { IfOk result (λ object.
         object.pairs ≡ put_each [] (drop base stack.old.items)) }
+    ensures room { IfOk result (λ object. object.capacity ≡ length (drop base stack.old.items)) }
     ensures stack { OnOk result (stack.new.items ≡ take base stack.old.items) }
 {
     let members = if base == 0 && stack.len() > MANY_ITEMS {

@@ -1,5 +1,5 @@
 //! Writing a value as a JSON text.
-ghost use Rattle.std.specs.Prelude.{◌≡◌, ◌++◌, IfOk, OnOk};
+ghost use Rattle.std.specs.Prelude.{◌≡◌, ◌++◌, IfOk, OnOk, OnErr};
 ghost use Rattle.std.specs.String.{string_bytes};
 ghost use Rattle.ijson_value.specs.WellFormed.{item_trees, pair_trees};
 ghost use Rattle.ijson_json.specs.Print.{print, print_items, print_members};
@@ -91,7 +91,8 @@ fn push_members(out: &mut String, object: &IObject) -> Result<(), AllocError>
 /// Appends a comma, but not before the first item or member. The error comes where there was not enough memory. `out` is then
 /// as it was.
 pub fn push_separator(out: &mut String, is_first: bool) -> Result<(), AllocError>
-    ensures { OnOk result (string_bytes out.new ≡ string_bytes out.old ++ separator is_first) }
+    ensures written { OnOk result (string_bytes out.new ≡ string_bytes out.old ++ separator is_first) }
+    ensures refused { OnErr result (string_bytes out.new ≡ string_bytes out.old) }
 {
     if is_first {
         return Ok(());

@@ -1,16 +1,27 @@
 //! The seed of the program's hasher.
 
 use crate::seeded::SeededState;
+use std::cell::Cell;
 use std::hash::BuildHasher;
 use std::io;
 use std::io::ErrorKind;
 use std::process::Abort;
 use std::random::RandomSource;
 
-/// Gives one byte over and over, or fails where it has none.
+/// Gives one byte over and over, or fails where it has none, and counts the bytes that it gave.
 #[derive(Drop)]
-struct OneByte {
-    byte: Option<u8>,
+pub struct OneByte {
+    pub byte: Option<u8>,
+    pub given: Cell<usize>,
+}
+
+impl OneByte {
+    pub fn new(byte: Option<u8>) -> OneByte {
+        OneByte {
+            byte,
+            given: Cell::new(0),
+        }
+    }
 }
 
 impl RandomSource for OneByte {
@@ -18,6 +29,7 @@ impl RandomSource for OneByte {
         match self.byte {
             Some(byte) => {
                 buf.fill(byte);
+                self.given.set(self.given.get().saturating_add(buf.len()));
                 Ok(())
             }
             None => Err(io::Error::from(ErrorKind::Other)),
@@ -27,8 +39,7 @@ impl RandomSource for OneByte {
 
 /// The hash of a word with a seed of this byte.
 fn hash(rt: &impl Abort, byte: u8) -> u64 {
-    let source = OneByte { byte: Some(byte) };
-    SeededState::new(&source)
+    SeededState::new(&OneByte::new(Some(byte)))
         .expect(rt, "a seed")
         .hash_one(7u64)
 }
@@ -39,5 +50,5 @@ fn a_seed_decides_each_hash(rt: HostRuntime) {
         assert!(rt; hash(&rt, byte) == hash(&rt, byte));
         assert!(rt; hash(&rt, byte) != hash(&rt, byte + 1));
     }
-    assert!(rt; SeededState::new(&OneByte { byte: None }).is_err());
+    assert!(rt; SeededState::new(&OneByte::new(None)).is_err());
 }
