@@ -2,8 +2,9 @@
 
 use super::devices::compacts;
 use super::{nested, rewritten};
-use ijson_json::JsonError;
+use ijson_json::{CompactError, DeviceFault, JsonError};
 use std::alloc::{AllocError, Global};
+use std::fmt::{Debug, Display};
 use std::process::Abort;
 
 /// Texts that are no JSON, and where that is told.
@@ -33,7 +34,7 @@ const SYNTAX: [(&str, usize); 22] = [
 ];
 
 /// Texts of numbers that are no JSON, and where that is told.
-const NUMBER_SYNTAX: [(&str, usize); 14] = [
+const NUMBER_SYNTAX: [(&str, usize); 16] = [
     ("01", 1),
     ("1.", 2),
     ("1.x", 2),
@@ -44,6 +45,8 @@ const NUMBER_SYNTAX: [(&str, usize); 14] = [
     ("1e", 2),
     ("1e+", 3),
     ("1e+]", 3),
+    ("[1E+x]", 4),
+    ("[1e-x]", 4),
     ("1-2", 1),
     ("1.5.2", 3),
     ("1e5e", 3),
@@ -150,4 +153,63 @@ fn too_deep(rt: HostRuntime) {
         let text = format!(in alloc; "{front}{deep}{behind}").expect(&rt, "a text");
         refused(&rt, alloc, text.as_str(), JsonError::TooDeep { at });
     }
+}
+
+/// Why texts are refused, and what `Display` and `Debug` write of that.
+const SHOWN: [(JsonError, &str, &str); 4] = [
+    (
+        JsonError::Syntax { at: 3 },
+        "syntax at byte 3",
+        "Syntax { at: 3 }",
+    ),
+    (
+        JsonError::TooDeep { at: 127 },
+        "nesting too deep at byte 127",
+        "TooDeep { at: 127 }",
+    ),
+    (
+        JsonError::NumberRange { at: 0 },
+        "number out of range at byte 0",
+        "NumberRange { at: 0 }",
+    ),
+    (JsonError::Memory, "out of memory", "Memory"),
+];
+
+/// Why texts are not compacted, and what `Display` and `Debug` write of that.
+const SHOWN_OF_COMPACT: [(CompactError, &str, &str); 5] = [
+    (CompactError::Read, "read failed", "Read"),
+    (CompactError::NotUtf8, "input is not UTF-8", "NotUtf8"),
+    (
+        CompactError::Json(JsonError::Syntax { at: 3 }),
+        "syntax at byte 3",
+        "Json(Syntax { at: 3 })",
+    ),
+    (CompactError::Write, "write failed", "Write"),
+    (CompactError::Memory, "out of memory", "Memory"),
+];
+
+/// Asserts what `Display` and `Debug` write.
+fn is_shown<E: Display + Debug>(
+    rt: &impl Abort,
+    alloc: Global,
+    fault: &E,
+    displayed: &str,
+    debugged: &str,
+) {
+    let found = format!(in alloc; "{fault} {fault:?}").expect(rt, "a text");
+    let want = format!(in alloc; "{displayed} {debugged}").expect(rt, "a text");
+    assert!(rt; found == want, "{want}");
+}
+
+#[test]
+fn faults_are_shown(rt: HostRuntime) {
+    let alloc = rt.alloc();
+    for (fault, displayed, debugged) in SHOWN {
+        is_shown(&rt, alloc, &fault, displayed, debugged);
+    }
+    for (fault, displayed, debugged) in SHOWN_OF_COMPACT {
+        is_shown(&rt, alloc, &fault, displayed, debugged);
+    }
+    let text = "a read or a write failed";
+    is_shown(&rt, alloc, &DeviceFault, text, "DeviceFault");
 }

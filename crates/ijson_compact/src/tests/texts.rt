@@ -1,7 +1,8 @@
 //! Texts that are read, and what is written of them.
 
 use super::devices::compacts;
-use super::{nested, rewritten};
+use super::{nested, parsed, rewritten};
+use ijson_value::value::{DestructuredRef, IValue};
 use std::alloc::Global;
 use std::process::Abort;
 
@@ -35,7 +36,7 @@ const NUMBERS: [(&str, &str); 19] = [
 ];
 
 /// Texts of containers and words, and how each is written.
-const CONTAINERS: [(&str, &str); 9] = [
+const CONTAINERS: [(&str, &str); 11] = [
     (" [1.50, [true], null, -0.0] ", "[1.5,[true],null,0.0]"),
     ("[]", "[]"),
     ("[ [ ] ]", "[[]]"),
@@ -46,6 +47,8 @@ const CONTAINERS: [(&str, &str); 9] = [
         "{\"a\":1,\"b\":[2,3],\"c\":{\"d\":0.5}}",
     ),
     ("{\"a\":1,\"b\":2,\"a\":3}", "{\"a\":3,\"b\":2}"),
+    ("{\"b\":1,\"a\":2.0}", "{\"b\":1,\"a\":2.0}"),
+    ("[1000000000000000000000000]", "[1000000000000000000000000]"),
     (
         "{\"a\":[1.5e3,\"\\u00e9\"],\"b\":null}",
         "{\"a\":[1500.0,\"é\"],\"b\":null}",
@@ -68,10 +71,15 @@ const STRINGS: [(&str, &str); 8] = [
     ),
 ];
 
-/// Asserts what is written of a text, as it is and from a device.
+/// Asserts what is written of a text, as it is and from a device, and that what is read of that is equal.
 fn is_rewritten(rt: &impl Abort, alloc: Global, text: &str, want: &str) {
-    let found = rewritten(alloc, text).expect(rt, text);
-    assert!(rt; found.as_str() == want, "{text}");
+    let begins = text.get(..40).unwrap_or(text);
+    let found = rewritten(alloc, text).expect(rt, begins);
+    assert!(rt; found.as_str() == want, "{begins}");
+    assert!(rt;
+        parsed(rt, alloc, want) == parsed(rt, alloc, text),
+        "{begins}"
+    );
     let line = format!(in alloc; "{want}\n").expect(rt, "a line");
     compacts(rt, alloc, text.as_bytes(), line.as_bytes(), b"", 0);
 }
@@ -146,6 +154,62 @@ fn deepest(rt: HostRuntime) {
     for (opening, inside, closing) in DEEPEST {
         let text = nested(&rt, rt.alloc(), opening, 127, inside, closing);
         is_rewritten(&rt, rt.alloc(), text.as_str(), text.as_str());
+    }
+}
+
+/// Long texts, each of which is written as it is read: what stands in front, what follows and how often, and what stands behind.
+const LONG: [(&str, &str, usize, &str); 7] = [
+    ("\"", "abcdefg ", 1_000, "\""),
+    ("\"", "\\né", 2_000, "\""),
+    ("{\"", "abcdefghij", 500, "\":null}"),
+    ("-", "1234567890", 500, "1"),
+    ("1", "0", 5_000, ""),
+    ("0.", "1234567890", 500, "1"),
+    ("1.", "0123456789", 500, "e9000"),
+];
+
+#[test]
+fn long(rt: HostRuntime) {
+    let alloc = rt.alloc();
+    for (front, piece, count, behind) in LONG {
+        let inside = piece.repeat(alloc, count).expect(&rt, "the pieces");
+        let text = format!(in alloc; "{front}{inside}{behind}").expect(&rt, "a text");
+        is_rewritten(&rt, alloc, text.as_str(), text.as_str());
+    }
+}
+
+/// An array of more items than 16 bits can count.
+#[test]
+fn many_items(rt: HostRuntime) {
+    let alloc = rt.alloc();
+    let items = "1,".repeat(alloc, 700_000).expect(&rt, "the items");
+    let text = format!(in alloc; "[{items}1]").expect(&rt, "a text");
+    let found = rewritten(alloc, text.as_str()).expect(&rt, "an array");
+    assert!(rt; found == text);
+}
+
+/// Texts, and for how many items or members there is room in what is read of each: for as many as were written.
+const ROOM: [(&str, usize); 6] = [
+    ("[]", 0),
+    ("[1]", 1),
+    ("[1,[2],3,4,5]", 5),
+    ("{}", 0),
+    ("{\"a\":1}", 1),
+    ("{\"a\":1,\"b\":{},\"c\":3,\"d\":4,\"e\":5}", 5),
+];
+
+fn capacity(value: &IValue) -> usize {
+    match value.destructure_ref() {
+        DestructuredRef::Array(array) => array.capacity(),
+        DestructuredRef::Object(object) => object.capacity(),
+        _ => 0,
+    }
+}
+
+#[test]
+fn what_is_read_has_no_more_room(rt: HostRuntime) {
+    for (text, room) in ROOM {
+        assert!(rt; capacity(&parsed(&rt, rt.alloc(), text)) == room, "{text}");
     }
 }
 
