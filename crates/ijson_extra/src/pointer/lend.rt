@@ -1,5 +1,5 @@
 //! The value inside a value that a pointer names, to be written.
-ghost use Rattle.std.specs.Prelude.{◌≡◌, ◌<◌, ◌^◌, ◌↔◌, [], ◌∷◌, suc, drop, length, Some, None, IsSome, IsTrue, IfOk, IfErr, IfSome, IfNone};
+ghost use Rattle.std.specs.Prelude.{◌≡◌, ◌<◌, ◌^◌, ◌↔◌, [], ◌∷◌, suc, drop, length, Some, None, IsSome, IsTrue, IfOk, IfErr, IfSome, IfNone, option_map};
 ghost use Rattle.std.specs.Borrow.{sem};
 ghost use Rattle.ijson_value.specs.LendsPart.{LendsOpened};
 ghost use Rattle.ijson_value.specs.NodeValue.{node_value};
@@ -46,7 +46,7 @@ pub fn resolve_mut<'a>(
 ) -> Result<Option<&'a mut IValue>, PointerError>
     ensures* writes_back { sem 𝓛 (LendsNamedValue value.entry pointer.now result) }
     ensures found { IfOk result (λ found.
-        Some (tree_lent found) ≡ resolved value.old.tree pointer.now) }
+        Some (option_map (λ v. v.now.tree) found) ≡ resolved value.old.tree pointer.now) }
     ensures refused { IfErr result (λ _. resolved value.old.tree pointer.now ≡ None) }
 {
     if names_itself(pointer) {
