@@ -20,7 +20,7 @@ use Rattle.std.specs.Map.Iter.{deref_pair_mut}
 use Rattle.ijson_string.specs.contracts.text.IString.{the_row as S}
 use Rattle.ijson_string.proofs.text.IString.TheLaws.{the_row_laws as string_laws}
 use Rattle.ijson_table.specs.Store.{Store, at as place_of}
-use Rattle.ijson_table.specs.laws.Store.{store_with_value}
+use Rattle.ijson_table.specs.StoreWithValue.{store_with_value}
 use Rattle.ijson_value.specs.AtKey.{pair_at_key}
 use Rattle.ijson_value.specs.LendsAtKey.{with_key, with_found}
 use Rattle.ijson_value.specs.LendsPair.{LendsPairIf, pair_name}
