@@ -260,7 +260,8 @@ fn fixed_hashes(rt: HostRuntime) {
     assert!(rt; FixedHash::hash("a") == 0xaf63_bd4c_8601_b840);
     let mut table = FixedTable::new(rt.alloc());
     insert_all(&rt, rt.alloc(), &mut table, &["a", "b", "c", "d"]);
-    assert!(rt; has_places(&table, &[3, 9, 0, 1, 2]) && table.home("d") == 0);
+    assert!(rt; has_places(&table, &[3, 9, 0, 1, 2]));
+    assert!(rt; table.places() > 0 && table.home("d") == 0);
     assert!(rt; finds(&table, "d", Some(3), 1));
 }
 
@@ -311,12 +312,7 @@ fn holds_three_and_two<P: PairStore<u64>>(rt: &impl Abort, alloc: Global, store:
 /// Puts three new pairs into an empty store in the room that is made for them.
 fn reserves_three<P: PairStore<u64>>(rt: &impl Abort, alloc: Global, store: &mut P) {
     assert!(rt; store.reserve(3).is_ok() && store.capacity() == 4);
-    for letters in ["a", "bb", "c"] {
-        let key = key(rt, alloc, letters);
-        if store.position(letters).is_none() && store.len() < store.capacity() {
-            store.push_new(key, 1);
-        }
-    }
+    insert_all(rt, alloc, store, &["a", "bb", "c"]);
     assert!(rt; store.len() == 3 && store.capacity() == 4);
 }
 
