@@ -11,3 +11,5 @@ pub mod Counted
 pub mod Walked
 pub mod Results
 pub mod InOrder
+pub mod PutInside
+pub mod PartsOut

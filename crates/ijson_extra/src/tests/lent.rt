@@ -1,6 +1,6 @@
 //! What is written through references that are lent in the signatures of the Rust crate `ijson`. Each caller's contract says what the
-//! whole then is. `set_named`, `set_pair` and `set_inside` are proved by hand, and what calls them is not.
-ghost use Rattle.std.specs.Prelude.{◌≡◌, true, IfOk, IsTrue, IsFalse, IsSome, Some, None};
+//! whole then is. `set_named`, `set_pair`, `set_found`, `set_inside` and `turn_truth` are proved by hand, and what calls them is not.
+ghost use Rattle.std.specs.Prelude.{◌≡◌, ◌≢◌, Bool, true, not, IfOk, IfErr, OnOk, IsTrue, IsFalse, IsSome, Some, None};
 ghost use Rattle.std.specs.String.{string_bytes};
 ghost use Rattle.ijson_json.specs.Grammar.{Accepted};
 ghost use Rattle.ijson_json.specs.Print.{print};
@@ -8,14 +8,16 @@ ghost use Rattle.ijson_value.specs.Kind.{kind_of};
 ghost use Rattle.ijson_value.specs.LendsAtKey.{with_key};
 ghost use Rattle.ijson_value.specs.Step.{by_key, kind_for, tree_at, tree_with};
 ghost use Rattle.ijson_value.specs.Tree.{Tree, boolean};
-ghost use Rattle.ijson_value.specs.Values.{boolean_value};
+ghost use Rattle.ijson_value.specs.Values.{boolean_value, null_value};
+ghost use Rattle.ijson_value.specs.declared.value.ValueType.TheVariants as kind;
 ghost use Rattle.ijson_extra.specs.Pointer.{resolved, resolved_with};
 
-use super::{empty_cache, is_written, parsed};
+use super::{empty_cache, is_written, key, parsed};
 use crate::pointer::resolve_mut;
 use ijson_json::{JsonError, from_json, to_json};
-use ijson_value::object::{IObject, ObjectIndex};
-use ijson_value::value::{IValue, ValueIndex};
+use ijson_string::IString;
+use ijson_value::object::{IObject, ObjectIndex, RefusedPair};
+use ijson_value::value::{BoolMut, DestructuredMut, IValue, ValueIndex};
 use std::alloc::Global;
 use std::process::Abort;
 
@@ -45,6 +47,15 @@ fn set_pair<I: ObjectIndex>(object: &mut IObject, index: I)
     ensures { object.new ≡ with_key object.old (I.Sealed.key index) (boolean_value true) }
 {
     if let Some((_, place)) = object.get_key_value_mut(index) {
+        put_true(place);
+    }
+}
+
+/// As `set_pair`, by what finds the pair.
+fn set_found<I: ObjectIndex>(object: &mut IObject, index: I)
+    ensures { object.new ≡ with_key object.old (I.Sealed.key index) (boolean_value true) }
+{
+    if let Some((_, place)) = index.index_into_mut(object) {
         put_true(place);
     }
 }
@@ -91,14 +102,60 @@ fn set_by_path(value: &mut IValue, key: &str) -> bool
     }
 }
 
+/// Puts true beside a key by the path of the value. A key that is not there is put last; where there is no room for it, it comes
+/// back with null, and the value is as it was.
+#[tactic(auto, using(crate::proofs::PutInside::is_put_inside, crate::proofs::PutInside::is_kept_inside))]
+fn put_by_path(value: &mut IValue, key: IString) -> Result<(), RefusedPair>
+    requires { kind_of value.old.tree ≡ kind_for (by_key key) }
+    ensures there { OnOk result (value.new.tree ≡ tree_with value.old.tree (by_key key) (boolean true)) }
+    ensures refused { IfErr result (λ refused. (refused.key ≡ key) × (refused.value ≡ null_value)
+        × (value.new.tree ≡ value.old.tree)) }
+{
+    let place = IValue::index_or_insert(value, key)?;
+    put_true(place);
+    Ok(())
+}
+
+/// Writes the opposite of a truth value in its place, and answers the place.
+fn turned(truth: BoolMut<'_>) -> BoolMut<'_>
+    ensures same_reference { result.place.ghost_name ≡ truth.entry.place.ghost_name }
+    ensures turned { result.place.now ≡ not truth.entry.place.now }
+{
+    let mut truth = truth;
+    truth.set(!truth.get());
+    truth
+}
+
+/// Writes the opposite of what a value is, where that is a truth value. Another value is as it was.
+fn turn_truth(value: &mut IValue)
+    ensures turned { (truth : Bool) → value.old ≡ boolean_value truth → value.new ≡ boolean_value (not truth) }
+    ensures same { kind_of value.old.tree ≢ kind.Bool → value.new ≡ value.old }
+{
+    match value.destructure_mut() {
+        DestructuredMut::Null => {}
+        DestructuredMut::Bool(truth) => {
+            turned(truth);
+        }
+        DestructuredMut::Number(_) => {}
+        DestructuredMut::String(_) => {}
+        DestructuredMut::Array(_) => {}
+        DestructuredMut::Object(_) => {}
+    }
+}
+
 /// An object's text.
 const TEXT: &str = "{\"a\":1,\"b\":[2]}";
 
-/// Keys, whether each is there, and what is written of `TEXT` once true is put beside it.
-const WRITTEN: [(&str, bool, &str); 3] = [
-    ("a", true, "{\"a\":true,\"b\":[2]}"),
-    ("b", true, "{\"a\":1,\"b\":true}"),
-    ("c", false, TEXT),
+/// Keys, whether each is there, what is written of `TEXT` once true is written beside it, and once true is put beside it.
+const WRITTEN: [(&str, bool, &str, &str); 3] = [
+    (
+        "a",
+        true,
+        "{\"a\":true,\"b\":[2]}",
+        "{\"a\":true,\"b\":[2]}",
+    ),
+    ("b", true, "{\"a\":1,\"b\":true}", "{\"a\":1,\"b\":true}"),
+    ("c", false, TEXT, "{\"a\":1,\"b\":[2],\"c\":true}"),
 ];
 
 fn writes_in_pairs(rt: &impl Abort, alloc: Global, key: &str, there: bool, want: &str) {
@@ -108,6 +165,18 @@ fn writes_in_pairs(rt: &impl Abort, alloc: Global, key: &str, there: bool, want:
         assert!(rt; pair.is_some() == there);
         set_pair(object, key);
     }
+    is_written(rt, alloc, &value, want);
+    let mut other = parsed(rt, alloc, TEXT);
+    if let Some(object) = other.as_object_mut() {
+        set_found(object, key);
+    }
+    is_written(rt, alloc, &other, want);
+}
+
+fn puts_by_path(rt: &impl Abort, alloc: Global, letters: &str, want: &str) {
+    let mut value = parsed(rt, alloc, TEXT);
+    assert!(rt; value.is_object());
+    put_by_path(&mut value, key(rt, alloc, letters)).expect(rt, "room");
     is_written(rt, alloc, &value, want);
 }
 
@@ -124,9 +193,31 @@ fn writes_inside(rt: &impl Abort, alloc: Global, key: &str, there: bool, want: &
 /// One value is another one, and all else as it was.
 #[test]
 fn values_beside_keys(rt: HostRuntime) {
-    for (key, there, want) in WRITTEN {
+    for (key, there, want, put) in WRITTEN {
         writes_in_pairs(&rt, rt.alloc(), key, there, want);
         writes_inside(&rt, rt.alloc(), key, there, want);
+        puts_by_path(&rt, rt.alloc(), key, put);
+    }
+}
+
+/// Texts, and what is written of each once the truth value that it spells is turned.
+const TURNED: [(&str, &str); 7] = [
+    ("true", "false"),
+    ("false", "true"),
+    ("null", "null"),
+    ("1", "1"),
+    ("\"true\"", "\"true\""),
+    ("[true]", "[true]"),
+    ("{\"true\":true}", "{\"true\":true}"),
+];
+
+/// A truth value is turned, and another value is as it was.
+#[test]
+fn truth_values_turned(rt: HostRuntime) {
+    for (text, want) in TURNED {
+        let mut value = parsed(&rt, rt.alloc(), text);
+        turn_truth(&mut value);
+        is_written(&rt, rt.alloc(), &value, want);
     }
 }
 

@@ -1,4 +1,4 @@
-use Rattle.std.proofs.Common.{◌∙◌, ◌∷◌, Some, refl, sym, ap, subst, length, arith}
+use Rattle.std.proofs.Common.{◌∙◌, Some, refl, sym, ap, arith}
 use Rattle.std.proofs.lemmas.Str.Pattern.{strip_prefix_char}
 use Rattle.ijson_extra.specs.private.Walked.{node_tree}
 use Rattle.ijson_extra.proofs.Walked.{on_both, whole_found, whole_with, with_tokens}

@@ -14,7 +14,7 @@ use denote.RattleType.{Valss}
 use denote.Text.{Str, StrRefOf, str-laws, str-copy}
 use denote.Slice.{shr_slice_vals}
 use denote.Ref.{NamedLft}
-use Rattle.std.specs.Prelude.{Option, Result, Ok, Err, Some, None, Bool, true, false, not, ◌↔◌, IsTrue, IfSome, IfNone, OnSome}
+use Rattle.std.specs.Prelude.{Option, Ok, Err, Some, None, Bool, true, false, not, ◌↔◌, IsTrue, IfSome, IfNone, OnSome}
 use Rattle.std.specs.Option.{ghost_name_of}
 use Rattle.std.specs.contracts.option.Option.{the_row as OptionOf}
 use Rattle.std.specs.contracts.result.Result.{the_row as ResultOf}
@@ -35,7 +35,6 @@ use Rattle.ijson_extra.specs.Pointer.{resolved, resolved_with}
 use Rattle.ijson_extra.specs.private.Walked.{HasTokens, LendsNamedInside, node_tree, tree_lent}
 use Rattle.ijson_extra.specs.contracts.pointer.PointerError as PE
 use Rattle.ijson_extra.specs.contracts.pointer.PointerError.{the_row as E}
-use Rattle.ijson_extra.specs.declared.pointer.PointerError.{PointerError}
 use Rattle.ijson_extra.specs.declared.pointer.PointerError.TheVariants.{Syntax}
 use Rattle.ijson_extra.specs.contracts.pointer.lend.resolve_mut as f
 use Rattle.ijson_extra.proofs.pointer.lend.resolve_mut.Statement.{statement}

@@ -1,5 +1,5 @@
 -- A caller that writes where a pointer leads. Assumes `Logic`.
-use Rattle.ijson_value.proofs.lends.Steps.{◌≡◌, ℕ, List, [], ◌∷◌, refl, sym, ap, subst, ◌∙◌, lit<, MutBor, Bor, proved, full_share, id⊢, GName, Lft, ftrue, flft, fres, fex, named, Val, vptr, vunit, emp, fact, fact_i, tables, ‵, raw, ◌⊛◌, some, later, at_ret, ◌$◌, ◌∵◌, !, qed, done, move, keep, drop, use0, use1, use2, use3, split, join, rewrite, fsplit, fsplit3, fpick, feq_i, feq_l, pick, await, suffices, frame, enter, of_opd, addr, unit_lit, fld, stop, no_more, and_then, first, skips, exec, returns, alloc_all, pass_all, free_all, look_at, get, get_in, get_tag, through, sets, lands_as, lands_last, env, unit, no, yes, shows, RattleType, MutRef, mut_vals, mut_Tells, plain, nothing, heard, peeks, only, whole, sub, vrt, calls_at, lasts, triple_of, Stays, walk_of, says, stay_dropped, stay_ref, Goes-dropped, Goes-ref, ends_at, framed, lends_again, comes_back, LentAgain, lft_new, lft_end, live}
+use Rattle.ijson_value.proofs.lends.Steps.{◌≡◌, ℕ, List, [], ◌∷◌, refl, sym, ap, subst, ◌∙◌, lit<, MutBor, Bor, proved, full_share, id⊢, GName, Lft, ftrue, flft, fres, fex, named, Val, vunit, fact, tables, ‵, raw, ◌⊛◌, some, later, at_ret, ◌$◌, ◌∵◌, !, qed, done, move, keep, drop, use1, use2, use3, split, join, rewrite, fsplit, fpick, feq_i, feq_l, pick, await, suffices, frame, enter, of_opd, addr, unit_lit, fld, stop, no_more, and_then, first, skips, exec, returns, alloc_all, pass_all, free_all, look_at, get, get_in, get_tag, through, sets, lands_as, lands_last, env, unit, yes, shows, RattleType, MutRef, mut_vals, mut_Tells, plain, nothing, heard, peeks, only, whole, vrt, calls_at, lasts, triple_of, Stays, walk_of, stay_dropped, stay_ref, Goes-dropped, Goes-ref, ends_at, framed, lends_again, comes_back, LentAgain, lft_new, lft_end, live}
 use types.Match.{in_variant}
 use types.Run.{switches}
 use denote.Triple.Call.{calls_at_last}
