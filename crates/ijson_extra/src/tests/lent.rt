@@ -104,7 +104,7 @@ fn set_by_path(value: &mut IValue, key: &str) -> bool
 
 /// Puts true beside a key by the path of the value. A key that is not there is put last; where there is no room for it, it comes
 /// back with null, and the value is as it was.
-#[tactic(auto, using(crate::proofs::PutInside::is_put_inside, crate::proofs::PutInside::is_kept_inside))]
+#[tactic(auto, using(crate::proofs::PutInside::is_kept_inside))]
 fn put_by_path(value: &mut IValue, key: IString) -> Result<(), RefusedPair>
     requires { kind_of value.old.tree ≡ kind_for (by_key key) }
     ensures there { OnOk result (value.new.tree ≡ tree_with value.old.tree (by_key key) (boolean true)) }
