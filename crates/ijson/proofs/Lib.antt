@@ -1,1 +1,1 @@
-mod callers
+mod example_lemmas

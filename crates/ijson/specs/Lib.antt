@@ -1,1 +1,1 @@
-pub mod callers
+pub mod examples

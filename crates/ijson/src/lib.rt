@@ -3,6 +3,8 @@
 //! A number is an exact decimal that keeps whether it was written with a point; an object is an ordered list of pairs with distinct keys,
 //! equal to another in any order of its pairs. Texts are read by `json::from_json` and written by `json::to_json`, and everything that
 //! takes memory can answer that there is none. This crate gives the library's modules on.
+//!
+//! Tests: `src/tests`, of arrays, values, conversions, literals and errors, and `src/examples`, small programs with contracts of their own.
 #![tactic(auto)]
 
 pub mod json;
@@ -23,5 +25,7 @@ pub use ijson_value::value::{
 };
 pub use ijson_value::{array, object, value};
 
+#[cfg(test)]
+mod examples;
 #[cfg(test)]
 mod tests;

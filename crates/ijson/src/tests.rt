@@ -1,9 +1,7 @@
-//! What no clause says: arrays and values, conversions, literals, the errors, and refusals of memory in these; and callers with contracts of
-//! their own. Objects, canonical texts, pointers and all other refusals of memory are tested in `ijson_extra`, and all else that the program
-//! stands on in the program.
+//! What no clause says: arrays and values, conversions, literals, the errors, and refusals of memory in these. Objects, canonical texts,
+//! pointers and all other refusals of memory are tested in `ijson_extra`, and all else that the program stands on in the program.
 
 mod arrays;
-mod callers;
 mod conversions;
 mod errors;
 mod refusals;
@@ -17,9 +15,9 @@ use std::alloc::Global;
 use std::hash::{BuildHasherDefault, FoldHasher};
 use std::process::Abort;
 
-type Cache = StringCache<BuildHasherDefault<FoldHasher>>;
+pub(crate) type Cache = StringCache<BuildHasherDefault<FoldHasher>>;
 
-fn empty_cache(alloc: Global) -> Cache {
+pub(crate) fn empty_cache(alloc: Global) -> Cache {
     StringCache::new(alloc, BuildHasherDefault::<FoldHasher>::new())
 }
 
@@ -29,6 +27,6 @@ fn key(rt: &impl Abort, alloc: Global, letters: &str) -> IString {
 }
 
 /// What `text` spells, through a cache of its own.
-fn parsed(rt: &impl Abort, alloc: Global, text: &str) -> IValue {
+pub(crate) fn parsed(rt: &impl Abort, alloc: Global, text: &str) -> IValue {
     from_json(alloc, &mut empty_cache(alloc), text).expect(rt, text)
 }

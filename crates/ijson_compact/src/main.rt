@@ -1,4 +1,6 @@
 //! Writes the JSON text of standard input to standard output, without white space.
+//!
+//! Tests: `src/tests`, of the program, and of texts, devices and walks over values in the crates that it stands on.
 #![tactic(auto)]
 
 ghost use Rattle.std.specs.Prelude.{◌≡◌, OnOk, OnErr, IfSome, IfErr, MatchResult, Err};

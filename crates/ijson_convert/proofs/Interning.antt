@@ -16,6 +16,7 @@ both_interned (x ∷ xs) ys cache = both_interned xs ys (interned x cache)
 pub none_interned : (texts : List (List ℕ)) (cache : Texts) → SomeInterned texts cache cache
 none_interned texts cache = record { done = []; left = texts; parts = refl; cache = refl }
 
+-- all of them
 pub wholly_interned : (texts : List (List ℕ)) (old new : Texts) → new ≡ all_interned texts old → SomeInterned texts old new
 wholly_interned texts old new e = record { done = texts; left = []; parts = sym (append-nil texts); cache = e }
 
@@ -28,6 +29,7 @@ some_before xs ys old new s = record {
   cache = s.cache;
 }
 
+-- and a beginning of those behind the first
 pub some_behind : (xs ys : List (List ℕ)) (old new : Texts) → SomeInterned ys (all_interned xs old) new
     → SomeInterned (xs ++ ys) old new
 some_behind xs ys old new s = record {

@@ -1,8 +1,10 @@
 pub mod Interning
-pub mod Pairs
-pub mod Lists
+pub mod Refusals
+pub mod PairTrees
+pub mod PairsPut
+pub mod ItemsRead
+pub mod MembersRead
+pub mod Whole
 pub mod SerdeTrees
 pub mod SerdeNumbers
-pub mod SerdeMeant
-pub mod Whole
-pub mod Members
+pub mod SerdeMeanings

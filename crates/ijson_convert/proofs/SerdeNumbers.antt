@@ -10,7 +10,7 @@ use Rattle.ijson_number.specs.Decimal.{Decimal}
 use Rattle.ijson_number.specs.Integers.{HasValue}
 use Rattle.ijson_number.specs.Num.{IsNum}
 use Rattle.ijson_number.specs.Order.{number_cmp}
-use Rattle.ijson_number.proofs.IntegerWords.{signed_small, signed_fits, unsigned_fits}
+use Rattle.ijson_number.proofs.storing.IntegerWords.{signed_small, signed_fits, unsigned_fits}
 use Rattle.ijson_value.specs.Same.{Same}
 use Rattle.ijson_value.specs.Tree.{Tree, null, boolean, number, string, array, object}
 use Rattle.ijson_convert.specs.IntegerTree.{integer_number}
@@ -19,12 +19,15 @@ use Rattle.ijson_convert.specs.laws.Integers.{integer_num, signed_has, unsigned_
 use Rattle.ijson_convert.specs.laws.Whole.{has_too}
 use Rattle.ijson_convert.proofs.Whole.{has_same}
 
+-- the number of a `u64` is a Num
 unsigned_num : (n : ℕ) → n < 2 ^ 64 → IsNum (integer_number (pos n))
 unsigned_num n h = integer_num (pos n) h (λ e. unsigned_fits n h)
 
+-- and so is that of an `i64`
 signed_num : (z : ℤ) → FitsSigned w64 z → IsNum (integer_number z)
 signed_num z h = integer_num z (signed_small z h) (λ e. let t = signed_fits z h in cc)
 
+-- an unsigned number of `serde_json` means a number of its value
 pub means_unsigned : (m : serde.Num) (n : ℕ) (u : Decimal) → m ≡ serde.unsigned n → n < 2 ^ 64 → HasValue u (pos n)
     → SerdeMeans (serde.number m) (number u)
 means_unsigned m n u is small h = subst (λ k. SerdeMeans (serde.number k) (number u)) (sym is) (
@@ -34,6 +37,7 @@ means_unsigned m n u is small h = subst (λ k. SerdeMeans (serde.number k) (numb
   has_same (integer_number (pos n)) u (pos n) (unsigned_has n small) h,
 )
 
+-- and so does a signed one
 pub means_signed : (m : serde.Num) (z : ℤ) (u : Decimal) → m ≡ of_integer z → FitsSigned w64 z → HasValue u z
     → SerdeMeans (serde.number m) (number u)
 means_signed m (pos n) u is fits h = means_unsigned m n u is (omega arith) h
@@ -65,5 +69,6 @@ module _ (u : Decimal) (no_unsigned : (n : ℕ) → n < 2 ^ 64 → HasValue u (p
   unmeant d (array ts) h s = s
   unmeant d (object ps) h s = s
 
+  -- a number that is neither a `u64` nor an `i64` has no meaning
   pub number_unmeant : NoSerdeMeans (number u)
   number_unmeant d m = unmeant d m.0 m.2 m.3

@@ -1,4 +1,6 @@
 //! Rust values as JSON values, and JSON values as Rust values.
+//!
+//! Tests: `ijson/src/tests` (`conversions`, `serde`, `errors`, and refused memory in `refusals`).
 #![tactic(auto)]
 
 mod convert_error;

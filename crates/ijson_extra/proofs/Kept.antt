@@ -4,7 +4,7 @@ use Rattle.std.proofs.Common.{◌≡◌, ◌≢◌, ◌↔◌, ℕ, List, [], �
 use Rattle.std.specs.Option.{option_copied_mut, unwrap_or}
 use Rattle.std.specs.Prelude.{if◌then◌else◌, cond, IsSome, IsTrue}
 use Rattle.std.specs.Str.{bytes_eq}
-use Rattle.ijson_table.proofs.Keys.{same_key, position-distinct}
+use Rattle.ijson_table.proofs.pairs.KeyPositions.{same_key, position-distinct}
 use Rattle.ijson_table.specs.Store.{Store, at, keys_of, lookup, put, with_value, swap_out}
 use Rattle.ijson_value.specs.LendsAtKey.{with_found}
 use Rattle.ijson_value.specs.Retains.{RetainsFrom, Retains}

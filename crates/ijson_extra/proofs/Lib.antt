@@ -13,3 +13,4 @@ pub mod Results
 pub mod InOrder
 pub mod PutInside
 pub mod PartsOut
+pub mod lends

@@ -5,7 +5,8 @@ use Rattle.std.proofs.lemmas.List.{take_all}
 use Rattle.std.proofs.lemmas.Option.{slice_get_past, slice_get-get_or}
 use Rattle.std.specs.Str.{bytes_eq}
 use Rattle.ijson_table.specs.Store.{Store, at, lookup, put}
-use Rattle.ijson_table.proofs.Keys.{same_key, lookup-found, position_within}
+use Rattle.ijson_table.proofs.pairs.KeyPositions.{same_key}
+use Rattle.ijson_table.proofs.pairs.PairsByKey.{lookup-found, position_within}
 use Rattle.ijson_table.specs.StoreWithValue.{store_with_value}
 use Rattle.ijson_value.specs.LendsAtKey.{with_found, with_key}
 use Rattle.ijson_value.specs.Sequence.{Sequence}
@@ -113,16 +114,16 @@ walked_same (w ∷ ws) (Some s) t u is e =
 
 -- two walks, one after the other
 module _ (old : Tree) (front back whole : List (List ℕ)) (cut : front ++ back ≡ whole) where
-  pub none_found : None ≡ walked front (Some old) → None ≡ walked whole (Some old)
+  none_found : None ≡ walked front (Some old) → None ≡ walked whole (Some old)
   none_found e = sym (ap (λ ws. walked ws (Some old)) (sym cut) ∙ walked_append front back (Some old) ∙ ap (walked back) (sym e) ∙ walked_none back)
 
-  pub both_found : (v : Tree) (seen : Option Tree) → Some v ≡ walked front (Some old) → seen ≡ walked back (Some v) → seen ≡ walked whole (Some old)
+  both_found : (v : Tree) (seen : Option Tree) → Some v ≡ walked front (Some old) → seen ≡ walked back (Some v) → seen ≡ walked whole (Some old)
   both_found v seen e f = f ∙ ap (walked back) e ∙ sym (walked_append front back (Some old)) ∙ ap (λ ws. walked ws (Some old)) cut
 
-  pub both_with : (v u m n : Tree) → Some v ≡ walked front (Some old) → n ≡ walked_with front (Some old) m → m ≡ walked_with back (Some v) u → n ≡ walked_with whole (Some old) u
+  both_with : (v u m n : Tree) → Some v ≡ walked front (Some old) → n ≡ walked_with front (Some old) m → m ≡ walked_with back (Some v) u → n ≡ walked_with whole (Some old) u
   both_with v u m n e f g = f ∙ ap (walked_with front (Some old)) (g ∙ ap (λ o. walked_with back o u) e) ∙ sym (with_append front back (Some old) u) ∙ ap (λ ws. walked_with ws (Some old) u) cut
 
-  pub left_alone : (v m n : Tree) → Some v ≡ walked front (Some old) → n ≡ walked_with front (Some old) m → m ≡ v → n ≡ old
+  left_alone : (v m n : Tree) → Some v ≡ walked front (Some old) → n ≡ walked_with front (Some old) m → m ≡ v → n ≡ old
   left_alone v m n e f g = f ∙ ap (walked_with front (Some old)) g ∙ walked_same front (Some old) old v refl (sym e)
 
 one_more : (n : ℕ) → n + 1 ≡ suc n
@@ -139,10 +140,33 @@ take_more (suc i) j zero (x ∷ xs) e = absurd (omega (arith, e))
 take_more (suc i) j (suc n) (x ∷ xs) e = ap (λ l. x ∷ l) (take_more i j n xs (omega (arith, e)))
 
 -- the tokens of a walk are those of its two halves
-pub cut_at : (ws behind : List (List ℕ)) (half more : ℕ) → half + 1 ≤ more → behind ≡ drop (half + 1) ws → take (suc half) ws ++ take (suc (more - (half + 1))) behind ≡ take (suc more) ws
+cut_at : (ws behind : List (List ℕ)) (half more : ℕ) → half + 1 ≤ more → behind ≡ drop (half + 1) ws → take (suc half) ws ++ take (suc (more - (half + 1))) behind ≡ take (suc more) ws
 cut_at ws behind half more h e =
     ap (λ l. take (suc half) ws ++ take (suc (more - (half + 1))) l) (e ∙ ap (λ n. drop n ws) (one_more half))
     ∙ take_more (suc half) (suc (more - (half + 1))) (suc more) ws (omega (arith, h))
+
+-- where the first token leads to nothing, more of them do so too
+pub none_first : (old : Tree) (left : List ℕ) (more : ℕ) → None ≡ walked (steps_of left 0) (Some old) → None ≡ walked (steps_of left more) (Some old)
+none_first old left zero e = e
+none_first old left (suc more) e =
+    let ws = written_tokens left in
+    none_found old (take 1 ws) (take (suc (suc more - (0 + 1))) (drop 1 ws)) (take (suc (suc more)) ws) (cut_at ws (drop 1 ws) 0 (suc more) (omega arith) refl) e
+
+-- the first token, and then those behind it
+module _ (old : Tree) (left rest : List ℕ) (more : ℕ) (above : 1 ≤ more) (behind : written_tokens rest ≡ drop 1 (written_tokens left)) (v : Tree)
+    (found : Some v ≡ walked (steps_of left 0) (Some old)) where
+  cut_first : steps_of left 0 ++ steps_of rest (more - 1) ≡ steps_of left more
+  cut_first = cut_at (written_tokens left) (written_tokens rest) 0 more above behind
+
+  pub further_found : (seen : Option Tree) → seen ≡ walked (steps_of rest (more - 1)) (Some v) → seen ≡ walked (steps_of left more) (Some old)
+  further_found seen e = both_found old (steps_of left 0) (steps_of rest (more - 1)) (steps_of left more) cut_first v seen found e
+
+  pub further_with : (u m n : Tree) → n ≡ walked_with (steps_of left 0) (Some old) m → m ≡ walked_with (steps_of rest (more - 1)) (Some v) u
+      → n ≡ walked_with (steps_of left more) (Some old) u
+  further_with u m n f g = both_with old (steps_of left 0) (steps_of rest (more - 1)) (steps_of left more) cut_first v u m n found f g
+
+  pub further_left : (m n : Tree) → n ≡ walked_with (steps_of left 0) (Some old) m → m ≡ v → n ≡ old
+  further_left m n f g = left_alone old (steps_of left 0) (steps_of rest (more - 1)) (steps_of left more) cut_first v m n found f g
 
 -- ---- results that may hold a value
 pub on_some : {A P : Type 0} (r : Option A) → (IsSome r → P) → OnSome r P

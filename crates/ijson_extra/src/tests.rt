@@ -1,6 +1,7 @@
 //! What no clause says of objects, canonical texts and pointers, and refusals of memory in this crate and in those below it.
 
 mod canonical;
+mod given_back;
 mod lent;
 mod objects;
 mod pointer;

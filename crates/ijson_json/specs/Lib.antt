@@ -18,5 +18,6 @@ pub mod Compacts
 pub mod CompactRefusal
 pub mod CompactErrorOf
 pub mod Status
+pub mod LineColumn
 pub mod laws
 pub mod private

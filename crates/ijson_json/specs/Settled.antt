@@ -2,7 +2,8 @@
 -- open; this project keeps the place of the first and the value of the last.
 use Rattle.std.specs.Prelude.{ℕ, List, [], ◌∷◌}
 use Rattle.ijson_table.specs.Store.{put_each}
-use Rattle.ijson_value.specs.Tree.{Tree, null, boolean, number, string, array, object, Items, no_items, item, Members, no_members, member, members_of}
+use Rattle.ijson_value.specs.Tree.{Tree, null, boolean, number, string, array, object, Items, no_items, item, Members, no_members}
+use Rattle.ijson_value.specs.Tree.{member, members_of}
 
 -- in each object the members are put, in order, into the empty list
 abbrev mutual

@@ -1,6 +1,7 @@
 -- What stands between the quotes of a string, and the UTF-8 bytes that it spells (RFC 8259, section 7).
 -- A surrogate stands in a pair alone, which is this project's own rule.
-use Rattle.std.specs.Prelude.{◌≡◌, ℕ, ◌+◌, ◌-◌, ◌*◌, Bool, false, cond, not, ◌&&◌, ◌||◌, ◌==◌, nat_le, nat_lt, IsTrue, List, [], ◌∷◌, ◌++◌, Option, Some, None}
+use Rattle.std.specs.Prelude.{◌≡◌, ℕ, ◌+◌, ◌-◌, ◌*◌, Bool, false, cond, not, ◌&&◌, ◌||◌, ◌==◌, nat_le, nat_lt, IsTrue, List, [], ◌∷◌}
+use Rattle.std.specs.Prelude.{◌++◌, Option, Some, None}
 use Rattle.std.specs.Char.{encode_utf8}
 
 -- Neither a control character, `"` nor a backslash. In UTF-8 each byte of a longer character is one of

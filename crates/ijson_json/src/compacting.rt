@@ -13,9 +13,9 @@ ghost use Rattle.ijson_json.specs.WritesBeginning.{WritesBeginning};
 ghost use Rattle.ijson_json.specs.declared.compacting.CompactError.TheVariants.{Read, NotUtf8, Write, Json, Memory as NoMemory};
 ghost use Rattle.ijson_json.specs.declared.fault.JsonError.TheVariants.{Memory};
 
+use crate::device::transfer::{ReadFault, read_all, write_all};
 use crate::device::{Sink, Source};
 use crate::fault::JsonError;
-use crate::moving::{ReadFault, read_all, write_all};
 use crate::read::from_json;
 use crate::write::push_value;
 use ijson_string::StringCache;

@@ -1,7 +1,19 @@
-//! What texts are read from and written to.
+//! What texts are read from and written to: the traits and their fault. Devices over the readers and writers of the standard
+//! library are in `stream_source` and `stream_sink`, those in memory in `memory_source` and `memory_sink`. `transfer` reads one to
+//! its end and writes a whole text.
 ghost use Rattle.std.specs.Prelude.{◌≡◌, ◌+◌, ◌^◌, ◌<◌, ◌≤◌, ℕ, List, Option, length, IfOk, OnOk, OnErr};
 ghost use Rattle.std.specs.Io.KnownBytes.{ReadConsumes, WriteAppends};
 
+mod memory_sink;
+mod memory_source;
+mod stream_sink;
+mod stream_source;
+pub(crate) mod transfer;
+
+pub use memory_sink::MemorySink;
+pub use memory_source::MemorySource;
+pub use stream_sink::StreamSink;
+pub use stream_source::StreamSource;
 use thiserror::Error;
 
 /// A read or a write failed, and moved no byte.

@@ -27,6 +27,17 @@ pub enum JsonError {
     Memory,
 }
 
+/// `Memory`.
+impl From<AllocError> for JsonError {
+    ghost use Rattle.ijson_json.specs.declared.fault.JsonError.TheVariants.{Memory as NoMemory};
+
+    ghost from_gives = { λ _ error. error ≡ NoMemory };
+
+    fn from(_refused: AllocError) -> JsonError {
+        JsonError::Memory
+    }
+}
+
 /// Why nothing was read at the front of a text, and how many bytes were left there.
 #[derive(Clone, Copy)]
 pub(crate) enum Fault {

@@ -4,8 +4,8 @@ ghost use Rattle.ijson_json.specs.Status.{status_of};
 
 use crate::compacting::CompactError;
 use crate::device::Sink;
+use crate::device::transfer::write_all;
 use crate::fault::JsonError;
-use crate::moving::write_all;
 use arrayvec::ArrayString;
 use std::fmt::Write;
 

@@ -1,13 +1,16 @@
-//! Writing a value as a JSON text.
+//! Writing a value as a JSON text: `push_value` appends one of any kind, strings by `quote`. A text grows as it is written, and is
+//! not measured first.
 ghost use Rattle.std.specs.Prelude.{◌≡◌, ◌++◌, IfOk, OnOk, OnErr};
 ghost use Rattle.std.specs.String.{string_bytes};
 ghost use Rattle.ijson_value.specs.WellFormed.{item_trees, pair_trees};
 ghost use Rattle.ijson_json.specs.Print.{print, print_items, print_members};
 ghost use Rattle.ijson_json.specs.Separator.{separator};
 
-use crate::quote::push_quoted;
+mod quote;
+
 use ijson_value::object::IObject;
 use ijson_value::value::{DestructuredRef, IValue};
+pub use quote::push_quoted;
 use std::alloc::{AllocError, Global};
 
 /// For how many bytes a text has room at first, so that a short one is made in one request for memory.
@@ -16,8 +19,8 @@ const FIRST_ROOM: usize = 128;
 /// The JSON text of `value`, without white space. The error comes where there was not enough memory for
 /// it.
 ///
-/// The time is linear in what is written, and so is the memory, which is 128 bytes at first and doubles as the text grows. It writes any value, however
-/// deep: it calls itself once a level. Objects keep the order of their pairs, and numbers their shape.
+/// The time is linear in what is written, and so is the memory, which is 128 bytes at first and doubles as the text grows. It
+/// writes any value, however deep: it calls itself once a level. Objects keep the order of their pairs, and numbers their shape.
 ///
 /// ```
 /// let text = to_json(alloc, &value)?; // {"a":[1.5,100.0]} of what was read from { "a" : [1.50, 1e2] }

@@ -8,8 +8,8 @@ use Rattle.ijson_number.specs.laws.Ordered.{equal_same, same_equal, tests_equal}
 use Rattle.std.specs.Ordering.{is_eq}
 use Rattle.ijson_number.specs.Grammar.{Spells}
 use Rattle.ijson_number.specs.Text.{num_text}
-use Rattle.ijson_number.proofs.Denotes.{same_decimal, spells_one}
-use Rattle.ijson_number.proofs.RoundTrip.{num_text_spells}
+use Rattle.ijson_number.proofs.parsing.Denotes.{same_decimal, spells_one}
+use Rattle.ijson_number.proofs.writing.RoundTrip.{num_text_spells}
 
 -- they are one number
 alike_same : (a b : Num) → IsAlike a.decimal b.decimal → a.decimal ≡ b.decimal
@@ -23,7 +23,9 @@ alike_form a b f e h = e ∙ ap form_of (alike_same a b h)
 
 text_alike : (a b : Num) → num_text a.decimal ≡ num_text b.decimal → IsAlike a.decimal b.decimal
 text_alike a b e =
-    let one : a.decimal ≡ b.decimal = spells_one (num_text b.decimal) a.decimal b.decimal (subst (λ t. Spells t a.decimal) e (num_text_spells a.decimal a.is_num)) (num_text_spells b.decimal b.is_num) in
+    let one : a.decimal ≡ b.decimal =
+    spells_one (num_text b.decimal) a.decimal b.decimal (subst (λ t. Spells t a.decimal) e (num_text_spells a.decimal a.is_num))
+    (num_text_spells b.decimal b.is_num) in
     record {
       value = ap is_eq (same_equal a.decimal b.decimal (ap (λ (d : Decimal). d.mantissa) one) (ap (λ (d : Decimal). d.exponent) one));
       shape = ap (λ (d : Decimal). d.point) one;

@@ -1,14 +1,12 @@
-//! The stored form of a number, and how it is chosen.
-ghost use Rattle.std.specs.Prelude.{◌≡◌, ◌^◌, ◌*ℤ◌, ◌≤ℤ◌, ◌<ℤ◌, ◌↔◌, pos, true, false, IfSome, IfNone, IsTrue};
+//! The stored form of a number, as callers see it.
+ghost use Rattle.std.specs.Prelude.{◌≡◌, ◌^◌, ◌↔◌};
 ghost use Rattle.ijson_number.specs.Alike.{IsAlike};
 ghost use Rattle.ijson_number.specs.Num.{Num};
 ghost use Rattle.ijson_number.specs.Text.{num_text};
-ghost use Rattle.ijson_number.specs.Form.{digits_form, fits_packed, form_of};
+ghost use Rattle.ijson_number.specs.Form.{form_of};
 
 use crate::number::INumber;
-use crate::stored::Stored;
-use crate::stripped::StrippedNumber;
-use crate::word::Word;
+use crate::repr::stored::Stored;
 
 /// The stored form of a number. `point` says whether the number was written with a point or an exponent.
 #[derive(Clone, Copy, PartialEq, Eq, Debug)]
@@ -31,100 +29,6 @@ pub enum Form<'a> {
         exponent: i32,
         point: bool,
     },
-}
-
-/// One past the greatest mantissa of a packed number.
-pub const PACKED_END: i128 = 1 << 55;
-
-/// Whether a mantissa fits a packed number.
-pub fn is_packed_mantissa(mantissa: i128) -> bool
-    ensures { result ≡ fits_packed mantissa }
-{
-    -PACKED_END <= mantissa && mantissa < PACKED_END
-}
-
-impl StrippedNumber<'_> {
-    ghost use Rattle.ijson_number.specs.private.Stored.{stored_form};
-    ghost use Rattle.ijson_number.specs.private.StrippedNumber.{decimal_of};
-
-    /// The mantissa with so many zeros behind it, where it fits a packed number.
-    fn packed_mantissa(&self, zeros: usize) -> Option<i64>
-        ensures some { IfSome result (λ m. m ≡ (decimal_of self.now).mantissa *ℤ pos (10 ^ zeros)) }
-        ensures fits { IfSome result (λ m. IsTrue (fits_packed m)) }
-        ensures none { IfNone result (fits_packed ((decimal_of self.now).mantissa *ℤ pos (10 ^ zeros)) ≡ false) }
-    {
-        let mantissa = self.mantissa_with(zeros)?;
-        if is_packed_mantissa(mantissa) {
-            Some(mantissa as i64)
-        } else {
-            None
-        }
-    }
-
-    /// What is stored of a number without the point, where it is a word.
-    fn integer_stored(&self) -> Option<Stored>
-        requires { self.now.point ≡ false }
-        ensures some { IfSome result (λ s. stored_form s ≡ form_of (decimal_of self.now)) }
-        ensures none { IfNone result (form_of (decimal_of self.now) ≡ digits_form (decimal_of self.now)) }
-    {
-        let value = self.whole()?;
-        if is_packed_mantissa(value) {
-            Some(Stored::Packed(Word::integer(value as i64)))
-        } else if let Ok(value) = i64::try_from(value) {
-            Some(Stored::I64(value))
-        } else if let Ok(value) = u64::try_from(value) {
-            Some(Stored::U64(value))
-        } else {
-            None
-        }
-    }
-
-    /// What is stored of a number with the point and no fraction, where it is a word: the smallest packed exponent that
-    /// leaves a mantissa which fits.
-    fn whole_stored(&self) -> Option<Stored>
-        requires point { self.now.point ≡ true }
-        requires whole { pos 0 ≤ℤ self.now.exponent }
-        ensures some { IfSome result (λ s. stored_form s ≡ form_of (decimal_of self.now)) }
-        ensures none { IfNone result (form_of (decimal_of self.now) ≡ digits_form (decimal_of self.now)) }
-    {
-        let zeros = self.exponent as usize;
-        for exponent in 0..8usize {
-            if exponent <= zeros {
-                if let Some(mantissa) = self.packed_mantissa(zeros - exponent) {
-                    return Some(Stored::Packed(Word::pointed(mantissa, exponent as i8)));
-                }
-            }
-        }
-        None
-    }
-
-    /// What is stored of a number with a fraction, where it is a word.
-    fn fraction_stored(&self) -> Option<Stored>
-        requires point { self.now.point ≡ true }
-        requires fraction { self.now.exponent <ℤ pos 0 }
-        ensures some { IfSome result (λ s. stored_form s ≡ form_of (decimal_of self.now)) }
-        ensures none { IfNone result (form_of (decimal_of self.now) ≡ digits_form (decimal_of self.now)) }
-    {
-        if self.exponent < -7 {
-            return None;
-        }
-        let mantissa = self.packed_mantissa(0)?;
-        Some(Stored::Packed(Word::pointed(mantissa, self.exponent as i8)))
-    }
-
-    /// What is stored of the number, where it is a word and no list of digits.
-    pub fn stored(&self) -> Option<Stored>
-        ensures some { IfSome result (λ s. stored_form s ≡ form_of (decimal_of self.now)) }
-        ensures none { IfNone result (form_of (decimal_of self.now) ≡ digits_form (decimal_of self.now)) }
-    {
-        if !self.point {
-            self.integer_stored()
-        } else if self.exponent >= 0 {
-            self.whole_stored()
-        } else {
-            self.fraction_stored()
-        }
-    }
 }
 
 impl INumber {

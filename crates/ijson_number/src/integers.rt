@@ -1,53 +1,11 @@
 //! Numbers from integers, and integers from numbers.
-ghost use Rattle.std.specs.Prelude.{◌≡◌, ◌≢◌, ◌*◌, ◌/◌, ◌%◌, ◌+◌, ◌^◌, ◌<◌, ◌≤◌, ℕ, ℤ, pos, length, nat_abs, IfSome, IfNone, FitsSigned};
-ghost use Rattle.std.specs.List.{All};
-ghost use Rattle.std.specs.Int.Digits.{number_from_digits};
+ghost use Rattle.std.specs.Prelude.{◌/◌, ◌^◌, ◌<◌, ℕ, ℤ, pos, length, nat_abs, IfSome, IfNone, FitsSigned};
 ghost use mir.Syntax.{w32, w64};
 ghost use Rattle.ijson_number.specs.Integers.{HasValue, IsInteger};
-ghost use Rattle.ijson_number.specs.private.FormNumber.{integer_word};
-ghost use Rattle.ijson_number.specs.private.Stored.{stored_form};
 
-use crate::form::is_packed_mantissa;
 use crate::number::INumber;
-use crate::stored::Stored;
-use crate::stripped::ROOM;
-use crate::word::Word;
-
-/// Takes the tens out of a number that isn't zero, and counts them.
-pub fn without_tens(number: u64) -> (u64, u32)
-    requires { number ≢ 0 }
-    ensures tens { number ≡ result.0 * 10 ^ result.1 }
-    ensures few { result.1 < 20 }
-    ensures stripped { result.0 % 10 ≢ 0 }
-{
-    let (mut rest, mut tens) = (number, 0);
-    while rest % 10 == 0 {
-        rest /= 10;
-        tens += 1;
-    }
-    (rest, tens)
-}
-
-/// What is stored of an integer.
-pub fn stored_signed(value: i64) -> Stored
-    ensures { stored_form result ≡ integer_word value }
-{
-    if is_packed_mantissa(i128::from(value)) {
-        Stored::Packed(Word::integer(value))
-    } else {
-        Stored::I64(value)
-    }
-}
-
-/// What is stored of an integer that isn't below zero.
-pub fn stored_unsigned(value: u64) -> Stored
-    ensures { stored_form result ≡ integer_word (pos value) }
-{
-    match i64::try_from(value) {
-        Ok(value) => stored_signed(value),
-        Err(_) => Stored::U64(value),
-    }
-}
+use crate::repr::choice::{stored_signed, stored_unsigned};
+use crate::repr::digits::MAX_DIGITS;
 
 impl INumber {
     /// The integer 0. It takes no memory.
@@ -168,45 +126,6 @@ impl From<usize> for INumber {
     }
 }
 
-/// How many digits a word holds, whatever they are.
-const WORD_DIGITS: usize = 19;
-
-/// What so few digits write.
-fn word_of_digits(digits: &[u8]) -> u64
-    requires below_ten { All (λ d. d < 10) digits.now }
-    requires fits { length digits.now ≤ 19 }
-    ensures { result ≡ number_from_digits 10 digits.now }
-{
-    let mut number: u64 = 0;
-    for digit in digits {
-        number = number * 10 + u64::from(*digit);
-    }
-    number
-}
-
-/// What at most twenty digits write.
-fn number_of_digits(digits: &[u8]) -> u128
-    requires below_ten { All (λ d. d < 10) digits.now }
-    requires fits { length digits.now ≤ 20 }
-    ensures { result ≡ number_from_digits 10 digits.now }
-{
-    if digits.len() <= WORD_DIGITS {
-        return u128::from(word_of_digits(digits));
-    }
-    let most = u128::from(word_of_digits(&digits[..WORD_DIGITS]));
-    most * 10 + u128::from(digits[WORD_DIGITS])
-}
-
-/// What the digits write, and so many zeros behind them.
-pub fn scaled(digits: &[u8], zeros: usize) -> u128
-    requires below_ten { All (λ d. d < 10) digits.now }
-    requires fits { length digits.now + zeros ≤ 20 }
-    ensures value { result ≡ number_from_digits 10 digits.now * 10 ^ zeros }
-    ensures small { result < 10 ^ 20 }
-{
-    number_of_digits(digits) * 10u128.pow(zeros as u32)
-}
-
 impl INumber {
     /// The value where it is whole and nearer to zero than 10^20.
     fn whole(&self) -> Option<i128>
@@ -215,7 +134,7 @@ impl INumber {
         ensures none { IfNone result
             ((z : ℤ) → nat_abs z < 10 ^ 20 → HasValue self.now.decimal z → ⊥) }
     {
-        self.stripped(&mut [0; ROOM]).whole()
+        self.stripped(&mut [0; MAX_DIGITS]).whole()
     }
 
     /// The value where it is whole and an `i64`, whatever the shape. None where it has a fraction or is past the range. `2.0`

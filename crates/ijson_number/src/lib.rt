@@ -1,33 +1,21 @@
 //! Exact decimals, as JSON writes numbers.
+//!
+//! Tests: src/tests/numbers.rt
 #![tactic(auto)]
 
-mod clone;
-mod digit_row;
-mod digits;
-mod exponent;
-mod faults;
-mod few_digits;
+mod comparison;
 mod form;
-mod front;
-mod hash;
 mod integers;
 mod looks;
 mod number;
-mod order;
-mod push;
-mod reading;
-mod row;
-mod row_text;
-mod stored;
-mod stripped;
+mod parse;
+mod repr;
 #[cfg(test)]
 mod tests;
-mod text;
-mod word;
-mod written_row;
+mod write;
 
-pub use digit_row::{DigitRow, compare};
-pub use faults::first_fault;
+pub use comparison::{DigitRow, compare};
 pub use form::Form;
 pub use looks::Looks;
 pub use number::{INumber, ParseNumberError};
+pub use parse::fault::first_fault;

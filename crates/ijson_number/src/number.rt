@@ -5,13 +5,14 @@ ghost use Rattle.ijson_number.specs.Num.{IsNum};
 ghost use Rattle.ijson_number.specs.laws.Codes.{IsNum-prop};
 ghost use Rattle.ijson_number.specs.private.Stored.{stored_decimal};
 
-use crate::digits::push_in_place;
-use crate::exponent::read_power;
-use crate::front::{Front, goes_on, read_front, read_mantissa};
-use crate::reading::{self, Scanned, Spelling};
-use crate::stored::Stored;
-use crate::stripped::{ROOM, StrippedNumber};
-use arrayvec::ArrayVec;
+mod clone;
+mod hash;
+mod order;
+
+use crate::parse::exact;
+use crate::parse::exponent::read_power;
+use crate::parse::prefix::{Prefix, goes_on, read_mantissa};
+use crate::repr::stored::Stored;
 use std::alloc::{AllocError, Global};
 use std::marker::Model;
 use thiserror::Error;
@@ -25,6 +26,17 @@ pub enum ParseNumberError {
     /// The text spells a number whose stored form is a list of digits, and they found no memory.
     #[error("out of memory")]
     Memory,
+}
+
+/// `Memory`.
+impl From<AllocError> for ParseNumberError {
+    ghost use Rattle.ijson_number.specs.declared.number.ParseNumberError.TheVariants.{Memory};
+
+    ghost from_gives = { λ _ error. error ≡ Memory };
+
+    fn from(_refused: AllocError) -> ParseNumberError {
+        ParseNumberError::Memory
+    }
 }
 
 /// An exact decimal: zero, or a whole mantissa that ten doesn't divide times a power of ten whose exponent lies from
@@ -52,16 +64,13 @@ impl Model for INumber {
 }
 
 impl INumber {
-    ghost use Rattle.std.specs.Prelude.{◌+◌, ◌<◌, ◌≤◌, ◌^◌, List, ℕ, drop, length, take, true, IfNone, IfSome, OnErr};
-    ghost use Rattle.ijson_number.specs.Form.{form_of, is_digits};
-    ghost use Rattle.ijson_number.specs.Grammar.{AllDigits, Denotes, IsSpelled, Parts};
+    ghost use Rattle.std.specs.Prelude.{◌+◌, ◌<◌, ◌≤◌, ◌^◌, List, ℕ, drop, length, take, IfNone, IfSome, OnErr};
+    ghost use Rattle.ijson_number.specs.Grammar.{Parts};
     ghost use Rattle.ijson_number.specs.PlainFront.{GoesOnWithNone, IsPlainFront};
     ghost use Rattle.ijson_number.specs.PowerFront.{IsPowerFront, IsPowerTail};
     ghost use Rattle.ijson_number.specs.Refused.{IsRefused};
     ghost use Rattle.ijson_number.specs.declared.number.ParseNumberError.TheVariants.{Memory};
-    ghost use Rattle.ijson_number.specs.private.Front.{IsFront, IsMantissa, IsPowerSmall, front_number, power_number};
-    ghost use Rattle.ijson_number.specs.private.Scanned.{IsScanned, parts_of, scanned_number};
-    ghost use Rattle.ijson_number.specs.private.StrippedNumber.{decimal_of};
+    ghost use Rattle.ijson_number.specs.private.Prefix.{IsMantissa};
 
     /// The number that the whole text spells, with no white space round it. Memory is taken where the stored form is a
     /// list of digits alone. The time is linear in the length of the text, whatever the exponent. `1.50` and `15e-1` spell
@@ -71,58 +80,38 @@ impl INumber {
         ensures err { IfErr result (λ e. IsRefused text.now e) }
     {
         let bytes = text.as_bytes();
-        if let Some(front) = read_front(bytes) {
-            if front.length == bytes.len() {
-                let Ok(number) = INumber::from_front(alloc, &front) else {
-                    return Err(ParseNumberError::Memory);
-                };
-                return Ok(number);
-            }
+        let Ok(found) = INumber::in_one_pass(alloc, bytes) else {
+            return Err(ParseNumberError::Memory);
+        };
+        if let Some(number) = found {
+            return Ok(number);
         }
-        match reading::read(bytes) {
+        match exact::read(bytes) {
             Some(spelling) => INumber::from_spelling(alloc, &spelling),
             None => Err(ParseNumberError::Invalid),
         }
     }
 
-    /// The number of the parts.
-    fn from_spelling(alloc: Global, spelling: &Spelling<'_>) -> Result<INumber, ParseNumberError>
-        requires spelled { (text : List ℕ) × IsSpelled text (parts_of spelling.now) }
-        requires digits { AllDigits spelling.now.tail.exponent.now }
-        ensures ok { IfOk result (λ n. Denotes (parts_of spelling.now) n.decimal) }
-        ensures err { IfErr result (λ e. (text : List ℕ)
-            → IsSpelled text (parts_of spelling.now)
-            → IsRefused text e) }
+    /// The number that the whole text spells, where the pass of `at_front` reads all of it. No memory is taken before that is known.
+    fn in_one_pass(alloc: Global, text: &[u8]) -> Result<Option<INumber>, AllocError>
+        ensures found { IfOk result (λ found. IfSome found (λ n. Spells text.now n.decimal)) }
+        ensures refused { OnErr result (IsRefused text.now Memory) }
     {
-        let Some(scanned) = spelling.scan() else {
-            return Err(ParseNumberError::Invalid);
+        let Some((prefix, rest)) = read_mantissa(text) else {
+            return Ok(None);
         };
-        let Ok(number) = INumber::from_scanned(alloc, &scanned) else {
-            return Err(ParseNumberError::Memory);
-        };
-        Ok(number)
-    }
-
-    /// The number whose digits still lie in its text. Where there is room for them, they are made digits in it.
-    fn from_scanned(alloc: Global, scanned: &Scanned<'_>) -> Result<INumber, AllocError>
-        requires { IsScanned scanned.now }
-        ensures number { IfOk result (λ n. n.decimal ≡ scanned_number scanned.now) }
-        ensures refused { OnErr result (is_digits (form_of (scanned_number scanned.now)) ≡ true) }
-    {
-        if scanned.front.len() as u128 + scanned.back.len() as u128 > ROOM as u128 {
-            let stored = Stored::from_scanned(alloc, scanned)?;
-            return Ok(INumber { stored });
+        if rest.is_empty() {
+            let number = INumber::from_prefix(alloc, &prefix)?;
+            return Ok(Some(number));
         }
-        let mut digits: ArrayVec<u8, ROOM> = ArrayVec::new();
-        push_in_place(&mut digits, scanned.front);
-        push_in_place(&mut digits, scanned.back);
-        let number = StrippedNumber {
-            negative: scanned.negative,
-            digits: digits.as_slice(),
-            exponent: scanned.exponent,
-            point: scanned.point,
+        let Some((power, length)) = read_power(rest) else {
+            return Ok(None);
         };
-        INumber::from_stripped(alloc, &number)
+        if length < rest.len() {
+            return Ok(None);
+        }
+        let number = INumber::from_power(alloc, &prefix, power)?;
+        Ok(Some(number))
     }
 
     /// The number that the text begins with, and how many bytes spell it, in one pass over them, where it has at most 19
@@ -144,15 +133,15 @@ impl INumber {
         ensures refused { OnErr result ((count : ℕ)
             × IsRefused (take count text.now) Memory × GoesOnWithNone (drop count text.now)) }
     {
-        let Some((front, rest)) = read_mantissa(text.as_bytes()) else {
+        let Some((prefix, rest)) = read_mantissa(text.as_bytes()) else {
             return Ok(None);
         };
         if goes_on(rest) {
-            let found = INumber::with_exponent(alloc, &front, rest)?;
+            let found = INumber::with_exponent(alloc, &prefix, rest)?;
             return Ok(found);
         }
-        let number = INumber::from_front(alloc, &front)?;
-        Ok(Some((number, front.length)))
+        let number = INumber::from_prefix(alloc, &prefix)?;
+        Ok(Some((number, prefix.length)))
     }
 
     /// The number that the text begins with, where an exponent of few digits stands behind the others. It stays a call, since few
@@ -160,75 +149,26 @@ impl INumber {
     #[inline(never)]
     fn with_exponent(
         alloc: Global,
-        front: &Front,
+        prefix: &Prefix,
         rest: &[u8],
     ) -> Result<Option<(INumber, usize)>, AllocError>
-        requires mantissa { (text : List ℕ) × IsMantissa text front.now rest.now }
-        requires length { front.now.length + length rest.now < 2 ^ 64 }
-        ensures found { IfOk result (λ found. IfSome found (λ f. (text : List ℕ) → IsMantissa text front.now rest.now
+        requires mantissa { (text : List ℕ) × IsMantissa text prefix.now rest.now }
+        requires length { prefix.now.length + length rest.now < 2 ^ 64 }
+        ensures found { IfOk result (λ found. IfSome found (λ f. (text : List ℕ) → IsMantissa text prefix.now rest.now
             → (f.1 ≤ length text) × Spells (take f.1 text) f.0.decimal)) }
-        ensures stops { IfOk result (λ found. IfSome found (λ f. (text : List ℕ) → IsMantissa text front.now rest.now
+        ensures stops { IfOk result (λ found. IfSome found (λ f. (text : List ℕ) → IsMantissa text prefix.now rest.now
             → GoesOnWithNone (drop f.1 text))) }
         ensures power { IfOk result (λ found. IfSome found (λ f. (behind : List ℕ)
-            → IsPowerTail rest.now behind → f.1 + length behind ≡ front.now.length + length rest.now)) }
+            → IsPowerTail rest.now behind → f.1 + length behind ≡ prefix.now.length + length rest.now)) }
         ensures none { IfOk result (λ found. IfNone found ((behind : List ℕ) → IsPowerTail rest.now behind → ⊥)) }
-        ensures refused { OnErr result ((text : List ℕ) → IsMantissa text front.now rest.now
+        ensures refused { OnErr result ((text : List ℕ) → IsMantissa text prefix.now rest.now
             → (count : ℕ) × IsRefused (take count text) Memory × GoesOnWithNone (drop count text)) }
     {
         let Some((power, length)) = read_power(rest) else {
             return Ok(None);
         };
-        let number = INumber::from_power(alloc, front, power)?;
-        Ok(Some((number, front.length + length)))
-    }
-
-    /// The number of a front times a power of ten.
-    fn from_power(alloc: Global, front: &Front, power: i16) -> Result<INumber, AllocError>
-        requires few { front.now.places ≤ 19 }
-        requires small { front.now.size < 10 ^ 19 }
-        requires power { IsPowerSmall power }
-        requires num { IsNum (power_number front.now power) }
-        ensures number { IfOk result (λ n. n.decimal ≡ power_number front.now power) }
-        ensures refused { OnErr result (is_digits (form_of (power_number front.now power)) ≡ true) }
-    {
-        if let Some(short) = front.short_power(power) {
-            let number = Box::new(alloc, short)?;
-            return Ok(INumber {
-                stored: Stored::Short(number),
-            });
-        }
-        INumber::from_stripped(alloc, &front.stripped_power(power, &mut [0; ROOM]))
-    }
-
-    /// The number of a front.
-    #[inline(always)]
-    fn from_front(alloc: Global, front: &Front) -> Result<INumber, AllocError>
-        requires { (text : List ℕ) × IsFront text front.now }
-        ensures number { IfOk result (λ n. n.decimal ≡ front_number front.now) }
-        ensures refused { OnErr result (is_digits (form_of (front_number front.now)) ≡ true) }
-    {
-        if let Some(stored) = front.word() {
-            return Ok(INumber { stored });
-        }
-        if let Some(short) = front.short() {
-            let number = Box::new(alloc, short)?;
-            return Ok(INumber {
-                stored: Stored::Short(number),
-            });
-        }
-        INumber::from_stripped(alloc, &front.stripped(&mut [0; ROOM]))
-    }
-
-    /// The number of stripped digits.
-    fn from_stripped(alloc: Global, number: &StrippedNumber<'_>) -> Result<INumber, AllocError>
-        ensures number { IfOk result (λ n. n.decimal ≡ decimal_of number.now) }
-        ensures refused { OnErr result (is_digits (form_of (decimal_of number.now)) ≡ true) }
-    {
-        if let Some(stored) = number.stored() {
-            return Ok(INumber { stored });
-        }
-        let stored = Stored::from_stripped(alloc, number)?;
-        Ok(INumber { stored })
+        let number = INumber::from_power(alloc, prefix, power)?;
+        Ok(Some((number, prefix.length + length)))
     }
 
     /// Whether the number was written with a point or an exponent. `2.0` and `2e0` were, `2` was not.

@@ -1,5 +1,6 @@
 -- Chains of positions.
-use Rattle.std.proofs.Common.{◌≡◌, ◌∙◌, ap, ap₂, sym, subst, below_more, refl, ℕ, zero, suc, ◌+◌, ◌-◌, ◌<◌, ◌≤◌, true, false, List, [], ◌∷◌, ◌++◌, length, get_or, take, if◌then◌else◌, arith, length-append}
+use Rattle.std.proofs.Common.{◌≡◌, ◌∙◌, ap, ap₂, sym, subst, below_more, refl, ℕ, zero, suc, ◌+◌, ◌-◌, ◌<◌, ◌≤◌, true, false, List, [], ◌∷◌}
+use Rattle.std.proofs.Common.{◌++◌, length, get_or, take, if◌then◌else◌, arith, length-append}
 use Rattle.std.specs.Prelude.{◌==◌}
 use Rattle.std.proofs.Math.Dec.{eqb-suc-zero}
 use Rattle.std.proofs.Math.ListN.{set, get_or-append}
@@ -8,57 +9,57 @@ use Rattle.std.proofs.lemmas.Bool.{eqb-true}
 use Rattle.std.proofs.lemmas.Bool.Decides.{nat_tests}
 use Rattle.std.proofs.lemmas.Grind.{common_steps, get_or-set_at}
 use Rattle.std.proofs.lemmas.List.{length-set, take-append-le}
-use Rattle.ijson_string.specs.private.Chains.{last_of, IsChained}
+use Rattle.ijson_string.specs.private.Chains.{head_of, IsChained}
 
 -- no position is past the end
-pub last_of-within : (home : ℕ) (homes : List ℕ) → last_of home homes ≤ length homes
-last_of-within home [] = omega arith
-last_of-within home (h ∷ homes) = grind (arith, nat_tests, last_of-within home homes)
+pub head_of-within : (bucket : ℕ) (buckets : List ℕ) → head_of bucket buckets ≤ length buckets
+head_of-within bucket [] = omega arith
+head_of-within bucket (h ∷ buckets) = grind (arith, nat_tests, head_of-within bucket buckets)
 
--- and it is one of this home
-pub last_of-here : (home : ℕ) (homes : List ℕ) → 0 < last_of home homes → get_or homes (last_of home homes - 1) 0 ≡ home
-last_of-here home [] some = absurd (omega arith)
-last_of-here home (h ∷ homes) some =
-    elim (last_of home homes)
-    as (λ n. last_of home homes ≡ n → 0 < (if n == 0 then (if h == home then 1 else 0) else n + 1)
-    → get_or (h ∷ homes) ((if n == 0 then (if h == home then 1 else 0) else n + 1) - 1) 0 ≡ home) [
-      | zero ↦ λ _. elim (h == home)
-          as (λ b. (h == home) ≡ b → 0 < (if b then 1 else 0) → get_or (h ∷ homes) ((if b then 1 else 0) - 1) 0 ≡ home) [
-            | true ↦ λ is _. eqb-true h home is
+-- and it is one of this bucket
+pub head_of-here : (bucket : ℕ) (buckets : List ℕ) → 0 < head_of bucket buckets → get_or buckets (head_of bucket buckets - 1) 0 ≡ bucket
+head_of-here bucket [] some = absurd (omega arith)
+head_of-here bucket (h ∷ buckets) some =
+    elim (head_of bucket buckets)
+    as (λ n. head_of bucket buckets ≡ n → 0 < (if n == 0 then (if h == bucket then 1 else 0) else n + 1)
+    → get_or (h ∷ buckets) ((if n == 0 then (if h == bucket then 1 else 0) else n + 1) - 1) 0 ≡ bucket) [
+      | zero ↦ λ _. elim (h == bucket)
+          as (λ b. (h == bucket) ≡ b → 0 < (if b then 1 else 0) → get_or (h ∷ buckets) ((if b then 1 else 0) - 1) 0 ≡ bucket) [
+            | true ↦ λ is _. eqb-true h bucket is
             | false ↦ λ _ none. absurd (omega arith)
           ] refl
       | suc n ↦ λ e _.
-          let here = last_of-here home homes (omega arith) in
-          let back : last_of home homes - 1 ≡ n = omega arith in
+          let here = head_of-here bucket buckets (omega arith) in
+          let back : head_of bucket buckets - 1 ≡ n = omega arith in
           let on : suc n + 1 - 1 ≡ suc n = omega arith in
-          subst (λ b. get_or (h ∷ homes) ((if b then (if h == home then 1 else 0) else suc n + 1) - 1) 0 ≡ home)
+          subst (λ b. get_or (h ∷ buckets) ((if b then (if h == bucket then 1 else 0) else suc n + 1) - 1) 0 ≡ bucket)
           (sym (eqb-suc-zero n))
-          (subst (λ m. get_or (h ∷ homes) m 0 ≡ home) (sym on) (subst (λ m. get_or homes m 0 ≡ home) back here))
+          (subst (λ m. get_or (h ∷ buckets) m 0 ≡ bucket) (sym on) (subst (λ m. get_or buckets m 0 ≡ bucket) back here))
     ] refl some
 
--- the last position after one text more
-last_of-push : (home : ℕ) (homes : List ℕ) (h : ℕ)
-    → last_of home (homes ++ h ∷ []) ≡ (if h == home then length homes + 1 else last_of home homes)
-last_of-push home [] h = refl
-last_of-push home (x ∷ homes) h = rw (last_of-push home homes h) (grind (arith, nat_tests))
+-- the head of a bucket after one text more
+head_of-push : (bucket : ℕ) (buckets : List ℕ) (h : ℕ)
+    → head_of bucket (buckets ++ h ∷ []) ≡ (if h == bucket then length buckets + 1 else head_of bucket buckets)
+head_of-push bucket [] h = refl
+head_of-push bucket (x ∷ buckets) h = rw (head_of-push bucket buckets h) (grind (arith, nat_tests))
 
--- a text more becomes the last of its home, and leads to the one that was
-pub IsChained-push : (homes befores last : List ℕ) (h : ℕ) → IsChained homes befores last
-    → length befores ≡ length homes → h < length last
-    → IsChained (homes ++ h ∷ []) (befores ++ get_or last h 0 ∷ []) (set last h (length homes + 1))
-IsChained-push homes befores last h chained listed within = record {
-  ends = λ q lt.
-      let there : q < length last = rw (← length-set last h (length homes + 1)) lt in
-      rw (last_of-push q homes h) (grind (arith, nat_tests, common_steps, get_or-set_at, chained.ends q there));
+-- a text more becomes the head of its bucket, and leads to the one that was
+pub IsChained-push : (buckets nexts heads : List ℕ) (h : ℕ) → IsChained buckets nexts heads
+    → length nexts ≡ length buckets → h < length heads
+    → IsChained (buckets ++ h ∷ []) (nexts ++ get_or heads h 0 ∷ []) (set heads h (length buckets + 1))
+IsChained-push buckets nexts heads h chained listed within = record {
+  starts = λ q lt.
+      let there : q < length heads = rw (← length-set heads h (length buckets + 1)) lt in
+      rw (head_of-push q buckets h) (grind (arith, nat_tests, common_steps, get_or-set_at, chained.starts q there));
   links = λ p lt.
-      let one_more : length (homes ++ h ∷ []) ≡ length homes + 1 = length-append homes (h ∷ []) in
+      let one_more : length (buckets ++ h ∷ []) ≡ length buckets + 1 = length-append buckets (h ∷ []) in
       below_more
-      (λ q. get_or (befores ++ get_or last h 0 ∷ []) q 0 ≡ last_of (get_or (homes ++ h ∷ []) q 0) (take q (homes ++ h ∷ [])))
-      (length homes)
+      (λ q. get_or (nexts ++ get_or heads h 0 ∷ []) q 0 ≡ head_of (get_or (buckets ++ h ∷ []) q 0) (take q (buckets ++ h ∷ [])))
+      (length buckets)
       (λ q below.
-      get_or-append befores _ 0 q (omega arith) ∙ chained.links q below
-      ∙ sym (ap₂ last_of (get_or-append homes _ 0 q below) (take-append-le q homes _ (omega arith))))
-      (ap (λ n. get_or (befores ++ get_or last h 0 ∷ []) n 0) (sym listed) ∙ get_or-append_seam befores _ [] 0
-      ∙ chained.ends h within ∙ sym (ap₂ last_of (get_or-append_seam homes h [] 0) (take-append_seam homes (h ∷ []))))
+      get_or-append nexts _ 0 q (omega arith) ∙ chained.links q below
+      ∙ sym (ap₂ head_of (get_or-append buckets _ 0 q below) (take-append-le q buckets _ (omega arith))))
+      (ap (λ n. get_or (nexts ++ get_or heads h 0 ∷ []) n 0) (sym listed) ∙ get_or-append_seam nexts _ [] 0
+      ∙ chained.starts h within ∙ sym (ap₂ head_of (get_or-append_seam buckets h [] 0) (take-append_seam buckets (h ∷ []))))
       p (omega arith);
 }

@@ -11,10 +11,10 @@ use Rattle.std.proofs.lemmas.Bool.{eq-eqb}
 use Rattle.std.proofs.lemmas.List.{length-append, map-append}
 use Rattle.ijson_string.specs.Cache.{AreLong}
 use Rattle.ijson_string.specs.laws.Longer.{longer_empty, longer_insert}
-use Rattle.ijson_string.specs.private.Chains.{half_of}
+use Rattle.ijson_string.specs.private.Chains.{mixed}
 use Rattle.ijson_string.specs.private.IsCache.{set_of, IsCache}
 use Rattle.ijson_string.specs.private.Keys.{Key, texts_of, is_key, AreHashed}
-use Rattle.ijson_string.proofs.Sets.{order, exact, contains-from_list}
+use Rattle.ijson_string.proofs.TextSets.{order, exact, contains-from_list}
 
 -- a key more is a text more
 pub set_of-push : (keys : List Key) (k : Key) → set_of (keys ++ k ∷ []) ≡ set.insert (set_of keys) k.text
@@ -29,31 +29,33 @@ AreLong-push keys k all long = rw (set_of-push keys k) (longer_insert 7 (set_of 
 pub AreLong-none : (keys : List Key) → keys ≡ [] → AreLong (set_of keys)
 AreLong-none keys none = rw none (longer_empty 7)
 
-module _ (hash : List ℕ → ℕ) where
-  -- beside the half of its own text's hash, a key is told by its text alone
-  by_text : (half : ℕ) (q : List ℕ) (k : Key) → half ≡ half_of (hash q) → k.half ≡ half_of (hash k.text) → is_key half q k ≡ bytes_eq q k.text
-  by_text half q k e f = elim (bytes_eq q k.text) as (λ b. bytes_eq q k.text ≡ b → (nat_eq half k.half && b) ≡ b) [
-    | true ↦ λ same. ap (λ b. b && true) (eq-eqb half k.half (e ∙ ap (λ t. half_of (hash t)) ((bytes_decides q k.text).0 same) ∙ sym f))
-    | false ↦ λ _. and-false (nat_eq half k.half)
+module _ (text_hash : List ℕ → ℕ) where
+  -- beside the hash of its own text's hash, a key is told by its text alone
+  by_text : (hash : ℕ) (q : List ℕ) (k : Key) → hash ≡ mixed (text_hash q) → k.hash ≡ mixed (text_hash k.text)
+      → is_key hash q k ≡ bytes_eq q k.text
+  by_text hash q k e f = elim (bytes_eq q k.text) as (λ b. bytes_eq q k.text ≡ b → (nat_eq hash k.hash && b) ≡ b) [
+    | true ↦ λ same. ap (λ b. b && true) (eq-eqb hash k.hash (e ∙ ap (λ t. mixed (text_hash t)) ((bytes_decides q k.text).0 same) ∙ sym f))
+    | false ↦ λ _. and-false (nat_eq hash k.hash)
   ] refl
 
-  any-texts : (half : ℕ) (q : List ℕ) (keys : List Key) → half ≡ half_of (hash q) → AreHashed hash keys
-      → list_any (is_key half q) keys ≡ list_any (λ t. bytes_eq q t) (texts_of keys)
-  any-texts half q [] e all = refl
-  any-texts half q (k ∷ keys) e all = ap₂ ◌||◌ (by_text half q k e all.0) (any-texts half q keys e all.1)
+  any-texts : (hash : ℕ) (q : List ℕ) (keys : List Key) → hash ≡ mixed (text_hash q) → AreHashed text_hash keys
+      → list_any (is_key hash q) keys ≡ list_any (λ t. bytes_eq q t) (texts_of keys)
+  any-texts hash q [] e all = refl
+  any-texts hash q (k ∷ keys) e all = ap₂ ◌||◌ (by_text hash q k e all.0) (any-texts hash q keys e all.1)
 
   -- the set contains what is found
-  pub contains-set_of : (half : ℕ) (q : List ℕ) (keys : List Key) → half ≡ half_of (hash q) → AreHashed hash keys
-      → list_any (is_key half q) keys ≡ set.contains (set_of keys) q
-  contains-set_of half q keys e all = any-texts half q keys e all ∙ sym (contains-from_list (texts_of keys) q)
+  pub contains-set_of : (hash : ℕ) (q : List ℕ) (keys : List Key) → hash ≡ mixed (text_hash q) → AreHashed text_hash keys
+      → list_any (is_key hash q) keys ≡ set.contains (set_of keys) q
+  contains-set_of hash q keys e all = any-texts hash q keys e all ∙ sym (contains-from_list (texts_of keys) q)
 
-  hashed-push : (keys : List Key) (k : Key) → AreHashed hash keys → k.half ≡ half_of (hash k.text) → AreHashed hash (keys ++ k ∷ [])
+  hashed-push : (keys : List Key) (k : Key) → AreHashed text_hash keys → k.hash ≡ mixed (text_hash k.text)
+      → AreHashed text_hash (keys ++ k ∷ [])
   hashed-push [] k all e = (e, tt)
   hashed-push (x ∷ keys) k all e = (all.0, hashed-push keys k all.1 e)
 
   -- a text that is not there may be put behind the others
-  pub IsCache-push : (keys : List Key) (k : Key) → IsCache hash keys → k.half ≡ half_of (hash k.text)
-      → set.contains (set_of keys) k.text ≡ false → IsCache hash (keys ++ k ∷ [])
+  pub IsCache-push : (keys : List Key) (k : Key) → IsCache text_hash keys → k.hash ≡ mixed (text_hash k.text)
+      → set.contains (set_of keys) k.text ≡ false → IsCache text_hash (keys ++ k ∷ [])
   IsCache-push keys k cache hashed new = record {
     hashed = hashed-push keys k cache.hashed hashed;
     each_once =
@@ -63,7 +65,7 @@ module _ (hash : List ℕ → ℕ) where
   }
 
   -- no key is a cache
-  pub IsCache_none : (keys : List Key) → keys ≡ [] → IsCache hash keys
+  pub IsCache_none : (keys : List Key) → keys ≡ [] → IsCache text_hash keys
   IsCache_none keys none = rw none (record {
     hashed = tt;
     each_once = set.len-empty (slice_cmp nat_cmp);

@@ -1,8 +1,9 @@
 pub mod Chains
+pub mod Filters
 pub mod IsCache
 pub mod IsTable
 pub mod IsText
 pub mod Keys
+pub mod Recent
 pub mod Stored
-pub mod Kinds
 pub mod Table

@@ -5,8 +5,8 @@ ghost use Rattle.ijson_string.specs.Cache.{AreLong};
 ghost use Rattle.ijson_string.specs.laws.Texts.{AreLong-prop};
 ghost use Rattle.ijson_string.specs.private.IsCache.{set_of};
 
-use crate::hash::hash_of;
-use crate::table::{TextTable, half_of_hash};
+use crate::hash::{hash_of, mix};
+use crate::table::TextTable;
 use crate::text::IString;
 use std::alloc::{AllocError, Global};
 use std::hash::BuildHasher;
@@ -14,8 +14,7 @@ use std::marker::Model;
 
 /// A set of texts of more than 7 bytes, each kept once. `IString::intern` adds to it, and shares what it holds. A text stays
 /// until `clear`, also where nobody else has it. Beside its own memory it takes 24 bytes here, in two lists that double where they
-/// are full, and from 32 texts on 2 to 4 for the home that its hash leads to; from 4,096 texts on 16 KB are taken for notes of those
-/// that came again. At most 2^32 - 1 texts fit, and one more is refused as for want of memory. Texts that a stranger chose want a
+/// are full, and from 32 texts on 2 to 4 for the bucket of its hash; from 4,096 texts on 16 KB lead to those that came again. At most 2^32 - 1 texts fit, and one more is refused as for want of memory. Texts that a stranger chose want a
 /// hasher with a random seed, as `RandomState` is.
 #[derive(Drop)]
 pub struct StringCache<S: BuildHasher> {
@@ -73,8 +72,8 @@ impl<S: BuildHasher> StringCache<S> {
         ensures exact { result ≡ set.contains self.now.texts text.now }
         ensures short { length text.now ≤ 7 → result ≡ false }
     {
-        let half = half_of_hash(hash_of(&self.hasher, text));
-        self.texts.find(half, text).is_some()
+        let hash = mix(hash_of(&self.hasher, text));
+        self.texts.find(hash, text).is_some()
     }
 
     /// Takes out every text. Each `IString` keeps the text that it has. The room for the most texts that there were stays, and it
@@ -93,13 +92,13 @@ impl<S: BuildHasher> StringCache<S> {
         ensures added { OnOk result (self.new.texts ≡ set.insert self.old.texts text.now) }
         ensures refused { OnErr result (self.new ≡ self.old) }
     {
-        let half = half_of_hash(hash_of(&self.hasher, text));
-        if let Some(position) = self.texts.find(half, text) {
-            return self.texts.shared(half, position);
+        let hash = mix(hash_of(&self.hasher, text));
+        if let Some(position) = self.texts.find(hash, text) {
+            return self.texts.shared(hash, position);
         }
         let shared = IString::long(self.alloc, text)?;
         let text = shared.clone()?;
-        self.texts.push(half, text)?;
+        self.texts.push(hash, text)?;
         Ok(shared)
     }
 }

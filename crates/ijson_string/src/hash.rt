@@ -1,9 +1,13 @@
 //! The hash of a text.
+ghost use Rattle.ijson_string.specs.private.Chains.{mixed};
 ghost use Rattle.std.specs.Prelude.{[], ◌∷◌, ◌≡◌, fold};
 ghost use Rattle.std.proofs.Common.{ap};
 ghost use Rattle.std.specs.Cmp.Lexicographic.{bytes_decides};
 
 use std::hash::{BuildHasher, Hash, Hasher};
+
+/// An odd number whose bits show no pattern: 2^64 by the golden ratio.
+const MIXER: u64 = 0x9E37_79B9_7F4A_7C15;
 
 /// A text as it is hashed: its bytes in one write, with nothing behind them, since nothing but the text is hashed.
 #[derive(Clone, Copy, PartialEq, Eq)]
@@ -28,4 +32,13 @@ pub(crate) fn hash_of<S: BuildHasher>(hasher: &S, text: &str) -> u64
     hasher.hash_one(TextBytes {
         bytes: text.as_bytes(),
     })
+}
+
+/// A hash in 32 bits: the upper half of a product in which each bit of the hash counts, so that a hasher which leaves some bits as
+/// they are does too.
+#[tactic(auto, unfolding(crate::specs::private::Chains::mixed))]
+pub(crate) fn mix(hash: u64) -> u32
+    ensures { result ≡ mixed hash }
+{
+    (hash.wrapping_mul(MIXER) >> 32) as u32
 }

@@ -1,4 +1,6 @@
 //! Immutable texts: up to 7 bytes are kept in place, and longer texts are shared through a cache.
+//!
+//! Tests: `src/tests/`; refused memory in the tests of `ijson_extra`; caches of readers and seeds in those of `ijson_compact`.
 #![tactic(auto)]
 
 mod block;

@@ -5,7 +5,7 @@ pub mod Inserts
 pub mod Steps
 pub mod Fold
 pub mod Crowd
-pub mod Places
+pub mod Slots
 pub mod Sees
 pub mod Placed
 pub mod laws

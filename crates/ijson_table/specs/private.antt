@@ -1,10 +1,10 @@
 pub mod Closing
 pub mod FirstPlaced
+pub mod HashIndex
 pub mod Holds
 pub mod Insertion
 pub mod IsPlaced
 pub mod Lookup
-pub mod PlaceHashes
-pub mod PlaceList
 pub mod Probe
 pub mod Room
+pub mod SlotHashes

@@ -1,18 +1,14 @@
 //! Stores of pairs with distinct keys, in insertion order.
+//!
+//! Tests: `src/tests.rt` and `src/tests/`, refused memory too.
 #![tactic(auto)]
 
 mod commands;
 mod fixed;
 mod growth;
 mod hash;
+mod index;
 mod linear;
-mod lookup;
-mod modulus;
-mod place;
-mod place_list;
-mod places;
-mod probe;
-mod shifts;
 mod store;
 mod table;
 #[cfg(test)]
@@ -21,7 +17,7 @@ mod tests;
 pub use commands::{Command, Reply, run};
 pub use fixed::FixedTable;
 pub use hash::{FixedHash, KeyHash};
+pub use index::places::{Places, Seen, locate};
 pub use linear::LinearPairs;
-pub use places::{Places, Seen, locate};
 pub use store::{PairStore, RefusedPair, ReserveError};
 pub use table::Table;

@@ -18,12 +18,11 @@ use std::marker::Model;
 #[derive(Debug, Drop)]
 pub struct LinearPairs<V> {
     pairs: Vec<(IString, V)>,
-    capacity: usize,
     ghost distinct: { IsDistinct (keys_of pairs.items) } by { IsDistinct-prop (keys_of pairs.items) },
 }
 
 impl<V> Model for LinearPairs<V> {
-    ghost use Rattle.std.specs.Prelude.{◌≡◌, vec_capacity, length};
+    ghost use Rattle.std.specs.Prelude.{vec_capacity, length};
     ghost use Rattle.ijson_table.specs.Store.{Store};
     ghost use Rattle.ijson_table.specs.laws.Store.{store_code};
     ghost use Rattle.ijson_table.specs.private.Room.{HasRoom};
@@ -32,9 +31,9 @@ impl<V> Model for LinearPairs<V> {
 
     ghost coded = { store_code V.code };
 
-    ghost view = { λ s. record { pairs = s.pairs.items; capacity = s.capacity; distinct = s.distinct } };
+    ghost view = { λ s. record { pairs = s.pairs.items; capacity = vec_capacity s.pairs; distinct = s.distinct } };
 
-    ghost invariant = { λ s. HasRoom (length s.pairs.items) s.capacity × (s.capacity ≡ vec_capacity s.pairs) };
+    ghost invariant = { λ s. HasRoom (length s.pairs.items) (vec_capacity s.pairs) };
 }
 
 /// The position of a key.
@@ -60,7 +59,6 @@ impl<V> LinearPairs<V> {
         let capacity = limited(capacity)?;
         Ok(LinearPairs {
             pairs: list_with_room(alloc, capacity)?,
-            capacity,
         })
     }
 
@@ -107,7 +105,6 @@ impl<V: Drop> PairStore<V> for LinearPairs<V> {
     fn new(alloc: Global) -> Self {
         LinearPairs {
             pairs: Vec::new(alloc),
-            capacity: 0,
         }
     }
 
@@ -116,28 +113,24 @@ impl<V: Drop> PairStore<V> for LinearPairs<V> {
     }
 
     fn capacity(&self) -> usize {
-        self.capacity
+        self.pairs.capacity()
     }
 
     fn reserve(&mut self, additional: usize) -> Result<(), ReserveError> {
-        let len = self.pairs.len();
-        if additional <= self.capacity - len {
+        let (len, room) = (self.pairs.len(), self.pairs.capacity());
+        if additional <= room - len {
             return Ok(());
         }
-        let capacity = grown_capacity(len, self.capacity, additional)?;
-        self.pairs.reserve_exact(capacity - len)?;
-        self.capacity = capacity;
-        Ok(())
+        let capacity = grown_capacity(len, room, additional)?;
+        Ok(self.pairs.reserve_exact(capacity - len)?)
     }
 
     fn shrink_to_fit(&mut self) -> Result<(), ReserveError> {
         let len = self.pairs.len();
-        if self.capacity == len {
+        if self.pairs.capacity() == len {
             return Ok(());
         }
-        fit(*self.pairs.allocator(), &mut self.pairs)?;
-        self.capacity = len;
-        Ok(())
+        Ok(fit(*self.pairs.allocator(), &mut self.pairs)?)
     }
 
     fn position(&self, key: &str) -> Option<usize> {

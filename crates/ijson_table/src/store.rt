@@ -46,6 +46,17 @@ pub struct RefusedPair<V> {
     pub why: ReserveError,
 }
 
+/// Why there is no room. The pair that came back is dropped.
+impl<V: Drop> From<RefusedPair<V>> for ReserveError {
+    ghost use Rattle.std.specs.Prelude.{◌≡◌};
+
+    ghost from_gives = { λ refused why. why ≡ refused.why };
+
+    fn from(refused: RefusedPair<V>) -> ReserveError {
+        refused.why
+    }
+}
+
 /// A list of pairs with distinct keys, and a capacity: the number of pairs that it has room for. A list takes 16 bytes and
 /// those of a value for each pair of its capacity. A table takes 20 more, and hashes no key again when it grows, shrinks or is
 /// copied.
@@ -124,7 +135,7 @@ pub trait PairStore<V>: Sized {
         ensures room { room self.new ≡ room self.old };
 
     /// Takes out the pair at a position. The last pair moves there. A list does it in constant time; a table hashes both keys,
-    /// and closes the gap among the places. It takes no memory.
+    /// and closes the gap among the slots. It takes no memory.
     fn swap_out(&mut self, index: usize) -> (IString, V)
         requires { index < length (pairs self.old) }
         ensures pair { slice_get (pairs self.old) index ≡ Some result }
@@ -132,7 +143,7 @@ pub trait PairStore<V>: Sized {
         ensures room { room self.new ≡ room self.old };
 
     /// Takes out the pair at a position. Those behind it move one forward. That needs no memory, and time linear in their count;
-    /// a table goes over all its places too, unless the pair is the last.
+    /// a table goes over all its slots too, unless the pair is the last.
     fn shift_out(&mut self, index: usize) -> (IString, V)
         requires { index < length (pairs self.old) }
         ensures pair { slice_get (pairs self.old) index ≡ Some result }
@@ -143,7 +154,7 @@ pub trait PairStore<V>: Sized {
     fn into_pairs(self) -> Vec<(IString, V)>
         ensures { result.items ≡ pairs self };
 
-    /// Drops each pair. The capacity stays. A table goes over all its places too.
+    /// Drops each pair. The capacity stays. A table goes over all its slots too.
     fn clear(&mut self)
         ensures pairs { pairs self.new ≡ [] }
         ensures room { room self.new ≡ room self.old };

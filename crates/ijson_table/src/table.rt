@@ -4,7 +4,7 @@ ghost use Rattle.std.specs.Prelude.{◌≡◌, ◌+◌, ◌-◌, ◌<◌, ◌≤
 ghost use Rattle.std.specs.Prelude.{Ok, Err, refl, IfOk, IsOk, OnErr, ◌↔◌, None};
 ghost use Rattle.ijson_table.specs.Store.{at, keys_of, swap_out, IsDistinct, lookup};
 ghost use Rattle.ijson_table.specs.laws.Store.{IsDistinct-prop};
-ghost use Rattle.ijson_table.specs.Places.{IsBounded, IsTable};
+ghost use Rattle.ijson_table.specs.Slots.{IsBounded, IsTable};
 ghost use Rattle.ijson_table.specs.Growth.{capacity_limit};
 ghost use Rattle.ijson_table.specs.Inserts.{Inserts};
 ghost use Rattle.ijson_table.specs.laws.Placed.{placed_with_value};
@@ -15,11 +15,10 @@ mod from_list;
 
 use crate::growth::{fit, grown_capacity, limited, list_with_room, tighten};
 use crate::hash::KeyHash;
-use crate::lookup::{Lookup, has_key};
-use crate::modulus::Modulus;
-use crate::place_list::PlaceList;
-use crate::places::{Places, Seen, locate};
-use crate::probe::{Probed, probe};
+use crate::index::Index;
+use crate::index::places::{Places, Seen, locate};
+use crate::index::probe::{Lookup, Probed, has_key, probe};
+use crate::index::slot::Modulus;
 use crate::store::{PairStore, RefusedPair, ReserveError};
 use ijson_number::Looks;
 use ijson_string::IString;
@@ -27,20 +26,19 @@ use std::alloc::{AllocError, Global};
 use std::marker::{Model, PhantomData};
 use std::mem;
 
-/// Pairs in a list, and their positions in places by the hash of their keys. A place is 16 bytes, and there are five for four
+/// Pairs in a list, and their positions in slots by the hash of their keys. A slot is 16 bytes, and there are five for four
 /// pairs of the capacity. A look-up goes to the memory of a key only where the hashes are the same.
 #[derive(Debug, Drop)]
 pub struct Table<V, H: KeyHash> {
     pairs: Vec<(IString, V)>,
-    places: PlaceList,
-    capacity: usize,
+    index: Index,
     alloc: Global,
     hash: PhantomData<H>,
     ghost distinct: { IsDistinct (keys_of pairs.items) } by { IsDistinct-prop (keys_of pairs.items) },
 }
 
 impl<V, H: KeyHash> Model for Table<V, H> {
-    ghost use Rattle.std.specs.Prelude.{◌≡◌, vec_capacity};
+    ghost use Rattle.std.specs.Prelude.{vec_capacity};
     ghost use Rattle.ijson_table.specs.Placed.{Placed};
     ghost use Rattle.ijson_table.specs.laws.Placed.{placed_code};
     ghost use Rattle.ijson_table.specs.private.IsPlaced.{IsPlaced};
@@ -50,12 +48,11 @@ impl<V, H: KeyHash> Model for Table<V, H> {
     ghost coded = { placed_code V.code };
 
     ghost view = { λ t. record {
-      store = record { pairs = t.pairs.items; capacity = t.capacity; distinct = t.distinct };
-      places = t.places.slots;
+      store = record { pairs = t.pairs.items; capacity = vec_capacity t.pairs; distinct = t.distinct };
+      slots = t.index.slots;
     } };
 
-    ghost invariant = { λ t. IsPlaced H.hash_of t.pairs.items t.capacity t.places
-        × (t.capacity ≡ vec_capacity t.pairs) };
+    ghost invariant = { λ t. IsPlaced H.hash_of t.pairs.items (vec_capacity t.pairs) t.index };
 }
 
 impl<V: Drop, H: KeyHash> Table<V, H> {
@@ -68,11 +65,10 @@ impl<V: Drop, H: KeyHash> Table<V, H> {
     {
         let capacity = limited(capacity)?;
         let pairs = list_with_room(alloc, capacity)?;
-        let places = PlaceList::with_places(alloc, capacity + capacity / 4)?;
+        let index = Index::with_slots(alloc, capacity + capacity / 4)?;
         Ok(Table {
             pairs,
-            places,
-            capacity,
+            index,
             alloc,
             hash: PhantomData,
         })
@@ -92,13 +88,12 @@ impl<V: Drop, H: KeyHash> Table<V, H> {
         ensures refused { OnErr result (0 < length pairs.items) }
     {
         let capacity = pairs.len();
-        let mut places = PlaceList::with_places(alloc, capacity + capacity / 4)?;
+        let mut index = Index::with_slots(alloc, capacity + capacity / 4)?;
         tighten(alloc, &mut pairs)?;
-        places.rehash_from(&self.places);
+        index.rehash_from(&self.index);
         Ok(Table {
             pairs,
-            places,
-            capacity,
+            index,
             alloc,
             hash: PhantomData,
         })
@@ -106,7 +101,7 @@ impl<V: Drop, H: KeyHash> Table<V, H> {
 
     /// Puts a pair. A key that is there keeps its place and needs no memory, and its old value is answered; a new key
     /// goes last, in room that is made first where there is none. Where that is refused, the pair comes back. It walks
-    /// the places once, and once more only where the store grew. Its key is hashed once.
+    /// the slots once, and once more only where the store grew. Its key is hashed once.
     pub fn insert(&mut self, key: IString, value: V) -> Result<Option<V>, RefusedPair<V>>
         ensures { Inserts self.old.store.pairs self.old.store.capacity key value result
             self.new.store.pairs self.new.store.capacity }
@@ -114,7 +109,7 @@ impl<V: Drop, H: KeyHash> Table<V, H> {
         self.insert_counted(key, value, &mut Looks::new())
     }
 
-    /// The same, and each place that it looks at for the key is counted. The walk that puts the pair down after a growth is not
+    /// The same, and each slot that it looks at for the key is counted. The walk that puts the pair down after a growth is not
     /// counted.
     #[inline(always)]
     pub fn insert_counted(
@@ -127,16 +122,16 @@ impl<V: Drop, H: KeyHash> Table<V, H> {
         ensures inserts { Inserts self.old.store.pairs self.old.store.capacity key value result
             self.new.store.pairs self.new.store.capacity }
         ensures grows { looks.old ≤ looks.new }
-        ensures bounded { IsBounded H.hash_of (keys_of self.old.store.pairs) self.old.places
+        ensures bounded { IsBounded H.hash_of (keys_of self.old.store.pairs) self.old.slots
             self.old.store.capacity key (looks.new - looks.old) }
     {
         let position = self.pairs.len();
         let hash = H::hash(key.as_str());
         match self.find(hash, key.as_str(), looks) {
             Probed::Found(at, _) => Ok(Some(mem::replace(self.value_mut(at), value))),
-            Probed::Vacant(place) if position < self.capacity => {
+            Probed::Vacant(slot) if position < self.pairs.capacity() => {
                 self.pairs.push_reserved((key, value));
-                self.places.push_at(place, position, hash);
+                self.index.push_at(slot, position, hash);
                 Ok(None)
             }
             Probed::Vacant(_) | Probed::Full => self.push_grown(key, value, hash),
@@ -155,7 +150,7 @@ impl<V: Drop, H: KeyHash> Table<V, H> {
         }
         let position = self.pairs.len();
         self.pairs.push_reserved((key, value));
-        self.places.push(position, hash);
+        self.index.push(position, hash);
         Ok(None)
     }
 }
@@ -176,13 +171,13 @@ impl<V, H: KeyHash> Table<V, H> {
         self.get_counted(key, &mut Looks::new())
     }
 
-    /// The same, and each place that it looks at is counted.
+    /// The same, and each slot that it looks at is counted.
     #[inline(always)]
     pub fn get_counted(&self, key: &str, looks: &mut Looks) -> Option<&V>
         requires { looks.old + capacity_limit + 1 < 2 ^ 128 }
         ensures value { option_copied result ≡ lookup key.now self.now.store.pairs }
         ensures grows { looks.old ≤ looks.new }
-        ensures bounded { IsBounded H.hash_of (keys_of self.now.store.pairs) self.now.places
+        ensures bounded { IsBounded H.hash_of (keys_of self.now.store.pairs) self.now.slots
             self.now.store.capacity key.now (looks.new - looks.old) }
     {
         match self.find(H::hash(key), key, looks).found() {
@@ -203,20 +198,20 @@ impl<V, H: KeyHash> Table<V, H> {
     fn find(&self, hash: u64, key: &str, looks: &mut Looks) -> Probed
         requires hash { hash ≡ H.hash_of key.now }
         requires fits { looks.old + capacity_limit + 1 < 2 ^ 128 }
-        ensures table { IsTable (map H.hash_of (keys_of self.now.store.pairs)) self.now.places }
+        ensures table { IsTable (map H.hash_of (keys_of self.now.store.pairs)) self.now.slots }
         ensures ends { LookUpEnds (map H.hash_of (keys_of self.now.store.pairs))
-            (keys_of self.now.store.pairs) self.now.places (H.hash_of key.now) key.now result }
+            (keys_of self.now.store.pairs) self.now.slots (H.hash_of key.now) key.now result }
         ensures grows { looks.old ≤ looks.new }
-        ensures bounded { IsBounded H.hash_of (keys_of self.now.store.pairs) self.now.places
+        ensures bounded { IsBounded H.hash_of (keys_of self.now.store.pairs) self.now.slots
             self.now.store.capacity key.now (looks.new - looks.old) }
     {
-        if self.places.len() == 0 {
+        if self.index.len() == 0 {
             return Probed::Full;
         }
         let lookup = Lookup {
             pairs: &self.pairs,
-            places: &self.places,
-            modulus: Modulus::new(self.places.len()),
+            index: &self.index,
+            modulus: Modulus::new(self.index.len()),
             hash,
             key,
         };
@@ -240,27 +235,27 @@ impl<V, H: KeyHash> Places for Table<V, H> {
 
     ghost room = { λ t. t.store.capacity };
 
-    ghost slots = { λ t. t.places };
+    ghost slots = { λ t. t.slots };
 
     ghost distinct = { λ t. t.store.distinct };
 
     fn places(&self) -> usize {
-        self.places.len()
+        self.index.len()
     }
 
     fn home(&self, key: &str) -> usize {
-        Modulus::new(self.places.len()).home_of_hash(H::hash(key))
+        Modulus::new(self.index.len()).home_of_hash(H::hash(key))
     }
 
-    fn look(&self, place: usize, key: &str, looks: &mut Looks) -> Seen {
+    fn look(&self, slot: usize, key: &str, looks: &mut Looks) -> Seen {
         looks.add_one();
-        let modulus = Modulus::new(self.places.len());
-        let there = self.places.at(place);
+        let modulus = Modulus::new(self.index.len());
+        let there = self.index.at(slot);
         let same = match there.position() {
             None => false,
             Some(at) => has_key(&self.pairs, at, key),
         };
-        there.seen(modulus, place, same)
+        there.seen(modulus, slot, same)
     }
 }
 
@@ -282,8 +277,7 @@ impl<V: Drop, H: KeyHash> PairStore<V> for Table<V, H> {
     fn new(alloc: Global) -> Self {
         Table {
             pairs: Vec::new(alloc),
-            places: PlaceList::new(alloc),
-            capacity: 0,
+            index: Index::new(alloc),
             alloc,
             hash: PhantomData,
         }
@@ -294,33 +288,31 @@ impl<V: Drop, H: KeyHash> PairStore<V> for Table<V, H> {
     }
 
     fn capacity(&self) -> usize {
-        self.capacity
+        self.pairs.capacity()
     }
 
     fn reserve(&mut self, additional: usize) -> Result<(), ReserveError> {
-        let len = self.pairs.len();
-        if additional <= self.capacity - len {
+        let (len, room) = (self.pairs.len(), self.pairs.capacity());
+        if additional <= room - len {
             return Ok(());
         }
-        let capacity = grown_capacity(len, self.capacity, additional)?;
-        let mut places = PlaceList::with_places(self.alloc, capacity + capacity / 4)?;
+        let capacity = grown_capacity(len, room, additional)?;
+        let mut index = Index::with_slots(self.alloc, capacity + capacity / 4)?;
         self.pairs.reserve_exact(capacity - len)?;
-        places.rehash_from(&self.places);
-        self.places = places;
-        self.capacity = capacity;
+        index.rehash_from(&self.index);
+        self.index = index;
         Ok(())
     }
 
     fn shrink_to_fit(&mut self) -> Result<(), ReserveError> {
         let len = self.pairs.len();
-        if self.capacity == len {
+        if self.pairs.capacity() == len {
             return Ok(());
         }
-        let mut places = PlaceList::with_places(self.alloc, len + len / 4)?;
+        let mut index = Index::with_slots(self.alloc, len + len / 4)?;
         fit(self.alloc, &mut self.pairs)?;
-        places.rehash_from(&self.places);
-        self.places = places;
-        self.capacity = len;
+        index.rehash_from(&self.index);
+        self.index = index;
         Ok(())
     }
 
@@ -340,7 +332,7 @@ impl<V: Drop, H: KeyHash> PairStore<V> for Table<V, H> {
         let position = self.pairs.len();
         let hash = H::hash(key.as_str());
         self.pairs.push_reserved((key, value));
-        self.places.push(position, hash);
+        self.index.push(position, hash);
     }
 
     fn swap_out(&mut self, index: usize) -> (IString, V) {
@@ -350,14 +342,14 @@ impl<V: Drop, H: KeyHash> PairStore<V> for Table<V, H> {
         }
         let hash = self.hash_at(index);
         let last_hash = self.hash_at(last);
-        self.places.swap_remove(index, hash, last, last_hash);
+        self.index.swap_remove(index, hash, last, last_hash);
         self.pairs.swap_remove(index)
     }
 
     fn shift_out(&mut self, index: usize) -> (IString, V) {
         let last = self.pairs.len() - 1;
         let hash = self.hash_at(index);
-        self.places.shift_remove(index, hash, last);
+        self.index.shift_remove(index, hash, last);
         self.pairs.remove(index)
     }
 
@@ -372,7 +364,7 @@ impl<V: Drop, H: KeyHash> PairStore<V> for Table<V, H> {
 
     fn clear(&mut self) {
         self.pairs.clear();
-        self.places.clear();
+        self.index.clear();
     }
 
     ghost set_value_is = { λ t i v. (refl, refl) };

@@ -68,18 +68,18 @@ fn finds<H: KeyHash>(
         && looks_of_get.count() == count
 }
 
-/// Whether these are the positions at the places, 9 where one is empty.
-fn has_places<P: Places>(table: &P, positions: &[usize]) -> bool {
+/// Whether these are the positions in the slots, 9 where one is empty.
+fn has_positions<P: Places>(table: &P, positions: &[usize]) -> bool {
     if table.places() != positions.len() {
         return false;
     }
-    for place in 0..table.places() {
+    for slot in 0..table.places() {
         let mut looks = Looks::new();
-        let position = match table.look(place, "", &mut looks) {
+        let position = match table.look(slot, "", &mut looks) {
             Seen::Empty => 9,
             Seen::Resident { at, .. } => at,
         };
-        if positions[place] != position {
+        if positions[slot] != position {
             return false;
         }
     }
@@ -161,7 +161,7 @@ const SHORT_KEYS: [&str; 4] = ["a", "bb", "c", "dd"];
 #[test]
 fn lengths_meet(rt: HostRuntime) {
     let table = of_lengths(&rt, rt.alloc(), &SHORT_KEYS);
-    assert!(rt; table.capacity() == 4 && has_places(&table, &[9, 0, 2, 1, 3]));
+    assert!(rt; table.capacity() == 4 && has_positions(&table, &[9, 0, 2, 1, 3]));
     assert!(rt; finds(&table, "dd", Some(3), 3));
     assert!(rt; finds(&table, "z", None, 3) && finds(&table, "zz", None, 4));
 }
@@ -186,7 +186,7 @@ fn the_last_pair_moves_into_a_gap(rt: HostRuntime) {
     let removed = remove(&rt, rt.alloc(), &mut table, "a");
     assert!(rt; removed == Reply::Removed(Some((key(&rt, rt.alloc(), "a"), 0))));
     assert!(rt; has_keys(table.as_slice(), &["dd", "bb", "c"]));
-    assert!(rt; has_places(&table, &[9, 2, 1, 0, 9]));
+    assert!(rt; has_positions(&table, &[9, 2, 1, 0, 9]));
     assert!(rt; table.position("c") == Some(2) && table.position("dd") == Some(0));
 }
 
@@ -195,16 +195,16 @@ fn pairs_behind_a_gap_move_forward(rt: HostRuntime) {
     let mut table = of_lengths(&rt, rt.alloc(), &SHORT_KEYS);
     shift_remove(&rt, rt.alloc(), &mut table, "a");
     assert!(rt; has_keys(table.as_slice(), &["bb", "c", "dd"]));
-    assert!(rt; has_places(&table, &[9, 1, 0, 2, 9]) && table.position("dd") == Some(2));
+    assert!(rt; has_positions(&table, &[9, 1, 0, 2, 9]) && table.position("dd") == Some(2));
 }
 
 #[test]
 fn lengths_meet_round_the_end(rt: HostRuntime) {
     let mut table = of_lengths(&rt, rt.alloc(), &["aaaa", "bbbb", "ccccc"]);
-    assert!(rt; has_places(&table, &[1, 2, 9, 9, 0]));
+    assert!(rt; has_positions(&table, &[1, 2, 9, 9, 0]));
     remove(&rt, rt.alloc(), &mut table, "aaaa");
     assert!(rt; has_keys(table.as_slice(), &["ccccc", "bbbb"]));
-    assert!(rt; has_places(&table, &[0, 9, 9, 9, 1]));
+    assert!(rt; has_positions(&table, &[0, 9, 9, 9, 1]));
     assert!(rt; finds(&table, "dddd", None, 2));
 }
 
@@ -212,9 +212,9 @@ fn lengths_meet_round_the_end(rt: HostRuntime) {
 #[test]
 fn growth_keeps_the_order_of_a_home(rt: HostRuntime) {
     let mut table = of_lengths(&rt, rt.alloc(), &["aaaa", "bbbb", "cccc", "dddd"]);
-    assert!(rt; has_places(&table, &[1, 2, 3, 9, 0]));
+    assert!(rt; has_positions(&table, &[1, 2, 3, 9, 0]));
     insert_all(&rt, rt.alloc(), &mut table, &["eeee"]);
-    assert!(rt; has_places(&table, &[9, 9, 9, 9, 0, 1, 2, 3, 4, 9]));
+    assert!(rt; has_positions(&table, &[9, 9, 9, 9, 0, 1, 2, 3, 4, 9]));
 }
 
 #[test]
@@ -235,7 +235,7 @@ fn full(rt: &impl Abort, alloc: Global, keys: &[&str]) -> Table<u64, AlwaysZero>
 }
 
 #[test]
-fn one_place(rt: HostRuntime) {
+fn one_slot(rt: HostRuntime) {
     let table = full(&rt, rt.alloc(), &["a"]);
     assert!(rt; table.capacity() == 1 && table.places() == 1);
     assert!(rt; finds(&table, "a", Some(0), 1));
@@ -243,14 +243,14 @@ fn one_place(rt: HostRuntime) {
 }
 
 #[test]
-fn full_to_the_last_place(rt: HostRuntime) {
+fn full_to_the_last_slot(rt: HostRuntime) {
     let mut table = full(&rt, rt.alloc(), &["a", "b", "c"]);
-    assert!(rt; table.capacity() == 3 && has_places(&table, &[0, 1, 2]));
+    assert!(rt; table.capacity() == 3 && has_positions(&table, &[0, 1, 2]));
     assert!(rt; finds(&table, "z", None, 3));
     remove(&rt, rt.alloc(), &mut table, "a");
     assert!(rt; has_keys(table.as_slice(), &["c", "b"]));
     assert!(rt; table.position("c") == Some(0) && table.position("b") == Some(1));
-    assert!(rt; has_places(&table, &[1, 0, 9]));
+    assert!(rt; has_positions(&table, &[1, 0, 9]));
 }
 
 /// The homes of a, b, c and d are 2, 3, 4 and 0 of 5.
@@ -260,7 +260,7 @@ fn fixed_hashes(rt: HostRuntime) {
     assert!(rt; FixedHash::hash("a") == 0xaf63_bd4c_8601_b840);
     let mut table = FixedTable::new(rt.alloc());
     insert_all(&rt, rt.alloc(), &mut table, &["a", "b", "c", "d"]);
-    assert!(rt; has_places(&table, &[3, 9, 0, 1, 2]));
+    assert!(rt; has_positions(&table, &[3, 9, 0, 1, 2]));
     assert!(rt; table.places() > 0 && table.home("d") == 0);
     assert!(rt; finds(&table, "d", Some(3), 1));
 }
@@ -368,12 +368,12 @@ fn the_limit(rt: HostRuntime) {
 }
 
 #[test]
-fn a_table_has_five_places_for_four_pairs(rt: HostRuntime) {
-    for (capacity, places) in [(0, 0), (3, 3), (4, 5), (8, 10), (10, 12)] {
+fn a_table_has_five_slots_for_four_pairs(rt: HostRuntime) {
+    for (capacity, slots) in [(0, 0), (3, 3), (4, 5), (8, 10), (10, 12)] {
         let table: FixedTable<u64> = Table::with_capacity(rt.alloc(), capacity).expect(
             &rt, "a table",
         );
-        assert!(rt; table.capacity() == capacity && table.places() == places);
+        assert!(rt; table.capacity() == capacity && table.places() == slots);
     }
 }
 

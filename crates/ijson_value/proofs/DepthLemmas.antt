@@ -3,7 +3,7 @@ use Rattle.std.proofs.Common.{◌≡◌, ℕ, zero, suc, ◌*◌, ◌<◌, ◌�
 use denote.Param.Weighed.{most}
 use Rattle.ijson_value.specs.Tree.{depth, items_depth, members_depth}
 use Rattle.ijson_value.specs.WellFormed.{WellFormed, item_trees, pair_trees}
-use Rattle.ijson_value.specs.private.Sizes.{value_size}
+use Rattle.ijson_value.specs.Sizes.{value_size}
 
 -- an item is at most as deep as the items together
 pub item-items_depth : (vs : List WellFormed) (i : ℕ) (v : WellFormed) → i < length vs → v ≡ get_or vs i v

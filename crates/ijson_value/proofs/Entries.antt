@@ -2,8 +2,9 @@
 use Rattle.std.proofs.Common.{◌≡◌, ◌<◌, ℕ, zero, suc, List, [], ◌∷◌, ◌++◌, length, get_or, refl, sym, ap, ◌∙◌, Option, Some, None, arith}
 use Rattle.std.specs.Prelude.{slice_get, option_map, IsSome}
 use denote.Struct.Props.{props}
-use Rattle.ijson_table.proofs.Keys.{position-some, position-distinct, lookup-found, position_within, keys-length}
-use Rattle.ijson_table.proofs.Writing.{store_path}
+use Rattle.ijson_table.proofs.pairs.KeyPositions.{position-some, position-distinct}
+use Rattle.ijson_table.proofs.pairs.PairsByKey.{lookup-found, position_within, keys-length}
+use Rattle.ijson_table.proofs.pairs.SameStores.{store_path}
 use Rattle.ijson_table.specs.Growth.{Ungrown}
 use Rattle.ijson_table.specs.Store.{Store, at, lookup, keys_of, swap_out, with_value}
 use Rattle.ijson_table.specs.declared.store.ReserveError.{ReserveError}

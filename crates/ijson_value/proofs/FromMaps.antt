@@ -17,7 +17,7 @@ use Rattle.ijson_table.specs.Inserts.{Inserts}
 use Rattle.ijson_table.specs.Store.{keys_of, put, Lacks, IsDistinct}
 use Rattle.ijson_table.specs.declared.store.ReserveError.{ReserveError}
 use Rattle.ijson_table.specs.declared.store.ReserveError.TheVariants.{Memory, TooLarge}
-use Rattle.ijson_table.proofs.Keys.{same_key}
+use Rattle.ijson_table.proofs.pairs.KeyPositions.{same_key}
 use Rattle.ijson_value.specs.InsertsEach.{InsertsEach}
 
 -- ---- keys of which none comes twice

@@ -10,6 +10,7 @@ mod Inserted
 mod Objects
 mod OrderSteps
 mod PutInside
+mod PutInTurn
 mod Retained
 mod SameSteps
 mod WordFolds

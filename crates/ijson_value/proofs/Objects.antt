@@ -5,7 +5,7 @@ use Rattle.std.specs.Option.{option_copied_mut}
 use Rattle.std.specs.declared.boxed.Box.{Box}
 use Rattle.ijson_table.specs.Placed.{Placed}
 use Rattle.ijson_table.specs.Store.{Store, at, lookup}
-use Rattle.ijson_table.proofs.Keys.{lookup-found, lookup-absent, position_within}
+use Rattle.ijson_table.proofs.pairs.PairsByKey.{lookup-found, lookup-absent, position_within}
 use Rattle.ijson_value.specs.AtKey.{pair_at_key}
 use Rattle.ijson_value.specs.private.Boxed.{table_store}
 

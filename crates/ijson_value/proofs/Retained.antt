@@ -2,7 +2,7 @@
 use Rattle.std.proofs.Common.{◌≡◌, ◌<◌, ℕ, zero, suc, ◌+◌, ◌-◌, List, [], ◌∷◌, length, get_or, set, take, Bool, true, false, Some, refl, sym, ap, subst, ◌∙◌, arith, inl, inr, length-set}
 use Rattle.std.specs.Prelude.{slice_get, swap_remove, if◌then◌else◌}
 use Rattle.std.proofs.lemmas.List.{take-set-le, set-set, get_or-set_other}
-use Rattle.ijson_table.proofs.Keys.{set-value, swap_out-is}
+use Rattle.ijson_table.proofs.pairs.PairsByKey.{set-value, swap_out-is}
 use Rattle.ijson_table.specs.Store.{with_value, swap_out}
 use Rattle.ijson_value.specs.MayAsk.{MayAskFrom}
 use Rattle.ijson_value.specs.Retains.{RetainsFrom}

@@ -3,7 +3,7 @@
 use Rattle.std.proofs.Common.{◌≡◌, ℕ, ◌+◌, ◌<◌, max, List, [], ◌∷◌, map, length, get_or, drop, refl, sym, ap, ◌∙◌}
 use Rattle.std.proofs.lemmas.List.{drop_more}
 use Rattle.std.specs.Prelude.{ℤ}
-use Rattle.ijson_number.proofs.WholeValues.{value_one}
+use Rattle.ijson_number.proofs.storing.WholeValues.{value_one}
 use Rattle.ijson_value.specs.Integers.{HasInteger}
 use Rattle.ijson_value.specs.Tree.{Tree, number, depth, items_depth, members_depth}
 use Rattle.ijson_value.specs.WellFormed.{WellFormed, IsWellFormed, item_trees, pair_trees}

@@ -1,3 +1,4 @@
+pub mod Called
 pub mod LentOn
 pub mod Parts
 pub mod Steps

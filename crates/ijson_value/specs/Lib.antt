@@ -25,6 +25,7 @@ pub mod Retains
 pub mod Same
 pub mod SameTest
 pub mod Sequence
+pub mod Sizes
 pub mod Step
 pub mod Tree
 pub mod Values

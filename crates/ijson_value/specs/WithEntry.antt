@@ -2,7 +2,7 @@
 use Rattle.std.specs.Prelude.{◌≡◌, ℕ, List, [], ◌∷◌, ◌++◌}
 use Rattle.ijson_table.specs.Store.{Store, put}
 use Rattle.ijson_table.specs.StoreWithValue.{store_with_value}
-use Rattle.ijson_table.proofs.Keys.{distinct_pushed}
+use Rattle.ijson_table.proofs.pairs.PairsByKey.{distinct_pushed}
 use Rattle.ijson_value.specs.WellFormed.{WellFormed}
 use Rattle.ijson_value.specs.declared.object.entry.Entry.{Entry}
 use Rattle.ijson_value.specs.declared.object.entry.Entry.TheVariants.{Occupied, Vacant}

@@ -1,4 +1,3 @@
 pub mod Boxed
 pub mod Folded
 pub mod LendsList
-pub mod Sizes

@@ -12,6 +12,7 @@ mod iter;
 
 use crate::same::same_items;
 use crate::value::IValue;
+use ijson_table::ReserveError;
 pub use iter::IntoIter;
 use std::alloc::{AllocError, AllocFailed, Global};
 use std::marker::Model;
@@ -33,7 +34,7 @@ impl Model for IArray {
     ghost use Rattle.ijson_value.specs.Sequence.{Sequence};
     ghost use Rattle.ijson_value.specs.laws.SequenceCode.{sequence_code};
     ghost use Rattle.ijson_value.specs.private.Boxed.{list_items, list_capacity};
-    ghost use Rattle.ijson_value.specs.private.Sizes.{array_size};
+    ghost use Rattle.ijson_value.specs.Sizes.{array_size};
 
     ghost Value = { Sequence };
 
@@ -52,6 +53,17 @@ impl Model for IArray {
 #[derive(Debug, Drop, Error)]
 #[error("no memory for one more item")]
 pub struct Refused(pub IValue);
+
+/// `Memory`. The item that came back is dropped.
+impl From<Refused> for ReserveError {
+    ghost use Rattle.ijson_table.specs.declared.store.ReserveError.TheVariants.{Memory};
+
+    ghost from_gives = { λ _ why. why ≡ Memory };
+
+    fn from(_refused: Refused) -> ReserveError {
+        ReserveError::Memory
+    }
+}
 
 impl IArray {
     /// An array with no items. It takes no memory.
@@ -155,7 +167,7 @@ impl IArray {
 
     /// Makes room for `additional` items more, so that as many pushes take no memory. It takes memory only where there is
     /// not that room. The room then at least doubles, and each item is moved once. Where that is refused, the array is as it
-    /// was.
+    /// was. Room for more items than a `usize` counts is refused as well.
     pub fn reserve(&mut self, additional: usize) -> Result<(), AllocError>
         ensures items { self.new.items ≡ self.old.items }
         ensures ok { OnOk result (length self.new.items + additional ≤ self.new.capacity) }
@@ -199,7 +211,8 @@ impl IArray {
 }
 
 /// Makes room in a list for `additional` items more. Where it has not that room, its capacity becomes the greatest of twice the
-/// old one, the length with them, and 4.
+/// old one, the length with them, and 4. Where one of these passes what a `usize` counts, there is no such memory either, so that
+/// is told as want of memory. Twice the old one never does, since an item takes 24 bytes, but no contract of `Vec` says so.
 fn grow(list: &mut Vec<IValue>, additional: usize) -> Result<(), AllocError>
     ensures items { list.new.items ≡ list.old.items }
     ensures ok { OnOk result (length list.new.items + additional ≤ vec_capacity list.new) }

@@ -62,7 +62,7 @@ impl Model for IValue {
     ghost coded = { well_formed_code };
 
     ghost use Rattle.ijson_value.specs.NodeValue.{node_value};
-    ghost use Rattle.ijson_value.specs.private.Sizes.{value_size};
+    ghost use Rattle.ijson_value.specs.Sizes.{value_size};
 
     ghost view = { λ v. node_value v.node };
 

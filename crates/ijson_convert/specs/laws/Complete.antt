@@ -3,13 +3,15 @@ use Rattle.std.specs.Prelude.{◌≡◌, ℕ, Bool, List, [], ◌∷◌, map, Op
 use Rattle.std.proofs.Common.{inl, inr, subst}
 use Rattle.std.specs.declared.alloc.Global.{Global}
 use Rattle.ijson_value.specs.Same.{Same, SameEach, SameIn, Has}
-use Rattle.ijson_value.specs.Tree.{Tree, null, boolean, number, string, array, object, Items, no_items, item, items_of, Members, no_members, member, members_of}
+use Rattle.ijson_value.specs.Tree.{Tree, null, boolean, number, string, array, object, Items, no_items, item, items_of, Members}
+use Rattle.ijson_value.specs.Tree.{no_members, member, members_of}
 use Rattle.ijson_value.specs.WellFormed.{IsWellFormed, AreWellFormed, HaveWellFormed}
 use Rattle.ijson_value.specs.laws.SameLaws.{same_symm}
 use Rattle.ijson_convert.specs.ListTree.{list_tree}
 use Rattle.ijson_convert.specs.MapTree.{pair_tree, map_tree}
 use Rattle.ijson_convert.specs.OptionTree.{option_tree}
-use Rattle.ijson_convert.specs.Refused.{BoolRefused, TextRefused, OptionRefused, FirstRefused, ListRefused, MapRefused, member_values, option_in_range, all_in_range, values_in_range}
+use Rattle.ijson_convert.specs.Refused.{BoolRefused, TextRefused, OptionRefused, FirstRefused, ListRefused, MapRefused, member_values}
+use Rattle.ijson_convert.specs.Refused.{option_in_range, all_in_range, values_in_range}
 use Rattle.ijson_convert.specs.declared.convert_error.ConvertError.{ConvertError}
 
 pub bool_complete : (b : Bool) (t : Tree) (e : ConvertError) → ⊤ → IsWellFormed (boolean b) → IsWellFormed t

@@ -9,9 +9,9 @@ use Rattle.ijson_number.specs.Integers.{integer, HasValue, IsInteger}
 use Rattle.ijson_number.specs.Num.{Num, IsNum}
 use Rattle.ijson_number.specs.Order.{number_cmp}
 use Rattle.ijson_number.specs.laws.Ordered.{number_cmp_total, tests_equal, equal_same}
-use Rattle.ijson_number.specs.private.FormNumber.{form_number, integer_word}
-use Rattle.ijson_number.proofs.Denotes.{same_decimal}
-use Rattle.ijson_number.proofs.IntegerWords.{word_num, word_integer, signed_small, signed_fits, unsigned_fits}
+use Rattle.ijson_number.specs.FormNumber.{form_number, integer_word}
+use Rattle.ijson_number.proofs.parsing.Denotes.{same_decimal}
+use Rattle.ijson_number.proofs.storing.IntegerWords.{word_num, word_integer, signed_small, signed_fits, unsigned_fits}
 use Rattle.ijson_value.specs.Tree.{number}
 use Rattle.ijson_convert.specs.IntegerTree.{integer_number, integer_tree}
 

@@ -1,5 +1,5 @@
 //! The value inside a value that a pointer names, to be written.
-ghost use Rattle.std.specs.Prelude.{◌≡◌, ◌<◌, ◌^◌, ◌↔◌, [], ◌∷◌, suc, drop, length, Some, None, IsSome, IsTrue, IfOk, IfErr, IfSome, IfNone, option_map};
+ghost use Rattle.std.specs.Prelude.{◌≡◌, ◌<◌, ◌↔◌, [], ◌∷◌, suc, drop, length, Some, None, IsSome, IsTrue, IfOk, IfErr, IfSome, IfNone, option_map};
 ghost use Rattle.std.specs.Borrow.{sem};
 ghost use Rattle.ijson_value.specs.LendsPart.{LendsOpened};
 ghost use Rattle.ijson_value.specs.NodeValue.{node_value};
@@ -14,7 +14,6 @@ use super::{PointerError, find_member, is_token, position_below};
 use ijson_value::array::IArray;
 use ijson_value::object::IObject;
 use ijson_value::value::{Destructured, IValue};
-use std::marker::PhantomData;
 use thiserror::Error;
 
 /// Why `resolve_opened_mut` lends no value.
@@ -30,7 +29,7 @@ pub enum Unresolved {
 
 /// The value that `pointer` names inside `value`, as RFC 6901 has it, to be written: the value itself where the text is empty.
 /// None where it names nothing. What is written changes that one value. It takes no memory. It costs what `resolve` does, and
-/// the text is gone over once more for each doubling of its tokens.
+/// the text is gone over once more. The stack grows with each token that leads to a value.
 ///
 /// The proof of a caller that writes there and says what the whole value then is has to be written by hand. One that calls
 /// `resolve_opened_mut` learns it by itself.
@@ -109,7 +108,7 @@ fn inside<'a>(opened: &'a mut Destructured, pointer: &str, more: usize) -> Optio
     let Some(left) = pointer.strip_prefix('/') else {
         unreachable!();
     };
-    Steps64::walk(opened, left, more)
+    walk(opened, left, more)
 }
 
 /// How many tokens of a pointer that isn't empty stand behind its first one. None where the text is no pointer.
@@ -142,58 +141,29 @@ fn count_more(tokens: &str) -> Option<usize>
     if is_token(left) { Some(more) } else { None }
 }
 
-/// What goes down a value by as many tokens as it can, which are fewer than 2 ^ `bits` and one.
-///
-/// A lend out of a value that a loop goes down, or a function that calls itself, cannot be proved. So each type goes twice as
-/// far as the one that it stands on, by two calls to it.
-trait Walks {
-    ghost use Rattle.std.specs.Prelude.{ℕ};
-
-    ghost bits: { ℕ };
-
-    /// The value that the first token of `left` and `more` further ones lead to.
-    fn walk<'a>(opened: &'a mut Destructured, left: &str, more: usize) -> Option<&'a mut IValue>
-        requires within { more < 2 ^ bits }
-        requires there { more < length (written_tokens left.now) }
-        ensures* writes_back { sem 𝓛 (LendsWalked opened.entry left.now more result) }
-        ensures value { tree_lent result ≡ walked (steps_of left.now more) (Some (node_tree opened.old)) };
-}
-
-/// One token.
-struct One;
-
-impl Walks for One {
-    ghost bits = { 0 };
-
-    fn walk<'a>(opened: &'a mut Destructured, left: &str, more: usize) -> Option<&'a mut IValue> {
-        child_mut(opened, first_token(left))
+/// The value that the first token of `left` and `more` further ones lead to from an opened value. It calls itself once for each token that leads to a
+/// value, so no more often than values stand inside one another.
+fn walk<'a>(from: &'a mut Destructured, left: &str, more: usize) -> Option<&'a mut IValue>
+    requires { more < length (written_tokens left.now) }
+    ensures* writes_back { sem 𝓛 (LendsWalked from.entry left.now more result) }
+    ensures value { tree_lent result ≡ walked (steps_of left.now more) (Some (node_tree from.old)) }
+{
+    let Some(found) = first_mut(from, left) else {
+        return None;
+    };
+    if more == 0 {
+        return Some(found);
     }
+    walk(opened(found), behind_first(left), more - 1)
 }
 
-/// Twice as many tokens.
-struct Twice<W> {
-    half: PhantomData<W>,
+/// The value that the first token leads to.
+fn first_mut<'a>(opened: &'a mut Destructured, left: &str) -> Option<&'a mut IValue>
+    ensures* writes_back { sem 𝓛 (LendsWalked opened.entry left.now 0 result) }
+    ensures value { tree_lent result ≡ walked (steps_of left.now 0) (Some (node_tree opened.old)) }
+{
+    child_mut(opened, first_token(left))
 }
-
-impl<W: Walks> Walks for Twice<W> {
-    ghost bits = { suc W.Walks.bits };
-
-    fn walk<'a>(opened: &'a mut Destructured, left: &str, more: usize) -> Option<&'a mut IValue> {
-        if more == 0 {
-            return W::walk(opened, left, more);
-        }
-        let half = more / 2;
-        match W::walk(opened, left, half) {
-            None => None,
-            Some(found) => W::walk(&mut **found, behind(left, half + 1), more - (half + 1)),
-        }
-    }
-}
-
-type Steps8<W> = Twice<Twice<Twice<Twice<Twice<Twice<Twice<Twice<W>>>>>>>>;
-
-/// As many tokens as a text can have.
-type Steps64 = Steps8<Steps8<Steps8<Steps8<Steps8<Steps8<Steps8<Steps8<One>>>>>>>>;
 
 /// The first token.
 fn first_token(left: &str) -> &str
@@ -205,16 +175,12 @@ fn first_token(left: &str) -> &str
     }
 }
 
-/// What stands behind so many tokens.
-fn behind(tokens: &str, count: usize) -> &str
-    requires { count < length (written_tokens tokens.now) }
-    ensures { written_tokens result.now ≡ drop count (written_tokens tokens.now) }
+/// What stands behind the first token.
+fn behind_first(left: &str) -> &str
+    requires { 1 < length (written_tokens left.now) }
+    ensures { written_tokens result.now ≡ drop 1 (written_tokens left.now) }
 {
-    let mut left = tokens;
-    for _ in 0..count {
-        left = left.split_once('/').unwrap().1;
-    }
-    left
+    left.split_once('/').unwrap().1
 }
 
 /// The value that a token names in an opened value, to be written.

@@ -1,6 +1,6 @@
 -- The error of `compact` that a fault of its reading becomes.
-use Rattle.ijson_json.specs.declared.moving.ReadFault.{ReadFault}
-use Rattle.ijson_json.specs.declared.moving.ReadFault.TheVariants as faults
+use Rattle.ijson_json.specs.declared.device.transfer.ReadFault.{ReadFault}
+use Rattle.ijson_json.specs.declared.device.transfer.ReadFault.TheVariants as faults
 use Rattle.ijson_json.specs.declared.compacting.CompactError.{CompactError}
 use Rattle.ijson_json.specs.declared.compacting.CompactError.TheVariants as errors
 

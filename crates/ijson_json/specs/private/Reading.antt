@@ -3,7 +3,7 @@ use Rattle.std.specs.Prelude.{◌≡◌, ◌==◌, ℕ, ◌+◌, ◌<◌, ◌≤
 use Rattle.ijson_number.specs.Decimal.{Decimal}
 use Rattle.ijson_number.specs.Num.{is_in_range}
 use Rattle.ijson_number.specs.Grammar.{Spells}
-use Rattle.ijson_number.specs.private.NumberBytes.{is_number_byte}
+use Rattle.ijson_number.specs.NumberBytes.{is_number_byte}
 use Rattle.ijson_value.specs.Tree.{Tree, null, boolean, number, string, array, object, depth}
 use Rattle.ijson_json.specs.Ranged.{is_ranged}
 use Rattle.ijson_json.specs.Settled.{settled}

@@ -3,8 +3,8 @@ use Rattle.std.specs.Prelude.{◌≡◌, ℕ, List, length}
 use Rattle.ijson_json.specs.private.Reading.{Closes, GoesOn, IsStuck}
 use Rattle.ijson_json.specs.declared.fault.Fault.{Fault}
 use Rattle.ijson_json.specs.declared.fault.Fault.TheVariants as faults
-use Rattle.ijson_json.specs.declared.separator.Separator.{Separator}
-use Rattle.ijson_json.specs.declared.separator.Separator.TheVariants.{Comma, End}
+use Rattle.ijson_json.specs.declared.read.separator.Separator.{Separator}
+use Rattle.ijson_json.specs.declared.read.separator.Separator.TheVariants.{Comma, End}
 
 -- a separator, in a container that is closed by this byte
 abbrev pub SeparatorAt : ℕ → List ℕ → Separator → Type 0

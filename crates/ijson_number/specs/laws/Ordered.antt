@@ -59,7 +59,7 @@ scale_int (negsuc x) (negsuc y) k h =
 pub scale_cmp : (x y : ℤ) (k : ℕ) → 0 < k → int_cmp (x *ℤ pos k) (y *ℤ pos k) ≡ int_cmp x y
 scale_cmp x y k h = rw (scale_int x y k h, scale_int y x k h) refl
 
-nonneg : (z : ℤ) → pos 0 ≤ℤ z → z ≡ pos (nat_abs z)
+pub nonneg : (z : ℤ) → pos 0 ≤ℤ z → z ≡ pos (nat_abs z)
 nonneg (pos n) h = refl
 nonneg (negsuc n) h = absurd (omega (arith, ints))
 

@@ -1,7 +1,7 @@
 -- Taking tens out of a whole number leaves one number.
-use Rattle.std.proofs.Common.{◌≡◌, ◌≢◌, ◌⊎◌, ℕ, zero, suc, ◌*◌, ◌%◌, ◌^◌, ◌<◌, Bool, true, false, refl, ap, sym, ◌∙◌, inl, inr, arith}
+use Rattle.std.proofs.Common.{◌≡◌, ◌≢◌, ◌⊎◌, ℕ, zero, suc, ◌+◌, ◌-◌, ◌*◌, ◌%◌, ◌^◌, ◌<◌, ◌≤◌, pow-add, Bool, true, false, refl, ap, sym, ◌∙◌, inl, inr, arith}
 use Rattle.std.specs.Prelude.{ℤ, pos, negsuc, neg_ℤ, nat_abs, ◌*ℤ◌, ◌+ℤ◌}
-use Rattle.std.proofs.Math.Nat.{pow-succ', mul-mod_left}
+use Rattle.std.proofs.Math.Nat.{pow-succ', mul-mod_left, mul-le-mul_right}
 use Rattle.ijson_number.specs.Decimal.{Decimal, IsPlain}
 use Rattle.ijson_number.specs.Strips.{Strips, signed}
 
@@ -119,3 +119,10 @@ strips_one m e n n' s t =
         | inr q ↦ strips_apart m e n n' p.0 q.0 s.plain t.plain p.1 q.1 p.2 q.2
       ]
     ]
+
+-- a power of ten is at most a higher one
+pub power_le : (a b : ℕ) → a ≤ b → 10 ^ a ≤ 10 ^ b
+power_le a b h =
+    let e : b ≡ a + (b - a) = omega arith in
+    let m : 1 * 10 ^ a ≤ 10 ^ (b - a) * 10 ^ a = mul-le-mul_right (10 ^ a) (ten_pos (b - a)) in
+    rw (e, pow-add 10 a (b - a)) (omega arith)

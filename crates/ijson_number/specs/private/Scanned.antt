@@ -3,10 +3,11 @@ use Rattle.std.specs.Prelude.{ℕ, List, ◌++◌}
 use Rattle.ijson_number.specs.Decimal.{Decimal}
 use Rattle.ijson_number.specs.Num.{IsNum}
 use Rattle.ijson_number.specs.Strips.{signed}
-use Rattle.ijson_number.specs.private.StoredNumber.{stored_number, IsStored}
+use Rattle.ijson_number.specs.StoredNumber.{stored_number}
+use Rattle.ijson_number.specs.private.StoredNumber.{IsStored}
 use Rattle.ijson_number.specs.Grammar.{AllDigits, Parts, value}
-use Rattle.ijson_number.specs.declared.reading.Spelling.{Spelling}
-use Rattle.ijson_number.specs.declared.reading.Scanned.{Scanned}
+use Rattle.ijson_number.specs.declared.parse.exact.Spelling.{Spelling}
+use Rattle.ijson_number.specs.declared.parse.exact.Scanned.{Scanned}
 use Rattle.ijson_number.specs.private.Stripped.{digits_from_text}
 
 abbrev pub parts_of : Spelling → Parts

@@ -2,13 +2,13 @@
 use Rattle.std.specs.Prelude.{◌≡◌, ◌↔◌, ⊤}
 use Rattle.ijson_number.specs.Decimal.{Decimal}
 use Rattle.ijson_number.specs.Form.{FormOf, packed, signed_word, unsigned_word, digits, form_of}
-use Rattle.ijson_number.specs.private.FormNumber.{form_number}
+use Rattle.ijson_number.specs.FormNumber.{form_number}
 use Rattle.ijson_number.specs.private.ShortDigits.{short_digits}
 use Rattle.ijson_number.specs.private.Word.{word_exponent, word_mantissa, word_point}
-use Rattle.ijson_number.specs.declared.stored.LongNumber.{LongNumber}
-use Rattle.ijson_number.specs.declared.stored.ShortNumber.{ShortNumber}
-use Rattle.ijson_number.specs.declared.stored.Stored.{Stored}
-use Rattle.ijson_number.specs.declared.stored.Stored.TheVariants.{Packed, I64, U64, Short, Long}
+use Rattle.ijson_number.specs.declared.repr.stored.LongNumber.{LongNumber}
+use Rattle.ijson_number.specs.declared.repr.stored.ShortNumber.{ShortNumber}
+use Rattle.ijson_number.specs.declared.repr.stored.Stored.{Stored}
+use Rattle.ijson_number.specs.declared.repr.stored.Stored.TheVariants.{Packed, I64, U64, Short, Long}
 
 abbrev pub short_form : ShortNumber → FormOf
 short_form n = digits n.negative (short_digits n.digits) n.exponent n.point

@@ -1,12 +1,12 @@
 -- A number by its stripped digits.
 use Rattle.ijson_number.specs.Decimal.{Decimal}
 use Rattle.ijson_number.specs.Num.{Num}
-use Rattle.ijson_number.specs.private.StoredNumber.{stored_number}
-use Rattle.ijson_number.specs.declared.stripped.StrippedNumber.{StrippedNumber}
+use Rattle.ijson_number.specs.StoredNumber.{stored_number}
+use Rattle.ijson_number.specs.declared.repr.stripped.StrippedNumber.{StrippedNumber}
 
 abbrev pub decimal_of : StrippedNumber → Decimal
 decimal_of n = stored_number n.negative n.digits.now n.exponent n.point
 
 -- and with the proof that it is one
-abbrev pub row_num : StrippedNumber → Num
-row_num n = record { decimal = decimal_of n; is_num = n.num }
+abbrev pub stripped_num : StrippedNumber → Num
+stripped_num n = record { decimal = decimal_of n; is_num = n.num }

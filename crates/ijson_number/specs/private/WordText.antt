@@ -8,9 +8,9 @@ unfoldable pub last_digits : (count n : ℕ) → List ℕ
 last_digits zero n = []
 last_digits (suc count) n = last_digits count (n / 10) ++ (48 + n % 10) ∷ []
 
-abbrev pub integer_text : (negative : Bool) → (size : ℕ) → List ℕ
-integer_text negative size = minus_text negative ++ decimal size
+abbrev pub integer_text : (negative : Bool) → (magnitude : ℕ) → List ℕ
+integer_text negative magnitude = minus_text negative ++ decimal magnitude
 
-abbrev pub pointed_text : (negative : Bool) → (whole places fraction : ℕ) → List ℕ
-pointed_text negative whole places fraction =
-    minus_text negative ++ (decimal whole ++ 46 ∷ last_digits places fraction)
+abbrev pub pointed_text : (negative : Bool) → (whole scale fraction : ℕ) → List ℕ
+pointed_text negative whole scale fraction =
+    minus_text negative ++ (decimal whole ++ 46 ∷ last_digits scale fraction)

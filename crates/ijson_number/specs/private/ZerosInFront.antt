@@ -1,7 +1,7 @@
--- The zeros in front of the digits of a row, of which the last one always counts.
+-- The zeros in front of the digits in lanes, of which the last one always counts.
 use Rattle.std.specs.Prelude.{◌≡◌, ◌≢◌, ℕ, ◌<◌, ◌≤◌, List, get_or, replicate, take}
 
-pub record IsZerosInFront (row : List ℕ) (count : ℕ) : Type 0 where
+pub record IsZerosInFront (lanes : List ℕ) (count : ℕ) : Type 0 where
   pub few : count ≤ 15
-  pub zeros : take count row ≡ replicate count 48
-  pub stops : count < 15 → get_or row count 0 ≢ 48
+  pub zeros : take count lanes ≡ replicate count 48
+  pub stops : count < 15 → get_or lanes count 0 ≢ 48

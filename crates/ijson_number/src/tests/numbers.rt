@@ -1,5 +1,5 @@
 //! What no clause says: worked texts, and which texts are refused.
-use crate::stored::Stored;
+use crate::repr::stored::Stored;
 use crate::{DigitRow, Form, INumber, Looks, ParseNumberError, compare, first_fault};
 use std::alloc::Global;
 use std::cmp::Ordering;

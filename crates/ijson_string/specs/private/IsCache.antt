@@ -1,4 +1,4 @@
--- What the keys of a cache are: texts, each once, beside a half of its hash. This project's own.
+-- What the keys of a cache are: texts, each once, beside its hash. This project's own.
 use Rattle.std.specs.Prelude.{◌≡◌, ℕ, List, length}
 use Rattle.std.specs.Ordering.{nat_cmp}
 use Rattle.std.specs.Cmp.Lexicographic.{slice_cmp}
@@ -8,6 +8,6 @@ use Rattle.ijson_string.specs.private.Keys.{Key, texts_of, AreHashed}
 abbrev pub set_of : List Key → set.FinSet (slice_cmp nat_cmp)
 set_of keys = set.from_list (texts_of keys)
 
-pub record IsCache (hash : List ℕ → ℕ) (keys : List Key) : Type 0 where
-  pub hashed : AreHashed hash keys
+pub record IsCache (text_hash : List ℕ → ℕ) (keys : List Key) : Type 0 where
+  pub hashed : AreHashed text_hash keys
   pub each_once : set.len (set_of keys) ≡ length keys

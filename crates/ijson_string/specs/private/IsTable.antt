@@ -1,30 +1,30 @@
--- What leads to the texts of a table: chains of links, and the kinds of each home. This project's own.
+-- What leads to the texts of a table: chains of links, and the filters of each bucket. This project's own.
 use Rattle.std.specs.Prelude.{ℕ, ◌*◌, ◌≤◌, ◌^◌, List, length, map}
-use Rattle.ijson_string.specs.declared.table.Home.{Home}
-use Rattle.ijson_string.specs.declared.table.Link.{Link}
+use Rattle.ijson_string.specs.declared.table.chains.Bucket.{Bucket}
+use Rattle.ijson_string.specs.declared.table.chains.Link.{Link}
 use Rattle.ijson_string.specs.private.Chains.{IsChained}
-use Rattle.ijson_string.specs.private.Keys.{homes_of}
-use Rattle.ijson_string.specs.private.Kinds.{AreMarked}
+use Rattle.ijson_string.specs.private.Keys.{buckets_of}
+use Rattle.ijson_string.specs.private.Filters.{AllPass}
 
-abbrev pub halves_of : List Link → List ℕ
-halves_of links = map (λ l. l.half) links
+abbrev pub hashes_of : List Link → List ℕ
+hashes_of links = map (λ l. l.hash) links
 
-abbrev pub befores_of : List Link → List ℕ
-befores_of links = map (λ l. l.before) links
+abbrev pub nexts_of : List Link → List ℕ
+nexts_of links = map (λ l. l.next) links
 
-abbrev pub lasts_of : List Home → List ℕ
-lasts_of homes = map (λ h. h.last) homes
+abbrev pub heads_of : List Bucket → List ℕ
+heads_of buckets = map (λ b. b.head) buckets
 
-abbrev pub kinds_of : List Home → List ℕ
-kinds_of homes = map (λ h. h.kinds) homes
+abbrev pub filters_of : List Bucket → List ℕ
+filters_of buckets = map (λ b. b.filter) buckets
 
--- the links lie in chains, one for each home
+-- the links lie in chains, one for each bucket
 abbrev pub AreChained : List Link → List ℕ → Type 0
-AreChained links last = IsChained (homes_of (length last) (halves_of links)) (befores_of links) last
+AreChained links heads = IsChained (buckets_of (length heads) (hashes_of links)) (nexts_of links) heads
 
--- and there are at most four times as many as homes
-pub record IsTable (links : List Link) (homes : List Home) : Type 0 where
-  pub room : length links ≤ 4 * length homes
-  pub bounded : length homes ≤ 2 ^ 32
-  pub chained : AreChained links (lasts_of homes)
-  pub marked : AreMarked (kinds_of homes) (halves_of links)
+-- and there are at most four times as many as buckets
+pub record IsTable (links : List Link) (buckets : List Bucket) : Type 0 where
+  pub room : length links ≤ 4 * length buckets
+  pub bounded : length buckets ≤ 2 ^ 32
+  pub chained : AreChained links (heads_of buckets)
+  pub filtered : AllPass (filters_of buckets) (hashes_of links)

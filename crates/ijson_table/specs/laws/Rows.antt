@@ -1,7 +1,7 @@
 -- Rows worked by hand, under the hash that answers the length of the text.
 use Rattle.std.specs.Prelude.{◌≡◌, ℕ, List, [], ◌∷◌, length, refl, Some, None, map}
 use Rattle.ijson_table.specs.Crowd.{crowd, homed, distance}
-use Rattle.ijson_table.specs.Places.{displacement, home_at}
+use Rattle.ijson_table.specs.Slots.{displacement, home_at}
 use Rattle.ijson_table.specs.Store.{position_of, swap_out, keys_of}
 
 abbrev by_length : List ℕ → ℕ
@@ -19,7 +19,7 @@ crowd_of_zz : crowd by_length four 4 (122 ∷ 122 ∷ []) ≡ 3
 unfolding crowd homed distance
 crowd_of_zz = refl
 
--- no place, no crowd
+-- no slot, no crowd
 crowd_of_none : crowd by_length [] 0 (97 ∷ []) ≡ 0
 unfolding crowd homed distance
 crowd_of_none = refl

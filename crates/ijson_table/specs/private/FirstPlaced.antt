@@ -1,11 +1,11 @@
 -- Places of the first pairs of a list.
 use Rattle.std.specs.Prelude.{◌≡◌, ◌≢◌, ℕ, List, [], None, get_or, map, take}
 use Rattle.ijson_table.specs.Store.{at, keys_of, IsDistinct}
-use Rattle.ijson_table.specs.private.PlaceList.{Index}
+use Rattle.ijson_table.specs.private.HashIndex.{HashIndex}
 
--- the places have the first n pairs by the hashes of their keys, none of which stands twice among them
-pub record FirstPlaced {V : Type 0} (hash : List ℕ → ℕ) (pairs : List (List ℕ × V)) (n : ℕ) (places : Index) : Type 0 where
-  pub hashes : places.hashes ≡ map hash (keys_of (take n pairs))
+-- the slots have the first n pairs by the hashes of their keys, none of which stands twice among them
+pub record FirstPlaced {V : Type 0} (hash : List ℕ → ℕ) (pairs : List (List ℕ × V)) (n : ℕ) (index : HashIndex) : Type 0 where
+  pub hashes : index.hashes ≡ map hash (keys_of (take n pairs))
   pub distinct : IsDistinct (keys_of (take n pairs))
 
 -- the key of the pair at n is that of one before it

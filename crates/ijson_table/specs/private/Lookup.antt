@@ -1,8 +1,8 @@
 -- How the look-up of a key ends.
 use Rattle.std.specs.Prelude.{◌≡◌, ℕ, ◌<◌, Bool, ◌&&◌, eqb, List, [], ◌∷◌, ◌++◌, length, get_or, Option, Some, None}
 use Rattle.std.specs.Str.{bytes_eq}
-use Rattle.ijson_table.specs.declared.probe.Probed.{Probed}
-use Rattle.ijson_table.specs.declared.probe.Probed.TheVariants.{Found, Vacant, Full}
+use Rattle.ijson_table.specs.declared.index.probe.Probed.{Probed}
+use Rattle.ijson_table.specs.declared.index.probe.Probed.TheVariants.{Found, Vacant, Full}
 use Rattle.ijson_table.specs.Store.{position_of}
 use Rattle.ijson_table.specs.private.Holds.{HasEmpty, MayStand}
 
@@ -20,9 +20,9 @@ found_at (Found i p) = Some i
 found_at (Vacant p) = None
 found_at Full = None
 
--- The position of the key; or that it is not there, and a place where it may stand as the last one of the list, or that no place is empty.
+-- The position of the key; or that it is not there, and a slot where it may stand as the last one of the list, or that no slot is empty.
 abbrev pub LookUpEnds : List ℕ → List (List ℕ) → List (Option ℕ) → ℕ → List ℕ → Probed → Type 0
-LookUpEnds hashes keys places hash key (Found i p) = position_of keys key ≡ Some i
-LookUpEnds hashes keys places hash key (Vacant p) =
-    (position_of keys key ≡ None) × (p < length places) × MayStand (hashes ++ hash ∷ []) places (length hashes) p
-LookUpEnds hashes keys places hash key Full = (position_of keys key ≡ None) × (HasEmpty places → ⊥)
+LookUpEnds hashes keys slots hash key (Found i p) = position_of keys key ≡ Some i
+LookUpEnds hashes keys slots hash key (Vacant p) =
+    (position_of keys key ≡ None) × (p < length slots) × MayStand (hashes ++ hash ∷ []) slots (length hashes) p
+LookUpEnds hashes keys slots hash key Full = (position_of keys key ≡ None) × (HasEmpty slots → ⊥)

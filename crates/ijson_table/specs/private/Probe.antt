@@ -1,52 +1,52 @@
--- The walk of a probe: from a home place on, until what it seeks, an empty place, or a resident that is nearer to its own home.
+-- The walk of a probe: from a home slot on, until what it seeks, an empty slot, or a resident that is nearer to its own home.
 use Rattle.std.specs.Prelude.{◌≡◌, ℕ, ◌+◌, ◌-◌, ◌<◌, ◌≤◌, Bool, true, false, ltb, List, length, Option, Some, None, if◌then◌else◌}
-use Rattle.ijson_table.specs.declared.places.Seen.{Seen}
-use Rattle.ijson_table.specs.declared.places.Seen.TheVariants.{Empty, Resident}
-use Rattle.ijson_table.specs.declared.probe.Probed.{Probed}
-use Rattle.ijson_table.specs.declared.probe.Probed.TheVariants.{Found, Vacant, Full}
-use Rattle.ijson_table.specs.Places.{resident}
+use Rattle.ijson_table.specs.declared.index.places.Seen.{Seen}
+use Rattle.ijson_table.specs.declared.index.places.Seen.TheVariants.{Empty, Resident}
+use Rattle.ijson_table.specs.declared.index.probe.Probed.{Probed}
+use Rattle.ijson_table.specs.declared.index.probe.Probed.TheVariants.{Found, Vacant, Full}
+use Rattle.ijson_table.specs.Slots.{resident}
 
--- the place k on from p, round the end of n places
+-- the slot k on from p, round the end of n slots
 unfoldable pub onward : ℕ → ℕ → ℕ → ℕ
 onward n p k = (if ltb (p + k) n then p + k else p + k - n)
 
--- what one look of a probe tells: whether the place is empty; else the position there, how far it is displaced, and
+-- what one look of a probe tells: whether the slot is empty; else the position there, how far it is displaced, and
 -- whether it is what the probe seeks
 abbrev pub LooksAt : List (Option ℕ) → (ℕ → ℕ) → (ℕ → Bool) → ℕ → Seen → Type 0
-LooksAt places displacements seeks p Empty = (resident places p ≡ None) × (displacements p ≡ 0)
-LooksAt places displacements seeks p (Resident i d same) =
-    (resident places p ≡ Some i) × (displacements p ≡ d + 1) × (same ≡ seeks i)
+LooksAt slots displacements seeks p Empty = (resident slots p ≡ None) × (displacements p ≡ 0)
+LooksAt slots displacements seeks p (Resident i d same) =
+    (resident slots p ≡ Some i) × (displacements p ≡ d + 1) × (same ≡ seeks i)
 
--- A probe from home h has passed m of n places: each has a resident that is displaced at least as far as the probe was.
+-- A probe from home h has passed m of n slots: each has a resident that is displaced at least as far as the probe was.
 pub record Passed (displacements : ℕ → ℕ) (n h m : ℕ) : Type 0 where
   pub far : (j : ℕ) → j < m → j + 1 ≤ displacements (onward n h j)
 
 -- none of the residents that it passed is what it seeks
 abbrev pub PassedOthers : List (Option ℕ) → (ℕ → Bool) → ℕ → ℕ → Type 0
-PassedOthers places seeks h m =
-    (j i : ℕ) → j < m → resident places (onward (length places) h j) ≡ Some i → seeks i ≡ false
+PassedOthers slots seeks h m =
+    (j i : ℕ) → j < m → resident slots (onward (length slots) h j) ≡ Some i → seeks i ≡ false
 
--- It ended at place p, the one after m that it passed, by one look at each.
-pub record EndsAt (places : List (Option ℕ)) (displacements : ℕ → ℕ) (h : ℕ) (seeks : ℕ → Bool) (looks p m : ℕ) : Type 0 where
-  pub within : m < length places
-  pub there : p ≡ onward (length places) h m
-  pub passed : Passed displacements (length places) h m
-  pub others : PassedOthers places seeks h m
+-- It ended at slot p, the one after m that it passed, by one look at each.
+pub record EndsAt (slots : List (Option ℕ)) (displacements : ℕ → ℕ) (h : ℕ) (seeks : ℕ → Bool) (looks p m : ℕ) : Type 0 where
+  pub within : m < length slots
+  pub there : p ≡ onward (length slots) h m
+  pub passed : Passed displacements (length slots) h m
+  pub others : PassedOthers slots seeks h m
   pub looked : looks ≡ m + 1
 
--- How a probe from home h ends, by so many looks: at what it seeks, at an empty place or a resident that is displaced
--- no further than the probe, or after all places.
+-- How a probe from home h ends, by so many looks: at what it seeks, at an empty slot or a resident that is displaced
+-- no further than the probe, or after all slots.
 abbrev pub Ends : List (Option ℕ) → (ℕ → ℕ) → ℕ → (ℕ → Bool) → ℕ → Probed → Type 0
-Ends places displacements h seeks looks (Found at p) =
-    (m : ℕ) × EndsAt places displacements h seeks looks p m
-    × (resident places p ≡ Some at) × (seeks at ≡ true)
-Ends places displacements h seeks looks (Vacant p) =
-    (m : ℕ) × EndsAt places displacements h seeks looks p m × (displacements p ≤ m)
-Ends places displacements h seeks looks Full =
-    Passed displacements (length places) h (length places)
-    × PassedOthers places seeks h (length places) × (looks ≡ length places)
+Ends slots displacements h seeks looks (Found at p) =
+    (m : ℕ) × EndsAt slots displacements h seeks looks p m
+    × (resident slots p ≡ Some at) × (seeks at ≡ true)
+Ends slots displacements h seeks looks (Vacant p) =
+    (m : ℕ) × EndsAt slots displacements h seeks looks p m × (displacements p ≤ m)
+Ends slots displacements h seeks looks Full =
+    Passed displacements (length slots) h (length slots)
+    × PassedOthers slots seeks h (length slots) × (looks ≡ length slots)
 
--- Place p is where a probe from home h ends for a key that stands nowhere.
+-- Slot p is where a probe from home h ends for a key that stands nowhere.
 abbrev pub IsVacancy : (ℕ → ℕ) → ℕ → ℕ → ℕ → Type 0
 IsVacancy displacements n h p =
     (m : ℕ) × (m < n) × (p ≡ onward n h m) × Passed displacements n h m × (displacements p ≤ m)

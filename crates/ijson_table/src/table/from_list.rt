@@ -8,10 +8,9 @@ ghost use Rattle.ijson_table.specs.private.FirstPlaced.{ComesAgain, FirstPlaced}
 use super::Table;
 use crate::growth::{limited, split_rest, tighten};
 use crate::hash::KeyHash;
-use crate::lookup::Lookup;
-use crate::modulus::Modulus;
-use crate::place_list::PlaceList;
-use crate::probe::{Probed, probe};
+use crate::index::Index;
+use crate::index::probe::{Lookup, Probed, probe};
+use crate::index::slot::Modulus;
 use crate::store::{PairStore, ReserveError};
 use ijson_number::Looks;
 use ijson_string::IString;
@@ -35,13 +34,12 @@ impl<V: Drop, H: KeyHash> Table<V, H> {
     {
         let capacity = limited(pairs.len())?;
         tighten(alloc, &mut pairs)?;
-        let mut places = PlaceList::with_places(alloc, capacity + capacity / 4)?;
-        let placed = place_new_keys::<V, H>(&pairs, &mut places);
+        let mut index = Index::with_slots(alloc, capacity + capacity / 4)?;
+        let placed = add_new_keys::<V, H>(&pairs, &mut index);
         let rest = split_rest(alloc, &mut pairs, placed)?;
         let mut table = Table {
             pairs,
-            places,
-            capacity,
+            index,
             alloc,
             hash: PhantomData,
         };
@@ -62,58 +60,58 @@ impl<V: Drop, H: KeyHash> Table<V, H> {
     }
 }
 
-/// Puts the positions of pairs into empty places, up to the first pair whose key stands before it, and answers how many they are.
-fn place_new_keys<V, H: KeyHash>(pairs: &[(IString, V)], places: &mut PlaceList) -> usize
-    requires { places.old.hashes ≡ [] }
+/// Puts the positions of pairs into empty slots, up to the first pair whose key stands before it, and answers how many they are.
+fn add_new_keys<V, H: KeyHash>(pairs: &[(IString, V)], index: &mut Index) -> usize
+    requires { index.old.hashes ≡ [] }
     ensures within { result ≤ length pairs.now }
-    ensures placed { FirstPlaced H.hash_of pairs.now result places.new }
-    ensures stops { result < length pairs.now → result < length places.old.slots
+    ensures placed { FirstPlaced H.hash_of pairs.now result index.new }
+    ensures stops { result < length pairs.now → result < length index.old.slots
         → ComesAgain pairs.now result }
-    ensures count { length places.new.slots ≡ length places.old.slots }
+    ensures count { length index.new.slots ≡ length index.old.slots }
 {
-    if places.len() == 0 {
+    if index.len() == 0 {
         return 0;
     }
-    let modulus = Modulus::new(places.len());
+    let modulus = Modulus::new(index.len());
     for position in 0..pairs.len() {
-        if !place_new_key::<V, H>(pairs, places, modulus, position) {
+        if !add_new_key::<V, H>(pairs, index, modulus, position) {
             return position;
         }
     }
     pairs.len()
 }
 
-/// Puts the next position into places, where one is left and its key is none of those before, and answers whether it did.
-fn place_new_key<V, H: KeyHash>(
+/// Puts the next position into slots, where one is left and its key is none of those before, and answers whether it did.
+fn add_new_key<V, H: KeyHash>(
     pairs: &[(IString, V)],
-    places: &mut PlaceList,
+    index: &mut Index,
     modulus: Modulus,
     position: usize,
 ) -> bool
-    requires counted { modulus.count ≡ length places.old.slots }
+    requires counted { modulus.count ≡ length index.old.slots }
     requires within { position < length pairs.now }
-    requires placed { FirstPlaced H.hash_of pairs.now position places.old }
-    ensures placed { IsTrue result → FirstPlaced H.hash_of pairs.now (position + 1) places.new }
-    ensures left { IsFalse result → places.new ≡ places.old }
-    ensures stops { IsFalse result → position < length places.old.slots
+    requires placed { FirstPlaced H.hash_of pairs.now position index.old }
+    ensures placed { IsTrue result → FirstPlaced H.hash_of pairs.now (position + 1) index.new }
+    ensures left { IsFalse result → index.new ≡ index.old }
+    ensures stops { IsFalse result → position < length index.old.slots
         → ComesAgain pairs.now position }
-    ensures count { length places.new.slots ≡ length places.old.slots }
+    ensures count { length index.new.slots ≡ length index.old.slots }
 {
-    if position >= places.len() {
+    if position >= index.len() {
         return false;
     }
     let key = pairs[position].0.as_str();
     let hash = H::hash(key);
     let lookup = Lookup {
         pairs: &pairs[..position],
-        places,
+        index,
         modulus,
         hash,
         key,
     };
     match probe(&lookup, &mut Looks::new()) {
-        Probed::Vacant(place) => {
-            places.push_at(place, position, hash);
+        Probed::Vacant(slot) => {
+            index.push_at(slot, position, hash);
             true
         }
         Probed::Found(..) | Probed::Full => false,

@@ -90,15 +90,10 @@ fn stores_and_looks_are_shown(rt: HostRuntime) {
     let alloc = rt.alloc();
     let mut list = LinearPairs::new(alloc);
     insert_all(&rt, alloc, &mut list, &["a"]);
-    shows(
-        &rt,
-        alloc,
-        &list,
-        "LinearPairs { pairs: [(\"a\", 0)], capacity: 4 }",
-    );
+    shows(&rt, alloc, &list, "LinearPairs { pairs: [(\"a\", 0)] }");
     let mut table = FixedTable::new(alloc);
     insert_all(&rt, alloc, &mut table, &["a"]);
-    assert!(rt; begins(&rt, alloc, &table, "Table { pairs: [(\"a\", 0)], places: "));
+    assert!(rt; begins(&rt, alloc, &table, "Table { pairs: [(\"a\", 0)], index: "));
     shows(&rt, alloc, &FixedHash, "FixedHash");
     shows(&rt, alloc, &Seen::Empty, "Empty");
     let seen = Seen::Resident {

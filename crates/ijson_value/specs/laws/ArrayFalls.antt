@@ -7,7 +7,7 @@ use Rattle.std.specs.declared.vec.Vec.{Vec}
 use Rattle.ijson_value.specs.WellFormed.{WellFormed}
 use Rattle.ijson_value.specs.laws.Falls.{items_fall}
 use Rattle.ijson_value.specs.private.Boxed.{list_items, list_capacity}
-use Rattle.ijson_value.specs.private.Sizes.{array_size}
+use Rattle.ijson_value.specs.Sizes.{array_size}
 use Rattle.ijson_value.specs.declared.array.IArray.TheDeep.{deep-IArray}
 
 pub array_falls : (list : Option (Box (Vec WellFormed Global) Global)) (alloc : Global)

@@ -5,7 +5,7 @@ use denote.Param.Weighed.{most}
 use Rattle.ijson_table.specs.formers.linear.LinearPairs.{values_of}
 use Rattle.ijson_value.specs.Tree.{items_depth, members_depth}
 use Rattle.ijson_value.specs.WellFormed.{WellFormed, item_trees, pair_trees}
-use Rattle.ijson_value.specs.private.Sizes.{value_size}
+use Rattle.ijson_value.specs.Sizes.{value_size}
 
 pub items_fall : (vs : List WellFormed)
     → most (λ v. value_size v + 1) vs ≤ 2 * items_depth (item_trees vs) + 1

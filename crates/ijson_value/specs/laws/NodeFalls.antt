@@ -1,7 +1,7 @@
 -- What a node holds is smaller than the node's value.
 use Rattle.std.specs.Prelude.{◌≤◌, max}
 use Rattle.std.proofs.Common.{arith}
-use Rattle.ijson_value.specs.private.Sizes.{value_size}
+use Rattle.ijson_value.specs.Sizes.{value_size}
 use Rattle.ijson_value.specs.NodeValue.{node_value}
 use Rattle.ijson_value.specs.declared.value.Destructured.{Destructured}
 use Rattle.ijson_value.specs.declared.value.Destructured.TheVariants.{Null, Bool, Number, String, Array, Object}

@@ -7,7 +7,7 @@ use Rattle.ijson_table.specs.Placed.{Placed}
 use Rattle.ijson_value.specs.WellFormed.{WellFormed}
 use Rattle.ijson_value.specs.laws.Falls.{pairs_fall}
 use Rattle.ijson_value.specs.private.Boxed.{table_store}
-use Rattle.ijson_value.specs.private.Sizes.{object_size}
+use Rattle.ijson_value.specs.Sizes.{object_size}
 use Rattle.ijson_value.specs.declared.array.IArray.TheDeep.{deep-IObject}
 
 pub object_falls : (table : Option (Box (Placed WellFormed) Global)) (alloc : Global)

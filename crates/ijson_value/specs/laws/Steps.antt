@@ -6,7 +6,7 @@ use Rattle.std.specs.Str.{bytes_eq}
 use Rattle.std.proofs.Common.{refl, sym, ap, ◌∙◌}
 use Rattle.std.proofs.lemmas.List.{map-append, map-set, take-map, drop-map, length-map}
 use Rattle.ijson_table.specs.Store.{Store, at, lookup, put, swap_out}
-use Rattle.ijson_table.proofs.Keys.{lookup-absent, put-present}
+use Rattle.ijson_table.proofs.pairs.PairsByKey.{lookup-absent, put-present}
 use Rattle.ijson_value.specs.AtKey.{swap_out_key}
 use Rattle.ijson_value.specs.Kind.{kind_of}
 use Rattle.ijson_value.specs.LendsAtKey.{with_found, with_key}

@@ -12,8 +12,8 @@ use Rattle.ijson_number.specs.Order.{number_cmp}
 use Rattle.ijson_number.specs.StrippedDigits.{stripped_digits, digits_within}
 use Rattle.ijson_number.specs.Words.{number_words}
 use Rattle.ijson_number.specs.laws.Ordered.{same_equal}
-use Rattle.ijson_number.proofs.DigitsOf.{digits_are}
-use Rattle.ijson_number.proofs.Exponents.{in_range_within}
+use Rattle.ijson_number.proofs.storing.DigitsOf.{digits_are}
+use Rattle.ijson_number.proofs.parsing.Exponents.{in_range_within}
 use Rattle.ijson_value.specs.HoldsNoObject.{HoldsNoObject, HoldNoObject}
 use Rattle.ijson_value.specs.Order.{rank}
 use Rattle.ijson_value.specs.Same.{Same, SameEach}

@@ -24,7 +24,7 @@ impl IObject {
     }
 
     /// The position of a key.
-    #[tactic(auto, using(ijson_table::proofs::Keys::position_within))]
+    #[tactic(auto, using(ijson_table::proofs::pairs::PairsByKey::position_within))]
     pub(super) fn position(&self, key: &str) -> Option<usize>
         ensures position { result ≡ at self.now.pairs key.now }
         ensures within { IfSome result (λ position. position < length self.now.pairs) }

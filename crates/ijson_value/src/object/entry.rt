@@ -71,6 +71,15 @@ pub struct RefusedKey {
     pub why: ReserveError,
 }
 
+/// Why there is no room. The key that came back is dropped.
+impl From<RefusedKey> for ReserveError {
+    ghost from_gives = { λ refused why. why ≡ refused.why };
+
+    fn from(refused: RefusedKey) -> ReserveError {
+        refused.why
+    }
+}
+
 impl IObject {
     ghost use Rattle.ijson_value.specs.EntryParts.{entry_object, entry_key, entry_value};
     ghost use Rattle.ijson_value.specs.FindsEntry.{FindsEntry, FindsNoRoom, FindsNoRoomOrCopy};

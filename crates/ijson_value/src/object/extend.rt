@@ -1,9 +1,10 @@
 //! What adds the pairs of an iterator to an object.
-ghost use Rattle.std.specs.Prelude.{ℕ, List, [], MatchResult};
+ghost use Rattle.std.specs.Option.{option_or};
+ghost use Rattle.std.specs.Prelude.{◌≡◌, ℕ, List, [], MatchResult, IfErr, OnOk, Some, slice_get, take};
 ghost use Rattle.std.specs.Iterator.{IsFiniteIterable};
-ghost use Rattle.ijson_table.specs.Store.{Store};
+ghost use Rattle.ijson_table.specs.Store.{Store, lookup, put_each};
 ghost use Rattle.ijson_value.specs.FindsEntry.{FindsNoRoom};
-ghost use Rattle.ijson_value.specs.Gives.{GivesAll, GivesThen};
+ghost use Rattle.ijson_value.specs.Gives.{GivesAll, GivesList, GivesThen};
 ghost use Rattle.ijson_value.specs.InsertsEach.{InsertsEach};
 ghost use Rattle.ijson_value.specs.WellFormed.{WellFormed};
 
@@ -20,14 +21,40 @@ impl IObject {
         pairs: I,
     ) -> Result<(), RefusedPair>
         requires { IsFiniteIterable I.into_iter_gives I.IntoIter.can_next I.IntoIter.remaining pairs }
-        ensures { (added : List (List ℕ × WellFormed))
+        ensures added { (added : List (List ℕ × WellFormed))
             × InsertsEach self.old.pairs self.old.capacity added self.new.pairs self.new.capacity
             × MatchResult result
             (λ _. GivesAll I.into_iter_gives I.IntoIter.next_gives pairs added)
             (λ refused. GivesThen I.into_iter_gives I.IntoIter.next_gives pairs added
             (refused.key, refused.value) × FindsNoRoom self.new refused.key refused.why) }
+        ensures list { (all : List (List ℕ × WellFormed))
+            → GivesList I.into_iter_gives I.IntoIter.next_gives pairs all
+            → OnOk result (self.new.pairs ≡ put_each self.old.pairs all) }
     {
         for (key, value) in pairs {
+            match self.insert(key, value) {
+                Ok(old) => drop(old),
+                Err(refused) => return Err(refused),
+            }
+        }
+        Ok(())
+    }
+
+    /// Lays another object over this one: each key of the other gets the other's value, in place where the key is there, else last and in
+    /// the other's order. The other keys stay. A pair that there is no room for comes back; those before it are laid over, and the rest
+    /// are dropped. Room grows as by `insert`.
+    pub fn overlay(&mut self, other: IObject) -> Result<(), RefusedPair>
+        ensures inserts { OnOk result
+            (InsertsEach self.old.pairs self.old.capacity other.pairs self.new.pairs self.new.capacity) }
+        ensures pairs { OnOk result (self.new.pairs ≡ put_each self.old.pairs other.pairs) }
+        ensures each { OnOk result ((key : List ℕ)
+            → lookup key self.new.pairs ≡ option_or (lookup key other.pairs) (lookup key self.old.pairs)) }
+        ensures refused { IfErr result (λ refused. (n : ℕ)
+            × (slice_get other.pairs n ≡ Some (refused.key, refused.value))
+            × InsertsEach self.old.pairs self.old.capacity (take n other.pairs) self.new.pairs self.new.capacity
+            × FindsNoRoom self.new refused.key refused.why) }
+    {
+        for (key, value) in other {
             match self.insert(key, value) {
                 Ok(old) => drop(old),
                 Err(refused) => return Err(refused),

@@ -36,7 +36,7 @@ impl Model for IObject {
     ghost use Rattle.ijson_value.specs.WellFormed.{WellFormed};
     ghost use Rattle.ijson_value.specs.laws.WellFormedCode.{well_formed_code};
     ghost use Rattle.ijson_value.specs.private.Boxed.{table_store};
-    ghost use Rattle.ijson_value.specs.private.Sizes.{object_size};
+    ghost use Rattle.ijson_value.specs.Sizes.{object_size};
 
     ghost Value = { Store WellFormed };
 

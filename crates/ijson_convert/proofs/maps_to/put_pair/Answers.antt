@@ -19,7 +19,16 @@ returns-in_err-insert-clause-refused g c =
     let p = err_from_is_err_and c.from_residual-in_err-insert.result c.from_residual-in_err-insert.ensures.1 in
     let k = c.args.key.now in
     let texts = texts_of (g.T.ToIValue.tree c.args.x.now) in
-    rw (p.1, p.2) (refl, wholly_interned (k ∷ texts) c.args.cache.now c.to_ivalue.new.cache (c.in_ok-value.ensures.cache ∙ ap (all_interned texts) c.in_ok-key.ensures.cache))
+    rw (p.1, p.2) (
+      refl,
+      wholly_interned (k ∷ texts) c.args.cache.now c.to_ivalue.new.cache (c.in_ok-value.ensures.cache
+          ∙ ap (all_interned texts) c.in_ok-key.ensures.cache),
+    )
 
 pub returns-clause-pairs : goal.returns-clause-pairs
-returns-clause-pairs g c = (c.in_ok-value.value, c.in_ok-value.ensures.tree, c.in_ok-insert.ensures.pairs ∙ ap (λ k. put c.args.object.now.pairs k c.in_ok-value.value) c.in_ok-key.ensures.text)
+returns-clause-pairs g c = (
+  c.in_ok-value.value,
+  c.in_ok-value.ensures.tree,
+  c.in_ok-insert.ensures.pairs
+      ∙ ap (λ k. put c.args.object.now.pairs k c.in_ok-value.value) c.in_ok-key.ensures.text,
+)

@@ -1,4 +1,4 @@
-use Rattle.std.proofs.Common.{◌≡◌, [], ◌∷◌, ◌++◌, ◌+◌, suc, take, drop, append_assoc, ap, sym, subst, ◌∙◌, inl, inr, arith}
+use Rattle.std.proofs.Common.{◌≡◌, [], ◌∷◌, ◌++◌, ◌+◌, suc, take, drop, append_assoc, ap, sym, subst, ◌∙◌, arith}
 use Rattle.std.specs.Prelude.{string_bytes, string_cmp}
 use Rattle.std.specs.List.{flat_map}
 use Rattle.std.specs.List.Sorted.{IsStrictlySortedBy}
@@ -17,7 +17,10 @@ use Rattle.ijson_convert.specs.SerdeTexts.{serde_texts}
 use Rattle.ijson_convert.specs.SerdeTree.{SerdeItems, SerdeMembers, HasNoTree}
 use Rattle.ijson_convert.specs.TextsOf.{texts_of}
 use Rattle.ijson_convert.proofs.Interning.{none_interned, wholly_interned, some_behind}
-use Rattle.ijson_convert.proofs.SerdeTrees.{value_texts, entry_texts, tree_texts, items_flat, members_flat, interned_more, begun_more, split_at, items_more, members_more, array_none, object_none, put_last}
+use Rattle.ijson_convert.proofs.Refusals.{refused_too}
+use Rattle.ijson_convert.proofs.SerdeTrees.{items_begun, members_begun, entry_interned}
+use Rattle.ijson_convert.proofs.SerdeTrees.{value_texts, entry_texts, tree_texts, items_flat, members_flat, interned_more}
+use Rattle.ijson_convert.proofs.SerdeTrees.{split_at, items_more, members_more, array_none, object_none, put_last}
 use Rattle.ijson_convert.proofs.serde.+from.Goals as goal
 
 -- ---- an item
@@ -28,13 +31,8 @@ from_items-returns-in_err-value-clause-refused g t c =
     let i = c.loop-item.item-index in
     let v = c.item-item.result in
     let parts = split_at xs i v (omega (arith, c.loop-item-test.true)) c.item-item.is ∙ c.deref-item-items.ensures.value in
-    rw (p.1, p.2) (elim c.in_err-value.ensures.refused [
-      | inl m ↦ inl m
-      | inr r ↦ inr (
-        r.0,
-        subst (λ l. HasNoTree (serde.array (items_view l))) parts (array_none (take i xs) v (drop (suc i) xs) r.1),
-      )
-    ])
+    rw (p.1, p.2) (refused_too (λ none. subst (λ l. HasNoTree (serde.array (items_view l))) parts
+    (array_none (take i xs) v (drop (suc i) xs) none)) c.in_err-value.ensures.refused)
 
 pub from_items-returns-in_err-value-clause-begun : goal.from_items-returns-in_err-value-clause-begun
 from_items-returns-in_err-value-clause-begun g t c =
@@ -44,8 +42,8 @@ from_items-returns-in_err-value-clause-begun g t c =
     let v = c.item-item.result in
     let new = c.from_serde.new.cache in
     let parts = split_at xs i v (omega (arith, c.loop-item-test.true)) c.item-item.is ∙ c.deref-item-items.ensures.value in
-    rw p.1 (subst (λ l. SomeInterned l c.args.cache.now new) (ap (flat_map value_texts) parts ∙ sym (items_flat c.args.items.now.items))
-    (begun_more value_texts (take i xs) v c.args.cache.now c.loop-item.cache new c.loop-item.invariant.1 (drop (suc i) xs) c.in_err-value.ensures.begun))
+    rw p.1 (items_begun (take i xs) v (drop (suc i) xs) c.args.items.now.items c.args.cache.now c.loop-item.cache new parts
+    c.loop-item.invariant.1 c.in_err-value.ensures.begun)
 
 pub from_items-returns-in_err-push-clause-begun : goal.from_items-returns-in_err-push-clause-begun
 from_items-returns-in_err-push-clause-begun g t c =
@@ -55,9 +53,10 @@ from_items-returns-in_err-push-clause-begun g t c =
     let v = c.item-item.result in
     let new = c.from_serde.new.cache in
     let parts = split_at xs i v (omega (arith, c.loop-item-test.true)) c.item-item.is ∙ c.deref-item-items.ensures.value in
-    let read = c.in_ok-value.ensures.cache ∙ ap (λ l. all_interned l c.loop-item.cache) (tree_texts (view v) c.in_ok-value.value.tree c.in_ok-value.ensures.tree) in
-    rw p.1 (subst (λ l. SomeInterned l c.args.cache.now new) (ap (flat_map value_texts) parts ∙ sym (items_flat c.args.items.now.items))
-    (begun_more value_texts (take i xs) v c.args.cache.now c.loop-item.cache new c.loop-item.invariant.1 (drop (suc i) xs) (wholly_interned (value_texts v) c.loop-item.cache new read)))
+    let read = c.in_ok-value.ensures.cache ∙ ap (λ l. all_interned l c.loop-item.cache)
+    (tree_texts (view v) c.in_ok-value.value.tree c.in_ok-value.ensures.tree) in
+    rw p.1 (items_begun (take i xs) v (drop (suc i) xs) c.args.items.now.items c.args.cache.now c.loop-item.cache new parts
+    c.loop-item.invariant.1 (wholly_interned (value_texts v) c.loop-item.cache new read))
 
 pub from_items-loop-item-preserved : goal.from_items-loop-item-preserved
 from_items-loop-item-preserved g t c =
@@ -67,41 +66,42 @@ from_items-loop-item-preserved g t c =
     let u = c.in_ok-value.value in
     let more : take (i + 1) xs ≡ take i xs ++ v ∷ [] =
     take_more xs i v (omega (arith, c.loop-item-test.true)) ∙ ap (λ y. take i xs ++ y ∷ []) (sym c.item-item.is) in
-    let read = c.in_ok-value.ensures.cache ∙ ap (λ l. all_interned l c.loop-item.cache) (tree_texts (view v) u.tree c.in_ok-value.ensures.tree) in (
+    let read = c.in_ok-value.ensures.cache ∙ ap (λ l. all_interned l c.loop-item.cache)
+    (tree_texts (view v) u.tree c.in_ok-value.ensures.tree) in (
       subst (λ l. SerdeItems (items_view l) (item_trees c.push.new.self.items)) (sym more)
           (subst (λ us. SerdeItems (items_view (take i xs ++ v ∷ [])) (item_trees us)) (sym c.in_ok-push.ensures.ok)
           (items_more (take i xs) c.loop-item.array.items v u c.loop-item.invariant.0 c.in_ok-value.ensures.tree)),
-      interned_more value_texts (take i xs) v c.args.cache.now c.loop-item.cache c.from_serde.new.cache c.loop-item.invariant.1 read ∙ ap (λ l. all_interned (flat_map value_texts l) c.args.cache.now) (sym more),
+      interned_more value_texts (take i xs) v c.args.cache.now c.loop-item.cache c.from_serde.new.cache c.loop-item.invariant.1 read
+          ∙ ap (λ l. all_interned (flat_map value_texts l) c.args.cache.now) (sym more),
     )
 
 pub from_items-returns-clause-cache : goal.from_items-returns-clause-cache
 from_items-returns-clause-cache g t c =
-    let all = take_all c.loop-item.item-index c.deref-item-items.result.now (omega (arith, c.loop-item-test.false)) ∙ c.deref-item-items.ensures.value in
-    c.loop-item.invariant.1 ∙ ap (λ l. all_interned l c.args.cache.now) (ap (flat_map value_texts) all ∙ sym (items_flat c.args.items.now.items))
+    let all = take_all c.loop-item.item-index c.deref-item-items.result.now (omega (arith, c.loop-item-test.false))
+    ∙ c.deref-item-items.ensures.value in
+    c.loop-item.invariant.1 ∙ ap (λ l. all_interned l c.args.cache.now) (ap (flat_map value_texts) all
+    ∙ sym (items_flat c.args.items.now.items))
 
 -- ---- a value
 pub from_serde-returns-in_err-from_items-in-Array-clause-refused : goal.from_serde-returns-in_err-from_items-in-Array-clause-refused
 from_serde-returns-in_err-from_items-in-Array-clause-refused g t c =
     let p = err_from_is_err_and c.from_residual-in_err-from_items-in-Array.result c.from_residual-in_err-from_items-in-Array.ensures.1 in
     let seen = sym (ap view c.in-Array.is ∙ view-Array c.in-Array.items) in
-    rw (p.1, p.2) (elim c.in_err-from_items-in-Array.ensures.refused [
-      | inl m ↦ inl m
-      | inr r ↦ inr (r.0, subst HasNoTree seen r.1)
-    ])
+    rw (p.1, p.2) (refused_too (λ none. subst HasNoTree seen none) c.in_err-from_items-in-Array.ensures.refused)
 
-pub from_serde-returns-in_err-from_serde_map-in-Object-clause-refused : goal.from_serde-returns-in_err-from_serde_map-in-Object-clause-refused
+pub from_serde-returns-in_err-from_serde_map-in-Object-clause-refused :
+    goal.from_serde-returns-in_err-from_serde_map-in-Object-clause-refused
 from_serde-returns-in_err-from_serde_map-in-Object-clause-refused g t c =
-    let p = err_from_is_err_and c.from_residual-in_err-from_serde_map-in-Object.result c.from_residual-in_err-from_serde_map-in-Object.ensures.1 in
+    let p = err_from_is_err_and c.from_residual-in_err-from_serde_map-in-Object.result
+    c.from_residual-in_err-from_serde_map-in-Object.ensures.1 in
     let seen = sym (ap view c.in-Object.is ∙ view-Object c.in-Object.map) in
-    rw (p.1, p.2) (elim c.in_err-from_serde_map-in-Object.ensures.refused [
-      | inl m ↦ inl m
-      | inr r ↦ inr (r.0, subst HasNoTree seen r.1)
-    ])
+    rw (p.1, p.2) (refused_too (λ none. subst HasNoTree seen none) c.in_err-from_serde_map-in-Object.ensures.refused)
 
 pub from_serde-returns-in_ok-from_items-in-Array-clause-cache : goal.from_serde-returns-in_ok-from_items-in-Array-clause-cache
 from_serde-returns-in_ok-from_items-in-Array-clause-cache g t c =
     let made = c.in_ok-from_items-in-Array.field-0 in
-    let texts = tree_texts (serde.array (items_view c.in-Array.items.items)) (array_tree made.items) c.in_ok-from_items-in-Array.ensures.tree in
+    let texts = tree_texts (serde.array (items_view c.in-Array.items.items))
+    (array_tree made.items) c.in_ok-from_items-in-Array.ensures.tree in
     c.in_ok-from_items-in-Array.ensures.cache ∙ ap (λ l. all_interned l c.args.cache.now) (sym texts)
     ∙ ap (λ v. all_interned (texts_of v.tree) c.args.cache.now) (sym c.from-in-Array.ensures)
 
@@ -109,87 +109,83 @@ from_serde-returns-in_ok-from_items-in-Array-clause-cache g t c =
 pub from_serde_map-returns-in_err-key-clause-begun : goal.from_serde_map-returns-in_err-key-clause-begun
 from_serde_map-returns-in_err-key-clause-begun g t c =
     let p = err_from_is_err_and c.from_residual.result c.from_residual.ensures.1 in
-    let done = c.loop-key.invariant.0 in
+    let done = c.loop-key.invariant.done in
     let e : Entry = (c.in-Some.key.now, c.in-Some.member.now) in
     let left = c.next.new.self in
     let new = c.intern.new.cache in
     let entries = c.args.map.now.entries in
-    let parts : done ++ e ∷ left ≡ entries = sym (c.loop-key.invariant.1 ∙ ap (λ es. done ++ es) c.in-Some.ensures.steps) in
-    let nothing = subst (λ m. SomeInterned (entry_texts e) c.loop-key.cache m) (sym c.in_err-key.ensures.refused) (none_interned (entry_texts e) c.loop-key.cache) in
-    rw p.1 (subst (λ l. SomeInterned l c.args.cache.now new) (ap (flat_map entry_texts) parts ∙ sym (members_flat entries))
-    (begun_more entry_texts done e c.args.cache.now c.loop-key.cache new c.loop-key.invariant.3 left nothing))
+    let parts : done ++ e ∷ left ≡ entries = sym (c.loop-key.invariant.parts ∙ ap (λ es. done ++ es) c.in-Some.ensures.steps) in
+    let nothing = subst (λ m. SomeInterned (entry_texts e) c.loop-key.cache m) (sym c.in_err-key.ensures.refused)
+    (none_interned (entry_texts e) c.loop-key.cache) in
+    rw p.1 (members_begun done e left entries c.args.cache.now c.loop-key.cache new parts c.loop-key.invariant.texts nothing)
 
 pub from_serde_map-returns-in_err-value-clause-refused : goal.from_serde_map-returns-in_err-value-clause-refused
 from_serde_map-returns-in_err-value-clause-refused g t c =
     let p = err_from_is_err_and c.from_residual-in_err-value.result c.from_residual-in_err-value.ensures.1 in
-    let done = c.loop-key.invariant.0 in
+    let done = c.loop-key.invariant.done in
     let e : Entry = (c.in-Some.key.now, c.in-Some.member.now) in
     let left = c.next.new.self in
     let entries = c.args.map.now.entries in
-    let parts : done ++ e ∷ left ≡ entries = sym (c.loop-key.invariant.1 ∙ ap (λ es. done ++ es) c.in-Some.ensures.steps) in
-    rw (p.1, p.2) (elim c.in_err-value.ensures.refused [
-      | inl m ↦ inl m
-      | inr r ↦ inr (r.0, subst (λ es. HasNoTree (serde.object (members_view es))) parts (object_none done e left r.1))
-    ])
+    let parts : done ++ e ∷ left ≡ entries = sym (c.loop-key.invariant.parts ∙ ap (λ es. done ++ es) c.in-Some.ensures.steps) in
+    rw (p.1, p.2) (refused_too (λ none. subst (λ es. HasNoTree (serde.object (members_view es))) parts (object_none done e left none))
+    c.in_err-value.ensures.refused)
 
 pub from_serde_map-returns-in_err-value-clause-begun : goal.from_serde_map-returns-in_err-value-clause-begun
 from_serde_map-returns-in_err-value-clause-begun g t c =
     let p = err_from_is_err_and c.from_residual-in_err-value.result c.from_residual-in_err-value.ensures.1 in
-    let done = c.loop-key.invariant.0 in
+    let done = c.loop-key.invariant.done in
     let e : Entry = (c.in-Some.key.now, c.in-Some.member.now) in
     let left = c.next.new.self in
     let new = c.from_serde.new.cache in
     let entries = c.args.map.now.entries in
-    let parts : done ++ e ∷ left ≡ entries = sym (c.loop-key.invariant.1 ∙ ap (λ es. done ++ es) c.in-Some.ensures.steps) in
+    let parts : done ++ e ∷ left ≡ entries = sym (c.loop-key.invariant.parts ∙ ap (λ es. done ++ es) c.in-Some.ensures.steps) in
     let keyed : c.intern.new.cache ≡ all_interned (string_bytes e.0 ∷ []) c.loop-key.cache =
     c.in_ok-key.ensures.cache ∙ ap (λ k. interned k c.loop-key.cache) c.as_str.ensures.value in
     let behind = subst (λ m. SomeInterned (serde_texts (view e.1)) m new) keyed c.in_err-value.ensures.begun in
-    rw p.1 (subst (λ l. SomeInterned l c.args.cache.now new) (ap (flat_map entry_texts) parts ∙ sym (members_flat entries))
-    (begun_more entry_texts done e c.args.cache.now c.loop-key.cache new c.loop-key.invariant.3 left
-    (some_behind (string_bytes e.0 ∷ []) (serde_texts (view e.1)) c.loop-key.cache new behind)))
+    rw p.1 (members_begun done e left entries c.args.cache.now c.loop-key.cache new parts c.loop-key.invariant.texts
+    (some_behind (string_bytes e.0 ∷ []) (serde_texts (view e.1)) c.loop-key.cache new behind))
 
 pub from_serde_map-returns-in_err-insert-clause-begun : goal.from_serde_map-returns-in_err-insert-clause-begun
 from_serde_map-returns-in_err-insert-clause-begun g t c =
     let p = err_from_is_err_and c.from_residual-in_err-insert.result c.from_residual-in_err-insert.ensures.1 in
-    let done = c.loop-key.invariant.0 in
+    let done = c.loop-key.invariant.done in
     let e : Entry = (c.in-Some.key.now, c.in-Some.member.now) in
     let left = c.next.new.self in
     let new = c.from_serde.new.cache in
     let entries = c.args.map.now.entries in
-    let parts : done ++ e ∷ left ≡ entries = sym (c.loop-key.invariant.1 ∙ ap (λ es. done ++ es) c.in-Some.ensures.steps) in
-    let keyed : c.intern.new.cache ≡ all_interned (string_bytes e.0 ∷ []) c.loop-key.cache =
-    c.in_ok-key.ensures.cache ∙ ap (λ k. interned k c.loop-key.cache) c.as_str.ensures.value in
-    let read : new ≡ all_interned (entry_texts e) c.loop-key.cache =
-    c.in_ok-value.ensures.cache ∙ ap (λ l. all_interned l c.intern.new.cache) (tree_texts (view e.1) c.in_ok-value.value.tree c.in_ok-value.ensures.tree) ∙ ap (all_interned (serde_texts (view e.1))) keyed in
-    rw p.1 (subst (λ l. SomeInterned l c.args.cache.now new) (ap (flat_map entry_texts) parts ∙ sym (members_flat entries))
-    (begun_more entry_texts done e c.args.cache.now c.loop-key.cache new c.loop-key.invariant.3 left
-    (wholly_interned (entry_texts e) c.loop-key.cache new read)))
+    let parts : done ++ e ∷ left ≡ entries = sym (c.loop-key.invariant.parts ∙ ap (λ es. done ++ es) c.in-Some.ensures.steps) in
+    let read = entry_interned e c.in_ok-value.value.tree c.as_str.result.now c.loop-key.cache c.intern.new.cache new
+    c.in_ok-key.ensures.cache c.as_str.ensures.value c.in_ok-value.ensures.cache c.in_ok-value.ensures.tree in
+    rw p.1 (members_begun done e left entries c.args.cache.now c.loop-key.cache new parts c.loop-key.invariant.texts
+    (wholly_interned (entry_texts e) c.loop-key.cache new read))
 
 pub from_serde_map-loop-key-preserved : goal.from_serde_map-loop-key-preserved
 from_serde_map-loop-key-preserved g t c =
-    let done = c.loop-key.invariant.0 in
+    let done = c.loop-key.invariant.done in
     let e : Entry = (c.in-Some.key.now, c.in-Some.member.now) in
     let left = c.next.new.self in
     let new = c.from_serde.new.cache in
     let entries = c.args.map.now.entries in
     let old = c.loop-key.object.pairs in
     let u = c.in_ok-value.value in
-    let parts : done ++ e ∷ left ≡ entries = sym (c.loop-key.invariant.1 ∙ ap (λ es. done ++ es) c.in-Some.ensures.steps) in
-    let keyed : c.intern.new.cache ≡ all_interned (string_bytes e.0 ∷ []) c.loop-key.cache =
-    c.in_ok-key.ensures.cache ∙ ap (λ k. interned k c.loop-key.cache) c.as_str.ensures.value in
-    let read : new ≡ all_interned (entry_texts e) c.loop-key.cache =
-    c.in_ok-value.ensures.cache ∙ ap (λ l. all_interned l c.intern.new.cache) (tree_texts (view e.1) u.tree c.in_ok-value.ensures.tree) ∙ ap (all_interned (serde_texts (view e.1))) keyed in
+    let parts : done ++ e ∷ left ≡ entries = sym (c.loop-key.invariant.parts ∙ ap (λ es. done ++ es) c.in-Some.ensures.steps) in
+    let read = entry_interned e c.in_ok-value.value.tree c.as_str.result.now c.loop-key.cache c.intern.new.cache new
+    c.in_ok-key.ensures.cache c.as_str.ensures.value c.in_ok-value.ensures.cache c.in_ok-value.ensures.tree in
     let sorted = subst (λ es. IsStrictlySortedBy string_cmp (keys_of es)) (sym parts) c.iter-key-items.ensures.ordered in
     let last : c.insert.new.self.pairs ≡ old ++ (string_bytes e.0, u) ∷ [] =
-    c.in_ok-insert.ensures.pairs ∙ ap (λ k. put old k u) (c.in_ok-key.ensures.text ∙ c.as_str.ensures.value) ∙ put_last done old e left u c.loop-key.invariant.2 sorted in (
-      done ++ e ∷ [],
-      sym parts ∙ sym (append_assoc done (e ∷ []) left),
-      subst (λ ps. SerdeMembers (members_view (done ++ e ∷ [])) (pair_trees ps)) (sym last) (members_more done old e u c.loop-key.invariant.2 c.in_ok-value.ensures.tree),
-      interned_more entry_texts done e c.args.cache.now c.loop-key.cache new c.loop-key.invariant.3 read,
-    )
+    c.in_ok-insert.ensures.pairs ∙ ap (λ k. put old k u) (c.in_ok-key.ensures.text ∙ c.as_str.ensures.value)
+    ∙ put_last done old e left u c.loop-key.invariant.trees sorted in
+    record {
+      done = done ++ e ∷ [];
+      parts = sym parts ∙ sym (append_assoc done (e ∷ []) left);
+      trees = subst (λ ps. SerdeMembers (members_view (done ++ e ∷ [])) (pair_trees ps)) (sym last)
+          (members_more done old e u c.loop-key.invariant.trees c.in_ok-value.ensures.tree);
+      texts = interned_more entry_texts done e c.args.cache.now c.loop-key.cache new c.loop-key.invariant.texts read;
+    }
 
 pub from_serde_map-returns-clause-cache : goal.from_serde_map-returns-clause-cache
 from_serde_map-returns-clause-cache g t c =
-    let done = c.loop-key.invariant.0 in
-    let texts = tree_texts (serde.object (members_view done)) (object_tree c.loop-key.object.pairs) c.loop-key.invariant.2 ∙ members_flat done in
-    c.loop-key.invariant.3 ∙ ap (λ l. all_interned l c.args.cache.now) (sym texts)
+    let done = c.loop-key.invariant.done in
+    let texts = tree_texts (serde.object (members_view done)) (object_tree c.loop-key.object.pairs) c.loop-key.invariant.trees
+    ∙ members_flat done in
+    c.loop-key.invariant.texts ∙ ap (λ l. all_interned l c.args.cache.now) (sym texts)

@@ -16,7 +16,9 @@ invariant-from_items-loop-item g l =
 
 -- so have the members so far
 abbrev pub invariant-from_serde_map-loop-key : goal.invariant-from_serde_map-loop-key
-invariant-from_serde_map-loop-key g l =
-    (done : List Entry) × (l.map.entries ≡ done ++ l.key-iterator)
-    × SerdeMembers (members_view done) (pair_trees l.object.pairs)
-    × (l.cache ≡ all_interned (flat_map entry_texts done) l.fn.cache)
+invariant-from_serde_map-loop-key g l = record {
+  done : List Entry;
+  parts : l.map.entries ≡ done ++ l.key-iterator;
+  trees : SerdeMembers (members_view done) (pair_trees l.object.pairs);
+  texts : l.cache ≡ all_interned (flat_map entry_texts done) l.fn.cache;
+}

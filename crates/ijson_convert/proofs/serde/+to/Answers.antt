@@ -1,4 +1,5 @@
-use Rattle.std.proofs.Common.{◌≡◌, ℕ, List, [], ◌∷◌, ◌++◌, ◌+◌, ◌≤◌, suc, take, drop, append_assoc, refl, ap, sym, subst, ◌∙◌, inl, inr, arith, rules}
+use Rattle.std.proofs.Common.{◌≡◌, ℕ, List, [], ◌∷◌, ◌++◌, ◌+◌, ◌≤◌, suc, take, drop, append_assoc, refl, ap, sym, subst, ◌∙◌, inr}
+use Rattle.std.proofs.Common.{arith, rules}
 use Rattle.std.specs.Prelude.{string_cmp}
 use Rattle.std.specs.BTreeMap.{insert_entry}
 use Rattle.std.proofs.lemmas.List.{take_more}
@@ -15,8 +16,10 @@ use Rattle.ijson_value.specs.Values.{array_tree, object_tree}
 use Rattle.ijson_value.specs.WellFormed.{WellFormed, pair_trees}
 use Rattle.ijson_value.specs.laws.HoldsWellFormed.{IsWellFormed-object}
 use Rattle.ijson_convert.specs.SerdeTree.{SerdeMeans, NoSerdeMeans}
+use Rattle.ijson_convert.proofs.Refusals.{refused_too}
 use Rattle.ijson_convert.proofs.SerdeTrees.{split_at}
-use Rattle.ijson_convert.proofs.SerdeMeant.{array_means, array_unmeant, object_means, object_unmeant, has_middle, deep_middle, lacks_before}
+use Rattle.ijson_convert.proofs.PairTrees.{has_middle, deep_middle}
+use Rattle.ijson_convert.proofs.SerdeMeanings.{array_means, array_unmeant, object_means, object_unmeant, lacks_before}
 use Rattle.ijson_convert.proofs.serde.+to.Goals as goal
 
 -- ---- an item
@@ -36,10 +39,8 @@ to_items-returns-in_err-value-clause-refused t c =
     let i = c.loop-item.item-index in
     let u = c.item-item.result in
     let parts = split_at xs i u c.loop-item-test.true c.item-item.is in
-    rw (p.1, p.2) (elim c.in_err-value.ensures.refused [
-      | inl m ↦ inl m
-      | inr r ↦ inr (r.0, subst (λ us. NoSerdeMeans (array_tree us)) parts (array_unmeant (take i xs) u (drop (suc i) xs) r.1))
-    ])
+    rw (p.1, p.2) (refused_too (λ none. subst (λ us. NoSerdeMeans (array_tree us)) parts
+    (array_unmeant (take i xs) u (drop (suc i) xs) none)) c.in_err-value.ensures.refused)
 
 pub to_items-loop-item-preserved : goal.to_items-loop-item-preserved
 to_items-loop-item-preserved t c =
@@ -66,68 +67,67 @@ pub to_serde-returns-in_err-to_items-in-Array-clause-refused : goal.to_serde-ret
 to_serde-returns-in_err-to_items-in-Array-clause-refused t c =
     let p = err_from_is_err_and c.from_residual-in_err-to_items-in-Array.result c.from_residual-in_err-to_items-in-Array.ensures.1 in
     let is = ap (λ v. v.tree) (sym c.destructure_ref.ensures ∙ ap ref_value c.in-Array.is) in
-    rw (p.1, p.2) (elim c.in_err-to_items-in-Array.ensures.refused [
-      | inl m ↦ inl m
-      | inr r ↦ inr (r.0, subst NoSerdeMeans (ap array_tree c.as_slice.ensures ∙ sym is) r.1)
-    ])
+    rw (p.1, p.2) (refused_too (λ none. subst NoSerdeMeans (ap array_tree c.as_slice.ensures ∙ sym is) none)
+    c.in_err-to_items-in-Array.ensures.refused)
 
 pub to_serde-returns-in_err-to_serde_map-in-Object-clause-refused : goal.to_serde-returns-in_err-to_serde_map-in-Object-clause-refused
 to_serde-returns-in_err-to_serde_map-in-Object-clause-refused t c =
-    let p = err_from_is_err_and c.from_residual-in_err-to_serde_map-in-Object.result c.from_residual-in_err-to_serde_map-in-Object.ensures.1 in
+    let p = err_from_is_err_and c.from_residual-in_err-to_serde_map-in-Object.result
+    c.from_residual-in_err-to_serde_map-in-Object.ensures.1 in
     let is = ap (λ v. v.tree) (sym c.destructure_ref.ensures ∙ ap ref_value c.in-Object.is) in
-    rw (p.1, p.2) (elim c.in_err-to_serde_map-in-Object.ensures.refused [
-      | inl m ↦ inl m
-      | inr r ↦ inr (r.0, subst NoSerdeMeans (sym is) r.1)
-    ])
+    rw (p.1, p.2) (refused_too (λ none. subst NoSerdeMeans (sym is) none) c.in_err-to_serde_map-in-Object.ensures.refused)
 
 -- ---- a member
 pub to_serde_map-loop-key-init : goal.to_serde_map-loop-key-init
 to_serde_map-loop-key-init t c =
-    let none : c.new-map.result.entries ≡ [] = search rules in (
-      [],
-      sym (c.into_iter-key-iterator.ensures.into_iter_gives ∙ c.iter-key-items.ensures),
-      subst (λ es. SerdeMeans (serde.object (members_view es)) (object_tree [])) (sym none) (object no_members, (tt, tt), tt, (refl, tt)),
-    )
+    let none : c.new-map.result.entries ≡ [] = search rules in
+    record {
+      done = [];
+      parts = sym (c.into_iter-key-iterator.ensures.into_iter_gives ∙ c.iter-key-items.ensures);
+      means = subst (λ es. SerdeMeans (serde.object (members_view es)) (object_tree [])) (sym none)
+          (object no_members, (tt, tt), tt, (refl, tt));
+    }
 
 pub to_serde_map-to_serde-requires : goal.to_serde_map-to_serde-requires
 to_serde_map-to_serde-requires t c =
-    let done = c.loop-key.invariant.0 in
+    let done = c.loop-key.invariant.done in
     let u = c.in-Some.value.now in
     let e : List ℕ × WellFormed = (c.in-Some.key.now, u) in
-    let parts = sym (c.loop-key.invariant.1 ∙ ap (λ ps. done ++ ps) c.in-Some.ensures.steps) in
+    let parts = sym (c.loop-key.invariant.parts ∙ ap (λ ps. done ++ ps) c.in-Some.ensures.steps) in
     let below = subst (λ ps. depth u.tree ≤ members_depth (pair_trees ps)) parts (deep_middle done e c.next.new.self) in
     (omega (arith, below, c.decreases), tt)
 
 pub to_serde_map-returns-in_err-member-clause-refused : goal.to_serde_map-returns-in_err-member-clause-refused
 to_serde_map-returns-in_err-member-clause-refused t c =
     let p = err_from_is_err_and c.from_residual-in_err-member.result c.from_residual-in_err-member.ensures.1 in
-    let done = c.loop-key.invariant.0 in
+    let done = c.loop-key.invariant.done in
     let u = c.in-Some.value.now in
     let e : List ℕ × WellFormed = (c.in-Some.key.now, u) in
     let s = c.args.object.now in
-    let parts = sym (c.loop-key.invariant.1 ∙ ap (λ ps. done ++ ps) c.in-Some.ensures.steps) in
+    let parts = sym (c.loop-key.invariant.parts ∙ ap (λ ps. done ++ ps) c.in-Some.ensures.steps) in
     let has = subst (λ ps. Has e.0 u.tree (pair_trees ps)) parts (has_middle done e c.next.new.self) in
-    rw (p.1, p.2) (elim c.in_err-member.ensures.refused [
-      | inl m ↦ inl m
-      | inr r ↦ inr (r.0, object_unmeant (pair_trees s.pairs) (IsWellFormed-object s) e.0 u.tree u.well_formed has r.1)
-    ])
+    rw (p.1, p.2) (refused_too (λ none. object_unmeant (pair_trees s.pairs) (IsWellFormed-object s) e.0 u.tree u.well_formed has none)
+    c.in_err-member.ensures.refused)
 
 pub to_serde_map-loop-key-preserved : goal.to_serde_map-loop-key-preserved
 to_serde_map-loop-key-preserved t c =
-    let done = c.loop-key.invariant.0 in
+    let done = c.loop-key.invariant.done in
     let u = c.in-Some.value.now in
     let e : List ℕ × WellFormed = (c.in-Some.key.now, u) in
     let left = c.next.new.self in
     let es = c.loop-key.map.entries in
     let key = c.in_ok-key.key in
     let v = c.in_ok-member.member in
-    let parts : done ++ e ∷ left ≡ c.args.object.now.pairs = sym (c.loop-key.invariant.1 ∙ ap (λ ps. done ++ ps) c.in-Some.ensures.steps) in
+    let parts : done ++ e ∷ left ≡ c.args.object.now.pairs =
+    sym (c.loop-key.invariant.parts ∙ ap (λ ps. done ++ ps) c.in-Some.ensures.steps) in
     let distinct = subst (λ ps. IsDistinct (member_keys (pair_trees ps))) (sym parts) (IsWellFormed-object c.args.object.now).0 in
     let entries : c.insert.new.self.entries ≡ insert_entry string_cmp es key v = search rules in
     let put : members_view c.insert.new.self.entries ≡ serde.put e.0 (view v) (members_view es) =
-    ap members_view entries ∙ members_view-insert_entry es key v ∙ ap (λ k. serde.put k (view v) (members_view es)) c.in_ok-key.ensures in (
-      done ++ e ∷ [],
-      sym parts ∙ sym (append_assoc done (e ∷ []) left),
-      subst (λ ms. SerdeMeans (serde.object ms) (object_tree (done ++ e ∷ []))) (sym put)
-          (object_means (members_view es) done (view v) e (lacks_before done e left distinct) c.in_ok-member.ensures.means c.loop-key.invariant.2),
-    )
+    ap members_view entries ∙ members_view-insert_entry es key v ∙ ap (λ k. serde.put k (view v) (members_view es)) c.in_ok-key.ensures in
+    record {
+      done = done ++ e ∷ [];
+      parts = sym parts ∙ sym (append_assoc done (e ∷ []) left);
+      means = subst (λ ms. SerdeMeans (serde.object ms) (object_tree (done ++ e ∷ []))) (sym put)
+          (object_means (members_view es) done (view v) e (lacks_before done e left distinct) c.in_ok-member.ensures.means
+          c.loop-key.invariant.means);
+    }

@@ -1,7 +1,7 @@
 use Rattle.std.proofs.Common.{◌≡◌, ℕ, List, ◌++◌, ◌+◌, ◌*◌, take}
 use Rattle.serde_json.specs.Data as serde
 use Rattle.serde_json.specs.View.{items_view, members_view}
-use Rattle.ijson_value.specs.private.Sizes.{value_size, object_size}
+use Rattle.ijson_value.specs.Sizes.{value_size, object_size}
 use Rattle.ijson_value.specs.Tree.{items_depth}
 use Rattle.ijson_value.specs.Values.{array_tree, object_tree}
 use Rattle.ijson_value.specs.WellFormed.{WellFormed, item_trees}
@@ -15,9 +15,11 @@ invariant-to_items-loop-item l =
 
 -- so do the members so far
 abbrev pub invariant-to_serde_map-loop-key : goal.invariant-to_serde_map-loop-key
-invariant-to_serde_map-loop-key l =
-    (done : List (List ℕ × WellFormed)) × (l.fn.object.pairs ≡ done ++ l.key-iterator)
-    × SerdeMeans (serde.object (members_view l.map.entries)) (object_tree done)
+invariant-to_serde_map-loop-key l = record {
+  done : List (List ℕ × WellFormed);
+  parts : l.fn.object.pairs ≡ done ++ l.key-iterator;
+  means : SerdeMeans (serde.object (members_view l.map.entries)) (object_tree done);
+}
 
 abbrev pub decreases-to_serde : goal.decreases-to_serde
 decreases-to_serde l = value_size l.value.now

@@ -293,6 +293,20 @@ fn extended(rt: &impl Abort, alloc: Global) -> IObject {
     object
 }
 
+/// An object of the five pairs, which are laid over an empty one.
+fn laid_over(rt: &impl Abort, alloc: Global) -> IObject {
+    let mut object = IObject::new(alloc);
+    if let Err(refused) = object.overlay(with_pairs(rt, alloc, 5, 5)) {
+        let len = object.len();
+        assert!(rt; len == 0 || len == 4);
+        assert!(rt; is_back(&refused, len) && holds(&object, len, len));
+        object
+            .overlay(with_pairs(rt, alloc, 5, 5))
+            .expect(rt, "the pairs");
+    }
+    object
+}
+
 /// An object of the five pairs, from those of another one.
 fn made_again(rt: &impl Abort, alloc: Global, object: IObject) -> IObject {
     match IObject::from_iter(alloc, object) {
@@ -309,4 +323,9 @@ fn extend(rt: HostRuntime) {
     let object = extended(&rt, rt.alloc());
     assert!(rt; holds(&object, 5, 8));
     assert!(rt; holds(&made_again(&rt, rt.alloc(), object), 5, 8));
+}
+
+#[test]
+fn overlay(rt: HostRuntime) {
+    assert!(rt; holds(&laid_over(&rt, rt.alloc()), 5, 8));
 }

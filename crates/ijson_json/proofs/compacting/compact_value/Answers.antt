@@ -3,8 +3,8 @@ use Rattle.std.proofs.KnownBytes.{Consumes-whole}
 use Rattle.std.specs.Io.KnownBytes.{Appends}
 use Rattle.ijson_json.specs.Compacts.{IsCompactLine}
 use Rattle.ijson_json.specs.WritesBeginning.{WritesBeginning}
-use Rattle.ijson_json.proofs.Caches.{adds_none}
-use Rattle.ijson_json.proofs.Moves.{both_err, known_or_none, on_both, was_err, whole_line}
+use Rattle.ijson_json.proofs.reading.CacheContents.{adds_none}
+use Rattle.ijson_json.proofs.devices.TransferredBytes.{both_err, known_or_none, on_both, was_err, whole_line}
 use Rattle.ijson_json.proofs.compacting.compact_value.Goals as goal
 
 pub returns-in_err-bytes-clause-cache : goal.returns-in_err-bytes-clause-cache
@@ -17,7 +17,8 @@ returns-clause-done g c =
     let bytes = c.in_ok-bytes.bytes.items in
     let written = string_bytes c.in_ok-value.line in
     let line : IsCompactLine bytes written = c.in_ok-value.ensures.line in
-    let whole = λ (appended : Appends _ _ _). whole_line _ _ _ _ bytes written c.in_ok-bytes.ensures.bytes c.in_ok-bytes.ensures.end line (subst (Appends _ _) c.as_bytes.ensures.value appended) in
+    let whole = λ (appended : Appends _ _ _). whole_line _ _ _ _ bytes written c.in_ok-bytes.ensures.bytes c.in_ok-bytes.ensures.end line
+    (subst (Appends _ _) c.as_bytes.ensures.value appended) in
     on_both _ _ _ _ c.map_err-written.ensures.variant c.and.ensures whole c.write_all.ensures.bytes
 
 pub returns-clause-beginning : goal.returns-clause-beginning

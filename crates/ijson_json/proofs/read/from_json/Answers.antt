@@ -1,5 +1,5 @@
-use Rattle.ijson_json.proofs.Depth.{answers_depth}
-use Rattle.ijson_json.proofs.Texts.{answers_read, answers_printed}
+use Rattle.ijson_json.proofs.grammar.AcceptedDepth.{answers_depth}
+use Rattle.ijson_json.proofs.reading.WholeTexts.{answers_read, answers_printed}
 use Rattle.ijson_json.proofs.read.from_json.Goals as goal
 
 pub returns-clause-nesting : goal.returns-clause-nesting

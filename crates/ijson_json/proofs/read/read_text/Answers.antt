@@ -4,29 +4,38 @@ use Rattle.ijson_json.specs.Grammar.{Accepted}
 use Rattle.ijson_json.specs.Refuses.{Refuses}
 use Rattle.ijson_json.specs.declared.fault.JsonError.{JsonError}
 use Rattle.std.proofs.lemmas.Bool.{eqb-true}
-use Rattle.ijson_json.proofs.Bytes.{not_both}
-use Rattle.ijson_json.proofs.Caches.{adds_behind}
-use Rattle.ijson_json.proofs.Texts.{whole, behind, refuses}
+use Rattle.ijson_json.proofs.scanning.Prefixes.{not_both}
+use Rattle.ijson_json.proofs.reading.CacheContents.{adds_behind}
+use Rattle.ijson_json.proofs.reading.WholeTexts.{whole, behind, refuses}
 use Rattle.ijson_json.proofs.read.read_text.Goals as goal
 
 pub returns-then-is_empty-clause-read : goal.returns-then-is_empty-clause-read
 returns-then-is_empty-clause-read g c =
     let r = c.in-Ok.ensures.read in
-    subst (λ (t : Tree). Accepted c.args.text.now t) (sym r.2) (whole c.args.text.now c.skip_space-start.result.now c.in-Ok.rest.now c.skip_space-rest.result.now r.0 c.skip_space-start.ensures r.1 c.skip_space-rest.ensures (eqb-true _ _ (sym c.if-is_empty.ensures)))
+    subst (λ (t : Tree). Accepted c.args.text.now t) (sym r.2)
+    (whole c.args.text.now c.skip_space-start.result.now c.in-Ok.rest.now c.skip_space-rest.result.now r.0 c.skip_space-start.ensures
+    r.1 c.skip_space-rest.ensures (eqb-true _ _ (sym c.if-is_empty.ensures)))
 
 pub returns-in-Ok-clause-read : goal.returns-in-Ok-clause-read
 returns-in-Ok-clause-read g c =
-    let r = c.in-Ok.ensures.read in
-    (omega arith, behind c.args.text.now c.skip_space-start.result.now c.in-Ok.rest.now c.skip_space-rest.result.now r.0 c.skip_space-start.ensures r.1 c.skip_space-rest.ensures (λ e. not_both _ (eq-eqb _ _ e) (sym c.if-is_empty.ensures)))
+    let r = c.in-Ok.ensures.read in (
+      omega arith,
+      behind c.args.text.now c.skip_space-start.result.now c.in-Ok.rest.now c.skip_space-rest.result.now r.0
+          c.skip_space-start.ensures r.1 c.skip_space-rest.ensures (λ e. not_both _ (eq-eqb _ _ e) (sym c.if-is_empty.ensures)),
+    )
 
 pub returns-clause-read : goal.returns-clause-read
-returns-clause-read g c = subst (λ (e : JsonError). Refuses c.args.text.now e) (sym c.located.ensures) (refuses c.args.text.now c.skip_space-start.result.now c.in-Err.fault c.skip_space-start.ensures c.in-Err.ensures.read)
+returns-clause-read g c = subst (λ (e : JsonError). Refuses c.args.text.now e) (sym c.located.ensures)
+    (refuses c.args.text.now c.skip_space-start.result.now c.in-Err.fault c.skip_space-start.ensures c.in-Err.ensures.read)
 
 pub returns-then-is_empty-clause-cache : goal.returns-then-is_empty-clause-cache
-returns-then-is_empty-clause-cache g c = adds_behind c.args.text.now c.skip_space-start.ensures.space c.skip_space-start.result.now c.args.cache.now c.read_value.new.cache c.skip_space-start.ensures.is c.read_value.ensures.cache
+returns-then-is_empty-clause-cache g c = adds_behind c.args.text.now c.skip_space-start.ensures.space c.skip_space-start.result.now
+    c.args.cache.now c.read_value.new.cache c.skip_space-start.ensures.is c.read_value.ensures.cache
 
 pub returns-in-Ok-clause-cache : goal.returns-in-Ok-clause-cache
-returns-in-Ok-clause-cache g c = adds_behind c.args.text.now c.skip_space-start.ensures.space c.skip_space-start.result.now c.args.cache.now c.read_value.new.cache c.skip_space-start.ensures.is c.read_value.ensures.cache
+returns-in-Ok-clause-cache g c = adds_behind c.args.text.now c.skip_space-start.ensures.space c.skip_space-start.result.now
+    c.args.cache.now c.read_value.new.cache c.skip_space-start.ensures.is c.read_value.ensures.cache
 
 pub returns-clause-cache : goal.returns-clause-cache
-returns-clause-cache g c = adds_behind c.args.text.now c.skip_space-start.ensures.space c.skip_space-start.result.now c.args.cache.now c.read_value.new.cache c.skip_space-start.ensures.is c.read_value.ensures.cache
+returns-clause-cache g c = adds_behind c.args.text.now c.skip_space-start.ensures.space c.skip_space-start.result.now c.args.cache.now
+    c.read_value.new.cache c.skip_space-start.ensures.is c.read_value.ensures.cache

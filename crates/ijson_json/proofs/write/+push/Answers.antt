@@ -2,7 +2,7 @@ use Rattle.std.proofs.Common.{true, ◌≡◌, ◌∙◌, ◌++◌, arith, ap, s
 use Rattle.ijson_value.specs.WellFormed.{pair_trees}
 use Rattle.ijson_value.specs.Tree.{members_depth}
 use Rattle.ijson_value.proofs.DepthLemmas.{item-items_depth}
-use Rattle.ijson_json.proofs.Joined.{joined, member_texts, joined-items, joined-members}
+use Rattle.ijson_json.proofs.writing.Joined.{joined, member_texts, joined-items, joined-members}
 use Rattle.ijson_json.proofs.write.+push.Goals as goal
 
 pub push_items-loop-item-init : goal.push_items-loop-item-init
@@ -16,8 +16,10 @@ push_items-push_value-requires t c =
 pub push_members-loop-key-init : goal.push_members-loop-key-init
 push_members-loop-key-init t c =
     let all = c.into_iter-key-iterator.ensures.into_iter_gives ∙ c.iter-key-items.ensures in
-    let same : members_depth (pair_trees c.into_iter-key-iterator.result) ≡ members_depth (pair_trees c.args.object.now.pairs) = ap (λ ps. members_depth (pair_trees ps)) all in
+    let same : members_depth (pair_trees c.into_iter-key-iterator.result) ≡ members_depth (pair_trees c.args.object.now.pairs) =
+    ap (λ ps. members_depth (pair_trees ps)) all in
     record {
       below = omega (arith, same);
-      written = ap (λ l. string_bytes c.args.out.now ++ l) (sym (ap (λ ps. joined true (member_texts ps)) all ∙ joined-members c.args.object.now.pairs));
+      written = ap (λ l. string_bytes c.args.out.now ++ l)
+          (sym (ap (λ ps. joined true (member_texts ps)) all ∙ joined-members c.args.object.now.pairs));
     }

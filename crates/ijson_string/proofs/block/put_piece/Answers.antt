@@ -11,7 +11,8 @@ returns-clause-put c =
     let bytes = c.args.bytes.now in
     let text = c.args.text.now in
     let back : start + size - start ≡ size = omega arith in
-    let piece : c.copy_from_slice.new.self ≡ take size (drop start text) = c.copy_from_slice.ensures.after ∙ ap (λ n. take n (drop start text)) back in
+    let piece : c.copy_from_slice.new.self ≡ take size (drop start text) =
+    c.copy_from_slice.ensures.after ∙ ap (λ n. take n (drop start text)) back in
     let left = length-drop start text in
     let whole : length c.copy_from_slice.new.self ≡ size = ap length piece ∙ length-take-le size (drop start text) (omega arith) in
     take-put_mid start (start + size - start) bytes c.copy_from_slice.new.self (start + size) (omega arith) (omega arith)

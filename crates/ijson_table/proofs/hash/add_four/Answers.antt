@@ -1,7 +1,7 @@
 use Rattle.std.proofs.Common.{◌≡◌, ◌^◌, length, arith}
 use Rattle.std.proofs.NetLemmas.Arrays.{four_items}
 use Rattle.ijson_table.specs.Fold.{fold_word}
-use Rattle.ijson_table.proofs.Folding.{four_steps}
+use Rattle.ijson_table.proofs.arithmetic.FoldSteps.{four_steps}
 use Rattle.ijson_table.proofs.hash.add_four.Goals as goal
 
 pub returns : goal.returns

@@ -1,13 +1,12 @@
 -- `LinearPairs` as a type that may hold the type that holds it, by its values.
 --     entry, on_value      a pair of a text and a value, and a function applied to that value
 --     holding, mapped, got and their lemmas      the same store over other pairs with the same keys
-use Rattle.std.specs.Prelude.{◌≡◌, ℕ, suc, length, max, List, [], ◌∷◌, map}
+use Rattle.std.specs.Prelude.{◌≡◌, ℕ, suc, length, max, List, [], ◌∷◌, map, vec_capacity}
 use mathlib.Core.Path.{PathP, refl, sym, ap, subst, ◌∙◌}
-use mathlib.Core.HLevel.{is_prop→PathP, ×_prop}
+use mathlib.Core.HLevel.{is_prop→PathP}
 use mathlib.Core.Former.{Former, Count, Row, over, this, const, pair, list, list_count, list_put, list_get, such, via, children}
 use base.Stored.{code_map, coded×, coded_list, coded_ℕ, gcons}
 use denote.RattleType.{RattleType}
-use denote.Struct.Props.{props}
 use denote.Struct.Tuple.{tuple_type, Tuple}
 use denote.HoleLaws.{Alike}
 use denote.HolePlaces.{Recodes, struct_places, laid}
@@ -146,24 +145,24 @@ values_listed X (p ∷ ps) = ap (λ l. p.1 ∷ l) (values_listed X ps)
 pub the_items_listed : (X : Type 0) (d : Store X) → listed _ (children (the_former this) X d) ≡ the_items X d
 the_items_listed X d = values_listed X d.pairs
 
--- the fields: a `Vec` of pairs with distinct keys, and the capacity
+-- the fields: a `Vec` of pairs with distinct keys
 abbrev columns : Former {0}
-columns = pair (vec.the_former (entry this) Global) (const ℕ)
+columns = vec.the_former (entry this) Global
 
-keys_in_shape : (X : Type 0) (c : Vec (List ℕ × X) Global × ℕ) → keys_of (columns.shape X c).0.items ≡ keys_of c.0.items
-keys_in_shape X c = keys_on_values _ c.0.items
+keys_in_shape : (X : Type 0) (c : Vec (List ℕ × X) Global) → keys_of (columns.shape X c).items ≡ keys_of c.items
+keys_in_shape X c = keys_on_values _ c.items
 
 abbrev fields : Former {0}
-fields = via (such columns (λ X c. IsDistinct (keys_of c.0.items)) (λ a. IsDistinct (keys_of a.0.items))
-    (λ X c. IsDistinct-prop (keys_of c.0.items)) (λ a. IsDistinct-prop (keys_of a.0.items))
+fields = via (such columns (λ X c. IsDistinct (keys_of c.items)) (λ a. IsDistinct (keys_of a.items))
+    (λ X c. IsDistinct-prop (keys_of c.items)) (λ a. IsDistinct-prop (keys_of a.items))
     (λ X c p. subst IsDistinct (sym (keys_in_shape X c)) p) (λ X c q. subst IsDistinct (keys_in_shape X c) q))
-    (λ X. Inside X) (λ X u. ((u.pairs, u.capacity), u.distinct)) (λ X v. record { pairs = v.0.0; capacity = v.0.1; distinct = v.1 })
+    (λ X. Inside X) (λ X u. (u.pairs, u.distinct)) (λ X v. record { pairs = v.0; distinct = v.1 })
     (λ X u. refl) (λ X v. refl)
 
 natural : (X Y : Type 0) (h : X → Y) (u : Inside X) → view Y (fields.map X Y h u) ≡ (the_former this).map X Y h (view X u)
 natural X Y h u = λ i. record {
   pairs = map (on_value h) u.pairs.items;
-  capacity = u.capacity;
+  capacity = vec_capacity u.pairs;
   distinct = IsDistinct-prop (keys_of (map (on_value h) u.pairs.items)) (view Y (fields.map X Y h u)).distinct
       ((the_former this).map X Y h (view X u)).distinct i;
 }
@@ -180,14 +179,14 @@ module _ (R S : RattleType) (h : R.Denot → S.Denot) where
   pub the_places : Alike R S h → Alike (C.the_row R) (C.the_row S) ((the_former this).map R.Denot S.Denot h)
   the_places a = view_places fields (the_former this) (λ X. view X) natural (λ X u. refl) R.Denot S.Denot h (C.the_row R).coded
       (C.the_row S).coded
-      (invariant R.Denot) (invariant S.Denot) (λ u. ×_prop (HasRoom-prop (length u.pairs.items) u.capacity) (hlevel props))
-      (λ u. ×_prop (HasRoom-prop (length u.pairs.items) u.capacity) (hlevel props))
-      (λ u e. (subst (λ n. HasRoom n u.capacity) (sym (length_on_values h u.pairs.items)) e.0, e.1))
-      (λ u e. (subst (λ n. HasRoom n u.capacity) (length_on_values h u.pairs.items) e.0, e.1))
+      (invariant R.Denot) (invariant S.Denot) (λ u. HasRoom-prop (length u.pairs.items) (vec_capacity u.pairs))
+      (λ u. HasRoom-prop (length u.pairs.items) (vec_capacity u.pairs))
+      (λ u e. subst (λ n. HasRoom n (vec_capacity u.pairs)) (sym (length_on_values h u.pairs.items)) e)
+      (λ u e. subst (λ n. HasRoom n (vec_capacity u.pairs)) (length_on_values h u.pairs.items) e)
       (within (I.the_row R)) (within (I.the_row S))
-      (struct_places (I.the_type R) (I.the_type S) (vec.mapped (on_value h), (λ n. n, tt)) _ (λ d. refl) refl (
+      (struct_places (I.the_type R) (I.the_type S) (vec.mapped (on_value h), tt) _ (λ d. refl) refl (
         laid _ _ _ (vec.the_places heap.the_row ghosts (pair_of R) (pair_of S) (on_value h) (pair_places a)),
-        ((refl, (λ n. refl, λ n. refl)), tt),
+        tt,
       ))
 
   pub the_codes_placed : Recodes R S h → Recodes (C.the_row R) (C.the_row S) ((the_former this).map R.Denot S.Denot h)

@@ -1,12 +1,10 @@
--- `Table` as a type that may hold the type that holds it, by its values: the former of `LinearPairs`, beside the places.
-use Rattle.std.specs.Prelude.{◌≡◌, ℕ, List, [], map, Option}
+-- `Table` as a type that may hold the type that holds it, by its values: the former of `LinearPairs`, beside the slots.
+use Rattle.std.specs.Prelude.{◌≡◌, ℕ, List, [], map, Option, vec_capacity}
 use Rattle.std.specs.Coded.{coded_option}
 use mathlib.Core.Path.{refl, sym, ap, subst}
-use mathlib.Core.HLevel.{×_prop}
 use mathlib.Core.Former.{Former, this, const, pair, such, via, children}
 use base.Stored.{code_map, coded×, coded_list, coded_ℕ, gcons}
 use denote.RattleType.{RattleType}
-use denote.Struct.Props.{props}
 use denote.HoleLaws.{Alike}
 use denote.HolePlaces.{Recodes, struct_places, laid}
 use denote.Hole.Carrier.{listed}
@@ -22,7 +20,7 @@ use Rattle.ijson_table.specs.Store.{IsDistinct, keys_of}
 use Rattle.ijson_table.specs.laws.Store.{IsDistinct-prop}
 use Rattle.ijson_table.specs.Placed.{Placed}
 use Rattle.ijson_table.specs.laws.Placed.{IsPlaced-prop, placed_along}
-use Rattle.ijson_table.specs.private.PlaceList.{Index}
+use Rattle.ijson_table.specs.private.HashIndex.{HashIndex}
 use Rattle.ijson_table.specs.declared.hash.KeyHash as hashing
 use Rattle.ijson_table.specs.formers.linear.LinearPairs as linear
 use Rattle.ijson_table.specs.declared.table.Table.TheInside.{Inside}
@@ -31,8 +29,8 @@ use Rattle.ijson_table.specs.contracts.table.Table as C
 use Rattle.ijson_table.specs.contracts.table.Table.TheInside as I
 
 abbrev pub the_former : Former {0} → Type 0 → Former {0}
-the_former g H = via (pair (linear.the_former g) (const (List (Option ℕ)))) (λ X. Placed (g.Of X)) (λ X t. (t.store, t.places))
-    (λ X v. record { store = v.0; places = v.1 }) (λ X t. refl) (λ X v. refl)
+the_former g H = via (pair (linear.the_former g) (const (List (Option ℕ)))) (λ X. Placed (g.Of X)) (λ X t. (t.store, t.slots))
+    (λ X v. record { store = v.0; slots = v.1 }) (λ X t. refl) (λ X v. refl)
 
 abbrev pub the_weighed : {g : Former {0}} → Weighed g → (H : Type 0) → Weighed (the_former g H)
 the_weighed w H = record {
@@ -41,7 +39,7 @@ the_weighed w H = record {
 }
 
 pub the_empty : (H : Type 0) → H → Placed ⊥
-the_empty H h = record { store = linear.the_empty; places = [] }
+the_empty H h = record { store = linear.the_empty; slots = [] }
 
 abbrev pub the_items : (H X : Type 0) → Placed X → List X
 the_items H X t = linear.the_items X t.store
@@ -51,7 +49,7 @@ the_items_listed H X t = linear.the_items_listed X t.store
 
 -- the fields: a `Vec` of pairs with distinct keys, and what holds no value
 abbrev columns : Type 0 → Former {0}
-columns H = pair (vec.the_former (linear.entry this) Global) (const (Index × (ℕ × (Global × PhantomData H))))
+columns H = pair (vec.the_former (linear.entry this) Global) (const (HashIndex × (Global × PhantomData H)))
 
 keys_in_shape : (H X : Type 0) (c : (columns H).Of X) → keys_of ((columns H).shape X c).0.items ≡ keys_of c.0.items
 keys_in_shape H X c = linear.keys_on_values _ c.0.items
@@ -60,8 +58,8 @@ abbrev fields : (H : Type 0) → hashing.Ghosts H → Former {0}
 fields H K = via (such (columns H) (λ X c. IsDistinct (keys_of c.0.items)) (λ a. IsDistinct (keys_of a.0.items))
     (λ X c. IsDistinct-prop (keys_of c.0.items)) (λ a. IsDistinct-prop (keys_of a.0.items))
     (λ X c p. subst IsDistinct (sym (keys_in_shape H X c)) p) (λ X c q. subst IsDistinct (keys_in_shape H X c) q))
-    (λ X. Inside X H K) (λ X u. ((u.pairs, (u.places, (u.capacity, (u.alloc, u.hash)))), u.distinct))
-    (λ X v. record { pairs = v.0.0; places = v.0.1.0; capacity = v.0.1.1.0; alloc = v.0.1.1.1.0; hash = v.0.1.1.1.1; distinct = v.1 })
+    (λ X. Inside X H K) (λ X u. ((u.pairs, (u.index, (u.alloc, u.hash))), u.distinct))
+    (λ X v. record { pairs = v.0.0; index = v.0.1.0; alloc = v.0.1.1.0; hash = v.0.1.1.1; distinct = v.1 })
     (λ X u. refl) (λ X v. refl)
 
 module _ (H : RattleType) (K : hashing.Ghosts H.Denot) where
@@ -70,12 +68,12 @@ module _ (H : RattleType) (K : hashing.Ghosts H.Denot) where
   natural X Y h u = λ i. record {
     store = record {
       pairs = map (linear.on_value h) u.pairs.items;
-      capacity = u.capacity;
+      capacity = vec_capacity u.pairs;
       distinct = IsDistinct-prop (keys_of (map (linear.on_value h) u.pairs.items))
           (view Y H.Denot K ((fields H.Denot K).map X Y h u)).store.distinct
           ((the_former this H.Denot).map X Y h (view X H.Denot K u)).store.distinct i;
     };
-    places = u.places.slots;
+    slots = u.index.slots;
   }
 
   module _ (R S : RattleType) (h : R.Denot → S.Denot) where
@@ -83,33 +81,24 @@ module _ (H : RattleType) (K : hashing.Ghosts H.Denot) where
     the_places a = view_places (fields H.Denot K) (the_former this H.Denot) (λ X. view X H.Denot K) natural
         (λ X u. refl) R.Denot S.Denot h (C.the_row R H K).coded (C.the_row S H K).coded
         (invariant R.Denot H.Denot K) (invariant S.Denot H.Denot K)
-        (λ u. ×_prop (IsPlaced-prop K.hash_of u.pairs.items u.capacity u.places) (hlevel props))
-        (λ u. ×_prop (IsPlaced-prop K.hash_of u.pairs.items u.capacity u.places) (hlevel props))
-        (λ u e. (
-          placed_along K.hash_of u.pairs.items (map (linear.on_value h) u.pairs.items) u.capacity u.places
-              (sym (linear.keys_on_values h u.pairs.items)) (sym (linear.length_on_values h u.pairs.items)) e.0,
-          e.1,
-        ))
-        (λ u e. (
-          placed_along K.hash_of (map (linear.on_value h) u.pairs.items) u.pairs.items u.capacity u.places
-              (linear.keys_on_values h u.pairs.items) (linear.length_on_values h u.pairs.items) e.0,
-          e.1,
-        ))
+        (λ u. IsPlaced-prop K.hash_of u.pairs.items (vec_capacity u.pairs) u.index)
+        (λ u. IsPlaced-prop K.hash_of u.pairs.items (vec_capacity u.pairs) u.index)
+        (λ u. placed_along K.hash_of u.pairs.items (map (linear.on_value h) u.pairs.items) (vec_capacity u.pairs) u.index
+        (sym (linear.keys_on_values h u.pairs.items)) (sym (linear.length_on_values h u.pairs.items)))
+        (λ u. placed_along K.hash_of (map (linear.on_value h) u.pairs.items) u.pairs.items (vec_capacity u.pairs) u.index
+        (linear.keys_on_values h u.pairs.items) (linear.length_on_values h u.pairs.items))
         (within (I.the_row R H K)) (within (I.the_row S H K))
         (struct_places (I.the_type R H K) (I.the_type S H K)
-        (vec.mapped (linear.on_value h), (λ n. n, (λ n. n, (λ n. n, (λ n. n, tt))))) _ (λ d. refl) refl (
+        (vec.mapped (linear.on_value h), (λ n. n, (λ n. n, (λ n. n, tt)))) _ (λ d. refl) refl (
           laid _ _ _ (vec.the_places heap.the_row ghosts (linear.pair_of R) (linear.pair_of S) (linear.on_value h)
               (linear.pair_places R S h a)),
           (
             (refl, (λ n. refl, λ n. refl)),
-            (
-              (refl, (λ n. refl, λ n. refl)),
-              ((refl, (λ n. refl, λ n. refl)), ((refl, (λ n. refl, λ n. refl)), tt)),
-            ),
+            ((refl, (λ n. refl, λ n. refl)), ((refl, (λ n. refl, λ n. refl)), tt)),
           ),
         ))
 
     pub the_codes_placed : Recodes R S h → Recodes (C.the_row R H K) (C.the_row S H K) ((the_former this H.Denot).map R.Denot S.Denot h)
-    the_codes_placed e d = ap (λ x. gcons (gcons x (coded_ℕ.code d.store.capacity)) ((coded_list (coded_option coded_ℕ)).code d.places))
+    the_codes_placed e d = ap (λ x. gcons (gcons x (coded_ℕ.code d.store.capacity)) ((coded_list (coded_option coded_ℕ)).code d.slots))
         (sym (code_map (coded× (coded_list coded_ℕ) R.coded).code (coded× (coded_list coded_ℕ) S.coded).code (linear.on_value h)
         (λ p i. gcons ((coded_list coded_ℕ).code p.0) (sym (e p.1) i)) d.store.pairs))

@@ -1,6 +1,6 @@
 use Rattle.std.proofs.Common.{◌≡◌, ◌*◌, ◌+◌, take, length}
 use denote.Param.Weighed.{most}
-use Rattle.ijson_value.specs.private.Sizes.{value_size}
+use Rattle.ijson_value.specs.Sizes.{value_size}
 use Rattle.ijson_value.proofs.clone.+clone.Given as goal
 
 abbrev pub invariant-clone_items-loop-item : goal.invariant-clone_items-loop-item

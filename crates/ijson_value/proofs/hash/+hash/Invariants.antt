@@ -4,7 +4,7 @@ use Rattle.std.specs.Hash as fed
 use Rattle.std.specs.List.{flat_map}
 use Rattle.ijson_value.specs.WellFormed.{item_trees}
 use Rattle.ijson_value.specs.Words.{item_words}
-use Rattle.ijson_value.specs.private.Sizes.{value_size}
+use Rattle.ijson_value.specs.Sizes.{value_size}
 use Rattle.ijson_value.proofs.hash.+hash.Given as goal
 
 abbrev pub invariant-hash_items-loop-item : goal.invariant-hash_items-loop-item

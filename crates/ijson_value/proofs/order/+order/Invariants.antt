@@ -2,7 +2,7 @@ use Rattle.std.proofs.Common.{◌≡◌, ◌*◌, ◌+◌, ◌≤◌, length, dr
 use denote.Param.Weighed.{most}
 use Rattle.ijson_value.specs.Order.{items_cmp}
 use Rattle.ijson_value.specs.WellFormed.{item_trees}
-use Rattle.ijson_value.specs.private.Sizes.{value_size}
+use Rattle.ijson_value.specs.Sizes.{value_size}
 use Rattle.ijson_value.proofs.order.+order.Given as goal
 
 abbrev pub invariant-items_cmp-loop-i : goal.invariant-items_cmp-loop-i

@@ -2,7 +2,7 @@ use Rattle.std.proofs.Common.{◌≡◌, ◌*◌, ◌+◌, drop}
 use denote.Param.Weighed.{most}
 use Rattle.ijson_value.specs.WellFormed.{item_trees, pair_trees}
 use Rattle.ijson_value.specs.SameTest.{same_each, same_in}
-use Rattle.ijson_value.specs.private.Sizes.{value_size, object_size}
+use Rattle.ijson_value.specs.Sizes.{value_size, object_size}
 use Rattle.ijson_value.proofs.same.+same.Given as goal
 
 abbrev pub invariant-same_items-loop-i : goal.invariant-same_items-loop-i

@@ -3,7 +3,7 @@ use denote.Param.Weighed.{most}
 use Rattle.ijson_table.specs.Fold.{fold_word}
 use Rattle.ijson_value.specs.WellFormed.{item_trees, pair_trees}
 use Rattle.ijson_value.specs.Words.{item_words, pair_sum}
-use Rattle.ijson_value.specs.private.Sizes.{value_size}
+use Rattle.ijson_value.specs.Sizes.{value_size}
 use Rattle.ijson_value.proofs.word_fold.+fold.Given as goal
 
 abbrev pub invariant-add_items-loop-item : goal.invariant-add_items-loop-item

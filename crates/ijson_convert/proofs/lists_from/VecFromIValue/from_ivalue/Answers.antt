@@ -1,4 +1,5 @@
-use Rattle.std.proofs.Common.{◌≡◌, ◌+◌, ◌∷◌, [], ◌++◌, take, map, ap, sym, subst, ◌∙◌, inl, inr, arith, rules}
+use Rattle.std.proofs.Common.{◌≡◌, ◌+◌, ◌∷◌, [], ◌++◌, take, map, ap, sym, subst, ◌∙◌, arith, rules}
+use Rattle.std.proofs.Math.Logic.{⊎_map}
 use Rattle.std.proofs.lemmas.List.{map_more, map_push}
 use Rattle.std.proofs.lemmas.List.Elements.{All-push}
 use Rattle.std.specs.Prelude.{All}
@@ -7,7 +8,7 @@ use Rattle.ijson_value.specs.Same.{SameEach}
 use Rattle.ijson_value.specs.Tree.{items_of}
 use Rattle.ijson_value.specs.WellFormed.{tree_of}
 use Rattle.ijson_convert.specs.Refused.{ListRefused, FirstRefused}
-use Rattle.ijson_convert.proofs.Lists.{AllRead, each_pushed, read_pushed, first_refused}
+use Rattle.ijson_convert.proofs.ItemsRead.{AllRead, each_pushed, read_pushed, first_refused}
 use Rattle.ijson_convert.proofs.lists_from.VecFromIValue.from_ivalue.Goals as goal
 
 pub returns-in-Err-clause-refused : goal.returns-in-Err-clause-refused
@@ -18,12 +19,9 @@ returns-in-Err-clause-refused g c =
     let e = c.in-Err.e in
     let is = ap (λ v. v.tree) (sym c.destructure_ref.ensures ∙ ap ref_value c.in-Array.is) in
     let items = ap (λ vs. items_of (map tree_of vs)) c.as_slice-item-items.ensures in
-    elim c.in-Err.ensures.refused [
-      | inl m ↦ inl m
-      | inr r ↦ inr (subst (λ t. ListRefused refused t e) (sym is) (subst (λ ts. FirstRefused refused ts e) items
-          (first_refused refused xs i c.item-item.result e (omega (arith, c.loop-item-test.true)) c.loop-item.invariant.1
-          (subst (λ v. refused (tree_of v) e) c.item-item.is r))))
-    ]
+    ⊎_map (λ memory. memory) (λ r. subst (λ t. ListRefused refused t e) (sym is) (subst (λ ts. FirstRefused refused ts e) items
+    (first_refused refused xs i c.item-item.result e (omega (arith, c.loop-item-test.true)) c.loop-item.invariant.read
+    (subst (λ v. refused (tree_of v) e) c.item-item.is r)))) c.in-Err.ensures.refused
 
 pub loop-item-preserved : goal.loop-item-preserved
 loop-item-preserved g c =
@@ -40,9 +38,12 @@ loop-item-preserved g c =
     let items_are : c.push.new.self.items ≡ c.loop-item.list.items ++ c.in-Ok.x ∷ [] = search rules in
     let pushed : map tree c.push.new.self.items ≡ ts ++ tree c.in-Ok.x ∷ [] =
     ap (map tree) items_are ∙ map_push tree c.loop-item.list.items c.in-Ok.x in
-    let same = each_pushed ts us (tree c.in-Ok.x) u c.loop-item.invariant.0 c.in-Ok.ensures.same in
-    let read = read_pushed refused us u c.loop-item.invariant.1 c.in-Ok.ensures.read in (
-      subst (λ l. SameEach (items_of l) (items_of (map tree_of (take (i + 1) xs)))) (sym pushed) (subst (λ l. SameEach (items_of (ts ++ tree c.in-Ok.x ∷ [])) (items_of l)) (sym more) same),
-      subst (AllRead refused) (sym more) read,
-      subst (All none) (sym items_are) (All-push none c.loop-item.list.items c.in-Ok.x c.loop-item.invariant.2 c.in-Ok.ensures.none),
-    )
+    let same = each_pushed ts us (tree c.in-Ok.x) u c.loop-item.invariant.same c.in-Ok.ensures.same in
+    let read = read_pushed refused us u c.loop-item.invariant.read c.in-Ok.ensures.read in
+    record {
+      same = subst (λ l. SameEach (items_of l) (items_of (map tree_of (take (i + 1) xs)))) (sym pushed)
+          (subst (λ l. SameEach (items_of (ts ++ tree c.in-Ok.x ∷ [])) (items_of l)) (sym more) same);
+      read = subst (AllRead refused) (sym more) read;
+      none = subst (All none) (sym items_are)
+          (All-push none c.loop-item.list.items c.in-Ok.x c.loop-item.invariant.none c.in-Ok.ensures.none);
+    }

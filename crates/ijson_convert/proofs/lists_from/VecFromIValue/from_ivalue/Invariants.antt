@@ -3,12 +3,15 @@ use Rattle.std.specs.Prelude.{All}
 use Rattle.ijson_value.specs.Same.{SameEach}
 use Rattle.ijson_value.specs.Tree.{items_of}
 use Rattle.ijson_value.specs.WellFormed.{tree_of}
-use Rattle.ijson_convert.proofs.Lists.{AllRead}
+use Rattle.ijson_convert.proofs.ItemsRead.{AllRead}
 use Rattle.ijson_convert.proofs.lists_from.VecFromIValue.from_ivalue.Given as goal
 
 -- the items so far are read, and the same, and each null that may be None is
 abbrev pub invariant-loop-item : goal.invariant-loop-item
 invariant-loop-item g l =
-    SameEach (items_of (map g.T.FromIValue.tree l.list.items)) (items_of (map tree_of (take l.item-index l.item-items)))
-    × AllRead g.T.FromIValue.refused (map tree_of (take l.item-index l.item-items))
-    × All g.T.FromIValue.null_is_none l.list.items
+    let items = map tree_of (take l.item-index l.item-items) in
+    record {
+      same : SameEach (items_of (map g.T.FromIValue.tree l.list.items)) (items_of items);
+      read : AllRead g.T.FromIValue.refused items;
+      none : All g.T.FromIValue.null_is_none l.list.items;
+    }

@@ -5,14 +5,16 @@ use Rattle.ijson_value.specs.Same.{Same}
 use Rattle.ijson_value.specs.Values.{object_tree}
 use Rattle.ijson_value.specs.WellFormed.{WellFormed}
 use Rattle.ijson_convert.specs.MapTree.{map_tree}
-use Rattle.ijson_convert.proofs.Lists.{AllRead}
-use Rattle.ijson_convert.proofs.Members.{value_trees}
+use Rattle.ijson_convert.proofs.ItemsRead.{AllRead}
+use Rattle.ijson_convert.proofs.MembersRead.{value_trees}
 use Rattle.ijson_convert.proofs.maps_from.BTreeMapStringFromIValue.from_ivalue.Given as goal
 
 -- the pairs so far are read, the map is the same as they are, and each null in it that may be None is
 abbrev pub invariant-loop-key : goal.invariant-loop-key
-invariant-loop-key g l =
-    (done : List (List ℕ × WellFormed)) × (done ++ l.key-iterator ≡ l.initial.key-iterator)
-    × Same (map_tree g.T.FromIValue.tree l.map.entries) (object_tree done)
-    × AllRead g.T.FromIValue.refused (value_trees done)
-    × All g.T.FromIValue.null_is_none (values_of l.map.entries)
+invariant-loop-key g l = record {
+  done : List (List ℕ × WellFormed);
+  parts : done ++ l.key-iterator ≡ l.initial.key-iterator;
+  same : Same (map_tree g.T.FromIValue.tree l.map.entries) (object_tree done);
+  read : AllRead g.T.FromIValue.refused (value_trees done);
+  none : All g.T.FromIValue.null_is_none (values_of l.map.entries);
+}

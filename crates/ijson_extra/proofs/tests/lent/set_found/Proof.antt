@@ -30,7 +30,7 @@ use Rattle.std.specs.Map.Iter.{deref_pair_mut}
 use Rattle.std.proofs.lemmas.Option.{slice_get-get_or}
 use Rattle.ijson_string.specs.contracts.text.IString.{the_row as S}
 use Rattle.ijson_table.specs.Store.{Store, at as place_of}
-use Rattle.ijson_table.proofs.Keys.{position_within}
+use Rattle.ijson_table.proofs.pairs.PairsByKey.{position_within}
 use Rattle.ijson_value.specs.AtKey.{pair_at_key}
 use Rattle.ijson_value.specs.LendsAtKey.{with_key, with_found}
 use Rattle.ijson_value.specs.LendsPair.{LendsPairIf}

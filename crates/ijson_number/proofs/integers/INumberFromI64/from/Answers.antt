@@ -2,7 +2,7 @@ use Rattle.std.proofs.Common.{rules}
 use Rattle.std.specs.Prelude.{FitsSigned}
 use Rattle.std.proofs.lemmas.Int.{to_z-of_z}
 use mir.Syntax.{w64}
-use Rattle.ijson_number.proofs.IntegerWords.{word_num, word_form, word_integer, signed_small, signed_known}
+use Rattle.ijson_number.proofs.storing.IntegerWords.{word_num, word_form, word_integer, signed_small, signed_known}
 use Rattle.ijson_number.proofs.integers.INumberFromI64.from.Goals as goal
 
 pub invariant_of-result : goal.invariant_of-result

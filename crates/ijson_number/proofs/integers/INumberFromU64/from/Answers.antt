@@ -1,6 +1,6 @@
 use Rattle.std.proofs.Common.{◌<◌, ◌^◌, rules}
 use Rattle.std.specs.Prelude.{pos}
-use Rattle.ijson_number.proofs.IntegerWords.{word_num, word_form, word_integer, unsigned_fits}
+use Rattle.ijson_number.proofs.storing.IntegerWords.{word_num, word_form, word_integer, unsigned_fits}
 use Rattle.ijson_number.proofs.integers.INumberFromU64.from.Goals as goal
 
 pub invariant_of-result : goal.invariant_of-result

@@ -1,10 +1,10 @@
 use Rattle.std.proofs.Common.{◌∙◌, ◌+◌, List, ℕ, length, ap, refl, sym, subst, take}
 use Rattle.ijson_number.specs.Grammar.{Spells}
-use Rattle.ijson_number.specs.private.Front.{IsMantissa, front_number}
-use Rattle.ijson_number.proofs.FewDigits.{some_with}
-use Rattle.ijson_number.proofs.Refusals.{none_with, where_none, where_refused, where_some}
-use Rattle.ijson_number.proofs.Mantissas.{front_of, rest_is, whole_length}
-use Rattle.ijson_number.proofs.PowerTails.{tail_goes_on}
+use Rattle.ijson_number.specs.private.Prefix.{IsMantissa, prefix_number}
+use Rattle.ijson_number.proofs.storing.FewDigits.{some_with}
+use Rattle.ijson_number.proofs.AnyAnswer.{none_with, where_none, where_refused, where_some}
+use Rattle.ijson_number.proofs.parsing.PrefixNumbers.{front_of, rest_is, whole_length}
+use Rattle.ijson_number.proofs.parsing.PowerTails.{tail_goes_on}
 use Rattle.ijson_number.proofs.number.INumber.at_front.Goals as goal
 
 pub returns-in_default-clause-none : goal.returns-in_default-clause-none
@@ -16,13 +16,13 @@ returns-in_default-clause-no_power c = λ p rest f. rw c.as_bytes.ensures.value 
 pub returns-then-goes_on-clause-found : goal.returns-then-goes_on-clause-found
 returns-then-goes_on-clause-found c =
     let text = c.args.text.now in
-    let m : IsMantissa text c.in-Some.front c.in-Some.rest.now = rw c.as_bytes.ensures.value at c.in-Some.ensures.found in
+    let m : IsMantissa text c.in-Some.prefix c.in-Some.rest.now = rw c.as_bytes.ensures.value at c.in-Some.ensures.found in
     some_with c.in_ok-found.found _ _ c.in_ok-found.ensures.found (λ f s. s text m)
 
 pub returns-then-goes_on-clause-stops : goal.returns-then-goes_on-clause-stops
 returns-then-goes_on-clause-stops c =
     let text = c.args.text.now in
-    let m : IsMantissa text c.in-Some.front c.in-Some.rest.now = rw c.as_bytes.ensures.value at c.in-Some.ensures.found in
+    let m : IsMantissa text c.in-Some.prefix c.in-Some.rest.now = rw c.as_bytes.ensures.value at c.in-Some.ensures.found in
     some_with c.in_ok-found.found _ _ c.in_ok-found.ensures.stops (λ f s. s text m)
 
 pub returns-then-goes_on-clause-plain : goal.returns-then-goes_on-clause-plain
@@ -34,8 +34,10 @@ pub returns-then-goes_on-clause-power : goal.returns-then-goes_on-clause-power
 returns-then-goes_on-clause-power c =
     let text = c.args.text.now in
     let read = rw c.as_bytes.ensures.value at c.in-Some.ensures.rest in
-    let m : IsMantissa text c.in-Some.front c.in-Some.rest.now = rw c.as_bytes.ensures.value at c.in-Some.ensures.found in
-    some_with c.in_ok-found.found _ _ c.in_ok-found.ensures.power (λ f s p rest is. s rest (rw (read p is.power_text is.front) is.power) ∙ sym (whole_length text c.in-Some.front c.in-Some.rest.now m))
+    let m : IsMantissa text c.in-Some.prefix c.in-Some.rest.now = rw c.as_bytes.ensures.value at c.in-Some.ensures.found in
+    some_with c.in_ok-found.found _ _ c.in_ok-found.ensures.power
+    (λ f s p rest is. s rest (rw (read p is.power_text is.front) is.power)
+    ∙ sym (whole_length text c.in-Some.prefix c.in-Some.rest.now m))
 
 pub returns-then-goes_on-clause-none : goal.returns-then-goes_on-clause-none
 returns-then-goes_on-clause-none c =
@@ -47,37 +49,39 @@ returns-then-goes_on-clause-no_power c =
     let read = rw c.as_bytes.ensures.value at c.in-Some.ensures.rest in
     none_with c.in_ok-found.found c.in_ok-found.ensures.none (λ none p rest is. none rest (rw (read p is.power_text is.front) is.power))
 
-pub from_front-requires : goal.from_front-requires
-from_front-requires c = (c.as_bytes.result.now, front_of c.as_bytes.result.now c.in-Some.front c.in-Some.rest.now c.in-Some.ensures.found)
+pub from_prefix-requires : goal.from_prefix-requires
+from_prefix-requires c = (c.as_bytes.result.now, front_of c.as_bytes.result.now c.in-Some.prefix c.in-Some.rest.now c.in-Some.ensures.found)
 
 pub returns-in_err-number-clause-refused : goal.returns-in_err-number-clause-refused
 returns-in_err-number-clause-refused c =
-    let m : IsMantissa c.args.text.now c.in-Some.front c.in-Some.rest.now = rw c.as_bytes.ensures.value at c.in-Some.ensures.found in
-    let is = front_of c.args.text.now c.in-Some.front c.in-Some.rest.now m in
+    let m : IsMantissa c.args.text.now c.in-Some.prefix c.in-Some.rest.now = rw c.as_bytes.ensures.value at c.in-Some.ensures.found in
+    let is = front_of c.args.text.now c.in-Some.prefix c.in-Some.rest.now m in
     where_refused c.from_residual-in_err-number.result (
-      c.in-Some.front.length,
-      (front_number c.in-Some.front, is.spelled, is.num, c.in_err-number.ensures.refused),
-      rw (rest_is c.args.text.now c.in-Some.front c.in-Some.rest.now m) (c.goes_on.ensures.stops (rw c.if-goes_on.false refl)),
+      c.in-Some.prefix.length,
+      (prefix_number c.in-Some.prefix, is.spelled, is.num, c.in_err-number.ensures.refused),
+      rw (rest_is c.args.text.now c.in-Some.prefix c.in-Some.rest.now m) (c.goes_on.ensures.stops (rw c.if-goes_on.false refl)),
     )
 
 pub returns-clause-found : goal.returns-clause-found
 returns-clause-found c =
-    let is = front_of c.args.text.now c.in-Some.front c.in-Some.rest.now (rw c.as_bytes.ensures.value at c.in-Some.ensures.found) in
-    (is.within, subst (Spells (take c.in-Some.front.length c.args.text.now)) (sym c.in_ok-number.ensures.number) is.spelled)
+    let is = front_of c.args.text.now c.in-Some.prefix c.in-Some.rest.now (rw c.as_bytes.ensures.value at c.in-Some.ensures.found) in
+    (is.within, subst (Spells (take c.in-Some.prefix.length c.args.text.now)) (sym c.in_ok-number.ensures.number) is.spelled)
 
 pub returns-clause-stops : goal.returns-clause-stops
 returns-clause-stops c =
-    let m : IsMantissa c.args.text.now c.in-Some.front c.in-Some.rest.now = rw c.as_bytes.ensures.value at c.in-Some.ensures.found in
-    rw (rest_is c.args.text.now c.in-Some.front c.in-Some.rest.now m) (c.goes_on.ensures.stops (rw c.if-goes_on.false refl))
+    let m : IsMantissa c.args.text.now c.in-Some.prefix c.in-Some.rest.now = rw c.as_bytes.ensures.value at c.in-Some.ensures.found in
+    rw (rest_is c.args.text.now c.in-Some.prefix c.in-Some.rest.now m) (c.goes_on.ensures.stops (rw c.if-goes_on.false refl))
 
 pub returns-clause-plain : goal.returns-clause-plain
 returns-clause-plain c = λ p rest is.
     let text = c.args.text.now in
     let read = rw c.as_bytes.ensures.value at c.in-Some.ensures.rest in
-    let m : IsMantissa text c.in-Some.front c.in-Some.rest.now = rw c.as_bytes.ensures.value at c.in-Some.ensures.found in
-    ap (λ (r : List ℕ). c.in-Some.front.length + length r) (sym (read p rest is.front)) ∙ sym (whole_length text c.in-Some.front c.in-Some.rest.now m)
+    let m : IsMantissa text c.in-Some.prefix c.in-Some.rest.now = rw c.as_bytes.ensures.value at c.in-Some.ensures.found in
+    ap (λ (r : List ℕ). c.in-Some.prefix.length + length r) (sym (read p rest is.front))
+    ∙ sym (whole_length text c.in-Some.prefix c.in-Some.rest.now m)
 
 pub returns-clause-power : goal.returns-clause-power
 returns-clause-power c = λ p rest is.
     let read = rw c.as_bytes.ensures.value at c.in-Some.ensures.rest in
-    absurd (tail_goes_on c.in-Some.rest.now rest (rw (read p is.power_text is.front) is.power) (c.goes_on.ensures.stops (rw c.if-goes_on.false refl)))
+    absurd (tail_goes_on c.in-Some.rest.now rest (rw (read p is.power_text is.front) is.power)
+    (c.goes_on.ensures.stops (rw c.if-goes_on.false refl)))

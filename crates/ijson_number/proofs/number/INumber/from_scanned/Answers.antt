@@ -6,18 +6,19 @@ use mir.Val.{to_z, of_z}
 use Rattle.ijson_number.specs.Decimal.{Decimal}
 use Rattle.ijson_number.specs.Form.{digits_form, form_of, is_digits}
 use Rattle.ijson_number.specs.Num.{Num}
-use Rattle.ijson_number.specs.declared.reading.Scanned.{Scanned}
+use Rattle.ijson_number.specs.declared.parse.exact.Scanned.{Scanned}
 use Rattle.ijson_number.specs.private.Scanned.{IsScanned, scanned_number, scanned_digits}
-use Rattle.ijson_number.specs.private.StoredNumber.{stored_number}
+use Rattle.ijson_number.specs.StoredNumber.{stored_number}
 use Rattle.ijson_number.specs.private.Stripped.{digits_from_text}
-use Rattle.ijson_number.proofs.FormNumbers.{form_has, stored_num, stored_form_of}
-use Rattle.ijson_number.proofs.Forms.{long_form}
-use Rattle.ijson_number.proofs.Scanning.{count_is, joined}
-use Rattle.ijson_number.proofs.WholeValues.{large_mantissa, times_one}
+use Rattle.ijson_number.proofs.storing.FormNumbers.{form_has, stored_num, stored_form_of}
+use Rattle.ijson_number.proofs.storing.FormCases.{long_form}
+use Rattle.ijson_number.proofs.parsing.Scanning.{count_is, joined}
+use Rattle.ijson_number.proofs.storing.WholeValues.{large_mantissa, times_one}
 use Rattle.ijson_number.proofs.number.INumber.from_scanned.Goals as goal
 
 -- digits for which there is no room are no word
-many_form : (s : Scanned) → IsScanned s → 20 < length s.front.now + length s.back.now → form_of (scanned_number s) ≡ digits_form (scanned_number s)
+many_form : (s : Scanned) → IsScanned s → 20 < length s.front.now + length s.back.now
+    → form_of (scanned_number s) ≡ digits_form (scanned_number s)
 many_form s i many =
     let count = count_is s.front.now s.back.now in
     let some : 0 < length (scanned_digits s) = omega arith in
@@ -49,15 +50,22 @@ pub invariant_of-number : goal.invariant_of-number
 invariant_of-number c =
     let s = c.args.scanned.now in
     let fits : FitsSigned w32 s.exponent = search rules in
-    let is = c.as_slice.ensures.value ∙ joined s.front.now s.back.now c.push_in_place.new.digits.items c.push_in_place-2.new.digits.items (c.push_in_place.ensures.items ∙ ap (λ x. x ++ digits_from_text s.front.now) c.new-digits.ensures) c.push_in_place-2.ensures.items in
+    let is = c.as_slice.ensures.value
+    ∙ joined s.front.now s.back.now c.push_in_place.new.digits.items c.push_in_place-2.new.digits.items
+    (c.push_in_place.ensures.items
+    ∙ ap (λ x. x ++ digits_from_text s.front.now) c.new-digits.ensures) c.push_in_place-2.ensures.items in
     record { num = rw (is, to_z-of_z w32 s.exponent fits) c.requires.num; stripped = rw is c.requires.stored }
 
 pub returns : goal.returns
 returns c =
     let s = c.args.scanned.now in
     let fits : FitsSigned w32 s.exponent = search rules in
-    let is = c.as_slice.ensures.value ∙ joined s.front.now s.back.now c.push_in_place.new.digits.items c.push_in_place-2.new.digits.items (c.push_in_place.ensures.items ∙ ap (λ x. x ++ digits_from_text s.front.now) c.new-digits.ensures) c.push_in_place-2.ensures.items in
-    let number : stored_number s.negative c.as_slice.result.now (to_z w32 (of_z w32 s.exponent)) s.point ≡ scanned_number s = rw (is, to_z-of_z w32 s.exponent fits) refl in
+    let is = c.as_slice.ensures.value
+    ∙ joined s.front.now s.back.now c.push_in_place.new.digits.items c.push_in_place-2.new.digits.items
+    (c.push_in_place.ensures.items
+    ∙ ap (λ x. x ++ digits_from_text s.front.now) c.new-digits.ensures) c.push_in_place-2.ensures.items in
+    let number : stored_number s.negative c.as_slice.result.now (to_z w32 (of_z w32 s.exponent)) s.point ≡ scanned_number s =
+    rw (is, to_z-of_z w32 s.exponent fits) refl in
     record {
       number = subst (λ (n : Decimal). IfOk c.from_stripped.result (λ (m : Num). m.decimal ≡ n)) number c.from_stripped.ensures.number;
       refused = subst (λ (n : Decimal). OnErr c.from_stripped.result (is_digits (form_of n) ≡ true)) number c.from_stripped.ensures.refused;

@@ -1,7 +1,7 @@
 use Rattle.std.proofs.Common.{subst}
 use Rattle.ijson_number.specs.Grammar.{Denotes}
 use Rattle.ijson_number.specs.private.Scanned.{parts_of}
-use Rattle.ijson_number.proofs.Parts.{spelled_one}
+use Rattle.ijson_number.proofs.parsing.OneDivision.{spelled_one}
 use Rattle.ijson_number.proofs.number.INumber.from_spelling.Goals as goal
 
 pub returns-in_default-clause-err : goal.returns-in_default-clause-err

@@ -1,6 +1,6 @@
 use Rattle.std.proofs.Common.{◌∙◌, sym}
 use Rattle.ijson_number.specs.private.StrippedNumber.{decimal_of}
-use Rattle.ijson_number.proofs.FormNumbers.{form_has, stored_num, stored_form_of}
+use Rattle.ijson_number.proofs.storing.FormNumbers.{form_has, stored_num, stored_form_of}
 use Rattle.ijson_number.proofs.number.INumber.from_stripped.Goals as goal
 
 pub invariant_of-result : goal.invariant_of-result

@@ -12,10 +12,12 @@ pub returns-clause-none : goal.returns-clause-none
 returns-clause-none c =
     let v = c.in_ok-whole.field-0 in
     let f : FitsSigned w128 v = search rules in
-    none_fits_unsigned c.args.self.now.decimal v _ c.args.self.now.is_num.plain c.in_ok-whole.ensures.some (to_z-of_z w128 v f) w64 (2 ^ 64) c.ok.result c.try_from.result (λ m l. (omega (arith, ints), omega (arith, ints))) c.try_from.ensures c.ok.ensures.value
+    none_fits_unsigned c.args.self.now.decimal v _ c.args.self.now.is_num.plain c.in_ok-whole.ensures.some (to_z-of_z w128 v f) w64
+    (2 ^ 64) c.ok.result c.try_from.result (λ m l. (omega (arith, ints), omega (arith, ints))) c.try_from.ensures c.ok.ensures.value
 
 pub returns-clause-some : goal.returns-clause-some
 returns-clause-some c =
     let v = c.in_ok-whole.field-0 in
     let f : FitsSigned w128 v = search rules in
-    some_unsigned c.args.self.now.decimal v _ c.args.self.now.is_num.plain c.in_ok-whole.ensures.some (to_z-of_z w128 v f) w64 c.ok.result c.try_from.result c.try_from.ensures c.ok.ensures.value
+    some_unsigned c.args.self.now.decimal v _ c.args.self.now.is_num.plain c.in_ok-whole.ensures.some
+    (to_z-of_z w128 v f) w64 c.ok.result c.try_from.result c.try_from.ensures c.ok.ensures.value

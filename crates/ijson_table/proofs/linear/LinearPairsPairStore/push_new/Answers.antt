@@ -1,6 +1,6 @@
 use Rattle.std.proofs.Common.{◌≡◌, [], ◌∷◌, ◌++◌, ap, sym, ◌∙◌, subst, None}
 use Rattle.ijson_table.specs.Store.{Store, at, keys_of, IsDistinct}
-use Rattle.ijson_table.proofs.Keys.{distinct_pushed}
+use Rattle.ijson_table.proofs.pairs.PairsByKey.{distinct_pushed}
 use Rattle.ijson_table.proofs.linear.LinearPairsPairStore.push_new.Goals as goal
 
 pub invariant_of-self-inside : goal.invariant_of-self-inside

@@ -2,7 +2,7 @@ use Rattle.std.proofs.Common.{◌≡◌, ◌<◌, length, arith, ap, sym, ◌∙
 use Rattle.std.specs.Prelude.{slice_get}
 use Rattle.std.proofs.lemmas.Option.{slice_get_read}
 use Rattle.ijson_table.specs.Store.{Store, keys_of, IsDistinct}
-use Rattle.ijson_table.proofs.ShiftOut.{distinct_shifted}
+use Rattle.ijson_table.proofs.shifting.ListShiftOut.{distinct_shifted}
 use Rattle.ijson_table.proofs.linear.LinearPairsPairStore.shift_out.Goals as goal
 
 pub invariant_of-self-inside : goal.invariant_of-self-inside
@@ -16,4 +16,5 @@ returns-clause-pair g c =
     let old = c.self.inside.pairs.items in
     let viewed : old ≡ c.args.self.now.pairs = ap (λ (s : Store g.row.V.Denot). s.pairs) c.self.view_is in
     let li : c.args.index < length old = omega (arith, ap length viewed, c.requires) in
-    ap (λ ps. slice_get ps c.args.index) (sym viewed) ∙ slice_get_read old (length old) c.args.index c.remove.result refl li c.remove.ensures.value
+    ap (λ ps. slice_get ps c.args.index) (sym viewed)
+    ∙ slice_get_read old (length old) c.args.index c.remove.result refl li c.remove.ensures.value

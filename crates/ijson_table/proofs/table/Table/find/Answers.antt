@@ -1,31 +1,43 @@
 use Rattle.std.proofs.Common.{ℕ, ◌-◌, ◌%◌, ◌<◌, length, map, arith, ap, subst}
 use Rattle.std.proofs.Math.Nat.{mod-lt}
-use Rattle.ijson_table.specs.declared.probe.Probed.TheVariants.{Full}
-use Rattle.ijson_table.specs.Places.{IsTable, IsBounded}
+use Rattle.std.specs.Prelude.{vec_capacity}
+use Rattle.ijson_table.specs.declared.index.probe.Probed.TheVariants.{Full}
+use Rattle.ijson_table.specs.Slots.{IsTable, IsBounded}
 use Rattle.ijson_table.specs.Placed.{Placed}
 use Rattle.ijson_table.specs.Store.{keys_of}
 use Rattle.ijson_table.specs.private.Lookup.{LookUpEnds}
-use Rattle.ijson_table.proofs.Looked.{within_list}
-use Rattle.ijson_table.proofs.Tables.{length-hashes, table_of, find_ends, find_bounded, nowhere}
+use Rattle.ijson_table.proofs.probing.LookCount.{within_list}
+use Rattle.ijson_table.proofs.probing.KeyHashes.{length-hashes, table_of, find_ends, find_bounded, nowhere}
 use Rattle.ijson_table.proofs.table.Table.find.Goals as goal
 
 pub probe-requires-clause-fits : goal.probe-requires-clause-fits
 probe-requires-clause-fits g c = λ m lm passed.
-    let places = c.self.inside.places in
-    let n : ℕ = length places.slots in
-    let few = within_list places.hashes places.slots c.len.ensures.table (c.args.hash % n) m (mod-lt c.args.hash (omega (arith, lm))) (omega (arith, lm)) passed in
-    omega (arith, few, c.requires.fits, c.self.invariant.0.room.within, c.self.invariant.0.room.limited, ap length c.self.invariant.0.hashes, length-hashes g.H.KeyHash.hash_of c.self.inside.pairs.items)
+    let index = c.self.inside.index in
+    let n : ℕ = length index.slots in
+    let few = within_list index.hashes index.slots c.len.ensures.table (c.args.hash % n) m (mod-lt c.args.hash (omega (arith, lm)))
+    (omega (arith, lm)) passed in
+    omega (
+      arith,
+      few,
+      c.requires.fits,
+      c.self.invariant.room.within,
+      c.self.invariant.room.limited,
+      ap length c.self.invariant.hashes,
+      length-hashes g.H.KeyHash.hash_of c.self.inside.pairs.items,
+    )
 
 pub returns-then-len-eq0-clause-table : goal.returns-then-len-eq0-clause-table
 returns-then-len-eq0-clause-table g c =
-    subst (λ (t : Placed g.row.V.Denot). IsTable (map g.H.KeyHash.hash_of (keys_of t.store.pairs)) t.places) c.self.view_is
-    (table_of g.H.KeyHash.hash_of c.self.inside.pairs.items c.self.inside.places c.self.invariant.0.hashes c.len.ensures.table)
+    subst (λ (t : Placed g.row.V.Denot). IsTable (map g.H.KeyHash.hash_of (keys_of t.store.pairs)) t.slots) c.self.view_is
+    (table_of g.H.KeyHash.hash_of c.self.inside.pairs.items c.self.inside.index c.self.invariant.hashes c.len.ensures.table)
 
 pub returns-then-len-eq0-clause-ends : goal.returns-then-len-eq0-clause-ends
 returns-then-len-eq0-clause-ends g c =
     let hash = g.H.KeyHash.hash_of in
-    subst (λ (t : Placed g.row.V.Denot). LookUpEnds (map hash (keys_of t.store.pairs)) (keys_of t.store.pairs) t.places (hash c.args.key.now) c.args.key.now Full) c.self.view_is
-    (nowhere hash c.self.inside.pairs.items c.self.inside.places.slots c.args.key.now (table_of hash c.self.inside.pairs.items c.self.inside.places c.self.invariant.0.hashes c.len.ensures.table)
+    subst (λ (t : Placed g.row.V.Denot). LookUpEnds (map hash (keys_of t.store.pairs)) (keys_of t.store.pairs) t.slots
+    (hash c.args.key.now) c.args.key.now Full) c.self.view_is
+    (nowhere hash c.self.inside.pairs.items c.self.inside.index.slots c.args.key.now
+    (table_of hash c.self.inside.pairs.items c.self.inside.index c.self.invariant.hashes c.len.ensures.table)
     (omega (arith, c.if-len-eq0.true, c.len.ensures.count)))
 
 pub returns-then-len-eq0-clause-bounded : goal.returns-then-len-eq0-clause-bounded
@@ -33,25 +45,37 @@ returns-then-len-eq0-clause-bounded g c = record {
   some_empty = λ p lp none. omega arith;
   none_empty = λ full. omega arith;
   always = omega arith;
-  some_look = λ some. omega (arith, some, c.if-len-eq0.true, c.len.ensures.count, ap (λ (t : Placed g.row.V.Denot). length t.places) c.self.view_is);
+  some_look = λ some. omega (
+    arith,
+    some,
+    c.if-len-eq0.true,
+    c.len.ensures.count,
+    ap
+        (λ (t : Placed g.row.V.Denot). length t.slots) c.self.view_is,
+  );
 }
 
 pub returns-clause-table : goal.returns-clause-table
 returns-clause-table g c =
-    subst (λ (t : Placed g.row.V.Denot). IsTable (map g.H.KeyHash.hash_of (keys_of t.store.pairs)) t.places) c.self.view_is
-    (table_of g.H.KeyHash.hash_of c.self.inside.pairs.items c.self.inside.places c.self.invariant.0.hashes c.len.ensures.table)
+    subst (λ (t : Placed g.row.V.Denot). IsTable (map g.H.KeyHash.hash_of (keys_of t.store.pairs)) t.slots) c.self.view_is
+    (table_of g.H.KeyHash.hash_of c.self.inside.pairs.items c.self.inside.index c.self.invariant.hashes c.len.ensures.table)
 
 pub returns-clause-ends : goal.returns-clause-ends
 returns-clause-ends g c =
     let hash = g.H.KeyHash.hash_of in
-    let some : 0 < length c.self.inside.places.slots = omega (arith, c.if-len-eq0.false, c.len.ensures.count) in
-    subst (λ (t : Placed g.row.V.Denot). LookUpEnds (map hash (keys_of t.store.pairs)) (keys_of t.store.pairs) t.places (hash c.args.key.now) c.args.key.now c.probe.result) c.self.view_is
-    (find_ends hash c.self.inside.pairs.items c.deref.result.now c.self.inside.places c.args.hash c.args.key.now (c.probe.new.looks - c.args.looks.now) c.probe.result
-    c.self.invariant.0.hashes c.deref.ensures.value c.requires.hash c.self.inside.distinct c.len.ensures.table some c.probe.ensures.ends)
+    let some : 0 < length c.self.inside.index.slots = omega (arith, c.if-len-eq0.false, c.len.ensures.count) in
+    subst (λ (t : Placed g.row.V.Denot). LookUpEnds (map hash (keys_of t.store.pairs)) (keys_of t.store.pairs) t.slots
+    (hash c.args.key.now) c.args.key.now c.probe.result) c.self.view_is
+    (find_ends hash c.self.inside.pairs.items c.deref.result.now c.self.inside.index c.args.hash c.args.key.now
+    (c.probe.new.looks - c.args.looks.now) c.probe.result
+    c.self.invariant.hashes c.deref.ensures.value c.requires.hash c.self.inside.distinct c.len.ensures.table some c.probe.ensures.ends)
 
 pub returns-clause-bounded : goal.returns-clause-bounded
 returns-clause-bounded g c =
     let hash = g.H.KeyHash.hash_of in
-    subst (λ (t : Placed g.row.V.Denot). IsBounded hash (keys_of t.store.pairs) t.places t.store.capacity c.args.key.now (c.probe.new.looks - c.args.looks.now)) c.self.view_is
-    (find_bounded hash c.self.inside.pairs.items c.deref.result.now c.self.inside.capacity c.self.inside.places c.args.hash c.args.key.now (c.probe.new.looks - c.args.looks.now) c.probe.result
-    c.self.invariant.0 c.deref.ensures.value c.requires.hash c.len.ensures.table c.probe.ensures.ends)
+    subst (λ (t : Placed g.row.V.Denot). IsBounded hash (keys_of t.store.pairs) t.slots t.store.capacity c.args.key.now
+    (c.probe.new.looks - c.args.looks.now)) c.self.view_is
+    (find_bounded hash c.self.inside.pairs.items c.deref.result.now
+    (vec_capacity c.self.inside.pairs) c.self.inside.index c.args.hash c.args.key.now
+    (c.probe.new.looks - c.args.looks.now) c.probe.result
+    c.self.invariant c.deref.ensures.value c.requires.hash c.len.ensures.table c.probe.ensures.ends)

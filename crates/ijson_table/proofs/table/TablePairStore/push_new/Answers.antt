@@ -1,7 +1,7 @@
 use Rattle.std.proofs.Common.{◌≡◌, [], ◌∷◌, ◌++◌, ap, sym, ◌∙◌, subst, None}
 use Rattle.ijson_table.specs.Store.{at, keys_of, IsDistinct}
 use Rattle.ijson_table.specs.Placed.{Placed}
-use Rattle.ijson_table.proofs.Keys.{distinct_pushed}
+use Rattle.ijson_table.proofs.pairs.PairsByKey.{distinct_pushed}
 use Rattle.ijson_table.proofs.table.TablePairStore.push_new.Goals as goal
 
 pub invariant_of-self-inside : goal.invariant_of-self-inside

@@ -2,15 +2,20 @@ use Rattle.std.proofs.Common.{◌≡◌, ◌<◌, length, map, arith, ap, sym, �
 use Rattle.std.specs.List.{remove}
 use Rattle.std.specs.Prelude.{slice_get}
 use Rattle.std.proofs.lemmas.Option.{slice_get_read}
+use Rattle.ijson_table.specs.Crowd.{slot_count}
 use Rattle.ijson_table.specs.Store.{keys_of, shift_out, IsDistinct}
 use Rattle.ijson_table.specs.Placed.{Placed}
-use Rattle.ijson_table.proofs.ShiftOut.{distinct_shifted, keys-shift_out, map-remove}
+use Rattle.ijson_table.proofs.shifting.ListShiftOut.{distinct_shifted, keys-shift_out, map-remove}
 use Rattle.ijson_table.proofs.table.TablePairStore.shift_out.Goals as goal
 
 pub invariant_of-self-inside : goal.invariant_of-self-inside
 invariant_of-self-inside g c =
     let old = c.self.inside.pairs.items in
-    let li : c.args.index < length old = omega (arith, ap (λ (s : Placed g.row.V.Denot). length s.store.pairs) c.self.view_is, c.requires) in
+    let li : c.args.index < length old = omega (
+      arith,
+      ap (λ (s : Placed g.row.V.Denot). length s.store.pairs) c.self.view_is,
+      c.requires,
+    ) in
     (subst (λ ps. IsDistinct (keys_of ps)) (sym c.remove.ensures.items) (distinct_shifted old c.args.index c.self.inside.distinct li), tt)
 
 pub invariant_of-self : goal.invariant_of-self
@@ -18,21 +23,28 @@ invariant_of-self g c =
     let hash = g.H.KeyHash.hash_of in
     let old = c.self.inside.pairs.items in
     let left : map hash (keys_of (shift_out old c.args.index)) ≡ remove (map hash (keys_of old)) c.args.index =
-    ap (map hash) (keys-shift_out old c.args.index) ∙ map-remove hash (keys_of old) c.args.index in (
-      record {
-        room = record {
-          within = omega (arith, c.remove.ensures.len, c.remove.new.self.ok.0, c.self.inside.pairs.ok.0, c.self.invariant.0.room.within);
-          limited = c.self.invariant.0.room.limited;
-        };
-        hashes = c.shift_remove.ensures.hashes ∙ (ap (λ hs. remove hs c.args.index) c.self.invariant.0.hashes ∙ (sym left ∙ ap (λ ps. map hash (keys_of ps)) (sym c.remove.ensures.items)));
-        size = c.shift_remove.ensures.count ∙ c.self.invariant.0.size;
-      },
-      omega (arith, c.self.invariant.1, c.remove.ensures.capacity),
-    )
+    ap (map hash) (keys-shift_out old c.args.index) ∙ map-remove hash (keys_of old) c.args.index in
+    record {
+      room = record {
+        within = omega (
+          arith,
+          c.remove.ensures.len,
+          c.remove.new.self.ok.0,
+          c.self.inside.pairs.ok.0,
+          c.self.invariant.room.within,
+          c.remove.ensures.capacity,
+        );
+        limited = omega (arith, c.self.invariant.room.limited, c.remove.ensures.capacity);
+      };
+      hashes = c.shift_remove.ensures.hashes ∙ (ap (λ hs. remove hs c.args.index) c.self.invariant.hashes
+          ∙ (sym left ∙ ap (λ ps. map hash (keys_of ps)) (sym c.remove.ensures.items)));
+      size = c.shift_remove.ensures.count ∙ c.self.invariant.size ∙ ap slot_count (sym c.remove.ensures.capacity);
+    }
 
 pub returns-clause-pair : goal.returns-clause-pair
 returns-clause-pair g c =
     let old = c.self.inside.pairs.items in
     let viewed : old ≡ c.args.self.now.store.pairs = ap (λ (s : Placed g.row.V.Denot). s.store.pairs) c.self.view_is in
     let li : c.args.index < length old = omega (arith, ap length viewed, c.requires) in
-    ap (λ ps. slice_get ps c.args.index) (sym viewed) ∙ slice_get_read old (length old) c.args.index c.remove.result refl li c.remove.ensures.value
+    ap (λ ps. slice_get ps c.args.index) (sym viewed)
+    ∙ slice_get_read old (length old) c.args.index c.remove.result refl li c.remove.ensures.value

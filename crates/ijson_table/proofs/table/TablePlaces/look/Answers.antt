@@ -1,26 +1,34 @@
 use Rattle.std.proofs.Common.{◌≡◌, ◌<◌, ℕ, List, [], length, get_or, Option, Some, None, IsTrue, ◌↔◌, arith, ap, sym, subst, ◌∙◌}
 use Rattle.ijson_table.specs.Placed.{Placed}
-use Rattle.ijson_table.specs.Places.{resident}
+use Rattle.ijson_table.specs.Slots.{resident}
 use Rattle.ijson_table.specs.Sees.{Sees}
 use Rattle.ijson_table.specs.Store.{keys_of}
-use Rattle.ijson_table.specs.private.PlaceHashes.{position_in, HasHash, SeenAs}
-use Rattle.ijson_table.proofs.Looking.{sees_place}
-use Rattle.ijson_table.proofs.Tables.{length-hashes}
-use Rattle.ijson_table.proofs.Walk.{in_list}
+use Rattle.ijson_table.specs.private.SlotHashes.{position_in, HasHash, SeenAs}
+use Rattle.ijson_table.proofs.probing.KeyTests.{sees_slot}
+use Rattle.ijson_table.proofs.probing.KeyHashes.{length-hashes}
+use Rattle.ijson_table.proofs.probing.ProbePath.{in_list}
 use Rattle.ijson_table.proofs.table.TablePlaces.look.Goals as goal
 use Rattle.ijson_table.proofs.table.TablePlaces.look.Goals.{in-None, in-Some}
 
 pub has_key-same-requires : goal.has_key-same-requires
 has_key-same-requires g c =
-    let places = c.self.inside.places in
-    let there : resident places.slots c.args.place ≡ Some c.in-Some.at = sym c.at-there.ensures.position ∙ (sym c.position.ensures ∙ c.in-Some.is) in
-    let within : c.args.place < length places.slots = omega (arith, c.requires.within, ap (λ (t : Placed g.row.V.Denot). length t.places) c.self.view_is) in
-    omega (arith, in_list places.hashes places.slots c.at-there.ensures.table c.args.place c.in-Some.at within there, ap length c.self.invariant.0.hashes, length-hashes g.H.KeyHash.hash_of c.self.inside.pairs.items, ap length c.deref.ensures.value)
+    let index = c.self.inside.index in
+    let there : resident index.slots c.args.slot ≡ Some c.in-Some.at =
+    sym c.at-there.ensures.position ∙ (sym c.position.ensures ∙ c.in-Some.is) in
+    let within : c.args.slot < length index.slots = omega
+    (arith, c.requires.within, ap (λ (t : Placed g.row.V.Denot). length t.slots) c.self.view_is) in
+    omega (
+      arith,
+      in_list index.hashes index.slots c.at-there.ensures.table c.args.slot c.in-Some.at within there,
+      ap length c.self.invariant.hashes,
+      length-hashes g.H.KeyHash.hash_of c.self.inside.pairs.items,
+      ap length c.deref.ensures.value,
+    )
 
 pub returns-clause-sees : goal.returns-clause-sees
 returns-clause-sees g c =
     let hash = g.H.KeyHash.hash_of in
-    let places = c.self.inside.places in
+    let index = c.self.inside.index in
     let pairs = c.self.inside.pairs.items in
     let keys : List (List ℕ) = keys_of pairs in
     let there = c.at-there.result in
@@ -36,8 +44,11 @@ returns-clause-sees g c =
           let at : w.in-Some.at ≡ i = cc in
           subst (λ s. IsTrue s ↔ (get_or keys i [] ≡ key)) (sym w.same-is)
           (subst (λ n. IsTrue w.has_key-same.result ↔ (get_or keys n [] ≡ key)) at
-          (subst (λ ps. IsTrue w.has_key-same.result ↔ (get_or (keys_of ps) w.in-Some.at [] ≡ key)) w.deref.ensures.value w.has_key-same.ensures))
+          (subst (λ ps. IsTrue w.has_key-same.result ↔ (get_or
+          (keys_of ps) w.in-Some.at [] ≡ key)) w.deref.ensures.value w.has_key-same.ensures))
     ] in
-    subst (λ (t : Placed g.row.V.Denot). Sees hash (keys_of t.store.pairs) t.places c.args.place key c.seen.result) c.self.view_is
-    (sees_place hash keys places.slots c.args.place there c.match-position.same key c.seen.result c.at-there.ensures.position (subst (λ hs. HasHash hs there) c.self.invariant.0.hashes c.at-there.ensures.hash)
-    (subst (λ n. SeenAs there n c.args.place c.match-position.same c.seen.result) (c.new-modulus.ensures ∙ c.len.ensures.count) c.seen.ensures) sought)
+    subst (λ (t : Placed g.row.V.Denot). Sees hash (keys_of t.store.pairs) t.slots c.args.slot key c.seen.result) c.self.view_is
+    (sees_slot hash keys index.slots c.args.slot there c.match-position.same key c.seen.result c.at-there.ensures.position
+    (subst (λ hs. HasHash hs there) c.self.invariant.hashes c.at-there.ensures.hash)
+    (subst (λ n. SeenAs there n c.args.slot c.match-position.same c.seen.result)
+    (c.new-modulus.ensures ∙ c.len.ensures.count) c.seen.ensures) sought)

@@ -2,10 +2,8 @@
 use Rattle.ijson_value.proofs.lends.Steps.{◌≡◌, ℕ, List, [], ◌∷◌, refl, sym, ap, ◌∙◌, lit<, MutBor, proved, full_share, id⊢, GName, Lft, ftrue, flft, fres, named, Val, fact, fact_i, emp, tables, ‵, raw, ◌⊛◌, some, later, at_ret, ◌$◌, ◌∵◌, !, qed, done, move, keep, drop, use0, use1, use2, use3, split, join, rewrite, fsplit, fsplit3, fjoin, pick, await, suffices, frame, enter, of_opd, lit, addr, fld, stop, no_more, and_then, first, exec, returns, alloc_all, pass_all, free_all, look_at, get, get_tag, through, sets, sets_last, lands_as, agg, env, no, shows, RattleType, MutRef, mut_vals, mut_Tells, plain, mut_ref_to, nothing, heard, peeks, only, whole, vrt, Laws, mut_ref_laws, calls_at, lasts, triple_of, Stays, walk_of, says, stay_dropped, Goes-spent_ref, ends_at, framed, lends_again, comes_back, LentAgain, lft_new, lft_end}
 use types.Match.{live}
 use types.Run.{switches}
-use mathlib.Core.Bool.{true≢false}
 use mir.Val.{of_list}
 use denote.Ref.{NamedLft}
-use Rattle.std.specs.Prelude.{◌==◌}
 use Rattle.ijson_number.specs.Num.{Num}
 use Rattle.ijson_number.specs.contracts.number.INumber.{the_row as NumberRow}
 use Rattle.ijson_string.specs.contracts.text.IString.{the_row as StringRow}
@@ -28,7 +26,10 @@ use Rattle.ijson_value.specs.declared.value.ValueType.TheVariants as kind
 use Rattle.ijson_value.specs.declared.value.destructure.BoolMut.{BoolMut}
 use Rattle.ijson_value.specs.declared.value.destructure.DestructuredMut.TheVariants as parts
 use Rattle.ijson_value.proofs.value.destructure.BoolMut.TheLaws.{the_row_laws as bool_laws}
+use Rattle.ijson_value.proofs.lends.Called.{apart, asks, answered}
 use Rattle.ijson_value.proofs.lends.LentOn.{none_if}
+use Rattle.ijson_value.proofs.lends.Steps.{Sq, prop}
+use Rattle.ijson_value.specs.declared.value.destructure.DestructuredMut.{DestructuredMut}
 use Rattle.ijson_value.proofs.lends.Parts.{by_kind, kind_out, null_made, bool_made, number_made, string_made, array_made, object_made}
 use Rattle.ijson_value.proofs.lends.Variants.{and_tt}
 use Rattle.ijson_value.specs.contracts.value.IValue.destructure_mut as f
@@ -71,6 +72,10 @@ destructure_mut_spec 𝓤 𝓛 𝓜 𝓡 wired =
     let at : NamedLft = record { mir = named 0; lft = κ } in
     let y : W.Ghost = ((κs, qs, bounds, a, (vs, tt)), gh) in
     let Ref = λ (κ' : List ℕ) (x : MutBor WellFormed). (MutRef (named 0) κ' V).own_val x vs in
+    let ends : (u : Val) (x : DestructuredMut) → mut_value x ≡ r.now
+    → Sq 𝓛 (‵ ((PartsOf at).own_val x (u ∷ [])) ∷ ‵ (flft κ q) ∷ ‵ (LendsParts r x) ∷ []) (prop (W.post y u)) = λ u x stands.
+    suffices ! _ (ends_at 𝓛 f.ended stayed c y u x (tt, tt) (tt, tt)) $ nothing ! $ nothing ! $ fjoin ! $ join ! $
+    nothing ! $ move ! (2 ∷ 0 ∷ []) $ join ! $ join ! $ frame ! $ says ! stands $ done ! in
     qed 𝓛 (((‵ (flft κ q) ⊛ ‵ ftrue) ⊛ ‵ (Ref κ r) ⊛ ‵ ftrue) ∷ ‵ ftrue ∷ []) ∵
     split ! $ split ! $ move ! (2 ∷ []) $ split ! $ keep ! (0 ∷ 2 ∷ []) $
     enter ! _ _ _ _ _ $ alloc_all ! (λ l. pass_all ! refl ((tt, tt), tt) $
@@ -95,187 +100,157 @@ destructure_mut_spec 𝓤 𝓛 𝓜 𝓡 wired =
     move ! (3 ∷ 6 ∷ 0 ∷ []) $ use3 𝓛 (later (‵ (Ref κ r) ⊛ ‵ (flft κ q))) (comes_back 𝓛 V (named 0) κ β q γ b o δ r.now r.now) $ await ! tt $ split ! $
     -- [the value; its token; its borrow; nothing; nothing; the kind]
     by_kind x
-    (λ is. rewrite ! 5 (λ (x' : ValueType). ‵ (KindRow.own_val x' (v ∷ []))) is refl $ move ! (5 ∷ []) $ kind_out ! kind.Null (v ∷ []) (λ found.
-    lands_as ! (ap only found) refl (tt, (record { fits = lit< tt }, tt)) $
+    (λ is. rewrite ! 5 (λ (x' : ValueType). ‵ (KindRow.own_val x' (v ∷ []))) is refl $ move ! (5 ∷ []) $
+    kind_out ! kind.Null (v ∷ []) (λ led. lands_as ! (ap only led) refl (tt, (record { fits = lit< tt }, tt)) $
     first ! $ switches ! (get_tag ! (vrt ! refl (fld ! refl (stop !))) (whole !)) (
       (λ _. sets_last ! (agg ! (and_then ! (lit ! tt) (no_more !))) refl (tt, (record { fits = lit< tt }, tt)) $
           exec ! 𝓣.C 𝓣.Λ (env code.Mir.locals l) code.Mir.t-4 (at_ret (env code.Mir.locals l) (W.post y)) $
-          sets ! (of_opd ! (get ! refl)) refl (tt, (record { fits = lit< tt }, tt)) $ returns ! (look_at ! 0 refl) $ free_all ! refl $ keep ! (0 ∷ 1 ∷ []) $ fsplit3 ! $ keep ! (1 ∷ 3 ∷ []) $
+          sets ! (of_opd ! (get ! refl)) refl (tt, (record { fits = lit< tt }, tt)) $ returns ! (look_at ! 0 refl) $ free_all ! refl $
+          keep ! (0 ∷ 1 ∷ []) $ fsplit3 ! $ keep ! (1 ∷ 3 ∷ []) $
           use1 𝓛 (‵ (fres γ (V.coded.code r.now))) (𝓛.names.obs-res γ (V.coded.code r.now)) $
           use1 𝓛 (‵ (LendsParts r parts.Null)) (none_if 𝓛 V V (λ w. w) r.now γ) $
           use0 𝓛 (‵ ((PartsOf at).own_val parts.Null (live 0 (of_list []) ∷ []))) (null_made 𝓛 at) $ move ! (0 ∷ 2 ∷ 1 ∷ []) $
-          suffices ! _ (ends_at 𝓛 f.ended stayed c y (live 0 (of_list [])) parts.Null (tt, tt) (tt, tt)) $
-          nothing ! $ nothing ! $ fjoin ! $ join ! $ nothing ! $ move ! (2 ∷ 0 ∷ []) $ join ! $ join ! $ frame ! $ says ! (is_null r.now (sym told ∙ is)) $ done !),
-      ((λ e. absurd (true≢false (sym (ap (λ n. n == 1) e)))), ((λ e. absurd (true≢false (sym (ap (λ n. n == 2) e)))), ((λ e. absurd (true≢false (sym (ap (λ n. n == 3) e)))), ((λ e. absurd (true≢false (sym (ap (λ n. n == 4) e)))), ((λ e. absurd (true≢false (sym (ap (λ n. n == 5) e)))), (λ n. absurd (n.0.0.0.0.0.1 refl))))))),
+          ends (live 0 (of_list [])) parts.Null (is_null r.now (sym told ∙ is))),
+      (apart 0 1 refl refl, (apart 0 2 refl refl, (apart 0 3 refl refl, (apart 0 4 refl refl, (apart 0 5 refl refl, (λ n. absurd (n.0.0.0.0.0.1 refl))))))),
     )))
-    (λ is. rewrite ! 5 (λ (x' : ValueType). ‵ (KindRow.own_val x' (v ∷ []))) is refl $ move ! (5 ∷ []) $ kind_out ! kind.Bool (v ∷ []) (λ found.
-    lands_as ! (ap only found) refl (tt, (record { fits = lit< tt }, tt)) $
+    (λ is. rewrite ! 5 (λ (x' : ValueType). ‵ (KindRow.own_val x' (v ∷ []))) is refl $ move ! (5 ∷ []) $
+    kind_out ! kind.Bool (v ∷ []) (λ led. lands_as ! (ap only led) refl (tt, (record { fits = lit< tt }, tt)) $
     first ! $ switches ! (get_tag ! (vrt ! refl (fld ! refl (stop !))) (whole !)) (
-      (λ e. absurd (true≢false (sym (ap (λ n. n == 0) e)))),
+      apart 1 0 refl refl,
       (
         (λ _. sets ! (addr ! (through ! refl (stop !))) refl (tt, tt) $
             let H = triple_of 𝓛 bool-part.signature (bool-part.spec 𝓛 𝓜.mem 𝓡.returns) in
             let z' : H.Ghost = ((κs, qs, tt, (r, tt), (vs, tt)), tt) in
-            nothing ! $ move ! (1 ∷ 0 ∷ []) $ join ! $ nothing ! $ move ! (2 ∷ 0 ∷ []) $ join ! $ join ! $
-            use0 𝓛 (raw (fact 𝓤 (kind_of r.now.tree ≡ kind.Bool))) (fact_i 𝓤 (kind_of r.now.tree ≡ kind.Bool) (emp 𝓤) (sym told ∙ is)) $ move ! (1 ∷ 0 ∷ []) $
-            use2 𝓛 (raw (H.pre z')) (id⊢ 𝓤 _) $
+            asks 𝓛 ! κ q ((MutRef (named 0) κ V).own_val r vs) (kind_of r.now.tree ≡ kind.Bool) (H.pre z') (sym told ∙ is) (id⊢ 𝓤 _) $
             calls_at ! (framed 𝓤 𝓛.H 𝓜 𝓣) H (bool-thm.met 𝓤 𝓛 𝓜 𝓡 (code.calls-ijson_value::value::IValue::bool_part 𝓡.env wired)) z'
-            (and_then ! (get ! refl) (no_more !)) (λ w.
-            use1 𝓛 (later (some (λ (part : BoolMut). ((‵ (flft κ q) ⊛ ‵ ftrue) ⊛ ‵ ((BoolRow at).own_val part (w ∷ []))) ⊛
-            some (λ (ws' : Unit {0} × Unit {0}). ‵ (lasts bool-part.ended κs (r, tt) ws') ⊛ ‵ (LendsBoolPart r part.place) ⊛ raw (fact 𝓤 (boolean_value part.place.now ≡ r.now)))))) (id⊢ 𝓤 _) $
-            await ! tt $ pick ! (λ part. split ! $ split ! $ split ! $ move ! (3 ∷ []) $ pick ! (λ ws'. split ! $ drop ! $ split ! $ move ! (1 ∷ []) $ heard ! _ (λ stands.
-            -- [what the value follows; its token; nothing; the part]
-            move ! (3 ∷ []) $ peeks ! (BoolRow at) _ (shows 𝓛 (BoolRow at)) part (w ∷ []) (λ seen. let typed = (((bool_laws at).lawful 𝓛).typed part (w ∷ []) seen).0 in
+            (and_then ! (get ! refl) (no_more !)) (λ w. answered 𝓛 ! κ q tt (BoolRow at) w
+            (λ part (ws' : Unit {0} × Unit {0}). lasts bool-part.ended κs (r, tt) ws') (λ part. LendsBoolPart r part.place) (λ part. boolean_value part.place.now ≡ r.now)
+            (H.post z' w) (id⊢ 𝓤 _) (λ part stands seen. let typed = (((bool_laws at).lawful 𝓛).typed part (w ∷ []) seen).0 in
             lands_as ! refl refl typed $
             sets_last ! (agg ! (and_then ! (lit ! tt) (and_then ! (get ! refl) (no_more !)))) refl (and_tt _ typed.0, (record { fits = lit< tt }, (typed.1, tt))) $
             exec ! 𝓣.C 𝓣.Λ (env code.Mir.locals l) code.Mir.t-4 (at_ret (env code.Mir.locals l) (W.post y)) $
-            sets ! (of_opd ! (get ! refl)) refl (and_tt _ typed.0, (record { fits = lit< tt }, (typed.1, tt))) $ returns ! (look_at ! 0 refl) $ free_all ! refl $
+            sets ! (of_opd ! (get ! refl)) refl (and_tt _ typed.0, (record { fits = lit< tt }, (typed.1, tt))) $
+            returns ! (look_at ! 0 refl) $ free_all ! refl $
             use1 𝓛 (‵ ((PartsOf at).own_val (parts.Bool part) (live 1 (of_list (w ∷ [])) ∷ []))) (bool_made 𝓛 at part w) $
-            keep ! (0 ∷ 2 ∷ 1 ∷ []) $
-            suffices ! _ (ends_at 𝓛 f.ended stayed c y (live 1 (of_list (w ∷ []))) (parts.Bool part) (tt, tt) (tt, tt)) $
-            nothing ! $ nothing ! $ fjoin ! $ join ! $ nothing ! $ move ! (2 ∷ 0 ∷ []) $ join ! $ join ! $ frame ! $ says ! stands $ done !)))))),
-        ((λ e. absurd (true≢false (sym (ap (λ n. n == 2) e)))), ((λ e. absurd (true≢false (sym (ap (λ n. n == 3) e)))), ((λ e. absurd (true≢false (sym (ap (λ n. n == 4) e)))), ((λ e. absurd (true≢false (sym (ap (λ n. n == 5) e)))), (λ n. absurd (n.0.0.0.0.1 refl)))))),
+            keep ! (0 ∷ 2 ∷ 1 ∷ []) $ ends (live 1 (of_list (w ∷ []))) (parts.Bool part) stands))),
+        (apart 1 2 refl refl, (apart 1 3 refl refl, (apart 1 4 refl refl, (apart 1 5 refl refl, (λ n. absurd (n.0.0.0.0.1 refl)))))),
       ),
     )))
-    (λ is. rewrite ! 5 (λ (x' : ValueType). ‵ (KindRow.own_val x' (v ∷ []))) is refl $ move ! (5 ∷ []) $ kind_out ! kind.Number (v ∷ []) (λ found.
-    lands_as ! (ap only found) refl (tt, (record { fits = lit< tt }, tt)) $
+    (λ is. rewrite ! 5 (λ (x' : ValueType). ‵ (KindRow.own_val x' (v ∷ []))) is refl $ move ! (5 ∷ []) $
+    kind_out ! kind.Number (v ∷ []) (λ led. lands_as ! (ap only led) refl (tt, (record { fits = lit< tt }, tt)) $
     first ! $ switches ! (get_tag ! (vrt ! refl (fld ! refl (stop !))) (whole !)) (
-      (λ e. absurd (true≢false (sym (ap (λ n. n == 0) e)))),
+      apart 2 0 refl refl,
       (
-        (λ e. absurd (true≢false (sym (ap (λ n. n == 1) e)))),
+        apart 2 1 refl refl,
         (
           (λ _. sets ! (addr ! (through ! refl (stop !))) refl (tt, tt) $
               let H = triple_of 𝓛 number-part.signature (number-part.spec 𝓛 𝓜.mem 𝓡.returns) in
               let z' : H.Ghost = ((κs, qs, tt, (r, tt), (vs, tt)), tt) in
-              nothing ! $ move ! (1 ∷ 0 ∷ []) $ join ! $ nothing ! $ move ! (2 ∷ 0 ∷ []) $ join ! $ join ! $
-              use0 𝓛 (raw (fact 𝓤 (kind_of r.now.tree ≡ kind.Number))) (fact_i 𝓤 (kind_of r.now.tree ≡ kind.Number) (emp 𝓤) (sym told ∙ is)) $ move ! (1 ∷ 0 ∷ []) $
-              use2 𝓛 (raw (H.pre z')) (id⊢ 𝓤 _) $
+              asks 𝓛 ! κ q ((MutRef (named 0) κ V).own_val r vs) (kind_of r.now.tree ≡ kind.Number) (H.pre z') (sym told ∙ is) (id⊢ 𝓤 _) $
               calls_at ! (framed 𝓤 𝓛.H 𝓜 𝓣) H (number-thm.met 𝓤 𝓛 𝓜 𝓡 (code.calls-ijson_value::value::IValue::number_part 𝓡.env wired)) z'
-              (and_then ! (get ! refl) (no_more !)) (λ w.
-              use1 𝓛 (later (some (λ (part : MutBor Num). ((‵ (flft κ q) ⊛ ‵ ftrue) ⊛ ‵ ((MutRef (named 0) κ NumberRow).own_val part (w ∷ []))) ⊛
-              some (λ (ws' : Unit {0} × Unit {0}). ‵ (lasts number-part.ended κs (r, tt) ws') ⊛ ‵ (LendsNumberPart r part) ⊛ raw (fact 𝓤 (number_value part.now ≡ r.now)))))) (id⊢ 𝓤 _) $
-              await ! tt $ pick ! (λ part. split ! $ split ! $ split ! $ move ! (3 ∷ []) $ pick ! (λ ws'. split ! $ drop ! $ split ! $ move ! (1 ∷ []) $ heard ! _ (λ stands.
-              -- [what the value follows; its token; nothing; the part]
-              move ! (3 ∷ []) $ peeks ! (MutRef (named 0) κ NumberRow) _ (shows 𝓛 (MutRef (named 0) κ NumberRow)) part (w ∷ []) (λ seen. let typed = (((mut_ref_laws at NumberRow tt).lawful 𝓛).typed part (w ∷ []) seen).0 in
+              (and_then ! (get ! refl) (no_more !)) (λ w. answered 𝓛 ! κ q tt (MutRef (named 0) κ NumberRow) w
+              (λ part (ws' : Unit {0} × Unit {0}). lasts number-part.ended κs (r, tt) ws') (λ part. LendsNumberPart r part) (λ part. number_value part.now ≡ r.now)
+              (H.post z' w) (id⊢ 𝓤 _) (λ part stands seen. let typed = (((mut_ref_laws at NumberRow tt).lawful 𝓛).typed part (w ∷ []) seen).0 in
               lands_as ! refl refl typed $
               sets_last ! (agg ! (and_then ! (lit ! tt) (and_then ! (get ! refl) (no_more !)))) refl (and_tt _ typed.0, (record { fits = lit< tt }, (typed.1, tt))) $
               exec ! 𝓣.C 𝓣.Λ (env code.Mir.locals l) code.Mir.t-4 (at_ret (env code.Mir.locals l) (W.post y)) $
-              sets ! (of_opd ! (get ! refl)) refl (and_tt _ typed.0, (record { fits = lit< tt }, (typed.1, tt))) $ returns ! (look_at ! 0 refl) $ free_all ! refl $
+              sets ! (of_opd ! (get ! refl)) refl (and_tt _ typed.0, (record { fits = lit< tt }, (typed.1, tt))) $
+              returns ! (look_at ! 0 refl) $ free_all ! refl $
               use1 𝓛 (‵ ((PartsOf at).own_val (parts.Number part) (live 2 (of_list (w ∷ [])) ∷ []))) (number_made 𝓛 at part w) $
-              keep ! (0 ∷ 2 ∷ 1 ∷ []) $
-              suffices ! _ (ends_at 𝓛 f.ended stayed c y (live 2 (of_list (w ∷ []))) (parts.Number part) (tt, tt) (tt, tt)) $
-              nothing ! $ nothing ! $ fjoin ! $ join ! $ nothing ! $ move ! (2 ∷ 0 ∷ []) $ join ! $ join ! $ frame ! $ says ! stands $ done !)))))),
-          ((λ e. absurd (true≢false (sym (ap (λ n. n == 3) e)))), ((λ e. absurd (true≢false (sym (ap (λ n. n == 4) e)))), ((λ e. absurd (true≢false (sym (ap (λ n. n == 5) e)))), (λ n. absurd (n.0.0.0.1 refl))))),
+              keep ! (0 ∷ 2 ∷ 1 ∷ []) $ ends (live 2 (of_list (w ∷ []))) (parts.Number part) stands))),
+          (apart 2 3 refl refl, (apart 2 4 refl refl, (apart 2 5 refl refl, (λ n. absurd (n.0.0.0.1 refl))))),
         ),
       ),
     )))
-    (λ is. rewrite ! 5 (λ (x' : ValueType). ‵ (KindRow.own_val x' (v ∷ []))) is refl $ move ! (5 ∷ []) $ kind_out ! kind.String (v ∷ []) (λ found.
-    lands_as ! (ap only found) refl (tt, (record { fits = lit< tt }, tt)) $
+    (λ is. rewrite ! 5 (λ (x' : ValueType). ‵ (KindRow.own_val x' (v ∷ []))) is refl $ move ! (5 ∷ []) $
+    kind_out ! kind.String (v ∷ []) (λ led. lands_as ! (ap only led) refl (tt, (record { fits = lit< tt }, tt)) $
     first ! $ switches ! (get_tag ! (vrt ! refl (fld ! refl (stop !))) (whole !)) (
-      (λ e. absurd (true≢false (sym (ap (λ n. n == 0) e)))),
+      apart 3 0 refl refl,
       (
-        (λ e. absurd (true≢false (sym (ap (λ n. n == 1) e)))),
+        apart 3 1 refl refl,
         (
-          (λ e. absurd (true≢false (sym (ap (λ n. n == 2) e)))),
+          apart 3 2 refl refl,
           (
             (λ _. sets ! (addr ! (through ! refl (stop !))) refl (tt, tt) $
                 let H = triple_of 𝓛 string-part.signature (string-part.spec 𝓛 𝓜.mem 𝓡.returns) in
                 let z' : H.Ghost = ((κs, qs, tt, (r, tt), (vs, tt)), tt) in
-                nothing ! $ move ! (1 ∷ 0 ∷ []) $ join ! $ nothing ! $ move ! (2 ∷ 0 ∷ []) $ join ! $ join ! $
-                use0 𝓛 (raw (fact 𝓤 (kind_of r.now.tree ≡ kind.String))) (fact_i 𝓤 (kind_of r.now.tree ≡ kind.String) (emp 𝓤) (sym told ∙ is)) $ move ! (1 ∷ 0 ∷ []) $
-                use2 𝓛 (raw (H.pre z')) (id⊢ 𝓤 _) $
+                asks 𝓛 ! κ q ((MutRef (named 0) κ V).own_val r vs) (kind_of r.now.tree ≡ kind.String) (H.pre z') (sym told ∙ is) (id⊢ 𝓤 _) $
                 calls_at ! (framed 𝓤 𝓛.H 𝓜 𝓣) H (string-thm.met 𝓤 𝓛 𝓜 𝓡 (code.calls-ijson_value::value::IValue::string_part 𝓡.env wired)) z'
-                (and_then ! (get ! refl) (no_more !)) (λ w.
-                use1 𝓛 (later (some (λ (part : MutBor (List ℕ)). ((‵ (flft κ q) ⊛ ‵ ftrue) ⊛ ‵ ((MutRef (named 0) κ StringRow).own_val part (w ∷ []))) ⊛
-                some (λ (ws' : Unit {0} × Unit {0}). ‵ (lasts string-part.ended κs (r, tt) ws') ⊛ ‵ (LendsStringPart r part) ⊛ raw (fact 𝓤 (string_value part.now ≡ r.now)))))) (id⊢ 𝓤 _) $
-                await ! tt $ pick ! (λ part. split ! $ split ! $ split ! $ move ! (3 ∷ []) $ pick ! (λ ws'. split ! $ drop ! $ split ! $ move ! (1 ∷ []) $ heard ! _ (λ stands.
-                -- [what the value follows; its token; nothing; the part]
-                move ! (3 ∷ []) $ peeks ! (MutRef (named 0) κ StringRow) _ (shows 𝓛 (MutRef (named 0) κ StringRow)) part (w ∷ []) (λ seen. let typed = (((mut_ref_laws at StringRow tt).lawful 𝓛).typed part (w ∷ []) seen).0 in
+                (and_then ! (get ! refl) (no_more !)) (λ w. answered 𝓛 ! κ q tt (MutRef (named 0) κ StringRow) w
+                (λ part (ws' : Unit {0} × Unit {0}). lasts string-part.ended κs (r, tt) ws') (λ part. LendsStringPart r part) (λ part. string_value part.now ≡ r.now)
+                (H.post z' w) (id⊢ 𝓤 _) (λ part stands seen. let typed = (((mut_ref_laws at StringRow tt).lawful 𝓛).typed part (w ∷ []) seen).0 in
                 lands_as ! refl refl typed $
                 sets_last ! (agg ! (and_then ! (lit ! tt) (and_then ! (get ! refl) (no_more !)))) refl (and_tt _ typed.0, (record { fits = lit< tt }, (typed.1, tt))) $
                 exec ! 𝓣.C 𝓣.Λ (env code.Mir.locals l) code.Mir.t-4 (at_ret (env code.Mir.locals l) (W.post y)) $
-                sets ! (of_opd ! (get ! refl)) refl (and_tt _ typed.0, (record { fits = lit< tt }, (typed.1, tt))) $ returns ! (look_at ! 0 refl) $ free_all ! refl $
+                sets ! (of_opd ! (get ! refl)) refl (and_tt _ typed.0, (record { fits = lit< tt }, (typed.1, tt))) $
+                returns ! (look_at ! 0 refl) $ free_all ! refl $
                 use1 𝓛 (‵ ((PartsOf at).own_val (parts.String part) (live 3 (of_list (w ∷ [])) ∷ []))) (string_made 𝓛 at part w) $
-                keep ! (0 ∷ 2 ∷ 1 ∷ []) $
-                suffices ! _ (ends_at 𝓛 f.ended stayed c y (live 3 (of_list (w ∷ []))) (parts.String part) (tt, tt) (tt, tt)) $
-                nothing ! $ nothing ! $ fjoin ! $ join ! $ nothing ! $ move ! (2 ∷ 0 ∷ []) $ join ! $ join ! $ frame ! $ says ! stands $ done !)))))),
-            ((λ e. absurd (true≢false (sym (ap (λ n. n == 4) e)))), ((λ e. absurd (true≢false (sym (ap (λ n. n == 5) e)))), (λ n. absurd (n.0.0.1 refl)))),
+                keep ! (0 ∷ 2 ∷ 1 ∷ []) $ ends (live 3 (of_list (w ∷ []))) (parts.String part) stands))),
+            (apart 3 4 refl refl, (apart 3 5 refl refl, (λ n. absurd (n.0.0.1 refl)))),
           ),
         ),
       ),
     )))
-    (λ is. rewrite ! 5 (λ (x' : ValueType). ‵ (KindRow.own_val x' (v ∷ []))) is refl $ move ! (5 ∷ []) $ kind_out ! kind.Array (v ∷ []) (λ found.
-    lands_as ! (ap only found) refl (tt, (record { fits = lit< tt }, tt)) $
+    (λ is. rewrite ! 5 (λ (x' : ValueType). ‵ (KindRow.own_val x' (v ∷ []))) is refl $ move ! (5 ∷ []) $
+    kind_out ! kind.Array (v ∷ []) (λ led. lands_as ! (ap only led) refl (tt, (record { fits = lit< tt }, tt)) $
     first ! $ switches ! (get_tag ! (vrt ! refl (fld ! refl (stop !))) (whole !)) (
-      (λ e. absurd (true≢false (sym (ap (λ n. n == 0) e)))),
+      apart 4 0 refl refl,
       (
-        (λ e. absurd (true≢false (sym (ap (λ n. n == 1) e)))),
+        apart 4 1 refl refl,
         (
-          (λ e. absurd (true≢false (sym (ap (λ n. n == 2) e)))),
+          apart 4 2 refl refl,
           (
-            (λ e. absurd (true≢false (sym (ap (λ n. n == 3) e)))),
+            apart 4 3 refl refl,
             (
               (λ _. sets ! (addr ! (through ! refl (stop !))) refl (tt, tt) $
                   let H = triple_of 𝓛 array-part.signature (array-part.spec 𝓛 𝓜.mem 𝓡.returns) in
                   let z' : H.Ghost = ((κs, qs, tt, (r, tt), (vs, tt)), tt) in
-                  nothing ! $ move ! (1 ∷ 0 ∷ []) $ join ! $ nothing ! $ move ! (2 ∷ 0 ∷ []) $ join ! $ join ! $
-                  use0 𝓛 (raw (fact 𝓤 (kind_of r.now.tree ≡ kind.Array))) (fact_i 𝓤 (kind_of r.now.tree ≡ kind.Array) (emp 𝓤) (sym told ∙ is)) $ move ! (1 ∷ 0 ∷ []) $
-                  use2 𝓛 (raw (H.pre z')) (id⊢ 𝓤 _) $
+                  asks 𝓛 ! κ q ((MutRef (named 0) κ V).own_val r vs) (kind_of r.now.tree ≡ kind.Array) (H.pre z') (sym told ∙ is) (id⊢ 𝓤 _) $
                   calls_at ! (framed 𝓤 𝓛.H 𝓜 𝓣) H (array-thm.met 𝓤 𝓛 𝓜 𝓡 (code.calls-ijson_value::value::IValue::array_part 𝓡.env wired)) z'
-                  (and_then ! (get ! refl) (no_more !)) (λ w.
-                  use1 𝓛 (later (some (λ (part : MutBor Sequence). ((‵ (flft κ q) ⊛ ‵ ftrue) ⊛ ‵ ((MutRef (named 0) κ ArrayRow).own_val part (w ∷ []))) ⊛
-                  some (λ (ws' : Unit {0} × Unit {0}). ‵ (lasts array-part.ended κs (r, tt) ws') ⊛ ‵ (LendsArrayPart r part) ⊛ raw (fact 𝓤 (array_value part.now.items ≡ r.now)))))) (id⊢ 𝓤 _) $
-                  await ! tt $ pick ! (λ part. split ! $ split ! $ split ! $ move ! (3 ∷ []) $ pick ! (λ ws'. split ! $ drop ! $ split ! $ move ! (1 ∷ []) $ heard ! _ (λ stands.
-                  -- [what the value follows; its token; nothing; the part]
-                  move ! (3 ∷ []) $ peeks ! (MutRef (named 0) κ ArrayRow) _ (shows 𝓛 (MutRef (named 0) κ ArrayRow)) part (w ∷ []) (λ seen. let typed = (((mut_ref_laws at ArrayRow tt).lawful 𝓛).typed part (w ∷ []) seen).0 in
+                  (and_then ! (get ! refl) (no_more !)) (λ w. answered 𝓛 ! κ q tt (MutRef (named 0) κ ArrayRow) w
+                  (λ part (ws' : Unit {0} × Unit {0}). lasts array-part.ended κs (r, tt) ws') (λ part. LendsArrayPart r part) (λ part. array_value part.now.items ≡ r.now)
+                  (H.post z' w) (id⊢ 𝓤 _) (λ part stands seen. let typed = (((mut_ref_laws at ArrayRow tt).lawful 𝓛).typed part (w ∷ []) seen).0 in
                   lands_as ! refl refl typed $
                   sets_last ! (agg ! (and_then ! (lit ! tt) (and_then ! (get ! refl) (no_more !)))) refl (and_tt _ typed.0, (record { fits = lit< tt }, (typed.1, tt))) $
                   exec ! 𝓣.C 𝓣.Λ (env code.Mir.locals l) code.Mir.t-4 (at_ret (env code.Mir.locals l) (W.post y)) $
-                  sets ! (of_opd ! (get ! refl)) refl (and_tt _ typed.0, (record { fits = lit< tt }, (typed.1, tt))) $ returns ! (look_at ! 0 refl) $ free_all ! refl $
+                  sets ! (of_opd ! (get ! refl)) refl (and_tt _ typed.0, (record { fits = lit< tt }, (typed.1, tt))) $
+                  returns ! (look_at ! 0 refl) $ free_all ! refl $
                   use1 𝓛 (‵ ((PartsOf at).own_val (parts.Array part) (live 4 (of_list (w ∷ [])) ∷ []))) (array_made 𝓛 at part w) $
-                  keep ! (0 ∷ 2 ∷ 1 ∷ []) $
-                  suffices ! _ (ends_at 𝓛 f.ended stayed c y (live 4 (of_list (w ∷ []))) (parts.Array part) (tt, tt) (tt, tt)) $
-                  nothing ! $ nothing ! $ fjoin ! $ join ! $ nothing ! $ move ! (2 ∷ 0 ∷ []) $ join ! $ join ! $ frame ! $ says ! stands $ done !)))))),
-              ((λ e. absurd (true≢false (sym (ap (λ n. n == 5) e)))), (λ n. absurd (n.0.1 refl))),
+                  keep ! (0 ∷ 2 ∷ 1 ∷ []) $ ends (live 4 (of_list (w ∷ []))) (parts.Array part) stands))),
+              (apart 4 5 refl refl, (λ n. absurd (n.0.1 refl))),
             ),
           ),
         ),
       ),
     )))
-    (λ is. rewrite ! 5 (λ (x' : ValueType). ‵ (KindRow.own_val x' (v ∷ []))) is refl $ move ! (5 ∷ []) $ kind_out ! kind.Object (v ∷ []) (λ found.
-    lands_as ! (ap only found) refl (tt, (record { fits = lit< tt }, tt)) $
+    (λ is. rewrite ! 5 (λ (x' : ValueType). ‵ (KindRow.own_val x' (v ∷ []))) is refl $ move ! (5 ∷ []) $
+    kind_out ! kind.Object (v ∷ []) (λ led. lands_as ! (ap only led) refl (tt, (record { fits = lit< tt }, tt)) $
     first ! $ switches ! (get_tag ! (vrt ! refl (fld ! refl (stop !))) (whole !)) (
-      (λ e. absurd (true≢false (sym (ap (λ n. n == 0) e)))),
+      apart 5 0 refl refl,
       (
-        (λ e. absurd (true≢false (sym (ap (λ n. n == 1) e)))),
+        apart 5 1 refl refl,
         (
-          (λ e. absurd (true≢false (sym (ap (λ n. n == 2) e)))),
+          apart 5 2 refl refl,
           (
-            (λ e. absurd (true≢false (sym (ap (λ n. n == 3) e)))),
+            apart 5 3 refl refl,
             (
-              (λ e. absurd (true≢false (sym (ap (λ n. n == 4) e)))),
+              apart 5 4 refl refl,
               (
                 (λ _. sets ! (addr ! (through ! refl (stop !))) refl (tt, tt) $
                     let H = triple_of 𝓛 object-part.signature (object-part.spec 𝓛 𝓜.mem 𝓡.returns) in
                     let z' : H.Ghost = ((κs, qs, tt, (r, tt), (vs, tt)), tt) in
-                    nothing ! $ move ! (1 ∷ 0 ∷ []) $ join ! $ nothing ! $ move ! (2 ∷ 0 ∷ []) $ join ! $ join ! $
-                    use0 𝓛 (raw (fact 𝓤 (kind_of r.now.tree ≡ kind.Object))) (fact_i 𝓤 (kind_of r.now.tree ≡ kind.Object) (emp 𝓤) (sym told ∙ is)) $ move ! (1 ∷ 0 ∷ []) $
-                    use2 𝓛 (raw (H.pre z')) (id⊢ 𝓤 _) $
+                    asks 𝓛 ! κ q ((MutRef (named 0) κ V).own_val r vs) (kind_of r.now.tree ≡ kind.Object) (H.pre z') (sym told ∙ is) (id⊢ 𝓤 _) $
                     calls_at ! (framed 𝓤 𝓛.H 𝓜 𝓣) H (object-thm.met 𝓤 𝓛 𝓜 𝓡 (code.calls-ijson_value::value::IValue::object_part 𝓡.env wired)) z'
-                    (and_then ! (get ! refl) (no_more !)) (λ w.
-                    use1 𝓛 (later (some (λ (part : MutBor (Store WellFormed)). ((‵ (flft κ q) ⊛ ‵ ftrue) ⊛ ‵ ((MutRef (named 0) κ ObjectRow).own_val part (w ∷ []))) ⊛
-                    some (λ (ws' : Unit {0} × Unit {0}). ‵ (lasts object-part.ended κs (r, tt) ws') ⊛ ‵ (LendsObjectPart r part) ⊛ raw (fact 𝓤 (object_value part.now ≡ r.now)))))) (id⊢ 𝓤 _) $
-                    await ! tt $ pick ! (λ part. split ! $ split ! $ split ! $ move ! (3 ∷ []) $ pick ! (λ ws'. split ! $ drop ! $ split ! $ move ! (1 ∷ []) $ heard ! _ (λ stands.
-                    -- [what the value follows; its token; nothing; the part]
-                    move ! (3 ∷ []) $ peeks ! (MutRef (named 0) κ ObjectRow) _ (shows 𝓛 (MutRef (named 0) κ ObjectRow)) part (w ∷ []) (λ seen. let typed = (((mut_ref_laws at ObjectRow tt).lawful 𝓛).typed part (w ∷ []) seen).0 in
+                    (and_then ! (get ! refl) (no_more !)) (λ w. answered 𝓛 ! κ q tt (MutRef (named 0) κ ObjectRow) w
+                    (λ part (ws' : Unit {0} × Unit {0}). lasts object-part.ended κs (r, tt) ws') (λ part. LendsObjectPart r part) (λ part. object_value part.now ≡ r.now)
+                    (H.post z' w) (id⊢ 𝓤 _) (λ part stands seen. let typed = (((mut_ref_laws at ObjectRow tt).lawful 𝓛).typed part (w ∷ []) seen).0 in
                     lands_as ! refl refl typed $
                     sets_last ! (agg ! (and_then ! (lit ! tt) (and_then ! (get ! refl) (no_more !)))) refl (and_tt _ typed.0, (record { fits = lit< tt }, (typed.1, tt))) $
                     exec ! 𝓣.C 𝓣.Λ (env code.Mir.locals l) code.Mir.t-4 (at_ret (env code.Mir.locals l) (W.post y)) $
-                    sets ! (of_opd ! (get ! refl)) refl (and_tt _ typed.0, (record { fits = lit< tt }, (typed.1, tt))) $ returns ! (look_at ! 0 refl) $ free_all ! refl $
+                    sets ! (of_opd ! (get ! refl)) refl (and_tt _ typed.0, (record { fits = lit< tt }, (typed.1, tt))) $
+                    returns ! (look_at ! 0 refl) $ free_all ! refl $
                     use1 𝓛 (‵ ((PartsOf at).own_val (parts.Object part) (live 5 (of_list (w ∷ [])) ∷ []))) (object_made 𝓛 at part w) $
-                    keep ! (0 ∷ 2 ∷ 1 ∷ []) $
-                    suffices ! _ (ends_at 𝓛 f.ended stayed c y (live 5 (of_list (w ∷ []))) (parts.Object part) (tt, tt) (tt, tt)) $
-                    nothing ! $ nothing ! $ fjoin ! $ join ! $ nothing ! $ move ! (2 ∷ 0 ∷ []) $ join ! $ join ! $ frame ! $ says ! stands $ done !)))))),
+                    keep ! (0 ∷ 2 ∷ 1 ∷ []) $ ends (live 5 (of_list (w ∷ []))) (parts.Object part) stands))),
                 (λ n. absurd (n.1 refl)),
               ),
             ),

@@ -1,6 +1,6 @@
 use Rattle.std.proofs.Common.{◌≡◌, ◌++◌, ◌∷◌, [], ℕ, refl, sym, ap, ◌∙◌}
 use Rattle.std.specs.Prelude.{slice_get}
-use Rattle.ijson_table.proofs.Writing.{store_path}
+use Rattle.ijson_table.proofs.pairs.SameStores.{store_path}
 use Rattle.ijson_table.specs.Store.{Store, with_value}
 use Rattle.ijson_table.specs.StoreWithValue.{store_with_value}
 use Rattle.ijson_value.specs.declared.object.entry.Entry.TheVariants.{Vacant}

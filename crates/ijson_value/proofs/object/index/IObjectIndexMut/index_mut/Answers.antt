@@ -1,7 +1,7 @@
 use Rattle.std.proofs.Common.{◌≡◌, ℕ, refl, sym, ap, subst, ◌∙◌, Some}
 use Rattle.std.specs.Prelude.{IsSome}
 use Rattle.ijson_table.specs.Store.{Store, at}
-use Rattle.ijson_table.proofs.Keys.{lookup-found, position_within}
+use Rattle.ijson_table.proofs.pairs.PairsByKey.{lookup-found, position_within}
 use Rattle.ijson_value.specs.LendsAtKey.{with_found}
 use Rattle.ijson_value.specs.WellFormed.{WellFormed}
 use Rattle.ijson_value.proofs.Objects.{at-some}

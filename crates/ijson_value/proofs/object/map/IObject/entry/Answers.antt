@@ -1,5 +1,5 @@
 use Rattle.std.proofs.Common.{◌≡◌, ◌++◌, ◌∷◌, [], refl, sym, ap, subst, ◌∙◌, ℕ, length, Some, None}
-use Rattle.ijson_table.proofs.Keys.{put-present, put-absent, lookup-absent}
+use Rattle.ijson_table.proofs.pairs.PairsByKey.{put-present, put-absent, lookup-absent}
 use Rattle.ijson_table.specs.Growth.{Ungrown}
 use Rattle.ijson_table.specs.Store.{Store, at}
 use Rattle.ijson_value.specs.WellFormed.{WellFormed}

@@ -1,10 +1,11 @@
-use Rattle.std.proofs.Common.{◌≡◌, ℕ, List, rules, sym, subst, ◌∙◌, length, Some}
+use Rattle.std.proofs.Common.{◌≡◌, ℕ, List, rules, sym, ap, subst, ◌∙◌, length, Some}
 use Rattle.ijson_table.specs.Growth.{Ungrown}
-use Rattle.ijson_table.specs.Store.{Store, lookup}
+use Rattle.ijson_table.specs.Store.{Store, lookup, put_each}
 use Rattle.ijson_value.specs.InsertsEach.{InsertsEach}
 use Rattle.ijson_value.specs.WellFormed.{WellFormed}
 use Rattle.ijson_value.proofs.Entries.{refused_capacity}
 use Rattle.ijson_value.proofs.Inserted.{one_more}
+use Rattle.ijson_value.proofs.PutInTurn.{put_in_turn, list_given}
 use Rattle.ijson_value.proofs.object.map.IObject.extend.Goals as goal
 
 pub loop-key-preserved : goal.loop-key-preserved
@@ -15,8 +16,8 @@ loop-key-preserved g c =
       one_more old.pairs old.capacity c.loop-key.yielded mid.pairs mid.capacity (c.in-Some.key, c.in-Some.value) c.in-Ok.old new.pairs new.capacity c.loop-key.invariant.2 c.in-Ok.ensures.inserts,
     )
 
-pub returns-in-Err : goal.returns-in-Err
-returns-in-Err g c =
+pub returns-in-Err-clause-added : goal.returns-in-Err-clause-added
+returns-in-Err-clause-added g c =
     let old : Store WellFormed = c.args.self.now in let mid : Store WellFormed = c.loop-key.self in let new : Store WellFormed = c.insert.new.self in
     let why = c.in-Err.refused.why in
     let missing = c.in-Err.ensures.inserts.0 in let key = c.in-Err.ensures.inserts.1 in let value = c.in-Err.ensures.inserts.2 in
@@ -42,3 +43,14 @@ returns-in-Err g c =
         ),
       ),
     )
+
+pub returns-clause-added : goal.returns-clause-added
+returns-clause-added g c = search rules
+
+pub returns-clause-list : goal.returns-clause-list
+returns-clause-list g c = λ all gives.
+    let old : Store WellFormed = c.args.self.now in
+    let all_added = returns-clause-added g c in
+    let added : List (List ℕ × WellFormed) = all_added.0 in
+    put_in_turn old.pairs old.capacity added c.loop-key.self.pairs c.loop-key.self.capacity all_added.1
+    ∙ ap (put_each old.pairs) (list_given all_added.2.0 added all all_added.2.2 (gives all_added.2.0 all_added.2.1))

@@ -8,7 +8,7 @@ use Rattle.ijson_value.proofs.object.map.IObject.from_iter.Goals as goal
 pub returns-in-Err : goal.returns-in-Err
 returns-in-Err g c =
     let made : Store WellFormed = c.extend.new.self in
-    let refused = c.in-Err.ensures in (
+    let refused = c.in-Err.ensures.added in (
       refused.0,
       (
         made,

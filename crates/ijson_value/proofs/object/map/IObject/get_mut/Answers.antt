@@ -1,6 +1,6 @@
 use Rattle.std.proofs.Common.{◌≡◌, ℕ, refl, sym, ap, ◌∙◌, Some, None, inl}
 use Rattle.ijson_table.specs.Store.{Store, at}
-use Rattle.ijson_table.proofs.Keys.{lookup-found, lookup-absent}
+use Rattle.ijson_table.proofs.pairs.PairsByKey.{lookup-found, lookup-absent}
 use Rattle.ijson_value.specs.LendsAtKey.{with_found}
 use Rattle.ijson_value.specs.WellFormed.{WellFormed}
 use Rattle.ijson_value.proofs.object.map.IObject.get_mut.Goals as goal

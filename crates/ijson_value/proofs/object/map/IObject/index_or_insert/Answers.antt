@@ -2,7 +2,7 @@ use Rattle.std.proofs.Common.{◌≡◌, ◌++◌, ◌∷◌, [], ℕ, length, r
 use Rattle.std.specs.Prelude.{slice_get}
 use Rattle.std.specs.Option.{unwrap_or}
 use Rattle.std.proofs.lemmas.Bool.{false≢true}
-use Rattle.ijson_table.proofs.Keys.{put-present, put-absent, lookup-found, lookup-absent}
+use Rattle.ijson_table.proofs.pairs.PairsByKey.{put-present, put-absent, lookup-found, lookup-absent}
 use Rattle.ijson_table.specs.Growth.{Grown, Ungrown}
 use Rattle.ijson_table.specs.Store.{Store, at, with_value}
 use Rattle.ijson_value.specs.LendsAtKey.{grown_at}

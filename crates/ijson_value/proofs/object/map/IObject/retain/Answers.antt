@@ -1,7 +1,7 @@
 use Rattle.std.proofs.Common.{◌≡◌, ◌<◌, ℕ, length, ◌+◌, ◌-◌, true, false, refl, sym, ap, subst, ◌∙◌, arith}
 use Rattle.std.specs.Map.Calls.{CalledAtPair, TakesPair}
 use Rattle.ijson_table.specs.Store.{Store, with_value, swap_out}
-use Rattle.ijson_table.proofs.Keys.{length-swap_out, keys-length}
+use Rattle.ijson_table.proofs.pairs.PairsByKey.{length-swap_out, keys-length}
 use Rattle.ijson_value.specs.MayAsk.{MayAskFrom}
 use Rattle.ijson_value.specs.Retains.{RetainsFrom}
 use Rattle.ijson_value.specs.WellFormed.{WellFormed}

@@ -1,4 +1,0 @@
-pub mod Documents
-pub mod Merged
-pub mod Records
-pub mod Totals

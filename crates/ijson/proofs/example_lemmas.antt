@@ -1,0 +1,5 @@
+pub mod Documents
+pub mod Invoices
+pub mod Merged
+pub mod Records
+pub mod Totals

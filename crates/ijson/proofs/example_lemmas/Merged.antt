@@ -1,0 +1,55 @@
+-- A patch gone through member by member: what its first member makes of the pairs, and then the rest.
+use Rattle.std.proofs.Common.{◌≡◌, ◌≢◌, ℕ, List, ◌∷◌, Option, Some, None, refl, sym, ap, ◌∙◌}
+use Rattle.std.specs.Option.{unwrap_or}
+use Rattle.std.specs.Prelude.{option_map}
+use Rattle.ijson_table.specs.Store.{lookup, put}
+use Rattle.ijson_value.specs.AtKey.{shift_out_key}
+use Rattle.ijson_value.specs.Kind.{kind_of}
+use Rattle.ijson_value.specs.Tree.{Tree, null}
+use Rattle.ijson_value.specs.Values.{null_value, object_tree}
+use Rattle.ijson_value.specs.WellFormed.{WellFormed, tree_of, pair_trees}
+use Rattle.ijson_value.specs.declared.value.ValueType.TheVariants.{Null}
+use Rattle.ijson_value.specs.laws.MemberTrees.{put-members, shift_out-members}
+use Rattle.ijson_value.specs.laws.Steps.{value_at}
+use Rattle.ijson.specs.examples.MergePatch.{members_in, changed, merged, merged_into}
+
+-- what null takes out, and what any other value puts
+changed-null : (ms : List (List ℕ × Tree)) (key : List ℕ) (patch value : Tree) → kind_of patch ≡ Null
+    → changed ms key patch value ≡ shift_out_key key ms
+changed-null ms key null value h = refl
+changed-null ms key _ value h = cc
+
+changed-put : (ms : List (List ℕ × Tree)) (key : List ℕ) (patch value : Tree) → kind_of patch ≢ Null
+    → changed ms key patch value ≡ put ms key value
+changed-put ms key null value h = absurd (h refl)
+changed-put ms key _ value h = refl
+
+-- the tree of what stands beside a key, null where nothing does
+tree-or_null : (found : Option WellFormed) → (unwrap_or found null_value).tree ≡ unwrap_or (option_map tree_of found) null
+tree-or_null None = refl
+tree-or_null (Some v) = refl
+
+beside : (ps : List (List ℕ × WellFormed)) (key : List ℕ)
+    → (unwrap_or (lookup key ps) null_value).tree ≡ unwrap_or (lookup key (members_in (object_tree ps))) null
+beside ps key = tree-or_null (lookup key ps) ∙ ap (λ o. unwrap_or o null) (value_at ps key)
+
+-- what the rest of a patch makes of the pairs, once its first member took one out
+pub one_taken_out : (ps new rest : List (List ℕ × WellFormed)) (key : List ℕ) (v : WellFormed) → kind_of v.tree ≡ Null
+    → new ≡ shift_out_key key ps
+    → merged_into (members_in (object_tree new)) (pair_trees rest) ≡ merged_into (members_in (object_tree ps)) (pair_trees ((key, v) ∷ rest))
+one_taken_out ps new rest key v is_null left =
+    let ms = members_in (object_tree ps) in
+    ap (λ ms. merged_into ms (pair_trees rest))
+    (ap (λ qs. members_in (object_tree qs)) left ∙ shift_out-members ps key
+    ∙ sym (changed-null ms key v.tree (merged (unwrap_or (lookup key ms) null) v.tree) is_null))
+
+-- and once its first member put one
+pub one_put : (ps new rest : List (List ℕ × WellFormed)) (key : List ℕ) (v old w : WellFormed) → kind_of v.tree ≢ Null
+    → old ≡ unwrap_or (lookup key ps) null_value → w.tree ≡ merged old.tree v.tree → new ≡ put ps key w
+    → merged_into (members_in (object_tree new)) (pair_trees rest) ≡ merged_into (members_in (object_tree ps)) (pair_trees ((key, v) ∷ rest))
+one_put ps new rest key v old w not_null was made left =
+    let ms = members_in (object_tree ps) in
+    let there : old.tree ≡ unwrap_or (lookup key ms) null = ap tree_of was ∙ beside ps key in
+    ap (λ ms. merged_into ms (pair_trees rest))
+    (ap (λ qs. members_in (object_tree qs)) left ∙ put-members ps key w ∙ ap (put ms key) (made ∙ ap (λ t. merged t v.tree) there)
+    ∙ sym (changed-put ms key v.tree (merged (unwrap_or (lookup key ms) null) v.tree) not_null))

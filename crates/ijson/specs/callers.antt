@@ -1,4 +1,0 @@
-pub mod Documents
-pub mod MergePatch
-pub mod Records
-pub mod Total

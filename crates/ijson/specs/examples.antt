@@ -1,0 +1,5 @@
+pub mod Documents
+pub mod Invoice
+pub mod MergePatch
+pub mod Records
+pub mod Total

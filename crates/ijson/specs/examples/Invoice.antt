@@ -1,0 +1,24 @@
+-- The amounts of records, and their sum.
+use Rattle.std.specs.Prelude.{◌≡◌, ℕ, ℤ, pos, ◌+ℤ◌, Some, codes, FitsSigned}
+use Rattle.std.specs.Int.{w64}
+use Rattle.ijson_value.specs.Integers.{HasInteger}
+use Rattle.ijson_value.specs.Step.{by_key, by_position, tree_at}
+use Rattle.ijson_value.specs.Tree.{Tree, Items, no_items, item, null, boolean, number, string, array, object}
+
+-- beside "amount" stands this whole number
+abbrev pub HasAmount : Tree → ℤ → Type 0
+HasAmount t z = (a : Tree) × (tree_at t (by_key (codes "amount")) ≡ Some a) × HasInteger a z
+
+-- each item has an amount, and this is their sum
+abbrev pub AmountsSumTo : Items → ℤ → Type 0
+AmountsSumTo no_items z = z ≡ pos 0
+AmountsSumTo (item t ts) z = (a : ℤ) × (s : ℤ) × HasAmount t a × AmountsSumTo ts s × (z ≡ a +ℤ s)
+
+-- an array of such items
+abbrev pub IsTotal : Tree → ℤ → Type 0
+IsTotal (array ts) z = AmountsSumTo ts z
+IsTotal _ z = ⊥
+
+-- the item at this position has no amount that fits 64 bits with a sign
+abbrev pub LacksAmount : Tree → ℕ → Type 0
+LacksAmount t i = (item : Tree) × (tree_at t (by_position i) ≡ Some item) × ((z : ℤ) → FitsSigned w64 z → HasAmount item z → ⊥)

@@ -1,0 +1,82 @@
+//! The total of an invoice: a sum over the lines in an array.
+ghost use Rattle.std.specs.Prelude.{◌≡◌, ◌≢◌, ℕ, ℤ, Err, FitsSigned, IfNone, IfOk, IfSome};
+ghost use Rattle.std.specs.Int.{w64};
+ghost use Rattle.ijson.specs.examples.Invoice.{HasAmount, IsTotal, LacksAmount};
+ghost use Rattle.ijson_value.specs.Kind.{kind_of};
+ghost use Rattle.ijson_value.specs.declared.value.ValueType.TheVariants.{Array};
+
+use crate::IValue;
+use crate::tests::parsed;
+
+/// Why there is no total.
+#[derive(Clone, Copy, Debug, Drop, PartialEq, Eq)]
+enum TotalError {
+    /// The value is no array.
+    NoArray,
+    /// The line at this position has no amount, or one that is no whole number of 64 bits.
+    NoAmount(usize),
+    /// The sum of the amounts so far passes 64 bits.
+    TooLarge,
+}
+
+/// The amount of a line of an invoice.
+fn amount_of(line: &IValue) -> Option<i64>
+    ensures some { IfSome result (λ z. HasAmount line.now.tree z) }
+    ensures none { IfNone result ((z : ℤ) → FitsSigned w64 z → HasAmount line.now.tree z → ⊥) }
+{
+    if !line.is_object() {
+        return None;
+    }
+    line.get("amount")?.to_i64()
+}
+
+/// The sum of the amounts of the lines in an array.
+fn invoice_total(records: &IValue) -> Result<i64, TotalError>
+    ensures total { IfOk result (λ sum. IsTotal records.now.tree sum) }
+    ensures no_array { result ≡ Err TotalError.NoArray → kind_of records.now.tree ≢ Array }
+    ensures no_amount { (i : ℕ) → result ≡ Err (TotalError.NoAmount i) → LacksAmount records.now.tree i }
+{
+    let Some(items) = records.as_array() else {
+        return Err(TotalError::NoArray);
+    };
+    let mut sum: i64 = 0;
+    for (i, item) in items.as_slice().iter().enumerate() {
+        let Some(amount) = amount_of(item) else {
+            return Err(TotalError::NoAmount(i));
+        };
+        let Some(more) = sum.checked_add(amount) else {
+            return Err(TotalError::TooLarge);
+        };
+        sum = more;
+    }
+    Ok(sum)
+}
+
+/// Invoices and their totals.
+const INVOICES: [(&str, Result<i64, TotalError>); 8] = [
+    (
+        "[{\"amount\":3},{\"amount\":-1,\"note\":\"back\"},{\"amount\":4.0}]",
+        Ok(6),
+    ),
+    ("[]", Ok(0)),
+    ("{}", Err(TotalError::NoArray)),
+    ("7", Err(TotalError::NoArray)),
+    (
+        "[{\"amount\":1},{\"amount\":0.5}]",
+        Err(TotalError::NoAmount(1)),
+    ),
+    ("[{\"sum\":1}]", Err(TotalError::NoAmount(0))),
+    ("[{\"amount\":1},7]", Err(TotalError::NoAmount(1))),
+    (
+        "[{\"amount\":9223372036854775807},{\"amount\":1}]",
+        Err(TotalError::TooLarge),
+    ),
+];
+
+#[test]
+fn invoices(rt: HostRuntime) {
+    for (text, want) in INVOICES {
+        let value = parsed(&rt, rt.alloc(), text);
+        assert!(rt; invoice_total(&value) == want, "{text}");
+    }
+}

@@ -1,0 +1,92 @@
+//! JSON Merge Patch (RFC 7396): a patch is a document that looks like what it changes, with null beside what is to go.
+ghost use Rattle.std.specs.Prelude.{◌≡◌, IfOk};
+ghost use Rattle.ijson.specs.examples.MergePatch.{merged, members_in};
+ghost use Rattle.ijson_value.specs.Values.{object_tree};
+
+use crate::json::to_json;
+use crate::tests::parsed;
+use crate::{IObject, IValue};
+use std::alloc::{AllocError, Global};
+use std::mem;
+use std::process::Abort;
+
+/// What `patch` makes of `target`. The error comes where there was no memory for a copy of a value or of a key of the patch, or for
+/// one pair more, which also is where an object has as many as it can have (2^56); the target is gone then.
+fn merge(alloc: Global, target: IValue, patch: &IValue) -> Result<IValue, AllocError>
+    ensures { IfOk result (λ value. value.tree ≡ merged target.tree patch.now.tree) }
+{
+    let Some(changes) = patch.as_object() else {
+        return patch.clone();
+    };
+    let mut object = object_of(alloc, target);
+    for (key, change) in changes.iter() {
+        if change.is_null() {
+            drop(object.shift_remove(key));
+        } else {
+            let Ok(place) = object.index_or_insert(key.clone()?) else {
+                return Err(AllocError);
+            };
+            let value = merge(alloc, place.take(), change)?;
+            // Not `*place = value`, which has a path for each kind that the old value may be of.
+            drop(mem::replace(place, value));
+        }
+    }
+    Ok(IValue::from(object))
+}
+
+/// The object that a value is, and one without pairs for any other value.
+fn object_of(alloc: Global, value: IValue) -> IObject
+    ensures { members_in (object_tree result.pairs) ≡ members_in value.tree }
+{
+    match value.into_object() {
+        Ok(object) => object,
+        Err(_) => IObject::new(alloc),
+    }
+}
+
+/// Targets, patches, and what the patches make of them: the table of RFC 7396, appendix A.
+const MERGED: [(&str, &str, &str); 15] = [
+    ("{\"a\":\"b\"}", "{\"a\":\"c\"}", "{\"a\":\"c\"}"),
+    (
+        "{\"a\":\"b\"}",
+        "{\"b\":\"c\"}",
+        "{\"a\":\"b\",\"b\":\"c\"}",
+    ),
+    ("{\"a\":\"b\"}", "{\"a\":null}", "{}"),
+    ("{\"a\":\"b\",\"b\":\"c\"}", "{\"a\":null}", "{\"b\":\"c\"}"),
+    ("{\"a\":[\"b\"]}", "{\"a\":\"c\"}", "{\"a\":\"c\"}"),
+    ("{\"a\":\"c\"}", "{\"a\":[\"b\"]}", "{\"a\":[\"b\"]}"),
+    (
+        "{\"a\":{\"b\":\"c\"}}",
+        "{\"a\":{\"b\":\"d\",\"c\":null}}",
+        "{\"a\":{\"b\":\"d\"}}",
+    ),
+    ("{\"a\":[{\"b\":\"c\"}]}", "{\"a\":[1]}", "{\"a\":[1]}"),
+    ("[\"a\",\"b\"]", "[\"c\",\"d\"]", "[\"c\",\"d\"]"),
+    ("{\"a\":\"b\"}", "[\"c\"]", "[\"c\"]"),
+    ("{\"a\":\"foo\"}", "null", "null"),
+    ("{\"a\":\"foo\"}", "\"bar\"", "\"bar\""),
+    ("{\"e\":null}", "{\"a\":1}", "{\"e\":null,\"a\":1}"),
+    ("[1,2]", "{\"a\":\"b\",\"c\":null}", "{\"a\":\"b\"}"),
+    (
+        "{}",
+        "{\"a\":{\"bb\":{\"ccc\":null}}}",
+        "{\"a\":{\"bb\":{}}}",
+    ),
+];
+
+/// What a patch makes of a target, both as texts.
+fn patched(rt: &impl Abort, alloc: Global, target: &str, patch: &str) -> IValue {
+    let target = parsed(rt, alloc, target);
+    let patch = parsed(rt, alloc, patch);
+    merge(alloc, target, &patch).expect(rt, "a value")
+}
+
+#[test]
+fn patches(rt: HostRuntime) {
+    for (target, patch, want) in MERGED {
+        let value = patched(&rt, rt.alloc(), target, patch);
+        let found = to_json(rt.alloc(), &value).expect(&rt, "a text");
+        assert!(rt; found.as_str() == want, "{target} {patch}");
+    }
+}

@@ -1,0 +1,49 @@
+//! Settings laid over defaults: each member of one object in place of the other's.
+ghost use Rattle.std.specs.Prelude.{◌≡◌, ℕ, List, IfOk, IsTrue};
+ghost use Rattle.std.specs.Option.{option_or};
+ghost use Rattle.ijson_value.specs.Step.{by_key, tree_at};
+
+use crate::IValue;
+use crate::json::to_json;
+use crate::object::RefusedPair;
+use crate::tests::parsed;
+
+/// Writes each setting of `over` into `base`; other settings stay. False where one of them is no object.
+fn overlay(base: &mut IValue, over: IValue) -> Result<bool, RefusedPair>
+    ensures { IfOk result (λ done. IsTrue done → (key : List ℕ)
+        → tree_at base.new.tree (by_key key)
+        ≡ option_or (tree_at over.tree (by_key key)) (tree_at base.old.tree (by_key key))) }
+{
+    let Ok(over) = over.into_object() else {
+        return Ok(false);
+    };
+    let Some(base) = base.as_object_mut() else {
+        return Ok(false);
+    };
+    base.overlay(over)?;
+    Ok(true)
+}
+
+/// Defaults, settings, and the defaults with the settings.
+const LAID_OVER: [(&str, &str, &str); 5] = [
+    (
+        "{\"a\":1,\"b\":2}",
+        "{\"b\":3,\"c\":4}",
+        "{\"a\":1,\"b\":3,\"c\":4}",
+    ),
+    ("{}", "{\"b\":3}", "{\"b\":3}"),
+    ("{\"b\":3}", "{}", "{\"b\":3}"),
+    ("[1]", "{\"b\":3}", "[1]"),
+    ("{\"b\":3}", "null", "{\"b\":3}"),
+];
+
+#[test]
+fn settings(rt: HostRuntime) {
+    for (base, over, want) in LAID_OVER {
+        let mut value = parsed(&rt, rt.alloc(), base);
+        let over = parsed(&rt, rt.alloc(), over);
+        let _done = overlay(&mut value, over).expect(&rt, "room");
+        let found = to_json(rt.alloc(), &value).expect(&rt, "a text");
+        assert!(rt; found.as_str() == want, "{base}");
+    }
+}

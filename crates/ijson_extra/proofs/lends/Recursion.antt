@@ -1,0 +1,63 @@
+-- A function that calls itself keeps its contract, where a measure of what it is called with falls at each call of itself. Assumes
+-- `Logic`.
+use Prim.Native.Nat.{ℕ, ◌<◌}
+use mathlib.Core.Path.{◌≡◌, refl, subst}
+use lib.NonEmpty.{one}
+use lib.WfN.{lt-wf_rel}
+use seplogic.Ra.Ura.{Ura}
+use mir.Syntax.{Fn, Callee}
+use base.Logic.{ent, sep, via}
+use contract.Lifetimes.{Lfts}
+use contract.Running.{Running, MachineTables, tables, tables_of}
+use prog.Model.{Model}
+use prog.Wp.{WpFn, Closed}
+use sound.WpLaws.{WpFn-mono}
+use types.Logic.{Logic}
+use denote.Laws.{Spells, Tellss, Ises, Are, valss}
+use denote.RattleType.{flat}
+use denote.Signature.{Signature, types_at}
+use denote.Triple.Clauses.{Ended, Clauses, closing}
+use denote.Triple.Cycle.{Stated, measured, mutual_elim}
+use denote.Triple.Entry.{on_entry}
+use denote.Triple.Spec.{Meets, triple_of}
+use denote.Triple.Statement.{Contract}
+use denote.Triple.Walked.{Stays, AllGo, walk_of, walked_at, walk_meets_at}
+
+module _ {M : Type 1} {𝓤 : Ura M} (𝓛 : Logic 𝓤) (T : Ended) (hs : Stays T.signature.params T.kept) (c : Clauses 𝓤 T) where
+  open 𝓛 use {H}
+
+  abbrev S : Signature
+  S = T.signature
+
+  abbrev W : Contract 𝓤
+  W = walk_of 𝓛 T hs c
+
+  abbrev Known : Contract 𝓤
+  Known = triple_of 𝓛 S (closing 𝓛 T c)
+
+  module _ (𝓜 : Model 𝓤 H) (𝓡 : Running 𝓤 H 𝓜) (k : Callee) (e : Fn) where
+    abbrev 𝓣 : MachineTables 𝓤 H 𝓜
+    𝓣 = tables 𝓤 H 𝓜 𝓡 𝓡.env
+
+    -- what a call of the function itself gives
+    abbrev pub Called : Known.Ghost → Type 1
+    Called y = ent 𝓤 (Known.pre y) (𝓣.C k (Known.args y) (Known.post y))
+
+    abbrev stated : Stated 𝓤
+    stated = record { signature = S; run = 𝓣.C k; spec = closing 𝓛 T c }
+
+    pub recursive : AllGo 𝓛 S.lifetimes S.params T.kept hs → Closed 𝓤 H 𝓣.C 𝓣.Λ k e → (μ : Known.Ghost → ℕ)
+        → (sp : (κs : Lfts S.lifetimes) → Spells (types_at S.params κs)) → ((κs : Lfts S.lifetimes) → Tellss (types_at S.params κs) (Ises (types_at S.params κs)) (sp κs))
+        → ((y : W.Ghost) → ((y' : Known.Ghost) → μ y' < μ y → Called y')
+        → Are (types_at S.params y.0.0) (Ises (types_at S.params y.0.0)) y.0.3 (valss (types_at S.params y.0.0) (sp y.0.0) y.0.3)
+        → ent 𝓤 (sep 𝓤 (on_entry 𝓛 S y.0.0 y.0.1 y.0.3 (valss (types_at S.params y.0.0) (sp y.0.0) y.0.3)) ((c y.0.0 y.0.3).requires y.1))
+        (WpFn 𝓤 H 𝓣.C 𝓣.Λ e (flat (types_at S.params y.0.0) (valss (types_at S.params y.0.0) (sp y.0.0) y.0.3)) (W.post ((y.0.0, y.0.1, y.0.2, y.0.3, valss (types_at S.params y.0.0) (sp y.0.0) y.0.3), y.1))))
+        → Meets 𝓛 S (𝓣.C k) (closing 𝓛 T c)
+    unfolding tables_of
+    recursive go closed μ sp tells walk =
+        mutual_elim 𝓛 (one stated) ◌<◌ lt-wf_rel.wf (measured 𝓛 stated μ) (λ t below y is.
+        via 𝓤 (WpFn 𝓤 H 𝓣.C 𝓣.Λ e (Known.args y) (Known.post y))
+        (walk_meets_at 𝓛 T hs go c (WpFn 𝓤 H 𝓣.C 𝓣.Λ e) (WpFn-mono 𝓤 H 𝓛.laws (tables_of 𝓤 H 𝓜 𝓣) e) y
+        (walked_at 𝓛 T hs c (WpFn 𝓤 H 𝓣.C 𝓣.Λ e) y (sp y.0.0) (tells y.0.0)
+        (walk y (λ y' lt. below (μ y') (subst (λ (u : ℕ). μ y' < u) is lt) y' refl))))
+        (closed (Known.args y) (Known.post y)))

@@ -1,6 +1,0 @@
--- A fact on an `Option`, case by case.
-use Rattle.std.specs.Prelude.{Option, Some, None, MatchOption}
-
-pub weaken : {A : Type 0} (o : Option A) (P P' : Type 0) (Q Q' : A → Type 0) → MatchOption o P Q → (P → P') → ((a : A) → Q a → Q' a) → MatchOption o P' Q'
-weaken None P P' Q Q' h f g = f h
-weaken (Some a) P P' Q Q' h f g = g a h

@@ -1,0 +1,17 @@
+use Rattle.std.proofs.Common.{◌∙◌, arith}
+use Rattle.std.proofs.lemmas.Grind.{common_steps}
+use Rattle.ijson_json.proofs.devices.TransferredBytes.{appends_rest, begun, on_any_err}
+use Rattle.ijson_json.proofs.device.transfer.write_all.Goals as goal
+
+pub returns-in_err-at-clause-beginning : goal.returns-in_err-at-clause-beginning
+returns-in_err-at-clause-beginning g c =
+    on_any_err _ (begun _ _ _ c.loop-at.at c.args.text.now c.loop-at-test.true c.loop-at.invariant.taken c.in_err-at.ensures.bytes)
+
+pub loop-at-preserved : goal.loop-at-preserved
+loop-at-preserved g c =
+    let written = c.in_ok-at.ensures in
+    record {
+      taken = appends_rest _ _ _ c.loop-at.at c.in_ok-at.field-0 c.args.text.now c.loop-at.invariant.taken written.bytes;
+      steady = written.count ∙ c.loop-at.invariant.steady;
+      within = grind (arith, common_steps, written.bound);
+    }

@@ -1,0 +1,2 @@
+-- What is known of the bytes that devices gave and took.
+pub mod TransferredBytes

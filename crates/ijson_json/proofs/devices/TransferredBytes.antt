@@ -1,0 +1,78 @@
+-- What is known of a device's bytes after several moves.
+use Rattle.std.proofs.lemmas.List.{take_rest}
+use Rattle.std.proofs.Common.{is_ok, true, false, subst, Result, Ok, Err, OnOk, OnErr, append-nil, arith, take, drop, length, ◌+◌, ◌<◌}
+use Rattle.std.proofs.Common.{◌≢◌, take-append-drop, length-drop, take-add, ◌-◌, ◌≡◌, ◌∙◌, ap, sym, refl, ℕ, List, [], ◌++◌, Some, None}
+use Rattle.std.specs.Prelude.{Option}
+use Rattle.std.specs.Option.{IfSome}
+use Rattle.std.specs.Result.{result_and}
+use Rattle.std.specs.Io.KnownBytes.{Appends, Consumes, IsAtEnd, Keeps}
+use Rattle.std.proofs.KnownBytes.{Appends-kept, Appends-trans, Consumes-trans}
+use Rattle.ijson_json.specs.Compacts.{IsCompactLine}
+use Rattle.ijson_json.specs.WritesBeginning.{WritesBeginning}
+
+-- a piece behind the first i bytes, which a later write to the list kept
+pub consumes_piece : (a b c : Option (List ℕ)) (i n : ℕ) (xs ys : List ℕ) → Consumes a b (take i xs) → take i ys ≡ take i xs
+    → Consumes b c (take n (drop i ys)) → Consumes a c (take (i + n) ys)
+consumes_piece a b c i n xs ys p kept q =
+    subst (Consumes a c) (ap (λ front. front ++ take n (drop i ys)) (sym kept) ∙ sym (take-add i n ys)) (Consumes-trans a b c _ _ p q)
+
+-- n bytes of `&xs[i..]`, behind the first i
+pub appends_rest : (a b c : Option (List ℕ)) (i n : ℕ) (xs : List ℕ) → Appends a b (take i xs)
+    → Appends b c (take n (take (length xs - i) (drop i xs))) → Appends a c (take (i + n) xs)
+appends_rest a b c i n xs p q =
+    subst (Appends a c) (ap (λ l. take i xs ++ take n l) (take_rest xs i) ∙ sym (take-add i n xs)) (Appends-trans a b c _ _ p q)
+
+-- a list that goes on behind a place has some items left
+some_left : (i : ℕ) (xs : List ℕ) → i < length xs → drop i xs ≢ []
+some_left i xs below none =
+    let empty : length (drop i xs) ≡ 0 = ap length none in
+    omega (arith, below, sym (length-drop i xs) ∙ empty)
+
+-- a beginning was taken, and not all, where a fault came after it
+pub begun : (a b c : Option (List ℕ)) (i : ℕ) (xs : List ℕ) → i < length xs → Appends a b (take i xs) → Keeps b c → WritesBeginning a c xs
+begun a b c i xs below p same = record {
+  front = take i xs;
+  rest = drop i xs;
+  is = sym (take-append-drop i xs);
+  unfinished = some_left i xs below;
+  taken = Appends-kept a b c _ p same;
+}
+
+-- some bytes are those that are known
+pub known_or_none : (a : Option (List ℕ)) → (bytes : List ℕ) × IfSome a (λ xs. xs ≡ bytes)
+known_or_none None = ([], tt)
+known_or_none (Some xs) = (xs, refl)
+
+-- what holds anyway holds under an error
+pub on_any_err : {T E : Type 0} {P : Type 0} (r : Result T E) → P → OnErr r P
+on_any_err (Ok _) h = tt
+on_any_err (Err _) h = h
+
+-- what holds under an error of a result holds where what it was mapped to is an error
+pub was_err : {T E F : Type 0} {P : Type 0} (r : Result T E) (mapped : Result T F) (f : F) → is_ok mapped ≡ is_ok r → mapped ≡ Err f
+    → OnErr r P → P
+was_err (Ok x) mapped f same is h = let ok : true ≡ false = sym same ∙ ap is_ok is in cc ok
+was_err (Err e) mapped f same is h = h
+
+-- what follows from the first of two answers holds where both are Ok
+pub on_both : {T U E F : Type 0} {Q P : Type 0} (r : Result T E) (mapped : Result T F) (x : U) (both : Result U F)
+    → is_ok mapped ≡ is_ok r → both ≡ result_and mapped (Ok x) → (Q → P) → OnOk r Q → OnOk both P
+on_both {P = P} (Ok a) (Ok b) x both same is f h = subst (λ r. OnOk r P) (sym is) (f h)
+on_both {P = P} (Ok a) (Err b) x both same is f h = subst (λ r. OnOk r P) (sym is) tt
+on_both (Err a) (Ok b) x both same is f h = let ok : true ≡ false = same in cc ok
+on_both {P = P} (Err a) (Err b) x both same is f h = subst (λ r. OnOk r P) (sym is) tt
+
+-- what was an error of the first answer is one of both
+pub both_err : {T U E : Type 0} (r : Result T E) (x : U) (e : E) → result_and r (Ok x) ≡ Err e → r ≡ Err e
+both_err (Ok a) x e is = cc is
+both_err (Err b) x e is = cc is
+
+-- a source that is at its end gave all that it had, and the line is of that
+pub whole_line : (a b c d : Option (List ℕ)) (bytes line : List ℕ) → Consumes a b bytes → IsAtEnd b → IsCompactLine bytes line
+    → Appends c d line → IfSome a (λ all. (b ≡ Some []) × ((l : List ℕ) × IsCompactLine all l × Appends c d l))
+whole_line None b c d bytes line p q h taken = tt
+whole_line (Some x) None c d bytes line p q h taken = absurd p
+whole_line (Some x) (Some y) c d bytes line p q h taken =
+    let same : x ≡ bytes = p ∙ ap (λ l. bytes ++ l) q ∙ append-nil bytes in
+    let is_line : IsCompactLine x line = subst (λ all. IsCompactLine all line) (sym same) h in
+    (ap Some q, (line, is_line, taken))

@@ -1,0 +1,64 @@
+-- What was read is within the limit on depth.
+use Rattle.std.proofs.Common.{ℕ, ◌≤◌, true, false, List, [], ◌∷◌, Result, Ok, Err, arith, ap}
+use Rattle.std.specs.Prelude.{max, if◌then◌else◌, IfOk}
+use Rattle.std.specs.Str.{bytes_eq}
+use Rattle.ijson_table.specs.Store.{put, put_each}
+use Rattle.ijson_value.specs.Tree.{Tree, null, boolean, number, string, array, object, Items, no_items, item, Members, no_members}
+use Rattle.ijson_value.specs.Tree.{member, members_of, depth, items_depth, members_depth}
+use Rattle.ijson_value.specs.WellFormed.{WellFormed}
+use Rattle.ijson_json.specs.declared.fault.JsonError.{JsonError}
+use Rattle.ijson_json.specs.private.Explains.{Answers}
+use Rattle.ijson_json.specs.Grammar.{Accepted}
+use Rattle.ijson_json.specs.Limits.{max_depth}
+use Rattle.ijson_json.specs.Settled.{settled, settled_items, settled_pairs}
+
+-- a pair that is put makes the pairs no deeper than it or they were
+put_depth : (ps : List (List ℕ × Tree)) (k : List ℕ) (t : Tree)
+    → members_depth (members_of (put ps k t)) ≤ max (depth t) (members_depth (members_of ps))
+put_depth [] k t = omega arith
+put_depth (p ∷ ps) k t =
+    let more = put_depth ps k t in
+    elim (bytes_eq p.0 k) as (λ b. members_depth (members_of (if b then (p.0, t) ∷ ps else p ∷ put ps k t)) ≤ max (depth t)
+    (max (depth p.1) (members_depth (members_of ps)))) [
+      | true ↦ omega arith
+      | false ↦ omega (arith, more)
+    ]
+
+-- nor do pairs that are put one after the other
+put_each_depth : (into ps : List (List ℕ × Tree)) → members_depth (members_of (put_each into ps)) ≤ max (members_depth (members_of into))
+    (members_depth (members_of ps))
+put_each_depth into [] = omega arith
+put_each_depth into (p ∷ ps) =
+    let more = put_each_depth (put into p.0 p.1) ps in
+    let one = put_depth into p.0 p.1 in
+    omega (arith, more, one)
+
+-- the tree of what was written is no deeper than what was written
+mutual
+  settled_depth : (t : Tree) → depth (settled t) ≤ depth t
+  settled_depth null = omega arith
+  settled_depth (boolean b) = omega arith
+  settled_depth (number n) = omega arith
+  settled_depth (string s) = omega arith
+  settled_depth (array is) = omega (arith, items_settled_depth is)
+  settled_depth (object ms) = omega (arith, put_each_depth [] (settled_pairs ms), pairs_settled_depth ms)
+
+  -- nor are items that are settled
+  items_settled_depth : (is : Items) → items_depth (settled_items is) ≤ items_depth is
+  items_settled_depth no_items = omega arith
+  items_settled_depth (item t more) = omega (arith, settled_depth t, items_settled_depth more)
+
+  -- nor are members
+  pairs_settled_depth : (ms : Members) → members_depth (members_of (settled_pairs ms)) ≤ members_depth ms
+  pairs_settled_depth no_members = omega arith
+  pairs_settled_depth (member k t more) = omega (arith, settled_depth t, pairs_settled_depth more)
+
+-- an accepted tree is within the limit
+accepted_depth : (text : List ℕ) (t : Tree) → Accepted text t → depth t ≤ max_depth
+accepted_depth text t (d, within, r) = omega (arith, within, r.deepest_is, ap depth r.tree_is, settled_depth r.written)
+
+-- a value that was read is within the limit
+pub answers_depth : (text : List ℕ) (result : Result WellFormed JsonError) → Answers text result
+    → IfOk result (λ value. depth value.tree ≤ max_depth)
+answers_depth text (Ok value) h = accepted_depth text value.tree h
+answers_depth text (Err error) h = tt

@@ -1,0 +1,166 @@
+-- Texts of elements with commas between them, as the items of an array and the members of an object are.
+use Rattle.std.proofs.Common.{◌≡◌, ℕ, false, List, [], ◌∷◌, ◌++◌, eqb, refl, sym, ap, subst, ◌∙◌, append_assoc, arith, eq-eqb}
+use Rattle.std.specs.Prelude.{IsTrue, ◌==◌}
+use Rattle.std.proofs.lemmas.Bool.Decides.{nat_tests}
+use Rattle.ijson_number.specs.NumberBytes.{is_number_byte}
+use Rattle.ijson_value.specs.Tree.{Tree, null, boolean, number, string, array, object}
+use Rattle.ijson_json.specs.Grammar.{is_space, IsSpace, Spaced, Split}
+use Rattle.ijson_json.specs.private.Reading.{Past, Stops, Ends}
+use Rattle.ijson_json.proofs.scanning.Prefixes.{run_same, not_both, tails, heads_apart}
+
+-- elements with commas between them, and white space round each
+abbrev pub IsList : {E : Type 0} → (E → List ℕ → Type 0) → List E → List ℕ → Type 0
+IsList P [] text = IsSpace text
+IsList P (e ∷ []) text = Spaced (λ inside. P e inside) text
+IsList P (e ∷ f ∷ es) text = Split (λ first. Spaced (λ inside. P e inside) first) 44 (λ others. IsList P (f ∷ es) others) text
+
+-- what an element is, the value that it ends with, and the bracket behind the last
+pub record Shape (E : Type 0) : Type 1 where
+  pub Is : E → List ℕ → Type 0
+  pub inner : E → Tree
+  pub closing : ℕ
+  pub closing-space : is_space closing ≡ false
+  pub closing-number : is_number_byte closing ≡ false
+  pub closing-comma : eqb closing 44 ≡ false
+  pub past_space : (e : E) (text x : List ℕ) → Is e text → Past is_space (text ++ x)
+  pub past_closing : (e : E) (text x : List ℕ) → Is e text → Past (λ b. b == closing) (text ++ x)
+
+-- white space is no byte of a number
+space_stops : (b : ℕ) → IsTrue (is_space b) → is_number_byte b ≡ false
+space_stops b h = grind (arith, nat_tests)
+
+-- no number goes on over white space
+pub space-Stops : (s x : List ℕ) → IsSpace s → Stops x → Stops (s ++ x)
+space-Stops [] x h p = p
+space-Stops (b ∷ s) x h p = space_stops b h.0
+
+-- where no byte of a number stands, any value may end
+pub Ends-any : (t : Tree) (x : List ℕ) → Stops x → Ends t x
+Ends-any null x h = tt
+Ends-any (boolean b) x h = tt
+Ends-any (number n) x h = h
+Ends-any (string s) x h = tt
+Ends-any (array is) x h = tt
+Ends-any (object ms) x h = tt
+
+-- white space round a value, and what follows both
+pub regroup : (before value after text : List ℕ) → (before ++ (value ++ after)) ++ text ≡ before ++ (value ++ (after ++ text))
+regroup before value after text = simp append_assoc
+
+module _ (E : Type 0) (S : Shape E) where
+  -- what follows an element: the bracket and then x, or `,` and the others and the bracket and then x
+  abbrev pub Left : List E → List ℕ → List ℕ → Type 0
+  Left [] tail x = tail ≡ S.closing ∷ x
+  Left (f ∷ more) tail x = (others : List ℕ) × IsList S.Is (f ∷ more) others × (tail ≡ 44 ∷ (others ++ S.closing ∷ x))
+
+  -- the text begins with the elements and the bracket, without white space in front
+  pub record At (e : E) (more : List E) (cur x : List ℕ) : Type 0 where
+    pub value : List ℕ
+    pub after : List ℕ
+    pub tail : List ℕ
+    pub holds : S.Is e value
+    pub space_after : IsSpace after
+    pub left : Left more tail x
+    pub is : cur ≡ value ++ (after ++ tail)
+
+  -- behind its white space a list begins with its first element
+  at_first : (e : E) (more : List E) (text x : List ℕ) → IsList S.Is (e ∷ more) text
+      → (before cur : List ℕ) × IsSpace before × At e more cur x × (text ++ S.closing ∷ x ≡ before ++ cur)
+  at_first e [] text x (before, value, after, s, v, sa, t) = (
+    before,
+    value ++ (after ++ S.closing ∷ x),
+    s,
+    record { value = value; after = after; tail = S.closing ∷ x; holds = v; space_after = sa; left = refl; is = refl },
+    ap (λ (l : List ℕ). l ++ S.closing ∷ x) t ∙ regroup before value after (S.closing ∷ x),
+  )
+  at_first e (f ∷ more) text x (first, others, (before, value, after, s, v, sa, t), o, u) =
+      let tail : List ℕ = 44 ∷ (others ++ S.closing ∷ x) in (
+        before,
+        value ++ (after ++ tail),
+        s,
+        record { value = value; after = after; tail = tail; holds = v; space_after = sa; left = (others, o, refl); is = refl },
+        rw (u, t) (simp append_assoc),
+      )
+
+  -- what follows an element is no byte of a number
+  pub left-Stops : (more : List E) (tail x : List ℕ) → Left more tail x → Stops tail
+  left-Stops [] tail x e = rw e (S.closing-number)
+  left-Stops (f ∷ more) tail x (others, o, e) = rw e refl
+
+  -- nor is it white space
+  pub left-past_space : (more : List E) (tail x : List ℕ) → Left more tail x → Past is_space tail
+  left-past_space [] tail x e = rw e (S.closing-space)
+  left-past_space (f ∷ more) tail x (others, o, e) = rw e refl
+
+  -- nor is what follows the value itself
+  pub at-Stops : (e : E) (more : List E) (cur x : List ℕ) (a : At e more cur x) → Stops (a.after ++ a.tail)
+  at-Stops e more cur x a = space-Stops a.after a.tail a.space_after (left-Stops more a.tail x a.left)
+
+  -- an element begins with no white space
+  pub at-past_space : (e : E) (more : List E) (cur x : List ℕ) (a : At e more cur x) → Past is_space cur
+  at-past_space e more cur x a = rw (a.is) (S.past_space e a.value (a.after ++ a.tail) a.holds)
+
+  -- behind the white space the first element begins
+  pub at_elements : (e : E) (more : List E) (s cur inside x : List ℕ) → IsSpace s → Past is_space cur → IsList S.Is (e ∷ more) inside
+      → s ++ cur ≡ inside ++ S.closing ∷ x → At e more cur x
+  at_elements e more s cur inside x h p v g =
+      let f = at_first e more inside x v in
+      let same = run_same is_space s f.0 cur f.1 h f.2 p (at-past_space e more f.1 x f.3) (g ∙ f.4) in
+      subst (λ (c : List ℕ). At e more c x) (sym same.1) f.3
+
+  -- the same element, and the same text after it
+  abbrev pub ElementSame : E → E → Type 0
+  ElementSame e f = (a b x y : List ℕ) → S.Is e a → S.Is f b → Ends (S.inner e) x → Ends (S.inner f) y → a ++ x ≡ b ++ y
+      → (e ≡ f) × ((a ≡ b) × (x ≡ y))
+
+  -- one rest gives equal elements and one text after it
+  abbrev pub LeftSame : List E → List E → Type 0 → Type 0
+  LeftSame more others R = (c d x y : List ℕ) → Left more c x → Left others d y → c ≡ d → R × (x ≡ y)
+
+  -- two lists that begin alike have the same first element, and the same others
+  at_same : (e f : E) (more others : List E) (R : Type 0) → ElementSame e f → LeftSame more others R → (c d x y : List ℕ) → At e more c x
+      → At f others d y → c ≡ d → (e ≡ f) × (R × (x ≡ y))
+  at_same e f more others R values lefts c d x y a b g =
+      let q = values a.value b.value (a.after ++ a.tail) (b.after ++ b.tail) a.holds b.holds
+      (Ends-any (S.inner e) (a.after ++ a.tail) (at-Stops e more c x a))
+      (Ends-any (S.inner f) (b.after ++ b.tail) (at-Stops f others d y b)) (sym a.is ∙ g ∙ b.is) in
+      let r = run_same is_space a.after b.after a.tail b.tail a.space_after b.space_after (left-past_space more a.tail x a.left)
+      (left-past_space others b.tail y b.left) q.1.1 in
+      let s = lefts a.tail b.tail x y a.left b.left r.1 in
+      (q.0, s)
+
+  -- two lists in one text have the same first element, and the same others
+  pub step : (e f : E) (more others : List E) (R : Type 0) → ElementSame e f → LeftSame more others R → (i j x y : List ℕ)
+      → IsList S.Is (e ∷ more) i → IsList S.Is (f ∷ others) j
+      → i ++ S.closing ∷ x ≡ j ++ S.closing ∷ y → (e ≡ f) × (R × (x ≡ y))
+  step e f more others R values lefts i j x y v w g =
+      let a = at_first e more i x v in
+      let b = at_first f others j y w in
+      let p = run_same is_space a.0 b.0 a.1 b.1 a.2 b.2 (at-past_space e more a.1 x a.3) (at-past_space f others b.1 y b.3) (sym a.4 ∙ g
+      ∙ b.4) in
+      at_same e f more others R values lefts a.1 b.1 x y a.3 b.3 p.1
+
+  -- and so have two lists behind a comma
+  pub left_step : (e f : E) (more others : List E) (R : Type 0) → ElementSame e f → LeftSame more others R → (c d x y : List ℕ)
+      → Left (e ∷ more) c x → Left (f ∷ others) d y → c ≡ d → (e ≡ f) × (R × (x ≡ y))
+  left_step e f more others R values lefts c d x y (i, v, l) (j, w, m) g =
+      step e f more others R values lefts i j x y v w (tails 44 44 _ _ (sym l ∙ g ∙ m))
+
+  -- the last element is not followed by a comma
+  pub no_left : (e : E) (more : List E) (c d x y : List ℕ) → Left (e ∷ more) c x → Left [] d y → c ≡ d → ⊥
+  no_left e more c d x y (i, v, l) m g = heads_apart S.closing 44 _ _ (sym m ∙ sym g ∙ l) S.closing-comma
+
+  -- no element begins where there is none
+  pub none_some : (f : E) (others : List E) (i j x y : List ℕ) → IsSpace i → IsList S.Is (f ∷ others) j
+      → i ++ S.closing ∷ x ≡ j ++ S.closing ∷ y → ⊥
+  none_some f others i j x y s w g =
+      let b = at_first f others j y w in
+      let p = run_same is_space i b.0 (S.closing ∷ x) b.1 s b.2 S.closing-space (at-past_space f others b.1 y b.3) (g ∙ b.4) in
+      let q : Past (λ c. c == S.closing) (b.3.value ++ (b.3.after ++ b.3.tail)) =
+      S.past_closing f b.3.value (b.3.after ++ b.3.tail) b.3.holds in
+      let r : Past (λ c. c == S.closing) (S.closing ∷ x) = rw (← b.3.is, ← p.1) at q in
+      not_both (S.closing == S.closing) (eq-eqb S.closing S.closing refl) r
+
+  -- two empty lists end at one place
+  pub both_none : (i j x y : List ℕ) → IsSpace i → IsSpace j → i ++ S.closing ∷ x ≡ j ++ S.closing ∷ y → x ≡ y
+  both_none i j x y s w g = tails _ _ _ _ (run_same is_space i j (S.closing ∷ x) (S.closing ∷ y) s w S.closing-space S.closing-space g).1

@@ -1,5 +1,0 @@
-use Rattle.ijson_json.proofs.Numbers.{spelled_boundary}
-use Rattle.ijson_json.proofs.number.read_short.Goals as goal
-
-pub split_at-requires : goal.split_at-requires
-split_at-requires c = let e = rw c.in-Some.is at c.in_ok-number.ensures.found in spelled_boundary c.args.text.now c.in-Some.length c.in-Some.number.decimal c.utf8.text e.0 e.1

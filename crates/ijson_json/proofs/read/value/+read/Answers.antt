@@ -1,0 +1,249 @@
+use Rattle.std.proofs.Common.{List, [], ◌∷◌, ◌++◌, ℕ, ap, subst, sym, refl, ◌∙◌, arith, rules, map}
+use Rattle.std.proofs.lemmas.Result.{err_from_is_err_and}
+use Rattle.ijson_table.specs.Store.{put_each}
+use Rattle.ijson_value.specs.Tree.{Tree, array, object, items_of, members_of}
+use Rattle.ijson_value.specs.WellFormed.{WellFormed, item_trees, pair_trees}
+use Rattle.ijson_value.specs.laws.MemberTrees.{pair_tree}
+use Rattle.ijson_json.specs.AreShared.{MembersAreShared}
+use Rattle.ijson_json.specs.declared.read.separator.Separator.{Separator}
+use Rattle.ijson_json.specs.private.Separators.{SeparatorAt}
+use Rattle.ijson_json.proofs.scanning.Prefixes.{closes}
+use Rattle.ijson_json.proofs.grammar.ElementShapes.{items_shape, members_shape}
+use Rattle.ijson_json.proofs.reading.ArraysAndObjects.{arrays, objects}
+use Rattle.ijson_json.proofs.reading.CacheContents.{shared_more}
+use Rattle.ijson_json.proofs.reading.ElementFaults.{bracket_too_deep, element_fault, separator_fault}
+use Rattle.ijson_json.proofs.reading.Elements.{empty_read}
+use Rattle.ijson_json.proofs.reading.Gathering.{gathered_start, gathered_adds, gathered_shared, gathered_more, gathered_end}
+use Rattle.ijson_json.proofs.reading.Gathering.{gathered_taken, gathered_left}
+use Rattle.ijson_json.proofs.reading.GatheredTrees.{kept_items, kept_members}
+use Rattle.ijson_json.proofs.reading.Members.{member_read, member_fault}
+use Rattle.ijson_json.proofs.reading.Values.{begins, no_character}
+use Rattle.ijson_json.proofs.read.value.+read.Goals as goal
+
+-- ---- a value
+pub read_value-returns-in_default-clause-read : goal.read_value-returns-in_default-clause-read
+read_value-returns-in_default-clause-read g t c = (omega arith, no_character c.args.text.now c.in_default.ensures.cases)
+
+pub read_value-returns-in_err-check_depth-in-91-clause-read : goal.read_value-returns-in_err-check_depth-in-91-clause-read
+read_value-returns-in_err-check_depth-in-91-clause-read g t c =
+    let p = err_from_is_err_and c.from_residual.result c.from_residual.ensures.1 in
+    let begun = begins 91 c.args.text.now c.in-Some.first c.in-Some.inside.now c.in-Some.ensures.cases c.in-91.is in
+    rw (p.1, p.2) (bracket_too_deep Tree items_shape arrays c.args.opened c.args.text.now c.in-Some.inside.now
+    c.in_err-check_depth-in-91.field-0.0 begun c.in_err-check_depth-in-91.ensures)
+
+pub read_value-returns-in_err-check_depth-in-123-clause-read : goal.read_value-returns-in_err-check_depth-in-123-clause-read
+read_value-returns-in_err-check_depth-in-123-clause-read g t c =
+    let p = err_from_is_err_and c.from_residual-in_err-check_depth-in-123.result c.from_residual-in_err-check_depth-in-123.ensures.1 in
+    let begun = begins 123 c.args.text.now c.in-Some.first c.in-Some.inside.now c.in-Some.ensures.cases c.in-123.is in
+    rw (p.1, p.2) (bracket_too_deep (List ℕ × Tree) members_shape objects c.args.opened c.args.text.now c.in-Some.inside.now
+    c.in_err-check_depth-in-123.field-0.0 begun c.in_err-check_depth-in-123.ensures)
+
+pub read_value-read_scalar-requires-clause-apart : goal.read_value-read_scalar-requires-clause-apart
+read_value-read_scalar-requires-clause-apart g t c = (omega arith, omega arith)
+
+pub read_value-returns-in_default-first-clause-read : goal.read_value-returns-in_default-first-clause-read
+read_value-returns-in_default-first-clause-read g t c = c.read_scalar.ensures.read c.args.opened (omega arith)
+
+-- ---- an array
+pub read_array-returns-in-Some-clause-read : goal.read_array-returns-in-Some-clause-read
+read_array-returns-in-Some-clause-read g t c = (
+  array (items_of []),
+  empty_read Tree items_shape arrays c.args.opened c.args.inside.now c.in-Some.behind.now (omega arith)
+      (closes 93 c.args.inside.now c.skip_space-rest.result.now c.in-Some.behind.now c.skip_space-rest.ensures c.in-Some.ensures),
+  ap (λ vs. array (item_trees vs)) c.new.ensures.items,
+)
+
+pub read_array-loop-item-init : goal.read_array-loop-item-init
+read_array-loop-item-init g t c = record {
+  read = gathered_start Tree items_shape arrays kept_items c.args.opened c.args.inside.now c.skip_space-rest.result.now
+      c.args.scratch.now.values.items c.args.cache.now (omega arith) c.skip_space-rest.ensures c.in_default.ensures;
+  members = refl;
+  utf8 = c.skip_space-rest.utf8;
+}
+
+pub read_array-returns-in_err-item-clause-read : goal.read_array-returns-in_err-item-clause-read
+read_array-returns-in_err-item-clause-read g t c =
+    let p = err_from_is_err_and c.from_residual.result c.from_residual.ensures.1 in
+    let i = c.loop-item.invariant.read in
+    rw (p.1, p.2) (element_fault Tree items_shape arrays c.args.opened (91 ∷ c.args.inside.now) c.loop-item.rest.now i.written
+    c.in_err-item.field-0.0 i.reached c.in_err-item.ensures.read)
+
+pub read_array-returns-in_err-next-clause-read : goal.read_array-returns-in_err-next-clause-read
+read_array-returns-in_err-next-clause-read g t c =
+    let p = err_from_is_err_and c.from_residual-in_err-next.result c.from_residual-in_err-next.ensures.1 in
+    let i = c.loop-item.invariant.read in
+    let item = c.in_ok-item.ensures.read in
+    rw (p.1, p.2) (separator_fault Tree items_shape arrays c.args.opened (91 ∷ c.args.inside.now) c.loop-item.rest.now
+    c.in_ok-item.after.now i.written item.0 c.in_err-next.field-0.0 i.reached item.1 c.in_err-next.ensures)
+
+pub read_array-loop-item-preserved : goal.read_array-loop-item-preserved
+read_array-loop-item-preserved g t c =
+    let item = c.in_ok-item.ensures.read in
+    let comma = subst (λ (s : Separator). SeparatorAt 93 c.in_ok-item.after.now s) c.in-Comma.is c.in_ok-next.ensures in
+    record {
+      read = gathered_more c.loop-item.invariant.read c.in_ok-item.item item.0 c.in_ok-item.after.now c.in-Comma.next.now
+          c.read_value.new.scratch.values.items c.push.new.self.items c.read_value.new.cache item.1 item.2 comma
+          c.in_ok-item.ensures.values c.in_ok-push.ensures.items c.read_value.ensures.cache c.in_ok-item.ensures.shared;
+      members = c.in_ok-item.ensures.members ∙ c.loop-item.invariant.members;
+      utf8 = search rules;
+    }
+
+pub read_array-returns-in-End-clause-read : goal.read_array-returns-in-End-clause-read
+read_array-returns-in-End-clause-read g t c =
+    let i = c.loop-item.invariant.read in
+    let item = c.in_ok-item.ensures.read in
+    let end = subst (λ (s : Separator). SeparatorAt 93 c.in_ok-item.after.now s) c.in-End.is c.in_ok-next.ensures in
+    let taken = gathered_taken i c.in_ok-item.item c.read_value.new.scratch.values.items c.push.new.self.items
+    c.in_ok-items-in-End.items.items c.len-base.result c.in_ok-item.ensures.values c.in_ok-push.ensures.items
+    (c.len-base.ensures ∙ c.args.scratch.now.values.ok.0) c.in_ok-items-in-End.ensures.items in (
+      array (items_of (i.written ++ item.0 ∷ [])),
+      gathered_end i item.0 c.in_ok-item.after.now c.in-End.behind.now item.1 end,
+      ap array (ap item_trees taken ∙ kept_items.push i.kept i.written c.in_ok-item.item item.0 item.2 i.are),
+    )
+
+-- ---- an object
+pub read_object-returns-in-Some-clause-read : goal.read_object-returns-in-Some-clause-read
+read_object-returns-in-Some-clause-read g t c = (
+  object (members_of []),
+  empty_read (List ℕ × Tree) members_shape objects c.args.opened c.args.inside.now c.in-Some.behind.now (omega arith)
+      (closes 125 c.args.inside.now c.skip_space-rest.result.now c.in-Some.behind.now c.skip_space-rest.ensures c.in-Some.ensures),
+  ap (λ ps. object (pair_trees ps)) c.new.ensures.pairs,
+)
+
+pub read_object-loop-key-init : goal.read_object-loop-key-init
+read_object-loop-key-init g t c = record {
+  read = gathered_start (List ℕ × Tree) members_shape objects kept_members c.args.opened c.args.inside.now c.skip_space-rest.result.now
+      c.args.scratch.now.members.items c.args.cache.now (omega arith) c.skip_space-rest.ensures c.in_default.ensures;
+  values = refl;
+  utf8 = c.skip_space-rest.utf8;
+}
+
+pub read_object-returns-in_err-key-clause-read : goal.read_object-returns-in_err-key-clause-read
+read_object-returns-in_err-key-clause-read g t c =
+    let p = err_from_is_err_and c.from_residual.result c.from_residual.ensures.1 in
+    let i = c.loop-key.invariant.read in
+    rw (p.1, p.2) (element_fault (List ℕ × Tree) members_shape objects c.args.opened (123 ∷ c.args.inside.now) c.loop-key.rest.now
+    i.written c.in_err-key.field-0.0 i.reached c.in_err-key.ensures.read)
+
+pub read_object-returns-in_err-next-clause-read : goal.read_object-returns-in_err-next-clause-read
+read_object-returns-in_err-next-clause-read g t c =
+    let p = err_from_is_err_and c.from_residual-in_err-next.result c.from_residual-in_err-next.ensures.1 in
+    let i = c.loop-key.invariant.read in
+    let value = c.in_ok-key.ensures.read in
+    rw (p.1, p.2) (separator_fault (List ℕ × Tree) members_shape objects c.args.opened (123 ∷ c.args.inside.now) c.loop-key.rest.now
+    c.in_ok-key.after.now i.written (c.in_ok-key.key, value.0) c.in_err-next.field-0.0 i.reached value.1 c.in_err-next.ensures)
+
+pub read_object-loop-key-preserved : goal.read_object-loop-key-preserved
+read_object-loop-key-preserved g t c =
+    let value = c.in_ok-key.ensures.read in
+    let key = c.in_ok-key.key in
+    let comma = subst (λ (s : Separator). SeparatorAt 125 c.in_ok-key.after.now s) c.in-Comma.is c.in_ok-next.ensures in
+    record {
+      read = gathered_more c.loop-key.invariant.read (key, c.in_ok-key.value) (key, value.0) c.in_ok-key.after.now c.in-Comma.next.now
+          c.read_member.new.scratch.members.items c.push.new.self.items c.read_member.new.cache value.1 (refl, value.2) comma
+          c.in_ok-key.ensures.members c.in_ok-push.ensures.items c.read_member.ensures.cache c.in_ok-key.ensures.shared;
+      values = c.in_ok-key.ensures.values ∙ c.loop-key.invariant.values;
+      utf8 = search rules;
+    }
+
+pub read_object-returns-in-End-clause-read : goal.read_object-returns-in-End-clause-read
+read_object-returns-in-End-clause-read g t c =
+    let i = c.loop-key.invariant.read in
+    let value = c.in_ok-key.ensures.read in
+    let key = c.in_ok-key.key in
+    let end = subst (λ (s : Separator). SeparatorAt 125 c.in_ok-key.after.now s) c.in-End.is c.in_ok-next.ensures in
+    let taken = gathered_taken i (key, c.in_ok-key.value) c.read_member.new.scratch.members.items c.push.new.self.items _
+    c.len-base.result c.in_ok-key.ensures.members c.in_ok-push.ensures.items
+    (c.len-base.ensures ∙ c.args.scratch.now.members.ok.0) refl in (
+      object (members_of (i.written ++ (key, value.0) ∷ [])),
+      gathered_end i (key, value.0) c.in_ok-key.after.now c.in-End.behind.now value.1 end,
+      ap (λ ps. object (members_of ps)) (ap (map pair_tree) (c.in_ok-object-in-End.ensures.members ∙ ap (put_each []) taken)
+          ∙ kept_members.push i.kept i.written (key, c.in_ok-key.value) (key, value.0) (refl, value.2) i.are),
+    )
+
+-- ---- a member
+pub read_member-returns-in_err-key-clause-read : goal.read_member-returns-in_err-key-clause-read
+read_member-returns-in_err-key-clause-read g t c =
+    let p = err_from_is_err_and c.from_residual.result c.from_residual.ensures.1 in
+    rw (p.1, p.2) (c.in_err-key.ensures.read c.args.opened)
+
+pub read_member-returns-in_err-value-clause-read : goal.read_member-returns-in_err-value-clause-read
+read_member-returns-in_err-value-clause-read g t c =
+    let p = err_from_is_err_and c.from_residual-in_err-value.result c.from_residual-in_err-value.ensures.1 in
+    rw (p.1, p.2) (member_fault c.args.opened c.in_ok-key.key c.args.text.now c.in_ok-key.start.now c.in_err-value.field-0.0
+    c.in_ok-key.ensures.read c.in_err-value.ensures.read)
+
+pub read_member-returns-clause-read : goal.read_member-returns-clause-read
+read_member-returns-clause-read g t c =
+    let value = c.in_ok-value.ensures.read in (
+      value.0,
+      member_read c.args.opened c.in_ok-key.key c.args.text.now c.in_ok-key.start.now value.0 c.in_ok-value.rest.now
+          c.in_ok-key.ensures.read value.1,
+      value.2,
+    )
+
+-- ---- the cache
+pub read_array-returns-in_err-item-clause-cache : goal.read_array-returns-in_err-item-clause-cache
+read_array-returns-in_err-item-clause-cache g t c = gathered_adds c.loop-item.invariant.read c.read_value.ensures.cache
+
+pub read_array-returns-in_err-push-clause-cache : goal.read_array-returns-in_err-push-clause-cache
+read_array-returns-in_err-push-clause-cache g t c = gathered_adds c.loop-item.invariant.read c.read_value.ensures.cache
+
+pub read_array-returns-in_err-items-in-End-clause-cache : goal.read_array-returns-in_err-items-in-End-clause-cache
+read_array-returns-in_err-items-in-End-clause-cache g t c = gathered_adds c.loop-item.invariant.read c.read_value.ensures.cache
+
+pub read_array-returns-in-End-clause-cache : goal.read_array-returns-in-End-clause-cache
+read_array-returns-in-End-clause-cache g t c = gathered_adds c.loop-item.invariant.read c.read_value.ensures.cache
+
+pub read_array-returns-in_err-next-clause-cache : goal.read_array-returns-in_err-next-clause-cache
+read_array-returns-in_err-next-clause-cache g t c = gathered_adds c.loop-item.invariant.read c.read_value.ensures.cache
+
+pub read_object-returns-in_err-key-clause-cache : goal.read_object-returns-in_err-key-clause-cache
+read_object-returns-in_err-key-clause-cache g t c = gathered_adds c.loop-key.invariant.read c.read_member.ensures.cache
+
+pub read_object-returns-in_err-push-clause-cache : goal.read_object-returns-in_err-push-clause-cache
+read_object-returns-in_err-push-clause-cache g t c = gathered_adds c.loop-key.invariant.read c.read_member.ensures.cache
+
+pub read_object-returns-in_err-object-in-End-clause-cache : goal.read_object-returns-in_err-object-in-End-clause-cache
+read_object-returns-in_err-object-in-End-clause-cache g t c = gathered_adds c.loop-key.invariant.read c.read_member.ensures.cache
+
+pub read_object-returns-in-End-clause-cache : goal.read_object-returns-in-End-clause-cache
+read_object-returns-in-End-clause-cache g t c = gathered_adds c.loop-key.invariant.read c.read_member.ensures.cache
+
+pub read_object-returns-in_err-next-clause-cache : goal.read_object-returns-in_err-next-clause-cache
+read_object-returns-in_err-next-clause-cache g t c = gathered_adds c.loop-key.invariant.read c.read_member.ensures.cache
+
+pub read_array-returns-in-End-clause-shared : goal.read_array-returns-in-End-clause-shared
+read_array-returns-in-End-clause-shared g t c =
+    gathered_shared c.loop-item.invariant.read c.in_ok-item.item c.read_value.new.scratch.values.items c.push.new.self.items
+    c.in_ok-items-in-End.items.items c.len-base.result c.read_value.new.cache c.in_ok-item.ensures.values c.in_ok-push.ensures.items
+    (c.len-base.ensures ∙ c.args.scratch.now.values.ok.0) c.in_ok-items-in-End.ensures.items c.read_value.ensures.cache
+    c.in_ok-item.ensures.shared
+
+pub read_object-returns-in-End-clause-shared : goal.read_object-returns-in-End-clause-shared
+read_object-returns-in-End-clause-shared g t c =
+    subst (λ (ps : List (List ℕ × WellFormed)). MembersAreShared c.read_member.new.cache (pair_trees ps))
+    (sym c.in_ok-object-in-End.ensures.members)
+    (gathered_shared c.loop-key.invariant.read (c.in_ok-key.key, c.in_ok-key.value) c.read_member.new.scratch.members.items
+    c.push.new.self.items _ c.len-base.result c.read_member.new.cache c.in_ok-key.ensures.members c.in_ok-push.ensures.items
+    (c.len-base.ensures ∙ c.args.scratch.now.members.ok.0) refl c.read_member.ensures.cache c.in_ok-key.ensures.shared)
+
+pub read_member-returns-clause-shared : goal.read_member-returns-clause-shared
+read_member-returns-clause-shared g t c = (
+  shared_more c.in_ok-key.start.now c.read_key.new.cache c.read_value.new.cache c.in_ok-key.key c.read_value.ensures.cache
+      c.in_ok-key.ensures.shared,
+  c.in_ok-value.ensures.shared,
+)
+
+-- ---- the scratch
+pub read_array-returns-in-End-clause-values : goal.read_array-returns-in-End-clause-values
+read_array-returns-in-End-clause-values g t c =
+    gathered_left c.loop-item.invariant.read c.in_ok-item.item c.read_value.new.scratch.values.items c.push.new.self.items _
+    c.len-base.result c.in_ok-item.ensures.values c.in_ok-push.ensures.items (c.len-base.ensures ∙ c.args.scratch.now.values.ok.0)
+    c.in_ok-items-in-End.ensures.stack
+
+pub read_object-returns-in-End-clause-members : goal.read_object-returns-in-End-clause-members
+read_object-returns-in-End-clause-members g t c =
+    gathered_left c.loop-key.invariant.read (c.in_ok-key.key, c.in_ok-key.value) c.read_member.new.scratch.members.items
+    c.push.new.self.items _ c.len-base.result c.in_ok-key.ensures.members c.in_ok-push.ensures.items
+    (c.len-base.ensures ∙ c.args.scratch.now.members.ok.0) c.in_ok-object-in-End.ensures.stack

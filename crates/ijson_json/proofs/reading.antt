@@ -1,0 +1,16 @@
+-- What was read of a text so far, from an escape to a whole text.
+pub mod Escapes
+pub mod StringContent
+pub mod Numbers
+pub mod ElementLists
+pub mod Elements
+pub mod ElementFaults
+pub mod ArraysAndObjects
+pub mod Members
+pub mod Words
+pub mod Values
+pub mod CacheContents
+pub mod ScratchStacks
+pub mod Gathering
+pub mod GatheredTrees
+pub mod WholeTexts

@@ -1,0 +1,157 @@
+-- Arrays and objects, read element by element.
+use Rattle.std.proofs.Common.{◌≡◌, ℕ, suc, Bool, List, [], ◌∷◌, ◌++◌, refl, sym, ap, ap₂, subst, ◌∙◌, append_assoc, arith, inl, inr}
+use Rattle.std.specs.Prelude.{◌&&◌}
+use Rattle.ijson_table.specs.Store.{put, put_each}
+use Rattle.ijson_value.specs.laws.MemberTrees.{members_of-list}
+use Rattle.ijson_value.specs.Tree.{Tree, array, object, Items, no_items, item, items_of, items_list, members_of, members_list}
+use Rattle.ijson_value.specs.Tree.{depth}
+use Rattle.ijson_json.specs.Ranged.{is_ranged}
+use Rattle.ijson_json.specs.Settled.{settled, settled_items, settled_pairs}
+use Rattle.ijson_json.specs.Grammar.{IsValue}
+use Rattle.ijson_json.specs.private.Reading.{Front}
+use Rattle.ijson_json.proofs.scanning.Prefixes.{heads, tails}
+use Rattle.ijson_json.proofs.grammar.FirstBytes.{kind, tree_kind, value_first}
+use Rattle.ijson_json.proofs.grammar.CommaLists.{IsList}
+use Rattle.ijson_json.proofs.grammar.OneTree.{value_same, pair_same}
+use Rattle.ijson_json.proofs.reading.Elements.{Listing}
+use Rattle.ijson_json.proofs.grammar.ElementShapes.{items_shape, members_shape, items_to, items_from, members_to, members_from}
+use Rattle.ijson_json.proofs.reading.ElementLists.{deepest, all_ranged}
+
+-- ---- lists of elements
+
+-- items and lists are the same
+pub list-items_of : (ts : List Tree) → items_list (items_of ts) ≡ ts
+list-items_of [] = refl
+list-items_of (t ∷ ts) = ap (λ (l : List Tree). t ∷ l) (list-items_of ts)
+
+-- and back
+pub items_of-list : (is : Items) → items_of (items_list is) ≡ is
+items_of-list no_items = refl
+items_of-list (item t is) = ap (item t) (items_of-list is)
+
+-- members and lists are the same
+pub list-members_of : (ms : List (List ℕ × Tree)) → members_list (members_of ms) ≡ ms
+list-members_of [] = refl
+list-members_of (m ∷ ms) = ap (λ (l : List (List ℕ × Tree)). m ∷ l) (list-members_of ms)
+
+-- ---- a value that begins with a bracket
+
+-- the first byte tells the kind of a value
+pub kind_at : (t : Tree) (b : ℕ) (inside x : List ℕ) → Front (λ value. IsValue t value) (b ∷ inside) x → kind b ≡ tree_kind t
+kind_at t b inside x f =
+    let first = value_first t f.front f.holds in
+    let whole : b ∷ inside ≡ first.0 ∷ (first.1 ++ x) = f.is ∙ ap (λ (l : List ℕ). l ++ x) first.3 in
+    ap kind (heads _ _ _ _ whole) ∙ first.2
+
+-- a value that begins with `[` is an array
+pub array_at : (t : Tree) (inside x : List ℕ) → Front (λ value. IsValue t value) (91 ∷ inside) x
+    → (ts : List Tree) × (i : List ℕ) × (t ≡ array (items_of ts)) × IsList items_shape.Is ts i × (inside ≡ i ++ 93 ∷ x)
+array_at (array is) inside x f =
+    let h = f.holds in
+    let whole : 91 ∷ inside ≡ 91 ∷ (h.0 ++ 93 ∷ x) = f.is ∙ ap (λ (l : List ℕ). l ++ x) h.2
+    ∙ ap (λ (l : List ℕ). 91 ∷ l) (append_assoc h.0 (93 ∷ []) x) in
+    (items_list is, h.0, ap array (sym (items_of-list is)), items_to is h.0 h.1, tails _ _ _ _ whole)
+array_at t inside x f = absurd (let k : 4 ≡ tree_kind t = kind_at t 91 inside x f in omega (arith, k))
+
+-- a value that begins with `{` is an object
+pub object_at : (t : Tree) (inside x : List ℕ) → Front (λ value. IsValue t value) (123 ∷ inside) x
+    → (ms : List (List ℕ × Tree)) × (i : List ℕ) × (t ≡ object (members_of ms)) × IsList members_shape.Is ms i × (inside ≡ i ++ 125 ∷ x)
+object_at (object ms) inside x f =
+    let h = f.holds in
+    let whole : 123 ∷ inside ≡ 123 ∷ (h.0 ++ 125 ∷ x) = f.is ∙ ap (λ (l : List ℕ). l ++ x) h.2
+    ∙ ap (λ (l : List ℕ). 123 ∷ l) (append_assoc h.0 (125 ∷ []) x) in
+    (members_list ms, h.0, ap object (sym (members_of-list ms)), members_to ms h.0 h.1, tails _ _ _ _ whole)
+object_at t inside x f = absurd (let k : 6 ≡ tree_kind t = kind_at t 123 inside x f in omega (arith, k))
+
+-- items between brackets are an array
+pub array_builds : (ts : List Tree) (inside : List ℕ) → IsList items_shape.Is ts inside
+    → IsValue (array (items_of ts)) (91 ∷ (inside ++ 93 ∷ []))
+array_builds ts inside h = (
+  inside,
+  items_from (items_of ts) inside
+      (subst (λ (l : List Tree). IsList items_shape.Is l inside) (sym (list-items_of ts)) h),
+  refl,
+)
+
+-- members between braces are an object
+pub object_builds : (ms : List (List ℕ × Tree)) (inside : List ℕ) → IsList members_shape.Is ms inside
+    → IsValue (object (members_of ms)) (123 ∷ (inside ++ 125 ∷ []))
+object_builds ms inside h = (
+  inside,
+  members_from (members_of ms) inside
+      (subst (λ (l : List (List ℕ × Tree)). IsList members_shape.Is l inside) (sym (list-members_of ms)) h),
+  refl,
+)
+
+-- an array is one deeper than its items
+pub array_depth : (ts : List Tree) → depth (array (items_of ts)) ≡ suc (deepest Tree items_shape ts)
+array_depth [] = refl
+array_depth (t ∷ ts) = omega (arith, array_depth ts)
+
+-- an array is within the limit as its items are
+pub array_ranged : (ts : List Tree) → is_ranged (array (items_of ts)) ≡ all_ranged Tree items_shape ts
+array_ranged [] = refl
+array_ranged (t ∷ ts) = ap (λ (b : Bool). is_ranged t && b) (array_ranged ts)
+
+-- an object is one deeper than its members
+pub object_depth : (ms : List (List ℕ × Tree)) → depth (object (members_of ms)) ≡ suc (deepest (List ℕ × Tree) members_shape ms)
+object_depth [] = refl
+object_depth (m ∷ ms) = omega (arith, object_depth ms)
+
+-- an object is within the limit as its members are
+pub object_ranged : (ms : List (List ℕ × Tree)) → is_ranged (object (members_of ms)) ≡ all_ranged (List ℕ × Tree) members_shape ms
+object_ranged [] = refl
+object_ranged (m ∷ ms) = ap (λ (b : Bool). is_ranged m.1 && b) (object_ranged ms)
+
+-- how items make an array
+abbrev pub arrays : Listing Tree items_shape
+arrays = record {
+  opening = 91;
+  wrap = λ ts. array (items_of ts);
+  closer = inl refl;
+  same = value_same;
+  builds = array_builds;
+  only = array_at;
+  depth_is = array_depth;
+  ranged_is = array_ranged;
+  ends = λ ts x. tt;
+}
+
+-- how members make an object
+abbrev pub objects : Listing (List ℕ × Tree) members_shape
+objects = record {
+  opening = 123;
+  wrap = λ ms. object (members_of ms);
+  closer = inr refl;
+  same = λ m n. pair_same m.0 m.1 n.0 n.1 (value_same m.1 n.1);
+  builds = object_builds;
+  only = object_at;
+  depth_is = object_depth;
+  ranged_is = object_ranged;
+  ends = λ ms x. tt;
+}
+
+-- ---- what is settled
+
+-- one more item is settled beside those that were
+pub settled-push : (ts : List Tree) (t : Tree) (us : List Tree) → items_of us ≡ settled_items (items_of ts)
+    → items_of (us ++ settled t ∷ []) ≡ settled_items (items_of (ts ++ t ∷ []))
+settled-push [] t [] e = refl
+settled-push [] t (u ∷ us) e = absurd cc
+settled-push (t' ∷ ts) t [] e = absurd cc
+settled-push (t' ∷ ts) t (u ∷ us) e =
+    let first : u ≡ settled t' = cc in
+    let rest : items_of us ≡ settled_items (items_of ts) = cc in
+    ap₂ item first (settled-push ts t us rest)
+
+-- the last pair is put last
+put_each-push : (ms : List (List ℕ × Tree)) (k : List ℕ) (t : Tree) (into : List (List ℕ × Tree))
+    → put_each into (settled_pairs (members_of (ms ++ (k, t) ∷ []))) ≡ put (put_each into (settled_pairs (members_of ms))) k (settled t)
+put_each-push [] k t into = refl
+put_each-push (m ∷ ms) k t into = put_each-push ms k t (put into m.0 (settled m.1))
+
+-- one more member is put behind those that were
+pub settled-put : (ms : List (List ℕ × Tree)) (k : List ℕ) (t : Tree) (now : List (List ℕ × Tree))
+    → now ≡ put_each [] (settled_pairs (members_of ms))
+    → put now k (settled t) ≡ put_each [] (settled_pairs (members_of (ms ++ (k, t) ∷ [])))
+settled-put ms k t now e = ap (λ (n : List (List ℕ × Tree)). put n k (settled t)) e ∙ sym (put_each-push ms k t [])

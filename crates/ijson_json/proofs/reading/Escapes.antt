@@ -1,0 +1,225 @@
+-- Escapes at the front of a text: digits, four of them, one escape or a pair of two.
+use Rattle.std.proofs.Common.{◌≡◌, ℕ, ◌+◌, ◌*◌, ◌<◌, ◌≤◌, false, cond, List, [], ◌∷◌, ◌++◌, length, get_or, drop, Some, None, refl, sym}
+use Rattle.std.proofs.Common.{ap, subst, ◌∙◌, append_assoc, arith, inl, inr}
+use Rattle.std.specs.Prelude.{IsTrue, ◌||◌, ◌==◌, ◌⊎◌, ◌≢◌, nat_lt}
+use Rattle.std.specs.Char.{encode_utf8, InScalarRange, OutOfScalarRange}
+use Rattle.std.specs.Str.Pattern.{FindsTextPrefix, StripsPrefix}
+use Rattle.std.proofs.lemmas.Bool.{cases_lt, lt-ltb}
+use Rattle.std.proofs.lemmas.Bool.Decides.{nat_tests}
+use Rattle.std.proofs.lemmas.Str.{encode_ascii}
+use Rattle.ijson_json.specs.Strings.{is_unescaped, short_escape, hex_digit, Hex, is_high_surrogate, is_low_surrogate, Character}
+use Rattle.ijson_json.specs.Strings.{unescaped, short, unicode, pair}
+use Rattle.ijson_json.specs.private.Reading.{Past}
+use Rattle.ijson_json.specs.private.StringReading.{HexAt, CharacterAt, NoHex, NoCharacter, NoEscape, NoLow, LowAt}
+use Rattle.ijson_json.proofs.scanning.Prefixes.{not_both, past_first, heads, tails}
+use Rattle.ijson_json.proofs.grammar.StringBodies.{hex_same}
+
+-- ---- the front of a text
+
+-- what `strip_prefix` gives at a text
+pub strips_text : (prefix text rest : List ℕ) → StripsPrefix (FindsTextPrefix prefix) text rest → text ≡ prefix ++ rest
+strips_text prefix text rest (n, at, e, f) = at.1 ∙ ap (λ (l : List ℕ). prefix ++ l) (sym e)
+
+-- a letter of a short escape is ASCII
+short_ascii : (b m : ℕ) → short_escape b ≡ Some m → b < 128
+unfolding short_escape
+short_ascii b m h = grind (arith, nat_tests)
+
+-- what a letter stands for, or a full stop
+abbrev pub meaning_of : ℕ → ℕ
+meaning_of b =
+    cond ((b == 34) || ((b == 92) || (b == 47))) b
+    (cond (b == 98) 8 (cond (b == 102) 12 (cond (b == 110) 10 (cond (b == 114) 13 (cond (b == 116) 9 46)))))
+
+-- a meaning that is no full stop is that of the letter, and ASCII
+pub meaning_found : (b : ℕ) → meaning_of b ≢ 46 → (short_escape b ≡ Some (meaning_of b)) × (meaning_of b < 128)
+unfolding short_escape
+meaning_found b h = (grind (arith, nat_tests), grind (arith, nat_tests))
+
+-- a full stop says that the letter has none
+pub meaning_none : (b : ℕ) → meaning_of b ≡ 46 → short_escape b ≡ None
+unfolding short_escape
+meaning_none b h = grind (arith, nat_tests)
+
+-- ---- four digits
+
+-- four digits, and the text behind them
+pub hex_at : (text bytes rest : List ℕ) (x y z w : ℕ) → bytes ≡ text → 4 ≤ length bytes → rest ≡ drop 4 text
+    → hex_digit (get_or bytes 0 0) ≡ Some x → hex_digit (get_or bytes 1 0) ≡ Some y → hex_digit (get_or bytes 2 0) ≡ Some z
+    → hex_digit (get_or bytes 3 0) ≡ Some w → HexAt text (x * 4096 + (y * 256 + (z * 16 + w))) rest
+hex_at text [] rest x y z w t l e f g h i = absurd (omega arith)
+hex_at text (a ∷ []) rest x y z w t l e f g h i = absurd (omega arith)
+hex_at text (a ∷ b ∷ []) rest x y z w t l e f g h i = absurd (omega arith)
+hex_at text (a ∷ b ∷ c ∷ []) rest x y z w t l e f g h i = absurd (omega arith)
+hex_at text (a ∷ b ∷ c ∷ d ∷ more) rest x y z w t l e f g h i =
+    let behind : rest ≡ more = e ∙ ap (λ (l : List ℕ). drop 4 l) (sym t) in (
+      a ∷ b ∷ c ∷ d ∷ [],
+      record {
+        a = a;
+        b = b;
+        c = c;
+        d = d;
+        x = x;
+        y = y;
+        z = z;
+        w = w;
+        text_is = refl;
+        first = f;
+        second = g;
+        third = h;
+        fourth = i;
+        is = refl;
+      },
+      sym t ∙ ap (λ (l : List ℕ). a ∷ b ∷ c ∷ d ∷ l) (sym behind),
+    )
+
+-- a byte that is no digit counts more than four digits can
+pub digit_below : (v sum : ℕ) (P : Type 0) → (16 ≤ v → (v ≡ 65536) × P) → v ≤ sum → sum < 65536 → v < 16
+digit_below v sum P none within less = elim (cases_lt v 16) [ inl l ↦ l | inr g ↦ absurd (let e = (none g).0 in omega arith) ]
+
+-- a byte that is a digit counts less than 16
+digit_counts : (v b x : ℕ) → (16 ≤ v → (v ≡ 65536) × (hex_digit b ≡ None)) → hex_digit b ≡ Some x → v < 16
+digit_counts v b x none some = elim (cases_lt v 16) [ inl l ↦ l | inr g ↦ absurd (let e = (none g).1 in cc) ]
+
+-- where the sum is too large, one of four bytes is no digit
+pub no_hex : (text bytes : List ℕ) (x y z w : ℕ) → bytes ≡ text → (16 ≤ x → (x ≡ 65536) × (hex_digit (get_or bytes 0 0) ≡ None))
+    → (16 ≤ y → (y ≡ 65536) × (hex_digit (get_or bytes 1 0) ≡ None)) → (16 ≤ z → (z ≡ 65536) × (hex_digit (get_or bytes 2 0) ≡ None))
+    → (16 ≤ w → (w ≡ 65536) × (hex_digit (get_or bytes 3 0) ≡ None)) → 65536 ≤ x * 4096 + (y * 256 + (z * 16 + w)) → NoHex text
+no_hex text bytes x y z w t nx ny nz nw over u rest (h, hex, e) =
+    let is : bytes ≡ hex.a ∷ hex.b ∷ hex.c ∷ hex.d ∷ rest = t ∙ e ∙ ap (λ (l : List ℕ). l ++ rest) hex.text_is in
+    let first = digit_counts x (get_or bytes 0 0) hex.x nx (ap (λ (l : List ℕ). hex_digit (get_or l 0 0)) is ∙ hex.first) in
+    let second = digit_counts y (get_or bytes 1 0) hex.y ny (ap (λ (l : List ℕ). hex_digit (get_or l 1 0)) is ∙ hex.second) in
+    let third = digit_counts z (get_or bytes 2 0) hex.z nz (ap (λ (l : List ℕ). hex_digit (get_or l 2 0)) is ∙ hex.third) in
+    let fourth = digit_counts w (get_or bytes 3 0) hex.w nw (ap (λ (l : List ℕ). hex_digit (get_or l 3 0)) is ∙ hex.fourth) in
+    omega arith
+
+-- ---- behind a backslash and `u`
+
+-- `u` is no letter of a short escape
+short_u : (c : ℕ) → short_escape 117 ≡ Some c → ⊥
+unfolding short_escape
+short_u c h = absurd cc
+
+-- a unit alone, or two
+pub record Alone (text m rest : List ℕ) : Type 0 where
+  pub u : ℕ
+  pub hex : HexAt text u rest
+  pub not_high : is_high_surrogate u ≡ false
+  pub not_low : is_low_surrogate u ≡ false
+
+pub record Both (text m rest : List ℕ) : Type 0 where
+  pub u : ℕ
+  pub l : List ℕ
+  pub v : ℕ
+  pub hex : HexAt text u (92 ∷ 117 ∷ (l ++ rest))
+  pub high : IsTrue (is_high_surrogate u)
+  pub other : Hex l v
+  pub low : IsTrue (is_low_surrogate v)
+
+-- behind `\u` stand one code or the codes of a pair
+unit_cases : (text m rest : List ℕ) → CharacterAt (92 ∷ 117 ∷ text) m rest → Alone text m rest ⊎ Both text m rest
+unit_cases text m rest (w, c, e) = go c e
+  where
+    go : {w m : List ℕ} → Character w m → 92 ∷ 117 ∷ text ≡ w ++ rest → Alone text m rest ⊎ Both text m rest
+    go (unescaped {b} h) e = absurd (not_both (is_unescaped 92) (let f : b ≡ 92 = heads _ _ _ _ (sym e) in rw f at h) refl)
+    go (short {b} {c} g) e = absurd (let f : b ≡ 117 = heads _ _ _ _ (tails _ _ _ _ (sym e)) in short_u c (rw f at g))
+    go (unicode {h} {u} g i j) e = inl (record { u = u; hex = (h, g, tails _ _ _ _ (tails _ _ _ _ e)); not_high = i; not_low = j })
+    go (pair {h} {l} {u} {v} g i j k) e = inr (record {
+      u = u;
+      l = l;
+      v = v;
+      hex = (h, g, tails _ _ _ _ (tails _ _ _ _ e) ∙ append_assoc h (92 ∷ 117 ∷ l) rest);
+      high = i;
+      other = j;
+      low = k;
+    })
+
+-- without four digits there is no character
+pub no_unicode : (text : List ℕ) → NoHex text → NoCharacter (92 ∷ 117 ∷ text)
+no_unicode text n m rest a = elim (unit_cases text m rest a) [ inl o ↦ n o.u rest o.hex | inr b ↦ n b.u (92 ∷ 117 ∷ (b.l ++ rest)) b.hex ]
+
+-- four digits at the front of a text are one number
+hex_at_same : (text : List ℕ) (u v : ℕ) (r s : List ℕ) → HexAt text u r → HexAt text v s → (u ≡ v) × (r ≡ s)
+hex_at_same text u v r s (h, x, e) (l, y, f) = let same = hex_same h l u v r s x y (sym e ∙ f) in (same.0, same.1.1)
+
+-- behind a high surrogate a low one is wanted
+pub no_low : (text : List ℕ) (u : ℕ) (rest : List ℕ) → HexAt text u rest → IsTrue (is_high_surrogate u) → NoLow rest
+    → NoCharacter (92 ∷ 117 ∷ text)
+no_low text u rest h i n m other a = elim (unit_cases text m other a) [
+  | inl o ↦ not_both (is_high_surrogate u) i (rw (← (hex_at_same text u o.u rest other h o.hex).0) at o.not_high)
+  | inr b ↦ n b.l b.v other b.other b.low (hex_at_same text u b.u rest _ h b.hex).1
+]
+
+-- a low surrogate alone is no character
+pub no_alone : (text : List ℕ) (u : ℕ) (rest : List ℕ) → HexAt text u rest → is_high_surrogate u ≡ false → IsTrue (is_low_surrogate u)
+    → NoCharacter (92 ∷ 117 ∷ text)
+no_alone text u rest h i j m other a = elim (unit_cases text m other a) [
+  | inl o ↦ not_both (is_low_surrogate u) j (rw (← (hex_at_same text u o.u rest other h o.hex).0) at o.not_low)
+  | inr b ↦ not_both (is_high_surrogate u) (rw (← (hex_at_same text u b.u rest _ h b.hex).0) at b.high) i
+]
+
+-- a code that is no surrogate is a character
+pub found_alone : (text : List ℕ) (u : ℕ) (rest : List ℕ) → HexAt text u rest → is_high_surrogate u ≡ false → is_low_surrogate u ≡ false
+    → CharacterAt (92 ∷ 117 ∷ text) (encode_utf8 u) rest
+found_alone text u rest (h, x, e) i j = (92 ∷ 117 ∷ h, unicode x i j, ap (λ (l : List ℕ). 92 ∷ 117 ∷ l) e)
+
+-- a pair of surrogates is a character
+pub found_both : (text : List ℕ) (u : ℕ) (rest m other : List ℕ) → HexAt text u rest → IsTrue (is_high_surrogate u) → LowAt u rest m other
+    → CharacterAt (92 ∷ 117 ∷ text) m other
+found_both text u rest m other (h, x, e) i (l, v, y, j, f, g) =
+    subst (λ (m : List ℕ). CharacterAt (92 ∷ 117 ∷ text) m other) (sym g) (
+      92 ∷ 117 ∷ (h ++ 92 ∷ 117 ∷ l),
+      pair x i y j,
+      ap (λ (t : List ℕ). 92 ∷ 117 ∷ t) (e ∙ ap (λ (t : List ℕ). h ++ t) f
+          ∙ sym (append_assoc h (92 ∷ 117 ∷ l) other)),
+    )
+
+-- without four digits there is no low surrogate
+pub no_low_hex : (text behind : List ℕ) → text ≡ 92 ∷ 117 ∷ behind → NoHex behind → NoLow text
+no_low_hex text behind e n l v rest h i f = n v rest (l, h, tails _ _ _ _ (tails _ _ _ _ (sym e ∙ f)))
+
+-- a scalar value is no low surrogate
+pub scalar_not_low : (u : ℕ) → InScalarRange u → is_low_surrogate u ≡ false
+scalar_not_low u (inl h) = grind (arith, nat_tests)
+scalar_not_low u (inr h) = let a : 0xE000 ≤ u = omega arith in grind (arith, nat_tests)
+
+-- a code of four digits that is neither scalar nor high is a low surrogate
+pub not_scalar_low : (u : ℕ) → OutOfScalarRange u → u < 65536 → is_high_surrogate u ≡ false → IsTrue (is_low_surrogate u)
+not_scalar_low u o h i = grind (arith, nat_tests)
+
+-- ---- behind a backslash, and at the front
+
+-- an escape has a letter: that of a short one, or `u`
+escape_letter : (letters m more : List ℕ) → CharacterAt (92 ∷ letters) m more
+    → (b : ℕ) × (behind : List ℕ) × (letters ≡ b ∷ behind) × (((c : ℕ) × (short_escape b ≡ Some c)) ⊎ (b ≡ 117))
+escape_letter letters m more (w, c, e) = go c e
+  where
+    go : {w m : List ℕ} → Character w m → 92 ∷ letters ≡ w ++ more
+        → (b : ℕ) × (behind : List ℕ) × (letters ≡ b ∷ behind) × (((c : ℕ) × (short_escape b ≡ Some c)) ⊎ (b ≡ 117))
+    go (unescaped {b} h) e = absurd (not_both (is_unescaped 92) (let f : b ≡ 92 = heads _ _ _ _ (sym e) in rw f at h) refl)
+    go (short {b} {c} g) e = (b, more, tails _ _ _ _ e, inl (c, g))
+    go (unicode {h} {u} g i j) e = (117, h ++ more, tails _ _ _ _ e, inr refl)
+    go (pair {h} {l} {u} {v} g i j k) e = (117, (h ++ 92 ∷ 117 ∷ l) ++ more, tails _ _ _ _ e, inr refl)
+
+-- equal texts begin with one character
+pub same_text : (text other m rest : List ℕ) → text ≡ other → CharacterAt other m rest → CharacterAt text m rest
+same_text text other m rest e h = subst (λ (l : List ℕ). CharacterAt l m rest) (sym e) h
+
+-- and with none alike
+pub same_none : (text other : List ℕ) → text ≡ other → NoCharacter other → NoCharacter text
+same_none text other e h = subst (λ (l : List ℕ). NoCharacter l) (sym e) h
+
+-- a short escape is a character
+pub escape_found : (text letters rest : List ℕ) (c m : ℕ) → text ≡ 92 ∷ letters → letters ≡ c ∷ rest → short_escape c ≡ Some m → m < 128
+    → CharacterAt text (encode_utf8 m) rest
+escape_found text letters rest c m e f h ascii =
+    subst (λ (l : List ℕ). CharacterAt text l rest) (sym (encode_ascii m ascii))
+    (92 ∷ c ∷ [], short h, e ∙ ap (λ (l : List ℕ). 92 ∷ l) f)
+
+-- no escape has a letter beyond ASCII
+pub escape_wide : (text letters : List ℕ) → text ≡ 92 ∷ letters → Past (λ b. nat_lt b 128) letters → NoEscape text
+escape_wide text letters e past others g m more at =
+    let found : CharacterAt (92 ∷ letters) m more = subst (λ (l : List ℕ). CharacterAt l m more) e at in
+    let l = escape_letter letters m more found in
+    let small : l.0 < 128 = elim l.3 [ inl (d, k) ↦ short_ascii l.0 d k | inr u ↦ rw u (omega arith) ] in
+    past_first (λ b. nat_lt b 128) letters l.0 l.1 past l.2 (lt-ltb l.0 128 small)

@@ -1,0 +1,86 @@
+-- The words `null`, `true` and `false`: what is read of one, and why none is.
+use Rattle.std.proofs.Common.{◌≡◌, ℕ, ◌≤◌, true, false, List, ◌∷◌, ◌++◌, refl, sym, ap, ◌∙◌, arith}
+use Rattle.std.specs.Prelude.{◌≢◌}
+use Rattle.ijson_value.specs.Tree.{Tree, null, boolean, depth}
+use Rattle.ijson_json.specs.Grammar.{IsValue, null_text, boolean_text}
+use Rattle.ijson_json.specs.Limits.{max_depth}
+use Rattle.ijson_json.specs.Ranged.{is_ranged}
+use Rattle.ijson_json.specs.Settled.{settled}
+use Rattle.ijson_json.specs.private.Reading.{Ends, NoValue, ReadAs}
+use Rattle.ijson_json.specs.private.Explains.{Explains, WordFault}
+use Rattle.ijson_json.specs.declared.fault.Fault.{Fault}
+use Rattle.ijson_json.specs.declared.fault.Fault.TheVariants as faults
+use Rattle.ijson_json.proofs.scanning.Prefixes.{heads, heads_apart}
+use Rattle.ijson_json.proofs.grammar.FirstBytes.{kind, tree_kind, value_first}
+
+-- the word that begins with this byte and spells this tree, and that no other value begins as
+pub record Word (b : ℕ) (word : List ℕ) (t : Tree) : Type 0 where
+  pub spells : IsValue t word
+  pub alone : (u : Tree) (front : List ℕ) → IsValue u front → kind b ≡ tree_kind u → (others : List ℕ) × (front ≡ b ∷ others)
+      → front ≡ word
+  pub ends : (rest : List ℕ) → Ends t rest
+  pub flat : depth t ≡ 0
+  pub ranged : is_ranged t ≡ true
+  pub settles : t ≡ settled t
+
+-- of the values `null` alone begins with an n
+null_alone : (t : Tree) (front : List ℕ) → IsValue t front → kind 110 ≡ tree_kind t → (others : List ℕ) × (front ≡ 110 ∷ others)
+    → front ≡ null_text
+null_alone null front v k o = v
+null_alone t front v k o = absurd (omega (arith, k))
+
+-- the word `null`
+pub null_word : Word 110 null_text null
+null_word = record { spells = refl; alone = null_alone; ends = λ rest. tt; flat = refl; ranged = refl; settles = refl }
+
+-- of the values `true` alone begins with a t
+true_alone : (t : Tree) (front : List ℕ) → IsValue t front → kind 116 ≡ tree_kind t → (others : List ℕ) × (front ≡ 116 ∷ others)
+    → front ≡ boolean_text true
+true_alone (boolean true) front v k o = v
+true_alone (boolean false) front v k o = absurd (heads_apart 102 116 _ _ (sym v ∙ o.1) refl)
+true_alone t front v k o = absurd (omega (arith, k))
+
+-- the word `true`
+pub true_word : Word 116 (boolean_text true) (boolean true)
+true_word = record { spells = refl; alone = true_alone; ends = λ rest. tt; flat = refl; ranged = refl; settles = refl }
+
+-- of the values `false` alone begins with an f
+false_alone : (t : Tree) (front : List ℕ) → IsValue t front → kind 102 ≡ tree_kind t → (others : List ℕ) × (front ≡ 102 ∷ others)
+    → front ≡ boolean_text false
+false_alone (boolean false) front v k o = v
+false_alone (boolean true) front v k o = absurd (heads_apart 116 102 _ _ (sym v ∙ o.1) refl)
+false_alone t front v k o = absurd (omega (arith, k))
+
+-- the word `false`
+pub false_word : Word 102 (boolean_text false) (boolean false)
+false_word = record { spells = refl; alone = false_alone; ends = λ rest. tt; flat = refl; ranged = refl; settles = refl }
+
+module _ {b : ℕ} {word : List ℕ} {t : Tree} (w : Word b word t) where
+  -- the word was read
+  pub word_read : (opened : ℕ) (text rest : List ℕ) → opened ≤ max_depth → text ≡ word ++ rest → ReadAs opened text t rest
+  word_read opened text rest within is = (
+    t,
+    record {
+      found = record { front = word; holds = w.spells; is = is };
+      ends = w.ends rest;
+      deep = omega (arith, w.flat, within);
+      ranged = w.ranged;
+    },
+    w.settles,
+  )
+
+  -- a text that begins as the word does, and does not go on with it, begins with no value
+  word_alone : (text more : List ℕ) → text ≡ b ∷ more → ((rest : List ℕ) → text ≢ word ++ rest) → NoValue text
+  word_alone text more e n u x stops g =
+      let f = value_first u g.front g.holds in
+      let same : b ≡ f.0 = heads b f.0 more (f.1 ++ x) (sym e ∙ g.is ∙ ap (λ (l : List ℕ). l ++ x) f.3) in
+      let front : g.front ≡ word = w.alone u g.front g.holds (ap kind same ∙ f.2) (f.1, f.3 ∙ ap (λ (c : ℕ). c ∷ f.1) (sym same)) in
+      n x (g.is ∙ ap (λ (l : List ℕ). l ++ x) front)
+
+  -- a fault in the word
+  pub word_fault : (opened : ℕ) (text more : List ℕ) (fault : Fault) → text ≡ b ∷ more → WordFault text word fault
+      → Explains opened text fault
+  word_fault opened text more (faults.Syntax left) e h = (h.0, word_alone text more e h.1)
+  word_fault opened text more (faults.TooDeep left) e h = absurd h
+  word_fault opened text more (faults.NumberRange left) e h = absurd h
+  word_fault opened text more faults.Memory e h = absurd h

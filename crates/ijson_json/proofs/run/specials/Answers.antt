@@ -1,5 +1,0 @@
-use Rattle.ijson_json.proofs.Lanes.{specials_mask}
-use Rattle.ijson_json.proofs.run.specials.Goals as goal
-
-pub returns : goal.returns
-returns g c = specials_mask c.args.bytes g.row.N c.fits-bytes.0 c.requires

@@ -1,0 +1,81 @@
+-- One byte more is passed.
+use Rattle.std.proofs.Common.{◌≡◌, ◌≢◌, ◌+◌, ◌++◌, ◌≤◌, ℕ, suc, Bool, List, [], ◌∷◌, inl, inr, true, false, cond, length, refl, sym, ap, ◌∙◌, arith, append_assoc}
+use Rattle.std.specs.Prelude.{nat_eq}
+use Rattle.std.proofs.lemmas.Bool.Decides.{nat_tests}
+use Rattle.std.proofs.lemmas.List.{append-nil, length-append}
+use Rattle.ijson_json.specs.LineColumn.{begins, line_feeds, characters, Passes}
+
+line_feeds-append : (xs ys : List ℕ) → line_feeds (xs ++ ys) ≡ line_feeds xs + line_feeds ys
+line_feeds-append [] ys = omega arith
+line_feeds-append (x ∷ xs) ys = elim (nat_eq x 10) as (λ b. cond b (suc (line_feeds (xs ++ ys))) (line_feeds (xs ++ ys)) ≡ cond b (suc (line_feeds xs)) (line_feeds xs) + line_feeds ys) [
+  | true ↦ omega (arith, line_feeds-append xs ys)
+  | false ↦ line_feeds-append xs ys
+]
+
+characters-append : (xs ys : List ℕ) → characters (xs ++ ys) ≡ characters xs + characters ys
+characters-append [] ys = omega arith
+characters-append (x ∷ xs) ys = elim (begins x) as (λ b. cond b (suc (characters (xs ++ ys))) (characters (xs ++ ys)) ≡ cond b (suc (characters xs)) (characters xs) + characters ys) [
+  | true ↦ omega (arith, characters-append xs ys)
+  | false ↦ characters-append xs ys
+]
+
+-- before any byte
+pub none_passed : Passes [] 0 0
+none_passed = ([], [], refl, inl refl, refl, refl, refl)
+
+-- a line feed ends a line
+pub line_feed_passed : (bytes : List ℕ) (lines more : ℕ) → Passes bytes lines more → Passes (bytes ++ 10 ∷ []) (lines + 1) 0
+line_feed_passed bytes lines more f = (
+  bytes ++ 10 ∷ [],
+  [],
+  sym (append-nil (bytes ++ 10 ∷ [])),
+  inr (bytes, refl),
+  refl,
+  omega (arith, f.5, line_feeds-append bytes (10 ∷ [])),
+  refl,
+)
+
+-- another byte goes on with the line
+further : (bytes : List ℕ) (lines more b now : ℕ) → Passes bytes lines more → b ≢ 10 → now ≡ more + characters (b ∷ [])
+    → Passes (bytes ++ b ∷ []) lines now
+further bytes lines more b now f other counts =
+    let none : line_feeds (b ∷ []) ≡ 0 = grind (arith, nat_tests, other) in (
+      f.0,
+      f.1 ++ b ∷ [],
+      ap (λ xs. xs ++ b ∷ []) f.2 ∙ append_assoc f.0 f.1 (b ∷ []),
+      f.3,
+      omega (arith, line_feeds-append f.1 (b ∷ []), f.4, none),
+      omega (arith, f.5, line_feeds-append bytes (b ∷ []), none),
+      omega (arith, f.6, characters-append f.1 (b ∷ []), counts),
+    )
+
+counted : (b : ℕ) (is : Bool) → begins b ≡ is → characters (b ∷ []) ≡ cond is 1 0
+counted b is e = ap (λ c. cond c (suc (characters [])) (characters [])) e
+
+-- and begins a character or none
+pub first_passed : (bytes : List ℕ) (lines more b : ℕ) → Passes bytes lines more → b ≢ 10 → begins b ≡ true → Passes (bytes ++ b ∷ []) lines (more + 1)
+first_passed bytes lines more b f other is = further bytes lines more b (more + 1) f other (omega (arith, counted b true is))
+
+pub other_passed : (bytes : List ℕ) (lines more b : ℕ) → Passes bytes lines more → b ≢ 10 → begins b ≡ false → Passes (bytes ++ b ∷ []) lines more
+other_passed bytes lines more b f other is = further bytes lines more b more f other (omega (arith, counted b false is))
+
+-- neither is more than the bytes
+line_feeds-within : (bytes : List ℕ) → line_feeds bytes ≤ length bytes
+line_feeds-within [] = omega arith
+line_feeds-within (b ∷ bytes) = elim (nat_eq b 10) as (λ c. cond c (suc (line_feeds bytes)) (line_feeds bytes) ≤ suc (length bytes)) [
+  | true ↦ omega (arith, line_feeds-within bytes)
+  | false ↦ omega (arith, line_feeds-within bytes)
+]
+
+characters-within : (bytes : List ℕ) → characters bytes ≤ length bytes
+characters-within [] = omega arith
+characters-within (b ∷ bytes) = elim (begins b) as (λ c. cond c (suc (characters bytes)) (characters bytes) ≤ suc (length bytes)) [
+  | true ↦ omega (arith, characters-within bytes)
+  | false ↦ omega (arith, characters-within bytes)
+]
+
+pub lines_within : (bytes : List ℕ) (lines more : ℕ) → Passes bytes lines more → lines ≤ length bytes
+lines_within bytes lines more f = omega (arith, f.5, line_feeds-within bytes)
+
+pub more_within : (bytes : List ℕ) (lines more : ℕ) → Passes bytes lines more → more ≤ length bytes
+more_within bytes lines more f = omega (arith, f.6, characters-within f.1, ap length f.2, length-append f.0 f.1)

@@ -1,0 +1,67 @@
+-- Runs of bytes that pass a test, at the front of a text.
+use Rattle.std.proofs.Common.{◌≡◌, ℕ, ◌≤◌, Bool, true, false, List, [], ◌∷◌, ◌++◌, length, refl, sym, ap, ◌∙◌, append_assoc, eqb, eq-eqb}
+use Rattle.std.proofs.Common.{arith}
+use Rattle.std.specs.Prelude.{IsTrue}
+use Rattle.std.specs.List.{AllByRecursion}
+use Rattle.std.proofs.lemmas.List.{length-append}
+use Rattle.ijson_json.specs.private.Reading.{Closes, Front, Past, Skips}
+
+-- each byte passes
+abbrev pub Run : (ℕ → Bool) → List ℕ → Type 0
+Run p bs = AllByRecursion (λ b. IsTrue (p b)) bs
+
+-- a test does not both pass and fail
+pub not_both : (b : Bool) → b ≡ true → b ≡ false → ⊥
+not_both true e f = cc
+not_both false e f = cc
+
+-- a text whose first byte fails does not begin with one that passes
+pub past_first : (p : ℕ → Bool) (x : List ℕ) (c : ℕ) (cs : List ℕ) → Past p x → x ≡ c ∷ cs → IsTrue (p c) → ⊥
+past_first p [] c cs h e t = cc
+past_first p (b ∷ x) c cs h e t = let same : b ≡ c = cc in not_both (p c) t (rw (← same) h)
+
+-- equal texts begin with one byte
+pub heads : (a b : ℕ) (x y : List ℕ) → a ∷ x ≡ b ∷ y → a ≡ b
+heads a b x y e = cc
+
+-- equal texts go on alike
+pub tails : (a b : ℕ) (x y : List ℕ) → a ∷ x ≡ b ∷ y → x ≡ y
+tails a b x y e = cc
+
+-- two bytes that differ begin two texts
+pub heads_apart : (a b : ℕ) (x y : List ℕ) → a ∷ x ≡ b ∷ y → eqb a b ≡ false → ⊥
+heads_apart a b x y e f = not_both (eqb a b) (eq-eqb a b (heads a b x y e)) f
+
+-- the longest run is one
+pub run_same : (p : ℕ → Bool) (a b x y : List ℕ) → Run p a → Run p b → Past p x → Past p y → a ++ x ≡ b ++ y → (a ≡ b) × (x ≡ y)
+run_same p [] [] x y ra rb px py e = (refl, e)
+run_same p [] (c ∷ b) x y ra rb px py e = absurd (past_first p x c (b ++ y) px e rb.0)
+run_same p (c ∷ a) [] x y ra rb px py e = absurd (past_first p y c (a ++ x) py (sym e) ra.0)
+run_same p (c ∷ a) (d ∷ b) x y ra rb px py e =
+    let first : c ≡ d = cc in
+    let rest : a ++ x ≡ b ++ y = cc in
+    let same : (a ≡ b) × (x ≡ y) = run_same p a b x y ra.1 rb.1 px py rest in
+    let whole : c ∷ a ≡ d ∷ b = cc (first, same.0) in
+    (whole, same.1)
+
+-- two runs make one
+pub run-append : (p : ℕ → Bool) (a b : List ℕ) → Run p a → Run p b → Run p (a ++ b)
+run-append p [] b ra rb = rb
+run-append p (c ∷ a) b ra rb = (ra.0, run-append p a b ra.1 rb)
+
+-- one more byte passes
+pub run_more : (p : ℕ → Bool) (text rest more : List ℕ) {b : ℕ} → (s : List ℕ) × Run p s × (text ≡ s ++ rest) → rest ≡ b ∷ more
+    → true ≡ p b → (s : List ℕ) × Run p s × (text ≡ s ++ more)
+run_more p text rest more {b} (s, r, e) f h = (s ++ b ∷ [], run-append p s (b ∷ []) r (sym h, tt), rw (e, f) (simp append_assoc))
+
+-- what stands behind the front is no longer than the text
+pub front_shorter : (P : List ℕ → Type 0) (text rest : List ℕ) → Front P text rest → length rest ≤ length text
+front_shorter P text rest f = omega (arith, ap length f.is, length-append f.front rest)
+
+-- nor is what stands behind white space
+pub skips_shorter : (text rest : List ℕ) → Skips text rest → length rest ≤ length text
+skips_shorter text rest s = omega (arith, ap length s.is, length-append s.space rest)
+
+-- white space was passed, and the closing byte stands behind it
+pub closes : (closing : ℕ) (text start rest : List ℕ) → Skips text start → start ≡ closing ∷ rest → Closes closing text rest
+closes closing text start rest s e = record { space = s.space; passed = s.passed; is = s.is ∙ ap (λ (l : List ℕ). s.space ++ l) e }

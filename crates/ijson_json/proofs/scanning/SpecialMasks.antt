@@ -1,0 +1,210 @@
+-- The bytes of a vector that must stand in an escape, or end the string, as a mask; and masks with a bit for the end.
+use Rattle.std.proofs.Common.{◌≡◌, ℕ, zero, suc, ◌+◌, ◌-◌, ◌*◌, ◌/◌, ◌%◌, ◌^◌, ◌<◌, ◌≤◌, Bool, true, false, cond, eqb, ltb, List, []}
+use Rattle.std.proofs.Common.{◌∷◌, ◌++◌, map, length, length-append, length-drop, take, drop, append_assoc, replicate, refl, sym, ap}
+use Rattle.std.proofs.Common.{ap₂, ◌∙◌, arith, div-one, div-le_self, lt_of_lt_of_le, mod-eq_of_lt, one-mul, pow-suc}
+use Rattle.std.specs.Int.Bits.{or_self, or_shifted_r}
+use Rattle.std.specs.Prelude.{not, ◌&&◌, nat_le}
+use Rattle.std.specs.List.{prefix_len}
+use Rattle.std.proofs.Math.Pow.{pow_mono}
+use Rattle.std.proofs.Math.Seq.{take-add}
+use Rattle.std.proofs.lemmas.Bool.Decides.{nat_tests}
+use Rattle.std.proofs.lemmas.List.{length-map, length-take-le, drop-append-le, drop-drop, drop-map, take_all, take-append-drop}
+use Rattle.std.proofs.lemmas.Nat.{one_shl, or_block, pow_pos, shr-shr}
+use Rattle.std.proofs.lemmas.Simd.{zip2_splat, zip2-map, mask_l-lt, mask_l-mod}
+use Rattle.std.proofs.lemmas.Simd.{trailing_mask_l}
+use Rattle.ijson_json.proofs.scanning.UnescapedRuns.{run_twice}
+use lib.Bits.{bit_or, or_zero_r}
+use lib.Count.{count_trailing_zeros}
+use lib.Lanes.{chunk, mask_l, top, zip2}
+use Rattle.ijson_json.specs.Strings.{is_unescaped}
+
+-- what a test leaves in a lane
+abbrev lit : Bool → ℕ
+lit b = cond b 255 0
+
+-- the byte must stand in an escape, or ends the string
+abbrev special : ℕ → Bool
+special b = not (is_unescaped b)
+
+-- what the three tests leave in the lane of a byte
+abbrev lane : ℕ → ℕ
+lane b = bit_or (bit_or (lit (eqb b 34)) (lit (eqb b 92))) (lit (ltb b 32))
+
+-- the high bit of a lane is that of any of its tests
+three : (quote slash low : Bool) → top 7 (bit_or (bit_or (lit quote) (lit slash)) (lit low)) ≡ not (not low && (not quote && not slash))
+three true true true = refl
+three true true false = refl
+three true false true = refl
+three true false false = refl
+three false true true = refl
+three false true false = refl
+three false false true = refl
+three false false false = refl
+
+-- at least is not below
+not_below : (a b : ℕ) → nat_le a b ≡ not (ltb b a)
+not_below a b = grind (arith, nat_tests)
+
+-- the high bit of a lane tells of its byte
+lane_is : (b : ℕ) → top 7 (lane b) ≡ special b
+lane_is b = three (eqb b 34) (eqb b 92) (ltb b 32) ∙ ap (λ t. not (t && (not (eqb b 34) && not (eqb b 92)))) (sym (not_below 32 b))
+
+-- and so do those of all lanes
+lanes_are : (v : List ℕ) → map (top 7) (map lane v) ≡ map special v
+lanes_are [] = refl
+lanes_are (b ∷ v) = ap₂ ◌∷◌ (lane_is b) (lanes_are v)
+
+-- the mask that the vector gives
+pub specials_mask : (v : List ℕ) (n : ℕ) → length v ≡ n → n ≤ 64
+    → mask_l (map (top 7) (zip2 bit_or (zip2 bit_or (zip2 (λ a b. lit (eqb a b)) v (replicate n 34))
+    (zip2 (λ a b. lit (eqb a b)) v (replicate n 92))) (zip2 (λ a b. lit (ltb a b)) v (replicate n 32)))) % 2 ^ 64
+    ≡ mask_l (map (λ byte. not (is_unescaped byte)) v)
+specials_mask v n long short =
+    ap (λ m. mask_l (map (top 7) m) % 2 ^ 64)
+    (ap₂ (zip2 bit_or)
+    (ap₂ (zip2 bit_or) (zip2_splat (λ a b. lit (eqb a b)) v n 34 long) (zip2_splat (λ a b. lit (eqb a b)) v n 92 long)
+    ∙ zip2-map bit_or (λ b. lit (eqb b 34)) (λ b. lit (eqb b 92)) v)
+    (zip2_splat (λ a b. lit (ltb a b)) v n 32 long)
+    ∙ zip2-map bit_or (λ b. bit_or (lit (eqb b 34)) (lit (eqb b 92))) (λ b. lit (ltb b 32)) v)
+    ∙ ap (λ m. mask_l m % 2 ^ 64) (lanes_are v)
+    ∙ mask_l-mod (map special v) 64 (omega (arith, length-map v special))
+
+-- without its lowest bit a mask is that of the others
+bit_above : (b : Bool) (m : ℕ) → (cond b 1 0 + 2 * m) / 2 ^ 1 ≡ m
+bit_above true m = omega arith
+bit_above false m = omega arith
+
+-- without its lowest bits a mask is that of the lanes behind them
+mask_dropped : (ms : List Bool) (k : ℕ) → mask_l ms / 2 ^ k ≡ mask_l (drop k ms)
+mask_dropped ms zero = div-one (mask_l ms)
+mask_dropped [] (suc k) = omega (arith, div-le_self 0 (2 ^ suc k))
+mask_dropped (b ∷ ms) (suc k) =
+    ap (λ j. (cond b 1 0 + 2 * mask_l ms) / 2 ^ j) (omega arith) ∙ sym (shr-shr (cond b 1 0 + 2 * mask_l ms) 1 k)
+    ∙ ap (λ m. m / 2 ^ k) (bit_above b (mask_l ms)) ∙ mask_dropped ms k
+
+-- the mask of two texts in a row
+mask_joined : (xs ys : List ℕ) → mask_l (map special (xs ++ ys)) ≡ mask_l (map special xs) + 2 ^ length xs * mask_l (map special ys)
+mask_joined [] ys = omega arith
+mask_joined (x ∷ xs) ys = rw (mask_joined xs ys, pow-suc 2 (length xs)) (omega arith)
+
+-- a mask of n bytes has n bits
+mask_below : (xs : List ℕ) (n : ℕ) → length xs ≡ n → mask_l (map special xs) < 2 ^ n
+mask_below xs n long = omega (arith, mask_l-lt (map special xs), ap (λ k. 2 ^ k) (length-map xs special ∙ long))
+
+-- a bit behind the mask of some bytes is that of a quote behind them
+quote_marked : (xs : List ℕ) → mask_l (map special (xs ++ 34 ∷ [])) ≡ mask_l (map special xs) + 2 ^ length xs
+quote_marked xs = mask_joined xs (34 ∷ []) ∙ omega arith
+
+-- a mask with a bit behind it
+pub end_marked : (v : List ℕ) (n : ℕ) → length v ≡ n → n < 64
+    → bit_or (mask_l (map (λ b. not (is_unescaped b)) v)) (1 * 2 ^ n % 2 ^ 64) ≡ mask_l (map (λ b. not (is_unescaped b)) v) + 2 ^ n
+end_marked v n long short =
+    let m = mask_l (map special v) in
+    ap (bit_or m) (one_shl n 64 short ∙ sym (one-mul (2 ^ n))) ∙ or_shifted_r 1 n m (mask_below v n long) ∙ omega arith
+
+-- a quote behind the bytes ends their run where they do
+run_before_quote : (xs : List ℕ) → prefix_len is_unescaped (xs ++ 34 ∷ []) ≡ prefix_len is_unescaped xs
+run_before_quote [] = refl
+run_before_quote (x ∷ xs) = ap (λ n. cond (is_unescaped x) (1 + n) 0) (run_before_quote xs)
+
+-- where a quote stands behind the bytes, the lowest bit from a place on is where the run from there ends
+run_to_quote : (d : List ℕ) (start : ℕ) → start ≤ length d → length d < start + 64
+    → count_trailing_zeros 64 (mask_l (map special (d ++ 34 ∷ [])) / 2 ^ start) ≡ prefix_len is_unescaped (drop start d)
+run_to_quote d start inside short =
+    let left = drop start d in
+    let some : 0 < mask_l (map special (left ++ 34 ∷ [])) = omega (arith, quote_marked left, pow_pos (length left)) in
+    ap (count_trailing_zeros 64)
+    (mask_dropped (map special (d ++ 34 ∷ [])) start ∙ ap mask_l (drop-map special start (d ++ 34 ∷ [])
+    ∙ ap (map special) (drop-append-le start d (34 ∷ []) inside)))
+    ∙ trailing_mask_l special 64 (left ++ 34 ∷ []) (omega (arith, length-append left (34 ∷ []), length-drop start d)) some
+    ∙ run_twice is_unescaped (left ++ 34 ∷ []) ∙ run_before_quote left
+
+-- the mask of the last n bytes with a bit behind it is that of these with a quote behind them
+last_marked : (d : List ℕ) (n found : ℕ) → n ≤ length d
+    → found ≡ mask_l (map (λ b. not (is_unescaped b)) (chunk (length d - n) n d)) + 2 ^ n
+    → found ≡ mask_l (map special (drop (length d - n) d ++ 34 ∷ []))
+last_marked d n found room is =
+    let last = drop (length d - n) d in
+    let long : length last ≡ n = omega (arith, length-drop (length d - n) d) in
+    is ∙ ap₂ ◌+◌ (ap (λ l. mask_l (map special l)) (take_all n last (omega arith))) (ap (λ k. 2 ^ k) (sym long)) ∙ sym (quote_marked last)
+
+-- it tells where the run from a place among these bytes ends
+pub run_in_last : (d : List ℕ) (n at found : ℕ) → n < 64 → n ≤ length d → at ≤ length d → length d ≤ at + n
+    → found ≡ mask_l (map (λ b. not (is_unescaped b)) (chunk (length d - n) n d)) + 2 ^ n
+    → count_trailing_zeros 64 (found / 2 ^ (at - (length d - n))) ≡ prefix_len is_unescaped (drop at d)
+run_in_last d n at found short room inside few is =
+    let first : ℕ = length d - n in
+    let long : length (drop first d) ≡ n = omega (arith, length-drop first d) in
+    ap (λ m. count_trailing_zeros 64 (m / 2 ^ (at - first))) (last_marked d n found room is)
+    ∙ run_to_quote (drop first d) (at - first) (omega arith) (omega arith)
+    ∙ ap (prefix_len is_unescaped) (drop-drop (at - first) first d ∙ ap (λ k. drop k d) (omega arith))
+
+-- the mask of the first k + j bytes is that of k of them, and above it that of the others
+first_masks : (d : List ℕ) (k j : ℕ) → k ≤ length d
+    → mask_l (map special (take (k + j) d)) ≡ mask_l (map special (take k d)) + 2 ^ k * mask_l (map special (take j (drop k d)))
+first_masks d k j inside =
+    ap (λ l. mask_l (map special l)) (take-add k j d) ∙ mask_joined (take k d) (take j (drop k d))
+    ∙ ap (λ n. mask_l (map special (take k d)) + 2 ^ n * mask_l (map special (take j (drop k d)))) (length-take-le k d inside)
+
+-- that of all, with a quote behind them, is that of the first k, and above it that of the others
+quoted_masks : (d : List ℕ) (k : ℕ) → k ≤ length d
+    → mask_l (map special (d ++ 34 ∷ [])) ≡ mask_l (map special (take k d)) + 2 ^ k * mask_l (map special (drop k d ++ 34 ∷ []))
+quoted_masks d k inside =
+    ap (λ l. mask_l (map special (l ++ 34 ∷ []))) (sym (take-append-drop k d))
+    ∙ ap (λ l. mask_l (map special l)) (append_assoc (take k d) (drop k d) (34 ∷ []))
+    ∙ mask_joined (take k d) (drop k d ++ 34 ∷ [])
+    ∙ ap (λ n. mask_l (map special (take k d)) + 2 ^ n * mask_l (map special (drop k d ++ 34 ∷ []))) (length-take-le k d inside)
+
+-- the mask of fewer than 64 bytes and a quote has 64 bits
+quoted_fits : (d : List ℕ) → length d < 64 → mask_l (map special (d ++ 34 ∷ [])) < 2 ^ 64
+quoted_fits d short =
+    lt_of_lt_of_le (mask_below (d ++ 34 ∷ []) (length d + 1) (length-append d (34 ∷ [])))
+    (pow_mono {i = length d + 1} {j = 64} (omega arith))
+
+-- two masks whose bits in the middle are the same make one that has these once
+overlapping : (k j low mid high : ℕ) → low < 2 ^ k → mid < 2 ^ j
+    → bit_or (low + 2 ^ k * mid) ((mid + 2 ^ j * high) * 2 ^ k) ≡ low + 2 ^ k * (mid + 2 ^ j * high)
+overlapping k j low mid high small inner =
+    let behind : ℕ = mid + 2 ^ j * high in
+    let first : low + 2 ^ k * mid ≡ mid * 2 ^ k + low = omega arith in
+    let last : behind * 2 ^ k ≡ behind * 2 ^ k + 0 = omega arith in
+    let all : behind ≡ high * 2 ^ j + mid = omega arith in
+    let none : mid ≡ 0 * 2 ^ j + mid = omega arith in
+    let same : bit_or mid behind ≡ behind =
+    ap₂ bit_or none all ∙ or_block j 0 high mid mid inner inner ∙ ap (λ n. high * 2 ^ j + n) (or_self mid) ∙ sym all in
+    ap₂ bit_or first last ∙ or_block k mid behind low 0 small (pow_pos k) ∙ ap₂ (λ m n. m * 2 ^ k + n) same (or_zero_r low) ∙ omega arith
+
+-- the masks of the first n bytes and of the last, with a bit behind these, make that of all with a quote behind them
+all_marked : (d : List ℕ) (n first behind : ℕ) → n < 32 → n ≤ length d → length d ≤ 2 * n
+    → first ≡ mask_l (map (λ b. not (is_unescaped b)) (chunk 0 n d))
+    → behind ≡ mask_l (map (λ b. not (is_unescaped b)) (chunk (length d - n) n d)) + 2 ^ n
+    → bit_or first (behind * 2 ^ (length d - n) % 2 ^ 64) ≡ mask_l (map special (d ++ 34 ∷ []))
+all_marked d n first behind short room few is is_behind =
+    let k : ℕ = length d - n in
+    let j : ℕ = n - k in
+    let last = drop k d in
+    let low : ℕ = mask_l (map special (take k d)) in
+    let mid : ℕ = mask_l (map special (take j last)) in
+    let high : ℕ = mask_l (map special (drop j last ++ 34 ∷ [])) in
+    let inside : k ≤ length d = omega arith in
+    let inner : j ≤ length last = omega (arith, length-drop k d) in
+    let marked = last_marked d n behind room is_behind in
+    let front : first ≡ low + 2 ^ k * mid = is ∙ ap (λ m. mask_l (map special (take m d))) (omega arith) ∙ first_masks d k j inside in
+    let back : behind ≡ mid + 2 ^ j * high = marked ∙ quoted_masks last j inner in
+    let whole : mask_l (map special (d ++ 34 ∷ [])) ≡ low + 2 ^ k * behind = quoted_masks d k inside
+    ∙ ap (λ b. low + 2 ^ k * b) (sym marked) in
+    let kept : behind * 2 ^ k % 2 ^ 64 ≡ (mid + 2 ^ j * high) * 2 ^ k = mod-eq_of_lt (omega (arith, whole, quoted_fits d (omega arith)))
+    ∙ ap (λ b. b * 2 ^ k) back in
+    ap₂ bit_or front kept
+    ∙ overlapping k j low mid high (mask_below (take k d) k (length-take-le k d inside))
+    (mask_below (take j last) j (length-take-le j last inner))
+    ∙ ap (λ b. low + 2 ^ k * b) (sym back) ∙ sym whole
+
+-- and so they tell where the run from a place ends
+pub run_in_two : (d : List ℕ) (n first behind start : ℕ) → n < 32 → n ≤ length d → length d ≤ 2 * n → start ≤ length d
+    → first ≡ mask_l (map (λ b. not (is_unescaped b)) (chunk 0 n d))
+    → behind ≡ mask_l (map (λ b. not (is_unescaped b)) (chunk (length d - n) n d)) + 2 ^ n
+    → count_trailing_zeros 64 (bit_or first (behind * 2 ^ (length d - n) % 2 ^ 64) / 2 ^ start) ≡ prefix_len is_unescaped (drop start d)
+run_in_two d n first behind start short room few inside is is_behind =
+    ap (λ m. count_trailing_zeros 64 (m / 2 ^ start)) (all_marked d n first behind short room few is is_behind)
+    ∙ run_to_quote d start inside (omega arith)

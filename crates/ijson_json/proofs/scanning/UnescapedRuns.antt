@@ -1,0 +1,72 @@
+-- Runs of bytes that stand for themselves in a string.
+use Rattle.std.proofs.Common.{◌≡◌, ℕ, ◌+◌, ◌<◌, Bool, true, false, cond, List, [], ◌∷◌, length, take, drop, get_or, refl, ap, arith}
+use Rattle.std.proofs.Common.{add-zero, ltb}
+use Rattle.std.specs.Prelude.{IsTrue, not, unwrap_or, Some, None}
+use Rattle.std.specs.List.{prefix_len, position, position_or_len}
+use Rattle.std.specs.Str.{IsCharBoundary}
+use Rattle.std.proofs.lemmas.Bool.{ltb-true, ltb-false}
+use Rattle.std.proofs.lemmas.Bool.Decides.{nat_tests}
+use Rattle.std.proofs.lemmas.List.{get_or-take, get_or-drop, length-drop}
+use Rattle.std.proofs.lemmas.List.Elements.{recursion_from_All}
+use Rattle.std.proofs.lemmas.List.Folds.{length-prefix_len}
+use Rattle.std.proofs.lemmas.List.Sums.{prefix_len_passes, prefix_len_stops, prefix_len-le-length}
+use Rattle.std.proofs.lemmas.Str.{IsCharBoundary-before_ascii, IsCharBoundary-end}
+use Rattle.ijson_json.specs.Strings.{is_unescaped}
+use Rattle.ijson_json.specs.private.Reading.{Past}
+use Rattle.ijson_json.proofs.scanning.Prefixes.{Run}
+
+-- the longest run passes, and stops where a byte does not
+pub run_passes : (p : ℕ → Bool) (xs : List ℕ) → Run p (take (prefix_len p xs) xs)
+run_passes p xs = recursion_from_All (λ b. IsTrue (p b)) _ (λ k d h.
+    let below : k < prefix_len p xs = omega (arith, length-prefix_len p xs, h) in
+    rw (get_or-take (prefix_len p xs) xs k d below) (prefix_len_passes p xs k d below))
+
+-- a text whose first byte fails is past the test
+past_at_first : (p : ℕ → Bool) (xs : List ℕ) → (0 < length xs → p (get_or xs 0 0) ≡ false) → Past p xs
+past_at_first p [] h = tt
+past_at_first p (x ∷ xs) h = h (omega arith)
+
+-- behind the longest run no byte passes
+pub run_stops : (p : ℕ → Bool) (xs : List ℕ) → Past p (drop (prefix_len p xs) xs)
+run_stops p xs = past_at_first p _ (λ more.
+    let inside : prefix_len p xs < length xs = omega (arith, length-drop (prefix_len p xs) xs, more) in
+    rw (get_or-drop (prefix_len p xs) xs 0 0, add-zero (prefix_len p xs)) (prefix_len_stops p xs 0 inside))
+
+-- a byte that does not stand for itself is ASCII
+pub special_ascii : (b : ℕ) → is_unescaped b ≡ false → b < 128
+special_ascii b h = grind (arith, nat_tests)
+
+-- a text may be cut behind a run
+pub run_boundary : (text : List ℕ) → IsCharBoundary text (prefix_len is_unescaped text)
+run_boundary text = elim (ltb n (length text)) as (λ v. ltb n (length text) ≡ v → IsCharBoundary text n) [
+  | true ↦ λ inside. let h : n < length text = ltb-true n (length text) inside in
+      IsCharBoundary-before_ascii text n h (special_ascii _ (prefix_len_stops is_unescaped text 0 h))
+  | false ↦ λ outside. let h : n ≡ length text = omega (arith, ltb-false n (length text) outside, prefix_len-le-length is_unescaped text) in
+      rw h (IsCharBoundary-end text)
+] refl
+  where
+    n : ℕ
+    n = prefix_len is_unescaped text
+
+-- the first byte that does not fail the opposite test
+pub run_twice : (p : ℕ → Bool) (xs : List ℕ) → position_or_len (λ b. not (p b)) xs ≡ prefix_len p xs
+run_twice p [] = refl
+run_twice p (x ∷ xs) = elim (p x) as (λ v. cond (not (not v)) (1 + position_or_len (λ b. not (p b)) xs) 0 ≡ cond v
+    (1 + prefix_len p xs) 0) [
+      | true ↦ ap (λ n. 1 + n) (run_twice p xs)
+      | false ↦ refl
+    ]
+
+-- the first byte that fails ends the run, or the text does
+pub run_end : (p : ℕ → Bool) (xs : List ℕ) → unwrap_or (position (λ b. not (p b)) xs) (length xs) ≡ prefix_len p xs
+run_end p xs =
+    elim (ltb (position_or_len (λ b. not (p b)) xs) (length xs)) as (λ v. ltb (position_or_len (λ b. not (p b)) xs) (length xs) ≡ v
+    → unwrap_or (cond v (Some (position_or_len (λ b. not (p b)) xs)) None) (length xs) ≡ prefix_len p xs) [
+      | true ↦ λ _. run_twice p xs
+      | false ↦ λ outside. omega (
+        arith,
+        ltb-false (position_or_len (λ b. not (p b)) xs) (length xs) outside,
+        run_twice p xs,
+        prefix_len-le-length p xs,
+      )
+    ] refl

@@ -1,0 +1,41 @@
+-- The items of an array and the members of an object, as they are written one by one.
+use Rattle.std.proofs.Common.{◌≡◌, Bool, true, false, ℕ, List, [], ◌∷◌, ◌++◌, map, refl, ap, sym, ◌∙◌, append-nil}
+use Rattle.ijson_value.specs.WellFormed.{WellFormed, item_trees, pair_trees}
+use Rattle.ijson_json.specs.Separator.{separator}
+use Rattle.ijson_json.specs.Print.{quoted, print, print_items, print_members}
+
+-- texts one by one, each behind its separator
+abbrev pub joined : Bool → List (List ℕ) → List ℕ
+joined is_first [] = []
+joined is_first (text ∷ texts) = separator is_first ++ (text ++ joined false texts)
+
+-- where the text of several is that of the first, a comma and that of the others, they are written one by one
+module _ {X : Type 0} (text : X → List ℕ) (all : List X → List ℕ) (none : all [] ≡ [])
+    (one : (x : X) → all (x ∷ []) ≡ text x) (several : (x y : X) (xs : List X) → all (x ∷ y ∷ xs) ≡ text x ++ 44 ∷ all (y ∷ xs)) where
+  -- behind a first one, the others have a comma before them
+  joined_others : (x : X) (xs : List X) → joined false (map text (x ∷ xs)) ≡ 44 ∷ all (x ∷ xs)
+  joined_others x [] = ap (λ l. 44 ∷ l) (append-nil (text x) ∙ sym (one x))
+  joined_others x (y ∷ xs) = ap (λ l. 44 ∷ l) (ap (λ l. text x ++ l) (joined_others y xs) ∙ sym (several x y xs))
+
+  -- the texts one by one are the text of all
+  pub joined_all : (xs : List X) → joined true (map text xs) ≡ all xs
+  joined_all [] = sym none
+  joined_all (x ∷ []) = append-nil (text x) ∙ sym (one x)
+  joined_all (x ∷ y ∷ xs) = ap (λ l. text x ++ l) (joined_others y xs) ∙ sym (several x y xs)
+
+-- the texts of items
+abbrev pub item_texts : List WellFormed → List (List ℕ)
+item_texts vs = map (λ v. print v.tree) vs
+
+-- the texts of members: a key, a colon and a value
+abbrev pub member_texts : List (List ℕ × WellFormed) → List (List ℕ)
+member_texts ps = map (λ p. quoted p.0 ++ 58 ∷ print p.1.tree) ps
+
+-- the items, one by one
+pub joined-items : (vs : List WellFormed) → joined true (item_texts vs) ≡ print_items (item_trees vs)
+joined-items vs = joined_all (λ v. print v.tree) (λ vs. print_items (item_trees vs)) refl (λ v. refl) (λ v w vs. refl) vs
+
+-- the members, one by one
+pub joined-members : (ps : List (List ℕ × WellFormed)) → joined true (member_texts ps) ≡ print_members (pair_trees ps)
+joined-members ps =
+    joined_all (λ p. quoted p.0 ++ 58 ∷ print p.1.tree) (λ ps. print_members (pair_trees ps)) refl (λ p. refl) (λ p q ps. refl) ps

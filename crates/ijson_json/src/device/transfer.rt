@@ -1,0 +1,110 @@
+//! Reading to the end, and writing all of a text.
+ghost use Rattle.std.specs.Prelude.{◌≡◌, ◌+◌, ◌^◌, ◌<◌, ◌≤◌, take, drop, IfOk, OnOk, OnErr, Err};
+ghost use Rattle.std.specs.Io.KnownBytes.{Appends, Consumes, IsAtEnd};
+ghost use Rattle.std.specs.Vec.{vec_len};
+ghost use Rattle.ijson_json.specs.WritesBeginning.{WritesBeginning};
+ghost use Rattle.ijson_json.specs.declared.device.transfer.ReadFault.TheVariants.{Device, Memory};
+
+use crate::device::{DeviceFault, Sink, Source};
+use std::alloc::{AllocError, Global};
+
+/// For how many bytes room is made at a time.
+const PIECE: usize = 65_536;
+
+/// Why not all was read.
+#[derive(Debug, Drop)]
+pub(crate) enum ReadFault {
+    Device,
+    Memory,
+}
+
+impl From<DeviceFault> for ReadFault {
+    ghost from_gives = { λ _ fault. fault ≡ Device };
+
+    fn from(_fault: DeviceFault) -> ReadFault {
+        ReadFault::Device
+    }
+}
+
+impl From<AllocError> for ReadFault {
+    ghost from_gives = { λ _ fault. fault ≡ Memory };
+
+    fn from(_error: AllocError) -> ReadFault {
+        ReadFault::Memory
+    }
+}
+
+/// All that is left in `input`, read into the one buffer that is answered.
+pub(crate) fn read_all<R: Source>(alloc: Global, input: &mut R) -> Result<Vec<u8>, ReadFault>
+    requires { R.failed input.old + 1 < 2 ^ 64 }
+    ensures bytes { IfOk result (λ v. Consumes (R.left input.old) (R.left input.new) v.items) }
+    ensures end { OnOk result (IsAtEnd (R.left input.new)) }
+    ensures count { OnOk result (R.failed input.new ≡ R.failed input.old) }
+    ensures device { result ≡ Err Device → R.failed input.new ≡ R.failed input.old + 1 }
+    ensures memory { result ≡ Err Memory → R.failed input.new ≡ R.failed input.old }
+{
+    let mut bytes = Vec::new(alloc);
+    let mut filled = 0;
+    for _ in 0..u64::MAX {
+        let count = read_piece(input, &mut bytes, filled)?;
+        if count == 0 {
+            bytes.truncate(filled);
+            return Ok(bytes);
+        }
+        filled += count;
+    }
+    // each turn added a byte, and no list has so many
+    unreachable!()
+}
+
+/// Reads a piece behind the first `filled` bytes, with room made where there is none, and answers its
+/// length.
+fn read_piece<R: Source>(
+    input: &mut R,
+    bytes: &mut Vec<u8>,
+    filled: usize,
+) -> Result<usize, ReadFault>
+    requires steady { R.failed input.old + 1 < 2 ^ 64 }
+    requires within { filled ≤ vec_len bytes.old }
+    ensures kept { take filled bytes.new.items ≡ take filled bytes.old.items }
+    ensures within { IfOk result (λ n. filled + n ≤ vec_len bytes.new) }
+    ensures piece { IfOk result (λ n.
+        Consumes (R.left input.old) (R.left input.new) (take n (drop filled bytes.new.items))) }
+    ensures end { IfOk result (λ n. n ≡ 0 → IsAtEnd (R.left input.new)) }
+    ensures count { OnOk result (R.failed input.new ≡ R.failed input.old) }
+    ensures device { result ≡ Err Device → R.failed input.new ≡ R.failed input.old + 1 }
+    ensures memory { result ≡ Err Memory → R.failed input.new ≡ R.failed input.old }
+{
+    if filled == bytes.len() {
+        make_room(bytes)?;
+    }
+    let count = input.read(&mut bytes[filled..])?;
+    Ok(count)
+}
+
+/// Makes the list longer by a piece. Its memory doubles where it is full, and what is not read into stays untouched.
+fn make_room(bytes: &mut Vec<u8>) -> Result<(), AllocError>
+    ensures kept { take (vec_len bytes.old) bytes.new.items ≡ bytes.old.items }
+    ensures longer { OnOk result (vec_len bytes.old < vec_len bytes.new) }
+{
+    let Some(len) = bytes.len().checked_add(PIECE) else {
+        return Err(AllocError);
+    };
+    bytes.resize(len, 0)
+}
+
+/// Writes all of `text`.
+pub(crate) fn write_all<W: Sink>(output: &mut W, text: &[u8]) -> Result<(), DeviceFault>
+    requires { W.failed output.old + 1 < 2 ^ 64 }
+    ensures count { OnOk result (W.failed output.new ≡ W.failed output.old) }
+    ensures bytes { OnOk result (Appends (W.got output.old) (W.got output.new) text.now) }
+    ensures fault { OnErr result (W.failed output.new ≡ W.failed output.old + 1) }
+    ensures beginning { OnErr result
+        (WritesBeginning (W.got output.old) (W.got output.new) text.now) }
+{
+    let mut at = 0;
+    while at < text.len() {
+        at += output.write(&text[at..])?;
+    }
+    Ok(())
+}

@@ -1,0 +1,144 @@
+//! The escapes of a string.
+
+ghost use Rattle.std.specs.Prelude.{◌≡◌, ◌∷◌, ◌<◌, ◌≤◌, None, Some, IsTrue, IfSome, MatchOption};
+ghost use Rattle.std.specs.Char.{encode_utf8};
+ghost use Rattle.ijson_json.specs.Strings.{short_escape, hex_digit, is_high_surrogate, is_low_surrogate};
+ghost use Rattle.ijson_json.specs.private.StringReading.{HexAt, NoHex, CharacterAt, NoCharacter, NoEscape, LowAt, NoLow};
+
+use crate::scan::prefix::{split_ascii, strip_byte};
+
+/// Whether the code is the first of a surrogate pair.
+fn is_high_surrogate(unit: u32) -> bool
+    ensures { result ≡ is_high_surrogate unit }
+{
+    (0xd800..0xdc00).contains(&unit)
+}
+
+/// Whether the code is the second of a surrogate pair.
+fn is_low_surrogate(unit: u32) -> bool
+    ensures { result ≡ is_low_surrogate unit }
+{
+    (0xdc00..0xe000).contains(&unit)
+}
+
+/// For each letter the byte that a backslash and it stand for, or `.` where they stand for none. A look into a table costs the
+/// same for each letter, where a jump that depends on the letter is seldom foretold.
+static MEANINGS: [u8; 128] = *b"\
+    ................................\
+    ..\"............/................\
+    ............................\\...\
+    ..\x08...\x0c.......\n...\r.\t...........";
+
+/// What a backslash and this letter stand for, where that is one byte.
+fn short_meaning(letter: u8) -> Option<u8>
+    requires { letter < 128 }
+    ensures value { result ≡ short_escape letter }
+    ensures ascii { IfSome result (λ meaning. meaning < 128) }
+{
+    let meaning = MEANINGS[letter as usize];
+    if meaning == b'.' { None } else { Some(meaning) }
+}
+
+/// What stands for a hexadecimal digit where a byte is none: more than four digits can count.
+const NO_DIGIT: u32 = 0x10000;
+
+/// For each byte the value of the hexadecimal digit that it is, and `NO_DIGIT` where it is none.
+static DIGITS: [u32; 256] = [
+    NO_DIGIT, NO_DIGIT, NO_DIGIT, NO_DIGIT, NO_DIGIT, NO_DIGIT, NO_DIGIT, NO_DIGIT, NO_DIGIT,
+    NO_DIGIT, NO_DIGIT, NO_DIGIT, NO_DIGIT, NO_DIGIT, NO_DIGIT, NO_DIGIT, NO_DIGIT, NO_DIGIT,
+    NO_DIGIT, NO_DIGIT, NO_DIGIT, NO_DIGIT, NO_DIGIT, NO_DIGIT, NO_DIGIT, NO_DIGIT, NO_DIGIT,
+    NO_DIGIT, NO_DIGIT, NO_DIGIT, NO_DIGIT, NO_DIGIT, NO_DIGIT, NO_DIGIT, NO_DIGIT, NO_DIGIT,
+    NO_DIGIT, NO_DIGIT, NO_DIGIT, NO_DIGIT, NO_DIGIT, NO_DIGIT, NO_DIGIT, NO_DIGIT, NO_DIGIT,
+    NO_DIGIT, NO_DIGIT, NO_DIGIT, 0, 1, 2, 3, 4, 5, 6, 7, 8, 9, NO_DIGIT, NO_DIGIT, NO_DIGIT,
+    NO_DIGIT, NO_DIGIT, NO_DIGIT, NO_DIGIT, 10, 11, 12, 13, 14, 15, NO_DIGIT, NO_DIGIT, NO_DIGIT,
+    NO_DIGIT, NO_DIGIT, NO_DIGIT, NO_DIGIT, NO_DIGIT, NO_DIGIT, NO_DIGIT, NO_DIGIT, NO_DIGIT,
+    NO_DIGIT, NO_DIGIT, NO_DIGIT, NO_DIGIT, NO_DIGIT, NO_DIGIT, NO_DIGIT, NO_DIGIT, NO_DIGIT,
+    NO_DIGIT, NO_DIGIT, NO_DIGIT, NO_DIGIT, NO_DIGIT, 10, 11, 12, 13, 14, 15, NO_DIGIT, NO_DIGIT,
+    NO_DIGIT, NO_DIGIT, NO_DIGIT, NO_DIGIT, NO_DIGIT, NO_DIGIT, NO_DIGIT, NO_DIGIT, NO_DIGIT,
+    NO_DIGIT, NO_DIGIT, NO_DIGIT, NO_DIGIT, NO_DIGIT, NO_DIGIT, NO_DIGIT, NO_DIGIT, NO_DIGIT,
+    NO_DIGIT, NO_DIGIT, NO_DIGIT, NO_DIGIT, NO_DIGIT, NO_DIGIT, NO_DIGIT, NO_DIGIT, NO_DIGIT,
+    NO_DIGIT, NO_DIGIT, NO_DIGIT, NO_DIGIT, NO_DIGIT, NO_DIGIT, NO_DIGIT, NO_DIGIT, NO_DIGIT,
+    NO_DIGIT, NO_DIGIT, NO_DIGIT, NO_DIGIT, NO_DIGIT, NO_DIGIT, NO_DIGIT, NO_DIGIT, NO_DIGIT,
+    NO_DIGIT, NO_DIGIT, NO_DIGIT, NO_DIGIT, NO_DIGIT, NO_DIGIT, NO_DIGIT, NO_DIGIT, NO_DIGIT,
+    NO_DIGIT, NO_DIGIT, NO_DIGIT, NO_DIGIT, NO_DIGIT, NO_DIGIT, NO_DIGIT, NO_DIGIT, NO_DIGIT,
+    NO_DIGIT, NO_DIGIT, NO_DIGIT, NO_DIGIT, NO_DIGIT, NO_DIGIT, NO_DIGIT, NO_DIGIT, NO_DIGIT,
+    NO_DIGIT, NO_DIGIT, NO_DIGIT, NO_DIGIT, NO_DIGIT, NO_DIGIT, NO_DIGIT, NO_DIGIT, NO_DIGIT,
+    NO_DIGIT, NO_DIGIT, NO_DIGIT, NO_DIGIT, NO_DIGIT, NO_DIGIT, NO_DIGIT, NO_DIGIT, NO_DIGIT,
+    NO_DIGIT, NO_DIGIT, NO_DIGIT, NO_DIGIT, NO_DIGIT, NO_DIGIT, NO_DIGIT, NO_DIGIT, NO_DIGIT,
+    NO_DIGIT, NO_DIGIT, NO_DIGIT, NO_DIGIT, NO_DIGIT, NO_DIGIT, NO_DIGIT, NO_DIGIT, NO_DIGIT,
+    NO_DIGIT, NO_DIGIT, NO_DIGIT, NO_DIGIT, NO_DIGIT, NO_DIGIT, NO_DIGIT, NO_DIGIT, NO_DIGIT,
+    NO_DIGIT, NO_DIGIT, NO_DIGIT, NO_DIGIT, NO_DIGIT, NO_DIGIT, NO_DIGIT, NO_DIGIT, NO_DIGIT,
+    NO_DIGIT, NO_DIGIT, NO_DIGIT, NO_DIGIT, NO_DIGIT, NO_DIGIT, NO_DIGIT, NO_DIGIT, NO_DIGIT,
+    NO_DIGIT, NO_DIGIT, NO_DIGIT, NO_DIGIT, NO_DIGIT, NO_DIGIT, NO_DIGIT, NO_DIGIT, NO_DIGIT,
+    NO_DIGIT, NO_DIGIT, NO_DIGIT, NO_DIGIT, NO_DIGIT, NO_DIGIT, NO_DIGIT,
+];
+
+/// The value of a hexadecimal digit, and `NO_DIGIT` where the byte is none.
+#[inline(always)]
+fn hex_value(byte: u8) -> u32
+    ensures digit { result < 16 → hex_digit byte ≡ Some result }
+    ensures none { 16 ≤ result → (result ≡ 65536) × (hex_digit byte ≡ None) }
+    ensures ascii { result < 16 → byte < 128 }
+{
+    DIGITS[byte as usize]
+}
+
+/// The number of the four hexadecimal digits at the front, and the text behind them.
+#[inline(always)]
+fn take_unit(text: &str) -> Option<(u32, &str)>
+    ensures found { MatchOption result (NoHex text.now) (λ x. HexAt text.now x.0 x.1.now) }
+    ensures small { IfSome result (λ x. x.0 < 65536) }
+{
+    let [a, b, c, d, ..] = text.as_bytes() else {
+        return None;
+    };
+    let (first, second) = (hex_value(*a), hex_value(*b));
+    let (third, fourth) = (hex_value(*c), hex_value(*d));
+    let unit = first * 4096 + (second * 256 + (third * 16 + fourth));
+    if unit >= NO_DIGIT {
+        return None;
+    }
+    Some((unit, &text[4..]))
+}
+
+/// The character of a high surrogate and of the low one whose escape is at the front.
+fn take_low(high: u32, text: &str) -> Option<(char, &str)>
+    requires { IsTrue (is_high_surrogate high) }
+    ensures { MatchOption result (NoLow text.now)
+        (λ x. LowAt high text.now (encode_utf8 x.0) x.1.now) }
+{
+    let digits = text.strip_prefix("\\u")?;
+    let (low, rest) = take_unit(digits)?;
+    if !is_low_surrogate(low) {
+        return None;
+    }
+    let character = char::from_u32(0x10000 + ((high - 0xd800) * 1024 + (low - 0xdc00)))?;
+    Some((character, rest))
+}
+
+/// The character whose code, or whose pair of surrogates, follows a backslash and `u`.
+fn take_unicode(text: &str) -> Option<(char, &str)>
+    ensures { MatchOption result (NoCharacter (92 ∷ 117 ∷ text.now))
+        (λ x. CharacterAt (92 ∷ 117 ∷ text.now) (encode_utf8 x.0) x.1.now) }
+{
+    let (unit, rest) = take_unit(text)?;
+    if is_high_surrogate(unit) {
+        return take_low(unit, rest);
+    }
+    let character = char::from_u32(unit)?;
+    Some((character, rest))
+}
+
+/// The character that the escape at the front stands for, and the text behind it.
+pub(crate) fn take_escape(text: &str) -> Option<(char, &str)>
+    ensures { MatchOption result (NoEscape text.now)
+        (λ x. CharacterAt text.now (encode_utf8 x.0) x.1.now) }
+{
+    let letters = strip_byte(text, b'\\')?;
+    let (letter, rest) = split_ascii(letters)?;
+    if letter == b'u' {
+        return take_unicode(rest);
+    }
+    let meaning = short_meaning(letter)?;
+    Some((meaning as char, rest))
+}

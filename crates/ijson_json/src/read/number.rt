@@ -1,0 +1,119 @@
+//! Reading a number.
+
+ghost use Rattle.std.specs.Prelude.{◌≡◌, ◌++◌, ◌↔◌, IfOk, IfSome, IsTrue, MatchResult, not};
+ghost use Rattle.std.specs.List.{AllByRecursion, position, prefix_len};
+ghost use Rattle.ijson_number.specs.NumberBytes.{is_number_byte};
+ghost use Rattle.ijson_json.specs.private.Explains.{NumberFault};
+ghost use Rattle.ijson_json.specs.private.Reading.{IsPastLimit, NumberRead, Stops};
+
+use crate::fault::Fault;
+use ijson_number::{INumber, ParseNumberError, first_fault};
+use std::alloc::{AllocError, Global};
+
+/// A byte that a number may be made of.
+fn in_number(byte: u8) -> bool
+    ensures { result ≡ is_number_byte byte }
+{
+    (b'0' <= byte && byte <= b'9')
+        || byte == b'+'
+        || byte == b'-'
+        || byte == b'.'
+        || byte == b'E'
+        || byte == b'e'
+}
+
+/// Where the first byte is that no number is made of.
+fn first_other(bytes: &[u8]) -> Option<usize>
+    ensures { result ≡ position (λ byte. not (is_number_byte byte)) bytes.now }
+{
+    bytes.iter().position(|byte| !in_number(*byte))
+}
+
+/// How many bytes at the front may be those of a number.
+fn number_length(text: &str) -> usize
+    ensures { result ≡ prefix_len is_number_byte text.now }
+{
+    first_other(text.as_bytes()).unwrap_or(text.len())
+}
+
+/// The bytes of a number that the text begins with, and the text behind them.
+fn split_number(text: &str) -> (&str, &str)
+    ensures run { AllByRecursion (λ b. IsTrue (is_number_byte b)) result.0.now }
+    ensures whole { text.now ≡ result.0.now ++ result.1.now }
+    ensures stops { Stops result.1.now }
+{
+    text.split_at(number_length(text))
+}
+
+/// Whether the text spells a number past the limit.
+fn is_past_limit(alloc: Global, text: &str) -> bool
+    ensures { IsTrue result ↔ IsPastLimit text.now }
+{
+    match INumber::from_str(alloc, text) {
+        Ok(_) => false,
+        Err(ParseNumberError::Memory) => false,
+        Err(ParseNumberError::Invalid) => first_fault(text).is_none(),
+    }
+}
+
+/// Whether no byte of a number stands at the front.
+fn stops(text: &str) -> bool
+    ensures { IsTrue result ↔ Stops text.now }
+{
+    text.is_empty() || !in_number(text.as_bytes()[0])
+}
+
+/// The number at the front, where one pass reads it.
+#[inline(always)]
+fn read_short(alloc: Global, text: &str) -> Result<Option<(INumber, &str)>, AllocError>
+    ensures { IfOk result (λ found. IfSome found (λ x.
+        NumberRead text.now x.0.decimal x.1.now)) }
+{
+    let Some((number, length)) = INumber::at_front(alloc, text)? else {
+        return Ok(None);
+    };
+    let (_, rest) = text.split_at(length);
+    if stops(rest) {
+        Ok(Some((number, rest)))
+    } else {
+        Ok(None)
+    }
+}
+
+/// The number at the front, by a split of the text. It stays a call, since few numbers want it.
+#[inline(never)]
+fn read_long(alloc: Global, text: &str) -> Result<(INumber, &str), Fault>
+    ensures { MatchResult result
+        (λ x. NumberRead text.now x.0.decimal x.1.now)
+        (λ fault. NumberFault text.now fault) }
+{
+    let (run, rest) = split_number(text);
+    match INumber::from_str(alloc, run) {
+        Ok(number) => Ok((number, rest)),
+        Err(ParseNumberError::Memory) => Err(Fault::Memory),
+        Err(ParseNumberError::Invalid) => match first_fault(run) {
+            None => Err(Fault::NumberRange { left: text.len() }),
+            Some(at) => {
+                if is_past_limit(alloc, &run[..at]) {
+                    return Err(Fault::NumberRange { left: text.len() });
+                }
+                Err(Fault::Syntax {
+                    left: text.len() - at,
+                })
+            }
+        },
+    }
+}
+
+/// The number at the front. One past the limit is told at its first byte, whatever follows it.
+#[inline(always)]
+pub(crate) fn read_number(alloc: Global, text: &str) -> Result<(INumber, &str), Fault>
+    ensures { MatchResult result
+        (λ x. NumberRead text.now x.0.decimal x.1.now)
+        (λ fault. NumberFault text.now fault) }
+{
+    match read_short(alloc, text)? {
+        Some(read) => Ok(read),
+        None => read_long(alloc, text),
+    }
+}

@@ -1,0 +1,50 @@
+//! Reading a value that is no container.
+
+ghost use Rattle.std.specs.Prelude.{◌≡◌, ◌≢◌, ◌∷◌, ◌≤◌, ℕ, List, IfOk, MatchResult};
+ghost use Rattle.ijson_json.specs.AddsOnlyRead.{AddsOnlyRead};
+ghost use Rattle.ijson_json.specs.AreShared.{AreShared};
+ghost use Rattle.ijson_json.specs.Limits.{max_depth};
+ghost use Rattle.ijson_json.specs.private.Explains.{Explains};
+ghost use Rattle.ijson_json.specs.private.Reading.{ReadAs};
+
+use crate::fault::Fault;
+use crate::read::number::read_number;
+use crate::read::string::read_string;
+use crate::scan::prefix::strip_word;
+use ijson_string::StringCache;
+use ijson_value::value::IValue;
+use std::alloc::Global;
+use std::hash::BuildHasher;
+
+/// The value at the front of a text that begins with this byte, which opens no container. The content of a string that has an
+/// escape is put together in `content`.
+#[inline(always)]
+pub(crate) fn read_scalar<'a, S: BuildHasher>(
+    alloc: Global,
+    cache: &mut StringCache<S>,
+    content: &mut String,
+    text: &'a str,
+    first: u8,
+) -> Result<(IValue, &'a str), Fault>
+    requires begins { (rest : List ℕ) × (text.now ≡ first ∷ rest) }
+    requires apart { (first ≢ 91) × (first ≢ 123) }
+    ensures read { (opened : ℕ) → opened ≤ max_depth → MatchResult result
+        (λ x. ReadAs opened text.now x.0.tree x.1.now)
+        (λ fault. Explains opened text.now fault) }
+    ensures cache { AddsOnlyRead text.now cache.old cache.new }
+    ensures shared { IfOk result (λ x. AreShared cache.new x.0.tree) }
+{
+    match first {
+        b'"' => {
+            let (string, rest) = read_string(cache, content, text)?;
+            Ok((IValue::from(string), rest))
+        }
+        b'n' => Ok((IValue::NULL, strip_word(text, "null")?)),
+        b't' => Ok((IValue::TRUE, strip_word(text, "true")?)),
+        b'f' => Ok((IValue::FALSE, strip_word(text, "false")?)),
+        _ => {
+            let (number, rest) = read_number(alloc, text)?;
+            Ok((IValue::from(number), rest))
+        }
+    }
+}

@@ -1,0 +1,87 @@
+//! Reading a string.
+
+ghost use Rattle.std.specs.Prelude.{◌≡◌, ◌≢◌, ◌++◌, ◌∷◌, List, ℕ, IfOk, IfErr, OnErr, MatchResult};
+ghost use Rattle.std.specs.String.{string_bytes};
+ghost use Rattle.ijson_string.specs.Cache.{interned};
+ghost use Rattle.ijson_json.specs.Grammar.{IsString};
+ghost use Rattle.ijson_json.specs.AddsOnlyRead.{AddsOnlyRead};
+ghost use Rattle.ijson_json.specs.AreShared.{IsShared};
+ghost use Rattle.ijson_json.specs.Strings.{is_unescaped};
+ghost use Rattle.ijson_json.specs.private.Reading.{Front, KeyRead, Past};
+ghost use Rattle.ijson_json.specs.private.Explains.{ExplainsMember, StringFault};
+ghost use Rattle.ijson_json.specs.private.StringReading.{ContentAt, ContentFault};
+
+use crate::fault::Fault;
+use crate::read::escape::take_escape;
+use crate::scan::prefix::{skip_space, strip_byte};
+use crate::scan::run::{push_run, split_run};
+use ijson_string::{IString, StringCache};
+use std::hash::BuildHasher;
+
+/// Appends what is left of a string's content, from an escape on, and gives the text behind its closing quote.
+fn push_content<'a>(content: &mut String, text: &'a str) -> Result<&'a str, Fault>
+    requires escape { Past is_unescaped text.now }
+    requires unclosed { (behind : List ℕ) → text.now ≢ 34 ∷ behind }
+    ensures read { IfOk result (λ rest. (s : List ℕ) × ContentAt text.now s rest.now
+        × (string_bytes content.new ≡ string_bytes content.old ++ s)) }
+    ensures fault { IfErr result (λ fault. ContentFault text.now fault) }
+{
+    let mut left = text;
+    loop {
+        let Some((character, more)) = take_escape(left) else {
+            return Err(Fault::Syntax { left: left.len() });
+        };
+        content.push(character)?;
+        let after = push_run(content, more)?;
+        if let Some(rest) = strip_byte(after, b'"') {
+            return Ok(rest);
+        }
+        left = after;
+    }
+}
+
+/// The string at the front, interned in `cache`, and the text behind it. The content of one that has an escape is put
+/// together in `content`, in the place of what is there.
+pub(crate) fn read_string<'a, S: BuildHasher>(
+    cache: &mut StringCache<S>,
+    content: &mut String,
+    text: &'a str,
+) -> Result<(IString, &'a str), Fault>
+    ensures read { MatchResult result
+        (λ x. Front (λ front. IsString x.0 front) text.now x.1.now)
+        (λ fault. StringFault text.now fault) }
+    ensures cache { IfOk result (λ x. cache.new ≡ interned x.0 cache.old) }
+    ensures refused { OnErr result (cache.new ≡ cache.old) }
+{
+    let Some(inside) = strip_byte(text, b'"') else {
+        return Err(Fault::Syntax { left: text.len() });
+    };
+    let (run, after) = split_run(inside);
+    if let Some(rest) = strip_byte(after, b'"') {
+        return Ok((IString::intern(cache, run)?, rest));
+    }
+    content.clear();
+    content.push_str(run)?;
+    let rest = push_content(content, after)?;
+    Ok((IString::intern(cache, content.as_str())?, rest))
+}
+
+/// The key at the front and the text where its value begins, behind the `:` and white space. The key is read as any string is.
+pub(crate) fn read_key<'a, S: BuildHasher>(
+    cache: &mut StringCache<S>,
+    content: &mut String,
+    text: &'a str,
+) -> Result<(IString, &'a str), Fault>
+    ensures read { MatchResult result
+        (λ x. KeyRead x.0 text.now x.1.now)
+        (λ fault. (opened : ℕ) → ExplainsMember opened text.now fault) }
+    ensures cache { AddsOnlyRead text.now cache.old cache.new }
+    ensures shared { IfOk result (λ x. IsShared cache.new x.0) }
+{
+    let (key, after) = read_string(cache, content, text)?;
+    let after = skip_space(after);
+    match strip_byte(after, b':') {
+        Some(more) => Ok((key, skip_space(more))),
+        None => Err(Fault::Syntax { left: after.len() }),
+    }
+}

@@ -1,0 +1,177 @@
+//! Reading a value of any kind: arrays and objects here, the others by `scalar`.
+
+ghost use Rattle.std.specs.Prelude.{◌≡◌, ◌∷◌, ◌<◌, ◌≤◌, length, MatchResult, IfOk, OnOk};
+ghost use Rattle.ijson_value.specs.Tree.{array, object};
+ghost use Rattle.ijson_value.specs.WellFormed.{item_trees, pair_trees};
+ghost use Rattle.ijson_json.specs.Limits.{max_depth};
+ghost use Rattle.ijson_json.specs.private.Reading.{ReadAs, MemberAs};
+ghost use Rattle.ijson_json.specs.AddsOnlyRead.{AddsOnlyRead};
+ghost use Rattle.ijson_json.specs.AreShared.{IsShared, AreShared, ItemsAreShared, MembersAreShared};
+ghost use Rattle.ijson_json.specs.private.Explains.{Explains, ExplainsMember};
+ghost use Rattle.ijson_json.specs.declared.fault.Fault.TheVariants.{TooDeep};
+
+use crate::fault::Fault;
+use crate::read::scalar::read_scalar;
+use crate::read::scratch::{Scratch, take_items, take_members};
+use crate::read::separator::{Separator, read_separator};
+use crate::read::string::read_key;
+use crate::scan::prefix::{skip_space, split_ascii, strip_byte};
+use ijson_string::{IString, StringCache};
+use ijson_value::array::IArray;
+use ijson_value::object::IObject;
+use ijson_value::value::IValue;
+use std::alloc::Global;
+use std::hash::BuildHasher;
+
+/// The most containers that may be open at once.
+const MAX_DEPTH: usize = 127;
+
+/// Refuses a container at the front of the text inside as many as may be open.
+fn check_depth(text: &str, opened: usize) -> Result<(), Fault>
+    requires { opened ≤ max_depth }
+    ensures { MatchResult result
+        (λ _. opened < max_depth)
+        (λ fault. (opened ≡ max_depth) × (fault ≡ TooDeep (length text.now))) }
+{
+    if opened == MAX_DEPTH {
+        return Err(Fault::TooDeep { left: text.len() });
+    }
+    Ok(())
+}
+
+/// The value at the front of the text, inside so many open containers.
+#[cycle(read)]
+#[inline(always)]
+pub(crate) fn read_value<'a, S: BuildHasher>(
+    alloc: Global,
+    cache: &mut StringCache<S>,
+    scratch: &mut Scratch,
+    text: &'a str,
+    opened: usize,
+) -> Result<(IValue, &'a str), Fault>
+    requires { opened ≤ max_depth }
+    ensures read { MatchResult result
+        (λ x. ReadAs opened text.now x.0.tree x.1.now)
+        (λ fault. Explains opened text.now fault) }
+    ensures cache { AddsOnlyRead text.now cache.old cache.new }
+    ensures values { OnOk result (scratch.new.values.items ≡ scratch.old.values.items) }
+    ensures members { OnOk result (scratch.new.members.items ≡ scratch.old.members.items) }
+    ensures shared { IfOk result (λ x. AreShared cache.new x.0.tree) }
+{
+    let Some((first, inside)) = split_ascii(text) else {
+        return Err(Fault::Syntax { left: text.len() });
+    };
+    match first {
+        b'[' => {
+            check_depth(text, opened)?;
+            let (items, rest) = read_array(alloc, cache, scratch, inside, opened)?;
+            Ok((IValue::from(items), rest))
+        }
+        b'{' => {
+            check_depth(text, opened)?;
+            let (object, rest) = read_object(alloc, cache, scratch, inside, opened)?;
+            Ok((IValue::from(object), rest))
+        }
+        _ => read_scalar(alloc, cache, &mut scratch.content, text, first),
+    }
+}
+
+/// The items of an array, behind its opening bracket. They are gathered in `scratch`, above those that lie there, so that
+/// each array is made once, of the size that it has.
+#[cycle(read)]
+#[inline(never)]
+fn read_array<'a, S: BuildHasher>(
+    alloc: Global,
+    cache: &mut StringCache<S>,
+    scratch: &mut Scratch,
+    inside: &'a str,
+    opened: usize,
+) -> Result<(IArray, &'a str), Fault>
+    requires { opened < max_depth }
+    ensures read { MatchResult result
+        (λ x. ReadAs opened (91 ∷ inside.now) (array (item_trees x.0.items)) x.1.now)
+        (λ fault. Explains opened (91 ∷ inside.now) fault) }
+    ensures cache { AddsOnlyRead (91 ∷ inside.now) cache.old cache.new }
+    ensures values { OnOk result (scratch.new.values.items ≡ scratch.old.values.items) }
+    ensures members { OnOk result (scratch.new.members.items ≡ scratch.old.members.items) }
+    ensures shared { IfOk result (λ x. ItemsAreShared cache.new (item_trees x.0.items)) }
+{
+    let mut rest = skip_space(inside);
+    if let Some(behind) = strip_byte(rest, b']') {
+        return Ok((IArray::new(alloc), behind));
+    }
+    let base = scratch.values.len();
+    loop {
+        let (item, after) = read_value(alloc, cache, scratch, rest, opened + 1)?;
+        scratch.values.push(item)?;
+        match read_separator(after, b']')? {
+            Separator::Comma(next) => rest = next,
+            Separator::End(behind) => {
+                let items = take_items(alloc, &mut scratch.values, base)?;
+                return Ok((items, behind));
+            }
+        }
+    }
+}
+
+/// The members of an object, behind its opening bracket. A key that comes again replaces the value in
+/// place.
+#[cycle(read)]
+#[inline(never)]
+fn read_object<'a, S: BuildHasher>(
+    alloc: Global,
+    cache: &mut StringCache<S>,
+    scratch: &mut Scratch,
+    inside: &'a str,
+    opened: usize,
+) -> Result<(IObject, &'a str), Fault>
+    requires { opened < max_depth }
+    ensures read { MatchResult result
+        (λ x. ReadAs opened (123 ∷ inside.now) (object (pair_trees x.0.pairs)) x.1.now)
+        (λ fault. Explains opened (123 ∷ inside.now) fault) }
+    ensures cache { AddsOnlyRead (123 ∷ inside.now) cache.old cache.new }
+    ensures values { OnOk result (scratch.new.values.items ≡ scratch.old.values.items) }
+    ensures members { OnOk result (scratch.new.members.items ≡ scratch.old.members.items) }
+    ensures shared { IfOk result (λ x. MembersAreShared cache.new (pair_trees x.0.pairs)) }
+{
+    let mut rest = skip_space(inside);
+    if let Some(behind) = strip_byte(rest, b'}') {
+        return Ok((IObject::new(alloc), behind));
+    }
+    let base = scratch.members.len();
+    loop {
+        let (key, value, after) = read_member(alloc, cache, scratch, rest, opened + 1)?;
+        scratch.members.push((key, value))?;
+        match read_separator(after, b'}')? {
+            Separator::Comma(next) => rest = next,
+            Separator::End(behind) => {
+                let object = take_members(alloc, &mut scratch.members, base)?;
+                return Ok((object, behind));
+            }
+        }
+    }
+}
+
+/// A key, `:` and a value.
+#[cycle(read)]
+#[tactic(auto, using(crate::proofs::reading::CacheContents::adds_behind_key))]
+fn read_member<'a, S: BuildHasher>(
+    alloc: Global,
+    cache: &mut StringCache<S>,
+    scratch: &mut Scratch,
+    text: &'a str,
+    opened: usize,
+) -> Result<(IString, IValue, &'a str), Fault>
+    requires { opened ≤ max_depth }
+    ensures read { MatchResult result
+        (λ x. MemberAs opened text.now x.0 x.1.tree x.2.now)
+        (λ fault. ExplainsMember opened text.now fault) }
+    ensures cache { AddsOnlyRead text.now cache.old cache.new }
+    ensures values { OnOk result (scratch.new.values.items ≡ scratch.old.values.items) }
+    ensures members { OnOk result (scratch.new.members.items ≡ scratch.old.members.items) }
+    ensures shared { IfOk result (λ x. IsShared cache.new x.0 × AreShared cache.new x.1.tree) }
+{
+    let (key, start) = read_key(cache, &mut scratch.content, text)?;
+    let (value, rest) = read_value(alloc, cache, scratch, start, opened)?;
+    Ok((key, value, rest))
+}

@@ -1,0 +1,80 @@
+//! Writing a string.
+
+ghost use Rattle.std.specs.Prelude.{◌≡◌, ◌++◌, ◌∷◌, [], ◌/◌, ◌%◌, ◌<◌, false, OnOk, OnErr, Some};
+ghost use Rattle.std.specs.String.{string_bytes};
+ghost use Rattle.ijson_json.specs.Strings.{is_unescaped};
+ghost use Rattle.ijson_json.specs.Print.{escaped, hex_text, quoted};
+ghost use Rattle.ijson_json.specs.WritesBeginning.{WritesBeginning};
+
+use crate::scan::prefix::split_ascii;
+use crate::scan::run::split_run_at;
+use std::alloc::AllocError;
+
+/// A digit below sixteen, in lower case.
+fn hex_letter(digit: u8) -> char
+    requires { digit < 16 }
+    ensures { result ≡ hex_text digit }
+{
+    if digit < 10 {
+        (b'0' + digit) as char
+    } else {
+        (b'a' - 10 + digit) as char
+    }
+}
+
+/// Appends the escape of a control character that has no letter.
+fn push_unicode(out: &mut String, control: u8) -> Result<(), AllocError>
+    requires { control < 32 }
+    ensures written { OnOk result (string_bytes out.new ≡ string_bytes out.old
+        ++ 92 ∷ 117 ∷ 48 ∷ 48 ∷ hex_text (control / 16) ∷ hex_text (control % 16) ∷ []) }
+    ensures refused { OnErr result (WritesBeginning (Some (string_bytes out.old)) (Some (string_bytes out.new))
+        (92 ∷ 117 ∷ 48 ∷ 48 ∷ hex_text (control / 16) ∷ hex_text (control % 16) ∷ [])) }
+{
+    out.push_str("\\u00")?;
+    out.push(hex_letter(control / 16))?;
+    out.push(hex_letter(control % 16))
+}
+
+/// For each byte the letter that stands for it behind a backslash, or `u` where it has none of its own. A look into a table
+/// costs the same for each byte, where a jump that depends on the byte is seldom foretold.
+static LETTERS: [u8; 128] = *b"\
+    uuuuuuuubtnufruuuuuuuuuuuuuuuuuu\
+    uu\"uuuuuuuuuuuuuuuuuuuuuuuuuuuuu\
+    uuuuuuuuuuuuuuuuuuuuuuuuuuuu\\uuu\
+    uuuuuuuuuuuuuuuuuuuuuuuuuuuuuuuu";
+
+/// Appends the escape of a byte that does not stand for itself.
+fn push_escape(out: &mut String, byte: u8) -> Result<(), AllocError>
+    requires { is_unescaped byte ≡ false }
+    ensures written { OnOk result (string_bytes out.new ≡ string_bytes out.old ++ escaped byte) }
+    ensures refused { OnErr result (WritesBeginning (Some (string_bytes out.old)) (Some (string_bytes out.new))
+        (escaped byte)) }
+{
+    let letter = LETTERS[byte as usize];
+    if letter == b'u' {
+        return push_unicode(out, byte);
+    }
+    out.push('\\')?;
+    out.push(letter as char)
+}
+
+/// Appends the text between quotes, with its escapes. The error comes where there was not enough memory. A beginning of what
+/// was to be appended may then stand in `out`, behind what was there. Escaped are `"`, `\`, and what is below a space: by a
+/// letter where there is one, and else as `\u001f`. It takes time linear in the text.
+pub fn push_quoted(out: &mut String, text: &str) -> Result<(), AllocError>
+    ensures written { OnOk result (string_bytes out.new ≡ string_bytes out.old ++ quoted text.now) }
+    ensures refused { OnErr result (WritesBeginning (Some (string_bytes out.old)) (Some (string_bytes out.new))
+        (quoted text.now)) }
+{
+    out.push('"')?;
+    let mut start = 0;
+    loop {
+        let (run, after) = split_run_at(text, start);
+        out.push_str(run)?;
+        let Some((byte, _)) = split_ascii(after) else {
+            return out.push('"');
+        };
+        push_escape(out, byte)?;
+        start += run.len() + 1;
+    }
+}

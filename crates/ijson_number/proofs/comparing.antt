@@ -1,0 +1,3 @@
+pub mod MagnitudeOrder
+pub mod SignOrder
+pub mod DigitOrder

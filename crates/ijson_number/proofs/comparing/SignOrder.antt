@@ -1,0 +1,147 @@
+-- The sign of stored parts, and the order of numbers by their signs.
+use Rattle.std.proofs.Common.{◌≡◌, ℕ, zero, suc, ◌*◌, ◌^◌, ◌<◌, Bool, true, false, List, length, refl, ap, ap₂, sym, ◌∙◌, arith}
+use Rattle.std.specs.Prelude.{ℤ, pos, negsuc, neg_ℤ, nat_abs, ◌-ℤ◌, ◌*ℤ◌, ◌≤ℤ◌, ◌==◌, not}
+use Rattle.std.specs.Int.{int_min}
+use Rattle.std.specs.Int.Digits.{number_from_digits}
+use Rattle.std.specs.declared.cmp.Ordering.{Ordering}
+use Rattle.std.specs.declared.cmp.Ordering.TheVariants.{Less, Equal, Greater}
+use Rattle.std.specs.Ordering.{nat_cmp, int_cmp, ordering_index}
+use Rattle.std.proofs.lemmas.Bool.Decides.{nat_tests}
+use Rattle.std.proofs.lemmas.Int.{ints, clamps}
+use Rattle.ijson_number.specs.Decimal.{Decimal}
+use Rattle.ijson_number.specs.StoredNumber.{stored_number}
+use Rattle.ijson_number.specs.private.StoredNumber.{IsStored}
+use Rattle.ijson_number.specs.Order.{number_cmp, at_exponent}
+use Rattle.ijson_number.specs.laws.Ordered.{rescale, scale_cmp}
+use Rattle.ijson_number.specs.Strips.{signed}
+use Rattle.ijson_number.specs.laws.Tens.{ten_pos, signed_mul}
+use Rattle.ijson_number.proofs.parsing.Denotes.{stripped_mod}
+use Rattle.ijson_number.proofs.comparing.MagnitudeOrder.{below_cmp, above_cmp}
+
+below_zero_cmp : (v : ℕ) → 0 < v → int_cmp (neg_ℤ (pos v)) (pos 0) ≡ Less
+below_zero_cmp zero h = absurd (omega arith)
+below_zero_cmp (suc v) h = refl
+
+-- some digits are below zero with a minus
+pub sign_below : (negative : Bool) (ds : List ℕ) → negative ≡ true → IsStored negative ds → 0 < length ds
+    → int_cmp (signed negative (number_from_digits 10 ds)) (pos 0) ≡ Less
+sign_below negative ds is k h = let n = stripped_mod ds k.stripped h in rw is (below_zero_cmp (number_from_digits 10 ds) (omega (arith, n)))
+
+-- and above zero without
+pub sign_above : (negative : Bool) (ds : List ℕ) → negative ≡ false → IsStored negative ds → 0 < length ds
+    → int_cmp (signed negative (number_from_digits 10 ds)) (pos 0) ≡ Greater
+sign_above negative ds is k h = let n = stripped_mod ds k.stripped h in rw is (above_cmp (number_from_digits 10 ds) 0 (omega (arith, n)))
+
+neg_cmp : (x y : ℕ) → int_cmp (neg_ℤ (pos x)) (neg_ℤ (pos y)) ≡ int_cmp (pos y) (pos x)
+neg_cmp zero zero = refl
+neg_cmp zero (suc y) = sym (above_cmp (suc y) 0 (omega arith))
+neg_cmp (suc x) zero = sym (below_cmp 0 (suc x) (omega arith))
+neg_cmp (suc x) (suc y) = grind (arith, nat_tests)
+
+-- below zero the order is turned round
+pub flipped : (ds es : List ℕ) (e f : ℤ)
+    → number_cmp (stored_number true ds e true) (stored_number true es f true) ≡ number_cmp (stored_number false es f true)
+    (stored_number false ds e true)
+flipped ds es e f =
+    let c = int_min f e in
+    let u : c ≤ℤ e = omega (arith, ints, clamps) in
+    let v : c ≤ℤ f = omega (arith, ints, clamps) in
+    let a = number_from_digits 10 ds in
+    let b = number_from_digits 10 es in
+    let p = 10 ^ nat_abs (e -ℤ c) in
+    let q = 10 ^ nat_abs (f -ℤ c) in
+    rescale (stored_number true ds e true) (stored_number true es f true) c u v
+    ∙ rw (← signed_mul true a p, ← signed_mul true b q) (neg_cmp (a * p) (b * q))
+
+sign_scaled : (x : ℤ) (k : ℕ) → 0 < k → int_cmp (x *ℤ pos k) (pos 0) ≡ int_cmp x (pos 0)
+sign_scaled x k h = let z : 0 * k ≡ 0 = omega arith in rw z at (scale_cmp x (pos 0) k h)
+
+above_sign : (x : ℕ) → int_cmp (pos (suc x)) (pos 0) ≡ Greater
+above_sign x = above_cmp (suc x) 0 (omega arith)
+
+apart : (x y : ℤ) → (int_cmp x (pos 0) ≡ int_cmp y (pos 0) → ⊥)
+    → nat_cmp (ordering_index (int_cmp x (pos 0))) (ordering_index (int_cmp y (pos 0))) ≡ int_cmp x y
+apart (pos zero) (pos zero) n = absurd (n refl)
+apart (pos zero) (pos (suc y)) n = rw above_sign (sym (below_cmp 0 (suc y) (omega arith)))
+apart (pos zero) (negsuc y) n = refl
+apart (pos (suc x)) (pos zero) n = rw above_sign refl
+apart (pos (suc x)) (pos (suc y)) n = absurd (n (above_sign x ∙ sym (above_sign y)))
+apart (pos (suc x)) (negsuc y) n = rw above_sign refl
+apart (negsuc x) (pos zero) n = refl
+apart (negsuc x) (pos (suc y)) n = rw above_sign refl
+apart (negsuc x) (negsuc y) n = absurd (n refl)
+
+-- where the signs differ, they decide
+pub signs_cmp : (a b : Decimal) (s t : Ordering) → s ≡ int_cmp a.mantissa (pos 0) → t ≡ int_cmp b.mantissa (pos 0) → (s ≡ t → ⊥)
+    → nat_cmp (ordering_index s) (ordering_index t) ≡ number_cmp a b
+signs_cmp a b s t p q n =
+    let c = int_min a.exponent b.exponent in
+    let j = nat_abs (a.exponent -ℤ c) in
+    let k = nat_abs (b.exponent -ℤ c) in
+    let p' : s ≡ int_cmp (at_exponent c a) (pos 0) = p ∙ sym (sign_scaled a.mantissa (10 ^ j) (ten_pos j)) in
+    let q' : t ≡ int_cmp (at_exponent c b) (pos 0) = q ∙ sym (sign_scaled b.mantissa (10 ^ k) (ten_pos k)) in
+    rw (p', q') (apart (at_exponent c a) (at_exponent c b) (λ e. n (p' ∙ e ∙ sym q')))
+
+zero_is : (x : ℤ) → int_cmp x (pos 0) ≡ Equal → x ≡ pos 0
+zero_is (pos zero) h = refl
+zero_is (pos (suc x)) h = absurd (let g : Greater ≡ Equal = sym (above_sign x) ∙ h in cc)
+zero_is (negsuc x) h = absurd (cc)
+
+-- zeros are equal
+pub zeros_cmp : (a b : Decimal) → int_cmp a.mantissa (pos 0) ≡ Equal → int_cmp b.mantissa (pos 0) ≡ Equal → number_cmp a b ≡ Equal
+zeros_cmp a b p q =
+    let c = int_min a.exponent b.exponent in
+    let j = 10 ^ nat_abs (a.exponent -ℤ c) in
+    let k = 10 ^ nat_abs (b.exponent -ℤ c) in
+    let x : 0 * j ≡ 0 = omega arith in
+    let y : 0 * k ≡ 0 = omega arith in
+    rw (zero_is a.mantissa p, zero_is b.mantissa q, x, y) refl
+
+minus_below : (negative : Bool) (v : ℕ) → int_cmp (signed negative v) (pos 0) ≡ Less → negative ≡ true
+minus_below true v h = refl
+minus_below false zero h = absurd (cc)
+minus_below false (suc v) h = absurd (let g : Greater ≡ Less = sym (above_sign v) ∙ h in cc)
+
+no_minus_above : (negative : Bool) (v : ℕ) → int_cmp (signed negative v) (pos 0) ≡ Greater → negative ≡ false
+no_minus_above false v h = refl
+no_minus_above true zero h = absurd (cc)
+no_minus_above true (suc v) h = absurd (cc)
+
+module _ (n n' : Bool) (ds es : List ℕ) (e f : ℤ) (p p' : Bool) (a b : Decimal) (view : stored_number n ds e p ≡ a)
+    (view' : stored_number n' es f p' ≡ b) where
+  -- below zero the sizes are compared the other way round
+  pub below_zero_is : int_cmp a.mantissa (pos 0) ≡ Less → int_cmp b.mantissa (pos 0) ≡ Less
+      → number_cmp (stored_number false es f true) (stored_number false ds e true) ≡ number_cmp a b
+  below_zero_is h g =
+      let m = minus_below n (number_from_digits 10 ds) (ap (λ (x : Decimal). int_cmp x.mantissa (pos 0)) view ∙ h) in
+      let m' = minus_below n' (number_from_digits 10 es) (ap (λ (x : Decimal). int_cmp x.mantissa (pos 0)) view' ∙ g) in
+      sym (flipped ds es e f) ∙ ap₂ (λ (s t : Bool). number_cmp (stored_number s ds e p) (stored_number t es f p')) (sym m) (sym m')
+      ∙ ap₂ number_cmp view view'
+
+  -- above zero as they stand
+  pub above_zero_is : int_cmp a.mantissa (pos 0) ≡ Greater → int_cmp b.mantissa (pos 0) ≡ Greater
+      → number_cmp (stored_number false ds e true) (stored_number false es f true) ≡ number_cmp a b
+  above_zero_is h g =
+      let m = no_minus_above n (number_from_digits 10 ds) (ap (λ (x : Decimal). int_cmp x.mantissa (pos 0)) view ∙ h) in
+      let m' = no_minus_above n' (number_from_digits 10 es) (ap (λ (x : Decimal). int_cmp x.mantissa (pos 0)) view' ∙ g) in
+      ap₂ (λ (s t : Bool). number_cmp (stored_number s ds e p) (stored_number t es f p')) (sym m) (sym m') ∙ ap₂ number_cmp view view'
+
+-- two signs are told apart by their places among the three
+pub tests_same : (s t : Ordering) (r : Bool) → r ≡ not (ordering_index s == ordering_index t) → r ≡ false → s ≡ t
+tests_same Less Less r e h = refl
+tests_same Less Equal r e h = absurd (cc)
+tests_same Less Greater r e h = absurd (cc)
+tests_same Equal Less r e h = absurd (cc)
+tests_same Equal Equal r e h = refl
+tests_same Equal Greater r e h = absurd (cc)
+tests_same Greater Less r e h = absurd (cc)
+tests_same Greater Equal r e h = absurd (cc)
+tests_same Greater Greater r e h = refl
+
+not_itself : (t : Ordering) → not (ordering_index t == ordering_index t) ≡ false
+not_itself Less = refl
+not_itself Equal = refl
+not_itself Greater = refl
+
+pub tests_apart : (s t : Ordering) (r : Bool) → r ≡ not (ordering_index s == ordering_index t) → r ≡ true → s ≡ t → ⊥
+tests_apart s t r e h g = let n : not (ordering_index s == ordering_index t) ≡ false = rw g (not_itself t) in cc

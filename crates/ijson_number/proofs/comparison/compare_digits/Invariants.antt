@@ -1,0 +1,14 @@
+use Rattle.std.proofs.Common.{◌≡◌, ◌+◌, ◌*◌, drop}
+use Rattle.std.specs.Cmp.Lexicographic.{slice_cmp}
+use Rattle.std.specs.Ordering.{nat_cmp}
+use Rattle.ijson_number.specs.StrippedDigits.{stripped_digits}
+use Rattle.ijson_number.proofs.comparison.compare_digits.Given as goal
+
+-- the digits so far are the same
+abbrev pub invariant-loop-at : goal.invariant-loop-at
+invariant-loop-at g l = record {
+  same : slice_cmp nat_cmp (stripped_digits (g.D.DigitRow.num l.a).decimal) (stripped_digits (g.D.DigitRow.num l.b).decimal)
+      ≡ slice_cmp nat_cmp (drop l.at (stripped_digits (g.D.DigitRow.num l.a).decimal))
+      (drop l.at (stripped_digits (g.D.DigitRow.num l.b).decimal));
+  looks : l.looks ≡ l.initial.looks + 2 * l.at;
+}

@@ -1,6 +1,0 @@
-use Rattle.std.proofs.Common.{◌≡◌, take}
-use Rattle.ijson_number.specs.private.Stripped.{digits_from_text}
-use Rattle.ijson_number.proofs.digits.make_digits.Given as goal
-
-abbrev pub invariant-loop-at : goal.invariant-loop-at
-invariant-loop-at l = take l.at l.room ≡ digits_from_text (take l.at l.text)

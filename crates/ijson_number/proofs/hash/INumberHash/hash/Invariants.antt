@@ -1,8 +1,0 @@
-use Rattle.std.proofs.Common.{◌≡◌, take}
-use Rattle.std.specs.List.{fold, flat_map}
-use Rattle.std.specs.Hash as fed
-use Rattle.ijson_number.proofs.hash.INumberHash.hash.Given as goal
-
--- the digits so far are fed
-abbrev pub invariant-loop-digit : goal.invariant-loop-digit
-invariant-loop-digit g l = l.state ≡ fold g.H.Hasher.write l.initial.state (flat_map fed.u64 (take l.digit-index l.digits))

@@ -1,0 +1,47 @@
+use Rattle.std.proofs.Common.{◌≡◌, ◌∙◌, ap, sym, rules}
+use Rattle.std.specs.Prelude.{FitsSigned}
+use Rattle.std.proofs.lemmas.Int.{to_z-of_z}
+use mir.Syntax.{w32}
+use mir.Val.{to_z, of_z}
+use Rattle.std.specs.Ordering.{is_eq}
+use Rattle.ijson_number.specs.Decimal.{Decimal}
+use Rattle.ijson_number.specs.Num.{Num}
+use Rattle.ijson_number.specs.laws.Ordered.{same_equal}
+use Rattle.ijson_number.specs.private.Stored.{stored_decimal}
+use Rattle.ijson_number.proofs.storing.SameParts.{same_signs, other_signs, digits_tell, signs_tell, exponents_tell}
+use Rattle.ijson_number.proofs.number.order.INumberPartialEq.eq.Goals as goal
+use Rattle.ijson_number.proofs.number.order.INumberPartialEq.eq.Goals.{then-a-b-via-then-a-b, then-a-b-via-else-a-b+then-a-b-2}
+
+pub returns-then-a-b : goal.returns-then-a-b
+returns-then-a-b c =
+    let x = c.stripped-a.result in
+    let y = c.stripped-b.result in
+    elim c.then-a-b.branch [
+      | then-a-b-via-then-a-b w ↦
+          signs_tell x.negative y.negative x.digits.now y.digits.now x.exponent y.exponent x.point y.point c.args.self.now.decimal
+          c.args.other.now.decimal c.stripped-a.ensures c.stripped-b.ensures x.num y.num x.stripped y.stripped
+          (other_signs x.negative y.negative w.if-a-b.true)
+      | then-a-b-via-else-a-b+then-a-b-2 w ↦
+          exponents_tell x.negative y.negative x.digits.now y.digits.now x.exponent y.exponent x.point y.point c.args.self.now.decimal
+          c.args.other.now.decimal c.stripped-a.ensures c.stripped-b.ensures x.num y.num x.stripped y.stripped
+          (λ e. w.if-a-b-2.true (ap (of_z w32) e))
+    ]
+
+pub returns : goal.returns
+returns c =
+    let x = c.stripped-a.result in
+    let y = c.stripped-b.result in
+    let f : FitsSigned w32 x.exponent = search rules in
+    let g : FitsSigned w32 y.exponent = search rules in
+    let same : x.exponent ≡ y.exponent = sym (to_z-of_z w32 x.exponent f) ∙ ap (to_z w32) c.if-a-b-2.false ∙ to_z-of_z w32 y.exponent g in
+    digits_tell x.negative y.negative x.digits.now y.digits.now x.exponent y.exponent x.point y.point c.args.self.now.decimal
+    c.args.other.now.decimal c.stripped-a.ensures c.stripped-b.ensures x.num y.num x.stripped y.stripped c.eq.result
+    (same_signs x.negative y.negative c.if-a-b.false) same c.eq.ensures
+
+pub returns-then-is_same_word : goal.returns-then-is_same_word
+returns-then-is_same_word c =
+    let a = c.args.self.now.decimal in
+    let b = c.args.other.now.decimal in
+    let same : a ≡ b = sym (ap (λ (x : Num). x.decimal) c.self.view_is)
+    ∙ ap stored_decimal (c.is_same_word.ensures.same c.if-is_same_word.true) ∙ ap (λ (x : Num). x.decimal) c.other.view_is in
+    sym (ap is_eq (same_equal a b (ap (λ (n : Decimal). n.mantissa) same) (ap (λ (n : Decimal). n.exponent) same)))

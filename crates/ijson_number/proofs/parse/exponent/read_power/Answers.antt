@@ -1,0 +1,85 @@
+use Rattle.std.proofs.Common.{◌≡◌, ℕ, ◌<◌, ◌^◌, ◌⊎◌, inl, inr, get_or, ap, sym, ◌∙◌, length, refl, arith}
+use Rattle.std.specs.Prelude.{pos}
+use mir.Syntax.{w16}
+use mir.Val.{to_z}
+use Rattle.ijson_number.specs.Strips.{signed}
+use Rattle.std.proofs.lemmas.Bool.Decides.{nat_tests}
+use Rattle.std.proofs.lemmas.Int.{ints}
+use Rattle.std.proofs.lemmas.List.{length-append, take_rest}
+use Rattle.ijson_number.proofs.parsing.PrefixNumbers.{digits_few, power_at}
+use Rattle.ijson_number.proofs.parsing.PowerTails.{behind_taken, power_rest}
+use Rattle.ijson_number.proofs.storing.ShortNumbers.{negated}
+use Rattle.ijson_number.proofs.parse.exponent.read_power.Goals as goal
+use Rattle.ijson_number.proofs.parse.exponent.read_power.Goals.{then-bytes-ne101, else-bytes-ne101, then-negative, else-negative, then-count-eq0-via-then-count-eq0, then-count-eq0-via-else-count-eq0+then-goes_on}
+
+pub overflow_cast-magnitude : goal.overflow_cast-magnitude
+overflow_cast-magnitude c =
+    let small =
+    digits_few c.split_exponent_sign-negative.result.1.now c.take_digits-magnitude.result.0 c.take_digits-magnitude.result.1
+    c.take_digits-magnitude.ensures in
+    omega (arith, ints)
+
+pub overflow_sub-power : goal.overflow_sub-power
+overflow_sub-power c =
+    let small =
+    digits_few c.split_exponent_sign-negative.result.1.now c.take_digits-magnitude.result.0 c.take_digits-magnitude.result.1
+    c.take_digits-magnitude.ensures in
+    omega (arith, ints)
+
+exact : (magnitude : ℕ) → magnitude < 10 ^ 4 → to_z w16 magnitude ≡ pos magnitude
+exact magnitude small = omega (arith, ints)
+
+pub returns-clause-power : goal.returns-clause-power
+returns-clause-power c =
+    let bytes = c.args.bytes.now in
+    let digits = c.split_exponent_sign-negative.result.1.now in
+    let negative = c.split_exponent_sign-negative.result.0 in
+    let t = c.take_digits-magnitude in
+    let small = digits_few digits t.result.0 t.result.1 t.ensures in
+    let begins : get_or bytes 0 0 ≡ 101 ⊎ get_or bytes 0 0 ≡ 69 = elim c.if-bytes-ne101.branch [
+      | then-bytes-ne101 w ↦ inr (grind (arith, nat_tests))
+      | else-bytes-ne101 w ↦ inl (grind (arith, nat_tests))
+    ] in
+    let power : to_z w16 c.if-negative.power-bits ≡ signed negative t.result.0 = elim c.if-negative.branch [
+      | then-negative w ↦ w.power-is ∙ negated w16 t.result.0 (omega (arith, ints, small)) (omega (arith, ints, small))
+          ∙ ap (λ n. signed n t.result.0) (sym w.if-negative.true)
+      | else-negative w ↦ w.power-is ∙ exact t.result.0 small ∙ ap (λ n. signed n t.result.0) (sym w.if-negative.false)
+    ] in
+    rw c.split_at.ensures.back
+    (power_at bytes digits negative t.result.0 t.result.1 (to_z w16 c.if-negative.power-bits) (grind arith) begins
+    (rw (take_rest bytes 1) at c.split_exponent_sign-negative.ensures) (omega (arith, c.if-count-eq0.false)) t.ensures power)
+
+pub returns-clause-stops : goal.returns-clause-stops
+returns-clause-stops c =
+    let bytes = c.args.bytes.now in
+    let sign = rw (take_rest bytes 1) at c.split_exponent_sign-negative.ensures in
+    rw (
+      c.split_at.ensures.back,
+      behind_taken bytes c.split_exponent_sign-negative.result.1.now c.split_exponent_sign-negative.result.0
+          c.take_digits-magnitude.result.1 (grind arith) sign,
+    )
+    (rw c.split_at.ensures.back at c.goes_on.ensures.stops (rw c.if-goes_on.false refl))
+
+pub returns-clause-rest : goal.returns-clause-rest
+returns-clause-rest c = λ rest p.
+    let bytes = c.args.bytes.now in
+    let t = c.take_digits-magnitude in
+    let sign = rw (take_rest bytes 1) at c.split_exponent_sign-negative.ensures in
+    let r =
+    power_rest bytes rest c.split_exponent_sign-negative.result.1.now c.split_exponent_sign-negative.result.0 t.result.0 t.result.1
+    sign t.ensures p in
+    let same : length c.split_at.result.1.now ≡ length rest = ap length (c.split_at.ensures.back ∙ r.1) in
+    omega (arith, same, ap length p.text_is ∙ length-append p.exponent_text rest)
+
+pub returns-then-count-eq0-clause-none : goal.returns-then-count-eq0-clause-none
+returns-then-count-eq0-clause-none c = λ rest p.
+    let bytes = c.args.bytes.now in
+    let t = c.take_digits-magnitude in
+    let sign = rw (take_rest bytes 1) at c.split_exponent_sign-negative.ensures in
+    let r =
+    power_rest bytes rest c.split_exponent_sign-negative.result.1.now c.split_exponent_sign-negative.result.0 t.result.0 t.result.1
+    sign t.ensures p in
+    elim c.then-count-eq0.branch [
+      | then-count-eq0-via-then-count-eq0 w ↦ (let none = w.if-count-eq0.true in omega (arith, r.0, none))
+      | then-count-eq0-via-else-count-eq0+then-goes_on w ↦ w.if-goes_on.ensures.on refl (rw (c.split_at.ensures.back, r.1) p.stops)
+    ]

@@ -1,0 +1,77 @@
+use Rattle.std.proofs.Common.{◌≡◌, ◌*◌, ℕ, ◌-◌, ◌<◌, ◌≤◌, ◌⊎◌, true, ap, inl, inr, sym, refl, rules, arith}
+use Rattle.std.specs.Prelude.{ℤ, pos, negsuc, ◌+ℤ◌, ◌-ℤ◌, ◌<ℤ◌, ◌≤ℤ◌, ◌^◌}
+use Rattle.std.proofs.lemmas.Bool.{cases_lt}
+use Rattle.std.proofs.lemmas.Int.{ints}
+use mir.Syntax.{w16}
+use mir.Val.{to_z, of_z}
+use Rattle.ijson_number.specs.Decimal.{Decimal}
+use Rattle.ijson_number.specs.private.Prefix.{IsPowerSmall, power_number}
+use Rattle.ijson_number.proofs.storing.IntegerWords.{some_is, some_stored}
+use Rattle.ijson_number.proofs.storing.ShortNumbers.{lowered, outside_form, raised}
+use Rattle.ijson_number.proofs.parse.prefix.Prefix.short_power.Goals as goal
+use Rattle.ijson_number.proofs.parse.prefix.Prefix.short_power.Goals.{else-exponent-gtminus8-via-then-exponent-gtminus8+else-exponent-lt27, else-exponent-gtminus8-via-else-exponent-gtminus8}
+
+-- not all places are zeros
+some_left : (magnitude m left : ℕ) → magnitude ≡ m * 10 ^ (19 - left) → (magnitude ≡ 0 → ⊥) → magnitude < 10 ^ 19 → 0 < left
+some_left magnitude m left tens some small = elim (cases_lt 0 left) [
+  | inl above ↦ above
+  | inr none ↦ (let z : left ≡ 0 = omega arith in let all = rw z at tens in absurd (omega (arith, all, some)))
+]
+
+-- the exponent in 16 bits
+exponent_is : (power : ℤ) (scale left : ℕ) → IsPowerSmall power → scale ≤ 19
+    → to_z w16 (of_z w16 (to_z w16 (of_z w16 (to_z w16 (of_z w16 power) -ℤ to_z w16 scale)) +ℤ to_z w16 (19 - left))) ≡
+    (power -ℤ pos scale) +ℤ pos (19 - left)
+exponent_is power scale left small few =
+    let low = small.0 in
+    let high = small.1 in
+    let e : ℤ = power -ℤ pos scale in
+    rw (lowered power scale small few) (raised e (19 - left) (omega (arith, ints)) (omega (arith, ints)) (omega arith))
+
+pub invariant_of-result : goal.invariant_of-result
+invariant_of-result c =
+    let w = c.without_zeros-number in
+    record {
+      stripped = rw c.of_number.ensures
+          (some_stored w.result.0 (w.ensures.stripped
+          (some_left c.args.self.now.magnitude w.result.0 w.result.1 w.ensures.tens c.if-self-eq0.false c.requires.small))
+          c.args.self.now.negative);
+    }
+
+pub returns-clause-form : goal.returns-clause-form
+returns-clause-form c =
+    let f = c.args.self.now in
+    let w = c.without_zeros-number in
+    let left = w.result.1 in
+    let e : ℤ = c.args.power -ℤ pos f.scale in
+    let x : ℤ = e +ℤ pos (19 - left) in
+    let exact = exponent_is c.args.power f.scale left c.requires.power c.requires.few in
+    let outside : (x <ℤ negsuc 6) ⊎ (pos 27 ≤ℤ x) = elim c.else-exponent-gtminus8.branch [
+      | else-exponent-gtminus8-via-then-exponent-gtminus8+else-exponent-lt27 b ↦
+          inr (let h = b.if-exponent-lt27.false in omega (arith, ints, exact, h))
+      | else-exponent-gtminus8-via-else-exponent-gtminus8 b ↦ inl (let h = b.if-exponent-gtminus8.false in omega (arith, ints, exact, h))
+    ] in
+    let word : f.magnitude < 2 ^ 64 = search rules in
+    rw (c.of_number.ensures, exact)
+    (sym (outside_form f.negative f.magnitude w.result.0 (19 - left) e x w.ensures.tens
+    (w.ensures.stripped
+    (some_left f.magnitude w.result.0 left w.ensures.tens c.if-self-eq0.false c.requires.small)) word refl outside))
+
+pub returns-then-exponent-lt27-clause-outside : goal.returns-then-exponent-lt27-clause-outside
+returns-then-exponent-lt27-clause-outside c = λ some outside.
+    let f = c.args.self.now in
+    let w = c.without_zeros-number in
+    let left = w.result.1 in
+    let e : ℤ = c.args.power -ℤ pos f.scale in
+    let exact = exponent_is c.args.power f.scale left c.requires.power c.requires.few in
+    let last = w.ensures.stripped (some_left f.magnitude w.result.0 left w.ensures.tens some c.requires.small) in
+    let small = c.requires.small in
+    let few : f.magnitude < 10 ^ 20 = omega (arith, small) in
+    let is : (power_number f c.args.power).exponent ≡ e +ℤ pos (19 - left) =
+    ap (λ (n : Decimal). n.exponent) (some_is f.magnitude w.result.0 (19 - left) some few w.ensures.tens last f.negative e true) in
+    let low = c.if-exponent-gtminus8.true in
+    let high = c.if-exponent-lt27.true in
+    elim outside [
+      | inl below ↦ absurd (omega (arith, ints, exact, is, low, below))
+      | inr above ↦ absurd (omega (arith, ints, exact, is, high, above))
+    ]

@@ -1,0 +1,74 @@
+use Rattle.std.proofs.Common.{◌≡◌, ◌+◌, ◌++◌, length, take, sym, ap, ◌∙◌, append_assoc, arith}
+use Rattle.std.proofs.lemmas.List.{length-append, length-take-le, take-append-drop}
+use Rattle.ijson_number.specs.Grammar.{value}
+use Rattle.ijson_number.proofs.storing.DigitBounds.{joined_value, room_left}
+use Rattle.ijson_number.proofs.parsing.PrefixNumbers.{minus_of}
+use Rattle.ijson_number.proofs.parsing.PlainFronts.{plain_parts}
+use Rattle.ijson_number.proofs.parse.prefix.read_mantissa.Goals as goal
+
+pub take_tail-requires : goal.take_tail-requires
+take_tail-requires c =
+    let t = c.take_whole-number in
+    let count : length (take t.result.1 c.split_sign-negative.result.1.now) ≡ t.result.1 =
+    length-take-le t.result.1 c.split_sign-negative.result.1.now t.ensures.within in
+    rw t.ensures.value (room_left (take t.result.1 c.split_sign-negative.result.1.now) t.result.1 t.ensures.digits count t.ensures.few)
+
+pub returns-clause-found : goal.returns-clause-found
+returns-clause-found c =
+    let text = c.args.text.now in
+    let t = c.take_whole-number in
+    let unsigned = c.split_sign-negative.result.1.now in
+    let whole = c.split_at.result.0.now in
+    let behind = c.split_at.result.1.now in
+    let e = c.in_ok-magnitude.ensures in
+    let tail = e.tail in
+    let rest = c.in_ok-magnitude.rest.now in
+    let minus = minus_of text unsigned c.split_sign-negative.result.0 c.split_sign-negative.ensures in
+    let split : unsigned ≡ whole ++ behind =
+    rw (c.split_at.ensures.front, c.split_at.ensures.back) (sym (take-append-drop t.result.1 unsigned)) in
+    let front = minus.0 ++ (whole ++ tail.front) in
+    let all : text ≡ front ++ rest =
+    minus.2 ∙ ap (λ u. minus.0 ++ u) (split ∙ ap (λ b. whole ++ b) tail.text_is ∙ sym (append_assoc whole tail.front rest))
+    ∙ sym (append_assoc minus.0 (whole ++ tail.front) rest) in
+    let sum : length text ≡ length front + length rest = ap length all ∙ length-append front rest in
+    let made : t.result.0 ≡ value whole = t.ensures.value ∙ ap value (sym c.split_at.ensures.front) in
+    let few = e.few in
+    record {
+      minus_text = minus.0;
+      whole = whole;
+      fraction_text = tail.front;
+      fraction = tail.digits;
+      text_is = all;
+      length_is = omega (arith, sum);
+      minus = minus.1;
+      whole_is = c.is_whole.ensures.0 c.if-not-is_whole.false;
+      fraction_is = tail.fraction;
+      count = tail.count;
+      magnitude_is = rw made at tail.value ∙ joined_value whole tail.digits;
+      few = omega arith;
+      small = e.small;
+    }
+
+pub returns-clause-rest : goal.returns-clause-rest
+returns-clause-rest c = λ p rest f.
+    let t = c.take_whole-number.ensures in
+    let s = c.split_at.ensures in
+    c.in_ok-magnitude.ensures.rest f.fraction_text rest
+    (plain_parts c.args.text.now _ _ _ _ p rest _ c.split_sign-negative.ensures s.front s.back s.front_len t.digits t.all f).1
+
+pub returns-then-not-is_whole-clause-none : goal.returns-then-not-is_whole-clause-none
+returns-then-not-is_whole-clause-none c = λ p rest f.
+    let t = c.take_whole-number.ensures in
+    let s = c.split_at.ensures in
+    let is = c.is_whole.ensures.1
+    (plain_parts c.args.text.now _ _ _ _ p rest _ c.split_sign-negative.ensures s.front s.back s.front_len t.digits t.all f).0 in
+    let not = c.if-not-is_whole.true in
+    grind (arith, is, not)
+
+pub returns-in_err-magnitude-clause-none : goal.returns-in_err-magnitude-clause-none
+returns-in_err-magnitude-clause-none c =
+    let t = c.take_whole-number.ensures in
+    let s = c.split_at.ensures in
+    rw c.from_residual.ensures
+    (λ p rest f. c.in_err-magnitude.ensures.none f.fraction_text rest
+    (plain_parts c.args.text.now _ _ _ _ p rest _ c.split_sign-negative.ensures s.front s.back s.front_len t.digits t.all f).1)

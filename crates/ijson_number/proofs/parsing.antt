@@ -1,0 +1,15 @@
+pub mod Denotes
+pub mod DigitRuns
+pub mod DigitValues
+pub mod Exponents
+pub mod MovedLanes
+pub mod NumberTails
+pub mod OneDivision
+pub mod PartsDenote
+pub mod PlainFronts
+pub mod PowerTails
+pub mod PrefixDigits
+pub mod PrefixNumbers
+pub mod ReadLanes
+pub mod Scanning
+pub mod SpelledBytes

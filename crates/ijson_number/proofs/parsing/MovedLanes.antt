@@ -1,0 +1,150 @@
+-- Lanes of a vector that are moved to an end.
+use Rattle.std.proofs.Common.{◌≡◌, ℕ, zero, suc, ◌-◌, ◌<◌, ◌≤◌, Bool, true, ◌&&◌, ◌||◌, T, ltb, map, get_or, replicate, List, [], ◌∷◌, ◌++◌, length, take, drop, refl, sym, subst, ◌∙◌, inl, inr, arith}
+use Rattle.std.specs.Prelude.{⊤}
+use Rattle.std.specs.List.{range_with_len}
+use Rattle.std.proofs.lemmas.Bool.{cases_lt}
+use Rattle.std.proofs.lemmas.List.{ext_get_or}
+use Rattle.std.proofs.lemmas.List.FromFn.{length-map-range_with_len, get_or-map-range_with_len}
+use Rattle.std.proofs.lemmas.Simd.{swz_l, SwzOk, SwzOk-from_Each1}
+use lib.Ieee.Fits.{and_l, and_r}
+use lib.Lanes.{Each1, chunk}
+use mir.Syntax.{w8}
+use mir.Val.{zeroes}
+use Rattle.ijson_number.specs.declared.parse.lanes.TheConstants.{BACK}
+use Rattle.ijson_number.specs.declared.write.lanes.TheConstants.{FRONT}
+
+-- a fact of each number below one
+abbrev Each : (ℕ → Type 0) → ℕ → Type 0
+Each P zero = ⊤
+Each P (suc n) = P n × Each P n
+
+pub each : (P : ℕ → Type 0) (n k : ℕ) → Each P n → k < n → P k
+each P zero k h l = absurd (omega arith)
+each P (suc n) k h l = elim (cases_lt k n) [ inl a ↦ each P n k h.1 a | inr a ↦ let e : n ≡ k = omega arith in subst P e h.0 ]
+
+abbrev listed : (ℕ → ℕ) → ℕ → List ℕ
+listed f n = map f (range_with_len 0 n)
+
+-- a fact of each list of n numbers, from the same of n numbers written out
+pub spelled : (P : List ℕ → Type 0) (n : ℕ) → ((f : ℕ → ℕ) → P (listed f n)) → (xs : List ℕ) → length xs ≡ n → P xs
+spelled P n h xs long =
+    let f = λ (k : ℕ). get_or xs k 0 in
+    let many = length-map-range_with_len f 0 n in
+    subst P (ext_get_or 0 _ xs (many ∙ sym long) (λ i l. get_or-map-range_with_len f 0 n i i 0 (omega arith) (omega arith))) (h f)
+
+-- ---- lanes that are moved to an end
+
+abbrev pub positions : (table : List ℕ) → ℕ → List ℕ
+positions table n = chunk 0 16 (take (32 - n) (drop n table))
+
+abbrev is_position : ℕ → Bool
+is_position j = zeroes 16 w8 j || ltb j 16
+
+abbrev are_positions : List ℕ → Bool
+are_positions [] = true
+are_positions (j ∷ js) = is_position j && are_positions js
+
+each_position : (js : List ℕ) → T (are_positions js) → Each1 (λ j. T (is_position j)) js
+each_position [] h = tt
+each_position (j ∷ js) h = (and_l (is_position j) (are_positions js) h, each_position js (and_r (is_position j) (are_positions js) h))
+
+-- by the positions of a table from place n on, the lanes come to stand as they are told to
+abbrev Moved : (table : List ℕ) (to : List ℕ → ℕ → List ℕ) → List ℕ → ℕ → Type 0
+Moved table to xs n = T (are_positions (positions table n)) × (length (positions table n) ≡ 16)
+    × (swz_l w8 16 xs 0 (positions table n) ≡ to xs n)
+
+moved : (table : List ℕ) (to : List ℕ → ℕ → List ℕ) → ((f : ℕ → ℕ) → Each (Moved table to (listed f 16)) 17) → (n : ℕ) → n ≤ 16
+    → (xs : List ℕ) → length xs ≡ 16 → SwzOk w8 16 16 0 (positions table n) × (swz_l w8 16 xs 0 (positions table n) ≡ to xs n)
+moved table to cases n few xs long =
+    let m = spelled (λ xs. Moved table to xs n) 16 (λ f. each (Moved table to (listed f 16)) 17 n (cases f) (omega arith)) xs long in
+    (SwzOk-from_Each1 w8 16 1 16 0 (positions table n) refl (omega (arith, m.1)) (each_position (positions table n) m.0), m.2)
+
+pub moved_back_is : (count : ℕ) → count ≤ 16 → (xs : List ℕ) → length xs ≡ 16
+    → SwzOk w8 16 16 0 (positions BACK count) × (swz_l w8 16 xs 0 (positions BACK count) ≡ replicate (16 - count) 0 ++ take count xs)
+moved_back_is = moved BACK (λ xs n. replicate (16 - n) 0 ++ take n xs)
+    (λ f. (
+      (tt, refl, refl),
+      (
+        (tt, refl, refl),
+        (
+          (tt, refl, refl),
+          (
+            (tt, refl, refl),
+            (
+              (tt, refl, refl),
+              (
+                (tt, refl, refl),
+                (
+                  (tt, refl, refl),
+                  (
+                    (tt, refl, refl),
+                    (
+                      (tt, refl, refl),
+                      (
+                        (tt, refl, refl),
+                        (
+                          (tt, refl, refl),
+                          (
+                            (tt, refl, refl),
+                            (
+                              (tt, refl, refl),
+                              ((tt, refl, refl), ((tt, refl, refl), ((tt, refl, refl), ((tt, refl, refl), tt)))),
+                            ),
+                          ),
+                        ),
+                      ),
+                    ),
+                  ),
+                ),
+              ),
+            ),
+          ),
+        ),
+      ),
+    ))
+
+pub moved_front_is : (start : ℕ) → start ≤ 16 → (xs : List ℕ) → length xs ≡ 16
+    → SwzOk w8 16 16 0 (positions FRONT start) × (swz_l w8 16 xs 0 (positions FRONT start) ≡ drop start xs ++ replicate start 0)
+moved_front_is = moved FRONT (λ xs n. drop n xs ++ replicate n 0)
+    (λ f. (
+      (tt, refl, refl),
+      (
+        (tt, refl, refl),
+        (
+          (tt, refl, refl),
+          (
+            (tt, refl, refl),
+            (
+              (tt, refl, refl),
+              (
+                (tt, refl, refl),
+                (
+                  (tt, refl, refl),
+                  (
+                    (tt, refl, refl),
+                    (
+                      (tt, refl, refl),
+                      (
+                        (tt, refl, refl),
+                        (
+                          (tt, refl, refl),
+                          (
+                            (tt, refl, refl),
+                            (
+                              (tt, refl, refl),
+                              ((tt, refl, refl), ((tt, refl, refl), ((tt, refl, refl), ((tt, refl, refl), tt)))),
+                            ),
+                          ),
+                        ),
+                      ),
+                    ),
+                  ),
+                ),
+              ),
+            ),
+          ),
+        ),
+      ),
+    ))
+
+-- ---- the number that sixteen digits make, four in each lane

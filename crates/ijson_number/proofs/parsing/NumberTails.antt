@@ -1,0 +1,51 @@
+-- What the reader of a tail owes.
+use Rattle.std.proofs.Common.{◌≡◌, ℕ, ◌-◌, ◌<◌, Bool, true, List, [], ◌∷◌, ◌++◌, length, get_or, take, drop, refl, sym, ◌∙◌, arith}
+use Rattle.std.specs.Prelude.{ℤ}
+use Rattle.std.proofs.lemmas.List.{take_rest}
+use Rattle.ijson_number.specs.Grammar.{AllDigits, IsDigits, IsFraction, IsExponent}
+use Rattle.ijson_number.specs.private.Reading.{BeginsWithNoDigit, IsTail}
+use Rattle.ijson_number.proofs.parsing.DigitRuns.{one_run, IsDigits_all, IsDigits_from}
+use Rattle.ijson_number.proofs.parsing.OneDivision.{exponent_begins, no_exponent}
+
+begun : (bytes after : List ℕ) (b : ℕ) → 0 < length bytes → get_or bytes 0 0 ≡ b → drop 1 bytes ≡ after → bytes ≡ b ∷ after
+begun [] after b h e d = absurd (omega arith)
+begun (x ∷ xs) after b h e d = cc
+
+tail_with_point : (bytes a rest : List ℕ) (z : ℤ) (w : Bool) → bytes ≡ 46 ∷ (a ++ rest) → IsDigits a → IsExponent rest z w
+    → IsTail bytes a z true
+tail_with_point bytes a rest z w e d x = record {
+  fraction_text = 46 ∷ a;
+  exponent_text = rest;
+  has_point = true;
+  has_exponent = w;
+  text_is = e;
+  fraction_is = (refl, d, refl, refl);
+  exponent_is = x;
+  point_is = refl;
+}
+
+no_tail_at : (ft et a rest f : List ℕ) (z : ℤ) (p w : Bool) → AllDigits a → BeginsWithNoDigit rest
+    → ((z : ℤ) (w : Bool) → IsExponent rest z w → ⊥) → IsFraction ft f p → IsExponent et z w → 46 ∷ (a ++ rest) ≡ ft ++ et → ⊥
+no_tail_at [] et a rest f z p w d n none g h e = no_exponent et 46 (a ++ rest) z w h refl (sym e)
+no_tail_at (b ∷ ft) et a rest f z p w d n none g h e =
+    let r = one_run a ft rest et d (IsDigits_all ft g.1) n (exponent_begins et z w h) (cc) in
+    none z w (rw r.1 h)
+
+pub no_tail : (bytes a rest : List ℕ) → bytes ≡ 46 ∷ (a ++ rest) → AllDigits a → BeginsWithNoDigit rest
+    → ((z : ℤ) (w : Bool) → IsExponent rest z w → ⊥) → (f : List ℕ) (z : ℤ) (p : Bool) → IsTail bytes f z p → ⊥
+no_tail bytes a rest e d n none f z p t =
+    no_tail_at t.fraction_text t.exponent_text a rest f z t.has_point t.has_exponent d n none t.fraction_is t.exponent_is
+    (sym e ∙ t.text_is)
+
+-- the two, at a text that is looked at from its first byte on
+module _ (bytes a rest : List ℕ) (h : 0 < length bytes) (e : get_or bytes 0 0 ≡ 46)
+    (s : take (length bytes - 1) (drop 1 bytes) ≡ a ++ rest) where
+  pub point_first : bytes ≡ 46 ∷ (a ++ rest)
+  point_first = begun bytes (a ++ rest) 46 h e (sym (take_rest bytes 1) ∙ s)
+
+  pub tail_at_point : (z : ℤ) (w : Bool) → 0 < length a → AllDigits a → IsExponent rest z w → IsTail bytes a z true
+  tail_at_point z w l d x = tail_with_point bytes a rest z w point_first (IsDigits_from a l d) x
+
+  pub no_tail_at_point : AllDigits a → BeginsWithNoDigit rest → ((z : ℤ) (w : Bool) → IsExponent rest z w → ⊥)
+      → (f : List ℕ) (z : ℤ) (p : Bool) → IsTail bytes f z p → ⊥
+  no_tail_at_point = no_tail bytes a rest point_first

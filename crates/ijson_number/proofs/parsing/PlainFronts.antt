@@ -1,0 +1,108 @@
+-- A text has at most one plain number at its front.
+use Rattle.std.proofs.Common.{◌≡◌, ℕ, ◌-◌, ◌<◌, ◌≤◌, Bool, true, false, List, [], ◌∷◌, ◌++◌, length, take, drop, ltb, refl, sym, ap, ◌∙◌, inl, inr, arith}
+use Rattle.std.specs.Char.{is_ascii_alphanumeric}
+use Rattle.std.proofs.lemmas.Bool.{ltb-true, ltb-false}
+use Rattle.std.proofs.lemmas.Bool.Decides.{nat_tests}
+use Rattle.std.proofs.lemmas.List.{take-append-drop}
+use Rattle.ijson_number.specs.Grammar.{AllDigits, IsDigit, IsDigits, IsFraction, IsWhole, Parts}
+use Rattle.ijson_number.specs.DigitFront.{EndsDigits, IsDigitFront}
+use Rattle.ijson_number.specs.PlainFront.{GoesOnWithNone}
+use Rattle.ijson_number.specs.private.Prefix.{IsPlainTail}
+use Rattle.ijson_number.specs.private.Reading.{BeginsWithNoDigit, IsSignTaken}
+use Rattle.ijson_number.proofs.parsing.OneDivision.{sign_one, whole_all, whole_no_sign}
+use Rattle.ijson_number.proofs.parsing.DigitRuns.{one_run, IsDigits_all}
+
+-- what is no letter and no digit is no digit
+other_is_no_digit : (b : ℕ) → is_ascii_alphanumeric b ≡ false → IsDigit b → ⊥
+other_is_no_digit b h d = grind (arith, nat_tests, d.0, d.1)
+
+-- where a number goes on with none stands no digit
+pub none_begins : (rest : List ℕ) → GoesOnWithNone rest → BeginsWithNoDigit rest
+none_begins [] h = tt
+none_begins (b ∷ rest) h = other_is_no_digit b h
+
+ends_begins : (point : Bool) (rest : List ℕ) → EndsDigits point rest → BeginsWithNoDigit rest
+ends_begins point [] h = tt
+ends_begins point (b ∷ rest) h = h.0
+
+-- a run of digits that is as long as another from there, behind which no digit stands, is that one
+pub run_within : (a b x y : List ℕ) → AllDigits a → BeginsWithNoDigit y → length b ≤ length a → a ++ x ≡ b ++ y → (a ≡ b) × (x ≡ y)
+run_within [] [] x y p n l e = (refl, e)
+run_within [] (d ∷ b) x y p n l e = absurd (omega arith)
+run_within (c ∷ a) [] x [] p n l e = absurd (cc)
+run_within (c ∷ a) [] x (d ∷ y) p n l e = let h : c ≡ d = cc in absurd (n (rw h at p.0))
+run_within (c ∷ a) (d ∷ b) x y p n l e =
+    let r = run_within a b x y p.1 n (omega arith) (cc) in
+    let h : c ≡ d = cc in
+    let s : a ≡ b = r.0 in
+    (cc, r.1)
+
+-- all digits that stand at the front, or as many as may be taken, are those of the other division too
+pub same_run : (most : ℕ) (a b x y : List ℕ) → AllDigits a → AllDigits b → (length a < most → BeginsWithNoDigit x) → BeginsWithNoDigit y
+    → length b ≤ most → a ++ x ≡ b ++ y → (a ≡ b) × (x ≡ y)
+same_run most a b x y p q n m l e =
+    elim (ltb (length a) most) as (λ v. ltb (length a) most ≡ v → (a ≡ b) × (x ≡ y)) [
+      | true ↦ λ h. one_run a b x y p q (n (ltb-true (length a) most h)) m e
+      | false ↦ λ h. let g = ltb-false (length a) most h in run_within a b x y p m (omega (arith, g)) e
+    ] refl
+
+-- what follows a point and its digits
+point_tail_at : (most : ℕ) (front digits rest taken after : List ℕ) (point : Bool) → IsFraction front digits point → EndsDigits point rest
+    → length digits ≤ most → 46 ∷ (taken ++ after) ≡ front ++ rest → AllDigits taken → (length taken < most → BeginsWithNoDigit after)
+    → IsDigits taken × (after ≡ rest)
+point_tail_at most [] digits [] taken after point f s l e d n = absurd (cc)
+point_tail_at most [] digits (b ∷ rest) taken after point f s l e d n = let h : b ≡ 46 = cc in absurd (s.1 f.1 h)
+point_tail_at most (b ∷ bs) digits rest taken after point f s l e d n =
+    let g : taken ++ after ≡ bs ++ rest = cc in
+    let few : length bs ≤ most = rw f.2 at l in
+    let r = same_run most taken bs after rest d (IsDigits_all bs f.1) n (ends_begins point rest s) few g in
+    (rw r.0 f.1, r.1)
+
+pub point_tail : (most : ℕ) (bytes front rest taken after : List ℕ) → bytes ≡ 46 ∷ (taken ++ after) → AllDigits taken
+    → (length taken < most → BeginsWithNoDigit after) → IsPlainTail most bytes front rest → IsDigits taken × (after ≡ rest)
+point_tail most bytes front rest taken after e d n t =
+    point_tail_at most front t.digits rest taken after t.has_point t.fraction t.ends t.few (sym e ∙ t.text_is) d n
+
+-- behind the whole part of a plain number no digit stands
+behind_begins : (ft f rest : List ℕ) (point : Bool) → IsFraction ft f point → EndsDigits point rest → BeginsWithNoDigit (ft ++ rest)
+behind_begins [] f rest point g s = ends_begins point rest s
+behind_begins (b ∷ bs) f rest point g s = λ d. omega (arith, g.0)
+
+-- a plain number's text without its sign
+plain_unsigned : (t u : List ℕ) (n : Bool) (p : Parts) (rest : List ℕ) → IsSignTaken t n u → (f : IsDigitFront t p rest)
+    → u ≡ p.whole ++ (f.fraction_text ++ rest)
+plain_unsigned t u n p rest h f =
+    let r = p.whole ++ (f.fraction_text ++ rest) in
+    let g : t ≡ f.minus_text ++ r = f.text_is in
+    let s : IsSignTaken t p.negative r = elim f.minus [
+      | inl e ↦ inr (
+        g ∙ rw e.0 refl,
+        e.1,
+        λ l q. whole_no_sign p.whole (f.fraction_text ++ rest) f.whole (rw (g, e.0) at l)
+            (rw (g, e.0) at q),
+      )
+      | inr e ↦ inl (g ∙ rw e.0 refl, e.1)
+    ] in
+    (sign_one t u r n p.negative h s).1
+
+-- the digits that are taken in front are the whole part, and its fraction, or none, stands behind them
+pub plain_parts : (t u a x : List ℕ) (n : Bool) (p : Parts) (rest : List ℕ) (count : ℕ) → IsSignTaken t n u → a ≡ take count u
+    → x ≡ drop count u → length a ≡ count → AllDigits (take count u) → (count < 19 → BeginsWithNoDigit (drop count u))
+    → (f : IsDigitFront t p rest) → IsWhole a × IsPlainTail (19 - count) x f.fraction_text rest
+plain_parts t u a x n p rest count h is behind c d l f =
+    let few = f.few in
+    let w : length p.whole ≤ 19 = omega (arith, few) in
+    let e : a ++ x ≡ p.whole ++ (f.fraction_text ++ rest) = rw (is, behind) (take-append-drop count u) ∙ plain_unsigned t u n p rest h f in
+    let r = same_run 19 a p.whole x (f.fraction_text ++ rest) (rw is d) (whole_all p.whole f.whole)
+    (λ m. rw behind (l (omega (arith, c, m)))) (behind_begins f.fraction_text p.fraction rest f.has_point f.fraction f.ends) w e in
+    let same : length p.whole ≡ count = ap length (sym r.0) ∙ c in (
+      rw r.0 f.whole,
+      record {
+        digits = p.fraction;
+        has_point = f.has_point;
+        text_is = r.1;
+        fraction = f.fraction;
+        few = omega (arith, few, same);
+        ends = f.ends;
+      },
+    )

@@ -1,0 +1,98 @@
+-- A text has at most one exponent of few digits at its front.
+use Rattle.std.proofs.Common.{◌≡◌, ◌∙◌, ◌⊎◌, inl, inr, ℕ, ◌-◌, ◌<◌, Bool, List, [], ◌∷◌, ◌++◌, length, get_or, take, drop, sym, ap, append_assoc, arith}
+use Rattle.std.proofs.Math.Seq.{drop-append_seam}
+use Rattle.std.proofs.lemmas.List.{length-append, length-take-le, take-append-drop}
+use Rattle.ijson_number.specs.PlainFront.{GoesOnWithNone}
+use Rattle.ijson_number.specs.PowerFront.{IsFewDigits, IsFewExponent, IsFewSigned, IsPowerTail}
+use Rattle.ijson_number.specs.private.Reading.{IsExponentSignTaken}
+use Rattle.ijson_number.specs.private.PrefixDigits.{IsTaken}
+use Rattle.ijson_number.proofs.parsing.PlainFronts.{none_begins, same_run}
+use Rattle.ijson_number.proofs.parsing.DigitRuns.{IsDigits_all, IsDigits_nonempty}
+
+-- what stands behind a front
+pub behind_is : (text front rest : List ℕ) → text ≡ front ++ rest → drop (length text - length rest) text ≡ rest
+behind_is text front rest e =
+    let long : length text - length rest ≡ length front = omega (arith, ap length e ∙ length-append front rest) in
+    ap (λ n. drop n text) long ∙ ap (drop (length front)) e ∙ drop-append_seam front rest
+
+-- the text of such an exponent is not empty, and begins with its letter
+tail_begins_at : (text exponent_text rest : List ℕ) → text ≡ exponent_text ++ rest → IsFewExponent exponent_text
+    → (0 < length text) × (get_or text 0 0 ≡ 101 ⊎ get_or text 0 0 ≡ 69)
+tail_begins_at text [] rest e h = absurd h
+tail_begins_at [] (b ∷ bs) rest e h = absurd (cc)
+tail_begins_at (c ∷ text) (b ∷ bs) rest e h = let same : c ≡ b = cc in (omega arith, rw same h.0)
+
+pub tail_begins : (text rest : List ℕ) → IsPowerTail text rest → (0 < length text) × (get_or text 0 0 ≡ 101 ⊎ get_or text 0 0 ≡ 69)
+tail_begins text rest t = tail_begins_at text t.exponent_text rest t.text_is t.exponent
+
+-- a letter goes on
+pub tail_goes_on : (text rest : List ℕ) → IsPowerTail text rest → GoesOnWithNone text → ⊥
+tail_goes_on [] rest t h = (let b = tail_begins [] rest t in omega (arith, b.0))
+tail_goes_on (c ∷ text) rest t h = elim (tail_begins (c ∷ text) rest t).1 [
+  | inl e ↦ (let is : c ≡ 101 = e in absurd (cc (rw is at h)))
+  | inr e ↦ (let is : c ≡ 69 = e in absurd (cc (rw is at h)))
+]
+
+-- the digits behind a sign or none
+signed_digits : (number signed_text rest digits : List ℕ) (negative : Bool) → number ≡ signed_text ++ rest → IsFewSigned signed_text
+    → IsExponentSignTaken number negative digits
+    → (ds : List ℕ) × IsFewDigits ds × (digits ≡ ds ++ rest)
+signed_digits number [] rest digits negative e h sign = absurd h
+signed_digits number (b ∷ bs) rest digits negative e h sign = elim h [
+  | inl few ↦ elim sign [
+    | inl m ↦ (bs, few.1, cc (m.0, e))
+    | inr more ↦ elim more [
+      | inl p ↦ (bs, few.1, cc (p.0, e))
+      | inr none ↦ (let not = none.2 (rw e (omega arith)) in elim few.0 [
+        | inl plus ↦ absurd (not.1 (rw e plus))
+        | inr minus ↦ absurd (not.0 (rw e minus))
+      ])
+    ]
+  ]
+  | inr few ↦ (let d = few.0.0 in elim sign [
+    | inl m ↦ (let is : b ≡ 45 = cc (m.0, e) in absurd (omega (arith, d, is)))
+    | inr more ↦ elim more [
+      | inl p ↦ (let is : b ≡ 43 = cc (p.0, e) in absurd (omega (arith, d, is)))
+      | inr none ↦ (b ∷ bs, few, sym none.0 ∙ e)
+    ]
+  ])
+]
+
+-- the same behind the letter
+power_digits : (text exponent_text rest digits : List ℕ) (negative : Bool) → text ≡ exponent_text ++ rest → IsFewExponent exponent_text
+    → IsExponentSignTaken (drop 1 text) negative digits
+    → (ds : List ℕ) × IsFewDigits ds × (digits ≡ ds ++ rest)
+power_digits text [] rest digits negative e h sign = absurd h
+power_digits text (b ∷ bs) rest digits negative e h sign = signed_digits (drop 1 text) bs rest digits negative (ap (drop 1) e) h.1 sign
+
+-- the digits that are taken behind the letter and a sign are those of the exponent, and what stands behind them is the rest
+pub power_rest : (text rest digits : List ℕ) (negative : Bool) (magnitude count : ℕ) → IsExponentSignTaken (drop 1 text) negative digits
+    → IsTaken 0 digits 4 magnitude count → IsPowerTail text rest
+    → (0 < count) × (drop count digits ≡ rest)
+power_rest text rest digits negative magnitude count sign t p =
+    let d = power_digits text p.exponent_text rest digits negative p.text_is p.exponent sign in
+    let long = length-take-le count digits t.within in
+    let r = same_run 4 (take count digits) d.0 (drop count digits) rest t.digits (IsDigits_all d.0 d.1.0)
+    (λ few. t.all (omega (arith, long, few))) (none_begins rest p.stops) d.1.1 (take-append-drop count digits ∙ d.2) in
+    let some = IsDigits_nonempty d.0 d.1.0 in
+    let same : length (take count digits) ≡ length d.0 = ap length r.0 in
+    (omega (arith, some, same, long), r.1)
+
+-- a sign that was taken off an exponent stood in front
+sign_of : (number digits : List ℕ) (negative : Bool) → IsExponentSignTaken number negative digits
+    → (sign : List ℕ) × (number ≡ sign ++ digits)
+sign_of number digits negative sign = elim sign [
+  | inl m ↦ (45 ∷ [], m.0)
+  | inr more ↦ elim more [ inl p ↦ (43 ∷ [], p.0) | inr none ↦ ([], none.0) ]
+]
+
+-- what stands behind the digits that are taken
+pub behind_taken : (text digits : List ℕ) (negative : Bool) (count : ℕ) → 0 < length text
+    → IsExponentSignTaken (drop 1 text) negative digits
+    → drop (length text - length (drop count digits)) text ≡ drop count digits
+behind_taken [] digits negative count some sign = absurd (omega arith)
+behind_taken (b ∷ text) digits negative count some sign =
+    let s = sign_of text digits negative sign in
+    let all : text ≡ (s.0 ++ take count digits) ++ drop count digits = s.1 ∙ ap (λ d. s.0 ++ d) (sym (take-append-drop count digits))
+    ∙ sym (append_assoc s.0 (take count digits) (drop count digits)) in
+    behind_is (b ∷ text) (b ∷ (s.0 ++ take count digits)) (drop count digits) (ap (λ t. b ∷ t) all)

@@ -1,0 +1,100 @@
+-- Digits that are taken from the front of a text, some at a time.
+use Rattle.std.proofs.Common.{◌≡◌, ℕ, ◌+◌, ◌-◌, ◌*◌, ◌^◌, ◌<◌, ◌≤◌, List, length, get_or, take, drop, sym, ap, ◌∙◌, arith, pow-add, take-add}
+use Rattle.std.specs.Int.Digits.{number_from_digits_after}
+use Rattle.std.proofs.Math.Nat.{mul-le-mul_right}
+use Rattle.std.proofs.lemmas.Int.Digits.{number_after_append, number_after_lt}
+use Rattle.std.proofs.lemmas.List.{drop-drop, drop_more, length-drop, length-take-le, map-append, take-take}
+use Rattle.std.proofs.lemmas.Simd.{get_or-chunk, length-chunk}
+use lib.Lanes.{chunk}
+use Rattle.ijson_number.specs.Grammar.{AllDigits, IsDigit, value}
+use Rattle.ijson_number.specs.private.Reading.{BeginsWithNoDigit}
+use Rattle.ijson_number.specs.private.Stripped.{digits_from_text}
+use Rattle.ijson_number.specs.private.PrefixDigits.{IsCount, IsTaken}
+use Rattle.ijson_number.proofs.storing.DigitBounds.{below_base, count_of, digits_small}
+use Rattle.ijson_number.proofs.parsing.DigitRuns.{AllDigits-append, AllDigits_left}
+use Rattle.ijson_number.proofs.comparing.MagnitudeOrder.{number_after_is}
+
+no_digit_at : (bytes : List ℕ) (at : ℕ) → at < length bytes → (IsDigit (get_or bytes at 0) → ⊥) → BeginsWithNoDigit (drop at bytes)
+no_digit_at bytes at inside other = rw (drop_more bytes at 0 inside) other
+
+fewer_digits : (bytes : List ℕ) (count most : ℕ) → count ≤ most → AllDigits (take most bytes) → AllDigits (take count bytes)
+fewer_digits bytes count most few digits =
+    let all : count + (most - count) ≡ most = omega arith in
+    AllDigits_left (take count bytes) (take (most - count) (drop count bytes)) (rw (← take-add count (most - count) bytes, all) digits)
+
+-- digits leave room for those that may still be taken
+pub room_behind : (number : ℕ) (digits : List ℕ) (count most : ℕ) → AllDigits digits → length digits ≡ count → count ≤ most
+    → (number + 1) * 10 ^ most ≤ 10 ^ 19
+    → (number_from_digits_after 10 number (digits_from_text digits) + 1) * 10 ^ (most - count) ≤ 10 ^ 19
+room_behind number digits count most all long few buffer =
+    let longer = number_from_digits_after 10 number (digits_from_text digits) in
+    let below : longer < (number + 1) * 10 ^ count =
+    rw (count_of digits, long) at (number_after_lt 10 number (digits_from_text digits) (below_base digits all)) in
+    let times : (longer + 1) * 10 ^ (most - count) ≤ (number + 1) * 10 ^ count * 10 ^ (most - count) =
+    mul-le-mul_right (10 ^ (most - count)) (omega arith) in
+    let split : 10 ^ count * 10 ^ (most - count) ≡ 10 ^ most = let all : count + (most - count) ≡ most = omega arith in
+    sym (pow-add 10 count (most - count)) ∙ ap (λ k. 10 ^ k) all in
+    let whole : (number + 1) * 10 ^ count * 10 ^ (most - count) ≡ (number + 1) * 10 ^ most = rw (← split) (grind arith) in
+    omega arith
+
+-- some were taken, and then those behind them
+pub taken_behind : (number longer : ℕ) (bytes : List ℕ) (count most longest more : ℕ) → count ≤ most → count ≤ length bytes
+    → AllDigits (take count bytes) → longer ≡ number_from_digits_after 10 number (digits_from_text (take count bytes))
+    → IsTaken longer (drop count bytes) (most - count) longest more → IsTaken number bytes most longest (count + more)
+taken_behind number longer bytes count most longest more few within digits value t =
+    let split = take-add count more bytes in
+    record {
+      few = let m = t.few in omega arith;
+      within = omega (arith, t.within, length-drop count bytes);
+      digits = rw split (AllDigits-append (take count bytes) (take more (drop count bytes)) digits t.digits);
+      all = λ l. rw (← drop-drop more count bytes) (t.all (omega arith));
+      value = t.value ∙ ap (λ n. number_from_digits_after 10 n (digits_from_text (take more (drop count bytes)))) value
+          ∙ sym (ap (λ l. number_from_digits_after 10 number (digits_from_text l)) split
+          ∙ ap (number_from_digits_after 10 number)
+          (map-append {A = ℕ} {B = ℕ} (λ b. b - 48) (take count bytes) (take more (drop count bytes)))
+          ∙ number_after_append 10 number (digits_from_text (take count bytes)) (digits_from_text (take more (drop count bytes))));
+    }
+
+-- the digits of the first 16 bytes, but at most so many
+module _ (number : ℕ) (bytes : List ℕ) (most found count : ℕ) (buffer : 16 ≤ length bytes) (is : IsCount (chunk 0 16 bytes) found)
+    (fewer : count ≤ found) (few : count ≤ most) where
+  long : length (chunk 0 16 bytes) ≡ 16
+  long = length-chunk 0 16 bytes (omega arith)
+
+  pub at_most_16 : count ≤ 16
+  at_most_16 = omega (arith, is.within, long)
+
+  same : take count (chunk 0 16 bytes) ≡ take count bytes
+  same = take-take count 16 bytes at_most_16
+
+  pub row_digits : AllDigits (take count (chunk 0 16 bytes))
+  row_digits = fewer_digits (chunk 0 16 bytes) count found fewer is.digits
+
+  pub row_in_text : AllDigits (take count bytes)
+  row_in_text = rw (← same) row_digits
+
+  pub row_value : number * 10 ^ count + value (take count (chunk 0 16 bytes)) ≡ number_from_digits_after 10 number
+      (digits_from_text (take count bytes))
+  row_value =
+      let k : length (digits_from_text (take count bytes)) ≡ count = count_of (take count bytes)
+      ∙ length-take-le count bytes (omega (arith, at_most_16)) in
+      rw same (sym (number_after_is number (digits_from_text (take count bytes)) ∙ ap (λ n. number * 10 ^ n + value (take count bytes)) k))
+
+  pub row_small : (number + 1) * 10 ^ most ≤ 10 ^ 19 → number * 10 ^ count + value (take count (chunk 0 16 bytes)) < 10 ^ 19
+  row_small fits = rw row_value
+      (digits_small number (take count bytes) most row_in_text (omega (arith, length-take-le count bytes (omega (arith, at_most_16)))) fits)
+
+  at_front : 0 + count ≡ count
+  at_front = omega arith
+
+  -- where they are fewer than 16, and fewer than may be taken, no digit follows
+  pub row_taken : count < 16 → (count < most → count ≡ found)
+      → IsTaken number bytes most (number * 10 ^ count + value (take count (chunk 0 16 bytes))) count
+  row_taken less stops = record {
+    few = few;
+    within = omega arith;
+    digits = row_in_text;
+    all = λ l. no_digit_at bytes count (omega arith)
+        (λ d. is.stops (omega (arith, long, stops l)) (rw (← stops l, get_or-chunk 0 16 bytes count 0 less, at_front) d));
+    value = row_value;
+  }

@@ -1,0 +1,9 @@
+pub mod DigitBounds
+pub mod DigitsOf
+pub mod FewDigits
+pub mod FormCases
+pub mod FormNumbers
+pub mod IntegerWords
+pub mod SameParts
+pub mod ShortNumbers
+pub mod WholeValues

@@ -1,0 +1,65 @@
+-- The number that few digits write stays below a power of ten.
+use Rattle.std.proofs.Common.{◌≡◌, ℕ, ◌+◌, ◌-◌, ◌*◌, ◌^◌, ◌<◌, ◌≤◌, List, [], ◌∷◌, ◌++◌, length, get_or, take, ap, sym, ◌∙◌, arith, pow-add}
+use Rattle.std.specs.Int.Digits.{number_from_digits, number_from_digits_after, AllBelowBase}
+use Rattle.std.proofs.Math.Nat.{mul-le-mul_left, mul-le-mul_right}
+use Rattle.std.proofs.lemmas.Int.Digits.{number_after_append, number_after_lt, number_lt}
+use Rattle.std.proofs.lemmas.List.{length-map, length-take-le, map-append, take_more}
+use Rattle.ijson_number.specs.Grammar.{AllDigits, IsDigit, value}
+use Rattle.ijson_number.specs.private.Stripped.{digits_from_text}
+use Rattle.ijson_number.specs.laws.Tens.{power_le}
+use Rattle.ijson_number.proofs.parsing.DigitRuns.{AllDigits-append}
+
+pub below_base : (bs : List ℕ) → AllDigits bs → AllBelowBase 10 (digits_from_text bs)
+below_base [] h = tt
+below_base (b ∷ bs) h = (let d = h.0 in omega arith, below_base bs h.1)
+
+pub count_of : (bs : List ℕ) → length (digits_from_text bs) ≡ length bs
+count_of bs = length-map {A = ℕ} {B = ℕ} bs (λ b. b - 48)
+
+-- one more digit
+pub append_step : (n : ℕ) (bs : List ℕ) (i : ℕ) → i < length bs
+    → number_from_digits_after 10 n (digits_from_text (take i bs)) * 10 + (get_or bs i 0 - 48) ≡ number_from_digits_after 10 n
+    (digits_from_text (take (i + 1) bs))
+append_step n bs i h =
+    let split : digits_from_text (take (i + 1) bs) ≡ digits_from_text (take i bs) ++ (get_or bs i 0 - 48) ∷ [] =
+    ap digits_from_text (take_more bs i 0 h) ∙ map-append {A = ℕ} {B = ℕ} (λ b. b - 48) (take i bs) (get_or bs i 0 ∷ []) in
+    sym (ap (number_from_digits_after 10 n) split ∙ number_after_append 10 n (digits_from_text (take i bs)) ((get_or bs i 0 - 48) ∷ []))
+
+-- few digits more stay below a word
+pub digits_small : (n : ℕ) (bs : List ℕ) (most : ℕ) → AllDigits bs → length bs ≤ most → (n + 1) * 10 ^ most ≤ 10 ^ 19
+    → number_from_digits_after 10 n (digits_from_text bs) < 10 ^ 19
+digits_small n bs most h l buffer =
+    let below = number_after_lt 10 n (digits_from_text bs) (below_base bs h) in
+    let p : 10 ^ length bs ≤ 10 ^ most = power_le (length bs) most l in
+    let m : (n + 1) * 10 ^ length bs ≤ (n + 1) * 10 ^ most = mul-le-mul_left (n + 1) p in
+    let small : number_from_digits_after 10 n (digits_from_text bs) < (n + 1) * 10 ^ length bs = rw (count_of bs) at below in
+    omega arith
+
+pub digits_more : (bs : List ℕ) (i : ℕ) → AllDigits (take i bs) → i < length bs → IsDigit (get_or bs i 0) → AllDigits (take (i + 1) bs)
+digits_more bs i front inside digit = rw (take_more bs i 0 inside) (AllDigits-append (take i bs) (get_or bs i 0 ∷ []) front (digit, tt))
+
+-- and so does one digit more
+pub step_small : (n : ℕ) (bs : List ℕ) (i most : ℕ) → AllDigits (take i bs) → i < length bs → i < most → IsDigit (get_or bs i 0)
+    → (n + 1) * 10 ^ most ≤ 10 ^ 19 → number_from_digits_after 10 n (digits_from_text (take i bs)) * 10 + (get_or bs i 0 - 48) < 10 ^ 19
+step_small n bs i most front inside few digit buffer =
+    let all = digits_more bs i front inside digit in
+    let count : length (take (i + 1) bs) ≡ i + 1 = length-take-le (i + 1) bs (omega arith) in
+    rw (append_step n bs i inside) (digits_small n (take (i + 1) bs) most all (omega arith) buffer)
+
+pub value_small : (bs : List ℕ) → AllDigits bs → value bs < 10 ^ length bs
+value_small bs h = rw (count_of bs) at (number_lt 10 (digits_from_text bs) (below_base bs h))
+
+-- digits behind others
+pub joined_value : (front back : List ℕ) → number_from_digits_after 10 (value front) (digits_from_text back) ≡ value (front ++ back)
+joined_value front back =
+    sym (ap (number_from_digits 10) (map-append {A = ℕ} {B = ℕ} (λ b. b - 48) front back)
+    ∙ number_after_append 10 0 (digits_from_text front) (digits_from_text back))
+
+-- digits leave room for so many more
+pub room_left : (front : List ℕ) (k : ℕ) → AllDigits front → length front ≡ k → k ≤ 19 → (value front + 1) * 10 ^ (19 - k) ≤ 10 ^ 19
+room_left front k digits count few =
+    let v : value front < 10 ^ k = rw count at (value_small front digits) in
+    let m : (value front + 1) * 10 ^ (19 - k) ≤ 10 ^ k * 10 ^ (19 - k) = mul-le-mul_right (10 ^ (19 - k)) (omega arith) in
+    let all : k + (19 - k) ≡ 19 = omega arith in
+    let whole : 10 ^ k * 10 ^ (19 - k) ≡ 10 ^ 19 = sym (pow-add 10 k (19 - k)) ∙ ap (λ j. 10 ^ j) all in
+    omega arith

@@ -1,0 +1,53 @@
+-- Stripped digits are the digits of the number that they write.
+use Rattle.std.proofs.Common.{◌≡◌, ◌≢◌, ℕ, zero, suc, ◌+◌, ◌*◌, ◌/◌, ◌%◌, ◌<◌, Bool, List, [], ◌∷◌, ◌++◌, length, get_or, refl, ap, sym, ◌∙◌, arith, append_assoc}
+use Rattle.std.specs.Prelude.{nat_abs, nat_eq, true, false, cond, ℤ}
+use Rattle.std.proofs.lemmas.List.{append-nil}
+use Rattle.std.specs.List.{AllByRecursion}
+use Rattle.std.proofs.lemmas.List.Elements.{recursion_from_All}
+use Rattle.std.proofs.lemmas.Int.Digits.{digits_of_step}
+use Rattle.std.specs.Int.Digits.{number_from_digits, number_from_digits_after, digits_of, digits_with_fuel}
+use Rattle.ijson_number.specs.Strips.{signed}
+use Rattle.ijson_number.specs.StoredNumber.{stored_number}
+use Rattle.ijson_number.specs.StrippedDigits.{digits_within, stripped_digits}
+use Rattle.ijson_number.specs.private.Stripped.{IsStripped}
+use Rattle.ijson_number.specs.laws.Tens.{abs_signed}
+
+step : (m d : ℕ) → d < 10 → 0 < m * 10 + d → digits_of 10 (m * 10 + d) ≡ digits_of 10 m ++ d ∷ []
+step m d h p =
+    let q : (m * 10 + d) / 10 ≡ m = omega arith in
+    let r : (m * 10 + d) % 10 ≡ d = omega arith in
+    digits_of_step 10 (m * 10 + d) (omega arith) p ∙ rw (q, r) refl
+
+digits_after : (m : ℕ) (ds : List ℕ) → AllByRecursion (λ d. d < 10) ds → 0 < m
+    → digits_of 10 (number_from_digits_after 10 m ds) ≡ digits_of 10 m ++ ds
+digits_after m [] h p = sym (append-nil (digits_of 10 m))
+digits_after m (d ∷ ds) h p = digits_after (m * 10 + d) ds h.1 (omega arith) ∙ ap (λ x. x ++ ds) (step m d h.0 (omega arith))
+    ∙ append_assoc (digits_of 10 m) (d ∷ []) ds
+
+digits_back : (ds : List ℕ) → AllByRecursion (λ d. d < 10) ds → (0 < length ds → get_or ds 0 0 ≢ 0)
+    → digits_of 10 (number_from_digits 10 ds) ≡ ds
+digits_back [] h f = refl
+digits_back (d ∷ ds) h f =
+    let n : d ≢ 0 = f (omega arith) in
+    digits_after (0 * 10 + d) ds h.1 (omega arith) ∙ ap (λ x. x ++ ds) (step 0 d h.0 (omega arith))
+
+pub stripped_back : (ds : List ℕ) → IsStripped ds → digits_of 10 (number_from_digits 10 ds) ≡ ds
+stripped_back ds s = digits_back ds (recursion_from_All (λ d. d < 10) ds s.below_ten) s.first
+
+-- the digits that the definitions speak of are std's
+same_turn : (b : Bool) (xs ys : List ℕ) → xs ≡ ys → (let r : List ℕ = elim b [ true ↦ [] | false ↦ xs ] in r) ≡ cond b [] ys
+same_turn true xs ys e = refl
+same_turn false xs ys e = e
+
+pub digits_are : (turns n : ℕ) → digits_within turns n ≡ digits_with_fuel 10 turns n
+digits_are zero n = refl
+digits_are (suc turns) n =
+    same_turn (nat_eq n 0) (digits_within turns (n / 10) ++ (n % 10 ∷ [])) (digits_with_fuel 10 turns (n / 10) ++ (n % 10 ∷ []))
+    (ap (λ x. x ++ (n % 10 ∷ [])) (digits_are turns (n / 10)))
+
+-- the digits of the stored number are those that are stored
+pub stored_digits_are : (negative : Bool) (ds : List ℕ) (e : ℤ) (point : Bool) → IsStripped ds
+    → stripped_digits (stored_number negative ds e point) ≡ ds
+stored_digits_are negative ds e point s =
+    let m = nat_abs (signed negative (number_from_digits 10 ds)) in
+    digits_are m m ∙ ap (digits_of 10) (abs_signed negative (number_from_digits 10 ds)) ∙ stripped_back ds s

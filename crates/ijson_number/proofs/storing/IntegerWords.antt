@@ -1,0 +1,164 @@
+-- Integers of 64 bits, and their stored forms.
+use Rattle.std.proofs.Common.{◌≡◌, ◌≢◌, ℕ, ◌*◌, ◌%◌, ◌^◌, ◌<◌, Bool, true, false, [], refl, ap, sym, subst, ◌∙◌, inl, inr, arith}
+use Rattle.std.specs.Prelude.{ℤ, pos, negsuc, neg_ℤ, nat_abs, int_le, int_lt, ◌+ℤ◌, ◌<ℤ◌, FitsSigned}
+use Rattle.std.specs.Int.{FitsUnsigned}
+use mir.Syntax.{w64}
+use Rattle.ijson_number.proofs.storing.FormCases.{within}
+use Rattle.std.specs.Int.Digits.{number_from_digits, digits_of}
+use Rattle.std.proofs.lemmas.Int.{ints}
+use Rattle.std.proofs.lemmas.Int.Digits.{number_digits_of}
+use Rattle.ijson_number.specs.Decimal.{Decimal}
+use Rattle.ijson_number.specs.Form.{FormOf, packed, signed_word, unsigned_word, fits_packed, fits_i64, fits_u64, digits_form, integer_form, form_of}
+use Rattle.ijson_number.specs.FormNumber.{form_number, integer_word}
+use Rattle.ijson_number.specs.Stripped.{tens_out, stripped_number}
+use Rattle.ijson_number.specs.Integers.{IsInteger, HasValue}
+use Rattle.ijson_number.specs.StoredNumber.{stored_number}
+use Rattle.ijson_number.specs.private.StoredNumber.{IsStored}
+use Rattle.ijson_number.specs.Num.{IsNum}
+use Rattle.ijson_number.specs.Strips.{signed}
+use Rattle.ijson_number.specs.laws.Tens.{int_tens, abs_signed, zero_or_not}
+use Rattle.ijson_number.proofs.storing.FormNumbers.{IsTensOut, tens_out_is, tens_out_zero, sign_and_magnitude, not_zero, form_has}
+use Rattle.ijson_number.proofs.parsing.Denotes.{same_decimal}
+use Rattle.ijson_number.proofs.BooleanTests.{abs_zero, both_hold, le_test}
+use Rattle.ijson_number.proofs.storing.WholeValues.{tens_few, whole_stripped, value_from, value_is, whole_num, whole_value}
+use Rattle.ijson_number.proofs.writing.Writing.{below_zero}
+
+-- a mantissa of zero
+pub zero_is : (negative : Bool) (e : ℤ) (point : Bool) → stripped_number (signed negative 0) e point ≡ stored_number false [] (pos 0) point
+zero_is true e point = same_decimal _ (pos 0) _ (pos 0) point point (ap pos (tens_out_zero 20)) refl refl
+zero_is false e point = same_decimal _ (pos 0) _ (pos 0) point point (ap pos (tens_out_zero 20)) refl refl
+
+module _ (magnitude s t : ℕ) (some : magnitude ≢ 0) (small : magnitude < 10 ^ 20) (tens : magnitude ≡ s * 10 ^ t) (last : s % 10 ≢ 0) where
+  abbrev out : ℕ × ℕ
+  out = tens_out 20 magnitude
+
+  -- tens are taken out in one way
+  same_tens : (out.0 ≡ s) × (out.1 ≡ t)
+  same_tens =
+      let is : IsTensOut magnitude out = tens_out_is 20 magnitude some small in
+      let r = int_tens (pos out.0) (pos s) out.1 t (λ _. is.1) (λ _. last) (ap pos (sym is.0 ∙ tens)) in
+      (let e : pos out.0 ≡ pos s = r.0 in cc, r.1 (λ z. is.1 (let e : out.0 ≡ 0 = cc in rw e refl)))
+
+  -- a mantissa that isn't zero
+  pub some_is : (negative : Bool) (e : ℤ) (point : Bool)
+      → stripped_number (signed negative magnitude) e point ≡ stored_number negative (digits_of 10 s) (e +ℤ pos t) point
+  some_is negative e point =
+      let above : 0 < magnitude = omega arith in
+      let sign = below_zero negative magnitude above in
+      let abs = abs_signed negative magnitude in
+      let number : number_from_digits 10 (digits_of 10 s) ≡ s = number_digits_of 10 s (omega arith) in
+      rw (abs, sign, not_zero magnitude some, same_tens.0, same_tens.1, number) refl
+
+-- the digits of a number that ten doesn't divide
+pub some_stored : (s : ℕ) → s % 10 ≢ 0 → (negative : Bool) → IsStored negative (digits_of 10 s)
+some_stored s last negative = record {
+  stripped = whole_stripped s last;
+  no_minus = λ none. absurd
+      (last (let is : 0 ≡ s = ap (number_from_digits 10) (sym none) ∙ number_digits_of 10 s (omega arith) in rw (← is) refl));
+}
+
+module _ (z : ℤ) (word : nat_abs z < 2 ^ 64) where
+  abbrev number : Decimal
+  number = stripped_number z (pos 0) false
+
+  module _ (some : nat_abs z ≢ 0) where
+    abbrev parts : ℕ × ℕ
+    parts = tens_out 20 (nat_abs z)
+
+    tens : IsTensOut (nat_abs z) parts
+    tens = tens_out_is 20 (nat_abs z) some (omega arith)
+
+    few : parts.1 < 20
+    few = tens_few (nat_abs z) parts.0 parts.1 word (λ e. tens.1 (rw e refl)) tens.0
+
+    exact : pos 0 +ℤ pos parts.1 ≡ pos parts.1
+    exact = omega (arith, ints)
+
+    number_is : number ≡ stored_number (int_lt z (pos 0)) (digits_of 10 parts.0) (pos 0 +ℤ pos parts.1) false
+    number_is = ap (λ y. stripped_number y (pos 0) false) (sym (sign_and_magnitude z))
+        ∙ some_is (nat_abs z) parts.0 parts.1 some (omega arith) tens.0 tens.1 (int_lt z (pos 0)) (pos 0) false
+
+    some_num : IsNum number
+    some_num = subst IsNum (sym number_is)
+        (whole_num (int_lt z (pos 0)) (nat_abs z) parts.0 parts.1 (digits_of 10 parts.0)
+        (pos 0 +ℤ pos parts.1) refl exact tens.0 few tens.1)
+
+    some_value : HasValue number z
+    some_value = subst (λ n. HasValue n z) (sym number_is)
+        (subst (HasValue (stored_number (int_lt z (pos 0)) (digits_of 10 parts.0) (pos 0 +ℤ pos parts.1) false)) (sign_and_magnitude z)
+        (whole_value (int_lt z (pos 0)) (nat_abs z) parts.0 parts.1 (digits_of 10 parts.0)
+        (pos 0 +ℤ pos parts.1) refl exact tens.0 few tens.1))
+
+  zero_num : IsNum (stored_number false [] (pos 0) false)
+  zero_num = record {
+    plain = record { zero = λ _. refl; stripped = λ n. absurd (n refl); whole = λ _. omega (arith, ints) };
+    in_range = refl;
+  }
+
+  is_num : IsNum number
+  is_num = elim (zero_or_not z) [
+    | inl e ↦ subst (λ y. IsNum (stripped_number y (pos 0) false)) (sym e) (subst IsNum (sym (zero_is false (pos 0) false)) zero_num)
+    | inr n ↦ some_num (λ e. n (abs_zero z e))
+  ]
+
+  has_value : HasValue number z
+  has_value = elim (zero_or_not z) [
+    | inl e ↦ subst (λ y. HasValue (stripped_number y (pos 0) false) y) (sym e)
+        (subst (λ n. HasValue n (pos 0)) (sym (zero_is false (pos 0) false))
+        (value_from (stored_number false [] (pos 0) false) (pos 0) (omega (arith, ints)) refl))
+    | inr n ↦ some_value (λ e. n (abs_zero z e))
+  ]
+
+  -- the forms of an integer of 64 bits don't end in digits
+  same_word : (n : Decimal) (a b c : Bool) → (b ≡ false → c ≡ true)
+      → (let f : FormOf = elim a [
+        | true ↦ packed z (pos 0) false
+        | false ↦
+            elim b [ true ↦ signed_word z | false ↦ elim c [ true ↦ unsigned_word (nat_abs z) | false ↦ digits_form n ] ]
+      ] in
+      f) ≡ elim a [ true ↦ packed z (pos 0) false | false ↦ elim b [ true ↦ signed_word z | false ↦ unsigned_word (nat_abs z) ] ]
+  same_word n true b c h = refl
+  same_word n false true c h = refl
+  same_word n false false true h = refl
+  same_word n false false false h = absurd (let e : false ≡ true = h refl in cc)
+
+  module _ (f : FormOf) (fits : fits_i64 z ≡ false → fits_u64 z ≡ true) (is : f ≡ integer_word z) where
+    pub form_is : f ≡ form_of number
+    form_is = is ∙ sym (ap (integer_form number) (sym (value_is number z is_num.plain has_value).1)
+        ∙ same_word number (fits_packed z) (fits_i64 z) (fits_u64 z) fits)
+
+    pub word_num : IsNum (form_number f)
+    word_num = subst IsNum (sym (form_has number f is_num.plain form_is)) is_num
+
+    pub word_form : form_of (form_number f) ≡ f
+    word_form = ap form_of (form_has number f is_num.plain form_is) ∙ sym form_is
+
+    pub word_integer : IsInteger (form_number f) z
+    word_integer = subst (λ n. IsInteger n z) (sym (form_has number f is_num.plain form_is)) (record { value = has_value; no_point = refl })
+
+pub below_test : (a b : ℤ) → a <ℤ b → int_lt a b ≡ true
+below_test a b h = grind (arith, ints)
+
+-- a signed word
+pub signed_small : (z : ℤ) → FitsSigned w64 z → nat_abs z < 2 ^ 64
+signed_small (pos n) h = omega (arith, ints)
+signed_small (negsuc n) h = omega (arith, ints)
+
+pub signed_fits : (z : ℤ) → FitsSigned w64 z → fits_i64 z ≡ true
+signed_fits z h = both_hold (int_le (neg_ℤ (pos (2 ^ 63))) z) (int_lt z (pos (2 ^ 63)))
+    (le_test (neg_ℤ (pos (2 ^ 63))) z (omega (arith, ints))) (below_test z (pos (2 ^ 63)) (omega (arith, ints)))
+
+-- an unsigned word
+pub unsigned_fits : (n : ℕ) → n < 2 ^ 64 → fits_u64 (pos n) ≡ true
+unsigned_fits n h = both_hold (int_le (pos 0) (pos n)) (int_lt (pos n) (pos (2 ^ 64))) (le_test (pos 0) (pos n) (omega (arith, ints)))
+    (below_test (pos n) (pos (2 ^ 64)) (omega (arith, ints)))
+
+pub signed_known : (z : ℤ) → FitsSigned w64 z → fits_i64 z ≡ false → fits_u64 z ≡ true
+signed_known z h n = absurd (let e = signed_fits z h in cc)
+
+pub word_fits : (z : ℤ) → FitsUnsigned w64 z → fits_u64 z ≡ true
+word_fits z h = both_hold (int_le (pos 0) z) (int_lt z (pos (2 ^ 64))) (le_test (pos 0) z h.0) (below_test z (pos (2 ^ 64)) h.1)
+
+-- a packed mantissa is a signed word
+pub packed_word : (z : ℤ) → fits_packed z ≡ true → FitsSigned w64 z
+packed_word z t = let w = within (neg_ℤ (pos 36028797018963968)) (pos 36028797018963968) z t in grind (arith, ints)

@@ -1,0 +1,192 @@
+-- Numbers that are whole, and their digits.
+use Rattle.std.proofs.Common.{◌≡◌, ◌≢◌, ◌⊎◌, ℕ, zero, suc, ◌+◌, ◌-◌, ◌*◌, ◌/◌, ◌%◌, ◌^◌, ◌<◌, ◌≤◌, Bool, false, List, [], ◌∷◌, ◌++◌, length, get_or, take, Option, Some, None, refl, ap, sym, ◌∙◌, inl, inr, arith, pow-add}
+use Rattle.std.specs.Prelude.{ℤ, pos, negsuc, neg_ℤ, nat_abs, IfNone, ◌-ℤ◌, ◌*ℤ◌, ◌≤ℤ◌, ◌<ℤ◌}
+use Rattle.std.specs.Int.Digits.{digits_of, number_from_digits}
+use Rattle.std.specs.Ordering.{int_cmp, is_eq}
+use Rattle.std.specs.declared.cmp.Ordering.{Ordering}
+use Rattle.std.specs.declared.cmp.Ordering.TheVariants.{Equal}
+use Rattle.std.proofs.Math.Nat.{pow-succ', mul-mod_left, mul-le-mul_right, mul_assoc, mul_comm}
+use Rattle.std.proofs.lemmas.Int.{ints}
+use Rattle.std.proofs.lemmas.Int.Digits.{digits_of_step, all_below_base_digits_of, first_digits_of, number_digits_of, number_lt}
+use Rattle.std.specs.List.{All}
+use Rattle.std.proofs.lemmas.Bool.{cases_lt}
+use Rattle.std.proofs.lemmas.List.{length-take}
+use Rattle.std.proofs.lemmas.List.Elements.{All-from_recursion, recursion_from_All}
+use Rattle.ijson_number.specs.Decimal.{Decimal, IsPlain}
+use Rattle.ijson_number.specs.Integers.{integer, HasValue}
+use Rattle.ijson_number.specs.Order.{number_cmp}
+use Rattle.ijson_number.specs.laws.Ordered.{rescale, tests_equal, cmp_equal, nonneg}
+use Rattle.ijson_number.specs.private.Stripped.{IsStripped}
+use Rattle.ijson_number.proofs.writing.DigitTexts.{below_take}
+use Rattle.ijson_number.proofs.comparing.MagnitudeOrder.{same_int_cmp, scaled_below, above_none, number_least}
+use Rattle.ijson_number.specs.laws.Tens.{power_le, signed_mul, abs_signed}
+use Rattle.ijson_number.specs.Num.{IsNum}
+use Rattle.ijson_number.specs.StoredNumber.{stored_number}
+use Rattle.ijson_number.specs.Strips.{signed}
+use Rattle.ijson_number.proofs.parsing.Exponents.{within_in_range}
+use Rattle.ijson_number.proofs.parsing.Denotes.{stripped_plain}
+
+last_pushed : (ds : List ℕ) (d : ℕ) → get_or (ds ++ d ∷ []) (length (ds ++ d ∷ []) - 1) 0 ≡ d
+last_pushed [] d = refl
+last_pushed (c ∷ []) d = refl
+last_pushed (c ∷ b ∷ ds) d =
+    let e : length (c ∷ b ∷ ds ++ d ∷ []) - 1 ≡ suc (length (b ∷ ds ++ d ∷ []) - 1) = omega arith in
+    rw e (last_pushed (b ∷ ds) d)
+
+-- the digits of a number that ten doesn't divide are stripped
+pub whole_stripped : (n : ℕ) → n % 10 ≢ 0 → IsStripped (digits_of 10 n)
+whole_stripped n h =
+    let some : 0 < n = omega arith in
+    let f = first_digits_of 10 n (omega arith) some in
+    record {
+      below_ten = All-from_recursion (λ d. d < 10) (digits_of 10 n) (all_below_base_digits_of 10 n (omega arith));
+      first = λ _ e. omega arith;
+      last = λ _. rw (digits_of_step 10 n (omega arith) some, last_pushed (digits_of 10 (n / 10)) (n % 10)) h;
+    }
+
+pub times_one : (m : ℤ) → m *ℤ pos 1 ≡ m
+times_one (pos m) = let e : m * 1 ≡ m = omega arith in rw e refl
+times_one (negsuc m) = let e : suc m * 1 ≡ suc m = omega arith in rw e refl
+
+pub abs_times : (m : ℤ) (k : ℕ) → nat_abs (m *ℤ pos k) ≡ nat_abs m * k
+abs_times (pos m) k = refl
+abs_times (negsuc m) k = abs_neg (suc m * k)
+  where
+    abs_neg : (v : ℕ) → nat_abs (neg_ℤ (pos v)) ≡ v
+    abs_neg zero = refl
+    abs_neg (suc v) = refl
+
+above_cmp_is : (n : Decimal) (z : ℤ) → pos 0 ≤ℤ n.exponent
+    → number_cmp n (integer z) ≡ int_cmp (n.mantissa *ℤ pos (10 ^ nat_abs n.exponent)) z
+above_cmp_is n z h =
+    let e : n.exponent -ℤ pos 0 ≡ n.exponent = omega (arith, ints) in
+    rescale n (integer z) (pos 0) h (omega (arith, ints)) ∙ rw (e, times_one z) refl
+
+-- a whole number has the value of its mantissa and its zeros
+pub value_from : (n : Decimal) (z : ℤ) → pos 0 ≤ℤ n.exponent → z ≡ n.mantissa *ℤ pos (10 ^ nat_abs n.exponent) → HasValue n z
+value_from n z h e =
+    let c : number_cmp n (integer z) ≡ Equal = above_cmp_is n z h ∙ rw e (same_int_cmp (n.mantissa *ℤ pos (10 ^ nat_abs n.exponent))) in
+    ap (λ (o : Ordering). is_eq o) c
+
+below_cmp_is : (n : Decimal) (z : ℤ) → n.exponent ≤ℤ pos 0
+    → number_cmp n (integer z) ≡ int_cmp n.mantissa (z *ℤ pos (10 ^ nat_abs (pos 0 -ℤ n.exponent)))
+below_cmp_is n z h =
+    let e : n.exponent -ℤ n.exponent ≡ pos 0 = omega (arith, ints) in
+    rescale n (integer z) n.exponent (omega (arith, ints)) h ∙ rw (e, times_one n.mantissa) refl
+
+-- a number times ten or a hundred or more ends in zero
+pub ends_in_zero : (n k : ℕ) → n * 10 ^ suc k % 10 ≡ 0
+ends_in_zero n k =
+    let e : n * (10 * 10 ^ k) ≡ n * 10 ^ k * 10 = omega arith in
+    rw (pow-succ' 10 k, e) (mul-mod_left (n * 10 ^ k) 10)
+
+ten_divides : (m z : ℤ) (k : ℕ) → m ≡ z *ℤ pos (10 ^ suc k) → nat_abs m % 10 ≡ 0
+ten_divides m z k e = rw (ap nat_abs e ∙ abs_times z (10 ^ suc k)) (ends_in_zero (nat_abs z) k)
+
+-- a number with a fraction has no whole value
+pub fraction_cmp : (n : Decimal) (z : ℤ) → IsPlain n → n.exponent <ℤ pos 0 → HasValue n z → ⊥
+fraction_cmp n z p h v =
+    let k = nat_abs (pos 0 -ℤ n.exponent) in
+    let r : pos 0 -ℤ n.exponent ≡ pos k = nonneg (pos 0 -ℤ n.exponent) (omega (arith, ints)) in
+    let s : k ≡ suc (k - 1) = omega (arith, ints) in
+    let e = cmp_equal n.mantissa (z *ℤ pos (10 ^ k)) (sym (below_cmp_is n z (omega (arith, ints))) ∙ tests_equal _ v) in
+    let m = ten_divides n.mantissa z (k - 1) (rw s at e) in
+    p.stripped (λ zero. (let x : n.exponent ≡ pos 0 = p.zero zero in omega (arith, ints))) m
+
+sign_cases : (z : ℤ) → (pos 0 ≤ℤ z) ⊎ (z <ℤ pos 0)
+sign_cases (pos n) = inl (omega (arith, ints))
+sign_cases (negsuc n) = inr (omega (arith, ints))
+
+-- a plain number that has the value z is whole, and no other
+pub value_is : (n : Decimal) (z : ℤ) → IsPlain n → HasValue n z → (pos 0 ≤ℤ n.exponent) × (z ≡ n.mantissa *ℤ pos (10 ^ nat_abs n.exponent))
+value_is n z p v =
+    elim (sign_cases n.exponent) [
+      | inl h ↦ (h, sym (cmp_equal _ z (sym (above_cmp_is n z h) ∙ tests_equal _ v)))
+      | inr h ↦ absurd (fraction_cmp n z p h v)
+    ]
+
+-- a plain number has one value
+pub value_one : (n : Decimal) (y z : ℤ) → IsPlain n → HasValue n y → HasValue n z → y ≡ z
+value_one n y z p v w = (value_is n y p v).1 ∙ sym (value_is n z p w).1
+
+-- the number so far of at most nineteen digits, before the last of them
+pub word_so_far : (ds : List ℕ) (i : ℕ) → All (λ d. d < 10) ds → i < length ds → length ds ≤ 19
+    → number_from_digits 10 (take i ds) < 10 ^ 18
+word_so_far ds i h m l =
+    let b = number_lt 10 (take i ds) (below_take i ds (recursion_from_All (λ d. d < 10) ds h)) in
+    let t : length (take i ds) ≤ 18 = rw (length-take i ds) (omega arith) in
+    let p = power_le (length (take i ds)) 18 t in
+    omega arith
+
+-- and with its zeros
+pub scaled_small : (ds : List ℕ) (zeros : ℕ) → All (λ d. d < 10) ds → length ds + zeros ≤ 20
+    → number_from_digits 10 ds * 10 ^ zeros < 10 ^ 20
+scaled_small ds zeros h l =
+    let b = scaled_below ds zeros (recursion_from_All (λ d. d < 10) ds h) in
+    let p = power_le (length ds + zeros) 20 l in
+    omega arith
+
+-- a number of a word has fewer than twenty tens
+pub tens_few : (number rest tens : ℕ) → number < 2 ^ 64 → rest ≢ 0 → number ≡ rest * 10 ^ tens → tens < 20
+tens_few number rest tens h n e =
+    elim (cases_lt tens 20) [
+      | inl l ↦ l
+      | inr g ↦ (let p : 10 ^ 20 ≤ 10 ^ tens = power_le 20 tens g in
+          let m : 1 * 10 ^ tens ≤ rest * 10 ^ tens = mul-le-mul_right (10 ^ tens) (above_none rest n) in absurd (omega arith))
+    ]
+
+ten_moved : (q rest p : ℕ) → rest ≡ q * 10 → rest * p ≡ q * (p * 10 ^ 1)
+ten_moved q rest p e = rw e (mul_assoc q 10 p ∙ ap (λ x. q * x) (mul_comm 10 p))
+
+-- a ten less
+pub ten_out : (number rest tens : ℕ) → rest % 10 ≡ 0 → number ≡ rest * 10 ^ tens → number ≡ rest / 10 * 10 ^ (tens + 1)
+ten_out number rest tens h e =
+    let r : rest ≡ rest / 10 * 10 = omega arith in
+    let p : 10 ^ (tens + 1) ≡ 10 ^ tens * 10 ^ 1 = pow-add 10 tens 1 in
+    e ∙ rw p (ten_moved (rest / 10) rest (10 ^ tens) r)
+
+digits_some : (ds : List ℕ) (v : ℕ) → number_from_digits 10 ds ≡ v → v % 10 ≢ 0 → 0 < length ds
+digits_some [] v h m = absurd (m (rw (← h) refl))
+digits_some (d ∷ ds) v h m = omega arith
+
+module _ (negative : Bool) (magnitude s t : ℕ) (ds : List ℕ) (e : ℤ) (is : ds ≡ digits_of 10 s) (exact : e ≡ pos t)
+    (tens : magnitude ≡ s * 10 ^ t) (few : t < 20) (n : s % 10 ≢ 0) where
+  stripped_ds : IsStripped ds
+  stripped_ds = rw is (whole_stripped s n)
+
+  number_is : number_from_digits 10 ds ≡ s
+  number_is = rw is (number_digits_of 10 s (omega arith))
+
+  -- the digits of an integer and its tens are a Num
+  pub whole_num : IsNum (stored_number negative ds e false)
+  whole_num = record {
+    plain = stripped_plain negative false ds e stripped_ds (digits_some ds s number_is n) (λ _. omega (arith, ints));
+    in_range = within_in_range (stored_number negative ds e false) (omega (arith, ints), omega (arith, ints));
+  }
+
+  -- and have its value
+  pub whole_value : HasValue (stored_number negative ds e false) (signed negative magnitude)
+  whole_value =
+      value_from (stored_number negative ds e false) (signed negative magnitude) (omega (arith, ints))
+      (rw (tens, number_is, exact) (signed_mul negative s (10 ^ t)))
+
+-- stripped digits and zeros that are more than twenty together are large
+pub large_mantissa : (negative : Bool) (ds : List ℕ) (zeros : ℕ) → IsStripped ds → 0 < length ds → 20 < zeros + length ds
+    → 10 ^ 20 ≤ nat_abs (signed negative (number_from_digits 10 ds) *ℤ pos (10 ^ zeros))
+large_mantissa negative ds zeros stripped some h =
+    let a = number_from_digits 10 ds in
+    let magnitude : nat_abs (signed negative a *ℤ pos (10 ^ zeros)) ≡ a * 10 ^ zeros = abs_times (signed negative a) (10 ^ zeros)
+    ∙ ap (λ x. x * 10 ^ zeros) (abs_signed negative a) in
+    let least : 10 ^ (length ds - 1) ≤ a = number_least ds some (stripped.first some) in
+    let scaled : 10 ^ (length ds - 1) * 10 ^ zeros ≤ a * 10 ^ zeros = mul-le-mul_right (10 ^ zeros) least in
+    let power : 10 ^ (length ds - 1 + zeros) ≡ 10 ^ (length ds - 1) * 10 ^ zeros = pow-add 10 (length ds - 1) zeros in
+    let twenty : 10 ^ 20 ≤ 10 ^ (length ds - 1 + zeros) = power_le 20 (length ds - 1 + zeros) (omega arith) in
+    rw magnitude (omega arith)
+
+-- where the mantissa with its zeros is large, so is the value
+pub large_value : (n : Decimal) (o : Option ℤ) → IsPlain n → IfNone o (10 ^ 20 ≤ nat_abs (n.mantissa *ℤ pos (10 ^ nat_abs n.exponent)))
+    → IfNone o ((z : ℤ) → nat_abs z < 10 ^ 20 → HasValue n z → ⊥)
+large_value n (Some x) p h = tt
+large_value n None p h =
+    λ z small v. (let is : nat_abs z ≡ nat_abs (n.mantissa *ℤ pos (10 ^ nat_abs n.exponent)) = ap nat_abs (value_is n z p v).1 in
+    omega arith)

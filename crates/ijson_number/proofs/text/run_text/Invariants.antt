@@ -1,6 +1,0 @@
-use Rattle.std.proofs.Common.{◌≡◌, take}
-use Rattle.ijson_number.specs.Text.{digits_text}
-use Rattle.ijson_number.proofs.text.run_text.Given as goal
-
-abbrev pub invariant-loop-at : goal.invariant-loop-at
-invariant-loop-at l = take l.at l.room ≡ digits_text (take l.at l.digits)

@@ -1,0 +1,11 @@
+pub mod AsciiTexts
+pub mod Beginnings
+pub mod DigitTexts
+pub mod FractionTexts
+pub mod LastDigits
+pub mod PaddedDigits
+pub mod RoundTrip
+pub mod SplitTexts
+pub mod WordTexts
+pub mod Writing
+pub mod WrittenLanes

@@ -1,0 +1,61 @@
+-- What an append leaves that was refused.
+use Rattle.std.proofs.Common.{◌≡◌, ℕ, List, [], ◌++◌, refl, sym, ap, ◌∙◌, append_assoc}
+use Rattle.std.proofs.lemmas.List.{append-nil}
+use Rattle.ijson_number.specs.AppendsBeginning.{AppendsBeginning}
+
+-- nothing was appended
+pub none_begun : (old new text : List ℕ) → new ≡ old → AppendsBeginning old new text
+none_begun old new text e = record {
+  front = [];
+  rest = text;
+  is = refl;
+  taken = e ∙ sym (append-nil old);
+}
+
+-- some of the text was appended, and no more
+pub some_begun : (old new done rest text : List ℕ) → new ≡ old ++ done → done ++ rest ≡ text → AppendsBeginning old new text
+some_begun old new done rest text e f = record {
+  front = done;
+  rest = rest;
+  is = sym f;
+  taken = e;
+}
+
+-- some of the text was appended, and a beginning of the piece behind it
+pub piece_begun : (old out new done piece rest text : List ℕ) → out ≡ old ++ done → AppendsBeginning out new piece
+    → done ++ (piece ++ rest) ≡ text → AppendsBeginning old new text
+piece_begun old out new done piece rest text e w f = record {
+  front = done ++ w.front;
+  rest = w.rest ++ rest;
+  is = sym f ∙ ap (λ (l : List ℕ). done ++ (l ++ rest)) w.is ∙ ap (λ (l : List ℕ). done ++ l) (append_assoc w.front w.rest rest)
+      ∙ sym (append_assoc done w.front (w.rest ++ rest));
+  taken = w.taken ∙ ap (λ (l : List ℕ). l ++ w.front) e ∙ append_assoc old done w.front;
+}
+
+-- a beginning of what stands in front was appended
+pub front_begun : (old new piece rest text : List ℕ) → AppendsBeginning old new piece → piece ++ rest ≡ text → AppendsBeginning old new text
+front_begun old new piece rest text w f = record {
+  front = w.front;
+  rest = w.rest ++ rest;
+  is = sym f ∙ ap (λ (l : List ℕ). l ++ rest) w.is ∙ append_assoc w.front w.rest rest;
+  taken = w.taken;
+}
+
+-- a beginning of the whole behind some of it
+pub last_begun : (old out new done piece text : List ℕ) → out ≡ old ++ done → AppendsBeginning out new piece → done ++ piece ≡ text
+    → AppendsBeginning old new text
+last_begun old out new done piece text e w f = record {
+  front = done ++ w.front;
+  rest = w.rest;
+  is = sym f ∙ ap (λ (l : List ℕ). done ++ l) w.is ∙ sym (append_assoc done w.front w.rest);
+  taken = w.taken ∙ ap (λ (l : List ℕ). l ++ w.front) e ∙ append_assoc old done w.front;
+}
+
+-- a beginning of a text that is another's
+pub begun_as : (old new piece text : List ℕ) → AppendsBeginning old new piece → piece ≡ text → AppendsBeginning old new text
+begun_as old new piece text w f = record {
+  front = w.front;
+  rest = w.rest;
+  is = sym f ∙ w.is;
+  taken = w.taken;
+}

@@ -1,0 +1,189 @@
+-- The text of a number with a fraction that is kept in one word.
+use Rattle.std.proofs.Common.{◌≡◌, ◌≢◌, ℕ, zero, suc, ◌+◌, ◌*◌, ◌/◌, ◌%◌, ◌^◌, ◌<◌, ◌≤◌, ◌⊎◌, Bool, true, false, List, ◌++◌, length, refl, ap, sym, ◌∙◌, arith, inl, inr}
+use Rattle.std.specs.Prelude.{ℤ, pos, negsuc, neg_ℤ, nat_abs, int_le, int_lt, ◌≤ℤ◌, ◌<ℤ◌, ◌+ℤ◌, ◌-ℤ◌, ◌*ℤ◌, ◌||◌, ◌&&◌}
+use Rattle.std.proofs.lemmas.Bool.{cases_lt}
+use Rattle.std.proofs.lemmas.Fmt.{decimal_step_wide, decimal_nonempty}
+use Rattle.std.proofs.lemmas.Int.{ints}
+use Rattle.std.proofs.lemmas.List.{length_push}
+use Rattle.std.specs.Fmt.{decimal}
+use Rattle.std.specs.Int.Digits.{digits_of}
+use Rattle.ijson_number.specs.Decimal.{Decimal}
+use Rattle.ijson_number.specs.Form.{FormOf, packed, digits_form, integer_form, fits_packed, smallest_packed, form_of}
+use Rattle.ijson_number.specs.Text.{point_text, scientific_text, minus_text, num_text}
+use Rattle.ijson_number.specs.Stripped.{tens_out, stripped_number}
+use Rattle.ijson_number.specs.StoredNumber.{stored_number}
+use Rattle.ijson_number.specs.private.WordText.{pointed_text}
+use Rattle.ijson_number.specs.laws.Tens.{ten_pos}
+use Rattle.ijson_number.proofs.storing.FormNumbers.{IsTensOut, tens_out_is, sign_and_magnitude}
+use Rattle.ijson_number.proofs.storing.FormCases.{taken as form_taken}
+use Rattle.ijson_number.proofs.storing.IntegerWords.{below_test, zero_is, some_is, some_stored}
+use Rattle.ijson_number.proofs.BooleanTests.{abs_zero, both_of, test_le, not_le, not_lt}
+use Rattle.ijson_number.proofs.writing.Writing.{stored_text, left}
+use Rattle.ijson_number.proofs.writing.WordTexts.{count_is, fraction_is, neither}
+
+either_form : (b : Bool) (x y f : FormOf) → (let r : FormOf = elim b [ true ↦ x | false ↦ y ] in r) ≡ f → ((b ≡ true) × (x ≡ f)) ⊎ (y ≡ f)
+either_form true x y f e = inl (refl, e)
+either_form false x y f e = inr e
+
+-- no number is packed with an exponent below zero where it is whole
+not_smallest : (tries k : ℕ) (n : Decimal) (m e : ℤ) → e <ℤ pos 0 → smallest_packed tries k n ≡ packed m e true → ⊥
+not_smallest zero k n m e h is = cc
+not_smallest (suc tries) k n m e h is =
+    let x = n.mantissa *ℤ pos (10 ^ nat_abs (n.exponent -ℤ pos k)) in
+    elim (either_form (int_le (pos k) n.exponent && fits_packed x) (packed x (pos k) true) (smallest_packed tries (suc k) n)
+    (packed m e true) is) [
+      | inl p ↦ (let q = p.1 in let same : pos k ≡ e = cc in absurd (omega (arith, ints)))
+      | inr p ↦ not_smallest tries (suc k) n m e h p
+    ]
+
+-- a number that is packed with an exponent below zero has that exponent
+kept_exponent : (n : Decimal) (m e : ℤ) → n.point ≡ true → e <ℤ pos 0 → form_of n ≡ packed m e true
+    → (n.exponent ≡ e) × (negsuc 6 ≤ℤ n.exponent)
+kept_exponent n m e h l is =
+    let below : FormOf = elim
+    (int_le (negsuc 6) n.exponent && fits_packed n.mantissa) [ true ↦ packed n.mantissa n.exponent true | false ↦ digits_form n ] in
+    let pointed : FormOf = elim (int_le (pos 0) n.exponent) [ true ↦ smallest_packed 8 0 n | false ↦ below ] in
+    let p : pointed ≡ packed m e true = sym (form_taken n.point pointed (integer_form n (n.mantissa *ℤ pos (10 ^ nat_abs n.exponent))) h)
+    ∙ is in
+    elim (either_form (int_le (pos 0) n.exponent) (smallest_packed 8 0 n) below (packed m e true) p) [
+      | inl q ↦ absurd (not_smallest 8 0 n m e l q.1)
+      | inr q ↦ elim (either_form (int_le (negsuc 6) n.exponent && fits_packed n.mantissa) (packed n.mantissa n.exponent true)
+          (digits_form n) (packed m e true) q) [
+            | inl r ↦ (let b = both_of (int_le (negsuc 6) n.exponent) (fits_packed n.mantissa) r.0 in let f = r.1 in
+                (cc, test_le (negsuc 6) n.exponent b.0))
+            | inr r ↦ absurd (cc)
+          ]
+    ]
+
+-- a packed number with an exponent below zero, in whose text no exponent is written
+module _ (m e : ℤ) (k : ℕ) (word : nat_abs m < 2 ^ 64) (scale : 0 < k) (below : e ≡ neg_ℤ (pos k))
+    (form : form_of (stripped_number m e true) ≡ packed m e true) (shown : 6 < k → 10 ≤ nat_abs m) where
+  exponent_is : ((stripped_number m e true).exponent ≡ e) × (negsuc 6 ≤ℤ (stripped_number m e true).exponent)
+  exponent_is = kept_exponent (stripped_number m e true) m e refl (omega (arith, ints)) form
+
+  few_places : k ≤ 7
+  few_places = let x = exponent_is in let f : negsuc 6 ≤ℤ e = rw x.0 at x.1 in omega (arith, ints)
+
+  not_none : m ≢ pos 0
+  not_none z =
+      let none : (stripped_number m e true).exponent ≡ pos 0 = rw z (ap (λ (n : Decimal). n.exponent) (zero_is false e true)) in
+      let x : pos 0 ≡ e = sym none ∙ exponent_is.0 in
+      omega (arith, ints)
+
+  module _ where
+    abbrev abs : ℕ
+    abs = nat_abs m
+
+    abbrev sign : Bool
+    sign = int_lt m (pos 0)
+
+    abbrev taken_out : ℕ × ℕ
+    taken_out = tens_out 20 abs
+
+    not_zero : abs ≢ 0
+    not_zero z = not_none (abs_zero m z)
+
+    is_out : IsTensOut abs taken_out
+    is_out = tens_out_is 20 abs not_zero (omega arith)
+
+    number_at : stripped_number m e true ≡ stored_number sign (digits_of 10 taken_out.0) (e +ℤ pos taken_out.1) true
+    number_at = ap (λ y. stripped_number y e true) (sym (sign_and_magnitude m))
+        ∙ some_is abs taken_out.0 taken_out.1 not_zero (omega arith) is_out.0 is_out.1 sign e true
+
+    no_tens : taken_out.1 ≡ 0
+    no_tens = let x : e +ℤ pos taken_out.1 ≡ e = sym (ap (λ (n : Decimal). n.exponent) number_at) ∙ exponent_is.0 in omega (arith, ints)
+
+    last : abs % 10 ≢ 0
+    last =
+        let whole : abs ≡ taken_out.0 * 10 ^ 0 = is_out.0 ∙ ap (λ t. taken_out.0 * 10 ^ t) no_tens in
+        let same : abs ≡ taken_out.0 = omega arith in
+        rw same is_out.1
+
+    positive : 0 < abs
+    positive = let n = not_zero in omega (arith, n)
+
+    stored_at : stripped_number m e true ≡ stored_number sign (digits_of 10 abs) e true
+    stored_at =
+        let none : e +ℤ pos 0 ≡ e = omega (arith, ints) in
+        ap (λ y. stripped_number y e true) (sym (sign_and_magnitude m))
+        ∙ some_is abs abs 0 not_zero (omega arith) (omega arith) last sign e true
+        ∙ ap (λ x. stored_number sign (digits_of 10 abs) x true) none
+
+    abbrev shown_digits : List ℕ
+    shown_digits = digits_of 10 abs
+
+    count : length shown_digits ≡ length (decimal abs)
+    count = count_is abs positive word
+
+    one_digit : 0 < length shown_digits
+    one_digit = let d = decimal_nonempty abs word in let c = count in omega arith
+
+    two_digits : 6 < k → 1 < length shown_digits
+    two_digits h =
+        let more = shown h in
+        let d : length (decimal abs) ≡ length (decimal (abs / 10)) + 1 =
+        ap (λ (x : List ℕ). length x) (decimal_step_wide abs more (omega arith)) ∙ length_push (decimal (abs / 10)) (48 + abs % 10) in
+        let n = decimal_nonempty (abs / 10) (omega arith) in
+        let c = count in
+        omega arith
+
+    abbrev point_place : ℤ
+    point_place = pos (length shown_digits) +ℤ e
+
+    not_far : negsuc 5 <ℤ point_place
+    not_far =
+        let few = few_places in
+        let one = one_digit in
+        elim (cases_lt 6 k) [
+          | inl h ↦ (let two = two_digits h in omega (arith, ints))
+          | inr h ↦ omega (arith, ints)
+        ]
+
+    plain : int_le point_place (negsuc 5) || int_lt (pos 20) e ≡ false
+    plain = neither (int_le point_place (negsuc 5)) (int_lt (pos 20) e) (not_le point_place (negsuc 5) not_far)
+        (not_lt (pos 20) e (omega (arith, ints)))
+
+    parts : abs ≡ abs / 10 ^ k * 10 ^ k + abs % 10 ^ k
+    parts = let t = ten_pos k in omega arith
+
+    rest_below : abs % 10 ^ k < 10 ^ k
+    rest_below = let t = ten_pos k in omega arith
+
+    pub fraction_num_text : num_text (stripped_number m e true) ≡ pointed_text (int_lt m (pos 0)) (nat_abs m / 10 ^ k) k
+        (nat_abs m % 10 ^ k)
+    fraction_num_text =
+        ap num_text stored_at
+        ∙ sym (stored_text sign shown_digits e true (some_stored abs last sign).stripped one_digit)
+        ∙ ap (λ x. minus_text sign ++ x)
+        (sym (left (int_le point_place (negsuc 5) || int_lt (pos 20) e) (scientific_text shown_digits point_place)
+        (point_text shown_digits point_place) plain)
+        ∙ fraction_is abs positive word k (abs / 10 ^ k) (abs % 10 ^ k) scale parts rest_below point_place
+        (omega (arith, ints)))
+
+pub exponent_small : (m e : ℤ) → e <ℤ pos 0 → form_of (stripped_number m e true) ≡ packed m e true → nat_abs e < 8
+exponent_small m (pos n) l form = omega (arith, ints)
+exponent_small m (negsuc n) l form =
+    let x = kept_exponent (stripped_number m (negsuc n) true) m (negsuc n) refl l form in
+    let f : negsuc 6 ≤ℤ negsuc n = rw x.0 at x.1 in
+    omega (arith, ints)
+
+pub fraction_shown : (m e s : ℤ) (n k : ℕ) (shown : List ℕ) → s ≡ m → n ≡ nat_abs m → k ≡ nat_abs e → n < 2 ^ 64 → e <ℤ pos 0
+    → (6 < k → 10 ≤ n) → form_of (stripped_number m e true) ≡ packed m e true
+    → shown ≡ pointed_text (int_lt s (pos 0)) (n / 10 ^ k) k (n % 10 ^ k) → shown ≡ num_text (stripped_number m e true)
+fraction_shown m (pos z) s n k shown sign magnitude scale word l h form is = absurd (omega (arith, ints))
+fraction_shown m (negsuc z) s n k shown sign magnitude scale word l h form is =
+    is ∙ rw (sign, magnitude)
+    (sym (fraction_num_text m (negsuc z) k (rw (← magnitude) word) (omega arith) (omega (arith, ints)) form (rw (← magnitude) h)))
+
+pub below_point : (e x : ℤ) → x ≡ e → (e ≡ pos 0 → ⊥) → int_lt (pos 0) x ≡ false → e <ℤ pos 0
+below_point (pos zero) x s n t = absurd (n refl)
+below_point (pos (suc k)) x s n t =
+    absurd (let u : int_lt (pos 0) (pos (suc k)) ≡ false = rw s at t in let v = below_test (pos 0) (pos (suc k)) (omega (arith, ints)) in
+    cc)
+below_point (negsuc k) x s n t = omega (arith, ints)
+
+pub many_places : (e x : ℤ) (k n : ℕ) → x ≡ e → k ≡ nat_abs e → ((int_lt x (negsuc 5) ≡ true) × (10 ≤ n)) ⊎ (int_lt x (negsuc 5) ≡ false)
+    → e <ℤ pos 0 → 6 < k → 10 ≤ n
+many_places e x k n s p (inl t) l h = t.1
+many_places e x k n s p (inr t) l h =
+    absurd (let u : int_lt e (negsuc 5) ≡ false = rw s at t in let v = below_test e (negsuc 5) (omega (arith, ints)) in cc)

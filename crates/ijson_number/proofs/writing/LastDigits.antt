@@ -1,0 +1,174 @@
+-- The last digits of a number, and the digits before them.
+use Rattle.std.proofs.Common.{◌≡◌, ℕ, zero, suc, ◌+◌, ◌-◌, ◌*◌, ◌/◌, ◌%◌, ◌^◌, ◌<◌, ◌≤◌, min, get_or, replicate, take, drop, List, [], ◌∷◌, ◌++◌, length, refl, sym, ap, ◌∙◌, inl, inr, arith, append_assoc, pow-add}
+use Rattle.std.proofs.lemmas.Bool.{cases_lt}
+use Rattle.std.proofs.lemmas.Fmt.{decimal_digit, decimal_nonempty, first_decimal, length-decimal-le}
+use Rattle.std.proofs.lemmas.List.{append-nil, get_or_append_left, get_or-replicate, get_or-take, length-replicate, replicate_more, take_at, drop_at}
+use Rattle.std.proofs.Math.Nat.{pow-succ'}
+use Rattle.std.specs.Fmt.{decimal}
+use native.Mathlib.Nat.{add-mul-div_left, div-div-eq-div-mul, div-le_self, div-lt_iff_lt-mul}
+use lib.Seq.{get_or-append-add}
+use Rattle.ijson_number.specs.Text.{zeros_text}
+use Rattle.ijson_number.specs.private.WordText.{last_digits}
+use Rattle.ijson_number.specs.private.ZerosInFront.{IsZerosInFront}
+use Rattle.ijson_number.specs.laws.Tens.{ten_pos, power_le}
+use Rattle.ijson_number.proofs.writing.PaddedDigits.{joined, last_count, last_zeros, padded}
+
+-- digits in front don't change the last ones
+last_behind : (scale more n : ℕ) → last_digits scale (more * 10 ^ scale + n) ≡ last_digits scale n
+unfolding last_digits
+last_behind zero more n = refl
+last_behind (suc p) more n =
+    let ten : more * 10 ^ suc p ≡ 10 * (more * 10 ^ p) = rw (pow-succ' 10 p) (grind arith) in
+    let front : (more * 10 ^ suc p + n) / 10 ≡ more * 10 ^ p + n / 10 = omega arith in
+    let last : (more * 10 ^ suc p + n) % 10 ≡ n % 10 = omega arith in
+    rw (front, last, last_behind p more (n / 10)) refl
+
+last_rest : (scale n : ℕ) → last_digits scale (n % 10 ^ scale) ≡ last_digits scale n
+last_rest p n =
+    let t = ten_pos p in
+    let parts : n / 10 ^ p * 10 ^ p + n % 10 ^ p ≡ n = omega arith in
+    sym (last_behind p (n / 10 ^ p) (n % 10 ^ p)) ∙ ap (last_digits p) parts
+
+-- the last digits are those before the places, and those behind them
+last_split : (count scale n : ℕ) → last_digits (count + scale) n ≡ last_digits count (n / 10 ^ scale) ++ last_digits scale n
+unfolding last_digits
+last_split count zero n =
+    let same : count + 0 ≡ count = omega arith in
+    let whole : n / 10 ^ 0 ≡ n = omega arith in
+    rw (same, whole) (sym (append-nil (last_digits count n)))
+last_split count (suc p) n =
+    let next : count + suc p ≡ suc (count + p) = omega arith in
+    let over : n / 10 / 10 ^ p ≡ n / 10 ^ suc p = div-div-eq-div-mul n 10 (10 ^ p) ∙ ap (λ d. n / d) (sym (pow-succ' 10 p)) in
+    ap (λ k. last_digits k n) next
+    ∙ ap (λ l. l ++ (48 + n % 10) ∷ []) (last_split count p (n / 10) ∙ ap (λ m. last_digits count m ++ last_digits p (n / 10)) over)
+    ∙ append_assoc (last_digits count (n / 10 ^ suc p)) (last_digits p (n / 10)) ((48 + n % 10) ∷ [])
+
+-- the powers of ten of both parts of a row of 16 digits
+row_powers : (scale : ℕ) → scale < 16 → 10 ^ (16 - scale) * 10 ^ scale ≡ 10 ^ 16
+row_powers scale few = let both : 16 - scale + scale ≡ 16 = omega arith in sym (pow-add 10 (16 - scale) scale) ∙ ap (λ k. 10 ^ k) both
+
+-- a row of 16 digits is those before the places, and those behind them
+row_split : (scale n : ℕ) → scale < 16 → last_digits 16 n ≡ last_digits (16 - scale) (n / 10 ^ scale) ++ last_digits scale n
+row_split scale n few = let both : 16 - scale + scale ≡ 16 = omega arith in ap (λ k. last_digits k n) (sym both)
+    ∙ last_split (16 - scale) scale n
+
+-- a number that fits into so many digits has zeros in front of it there
+fitted : (count n : ℕ) → 1 ≤ count → n < 10 ^ count → n < 10 ^ 64
+    → last_digits count n ≡ zeros_text (count - length (decimal n)) ++ decimal n
+fitted count zero some less small =
+    let one : length (decimal 0) ≡ 1 = ap (λ (x : List ℕ). length x) (decimal_digit 0 (omega arith)) in
+    let next : count - 1 + 1 ≡ count = omega arith in
+    last_zeros count ∙ ap zeros_text (sym next) ∙ sym (replicate_more {X = ℕ} (count - 1) 48) ∙ rw (one, decimal_digit 0 (omega arith)) refl
+fitted count (suc n) some less small = sym (padded count (suc n) (omega arith) less small)
+
+-- where the zeros in front end, the number begins
+module _ (lanes : List ℕ) (zeros : ℕ) (shown behind : List ℕ) (lead : ℕ) (is : lanes ≡ replicate lead 48 ++ (shown ++ behind))
+    (counted : IsZerosInFront lanes zeros) where
+  zero_at : (k : ℕ) → k < lead → get_or lanes k 0 ≡ 48
+  zero_at k l = rw is (get_or_append_left (replicate lead 48) (shown ++ behind) 0 k (omega (arith, length-replicate {A = ℕ} lead 48))
+      ∙ get_or-replicate lead k 48 0 l)
+
+  not_fewer : lead ≤ 15 → lead ≤ zeros
+  not_fewer few = elim (cases_lt zeros lead) [ inl l ↦ absurd (counted.stops (omega arith) (zero_at zeros l)) | inr g ↦ g ]
+
+  first_at : 0 < length shown → get_or lanes lead 0 ≡ get_or shown 0 0
+  first_at some =
+      let at : length (replicate {A = ℕ} lead 48) + 0 ≡ lead = omega (arith, length-replicate {A = ℕ} lead 48) in
+      rw is (ap (λ n. get_or (replicate lead 48 ++ (shown ++ behind)) n 0) (sym at)
+      ∙ get_or-append-add (replicate lead 48) (shown ++ behind) 0 0 ∙ get_or_append_left shown behind 0 0 some)
+
+  not_more : 0 < length shown → 48 < get_or shown 0 0 → zeros ≤ lead
+  not_more some above = elim (cases_lt lead zeros) [
+    | inl l ↦ absurd (let zero : get_or lanes lead 0 ≡ 48 = sym (get_or-take zeros lanes lead 0 l)
+        ∙ rw counted.zeros (get_or-replicate zeros lead 48 0 l) in let first = first_at some in omega arith)
+    | inr g ↦ g
+  ]
+
+  pub shown_at : take (length shown) (drop lead lanes) ≡ shown
+  shown_at = rw (is, drop_at (replicate lead 48) (shown ++ behind) lead (length-replicate {A = ℕ} lead 48))
+      (take_at shown behind (length shown) refl)
+
+-- the number without its last places, in a row of 16 digits, behind the zeros there
+module _ (n scale : ℕ) (small : n < 10 ^ 16) (few : scale < 16) (lanes : List ℕ) (is : lanes ≡ last_digits 16 n) (zeros : ℕ)
+    (counted : IsZerosInFront lanes zeros) where
+  abbrev whole : ℕ
+  whole = n / 10 ^ scale
+
+  abbrev end : ℕ
+  end = 16 - scale
+
+  whole_below : whole < 10 ^ end
+  whole_below = (div-lt_iff_lt-mul (ten_pos scale)).1 (rw (row_powers scale few) small)
+
+  whole_small : whole < 2 ^ 64
+  whole_small = let most : 10 ^ end ≤ 10 ^ 16 = power_le end 16 (omega arith) in omega (arith, whole_below)
+
+  abbrev shown : List ℕ
+  shown = decimal whole
+
+  abbrev lead : ℕ
+  lead = end - length shown
+
+  row_is : lanes ≡ replicate lead 48 ++ (shown ++ last_digits scale n)
+  row_is = is ∙ row_split scale n few
+      ∙ ap (λ l. l ++ last_digits scale n) (fitted end whole (omega arith) whole_below (omega (arith, whole_small)))
+      ∙ append_assoc (zeros_text lead) shown (last_digits scale n)
+
+  start_is : (start : ℕ) → start ≡ min zeros (end - 1) → start ≡ lead
+  start_is start s =
+      let some = decimal_nonempty whole whole_small in
+      let least = not_fewer lanes zeros shown (last_digits scale n) lead row_is counted (omega arith) in
+      elim (cases_lt 0 whole) [
+        | inl above ↦ (let most =
+            not_more lanes zeros shown (last_digits scale n) lead row_is counted some (first_decimal whole above whole_small) in
+            omega arith)
+        | inr none ↦ (let one : length shown ≡ 1 = let zero : whole ≡ 0 = omega arith in ap (λ w. length (decimal w)) zero
+            ∙ ap (λ (x : List ℕ). length x) (decimal_digit 0 (omega arith)) in omega arith)
+      ]
+
+  pub front_is : (start : ℕ) → start ≡ min zeros (end - 1) → take (end - start) (drop start lanes) ≡ decimal whole
+  front_is start s =
+      let fits = length-decimal-le end whole (omega arith) whole_below whole_small in
+      let count : end - lead ≡ length shown = omega arith in
+      rw (start_is start s, count) (shown_at lanes zeros shown (last_digits scale n) lead row_is counted)
+
+-- a number of more than 16 digits: those in front, and those of the last row before the places
+module _ (magnitude scale : ℕ) (few : scale < 16) (word : magnitude < 2 ^ 64) (wide : 10 ^ 16 ≤ magnitude) where
+  abbrev before : ℕ
+  before = 16 - scale
+
+  abbrev last : ℕ
+  last = magnitude % 10 ^ 16
+
+  last_below : last / 10 ^ scale < 10 ^ before
+  last_below = (div-lt_iff_lt-mul (ten_pos scale)).1 (rw (row_powers scale few) (omega arith))
+
+  over : magnitude / 10 ^ scale ≡ magnitude / 10 ^ 16 * 10 ^ before + last / 10 ^ scale
+  over =
+      let first : ℕ = magnitude / 10 ^ 16 in
+      let times : 10 ^ scale * (first * 10 ^ before) ≡ first * 10 ^ 16 = rw (← row_powers scale few) (grind arith) in
+      let parts : magnitude ≡ last + 10 ^ scale * (first * 10 ^ before) = omega arith in
+      let sum : last / 10 ^ scale + first * 10 ^ before ≡ first * 10 ^ before + last / 10 ^ scale = omega arith in
+      ap (λ n. n / 10 ^ scale) parts ∙ add-mul-div_left last (first * 10 ^ before) (ten_pos scale) ∙ sum
+
+  pub wide_whole : decimal (magnitude / 10 ^ 16) ++ take before (last_digits 16 last) ≡ decimal (magnitude / 10 ^ scale)
+  wide_whole =
+      let lanes : take before (last_digits 16 last) ≡ last_digits before (last / 10 ^ scale) = ap (take before) (row_split scale last few)
+      ∙ take_at (last_digits before (last / 10 ^ scale)) (last_digits scale last) before (last_count before (last / 10 ^ scale)) in
+      let small : magnitude / 10 ^ 16 * 10 ^ before + last / 10 ^ scale < 10 ^ 64 =
+      rw (← over) (let le = div-le_self magnitude (10 ^ scale) in omega arith) in
+      rw lanes (sym (ap decimal over ∙ joined before (magnitude / 10 ^ 16) (last / 10 ^ scale) (omega arith) last_below small))
+
+-- the digits behind the point
+pub behind_point : (magnitude scale : ℕ) → scale < 16
+    → drop (16 - scale) (last_digits 16 (magnitude % 10 ^ 16)) ≡ last_digits scale (magnitude % 10 ^ scale)
+behind_point magnitude scale few =
+    let last : ℕ = magnitude % 10 ^ 16 in
+    let lanes : drop (16 - scale) (last_digits 16 last) ≡ last_digits scale last = ap (drop (16 - scale)) (row_split scale last few)
+    ∙ drop_at (last_digits (16 - scale) (last / 10 ^ scale)) (last_digits scale last) (16 - scale)
+    (last_count (16 - scale) (last / 10 ^ scale)) in
+    let times : magnitude / 10 ^ 16 * 10 ^ (16 - scale) * 10 ^ scale ≡ magnitude / 10 ^ 16 * 10 ^ 16 =
+    rw (← row_powers scale few) (grind arith) in
+    let parts : magnitude / 10 ^ 16 * 10 ^ (16 - scale) * 10 ^ scale + last ≡ magnitude = omega arith in
+    lanes ∙ sym (last_behind scale (magnitude / 10 ^ 16 * 10 ^ (16 - scale)) last) ∙ ap (last_digits scale) parts
+    ∙ sym (last_rest scale magnitude)

@@ -1,0 +1,67 @@
+-- The text of digits with the point between them.
+use Rattle.std.proofs.Common.{◌≡◌, ℕ, ◌-◌, ◌<◌, Bool, true, false, List, ◌∷◌, ◌++◌, length, take, drop, ap, refl, ◌∙◌, append_assoc, arith}
+use Rattle.std.specs.Prelude.{ℤ, pos, negsuc, neg_ℤ, nat_abs, int_le, int_lt, ◌<ℤ◌, ◌+ℤ◌, ◌-ℤ◌, ◌||◌, ◌^◌}
+use Rattle.std.specs.Fmt.{signed_decimal}
+use Rattle.std.specs.List.{All}
+use Rattle.std.proofs.lemmas.Int.{ints}
+use Rattle.std.proofs.lemmas.List.{length-drop}
+use Rattle.std.proofs.lemmas.List.Elements.{All-take, All-drop}
+use Rattle.std.proofs.lemmas.Str.{IsAscii-append}
+use Rattle.std.proofs.lemmas.Str.Ascii.{IsAscii-cons}
+use Rattle.std.specs.Str.{IsAscii}
+use Rattle.ijson_number.specs.Text.{digits_text, minus_text, num_text, point_text, shape_text}
+use Rattle.ijson_number.specs.private.SplitText.{split_text}
+use Rattle.ijson_number.specs.StoredNumber.{stored_number}
+use Rattle.ijson_number.specs.private.Stripped.{IsStripped}
+use Rattle.ijson_number.specs.private.WordText.{integer_text}
+use Rattle.ijson_number.proofs.writing.AsciiTexts.{digits_text_ascii, sign_ascii}
+use Rattle.ijson_number.proofs.writing.Writing.{left, more_digits, stored_text, with_exponent, without_exponent}
+use Rattle.ijson_number.proofs.BooleanTests.{not_le, not_lt}
+
+pub below_zero : (e x : ℤ) → x ≡ e → int_le (pos 0) x ≡ false → e <ℤ pos 0
+below_zero e x same test = grind (arith, ints)
+
+pub row_shown : (negative : Bool) (ds : List ℕ) (e : ℤ) (point : Bool) (k : ℕ) → IsStripped ds → point ≡ true → e <ℤ pos 0 → k ≡ nat_abs e
+    → k < length ds → split_text negative ds (length ds - k) ≡ num_text (stored_number negative ds e point)
+row_shown negative ds e point k s p below is inside =
+    let m : ℕ = length ds - k in
+    let place : pos (length ds - k) ≡ pos (length ds) +ℤ e = omega (arith, ints) in
+    let not_scientific : int_lt (pos 20) e ≡ false = not_lt (pos 20) e (omega (arith, ints)) in
+    let not_front : int_le (pos (length ds - k)) (pos 0) ≡ false = not_le (pos (length ds - k)) (pos 0) (omega (arith, ints)) in
+    let not_behind : int_le (pos (length ds)) (pos (length ds - k)) ≡ false =
+    not_le (pos (length ds)) (pos (length ds - k)) (omega (arith, ints)) in
+    let shape : point_text ds (pos (length ds - k)) ≡ shape_text point ds e =
+    without_exponent point ds e (pos (length ds - k)) p place not_scientific in
+    let split : digits_text (take (length ds - k) ds) ++ 46 ∷ digits_text (drop (length ds - k) ds) ≡ point_text ds
+    (pos (length ds - k)) = left (int_le (pos (length ds)) (pos (length ds - k))) _ _ not_behind
+    ∙ left (int_le (pos (length ds - k)) (pos 0)) _ _ not_front in
+    ap (λ x. minus_text negative ++ x) (split ∙ shape) ∙ stored_text negative ds e point s (omega arith)
+
+-- a number whole or not as std writes it, by its sign
+signed_is : (z : ℤ) → integer_text (int_lt z (pos 0)) (nat_abs z) ≡ signed_decimal z
+signed_is (pos n) = rw (not_lt (pos n) (pos 0) (omega (arith, ints))) refl
+signed_is (negsuc n) = refl
+
+-- the point stands behind the first digit, and an exponent behind the last
+pub scientific_shown : (negative : Bool) (ds : List ℕ) (e : ℤ) (point : Bool) (p z : ℤ) → IsStripped ds → point ≡ true → 1 < length ds
+    → p ≡ pos (length ds) +ℤ e
+    → neg_ℤ (pos (2 ^ 70)) <ℤ p → p <ℤ pos (2 ^ 70) → int_le p (negsuc 5) || int_lt (pos 20) e ≡ true → z ≡ p -ℤ pos 1
+    → split_text negative ds 1 ++ 101 ∷ integer_text (int_lt z (pos 0)) (nat_abs z) ≡ num_text (stored_number negative ds e point)
+scientific_shown negative ds e point p z s is long place low high written power =
+    let first = digits_text (take 1 ds) in
+    let rest = digits_text (drop 1 ds) in
+    let exponent = 101 ∷ integer_text (int_lt z (pos 0)) (nat_abs z) in
+    let more : length (drop 1 ds) ≡ 0 → ⊥ = λ none. let l = length-drop 1 ds in omega (arith, none, l) in
+    let shape : first ++ 46 ∷ (rest ++ exponent) ≡ shape_text point ds e = ap (λ x. first ++ 46 ∷ (rest ++ 101 ∷ x)) (signed_is z)
+    ∙ more_digits ds (take 1 ds) (drop 1 ds) p z refl refl more low high power ∙ with_exponent point ds e p is place written in
+    append_assoc (minus_text negative) (first ++ 46 ∷ rest) exponent
+    ∙ ap (λ x. minus_text negative ++ x) (append_assoc first (46 ∷ rest) exponent ∙ shape)
+    ∙ stored_text negative ds e point s (omega arith)
+
+pub split_ascii : (negative : Bool) (ds : List ℕ) (place : ℕ) → All (λ d. d < 10) ds → IsAscii (split_text negative ds place)
+split_ascii negative ds place h =
+    IsAscii-append (minus_text negative) (digits_text (take place ds) ++ 46 ∷ digits_text (drop place ds)) (sign_ascii negative)
+    (IsAscii-append (digits_text (take place ds)) (46 ∷ digits_text (drop place ds))
+    (digits_text_ascii (take place ds) (All-take (λ d. d < 10) place ds h))
+    (IsAscii-cons 46 (digits_text (drop place ds)) (omega arith)
+    (digits_text_ascii (drop place ds) (All-drop (λ d. d < 10) place ds h))))

@@ -1,0 +1,197 @@
+-- The text of a whole number that is kept in one word.
+use Rattle.std.proofs.Common.{◌≡◌, ◌≢◌, ℕ, ◌+◌, ◌-◌, ◌*◌, ◌^◌, ◌<◌, ◌≤◌, Bool, true, false, List, [], ◌∷◌, ◌++◌, length, refl, ap, sym, ◌∙◌, arith, inl, inr}
+use Rattle.std.specs.Prelude.{ℤ, pos, negsuc, nat_abs, int_le, int_lt, ◌+ℤ◌, ◌-ℤ◌, ◌||◌, nat_eq, not}
+use Rattle.std.proofs.lemmas.Bool.{cases_lt}
+use Rattle.std.proofs.lemmas.Fmt.{decimal_digit, decimal_nonempty}
+use Rattle.std.proofs.lemmas.Int.{ints}
+use Rattle.std.proofs.lemmas.Int.Digits.{length-digits_of-le}
+use Rattle.std.proofs.lemmas.List.{length-append, length-map, take_at, drop_at, take-map, drop-map}
+use Rattle.std.specs.Fmt.{decimal}
+use Rattle.std.specs.Int.Digits.{digits_of}
+use Rattle.ijson_number.specs.Decimal.{Decimal}
+use Rattle.ijson_number.specs.Text.{digits_text, zeros_text, point_text, scientific_text, float_text, shape_text, minus_text, num_text}
+use Rattle.ijson_number.specs.Stripped.{tens_out, stripped_number}
+use Rattle.ijson_number.specs.StoredNumber.{stored_number}
+use Rattle.ijson_number.specs.private.Word.{word_code, word_exponent, word_mantissa, word_point}
+use Rattle.ijson_number.specs.private.WordText.{last_digits, integer_text, pointed_text}
+use Rattle.ijson_number.specs.laws.Tens.{ten_pos, zero_or_not}
+use Rattle.ijson_number.proofs.storing.FormNumbers.{IsTensOut, tens_out_is, sign_and_magnitude}
+use Rattle.ijson_number.proofs.storing.IntegerWords.{zero_is, some_is, some_stored}
+use Rattle.ijson_number.proofs.BooleanTests.{abs_zero, le_test, not_le, not_lt}
+use Rattle.ijson_number.proofs.storing.WholeValues.{tens_few}
+use Rattle.ijson_number.proofs.writing.Writing.{decimal_is, stored_text, taken, left}
+use Rattle.ijson_number.proofs.writing.PaddedDigits.{joined, last_count, last_zeros, padded, some_places, whole_small}
+
+pub neither : (a b : Bool) → a ≡ false → b ≡ false → a || b ≡ false
+neither a b p q = rw (p, q) refl
+
+module _ (magnitude : ℕ) (some : 0 < magnitude) (small : magnitude < 2 ^ 64) where
+  abbrev ds : List ℕ
+  ds = digits_of 10 magnitude
+
+  text_is : digits_text ds ≡ decimal magnitude
+  text_is = sym (decimal_is magnitude (omega arith) some)
+
+  pub count_is : length ds ≡ length (decimal magnitude)
+  count_is = sym (length-map {A = ℕ} {B = ℕ} ds (λ d. 48 + d)) ∙ ap (λ (x : List ℕ). length x) text_is
+
+  -- the text where the point stands between the digits or before them
+  module _ (k whole fraction : ℕ) (scale : 0 < k) (is : magnitude ≡ whole * 10 ^ k + fraction) (below : fraction < 10 ^ k) (place : ℤ)
+      (place_is : place ≡ pos (length ds) -ℤ pos k) where
+    before_digits : whole ≡ 0 → point_text ds place ≡ decimal whole ++ 46 ∷ last_digits k fraction
+    before_digits none =
+        let same : magnitude ≡ fraction = is ∙ rw none (omega arith) in
+        let short : length ds ≤ k = length-digits_of-le 10 k magnitude (omega arith) (rw same below) in
+        let at : int_le place (pos 0) ≡ true = le_test place (pos 0) (omega (arith, ints)) in
+        let zeros : nat_abs place ≡ k - length (decimal magnitude) = rw (← count_is) (omega (arith, ints)) in
+        let behind : zeros_text (nat_abs place) ++ digits_text ds ≡ last_digits k magnitude =
+        rw (zeros, text_is) (padded k magnitude some (rw same below) (omega arith)) in
+        sym (taken (int_le place (pos 0)) _ _ at) ∙ ap (λ x. 48 ∷ 46 ∷ x) behind ∙ rw (none, decimal_digit 0 (omega arith), same) refl
+
+    between_digits : 0 < whole → point_text ds place ≡ decimal whole ++ 46 ∷ last_digits k fraction
+    between_digits above =
+        let d : decimal magnitude ≡ decimal whole ++ last_digits k fraction = ap decimal is
+        ∙ joined k whole fraction above below (rw (← is) (omega arith)) in
+        let more = some_places whole k above in
+        let t = ten_pos k in
+        let front : 0 < length (decimal whole) = decimal_nonempty whole (whole_small whole (10 ^ k) fraction t (rw (← is) small)) in
+        let long : length ds ≡ length (decimal whole) + k = count_is ∙ ap (λ (x : List ℕ). length x) d
+        ∙ length-append (decimal whole) (last_digits k fraction) ∙ ap (λ n. length (decimal whole) + n) (last_count k fraction) in
+        let first : int_le place (pos 0) ≡ false = not_le place (pos 0) (omega (arith, ints)) in
+        let second : int_le (pos (length ds)) place ≡ false = not_le (pos (length ds)) place (omega (arith, ints)) in
+        let cut : nat_abs place ≡ length (decimal whole) = omega (arith, ints) in
+        sym (left (int_le place (pos 0)) _ _ first)
+        ∙ sym (left (int_le (pos (length ds)) place) _ _ second)
+        ∙ rw (
+          cut,
+          ← take-map {X = ℕ} {Y = ℕ} (λ d. 48 + d) (length (decimal whole)) ds,
+          ← drop-map {X = ℕ} {Y = ℕ} (λ d. 48 + d)
+              (length (decimal whole)) ds,
+          text_is,
+          d,
+          take_at (decimal whole) (last_digits k fraction)
+              (length (decimal whole)) refl,
+          drop_at (decimal whole) (last_digits k fraction) (length (decimal whole)) refl,
+        ) refl
+
+    pub fraction_is : point_text ds place ≡ decimal whole ++ 46 ∷ last_digits k fraction
+    fraction_is = elim (cases_lt 0 whole) [ inl above ↦ between_digits above | inr none ↦ before_digits (omega arith) ]
+
+-- a whole number, whose zeros at the end are taken off
+module _ (z : ℤ) (word : nat_abs z < 2 ^ 64) where
+  abbrev magnitude : ℕ
+  magnitude = nat_abs z
+
+  abbrev negative : Bool
+  negative = int_lt z (pos 0)
+
+  abbrev out : ℕ × ℕ
+  out = tens_out 20 magnitude
+
+  module _ (some : z ≢ pos 0) where
+    above : magnitude ≢ 0
+    above e = some (abs_zero z e)
+
+    tens : IsTensOut magnitude out
+    tens = tens_out_is 20 magnitude above (omega arith)
+
+    few : out.1 < 20
+    few = tens_few magnitude out.0 out.1 word (λ e. tens.1 (rw e refl)) tens.0
+
+    front : 0 < out.0
+    front = let n = tens.1 in omega (arith, n)
+
+    front_small : out.0 < 2 ^ 64
+    front_small = whole_small out.0 (10 ^ out.1) 0 (ten_pos out.1) (let e = tens.0 in omega arith)
+
+    abbrev kept : List ℕ
+    kept = digits_of 10 out.0
+
+    some_kept : 0 < length kept
+    some_kept = let c = count_is out.0 front front_small in let d = decimal_nonempty out.0 front_small in omega arith
+
+    exact : pos 0 +ℤ pos out.1 ≡ pos out.1
+    exact = omega (arith, ints)
+
+    number_is : (point : Bool) → stripped_number z (pos 0) point ≡ stored_number negative kept (pos out.1) point
+    number_is point = ap (λ y. stripped_number y (pos 0) point) (sym (sign_and_magnitude z))
+        ∙ some_is magnitude out.0 out.1 above (omega arith) tens.0 tens.1 negative (pos 0) point
+        ∙ ap (λ e. stored_number negative kept e point) exact
+
+    stored_is : (point : Bool) → num_text (stripped_number z (pos 0) point) ≡ minus_text negative ++ shape_text point kept (pos out.1)
+    stored_is point = ap num_text (number_is point)
+        ∙ sym (stored_text negative kept (pos out.1) point (some_stored out.0 tens.1 negative).stripped some_kept)
+
+    with_zeros : digits_text kept ++ zeros_text out.1 ≡ decimal magnitude
+    with_zeros =
+        let is : magnitude ≡ out.0 * 10 ^ out.1 + 0 = let e = tens.0 in omega arith in
+        sym (ap decimal is ∙ joined out.1 out.0 0 front (ten_pos out.1) (rw (← is) (omega arith))
+        ∙ rw (last_zeros out.1, ← text_is out.0 front front_small) refl)
+
+    some_integer : num_text (stripped_number z (pos 0) false) ≡ integer_text negative magnitude
+    some_integer = stored_is false ∙ ap (λ x. minus_text negative ++ x) with_zeros
+
+    abbrev place : ℤ
+    place = pos (length kept) +ℤ pos out.1
+
+    some_float : float_text kept (pos out.1) ≡ decimal magnitude ++ 46 ∷ 48 ∷ []
+    some_float =
+        let long = some_kept in
+        let low = few in
+        let plain = neither (int_le place (negsuc 5)) (int_lt (pos 20) (pos out.1)) (not_le place (negsuc 5) (omega (arith, ints)))
+        (not_lt (pos 20) (pos out.1) (omega (arith, ints))) in
+        let first : int_le place (pos 0) ≡ false = not_le place (pos 0) (omega (arith, ints)) in
+        let second : int_le (pos (length kept)) place ≡ true = le_test (pos (length kept)) place (omega (arith, ints)) in
+        let zeros : nat_abs (place -ℤ pos (length kept)) ≡ out.1 = omega (arith, ints) in
+        sym (left (int_le place (negsuc 5) || int_lt (pos 20) (pos out.1)) (scientific_text kept place) (point_text kept place) plain)
+        ∙ sym (left (int_le place (pos 0)) _ _ first)
+        ∙ sym (taken (int_le (pos (length kept)) place) _ _ second)
+        ∙ rw zeros (ap (λ x. x ++ (46 ∷ 48 ∷ [])) with_zeros)
+
+    some_whole : num_text (stripped_number z (pos 0) true) ≡ pointed_text negative magnitude 1 0
+    some_whole =
+        let one : decimal magnitude ++ 46 ∷ 48 ∷ [] ≡ decimal magnitude ++ 46 ∷ last_digits 1 0 = rw (last_zeros 1) refl in
+        stored_is true ∙ ap (λ x. minus_text negative ++ x) (some_float ∙ one)
+
+  -- without the point
+  pub integer_num_text : num_text (stripped_number z (pos 0) false) ≡ integer_text negative magnitude
+  integer_num_text =
+      elim (zero_or_not z) [
+        | inl e ↦ rw e (ap num_text (zero_is false (pos 0) false) ∙ sym (decimal_digit 0 (omega arith)))
+        | inr some ↦ some_integer some
+      ]
+
+  -- with the point
+  pub whole_num_text : num_text (stripped_number z (pos 0) true) ≡ pointed_text negative magnitude 1 0
+  whole_num_text =
+      elim (zero_or_not z) [
+        | inl e ↦ rw e (ap num_text (zero_is false (pos 0) true) ∙ rw (decimal_digit 0 (omega arith), last_zeros 1) refl)
+        | inr some ↦ some_whole some
+      ]
+
+-- the text that is put together is the number's
+pub whole_shown : (m e s : ℤ) (n : ℕ) → s ≡ m → n ≡ nat_abs m → e ≡ pos 0 → n < 2 ^ 64
+    → minus_text (int_lt s (pos 0)) ++ (decimal n ++ 46 ∷ 48 ∷ []) ≡ num_text (stripped_number m e true)
+whole_shown m e s n sign magnitude none word =
+    let zero : 48 ∷ [] ≡ last_digits 1 0 = sym (last_zeros 1) in
+    rw (zero, sign, magnitude) (sym (whole_num_text m (rw (← magnitude) word))) ∙ ap (λ x. num_text (stripped_number m x true)) (sym none)
+
+pub integer_shown : (n : Decimal) (z s : ℤ) (magnitude : ℕ) (shown : List ℕ) → n ≡ stripped_number z (pos 0) false → s ≡ z
+    → magnitude ≡ nat_abs z → magnitude < 2 ^ 64 → shown ≡ integer_text (int_lt s (pos 0)) magnitude → shown ≡ num_text n
+integer_shown n z s magnitude shown number sign abs word is = is ∙ rw (number, sign, abs) (sym (integer_num_text z (rw (← abs) word)))
+
+pub unsigned_shown : (n : Decimal) (magnitude : ℕ) (shown : List ℕ) → n ≡ stripped_number (pos magnitude) (pos 0) false
+    → magnitude < 2 ^ 64 → shown ≡ integer_text false magnitude → shown ≡ num_text n
+unsigned_shown n magnitude shown number word is =
+    let above : int_lt (pos magnitude) (pos 0) ≡ false = not_lt (pos magnitude) (pos 0) (omega (arith, ints)) in
+    is ∙ ap (λ b. integer_text b magnitude) (sym above) ∙ sym (integer_num_text (pos magnitude) word) ∙ ap num_text (sym number)
+
+-- a packed number without the point has no exponent
+pub packed_integer : (bits : ℕ) → word_point bits ≡ false
+    → stripped_number (word_mantissa bits) (word_exponent bits) (word_point bits) ≡ stripped_number (word_mantissa bits) (pos 0) false
+packed_integer bits h = rw h
+    (ap (λ e. stripped_number (word_mantissa bits) e false) (no_exponent (nat_eq (word_code bits) 15) (pos (word_code bits) -ℤ pos 7) h))
+  where
+    no_exponent : (b : Bool) (e : ℤ) → not b ≡ false → (let r : ℤ = elim b [ true ↦ pos 0 | false ↦ e ] in r) ≡ pos 0
+    no_exponent true e h = refl
+    no_exponent false e h = absurd (cc)

@@ -1,0 +1,105 @@
+-- The text of whole numbers, as std writes it.
+use Rattle.std.proofs.Common.{◌≡◌, ℕ, zero, suc, ◌+◌, ◌/◌, ◌%◌, ◌^◌, ◌<◌, List, [], ◌∷◌, ◌++◌, length, take, drop, refl, ap, sym, ◌∙◌, arith}
+use Rattle.std.specs.Prelude.{ℤ, pos, negsuc, neg_ℤ, nat_abs, Bool, true, false, ◌||◌, int_le, int_lt, ◌<ℤ◌, ◌+ℤ◌, ◌-ℤ◌, nat_eq}
+use Rattle.std.proofs.lemmas.Int.{ints}
+use Rattle.std.proofs.lemmas.Bool.Decides.{nat_tests}
+use Rattle.std.proofs.lemmas.Fmt.{decimal_by_steps_wide, decimal_digit}
+use Rattle.std.proofs.lemmas.List.{map-append}
+use Rattle.std.proofs.lemmas.Int.Digits.{digits_of_step}
+use Rattle.std.specs.Fmt.{decimal, signed_decimal}
+use Rattle.std.specs.Int.Digits.{digits_of, number_from_digits}
+use Rattle.ijson_number.specs.Text.{whole_text, digits_text, scientific_text, point_text, shape_text, minus_text, zero_text, num_text}
+use Rattle.ijson_number.proofs.storing.DigitsOf.{digits_are, stored_digits_are}
+use Rattle.ijson_number.specs.Decimal.{Decimal}
+use Rattle.ijson_number.specs.Strips.{signed}
+use Rattle.ijson_number.specs.StoredNumber.{stored_number}
+use Rattle.ijson_number.specs.StrippedDigits.{stripped_digits}
+use Rattle.ijson_number.specs.private.Stripped.{IsStripped}
+use Rattle.ijson_number.proofs.parsing.Denotes.{stripped_mod}
+use Rattle.ijson_number.specs.laws.Tens.{abs_signed}
+
+pub decimal_is : (n : ℕ) → n < 10 ^ 64 → 0 < n → decimal n ≡ digits_text (digits_of 10 n)
+decimal_is n h p =
+    let P : ℕ → List ℕ → Type 0 = λ n ds. 0 < n → ds ≡ digits_text (digits_of 10 n) in
+    decimal_by_steps_wide P
+    (λ n l q. let a : n / 10 ≡ 0 = omega arith in let b : n % 10 ≡ n = omega arith in
+    sym (ap digits_text (digits_of_step 10 n (omega arith) q) ∙ rw (a, b) refl))
+    (λ n ds l ih q. rw (digits_of_step 10 n (omega arith) q)
+    (rw (map-append {A = ℕ} {B = ℕ} (λ d. 48 + d) (digits_of 10 (n / 10)) (n % 10 ∷ []), ← ih (omega arith)) refl))
+    n h p
+
+pub whole_text_is : (z : ℤ) → nat_abs z < 10 ^ 64 → whole_text z ≡ signed_decimal z
+whole_text_is (pos zero) h = sym (decimal_digit 0 (omega arith))
+whole_text_is (pos (suc n)) h = ap digits_text (digits_are (suc n) (suc n)) ∙ sym (decimal_is (suc n) h (omega arith))
+whole_text_is (negsuc n) h = ap (λ x. 45 ∷ digits_text x) (digits_are (suc n) (suc n))
+    ∙ ap (λ x. 45 ∷ x) (sym (decimal_is (suc n) h (omega arith)))
+
+abs_small : (z : ℤ) → neg_ℤ (pos (2 ^ 71)) <ℤ z → z <ℤ pos (2 ^ 71) → nat_abs z < 10 ^ 64
+abs_small (pos n) l h = omega (arith, ints)
+abs_small (negsuc n) l h = omega (arith, ints)
+
+power_text : (p z : ℤ) → neg_ℤ (pos (2 ^ 70)) <ℤ p → p <ℤ pos (2 ^ 70) → z ≡ p -ℤ pos 1 → signed_decimal z ≡ whole_text (p -ℤ pos 1)
+power_text p z l h e = rw e (sym (whole_text_is (p -ℤ pos 1) (abs_small (p -ℤ pos 1) (omega (arith, ints)) (omega (arith, ints)))))
+
+pub one_digit : (ds f r : List ℕ) (p z : ℤ) → f ≡ take 1 ds → r ≡ drop 1 ds → length r ≡ 0 → 0 < length ds → neg_ℤ (pos (2 ^ 70)) <ℤ p
+    → p <ℤ pos (2 ^ 70) → z ≡ p -ℤ pos 1 → digits_text f ++ 101 ∷ signed_decimal z ≡ scientific_text ds p
+one_digit [] f r p z a b n s l h e = absurd (omega arith)
+one_digit (d ∷ []) f r p z a b n s l h e = rw (a, power_text p z l h e) refl
+one_digit (d ∷ c ∷ ds) f r p z a b n s l h e = let k : length r ≡ suc (length ds) = ap (λ (x : List ℕ). length x) b in absurd (omega arith)
+
+pub more_digits : (ds f r : List ℕ) (p z : ℤ) → f ≡ take 1 ds → r ≡ drop 1 ds → (length r ≡ 0 → ⊥) → neg_ℤ (pos (2 ^ 70)) <ℤ p
+    → p <ℤ pos (2 ^ 70) → z ≡ p -ℤ pos 1 → digits_text f ++ 46 ∷ (digits_text r ++ 101 ∷ signed_decimal z) ≡ scientific_text ds p
+more_digits [] f r p z a b n l h e = absurd (n (ap (λ (x : List ℕ). length x) b))
+more_digits (d ∷ []) f r p z a b n l h e = absurd (n (ap (λ (x : List ℕ). length x) b))
+more_digits (d ∷ c ∷ ds) f r p z a b n l h e = rw (a, b, power_text p z l h e) refl
+
+pub taken : (b : Bool) (xs ys : List ℕ) → b ≡ true → xs ≡ elim b [ true ↦ xs | false ↦ ys ]
+taken true xs ys e = refl
+taken false xs ys e = absurd (cc)
+
+pub left : (b : Bool) (xs ys : List ℕ) → b ≡ false → ys ≡ elim b [ true ↦ xs | false ↦ ys ]
+left true xs ys e = absurd (cc)
+left false xs ys e = refl
+
+pub with_exponent : (point : Bool) (ds : List ℕ) (e p : ℤ) → point ≡ true → p ≡ pos (length ds) +ℤ e
+    → int_le p (negsuc 5) || int_lt (pos 20) e ≡ true → scientific_text ds p ≡ shape_text point ds e
+with_exponent point ds e p a b t =
+    rw (a, b) (taken (int_le (pos (length ds) +ℤ e) (negsuc 5) || int_lt (pos 20) e) (scientific_text ds (pos (length ds) +ℤ e))
+    (point_text ds (pos (length ds) +ℤ e)) (rw b at t))
+
+pub without_exponent : (point : Bool) (ds : List ℕ) (e p : ℤ) → point ≡ true → p ≡ pos (length ds) +ℤ e
+    → int_le p (negsuc 5) || int_lt (pos 20) e ≡ false → point_text ds p ≡ shape_text point ds e
+without_exponent point ds e p a b t =
+    rw (a, b) (left (int_le (pos (length ds) +ℤ e) (negsuc 5) || int_lt (pos 20) e) (scientific_text ds (pos (length ds) +ℤ e))
+    (point_text ds (pos (length ds) +ℤ e)) (rw b at t))
+
+pub below_zero : (negative : Bool) (v : ℕ) → 0 < v → int_lt (signed negative v) (pos 0) ≡ negative
+below_zero true zero h = absurd (omega arith)
+below_zero true (suc v) h = refl
+below_zero false v h = grind (arith, nat_tests)
+
+pub not_zero : (v : ℕ) → 0 < v → nat_eq v 0 ≡ false
+not_zero v h = grind arith
+
+-- the text of the stored number that isn't zero
+pub stored_text : (negative : Bool) (ds : List ℕ) (e : ℤ) (point : Bool) → IsStripped ds → 0 < length ds
+    → minus_text negative ++ shape_text point ds e ≡ num_text (stored_number negative ds e point)
+stored_text negative ds e point s h =
+    let m = signed negative (number_from_digits 10 ds) in
+    let n = stripped_mod ds s h in
+    let v : 0 < number_from_digits 10 ds = omega (arith, n) in
+    let a : nat_eq (nat_abs m) 0 ≡ false = rw (abs_signed negative (number_from_digits 10 ds)) (not_zero (number_from_digits 10 ds) v) in
+    (rw (below_zero negative (number_from_digits 10 ds) v, stored_digits_are negative ds e point s) refl)
+    ∙ left (nat_eq (nat_abs m) 0) (zero_text point)
+    (minus_text (int_lt m (pos 0)) ++ shape_text point (stripped_digits (stored_number negative ds e point)) e) a
+
+module _ (n : Decimal) (negative : Bool) (ds shown : List ℕ) (e bits : ℤ) (point : Bool) (is : stored_number negative ds e point ≡ n)
+    (same : shown ≡ ds) (exact : bits ≡ e) (s : IsStripped ds) (h : 0 < length shown) where
+  shown_text : minus_text negative ++ shape_text point shown bits ≡ num_text n
+  shown_text = rw (same, exact, ← is) (stored_text negative ds e point s (rw same at h))
+
+  pub with_minus : negative ≡ true → 45 ∷ shape_text point shown bits ≡ num_text n
+  with_minus t = rw (ap minus_text t) at shown_text
+
+  pub without_minus : negative ≡ false → shape_text point shown bits ≡ num_text n
+  without_minus t = rw (ap minus_text t) at shown_text

@@ -1,0 +1,216 @@
+-- Sixteen digits that are written at once: made by lanes, moved to the front, and without the zeros before them.
+use Rattle.std.proofs.Common.{◌≡◌, ℕ, zero, suc, ◌+◌, ◌-◌, ◌*◌, ◌/◌, ◌%◌, ◌^◌, ◌<◌, ◌≤◌, Bool, true, false, not, cond, eqb, min, get_or, replicate, take, drop, List, [], ◌∷◌, ◌++◌, map, length, length-append, length-drop, refl, sym, ap, ◌∙◌, inl, inr, arith, append_assoc}
+use Rattle.std.specs.Int.Digits.{AllBelowBase}
+use Rattle.std.specs.List.{All, AllByRecursion, prefix_len}
+use Rattle.std.proofs.lemmas.Bool.{cases_eq}
+use Rattle.std.proofs.lemmas.Bool.Decides.{nat_tests}
+use Rattle.std.proofs.lemmas.List.{drop-drop, drop-map, length-replicate, length-take-le, take_all, take-append-le}
+use Rattle.std.proofs.lemmas.List.Elements.{recursion_from_All}
+use Rattle.std.proofs.lemmas.List.Sums.{prefix_len-le-length, prefix_len_passes, prefix_len_stops}
+use Rattle.std.proofs.lemmas.Simd.{bitmask_splat, leading_from_mask_l, length-zip2, trailing_mask_l, zip2_splat}
+use lib.Count.{count_trailing_zeros}
+use lib.Lanes.{number_l, digits_l, mask_l, top, zip2}
+use lib.Seq.{get_or-append-add, take-append-add}
+use mir.Syntax.{w8}
+use Rattle.std.proofs.lemmas.Str.{IsAscii-append}
+use Rattle.std.proofs.lemmas.Str.Ascii.{IsAscii-nil, IsAscii-cons}
+use Rattle.std.specs.Str.{IsAscii}
+use Rattle.std.specs.String.Boundary.{IsSplitPoint}
+use Rattle.ijson_number.specs.Text.{digits_text}
+use Rattle.ijson_number.specs.private.WordText.{last_digits}
+use Rattle.ijson_number.specs.private.ZerosInFront.{IsZerosInFront}
+
+-- ---- the digits of pairs
+
+-- the ones of two digits in the upper byte of 16 bits, and their tens in the lower one
+abbrev lane : ℕ → ℕ
+lane z = (z * 256 % 65536 + (65536 - z / 10 * 2559 % 65536)) % 65536
+
+abbrev pair_text : ℕ → List ℕ
+pair_text z = (48 + z / 10) ∷ (48 + z % 10) ∷ []
+
+abbrev pairs_text : List ℕ → List ℕ
+pairs_text [] = []
+pairs_text (z ∷ zs) = (48 + z / 10) ∷ (48 + z % 10) ∷ pairs_text zs
+
+abbrev twice : List ℕ → ℕ
+twice [] = 0
+twice (z ∷ zs) = suc (suc (twice zs))
+
+abbrev digit : ℕ → ℕ
+digit d = (d + 48) % 2 ^ 8
+
+pub lanes_text : (zs : List ℕ) → AllBelowBase 100 zs → map digit (digits_l 256 (twice zs) (number_l 65536 (map lane zs))) ≡ pairs_text zs
+lanes_text [] h = refl
+lanes_text (z ∷ zs) h =
+    let rest = number_l 65536 (map lane zs) in
+    let is : lane z ≡ z / 10 + 256 * (z % 10) = omega (arith, h.0) in
+    let tens : digit ((lane z + 65536 * rest) % 256) ≡ 48 + z / 10 = rw is (omega (arith, h.0)) in
+    let ones : digit ((lane z + 65536 * rest) / 256 % 256) ≡ 48 + z % 10 = rw is (omega (arith, h.0)) in
+    let on : (lane z + 65536 * rest) / 256 / 256 ≡ rest = rw is (omega (arith, h.0)) in
+    (λ i. tens i ∷ ones i ∷ map digit (digits_l 256 (twice zs) (on i))) ∙ ap (λ l. (48 + z / 10) ∷ (48 + z % 10) ∷ l) (lanes_text zs h.1)
+
+last_pair : (k m rest : ℕ) → m / 100 ≡ rest → last_digits (suc (suc k)) m ≡ last_digits k rest ++ pair_text (m % 100)
+unfolding last_digits
+last_pair k m rest is =
+    let front : m / 10 / 10 ≡ rest = omega arith in
+    let tens : m / 10 % 10 ≡ m % 100 / 10 = omega arith in
+    let ones : m % 10 ≡ m % 100 % 10 = omega arith in
+    rw (front, tens, ones) (append_assoc (last_digits k rest) ((48 + m % 100 / 10) ∷ []) ((48 + m % 100 % 10) ∷ []))
+
+abbrev pub pairs : ℕ → List ℕ
+pairs n =
+    n / 10 ^ 14 ∷ n / 10 ^ 12 % 100 ∷ n / 10 ^ 10 % 100 ∷ n / 10 ^ 8 % 100 ∷ n / 10 ^ 6 % 100 ∷ n / 10 ^ 4 % 100 ∷ n / 10 ^ 2 % 100 ∷ n %
+    100 ∷ []
+
+pub pairs_below : (n : ℕ) → n < 10 ^ 16 → AllBelowBase 100 (pairs n)
+pairs_below n h = omega arith
+
+none : (m : ℕ) → last_digits 0 m ≡ []
+unfolding last_digits
+none m = refl
+
+pub row_text_is : (n : ℕ) → n < 10 ^ 16 → pairs_text (pairs n) ≡ last_digits 16 n
+row_text_is n h =
+    let top : n / 10 ^ 14 % 100 ≡ n / 10 ^ 14 = omega arith in
+    sym (last_pair 14 n (n / 10 ^ 2) (omega arith)
+    ∙ rw (
+      last_pair 12 (n / 10 ^ 2) (n / 10 ^ 4) (omega arith),
+      last_pair 10 (n / 10 ^ 4) (n / 10 ^ 6) (omega arith),
+      last_pair 8
+          (n / 10 ^ 6) (n / 10 ^ 8) (omega arith),
+      last_pair 6 (n / 10 ^ 8) (n / 10 ^ 10) (omega arith),
+      last_pair 4 (n / 10 ^ 10)
+          (n / 10 ^ 12) (omega arith),
+      last_pair 2 (n / 10 ^ 12) (n / 10 ^ 14) (omega arith),
+      last_pair 0 (n / 10 ^ 14)
+          (n / 10 ^ 16) (omega arith),
+      none (n / 10 ^ 16),
+      top,
+    ) refl)
+
+-- ---- the zeros in front
+
+abbrev differs : ℕ → ℕ → Bool
+differs a b = not (eqb a b)
+
+abbrev is_zero : ℕ → Bool
+is_zero b = not (differs b 48)
+
+zero_is : (b : ℕ) → is_zero b ≡ true → b ≡ 48
+zero_is b h = grind (arith, nat_tests, h)
+
+other_is : (b : ℕ) → is_zero b ≡ false → b ≡ 48 → ⊥
+other_is b h e = grind (arith, nat_tests, h, e)
+
+zeros_at : (bs : List ℕ) (n : ℕ) → n ≤ length bs → ((k : ℕ) → k < n → get_or bs k 0 ≡ 48) → take n bs ≡ replicate n 48
+zeros_at bs zero l h = refl
+zeros_at [] (suc n) l h = absurd (omega arith)
+zeros_at (b ∷ bs) (suc n) l h = let first = h 0 (omega arith) in
+    let rest = zeros_at bs n (omega arith) (λ k less. h (suc k) (omega arith)) in λ i. first i ∷ rest i
+
+module _ (lanes : List ℕ) (long : length lanes ≡ 16) where
+  abbrev count : ℕ
+  count = prefix_len is_zero lanes
+
+  zeros_of : (n : ℕ) → n ≡ min count 15 → IsZerosInFront lanes n
+  zeros_of n is =
+      let within = prefix_len-le-length is_zero lanes in
+      record {
+        few = omega arith;
+        zeros = zeros_at lanes n (omega arith) (λ k l. zero_is (get_or lanes k 0) (prefix_len_passes is_zero lanes k 0 (omega arith)));
+        stops = λ l. let same : n ≡ count = omega arith in
+            other_is (get_or lanes n 0) (rw same (prefix_len_stops is_zero lanes 0 (omega arith)));
+      }
+
+  abbrev bits : ℕ
+  bits = mask_l (map (top 7) (zip2 (λ a b. cond (not (eqb a b)) 255 0) lanes (replicate 16 48))) % 2 ^ 64
+
+  bits_are : bits ≡ mask_l (map (λ b. differs b 48) lanes)
+  bits_are = bitmask_splat w8 differs lanes 16 48 long (omega arith)
+
+  all_bits : count_trailing_zeros 64 0 ≡ 64
+  unfolding count_trailing_zeros
+  all_bits = refl
+
+  -- the lowest bit is that of the first byte that is no zero
+  pub zeros_counted : (n : ℕ) → n ≡ min (count_trailing_zeros 64 bits) 15 → IsZerosInFront lanes n
+  zeros_counted n is = elim (cases_eq (mask_l (map (λ b. differs b 48) lanes)) 0) [
+    | inl none ↦ zeros_of n (let all = leading_from_mask_l (λ b. differs b 48) lanes none in rw (bits_are, none, all_bits) at is
+        ∙ omega arith)
+    | inr some ↦ zeros_of n (rw (bits_are, trailing_mask_l (λ b. differs b 48) 64 lanes (omega arith) (omega arith)) at is)
+  ]
+
+-- ---- what is appended and cut off again
+
+-- of an appended text in ASCII some bytes stay
+module _ (old added : List ℕ) (ascii : IsAscii added) (count end : ℕ) (few : count ≤ length added) (is : end ≡ length old + count) where
+  pub cut_point : IsSplitPoint (old ++ added) end
+  cut_point = (
+    omega (arith, length-append old added),
+    λ some inside above.
+        let at : get_or (old ++ added) end 0 ≡ get_or added count 0 = ap (λ n. get_or (old ++ added) n 0) is
+        ∙ get_or-append-add old added count 0 in
+        absurd (let low = ascii count in omega arith),
+  )
+
+  pub cut : take end (old ++ added) ≡ old ++ take count added
+  cut = ap (λ n. take n (old ++ added)) is ∙ take-append-add old added count
+
+zeros_ascii : (n : ℕ) → IsAscii (replicate n 0)
+zeros_ascii zero = IsAscii-nil
+zeros_ascii (suc n) = IsAscii-cons 0 (replicate n 0) (omega arith) (zeros_ascii n)
+
+-- the lanes of a row from a start on, with zeros behind them
+module _ (lanes : List ℕ) (long : length lanes ≡ 16) (start count : ℕ) (within : start + count ≤ 16)
+    (ascii : IsAscii (drop start lanes)) where
+  abbrev pub front : List ℕ
+  front = drop start lanes ++ replicate start 0
+
+  pub front_ascii : IsAscii front
+  front_ascii = IsAscii-append (drop start lanes) (replicate start 0) ascii (zeros_ascii start)
+
+  pub front_long : count ≤ length front
+  front_long = omega (
+    arith,
+    length-append (drop start lanes)
+        (replicate start 0),
+    length-drop start lanes,
+    length-replicate {A = ℕ} start 0,
+  )
+
+  pub front_taken : take count front ≡ take count (drop start lanes)
+  front_taken = take-append-le count (drop start lanes) (replicate start 0) (omega (arith, length-drop start lanes))
+
+-- ---- digits that lie in a room
+
+abbrev pub with_zero : List ℕ → List ℕ
+with_zero lanes = zip2 (λ a b. (a + b) % 2 ^ 8) lanes (replicate 16 48)
+
+text_from : (ds : List ℕ) → AllByRecursion (λ d. d < 10) ds → map digit ds ≡ digits_text ds
+text_from [] h = refl
+text_from (d ∷ ds) h = let first : digit d ≡ 48 + d = omega (arith, h.0) in let rest = text_from ds h.1 in λ i. first i ∷ rest i
+
+-- the last digits of a room of 19
+module _ (buffer : List ℕ) (long : length buffer ≡ 19) where
+  abbrev last : List ℕ
+  last = take 16 (take 16 (drop 3 buffer))
+
+  last_is : last ≡ drop 3 buffer
+  last_is = take_all 16 (take 16 (drop 3 buffer)) (omega (arith, length-take-le 16 (drop 3 buffer) (omega (arith, length-drop 3 buffer))))
+      ∙ take_all 16 (drop 3 buffer) (omega (arith, length-drop 3 buffer))
+
+  last_count : length last ≡ 16
+  last_count = rw last_is (omega (arith, length-drop 3 buffer))
+
+  pub last_long : length (with_zero last) ≡ 16
+  last_long = length-zip2 (λ a b. (a + b) % 2 ^ 8) last (replicate 16 48) last_count ∙ last_count
+
+  pub room_text : (count : ℕ) → count ≤ 16 → All (λ d. d < 10) (drop (19 - count) buffer)
+      → drop (16 - count) (with_zero last) ≡ digits_text (drop (19 - count) buffer)
+  room_text count few below =
+      let at : 3 + (16 - count) ≡ 19 - count = omega arith in
+      ap (drop (16 - count)) (zip2_splat (λ a b. (a + b) % 2 ^ 8) last 16 48 last_count)
+      ∙ drop-map {X = ℕ} {Y = ℕ} digit (16 - count) last
+      ∙ ap (map digit) (ap (drop (16 - count)) last_is ∙ drop-drop (16 - count) 3 buffer ∙ ap (λ n. drop n buffer) at)
+      ∙ text_from (drop (19 - count) buffer) (recursion_from_All (λ d. d < 10) (drop (19 - count) buffer) below)

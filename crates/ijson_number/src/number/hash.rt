@@ -1,0 +1,48 @@
+//! What a number feeds a hasher.
+ghost use Rattle.std.specs.Prelude.{◌≡◌, pos, ◌+ℤ◌, nat_abs, if◌then◌else◌};
+ghost use Rattle.std.specs.List.{flat_map};
+ghost use Rattle.std.specs.Hash as fed;
+ghost use Rattle.ijson_number.specs.laws.Ordered.{equal_feed};
+ghost use Rattle.ijson_number.specs.Words.{number_words};
+
+use crate::number::INumber;
+use crate::repr::digits::MAX_DIGITS;
+use std::hash::{Hash, Hasher};
+
+fn sign_word(negative: bool) -> u64
+    ensures { result ≡ (if negative then 2 else 1) }
+{
+    if negative { 2 } else { 1 }
+}
+
+fn exponent_word(exponent: i32) -> u64
+    ensures { result ≡ nat_abs (exponent +ℤ pos 2147483648) }
+{
+    (i64::from(exponent) + 2147483648) as u64
+}
+
+/// Equal numbers feed the same words, and each word is one `write_u64`: 2, and 0 for zero; for another number 2, the
+/// sign (1 above zero, 2 below), the stripped exponent above -2^31, the count of stripped digits and each of these. It takes
+/// time linear in the stripped digits, and no memory.
+impl Hash for INumber {
+    ghost hash_input = { λ n. flat_map fed.u64 (number_words n.decimal) };
+
+    ghost respects_eq = { λ a b e. equal_feed a b e };
+
+    fn hash<H: Hasher>(&self, state: &mut H) {
+        let mut buffer = [0; MAX_DIGITS];
+        let number = self.stripped(&mut buffer);
+        let digits = number.digits;
+        state.write_u64(2);
+        if digits.is_empty() {
+            state.write_u64(0);
+            return;
+        }
+        state.write_u64(sign_word(number.negative));
+        state.write_u64(exponent_word(number.exponent));
+        state.write_u64(digits.len() as u64);
+        for digit in digits {
+            state.write_u64(u64::from(*digit));
+        }
+    }
+}

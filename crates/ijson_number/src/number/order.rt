@@ -1,0 +1,70 @@
+//! Equality and order by exact value.
+ghost use Rattle.std.specs.Prelude.{◌<◌, Some, false, refl};
+ghost use Rattle.std.specs.Cmp.{partial_equiv_from_equiv, on_equiv, on_total, po};
+ghost use Rattle.ijson_number.specs.Order.{number_cmp, number_eq};
+ghost use Rattle.ijson_number.specs.laws.Ordered.{number_cmp_total, number_eq_equiv};
+
+use crate::comparison::compare;
+use crate::looks::Looks;
+use crate::number::INumber;
+use crate::repr::digits::MAX_DIGITS;
+use std::cmp::Ordering;
+
+/// Two numbers are equal where their values are, whether or not they were written with a point. It takes no memory, and looks
+/// at each digit once at most.
+impl PartialEq for INumber {
+    ghost eq = { λ a b. number_eq a.decimal b.decimal };
+
+    ghost laws = { partial_equiv_from_equiv (on_equiv (λ n. n.decimal) number_eq_equiv) };
+
+    fn eq(&self, other: &INumber) -> bool {
+        if self.stored.is_same_word(&other.stored) {
+            return true;
+        }
+        let (mut buffer, mut other_buffer) = ([0; MAX_DIGITS], [0; MAX_DIGITS]);
+        let (a, b) = (
+            self.stripped(&mut buffer),
+            other.stripped(&mut other_buffer),
+        );
+        if a.negative != b.negative || a.exponent != b.exponent {
+            return false;
+        }
+        a.digits == b.digits
+    }
+}
+
+impl Eq for INumber {
+    ghost laws = { on_equiv (λ n. n.decimal) number_eq_equiv };
+}
+
+/// As `cmp`: any two numbers are ordered.
+impl PartialOrd for INumber {
+    ghost partial_cmp = { λ a b. Some (number_cmp a.decimal b.decimal) };
+
+    ghost laws = { po (on_total (λ n. n.decimal) number_cmp_total) (λ a b. refl) };
+
+    fn partial_cmp(&self, other: &INumber) -> Option<Ordering> {
+        Some(self.cmp(other))
+    }
+}
+
+/// By exact value; the point isn't looked at. It takes no memory and writes no exponent out. Digits are read where signs and
+/// leading places are the same alone, and then at most twice as many as the number with fewer has.
+impl Ord for INumber {
+    ghost cmp = { λ a b. number_cmp a.decimal b.decimal };
+
+    ghost total = { on_total (λ n. n.decimal) number_cmp_total };
+
+    ghost matches_partial_cmp = { λ a b. refl };
+
+    ghost matches_eq = { λ a b. refl };
+
+    fn cmp(&self, other: &INumber) -> Ordering {
+        let (mut buffer, mut other_buffer) = ([0; MAX_DIGITS], [0; MAX_DIGITS]);
+        let (a, b) = (
+            self.stripped(&mut buffer),
+            other.stripped(&mut other_buffer),
+        );
+        compare(&a, &b, &mut Looks::new())
+    }
+}

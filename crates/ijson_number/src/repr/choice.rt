@@ -1,0 +1,226 @@
+//! Chooses what is stored of a number, by its stripped digits or by what was read of its text.
+ghost use Rattle.std.specs.Prelude.{◌≡◌, ◌^◌, ◌*ℤ◌, ◌≤ℤ◌, ◌<ℤ◌, pos, true, false, IfSome, IfNone, IsTrue};
+ghost use Rattle.ijson_number.specs.Form.{digits_form, fits_packed, form_of};
+ghost use Rattle.ijson_number.specs.FormNumber.{integer_word};
+ghost use Rattle.ijson_number.specs.private.Stored.{stored_form};
+
+use crate::number::{INumber, ParseNumberError};
+use crate::parse::exact::{Scanned, Spelling};
+use crate::parse::prefix::Prefix;
+use crate::repr::digits::{MAX_DIGITS, push_in_place};
+use crate::repr::stored::Stored;
+use crate::repr::stripped::StrippedNumber;
+use crate::repr::word::{Word, is_packed_mantissa};
+use arrayvec::ArrayVec;
+use std::alloc::{AllocError, Global};
+
+/// What is stored of an integer.
+pub fn stored_signed(value: i64) -> Stored
+    ensures { stored_form result ≡ integer_word value }
+{
+    if is_packed_mantissa(i128::from(value)) {
+        Stored::Packed(Word::integer(value))
+    } else {
+        Stored::I64(value)
+    }
+}
+
+/// What is stored of an integer that isn't below zero.
+pub fn stored_unsigned(value: u64) -> Stored
+    ensures { stored_form result ≡ integer_word (pos value) }
+{
+    match i64::try_from(value) {
+        Ok(value) => stored_signed(value),
+        Err(_) => Stored::U64(value),
+    }
+}
+
+impl StrippedNumber<'_> {
+    ghost use Rattle.ijson_number.specs.private.StrippedNumber.{decimal_of};
+
+    /// The mantissa with so many zeros behind it, where it fits a packed number.
+    fn packed_mantissa(&self, zeros: usize) -> Option<i64>
+        ensures some { IfSome result (λ m. m ≡ (decimal_of self.now).mantissa *ℤ pos (10 ^ zeros)) }
+        ensures fits { IfSome result (λ m. IsTrue (fits_packed m)) }
+        ensures none { IfNone result (fits_packed ((decimal_of self.now).mantissa *ℤ pos (10 ^ zeros)) ≡ false) }
+    {
+        let mantissa = self.mantissa_with(zeros)?;
+        if is_packed_mantissa(mantissa) {
+            Some(mantissa as i64)
+        } else {
+            None
+        }
+    }
+
+    /// What is stored of a number without the point, where it is a word.
+    fn integer_stored(&self) -> Option<Stored>
+        requires { self.now.point ≡ false }
+        ensures some { IfSome result (λ s. stored_form s ≡ form_of (decimal_of self.now)) }
+        ensures none { IfNone result (form_of (decimal_of self.now) ≡ digits_form (decimal_of self.now)) }
+    {
+        let value = self.whole()?;
+        if is_packed_mantissa(value) {
+            Some(Stored::Packed(Word::integer(value as i64)))
+        } else if let Ok(value) = i64::try_from(value) {
+            Some(Stored::I64(value))
+        } else if let Ok(value) = u64::try_from(value) {
+            Some(Stored::U64(value))
+        } else {
+            None
+        }
+    }
+
+    /// What is stored of a number with the point and no fraction, where it is a word: the smallest packed exponent that
+    /// leaves a mantissa which fits.
+    fn whole_stored(&self) -> Option<Stored>
+        requires point { self.now.point ≡ true }
+        requires whole { pos 0 ≤ℤ self.now.exponent }
+        ensures some { IfSome result (λ s. stored_form s ≡ form_of (decimal_of self.now)) }
+        ensures none { IfNone result (form_of (decimal_of self.now) ≡ digits_form (decimal_of self.now)) }
+    {
+        let zeros = self.exponent as usize;
+        for exponent in 0..8usize {
+            if exponent <= zeros {
+                if let Some(mantissa) = self.packed_mantissa(zeros - exponent) {
+                    return Some(Stored::Packed(Word::pointed(mantissa, exponent as i8)));
+                }
+            }
+        }
+        None
+    }
+
+    /// What is stored of a number with a fraction, where it is a word.
+    fn fraction_stored(&self) -> Option<Stored>
+        requires point { self.now.point ≡ true }
+        requires fraction { self.now.exponent <ℤ pos 0 }
+        ensures some { IfSome result (λ s. stored_form s ≡ form_of (decimal_of self.now)) }
+        ensures none { IfNone result (form_of (decimal_of self.now) ≡ digits_form (decimal_of self.now)) }
+    {
+        if self.exponent < -7 {
+            return None;
+        }
+        let mantissa = self.packed_mantissa(0)?;
+        Some(Stored::Packed(Word::pointed(mantissa, self.exponent as i8)))
+    }
+
+    /// What is stored of the number, where it is a word and no list of digits.
+    pub fn stored(&self) -> Option<Stored>
+        ensures some { IfSome result (λ s. stored_form s ≡ form_of (decimal_of self.now)) }
+        ensures none { IfNone result (form_of (decimal_of self.now) ≡ digits_form (decimal_of self.now)) }
+    {
+        if !self.point {
+            self.integer_stored()
+        } else if self.exponent >= 0 {
+            self.whole_stored()
+        } else {
+            self.fraction_stored()
+        }
+    }
+}
+
+impl INumber {
+    ghost use Rattle.std.specs.Prelude.{◌<◌, ◌≤◌, List, ℕ, IfErr, IfOk, OnErr};
+    ghost use Rattle.ijson_number.specs.Form.{is_digits};
+    ghost use Rattle.ijson_number.specs.Grammar.{AllDigits, Denotes, IsSpelled};
+    ghost use Rattle.ijson_number.specs.Num.{IsNum};
+    ghost use Rattle.ijson_number.specs.Refused.{IsRefused};
+    ghost use Rattle.ijson_number.specs.private.Prefix.{IsPrefix, IsPowerSmall, prefix_number, power_number};
+    ghost use Rattle.ijson_number.specs.private.Scanned.{IsScanned, parts_of, scanned_number};
+    ghost use Rattle.ijson_number.specs.private.StrippedNumber.{decimal_of};
+
+    /// The number of the parts.
+    pub(crate) fn from_spelling(
+        alloc: Global,
+        spelling: &Spelling<'_>,
+    ) -> Result<INumber, ParseNumberError>
+        requires spelled { (text : List ℕ) × IsSpelled text (parts_of spelling.now) }
+        requires digits { AllDigits spelling.now.tail.exponent.now }
+        ensures ok { IfOk result (λ n. Denotes (parts_of spelling.now) n.decimal) }
+        ensures err { IfErr result (λ e. (text : List ℕ)
+            → IsSpelled text (parts_of spelling.now)
+            → IsRefused text e) }
+    {
+        let Some(scanned) = spelling.scan() else {
+            return Err(ParseNumberError::Invalid);
+        };
+        let Ok(number) = INumber::from_scanned(alloc, &scanned) else {
+            return Err(ParseNumberError::Memory);
+        };
+        Ok(number)
+    }
+
+    /// The number whose digits still lie in its text. Where they are at most 20, they are made digits in a buffer.
+    fn from_scanned(alloc: Global, scanned: &Scanned<'_>) -> Result<INumber, AllocError>
+        requires { IsScanned scanned.now }
+        ensures number { IfOk result (λ n. n.decimal ≡ scanned_number scanned.now) }
+        ensures refused { OnErr result (is_digits (form_of (scanned_number scanned.now)) ≡ true) }
+    {
+        if scanned.front.len() as u128 + scanned.back.len() as u128 > MAX_DIGITS as u128 {
+            let stored = Stored::from_scanned(alloc, scanned)?;
+            return Ok(INumber { stored });
+        }
+        let mut digits: ArrayVec<u8, MAX_DIGITS> = ArrayVec::new();
+        push_in_place(&mut digits, scanned.front);
+        push_in_place(&mut digits, scanned.back);
+        let number = StrippedNumber {
+            negative: scanned.negative,
+            digits: digits.as_slice(),
+            exponent: scanned.exponent,
+            point: scanned.point,
+        };
+        INumber::from_stripped(alloc, &number)
+    }
+
+    /// The number of a prefix times a power of ten.
+    pub(crate) fn from_power(
+        alloc: Global,
+        prefix: &Prefix,
+        power: i16,
+    ) -> Result<INumber, AllocError>
+        requires few { prefix.now.scale ≤ 19 }
+        requires small { prefix.now.magnitude < 10 ^ 19 }
+        requires power { IsPowerSmall power }
+        requires num { IsNum (power_number prefix.now power) }
+        ensures number { IfOk result (λ n. n.decimal ≡ power_number prefix.now power) }
+        ensures refused { OnErr result (is_digits (form_of (power_number prefix.now power)) ≡ true) }
+    {
+        if let Some(short) = prefix.short_power(power) {
+            let number = Box::new(alloc, short)?;
+            return Ok(INumber {
+                stored: Stored::Short(number),
+            });
+        }
+        INumber::from_stripped(alloc, &prefix.stripped_power(power, &mut [0; MAX_DIGITS]))
+    }
+
+    /// The number of a prefix.
+    #[inline(always)]
+    pub(crate) fn from_prefix(alloc: Global, prefix: &Prefix) -> Result<INumber, AllocError>
+        requires { (text : List ℕ) × IsPrefix text prefix.now }
+        ensures number { IfOk result (λ n. n.decimal ≡ prefix_number prefix.now) }
+        ensures refused { OnErr result (is_digits (form_of (prefix_number prefix.now)) ≡ true) }
+    {
+        if let Some(stored) = prefix.word() {
+            return Ok(INumber { stored });
+        }
+        if let Some(short) = prefix.short() {
+            let number = Box::new(alloc, short)?;
+            return Ok(INumber {
+                stored: Stored::Short(number),
+            });
+        }
+        INumber::from_stripped(alloc, &prefix.stripped(&mut [0; MAX_DIGITS]))
+    }
+
+    /// The number of stripped digits.
+    fn from_stripped(alloc: Global, number: &StrippedNumber<'_>) -> Result<INumber, AllocError>
+        ensures number { IfOk result (λ n. n.decimal ≡ decimal_of number.now) }
+        ensures refused { OnErr result (is_digits (form_of (decimal_of number.now)) ≡ true) }
+    {
+        if let Some(stored) = number.stored() {
+            return Ok(INumber { stored });
+        }
+        let stored = Stored::from_stripped(alloc, number)?;
+        Ok(INumber { stored })
+    }
+}

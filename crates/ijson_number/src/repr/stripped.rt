@@ -1,0 +1,179 @@
+//! A number by its stripped digits.
+ghost use Rattle.std.specs.Prelude.{◌≡◌, ◌+◌, ◌^◌, ◌<◌, pos, ◌*ℤ◌, nat_abs, IfSome, IfNone};
+ghost use Rattle.std.specs.Int.Digits.{digits_of};
+ghost use Rattle.ijson_number.specs.Stripped.{stripped_number};
+ghost use Rattle.ijson_number.specs.private.ShortDigits.{short_digits};
+ghost use Rattle.ijson_number.specs.StoredNumber.{stored_number};
+ghost use Rattle.ijson_number.specs.private.StoredNumber.{IsStored};
+ghost use Rattle.ijson_number.specs.Num.{IsNum};
+ghost use Rattle.ijson_number.specs.laws.Codes.{IsNum-prop};
+ghost use Rattle.ijson_number.specs.Strips.{signed};
+ghost use Rattle.std.proofs.Props.{props};
+
+use crate::number::INumber;
+use crate::repr::digits::{MAX_DIGITS, make_digits, scaled, without_tens};
+use crate::repr::stored::{LongNumber, ShortNumber, Stored};
+use itoa::write_digits;
+
+/// The sign, the stripped digits, the power of ten and the shape of a number. The digits lie where the number is
+/// stored, or in a buffer that was lent for them.
+#[derive(Clone, Copy)]
+pub struct StrippedNumber<'a> {
+    pub negative: bool,
+    pub digits: &'a [u8],
+    pub exponent: i32,
+    pub point: bool,
+    ghost num: { IsNum (stored_number negative digits.now exponent point) } by { IsNum-prop (stored_number negative digits.now exponent point) },
+    ghost stripped: { IsStored negative digits.now } by { Prim.hlevel props },
+}
+
+/// Writes the digits of a number that isn't zero to the end of the buffer. Their text is written first, four digits at a time.
+fn written(number: u64, buffer: &mut [u8; MAX_DIGITS]) -> &[u8]
+    requires { 0 < number }
+    ensures { result.now ≡ digits_of 10 number }
+{
+    let mut text = [0; MAX_DIGITS];
+    let start = write_digits(number, &mut text, MAX_DIGITS);
+    make_digits(&text, buffer);
+    &buffer[start..]
+}
+
+impl<'a> StrippedNumber<'a> {
+    ghost use Rattle.ijson_number.specs.private.StrippedNumber.{decimal_of};
+
+    /// A mantissa times a power of ten.
+    pub fn from_magnitude(
+        negative: bool,
+        magnitude: u64,
+        exponent: i16,
+        point: bool,
+        buffer: &'a mut [u8; MAX_DIGITS],
+    ) -> StrippedNumber<'a>
+        requires { IsNum (stripped_number (signed negative magnitude) exponent point) }
+        ensures { decimal_of result ≡ stripped_number (signed negative magnitude) exponent point }
+    {
+        if magnitude == 0 {
+            return StrippedNumber {
+                negative: false,
+                digits: &[],
+                exponent: 0,
+                point,
+            };
+        }
+        let (stripped, tens) = without_tens(magnitude);
+        StrippedNumber {
+            negative,
+            digits: written(stripped, buffer),
+            exponent: i32::from(exponent) + tens as i32,
+            point,
+        }
+    }
+
+    /// A mantissa with its sign times a power of ten.
+    fn from_signed(
+        mantissa: i64,
+        exponent: i8,
+        point: bool,
+        buffer: &'a mut [u8; MAX_DIGITS],
+    ) -> StrippedNumber<'a>
+        requires { IsNum (stripped_number mantissa exponent point) }
+        ensures { decimal_of result ≡ stripped_number mantissa exponent point }
+    {
+        let magnitude = mantissa.unsigned_abs();
+        StrippedNumber::from_magnitude(mantissa < 0, magnitude, i16::from(exponent), point, buffer)
+    }
+}
+
+impl StrippedNumber<'_> {
+    ghost use Rattle.ijson_number.specs.Integers.{HasValue};
+    ghost use Rattle.ijson_number.specs.private.StrippedNumber.{decimal_of};
+    ghost use Rattle.std.specs.Prelude.{ℤ, ◌≤◌};
+
+    /// The mantissa with so many zeros behind it, where that is nearer to zero than 10^20.
+    pub fn mantissa_with(&self, zeros: usize) -> Option<i128>
+        ensures some { IfSome result (λ m. m ≡ (decimal_of self.now).mantissa *ℤ pos (10 ^ zeros)) }
+        ensures small { IfSome result (λ m. nat_abs m < 10 ^ 20) }
+        ensures none { IfNone result
+            (10 ^ 20 ≤ nat_abs ((decimal_of self.now).mantissa *ℤ pos (10 ^ zeros))) }
+    {
+        if self.digits.is_empty() {
+            return Some(0);
+        }
+        if zeros as u128 + self.digits.len() as u128 > MAX_DIGITS as u128 {
+            return None;
+        }
+        let magnitude = scaled(self.digits, zeros) as i128;
+        Some(if self.negative { -magnitude } else { magnitude })
+    }
+
+    /// The value where it is whole and nearer to zero than 10^20.
+    pub fn whole(&self) -> Option<i128>
+        ensures some { IfSome result (λ z. HasValue (decimal_of self.now) z) }
+        ensures small { IfSome result (λ z. nat_abs z < 10 ^ 20) }
+        ensures none { IfNone result
+            ((z : ℤ) → nat_abs z < 10 ^ 20 → HasValue (decimal_of self.now) z → ⊥) }
+    {
+        if self.exponent < 0 {
+            return None;
+        }
+        self.mantissa_with(self.exponent as usize)
+    }
+}
+
+impl INumber {
+    ghost use Rattle.ijson_number.specs.private.StrippedNumber.{decimal_of};
+
+    /// The number by its stripped digits, which go into the buffer where they are not stored.
+    pub(crate) fn stripped<'a>(&'a self, buffer: &'a mut [u8; MAX_DIGITS]) -> StrippedNumber<'a>
+        ensures { decimal_of result ≡ self.now.decimal }
+    {
+        match &self.stored {
+            Stored::Packed(word) => {
+                StrippedNumber::from_signed(word.mantissa(), word.exponent(), word.point(), buffer)
+            }
+            Stored::I64(value) => StrippedNumber::from_signed(*value, 0, false, buffer),
+            Stored::U64(value) => StrippedNumber::from_magnitude(false, *value, 0, false, buffer),
+            Stored::Short(number) => number.stripped(),
+            Stored::Long(number) => number.stripped(),
+        }
+    }
+}
+
+impl ShortNumber {
+    ghost use Rattle.ijson_number.specs.private.StrippedNumber.{decimal_of};
+
+    /// The number by its stripped digits.
+    pub fn stripped(&self) -> StrippedNumber<'_>
+        requires { IsNum
+            (stored_number self.now.negative (short_digits self.now.digits) self.now.exponent self.now.point) }
+        ensures number { decimal_of result
+            ≡ stored_number self.now.negative (short_digits self.now.digits) self.now.exponent self.now.point }
+        ensures digits { result.digits.now ≡ short_digits self.now.digits }
+    {
+        StrippedNumber {
+            negative: self.negative,
+            digits: self.digits.as_slice(),
+            exponent: i32::from(self.exponent),
+            point: self.point,
+        }
+    }
+}
+
+impl LongNumber {
+    ghost use Rattle.ijson_number.specs.private.StrippedNumber.{decimal_of};
+
+    /// The number by its stripped digits.
+    pub fn stripped(&self) -> StrippedNumber<'_>
+        requires { IsNum
+            (stored_number self.now.negative self.now.digits.items self.now.exponent self.now.point) }
+        ensures { decimal_of result
+            ≡ stored_number self.now.negative self.now.digits.items self.now.exponent self.now.point }
+    {
+        StrippedNumber {
+            negative: self.negative,
+            digits: self.digits.as_slice(),
+            exponent: self.exponent,
+            point: self.point,
+        }
+    }
+}

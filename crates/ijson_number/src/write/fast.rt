@@ -1,0 +1,275 @@
+//! Appends a number's text, 16 digits at a time.
+ghost use Rattle.std.specs.Prelude.{◌≡◌, ◌+◌, ◌-◌, ◌/◌, ◌%◌, ◌^◌, ◌<◌, ◌≤◌, ◌∷◌, ◌++◌, ◌||◌, ℕ, drop, length, nat_abs, neg_ℤ, negsuc, pos, int_le, int_lt, true, false, ◌+ℤ◌, ◌<ℤ◌, ◌≤ℤ◌, IfOk, IsFalse, IsTrue, OnErr, OnOk};
+ghost use Rattle.std.specs.Fmt.{decimal};
+ghost use Rattle.std.specs.Str.{IsAscii};
+ghost use Rattle.std.specs.String.{string_bytes};
+ghost use Rattle.ijson_number.specs.AppendsBeginning.{AppendsBeginning};
+ghost use Rattle.ijson_number.specs.Form.{form_of, is_digits, packed};
+ghost use Rattle.ijson_number.specs.Text.{digits_text, minus_text, num_text};
+ghost use Rattle.ijson_number.specs.Stripped.{stripped_number};
+ghost use Rattle.ijson_number.specs.private.SplitText.{split_text};
+ghost use Rattle.ijson_number.specs.private.StrippedNumber.{decimal_of};
+ghost use Rattle.ijson_number.specs.private.WordText.{integer_text, last_digits};
+
+use crate::number::INumber;
+use crate::parse::lanes::LANES;
+use crate::repr::digits::{MAX_DIGITS, place_of};
+use crate::repr::stored::Stored;
+use crate::repr::stripped::StrippedNumber;
+use crate::write::digits::TEXT_BUFFER;
+use crate::write::display::is_scientific;
+use crate::write::lanes::{LANES_END, lanes_of, push_lanes, zeros_in_front};
+use std::alloc::AllocError;
+use std::fmt::Write;
+use std::simd::prelude::*;
+
+/// Appends the minus, if there is one. Two bytes are written in any case, and one or both cut off, since a processor cannot guess which
+/// numbers have a minus, and a cut that is made for some alone is a branch.
+fn push_minus(negative: bool, out: &mut String) -> Result<(), AllocError>
+    ensures written { OnOk result (string_bytes out.new ≡ string_bytes out.old ++ minus_text negative) }
+    ensures refused { OnErr result (string_bytes out.new ≡ string_bytes out.old) }
+{
+    let end = out.len() + usize::from(negative);
+    out.push_str("--")?;
+    out.truncate(end);
+    Ok(())
+}
+
+/// Appends the number whose digits the lanes have, without so many of the last ones.
+#[inline(always)]
+fn push_leading(lanes: u8x16, scale: usize, out: &mut String) -> Result<(), AllocError>
+    requires all { length lanes ≡ 16 }
+    requires ascii { IsAscii lanes }
+    requires few { scale < 16 }
+    ensures written { (n : ℕ) → n < 10 ^ 16 → lanes ≡ last_digits 16 n → OnOk result (string_bytes out.new
+        ≡ string_bytes out.old ++ decimal (n / 10 ^ scale)) }
+    ensures refused { OnErr result (string_bytes out.new ≡ string_bytes out.old) }
+{
+    let end = LANES - scale;
+    let start = zeros_in_front(lanes).min(end - 1);
+    push_lanes(lanes, start, end - start, out)
+}
+
+/// Appends a number without so many of its last digits, where `lanes` has the last 16.
+#[inline(always)]
+fn push_whole(
+    magnitude: u64,
+    lanes: u8x16,
+    scale: usize,
+    out: &mut String,
+) -> Result<(), AllocError>
+    requires lanes { lanes ≡ last_digits 16 (magnitude % 10 ^ 16) }
+    requires few { scale < 16 }
+    ensures written { OnOk result (string_bytes out.new ≡ string_bytes out.old ++ decimal (magnitude / 10 ^ scale)) }
+    ensures refused { OnErr result
+        (AppendsBeginning (string_bytes out.old) (string_bytes out.new) (decimal (magnitude / 10 ^ scale))) }
+{
+    if magnitude < LANES_END {
+        return push_leading(lanes, scale, out);
+    }
+    push_leading(lanes_of(magnitude / LANES_END), 0, out)?;
+    push_lanes(lanes, 0, LANES - scale, out)
+}
+
+/// Appends a whole number over ten to the places, with so many digits behind the point; without it where there are no places. It
+/// stays a call, as `push_integer` and `push_digits` do: in a longer function a compiler leaves each append of a few bytes a call.
+#[inline(never)]
+fn push_magnitude(magnitude: u64, scale: usize, out: &mut String) -> Result<(), AllocError>
+    requires few { scale < 16 }
+    ensures whole { scale ≡ 0 → OnOk result (string_bytes out.new ≡ string_bytes out.old ++ decimal magnitude) }
+    ensures pointed { 0 < scale → OnOk result (string_bytes out.new
+        ≡ string_bytes out.old ++ (decimal (magnitude / 10 ^ scale) ++ 46 ∷ last_digits scale (magnitude % 10 ^ scale))) }
+    ensures refused { OnErr result (AppendsBeginning (string_bytes out.old) (string_bytes out.new)
+        (decimal (magnitude / 10 ^ scale) ++ 46 ∷ last_digits scale (magnitude % 10 ^ scale))) }
+{
+    let lanes = lanes_of(magnitude % LANES_END);
+    push_whole(magnitude, lanes, scale, out)?;
+    if scale == 0 {
+        return Ok(());
+    }
+    out.push('.')?;
+    push_lanes(lanes, LANES - scale, scale, out)
+}
+
+/// Appends an integer without the point.
+#[inline(never)]
+fn push_integer(negative: bool, magnitude: u64, out: &mut String) -> Result<(), AllocError>
+    ensures written { OnOk result (string_bytes out.new ≡ string_bytes out.old ++ integer_text negative magnitude) }
+    ensures refused { OnErr result
+        (AppendsBeginning (string_bytes out.old) (string_bytes out.new) (integer_text negative magnitude)) }
+{
+    push_minus(negative, out)?;
+    push_whole(magnitude, lanes_of(magnitude % LANES_END), 0, out)
+}
+
+/// Appends a packed number with the point, where no exponent is written and none is above zero. Where it tells `false` it
+/// appended nothing.
+#[inline(always)]
+fn push_pointed(mantissa: i64, exponent: i8, out: &mut String) -> Result<bool, AllocError>
+    requires { form_of (stripped_number mantissa exponent true) ≡ packed mantissa exponent true }
+    ensures done { IfOk result (λ d. IsTrue d → string_bytes out.new
+        ≡ string_bytes out.old ++ num_text (stripped_number mantissa exponent true)) }
+    ensures left { IfOk result (λ d. IsFalse d → string_bytes out.new ≡ string_bytes out.old) }
+    ensures short { neg_ℤ (pos 6) ≤ℤ exponent → exponent ≤ℤ pos 0 → IfOk result (λ d. IsTrue d) }
+    ensures refused { OnErr result (AppendsBeginning (string_bytes out.old) (string_bytes out.new)
+        (num_text (stripped_number mantissa exponent true))) }
+{
+    let (negative, magnitude) = (mantissa < 0, mantissa.unsigned_abs());
+    if exponent > 0 || (exponent < -6 && magnitude < 10) {
+        return Ok(false);
+    }
+    push_minus(negative, out)?;
+    push_magnitude(magnitude, usize::from(exponent.unsigned_abs()), out)?;
+    if exponent == 0 {
+        out.push_str(".0")?;
+    }
+    Ok(true)
+}
+
+impl StrippedNumber<'_> {
+    /// Appends the minus, if there is one, and the digits, all of which `lanes` has at its end, with the point before the last so many.
+    /// It is no call of its own, since `push_digits` is one already, and appends most numbers that have a point.
+    #[inline(always)]
+    fn push_split(&self, lanes: u8x16, scale: usize, out: &mut String) -> Result<(), AllocError>
+        requires all { length lanes ≡ 16 }
+        requires few { length self.now.digits.now ≤ 16 }
+        requires inside { scale ≤ length self.now.digits.now }
+        requires lanes { drop (16 - length self.now.digits.now) lanes ≡ digits_text self.now.digits.now }
+        ensures written { OnOk result (string_bytes out.new ≡ string_bytes out.old
+            ++ split_text self.now.negative self.now.digits.now (length self.now.digits.now - scale)) }
+        ensures refused { OnErr result (AppendsBeginning (string_bytes out.old) (string_bytes out.new)
+            (split_text self.now.negative self.now.digits.now (length self.now.digits.now - scale))) }
+    {
+        let count = self.digits.len();
+        push_minus(self.negative, out)?;
+        push_lanes(lanes, LANES - count, count - scale, out)?;
+        out.push('.')?;
+        push_lanes(lanes, LANES - scale, scale, out)
+    }
+
+    /// Appends the number, where its text has an exponent and two digits or more, all of which `lanes` has at its end. Where it tells
+    /// `false` it appended nothing. It stays a call, as `push_digits` does.
+    #[inline(never)]
+    fn push_scientific(&self, lanes: u8x16, out: &mut String) -> Result<bool, AllocError>
+        requires all { length lanes ≡ 16 }
+        requires few { length self.now.digits.now ≤ 16 }
+        requires point { self.now.point ≡ true }
+        requires lanes { drop (16 - length self.now.digits.now) lanes ≡ digits_text self.now.digits.now }
+        ensures done { IfOk result (λ d. IsTrue d → string_bytes out.new
+            ≡ string_bytes out.old ++ num_text (decimal_of self.now)) }
+        ensures left { IfOk result (λ d. IsFalse d → string_bytes out.new ≡ string_bytes out.old) }
+        ensures exponent { (int_le (pos (length self.now.digits.now) +ℤ self.now.exponent) (negsuc 5)
+            || int_lt (pos 20) self.now.exponent) ≡ true → 1 < length self.now.digits.now → IfOk result (λ d. IsTrue d) }
+        ensures refused { OnErr result
+            (AppendsBeginning (string_bytes out.old) (string_bytes out.new) (num_text (decimal_of self.now))) }
+    {
+        let count = self.digits.len();
+        let place = place_of(self.digits, self.exponent);
+        if count < 2 || !is_scientific(place, self.exponent) {
+            return Ok(false);
+        }
+        self.push_split(lanes, count - 1, out)?;
+        out.push('e')?;
+        let power = place - 1;
+        push_integer(power < 0, power.unsigned_abs() as u64, out)?;
+        Ok(true)
+    }
+
+    /// Appends the number, where the point stands between two of its digits, or an exponent behind two or more, and `lanes` has all of
+    /// them, at its end. Where it tells `false` it appended nothing.
+    #[inline(never)]
+    fn push_digits(&self, lanes: u8x16, out: &mut String) -> Result<bool, AllocError>
+        requires all { length lanes ≡ 16 }
+        requires lanes { length self.now.digits.now ≤ 16
+            → drop (16 - length self.now.digits.now) lanes ≡ digits_text self.now.digits.now }
+        ensures done { IfOk result (λ d. IsTrue d → string_bytes out.new
+            ≡ string_bytes out.old ++ num_text (decimal_of self.now)) }
+        ensures left { IfOk result (λ d. IsFalse d → string_bytes out.new ≡ string_bytes out.old) }
+        ensures between { self.now.point ≡ true → self.now.exponent <ℤ pos 0
+            → nat_abs self.now.exponent < length self.now.digits.now
+            → length self.now.digits.now ≤ 16 → IfOk result (λ d. IsTrue d) }
+        ensures exponent { self.now.point ≡ true
+            → (int_le (pos (length self.now.digits.now) +ℤ self.now.exponent) (negsuc 5)
+            || int_lt (pos 20) self.now.exponent) ≡ true
+            → 1 < length self.now.digits.now → length self.now.digits.now ≤ 16 → IfOk result (λ d. IsTrue d) }
+        ensures refused { OnErr result
+            (AppendsBeginning (string_bytes out.old) (string_bytes out.new) (num_text (decimal_of self.now))) }
+    {
+        let scale = self.exponent.unsigned_abs() as usize;
+        let count = self.digits.len();
+        if !self.point || count > LANES {
+            return Ok(false);
+        }
+        if self.exponent >= 0 || scale >= count {
+            return self.push_scientific(lanes, out);
+        }
+        self.push_split(lanes, scale, out)?;
+        Ok(true)
+    }
+}
+
+impl INumber {
+    /// Appends the text, where the number has few digits, no zeros are written beside them, and no exponent beside a single one.
+    /// Where it tells `false` it appended nothing.
+    #[inline(always)]
+    fn push_plain(&self, out: &mut String) -> Result<bool, AllocError>
+        ensures done { IfOk result (λ d. IsTrue d → string_bytes out.new
+            ≡ string_bytes out.old ++ num_text self.now.decimal) }
+        ensures left { IfOk result (λ d. IsFalse d → string_bytes out.new ≡ string_bytes out.old) }
+        ensures whole { is_digits (form_of self.now.decimal) ≡ false
+            → self.now.decimal.point ≡ false → IfOk result (λ d. IsTrue d) }
+        ensures refused { OnErr result
+            (AppendsBeginning (string_bytes out.old) (string_bytes out.new) (num_text self.now.decimal)) }
+    {
+        match &self.stored {
+            Stored::Packed(word) => {
+                let mantissa = word.mantissa();
+                if word.point() {
+                    return push_pointed(mantissa, word.exponent(), out);
+                }
+                push_integer(mantissa < 0, mantissa.unsigned_abs(), out)?;
+            }
+            Stored::I64(value) => push_integer(*value < 0, value.unsigned_abs(), out)?,
+            Stored::U64(value) => push_integer(false, *value, out)?,
+            Stored::Short(number) => return number
+                .stripped()
+                .push_digits(number.digits.lanes(), out),
+            Stored::Long(_) => return Ok(false),
+        }
+        Ok(true)
+    }
+
+    /// Appends the text of any number. It stays a call, since few numbers want it. What a formatter leaves after an error is in no
+    /// clause of std, so it writes into a text of its own.
+    #[inline(never)]
+    fn push_any(&self, out: &mut String) -> Result<(), AllocError>
+        ensures written { OnOk result (string_bytes out.new
+            ≡ string_bytes out.old ++ num_text self.now.decimal) }
+        ensures refused { OnErr result (string_bytes out.new ≡ string_bytes out.old) }
+    {
+        let (mut buffer, mut text_buffer) = ([0; MAX_DIGITS], [0; TEXT_BUFFER]);
+        if let Some(text) = self.stripped(&mut buffer).short_text(&mut text_buffer) {
+            return out.push_str(text);
+        }
+        let text = format!(in *out.allocator(); "{self}")?;
+        out.push_str(text.as_str())
+    }
+
+    /// Appends the text that `Display` writes, in less time: that of few digits is appended at once, by no formatter. It may want
+    /// room for 16 bytes more than the text has. A text with zeros beside the digits, with an exponent behind a single digit or with
+    /// many digits is made in memory of its own first. The error comes where there was not enough memory. A beginning of the text may
+    /// then stand in `out`, behind what was there. It takes time linear in the text.
+    #[inline(always)]
+    pub fn push_to(&self, out: &mut String) -> Result<(), AllocError>
+        ensures written { OnOk result (string_bytes out.new
+            ≡ string_bytes out.old ++ num_text self.now.decimal) }
+        // Where memory is refused, a beginning of it stands behind what was there.
+        ensures refused { OnErr result
+            (AppendsBeginning (string_bytes out.old) (string_bytes out.new) (num_text self.now.decimal)) }
+    {
+        if self.push_plain(out)? {
+            return Ok(());
+        }
+        self.push_any(out)
+    }
+}

@@ -1,0 +1,90 @@
+//! Sixteen digits of a number, made and appended all at once.
+ghost use Rattle.std.specs.Prelude.{◌≡◌, ◌+◌, ◌/◌, ◌%◌, ◌^◌, ◌<◌, ◌≤◌, [], ◌∷◌, ◌++◌, drop, length, take, OnErr, OnOk};
+ghost use Rattle.std.specs.Str.{IsAscii};
+ghost use Rattle.std.specs.String.{string_bytes};
+ghost use Rattle.ijson_number.specs.private.WordText.{last_digits};
+ghost use Rattle.ijson_number.specs.private.ZerosInFront.{IsZerosInFront};
+
+use crate::parse::lanes::LANES;
+use std::alloc::AllocError;
+use std::simd::prelude::*;
+use std::str;
+
+/// One past the most that 16 digits count.
+pub const LANES_END: u64 = 10_000_000_000_000_000;
+
+/// From place `n` on: the positions by which the lanes from n on come to the front of a vector, with zeros behind them.
+static FRONT: [u8; 2 * LANES] = [
+    0, 1, 2, 3, 4, 5, 6, 7, 8, 9, 10, 11, 12, 13, 14, 15, 128, 128, 128, 128, 128, 128, 128, 128,
+    128, 128, 128, 128, 128, 128, 128, 128,
+];
+
+/// A number of 16 digits, two in each lane.
+#[inline(always)]
+fn pairs_of(number: u64) -> u16x8
+    requires { number < 10 ^ 16 }
+    ensures { result ≡ number / 10 ^ 14 ∷ number / 10 ^ 12 % 100 ∷ number / 10 ^ 10 % 100 ∷ number / 10 ^ 8 % 100
+        ∷ number / 10 ^ 6 % 100 ∷ number / 10 ^ 4 % 100 ∷ number / 10 ^ 2 % 100 ∷ number % 100 ∷ [] }
+{
+    let (high, low) = (number / 100_000_000, number % 100_000_000);
+    let fours = u16x8::from_array([
+        (high / 10_000) as u16,
+        (high % 10_000) as u16,
+        (low / 10_000) as u16,
+        (low % 10_000) as u16,
+        0,
+        0,
+        0,
+        0,
+    ]);
+    let hundreds = fours / u16x8::splat(100);
+    let units = fours - hundreds * u16x8::splat(100);
+    hundreds.shuffle(units, [0, 8, 1, 9, 2, 10, 3, 11])
+}
+
+/// The text of a number's last 16 digits, with zeros in front where it has fewer.
+#[inline(always)]
+pub fn lanes_of(number: u64) -> u8x16
+    requires { number < 10 ^ 16 }
+    ensures { result ≡ last_digits 16 number }
+{
+    let pairs = pairs_of(number);
+    let tens = pairs / u16x8::splat(10);
+    // the tens come into the lower byte of each lane, and the ones above them
+    let digits = ((pairs << 8) - tens * u16x8::splat(2559)).to_le_bytes();
+    digits + u8x16::splat(b'0')
+}
+
+/// How many of the first 15 bytes are zeros, up to another digit.
+#[inline(always)]
+pub fn zeros_in_front(lanes: u8x16) -> usize
+    requires { length lanes ≡ 16 }
+    ensures { IsZerosInFront lanes result }
+{
+    let others = lanes.simd_ne(u8x16::splat(b'0')).to_bitmask();
+    (others.trailing_zeros() as usize).min(LANES - 1)
+}
+
+/// Appends some bytes of the lanes.
+#[inline(always)]
+pub fn push_lanes(
+    lanes: u8x16,
+    start: usize,
+    count: usize,
+    out: &mut String,
+) -> Result<(), AllocError>
+    requires all { length lanes ≡ 16 }
+    requires ascii { IsAscii (drop start lanes) }
+    requires within { start + count ≤ 16 }
+    ensures written { OnOk result (string_bytes out.new ≡ string_bytes out.old ++ take count (drop start lanes)) }
+    ensures refused { OnErr result (string_bytes out.new ≡ string_bytes out.old) }
+{
+    let front = lanes
+        .swizzle_dyn(u8x16::from_slice(&FRONT[start..]))
+        .to_array();
+    let end = out.len() + count;
+    // all 16 bytes take less time than fewer, whose count is not known when the code is built
+    out.push_str(unsafe { str::from_utf8_unchecked(&front) })?;
+    out.truncate(end);
+    Ok(())
+}

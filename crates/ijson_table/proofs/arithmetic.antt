@@ -1,0 +1,5 @@
+pub mod Circular
+pub mod Comparing
+pub mod Counting
+pub mod FoldSteps
+pub mod Reciprocal

@@ -1,0 +1,55 @@
+-- Division of a hash n by a count d through the reciprocal of d, which is 2^64 - 1 divided by d. In the first lemmas k stands for 2^64,
+-- m for the reciprocal, and e for the quotient n m / k.
+use Rattle.std.proofs.Common.{◌≡◌, ℕ, ◌+◌, ◌-◌, ◌*◌, ◌/◌, ◌%◌, ◌^◌, ◌<◌, ◌≤◌, ap, ap₂, subst, sym, ◌∙◌, arith}
+use Rattle.std.proofs.Math.Nat.{le_of_mul-le-mul_left, lt_of_mul-lt-mul_left, lt-mul-div-succ, mul-div-le, mul-le-mul_left}
+use Rattle.std.proofs.Math.Nat.{mul-le-mul_right, mul-lt-mul_of_pos_right}
+use Rattle.std.proofs.lemmas.Nat.{mod-mul-add}
+
+-- e is no more than the quotient by d
+not_above : (k n d m e : ℕ) → 0 < k → k * e ≤ n * m → d * m ≤ k → e * d ≤ n
+not_above k n d m e p below reciprocal =
+    let a : k * e * d ≤ n * m * d = mul-le-mul_right d below in
+    let b : n * (d * m) ≤ n * k = mul-le-mul_left n reciprocal in
+    let c : k * (e * d) ≤ k * n = grind (arith, a, b) in
+    le_of_mul-le-mul_left c p
+
+-- and at most one less
+near : (k n d m e : ℕ) → 0 < d → n < k → n * m < k * (e + 1) → k ≤ d * (m + 1) → n < (e + 2) * d
+near k n d m e p small above reciprocal =
+    let a : n * m * d < k * (e + 1) * d = mul-lt-mul_of_pos_right above p in
+    let b : n * k ≤ n * (d * (m + 1)) = mul-le-mul_left n reciprocal in
+    let c : n * d ≤ k * d = mul-le-mul_right d (omega (arith, small)) in
+    let s : k * n < k * ((e + 2) * d) = grind (arith, a, b, c) in
+    lt_of_mul-lt-mul_left k s
+
+-- of the quotient of a hash a by the reciprocal b of d
+pub quotient-not_above : (n d a b : ℕ) → a ≡ n → b ≡ (2 ^ 64 - 1) / d → a * b / 2 ^ 64 * d ≤ n
+quotient-not_above n d a b hash reciprocal =
+    let m = (2 ^ 64 - 1) / d in
+    let r : d * m ≤ 2 ^ 64 - 1 = mul-div-le (2 ^ 64 - 1) d in
+    let h : n * m / 2 ^ 64 * d ≤ n = not_above (2 ^ 64) n d m (n * m / 2 ^ 64) (omega arith) (mul-div-le (n * m) (2 ^ 64))
+    (omega (arith, r)) in
+    subst (λ e. e * d ≤ n) (sym (ap₂ (λ x y. x * y / 2 ^ 64) hash reciprocal)) h
+
+-- the quotient by the reciprocal is that by the count, or one less
+pub quotient-near : (n d a b : ℕ) → a ≡ n → b ≡ (2 ^ 64 - 1) / d → 0 < d → n < 2 ^ 64 → n < (a * b / 2 ^ 64 + 2) * d
+quotient-near n d a b hash reciprocal p small =
+    let m = (2 ^ 64 - 1) / d in
+    let r : 2 ^ 64 - 1 < d * (m + 1) = lt-mul-div-succ (2 ^ 64 - 1) p in
+    let h : n < (n * m / 2 ^ 64 + 2) * d = near (2 ^ 64) n d m (n * m / 2 ^ 64) p small (lt-mul-div-succ (n * m) (omega arith))
+    (omega (arith, r)) in
+    subst (λ e. n < (e + 2) * d) (sym (ap₂ (λ x y. x * y / 2 ^ 64) hash reciprocal)) h
+
+-- what a quotient leaves is the remainder where it is less than d
+pub left-is_remainder : (n d e : ℕ) → e * d ≤ n → n - e * d < d → n - e * d ≡ n % d
+left-is_remainder n d e h small =
+    let whole : e * d + (n - e * d) ≡ n = omega (arith, h) in
+    sym (mod-mul-add e d (n - e * d) small) ∙ ap (λ x. x % d) whole
+
+-- and else d less than that, where the quotient is near
+pub left-is_more : (n d e : ℕ) → e * d ≤ n → n < (e + 2) * d → d ≤ n - e * d → n - e * d - d ≡ n % d
+left-is_more n d e h near more =
+    let below : (e + 1) * d ≤ n = grind (arith, h, more) in
+    let same : n - e * d - d ≡ n - (e + 1) * d = grind (arith, h, more) in
+    let small : n - (e + 1) * d < d = grind (arith, near, below) in
+    same ∙ left-is_remainder n d (e + 1) below small

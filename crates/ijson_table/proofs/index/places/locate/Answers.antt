@@ -1,0 +1,51 @@
+use Rattle.std.proofs.Common.{ℕ, ◌-◌, ◌<◌, List, length, map, arith, sym, ◌∙◌}
+use Rattle.std.proofs.lemmas.List.{length-map}
+use Rattle.std.proofs.Math.Nat.{mod-lt}
+use Rattle.ijson_table.specs.Crowd.{home_of}
+use Rattle.ijson_table.specs.private.Lookup.{is_key}
+use Rattle.ijson_table.proofs.pairs.KeyPositions.{position-none}
+use Rattle.ijson_table.proofs.probing.LookCount.{within_list}
+use Rattle.ijson_table.proofs.probing.KeyTests.{is_key-true, is_key-false}
+use Rattle.ijson_table.proofs.probing.ProbeEnds.{look_up_ends, bounded, found_at-ends}
+use Rattle.ijson_table.proofs.probing.ProbePath.{placed_at}
+use Rattle.ijson_table.proofs.index.places.locate.Goals as goal
+
+pub returns-then-places-eq0-clause-found : goal.returns-then-places-eq0-clause-found
+returns-then-places-eq0-clause-found g c =
+    let p = g.P.Places in
+    let table = c.args.table.now in
+    sym (position-none (p.keys table) c.args.key.now (λ j lj e.
+    let spot = placed_at (map p.hash_of (p.keys table)) (p.slots table) c.places.ensures.table j
+    (omega (arith, lj, length-map (p.keys table) p.hash_of)) in
+    omega (arith, spot.1, c.if-places-eq0.true, c.places.ensures.count)))
+
+pub probe-requires-clause-fits : goal.probe-requires-clause-fits
+probe-requires-clause-fits g c = λ m lm passed.
+    let p = g.P.Places in
+    let table = c.args.table.now in
+    let n : ℕ = length (p.slots table) in
+    let few = within_list (map p.hash_of (p.keys table)) (p.slots table) c.places.ensures.table (home_of p.hash_of n c.args.key.now) m
+    (mod-lt (p.hash_of c.args.key.now) (omega (arith, lm))) (omega (arith, lm)) passed in
+    omega (arith, few, c.requires, length-map (p.keys table) p.hash_of)
+
+pub returns-clause-found : goal.returns-clause-found
+returns-clause-found g c =
+    let p = g.P.Places in
+    let table = c.args.table.now in
+    let keys : List (List ℕ) = p.keys table in
+    let key : List ℕ = c.args.key.now in
+    let some : 0 < length (p.slots table) = omega (arith, c.if-places-eq0.false, c.places.ensures.count) in
+    c.found.ensures ∙ found_at-ends (map p.hash_of keys) keys (p.slots table) (p.hash_of key) key c.probe.result
+    (look_up_ends p.hash_of keys (p.slots table) c.places.ensures.table key (is_key keys key) (λ i li. is_key-true keys key i)
+    (λ i li. is_key-false keys key i) (p.distinct table) some c.probe.result
+    (c.probe.new.looks - c.args.looks.now) c.probe.ensures.ends)
+
+pub returns-clause-bounded : goal.returns-clause-bounded
+returns-clause-bounded g c =
+    let p = g.P.Places in
+    let table = c.args.table.now in
+    let keys : List (List ℕ) = p.keys table in
+    let key : List ℕ = c.args.key.now in
+    bounded p.hash_of keys (p.slots table) c.places.ensures.table key (is_key keys key) (λ i li. is_key-true keys key i)
+    (λ i li. is_key-false keys key i) (p.room table) c.places.ensures.size c.probe.result
+    (c.probe.new.looks - c.args.looks.now) c.probe.ensures.ends

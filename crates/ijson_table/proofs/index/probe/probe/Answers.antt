@@ -1,0 +1,123 @@
+use Rattle.std.proofs.Common.{◌≡◌, ◌<◌, ◌+◌, ℕ, List, Bool, false, length, Option, Some, arith, ap, sym, ◌∙◌, subst, inl, inr}
+use Rattle.ijson_table.specs.Slots.{after, resident}
+use Rattle.ijson_table.specs.private.Probe.{onward, Passed, PassedOthers}
+use Rattle.ijson_table.proofs.arithmetic.Comparing.{below_or_not}
+use Rattle.ijson_table.proofs.arithmetic.Circular.{onward-zero, after-onward}
+use Rattle.ijson_table.proofs.probing.LookCount.{passed_none, passed_more}
+use Rattle.ijson_table.proofs.index.probe.probe.Goals as goal
+
+pub loop-passed-init : goal.loop-passed-init
+loop-passed-init g c =
+    let p = g.P.ProbeTarget in
+    let target = c.args.target.now in
+    let n : ℕ = length (p.slots target) in
+    let home : p.home_slot target < n = omega (arith, c.home-slot.ensures.within, c.home-slot.ensures.value) in
+    record {
+      within = c.home-slot.ensures.within;
+      home = home;
+      there = c.home-slot.ensures.value ∙ sym (onward-zero n (p.home_slot target) home);
+      passed = passed_none (p.displacements target) n (p.home_slot target);
+      others = λ j i lj. absurd (omega arith);
+      looked = omega arith;
+    }
+
+pub look-requires-clause-fits : goal.look-requires-clause-fits
+look-requires-clause-fits g c =
+    let fits = c.requires.fits c.loop-passed.passed (omega
+    (arith, c.loop-passed-test.true, c.count-slots.ensures)) c.loop-passed.invariant.passed in
+    omega (arith, fits, c.loop-passed.invariant.looked)
+
+-- the residents that were passed and one more
+more : (slots : List (Option ℕ)) (seeks : ℕ → Bool) (h m i : ℕ) → PassedOthers slots seeks h m
+    → resident slots (onward (length slots) h m) ≡ Some i → seeks i ≡ false → PassedOthers slots seeks h (m + 1)
+more slots seeks h m i others there no_it_is j k lj at = elim (below_or_not j m) [
+  | inl less ↦ others j k less at
+  | inr last ↦
+      let same : m ≡ j = omega arith in
+      let who : Some i ≡ Some k = sym there ∙ (ap (λ x. resident slots (onward (length slots) h x)) same ∙ at) in
+      let it : i ≡ k = cc in
+      ap seeks (sym it) ∙ no_it_is
+]
+
+pub loop-passed-preserved : goal.loop-passed-preserved
+loop-passed-preserved g c =
+    let p = g.P.ProbeTarget in
+    let target = c.args.target.now in
+    let n : ℕ = length (p.slots target) in
+    let h : ℕ = p.home_slot target in
+    let m : ℕ = c.loop-passed.passed in
+    let size : c.count-slots.result ≡ n = c.count-slots.ensures in
+    let lm : m < n = omega (arith, c.loop-passed-test.true, size) in
+    let at : c.loop-passed.slot ≡ onward n h m = c.loop-passed.invariant.there in
+    let sees = c.in-Resident.ensures.sees in
+    let there : resident (p.slots target) (onward n h m) ≡ Some c.in-Resident.at = ap (resident (p.slots target)) (sym at) ∙ sees.0 in
+    record {
+      within = omega (arith, c.next_slot-slot.ensures.within, size);
+      home = c.loop-passed.invariant.home;
+      there = c.next_slot-slot.ensures.slot ∙ (ap (λ k. after k c.loop-passed.slot) size
+          ∙ (ap (after n) at ∙ after-onward n h m c.loop-passed.invariant.home lm));
+      passed = passed_more (p.displacements target) n h m c.loop-passed.invariant.passed
+          (omega (arith, sees.1, c.if-distance-passed.false, ap (p.displacements target) at));
+      others = more (p.slots target) (p.seeks target) h m c.in-Resident.at c.loop-passed.invariant.others there
+          (sym sees.2 ∙ c.if-same.false);
+      looked = omega (arith, c.look.ensures.counts, c.loop-passed.invariant.looked);
+    }
+
+pub returns-in-Empty-clause-ends : goal.returns-in-Empty-clause-ends
+returns-in-Empty-clause-ends g c =
+    let i = c.loop-passed.invariant in (
+      c.loop-passed.passed,
+      record {
+        within = omega (arith, c.loop-passed-test.true, c.count-slots.ensures);
+        there = i.there;
+        passed = i.passed;
+        others =
+            i.others;
+        looked = omega (arith, i.looked, c.in-Empty.ensures.counts);
+      },
+      omega (arith, c.in-Empty.ensures.sees.1),
+    )
+
+pub returns-then-same-clause-ends : goal.returns-then-same-clause-ends
+returns-then-same-clause-ends g c =
+    let i = c.loop-passed.invariant in
+    let sees = c.in-Resident.ensures.sees in (
+      c.loop-passed.passed,
+      record {
+        within = omega (arith, c.loop-passed-test.true, c.count-slots.ensures);
+        there = i.there;
+        passed = i.passed;
+        others =
+            i.others;
+        looked = omega (arith, i.looked, c.in-Resident.ensures.counts);
+      },
+      sees.0,
+      sym sees.2 ∙ c.if-same.true,
+    )
+
+pub returns-then-distance-passed-clause-ends : goal.returns-then-distance-passed-clause-ends
+returns-then-distance-passed-clause-ends g c =
+    let i = c.loop-passed.invariant in (
+      c.loop-passed.passed,
+      record {
+        within = omega (arith, c.loop-passed-test.true, c.count-slots.ensures);
+        there = i.there;
+        passed = i.passed;
+        others =
+            i.others;
+        looked = omega (arith, i.looked, c.in-Resident.ensures.counts);
+      },
+      omega (arith, c.in-Resident.ensures.sees.1, c.if-distance-passed.true),
+    )
+
+pub returns-clause-ends : goal.returns-clause-ends
+returns-clause-ends g c =
+    let p = g.P.ProbeTarget in
+    let target = c.args.target.now in
+    let i = c.loop-passed.invariant in
+    let all : c.loop-passed.passed ≡ length (p.slots target) =
+    omega (arith, c.loop-passed-test.false, c.count-slots.ensures, c.loop-passed.auto.passed-end) in (
+      subst (Passed (p.displacements target) (length (p.slots target)) (p.home_slot target)) all i.passed,
+      subst (PassedOthers (p.slots target) (p.seeks target) (p.home_slot target)) all i.others,
+      omega (arith, i.looked, all),
+    )

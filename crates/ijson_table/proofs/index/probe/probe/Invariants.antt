@@ -1,0 +1,17 @@
+use Rattle.std.proofs.Common.{◌≡◌, ◌+◌, ◌<◌, length}
+use Rattle.ijson_table.specs.private.Probe.{onward, Passed, PassedOthers}
+use Rattle.ijson_table.proofs.index.probe.probe.Given as goal
+
+-- so many slots were passed, each by one look
+abbrev pub invariant-loop-passed : goal.invariant-loop-passed
+invariant-loop-passed g l =
+    let p = g.P.ProbeTarget in
+    let count = length (p.slots l.target) in
+    record {
+      within : l.slot < count;
+      home : p.home_slot l.target < count;
+      there : l.slot ≡ onward count (p.home_slot l.target) l.passed;
+      passed : Passed (p.displacements l.target) count (p.home_slot l.target) l.passed;
+      others : PassedOthers (p.slots l.target) (p.seeks l.target) (p.home_slot l.target) l.passed;
+      looked : l.looks ≡ l.fn.looks + l.passed;
+    }

@@ -1,0 +1,99 @@
+use Rattle.std.proofs.Common.{◌≡◌, ◌<◌, ◌≤◌, ◌+◌, ℕ, suc, List, length, get_or, take, Option, None, Some, arith, ap, sym, ◌∙◌}
+use Rattle.std.proofs.lemmas.Bool.Decides.{nat_tests}
+use Rattle.ijson_table.specs.private.Holds.{one_if, HasEmpty}
+use Rattle.ijson_table.specs.Slots.{resident, times, below}
+use Rattle.ijson_table.specs.private.SlotHashes.{position_in, positions, blank}
+use Rattle.ijson_table.proofs.shifting.Insertion.{some_empty}
+use Rattle.ijson_table.proofs.slots.Residents.{times-nil, times-some, times-split, times-more}
+use Rattle.ijson_table.proofs.slots.HashesInSlots.{positions-length, position-at, hashes-at}
+use Rattle.ijson_table.proofs.index.shift.insert_each.Goals as goal
+
+-- what the next one of them adds
+next : (i : ℕ) (from : List (Option ℕ)) (index : ℕ) (told : Option ℕ) → index < length from → resident from index ≡ told
+    → times i (take (index + 1) from) ≡ times i (take index from) + one_if i told
+next i from index told lt at =
+    let one : index + 1 ≡ suc index = omega arith in
+    ap (λ n. times i (take n from)) one ∙ (times-more i from index lt ∙ ap (λ o. times i (take index from) + one_if i o) at)
+
+-- where one is still to come, a slot is empty
+has_empty : (count : ℕ) (first from slots : List (Option ℕ)) (index k : ℕ) → index < length from → resident from index ≡ Some k
+    → ((i : ℕ) → times i first + times i from ≤ below count i)
+    → ((i : ℕ) → times i slots ≡ times i first + times i (take index from)) → count ≤ length slots → HasEmpty slots
+has_empty count first from slots index k lt at once placed room =
+    let few : (i : ℕ) → times i slots ≤ below count i = λ i. omega (arith, placed i, times-split i from index, once i) in
+    let some : 1 ≤ times k from = times-some k from index lt at in
+    let lk : k < count = grind (arith, nat_tests, once k, some) in
+    let one : below count k ≤ 1 = grind (arith, nat_tests) in
+    let is : one_if k (Some k) ≡ 1 = grind (arith, nat_tests) in
+    let none : times k slots ≡ 0 = omega (
+      arith,
+      placed k,
+      next k from index (Some k) lt at,
+      is,
+      times-split k from (index + 1),
+      once k,
+      one,
+    ) in
+    some_empty slots count k few lk none room
+
+pub loop-index-init : goal.loop-index-init
+loop-index-init g c = record { ordered = c.requires.ordered; placed = λ i. omega (arith, times-nil i); hashes = c.requires.hashes_are }
+
+pub loop-index-preserved-in_default : goal.loop-index-preserved-in_default
+loop-index-preserved-in_default g c =
+    let from : List (Option ℕ) = positions c.args.from.now in
+    let at : resident from c.loop-index.index ≡ None =
+    position-at c.args.from.now c.loop-index.index None c.loop-index-test.true (sym c.in_default.is ∙ c.position.ensures) in
+    record {
+      ordered = c.loop-index.invariant.ordered;
+      placed = λ i. omega (
+        arith,
+        c.loop-index.invariant.placed i,
+        next i from c.loop-index.index None
+            (omega (arith, c.loop-index-test.true, positions-length c.args.from.now)) at,
+      );
+      hashes = c.loop-index.invariant.hashes;
+    }
+
+pub insert-requires : goal.insert-requires
+insert-requires g c =
+    let here : Some c.in-Some.position ≡ position_in (get_or c.args.from.now c.loop-index.index blank) =
+    sym c.in-Some.is ∙ c.position.ensures in
+    let at : resident (positions c.args.from.now) c.loop-index.index ≡ Some c.in-Some.position =
+    position-at c.args.from.now c.loop-index.index (Some c.in-Some.position) c.loop-index-test.true here in
+    let inside : c.loop-index.index < length (positions c.args.from.now) =
+    omega (arith, c.loop-index-test.true, positions-length c.args.from.now) in
+    let few : times c.in-Some.position (positions c.args.from.now) ≤ below (length g.hashes) c.in-Some.position =
+    omega (arith, c.requires.once c.in-Some.position) in
+    let below_all : c.in-Some.position < length g.hashes =
+    grind (arith, nat_tests, few, times-some c.in-Some.position (positions c.args.from.now) c.loop-index.index inside at) in
+    record {
+      fits = omega (arith, below_all, c.requires.room, c.loop-index.auto.slots);
+      hash_is = c.hash.ensures
+          ∙ hashes-at g.hashes c.args.from.now c.loop-index.index c.requires.from_hashes c.loop-index-test.true c.in-Some.position
+          (sym here);
+      hashes_are = c.loop-index.invariant.hashes;
+      ordered = c.loop-index.invariant.ordered;
+      empty = has_empty (length g.hashes) (positions c.args.slots.now) (positions c.args.from.now)
+          (positions c.loop-index.slots) c.loop-index.index c.in-Some.position inside at
+          c.requires.once c.loop-index.invariant.placed (omega
+          (arith, c.requires.room, c.loop-index.auto.slots, positions-length c.loop-index.slots));
+    }
+
+pub loop-index-preserved : goal.loop-index-preserved
+loop-index-preserved g c =
+    let from : List (Option ℕ) = positions c.args.from.now in
+    let at : resident from c.loop-index.index ≡ Some c.in-Some.position =
+    position-at c.args.from.now c.loop-index.index (Some c.in-Some.position) c.loop-index-test.true
+    (sym c.in-Some.is ∙ c.position.ensures) in
+    record {
+      ordered = c.insert.ensures.holds.ordered;
+      placed = λ i. omega (
+        arith,
+        c.insert.ensures.holds.placed i,
+        c.loop-index.invariant.placed i,
+        next i from c.loop-index.index
+            (Some c.in-Some.position) (omega (arith, c.loop-index-test.true, positions-length c.args.from.now)) at,
+      );
+      hashes = c.insert.ensures.hashes;
+    }

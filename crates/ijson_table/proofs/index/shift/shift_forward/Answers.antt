@@ -1,0 +1,80 @@
+use Rattle.std.proofs.Common.{◌≡◌, ◌<◌, ℕ, ◌+◌, List, length, get_or, set, Option, Some, None, refl, arith, ap, sym, ◌∙◌, subst}
+use Rattle.std.proofs.lemmas.List.{length-set}
+use Rattle.ijson_table.specs.declared.index.slot.Slot.{Slot}
+use Rattle.ijson_table.specs.Slots.{after}
+use Rattle.ijson_table.specs.private.Holds.{Holds, MayStand, with_one}
+use Rattle.ijson_table.specs.private.Insertion.{Accepts}
+use Rattle.ijson_table.specs.private.SlotHashes.{position_in, positions, blank}
+use Rattle.ijson_table.proofs.arithmetic.Circular.{distance-below}
+use Rattle.ijson_table.proofs.shifting.SlotWrites.{put_down}
+use Rattle.ijson_table.proofs.shifting.Insertion.{Shifting, shift_more}
+use Rattle.ijson_table.proofs.slots.HashesInSlots.{positions-length, positions-put, position-at, hashes-at, hashes-set, has_own_hash}
+use Rattle.ijson_table.proofs.index.shift.shift_forward.Goals as goal
+
+pub loop-step-init : goal.loop-step-init
+loop-step-init g c =
+    let slots : List (Option ℕ) = positions c.args.slots.now in
+    let accepts : Accepts g.hashes c.args.slots.now c.args.position c.args.hash = c.requires.0 in
+    let may : MayStand g.hashes slots c.args.position c.args.from = c.requires.1 in
+    let e = accepts.empty in
+    record {
+      shifting = (
+        c.args.position,
+        c.of-entry.ensures.position,
+        record {
+          held = record { ordered = accepts.ordered; placed = λ i. refl };
+          may = may;
+          ahead = (e.0, e.1, e.2, omega (arith, distance-below (length slots) c.args.from e.0 may.within e.1));
+        },
+      );
+      hash = has_own_hash g.hashes c.of-entry.result c.args.position c.of-entry.ensures.position
+          (c.of-entry.ensures.hash ∙ accepts.hash_is);
+      hashes = accepts.hashes_are;
+    }
+
+-- the last one is put down at an empty slot
+ended : (hashes : List ℕ) (want : ℕ → ℕ) (slots : List Slot) (entry : Slot) (i slot step : ℕ) → position_in entry ≡ Some i
+    → Shifting hashes want i slot step (positions slots) → None ≡ position_in (get_or slots slot blank)
+    → Holds hashes want None (positions (set slots slot entry))
+ended hashes want slots entry i slot step at s empty =
+    let here : slot < length slots = omega (arith, s.may.within, positions-length slots) in
+    subst (Holds hashes want None) (sym (positions-put slots slot entry i at))
+    (subst (λ o. Holds hashes want o (set (positions slots) slot (Some i))) (position-at slots slot None here empty)
+    (put_down hashes want (positions slots) i slot s.may.within s.held s.may))
+
+pub returns-in_default-clause-holds : goal.returns-in_default-clause-holds
+returns-in_default-clause-holds g c =
+    let i = c.loop-step.invariant.shifting in
+    ended g.hashes (with_one
+    (positions c.args.slots.now) c.args.position) c.loop-step.slots c.loop-step.entry i.0 c.loop-step.slot c.loop-step._step i.1 i.2
+    (sym c.in_default.is ∙ c.position.ensures)
+
+pub returns-in_default-clause-hashes : goal.returns-in_default-clause-hashes
+returns-in_default-clause-hashes g c =
+    hashes-set g.hashes c.loop-step.slots c.loop-step.slot c.loop-step.entry c.loop-step.invariant.hash c.loop-step.invariant.hashes
+
+pub loop-step-preserved : goal.loop-step-preserved
+loop-step-preserved g c =
+    let hashes : List ℕ = g.hashes in
+    let want : ℕ → ℕ = with_one (positions c.args.slots.now) c.args.position in
+    let slots : List (Option ℕ) = positions c.loop-step.slots in
+    let slot : ℕ = c.loop-step.slot in
+    let i = c.loop-step.invariant.shifting in
+    let next : ℕ = c.in-Some._resident in
+    let here : slot < length c.loop-step.slots = omega (arith, i.2.may.within, positions-length c.loop-step.slots) in
+    let size : length (set c.loop-step.slots slot c.loop-step.entry) ≡ length slots =
+    length-set c.loop-step.slots slot c.loop-step.entry ∙ sym (positions-length c.loop-step.slots) in
+    let to : after (length slots) slot ≡ c.next_slot-slot.result = ap (λ n. after n slot) (sym size) ∙ sym c.next_slot-slot.ensures.slot in
+    let there : Some next ≡ position_in (get_or c.loop-step.slots slot blank) = sym c.in-Some.is ∙ c.position.ensures in
+    record {
+      shifting = (
+        next,
+        sym there,
+        subst (λ p. Shifting hashes want next p (c.loop-step._step + 1) (positions (set c.loop-step.slots slot c.loop-step.entry))) to
+            (subst (Shifting hashes want next (after (length slots) slot) (c.loop-step._step + 1))
+            (sym (positions-put c.loop-step.slots slot c.loop-step.entry i.0 i.1))
+            (shift_more hashes want i.0 slot c.loop-step._step next slots i.2 (position-at c.loop-step.slots slot (Some next) here there))),
+      );
+      hash = hashes-at hashes c.loop-step.slots slot c.loop-step.invariant.hashes here;
+      hashes = hashes-set hashes c.loop-step.slots slot c.loop-step.entry c.loop-step.invariant.hash c.loop-step.invariant.hashes;
+    }

@@ -1,0 +1,6 @@
+pub mod DistinctKeys
+pub mod KeyPositions
+pub mod PairsByKey
+pub mod PutEach
+pub mod RunSteps
+pub mod SameStores

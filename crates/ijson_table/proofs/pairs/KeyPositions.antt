@@ -1,0 +1,85 @@
+-- Positions of keys in a list: the first that is the key, and none where it is missing.
+use Rattle.std.proofs.Common.{◌≡◌, ◌≢◌, ℕ, zero, suc, ◌+◌, ◌<◌, ◌⊎◌, inl, inr, arith, List, [], ◌∷◌, length, get_or}
+use Rattle.std.proofs.Common.{Option, Some, None, cond, true, false, refl, sym, ap, subst, ◌∙◌}
+use Rattle.std.specs.Prelude.{bytes_eq, option_map}
+use Rattle.std.specs.Cmp.Lexicographic.{bytes_decides}
+use Rattle.ijson_table.specs.Store.{position_of, IsDistinct}
+use Rattle.ijson_table.proofs.pairs.DistinctKeys.{apart}
+
+-- whether two keys are the same
+pub same_key : (a b : List ℕ) → ((bytes_eq a b ≡ true) × (a ≡ b)) ⊎ ((bytes_eq a b ≡ false) × (a ≢ b))
+same_key a b = elim (bytes_eq a b) as (λ r. bytes_eq a b ≡ r → ((bytes_eq a b ≡ true) × (a ≡ b)) ⊎ ((bytes_eq a b ≡ false) × (a ≢ b))) [
+  | true ↦ λ e. inl (e, (bytes_decides a b).0 e)
+  | false ↦ λ e. inr (e, λ same. let yes_it_is = (bytes_decides a b).1 same in let bad : true ≡ false = sym yes_it_is ∙ e in cc)
+] refl
+
+-- the first of its kind
+pub position-first : (keys : List (List ℕ)) (key : List ℕ) (i : ℕ) → i < length keys → get_or keys i [] ≡ key
+    → ((j : ℕ) → j < i → get_or keys j [] ≢ key) → position_of keys key ≡ Some i
+position-first [] key i li e before = absurd (omega arith)
+position-first (k ∷ ks) key zero li e before = ap (λ b. cond b (Some 0) (option_map (λ i. i + 1) (position_of ks key)))
+    ((bytes_decides k key).1 e)
+position-first (k ∷ ks) key (suc i) li e before = elim (same_key k key) [
+  | inl s ↦ absurd (before 0 (omega arith) s.1)
+  | inr d ↦ ap (λ b. cond b (Some 0) (option_map (λ i. i + 1) (position_of ks key))) d.0
+      ∙ (ap (option_map (λ i. i + 1)) (position-first ks key i (omega arith) e (λ j lj. before (suc j) (omega arith)))
+      ∙ ap Some (omega arith))
+]
+
+-- a key that stands at no position has none
+pub position-none : (keys : List (List ℕ)) (key : List ℕ) → ((j : ℕ) → j < length keys → get_or keys j [] ≢ key)
+    → position_of keys key ≡ None
+position-none [] key missing = refl
+position-none (k ∷ ks) key missing = elim (same_key k key) [
+  | inl s ↦ absurd (missing 0 (omega arith) s.1)
+  | inr d ↦ ap (λ b. cond b (Some 0) (option_map (λ i. i + 1) (position_of ks key))) d.0
+      ∙ ap (option_map (λ i. i + 1)) (position-none ks key (λ j lj. missing (suc j) (omega arith)))
+]
+
+-- where keys are distinct, the position of a key is where it stands
+pub position-distinct : (keys : List (List ℕ)) (key : List ℕ) (i : ℕ) → IsDistinct keys → i < length keys → get_or keys i [] ≡ key
+    → position_of keys key ≡ Some i
+position-distinct keys key i d li e = position-first keys key i li e
+    (λ j lj same. let it : j ≡ i = apart keys d j i (omega arith) li (same ∙ sym e) in omega arith)
+
+-- a key that stands somewhere has a position
+first-below : (keys : List (List ℕ)) (key : List ℕ) (j : ℕ) → j < length keys → get_or keys j [] ≡ key
+    → (i : ℕ) × (position_of keys key ≡ Some i)
+first-below [] key j lj e = absurd (omega arith)
+first-below (k ∷ ks) key zero lj e = (
+  0,
+  ap (λ b. cond b (Some 0) (option_map (λ i. i + 1) (position_of ks key)))
+      ((bytes_decides k key).1 e),
+)
+first-below (k ∷ ks) key (suc j) lj e = elim (same_key k key) [
+  | inl s ↦ (0, ap (λ b. cond b (Some 0) (option_map (λ i. i + 1) (position_of ks key))) s.0)
+  | inr d ↦ let rest = first-below ks key j (omega arith) e in
+      (rest.0 + 1, ap (λ b. cond b (Some 0) (option_map (λ i. i + 1) (position_of ks key))) d.0 ∙ ap (option_map (λ i. i + 1)) rest.1)
+]
+
+-- a key without a position stands nowhere
+pub absent-from : (keys : List (List ℕ)) (key : List ℕ) → position_of keys key ≡ None → (j : ℕ) → j < length keys → get_or keys j [] ≢ key
+absent-from keys key none j lj e = let found = first-below keys key j lj e in let bad : None ≡ Some found.0 = sym none ∙ found.1 in cc
+
+-- a position that was moved by one comes from one less
+pub shifted : (o : Option ℕ) (i : ℕ) → option_map (λ i. i + 1) o ≡ Some i → (j : ℕ) × (o ≡ Some j) × (j + 1 ≡ i)
+shifted None i e = cc
+shifted (Some j) i e = (j, refl, cc)
+
+-- where a key stands somewhere, its position is told
+pub position-some : (keys : List (List ℕ)) (key : List ℕ) (i : ℕ) → position_of keys key ≡ Some i
+    → (i < length keys) × (get_or keys i [] ≡ key)
+position-some [] key i e = cc
+position-some (k ∷ ks) key i e = elim (same_key k key) [
+  | inl s ↦
+      let here : Some 0 ≡ Some i = sym (ap (λ b. cond b (Some 0) (option_map (λ i. i + 1) (position_of ks key))) s.0) ∙ e in
+      let zero_is : 0 ≡ i = cc in
+      (omega arith, subst (λ n. get_or (k ∷ ks) n [] ≡ key) zero_is s.1)
+  | inr d ↦
+      let there : option_map (λ i. i + 1) (position_of ks key) ≡ Some i =
+      sym (ap (λ b. cond b (Some 0) (option_map (λ i. i + 1) (position_of ks key))) d.0) ∙ e in
+      let rest = shifted (position_of ks key) i there in
+      let further = position-some ks key rest.0 rest.1 in
+      let suc_is : suc rest.0 ≡ i = omega (arith, rest.2) in
+      (omega (arith, further.0), subst (λ n. get_or (k ∷ ks) n [] ≡ key) suc_is further.1)
+]

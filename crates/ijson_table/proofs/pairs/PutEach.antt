@@ -1,0 +1,74 @@
+-- Pairs put one after the other.
+use Rattle.std.proofs.Common.{◌≡◌, ◌≢◌, ℕ, ◌+◌, ◌<◌, ◌≤◌, inl, inr, arith, List, [], ◌∷◌, ◌++◌, length, take, drop, Option, Some, None}
+use Rattle.std.proofs.Common.{Result, Ok, Err, cond, true, false, refl, sym, ap, subst, ◌∙◌, append_assoc}
+use Rattle.std.specs.Prelude.{bytes_eq, option_map, IsOk}
+use Rattle.std.proofs.lemmas.List.{append-nil, take-append-drop}
+use Rattle.ijson_table.specs.declared.store.RefusedPair.{RefusedPair}
+use Rattle.ijson_table.specs.declared.store.ReserveError.{ReserveError}
+use Rattle.ijson_table.specs.declared.store.ReserveError.TheVariants.{Memory, TooLarge}
+use Rattle.ijson_table.specs.Growth.{wanted, Ungrown}
+use Rattle.ijson_table.specs.Inserts.{Inserts}
+use Rattle.ijson_table.specs.Store.{at, keys_of, put, put_each, IsDistinct, Lacks}
+use Rattle.ijson_table.proofs.pairs.KeyPositions.{same_key}
+use Rattle.ijson_table.proofs.pairs.PairsByKey.{put-absent}
+use Rattle.ijson_table.proofs.probing.KeyHashes.{had_room}
+
+-- a growth that was refused lacked room
+short : (len c n c' : ℕ) (why : ReserveError) → Ungrown len c n why c' → c < wanted len c n
+short len c n c' Memory h = h.1
+short len c n c' TooLarge h = h.1
+
+module _ {V : Type 0} where
+  -- first those of one list, then those of another
+  pub put_each-append : (pairs first more : List (List ℕ × V)) → put_each pairs (first ++ more) ≡ put_each (put_each pairs first) more
+  put_each-append pairs [] more = refl
+  put_each-append pairs (pair ∷ first) more = put_each-append (put pairs pair.0 pair.1) first more
+
+  -- a key that no list of pairs has is not the one in the middle
+  lacks_middle : (key : List ℕ) (pairs : List (List ℕ × V)) (pair : List ℕ × V) (more : List (List ℕ × V))
+      → Lacks key (keys_of (pairs ++ pair ∷ more)) → key ≢ pair.0
+  lacks_middle key [] pair more l = l.0
+  lacks_middle key (p ∷ pairs) pair more l = lacks_middle key pairs pair more l.1
+
+  -- where keys are distinct, the first pairs lack the key of the next
+  missing : (pairs : List (List ℕ × V)) (pair : List ℕ × V) (more : List (List ℕ × V)) → IsDistinct (keys_of (pairs ++ pair ∷ more))
+      → at pairs pair.0 ≡ None
+  missing [] pair more d = refl
+  missing (p ∷ pairs) pair more d = elim (same_key p.0 pair.0) [
+    | inl s ↦ absurd (lacks_middle p.0 pairs pair more d.0 s.1)
+    | inr n ↦ ap (λ b. cond b (Some 0) (option_map (λ i. i + 1) (at pairs pair.0))) n.0
+        ∙ ap (option_map (λ i. i + 1)) (missing pairs pair more d.1)
+  ]
+
+  -- where no key stands twice, they go last
+  pub put_each-new : (pairs more : List (List ℕ × V)) → IsDistinct (keys_of (pairs ++ more)) → put_each pairs more ≡ pairs ++ more
+  put_each-new pairs [] d = sym (append-nil pairs)
+  put_each-new pairs (pair ∷ more) d =
+      let whole : (pairs ++ pair ∷ []) ++ more ≡ pairs ++ pair ∷ more = append_assoc pairs (pair ∷ []) more in
+      ap (λ ps. put_each ps more) (put-absent pairs pair.0 pair.1 (missing pairs pair more d))
+      ∙ (put_each-new (pairs ++ pair ∷ []) more (subst (λ ps. IsDistinct (keys_of ps)) (sym whole) d) ∙ whole)
+
+  -- so the first ones may be there already, where none of their keys stands twice
+  pub put_each-split : (pairs : List (List ℕ × V)) (n : ℕ) → IsDistinct (keys_of (take n pairs))
+      → put_each (take n pairs) (drop n pairs) ≡ put_each [] pairs
+  put_each-split pairs n d =
+      ap (λ ps. put_each ps (drop n pairs)) (sym (put_each-new [] (take n pairs) d))
+      ∙ (sym (put_each-append [] (take n pairs) (drop n pairs)) ∙ ap (put_each []) (take-append-drop n pairs))
+
+  -- one that is put is one more at most
+  pub put-length : (pairs : List (List ℕ × V)) (key : List ℕ) (value : V) → length (put pairs key value) ≤ length pairs + 1
+  put-length [] key value = omega arith
+  put-length (pair ∷ pairs) key value = elim (bytes_eq pair.0 key) as
+      (λ b. length (cond b ((pair.0, value) ∷ pairs) (pair ∷ put pairs key value)) ≤ length (pair ∷ pairs) + 1) [
+        | true ↦ omega arith
+        | false ↦ omega (arith, put-length pairs key value)
+      ]
+
+  -- where there is room for one more, it is put without growth
+  pub put_in_room : (pairs : List (List ℕ × V)) (c : ℕ) (key : List ℕ) (value : V) (answer : Result (Option V) (RefusedPair V))
+      (pairs' : List (List ℕ × V)) (c' : ℕ) → length pairs < c
+      → Inserts pairs c key value answer pairs' c' → IsOk answer × (pairs' ≡ put pairs key value) × (c' ≡ c)
+  put_in_room pairs c key value (Ok (Some old)) pairs' c' room h = (refl, h.1, h.2)
+  put_in_room pairs c key value (Ok None) pairs' c' room h = (refl, h.1, h.2.0 ∙ sym (had_room (length pairs) c room).0)
+  put_in_room pairs c key value (Err refused) pairs' c' room h =
+      absurd (omega (arith, short (length pairs) c 1 c' refused.why h.4, (had_room (length pairs) c room).0))

@@ -1,9 +1,0 @@
-use Rattle.std.proofs.Common.{length, arith, ap}
-use Rattle.ijson_table.proofs.Indexes.{empty_index}
-use Rattle.ijson_table.proofs.place_list.PlaceList.new.Goals as goal
-
-pub invariant_of-result : goal.invariant_of-result
-invariant_of-result c = (empty_index c.new.result.items (λ p d lp. absurd (omega (arith, ap length c.new.ensures.items)))).index
-
-pub returns-clause-hashes : goal.returns-clause-hashes
-returns-clause-hashes c = (empty_index c.new.result.items (λ p d lp. absurd (omega (arith, ap length c.new.ensures.items)))).is

@@ -1,5 +1,0 @@
-use Rattle.ijson_table.specs.private.PlaceHashes.{hashes_of}
-use Rattle.ijson_table.proofs.place_list.PlaceList.shift_remove.Given as goal
-
-abbrev pub ghost-shift_remove : goal.ghost-shift_remove
-ghost-shift_remove a = hashes_of a.places.now

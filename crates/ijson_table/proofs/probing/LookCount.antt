@@ -1,0 +1,142 @@
+-- The looks of a look-up.
+use Rattle.std.proofs.Common.{◌≡◌, ◌≢◌, ℕ, zero, suc, ◌+◌, ◌<◌, ◌≤◌, inl, inr, arith, List, length, map, get_or, replicate, Option, Some}
+use Rattle.std.proofs.Common.{None, refl, ap, subst}
+use Rattle.std.specs.Prelude.{sum}
+use Rattle.std.proofs.lemmas.List.{length-map}
+use Rattle.std.proofs.lemmas.List.Sums.{sum_by-cons}
+use Rattle.std.proofs.Math.Nat.{mod-lt}
+use Rattle.ijson_table.specs.Crowd.{distance, home_of, slot_count}
+use Rattle.ijson_table.specs.Slots.{displacement, resident, IsTable, IsBounded}
+use Rattle.ijson_table.specs.private.Probe.{onward, Passed}
+use Rattle.ijson_table.proofs.arithmetic.Comparing.{below_or_not}
+use Rattle.ijson_table.proofs.arithmetic.Circular.{onward-below, distance-onward}
+use Rattle.ijson_table.proofs.arithmetic.Counting.{covers}
+use Rattle.ijson_table.proofs.probing.ProbePath.{reached, displacement-none, one_slot, in_list}
+use Rattle.ijson_table.proofs.probing.CrowdBound.{within_crowd}
+
+-- a list of so many ones
+pub ones : ℕ → List ℕ
+ones n = replicate n 1
+
+-- their sum is their count
+pub sum-ones : (n : ℕ) → sum (ones n) ≡ n
+unfolding ones
+sum-ones zero = refl
+sum-ones (suc n) = omega (arith, sum_by-cons (λ x. x) 1 (replicate n 1), sum-ones n)
+
+-- each of them is one
+pub one-at : (n i : ℕ) → i < n → get_or (ones n) i 0 ≡ 1
+unfolding ones
+one-at zero i li = absurd (omega arith)
+one-at (suc n) zero li = refl
+one-at (suc n) (suc i) li = one-at n i (omega arith)
+
+-- there are so many
+pub length-ones : (n : ℕ) → length (ones n) ≡ n
+unfolding ones
+length-ones zero = refl
+length-ones (suc n) = ap suc (length-ones n)
+
+-- a slot that is not empty has a resident
+some_resident : (o : Option ℕ) → o ≢ None → (i : ℕ) × (o ≡ Some i)
+some_resident None ne = absurd (ne refl)
+some_resident (Some i) ne = (i, refl)
+
+module _ (hashes : List ℕ) (slots : List (Option ℕ)) (t : IsTable hashes slots) where
+  -- the residents that were passed are as many positions
+  pub within_list : (h m : ℕ) → h < length slots → m ≤ length slots → Passed (displacement hashes slots) (length slots) h m
+      → m ≤ length hashes
+  within_list h m lh lm passed =
+      let n : ℕ = length slots in
+      let R : ℕ → ℕ → Type 0 = λ i j. resident slots (onward n h j) ≡ Some i in
+      let all : m ≤ sum (ones (length hashes)) = covers m R (ones (length hashes))
+      (λ i j l lj ll a b.
+      let same : onward n h j ≡ onward n h l = one_slot hashes slots t (onward n h j) (onward n h l) i
+      (onward-below n h j lh (omega arith)) (onward-below n h l lh (omega arith)) a b in
+      omega (arith, distance-onward n h j lh (omega arith), distance-onward n h l lh (omega arith), ap (distance n h) same))
+      (λ j lj.
+      let who = reached hashes slots (onward n h j) (omega (arith, passed.far j lj)) in
+      let li : who.0 < length hashes = in_list hashes slots t (onward n h j) who.0 (onward-below n h j lh (omega arith)) who.1 in
+      (who.0, omega (arith, length-ones (length hashes), li), who.1, omega (arith, one-at (length hashes) who.0 li)))
+      in omega (arith, sum-ones (length hashes))
+
+  -- a full table has as many positions as slots
+  filled : ((p : ℕ) → p < length slots → resident slots p ≢ None) → length slots ≤ length hashes
+  filled full =
+      let R : ℕ → ℕ → Type 0 = λ i j. resident slots j ≡ Some i in
+      let all : length slots ≤ sum (ones (length hashes)) = covers (length slots) R (ones (length hashes))
+      (λ i j l lj ll a b. one_slot hashes slots t j l i lj ll a b)
+      (λ j lj.
+      let who = some_resident (resident slots j) (full j lj) in
+      let li : who.0 < length hashes = in_list hashes slots t j who.0 lj who.1 in
+      (who.0, omega (arith, length-ones (length hashes), li), who.1, omega (arith, one-at (length hashes) who.0 li)))
+      in omega (arith, sum-ones (length hashes))
+
+module _ (hash : List ℕ → ℕ) (keys : List (List ℕ)) (slots : List (Option ℕ)) (t : IsTable (map hash keys) slots) where
+  abbrev hashes : List ℕ
+  hashes = map hash keys
+
+  -- it ended at the slot after those that it passed
+  pub bounded_there : (c : ℕ) → length slots ≡ slot_count c → (key : List ℕ) (m looks : ℕ) → m < length slots → looks ≡ m + 1
+      → Passed (displacement hashes slots) (length slots) (home_of hash (length slots) key) m → IsBounded hash keys slots c key looks
+  bounded_there c size key m looks lm is passed = record {
+    some_empty = λ p lp none. omega (
+      arith,
+      is,
+      within_crowd hash keys slots t c size key m p (omega arith) lp
+          (displacement-none hashes slots p none) passed,
+    );
+    none_empty = λ full. omega (arith, is, filled hashes slots t full, length-map keys hash);
+    always = omega (
+      arith,
+      is,
+      within_list hashes slots t (home_of hash (length slots) key) m (mod-lt (hash key) (omega arith))
+          (omega arith) passed,
+      length-map keys hash,
+    );
+    some_look = λ some. omega (arith, is);
+  }
+
+  -- it passed all slots
+  pub bounded_all : (c : ℕ) → length slots ≡ slot_count c → (key : List ℕ) (looks : ℕ) → looks ≡ length slots
+      → Passed (displacement hashes slots) (length slots) (home_of hash (length slots) key) (length slots)
+      → IsBounded hash keys slots c key looks
+  bounded_all c size key looks is passed = elim (below_or_not 0 (length slots)) [
+    | inl some ↦ record {
+      some_empty = λ p lp none. omega (
+        arith,
+        is,
+        within_crowd hash keys slots t c size key (length slots) p (omega arith) lp
+            (displacement-none hashes slots p none) passed,
+      );
+      none_empty = λ full. omega (arith, is, filled hashes slots t full, length-map keys hash);
+      always = omega (
+        arith,
+        is,
+        within_list hashes slots t (home_of hash (length slots) key) (length slots) (mod-lt (hash key) some)
+            (omega arith) passed,
+        length-map keys hash,
+      );
+      some_look = λ some. omega (arith, is);
+    }
+    | inr empty ↦ record {
+      some_empty = λ p lp none. omega arith;
+      none_empty = λ full. omega arith;
+      always = omega arith;
+      some_look = λ some. omega arith;
+    }
+  ]
+
+-- a probe has passed no slot, or one more
+pub passed_none : (displacements : ℕ → ℕ) (n h : ℕ) → Passed displacements n h 0
+passed_none displacements n h = record { far = λ j lj. absurd (omega arith) }
+
+-- one slot more
+pub passed_more : (displacements : ℕ → ℕ) (n h m : ℕ) → Passed displacements n h m → m + 1 ≤ displacements (onward n h m)
+    → Passed displacements n h (m + 1)
+passed_more displacements n h m passed far = record {
+  far = λ j lj. elim (below_or_not j m) [
+    | inl less ↦ passed.far j less
+    | inr last ↦ let same : m ≡ j = omega arith in subst (λ k. k + 1 ≤ displacements (onward n h k)) same far
+  ];
+}

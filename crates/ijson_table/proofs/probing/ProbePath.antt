@@ -1,0 +1,117 @@
+-- The walk of a look-up.
+use Rattle.std.proofs.Common.{◌≡◌, ◌≢◌, ℕ, zero, suc, ◌+◌, ◌-◌, ◌%◌, ◌<◌, ◌≤◌, ◌⊎◌, inl, inr, arith, List, [], length, map, get_or, Option}
+use Rattle.std.proofs.Common.{Some, None, refl, ap, ◌∙◌}
+use Rattle.std.proofs.lemmas.Bool.Decides.{nat_tests}
+use Rattle.std.proofs.lemmas.List.{get_or-map, length-map}
+use Rattle.std.proofs.Math.Nat.{mod-lt}
+use Rattle.ijson_table.specs.Crowd.{distance, home_of}
+use Rattle.ijson_table.specs.Slots.{after, displacement, resident, home_at, displaced, times, IsOrdered, IsTable}
+use Rattle.ijson_table.specs.private.Probe.{onward, Passed}
+use Rattle.ijson_table.proofs.arithmetic.Comparing.{below_or_not}
+use Rattle.ijson_table.proofs.arithmetic.Circular.{onward-below, onward-zero, after-onward, distance-below, onward-distance}
+use Rattle.ijson_table.proofs.slots.Residents.{stands, stands_once, times-some}
+
+module _ (hashes : List ℕ) (slots : List (Option ℕ)) where
+  -- a resident is displaced by its distance from home and one
+  pub displacement-some : (p i : ℕ) → resident slots p ≡ Some i
+      → displacement hashes slots p ≡ distance (length slots) (home_at (length slots) hashes i) p + 1
+  unfolding displacement
+  displacement-some p i e = ap (displaced (length slots) hashes p) e
+
+  -- an empty slot is not displaced
+  pub displacement-none : (p : ℕ) → resident slots p ≡ None → displacement hashes slots p ≡ 0
+  unfolding displacement
+  displacement-none p e = ap (displaced (length slots) hashes p) e
+
+  -- what is displaced is a resident
+  someone : (p : ℕ) (o : Option ℕ) → 0 < displaced (length slots) hashes p o → (i : ℕ) × (o ≡ Some i)
+  someone p None h = absurd (omega (arith, h))
+  someone p (Some i) h = (i, refl)
+
+  -- a slot that is displaced has a resident
+  pub reached : (p : ℕ) → 0 < displacement hashes slots p → (i : ℕ) × (resident slots p ≡ Some i)
+  unfolding displacement
+  reached p h = someone p (resident slots p) h
+
+  -- on the way from a home, each slot has a resident that is as far from its own home, up to one that has got so far
+  pub on_the_way : IsOrdered hashes slots → (h p : ℕ) → h < length slots → p < length slots
+      → distance (length slots) h p + 1 ≤ displacement hashes slots p
+      → (k m : ℕ) → m + k ≡ distance (length slots) h p → m + 1 ≤ displacement hashes slots (onward (length slots) h m)
+  on_the_way ordered h p lh lp far zero m e =
+      let there : onward (length slots) h m ≡ p = ap (onward (length slots) h) (omega (arith, e))
+      ∙ onward-distance (length slots) h p lh lp in
+      omega (arith, far, ap (displacement hashes slots) there)
+  on_the_way ordered h p lh lp far (suc k) m e =
+      let below = distance-below (length slots) h p lh lp in
+      let further : m + 1 + 1 ≤ displacement hashes slots (onward (length slots) h (m + 1)) =
+      on_the_way ordered h p lh lp far k (m + 1) (omega arith) in
+      let here : onward (length slots) h m < length slots = onward-below (length slots) h m lh (omega arith) in
+      let next : after (length slots) (onward (length slots) h m) ≡ onward (length slots) h (m + 1) =
+      after-onward (length slots) h m lh (omega arith) in
+      omega (arith, ordered (onward (length slots) h m) here, ap (displacement hashes slots) next)
+
+  -- the slot k on from an empty one is reached at most k
+  pub from_empty : IsOrdered hashes slots → (e : ℕ) → e < length slots → displacement hashes slots e ≡ 0
+      → (k : ℕ) → k < length slots → displacement hashes slots (onward (length slots) e k) ≤ k
+  from_empty ordered e le none zero lk = omega (arith, ap (displacement hashes slots) (onward-zero (length slots) e le))
+  from_empty ordered e le none (suc k) lk =
+      let before : displacement hashes slots (onward (length slots) e k) ≤ k = from_empty ordered e le none k (omega arith) in
+      let here : onward (length slots) e k < length slots = onward-below (length slots) e k le (omega arith) in
+      let next : after (length slots) (onward (length slots) e k) ≡ onward (length slots) e (k + 1) =
+      after-onward (length slots) e k le (omega arith) in
+      let same : onward (length slots) e (k + 1) ≡ onward (length slots) e (suc k) = ap (onward (length slots) e) (omega arith) in
+      omega (arith, ordered (onward (length slots) e k) here, ap (displacement hashes slots) next, ap (displacement hashes slots) same)
+
+-- what the invariant says of one position
+pub placed_at : (hashes : List ℕ) (slots : List (Option ℕ)) → IsTable hashes slots → (i : ℕ) → i < length hashes
+    → (p : ℕ) × (p < length slots) × (resident slots p ≡ Some i)
+placed_at hashes slots t i li =
+    let one : times i slots ≡ 1 = grind (arith, nat_tests, t.placed i) in
+    stands i slots (omega arith)
+
+-- no position stands at two slots
+pub one_slot : (hashes : List ℕ) (slots : List (Option ℕ)) → IsTable hashes slots → (p q i : ℕ) → p < length slots → q < length slots
+    → resident slots p ≡ Some i → resident slots q ≡ Some i → p ≡ q
+one_slot hashes slots t p q i lp lq ep eq =
+    let one : times i slots ≤ 1 = grind (arith, nat_tests, t.placed i) in
+    stands_once i slots p q one lp lq ep eq
+
+-- what stands in a slot is a position of the list
+pub in_list : (hashes : List ℕ) (slots : List (Option ℕ)) → IsTable hashes slots → (p i : ℕ) → p < length slots → resident slots p ≡ Some i
+    → i < length hashes
+in_list hashes slots t p i lp e =
+    let some = times-some i slots p lp e in
+    grind (arith, nat_tests, t.placed i, some)
+
+-- the home of a key, by its hash
+pub home-key : (hash : List ℕ → ℕ) (n : ℕ) (keys : List (List ℕ)) (i : ℕ) → i < length keys
+    → home_at n (map hash keys) i ≡ home_of hash n (get_or keys i [])
+unfolding home_at
+home-key hash n keys i li = ap (λ x. x % n) (get_or-map hash keys i [] 0 li)
+
+-- Where a look-up ends at an empty slot, at a resident that is nearer to its home, or after all slots, the key is nowhere.
+pub absent : (hash : List ℕ → ℕ) (keys : List (List ℕ)) (slots : List (Option ℕ)) → IsTable (map hash keys) slots → (key : List ℕ) (m : ℕ)
+    → 0 < length slots
+    → Passed (displacement (map hash keys) slots) (length slots) (home_of hash (length slots) key) m
+    → ((j i : ℕ) → j < m → resident slots (onward (length slots) (home_of hash (length slots) key) j) ≡ Some i → get_or keys i [] ≢ key)
+    → (length slots ≤ m) ⊎ (displacement (map hash keys) slots (onward (length slots) (home_of hash (length slots) key) m) ≤ m)
+    → (i : ℕ) → i < length keys → get_or keys i [] ≢ key
+absent hash keys slots t key m some passed others ended i li same =
+    let hashes : List ℕ = map hash keys in
+    let n : ℕ = length slots in
+    let h : ℕ = home_of hash (length slots) key in
+    let lh : h < n = mod-lt (hash key) some in
+    let spot = placed_at hashes slots t i (omega (arith, li, length-map keys hash)) in
+    let p : ℕ = spot.0 in
+    let d : ℕ = distance n h p in
+    let below : d < n = distance-below n h p lh spot.1 in
+    let home : home_at n hashes i ≡ h = home-key hash n keys i li ∙ ap (home_of hash n) same in
+    let far : d + 1 ≤ displacement hashes slots p = omega
+    (arith, displacement-some hashes slots p i spot.2, ap (λ x. distance n x p) home) in
+    elim (below_or_not d m) [
+      | inl early ↦ others d i early (ap (resident slots) (onward-distance n h p lh spot.1) ∙ spot.2) same
+      | inr late ↦ elim ended [
+        | inl all ↦ omega arith
+        | inr stop ↦ omega (arith, on_the_way hashes slots t.ordered h p lh spot.1 far (d - m) m (omega arith))
+      ]
+    ]

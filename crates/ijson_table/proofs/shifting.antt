@@ -1,0 +1,7 @@
+pub mod BackwardShift
+pub mod Insertion
+pub mod ListShiftOut
+pub mod ListSwapRemove
+pub mod LowerPositions
+pub mod Removal
+pub mod SlotWrites

@@ -1,0 +1,160 @@
+-- What insertion needs of a table of the first positions.
+use Rattle.std.proofs.Common.{◌≡◌, ◌≢◌, ℕ, zero, suc, ◌+◌, ◌-◌, ◌<◌, ◌≤◌, ◌⊎◌, inl, inr, arith, List, [], ◌∷◌, length, set, Option, Some}
+use Rattle.std.proofs.Common.{None, refl, sym, ap, subst, ◌∙◌, get_or-set_other}
+use Rattle.std.specs.Prelude.{sum, ltb, eqb, true, if◌then◌else◌}
+use Rattle.std.proofs.lemmas.Bool.Decides.{nat_tests}
+use Rattle.std.proofs.lemmas.List.{length-set}
+use Rattle.std.proofs.lemmas.List.Sums.{sum_by-set}
+use Rattle.ijson_table.specs.Crowd.{distance}
+use Rattle.ijson_table.specs.private.Holds.{one_if, Holds, MayStand, HasEmpty}
+use Rattle.ijson_table.specs.Slots.{after, displacement, resident, home_at, times, below}
+use Rattle.ijson_table.specs.private.Probe.{onward, Passed}
+use Rattle.ijson_table.proofs.arithmetic.Comparing.{below_or_not}
+use Rattle.ijson_table.proofs.arithmetic.Circular.{after-injective, onward-below, after-onward, distance-below, distance-onward}
+use Rattle.ijson_table.proofs.arithmetic.Circular.{onward-distance}
+use Rattle.ijson_table.proofs.arithmetic.Counting.{covers}
+use Rattle.ijson_table.proofs.slots.Residents.{times-some, stands_once}
+use Rattle.ijson_table.proofs.probing.ProbePath.{displacement-none}
+use Rattle.ijson_table.proofs.shifting.SlotWrites.{put_down, taken_up}
+use Rattle.ijson_table.proofs.probing.LookCount.{ones, sum-ones, one-at, length-ones}
+
+-- where each slot has a resident, so has each slot but the first
+later : (i : ℕ) (slots : List (Option ℕ)) → ((p : ℕ) → p < length slots → (j : ℕ) × (resident slots p ≡ Some j)) → (p : ℕ)
+    → p < length (Some i ∷ slots) → (j : ℕ) × (resident (Some i ∷ slots) p ≡ Some j)
+later i slots full zero lp = (i, refl)
+later i slots full (suc p) lp = full p (omega arith)
+
+-- an empty slot, or none
+empty_or_full : (slots : List (Option ℕ)) → ((e : ℕ) × (e < length slots) × (resident slots e ≡ None)) ⊎
+    ((p : ℕ) → p < length slots → (i : ℕ) × (resident slots p ≡ Some i))
+empty_or_full [] = inr (λ p lp. absurd (omega arith))
+empty_or_full (None ∷ slots) = inl (0, omega arith, refl)
+empty_or_full (Some i ∷ slots) = elim (empty_or_full slots) [
+  | inl found ↦ inl (suc found.0, omega (arith, found.1), found.2)
+  | inr full ↦ inr (later i slots full)
+]
+
+-- what stands in a slot is one of the first positions
+pub held_below : (count : ℕ) (pending : Option ℕ) (slots : List (Option ℕ))
+    → ((i : ℕ) → times i slots + one_if i pending ≡ (if ltb i count then 1 else 0)) → (p i : ℕ) → p < length slots
+    → resident slots p ≡ Some i → i < count
+held_below count pending slots placed p i lp e =
+    let some = times-some i slots p lp e in
+    grind (arith, nat_tests, placed i, some)
+
+-- Where no other positions than the first ones stand, none of them twice, and one of them not at all, there is an empty slot.
+pub some_empty : (slots : List (Option ℕ)) (count k : ℕ) → ((i : ℕ) → times i slots ≤ below count i) → k < count → times k slots ≡ 0
+    → count ≤ length slots → HasEmpty slots
+some_empty slots count k few lk none fits = elim (empty_or_full slots) [
+  | inl found ↦ found
+  | inr full ↦
+      let others : List ℕ = set (ones count) k 0 in
+      let all : length slots ≤ sum others = covers (length slots) (λ i j. resident slots j ≡ Some i) others
+      (λ i j l lj ll a b.
+      let once : times i slots ≤ 1 = grind (arith, nat_tests, few i) in
+      stands_once i slots j l once lj ll a b)
+      (λ j lj.
+      let who = full j lj in
+      let some = times-some who.0 slots j lj who.1 in
+      let li : who.0 < count = grind (arith, nat_tests, few who.0, some) in
+      let other : who.0 ≢ k = λ same. omega (arith, some, none, ap (λ i. times i slots) same) in (
+        who.0,
+        omega (arith, length-set (ones count) k 0, length-ones count, li),
+        who.1,
+        omega
+            (arith, get_or-set_other (ones count) k who.0 0 0 other, one-at count who.0 li),
+      ))
+      in absurd (omega (
+        arith,
+        all,
+        sum_by-set (λ x. x) (ones count) k 0 0 (omega (arith, length-ones count, lk)),
+        one-at count k lk,
+        sum-ones count,
+        fits,
+      ))
+]
+
+-- where the walk ends, the position may stand
+pub may_end : (hashes : List ℕ) (slots : List (Option ℕ)) (i m : ℕ) → m < length slots → home_at (length slots) hashes i < length slots
+    → Passed (displacement hashes slots) (length slots) (home_at (length slots) hashes i) m
+    → displacement hashes slots (onward (length slots) (home_at (length slots) hashes i) m) ≤ m
+    → MayStand hashes slots i (onward (length slots) (home_at (length slots) hashes i) m)
+may_end hashes slots i m lm lh passed stop =
+    let n : ℕ = length slots in
+    let h : ℕ = home_at n hashes i in
+    let is : distance n h (onward n h m) ≡ m = distance-onward n h m lh lm in
+    record {
+      within = onward-below n h m lh (omega arith);
+      further = omega arith;
+      led_to = λ q lq at. elim (below_or_not 0 m) [
+        | inl pos ↦
+            let k : ℕ = m - 1 in
+            let back : after n (onward n h k) ≡ onward n h m = after-onward n h k lh (omega arith) ∙ ap (onward n h) (omega arith) in
+            let same : q ≡ onward n h k = after-injective n q (onward n h k) lq (onward-below n h k lh (omega arith)) (at ∙ sym back) in
+            omega (arith, passed.far k (omega arith), ap (displacement hashes slots) same)
+        | inr start ↦ omega arith
+      ];
+    }
+
+-- a probe does not go round, where a slot is empty
+pub not_round : (displacements : ℕ → ℕ) (n h e : ℕ) → h < n → e < n → displacements e ≡ 0 → Passed displacements n h n → ⊥
+not_round displacements n h e lh le none passed =
+    let there : onward n h (distance n h e) ≡ e = onward-distance n h e lh le in
+    let far = passed.far (distance n h e) (distance-below n h e lh le) in
+    omega (arith, far, ap displacements there, none)
+
+-- what the shift keeps from turn to turn
+pub record Shifting (hashes : List ℕ) (wanted : ℕ → ℕ) (pending slot step : ℕ) (slots : List (Option ℕ)) : Type 0 where
+  pub held : Holds hashes wanted (Some pending) slots
+  pub may : MayStand hashes slots pending slot
+  pub ahead : (e : ℕ) × (e < length slots) × (resident slots e ≡ None) × (step + distance (length slots) slot e < length slots)
+
+-- the next slot is one nearer
+distance-next : (n p e : ℕ) → p < n → e < n → p ≢ e → distance n (after n p) e + 1 ≡ distance n p e
+unfolding distance after
+distance-next n p e lp le ne = grind (arith, nat_tests)
+
+-- one turn of the shift
+pub shift_more : (hashes : List ℕ) (wanted : ℕ → ℕ) (pending slot step next : ℕ) (slots : List (Option ℕ))
+    → Shifting hashes wanted pending slot step slots
+    → resident slots slot ≡ Some next → Shifting hashes wanted next (after (length slots) slot) (step + 1) (set slots slot (Some pending))
+shift_more hashes wanted pending slot step next slots s there =
+    let n : ℕ = length slots in
+    let e : ℕ = s.ahead.0 in
+    let size : length (set slots slot (Some pending)) ≡ n = length-set slots slot (Some pending) in
+    let apart : e ≢ slot = λ same. let bad : ◌≡◌ {A = Option ℕ} (Some next) None =
+    sym there ∙ (ap (resident slots) (sym same) ∙ s.ahead.2) in cc in
+    let empty : displacement hashes slots e ≡ 0 = displacement-none hashes slots e s.ahead.2 in
+    let put : Holds hashes wanted (resident slots slot) (set slots slot (Some pending)) =
+    put_down hashes wanted slots pending slot s.may.within s.held s.may in
+    record {
+      held = subst (λ o. Holds hashes wanted o (set slots slot (Some pending))) there put;
+      may = taken_up hashes slots pending next slot e s.may.within s.ahead.1 s.held.ordered empty there s.may.further;
+      ahead = (
+        e,
+        omega (arith, s.ahead.1, size),
+        get_or-set_other slots slot e (Some pending) None apart ∙ s.ahead.2,
+        omega (
+          arith,
+          distance-next n slot e s.may.within s.ahead.1 (λ x. apart (sym x)),
+          s.ahead.3,
+          ap
+              (λ k. distance k (after n slot) e) size,
+          size,
+        ),
+      );
+    }
+
+-- the distance from a home before the slot
+pub distance-on : (n h p : ℕ) → h ≤ p → p - h ≡ distance n h p
+unfolding distance
+distance-on n h p le = grind (arith, nat_tests)
+
+-- the distance from a home behind the slot, round the end
+pub distance-over : (n h p : ℕ) → p < h → h < n → n - (h - p) ≡ distance n h p
+unfolding distance
+distance-over n h p lt lh = grind (arith, nat_tests)
+
+-- a number equals itself
+pub eqb-self : (n : ℕ) → eqb n n ≡ true
+eqb-self n = grind (arith, nat_tests)

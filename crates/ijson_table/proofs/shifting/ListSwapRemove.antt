@@ -1,0 +1,23 @@
+-- A list of numbers with one out, and the last one in its place.
+use Rattle.std.proofs.Common.{◌≡◌, ◌≢◌, ℕ, ◌+◌, ◌-◌, ◌<◌, arith, List, length, get_or, set, ◌∙◌, get_or-set_other, get_or-set_same}
+use Rattle.std.proofs.Common.{length-take}
+use Rattle.std.specs.List.{swap_remove}
+use Rattle.std.proofs.lemmas.List.{get_or-take, length-set}
+
+-- the list is one shorter
+pub length-swap_remove : (xs : List ℕ) (i : ℕ) → i < length xs → length (swap_remove xs i 0) + 1 ≡ length xs
+length-swap_remove xs i li =
+    omega (arith, length-take (length xs - 1) (set xs i (get_or xs (length xs - 1) 0)), length-set xs i (get_or xs (length xs - 1) 0))
+
+-- the last one stands where the one that went stood
+pub swap_remove-same : (xs : List ℕ) (i : ℕ) → i + 1 < length xs → get_or (swap_remove xs i 0) i 0 ≡ get_or xs (length xs - 1) 0
+swap_remove-same xs i li =
+    get_or-take (length xs - 1) (set xs i (get_or xs (length xs - 1) 0)) i 0 (omega arith)
+    ∙ get_or-set_same xs i (get_or xs (length xs - 1) 0) 0 (omega arith)
+
+-- and the others stay
+pub swap_remove-other : (xs : List ℕ) (i j : ℕ) → i < length xs → j + 1 < length xs → j ≢ i
+    → get_or (swap_remove xs i 0) j 0 ≡ get_or xs j 0
+swap_remove-other xs i j li lj ne =
+    get_or-take (length xs - 1) (set xs i (get_or xs (length xs - 1) 0)) j 0 (omega arith)
+    ∙ get_or-set_other xs i j (get_or xs (length xs - 1) 0) 0 ne

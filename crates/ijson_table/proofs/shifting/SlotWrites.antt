@@ -1,0 +1,121 @@
+-- What the shifts of an insertion and of a removal keep.
+use Rattle.std.proofs.Common.{◌≡◌, ◌≢◌, ℕ, ◌+◌, ◌<◌, ◌≤◌, inl, inr, arith, List, length, set, Option, Some, None, sym, ap, ◌∙◌}
+use Rattle.std.proofs.Common.{get_or-set_other, get_or-set_same}
+use Rattle.std.proofs.lemmas.Bool.Decides.{nat_tests}
+use Rattle.std.proofs.lemmas.List.{length-set}
+use Rattle.ijson_table.specs.Crowd.{distance}
+use Rattle.ijson_table.specs.private.Holds.{Holds, MayStand}
+use Rattle.ijson_table.specs.Slots.{after, displacement, resident, home_at, displaced, IsOrdered}
+use Rattle.ijson_table.specs.private.Probe.{onward}
+use Rattle.ijson_table.proofs.arithmetic.Comparing.{same_or_not}
+use Rattle.ijson_table.proofs.arithmetic.Circular.{after-below, after-injective, distance-below, onward-distance, distance-after}
+use Rattle.ijson_table.proofs.slots.Residents.{times-set}
+use Rattle.ijson_table.proofs.probing.ProbePath.{displacement-some, from_empty}
+use Rattle.ijson_table.proofs.probing.CrowdBound.{home-below}
+
+module _ (hashes : List ℕ) (slots : List (Option ℕ)) where
+  -- a slot that is written is displaced by what was written
+  displacement-set_same : (p : ℕ) (o : Option ℕ) → p < length slots
+      → displacement hashes (set slots p o) p ≡ displaced (length slots) hashes p o
+  unfolding displacement
+  displacement-set_same p o lp = ap (λ n. displaced n hashes p (resident (set slots p o) p)) (length-set slots p o)
+      ∙ ap (displaced (length slots) hashes p) (get_or-set_same slots p o None lp)
+
+  -- the others are displaced as before
+  pub displacement-set_other : (p q : ℕ) (o : Option ℕ) → q ≢ p → displacement hashes (set slots p o) q ≡ displacement hashes slots q
+  unfolding displacement
+  displacement-set_other p q o ne = ap (λ n. displaced n hashes q (resident (set slots p o) q)) (length-set slots p o)
+      ∙ ap (displaced (length slots) hashes q) (get_or-set_other slots p q o None ne)
+
+  -- a position that is written is displaced from its own home
+  pub displacement-set_some : (p k : ℕ) → p < length slots
+      → displacement hashes (set slots p (Some k)) p ≡ distance (length slots) (home_at (length slots) hashes k) p + 1
+  displacement-set_some p k lp = displacement-set_same p (Some k) lp
+
+  -- a slot that is emptied is not displaced
+  pub displacement-set_none : (p : ℕ) → p < length slots → displacement hashes (set slots p None) p ≡ 0
+  displacement-set_none p lp = displacement-set_same p None lp
+
+-- one slot gets more, though not too much
+raised : (hashes : List ℕ) (slots : List (Option ℕ)) (p : ℕ) (o : Option ℕ) → p < length slots → IsOrdered hashes slots
+    → displacement hashes slots p ≤ displacement hashes (set slots p o) p
+    → ((q : ℕ) → q < length slots → after (length slots) q ≡ p → displacement hashes (set slots p o) p ≤ displacement hashes slots q + 1)
+    → IsOrdered hashes (set slots p o)
+raised hashes slots p o lp ordered more bound q lq =
+    let n : ℕ = length slots in
+    let slots' : List (Option ℕ) = set slots p o in
+    let size : length slots' ≡ n = length-set slots p o in
+    let lq' : q < n = omega arith in
+    let goal : displacement hashes slots' (after n q) ≤ displacement hashes slots' q + 1 = elim (same_or_not (after n q) p) [
+      | inl at ↦
+          let up : displacement hashes slots' p ≤ displacement hashes slots q + 1 = bound q lq' at in
+          let to : displacement hashes slots' (after n q) ≡ displacement hashes slots' p = ap (displacement hashes slots') at in
+          elim (same_or_not q p) [
+            | inl self ↦ let same : displacement hashes slots' q ≡ displacement hashes slots' p = ap (displacement hashes slots') self in
+                omega arith
+            | inr other ↦ let same : displacement hashes slots' q ≡ displacement hashes slots q =
+                displacement-set_other hashes slots p q o other in omega arith
+          ]
+      | inr off ↦
+          let to : displacement hashes slots' (after n q) ≡ displacement hashes slots (after n q) =
+          displacement-set_other hashes slots p (after n q) o off in
+          let was : displacement hashes slots (after n q) ≤ displacement hashes slots q + 1 = ordered q lq' in
+          elim (same_or_not q p) [
+            | inl self ↦
+                let here : displacement hashes slots' q ≡ displacement hashes slots' p = ap (displacement hashes slots') self in
+                let there : displacement hashes slots q ≡ displacement hashes slots p = ap (displacement hashes slots) self in omega arith
+            | inr other ↦ let same : displacement hashes slots' q ≡ displacement hashes slots q =
+                displacement-set_other hashes slots p q o other in omega arith
+          ]
+    ] in
+    omega (arith, goal, ap (λ k. displacement hashes slots' (after k q)) size)
+
+-- The one in pending is put down where it is at least as far from its home as the resident, and not too far. Who stood there is
+-- in pending then.
+pub put_down : (hashes : List ℕ) (wanted : ℕ → ℕ) (slots : List (Option ℕ)) (k p : ℕ) → p < length slots
+    → Holds hashes wanted (Some k) slots
+    → MayStand hashes slots k p → Holds hashes wanted (resident slots p) (set slots p (Some k))
+put_down hashes wanted slots k p lp held may =
+    let now : displacement hashes (set slots p (Some k)) p ≡ distance (length slots) (home_at (length slots) hashes k) p + 1 =
+    displacement-set_some hashes slots p k lp in
+    record {
+      ordered = raised hashes slots p (Some k) lp held.ordered (omega (arith, may.further, now))
+          (λ q lq at. omega (arith, may.led_to q lq at, now));
+      placed = λ i. omega (arith, times-set i slots p (Some k) lp, held.placed i);
+    }
+
+-- only one slot is followed by itself, and then there is no other
+apart_of : (n e p : ℕ) → p < n → e < n → after n p ≡ p → (e ≢ p) → ⊥
+unfolding after
+apart_of n e p lp le same ne = ne (grind (arith, nat_tests))
+
+-- Where some slot is empty, the one that was taken up may be put down at the next slot.
+pub taken_up : (hashes : List ℕ) (slots : List (Option ℕ)) (k j p e : ℕ) → p < length slots → e < length slots → IsOrdered hashes slots
+    → displacement hashes slots e ≡ 0 → resident slots p ≡ Some j
+    → displacement hashes slots p ≤ distance (length slots) (home_at (length slots) hashes k) p + 1
+    → MayStand hashes (set slots p (Some k)) j (after (length slots) p)
+taken_up hashes slots k j p e lp le ordered none there less =
+    let n : ℕ = length slots in
+    let got : displacement hashes slots (onward n e (distance n e p)) ≤ distance n e p =
+    from_empty hashes slots ordered e le none (distance n e p) (distance-below n e p le lp) in
+    let here : displacement hashes slots (onward n e (distance n e p)) ≡ displacement hashes slots p =
+    ap (displacement hashes slots) (onward-distance n e p le lp) in
+    let was : displacement hashes slots p ≡ distance n (home_at n hashes j) p + 1 = displacement-some hashes slots p j there in
+    let short : distance n (home_at n hashes j) p + 1 < n = omega (arith, distance-below n e p le lp) in
+    let next : distance n (home_at n hashes j) (after n p) ≡ distance n (home_at n hashes j) p + 1 =
+    distance-after n (home_at n hashes j) p (home-below n hashes j (omega arith)) lp short in
+    let put : displacement hashes (set slots p (Some k)) p ≡ distance n (home_at n hashes k) p + 1 =
+    displacement-set_some hashes slots p k lp in
+    let apart : after n p ≢ p = λ same.
+    let zero_or : displacement hashes slots (after n p) ≤ displacement hashes slots p + 1 = ordered p lp in
+    apart_of n e p lp le same (λ eq. omega (arith, ap (displacement hashes slots) eq)) in
+    let size : length (set slots p (Some k)) ≡ n = length-set slots p (Some k) in
+    let at_home : distance (length (set slots p (Some k))) (home_at (length (set slots p (Some k))) hashes j) (after n p) ≡ distance n
+    (home_at n hashes j) (after n p) = ap (λ s. distance s (home_at s hashes j) (after n p)) size in
+    record {
+      within = omega (arith, after-below n p lp, size);
+      further = omega (arith, ordered p lp, displacement-set_other hashes slots p (after n p) (Some k) apart, at_home);
+      led_to = λ q lq at.
+          let same : q ≡ p = after-injective n q p (omega arith) lp (ap (λ s. after s q) (sym size) ∙ at) in
+          omega (arith, ap (displacement hashes (set slots p (Some k))) same, at_home);
+    }

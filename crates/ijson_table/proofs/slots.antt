@@ -1,0 +1,4 @@
+pub mod HashesInOrder
+pub mod HashesInSlots
+pub mod IndexInvariant
+pub mod Residents

@@ -1,0 +1,173 @@
+-- The hashes that slots have beside positions.
+use Rattle.std.proofs.Common.{◌≡◌, ◌≢◌, zero, suc, Bool, inl, inr, get_or-set_other, get_or-set_same, ℕ, ◌<◌, ◌%◌, ◌+◌, arith, List, length}
+use Rattle.std.proofs.Common.{get_or, set, Option, Some, None, refl, ap, sym, subst, ◌∙◌}
+use Rattle.std.specs.List.{All, slice_index_or}
+use Rattle.std.proofs.lemmas.List.{get_or-map, length-map, length-set, map-set}
+use Rattle.std.proofs.lemmas.List.Elements.{All-get_or, All-from_get_or, All-set}
+use Rattle.ijson_table.specs.declared.index.slot.Slot.{Slot}
+use Rattle.ijson_table.specs.Crowd.{distance}
+use Rattle.ijson_table.specs.Slots.{home_at, displaced, displacement, resident}
+use Rattle.ijson_table.proofs.arithmetic.Comparing.{same_or_not}
+use Rattle.ijson_table.proofs.probing.ProbePath.{displacement-some}
+use Rattle.ijson_table.specs.private.SlotHashes.{position_in, positions, blank, coded_position, displaced_by, displacement_in, HasHash}
+use Rattle.ijson_table.specs.private.SlotHashes.{HaveHashes, SeenAs}
+use Rattle.ijson_table.specs.private.Probe.{LooksAt}
+use Rattle.ijson_table.specs.declared.index.places.Seen.{Seen}
+use Rattle.ijson_table.specs.declared.index.places.Seen.TheVariants.{Empty, Resident}
+
+-- there are as many positions as slots
+pub positions-length : (slots : List Slot) → length (positions slots) ≡ length slots
+positions-length slots = length-map slots position_in
+
+-- a slot that is written has the position written
+pub positions-set : (slots : List Slot) (p : ℕ) (slot : Slot) → positions (set slots p slot) ≡ set (positions slots) p (position_in slot)
+positions-set slots p slot = map-set position_in slots p slot
+
+-- a slot put down where its position is known
+pub positions-put : (slots : List Slot) (p : ℕ) (slot : Slot) (i : ℕ) → position_in slot ≡ Some i
+    → positions (set slots p slot) ≡ set (positions slots) p (Some i)
+positions-put slots p slot i at = positions-set slots p slot ∙ ap (set (positions slots) p) at
+
+-- what a read of a slot told
+pub position-at : (slots : List Slot) (p : ℕ) (read : Option ℕ) → p < length slots → read ≡ position_in (get_or slots p blank)
+    → resident (positions slots) p ≡ read
+position-at slots p read lp is = get_or-map position_in slots p blank None lp ∙ sym is
+
+-- where nothing stands, there is nothing to tell
+pub nothing_has_hash : (hashes : List ℕ) (slot : Slot) → position_in slot ≡ None → HasHash hashes slot
+nothing_has_hash hashes slot none i e = let bad : ◌≡◌ {A = Option ℕ} (Some i) None = sym e ∙ none in cc
+
+-- the one position that stands there has this hash
+pub has_own_hash : (hashes : List ℕ) (slot : Slot) (i : ℕ) → position_in slot ≡ Some i → slot.hash ≡ get_or hashes i 0 → HasHash hashes slot
+has_own_hash hashes slot i at is k e =
+    let who : ◌≡◌ {A = Option ℕ} (Some i) (Some k) = sym at ∙ e in
+    let same : i ≡ k = cc in
+    is ∙ ap (λ n. get_or hashes n 0) same
+
+module _ (hashes : List ℕ) where
+  -- a slot that is read has its hash
+  pub hashes-at : (slots : List Slot) (p : ℕ) → HaveHashes hashes slots → p < length slots → HasHash hashes (get_or slots p blank)
+  hashes-at slots p have lp = All-get_or (HasHash hashes) slots p blank lp have
+
+  -- a slot that is written has the hash written
+  pub hashes-set : (slots : List Slot) (p : ℕ) (slot : Slot) → HasHash hashes slot → HaveHashes hashes slots
+      → HaveHashes hashes (set slots p slot)
+  hashes-set slots p slot has have = All-set (HasHash hashes) slots p slot has have
+
+  -- the stored hash gives the home
+  hash-home : (n i : ℕ) (slot : Slot) → HasHash hashes slot → position_in slot ≡ Some i → slot.hash % n ≡ home_at n hashes i
+  unfolding home_at
+  hash-home n i slot has at = ap (λ h. h % n) (has i at)
+
+  -- so it tells how far a slot is from the home of who stands there
+  pub hash-distance : (n p i d : ℕ) (slot : Slot) → HasHash hashes slot → position_in slot ≡ Some i → d ≡ distance n (slot.hash % n) p
+      → d ≡ distance n (home_at n hashes i) p
+  hash-distance n p i d slot has at is = is ∙ ap (λ h. distance n h p) (hash-home n i slot has at)
+
+  -- a slot is displaced by the stored hash as by the key
+  displaced-by : (n p code hash : ℕ) → HasHash hashes (record { code = code; hash = hash })
+      → displaced_by n p (record { code = code; hash = hash }) code ≡ displaced n hashes p
+      (position_in (record { code = code; hash = hash }))
+  displaced-by n p zero hash has = refl
+  displaced-by n p (suc i) hash has = ap (λ h. distance n h p + 1) (hash-home n i (record { code = suc i; hash = hash }) has refl)
+
+  -- so are all slots
+  pub displacement-in : (slots : List Slot) (p : ℕ) → HaveHashes hashes slots → p < length slots
+      → displacement_in slots p ≡ displacement hashes (positions slots) p
+  unfolding displacement_in displacement
+  displacement-in slots p have lp =
+      let slot : Slot = get_or slots p blank in
+      let size : length slots ≡ length (positions slots) = sym (positions-length slots) in
+      displaced-by (length slots) p slot.code slot.hash (hashes-at slots p have lp)
+      ∙ (ap (λ n. displaced n hashes p (position_in slot)) size
+      ∙ ap (displaced (length (positions slots)) hashes p) (sym (position-at slots p (position_in slot) lp refl)))
+
+  -- a distance that was computed tells the displacement
+  pub displacement-read : (slots : List Slot) (p i d : ℕ) → HaveHashes hashes slots → p < length slots
+      → Some i ≡ position_in (get_or slots p blank) → d ≡ distance (length slots) ((get_or slots p blank).hash % length slots) p
+      → displacement hashes (positions slots) p ≡ d + 1
+  displacement-read slots p i d have lp at is =
+      let size : length slots ≡ length (positions slots) = sym (positions-length slots) in
+      let far : d ≡ distance (length slots) (home_at (length slots) hashes i) p =
+      hash-distance (length slots) p i d (get_or slots p blank) (hashes-at slots p have lp) (sym at) is in
+      omega (
+        arith,
+        displacement-some hashes (positions slots) p i (position-at slots p (Some i) lp at),
+        far,
+        ap
+            (λ n. distance n (home_at n hashes i) p) size,
+      )
+
+  -- empty slots have no hashes to differ
+  pub hashes-none : (slots : List Slot) → All (λ slot. position_in slot ≡ None) slots → HaveHashes hashes slots
+  hashes-none slots empty = λ p d lp. nothing_has_hash hashes (slice_index_or slots p d) (empty p d lp)
+
+  -- the same, of other hashes that are the same there
+  has_hash-as : (hashes' : List ℕ) (slot : Slot) → HasHash hashes slot
+      → ((i : ℕ) → position_in slot ≡ Some i → get_or hashes' i 0 ≡ get_or hashes i 0) → HasHash hashes' slot
+  has_hash-as hashes' slot has same i e = has i e ∙ sym (same i e)
+
+  -- other hashes, where no slot refers to them
+  pub hashes-as : (hashes' : List ℕ) (slots : List Slot) → HaveHashes hashes slots
+      → ((p i : ℕ) → p < length (positions slots) → resident (positions slots) p ≡ Some i → get_or hashes' i 0 ≡ get_or hashes i 0)
+      → HaveHashes hashes' slots
+  hashes-as hashes' slots have same = All-from_get_or (HasHash hashes') slots blank (λ p lp.
+      has_hash-as hashes' (get_or slots p blank) (hashes-at slots p have lp)
+      (λ i e. same p i (omega (arith, lp, positions-length slots)) (position-at slots p (Some i) lp (sym e))))
+
+  -- other hashes, where one slot at most refers to them, which is put down anew
+  pub hashes-put : (hashes' : List ℕ) (slots : List Slot) (p : ℕ) (slot : Slot) → HaveHashes hashes slots → HasHash hashes' slot
+      → ((q i : ℕ) → q < length (positions slots) → q ≢ p → resident (positions slots) q ≡ Some i → get_or hashes' i 0 ≡ get_or hashes i 0)
+      → HaveHashes hashes' (set slots p slot)
+  hashes-put hashes' slots p slot have has same = All-from_get_or (HasHash hashes') (set slots p slot) blank (λ q lq'.
+      let lq : q < length slots = omega (arith, lq', length-set slots p slot) in
+      elim (same_or_not q p) [
+        | inl self ↦ subst (HasHash hashes') (sym (ap (λ k. get_or (set slots p slot) k blank) self
+            ∙ get_or-set_same slots p slot blank (omega (arith, lq, self)))) has
+        | inr other ↦ subst (HasHash hashes') (sym (get_or-set_other slots p q slot blank other))
+            (has_hash-as hashes' (get_or slots q blank) (hashes-at slots q have lq)
+            (λ i e. same q i (omega (arith, lq, positions-length slots)) other (position-at slots q (Some i) lq (sym e))))
+      ])
+
+-- nothing stands in empty slots
+pub all_empty : (slots : List Slot) → All (λ slot. position_in slot ≡ None) slots → (p : ℕ) → p < length (positions slots)
+    → resident (positions slots) p ≡ None
+all_empty slots empty p lp =
+    let within : p < length slots = omega (arith, lp, positions-length slots) in
+    position-at slots p (position_in (get_or slots p blank)) within refl
+    ∙ All-get_or (λ slot. position_in slot ≡ None) slots p blank within empty
+
+-- an empty slot is not displaced
+displaced_by-none : (n p : ℕ) (slot : Slot) (code : ℕ) → coded_position code ≡ None → displaced_by n p slot code ≡ 0
+displaced_by-none n p slot zero e = refl
+displaced_by-none n p slot (suc i) e = cc
+
+-- a resident is displaced by its distance and one
+displaced_by-some : (n p : ℕ) (slot : Slot) (code i : ℕ) → coded_position code ≡ Some i
+    → displaced_by n p slot code ≡ distance n (slot.hash % n) p + 1
+displaced_by-some n p slot zero i e = cc
+displaced_by-some n p slot (suc j) i e = refl
+
+-- what a look at a slot tells a probe
+pub looks_at : (slots : List Slot) (p : ℕ) (same : Bool) (seeks : ℕ → Bool) (seen : Seen) → p < length slots
+    → SeenAs (get_or slots p blank) (length slots) p same seen
+    → ((i : ℕ) → position_in (get_or slots p blank) ≡ Some i → same ≡ seeks i)
+    → LooksAt (positions slots) (displacement_in slots) seeks p seen
+unfolding displacement_in
+looks_at slots p same seeks Empty lp seen is = (
+  position-at slots p None lp (sym seen),
+  displaced_by-none (length slots) p (get_or slots p blank) (get_or slots p blank).code seen,
+)
+looks_at slots p same seeks (Resident i d sought) lp seen is = (
+  position-at slots p (Some i) lp (sym seen.0),
+  displaced_by-some (length slots) p (get_or slots p blank) (get_or slots p blank).code i seen.0 ∙ ap (λ x. x + 1) (sym seen.1),
+  seen.2 ∙ is i seen.0,
+)
+
+-- and so is an empty slot of a list
+pub displacement_in-none : (slots : List Slot) (p : ℕ) → p < length slots → resident (positions slots) p ≡ None
+    → displacement_in slots p ≡ 0
+unfolding displacement_in
+displacement_in-none slots p lp none =
+    displaced_by-none (length slots) p (get_or slots p blank) (get_or slots p blank).code
+    (sym (position-at slots p (position_in (get_or slots p blank)) lp refl) ∙ none)

@@ -1,0 +1,123 @@
+-- The invariant of a list of slots.
+use Rattle.std.proofs.Common.{◌≡◌, ℕ, ◌+◌, ◌<◌, ◌≤◌, ◌^◌, arith, List, [], ◌∷◌, ◌++◌, length, take, drop, get_or, Option, Some, None, refl}
+use Rattle.std.proofs.Common.{sym, ap, subst, ◌∙◌, length-append}
+use Rattle.std.specs.List.{All}
+use Rattle.std.proofs.lemmas.Bool.Decides.{nat_tests}
+use Rattle.std.proofs.lemmas.List.Elements.{All-from_get_or}
+use Rattle.std.proofs.Math.ListN.{get_or-append}
+use Rattle.std.proofs.Math.Seq.{get_or-append_seam}
+use Rattle.ijson_table.specs.declared.index.slot.Slot.{Slot}
+use Rattle.ijson_table.specs.Slots.{times, below, IsTable}
+use Rattle.ijson_table.specs.private.Holds.{with_one, HasEmpty, Holds}
+use Rattle.ijson_table.specs.private.Insertion.{Accepts, IsTableOf}
+use Rattle.ijson_table.specs.private.SlotHashes.{position_in, positions, blank, hashes_of, HaveHashes}
+use Rattle.ijson_table.specs.private.HashIndex.{IsIndex}
+use Rattle.ijson_table.proofs.slots.HashesInSlots.{positions-length, position-at, all_empty, hashes-none, hashes-as}
+use Rattle.ijson_table.proofs.shifting.Insertion.{some_empty}
+use Rattle.ijson_table.proofs.shifting.Removal.{holds_none, holds_pushed, table-holds}
+use Rattle.ijson_table.proofs.slots.Residents.{times-some}
+use Rattle.ijson_table.proofs.slots.HashesInOrder.{hashes_of-table, index_of}
+use Rattle.ijson_table.proofs.probing.ProbePath.{in_list}
+
+-- a list that replaces all of another is the list
+whole-all : (new old : List Slot) → length new ≡ length old → take (length new) (new ++ drop (length new) old) ≡ new
+whole-all [] old e = refl
+whole-all (x ∷ xs) [] e = absurd (omega arith)
+whole-all (x ∷ xs) (y ∷ ys) e = ap (λ zs. x ∷ zs) (whole-all xs ys (omega arith))
+
+-- a slice that was lent as a whole
+pub whole : (n : ℕ) (new old : List Slot) → length new ≡ length old → n ≡ length old → take n (new ++ drop (length new) old) ≡ new
+whole n new old e is = ap (λ k. take k (new ++ drop (length new) old)) (is ∙ sym e) ∙ whole-all new old e
+
+-- a list of slots with these hashes
+pub record IsIndexOf (hashes : List ℕ) (slots : List Slot) : Type 0 where
+  pub index : IsIndex slots
+  pub is : hashes_of slots ≡ hashes
+
+-- slots that are a table of hashes are an index with these
+pub index_is : (hashes : List ℕ) (slots : List Slot) → IsTable hashes (positions slots) → HaveHashes hashes slots
+    → length hashes ≤ length slots → IsIndexOf hashes slots
+index_is hashes slots table have fits = record {
+  index = index_of hashes slots table have fits;
+  is =
+      hashes_of-table hashes slots table have fits;
+}
+
+-- the slots after a call that was lent them as a whole, and their hashes
+pub after_call : (f : List ℕ → List ℕ) (old lent new : List Slot) (len : ℕ) → length (f (hashes_of old)) ≤ length old → lent ≡ old
+    → length new ≡ length lent → len ≡ length old
+    → IsTableOf (f (hashes_of lent)) new → IsIndexOf (f (hashes_of old)) (take len (new ++ drop (length new) old))
+after_call f old lent new len room is same size table =
+    let now : length new ≡ length old = same ∙ ap length is in
+    let t : IsTableOf (f (hashes_of old)) new = subst (λ ps. IsTableOf (f (hashes_of ps)) new) is table in
+    subst (IsIndexOf (f (hashes_of old))) (sym (whole len new old now size))
+    (index_is (f (hashes_of old)) new t.table t.hashes_are (omega (arith, room, now)))
+
+-- where no position stands
+pub empty_index : (slots : List Slot) → All (λ slot. position_in slot ≡ None) slots → IsIndexOf [] slots
+empty_index slots empty =
+    let held : Holds [] (below 0) None (positions slots) = holds_none [] (positions slots) (all_empty slots empty) in
+    index_is [] slots (table-holds [] 0 (positions slots) refl held) (hashes-none [] slots empty) (omega arith)
+
+-- where no position has a hash, nothing stands at any slot
+nothing_there : (slots : List Slot) → IsIndex slots → hashes_of slots ≡ [] → (p : ℕ) → p < length slots → (read : Option ℕ)
+    → read ≡ position_in (get_or slots p blank) → position_in (get_or slots p blank) ≡ None
+nothing_there slots index none p lp None e = sym e
+nothing_there slots index none p lp (Some i) e =
+    let one = times-some i (positions slots) p (omega (arith, lp, positions-length slots)) (position-at slots p (Some i) lp e) in
+    let never : times i (positions slots) ≡ below 0 i = index.table.table.placed i ∙ ap (λ hs. below (length hs) i) none in
+    absurd (grind (arith, nat_tests, one, never))
+
+-- where there is no hash, each slot is empty
+pub each_empty : (slots : List Slot) → IsIndex slots → hashes_of slots ≡ [] → All (λ slot. position_in slot ≡ None) slots
+each_empty slots index none = All-from_get_or (λ slot. position_in slot ≡ None) slots blank
+    (λ p lp. nothing_there slots index none p lp (position_in (get_or slots p blank)) refl)
+
+module _ (slots : List Slot) (index : IsIndex slots) (position hash : ℕ) (next : position ≡ length (hashes_of slots))
+    (room : position < length slots) where
+  abbrev hashes : List ℕ
+  hashes = hashes_of slots
+
+  -- a slot is empty where there is room
+  some_slot_empty : HasEmpty (positions slots)
+  some_slot_empty =
+      let few : (i : ℕ) → times i (positions slots) ≤ below (length hashes + 1) i =
+      λ i. grind (arith, nat_tests, index.table.table.placed i) in
+      let none : times (length hashes) (positions slots) ≡ 0 = grind (arith, nat_tests, index.table.table.placed (length hashes)) in
+      some_empty (positions slots) (length hashes + 1) (length hashes) few (omega arith) none
+      (omega (arith, next, room, positions-length slots))
+
+  -- one position more may be put into them
+  pub accepts : position + 1 < 2 ^ 64 → Accepts (hashes ++ hash ∷ []) slots position hash
+  accepts fits = record {
+    fits = fits;
+    hash_is = sym (ap (λ n. get_or (hashes ++ hash ∷ []) n 0) next ∙ get_or-append_seam hashes hash [] 0);
+    hashes_are = hashes-as hashes (hashes ++ hash ∷ []) slots index.table.hashes_are
+        (λ p i lp e. get_or-append hashes (hash ∷ []) 0 i (in_list hashes (positions slots) index.table.table p i lp e));
+    ordered = (holds_pushed hashes hash (positions slots) index.table.table).ordered;
+    empty = some_slot_empty;
+  }
+
+  -- and was
+  pub pushed : (new : List Slot) → length new ≡ length slots
+      → Holds (hashes ++ hash ∷ []) (with_one (positions slots) position) None (positions new) → HaveHashes (hashes ++ hash ∷ []) new
+      → IsIndexOf (hashes ++ hash ∷ []) new
+  pushed new same held have =
+      let size : length (hashes ++ hash ∷ []) ≡ position + 1 = omega (arith, length-append hashes (hash ∷ []), next) in
+      index_is (hashes ++ hash ∷ []) new (record {
+        ordered = held.ordered;
+        placed =
+            λ i. grind (arith, nat_tests, held.placed i, index.table.table.placed i, next, size);
+      }) have (omega (arith, size, room, same))
+
+-- the slots after a call that was lent them as a whole and put one position more into them, and their hashes
+pub after_push : (old lent new : List Slot) (position hash len : ℕ) → IsIndex old → position ≡ length (hashes_of old)
+    → position < length old → lent ≡ old → length new ≡ length lent → len ≡ length old
+    → Holds (hashes_of lent ++ hash ∷ []) (with_one (positions lent) position) None (positions new)
+    → HaveHashes (hashes_of lent ++ hash ∷ []) new → IsIndexOf (hashes_of old ++ hash ∷ []) (take len (new ++ drop (length new) old))
+after_push old lent new position hash len index next room is same size held have =
+    let now : length new ≡ length old = same ∙ ap length is in
+    subst (IsIndexOf (hashes_of old ++ hash ∷ [])) (sym (whole len new old now size))
+    (pushed old index position hash next room new now
+    (subst (λ ps. Holds (hashes_of ps ++ hash ∷ []) (with_one (positions ps) position) None (positions new)) is held)
+    (subst (λ ps. HaveHashes (hashes_of ps ++ hash ∷ []) new) is have))

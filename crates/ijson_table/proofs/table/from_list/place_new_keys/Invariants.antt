@@ -1,9 +1,0 @@
-use Rattle.std.proofs.Common.{◌≡◌, length}
-use Rattle.ijson_table.specs.private.FirstPlaced.{FirstPlaced}
-use Rattle.ijson_table.proofs.table.from_list.place_new_keys.Given as goal
-
-abbrev pub invariant-loop-position : goal.invariant-loop-position
-invariant-loop-position g l = record {
-  placed : FirstPlaced g.H.KeyHash.hash_of l.pairs l.position l.places;
-  count : length l.places.slots ≡ length l.fn.places.slots;
-}

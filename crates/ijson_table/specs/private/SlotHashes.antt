@@ -1,0 +1,64 @@
+-- What a slot tells beside a position: the hash of the key that has it.
+use Rattle.std.specs.Prelude.{◌≡◌, ℕ, zero, suc, ◌+◌, ◌%◌, Bool, List, [], ◌∷◌, map, length, get_or, Option, Some, None, if◌then◌else◌}
+use Rattle.std.specs.List.{All}
+use Rattle.ijson_table.specs.declared.index.slot.Slot.{Slot}
+use Rattle.ijson_table.specs.declared.index.places.Seen.{Seen}
+use Rattle.ijson_table.specs.declared.index.places.Seen.TheVariants.{Empty, Resident}
+use Rattle.ijson_table.specs.Crowd.{distance}
+use Rattle.ijson_table.specs.Slots.{holds}
+
+-- a slot's code: 0 for nothing, else one more than the position
+abbrev pub coded_position : ℕ → Option ℕ
+coded_position zero = None
+coded_position (suc i) = Some i
+
+-- the position that stands there, or none
+abbrev pub position_in : Slot → Option ℕ
+position_in slot = coded_position slot.code
+
+abbrev pub positions : List Slot → List (Option ℕ)
+positions slots = map position_in slots
+
+-- the hash is that of the key whose position stands there
+abbrev pub HasHash : List ℕ → Slot → Type 0
+HasHash hashes slot = (i : ℕ) → position_in slot ≡ Some i → slot.hash ≡ get_or hashes i 0
+
+-- so is each slot's
+abbrev pub HaveHashes : List ℕ → List Slot → Type 0
+HaveHashes hashes slots = All (HasHash hashes) slots
+
+-- the hash beside this position, or none
+unfoldable pub hash_beside : ℕ → List Slot → Option ℕ
+hash_beside i [] = None
+hash_beside i (slot ∷ slots) = (if holds i (position_in slot) then Some slot.hash else hash_beside i slots)
+
+-- nothing, or this one and the rest
+abbrev pub first_and : Option ℕ → List ℕ → List ℕ
+first_and None rest = []
+first_and (Some hash) rest = hash ∷ rest
+
+-- The hashes beside the positions from i on, up to the first that stands nowhere.
+unfoldable pub hashes_from : ℕ → ℕ → List Slot → List ℕ
+hashes_from zero i slots = []
+hashes_from (suc most) i slots = first_and (hash_beside i slots) (hashes_from most (i + 1) slots)
+
+abbrev pub hashes_of : List Slot → List ℕ
+hashes_of slots = hashes_from (length slots) 0 slots
+
+-- what stands past the end
+abbrev pub blank : Slot
+blank = record { code = 0; hash = 0 }
+
+-- how far what stands at slot p of n is displaced, by the hash there
+abbrev pub displaced_by : ℕ → ℕ → Slot → ℕ → ℕ
+displaced_by n p slot zero = 0
+displaced_by n p slot (suc i) = distance n (slot.hash % n) p + 1
+
+unfoldable pub displacement_in : List Slot → ℕ → ℕ
+displacement_in slots p = displaced_by (length slots) p (get_or slots p blank) (get_or slots p blank).code
+
+-- what a look at this one of n slots tells
+abbrev pub SeenAs : Slot → ℕ → ℕ → Bool → Seen → Type 0
+SeenAs slot n p same Empty = position_in slot ≡ None
+SeenAs slot n p same (Resident i d sought) =
+    (position_in slot ≡ Some i) × (d ≡ distance n (slot.hash % n) p) × (sought ≡ same)

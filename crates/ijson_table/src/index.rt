@@ -1,0 +1,165 @@
+//! The index of a table: slots that hold the positions of its pairs, ordered by the distance from home, as in Robin Hood hashing. It
+//! is a list of its own, which knows of the keys no more than their hashes.
+//!
+//! - `slot`: what stands at one slot, and the count that hashes are reduced by.
+//! - `places`: the trait of a table whose slots can be looked at, and `locate`, the look-up whose looks are counted.
+//! - `probe`: the one walk over the slots, which each look-up and each shift begins with.
+//! - `shift`: how the residents of slots move, in insertion, removal and growth.
+
+ghost use Rattle.std.specs.Prelude.{◌≡◌, ◌+◌, ◌<◌, ◌≤◌, [], ◌∷◌, ◌++◌, length, get_or, vec_capacity, None, IfOk, OnErr};
+ghost use Rattle.std.specs.List.{All, remove, swap_remove as swapped_out};
+ghost use Rattle.ijson_table.specs.Slots.{resident, IsTable};
+ghost use Rattle.ijson_table.specs.private.Holds.{MayStand};
+ghost use Rattle.ijson_table.specs.private.Insertion.{EndsWith};
+ghost use Rattle.ijson_table.specs.private.SlotHashes.{position_in, HasHash};
+
+pub mod places;
+pub mod probe;
+mod shift;
+pub mod slot;
+
+use crate::growth::list_with_room;
+use crate::index::shift::{insert, rehash, shift_forward, shift_remove, swap_remove};
+use crate::index::slot::Slot;
+use std::alloc::{AllocError, Global};
+use std::marker::Model;
+
+/// Slots, each empty or with a position of a list and the hash of the key there.
+#[derive(Debug, Drop)]
+pub struct Index {
+    slots: Vec<Slot>,
+}
+
+impl Model for Index {
+    ghost use Rattle.ijson_table.specs.private.HashIndex.{HashIndex, IsIndex};
+    ghost use Rattle.ijson_table.specs.private.SlotHashes.{positions, hashes_of};
+
+    ghost Value = { HashIndex };
+
+    ghost view = { λ l. record { hashes = hashes_of l.slots.items; slots = positions l.slots.items } };
+
+    ghost invariant = { λ l. IsIndex l.slots.items };
+}
+
+impl Index {
+    /// No slots. They take no memory.
+    pub fn new(alloc: Global) -> Index
+        ensures hashes { result.hashes ≡ [] }
+        ensures slots { result.slots ≡ [] }
+    {
+        Index {
+            slots: Vec::new(alloc),
+        }
+    }
+
+    /// So many empty slots.
+    pub fn with_slots(alloc: Global, count: usize) -> Result<Index, AllocError>
+        ensures hashes { IfOk result (λ list. list.hashes ≡ []) }
+        ensures count { IfOk result (λ list. length list.slots ≡ count) }
+        ensures refused { OnErr result (0 < count) }
+    {
+        Ok(Index {
+            slots: empty_slots(alloc, count)?,
+        })
+    }
+
+    /// How many slots there are.
+    pub fn len(&self) -> usize
+        ensures count { result ≡ length self.now.slots }
+        ensures table { IsTable self.now.hashes self.now.slots }
+    {
+        self.slots.len()
+    }
+
+    /// What stands at a slot.
+    pub fn at(&self, slot: usize) -> Slot
+        requires { slot < length self.now.slots }
+        ensures position { position_in result ≡ resident self.now.slots slot }
+        ensures hash { HasHash self.now.hashes result }
+        ensures table { IsTable self.now.hashes self.now.slots }
+    {
+        self.slots[slot]
+    }
+
+    /// Puts the next position into the slots, which have room for it. Its key has this hash.
+    pub fn push(&mut self, position: usize, hash: u64)
+        requires position { position ≡ length self.old.hashes }
+        requires room { position < length self.old.slots }
+        ensures hashes { self.new.hashes ≡ self.old.hashes ++ hash ∷ [] }
+        ensures count { length self.new.slots ≡ length self.old.slots }
+    {
+        insert(&mut self.slots, position, hash);
+    }
+
+    /// The same, at the slot where a probe for it ended.
+    pub fn push_at(&mut self, slot: usize, position: usize, hash: u64)
+        requires position { position ≡ length self.old.hashes }
+        requires room { position < length self.old.slots }
+        requires may { MayStand (self.old.hashes ++ hash ∷ []) self.old.slots position slot }
+        ensures hashes { self.new.hashes ≡ self.old.hashes ++ hash ∷ [] }
+        ensures count { length self.new.slots ≡ length self.old.slots }
+    {
+        shift_forward(&mut self.slots, slot, position, hash);
+    }
+
+    /// Takes a position out, and gives its number to the last one, which is another. The hashes are those of their keys.
+    pub fn swap_remove(&mut self, position: usize, hash: u64, last: usize, last_hash: u64)
+        requires { EndsWith self.old.hashes position hash last last_hash }
+        ensures hashes { self.new.hashes ≡ swapped_out self.old.hashes position 0 }
+        ensures count { length self.new.slots ≡ length self.old.slots }
+    {
+        swap_remove(&mut self.slots, position, hash, last, last_hash);
+    }
+
+    /// Takes a position out, and makes each later one one less. Its key has this hash.
+    pub fn shift_remove(&mut self, position: usize, hash: u64, last: usize)
+        requires within { position ≤ last }
+        requires last { last + 1 ≡ length self.old.hashes }
+        requires hash { hash ≡ get_or self.old.hashes position 0 }
+        ensures hashes { self.new.hashes ≡ remove self.old.hashes position }
+        ensures count { length self.new.slots ≡ length self.old.slots }
+    {
+        shift_remove(&mut self.slots, position, hash, last);
+    }
+
+    /// Puts the positions of other slots into these, which are empty and have room for each.
+    pub fn rehash_from(&mut self, other: &Index)
+        requires empty { self.old.hashes ≡ [] }
+        requires room { length other.now.hashes ≤ length self.old.slots }
+        ensures hashes { self.new.hashes ≡ other.now.hashes }
+        ensures count { length self.new.slots ≡ length self.old.slots }
+    {
+        rehash(&other.slots, &mut self.slots);
+    }
+
+    /// Makes each slot empty.
+    pub fn clear(&mut self)
+        ensures hashes { self.new.hashes ≡ [] }
+        ensures count { length self.new.slots ≡ length self.old.slots }
+    {
+        clear_slots(&mut self.slots);
+    }
+}
+
+/// So many empty slots, in a list that has room for no more.
+fn empty_slots(alloc: Global, count: usize) -> Result<Vec<Slot>, AllocError>
+    ensures empty { IfOk result (λ slots. All (λ slot. position_in slot ≡ None) slots.items) }
+    ensures count { IfOk result (λ slots. length slots.items ≡ count) }
+    ensures room { IfOk result (λ slots. vec_capacity slots ≡ count) }
+    ensures refused { OnErr result (0 < count) }
+{
+    let mut slots = list_with_room(alloc, count)?;
+    for _step in 0..count {
+        slots.push_reserved(Slot::empty());
+    }
+    Ok(slots)
+}
+
+/// Makes each slot empty.
+fn clear_slots(slots: &mut [Slot])
+    ensures { All (λ slot. position_in slot ≡ None) slots.new }
+{
+    for slot in slots.iter_mut() {
+        *slot = Slot::empty();
+    }
+}

@@ -1,0 +1,252 @@
+//! How the residents of slots move: insertion, backward shift and rehash.
+
+ghost use Rattle.std.specs.Prelude.{◌≡◌, ℕ, ◌+◌, ◌<◌, ◌≤◌, ◌%◌, ◌^◌, List, length, get_or, map, Some, None};
+ghost use Rattle.ijson_table.specs.Slots.{below, resident, times, IsOrdered};
+ghost use Rattle.ijson_table.specs.private.Closing.{closed};
+ghost use Rattle.ijson_table.specs.private.Holds.{with_one, Holds, HasEmpty, HasGap, MayStand};
+ghost use Rattle.ijson_table.specs.private.Insertion.{Accepts, AcceptsEach, EndsWith, IsTableOf, Stands};
+ghost use Rattle.ijson_table.specs.private.SlotHashes.{displacement_in, positions, position_in, HaveHashes};
+ghost use Rattle.ijson_table.specs.private.Probe.{IsVacancy};
+ghost use Rattle.std.specs.List.{All, remove, swap_remove as swapped_out};
+
+use crate::index::places::Seen;
+use crate::index::probe::{ProbeTarget, Probed, next_slot, probe};
+use crate::index::slot::{Modulus, Slot};
+use ijson_number::Looks;
+
+/// A probe that knows of a key its hash alone. It seeks the slot of a position, or with none the vacancy of a key that stands at no
+/// slot.
+#[derive(Drop)]
+struct HashProbe<'a> {
+    slots: &'a [Slot],
+    modulus: Modulus,
+    hash: u64,
+    position: Option<usize>,
+    ghost counted: { modulus.count ≡ length slots.now },
+}
+
+impl<'a> ProbeTarget for HashProbe<'a> {
+    ghost use Rattle.std.specs.Option.{option_eq};
+    ghost use Rattle.std.specs.Prelude.{◌%◌, length, eqb, Some};
+    ghost use Rattle.ijson_table.specs.private.SlotHashes.{displacement_in, positions};
+
+    ghost slots = { λ s. positions s.slots.now };
+
+    ghost displacements = { λ s. displacement_in s.slots.now };
+
+    ghost home_slot = { λ s. s.hash % length s.slots.now };
+
+    ghost seeks = { λ s i. option_eq eqb (Some i) s.position };
+
+    fn count(&self) -> usize {
+        self.slots.len()
+    }
+
+    fn home(&self) -> usize {
+        self.modulus.home_of_hash(self.hash)
+    }
+
+    fn look(&self, slot: usize, looks: &mut Looks) -> Seen {
+        looks.add_one();
+        let there = self.slots[slot];
+        let same = there.position() == self.position;
+        there.seen(self.modulus, slot, same)
+    }
+}
+
+/// Where the probe for a key of this hash ends that stands at none of the slots.
+fn vacancy(slots: &[Slot], hash: u64) -> usize
+    requires { HasEmpty (positions slots.now) }
+    ensures { IsVacancy (displacement_in slots.now) (length slots.now) (hash % length slots.now) result }
+{
+    let newcomer = HashProbe {
+        slots,
+        modulus: Modulus::new(slots.len()),
+        hash,
+        position: None,
+    };
+    match probe(&newcomer, &mut Looks::new()) {
+        Probed::Vacant(slot) => slot,
+        Probed::Found(..) | Probed::Full => unreachable!(),
+    }
+}
+
+/// The slot of a position, whose key has this hash.
+fn slot_of(slots: &[Slot], position: usize, hash: u64) -> usize
+    ghost hashes: { List ℕ }
+    requires { Stands hashes slots.now position hash }
+    ensures within { result < length slots.now }
+    ensures there { resident (positions slots.now) result ≡ Some position }
+{
+    let resident = HashProbe {
+        slots,
+        modulus: Modulus::new(slots.len()),
+        hash,
+        position: Some(position),
+    };
+    match probe(&resident, &mut Looks::new()) {
+        Probed::Found(_, slot) => slot,
+        Probed::Vacant(_) | Probed::Full => unreachable!(),
+    }
+}
+
+/// Puts a position down at a slot, whose key has this hash. The residents from there on move one slot forward each, up to the next
+/// empty slot.
+pub fn shift_forward(slots: &mut [Slot], from: usize, position: usize, hash: u64)
+    ghost hashes: { List ℕ }
+    requires accepts { Accepts hashes slots.old position hash }
+    requires may { MayStand hashes (positions slots.old) position from }
+    ensures holds { Holds hashes (with_one (positions slots.old) position) None (positions slots.new) }
+    ensures hashes { HaveHashes hashes slots.new }
+{
+    let mut entry = Slot::of(position, hash);
+    let mut slot = from;
+    for _step in 0..slots.len() {
+        let was = slots[slot];
+        slots[slot] = entry;
+        let Some(_resident) = was.position() else {
+            return;
+        };
+        entry = was;
+        slot = next_slot(slots.len(), slot);
+    }
+    unreachable!()
+}
+
+/// Puts a position into the slots, one of which is empty. Its key has this hash.
+pub fn insert(slots: &mut [Slot], position: usize, hash: u64)
+    ghost hashes: { List ℕ }
+    requires { Accepts hashes slots.old position hash }
+    ensures holds { Holds hashes (with_one (positions slots.old) position) None (positions slots.new) }
+    ensures hashes { HaveHashes hashes slots.new }
+{
+    let slot = vacancy(slots, hash);
+    shift_forward(slots, slot, position, hash);
+}
+
+/// Moves the residents behind a gap one slot back each, up to an empty slot or a resident at its home.
+fn shift_back(slots: &mut [Slot], from: usize)
+    ghost hashes: { List ℕ }
+    requires gap { HasGap hashes (positions slots.old) from }
+    requires hashes { HaveHashes hashes slots.old }
+    ensures ordered { IsOrdered hashes (positions slots.new) }
+    ensures placed { (i : ℕ) → times i (positions slots.new) ≡ times i (positions slots.old) }
+    ensures hashes { HaveHashes hashes slots.new }
+{
+    let modulus = Modulus::new(slots.len());
+    let mut gap = from;
+    loop {
+        let next = next_slot(slots.len(), gap);
+        let behind = slots[next];
+        let Some(_resident) = behind.position() else {
+            return;
+        };
+        if behind.distance(modulus, next) == 0 {
+            return;
+        }
+        slots[gap] = behind;
+        slots[next] = Slot::empty();
+        gap = next;
+    }
+}
+
+/// Takes a position out of the slots of a table. Its key has this hash.
+fn take_out(slots: &mut [Slot], position: usize, hash: u64)
+    ghost hashes: { List ℕ }
+    requires table { IsTableOf hashes slots.old }
+    requires within { position < length hashes }
+    requires hash { hash ≡ get_or hashes position 0 }
+    ensures holds { Holds hashes (below (length hashes)) (Some position) (positions slots.new) }
+    ensures hashes { HaveHashes hashes slots.new }
+{
+    let slot = slot_of(slots, position, hash);
+    slots[slot] = Slot::empty();
+    shift_back(slots, slot);
+}
+
+/// Takes a position out, and gives its number to the last one, which is another.
+pub fn swap_remove(slots: &mut [Slot], position: usize, hash: u64, last: usize, last_hash: u64)
+    ghost hashes: { List ℕ }
+    requires table { IsTableOf hashes slots.old }
+    requires hashes { EndsWith hashes position hash last last_hash }
+    ensures { IsTableOf (swapped_out hashes position 0) slots.new }
+{
+    take_out(slots, position, hash);
+    let there = slot_of(slots, last, last_hash);
+    slots[there] = Slot::of(position, last_hash);
+}
+
+/// Makes each position behind one that is out one less.
+fn close_up(slots: &mut [Slot], gone: usize)
+    requires { gone + 1 < 2 ^ 64 }
+    ensures { slots.new ≡ map (closed gone) slots.old }
+{
+    for slot in slots.iter_mut() {
+        *slot = slot.closed(gone);
+    }
+}
+
+/// Takes a position out, and makes each later one one less. There is none behind the last.
+pub fn shift_remove(slots: &mut [Slot], position: usize, hash: u64, last: usize)
+    ghost hashes: { List ℕ }
+    requires table { IsTableOf hashes slots.old }
+    requires within { position ≤ last }
+    requires last { last + 1 ≡ length hashes }
+    requires fits { last + 1 < 2 ^ 64 }
+    requires hash { hash ≡ get_or hashes position 0 }
+    ensures { IsTableOf (remove hashes position) slots.new }
+{
+    take_out(slots, position, hash);
+    if position < last {
+        close_up(slots, position);
+    }
+}
+
+/// How many slots from the first one on have residents that went round the end.
+fn wrapped(slots: &[Slot]) -> usize
+    ensures { result ≤ length slots.now }
+{
+    if slots.is_empty() {
+        return 0;
+    }
+    let modulus = Modulus::new(slots.len());
+    for slot in 0..slots.len() {
+        let there = slots[slot];
+        if there.position().is_none() || there.distance(modulus, slot) <= slot {
+            return slot;
+        }
+    }
+    slots.len()
+}
+
+/// Puts what stands at these slots into others, one by one.
+fn insert_each(from: &[Slot], slots: &mut [Slot])
+    ghost hashes: { List ℕ }
+    requires { AcceptsEach hashes slots.old from.now }
+    ensures ordered { IsOrdered hashes (positions slots.new) }
+    ensures placed { (i : ℕ) → times i (positions slots.new)
+        ≡ times i (positions slots.old) + times i (positions from.now) }
+    ensures hashes { HaveHashes hashes slots.new }
+{
+    for index in 0..from.len() {
+        let entry = from[index];
+        let Some(position) = entry.position() else {
+            continue;
+        };
+        insert(slots, position, entry.hash());
+    }
+}
+
+/// Puts what stands at the slots of a table into empty ones. It goes by their order, from the first resident that did
+/// not go round the end, so residents with the same home stay in their order; and it goes to the memory of no key.
+pub fn rehash(old: &[Slot], slots: &mut [Slot])
+    ghost hashes: { List ℕ }
+    requires table { IsTableOf hashes old.now }
+    requires empty { All (λ slot. position_in slot ≡ None) slots.old }
+    requires room { length hashes ≤ length slots.old }
+    ensures { IsTableOf hashes slots.new }
+{
+    let start = wrapped(old);
+    insert_each(&old[start..], slots);
+    insert_each(&old[..start], slots);
+}

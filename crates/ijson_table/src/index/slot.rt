@@ -1,0 +1,151 @@
+//! `Slot`: what stands at one slot of a table, and `Modulus`: the count of slots that hashes are reduced by.
+
+ghost use Rattle.std.specs.Prelude.{◌≡◌, ◌+◌, ◌-◌, ◌<◌, ◌/◌, ◌%◌, ◌^◌, Some, None, IsTrue, ◌↔◌};
+ghost use Rattle.ijson_table.specs.Crowd.{distance};
+ghost use Rattle.ijson_table.specs.private.Closing.{closed};
+ghost use Rattle.ijson_table.specs.private.SlotHashes.{position_in, SeenAs};
+
+use crate::index::places::Seen;
+
+/// Nothing, or the position of a pair beside the hash of its key, which tells how far the slot is from the key's home, and
+/// most other keys from it. So a walk rarely goes to the memory of a key.
+#[derive(Clone, Copy, Debug, Drop)]
+pub struct Slot {
+    /// 0 for nothing, or the position plus one.
+    code: usize,
+    hash: u64,
+}
+
+impl Slot {
+    /// The slot where nothing stands.
+    pub fn empty() -> Slot
+        ensures { position_in result ≡ None }
+    {
+        Slot { code: 0, hash: 0 }
+    }
+
+    /// The slot where this position stands, whose key has this hash.
+    pub fn of(position: usize, hash: u64) -> Slot
+        requires { position + 1 < 2 ^ 64 }
+        ensures position { position_in result ≡ Some position }
+        ensures hash { result.hash ≡ hash }
+    {
+        Slot {
+            code: position + 1,
+            hash,
+        }
+    }
+
+    /// The hash of the key there.
+    pub fn hash(self) -> u64
+        ensures { result ≡ self.hash }
+    {
+        self.hash
+    }
+
+    /// The position that stands there, or none.
+    pub fn position(self) -> Option<usize>
+        ensures { result ≡ position_in self }
+    {
+        if self.code == 0 {
+            None
+        } else {
+            Some(self.code - 1)
+        }
+    }
+
+    /// How far this slot is from the home of what stands there.
+    pub fn distance(self, modulus: Modulus, slot: usize) -> usize
+        requires { slot < modulus.count }
+        ensures { result ≡ distance modulus.count (self.hash % modulus.count) slot }
+    {
+        let home = modulus.home_of_hash(self.hash);
+        if home <= slot {
+            slot - home
+        } else {
+            modulus.count - (home - slot)
+        }
+    }
+
+    /// The slot once a position is out: a later one is one less.
+    pub fn closed(self, gone: usize) -> Slot
+        requires { gone + 1 < 2 ^ 64 }
+        ensures { result ≡ closed gone self }
+    {
+        if self.code <= gone + 1 {
+            return self;
+        }
+        Slot {
+            code: self.code - 1,
+            hash: self.hash,
+        }
+    }
+
+    /// Whether the key there has this hash.
+    pub fn has_hash(self, hash: u64) -> bool
+        ensures { IsTrue result ↔ (self.hash ≡ hash) }
+    {
+        self.hash == hash
+    }
+
+    /// What a look at this slot tells, where `same` says whether it holds what is sought.
+    pub fn seen(self, modulus: Modulus, slot: usize, same: bool) -> Seen
+        requires { slot < modulus.count }
+        ensures { SeenAs self modulus.count slot same result }
+    {
+        match self.position() {
+            None => Seen::Empty,
+            Some(at) => Seen::Resident {
+                at,
+                distance: self.distance(modulus, slot),
+                same,
+            },
+        }
+    }
+}
+
+/// A count of slots beside its reciprocal. To take many hashes modulo the count it divides once, and goes by products, which
+/// take a fraction of the time.
+#[derive(Clone, Copy, Debug, Drop)]
+pub struct Modulus {
+    /// How many slots there are.
+    pub count: usize,
+    reciprocal: u64,
+    ghost some: { 0 < count },
+    ghost divided: { reciprocal ≡ (2 ^ 64 - 1) / count },
+}
+
+impl Modulus {
+    /// So many slots.
+    pub fn new(count: usize) -> Modulus
+        requires { 0 < count }
+        ensures { result.count ≡ count }
+    {
+        Modulus {
+            count,
+            reciprocal: u64::MAX / count as u64,
+        }
+    }
+
+    /// The home of a key of this hash.
+    #[inline(always)]
+    pub fn home_of_hash(self, hash: u64) -> usize
+        ensures value { result ≡ hash % self.count }
+        ensures within { result < self.count }
+    {
+        remainder(hash, self.count as u64, self.reciprocal) as usize
+    }
+}
+
+/// What is left of a hash where it is divided by a count that has this reciprocal: the quotient by the reciprocal is that by the
+/// count, or one less.
+#[inline(always)]
+fn remainder(hash: u64, count: u64, reciprocal: u64) -> u64
+    requires some { 0 < count }
+    requires reciprocal { reciprocal ≡ (2 ^ 64 - 1) / count }
+    ensures { result ≡ hash % count }
+{
+    let quotient = ((u128::from(hash) * u128::from(reciprocal)) >> 64) as u64;
+    let left = hash - quotient * count;
+    if left < count { left } else { left - count }
+}

@@ -1,0 +1,50 @@
+-- What a reference goes through in a walk: it is handed to a callee that lends a part of it, it is lent again for one call and comes
+-- back, and what the callee answers is taken apart. Assumes `Logic`.
+use Prim.Native.Nat.{ℕ}
+use mathlib.Core.List.{List, [], ◌∷◌}
+use lib.Dec.{eqb}
+use mathlib.Core.Bool.{true, false, true≢false}
+use mathlib.Core.Path.{◌≡◌, sym, ap, ◌∙◌}
+use seplogic.Ra.Ura.{Ura}
+use mir.Syntax.{named}
+use mir.Val.{Val}
+use base.Logic.{SProp, ent, sep, emp}
+use base.Fml.{Fml, GName, Lft, Share, ftrue, flft, fres}
+use base.Fraction.{full_share}
+use contract.Monad.{fact, fact_i}
+use types.Logic.{Logic, sem}
+use types.Kit.{Item, Goal, Seq, Step, Soaks, mean, step, ‵, raw, ◌⊛◌, some, later, ◌$◌, move, drop, split, join, use0, use1, use2, use3, await, pick}
+use types.Tokens.{lft_new, lft_end}
+use denote.Laws.{Is, shows}
+use denote.Lend.{lends_again, comes_back, LentAgain}
+use denote.RattleType.{RattleType}
+use denote.Ref.{MutRef, MutBor, mut_vals}
+use denote.Steps.{nothing, heard, peeks}
+
+module _ {M : Type 1} {𝓤 : Ura M} (κ : Lft) (q : Share) where
+  -- what a callee answers: a part, the token, what the lender follows, and a fact
+  abbrev pub Answer : (R : RattleType) (w : Val) {W : Type 0} (L : R.Denot → W → Fml) (F : R.Denot → Fml) (P : R.Denot → Type 0) → Item 𝓤
+  Answer R w {W} L F P = later (some (λ (x : R.Denot). ((‵ (flft κ q) ⊛ ‵ ftrue) ⊛ ‵ (R.own_val x (w ∷ []))) ⊛
+      some (λ (ws : W). ‵ (L x ws) ⊛ ‵ (F x) ⊛ raw (fact 𝓤 (P x)))))
+
+module _ {M : Type 1} {𝓤 : Ura M} (𝓛 : Logic 𝓤) {K : Type 0} {Γ : List (Item 𝓤)} {G : Goal 𝓤 𝓛.H} (t : K) (κ : Lft) (q : Share) where
+  -- a value and its token are what a callee asks for, with a fact
+  pub asks : (own : Fml) (P : Type 0) (Q : SProp 𝓤) → P
+      → ent 𝓤 (sep 𝓤 (mean 𝓛 ((‵ (flft κ q) ⊛ ‵ ftrue) ⊛ ‵ own ⊛ ‵ ftrue)) (mean 𝓛 (raw (fact 𝓤 P)))) Q
+      → Step K 𝓛 (raw Q ∷ Γ) G (‵ own ∷ ‵ (flft κ q) ∷ Γ) G
+  asks own P Q p enough = step (λ s.
+      nothing t $ move t (1 ∷ 0 ∷ []) $ join t $ nothing t $ move t (2 ∷ 0 ∷ []) $ join t $ join t $
+      use0 𝓛 (raw (fact 𝓤 P)) (fact_i 𝓤 P (emp 𝓤) p) $ move t (1 ∷ 0 ∷ []) $ use2 𝓛 (raw Q) enough $ s)
+
+  pub answered : Soaks G → (R : RattleType) (w : Val) {W : Type 0} (L : R.Denot → W → Fml) (F : R.Denot → Fml) (P : R.Denot → Type 0) (Q : SProp 𝓤)
+      → ent 𝓤 Q (mean 𝓛 (Answer κ q R w L F P))
+      → ((x : R.Denot) → P x → Is R x (w ∷ []) → Seq K 𝓛 (‵ (R.own_val x (w ∷ [])) ∷ ‵ (F x) ∷ ‵ (flft κ q) ∷ ‵ ftrue ∷ Γ) G)
+      → Seq K 𝓛 (raw Q ∷ Γ) G
+  answered soaks R w L F P Q gives k =
+      use1 𝓛 (Answer κ q R w L F P) gives $ await t soaks $ pick t (λ x. split t $ split t $ split t $ move t (3 ∷ []) $ pick t (λ ws.
+      split t $ drop t $ split t $ move t (1 ∷ []) $ heard t _ (λ says.
+      move t (3 ∷ []) $ peeks t R _ (shows 𝓛 R) x (w ∷ []) (λ seen. k x says seen))))
+
+-- a number that a switch looks at is another one than that of an arm
+pub apart : {X : Type 1} (m n : ℕ) → eqb m n ≡ false → eqb n n ≡ true → m ≡ n → X
+apart m n other itself same = absurd (true≢false (sym itself ∙ ap (λ k. eqb k n) (sym same) ∙ other))
