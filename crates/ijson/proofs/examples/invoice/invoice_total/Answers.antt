@@ -12,7 +12,7 @@ returns-in_default-amount_of-clause-no_amount c = λ i is.
     let at : c.loop-i.i ≡ i = cc in
     let items = c.as_slice-item-items.result.now in
     let there = item_of_loop c.args.records.now items c.loop-i.i c.item-item.result
-        (c.in-Some.ensures.some ∙ ap array_value (sym c.as_slice-item-items.ensures)) c.loop-i-test.true c.item-item.is in
+    (c.in-Some.ensures.some ∙ ap array_value (sym c.as_slice-item-items.ensures)) c.loop-i-test.true c.item-item.is in
     subst (λ n. LacksAmount c.args.records.now.tree n) at (c.item-item.result.tree, there, c.in_default-amount_of.ensures.none)
 
 pub loop-i-preserved : goal.loop-i-preserved

@@ -10,5 +10,5 @@ pub returns : goal.returns
 returns c = λ _ key.
     at_key-over c.in-Ok.over.pairs c.in-Some.base.now.pairs c.overlay.new.self.pairs key (c.in_ok-overlay.ensures.each key)
     ∙ (ap (λ (v : WellFormed). option_or (tree_at v.tree (by_key key)) (tree_at (object_tree c.in-Some.base.now.pairs) (by_key key)))
-        (sym c.in-Ok.ensures.ok)
+    (sym c.in-Ok.ensures.ok)
     ∙ ap (λ (v : WellFormed). option_or (tree_at c.args.over.tree (by_key key)) (tree_at v.tree (by_key key))) (sym c.in-Some.ensures.some))
