@@ -1,8 +1,13 @@
 #!/usr/bin/env python3
-"""generate.py FOLDER SIZE NAME..: writes the named files, about SIZE bytes each, into the folder; the same at each run."""
+"""generate.py FOLDER SIZE NAME..: writes the named files, about SIZE bytes each (those of common_kinds.py less), into the folder; the same at each run."""
+
+import sys
+
+sys.dont_write_bytecode = True
 
 import random
-import sys
+
+from common_kinds import catalogue, coordinates, messages
 
 
 def number(rng):
@@ -109,6 +114,9 @@ FILES = {
     "numbers": array_of(number),
     "arrays": array_of(shallow),
     "long_keys": array_of(row),
+    "coordinates": coordinates,
+    "catalogue": catalogue,
+    "messages": messages,
 }
 
 

@@ -8,6 +8,10 @@ import sys
 from typing import NamedTuple
 
 BENCH = pathlib.Path(__file__).resolve().parent
+# Files of generate.py.
+FILES = ["integers", "fractions", "objects", "strings", "mixed", "one_object"]
+COMMON_FILES = ["coordinates", "catalogue", "messages"]
+MORE_FILES = ["numbers", "arrays", "long_keys"]
 
 
 class Run(NamedTuple):
@@ -36,12 +40,17 @@ def run_once(command, path, sink=os.devnull):
     return Run(elapsed, processor, memory / 1e6)
 
 
-def figures(jobs, turns):
-    """The figures of each job, a command and a file by a name, from turns in which each runs once; each turn begins with another job."""
-    runs = {name: [] for name in jobs}
-    names = list(jobs)
+def in_turns(names, turns):
+    """The names in turns, in each of which every one comes once; each turn begins with another."""
+    names = list(names)
     for turn in range(turns):
         first = turn % len(names)
-        for name in names[first:] + names[:first]:
-            runs[name].append(run_once(*jobs[name]))
+        yield from names[first:] + names[:first]
+
+
+def figures(jobs, turns):
+    """The figures of each job, a command and a file by a name, from turns in which each runs once."""
+    runs = {name: [] for name in jobs}
+    for name in in_turns(jobs, turns):
+        runs[name].append(run_once(*jobs[name]))
     return {name: {figure: of(it) for figure, of in FIGURES.items()} for name, it in runs.items()}

@@ -6,19 +6,34 @@ import shutil
 import subprocess
 import sys
 import tempfile
+from typing import NamedTuple
 
 BENCH = pathlib.Path(__file__).resolve().parent
 CRATES = BENCH.parent / "crates"
 KEPT = BENCH / "out"
 REGISTRY = "/usr/share/cargo/registry"
+# Debian's packages of the peers.
+PACKAGES = ["librust-serde-json-dev", "rapidjson-dev", "libsimdjson-dev"]
+
+
+class Library(NamedTuple):
+    """A program that times passes of a library, and what that keeps of a text."""
+
+    program: pathlib.Path
+    order: bool  # whether it keeps the order of members
+    numbers: str  # what it keeps of numbers, as same.py has it
 
 
 def built(command, folder, name):
     """Whether the command made what it should; if not, says why."""
-    done = subprocess.run(command, cwd=folder, input="[]", capture_output=True, text=True)
-    if done.returncode:
-        print(f"{name} is left out, since it could not be built:", *done.stderr.splitlines()[-5:], sep="\n", file=sys.stderr)
-    return done.returncode == 0
+    try:
+        done = subprocess.run(command, cwd=folder, input="[]", capture_output=True, text=True)
+        why = done.stderr.splitlines()[-5:] if done.returncode else []
+    except FileNotFoundError as error:
+        why = [str(error)]
+    if why:
+        print(f"{name} is left out, since it could not be built:", *why, sep="\n", file=sys.stderr)
+    return not why
 
 
 def kit_version():
@@ -94,11 +109,17 @@ def calls_of_kit():
     return rattle_program("calls_of_kit", "anyhow serde_json", {})
 
 
-def rust_program(name):
+def rust_program(name, features="digits order"):
     """A program over Rust's serde_json, which Debian's package librust-serde-json-dev has."""
     command = ["cargo", "build", "--quiet", "--release", "--offline", "--bin", name, "--target-dir", KEPT / "target"]
+    command += ["--no-default-features", "--features", features]
     command += ["--config", 'source.crates-io.replace-with="debian"', "--config", f'source.debian.directory="{REGISTRY}"']
-    return KEPT / "target/release" / name if built(command, BENCH / "baseline", f"Rust's serde_json ({name})") else None
+    if not built(command, BENCH / "baseline", f"Rust's serde_json ({name}, {features or 'no features'})"):
+        return None
+    # another build of the same name, with other features, replaces cargo's
+    program = KEPT / "_".join([name, "of_rust", *features.split()])
+    shutil.copy(KEPT / "target/release" / name, program)
+    return program
 
 
 def rust_serde_json():
@@ -109,3 +130,38 @@ def rust_serde_json():
 def rust_calls():
     """Calls of Rust's serde_json."""
     return rust_program("calls")
+
+
+def cpp_program(name, source, *flags):
+    """A program of passes_of_cpp/ over a library of C++, which a package of Debian has."""
+    KEPT.mkdir(exist_ok=True)
+    command = ["c++", "-std=c++17", "-O3", "-DNDEBUG", "-march=x86-64-v2", source, "-o", KEPT / name, *flags]
+    return KEPT / name if built(command, BENCH / "passes_of_cpp", name) else None
+
+
+def rapidjson(name, flags):
+    return cpp_program(name, "rapidjson.cpp", f"-DREAD_FLAGS=rapidjson::{flags}")
+
+
+def libraries(ours):
+    """What times passes within a process, by the names in the tables: this library, and the peers that could be built."""
+    crates = "ijson_json ijson_string ijson_value"
+    found = {
+        ours: Library(rattle_program("passes_of_ijson", crates, library_crates()), True, "digits"),
+        "serde_json exact": Library(rust_program("passes"), True, "digits"),
+        "serde_json floats": Library(rust_program("passes", "order"), True, "floats"),
+        "serde_json default": Library(rust_program("passes", ""), False, "floats"),
+        "kit serde_json": Library(rattle_program("passes_of_kit", "anyhow serde_json", {}), False, "floats"),
+        "RapidJSON": Library(rapidjson("passes_of_rapidjson", "kParseDefaultFlags"), True, "floats"),
+        "RapidJSON texts": Library(rapidjson("passes_of_rapidjson_texts", "kParseNumbersAsStringsFlag"), True, "texts"),
+        "simdjson": Library(cpp_program("passes_of_simdjson", "simdjson.cpp", "-lsimdjson"), True, "floats"),
+    }
+    return {name: library for name, library in found.items() if library.program}
+
+
+def package_versions():
+    """The versions of the peers' packages, those that are there."""
+    if not shutil.which("dpkg-query"):
+        return "No packages of Debian."
+    done = subprocess.run(["dpkg-query", "--show", "--showformat", "${Package} ${Version}\n", *PACKAGES], capture_output=True, text=True)
+    return "Debian's packages: " + ", ".join(line for line in done.stdout.splitlines() if not line.endswith(" ")) + "."

@@ -1,8 +1,48 @@
 #!/usr/bin/env python3
-"""same.py TEXT TEXT: ends with status 0 only where both files are JSON texts of one value, numbers taken as the nearest floating point."""
+"""same.py [--order] [--numbers digits|floats|texts] READ WRITTEN: ends with status 0 only where both files are JSON texts of one value.
 
+With --order the members stand in one order. Numbers are compared as the nearest floating point if nothing is said; as they are (`digits`); as
+floating point that a reader may have rounded twice (`floats`); or the number that was read is a string of its digits now (`texts`).
+"""
+
+import argparse
+import decimal
 import json
+import math
 import sys
 
-first, second = (json.load(open(path, encoding="utf-8")) for path in sys.argv[1:])
-sys.exit(first != second)
+# What a reader is told of numbers.
+NUMBERS = {
+    "nearest": {},
+    "digits": {"parse_int": decimal.Decimal, "parse_float": decimal.Decimal},
+    "floats": {},
+    "texts": {"parse_int": str, "parse_float": str},
+}
+# Several steps of the last place of a double.
+NEAR = 1e-15
+
+
+def are_near(first, second):
+    """Whether the two differ at most in the last places of numbers."""
+    if isinstance(first, float) and isinstance(second, (int, float)):
+        return math.isclose(first, second, rel_tol=NEAR)
+    if isinstance(first, dict) and isinstance(second, dict):
+        return first.keys() == second.keys() and all(are_near(value, second[key]) for key, value in first.items())
+    if isinstance(first, (list, tuple)) and type(first) is type(second):
+        return len(first) == len(second) and all(map(are_near, first, second))
+    return first == second
+
+
+def main():
+    parser = argparse.ArgumentParser(description=__doc__)
+    parser.add_argument("--order", action="store_true")
+    parser.add_argument("--numbers", choices=NUMBERS, default="nearest")
+    parser.add_argument("texts", nargs=2)
+    options = parser.parse_args()
+    told = dict(NUMBERS[options.numbers], object_pairs_hook=tuple if options.order else dict)
+    first, second = (json.load(open(path, encoding="utf-8"), **told) for path in options.texts)
+    same = first == second or options.numbers == "floats" and are_near(first, second)
+    sys.exit(not same)
+
+
+main()

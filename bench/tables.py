@@ -1,4 +1,4 @@
-"""What bench/run and bench/calls print. A number in brackets is how many times as much as ijson a program takes: above 1, ijson takes less."""
+"""What bench/run, bench/calls and bench/in_process print. A number in brackets is how many times as much as ijson a program takes: above 1, ijson takes less."""
 
 import datetime
 import os
@@ -12,11 +12,11 @@ EARLIER = "earlier build"
 BETTER = "better peer"
 
 
-def print_conditions(turns):
+def print_conditions(turns, passes=None):
     """When, with what and on what machine: the first lines of a report."""
     with open("/proc/cpuinfo", encoding="utf-8") as lines:
         models = [line.partition(":")[2].strip() for line in lines if line.startswith("model name")]
-    print(f"{datetime.date.today()}, {kit_version()}, {len(models)} processors {models[0]}, {turns} turns.")
+    print(f"{datetime.date.today()}, {kit_version()}, {len(models)} processors {models[0]}, {turns} turns" + (f" of {passes} passes." if passes else "."))
     print(f"Other work on the machine at the start: {os.getloadavg()[0]:.1f} processors.\n")
 
 

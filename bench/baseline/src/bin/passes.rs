@@ -1,0 +1,34 @@
+//! Times `serde_json` as `passes_of_ijson` does this library: reading, writing and giving back the text of standard input, as many times as the
+//! first argument says.
+
+use serde_json::Value;
+use std::io::Write;
+use std::time::Instant;
+
+type Failure = Box<dyn std::error::Error>;
+
+/// Times one pass, and gives the text that it wrote.
+fn pass(text: &str) -> Result<String, Failure> {
+    let start = Instant::now();
+    let value: Value = serde_json::from_str(text)?;
+    let reading = start.elapsed().as_nanos();
+    let start = Instant::now();
+    let written = serde_json::to_string(&value)?;
+    let writing = start.elapsed().as_nanos();
+    let start = Instant::now();
+    drop(value);
+    let giving_back = start.elapsed().as_nanos();
+    eprintln!("{reading} {writing} {giving_back} {}", written.len());
+    Ok(written)
+}
+
+fn main() -> Result<(), Failure> {
+    let passes: usize = std::env::args().nth(1).ok_or("how many passes?")?.parse()?;
+    let text = std::io::read_to_string(std::io::stdin())?;
+    for _ in 1..passes {
+        pass(&text)?;
+    }
+    let written = pass(&text)?;
+    std::io::stdout().write_all(written.as_bytes())?;
+    Ok(())
+}

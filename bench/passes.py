@@ -1,0 +1,49 @@
+"""Runs the programs that time passes within one process, and ends the benchmark where one of them answers wrongly."""
+
+import hashlib
+import pathlib
+import subprocess
+import sys
+
+from measure import in_turns
+
+BENCH = pathlib.Path(__file__).resolve().parent
+
+
+def run_once(name, library, path, count, written):
+    """The nanoseconds of reading, writing and giving back in each pass. The last text goes to the file `written`."""
+    with open(path, "rb") as text, open(written, "wb") as output:
+        done = subprocess.run([library.program, str(count)], stdin=text, stdout=output, stderr=subprocess.PIPE, text=True)
+    if done.returncode:
+        sys.exit(f"{name} failed on {path}: {done.stderr}")
+    lines = [tuple(map(int, line.split())) for line in done.stderr.splitlines()]
+    if {length for *_, length in lines} != {written.stat().st_size}:
+        sys.exit(f"{name} does not write the same text of {path} in each pass")
+    return [times for *times, _ in lines]
+
+
+def check_value(name, library, path, written):
+    """Ends the benchmark where the text is not of the value that was read, but for what the library does not keep."""
+    command = [sys.executable, BENCH / "same.py", "--numbers", library.numbers, path, written]
+    if subprocess.run(command + ["--order"] * library.order).returncode:
+        sys.exit(f"{name} does not write the value of {path}")
+
+
+def digest(path):
+    return hashlib.sha256(path.read_bytes()).digest()
+
+
+def passes_of(libraries, path, count, turns, work):
+    """By the library, the nanoseconds of reading, writing and giving back in each pass of all turns."""
+    written = pathlib.Path(work) / "written"
+    answers = {}
+    for name, library in libraries.items():
+        run_once(name, library, path, 1, written)
+        check_value(name, library, path, written)
+        answers[name] = digest(written)
+    found = {name: [] for name in libraries}
+    for name in in_turns(libraries, turns):
+        found[name] += run_once(name, libraries[name], path, count, written)
+        if digest(written) != answers[name]:
+            sys.exit(f"{name} writes another text of {path} than it did first")
+    return found

@@ -1,0 +1,59 @@
+"""The tables of bench/in_process."""
+
+import statistics
+from operator import itemgetter
+
+from tables import OURS, head, row
+
+# What is told of the three times of a pass.
+ACTS = {
+    "reading": itemgetter(0),
+    "writing": itemgetter(1),
+    "giving back": itemgetter(2),
+    "all three": sum,
+}
+FIGURES = {"least": min, "median": statistics.median}
+
+
+def shown_speed(bytes_a_nanosecond):
+    speed = bytes_a_nanosecond * 1000
+    return f"{speed:.0f}" if speed < 100_000 else "> 99999"
+
+
+def speed_table(act, passes, sizes):
+    """Megabytes of the text that is read, a second. `passes` is by the file and then by the library."""
+    lines = [head(f"{act}, MB/s", *next(iter(passes.values())))]
+    for file, by_library in passes.items():
+        size = sizes[file]
+        cells = []
+        for it in by_library.values():
+            cells.append(" / ".join(shown_speed(size / figure(map(ACTS[act], it))) for figure in FIGURES.values()))
+        lines.append(row(f"{file}, {size / 1e6:.1f} MB", *cells))
+    return "\n".join(lines)
+
+
+def ratios(passes, act, figure):
+    """By the file and then by the library, how many times as long as ours it takes."""
+    found = {}
+    for file, by_library in passes.items():
+        taken = {name: FIGURES[figure](map(ACTS[act], it)) for name, it in by_library.items()}
+        found[file] = {name: it / taken[OURS] for name, it in taken.items()}
+    return found
+
+
+def mean(file_ratios, name):
+    return statistics.geometric_mean(by_library[name] for by_library in file_ratios.values())
+
+
+def shown_ratio(ratio):
+    return f"{ratio:.2f}" if ratio >= 0.005 else "< 0.01"
+
+
+def mean_table(passes, libraries):
+    """The geometric means over the files, a row a library, with what it keeps."""
+    lines = [head("times as long as ijson, geometric mean", "order of members", "numbers", *ACTS)]
+    by_act = {act: [ratios(passes, act, figure) for figure in FIGURES] for act in ACTS}
+    for name, library in libraries.items():
+        cells = (" / ".join(shown_ratio(mean(it, name)) for it in both_figures) for both_figures in by_act.values())
+        lines.append(row(name, "kept" if library.order else "lost", library.numbers, *cells))
+    return "\n".join(lines)
