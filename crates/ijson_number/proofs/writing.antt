@@ -4,6 +4,7 @@ pub mod DigitTexts
 pub mod FractionTexts
 pub mod LastDigits
 pub mod PaddedDigits
+pub mod RoomTexts
 pub mod RoundTrip
 pub mod SplitTexts
 pub mod WordTexts

@@ -73,45 +73,27 @@ impl INumber {
     ghost use Rattle.ijson_number.specs.private.Prefix.{IsMantissa};
 
     /// The number that the whole text spells, with no white space round it. Memory is taken where the stored form is a
-    /// list of digits alone. The time is linear in the length of the text, whatever the exponent. `1.50` and `15e-1` spell
-    /// equal numbers; `01`, `+1`, `.5`, `1.` and ` 1` are `Invalid`, and so is `1e2000000000`.
+    /// list of digits alone, and given back where such a number only begins the text. The time is linear in the length of
+    /// the text, whatever the exponent. `1.50` and `15e-1` spell equal numbers; `01`, `+1`, `.5`, `1.` and ` 1` are
+    /// `Invalid`, and so is `1e2000000000`.
     pub fn from_str(alloc: Global, text: &str) -> Result<INumber, ParseNumberError>
         ensures ok { IfOk result (λ n. Spells text.now n.decimal) }
         ensures err { IfErr result (λ e. IsRefused text.now e) }
     {
-        let bytes = text.as_bytes();
-        let Ok(found) = INumber::in_one_pass(alloc, bytes) else {
-            return Err(ParseNumberError::Memory);
+        // where its memory is refused, the text may still be no number
+        if let Ok(Some((number, length))) = INumber::at_front(alloc, text) {
+            if length == text.len() {
+                return Ok(number);
+            }
+        }
+        let Some(spelling) = exact::read(text.as_bytes()) else {
+            return Err(ParseNumberError::Invalid);
         };
-        if let Some(number) = found {
-            return Ok(number);
-        }
-        match exact::read(bytes) {
-            Some(spelling) => INumber::from_spelling(alloc, &spelling),
-            None => Err(ParseNumberError::Invalid),
-        }
-    }
-
-    /// The number that the whole text spells, where the pass of `at_front` reads all of it. No memory is taken before that is known.
-    fn in_one_pass(alloc: Global, text: &[u8]) -> Result<Option<INumber>, AllocError>
-        ensures found { IfOk result (λ found. IfSome found (λ n. Spells text.now n.decimal)) }
-        ensures refused { OnErr result (IsRefused text.now Memory) }
-    {
-        let Some((prefix, rest)) = read_mantissa(text) else {
-            return Ok(None);
+        let Some(scanned) = spelling.scan() else {
+            return Err(ParseNumberError::Invalid);
         };
-        if rest.is_empty() {
-            let number = INumber::from_prefix(alloc, &prefix)?;
-            return Ok(Some(number));
-        }
-        let Some((power, length)) = read_power(rest) else {
-            return Ok(None);
-        };
-        if length < rest.len() {
-            return Ok(None);
-        }
-        let number = INumber::from_power(alloc, &prefix, power)?;
-        Ok(Some(number))
+        let number = INumber::from_scanned(alloc, &scanned)?;
+        Ok(number)
     }
 
     /// The number that the text begins with, and how many bytes spell it, in one pass over them, where it has at most 19
@@ -137,10 +119,10 @@ impl INumber {
             return Ok(None);
         };
         if goes_on(rest) {
-            let found = INumber::with_exponent(alloc, &prefix, rest)?;
+            let found = INumber::with_exponent(alloc, prefix, rest)?;
             return Ok(found);
         }
-        let number = INumber::from_prefix(alloc, &prefix)?;
+        let number = INumber::from_prefix(alloc, prefix)?;
         Ok(Some((number, prefix.length)))
     }
 
@@ -149,19 +131,19 @@ impl INumber {
     #[inline(never)]
     fn with_exponent(
         alloc: Global,
-        prefix: &Prefix,
+        prefix: Prefix,
         rest: &[u8],
     ) -> Result<Option<(INumber, usize)>, AllocError>
-        requires mantissa { (text : List ℕ) × IsMantissa text prefix.now rest.now }
-        requires length { prefix.now.length + length rest.now < 2 ^ 64 }
-        ensures found { IfOk result (λ found. IfSome found (λ f. (text : List ℕ) → IsMantissa text prefix.now rest.now
+        requires mantissa { (text : List ℕ) × IsMantissa text prefix rest.now }
+        requires length { prefix.length + length rest.now < 2 ^ 64 }
+        ensures found { IfOk result (λ found. IfSome found (λ f. (text : List ℕ) → IsMantissa text prefix rest.now
             → (f.1 ≤ length text) × Spells (take f.1 text) f.0.decimal)) }
-        ensures stops { IfOk result (λ found. IfSome found (λ f. (text : List ℕ) → IsMantissa text prefix.now rest.now
+        ensures stops { IfOk result (λ found. IfSome found (λ f. (text : List ℕ) → IsMantissa text prefix rest.now
             → GoesOnWithNone (drop f.1 text))) }
         ensures power { IfOk result (λ found. IfSome found (λ f. (behind : List ℕ)
-            → IsPowerTail rest.now behind → f.1 + length behind ≡ prefix.now.length + length rest.now)) }
+            → IsPowerTail rest.now behind → f.1 + length behind ≡ prefix.length + length rest.now)) }
         ensures none { IfOk result (λ found. IfNone found ((behind : List ℕ) → IsPowerTail rest.now behind → ⊥)) }
-        ensures refused { OnErr result ((text : List ℕ) → IsMantissa text prefix.now rest.now
+        ensures refused { OnErr result ((text : List ℕ) → IsMantissa text prefix rest.now
             → (count : ℕ) × IsRefused (take count text) Memory × GoesOnWithNone (drop count text)) }
     {
         let Some((power, length)) = read_power(rest) else {

@@ -2,8 +2,8 @@
 use Rattle.std.proofs.Common.{◌≡◌, ℕ, ◌^◌, ◌<◌, min, Bool, true, false, arith, ◌⊎◌, inl, inr}
 use Rattle.std.specs.Prelude.{ℤ, pos, neg_ℤ, ◌+ℤ◌, ◌-ℤ◌, nat_eq, nat_abs, int_le, IsTrue}
 use Rattle.std.proofs.lemmas.Int.{ints}
-use mir.Syntax.{w32, w128}
-use mir.Val.{SFits, to_z, of_z}
+use mir.Syntax.{w32}
+use mir.Val.{to_z, of_z}
 use Rattle.ijson_number.specs.Decimal.{Decimal}
 use Rattle.ijson_number.specs.Num.{exponent_limit, is_in_range}
 use Rattle.ijson_number.proofs.BooleanTests.{test_le, le_test, test_zero, abs_zero, both_of, both_hold, one_of, second_holds}
@@ -20,9 +20,6 @@ pub within_capped : (negative : Bool) (v f k : ℕ) (w e : ℤ) → f < 2 ^ 64 �
     → e ≡ w +ℤ (pos k -ℤ pos f) → IsWithin (exponent_of (signed negative v) f k) → IsWithin e
 within_capped true v f k w e hf hk hw he h = (omega (arith, ints), omega (arith, ints))
 within_capped false v f k w e hf hk hw he h = (omega (arith, ints), omega (arith, ints))
-
-pub cast_within : (e : ℤ) → SFits w128 e → IsWithin e → to_z w32 (of_z w32 (to_z w128 (of_z w128 e))) ≡ e
-cast_within e fits h = omega (arith, ints)
 
 pub w32_within : (e : ℤ) → IsWithin e → to_z w32 (of_z w32 e) ≡ e
 w32_within e h = omega (arith, ints)

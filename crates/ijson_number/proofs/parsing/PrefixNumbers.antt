@@ -1,5 +1,5 @@
 -- The digits at the front of a text, and an exponent behind them.
-use Rattle.std.proofs.Common.{◌≡◌, ◌∙◌, ◌⊎◌, get_or, ℕ, ◌+◌, ◌-◌, ◌<◌, ◌≤◌, ◌^◌, Bool, true, false, List, [], ◌∷◌, ◌++◌, length, drop, take, refl, sym, ap, subst, inl, inr, append_assoc, take_all, arith}
+use Rattle.std.proofs.Common.{◌≡◌, ◌∙◌, ◌⊎◌, get_or, ℕ, ◌+◌, ◌-◌, ◌<◌, ◌≤◌, ◌^◌, Bool, true, false, List, [], ◌∷◌, ◌++◌, length, drop, take, refl, sym, ap, inl, inr, append_assoc, arith}
 use Rattle.std.specs.Prelude.{ℤ, pos, neg_ℤ, ◌-ℤ◌, nat_lt, ◌||◌}
 use Rattle.std.proofs.Math.Seq.{drop-append-add, drop-append_seam, take-append_seam}
 use Rattle.std.proofs.Math.Bool.{or-false, or-true}
@@ -9,7 +9,7 @@ use Rattle.ijson_number.specs.Grammar.{AllDigits, IsExponent, IsMinus, IsSigned,
 use Rattle.ijson_number.specs.Num.{IsNum}
 use Rattle.ijson_number.specs.Strips.{signed}
 use Rattle.ijson_number.specs.declared.parse.prefix.Prefix.{Prefix}
-use Rattle.ijson_number.specs.private.Prefix.{IsPrefix, IsMantissa, IsPower, IsPowerSmall, prefix_number, power_number}
+use Rattle.ijson_number.specs.private.Prefix.{IsPrefix, IsMantissa, IsPower, IsPowerSmall, power_number}
 use Rattle.ijson_number.specs.private.Reading.{IsExponentSignTaken, IsSignTaken}
 use Rattle.ijson_number.specs.private.PrefixDigits.{IsTaken}
 use Rattle.ijson_number.proofs.storing.FewDigits.{parts_number}
@@ -119,20 +119,6 @@ module _ (text : List ℕ) (f : Prefix) (rest : List ℕ) (m : IsMantissa text f
       let point : nat_lt 0 f.scale || true ≡ true = or-true _ in
       let long = ap length m.text_is ∙ length-append front rest in
       (omega (arith, long, m.length_is, is.within), rw (taken count is.within, ← point) n.0, rw (← point) n.2)
-
-  -- where nothing stands behind the digits, the whole text is that number
-  pub whole_front : length rest ≡ 0 → Spells text (prefix_number f) × IsNum (prefix_number f)
-  whole_front none =
-      let all : take f.length text ≡ text = take_all f.length text (omega (arith, whole_length)) in
-      (subst (λ t. Spells t (prefix_number f)) all front_of.spelled, front_of.num)
-
-  -- where nothing stands behind the exponent, the whole text is that number
-  pub whole_power : (power : ℤ) (count : ℕ) → IsPower rest power count → length rest ≤ count
-      → Spells text (power_number f power) × IsNum (power_number f power)
-  whole_power power count is last =
-      let all : take (f.length + count) text ≡ text = take_all (f.length + count) text (omega (arith, whole_length)) in
-      let n = power_of power count is in
-      (subst (λ t. Spells t (power_number f power)) all n.1, n.2)
 
 -- digits with no sign in front are a signed number
 signed_of : (ds : List ℕ) (z : ℤ) → 0 < length ds → AllDigits ds → z ≡ pos (value ds) → IsSigned ds z

@@ -109,13 +109,13 @@ value_is n z p v =
 pub value_one : (n : Decimal) (y z : ℤ) → IsPlain n → HasValue n y → HasValue n z → y ≡ z
 value_one n y z p v w = (value_is n y p v).1 ∙ sym (value_is n z p w).1
 
--- the number so far of at most nineteen digits, before the last of them
-pub word_so_far : (ds : List ℕ) (i : ℕ) → All (λ d. d < 10) ds → i < length ds → length ds ≤ 19
-    → number_from_digits 10 (take i ds) < 10 ^ 18
-word_so_far ds i h m l =
+-- the number so far of at most twenty digits, before the last of them
+pub number_so_far : (ds : List ℕ) (i : ℕ) → All (λ d. d < 10) ds → i < length ds → length ds ≤ 20
+    → number_from_digits 10 (take i ds) < 10 ^ 19
+number_so_far ds i h m l =
     let b = number_lt 10 (take i ds) (below_take i ds (recursion_from_All (λ d. d < 10) ds h)) in
-    let t : length (take i ds) ≤ 18 = rw (length-take i ds) (omega arith) in
-    let p = power_le (length (take i ds)) 18 t in
+    let t : length (take i ds) ≤ 19 = rw (length-take i ds) (omega arith) in
+    let p = power_le (length (take i ds)) 19 t in
     omega arith
 
 -- and with its zeros

@@ -2,7 +2,7 @@
 use Rattle.std.proofs.Common.{◌≡◌, ℕ, zero, suc, ◌+◌, ◌-◌, ◌*◌, ◌/◌, ◌%◌, ◌^◌, ◌<◌, ◌≤◌, min, get_or, replicate, take, drop, List, [], ◌∷◌, ◌++◌, length, refl, sym, ap, ◌∙◌, inl, inr, arith, append_assoc, pow-add}
 use Rattle.std.proofs.lemmas.Bool.{cases_lt}
 use Rattle.std.proofs.lemmas.Fmt.{decimal_digit, decimal_nonempty, first_decimal, length-decimal-le}
-use Rattle.std.proofs.lemmas.List.{append-nil, get_or_append_left, get_or-replicate, get_or-take, length-replicate, replicate_more, take_at, drop_at}
+use Rattle.std.proofs.lemmas.List.{append-nil, get_or_append_left, get_or-replicate, get_or-take, length-drop, length-replicate, replicate_more, take_all, take_at, drop_at}
 use Rattle.std.proofs.Math.Nat.{pow-succ'}
 use Rattle.std.specs.Fmt.{decimal}
 use native.Mathlib.Nat.{add-mul-div_left, div-div-eq-div-mul, div-le_self, div-lt_iff_lt-mul}
@@ -43,14 +43,15 @@ last_split count (suc p) n =
     ∙ ap (λ l. l ++ (48 + n % 10) ∷ []) (last_split count p (n / 10) ∙ ap (λ m. last_digits count m ++ last_digits p (n / 10)) over)
     ∙ append_assoc (last_digits count (n / 10 ^ suc p)) (last_digits p (n / 10)) ((48 + n % 10) ∷ [])
 
--- the powers of ten of both parts of a row of 16 digits
-row_powers : (scale : ℕ) → scale < 16 → 10 ^ (16 - scale) * 10 ^ scale ≡ 10 ^ 16
-row_powers scale few = let both : 16 - scale + scale ≡ 16 = omega arith in sym (pow-add 10 (16 - scale) scale) ∙ ap (λ k. 10 ^ k) both
+-- the powers of ten of both parts of a row of digits
+row_powers : (row scale : ℕ) → scale ≤ row → 10 ^ (row - scale) * 10 ^ scale ≡ 10 ^ row
+row_powers row scale few =
+    let both : row - scale + scale ≡ row = omega arith in sym (pow-add 10 (row - scale) scale) ∙ ap (λ k. 10 ^ k) both
 
--- a row of 16 digits is those before the places, and those behind them
-row_split : (scale n : ℕ) → scale < 16 → last_digits 16 n ≡ last_digits (16 - scale) (n / 10 ^ scale) ++ last_digits scale n
-row_split scale n few = let both : 16 - scale + scale ≡ 16 = omega arith in ap (λ k. last_digits k n) (sym both)
-    ∙ last_split (16 - scale) scale n
+-- a row of digits is those before the places, and those behind them
+row_split : (row scale n : ℕ) → scale ≤ row → last_digits row n ≡ last_digits (row - scale) (n / 10 ^ scale) ++ last_digits scale n
+row_split row scale n few = let both : row - scale + scale ≡ row = omega arith in ap (λ k. last_digits k n) (sym both)
+    ∙ last_split (row - scale) scale n
 
 -- a number that fits into so many digits has zeros in front of it there
 fitted : (count n : ℕ) → 1 ≤ count → n < 10 ^ count → n < 10 ^ 64
@@ -98,7 +99,7 @@ module _ (n scale : ℕ) (small : n < 10 ^ 16) (few : scale < 16) (lanes : List 
   end = 16 - scale
 
   whole_below : whole < 10 ^ end
-  whole_below = (div-lt_iff_lt-mul (ten_pos scale)).1 (rw (row_powers scale few) small)
+  whole_below = (div-lt_iff_lt-mul (ten_pos scale)).1 (rw (row_powers 16 scale (omega arith)) small)
 
   whole_small : whole < 2 ^ 64
   whole_small = let most : 10 ^ end ≤ 10 ^ 16 = power_le end 16 (omega arith) in omega (arith, whole_below)
@@ -110,7 +111,7 @@ module _ (n scale : ℕ) (small : n < 10 ^ 16) (few : scale < 16) (lanes : List 
   lead = end - length shown
 
   row_is : lanes ≡ replicate lead 48 ++ (shown ++ last_digits scale n)
-  row_is = is ∙ row_split scale n few
+  row_is = is ∙ row_split 16 scale n (omega arith)
       ∙ ap (λ l. l ++ last_digits scale n) (fitted end whole (omega arith) whole_below (omega (arith, whole_small)))
       ∙ append_assoc (zeros_text lead) shown (last_digits scale n)
 
@@ -132,43 +133,80 @@ module _ (n scale : ℕ) (small : n < 10 ^ 16) (few : scale < 16) (lanes : List 
       let count : end - lead ≡ length shown = omega arith in
       rw (start_is start s, count) (shown_at lanes zeros shown (last_digits scale n) lead row_is counted)
 
--- a number of more than 16 digits: those in front, and those of the last row before the places
-module _ (magnitude scale : ℕ) (few : scale < 16) (word : magnitude < 2 ^ 64) (wide : 10 ^ 16 ≤ magnitude) where
+-- a number of at most 15 digits, behind the zeros before it in a row of 16
+module _ (n : ℕ) (small : n < 10 ^ 15) (lanes : List ℕ) (is : lanes ≡ last_digits 16 n) (zeros : ℕ)
+    (counted : IsZerosInFront lanes zeros) where
+  zero_first : get_or lanes 0 0 ≡ 48
+  zero_first =
+      let none : n / 10 ^ 15 ≡ 0 = omega arith in
+      rw (is, row_split 16 15 n (omega arith), none, last_zeros 1) refl
+
+  pub some_zeros : 0 < zeros
+  some_zeros = elim (cases_lt 0 zeros) [
+    | inl some ↦ some
+    | inr none ↦ (let at : zeros ≡ 0 = omega arith in absurd (counted.stops (omega arith) (rw at zero_first)))
+  ]
+
+  pub zero_before : get_or lanes (zeros - 1) 0 ≡ 48
+  zero_before = let some = some_zeros in
+      sym (get_or-take zeros lanes (zeros - 1) 0 (omega arith)) ∙ rw counted.zeros (get_or-replicate zeros (zeros - 1) 48 0 (omega arith))
+
+  pub number_behind : drop zeros lanes ≡ decimal n
+  number_behind =
+      let same : n / 10 ^ 0 ≡ n = omega arith in
+      let few = counted.few in
+      let long : length lanes ≡ 16 = ap (λ (l : List ℕ). length l) is ∙ last_count 16 n in
+      sym (take_all (16 - zeros) (drop zeros lanes) (omega (arith, length-drop zeros lanes)))
+      ∙ front_is n 0 (omega arith) (omega arith) lanes is zeros counted zeros (omega arith) ∙ ap decimal same
+
+-- the digits of a row behind its first one
+pub but_first : (n : ℕ) → drop 1 (last_digits 16 n) ≡ last_digits 15 n
+but_first n = ap (drop 1) (row_split 16 15 n (omega arith))
+    ∙ drop_at (last_digits 1 (n / 10 ^ 15)) (last_digits 15 n) 1 (last_count 1 (n / 10 ^ 15))
+
+-- the digits behind the point
+pub behind_point : (n scale : ℕ) → scale < 16 → drop (16 - scale) (last_digits 16 n) ≡ last_digits scale (n % 10 ^ scale)
+behind_point n scale few = ap (drop (16 - scale)) (row_split 16 scale n (omega arith))
+    ∙ drop_at (last_digits (16 - scale) (n / 10 ^ scale)) (last_digits scale n) (16 - scale) (last_count (16 - scale) (n / 10 ^ scale))
+    ∙ sym (last_rest scale n)
+
+-- a number of more than 15 digits: those in front, and the last 15
+module _ (magnitude scale : ℕ) (few : scale < 16) (word : magnitude < 2 ^ 64) (wide : 10 ^ 15 ≤ magnitude) where
   abbrev before : ℕ
-  before = 16 - scale
+  before = 15 - scale
 
   abbrev last : ℕ
-  last = magnitude % 10 ^ 16
+  last = magnitude % 10 ^ 15
 
   last_below : last / 10 ^ scale < 10 ^ before
-  last_below = (div-lt_iff_lt-mul (ten_pos scale)).1 (rw (row_powers scale few) (omega arith))
+  last_below = (div-lt_iff_lt-mul (ten_pos scale)).1 (rw (row_powers 15 scale (omega arith)) (omega arith))
 
-  over : magnitude / 10 ^ scale ≡ magnitude / 10 ^ 16 * 10 ^ before + last / 10 ^ scale
+  over : magnitude / 10 ^ scale ≡ magnitude / 10 ^ 15 * 10 ^ before + last / 10 ^ scale
   over =
-      let first : ℕ = magnitude / 10 ^ 16 in
-      let times : 10 ^ scale * (first * 10 ^ before) ≡ first * 10 ^ 16 = rw (← row_powers scale few) (grind arith) in
+      let first : ℕ = magnitude / 10 ^ 15 in
+      let times : 10 ^ scale * (first * 10 ^ before) ≡ first * 10 ^ 15 = rw (← row_powers 15 scale (omega arith)) (grind arith) in
       let parts : magnitude ≡ last + 10 ^ scale * (first * 10 ^ before) = omega arith in
       let sum : last / 10 ^ scale + first * 10 ^ before ≡ first * 10 ^ before + last / 10 ^ scale = omega arith in
       ap (λ n. n / 10 ^ scale) parts ∙ add-mul-div_left last (first * 10 ^ before) (ten_pos scale) ∙ sum
 
-  pub wide_whole : decimal (magnitude / 10 ^ 16) ++ take before (last_digits 16 last) ≡ decimal (magnitude / 10 ^ scale)
+  pub wide_whole : decimal (magnitude / 10 ^ 15) ++ take before (last_digits 15 last) ≡ decimal (magnitude / 10 ^ scale)
   wide_whole =
-      let lanes : take before (last_digits 16 last) ≡ last_digits before (last / 10 ^ scale) = ap (take before) (row_split scale last few)
+      let lanes : take before (last_digits 15 last) ≡ last_digits before (last / 10 ^ scale) =
+      ap (take before) (row_split 15 scale last (omega arith))
       ∙ take_at (last_digits before (last / 10 ^ scale)) (last_digits scale last) before (last_count before (last / 10 ^ scale)) in
-      let small : magnitude / 10 ^ 16 * 10 ^ before + last / 10 ^ scale < 10 ^ 64 =
+      let small : magnitude / 10 ^ 15 * 10 ^ before + last / 10 ^ scale < 10 ^ 64 =
       rw (← over) (let le = div-le_self magnitude (10 ^ scale) in omega arith) in
-      rw lanes (sym (ap decimal over ∙ joined before (magnitude / 10 ^ 16) (last / 10 ^ scale) (omega arith) last_below small))
+      rw lanes (sym (ap decimal over ∙ joined before (magnitude / 10 ^ 15) (last / 10 ^ scale) (omega arith) last_below small))
 
--- the digits behind the point
-pub behind_point : (magnitude scale : ℕ) → scale < 16
-    → drop (16 - scale) (last_digits 16 (magnitude % 10 ^ 16)) ≡ last_digits scale (magnitude % 10 ^ scale)
-behind_point magnitude scale few =
-    let last : ℕ = magnitude % 10 ^ 16 in
-    let lanes : drop (16 - scale) (last_digits 16 last) ≡ last_digits scale last = ap (drop (16 - scale)) (row_split scale last few)
-    ∙ drop_at (last_digits (16 - scale) (last / 10 ^ scale)) (last_digits scale last) (16 - scale)
-    (last_count (16 - scale) (last / 10 ^ scale)) in
-    let times : magnitude / 10 ^ 16 * 10 ^ (16 - scale) * 10 ^ scale ≡ magnitude / 10 ^ 16 * 10 ^ 16 =
-    rw (← row_powers scale few) (grind arith) in
-    let parts : magnitude / 10 ^ 16 * 10 ^ (16 - scale) * 10 ^ scale + last ≡ magnitude = omega arith in
-    lanes ∙ sym (last_behind scale (magnitude / 10 ^ 16 * 10 ^ (16 - scale)) last) ∙ ap (last_digits scale) parts
-    ∙ sym (last_rest scale magnitude)
+  pub wide_rest : last_digits scale (last % 10 ^ scale) ≡ last_digits scale (magnitude % 10 ^ scale)
+  wide_rest =
+      let times : magnitude / 10 ^ 15 * 10 ^ before * 10 ^ scale ≡ magnitude / 10 ^ 15 * 10 ^ 15 =
+      rw (← row_powers 15 scale (omega arith)) (grind arith) in
+      let parts : magnitude / 10 ^ 15 * 10 ^ before * 10 ^ scale + last ≡ magnitude = omega arith in
+      last_rest scale last ∙ sym (last_behind scale (magnitude / 10 ^ 15 * 10 ^ before) last) ∙ ap (last_digits scale) parts
+      ∙ sym (last_rest scale magnitude)
+
+  pub wide_decimal : decimal (magnitude / 10 ^ 15) ++ last_digits 15 last ≡ decimal magnitude
+  wide_decimal =
+      let parts : magnitude / 10 ^ 15 * 10 ^ 15 + last ≡ magnitude = omega arith in
+      sym (ap decimal (sym parts) ∙ joined 15 (magnitude / 10 ^ 15) last (omega arith) (omega arith) (omega arith))

@@ -4,7 +4,7 @@ use Rattle.std.specs.Int.Digits.{AllBelowBase}
 use Rattle.std.specs.List.{All, AllByRecursion, prefix_len}
 use Rattle.std.proofs.lemmas.Bool.{cases_eq}
 use Rattle.std.proofs.lemmas.Bool.Decides.{nat_tests}
-use Rattle.std.proofs.lemmas.List.{drop-drop, drop-map, length-replicate, length-take-le, take_all, take-append-le}
+use Rattle.std.proofs.lemmas.List.{drop-drop, drop-map, drop_more, length-replicate, length-take-le, take_all, take_at, take-append-le}
 use Rattle.std.proofs.lemmas.List.Elements.{recursion_from_All}
 use Rattle.std.proofs.lemmas.List.Sums.{prefix_len-le-length, prefix_len_passes, prefix_len_stops}
 use Rattle.std.proofs.lemmas.Simd.{bitmask_splat, leading_from_mask_l, length-zip2, trailing_mask_l, zip2_splat}
@@ -12,13 +12,15 @@ use lib.Count.{count_trailing_zeros}
 use lib.Lanes.{number_l, digits_l, mask_l, top, zip2}
 use lib.Seq.{get_or-append-add, take-append-add}
 use mir.Syntax.{w8}
-use Rattle.std.proofs.lemmas.Str.{IsAscii-append}
-use Rattle.std.proofs.lemmas.Str.Ascii.{IsAscii-nil, IsAscii-cons}
+use mir.Val.{bool_byte}
+use Rattle.std.proofs.lemmas.Str.{IsAscii-append, IsAscii-drop}
+use Rattle.std.proofs.lemmas.Str.Ascii.{All-from_ascii, IsAscii-nil, IsAscii-cons}
 use Rattle.std.specs.Str.{IsAscii}
 use Rattle.std.specs.String.Boundary.{IsSplitPoint}
-use Rattle.ijson_number.specs.Text.{digits_text}
+use Rattle.ijson_number.specs.Text.{digits_text, minus_text}
 use Rattle.ijson_number.specs.private.WordText.{last_digits}
 use Rattle.ijson_number.specs.private.ZerosInFront.{IsZerosInFront}
+use Rattle.ijson_number.proofs.writing.AsciiTexts.{digits_text_ascii}
 
 -- ---- the digits of pairs
 
@@ -157,7 +159,7 @@ module _ (old added : List ℕ) (ascii : IsAscii added) (count end : ℕ) (few :
   pub cut : take end (old ++ added) ≡ old ++ take count added
   cut = ap (λ n. take n (old ++ added)) is ∙ take-append-add old added count
 
-zeros_ascii : (n : ℕ) → IsAscii (replicate n 0)
+pub zeros_ascii : (n : ℕ) → IsAscii (replicate n 0)
 zeros_ascii zero = IsAscii-nil
 zeros_ascii (suc n) = IsAscii-cons 0 (replicate n 0) (omega arith) (zeros_ascii n)
 
@@ -179,8 +181,73 @@ module _ (lanes : List ℕ) (long : length lanes ≡ 16) (start count : ℕ) (wi
     length-replicate {A = ℕ} start 0,
   )
 
+  pub front_all : length front ≡ 16
+  front_all = omega (
+    arith,
+    length-append (drop start lanes)
+        (replicate start 0),
+    length-drop start lanes,
+    length-replicate {A = ℕ} start 0,
+  )
+
   pub front_taken : take count front ≡ take count (drop start lanes)
   front_taken = take-append-le count (drop start lanes) (replicate start 0) (omega (arith, length-drop start lanes))
+
+-- ---- a minus in the place of a zero
+
+abbrev pub less : ℕ → ℕ → ℕ
+less a b = (a + (2 ^ 8 - b)) % 2 ^ 8
+
+less_nothing : (bs : List ℕ) (n : ℕ) → length bs ≡ n → AllByRecursion (λ b. b < 128) bs → zip2 less bs (replicate n 0) ≡ bs
+less_nothing [] n long h = refl
+less_nothing (b ∷ bs) zero long h = absurd (omega arith)
+less_nothing (b ∷ bs) (suc n) long h =
+    let first : less b 0 ≡ b = omega (arith, h.0) in let rest = less_nothing bs n (omega arith) h.1 in λ i. first i ∷ rest i
+
+-- a row from a start on, at the front behind the minus, if there is one
+module _ (lanes : List ℕ) (long : length lanes ≡ 16) (ascii : IsAscii lanes) (start : ℕ) (some : (0 < start) × (start ≤ 16))
+    (zero_before : get_or lanes (start - 1) 0 ≡ 48) where
+  abbrev behind : ℕ → List ℕ
+  behind begin = drop start lanes ++ replicate begin 0
+
+  pub behind_ascii : (begin : ℕ) → IsAscii (behind begin)
+  behind_ascii begin = IsAscii-append (drop start lanes) (replicate begin 0) (IsAscii-drop lanes start ascii) (zeros_ascii begin)
+
+  behind_low : (begin : ℕ) → AllByRecursion (λ b. b < 128) (behind begin)
+  behind_low begin = recursion_from_All (λ b. b < 128) (behind begin) (All-from_ascii (behind begin) (behind_ascii begin))
+
+  behind_long : (begin : ℕ) → length (behind begin) ≡ 16 - start + begin
+  behind_long begin = omega (
+    arith,
+    length-append (drop start lanes)
+        (replicate begin 0),
+    length-drop start lanes,
+    length-replicate {A = ℕ} begin 0,
+  )
+
+  pub signed_row : (negative : Bool) (begin minus : ℕ) → begin ≡ start - bool_byte negative → minus ≡ bool_byte negative
+      → zip2 less (drop begin lanes ++ replicate begin 0) (3 * minus ∷ replicate 15 0) ≡ minus_text negative ++ behind begin
+  signed_row true begin minus from is =
+      let next : begin + 1 ≡ start = omega arith in
+      let zero : get_or lanes begin 0 ≡ 48 = ap (λ n. get_or lanes n 0) from ∙ zero_before in
+      let cut : drop begin lanes ≡ 48 ∷ drop start lanes = drop_more lanes begin 0 (omega arith)
+      ∙ (λ i. zero i ∷ drop (next i) lanes) in
+      let first : less 48 (3 * minus) ≡ 45 = rw is refl in
+      let rest = less_nothing (behind begin) 15 (omega (arith, behind_long begin)) (behind_low begin) in
+      ap (λ l. zip2 less (l ++ replicate begin 0) (3 * minus ∷ replicate 15 0)) cut ∙ (λ i. first i ∷ rest i)
+  signed_row false begin minus from is =
+      let none : 3 * minus ≡ 0 = rw is refl in
+      let at : begin ≡ start = omega arith in
+      ap (λ m. zip2 less (drop begin lanes ++ replicate begin 0) (m ∷ replicate 15 0)) none
+      ∙ ap (λ n. zip2 less (drop n lanes ++ replicate begin 0) (replicate 16 0)) at
+      ∙ less_nothing (behind begin) 16 (omega (arith, behind_long begin)) (behind_low begin)
+
+  pub signed_shown : (negative : Bool) (begin : ℕ) → begin ≡ start - bool_byte negative
+      → take (16 - begin) (minus_text negative ++ behind begin) ≡ minus_text negative ++ drop start lanes
+  signed_shown true begin from =
+      let next : 16 - begin ≡ suc (16 - start) = omega arith in
+      rw next (ap (λ l. 45 ∷ l) (take_at (drop start lanes) (replicate begin 0) (16 - start) (omega (arith, length-drop start lanes))))
+  signed_shown false begin from = take_at (drop start lanes) (replicate begin 0) (16 - begin) (omega (arith, length-drop start lanes))
 
 -- ---- digits that lie in a room
 
@@ -214,3 +281,14 @@ module _ (buffer : List ℕ) (long : length buffer ≡ 19) where
       ∙ drop-map {X = ℕ} {Y = ℕ} digit (16 - count) last
       ∙ ap (map digit) (ap (drop (16 - count)) last_is ∙ drop-drop (16 - count) 3 buffer ∙ ap (λ n. drop n buffer) at)
       ∙ text_from (drop (19 - count) buffer) (recursion_from_All (λ d. d < 10) (drop (19 - count) buffer) below)
+
+-- a row of digits
+module _ (ds : List ℕ) (long : length ds ≡ 16) (below : All (λ d. d < 10) ds) where
+  pub row_text : with_zero ds ≡ digits_text ds
+  row_text = zip2_splat (λ a b. (a + b) % 2 ^ 8) ds 16 48 long ∙ text_from ds (recursion_from_All (λ d. d < 10) ds below)
+
+  pub row_long : length (with_zero ds) ≡ 16
+  row_long = length-zip2 (λ a b. (a + b) % 2 ^ 8) ds (replicate 16 48) long ∙ long
+
+  pub row_ascii : IsAscii (with_zero ds)
+  row_ascii = rw row_text (digits_text_ascii ds below)

@@ -9,18 +9,6 @@ use crate::number::INumber;
 use crate::repr::digits::MAX_DIGITS;
 use std::hash::{Hash, Hasher};
 
-fn sign_word(negative: bool) -> u64
-    ensures { result ≡ (if negative then 2 else 1) }
-{
-    if negative { 2 } else { 1 }
-}
-
-fn exponent_word(exponent: i32) -> u64
-    ensures { result ≡ nat_abs (exponent +ℤ pos 2147483648) }
-{
-    (i64::from(exponent) + 2147483648) as u64
-}
-
 /// Equal numbers feed the same words, and each word is one `write_u64`: 2, and 0 for zero; for another number 2, the
 /// sign (1 above zero, 2 below), the stripped exponent above -2^31, the count of stripped digits and each of these. It takes
 /// time linear in the stripped digits, and no memory.
@@ -38,8 +26,8 @@ impl Hash for INumber {
             state.write_u64(0);
             return;
         }
-        state.write_u64(sign_word(number.negative));
-        state.write_u64(exponent_word(number.exponent));
+        state.write_u64(1 + u64::from(number.negative));
+        state.write_u64((i64::from(number.exponent) + 2147483648) as u64);
         state.write_u64(digits.len() as u64);
         for digit in digits {
             state.write_u64(u64::from(*digit));

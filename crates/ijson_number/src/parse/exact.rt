@@ -150,25 +150,6 @@ pub fn is_whole(digits: &[u8]) -> bool
     digits.len() == 1 || (!digits.is_empty() && digits[0] != b'0')
 }
 
-/// Reads a number's text without its sign: the whole part, and what follows it.
-#[inline(always)]
-fn read_unsigned(bytes: &[u8]) -> Option<(&[u8], Tail<'_>)>
-    ensures found { IfSome result (λ r.
-        let exponent = signed r.1.negative (value r.1.exponent.now) in
-        IsUnsigned bytes.now r.0.now r.1.fraction.now exponent r.1.point) }
-    ensures digits { IfSome result (λ r. AllDigits r.1.exponent.now) }
-    ensures none { IfNone result ((whole fraction : List ℕ) (z : ℤ) (point : Bool)
-        → IsUnsigned bytes.now whole fraction z point
-        → ⊥) }
-{
-    let (whole, rest) = split_digits(bytes);
-    if !is_whole(whole) {
-        return None;
-    }
-    let tail = read_tail(rest)?;
-    Some((whole, tail))
-}
-
 /// The parts of a number's text.
 #[derive(Clone, Copy)]
 pub struct Spelling<'a> {
@@ -185,7 +166,11 @@ pub fn read(text: &[u8]) -> Option<Spelling<'_>>
     ensures none { IfNone result ((p : Parts) → IsSpelled text.now p → ⊥) }
 {
     let (negative, unsigned) = split_sign(text);
-    let (whole, tail) = read_unsigned(unsigned)?;
+    let (whole, rest) = split_digits(unsigned);
+    if !is_whole(whole) {
+        return None;
+    }
+    let tail = read_tail(rest)?;
     Some(Spelling {
         negative,
         whole,
@@ -239,13 +224,6 @@ pub fn capped(digits: &[u8]) -> u128
 /// The greatest stripped exponent. The limit is this project's own.
 pub const EXPONENT_LIMIT: i128 = 1 << 30;
 
-/// Whether a stripped exponent is within the limit.
-fn is_within_limit(exponent: i128) -> bool
-    ensures { IsTrue result ↔ IsWithin exponent }
-{
-    -EXPONENT_LIMIT <= exponent && exponent <= EXPONENT_LIMIT
-}
-
 /// The written exponent, or the cap with its sign where that is nearer to zero.
 fn written_exponent(tail: &Tail<'_>) -> i128
     requires { AllDigits tail.now.exponent.now }
@@ -253,18 +231,6 @@ fn written_exponent(tail: &Tail<'_>) -> i128
 {
     let number = capped(tail.exponent) as i128;
     if tail.negative { -number } else { number }
-}
-
-/// The exponent by the capped one.
-fn capped_exponent(tail: &Tail<'_>, tens: u128) -> i128
-    requires digits { AllDigits tail.now.exponent.now }
-    requires tens { tens < 2 ^ 65 }
-    ensures value { result
-        ≡ signed tail.now.negative (min (value tail.now.exponent.now) CAP)
-        +ℤ (pos tens -ℤ pos (length tail.now.fraction.now)) }
-    ensures fits { FitsSigned w128 result }
-{
-    written_exponent(tail) + (tens as i128 - tail.fraction.len() as i128)
 }
 
 /// The exponent that digits have once tens are taken out: the written one less the count of fraction digits, and
@@ -278,12 +244,11 @@ pub fn stripped_exponent(tail: &Tail<'_>, tens: u128) -> Option<i32>
     ensures none { let written = signed tail.now.negative (value tail.now.exponent.now) in
         IfNone result (IsWithin (exponent_of written (length tail.now.fraction.now) tens) → ⊥) }
 {
-    let exponent = capped_exponent(tail, tens);
-    if is_within_limit(exponent) {
-        Some(exponent as i32)
-    } else {
-        None
+    let exponent = written_exponent(tail) + (tens as i128 - tail.fraction.len() as i128);
+    if exponent < -EXPONENT_LIMIT || EXPONENT_LIMIT < exponent {
+        return None;
     }
+    Some(exponent as i32)
 }
 
 /// A number that isn't too large, whose stripped digits still lie in its text, in two pieces.

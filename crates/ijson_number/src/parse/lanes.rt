@@ -65,16 +65,6 @@ pub fn digit_count(bytes: u8x16) -> usize
     others.trailing_zeros() as usize
 }
 
-/// The first lanes, so many, at the end, and zeros before them.
-#[inline(always)]
-fn moved_back(lanes: u8x16, count: usize) -> u8x16
-    requires all { length lanes ≡ 16 }
-    requires few { count ≤ 16 }
-    ensures { result ≡ replicate (16 - count) 0 ++ take count lanes }
-{
-    lanes.swizzle_dyn(u8x16::from_slice(&BACK[count..]))
-}
-
 /// The number that 16 digits make.
 #[inline(always)]
 fn number_of_lanes(digits: u8x16) -> u64
@@ -98,5 +88,7 @@ pub fn number_of(bytes: u8x16, count: usize) -> u64
     requires digits { AllDigits (take count bytes) }
     ensures { result ≡ value (take count bytes) }
 {
-    number_of_lanes(moved_back(bytes - u8x16::splat(b'0'), count))
+    let digits = bytes - u8x16::splat(b'0');
+    // they come to the end, with zeros before them
+    number_of_lanes(digits.swizzle_dyn(u8x16::from_slice(&BACK[count..])))
 }

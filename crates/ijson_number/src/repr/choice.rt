@@ -10,7 +10,7 @@ use crate::parse::prefix::Prefix;
 use crate::repr::digits::{MAX_DIGITS, push_in_place};
 use crate::repr::stored::Stored;
 use crate::repr::stripped::StrippedNumber;
-use crate::repr::word::{Word, is_packed_mantissa};
+use crate::repr::word::{PACKED_END, Word, is_packed_mantissa};
 use arrayvec::ArrayVec;
 use std::alloc::{AllocError, Global};
 
@@ -18,7 +18,7 @@ use std::alloc::{AllocError, Global};
 pub fn stored_signed(value: i64) -> Stored
     ensures { stored_form result ≡ integer_word value }
 {
-    if is_packed_mantissa(i128::from(value)) {
+    if -PACKED_END <= value && value < PACKED_END {
         Stored::Packed(Word::integer(value))
     } else {
         Stored::I64(value)
@@ -89,32 +89,22 @@ impl StrippedNumber<'_> {
         None
     }
 
-    /// What is stored of a number with a fraction, where it is a word.
-    fn fraction_stored(&self) -> Option<Stored>
-        requires point { self.now.point ≡ true }
-        requires fraction { self.now.exponent <ℤ pos 0 }
-        ensures some { IfSome result (λ s. stored_form s ≡ form_of (decimal_of self.now)) }
-        ensures none { IfNone result (form_of (decimal_of self.now) ≡ digits_form (decimal_of self.now)) }
-    {
-        if self.exponent < -7 {
-            return None;
-        }
-        let mantissa = self.packed_mantissa(0)?;
-        Some(Stored::Packed(Word::pointed(mantissa, self.exponent as i8)))
-    }
-
     /// What is stored of the number, where it is a word and no list of digits.
     pub fn stored(&self) -> Option<Stored>
         ensures some { IfSome result (λ s. stored_form s ≡ form_of (decimal_of self.now)) }
         ensures none { IfNone result (form_of (decimal_of self.now) ≡ digits_form (decimal_of self.now)) }
     {
         if !self.point {
-            self.integer_stored()
-        } else if self.exponent >= 0 {
-            self.whole_stored()
-        } else {
-            self.fraction_stored()
+            return self.integer_stored();
         }
+        if self.exponent >= 0 {
+            return self.whole_stored();
+        }
+        if self.exponent < -7 {
+            return None;
+        }
+        let mantissa = self.packed_mantissa(0)?;
+        Some(Stored::Packed(Word::pointed(mantissa, self.exponent as i8)))
     }
 }
 
@@ -128,29 +118,8 @@ impl INumber {
     ghost use Rattle.ijson_number.specs.private.Scanned.{IsScanned, parts_of, scanned_number};
     ghost use Rattle.ijson_number.specs.private.StrippedNumber.{decimal_of};
 
-    /// The number of the parts.
-    pub(crate) fn from_spelling(
-        alloc: Global,
-        spelling: &Spelling<'_>,
-    ) -> Result<INumber, ParseNumberError>
-        requires spelled { (text : List ℕ) × IsSpelled text (parts_of spelling.now) }
-        requires digits { AllDigits spelling.now.tail.exponent.now }
-        ensures ok { IfOk result (λ n. Denotes (parts_of spelling.now) n.decimal) }
-        ensures err { IfErr result (λ e. (text : List ℕ)
-            → IsSpelled text (parts_of spelling.now)
-            → IsRefused text e) }
-    {
-        let Some(scanned) = spelling.scan() else {
-            return Err(ParseNumberError::Invalid);
-        };
-        let Ok(number) = INumber::from_scanned(alloc, &scanned) else {
-            return Err(ParseNumberError::Memory);
-        };
-        Ok(number)
-    }
-
     /// The number whose digits still lie in its text. Where they are at most 20, they are made digits in a buffer.
-    fn from_scanned(alloc: Global, scanned: &Scanned<'_>) -> Result<INumber, AllocError>
+    pub(crate) fn from_scanned(alloc: Global, scanned: &Scanned<'_>) -> Result<INumber, AllocError>
         requires { IsScanned scanned.now }
         ensures number { IfOk result (λ n. n.decimal ≡ scanned_number scanned.now) }
         ensures refused { OnErr result (is_digits (form_of (scanned_number scanned.now)) ≡ true) }
@@ -174,15 +143,15 @@ impl INumber {
     /// The number of a prefix times a power of ten.
     pub(crate) fn from_power(
         alloc: Global,
-        prefix: &Prefix,
+        prefix: Prefix,
         power: i16,
     ) -> Result<INumber, AllocError>
-        requires few { prefix.now.scale ≤ 19 }
-        requires small { prefix.now.magnitude < 10 ^ 19 }
+        requires few { prefix.scale ≤ 19 }
+        requires small { prefix.magnitude < 10 ^ 19 }
         requires power { IsPowerSmall power }
-        requires num { IsNum (power_number prefix.now power) }
-        ensures number { IfOk result (λ n. n.decimal ≡ power_number prefix.now power) }
-        ensures refused { OnErr result (is_digits (form_of (power_number prefix.now power)) ≡ true) }
+        requires num { IsNum (power_number prefix power) }
+        ensures number { IfOk result (λ n. n.decimal ≡ power_number prefix power) }
+        ensures refused { OnErr result (is_digits (form_of (power_number prefix power)) ≡ true) }
     {
         if let Some(short) = prefix.short_power(power) {
             let number = Box::new(alloc, short)?;
@@ -190,26 +159,54 @@ impl INumber {
                 stored: Stored::Short(number),
             });
         }
-        INumber::from_stripped(alloc, &prefix.stripped_power(power, &mut [0; MAX_DIGITS]))
+        let exponent = power - prefix.scale as i16;
+        let mut buffer = [0; MAX_DIGITS];
+        let number = StrippedNumber::from_magnitude(
+            prefix.negative,
+            prefix.magnitude,
+            exponent,
+            true,
+            &mut buffer,
+        );
+        INumber::from_stripped(alloc, &number)
     }
 
     /// The number of a prefix.
     #[inline(always)]
-    pub(crate) fn from_prefix(alloc: Global, prefix: &Prefix) -> Result<INumber, AllocError>
-        requires { (text : List ℕ) × IsPrefix text prefix.now }
-        ensures number { IfOk result (λ n. n.decimal ≡ prefix_number prefix.now) }
-        ensures refused { OnErr result (is_digits (form_of (prefix_number prefix.now)) ≡ true) }
+    pub(crate) fn from_prefix(alloc: Global, prefix: Prefix) -> Result<INumber, AllocError>
+        requires { (text : List ℕ) × IsPrefix text prefix }
+        ensures number { IfOk result (λ n. n.decimal ≡ prefix_number prefix) }
+        ensures refused { OnErr result (is_digits (form_of (prefix_number prefix)) ≡ true) }
     {
         if let Some(stored) = prefix.word() {
             return Ok(INumber { stored });
         }
+        INumber::from_digits(alloc, prefix)
+    }
+
+    /// The number of a prefix that no word holds. It stays a call, since its buffers would be cleared for each number that a word holds.
+    #[inline(never)]
+    fn from_digits(alloc: Global, prefix: Prefix) -> Result<INumber, AllocError>
+        requires { (text : List ℕ) × IsPrefix text prefix }
+        ensures number { IfOk result (λ n. n.decimal ≡ prefix_number prefix) }
+        ensures refused { OnErr result (is_digits (form_of (prefix_number prefix)) ≡ true) }
+    {
         if let Some(short) = prefix.short() {
             let number = Box::new(alloc, short)?;
             return Ok(INumber {
                 stored: Stored::Short(number),
             });
         }
-        INumber::from_stripped(alloc, &prefix.stripped(&mut [0; MAX_DIGITS]))
+        let exponent = -(prefix.scale as i16);
+        let mut buffer = [0; MAX_DIGITS];
+        let number = StrippedNumber::from_magnitude(
+            prefix.negative,
+            prefix.magnitude,
+            exponent,
+            prefix.scale > 0,
+            &mut buffer,
+        );
+        INumber::from_stripped(alloc, &number)
     }
 
     /// The number of stripped digits.

@@ -62,30 +62,22 @@ impl ShortDigits {
         })
     }
 
-    /// The digits that the lanes have behind the zeros in front.
-    #[inline(always)]
-    fn of_lanes(lanes: u8x16) -> ShortDigits
-        requires all { length lanes ≡ 16 }
-        ensures { (n : ℕ) → 0 < n → n < 10 ^ 16 → lanes ≡ last_digits 16 n → short_digits result ≡ digits_of 10 n }
-    {
-        let mut buffer = [0; WORD_DIGITS];
-        buffer[WORD_DIGITS - LANES..].copy_from_slice(&(lanes - u8x16::splat(b'0')).to_array());
-        ShortDigits {
-            count: (LANES - zeros_in_front(lanes)) as u8,
-            buffer,
-        }
-    }
-
     /// The digits of a number that isn't zero.
     pub fn of_number(number: u64) -> ShortDigits
         requires some { 0 < number }
         requires few { number < 10 ^ 19 }
         ensures { short_digits result ≡ digits_of 10 number }
     {
+        let mut buffer = [0; WORD_DIGITS];
         if number < LANES_END {
-            return ShortDigits::of_lanes(lanes_of(number));
+            let lanes = lanes_of(number);
+            buffer[WORD_DIGITS - LANES..].copy_from_slice(&(lanes - u8x16::splat(b'0')).to_array());
+            return ShortDigits {
+                count: (LANES - zeros_in_front(lanes)) as u8,
+                buffer,
+            };
         }
-        let (mut text, mut buffer) = ([0; WORD_DIGITS], [0; WORD_DIGITS]);
+        let mut text = [0; WORD_DIGITS];
         let start = write_digits(number, &mut text, WORD_DIGITS);
         make_digits(&text, &mut buffer);
         ShortDigits {
@@ -145,32 +137,18 @@ pub fn place_of(digits: &[u8], exponent: i32) -> i128
     digits.len() as i128 + exponent as i128
 }
 
-/// Takes the tens out of a number that isn't zero, and counts them.
-pub fn without_tens(number: u64) -> (u64, u32)
-    requires { number ≢ 0 }
-    ensures tens { number ≡ result.0 * 10 ^ result.1 }
-    ensures few { result.1 < 20 }
-    ensures stripped { result.0 % 10 ≢ 0 }
+/// Takes the zeros off the end of so many places behind the point, and tells how many places are left.
+pub fn without_zeros(magnitude: u64, scale: usize) -> (u64, usize)
+    ensures tens { magnitude ≡ result.0 * 10 ^ (scale - result.1) }
+    ensures fewer { result.1 ≤ scale }
+    ensures stripped { 0 < result.1 → result.0 % 10 ≢ 0 }
 {
-    let (mut rest, mut tens) = (number, 0);
-    while rest % 10 == 0 {
+    let (mut rest, mut left) = (magnitude, scale);
+    while left > 0 && rest % 10 == 0 {
         rest /= 10;
-        tens += 1;
+        left -= 1;
     }
-    (rest, tens)
-}
-
-/// What so few digits write.
-fn word_of_digits(digits: &[u8]) -> u64
-    requires below_ten { All (λ d. d < 10) digits.now }
-    requires fits { length digits.now ≤ 19 }
-    ensures { result ≡ number_from_digits 10 digits.now }
-{
-    let mut number: u64 = 0;
-    for digit in digits {
-        number = number * 10 + u64::from(*digit);
-    }
-    number
+    (rest, left)
 }
 
 /// What at most twenty digits write.
@@ -179,11 +157,11 @@ fn number_of_digits(digits: &[u8]) -> u128
     requires fits { length digits.now ≤ 20 }
     ensures { result ≡ number_from_digits 10 digits.now }
 {
-    if digits.len() <= WORD_DIGITS {
-        return u128::from(word_of_digits(digits));
+    let mut number: u128 = 0;
+    for digit in digits {
+        number = number * 10 + u128::from(*digit);
     }
-    let most = u128::from(word_of_digits(&digits[..WORD_DIGITS]));
-    most * 10 + u128::from(digits[WORD_DIGITS])
+    number
 }
 
 /// What the digits write, and so many zeros behind them.

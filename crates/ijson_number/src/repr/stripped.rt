@@ -11,7 +11,7 @@ ghost use Rattle.ijson_number.specs.Strips.{signed};
 ghost use Rattle.std.proofs.Props.{props};
 
 use crate::number::INumber;
-use crate::repr::digits::{MAX_DIGITS, make_digits, scaled, without_tens};
+use crate::repr::digits::{MAX_DIGITS, make_digits, scaled, without_zeros};
 use crate::repr::stored::{LongNumber, ShortNumber, Stored};
 use itoa::write_digits;
 
@@ -27,21 +27,10 @@ pub struct StrippedNumber<'a> {
     ghost stripped: { IsStored negative digits.now } by { Prim.hlevel props },
 }
 
-/// Writes the digits of a number that isn't zero to the end of the buffer. Their text is written first, four digits at a time.
-fn written(number: u64, buffer: &mut [u8; MAX_DIGITS]) -> &[u8]
-    requires { 0 < number }
-    ensures { result.now ≡ digits_of 10 number }
-{
-    let mut text = [0; MAX_DIGITS];
-    let start = write_digits(number, &mut text, MAX_DIGITS);
-    make_digits(&text, buffer);
-    &buffer[start..]
-}
-
 impl<'a> StrippedNumber<'a> {
     ghost use Rattle.ijson_number.specs.private.StrippedNumber.{decimal_of};
 
-    /// A mantissa times a power of ten.
+    /// A mantissa times a power of ten. The text of the digits is written first, four at a time.
     pub fn from_magnitude(
         negative: bool,
         magnitude: u64,
@@ -60,11 +49,14 @@ impl<'a> StrippedNumber<'a> {
                 point,
             };
         }
-        let (stripped, tens) = without_tens(magnitude);
+        let (stripped, left) = without_zeros(magnitude, MAX_DIGITS);
+        let mut text = [0; MAX_DIGITS];
+        let start = write_digits(stripped, &mut text, MAX_DIGITS);
+        make_digits(&text, buffer);
         StrippedNumber {
             negative,
-            digits: written(stripped, buffer),
-            exponent: i32::from(exponent) + tens as i32,
+            digits: &buffer[start..],
+            exponent: i32::from(exponent) + (MAX_DIGITS - left) as i32,
             point,
         }
     }

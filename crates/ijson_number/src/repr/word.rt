@@ -14,13 +14,13 @@ pub struct Word {
 const NO_POINT: u64 = 15;
 
 /// One past the greatest mantissa of a packed number.
-pub const PACKED_END: i128 = 1 << 55;
+pub const PACKED_END: i64 = 1 << 55;
 
 /// Whether a mantissa fits a packed number.
 pub fn is_packed_mantissa(mantissa: i128) -> bool
     ensures { result ≡ fits_packed mantissa }
 {
-    -PACKED_END <= mantissa && mantissa < PACKED_END
+    i128::from(-PACKED_END) <= mantissa && mantissa < i128::from(PACKED_END)
 }
 
 impl Word {
@@ -74,19 +74,11 @@ impl Word {
         above as i64 - (sign * (1 << 56)) as i64
     }
 
-    /// Bits 4 to 7.
-    fn code(self) -> u64
-        ensures value { result ≡ word_code self.bits }
-        ensures small { result < 16 }
-    {
-        self.bits / 16 % 16
-    }
-
     /// The exponent.
     pub fn exponent(self) -> i8
         ensures { result ≡ word_exponent self.bits }
     {
-        let code = self.code();
+        let code = self.bits / 16 % 16;
         if code == NO_POINT { 0 } else { code as i8 - 7 }
     }
 
@@ -100,6 +92,6 @@ impl Word {
     pub fn point(self) -> bool
         ensures { result ≡ word_point self.bits }
     {
-        self.code() != NO_POINT
+        self.bits / 16 % 16 != NO_POINT
     }
 }

@@ -9,7 +9,7 @@ ghost use Rattle.ijson_number.specs.Text.{digits_text, minus_text, num_text};
 ghost use Rattle.ijson_number.specs.Stripped.{stripped_number};
 ghost use Rattle.ijson_number.specs.private.SplitText.{split_text};
 ghost use Rattle.ijson_number.specs.private.StrippedNumber.{decimal_of};
-ghost use Rattle.ijson_number.specs.private.WordText.{integer_text, last_digits};
+ghost use Rattle.ijson_number.specs.private.WordText.{integer_text, last_digits, pointed_text};
 
 use crate::number::INumber;
 use crate::parse::lanes::LANES;
@@ -18,77 +18,36 @@ use crate::repr::stored::Stored;
 use crate::repr::stripped::StrippedNumber;
 use crate::write::digits::TEXT_BUFFER;
 use crate::write::display::is_scientific;
-use crate::write::lanes::{LANES_END, lanes_of, push_lanes, zeros_in_front};
+use crate::write::lanes::{
+    LANES_END, SHORT_END, lanes_of, push_lanes, push_rows, push_short, zeros_in_front,
+};
 use std::alloc::AllocError;
 use std::fmt::Write;
 use std::simd::prelude::*;
 
-/// Appends the minus, if there is one. Two bytes are written in any case, and one or both cut off, since a processor cannot guess which
-/// numbers have a minus, and a cut that is made for some alone is a branch.
-fn push_minus(negative: bool, out: &mut String) -> Result<(), AllocError>
-    ensures written { OnOk result (string_bytes out.new ≡ string_bytes out.old ++ minus_text negative) }
-    ensures refused { OnErr result (string_bytes out.new ≡ string_bytes out.old) }
-{
-    let end = out.len() + usize::from(negative);
-    out.push_str("--")?;
-    out.truncate(end);
-    Ok(())
-}
-
-/// Appends the number whose digits the lanes have, without so many of the last ones.
-#[inline(always)]
-fn push_leading(lanes: u8x16, scale: usize, out: &mut String) -> Result<(), AllocError>
-    requires all { length lanes ≡ 16 }
-    requires ascii { IsAscii lanes }
-    requires few { scale < 16 }
-    ensures written { (n : ℕ) → n < 10 ^ 16 → lanes ≡ last_digits 16 n → OnOk result (string_bytes out.new
-        ≡ string_bytes out.old ++ decimal (n / 10 ^ scale)) }
-    ensures refused { OnErr result (string_bytes out.new ≡ string_bytes out.old) }
-{
-    let end = LANES - scale;
-    let start = zeros_in_front(lanes).min(end - 1);
-    push_lanes(lanes, start, end - start, out)
-}
-
-/// Appends a number without so many of its last digits, where `lanes` has the last 16.
-#[inline(always)]
-fn push_whole(
+/// Appends the minus, if there is one, and a whole number over ten to the places, with so many digits behind the point. It stays a
+/// call, as `push_integer` and `push_digits` do: in a longer function a compiler leaves each append of a few bytes a call.
+#[inline(never)]
+fn push_magnitude(
+    negative: bool,
     magnitude: u64,
-    lanes: u8x16,
     scale: usize,
     out: &mut String,
 ) -> Result<(), AllocError>
-    requires lanes { lanes ≡ last_digits 16 (magnitude % 10 ^ 16) }
     requires few { scale < 16 }
-    ensures written { OnOk result (string_bytes out.new ≡ string_bytes out.old ++ decimal (magnitude / 10 ^ scale)) }
-    ensures refused { OnErr result
-        (AppendsBeginning (string_bytes out.old) (string_bytes out.new) (decimal (magnitude / 10 ^ scale))) }
+    ensures written { OnOk result (string_bytes out.new
+        ≡ string_bytes out.old ++ pointed_text negative (magnitude / 10 ^ scale) scale (magnitude % 10 ^ scale)) }
+    ensures refused { OnErr result (AppendsBeginning (string_bytes out.old) (string_bytes out.new)
+        (pointed_text negative (magnitude / 10 ^ scale) scale (magnitude % 10 ^ scale))) }
 {
     if magnitude < LANES_END {
-        return push_leading(lanes, scale, out);
+        let (lanes, end) = (lanes_of(magnitude), LANES - scale);
+        let start = zeros_in_front(lanes).min(end - 1);
+        return push_rows(negative, lanes, start, end - start, lanes, scale, out);
     }
-    push_leading(lanes_of(magnitude / LANES_END), 0, out)?;
-    push_lanes(lanes, 0, LANES - scale, out)
-}
-
-/// Appends a whole number over ten to the places, with so many digits behind the point; without it where there are no places. It
-/// stays a call, as `push_integer` and `push_digits` do: in a longer function a compiler leaves each append of a few bytes a call.
-#[inline(never)]
-fn push_magnitude(magnitude: u64, scale: usize, out: &mut String) -> Result<(), AllocError>
-    requires few { scale < 16 }
-    ensures whole { scale ≡ 0 → OnOk result (string_bytes out.new ≡ string_bytes out.old ++ decimal magnitude) }
-    ensures pointed { 0 < scale → OnOk result (string_bytes out.new
-        ≡ string_bytes out.old ++ (decimal (magnitude / 10 ^ scale) ++ 46 ∷ last_digits scale (magnitude % 10 ^ scale))) }
-    ensures refused { OnErr result (AppendsBeginning (string_bytes out.old) (string_bytes out.new)
-        (decimal (magnitude / 10 ^ scale) ++ 46 ∷ last_digits scale (magnitude % 10 ^ scale))) }
-{
-    let lanes = lanes_of(magnitude % LANES_END);
-    push_whole(magnitude, lanes, scale, out)?;
-    if scale == 0 {
-        return Ok(());
-    }
-    out.push('.')?;
-    push_lanes(lanes, LANES - scale, scale, out)
+    push_short(negative, magnitude / SHORT_END, out)?;
+    let lanes = lanes_of(magnitude % SHORT_END);
+    push_rows(false, lanes, 1, LANES - 1 - scale, lanes, scale, out)
 }
 
 /// Appends an integer without the point.
@@ -98,8 +57,11 @@ fn push_integer(negative: bool, magnitude: u64, out: &mut String) -> Result<(), 
     ensures refused { OnErr result
         (AppendsBeginning (string_bytes out.old) (string_bytes out.new) (integer_text negative magnitude)) }
 {
-    push_minus(negative, out)?;
-    push_whole(magnitude, lanes_of(magnitude % LANES_END), 0, out)
+    if magnitude < SHORT_END {
+        return push_short(negative, magnitude, out);
+    }
+    push_short(negative, magnitude / SHORT_END, out)?;
+    push_lanes(lanes_of(magnitude % SHORT_END), 1, LANES - 1, out)
 }
 
 /// Appends a packed number with the point, where no exponent is written and none is above zero. Where it tells `false` it
@@ -118,54 +80,71 @@ fn push_pointed(mantissa: i64, exponent: i8, out: &mut String) -> Result<bool, A
     if exponent > 0 || (exponent < -6 && magnitude < 10) {
         return Ok(false);
     }
-    push_minus(negative, out)?;
-    push_magnitude(magnitude, usize::from(exponent.unsigned_abs()), out)?;
     if exponent == 0 {
+        push_integer(negative, magnitude, out)?;
         out.push_str(".0")?;
+        return Ok(true);
     }
+    let scale = usize::from(exponent.unsigned_abs());
+    push_magnitude(negative, magnitude, scale, out)?;
     Ok(true)
 }
 
 impl StrippedNumber<'_> {
-    /// Appends the minus, if there is one, and the digits, all of which `lanes` has at its end, with the point before the last so many.
-    /// It is no call of its own, since `push_digits` is one already, and appends most numbers that have a point.
+    /// Appends the minus, if there is one, and the digits with the point before the last so many. At most 16 of them stand on either
+    /// side, and `lanes` has all at its end where there are no more. It is no call of its own, since `push_digits` is one already,
+    /// and appends most numbers that have a point.
     #[inline(always)]
     fn push_split(&self, lanes: u8x16, scale: usize, out: &mut String) -> Result<(), AllocError>
         requires all { length lanes ≡ 16 }
-        requires few { length self.now.digits.now ≤ 16 }
         requires inside { scale ≤ length self.now.digits.now }
-        requires lanes { drop (16 - length self.now.digits.now) lanes ≡ digits_text self.now.digits.now }
+        requires whole { length self.now.digits.now ≤ scale + 16 }
+        requires places { scale ≤ 16 }
+        requires lanes { length self.now.digits.now ≤ 16
+            → drop (16 - length self.now.digits.now) lanes ≡ digits_text self.now.digits.now }
         ensures written { OnOk result (string_bytes out.new ≡ string_bytes out.old
             ++ split_text self.now.negative self.now.digits.now (length self.now.digits.now - scale)) }
-        ensures refused { OnErr result (AppendsBeginning (string_bytes out.old) (string_bytes out.new)
-            (split_text self.now.negative self.now.digits.now (length self.now.digits.now - scale))) }
+        ensures refused { OnErr result (string_bytes out.new ≡ string_bytes out.old) }
     {
         let count = self.digits.len();
-        push_minus(self.negative, out)?;
-        push_lanes(lanes, LANES - count, count - scale, out)?;
-        out.push('.')?;
-        push_lanes(lanes, LANES - scale, scale, out)
+        let before = count - scale;
+        if count <= LANES {
+            return push_rows(
+                self.negative,
+                lanes,
+                LANES - count,
+                before,
+                lanes,
+                scale,
+                out,
+            );
+        }
+        let zero = u8x16::splat(b'0');
+        let whole = u8x16::from_slice(self.digits) + zero;
+        let last = u8x16::from_slice(&self.digits[count - LANES..]) + zero;
+        push_rows(self.negative, whole, 0, before, last, scale, out)
     }
 
-    /// Appends the number, where its text has an exponent and two digits or more, all of which `lanes` has at its end. Where it tells
-    /// `false` it appended nothing. It stays a call, as `push_digits` does.
+    /// Appends the number, where its text has an exponent and two to 17 digits. If these are no more than 16, `lanes` has them at its
+    /// end. Where it tells `false` it appended nothing. It stays a call, as `push_digits` does.
     #[inline(never)]
     fn push_scientific(&self, lanes: u8x16, out: &mut String) -> Result<bool, AllocError>
         requires all { length lanes ≡ 16 }
-        requires few { length self.now.digits.now ≤ 16 }
         requires point { self.now.point ≡ true }
-        requires lanes { drop (16 - length self.now.digits.now) lanes ≡ digits_text self.now.digits.now }
+        requires lanes { length self.now.digits.now ≤ 16
+            → drop (16 - length self.now.digits.now) lanes ≡ digits_text self.now.digits.now }
         ensures done { IfOk result (λ d. IsTrue d → string_bytes out.new
             ≡ string_bytes out.old ++ num_text (decimal_of self.now)) }
         ensures left { IfOk result (λ d. IsFalse d → string_bytes out.new ≡ string_bytes out.old) }
         ensures exponent { (int_le (pos (length self.now.digits.now) +ℤ self.now.exponent) (negsuc 5)
-            || int_lt (pos 20) self.now.exponent) ≡ true → 1 < length self.now.digits.now → IfOk result (λ d. IsTrue d) }
+            || int_lt (pos 20) self.now.exponent) ≡ true
+            → 1 < length self.now.digits.now → length self.now.digits.now ≤ 17 → IfOk result (λ d. IsTrue d) }
         ensures refused { OnErr result
             (AppendsBeginning (string_bytes out.old) (string_bytes out.new) (num_text (decimal_of self.now))) }
     {
         let count = self.digits.len();
         let place = place_of(self.digits, self.exponent);
-        if count < 2 || !is_scientific(place, self.exponent) {
+        if count < 2 || count > LANES + 1 || !is_scientific(place, self.exponent) {
             return Ok(false);
         }
         self.push_split(lanes, count - 1, out)?;
@@ -175,8 +154,9 @@ impl StrippedNumber<'_> {
         Ok(true)
     }
 
-    /// Appends the number, where the point stands between two of its digits, or an exponent behind two or more, and `lanes` has all of
-    /// them, at its end. Where it tells `false` it appended nothing.
+    /// Appends the number, where the point stands between two of its digits, or an exponent behind two or more, and they are so few
+    /// that a row has those before the point, and a row those behind it. If all are no more than 16, `lanes` has them at its end.
+    /// Where it tells `false` it appended nothing.
     #[inline(never)]
     fn push_digits(&self, lanes: u8x16, out: &mut String) -> Result<bool, AllocError>
         requires all { length lanes ≡ 16 }
@@ -186,22 +166,25 @@ impl StrippedNumber<'_> {
             ≡ string_bytes out.old ++ num_text (decimal_of self.now)) }
         ensures left { IfOk result (λ d. IsFalse d → string_bytes out.new ≡ string_bytes out.old) }
         ensures between { self.now.point ≡ true → self.now.exponent <ℤ pos 0
-            → nat_abs self.now.exponent < length self.now.digits.now
-            → length self.now.digits.now ≤ 16 → IfOk result (λ d. IsTrue d) }
+            → nat_abs self.now.exponent < length self.now.digits.now → nat_abs self.now.exponent ≤ 16
+            → length self.now.digits.now ≤ nat_abs self.now.exponent + 16 → IfOk result (λ d. IsTrue d) }
         ensures exponent { self.now.point ≡ true
             → (int_le (pos (length self.now.digits.now) +ℤ self.now.exponent) (negsuc 5)
             || int_lt (pos 20) self.now.exponent) ≡ true
-            → 1 < length self.now.digits.now → length self.now.digits.now ≤ 16 → IfOk result (λ d. IsTrue d) }
+            → 1 < length self.now.digits.now → length self.now.digits.now ≤ 17 → IfOk result (λ d. IsTrue d) }
         ensures refused { OnErr result
             (AppendsBeginning (string_bytes out.old) (string_bytes out.new) (num_text (decimal_of self.now))) }
     {
         let scale = self.exponent.unsigned_abs() as usize;
         let count = self.digits.len();
-        if !self.point || count > LANES {
+        if !self.point {
             return Ok(false);
         }
         if self.exponent >= 0 || scale >= count {
             return self.push_scientific(lanes, out);
+        }
+        if scale > LANES || count - scale > LANES {
+            return Ok(false);
         }
         self.push_split(lanes, scale, out)?;
         Ok(true)
@@ -256,7 +239,7 @@ impl INumber {
     }
 
     /// Appends the text that `Display` writes, in less time: that of few digits is appended at once, by no formatter. It may want
-    /// room for 16 bytes more than the text has. A text with zeros beside the digits, with an exponent behind a single digit or with
+    /// room for 48 bytes more than the text has. A text with zeros beside the digits, with an exponent behind a single digit or with
     /// many digits is made in memory of its own first. The error comes where there was not enough memory. A beginning of the text may
     /// then stand in `out`, behind what was there. It takes time linear in the text.
     #[inline(always)]

@@ -1,8 +1,9 @@
 //! Sixteen digits of a number, made and appended all at once.
-ghost use Rattle.std.specs.Prelude.{◌≡◌, ◌+◌, ◌/◌, ◌%◌, ◌^◌, ◌<◌, ◌≤◌, [], ◌∷◌, ◌++◌, drop, length, take, OnErr, OnOk};
+ghost use Rattle.std.specs.Prelude.{◌≡◌, ◌+◌, ◌-◌, ◌/◌, ◌%◌, ◌^◌, ◌<◌, ◌≤◌, [], ◌∷◌, ◌++◌, drop, length, replicate, take, OnErr, OnOk};
 ghost use Rattle.std.specs.Str.{IsAscii};
 ghost use Rattle.std.specs.String.{string_bytes};
-ghost use Rattle.ijson_number.specs.private.WordText.{last_digits};
+ghost use Rattle.ijson_number.specs.Text.{minus_text};
+ghost use Rattle.ijson_number.specs.private.WordText.{integer_text, last_digits};
 ghost use Rattle.ijson_number.specs.private.ZerosInFront.{IsZerosInFront};
 
 use crate::parse::lanes::LANES;
@@ -12,6 +13,12 @@ use std::str;
 
 /// One past the most that 16 digits count.
 pub const LANES_END: u64 = 10_000_000_000_000_000;
+
+/// One past the most that 15 digits count, before which a row has a zero.
+pub const SHORT_END: u64 = LANES_END / 10;
+
+/// Room for a minus, two rows and the point between them.
+const ROOM: usize = 3 * LANES;
 
 /// From place `n` on: the positions by which the lanes from n on come to the front of a vector, with zeros behind them.
 static FRONT: [u8; 2 * LANES] = [
@@ -65,6 +72,16 @@ pub fn zeros_in_front(lanes: u8x16) -> usize
     (others.trailing_zeros() as usize).min(LANES - 1)
 }
 
+/// The lanes from a start on, moved to the front, with zeros behind them.
+#[inline(always)]
+fn front_of(lanes: u8x16, start: usize) -> u8x16
+    requires all { length lanes ≡ 16 }
+    requires within { start ≤ 16 }
+    ensures { result ≡ drop start lanes ++ replicate start 0 }
+{
+    lanes.swizzle_dyn(u8x16::from_slice(&FRONT[start..]))
+}
+
 /// Appends some bytes of the lanes.
 #[inline(always)]
 pub fn push_lanes(
@@ -79,12 +96,59 @@ pub fn push_lanes(
     ensures written { OnOk result (string_bytes out.new ≡ string_bytes out.old ++ take count (drop start lanes)) }
     ensures refused { OnErr result (string_bytes out.new ≡ string_bytes out.old) }
 {
-    let front = lanes
-        .swizzle_dyn(u8x16::from_slice(&FRONT[start..]))
-        .to_array();
+    let front = front_of(lanes, start).to_array();
     let end = out.len() + count;
     // all 16 bytes take less time than fewer, whose count is not known when the code is built
     out.push_str(unsafe { str::from_utf8_unchecked(&front) })?;
+    out.truncate(end);
+    Ok(())
+}
+
+/// Appends the minus, if there is one, and a number of at most 15 digits. The minus comes in the place of the zero before them, by a
+/// difference that is none where there is no minus, since a processor cannot guess which numbers have one.
+#[inline(always)]
+pub fn push_short(negative: bool, number: u64, out: &mut String) -> Result<(), AllocError>
+    requires { number < 10 ^ 15 }
+    ensures written { OnOk result (string_bytes out.new ≡ string_bytes out.old ++ integer_text negative number) }
+    ensures refused { OnErr result (string_bytes out.new ≡ string_bytes out.old) }
+{
+    let lanes = lanes_of(number);
+    let start = zeros_in_front(lanes) - usize::from(negative);
+    let minus = (b'0' - b'-') * u8::from(negative);
+    let difference = u8x16::from_array([minus, 0, 0, 0, 0, 0, 0, 0, 0, 0, 0, 0, 0, 0, 0, 0]);
+    push_lanes(front_of(lanes, start) - difference, 0, LANES - start, out)
+}
+
+/// Appends the minus, if there is one, some bytes of a row, the point, and the last bytes of another row. They are put together in a
+/// room of their own and appended at once, since each append tests for room.
+#[inline(always)]
+pub fn push_rows(
+    negative: bool,
+    whole: u8x16,
+    start: usize,
+    count: usize,
+    fraction: u8x16,
+    scale: usize,
+    out: &mut String,
+) -> Result<(), AllocError>
+    requires whole { (length whole ≡ 16) × IsAscii (drop start whole) }
+    requires within { start + count ≤ 16 }
+    requires fraction { (length fraction ≡ 16) × IsAscii (drop (16 - scale) fraction) }
+    requires places { scale ≤ 16 }
+    ensures written { OnOk result (string_bytes out.new ≡ string_bytes out.old
+        ++ (minus_text negative ++ (take count (drop start whole) ++ 46 ∷ drop (16 - scale) fraction))) }
+    ensures refused { OnErr result (string_bytes out.new ≡ string_bytes out.old) }
+{
+    let mut room = [0; ROOM];
+    room[0] = b'-';
+    let first = usize::from(negative);
+    room[first..first + LANES].copy_from_slice(&front_of(whole, start).to_array());
+    let point = first + count;
+    room[point] = b'.';
+    let behind = point + 1;
+    room[behind..behind + LANES].copy_from_slice(&front_of(fraction, LANES - scale).to_array());
+    let end = out.len() + behind + scale;
+    out.push_str(unsafe { str::from_utf8_unchecked(&room) })?;
     out.truncate(end);
     Ok(())
 }

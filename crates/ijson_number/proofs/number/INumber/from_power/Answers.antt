@@ -1,15 +1,18 @@
-use Rattle.std.proofs.Common.{◌≡◌, ◌∙◌, ap, sym}
-use Rattle.std.specs.Prelude.{ℤ}
+use Rattle.std.proofs.Common.{◌≡◌, ◌∙◌, ap, sym, subst}
+use Rattle.std.specs.Prelude.{ℤ, IfOk, OnErr, true}
 use mir.Syntax.{w16}
 use mir.Val.{of_z, to_z}
+use Rattle.ijson_number.specs.Decimal.{Decimal}
 use Rattle.ijson_number.specs.Form.{form_of, is_digits}
+use Rattle.ijson_number.specs.Num.{Num}
 use Rattle.ijson_number.specs.declared.parse.prefix.Prefix.{Prefix}
 use Rattle.ijson_number.specs.declared.repr.stored.ShortNumber.{ShortNumber}
 use Rattle.ijson_number.specs.private.Prefix.{IsPowerSmall, power_number}
 use Rattle.ijson_number.specs.private.Stored.{short_form}
+use Rattle.ijson_number.specs.private.StrippedNumber.{decimal_of}
 use Rattle.ijson_number.proofs.storing.FormNumbers.{form_has, stored_num, stored_form_of}
 use Rattle.ijson_number.proofs.AnyAnswer.{where_refused}
-use Rattle.ijson_number.proofs.storing.ShortNumbers.{small_exact}
+use Rattle.ijson_number.proofs.storing.ShortNumbers.{lowered, small_exact}
 use Rattle.ijson_number.proofs.number.INumber.from_power.Goals as goal
 
 -- the digits are the form of the number
@@ -20,25 +23,38 @@ form_is f power n small is = is ∙ ap (λ p. form_of (power_number f p)) (small
 
 pub invariant_of-result : goal.invariant_of-result
 invariant_of-result c = (
-  stored_num (power_number c.args.prefix.now c.args.power) (short_form c.in_ok-number.number.value) c.requires.num
-      (form_is c.args.prefix.now c.args.power c.in_ok-number.number.value c.requires.power
+  stored_num (power_number c.args.prefix c.args.power) (short_form c.in_ok-number.number.value) c.requires.num
+      (form_is c.args.prefix c.args.power c.in_ok-number.number.value c.requires.power
       (ap short_form c.in_ok-number.ensures.ok ∙ c.in-Some.ensures.form)),
   tt,
 )
 
 pub invariant_of-result-in-Some : goal.invariant_of-result-in-Some
 invariant_of-result-in-Some c =
-    stored_form_of (power_number c.args.prefix.now c.args.power) (short_form c.in_ok-number.number.value) c.requires.num
-    (form_is c.args.prefix.now c.args.power c.in_ok-number.number.value c.requires.power
+    stored_form_of (power_number c.args.prefix c.args.power) (short_form c.in_ok-number.number.value) c.requires.num
+    (form_is c.args.prefix c.args.power c.in_ok-number.number.value c.requires.power
     (ap short_form c.in_ok-number.ensures.ok ∙ c.in-Some.ensures.form))
 
 pub returns-in-Some-clause-number : goal.returns-in-Some-clause-number
 returns-in-Some-clause-number c =
-    form_has (power_number c.args.prefix.now c.args.power) (short_form c.in_ok-number.number.value) c.requires.num.plain
-    (form_is c.args.prefix.now c.args.power c.in_ok-number.number.value c.requires.power
+    form_has (power_number c.args.prefix c.args.power) (short_form c.in_ok-number.number.value) c.requires.num.plain
+    (form_is c.args.prefix c.args.power c.in_ok-number.number.value c.requires.power
     (ap short_form c.in_ok-number.ensures.ok ∙ c.in-Some.ensures.form))
 
 pub returns-in_err-number-clause-refused : goal.returns-in_err-number-clause-refused
 returns-in_err-number-clause-refused c =
     where_refused c.from_residual.result
-    (ap is_digits (sym (form_is c.args.prefix.now c.args.power c.in-Some.short c.requires.power c.in-Some.ensures.form)))
+    (ap is_digits (sym (form_is c.args.prefix c.args.power c.in-Some.short c.requires.power c.in-Some.ensures.form)))
+
+pub from_magnitude-number-requires : goal.from_magnitude-number-requires
+from_magnitude-number-requires c = rw (lowered c.args.power c.args.prefix.scale c.requires.power c.requires.few) c.requires.num
+
+pub returns : goal.returns
+returns c =
+    let r = c.from_stripped in
+    let is : decimal_of c.from_magnitude-number.result ≡ power_number c.args.prefix c.args.power =
+    rw (lowered c.args.power c.args.prefix.scale c.requires.power c.requires.few) at c.from_magnitude-number.ensures in
+    record {
+      number = subst (λ (n : Decimal). IfOk r.result (λ (m : Num). m.decimal ≡ n)) is r.ensures.number;
+      refused = subst (λ (n : Decimal). OnErr r.result (is_digits (form_of n) ≡ true)) is r.ensures.refused;
+    }

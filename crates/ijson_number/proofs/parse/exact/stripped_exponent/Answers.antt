@@ -1,34 +1,62 @@
-use Rattle.std.proofs.Common.{◌≡◌, ◌∙◌, ◌^◌, ◌<◌, min, length, arith, refl}
-use Rattle.std.specs.Prelude.{ℤ}
-use Rattle.std.proofs.lemmas.Int.{to_z-of_z}
+use Rattle.std.proofs.Common.{◌≡◌, ℕ, ◌^◌, ◌<◌, Bool, true, false, min, length, refl, arith}
+use Rattle.std.specs.Prelude.{ℤ, pos, neg_ℤ, ◌+ℤ◌, ◌-ℤ◌, ◌≤ℤ◌, FitsSigned}
+use Rattle.std.proofs.lemmas.Int.{ints, to_z-of_z}
 use mir.Syntax.{w128}
+use mir.Val.{to_z, of_z}
 use Rattle.ijson_number.specs.private.Reading.{IsWithin}
 use Rattle.ijson_number.specs.Strips.{signed}
 use Rattle.ijson_number.specs.Grammar.{value}
-use Rattle.ijson_number.proofs.parsing.Exponents.{cast_within, capped_within, within_capped}
+use Rattle.ijson_number.proofs.parsing.Exponents.{capped_within, w32_within, within_capped}
 use Rattle.ijson_number.proofs.parse.exact.stripped_exponent.Goals as goal
+use Rattle.ijson_number.proofs.parse.exact.stripped_exponent.Goals.{then-exponent-via-then-exponent, then-exponent-via-else-exponent+then-exponent-gt-EXPONENT_LIMIT}
 
-pub returns-else-is_within_limit-clause-none : goal.returns-else-is_within_limit-clause-none
-returns-else-is_within_limit-clause-none c = λ h.
-    let v = value c.args.tail.now.exponent.now in
-    let f = length c.args.tail.now.fraction.now in
-    let small : f < 2 ^ 64 = grind arith in
-    let e : ℤ = c.capped_exponent-exponent.result in
-    let is = c.capped_exponent-exponent.ensures.value in
-    let r = within_capped c.args.tail.now.negative v f c.args.tens
-    (signed c.args.tail.now.negative (min v (2 ^ 80))) e small c.requires.tens refl is h in
-    let same = to_z-of_z w128 e c.capped_exponent-exponent.ensures.fits in
-    let within = (rw same at c.if-is_within_limit.ensures.1) r in
-    cc
+capped_bounds : (negative : Bool) (v : ℕ) (w : ℤ) → w ≡ signed negative (min v (2 ^ 80)) → (neg_ℤ (pos (2 ^ 80)) ≤ℤ w) × (w ≤ℤ pos (2 ^ 80))
+capped_bounds true v w is = (omega (arith, ints), omega (arith, ints))
+capped_bounds false v w is = (omega (arith, ints), omega (arith, ints))
 
-pub returns-then-is_within_limit-clause-some : goal.returns-then-is_within_limit-clause-some
-returns-then-is_within_limit-clause-some c =
-    let v = value c.args.tail.now.exponent.now in
-    let f = length c.args.tail.now.fraction.now in
+-- no step of the sum is past 128 bits
+sum_is : (negative : Bool) (v f t : ℕ) (w : ℤ) → f < 2 ^ 64 → t < 2 ^ 65 → w ≡ signed negative (min v (2 ^ 80))
+    → to_z w128 (of_z w128 (to_z w128 (of_z w128 w) +ℤ to_z w128 (of_z w128 (to_z w128 t -ℤ to_z w128 f)))) ≡ w +ℤ (pos t -ℤ pos f)
+sum_is negative v f t w few many is =
+    let bounds = capped_bounds negative v w is in
+    let low = bounds.0 in
+    let high = bounds.1 in
+    let x : to_z w128 t ≡ pos t = omega (arith, ints) in
+    let y : to_z w128 f ≡ pos f = omega (arith, ints) in
+    let d : FitsSigned w128 (pos t -ℤ pos f) = omega (arith, ints) in
+    let g : FitsSigned w128 w = omega (arith, ints) in
+    let h : FitsSigned w128 (w +ℤ (pos t -ℤ pos f)) = omega (arith, ints) in
+    rw (x, y, to_z-of_z w128 (pos t -ℤ pos f) d, to_z-of_z w128 w g) (to_z-of_z w128 (w +ℤ (pos t -ℤ pos f)) h)
+
+pub returns-then-exponent-clause-none : goal.returns-then-exponent-clause-none
+returns-then-exponent-clause-none c = λ h.
+    let tail = c.args.tail.now in
+    let v = value tail.exponent.now in
+    let f = length tail.fraction.now in
+    let w : ℤ = c.written_exponent.result in
     let small : f < 2 ^ 64 = grind arith in
-    let e : ℤ = c.capped_exponent-exponent.result in
-    let fits = c.capped_exponent-exponent.ensures.fits in
-    let within : IsWithin e = (rw (to_z-of_z w128 e fits) at c.if-is_within_limit.ensures.0) refl in
-    let is : e ≡ _ = capped_within c.args.tail.now.negative v f c.args.tens
-    (signed c.args.tail.now.negative (min v (2 ^ 80))) e small c.requires.tens refl c.capped_exponent-exponent.ensures.value within in
-    (cast_within e fits within ∙ is, rw (cast_within e fits within) within)
+    let is = c.written_exponent.ensures in
+    let exact = sum_is tail.negative v f c.args.tens w small c.requires.tens is in
+    let within = within_capped tail.negative v f c.args.tens w (w +ℤ (pos c.args.tens -ℤ pos f)) small c.requires.tens is refl h in
+    let low = within.0 in
+    let high = within.1 in
+    elim c.then-exponent.branch [
+      | then-exponent-via-then-exponent b ↦ (let test = b.if-exponent.true in omega (arith, ints, exact, low, test))
+      | then-exponent-via-else-exponent+then-exponent-gt-EXPONENT_LIMIT b ↦
+          (let test = b.if-exponent-gt-EXPONENT_LIMIT.true in omega (arith, ints, exact, high, test))
+    ]
+
+pub returns-clause-some : goal.returns-clause-some
+returns-clause-some c =
+    let tail = c.args.tail.now in
+    let v = value tail.exponent.now in
+    let f = length tail.fraction.now in
+    let w : ℤ = c.written_exponent.result in
+    let small : f < 2 ^ 64 = grind arith in
+    let is = c.written_exponent.ensures in
+    let e : ℤ = w +ℤ (pos c.args.tens -ℤ pos f) in
+    let exact = sum_is tail.negative v f c.args.tens w small c.requires.tens is in
+    let low = c.if-exponent.false in
+    let high = c.if-exponent-gt-EXPONENT_LIMIT.false in
+    let within : IsWithin e = (omega (arith, ints, exact, low), omega (arith, ints, exact, high)) in
+    rw (exact, w32_within e within) (capped_within tail.negative v f c.args.tens w e small c.requires.tens is refl within, within)

@@ -7,15 +7,14 @@ use Rattle.ijson_number.proofs.storing.FewDigits.{no_more, pointed_form}
 use Rattle.ijson_number.proofs.storing.FormCases.{packed_is}
 use Rattle.ijson_number.specs.private.Word.{word_exponent, word_mantissa, word_point}
 use Rattle.ijson_number.proofs.repr.prefix.pointed_word.Goals as goal
-use Rattle.ijson_number.proofs.repr.prefix.pointed_word.Goals.{then-left-gt7-via-then-left-gt7, then-left-gt7-via-else-left-gt7+then-from-ge-PACKED_END}
+use Rattle.ijson_number.proofs.repr.prefix.pointed_word.Goals.{then-left-gt7-via-then-left-gt7, then-left-gt7-via-else-left-gt7+then-mantissa}
 
 pub returns-clause-word : goal.returns-clause-word
 returns-clause-word c = λ n point s.
     let a = c.args in
     let w = c.without_zeros-mantissa in
     let few = c.if-left-gt7.false in
-    let small = c.if-from-ge-PACKED_END.false in
-    let from = c.from.ensures in
+    let small = c.if-mantissa.false in
     let below : w.result.0 < 2 ^ 55 = omega (arith, ints) in
     let most : w.result.1 ≤ 7 = omega arith in
     let bits = c.pointed-word.result.bits in
@@ -37,6 +36,6 @@ returns-then-left-gt7-clause-short c = λ few small.
     let below : w.result.0 < 2 ^ 55 = omega (arith, less, w.ensures.tens, small) in
     elim c.then-left-gt7.branch [
       | then-left-gt7-via-then-left-gt7 b ↦ absurd (omega (arith, most, b.if-left-gt7.true))
-      | then-left-gt7-via-else-left-gt7+then-from-ge-PACKED_END b ↦
-          absurd (omega (arith, ints, below, b.from.ensures, b.if-from-ge-PACKED_END.true))
+      | then-left-gt7-via-else-left-gt7+then-mantissa b ↦
+          absurd (omega (arith, ints, below, b.if-mantissa.true))
     ]

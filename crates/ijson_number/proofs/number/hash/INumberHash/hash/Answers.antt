@@ -1,11 +1,24 @@
-use Rattle.std.proofs.Common.{◌≡◌, ◌<◌, length, arith, rules}
-use Rattle.std.specs.Prelude.{FitsSigned}
+use Rattle.std.proofs.Common.{◌≡◌, ◌<◌, ◌+◌, Bool, true, false, length, refl, ap, arith, rules}
+use Rattle.std.specs.Prelude.{ℤ, pos, nat_abs, ◌+ℤ◌, FitsSigned, if◌then◌else◌}
 use Rattle.std.proofs.lemmas.Grind.{common_steps, flat_map-append, fold-append}
 use Rattle.std.proofs.lemmas.List.{take_all}
-use Rattle.std.proofs.lemmas.Int.{to_z-of_z}
-use mir.Syntax.{w32}
+use Rattle.std.proofs.lemmas.Int.{ints, to_z-of_z}
+use mir.Syntax.{w32, w64}
+use mir.Val.{bool_byte, of_z, to_z}
 use Rattle.ijson_number.proofs.StoredWords.{zero_words, stored_words}
 use Rattle.ijson_number.proofs.number.hash.INumberHash.hash.Goals as goal
+
+sign_word : (negative : Bool) → 1 + bool_byte negative ≡ (if negative then 2 else 1)
+sign_word true = refl
+sign_word false = refl
+
+exponent_word : (e f : ℤ) → f ≡ to_z w32 (of_z w32 e) → FitsSigned w32 e
+    → nat_abs (to_z w64 (of_z w64 (to_z w64 (of_z w64 f) +ℤ pos 2147483648))) ≡ nat_abs (e +ℤ pos 2147483648)
+exponent_word e f is fits =
+    let same : f ≡ e = rw (to_z-of_z w32 e fits) at is in
+    let g : FitsSigned w64 f = omega (arith, ints) in
+    let h : FitsSigned w64 (f +ℤ pos 2147483648) = omega (arith, ints) in
+    rw (to_z-of_z w64 f g, to_z-of_z w64 (f +ℤ pos 2147483648) h) (ap (λ x. nat_abs (x +ℤ pos 2147483648)) same)
 
 pub loop-digit-preserved : goal.loop-digit-preserved
 loop-digit-preserved g c = grind (arith, common_steps, flat_map-append, fold-append)
@@ -23,5 +36,8 @@ returns g c =
     let some : 0 < length n.digits.now = grind arith in
     let all = take_all c.loop-digit.digit-index n.digits.now c.loop-digit-test.false in
     let fits : FitsSigned w32 n.exponent = search rules in
-    let exponent = rw (to_z-of_z w32 n.exponent fits) at c.exponent_word.ensures in
-    rw (stored_words n.negative n.digits.now n.exponent n.point c.args.self.now.decimal c.stripped-number.ensures n.stripped some) (cc)
+    rw (
+      stored_words n.negative n.digits.now n.exponent n.point c.args.self.now.decimal c.stripped-number.ensures n.stripped some,
+      ← sign_word n.negative,
+      ← exponent_word n.exponent c.from-2.result c.from-2.ensures fits,
+    ) (cc)

@@ -11,7 +11,7 @@ use Rattle.ijson_number.proofs.parse.prefix.Prefix.short.Goals as goal
 
 pub of_number-requires : goal.of_number-requires
 of_number-requires c =
-    let f = c.args.self.now in
+    let f = c.args.self in
     let w = c.without_zeros-number in
     let many : 7 < w.result.1 = omega arith in
     let last = w.ensures.stripped (omega arith) in
@@ -22,11 +22,11 @@ pub invariant_of-result : goal.invariant_of-result
 invariant_of-result c =
     let w = c.without_zeros-number in
     let many : 7 < w.result.1 = omega arith in
-    record { stripped = rw c.of_number.ensures (some_stored w.result.0 (w.ensures.stripped (omega arith)) c.args.self.now.negative) }
+    record { stripped = rw c.of_number.ensures (some_stored w.result.0 (w.ensures.stripped (omega arith)) c.args.self.negative) }
 
 pub returns-clause-form : goal.returns-clause-form
 returns-clause-form c =
-    let f = c.args.self.now in
+    let f = c.args.self in
     let w = c.without_zeros-number in
     let i = c.requires.1 in
     let word : f.magnitude < 2 ^ 64 = search rules in
@@ -40,7 +40,7 @@ returns-clause-form c =
 
 pub returns-then-scale-le7-clause-deep : goal.returns-then-scale-le7-clause-deep
 returns-then-scale-le7-clause-deep c many ends =
-    let f = c.args.self.now in
+    let f = c.args.self in
     let w = c.without_zeros-number in
     let t = f.scale - w.result.1 in
     let some : t ≡ suc (t - 1) = omega arith in

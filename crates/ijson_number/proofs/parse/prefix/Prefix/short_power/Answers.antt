@@ -34,13 +34,13 @@ invariant_of-result c =
     record {
       stripped = rw c.of_number.ensures
           (some_stored w.result.0 (w.ensures.stripped
-          (some_left c.args.self.now.magnitude w.result.0 w.result.1 w.ensures.tens c.if-self-eq0.false c.requires.small))
-          c.args.self.now.negative);
+          (some_left c.args.self.magnitude w.result.0 w.result.1 w.ensures.tens c.if-self-eq0.false c.requires.small))
+          c.args.self.negative);
     }
 
 pub returns-clause-form : goal.returns-clause-form
 returns-clause-form c =
-    let f = c.args.self.now in
+    let f = c.args.self in
     let w = c.without_zeros-number in
     let left = w.result.1 in
     let e : ℤ = c.args.power -ℤ pos f.scale in
@@ -59,7 +59,7 @@ returns-clause-form c =
 
 pub returns-then-exponent-lt27-clause-outside : goal.returns-then-exponent-lt27-clause-outside
 returns-then-exponent-lt27-clause-outside c = λ some outside.
-    let f = c.args.self.now in
+    let f = c.args.self in
     let w = c.without_zeros-number in
     let left = w.result.1 in
     let e : ℤ = c.args.power -ℤ pos f.scale in

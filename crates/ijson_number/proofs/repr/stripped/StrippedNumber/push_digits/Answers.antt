@@ -4,7 +4,7 @@ use Rattle.std.specs.String.{string_bytes}
 use Rattle.std.proofs.lemmas.Int.{to_z-of_z}
 use mir.Syntax.{w32}
 use Rattle.ijson_number.proofs.AnyAnswer.{where_refused}
-use Rattle.ijson_number.proofs.writing.Beginnings.{begun_as}
+use Rattle.ijson_number.proofs.writing.Beginnings.{none_begun}
 use Rattle.ijson_number.proofs.writing.SplitTexts.{below_zero, row_shown}
 use Rattle.ijson_number.proofs.repr.stripped.StrippedNumber.push_digits.Goals as goal
 
@@ -21,12 +21,4 @@ returns-clause-done c = λ t.
 
 pub returns-in_err-push_split-clause-refused : goal.returns-in_err-push_split-clause-refused
 returns-in_err-push_split-clause-refused c =
-    let n = c.args.self.now in
-    let fits : FitsSigned w32 n.exponent = search rules in
-    let exact = to_z-of_z w32 n.exponent fits in
-    let point : n.point ≡ true = grind arith in
-    let shown = row_shown n.negative n.digits.now n.exponent n.point c.unsigned_abs-scale.result n.stripped.stripped point
-    (below_zero n.exponent _ exact c.if-self-ge0.false)
-    (c.unsigned_abs-scale.ensures.value ∙ ap nat_abs exact) c.if-scale-count.false in
-    where_refused _ (begun_as (string_bytes c.args.out.now)
-    (string_bytes c.push_split.new.out) _ _ c.in_err-push_split.ensures.refused shown)
+    where_refused _ (none_begun (string_bytes c.args.out.now) (string_bytes c.push_split.new.out) _ c.in_err-push_split.ensures.refused)

@@ -7,7 +7,7 @@ use mir.Val.{of_z, to_z}
 use Rattle.ijson_number.specs.private.SplitText.{split_text}
 use Rattle.ijson_number.specs.private.WordText.{integer_text}
 use Rattle.ijson_number.proofs.AnyAnswer.{where_refused}
-use Rattle.ijson_number.proofs.writing.Beginnings.{front_begun, last_begun, some_begun}
+use Rattle.ijson_number.proofs.writing.Beginnings.{last_begun, none_begun, some_begun}
 use Rattle.ijson_number.proofs.writing.SplitTexts.{scientific_shown}
 use Rattle.ijson_number.proofs.repr.stripped.StrippedNumber.push_scientific.Goals as goal
 
@@ -49,25 +49,7 @@ returns-clause-done c = λ t.
 
 pub returns-in_err-push_split-clause-refused : goal.returns-in_err-push_split-clause-refused
 returns-in_err-push_split-clause-refused c =
-    let n = c.args.self.now in
-    let ds = n.digits.now in
-    let old = string_bytes c.args.out.now in
-    let fits : FitsSigned w32 n.exponent = search rules in
-    let exact = to_z-of_z w32 n.exponent fits in
-    let place = c.place_of-place.result in
-    let same = to_z-of_z w128 place c.place_of-place.ensures.fits in
-    let is : place ≡ pos (length ds) +ℤ n.exponent = c.place_of-place.ensures.value ∙ ap (λ e. pos (length ds) +ℤ e) exact in
-    let written : int_le place (negsuc 5) || int_lt (pos 20) n.exponent ≡ true =
-    ap₂ (λ p e. int_le p (negsuc 5) || int_lt (pos 20) e) (sym same) (sym exact) ∙ sym c.is_scientific.ensures ∙ grind arith in
-    let shown =
-    scientific_shown n.negative ds n.exponent n.point place (place -ℤ pos 1) n.stripped.stripped c.requires.point
-    (omega (arith, c.if-count-lt2.false))
-    is c.place_of-place.ensures.low c.place_of-place.ensures.high written refl in
-    let one : length ds - (length ds - 1) ≡ 1 = omega (arith, c.if-count-lt2.false) in
-    let split = split_text n.negative ds 1 in
-    where_refused _ (front_begun old (string_bytes c.push_split.new.out) _
-    (101 ∷ integer_text (int_lt (place -ℤ pos 1) (pos 0)) (nat_abs (place -ℤ pos 1))) _ c.in_err-push_split.ensures.refused
-    (ap (λ k. split_text n.negative ds k ++ 101 ∷ integer_text (int_lt (place -ℤ pos 1) (pos 0)) (nat_abs (place -ℤ pos 1))) one ∙ shown))
+    where_refused _ (none_begun (string_bytes c.args.out.now) (string_bytes c.push_split.new.out) _ c.in_err-push_split.ensures.refused)
 
 pub returns-in_err-push-clause-refused : goal.returns-in_err-push-clause-refused
 returns-in_err-push-clause-refused c =

@@ -1,15 +1,15 @@
-use Rattle.std.proofs.Common.{◌≡◌, ◌∙◌, ◌-◌, ◌+◌, ◌≤◌, ◌∷◌, ◌++◌, [], ◌<◌, List, ℕ, refl, length, take, drop, drop-drop, take_all, ap, sym, append_assoc, arith}
-use Rattle.std.specs.String.{string_bytes}
-use Rattle.std.proofs.lemmas.List.{drop-map, length-drop, take-map}
-use Rattle.std.proofs.lemmas.List.Elements.{All-drop}
-use Rattle.ijson_number.specs.Text.{digits_text, minus_text}
-use Rattle.ijson_number.proofs.AnyAnswer.{where_refused, refused_with}
-use Rattle.ijson_number.proofs.writing.Beginnings.{some_begun}
+use Rattle.std.proofs.Common.{◌≡◌, ◌∙◌, ◌-◌, ◌+◌, ◌<◌, ◌≤◌, List, ℕ, length, take, drop, drop-drop, take_all, ap, sym, arith}
+use Rattle.std.specs.List.{All}
+use Rattle.std.proofs.lemmas.List.{drop-map, length-drop, length-take-le, take-map, take-take}
+use Rattle.std.proofs.lemmas.List.Elements.{All-drop, All-take}
+use Rattle.std.proofs.lemmas.Str.{IsAscii-drop}
+use Rattle.ijson_number.specs.Text.{digits_text}
 use Rattle.ijson_number.proofs.writing.AsciiTexts.{digits_text_ascii}
+use Rattle.ijson_number.proofs.writing.WrittenLanes.{row_ascii, row_long, row_text, with_zero}
 use Rattle.ijson_number.proofs.repr.stripped.StrippedNumber.push_split.Goals as goal
 
 -- the digits behind the point stand at the end of the row
-module _ (lanes ds : List ℕ) (long : length lanes ≡ 16) (few : length ds ≤ 16) (is : drop (16 - length ds) lanes ≡ digits_text ds)
+module _ (lanes ds : List ℕ) (few : length ds ≤ 16) (is : drop (16 - length ds) lanes ≡ digits_text ds)
     (scale : ℕ) (inside : scale ≤ length ds) where
   behind : drop (16 - scale) lanes ≡ digits_text (drop (length ds - scale) ds)
   behind =
@@ -17,84 +17,104 @@ module _ (lanes ds : List ℕ) (long : length lanes ≡ 16) (few : length ds ≤
       ap (λ n. drop n lanes) (sym at) ∙ sym (drop-drop {A = ℕ} (length ds - scale) (16 - length ds) lanes)
       ∙ ap (drop (length ds - scale)) is ∙ drop-map {X = ℕ} {Y = ℕ} (λ d. 48 + d) (length ds - scale) ds
 
-  behind_all : take scale (drop (16 - scale) lanes) ≡ digits_text (drop (length ds - scale) ds)
-  behind_all = take_all scale (drop (16 - scale) lanes) (omega (arith, length-drop (16 - scale) lanes)) ∙ behind
-
   before : take (length ds - scale) (drop (16 - length ds) lanes) ≡ digits_text (take (length ds - scale) ds)
   before = ap (take (length ds - scale)) is ∙ take-map {X = ℕ} {Y = ℕ} (λ d. 48 + d) (length ds - scale) ds
 
--- what is put together is the text
-joined : (old minus front behind new : List ℕ) → new ≡ ((old ++ minus) ++ front) ++ 46 ∷ []
-    → new ++ behind ≡ old ++ (minus ++ (front ++ 46 ∷ behind))
-joined old minus front behind new is =
-    rw is (append_assoc ((old ++ minus) ++ front) (46 ∷ []) behind ∙ append_assoc (old ++ minus) front (46 ∷ behind)
-    ∙ append_assoc old minus (front ++ 46 ∷ behind))
+-- more digits than a row has, of which one shows the first and another the last
+module _ (ds : List ℕ) (below : All (λ d. d < 10) ds) (many : 16 < length ds) where
+  abbrev first : List ℕ
+  first = take 16 ds
 
-pub push_lanes-requires-clause-ascii : goal.push_lanes-requires-clause-ascii
-push_lanes-requires-clause-ascii c =
-    let n = c.args.self.now in
-    rw c.requires.lanes (digits_text_ascii n.digits.now n.stripped.stripped.below_ten)
+  abbrev last : List ℕ
+  last = take 16 (take (length ds - (length ds - 16)) (drop (length ds - 16) ds))
 
-pub push_lanes-requires-2-clause-ascii : goal.push_lanes-requires-2-clause-ascii
-push_lanes-requires-2-clause-ascii c =
+  first_long : length first ≡ 16
+  first_long = length-take-le 16 ds (omega arith)
+
+  first_below : All (λ d. d < 10) first
+  first_below = All-take (λ d. d < 10) 16 ds below
+
+  last_is : last ≡ drop (length ds - 16) ds
+  last_is =
+      let long = length-drop (length ds - 16) ds in
+      ap (take 16) (take_all (length ds - (length ds - 16)) (drop (length ds - 16) ds) (omega (arith, long)))
+      ∙ take_all 16 (drop (length ds - 16) ds) (omega (arith, length-drop (length ds - 16) ds))
+
+  last_long : length last ≡ 16
+  last_long = rw last_is (omega (arith, length-drop (length ds - 16) ds))
+
+  last_below : All (λ d. d < 10) last
+  last_below = rw last_is (All-drop (λ d. d < 10) (length ds - 16) ds below)
+
+  module _ (scale : ℕ) (inside : scale ≤ 16) (most : length ds ≤ scale + 16) where
+    first_shown : take (length ds - scale) (with_zero first) ≡ digits_text (take (length ds - scale) ds)
+    first_shown = ap (take (length ds - scale)) (row_text first first_long first_below)
+        ∙ take-map {X = ℕ} {Y = ℕ} (λ d. 48 + d) (length ds - scale) first
+        ∙ ap digits_text (take-take (length ds - scale) 16 ds (omega arith))
+
+    last_shown : drop (16 - scale) (with_zero last) ≡ digits_text (drop (length ds - scale) ds)
+    last_shown =
+        let at : length ds - 16 + (16 - scale) ≡ length ds - scale = omega arith in
+        ap (drop (16 - scale)) (row_text last last_long last_below)
+        ∙ drop-map {X = ℕ} {Y = ℕ} (λ d. 48 + d) (16 - scale) last
+        ∙ ap digits_text (ap (drop (16 - scale)) last_is ∙ drop-drop {A = ℕ} (16 - scale) (length ds - 16) ds ∙ ap (λ n. drop n ds) at)
+
+pub push_rows-requires-clause-whole : goal.push_rows-requires-clause-whole
+push_rows-requires-clause-whole c =
+    let n = c.args.self.now in (
+      c.requires.all,
+      rw (c.requires.lanes (omega (arith, c.if-count-le-LANES.true)))
+          (digits_text_ascii n.digits.now n.stripped.stripped.below_ten),
+    )
+
+pub push_rows-requires-clause-fraction : goal.push_rows-requires-clause-fraction
+push_rows-requires-clause-fraction c =
     let n = c.args.self.now in
     let ds = n.digits.now in
+    let few : length ds ≤ 16 = omega (arith, c.if-count-le-LANES.true) in
+    let scale = c.args.scale in (
+      c.requires.all,
+      rw (behind c.args.lanes ds few (c.requires.lanes few) scale c.requires.inside)
+          (digits_text_ascii (drop (length ds - scale) ds) (All-drop (λ d. d < 10) (length ds - scale) ds n.stripped.stripped.below_ten)),
+    )
+
+pub returns-then-count-le-LANES-clause-written : goal.returns-then-count-le-LANES-clause-written
+returns-then-count-le-LANES-clause-written c =
+    let ds = c.args.self.now.digits.now in
+    let few : length ds ≤ 16 = omega (arith, c.if-count-le-LANES.true) in
+    let lanes = c.requires.lanes few in
     let scale = c.args.scale in
-    rw (behind c.args.lanes ds c.requires.all c.requires.few c.requires.lanes scale c.requires.inside)
-    (digits_text_ascii (drop (length ds - scale) ds) (All-drop (λ d. d < 10) (length ds - scale) ds n.stripped.stripped.below_ten))
+    rw (← before c.args.lanes ds few lanes scale c.requires.inside, ← behind c.args.lanes ds few lanes scale c.requires.inside)
+    c.push_rows.ensures.written
+
+pub push_rows-requires-2-clause-whole : goal.push_rows-requires-2-clause-whole
+push_rows-requires-2-clause-whole c =
+    let n = c.args.self.now in
+    let ds = n.digits.now in
+    let below = n.stripped.stripped.below_ten in
+    let many : 16 < length ds = omega (arith, c.if-count-le-LANES.false) in (
+      row_long (first ds below many) (first_long ds below many) (first_below ds below many),
+      row_ascii (first ds below many) (first_long ds below many) (first_below ds below many),
+    )
+
+pub push_rows-requires-2-clause-fraction : goal.push_rows-requires-2-clause-fraction
+push_rows-requires-2-clause-fraction c =
+    let n = c.args.self.now in
+    let ds = n.digits.now in
+    let below = n.stripped.stripped.below_ten in
+    let many : 16 < length ds = omega (arith, c.if-count-le-LANES.false) in
+    let row = last ds below many in (
+      row_long row (last_long ds below many) (last_below ds below many),
+      IsAscii-drop (with_zero row) (16 - c.args.scale) (row_ascii row (last_long ds below many) (last_below ds below many)),
+    )
 
 pub returns-clause-written : goal.returns-clause-written
-unfolding lib.Utf8.encode
 returns-clause-written c =
     let n = c.args.self.now in
     let ds = n.digits.now in
-    let scale = c.args.scale in
-    let lanes = c.requires.lanes in
-    let minus = minus_text n.negative in
-    let whole = digits_text (take (length ds - scale) ds) in
-    let front : string_bytes c.push_lanes.new.out ≡ (string_bytes c.args.out.now ++ minus) ++ whole = c.in_ok-push_lanes.ensures.written
-    ∙ rw (c.in_ok-push_minus.ensures.written, before c.args.lanes ds c.requires.all c.requires.few lanes scale c.requires.inside)
-    refl in
-    let fraction = behind_all c.args.lanes ds c.requires.all c.requires.few lanes scale c.requires.inside in
-    let text = ap (λ x. string_bytes c.push.new.self ++ x) fraction
-    ∙ joined (string_bytes c.args.out.now) minus whole (digits_text (drop (length ds - scale) ds)) (string_bytes c.push.new.self)
-    (c.in_ok-push.ensures.bytes ∙ ap (λ x. x ++ 46 ∷ []) front) in
-    rw (← text) c.push_lanes-2.ensures.written
-
-pub returns-in_err-push-clause-refused : goal.returns-in_err-push-clause-refused
-returns-in_err-push-clause-refused c =
-    let n = c.args.self.now in
-    let ds = n.digits.now in
-    let old = string_bytes c.args.out.now in
-    let minus = minus_text n.negative in
-    let whole = digits_text (take (length ds - c.args.scale) ds) in
-    let fraction = digits_text (drop (length ds - c.args.scale) ds) in
-    let front : string_bytes c.push_lanes.new.out ≡ (old ++ minus) ++ whole = c.in_ok-push_lanes.ensures.written
-    ∙ rw (
-      c.in_ok-push_minus.ensures.written,
-      before c.args.lanes ds c.requires.all c.requires.few c.requires.lanes c.args.scale
-          c.requires.inside,
-    ) refl in
-    where_refused _ (some_begun old _ (minus ++ whole) (46 ∷ fraction) _
-    (c.in_err-push.ensures.bytes ∙ front ∙ append_assoc old minus whole) (append_assoc minus whole (46 ∷ fraction)))
-
-pub returns-clause-refused : goal.returns-clause-refused
-unfolding lib.Utf8.encode
-returns-clause-refused c =
-    let n = c.args.self.now in
-    let ds = n.digits.now in
-    let old = string_bytes c.args.out.now in
-    let minus = minus_text n.negative in
-    let whole = digits_text (take (length ds - c.args.scale) ds) in
-    let fraction = digits_text (drop (length ds - c.args.scale) ds) in
-    let front : string_bytes c.push_lanes.new.out ≡ (old ++ minus) ++ whole = c.in_ok-push_lanes.ensures.written
-    ∙ rw (
-      c.in_ok-push_minus.ensures.written,
-      before c.args.lanes ds c.requires.all c.requires.few c.requires.lanes c.args.scale
-          c.requires.inside,
-    ) refl in
-    refused_with c.push_lanes-2.result c.push_lanes-2.ensures.refused (λ same.
-    some_begun old (string_bytes c.push_lanes-2.new.out) ((minus ++ whole) ++ 46 ∷ []) fraction (minus ++ (whole ++ 46 ∷ fraction))
-    (same ∙ c.in_ok-push.ensures.bytes ∙ ap (λ x. x ++ 46 ∷ []) (front ∙ append_assoc old minus whole)
-    ∙ append_assoc old (minus ++ whole) (46 ∷ []))
-    (append_assoc (minus ++ whole) (46 ∷ []) fraction ∙ append_assoc minus whole (46 ∷ fraction)))
+    let below = n.stripped.stripped.below_ten in
+    let many : 16 < length ds = omega (arith, c.if-count-le-LANES.false) in
+    rw (
+      ← first_shown ds below many c.args.scale c.requires.places c.requires.whole,
+      ← last_shown ds below many c.args.scale c.requires.places c.requires.whole,
+    ) c.push_rows-2.ensures.written
