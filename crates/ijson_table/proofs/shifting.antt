@@ -5,3 +5,4 @@ pub mod ListSwapRemove
 pub mod LowerPositions
 pub mod Removal
 pub mod SlotWrites
+pub mod Vacancy

@@ -19,7 +19,7 @@ mod shift;
 pub mod slot;
 
 use crate::growth::list_with_room;
-use crate::index::shift::{insert, rehash, shift_forward, shift_remove, swap_remove};
+use crate::index::shift::{rehash, shift_forward, shift_remove, swap_remove, vacancy};
 use crate::index::slot::Slot;
 use std::alloc::{AllocError, Global};
 use std::marker::Model;
@@ -88,7 +88,8 @@ impl Index {
         ensures hashes { self.new.hashes ≡ self.old.hashes ++ hash ∷ [] }
         ensures count { length self.new.slots ≡ length self.old.slots }
     {
-        insert(&mut self.slots, position, hash);
+        let slot = vacancy(&self.slots, hash);
+        self.push_at(slot, position, hash);
     }
 
     /// The same, at the slot where a probe for it ended.

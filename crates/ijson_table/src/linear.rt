@@ -142,11 +142,6 @@ impl<V: Drop> PairStore<V> for LinearPairs<V> {
         (&pair.0, &pair.1)
     }
 
-    fn value_mut(&mut self, index: usize) -> &mut V {
-        let pair = &mut self.pairs[index];
-        &mut pair.1
-    }
-
     fn pair_mut(&mut self, index: usize) -> (&IString, &mut V) {
         let pair = &mut self.pairs[index];
         (&pair.0, &mut pair.1)

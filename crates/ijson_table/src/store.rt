@@ -118,7 +118,11 @@ pub trait PairStore<V>: Sized {
         requires { index < length (pairs self.old) }
         ensures* writes_back { sem 𝓛
             (Lends Self.row V.row self.entry result (λ w. set_value self.old index w)) }
-        ensures value { (key : List ℕ) × (slice_get (pairs self.old) index ≡ Some (key, result.now)) };
+        ensures value { (key : List ℕ) × (slice_get (pairs self.old) index ≡ Some (key, result.now)) }
+    {
+        let (_key, value) = self.pair_mut(index);
+        value
+    }
 
     /// Lends the value at a position, and shows its key. It takes constant time.
     fn pair_mut(&mut self, index: usize) -> (&IString, &mut V)

@@ -269,11 +269,6 @@ impl<V: Drop, H: KeyHash> PairStore<V> for Table<V, H> {
 
     ghost set_value = { λ t i v. placed_with_value t i v };
 
-    fn value_mut(&mut self, index: usize) -> &mut V {
-        let pair = &mut self.pairs[index];
-        &mut pair.1
-    }
-
     fn new(alloc: Global) -> Self {
         Table {
             pairs: Vec::new(alloc),

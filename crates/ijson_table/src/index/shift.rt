@@ -55,7 +55,7 @@ impl<'a> ProbeTarget for HashProbe<'a> {
 }
 
 /// Where the probe for a key of this hash ends that stands at none of the slots.
-fn vacancy(slots: &[Slot], hash: u64) -> usize
+pub fn vacancy(slots: &[Slot], hash: u64) -> usize
     requires { HasEmpty (positions slots.now) }
     ensures { IsVacancy (displacement_in slots.now) (length slots.now) (hash % length slots.now) result }
 {
@@ -114,7 +114,7 @@ pub fn shift_forward(slots: &mut [Slot], from: usize, position: usize, hash: u64
 }
 
 /// Puts a position into the slots, one of which is empty. Its key has this hash.
-pub fn insert(slots: &mut [Slot], position: usize, hash: u64)
+fn insert(slots: &mut [Slot], position: usize, hash: u64)
     ghost hashes: { List ℕ }
     requires { Accepts hashes slots.old position hash }
     ensures holds { Holds hashes (with_one (positions slots.old) position) None (positions slots.new) }

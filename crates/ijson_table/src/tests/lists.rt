@@ -9,7 +9,7 @@ use std::process::Abort;
 /// How many commands a list has.
 const COUNT: usize = 200;
 
-const KEYS: [&str; 24] = [
+static KEYS: [&str; 24] = [
     "",
     "a",
     "b",

@@ -1,17 +1,17 @@
-//! What is printed of errors, and what is shown of each type.
+//! What is printed of errors, and what is shown of each type. What is shown of replies stands beside each step of a store.
 
 use super::{insert_all, key};
 use crate::{
-    Command, FixedHash, FixedTable, LinearPairs, PairStore, RefusedPair, Reply, ReserveError, Seen,
+    Command, FixedHash, FixedTable, LinearPairs, PairStore, RefusedPair, ReserveError, Seen,
 };
 use std::alloc::Global;
-use std::fmt::Debug;
+use std::fmt::{Debug, Display};
 use std::process::Abort;
 
-/// Asserts what is shown of a value.
-fn shows<T: Debug>(rt: &impl Abort, alloc: Global, value: &T, want: &str) {
-    let shown = format!(in alloc; "{value:?}").expect(rt, "a text");
-    assert!(rt; shown.as_str() == want);
+/// Asserts what is printed and what is shown of an error.
+fn tells<T: Debug + Display>(rt: &impl Abort, alloc: Global, error: &T, want: &str) {
+    let told = format!(in alloc; "{error}|{error:?}").expect(rt, "a text");
+    assert!(rt; told.as_str() == want);
 }
 
 /// The pair of a and 1, which was refused for this reason.
@@ -20,91 +20,69 @@ fn refused(rt: &impl Abort, alloc: Global, why: ReserveError) -> RefusedPair<u64
     RefusedPair { key, value: 1, why }
 }
 
-/// Reasons, what is shown of each, and the text of each.
-const REASONS: [(ReserveError, &str, &str); 2] = [
+/// Reasons, what is told of each, and of a pair that was refused for it.
+static REASONS: [(ReserveError, &str, &str); 2] = [
     (
         ReserveError::Memory,
-        "Memory",
-        "a request for memory was refused",
+        "a request for memory was refused|Memory",
+        "the store did not grow for one more pair: a request for memory was refused|RefusedPair { key: \"a\", value: 1, why: Memory }",
     ),
     (
         ReserveError::TooLarge,
-        "TooLarge",
-        "the capacity would pass 2^56",
+        "the capacity would pass 2^56|TooLarge",
+        "the store did not grow for one more pair: the capacity would pass 2^56|RefusedPair { key: \"a\", value: 1, why: TooLarge }",
     ),
 ];
 
 #[test]
 fn errors_tell_the_reason(rt: HostRuntime) {
     let alloc = rt.alloc();
-    for (why, shown, text) in REASONS {
-        shows(&rt, alloc, &why, shown);
-        let refused = refused(&rt, alloc, why);
-        let printed = format!(in alloc; "{why}|{refused}").expect(&rt, "a text");
-        let want = format!(in alloc;
-            "{text}|the store did not grow for one more pair: {text}"
-        ).expect(&rt, "a text");
-        assert!(rt; printed.as_str() == want.as_str());
+    for (why, told, told_of_pair) in &REASONS {
+        tells(&rt, alloc, why, told);
+        tells(&rt, alloc, &refused(&rt, alloc, *why), told_of_pair);
     }
-    let refused = refused(&rt, alloc, ReserveError::Memory);
-    shows(
-        &rt,
-        alloc,
-        &refused,
-        "RefusedPair { key: \"a\", value: 1, why: Memory }",
-    );
 }
+
+/// Asserts what is shown of a value.
+fn shows<T: Debug>(rt: &impl Abort, alloc: Global, value: &T, want: &str) {
+    let shown = format!(in alloc; "{value:?}").expect(rt, "a text");
+    assert!(rt; shown.as_str() == want);
+}
+
+/// What a look tells of a resident.
+const RESIDENT: Seen = Seen::Resident {
+    at: 1,
+    distance: 2,
+    same: true,
+};
 
 #[test]
-fn commands_and_replies_are_shown(rt: HostRuntime) {
+fn commands_and_looks_are_shown(rt: HostRuntime) {
     let alloc = rt.alloc();
+    shows(&rt, alloc, &FixedHash, "FixedHash");
+    shows(&rt, alloc, &Seen::Empty, "Empty");
     shows(
         &rt,
         alloc,
-        &Command::Insert(key(&rt, alloc, "a"), 1u64),
-        "Insert(\"a\", 1)",
+        &RESIDENT,
+        "Resident { at: 1, distance: 2, same: true }",
     );
     shows(&rt, alloc, &Command::<u64>::ShrinkToFit, "ShrinkToFit");
-    shows(
-        &rt,
-        alloc,
-        &Reply::Removed(Some((key(&rt, alloc, "a"), 1u64))),
-        "Removed(Some((\"a\", 1)))",
-    );
-    shows(
-        &rt,
-        alloc,
-        &Reply::<u64>::NotDone(ReserveError::TooLarge),
-        "NotDone(TooLarge)",
-    );
+    let insertion = Command::Insert(key(&rt, alloc, "a"), 1u64);
+    shows(&rt, alloc, &insertion, "Insert(\"a\", 1)");
 }
 
-/// Whether what is shown of a value begins so.
-fn begins<T: Debug>(rt: &impl Abort, alloc: Global, value: &T, want: &str) -> bool {
-    let shown = format!(in alloc; "{value:?}").expect(rt, "a text");
+/// Whether what is shown of a store with one pair begins so.
+fn begins<P: PairStore<u64> + Debug + Drop>(rt: &impl Abort, alloc: Global, want: &str) -> bool {
+    let mut store = P::new(alloc);
+    insert_all(rt, alloc, &mut store, &["a"]);
+    let shown = format!(in alloc; "{store:?}").expect(rt, "a text");
     shown.as_str().starts_with(want)
 }
 
 #[test]
-fn stores_and_looks_are_shown(rt: HostRuntime) {
+fn stores_are_shown(rt: HostRuntime) {
     let alloc = rt.alloc();
-    let mut list = LinearPairs::new(alloc);
-    insert_all(&rt, alloc, &mut list, &["a"]);
-    shows(&rt, alloc, &list, "LinearPairs { pairs: [(\"a\", 0)] }");
-    let mut table = FixedTable::new(alloc);
-    insert_all(&rt, alloc, &mut table, &["a"]);
-    assert!(rt; begins(&rt, alloc, &table, "Table { pairs: [(\"a\", 0)], index: "));
-    shows(&rt, alloc, &FixedHash, "FixedHash");
-    shows(&rt, alloc, &Seen::Empty, "Empty");
-    let seen = Seen::Resident {
-        at: 1,
-        distance: 2,
-        same: true,
-    };
-    shows(
-        &rt,
-        alloc,
-        &seen,
-        "Resident { at: 1, distance: 2, same: true }",
-    );
+    assert!(rt; begins::<LinearPairs<u64>>(&rt, alloc, "LinearPairs { pairs: [(\"a\", 0)] }"));
+    assert!(rt; begins::<FixedTable<u64>>(&rt, alloc, "Table { pairs: [(\"a\", 0)], index: "));
 }

@@ -2,30 +2,40 @@
 
 use super::{AlwaysZero, ByLength, key};
 use crate::{Command, FixedTable, LinearPairs, PairStore, Table, run};
-use ijson_number::Looks;
 use std::alloc::Global;
 use std::process::Abort;
 
 /// How many pairs the greatest table has.
 const PAIRS: u64 = 10_000;
 
-#[test]
-fn a_table_takes_ten_thousand_pairs(rt: HostRuntime) {
-    let alloc = rt.alloc();
-    let mut table = FixedTable::new(alloc);
-    for number in 0..PAIRS {
-        let letters = format!(in alloc; "{number}").expect(&rt, "a text");
-        let mut looks = Looks::new();
-        let taken = table.insert_counted(key(&rt, alloc, &letters), number, &mut looks);
-        assert!(rt; matches!(taken, Ok(None)));
-    }
-    assert!(rt; table.len() == 10_000 && table.capacity() == 16_384);
-    assert!(rt; table.get("9999") == Some(&9_999) && table.index_of("10000").is_none());
-    assert!(rt; table.shrink_to_fit().is_ok() && table.position("9998") == Some(9_998));
+/// Whether a table takes a number under its digits, which are a new key.
+fn takes(rt: &impl Abort, alloc: Global, table: &mut FixedTable<u64>, number: u64) -> bool {
+    let letters = format!(in alloc; "{number}").expect(rt, "a text");
+    let taken = table.insert(key(rt, alloc, &letters), number);
+    matches!(taken, Ok(None))
 }
 
-/// Asserts that an empty store makes room for 100,000 pairs, and gives it back.
-fn grows_far<P: PairStore<u64>>(rt: &impl Abort, store: &mut P) {
+/// Whether a table has the pairs of the numbers below 10,000.
+fn has_numbers(table: &FixedTable<u64>) -> bool {
+    table.len() == 10_000
+        && table.get("9999") == Some(&9_999)
+        && table.position("9998") == Some(9_998)
+        && table.index_of("10000").is_none()
+}
+
+#[test]
+fn a_table_takes_ten_thousand_pairs(rt: HostRuntime) {
+    let mut table = FixedTable::new(rt.alloc());
+    for number in 0..PAIRS {
+        assert!(rt; takes(&rt, rt.alloc(), &mut table, number));
+    }
+    assert!(rt; has_numbers(&table) && table.capacity() == 16_384);
+    assert!(rt; table.shrink_to_fit().is_ok() && has_numbers(&table));
+}
+
+/// Asserts that a new store makes room for 100,000 pairs, and gives it back.
+fn grows_far<P: PairStore<u64> + Drop>(rt: &impl Abort, alloc: Global) {
+    let mut store = P::new(alloc);
     assert!(rt; store.reserve(100_000).is_ok() && store.capacity() == 100_000);
     assert!(rt; store.shrink_to_fit().is_ok() && store.capacity() == 0);
 }
@@ -33,10 +43,10 @@ fn grows_far<P: PairStore<u64>>(rt: &impl Abort, store: &mut P) {
 #[test]
 fn each_store_makes_room_for_many(rt: HostRuntime) {
     let alloc = rt.alloc();
-    grows_far(&rt, &mut LinearPairs::new(alloc));
-    grows_far(&rt, &mut Table::<u64, AlwaysZero>::new(alloc));
-    grows_far(&rt, &mut Table::<u64, ByLength>::new(alloc));
-    grows_far(&rt, &mut FixedTable::new(alloc));
+    grows_far::<LinearPairs<u64>>(&rt, alloc);
+    grows_far::<Table<u64, AlwaysZero>>(&rt, alloc);
+    grows_far::<Table<u64, ByLength>>(&rt, alloc);
+    grows_far::<FixedTable<u64>>(&rt, alloc);
 }
 
 /// So many commands that clear a store.

@@ -13,6 +13,7 @@ use Rattle.ijson_table.specs.private.Probe.{onward, PassedOthers, Ends}
 use Rattle.ijson_table.proofs.arithmetic.Comparing.{below_or_not}
 use Rattle.ijson_table.proofs.arithmetic.Circular.{home_within, onward-below, onward-distance, distance-below}
 use Rattle.ijson_table.proofs.shifting.Insertion.{eqb-self}
+use Rattle.ijson_table.proofs.shifting.Vacancy.{home_here}
 use Rattle.ijson_table.proofs.slots.HashesInSlots.{positions-length, displacement-in}
 use Rattle.ijson_table.proofs.probing.ProbePath.{displacement-some, on_the_way}
 use Rattle.ijson_table.proofs.index.shift.slot_of.Goals as goal
@@ -39,10 +40,6 @@ returns-clause-there g c =
     let ends = c.in-Found.ensures.ends in
     let same : c.in-Found.field-0 ≡ c.args.position = grind (arith, nat_tests, ends.3) in
     ends.2 ∙ ap Some same
-
-home_here : (hashes : List ℕ) (n position hash : ℕ) → hash ≡ get_or hashes position 0 → hash % n ≡ home_at n hashes position
-unfolding home_at
-home_here hashes n position hash is = ap (λ x. x % n) is
 
 -- the probe does not pass the position, and does not end before it
 not_before : (hashes : List ℕ) (slots : List Slot) (position hash m : ℕ) → hash ≡ get_or hashes position 0 → HaveHashes hashes slots

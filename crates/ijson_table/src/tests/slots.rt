@@ -1,0 +1,223 @@
+//! Tables worked by hand: what stands at their slots, and how many looks they take.
+
+use super::Step::{Clear, Find, Put, Remove, Reserve, ShiftRemove, Shrink};
+use super::{AlwaysZero, ByLength, Step, key, replies_so};
+use crate::{FixedHash, FixedTable, KeyHash, PairStore, Places, Seen, Table, locate};
+use ijson_number::Looks;
+use std::alloc::Global;
+use std::process::Abort;
+
+/// Whether a key is at this position, and found there, or missed, with so many looks, by `locate` and by `get_counted`.
+fn finds<H: KeyHash>(
+    table: &Table<u64, H>,
+    key: &str,
+    position: Option<usize>,
+    count: u128,
+) -> bool {
+    if table.len() > 1000 {
+        return false;
+    }
+    let mut looks = Looks::new();
+    let found = locate(table, key, &mut looks);
+    let mut looks_of_get = Looks::new();
+    let there = table.get_counted(key, &mut looks_of_get).is_some();
+    found == position
+        && table.index_of(key) == position
+        && looks.count() == count
+        && there == position.is_some()
+        && looks_of_get.count() == count
+}
+
+/// Whether these are the positions in the slots, 9 where one is empty.
+fn has_positions<P: Places>(table: &P, positions: &[usize]) -> bool {
+    if table.places() != positions.len() {
+        return false;
+    }
+    for slot in 0..table.places() {
+        let mut looks = Looks::new();
+        let position = match table.look(slot, "", &mut looks) {
+            Seen::Empty => 9,
+            Seen::Resident { at, .. } => at,
+        };
+        if positions[slot] != position {
+            return false;
+        }
+    }
+    true
+}
+
+/// A step, what is shown of its reply, and the positions in the slots then.
+type Worked = (Step, &'static str, &'static [usize]);
+
+/// Asserts what each of these steps does.
+fn follows<H: KeyHash>(
+    rt: &impl Abort,
+    alloc: Global,
+    table: &mut Table<u64, H>,
+    steps: &[Worked],
+) {
+    for (step, want, positions) in steps {
+        assert!(rt; replies_so(rt, alloc, table, *step, want));
+        assert!(rt; has_positions(table, positions));
+    }
+}
+
+/// Keys of two lengths.
+static LENGTHS_MEET: [Worked; 4] = [
+    (Put("a", 0), "Added", &[9, 0, 9, 9, 9]),
+    (Put("bb", 1), "Added", &[9, 0, 1, 9, 9]),
+    (Put("c", 2), "Added", &[9, 0, 2, 1, 9]),
+    (Put("dd", 3), "Added", &[9, 0, 2, 1, 3]),
+];
+
+/// The last pair moves into a gap. After new insertions those behind a gap move forward.
+static GAPS_CLOSE: [Worked; 13] = [
+    (Remove("a"), "Removed(Some((\"a\", 0)))", &[9, 2, 1, 0, 9]),
+    (Find("dd"), "Found(Some(0))", &[9, 2, 1, 0, 9]),
+    (Find("bb"), "Found(Some(1))", &[9, 2, 1, 0, 9]),
+    (Find("c"), "Found(Some(2))", &[9, 2, 1, 0, 9]),
+    (Clear, "Done", &[9, 9, 9, 9, 9]),
+    (Put("a", 0), "Added", &[9, 0, 9, 9, 9]),
+    (Put("bb", 1), "Added", &[9, 0, 1, 9, 9]),
+    (Put("c", 2), "Added", &[9, 0, 2, 1, 9]),
+    (Put("dd", 3), "Added", &[9, 0, 2, 1, 3]),
+    (
+        ShiftRemove("a"),
+        "Removed(Some((\"a\", 0)))",
+        &[9, 1, 0, 2, 9],
+    ),
+    (Find("bb"), "Found(Some(0))", &[9, 1, 0, 2, 9]),
+    (Find("c"), "Found(Some(1))", &[9, 1, 0, 2, 9]),
+    (Find("dd"), "Found(Some(2))", &[9, 1, 0, 2, 9]),
+];
+
+/// Residents go round the end. Those of one home stay in their order when the table grows.
+static ROUND_THE_END: [Worked; 13] = [
+    (Clear, "Done", &[9, 9, 9, 9, 9]),
+    (Shrink, "Done", &[]),
+    (Put("aaaa", 0), "Added", &[9, 9, 9, 9, 0]),
+    (Put("bbbb", 1), "Added", &[1, 9, 9, 9, 0]),
+    (Put("cccc", 2), "Added", &[1, 2, 9, 9, 0]),
+    (Put("dddd", 3), "Added", &[1, 2, 3, 9, 0]),
+    (Put("eeee", 4), "Added", &[9, 9, 9, 9, 0, 1, 2, 3, 4, 9]),
+    (Clear, "Done", &[9, 9, 9, 9, 9, 9, 9, 9, 9, 9]),
+    (Shrink, "Done", &[]),
+    (Put("aaaa", 0), "Added", &[9, 9, 9, 9, 0]),
+    (Put("bbbb", 1), "Added", &[1, 9, 9, 9, 0]),
+    (Put("ccccc", 2), "Added", &[1, 2, 9, 9, 0]),
+    (
+        Remove("aaaa"),
+        "Removed(Some((\"aaaa\", 0)))",
+        &[0, 9, 9, 9, 1],
+    ),
+];
+
+#[test]
+fn homes_by_length(rt: HostRuntime) {
+    let alloc = rt.alloc();
+    let mut table: Table<u64, ByLength> = Table::new(alloc);
+    follows(&rt, alloc, &mut table, &LENGTHS_MEET);
+    assert!(rt; finds(&table, "dd", Some(3), 3) && finds(&table, "z", None, 3));
+    assert!(rt; finds(&table, "zz", None, 4));
+    follows(&rt, alloc, &mut table, &GAPS_CLOSE);
+    follows(&rt, alloc, &mut table, &ROUND_THE_END);
+    assert!(rt; finds(&table, "bbbb", Some(1), 1) && finds(&table, "dddd", None, 2));
+}
+
+/// How many looks the insertions of these keys take, and that of the first one once more. The walk after a growth is not counted.
+static LOOKS_OF_INSERTIONS: [(&str, u128); 5] = [
+    ("a", 0),
+    ("bb", 1),
+    ("c", 2),
+    ("dd", 3),
+    ("a", 1),
+];
+
+#[test]
+fn insertions_count_their_looks(rt: HostRuntime) {
+    let mut table: Table<u64, ByLength> = Table::new(rt.alloc());
+    for (letters, count) in &LOOKS_OF_INSERTIONS {
+        let mut looks = Looks::new();
+        let inserted = table.insert_counted(key(&rt, rt.alloc(), letters), 7, &mut looks);
+        assert!(rt; inserted.is_ok() && looks.count() == *count);
+    }
+}
+
+/// A new table.
+static GROWS: [Worked; 6] = [
+    (Reserve(0), "Done", &[]),
+    (Put("a", 0), "Added", &[0, 9, 9, 9, 9]),
+    (Put("b", 1), "Added", &[0, 1, 9, 9, 9]),
+    (Put("c", 2), "Added", &[0, 1, 2, 9, 9]),
+    (Put("d", 3), "Added", &[0, 1, 2, 3, 9]),
+    (Put("e", 4), "Added", &[0, 1, 2, 3, 4, 9, 9, 9, 9, 9]),
+];
+
+/// A table that was made with room for one pair.
+static ONE_SLOT: [Worked; 1] = [(Put("a", 0), "Added", &[0])];
+
+/// A table that was made with room for three pairs is filled to the last slot.
+static THREE_SLOTS: [Worked; 3] = [
+    (Put("a", 0), "Added", &[0, 9, 9]),
+    (Put("b", 1), "Added", &[0, 1, 9]),
+    (Put("c", 2), "Added", &[0, 1, 2]),
+];
+
+/// And is full no more.
+static TWO_OF_THREE: [Worked; 3] = [
+    (Remove("a"), "Removed(Some((\"a\", 0)))", &[1, 0, 9]),
+    (Find("c"), "Found(Some(0))", &[1, 0, 9]),
+    (Find("b"), "Found(Some(1))", &[1, 0, 9]),
+];
+
+#[test]
+fn one_home_for_all(rt: HostRuntime) {
+    let alloc = rt.alloc();
+    let mut table: Table<u64, AlwaysZero> = Table::new(alloc);
+    assert!(rt; finds(&table, "a", None, 0));
+    follows(&rt, alloc, &mut table, &GROWS);
+    assert!(rt; finds(&table, "z", None, 6));
+}
+
+/// An empty table with room for so many pairs. All have one home.
+fn roomy(rt: &impl Abort, alloc: Global, capacity: usize) -> Table<u64, AlwaysZero> {
+    Table::with_capacity(alloc, capacity).expect(rt, "a table")
+}
+
+#[test]
+fn full_to_the_last_slot(rt: HostRuntime) {
+    let alloc = rt.alloc();
+    let mut table = roomy(&rt, alloc, 1);
+    follows(&rt, alloc, &mut table, &ONE_SLOT);
+    assert!(rt; finds(&table, "a", Some(0), 1) && finds(&table, "b", None, 1));
+    let mut table = roomy(&rt, alloc, 3);
+    follows(&rt, alloc, &mut table, &THREE_SLOTS);
+    assert!(rt; finds(&table, "z", None, 3));
+    follows(&rt, alloc, &mut table, &TWO_OF_THREE);
+}
+
+/// The homes of a, b, c and d are 2, 3, 4 and 0 of 5.
+static HOMES_OF_FOUR: [Worked; 4] = [
+    (Put("a", 0), "Added", &[9, 9, 0, 9, 9]),
+    (Put("b", 1), "Added", &[9, 9, 0, 1, 9]),
+    (Put("c", 2), "Added", &[9, 9, 0, 1, 2]),
+    (Put("d", 3), "Added", &[3, 9, 0, 1, 2]),
+];
+
+#[test]
+fn fixed_hashes(rt: HostRuntime) {
+    assert!(rt; FixedHash::hash("") == 0xcbf2_9ce4_8422_2325);
+    assert!(rt; FixedHash::hash("a") == 0xaf63_bd4c_8601_b840);
+    let mut table = FixedTable::new(rt.alloc());
+    follows(&rt, rt.alloc(), &mut table, &HOMES_OF_FOUR);
+    assert!(rt; table.places() > 0 && table.home("d") == 0);
+    assert!(rt; finds(&table, "d", Some(3), 1));
+}
+
+#[test]
+fn a_table_has_five_slots_for_four_pairs(rt: HostRuntime) {
+    for (capacity, slots) in [(0, 0), (1, 1), (3, 3), (4, 5), (8, 10), (10, 12)] {
+        let table = roomy(&rt, rt.alloc(), capacity);
+        assert!(rt; table.capacity() == capacity && table.places() == slots);
+    }
+}
