@@ -1,5 +1,6 @@
 //! `compact`: from a source to a sink.
 ghost use Rattle.std.specs.Prelude.{◌≡◌, ◌≢◌, ◌+◌, ◌^◌, ◌<◌, ◌↔◌, ◌⊎◌, ℕ, List, [], IfOk, IfErr, OnOk, IfSome, Some, Err, IsUtf8};
+ghost use Rattle.std.specs.Prelude.{◌++◌, ◌∷◌};
 ghost use Rattle.std.specs.Io.KnownBytes.{Appends, Keeps};
 ghost use Rattle.std.specs.String.{string_bytes};
 ghost use Rattle.ijson_json.specs.AddsOnlyRead.{AddsOnlyRead};
@@ -9,6 +10,7 @@ ghost use Rattle.ijson_json.specs.private.CompactErrorOfReadFault.{compact_error
 ghost use Rattle.ijson_json.specs.Compacts.{IsCompactLine};
 ghost use Rattle.ijson_json.specs.CompactRefusal.{IsCompactRefusal};
 ghost use Rattle.ijson_json.specs.Grammar.{Accepted};
+ghost use Rattle.ijson_json.specs.Print.{print};
 ghost use Rattle.ijson_json.specs.WritesBeginning.{WritesBeginning};
 ghost use Rattle.ijson_json.specs.declared.compacting.CompactError.TheVariants.{Read, NotUtf8, Write, Json, Memory as NoMemory};
 ghost use Rattle.ijson_json.specs.declared.fault.JsonError.TheVariants.{Memory};
@@ -181,12 +183,21 @@ fn compact_line<S: BuildHasher>(
     ensures unread { result ≡ Err NotUtf8 → cache.new ≡ cache.old }
     ensures shared { OnOk result (SharesTextsOf bytes.items cache.new) }
 {
-    let mut line = text_of(bytes)?;
-    let value = from_json(alloc, cache, line.as_str())?;
-    line.clear();
-    push_value(&mut line, &value)?;
-    line.push('\n')?;
+    let text = text_of(bytes)?;
+    let value = from_json(alloc, cache, text.as_str())?;
+    let line = line_of(text, &value)?;
     Ok((value, line))
+}
+
+/// The compact text of the value and a line feed, in the memory of `room` as far as that goes.
+fn line_of(room: String, value: &IValue) -> Result<String, AllocError>
+    ensures { IfOk result (λ line. string_bytes line ≡ print value.now.tree ++ 10 ∷ []) }
+{
+    let mut line = room;
+    line.clear();
+    push_value(&mut line, value)?;
+    line.push('\n')?;
+    Ok(line)
 }
 
 /// The text that `bytes` are, in their memory.

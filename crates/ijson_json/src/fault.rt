@@ -3,8 +3,6 @@
 ghost use Rattle.std.specs.Prelude.{◌≡◌};
 ghost use Rattle.ijson_json.specs.declared.fault.Fault.TheVariants.{Memory};
 
-use ijson_string::IString;
-use ijson_value::value::IValue;
 use std::alloc::{AllocError, AllocFailed};
 use thiserror::Error;
 
@@ -47,18 +45,11 @@ pub(crate) enum Fault {
     Memory,
 }
 
-impl From<AllocFailed<IValue>> for Fault {
+/// What was to be kept is dropped.
+impl<T: Drop> From<AllocFailed<T>> for Fault {
     ghost from_gives = { λ _ fault. fault ≡ Memory };
 
-    fn from(_refused: AllocFailed<IValue>) -> Fault {
-        Fault::Memory
-    }
-}
-
-impl From<AllocFailed<(IString, IValue)>> for Fault {
-    ghost from_gives = { λ _ fault. fault ≡ Memory };
-
-    fn from(_refused: AllocFailed<(IString, IValue)>) -> Fault {
+    fn from(_refused: AllocFailed<T>) -> Fault {
         Fault::Memory
     }
 }

@@ -26,7 +26,7 @@ mod value;
 use crate::fault::{Fault, JsonError};
 use crate::read::scratch::Scratch;
 use crate::read::value::read_value;
-use crate::scan::prefix::skip_space;
+use crate::scan::space::skip_space;
 use ijson_string::StringCache;
 use ijson_value::value::IValue;
 use std::alloc::Global;

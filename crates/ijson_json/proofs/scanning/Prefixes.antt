@@ -1,5 +1,5 @@
 -- Runs of bytes that pass a test, at the front of a text.
-use Rattle.std.proofs.Common.{◌≡◌, ℕ, ◌≤◌, Bool, true, false, List, [], ◌∷◌, ◌++◌, length, refl, sym, ap, ◌∙◌, append_assoc, eqb, eq-eqb}
+use Rattle.std.proofs.Common.{◌≡◌, ℕ, ◌≤◌, Bool, true, false, List, [], ◌∷◌, ◌++◌, length, refl, sym, ap, ◌∙◌, eqb, eq-eqb}
 use Rattle.std.proofs.Common.{arith}
 use Rattle.std.specs.Prelude.{IsTrue}
 use Rattle.std.specs.List.{AllByRecursion}
@@ -48,11 +48,6 @@ run_same p (c ∷ a) (d ∷ b) x y ra rb px py e =
 pub run-append : (p : ℕ → Bool) (a b : List ℕ) → Run p a → Run p b → Run p (a ++ b)
 run-append p [] b ra rb = rb
 run-append p (c ∷ a) b ra rb = (ra.0, run-append p a b ra.1 rb)
-
--- one more byte passes
-pub run_more : (p : ℕ → Bool) (text rest more : List ℕ) {b : ℕ} → (s : List ℕ) × Run p s × (text ≡ s ++ rest) → rest ≡ b ∷ more
-    → true ≡ p b → (s : List ℕ) × Run p s × (text ≡ s ++ more)
-run_more p text rest more {b} (s, r, e) f h = (s ++ b ∷ [], run-append p s (b ∷ []) r (sym h, tt), rw (e, f) (simp append_assoc))
 
 -- what stands behind the front is no longer than the text
 pub front_shorter : (P : List ℕ → Type 0) (text rest : List ℕ) → Front P text rest → length rest ≤ length text

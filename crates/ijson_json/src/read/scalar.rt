@@ -39,9 +39,18 @@ pub(crate) fn read_scalar<'a, S: BuildHasher>(
             let (string, rest) = read_string(cache, content, text)?;
             Ok((IValue::from(string), rest))
         }
-        b'n' => Ok((IValue::NULL, strip_word(text, "null")?)),
-        b't' => Ok((IValue::TRUE, strip_word(text, "true")?)),
-        b'f' => Ok((IValue::FALSE, strip_word(text, "false")?)),
+        b'n' => {
+            let rest = strip_word(text, "null")?;
+            Ok((IValue::NULL, rest))
+        }
+        b't' => {
+            let rest = strip_word(text, "true")?;
+            Ok((IValue::TRUE, rest))
+        }
+        b'f' => {
+            let rest = strip_word(text, "false")?;
+            Ok((IValue::FALSE, rest))
+        }
         _ => {
             let (number, rest) = read_number(alloc, text)?;
             Ok((IValue::from(number), rest))

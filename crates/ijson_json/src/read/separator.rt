@@ -4,7 +4,8 @@ ghost use Rattle.std.specs.Prelude.{◌<◌, MatchResult};
 ghost use Rattle.ijson_json.specs.private.Separators.{SeparatorAt, NoSeparator};
 
 use crate::fault::Fault;
-use crate::scan::prefix::{skip_space, strip_byte};
+use crate::scan::prefix::strip_byte;
+use crate::scan::space::skip_space;
 
 /// What stands behind an item or a member.
 #[derive(Clone, Copy)]

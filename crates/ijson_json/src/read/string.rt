@@ -13,8 +13,9 @@ ghost use Rattle.ijson_json.specs.private.StringReading.{ContentAt, ContentFault
 
 use crate::fault::Fault;
 use crate::read::escape::take_escape;
-use crate::scan::prefix::{skip_space, strip_byte};
+use crate::scan::prefix::strip_byte;
 use crate::scan::run::{push_run, split_run};
+use crate::scan::space::skip_space;
 use ijson_string::{IString, StringCache};
 use std::hash::BuildHasher;
 

@@ -1,18 +1,10 @@
 //! What a text begins with.
 
 ghost use Rattle.std.specs.Prelude.{◌≡◌, ◌++◌, ◌∷◌, ◌==◌, ◌<◌, ◌≤◌, nat_lt, length, MatchOption, MatchResult, IfSome};
-ghost use Rattle.ijson_json.specs.Grammar.{is_space};
-ghost use Rattle.ijson_json.specs.private.Reading.{Skips, Past};
+ghost use Rattle.ijson_json.specs.private.Reading.{Past};
 ghost use Rattle.ijson_json.specs.private.Explains.{WordFault};
 
 use crate::fault::Fault;
-
-/// Space, tab, line feed or carriage return.
-fn is_white(byte: u8) -> bool
-    ensures { result ≡ is_space byte }
-{
-    byte == b' ' || byte == b'\n' || byte == b'\r' || byte == b'\t'
-}
 
 /// The first byte and the text behind it, where that byte is a character.
 pub(crate) fn split_ascii(text: &str) -> Option<(u8, &str)>
@@ -26,20 +18,6 @@ pub(crate) fn split_ascii(text: &str) -> Option<(u8, &str)>
     } else {
         None
     }
-}
-
-/// The text behind the white space that it begins with.
-pub(crate) fn skip_space(text: &str) -> &str
-    ensures { Skips text.now result.now }
-{
-    let mut rest = text;
-    while let Some((byte, more)) = split_ascii(rest) {
-        if !is_white(byte) {
-            break;
-        }
-        rest = more;
-    }
-    rest
 }
 
 /// The text behind the byte, if it begins with it.

@@ -28,38 +28,38 @@ returns-in_ok-string-in-34-clause-shared g c =
 
 -- ---- a word
 
-pub returns-in_err-strip_word-in-110-clause-read : goal.returns-in_err-strip_word-in-110-clause-read
-returns-in_err-strip_word-in-110-clause-read g c = λ opened within.
-    let p = err_from_is_err_and c.from_residual-in_err-strip_word-in-110.result c.from_residual-in_err-strip_word-in-110.ensures.1 in
+pub returns-in_err-rest-in-110-clause-read : goal.returns-in_err-rest-in-110-clause-read
+returns-in_err-rest-in-110-clause-read g c = λ opened within.
+    let p = err_from_is_err_and c.from_residual-in_err-rest-in-110.result c.from_residual-in_err-rest-in-110.ensures.1 in
     let begun = begins 110 c.args.text.now c.args.first c.requires.begins.0 c.requires.begins.1 c.in-110.is in
-    rw (p.1, p.2) (word_fault null_word opened c.args.text.now c.requires.begins.0 c.in_err-strip_word-in-110.field-0.0 begun
-    c.in_err-strip_word-in-110.ensures)
+    rw (p.1, p.2) (word_fault null_word opened c.args.text.now c.requires.begins.0 c.in_err-rest-in-110.field-0.0 begun
+    c.in_err-rest-in-110.ensures)
 
-pub returns-in_ok-strip_word-in-110-clause-read : goal.returns-in_ok-strip_word-in-110-clause-read
-returns-in_ok-strip_word-in-110-clause-read g c = λ opened within.
-    word_read null_word opened c.args.text.now c.in_ok-strip_word-in-110.field-0.now within c.in_ok-strip_word-in-110.ensures
+pub returns-in_ok-rest-in-110-clause-read : goal.returns-in_ok-rest-in-110-clause-read
+returns-in_ok-rest-in-110-clause-read g c = λ opened within.
+    word_read null_word opened c.args.text.now c.in_ok-rest-in-110.rest.now within c.in_ok-rest-in-110.ensures
 
-pub returns-in_err-strip_word-in-116-clause-read : goal.returns-in_err-strip_word-in-116-clause-read
-returns-in_err-strip_word-in-116-clause-read g c = λ opened within.
-    let p = err_from_is_err_and c.from_residual-in_err-strip_word-in-116.result c.from_residual-in_err-strip_word-in-116.ensures.1 in
+pub returns-in_err-rest-in-116-clause-read : goal.returns-in_err-rest-in-116-clause-read
+returns-in_err-rest-in-116-clause-read g c = λ opened within.
+    let p = err_from_is_err_and c.from_residual-in_err-rest-in-116.result c.from_residual-in_err-rest-in-116.ensures.1 in
     let begun = begins 116 c.args.text.now c.args.first c.requires.begins.0 c.requires.begins.1 c.in-116.is in
-    rw (p.1, p.2) (word_fault true_word opened c.args.text.now c.requires.begins.0 c.in_err-strip_word-in-116.field-0.0 begun
-    c.in_err-strip_word-in-116.ensures)
+    rw (p.1, p.2) (word_fault true_word opened c.args.text.now c.requires.begins.0 c.in_err-rest-in-116.field-0.0 begun
+    c.in_err-rest-in-116.ensures)
 
-pub returns-in_ok-strip_word-in-116-clause-read : goal.returns-in_ok-strip_word-in-116-clause-read
-returns-in_ok-strip_word-in-116-clause-read g c = λ opened within.
-    word_read true_word opened c.args.text.now c.in_ok-strip_word-in-116.field-0.now within c.in_ok-strip_word-in-116.ensures
+pub returns-in_ok-rest-in-116-clause-read : goal.returns-in_ok-rest-in-116-clause-read
+returns-in_ok-rest-in-116-clause-read g c = λ opened within.
+    word_read true_word opened c.args.text.now c.in_ok-rest-in-116.rest.now within c.in_ok-rest-in-116.ensures
 
-pub returns-in_err-strip_word-in-102-clause-read : goal.returns-in_err-strip_word-in-102-clause-read
-returns-in_err-strip_word-in-102-clause-read g c = λ opened within.
-    let p = err_from_is_err_and c.from_residual-in_err-strip_word-in-102.result c.from_residual-in_err-strip_word-in-102.ensures.1 in
+pub returns-in_err-rest-in-102-clause-read : goal.returns-in_err-rest-in-102-clause-read
+returns-in_err-rest-in-102-clause-read g c = λ opened within.
+    let p = err_from_is_err_and c.from_residual-in_err-rest-in-102.result c.from_residual-in_err-rest-in-102.ensures.1 in
     let begun = begins 102 c.args.text.now c.args.first c.requires.begins.0 c.requires.begins.1 c.in-102.is in
-    rw (p.1, p.2) (word_fault false_word opened c.args.text.now c.requires.begins.0 c.in_err-strip_word-in-102.field-0.0 begun
-    c.in_err-strip_word-in-102.ensures)
+    rw (p.1, p.2) (word_fault false_word opened c.args.text.now c.requires.begins.0 c.in_err-rest-in-102.field-0.0 begun
+    c.in_err-rest-in-102.ensures)
 
-pub returns-in_ok-strip_word-in-102-clause-read : goal.returns-in_ok-strip_word-in-102-clause-read
-returns-in_ok-strip_word-in-102-clause-read g c = λ opened within.
-    word_read false_word opened c.args.text.now c.in_ok-strip_word-in-102.field-0.now within c.in_ok-strip_word-in-102.ensures
+pub returns-in_ok-rest-in-102-clause-read : goal.returns-in_ok-rest-in-102-clause-read
+returns-in_ok-rest-in-102-clause-read g c = λ opened within.
+    word_read false_word opened c.args.text.now c.in_ok-rest-in-102.rest.now within c.in_ok-rest-in-102.ensures
 
 -- ---- a number
 
