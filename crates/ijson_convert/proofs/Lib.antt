@@ -1,10 +1,6 @@
 pub mod Interning
 pub mod Refusals
-pub mod PairTrees
-pub mod PairsPut
-pub mod ItemsRead
-pub mod MembersRead
 pub mod Whole
-pub mod SerdeTrees
-pub mod SerdeNumbers
-pub mod SerdeMeanings
+pub mod pairs
+pub mod reading
+pub mod serde_trees

@@ -1,71 +1,119 @@
 -- What is read of a number as an integer.
 use Rattle.std.proofs.Common.{◌≡◌, ◌<◌, ◌≤◌, ◌^◌, ℕ, refl, sym, subst, ◌∙◌, arith}
-use Rattle.std.specs.Prelude.{ℤ, pos, FitsSigned}
+use Rattle.std.specs.Prelude.{ℤ, pos, negsuc, FitsSigned}
 use Rattle.std.specs.Cmp.{tied_back}
-use Rattle.std.specs.Int.{Width, w32, w64, cast_signed, cast_unsigned}
+use Rattle.std.specs.Int.{Width, w8, w16, w32, w64, cast_signed, cast_unsigned}
 use Rattle.std.proofs.lemmas.Int.{to_z-of_z}
 use Rattle.std.specs.declared.cmp.Ordering.TheVariants.{Equal}
 use Rattle.ijson_number.specs.Decimal.{Decimal}
-use Rattle.ijson_number.specs.Integers.{integer, HasValue}
+use Rattle.ijson_number.specs.Integers.{integer, HasValue, IsInteger}
 use Rattle.ijson_number.specs.Num.{Num}
 use Rattle.ijson_number.specs.Order.{number_cmp}
 use Rattle.ijson_number.specs.laws.Ordered.{number_cmp_total, tests_equal}
-use Rattle.ijson_number.proofs.storing.WholeValues.{value_one}
+use Rattle.ijson_value.specs.Integers.{HasInteger}
 use Rattle.ijson_value.specs.Same.{Same}
-use Rattle.ijson_value.specs.Tree.{Tree, number}
+use Rattle.ijson_value.specs.Tree.{Tree, null, boolean, number, string, array, object}
+use Rattle.ijson_value.specs.WellFormed.{WellFormed, IsWellFormed}
+use Rattle.ijson_value.proofs.Walks.{one_integer}
 use Rattle.ijson_convert.specs.IntegerTree.{integer_number, integer_tree}
 use Rattle.ijson_convert.specs.IsRead.{IsRead}
 use Rattle.ijson_convert.specs.Refused.{SignedRefused, UnsignedRefused}
+use Rattle.ijson_convert.specs.private.NoInteger.{IsNoInteger}
+use Rattle.ijson_convert.specs.declared.convert_error.ConvertError.{ConvertError}
 use Rattle.ijson_convert.specs.declared.convert_error.ConvertError.TheVariants.{OutOfRange}
-use Rattle.ijson_convert.specs.laws.Integers.{signed_has, unsigned_has}
+use Rattle.ijson_convert.specs.laws.Integers.{signed_has, unsigned_has, signed_is, unsigned_is}
 
 -- two of one value are equal
 pub has_same : (a n : Decimal) (z : ℤ) → HasValue a z → HasValue n z → number_cmp a n ≡ Equal
 has_same a n z h k =
     number_cmp_total.congr a (integer z) n (tests_equal _ h) ∙ tied_back number_cmp_total n (integer z) (tests_equal _ k)
 
+-- what is read as an integer of 32 bits, back from its bits
+pub read_back : (y z : ℤ) (t : Tree) → HasInteger t y → FitsSigned w32 y → z ≡ cast_signed w32 (cast_unsigned w32 y) → HasInteger t z
+read_back y z t h read e = subst (HasInteger t) (sym (e ∙ to_z-of_z w32 y read)) h
+
+-- the integers of a narrower type are among those of 32 bits
+pub narrow_8 : (z : ℤ) → FitsSigned w8 z → FitsSigned w32 z
+narrow_8 (pos n) h = omega arith
+narrow_8 (negsuc n) h = omega arith
+
+pub narrow_16 : (z : ℤ) → FitsSigned w16 z → FitsSigned w32 z
+narrow_16 (pos n) h = omega arith
+narrow_16 (negsuc n) h = omega arith
+
 module _ (width : Width) (wide : (z : ℤ) → FitsSigned width z → FitsSigned w64 z) where
-  -- a value of the width is read, and the same
-  pub signed_read : (z : ℤ) (t : Tree) (n : Decimal) → t ≡ number n → HasValue n z → FitsSigned width z
-      → Same (integer_tree z) t × IsRead (SignedRefused width) t
-  signed_read z t n is h i = subst (λ u. Same (integer_tree z) u × IsRead (SignedRefused width) u) (sym is) (
-    has_same (integer_number z) n z (signed_has z (wide z i)) h,
-    λ e r. r.1 z i h,
-  )
+  -- a value of the width is the same
+  signed_equal : (z : ℤ) (t : Tree) → HasInteger t z → FitsSigned width z → Same (integer_tree z) t
+  signed_equal z (number n) h i = has_same (integer_number z) n z (signed_has z (wide z i)) h
+  signed_equal z _ h i = absurd h
+
+  -- also back from its bits
+  pub signed_same : (z : ℤ) (t : Tree) → HasInteger t z → FitsSigned width z
+      → Same (integer_tree (cast_signed width (cast_unsigned width z))) t
+  signed_same z t h i = subst (λ y. Same (integer_tree y) t) (sym (to_z-of_z width z i)) (signed_equal z t h i)
+
+  -- a number that is made of one is its tree
+  pub signed_made : (z : ℤ) (n : Num) (t : Tree) → FitsSigned width z → IsInteger n.decimal (cast_signed width (cast_unsigned width z))
+      → t ≡ number n.decimal → t ≡ integer_tree z
+  signed_made z n t i h is = is ∙ signed_is n z (wide z i) (subst (IsInteger n.decimal) (to_z-of_z width z i) h)
+
+module _ (width : Width) where
+  -- it is read
+  pub signed_read : (z : ℤ) (t : Tree) → HasInteger t z → FitsSigned width z → IsRead (SignedRefused width) t
+  signed_read z (number n) h i = λ e r. r.1 z i h
+  signed_read z _ h i = absurd h
+
+  past_width : (z : ℤ) (t : Tree) → IsWellFormed t → HasInteger t z → (FitsSigned width z → ⊥) → SignedRefused width t OutOfRange
+  past_width z (number n) w h past = (refl, λ y i k. past (subst (FitsSigned width) (one_integer (number n) y z w k h) i))
+  past_width z _ w h past = absurd h
 
   -- a value past the width is refused
-  pub signed_past : (z : ℤ) (t : Tree) (n : Num) → t ≡ number n.decimal → HasValue n.decimal z → (FitsSigned width z → ⊥)
-      → SignedRefused width t OutOfRange
-  signed_past z t n is h past = subst (λ u. SignedRefused width u OutOfRange) (sym is) (
+  pub signed_past : (z : ℤ) (v : WellFormed) → HasInteger v.tree z → (FitsSigned width z → ⊥) → SignedRefused width v.tree OutOfRange
+  signed_past z v h past = past_width z v.tree v.well_formed h past
+
+  -- and so is what has no value of the width
+  pub signed_none : (t : Tree) (e : ConvertError) → ((z : ℤ) → FitsSigned width z → HasInteger t z → ⊥) → IsNoInteger t e
+      → SignedRefused width t e
+  signed_none null e none is = is
+  signed_none (boolean b) e none is = is
+  signed_none (number n) e none is = (is, none)
+  signed_none (string s) e none is = is
+  signed_none (array ts) e none is = is
+  signed_none (object ps) e none is = is
+
+-- the same of one without a sign
+pub unsigned_made : (limit : ℕ) → limit ≤ 2 ^ 64 → (m : ℕ) (n : Num) (t : Tree) → m < limit → IsInteger n.decimal (pos m)
+    → t ≡ number n.decimal → t ≡ integer_tree (pos m)
+unsigned_made limit below m n t i h is = is ∙ unsigned_is n m (omega (arith, below, i)) h
+
+module _ (limit : ℕ) where
+  -- a value below the limit is the same
+  pub unsigned_same : limit ≤ 2 ^ 64 → (m : ℕ) (t : Tree) → HasInteger t (pos m) → m < limit → Same (integer_tree (pos m)) t
+  unsigned_same below m (number n) h i = has_same (integer_number (pos m)) n (pos m) (unsigned_has m (omega (arith, below, i))) h
+  unsigned_same below m _ h i = absurd h
+
+  -- it is read
+  pub unsigned_read : (m : ℕ) (t : Tree) → HasInteger t (pos m) → m < limit → IsRead (UnsignedRefused limit) t
+  unsigned_read m (number n) h i = λ e r. r.1 m i h
+  unsigned_read m _ h i = absurd h
+
+  past_limit : (m : ℕ) (t : Tree) → IsWellFormed t → HasInteger t (pos m) → (m < limit → ⊥) → UnsignedRefused limit t OutOfRange
+  past_limit m (number n) w h past = (
     refl,
-    λ y i k. past (subst (FitsSigned width) (value_one n.decimal y z n.is_num.plain k h) i),
+    λ y i k. past (let e : pos y ≡ pos m = one_integer (number n) (pos y) (pos m) w k h in let q : y ≡ m = cc in omega (arith, q, i)),
   )
-
-  -- what is read as an integer of this width, back from its bits
-  pub signed_same : (z : ℤ) (t : Tree) (n : Decimal) → t ≡ number n → HasValue n z → FitsSigned width z
-      → Same (integer_tree (cast_signed width (cast_unsigned width z))) t
-  signed_same z t n is h i = subst (λ y. Same (integer_tree y) t) (sym (to_z-of_z width z i)) (signed_read z t n is h i).0
-
-  -- and so is one that is read as an integer of 32 bits, and is one of this width
-  pub signed_narrowed : (y z : ℤ) (t : Tree) (n : Decimal) → t ≡ number n → HasValue n y → FitsSigned w32 y → FitsSigned width z
-      → z ≡ cast_signed w32 (cast_unsigned w32 y) → Same (integer_tree (cast_signed width (cast_unsigned width z))) t
-  signed_narrowed y z t n is h read i e = signed_same z t n is (subst (HasValue n) (sym (e ∙ to_z-of_z w32 y read)) h) i
-
-module _ (limit : ℕ) (below : limit ≤ 2 ^ 64) where
-  -- a value below the limit is read, and the same
-  pub unsigned_read : (m : ℕ) (t : Tree) (n : Decimal) → t ≡ number n → HasValue n (pos m) → m < limit
-      → Same (integer_tree (pos m)) t × IsRead (UnsignedRefused limit) t
-  unsigned_read m t n is h i =
-      subst (λ u. Same (integer_tree (pos m)) u × IsRead (UnsignedRefused limit) u) (sym is) (
-        has_same (integer_number (pos m)) n (pos m) (unsigned_has m (omega (arith, below, i))) h,
-        λ e r. r.1 m i h,
-      )
+  past_limit m _ w h past = absurd h
 
   -- a value past the limit is refused
-  pub unsigned_past : (m : ℕ) (t : Tree) (n : Num) → t ≡ number n.decimal → HasValue n.decimal (pos m)
-      → (m < limit → ⊥) → UnsignedRefused limit t OutOfRange
-  unsigned_past m t n is h past = subst (λ u. UnsignedRefused limit u OutOfRange) (sym is) (
-    refl,
-    λ y i k. past (let e : pos y ≡ pos m = value_one n.decimal (pos y) (pos m) n.is_num.plain k h in
-        let q : y ≡ m = cc in omega (arith, q, i)),
-  )
+  pub unsigned_past : (m : ℕ) (v : WellFormed) → HasInteger v.tree (pos m) → (m < limit → ⊥) → UnsignedRefused limit v.tree OutOfRange
+  unsigned_past m v h past = past_limit m v.tree v.well_formed h past
+
+  -- and so is what has no value below it
+  pub unsigned_none : (t : Tree) (e : ConvertError) → ((m : ℕ) → m < limit → HasInteger t (pos m) → ⊥) → IsNoInteger t e
+      → UnsignedRefused limit t e
+  unsigned_none null e none is = is
+  unsigned_none (boolean b) e none is = is
+  unsigned_none (number n) e none is = (is, none)
+  unsigned_none (string s) e none is = is
+  unsigned_none (array ts) e none is = is
+  unsigned_none (object ps) e none is = is

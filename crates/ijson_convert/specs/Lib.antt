@@ -10,3 +10,4 @@ pub mod Refused
 pub mod SerdeTree
 pub mod SerdeTexts
 pub mod laws
+pub mod private

@@ -2,14 +2,26 @@
 ghost use Rattle.std.specs.Prelude.{◌<◌, ◌^◌, pos, ⊤, FitsSigned};
 ghost use Rattle.std.specs.Int.{w8, w16, w32, w64};
 ghost use Rattle.ijson_convert.specs.IntegerTree.{integer_tree};
+ghost use Rattle.ijson_convert.specs.private.NoInteger.{IsNoInteger};
 ghost use Rattle.ijson_convert.specs.Refused.{SignedRefused, UnsignedRefused};
 ghost use Rattle.ijson_convert.specs.laws.Whole.{signed_complete, unsigned_complete};
 ghost use Rattle.ijson_convert.specs.laws.Whole.{wide_8, wide_16, wide_32, wide_64, below_8, below_16, below_32, below_64};
 
 use crate::convert_error::ConvertError;
 use crate::from_ivalue::FromIValue;
-use ijson_value::value::{DestructuredRef, IValue};
+use ijson_value::value::IValue;
 use std::alloc::Global;
+
+/// Why a value that is no integer of a type is refused: it is of another kind, or a number past the range or with a fraction.
+fn why_no_integer(value: &IValue) -> ConvertError
+    ensures { IsNoInteger value.now.tree result }
+{
+    if value.is_number() {
+        ConvertError::OutOfRange
+    } else {
+        ConvertError::WrongKind
+    }
+}
 
 /// A number whose value is whole and in the range, whatever its shape: else `WrongKind` or `OutOfRange`.
 impl FromIValue for i8 {
@@ -21,17 +33,13 @@ impl FromIValue for i8 {
 
     ghost null_is_none = { λ _. ⊤ };
 
-    #[tactic(auto, using(crate::proofs::Whole::signed_read, crate::specs::laws::Whole::wide_8, crate::proofs::Whole::signed_past))]
     fn from_ivalue(_alloc: Global, value: &IValue) -> Result<i8, ConvertError> {
-        let DestructuredRef::Number(number) = value.destructure_ref() else {
-            return Err(ConvertError::WrongKind);
-        };
-        match number.to_i32() {
+        match value.to_i32() {
             Some(z) => match i8::try_from(z) {
                 Ok(z) => Ok(z),
                 Err(_) => Err(ConvertError::OutOfRange),
             },
-            None => Err(ConvertError::OutOfRange),
+            None => Err(why_no_integer(value)),
         }
     }
 
@@ -48,17 +56,13 @@ impl FromIValue for i16 {
 
     ghost null_is_none = { λ _. ⊤ };
 
-    #[tactic(auto, using(crate::proofs::Whole::signed_read, crate::specs::laws::Whole::wide_16, crate::proofs::Whole::signed_past))]
     fn from_ivalue(_alloc: Global, value: &IValue) -> Result<i16, ConvertError> {
-        let DestructuredRef::Number(number) = value.destructure_ref() else {
-            return Err(ConvertError::WrongKind);
-        };
-        match number.to_i32() {
+        match value.to_i32() {
             Some(z) => match i16::try_from(z) {
                 Ok(z) => Ok(z),
                 Err(_) => Err(ConvertError::OutOfRange),
             },
-            None => Err(ConvertError::OutOfRange),
+            None => Err(why_no_integer(value)),
         }
     }
 
@@ -75,14 +79,10 @@ impl FromIValue for i32 {
 
     ghost null_is_none = { λ _. ⊤ };
 
-    #[tactic(auto, using(crate::proofs::Whole::signed_read, crate::specs::laws::Whole::wide_32))]
     fn from_ivalue(_alloc: Global, value: &IValue) -> Result<i32, ConvertError> {
-        let DestructuredRef::Number(number) = value.destructure_ref() else {
-            return Err(ConvertError::WrongKind);
-        };
-        match number.to_i32() {
+        match value.to_i32() {
             Some(z) => Ok(z),
-            None => Err(ConvertError::OutOfRange),
+            None => Err(why_no_integer(value)),
         }
     }
 
@@ -99,14 +99,10 @@ impl FromIValue for i64 {
 
     ghost null_is_none = { λ _. ⊤ };
 
-    #[tactic(auto, using(crate::proofs::Whole::signed_read, crate::specs::laws::Whole::wide_64))]
     fn from_ivalue(_alloc: Global, value: &IValue) -> Result<i64, ConvertError> {
-        let DestructuredRef::Number(number) = value.destructure_ref() else {
-            return Err(ConvertError::WrongKind);
-        };
-        match number.to_i64() {
+        match value.to_i64() {
             Some(z) => Ok(z),
-            None => Err(ConvertError::OutOfRange),
+            None => Err(why_no_integer(value)),
         }
     }
 
@@ -123,14 +119,10 @@ impl FromIValue for isize {
 
     ghost null_is_none = { λ _. ⊤ };
 
-    #[tactic(auto, using(crate::proofs::Whole::signed_read, crate::specs::laws::Whole::wide_64))]
     fn from_ivalue(_alloc: Global, value: &IValue) -> Result<isize, ConvertError> {
-        let DestructuredRef::Number(number) = value.destructure_ref() else {
-            return Err(ConvertError::WrongKind);
-        };
-        match number.to_isize() {
+        match value.to_isize() {
             Some(z) => Ok(z),
-            None => Err(ConvertError::OutOfRange),
+            None => Err(why_no_integer(value)),
         }
     }
 
@@ -147,17 +139,13 @@ impl FromIValue for u8 {
 
     ghost null_is_none = { λ _. ⊤ };
 
-    #[tactic(auto, using(crate::proofs::Whole::unsigned_read, crate::specs::laws::Whole::below_8, crate::proofs::Whole::unsigned_past))]
     fn from_ivalue(_alloc: Global, value: &IValue) -> Result<u8, ConvertError> {
-        let DestructuredRef::Number(number) = value.destructure_ref() else {
-            return Err(ConvertError::WrongKind);
-        };
-        match number.to_u32() {
+        match value.to_u32() {
             Some(m) => match u8::try_from(m) {
                 Ok(m) => Ok(m),
                 Err(_) => Err(ConvertError::OutOfRange),
             },
-            None => Err(ConvertError::OutOfRange),
+            None => Err(why_no_integer(value)),
         }
     }
 
@@ -174,17 +162,13 @@ impl FromIValue for u16 {
 
     ghost null_is_none = { λ _. ⊤ };
 
-    #[tactic(auto, using(crate::proofs::Whole::unsigned_read, crate::specs::laws::Whole::below_16, crate::proofs::Whole::unsigned_past))]
     fn from_ivalue(_alloc: Global, value: &IValue) -> Result<u16, ConvertError> {
-        let DestructuredRef::Number(number) = value.destructure_ref() else {
-            return Err(ConvertError::WrongKind);
-        };
-        match number.to_u32() {
+        match value.to_u32() {
             Some(m) => match u16::try_from(m) {
                 Ok(m) => Ok(m),
                 Err(_) => Err(ConvertError::OutOfRange),
             },
-            None => Err(ConvertError::OutOfRange),
+            None => Err(why_no_integer(value)),
         }
     }
 
@@ -201,14 +185,10 @@ impl FromIValue for u32 {
 
     ghost null_is_none = { λ _. ⊤ };
 
-    #[tactic(auto, using(crate::proofs::Whole::unsigned_read, crate::specs::laws::Whole::below_32))]
     fn from_ivalue(_alloc: Global, value: &IValue) -> Result<u32, ConvertError> {
-        let DestructuredRef::Number(number) = value.destructure_ref() else {
-            return Err(ConvertError::WrongKind);
-        };
-        match number.to_u32() {
+        match value.to_u32() {
             Some(m) => Ok(m),
-            None => Err(ConvertError::OutOfRange),
+            None => Err(why_no_integer(value)),
         }
     }
 
@@ -225,14 +205,10 @@ impl FromIValue for u64 {
 
     ghost null_is_none = { λ _. ⊤ };
 
-    #[tactic(auto, using(crate::proofs::Whole::unsigned_read, crate::specs::laws::Whole::below_64))]
     fn from_ivalue(_alloc: Global, value: &IValue) -> Result<u64, ConvertError> {
-        let DestructuredRef::Number(number) = value.destructure_ref() else {
-            return Err(ConvertError::WrongKind);
-        };
-        match number.to_u64() {
+        match value.to_u64() {
             Some(m) => Ok(m),
-            None => Err(ConvertError::OutOfRange),
+            None => Err(why_no_integer(value)),
         }
     }
 
@@ -249,14 +225,10 @@ impl FromIValue for usize {
 
     ghost null_is_none = { λ _. ⊤ };
 
-    #[tactic(auto, using(crate::proofs::Whole::unsigned_read, crate::specs::laws::Whole::below_64))]
     fn from_ivalue(_alloc: Global, value: &IValue) -> Result<usize, ConvertError> {
-        let DestructuredRef::Number(number) = value.destructure_ref() else {
-            return Err(ConvertError::WrongKind);
-        };
-        match number.to_usize() {
+        match value.to_usize() {
             Some(m) => Ok(m),
-            None => Err(ConvertError::OutOfRange),
+            None => Err(why_no_integer(value)),
         }
     }
 

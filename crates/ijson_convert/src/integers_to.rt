@@ -14,7 +14,6 @@ use std::hash::BuildHasher;
 impl ToIValue for i8 {
     ghost tree = { λ z. integer_tree z };
 
-    #[tactic(auto, using(crate::specs::laws::Integers::signed_is))]
     fn to_ivalue<S: BuildHasher>(
         &self,
         _alloc: Global,
@@ -28,7 +27,6 @@ impl ToIValue for i8 {
 impl ToIValue for i16 {
     ghost tree = { λ z. integer_tree z };
 
-    #[tactic(auto, using(crate::specs::laws::Integers::signed_is))]
     fn to_ivalue<S: BuildHasher>(
         &self,
         _alloc: Global,
@@ -42,7 +40,6 @@ impl ToIValue for i16 {
 impl ToIValue for i32 {
     ghost tree = { λ z. integer_tree z };
 
-    #[tactic(auto, using(crate::specs::laws::Integers::signed_is))]
     fn to_ivalue<S: BuildHasher>(
         &self,
         _alloc: Global,
@@ -56,7 +53,6 @@ impl ToIValue for i32 {
 impl ToIValue for i64 {
     ghost tree = { λ z. integer_tree z };
 
-    #[tactic(auto, using(crate::specs::laws::Integers::signed_is))]
     fn to_ivalue<S: BuildHasher>(
         &self,
         _alloc: Global,
@@ -70,7 +66,6 @@ impl ToIValue for i64 {
 impl ToIValue for isize {
     ghost tree = { λ z. integer_tree z };
 
-    #[tactic(auto, using(crate::specs::laws::Integers::signed_is))]
     fn to_ivalue<S: BuildHasher>(
         &self,
         _alloc: Global,
@@ -84,7 +79,6 @@ impl ToIValue for isize {
 impl ToIValue for u8 {
     ghost tree = { λ n. integer_tree (pos n) };
 
-    #[tactic(auto, using(crate::specs::laws::Integers::unsigned_is))]
     fn to_ivalue<S: BuildHasher>(
         &self,
         _alloc: Global,
@@ -98,7 +92,6 @@ impl ToIValue for u8 {
 impl ToIValue for u16 {
     ghost tree = { λ n. integer_tree (pos n) };
 
-    #[tactic(auto, using(crate::specs::laws::Integers::unsigned_is))]
     fn to_ivalue<S: BuildHasher>(
         &self,
         _alloc: Global,
@@ -112,7 +105,6 @@ impl ToIValue for u16 {
 impl ToIValue for u32 {
     ghost tree = { λ n. integer_tree (pos n) };
 
-    #[tactic(auto, using(crate::specs::laws::Integers::unsigned_is))]
     fn to_ivalue<S: BuildHasher>(
         &self,
         _alloc: Global,
@@ -126,7 +118,6 @@ impl ToIValue for u32 {
 impl ToIValue for u64 {
     ghost tree = { λ n. integer_tree (pos n) };
 
-    #[tactic(auto, using(crate::specs::laws::Integers::unsigned_is))]
     fn to_ivalue<S: BuildHasher>(
         &self,
         _alloc: Global,
@@ -140,7 +131,6 @@ impl ToIValue for u64 {
 impl ToIValue for usize {
     ghost tree = { λ n. integer_tree (pos n) };
 
-    #[tactic(auto, using(crate::specs::laws::Integers::unsigned_is))]
     fn to_ivalue<S: BuildHasher>(
         &self,
         _alloc: Global,

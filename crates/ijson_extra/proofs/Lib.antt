@@ -1,16 +1,8 @@
-mod Kept
-pub mod Arranged
-pub mod Renumbered
-pub mod Numbers
 pub mod Law
-pub mod Rows
-pub mod Permuted
 pub mod Pointers
-pub mod Children
-pub mod Counted
-pub mod Walked
-pub mod Results
-pub mod InOrder
-pub mod PutInside
-pub mod PartsOut
+pub mod Rows
 pub mod lends
+pub mod numbers
+pub mod ordering
+pub mod test_lemmas
+pub mod tokens

@@ -1,20 +1,13 @@
 -- The tokens of a pointer, one after the other.
-use Rattle.std.proofs.Common.{◌≡◌, ◌≢◌, ◌⊎◌, inl, inr, ◌↔◌, IsTrue, ℕ, zero, suc, ◌+◌, ◌<◌, ◌≤◌, ◌^◌, Result, Ok, Err, not, drop, is_some, Bool, true, false, List, [], ◌∷◌, ◌++◌, eqb, length, get_or, refl, sym, ap, ◌∙◌, arith, Option, Some, None, option_map}
+use Rattle.std.proofs.Common.{◌≡◌, ◌≢◌, ◌⊎◌, inl, inr, ◌↔◌, IsTrue, ℕ, zero, suc, ◌+◌, ◌<◌, ◌≤◌, drop, is_some, Bool, true, false, List, []}
+use Rattle.std.proofs.Common.{◌∷◌, ◌++◌, eqb, length, get_or, refl, sym, ap, ◌∙◌, arith, Option, Some, None, option_map}
 use mathlib.Core.Bool.{true≢false}
-use Rattle.std.specs.Prelude.{◌==◌, option_and_then, slice_get}
-use Rattle.std.proofs.lemmas.Bool.{cases_lt}
+use Rattle.std.specs.Prelude.{◌==◌, option_and_then}
 use Rattle.std.proofs.lemmas.List.{get_or_default}
-use Rattle.std.proofs.lemmas.Option.{slice_get_past}
 use Rattle.std.proofs.lemmas.Bool.Decides.{nat_tests}
-use Rattle.std.proofs.lemmas.Str.Parse.{IsNumeralModel, numerals_by_value, tells_all_ascii_digits, not_in_digits, parse_digits}
-use Rattle.std.specs.Char.{is_ascii_digit}
-use Rattle.std.specs.Str.{all_ascii_digits}
-use Rattle.std.specs.Str.Parse.{digits_value, ParsesUnsigned}
-use Rattle.std.specs.Result.{OkIff, MatchResult}
-use Rattle.std.specs.Int.{IsInRange}
 use Rattle.ijson_value.specs.Tree.{Tree}
-use Rattle.ijson_extra.proofs.Numbers.{one_up, and_left, and_right}
-use Rattle.ijson_extra.specs.Pointer.{names_position, position_named, in_first, written_tokens, meant, escape_meant, all_meant, child_at, followed}
+use Rattle.ijson_extra.proofs.numbers.Numbers.{one_up}
+use Rattle.ijson_extra.specs.Pointer.{in_first, written_tokens, meant, escape_meant, all_meant, child_at, followed}
 
 abbrev pub LacksByte : ℕ → List ℕ → Type 0
 LacksByte c text = (i : ℕ) → i < length text → get_or text i 0 ≢ c
@@ -31,7 +24,8 @@ in_token b text e = ap (λ (r : Bool). elim r [ true ↦ [] ∷ written_tokens t
 pub written_split : (token rest : List ℕ) → LacksByte 47 token → written_tokens (token ++ 47 ∷ rest) ≡ token ∷ written_tokens rest
 written_split [] rest h = refl
 written_split (b ∷ token) rest h =
-    in_token b (token ++ 47 ∷ rest) (not_byte b 47 (h 0 (omega arith))) ∙ ap (in_first b) (written_split token rest (tail_lacks 47 b token h))
+    in_token b (token ++ 47 ∷ rest) (not_byte b 47 (h 0 (omega arith)))
+    ∙ ap (in_first b) (written_split token rest (tail_lacks 47 b token h))
 
 pub written_last : (token : List ℕ) → LacksByte 47 token → written_tokens token ≡ token ∷ []
 written_last [] h = refl
@@ -49,32 +43,43 @@ abbrev of_list : Option Tree → List (List ℕ) → Option (Option Tree)
 of_list found ws = option_map (λ tokens. option_and_then (λ t. followed t tokens) found) (all_meant ws)
 
 one_on : (found : Option Tree) (m : List ℕ) (tokens : Option (List (List ℕ)))
-    → option_map (λ ts. option_and_then (λ t. followed t ts) found) (option_map (λ ts. m ∷ ts) tokens) ≡ option_map (λ ts. option_and_then (λ t. followed t ts) (stepped found m)) tokens
+    → option_map (λ ts. option_and_then (λ t. followed t ts) found) (option_map (λ ts. m ∷ ts) tokens)
+    ≡ option_map (λ ts. option_and_then (λ t. followed t ts) (stepped found m)) tokens
 one_on found m None = refl
 one_on None m (Some ts) = refl
 one_on (Some t) m (Some ts) = refl
 
-head_meant : (found : Option Tree) (token m : List ℕ) (ws : List (List ℕ)) → meant token ≡ Some m → of_list found (token ∷ ws) ≡ of_list (stepped found m) ws
+head_meant : (found : Option Tree) (token m : List ℕ) (ws : List (List ℕ)) → meant token ≡ Some m
+    → of_list found (token ∷ ws) ≡ of_list (stepped found m) ws
 head_meant found token m ws e =
-    ap (λ o. option_map (λ ts. option_and_then (λ t. followed t ts) found) (option_and_then (λ x. option_map (λ ts. x ∷ ts) (all_meant ws)) o)) e ∙ one_on found m (all_meant ws)
+    ap (λ o. option_map (λ ts. option_and_then (λ t. followed t ts) found)
+    (option_and_then (λ x. option_map (λ ts. x ∷ ts) (all_meant ws)) o)) e ∙ one_on found m (all_meant ws)
 
 head_none : (found : Option Tree) (token : List ℕ) (ws : List (List ℕ)) → meant token ≡ None → of_list found (token ∷ ws) ≡ None
-head_none found token ws e = ap (λ o. option_map (λ ts. option_and_then (λ t. followed t ts) found) (option_and_then (λ x. option_map (λ ts. x ∷ ts) (all_meant ws)) o)) e
+head_none found token ws e =
+    ap (λ o. option_map (λ ts. option_and_then (λ t. followed t ts) found)
+    (option_and_then (λ x. option_map (λ ts. x ∷ ts) (all_meant ws)) o)) e
 
 -- a token that stands before a `/`
-pub token_meant : (found : Option Tree) (text token rest m : List ℕ) → text ≡ token ++ 47 ∷ rest → LacksByte 47 token → meant token ≡ Some m → outcome found text ≡ outcome (stepped found m) rest
-token_meant found text token rest m is h e = ap (of_list found) (ap written_tokens is ∙ written_split token rest h) ∙ head_meant found token m (written_tokens rest) e
+pub token_meant : (found : Option Tree) (text token rest m : List ℕ) → text ≡ token ++ 47 ∷ rest → LacksByte 47 token → meant token ≡ Some m
+    → outcome found text ≡ outcome (stepped found m) rest
+token_meant found text token rest m is h e = ap (of_list found) (ap written_tokens is ∙ written_split token rest h)
+    ∙ head_meant found token m (written_tokens rest) e
 
-pub token_none : (found : Option Tree) (text token rest : List ℕ) → text ≡ token ++ 47 ∷ rest → LacksByte 47 token → meant token ≡ None → outcome found text ≡ None
-token_none found text token rest is h e = ap (of_list found) (ap written_tokens is ∙ written_split token rest h) ∙ head_none found token (written_tokens rest) e
+pub token_none : (found : Option Tree) (text token rest : List ℕ) → text ≡ token ++ 47 ∷ rest → LacksByte 47 token → meant token ≡ None
+    → outcome found text ≡ None
+token_none found text token rest is h e = ap (of_list found) (ap written_tokens is ∙ written_split token rest h)
+    ∙ head_none found token (written_tokens rest) e
 
 ended : (found : Option Tree) → option_and_then (λ t. followed t []) found ≡ found
 ended None = refl
 ended (Some t) = refl
 
 -- the last token
-pub last_meant : (found : Option Tree) (token m : List ℕ) → LacksByte 47 token → meant token ≡ Some m → outcome found token ≡ Some (stepped found m)
-last_meant found token m h e = ap (of_list found) (written_last token h) ∙ head_meant found token m [] e ∙ ap (λ x. Some x) (ended (stepped found m))
+pub last_meant : (found : Option Tree) (token m : List ℕ) → LacksByte 47 token → meant token ≡ Some m
+    → outcome found token ≡ Some (stepped found m)
+last_meant found token m h e = ap (of_list found) (written_last token h) ∙ head_meant found token m [] e
+    ∙ ap (λ x. Some x) (ended (stepped found m))
 
 pub last_none : (found : Option Tree) (token : List ℕ) → LacksByte 47 token → meant token ≡ None → outcome found token ≡ None
 last_none found token h e = ap (of_list found) (written_last token h) ∙ head_none found token [] e
@@ -86,7 +91,8 @@ tilde b text e = ap (λ (r : Bool). elim r [ true ↦ escape_meant text | false 
 -- a token without `~` means itself
 pub meant_itself : (token : List ℕ) → LacksByte 126 token → meant token ≡ Some token
 meant_itself [] h = refl
-meant_itself (b ∷ token) h = tilde b token (not_byte b 126 (h 0 (omega arith))) ∙ ap (option_map (λ t. b ∷ t)) (meant_itself token (tail_lacks 126 b token h))
+meant_itself (b ∷ token) h = tilde b token (not_byte b 126 (h 0 (omega arith)))
+    ∙ ap (option_map (λ t. b ∷ t)) (meant_itself token (tail_lacks 126 b token h))
 
 abbrev tail_of : List ℕ → List ℕ
 tail_of [] = []
@@ -107,7 +113,7 @@ some_longer : (b : ℕ) (o : Option (List ℕ)) → option_map (λ token. b ∷ 
 some_longer b None e = absurd (cc)
 some_longer b (Some t) e = absurd (cc)
 
-by_tests : (P : Option (List ℕ) → Type 0) (r : Bool) (x y : Option (List ℕ)) → P x → P y → P (elim r [ true ↦ x | false ↦ y ])
+pub by_tests : (P : Option (List ℕ) → Type 0) (r : Bool) (x y : Option (List ℕ)) → P x → P y → P (elim r [ true ↦ x | false ↦ y ])
 by_tests P true x y p q = p
 by_tests P false x y p q = q
 
@@ -134,7 +140,8 @@ all_left [] r e = (λ t. refl, λ f. e)
 all_left (b ∷ text) r e = (λ t. absurd (true≢false (sym t ∙ e ∙ sym (none_zero (length text)))), λ f. absurd (meant_longer b text f))
 
 -- no byte is left for one of the key's
-pub byte_none : (P : Type 0) (key left : List ℕ) (i : ℕ) → i < length key → (meant left ≡ None) ⊎ (left ≡ []) → P ↔ (meant left ≡ Some (drop i key)) → P → ⊥
+pub byte_none : (P : Type 0) (key left : List ℕ) (i : ℕ) → i < length key → (meant left ≡ None) ⊎ (left ≡ [])
+    → P ↔ (meant left ≡ Some (drop i key)) → P → ⊥
 byte_none P key left i l (inl e) both f = let g = sym e ∙ both.0 f in absurd (cc)
 byte_none P key left i l (inr e) both f =
     let c = get_or key i 0 in
@@ -147,96 +154,9 @@ drop-past (k ∷ key) zero h = absurd (omega (arith, h))
 drop-past (k ∷ key) (suc i) h = drop-past key i (omega (arith, h))
 
 -- no byte of the key is left
-pub key_ended : (P : Type 0) (key left : List ℕ) (i : ℕ) (r : Bool) → length key ≤ i → r ≡ (length left == 0) → P ↔ (meant left ≡ Some (drop i key)) → IsTrue r ↔ P
+pub key_ended : (P : Type 0) (key left : List ℕ) (i : ℕ) (r : Bool) → length key ≤ i → r ≡ (length left == 0)
+    → P ↔ (meant left ≡ Some (drop i key)) → IsTrue r ↔ P
 key_ended P key left i r h e both =
     let tells = all_left left r e in
     let past = ap (λ (x : List ℕ). Some x) (drop-past key i h) in
     (λ t. both.1 (tells.0 t ∙ sym past), λ f. tells.1 (both.0 f ∙ past))
-
--- ---- positions
-own : IsNumeralModel (λ ds. all_ascii_digits ds ≡ true) (digits_value 10)
-own = numerals_by_value (λ ds. all_ascii_digits ds ≡ true) tells_all_ascii_digits
-
-not_digit : IsInRange 48 57 126 → ⊥
-not_digit h = omega (arith, h)
-
-pub position_digits : (token : List ℕ) → names_position token ≡ true → all_ascii_digits token ≡ true
-position_digits [] e = absurd (cc)
-position_digits (b ∷ []) e = e
-position_digits (b ∷ c ∷ token) e = and_right (not (b == 48)) (all_ascii_digits (b ∷ c ∷ token)) e
-
-pub digits_meant : (token : List ℕ) → all_ascii_digits token ≡ true → meant token ≡ Some token
-digits_meant token e = meant_itself token (not_in_digits own token 126 e not_digit)
-
-abbrev or_none : Option (List ℕ) → List ℕ
-or_none None = []
-or_none (Some t) = t
-
-pub from_some : {x y : List ℕ} → Some x ≡ Some y → x ≡ y
-from_some e = ap or_none e
-
--- digits that a text with an escape in front would mean
-no_escape : (b : ℕ) (o : Option (List ℕ)) (m : List ℕ) → is_ascii_digit b ≡ false → option_map (λ token. b ∷ token) o ≡ Some m → all_ascii_digits m ≡ true → ⊥
-no_escape b None m n e h = absurd (cc)
-no_escape b (Some t) m n e h = true≢false (sym (and_left (is_ascii_digit b) (all_ascii_digits t) (ap all_ascii_digits (from_some e) ∙ h)) ∙ n)
-
-no_escapes : (text m : List ℕ) → escape_meant text ≡ Some m → all_ascii_digits m ≡ true → ⊥
-no_escapes [] m e h = absurd (cc)
-no_escapes (b ∷ text) m e h =
-    by_tests (λ o. o ≡ Some m → ⊥) (eqb b 48) _ _ (λ f. no_escape 126 (meant text) m refl f h)
-    (by_tests (λ o. o ≡ Some m → ⊥) (eqb b 49) _ _ (λ f. no_escape 47 (meant text) m refl f h) (λ f. absurd (cc))) e
-
-same_tail : (b : ℕ) (text m : List ℕ) (o : Option (List ℕ)) → meant text ≡ o → ((n : List ℕ) → meant text ≡ Some n → all_ascii_digits n ≡ true → text ≡ n) → option_map (λ token. b ∷ token) o ≡ Some m → all_ascii_digits m ≡ true → b ∷ text ≡ m
-same_tail b text m None is back e h = absurd (cc)
-same_tail b text m (Some t) is back e h =
-    let all : all_ascii_digits (b ∷ t) ≡ true = ap all_ascii_digits (from_some e) ∙ h in
-    ap (λ x. b ∷ x) (back t is (and_right (is_ascii_digit b) (all_ascii_digits t) all)) ∙ from_some e
-
--- a token that means digits is those
-digits_back : (token m : List ℕ) → meant token ≡ Some m → all_ascii_digits m ≡ true → token ≡ m
-digits_back [] m e h = from_some e
-digits_back (b ∷ text) m e h =
-    by_tests (λ o. o ≡ Some m → b ∷ text ≡ m) (eqb b 126) _ _ (λ f. absurd (no_escapes text m f h)) (λ f. same_tail b text m (meant text) refl (λ n. digits_back text n) f h) e
-
-pub not_named : (token : List ℕ) → names_position token ≡ false → position_named token ≡ None
-not_named token e = ap (λ (r : Bool). elim r [ true ↦ Some (digits_value 10 token) | false ↦ None ]) e
-
-pub named : (token : List ℕ) → names_position token ≡ true → position_named token ≡ Some (digits_value 10 token)
-named token e = ap (λ (r : Bool). elim r [ true ↦ Some (digits_value 10 token) | false ↦ None ]) e
-
-by_position : (token m : List ℕ) (p q : Bool) → names_position token ≡ p → names_position m ≡ q → meant token ≡ Some m → position_named token ≡ position_named m
-by_position token m p true f g e = ap position_named (digits_back token m e (position_digits m g))
-by_position token m true false f g e = ap position_named (from_some (sym (digits_meant token (position_digits token f)) ∙ e))
-by_position token m false false f g e = not_named token f ∙ sym (not_named m g)
-
--- a token names the position that it names as it is meant
-pub same_position : (token m : List ℕ) → meant token ≡ Some m → position_named token ≡ position_named m
-same_position token m e = by_position token m (names_position token) (names_position m) refl refl e
-
-at_least : (n k : ℕ) → k < 2 ^ 64 → (n < 2 ^ 64 → ⊥) → k ≤ n
-at_least n k l h = elim (cases_lt n (2 ^ 64)) [ inl a ↦ absurd (h a) | inr b ↦ omega (arith, l, b) ]
-
-position_some : (token : List ℕ) → names_position token ≡ true → 0 < length token
-position_some [] e = absurd (cc)
-position_some (b ∷ token) e = omega arith
-
-number_is : (n i : ℕ) → Some n ≡ Some i → n ≡ i
-number_is n i e = ap (λ (o : Option ℕ). elim o [ None ↦ n | Some j ↦ j ]) e
-
-read_by : {E : Type 0} (token : List ℕ) (count : ℕ) (r : Result ℕ E) → OkIff r ((0 < length token) × (digits_value 10 token < 2 ^ 64)) (digits_value 10 token) → names_position token ≡ true → 0 < length token → count < 2 ^ 64
-    → MatchResult r (λ n. position_named token ≡ Some n) (λ e. (i : ℕ) → position_named token ≡ Some i → count ≤ i)
-read_by token count (Ok n) h p s l = named token p ∙ ap (λ (k : ℕ). Some k) (sym h.1)
-read_by token count (Err x) h p s l = λ i e.
-    let is = number_is (digits_value 10 token) i (sym (named token p) ∙ e) in
-    let past = at_least (digits_value 10 token) count l (λ m. h (s, m)) in
-    omega (arith, is, past)
-
--- a position that was read, and where it was too large, none below a count
-pub position_read : {E : Type 0} (token : List ℕ) (count : ℕ) (r : Result ℕ E) → ParsesUnsigned 64 10 token r → names_position token ≡ true → count < 2 ^ 64
-    → MatchResult r (λ n. position_named token ≡ Some n) (λ e. (i : ℕ) → position_named token ≡ Some i → count ≤ i)
-position_read token count r h p l = read_by token count r (parse_digits own 64 token r h (position_digits token p)) p (position_some token p) l
-
--- no item stands at a position past the end
-pub none_there : {X : Type 0} (xs : List X) (position : Option ℕ) → ((i : ℕ) → position ≡ Some i → length xs ≤ i) → option_and_then (slice_get xs) position ≡ None
-none_there xs None h = refl
-none_there xs (Some i) h = slice_get_past xs i (h i refl)

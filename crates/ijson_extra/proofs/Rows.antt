@@ -9,30 +9,42 @@ use Rattle.ijson_extra.specs.Pointer.{resolved}
 abbrev num : ℤ → ℤ → Bool → Tree
 num m e point = number (record { mantissa = m; exponent = e; point = point })
 
-members_by_their_keys : canonical (object (member (codes "b") (num (pos 2) (pos 0) true) (member (codes "a") (array (item (num (pos 1) (pos 1) false) (item (num (pos 0) (pos 0) true) no_items))) no_members)))
+members_by_their_keys : canonical
+    (object (member (codes "b") (num (pos 2) (pos 0) true)
+    (member (codes "a") (array (item (num (pos 1) (pos 1) false) (item (num (pos 0) (pos 0) true) no_items))) no_members)))
     ≡ codes "{\"a\":[1e1,0],\"b\":2e0}"
 unfolding escaped
 members_by_their_keys = refl
 
-stripped_numbers : canonical (object (member (codes "a") (num (negsuc 4) (negsuc 0) true) (member (codes "b") (num (pos 1) (pos 2) false) (member (codes "c") (array (item (num (pos 15) (negsuc 0) true) no_items)) no_members))))
+stripped_numbers : canonical
+    (object (member (codes "a") (num (negsuc 4) (negsuc 0) true)
+    (member (codes "b") (num (pos 1) (pos 2) false)
+    (member (codes "c") (array (item (num (pos 15) (negsuc 0) true) no_items)) no_members))))
     ≡ codes "{\"a\":-5e-1,\"b\":1e2,\"c\":[15e-1]}"
 unfolding escaped
 stripped_numbers = refl
 
 -- `é` is c3 a9
-behind_ascii : canonical (object (member (195 ∷ 169 ∷ []) (num (pos 1) (pos 0) false) (member (codes "z") (num (pos 2) (pos 0) false) no_members)))
+behind_ascii : canonical
+    (object (member (195 ∷ 169 ∷ []) (num (pos 1) (pos 0) false) (member (codes "z") (num (pos 2) (pos 0) false) no_members)))
     ≡ 123 ∷ 34 ∷ 122 ∷ 34 ∷ 58 ∷ 50 ∷ 101 ∷ 48 ∷ 44 ∷ 34 ∷ 195 ∷ 169 ∷ 34 ∷ 58 ∷ 49 ∷ 101 ∷ 48 ∷ 125 ∷ []
 unfolding escaped
 behind_ascii = refl
 
-at_every_depth : canonical (array (item (object (member (codes "b") (object (member (codes "d") (num (pos 0) (pos 0) false) (member (codes "c") (num (pos 0) (pos 0) false) no_members))) (member (codes "a") (num (pos 1) (pos 0) false) no_members))) no_items))
+at_every_depth : canonical
+    (array (item
+    (object (member (codes "b")
+    (object (member (codes "d") (num (pos 0) (pos 0) false) (member (codes "c") (num (pos 0) (pos 0) false) no_members)))
+    (member (codes "a") (num (pos 1) (pos 0) false) no_members))) no_items))
     ≡ codes "[{\"a\":1e0,\"b\":{\"c\":0,\"d\":0}}]"
 unfolding escaped
 at_every_depth = refl
 
 -- ---- `{"foo":["bar"],"":0,"~1":9}`
 abbrev sample : Tree
-sample = object (member (codes "foo") (array (item (string (codes "bar")) no_items)) (member [] (num (pos 0) (pos 0) false) (member (codes "~1") (num (pos 9) (pos 0) false) no_members)))
+sample =
+    object (member (codes "foo") (array (item (string (codes "bar")) no_items))
+    (member [] (num (pos 0) (pos 0) false) (member (codes "~1") (num (pos 9) (pos 0) false) no_members)))
 
 first_item : resolved sample (codes "/foo/0") ≡ Some (Some (string (codes "bar")))
 first_item = refl

@@ -1,5 +1,6 @@
 -- Pairs that are put where room was made for them, and no key comes twice; and what a map gives.
-use Rattle.std.proofs.Common.{◌≡◌, ◌≢◌, ◌<◌, ◌≤◌, ◌+◌, ℕ, suc, List, [], ◌∷◌, ◌++◌, length, map, Option, Some, None, Result, Ok, Err, true, false, refl, ap, sym, subst, ◌∙◌, inl, inr, arith}
+use Rattle.std.proofs.Common.{◌≡◌, ◌≢◌, ◌<◌, ◌≤◌, ◌+◌, ℕ, suc, List, [], ◌∷◌, ◌++◌, length, map, Option, Some, None, Result, Ok, Err, true}
+use Rattle.std.proofs.Common.{false, refl, ap, sym, subst, ◌∙◌, inl, inr, arith}
 use Rattle.std.proofs.lemmas.Bool.{le-leb}
 use Rattle.std.proofs.lemmas.List.{append_assoc, append-nil, length-append, map-append}
 use Rattle.std.specs.Cmp.{tied_itself}
@@ -44,7 +45,8 @@ module _ {K X : Type 0} (bytes : K → List ℕ) where
       → Lacks (bytes x) (map (λ e. bytes e.0) es)
   lacks_other x [] a = tt
   lacks_other x (e ∷ es) a = (
-    λ q. (let same : pointwise nat_eq (bytes x) (bytes e.0) ≡ true = ap (pointwise nat_eq (bytes x)) (sym q) ∙ nat_list_eq_equiv.refl (bytes x) in cc),
+    λ q. (let same : pointwise nat_eq (bytes x) (bytes e.0) ≡ true = ap (pointwise nat_eq (bytes x)) (sym q)
+        ∙ nat_list_eq_equiv.refl (bytes x) in cc),
     lacks_other x es a.1,
   )
 
@@ -60,7 +62,8 @@ module _ {K X : Type 0} (bytes : K → List ℕ) where
       → Lacks (bytes x) (map (λ e. bytes e.0) es)
   lacks_below x [] a = tt
   lacks_below x (e ∷ es) a = (
-    λ q. (let same : slice_cmp nat_cmp (bytes x) (bytes e.0) ≡ Equal = ap (slice_cmp nat_cmp (bytes x)) (sym q) ∙ tied_itself nat_list_cmp_total (bytes x) in cc),
+    λ q. (let same : slice_cmp nat_cmp (bytes x) (bytes e.0) ≡ Equal = ap (slice_cmp nat_cmp (bytes x)) (sym q)
+        ∙ tied_itself nat_list_cmp_total (bytes x) in cc),
     lacks_below x es a.1,
   )
 
@@ -114,7 +117,8 @@ module _ {V : Type 0} where
       (each : InsertsEach ps c added ps' c') (distinct : IsDistinct (keys_of added)) where
     pub filled : length added ≤ count → (ps' ≡ added) × (c' ≡ count)
     filled within =
-        all_put [] count added ps' c' (subst (λ (s : List (List ℕ × V) × ℕ). InsertsEach s.0 s.1 added ps' c') (λ i. (empty i, room i)) each)
+        all_put [] count added ps' c' (subst (λ (s : List (List ℕ × V) × ℕ). InsertsEach s.0 s.1 added ps' c') (λ i. (empty i, room i))
+        each)
         distinct (omega (arith, within))
 
     pub never_refused : (why : ReserveError) → length added < count → Ungrown (length ps') c' 1 why c' → ⊥

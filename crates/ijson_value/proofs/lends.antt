@@ -1,4 +1,5 @@
 pub mod Called
+pub mod EmptySlice
 pub mod LentOn
 pub mod Parts
 pub mod Steps

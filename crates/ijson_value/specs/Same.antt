@@ -3,7 +3,8 @@
 use Rattle.std.specs.Prelude.{◌≡◌, ◌⊎◌, ℕ, List}
 use Rattle.std.specs.declared.cmp.Ordering.TheVariants.{Equal}
 use Rattle.ijson_number.specs.Order.{number_cmp}
-use Rattle.ijson_value.specs.Tree.{Tree, null, boolean, number, string, array, object, Items, no_items, item, Members, no_members, member, members_len}
+use Rattle.ijson_value.specs.Tree.{Tree, null, boolean, number, string, array, object, Items, no_items, item, Members, no_members, member}
+use Rattle.ijson_value.specs.Tree.{members_len}
 
 -- the pair of k and u is one of these
 abbrev pub Has : List ℕ → Tree → Members → Type 0

@@ -3,7 +3,8 @@
 use Rattle.std.specs.Prelude.{ℕ, List, map}
 use Rattle.ijson_number.specs.Num.{IsNum}
 use Rattle.ijson_table.specs.Store.{IsDistinct}
-use Rattle.ijson_value.specs.Tree.{Tree, null, boolean, number, string, array, object, Items, no_items, item, items_of, Members, no_members, member, members_of, member_keys}
+use Rattle.ijson_value.specs.Tree.{Tree, null, boolean, number, string, array, object, Items, no_items, item, items_of, Members, no_members}
+use Rattle.ijson_value.specs.Tree.{member, members_of, member_keys}
 
 abbrev mutual
   pub IsWellFormed : Tree → Type 0

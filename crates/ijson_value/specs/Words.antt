@@ -5,7 +5,8 @@ use Rattle.ijson_number.specs.Words.{number_words}
 use Rattle.ijson_string.specs.Words.{text_words}
 use Rattle.ijson_table.specs.Fold.{fold_words}
 use Rattle.ijson_value.specs.Length.{items_len}
-use Rattle.ijson_value.specs.Tree.{Tree, null, boolean, number, string, array, object, Items, no_items, item, Members, no_members, member, members_len}
+use Rattle.ijson_value.specs.Tree.{Tree, null, boolean, number, string, array, object, Items, no_items, item, Members, no_members, member}
+use Rattle.ijson_value.specs.Tree.{members_len}
 
 abbrev mutual
   pub words : Tree → List ℕ

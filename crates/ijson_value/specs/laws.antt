@@ -21,3 +21,4 @@ pub mod TreeCode
 pub mod TreeLookups
 pub mod WellFormedCode
 pub mod WordsEnd
+pub mod YieldedLists

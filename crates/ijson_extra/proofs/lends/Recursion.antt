@@ -1,7 +1,7 @@
 -- A function that calls itself keeps its contract, where a measure of what it is called with falls at each call of itself. Assumes
 -- `Logic`.
 use Prim.Native.Nat.{ℕ, ◌<◌}
-use mathlib.Core.Path.{◌≡◌, refl, subst}
+use mathlib.Core.Path.{refl, subst}
 use lib.NonEmpty.{one}
 use lib.WfN.{lt-wf_rel}
 use seplogic.Ra.Ura.{Ura}
@@ -47,11 +47,13 @@ module _ {M : Type 1} {𝓤 : Ura M} (𝓛 : Logic 𝓤) (T : Ended) (hs : Stays
     stated = record { signature = S; run = 𝓣.C k; spec = closing 𝓛 T c }
 
     pub recursive : AllGo 𝓛 S.lifetimes S.params T.kept hs → Closed 𝓤 H 𝓣.C 𝓣.Λ k e → (μ : Known.Ghost → ℕ)
-        → (sp : (κs : Lfts S.lifetimes) → Spells (types_at S.params κs)) → ((κs : Lfts S.lifetimes) → Tellss (types_at S.params κs) (Ises (types_at S.params κs)) (sp κs))
+        → (sp : (κs : Lfts S.lifetimes) → Spells (types_at S.params κs))
+        → ((κs : Lfts S.lifetimes) → Tellss (types_at S.params κs) (Ises (types_at S.params κs)) (sp κs))
         → ((y : W.Ghost) → ((y' : Known.Ghost) → μ y' < μ y → Called y')
         → Are (types_at S.params y.0.0) (Ises (types_at S.params y.0.0)) y.0.3 (valss (types_at S.params y.0.0) (sp y.0.0) y.0.3)
         → ent 𝓤 (sep 𝓤 (on_entry 𝓛 S y.0.0 y.0.1 y.0.3 (valss (types_at S.params y.0.0) (sp y.0.0) y.0.3)) ((c y.0.0 y.0.3).requires y.1))
-        (WpFn 𝓤 H 𝓣.C 𝓣.Λ e (flat (types_at S.params y.0.0) (valss (types_at S.params y.0.0) (sp y.0.0) y.0.3)) (W.post ((y.0.0, y.0.1, y.0.2, y.0.3, valss (types_at S.params y.0.0) (sp y.0.0) y.0.3), y.1))))
+        (WpFn 𝓤 H 𝓣.C 𝓣.Λ e (flat (types_at S.params y.0.0) (valss (types_at S.params y.0.0) (sp y.0.0) y.0.3))
+        (W.post ((y.0.0, y.0.1, y.0.2, y.0.3, valss (types_at S.params y.0.0) (sp y.0.0) y.0.3), y.1))))
         → Meets 𝓛 S (𝓣.C k) (closing 𝓛 T c)
     unfolding tables_of
     recursive go closed μ sp tells walk =

@@ -12,7 +12,8 @@ use Rattle.ijson_value.proofs.lends.LentOn.{then_such}
 
 -- What follows a part by a relation, and the part follows a part of its own: what is lent of that by a relation is lent of all.
 module _ {M : Type 1} {𝓤 : Ura M} (𝓛 : Logic 𝓤) (R S T U : RattleType) (O : S.Denot → R.Denot → Type 0) (O₀ : R.Denot → Type 0)
-    (G : U.Denot → S.Denot) (Q : T.Denot → U.Denot → Type 0) (Q₀ : U.Denot → Type 0) (P : T.Denot → R.Denot → Type 0) (P₀ : R.Denot → Type 0)
+    (G : U.Denot → S.Denot) (Q : T.Denot → U.Denot → Type 0) (Q₀ : U.Denot → Type 0) (P : T.Denot → R.Denot → Type 0)
+    (P₀ : R.Denot → Type 0)
     (met : (w : T.Denot) (y : U.Denot) (n : R.Denot) → Q w y → O (G y) n → P w n)
     (met₀ : (y : U.Denot) (n : R.Denot) → Q₀ y → O (G y) n → P₀ n) where
   pub step_on : (γ δ ε : GName) (m : Option GName)

@@ -1,5 +1,6 @@
 -- What tokens lead to as they are written: a token that means nothing leads to nothing.
-use Rattle.std.specs.Prelude.{◌≡◌, ℕ, suc, List, [], ◌∷◌, Option, Some, None, IsSome, OnSome, option_map, option_and_then, length, drop, take}
+use Rattle.std.specs.Prelude.{◌≡◌, ℕ, suc, List, [], ◌∷◌, Option, Some, None, IsSome, OnSome, option_map, option_and_then, length, drop}
+use Rattle.std.specs.Prelude.{take}
 use Rattle.std.specs.Borrow.{LendsSo, MutBor, Fml}
 use Rattle.ijson_table.specs.Store.{Store}
 use Rattle.ijson_value.specs.NodeValue.{node_value}
@@ -64,7 +65,8 @@ LendsNamed s token r =
 -- the same of the first tokens of what is left of a pointer
 abbrev pub LendsWalked : MutBor Destructured → List ℕ → ℕ → Option (MutBor WellFormed) → Fml
 LendsWalked s left more r =
-    LendsSo node.the_row value.the_row s r (λ n w. OnSome r (node_tree n ≡ walked_with (steps_of left more) (Some (node_tree s.now)) w.tree))
+    LendsSo node.the_row value.the_row s r (λ n w. OnSome r
+    (node_tree n ≡ walked_with (steps_of left more) (Some (node_tree s.now)) w.tree))
     (λ n. node_tree n ≡ node_tree s.now)
 
 -- a pointer that isn't empty, with so many tokens behind its first one

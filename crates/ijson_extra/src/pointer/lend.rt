@@ -1,5 +1,6 @@
 //! The value inside a value that a pointer names, to be written.
-ghost use Rattle.std.specs.Prelude.{◌≡◌, ◌<◌, ◌↔◌, [], ◌∷◌, suc, drop, length, Some, None, IsSome, IsTrue, IfOk, IfErr, IfSome, IfNone, option_map};
+ghost use Rattle.std.specs.Prelude.{◌≡◌, ◌<◌, ◌↔◌, [], ◌∷◌, suc, drop, length, Some, None, IsSome, IsTrue, IfOk, IfErr, IfSome};
+ghost use Rattle.std.specs.Prelude.{IfNone, option_map};
 ghost use Rattle.std.specs.Borrow.{sem};
 ghost use Rattle.ijson_value.specs.LendsPart.{LendsOpened};
 ghost use Rattle.ijson_value.specs.NodeValue.{node_value};
@@ -8,7 +9,8 @@ ghost use Rattle.ijson_value.specs.Values.{array_tree, object_tree};
 ghost use Rattle.ijson_extra.specs.LendsNamedValue.{LendsNamedValue};
 ghost use Rattle.ijson_extra.specs.LendsResolved.{LendsResolved, unresolved};
 ghost use Rattle.ijson_extra.specs.Pointer.{all_meant, written_tokens, resolved};
-ghost use Rattle.ijson_extra.specs.private.Walked.{HasTokens, LendsNamedInside, LendsNamedItem, LendsNamedMember, LendsNamed, LendsWalked, tree_lent, node_tree, steps_of, walked, written_at};
+ghost use Rattle.ijson_extra.specs.private.Walked.{HasTokens, LendsNamedInside, LendsNamedItem, LendsNamedMember, LendsNamed};
+ghost use Rattle.ijson_extra.specs.private.Walked.{LendsWalked, tree_lent, node_tree, steps_of, walked, written_at};
 
 use super::{PointerError, find_member, is_token, position_below};
 use ijson_value::array::IArray;
@@ -141,8 +143,8 @@ fn count_more(tokens: &str) -> Option<usize>
     if is_token(left) { Some(more) } else { None }
 }
 
-/// The value that the first token of `left` and `more` further ones lead to from an opened value. It calls itself once for each token that leads to a
-/// value, so no more often than values stand inside one another.
+/// The value that the first token of `left` and `more` further ones lead to from an opened value. It calls itself once for each
+/// token that leads to a value, so no more often than values stand inside one another.
 fn walk<'a>(from: &'a mut Destructured, left: &str, more: usize) -> Option<&'a mut IValue>
     requires { more < length (written_tokens left.now) }
     ensures* writes_back { sem 𝓛 (LendsWalked from.entry left.now more result) }

@@ -104,7 +104,7 @@ fn set_by_path(value: &mut IValue, key: &str) -> bool
 
 /// Puts true beside a key by the path of the value. A key that is not there is put last; where there is no room for it, it comes
 /// back with null, and the value is as it was.
-#[tactic(auto, using(crate::proofs::PutInside::is_kept_inside))]
+#[tactic(auto, using(crate::proofs::test_lemmas::PutInside::is_kept_inside))]
 fn put_by_path(value: &mut IValue, key: IString) -> Result<(), RefusedPair>
     requires { kind_of value.old.tree ≡ kind_for (by_key key) }
     ensures there { OnOk result (value.new.tree ≡ tree_with value.old.tree (by_key key) (boolean true)) }
@@ -158,45 +158,37 @@ const WRITTEN: [(&str, bool, &str, &str); 3] = [
     ("c", false, TEXT, "{\"a\":1,\"b\":[2],\"c\":true}"),
 ];
 
-fn writes_in_pairs(rt: &impl Abort, alloc: Global, key: &str, there: bool, want: &str) {
-    let mut value = parsed(rt, alloc, TEXT);
-    if let Some(object) = value.as_object_mut() {
-        let pair = ObjectIndex::index_into_mut(key, object);
-        assert!(rt; pair.is_some() == there);
-        set_pair(object, key);
+/// Writes true beside a key of an object, in one of five ways. The last one puts it where the key is not there.
+fn writes(rt: &impl Abort, alloc: Global, value: &mut IValue, letters: &str, there: bool, way: u8) {
+    assert!(rt; value.is_object());
+    match way {
+        0 => {
+            let object = value.as_object_mut().expect(rt, "an object");
+            assert!(rt; ObjectIndex::index_into_mut(letters, object).is_some() == there);
+            set_pair(object, letters);
+        }
+        1 => set_found(value.as_object_mut().expect(rt, "an object"), letters),
+        2 => set_inside(value, letters),
+        3 => assert!(rt; set_by_path(value, letters) == there),
+        _ => put_by_path(value, key(rt, alloc, letters)).expect(rt, "room"),
     }
-    is_written(rt, alloc, &value, want);
-    let mut other = parsed(rt, alloc, TEXT);
-    if let Some(object) = other.as_object_mut() {
-        set_found(object, key);
-    }
-    is_written(rt, alloc, &other, want);
 }
 
-fn puts_by_path(rt: &impl Abort, alloc: Global, letters: &str, want: &str) {
+/// Asserts what is written of `TEXT` once true is written beside a key in this way.
+fn becomes(rt: &impl Abort, alloc: Global, letters: &str, there: bool, way: u8, want: &str) {
     let mut value = parsed(rt, alloc, TEXT);
-    assert!(rt; value.is_object());
-    put_by_path(&mut value, key(rt, alloc, letters)).expect(rt, "room");
+    writes(rt, alloc, &mut value, letters, there, way);
     is_written(rt, alloc, &value, want);
-}
-
-fn writes_inside(rt: &impl Abort, alloc: Global, key: &str, there: bool, want: &str) {
-    let mut value = parsed(rt, alloc, TEXT);
-    assert!(rt; value.is_object());
-    set_inside(&mut value, key);
-    is_written(rt, alloc, &value, want);
-    let mut other = parsed(rt, alloc, TEXT);
-    assert!(rt; other.is_object() && set_by_path(&mut other, key) == there);
-    is_written(rt, alloc, &other, want);
 }
 
 /// One value is another one, and all else as it was.
 #[test]
 fn values_beside_keys(rt: HostRuntime) {
     for (key, there, want, put) in WRITTEN {
-        writes_in_pairs(&rt, rt.alloc(), key, there, want);
-        writes_inside(&rt, rt.alloc(), key, there, want);
-        puts_by_path(&rt, rt.alloc(), key, put);
+        for way in 0..4u8 {
+            becomes(&rt, rt.alloc(), key, there, way, want);
+        }
+        becomes(&rt, rt.alloc(), key, there, 4, put);
     }
 }
 

@@ -6,19 +6,15 @@ use lib.Dec.{eqb}
 use mathlib.Core.Bool.{true, false, true≢false}
 use mathlib.Core.Path.{◌≡◌, sym, ap, ◌∙◌}
 use seplogic.Ra.Ura.{Ura}
-use mir.Syntax.{named}
 use mir.Val.{Val}
 use base.Logic.{SProp, ent, sep, emp}
-use base.Fml.{Fml, GName, Lft, Share, ftrue, flft, fres}
-use base.Fraction.{full_share}
+use base.Fml.{Fml, Lft, Share, ftrue, flft}
 use contract.Monad.{fact, fact_i}
-use types.Logic.{Logic, sem}
-use types.Kit.{Item, Goal, Seq, Step, Soaks, mean, step, ‵, raw, ◌⊛◌, some, later, ◌$◌, move, drop, split, join, use0, use1, use2, use3, await, pick}
-use types.Tokens.{lft_new, lft_end}
+use types.Logic.{Logic}
+use types.Kit.{Item, Goal, Seq, Step, Soaks, mean, step, ‵, raw, ◌⊛◌, some, later, ◌$◌, move, drop, split, join, use0, use1, use2, await}
+use types.Kit.{pick}
 use denote.Laws.{Is, shows}
-use denote.Lend.{lends_again, comes_back, LentAgain}
 use denote.RattleType.{RattleType}
-use denote.Ref.{MutRef, MutBor, mut_vals}
 use denote.Steps.{nothing, heard, peeks}
 
 module _ {M : Type 1} {𝓤 : Ura M} (κ : Lft) (q : Share) where
@@ -36,7 +32,8 @@ module _ {M : Type 1} {𝓤 : Ura M} (𝓛 : Logic 𝓤) {K : Type 0} {Γ : List
       nothing t $ move t (1 ∷ 0 ∷ []) $ join t $ nothing t $ move t (2 ∷ 0 ∷ []) $ join t $ join t $
       use0 𝓛 (raw (fact 𝓤 P)) (fact_i 𝓤 P (emp 𝓤) p) $ move t (1 ∷ 0 ∷ []) $ use2 𝓛 (raw Q) enough $ s)
 
-  pub answered : Soaks G → (R : RattleType) (w : Val) {W : Type 0} (L : R.Denot → W → Fml) (F : R.Denot → Fml) (P : R.Denot → Type 0) (Q : SProp 𝓤)
+  pub answered : Soaks G → (R : RattleType) (w : Val) {W : Type 0} (L : R.Denot → W → Fml) (F : R.Denot → Fml) (P : R.Denot → Type 0)
+      (Q : SProp 𝓤)
       → ent 𝓤 Q (mean 𝓛 (Answer κ q R w L F P))
       → ((x : R.Denot) → P x → Is R x (w ∷ []) → Seq K 𝓛 (‵ (R.own_val x (w ∷ [])) ∷ ‵ (F x) ∷ ‵ (flft κ q) ∷ ‵ ftrue ∷ Γ) G)
       → Seq K 𝓛 (raw Q ∷ Γ) G
@@ -48,3 +45,7 @@ module _ {M : Type 1} {𝓤 : Ura M} (𝓛 : Logic 𝓤) {K : Type 0} {Γ : List
 -- a number that a switch looks at is another one than that of an arm
 pub apart : {X : Type 1} (m n : ℕ) → eqb m n ≡ false → eqb n n ≡ true → m ≡ n → X
 apart m n other itself same = absurd (true≢false (sym itself ∙ ap (λ k. eqb k n) (sym same) ∙ other))
+
+-- the same of the first arm of several
+pub past : {X Y : Type 1} (m n : ℕ) → eqb m n ≡ false → eqb n n ≡ true → Y → (m ≡ n → X) × Y
+past m n other itself arms = (apart m n other itself, arms)

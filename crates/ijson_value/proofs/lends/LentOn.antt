@@ -18,7 +18,8 @@ module _ {M : Type 1} {𝓤 : Ura M} (𝓛 : Logic 𝓤) (R S T : RattleType) (F
   abbrev here : Found
   here = (((λ w. F (G w)), F v), met, met₀)
 
-  pub then_so : (γ δ : GName) (m : Option GName) → ent 𝓤 (sep 𝓤 (sem 𝓛 (follows R S γ δ F)) (sem 𝓛 (follows_if S T δ m G v))) (sem 𝓛 (follows_so R T γ m P P₀))
+  pub then_so : (γ δ : GName) (m : Option GName)
+      → ent 𝓤 (sep 𝓤 (sem 𝓛 (follows R S γ δ F)) (sem 𝓛 (follows_if S T δ m G v))) (sem 𝓛 (follows_so R T γ m P P₀))
   unfolding such_by follows_by
   then_so γ δ none =
       qed 𝓛 (‵ (follows R S γ δ F) ∷ ‵ (fres δ (S.coded.code v)) ∷ []) ∵
@@ -30,34 +31,45 @@ module _ {M : Type 1} {𝓤 : Ura M} (𝓛 : Logic 𝓤) (R S T : RattleType) (F
       fpack ! Found (λ (s : Found). follows_if R T γ (some δ') s.0.0 s.0.1) here $ done !
 
 -- What a lender that follows its part by a relation is, once it is known what the part was left at, or that there was none.
-module _ {M : Type 1} {𝓤 : Ura M} (𝓛 : Logic 𝓤) (R T : RattleType) (P : T.Denot → R.Denot → Type 0) (P₀ : R.Denot → Type 0) (γ : GName) where
+module _ {M : Type 1} {𝓤 : Ura M} (𝓛 : Logic 𝓤) (R T : RattleType) (P : T.Denot → R.Denot → Type 0) (P₀ : R.Denot → Type 0)
+    (γ : GName) where
   pub so_none : ent 𝓤 (sem 𝓛 (follows_so R T γ none P P₀)) (sem 𝓛 (fex ((z : R.Denot) × P₀ z) (λ s. fres γ (R.coded.code s.0))))
   unfolding such_by follows_by
-  so_none = qed 𝓛 (‵ (follows_so R T γ none P P₀) ∷ []) ∵ fpick ! (λ s. fpack ! ((z : R.Denot) × P₀ z) (λ k. fres γ (R.coded.code k.0)) (s.0.1, s.2) $ done !)
+  so_none = qed 𝓛 (‵ (follows_so R T γ none P P₀) ∷ []) ∵
+      fpick ! (λ s. fpack ! ((z : R.Denot) × P₀ z) (λ k. fres γ (R.coded.code k.0)) (s.0.1, s.2) $ done !)
 
-  pub so_some : (δ : GName) (w : T.Denot) → ent 𝓤 (sep 𝓤 (sem 𝓛 (follows_so R T γ (some δ) P P₀)) (sem 𝓛 (fres δ (T.coded.code w)))) (sem 𝓛 (fex ((z : R.Denot) × P w z) (λ s. fres γ (R.coded.code s.0))))
+  pub so_some : (δ : GName) (w : T.Denot) → ent 𝓤 (sep 𝓤 (sem 𝓛 (follows_so R T γ (some δ) P P₀)) (sem 𝓛 (fres δ (T.coded.code w))))
+      (sem 𝓛 (fex ((z : R.Denot) × P w z) (λ s. fres γ (R.coded.code s.0))))
   unfolding such_by follows_by
   so_some δ w = qed 𝓛 (‵ (follows_so R T γ (some δ) P P₀) ∷ ‵ (fres δ (T.coded.code w)) ∷ []) ∵ fpick ! (λ s.
-      use2 𝓛 (‵ (fres γ (R.coded.code (s.0.0 w)))) (followed 𝓛 R T s.0.0 γ δ w) $ fpack ! ((z : R.Denot) × P w z) (λ k. fres γ (R.coded.code k.0)) (s.0.0 w, s.1 w) $ done !)
+      use2 𝓛 (‵ (fres γ (R.coded.code (s.0.0 w)))) (followed 𝓛 R T s.0.0 γ δ w) $
+      fpack ! ((z : R.Denot) × P w z) (λ k. fres γ (R.coded.code k.0)) (s.0.0 w, s.1 w) $ done !)
 
 -- A lender that follows itself, and one that is as it was.
 module _ {M : Type 1} {𝓤 : Ura M} (𝓛 : Logic 𝓤) (R : RattleType) where
-  pub itself_so : (γ : GName) (v : R.Denot) (P : R.Denot → R.Denot → Type 0) (P₀ : R.Denot → Type 0) → ((w : R.Denot) → P w w) → P₀ v → ent 𝓤 (emp 𝓤) (sem 𝓛 (follows_so R R γ (some γ) P P₀))
+  pub itself_so : (γ : GName) (v : R.Denot) (P : R.Denot → R.Denot → Type 0) (P₀ : R.Denot → Type 0) → ((w : R.Denot) → P w w) → P₀ v
+      → ent 𝓤 (emp 𝓤) (sem 𝓛 (follows_so R R γ (some γ) P P₀))
   unfolding such_by follows_by
   itself_so γ v P P₀ met met₀ = qed 𝓛 [] ∵ use0 𝓛 (‵ (follows R R γ γ (λ w. w))) (follows_itself 𝓛 R γ) $
-      fpack ! ((s : (R.Denot → R.Denot) × R.Denot) × ((w : R.Denot) → P w (s.0 w)) × P₀ s.1) (λ s. follows_if R R γ (some γ) s.0.0 s.0.1) (((λ w. w), v), met, met₀) $ done !
+      fpack ! ((s : (R.Denot → R.Denot) × R.Denot) × ((w : R.Denot) → P w (s.0 w)) × P₀ s.1) (λ s. follows_if R R γ (some γ) s.0.0 s.0.1)
+      (((λ w. w), v), met, met₀) $ done !
 
-  pub none_so : (T : RattleType) (γ : GName) (v : R.Denot) (F : T.Denot → R.Denot) (P : T.Denot → R.Denot → Type 0) (P₀ : R.Denot → Type 0) → ((w : T.Denot) → P w (F w)) → P₀ v → ent 𝓤 (sem 𝓛 (fres γ (R.coded.code v))) (sem 𝓛 (follows_so R T γ none P P₀))
+  pub none_so : (T : RattleType) (γ : GName) (v : R.Denot) (F : T.Denot → R.Denot) (P : T.Denot → R.Denot → Type 0) (P₀ : R.Denot → Type 0)
+      → ((w : T.Denot) → P w (F w)) → P₀ v → ent 𝓤 (sem 𝓛 (fres γ (R.coded.code v))) (sem 𝓛 (follows_so R T γ none P P₀))
   unfolding such_by follows_by
   none_so T γ v F P P₀ met met₀ = qed 𝓛 (‵ (fres γ (R.coded.code v)) ∷ []) ∵
-      fpack ! ((s : (T.Denot → R.Denot) × R.Denot) × ((w : T.Denot) → P w (s.0 w)) × P₀ s.1) (λ s. follows_if R T γ none s.0.0 s.0.1) ((F, v), met, met₀) $ done !
+      fpack ! ((s : (T.Denot → R.Denot) × R.Denot) × ((w : T.Denot) → P w (s.0 w)) × P₀ s.1) (λ s. follows_if R T γ none s.0.0 s.0.1)
+      ((F, v), met, met₀) $ done !
 
 -- A lender that follows its part, said by a relation.
-module _ {M : Type 1} {𝓤 : Ura M} (𝓛 : Logic 𝓤) (R T : RattleType) (F : T.Denot → R.Denot) (v : R.Denot) (P : T.Denot → R.Denot → Type 0) (P₀ : R.Denot → Type 0) where
-  pub some_so : (γ δ : GName) → ((w : T.Denot) → P w (F w)) → P₀ v → ent 𝓤 (sem 𝓛 (follows R T γ δ F)) (sem 𝓛 (follows_so R T γ (some δ) P P₀))
+module _ {M : Type 1} {𝓤 : Ura M} (𝓛 : Logic 𝓤) (R T : RattleType) (F : T.Denot → R.Denot) (v : R.Denot) (P : T.Denot → R.Denot → Type 0)
+    (P₀ : R.Denot → Type 0) where
+  pub some_so : (γ δ : GName) → ((w : T.Denot) → P w (F w)) → P₀ v
+      → ent 𝓤 (sem 𝓛 (follows R T γ δ F)) (sem 𝓛 (follows_so R T γ (some δ) P P₀))
   unfolding such_by follows_by
   some_so γ δ met met₀ = qed 𝓛 (‵ (follows R T γ δ F) ∷ []) ∵
-      fpack ! ((s : (T.Denot → R.Denot) × R.Denot) × ((w : T.Denot) → P w (s.0 w)) × P₀ s.1) (λ s. follows_if R T γ (some δ) s.0.0 s.0.1) ((F, v), met, met₀) $ done !
+      fpack ! ((s : (T.Denot → R.Denot) × R.Denot) × ((w : T.Denot) → P w (s.0 w)) × P₀ s.1) (λ s. follows_if R T γ (some δ) s.0.0 s.0.1)
+      ((F, v), met, met₀) $ done !
 
 -- A lender that follows its part if there is one, and else is as it was.
 module _ {M : Type 1} {𝓤 : Ura M} (𝓛 : Logic 𝓤) (R T : RattleType) (F : T.Denot → R.Denot) (v : R.Denot) (γ : GName) where
@@ -70,13 +82,17 @@ module _ {M : Type 1} {𝓤 : Ura M} (𝓛 : Logic 𝓤) (R T : RattleType) (F :
   none_if = qed 𝓛 (‵ (fres γ (R.coded.code v)) ∷ []) ∵ done !
 
 -- What follows a part follows a part of the part, where that is said by a relation.
-module _ {M : Type 1} {𝓤 : Ura M} (𝓛 : Logic 𝓤) (R S T : RattleType) (F : S.Denot → R.Denot) (Q : T.Denot → S.Denot → Type 0) (Q₀ : S.Denot → Type 0)
-    (P : T.Denot → R.Denot → Type 0) (P₀ : R.Denot → Type 0) (met : (w : T.Denot) (y : S.Denot) → Q w y → P w (F y)) (met₀ : (y : S.Denot) → Q₀ y → P₀ (F y)) where
-  pub then_such : (γ δ : GName) (m : Option GName) → ent 𝓤 (sep 𝓤 (sem 𝓛 (follows R S γ δ F)) (sem 𝓛 (follows_so S T δ m Q Q₀))) (sem 𝓛 (follows_so R T γ m P P₀))
+module _ {M : Type 1} {𝓤 : Ura M} (𝓛 : Logic 𝓤) (R S T : RattleType) (F : S.Denot → R.Denot) (Q : T.Denot → S.Denot → Type 0)
+    (Q₀ : S.Denot → Type 0)
+    (P : T.Denot → R.Denot → Type 0) (P₀ : R.Denot → Type 0) (met : (w : T.Denot) (y : S.Denot) → Q w y → P w (F y))
+    (met₀ : (y : S.Denot) → Q₀ y → P₀ (F y)) where
+  pub then_such : (γ δ : GName) (m : Option GName)
+      → ent 𝓤 (sep 𝓤 (sem 𝓛 (follows R S γ δ F)) (sem 𝓛 (follows_so S T δ m Q Q₀))) (sem 𝓛 (follows_so R T γ m P P₀))
   unfolding such_by
   then_such γ δ m =
       qed 𝓛 (‵ (follows R S γ δ F) ∷ ‵ (follows_so S T δ m Q Q₀) ∷ []) ∵ move ! (1 ∷ []) $ fpick ! (λ s. move ! (1 ∷ 0 ∷ []) $
-      use2 𝓛 (‵ (follows_so R T γ m P P₀)) (then_so 𝓛 R S T F s.0.0 s.0.1 P P₀ (λ w. met w (s.0.0 w) (s.1 w)) (met₀ s.0.1 s.2) γ δ m) $ done !)
+      use2 𝓛 (‵ (follows_so R T γ m P P₀)) (then_so 𝓛 R S T F s.0.0 s.0.1 P P₀ (λ w. met w (s.0.0 w) (s.1 w)) (met₀ s.0.1 s.2) γ δ m) $
+      done !)
 
 -- The same of a lender that follows its part by a function.
 module _ {M : Type 1} {𝓤 : Ura M} (𝓛 : Logic 𝓤) (R T : RattleType) (F : T.Denot → R.Denot) (v : R.Denot) (γ : GName) where
@@ -84,6 +100,8 @@ module _ {M : Type 1} {𝓤 : Ura M} (𝓛 : Logic 𝓤) (R T : RattleType) (F :
   unfolding follows_by
   if_none = qed 𝓛 (‵ (follows_if R T γ none F v) ∷ []) ∵ done !
 
-  pub if_some : (δ : GName) (w : T.Denot) → ent 𝓤 (sep 𝓤 (sem 𝓛 (follows_if R T γ (some δ) F v)) (sem 𝓛 (fres δ (T.coded.code w)))) (sem 𝓛 (fres γ (R.coded.code (F w))))
+  pub if_some : (δ : GName) (w : T.Denot) → ent 𝓤 (sep 𝓤 (sem 𝓛 (follows_if R T γ (some δ) F v)) (sem 𝓛 (fres δ (T.coded.code w))))
+      (sem 𝓛 (fres γ (R.coded.code (F w))))
   unfolding follows_by
-  if_some δ w = qed 𝓛 (‵ (follows_if R T γ (some δ) F v) ∷ ‵ (fres δ (T.coded.code w)) ∷ []) ∵ use2 𝓛 (‵ (fres γ (R.coded.code (F w)))) (followed 𝓛 R T F γ δ w) $ done !
+  if_some δ w = qed 𝓛 (‵ (follows_if R T γ (some δ) F v) ∷ ‵ (fres δ (T.coded.code w)) ∷ []) ∵
+      use2 𝓛 (‵ (fres γ (R.coded.code (F w)))) (followed 𝓛 R T F γ δ w) $ done !

@@ -1,7 +1,7 @@
 -- Whether a value is equal to one of some values, while a loop takes them from one list into another. For callers.
 use Rattle.std.specs.Prelude.{◌≡◌, List, [], ◌∷◌, ◌++◌, Bool, true, false, cond}
 use Rattle.std.specs.List.{list_any}
-use Rattle.std.proofs.Common.{◌||◌, refl, ap, sym, ◌∙◌}
+use Rattle.std.proofs.Common.{◌||◌, refl, ap}
 use Rattle.ijson_value.specs.SameTest.{same}
 use Rattle.ijson_value.specs.WellFormed.{WellFormed}
 use Rattle.ijson_value.specs.laws.Equality.{equivalence}

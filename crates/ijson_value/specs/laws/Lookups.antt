@@ -1,5 +1,6 @@
 -- What is found beside a key once pairs were put or taken out. For callers: each law joins two words of the contracts.
-use Rattle.std.specs.Prelude.{◌≡◌, ◌≢◌, ℕ, zero, suc, ◌+◌, ◌-◌, ◌<◌, true, false, List, [], ◌∷◌, length, get_or, set, Option, Some, None, cond, option_map}
+use Rattle.std.specs.Prelude.{◌≡◌, ◌≢◌, ℕ, zero, suc, ◌+◌, ◌-◌, ◌<◌, true, false, List, [], ◌∷◌, length, get_or, set, Option, Some, None}
+use Rattle.std.specs.Prelude.{cond, option_map}
 use Rattle.std.specs.Option.{option_or}
 use Rattle.std.specs.Str.{bytes_eq}
 use Rattle.std.proofs.Common.{inl, inr, refl, sym, ap, ◌∙◌, arith}
@@ -8,7 +9,8 @@ use Rattle.ijson_table.specs.Store.{keys_of, at, lookup, put, put_each, swap_out
 use Rattle.ijson_table.proofs.arithmetic.Comparing.{below_or_not, same_or_not}
 use Rattle.ijson_table.proofs.pairs.DistinctKeys.{apart}
 use Rattle.ijson_table.proofs.pairs.KeyPositions.{same_key, position-none, position-some, position-distinct, absent-from}
-use Rattle.ijson_table.proofs.pairs.PairsByKey.{position_within, keys-length, key_at, swap_out-is, length-swap_out, swapped-same, swapped-other}
+use Rattle.ijson_table.proofs.pairs.PairsByKey.{position_within, keys-length, key_at, swap_out-is, length-swap_out, swapped-same}
+use Rattle.ijson_table.proofs.pairs.PairsByKey.{swapped-other}
 use Rattle.ijson_table.proofs.pairs.PairsByKey.{distinct_swapped, lookup-position, lookup-absent}
 use Rattle.ijson_value.specs.AtKey.{swapped_at, shifted_at, swap_out_key, shift_out_key}
 
@@ -47,7 +49,8 @@ module _ {V : Type 0} where
   lookup-put_same pairs key value = lookup-put pairs key value key ∙ grind (arith, same_key key key)
 
   -- beside another key
-  pub lookup-put_other : (pairs : List (List ℕ × V)) (key : List ℕ) (value : V) (k : List ℕ) → k ≢ key → lookup k (put pairs key value) ≡ lookup k pairs
+  pub lookup-put_other : (pairs : List (List ℕ × V)) (key : List ℕ) (value : V) (k : List ℕ) → k ≢ key
+      → lookup k (put pairs key value) ≡ lookup k pairs
   lookup-put_other pairs key value k other = lookup-put pairs key value k ∙ grind (arith, same_key k key, other)
 
   -- nothing is found beside a key that no pair has
@@ -113,7 +116,11 @@ module _ {V : Type 0} where
   moved pair pairs i m li lm other =
       let last : ℕ = length (pair ∷ pairs) - 1 in
       elim (below_or_not (m + 1) (length (pair ∷ pairs))) [
-        | inl inside ↦ (m, inside, entry_out pair pairs i m li inside ∙ get_or-set_other (pair ∷ pairs) i m (get_or (pair ∷ pairs) last pair) pair other)
+        | inl inside ↦ (
+          m,
+          inside,
+          entry_out pair pairs i m li inside ∙ get_or-set_other (pair ∷ pairs) i m (get_or (pair ∷ pairs) last pair) pair other,
+        )
         | inr end ↦
             let is : last ≡ m = omega (arith, lm, end) in
             let before : i + 1 < length (pair ∷ pairs) = omega (arith, li, is, other, end) in (
@@ -124,7 +131,8 @@ module _ {V : Type 0} where
             )
       ]
 
-  was_absent : (pairs : List (List ℕ × V)) (key k : List ℕ) → at pairs key ≡ None → lookup k pairs ≡ cond (bytes_eq k key) None (lookup k pairs)
+  was_absent : (pairs : List (List ℕ × V)) (key k : List ℕ) → at pairs key ≡ None
+      → lookup k pairs ≡ cond (bytes_eq k key) None (lookup k pairs)
   was_absent pairs key k e = elim (same_key k key) [
     | inl same ↦ let none = lookup-absent pairs key e in grind (arith, same, none)
     | inr other ↦ grind (arith, other)
@@ -176,13 +184,19 @@ module _ {V : Type 0} where
       let size = keys-length (pair ∷ pairs) in
       elim (same_key k key) [
         | inl same ↦
-            let gone = stays_absent (pair ∷ pairs) i k li (λ m lm other is. other (apart_at m i (omega (arith, lm, size)) (omega (arith, li, size)) (is ∙ (same.1 ∙ sym key_is)))) in
+            let gone = stays_absent (pair ∷ pairs) i k li
+            (λ m lm other is. other (apart_at m i (omega (arith, lm, size)) (omega (arith, li, size)) (is ∙ (same.1 ∙ sym key_is)))) in
             grind (arith, same, gone)
         | inr other ↦
-            let kept : lookup k (swap_out (pair ∷ pairs) i) ≡ lookup k (pair ∷ pairs) = elim (at (pair ∷ pairs) k) as (λ o. at (pair ∷ pairs) k ≡ o
+            let kept : lookup k (swap_out (pair ∷ pairs) i) ≡ lookup k (pair ∷ pairs) =
+            elim (at (pair ∷ pairs) k) as (λ o. at (pair ∷ pairs) k ≡ o
             → lookup k (swap_out (pair ∷ pairs) i) ≡ lookup k (pair ∷ pairs)) [
-              | None ↦ λ none. stays_absent (pair ∷ pairs) i k li (λ m lm _ is. absent-from (keys_of (pair ∷ pairs)) k none m (omega (arith, lm, size)) is) ∙ sym (lookup-absent (pair ∷ pairs) k none)
-              | Some m ↦ λ some. stays_found pair pairs i m k distinct li some (λ is. other.1 (sym (position-some (keys_of (pair ∷ pairs)) k m some).1 ∙ (ap (λ n. get_or (keys_of (pair ∷ pairs)) n []) is ∙ key_is)))
+              | None ↦ λ none. stays_absent (pair ∷ pairs) i k li
+                  (λ m lm _ is. absent-from (keys_of (pair ∷ pairs)) k none m (omega (arith, lm, size)) is)
+                  ∙ sym (lookup-absent (pair ∷ pairs) k none)
+              | Some m ↦ λ some. stays_found pair pairs i m k distinct li some
+                  (λ is. other.1 (sym (position-some (keys_of (pair ∷ pairs)) k m some).1
+                  ∙ (ap (λ n. get_or (keys_of (pair ∷ pairs)) n []) is ∙ key_is)))
             ] refl in
             grind (arith, other, kept)
       ]

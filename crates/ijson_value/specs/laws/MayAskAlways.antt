@@ -1,5 +1,5 @@
 -- A question that may always be asked may be asked of each pair that `retain` comes to.
-use Rattle.std.specs.Prelude.{◌≡◌, ℕ, zero, suc, ◌+◌, Bool, List, [], ◌∷◌, if◌then◌else◌}
+use Rattle.std.specs.Prelude.{ℕ, zero, suc, ◌+◌, Bool, List, [], ◌∷◌, if◌then◌else◌}
 use Rattle.std.proofs.Common.{refl, sym, subst}
 use Rattle.std.specs.Map.Calls.{CalledAtPair, TakesPair}
 use denote.Param.Always.{always_mut, mut_next}

@@ -6,7 +6,8 @@ use Rattle.std.specs.Cmp.{tied_itself, tied_back}
 use Rattle.std.specs.Cmp.Lexicographic.{bytes_decides}
 use Rattle.ijson_number.specs.laws.Ordered.{number_cmp_total}
 use Rattle.ijson_table.specs.Store.{Lacks, IsDistinct}
-use Rattle.ijson_value.specs.Tree.{Tree, null, boolean, number, string, array, object, Items, no_items, item, Members, no_members, member, members_len, member_keys}
+use Rattle.ijson_value.specs.Tree.{Tree, null, boolean, number, string, array, object, Items, no_items, item, Members, no_members, member}
+use Rattle.ijson_value.specs.Tree.{members_len, member_keys}
 use Rattle.ijson_value.specs.WellFormed.{IsWellFormed, AreWellFormed, HaveWellFormed}
 use Rattle.ijson_value.specs.Same.{Same, SameEach, SameIn, Has}
 

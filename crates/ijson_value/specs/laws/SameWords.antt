@@ -1,5 +1,6 @@
 -- Trees that are the same feed the same words, at every depth and in every order of pairs.
-use Rattle.std.proofs.Common.{◌≡◌, ℕ, suc, ◌+◌, ◌%◌, ◌^◌, true, false, cond, List, [], ◌∷◌, ◌++◌, inl, inr, refl, sym, ap, ◌∙◌, subst, arith, IsTrue}
+use Rattle.std.proofs.Common.{◌≡◌, ℕ, suc, ◌+◌, ◌%◌, ◌^◌, true, false, cond, List, [], ◌∷◌, ◌++◌, inl, inr, refl, sym, ap, ◌∙◌, subst}
+use Rattle.std.proofs.Common.{arith, IsTrue}
 use mathlib.Core.Bool.{true≢false}
 use Rattle.std.specs.Hash as fed
 use Rattle.std.specs.List.{flat_map}
@@ -9,7 +10,8 @@ use Rattle.ijson_number.specs.laws.Ordered.{equal_words}
 use Rattle.ijson_string.specs.Words.{text_words}
 use Rattle.ijson_table.specs.Fold.{fold_words}
 use Rattle.ijson_table.specs.Store.{IsDistinct}
-use Rattle.ijson_value.specs.Tree.{Tree, null, boolean, number, string, array, object, Items, no_items, item, Members, no_members, member, members_len, member_keys}
+use Rattle.ijson_value.specs.Tree.{Tree, null, boolean, number, string, array, object, Items, no_items, item, Members, no_members, member}
+use Rattle.ijson_value.specs.Tree.{members_len, member_keys}
 use Rattle.ijson_value.specs.WellFormed.{WellFormed, IsWellFormed, AreWellFormed, HaveWellFormed}
 use Rattle.ijson_value.specs.Same.{Same, SameEach, SameIn, Has}
 use Rattle.ijson_value.specs.Length.{items_len}

@@ -1,6 +1,7 @@
 -- What stands one step inside a value, what is left without it, and the value with another there: the trees of what a list of
 -- items and a store of pairs answer.
-use Rattle.std.specs.Prelude.{◌≡◌, ℕ, zero, suc, ◌-◌, ◌++◌, true, false, List, [], ◌∷◌, Option, Some, None, map, length, take, drop, set, swap, get_or, slice_get, option_map, IsSome, cond}
+use Rattle.std.specs.Prelude.{◌≡◌, ℕ, zero, suc, ◌-◌, ◌++◌, true, false, List, [], ◌∷◌, Option, Some, None, map, length, take, drop, set}
+use Rattle.std.specs.Prelude.{swap, get_or, slice_get, option_map, IsSome, cond}
 use Rattle.std.specs.List.{remove}
 use Rattle.std.specs.Str.{bytes_eq}
 use Rattle.std.proofs.Common.{refl, sym, ap, ◌∙◌}

@@ -1,15 +1,17 @@
 -- What stands one step inside a tree once something was written there, taken out, or laid over it. For callers: each law joins two
 -- words of the contracts.
-use Rattle.std.specs.Prelude.{◌≡◌, ◌≢◌, ◌<◌, ℕ, zero, suc, true, false, List, [], ◌∷◌, Option, Some, None, IsSome, cond, length, get_or, set, slice_get, option_map}
+use Rattle.std.specs.Prelude.{◌≡◌, ◌≢◌, ◌<◌, ℕ, zero, suc, List, [], ◌∷◌, Option, Some, None, IsSome, cond, length, get_or, set, slice_get}
+use Rattle.std.specs.Prelude.{option_map}
 use Rattle.std.specs.Option.{option_or}
 use Rattle.std.specs.Str.{bytes_eq}
 use Rattle.std.proofs.Common.{refl, sym, ap, subst, ◌∙◌}
 use Rattle.std.proofs.lemmas.Option.{slice_get_read}
-use Rattle.ijson_table.specs.Store.{Store, keys_of, lookup, put, IsDistinct}
+use Rattle.ijson_table.specs.Store.{keys_of, lookup, put, IsDistinct}
 use Rattle.ijson_value.specs.AtKey.{swap_out_key}
 use Rattle.ijson_value.specs.Kind.{kind_of}
 use Rattle.ijson_value.specs.Step.{by_position, by_key, tree_at, tree_with, tree_without}
-use Rattle.ijson_value.specs.Tree.{Tree, null, boolean, number, string, array, object, Items, items_of, items_list, Members, no_members, member, members_of, members_list, member_keys}
+use Rattle.ijson_value.specs.Tree.{Tree, null, boolean, number, string, array, object, items_of, items_list, Members, no_members, member}
+use Rattle.ijson_value.specs.Tree.{members_of, members_list, member_keys}
 use Rattle.ijson_value.specs.Values.{array_value, object_tree}
 use Rattle.ijson_value.specs.WellFormed.{WellFormed, IsWellFormed, tree_of}
 use Rattle.ijson_value.specs.declared.value.ValueType.TheVariants.{Object}

@@ -4,7 +4,8 @@ use Rattle.std.specs.Coded.{Coded, code_by, ×_prop, Unit-prop}
 use base.Stored.{coded_sub}
 use Rattle.ijson_number.specs.laws.Codes.{IsNum-prop}
 use Rattle.ijson_table.specs.laws.Store.{IsDistinct-prop}
-use Rattle.ijson_value.specs.Tree.{Tree, null, boolean, number, string, array, object, Items, no_items, item, Members, no_members, member, member_keys}
+use Rattle.ijson_value.specs.Tree.{Tree, null, boolean, number, string, array, object, Items, no_items, item, Members, no_members, member}
+use Rattle.ijson_value.specs.Tree.{member_keys}
 use Rattle.ijson_value.specs.WellFormed.{WellFormed, IsWellFormed, AreWellFormed, HaveWellFormed}
 use Rattle.ijson_value.specs.laws.TreeCode.{tree_code}
 

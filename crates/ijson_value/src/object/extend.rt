@@ -54,13 +54,7 @@ impl IObject {
             × InsertsEach self.old.pairs self.old.capacity (take n other.pairs) self.new.pairs self.new.capacity
             × FindsNoRoom self.new refused.key refused.why) }
     {
-        for (key, value) in other {
-            match self.insert(key, value) {
-                Ok(old) => drop(old),
-                Err(refused) => return Err(refused),
-            }
-        }
-        Ok(())
+        self.extend(other)
     }
 
     /// An object of the pairs of an iterator, inserted one after the other. A pair that there is no room for comes back; what was

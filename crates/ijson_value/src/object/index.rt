@@ -158,7 +158,7 @@ impl IObject {
 
     /// Takes the pair with a key out, and answers its value. The last pair moves into its place. None where it is not there. No
     /// other pair moves, and no memory is taken; `shift_remove` keeps the order.
-    #[tactic(auto, using(crate::proofs::Objects::lookup_pair))]
+    #[tactic(auto, using(crate::proofs::pairs::PairLookups::lookup_pair))]
     pub fn remove<I: ObjectIndex>(&mut self, index: I) -> Option<IValue>
         ensures value { result ≡ lookup (I.Sealed.key index) self.old.pairs }
         ensures pairs { self.new.pairs ≡ swap_out_key (I.Sealed.key index) self.old.pairs }
@@ -178,7 +178,7 @@ impl IObject {
 
     /// Takes the pair with a key out, and answers its value. Those behind it close up, so the order stays. That takes time
     /// linear in the object. None where the key is not there.
-    #[tactic(auto, using(crate::proofs::Objects::lookup_pair))]
+    #[tactic(auto, using(crate::proofs::pairs::PairLookups::lookup_pair))]
     pub fn shift_remove<I: ObjectIndex>(&mut self, index: I) -> Option<IValue>
         ensures value { result ≡ lookup (I.Sealed.key index) self.old.pairs }
         ensures pairs { self.new.pairs ≡ shift_out_key (I.Sealed.key index) self.old.pairs }

@@ -196,7 +196,7 @@ impl IObject {
     /// ```
     /// let old = object.insert(key, IValue::from(1u64))?; // None where the key is new
     /// ```
-    #[tactic(auto, using(crate::proofs::Inserted::put_where_ok))]
+    #[tactic(auto, using(crate::proofs::pairs::Inserted::put_where_ok))]
     pub fn insert(&mut self, key: IString, value: IValue) -> Result<Option<IValue>, RefusedPair>
         ensures inserts { Inserts self.old.pairs self.old.capacity key value result self.new.pairs
             self.new.capacity }

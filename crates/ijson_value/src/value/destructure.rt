@@ -2,7 +2,8 @@
 ghost use Rattle.std.specs.Prelude.{◌≡◌};
 ghost use Rattle.std.specs.Borrow.{sem};
 ghost use Rattle.ijson_value.specs.Kind.{kind_of};
-ghost use Rattle.ijson_value.specs.LendsParts.{LendsParts, LendsBoolPart, LendsNumberPart, LendsStringPart, LendsArrayPart, LendsObjectPart};
+ghost use Rattle.ijson_value.specs.LendsParts.{LendsParts, LendsBoolPart, LendsNumberPart, LendsStringPart, LendsArrayPart};
+ghost use Rattle.ijson_value.specs.LendsParts.{LendsObjectPart};
 ghost use Rattle.ijson_value.specs.NodeValue.{node_value};
 ghost use Rattle.ijson_value.specs.Opened.{ref_value, mut_value};
 ghost use Rattle.ijson_value.specs.Values.{boolean_value, number_value, string_value, array_value, object_value};

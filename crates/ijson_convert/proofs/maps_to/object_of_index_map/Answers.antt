@@ -1,7 +1,7 @@
 use Rattle.std.specs.Map.Iter.{deref_pair}
 use Rattle.std.proofs.lemmas.Map.Iter.{rest_more}
 use Rattle.std.proofs.lemmas.Result.{err_from_is_err_and}
-use Rattle.ijson_convert.proofs.PairsPut.{unique_pairs, one_more, one_refused}
+use Rattle.ijson_convert.proofs.pairs.PairsPut.{unique_pairs, one_more, one_refused}
 use Rattle.ijson_convert.proofs.maps_to.object_of_index_map.Goals as goal
 
 pub loop-key-preserved : goal.loop-key-preserved

@@ -1,4 +1,4 @@
-use Rattle.ijson_convert.proofs.PairsPut.{SoFar}
+use Rattle.ijson_convert.proofs.pairs.PairsPut.{SoFar}
 use Rattle.ijson_convert.proofs.maps_to.object_of_index_map.Given as goal
 
 abbrev pub invariant-loop-key : goal.invariant-loop-key

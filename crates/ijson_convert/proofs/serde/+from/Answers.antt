@@ -18,9 +18,9 @@ use Rattle.ijson_convert.specs.SerdeTree.{SerdeItems, SerdeMembers, HasNoTree}
 use Rattle.ijson_convert.specs.TextsOf.{texts_of}
 use Rattle.ijson_convert.proofs.Interning.{none_interned, wholly_interned, some_behind}
 use Rattle.ijson_convert.proofs.Refusals.{refused_too}
-use Rattle.ijson_convert.proofs.SerdeTrees.{items_begun, members_begun, entry_interned}
-use Rattle.ijson_convert.proofs.SerdeTrees.{value_texts, entry_texts, tree_texts, items_flat, members_flat, interned_more}
-use Rattle.ijson_convert.proofs.SerdeTrees.{split_at, items_more, members_more, array_none, object_none, put_last}
+use Rattle.ijson_convert.proofs.serde_trees.SerdeTrees.{items_begun, members_begun, entry_interned}
+use Rattle.ijson_convert.proofs.serde_trees.SerdeTrees.{value_texts, entry_texts, tree_texts, items_flat, members_flat, interned_more}
+use Rattle.ijson_convert.proofs.serde_trees.SerdeTrees.{split_at, items_more, members_more, array_none, object_none, put_last}
 use Rattle.ijson_convert.proofs.serde.+from.Goals as goal
 
 -- ---- an item

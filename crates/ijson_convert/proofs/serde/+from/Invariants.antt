@@ -5,7 +5,7 @@ use Rattle.serde_json.proofs.Views.{Entry}
 use Rattle.ijson_value.specs.WellFormed.{item_trees, pair_trees}
 use Rattle.ijson_convert.specs.Interned.{all_interned}
 use Rattle.ijson_convert.specs.SerdeTree.{SerdeItems, SerdeMembers}
-use Rattle.ijson_convert.proofs.SerdeTrees.{value_texts, entry_texts}
+use Rattle.ijson_convert.proofs.serde_trees.SerdeTrees.{value_texts, entry_texts}
 use Rattle.ijson_convert.proofs.serde.+from.Given as goal
 
 -- the items so far have their trees, and their texts are interned

@@ -17,9 +17,9 @@ use Rattle.ijson_value.specs.WellFormed.{WellFormed, pair_trees}
 use Rattle.ijson_value.specs.laws.HoldsWellFormed.{IsWellFormed-object}
 use Rattle.ijson_convert.specs.SerdeTree.{SerdeMeans, NoSerdeMeans}
 use Rattle.ijson_convert.proofs.Refusals.{refused_too}
-use Rattle.ijson_convert.proofs.SerdeTrees.{split_at}
-use Rattle.ijson_convert.proofs.PairTrees.{has_middle, deep_middle}
-use Rattle.ijson_convert.proofs.SerdeMeanings.{array_means, array_unmeant, object_means, object_unmeant, lacks_before}
+use Rattle.ijson_convert.proofs.serde_trees.SerdeTrees.{split_at}
+use Rattle.ijson_convert.proofs.pairs.PairTrees.{has_middle, deep_middle}
+use Rattle.ijson_convert.proofs.serde_trees.SerdeMeanings.{array_means, array_unmeant, object_means, object_unmeant, lacks_before}
 use Rattle.ijson_convert.proofs.serde.+to.Goals as goal
 
 -- ---- an item

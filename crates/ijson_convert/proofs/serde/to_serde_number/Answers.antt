@@ -3,7 +3,7 @@ use Rattle.std.specs.Prelude.{FitsSigned}
 use Rattle.std.specs.Int.{w64}
 use Rattle.serde_json.specs.Find.{of_integer}
 use Rattle.serde_json.specs.View.{number_view}
-use Rattle.ijson_convert.proofs.SerdeNumbers.{means_unsigned, means_signed, number_unmeant}
+use Rattle.ijson_convert.proofs.serde_trees.SerdeNumbers.{means_unsigned, means_signed, number_unmeant}
 use Rattle.ijson_convert.proofs.serde.to_serde_number.Goals as goal
 
 pub returns-in-Some-clause-number : goal.returns-in-Some-clause-number

@@ -3,7 +3,7 @@ use Rattle.std.specs.Prelude.{option_and_then, option_map, slice_get}
 use Rattle.ijson_value.specs.WellFormed.{tree_of}
 use Rattle.ijson_value.proofs.Found.{item_tree}
 use Rattle.ijson_extra.specs.Pointer.{position_named}
-use Rattle.ijson_extra.proofs.Pointers.{none_there}
+use Rattle.ijson_extra.proofs.tokens.Positions.{none_there}
 use Rattle.ijson_extra.proofs.pointer.item.Goals as goal
 
 pub returns-in-Some : goal.returns-in-Some

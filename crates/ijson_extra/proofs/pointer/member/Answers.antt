@@ -2,7 +2,8 @@ use Rattle.std.proofs.Common.{◌≡◌, ◌∙◌, false, rules, sym, ap, arith
 use Rattle.std.proofs.lemmas.Str.Pattern.{contains_char}
 use mathlib.Core.Bool.{true≢false}
 use Rattle.ijson_table.specs.Store.{lookup}
-use Rattle.ijson_extra.proofs.Pointers.{from_some, meant_itself}
+use Rattle.ijson_extra.proofs.tokens.Positions.{from_some}
+use Rattle.ijson_extra.proofs.Pointers.{meant_itself}
 use Rattle.ijson_extra.proofs.pointer.member.Goals as goal
 
 pub returns-then-not-contains : goal.returns-then-not-contains

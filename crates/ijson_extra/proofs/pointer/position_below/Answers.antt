@@ -1,6 +1,6 @@
 use Rattle.std.proofs.Common.{◌≡◌, ◌<◌, ◌^◌, true, rules}
 use Rattle.ijson_extra.specs.Pointer.{names_position}
-use Rattle.ijson_extra.proofs.Pointers.{position_read}
+use Rattle.ijson_extra.proofs.tokens.Positions.{position_read}
 use Rattle.ijson_extra.proofs.pointer.position_below.Goals as goal
 
 pub returns-in_default-clause-none : goal.returns-in_default-clause-none

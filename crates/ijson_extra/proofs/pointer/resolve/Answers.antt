@@ -2,12 +2,13 @@ use Rattle.std.proofs.Common.{◌∙◌, Some, Option, option_map, rules, sym, a
 use Rattle.std.proofs.lemmas.Str.Pattern.{split_parts, strip_prefix_char}
 use Rattle.ijson_value.specs.Tree.{Tree}
 use Rattle.ijson_extra.proofs.Pointers.{outcome, token_meant, token_none, last_meant, last_none}
-use Rattle.ijson_extra.proofs.Children.{ok_then, err_then, err_any, no_pointer}
+use Rattle.ijson_extra.proofs.tokens.Children.{ok_then, err_then, err_any, no_pointer}
 use Rattle.ijson_extra.proofs.pointer.resolve.Goals as goal
 
 pub returns-in_default-clause-refused : goal.returns-in_default-clause-refused
 returns-in_default-clause-refused c =
-    let other = rw c.in_default.is at (strip_prefix_char 47 c.args.pointer.now c.strip_prefix.result c.strip_prefix.ensures.cases (omega arith)) in
+    let other =
+    rw c.in_default.is at (strip_prefix_char 47 c.args.pointer.now c.strip_prefix.result c.strip_prefix.ensures.cases (omega arith)) in
     no_pointer c.args.value.now.tree c.args.pointer.now (search rules) other
 
 pub returns-in_err-found-clause-refused : goal.returns-in_err-found-clause-refused
@@ -15,7 +16,8 @@ returns-in_err-found-clause-refused c =
     let left = c.loop-token.left.now in
     let parts = rw c.in-Some-split_once.is at (split_parts 47 left c.split_once.result c.split_once.ensures.cases (omega arith)) in
     err_any c.from_residual.result
-    (c.loop-token.invariant.same ∙ token_none (option_map (λ v. v.now.tree) c.loop-token.found) left c.in-Some-split_once.token.now c.in-Some-split_once.behind.now parts.0 parts.1 c.in_err-found.ensures.refused)
+    (c.loop-token.invariant.same ∙ token_none (option_map (λ v. v.now.tree) c.loop-token.found) left c.in-Some-split_once.token.now
+    c.in-Some-split_once.behind.now parts.0 parts.1 c.in_err-found.ensures.refused)
 
 pub loop-token-preserved : goal.loop-token-preserved
 loop-token-preserved c =
@@ -26,7 +28,8 @@ loop-token-preserved c =
     record {
       utf8 = search rules;
       same = c.loop-token.invariant.same
-          ∙ token_meant (option_map (λ v. v.now.tree) c.loop-token.found) left c.in-Some-split_once.token.now behind found.0 parts.0 parts.1 found.1
+          ∙ token_meant (option_map (λ v. v.now.tree) c.loop-token.found) left c.in-Some-split_once.token.now behind found.0 parts.0 parts.1
+          found.1
           ∙ ap (λ (o : Option Tree). outcome o behind) (sym found.2);
     }
 

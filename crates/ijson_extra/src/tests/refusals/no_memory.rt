@@ -1,5 +1,5 @@
-//! Calls that take no memory. They are right whichever request is refused, so also where it is the next one after them, and a thousand rounds
-//! of them make as many requests as one does.
+//! Calls that take no memory. They are right whichever request is refused, so also where it is the next one after them, and a
+//! thousand rounds of them make as many requests as one does.
 
 use super::objects::{PAIRS, holds, refused_entry, with_pairs};
 use super::{Cache, array_of_room, interned, number, spelled};

@@ -3,10 +3,13 @@ use Rattle.ijson_value.specs.Tree.{array, object, depth}
 use Rattle.ijson_value.specs.Values.{number_value, string_value, array_value}
 use Rattle.ijson_value.specs.WellFormed.{tree_of, item_trees, pair_trees}
 use Rattle.ijson_value.specs.NodeValue.{node_value}
-use Rattle.ijson_value.proofs.Clones.{same_pairs_value}
+use Rattle.ijson_value.proofs.pairs.SamePairs.{same_pairs_value}
 use Rattle.ijson_value.proofs.DepthLemmas.{items_below, pairs_below}
 use Rattle.ijson_value.proofs.clone.+clone.Goals as goal
-use Rattle.ijson_value.proofs.clone.+clone.Goals.{clone_value-in-Null, clone_value-in-Bool, clone_value-in-Number+in_ok-clone-in-Number, clone_value-in-String+in_ok-clone-in-String, clone_value-in-Array+in_ok-clone_items-in-Array, clone_value-in-Object+in_ok-pairs-in-Object+in_ok-with_same_keys-in-Object}
+use Rattle.ijson_value.proofs.clone.+clone.Goals.{clone_value-in-Null, clone_value-in-Bool, clone_value-in-Number+in_ok-clone-in-Number}
+use Rattle.ijson_value.proofs.clone.+clone.Goals.{clone_value-in-String+in_ok-clone-in-String}
+use Rattle.ijson_value.proofs.clone.+clone.Goals.{clone_value-in-Array+in_ok-clone_items-in-Array}
+use Rattle.ijson_value.proofs.clone.+clone.Goals.{clone_value-in-Object+in_ok-pairs-in-Object+in_ok-with_same_keys-in-Object}
 
 pub clone_value-clone_items-requires : goal.clone_value-clone_items-requires
 clone_value-clone_items-requires t c =

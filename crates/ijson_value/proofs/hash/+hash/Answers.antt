@@ -4,7 +4,7 @@ use Rattle.ijson_value.specs.WellFormed.{tree_of, item_trees}
 use Rattle.ijson_value.specs.Words.{item_words}
 use Rattle.ijson_value.specs.NodeValue.{node_value}
 use Rattle.ijson_value.proofs.DepthLemmas.{items_below}
-use Rattle.ijson_value.proofs.Feeds.{feed, array_fed, item_fed}
+use Rattle.ijson_value.proofs.hashing.Feeds.{feed, array_fed, item_fed}
 use Rattle.ijson_value.proofs.hash.+hash.Goals as goal
 
 pub hash_value-hash_items-requires : goal.hash_value-hash_items-requires

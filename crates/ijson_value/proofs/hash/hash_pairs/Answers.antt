@@ -1,4 +1,4 @@
-use Rattle.ijson_value.proofs.Feeds.{object_fed}
+use Rattle.ijson_value.proofs.hashing.Feeds.{object_fed}
 use Rattle.ijson_value.proofs.hash.hash_pairs.Goals as goal
 
 pub returns : goal.returns

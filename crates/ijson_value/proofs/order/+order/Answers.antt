@@ -3,7 +3,7 @@ use Rattle.ijson_value.specs.WellFormed.{tree_of, item_trees}
 use Rattle.ijson_value.specs.Tree.{array, depth}
 use Rattle.ijson_value.specs.NodeValue.{node_value}
 use Rattle.ijson_value.proofs.DepthLemmas.{items_below}
-use Rattle.ijson_value.proofs.OrderSteps.{second_ended, first_ended}
+use Rattle.ijson_value.proofs.comparing.OrderSteps.{second_ended, first_ended}
 use Rattle.ijson_value.proofs.order.+order.Goals as goal
 
 pub value_cmp-items_cmp-requires : goal.value_cmp-items_cmp-requires

@@ -5,7 +5,7 @@ use Rattle.ijson_value.specs.SameTest.{same_in}
 use Rattle.ijson_value.specs.Tree.{array, depth, members_depth}
 use Rattle.ijson_value.specs.NodeValue.{node_value}
 use Rattle.ijson_value.proofs.DepthLemmas.{pair-members_depth, items_below}
-use Rattle.ijson_value.proofs.SameSteps.{in-drop-None, in-drop-Some, each-other_lengths, objects-lengths, objects-other_lengths}
+use Rattle.ijson_value.proofs.comparing.SameSteps.{in-drop-None, in-drop-Some, each-other_lengths, objects-lengths, objects-other_lengths}
 use Rattle.ijson_value.proofs.same.+same.Goals as goal
 
 pub same_items-returns-then-xs-ys : goal.same_items-returns-then-xs-ys

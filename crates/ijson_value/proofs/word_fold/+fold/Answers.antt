@@ -5,7 +5,7 @@ use Rattle.ijson_value.specs.WellFormed.{tree_of, item_trees, pair_trees}
 use Rattle.ijson_value.specs.Words.{words, item_words}
 use Rattle.ijson_value.specs.NodeValue.{node_value}
 use Rattle.ijson_value.proofs.DepthLemmas.{items_below, pairs_below}
-use Rattle.ijson_value.proofs.WordFolds.{array_folded, object_folded}
+use Rattle.ijson_value.proofs.hashing.WordFolds.{array_folded, object_folded}
 use Rattle.ijson_value.proofs.word_fold.+fold.Goals as goal
 
 pub add_items-returns : goal.add_items-returns

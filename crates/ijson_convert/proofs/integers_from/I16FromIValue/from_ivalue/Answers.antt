@@ -1,12 +1,20 @@
-use Rattle.std.proofs.Common.{ap, sym, ◌∙◌, rules}
+use Rattle.std.proofs.Common.{rules, inr}
 use Rattle.std.specs.Int.{w16}
-use Rattle.ijson_value.specs.Opened.{ref_value}
 use Rattle.ijson_convert.specs.laws.Whole.{wide_16}
-use Rattle.ijson_convert.proofs.Whole.{signed_narrowed}
+use Rattle.ijson_convert.proofs.Whole.{read_back, narrow_16, signed_same, signed_read, signed_past, signed_none}
 use Rattle.ijson_convert.proofs.integers_from.I16FromIValue.from_ivalue.Goals as goal
 
 pub returns-in-Ok-clause-same : goal.returns-in-Ok-clause-same
-returns-in-Ok-clause-same c =
-    let is = ap (λ v. v.tree) (sym c.destructure_ref.ensures ∙ ap ref_value c.in-Number.is) in
-    signed_narrowed w16 wide_16 c.in-Some.z c.in-Ok.z c.args.value.now.tree c.in-Number.number.now.decimal is
-    c.in-Some.ensures.some (search rules) (search rules) c.in-Ok.ensures.1
+returns-in-Ok-clause-same c = signed_same w16 wide_16 c.in-Ok.z c.args.value.now.tree
+    (read_back c.in-Some.z c.in-Ok.z c.args.value.now.tree c.in-Some.ensures.some (search rules) c.in-Ok.ensures.1) (search rules)
+
+pub returns-in-Ok-clause-read : goal.returns-in-Ok-clause-read
+returns-in-Ok-clause-read c = signed_read w16 c.in-Ok.z c.args.value.now.tree
+    (read_back c.in-Some.z c.in-Ok.z c.args.value.now.tree c.in-Some.ensures.some (search rules) c.in-Ok.ensures.1) (search rules)
+
+pub returns-in-Err-clause-refused : goal.returns-in-Err-clause-refused
+returns-in-Err-clause-refused c = inr (signed_past w16 c.in-Some.z c.args.value.now c.in-Some.ensures.some (search rules))
+
+pub returns-in-None-clause-refused : goal.returns-in-None-clause-refused
+returns-in-None-clause-refused c = inr (signed_none w16 c.args.value.now.tree c.why_no_integer.result
+    (λ z i. c.in-None.ensures.none z (narrow_16 z i)) c.why_no_integer.ensures)

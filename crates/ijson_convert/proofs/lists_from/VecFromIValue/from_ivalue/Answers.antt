@@ -8,7 +8,7 @@ use Rattle.ijson_value.specs.Same.{SameEach}
 use Rattle.ijson_value.specs.Tree.{items_of}
 use Rattle.ijson_value.specs.WellFormed.{tree_of}
 use Rattle.ijson_convert.specs.Refused.{ListRefused, FirstRefused}
-use Rattle.ijson_convert.proofs.ItemsRead.{AllRead, each_pushed, read_pushed, first_refused}
+use Rattle.ijson_convert.proofs.reading.ItemsRead.{AllRead, each_pushed, read_pushed, first_refused}
 use Rattle.ijson_convert.proofs.lists_from.VecFromIValue.from_ivalue.Goals as goal
 
 pub returns-in-Err-clause-refused : goal.returns-in-Err-clause-refused

@@ -3,7 +3,7 @@ use Rattle.std.specs.Prelude.{All}
 use Rattle.ijson_value.specs.Same.{SameEach}
 use Rattle.ijson_value.specs.Tree.{items_of}
 use Rattle.ijson_value.specs.WellFormed.{tree_of}
-use Rattle.ijson_convert.proofs.ItemsRead.{AllRead}
+use Rattle.ijson_convert.proofs.reading.ItemsRead.{AllRead}
 use Rattle.ijson_convert.proofs.lists_from.VecFromIValue.from_ivalue.Given as goal
 
 -- the items so far are read, and the same, and each null that may be None is

@@ -13,7 +13,7 @@ use Rattle.ijson_value.specs.Values.{object_tree}
 use Rattle.ijson_convert.specs.IsRead.{IsRead}
 use Rattle.ijson_convert.specs.MapTree.{map_tree}
 use Rattle.ijson_convert.specs.Refused.{MapRefused}
-use Rattle.ijson_convert.proofs.MembersRead.{member_read, all_read, member_refused, member_same, key_is_new}
+use Rattle.ijson_convert.proofs.reading.MembersRead.{member_read, all_read, member_refused, member_same, key_is_new}
 use Rattle.ijson_convert.proofs.maps_from.BTreeMapStringFromIValue.from_ivalue.Goals as goal
 
 pub loop-key-preserved : goal.loop-key-preserved

@@ -5,8 +5,8 @@ use Rattle.ijson_value.specs.Same.{Same}
 use Rattle.ijson_value.specs.Values.{object_tree}
 use Rattle.ijson_value.specs.WellFormed.{WellFormed}
 use Rattle.ijson_convert.specs.MapTree.{map_tree}
-use Rattle.ijson_convert.proofs.ItemsRead.{AllRead}
-use Rattle.ijson_convert.proofs.MembersRead.{value_trees}
+use Rattle.ijson_convert.proofs.reading.ItemsRead.{AllRead}
+use Rattle.ijson_convert.proofs.reading.MembersRead.{value_trees}
 use Rattle.ijson_convert.proofs.maps_from.BTreeMapStringFromIValue.from_ivalue.Given as goal
 
 -- the pairs so far are read, the map is the same as they are, and each null in it that may be None is

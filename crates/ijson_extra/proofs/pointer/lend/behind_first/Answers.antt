@@ -1,7 +1,7 @@
 use Rattle.std.proofs.Common.{refl, arith}
 use Rattle.std.proofs.lemmas.Str.Pattern.{split_parts}
 use Rattle.ijson_extra.specs.Pointer.{written_tokens}
-use Rattle.ijson_extra.proofs.Counted.{more_there, passed_more}
+use Rattle.ijson_extra.proofs.tokens.Counted.{more_there, passed_more}
 use Rattle.ijson_extra.proofs.pointer.lend.behind_first.Goals as goal
 
 pub unwrap-requires : goal.unwrap-requires

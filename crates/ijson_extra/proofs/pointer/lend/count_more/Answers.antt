@@ -2,7 +2,7 @@ use Rattle.std.proofs.Common.{◌≡◌, ◌∙◌, true, false, arith, rules, a
 use Rattle.std.specs.Prelude.{◌&&◌}
 use Rattle.std.proofs.lemmas.Str.Pattern.{split_parts}
 use Rattle.ijson_extra.specs.Pointer.{meant, all_meant, written_tokens}
-use Rattle.ijson_extra.proofs.Counted.{some_is, tokens_before, all_before, bytes_before, tokens_last, all_last, none_meant}
+use Rattle.ijson_extra.proofs.tokens.Counted.{some_is, tokens_before, all_before, bytes_before, tokens_last, all_last, none_meant}
 use Rattle.ijson_extra.proofs.pointer.lend.count_more.Goals as goal
 
 pub returns-then-not-is_token-clause-none : goal.returns-then-not-is_token-clause-none
@@ -10,7 +10,8 @@ returns-then-not-is_token-clause-none c =
     let left = c.loop-token.left.now in let token = c.in-Some.token.now in let behind = c.in-Some.behind.now in
     let parts = rw c.in-Some.is at (split_parts 47 left c.split_once.result c.split_once.ensures.cases (omega arith)) in
     let bad : is_some (meant token) ≡ false = search rules in
-    none_meant c.args.tokens.now left (is_some (all_meant (written_tokens behind))) token bad (all_before left token behind parts.0 parts.1) c.loop-token.invariant.same
+    none_meant c.args.tokens.now left (is_some (all_meant (written_tokens behind))) token bad (all_before left token behind parts.0 parts.1)
+    c.loop-token.invariant.same
 
 pub loop-token-preserved : goal.loop-token-preserved
 loop-token-preserved c =
@@ -24,7 +25,8 @@ loop-token-preserved c =
       utf8 = search rules;
       passed = omega (arith, one, passed);
       below = omega (arith, bytes, below);
-      same = c.loop-token.invariant.same ∙ all_before left token behind parts.0 parts.1 ∙ ap (λ b. b && is_some (all_meant (written_tokens behind))) good;
+      same = c.loop-token.invariant.same ∙ all_before left token behind parts.0 parts.1
+          ∙ ap (λ b. b && is_some (all_meant (written_tokens behind))) good;
     }
 
 pub returns-then-is_token-clause-some : goal.returns-then-is_token-clause-some

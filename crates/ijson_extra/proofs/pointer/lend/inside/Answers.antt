@@ -1,12 +1,14 @@
 use Rattle.std.proofs.Common.{◌∙◌, Some, refl, sym, ap, arith}
 use Rattle.std.proofs.lemmas.Str.Pattern.{strip_prefix_char}
 use Rattle.ijson_extra.specs.private.Walked.{node_tree}
-use Rattle.ijson_extra.proofs.Walked.{on_both, whole_found, whole_with, with_tokens}
+use Rattle.ijson_extra.proofs.tokens.Options.{on_both}
+use Rattle.ijson_extra.proofs.tokens.Walked.{whole_found, whole_with, with_tokens}
 use Rattle.ijson_extra.proofs.pointer.lend.inside.Goals as goal
 
 pub unreachable-requires : goal.unreachable-requires
 unreachable-requires c =
-    (rw c.in_default.is at (strip_prefix_char 47 c.args.pointer.now c.strip_prefix.result c.strip_prefix.ensures.cases (omega arith))) _ c.requires.0
+    (rw c.in_default.is at (strip_prefix_char 47 c.args.pointer.now c.strip_prefix.result c.strip_prefix.ensures.cases (omega arith))) _
+    c.requires.0
 
 pub returns : goal.returns
 returns c =

@@ -1,5 +1,5 @@
 use Rattle.std.proofs.Common.{refl}
-use Rattle.ijson_extra.proofs.Walked.{item_found, item_put, item_missing}
+use Rattle.ijson_extra.proofs.tokens.NamedParts.{item_found, item_put, item_missing}
 use Rattle.ijson_extra.proofs.pointer.lend.item_mut.Goals as goal
 
 pub returns-in-Some : goal.returns-in-Some

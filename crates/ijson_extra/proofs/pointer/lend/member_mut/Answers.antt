@@ -5,7 +5,7 @@ use mathlib.Core.Bool.{true≢false}
 use Rattle.ijson_table.specs.Store.{lookup}
 use Rattle.ijson_value.specs.WellFormed.{WellFormed}
 use Rattle.ijson_extra.proofs.Pointers.{meant_itself}
-use Rattle.ijson_extra.proofs.Walked.{member_found, member_missing, member_put, place_found, place_put}
+use Rattle.ijson_extra.proofs.tokens.NamedParts.{member_found, member_missing, member_put, place_found, place_put}
 use Rattle.ijson_extra.proofs.pointer.lend.member_mut.Goals as goal
 
 pub returns-then-not-contains : goal.returns-then-not-contains
@@ -14,7 +14,8 @@ returns-then-not-contains c =
     let none : c.contains.result ≡ false = search rules in
     let found = contains_char 126 token c.contains.result c.contains.ensures.cases (omega arith) in
     let itself = meant_itself token (λ i l is. true≢false (sym (found.1 i l is) ∙ none)) in
-    let lent = member_found o.pairs token c.get_mut.result (c.get_mut.ensures.value ∙ ap (option_and_then (λ key. lookup key o.pairs)) (sym itself)) in (
+    let lent = member_found o.pairs token c.get_mut.result (c.get_mut.ensures.value
+    ∙ ap (option_and_then (λ key. lookup key o.pairs)) (sym itself)) in (
       (refl, (λ w. member_put o token token c.get_mut.result w itself lent), refl),
       lent,
     )
@@ -22,7 +23,8 @@ returns-then-not-contains c =
 pub returns-in-Some : goal.returns-in-Some
 returns-in-Some c =
     let o = c.args.object.now in let token = c.args.token.now in let i = c.in-Some.position in
-    let named = c.in-Some.ensures.position in let lent = c.value_at_mut.ensures.value in let pair : List ℕ × WellFormed = (token, c.in-Some.field-0-1.now) in (
+    let named = c.in-Some.ensures.position in let lent = c.value_at_mut.ensures.value in
+    let pair : List ℕ × WellFormed = (token, c.in-Some.field-0-1.now) in (
       (refl, place_put o token i c.value_at_mut.result named lent pair, refl),
       place_found o token i c.value_at_mut.result named lent pair,
     )

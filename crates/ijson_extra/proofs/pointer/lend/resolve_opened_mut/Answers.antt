@@ -4,14 +4,16 @@ use Rattle.ijson_value.specs.NodeValue.{node_value}
 use Rattle.ijson_value.specs.WellFormed.{WellFormed}
 use Rattle.ijson_extra.specs.Pointer.{resolved, resolved_with}
 use Rattle.ijson_extra.specs.private.Walked.{node_tree}
-use Rattle.ijson_extra.proofs.Walked.{on_seen, lent_here}
+use Rattle.ijson_extra.proofs.tokens.Options.{on_seen}
+use Rattle.ijson_extra.proofs.tokens.Walked.{lent_here}
 use Rattle.ijson_extra.proofs.pointer.lend.resolve_opened_mut.Goals as goal
 
 pub returns-in-Some-inside : goal.returns-in-Some-inside
 returns-in-Some-inside c =
     let pointer = c.args.pointer.now in let found = c.in-Some-inside.ensures.value in
     let same = ap (λ (p : WellFormed). p.tree) c.deref_mut-2.ensures.value in
-    let there = lent_here c.inside.result c.in-Some-inside.found.now.tree (resolved (node_tree c.deref_mut-2.result.now) pointer) c.inside.ensures.value found in (
+    let there = lent_here c.inside.result c.in-Some-inside.found.now.tree (resolved (node_tree c.deref_mut-2.result.now) pointer)
+    c.inside.ensures.value found in (
       (
         refl,
         (λ w e. on_seen c.inside.result c.in-Some-inside.found.now.tree there (c.inside.follows.holds (node_value w))
@@ -19,7 +21,8 @@ returns-in-Some-inside c =
         tt,
       ),
       (
-        ap (λ x. resolved x pointer) (sym same) ∙ sym found ∙ ap (λ (p : WellFormed). Some (Some p.tree)) (sym c.deref_mut-in-Some-inside.ensures.value),
+        ap (λ x. resolved x pointer) (sym same) ∙ sym found
+            ∙ ap (λ (p : WellFormed). Some (Some p.tree)) (sym c.deref_mut-in-Some-inside.ensures.value),
         tt,
       ),
     )

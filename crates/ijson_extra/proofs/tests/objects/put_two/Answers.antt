@@ -1,4 +1,4 @@
-use Rattle.ijson_extra.proofs.Kept.{second_there, second_written}
+use Rattle.ijson_extra.proofs.test_lemmas.Kept.{second_there, second_written}
 use Rattle.ijson_extra.proofs.tests.objects.put_two.Goals as goal
 
 pub unwrap-requires : goal.unwrap-requires

@@ -4,7 +4,8 @@ use Rattle.std.proofs.raw_atomic.Walks.{proved}
 use mir.Syntax.{named}
 use base.Fml.{GName, ftrue, flft}
 use base.Logic.{id⊢}
-use types.Kit.{‵, ◌⊛◌, raw, some, later, ◌$◌, ◌∵◌, !, qed, move, keep, split, split3, join, fjoin, use1, use2, await, pick, suffices, frame, done}
+use types.Kit.{‵, ◌⊛◌, raw, some, later, ◌$◌, ◌∵◌, !, qed, move, keep, split, split3, join, fjoin, use1, use2, await, pick, suffices, frame}
+use types.Kit.{done}
 use types.Run.{stop, from, addr, lit, and_then, no_more, returns, enter}
 use types.Part.{agg}
 use types.ByLocal.{alloc_all, pass_all, free_all, look_at, get, sets}
@@ -20,7 +21,7 @@ use Rattle.ijson_value.specs.WellFormed.{WellFormed}
 use Rattle.ijson_value.specs.private.LendsList.{place_row}
 use Rattle.ijson_value.specs.contracts.value.IValue as value
 use Rattle.ijson_value.specs.contracts.array.index.no_items as f
-use Rattle.ijson_value.proofs.EmptySlice.{Nothing, lends_nothing}
+use Rattle.ijson_value.proofs.lends.EmptySlice.{Nothing, lends_nothing}
 use Rattle.ijson_value.proofs.array.index.no_items.Statement.{statement}
 use Rattle.ijson_value.proofs.array.index.no_items.Code as code
 
@@ -41,11 +42,14 @@ no_items_spec 𝓤 𝓛 𝓜 𝓡 wired =
     sets ! (agg ! (no_more !)) refl (tt, tt) $
     sets ! (addr ! (from ! (stop !))) refl (tt, tt) $
     sets ! (agg ! (and_then ! (get ! refl) (and_then ! (lit ! tt) (no_more !)))) refl (tt, (tt, (record { fits = lit< tt }, tt))) $
-    use2 𝓛 (later (some (λ (δ : GName). raw (Nothing 𝓛 place_row value.the_row (named 0) κ q b o (l 2) 0 r.ghost_name r.now (lit< tt, omega arith) δ))))
-    (lends_nothing 𝓛 place_row value.the_row (named 0) κ q b o (l 2) 0 r.ghost_name r.now (lit< tt, omega arith) (mut_vals r)) $ await ! tt $ pick ! (λ δ.
+    use2 𝓛 (later
+    (some (λ (δ : GName). raw (Nothing 𝓛 place_row value.the_row (named 0) κ q b o (l 2) 0 r.ghost_name r.now (lit< tt, omega arith) δ))))
+    (lends_nothing 𝓛 place_row value.the_row (named 0) κ q b o (l 2) 0 r.ghost_name r.now (lit< tt, omega arith) (mut_vals r)) $
+    await ! tt $ pick ! (λ δ.
     let slice : MutBor (List WellFormed) = record { ref_ptr = (l 2, 0); ghost_name = δ; now = [] } in
     returns ! (look_at ! 0 refl) $ free_all ! refl $ keep ! (0 ∷ []) $
-    use1 𝓛 (‵ ((MutSlice (named 0) κ value.the_row).own_val slice (slice_val (l 2, 0) 0 ∷ [])) ⊛ ‵ (flft κ q) ⊛ ‵ (follows place_row (Array value.the_row 0) r.ghost_name δ (λ _. r.now))) (id⊢ 𝓤 _) $ split3 ! $
+    use1 𝓛 (‵ ((MutSlice (named 0) κ value.the_row).own_val slice (slice_val (l 2, 0) 0 ∷ [])) ⊛ ‵ (flft κ q)
+    ⊛ ‵ (follows place_row (Array value.the_row 0) r.ghost_name δ (λ _. r.now))) (id⊢ 𝓤 _) $ split3 ! $
     -- [the slice; the token; what the place follows]
     suffices ! _ (ends_at 𝓛 f.ended stayed c ((κs, qs, bounds, a, (mut_vals r, tt)), g) (slice_val (l 2, 0) 0) slice (tt, tt) (tt, tt)) $
     nothing ! $ nothing ! $ fjoin ! $ join ! $ nothing ! $ move ! (2 ∷ 0 ∷ []) $ join ! $ join ! $ frame ! $ says ! refl $ done !)))

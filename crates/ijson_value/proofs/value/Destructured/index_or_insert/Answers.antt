@@ -1,7 +1,7 @@
 use Rattle.std.proofs.Common.{rules, ◌≡◌, refl, sym, ap, ◌∙◌}
 use Rattle.ijson_value.specs.LendsAtKey.{IsPut}
 use Rattle.ijson_value.specs.declared.value.Destructured.TheVariants.{Object}
-use Rattle.ijson_value.proofs.PutInside.{put_value, put_refused, both_inside, on_err}
+use Rattle.ijson_value.proofs.pairs.PutInside.{put_value, put_refused, both_inside, on_err}
 use Rattle.ijson_value.proofs.value.Destructured.index_or_insert.Goals as goal
 
 pub returns : goal.returns

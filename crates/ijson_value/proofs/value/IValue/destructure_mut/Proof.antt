@@ -1,20 +1,23 @@
 -- A value lends the part that it has, by a call for each kind. Assumes `Logic`.
-use Rattle.ijson_value.proofs.lends.Steps.{◌≡◌, ℕ, List, [], ◌∷◌, refl, sym, ap, ◌∙◌, lit<, MutBor, proved, full_share, id⊢, GName, Lft, ftrue, flft, fres, named, Val, fact, fact_i, emp, tables, ‵, raw, ◌⊛◌, some, later, at_ret, ◌$◌, ◌∵◌, !, qed, done, move, keep, drop, use0, use1, use2, use3, split, join, rewrite, fsplit, fsplit3, fjoin, pick, await, suffices, frame, enter, of_opd, lit, addr, fld, stop, no_more, and_then, first, exec, returns, alloc_all, pass_all, free_all, look_at, get, get_tag, through, sets, sets_last, lands_as, agg, env, no, shows, RattleType, MutRef, mut_vals, mut_Tells, plain, mut_ref_to, nothing, heard, peeks, only, whole, vrt, Laws, mut_ref_laws, calls_at, lasts, triple_of, Stays, walk_of, says, stay_dropped, Goes-spent_ref, ends_at, framed, lends_again, comes_back, LentAgain, lft_new, lft_end}
+use Rattle.ijson_value.proofs.lends.Steps.{◌≡◌, ℕ, List, [], ◌∷◌, refl, sym, ap, ◌∙◌, lit<, MutBor, proved, full_share, id⊢, GName, Lft}
+use Rattle.ijson_value.proofs.lends.Steps.{ftrue, flft, fres, named, Val, fact, tables, ‵, raw, ◌⊛◌, some, later, at_ret, ◌$◌, ◌∵◌, !, qed}
+use Rattle.ijson_value.proofs.lends.Steps.{done, move, keep, use0, use1, use2, use3, split, join, rewrite, fsplit, fsplit3, fjoin, pick}
+use Rattle.ijson_value.proofs.lends.Steps.{await, suffices, frame, enter, of_opd, lit, addr, fld, stop, no_more, and_then, first, exec}
+use Rattle.ijson_value.proofs.lends.Steps.{returns, alloc_all, pass_all, free_all, look_at, get, get_tag, through, sets, sets_last}
+use Rattle.ijson_value.proofs.lends.Steps.{lands_as, agg, env, no, MutRef, mut_vals, mut_Tells, plain, mut_ref_to, nothing, heard, only}
+use Rattle.ijson_value.proofs.lends.Steps.{whole, vrt, mut_ref_laws, calls_at, lasts, triple_of, Stays, walk_of, says, stay_dropped}
+use Rattle.ijson_value.proofs.lends.Steps.{Goes-spent_ref, ends_at, framed, lends_again, comes_back, LentAgain, lft_new, lft_end, Sq, prop}
 use types.Match.{live}
 use types.Run.{switches}
 use mir.Val.{of_list}
 use denote.Ref.{NamedLft}
-use Rattle.ijson_number.specs.Num.{Num}
 use Rattle.ijson_number.specs.contracts.number.INumber.{the_row as NumberRow}
 use Rattle.ijson_string.specs.contracts.text.IString.{the_row as StringRow}
-use Rattle.ijson_table.specs.Store.{Store}
 use Rattle.ijson_value.specs.Kind.{kind_of}
 use Rattle.ijson_value.specs.LendsParts.{LendsParts, LendsBoolPart, LendsNumberPart, LendsStringPart, LendsArrayPart, LendsObjectPart}
 use Rattle.ijson_value.specs.Opened.{mut_value}
-use Rattle.ijson_value.specs.Sequence.{Sequence}
-use Rattle.ijson_value.specs.Tree.{Tree, null, boolean, number, string, array, object}
-use Rattle.ijson_value.specs.Values.{null_value, boolean_value, number_value, string_value, array_value, object_value}
-use Rattle.ijson_value.specs.WellFormed.{WellFormed, IsWellFormed}
+use Rattle.ijson_value.specs.Values.{boolean_value, number_value, string_value, array_value, object_value}
+use Rattle.ijson_value.specs.WellFormed.{WellFormed}
 use Rattle.ijson_value.specs.contracts.array.IArray.{the_row as ArrayRow}
 use Rattle.ijson_value.specs.contracts.object.map.IObject.{the_row as ObjectRow}
 use Rattle.ijson_value.specs.contracts.value.IValue.{the_row as V}
@@ -23,14 +26,13 @@ use Rattle.ijson_value.specs.contracts.value.destructure.BoolMut.{the_row as Boo
 use Rattle.ijson_value.specs.contracts.value.destructure.DestructuredMut.{the_row as PartsOf}
 use Rattle.ijson_value.specs.declared.value.ValueType.{ValueType}
 use Rattle.ijson_value.specs.declared.value.ValueType.TheVariants as kind
-use Rattle.ijson_value.specs.declared.value.destructure.BoolMut.{BoolMut}
 use Rattle.ijson_value.specs.declared.value.destructure.DestructuredMut.TheVariants as parts
 use Rattle.ijson_value.proofs.value.destructure.BoolMut.TheLaws.{the_row_laws as bool_laws}
-use Rattle.ijson_value.proofs.lends.Called.{apart, asks, answered}
+use Rattle.ijson_value.proofs.lends.Called.{apart, past, asks, answered}
 use Rattle.ijson_value.proofs.lends.LentOn.{none_if}
-use Rattle.ijson_value.proofs.lends.Steps.{Sq, prop}
 use Rattle.ijson_value.specs.declared.value.destructure.DestructuredMut.{DestructuredMut}
-use Rattle.ijson_value.proofs.lends.Parts.{by_kind, kind_out, null_made, bool_made, number_made, string_made, array_made, object_made}
+use Rattle.ijson_value.proofs.lends.Parts.{by_kind, is_null, kind_out, null_made, bool_made, number_made, string_made, array_made}
+use Rattle.ijson_value.proofs.lends.Parts.{object_made}
 use Rattle.ijson_value.proofs.lends.Variants.{and_tt}
 use Rattle.ijson_value.specs.contracts.value.IValue.destructure_mut as f
 use Rattle.ijson_value.proofs.value.IValue.destructure_mut.Statement.{statement}
@@ -51,24 +53,14 @@ use Rattle.ijson_value.proofs.value.IValue.object_part.Met as object-thm
 abbrev stayed : Stays f.ended.signature.params f.ended.kept
 stayed = (stay_dropped (mut_ref_to (0 ∷ []) tt (plain (λ _. V))) no, tt)
 
-only_null : (t : Tree) (h : IsWellFormed t) → kind_of t ≡ kind.Null → null_value ≡ record { tree = t; well_formed = h }
-only_null null h e = refl
-only_null (boolean b) h e = absurd (cc)
-only_null (number n) h e = absurd (cc)
-only_null (string s) h e = absurd (cc)
-only_null (array ts) h e = absurd (cc)
-only_null (object ps) h e = absurd (cc)
-
-is_null : (v : WellFormed) → kind_of v.tree ≡ kind.Null → null_value ≡ v
-is_null v e = only_null v.tree v.well_formed e
-
 pub destructure_mut_spec : {M : Type 1} → statement M
 destructure_mut_spec 𝓤 𝓛 𝓜 𝓡 wired =
     let c = f.clauses 𝓛 𝓜.mem 𝓡.returns in let W = walk_of 𝓛 f.ended stayed c in let 𝓣 = tables 𝓤 𝓛.H 𝓜 𝓡 𝓡.env in
     proved 𝓛 f.ended stayed c 𝓜 𝓡 (Goes-spent_ref 𝓛 1 (0 ∷ []) tt (plain (λ _. V)), tt)
     f.Key.name code.function (code.unfolded 𝓤 𝓛.H 𝓜 𝓡 wired)
     (λ κs. (mut_vals, tt)) (λ κs. (mut_Tells (named 0) κs.0 V, tt)) (λ κs qs bounds a gh are.
-    let κ = κs.0 in let q = qs.0 in let r = a.0 in let b = r.ref_ptr.0 in let o = r.ref_ptr.1 in let γ = r.ghost_name in let vs = mut_vals r in
+    let κ = κs.0 in let q = qs.0 in let r = a.0 in let b = r.ref_ptr.0 in let o = r.ref_ptr.1 in let γ = r.ghost_name in
+    let vs = mut_vals r in
     let at : NamedLft = record { mir = named 0; lft = κ } in
     let y : W.Ghost = ((κs, qs, bounds, a, (vs, tt)), gh) in
     let Ref = λ (κ' : List ℕ) (x : MutBor WellFormed). (MutRef (named 0) κ' V).own_val x vs in
@@ -93,11 +85,14 @@ destructure_mut_spec 𝓤 𝓛 𝓜 𝓡 wired =
     calls_at ! (framed 𝓤 𝓛.H 𝓜 𝓣) G (g-thm.met 𝓤 𝓛 𝓜 𝓡 (code.calls-ijson_value::value::IValue::kind_kept 𝓡.env wired)) z
     (and_then ! (get ! refl) (no_more !)) (λ v.
     use1 𝓛 (later (some (λ (x : ValueType). ((‵ (flft β full_share) ⊛ ‵ ftrue) ⊛ ‵ (KindRow.own_val x (v ∷ []))) ⊛
-    some (λ (ws : WellFormed × Unit {0}). ‵ (lasts g.ended (β, tt) (r', tt) ws) ⊛ raw (fact 𝓤 (ws.0 ≡ r.now)) ⊛ raw (fact 𝓤 (x ≡ kind_of r.now.tree)))))) (id⊢ 𝓤 _) $
-    await ! tt $ pick ! (λ x. split ! $ split ! $ split ! $ lft_end ! tt $ move ! (3 ∷ []) $ pick ! (λ ws. split ! $ move ! (1 ∷ []) $ split ! $ heard ! _ (λ kept. heard ! _ (λ told. fsplit ! $ fsplit ! $
+    some (λ (ws : WellFormed × Unit {0}). ‵ (lasts g.ended (β, tt) (r', tt) ws) ⊛ raw (fact 𝓤 (ws.0 ≡ r.now))
+    ⊛ raw (fact 𝓤 (x ≡ kind_of r.now.tree)))))) (id⊢ 𝓤 _) $
+    await ! tt $ pick ! (λ x. split ! $ split ! $ split ! $ lft_end ! tt $ move ! (3 ∷ []) $
+    pick ! (λ ws. split ! $ move ! (1 ∷ []) $ split ! $ heard ! _ (λ kept. heard ! _ (λ told. fsplit ! $ fsplit ! $
     rewrite ! 0 (λ (n : WellFormed). ‵ (fres δ (V.coded.code n))) kept refl $
     -- [the loan's last value; its borrow; nothing; α is over; nothing; the kind; what the lender keeps]
-    move ! (3 ∷ 6 ∷ 0 ∷ []) $ use3 𝓛 (later (‵ (Ref κ r) ⊛ ‵ (flft κ q))) (comes_back 𝓛 V (named 0) κ β q γ b o δ r.now r.now) $ await ! tt $ split ! $
+    move ! (3 ∷ 6 ∷ 0 ∷ []) $ use3 𝓛 (later (‵ (Ref κ r) ⊛ ‵ (flft κ q))) (comes_back 𝓛 V (named 0) κ β q γ b o δ r.now r.now) $
+    await ! tt $ split ! $
     -- [the value; its token; its borrow; nothing; nothing; the kind]
     by_kind x
     (λ is. rewrite ! 5 (λ (x' : ValueType). ‵ (KindRow.own_val x' (v ∷ []))) is refl $ move ! (5 ∷ []) $
@@ -111,150 +106,131 @@ destructure_mut_spec 𝓤 𝓛 𝓜 𝓡 wired =
           use1 𝓛 (‵ (LendsParts r parts.Null)) (none_if 𝓛 V V (λ w. w) r.now γ) $
           use0 𝓛 (‵ ((PartsOf at).own_val parts.Null (live 0 (of_list []) ∷ []))) (null_made 𝓛 at) $ move ! (0 ∷ 2 ∷ 1 ∷ []) $
           ends (live 0 (of_list [])) parts.Null (is_null r.now (sym told ∙ is))),
-      (apart 0 1 refl refl, (apart 0 2 refl refl, (apart 0 3 refl refl, (apart 0 4 refl refl, (apart 0 5 refl refl, (λ n. absurd (n.0.0.0.0.0.1 refl))))))),
+      (
+        apart 0 1 refl refl,
+        (
+          apart 0 2 refl refl,
+          (apart 0 3 refl refl, (apart 0 4 refl refl, (apart 0 5 refl refl, (λ n. absurd (n.0.0.0.0.0.1 refl))))),
+        ),
+      ),
     )))
     (λ is. rewrite ! 5 (λ (x' : ValueType). ‵ (KindRow.own_val x' (v ∷ []))) is refl $ move ! (5 ∷ []) $
     kind_out ! kind.Bool (v ∷ []) (λ led. lands_as ! (ap only led) refl (tt, (record { fits = lit< tt }, tt)) $
-    first ! $ switches ! (get_tag ! (vrt ! refl (fld ! refl (stop !))) (whole !)) (
-      apart 1 0 refl refl,
-      (
-        (λ _. sets ! (addr ! (through ! refl (stop !))) refl (tt, tt) $
-            let H = triple_of 𝓛 bool-part.signature (bool-part.spec 𝓛 𝓜.mem 𝓡.returns) in
-            let z' : H.Ghost = ((κs, qs, tt, (r, tt), (vs, tt)), tt) in
-            asks 𝓛 ! κ q ((MutRef (named 0) κ V).own_val r vs) (kind_of r.now.tree ≡ kind.Bool) (H.pre z') (sym told ∙ is) (id⊢ 𝓤 _) $
-            calls_at ! (framed 𝓤 𝓛.H 𝓜 𝓣) H (bool-thm.met 𝓤 𝓛 𝓜 𝓡 (code.calls-ijson_value::value::IValue::bool_part 𝓡.env wired)) z'
-            (and_then ! (get ! refl) (no_more !)) (λ w. answered 𝓛 ! κ q tt (BoolRow at) w
-            (λ part (ws' : Unit {0} × Unit {0}). lasts bool-part.ended κs (r, tt) ws') (λ part. LendsBoolPart r part.place) (λ part. boolean_value part.place.now ≡ r.now)
-            (H.post z' w) (id⊢ 𝓤 _) (λ part stands seen. let typed = (((bool_laws at).lawful 𝓛).typed part (w ∷ []) seen).0 in
-            lands_as ! refl refl typed $
-            sets_last ! (agg ! (and_then ! (lit ! tt) (and_then ! (get ! refl) (no_more !)))) refl (and_tt _ typed.0, (record { fits = lit< tt }, (typed.1, tt))) $
-            exec ! 𝓣.C 𝓣.Λ (env code.Mir.locals l) code.Mir.t-4 (at_ret (env code.Mir.locals l) (W.post y)) $
-            sets ! (of_opd ! (get ! refl)) refl (and_tt _ typed.0, (record { fits = lit< tt }, (typed.1, tt))) $
-            returns ! (look_at ! 0 refl) $ free_all ! refl $
-            use1 𝓛 (‵ ((PartsOf at).own_val (parts.Bool part) (live 1 (of_list (w ∷ [])) ∷ []))) (bool_made 𝓛 at part w) $
-            keep ! (0 ∷ 2 ∷ 1 ∷ []) $ ends (live 1 (of_list (w ∷ []))) (parts.Bool part) stands))),
-        (apart 1 2 refl refl, (apart 1 3 refl refl, (apart 1 4 refl refl, (apart 1 5 refl refl, (λ n. absurd (n.0.0.0.0.1 refl)))))),
-      ),
-    )))
+    first ! $ switches ! (get_tag ! (vrt ! refl (fld ! refl (stop !))) (whole !)) (past 1 0 refl refl (
+      (λ _. sets ! (addr ! (through ! refl (stop !))) refl (tt, tt) $
+          let H = triple_of 𝓛 bool-part.signature (bool-part.spec 𝓛 𝓜.mem 𝓡.returns) in
+          let z' : H.Ghost = ((κs, qs, tt, (r, tt), (vs, tt)), tt) in
+          asks 𝓛 ! κ q ((MutRef (named 0) κ V).own_val r vs) (kind_of r.now.tree ≡ kind.Bool) (H.pre z') (sym told ∙ is) (id⊢ 𝓤 _) $
+          calls_at ! (framed 𝓤 𝓛.H 𝓜 𝓣) H (bool-thm.met 𝓤 𝓛 𝓜 𝓡 (code.calls-ijson_value::value::IValue::bool_part 𝓡.env wired)) z'
+          (and_then ! (get ! refl) (no_more !)) (λ w. answered 𝓛 ! κ q tt (BoolRow at) w
+          (λ part (ws' : Unit {0} × Unit {0}). lasts bool-part.ended κs (r, tt) ws') (λ part. LendsBoolPart r part.place)
+          (λ part. boolean_value part.place.now ≡ r.now)
+          (H.post z' w) (id⊢ 𝓤 _) (λ part stands seen. let typed = (((bool_laws at).lawful 𝓛).typed part (w ∷ []) seen).0 in
+          lands_as ! refl refl typed $
+          sets_last ! (agg ! (and_then ! (lit ! tt) (and_then ! (get ! refl) (no_more !)))) refl
+          (and_tt _ typed.0, (record { fits = lit< tt }, (typed.1, tt))) $
+          exec ! 𝓣.C 𝓣.Λ (env code.Mir.locals l) code.Mir.t-4 (at_ret (env code.Mir.locals l) (W.post y)) $
+          sets ! (of_opd ! (get ! refl)) refl (and_tt _ typed.0, (record { fits = lit< tt }, (typed.1, tt))) $
+          returns ! (look_at ! 0 refl) $ free_all ! refl $
+          use1 𝓛 (‵ ((PartsOf at).own_val (parts.Bool part) (live 1 (of_list (w ∷ [])) ∷ []))) (bool_made 𝓛 at part w) $
+          keep ! (0 ∷ 2 ∷ 1 ∷ []) $ ends (live 1 (of_list (w ∷ []))) (parts.Bool part) stands))),
+      (apart 1 2 refl refl, (apart 1 3 refl refl, (apart 1 4 refl refl, (apart 1 5 refl refl, (λ n. absurd (n.0.0.0.0.1 refl)))))),
+    ))))
     (λ is. rewrite ! 5 (λ (x' : ValueType). ‵ (KindRow.own_val x' (v ∷ []))) is refl $ move ! (5 ∷ []) $
     kind_out ! kind.Number (v ∷ []) (λ led. lands_as ! (ap only led) refl (tt, (record { fits = lit< tt }, tt)) $
-    first ! $ switches ! (get_tag ! (vrt ! refl (fld ! refl (stop !))) (whole !)) (
-      apart 2 0 refl refl,
-      (
-        apart 2 1 refl refl,
-        (
-          (λ _. sets ! (addr ! (through ! refl (stop !))) refl (tt, tt) $
-              let H = triple_of 𝓛 number-part.signature (number-part.spec 𝓛 𝓜.mem 𝓡.returns) in
-              let z' : H.Ghost = ((κs, qs, tt, (r, tt), (vs, tt)), tt) in
-              asks 𝓛 ! κ q ((MutRef (named 0) κ V).own_val r vs) (kind_of r.now.tree ≡ kind.Number) (H.pre z') (sym told ∙ is) (id⊢ 𝓤 _) $
-              calls_at ! (framed 𝓤 𝓛.H 𝓜 𝓣) H (number-thm.met 𝓤 𝓛 𝓜 𝓡 (code.calls-ijson_value::value::IValue::number_part 𝓡.env wired)) z'
-              (and_then ! (get ! refl) (no_more !)) (λ w. answered 𝓛 ! κ q tt (MutRef (named 0) κ NumberRow) w
-              (λ part (ws' : Unit {0} × Unit {0}). lasts number-part.ended κs (r, tt) ws') (λ part. LendsNumberPart r part) (λ part. number_value part.now ≡ r.now)
-              (H.post z' w) (id⊢ 𝓤 _) (λ part stands seen. let typed = (((mut_ref_laws at NumberRow tt).lawful 𝓛).typed part (w ∷ []) seen).0 in
-              lands_as ! refl refl typed $
-              sets_last ! (agg ! (and_then ! (lit ! tt) (and_then ! (get ! refl) (no_more !)))) refl (and_tt _ typed.0, (record { fits = lit< tt }, (typed.1, tt))) $
-              exec ! 𝓣.C 𝓣.Λ (env code.Mir.locals l) code.Mir.t-4 (at_ret (env code.Mir.locals l) (W.post y)) $
-              sets ! (of_opd ! (get ! refl)) refl (and_tt _ typed.0, (record { fits = lit< tt }, (typed.1, tt))) $
-              returns ! (look_at ! 0 refl) $ free_all ! refl $
-              use1 𝓛 (‵ ((PartsOf at).own_val (parts.Number part) (live 2 (of_list (w ∷ [])) ∷ []))) (number_made 𝓛 at part w) $
-              keep ! (0 ∷ 2 ∷ 1 ∷ []) $ ends (live 2 (of_list (w ∷ []))) (parts.Number part) stands))),
-          (apart 2 3 refl refl, (apart 2 4 refl refl, (apart 2 5 refl refl, (λ n. absurd (n.0.0.0.1 refl))))),
-        ),
-      ),
-    )))
+    first ! $ switches ! (get_tag ! (vrt ! refl (fld ! refl (stop !))) (whole !)) (past 2 0 refl refl (past 2 1 refl refl (
+      (λ _. sets ! (addr ! (through ! refl (stop !))) refl (tt, tt) $
+          let H = triple_of 𝓛 number-part.signature (number-part.spec 𝓛 𝓜.mem 𝓡.returns) in
+          let z' : H.Ghost = ((κs, qs, tt, (r, tt), (vs, tt)), tt) in
+          asks 𝓛 ! κ q ((MutRef (named 0) κ V).own_val r vs) (kind_of r.now.tree ≡ kind.Number) (H.pre z') (sym told ∙ is) (id⊢ 𝓤 _) $
+          calls_at ! (framed 𝓤 𝓛.H 𝓜 𝓣) H (number-thm.met 𝓤 𝓛 𝓜 𝓡 (code.calls-ijson_value::value::IValue::number_part 𝓡.env wired)) z'
+          (and_then ! (get ! refl) (no_more !)) (λ w. answered 𝓛 ! κ q tt (MutRef (named 0) κ NumberRow) w
+          (λ part (ws' : Unit {0} × Unit {0}). lasts number-part.ended κs (r, tt) ws') (λ part. LendsNumberPart r part)
+          (λ part. number_value part.now ≡ r.now)
+          (H.post z' w) (id⊢ 𝓤 _) (λ part stands seen. let typed =
+          (((mut_ref_laws at NumberRow tt).lawful 𝓛).typed part (w ∷ []) seen).0 in
+          lands_as ! refl refl typed $
+          sets_last ! (agg ! (and_then ! (lit ! tt) (and_then ! (get ! refl) (no_more !)))) refl
+          (and_tt _ typed.0, (record { fits = lit< tt }, (typed.1, tt))) $
+          exec ! 𝓣.C 𝓣.Λ (env code.Mir.locals l) code.Mir.t-4 (at_ret (env code.Mir.locals l) (W.post y)) $
+          sets ! (of_opd ! (get ! refl)) refl (and_tt _ typed.0, (record { fits = lit< tt }, (typed.1, tt))) $
+          returns ! (look_at ! 0 refl) $ free_all ! refl $
+          use1 𝓛 (‵ ((PartsOf at).own_val (parts.Number part) (live 2 (of_list (w ∷ [])) ∷ []))) (number_made 𝓛 at part w) $
+          keep ! (0 ∷ 2 ∷ 1 ∷ []) $ ends (live 2 (of_list (w ∷ []))) (parts.Number part) stands))),
+      (apart 2 3 refl refl, (apart 2 4 refl refl, (apart 2 5 refl refl, (λ n. absurd (n.0.0.0.1 refl))))),
+    )))))
     (λ is. rewrite ! 5 (λ (x' : ValueType). ‵ (KindRow.own_val x' (v ∷ []))) is refl $ move ! (5 ∷ []) $
     kind_out ! kind.String (v ∷ []) (λ led. lands_as ! (ap only led) refl (tt, (record { fits = lit< tt }, tt)) $
-    first ! $ switches ! (get_tag ! (vrt ! refl (fld ! refl (stop !))) (whole !)) (
-      apart 3 0 refl refl,
-      (
-        apart 3 1 refl refl,
-        (
-          apart 3 2 refl refl,
-          (
-            (λ _. sets ! (addr ! (through ! refl (stop !))) refl (tt, tt) $
-                let H = triple_of 𝓛 string-part.signature (string-part.spec 𝓛 𝓜.mem 𝓡.returns) in
-                let z' : H.Ghost = ((κs, qs, tt, (r, tt), (vs, tt)), tt) in
-                asks 𝓛 ! κ q ((MutRef (named 0) κ V).own_val r vs) (kind_of r.now.tree ≡ kind.String) (H.pre z') (sym told ∙ is) (id⊢ 𝓤 _) $
-                calls_at ! (framed 𝓤 𝓛.H 𝓜 𝓣) H (string-thm.met 𝓤 𝓛 𝓜 𝓡 (code.calls-ijson_value::value::IValue::string_part 𝓡.env wired)) z'
-                (and_then ! (get ! refl) (no_more !)) (λ w. answered 𝓛 ! κ q tt (MutRef (named 0) κ StringRow) w
-                (λ part (ws' : Unit {0} × Unit {0}). lasts string-part.ended κs (r, tt) ws') (λ part. LendsStringPart r part) (λ part. string_value part.now ≡ r.now)
-                (H.post z' w) (id⊢ 𝓤 _) (λ part stands seen. let typed = (((mut_ref_laws at StringRow tt).lawful 𝓛).typed part (w ∷ []) seen).0 in
-                lands_as ! refl refl typed $
-                sets_last ! (agg ! (and_then ! (lit ! tt) (and_then ! (get ! refl) (no_more !)))) refl (and_tt _ typed.0, (record { fits = lit< tt }, (typed.1, tt))) $
-                exec ! 𝓣.C 𝓣.Λ (env code.Mir.locals l) code.Mir.t-4 (at_ret (env code.Mir.locals l) (W.post y)) $
-                sets ! (of_opd ! (get ! refl)) refl (and_tt _ typed.0, (record { fits = lit< tt }, (typed.1, tt))) $
-                returns ! (look_at ! 0 refl) $ free_all ! refl $
-                use1 𝓛 (‵ ((PartsOf at).own_val (parts.String part) (live 3 (of_list (w ∷ [])) ∷ []))) (string_made 𝓛 at part w) $
-                keep ! (0 ∷ 2 ∷ 1 ∷ []) $ ends (live 3 (of_list (w ∷ []))) (parts.String part) stands))),
-            (apart 3 4 refl refl, (apart 3 5 refl refl, (λ n. absurd (n.0.0.1 refl)))),
-          ),
-        ),
-      ),
-    )))
+    first ! $ switches ! (get_tag ! (vrt ! refl (fld ! refl (stop !))) (whole !))
+    (past 3 0 refl refl (past 3 1 refl refl (past 3 2 refl refl (
+      (λ _. sets ! (addr ! (through ! refl (stop !))) refl (tt, tt) $
+          let H = triple_of 𝓛 string-part.signature (string-part.spec 𝓛 𝓜.mem 𝓡.returns) in
+          let z' : H.Ghost = ((κs, qs, tt, (r, tt), (vs, tt)), tt) in
+          asks 𝓛 ! κ q ((MutRef (named 0) κ V).own_val r vs) (kind_of r.now.tree ≡ kind.String) (H.pre z') (sym told ∙ is) (id⊢ 𝓤 _) $
+          calls_at ! (framed 𝓤 𝓛.H 𝓜 𝓣) H (string-thm.met 𝓤 𝓛 𝓜 𝓡 (code.calls-ijson_value::value::IValue::string_part 𝓡.env wired)) z'
+          (and_then ! (get ! refl) (no_more !)) (λ w. answered 𝓛 ! κ q tt (MutRef (named 0) κ StringRow) w
+          (λ part (ws' : Unit {0} × Unit {0}). lasts string-part.ended κs (r, tt) ws') (λ part. LendsStringPart r part)
+          (λ part. string_value part.now ≡ r.now)
+          (H.post z' w) (id⊢ 𝓤 _) (λ part stands seen. let typed =
+          (((mut_ref_laws at StringRow tt).lawful 𝓛).typed part (w ∷ []) seen).0 in
+          lands_as ! refl refl typed $
+          sets_last ! (agg ! (and_then ! (lit ! tt) (and_then ! (get ! refl) (no_more !)))) refl
+          (and_tt _ typed.0, (record { fits = lit< tt }, (typed.1, tt))) $
+          exec ! 𝓣.C 𝓣.Λ (env code.Mir.locals l) code.Mir.t-4 (at_ret (env code.Mir.locals l) (W.post y)) $
+          sets ! (of_opd ! (get ! refl)) refl (and_tt _ typed.0, (record { fits = lit< tt }, (typed.1, tt))) $
+          returns ! (look_at ! 0 refl) $ free_all ! refl $
+          use1 𝓛 (‵ ((PartsOf at).own_val (parts.String part) (live 3 (of_list (w ∷ [])) ∷ []))) (string_made 𝓛 at part w) $
+          keep ! (0 ∷ 2 ∷ 1 ∷ []) $ ends (live 3 (of_list (w ∷ []))) (parts.String part) stands))),
+      (apart 3 4 refl refl, (apart 3 5 refl refl, (λ n. absurd (n.0.0.1 refl)))),
+    ))))))
     (λ is. rewrite ! 5 (λ (x' : ValueType). ‵ (KindRow.own_val x' (v ∷ []))) is refl $ move ! (5 ∷ []) $
     kind_out ! kind.Array (v ∷ []) (λ led. lands_as ! (ap only led) refl (tt, (record { fits = lit< tt }, tt)) $
-    first ! $ switches ! (get_tag ! (vrt ! refl (fld ! refl (stop !))) (whole !)) (
-      apart 4 0 refl refl,
-      (
-        apart 4 1 refl refl,
-        (
-          apart 4 2 refl refl,
-          (
-            apart 4 3 refl refl,
-            (
-              (λ _. sets ! (addr ! (through ! refl (stop !))) refl (tt, tt) $
-                  let H = triple_of 𝓛 array-part.signature (array-part.spec 𝓛 𝓜.mem 𝓡.returns) in
-                  let z' : H.Ghost = ((κs, qs, tt, (r, tt), (vs, tt)), tt) in
-                  asks 𝓛 ! κ q ((MutRef (named 0) κ V).own_val r vs) (kind_of r.now.tree ≡ kind.Array) (H.pre z') (sym told ∙ is) (id⊢ 𝓤 _) $
-                  calls_at ! (framed 𝓤 𝓛.H 𝓜 𝓣) H (array-thm.met 𝓤 𝓛 𝓜 𝓡 (code.calls-ijson_value::value::IValue::array_part 𝓡.env wired)) z'
-                  (and_then ! (get ! refl) (no_more !)) (λ w. answered 𝓛 ! κ q tt (MutRef (named 0) κ ArrayRow) w
-                  (λ part (ws' : Unit {0} × Unit {0}). lasts array-part.ended κs (r, tt) ws') (λ part. LendsArrayPart r part) (λ part. array_value part.now.items ≡ r.now)
-                  (H.post z' w) (id⊢ 𝓤 _) (λ part stands seen. let typed = (((mut_ref_laws at ArrayRow tt).lawful 𝓛).typed part (w ∷ []) seen).0 in
-                  lands_as ! refl refl typed $
-                  sets_last ! (agg ! (and_then ! (lit ! tt) (and_then ! (get ! refl) (no_more !)))) refl (and_tt _ typed.0, (record { fits = lit< tt }, (typed.1, tt))) $
-                  exec ! 𝓣.C 𝓣.Λ (env code.Mir.locals l) code.Mir.t-4 (at_ret (env code.Mir.locals l) (W.post y)) $
-                  sets ! (of_opd ! (get ! refl)) refl (and_tt _ typed.0, (record { fits = lit< tt }, (typed.1, tt))) $
-                  returns ! (look_at ! 0 refl) $ free_all ! refl $
-                  use1 𝓛 (‵ ((PartsOf at).own_val (parts.Array part) (live 4 (of_list (w ∷ [])) ∷ []))) (array_made 𝓛 at part w) $
-                  keep ! (0 ∷ 2 ∷ 1 ∷ []) $ ends (live 4 (of_list (w ∷ []))) (parts.Array part) stands))),
-              (apart 4 5 refl refl, (λ n. absurd (n.0.1 refl))),
-            ),
-          ),
-        ),
-      ),
-    )))
+    first ! $ switches ! (get_tag ! (vrt ! refl (fld ! refl (stop !))) (whole !))
+    (past 4 0 refl refl (past 4 1 refl refl (past 4 2 refl refl (past 4 3 refl refl (
+      (λ _. sets ! (addr ! (through ! refl (stop !))) refl (tt, tt) $
+          let H = triple_of 𝓛 array-part.signature (array-part.spec 𝓛 𝓜.mem 𝓡.returns) in
+          let z' : H.Ghost = ((κs, qs, tt, (r, tt), (vs, tt)), tt) in
+          asks 𝓛 ! κ q ((MutRef (named 0) κ V).own_val r vs) (kind_of r.now.tree ≡ kind.Array) (H.pre z') (sym told ∙ is)
+          (id⊢ 𝓤 _) $
+          calls_at ! (framed 𝓤 𝓛.H 𝓜 𝓣) H (array-thm.met 𝓤 𝓛 𝓜 𝓡 (code.calls-ijson_value::value::IValue::array_part 𝓡.env wired)) z'
+          (and_then ! (get ! refl) (no_more !)) (λ w. answered 𝓛 ! κ q tt (MutRef (named 0) κ ArrayRow) w
+          (λ part (ws' : Unit {0} × Unit {0}). lasts array-part.ended κs (r, tt) ws') (λ part. LendsArrayPart r part)
+          (λ part. array_value part.now.items ≡ r.now)
+          (H.post z' w) (id⊢ 𝓤 _) (λ part stands seen. let typed =
+          (((mut_ref_laws at ArrayRow tt).lawful 𝓛).typed part (w ∷ []) seen).0 in
+          lands_as ! refl refl typed $
+          sets_last ! (agg ! (and_then ! (lit ! tt) (and_then ! (get ! refl) (no_more !)))) refl
+          (and_tt _ typed.0, (record { fits = lit< tt }, (typed.1, tt))) $
+          exec ! 𝓣.C 𝓣.Λ (env code.Mir.locals l) code.Mir.t-4 (at_ret (env code.Mir.locals l) (W.post y)) $
+          sets ! (of_opd ! (get ! refl)) refl (and_tt _ typed.0, (record { fits = lit< tt }, (typed.1, tt))) $
+          returns ! (look_at ! 0 refl) $ free_all ! refl $
+          use1 𝓛 (‵ ((PartsOf at).own_val (parts.Array part) (live 4 (of_list (w ∷ [])) ∷ []))) (array_made 𝓛 at part w) $
+          keep ! (0 ∷ 2 ∷ 1 ∷ []) $ ends (live 4 (of_list (w ∷ []))) (parts.Array part) stands))),
+      (apart 4 5 refl refl, (λ n. absurd (n.0.1 refl))),
+    )))))))
     (λ is. rewrite ! 5 (λ (x' : ValueType). ‵ (KindRow.own_val x' (v ∷ []))) is refl $ move ! (5 ∷ []) $
     kind_out ! kind.Object (v ∷ []) (λ led. lands_as ! (ap only led) refl (tt, (record { fits = lit< tt }, tt)) $
-    first ! $ switches ! (get_tag ! (vrt ! refl (fld ! refl (stop !))) (whole !)) (
-      apart 5 0 refl refl,
-      (
-        apart 5 1 refl refl,
-        (
-          apart 5 2 refl refl,
-          (
-            apart 5 3 refl refl,
-            (
-              apart 5 4 refl refl,
-              (
-                (λ _. sets ! (addr ! (through ! refl (stop !))) refl (tt, tt) $
-                    let H = triple_of 𝓛 object-part.signature (object-part.spec 𝓛 𝓜.mem 𝓡.returns) in
-                    let z' : H.Ghost = ((κs, qs, tt, (r, tt), (vs, tt)), tt) in
-                    asks 𝓛 ! κ q ((MutRef (named 0) κ V).own_val r vs) (kind_of r.now.tree ≡ kind.Object) (H.pre z') (sym told ∙ is) (id⊢ 𝓤 _) $
-                    calls_at ! (framed 𝓤 𝓛.H 𝓜 𝓣) H (object-thm.met 𝓤 𝓛 𝓜 𝓡 (code.calls-ijson_value::value::IValue::object_part 𝓡.env wired)) z'
-                    (and_then ! (get ! refl) (no_more !)) (λ w. answered 𝓛 ! κ q tt (MutRef (named 0) κ ObjectRow) w
-                    (λ part (ws' : Unit {0} × Unit {0}). lasts object-part.ended κs (r, tt) ws') (λ part. LendsObjectPart r part) (λ part. object_value part.now ≡ r.now)
-                    (H.post z' w) (id⊢ 𝓤 _) (λ part stands seen. let typed = (((mut_ref_laws at ObjectRow tt).lawful 𝓛).typed part (w ∷ []) seen).0 in
-                    lands_as ! refl refl typed $
-                    sets_last ! (agg ! (and_then ! (lit ! tt) (and_then ! (get ! refl) (no_more !)))) refl (and_tt _ typed.0, (record { fits = lit< tt }, (typed.1, tt))) $
-                    exec ! 𝓣.C 𝓣.Λ (env code.Mir.locals l) code.Mir.t-4 (at_ret (env code.Mir.locals l) (W.post y)) $
-                    sets ! (of_opd ! (get ! refl)) refl (and_tt _ typed.0, (record { fits = lit< tt }, (typed.1, tt))) $
-                    returns ! (look_at ! 0 refl) $ free_all ! refl $
-                    use1 𝓛 (‵ ((PartsOf at).own_val (parts.Object part) (live 5 (of_list (w ∷ [])) ∷ []))) (object_made 𝓛 at part w) $
-                    keep ! (0 ∷ 2 ∷ 1 ∷ []) $ ends (live 5 (of_list (w ∷ []))) (parts.Object part) stands))),
-                (λ n. absurd (n.1 refl)),
-              ),
-            ),
-          ),
-        ),
-      ),
-    ))))))))))))
+    first ! $ switches ! (get_tag ! (vrt ! refl (fld ! refl (stop !))) (whole !))
+    (past 5 0 refl refl (past 5 1 refl refl (past 5 2 refl refl (past 5 3 refl refl (past 5 4 refl refl (
+      (λ _. sets ! (addr ! (through ! refl (stop !))) refl (tt, tt) $
+          let H = triple_of 𝓛 object-part.signature (object-part.spec 𝓛 𝓜.mem 𝓡.returns) in
+          let z' : H.Ghost = ((κs, qs, tt, (r, tt), (vs, tt)), tt) in
+          asks 𝓛 ! κ q ((MutRef (named 0) κ V).own_val r vs) (kind_of r.now.tree ≡ kind.Object) (H.pre z') (sym told ∙ is)
+          (id⊢ 𝓤 _) $
+          calls_at ! (framed 𝓤 𝓛.H 𝓜 𝓣) H
+          (object-thm.met 𝓤 𝓛 𝓜 𝓡 (code.calls-ijson_value::value::IValue::object_part 𝓡.env wired)) z'
+          (and_then ! (get ! refl) (no_more !)) (λ w. answered 𝓛 ! κ q tt (MutRef (named 0) κ ObjectRow) w
+          (λ part (ws' : Unit {0} × Unit {0}). lasts object-part.ended κs (r, tt) ws') (λ part. LendsObjectPart r part)
+          (λ part. object_value part.now ≡ r.now)
+          (H.post z' w) (id⊢ 𝓤 _) (λ part stands seen. let typed =
+          (((mut_ref_laws at ObjectRow tt).lawful 𝓛).typed part (w ∷ []) seen).0 in
+          lands_as ! refl refl typed $
+          sets_last ! (agg ! (and_then ! (lit ! tt) (and_then ! (get ! refl) (no_more !)))) refl
+          (and_tt _ typed.0, (record { fits = lit< tt }, (typed.1, tt))) $
+          exec ! 𝓣.C 𝓣.Λ (env code.Mir.locals l) code.Mir.t-4 (at_ret (env code.Mir.locals l) (W.post y)) $
+          sets ! (of_opd ! (get ! refl)) refl (and_tt _ typed.0, (record { fits = lit< tt }, (typed.1, tt))) $
+          returns ! (look_at ! 0 refl) $ free_all ! refl $
+          use1 𝓛 (‵ ((PartsOf at).own_val (parts.Object part) (live 5 (of_list (w ∷ [])) ∷ []))) (object_made 𝓛 at part w) $
+          keep ! (0 ∷ 2 ∷ 1 ∷ []) $ ends (live 5 (of_list (w ∷ []))) (parts.Object part) stands))),
+      (λ n. absurd (n.1 refl)),
+    )))))))))))))))))

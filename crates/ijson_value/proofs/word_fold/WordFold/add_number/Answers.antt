@@ -1,5 +1,5 @@
 use Rattle.ijson_number.specs.Words.{number_words}
-use Rattle.ijson_value.proofs.WordFolds.{folded_words}
+use Rattle.ijson_value.proofs.hashing.WordFolds.{folded_words}
 use Rattle.ijson_value.proofs.word_fold.WordFold.add_number.Goals as goal
 
 pub returns : goal.returns

@@ -1,5 +1,5 @@
 use Rattle.std.proofs.Common.{sym, ◌∙◌}
-use Rattle.ijson_value.proofs.WordFolds.{folded_word}
+use Rattle.ijson_value.proofs.hashing.WordFolds.{folded_word}
 use Rattle.ijson_value.proofs.word_fold.WordFoldHasher.write_u64.Goals as goal
 
 pub returns : goal.returns

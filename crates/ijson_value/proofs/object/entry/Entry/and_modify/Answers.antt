@@ -4,7 +4,7 @@ use Rattle.ijson_table.specs.laws.Store.{keys-with_value}
 use Rattle.ijson_value.specs.EntryParts.{entry_key, entry_value}
 use Rattle.ijson_value.specs.WellFormed.{WellFormed}
 use Rattle.ijson_value.specs.WithEntry.{with_entry}
-use Rattle.ijson_value.proofs.Entries.{store_twice, value_set}
+use Rattle.ijson_value.proofs.pairs.Entries.{store_twice, value_set}
 use Rattle.ijson_value.proofs.object.entry.Entry.and_modify.Goals as goal
 
 pub returns-in-Occupied-clause-same_key : goal.returns-in-Occupied-clause-same_key

@@ -1,7 +1,7 @@
 use Rattle.std.proofs.Common.{refl, ap}
 use Rattle.std.specs.Prelude.{option_map}
 use Rattle.ijson_value.specs.laws.EntryValid.{still_valid}
-use Rattle.ijson_value.proofs.Entries.{rewritten}
+use Rattle.ijson_value.proofs.pairs.Entries.{rewritten}
 use Rattle.ijson_value.proofs.object.entry.OccupiedEntry.get_mut.Goals as goal
 
 pub invariant_of-self-lent : goal.invariant_of-self-lent

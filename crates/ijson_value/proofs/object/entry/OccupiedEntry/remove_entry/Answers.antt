@@ -1,6 +1,6 @@
 use Rattle.std.proofs.Common.{ap, sym, ◌∙◌}
 use Rattle.std.specs.Prelude.{option_map}
-use Rattle.ijson_value.proofs.Entries.{key_got, swap_out_there}
+use Rattle.ijson_value.proofs.pairs.Entries.{key_got, swap_out_there}
 use Rattle.ijson_value.proofs.object.entry.OccupiedEntry.remove_entry.Goals as goal
 
 pub returns-clause-key : goal.returns-clause-key

@@ -6,7 +6,7 @@ use Rattle.ijson_table.specs.StoreWithValue.{store_with_value}
 use Rattle.ijson_value.specs.declared.object.entry.Entry.TheVariants.{Vacant}
 use Rattle.ijson_value.specs.WellFormed.{WellFormed}
 use Rattle.ijson_value.specs.WithEntry.{with_entry}
-use Rattle.ijson_value.proofs.Entries.{written_last, got_last, same_value}
+use Rattle.ijson_value.proofs.pairs.Entries.{written_last, got_last, same_value}
 use Rattle.ijson_value.proofs.object.entry.VacantEntry.insert.Goals as goal
 
 pub returns : goal.returns
@@ -18,7 +18,9 @@ returns c =
       (
         refl,
         λ w. store_path (store_with_value new index w) (with_entry (Vacant e) w)
-            (ap (λ ps. with_value ps index w) pushed ∙ (ap (λ i. with_value (old.pairs ++ (e.key, c.args.value) ∷ []) i w) c.len-index.ensures ∙ written_last old.pairs e.key c.args.value w))
+            (ap (λ ps. with_value ps index w) pushed
+            ∙ (ap (λ i. with_value (old.pairs ++ (e.key, c.args.value) ∷ []) i w) c.len-index.ensures
+            ∙ written_last old.pairs e.key c.args.value w))
             c.push_new.ensures.capacity,
       ),
       record {

@@ -1,5 +1,11 @@
 -- The call of the object itself. Assumes `Logic`.
-use Rattle.ijson_value.proofs.lends.Steps.{◌≡◌, ℕ, List, [], ◌∷◌, refl, sym, ap, ◌∙◌, MutBor, Bor, proved, id⊢, Fml, GName, Lft, ftrue, flft, named, Val, vptr, sem, fact, fact_i, emp, tables, Item, ‵, raw, ◌⊛◌, some, later, at_ret, ◌$◌, ◌∵◌, !, qed, done, move, keep, drop, use0, use1, use2, use3, split, join, fjoin, pick, await, suffices, frame, group, enter, of_opd, addr, stop, no_more, and_then, returns, alloc_all, pass_all, free_all, look_at, get, through, sets, lands_as, env, yes, no, Is, shows, RattleType, MutRef, mut_vals, mut_Tells, plain, mut_ref_to, nothing, heard, peeks, Laws, of_field, row_shared, mut_ref_shared, mut_ref_laws, mut_ref_field, calls_at, lasts, triple_of, Stays, walk_of, says, stay_dropped, Goes-dropped, Goes-spent_ref, ends_at, framed}
+use Rattle.ijson_value.proofs.lends.Steps.{◌≡◌, List, [], ◌∷◌, refl, MutBor, Bor, proved, id⊢, Lft, ftrue, flft, named, Val, fact, fact_i}
+use Rattle.ijson_value.proofs.lends.Steps.{emp, tables, ‵, raw, ◌⊛◌, some, later, ◌$◌, ◌∵◌, !, qed, done, move, keep, drop, use0, use1}
+use Rattle.ijson_value.proofs.lends.Steps.{use3, split, join, fjoin, pick, await, suffices, frame, enter, addr, stop, no_more, and_then}
+use Rattle.ijson_value.proofs.lends.Steps.{returns, alloc_all, pass_all, free_all, look_at, get, through, sets, lands_as, no, shows}
+use Rattle.ijson_value.proofs.lends.Steps.{RattleType, MutRef, mut_vals, mut_Tells, plain, mut_ref_to, nothing, heard, peeks, Laws}
+use Rattle.ijson_value.proofs.lends.Steps.{of_field, row_shared, mut_ref_shared, mut_ref_laws, mut_ref_field, calls_at, lasts, triple_of}
+use Rattle.ijson_value.proofs.lends.Steps.{Stays, walk_of, says, stay_dropped, Goes-dropped, Goes-spent_ref, ends_at, framed}
 use mir.MapTy.{inst_fn}
 use mir.Syntax.{a_type, dcons, dnil}
 use contract.BorrowLft.{◌⊑◌}
@@ -33,21 +39,29 @@ Pair κ = Tuple (ShrRef (named 0) κ S ∷ MutRef (named 0) κ V ∷ [])
 
 abbrev pair_laws : (κ : Lft) → Laws (OptionOf (Pair κ))
 pair_laws κ = let a : NamedLft = record { mir = named 0; lft = κ } in
-    option_laws (Pair κ) (tuple_laws (ShrRef (named 0) κ S ∷ MutRef (named 0) κ V ∷ []) (of_field (shr_ref_field a S tt) (shr_ref_laws a S tt) refl (copy_shared (shr_ref_field a S tt) (shr_ref_copy a S tt string_laws.shr_laws)), (of_field (mut_ref_field a V tt) (mut_ref_laws a V tt) refl (mut_ref_shared a V tt (row_shared V value_laws)), tt)))
+    option_laws (Pair κ) (tuple_laws (ShrRef (named 0) κ S ∷ MutRef (named 0) κ V ∷ []) (
+      of_field (shr_ref_field a S tt) (shr_ref_laws a S tt) refl
+          (copy_shared (shr_ref_field a S tt) (shr_ref_copy a S tt string_laws.shr_laws)),
+      (of_field (mut_ref_field a V tt) (mut_ref_laws a V tt) refl (mut_ref_shared a V tt (row_shared V value_laws)), tt),
+    ))
 
 pub index_into_mut_spec : {M' : Type 1} → statement M'
 index_into_mut_spec 𝓤 𝓛 𝓜 𝓡 wired I LI CI gx dx gs ds gc dc mx ms mc =
     let X : RattleType = f.Self-row I in let CX : IsCopy X = copied_copy 0 I CI in
-    let En = f.ended I gx dx gs ds gc dc in let inst = bounded (a_type ∷ []) (I, tt) (dcons dx (dcons ds (dcons dc dnil))) in let fn = inst_fn inst code.function in
+    let En = f.ended I gx dx gs ds gc dc in let inst = bounded (a_type ∷ []) (I, tt) (dcons dx (dcons ds (dcons dc dnil))) in
+    let fn = inst_fn inst code.function in
     let c = f.clauses I gx dx gs ds gc dc 𝓛 𝓜.mem 𝓡.returns in
-    let hs : Stays En.signature.params En.kept = (stay_dropped (plain (λ _. X)) no, (stay_dropped (mut_ref_to (0 ∷ []) tt (plain (λ _. M))) no, tt)) in
+    let hs : Stays En.signature.params En.kept =
+    (stay_dropped (plain (λ _. X)) no, (stay_dropped (mut_ref_to (0 ∷ []) tt (plain (λ _. M))) no, tt)) in
     let W = walk_of 𝓛 En hs c in let 𝓣 = tables 𝓤 𝓛.H 𝓜 𝓡 𝓡.env in
     proved 𝓛 En hs c 𝓜 𝓡 (Goes-dropped 𝓛 2 (plain (λ _. X)) no (λ κs x w. refl), (Goes-spent_ref 𝓛 2 (0 ∷ []) tt (plain (λ _. M)), tt))
     (f.Key.name inst) fn (code.unfolded 𝓤 𝓛.H 𝓜 𝓡 wired (I, tt) dx ds dc)
     (λ κs. ((λ x. CX.val x ∷ []), (mut_vals, tt))) (λ κs. (CX.tells, (mut_Tells (named 0) κs.0 M, tt))) (λ κs qs bounds a gh are.
-    let κ = κs.0 in let q = qs.0 in let κ' = κs.1.0 in let q' = qs.1.0 in let k = a.0 in let r = a.1.0 in let vs = mut_vals r in let ks : List Val = CX.val k ∷ [] in
+    let κ = κs.0 in let q = qs.0 in let κ' = κs.1.0 in let q' = qs.1.0 in let k = a.0 in let r = a.1.0 in let vs = mut_vals r in
+    let ks : List Val = CX.val k ∷ [] in
     let y : W.Ghost = ((κs, qs, bounds, a, (ks, (vs, tt))), gh) in
-    qed 𝓛 (((‵ (flft κ q) ⊛ ‵ (flft κ' q') ⊛ ‵ ftrue) ⊛ ‵ (X.own_val k ks) ⊛ ‵ ((MutRef (named 0) κ M).own_val r vs) ⊛ ‵ ftrue) ∷ raw (fact 𝓤 (κ' ⊑ I.lives)) ∷ ‵ ftrue ∷ []) ∵
+    qed 𝓛 (((‵ (flft κ q) ⊛ ‵ (flft κ' q') ⊛ ‵ ftrue) ⊛ ‵ (X.own_val k ks) ⊛ ‵ ((MutRef (named 0) κ M).own_val r vs) ⊛ ‵ ftrue) ∷ raw
+    (fact 𝓤 (κ' ⊑ I.lives)) ∷ ‵ ftrue ∷ []) ∵
     move ! (1 ∷ []) $ heard ! _ (λ out.
     split ! $ move ! (1 ∷ []) $ split ! $ move ! (1 ∷ []) $ split ! $ keep ! (3 ∷ 2 ∷ 0 ∷ []) $
     -- [the tokens; the index; the object]
@@ -58,11 +72,16 @@ index_into_mut_spec 𝓤 𝓛 𝓜 𝓡 wired I LI CI gx dx gs ds gc dc mx ms mc
     nothing ! $ move ! (2 ∷ 0 ∷ []) $ join ! $ move ! (2 ∷ 0 ∷ []) $ join ! $ move ! (1 ∷ 0 ∷ []) $ join ! $
     nothing ! $ use0 𝓛 (raw (fact 𝓤 (κ' ⊑ I.lives))) (fact_i 𝓤 (κ' ⊑ I.lives) (emp 𝓤) out) $ move ! (2 ∷ 0 ∷ 1 ∷ []) $
     use3 𝓛 (raw (G.pre z)) (id⊢ 𝓤 _) $
-    calls_at ! (framed 𝓤 𝓛.H 𝓜 𝓣) G (g-thm.met 𝓤 𝓛 𝓜 𝓡 (code.calls-ijson_value::object::map::IObject::get_key_value_mut 𝓡.env wired) I LI CI gx dx gs ds gc dc mx ms mc) z
+    calls_at ! (framed 𝓤 𝓛.H 𝓜 𝓣) G (g-thm.met 𝓤 𝓛 𝓜 𝓡 (code.calls-ijson_value::object::map::IObject::get_key_value_mut 𝓡.env wired) I LI CI
+    gx dx gs ds gc dc mx ms mc) z
     (and_then ! (get ! refl) (and_then ! (get ! refl) (no_more !))) (λ v.
-    use1 𝓛 (later (some (λ (x : Option (Bor S.Denot × MutBor V.Denot)). ((‵ (flft κ q) ⊛ ‵ (flft κ' q') ⊛ ‵ ftrue) ⊛ ‵ ((OptionOf (Pair κ)).own_val x (v ∷ []))) ⊛
-    some (λ (ws : Unit {0} × (Unit {0} × Unit {0})). ‵ (lasts (g.ended I gx dx gs ds gc dc) κs (r, (k, tt)) ws) ⊛ ‵ (LendsPairIf r (gs.key k) x) ⊛ raw (fact 𝓤 (option_map deref_pair_mut x ≡ pair_at_key (gs.key k) r.now.pairs)))))) (id⊢ 𝓤 _) $
-    await ! tt $ pick ! (λ x. split ! $ split ! $ move ! (2 ∷ []) $ pick ! (λ ws. split ! $ drop ! $ split ! $ move ! (1 ∷ []) $ heard ! _ (λ is.
+    use1 𝓛 (later
+    (some (λ (x : Option (Bor S.Denot × MutBor V.Denot)).
+    ((‵ (flft κ q) ⊛ ‵ (flft κ' q') ⊛ ‵ ftrue) ⊛ ‵ ((OptionOf (Pair κ)).own_val x (v ∷ []))) ⊛
+    some (λ (ws : Unit {0} × (Unit {0} × Unit {0})). ‵ (lasts (g.ended I gx dx gs ds gc dc) κs (r, (k, tt)) ws)
+    ⊛ ‵ (LendsPairIf r (gs.key k) x) ⊛ raw (fact 𝓤 (option_map deref_pair_mut x ≡ pair_at_key (gs.key k) r.now.pairs)))))) (id⊢ 𝓤 _) $
+    await ! tt $ pick ! (λ x. split ! $ split ! $ move ! (2 ∷ []) $
+    pick ! (λ ws. split ! $ drop ! $ split ! $ move ! (1 ∷ []) $ heard ! _ (λ is.
     -- [what the object follows; the tokens; the answer]
     move ! (2 ∷ []) $ peeks ! (OptionOf (Pair κ)) _ (shows 𝓛 (OptionOf (Pair κ))) x (v ∷ []) (λ told.
     lands_as ! refl refl (((pair_laws κ).lawful 𝓛).typed x (v ∷ []) told).0 $

@@ -3,7 +3,7 @@ use Rattle.ijson_table.proofs.pairs.PairsByKey.{put-present, put-absent, lookup-
 use Rattle.ijson_table.specs.Growth.{Ungrown}
 use Rattle.ijson_table.specs.Store.{Store, at}
 use Rattle.ijson_value.specs.WellFormed.{WellFormed}
-use Rattle.ijson_value.proofs.Entries.{refused_capacity, refused_same, key_there, value_there, is_there}
+use Rattle.ijson_value.proofs.pairs.Entries.{refused_capacity, refused_same, key_there, value_there, is_there}
 use Rattle.ijson_value.proofs.object.map.IObject.entry.Goals as goal
 
 pub returns-in-Some : goal.returns-in-Some
@@ -53,7 +53,11 @@ returns c =
         update = tt;
         refused = (
           refl,
-          (lookup-absent old.pairs key missing, subst (λ n. Ungrown (length old.pairs) old.capacity 1 why n) (refused_capacity (length old.pairs) old.capacity 1 new.capacity why growth) growth),
+          (
+            lookup-absent old.pairs key missing,
+            subst (λ n. Ungrown (length old.pairs) old.capacity 1 why n)
+                (refused_capacity (length old.pairs) old.capacity 1 new.capacity why growth) growth,
+          ),
         );
         rests = tt;
       },

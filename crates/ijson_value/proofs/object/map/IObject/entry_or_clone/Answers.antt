@@ -1,11 +1,15 @@
-use Rattle.std.proofs.Common.{◌≡◌, ◌++◌, ◌∷◌, [], refl, sym, ap, subst, ◌∙◌, ℕ, length, Some, None, inl, inr}
+use Rattle.std.proofs.Common.{◌≡◌, ◌<◌, ◌≤◌, ◌++◌, ◌∷◌, [], refl, sym, ap, subst, ◌∙◌, ℕ, length, Some, None, inl, inr}
+use Rattle.ijson_table.proofs.arithmetic.Comparing.{below_or_not}
 use Rattle.ijson_table.proofs.pairs.PairsByKey.{put-present, put-absent, lookup-absent}
 use Rattle.ijson_table.specs.Growth.{Ungrown}
 use Rattle.ijson_table.specs.Store.{Store, at}
 use Rattle.ijson_value.specs.WellFormed.{WellFormed}
-use Rattle.ijson_value.proofs.Cases.{above}
-use Rattle.ijson_value.proofs.Entries.{refused_capacity, refused_same, key_there, value_there, is_there}
+use Rattle.ijson_value.proofs.pairs.Entries.{refused_capacity, refused_same, key_there, value_there, is_there}
 use Rattle.ijson_value.proofs.object.map.IObject.entry_or_clone.Goals as goal
+
+-- a key that is not short is long
+above : (n : ℕ) → (n ≤ 7 → ⊥) → 7 < n
+above n h = elim (below_or_not 7 n) [ inl long ↦ long | inr short ↦ absurd (h short) ]
 
 pub returns-in-Some : goal.returns-in-Some
 returns-in-Some c =
@@ -55,7 +59,8 @@ returns-in-Err-reserve c =
         update = tt;
         refused = inl (
           lookup-absent old.pairs key missing,
-          subst (λ n. Ungrown (length old.pairs) old.capacity 1 why n) (refused_capacity (length old.pairs) old.capacity 1 new.capacity why growth) growth,
+          subst (λ n. Ungrown (length old.pairs) old.capacity 1 why n)
+              (refused_capacity (length old.pairs) old.capacity 1 new.capacity why growth) growth,
         );
         rests = tt;
       },
@@ -72,7 +77,7 @@ returns-in-Err c =
         key = tt;
         value = tt;
         update = tt;
-        refused = inr (lookup-absent old.pairs key missing, above 7 (length key) c.in-Err.ensures.cases, refl);
+        refused = inr (lookup-absent old.pairs key missing, above (length key) c.in-Err.ensures.cases, refl);
         rests = tt;
       },
     )

@@ -8,7 +8,7 @@ use Rattle.ijson_table.specs.Store.{Store, at, with_value}
 use Rattle.ijson_value.specs.LendsAtKey.{grown_at}
 use Rattle.ijson_value.specs.Values.{null_value}
 use Rattle.ijson_value.specs.WellFormed.{WellFormed}
-use Rattle.ijson_value.proofs.Entries.{refused_capacity, written_last, got_last, same_value}
+use Rattle.ijson_value.proofs.pairs.Entries.{refused_capacity, written_last, got_last, same_value}
 use Rattle.ijson_value.proofs.object.map.IObject.index_or_insert.Goals as goal
 
 pub returns-in-Some : goal.returns-in-Some
@@ -33,11 +33,13 @@ returns-in-Some c =
 
 pub returns-in-Ok : goal.returns-in-Ok
 returns-in-Ok c =
-    let old : Store WellFormed = c.args.self.now in let key = c.args.key in let grown : Store WellFormed = c.reserve.new.self in let new : Store WellFormed = c.push_new.new.self in
+    let old : Store WellFormed = c.args.self.now in let key = c.args.key in let grown : Store WellFormed = c.reserve.new.self in
+    let new : Store WellFormed = c.push_new.new.self in
     let missing : at old.pairs key ≡ None = ap (at old.pairs) (sym c.as_str.ensures) ∙ sym c.position.ensures.position ∙ c.in-None.is in
     let i : ℕ = c.len-position.result in
     let null : WellFormed = c.default.result in
-    let pushed : new.pairs ≡ old.pairs ++ (key, null) ∷ [] = c.push_new.ensures.pairs ∙ ap (λ ps. ps ++ (key, null) ∷ []) c.in-Ok.ensures.pairs in
+    let pushed : new.pairs ≡ old.pairs ++ (key, null) ∷ [] = c.push_new.ensures.pairs
+    ∙ ap (λ ps. ps ++ (key, null) ∷ []) c.in-Ok.ensures.pairs in
     let last : i ≡ length old.pairs = c.len-position.ensures ∙ ap length c.in-Ok.ensures.pairs in
     let got = c.value_mut-in-Ok.ensures.value in (
       (
@@ -51,7 +53,8 @@ returns-in-Ok c =
       ),
       record {
         writes_back = tt;
-        value = same_value (sym got.1 ∙ (λ j. slice_get (pushed j) (last j)) ∙ got_last old.pairs key null) ∙ c.default.ensures ∙ ap (λ o. unwrap_or o null_value) (sym (lookup-absent old.pairs key missing));
+        value = same_value (sym got.1 ∙ (λ j. slice_get (pushed j) (last j)) ∙ got_last old.pairs key null) ∙ c.default.ensures
+            ∙ ap (λ o. unwrap_or o null_value) (sym (lookup-absent old.pairs key missing));
         refused = tt;
       },
     )
@@ -66,6 +69,10 @@ returns c =
       record {
         writes_back = tt;
         value = tt;
-        refused = (refl, c.default-in-Err.ensures, (lookup-absent old.pairs key missing, subst (λ n. Ungrown (length old.pairs) old.capacity 1 why n) room growth));
+        refused = (
+          refl,
+          c.default-in-Err.ensures,
+          (lookup-absent old.pairs key missing, subst (λ n. Ungrown (length old.pairs) old.capacity 1 why n) room growth),
+        );
       },
     )

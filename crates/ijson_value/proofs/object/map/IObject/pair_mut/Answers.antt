@@ -3,7 +3,7 @@ use Rattle.std.specs.Prelude.{slice_get}
 use Rattle.ijson_table.specs.Store.{Store}
 use Rattle.ijson_table.specs.StoreWithValue.{store_with_value}
 use Rattle.ijson_value.specs.WellFormed.{WellFormed}
-use Rattle.ijson_value.proofs.Objects.{opened}
+use Rattle.ijson_value.proofs.pairs.PairLookups.{opened}
 use Rattle.ijson_value.proofs.object.map.IObject.pair_mut.Goals as goal
 
 pub returns : goal.returns
@@ -13,6 +13,7 @@ returns c =
       (refl, λ w. ap (λ (s : Store WellFormed). store_with_value s c.args.position w) same),
       record {
         writes_back = tt;
-        pair = subst (λ (s : Store WellFormed). slice_get s.pairs c.args.position ≡ Some (c.pair_mut.result.0.now, c.pair_mut.result.1.now)) same c.pair_mut.ensures.pair;
+        pair = subst (λ (s : Store WellFormed). slice_get s.pairs c.args.position ≡ Some (c.pair_mut.result.0.now, c.pair_mut.result.1.now))
+            same c.pair_mut.ensures.pair;
       },
     )

@@ -3,7 +3,7 @@ use Rattle.std.specs.Prelude.{slice_get}
 use Rattle.ijson_table.specs.Store.{Store}
 use Rattle.ijson_table.specs.StoreWithValue.{store_with_value}
 use Rattle.ijson_value.specs.WellFormed.{WellFormed}
-use Rattle.ijson_value.proofs.Objects.{opened}
+use Rattle.ijson_value.proofs.pairs.PairLookups.{opened}
 use Rattle.ijson_value.proofs.object.map.IObject.value_mut.Goals as goal
 
 pub returns : goal.returns
@@ -13,6 +13,7 @@ returns c =
       (refl, λ w. ap (λ (s : Store WellFormed). store_with_value s c.args.position w) same),
       record {
         writes_back = tt;
-        value = subst (λ (s : Store WellFormed). (key : List ℕ) × (slice_get s.pairs c.args.position ≡ Some (key, c.value_mut.result.now))) same c.value_mut.ensures.value;
+        value = subst (λ (s : Store WellFormed). (key : List ℕ) × (slice_get s.pairs c.args.position ≡ Some (key, c.value_mut.result.now)))
+            same c.value_mut.ensures.value;
       },
     )

@@ -1,5 +1,12 @@
 -- The value is opened, and the opened value lends. Assumes `Logic`.
-use Rattle.ijson_value.proofs.lends.Steps.{◌≡◌, ℕ, List, [], ◌∷◌, refl, sym, ap, ◌∙◌, MutBor, proved, id⊢, GName, ftrue, flft, named, Val, fact, fact_i, emp, tables, ‵, raw, ◌⊛◌, some, later, ◌$◌, ◌∵◌, !, qed, done, move, keep, drop, use0, use1, use2, use3, split, join, rewrite, fjoin, pick, await, suffices, frame, enter, addr, stop, no_more, and_then, returns, alloc_all, pass_all, free_all, look_at, get, through, sets, lands_as, env, no, shows, RattleType, MutRef, mut_vals, mut_Tells, plain, mut_ref_to, nothing, heard, peeks, only, Laws, of_field, row_shared, mut_ref_shared, mut_ref_laws, mut_ref_field, calls_at, lasts, triple_of, Stays, walk_of, says, stay_dropped, Goes-dropped, Goes-spent_ref, ends_at, framed, follows}
+use Rattle.ijson_value.proofs.lends.Steps.{◌≡◌, ℕ, List, [], ◌∷◌, refl, sym, ap, ◌∙◌, MutBor, proved, id⊢, ftrue, flft, named, Val, fact}
+use Rattle.ijson_value.proofs.lends.Steps.{fact_i, emp, tables, ‵, raw, ◌⊛◌, some, later, ◌$◌, ◌∵◌, !, qed, done, move, keep, drop, use0}
+use Rattle.ijson_value.proofs.lends.Steps.{use1, use2, use3, split, join, rewrite, fjoin, pick, await, suffices, frame, enter, addr, stop}
+use Rattle.ijson_value.proofs.lends.Steps.{no_more, and_then, returns, alloc_all, pass_all, free_all, look_at, get, through, sets, lands_as}
+use Rattle.ijson_value.proofs.lends.Steps.{no, shows, RattleType, MutRef, mut_vals, mut_Tells, plain, mut_ref_to, nothing, heard}
+use Rattle.ijson_value.proofs.lends.Steps.{peeks, only, Laws, of_field, row_shared, mut_ref_shared, mut_ref_laws, mut_ref_field, calls_at}
+use Rattle.ijson_value.proofs.lends.Steps.{lasts, triple_of, Stays, walk_of, says, stay_dropped, Goes-dropped, Goes-spent_ref, ends_at}
+use Rattle.ijson_value.proofs.lends.Steps.{framed, follows}
 use mir.MapTy.{inst_fn}
 use mir.Syntax.{a_type, dcons, dnil}
 use contract.BorrowLft.{◌⊑◌}
@@ -33,7 +40,8 @@ use Rattle.ijson_value.proofs.value.IValue.get_mut.Met as h-thm
 
 abbrev lent_laws : (κ : List ℕ) → Laws (OptionOf (MutRef (named 0) κ V))
 lent_laws κ = let a : NamedLft = record { mir = named 0; lft = κ } in
-    option_laws (MutRef (named 0) κ V) (of_field (mut_ref_field a V tt) (mut_ref_laws a V tt) refl (mut_ref_shared a V tt (row_shared V value_laws)))
+    option_laws (MutRef (named 0) κ V) (of_field (mut_ref_field a V tt) (mut_ref_laws a V tt) refl
+    (mut_ref_shared a V tt (row_shared V value_laws)))
 
 -- the tree of a value whose opened value is changed one step inside
 module _ (r : WellFormed) (n : Destructured) (step : Step) (same : node_value n ≡ r) where
@@ -46,17 +54,21 @@ module _ (r : WellFormed) (n : Destructured) (step : Step) (same : node_value n 
 pub index_into_mut_spec : {M' : Type 1} → statement M'
 index_into_mut_spec 𝓤 𝓛 𝓜 𝓡 wired I LI CI gx dx gs ds gc dc mx ms mc =
     let X : RattleType = f.Self-row I in let CX : IsCopy X = copied_copy 0 I CI in
-    let En = f.ended I gx dx gs ds gc dc in let inst = bounded (a_type ∷ []) (I, tt) (dcons dx (dcons ds (dcons dc dnil))) in let fn = inst_fn inst code.function in
+    let En = f.ended I gx dx gs ds gc dc in let inst = bounded (a_type ∷ []) (I, tt) (dcons dx (dcons ds (dcons dc dnil))) in
+    let fn = inst_fn inst code.function in
     let c = f.clauses I gx dx gs ds gc dc 𝓛 𝓜.mem 𝓡.returns in
-    let hs : Stays En.signature.params En.kept = (stay_dropped (plain (λ _. X)) no, (stay_dropped (mut_ref_to (0 ∷ []) tt (plain (λ _. V))) no, tt)) in
+    let hs : Stays En.signature.params En.kept =
+    (stay_dropped (plain (λ _. X)) no, (stay_dropped (mut_ref_to (0 ∷ []) tt (plain (λ _. V))) no, tt)) in
     let W = walk_of 𝓛 En hs c in let 𝓣 = tables 𝓤 𝓛.H 𝓜 𝓡 𝓡.env in
     proved 𝓛 En hs c 𝓜 𝓡 (Goes-dropped 𝓛 2 (plain (λ _. X)) no (λ κs x w. refl), (Goes-spent_ref 𝓛 2 (0 ∷ []) tt (plain (λ _. V)), tt))
     (f.Key.name inst) fn (code.unfolded 𝓤 𝓛.H 𝓜 𝓡 wired (I, tt) dx ds dc)
     (λ κs. ((λ x. CX.val x ∷ []), (mut_vals, tt))) (λ κs. (CX.tells, (mut_Tells (named 0) κs.0 V, tt))) (λ κs qs bounds a gh are.
-    let κ = κs.0 in let q = qs.0 in let κ' = κs.1.0 in let q' = qs.1.0 in let k = a.0 in let r = a.1.0 in let vs = mut_vals r in let ks : List Val = CX.val k ∷ [] in
+    let κ = κs.0 in let q = qs.0 in let κ' = κs.1.0 in let q' = qs.1.0 in let k = a.0 in let r = a.1.0 in let vs = mut_vals r in
+    let ks : List Val = CX.val k ∷ [] in
     let step = gs.step k in let Lent : RattleType = MutRef (named 0) κ V in
     let y : W.Ghost = ((κs, qs, bounds, a, (ks, (vs, tt))), gh) in
-    qed 𝓛 (((‵ (flft κ q) ⊛ ‵ (flft κ' q') ⊛ ‵ ftrue) ⊛ ‵ (X.own_val k ks) ⊛ ‵ (Lent.own_val r vs) ⊛ ‵ ftrue) ∷ raw (fact 𝓤 (κ' ⊑ I.lives)) ∷ raw (fact 𝓤 (kind_of r.now.tree ≡ kind_for step)) ∷ []) ∵
+    qed 𝓛 (((‵ (flft κ q) ⊛ ‵ (flft κ' q') ⊛ ‵ ftrue) ⊛ ‵ (X.own_val k ks) ⊛ ‵ (Lent.own_val r vs) ⊛ ‵ ftrue) ∷ raw
+    (fact 𝓤 (κ' ⊑ I.lives)) ∷ raw (fact 𝓤 (kind_of r.now.tree ≡ kind_for step)) ∷ []) ∵
     move ! (1 ∷ []) $ heard ! _ (λ out. move ! (1 ∷ []) $ heard ! _ (λ kind.
     split ! $ move ! (1 ∷ []) $ split ! $ move ! (1 ∷ []) $ split ! $ keep ! (3 ∷ 2 ∷ 0 ∷ []) $
     -- [the tokens; the index; the value]
@@ -71,28 +83,38 @@ index_into_mut_spec 𝓤 𝓛 𝓜 𝓡 wired I LI CI gx dx gs ds gc dc mx ms mc
     calls_at ! (framed 𝓤 𝓛.H 𝓜 𝓣) G (g-thm.met 𝓤 𝓛 𝓜 𝓡 (code.calls-ijson_value::value::index::opened 𝓡.env wired)) z
     (and_then ! (get ! refl) (no_more !)) (λ x.
     use1 𝓛 (later (some (λ (u : MutBor Destructured). ((‵ (flft κ q) ⊛ ‵ ftrue) ⊛ ‵ ((MutRef (named 0) κ N).own_val u (x ∷ []))) ⊛
-    some (λ (ws : Unit {0} × Unit {0}). ‵ (lasts g.ended (κ, tt) (r, tt) ws) ⊛ ‵ (follows V N r.ghost_name u.ghost_name node_value) ⊛ raw (fact 𝓤 (node_value u.now ≡ r.now)))))) (id⊢ 𝓤 _) $
-    await ! tt $ pick ! (λ u. split ! $ split ! $ split ! $ move ! (3 ∷ []) $ pick ! (λ ws. split ! $ drop ! $ split ! $ move ! (1 ∷ []) $ heard ! _ (λ same.
-    move ! (3 ∷ []) $ peeks ! (MutRef (named 0) κ N) _ (shows 𝓛 (MutRef (named 0) κ N)) u (x ∷ []) (λ told. let opened_at = mut_Tells (named 0) κ N u (x ∷ []) told in
+    some (λ (ws : Unit {0} × Unit {0}). ‵ (lasts g.ended (κ, tt) (r, tt) ws) ⊛ ‵ (follows V N r.ghost_name u.ghost_name node_value)
+    ⊛ raw (fact 𝓤 (node_value u.now ≡ r.now)))))) (id⊢ 𝓤 _) $
+    await ! tt $ pick ! (λ u. split ! $ split ! $ split ! $ move ! (3 ∷ []) $
+    pick ! (λ ws. split ! $ drop ! $ split ! $ move ! (1 ∷ []) $ heard ! _ (λ same.
+    move ! (3 ∷ []) $ peeks ! (MutRef (named 0) κ N) _ (shows 𝓛 (MutRef (named 0) κ N)) u (x ∷ []) (λ told. let opened_at =
+    mut_Tells (named 0) κ N u (x ∷ []) told in
     lands_as ! (ap only opened_at) refl (tt, tt) $
     rewrite ! 0 (λ (us : List Val). ‵ ((MutRef (named 0) κ N).own_val u us)) opened_at refl $
     -- [opened; what the value follows; its token; nothing; the index's token; the index]
     let H = triple_of 𝓛 (h.signature I) (h.spec I gx dx gs ds gc dc 𝓛 𝓜.mem 𝓡.returns) in
     let z' : H.Ghost = ((κs, qs, tt, (u, (k, tt)), (mut_vals u, (ks, tt))), tt) in
     move ! (5 ∷ []) $ nothing ! $ move ! (1 ∷ 0 ∷ []) $ join ! $ move ! (1 ∷ 0 ∷ []) $ join ! $ move ! (2 ∷ 4 ∷ []) $ join ! $ join ! $
-    use0 𝓛 (raw (fact 𝓤 (kind_of (node_value u.now).tree ≡ kind_for step))) (fact_i 𝓤 (kind_of (node_value u.now).tree ≡ kind_for step) (emp 𝓤) (ap (λ (v : WellFormed). kind_of v.tree) same ∙ kind)) $
+    use0 𝓛 (raw (fact 𝓤 (kind_of (node_value u.now).tree ≡ kind_for step)))
+    (fact_i 𝓤 (kind_of (node_value u.now).tree ≡ kind_for step) (emp 𝓤) (ap (λ (v : WellFormed). kind_of v.tree) same ∙ kind)) $
     use0 𝓛 (raw (fact 𝓤 (κ' ⊑ I.lives))) (fact_i 𝓤 (κ' ⊑ I.lives) (emp 𝓤) out) $ move ! (2 ∷ 0 ∷ 1 ∷ []) $
     use3 𝓛 (raw (H.pre z')) (id⊢ 𝓤 _) $
-    calls_at ! (framed 𝓤 𝓛.H 𝓜 𝓣) H (h-thm.met 𝓤 𝓛 𝓜 𝓡 (code.calls-ijson_value::value::IValue::get_mut 𝓡.env wired) I LI CI gx dx gs ds gc dc mx ms mc) z'
+    calls_at ! (framed 𝓤 𝓛.H 𝓜 𝓣) H (h-thm.met 𝓤 𝓛 𝓜 𝓡 (code.calls-ijson_value::value::IValue::get_mut 𝓡.env wired) I LI CI gx dx gs ds gc
+    dc mx ms mc) z'
     (and_then ! (get ! refl) (and_then ! (get ! refl) (no_more !))) (λ w.
-    use1 𝓛 (later (some (λ (o : Option (MutBor V.Denot)). ((‵ (flft κ q) ⊛ ‵ (flft κ' q') ⊛ ‵ ftrue) ⊛ ‵ ((OptionOf Lent).own_val o (w ∷ []))) ⊛
-    some (λ (ws' : Unit {0} × (Unit {0} × Unit {0})). ‵ (lasts (h.ended I gx dx gs ds gc dc) κs (u, (k, tt)) ws') ⊛ ‵ (LendsStepIf u step o) ⊛ raw (fact 𝓤 (option_map (λ found. found.now.tree) o ≡ tree_at (node_value u.now).tree step)))))) (id⊢ 𝓤 _) $
-    await ! tt $ pick ! (λ o. split ! $ split ! $ move ! (2 ∷ []) $ pick ! (λ ws'. split ! $ drop ! $ split ! $ move ! (1 ∷ []) $ heard ! _ (λ is.
+    use1 𝓛 (later
+    (some (λ (o : Option (MutBor V.Denot)). ((‵ (flft κ q) ⊛ ‵ (flft κ' q') ⊛ ‵ ftrue) ⊛ ‵ ((OptionOf Lent).own_val o (w ∷ []))) ⊛
+    some (λ (ws' : Unit {0} × (Unit {0} × Unit {0})). ‵ (lasts (h.ended I gx dx gs ds gc dc) κs (u, (k, tt)) ws') ⊛ ‵ (LendsStepIf u step o)
+    ⊛ raw (fact 𝓤 (option_map (λ found. found.now.tree) o ≡ tree_at (node_value u.now).tree step)))))) (id⊢ 𝓤 _) $
+    await ! tt $ pick ! (λ o. split ! $ split ! $ move ! (2 ∷ []) $
+    pick ! (λ ws'. split ! $ drop ! $ split ! $ move ! (1 ∷ []) $ heard ! _ (λ is.
     -- [what opened follows; the tokens; the answer; what the value follows; nothing]
     move ! (2 ∷ []) $ peeks ! (OptionOf Lent) _ (shows 𝓛 (OptionOf Lent)) o (w ∷ []) (λ told'.
     lands_as ! refl refl (((lent_laws κ).lawful 𝓛).typed o (w ∷ []) told').0 $
     move ! (3 ∷ 1 ∷ []) $ use2 𝓛 (‵ (LendsInsideIf r step o))
-    (then_so 𝓛 V N V node_value (with_step u.now step) u.now (λ w' n. OnSome o (n.tree ≡ tree_with r.now.tree step w'.tree)) (λ n. n ≡ r.now) (tree_put r.now u.now step same o is) same r.ghost_name u.ghost_name (ghost_name_of o)) $
+    (then_so 𝓛 V N V node_value (with_step u.now step) u.now (λ w' n. OnSome o (n.tree ≡ tree_with r.now.tree step w'.tree))
+    (λ n. n ≡ r.now) (tree_put r.now u.now step same o is) same r.ghost_name u.ghost_name (ghost_name_of o)) $
     returns ! (look_at ! 0 refl) $ free_all ! refl $ keep ! (1 ∷ 2 ∷ 0 ∷ []) $
     suffices ! _ (ends_at 𝓛 En hs c y w o (tt, (tt, tt)) (tt, (tt, tt))) $
-    nothing ! $ nothing ! $ fjoin ! $ nothing ! $ fjoin ! $ join ! $ move ! (1 ∷ 0 ∷ []) $ join ! $ frame ! $ says ! (is ∙ ap (λ (v : WellFormed). tree_at v.tree step) same) $ done !))))))))))))))
+    nothing ! $ nothing ! $ fjoin ! $ nothing ! $ fjoin ! $ join ! $ move ! (1 ∷ 0 ∷ []) $ join ! $ frame ! $
+    says ! (is ∙ ap (λ (v : WellFormed). tree_at v.tree step) same) $ done !))))))))))))))

@@ -1,0 +1,2 @@
+pub mod PairTrees
+pub mod PairsPut

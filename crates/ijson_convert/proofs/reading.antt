@@ -1,0 +1,2 @@
+pub mod ItemsRead
+pub mod MembersRead

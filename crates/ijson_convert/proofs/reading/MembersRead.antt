@@ -1,0 +1,111 @@
+-- Members that are read into a map, one after the other.
+use Rattle.std.proofs.Common.{◌≡◌, ℕ, suc, List, [], ◌∷◌, ◌++◌, map, refl, ap, sym, subst, ◌∙◌, inl, inr}
+use Rattle.std.specs.BTreeMap.{insert_entry}
+use Rattle.std.specs.Ordering.{match_ordering}
+use Rattle.std.specs.Prelude.{String, string_bytes, string_cmp}
+use Rattle.std.specs.declared.alloc.Global.{Global}
+use Rattle.std.specs.declared.cmp.Ordering.TheVariants.{Less, Equal, Greater}
+use Rattle.std.proofs.lemmas.List.{map-append}
+use Rattle.std.proofs.lemmas.Map.Lookups.{exact_bytes}
+use Rattle.ijson_table.specs.Store.{Lacks, IsDistinct, keys_of}
+use Rattle.ijson_value.proofs.FromMaps.{lacks_before}
+use Rattle.ijson_value.specs.Same.{Same, SameIn, Has}
+use Rattle.ijson_value.specs.Tree.{Tree, Items, Members, no_members, member, members_of, members_len, items_of}
+use Rattle.ijson_value.specs.Values.{object_tree}
+use Rattle.ijson_value.specs.WellFormed.{WellFormed, tree_of, pair_trees}
+use Rattle.ijson_convert.specs.IsRead.{IsRead}
+use Rattle.ijson_convert.specs.MapTree.{pair_tree, map_tree}
+use Rattle.ijson_convert.specs.Refused.{FirstRefused, MapRefused, member_values}
+use Rattle.ijson_convert.specs.declared.convert_error.ConvertError.{ConvertError}
+use Rattle.ijson_convert.proofs.pairs.PairTrees.{has_more, has_middle, len_last}
+use Rattle.ijson_convert.proofs.reading.ItemsRead.{AllRead, read_pushed, refused_behind}
+
+-- the trees of the values of pairs
+abbrev pub value_trees : List (List ℕ × WellFormed) → List Tree
+value_trees ps = map (λ p. tree_of p.1) ps
+
+-- the values of members are the items of their trees
+values_are : (ps : List (List ℕ × WellFormed)) → member_values (pair_trees ps) ≡ items_of (value_trees ps)
+values_are [] = refl
+values_are (p ∷ ps) = ap (Items.item p.1.tree) (values_are ps)
+
+-- the trees of two lists in a row
+values_pushed : (ps qs : List (List ℕ × WellFormed)) → value_trees (ps ++ qs) ≡ value_trees ps ++ value_trees qs
+values_pushed [] qs = refl
+values_pushed (p ∷ ps) qs = ap (λ l. p.1.tree ∷ l) (values_pushed ps qs)
+
+-- ---- what is refused, and what isn't
+module _ (Refused : Tree → ConvertError → Type 0) where
+  -- one member more is read
+  pub member_read : (done : List (List ℕ × WellFormed)) (k : List ℕ) (v : WellFormed) → AllRead Refused (value_trees done)
+      → IsRead Refused v.tree → AllRead Refused (value_trees (done ++ (k, v) ∷ []))
+  member_read done k v a r =
+      subst (AllRead Refused) (sym (values_pushed done ((k, v) ∷ []))) (read_pushed Refused (value_trees done) v.tree a r)
+
+  -- where all values are read the map is
+  pub all_read : (ps : List (List ℕ × WellFormed)) → AllRead Refused (value_trees ps) → IsRead (MapRefused Refused) (object_tree ps)
+  all_read ps a = λ e r. a e (subst (λ items. FirstRefused Refused items e) (values_are ps) r)
+
+  -- the first value that is refused is that of the map
+  pub member_refused : (done : List (List ℕ × WellFormed)) (k : List ℕ) (v : WellFormed) (left : List (List ℕ × WellFormed))
+      (e : ConvertError)
+      → AllRead Refused (value_trees done) → Refused v.tree e → MapRefused Refused (object_tree (done ++ (k, v) ∷ left)) e
+  member_refused done k v left e a r =
+      subst (λ items. FirstRefused Refused items e) (sym (values_are (done ++ (k, v) ∷ left)
+      ∙ ap items_of (values_pushed done ((k, v) ∷ left))))
+      (refused_behind Refused (value_trees done) v.tree (value_trees left) e a r)
+
+-- ---- pairs of an object
+-- a key that is lacking has no pair
+lacks_pair : (done : List (List ℕ × WellFormed)) (k : List ℕ) (u : Tree) → Lacks k (keys_of done) → Has k u (pair_trees done) → ⊥
+lacks_pair [] k u l h = h
+lacks_pair (p ∷ done) k u l h = elim h [ inl here ↦ l.0 here.0 | inr later ↦ lacks_pair done k u l.1 later ]
+
+-- ---- an entry more of the map
+module _ {X : Type 0} (tree : X → Tree) where
+  abbrev map_members : List (String Global × X) → Members
+  map_members es = members_of (map (pair_tree tree) es)
+
+  module _ (old new : Members) (grows : (k : List ℕ) (u : Tree) → Has k u old → Has k u new) where
+    widened : (ps : Members) → SameIn ps old → SameIn ps new
+    widened no_members s = tt
+    widened (member k t ps) s = ((s.0.0, grows k s.0.0 s.0.1, s.0.2), widened ps s.1)
+
+    module _ (key : String Global) (x : X) (lacks : (u : Tree) → Has (string_bytes key) u old → ⊥)
+        (partner : (u : Tree) × Has (string_bytes key) u new × Same (tree x) u) where
+      inserted : (es : List (String Global × X)) → SameIn (map_members es) old
+          → (members_len (map_members (insert_entry string_cmp es key x)) ≡ suc (members_len (map_members es)))
+          × SameIn (map_members (insert_entry string_cmp es key x)) new
+      inserted [] s = (refl, (partner, tt))
+      inserted (e ∷ es) s = elim (string_cmp key e.0)
+          as (λ o. string_cmp key e.0 ≡ o
+          → (members_len (map_members (match_ordering o ((key, x) ∷ e ∷ es) ((e.0, x) ∷ es) (e ∷ insert_entry string_cmp es key x))) ≡ suc
+          (suc (members_len (map_members es))))
+          × SameIn (map_members (match_ordering o ((key, x) ∷ e ∷ es) ((e.0, x) ∷ es) (e ∷ insert_entry string_cmp es key x))) new) [
+            | Less ↦ λ _. (refl, (partner, widened (map_members (e ∷ es)) s))
+            | Equal ↦ λ same.
+                let one_key : string_bytes key ≡ string_bytes e.0 = exact_bytes (string_bytes key) (string_bytes e.0) same in
+                absurd (lacks s.0.0 (subst (λ k. Has k s.0.0 old) (sym one_key) s.0.1))
+            | Greater ↦ λ _.
+                let rest = inserted es s.1 in
+                (ap suc rest.0, ((s.0.0, grows (string_bytes e.0) s.0.0 s.0.1, s.0.2), rest.1))
+          ] refl
+
+  -- the map with the entry, and the pairs with the pair, whose key is not among them
+  pub member_same : (es : List (String Global × X)) (done : List (List ℕ × WellFormed)) (key : String Global) (k : List ℕ) (x : X)
+      (v : WellFormed)
+      → string_bytes key ≡ k → Lacks k (keys_of done) → Same (map_tree tree es) (object_tree done) → Same (tree x) v.tree
+      → Same (map_tree tree (insert_entry string_cmp es key x)) (object_tree (done ++ (k, v) ∷ []))
+  member_same es done key k x v is lacks s same =
+      let more = inserted (pair_trees done) (pair_trees (done ++ (k, v) ∷ [])) (has_more done ((k, v) ∷ [])) key x
+      (λ u h. lacks_pair done k u lacks (subst (λ j. Has j u (pair_trees done)) is h))
+      (v.tree, subst (λ j. Has j v.tree (pair_trees (done ++ (k, v) ∷ []))) (sym is) (has_middle done (k, v) []), same)
+      es s.1 in
+      (more.0 ∙ ap suc s.0 ∙ sym (len_last done (k, v)), more.1)
+
+-- the key of a pair is not among those before it
+pub key_is_new : (done : List (List ℕ × WellFormed)) (k : List ℕ) (v : WellFormed) (left pairs : List (List ℕ × WellFormed))
+    → done ++ (k, v) ∷ left ≡ pairs → IsDistinct (keys_of pairs) → Lacks k (keys_of done)
+key_is_new done k v left pairs is d =
+    lacks_before (keys_of done) k (keys_of left) (subst IsDistinct (map-append (λ p. p.0) done ((k, v) ∷ left))
+    (subst (λ l. IsDistinct (keys_of l)) (sym is) d))

@@ -1,0 +1,3 @@
+pub mod SerdeMeanings
+pub mod SerdeNumbers
+pub mod SerdeTrees

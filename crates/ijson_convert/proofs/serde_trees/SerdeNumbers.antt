@@ -1,0 +1,108 @@
+-- What a number is in `serde_json`.
+use Rattle.std.proofs.Common.{◌≡◌, ◌<◌, ◌^◌, ◌∙◌, ℕ, Some, None, refl, sym, ap, subst, arith}
+use Rattle.std.specs.Prelude.{ℤ, pos, negsuc, FitsSigned}
+use Rattle.std.specs.declared.cmp.Ordering.TheVariants.{Equal}
+use Rattle.std.specs.Int.{w64, cast_signed, cast_unsigned}
+use Rattle.std.proofs.lemmas.Int.{to_z-of_z}
+use Rattle.serde_json.specs.Data as serde
+use Rattle.serde_json.specs.Data.{Data}
+use Rattle.serde_json.specs.Find.{as_i64, as_u64, of_integer}
+use Rattle.ijson_number.specs.Decimal.{Decimal}
+use Rattle.ijson_number.specs.Integers.{HasValue, IsInteger}
+use Rattle.ijson_number.specs.Num.{IsNum, Num}
+use Rattle.ijson_number.specs.Order.{number_cmp}
+use Rattle.ijson_number.proofs.storing.IntegerWords.{signed_small, signed_fits, unsigned_fits}
+use Rattle.ijson_value.specs.Same.{Same}
+use Rattle.ijson_value.specs.Tree.{Tree, null, boolean, number, string, array, object}
+use Rattle.ijson_convert.specs.IntegerTree.{integer_number}
+use Rattle.ijson_convert.specs.SerdeTree.{SerdeNumber, SerdeTree, HasNoTree, SerdeMeans, NoSerdeMeans}
+use Rattle.ijson_convert.specs.laws.Integers.{integer_num, signed_has, unsigned_has, signed_is, unsigned_is}
+use Rattle.ijson_convert.specs.laws.Whole.{has_too}
+use Rattle.ijson_convert.proofs.Whole.{has_same}
+
+-- the number of a `u64` is a Num
+unsigned_num : (n : ℕ) → n < 2 ^ 64 → IsNum (integer_number (pos n))
+unsigned_num n h = integer_num (pos n) h (λ e. unsigned_fits n h)
+
+-- and so is that of an `i64`
+signed_num : (z : ℤ) → FitsSigned w64 z → IsNum (integer_number z)
+signed_num z h = integer_num z (signed_small z h) (λ e. let t = signed_fits z h in cc)
+
+-- an unsigned number of `serde_json` means a number of its value
+pub means_unsigned : (m : serde.Num) (n : ℕ) (u : Decimal) → m ≡ serde.unsigned n → n < 2 ^ 64 → HasValue u (pos n)
+    → SerdeMeans (serde.number m) (number u)
+means_unsigned m n u is small h = subst (λ k. SerdeMeans (serde.number k) (number u)) (sym is) (
+  number (integer_number (pos n)),
+  unsigned_num n small,
+  (small, refl),
+  has_same (integer_number (pos n)) u (pos n) (unsigned_has n small) h,
+)
+
+-- and so does a signed one
+pub means_signed : (m : serde.Num) (z : ℤ) (u : Decimal) → m ≡ of_integer z → FitsSigned w64 z → HasValue u z
+    → SerdeMeans (serde.number m) (number u)
+means_signed m (pos n) u is fits h = means_unsigned m n u is (omega arith) h
+means_signed m (negsuc n) u is fits h = subst (λ k. SerdeMeans (serde.number k) (number u)) (sym is) (
+  number (integer_number (negsuc n)),
+  signed_num (negsuc n) fits,
+  (fits, refl),
+  has_same (integer_number (negsuc n)) u (negsuc n) (signed_has (negsuc n) fits) h,
+)
+
+module _ (u : Decimal) (no_unsigned : (n : ℕ) → n < 2 ^ 64 → HasValue u (pos n) → ⊥)
+    (no_signed : (z : ℤ) → FitsSigned w64 z → HasValue u z → ⊥) where
+  unmeant : (d : Data) (t : Tree) → SerdeTree d t → Same t (number u) → ⊥
+  unmeant (serde.number (serde.unsigned n)) (number k) h s =
+      no_unsigned n h.0 (has_too (integer_number (pos n)) u (pos n) (unsigned_has n h.0)
+      (subst (λ l. number_cmp l u ≡ Equal) h.1 s))
+  unmeant (serde.number (serde.negative z)) (number k) h s =
+      no_signed z h.0 (has_too (integer_number z) u z (signed_has z h.0)
+      (subst (λ l. number_cmp l u ≡ Equal) h.1 s))
+  unmeant (serde.number (serde.float x)) (number k) h s = h
+  unmeant serde.null (number k) h s = h
+  unmeant (serde.boolean b) (number k) h s = h
+  unmeant (serde.string r) (number k) h s = h
+  unmeant (serde.array ds) (number k) h s = h
+  unmeant (serde.object ms) (number k) h s = h
+  unmeant d null h s = s
+  unmeant d (boolean b) h s = s
+  unmeant d (string r) h s = s
+  unmeant d (array ts) h s = s
+  unmeant d (object ps) h s = s
+
+  -- a number that is neither a `u64` nor an `i64` has no meaning
+  pub number_unmeant : NoSerdeMeans (number u)
+  number_unmeant d m = unmeant d m.0 m.2 m.3
+
+-- a number of `serde_json` that is a `u64` has a tree
+pub unsigned_here : (m : serde.Num) (k : ℕ) (n : Num) → as_u64 m ≡ Some k → k < 2 ^ 64 → IsInteger n.decimal (pos k)
+    → SerdeNumber m n.decimal
+unsigned_here (serde.unsigned m) k n e small i =
+    let same : m ≡ k = cc in let tree = unsigned_is n k small i in let is : n.decimal ≡ integer_number (pos k) = cc in
+    (subst (λ j. j < 2 ^ 64) (sym same) small, is ∙ ap (λ j. integer_number (pos j)) (sym same))
+unsigned_here (serde.negative z) k n e small i = absurd (cc)
+unsigned_here (serde.float x) k n e small i = absurd (cc)
+
+-- and so has one that is an `i64` below zero
+pub signed_here : (m : serde.Num) (z : ℤ) (n : Num) → as_u64 m ≡ None → as_i64 m ≡ Some z → FitsSigned w64 z
+    → IsInteger n.decimal (cast_signed w64 (cast_unsigned w64 z)) → SerdeNumber m n.decimal
+signed_here (serde.unsigned k) z n none e fits i = absurd (cc)
+signed_here (serde.negative y) z n none e fits i =
+    let same : y ≡ z = cc in let tree = signed_is n z fits (subst (IsInteger n.decimal) (to_z-of_z w64 z fits) i) in
+    let is : n.decimal ≡ integer_number z = cc in
+    (subst (FitsSigned w64) (sym same) fits, is ∙ ap integer_number (sym same))
+signed_here (serde.float x) z n none e fits i = absurd (cc)
+
+float_treeless : (x : _) (t : Tree) → SerdeTree (serde.number (serde.float x)) t → ⊥
+float_treeless x null h = h
+float_treeless x (boolean b) h = h
+float_treeless x (number n) h = h
+float_treeless x (string s) h = h
+float_treeless x (array ts) h = h
+float_treeless x (object ps) h = h
+
+-- one that is neither has none
+pub none_here : (m : serde.Num) → as_u64 m ≡ None → as_i64 m ≡ None → HasNoTree (serde.number m)
+none_here (serde.unsigned k) a b = absurd (cc)
+none_here (serde.negative z) a b = absurd (cc)
+none_here (serde.float x) a b = float_treeless x

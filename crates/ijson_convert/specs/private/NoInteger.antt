@@ -1,0 +1,9 @@
+-- Why a value that is no integer of a type is refused.
+use Rattle.std.specs.Prelude.{◌≡◌}
+use Rattle.ijson_value.specs.Tree.{Tree, number}
+use Rattle.ijson_convert.specs.declared.convert_error.ConvertError.{ConvertError}
+use Rattle.ijson_convert.specs.declared.convert_error.ConvertError.TheVariants.{WrongKind, OutOfRange}
+
+abbrev pub IsNoInteger : Tree → ConvertError → Type 0
+IsNoInteger (number n) e = e ≡ OutOfRange
+IsNoInteger _ e = e ≡ WrongKind

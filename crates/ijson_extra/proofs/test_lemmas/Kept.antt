@@ -1,0 +1,85 @@
+-- Lists of two pairs: both put, the second one's value written, and what is left where a question keeps the second one and writes
+-- nothing.
+use Rattle.std.proofs.Common.{◌≡◌, ◌≢◌, ◌↔◌, ℕ, List, [], ◌∷◌, length, get_or, Bool, true, false, Option, Some, None, MutBor, refl, sym, ap}
+use Rattle.std.proofs.Common.{subst, ◌∙◌, arith, inl, inr}
+use Rattle.std.specs.Option.{option_copied_mut, unwrap_or}
+use Rattle.std.specs.Prelude.{if◌then◌else◌, cond, IsSome, IsTrue}
+use Rattle.std.specs.Str.{bytes_eq}
+use Rattle.ijson_table.proofs.pairs.KeyPositions.{same_key, position-distinct}
+use Rattle.ijson_table.specs.Store.{Store, at, keys_of, lookup, put, with_value, swap_out}
+use Rattle.ijson_value.specs.LendsAtKey.{with_found}
+use Rattle.ijson_value.specs.Retains.{RetainsFrom, Retains}
+use Rattle.ijson_value.specs.Tree.{boolean}
+use Rattle.ijson_value.specs.Values.{boolean_value}
+use Rattle.ijson_value.specs.WellFormed.{WellFormed}
+
+differ : (k₁ k₂ : List ℕ) → k₁ ≢ k₂ → bytes_eq k₁ k₂ ≡ false
+differ k₁ k₂ apart = elim (same_key k₁ k₂) [ inl e ↦ absurd (apart e.1) | inr e ↦ e.0 ]
+
+agree : (k : List ℕ) → bytes_eq k k ≡ true
+agree k = elim (same_key k k) [ inl e ↦ e.0 | inr e ↦ absurd (e.1 refl) ]
+
+some_there : (r : Option (MutBor WellFormed)) (v : WellFormed) → option_copied_mut r ≡ Some v → IsSome r
+some_there None v e = cc
+some_there (Some x) v e = cc
+
+-- two keys put into an empty list, each with the value that it gets where it is not there
+module _ (k₁ k₂ : List ℕ) (v₁ v₂ : WellFormed) (old ps : List (List ℕ × WellFormed)) (s : Store WellFormed) (empty : old ≡ [])
+    (apart : k₁ ≢ k₂)
+    (first : ps ≡ put old k₁ (unwrap_or (lookup k₁ old) v₁)) (second : s.pairs ≡ put ps k₂ (unwrap_or (lookup k₂ ps) v₂)) where
+  two_put : s.pairs ≡ (k₁, v₁) ∷ (k₂, v₂) ∷ []
+  two_put =
+      let one : ps ≡ (k₁, v₁) ∷ [] = first ∙ ap (λ ps. put ps k₁ (unwrap_or (lookup k₁ ps) v₁)) empty in
+      let missing : lookup k₂ ps ≡ None =
+      ap (lookup k₂) one ∙ ap (λ b. cond b (Some v₁) None) (differ k₂ k₁ (λ e. apart (sym e))) in
+      second ∙ ap (λ o. put ps k₂ (unwrap_or o v₂)) missing ∙ ap (λ ps. put ps k₂ v₂) one
+      ∙ ap (λ b. if b then (k₁, v₂) ∷ [] else (k₁, v₁) ∷ (k₂, v₂) ∷ []) (differ k₁ k₂ apart)
+
+  -- the second key is found
+  pub second_there : (r : Option (MutBor WellFormed)) → option_copied_mut r ≡ lookup k₂ s.pairs → IsSome r
+  second_there r got =
+      some_there r v₂ (got ∙ ap (lookup k₂) two_put
+      ∙ ap (λ b. cond b (Some v₁) (lookup k₂ ((k₂, v₂) ∷ []))) (differ k₂ k₁ (λ e. apart (sym e)))
+      ∙ ap (λ b. cond b (Some v₂) None) (agree k₂))
+
+  -- and what is written beside it
+  pub second_written : (w : WellFormed) → (with_found s (at s.pairs k₂) w).pairs ≡ (k₁, v₁) ∷ (k₂, w) ∷ []
+  second_written w =
+      let found : at s.pairs k₂ ≡ Some 1 =
+      position-distinct (keys_of s.pairs) k₂ 1 s.distinct
+      (omega (arith, ap (λ (ps : List (List ℕ × WellFormed)). length (keys_of ps)) two_put))
+      (ap (λ (ps : List (List ℕ × WellFormed)). get_or (keys_of ps) 1 []) two_put) in
+      ap (λ i. (with_found s i w).pairs) found ∙ ap (λ ps. with_value ps 1 w) two_put
+
+-- a question that says whether a value is true says no of false
+pub tells_false : (keeps : Bool) (v : WellFormed) → v ≡ boolean_value false → (IsTrue keeps ↔ (v.tree ≡ boolean true)) → keeps ≡ false
+tells_false false v is tells = refl
+tells_false true v is tells = let said : v.tree ≡ boolean true = tells.0 cc in let was : v.tree ≡ boolean false = ap (λ x. x.tree) is in cc
+
+module _ {F V : Type 0} (asked : F → List ℕ → V → Bool → V → F → Type 0)
+    (stays : (f : F) (key : List ℕ) (v : V) (keeps : Bool) (w : V) (g : F) → asked f key v keeps w g → w ≡ v) where
+  one_kept : (f : F) (key : List ℕ) (v : V) (kept : List (List ℕ × V))
+      → ((f : F) (key : List ℕ) (keeps : Bool) (w : V) (g : F) → asked f key v keeps w g → keeps ≡ true)
+      → RetainsFrom asked 1 f 0 ((key, v) ∷ []) kept → kept ≡ (key, v) ∷ []
+  one_kept f key v kept keeps_it h =
+      let got : ◌≡◌ {A = Option (List ℕ × V)} (Some (key, v)) (Some (h.0, h.1)) = h.5 in
+      let pair : ◌≡◌ {A = List ℕ × V} (h.0, h.1) (key, v) = cc in
+      let same : h.1 ≡ v = ap (λ (p : List ℕ × V). p.1) pair in
+      let keeps : h.2 ≡ true = keeps_it f h.0 h.2 h.3 h.4 (subst (λ x. asked f h.0 x h.2 h.3 h.4) same h.6) in
+      let left : h.3 ≡ v = stays f h.0 h.1 h.2 h.3 h.4 h.6 ∙ same in
+      let ps : List (List ℕ × V) = (key, v) ∷ [] in
+      subst (λ b. RetainsFrom asked 0 h.4 (if b then 1 else 0) (if b then with_value ps 0 h.3 else swap_out ps 0) kept) keeps h.7
+      ∙ ap (λ w. (key, w) ∷ []) left
+
+  pub second_kept : (f : F) (k₁ k₂ : List ℕ) (v₁ v₂ : V) (kept : List (List ℕ × V))
+      → ((f : F) (key : List ℕ) (keeps : Bool) (w : V) (g : F) → asked f key v₁ keeps w g → keeps ≡ false)
+      → ((f : F) (key : List ℕ) (keeps : Bool) (w : V) (g : F) → asked f key v₂ keeps w g → keeps ≡ true)
+      → Retains asked f ((k₁, v₁) ∷ (k₂, v₂) ∷ []) kept → kept ≡ (k₂, v₂) ∷ []
+  second_kept f k₁ k₂ v₁ v₂ kept drops_it keeps_it h =
+      let got : ◌≡◌ {A = Option (List ℕ × V)} (Some (k₁, v₁)) (Some (h.0, h.1)) = h.5 in
+      let pair : ◌≡◌ {A = List ℕ × V} (h.0, h.1) (k₁, v₁) = cc in
+      let same : h.1 ≡ v₁ = ap (λ (p : List ℕ × V). p.1) pair in
+      let keeps : h.2 ≡ false = drops_it f h.0 h.2 h.3 h.4 (subst (λ x. asked f h.0 x h.2 h.3 h.4) same h.6) in
+      let ps : List (List ℕ × V) = (k₁, v₁) ∷ (k₂, v₂) ∷ [] in
+      one_kept h.4 k₂ v₂ kept keeps_it
+      (subst (λ b. RetainsFrom asked 1 h.4 (if b then 1 else 0) (if b then with_value ps 0 h.3 else swap_out ps 0) kept) keeps h.7)

@@ -1,0 +1,7 @@
+pub mod Children
+pub mod Counted
+pub mod NamedParts
+pub mod Options
+pub mod Positions
+pub mod PutBack
+pub mod Walked

@@ -1,0 +1,65 @@
+-- The value that a token names in a value, as the lists of items and of pairs give it.
+use Rattle.std.proofs.Common.{◌≡◌, ℕ, Bool, true, false, List, [], ◌∷◌, Option, Some, None, Result, Ok, Err, IfOk, IfErr, option_map}
+use Rattle.std.proofs.Common.{option_copied, eqb, length, refl, ap, ◌∙◌, arith}
+use Rattle.std.specs.Prelude.{◌==◌, ◌≢◌, option_and_then, slice_get}
+use Rattle.std.proofs.lemmas.Bool.{eqb-true}
+use Rattle.std.proofs.lemmas.Bool.Decides.{nat_tests}
+use denote.Ref.{Bor}
+use mathlib.Core.Bool.{true≢false}
+use Rattle.ijson_table.specs.Store.{Store, lookup}
+use Rattle.ijson_value.specs.Step.{by_position, tree_at}
+use Rattle.ijson_value.specs.Values.{array_tree, array_value, object_value}
+use Rattle.ijson_value.specs.laws.Steps.{item_at, value_at}
+use Rattle.ijson_value.proofs.Found.{found_tree}
+use Rattle.ijson_value.specs.WellFormed.{WellFormed, tree_of}
+use Rattle.ijson_value.specs.Tree.{Tree}
+use Rattle.ijson_extra.specs.Pointer.{meant, all_meant, written_tokens, position_named, child_at, followed, resolved}
+use Rattle.ijson_extra.proofs.tokens.Positions.{same_position}
+
+item_named : (vs : List WellFormed) (o : Option ℕ)
+    → option_map tree_of (option_and_then (slice_get vs) o) ≡ option_and_then (tree_at (array_tree vs)) (option_map by_position o)
+item_named vs None = refl
+item_named vs (Some i) = item_at vs i
+
+-- the item at the position that a token names
+pub child_item : (v : WellFormed) (vs : List WellFormed) (o : Option (Bor WellFormed)) (token m : List ℕ) → array_value vs ≡ v
+    → option_map (λ x. x.now.tree) o ≡ option_map tree_of (option_and_then (slice_get vs) (position_named token)) → meant token ≡ Some m
+    → option_map (λ x. x.now.tree) o ≡ child_at v.tree m
+child_item v vs o token m is e f =
+    e ∙ item_named vs (position_named token)
+    ∙ ap (λ p. option_and_then (tree_at (array_tree vs)) (option_map by_position p)) (same_position token m f)
+    ∙ ap (λ w. child_at (tree_of w) m) is
+
+-- the value beside the key that a token means
+pub child_member : (v : WellFormed) (s : Store WellFormed) (o : Option (Bor WellFormed)) (m : List ℕ) → object_value s ≡ v
+    → option_copied o ≡ lookup m s.pairs
+    → option_map (λ x. x.now.tree) o ≡ child_at v.tree m
+child_member v s o m is e = found_tree o ∙ ap (option_map tree_of) e ∙ value_at s.pairs m ∙ ap (λ w. child_at (tree_of w) m) is
+
+-- ---- answers of `step`
+pub ok_then : {A E : Type 0} {P Q : A → Type 0} (r : Result A E) → IfOk r P → ((x : A) → P x → Q x) → IfOk r Q
+ok_then (Ok x) h f = f x h
+ok_then (Err e) h f = tt
+
+pub err_then : {A E : Type 0} {P Q : Type 0} (r : Result A E) → IfErr r (λ e. P) → (P → Q) → IfErr r (λ e. Q)
+err_then (Ok x) h f = tt
+err_then (Err e) h f = f h
+
+pub err_any : {A E : Type 0} {Q : Type 0} (r : Result A E) → Q → IfErr r (λ e. Q)
+err_any (Ok x) q = tt
+err_any (Err e) q = q
+
+-- ---- a text that is no pointer
+begins_by : (t : Tree) (b : ℕ) (text : List ℕ) (r : Bool) → eqb b 47 ≡ r → ((rest : List ℕ) → b ∷ text ≢ 47 ∷ rest)
+    → resolved t (b ∷ text) ≡ None
+begins_by t b text true e h = absurd (h text (ap (λ c. c ∷ text) (eqb-true b 47 e)))
+begins_by t b text false e h = ap (λ (r : Bool). option_map (followed t) (elim r [ true ↦ all_meant (written_tokens text) | false ↦ None ]))
+    e
+
+pub no_pointer : (t : Tree) (text : List ℕ) → (length text == 0) ≡ false → ((rest : List ℕ) → text ≢ 47 ∷ rest) → resolved t text ≡ None
+no_pointer t [] e h = absurd (true≢false e)
+no_pointer t (b ∷ text) e h = begins_by t b text (eqb b 47) refl h
+
+pub not_empty : (text : List ℕ) → (text ≡ [] → ⊥) → (length text == 0) ≡ false
+not_empty [] h = absurd (h refl)
+not_empty (b ∷ text) h = grind (arith, nat_tests)

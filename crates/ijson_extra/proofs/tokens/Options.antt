@@ -1,0 +1,35 @@
+-- What may be there: answers that hold a value or none.
+use Rattle.std.proofs.Common.{◌≡◌, Option, Some, None, refl, sym, ap, MutBor}
+use Rattle.std.specs.Prelude.{OnSome, IsSome, option_map}
+use Rattle.ijson_value.specs.Tree.{Tree}
+use Rattle.ijson_value.specs.WellFormed.{WellFormed}
+
+abbrev or_this : {A : Type 0} → A → Option A → A
+or_this d None = d
+or_this d (Some x) = x
+
+pub some_is : {A : Type 0} (x y : A) → Some x ≡ Some y → x ≡ y
+some_is x y e = ap (or_this x) e
+
+pub not_both : {A P : Type 0} (x : A) → None ≡ Some x → P
+not_both x e = absurd (cc)
+
+pub on_some : {A P : Type 0} (r : Option A) → (IsSome r → P) → OnSome r P
+on_some None p = tt
+on_some (Some x) p = p refl
+
+pub on_both : {A P Q : Type 0} (r : Option A) → (P → Q) → OnSome r P → OnSome r Q
+on_both None f p = tt
+on_both (Some x) f p = f p
+
+pub on_seen : {P : Type 0} (r : Option (MutBor WellFormed)) (t : Tree) → option_map (λ v. v.now.tree) r ≡ Some t → OnSome r P → P
+on_seen None t e p = not_both t e
+on_seen (Some v) t e p = p
+
+pub there_too : (r : Option (MutBor WellFormed)) (o : Option Tree) → option_map (λ v. v.now.tree) r ≡ o → IsSome r → IsSome o
+there_too None o e h = absurd (cc)
+there_too (Some v) o e h = rw (sym e) refl
+
+pub some_there : {A : Type 0} (o : Option A) → IsSome o → (x : A) × (o ≡ Some x)
+some_there None h = absurd (cc)
+some_there (Some x) h = (x, refl)

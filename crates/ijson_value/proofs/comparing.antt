@@ -1,0 +1,2 @@
+pub mod OrderSteps
+pub mod SameSteps

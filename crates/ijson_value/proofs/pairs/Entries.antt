@@ -1,0 +1,100 @@
+-- What entries rest on.
+use Rattle.std.proofs.Common.{◌≡◌, ◌<◌, ℕ, zero, suc, List, [], ◌∷◌, ◌++◌, length, get_or, refl, sym, ap, ◌∙◌, Option, Some, None, arith}
+use Rattle.std.specs.Prelude.{slice_get, option_map, IsSome}
+use denote.Struct.Props.{props}
+use Rattle.ijson_table.proofs.pairs.KeyPositions.{position-some, position-distinct}
+use Rattle.ijson_table.proofs.pairs.PairsByKey.{lookup-found, position_within, keys-length}
+use Rattle.ijson_table.proofs.pairs.SameStores.{store_path}
+use Rattle.ijson_table.specs.Growth.{Ungrown}
+use Rattle.ijson_table.specs.Store.{Store, at, lookup, keys_of, swap_out, with_value}
+use Rattle.ijson_table.specs.declared.store.ReserveError.{ReserveError}
+use Rattle.ijson_table.specs.declared.store.ReserveError.TheVariants.{Memory, TooLarge}
+use Rattle.ijson_table.specs.StoreWithValue.{store_with_value}
+use Rattle.ijson_value.specs.AtKey.{swap_out_key, swapped_at}
+use Rattle.ijson_value.specs.WellFormed.{WellFormed}
+use Rattle.ijson_value.specs.WithEntry.{with_entry_value}
+use Rattle.ijson_value.specs.declared.object.entry.OccupiedEntry.{OccupiedEntry}
+use Rattle.ijson_value.specs.laws.EntryValid.{still_valid}
+use Rattle.ijson_value.proofs.pairs.PairLookups.{pair_there}
+
+-- a refused growth leaves the capacity
+pub refused_capacity : (len c n c' : ℕ) (why : ReserveError) → Ungrown len c n why c' → c' ≡ c
+refused_capacity len c n c' Memory g = g.0
+refused_capacity len c n c' TooLarge g = g.0
+
+pub is_there : {A : Type 0} (o : Option A) (x : A) → o ≡ Some x → IsSome o
+is_there None x e = cc
+is_there (Some y) x e = refl
+
+module _ {V : Type 0} where
+  -- the object after a refused growth is the one before
+  pub refused_same : (old new : Store V) (why : ReserveError) → Ungrown (length old.pairs) old.capacity 1 why new.capacity
+      → new.pairs ≡ old.pairs → new ≡ old
+  refused_same old new why g e = store_path new old e (refused_capacity (length old.pairs) old.capacity 1 new.capacity why g)
+
+  -- the key at the position of a key
+  pub key_there : (pairs : List (List ℕ × V)) (key : List ℕ) (i : ℕ) → at pairs key ≡ Some i → get_or (keys_of pairs) i [] ≡ key
+  key_there pairs key i e = (position-some (keys_of pairs) key i e).1
+
+  -- the key of the pair at a position
+  pub key_got : (pairs : List (List ℕ × V)) (i : ℕ) (pair : List ℕ × V) → slice_get pairs i ≡ Some pair
+      → get_or (keys_of pairs) i [] ≡ pair.0
+  key_got [] i pair e = cc
+  key_got (p ∷ ps) zero pair e = let same : p ≡ pair = cc in ap (λ q. q.0) same
+  key_got (p ∷ ps) (suc i) pair e = key_got ps i pair e
+
+  -- the value at the position of a key
+  pub value_there : (pairs : List (List ℕ × V)) (key : List ℕ) (i : ℕ) → at pairs key ≡ Some i
+      → option_map (λ pair. pair.1) (slice_get pairs i) ≡ lookup key pairs
+  value_there pairs key i e =
+      let got = pair_there pairs i (position_within pairs key i e) in
+      ap (option_map (λ pair. pair.1)) got.1 ∙ sym (lookup-found pairs key i got.0 e got.1)
+
+  -- the value that was written last stands there
+  pub value_set : (pairs : List (List ℕ × V)) (i : ℕ) (w : V) → i < length pairs
+      → option_map (λ pair. pair.1) (slice_get (with_value pairs i w) i) ≡ Some w
+  value_set [] i w li = absurd (omega arith)
+  value_set (p ∷ ps) zero w li = refl
+  value_set (p ∷ ps) (suc i) w li = value_set ps i w (omega arith)
+
+  twice : (pairs : List (List ℕ × V)) (i : ℕ) (v w : V) → with_value (with_value pairs i v) i w ≡ with_value pairs i w
+  twice [] i v w = refl
+  twice (p ∷ ps) zero v w = refl
+  twice (p ∷ ps) (suc i) v w = ap (λ l. p ∷ l) (twice ps i v w)
+
+  pub store_twice : (s : Store V) (i : ℕ) (v w : V) → store_with_value (store_with_value s i v) i w ≡ store_with_value s i w
+  store_twice s i v w = store_path (store_with_value (store_with_value s i v) i w) (store_with_value s i w) (twice s.pairs i v w) refl
+
+  -- the pair that was pushed is at the end, and writing there is what pushing the other value does
+  pub written_last : (pairs : List (List ℕ × V)) (key : List ℕ) (v w : V)
+      → with_value (pairs ++ (key, v) ∷ []) (length pairs) w ≡ pairs ++ (key, w) ∷ []
+  written_last [] key v w = refl
+  written_last (p ∷ ps) key v w = ap (λ l. p ∷ l) (written_last ps key v w)
+
+  pub got_last : (pairs : List (List ℕ × V)) (key : List ℕ) (v : V) → slice_get (pairs ++ (key, v) ∷ []) (length pairs) ≡ Some (key, v)
+  got_last [] key v = refl
+  got_last (p ∷ ps) key v = got_last ps key v
+
+  pub same_value : {p q : List ℕ × V} → Some p ≡ Some q → p.1 ≡ q.1
+  same_value {p} {q} e = let same : p ≡ q = cc in ap (λ x. x.1) same
+
+  -- to take out the pair at a position is to take out its key
+  pub swap_out_there : (s : Store V) (i : ℕ) → i < length s.pairs
+      → swap_out s.pairs i ≡ swap_out_key (get_or (keys_of s.pairs) i []) s.pairs
+  swap_out_there s i within =
+      let found : at s.pairs (get_or (keys_of s.pairs) i []) ≡ Some i =
+      position-distinct (keys_of s.pairs) (get_or (keys_of s.pairs) i []) i s.distinct (omega (arith, within, keys-length s.pairs)) refl in
+      ap (λ o. swapped_at o s.pairs) (sym found)
+
+-- the entry after a write, whatever shows that its position is within
+pub rewritten : (o : OccupiedEntry) (w : WellFormed) (v : o.index < length (with_value o.object.now.pairs o.index w))
+    → ◌≡◌ {A = OccupiedEntry}
+    (record { object = record o.object { now = store_with_value o.object.now o.index w }; index = o.index; valid = v })
+    (with_entry_value o w)
+rewritten o w v =
+    let same : IsProp (o.index < length (with_value o.object.now.pairs o.index w)) = hlevel props in
+    λ i. record {
+      object = record o.object { now = store_with_value o.object.now o.index w };
+      index = o.index;
+      valid = same v (still_valid o w) i;
+    }

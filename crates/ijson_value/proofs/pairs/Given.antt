@@ -1,0 +1,36 @@
+-- The pairs that an object gives, where they are put into another one.
+use Rattle.std.proofs.Common.{◌≡◌, ℕ, List, ◌∷◌, length, take, Result, Ok, Err, Some, refl, sym, subst, ◌∙◌}
+use Rattle.std.specs.Prelude.{OnOk, IfErr, MatchResult, slice_get}
+use Rattle.std.specs.Iterator.{YieldsFirst}
+use Rattle.ijson_value.specs.Gives.{GivesAll, GivesThen, GivesList}
+use Rattle.ijson_value.proofs.FromMaps.{all_given, then_given}
+use Rattle.ijson_value.proofs.pairs.PutInTurn.{first_left}
+
+pub on_ok : {A E P Q : Type 0} (r : Result A E) → (P → Q) → OnOk r P → OnOk r Q
+on_ok (Ok x) f p = f p
+on_ok (Err e) f p = tt
+
+module _ {X : Type 0} (all : List X) where
+  abbrev starts : List X → List X → Type 0
+  starts xs it = it ≡ xs
+
+  -- it gives its items
+  pub gives_list : GivesList starts (YieldsFirst (λ (s : List X). s)) all all
+  gives_list xs gives = sym (all_given gives.0 xs gives.2) ∙ gives.1
+
+  -- what holds of those that it gave holds of all
+  pub all_put : {A E : Type 0} (r : Result A E) (Q : E → Type 0) (added : List X) (P : List X → Type 0)
+      → MatchResult r (λ _. GivesAll starts (YieldsFirst (λ (s : List X). s)) all added) Q → P added → OnOk r (P all)
+  all_put (Ok x) Q added P gives p = subst P (gives_list added gives) p
+  all_put (Err e) Q added P gives p = tt
+
+  -- or of those before the one that came back
+  pub some_put : {A E : Type 0} (r : Result A E) (Q : A → Type 0) (item : E → X) (F : E → Type 0) (added : List X) (P : List X → Type 0)
+      → MatchResult r Q (λ e. GivesThen starts (YieldsFirst (λ (s : List X). s)) all added (item e) × F e) → P added
+      → IfErr r (λ e. (n : ℕ) × (slice_get all n ≡ Some (item e)) × P (take n all) × F e)
+  some_put (Ok x) Q item F added P gives p = tt
+  some_put (Err e) Q item F added P gives p =
+      let given = gives.0 in
+      let whole = sym given.2 ∙ then_given given.0 added (item e) given.1 given.3 in
+      let at_item = first_left all added (item e ∷ given.1) (item e) given.1 whole refl in
+      (length added, at_item.0, subst P (sym at_item.1) p, gives.1)
