@@ -2,7 +2,7 @@
 //!
 //! A number is an exact decimal that keeps whether it was written with a point; an object is an ordered list of pairs with distinct keys,
 //! equal to another in any order of its pairs. Texts are read by `json::from_json` and written by `json::to_json`, and everything that
-//! takes memory can answer that there is none. This crate gives the library's modules on.
+//! takes memory can answer that there is none. This crate re-exports the library's modules.
 //!
 //! Tests: `src/tests`, of arrays, values, conversions, literals and errors, and `src/examples`, small programs with contracts of their own.
 #![tactic(auto)]

@@ -8,7 +8,7 @@ mod refusals;
 mod serde;
 mod values;
 
-use crate::json::from_json;
+use crate::json::{from_json, to_json};
 use crate::string::{IString, StringCache};
 use crate::value::IValue;
 use std::alloc::Global;
@@ -29,4 +29,10 @@ fn key(rt: &impl Abort, alloc: Global, letters: &str) -> IString {
 /// What `text` spells, through a cache of its own.
 pub(crate) fn parsed(rt: &impl Abort, alloc: Global, text: &str) -> IValue {
     from_json(alloc, &mut empty_cache(alloc), text).expect(rt, text)
+}
+
+/// Asserts what is written of a value.
+pub(crate) fn is_written(rt: &impl Abort, alloc: Global, value: &IValue, text: &str) {
+    let found = to_json(alloc, value).expect(rt, "a text");
+    assert!(rt; found.as_str() == text, "{text}");
 }

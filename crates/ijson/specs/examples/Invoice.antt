@@ -3,20 +3,20 @@ use Rattle.std.specs.Prelude.{◌≡◌, ℕ, ℤ, pos, ◌+ℤ◌, Some, codes,
 use Rattle.std.specs.Int.{w64}
 use Rattle.ijson_value.specs.Integers.{HasInteger}
 use Rattle.ijson_value.specs.Step.{by_key, by_position, tree_at}
-use Rattle.ijson_value.specs.Tree.{Tree, Items, no_items, item, null, boolean, number, string, array, object}
+use Rattle.ijson_value.specs.Tree.{Tree, Items, no_items, item, array}
 
 -- beside "amount" stands this whole number
 abbrev pub HasAmount : Tree → ℤ → Type 0
 HasAmount t z = (a : Tree) × (tree_at t (by_key (codes "amount")) ≡ Some a) × HasInteger a z
 
--- each item has an amount, and this is their sum
-abbrev pub AmountsSumTo : Items → ℤ → Type 0
-AmountsSumTo no_items z = z ≡ pos 0
-AmountsSumTo (item t ts) z = (a : ℤ) × (s : ℤ) × HasAmount t a × AmountsSumTo ts s × (z ≡ a +ℤ s)
+-- each item has an amount, and `sum` with these added to it, one after the other, is z
+abbrev pub AmountsAddTo : (sum : ℤ) → Items → ℤ → Type 0
+AmountsAddTo sum no_items z = z ≡ sum
+AmountsAddTo sum (item t ts) z = (a : ℤ) × HasAmount t a × AmountsAddTo (sum +ℤ a) ts z
 
--- an array of such items
+-- an array of such items, whose amounts added to zero are z
 abbrev pub IsTotal : Tree → ℤ → Type 0
-IsTotal (array ts) z = AmountsSumTo ts z
+IsTotal (array ts) z = AmountsAddTo (pos 0) ts z
 IsTotal _ z = ⊥
 
 -- the item at this position has no amount that fits 64 bits with a sign

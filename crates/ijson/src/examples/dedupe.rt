@@ -5,11 +5,11 @@ ghost use Rattle.ijson_value.specs.SameTest.{same};
 ghost use Rattle.ijson_value.specs.WellFormed.{WellFormed};
 ghost use Rattle.ijson_value.specs.laws.EqualAmong.{has_equal};
 
-use crate::json::to_json;
-use crate::tests::parsed;
+use crate::tests::{is_written, parsed};
 use crate::{IArray, IValue};
 use indexmap::IndexSet;
 use std::alloc::{AllocError, Global};
+use std::process::Abort;
 
 /// The items that are equal to no earlier one, in their order. No two of them are equal, and each item is equal to one of them.
 fn without_repeats(alloc: Global, items: IArray) -> Result<IArray, AllocError>
@@ -25,15 +25,18 @@ fn without_repeats(alloc: Global, items: IArray) -> Result<IArray, AllocError>
     Ok(kept)
 }
 
+/// What is left of the list that a text spells.
+fn left_of(rt: &impl Abort, alloc: Global, text: &str) -> IValue {
+    let items = parsed(rt, alloc, text).into_array().expect(rt, "an array");
+    IValue::from(without_repeats(alloc, items).expect(rt, "memory"))
+}
+
 #[test]
 fn repeats(rt: HostRuntime) {
-    let given = parsed(
+    let left = left_of(
         &rt,
         rt.alloc(),
         "[1,{\"a\":1,\"b\":2},1.0,\"1\",{\"b\":2,\"a\":1e0},[],1]",
     );
-    let items = given.into_array().expect(&rt, "an array");
-    let kept = IValue::from(without_repeats(rt.alloc(), items).expect(&rt, "memory"));
-    let found = to_json(rt.alloc(), &kept).expect(&rt, "a text");
-    assert!(rt; found.as_str() == "[1,{\"a\":1,\"b\":2},\"1\",[]]");
+    is_written(&rt, rt.alloc(), &left, "[1,{\"a\":1,\"b\":2},\"1\",[]]");
 }

@@ -3,8 +3,7 @@ ghost use Rattle.std.specs.Prelude.{◌≡◌, IfOk};
 ghost use Rattle.ijson.specs.examples.MergePatch.{merged, members_in};
 ghost use Rattle.ijson_value.specs.Values.{object_tree};
 
-use crate::json::to_json;
-use crate::tests::parsed;
+use crate::tests::{is_written, parsed};
 use crate::{IObject, IValue};
 use std::alloc::{AllocError, Global};
 use std::mem;
@@ -86,7 +85,6 @@ fn patched(rt: &impl Abort, alloc: Global, target: &str, patch: &str) -> IValue 
 fn patches(rt: HostRuntime) {
     for (target, patch, want) in MERGED {
         let value = patched(&rt, rt.alloc(), target, patch);
-        let found = to_json(rt.alloc(), &value).expect(&rt, "a text");
-        assert!(rt; found.as_str() == want, "{target} {patch}");
+        is_written(&rt, rt.alloc(), &value, want);
     }
 }

@@ -4,9 +4,10 @@ ghost use Rattle.std.specs.Option.{option_or};
 ghost use Rattle.ijson_value.specs.Step.{by_key, tree_at};
 
 use crate::IValue;
-use crate::json::to_json;
 use crate::object::RefusedPair;
-use crate::tests::parsed;
+use crate::tests::{is_written, parsed};
+use std::alloc::Global;
+use std::process::Abort;
 
 /// Writes each setting of `over` into `base`; other settings stay. False where one of them is no object.
 fn overlay(base: &mut IValue, over: IValue) -> Result<bool, RefusedPair>
@@ -37,13 +38,17 @@ const LAID_OVER: [(&str, &str, &str); 5] = [
     ("{\"b\":3}", "null", "{\"b\":3}"),
 ];
 
+/// What settings leave of defaults, both as texts.
+fn laid_over(rt: &impl Abort, alloc: Global, base: &str, over: &str) -> IValue {
+    let mut value = parsed(rt, alloc, base);
+    let _done = overlay(&mut value, parsed(rt, alloc, over)).expect(rt, "room");
+    value
+}
+
 #[test]
 fn settings(rt: HostRuntime) {
     for (base, over, want) in LAID_OVER {
-        let mut value = parsed(&rt, rt.alloc(), base);
-        let over = parsed(&rt, rt.alloc(), over);
-        let _done = overlay(&mut value, over).expect(&rt, "room");
-        let found = to_json(rt.alloc(), &value).expect(&rt, "a text");
-        assert!(rt; found.as_str() == want, "{base}");
+        let value = laid_over(&rt, rt.alloc(), base, over);
+        is_written(&rt, rt.alloc(), &value, want);
     }
 }

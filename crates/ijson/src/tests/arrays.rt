@@ -44,6 +44,11 @@ fn is_item(item: Option<IValue>, want: u8) -> bool {
     }
 }
 
+/// Whether no item was there.
+fn is_nothing(item: Option<IValue>) -> bool {
+    item.is_none()
+}
+
 /// Inserts, removes and writes items, and knows which are left.
 fn edited(alloc: Global, item: IValue) -> Result<IArray, Refused>
     ensures { IfOk result (λ array. array.items ≡ boolean_value true ∷ item ∷ []) }
@@ -69,10 +74,14 @@ fn push_three(array: &mut IArray) -> Result<(), AllocError>
     Ok(())
 }
 
-/// Takes out where there is nothing, and inserts before, behind and between.
+/// Takes out where there is nothing.
+fn gives_nothing(rt: &impl Abort, array: &mut IArray) {
+    assert!(rt; is_nothing(array.remove(0)) && is_nothing(array.swap_remove(0)));
+    assert!(rt; is_nothing(array.pop()));
+}
+
+/// Inserts before, behind and between.
 fn inserts(rt: &impl Abort, array: &mut IArray) {
-    assert!(rt; array.remove(0).is_none() && array.swap_remove(0).is_none());
-    assert!(rt; array.pop().is_none());
     array.insert(0, IValue::NULL).expect(rt, "an item");
     array.push(IValue::TRUE).expect(rt, "an item");
     array.insert(1, IValue::FALSE).expect(rt, "an item");
@@ -82,13 +91,14 @@ fn inserts(rt: &impl Abort, array: &mut IArray) {
 fn insertions(rt: HostRuntime) {
     let mut array = IArray::new(rt.alloc());
     assert!(rt; array.capacity() == 0);
+    gives_nothing(&rt, &mut array);
     inserts(&rt, &mut array);
     assert!(rt; is_spelled(&array, "nft"));
 }
 
 /// Takes the items of `ntf` out in two ways, and leaves the first.
 fn removes(rt: &impl Abort, array: &mut IArray) {
-    assert!(rt; array.swap_remove(3).is_none() && array.remove(3).is_none());
+    assert!(rt; is_nothing(array.swap_remove(3)) && is_nothing(array.remove(3)));
     assert!(rt; is_item(array.remove(1), b't') && is_item(array.pop(), b'f'));
     assert!(rt; is_spelled(array, "n"));
 }
@@ -138,7 +148,7 @@ fn gives_out(rt: &impl Abort, array: IArray) {
         assert!(rt; items.size_hint() == (left, Some(left)));
         assert!(rt; items.len() == left && is_item(items.next(), item));
     }
-    assert!(rt; items.len() == 0 && items.next().is_none() && items.next().is_none());
+    assert!(rt; items.len() == 0 && is_nothing(items.next()) && is_nothing(items.next()));
 }
 
 /// How many items are left, and the letter of the next one.

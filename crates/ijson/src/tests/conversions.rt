@@ -1,5 +1,5 @@
 use super::refusals::object_of_map;
-use super::{Cache, empty_cache, parsed};
+use super::{Cache, empty_cache, is_written, parsed};
 use crate::convert::{
     ConvertError, FromIValue, ToIValue, from_serde, from_value, to_serde, to_value,
 };
@@ -18,8 +18,7 @@ fn written(rt: &impl Abort, alloc: Global, value: &IValue) -> String {
 
 /// Asserts what is written of the value of a literal.
 fn is_literal(rt: &impl Abort, alloc: Global, value: Result<IValue, ConvertError>, want: &str) {
-    let value = value.expect(rt, "a value");
-    assert!(rt; written(rt, alloc, &value).as_str() == want);
+    is_written(rt, alloc, &value.expect(rt, "a value"), want);
 }
 
 // Each literal stands in a function of its own, with nothing else there to drop: each call that its tokens make is a way out of it, on which the
@@ -151,7 +150,7 @@ fn pairs_of_maps_are_objects(rt: HostRuntime) {
         let value = of_map(&rt, alloc, &mut cache, kind);
         assert!(rt; value == same);
         if let Some(text) = order {
-            assert!(rt; written(&rt, alloc, &value).as_str() == *text);
+            is_written(&rt, alloc, &value, text);
         }
     }
 }
@@ -375,13 +374,22 @@ fn goes_back<T: ToIValue + FromIValue + PartialEq + Drop>(
     value
 }
 
-/// Many more items, pairs and letters than there is room for at first. The object of a map has room for its pairs alone.
+/// Many more letters, items and pairs than there is room for at first.
 #[test]
-fn much_goes_there_and_back(rt: HostRuntime) {
+fn many_letters_go_there_and_back(rt: HostRuntime) {
     let letters = "a".repeat(rt.alloc(), 100_000).expect(&rt, "the letters");
     drop(goes_back(&rt, rt.alloc(), &letters));
+}
+
+#[test]
+fn many_items_go_there_and_back(rt: HostRuntime) {
     let items = goes_back(&rt, rt.alloc(), &numbers(&rt, rt.alloc(), 100_000));
     assert!(rt; items.len() == Some(100_000));
+}
+
+/// The object of a map has room for its pairs alone.
+#[test]
+fn many_pairs_go_there_and_back(rt: HostRuntime) {
     let pairs = goes_back(&rt, rt.alloc(), &numbered(&rt, rt.alloc(), 10_000));
     let object = pairs.as_object().expect(&rt, "an object");
     assert!(rt; object.len() == 10_000 && object.capacity() == 10_000);

@@ -1,10 +1,11 @@
-use Rattle.std.proofs.Common.{rules, ◌≡◌, ◌∙◌, ap, sym, subst, FitsSigned, to_z, of_z, ◌+ℤ◌}
+use Rattle.std.proofs.Common.{rules, ◌≡◌, ◌∙◌, ap, refl, sym, subst, drop_of_length-le, FitsSigned, to_z, of_z, ◌+ℤ◌}
 use Rattle.std.specs.Int.{w64}
 use Rattle.std.proofs.lemmas.Int.{to_z-of_z}
 use Rattle.ijson_value.specs.Values.{array_value}
+use Rattle.ijson_value.specs.WellFormed.{item_trees}
 use Rattle.ijson_value.specs.laws.TreeLookups.{item_of_loop}
-use Rattle.ijson.specs.examples.Invoice.{LacksAmount}
-use Rattle.ijson.proofs.example_lemmas.Invoices.{one_more, all_summed}
+use Rattle.ijson.specs.examples.Invoice.{AmountsAddTo, IsTotal, LacksAmount}
+use Rattle.ijson.proofs.example_lemmas.Invoices.{one_more}
 use Rattle.ijson.proofs.examples.invoice.invoice_total.Goals as goal
 
 pub returns-in_default-amount_of-clause-no_amount : goal.returns-in_default-amount_of-clause-no_amount
@@ -22,10 +23,14 @@ loop-i-preserved c =
     let fits_more : FitsSigned w64 c.in-Some-checked_add.more = subst (λ z. FitsSigned w64 z) (sym added.1) added.0 in
     let e : to_z w64 (of_z w64 c.in-Some-checked_add.more) ≡ to_z w64 c.loop-i.sum-bits +ℤ c.in-Some-amount_of.amount =
     to_z-of_z w64 c.in-Some-checked_add.more fits_more ∙ (added.1 ∙ ap (λ z. to_z w64 c.loop-i.sum-bits +ℤ z) (to_z-of_z w64 c.in-Some-amount_of.amount fits)) in
-    one_more c.as_slice-item-items.result.now c.loop-i.i c.item-item.result c.in-Some-amount_of.amount (to_z w64 c.loop-i.sum-bits)
-    (to_z w64 (of_z w64 c.in-Some-checked_add.more)) c.loop-i-test.true c.item-item.is c.in-Some-amount_of.ensures.some e c.loop-i.invariant
+    λ z left. c.loop-i.invariant z (one_more c.as_slice-item-items.result.now c.loop-i.i c.item-item.result c.in-Some-amount_of.amount
+    (to_z w64 c.loop-i.sum-bits) (to_z w64 (of_z w64 c.in-Some-checked_add.more)) z c.loop-i-test.true c.item-item.is
+    c.in-Some-amount_of.ensures.some e left)
 
 pub returns-clause-total : goal.returns-clause-total
 returns-clause-total c =
-    all_summed c.args.records.now c.as_slice-item-items.result.now c.loop-i.i (to_z w64 c.loop-i.sum-bits)
-    (c.in-Some.ensures.some ∙ ap array_value (sym c.as_slice-item-items.ensures)) c.loop-i-test.false c.loop-i.invariant
+    let items = c.as_slice-item-items.result.now in
+    let sum = to_z w64 c.loop-i.sum-bits in
+    let none_left = subst (λ vs. AmountsAddTo sum (item_trees vs) sum) (sym (drop_of_length-le items c.loop-i-test.false)) refl in
+    let whole = c.in-Some.ensures.some ∙ ap array_value (sym c.as_slice-item-items.ensures) in
+    subst (λ v. IsTotal v.tree sum) (sym whole) (c.loop-i.invariant sum none_left)

@@ -1,5 +1,9 @@
-use Rattle.ijson.proofs.example_lemmas.Invoices.{AllSumTo}
+use Rattle.std.proofs.Common.{ℤ, pos, drop}
+use Rattle.ijson_value.specs.WellFormed.{item_trees}
+use Rattle.ijson.specs.examples.Invoice.{AmountsAddTo}
 use Rattle.ijson.proofs.examples.invoice.invoice_total.Given as goal
 
+-- what the items that are left add to the sum so far, all items add to zero
 abbrev pub invariant-loop-i : goal.invariant-loop-i
-invariant-loop-i l = AllSumTo l.item-items l.i l.sum
+invariant-loop-i l =
+    (z : ℤ) → AmountsAddTo l.sum (item_trees (drop l.i l.item-items)) z → AmountsAddTo (pos 0) (item_trees l.item-items) z
