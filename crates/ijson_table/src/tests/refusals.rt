@@ -100,7 +100,7 @@ fn is_e_back(refused: &RefusedPair<u32>) -> bool {
 /// Asserts that a key that a full store of four pairs has takes no memory.
 fn replaces<S: Store>(rt: &impl Abort, alloc: Global, store: &mut S) {
     let replaced = store.put(key(rt, alloc, "a"), 1);
-    assert!(rt; matches!(replaced, Ok(Some(1))));
+    assert!(rt; matches!(replaced, Ok(Some(1))) && holds(store, &PAIRS[..4], 4));
 }
 
 /// Puts a new key into that store: where it is refused, it is taken when it is put again.

@@ -72,17 +72,22 @@ fn commands_and_looks_are_shown(rt: HostRuntime) {
     shows(&rt, alloc, &insertion, "Insert(\"a\", 1)");
 }
 
-/// Whether what is shown of a store with one pair begins so.
-fn begins<P: PairStore<u64> + Debug + Drop>(rt: &impl Abort, alloc: Global, want: &str) -> bool {
+/// What is shown of a store with one pair.
+fn shown<P: PairStore<u64> + Debug + Drop>(rt: &impl Abort, alloc: Global) -> String {
     let mut store = P::new(alloc);
     insert_all(rt, alloc, &mut store, &["a"]);
-    let shown = format!(in alloc; "{store:?}").expect(rt, "a text");
-    shown.as_str().starts_with(want)
+    format!(in alloc; "{store:?}").expect(rt, "a text")
 }
 
 #[test]
 fn stores_are_shown(rt: HostRuntime) {
     let alloc = rt.alloc();
-    assert!(rt; begins::<LinearPairs<u64>>(&rt, alloc, "LinearPairs { pairs: [(\"a\", 0)] }"));
-    assert!(rt; begins::<FixedTable<u64>>(&rt, alloc, "Table { pairs: [(\"a\", 0)], index: "));
+    let list = shown::<LinearPairs<u64>>(&rt, alloc);
+    assert!(rt; list.as_str() == "LinearPairs { pairs: [(\"a\", 0)] }");
+    let table = shown::<FixedTable<u64>>(&rt, alloc);
+    assert!(rt;
+        table
+            .as_str()
+            .starts_with("Table { pairs: [(\"a\", 0)], index: ")
+    );
 }

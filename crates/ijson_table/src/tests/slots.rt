@@ -121,7 +121,8 @@ fn homes_by_length(rt: HostRuntime) {
     assert!(rt; finds(&table, "zz", None, 4));
     follows(&rt, alloc, &mut table, &GAPS_CLOSE);
     follows(&rt, alloc, &mut table, &ROUND_THE_END);
-    assert!(rt; finds(&table, "bbbb", Some(1), 1) && finds(&table, "dddd", None, 2));
+    assert!(rt; finds(&table, "ccccc", Some(0), 1) && finds(&table, "bbbb", Some(1), 1));
+    assert!(rt; finds(&table, "dddd", None, 2));
 }
 
 /// How many looks the insertions of these keys take, and that of the first one once more. The walk after a growth is not counted.

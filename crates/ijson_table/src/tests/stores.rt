@@ -1,8 +1,8 @@
 //! What each store does, the same for all of them.
 
 use super::Step::{Clear, Find, Put, Remove, Reserve, ShiftRemove, Shrink};
-use super::{AlwaysZero, ByLength, Step, has_keys, insert_all, replies_so};
-use crate::{FixedTable, LinearPairs, PairStore, ReserveError, Table};
+use super::{AlwaysZero, ByLength, Step, command, has_keys, insert_all, replies_so};
+use crate::{Command, FixedTable, LinearPairs, PairStore, Places, ReserveError, Table, run};
 use std::alloc::Global;
 use std::process::Abort;
 
@@ -119,7 +119,7 @@ fn what_is_made_of_pairs_has_no_spare_room(rt: HostRuntime) {
     insert_all(&rt, alloc, &mut table, &["a", "b", "c"]);
     let copy = copied_tightly(&rt, alloc, &table);
     assert!(rt; table.capacity() == 4 && copy.capacity() == 3 && copy.index_of("c") == Some(2));
-    assert!(rt; has_keys(copy.as_slice(), &["a", "b", "c"]));
+    assert!(rt; has_keys(copy.as_slice(), &["a", "b", "c"]) && copy.places() == 3);
 }
 
 /// Writes a value through each call that lends one, and looks at a third pair.
@@ -160,4 +160,37 @@ fn a_list_shows_its_pairs(rt: HostRuntime) {
     insert_all(&rt, rt.alloc(), &mut store, &["a", "b"]);
     assert!(rt; has_keys(store.as_slice(), &["a", "b"]));
     assert!(rt; store.get("b") == Some(&1) && store.get("c").is_none());
+}
+
+/// Steps that are run at once, and what is shown of the reply to each.
+static RUN: [(Step, &str); 6] = [
+    (Put("a", 1), "Added"),
+    (Put("a", 2), "Replaced(1)"),
+    (Find("a"), "Found(Some(0))"),
+    (ShiftRemove("a"), "Removed(Some((\"a\", 2)))"),
+    (Find("a"), "Found(None)"),
+    (Shrink, "Done"),
+];
+
+/// The commands of these steps.
+fn commands(rt: &impl Abort, alloc: Global, steps: &[(Step, &str)]) -> Vec<Command<u64>> {
+    let mut commands = Vec::new(alloc);
+    for (step, _) in steps {
+        commands
+            .push(command(rt, alloc, *step))
+            .expect(rt, "a command");
+    }
+    commands
+}
+
+#[test]
+fn a_run_replies_to_each_command(rt: HostRuntime) {
+    let alloc = rt.alloc();
+    let mut store = LinearPairs::new(alloc);
+    let replies = run(alloc, &mut store, commands(&rt, alloc, &RUN)).expect(&rt, "the replies");
+    assert!(rt; replies.len() == RUN.len() && store.capacity() == 0);
+    for (reply, (_, want)) in replies.iter().zip(&RUN) {
+        let shown = format!(in alloc; "{reply:?}").expect(&rt, "a text");
+        assert!(rt; shown.as_str() == *want);
+    }
 }
