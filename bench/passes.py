@@ -17,6 +17,8 @@ def run_once(name, library, path, count, written):
     if done.returncode:
         sys.exit(f"{name} failed on {path}: {done.stderr}")
     lines = [tuple(map(int, line.split())) for line in done.stderr.splitlines()]
+    if len(lines) != count:
+        sys.exit(f"{name} made {len(lines)} passes over {path} and not {count}")
     if {length for *_, length in lines} != {written.stat().st_size}:
         sys.exit(f"{name} does not write the same text of {path} in each pass")
     return [times for *times, _ in lines]

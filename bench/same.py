@@ -1,7 +1,7 @@
 #!/usr/bin/env python3
 """same.py [--order] [--numbers digits|floats|texts] READ WRITTEN: ends with status 0 only where both files are JSON texts of one value.
 
-With --order the members stand in one order. Numbers are compared as the nearest floating point if nothing is said; as they are (`digits`); as
+With --order the members stand in one order. Numbers are compared as the nearest floating point if nothing is said; by exact value (`digits`); as
 floating point that a reader may have rounded twice (`floats`); or the number that was read is a string of its digits now (`texts`).
 """
 

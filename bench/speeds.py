@@ -15,19 +15,18 @@ ACTS = {
 FIGURES = {"least": min, "median": statistics.median}
 
 
-def shown_speed(bytes_a_nanosecond):
-    speed = bytes_a_nanosecond * 1000
-    return f"{speed:.0f}" if speed < 100_000 else "> 99999"
+def shown_speed(size, nanoseconds):
+    return f"{size * 1000 / nanoseconds:.0f}" if size * 1000 < nanoseconds * 100_000 else "> 99999"
 
 
 def speed_table(act, passes, sizes):
-    """Megabytes of the text that is read, a second. `passes` is by the file and then by the library."""
-    lines = [head(f"{act}, MB/s", *next(iter(passes.values())))]
+    """Megabytes of the text that is read, a second, by the least time and by the median. `passes` is by the file and then by the library."""
+    lines = [head(f"{act}, MB/s, {' / '.join(FIGURES)}", *next(iter(passes.values())))]
     for file, by_library in passes.items():
         size = sizes[file]
         cells = []
         for it in by_library.values():
-            cells.append(" / ".join(shown_speed(size / figure(map(ACTS[act], it))) for figure in FIGURES.values()))
+            cells.append(" / ".join(shown_speed(size, figure(map(ACTS[act], it))) for figure in FIGURES.values()))
         lines.append(row(f"{file}, {size / 1e6:.1f} MB", *cells))
     return "\n".join(lines)
 
@@ -37,7 +36,7 @@ def ratios(passes, act, figure):
     found = {}
     for file, by_library in passes.items():
         taken = {name: FIGURES[figure](map(ACTS[act], it)) for name, it in by_library.items()}
-        found[file] = {name: it / taken[OURS] for name, it in taken.items()}
+        found[file] = {name: max(it, 1) / max(taken[OURS], 1) for name, it in taken.items()}
     return found
 
 
