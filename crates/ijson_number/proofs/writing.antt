@@ -1,5 +1,6 @@
 pub mod AsciiTexts
 pub mod Beginnings
+pub mod DigitRows
 pub mod DigitTexts
 pub mod FractionTexts
 pub mod LastDigits

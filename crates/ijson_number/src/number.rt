@@ -73,20 +73,26 @@ impl INumber {
     ghost use Rattle.ijson_number.specs.private.Prefix.{IsMantissa};
 
     /// The number that the whole text spells, with no white space round it. Memory is taken where the stored form is a
-    /// list of digits alone, and given back where such a number only begins the text. The time is linear in the length of
-    /// the text, whatever the exponent. `1.50` and `15e-1` spell equal numbers; `01`, `+1`, `.5`, `1.` and ` 1` are
-    /// `Invalid`, and so is `1e2000000000`.
+    /// list of digits alone, once the text is known to spell one. The time is linear in the length of the text, whatever the
+    /// exponent. `1.50` and `15e-1` spell equal numbers; `01`, `+1`, `.5`, `1.` and ` 1` are `Invalid`, and so is
+    /// `1e2000000000`.
     pub fn from_str(alloc: Global, text: &str) -> Result<INumber, ParseNumberError>
         ensures ok { IfOk result (λ n. Spells text.now n.decimal) }
         ensures err { IfErr result (λ e. IsRefused text.now e) }
     {
-        // where its memory is refused, the text may still be no number
-        if let Ok(Some((number, length))) = INumber::at_front(alloc, text) {
-            if length == text.len() {
-                return Ok(number);
+        let bytes = text.as_bytes();
+        // the pass of `at_front`, which takes memory once the text is known to end
+        if let Some((prefix, rest)) = read_mantissa(bytes) {
+            if rest.is_empty() {
+                return Ok(INumber::from_prefix(alloc, prefix)?);
+            }
+            if let Some((power, length)) = read_power(rest) {
+                if length == rest.len() {
+                    return Ok(INumber::from_power(alloc, prefix, power)?);
+                }
             }
         }
-        let Some(spelling) = exact::read(text.as_bytes()) else {
+        let Some(spelling) = exact::read(bytes) else {
             return Err(ParseNumberError::Invalid);
         };
         let Some(scanned) = spelling.scan() else {
@@ -96,9 +102,9 @@ impl INumber {
         Ok(number)
     }
 
-    /// The number that the text begins with, and how many bytes spell it, in one pass over them, where it has at most 19
-    /// digits, no exponent or one of at most four digits, and no digit or letter is behind it. Of `1.5.5` that is `1.5`; `1.`
-    /// begins with none. Else None may be answered, and `from_str` reads what stands there. Memory is taken as there.
+    /// The number that the text begins with, and how many bytes spell it, in one pass over them. It has at most 19 digits, no
+    /// exponent or one of at most four digits, and no digit or letter stands behind it. Of `1.5.5` that is `1.5`; `1.` begins with
+    /// none. Else None may be answered, and `from_str` reads what stands there. Memory is taken as there.
     #[inline(always)]
     pub fn at_front(alloc: Global, text: &str) -> Result<Option<(INumber, usize)>, AllocError>
         ensures found { IfOk result (λ found. IfSome found (λ f.

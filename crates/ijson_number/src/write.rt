@@ -1,6 +1,7 @@
-//! Writes the text of a number. `fast` is tried first: it appends at most 20 digits by `lanes`, with no formatter, where no zeros
-//! stand beside them. Up to 20 digits of which more than 16 stand on one side of the point it leaves to `digits`, and any other number
-//! to `display`.
+//! Writes the text of a number. `fast` is tried first: by `lanes`, with no formatter, it appends an integer that a word holds, and a
+//! number of at most 19 digits whose text has the point or an exponent, and no zeros beside them. A row of 16 must hold the digits on
+//! each side of the point. Up to 20 digits with the point between two of them that it leaves go to `digits`, and any other number to
+//! `display`.
 
 mod digits;
 mod display;

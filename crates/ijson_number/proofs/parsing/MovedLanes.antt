@@ -53,98 +53,80 @@ abbrev Moved : (table : List ℕ) (to : List ℕ → ℕ → List ℕ) → List 
 Moved table to xs n = T (are_positions (positions table n)) × (length (positions table n) ≡ 16)
     × (swz_l w8 16 xs 0 (positions table n) ≡ to xs n)
 
-moved : (table : List ℕ) (to : List ℕ → ℕ → List ℕ) → ((f : ℕ → ℕ) → Each (Moved table to (listed f 16)) 17) → (n : ℕ) → n ≤ 16
-    → (xs : List ℕ) → length xs ≡ 16 → SwzOk w8 16 16 0 (positions table n) × (swz_l w8 16 xs 0 (positions table n) ≡ to xs n)
-moved table to cases n few xs long =
-    let m = spelled (λ xs. Moved table to xs n) 16 (λ f. each (Moved table to (listed f 16)) 17 n (cases f) (omega arith)) xs long in
+-- the first n lanes at the end, with zeros before them
+abbrev to_end : List ℕ → ℕ → List ℕ
+to_end xs n = replicate (16 - n) 0 ++ take n xs
+
+-- the lanes from n on at the front, with zeros behind them
+abbrev to_front : List ℕ → ℕ → List ℕ
+to_front xs n = drop n xs ++ replicate n 0
+
+-- so it is by the tables of both
+abbrev Both : List ℕ → ℕ → Type 0
+Both xs n = Moved BACK to_end xs n × Moved FRONT to_front xs n
+
+each_place : (f : ℕ → ℕ) → Each (Both (listed f 16)) 17
+each_place f = (
+  ((tt, refl, refl), (tt, refl, refl)),
+  (
+    ((tt, refl, refl), (tt, refl, refl)),
+    (
+      ((tt, refl, refl), (tt, refl, refl)),
+      (
+        ((tt, refl, refl), (tt, refl, refl)),
+        (
+          ((tt, refl, refl), (tt, refl, refl)),
+          (
+            ((tt, refl, refl), (tt, refl, refl)),
+            (
+              ((tt, refl, refl), (tt, refl, refl)),
+              (
+                ((tt, refl, refl), (tt, refl, refl)),
+                (
+                  ((tt, refl, refl), (tt, refl, refl)),
+                  (
+                    ((tt, refl, refl), (tt, refl, refl)),
+                    (
+                      ((tt, refl, refl), (tt, refl, refl)),
+                      (
+                        ((tt, refl, refl), (tt, refl, refl)),
+                        (
+                          ((tt, refl, refl), (tt, refl, refl)),
+                          (
+                            ((tt, refl, refl), (tt, refl, refl)),
+                            (
+                              ((tt, refl, refl), (tt, refl, refl)),
+                              (((tt, refl, refl), (tt, refl, refl)), (((tt, refl, refl), (tt, refl, refl)), tt)),
+                            ),
+                          ),
+                        ),
+                      ),
+                    ),
+                  ),
+                ),
+              ),
+            ),
+          ),
+        ),
+      ),
+    ),
+  ),
+)
+
+both : (n : ℕ) → n ≤ 16 → (xs : List ℕ) → length xs ≡ 16 → Both xs n
+both n few xs long = spelled (λ xs. Both xs n) 16 (λ f. each (Both (listed f 16)) 17 n (each_place f) (omega arith)) xs long
+
+moved : (table : List ℕ) (to : List ℕ → ℕ → List ℕ) (xs : List ℕ) (n : ℕ) → Moved table to xs n
+    → SwzOk w8 16 16 0 (positions table n) × (swz_l w8 16 xs 0 (positions table n) ≡ to xs n)
+moved table to xs n m =
     (SwzOk-from_Each1 w8 16 1 16 0 (positions table n) refl (omega (arith, m.1)) (each_position (positions table n) m.0), m.2)
 
-pub moved_back_is : (count : ℕ) → count ≤ 16 → (xs : List ℕ) → length xs ≡ 16
+pub moved_to_end : (count : ℕ) → count ≤ 16 → (xs : List ℕ) → length xs ≡ 16
     → SwzOk w8 16 16 0 (positions BACK count) × (swz_l w8 16 xs 0 (positions BACK count) ≡ replicate (16 - count) 0 ++ take count xs)
-moved_back_is = moved BACK (λ xs n. replicate (16 - n) 0 ++ take n xs)
-    (λ f. (
-      (tt, refl, refl),
-      (
-        (tt, refl, refl),
-        (
-          (tt, refl, refl),
-          (
-            (tt, refl, refl),
-            (
-              (tt, refl, refl),
-              (
-                (tt, refl, refl),
-                (
-                  (tt, refl, refl),
-                  (
-                    (tt, refl, refl),
-                    (
-                      (tt, refl, refl),
-                      (
-                        (tt, refl, refl),
-                        (
-                          (tt, refl, refl),
-                          (
-                            (tt, refl, refl),
-                            (
-                              (tt, refl, refl),
-                              ((tt, refl, refl), ((tt, refl, refl), ((tt, refl, refl), ((tt, refl, refl), tt)))),
-                            ),
-                          ),
-                        ),
-                      ),
-                    ),
-                  ),
-                ),
-              ),
-            ),
-          ),
-        ),
-      ),
-    ))
+moved_to_end count few xs long = moved BACK to_end xs count (both count few xs long).0
 
-pub moved_front_is : (start : ℕ) → start ≤ 16 → (xs : List ℕ) → length xs ≡ 16
+pub moved_to_front : (start : ℕ) → start ≤ 16 → (xs : List ℕ) → length xs ≡ 16
     → SwzOk w8 16 16 0 (positions FRONT start) × (swz_l w8 16 xs 0 (positions FRONT start) ≡ drop start xs ++ replicate start 0)
-moved_front_is = moved FRONT (λ xs n. drop n xs ++ replicate n 0)
-    (λ f. (
-      (tt, refl, refl),
-      (
-        (tt, refl, refl),
-        (
-          (tt, refl, refl),
-          (
-            (tt, refl, refl),
-            (
-              (tt, refl, refl),
-              (
-                (tt, refl, refl),
-                (
-                  (tt, refl, refl),
-                  (
-                    (tt, refl, refl),
-                    (
-                      (tt, refl, refl),
-                      (
-                        (tt, refl, refl),
-                        (
-                          (tt, refl, refl),
-                          (
-                            (tt, refl, refl),
-                            (
-                              (tt, refl, refl),
-                              ((tt, refl, refl), ((tt, refl, refl), ((tt, refl, refl), ((tt, refl, refl), tt)))),
-                            ),
-                          ),
-                        ),
-                      ),
-                    ),
-                  ),
-                ),
-              ),
-            ),
-          ),
-        ),
-      ),
-    ))
+moved_to_front start few xs long = moved FRONT to_front xs start (both start few xs long).1
 
 -- ---- the number that sixteen digits make, four in each lane

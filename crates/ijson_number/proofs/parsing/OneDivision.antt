@@ -1,7 +1,7 @@
 -- A text has one division into parts.
-use Rattle.std.proofs.Common.{◌≡◌, ℕ, ◌<◌, Bool, List, [], ◌∷◌, ◌++◌, length, get_or, refl, sym, ◌∙◌, inl, inr, arith, append_assoc}
+use Rattle.std.proofs.Common.{◌≡◌, ℕ, ◌<◌, Bool, List, [], ◌∷◌, ◌++◌, length, get_or, refl, sym, ap, ◌∙◌, inl, inr, arith, append_assoc}
 use Rattle.std.specs.Prelude.{ℤ}
-use Rattle.ijson_number.specs.Grammar.{AllDigits, IsWhole, IsFraction, IsExponent, IsSigned, Parts, IsSpelled}
+use Rattle.ijson_number.specs.Grammar.{AllDigits, IsMinus, IsWhole, IsFraction, IsExponent, IsSigned, Parts, IsSpelled}
 use Rattle.ijson_number.specs.private.Reading.{BeginsWithNoDigit, IsTail, IsUnsigned, IsSignTaken}
 use Rattle.ijson_number.proofs.parsing.DigitRuns.{one_run, IsDigits_all}
 
@@ -135,42 +135,33 @@ spelled_sign t p s =
       u,
     )
 
+-- a sign that was taken off stood in front
+pub minus_of : (text unsigned : List ℕ) (negative : Bool) → IsSignTaken text negative unsigned
+    → (minus : List ℕ) × IsMinus minus negative × (text ≡ minus ++ unsigned)
+minus_of text unsigned negative sign = elim sign [
+  | inl e ↦ (45 ∷ [], inr (refl, e.1), e.0)
+  | inr e ↦ ([], inl (refl, e.1), e.0)
+]
+
 pub spelled_from : (t : List ℕ) (p : Parts) (r : List ℕ) → IsSignTaken t p.negative r → IsUnsigned r p.whole p.fraction p.exponent p.point
     → IsSpelled t p
 spelled_from t p r h u =
     let x = u.tail_is in
-    elim h [
-      | inl e ↦ record {
-        minus_text = 45 ∷ [];
-        fraction_text = x.fraction_text;
-        exponent_text = x.exponent_text;
-        has_point =
-            x.has_point;
-        has_exponent = x.has_exponent;
-        text_is = rw (e.0, u.text_is, x.text_is) (simp append_assoc);
-        minus =
-            inr (refl, e.1);
-        whole = u.whole_is;
-        fraction = x.fraction_is;
-        exponent = x.exponent_is;
-        point = x.point_is;
-      }
-      | inr e ↦ record {
-        minus_text = [];
-        fraction_text = x.fraction_text;
-        exponent_text = x.exponent_text;
-        has_point =
-            x.has_point;
-        has_exponent = x.has_exponent;
-        text_is = rw (e.0, u.text_is, x.text_is) (simp append_assoc);
-        minus =
-            inl (refl, e.1);
-        whole = u.whole_is;
-        fraction = x.fraction_is;
-        exponent = x.exponent_is;
-        point = x.point_is;
-      }
-    ]
+    let minus = minus_of t r p.negative h in
+    let split : r ≡ p.whole ++ (x.fraction_text ++ x.exponent_text) = u.text_is ∙ ap (λ l. p.whole ++ l) x.text_is in
+    record {
+      minus_text = minus.0;
+      fraction_text = x.fraction_text;
+      exponent_text = x.exponent_text;
+      has_point = x.has_point;
+      has_exponent = x.has_exponent;
+      text_is = minus.2 ∙ ap (λ l. minus.0 ++ l) split ∙ simp append_assoc;
+      minus = minus.1;
+      whole = u.whole_is;
+      fraction = x.fraction_is;
+      exponent = x.exponent_is;
+      point = x.point_is;
+    }
 
 pub no_spelling : (t r : List ℕ) (n : Bool) → IsSignTaken t n r → ((w f : List ℕ) (z : ℤ) (p : Bool) → IsUnsigned r w f z p → ⊥)
     → (p : Parts) → IsSpelled t p → ⊥

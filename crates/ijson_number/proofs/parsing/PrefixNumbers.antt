@@ -1,29 +1,21 @@
 -- The digits at the front of a text, and an exponent behind them.
-use Rattle.std.proofs.Common.{◌≡◌, ◌∙◌, ◌⊎◌, get_or, ℕ, ◌+◌, ◌-◌, ◌<◌, ◌≤◌, ◌^◌, Bool, true, false, List, [], ◌∷◌, ◌++◌, length, drop, take, refl, sym, ap, inl, inr, append_assoc, arith}
+use Rattle.std.proofs.Common.{◌≡◌, ◌∙◌, ◌⊎◌, get_or, ℕ, ◌+◌, ◌-◌, ◌<◌, ◌≤◌, ◌^◌, Bool, true, false, List, [], ◌∷◌, ◌++◌, length, drop, take, refl, sym, subst, ap, inl, inr, append_assoc, arith, take_all}
 use Rattle.std.specs.Prelude.{ℤ, pos, neg_ℤ, ◌-ℤ◌, nat_lt, ◌||◌}
 use Rattle.std.proofs.Math.Seq.{drop-append-add, drop-append_seam, take-append_seam}
 use Rattle.std.proofs.Math.Bool.{or-false, or-true}
 use Rattle.std.proofs.lemmas.Int.{ints}
 use Rattle.std.proofs.lemmas.List.{length-append, length-take-le, take-append-drop}
-use Rattle.ijson_number.specs.Grammar.{AllDigits, IsExponent, IsMinus, IsSigned, IsSpelled, Parts, Spells, value}
+use Rattle.ijson_number.specs.Grammar.{AllDigits, IsExponent, IsSigned, IsSpelled, Parts, Spells, value}
 use Rattle.ijson_number.specs.Num.{IsNum}
 use Rattle.ijson_number.specs.Strips.{signed}
 use Rattle.ijson_number.specs.declared.parse.prefix.Prefix.{Prefix}
-use Rattle.ijson_number.specs.private.Prefix.{IsPrefix, IsMantissa, IsPower, IsPowerSmall, power_number}
-use Rattle.ijson_number.specs.private.Reading.{IsExponentSignTaken, IsSignTaken}
+use Rattle.ijson_number.specs.private.Prefix.{IsPrefix, IsMantissa, IsPower, IsPowerSmall, power_number, prefix_number}
+use Rattle.ijson_number.specs.private.Reading.{IsExponentSignTaken}
 use Rattle.ijson_number.specs.private.PrefixDigits.{IsTaken}
 use Rattle.ijson_number.proofs.storing.FewDigits.{parts_number}
 use Rattle.ijson_number.proofs.storing.DigitBounds.{value_small}
 use Rattle.ijson_number.proofs.parsing.DigitRuns.{IsDigits_from}
 use Rattle.ijson_number.specs.laws.Tens.{power_le}
-
--- a sign that was taken off stood in front
-pub minus_of : (text unsigned : List ℕ) (negative : Bool) → IsSignTaken text negative unsigned
-    → (minus : List ℕ) × IsMinus minus negative × (text ≡ minus ++ unsigned)
-minus_of text unsigned negative sign = elim sign [
-  | inl e ↦ (45 ∷ [], inr (refl, e.1), e.0)
-  | inr e ↦ ([], inl (refl, e.1), e.0)
-]
 
 -- what the digits at the front are, with an exponent behind them or with none
 module _ (text : List ℕ) (f : Prefix) (rest : List ℕ) (m : IsMantissa text f rest) where
@@ -119,6 +111,19 @@ module _ (text : List ℕ) (f : Prefix) (rest : List ℕ) (m : IsMantissa text f
       let point : nat_lt 0 f.scale || true ≡ true = or-true _ in
       let long = ap length m.text_is ∙ length-append front rest in
       (omega (arith, long, m.length_is, is.within), rw (taken count is.within, ← point) n.0, rw (← point) n.2)
+
+  -- where they are all of the text, it spells that number
+  pub whole_text : length rest ≡ 0 → Spells text (prefix_number f) × IsNum (prefix_number f)
+  whole_text none =
+      let is = front_of in
+      (subst (λ t. Spells t (prefix_number f)) (take_all f.length text (omega (arith, whole_length, none))) is.spelled, is.num)
+
+  -- and the other, where the exponent ends the text
+  pub whole_power : (power : ℤ) (count : ℕ) → IsPower rest power count → count ≡ length rest
+      → Spells text (power_number f power) × IsNum (power_number f power)
+  whole_power power count is all =
+      let n = power_of power count is in
+      (subst (λ t. Spells t (power_number f power)) (take_all (f.length + count) text (omega (arith, whole_length, all))) n.1, n.2)
 
 -- digits with no sign in front are a signed number
 signed_of : (ds : List ℕ) (z : ℤ) → 0 < length ds → AllDigits ds → z ≡ pos (value ds) → IsSigned ds z

@@ -21,17 +21,6 @@ some_begun old new done rest text e f = record {
   taken = e;
 }
 
--- some of the text was appended, and a beginning of the piece behind it
-pub piece_begun : (old out new done piece rest text : List ℕ) → out ≡ old ++ done → AppendsBeginning out new piece
-    → done ++ (piece ++ rest) ≡ text → AppendsBeginning old new text
-piece_begun old out new done piece rest text e w f = record {
-  front = done ++ w.front;
-  rest = w.rest ++ rest;
-  is = sym f ∙ ap (λ (l : List ℕ). done ++ (l ++ rest)) w.is ∙ ap (λ (l : List ℕ). done ++ l) (append_assoc w.front w.rest rest)
-      ∙ sym (append_assoc done w.front (w.rest ++ rest));
-  taken = w.taken ∙ ap (λ (l : List ℕ). l ++ w.front) e ∙ append_assoc old done w.front;
-}
-
 -- a beginning of what stands in front was appended
 pub front_begun : (old new piece rest text : List ℕ) → AppendsBeginning old new piece → piece ++ rest ≡ text → AppendsBeginning old new text
 front_begun old new piece rest text w f = record {

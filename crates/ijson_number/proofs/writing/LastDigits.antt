@@ -210,3 +210,13 @@ module _ (magnitude scale : ℕ) (few : scale < 16) (word : magnitude < 2 ^ 64) 
   wide_decimal =
       let parts : magnitude / 10 ^ 15 * 10 ^ 15 + last ≡ magnitude = omega arith in
       sym (ap decimal (sym parts) ∙ joined 15 (magnitude / 10 ^ 15) last (omega arith) (omega arith) (omega arith))
+
+one_digit : (d : ℕ) → d < 10 → last_digits 1 d ≡ decimal d
+unfolding last_digits
+one_digit d few = let same : d % 10 ≡ d = omega arith in rw (same, decimal_digit d few) refl
+
+-- a number of 16 digits fills a row
+pub full_row : (n : ℕ) → 10 ^ 15 ≤ n → n < 10 ^ 16 → last_digits 16 n ≡ decimal n
+full_row n wide small =
+    row_split 16 15 n (omega arith)
+    ∙ rw (one_digit (n / 10 ^ 15) (omega arith), ← last_rest 15 n) (wide_decimal n 0 (omega arith) (omega arith) wide)

@@ -38,7 +38,7 @@ piece_length room piece at many inside =
     )
 
 abbrev pub empty : List ℕ
-empty = set (replicate 48 0) 0 45
+empty = set (replicate 34 0) 0 45
 
 minus_put : (negative : Bool) (start : ℕ) → start ≡ length (minus_text negative) → take start empty ≡ minus_text negative
 minus_put true start is = rw is refl
@@ -67,8 +67,8 @@ module _ (negative : Bool) (start : ℕ) (is : start ≡ length (minus_text nega
   abbrev pub with_fraction : List ℕ
   with_fraction = with_piece with_point fraction behind more
 
-  whole_length : length with_whole ≡ 48
-  whole_length = let at : start ≤ 48 = omega (arith, is, minus_short negative) in
+  whole_length : length with_whole ≡ 34
+  whole_length = let at : start ≤ 34 = omega (arith, is, minus_short negative) in
       omega (arith, w.0, row, piece_length empty whole start many at, is, minus_short negative)
 
   inside : behind ≤ length with_point
@@ -81,7 +81,7 @@ module _ (negative : Bool) (start : ℕ) (is : start ≡ length (minus_text nega
   room_ascii =
       piece_ascii with_point fraction behind more
       (IsAscii-set with_whole (start + count) 46
-      (piece_ascii empty whole start many (IsAscii-set (replicate 48 0) 0 45 (zeros_ascii 48) (omega arith)) w.1) (omega arith)) f.1
+      (piece_ascii empty whole start many (IsAscii-set (replicate 34 0) 0 45 (zeros_ascii 34) (omega arith)) w.1) (omega arith)) f.1
 
   up_to_whole : take (start + count) with_whole ≡ minus_text negative ++ take count whole
   up_to_whole = taken_piece empty whole start many count (omega (arith, is, minus_short negative)) (omega (arith, w.0, few.0))

@@ -1,13 +1,13 @@
 -- Sixteen digits that are written at once: made by lanes, moved to the front, and without the zeros before them.
 use Rattle.std.proofs.Common.{◌≡◌, ℕ, zero, suc, ◌+◌, ◌-◌, ◌*◌, ◌/◌, ◌%◌, ◌^◌, ◌<◌, ◌≤◌, Bool, true, false, not, cond, eqb, min, get_or, replicate, take, drop, List, [], ◌∷◌, ◌++◌, map, length, length-append, length-drop, refl, sym, ap, ◌∙◌, inl, inr, arith, append_assoc}
 use Rattle.std.specs.Int.Digits.{AllBelowBase}
-use Rattle.std.specs.List.{All, AllByRecursion, prefix_len}
+use Rattle.std.specs.List.{AllByRecursion, prefix_len}
 use Rattle.std.proofs.lemmas.Bool.{cases_eq}
 use Rattle.std.proofs.lemmas.Bool.Decides.{nat_tests}
-use Rattle.std.proofs.lemmas.List.{drop-drop, drop-map, drop_more, length-replicate, length-take-le, take_all, take_at, take-append-le}
+use Rattle.std.proofs.lemmas.List.{drop_more, length-replicate, take_at, take-append-le}
 use Rattle.std.proofs.lemmas.List.Elements.{recursion_from_All}
 use Rattle.std.proofs.lemmas.List.Sums.{prefix_len-le-length, prefix_len_passes, prefix_len_stops}
-use Rattle.std.proofs.lemmas.Simd.{bitmask_splat, leading_from_mask_l, length-zip2, trailing_mask_l, zip2_splat}
+use Rattle.std.proofs.lemmas.Simd.{bitmask_splat, leading_from_mask_l, trailing_mask_l}
 use lib.Count.{count_trailing_zeros}
 use lib.Lanes.{number_l, digits_l, mask_l, top, zip2}
 use lib.Seq.{get_or-append-add, take-append-add}
@@ -17,10 +17,9 @@ use Rattle.std.proofs.lemmas.Str.{IsAscii-append, IsAscii-drop}
 use Rattle.std.proofs.lemmas.Str.Ascii.{All-from_ascii, IsAscii-nil, IsAscii-cons}
 use Rattle.std.specs.Str.{IsAscii}
 use Rattle.std.specs.String.Boundary.{IsSplitPoint}
-use Rattle.ijson_number.specs.Text.{digits_text, minus_text}
+use Rattle.ijson_number.specs.Text.{minus_text}
 use Rattle.ijson_number.specs.private.WordText.{last_digits}
 use Rattle.ijson_number.specs.private.ZerosInFront.{IsZerosInFront}
-use Rattle.ijson_number.proofs.writing.AsciiTexts.{digits_text_ascii}
 
 -- ---- the digits of pairs
 
@@ -39,7 +38,7 @@ abbrev twice : List ℕ → ℕ
 twice [] = 0
 twice (z ∷ zs) = suc (suc (twice zs))
 
-abbrev digit : ℕ → ℕ
+abbrev pub digit : ℕ → ℕ
 digit d = (d + 48) % 2 ^ 8
 
 pub lanes_text : (zs : List ℕ) → AllBelowBase 100 zs → map digit (digits_l 256 (twice zs) (number_l 65536 (map lane zs))) ≡ pairs_text zs
@@ -248,47 +247,3 @@ module _ (lanes : List ℕ) (long : length lanes ≡ 16) (ascii : IsAscii lanes)
       let next : 16 - begin ≡ suc (16 - start) = omega arith in
       rw next (ap (λ l. 45 ∷ l) (take_at (drop start lanes) (replicate begin 0) (16 - start) (omega (arith, length-drop start lanes))))
   signed_shown false begin from = take_at (drop start lanes) (replicate begin 0) (16 - begin) (omega (arith, length-drop start lanes))
-
--- ---- digits that lie in a room
-
-abbrev pub with_zero : List ℕ → List ℕ
-with_zero lanes = zip2 (λ a b. (a + b) % 2 ^ 8) lanes (replicate 16 48)
-
-text_from : (ds : List ℕ) → AllByRecursion (λ d. d < 10) ds → map digit ds ≡ digits_text ds
-text_from [] h = refl
-text_from (d ∷ ds) h = let first : digit d ≡ 48 + d = omega (arith, h.0) in let rest = text_from ds h.1 in λ i. first i ∷ rest i
-
--- the last digits of a room of 19
-module _ (buffer : List ℕ) (long : length buffer ≡ 19) where
-  abbrev last : List ℕ
-  last = take 16 (take 16 (drop 3 buffer))
-
-  last_is : last ≡ drop 3 buffer
-  last_is = take_all 16 (take 16 (drop 3 buffer)) (omega (arith, length-take-le 16 (drop 3 buffer) (omega (arith, length-drop 3 buffer))))
-      ∙ take_all 16 (drop 3 buffer) (omega (arith, length-drop 3 buffer))
-
-  last_count : length last ≡ 16
-  last_count = rw last_is (omega (arith, length-drop 3 buffer))
-
-  pub last_long : length (with_zero last) ≡ 16
-  last_long = length-zip2 (λ a b. (a + b) % 2 ^ 8) last (replicate 16 48) last_count ∙ last_count
-
-  pub room_text : (count : ℕ) → count ≤ 16 → All (λ d. d < 10) (drop (19 - count) buffer)
-      → drop (16 - count) (with_zero last) ≡ digits_text (drop (19 - count) buffer)
-  room_text count few below =
-      let at : 3 + (16 - count) ≡ 19 - count = omega arith in
-      ap (drop (16 - count)) (zip2_splat (λ a b. (a + b) % 2 ^ 8) last 16 48 last_count)
-      ∙ drop-map {X = ℕ} {Y = ℕ} digit (16 - count) last
-      ∙ ap (map digit) (ap (drop (16 - count)) last_is ∙ drop-drop (16 - count) 3 buffer ∙ ap (λ n. drop n buffer) at)
-      ∙ text_from (drop (19 - count) buffer) (recursion_from_All (λ d. d < 10) (drop (19 - count) buffer) below)
-
--- a row of digits
-module _ (ds : List ℕ) (long : length ds ≡ 16) (below : All (λ d. d < 10) ds) where
-  pub row_text : with_zero ds ≡ digits_text ds
-  row_text = zip2_splat (λ a b. (a + b) % 2 ^ 8) ds 16 48 long ∙ text_from ds (recursion_from_All (λ d. d < 10) ds below)
-
-  pub row_long : length (with_zero ds) ≡ 16
-  row_long = length-zip2 (λ a b. (a + b) % 2 ^ 8) ds (replicate 16 48) long ∙ long
-
-  pub row_ascii : IsAscii (with_zero ds)
-  row_ascii = rw row_text (digits_text_ascii ds below)

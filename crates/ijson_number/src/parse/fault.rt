@@ -1,5 +1,5 @@
 //! Where a text stops being a number.
-ghost use Rattle.std.specs.Prelude.{◌≤◌, ◌↔◌, length, IsNone, IfSome, IfOk, IfErr};
+ghost use Rattle.std.specs.Prelude.{◌≤◌, ◌↔◌, length, IsNone, IfSome};
 ghost use Rattle.ijson_number.specs.Decimal.{Decimal};
 ghost use Rattle.ijson_number.specs.Grammar.{Spells};
 

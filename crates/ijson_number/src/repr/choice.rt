@@ -1,11 +1,11 @@
 //! Chooses what is stored of a number, by its stripped digits or by what was read of its text.
-ghost use Rattle.std.specs.Prelude.{◌≡◌, ◌^◌, ◌*ℤ◌, ◌≤ℤ◌, ◌<ℤ◌, pos, true, false, IfSome, IfNone, IsTrue};
+ghost use Rattle.std.specs.Prelude.{◌≡◌, ◌^◌, ◌*ℤ◌, ◌≤ℤ◌, pos, true, false, IfSome, IfNone, IsTrue};
 ghost use Rattle.ijson_number.specs.Form.{digits_form, fits_packed, form_of};
 ghost use Rattle.ijson_number.specs.FormNumber.{integer_word};
 ghost use Rattle.ijson_number.specs.private.Stored.{stored_form};
 
-use crate::number::{INumber, ParseNumberError};
-use crate::parse::exact::{Scanned, Spelling};
+use crate::number::INumber;
+use crate::parse::exact::Scanned;
 use crate::parse::prefix::Prefix;
 use crate::repr::digits::{MAX_DIGITS, push_in_place};
 use crate::repr::stored::Stored;
@@ -109,13 +109,11 @@ impl StrippedNumber<'_> {
 }
 
 impl INumber {
-    ghost use Rattle.std.specs.Prelude.{◌<◌, ◌≤◌, List, ℕ, IfErr, IfOk, OnErr};
+    ghost use Rattle.std.specs.Prelude.{◌<◌, ◌≤◌, List, ℕ, IfOk, OnErr};
     ghost use Rattle.ijson_number.specs.Form.{is_digits};
-    ghost use Rattle.ijson_number.specs.Grammar.{AllDigits, Denotes, IsSpelled};
     ghost use Rattle.ijson_number.specs.Num.{IsNum};
-    ghost use Rattle.ijson_number.specs.Refused.{IsRefused};
     ghost use Rattle.ijson_number.specs.private.Prefix.{IsPrefix, IsPowerSmall, prefix_number, power_number};
-    ghost use Rattle.ijson_number.specs.private.Scanned.{IsScanned, parts_of, scanned_number};
+    ghost use Rattle.ijson_number.specs.private.Scanned.{IsScanned, scanned_number};
     ghost use Rattle.ijson_number.specs.private.StrippedNumber.{decimal_of};
 
     /// The number whose digits still lie in its text. Where they are at most 20, they are made digits in a buffer.
@@ -141,6 +139,7 @@ impl INumber {
     }
 
     /// The number of a prefix times a power of ten.
+    #[inline(always)]
     pub(crate) fn from_power(
         alloc: Global,
         prefix: Prefix,
@@ -181,12 +180,12 @@ impl INumber {
         if let Some(stored) = prefix.word() {
             return Ok(INumber { stored });
         }
-        INumber::from_digits(alloc, prefix)
+        INumber::from_wide_prefix(alloc, prefix)
     }
 
     /// The number of a prefix that no word holds. It stays a call, since its buffers would be cleared for each number that a word holds.
     #[inline(never)]
-    fn from_digits(alloc: Global, prefix: Prefix) -> Result<INumber, AllocError>
+    fn from_wide_prefix(alloc: Global, prefix: Prefix) -> Result<INumber, AllocError>
         requires { (text : List ℕ) × IsPrefix text prefix }
         ensures number { IfOk result (λ n. n.decimal ≡ prefix_number prefix) }
         ensures refused { OnErr result (is_digits (form_of (prefix_number prefix)) ≡ true) }

@@ -1,5 +1,5 @@
 //! The digits that a number keeps.
-ghost use Rattle.std.specs.Prelude.{ℕ, ◌≡◌, ◌<◌, ◌≤◌, ◌+◌, ◌-◌, ◌++◌, drop, length, IfSome, IfNone, OnOk};
+ghost use Rattle.std.specs.Prelude.{◌≡◌, ◌<◌, ◌≤◌, ◌+◌, ◌-◌, ◌++◌, drop, length, IfSome, IfNone, OnOk};
 ghost use Rattle.ijson_number.specs.Grammar.{AllDigits};
 ghost use Rattle.ijson_number.specs.private.Stripped.{digits_from_text};
 ghost use Rattle.std.specs.Prelude.{pos, neg_ℤ, ◌≢◌, ◌*◌, ◌%◌, ◌+ℤ◌, ◌<ℤ◌, ◌^◌, FitsSigned};
@@ -8,7 +8,6 @@ ghost use mir.Syntax.{w128};
 ghost use Rattle.std.specs.List.{All};
 ghost use Rattle.ijson_number.specs.Text.{digits_text};
 ghost use Rattle.arrayvec.specs.ArrayVec.{array_vec_len};
-ghost use Rattle.ijson_number.specs.private.WordText.{last_digits};
 
 use crate::parse::lanes::LANES;
 use crate::write::lanes::{LANES_END, lanes_of, zeros_in_front};
@@ -137,7 +136,8 @@ pub fn place_of(digits: &[u8], exponent: i32) -> i128
     digits.len() as i128 + exponent as i128
 }
 
-/// Takes the zeros off the end of so many places behind the point, and tells how many places are left.
+/// A magnitude without the zeros at its end, of which so many places behind the point hold one each at most, and how many of
+/// these places are left.
 pub fn without_zeros(magnitude: u64, scale: usize) -> (u64, usize)
     ensures tens { magnitude ≡ result.0 * 10 ^ (scale - result.1) }
     ensures fewer { result.1 ≤ scale }

@@ -1,8 +1,7 @@
 //! What is stored of a number that `parse::prefix` has read: a word, or 24 bytes.
-ghost use Rattle.std.specs.Prelude.{◌≡◌, ◌≢◌, ◌⊎◌, ◌<◌, ◌≤◌, ◌≤ℤ◌, ◌-◌, ◌*◌, ◌%◌, ◌^◌, pos, neg_ℤ, negsuc, true, IfSome, IsSome, List, ℕ};
+ghost use Rattle.std.specs.Prelude.{◌≡◌, ◌≢◌, ◌⊎◌, ◌<◌, ◌≤◌, ◌≤ℤ◌, ◌-◌, ◌%◌, ◌^◌, pos, neg_ℤ, negsuc, true, IfSome, IsSome, List, ℕ};
 ghost use Rattle.ijson_number.specs.Decimal.{Decimal};
 ghost use Rattle.ijson_number.specs.Form.{form_of};
-ghost use Rattle.ijson_number.specs.Num.{IsNum};
 ghost use Rattle.ijson_number.specs.Strips.{Strips, signed};
 ghost use Rattle.ijson_number.specs.private.Prefix.{IsPrefix, IsPowerSmall, prefix_number, power_number};
 ghost use Rattle.ijson_number.specs.private.Stored.{short_form, stored_form};

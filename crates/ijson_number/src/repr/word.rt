@@ -74,11 +74,18 @@ impl Word {
         above as i64 - (sign * (1 << 56)) as i64
     }
 
+    /// The bits 4 to 7.
+    fn code(self) -> u64
+        ensures { result ≡ word_code self.bits }
+    {
+        self.bits / 16 % 16
+    }
+
     /// The exponent.
     pub fn exponent(self) -> i8
         ensures { result ≡ word_exponent self.bits }
     {
-        let code = self.bits / 16 % 16;
+        let code = self.code();
         if code == NO_POINT { 0 } else { code as i8 - 7 }
     }
 
@@ -92,6 +99,6 @@ impl Word {
     pub fn point(self) -> bool
         ensures { result ≡ word_point self.bits }
     {
-        self.bits / 16 % 16 != NO_POINT
+        self.code() != NO_POINT
     }
 }

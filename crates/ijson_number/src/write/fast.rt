@@ -1,7 +1,6 @@
 //! Appends a number's text, 16 digits at a time.
-ghost use Rattle.std.specs.Prelude.{◌≡◌, ◌+◌, ◌-◌, ◌/◌, ◌%◌, ◌^◌, ◌<◌, ◌≤◌, ◌∷◌, ◌++◌, ◌||◌, ℕ, drop, length, nat_abs, neg_ℤ, negsuc, pos, int_le, int_lt, true, false, ◌+ℤ◌, ◌<ℤ◌, ◌≤ℤ◌, IfOk, IsFalse, IsTrue, OnErr, OnOk};
+ghost use Rattle.std.specs.Prelude.{◌≡◌, ◌+◌, ◌-◌, ◌/◌, ◌%◌, ◌^◌, ◌<◌, ◌≤◌, ◌++◌, ◌||◌, drop, length, nat_abs, neg_ℤ, negsuc, pos, int_le, int_lt, true, false, ◌+ℤ◌, ◌<ℤ◌, ◌≤ℤ◌, IfOk, IsFalse, IsTrue, OnErr, OnOk};
 ghost use Rattle.std.specs.Fmt.{decimal};
-ghost use Rattle.std.specs.Str.{IsAscii};
 ghost use Rattle.std.specs.String.{string_bytes};
 ghost use Rattle.ijson_number.specs.AppendsBeginning.{AppendsBeginning};
 ghost use Rattle.ijson_number.specs.Form.{form_of, is_digits, packed};
@@ -9,7 +8,7 @@ ghost use Rattle.ijson_number.specs.Text.{digits_text, minus_text, num_text};
 ghost use Rattle.ijson_number.specs.Stripped.{stripped_number};
 ghost use Rattle.ijson_number.specs.private.SplitText.{split_text};
 ghost use Rattle.ijson_number.specs.private.StrippedNumber.{decimal_of};
-ghost use Rattle.ijson_number.specs.private.WordText.{integer_text, last_digits, pointed_text};
+ghost use Rattle.ijson_number.specs.private.WordText.{integer_text, pointed_text};
 
 use crate::number::INumber;
 use crate::parse::lanes::LANES;
@@ -22,7 +21,6 @@ use crate::write::lanes::{
     LANES_END, SHORT_END, lanes_of, push_lanes, push_rows, push_short, zeros_in_front,
 };
 use std::alloc::AllocError;
-use std::fmt::Write;
 use std::simd::prelude::*;
 
 /// Appends the minus, if there is one, and a whole number over ten to the places, with so many digits behind the point. It stays a
@@ -50,6 +48,18 @@ fn push_magnitude(
     push_rows(false, lanes, 1, LANES - 1 - scale, lanes, scale, out)
 }
 
+/// Appends the minus, if there is one.
+#[inline(always)]
+fn push_minus(negative: bool, out: &mut String) -> Result<(), AllocError>
+    ensures written { OnOk result (string_bytes out.new ≡ string_bytes out.old ++ minus_text negative) }
+    ensures refused { OnErr result (string_bytes out.new ≡ string_bytes out.old) }
+{
+    if negative {
+        out.push('-')?;
+    }
+    Ok(())
+}
+
 /// Appends an integer without the point.
 #[inline(never)]
 fn push_integer(negative: bool, magnitude: u64, out: &mut String) -> Result<(), AllocError>
@@ -59,6 +69,10 @@ fn push_integer(negative: bool, magnitude: u64, out: &mut String) -> Result<(), 
 {
     if magnitude < SHORT_END {
         return push_short(negative, magnitude, out);
+    }
+    if magnitude < LANES_END {
+        push_minus(negative, out)?;
+        return push_lanes(lanes_of(magnitude), 0, LANES, out);
     }
     push_short(negative, magnitude / SHORT_END, out)?;
     push_lanes(lanes_of(magnitude % SHORT_END), 1, LANES - 1, out)
@@ -239,7 +253,7 @@ impl INumber {
     }
 
     /// Appends the text that `Display` writes, in less time: that of few digits is appended at once, by no formatter. It may want
-    /// room for 48 bytes more than the text has. A text with zeros beside the digits, with an exponent behind a single digit or with
+    /// room for 31 bytes more than the text has. A text with zeros beside the digits, with an exponent behind a single digit or with
     /// many digits is made in memory of its own first. The error comes where there was not enough memory. A beginning of the text may
     /// then stand in `out`, behind what was there. It takes time linear in the text.
     #[inline(always)]

@@ -18,7 +18,7 @@ pub const LANES_END: u64 = 10_000_000_000_000_000;
 pub const SHORT_END: u64 = LANES_END / 10;
 
 /// Room for a minus, two rows and the point between them.
-const ROOM: usize = 3 * LANES;
+const ROOM: usize = 2 * LANES + 2;
 
 /// From place `n` on: the positions by which the lanes from n on come to the front of a vector, with zeros behind them.
 static FRONT: [u8; 2 * LANES] = [

@@ -2,7 +2,7 @@ use Rattle.std.proofs.Common.{◌≡◌, ◌+◌, ◌++◌, length, take, sym, a
 use Rattle.std.proofs.lemmas.List.{length-append, length-take-le, take-append-drop}
 use Rattle.ijson_number.specs.Grammar.{value}
 use Rattle.ijson_number.proofs.storing.DigitBounds.{joined_value, room_left}
-use Rattle.ijson_number.proofs.parsing.PrefixNumbers.{minus_of}
+use Rattle.ijson_number.proofs.parsing.OneDivision.{minus_of}
 use Rattle.ijson_number.proofs.parsing.PlainFronts.{plain_parts}
 use Rattle.ijson_number.proofs.parse.prefix.read_mantissa.Goals as goal
 

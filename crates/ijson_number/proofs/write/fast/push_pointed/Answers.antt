@@ -1,16 +1,26 @@
-use Rattle.std.proofs.Common.{◌≡◌, ◌∙◌, ◌∷◌, ◌++◌, [], ap, sym, refl, append_assoc, arith, rules}
-use Rattle.std.specs.Prelude.{pos, nat_abs, int_lt}
+use Rattle.std.proofs.Common.{◌≡◌, ◌∙◌, ◌∷◌, ◌++◌, ◌<◌, ◌^◌, ℕ, [], true, ap, sym, refl, append_assoc, arith, rules}
+use Rattle.std.specs.Prelude.{ℤ, pos, nat_abs, int_lt, FitsSigned}
 use Rattle.std.specs.Fmt.{decimal}
 use Rattle.std.specs.String.{string_bytes}
 use Rattle.std.proofs.lemmas.Int.{to_z-of_z}
 use mir.Syntax.{w8, w64}
 use mir.Val.{of_z, to_z}
-use Rattle.ijson_number.specs.Text.{minus_text}
+use Rattle.ijson_number.specs.Stripped.{stripped_number}
+use Rattle.ijson_number.specs.Text.{minus_text, num_text}
+use Rattle.ijson_number.specs.private.WordText.{integer_text}
 use Rattle.ijson_number.proofs.AnyAnswer.{where_refused}
 use Rattle.ijson_number.proofs.writing.Beginnings.{begun_as, front_begun, some_begun}
 use Rattle.ijson_number.proofs.writing.FractionTexts.{below_point, exponent_small, fraction_shown, many_places}
 use Rattle.ijson_number.proofs.writing.WordTexts.{whole_shown}
 use Rattle.ijson_number.proofs.write.fast.push_pointed.Goals as goal
+
+-- the digits, the point and a zero are the text, where the exponent is 0
+whole_text : (m e : ℤ) (n : ℕ) → FitsSigned w64 m → FitsSigned w8 e → n ≡ nat_abs (to_z w64 (of_z w64 m)) → n < 2 ^ 64 → of_z w8 e ≡ 0
+    → integer_text (int_lt (to_z w64 (of_z w64 m)) (pos 0)) n ++ 46 ∷ 48 ∷ [] ≡ num_text (stripped_number m e true)
+whole_text m e n fits small magnitude word none =
+    let exact = to_z-of_z w64 m fits in
+    append_assoc (minus_text (int_lt (to_z w64 (of_z w64 m)) (pos 0))) (decimal n) (46 ∷ 48 ∷ [])
+    ∙ whole_shown m e _ n exact (magnitude ∙ ap nat_abs exact) (sym (to_z-of_z w8 e small) ∙ ap (to_z w8) none) word
 
 pub push_magnitude-requires : goal.push_magnitude-requires
 push_magnitude-requires c =
@@ -24,14 +34,10 @@ pub returns-then-exponent-eq0-clause-done : goal.returns-then-exponent-eq0-claus
 returns-then-exponent-eq0-clause-done c = λ t.
     let a = c.args in
     let n = c.unsigned_abs-magnitude in
-    let exact = to_z-of_z w64 a.mantissa (search rules) in
-    let same = to_z-of_z w8 a.exponent (search rules) in
-    let none : a.exponent ≡ pos 0 = sym same ∙ ap (to_z w8) c.if-exponent-eq0.true in
-    let minus = minus_text (int_lt (to_z w64 (of_z w64 a.mantissa)) (pos 0)) in
-    let text = whole_shown a.mantissa a.exponent _ n.result exact (n.ensures.value ∙ ap nat_abs exact) none n.type_inv in
+    let text = whole_text a.mantissa a.exponent n.result (search rules) (search rules) n.ensures.value n.type_inv c.if-exponent-eq0.true in
     c.in_ok-push_str.ensures.bytes ∙ ap (λ x. x ++ 46 ∷ 48 ∷ []) (c.in_ok-push_integer.ensures.written)
-    ∙ append_assoc (string_bytes a.out.now) (minus ++ decimal n.result) (46 ∷ 48 ∷ [])
-    ∙ ap (λ x. string_bytes a.out.now ++ x) (append_assoc minus (decimal n.result) (46 ∷ 48 ∷ []) ∙ text)
+    ∙ append_assoc (string_bytes a.out.now) (integer_text (int_lt (to_z w64 (of_z w64 a.mantissa)) (pos 0)) n.result) (46 ∷ 48 ∷ [])
+    ∙ ap (λ x. string_bytes a.out.now ++ x) text
 
 pub returns-clause-done : goal.returns-clause-done
 returns-clause-done c = λ t.
@@ -62,23 +68,17 @@ pub returns-in_err-push_integer-clause-refused : goal.returns-in_err-push_intege
 returns-in_err-push_integer-clause-refused c =
     let a = c.args in
     let n = c.unsigned_abs-magnitude in
-    let exact = to_z-of_z w64 a.mantissa (search rules) in
-    let same = to_z-of_z w8 a.exponent (search rules) in
-    let none : a.exponent ≡ pos 0 = sym same ∙ ap (to_z w8) c.if-exponent-eq0.true in
-    let minus = minus_text (int_lt (to_z w64 (of_z w64 a.mantissa)) (pos 0)) in
-    let text = whole_shown a.mantissa a.exponent _ n.result exact (n.ensures.value ∙ ap nat_abs exact) none n.type_inv in
-    where_refused _ (front_begun (string_bytes a.out.now) (string_bytes c.push_integer.new.out) (minus ++ decimal n.result) (46 ∷ 48 ∷ []) _
-    c.in_err-push_integer.ensures.refused (append_assoc minus (decimal n.result) (46 ∷ 48 ∷ []) ∙ text))
+    let text = whole_text a.mantissa a.exponent n.result (search rules) (search rules) n.ensures.value n.type_inv c.if-exponent-eq0.true in
+    where_refused _ (front_begun (string_bytes a.out.now) (string_bytes c.push_integer.new.out)
+    (integer_text (int_lt (to_z w64 (of_z w64 a.mantissa)) (pos 0)) n.result) (46 ∷ 48 ∷ []) _
+    c.in_err-push_integer.ensures.refused text)
 
 pub returns-in_err-push_str-clause-refused : goal.returns-in_err-push_str-clause-refused
 returns-in_err-push_str-clause-refused c =
     let a = c.args in
     let n = c.unsigned_abs-magnitude in
-    let exact = to_z-of_z w64 a.mantissa (search rules) in
-    let same = to_z-of_z w8 a.exponent (search rules) in
-    let none : a.exponent ≡ pos 0 = sym same ∙ ap (to_z w8) c.if-exponent-eq0.true in
-    let minus = minus_text (int_lt (to_z w64 (of_z w64 a.mantissa)) (pos 0)) in
-    let text = whole_shown a.mantissa a.exponent _ n.result exact (n.ensures.value ∙ ap nat_abs exact) none n.type_inv in
-    where_refused _ (some_begun (string_bytes a.out.now) _ (minus ++ decimal n.result) (46 ∷ 48 ∷ []) _
+    let text = whole_text a.mantissa a.exponent n.result (search rules) (search rules) n.ensures.value n.type_inv c.if-exponent-eq0.true in
+    where_refused _ (some_begun (string_bytes a.out.now) _
+    (integer_text (int_lt (to_z w64 (of_z w64 a.mantissa)) (pos 0)) n.result) (46 ∷ 48 ∷ []) _
     (c.in_err-push_str.ensures.bytes ∙ c.in_ok-push_integer.ensures.written)
-    (append_assoc minus (decimal n.result) (46 ∷ 48 ∷ []) ∙ text))
+    text)

@@ -5,7 +5,7 @@ use Rattle.std.proofs.lemmas.List.Elements.{All-drop, All-take}
 use Rattle.std.proofs.lemmas.Str.{IsAscii-drop}
 use Rattle.ijson_number.specs.Text.{digits_text}
 use Rattle.ijson_number.proofs.writing.AsciiTexts.{digits_text_ascii}
-use Rattle.ijson_number.proofs.writing.WrittenLanes.{row_ascii, row_long, row_text, with_zero}
+use Rattle.ijson_number.proofs.writing.DigitRows.{row_ascii, row_long, row_text, with_zero}
 use Rattle.ijson_number.proofs.repr.stripped.StrippedNumber.push_split.Goals as goal
 
 -- the digits behind the point stand at the end of the row

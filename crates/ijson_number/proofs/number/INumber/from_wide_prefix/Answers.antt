@@ -10,7 +10,7 @@ use Rattle.ijson_number.specs.private.Stored.{short_form}
 use Rattle.ijson_number.specs.private.StrippedNumber.{decimal_of}
 use Rattle.ijson_number.proofs.storing.FormNumbers.{form_has, stored_num, stored_form_of}
 use Rattle.ijson_number.proofs.storing.ShortNumbers.{negated}
-use Rattle.ijson_number.proofs.number.INumber.from_digits.Goals as goal
+use Rattle.ijson_number.proofs.number.INumber.from_wide_prefix.Goals as goal
 
 pub invariant_of-result : goal.invariant_of-result
 invariant_of-result c = (
