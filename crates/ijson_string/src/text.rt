@@ -91,7 +91,7 @@ impl IString {
         })
     }
 
-    /// A text of more than 7 bytes, in memory of its own; the error is want of memory.
+    /// A text of more than 7 bytes, in memory of its own. The error is that memory was refused.
     pub(crate) fn long(alloc: Global, text: &str) -> Result<IString, AllocError>
         requires { 7 < length text.now }
         ensures { IfOk result (λ s. s ≡ text.now) }
@@ -148,7 +148,7 @@ impl IString {
         self.as_str() == text
     }
 
-    /// A copy of the text on `alloc`; the error is want of memory. An empty text takes none.
+    /// A copy of the text on `alloc`. The error is that memory was refused; an empty text takes none.
     pub fn to_owned_string(&self, alloc: Global) -> Result<String, AllocError>
         ensures { IfOk result (λ s. string_bytes s ≡ self.now) }
     {

@@ -1,5 +1,5 @@
 //! The chains of a table: each bucket leads to the text that came last there, and each text to the one that came before it.
-ghost use Rattle.std.specs.Prelude.{◌≡◌, ℕ, ◌*◌, ◌<◌, ◌≤◌, ◌^◌, length, get_or, slice_set, take, IfSome, IfNone, OnOk, OnErr, true, false};
+ghost use Rattle.std.specs.Prelude.{◌≡◌, ◌*◌, ◌<◌, ◌≤◌, ◌^◌, length, get_or, slice_set, take, IfSome, IfNone, OnOk, OnErr, true, false};
 ghost use Rattle.ijson_string.specs.private.Chains.{bucket_of};
 ghost use Rattle.ijson_string.specs.private.Filters.{AllPass, filter_of, passes, with_filter};
 ghost use Rattle.ijson_string.specs.private.IsTable.{hashes_of, filters_of, heads_of, AreChained, IsTable};

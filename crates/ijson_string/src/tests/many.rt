@@ -1,4 +1,4 @@
-//! A cache of many texts: its homes double, and its notes come.
+//! A cache of many texts: its buckets double, and from 2,048 buckets on `recent` leads to those that came again.
 use super::interned;
 use crate::StringCache;
 use std::alloc::Global;
