@@ -1,6 +1,6 @@
 //! How a store grows and shrinks.
 
-ghost use Rattle.std.specs.Prelude.{◌≡◌, ◌+◌, ◌<◌, ◌≤◌, [], length, take, drop, vec_capacity, Ok, Err, IfOk, OnOk, OnErr, MatchResult};
+ghost use Rattle.std.specs.Prelude.{◌≡◌, ◌+◌, ◌<◌, ◌≤◌, [], length, take, drop, vec_capacity, IfOk, OnOk, OnErr, MatchResult};
 ghost use Rattle.ijson_table.specs.Growth.{wanted, capacity_limit};
 
 use crate::store::ReserveError;

@@ -18,16 +18,17 @@ pub mod probe;
 mod shift;
 pub mod slot;
 
-use crate::growth::list_with_room;
+use crate::growth::{list_with_room, tighten};
 use crate::index::shift::{rehash, shift_forward, shift_remove, swap_remove, vacancy};
 use crate::index::slot::Slot;
 use std::alloc::{AllocError, Global};
 use std::marker::Model;
 
-/// Slots, each empty or with a position of a list and the hash of the key there.
+/// Slots, each empty or with a position of a list and the hash of the key there. The list has no room for more.
 #[derive(Debug, Drop)]
 pub struct Index {
     slots: Vec<Slot>,
+    ghost exact: { vec_capacity slots ≡ length slots.items },
 }
 
 impl Model for Index {
@@ -121,6 +122,24 @@ impl Index {
         ensures count { length self.new.slots ≡ length self.old.slots }
     {
         shift_remove(&mut self.slots, position, hash, last);
+    }
+
+    /// The same positions among so many slots, which have room for each. Where there are as many here, the slots are copied as they
+    /// are. Room for none takes no memory.
+    pub fn copy_with_slots(&self, alloc: Global, count: usize) -> Result<Index, AllocError>
+        requires { length self.now.hashes ≤ count }
+        ensures hashes { IfOk result (λ index. index.hashes ≡ self.now.hashes) }
+        ensures count { IfOk result (λ index. length index.slots ≡ count) }
+        ensures refused { OnErr result (0 < count) }
+    {
+        if count > 0 && count == self.slots.len() {
+            let mut slots = Vec::from_slice(alloc, &self.slots)?;
+            tighten(alloc, &mut slots)?;
+            return Ok(Index { slots });
+        }
+        let mut index = Index::with_slots(alloc, count)?;
+        index.rehash_from(self);
+        Ok(index)
     }
 
     /// Puts the positions of other slots into these, which are empty and have room for each.

@@ -1,8 +1,8 @@
 //! A pair store that searches its list.
 
-ghost use Rattle.std.specs.Prelude.{◌≡◌, ◌<◌, ◌≤◌, ◌^◌, [], length, Some, None, Ok, Err, refl, vec_capacity, IfOk, IsOk, ◌↔◌};
+ghost use Rattle.std.specs.Prelude.{◌≡◌, ◌↔◌, ◌<◌, [], Err, IfOk, IsOk, refl};
 ghost use Rattle.std.specs.Option.{option_copied};
-ghost use Rattle.ijson_table.specs.Store.{at, keys_of, swap_out, IsDistinct, lookup};
+ghost use Rattle.ijson_table.specs.Store.{at, keys_of, IsDistinct, lookup};
 ghost use Rattle.ijson_table.specs.StoreWithValue.{store_with_value};
 ghost use Rattle.ijson_table.specs.laws.Store.{IsDistinct-prop};
 ghost use Rattle.ijson_table.specs.Growth.{capacity_limit};

@@ -1,8 +1,8 @@
 //! A pair store whose keys are found by their hash.
 
-ghost use Rattle.std.specs.Prelude.{◌≡◌, ◌+◌, ◌-◌, ◌<◌, ◌≤◌, ◌^◌, ◌/◌, [], length, get_or, map, vec_capacity};
-ghost use Rattle.std.specs.Prelude.{Ok, Err, refl, IfOk, IsOk, OnErr, ◌↔◌, None};
-ghost use Rattle.ijson_table.specs.Store.{at, keys_of, swap_out, IsDistinct, lookup};
+ghost use Rattle.std.specs.Prelude.{◌≡◌, ◌+◌, ◌-◌, ◌<◌, ◌≤◌, ◌^◌, [], length, get_or, map};
+ghost use Rattle.std.specs.Prelude.{Err, refl, IfOk, IsOk, OnErr, ◌↔◌, None};
+ghost use Rattle.ijson_table.specs.Store.{at, keys_of, IsDistinct, lookup};
 ghost use Rattle.ijson_table.specs.laws.Store.{IsDistinct-prop};
 ghost use Rattle.ijson_table.specs.Slots.{IsBounded, IsTable};
 ghost use Rattle.ijson_table.specs.Growth.{capacity_limit};
@@ -88,9 +88,8 @@ impl<V: Drop, H: KeyHash> Table<V, H> {
         ensures refused { OnErr result (0 < length pairs.items) }
     {
         let capacity = pairs.len();
-        let mut index = Index::with_slots(alloc, capacity + capacity / 4)?;
+        let index = self.index.copy_with_slots(alloc, capacity + capacity / 4)?;
         tighten(alloc, &mut pairs)?;
-        index.rehash_from(&self.index);
         Ok(Table {
             pairs,
             index,

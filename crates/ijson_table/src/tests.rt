@@ -20,6 +20,13 @@ fn key(rt: &impl Abort, alloc: Global, letters: &str) -> IString {
     IString::intern(&mut cache, letters).expect(rt, "a text")
 }
 
+/// A key for each number: one character, which takes no memory.
+fn numbered(rt: &impl Abort, alloc: Global, number: u16) -> IString {
+    let character = char::from_u32(0x4e00 + u32::from(number)).expect(rt, "a character");
+    let mut bytes = [0; 4];
+    key(rt, alloc, character.encode_utf8(&mut bytes))
+}
+
 /// The length of the text in bytes.
 #[derive(Drop)]
 struct ByLength;

@@ -6,7 +6,7 @@ use Rattle.std.proofs.Math.ListN.{get_or-append}
 use Rattle.std.proofs.Math.Seq.{get_or-append_seam}
 use Rattle.std.specs.Prelude.{swap_remove, option_map, slice_get}
 use Rattle.std.specs.Cmp.Lexicographic.{bytes_decides}
-use Rattle.std.proofs.lemmas.Option.{get_or_from_slice_get}
+use Rattle.std.proofs.lemmas.Option.{get_or_from_slice_get, slice_get_read}
 use Rattle.std.proofs.lemmas.List.{get_or_default, get_or-take, length-set, length-map, get_or-map, take-set-le, take-map, map-set}
 use Rattle.std.proofs.lemmas.List.{map-append}
 use Rattle.ijson_table.specs.Store.{keys_of, at, lookup, put, swap_out, with_value, IsDistinct}
@@ -51,6 +51,12 @@ module _ {V : Type 0} where
   pub key_at : (pairs : List (List ℕ × V)) (i : ℕ) (pair : List ℕ × V) → i < length pairs
       → get_or (keys_of pairs) i [] ≡ (get_or pairs i pair).0
   key_at pairs i pair li = get_or-map (λ p. p.0) pairs i pair [] li
+
+  -- a pair that was read at a position of a list, which is seen as this one
+  pub slice_get-seen : (old seen : List (List ℕ × V)) (i : ℕ) (pair : List ℕ × V) → old ≡ seen → i < length seen → pair ≡ get_or old i pair
+      → slice_get seen i ≡ Some pair
+  slice_get-seen old seen i pair same li read =
+      slice_get_read seen (length seen) i pair refl li (read ∙ ap (λ ps. get_or ps i pair) same)
 
   -- a pair that was lent, with another value in it
   pub set-value : (pairs : List (List ℕ × V)) (i : ℕ) (pair : List ℕ × V) (value : V) → i < length pairs → pair ≡ get_or pairs i pair

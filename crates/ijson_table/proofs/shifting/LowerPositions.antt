@@ -58,7 +58,7 @@ times-lowered gone i (o ∷ os) away =
     )
 
 -- the positions of closed slots are lowered
-pub positions-closed : (gone : ℕ) (slots : List Slot) → positions (map (closed gone) slots) ≡ map (lowered gone) (positions slots)
+positions-closed : (gone : ℕ) (slots : List Slot) → positions (map (closed gone) slots) ≡ map (lowered gone) (positions slots)
 positions-closed gone [] = refl
 positions-closed gone (slot ∷ slots) = λ k. position-closed gone slot k ∷ positions-closed gone slots k
 

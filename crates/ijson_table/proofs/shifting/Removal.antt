@@ -18,7 +18,7 @@ use Rattle.ijson_table.proofs.shifting.SlotWrites.{displacement-set_some, displa
 use Rattle.ijson_table.proofs.probing.ProbePath.{displacement-some, displacement-none}
 
 -- a table is one of all positions, with none in pending
-pub holds-table : (hashes : List ℕ) (slots : List (Option ℕ)) → IsTable hashes slots → Holds hashes (below (length hashes)) None slots
+holds-table : (hashes : List ℕ) (slots : List (Option ℕ)) → IsTable hashes slots → Holds hashes (below (length hashes)) None slots
 holds-table hashes slots t = record { ordered = t.ordered; placed = λ i. omega (arith, t.placed i) }
 
 -- what holds each of the first positions is a table
@@ -62,7 +62,7 @@ unfolding displacement
 displacement-as hashes hashes' slots p same = displaced-as (length slots) hashes hashes' p (resident slots p) same
 
 -- other hashes where nothing refers to them
-pub other_hashes : (hashes hashes' : List ℕ) (count : ℕ) (pending : Option ℕ) (slots : List (Option ℕ))
+other_hashes : (hashes hashes' : List ℕ) (count : ℕ) (pending : Option ℕ) (slots : List (Option ℕ))
     → Holds hashes (below count) pending slots
     → ((p i : ℕ) → p < length slots → resident slots p ≡ Some i → get_or hashes' i 0 ≡ get_or hashes i 0)
     → Holds hashes' (below count) pending slots

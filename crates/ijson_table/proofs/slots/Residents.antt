@@ -24,7 +24,7 @@ pub one_if-other : (i j : ℕ) → i ≢ j → one_if i (Some j) ≡ 0
 one_if-other i j ne = ap (λ b. cond b 1 0) (holds-other i j ne)
 
 -- a slot with this position counts one
-pub one_if-at : (i : ℕ) (o : Option ℕ) → o ≡ Some i → one_if i o ≡ 1
+one_if-at : (i : ℕ) (o : Option ℕ) → o ≡ Some i → one_if i o ≡ 1
 one_if-at i o e = ap (one_if i) e ∙ one_if-same i
 
 -- a slot that is written changes the count by what stood and what stands there

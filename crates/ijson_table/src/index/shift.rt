@@ -238,7 +238,7 @@ fn insert_each(from: &[Slot], slots: &mut [Slot])
 }
 
 /// Puts what stands at the slots of a table into empty ones. It goes by their order, from the first resident that did
-/// not go round the end, so residents with the same home stay in their order; and it goes to the memory of no key.
+/// not go round the end, so residents with the same home stay in their order. It goes to the memory of no key.
 pub fn rehash(old: &[Slot], slots: &mut [Slot])
     ghost hashes: { List ℕ }
     requires table { IsTableOf hashes old.now }

@@ -11,7 +11,7 @@ use crate::hash::KeyHash;
 use crate::index::Index;
 use crate::index::probe::{Lookup, Probed, probe};
 use crate::index::slot::Modulus;
-use crate::store::{PairStore, ReserveError};
+use crate::store::ReserveError;
 use ijson_number::Looks;
 use ijson_string::IString;
 use std::alloc::Global;

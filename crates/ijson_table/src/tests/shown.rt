@@ -1,8 +1,9 @@
 //! What is printed of errors, and what is shown of each type. What is shown of replies stands beside each step of a store.
 
-use super::{insert_all, key};
+use super::Step::{Clear, Find, Put, Remove, Reserve, ShiftRemove, Shrink};
+use super::{Step, command, insert_all, key};
 use crate::{
-    Command, FixedHash, FixedTable, LinearPairs, PairStore, RefusedPair, ReserveError, Seen,
+    FixedHash, FixedTable, LinearPairs, PairStore, RefusedPair, Reply, ReserveError, Seen,
 };
 use std::alloc::Global;
 use std::fmt::{Debug, Display};
@@ -56,6 +57,17 @@ const RESIDENT: Seen = Seen::Resident {
     same: true,
 };
 
+/// What is shown of the command of each step.
+static COMMANDS: [(Step, &str); 7] = [
+    (Put("a", 1), "Insert(\"a\", 1)"),
+    (Find("a"), "Find(\"a\")"),
+    (Remove("a"), "Remove(\"a\")"),
+    (ShiftRemove("a"), "ShiftRemove(\"a\")"),
+    (Reserve(3), "Reserve(3)"),
+    (Shrink, "ShrinkToFit"),
+    (Clear, "Clear"),
+];
+
 #[test]
 fn commands_and_looks_are_shown(rt: HostRuntime) {
     let alloc = rt.alloc();
@@ -67,9 +79,11 @@ fn commands_and_looks_are_shown(rt: HostRuntime) {
         &RESIDENT,
         "Resident { at: 1, distance: 2, same: true }",
     );
-    shows(&rt, alloc, &Command::<u64>::ShrinkToFit, "ShrinkToFit");
-    let insertion = Command::Insert(key(&rt, alloc, "a"), 1u64);
-    shows(&rt, alloc, &insertion, "Insert(\"a\", 1)");
+    for (step, want) in &COMMANDS {
+        shows(&rt, alloc, &command(&rt, alloc, *step), want);
+    }
+    let back = Reply::Refused(key(&rt, alloc, "a"), 1u64, ReserveError::Memory);
+    shows(&rt, alloc, &back, "Refused(\"a\", 1, Memory)");
 }
 
 /// What is shown of a store with one pair.
@@ -79,15 +93,22 @@ fn shown<P: PairStore<u64> + Debug + Drop>(rt: &impl Abort, alloc: Global) -> St
     format!(in alloc; "{store:?}").expect(rt, "a text")
 }
 
+/// What is shown of a table with the pair of a and 0: the home of a is 2 of 5 slots, and a slot shows the position plus one, or 0.
+static TABLE_SHOWN: &str = concat!(
+    "Table { pairs: [(\"a\", 0)], index: Index { slots: [",
+    "Slot { code: 0, hash: 0 }, ",
+    "Slot { code: 0, hash: 0 }, ",
+    "Slot { code: 1, hash: 12638153115695167552 }, ",
+    "Slot { code: 0, hash: 0 }, ",
+    "Slot { code: 0, hash: 0 }",
+    "] }, alloc: Global, hash: PhantomData<_> }",
+);
+
 #[test]
 fn stores_are_shown(rt: HostRuntime) {
     let alloc = rt.alloc();
     let list = shown::<LinearPairs<u64>>(&rt, alloc);
     assert!(rt; list.as_str() == "LinearPairs { pairs: [(\"a\", 0)] }");
     let table = shown::<FixedTable<u64>>(&rt, alloc);
-    assert!(rt;
-        table
-            .as_str()
-            .starts_with("Table { pairs: [(\"a\", 0)], index: ")
-    );
+    assert!(rt; table.as_str() == TABLE_SHOWN);
 }

@@ -1,5 +1,6 @@
 //! Sizes far beyond those of the other tests: a store that gives up there tells it as want of memory, which no clause rules out.
 
+use super::refusals::Store;
 use super::{AlwaysZero, ByLength, key};
 use crate::{Command, FixedTable, LinearPairs, PairStore, Table, run};
 use std::alloc::Global;
@@ -33,20 +34,22 @@ fn a_table_takes_ten_thousand_pairs(rt: HostRuntime) {
     assert!(rt; table.shrink_to_fit().is_ok() && has_numbers(&table));
 }
 
-/// Asserts that a new store makes room for 100,000 pairs, and gives it back.
-fn grows_far<P: PairStore<u64> + Drop>(rt: &impl Abort, alloc: Global) {
-    let mut store = P::new(alloc);
+/// Asserts that a new store makes room for 100,000 pairs, and gives it back, and that one is made with that room.
+fn grows_far<S: Store>(rt: &impl Abort, alloc: Global) {
+    let mut store = S::new(alloc);
     assert!(rt; store.reserve(100_000).is_ok() && store.capacity() == 100_000);
     assert!(rt; store.shrink_to_fit().is_ok() && store.capacity() == 0);
+    let roomy = S::with_room(alloc, 100_000).expect(rt, "room");
+    assert!(rt; roomy.capacity() == 100_000);
 }
 
 #[test]
 fn each_store_makes_room_for_many(rt: HostRuntime) {
     let alloc = rt.alloc();
-    grows_far::<LinearPairs<u64>>(&rt, alloc);
-    grows_far::<Table<u64, AlwaysZero>>(&rt, alloc);
-    grows_far::<Table<u64, ByLength>>(&rt, alloc);
-    grows_far::<FixedTable<u64>>(&rt, alloc);
+    grows_far::<LinearPairs<u16>>(&rt, alloc);
+    grows_far::<Table<u16, AlwaysZero>>(&rt, alloc);
+    grows_far::<Table<u16, ByLength>>(&rt, alloc);
+    grows_far::<FixedTable<u16>>(&rt, alloc);
 }
 
 /// So many commands that clear a store.

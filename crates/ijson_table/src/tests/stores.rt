@@ -1,13 +1,13 @@
 //! What each store does, the same for all of them.
 
 use super::Step::{Clear, Find, Put, Remove, Reserve, ShiftRemove, Shrink};
-use super::{AlwaysZero, ByLength, Step, command, has_keys, insert_all, replies_so};
+use super::{AlwaysZero, ByLength, Step, command, has_keys, insert_all, key, replies_so};
 use crate::{Command, FixedTable, LinearPairs, PairStore, Places, ReserveError, Table, run};
 use std::alloc::Global;
 use std::process::Abort;
 
 /// Steps from an empty store on, what is shown of the reply to each, and the length and the capacity then.
-static STEPS: [(Step, &str, usize, usize); 43] = [
+static STEPS: [(Step, &str, usize, usize); 57] = [
     // five keys have room for eight
     (Put("a", 0), "Added", 1, 4),
     (Put("b", 1), "Added", 2, 4),
@@ -58,6 +58,22 @@ static STEPS: [(Step, &str, usize, usize); 43] = [
     (Shrink, "Done", 0, 0),
     (Shrink, "Done", 0, 0),
     (Find("a"), "Found(None)", 0, 0),
+    // pairs that are put one by one have room for 4, 8 and 16
+    (Put("a", 0), "Added", 1, 4),
+    (Put("b", 1), "Added", 2, 4),
+    (Put("c", 2), "Added", 3, 4),
+    (Put("d", 3), "Added", 4, 4),
+    (Put("e", 4), "Added", 5, 8),
+    (Put("f", 5), "Added", 6, 8),
+    (Put("g", 6), "Added", 7, 8),
+    (Put("h", 7), "Added", 8, 8),
+    (Put("i", 8), "Added", 9, 16),
+    // room that is there, twice the room, more than that, and none to spare
+    (Reserve(7), "Done", 9, 16),
+    (Reserve(8), "Done", 9, 32),
+    (Reserve(60), "Done", 9, 69),
+    (Shrink, "Done", 9, 9),
+    (Find("i"), "Found(Some(8))", 9, 9),
 ];
 
 /// Asserts what each of the steps does to a new store.
@@ -102,24 +118,41 @@ fn the_limit(rt: HostRuntime) {
     );
 }
 
-/// A copy of a table that has spare room has none.
-fn copied_tightly(rt: &impl Abort, alloc: Global, table: &FixedTable<u64>) -> FixedTable<u64> {
-    let mut pairs = Vec::new(alloc);
-    for pair in table.as_slice() {
-        let key = pair.0.clone().expect(rt, "a copy");
-        pairs.push((key, pair.1)).expect(rt, "a pair");
+/// Keys, whose values are their positions, and the pairs of a table that is made of them.
+type Made = (&'static [&'static str], &'static [(&'static str, u64)]);
+
+/// A key that comes again keeps its place, and has the value that it came with last.
+static MADE: [Made; 4] = [
+    (&[], &[]),
+    (&["a", "b", "c"], &[("a", 0), ("b", 1), ("c", 2)]),
+    (&["a", "b", "a", "c"], &[("a", 2), ("b", 1), ("c", 3)]),
+    (
+        &["a long key", "b", "a long key", "one more key", "b"],
+        &[("a long key", 2), ("b", 4), ("one more key", 3)],
+    ),
+];
+
+/// A table of these keys. The list that it is made of has spare room.
+fn made(rt: &impl Abort, alloc: Global, keys: &[&str]) -> FixedTable<u64> {
+    let mut pairs = Vec::with_capacity(alloc, 9).expect(rt, "a list");
+    for (i, letters) in keys.iter().enumerate() {
+        pairs
+            .push((key(rt, alloc, letters), i as u64))
+            .expect(rt, "a pair");
     }
     FixedTable::from_pairs(alloc, pairs).expect(rt, "a table")
 }
 
 #[test]
 fn what_is_made_of_pairs_has_no_spare_room(rt: HostRuntime) {
-    let alloc = rt.alloc();
-    let mut table = FixedTable::new(alloc);
-    insert_all(&rt, alloc, &mut table, &["a", "b", "c"]);
-    let copy = copied_tightly(&rt, alloc, &table);
-    assert!(rt; table.capacity() == 4 && copy.capacity() == 3 && copy.index_of("c") == Some(2));
-    assert!(rt; has_keys(copy.as_slice(), &["a", "b", "c"]) && copy.places() == 3);
+    for (keys, pairs) in &MADE {
+        let table = made(&rt, rt.alloc(), keys);
+        assert!(rt; table.capacity() == keys.len() && table.len() == pairs.len());
+        assert!(rt; table.places() == keys.len() + keys.len() / 4);
+        for (i, (letters, value)) in pairs.iter().enumerate() {
+            assert!(rt; table.index_of(letters) == Some(i) && table.get(letters) == Some(value));
+        }
+    }
 }
 
 /// Writes a value through each call that lends one, and looks at a third pair.

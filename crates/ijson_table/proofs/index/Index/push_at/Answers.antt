@@ -1,10 +1,10 @@
-use Rattle.std.proofs.Common.{◌≡◌, [], ◌∷◌, ◌++◌, List, length, arith, ap, sym, ◌∙◌, subst}
+use Rattle.std.proofs.Common.{◌≡◌, [], ◌∷◌, ◌++◌, List, length, take, drop, arith, ap, sym, ◌∙◌, subst}
 use Rattle.ijson_table.specs.declared.index.slot.Slot.{Slot}
 use Rattle.ijson_table.specs.private.Holds.{MayStand}
 use Rattle.ijson_table.specs.private.Insertion.{Accepts}
 use Rattle.ijson_table.specs.private.SlotHashes.{positions, hashes_of}
 use Rattle.ijson_table.specs.private.HashIndex.{HashIndex}
-use Rattle.ijson_table.proofs.slots.IndexInvariant.{accepts, after_push}
+use Rattle.ijson_table.proofs.slots.IndexInvariant.{accepts, after_push, IsIndexOf}
 use Rattle.ijson_table.proofs.slots.HashesInSlots.{positions-length}
 use Rattle.ijson_table.proofs.index.Index.push_at.Goals as goal
 
@@ -22,23 +22,21 @@ shift_forward-requires c =
           (sym c.self.view_is) c.requires.may),
     )
 
-pub invariant_of-self : goal.invariant_of-self
-invariant_of-self c =
+-- the slots that come back, and their hashes
+left : (c : goal.After-self-2-1) → IsIndexOf (hashes_of c.self.inside.slots.items ++ c.args.hash ∷ [])
+    (take c.self.inside.slots.len (c.shift_forward.new.slots ++ drop (length c.shift_forward.new.slots) c.self.inside.slots.items))
+left c =
     let slots : List Slot = c.self.inside.slots.items in
     let viewed : hashes_of slots ≡ c.args.self.now.hashes = ap (λ (l : HashIndex). l.hashes) c.self.view_is in
     let sized : length (positions slots) ≡ length c.args.self.now.slots = ap (λ (l : HashIndex). length l.slots) c.self.view_is in
-    (after_push slots c.deref_mut.result.now c.shift_forward.new.slots c.args.position c.args.hash c.self.inside.slots.len c.self.invariant
+    after_push slots c.deref_mut.result.now c.shift_forward.new.slots c.args.position c.args.hash c.self.inside.slots.len c.self.invariant
     (omega (arith, c.requires.position, ap length viewed)) (omega (arith, c.requires.room, sized, positions-length slots))
     c.deref_mut.ensures.value (omega (arith, c.shift_forward.auto.slots))
-    (omega (arith, c.self.inside.slots.ok.0)) c.shift_forward.ensures.holds c.shift_forward.ensures.hashes).index
+    (omega (arith, c.self.inside.slots.ok.0)) c.shift_forward.ensures.holds c.shift_forward.ensures.hashes
+
+pub invariant_of-self : goal.invariant_of-self
+invariant_of-self c = (left c).index
 
 pub returns-clause-hashes : goal.returns-clause-hashes
-returns-clause-hashes c =
-    let slots : List Slot = c.self.inside.slots.items in
-    let viewed : hashes_of slots ≡ c.args.self.now.hashes = ap (λ (l : HashIndex). l.hashes) c.self.view_is in
-    let sized : length (positions slots) ≡ length c.args.self.now.slots = ap (λ (l : HashIndex). length l.slots) c.self.view_is in
-    (after_push slots c.deref_mut.result.now c.shift_forward.new.slots c.args.position c.args.hash c.self.inside.slots.len c.self.invariant
-    (omega (arith, c.requires.position, ap length viewed)) (omega (arith, c.requires.room, sized, positions-length slots))
-    c.deref_mut.ensures.value (omega (arith, c.shift_forward.auto.slots))
-    (omega (arith, c.self.inside.slots.ok.0)) c.shift_forward.ensures.holds c.shift_forward.ensures.hashes).is
-    ∙ ap (λ hs. hs ++ c.args.hash ∷ []) viewed
+returns-clause-hashes c = (left c).is
+    ∙ ap (λ (l : HashIndex). l.hashes ++ c.args.hash ∷ []) c.self.view_is

@@ -37,31 +37,23 @@ rehash-requires c =
       ),
     )
 
-pub invariant_of-self : goal.invariant_of-self
-invariant_of-self c =
+-- the slots that come back, and their hashes
+left : (c : goal.After-self-2-1) → IsIndexOf (hashes_of c.other.inside.slots.items)
+    (take c.self.inside.slots.len (c.rehash.new.slots ++ drop (length c.rehash.new.slots) c.self.inside.slots.items))
+left c =
     let fresh : List Slot = c.self.inside.slots.items in
-    (after_rehash c.other.inside.slots.items c.deref.result.now fresh c.rehash.new.slots c.self.inside.slots.len c.deref.ensures.value
+    after_rehash c.other.inside.slots.items c.deref.result.now fresh c.rehash.new.slots c.self.inside.slots.len c.deref.ensures.value
     (omega (arith, c.rehash.auto.slots, ap length c.deref_mut.ensures.value)) (omega (arith, c.self.inside.slots.ok.0))
     (omega (
       arith,
       ap (λ (l : HashIndex). length l.hashes) c.other.view_is,
       c.requires.room,
-      ap
-          (λ (l : HashIndex). length l.slots) c.self.view_is,
+      ap (λ (l : HashIndex). length l.slots) c.self.view_is,
       positions-length fresh,
-    )) c.rehash.ensures).index
+    )) c.rehash.ensures
+
+pub invariant_of-self : goal.invariant_of-self
+invariant_of-self c = (left c).index
 
 pub returns-clause-hashes : goal.returns-clause-hashes
-returns-clause-hashes c =
-    let fresh : List Slot = c.self.inside.slots.items in
-    (after_rehash c.other.inside.slots.items c.deref.result.now fresh c.rehash.new.slots c.self.inside.slots.len c.deref.ensures.value
-    (omega (arith, c.rehash.auto.slots, ap length c.deref_mut.ensures.value)) (omega (arith, c.self.inside.slots.ok.0))
-    (omega (
-      arith,
-      ap (λ (l : HashIndex). length l.hashes) c.other.view_is,
-      c.requires.room,
-      ap
-          (λ (l : HashIndex). length l.slots) c.self.view_is,
-      positions-length fresh,
-    )) c.rehash.ensures).is
-    ∙ ap (λ (l : HashIndex). l.hashes) c.other.view_is
+returns-clause-hashes c = (left c).is ∙ ap (λ (l : HashIndex). l.hashes) c.other.view_is

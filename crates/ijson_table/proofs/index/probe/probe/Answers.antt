@@ -1,6 +1,6 @@
 use Rattle.std.proofs.Common.{◌≡◌, ◌<◌, ◌+◌, ℕ, List, Bool, false, length, Option, Some, arith, ap, sym, ◌∙◌, subst, inl, inr}
 use Rattle.ijson_table.specs.Slots.{after, resident}
-use Rattle.ijson_table.specs.private.Probe.{onward, Passed, PassedOthers}
+use Rattle.ijson_table.specs.private.Probe.{onward, EndsAt, Passed, PassedOthers}
 use Rattle.ijson_table.proofs.arithmetic.Comparing.{below_or_not}
 use Rattle.ijson_table.proofs.arithmetic.Circular.{onward-zero, after-onward}
 use Rattle.ijson_table.proofs.probing.LookCount.{passed_none, passed_more}
@@ -63,18 +63,18 @@ loop-passed-preserved g c =
       looked = omega (arith, c.look.ensures.counts, c.loop-passed.invariant.looked);
     }
 
+-- where the look behind those that it passed ends the probe
+ends_at : {slots : List (Option ℕ)} {displacements : ℕ → ℕ} {h : ℕ} {seeks : ℕ → Bool} {looks p m : ℕ} → m < length slots
+    → p ≡ onward (length slots) h m → Passed displacements (length slots) h m → PassedOthers slots seeks h m → looks ≡ m + 1
+    → EndsAt slots displacements h seeks looks p m
+ends_at w t p o l = record { within = w; there = t; passed = p; others = o; looked = l }
+
 pub returns-in-Empty-clause-ends : goal.returns-in-Empty-clause-ends
 returns-in-Empty-clause-ends g c =
     let i = c.loop-passed.invariant in (
       c.loop-passed.passed,
-      record {
-        within = omega (arith, c.loop-passed-test.true, c.count-slots.ensures);
-        there = i.there;
-        passed = i.passed;
-        others =
-            i.others;
-        looked = omega (arith, i.looked, c.in-Empty.ensures.counts);
-      },
+      ends_at (omega (arith, c.loop-passed-test.true, c.count-slots.ensures)) i.there i.passed i.others
+          (omega (arith, i.looked, c.in-Empty.ensures.counts)),
       omega (arith, c.in-Empty.ensures.sees.1),
     )
 
@@ -83,14 +83,8 @@ returns-then-same-clause-ends g c =
     let i = c.loop-passed.invariant in
     let sees = c.in-Resident.ensures.sees in (
       c.loop-passed.passed,
-      record {
-        within = omega (arith, c.loop-passed-test.true, c.count-slots.ensures);
-        there = i.there;
-        passed = i.passed;
-        others =
-            i.others;
-        looked = omega (arith, i.looked, c.in-Resident.ensures.counts);
-      },
+      ends_at (omega (arith, c.loop-passed-test.true, c.count-slots.ensures)) i.there i.passed i.others
+          (omega (arith, i.looked, c.in-Resident.ensures.counts)),
       sees.0,
       sym sees.2 ∙ c.if-same.true,
     )
@@ -99,14 +93,8 @@ pub returns-then-distance-passed-clause-ends : goal.returns-then-distance-passed
 returns-then-distance-passed-clause-ends g c =
     let i = c.loop-passed.invariant in (
       c.loop-passed.passed,
-      record {
-        within = omega (arith, c.loop-passed-test.true, c.count-slots.ensures);
-        there = i.there;
-        passed = i.passed;
-        others =
-            i.others;
-        looked = omega (arith, i.looked, c.in-Resident.ensures.counts);
-      },
+      ends_at (omega (arith, c.loop-passed-test.true, c.count-slots.ensures)) i.there i.passed i.others
+          (omega (arith, i.looked, c.in-Resident.ensures.counts)),
       omega (arith, c.in-Resident.ensures.sees.1, c.if-distance-passed.true),
     )
 

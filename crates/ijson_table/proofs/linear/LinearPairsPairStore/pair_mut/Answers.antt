@@ -1,8 +1,6 @@
-use Rattle.std.proofs.Common.{◌≡◌, ◌<◌, length, arith, ap, sym, ◌∙◌, refl}
-use Rattle.std.specs.Prelude.{slice_get}
-use Rattle.std.proofs.lemmas.Option.{slice_get_read}
+use Rattle.std.proofs.Common.{◌≡◌, ◌<◌, length, arith, ap, ◌∙◌, refl}
 use Rattle.ijson_table.specs.Store.{Store, with_value}
-use Rattle.ijson_table.proofs.pairs.PairsByKey.{set-value, distinct_set}
+use Rattle.ijson_table.proofs.pairs.PairsByKey.{set-value, distinct_set, slice_get-seen}
 use Rattle.ijson_table.proofs.pairs.SameStores.{store_path}
 use Rattle.ijson_table.proofs.linear.LinearPairsPairStore.pair_mut.Goals as goal
 
@@ -16,16 +14,16 @@ pub returns : goal.returns
 returns g c =
     let old = c.self.inside.pairs.items in
     let pair = c.index_mut-pair.result.now in
-    let viewed : old ≡ c.args.self.now.pairs = ap (λ (s : Store g.row.V.Denot). s.pairs) c.self.view_is in
-    let li : c.args.index < length old = omega (arith, ap length viewed, c.requires) in
-    let read = ap (λ ps. slice_get ps c.args.index) (sym viewed)
-    ∙ slice_get_read old (length old) c.args.index pair refl li c.index_mut-pair.ensures.value in (
+    let viewed : old ≡ c.args.self.now.pairs = ap (λ (s : Store g.row.V.Denot). s.pairs) c.self.view_is in (
       (
         refl,
         λ w. store_path _ _
-            (set-value old c.args.index pair w li c.index_mut-pair.ensures.value
-            ∙ ap (λ (s : Store g.row.V.Denot). with_value s.pairs c.args.index w) c.self.view_is)
+            (set-value old c.args.index pair w (omega (arith, ap length viewed, c.requires)) c.index_mut-pair.ensures.value
+            ∙ ap (λ ps. with_value ps c.args.index w) viewed)
             (ap (λ (s : Store g.row.V.Denot). s.capacity) c.self.view_is),
       ),
-      record { writes_back = tt; pair = read },
+      record {
+        writes_back = tt;
+        pair = slice_get-seen old c.args.self.now.pairs c.args.index pair viewed c.requires c.index_mut-pair.ensures.value;
+      },
     )

@@ -9,13 +9,10 @@ pub returns : goal.returns
 returns g c =
     let hash = g.H.KeyHash.hash_of in
     let old = c.self.inside.pairs.items in
-    let li : c.args.index < length old = omega (
-      arith,
-      ap (λ (t : Placed g.row.V.Denot). length t.store.pairs) c.self.view_is,
-      c.requires,
-    ) in
+    let viewed : old ≡ c.args.self.now.store.pairs = ap (λ (t : Placed g.row.V.Denot). t.store.pairs) c.self.view_is in
+    let li : c.args.index < length old = omega (arith, ap length viewed, c.requires) in
     let key : (get_or old c.args.index c.index.result.now).0 ≡ get_or (keys_of old) c.args.index [] =
     sym (key_at old c.args.index c.index.result.now li) in
     c.hash.ensures ∙ (ap hash (c.as_str.ensures ∙ (ap (λ p. p.0) c.index.ensures ∙ key))
     ∙ (sym (get_or-map hash (keys_of old) c.args.index [] 0 (omega (arith, li, keys-length old)))
-    ∙ ap (λ (t : Placed g.row.V.Denot). get_or (map hash (keys_of t.store.pairs)) c.args.index 0) c.self.view_is))
+    ∙ ap (λ ps. get_or (map hash (keys_of ps)) c.args.index 0) viewed))

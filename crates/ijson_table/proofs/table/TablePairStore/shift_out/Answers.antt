@@ -1,7 +1,6 @@
-use Rattle.std.proofs.Common.{◌≡◌, ◌<◌, length, map, arith, ap, sym, ◌∙◌, subst, refl}
+use Rattle.std.proofs.Common.{◌≡◌, ◌<◌, length, map, arith, ap, sym, ◌∙◌, subst}
 use Rattle.std.specs.List.{remove}
-use Rattle.std.specs.Prelude.{slice_get}
-use Rattle.std.proofs.lemmas.Option.{slice_get_read}
+use Rattle.ijson_table.proofs.pairs.PairsByKey.{slice_get-seen}
 use Rattle.ijson_table.specs.Crowd.{slot_count}
 use Rattle.ijson_table.specs.Store.{keys_of, shift_out, IsDistinct}
 use Rattle.ijson_table.specs.Placed.{Placed}
@@ -11,11 +10,8 @@ use Rattle.ijson_table.proofs.table.TablePairStore.shift_out.Goals as goal
 pub invariant_of-self-inside : goal.invariant_of-self-inside
 invariant_of-self-inside g c =
     let old = c.self.inside.pairs.items in
-    let li : c.args.index < length old = omega (
-      arith,
-      ap (λ (s : Placed g.row.V.Denot). length s.store.pairs) c.self.view_is,
-      c.requires,
-    ) in
+    let size : length old ≡ length c.args.self.now.store.pairs = ap (λ (s : Placed g.row.V.Denot). length s.store.pairs) c.self.view_is in
+    let li : c.args.index < length old = omega (arith, size, c.requires) in
     (subst (λ ps. IsDistinct (keys_of ps)) (sym c.remove.ensures.items) (distinct_shifted old c.args.index c.self.inside.distinct li), tt)
 
 pub invariant_of-self : goal.invariant_of-self
@@ -43,8 +39,5 @@ invariant_of-self g c =
 
 pub returns-clause-pair : goal.returns-clause-pair
 returns-clause-pair g c =
-    let old = c.self.inside.pairs.items in
-    let viewed : old ≡ c.args.self.now.store.pairs = ap (λ (s : Placed g.row.V.Denot). s.store.pairs) c.self.view_is in
-    let li : c.args.index < length old = omega (arith, ap length viewed, c.requires) in
-    ap (λ ps. slice_get ps c.args.index) (sym viewed)
-    ∙ slice_get_read old (length old) c.args.index c.remove.result refl li c.remove.ensures.value
+    slice_get-seen c.self.inside.pairs.items c.args.self.now.store.pairs c.args.index c.remove.result
+    (ap (λ (s : Placed g.row.V.Denot). s.store.pairs) c.self.view_is) c.requires c.remove.ensures.value
