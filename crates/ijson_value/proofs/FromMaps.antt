@@ -1,6 +1,7 @@
 -- Pairs that are put where room was made for them, and no key comes twice; and what a map gives.
 use Rattle.std.proofs.Common.{◌≡◌, ◌≢◌, ◌<◌, ◌≤◌, ◌+◌, ℕ, suc, List, [], ◌∷◌, ◌++◌, length, map, Option, Some, None, Result, Ok, Err, true}
 use Rattle.std.proofs.Common.{false, refl, ap, sym, subst, ◌∙◌, inl, inr, arith}
+use mathlib.Core.Bool.{true≢false}
 use Rattle.std.proofs.lemmas.Bool.{le-leb}
 use Rattle.std.proofs.lemmas.List.{append_assoc, append-nil, length-append, map-append}
 use Rattle.std.specs.Cmp.{tied_itself}
@@ -12,7 +13,7 @@ use Rattle.std.specs.Map.{keys_of as map_keys}
 use Rattle.std.specs.Map.Iter.{TakesFirst}
 use Rattle.std.specs.Ordering.{nat_cmp}
 use Rattle.std.specs.Prelude.{nat_eq, leb, IfOk}
-use Rattle.std.specs.declared.cmp.Ordering.TheVariants.{Less, Equal}
+use Rattle.std.specs.declared.cmp.Ordering.TheVariants.{Less}
 use Rattle.ijson_table.specs.Growth.{Ungrown, wanted}
 use Rattle.ijson_table.specs.Inserts.{Inserts}
 use Rattle.ijson_table.specs.Store.{keys_of, put, Lacks, IsDistinct}
@@ -40,31 +41,21 @@ distinct_front (k ∷ ks) rest d = (lacks_front ks rest k d.0, distinct_front ks
 
 -- the keys of a map, by their bytes
 module _ {K X : Type 0} (bytes : K → List ℕ) where
-  lacks_other : (x : K) (es : List (K × X))
-      → AllByRecursion (λ y. pointwise nat_eq (bytes x) (bytes y) ≡ false) (map_keys es)
-      → Lacks (bytes x) (map (λ e. bytes e.0) es)
-  lacks_other x [] a = tt
-  lacks_other x (e ∷ es) a = (
-    λ q. (let same : pointwise nat_eq (bytes x) (bytes e.0) ≡ true = ap (pointwise nat_eq (bytes x)) (sym q)
-        ∙ nat_list_eq_equiv.refl (bytes x) in cc),
-    lacks_other x es a.1,
-  )
+  -- a key lacks among those that it is apart from
+  lacks_apart : (Apart : List ℕ → List ℕ → Type 0) → ((k : List ℕ) → Apart k k → ⊥) → (x : K) (es : List (K × X))
+      → AllByRecursion (λ y. Apart (bytes x) (bytes y)) (map_keys es) → Lacks (bytes x) (map (λ e. bytes e.0) es)
+  lacks_apart Apart never x [] a = tt
+  lacks_apart Apart never x (e ∷ es) a =
+      (λ q. never (bytes x) (subst (Apart (bytes x)) (sym q) a.0), lacks_apart Apart never x es a.1)
 
   -- where no two are equal
   pub unique_keys : (es : List (K × X)) → IsUnique (λ x y. pointwise nat_eq (bytes x) (bytes y)) (map_keys es)
       → IsDistinct (map (λ e. bytes e.0) es)
   unfolding IsUnique
   unique_keys [] d = tt
-  unique_keys (e ∷ es) d = (lacks_other e.0 es d.0, unique_keys es d.1)
-
-  lacks_below : (x : K) (es : List (K × X))
-      → AllByRecursion (λ y. slice_cmp nat_cmp (bytes x) (bytes y) ≡ Less) (map_keys es)
-      → Lacks (bytes x) (map (λ e. bytes e.0) es)
-  lacks_below x [] a = tt
-  lacks_below x (e ∷ es) a = (
-    λ q. (let same : slice_cmp nat_cmp (bytes x) (bytes e.0) ≡ Equal = ap (slice_cmp nat_cmp (bytes x)) (sym q)
-        ∙ tied_itself nat_list_cmp_total (bytes x) in cc),
-    lacks_below x es a.1,
+  unique_keys (e ∷ es) d = (
+    lacks_apart (λ j k. pointwise nat_eq j k ≡ false) (λ k f. true≢false (sym (nat_list_eq_equiv.refl k) ∙ f)) e.0 es d.0,
+    unique_keys es d.1,
   )
 
   -- where they ascend
@@ -72,7 +63,10 @@ module _ {K X : Type 0} (bytes : K → List ℕ) where
       → IsDistinct (map (λ e. bytes e.0) es)
   unfolding IsStrictlySortedBy
   ordered_keys [] d = tt
-  ordered_keys (e ∷ es) d = (lacks_below e.0 es d.0, ordered_keys es d.1)
+  ordered_keys (e ∷ es) d = (
+    lacks_apart (λ j k. slice_cmp nat_cmp j k ≡ Less) (λ k less. let tied = tied_itself nat_list_cmp_total k in cc) e.0 es d.0,
+    ordered_keys es d.1,
+  )
 
 -- ---- room that was made
 has_room : (len c : ℕ) → len + 1 ≤ c → wanted len c 1 ≡ c

@@ -1,2 +1,3 @@
+pub mod KindsApart
 pub mod OrderSteps
 pub mod SameSteps

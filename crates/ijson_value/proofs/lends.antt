@@ -1,5 +1,6 @@
 pub mod Called
 pub mod EmptySlice
+pub mod LentLaws
 pub mod LentOn
 pub mod Parts
 pub mod Steps

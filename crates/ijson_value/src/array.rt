@@ -75,17 +75,28 @@ impl IArray {
         IArray { list: None, alloc }
     }
 
-    /// An array with no items, and room for `capacity` of them. Room for none takes no memory. The error is want of memory.
+    /// An array with no items, and room for `capacity` of them. Room for none takes no memory. The error is that memory
+    /// was refused.
     pub fn with_capacity(alloc: Global, capacity: usize) -> Result<IArray, AllocError>
         ensures items { IfOk result (λ array. array.items ≡ []) }
         ensures room { IfOk result (λ array. capacity ≤ array.capacity) }
         ensures exact { IfOk result (λ array. array.capacity ≡ capacity) }
         ensures none { capacity ≡ 0 → IsOk result }
     {
-        if capacity == 0 {
+        IArray::of_list(alloc, Vec::with_capacity(alloc, capacity)?)
+    }
+
+    /// An array of the items of `list`, which are not copied. It takes memory for the place of the list, but none where the list has no
+    /// room; the list is dropped where there is none.
+    pub(crate) fn of_list(alloc: Global, list: Vec<IValue>) -> Result<IArray, AllocError>
+        ensures items { IfOk result (λ array. array.items ≡ list.items) }
+        ensures room { IfOk result (λ array. array.capacity ≡ vec_capacity list) }
+        ensures none { vec_capacity list ≡ 0 → IsOk result }
+    {
+        if list.capacity() == 0 {
             return Ok(IArray::new(alloc));
         }
-        match IArray::from_vec(alloc, Vec::with_capacity(alloc, capacity)?) {
+        match IArray::from_vec(alloc, list) {
             Ok(array) => Ok(array),
             Err(_) => Err(AllocError),
         }
@@ -212,8 +223,8 @@ impl IArray {
 }
 
 /// Makes room in a list for `additional` items more. Where it has not that room, its capacity becomes the greatest of twice the
-/// old one, the length with them, and 4. Where one of these passes what a `usize` counts, there is no such memory either, so that
-/// is told as want of memory. Twice the old one never does, since an item takes 24 bytes, but no contract of `Vec` says so.
+/// old one, the length with them, and 4. Where one of these passes what a `usize` counts, no such memory exists, so the error is the
+/// same as for memory that was refused. Twice the old one never does, since an item takes 24 bytes, but no contract of `Vec` says so.
 fn grow(list: &mut Vec<IValue>, additional: usize) -> Result<(), AllocError>
     ensures items { list.new.items ≡ list.old.items }
     ensures ok { OnOk result (length list.new.items + additional ≤ vec_capacity list.new) }

@@ -1,6 +1,5 @@
 //! Copies, as one walk over a value, a slice of values and an object's pairs.
 ghost use Rattle.std.specs.Prelude.{◌≡◌, IfOk, IsOk, length};
-ghost use Rattle.ijson_table.specs.Store.{keys_of};
 
 use crate::array::IArray;
 use crate::object::IObject;
@@ -37,14 +36,12 @@ pub(crate) fn clone_items(alloc: Global, items: &[IValue]) -> Result<IArray, All
     ensures room { IfOk result (λ copy. copy.capacity ≡ length items.now) }
     ensures none { length items.now ≡ 0 → IsOk result }
 {
-    let mut copy = IArray::with_capacity(alloc, items.len())?;
+    let mut copies = Vec::with_capacity(alloc, items.len())?;
     for item in items {
-        let item = clone_value(item)?;
-        if copy.push(item).is_err() {
-            return Err(AllocError);
-        }
+        let copy = clone_value(item)?;
+        copies.push_reserved(copy);
     }
-    Ok(copy)
+    IArray::of_list(alloc, copies)
 }
 
 /// Copies of these pairs.
@@ -60,7 +57,7 @@ fn clone_pairs(
     for pair in pairs {
         let key = pair.0.clone()?;
         let value = clone_value(&pair.1)?;
-        copies.push((key, value))?;
+        copies.push_reserved((key, value));
     }
     Ok(copies)
 }

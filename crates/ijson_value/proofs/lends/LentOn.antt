@@ -61,16 +61,6 @@ module _ {M : Type 1} {𝓤 : Ura M} (𝓛 : Logic 𝓤) (R : RattleType) where
       fpack ! ((s : (T.Denot → R.Denot) × R.Denot) × ((w : T.Denot) → P w (s.0 w)) × P₀ s.1) (λ s. follows_if R T γ none s.0.0 s.0.1)
       ((F, v), met, met₀) $ done !
 
--- A lender that follows its part, said by a relation.
-module _ {M : Type 1} {𝓤 : Ura M} (𝓛 : Logic 𝓤) (R T : RattleType) (F : T.Denot → R.Denot) (v : R.Denot) (P : T.Denot → R.Denot → Type 0)
-    (P₀ : R.Denot → Type 0) where
-  pub some_so : (γ δ : GName) → ((w : T.Denot) → P w (F w)) → P₀ v
-      → ent 𝓤 (sem 𝓛 (follows R T γ δ F)) (sem 𝓛 (follows_so R T γ (some δ) P P₀))
-  unfolding such_by follows_by
-  some_so γ δ met met₀ = qed 𝓛 (‵ (follows R T γ δ F) ∷ []) ∵
-      fpack ! ((s : (T.Denot → R.Denot) × R.Denot) × ((w : T.Denot) → P w (s.0 w)) × P₀ s.1) (λ s. follows_if R T γ (some δ) s.0.0 s.0.1)
-      ((F, v), met, met₀) $ done !
-
 -- A lender that follows its part if there is one, and else is as it was.
 module _ {M : Type 1} {𝓤 : Ura M} (𝓛 : Logic 𝓤) (R T : RattleType) (F : T.Denot → R.Denot) (v : R.Denot) (γ : GName) where
   pub some_if : (δ : GName) → ent 𝓤 (sem 𝓛 (follows R T γ δ F)) (sem 𝓛 (follows_if R T γ (some δ) F v))

@@ -1,9 +1,10 @@
 -- What entries rest on.
-use Rattle.std.proofs.Common.{◌≡◌, ◌<◌, ℕ, zero, suc, List, [], ◌∷◌, ◌++◌, length, get_or, refl, sym, ap, ◌∙◌, Option, Some, None, arith}
+use Rattle.std.proofs.Common.{◌≡◌, ◌<◌, ℕ, zero, suc, List, [], ◌∷◌, ◌++◌, length, get_or, refl, sym, ap, subst, ◌∙◌, Option, Some, None}
+use Rattle.std.proofs.Common.{arith}
 use Rattle.std.specs.Prelude.{slice_get, option_map, IsSome}
 use denote.Struct.Props.{props}
 use Rattle.ijson_table.proofs.pairs.KeyPositions.{position-some, position-distinct}
-use Rattle.ijson_table.proofs.pairs.PairsByKey.{lookup-found, position_within, keys-length}
+use Rattle.ijson_table.proofs.pairs.PairsByKey.{lookup-found, lookup-absent, position_within, keys-length}
 use Rattle.ijson_table.proofs.pairs.SameStores.{store_path}
 use Rattle.ijson_table.specs.Growth.{Ungrown}
 use Rattle.ijson_table.specs.Store.{Store, at, lookup, keys_of, swap_out, with_value}
@@ -11,6 +12,7 @@ use Rattle.ijson_table.specs.declared.store.ReserveError.{ReserveError}
 use Rattle.ijson_table.specs.declared.store.ReserveError.TheVariants.{Memory, TooLarge}
 use Rattle.ijson_table.specs.StoreWithValue.{store_with_value}
 use Rattle.ijson_value.specs.AtKey.{swap_out_key, swapped_at}
+use Rattle.ijson_value.specs.FindsEntry.{FindsNoRoom}
 use Rattle.ijson_value.specs.WellFormed.{WellFormed}
 use Rattle.ijson_value.specs.WithEntry.{with_entry_value}
 use Rattle.ijson_value.specs.declared.object.entry.OccupiedEntry.{OccupiedEntry}
@@ -31,6 +33,11 @@ module _ {V : Type 0} where
   pub refused_same : (old new : Store V) (why : ReserveError) → Ungrown (length old.pairs) old.capacity 1 why new.capacity
       → new.pairs ≡ old.pairs → new ≡ old
   refused_same old new why g e = store_path new old e (refused_capacity (length old.pairs) old.capacity 1 new.capacity why g)
+
+  -- what a look-up by the text of a key answered, of the key
+  pub placed : (pairs : List (List ℕ × V)) {key text : List ℕ} {found answer : Option ℕ} → text ≡ key → found ≡ at pairs text
+      → found ≡ answer → at pairs key ≡ answer
+  placed pairs text_is found_is is = ap (at pairs) (sym text_is) ∙ sym found_is ∙ is
 
   -- the key at the position of a key
   pub key_there : (pairs : List (List ℕ × V)) (key : List ℕ) (i : ℕ) → at pairs key ≡ Some i → get_or (keys_of pairs) i [] ≡ key
@@ -85,6 +92,14 @@ module _ {V : Type 0} where
       let found : at s.pairs (get_or (keys_of s.pairs) i []) ≡ Some i =
       position-distinct (keys_of s.pairs) (get_or (keys_of s.pairs) i []) i s.distinct (omega (arith, within, keys-length s.pairs)) refl in
       ap (λ o. swapped_at o s.pairs) (sym found)
+
+-- a key that is not there, for which a growth was refused
+pub finds_no_room : (old : Store WellFormed) (key : List ℕ) (why : ReserveError) (c : ℕ) → at old.pairs key ≡ None
+    → Ungrown (length old.pairs) old.capacity 1 why c → FindsNoRoom old key why
+finds_no_room old key why c missing growth = (
+  lookup-absent old.pairs key missing,
+  subst (λ n. Ungrown (length old.pairs) old.capacity 1 why n) (refused_capacity (length old.pairs) old.capacity 1 c why growth) growth,
+)
 
 -- the entry after a write, whatever shows that its position is within
 pub rewritten : (o : OccupiedEntry) (w : WellFormed) (v : o.index < length (with_value o.object.now.pairs o.index w))

@@ -67,10 +67,10 @@ some_equal Equal = (λ e. refl, λ e. refl)
 some_equal Greater = (λ e. absurd (true≢false (sym e)), λ e. absurd (cc))
 
 boolean_equal : (a b : Bool) → Decides (beq a b) (Some (bool_cmp a b) ≡ Some Equal)
-boolean_equal true true = (λ e. refl, λ e. refl)
-boolean_equal true false = (λ e. absurd (true≢false (sym e)), λ e. absurd (cc))
-boolean_equal false true = (λ e. absurd (true≢false (sym e)), λ e. absurd (cc))
-boolean_equal false false = (λ e. refl, λ e. refl)
+boolean_equal true true = some_equal Equal
+boolean_equal true false = some_equal Greater
+boolean_equal false true = some_equal Less
+boolean_equal false false = some_equal Equal
 
 object_equal : (b : Bool) → Decides b (object_answer b ≡ Some Equal)
 object_equal true = (λ e. refl, λ e. refl)
@@ -78,18 +78,18 @@ object_equal false = (λ e. absurd (true≢false (sym e)), λ e. absurd (cc))
 
 mutual
   cmp_equal : (t u : Tree) → Decides (same t u) (tree_cmp t u ≡ Some Equal)
-  cmp_equal null null = (λ e. refl, λ e. refl)
+  cmp_equal null null = some_equal Equal
   cmp_equal (boolean a) (boolean b) = boolean_equal a b
   cmp_equal (number m) (number n) = some_equal (number_cmp m n)
   cmp_equal (string r) (string s) = texts_po.matches_eq r s
   cmp_equal (array ts) (array us) = items_equal ts us
   cmp_equal (object ps) (object qs) = object_equal (same (object ps) (object qs))
-  cmp_equal _ _ = (λ e. absurd (true≢false (sym e)), λ e. absurd (cc))
+  cmp_equal t u = some_equal (nat_cmp (rank t) (rank u))
 
   items_equal : (ts us : Items) → Decides (same_each ts us) (items_cmp ts us ≡ Some Equal)
-  items_equal no_items no_items = (λ e. refl, λ e. refl)
-  items_equal no_items (item u us) = (λ e. absurd (true≢false (sym e)), λ e. absurd (cc))
-  items_equal (item t ts) no_items = (λ e. absurd (true≢false (sym e)), λ e. absurd (cc))
+  items_equal no_items no_items = some_equal Equal
+  items_equal no_items (item u us) = some_equal Less
+  items_equal (item t ts) no_items = some_equal Greater
   items_equal (item t ts) (item u us) =
       some_level (same t u) (same_each ts us) (tree_cmp t u) (items_cmp ts us) (cmp_equal t u) (items_equal ts us)
 
@@ -121,10 +121,10 @@ mutual
       (items_alike ts us vs d.1 e.1 f.1 (second_so (same t u) (same_each ts us) h) i)
 
 -- ---- Less is transitive
-nat_below : (m n : ℕ) → Some (nat_cmp m n) ≡ Some Less → m ≤ n
-nat_below m n = elim (nat_cmp m n) as (λ o. MatchOrdering o (m < n) (m ≡ n) (n < m) → Some o ≡ Some Less → m ≤ n) [
-  | Less ↦ λ r e. omega (arith, r)
-  | Equal ↦ λ r e. omega (arith, r)
+nat_lesser : (m n : ℕ) → Some (nat_cmp m n) ≡ Some Less → m < n
+nat_lesser m n = elim (nat_cmp m n) as (λ o. MatchOrdering o (m < n) (m ≡ n) (n < m) → Some o ≡ Some Less → m < n) [
+  | Less ↦ λ r e. r
+  | Equal ↦ λ r e. absurd (cc)
   | Greater ↦ λ r e. absurd (cc)
 ] (ranks m n)
 
@@ -133,25 +133,38 @@ nat_less m n h =
     let t : nat_lt m n ≡ true = grind (arith, nat_tests) in
     ap (λ b. Some (cond b Less (cond (m == n) Equal Greater))) t
 
+itself : (n : ℕ) → n ≤ n
+itself n = omega arith
+
+not_below_itself : (n : ℕ) → n < n → ⊥
+not_below_itself n h = omega arith
+
+no_later : (m n : ℕ) → Some (nat_cmp m n) ≡ Some Less → m ≤ n
+no_later m n h = omega (arith, nat_lesser m n h)
+
 -- a lesser value is of no later kind
 below : (t u : Tree) → tree_cmp t u ≡ Some Less → rank t ≤ rank u
-below null null h = omega arith
-below (boolean a) (boolean b) h = omega arith
-below (number m) (number n) h = omega arith
-below (string r) (string s) h = omega arith
-below (array ts) (array us) h = omega arith
-below (object ps) (object qs) h = omega arith
-below t u h = nat_below (rank t) (rank u) h
+below null null h = itself 0
+below (boolean a) (boolean b) h = itself 1
+below (number m) (number n) h = itself 2
+below (string r) (string s) h = itself 3
+below (array ts) (array us) h = itself 4
+below (object ps) (object qs) h = itself 5
+below t u h = no_later (rank t) (rank u) h
 
 -- and one of an earlier kind is lesser
 earlier : (t u : Tree) → rank t < rank u → tree_cmp t u ≡ Some Less
-earlier null null h = absurd (omega (arith, h))
-earlier (boolean a) (boolean b) h = absurd (omega (arith, h))
-earlier (number m) (number n) h = absurd (omega (arith, h))
-earlier (string r) (string s) h = absurd (omega (arith, h))
-earlier (array ts) (array us) h = absurd (omega (arith, h))
-earlier (object ps) (object qs) h = absurd (omega (arith, h))
+earlier null null h = absurd (not_below_itself 0 h)
+earlier (boolean a) (boolean b) h = absurd (not_below_itself 1 h)
+earlier (number m) (number n) h = absurd (not_below_itself 2 h)
+earlier (string r) (string s) h = absurd (not_below_itself 3 h)
+earlier (array ts) (array us) h = absurd (not_below_itself 4 h)
+earlier (object ps) (object qs) h = absurd (not_below_itself 5 h)
 earlier t u h = nat_less (rank t) (rank u) h
+
+-- so is one of an earlier kind than what is lesser
+earlier_then : (t u v : Tree) → Some (nat_cmp (rank t) (rank u)) ≡ Some Less → tree_cmp u v ≡ Some Less → tree_cmp t v ≡ Some Less
+earlier_then t u v h g = earlier t v (omega (arith, nat_lesser (rank t) (rank u) h, below u v g))
 
 inside : (r s : Ordering) → Some r ≡ Some s → r ≡ s
 inside r s e = ap (λ p. unwrap_or p Equal) e
@@ -193,15 +206,19 @@ module _ (t u v : Tree) (d : IsWellFormed t) (e : IsWellFormed u) (f : IsWellFor
 mutual
   cmp_less : (t u v : Tree) → IsWellFormed t → IsWellFormed u → IsWellFormed v → tree_cmp t u ≡ Some Less
       → tree_cmp u v ≡ Some Less → tree_cmp t v ≡ Some Less
-  cmp_less null null null d e f h g = h
+  cmp_less null null v d e f h g = g
   cmp_less (boolean a) (boolean b) (boolean c) d e f h g =
       ap Some (bool_cmp_total.trans a b c (inside (bool_cmp a b) Less h) (inside (bool_cmp b c) Less g))
+  cmp_less (boolean a) (boolean b) v d e f h g = g
   cmp_less (number l) (number m) (number n) d e f h g =
       ap Some (number_cmp_total.trans l m n (inside (number_cmp l m) Less h) (inside (number_cmp m n) Less g))
+  cmp_less (number l) (number m) v d e f h g = g
   cmp_less (string l) (string m) (string n) d e f h g = texts_po.trans l m n h g
+  cmp_less (string l) (string m) v d e f h g = g
   cmp_less (array ts) (array us) (array vs) d e f h g = items_less ts us vs d e f h g
-  cmp_less (object ps) (object qs) (object rs) d e f h g = absurd (not_less (same (object ps) (object qs)) h)
-  cmp_less t u v d e f h g = earlier t v (omega (arith, below t u h, below u v g))
+  cmp_less (array ts) (array us) v d e f h g = g
+  cmp_less (object ps) (object qs) v d e f h g = absurd (not_less (same (object ps) (object qs)) h)
+  cmp_less t u v d e f h g = earlier_then t u v h g
 
   items_less : (ts us vs : Items) → AreWellFormed ts → AreWellFormed us → AreWellFormed vs
       → items_cmp ts us ≡ Some Less → items_cmp us vs ≡ Some Less → items_cmp ts vs ≡ Some Less

@@ -1,5 +1,6 @@
 -- The code of a tree, by which a proof tells trees apart.
-use Rattle.std.proofs.Common.{◌≡◌, ℕ, List, refl, ap}
+use Rattle.std.proofs.Common.{◌≡◌, ◌==◌, ℕ, List, false, refl, sym, ap, ◌∙◌, eq-eqb}
+use mathlib.Core.Bool.{true≢false}
 use Rattle.std.specs.Coded.{Coded, coded_bool, coded_list, coded_ℕ}
 use base.Stored.{Gv, gnil, gnum, gcons}
 use Rattle.ijson_number.specs.laws.Codes.{decimal_code}
@@ -18,6 +19,15 @@ abbrev second : Gv → Gv
 second gnil = gnil
 second (gnum n) = gnil
 second (gcons a b) = b
+
+-- the number that stands first in the code of a tree, by its kind
+abbrev tag : Gv → ℕ
+tag gnil = 0
+tag (gnum n) = n
+tag (gcons a b) = tag a
+
+apart : (m n : ℕ) → (m == n) ≡ false → m ≡ n → ⊥
+apart m n other e = true≢false (sym (eq-eqb m n e) ∙ other)
 
 abbrev mutual
   pub code_t : Tree → Gv
@@ -44,7 +54,7 @@ mutual
   inj_t (string r) (string s) e = ap string (text_code.inj r s (ap second e))
   inj_t (array ts) (array us) e = ap array (inj_ts ts us (ap second e))
   inj_t (object ps) (object qs) e = ap object (inj_ps ps qs (ap second e))
-  inj_t _ _ e = cc
+  inj_t t u e = absurd (apart (tag (code_t t)) (tag (code_t u)) refl (ap tag e))
 
   inj_ts : (ts us : Items) → code_ts ts ≡ code_ts us → ts ≡ us
   inj_ts no_items no_items e = refl

@@ -1,5 +1,5 @@
 //! What puts items into an array at a place, and what takes them out.
-ghost use Rattle.std.specs.Prelude.{◌≡◌, ◌++◌, ◌-◌, ◌*◌, ◌<◌, ◌≤◌, [], length, take, slice_get, OnOk, OnErr, IfErr, IsOk, MatchOption};
+ghost use Rattle.std.specs.Prelude.{◌≡◌, ◌-◌, ◌*◌, ◌<◌, ◌≤◌, [], length, take, slice_get, OnOk, OnErr, IfErr, IsOk, MatchOption};
 ghost use Rattle.std.specs.List.{insert, remove, swap_remove};
 
 use super::{IArray, Refused};

@@ -86,9 +86,7 @@ impl IObject {
         ensures none { count ≡ 0 → IsOk result }
     {
         let mut object = IObject::with_capacity(alloc, count)?;
-        match object.extend(pairs) {
-            Ok(()) => Ok(object),
-            Err(refused) => Err(refused.why),
-        }
+        object.extend(pairs)?;
+        Ok(object)
     }
 }

@@ -1,10 +1,11 @@
-use Rattle.std.proofs.Common.{◌≡◌, arith, sym, ap, ◌∙◌}
-use Rattle.ijson_value.specs.Tree.{array, object, depth}
+use Rattle.std.proofs.Common.{◌≡◌, ℕ, ◌+◌, ◌<◌, List, [], ◌∷◌, ◌++◌, length, get_or, take, add-one, arith, refl, sym, ap, subst, ◌∙◌}
+use Rattle.std.proofs.Common.{take_all}
+use Rattle.std.proofs.Math.Seq.{take-suc}
+use Rattle.std.specs.Prelude.{IfOk}
 use Rattle.ijson_value.specs.Values.{number_value, string_value, array_value}
-use Rattle.ijson_value.specs.WellFormed.{tree_of, item_trees, pair_trees}
 use Rattle.ijson_value.specs.NodeValue.{node_value}
 use Rattle.ijson_value.proofs.pairs.SamePairs.{same_pairs_value}
-use Rattle.ijson_value.proofs.DepthLemmas.{items_below, pairs_below}
+use Rattle.ijson_value.proofs.DepthLemmas.{items_fall, pairs_fall}
 use Rattle.ijson_value.proofs.clone.+clone.Goals as goal
 use Rattle.ijson_value.proofs.clone.+clone.Goals.{clone_value-in-Null, clone_value-in-Bool, clone_value-in-Number+in_ok-clone-in-Number}
 use Rattle.ijson_value.proofs.clone.+clone.Goals.{clone_value-in-String+in_ok-clone-in-String}
@@ -13,19 +14,11 @@ use Rattle.ijson_value.proofs.clone.+clone.Goals.{clone_value-in-Object+in_ok-pa
 
 pub clone_value-clone_items-requires : goal.clone_value-clone_items-requires
 clone_value-clone_items-requires t c =
-    let vs = c.as_slice.result.now in
-    let is : array (item_trees vs) ≡ c.args.value.now.tree =
-    ap (λ l. array (item_trees l)) c.as_slice.ensures
-    ∙ sym (ap (λ n. (node_value n).tree) c.in-Array.is) ∙ ap tree_of c.value.view_is in
-    (omega (arith, items_below vs, ap depth is, c.decreases), tt)
+    (omega (arith, items_fall c.as_slice.ensures c.in-Array.is c.value.view_is, c.decreases), tt)
 
 pub clone_value-clone_pairs-requires : goal.clone_value-clone_pairs-requires
 clone_value-clone_pairs-requires t c =
-    let ps = c.as_slice-in-Object.result.now in
-    let is : object (pair_trees ps) ≡ c.args.value.now.tree =
-    ap (λ l. object (pair_trees l)) c.as_slice-in-Object.ensures
-    ∙ sym (ap (λ n. (node_value n).tree) c.in-Object.is) ∙ ap tree_of c.value.view_is in
-    (omega (arith, pairs_below ps, ap depth is, c.decreases), tt)
+    (omega (arith, pairs_fall c.as_slice-in-Object.ensures c.in-Object.is c.value.view_is, c.decreases), tt)
 
 pub clone_value-returns : goal.clone_value-returns
 clone_value-returns t c = elim c.match-value.branch [
@@ -46,3 +39,41 @@ clone_value-returns t c = elim c.match-value.branch [
       ap node_value w.node-is ∙ same_pairs_value _ w.in-Object.object pairs
       ∙ sym (ap node_value w.in-Object.is) ∙ c.value.view_is
 ]
+
+-- one more copy in the list
+one_more : {X : Type 0} (xs : List X) (i : ℕ) (x y : X) (old new : List X) → new ≡ old ++ y ∷ [] → old ≡ take i xs → y ≡ x
+    → i < length xs → x ≡ get_or xs i x → new ≡ take (i + 1) xs
+one_more xs i x y old new pushed before copied h is =
+    pushed ∙ (λ j. before j ++ (copied ∙ is) j ∷ []) ∙ sym (rw add-one (take-suc xs i x h))
+
+pub clone_items-loop-item-preserved : goal.clone_items-loop-item-preserved
+clone_items-loop-item-preserved t c = (
+  one_more c.args.items.now c.loop-item.item-index c.item-item.result c.in_ok-copy.copy c.loop-item.copies.items
+      c.push_reserved.new.self.items c.push_reserved.ensures.items c.loop-item.invariant.0 c.in_ok-copy.ensures
+      c.loop-item-test.true c.item-item.is,
+  c.push_reserved.ensures.capacity ∙ c.loop-item.invariant.1,
+)
+
+pub clone_items-returns : goal.clone_items-returns
+clone_items-returns t c =
+    let all = c.loop-item.invariant.0 ∙ take_all c.loop-item.item-index c.args.items.now c.loop-item-test.false in record {
+      items = subst (λ vs. IfOk c.of_list.result (λ copy. copy.items ≡ vs)) all c.of_list.ensures.items;
+      room = subst (λ n. IfOk c.of_list.result (λ copy. copy.capacity ≡ n)) c.loop-item.invariant.1 c.of_list.ensures.room;
+      none = λ e. c.of_list.ensures.none (c.loop-item.invariant.1 ∙ e);
+    }
+
+pub clone_pairs-loop-pair-preserved : goal.clone_pairs-loop-pair-preserved
+clone_pairs-loop-pair-preserved t c =
+    let key : c.in_ok-key.key ≡ c.pair-item.result.0 = c.in_ok-key.ensures.cases in
+    let value : c.in_ok-value.value ≡ c.pair-item.result.1 = c.in_ok-value.ensures in (
+      one_more c.args.pairs.now c.loop-pair.pair-index c.pair-item.result (c.in_ok-key.key, c.in_ok-value.value)
+          c.loop-pair.copies.items c.push_reserved.new.self.items c.push_reserved.ensures.items
+          c.loop-pair.invariant.0 (λ i. (key i, value i)) c.loop-pair-test.true c.pair-item.is,
+      c.push_reserved.ensures.capacity ∙ c.loop-pair.invariant.1,
+    )
+
+pub clone_pairs-returns : goal.clone_pairs-returns
+clone_pairs-returns t c = record {
+  pairs = c.loop-pair.invariant.0 ∙ take_all c.loop-pair.pair-index c.args.pairs.now c.loop-pair-test.false;
+  none = λ _. refl;
+}

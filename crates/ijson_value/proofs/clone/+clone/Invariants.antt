@@ -1,13 +1,14 @@
 use Rattle.std.proofs.Common.{◌≡◌, ◌*◌, ◌+◌, take, length}
 use denote.Param.Weighed.{most}
+use Rattle.std.specs.Prelude.{vec_capacity}
 use Rattle.ijson_value.specs.Sizes.{value_size}
 use Rattle.ijson_value.proofs.clone.+clone.Given as goal
 
 abbrev pub invariant-clone_items-loop-item : goal.invariant-clone_items-loop-item
-invariant-clone_items-loop-item l = (l.copy.items ≡ take l.item-index l.items) × (l.copy.capacity ≡ length l.items)
+invariant-clone_items-loop-item l = (l.copies.items ≡ take l.item-index l.items) × (vec_capacity l.copies ≡ length l.items)
 
 abbrev pub invariant-clone_pairs-loop-pair : goal.invariant-clone_pairs-loop-pair
-invariant-clone_pairs-loop-pair l = l.copies.items ≡ take l.pair-index l.pairs
+invariant-clone_pairs-loop-pair l = (l.copies.items ≡ take l.pair-index l.pairs) × (vec_capacity l.copies ≡ length l.pairs)
 
 abbrev pub decreases-clone_value : goal.decreases-clone_value
 decreases-clone_value l = 2 * value_size l.value.now

@@ -1,19 +1,13 @@
-use Rattle.std.proofs.Common.{◌≡◌, fold, add-one, arith, sym, ap, ◌∙◌, drop_of_length-le}
-use Rattle.ijson_value.specs.Tree.{array, depth}
-use Rattle.ijson_value.specs.WellFormed.{tree_of, item_trees}
+use Rattle.std.proofs.Common.{fold, add-one, arith, ap, ◌∙◌, drop_of_length-le}
+use Rattle.ijson_value.specs.WellFormed.{item_trees}
 use Rattle.ijson_value.specs.Words.{item_words}
-use Rattle.ijson_value.specs.NodeValue.{node_value}
-use Rattle.ijson_value.proofs.DepthLemmas.{items_below}
+use Rattle.ijson_value.proofs.DepthLemmas.{items_fall}
 use Rattle.ijson_value.proofs.hashing.Feeds.{feed, array_fed, item_fed}
 use Rattle.ijson_value.proofs.hash.+hash.Goals as goal
 
 pub hash_value-hash_items-requires : goal.hash_value-hash_items-requires
 hash_value-hash_items-requires g t c κs within =
-    let vs = c.as_slice.result.now in
-    let is : array (item_trees vs) ≡ c.args.value.now.tree =
-    ap (λ l. array (item_trees l)) c.as_slice.ensures
-    ∙ sym (ap (λ n. (node_value n).tree) c.in-Array.is) ∙ ap tree_of c.value.view_is in
-    (omega (arith, items_below vs, ap depth is, c.decreases), within)
+    (omega (arith, items_fall c.as_slice.ensures c.in-Array.is c.value.view_is, c.decreases), within)
 
 pub hash_items-loop-item-preserved : goal.hash_items-loop-item-preserved
 hash_items-loop-item-preserved g t c =

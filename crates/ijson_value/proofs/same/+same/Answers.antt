@@ -1,10 +1,9 @@
 use Rattle.std.proofs.Common.{◌≡◌, Some, None, ◌&&◌, arith, sym, ap, ◌∙◌, drop, suc, add-one, length, drop_of_length-le}
 use Rattle.ijson_table.specs.Store.{lookup}
-use Rattle.ijson_value.specs.WellFormed.{tree_of, pair_trees, item_trees}
+use Rattle.ijson_value.specs.WellFormed.{pair_trees}
 use Rattle.ijson_value.specs.SameTest.{same_in}
-use Rattle.ijson_value.specs.Tree.{array, depth, members_depth}
-use Rattle.ijson_value.specs.NodeValue.{node_value}
-use Rattle.ijson_value.proofs.DepthLemmas.{pair-members_depth, items_below}
+use Rattle.ijson_value.specs.Tree.{members_depth}
+use Rattle.ijson_value.proofs.DepthLemmas.{pair-members_depth, items_fall}
 use Rattle.ijson_value.proofs.comparing.SameSteps.{in-drop-None, in-drop-Some, each-other_lengths, objects-lengths, objects-other_lengths}
 use Rattle.ijson_value.proofs.same.+same.Goals as goal
 
@@ -79,8 +78,4 @@ same_pairs-returns t c =
 
 pub same_value-same_items-requires : goal.same_value-same_items-requires
 same_value-same_items-requires t c =
-    let vs = c.as_slice.result.now in
-    let is : array (item_trees vs) ≡ c.args.a.now.tree =
-    ap (λ l. array (item_trees l)) c.as_slice.ensures
-    ∙ sym (ap (λ n. (node_value n).tree) c.in-Array-Array.is-0) ∙ ap tree_of c.a.view_is in
-    (omega (arith, items_below vs, ap depth is, c.decreases), tt)
+    (omega (arith, items_fall c.as_slice.ensures c.in-Array-Array.is-0 c.a.view_is, c.decreases), tt)

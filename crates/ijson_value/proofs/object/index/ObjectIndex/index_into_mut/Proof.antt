@@ -1,49 +1,30 @@
 -- The call of the object itself. Assumes `Logic`.
-use Rattle.ijson_value.proofs.lends.Steps.{◌≡◌, List, [], ◌∷◌, refl, MutBor, Bor, proved, id⊢, Lft, ftrue, flft, named, Val, fact, fact_i}
+use Rattle.ijson_value.proofs.lends.Steps.{◌≡◌, List, [], ◌∷◌, refl, MutBor, Bor, proved, id⊢, ftrue, flft, named, Val, fact, fact_i}
 use Rattle.ijson_value.proofs.lends.Steps.{emp, tables, ‵, raw, ◌⊛◌, some, later, ◌$◌, ◌∵◌, !, qed, done, move, keep, drop, use0, use1}
 use Rattle.ijson_value.proofs.lends.Steps.{use3, split, join, fjoin, pick, await, suffices, frame, enter, addr, stop, no_more, and_then}
 use Rattle.ijson_value.proofs.lends.Steps.{returns, alloc_all, pass_all, free_all, look_at, get, through, sets, lands_as, no, shows}
-use Rattle.ijson_value.proofs.lends.Steps.{RattleType, MutRef, mut_vals, mut_Tells, plain, mut_ref_to, nothing, heard, peeks, Laws}
-use Rattle.ijson_value.proofs.lends.Steps.{of_field, row_shared, mut_ref_shared, mut_ref_laws, mut_ref_field, calls_at, lasts, triple_of}
+use Rattle.ijson_value.proofs.lends.Steps.{RattleType, MutRef, mut_vals, mut_Tells, plain, mut_ref_to, nothing, heard, peeks}
+use Rattle.ijson_value.proofs.lends.Steps.{calls_at, lasts, triple_of}
 use Rattle.ijson_value.proofs.lends.Steps.{Stays, walk_of, says, stay_dropped, Goes-dropped, Goes-spent_ref, ends_at, framed}
 use mir.MapTy.{inst_fn}
 use mir.Syntax.{a_type, dcons, dnil}
 use contract.BorrowLft.{◌⊑◌}
 use denote.Param.{bounded}
 use denote.Param.Laws.{copied_copy, copied_laws, IsCopy}
-use denote.Ref.{ShrRef, NamedLft}
-use denote.Struct.Tuple.{Tuple, tuple_laws}
-use denote.Struct.Field.{shr_ref_field}
-use denote.Struct.Laws.{shr_ref_laws, shr_ref_copy}
-use denote.Param.Shared.{copy_shared}
 use Rattle.std.specs.Prelude.{Option, option_map}
 use Rattle.std.specs.Map.Iter.{deref_pair_mut}
 use Rattle.std.specs.contracts.option.Option.{the_row as OptionOf}
-use Rattle.std.proofs.option.Option.TheLaws.{the_row_laws as option_laws}
 use Rattle.ijson_string.specs.contracts.text.IString.{the_row as S}
-use Rattle.ijson_string.proofs.text.IString.TheLaws.{the_row_laws as string_laws}
 use Rattle.ijson_value.specs.AtKey.{pair_at_key}
 use Rattle.ijson_value.specs.LendsPair.{LendsPairIf}
 use Rattle.ijson_value.specs.contracts.object.map.IObject.{the_row as M}
 use Rattle.ijson_value.specs.contracts.value.IValue.{the_row as V}
-use Rattle.ijson_value.proofs.value.IValue.TheLaws.{the_row_laws as value_laws}
+use Rattle.ijson_value.proofs.lends.LentLaws.{Pair, pair_found_laws}
 use Rattle.ijson_value.specs.contracts.object.index.ObjectIndex.index_into_mut as f
 use Rattle.ijson_value.proofs.object.index.ObjectIndex.index_into_mut.Statement.{statement}
 use Rattle.ijson_value.proofs.object.index.ObjectIndex.index_into_mut.Code as code
 use Rattle.ijson_value.specs.contracts.object.map.IObject.get_key_value_mut as g
 use Rattle.ijson_value.proofs.object.map.IObject.get_key_value_mut.Met as g-thm
-
--- the pair of the two references, if there is one
-abbrev Pair : Lft → RattleType
-Pair κ = Tuple (ShrRef (named 0) κ S ∷ MutRef (named 0) κ V ∷ [])
-
-abbrev pair_laws : (κ : Lft) → Laws (OptionOf (Pair κ))
-pair_laws κ = let a : NamedLft = record { mir = named 0; lft = κ } in
-    option_laws (Pair κ) (tuple_laws (ShrRef (named 0) κ S ∷ MutRef (named 0) κ V ∷ []) (
-      of_field (shr_ref_field a S tt) (shr_ref_laws a S tt) refl
-          (copy_shared (shr_ref_field a S tt) (shr_ref_copy a S tt string_laws.shr_laws)),
-      (of_field (mut_ref_field a V tt) (mut_ref_laws a V tt) refl (mut_ref_shared a V tt (row_shared V value_laws)), tt),
-    ))
 
 pub index_into_mut_spec : {M' : Type 1} → statement M'
 index_into_mut_spec 𝓤 𝓛 𝓜 𝓡 wired I LI CI gx dx gs ds gc dc mx ms mc =
@@ -84,7 +65,7 @@ index_into_mut_spec 𝓤 𝓛 𝓜 𝓡 wired I LI CI gx dx gs ds gc dc mx ms mc
     pick ! (λ ws. split ! $ drop ! $ split ! $ move ! (1 ∷ []) $ heard ! _ (λ is.
     -- [what the object follows; the tokens; the answer]
     move ! (2 ∷ []) $ peeks ! (OptionOf (Pair κ)) _ (shows 𝓛 (OptionOf (Pair κ))) x (v ∷ []) (λ told.
-    lands_as ! refl refl (((pair_laws κ).lawful 𝓛).typed x (v ∷ []) told).0 $
+    lands_as ! refl refl (((pair_found_laws κ).lawful 𝓛).typed x (v ∷ []) told).0 $
     returns ! (look_at ! 0 refl) $ free_all ! refl $ keep ! (0 ∷ 2 ∷ 1 ∷ []) $
     suffices ! _ (ends_at 𝓛 En hs c y v x (tt, (tt, tt)) (tt, (tt, tt))) $
     nothing ! $ nothing ! $ fjoin ! $ nothing ! $ fjoin ! $ join ! $ move ! (1 ∷ 0 ∷ []) $ join ! $ frame ! $ says ! is $ done !))))))))

@@ -1,15 +1,14 @@
-use Rattle.std.proofs.Common.{◌≡◌, ◌++◌, ◌∷◌, [], refl, sym, ap, subst, ◌∙◌, ℕ, length, Some, None}
+use Rattle.std.proofs.Common.{◌≡◌, ◌++◌, ◌∷◌, [], refl, sym, ap, ◌∙◌, ℕ, Some, None}
 use Rattle.ijson_table.proofs.pairs.PairsByKey.{put-present, put-absent, lookup-absent}
-use Rattle.ijson_table.specs.Growth.{Ungrown}
 use Rattle.ijson_table.specs.Store.{Store, at}
 use Rattle.ijson_value.specs.WellFormed.{WellFormed}
-use Rattle.ijson_value.proofs.pairs.Entries.{refused_capacity, refused_same, key_there, value_there, is_there}
+use Rattle.ijson_value.proofs.pairs.Entries.{placed, finds_no_room, refused_same, key_there, value_there, is_there}
 use Rattle.ijson_value.proofs.object.map.IObject.entry.Goals as goal
 
 pub returns-in-Some : goal.returns-in-Some
 returns-in-Some c =
     let old : Store WellFormed = c.args.self.now in let key = c.args.key in let i : ℕ = c.in-Some.index in
-    let found : at old.pairs key ≡ Some i = ap (at old.pairs) (sym c.as_str.ensures) ∙ sym c.position.ensures.position ∙ c.in-Some.is in (
+    let found : at old.pairs key ≡ Some i = placed old.pairs c.as_str.ensures c.position.ensures.position c.in-Some.is in (
       (refl, λ w. refl, tt),
       record {
         same_object = refl;
@@ -25,7 +24,7 @@ returns-in-Some c =
 pub returns-in-Ok : goal.returns-in-Ok
 returns-in-Ok c =
     let old : Store WellFormed = c.args.self.now in let key = c.args.key in let new : Store WellFormed = c.reserve.new.self in
-    let missing : at old.pairs key ≡ None = ap (at old.pairs) (sym c.as_str.ensures) ∙ sym c.position.ensures.position ∙ c.in-None.is in
+    let missing : at old.pairs key ≡ None = placed old.pairs c.as_str.ensures c.position.ensures.position c.in-None.is in
     let same : new.pairs ≡ old.pairs = c.in-Ok.ensures.pairs in (
       (refl, λ w. refl, tt),
       record {
@@ -42,7 +41,7 @@ returns-in-Ok c =
 pub returns : goal.returns
 returns c =
     let old : Store WellFormed = c.args.self.now in let key = c.args.key in let new : Store WellFormed = c.reserve.new.self in
-    let missing : at old.pairs key ≡ None = ap (at old.pairs) (sym c.as_str.ensures) ∙ sym c.position.ensures.position ∙ c.in-None.is in
+    let missing : at old.pairs key ≡ None = placed old.pairs c.as_str.ensures c.position.ensures.position c.in-None.is in
     let why = c.in-Err.why in let growth = c.in-Err.ensures.growth in (
       (refl, λ w. tt, refused_same old new why growth c.in-Err.ensures.pairs),
       record {
@@ -51,14 +50,7 @@ returns c =
         key = tt;
         value = tt;
         update = tt;
-        refused = (
-          refl,
-          (
-            lookup-absent old.pairs key missing,
-            subst (λ n. Ungrown (length old.pairs) old.capacity 1 why n)
-                (refused_capacity (length old.pairs) old.capacity 1 new.capacity why growth) growth,
-          ),
-        );
+        refused = (refl, finds_no_room old key why new.capacity missing growth);
         rests = tt;
       },
     )

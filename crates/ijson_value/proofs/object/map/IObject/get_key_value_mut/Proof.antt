@@ -6,7 +6,7 @@ use Rattle.ijson_value.proofs.lends.Steps.{rewrite, fsplit, fsplit3, fjoin, pick
 use Rattle.ijson_value.proofs.lends.Steps.{stop, no_more, and_then, first, exec, returns, alloc_all, pass_all, free_all, look_at, get}
 use Rattle.ijson_value.proofs.lends.Steps.{get_in, get_tag, through, sets, sets_last, lands_as, agg, env, usize, no, shows, uint_vals}
 use Rattle.ijson_value.proofs.lends.Steps.{uint_Tells, RattleType, MutRef, mut_vals, mut_Tells, plain, mut_ref_to, nothing, heard, peeks}
-use Rattle.ijson_value.proofs.lends.Steps.{only, whole, vrt, Laws, of_field, row_shared, mut_ref_shared, mut_ref_laws, mut_ref_field}
+use Rattle.ijson_value.proofs.lends.Steps.{only, whole, vrt}
 use Rattle.ijson_value.proofs.lends.Steps.{calls_at, lasts, triple_of, Stays, walk_of, stay_dropped, Goes-dropped, Goes-spent_ref, ends_at}
 use Rattle.ijson_value.proofs.lends.Steps.{framed, lends_again, comes_back, LentAgain, lft_new, lft_end, follows, says}
 use types.Match.{in_variant, live}
@@ -14,23 +14,17 @@ use types.Run.{switches}
 use mathlib.Core.List.{◌++◌}
 use mir.Val.{of_list}
 use native.Mathlib.Nat.{suc-ne-zero}
-use denote.Ref.{ShrRef, NamedLft}
-use denote.Struct.Tuple.{Tuple, tuple_laws}
-use denote.Struct.Field.{shr_ref_field}
-use denote.Struct.Laws.{shr_ref_laws, shr_ref_copy}
-use denote.Param.Shared.{copy_shared}
 use Rattle.std.specs.Prelude.{Option, None, Some, IfSome, ◌<◌, length, option_and_then, slice_get}
 use Rattle.std.specs.contracts.option.Option.{the_row as OptionOf}
 use Rattle.std.proofs.option.Made.{Some-of, none_of}
 use Rattle.ijson_value.specs.contracts.object.map.IObject.{the_row as M}
 use Rattle.ijson_string.specs.contracts.text.IString.{the_row as S}
-use Rattle.ijson_string.proofs.text.IString.TheLaws.{the_row_laws as string_laws}
 use Rattle.ijson_table.specs.Store.{at as place_of}
 use Rattle.ijson_value.specs.LendsAtKey.{with_key, with_found}
 use Rattle.ijson_value.specs.LendsPair.{LendsPairIf}
 use Rattle.ijson_value.specs.LendsValue.{LendsValue}
 use Rattle.ijson_value.specs.contracts.value.IValue.{the_row as V}
-use Rattle.ijson_value.proofs.value.IValue.TheLaws.{the_row_laws as value_laws}
+use Rattle.ijson_value.proofs.lends.LentLaws.{Pair, pair_laws}
 use Rattle.ijson_value.proofs.lends.LentOn.{none_if, some_if}
 use Rattle.ijson_value.proofs.lends.Variants.{and_tt, none_out, Some-out, by_option}
 use Rattle.ijson_value.specs.contracts.object.map.IObject.get_key_value_mut as f
@@ -46,18 +40,6 @@ use contract.BorrowLft.{◌⊑◌}
 use Rattle.std.proofs.VecSteps.Shapes.{after}
 use Rattle.ijson_value.specs.contracts.object.map.IObject.pair_mut as h
 use Rattle.ijson_value.proofs.object.map.IObject.pair_mut.Met as h-thm
-
--- the pair of the two references
-abbrev Pair : Lft → RattleType
-Pair κ = Tuple (ShrRef (named 0) κ S ∷ MutRef (named 0) κ V ∷ [])
-
-abbrev pair_laws : (κ : Lft) → Laws (Pair κ)
-pair_laws κ = let a : NamedLft = record { mir = named 0; lft = κ } in
-    tuple_laws (ShrRef (named 0) κ S ∷ MutRef (named 0) κ V ∷ []) (
-      of_field (shr_ref_field a S tt) (shr_ref_laws a S tt) refl
-          (copy_shared (shr_ref_field a S tt) (shr_ref_copy a S tt string_laws.shr_laws)),
-      (of_field (mut_ref_field a V tt) (mut_ref_laws a V tt) refl (mut_ref_shared a V tt (row_shared V value_laws)), tt),
-    )
 
 pub get_key_value_mut_spec : {M' : Type 1} → statement M'
 get_key_value_mut_spec 𝓤 𝓛 𝓜 𝓡 wired I LI CI gx dx gs ds gc dc mx ms mc =

@@ -3,18 +3,18 @@ use Rattle.std.specs.Prelude.{slice_get}
 use Rattle.std.specs.Option.{unwrap_or}
 use Rattle.std.proofs.lemmas.Bool.{false≢true}
 use Rattle.ijson_table.proofs.pairs.PairsByKey.{put-present, put-absent, lookup-found, lookup-absent}
-use Rattle.ijson_table.specs.Growth.{Grown, Ungrown}
+use Rattle.ijson_table.specs.Growth.{Grown}
 use Rattle.ijson_table.specs.Store.{Store, at, with_value}
 use Rattle.ijson_value.specs.LendsAtKey.{grown_at}
 use Rattle.ijson_value.specs.Values.{null_value}
 use Rattle.ijson_value.specs.WellFormed.{WellFormed}
-use Rattle.ijson_value.proofs.pairs.Entries.{refused_capacity, written_last, got_last, same_value}
+use Rattle.ijson_value.proofs.pairs.Entries.{placed, finds_no_room, refused_capacity, written_last, got_last, same_value}
 use Rattle.ijson_value.proofs.object.map.IObject.index_or_insert.Goals as goal
 
 pub returns-in-Some : goal.returns-in-Some
 returns-in-Some c =
     let old : Store WellFormed = c.args.self.now in let key = c.args.key in let i : ℕ = c.in-Some.position in
-    let found : at old.pairs key ≡ Some i = ap (at old.pairs) (sym c.as_str.ensures) ∙ sym c.position.ensures.position ∙ c.in-Some.is in
+    let found : at old.pairs key ≡ Some i = placed old.pairs c.as_str.ensures c.position.ensures.position c.in-Some.is in
     let got = c.value_mut.ensures.value in (
       (
         refl,
@@ -35,7 +35,7 @@ pub returns-in-Ok : goal.returns-in-Ok
 returns-in-Ok c =
     let old : Store WellFormed = c.args.self.now in let key = c.args.key in let grown : Store WellFormed = c.reserve.new.self in
     let new : Store WellFormed = c.push_new.new.self in
-    let missing : at old.pairs key ≡ None = ap (at old.pairs) (sym c.as_str.ensures) ∙ sym c.position.ensures.position ∙ c.in-None.is in
+    let missing : at old.pairs key ≡ None = placed old.pairs c.as_str.ensures c.position.ensures.position c.in-None.is in
     let i : ℕ = c.len-position.result in
     let null : WellFormed = c.default.result in
     let pushed : new.pairs ≡ old.pairs ++ (key, null) ∷ [] = c.push_new.ensures.pairs
@@ -62,7 +62,7 @@ returns-in-Ok c =
 pub returns : goal.returns
 returns c =
     let old : Store WellFormed = c.args.self.now in let key = c.args.key in let new : Store WellFormed = c.reserve.new.self in
-    let missing : at old.pairs key ≡ None = ap (at old.pairs) (sym c.as_str.ensures) ∙ sym c.position.ensures.position ∙ c.in-None.is in
+    let missing : at old.pairs key ≡ None = placed old.pairs c.as_str.ensures c.position.ensures.position c.in-None.is in
     let why = c.in-Err.why in let growth = c.in-Err.ensures.growth in
     let room = refused_capacity (length old.pairs) old.capacity 1 new.capacity why growth in (
       (refl, λ w e. absurd (false≢true e), (c.in-Err.ensures.pairs, room)),
@@ -72,7 +72,7 @@ returns c =
         refused = (
           refl,
           c.default-in-Err.ensures,
-          (lookup-absent old.pairs key missing, subst (λ n. Ungrown (length old.pairs) old.capacity 1 why n) room growth),
+          finds_no_room old key why new.capacity missing growth,
         );
       },
     )

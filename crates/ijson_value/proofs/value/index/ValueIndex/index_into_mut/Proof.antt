@@ -1,10 +1,10 @@
 -- The value is opened, and the opened value lends. Assumes `Logic`.
-use Rattle.ijson_value.proofs.lends.Steps.{◌≡◌, ℕ, List, [], ◌∷◌, refl, sym, ap, ◌∙◌, MutBor, proved, id⊢, ftrue, flft, named, Val, fact}
+use Rattle.ijson_value.proofs.lends.Steps.{◌≡◌, List, [], ◌∷◌, refl, sym, ap, ◌∙◌, MutBor, proved, id⊢, ftrue, flft, named, Val, fact}
 use Rattle.ijson_value.proofs.lends.Steps.{fact_i, emp, tables, ‵, raw, ◌⊛◌, some, later, ◌$◌, ◌∵◌, !, qed, done, move, keep, drop, use0}
 use Rattle.ijson_value.proofs.lends.Steps.{use1, use2, use3, split, join, rewrite, fjoin, pick, await, suffices, frame, enter, addr, stop}
 use Rattle.ijson_value.proofs.lends.Steps.{no_more, and_then, returns, alloc_all, pass_all, free_all, look_at, get, through, sets, lands_as}
 use Rattle.ijson_value.proofs.lends.Steps.{no, shows, RattleType, MutRef, mut_vals, mut_Tells, plain, mut_ref_to, nothing, heard}
-use Rattle.ijson_value.proofs.lends.Steps.{peeks, only, Laws, of_field, row_shared, mut_ref_shared, mut_ref_laws, mut_ref_field, calls_at}
+use Rattle.ijson_value.proofs.lends.Steps.{peeks, only, calls_at}
 use Rattle.ijson_value.proofs.lends.Steps.{lasts, triple_of, Stays, walk_of, says, stay_dropped, Goes-dropped, Goes-spent_ref, ends_at}
 use Rattle.ijson_value.proofs.lends.Steps.{framed, follows}
 use mir.MapTy.{inst_fn}
@@ -12,11 +12,9 @@ use mir.Syntax.{a_type, dcons, dnil}
 use contract.BorrowLft.{◌⊑◌}
 use denote.Param.{bounded}
 use denote.Param.Laws.{copied_copy, copied_laws, IsCopy}
-use denote.Ref.{NamedLft}
 use Rattle.std.specs.Prelude.{Option, Some, None, OnSome, is_some, option_map}
 use Rattle.std.specs.Option.{ghost_name_of}
 use Rattle.std.specs.contracts.option.Option.{the_row as OptionOf}
-use Rattle.std.proofs.option.Option.TheLaws.{the_row_laws as option_laws}
 use Rattle.ijson_value.specs.Kind.{kind_of}
 use Rattle.ijson_value.specs.LendsInside.{LendsInsideIf}
 use Rattle.ijson_value.specs.LendsStep.{LendsStepIf, with_step}
@@ -28,7 +26,7 @@ use Rattle.ijson_value.specs.laws.Steps.{tree_with_step}
 use Rattle.ijson_value.specs.contracts.value.IValue.{the_row as V}
 use Rattle.ijson_value.specs.contracts.value.Destructured.{the_row as N}
 use Rattle.ijson_value.specs.declared.value.Destructured.{Destructured}
-use Rattle.ijson_value.proofs.value.IValue.TheLaws.{the_row_laws as value_laws}
+use Rattle.ijson_value.proofs.lends.LentLaws.{value_found_laws}
 use Rattle.ijson_value.proofs.lends.LentOn.{then_so}
 use Rattle.ijson_value.specs.contracts.value.index.ValueIndex.index_into_mut as f
 use Rattle.ijson_value.proofs.value.index.ValueIndex.index_into_mut.Statement.{statement}
@@ -37,11 +35,6 @@ use Rattle.ijson_value.specs.contracts.value.index.opened as g
 use Rattle.ijson_value.proofs.value.index.opened.Met as g-thm
 use Rattle.ijson_value.specs.contracts.value.IValue.get_mut as h
 use Rattle.ijson_value.proofs.value.IValue.get_mut.Met as h-thm
-
-abbrev lent_laws : (κ : List ℕ) → Laws (OptionOf (MutRef (named 0) κ V))
-lent_laws κ = let a : NamedLft = record { mir = named 0; lft = κ } in
-    option_laws (MutRef (named 0) κ V) (of_field (mut_ref_field a V tt) (mut_ref_laws a V tt) refl
-    (mut_ref_shared a V tt (row_shared V value_laws)))
 
 -- the tree of a value whose opened value is changed one step inside
 module _ (r : WellFormed) (n : Destructured) (step : Step) (same : node_value n ≡ r) where
@@ -110,7 +103,7 @@ index_into_mut_spec 𝓤 𝓛 𝓜 𝓡 wired I LI CI gx dx gs ds gc dc mx ms mc
     pick ! (λ ws'. split ! $ drop ! $ split ! $ move ! (1 ∷ []) $ heard ! _ (λ is.
     -- [what opened follows; the tokens; the answer; what the value follows; nothing]
     move ! (2 ∷ []) $ peeks ! (OptionOf Lent) _ (shows 𝓛 (OptionOf Lent)) o (w ∷ []) (λ told'.
-    lands_as ! refl refl (((lent_laws κ).lawful 𝓛).typed o (w ∷ []) told').0 $
+    lands_as ! refl refl (((value_found_laws κ).lawful 𝓛).typed o (w ∷ []) told').0 $
     move ! (3 ∷ 1 ∷ []) $ use2 𝓛 (‵ (LendsInsideIf r step o))
     (then_so 𝓛 V N V node_value (with_step u.now step) u.now (λ w' n. OnSome o (n.tree ≡ tree_with r.now.tree step w'.tree))
     (λ n. n ≡ r.now) (tree_put r.now u.now step same o is) same r.ghost_name u.ghost_name (ghost_name_of o)) $

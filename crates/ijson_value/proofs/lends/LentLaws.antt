@@ -1,0 +1,33 @@
+-- The laws of what a value lends: the value at a place, if there is one, and a key with the value beside it.
+use Rattle.ijson_value.proofs.lends.Steps.{[], ◌∷◌, refl, Lft, named, RattleType, MutRef, Laws, of_field, row_shared, mut_ref_shared}
+use Rattle.ijson_value.proofs.lends.Steps.{mut_ref_laws, mut_ref_field}
+use denote.Param.Shared.{copy_shared}
+use denote.Ref.{ShrRef, NamedLft}
+use denote.Struct.Field.{shr_ref_field}
+use denote.Struct.Laws.{shr_ref_laws, shr_ref_copy}
+use denote.Struct.Tuple.{Tuple, tuple_laws}
+use Rattle.std.specs.contracts.option.Option.{the_row as OptionOf}
+use Rattle.std.proofs.option.Option.TheLaws.{the_row_laws as option_laws}
+use Rattle.ijson_string.specs.contracts.text.IString.{the_row as S}
+use Rattle.ijson_string.proofs.text.IString.TheLaws.{the_row_laws as string_laws}
+use Rattle.ijson_value.specs.contracts.value.IValue.{the_row as V}
+use Rattle.ijson_value.proofs.value.IValue.TheLaws.{the_row_laws as value_laws}
+
+abbrev pub value_found_laws : (κ : Lft) → Laws (OptionOf (MutRef (named 0) κ V))
+value_found_laws κ = let a : NamedLft = record { mir = named 0; lft = κ } in
+    option_laws (MutRef (named 0) κ V) (of_field (mut_ref_field a V tt) (mut_ref_laws a V tt) refl
+    (mut_ref_shared a V tt (row_shared V value_laws)))
+
+abbrev pub Pair : Lft → RattleType
+Pair κ = Tuple (ShrRef (named 0) κ S ∷ MutRef (named 0) κ V ∷ [])
+
+abbrev pub pair_laws : (κ : Lft) → Laws (Pair κ)
+pair_laws κ = let a : NamedLft = record { mir = named 0; lft = κ } in
+    tuple_laws (ShrRef (named 0) κ S ∷ MutRef (named 0) κ V ∷ []) (
+      of_field (shr_ref_field a S tt) (shr_ref_laws a S tt) refl
+          (copy_shared (shr_ref_field a S tt) (shr_ref_copy a S tt string_laws.shr_laws)),
+      (of_field (mut_ref_field a V tt) (mut_ref_laws a V tt) refl (mut_ref_shared a V tt (row_shared V value_laws)), tt),
+    )
+
+abbrev pub pair_found_laws : (κ : Lft) → Laws (OptionOf (Pair κ))
+pair_found_laws κ = option_laws (Pair κ) (pair_laws κ)
