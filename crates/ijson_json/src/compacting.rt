@@ -59,7 +59,7 @@ impl From<ReadFault> for CompactError {
     }
 }
 
-/// `Memory` for want of memory, and `Json` for each other fault.
+/// `Memory` where there was not enough memory, and `Json` for each other fault.
 impl From<JsonError> for CompactError {
     ghost from_gives = { λ error becomes. becomes ≡ compact_error_of error };
 
@@ -121,8 +121,13 @@ pub fn compact<R: Source, W: Sink, S: BuildHasher>(
     ensures shared { OnOk result (IfSome (R.left input.old)
         (λ bytes. SharesTextsOf bytes cache.new)) }
 {
-    compact_value(alloc, input, output, cache)?;
-    Ok(())
+    match compact_value(alloc, input, output, cache) {
+        Ok(value) => {
+            drop(value);
+            Ok(())
+        }
+        Err(error) => Err(error),
+    }
 }
 
 /// As `compact`, and answers the value that was read. Where there is an error it is dropped.
@@ -185,8 +190,13 @@ fn compact_line<S: BuildHasher>(
 {
     let text = text_of(bytes)?;
     let value = from_json(alloc, cache, text.as_str())?;
-    let line = line_of(text, &value)?;
-    Ok((value, line))
+    match line_of(text, &value) {
+        Ok(line) => Ok((value, line)),
+        Err(refused) => {
+            drop(value);
+            Err(CompactError::from(refused))
+        }
+    }
 }
 
 /// The compact text of the value and a line feed, in the memory of `room` as far as that goes.

@@ -66,12 +66,15 @@ fn read_text<S: BuildHasher>(
         members: Vec::new(alloc),
         content: String::new(alloc),
     };
-    match read_value(alloc, cache, &mut scratch, start, 0) {
+    let read = read_value(alloc, cache, &mut scratch, start, 0);
+    drop(scratch);
+    match read {
         Ok((value, rest)) => {
             let rest = skip_space(rest);
             if rest.is_empty() {
                 Ok(value)
             } else {
+                drop(value);
                 Err(JsonError::Syntax {
                     at: text.len() - rest.len(),
                 })

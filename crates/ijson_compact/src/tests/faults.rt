@@ -2,7 +2,7 @@
 
 use super::devices::compacts;
 use super::{nested, rewritten};
-use ijson_json::{CompactError, DeviceFault, JsonError};
+use ijson_json::{CompactError, DeviceFault, JsonError, line_and_column};
 use std::alloc::{AllocError, Global};
 use std::fmt::{Debug, Display};
 use std::process::Abort;
@@ -212,4 +212,6 @@ fn faults_are_shown(rt: HostRuntime) {
     }
     let text = "a read or a write failed";
     is_shown(&rt, alloc, &DeviceFault, text, "DeviceFault");
+    let place = format!(in alloc; "{:?}", line_and_column("[1,\né]", 6)).expect(&rt, "a text");
+    assert!(rt; place.as_str() == "LineColumn { line: 2, column: 2 }");
 }

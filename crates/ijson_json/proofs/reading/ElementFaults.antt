@@ -1,7 +1,7 @@
 -- A fault in an element, or behind one, is a fault of the array or the object.
-use Rattle.std.proofs.Common.{◌≡◌, ℕ, ◌+◌, ◌<◌, ◌≤◌, Bool, true, false, List, [], ◌∷◌, ◌++◌, length, sym, ap, ap₂, subst, ◌∙◌}
+use Rattle.std.proofs.Common.{◌≡◌, ℕ, ◌+◌, ◌<◌, ◌≤◌, Bool, true, false, List, [], ◌∷◌, ◌++◌, length, sym, ap, ap₂, subst, ◌∙◌, inl, inr}
 use Rattle.std.proofs.Common.{append_assoc, arith}
-use Rattle.std.specs.Prelude.{◌&&◌}
+use Rattle.std.specs.Prelude.{◌&&◌, ◌⊎◌, Result, Ok, Err, MatchResult, IfErr}
 use Rattle.std.proofs.lemmas.List.{append-nil, length-append}
 use Rattle.ijson_value.specs.Tree.{Tree, depth}
 use Rattle.ijson_json.specs.Ranged.{is_ranged}
@@ -114,10 +114,24 @@ module _ (E : Type 0) (S : Shape E) (L : Listing E S) where
   element_fault opened text cur found faults.Memory r h = tt
 
   -- and so is one behind an element
-  pub separator_fault : (opened : ℕ) (text cur after : List ℕ) (found : List E) (t : E) (fault : Fault)
+  separator_fault : (opened : ℕ) (text cur after : List ℕ) (found : List E) (t : E) (fault : Fault)
       → Reached E S L opened text found cur
       → ElementRead E S (opened + 1) cur t after → NoSeparator S.closing after fault → Explains opened text fault
   separator_fault opened text cur after found t fault r d (left, stuck, e) =
       let short : length left ≤ length cur = omega (arith, skips_shorter after left stuck.skipped, front_shorter _ cur after d.found) in
       subst (λ (f : Fault). Explains opened text f) (sym e)
       (reached_shorter opened text cur found (length left) r short, reached_stuck E S L opened text cur after left found t r d stuck)
+
+  -- or where it could not be kept
+  pub push_fault : (opened : ℕ) (text cur after : List ℕ) (found : List E) (t : E) (fault : Fault)
+      → Reached E S L opened text found cur
+      → ElementRead E S (opened + 1) cur t after → (fault ≡ faults.Memory) ⊎ NoSeparator S.closing after fault → Explains opened text fault
+  push_fault opened text cur after found t fault r d (inl e) = subst (λ (f : Fault). Explains opened text f) (sym e) tt
+  push_fault opened text cur after found t fault r d (inr none) = separator_fault opened text cur after found t fault r d none
+
+-- what may be told behind an element
+pub behind_element : {X : Type 0} (closing : ℕ) (after : List ℕ) (r : Result X Fault) (P : X → Type 0)
+    → MatchResult r P (λ fault. NoSeparator closing after fault)
+    → IfErr r (λ fault. (fault ≡ faults.Memory) ⊎ NoSeparator closing after fault)
+behind_element closing after (Ok x) P h = tt
+behind_element closing after (Err fault) P h = inr h

@@ -126,8 +126,21 @@ reached_fault text s rest r (faults.NumberRange left) h = h
 reached_fault text s rest r faults.Memory h = h
 
 -- what is appended piece by piece
-pub pushed : (old content new s piece : List ℕ) → content ≡ old ++ s → new ≡ content ++ piece → new ≡ old ++ (s ++ piece)
+pushed : (old content new s piece : List ℕ) → content ≡ old ++ s → new ≡ content ++ piece → new ≡ old ++ (s ++ piece)
 pushed old content new s piece e f = f ∙ ap (λ (l : List ℕ). l ++ piece) e ∙ append_assoc old s piece
+
+-- so much of the content was read and appended to what was there
+abbrev pub Appended : List ℕ → List ℕ → List ℕ → List ℕ → Type 0
+Appended text rest old content = (s : List ℕ) × Reached text s rest × (content ≡ old ++ s)
+
+-- one more character and the run behind it are read and appended
+pub appended_more : (text rest m more run after old content middle new : List ℕ) → Appended text rest old content → CharacterAt rest m more
+    → middle ≡ content ++ m → more ≡ run ++ after → Run is_unescaped run → new ≡ middle ++ run → Appended text after old new
+appended_more text rest m more run after old content middle new (s, r, e) c f g h i = (
+  (s ++ m) ++ run,
+  reached_run text (s ++ m) run more after (reached_character text s rest m more r c) h g,
+  pushed old middle new (s ++ m) run (pushed old content middle s m e f) i,
+)
 
 -- ---- the whole string
 

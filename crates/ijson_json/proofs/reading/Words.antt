@@ -1,7 +1,9 @@
 -- The words `null`, `true` and `false`: what is read of one, and why none is.
-use Rattle.std.proofs.Common.{◌≡◌, ℕ, ◌≤◌, true, false, List, ◌∷◌, ◌++◌, refl, sym, ap, ◌∙◌, arith}
-use Rattle.std.specs.Prelude.{◌≢◌}
+use Rattle.std.proofs.Common.{◌≡◌, ℕ, ◌≤◌, true, false, List, ◌∷◌, ◌++◌, refl, sym, ap, subst, ◌∙◌, arith}
+use Rattle.std.specs.Prelude.{◌≢◌, Result, MatchResult}
+use Rattle.std.proofs.lemmas.Result.{MatchResult-weaker}
 use Rattle.ijson_value.specs.Tree.{Tree, null, boolean, depth}
+use Rattle.ijson_value.specs.WellFormed.{WellFormed}
 use Rattle.ijson_json.specs.Grammar.{IsValue, null_text, boolean_text}
 use Rattle.ijson_json.specs.Limits.{max_depth}
 use Rattle.ijson_json.specs.Ranged.{is_ranged}
@@ -57,7 +59,7 @@ false_word = record { spells = refl; alone = false_alone; ends = λ rest. tt; fl
 
 module _ {b : ℕ} {word : List ℕ} {t : Tree} (w : Word b word t) where
   -- the word was read
-  pub word_read : (opened : ℕ) (text rest : List ℕ) → opened ≤ max_depth → text ≡ word ++ rest → ReadAs opened text t rest
+  word_read : (opened : ℕ) (text rest : List ℕ) → opened ≤ max_depth → text ≡ word ++ rest → ReadAs opened text t rest
   word_read opened text rest within is = (
     t,
     record {
@@ -78,9 +80,20 @@ module _ {b : ℕ} {word : List ℕ} {t : Tree} (w : Word b word t) where
       n x (g.is ∙ ap (λ (l : List ℕ). l ++ x) front)
 
   -- a fault in the word
-  pub word_fault : (opened : ℕ) (text more : List ℕ) (fault : Fault) → text ≡ b ∷ more → WordFault text word fault
+  word_fault : (opened : ℕ) (text more : List ℕ) (fault : Fault) → text ≡ b ∷ more → WordFault text word fault
       → Explains opened text fault
   word_fault opened text more (faults.Syntax left) e h = (h.0, word_alone text more e h.1)
   word_fault opened text more (faults.TooDeep left) e h = absurd h
   word_fault opened text more (faults.NumberRange left) e h = absurd h
   word_fault opened text more faults.Memory e h = absurd h
+
+  -- what is answered where the word may stand
+  pub word_answered : {S : Type 0} (answer : Result (WellFormed × S) Fault) (behind : S → List ℕ) (value : WellFormed) (opened : ℕ)
+      (text : List ℕ) (first : ℕ) (more : List ℕ) → opened ≤ max_depth → text ≡ first ∷ more → first ≡ b → value.tree ≡ t
+      → MatchResult answer (λ x. (x.0 ≡ value) × (text ≡ word ++ behind x.1)) (λ fault. WordFault text word fault)
+      → MatchResult answer (λ x. ReadAs opened text x.0.tree (behind x.1)) (λ fault. Explains opened text fault)
+  word_answered answer behind value opened text first more within e f is h =
+      MatchResult-weaker answer h
+      (λ x found. subst (λ (tree : Tree). ReadAs opened text tree (behind x.1)) (sym (ap (λ (v : WellFormed). v.tree) found.0 ∙ is))
+      (word_read opened text (behind x.1) within found.1))
+      (λ fault why. word_fault opened text more fault (e ∙ ap (λ (c : ℕ). c ∷ more) f) why)

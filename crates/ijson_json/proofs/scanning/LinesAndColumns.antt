@@ -1,5 +1,5 @@
 -- One byte more is passed.
-use Rattle.std.proofs.Common.{◌≡◌, ◌≢◌, ◌+◌, ◌++◌, ◌≤◌, ℕ, suc, Bool, List, [], ◌∷◌, inl, inr, true, false, cond, length, refl, sym, ap, ◌∙◌, arith, append_assoc}
+use Rattle.std.proofs.Common.{◌≡◌, ◌≢◌, ◌+◌, ◌++◌, ◌<◌, ◌≤◌, ℕ, suc, Bool, List, [], ◌∷◌, inr, true, false, cond, length, take, length-take, refl, sym, ap, ◌∙◌, arith, append_assoc}
 use Rattle.std.specs.Prelude.{nat_eq}
 use Rattle.std.proofs.lemmas.Bool.Decides.{nat_tests}
 use Rattle.std.proofs.lemmas.List.{append-nil, length-append}
@@ -18,10 +18,6 @@ characters-append (x ∷ xs) ys = elim (begins x) as (λ b. cond b (suc (charact
   | true ↦ omega (arith, characters-append xs ys)
   | false ↦ characters-append xs ys
 ]
-
--- before any byte
-pub none_passed : Passes [] 0 0
-none_passed = ([], [], refl, inl refl, refl, refl, refl)
 
 -- a line feed ends a line
 pub line_feed_passed : (bytes : List ℕ) (lines more : ℕ) → Passes bytes lines more → Passes (bytes ++ 10 ∷ []) (lines + 1) 0
@@ -74,8 +70,10 @@ characters-within (b ∷ bytes) = elim (begins b) as (λ c. cond c (suc (charact
   | false ↦ omega (arith, characters-within bytes)
 ]
 
-pub lines_within : (bytes : List ℕ) (lines more : ℕ) → Passes bytes lines more → lines ≤ length bytes
-lines_within bytes lines more f = omega (arith, f.5, line_feeds-within bytes)
-
-pub more_within : (bytes : List ℕ) (lines more : ℕ) → Passes bytes lines more → more ≤ length bytes
-more_within bytes lines more f = omega (arith, f.6, characters-within f.1, ap length f.2, length-append f.0 f.1)
+-- of some bytes before others there are fewer lines and characters than bytes
+pub passed_within : (bytes : List ℕ) (at lines more : ℕ) → at < length bytes → Passes (take at bytes) lines more
+    → (lines < length bytes) × (more < length bytes)
+passed_within bytes at lines more before f = (
+  omega (arith, f.5, line_feeds-within (take at bytes), length-take at bytes),
+  omega (arith, f.6, characters-within f.1, ap length f.2, length-append f.0 f.1, length-take at bytes),
+)

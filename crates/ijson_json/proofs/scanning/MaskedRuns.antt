@@ -42,23 +42,25 @@ module _ (p : ℕ → Bool) where
       ∙ ap (λ k. k + prefix_len p (drop (i + n) d)) (length-chunk i n d room)
 
   -- some byte fails, and the run ends at the first
-  pub run_within : (d : List ℕ) (i n : ℕ) → i + n ≤ length d → n ≤ 64 → 0 < mask_l (map (λ b. not (p b)) (chunk i n d))
-      → prefix_len p (drop i d) ≡ count_trailing_zeros 64 (mask_l (map (λ b. not (p b)) (chunk i n d)))
-  run_within d i n room short some =
+  pub run_within : (d : List ℕ) (i n found : ℕ) → i + n ≤ length d → n ≤ 64 → found ≡ mask_l (map (λ b. not (p b)) (chunk i n d))
+      → 0 < found → prefix_len p (drop i d) ≡ count_trailing_zeros 64 found
+  run_within d i n found room short is some =
       let c = chunk i n d in
       split d i n
       ∙ ap (λ b. cond b (length c + prefix_len p (drop (i + n) d)) (prefix_len p c))
-      (ne_eqb _ _ (λ (e : prefix_len p c ≡ length c). omega (arith, all_pass c e)))
-      ∙ sym (run_twice p c) ∙ sym (trailing_mask_l fails 64 c (omega (arith, length-chunk i n d room)) some)
+      (ne_eqb _ _ (λ (e : prefix_len p c ≡ length c). omega (arith, is, all_pass c e)))
+      ∙ sym (run_twice p c) ∙ sym (trailing_mask_l fails 64 c (omega (arith, length-chunk i n d room)) (omega (arith, is)))
+      ∙ ap (count_trailing_zeros 64) (sym is)
 
   -- it ends within the piece
-  pub run_short : (d : List ℕ) (i n : ℕ) → i + n ≤ length d → n ≤ 64 → 0 < mask_l (map (λ b. not (p b)) (chunk i n d))
-      → count_trailing_zeros 64 (mask_l (map (λ b. not (p b)) (chunk i n d))) ≤ n
-  run_short d i n room short some =
+  pub run_short : (d : List ℕ) (i n found : ℕ) → i + n ≤ length d → n ≤ 64 → found ≡ mask_l (map (λ b. not (p b)) (chunk i n d))
+      → 0 < found → count_trailing_zeros 64 found ≤ n
+  run_short d i n found room short is some =
       let c = chunk i n d in
       omega (
         arith,
-        trailing_mask_l fails 64 c (omega (arith, length-chunk i n d room)) some,
+        ap (count_trailing_zeros 64) is,
+        trailing_mask_l fails 64 c (omega (arith, length-chunk i n d room)) (omega (arith, is)),
         prefix_len-le-length (λ b. not (fails b)) c,
         length-chunk i n d room,
       )

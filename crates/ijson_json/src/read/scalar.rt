@@ -1,10 +1,10 @@
 //! Reading a value that is no container.
 
-ghost use Rattle.std.specs.Prelude.{◌≡◌, ◌≢◌, ◌∷◌, ◌≤◌, ℕ, List, IfOk, MatchResult};
+ghost use Rattle.std.specs.Prelude.{◌≡◌, ◌≢◌, ◌∷◌, ◌++◌, ◌≤◌, ℕ, List, IfOk, MatchResult};
 ghost use Rattle.ijson_json.specs.AddsOnlyRead.{AddsOnlyRead};
 ghost use Rattle.ijson_json.specs.AreShared.{AreShared};
 ghost use Rattle.ijson_json.specs.Limits.{max_depth};
-ghost use Rattle.ijson_json.specs.private.Explains.{Explains};
+ghost use Rattle.ijson_json.specs.private.Explains.{Explains, WordFault};
 ghost use Rattle.ijson_json.specs.private.Reading.{ReadAs};
 
 use crate::fault::Fault;
@@ -15,6 +15,22 @@ use ijson_string::StringCache;
 use ijson_value::value::IValue;
 use std::alloc::Global;
 use std::hash::BuildHasher;
+
+/// The value that the word at the front stands for.
+#[inline(always)]
+fn read_word<'a>(text: &'a str, word: &str, value: IValue) -> Result<(IValue, &'a str), Fault>
+    ensures { MatchResult result
+        (λ x. (x.0 ≡ value) × (text.now ≡ word.now ++ x.1.now))
+        (λ fault. WordFault text.now word.now fault) }
+{
+    match strip_word(text, word) {
+        Ok(rest) => Ok((value, rest)),
+        Err(fault) => {
+            drop(value);
+            Err(fault)
+        }
+    }
+}
 
 /// The value at the front of a text that begins with this byte, which opens no container. The content of a string that has an
 /// escape is put together in `content`.
@@ -39,18 +55,9 @@ pub(crate) fn read_scalar<'a, S: BuildHasher>(
             let (string, rest) = read_string(cache, content, text)?;
             Ok((IValue::from(string), rest))
         }
-        b'n' => {
-            let rest = strip_word(text, "null")?;
-            Ok((IValue::NULL, rest))
-        }
-        b't' => {
-            let rest = strip_word(text, "true")?;
-            Ok((IValue::TRUE, rest))
-        }
-        b'f' => {
-            let rest = strip_word(text, "false")?;
-            Ok((IValue::FALSE, rest))
-        }
+        b'n' => read_word(text, "null", IValue::NULL),
+        b't' => read_word(text, "true", IValue::TRUE),
+        b'f' => read_word(text, "false", IValue::FALSE),
         _ => {
             let (number, rest) = read_number(alloc, text)?;
             Ok((IValue::from(number), rest))

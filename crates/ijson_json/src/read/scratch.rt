@@ -1,8 +1,12 @@
 //! What was read and is in no array or object yet.
 
-ghost use Rattle.std.specs.Prelude.{◌≡◌, [], ◌≤◌, length, take, drop, IfOk, OnOk};
+ghost use Rattle.std.specs.Prelude.{◌≡◌, [], ◌∷◌, ◌++◌, ◌⊎◌, ◌<◌, ◌≤◌, length, take, drop, IfOk, IfErr, OnOk};
 ghost use Rattle.ijson_table.specs.Store.{put_each};
+ghost use Rattle.ijson_json.specs.private.Separators.{SeparatorAt, NoSeparator};
+ghost use Rattle.ijson_json.specs.declared.fault.Fault.TheVariants.{Memory};
 
+use crate::fault::Fault;
+use crate::read::separator::{Separator, read_separator};
 use ijson_string::IString;
 use ijson_value::array::IArray;
 use ijson_value::object::IObject;
@@ -24,8 +28,37 @@ pub(crate) struct Scratch {
     pub(crate) content: String,
 }
 
-/// Takes the items from `base` on off the stack, as an array with no more room than they need. Where they are many and all
-/// that there are, they are not copied, and the array has the room of the stack.
+/// Puts what was read on the stack, and tells what stands behind it in a container that is closed by this bracket.
+#[inline(always)]
+pub(crate) fn push_read<'a, T: Drop>(
+    stack: &mut Vec<T>,
+    read: T,
+    after: &'a str,
+    closing: u8,
+) -> Result<Separator<'a>, Fault>
+    requires { closing < 128 }
+    ensures pushed { OnOk result (stack.new.items ≡ stack.old.items ++ read ∷ []) }
+    ensures separator { IfOk result (λ separator. SeparatorAt closing after.now separator) }
+    ensures fault { IfErr result (λ fault. (fault ≡ Memory) ⊎ NoSeparator closing after.now fault) }
+{
+    stack.push(read)?;
+    read_separator(after, closing)
+}
+
+/// Takes what lies from `base` on off the stack. Where that is much and all that there is, it is not copied, and has the room
+/// of the stack.
+fn take_from<T: Drop>(alloc: Global, stack: &mut Vec<T>, base: usize) -> Result<Vec<T>, AllocError>
+    requires { base ≤ length stack.old.items }
+    ensures taken { IfOk result (λ taken. taken.items ≡ drop base stack.old.items) }
+    ensures left { OnOk result (stack.new.items ≡ take base stack.old.items) }
+{
+    if base == 0 && stack.len() > MANY_ITEMS {
+        return Ok(mem::replace(stack, Vec::new(alloc)));
+    }
+    stack.split_off(base)
+}
+
+/// Takes the items from `base` on off the stack, as an array with no more room than they need, or that of the stack.
 pub(crate) fn take_items(
     alloc: Global,
     stack: &mut Vec<IValue>,
@@ -35,16 +68,11 @@ pub(crate) fn take_items(
     ensures items { IfOk result (λ array. array.items ≡ drop base stack.old.items) }
     ensures stack { OnOk result (stack.new.items ≡ take base stack.old.items) }
 {
-    let items = if base == 0 && stack.len() > MANY_ITEMS {
-        mem::replace(stack, Vec::new(alloc))
-    } else {
-        stack.split_off(base)?
-    };
+    let items = take_from(alloc, stack, base)?;
     IArray::from_vec(alloc, items).map_err(|_| AllocError)
 }
 
-/// Takes the members from `base` on off the stack, as an object with room for as many. Where they are many and all that there
-/// are, they are not copied.
+/// Takes the members from `base` on off the stack, as an object with room for as many.
 pub(crate) fn take_members(
     alloc: Global,
     stack: &mut Vec<(IString, IValue)>,
@@ -56,10 +84,6 @@ pub(crate) fn take_members(
     ensures room { IfOk result (λ object. object.capacity ≡ length (drop base stack.old.items)) }
     ensures stack { OnOk result (stack.new.items ≡ take base stack.old.items) }
 {
-    let members = if base == 0 && stack.len() > MANY_ITEMS {
-        mem::replace(stack, Vec::new(alloc))
-    } else {
-        stack.split_off(base)?
-    };
+    let members = take_from(alloc, stack, base)?;
     IObject::from_pairs(alloc, members).map_err(|_| AllocError)
 }

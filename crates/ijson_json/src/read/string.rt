@@ -41,8 +41,28 @@ fn push_content<'a>(content: &mut String, text: &'a str) -> Result<&'a str, Faul
     }
 }
 
-/// The string at the front, interned in `cache`, and the text behind it. The content of one that has an escape is put
-/// together in `content`, in the place of what is there.
+/// The content of a string behind its opening quote, and the text behind the closing one. That of a string that has an escape is
+/// put together in `content`, in the place of what is there.
+#[inline(always)]
+fn read_content<'a: 'c, 'c>(
+    content: &'c mut String,
+    inside: &'a str,
+) -> Result<(&'c str, &'a str), Fault>
+    ensures { MatchResult result
+        (λ x. ContentAt inside.now x.0.now x.1.now)
+        (λ fault. ContentFault inside.now fault) }
+{
+    let (run, after) = split_run(inside);
+    if let Some(rest) = strip_byte(after, b'"') {
+        return Ok((run, rest));
+    }
+    content.clear();
+    content.push_str(run)?;
+    let rest = push_content(content, after)?;
+    Ok((content.as_str(), rest))
+}
+
+/// The string at the front, interned in `cache`, and the text behind it. `content` is for `read_content`.
 pub(crate) fn read_string<'a, S: BuildHasher>(
     cache: &mut StringCache<S>,
     content: &mut String,
@@ -57,14 +77,9 @@ pub(crate) fn read_string<'a, S: BuildHasher>(
     let Some(inside) = strip_byte(text, b'"') else {
         return Err(Fault::Syntax { left: text.len() });
     };
-    let (run, after) = split_run(inside);
-    if let Some(rest) = strip_byte(after, b'"') {
-        return Ok((IString::intern(cache, run)?, rest));
-    }
-    content.clear();
-    content.push_str(run)?;
-    let rest = push_content(content, after)?;
-    Ok((IString::intern(cache, content.as_str())?, rest))
+    let (text, rest) = read_content(content, inside)?;
+    let string = IString::intern(cache, text)?;
+    Ok((string, rest))
 }
 
 /// The key at the front and the text where its value begins, behind the `:` and white space. The key is read as any string is.
@@ -83,6 +98,9 @@ pub(crate) fn read_key<'a, S: BuildHasher>(
     let after = skip_space(after);
     match strip_byte(after, b':') {
         Some(more) => Ok((key, skip_space(more))),
-        None => Err(Fault::Syntax { left: after.len() }),
+        None => {
+            drop(key);
+            Err(Fault::Syntax { left: after.len() })
+        }
     }
 }

@@ -1,19 +1,17 @@
 //! Reading a value of any kind: arrays and objects here, the others by `scalar`.
 
 ghost use Rattle.std.specs.Prelude.{◌≡◌, ◌∷◌, ◌<◌, ◌≤◌, length, MatchResult, IfOk, OnOk};
-ghost use Rattle.ijson_value.specs.Tree.{array, object};
-ghost use Rattle.ijson_value.specs.WellFormed.{item_trees, pair_trees};
 ghost use Rattle.ijson_json.specs.Limits.{max_depth};
 ghost use Rattle.ijson_json.specs.private.Reading.{ReadAs, MemberAs};
 ghost use Rattle.ijson_json.specs.AddsOnlyRead.{AddsOnlyRead};
-ghost use Rattle.ijson_json.specs.AreShared.{IsShared, AreShared, ItemsAreShared, MembersAreShared};
+ghost use Rattle.ijson_json.specs.AreShared.{IsShared, AreShared};
 ghost use Rattle.ijson_json.specs.private.Explains.{Explains, ExplainsMember};
 ghost use Rattle.ijson_json.specs.declared.fault.Fault.TheVariants.{TooDeep};
 
 use crate::fault::Fault;
 use crate::read::scalar::read_scalar;
-use crate::read::scratch::{Scratch, take_items, take_members};
-use crate::read::separator::{Separator, read_separator};
+use crate::read::scratch::{Scratch, push_read, take_items, take_members};
+use crate::read::separator::Separator;
 use crate::read::string::read_key;
 use crate::scan::prefix::{split_ascii, strip_byte};
 use crate::scan::space::skip_space;
@@ -65,13 +63,11 @@ pub(crate) fn read_value<'a, S: BuildHasher>(
     match first {
         b'[' => {
             check_depth(text, opened)?;
-            let (items, rest) = read_array(alloc, cache, scratch, inside, opened)?;
-            Ok((IValue::from(items), rest))
+            read_array(alloc, cache, scratch, inside, opened)
         }
         b'{' => {
             check_depth(text, opened)?;
-            let (object, rest) = read_object(alloc, cache, scratch, inside, opened)?;
-            Ok((IValue::from(object), rest))
+            read_object(alloc, cache, scratch, inside, opened)
         }
         _ => read_scalar(alloc, cache, &mut scratch.content, text, first),
     }
@@ -87,29 +83,28 @@ fn read_array<'a, S: BuildHasher>(
     scratch: &mut Scratch,
     inside: &'a str,
     opened: usize,
-) -> Result<(IArray, &'a str), Fault>
+) -> Result<(IValue, &'a str), Fault>
     requires { opened < max_depth }
     ensures read { MatchResult result
-        (λ x. ReadAs opened (91 ∷ inside.now) (array (item_trees x.0.items)) x.1.now)
+        (λ x. ReadAs opened (91 ∷ inside.now) x.0.tree x.1.now)
         (λ fault. Explains opened (91 ∷ inside.now) fault) }
     ensures cache { AddsOnlyRead (91 ∷ inside.now) cache.old cache.new }
     ensures values { OnOk result (scratch.new.values.items ≡ scratch.old.values.items) }
     ensures members { OnOk result (scratch.new.members.items ≡ scratch.old.members.items) }
-    ensures shared { IfOk result (λ x. ItemsAreShared cache.new (item_trees x.0.items)) }
+    ensures shared { IfOk result (λ x. AreShared cache.new x.0.tree) }
 {
     let mut rest = skip_space(inside);
     if let Some(behind) = strip_byte(rest, b']') {
-        return Ok((IArray::new(alloc), behind));
+        return Ok((IValue::from(IArray::new(alloc)), behind));
     }
     let base = scratch.values.len();
     loop {
         let (item, after) = read_value(alloc, cache, scratch, rest, opened + 1)?;
-        scratch.values.push(item)?;
-        match read_separator(after, b']')? {
+        match push_read(&mut scratch.values, item, after, b']')? {
             Separator::Comma(next) => rest = next,
             Separator::End(behind) => {
                 let items = take_items(alloc, &mut scratch.values, base)?;
-                return Ok((items, behind));
+                return Ok((IValue::from(items), behind));
             }
         }
     }
@@ -125,29 +120,28 @@ fn read_object<'a, S: BuildHasher>(
     scratch: &mut Scratch,
     inside: &'a str,
     opened: usize,
-) -> Result<(IObject, &'a str), Fault>
+) -> Result<(IValue, &'a str), Fault>
     requires { opened < max_depth }
     ensures read { MatchResult result
-        (λ x. ReadAs opened (123 ∷ inside.now) (object (pair_trees x.0.pairs)) x.1.now)
+        (λ x. ReadAs opened (123 ∷ inside.now) x.0.tree x.1.now)
         (λ fault. Explains opened (123 ∷ inside.now) fault) }
     ensures cache { AddsOnlyRead (123 ∷ inside.now) cache.old cache.new }
     ensures values { OnOk result (scratch.new.values.items ≡ scratch.old.values.items) }
     ensures members { OnOk result (scratch.new.members.items ≡ scratch.old.members.items) }
-    ensures shared { IfOk result (λ x. MembersAreShared cache.new (pair_trees x.0.pairs)) }
+    ensures shared { IfOk result (λ x. AreShared cache.new x.0.tree) }
 {
     let mut rest = skip_space(inside);
     if let Some(behind) = strip_byte(rest, b'}') {
-        return Ok((IObject::new(alloc), behind));
+        return Ok((IValue::from(IObject::new(alloc)), behind));
     }
     let base = scratch.members.len();
     loop {
         let (key, value, after) = read_member(alloc, cache, scratch, rest, opened + 1)?;
-        scratch.members.push((key, value))?;
-        match read_separator(after, b'}')? {
+        match push_read(&mut scratch.members, (key, value), after, b'}')? {
             Separator::Comma(next) => rest = next,
             Separator::End(behind) => {
                 let object = take_members(alloc, &mut scratch.members, base)?;
-                return Ok((object, behind));
+                return Ok((IValue::from(object), behind));
             }
         }
     }

@@ -69,8 +69,8 @@ fn space_length(bytes: &[u8]) -> usize
 fn others(bytes: u8x16) -> u64
     ensures { result ≡ mask_l (map (λ byte. not (is_space byte)) bytes) }
 {
-    let white = bytes.simd_ne(Simd::splat(b' ')) & bytes.simd_ne(Simd::splat(b'\n'));
-    (white & bytes.simd_ne(Simd::splat(b'\r')) & bytes.simd_ne(Simd::splat(b'\t'))).to_bitmask()
+    let others = bytes.simd_ne(Simd::splat(b' ')) & bytes.simd_ne(Simd::splat(b'\n'));
+    (others & bytes.simd_ne(Simd::splat(b'\r')) & bytes.simd_ne(Simd::splat(b'\t'))).to_bitmask()
 }
 
 /// Where the first byte is that is no white space, one byte at a time. It may be asked only of the few bytes at the end of a text, so that

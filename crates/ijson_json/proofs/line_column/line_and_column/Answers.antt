@@ -1,27 +1,19 @@
-use Rattle.std.proofs.Common.{arith, ◌≡◌, ◌++◌, ◌+◌, ◌∷◌, [], ℕ, List, take, slice_index_or, subst, sym, ◌∙◌, length-take}
+use Rattle.std.proofs.Common.{arith, ◌≡◌, ◌++◌, ◌+◌, ◌∷◌, [], ℕ, List, take, slice_index_or, subst, sym, ◌∙◌}
 use Rattle.std.proofs.lemmas.List.{take_more}
 use Rattle.ijson_json.specs.LineColumn.{Passes}
-use Rattle.ijson_json.proofs.scanning.LinesAndColumns.{line_feed_passed, first_passed, other_passed, lines_within, more_within}
+use Rattle.ijson_json.proofs.scanning.LinesAndColumns.{line_feed_passed, first_passed, other_passed, passed_within}
 use Rattle.ijson_json.proofs.line_column.line_and_column.Goals.{then-byte-eq10, else-byte-eq10+then-is_first, else-byte-eq10+else-is_first}
 use Rattle.ijson_json.proofs.line_column.line_and_column.Goals as goal
 
 pub overflow_add-lines : goal.overflow_add-lines
 overflow_add-lines c =
-    omega (
-      arith,
-      lines_within (take c.loop-byte.byte-index c.if-at-bytes.before.now) c.loop-byte.lines c.loop-byte.characters c.loop-byte.invariant,
-      length-take c.loop-byte.byte-index c.if-at-bytes.before.now,
-      c.loop-byte-test.true,
-    )
+    let l = c.loop-byte in
+    omega (arith, passed_within c.if-at-bytes.before.now l.byte-index l.lines l.characters c.loop-byte-test.true l.invariant)
 
 pub overflow_add-characters : goal.overflow_add-characters
 overflow_add-characters c =
-    omega (
-      arith,
-      more_within (take c.loop-byte.byte-index c.if-at-bytes.before.now) c.loop-byte.lines c.loop-byte.characters c.loop-byte.invariant,
-      length-take c.loop-byte.byte-index c.if-at-bytes.before.now,
-      c.loop-byte-test.true,
-    )
+    let l = c.loop-byte in
+    omega (arith, passed_within c.if-at-bytes.before.now l.byte-index l.lines l.characters c.loop-byte-test.true l.invariant)
 
 pub loop-byte-preserved : goal.loop-byte-preserved
 loop-byte-preserved c =

@@ -16,26 +16,26 @@ returns-then-is_empty-clause-read g c =
     (whole c.args.text.now c.skip_space-start.result.now c.in-Ok.rest.now c.skip_space-rest.result.now r.0 c.skip_space-start.ensures
     r.1 c.skip_space-rest.ensures (eqb-true _ _ (sym c.if-is_empty.ensures)))
 
-pub returns-in-Ok-clause-read : goal.returns-in-Ok-clause-read
-returns-in-Ok-clause-read g c =
+pub returns-else-is_empty-clause-read : goal.returns-else-is_empty-clause-read
+returns-else-is_empty-clause-read g c =
     let r = c.in-Ok.ensures.read in (
       omega arith,
       behind c.args.text.now c.skip_space-start.result.now c.in-Ok.rest.now c.skip_space-rest.result.now r.0
           c.skip_space-start.ensures r.1 c.skip_space-rest.ensures (λ e. not_both _ (eq-eqb _ _ e) (sym c.if-is_empty.ensures)),
     )
 
-pub returns-clause-read : goal.returns-clause-read
-returns-clause-read g c = subst (λ (e : JsonError). Refuses c.args.text.now e) (sym c.located.ensures)
+pub returns-in-Err-clause-read : goal.returns-in-Err-clause-read
+returns-in-Err-clause-read g c = subst (λ (e : JsonError). Refuses c.args.text.now e) (sym c.located.ensures)
     (refuses c.args.text.now c.skip_space-start.result.now c.in-Err.fault c.skip_space-start.ensures c.in-Err.ensures.read)
 
 pub returns-then-is_empty-clause-cache : goal.returns-then-is_empty-clause-cache
 returns-then-is_empty-clause-cache g c = adds_behind c.args.text.now c.skip_space-start.ensures.space c.skip_space-start.result.now
-    c.args.cache.now c.read_value.new.cache c.skip_space-start.ensures.is c.read_value.ensures.cache
+    c.args.cache.now c.read_value-read.new.cache c.skip_space-start.ensures.is c.read_value-read.ensures.cache
 
-pub returns-in-Ok-clause-cache : goal.returns-in-Ok-clause-cache
-returns-in-Ok-clause-cache g c = adds_behind c.args.text.now c.skip_space-start.ensures.space c.skip_space-start.result.now
-    c.args.cache.now c.read_value.new.cache c.skip_space-start.ensures.is c.read_value.ensures.cache
+pub returns-else-is_empty-clause-cache : goal.returns-else-is_empty-clause-cache
+returns-else-is_empty-clause-cache g c = adds_behind c.args.text.now c.skip_space-start.ensures.space c.skip_space-start.result.now
+    c.args.cache.now c.read_value-read.new.cache c.skip_space-start.ensures.is c.read_value-read.ensures.cache
 
-pub returns-clause-cache : goal.returns-clause-cache
-returns-clause-cache g c = adds_behind c.args.text.now c.skip_space-start.ensures.space c.skip_space-start.result.now c.args.cache.now
-    c.read_value.new.cache c.skip_space-start.ensures.is c.read_value.ensures.cache
+pub returns-in-Err-clause-cache : goal.returns-in-Err-clause-cache
+returns-in-Err-clause-cache g c = adds_behind c.args.text.now c.skip_space-start.ensures.space c.skip_space-start.result.now c.args.cache.now
+    c.read_value-read.new.cache c.skip_space-start.ensures.is c.read_value-read.ensures.cache

@@ -1,10 +1,10 @@
-use Rattle.std.proofs.Common.{◌≢◌, arith, sym, subst}
+use Rattle.std.proofs.Common.{◌≢◌, arith, refl, sym, subst}
 use Rattle.std.proofs.lemmas.Result.{err_from_is_err_and}
 use Rattle.ijson_value.specs.WellFormed.{WellFormed}
 use Rattle.ijson_json.specs.AreShared.{AreShared}
 use Rattle.ijson_json.proofs.reading.CacheContents.{string_adds, string_shared}
 use Rattle.ijson_json.proofs.reading.Values.{begins, other_fault, string_fault}
-use Rattle.ijson_json.proofs.reading.Words.{null_word, true_word, false_word, word_read, word_fault}
+use Rattle.ijson_json.proofs.reading.Words.{null_word, true_word, false_word, word_answered}
 use Rattle.ijson_json.proofs.read.scalar.read_scalar.Goals as goal
 
 -- ---- a string
@@ -28,38 +28,20 @@ returns-in_ok-string-in-34-clause-shared g c =
 
 -- ---- a word
 
-pub returns-in_err-rest-in-110-clause-read : goal.returns-in_err-rest-in-110-clause-read
-returns-in_err-rest-in-110-clause-read g c = λ opened within.
-    let p = err_from_is_err_and c.from_residual-in_err-rest-in-110.result c.from_residual-in_err-rest-in-110.ensures.1 in
-    let begun = begins 110 c.args.text.now c.args.first c.requires.begins.0 c.requires.begins.1 c.in-110.is in
-    rw (p.1, p.2) (word_fault null_word opened c.args.text.now c.requires.begins.0 c.in_err-rest-in-110.field-0.0 begun
-    c.in_err-rest-in-110.ensures)
+pub returns-in-110-clause-read : goal.returns-in-110-clause-read
+returns-in-110-clause-read g c = λ opened within.
+    word_answered null_word c.read_word.result (λ rest. rest.now) _ opened c.args.text.now c.args.first c.requires.begins.0 within
+    c.requires.begins.1 c.in-110.is refl c.read_word.ensures
 
-pub returns-in_ok-rest-in-110-clause-read : goal.returns-in_ok-rest-in-110-clause-read
-returns-in_ok-rest-in-110-clause-read g c = λ opened within.
-    word_read null_word opened c.args.text.now c.in_ok-rest-in-110.rest.now within c.in_ok-rest-in-110.ensures
+pub returns-in-116-clause-read : goal.returns-in-116-clause-read
+returns-in-116-clause-read g c = λ opened within.
+    word_answered true_word c.read_word-in-116.result (λ rest. rest.now) _ opened c.args.text.now c.args.first c.requires.begins.0 within
+    c.requires.begins.1 c.in-116.is refl c.read_word-in-116.ensures
 
-pub returns-in_err-rest-in-116-clause-read : goal.returns-in_err-rest-in-116-clause-read
-returns-in_err-rest-in-116-clause-read g c = λ opened within.
-    let p = err_from_is_err_and c.from_residual-in_err-rest-in-116.result c.from_residual-in_err-rest-in-116.ensures.1 in
-    let begun = begins 116 c.args.text.now c.args.first c.requires.begins.0 c.requires.begins.1 c.in-116.is in
-    rw (p.1, p.2) (word_fault true_word opened c.args.text.now c.requires.begins.0 c.in_err-rest-in-116.field-0.0 begun
-    c.in_err-rest-in-116.ensures)
-
-pub returns-in_ok-rest-in-116-clause-read : goal.returns-in_ok-rest-in-116-clause-read
-returns-in_ok-rest-in-116-clause-read g c = λ opened within.
-    word_read true_word opened c.args.text.now c.in_ok-rest-in-116.rest.now within c.in_ok-rest-in-116.ensures
-
-pub returns-in_err-rest-in-102-clause-read : goal.returns-in_err-rest-in-102-clause-read
-returns-in_err-rest-in-102-clause-read g c = λ opened within.
-    let p = err_from_is_err_and c.from_residual-in_err-rest-in-102.result c.from_residual-in_err-rest-in-102.ensures.1 in
-    let begun = begins 102 c.args.text.now c.args.first c.requires.begins.0 c.requires.begins.1 c.in-102.is in
-    rw (p.1, p.2) (word_fault false_word opened c.args.text.now c.requires.begins.0 c.in_err-rest-in-102.field-0.0 begun
-    c.in_err-rest-in-102.ensures)
-
-pub returns-in_ok-rest-in-102-clause-read : goal.returns-in_ok-rest-in-102-clause-read
-returns-in_ok-rest-in-102-clause-read g c = λ opened within.
-    word_read false_word opened c.args.text.now c.in_ok-rest-in-102.rest.now within c.in_ok-rest-in-102.ensures
+pub returns-in-102-clause-read : goal.returns-in-102-clause-read
+returns-in-102-clause-read g c = λ opened within.
+    word_answered false_word c.read_word-in-102.result (λ rest. rest.now) _ opened c.args.text.now c.args.first c.requires.begins.0 within
+    c.requires.begins.1 c.in-102.is refl c.read_word-in-102.ensures
 
 -- ---- a number
 

@@ -1,10 +1,9 @@
-use Rattle.std.proofs.Common.{◌++◌, [], List, ℕ, refl, sym, rules}
+use Rattle.std.proofs.Common.{[], List, ℕ, refl, sym, rules}
 use Rattle.std.specs.String.{string_bytes}
-use Rattle.std.specs.Char.{encode_utf8}
 use Rattle.std.proofs.lemmas.List.{append-nil}
 use Rattle.ijson_json.proofs.scanning.Prefixes.{past_first}
-use Rattle.ijson_json.proofs.reading.StringContent.{Reached, reached_start, reached_run, reached_character, reached_quote, reached_stuck}
-use Rattle.ijson_json.proofs.reading.StringContent.{reached_shorter, after_run, pushed}
+use Rattle.ijson_json.proofs.reading.StringContent.{Appended, appended_more, reached_start, reached_quote, reached_stuck}
+use Rattle.ijson_json.proofs.reading.StringContent.{reached_shorter, after_run}
 use Rattle.ijson_json.proofs.read.string.push_content.Goals as goal
 
 pub loop-character-init : goal.loop-character-init
@@ -26,42 +25,19 @@ returns-in_default-clause-fault c =
 
 pub returns-in-Some-strip_byte-clause-read : goal.returns-in-Some-strip_byte-clause-read
 returns-in-Some-strip_byte-clause-read c =
-    let i = c.loop-character.invariant.read in
-    let text : List ℕ = c.args.text.now in
-    let old : List ℕ = string_bytes c.args.content.now in
-    let character : List ℕ = encode_utf8 c.in-Some.character in
     let e = c.in_ok-after.ensures in
-    let run : List ℕ = e.0 in
     let after : List ℕ = c.in_ok-after.after.now in
-    let reached : Reached text (i.0 ++ character ++ run) after =
-    reached_run text (i.0 ++ character) run c.in-Some.more.now after
-    (reached_character text i.0 c.loop-character.left.now character c.in-Some.more.now i.1 c.in-Some.ensures) e.2 e.1 in (
-      i.0 ++ character ++ run,
-      reached_quote text (i.0 ++ character ++ run) after c.in-Some-strip_byte.rest.now reached c.in-Some-strip_byte.ensures,
-      pushed old (string_bytes c.push.new.self) (string_bytes c.push_run.new.content) (i.0 ++ character) run
-          (pushed old (string_bytes c.loop-character.content) (string_bytes c.push.new.self) i.0 character i.2 c.in_ok-push.ensures.bytes)
-          e.4,
-    )
+    let a : Appended c.args.text.now after (string_bytes c.args.content.now) (string_bytes c.push_run.new.content) =
+    appended_more _ _ _ _ e.0 after _ _ _ _ c.loop-character.invariant.read c.in-Some.ensures c.in_ok-push.ensures.bytes e.1 e.2 e.4 in
+    (a.0, reached_quote c.args.text.now a.0 after c.in-Some-strip_byte.rest.now a.1 c.in-Some-strip_byte.ensures, a.2)
 
 pub loop-character-preserved : goal.loop-character-preserved
 loop-character-preserved c =
-    let i = c.loop-character.invariant.read in
-    let text : List ℕ = c.args.text.now in
-    let old : List ℕ = string_bytes c.args.content.now in
-    let character : List ℕ = encode_utf8 c.in-Some.character in
     let e = c.in_ok-after.ensures in
-    let run : List ℕ = e.0 in
     let after : List ℕ = c.in_ok-after.after.now in
     record {
       utf8 = search rules;
-      read = (
-        i.0 ++ character ++ run,
-        reached_run text (i.0 ++ character) run c.in-Some.more.now after
-            (reached_character text i.0 c.loop-character.left.now character c.in-Some.more.now i.1 c.in-Some.ensures) e.2 e.1,
-        pushed old (string_bytes c.push.new.self) (string_bytes c.push_run.new.content) (i.0 ++ character) run
-            (pushed old (string_bytes c.loop-character.content) (string_bytes c.push.new.self) i.0 character i.2 c.in_ok-push.ensures.bytes)
-            e.4,
-      );
+      read = appended_more _ _ _ _ e.0 after _ _ _ _ c.loop-character.invariant.read c.in-Some.ensures c.in_ok-push.ensures.bytes e.1 e.2 e.4;
       escape = e.3;
       unclosed = λ behind e. past_first _ after 34 behind c.in_default-strip_byte.ensures e refl;
     }

@@ -1,18 +1,18 @@
-use Rattle.std.proofs.Common.{◌≡◌, ◌++◌, ◌∷◌, List, ℕ, length}
+use Rattle.std.proofs.Common.{◌∷◌, List, ℕ, length}
 use Rattle.std.specs.Prelude.{◌≢◌}
 use denote.Text.{Utf8}
 use denote.Shadow.{shadow}
 use Rattle.std.specs.String.{string_bytes}
 use Rattle.ijson_json.specs.Strings.{is_unescaped}
 use Rattle.ijson_json.specs.private.Reading.{Past}
-use Rattle.ijson_json.proofs.reading.StringContent.{Reached}
+use Rattle.ijson_json.proofs.reading.StringContent.{Appended}
 use Rattle.ijson_json.proofs.read.string.push_content.Given as goal
 
 -- so much of the content was read and appended, and the rest of it, which no quote closes yet, is left
 abbrev pub invariant-loop-character : goal.invariant-loop-character
 invariant-loop-character l = record {
   utf8 : shadow (Utf8 l.left);
-  read : (s : List ℕ) × Reached l.fn.text s l.left × (string_bytes l.content ≡ string_bytes l.fn.content ++ s);
+  read : Appended l.fn.text l.left (string_bytes l.fn.content) (string_bytes l.content);
   escape : Past is_unescaped l.left;
   unclosed : (behind : List ℕ) → l.left ≢ 34 ∷ behind;
 }

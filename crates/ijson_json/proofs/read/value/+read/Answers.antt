@@ -4,14 +4,14 @@ use Rattle.ijson_table.specs.Store.{put_each}
 use Rattle.ijson_value.specs.Tree.{Tree, array, object, items_of, members_of}
 use Rattle.ijson_value.specs.WellFormed.{WellFormed, item_trees, pair_trees}
 use Rattle.ijson_value.specs.laws.MemberTrees.{pair_tree}
-use Rattle.ijson_json.specs.AreShared.{MembersAreShared}
+use Rattle.ijson_json.specs.AreShared.{AreShared, MembersAreShared}
 use Rattle.ijson_json.specs.declared.read.separator.Separator.{Separator}
 use Rattle.ijson_json.specs.private.Separators.{SeparatorAt}
 use Rattle.ijson_json.proofs.scanning.Prefixes.{closes}
 use Rattle.ijson_json.proofs.grammar.ElementShapes.{items_shape, members_shape}
 use Rattle.ijson_json.proofs.reading.ArraysAndObjects.{arrays, objects}
 use Rattle.ijson_json.proofs.reading.CacheContents.{shared_more}
-use Rattle.ijson_json.proofs.reading.ElementFaults.{bracket_too_deep, element_fault, separator_fault}
+use Rattle.ijson_json.proofs.reading.ElementFaults.{bracket_too_deep, element_fault, push_fault}
 use Rattle.ijson_json.proofs.reading.Elements.{empty_read}
 use Rattle.ijson_json.proofs.reading.Gathering.{gathered_start, gathered_adds, gathered_shared, gathered_more, gathered_end}
 use Rattle.ijson_json.proofs.reading.Gathering.{gathered_taken, gathered_left}
@@ -50,7 +50,7 @@ read_array-returns-in-Some-clause-read g t c = (
   array (items_of []),
   empty_read Tree items_shape arrays c.args.opened c.args.inside.now c.in-Some.behind.now (omega arith)
       (closes 93 c.args.inside.now c.skip_space-rest.result.now c.in-Some.behind.now c.skip_space-rest.ensures c.in-Some.ensures),
-  ap (λ vs. array (item_trees vs)) c.new.ensures.items,
+  ap (λ (v : WellFormed). v.tree) c.from.ensures ∙ ap (λ vs. array (item_trees vs)) c.new.ensures.items,
 )
 
 pub read_array-loop-item-init : goal.read_array-loop-item-init
@@ -73,17 +73,17 @@ read_array-returns-in_err-next-clause-read g t c =
     let p = err_from_is_err_and c.from_residual-in_err-next.result c.from_residual-in_err-next.ensures.1 in
     let i = c.loop-item.invariant.read in
     let item = c.in_ok-item.ensures.read in
-    rw (p.1, p.2) (separator_fault Tree items_shape arrays c.args.opened (91 ∷ c.args.inside.now) c.loop-item.rest.now
-    c.in_ok-item.after.now i.written item.0 c.in_err-next.field-0.0 i.reached item.1 c.in_err-next.ensures)
+    rw (p.1, p.2) (push_fault Tree items_shape arrays c.args.opened (91 ∷ c.args.inside.now) c.loop-item.rest.now
+    c.in_ok-item.after.now i.written item.0 c.in_err-next.field-0.0 i.reached item.1 c.in_err-next.ensures.fault)
 
 pub read_array-loop-item-preserved : goal.read_array-loop-item-preserved
 read_array-loop-item-preserved g t c =
     let item = c.in_ok-item.ensures.read in
-    let comma = subst (λ (s : Separator). SeparatorAt 93 c.in_ok-item.after.now s) c.in-Comma.is c.in_ok-next.ensures in
+    let comma = subst (λ (s : Separator). SeparatorAt 93 c.in_ok-item.after.now s) c.in-Comma.is c.in_ok-next.ensures.separator in
     record {
       read = gathered_more c.loop-item.invariant.read c.in_ok-item.item item.0 c.in_ok-item.after.now c.in-Comma.next.now
-          c.read_value.new.scratch.values.items c.push.new.self.items c.read_value.new.cache item.1 item.2 comma
-          c.in_ok-item.ensures.values c.in_ok-push.ensures.items c.read_value.ensures.cache c.in_ok-item.ensures.shared;
+          c.read_value.new.scratch.values.items c.push_read.new.stack.items c.read_value.new.cache item.1 item.2 comma
+          c.in_ok-item.ensures.values c.in_ok-next.ensures.pushed c.read_value.ensures.cache c.in_ok-item.ensures.shared;
       members = c.in_ok-item.ensures.members ∙ c.loop-item.invariant.members;
       utf8 = search rules;
     }
@@ -92,13 +92,14 @@ pub read_array-returns-in-End-clause-read : goal.read_array-returns-in-End-claus
 read_array-returns-in-End-clause-read g t c =
     let i = c.loop-item.invariant.read in
     let item = c.in_ok-item.ensures.read in
-    let end = subst (λ (s : Separator). SeparatorAt 93 c.in_ok-item.after.now s) c.in-End.is c.in_ok-next.ensures in
-    let taken = gathered_taken i c.in_ok-item.item c.read_value.new.scratch.values.items c.push.new.self.items
-    c.in_ok-items-in-End.items.items c.len-base.result c.in_ok-item.ensures.values c.in_ok-push.ensures.items
+    let end = subst (λ (s : Separator). SeparatorAt 93 c.in_ok-item.after.now s) c.in-End.is c.in_ok-next.ensures.separator in
+    let taken = gathered_taken i c.in_ok-item.item c.read_value.new.scratch.values.items c.push_read.new.stack.items
+    c.in_ok-items-in-End.items.items c.len-base.result c.in_ok-item.ensures.values c.in_ok-next.ensures.pushed
     (c.len-base.ensures ∙ c.args.scratch.now.values.ok.0) c.in_ok-items-in-End.ensures.items in (
       array (items_of (i.written ++ item.0 ∷ [])),
       gathered_end i item.0 c.in_ok-item.after.now c.in-End.behind.now item.1 end,
-      ap array (ap item_trees taken ∙ kept_items.push i.kept i.written c.in_ok-item.item item.0 item.2 i.are),
+      ap (λ (v : WellFormed). v.tree) c.from-in-End.ensures
+          ∙ ap array (ap item_trees taken ∙ kept_items.push i.kept i.written c.in_ok-item.item item.0 item.2 i.are),
     )
 
 -- ---- an object
@@ -107,7 +108,7 @@ read_object-returns-in-Some-clause-read g t c = (
   object (members_of []),
   empty_read (List ℕ × Tree) members_shape objects c.args.opened c.args.inside.now c.in-Some.behind.now (omega arith)
       (closes 125 c.args.inside.now c.skip_space-rest.result.now c.in-Some.behind.now c.skip_space-rest.ensures c.in-Some.ensures),
-  ap (λ ps. object (pair_trees ps)) c.new.ensures.pairs,
+  ap (λ (v : WellFormed). v.tree) c.from.ensures ∙ ap (λ ps. object (pair_trees ps)) c.new.ensures.pairs,
 )
 
 pub read_object-loop-key-init : goal.read_object-loop-key-init
@@ -130,18 +131,18 @@ read_object-returns-in_err-next-clause-read g t c =
     let p = err_from_is_err_and c.from_residual-in_err-next.result c.from_residual-in_err-next.ensures.1 in
     let i = c.loop-key.invariant.read in
     let value = c.in_ok-key.ensures.read in
-    rw (p.1, p.2) (separator_fault (List ℕ × Tree) members_shape objects c.args.opened (123 ∷ c.args.inside.now) c.loop-key.rest.now
-    c.in_ok-key.after.now i.written (c.in_ok-key.key, value.0) c.in_err-next.field-0.0 i.reached value.1 c.in_err-next.ensures)
+    rw (p.1, p.2) (push_fault (List ℕ × Tree) members_shape objects c.args.opened (123 ∷ c.args.inside.now) c.loop-key.rest.now
+    c.in_ok-key.after.now i.written (c.in_ok-key.key, value.0) c.in_err-next.field-0.0 i.reached value.1 c.in_err-next.ensures.fault)
 
 pub read_object-loop-key-preserved : goal.read_object-loop-key-preserved
 read_object-loop-key-preserved g t c =
     let value = c.in_ok-key.ensures.read in
     let key = c.in_ok-key.key in
-    let comma = subst (λ (s : Separator). SeparatorAt 125 c.in_ok-key.after.now s) c.in-Comma.is c.in_ok-next.ensures in
+    let comma = subst (λ (s : Separator). SeparatorAt 125 c.in_ok-key.after.now s) c.in-Comma.is c.in_ok-next.ensures.separator in
     record {
       read = gathered_more c.loop-key.invariant.read (key, c.in_ok-key.value) (key, value.0) c.in_ok-key.after.now c.in-Comma.next.now
-          c.read_member.new.scratch.members.items c.push.new.self.items c.read_member.new.cache value.1 (refl, value.2) comma
-          c.in_ok-key.ensures.members c.in_ok-push.ensures.items c.read_member.ensures.cache c.in_ok-key.ensures.shared;
+          c.read_member.new.scratch.members.items c.push_read.new.stack.items c.read_member.new.cache value.1 (refl, value.2) comma
+          c.in_ok-key.ensures.members c.in_ok-next.ensures.pushed c.read_member.ensures.cache c.in_ok-key.ensures.shared;
       values = c.in_ok-key.ensures.values ∙ c.loop-key.invariant.values;
       utf8 = search rules;
     }
@@ -151,13 +152,14 @@ read_object-returns-in-End-clause-read g t c =
     let i = c.loop-key.invariant.read in
     let value = c.in_ok-key.ensures.read in
     let key = c.in_ok-key.key in
-    let end = subst (λ (s : Separator). SeparatorAt 125 c.in_ok-key.after.now s) c.in-End.is c.in_ok-next.ensures in
-    let taken = gathered_taken i (key, c.in_ok-key.value) c.read_member.new.scratch.members.items c.push.new.self.items _
-    c.len-base.result c.in_ok-key.ensures.members c.in_ok-push.ensures.items
+    let end = subst (λ (s : Separator). SeparatorAt 125 c.in_ok-key.after.now s) c.in-End.is c.in_ok-next.ensures.separator in
+    let taken = gathered_taken i (key, c.in_ok-key.value) c.read_member.new.scratch.members.items c.push_read.new.stack.items _
+    c.len-base.result c.in_ok-key.ensures.members c.in_ok-next.ensures.pushed
     (c.len-base.ensures ∙ c.args.scratch.now.members.ok.0) refl in (
       object (members_of (i.written ++ (key, value.0) ∷ [])),
       gathered_end i (key, value.0) c.in_ok-key.after.now c.in-End.behind.now value.1 end,
-      ap (λ ps. object (members_of ps)) (ap (map pair_tree) (c.in_ok-object-in-End.ensures.members ∙ ap (put_each []) taken)
+      ap (λ (v : WellFormed). v.tree) c.from-in-End.ensures
+          ∙ ap (λ ps. object (members_of ps)) (ap (map pair_tree) (c.in_ok-object-in-End.ensures.members ∙ ap (put_each []) taken)
           ∙ kept_members.push i.kept i.written (key, c.in_ok-key.value) (key, value.0) (refl, value.2) i.are),
     )
 
@@ -186,9 +188,6 @@ read_member-returns-clause-read g t c =
 pub read_array-returns-in_err-item-clause-cache : goal.read_array-returns-in_err-item-clause-cache
 read_array-returns-in_err-item-clause-cache g t c = gathered_adds c.loop-item.invariant.read c.read_value.ensures.cache
 
-pub read_array-returns-in_err-push-clause-cache : goal.read_array-returns-in_err-push-clause-cache
-read_array-returns-in_err-push-clause-cache g t c = gathered_adds c.loop-item.invariant.read c.read_value.ensures.cache
-
 pub read_array-returns-in_err-items-in-End-clause-cache : goal.read_array-returns-in_err-items-in-End-clause-cache
 read_array-returns-in_err-items-in-End-clause-cache g t c = gathered_adds c.loop-item.invariant.read c.read_value.ensures.cache
 
@@ -201,9 +200,6 @@ read_array-returns-in_err-next-clause-cache g t c = gathered_adds c.loop-item.in
 pub read_object-returns-in_err-key-clause-cache : goal.read_object-returns-in_err-key-clause-cache
 read_object-returns-in_err-key-clause-cache g t c = gathered_adds c.loop-key.invariant.read c.read_member.ensures.cache
 
-pub read_object-returns-in_err-push-clause-cache : goal.read_object-returns-in_err-push-clause-cache
-read_object-returns-in_err-push-clause-cache g t c = gathered_adds c.loop-key.invariant.read c.read_member.ensures.cache
-
 pub read_object-returns-in_err-object-in-End-clause-cache : goal.read_object-returns-in_err-object-in-End-clause-cache
 read_object-returns-in_err-object-in-End-clause-cache g t c = gathered_adds c.loop-key.invariant.read c.read_member.ensures.cache
 
@@ -215,18 +211,20 @@ read_object-returns-in_err-next-clause-cache g t c = gathered_adds c.loop-key.in
 
 pub read_array-returns-in-End-clause-shared : goal.read_array-returns-in-End-clause-shared
 read_array-returns-in-End-clause-shared g t c =
-    gathered_shared c.loop-item.invariant.read c.in_ok-item.item c.read_value.new.scratch.values.items c.push.new.self.items
-    c.in_ok-items-in-End.items.items c.len-base.result c.read_value.new.cache c.in_ok-item.ensures.values c.in_ok-push.ensures.items
+    subst (λ (v : WellFormed). AreShared c.read_value.new.cache v.tree) (sym c.from-in-End.ensures)
+    (gathered_shared c.loop-item.invariant.read c.in_ok-item.item c.read_value.new.scratch.values.items c.push_read.new.stack.items
+    c.in_ok-items-in-End.items.items c.len-base.result c.read_value.new.cache c.in_ok-item.ensures.values c.in_ok-next.ensures.pushed
     (c.len-base.ensures ∙ c.args.scratch.now.values.ok.0) c.in_ok-items-in-End.ensures.items c.read_value.ensures.cache
-    c.in_ok-item.ensures.shared
+    c.in_ok-item.ensures.shared)
 
 pub read_object-returns-in-End-clause-shared : goal.read_object-returns-in-End-clause-shared
 read_object-returns-in-End-clause-shared g t c =
-    subst (λ (ps : List (List ℕ × WellFormed)). MembersAreShared c.read_member.new.cache (pair_trees ps))
+    subst (λ (v : WellFormed). AreShared c.read_member.new.cache v.tree) (sym c.from-in-End.ensures)
+    (subst (λ (ps : List (List ℕ × WellFormed)). MembersAreShared c.read_member.new.cache (pair_trees ps))
     (sym c.in_ok-object-in-End.ensures.members)
     (gathered_shared c.loop-key.invariant.read (c.in_ok-key.key, c.in_ok-key.value) c.read_member.new.scratch.members.items
-    c.push.new.self.items _ c.len-base.result c.read_member.new.cache c.in_ok-key.ensures.members c.in_ok-push.ensures.items
-    (c.len-base.ensures ∙ c.args.scratch.now.members.ok.0) refl c.read_member.ensures.cache c.in_ok-key.ensures.shared)
+    c.push_read.new.stack.items _ c.len-base.result c.read_member.new.cache c.in_ok-key.ensures.members c.in_ok-next.ensures.pushed
+    (c.len-base.ensures ∙ c.args.scratch.now.members.ok.0) refl c.read_member.ensures.cache c.in_ok-key.ensures.shared))
 
 pub read_member-returns-clause-shared : goal.read_member-returns-clause-shared
 read_member-returns-clause-shared g t c = (
@@ -238,12 +236,12 @@ read_member-returns-clause-shared g t c = (
 -- ---- the scratch
 pub read_array-returns-in-End-clause-values : goal.read_array-returns-in-End-clause-values
 read_array-returns-in-End-clause-values g t c =
-    gathered_left c.loop-item.invariant.read c.in_ok-item.item c.read_value.new.scratch.values.items c.push.new.self.items _
-    c.len-base.result c.in_ok-item.ensures.values c.in_ok-push.ensures.items (c.len-base.ensures ∙ c.args.scratch.now.values.ok.0)
+    gathered_left c.loop-item.invariant.read c.in_ok-item.item c.read_value.new.scratch.values.items c.push_read.new.stack.items _
+    c.len-base.result c.in_ok-item.ensures.values c.in_ok-next.ensures.pushed (c.len-base.ensures ∙ c.args.scratch.now.values.ok.0)
     c.in_ok-items-in-End.ensures.stack
 
 pub read_object-returns-in-End-clause-members : goal.read_object-returns-in-End-clause-members
 read_object-returns-in-End-clause-members g t c =
     gathered_left c.loop-key.invariant.read (c.in_ok-key.key, c.in_ok-key.value) c.read_member.new.scratch.members.items
-    c.push.new.self.items _ c.len-base.result c.in_ok-key.ensures.members c.in_ok-push.ensures.items
+    c.push_read.new.stack.items _ c.len-base.result c.in_ok-key.ensures.members c.in_ok-next.ensures.pushed
     (c.len-base.ensures ∙ c.args.scratch.now.members.ok.0) c.in_ok-object-in-End.ensures.stack

@@ -1,4 +1,4 @@
-use Rattle.std.proofs.Common.{◌≤◌, ◌++◌, length-drop, take, drop, sym, ap, ◌∙◌, arith}
+use Rattle.std.proofs.Common.{◌++◌, length-drop, take, drop, sym, ap, ◌∙◌, arith}
 use Rattle.std.proofs.lemmas.List.{append-nil}
 use Rattle.std.specs.List.{prefix_len}
 use Rattle.std.proofs.lemmas.List.Sums.{prefix_len-le-length}
@@ -20,18 +20,13 @@ overflow_sub-bytes c = c.loop-at.invariant.within
 
 pub overflow_sub-count : goal.overflow_sub-count
 overflow_sub-count c =
-    let found = c.specials-found.ensures in
-    omega (
-      arith,
-      run_short is_unescaped c.args.bytes.now c.loop-at.at 16 (omega arith) (omega arith) (omega (arith, found)),
-      ap (count_trailing_zeros 64) found,
-    )
+    let found = c.specials-found in
+    run_short is_unescaped c.args.bytes.now c.loop-at.at 16 found.result (omega arith) (omega arith) found.ensures (omega arith)
 
 pub returns-then-found-ne0-clause-count : goal.returns-then-found-ne0-clause-count
 returns-then-found-ne0-clause-count c =
     let found = c.specials-found in
-    let run = run_within is_unescaped c.args.bytes.now c.loop-at.at 16 (omega arith) (omega arith) (omega (arith, found.ensures))
-    ∙ ap (count_trailing_zeros 64) (sym found.ensures) in
+    let run = run_within is_unescaped c.args.bytes.now c.loop-at.at 16 found.result (omega arith) (omega arith) found.ensures (omega arith) in
     omega (arith, run, c.loop-at.invariant.unescaped)
 
 pub returns-then-found-ne0-clause-run : goal.returns-then-found-ne0-clause-run
@@ -39,17 +34,12 @@ returns-then-found-ne0-clause-run c =
     let old = c.args.content.now.items in
     let bytes = c.args.bytes.now in
     let at = c.loop-at.at in
-    let found = c.specials-found.ensures in
-    let few : count_trailing_zeros 64 c.specials-found.result ≤ 16 =
-    omega (
-      arith,
-      run_short is_unescaped bytes at 16 (omega arith) (omega arith) (omega (arith, found)),
-      ap (count_trailing_zeros 64) found,
-    ) in
+    let found = c.specials-found in
+    let few = run_short is_unescaped bytes at 16 found.result (omega arith) (omega arith) found.ensures (omega arith) in
     let longer = appended_row old bytes at (omega arith) c.loop-at.content.items _ c.loop-at.invariant.appended
     c.in_ok-extend_from_slice.ensures.items in
     c.truncate.ensures.items ∙ cut_row old bytes at (omega arith) c.extend_from_slice.new.self.items
-    (count_trailing_zeros 64 c.specials-found.result) _ few longer (omega (arith, c.len.ensures, c.extend_from_slice.new.self.ok))
+    (count_trailing_zeros 64 found.result) _ few longer (omega (arith, c.len.ensures, c.extend_from_slice.new.self.ok))
 
 pub loop-at-preserved : goal.loop-at-preserved
 loop-at-preserved c =

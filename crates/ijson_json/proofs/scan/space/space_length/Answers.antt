@@ -1,9 +1,8 @@
-use Rattle.std.proofs.Common.{◌≡◌, ℕ, ◌-◌, ◌≤◌, List, length, length-drop, take, drop, sym, ap, ◌∙◌, arith}
+use Rattle.std.proofs.Common.{◌≡◌, ℕ, ◌-◌, ◌≤◌, List, length, length-drop, take, drop, ap, ◌∙◌, arith}
 use Rattle.std.specs.Prelude.{Option, not, unwrap_or}
 use Rattle.std.specs.List.{position, prefix_len}
 use Rattle.std.proofs.lemmas.List.{take_all}
 use Rattle.std.proofs.lemmas.List.Sums.{prefix_len-le-length}
-use lib.Count.{count_trailing_zeros}
 use Rattle.ijson_json.specs.Grammar.{is_space}
 use Rattle.ijson_json.proofs.scan.space.space_length.Goals as goal
 use Rattle.ijson_json.proofs.scanning.MaskedRuns.{run_through, run_within}
@@ -12,8 +11,7 @@ use Rattle.ijson_json.proofs.scanning.UnescapedRuns.{run_end}
 pub returns-then-found-ne0 : goal.returns-then-found-ne0
 returns-then-found-ne0 c =
     let found = c.others-found in
-    let run = run_within is_space c.args.bytes.now c.loop-at.at 16 (omega arith) (omega arith) (omega (arith, found.ensures))
-    ∙ ap (count_trailing_zeros 64) (sym found.ensures) in
+    let run = run_within is_space c.args.bytes.now c.loop-at.at 16 found.result (omega arith) (omega arith) found.ensures (omega arith) in
     omega (arith, run, c.loop-at.invariant.0)
 
 pub loop-at-preserved : goal.loop-at-preserved
