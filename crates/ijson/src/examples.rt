@@ -1,5 +1,6 @@
 //! Examples: small programs as a crate above the library would write them. Each function has a contract of its own, in definitions on trees
-//! (`specs/examples`), and is proved by what the calls promise.
+//! (`specs/examples`), and is proved by what the calls promise. Copied into another crate, they name the library `ijson` in place of
+//! `crate`, and their definitions by that crate's name.
 
 mod canonical_key;
 mod dedupe;
@@ -10,3 +11,28 @@ mod pointed;
 mod records;
 mod settings;
 mod total;
+
+use crate::IValue;
+use crate::json::{from_json, to_json};
+use crate::string::StringCache;
+use std::alloc::Global;
+use std::hash::{BuildHasherDefault, FoldHasher};
+use std::process::Abort;
+
+pub(crate) type Cache = StringCache<BuildHasherDefault<FoldHasher>>;
+
+/// A cache without texts.
+pub(crate) fn empty_cache(alloc: Global) -> Cache {
+    StringCache::new(alloc, BuildHasherDefault::<FoldHasher>::new())
+}
+
+/// What `text` spells, through a cache of its own.
+pub(crate) fn parsed(rt: &impl Abort, alloc: Global, text: &str) -> IValue {
+    from_json(alloc, &mut empty_cache(alloc), text).expect(rt, text)
+}
+
+/// Asserts what is written of a value.
+pub(crate) fn is_written(rt: &impl Abort, alloc: Global, value: &IValue, want: &str) {
+    let found = to_json(alloc, value).expect(rt, "a text");
+    assert!(rt; found.as_str() == want, "{found} is not {want}");
+}

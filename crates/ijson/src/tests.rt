@@ -8,31 +8,19 @@ mod refusals;
 mod serde;
 mod values;
 
-use crate::json::{from_json, to_json};
-use crate::string::{IString, StringCache};
-use crate::value::IValue;
+use crate::examples::{Cache, empty_cache, is_written, parsed};
+use crate::string::IString;
 use std::alloc::Global;
-use std::hash::{BuildHasherDefault, FoldHasher};
+use std::fmt::Debug;
 use std::process::Abort;
-
-pub(crate) type Cache = StringCache<BuildHasherDefault<FoldHasher>>;
-
-pub(crate) fn empty_cache(alloc: Global) -> Cache {
-    StringCache::new(alloc, BuildHasherDefault::<FoldHasher>::new())
-}
 
 /// A text through a cache of its own.
 fn key(rt: &impl Abort, alloc: Global, letters: &str) -> IString {
     IString::intern(&mut empty_cache(alloc), letters).expect(rt, "a text")
 }
 
-/// What `text` spells, through a cache of its own.
-pub(crate) fn parsed(rt: &impl Abort, alloc: Global, text: &str) -> IValue {
-    from_json(alloc, &mut empty_cache(alloc), text).expect(rt, text)
-}
-
-/// Asserts what is written of a value.
-pub(crate) fn is_written(rt: &impl Abort, alloc: Global, value: &IValue, text: &str) {
-    let found = to_json(alloc, value).expect(rt, "a text");
-    assert!(rt; found.as_str() == text, "{text}");
+/// Asserts what is shown of something.
+fn is_shown<T: Debug>(rt: &impl Abort, alloc: Global, shown: &T, want: &str) {
+    let text = format!(in alloc; "{shown:?}").expect(rt, "a text");
+    assert!(rt; text.as_str() == want, "{text} is not {want}");
 }

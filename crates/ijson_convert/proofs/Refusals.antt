@@ -1,4 +1,4 @@
--- A conversion is refused for want of memory, or for a number.
+-- A conversion is refused where memory is, or for a number.
 use Rattle.std.specs.Prelude.{◌⊎◌}
 use Rattle.std.proofs.Math.Logic.{⊎_map}
 

@@ -12,7 +12,7 @@ use Rattle.ijson_number.specs.Order.{number_cmp}
 use Rattle.ijson_number.specs.laws.Ordered.{number_cmp_total, tests_equal}
 use Rattle.ijson_value.specs.Integers.{HasInteger}
 use Rattle.ijson_value.specs.Same.{Same}
-use Rattle.ijson_value.specs.Tree.{Tree, null, boolean, number, string, array, object}
+use Rattle.ijson_value.specs.Tree.{Tree, number}
 use Rattle.ijson_value.specs.WellFormed.{WellFormed, IsWellFormed}
 use Rattle.ijson_value.proofs.Walks.{one_integer}
 use Rattle.ijson_convert.specs.IntegerTree.{integer_number, integer_tree}
@@ -31,6 +31,10 @@ has_same a n z h k =
 -- what is read as an integer of 32 bits, back from its bits
 pub read_back : (y z : ℤ) (t : Tree) → HasInteger t y → FitsSigned w32 y → z ≡ cast_signed w32 (cast_unsigned w32 y) → HasInteger t z
 read_back y z t h read e = subst (HasInteger t) (sym (e ∙ to_z-of_z w32 y read)) h
+
+-- and one that was read without a sign
+pub unsigned_back : (m k : ℕ) (t : Tree) → HasInteger t (pos m) → k ≡ m → HasInteger t (pos k)
+unsigned_back m k t h e = subst (λ i. HasInteger t (pos i)) (sym e) h
 
 -- the integers of a narrower type are among those of 32 bits
 pub narrow_8 : (z : ℤ) → FitsSigned w8 z → FitsSigned w32 z
@@ -74,12 +78,8 @@ module _ (width : Width) where
   -- and so is what has no value of the width
   pub signed_none : (t : Tree) (e : ConvertError) → ((z : ℤ) → FitsSigned width z → HasInteger t z → ⊥) → IsNoInteger t e
       → SignedRefused width t e
-  signed_none null e none is = is
-  signed_none (boolean b) e none is = is
   signed_none (number n) e none is = (is, none)
-  signed_none (string s) e none is = is
-  signed_none (array ts) e none is = is
-  signed_none (object ps) e none is = is
+  signed_none _ e none is = is
 
 -- the same of one without a sign
 pub unsigned_made : (limit : ℕ) → limit ≤ 2 ^ 64 → (m : ℕ) (n : Num) (t : Tree) → m < limit → IsInteger n.decimal (pos m)
@@ -111,9 +111,5 @@ module _ (limit : ℕ) where
   -- and so is what has no value below it
   pub unsigned_none : (t : Tree) (e : ConvertError) → ((m : ℕ) → m < limit → HasInteger t (pos m) → ⊥) → IsNoInteger t e
       → UnsignedRefused limit t e
-  unsigned_none null e none is = is
-  unsigned_none (boolean b) e none is = is
   unsigned_none (number n) e none is = (is, none)
-  unsigned_none (string s) e none is = is
-  unsigned_none (array ts) e none is = is
-  unsigned_none (object ps) e none is = is
+  unsigned_none _ e none is = is

@@ -35,8 +35,8 @@ pub trait FromIValue: Sized {
     /// What holds of each value that is read: where a part of it may be missing and has the tree null, it is missing.
     ghost null_is_none: { Self → Type 0 };
 
-    /// What the JSON value says. Want of memory apart, it is refused exactly where its tree is. Texts are copied, and what was
-    /// made is dropped where it is refused.
+    /// What the JSON value says. It is refused where its tree is, and else only with `Memory`. Texts are copied, and what was made
+    /// is dropped where it is refused.
     fn from_ivalue(alloc: Global, value: &IValue) -> Result<Self, ConvertError>
         ensures same { IfOk result (λ x. Same (tree x) value.now.tree) }
         ensures read { IfOk result (λ x. IsRead refused value.now.tree) }
@@ -48,8 +48,8 @@ pub trait FromIValue: Sized {
         → IsWellFormed t → Same (tree x) t → refused t e → ⊥ };
 }
 
-/// What the JSON value says, as a `T`. Want of memory apart, it is refused exactly where its tree is no `T`'s, with the
-/// first reason in order. Texts are copied. For an `Option`, null is None.
+/// What the JSON value says, as a `T`. It is refused where its tree is no `T`'s, with the first reason in order, and else only with
+/// `Memory`. Texts are copied. For an `Option`, null is None.
 ///
 /// ```
 /// let ids: Vec<u64> = from_value(alloc, &value)?; // of [1,2.0]; [1,"2"] is refused as WrongKind, [1,2.5] as OutOfRange

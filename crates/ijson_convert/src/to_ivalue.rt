@@ -23,8 +23,8 @@ pub trait ToIValue {
     ghost use Rattle.ijson_convert.specs.TextsOf.{texts_of};
     ghost use Rattle.ijson_convert.specs.declared.convert_error.ConvertError.TheVariants.{Memory};
 
-    /// The JSON value. Its texts and keys are interned in `cache`, in their order. Only want of memory is refused, and a
-    /// beginning of them may then have been interned.
+    /// The JSON value. Its texts and keys are interned in `cache`, in their order. The only error is `Memory`, and a beginning of
+    /// them may then have been interned.
     fn to_ivalue<S: BuildHasher>(
         &self,
         alloc: Global,
@@ -36,9 +36,8 @@ pub trait ToIValue {
             (e ≡ Memory) × SomeInterned (texts_of (tree self.now)) cache.old cache.new) };
 }
 
-/// The JSON value of `x`. Its texts and keys are interned in `cache`, in their order. Only want of memory is refused, and
-/// a beginning of them may then have been interned. Lists and maps are gone over once, and their arrays and objects take their
-/// room at once.
+/// The JSON value of `x`. Its texts and keys are interned in `cache`, in their order. The only error is `Memory`, and a beginning
+/// of them may then have been interned. Lists and maps are gone over once, and their arrays and objects take their room at once.
 ///
 /// ```
 /// let sizes = to_value(alloc, &mut cache, &vec![in alloc; 1u8, 2]?)?; // [1,2]

@@ -1,2 +1,3 @@
 pub mod Kept
+pub mod PairFound
 pub mod PutInside

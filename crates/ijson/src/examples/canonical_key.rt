@@ -5,8 +5,8 @@ ghost use Rattle.ijson_extra.specs.Canonical.{canonical};
 ghost use Rattle.ijson_value.specs.Same.{Same};
 ghost use Rattle.ijson_value.specs.WellFormed.{WellFormed};
 
+use super::parsed;
 use crate::canonical::canonical_json;
-use crate::tests::parsed;
 use crate::value::IValue;
 use std::alloc::{AllocError, Global};
 use std::process::Abort;

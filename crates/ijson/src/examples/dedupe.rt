@@ -5,7 +5,7 @@ ghost use Rattle.ijson_value.specs.SameTest.{same};
 ghost use Rattle.ijson_value.specs.WellFormed.{WellFormed};
 ghost use Rattle.ijson_value.specs.laws.EqualAmong.{has_equal};
 
-use crate::tests::{is_written, parsed};
+use super::{is_written, parsed};
 use crate::{IArray, IValue};
 use indexmap::IndexSet;
 use std::alloc::{AllocError, Global};

@@ -2,7 +2,7 @@
 ghost use Rattle.std.specs.Prelude.{◌≡◌, ℕ, IfErr, IfNone, IfOk, IfSome, OnErr, OnOk};
 ghost use Rattle.ijson.specs.examples.Documents.{StandsAt, Stores};
 
-use crate::tests::parsed;
+use super::parsed;
 use crate::value::IValue;
 use indexmap::IndexSet;
 use std::alloc::AllocFailed;

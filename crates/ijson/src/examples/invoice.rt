@@ -5,8 +5,8 @@ ghost use Rattle.ijson.specs.examples.Invoice.{HasAmount, IsTotal, LacksAmount};
 ghost use Rattle.ijson_value.specs.Kind.{kind_of};
 ghost use Rattle.ijson_value.specs.declared.value.ValueType.TheVariants.{Array};
 
+use super::parsed;
 use crate::IValue;
-use crate::tests::parsed;
 
 /// Why there is no total.
 #[derive(Clone, Copy, Debug, Drop, PartialEq, Eq)]

@@ -1,7 +1,7 @@
 //! The value at a JSON Pointer in a text, and for a fault in the text its line and column.
+use super::empty_cache;
 use crate::json::{JsonError, from_json, line_and_column, to_json};
 use crate::pointer::resolve;
-use crate::tests::empty_cache;
 use anyhow::{Result, anyhow, bail};
 use std::alloc::Global;
 

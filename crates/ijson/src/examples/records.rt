@@ -4,7 +4,7 @@ ghost use Rattle.ijson.specs.examples.Records.{HasId, RefusesSoMany};
 ghost use Rattle.ijson_value.specs.Kind.{kind_of};
 ghost use Rattle.ijson_value.specs.declared.value.ValueType.TheVariants as kind;
 
-use crate::tests::parsed;
+use super::parsed;
 use crate::value::IValue;
 
 /// Whether a value is an object with a member `id` that is a whole number from 0 to 2^64 - 1.

@@ -3,13 +3,14 @@ ghost use Rattle.std.specs.Prelude.{◌≡◌, ℕ, List, IfOk, IsTrue};
 ghost use Rattle.std.specs.Option.{option_or};
 ghost use Rattle.ijson_value.specs.Step.{by_key, tree_at};
 
+use super::{is_written, parsed};
 use crate::IValue;
 use crate::object::RefusedPair;
-use crate::tests::{is_written, parsed};
 use std::alloc::Global;
 use std::process::Abort;
 
-/// Writes each setting of `over` into `base`; other settings stay. False where one of them is no object.
+/// Writes each setting of `over` into `base`; other settings stay. False where one of them is no object. Its proof goes by
+/// `at_key-over` of `ijson_value` (`proofs/examples/settings`).
 fn overlay(base: &mut IValue, over: IValue) -> Result<bool, RefusedPair>
     ensures { IfOk result (λ done. IsTrue done → (key : List ℕ)
         → tree_at base.new.tree (by_key key)

@@ -3,8 +3,8 @@ ghost use Rattle.std.specs.Prelude.{◌<◌, ◌^◌, ℕ, IfNone, IfSome};
 ghost use Rattle.ijson.specs.examples.Total.{EachSumsTo, SumsTo, ValuesSumTo};
 ghost use Rattle.ijson_value.specs.WellFormed.{item_trees, pair_trees};
 
+use super::parsed;
 use crate::object::IObject;
-use crate::tests::parsed;
 use crate::value::{DestructuredRef, IValue};
 
 /// The sum of the numbers in a value, at any depth. None where one of them is below 0 or not whole, or where the sum is 2^64 or more.

@@ -6,7 +6,6 @@ use crate::array::{IArray, Refused};
 use crate::value::IValue;
 use std::alloc::{AllocError, Global};
 use std::process::Abort;
-use std::test::Fail;
 
 /// The array that letters spell: `n` is null, `t` true and `f` false.
 fn spelled(rt: &impl Abort, alloc: Global, letters: &str) -> IArray {
@@ -138,7 +137,26 @@ fn lengths_and_room(rt: HostRuntime) {
     push_three(&mut array).expect(&rt, "three items");
     assert!(rt; is_spelled(&array, "nnn"));
     let roomy = IArray::with_capacity(rt.alloc(), 7).expect(&rt, "room");
-    assert!(rt; roomy.capacity() >= 7);
+    assert!(rt; roomy.capacity() == 7);
+}
+
+/// Letters, and for how many items there is room once they are pushed one after the other.
+const ROOMS: [(&str, usize); 5] = [
+    ("", 0),
+    ("n", 4),
+    ("ntfn", 4),
+    ("ntfnt", 8),
+    ("ntfntfntf", 16),
+];
+
+#[test]
+fn room_that_pushes_make(rt: HostRuntime) {
+    for (letters, room) in ROOMS {
+        assert!(rt;
+            spelled(&rt, rt.alloc(), letters).capacity() == room,
+            "{letters}"
+        );
+    }
 }
 
 /// Gives the items of `ntf` out.
@@ -178,7 +196,7 @@ fn extended(rt: &impl Abort, alloc: Global) -> IArray {
 #[test]
 fn arrays_of_other_items(rt: HostRuntime) {
     let array = extended(&rt, rt.alloc());
-    assert!(rt; is_spelled(&array, "ntff"));
+    assert!(rt; is_spelled(&array, "ntff") && array.capacity() == 4);
     let list: Vec<IValue> = array.into_iter().collect(rt.alloc()).expect(&rt, "a list");
     let again = IArray::from_vec(rt.alloc(), list).expect(&rt, "an array");
     assert!(rt; is_spelled(&again, "ntff"));

@@ -1,14 +1,17 @@
-use super::refusals::object_of_map;
+use super::refusals::{Keys, object_of_map};
 use super::{Cache, empty_cache, is_written, parsed};
 use crate::convert::{
     ConvertError, FromIValue, ToIValue, from_serde, from_value, to_serde, to_value,
 };
 use crate::ijson;
 use crate::json::to_json;
+use crate::object::IObject;
+use crate::string::IString;
+use crate::table::ReserveError;
 use crate::value::IValue;
 use indexmap::IndexMap;
 use std::alloc::Global;
-use std::collections::BTreeMap;
+use std::collections::{BTreeMap, HashMap};
 use std::process::Abort;
 
 /// What is written of a value.
@@ -21,8 +24,8 @@ fn is_literal(rt: &impl Abort, alloc: Global, value: Result<IValue, ConvertError
     is_written(rt, alloc, &value.expect(rt, "a value"), want);
 }
 
-// Each literal stands in a function of its own, with nothing else there to drop: each call that its tokens make is a way out of it, on which the
-// lists and objects made so far are dropped.
+// Each literal stands in a function of its own, with nothing else there to drop: each call that its tokens make is a way out of it, on
+// which the lists and objects made so far are dropped.
 
 /// Pairs of each kind of value, one key again, a key that is an expression, and a comma behind the last pair.
 fn pairs(alloc: Global, cache: &mut Cache, key: &str) -> Result<IValue, ConvertError> {
@@ -127,16 +130,16 @@ fn slices_and_texts_are_values(rt: HostRuntime) {
     assert!(rt; text.as_str() == r#""a \"text\" of many bytes""#);
 }
 
-/// What is written of an object of each kind of map, where the map has an order.
-const ORDERS: [Option<&str>; 3] = [
-    None,
-    Some(r#"{"a":2,"b":1,"eight888":3}"#),
-    Some(r#"{"b":1,"a":2,"eight888":3}"#),
+/// What is written of the object of each map that has an order.
+const ORDERS: [(Keys, Option<&str>); 3] = [
+    (Keys::Hashes, None),
+    (Keys::Sorts, Some(r#"{"a":2,"b":1,"eight888":3}"#)),
+    (Keys::Keeps, Some(r#"{"b":1,"a":2,"eight888":3}"#)),
 ];
 
-/// The object of a kind of map, which has no more room than pairs.
-fn of_map(rt: &impl Abort, alloc: Global, cache: &mut Cache, kind: usize) -> IValue {
-    let object = object_of_map(alloc, cache, kind).expect(rt, "an object");
+/// The object of a map, which has no more room than pairs.
+fn of_map(rt: &impl Abort, alloc: Global, cache: &mut Cache, keys: Keys) -> IValue {
+    let object = object_of_map(alloc, cache, keys).expect(rt, "an object");
     assert!(rt; object.len() == 3 && object.capacity() == 3);
     IValue::from(object)
 }
@@ -146,8 +149,8 @@ fn pairs_of_maps_are_objects(rt: HostRuntime) {
     let alloc = rt.alloc();
     let mut cache = empty_cache(alloc);
     let same = parsed(&rt, alloc, r#"{"a":2,"b":1,"eight888":3}"#);
-    for (kind, order) in ORDERS.iter().enumerate() {
-        let value = of_map(&rt, alloc, &mut cache, kind);
+    for (keys, order) in ORDERS {
+        let value = of_map(&rt, alloc, &mut cache, keys);
         assert!(rt; value == same);
         if let Some(text) = order {
             is_written(&rt, alloc, &value, text);
@@ -387,10 +390,39 @@ fn many_items_go_there_and_back(rt: HostRuntime) {
     assert!(rt; items.len() == Some(100_000));
 }
 
+/// The object of a map of the pairs of another object.
+fn through_map(alloc: Global, object: IObject, keys: Keys) -> Result<IObject, ReserveError> {
+    let pairs = object.into_iter();
+    match keys {
+        Keys::Hashes => {
+            let map: HashMap<IString, IValue> = pairs.collect(alloc)?;
+            IObject::from_hash_map(alloc, map)
+        }
+        Keys::Sorts => {
+            let map: BTreeMap<IString, IValue> = pairs.collect(alloc)?;
+            IObject::from_btree_map(alloc, map)
+        }
+        Keys::Keeps => {
+            let map: IndexMap<IString, IValue> = pairs.collect(alloc)?;
+            IObject::from_index_map(alloc, map)
+        }
+    }
+}
+
+/// Asserts that an object goes through a map and comes back.
+fn goes_through(rt: &impl Abort, alloc: Global, object: &IObject, keys: Keys) {
+    let copy = object.clone().expect(rt, "a copy");
+    let again = through_map(alloc, copy, keys).expect(rt, "an object");
+    assert!(rt; again == *object && again.capacity() == object.len());
+}
+
 /// The object of a map has room for its pairs alone.
 #[test]
 fn many_pairs_go_there_and_back(rt: HostRuntime) {
     let pairs = goes_back(&rt, rt.alloc(), &numbered(&rt, rt.alloc(), 10_000));
     let object = pairs.as_object().expect(&rt, "an object");
     assert!(rt; object.len() == 10_000 && object.capacity() == 10_000);
+    for (keys, _order) in ORDERS {
+        goes_through(&rt, rt.alloc(), object, keys);
+    }
 }

@@ -1,16 +1,15 @@
-//! Each fault goes by `?` into an error that keeps its text. Those of conversions and pointers are shown by their names too.
+//! Each fault goes by `?` into an error that keeps its text, and is shown by its name and its fields.
 
+use super::{is_shown, key};
 use crate::array::Refused;
 use crate::convert::ConvertError;
-use crate::json::{CompactError, DeviceFault, JsonError};
+use crate::json::{CompactError, DeviceFault, JsonError, line_and_column};
 use crate::object::{RefusedKey, RefusedPair};
-use crate::pointer::PointerError;
-use crate::string::IString;
+use crate::pointer::{PointerError, Unresolved};
 use crate::table::ReserveError;
 use crate::value::IValue;
 use std::alloc::Global;
 use std::error::Error;
-use std::fmt::Debug;
 use std::process::Abort;
 
 fn passed_on<E: Error>(fault: E) -> anyhow::Result<()> {
@@ -18,7 +17,9 @@ fn passed_on<E: Error>(fault: E) -> anyhow::Result<()> {
     Ok(())
 }
 
-fn keeps<E: Error>(rt: &impl Abort, alloc: Global, fault: E, text: &str) {
+/// Asserts how a fault is shown, and that the error that it becomes has this text.
+fn is_told<E: Error>(rt: &impl Abort, alloc: Global, fault: E, text: &str, shown: &str) {
+    is_shown(rt, alloc, &fault, shown);
     let Err(error) = passed_on(fault) else {
         panic!(rt; "{text}");
     };
@@ -26,38 +27,40 @@ fn keeps<E: Error>(rt: &impl Abort, alloc: Global, fault: E, text: &str) {
     assert!(rt; found.as_str() == text);
 }
 
-fn shows<E: Debug>(rt: &impl Abort, alloc: Global, fault: &E, name: &str) {
-    let found = format!(in alloc; "{fault:?}").expect(rt, "a text");
-    assert!(rt; found.as_str() == name);
-}
-
-/// Faults of a text, and the text of each.
-const OF_TEXTS: [(JsonError, &str); 4] = [
-    (JsonError::Syntax { at: 3 }, "syntax at byte 3"),
+/// Faults of a text, the text of each, and how it is shown.
+const OF_TEXTS: [(JsonError, &str, &str); 4] = [
+    (
+        JsonError::Syntax { at: 3 },
+        "syntax at byte 3",
+        "Syntax { at: 3 }",
+    ),
     (
         JsonError::TooDeep { at: 127 },
         "nesting too deep at byte 127",
+        "TooDeep { at: 127 }",
     ),
     (
         JsonError::NumberRange { at: 0 },
         "number out of range at byte 0",
+        "NumberRange { at: 0 }",
     ),
-    (JsonError::Memory, "out of memory"),
+    (JsonError::Memory, "out of memory", "Memory"),
 ];
 
-/// Faults of `compact`, and the text of each.
-const OF_COMPACT: [(CompactError, &str); 5] = [
-    (CompactError::Read, "read failed"),
-    (CompactError::NotUtf8, "input is not UTF-8"),
+/// Faults of `compact`, the text of each, and how it is shown.
+const OF_COMPACT: [(CompactError, &str, &str); 5] = [
+    (CompactError::Read, "read failed", "Read"),
+    (CompactError::NotUtf8, "input is not UTF-8", "NotUtf8"),
     (
         CompactError::Json(JsonError::Syntax { at: 3 }),
         "syntax at byte 3",
+        "Json(Syntax { at: 3 })",
     ),
-    (CompactError::Write, "write failed"),
-    (CompactError::Memory, "out of memory"),
+    (CompactError::Write, "write failed", "Write"),
+    (CompactError::Memory, "out of memory", "Memory"),
 ];
 
-/// Refusals of a conversion, and the text and the name of each.
+/// Refusals of a conversion, the text of each, and how it is shown.
 const OF_CONVERSIONS: [(ConvertError, &str, &str); 4] = [
     (
         ConvertError::WrongKind,
@@ -77,41 +80,60 @@ const OF_CONVERSIONS: [(ConvertError, &str, &str); 4] = [
     (ConvertError::Memory, "out of memory", "Memory"),
 ];
 
-#[test]
-fn refusals_have_texts_and_names(rt: HostRuntime) {
-    for (fault, text, name) in OF_CONVERSIONS {
-        keeps(&rt, rt.alloc(), fault, text);
-        shows(&rt, rt.alloc(), &fault, name);
-    }
-    let fault = PointerError::Syntax;
-    keeps(&rt, rt.alloc(), fault, "not a JSON Pointer");
-    shows(&rt, rt.alloc(), &fault, "Syntax");
-}
+/// Why a pointer leads nowhere, the text of each reason, and how it is shown.
+const OF_POINTERS: [(Unresolved, &str, &str); 2] = [
+    (
+        Unresolved::Nothing,
+        "nothing is at the JSON Pointer",
+        "Nothing",
+    ),
+    (
+        Unresolved::NoPointer(PointerError::Syntax),
+        "not a JSON Pointer",
+        "NoPointer(Syntax)",
+    ),
+];
 
 #[test]
 fn faults_become_errors(rt: HostRuntime) {
-    for (fault, text) in OF_TEXTS {
-        keeps(&rt, rt.alloc(), fault, text);
+    for (fault, text, shown) in OF_TEXTS {
+        is_told(&rt, rt.alloc(), fault, text, shown);
     }
-    for (fault, text) in OF_COMPACT {
-        keeps(&rt, rt.alloc(), fault, text);
+    for (fault, text, shown) in OF_COMPACT {
+        is_told(&rt, rt.alloc(), fault, text, shown);
     }
-    keeps(&rt, rt.alloc(), DeviceFault, "a read or a write failed");
+    for (fault, text, shown) in OF_CONVERSIONS {
+        is_told(&rt, rt.alloc(), fault, text, shown);
+    }
+    for (fault, text, shown) in OF_POINTERS {
+        is_told(&rt, rt.alloc(), fault, text, shown);
+    }
 }
 
 #[test]
 fn refusals_become_errors(rt: HostRuntime) {
-    let (key, value) = (IString::new(), IValue::NULL);
-    let why = ReserveError::Memory;
-    keeps(
-        &rt,
-        rt.alloc(),
-        Refused(IValue::NULL),
-        "no memory for one more item",
-    );
+    let alloc = rt.alloc();
+    let (text, shown) = ("no memory for one more item", "Refused(true)");
+    is_told(&rt, alloc, Refused(IValue::TRUE), text, shown);
+    let (key_back, why) = (key(&rt, alloc, "k"), ReserveError::Memory);
     let text = "the object did not grow for one more key: a request for memory was refused";
-    keeps(&rt, rt.alloc(), RefusedKey { key, why }, text);
-    let (key, why) = (IString::new(), ReserveError::TooLarge);
+    let shown = "RefusedKey { key: \"k\", why: Memory }";
+    is_told(&rt, alloc, RefusedKey { key: key_back, why }, text, shown);
+    let (key, value, why) = (key(&rt, alloc, "k"), IValue::TRUE, ReserveError::TooLarge);
     let text = "the store did not grow for one more pair: the capacity would pass 2^56";
-    keeps(&rt, rt.alloc(), RefusedPair { key, value, why }, text);
+    let shown = "RefusedPair { key: \"k\", value: true, why: TooLarge }";
+    is_told(&rt, alloc, RefusedPair { key, value, why }, text, shown);
+}
+
+#[test]
+fn faults_without_a_value_become_errors(rt: HostRuntime) {
+    let alloc = rt.alloc();
+    let text = "a request for memory was refused";
+    is_told(&rt, alloc, ReserveError::Memory, text, "Memory");
+    let text = "not a JSON Pointer";
+    is_told(&rt, alloc, PointerError::Syntax, text, "Syntax");
+    let text = "a read or a write failed";
+    is_told(&rt, alloc, DeviceFault, text, "DeviceFault");
+    let place = line_and_column("[\n 1", 3);
+    is_shown(&rt, alloc, &place, "LineColumn { line: 2, column: 2 }");
 }

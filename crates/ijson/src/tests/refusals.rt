@@ -58,32 +58,39 @@ fn is_written(rt: &impl Abort, alloc: Global, value: &IValue, text: &str) {
     assert!(rt; written(rt, alloc, value).as_str() == text);
 }
 
-/// An object of the pairs `b`: 1, `a`: 2 and `eight888`: 3, through a map that hashes (0), sorts (1), or keeps the order of
-/// insertion (2).
+/// What a map does with its keys.
+#[derive(Clone, Copy)]
+pub(super) enum Keys {
+    Hashes,
+    Sorts,
+    Keeps,
+}
+
+/// An object of the pairs `b`: 1, `a`: 2 and `eight888`: 3, through a map that hashes its keys, sorts them, or keeps their order.
 pub(super) fn object_of_map(
     alloc: Global,
     cache: &mut Cache,
-    kind: usize,
+    keys: Keys,
 ) -> Result<IObject, ReserveError> {
     let pairs = [
         (IString::intern(cache, "b")?, IValue::from(1i8)),
         (IString::intern(cache, "a")?, IValue::from(2i8)),
         (IString::intern(cache, "eight888")?, IValue::from(3i8)),
     ];
-    match kind {
-        0 => IObject::from_hash_map(alloc, HashMap::from_array(alloc, pairs)?),
-        1 => IObject::from_btree_map(alloc, BTreeMap::from_array(alloc, pairs)?),
-        _ => IObject::from_index_map(alloc, IndexMap::from_array(alloc, pairs)?),
+    match keys {
+        Keys::Hashes => IObject::from_hash_map(alloc, HashMap::from_array(alloc, pairs)?),
+        Keys::Sorts => IObject::from_btree_map(alloc, BTreeMap::from_array(alloc, pairs)?),
+        Keys::Keeps => IObject::from_index_map(alloc, IndexMap::from_array(alloc, pairs)?),
     }
 }
 
-/// The object of a map of this kind.
-fn mapped(rt: &impl Abort, alloc: Global, cache: &mut Cache, kind: usize) -> IObject {
-    match object_of_map(alloc, cache, kind) {
+/// The object of such a map.
+fn mapped(rt: &impl Abort, alloc: Global, cache: &mut Cache, keys: Keys) -> IObject {
+    match object_of_map(alloc, cache, keys) {
         Ok(object) => object,
         Err(why) => {
             assert!(rt; why == ReserveError::Memory);
-            object_of_map(alloc, cache, kind).expect(rt, "an object")
+            object_of_map(alloc, cache, keys).expect(rt, "an object")
         }
     }
 }
@@ -98,8 +105,8 @@ fn has_pairs(rt: &impl Abort, object: &IObject) {
 #[test]
 fn maps(rt: HostRuntime) {
     let mut cache = empty_cache(rt.alloc());
-    for kind in 0..3usize {
-        let object = mapped(&rt, rt.alloc(), &mut cache, kind);
+    for keys in [Keys::Hashes, Keys::Sorts, Keys::Keeps] {
+        let object = mapped(&rt, rt.alloc(), &mut cache, keys);
         assert!(rt; object.len() == 3 && object.capacity() == 3);
         has_pairs(&rt, &object);
     }

@@ -5,14 +5,13 @@ ghost use Rattle.ijson_value.specs.declared.value.ValueType.TheVariants as kind;
 ghost use Rattle.ijson_value.specs.Step.{by_position, by_key, kind_for, tree_at, tree_with};
 ghost use Rattle.ijson_value.specs.Tree.{boolean, null};
 
-use super::{key, parsed};
+use super::{is_shown, key, parsed};
 use crate::array::IArray;
 use crate::number::INumber;
 use crate::object::IObject;
 use crate::string::IString;
 use crate::value::{Destructured, DestructuredMut, DestructuredRef, IValue, ValueType};
 use std::alloc::Global;
-use std::fmt::Debug;
 use std::process::Abort;
 
 /// Sets the value at a position to null.
@@ -183,9 +182,10 @@ fn empty_part(value: &mut IValue) {
 }
 
 /// Texts, what is answered of each value, and what is left once it is emptied.
-const KINDS: [(&str, Answers, &str); 7] = [
+const KINDS: [(&str, Answers, &str); 8] = [
     ("null", (ValueType::Null, None, None, None), "null"),
     ("true", (ValueType::Bool, Some(true), None, None), "false"),
+    ("false", (ValueType::Bool, Some(false), None, None), "true"),
     ("2.5", (ValueType::Number, None, None, None), "0"),
     ("\"s\"", (ValueType::String, None, None, None), "\"\""),
     ("[]", (ValueType::Array, None, Some(0), Some(true)), "[]"),
@@ -209,10 +209,11 @@ fn is_emptied(rt: &impl Abort, value: &mut IValue, told: Answers, left: &IValue)
     assert!(rt; *value == *left);
 }
 
-/// Asserts that a value emptied by its part is what is left of it, but for a truth value.
+/// Asserts that a value emptied by its part is what is left of it; a truth value stays.
 fn is_emptied_by_part(rt: &impl Abort, value: &mut IValue, left: &IValue) {
+    let truth = value.to_bool();
     empty_part(value);
-    assert!(rt; *value == *left || value.is_bool());
+    assert!(rt; value.to_bool() == truth && (truth.is_some() || *value == *left));
 }
 
 #[test]
@@ -227,12 +228,18 @@ fn kinds_and_parts(rt: HostRuntime) {
 }
 
 /// Texts, whether the values of both are equal once they are opened, and what is shown of the first.
-const OPENED: [(&str, &str, bool, &str); 6] = [
+const OPENED: [(&str, &str, bool, &str); 12] = [
     ("null", "null", true, "Null"),
     ("true", "false", false, "Bool(true)"),
+    ("true", "true", true, "Bool(true)"),
     ("2", "2.0", true, "Number(2)"),
+    ("2", "3", false, "Number(2)"),
     ("\"s\"", "\"t\"", false, "String(\"s\")"),
+    ("\"\"", "\"\"", true, "String(\"\")"),
     ("[1]", "1", false, "Array([1])"),
+    ("[1]", "[1,2]", false, "Array([1])"),
+    ("[1,2]", "[1.0,2]", true, "Array([1, 2])"),
+    ("{\"a\":1}", "{\"a\":2}", false, "Object({\"a\": 1})"),
     (
         "{\"a\":1,\"b\":2}",
         "{\"b\":2,\"a\":1}",
@@ -240,12 +247,6 @@ const OPENED: [(&str, &str, bool, &str); 6] = [
         "Object({\"a\": 1, \"b\": 2})",
     ),
 ];
-
-/// Asserts what is shown of something.
-fn is_shown<T: Debug>(rt: &impl Abort, alloc: Global, shown: &T, want: &str) {
-    let text = format!(in alloc; "{shown:?}").expect(rt, "a text");
-    assert!(rt; text.as_str() == want);
-}
 
 /// Opens a value in each way, and asserts what is shown of it.
 fn is_shown_open(rt: &impl Abort, alloc: Global, mut value: IValue, want: &str) {

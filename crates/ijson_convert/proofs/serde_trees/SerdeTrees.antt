@@ -158,21 +158,13 @@ members_none (f ∷ before) e left never (member k t ps) h = members_none before
 pub array_none : (before : List Value) (v : Value) (left : List Value) → HasNoTree (view v)
     → HasNoTree (serde.array (items_view (before ++ v ∷ left)))
 array_none before v left never (array ts) h = items_none before v left never ts h
-array_none before v left never null h = h
-array_none before v left never (boolean b) h = h
-array_none before v left never (number n) h = h
-array_none before v left never (string s) h = h
-array_none before v left never (object ps) h = h
+array_none before v left never _ h = absurd h
 
 -- and the object
 pub object_none : (before : List Entry) (e : Entry) (left : List Entry) → HasNoTree (view e.1)
     → HasNoTree (serde.object (members_view (before ++ e ∷ left)))
 object_none before e left never (object ps) h = members_none before e left never ps h
-object_none before e left never null h = h
-object_none before e left never (boolean b) h = h
-object_none before e left never (number n) h = h
-object_none before e left never (string s) h = h
-object_none before e left never (array ts) h = h
+object_none before e left never _ h = absurd h
 
 -- ---- a key that is above those before it is put last
 below_middle : (f : Entry) (es : List Entry) (e : Entry) (left : List Entry)

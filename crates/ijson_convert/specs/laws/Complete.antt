@@ -3,7 +3,7 @@ use Rattle.std.specs.Prelude.{◌≡◌, ℕ, Bool, List, [], ◌∷◌, map, Op
 use Rattle.std.proofs.Common.{inl, inr, subst}
 use Rattle.std.specs.declared.alloc.Global.{Global}
 use Rattle.ijson_value.specs.Same.{Same, SameEach, SameIn, Has}
-use Rattle.ijson_value.specs.Tree.{Tree, null, boolean, number, string, array, object, Items, no_items, item, items_of, Members}
+use Rattle.ijson_value.specs.Tree.{Tree, null, boolean, string, array, object, Items, no_items, item, items_of, Members}
 use Rattle.ijson_value.specs.Tree.{no_members, member, members_of}
 use Rattle.ijson_value.specs.WellFormed.{IsWellFormed, AreWellFormed, HaveWellFormed}
 use Rattle.ijson_value.specs.laws.SameLaws.{same_symm}
@@ -17,39 +17,23 @@ use Rattle.ijson_convert.specs.declared.convert_error.ConvertError.{ConvertError
 pub bool_complete : (b : Bool) (t : Tree) (e : ConvertError) → ⊤ → IsWellFormed (boolean b) → IsWellFormed t
     → Same (boolean b) t → BoolRefused t e → ⊥
 bool_complete b (boolean c) e i w v s r = r
-bool_complete b null e i w v s r = s
-bool_complete b (number n) e i w v s r = s
-bool_complete b (string n) e i w v s r = s
-bool_complete b (array n) e i w v s r = s
-bool_complete b (object n) e i w v s r = s
+bool_complete b _ e i w v s r = absurd s
 
 pub text_complete : (text : List ℕ) (t : Tree) (e : ConvertError) → ⊤ → IsWellFormed (string text) → IsWellFormed t
     → Same (string text) t → TextRefused t e → ⊥
 text_complete b (string s) e i w v h r = r
-text_complete b null e i w v s r = s
-text_complete b (boolean n) e i w v s r = s
-text_complete b (number n) e i w v s r = s
-text_complete b (array n) e i w v s r = s
-text_complete b (object n) e i w v s r = s
+text_complete b _ e i w v s r = absurd s
 
 module _ {X : Type 0} (tree : X → Tree) (Refused : Tree → ConvertError → Type 0) (in_range : X → Type 0)
     (complete : (x : X) (t : Tree) (e : ConvertError) → in_range x → IsWellFormed (tree x) → IsWellFormed t
     → Same (tree x) t → Refused t e → ⊥) where
   refused_inside : (t : Tree) (e : ConvertError) → OptionRefused Refused t e → Refused t e
   refused_inside null e r = absurd r
-  refused_inside (boolean b) e r = r
-  refused_inside (number n) e r = r
-  refused_inside (string s) e r = r
-  refused_inside (array ts) e r = r
-  refused_inside (object ps) e r = r
+  refused_inside _ e r = r
 
   none_complete : (t : Tree) (e : ConvertError) → Same null t → OptionRefused Refused t e → ⊥
   none_complete null e s r = r
-  none_complete (boolean b) e s r = s
-  none_complete (number n) e s r = s
-  none_complete (string n) e s r = s
-  none_complete (array n) e s r = s
-  none_complete (object n) e s r = s
+  none_complete _ e s r = absurd s
 
   pub option_complete : (o : Option X) (t : Tree) (e : ConvertError) → option_in_range in_range o
       → IsWellFormed (option_tree tree o) → IsWellFormed t → Same (option_tree tree o) t
@@ -72,11 +56,7 @@ module _ {X : Type 0} (tree : X → Tree) (Refused : Tree → ConvertError → T
       → IsWellFormed (list_tree tree xs) → IsWellFormed t → Same (list_tree tree xs) t
       → ListRefused Refused t e → ⊥
   list_complete xs (array ts) e i w v s r = items_complete xs ts e i w v s r
-  list_complete xs null e i w v s r = s
-  list_complete xs (boolean n) e i w v s r = s
-  list_complete xs (number n) e i w v s r = s
-  list_complete xs (string n) e i w v s r = s
-  list_complete xs (object n) e i w v s r = s
+  list_complete xs _ e i w v s r = absurd s
 
   -- the pair of a map that has this key and this tree
   pair_of : (es : List (String Global × X)) → values_in_range in_range es → HaveWellFormed (members_of (map (pair_tree tree) es))
@@ -106,8 +86,4 @@ module _ {X : Type 0} (tree : X → Tree) (Refused : Tree → ConvertError → T
   map_complete es (object ts) e i w v s r =
       let turned = same_symm (map_tree tree es) (object ts) w v s in
       members_complete es ts e i w.1 v.1 turned.1 r
-  map_complete es null e i w v s r = s
-  map_complete es (boolean n) e i w v s r = s
-  map_complete es (number n) e i w v s r = s
-  map_complete es (string n) e i w v s r = s
-  map_complete es (array n) e i w v s r = s
+  map_complete es _ e i w v s r = absurd s

@@ -9,7 +9,7 @@ use Rattle.ijson_number.specs.Integers.{integer, HasValue}
 use Rattle.ijson_number.specs.Order.{number_cmp}
 use Rattle.ijson_number.specs.laws.Ordered.{number_cmp_total, tests_equal}
 use Rattle.ijson_value.specs.Same.{Same}
-use Rattle.ijson_value.specs.Tree.{Tree, null, boolean, number, string, array, object}
+use Rattle.ijson_value.specs.Tree.{Tree, number}
 use Rattle.ijson_value.specs.WellFormed.{IsWellFormed}
 use Rattle.ijson_convert.specs.IntegerTree.{integer_number, integer_tree}
 use Rattle.ijson_convert.specs.Refused.{SignedRefused, UnsignedRefused}
@@ -52,11 +52,7 @@ module _ (width : Width) (wide : (z : ℤ) → FitsSigned width z → FitsSigned
   pub signed_complete : (z : ℤ) (t : Tree) (e : ConvertError) → FitsSigned width z
       → IsWellFormed (integer_tree z) → IsWellFormed t → Same (integer_tree z) t → SignedRefused width t e → ⊥
   signed_complete z (number n) e i w v s r = r.1 z i (has_too (integer_number z) n z (signed_has z (wide z i)) s)
-  signed_complete z null e i w v s r = s
-  signed_complete z (boolean b) e i w v s r = s
-  signed_complete z (string b) e i w v s r = s
-  signed_complete z (array b) e i w v s r = s
-  signed_complete z (object b) e i w v s r = s
+  signed_complete z _ e i w v s r = absurd s
 
 module _ (limit : ℕ) (below : limit ≤ 2 ^ 64) where
   pub unsigned_complete : (m : ℕ) (t : Tree) (e : ConvertError) → m < limit
@@ -64,8 +60,4 @@ module _ (limit : ℕ) (below : limit ≤ 2 ^ 64) where
       → UnsignedRefused limit t e → ⊥
   unsigned_complete m (number n) e i w v s r =
       r.1 m i (has_too (integer_number (pos m)) n (pos m) (unsigned_has m (omega (arith, below, i))) s)
-  unsigned_complete z null e i w v s r = s
-  unsigned_complete z (boolean b) e i w v s r = s
-  unsigned_complete z (string b) e i w v s r = s
-  unsigned_complete z (array b) e i w v s r = s
-  unsigned_complete z (object b) e i w v s r = s
+  unsigned_complete m _ e i w v s r = absurd s

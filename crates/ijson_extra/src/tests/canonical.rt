@@ -1,5 +1,6 @@
 //! Canonical texts.
 
+use super::refusals::large::push_members;
 use super::{empty_cache, is_written, parsed};
 use crate::canonical::canonical_json;
 use ijson_json::{JsonError, from_json};
@@ -80,12 +81,14 @@ fn canonical_at_any_depth(rt: HostRuntime) {
     is_too_deep(&rt, rt.alloc(), text.as_str());
 }
 
-/// A list of a text, a number and zeros, of 5,000 letters, digits and items, with something behind the number.
+/// A list of a text, zeros, an object and a number, of 5,000 letters, items, members and digits, with something behind the number.
 fn much(rt: &impl Abort, alloc: Global, behind: &str) -> String {
     let letters = "a".repeat(alloc, 5000).expect(rt, "the letters");
     let digits = "1".repeat(alloc, 5000).expect(rt, "the digits");
     let zeros = "0,".repeat(alloc, 5000).expect(rt, "the zeros");
-    format!(in alloc; "[\"{letters}\",{zeros}{digits}{behind}]").expect(rt, "a text")
+    let mut members = String::new(alloc);
+    push_members(rt, &mut members, 5000);
+    format!(in alloc; "[\"{letters}\",{zeros}{{{members}}},{digits}{behind}]").expect(rt, "a text")
 }
 
 #[test]

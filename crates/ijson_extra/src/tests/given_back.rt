@@ -24,19 +24,36 @@ fn holding(rt: &impl Abort, alloc: Global) -> IObject {
     object
 }
 
-/// A pair is taken out.
+/// Pairs are taken out, one and all of them.
 #[test]
 fn taken_out(rt: HostRuntime) {
     let mut object = holding(&rt, rt.alloc());
     object.retain(|key, _value| key.eq_str("first_key"));
     assert!(rt; object.len() == 1);
+    let mut object = holding(&rt, rt.alloc());
+    object.clear();
+    assert!(rt; object.is_empty());
 }
 
-/// Two values are replaced.
+/// Two values are replaced, in two ways.
 #[test]
 fn replaced(rt: HostRuntime) {
     let mut object = holding(&rt, rt.alloc());
     let again = holding(&rt, rt.alloc());
     object.extend(again).expect(&rt, "room");
+    let again = holding(&rt, rt.alloc());
+    object.overlay(again).expect(&rt, "room");
     assert!(rt; object.len() == 2);
+}
+
+/// Items are cut off, and others are given out and left.
+#[test]
+fn cut_off(rt: HostRuntime) {
+    let mut array = IArray::new(rt.alloc());
+    for _ in 0..4u8 {
+        array.push(listed(&rt, rt.alloc())).expect(&rt, "room");
+    }
+    array.truncate(3);
+    let mut items = array.into_iter();
+    assert!(rt; items.next().is_some() && items.len() == 2);
 }

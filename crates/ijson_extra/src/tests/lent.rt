@@ -158,25 +158,61 @@ const WRITTEN: [(&str, bool, &str, &str); 3] = [
     ("c", false, TEXT, "{\"a\":1,\"b\":[2],\"c\":true}"),
 ];
 
-/// Writes true beside a key of an object, in one of five ways. The last one puts it where the key is not there.
-fn writes(rt: &impl Abort, alloc: Global, value: &mut IValue, letters: &str, there: bool, way: u8) {
+/// A way to write true beside a key of an object. The last one puts it where the key is not there.
+#[derive(Clone, Copy)]
+enum Way {
+    Pair,
+    Found,
+    Inside,
+    Path,
+    Put,
+}
+
+/// The ways that write nothing where the key is not there.
+const WAYS: [Way; 4] = [Way::Pair, Way::Found, Way::Inside, Way::Path];
+
+/// Asserts whether a key is there, by the keys that come beside a value that is lent.
+fn is_beside(rt: &impl Abort, object: &mut IObject, letters: &str, there: bool) {
+    let found = match object.get_key_value_mut(letters) {
+        Some((key, _)) => key.eq_str(letters),
+        None => false,
+    };
+    assert!(rt; found == there);
+    let found = match ObjectIndex::index_into_mut(letters, object) {
+        Some((key, _)) => key.eq_str(letters),
+        None => false,
+    };
+    assert!(rt; found == there);
+}
+
+/// Writes true beside a key of an object.
+fn writes(
+    rt: &impl Abort,
+    alloc: Global,
+    value: &mut IValue,
+    letters: &str,
+    there: bool,
+    way: Way,
+) {
     assert!(rt; value.is_object());
     match way {
-        0 => {
-            let object = value.as_object_mut().expect(rt, "an object");
-            assert!(rt; ObjectIndex::index_into_mut(letters, object).is_some() == there);
-            set_pair(object, letters);
-        }
-        1 => set_found(value.as_object_mut().expect(rt, "an object"), letters),
-        2 => set_inside(value, letters),
-        3 => assert!(rt; set_by_path(value, letters) == there),
-        _ => put_by_path(value, key(rt, alloc, letters)).expect(rt, "room"),
+        Way::Pair => set_pair(value.as_object_mut().expect(rt, "an object"), letters),
+        Way::Found => set_found(value.as_object_mut().expect(rt, "an object"), letters),
+        Way::Inside => set_inside(value, letters),
+        Way::Path => assert!(rt; set_by_path(value, letters) == there),
+        Way::Put => put_by_path(value, key(rt, alloc, letters)).expect(rt, "room"),
     }
 }
 
 /// Asserts what is written of `TEXT` once true is written beside a key in this way.
-fn becomes(rt: &impl Abort, alloc: Global, letters: &str, there: bool, way: u8, want: &str) {
+fn becomes(rt: &impl Abort, alloc: Global, letters: &str, there: bool, way: Way, want: &str) {
     let mut value = parsed(rt, alloc, TEXT);
+    is_beside(
+        rt,
+        value.as_object_mut().expect(rt, "an object"),
+        letters,
+        there,
+    );
     writes(rt, alloc, &mut value, letters, there, way);
     is_written(rt, alloc, &value, want);
 }
@@ -185,10 +221,10 @@ fn becomes(rt: &impl Abort, alloc: Global, letters: &str, there: bool, way: u8, 
 #[test]
 fn values_beside_keys(rt: HostRuntime) {
     for (key, there, want, put) in WRITTEN {
-        for way in 0..4u8 {
+        for way in WAYS {
             becomes(&rt, rt.alloc(), key, there, way, want);
         }
-        becomes(&rt, rt.alloc(), key, there, 4, put);
+        becomes(&rt, rt.alloc(), key, there, Way::Put, put);
     }
 }
 

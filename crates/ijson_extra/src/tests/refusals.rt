@@ -2,6 +2,7 @@
 //! The repository's `check` runs each with its first request refused, with its second, and so on.
 ghost use Rattle.std.specs.Prelude.{◌≡◌, IfOk};
 
+pub(super) mod large;
 mod no_memory;
 mod objects;
 
@@ -45,7 +46,8 @@ fn number_of_many_digits(rt: HostRuntime) {
     let number = spelled(&rt, rt.alloc(), text);
     assert!(rt; number.has_decimal_point());
     copies_number(&rt, &number);
-    assert!(rt; number == spelled(&rt, rt.alloc(), text));
+    assert!(rt; number == spelled(&rt, rt.alloc(), "1234567890123456789012345678905e-1"));
+    is_written(&rt, rt.alloc(), &IValue::from(number), text);
 }
 
 /// The number at the front of a text, and its length.
@@ -81,7 +83,7 @@ fn counts(array: &IArray, len: usize) -> bool {
 fn pushes(rt: &impl Abort, array: &mut IArray, len: usize) {
     let capacity = array.capacity();
     if let Err(refused) = array.push(number(len)) {
-        assert!(rt; counts(array, len) && array.capacity() == capacity);
+        assert!(rt; counts(array, len) && array.capacity() == capacity && len == capacity);
         assert!(rt; refused.0 == number(len));
         assert!(rt; array.push(refused.0).is_ok());
     }
@@ -129,7 +131,7 @@ fn grows(rt: &impl Abort, array: &mut IArray) {
         assert!(rt; counts(array, 3) && array.capacity() == capacity);
         array.reserve(20).expect(rt, "room");
     }
-    assert!(rt; counts(array, 3) && array.capacity() >= 23);
+    assert!(rt; counts(array, 3) && array.capacity() == 23);
 }
 
 /// Gives up all room but that of the numbers from 0 to 2.
@@ -175,12 +177,17 @@ fn array_room(rt: HostRuntime) {
     shrinks(&rt, &mut array);
 }
 
+/// Whether an array of so many items has no room for one more, where they came one after the other.
+fn grows_at(len: usize) -> bool {
+    len == 0 || len == 4 || len == 8
+}
+
 /// An array of the numbers from 0 to 8, which an empty one is extended by.
 fn extended(rt: &impl Abort, alloc: Global) -> IArray {
     let mut array = IArray::new(alloc);
     if let Err(refused) = array.extend((0..9usize).map(number)) {
         let added = array.len();
-        assert!(rt; added < 9 && counts(&array, added));
+        assert!(rt; added < 9 && grows_at(added) && counts(&array, added));
         assert!(rt; refused.0 == number(added));
         array.push(refused.0).expect(rt, "an item");
         let rest = (added + 1..9).map(number);
@@ -194,7 +201,7 @@ fn made_again(rt: &impl Abort, alloc: Global, array: IArray) -> IArray {
     match IArray::from_iter(alloc, array) {
         Ok(again) => again,
         Err(refused) => {
-            assert!(rt; refused.0.to_usize().unwrap_or(9) < 9);
+            assert!(rt; refused.0.to_usize().is_some_and(grows_at));
             IArray::from_iter(alloc, (0..9usize).map(number)).expect(rt, "an array")
         }
     }
@@ -336,12 +343,17 @@ fn read_into(rt: &impl Abort, alloc: Global, cache: &mut Cache, text: &str, held
     }
 }
 
+/// An empty text that has room for so many bytes.
+fn text_of_room(rt: &impl Abort, alloc: Global, bytes: usize) -> String {
+    match String::with_capacity(alloc, bytes) {
+        Ok(text) => text,
+        Err(AllocError) => String::with_capacity(alloc, bytes).expect(rt, "a text"),
+    }
+}
+
 /// The text `true`, which has no room for more.
 fn full_text(rt: &impl Abort, alloc: Global) -> String {
-    let mut text = match String::with_capacity(alloc, 4) {
-        Ok(text) => text,
-        Err(AllocError) => String::with_capacity(alloc, 4).expect(rt, "a text"),
-    };
+    let mut text = text_of_room(rt, alloc, 4);
     text.push_str("true").expect(rt, "room");
     text
 }
@@ -354,14 +366,34 @@ fn parts(rt: &impl Abort, alloc: Global) {
         push_separator(&mut found, false).expect(rt, "a longer text");
     }
     assert!(rt; found.as_str() == "true,");
+    for (text, want) in NUMBERS {
+        let number = spelled(rt, alloc, text);
+        let mut found = full_text(rt, alloc);
+        let pushed = number.push_to(&mut found);
+        is_begun(rt, found.as_str(), want, pushed.is_ok());
+    }
     let mut found = full_text(rt, alloc);
-    let pushed = INumber::from(u64::MAX).push_to(&mut found);
-    assert!(rt; found.as_str().starts_with("true") && (pushed.is_ok() == (found.len() == 24)));
-    let mut found = full_text(rt, alloc);
-    let pushed = push_quoted(&mut found, "\n");
-    assert!(rt;
-        found.as_str().starts_with("true") && (pushed.is_ok() == found.as_str().ends_with("\""))
-    );
+    let pushed = push_quoted(&mut found, "0123456789\n");
+    is_begun(rt, found.as_str(), "true\"0123456789\\n\"", pushed.is_ok());
+}
+
+/// Numbers of few digits and of many, with zeros beside the digits and with an exponent, and what stands behind `true` once they are put
+/// there.
+const NUMBERS: [(&str, &str); 5] = [
+    ("18446744073709551615", "true18446744073709551615"),
+    (
+        "123456789012345678901234567890.5",
+        "true123456789012345678901234567890.5",
+    ),
+    ("1000000000000000000000", "true1000000000000000000000"),
+    ("0.0001", "true0.0001"),
+    ("2.0e30", "true2e30"),
+];
+
+/// Asserts that a text is what was to stand there, or else that memory was refused, and it is `true` and a beginning of the rest.
+fn is_begun(rt: &impl Abort, found: &str, want: &str, is_done: bool) {
+    assert!(rt; found.starts_with("true") && want.starts_with(found));
+    assert!(rt; is_done == (found == want));
 }
 
 #[test]

@@ -1,7 +1,7 @@
 //! Calls that take no memory. They are right whichever request is refused, so also where it is the next one after them, and a
 //! thousand rounds of them make as many requests as one does.
 
-use super::objects::{PAIRS, holds, refused_entry, with_pairs};
+use super::objects::{PAIRS, holds, is_number, refused_entry, with_pairs};
 use super::{Cache, array_of_room, interned, number, spelled};
 use crate::pointer::{resolve, resolve_mut};
 use crate::tests::{empty_cache, key};
@@ -62,17 +62,31 @@ fn texts(rt: &impl Abort, alloc: Global, rounds: u32) {
     assert!(rt; cache.is_empty() && long.eq_str("eight888"));
 }
 
+/// Whether an item was there, and it is this number.
+fn is_item(item: Option<IValue>, number: u8) -> bool {
+    match item {
+        Some(item) => is_number(&item, number),
+        None => false,
+    }
+}
+
+/// Whether an array has null alone.
+fn is_null_alone(array: &IArray) -> bool {
+    array.len() == 1 && array.iter().all(IValue::is_null)
+}
+
 /// Fills an array that has room for three items, and takes two of them out.
 fn fills(rt: &impl Abort, array: &mut IArray) {
     array.clear();
     for at in 0..3usize {
-        assert!(rt; array.push(number(at)).is_ok());
+        array.push(number(at)).expect(rt, "room");
     }
-    assert!(rt; array.swap_remove(0) == Some(number(0)) && array.remove(0) == Some(number(2)));
-    assert!(rt; array.reserve(2).is_ok() && array.insert(0, IValue::NULL).is_ok());
-    assert!(rt; array.pop() == Some(number(1)) && array.remove(1).is_none());
+    assert!(rt; is_item(array.swap_remove(0), 0) && is_item(array.remove(0), 2));
+    array.reserve(2).expect(rt, "room");
+    array.insert(0, IValue::NULL).expect(rt, "room");
+    assert!(rt; is_item(array.pop(), 1) && array.remove(1).is_none());
     array.truncate(1);
-    assert!(rt; array.as_slice() == [IValue::NULL].as_slice());
+    assert!(rt; is_null_alone(array));
 }
 
 /// Compares an array of one item with another one.
@@ -90,14 +104,15 @@ fn copies_nothing(rt: &impl Abort, alloc: Global) {
 fn arrays(rt: &impl Abort, alloc: Global, rounds: u32) {
     let mut array = array_of_room(rt, alloc, 3);
     let mut same = array_of_room(rt, alloc, 1);
-    assert!(rt; same.push(IValue::NULL).is_ok());
+    same.push(IValue::NULL).expect(rt, "room");
     for _ in 0..rounds {
         fills(rt, &mut array);
         is_same_array(rt, &array, &same);
         copies_nothing(rt, alloc);
     }
     let mut items = array.into_iter();
-    assert!(rt; items.next() == Some(IValue::NULL) && items.next().is_none());
+    let first = items.next().expect(rt, "an item");
+    assert!(rt; first.is_null() && items.next().is_none());
 }
 
 fn is_occupied(entry: Entry<'_>) -> bool {
@@ -110,7 +125,7 @@ fn is_occupied(entry: Entry<'_>) -> bool {
 /// Puts 9 in place of 1 in a full object, finds the entry, and puts 1 back.
 fn finds_entries(rt: &impl Abort, object: &mut IObject, a: &IString) {
     let former = object.insert(copied(rt, a), IValue::from(9u8));
-    assert!(rt; former.expect(rt, "a pair") == Some(IValue::from(1u8)));
+    assert!(rt; is_item(former.expect(rt, "a pair"), 1));
     assert!(rt; is_occupied(object.entry(copied(rt, a)).expect(rt, "an entry")));
     assert!(rt; is_occupied(object.entry_or_clone(a).expect(rt, "an entry")));
     let value = object.index_or_insert(copied(rt, a));
@@ -135,7 +150,7 @@ fn finds(rt: &impl Abort, object: &mut IObject, a: &IString) {
 fn fills_room(rt: &impl Abort, object: &mut IObject, e: &IString) {
     assert!(rt; holds(object, 3, 4) && object.reserve(1).is_ok());
     assert!(rt; refused_entry(object, copied(rt, e), 5).is_none());
-    assert!(rt; object.shift_remove(e) == Some(IValue::from(5u8)));
+    assert!(rt; is_item(object.shift_remove(e), 5));
 }
 
 /// Takes the last pair out, puts another one into the room, and puts the first one back.
@@ -157,7 +172,7 @@ fn is_same_object(rt: &impl Abort, object: &IObject, same: &IObject, other: &IOb
 /// Whether there is a pair, and it is the first of all.
 fn is_first(pair: Option<(IString, IValue)>) -> bool {
     match pair {
-        Some((key, value)) => key.eq_str("a") && value == IValue::from(1u8),
+        Some((key, value)) => key.eq_str("a") && is_number(&value, 1),
         None => false,
     }
 }
@@ -259,7 +274,7 @@ fn takes(rt: &impl Abort, value: &mut IValue) {
 /// Finds and writes what is inside.
 fn opens(rt: &impl Abort, value: &mut IValue) {
     let found = resolve(value, "/a").expect(rt, "a value");
-    assert!(rt; found == Some(&IValue::from(1u8)));
+    assert!(rt; found.and_then(IValue::to_u32) == Some(1));
     if let Ok(Some(found)) = resolve_mut(value, "/d") {
         *found = IValue::from(4u8);
     }

@@ -15,16 +15,20 @@ use std::process::Abort;
 /// The pairs of the objects that follow.
 pub const PAIRS: [(&str, u8); 5] = [("a", 1), ("b", 2), ("c", 3), ("d", 4), ("e", 5)];
 
+/// Whether a value is this number.
+pub fn is_number(value: &IValue, number: u8) -> bool {
+    value.to_u32() == Some(u32::from(number))
+}
+
 /// Whether an object has the first `len` of the pairs in order, finds each of them, and has this capacity.
 pub fn holds(object: &IObject, len: usize, capacity: usize) -> bool {
     let mut pairs = object.iter();
     for (key, value) in PAIRS.iter().take(len) {
-        let value = IValue::from(*value);
         match pairs.next() {
-            Some((text, found)) if text.eq_str(key) && *found == value => {}
+            Some((text, found)) if text.eq_str(key) && is_number(found, *value) => {}
             _ => return false,
         }
-        if object.get(*key) != Some(&value) {
+        if object.get(*key).and_then(IValue::to_u32) != Some(u32::from(*value)) {
             return false;
         }
     }
@@ -57,7 +61,7 @@ fn is_back(refused: &RefusedPair, len: usize) -> bool {
     match PAIRS.get(len) {
         Some((key, value)) => {
             refused.key.eq_str(key)
-                && refused.value == IValue::from(*value)
+                && is_number(&refused.value, *value)
                 && refused.why == ReserveError::Memory
         }
         None => false,
@@ -246,7 +250,7 @@ fn holds_inside(value: &IValue, len: usize, capacity: usize) -> bool {
 
 /// Whether a key came back with null, for want of memory.
 fn is_with_null(refused: &RefusedPair) -> bool {
-    refused.value == IValue::NULL && refused.why == ReserveError::Memory
+    refused.value.is_null() && refused.why == ReserveError::Memory
 }
 
 /// Puts a number beside the key that follows so many others, in an object that these fill.

@@ -22,7 +22,7 @@ use contract.BorrowLft.{◌⊑◌}
 use denote.Param.{bounded}
 use denote.Param.Laws.{copied_copy, copied_laws, IsCopy}
 use Rattle.std.proofs.VecSteps.Shapes.{after}
-use Rattle.std.specs.Prelude.{Option, None, Some, true}
+use Rattle.std.specs.Prelude.{Option, true}
 use Rattle.std.specs.contracts.option.Option.{the_row as OptionOf}
 use Rattle.ijson_value.specs.Values.{boolean_value}
 use Rattle.ijson_value.specs.WellFormed.{WellFormed}
@@ -31,38 +31,22 @@ use Rattle.ijson_value.proofs.lends.Variants.{by_option, none_out, Some-out}
 use Rattle.ijson_extra.specs.contracts.tests.lent.put_true as h
 use Rattle.ijson_extra.proofs.tests.lent.put_true.Met as h-thm
 use denote.Ref.{ShrRef, shr_Tells}
-use denote.Struct.Tuple.{Tuple}
 use mir.Val.{vstruct}
-use Rattle.std.specs.Prelude.{option_map, option_and_then, slice_get}
+use Rattle.std.specs.Prelude.{option_map}
 use Rattle.std.specs.Map.Iter.{deref_pair_mut}
-use Rattle.std.proofs.lemmas.Option.{slice_get-get_or}
 use Rattle.ijson_string.specs.contracts.text.IString.{the_row as S}
-use Rattle.ijson_table.specs.Store.{Store, at as place_of}
-use Rattle.ijson_table.proofs.pairs.PairsByKey.{position_within}
+use Rattle.ijson_table.specs.Store.{at as place_of}
 use Rattle.ijson_value.specs.AtKey.{pair_at_key}
-use Rattle.ijson_value.specs.LendsAtKey.{with_key, with_found}
+use Rattle.ijson_value.specs.LendsAtKey.{with_key}
 use Rattle.ijson_value.specs.LendsPair.{LendsPairIf}
-use Rattle.ijson_value.specs.Values.{null_value}
 use Rattle.ijson_value.specs.contracts.object.map.IObject.{the_row as M}
 use Rattle.ijson_value.proofs.lends.LentOn.{if_none, if_some}
+use Rattle.ijson_extra.proofs.test_lemmas.PairFound.{Pair, is_missing}
 use Rattle.ijson_extra.specs.contracts.tests.lent.set_found as f
 use Rattle.ijson_extra.proofs.tests.lent.set_found.Statement.{statement}
 use Rattle.ijson_extra.proofs.tests.lent.set_found.Code as code
 use Rattle.ijson_value.specs.contracts.object.index.ObjectIndex.index_into_mut as g
 use Rattle.ijson_value.proofs.object.index.ObjectIndex.index_into_mut.Met as g-thm
-
--- the pair of the two references
-abbrev Pair : Lft → RattleType
-Pair κ = Tuple (ShrRef (named 0) κ S ∷ MutRef (named 0) κ V ∷ [])
-
--- an object where a key is not there
-is_missing : (o : Store WellFormed) (key : List ℕ) (w : WellFormed) (m : Option ℕ) → place_of o.pairs key ≡ m
-    → None ≡ option_and_then (slice_get o.pairs) m → o ≡ with_found o m w
-is_missing o key w None e none = refl
-is_missing o key w (Some i) e none = absurd (no_pair (none ∙ slice_get-get_or o.pairs i ([], null_value) (position_within o.pairs key i e)))
-  where
-    no_pair : {x : List ℕ × WellFormed} → None ≡ Some x → ⊥
-    no_pair e = cc
 
 pub set_found_spec : {M' : Type 1} → statement M'
 set_found_spec 𝓤 𝓛 𝓜 𝓡 wired I LI CI gx dx gs ds gc dc mx ms mc =

@@ -16,7 +16,7 @@ use denote.Ref.{NamedLft}
 use mathlib.Core.List.{◌++◌}
 use mathlib.Core.Bool.{true≢false}
 use mir.Val.{of_list}
-use Rattle.std.specs.Prelude.{◌≢◌, Bool, true, false, not}
+use Rattle.std.specs.Prelude.{◌≢◌, Bool, not}
 use Rattle.std.proofs.mem.Facts.{says_two}
 use Rattle.ijson_number.specs.contracts.number.INumber.{the_row as NumberRow}
 use Rattle.ijson_string.specs.contracts.text.IString.{the_row as StringRow}

@@ -1,0 +1,81 @@
+//! Many letters, items and pairs, with each request refused once.
+
+use super::{copied, is_written, pushes, read, text_of_room};
+use ijson_json::push_separator;
+use ijson_number::INumber;
+use ijson_value::array::IArray;
+use ijson_value::object::{IObject, IntoIter};
+use std::alloc::Global;
+use std::process::Abort;
+
+/// Puts a text last, so many times.
+fn push_times(rt: &impl Abort, text: &mut String, part: &str, times: u32) {
+    for _ in 0..times {
+        text.push_str(part).expect(rt, "room");
+    }
+}
+
+/// Puts so many members last, with keys of six digits in order.
+pub fn push_members(rt: &impl Abort, text: &mut String, count: u32) {
+    for n in 0..count {
+        push_separator(text, n == 0).expect(rt, "room");
+        text.push('"').expect(rt, "room");
+        let number = INumber::from(n.wrapping_add(100_000));
+        number.push_to(text).expect(rt, "room");
+        text.push_str("\":0").expect(rt, "room");
+    }
+}
+
+/// The text of a list of a text, items and an object: 70,000 letters, 70,000 items, and 30,000 pairs.
+fn of_much(rt: &impl Abort, alloc: Global) -> String {
+    let mut text = text_of_room(rt, alloc, 600_000);
+    text.push_str("[\"").expect(rt, "room");
+    push_times(rt, &mut text, "a", 70_000);
+    text.push_str("\",[").expect(rt, "room");
+    push_times(rt, &mut text, "0,", 69_999);
+    text.push_str("0],{").expect(rt, "room");
+    push_members(rt, &mut text, 30_000);
+    text.push_str("}]").expect(rt, "room");
+    text
+}
+
+#[test]
+fn read_copied_and_written(rt: HostRuntime) {
+    let text = of_much(&rt, rt.alloc());
+    let value = read(&rt, rt.alloc(), text.as_str());
+    is_written(&rt, rt.alloc(), &value, text.as_str());
+    drop(copied(&rt, rt.alloc(), &value, text.as_str()));
+}
+
+/// Puts pairs one by one into an object. The pair that comes back is put once more.
+fn puts_each(rt: &impl Abort, object: &mut IObject, pairs: IntoIter) {
+    for (key, value) in pairs {
+        let len = object.len();
+        if let Err(refused) = object.insert(key, value) {
+            assert!(rt; object.len() == len && object.capacity() == len);
+            assert!(rt; matches!(object.insert(refused.key, refused.value), Ok(None)));
+        }
+    }
+}
+
+/// The object of 30,000 pairs.
+fn pairs(rt: &impl Abort, alloc: Global) -> IObject {
+    let mut text = text_of_room(rt, alloc, 400_000);
+    text.push('{').expect(rt, "room");
+    push_members(rt, &mut text, 30_000);
+    text.push('}').expect(rt, "room");
+    let value = read(rt, alloc, text.as_str());
+    value.into_object().expect(rt, "an object")
+}
+
+#[test]
+fn put_one_by_one(rt: HostRuntime) {
+    let mut array = IArray::new(rt.alloc());
+    for len in 0..70_000usize {
+        pushes(&rt, &mut array, len);
+    }
+    assert!(rt; array.len() == 70_000 && array.capacity() == 131_072);
+    let mut object = IObject::new(rt.alloc());
+    puts_each(&rt, &mut object, pairs(&rt, rt.alloc()).into_iter());
+    assert!(rt; object == pairs(&rt, rt.alloc()) && object.capacity() == 32_768);
+}
