@@ -14,11 +14,15 @@ static atomic_ulong requests;
 static atomic_long held;
 static unsigned long refuse_at;
 static void *(*next_malloc)(size_t);
+static void *(*next_calloc)(size_t, size_t);
+static void *(*next_aligned_alloc)(size_t, size_t);
 static void *(*next_realloc)(void *, size_t);
 static void (*next_free)(void *);
 
 __attribute__((constructor)) static void begin(void) {
     next_malloc = (void *(*)(size_t))dlsym(RTLD_NEXT, "malloc");
+    next_calloc = (void *(*)(size_t, size_t))dlsym(RTLD_NEXT, "calloc");
+    next_aligned_alloc = (void *(*)(size_t, size_t))dlsym(RTLD_NEXT, "aligned_alloc");
     next_realloc = (void *(*)(void *, size_t))dlsym(RTLD_NEXT, "realloc");
     next_free = (void (*)(void *))dlsym(RTLD_NEXT, "free");
     const char *at = getenv("REFUSE_AT");
@@ -36,6 +40,20 @@ static int refused(void) {
 void *malloc(size_t size) {
     if (!next_malloc) next_malloc = (void *(*)(size_t))dlsym(RTLD_NEXT, "malloc");
     void *granted = refused() ? NULL : next_malloc(size);
+    if (granted) atomic_fetch_add(&held, 1);
+    return granted;
+}
+
+void *calloc(size_t count, size_t size) {
+    if (!next_calloc) next_calloc = (void *(*)(size_t, size_t))dlsym(RTLD_NEXT, "calloc");
+    void *granted = refused() ? NULL : next_calloc(count, size);
+    if (granted) atomic_fetch_add(&held, 1);
+    return granted;
+}
+
+void *aligned_alloc(size_t alignment, size_t size) {
+    if (!next_aligned_alloc) next_aligned_alloc = (void *(*)(size_t, size_t))dlsym(RTLD_NEXT, "aligned_alloc");
+    void *granted = refused() ? NULL : next_aligned_alloc(alignment, size);
     if (granted) atomic_fetch_add(&held, 1);
     return granted;
 }
