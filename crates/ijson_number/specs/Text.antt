@@ -1,5 +1,6 @@
 -- How a number is written. The rules are this project's own; what they write is JSON (RFC 8259, section 6).
-use Rattle.std.specs.Prelude.{ℕ, ◌+◌, ℤ, pos, negsuc, nat_abs, ◌+ℤ◌, ◌-ℤ◌, int_lt, int_le, Bool, true, false, ◌||◌, List, [], ◌∷◌, ◌++◌, map, length, take, drop, replicate, nat_eq, zero, suc}
+use Rattle.std.specs.Prelude.{ℕ, ◌+◌, ℤ, pos, negsuc, nat_abs, ◌+ℤ◌, ◌-ℤ◌, int_lt, int_le, Bool, true, false, ◌||◌}
+use Rattle.std.specs.Prelude.{List, [], ◌∷◌, ◌++◌, map, length, take, drop, replicate, nat_eq, zero, suc}
 use Rattle.ijson_number.specs.Decimal.{Decimal}
 use Rattle.ijson_number.specs.StrippedDigits.{digits_within, stripped_digits}
 

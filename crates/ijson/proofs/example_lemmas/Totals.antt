@@ -21,7 +21,8 @@ mutual
   one_sum_values no_members x y w h k = h ∙ sym k
   one_sum_values (member key t ps) x y w h k = omega (arith, one_sum t h.0 k.0 w.0 h.2 k.2, one_sum_values ps h.1 k.1 w.1 h.3 k.3, h.4, k.4)
 
-pub values_sum : (ps : List (List ℕ × WellFormed)) → ◌≡◌ {A = ℕ → Type 0} (EachSumsTo (item_trees (map (λ p. p.1) ps))) (ValuesSumTo (pair_trees ps))
+pub values_sum : (ps : List (List ℕ × WellFormed)) → ◌≡◌ {A = ℕ → Type 0} (EachSumsTo (item_trees (map (λ p. p.1) ps)))
+    (ValuesSumTo (pair_trees ps))
 values_sum [] = refl
 values_sum (p ∷ ps) = ap (λ (Rest : ℕ → Type 0). λ (sum : ℕ). (x y : ℕ) × SumsTo p.1.tree x × Rest y × (sum ≡ x + y)) (values_sum ps)
 
@@ -55,7 +56,8 @@ module _ (Whole : ℕ → Type 0) (deepest so_far : ℕ) (left : List WellFormed
 
     module _ (x next : ℕ) (sums : SumsTo v.tree x) where
       behind : (n : ℕ) → Whole n → (m : ℕ) × EachSumsTo (item_trees rest) m × (n ≡ so_far + x + m)
-      behind n w = let r = (with_left (v ∷ rest) is).parts n w in (r.1.1, r.1.3, omega (arith, one_sum v.tree r.1.0 x v.well_formed r.1.2 sums, r.1.4, r.2))
+      behind n w = let r = (with_left (v ∷ rest) is).parts n w
+              in (r.1.1, r.1.3, omega (arith, one_sum v.tree r.1.0 x v.well_formed r.1.2 sums, r.1.4, r.2))
 
       pub none_more : (so_far + x < 2 ^ 64 → ⊥) → (n : ℕ) → n < 2 ^ 64 → Whole n → ⊥
       none_more large n small w = large (omega (arith, (behind n w).2, small))

@@ -1,5 +1,6 @@
 -- One byte more is passed.
-use Rattle.std.proofs.Common.{◌≡◌, ◌≢◌, ◌+◌, ◌++◌, ◌<◌, ◌≤◌, ℕ, suc, Bool, List, [], ◌∷◌, inr, true, false, cond, length, take, length-take, refl, sym, ap, ◌∙◌, arith, append_assoc}
+use Rattle.std.proofs.Common.{◌≡◌, ◌≢◌, ◌+◌, ◌++◌, ◌<◌, ◌≤◌, ℕ, suc, Bool, List, [], ◌∷◌, inr, true, false, cond}
+use Rattle.std.proofs.Common.{length, take, length-take, refl, sym, ap, ◌∙◌, arith, append_assoc}
 use Rattle.std.specs.Prelude.{nat_eq}
 use Rattle.std.proofs.lemmas.Bool.Decides.{nat_tests}
 use Rattle.std.proofs.lemmas.List.{append-nil, length-append}
@@ -7,14 +8,16 @@ use Rattle.ijson_json.specs.LineColumn.{begins, line_feeds, characters, Passes}
 
 line_feeds-append : (xs ys : List ℕ) → line_feeds (xs ++ ys) ≡ line_feeds xs + line_feeds ys
 line_feeds-append [] ys = omega arith
-line_feeds-append (x ∷ xs) ys = elim (nat_eq x 10) as (λ b. cond b (suc (line_feeds (xs ++ ys))) (line_feeds (xs ++ ys)) ≡ cond b (suc (line_feeds xs)) (line_feeds xs) + line_feeds ys) [
+line_feeds-append (x ∷ xs) ys = elim (nat_eq x 10) as (λ b. cond b (suc (line_feeds (xs ++ ys))) (line_feeds (xs ++ ys))
+    ≡ cond b (suc (line_feeds xs)) (line_feeds xs) + line_feeds ys) [
   | true ↦ omega (arith, line_feeds-append xs ys)
   | false ↦ line_feeds-append xs ys
 ]
 
 characters-append : (xs ys : List ℕ) → characters (xs ++ ys) ≡ characters xs + characters ys
 characters-append [] ys = omega arith
-characters-append (x ∷ xs) ys = elim (begins x) as (λ b. cond b (suc (characters (xs ++ ys))) (characters (xs ++ ys)) ≡ cond b (suc (characters xs)) (characters xs) + characters ys) [
+characters-append (x ∷ xs) ys = elim (begins x) as (λ b. cond b (suc (characters (xs ++ ys))) (characters (xs ++ ys))
+    ≡ cond b (suc (characters xs)) (characters xs) + characters ys) [
   | true ↦ omega (arith, characters-append xs ys)
   | false ↦ characters-append xs ys
 ]
@@ -49,10 +52,12 @@ counted : (b : ℕ) (is : Bool) → begins b ≡ is → characters (b ∷ []) �
 counted b is e = ap (λ c. cond c (suc (characters [])) (characters [])) e
 
 -- and begins a character or none
-pub first_passed : (bytes : List ℕ) (lines more b : ℕ) → Passes bytes lines more → b ≢ 10 → begins b ≡ true → Passes (bytes ++ b ∷ []) lines (more + 1)
+pub first_passed : (bytes : List ℕ) (lines more b : ℕ) → Passes bytes lines more → b ≢ 10 → begins b ≡ true
+    → Passes (bytes ++ b ∷ []) lines (more + 1)
 first_passed bytes lines more b f other is = further bytes lines more b (more + 1) f other (omega (arith, counted b true is))
 
-pub other_passed : (bytes : List ℕ) (lines more b : ℕ) → Passes bytes lines more → b ≢ 10 → begins b ≡ false → Passes (bytes ++ b ∷ []) lines more
+pub other_passed : (bytes : List ℕ) (lines more b : ℕ) → Passes bytes lines more → b ≢ 10 → begins b ≡ false
+    → Passes (bytes ++ b ∷ []) lines more
 other_passed bytes lines more b f other is = further bytes lines more b more f other (omega (arith, counted b false is))
 
 -- neither is more than the bytes

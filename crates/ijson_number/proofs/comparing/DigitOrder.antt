@@ -1,5 +1,6 @@
 -- Rows of digits that are compared.
-use Rattle.std.proofs.Common.{◌≡◌, ◌≢◌, ℕ, zero, suc, ◌+◌, ◌<◌, min, Bool, List, [], ◌∷◌, length, get_or, drop, refl, ap, sym, subst, ◌∙◌, arith}
+use Rattle.std.proofs.Common.{◌≡◌, ◌≢◌, ℕ, zero, suc, ◌+◌, ◌<◌, min, Bool, List, [], ◌∷◌, length}
+use Rattle.std.proofs.Common.{get_or, drop, refl, ap, sym, subst, ◌∙◌, arith}
 use Rattle.std.specs.Prelude.{ℤ, pos, nat_abs}
 use Rattle.std.specs.Int.Digits.{number_from_digits, digits_of}
 use Rattle.std.specs.Cmp.Lexicographic.{slice_cmp}

@@ -1,5 +1,6 @@
 -- The number that digits write, and zeros at either end.
-use Rattle.std.proofs.Common.{◌≡◌, ℕ, zero, suc, ◌+◌, ◌-◌, ◌*◌, ◌^◌, ◌<◌, min, List, [], ◌∷◌, ◌++◌, map, length, get_or, take, replicate, refl, ap, sym, ◌∙◌, arith, append_assoc}
+use Rattle.std.proofs.Common.{◌≡◌, ℕ, zero, suc, ◌+◌, ◌-◌, ◌*◌, ◌^◌, ◌<◌, min, List, [], ◌∷◌, ◌++◌, map, length}
+use Rattle.std.proofs.Common.{get_or, take, replicate, refl, ap, sym, ◌∙◌, arith, append_assoc}
 use Rattle.std.proofs.lemmas.List.{append-nil, take_more, nil_from_length, replicate-append-replicate, map-append}
 use Rattle.std.proofs.lemmas.Int.Digits.{number_push}
 use Rattle.std.proofs.Math.Nat.{pow-succ'}

@@ -1,12 +1,14 @@
 -- Sixteen bytes in the lanes of a vector: which are digits, and the number that these make.
-use Rattle.std.proofs.Common.{◌≡◌, ℕ, zero, suc, ◌+◌, ◌-◌, ◌*◌, ◌%◌, ◌^◌, ◌<◌, ◌≤◌, Bool, true, false, cond, ◌&&◌, ltb, map, get_or, replicate, List, [], ◌∷◌, ◌++◌, length, take, refl, sym, ap, ap₂, ◌∙◌, arith}
+use Rattle.std.proofs.Common.{◌≡◌, ℕ, zero, suc, ◌+◌, ◌-◌, ◌*◌, ◌%◌, ◌^◌, ◌<◌, ◌≤◌, Bool, true, false, cond, ◌&&◌, ltb, map}
+use Rattle.std.proofs.Common.{get_or, replicate, List, [], ◌∷◌, ◌++◌, length, take, refl, sym, ap, ap₂, ◌∙◌, arith}
 use Rattle.std.specs.Prelude.{not}
 use Rattle.std.specs.Int.Digits.{number_from_digits, AllBelowBase}
 use Rattle.std.specs.List.{prefix_len}
 use Rattle.std.proofs.lemmas.Bool.Decides.{nat_tests}
 use Rattle.std.proofs.lemmas.List.{length-map}
 use Rattle.std.proofs.lemmas.List.Sums.{prefix_len-le-length, prefix_len_passes, prefix_len_stops}
-use Rattle.std.proofs.lemmas.Simd.{length-zip2, map-map, zip2_splat, zip2_splat_left, zip2_of_maps, mask_l-mod, leading_from_mask_l, trailing_mask_l}
+use Rattle.std.proofs.lemmas.Simd.{length-zip2, map-map, zip2_splat, zip2_splat_left, zip2_of_maps}
+use Rattle.std.proofs.lemmas.Simd.{mask_l-mod, leading_from_mask_l, trailing_mask_l}
 use lib.Bits.{bit_or}
 use lib.Count.{count_trailing_zeros}
 use lib.Lanes.{dots, mask_l, top, zip2}

@@ -8,7 +8,8 @@ use Rattle.std.proofs.Math.Nat.{mul-le-mul_left}
 use Rattle.ijson_number.specs.laws.Tens.{ten_pos}
 use mir.Syntax.{w64}
 use Rattle.ijson_number.specs.Decimal.{Decimal, IsPlain}
-use Rattle.ijson_number.specs.Form.{FormOf, packed, signed_word, unsigned_word, digits, fits_packed, fits_i64, fits_u64, digits_form, integer_form, smallest_packed, form_of}
+use Rattle.ijson_number.specs.Form.{FormOf, packed, signed_word, unsigned_word, digits, fits_packed, fits_i64}
+use Rattle.ijson_number.specs.Form.{fits_u64, digits_form, integer_form, smallest_packed, form_of}
 use Rattle.ijson_number.specs.Integers.{HasValue}
 use Rattle.ijson_number.specs.StoredNumber.{stored_number}
 use Rattle.ijson_number.specs.private.StoredNumber.{IsStored}

@@ -1,5 +1,6 @@
 -- The number of a number's form is that number.
-use Rattle.std.proofs.Common.{◌≡◌, ◌≢◌, ℕ, zero, suc, ◌*◌, ◌/◌, ◌%◌, ◌^◌, ◌<◌, Bool, true, false, refl, ap, sym, ◌∙◌, inl, inr, subst, arith}
+use Rattle.std.proofs.Common.{◌≡◌, ◌≢◌, ℕ, zero, suc, ◌*◌, ◌/◌, ◌%◌, ◌^◌, ◌<◌, Bool, true, false}
+use Rattle.std.proofs.Common.{refl, ap, sym, ◌∙◌, inl, inr, subst, arith}
 use Rattle.std.specs.Prelude.{ℤ, pos, negsuc, neg_ℤ, nat_abs, nat_eq, int_le, int_lt, ◌*ℤ◌, ◌+ℤ◌, ◌-ℤ◌, ◌≤ℤ◌, ◌&&◌}
 use Rattle.std.specs.Int.Digits.{number_from_digits}
 use Rattle.std.proofs.Math.Nat.{pow-succ'}
@@ -7,7 +8,8 @@ use Rattle.std.proofs.lemmas.Bool.Decides.{nat_tests}
 use Rattle.std.proofs.lemmas.Int.{ints}
 use Rattle.std.proofs.lemmas.Int.Digits.{number_digits_of}
 use Rattle.ijson_number.specs.Decimal.{Decimal, IsPlain}
-use Rattle.ijson_number.specs.Form.{FormOf, packed, signed_word, unsigned_word, fits_packed, fits_i64, fits_u64, digits_form, integer_form, smallest_packed, form_of}
+use Rattle.ijson_number.specs.Form.{FormOf, packed, signed_word, unsigned_word, fits_packed, fits_i64}
+use Rattle.ijson_number.specs.Form.{fits_u64, digits_form, integer_form, smallest_packed, form_of}
 use Rattle.ijson_number.specs.FormNumber.{form_number}
 use Rattle.ijson_number.specs.Stripped.{with_ten, tens_out, exponent_above, stripped_number}
 use Rattle.ijson_number.specs.Num.{IsNum}

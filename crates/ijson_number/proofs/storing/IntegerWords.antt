@@ -8,7 +8,8 @@ use Rattle.std.specs.Int.Digits.{number_from_digits, digits_of}
 use Rattle.std.proofs.lemmas.Int.{ints}
 use Rattle.std.proofs.lemmas.Int.Digits.{number_digits_of}
 use Rattle.ijson_number.specs.Decimal.{Decimal}
-use Rattle.ijson_number.specs.Form.{FormOf, packed, signed_word, unsigned_word, fits_packed, fits_i64, fits_u64, digits_form, integer_form, form_of}
+use Rattle.ijson_number.specs.Form.{FormOf, packed, signed_word, unsigned_word, fits_packed}
+use Rattle.ijson_number.specs.Form.{fits_i64, fits_u64, digits_form, integer_form, form_of}
 use Rattle.ijson_number.specs.FormNumber.{form_number, integer_word}
 use Rattle.ijson_number.specs.Stripped.{tens_out, stripped_number}
 use Rattle.ijson_number.specs.Integers.{IsInteger, HasValue}

@@ -1,5 +1,6 @@
 -- What is written spells the number that was written.
-use Rattle.std.proofs.Common.{◌≡◌, ◌⊎◌, ℕ, zero, suc, ◌+◌, ◌-◌, ◌*◌, ◌^◌, ◌<◌, Bool, true, false, List, [], ◌∷◌, ◌++◌, length, get_or, take, drop, refl, ap, sym, ◌∙◌, inl, inr, arith, append_assoc, length-append}
+use Rattle.std.proofs.Common.{◌≡◌, ◌⊎◌, ℕ, zero, suc, ◌+◌, ◌-◌, ◌*◌, ◌^◌, ◌<◌, Bool, true, false, List, [], ◌∷◌, ◌++◌, length}
+use Rattle.std.proofs.Common.{get_or, take, drop, refl, ap, sym, ◌∙◌, inl, inr, arith, append_assoc, length-append}
 use Rattle.std.specs.Prelude.{ℤ, pos, negsuc, neg_ℤ, nat_abs, nat_eq, int_lt, int_le, ◌+ℤ◌, ◌-ℤ◌, ◌≤ℤ◌, ◌<ℤ◌, ◌||◌}
 use Rattle.std.proofs.lemmas.Int.{ints}
 use Rattle.std.proofs.lemmas.Bool.Decides.{nat_tests}
@@ -11,13 +12,16 @@ use Rattle.ijson_number.specs.Num.{IsNum}
 use Rattle.ijson_number.specs.Strips.{Strips, signed}
 use Rattle.ijson_number.specs.StrippedDigits.{digits_within}
 use Rattle.ijson_number.specs.Grammar.{IsDigits, IsWhole, IsFraction, IsExponent, Spells, value}
-use Rattle.ijson_number.specs.Text.{digits_text, zeros_text, whole_text, scientific_text, point_text, float_text, shape_text, minus_text, zero_text, num_text}
+use Rattle.ijson_number.specs.Text.{digits_text, zeros_text, whole_text, scientific_text, point_text}
+use Rattle.ijson_number.specs.Text.{float_text, shape_text, minus_text, zero_text, num_text}
 use Rattle.ijson_number.proofs.BooleanTests.{test_le, test_not_le, test_zero, test_not_zero, abs_zero}
 use Rattle.ijson_number.proofs.parsing.DigitRuns.{AllDigits-append, IsDigits_from}
 use Rattle.ijson_number.proofs.parsing.DigitValues.{value_zeros_back, value_zeros_front}
 use Rattle.ijson_number.specs.laws.Tens.{signed_mul}
 use Rattle.ijson_number.specs.laws.Ordered.{nonneg}
-use Rattle.ijson_number.proofs.writing.DigitTexts.{Below, below_drop, below_take, first_some, length_text, signed_text, take_first, text_digits, text_halves, value_text, whole_from, within_below, within_first, within_value, zeros_digits}
+use Rattle.ijson_number.proofs.writing.DigitTexts.{Below, below_drop, below_take, first_some, length_text, signed_text, take_first}
+use Rattle.ijson_number.proofs.writing.DigitTexts.{text_digits, text_halves, value_text, whole_from, within_below, within_first}
+use Rattle.ijson_number.proofs.writing.DigitTexts.{within_value, zeros_digits}
 
 minus_is : (negative : Bool) → ((minus_text negative ≡ []) × (negative ≡ false)) ⊎ ((minus_text negative ≡ 45 ∷ []) × (negative ≡ true))
 minus_is true = inr (refl, refl)

@@ -1,8 +1,11 @@
 //! Reads a number's text into its parts.
-ghost use Rattle.std.specs.Prelude.{◌≡◌, ◌++◌, ◌↔◌, ◌<◌, ◌≤◌, ◌-◌, ◌+◌, ◌^◌, min, ℕ, List, ℤ, Bool, IsTrue, IfSome, IfNone, replicate, length};
+ghost use Rattle.std.specs.Prelude.{◌≡◌, ◌++◌, ◌↔◌, ◌<◌, ◌≤◌, ◌-◌, ◌+◌, ◌^◌, min, ℕ, List, ℤ, Bool};
+ghost use Rattle.std.specs.Prelude.{IsTrue, IfSome, IfNone, replicate, length};
 ghost use Rattle.ijson_number.specs.Decimal.{Decimal};
 ghost use Rattle.ijson_number.specs.Num.{IsNum};
-ghost use Rattle.ijson_number.specs.private.Reading.{IsWithin, exponent_of, BeginsWithNoDigit, BeginsWithNoZero, EndsWithNoZero, IsExponentSignTaken, IsSignTaken, IsTail};
+ghost use Rattle.ijson_number.specs.private.Reading.{IsWithin, exponent_of, BeginsWithNoDigit};
+ghost use Rattle.ijson_number.specs.private.Reading.{BeginsWithNoZero, EndsWithNoZero, IsExponentSignTaken};
+ghost use Rattle.ijson_number.specs.private.Reading.{IsSignTaken, IsTail};
 ghost use Rattle.ijson_number.specs.Strips.{signed};
 ghost use Rattle.ijson_number.specs.Grammar.{AllDigits, Denotes, IsDigits, IsExponent, IsSpelled, IsWhole, Parts, value};
 ghost use Rattle.ijson_number.specs.private.Scanned.{IsScanned, parts_of, scanned_number};

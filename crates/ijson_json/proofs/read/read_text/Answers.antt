@@ -37,5 +37,6 @@ returns-else-is_empty-clause-cache g c = adds_behind c.args.text.now c.skip_spac
     c.args.cache.now c.read_value-read.new.cache c.skip_space-start.ensures.is c.read_value-read.ensures.cache
 
 pub returns-in-Err-clause-cache : goal.returns-in-Err-clause-cache
-returns-in-Err-clause-cache g c = adds_behind c.args.text.now c.skip_space-start.ensures.space c.skip_space-start.result.now c.args.cache.now
+returns-in-Err-clause-cache g c = adds_behind c.args.text.now c.skip_space-start.ensures.space c.skip_space-start.result.now
+    c.args.cache.now
     c.read_value-read.new.cache c.skip_space-start.ensures.is c.read_value-read.ensures.cache

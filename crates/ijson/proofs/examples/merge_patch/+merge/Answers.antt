@@ -23,7 +23,8 @@ loop-key-preserved-then-is_null t c =
     let is_null : kind_of change.tree ≡ Null = c.is_null.ensures.0 c.if-is_null.true in
     record {
       below = omega (arith, ap (λ ps. members_depth (pair_trees ps)) left, c.loop-key.invariant.below);
-      whole = ap (λ ms. object (members_of ms)) (one_taken_out ps c.shift_remove.new.self.pairs rest key change is_null c.shift_remove.ensures.pairs
+      whole = ap (λ ms. object (members_of ms)) (one_taken_out ps c.shift_remove.new.self.pairs rest key change is_null
+              c.shift_remove.ensures.pairs
           ∙ ap (λ l. merged_into (members_in (object_tree ps)) (pair_trees l)) (sym left))
           ∙ c.loop-key.invariant.whole;
     }
@@ -43,7 +44,8 @@ loop-key-preserved t c =
     let kept = (c.index_or_insert.follows.holds w (ap is_ok c.in-Ok.is)).0 ∙ ap (λ k. put ps k w) copied in
     record {
       below = omega (arith, ap (λ ps. members_depth (pair_trees ps)) left, c.loop-key.invariant.below);
-      whole = ap (λ ms. object (members_of ms)) (one_put ps (c.index_or_insert.follows.lender w).pairs rest key change c.take.result w not_null old made kept
+      whole = ap (λ ms. object (members_of ms)) (one_put ps (c.index_or_insert.follows.lender w).pairs rest key change c.take.result w
+              not_null old made kept
           ∙ ap (λ l. merged_into (members_in (object_tree ps)) (pair_trees l)) (sym left))
           ∙ c.loop-key.invariant.whole;
     }

@@ -26,7 +26,8 @@ overflow_sub-count c =
 pub returns-then-found-ne0-clause-count : goal.returns-then-found-ne0-clause-count
 returns-then-found-ne0-clause-count c =
     let found = c.specials-found in
-    let run = run_within is_unescaped c.args.bytes.now c.loop-at.at 16 found.result (omega arith) (omega arith) found.ensures (omega arith) in
+    let run = run_within is_unescaped c.args.bytes.now c.loop-at.at 16 found.result (omega arith) (omega arith) found.ensures
+            (omega arith) in
     omega (arith, run, c.loop-at.invariant.unescaped)
 
 pub returns-then-found-ne0-clause-run : goal.returns-then-found-ne0-clause-run

@@ -8,7 +8,8 @@ use Rattle.ijson_number.specs.Strips.{signed}
 use Rattle.ijson_number.specs.Grammar.{value}
 use Rattle.ijson_number.proofs.parsing.Exponents.{capped_within, w32_within, within_capped}
 use Rattle.ijson_number.proofs.parse.exact.stripped_exponent.Goals as goal
-use Rattle.ijson_number.proofs.parse.exact.stripped_exponent.Goals.{then-exponent-via-then-exponent, then-exponent-via-else-exponent+then-exponent-gt-EXPONENT_LIMIT}
+use Rattle.ijson_number.proofs.parse.exact.stripped_exponent.Goals.{then-exponent-via-then-exponent}
+use Rattle.ijson_number.proofs.parse.exact.stripped_exponent.Goals.{then-exponent-via-else-exponent+then-exponent-gt-EXPONENT_LIMIT}
 
 capped_bounds : (negative : Bool) (v : ℕ) (w : ℤ) → w ≡ signed negative (min v (2 ^ 80)) → (neg_ℤ (pos (2 ^ 80)) ≤ℤ w) × (w ≤ℤ pos (2 ^ 80))
 capped_bounds true v w is = (omega (arith, ints), omega (arith, ints))

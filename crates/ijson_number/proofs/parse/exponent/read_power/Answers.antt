@@ -10,7 +10,9 @@ use Rattle.ijson_number.proofs.parsing.PrefixNumbers.{digits_few, power_at}
 use Rattle.ijson_number.proofs.parsing.PowerTails.{behind_taken, power_rest}
 use Rattle.ijson_number.proofs.storing.ShortNumbers.{negated}
 use Rattle.ijson_number.proofs.parse.exponent.read_power.Goals as goal
-use Rattle.ijson_number.proofs.parse.exponent.read_power.Goals.{then-bytes-ne101, else-bytes-ne101, then-negative, else-negative, then-count-eq0-via-then-count-eq0, then-count-eq0-via-else-count-eq0+then-goes_on}
+use Rattle.ijson_number.proofs.parse.exponent.read_power.Goals.{then-bytes-ne101, else-bytes-ne101, then-negative, else-negative}
+use Rattle.ijson_number.proofs.parse.exponent.read_power.Goals.{then-count-eq0-via-then-count-eq0}
+use Rattle.ijson_number.proofs.parse.exponent.read_power.Goals.{then-count-eq0-via-else-count-eq0+then-goes_on}
 
 pub overflow_cast-magnitude : goal.overflow_cast-magnitude
 overflow_cast-magnitude c =

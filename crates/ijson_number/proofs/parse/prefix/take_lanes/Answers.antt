@@ -5,7 +5,9 @@ use lib.Lanes.{chunk}
 use Rattle.ijson_number.specs.Grammar.{AllDigits, value}
 use Rattle.ijson_number.specs.private.Stripped.{digits_from_text}
 use Rattle.ijson_number.specs.private.PrefixDigits.{IsCount, IsTaken}
-use Rattle.ijson_number.proofs.parsing.PrefixDigits.{at_most_16, room_behind, row_digits, row_in_text, row_small, row_taken, row_value, taken_behind}
+use Rattle.ijson_number.proofs.parsing.PrefixDigits.{at_most_16, room_behind, row_digits}
+use Rattle.ijson_number.proofs.parsing.PrefixDigits.{row_in_text, row_small, row_taken, row_value}
+use Rattle.ijson_number.proofs.parsing.PrefixDigits.{taken_behind}
 use Rattle.ijson_number.proofs.parse.prefix.take_lanes.Goals as goal
 
 pub number_of-requires-clause-digits : goal.number_of-requires-clause-digits

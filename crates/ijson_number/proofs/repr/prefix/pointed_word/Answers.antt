@@ -7,7 +7,8 @@ use Rattle.ijson_number.proofs.storing.FewDigits.{no_more, pointed_form}
 use Rattle.ijson_number.proofs.storing.FormCases.{packed_is}
 use Rattle.ijson_number.specs.private.Word.{word_exponent, word_mantissa, word_point}
 use Rattle.ijson_number.proofs.repr.prefix.pointed_word.Goals as goal
-use Rattle.ijson_number.proofs.repr.prefix.pointed_word.Goals.{then-left-gt7-via-then-left-gt7, then-left-gt7-via-else-left-gt7+then-mantissa}
+use Rattle.ijson_number.proofs.repr.prefix.pointed_word.Goals.{then-left-gt7-via-then-left-gt7}
+use Rattle.ijson_number.proofs.repr.prefix.pointed_word.Goals.{then-left-gt7-via-else-left-gt7+then-mantissa}
 
 pub returns-clause-word : goal.returns-clause-word
 returns-clause-word c = λ n point s.

@@ -1,4 +1,5 @@
-use Rattle.std.proofs.Common.{◌≡◌, ◌+◌, ◌-◌, ◌≤◌, ◌∙◌, ◌∷◌, ◌++◌, List, ℕ, Bool, ap, drop, length, take, take_all, length-drop, arith, rules}
+use Rattle.std.proofs.Common.{◌≡◌, ◌+◌, ◌-◌, ◌≤◌, ◌∙◌, ◌∷◌, ◌++◌, List, ℕ, Bool, ap, drop, length}
+use Rattle.std.proofs.Common.{take, take_all, length-drop, arith, rules}
 use Rattle.std.specs.Str.{IsAscii}
 use Rattle.std.specs.String.{string_bytes}
 use Rattle.std.proofs.lemmas.Str.{IsUtf8-from_ascii}

@@ -1,4 +1,5 @@
-use Rattle.std.proofs.Common.{◌≡◌, ◌-◌, ◌*◌, ◌^◌, ◌≤◌, ◌<◌, ◌∙◌, ◌∷◌, ◌++◌, Bool, true, false, List, ℕ, ap, drop, length, sym, take, length-append, length-drop, get_or, replicate, arith}
+use Rattle.std.proofs.Common.{◌≡◌, ◌-◌, ◌*◌, ◌^◌, ◌≤◌, ◌<◌, ◌∙◌, ◌∷◌, ◌++◌, Bool, true, false, List, ℕ, ap, drop}
+use Rattle.std.proofs.Common.{length, sym, take, length-append, length-drop, get_or, replicate, arith}
 use Rattle.std.specs.Fmt.{decimal}
 use Rattle.std.specs.Str.{IsAscii}
 use Rattle.std.proofs.lemmas.List.{length-replicate}

@@ -19,7 +19,8 @@ returns-in_err-at-clause-exact c =
 pub loop-at-init : goal.loop-at-init
 loop-at-init c =
     let known = rw c.deref.ensures.value at c.in_ok-at.ensures in
-    IsAhead-first c.args.hash c.args.text.now c.self.inside.links.items c.self.inside.texts.items c.self.inside.buckets.items c.in_ok-at.at c.self.invariant.0 c.self.invariant.1 known.inside known.head
+    IsAhead-first c.args.hash c.args.text.now c.self.inside.links.items c.self.inside.texts.items c.self.inside.buckets.items
+            c.in_ok-at.at c.self.invariant.0 c.self.invariant.1 known.inside known.head
 
 pub is_at-requires : goal.is_at-requires
 is_at-requires c =
@@ -50,11 +51,13 @@ returns-then-is_at-clause-exact c = sym (any_at c.args.hash c.args.text.now c.ar
 
 pub loop-at-smaller : goal.loop-at-smaller
 loop-at-smaller c =
-    let less = falls _ c.args.hash c.args.text.now c.self.inside.links.items c.self.inside.texts.items _ c.self.invariant.1 c.self.invariant.0.chained c.loop-at.at _ c.loop-at.invariant c.loop-at-test.true c.index.ensures in
+    let less = falls _ c.args.hash c.args.text.now c.self.inside.links.items c.self.inside.texts.items _ c.self.invariant.1
+            c.self.invariant.0.chained c.loop-at.at _ c.loop-at.invariant c.loop-at-test.true c.index.ensures in
     omega (arith, less)
 
 pub loop-at-preserved : goal.loop-at-preserved
 loop-at-preserved c =
     let other = ap (λ (t : Table). is_key c.args.hash c.args.text.now (get_or t.keys (c.loop-at.at - 1) no_key)) c.self.view_is
     ∙ sym c.is_at.ensures ∙ c.if-is_at.false in
-    IsAhead-step _ c.args.hash c.args.text.now c.self.inside.links.items c.self.inside.texts.items _ c.self.invariant.1 c.self.invariant.0.chained c.loop-at.at _ c.loop-at.invariant c.loop-at-test.true c.index.ensures other
+    IsAhead-step _ c.args.hash c.args.text.now c.self.inside.links.items c.self.inside.texts.items _ c.self.invariant.1
+            c.self.invariant.0.chained c.loop-at.at _ c.loop-at.invariant c.loop-at-test.true c.index.ensures other

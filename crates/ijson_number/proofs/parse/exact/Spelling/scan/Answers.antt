@@ -1,9 +1,12 @@
 use Rattle.std.proofs.Common.{◌≡◌, ◌∙◌, ◌<◌, ◌++◌, length, arith, length-append}
 use Rattle.ijson_number.specs.private.Scanned.{parts_of}
 use Rattle.ijson_number.proofs.parsing.Exponents.{w32_within}
-use Rattle.ijson_number.proofs.parsing.Scanning.{denotes_number, denotes_nought, is_num, stores_number, past_limit, digits_front, digits_back}
+use Rattle.ijson_number.proofs.parsing.Scanning.{denotes_number, denotes_nought, is_num}
+use Rattle.ijson_number.proofs.parsing.Scanning.{stores_number, past_limit, digits_front}
+use Rattle.ijson_number.proofs.parsing.Scanning.{digits_back}
 use Rattle.ijson_number.proofs.parse.exact.Spelling.scan.Goals as goal
-use Rattle.ijson_number.proofs.parse.exact.Spelling.scan.Goals.{else-is_empty-via-then-is_empty+else-is_empty-2, else-is_empty-via-else-is_empty}
+use Rattle.ijson_number.proofs.parse.exact.Spelling.scan.Goals.{else-is_empty-via-then-is_empty+else-is_empty-2}
+use Rattle.ijson_number.proofs.parse.exact.Spelling.scan.Goals.{else-is_empty-via-else-is_empty}
 
 pub returns-then-is_empty-2-clause-denoted : goal.returns-then-is_empty-2-clause-denoted
 returns-then-is_empty-2-clause-denoted c =

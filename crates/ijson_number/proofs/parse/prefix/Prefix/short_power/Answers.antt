@@ -9,7 +9,8 @@ use Rattle.ijson_number.specs.private.Prefix.{IsPowerSmall, power_number}
 use Rattle.ijson_number.proofs.storing.IntegerWords.{some_is, some_stored}
 use Rattle.ijson_number.proofs.storing.ShortNumbers.{lowered, outside_form, raised}
 use Rattle.ijson_number.proofs.parse.prefix.Prefix.short_power.Goals as goal
-use Rattle.ijson_number.proofs.parse.prefix.Prefix.short_power.Goals.{else-exponent-gtminus8-via-then-exponent-gtminus8+else-exponent-lt27, else-exponent-gtminus8-via-else-exponent-gtminus8}
+use Rattle.ijson_number.proofs.parse.prefix.Prefix.short_power.Goals.{else-exponent-gtminus8-via-then-exponent-gtminus8+else-exponent-lt27}
+use Rattle.ijson_number.proofs.parse.prefix.Prefix.short_power.Goals.{else-exponent-gtminus8-via-else-exponent-gtminus8}
 
 -- not all places are zeros
 some_left : (magnitude m left : ℕ) → magnitude ≡ m * 10 ^ (19 - left) → (magnitude ≡ 0 → ⊥) → magnitude < 10 ^ 19 → 0 < left

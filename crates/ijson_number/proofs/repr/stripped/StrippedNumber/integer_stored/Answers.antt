@@ -7,7 +7,9 @@ use mir.Syntax.{w64, w128}
 use mir.Val.{to_z, of_z}
 use Rattle.ijson_number.specs.Form.{fits_packed}
 use Rattle.ijson_number.specs.private.StrippedNumber.{decimal_of}
-use Rattle.ijson_number.proofs.storing.FormCases.{packed_is, large_form, integer_packed, integer_signed, integer_unsigned, integer_digits, not_signed, not_unsigned}
+use Rattle.ijson_number.proofs.storing.FormCases.{packed_is, large_form, integer_packed, integer_signed}
+use Rattle.ijson_number.proofs.storing.FormCases.{integer_unsigned, integer_digits, not_signed}
+use Rattle.ijson_number.proofs.storing.FormCases.{not_unsigned}
 use Rattle.ijson_number.proofs.storing.IntegerWords.{packed_word, signed_fits, word_fits}
 use Rattle.ijson_number.proofs.repr.stripped.StrippedNumber.integer_stored.Goals as goal
 
