@@ -7,3 +7,4 @@ pub mod IntegerWords
 pub mod SameParts
 pub mod ShortNumbers
 pub mod WholeValues
+pub mod ZerosOff

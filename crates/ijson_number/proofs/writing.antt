@@ -8,6 +8,7 @@ pub mod PaddedDigits
 pub mod RoomTexts
 pub mod RoundTrip
 pub mod SplitTexts
+pub mod StrippedTexts
 pub mod WordTexts
 pub mod Writing
 pub mod WrittenLanes

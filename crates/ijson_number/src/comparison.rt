@@ -12,6 +12,7 @@ ghost use Rattle.ijson_number.specs.StrippedDigits.{stripped_digits};
 use crate::looks::Looks;
 use crate::number::INumber;
 use crate::repr::digits::{MAX_DIGITS, place_of};
+use crate::repr::stored::Stored;
 use crate::repr::stripped::StrippedNumber;
 use std::cmp::Ordering;
 
@@ -138,7 +139,13 @@ impl DigitRow for INumber {
     ghost num = { λ n. n };
 
     fn sign(&self) -> Ordering {
-        self.stripped(&mut [0; MAX_DIGITS]).sign()
+        match &self.stored {
+            Stored::Packed(word) => word.mantissa().cmp(&0),
+            Stored::I64(value) => value.cmp(&0),
+            Stored::U64(value) => value.cmp(&0),
+            Stored::Short(number) => number.stripped().sign(),
+            Stored::Long(number) => number.stripped().sign(),
+        }
     }
 
     fn count(&self) -> usize {

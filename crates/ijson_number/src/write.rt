@@ -7,3 +7,4 @@ mod digits;
 mod display;
 mod fast;
 pub(crate) mod lanes;
+mod stripped;

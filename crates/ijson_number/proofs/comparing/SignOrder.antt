@@ -1,6 +1,6 @@
 -- The sign of stored parts, and the order of numbers by their signs.
 use Rattle.std.proofs.Common.{◌≡◌, ℕ, zero, suc, ◌*◌, ◌^◌, ◌<◌, Bool, true, false, List, length, refl, ap, ap₂, sym, ◌∙◌, arith}
-use Rattle.std.specs.Prelude.{ℤ, pos, negsuc, neg_ℤ, nat_abs, ◌-ℤ◌, ◌*ℤ◌, ◌≤ℤ◌, ◌==◌, not}
+use Rattle.std.specs.Prelude.{ℤ, pos, negsuc, neg_ℤ, nat_abs, int_lt, ◌-ℤ◌, ◌*ℤ◌, ◌≤ℤ◌, ◌==◌, not}
 use Rattle.std.specs.Int.{int_min}
 use Rattle.std.specs.Int.Digits.{number_from_digits}
 use Rattle.std.specs.declared.cmp.Ordering.{Ordering}
@@ -13,10 +13,13 @@ use Rattle.ijson_number.specs.StoredNumber.{stored_number}
 use Rattle.ijson_number.specs.private.StoredNumber.{IsStored}
 use Rattle.ijson_number.specs.Order.{number_cmp, at_exponent}
 use Rattle.ijson_number.specs.laws.Ordered.{rescale, scale_cmp}
+use Rattle.ijson_number.specs.Stripped.{stripped_number, tens_out}
 use Rattle.ijson_number.specs.Strips.{signed}
 use Rattle.ijson_number.specs.laws.Tens.{ten_pos, signed_mul}
 use Rattle.ijson_number.proofs.parsing.Denotes.{stripped_mod}
 use Rattle.ijson_number.proofs.comparing.MagnitudeOrder.{below_cmp, above_cmp}
+use Rattle.ijson_number.proofs.storing.FormNumbers.{tens_out_is}
+use Rattle.ijson_number.proofs.storing.IntegerWords.{zero_is as no_digits}
 
 below_zero_cmp : (v : ℕ) → 0 < v → int_cmp (neg_ℤ (pos v)) (pos 0) ≡ Less
 below_zero_cmp zero h = absurd (omega arith)
@@ -145,3 +148,15 @@ not_itself Greater = refl
 
 pub tests_apart : (s t : Ordering) (r : Bool) → r ≡ not (ordering_index s == ordering_index t) → r ≡ true → s ≡ t → ⊥
 tests_apart s t r e h g = let n : not (ordering_index s == ordering_index t) ≡ false = rw g (not_itself t) in cc
+
+-- taking tens out of a mantissa leaves its sign
+pub stripped_sign : (m e : ℤ) (point : Bool) → nat_abs m < 2 ^ 64 → int_cmp (stripped_number m e point).mantissa (pos 0) ≡ int_cmp m (pos 0)
+stripped_sign (pos zero) e point word = ap (λ (n : Decimal). int_cmp n.mantissa (pos 0)) (no_digits false e point)
+stripped_sign (pos (suc n)) e point word =
+    let some = (tens_out_is 20 (suc n) (λ z. omega arith) (omega arith)).1 in
+    let sign : int_lt (pos (suc n)) (pos 0) ≡ false = grind (arith, nat_tests) in
+    ap (λ b. int_cmp (signed b (tens_out 20 (suc n)).0) (pos 0)) sign ∙ above_cmp (tens_out 20 (suc n)).0 0 (omega (arith, some))
+    ∙ sym (above_sign n)
+stripped_sign (negsuc n) e point word =
+    let some = (tens_out_is 20 (suc n) (λ z. omega arith) (omega arith)).1 in
+    below_zero_cmp (tens_out 20 (suc n)).0 (omega (arith, some))

@@ -24,7 +24,7 @@ impl fmt::Display for Zeros {
 }
 
 /// The text of a run of digits, which is written into the buffer.
-fn run_text<'a>(digits: &[u8], buffer: &'a mut [u8; MAX_DIGITS]) -> &'a str
+pub fn run_text<'a>(digits: &[u8], buffer: &'a mut [u8; MAX_DIGITS]) -> &'a str
     requires below_ten { All (λ d. d < 10) digits.now }
     requires short { length digits.now ≤ 20 }
     ensures { result.now ≡ digits_text digits.now }

@@ -63,7 +63,7 @@ fn push_minus(negative: bool, out: &mut String) -> Result<(), AllocError>
 
 /// Appends an integer without the point.
 #[inline(never)]
-fn push_integer(negative: bool, magnitude: u64, out: &mut String) -> Result<(), AllocError>
+pub fn push_integer(negative: bool, magnitude: u64, out: &mut String) -> Result<(), AllocError>
     ensures written { OnOk result (string_bytes out.new ≡ string_bytes out.old ++ integer_text negative magnitude) }
     ensures refused { OnErr result
         (AppendsBeginning (string_bytes out.old) (string_bytes out.new) (integer_text negative magnitude)) }

@@ -1,41 +1,19 @@
 use Rattle.std.proofs.Common.{◌≡◌, ◌≢◌, ◌<◌, ◌-◌, ◌*◌, ◌%◌, ◌^◌, ◌++◌, [], List, ℕ, ◌∙◌, length, drop, take, ap, sym, subst, rules, arith}
-use Rattle.std.specs.Prelude.{ℤ, pos, ◌+ℤ◌, FitsSigned}
+use Rattle.std.specs.Prelude.{FitsSigned}
 use Rattle.std.specs.Fmt.{decimal}
 use Rattle.std.specs.Int.Digits.{digits_of}
 use Rattle.std.proofs.lemmas.Fmt.{length-decimal-le}
-use Rattle.std.proofs.lemmas.Int.{ints, to_z-of_z}
+use Rattle.std.proofs.lemmas.Int.{to_z-of_z}
 use Rattle.std.proofs.lemmas.List.{length-drop, take_all}
-use mir.Syntax.{w16, w32}
-use mir.Val.{to_z, of_z}
+use mir.Syntax.{w16}
 use Rattle.ijson_number.specs.Num.{IsNum}
 use Rattle.ijson_number.specs.Stripped.{stripped_number}
 use Rattle.ijson_number.specs.Strips.{signed}
 use Rattle.ijson_number.specs.private.Stripped.{digits_from_text}
 use Rattle.ijson_number.proofs.storing.IntegerWords.{zero_is, some_is, some_stored}
 use Rattle.ijson_number.proofs.storing.ShortNumbers.{made}
-use Rattle.ijson_number.proofs.storing.WholeValues.{tens_few}
+use Rattle.ijson_number.proofs.storing.ZerosOff.{exact_sum, few, last}
 use Rattle.ijson_number.proofs.repr.stripped.StrippedNumber.from_magnitude.Goals as goal
-
--- a small power of ten and few tens
-exact_sum : (e f : ℤ) (t : ℕ) → f ≡ to_z w16 (of_z w16 e) → FitsSigned w16 e → t < 20
-    → to_z w32 (of_z w32 (to_z w32 (of_z w32 f) +ℤ to_z w32 t)) ≡ e +ℤ pos t
-exact_sum e f t is fits few =
-    let a : f ≡ e = rw (to_z-of_z w16 e fits) at is in
-    let b : to_z w32 t ≡ pos t = omega (arith, ints) in
-    let g : FitsSigned w32 f = omega (arith, ints) in
-    let h : FitsSigned w32 (f +ℤ pos t) = omega (arith, ints) in
-    rw (b, to_z-of_z w32 f g, to_z-of_z w32 (f +ℤ pos t) h) (ap (λ x. x +ℤ pos t) a)
-
--- fewer than twenty zeros stand at the end of a word that isn't zero
-module _ (magnitude s left : ℕ) (some : magnitude ≢ 0) (word : magnitude < 2 ^ 64) (tens : magnitude ≡ s * 10 ^ (20 - left)) where
-  not_all : s ≢ 0
-  not_all none = let all = rw none at tens in some (omega (arith, all))
-
-  few : 20 - left < 20
-  few = tens_few magnitude s (20 - left) word not_all tens
-
-  last : (0 < left → s % 10 ≢ 0) → s % 10 ≢ 0
-  last stripped = stripped (omega (arith, few))
 
 pub returns-then-magnitude-eq0 : goal.returns-then-magnitude-eq0
 returns-then-magnitude-eq0 c =
@@ -65,7 +43,7 @@ invariant_of-result-2 c =
     let small : s.result.0 < 2 ^ 64 = search rules in
     let some = c.if-magnitude-eq0.false in
     let tens = few a.magnitude s.result.0 s.result.1 some word s.ensures.tens in
-    let exact = exact_sum a.exponent c.from.result (20 - s.result.1) c.from.ensures fits tens in
+    let exact = exact_sum a.exponent c.from.result (20 - s.result.1) (c.from.ensures ∙ to_z-of_z w16 a.exponent fits) fits tens in
     let stripped = last a.magnitude s.result.0 s.result.1 some word s.ensures.tens s.ensures.stripped in
     let above : 0 < s.result.0 = omega (arith, stripped) in
     let digits = written s.result.0 w.result w.new.buf buffer above small long w.ensures.written c.make_digits.ensures in
@@ -85,7 +63,7 @@ returns c =
     let small : s.result.0 < 2 ^ 64 = search rules in
     let some = c.if-magnitude-eq0.false in
     let tens = few a.magnitude s.result.0 s.result.1 some word s.ensures.tens in
-    let exact = exact_sum a.exponent c.from.result (20 - s.result.1) c.from.ensures fits tens in
+    let exact = exact_sum a.exponent c.from.result (20 - s.result.1) (c.from.ensures ∙ to_z-of_z w16 a.exponent fits) fits tens in
     let stripped = last a.magnitude s.result.0 s.result.1 some word s.ensures.tens s.ensures.stripped in
     let above : 0 < s.result.0 = omega (arith, stripped) in
     let digits = written s.result.0 w.result w.new.buf buffer above small long w.ensures.written c.make_digits.ensures in

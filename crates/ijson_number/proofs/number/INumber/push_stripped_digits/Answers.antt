@@ -1,0 +1,37 @@
+use Rattle.std.proofs.Common.{◌∙◌, ap, sym}
+use Rattle.ijson_number.specs.Num.{Num}
+use Rattle.ijson_number.specs.declared.repr.stored.LongNumber.{LongNumber}
+use Rattle.ijson_number.specs.declared.repr.stored.ShortNumber.{ShortNumber}
+use Rattle.ijson_number.specs.private.Stored.{stored_decimal}
+use Rattle.ijson_number.specs.FormNumber.{form_number}
+use Rattle.ijson_number.specs.private.Stored.{short_form, long_form}
+use Rattle.ijson_number.proofs.comparing.DigitOrder.{row_digits}
+use Rattle.ijson_number.proofs.number.INumber.push_stripped_digits.Goals as goal
+
+pub returns-in-Short-clause-digits : goal.returns-in-Short-clause-digits
+returns-in-Short-clause-digits c =
+    let n = c.stripped.result in
+    let view = c.stripped.ensures.number ∙ ap (λ (x : ShortNumber). form_number (short_form x)) c.deref.ensures
+    ∙ sym (ap stored_decimal c.in-Short.is) ∙ ap (λ (x : Num). x.decimal) c.self.view_is in
+    rw (← row_digits n.negative n.digits.now n.exponent n.point c.args.self.now.decimal view n.stripped) c.push_row.ensures.written
+
+pub returns-in-Short-clause-refused : goal.returns-in-Short-clause-refused
+returns-in-Short-clause-refused c =
+    let n = c.stripped.result in
+    let view = c.stripped.ensures.number ∙ ap (λ (x : ShortNumber). form_number (short_form x)) c.deref.ensures
+    ∙ sym (ap stored_decimal c.in-Short.is) ∙ ap (λ (x : Num). x.decimal) c.self.view_is in
+    rw (← row_digits n.negative n.digits.now n.exponent n.point c.args.self.now.decimal view n.stripped) c.push_row.ensures.refused
+
+pub returns-in-Long-clause-digits : goal.returns-in-Long-clause-digits
+returns-in-Long-clause-digits c =
+    let n = c.stripped-in-Long.result in
+    let view = c.stripped-in-Long.ensures ∙ ap (λ (x : LongNumber). form_number (long_form x)) c.deref-in-Long.ensures
+    ∙ sym (ap stored_decimal c.in-Long.is) ∙ ap (λ (x : Num). x.decimal) c.self.view_is in
+    rw (← row_digits n.negative n.digits.now n.exponent n.point c.args.self.now.decimal view n.stripped) c.push_runs.ensures.written
+
+pub returns-in-Long-clause-refused : goal.returns-in-Long-clause-refused
+returns-in-Long-clause-refused c =
+    let n = c.stripped-in-Long.result in
+    let view = c.stripped-in-Long.ensures ∙ ap (λ (x : LongNumber). form_number (long_form x)) c.deref-in-Long.ensures
+    ∙ sym (ap stored_decimal c.in-Long.is) ∙ ap (λ (x : Num). x.decimal) c.self.view_is in
+    rw (← row_digits n.negative n.digits.now n.exponent n.point c.args.self.now.decimal view n.stripped) c.push_runs.ensures.refused

@@ -1,0 +1,14 @@
+use Rattle.std.proofs.Common.{◌≡◌, ◌<◌, ◌++◌, List, ℕ, All, string_bytes}
+use Rattle.std.specs.Slice.Iter.{chunks_rest, chunks_size}
+use Rattle.ijson_number.specs.Text.{digits_text}
+use Rattle.ijson_number.proofs.repr.stripped.StrippedNumber.push_runs.Given as goal
+
+-- with the digits that are left, all are written
+abbrev pub invariant-loop-run : goal.invariant-loop-run
+invariant-loop-run l =
+    goal.iterator-loop-run.can_next l.run-iterator
+    × goal.iterator-loop-run.is_finite l.run-iterator
+    × (chunks_size l.run-iterator ≡ 20)
+    × All (λ d. d < 10) (chunks_rest l.run-iterator)
+    × ((done : List ℕ) × (done ++ chunks_rest l.run-iterator ≡ l.self.digits.now)
+    × (string_bytes l.out ≡ string_bytes l.initial.out ++ digits_text done))

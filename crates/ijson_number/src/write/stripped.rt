@@ -1,0 +1,96 @@
+//! Appends the stripped digits of a number, for a text in which they stand alone.
+ghost use Rattle.std.specs.Prelude.{◌≡◌, ◌-◌, ◌≤◌, ◌++◌, drop, length, pos, true, IfOk, OnErr, OnOk};
+ghost use Rattle.std.specs.String.{string_bytes};
+ghost use Rattle.ijson_number.specs.AppendsBeginning.{AppendsBeginning};
+ghost use Rattle.ijson_number.specs.Stripped.{stripped_number};
+ghost use Rattle.ijson_number.specs.StrippedDigits.{stripped_digits};
+ghost use Rattle.ijson_number.specs.Text.{digits_text};
+
+use crate::number::INumber;
+use crate::parse::lanes::LANES;
+use crate::repr::digits::{MAX_DIGITS, without_zeros};
+use crate::repr::stored::Stored;
+use crate::repr::stripped::StrippedNumber;
+use crate::write::display::run_text;
+use crate::write::fast::push_integer;
+use crate::write::lanes::push_lanes;
+use std::alloc::AllocError;
+use std::simd::prelude::*;
+
+/// Appends the stripped digits of a magnitude times a power of ten, and answers their exponent.
+fn push_magnitude(magnitude: u64, exponent: i8, out: &mut String) -> Result<i32, AllocError>
+    ensures written { OnOk result (string_bytes out.new ≡ string_bytes out.old
+        ++ digits_text (stripped_digits (stripped_number (pos magnitude) exponent true))) }
+    ensures exponent { IfOk result (λ e. e ≡ (stripped_number (pos magnitude) exponent true).exponent) }
+    ensures refused { OnErr result (AppendsBeginning (string_bytes out.old) (string_bytes out.new)
+        (digits_text (stripped_digits (stripped_number (pos magnitude) exponent true)))) }
+{
+    if magnitude == 0 {
+        return Ok(0);
+    }
+    let (stripped, left) = without_zeros(magnitude, MAX_DIGITS);
+    push_integer(false, stripped, out)?;
+    Ok(i32::from(exponent) + (MAX_DIGITS - left) as i32)
+}
+
+impl StrippedNumber<'_> {
+    /// Appends the digits, 20 at a time, and answers the exponent.
+    fn push_runs(&self, out: &mut String) -> Result<i32, AllocError>
+        ensures written { OnOk result (string_bytes out.new
+            ≡ string_bytes out.old ++ digits_text self.now.digits.now) }
+        ensures exponent { IfOk result (λ e. e ≡ self.now.exponent) }
+        ensures refused { OnErr result
+            (AppendsBeginning (string_bytes out.old) (string_bytes out.new) (digits_text self.now.digits.now)) }
+    {
+        let mut buffer = [0; MAX_DIGITS];
+        for run in self.digits.chunks(MAX_DIGITS) {
+            out.push_str(run_text(run, &mut buffer))?;
+        }
+        Ok(self.exponent)
+    }
+
+    /// The same, all at once where they are no more than 16, which `lanes` then has at its end.
+    fn push_row(&self, lanes: u8x16, out: &mut String) -> Result<i32, AllocError>
+        requires all { length lanes ≡ 16 }
+        requires lanes { length self.now.digits.now ≤ 16
+            → drop (16 - length self.now.digits.now) lanes ≡ digits_text self.now.digits.now }
+        ensures written { OnOk result (string_bytes out.new
+            ≡ string_bytes out.old ++ digits_text self.now.digits.now) }
+        ensures exponent { IfOk result (λ e. e ≡ self.now.exponent) }
+        ensures refused { OnErr result
+            (AppendsBeginning (string_bytes out.old) (string_bytes out.new) (digits_text self.now.digits.now)) }
+    {
+        let count = self.digits.len();
+        if count > LANES {
+            return self.push_runs(out);
+        }
+        push_lanes(lanes, LANES - count, count, out)?;
+        Ok(self.exponent)
+    }
+}
+
+impl INumber {
+    /// Appends the stripped digits, the most significant first, and answers the stripped exponent. Neither the sign nor the point is
+    /// written. Zero has no digit and the exponent 0; `-0.50` has the digit 5 and the exponent -1, and `100` the digit 1 and the
+    /// exponent 2. It may want room for 16 bytes more than the digits. The error comes where there was not enough memory. Some of the
+    /// digits, or all, may then stand in `out`, behind what was there. It takes time linear in the digits.
+    pub fn push_stripped_digits(&self, out: &mut String) -> Result<i32, AllocError>
+        ensures digits { OnOk result (string_bytes out.new
+            ≡ string_bytes out.old ++ digits_text (stripped_digits self.now.decimal)) }
+        ensures exponent { IfOk result (λ e. e ≡ self.now.decimal.exponent) }
+        // Where memory is refused, a beginning of the digits stands behind what was there.
+        ensures refused { OnErr result (AppendsBeginning (string_bytes out.old) (string_bytes out.new)
+            (digits_text (stripped_digits self.now.decimal))) }
+    {
+        match &self.stored {
+            Stored::Packed(word) => {
+                let magnitude = word.mantissa().unsigned_abs();
+                push_magnitude(magnitude, word.exponent(), out)
+            }
+            Stored::I64(value) => push_magnitude(value.unsigned_abs(), 0, out),
+            Stored::U64(value) => push_magnitude(*value, 0, out),
+            Stored::Short(number) => number.stripped().push_row(number.digits.lanes(), out),
+            Stored::Long(number) => number.stripped().push_runs(out),
+        }
+    }
+}
