@@ -416,6 +416,26 @@ fn is_canonical(rt: &impl Abort, alloc: Global, value: &IValue, text: &str) {
     assert!(rt; found.as_str() == text);
 }
 
+/// Numbers in a word, in one row and in more, and what stands behind `true` once their stripped digits are put there.
+const STRIPPED: [(&str, &str); 3] = [
+    ("18446744073709551600", "true184467440737095516"),
+    ("-2.50e30", "true25"),
+    (
+        "12345678901234567890123.4567890",
+        "true12345678901234567890123456789",
+    ),
+];
+
+/// Puts the stripped digits of a number behind a text that has no room.
+fn stripped_parts(rt: &impl Abort, alloc: Global) {
+    for (text, want) in STRIPPED {
+        let number = spelled(rt, alloc, text);
+        let mut found = full_text(rt, alloc);
+        let pushed = number.push_stripped_digits(&mut found);
+        is_begun(rt, found.as_str(), want, pushed.is_ok());
+    }
+}
+
 #[test]
 fn canonical(rt: HostRuntime) {
     let text = "{\"b\":{\"d\":2.0,\"c\":[10,0.0]},\"a\":\"longlong\"}";
@@ -423,6 +443,7 @@ fn canonical(rt: HostRuntime) {
     let sorted = "{\"a\":\"longlong\",\"b\":{\"c\":[1e1,0],\"d\":2e0}}";
     is_canonical(&rt, rt.alloc(), &value, sorted);
     is_written(&rt, rt.alloc(), &value, text);
+    stripped_parts(&rt, rt.alloc());
 }
 
 /// A sink of room for one line.

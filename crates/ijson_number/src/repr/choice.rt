@@ -139,7 +139,6 @@ impl INumber {
     }
 
     /// The number of a prefix times a power of ten.
-    #[inline(always)]
     pub(crate) fn from_power(
         alloc: Global,
         prefix: Prefix,

@@ -71,6 +71,49 @@ fn rows(rt: HostRuntime) {
     }
 }
 
+/// Texts, the stripped digits of each, and their exponent.
+const STRIPPED: [(&str, &str, i32); 15] = [
+    ("0", "", 0),
+    ("-0.00", "", 0),
+    ("-0.50", "5", -1),
+    ("100", "1", 2),
+    ("1e9", "1", 9),
+    ("-1234567.1250", "1234567125", -3),
+    ("9007199254740990", "900719925474099", 1),
+    ("-9223372036854775808", "9223372036854775808", 0),
+    ("18446744073709551600", "184467440737095516", 2),
+    ("12345678901234.50e-30", "123456789012345", -31),
+    ("1234567890.123456", "1234567890123456", -6),
+    ("-12345678901234567e-20", "12345678901234567", -20),
+    (
+        "123456789012345678901234567890",
+        "12345678901234567890123456789",
+        1,
+    ),
+    (
+        "0.1234567890123456789012345678901234567890",
+        "123456789012345678901234567890123456789",
+        -39,
+    ),
+    ("10e1073741823", "1", 1073741824),
+];
+
+fn strips(rt: &impl Abort, alloc: Global, text: &str, digits: &str, want: i32) {
+    let mut out = String::from_str(alloc, "[").expect(rt, "a text");
+    let exponent = number(rt, alloc, text)
+        .push_stripped_digits(&mut out)
+        .expect(rt, "a longer text");
+    assert!(rt; exponent == want, "{text}");
+    assert!(rt; out.as_str().strip_prefix("[") == Some(digits), "{text}");
+}
+
+#[test]
+fn stripped_texts(rt: HostRuntime) {
+    for (text, digits, exponent) in STRIPPED {
+        strips(&rt, rt.alloc(), text, digits, exponent);
+    }
+}
+
 fn debugs(rt: &impl Abort, alloc: Global, value: &impl Debug, want: &str) {
     let text = format!(in alloc; "{value:?}").expect(rt, "a text");
     assert!(rt; text.as_str() == want);
