@@ -37,7 +37,7 @@ beside ps key = tree-or_null (lookup key ps) ∙ ap (λ o. unwrap_or o null) (va
 pub one_taken_out : (ps new rest : List (List ℕ × WellFormed)) (key : List ℕ) (v : WellFormed) → kind_of v.tree ≡ Null
     → new ≡ shift_out_key key ps
     → merged_into (members_in (object_tree new)) (pair_trees rest)
-            ≡ merged_into (members_in (object_tree ps)) (pair_trees ((key, v) ∷ rest))
+    ≡ merged_into (members_in (object_tree ps)) (pair_trees ((key, v) ∷ rest))
 one_taken_out ps new rest key v is_null left =
     let ms = members_in (object_tree ps) in
     ap (λ ms. merged_into ms (pair_trees rest))
@@ -48,7 +48,7 @@ one_taken_out ps new rest key v is_null left =
 pub one_put : (ps new rest : List (List ℕ × WellFormed)) (key : List ℕ) (v old w : WellFormed) → kind_of v.tree ≢ Null
     → old ≡ unwrap_or (lookup key ps) null_value → w.tree ≡ merged old.tree v.tree → new ≡ put ps key w
     → merged_into (members_in (object_tree new)) (pair_trees rest)
-            ≡ merged_into (members_in (object_tree ps)) (pair_trees ((key, v) ∷ rest))
+    ≡ merged_into (members_in (object_tree ps)) (pair_trees ((key, v) ∷ rest))
 one_put ps new rest key v old w not_null was made left =
     let ms = members_in (object_tree ps) in
     let there : old.tree ≡ unwrap_or (lookup key ms) null = ap tree_of was ∙ beside ps key in

@@ -57,7 +57,7 @@ module _ (Whole : ℕ → Type 0) (deepest so_far : ℕ) (left : List WellFormed
     module _ (x next : ℕ) (sums : SumsTo v.tree x) where
       behind : (n : ℕ) → Whole n → (m : ℕ) × EachSumsTo (item_trees rest) m × (n ≡ so_far + x + m)
       behind n w = let r = (with_left (v ∷ rest) is).parts n w
-              in (r.1.1, r.1.3, omega (arith, one_sum v.tree r.1.0 x v.well_formed r.1.2 sums, r.1.4, r.2))
+          in (r.1.1, r.1.3, omega (arith, one_sum v.tree r.1.0 x v.well_formed r.1.2 sums, r.1.4, r.2))
 
       pub none_more : (so_far + x < 2 ^ 64 → ⊥) → (n : ℕ) → n < 2 ^ 64 → Whole n → ⊥
       none_more large n small w = large (omega (arith, (behind n w).2, small))

@@ -25,7 +25,7 @@ on_kept P (Err a) r same h = subst (λ r. OnOk r P) (sym same) tt
 pub returns-clause-done : goal.returns-clause-done
 returns-clause-done g c =
     let h : OnOk c.flushed.result (IfSome (g.R.Read.remaining c.new-input.result.inner)
-            (λ bytes. (line : List ℕ) × IsCompactLine bytes line)) =
+    (λ bytes. (line : List ℕ) × IsCompactLine bytes line)) =
     on_kept _ c.map.result c.flushed.result c.flushed.ensures.refused
     (on_ok_of c.compact_value-answer.result c.map.result c.map.ensures.variant (line_of _ _ _) c.compact_value-answer.ensures.done) in
     rw c.new-input.ensures at h

@@ -10,17 +10,17 @@ line_feeds-append : (xs ys : List ℕ) → line_feeds (xs ++ ys) ≡ line_feeds 
 line_feeds-append [] ys = omega arith
 line_feeds-append (x ∷ xs) ys = elim (nat_eq x 10) as (λ b. cond b (suc (line_feeds (xs ++ ys))) (line_feeds (xs ++ ys))
     ≡ cond b (suc (line_feeds xs)) (line_feeds xs) + line_feeds ys) [
-  | true ↦ omega (arith, line_feeds-append xs ys)
-  | false ↦ line_feeds-append xs ys
-]
+      | true ↦ omega (arith, line_feeds-append xs ys)
+      | false ↦ line_feeds-append xs ys
+    ]
 
 characters-append : (xs ys : List ℕ) → characters (xs ++ ys) ≡ characters xs + characters ys
 characters-append [] ys = omega arith
 characters-append (x ∷ xs) ys = elim (begins x) as (λ b. cond b (suc (characters (xs ++ ys))) (characters (xs ++ ys))
     ≡ cond b (suc (characters xs)) (characters xs) + characters ys) [
-  | true ↦ omega (arith, characters-append xs ys)
-  | false ↦ characters-append xs ys
-]
+      | true ↦ omega (arith, characters-append xs ys)
+      | false ↦ characters-append xs ys
+    ]
 
 -- a line feed ends a line
 pub line_feed_passed : (bytes : List ℕ) (lines more : ℕ) → Passes bytes lines more → Passes (bytes ++ 10 ∷ []) (lines + 1) 0

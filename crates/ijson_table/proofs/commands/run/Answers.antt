@@ -34,7 +34,7 @@ returns-clause-run g c =
     let gives = c.into_iter-command-iterator.ensures.into_iter_gives in
     let t = YieldsList-end (YieldsList-from_vec c.args.commands.items gives.0
     (gives.1 ∙ c.args.commands.ok.0)) c.loop-command.yielded c.loop-command.command-iterator c.loop-command.yielded_by c.next.result
-            c.next.new.self c.in-None.is c.next.ensures.steps in
+    c.next.new.self c.in-None.is c.next.ensures.steps in
     let all : c.loop-command.yielded ≡ c.args.commands.items = sym (map-same c.loop-command.yielded) ∙ t.0 in
     subst (λ xs. Run (pairs c.args.store.now) (room c.args.store.now) xs c.loop-command.replies.items (pairs c.loop-command.store)
     (room c.loop-command.store)) all i.2

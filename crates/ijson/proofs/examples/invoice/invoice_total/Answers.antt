@@ -23,7 +23,7 @@ loop-i-preserved c =
     let fits_more : FitsSigned w64 c.in-Some-checked_add.more = subst (λ z. FitsSigned w64 z) (sym added.1) added.0 in
     let e : to_z w64 (of_z w64 c.in-Some-checked_add.more) ≡ to_z w64 c.loop-i.sum-bits +ℤ c.in-Some-amount_of.amount =
     to_z-of_z w64 c.in-Some-checked_add.more fits_more ∙ (added.1
-            ∙ ap (λ z. to_z w64 c.loop-i.sum-bits +ℤ z) (to_z-of_z w64 c.in-Some-amount_of.amount fits)) in
+    ∙ ap (λ z. to_z w64 c.loop-i.sum-bits +ℤ z) (to_z-of_z w64 c.in-Some-amount_of.amount fits)) in
     λ z left. c.loop-i.invariant z (one_more c.as_slice-item-items.result.now c.loop-i.i c.item-item.result c.in-Some-amount_of.amount
     (to_z w64 c.loop-i.sum-bits) (to_z w64 (of_z w64 c.in-Some-checked_add.more)) z c.loop-i-test.true c.item-item.is
     c.in-Some-amount_of.ensures.some e left)

@@ -24,7 +24,7 @@ loop-key-preserved-then-is_null t c =
     record {
       below = omega (arith, ap (λ ps. members_depth (pair_trees ps)) left, c.loop-key.invariant.below);
       whole = ap (λ ms. object (members_of ms)) (one_taken_out ps c.shift_remove.new.self.pairs rest key change is_null
-              c.shift_remove.ensures.pairs
+          c.shift_remove.ensures.pairs
           ∙ ap (λ l. merged_into (members_in (object_tree ps)) (pair_trees l)) (sym left))
           ∙ c.loop-key.invariant.whole;
     }
@@ -45,7 +45,7 @@ loop-key-preserved t c =
     record {
       below = omega (arith, ap (λ ps. members_depth (pair_trees ps)) left, c.loop-key.invariant.below);
       whole = ap (λ ms. object (members_of ms)) (one_put ps (c.index_or_insert.follows.lender w).pairs rest key change c.take.result w
-              not_null old made kept
+          not_null old made kept
           ∙ ap (λ l. merged_into (members_in (object_tree ps)) (pair_trees l)) (sym left))
           ∙ c.loop-key.invariant.whole;
     }

@@ -42,7 +42,7 @@ total_of_members-loop-value-init t c =
     let ps = c.args.object.now.pairs in
     let is = sym (c.into_iter-value-iterator.ensures.into_iter_gives ∙ c.values-value-items.ensures) in
     subst (λ vs. IsLeft (ValuesSumTo (pair_trees ps)) (members_depth (pair_trees ps)) vs 0) is
-            (all_left _ _ _ (values_sum ps) (values_depth ps))
+    (all_left _ _ _ (values_sum ps) (values_depth ps))
 
 pub total_of_members-total-requires : goal.total_of_members-total-requires
 total_of_members-total-requires t c =

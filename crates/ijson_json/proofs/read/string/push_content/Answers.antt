@@ -38,7 +38,7 @@ loop-character-preserved c =
     record {
       utf8 = search rules;
       read = appended_more _ _ _ _ e.0 after _ _ _ _ c.loop-character.invariant.read c.in-Some.ensures c.in_ok-push.ensures.bytes e.1
-              e.2 e.4;
+          e.2 e.4;
       escape = e.3;
       unclosed = λ behind e. past_first _ after 34 behind c.in_default-strip_byte.ensures e refl;
     }

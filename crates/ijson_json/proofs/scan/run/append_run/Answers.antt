@@ -27,7 +27,7 @@ pub returns-then-found-ne0-clause-count : goal.returns-then-found-ne0-clause-cou
 returns-then-found-ne0-clause-count c =
     let found = c.specials-found in
     let run = run_within is_unescaped c.args.bytes.now c.loop-at.at 16 found.result (omega arith) (omega arith) found.ensures
-            (omega arith) in
+    (omega arith) in
     omega (arith, run, c.loop-at.invariant.unescaped)
 
 pub returns-then-found-ne0-clause-run : goal.returns-then-found-ne0-clause-run

@@ -7,7 +7,7 @@ pub returns-then-found-ne0 : goal.returns-then-found-ne0
 returns-then-found-ne0 c =
     let found = c.specials-found in
     let run = run_within is_unescaped c.args.bytes.now c.loop-at.at 16 found.result (omega arith) (omega arith) found.ensures
-            (omega arith) in
+    (omega arith) in
     omega (arith, run, c.loop-at.invariant.0)
 
 pub loop-at-preserved : goal.loop-at-preserved

@@ -18,5 +18,5 @@ returns-in-Packed c =
     let fits : FitsSigned w64 m.result = search rules in
     let number = sym (ap (λ (x : Num). x.decimal) c.self.view_is) ∙ ap stored_decimal c.in-Packed.is in
     c.cmp.ensures ∙ ap (λ z. int_cmp z (pos 0)) (to_z-of_z w64 m.result fits ∙ m.ensures.value)
-    ∙ sym (ap (λ (n : Decimal). int_cmp n.mantissa (pos 0)) number ∙ stripped_sign (word_mantissa bits) (word_exponent bits) (word_point bits)
-    (rw m.ensures.value at (signed_small m.result fits)))
+    ∙ sym (ap (λ (n : Decimal). int_cmp n.mantissa (pos 0)) number
+    ∙ stripped_sign (word_mantissa bits) (word_exponent bits) (word_point bits) (rw m.ensures.value at (signed_small m.result fits)))

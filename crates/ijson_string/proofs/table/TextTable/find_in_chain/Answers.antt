@@ -20,7 +20,7 @@ pub loop-at-init : goal.loop-at-init
 loop-at-init c =
     let known = rw c.deref.ensures.value at c.in_ok-at.ensures in
     IsAhead-first c.args.hash c.args.text.now c.self.inside.links.items c.self.inside.texts.items c.self.inside.buckets.items
-            c.in_ok-at.at c.self.invariant.0 c.self.invariant.1 known.inside known.head
+    c.in_ok-at.at c.self.invariant.0 c.self.invariant.1 known.inside known.head
 
 pub is_at-requires : goal.is_at-requires
 is_at-requires c =
@@ -52,7 +52,7 @@ returns-then-is_at-clause-exact c = sym (any_at c.args.hash c.args.text.now c.ar
 pub loop-at-smaller : goal.loop-at-smaller
 loop-at-smaller c =
     let less = falls _ c.args.hash c.args.text.now c.self.inside.links.items c.self.inside.texts.items _ c.self.invariant.1
-            c.self.invariant.0.chained c.loop-at.at _ c.loop-at.invariant c.loop-at-test.true c.index.ensures in
+    c.self.invariant.0.chained c.loop-at.at _ c.loop-at.invariant c.loop-at-test.true c.index.ensures in
     omega (arith, less)
 
 pub loop-at-preserved : goal.loop-at-preserved
@@ -60,4 +60,4 @@ loop-at-preserved c =
     let other = ap (λ (t : Table). is_key c.args.hash c.args.text.now (get_or t.keys (c.loop-at.at - 1) no_key)) c.self.view_is
     ∙ sym c.is_at.ensures ∙ c.if-is_at.false in
     IsAhead-step _ c.args.hash c.args.text.now c.self.inside.links.items c.self.inside.texts.items _ c.self.invariant.1
-            c.self.invariant.0.chained c.loop-at.at _ c.loop-at.invariant c.loop-at-test.true c.index.ensures other
+    c.self.invariant.0.chained c.loop-at.at _ c.loop-at.invariant c.loop-at-test.true c.index.ensures other

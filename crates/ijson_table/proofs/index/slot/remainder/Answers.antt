@@ -17,5 +17,5 @@ returns-else-left-count c =
     let reciprocal = c.from-2.ensures ∙ c.requires.reciprocal in
     let within = quotient-not_above c.args.hash c.args.count c.from.result c.from-2.result c.from.ensures reciprocal in
     let near = quotient-near c.args.hash c.args.count c.from.result c.from-2.result c.from.ensures reciprocal c.requires.some
-            c.ranges.hash.fits in
+    c.ranges.hash.fits in
     left-is_more c.args.hash c.args.count (c.from.result * c.from-2.result / 2 ^ 64) within near c.if-left-count.false

@@ -18,7 +18,7 @@ loop-key-preserved g c =
     (key, value) c.in-Some.is c.next.ensures.steps in
     let room : length old.pairs < old.capacity = omega (arith, turn.0, i.4, i.3, c.requires) in
     let it = put_in_room old.pairs old.capacity key value c.insert-inserted.result new.pairs new.capacity room c.insert-inserted.ensures
-            in (
+    in (
       tt,
       tt,
       it.1 ∙ (ap (λ ps. put ps key value) i.2 ∙ sym (put_each-append c.args.self.now.store.pairs c.loop-key.yielded ((key, value) ∷ []))),

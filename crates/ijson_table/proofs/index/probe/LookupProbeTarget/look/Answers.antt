@@ -48,5 +48,5 @@ returns-clause-sees g c =
           (bytes_eq (get_or keys i []) self.key.now) apart)
     ] in
     looks_at_slot index.hashes index.slots c.args.slot there c.match-position.same test c.seen.result c.at-there.ensures.position
-            c.at-there.ensures.hash
+    c.at-there.ensures.hash
     (subst (λ n. SeenAs there n c.args.slot c.match-position.same c.seen.result) c.args.self.now.counted c.seen.ensures) sought
