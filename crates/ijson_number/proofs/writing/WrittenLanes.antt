@@ -24,7 +24,6 @@ use Rattle.ijson_number.specs.private.WordText.{last_digits}
 use Rattle.ijson_number.specs.private.ZerosInFront.{IsZerosInFront}
 
 -- ---- the digits of pairs
-
 -- the ones of two digits in the upper byte of 16 bits, and their tens in the lower one
 abbrev lane : ℕ → ℕ
 lane z = (z * 256 % 65536 + (65536 - z / 10 * 2559 % 65536)) % 65536
