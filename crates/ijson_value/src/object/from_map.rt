@@ -1,5 +1,5 @@
 //! Objects of the pairs of maps.
-ghost use Rattle.std.specs.Prelude.{◌≡◌, ◌<◌, ◌≤◌, ◌↔◌, ℕ, List, Err, IfOk, IsOk, length};
+ghost use Rattle.std.specs.Prelude.{◌≡◌, ◌<◌, ◌↔◌, ℕ, List, Err, IfOk, IsOk, length};
 ghost use Rattle.std.specs.BTreeMap.{btree_map_len};
 ghost use Rattle.std.specs.HashMap.{hash_map_len};
 ghost use Rattle.std.specs.Iterator.{IsFiniteIterable};
@@ -18,11 +18,15 @@ use std::alloc::Global;
 use std::collections::{BTreeMap, HashMap};
 use std::hash::BuildHasher;
 
+/// The greatest capacity of an object.
+const CAPACITY_LIMIT: usize = 1 << 56;
+
 impl IObject {
-    /// An object of the pairs of a hash map, in the order in which the map goes over them. Its capacity is their count, which is
-    /// the one growth, made before a pair is moved. It is refused as too large where that passes 2^56; what was made and the map
-    /// are then dropped, as where memory is refused. An empty map takes no memory. Each key is hashed once, and nothing is
-    /// copied.
+    /// An object of the pairs of a hash map, in the order in which the map goes over them. Its capacity is their count. A list
+    /// with room for all of them is taken before a pair is moved, and becomes that of the object, as by `from_pairs`. It is
+    /// refused as too large where the count passes 2^56, before memory is asked for; the map is then dropped, as is what was
+    /// made where memory is refused. An empty map takes no memory. Nothing is copied, and each key is hashed once. It takes time
+    /// at most n log n in the count, whatever the keys are.
     pub fn from_hash_map<S: BuildHasher + Drop>(
         alloc: Global,
         map: HashMap<IString, IValue, S>,
@@ -35,9 +39,11 @@ impl IObject {
         IObject::from_distinct_pairs(alloc, map.len(), map)
     }
 
-    /// An object of the pairs of a sorted map, in the order of their keys. Its capacity is their count, which is the one growth,
-    /// made before a pair is moved. It is refused as too large where that passes 2^56; what was made and the map are then
-    /// dropped, as where memory is refused. An empty map takes no memory. Each key is hashed once, and nothing is copied.
+    /// An object of the pairs of a sorted map, in the order of their keys. Its capacity is their count. A list with room for all
+    /// of them is taken before a pair is moved, and becomes that of the object, as by `from_pairs`. It is refused as too large
+    /// where the count passes 2^56, before memory is asked for; the map is then dropped, as is what was made where memory is
+    /// refused. An empty map takes no memory. Nothing is copied, and each key is hashed once. It takes time at most n log n in
+    /// the count, whatever the keys are.
     pub fn from_btree_map(
         alloc: Global,
         map: BTreeMap<IString, IValue>,
@@ -50,9 +56,11 @@ impl IObject {
         IObject::from_distinct_pairs(alloc, map.len(), map)
     }
 
-    /// An object of the pairs of a map in insertion order, in that order. Its capacity is their count, which is the one growth,
-    /// made before a pair is moved. It is refused as too large where that passes 2^56; what was made and the map are then
-    /// dropped, as where memory is refused. An empty map takes no memory. Each key is hashed once, and nothing is copied.
+    /// An object of the pairs of a map in insertion order, in that order. Its capacity is their count. A list with room for all
+    /// of them is taken before a pair is moved, and becomes that of the object, as by `from_pairs`. It is refused as too large
+    /// where the count passes 2^56, before memory is asked for; the map is then dropped, as is what was made where memory is
+    /// refused. An empty map takes no memory. Nothing is copied, and each key is hashed once. It takes time at most n log n in
+    /// the count, whatever the keys are.
     pub fn from_index_map<S: BuildHasher + Drop>(
         alloc: Global,
         map: IndexMap<IString, IValue, S>,
@@ -65,8 +73,8 @@ impl IObject {
         IObject::from_distinct_pairs(alloc, map.len(), map)
     }
 
-    /// An object of pairs of which none has the key of another, and whose count is told. Their room is made first, so none of
-    /// them is refused.
+    /// An object of pairs of which none has the key of another, and whose count is told. A list with that room is taken first, so
+    /// none of them is refused.
     fn from_distinct_pairs<I: IntoIterator<Item = (IString, IValue)> + Drop>(
         alloc: Global,
         count: usize,
@@ -75,18 +83,23 @@ impl IObject {
         requires finite { IsFiniteIterable I.into_iter_gives I.IntoIter.can_next I.IntoIter.remaining pairs }
         requires all { (added : List (List ℕ × WellFormed))
             → GivesAll I.into_iter_gives I.IntoIter.next_gives pairs added
-            → IsDistinct (keys_of added) × (length added ≤ count) }
+            → IsDistinct (keys_of added) × (length added ≡ count) }
         requires more { (added : List (List ℕ × WellFormed)) (next : List ℕ × WellFormed)
             → GivesThen I.into_iter_gives I.IntoIter.next_gives pairs added next
-            → IsDistinct (keys_of added) × (length added < count) }
+            → length added < count }
         ensures pairs { IfOk result (λ object.
             GivesAll I.into_iter_gives I.IntoIter.next_gives pairs object.pairs) }
         ensures capacity { IfOk result (λ object. object.capacity ≡ count) }
         ensures too_large { (result ≡ Err ReserveError.TooLarge) ↔ (capacity_limit < count) }
         ensures none { count ≡ 0 → IsOk result }
     {
-        let mut object = IObject::with_capacity(alloc, count)?;
-        object.extend(pairs)?;
-        Ok(object)
+        if count > CAPACITY_LIMIT {
+            return Err(ReserveError::TooLarge);
+        }
+        let mut list = Vec::with_capacity(alloc, count)?;
+        for pair in pairs {
+            list.push_reserved(pair);
+        }
+        IObject::from_pairs(alloc, list)
     }
 }

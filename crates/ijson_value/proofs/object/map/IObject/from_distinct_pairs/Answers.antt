@@ -1,31 +1,28 @@
-use Rattle.std.proofs.Common.{sym, subst}
+use Rattle.std.proofs.Common.{[], length, arith, rules, sym, ap, subst, ◌∙◌}
+use Rattle.ijson_table.proofs.pairs.PutEach.{put_each-new}
+use Rattle.ijson_table.specs.Store.{put_each}
 use Rattle.ijson_value.specs.Gives.{GivesAll}
-use Rattle.ijson_value.proofs.FromMaps.{filled, never_refused}
+use Rattle.ijson_value.proofs.FromMaps.{ok_more}
 use Rattle.ijson_value.proofs.object.map.IObject.from_distinct_pairs.Goals as goal
 
+-- one more is given than those that stand in the list, so they are fewer than its room
+pub push_reserved-requires : goal.push_reserved-requires
+push_reserved-requires g c =
+    let so_far = c.loop-pair.invariant in
+    let more = c.requires.more c.loop-pair.yielded c.in-Some.pair (
+      _,
+      c.next.new.self,
+      c.into_iter-pair-iterator.ensures.into_iter_gives,
+      (c.loop-pair.pair-iterator, c.loop-pair.yielded_by, c.in-Some.ensures.steps),
+    ) in
+    omega (arith, more, ap length so_far.2, so_far.3, c.loop-pair.list.ok.0)
+
+-- none has the key of another, so each goes last
 pub returns-clause-pairs : goal.returns-clause-pairs
 returns-clause-pairs g c =
-    let added = c.in_ok-extend.ensures.added in
-    let told = c.requires.all added.0 added.2 in
-    let made = filled c.args.count c.in_ok-object.object.pairs c.in_ok-object.object.capacity added.0 c.extend.new.self.pairs
-    c.extend.new.self.capacity
-    c.in_ok-object.ensures.pairs c.in_ok-object.ensures.capacity added.1 told.0 told.1 in
-    subst (GivesAll g.I.IntoIterator.into_iter_gives g.I.IntoIter.Iterator.next_gives c.args.pairs) (sym made.0) added.2
-
-pub returns-clause-capacity : goal.returns-clause-capacity
-returns-clause-capacity g c =
-    let added = c.in_ok-extend.ensures.added in
-    let told = c.requires.all added.0 added.2 in
-    let made = filled c.args.count c.in_ok-object.object.pairs c.in_ok-object.object.capacity added.0 c.extend.new.self.pairs
-    c.extend.new.self.capacity
-    c.in_ok-object.ensures.pairs c.in_ok-object.ensures.capacity added.1 told.0 told.1 in
-    made.1
-
--- a pair is never refused
-pub returns-in_err-extend : goal.returns-in_err-extend
-returns-in_err-extend g c =
-    let added = c.in_err-extend.ensures.added in
-    let told = c.requires.more added.0 (c.in_err-extend.field-0.0.key, c.in_err-extend.field-0.0.value) added.2.0 in
-    absurd (never_refused c.args.count c.in_ok-object.object.pairs c.in_ok-object.object.capacity added.0 c.extend.new.self.pairs
-    c.extend.new.self.capacity
-    c.in_ok-object.ensures.pairs c.in_ok-object.ensures.capacity added.1 told.0 c.in_err-extend.field-0.0.why told.1 added.2.1.1)
+    let yielded = c.loop-pair.yielded in
+    let gives : GivesAll g.I.IntoIterator.into_iter_gives g.I.IntoIter.Iterator.next_gives c.args.pairs yielded = search rules in
+    let last = ap (put_each []) c.loop-pair.invariant.2 ∙ put_each-new [] yielded (c.requires.all yielded gives).0 in
+    ok_more c.from_pairs.result _ _ (λ object made.
+    subst (GivesAll g.I.IntoIterator.into_iter_gives g.I.IntoIter.Iterator.next_gives c.args.pairs) (sym (made ∙ last)) gives)
+    c.from_pairs.ensures.pairs
