@@ -22,11 +22,11 @@ use std::hash::BuildHasher;
 const CAPACITY_LIMIT: usize = 1 << 56;
 
 impl IObject {
-    /// An object of the pairs of a hash map, in the order in which the map goes over them. Its capacity is their count. A list
-    /// with room for all of them is taken before a pair is moved, and becomes that of the object, as by `from_pairs`. It is
-    /// refused as too large where the count passes 2^56, before memory is asked for; the map is then dropped, as is what was
-    /// made where memory is refused. An empty map takes no memory. Nothing is copied, and each key is hashed once. It takes time
-    /// at most n log n in the count, whatever the keys are.
+    /// An object of the pairs of a hash map, in the order in which the map goes over them. Its capacity is their count. They
+    /// are moved to a list with that room, which is taken first, and the object is made of it as by `from_pairs`. It is
+    /// refused as too large where the count passes 2^56, before memory is asked for; the map and its pairs are then dropped,
+    /// as where memory is refused. An empty map takes no memory. Nothing is copied, and each key is hashed once. It takes
+    /// time at most n log n in the count, whatever the keys are.
     pub fn from_hash_map<S: BuildHasher + Drop>(
         alloc: Global,
         map: HashMap<IString, IValue, S>,
@@ -39,11 +39,11 @@ impl IObject {
         IObject::from_distinct_pairs(alloc, map.len(), map)
     }
 
-    /// An object of the pairs of a sorted map, in the order of their keys. Its capacity is their count. A list with room for all
-    /// of them is taken before a pair is moved, and becomes that of the object, as by `from_pairs`. It is refused as too large
-    /// where the count passes 2^56, before memory is asked for; the map is then dropped, as is what was made where memory is
-    /// refused. An empty map takes no memory. Nothing is copied, and each key is hashed once. It takes time at most n log n in
-    /// the count, whatever the keys are.
+    /// An object of the pairs of a sorted map, in the order of their keys. Its capacity is their count. They are moved to a
+    /// list with that room, which is taken first, and the object is made of it as by `from_pairs`. It is refused as too large
+    /// where the count passes 2^56, before memory is asked for; the map and its pairs are then dropped, as where memory is
+    /// refused. An empty map takes no memory. Nothing is copied, and each key is hashed once. It takes time at most n log n
+    /// in the count, whatever the keys are.
     pub fn from_btree_map(
         alloc: Global,
         map: BTreeMap<IString, IValue>,
@@ -56,11 +56,11 @@ impl IObject {
         IObject::from_distinct_pairs(alloc, map.len(), map)
     }
 
-    /// An object of the pairs of a map in insertion order, in that order. Its capacity is their count. A list with room for all
-    /// of them is taken before a pair is moved, and becomes that of the object, as by `from_pairs`. It is refused as too large
-    /// where the count passes 2^56, before memory is asked for; the map is then dropped, as is what was made where memory is
-    /// refused. An empty map takes no memory. Nothing is copied, and each key is hashed once. It takes time at most n log n in
-    /// the count, whatever the keys are.
+    /// An object of the pairs of a map in insertion order, in that order. Its capacity is their count. They are moved to a
+    /// list with that room, which is taken first, and the object is made of it as by `from_pairs`. It is refused as too large
+    /// where the count passes 2^56, before memory is asked for; the map and its pairs are then dropped, as where memory is
+    /// refused. An empty map takes no memory. Nothing is copied, and each key is hashed once. It takes time at most n log n
+    /// in the count, whatever the keys are.
     pub fn from_index_map<S: BuildHasher + Drop>(
         alloc: Global,
         map: IndexMap<IString, IValue, S>,
