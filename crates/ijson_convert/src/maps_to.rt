@@ -1,8 +1,6 @@
 //! `ToIValue` of maps.
 ghost use Rattle.std.specs.Prelude.{◌≡◌, ◌∷◌, OnOk, IfOk, IfErr};
-ghost use Rattle.ijson_table.specs.Store.{put};
 ghost use Rattle.ijson_value.specs.Values.{object_tree};
-ghost use Rattle.ijson_value.specs.WellFormed.{WellFormed};
 ghost use Rattle.ijson_convert.specs.Interned.{all_interned, SomeInterned};
 ghost use Rattle.ijson_convert.specs.MapTree.{map_tree};
 ghost use Rattle.ijson_convert.specs.TextsOf.{texts_of};
@@ -18,17 +16,15 @@ use std::alloc::Global;
 use std::collections::BTreeMap;
 use std::hash::BuildHasher;
 
-/// Puts a key and what is made of `x` in the object.
-fn put_pair<T: ToIValue, S: BuildHasher>(
+/// The key, and what is made of `x`.
+fn pair_of<T: ToIValue, S: BuildHasher>(
     alloc: Global,
     cache: &mut StringCache<S>,
-    object: &mut IObject,
     key: &str,
     x: &T,
-) -> Result<(), ConvertError>
-    ensures pairs { OnOk result ((value : WellFormed)
-        × (value.tree ≡ T.ToIValue.tree x.now)
-        × (object.new.pairs ≡ put object.old.pairs key.now value)) }
+) -> Result<(IString, IValue), ConvertError>
+    ensures pair { IfOk result (λ pair.
+        (pair.0 ≡ key.now) × (pair.1.tree ≡ T.ToIValue.tree x.now)) }
     ensures cache { OnOk result
         (cache.new ≡ all_interned (key.now ∷ texts_of (T.ToIValue.tree x.now)) cache.old) }
     ensures refused { IfErr result (λ e.
@@ -37,11 +33,11 @@ fn put_pair<T: ToIValue, S: BuildHasher>(
 {
     let key = IString::intern(cache, key)?;
     let value = x.to_ivalue(alloc, cache)?;
-    drop(object.insert(key, value)?);
-    Ok(())
+    Ok((key, value))
 }
 
-/// The pairs of a map as an object, in the order of the keys. Its capacity is their count, and it grows once.
+/// The pairs of a map as an object, in the order of the keys. Its capacity is their count. They are made in a list with that
+/// room, which is taken first, and the object is made of it as by `from_pairs`.
 fn object_of_btree_map<T: ToIValue, S: BuildHasher>(
     alloc: Global,
     cache: &mut StringCache<S>,
@@ -55,14 +51,15 @@ fn object_of_btree_map<T: ToIValue, S: BuildHasher>(
         (e ≡ Memory)
         × SomeInterned (texts_of (map_tree T.ToIValue.tree map.now.entries)) cache.old cache.new) }
 {
-    let mut object = IObject::with_capacity(alloc, map.len())?;
+    let mut pairs = Vec::with_capacity(alloc, map.len())?;
     for (key, x) in map.iter() {
-        put_pair(alloc, cache, &mut object, key.as_str(), x)?;
+        pairs.push_reserved(pair_of(alloc, cache, key.as_str(), x)?);
     }
-    Ok(object)
+    Ok(IObject::from_pairs(alloc, pairs)?)
 }
 
-/// The pairs of a map as an object, in the order of the map. Its capacity is their count, and it grows once.
+/// The pairs of a map as an object, in the order of the map. Its capacity is their count. They are made in a list with that
+/// room, which is taken first, and the object is made of it as by `from_pairs`.
 fn object_of_index_map<T: ToIValue, S: BuildHasher>(
     alloc: Global,
     cache: &mut StringCache<S>,
@@ -76,11 +73,11 @@ fn object_of_index_map<T: ToIValue, S: BuildHasher>(
         (e ≡ Memory)
         × SomeInterned (texts_of (map_tree T.ToIValue.tree map.now.entries)) cache.old cache.new) }
 {
-    let mut object = IObject::with_capacity(alloc, map.len())?;
+    let mut pairs = Vec::with_capacity(alloc, map.len())?;
     for (key, x) in map.iter() {
-        put_pair(alloc, cache, &mut object, key.as_str(), x)?;
+        pairs.push_reserved(pair_of(alloc, cache, key.as_str(), x)?);
     }
-    Ok(object)
+    Ok(IObject::from_pairs(alloc, pairs)?)
 }
 
 /// An object in the order of the keys, whose capacity is their count.

@@ -103,9 +103,10 @@ fn from_items<S: BuildHasher>(
     Ok(array)
 }
 
-/// The object of a map of `serde_json`, in its order, which is that of the keys. Room for all pairs is made first. The keys
-/// and the texts are interned in `cache`, in their order; where the map is refused, a beginning of them may have been.
-/// `Number` comes where a number in it is a float, and `Memory` where memory was refused.
+/// The object of a map of `serde_json`, in its order, which is that of the keys. Its pairs are made in a list with room for
+/// all, which is taken first, and the object is made of it as by `from_pairs`. The keys and the texts are interned in
+/// `cache`, in their order; where the map is refused, a beginning of them may have been. `Number` comes where a number in it
+/// is a float, and `Memory` where memory was refused.
 #[cycle(from)]
 pub fn from_serde_map<S: BuildHasher>(
     alloc: Global,
@@ -121,15 +122,13 @@ pub fn from_serde_map<S: BuildHasher>(
     ensures begun { OnErr result
         (SomeInterned (serde_texts (data_object (members_view map.now.entries))) cache.old cache.new) }
 {
-    let Ok(mut object) = IObject::with_capacity(alloc, map.len()) else {
-        return Err(ConvertError::Memory);
-    };
+    let mut pairs = Vec::with_capacity(alloc, map.len())?;
     for (key, member) in map.iter() {
         let key = IString::intern(cache, key.as_str())?;
         let value = from_serde(alloc, cache, member)?;
-        drop(object.insert(key, value)?);
+        pairs.push_reserved((key, value));
     }
-    Ok(object)
+    Ok(IObject::from_pairs(alloc, pairs)?)
 }
 
 /// The value of `serde_json` of a JSON value. A number goes over by its value, and its shape is lost; members come in the

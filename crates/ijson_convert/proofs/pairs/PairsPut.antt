@@ -1,18 +1,20 @@
--- Pairs that are put in an object, one after the other.
-use Rattle.std.proofs.Common.{◌≡◌, ℕ, List, [], ◌∷◌, ◌++◌, map, refl, ap, sym, subst, ◌∙◌}
+-- The pairs of an object, made one after the other.
+use Rattle.std.proofs.Common.{◌≡◌, ◌<◌, ◌+◌, ℕ, suc, List, [], ◌∷◌, ◌++◌, length, map, refl, ap, ap₂, sym, subst, ◌∙◌, arith}
 use Rattle.std.specs.Prelude.{String, string_bytes, string_eq, string_cmp}
 use Rattle.std.specs.declared.alloc.Global.{Global}
 use Rattle.std.specs.List.{IsDistinct}
 use Rattle.std.specs.List.Sorted.{IsStrictlySortedBy}
 use Rattle.std.specs.Map.{keys_of}
-use Rattle.std.proofs.lemmas.List.{append_assoc, append-nil, map-append}
+use Rattle.std.proofs.lemmas.List.{append_assoc, append-nil, map-append, length-append, length-map}
 use Rattle.ijson_string.specs.Cache.{Texts}
-use Rattle.ijson_table.specs.Store.{Lacks, IsDistinct as NoneTwice, keys_of as store_keys, put}
-use Rattle.ijson_value.proofs.FromMaps.{lacks_before, unique_keys, ordered_keys, put_lacking}
-use Rattle.ijson_value.specs.Tree.{Tree, members_of}
+use Rattle.ijson_table.specs.Store.{IsDistinct as NoneTwice, keys_of as store_keys, put_each}
+use Rattle.ijson_table.proofs.pairs.PutEach.{put_each-new}
+use Rattle.ijson_value.proofs.FromMaps.{unique_keys, ordered_keys}
+use Rattle.ijson_value.specs.Tree.{Tree, object, members_of}
+use Rattle.ijson_value.specs.Values.{object_tree}
 use Rattle.ijson_value.specs.WellFormed.{WellFormed, tree_of}
 use Rattle.ijson_convert.specs.Interned.{all_interned, SomeInterned}
-use Rattle.ijson_convert.specs.MapTree.{pair_tree}
+use Rattle.ijson_convert.specs.MapTree.{pair_tree, map_tree}
 use Rattle.ijson_convert.specs.TextsOf.{texts_of, members_texts}
 use Rattle.ijson_convert.proofs.Interning.{both_interned, some_before, some_behind}
 
@@ -41,11 +43,10 @@ module _ {X : Type 0} (tree : X → Tree) where
       → NoneTwice (store_keys (map (pair_tree tree) es))
   ordered_pairs es d = subst NoneTwice (sym (keys_are es)) (ordered_keys string_bytes es d)
 
--- the keys of pairs and others behind them
-tree_keys : (ps : List (List ℕ × WellFormed)) (rest : List (List ℕ × Tree))
-    → store_keys (tree_pairs ps ++ rest) ≡ store_keys ps ++ store_keys rest
-tree_keys [] rest = refl
-tree_keys (p ∷ ps) rest = ap (λ l. p.0 ∷ l) (tree_keys ps rest)
+-- the keys of pairs are those of the pairs with trees
+tree_keys : (ps : List (List ℕ × WellFormed)) → store_keys (tree_pairs ps) ≡ store_keys ps
+tree_keys [] = refl
+tree_keys (p ∷ ps) = ap (λ l. p.0 ∷ l) (tree_keys ps)
 
 -- ---- the texts of pairs
 pub joined_texts : (ps qs : List (List ℕ × Tree)) → pairs_texts (ps ++ qs) ≡ pairs_texts ps ++ pairs_texts qs
@@ -54,7 +55,7 @@ joined_texts (p ∷ ps) qs =
     ap (λ l. p.0 ∷ (texts_of p.1 ++ l)) (joined_texts ps qs)
     ∙ ap (λ l. p.0 ∷ l) (sym (append_assoc (texts_of p.1) (pairs_texts ps) (pairs_texts qs)))
 
--- ---- one pair more of the entries of a map, whose keys are distinct
+-- ---- pairs of the entries of a map, one after the other
 module _ {X : Type 0} (tree : X → Tree) (entries : List (String Global × X)) (old : Texts) where
   -- the pairs so far and those that are left are all, and the texts so far are interned
   abbrev pub SoFar : List (List ℕ × WellFormed) → List (String Global × X) → Texts → Type 0
@@ -62,45 +63,57 @@ module _ {X : Type 0} (tree : X → Tree) (entries : List (String Global × X)) 
       (tree_pairs ps ++ map (pair_tree tree) left ≡ map (pair_tree tree) entries)
       × (cache ≡ all_interned (pairs_texts (tree_pairs ps)) old)
 
-  module _ (distinct : NoneTwice (store_keys (map (pair_tree tree) entries)))
-      (ps : List (List ℕ × WellFormed)) (rest left : List (String Global × X)) (cache : Texts) (so_far : SoFar ps rest cache)
-      (key : String Global) (x : X) (next : rest ≡ (key, x) ∷ left) (k : List ℕ) (is : k ≡ string_bytes key) where
-    -- the pairs so far, this one and those that are left
-    parts : tree_pairs ps ++ (k, tree x) ∷ map (pair_tree tree) left ≡ map (pair_tree tree) entries
-    parts =
-        ap (λ j. tree_pairs ps ++ (j, tree x) ∷ map (pair_tree tree) left) is
-        ∙ ap (λ l. tree_pairs ps ++ map (pair_tree tree) l) (sym next) ∙ so_far.0
+  module _ (ps : List (List ℕ × WellFormed)) (rest left : List (String Global × X)) (cache : Texts) (so_far : SoFar ps rest cache)
+      (key : String Global) (x : X) (next : rest ≡ (key, x) ∷ left) where
+    -- before one more they are fewer
+    pub one_fewer : length ps < length entries
+    one_fewer =
+        let size : length (tree_pairs ps) + suc (length (map (pair_tree tree) left)) ≡ length (map (pair_tree tree) entries) =
+        sym (length-append (tree_pairs ps) (map (pair_tree tree) ((key, x) ∷ left)))
+        ∙ ap (λ l. length (tree_pairs ps ++ map (pair_tree tree) l)) (sym next) ∙ ap length so_far.0 in
+        omega (arith, size, length-map {B = List ℕ × Tree} ps (λ p. (p.0, tree_of p.1)), length-map left (pair_tree tree),
+        length-map entries (pair_tree tree))
 
-    -- its key is not among those so far
-    is_new : Lacks k (store_keys ps)
-    is_new =
-        lacks_before (store_keys ps) k (store_keys (map (pair_tree tree) left))
-        (subst NoneTwice (tree_keys ps ((k, tree x) ∷ map (pair_tree tree) left))
-        (subst (λ l. NoneTwice (store_keys l)) (sym parts) distinct))
+    module _ (k : List ℕ) (is : k ≡ string_bytes key) where
+      -- the pairs so far, this one and those that are left
+      parts : tree_pairs ps ++ (k, tree x) ∷ map (pair_tree tree) left ≡ map (pair_tree tree) entries
+      parts =
+          ap (λ j. tree_pairs ps ++ (j, tree x) ∷ map (pair_tree tree) left) is
+          ∙ ap (λ l. tree_pairs ps ++ map (pair_tree tree) l) (sym next) ∙ so_far.0
 
-    -- it is put
-    pub one_more : (v : WellFormed) → v.tree ≡ tree x → (ps' : List (List ℕ × WellFormed)) → ps' ≡ put ps k v
-        → (new : Texts) → new ≡ all_interned (k ∷ texts_of (tree x)) cache → SoFar ps' left new
-    one_more v v_is ps' puts new n =
-        let pairs_are : tree_pairs ps' ≡ tree_pairs ps ++ (k, tree x) ∷ [] =
-        ap tree_pairs (puts ∙ put_lacking ps k v is_new)
-        ∙ map-append (λ p. (p.0, tree_of p.1)) ps ((k, v) ∷ [])
-        ∙ ap (λ u. tree_pairs ps ++ (k, u) ∷ []) v_is in (
-          ap (λ l. l ++ map (pair_tree tree) left) pairs_are
-              ∙ append_assoc (tree_pairs ps) ((k, tree x) ∷ []) (map (pair_tree tree) left) ∙ parts,
-          n ∙ ap (all_interned (k ∷ texts_of (tree x))) so_far.1
-              ∙ sym (both_interned (pairs_texts (tree_pairs ps)) (k ∷ texts_of (tree x)) old)
-              ∙ ap (λ l. all_interned (pairs_texts (tree_pairs ps) ++ k ∷ l) old) (sym (append-nil (texts_of (tree x))))
-              ∙ ap (λ l. all_interned l old) (sym (joined_texts (tree_pairs ps) ((k, tree x) ∷ [])))
-              ∙ ap (λ l. all_interned (pairs_texts l) old) (sym pairs_are),
-        )
+      -- it is made
+      pub one_more : (p : List ℕ × WellFormed) → p.0 ≡ k → p.1.tree ≡ tree x → (ps' : List (List ℕ × WellFormed))
+          → ps' ≡ ps ++ p ∷ [] → (new : Texts) → new ≡ all_interned (k ∷ texts_of (tree x)) cache → SoFar ps' left new
+      one_more p key_is tree_is ps' pushed new n =
+          let pairs_are : tree_pairs ps' ≡ tree_pairs ps ++ (k, tree x) ∷ [] =
+          ap tree_pairs pushed
+          ∙ map-append (λ p. (p.0, tree_of p.1)) ps (p ∷ [])
+          ∙ ap₂ (λ j u. tree_pairs ps ++ (j, u) ∷ []) key_is tree_is in (
+            ap (λ l. l ++ map (pair_tree tree) left) pairs_are
+                ∙ append_assoc (tree_pairs ps) ((k, tree x) ∷ []) (map (pair_tree tree) left) ∙ parts,
+            n ∙ ap (all_interned (k ∷ texts_of (tree x))) so_far.1
+                ∙ sym (both_interned (pairs_texts (tree_pairs ps)) (k ∷ texts_of (tree x)) old)
+                ∙ ap (λ l. all_interned (pairs_texts (tree_pairs ps) ++ k ∷ l) old) (sym (append-nil (texts_of (tree x))))
+                ∙ ap (λ l. all_interned l old) (sym (joined_texts (tree_pairs ps) ((k, tree x) ∷ [])))
+                ∙ ap (λ l. all_interned (pairs_texts l) old) (sym pairs_are),
+          )
 
-    -- or refused
-    pub one_refused : (new : Texts) → SomeInterned (k ∷ texts_of (tree x)) cache new
-        → SomeInterned (pairs_texts (map (pair_tree tree) entries)) old new
-    one_refused new s =
-        let behind = map (pair_tree tree) left in
-        let mine = some_before (k ∷ texts_of (tree x)) (pairs_texts behind) (all_interned (pairs_texts (tree_pairs ps)) old) new
-        (subst (λ m. SomeInterned (k ∷ texts_of (tree x)) m new) so_far.1 s) in
-        subst (λ l. SomeInterned l old new) (sym (joined_texts (tree_pairs ps) ((k, tree x) ∷ behind)) ∙ ap pairs_texts parts)
-        (some_behind (pairs_texts (tree_pairs ps)) (k ∷ (texts_of (tree x) ++ pairs_texts behind)) old new mine)
+      -- or refused
+      pub one_refused : (new : Texts) → SomeInterned (k ∷ texts_of (tree x)) cache new
+          → SomeInterned (pairs_texts (map (pair_tree tree) entries)) old new
+      one_refused new s =
+          let behind = map (pair_tree tree) left in
+          let mine = some_before (k ∷ texts_of (tree x)) (pairs_texts behind) (all_interned (pairs_texts (tree_pairs ps)) old) new
+          (subst (λ m. SomeInterned (k ∷ texts_of (tree x)) m new) so_far.1 s) in
+          subst (λ l. SomeInterned l old new) (sym (joined_texts (tree_pairs ps) ((k, tree x) ∷ behind)) ∙ ap pairs_texts parts)
+          (some_behind (pairs_texts (tree_pairs ps)) (k ∷ (texts_of (tree x) ++ pairs_texts behind)) old new mine)
+
+  -- where none is left, each goes last in an object, as their keys are distinct
+  pub all_put : (ps : List (List ℕ × WellFormed)) (rest : List (String Global × X)) (cache : Texts) → SoFar ps rest cache → rest ≡ []
+      → NoneTwice (store_keys (map (pair_tree tree) entries)) → (made : List (List ℕ × WellFormed)) → made ≡ put_each [] ps
+      → object_tree made ≡ map_tree tree entries
+  all_put ps rest cache so_far none distinct made puts =
+      let all : tree_pairs ps ≡ map (pair_tree tree) entries =
+      sym (append-nil (tree_pairs ps)) ∙ ap (λ l. tree_pairs ps ++ map (pair_tree tree) l) (sym none) ∙ so_far.0 in
+      let keys = ap store_keys (sym all) ∙ tree_keys ps in
+      ap object_tree (puts ∙ put_each-new [] ps (subst NoneTwice keys distinct)) ∙ ap (λ l. object (members_of l)) all

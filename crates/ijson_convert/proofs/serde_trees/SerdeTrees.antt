@@ -1,16 +1,12 @@
 -- Values of `serde_json` and the trees that they have, one part after the other.
-use Rattle.std.proofs.Common.{◌≡◌, ◌<◌, ℕ, suc, List, length, take, drop, get_or, [], ◌∷◌, ◌++◌, refl, ap, ap₂, sym, subst, ◌∙◌, inl, inr}
+use Rattle.std.proofs.Common.{◌≡◌, ◌<◌, ◌+◌, ℕ, suc, List, length, map, take, drop, get_or, [], ◌∷◌, ◌++◌, refl, ap, ap₂, sym, subst}
+use Rattle.std.proofs.Common.{◌∙◌, arith}
 use Rattle.std.specs.Prelude.{string_bytes, string_cmp}
-use Rattle.std.specs.declared.cmp.Ordering.TheVariants.{Less, Equal}
-use Rattle.std.specs.Cmp.{tied_itself}
-use Rattle.std.specs.Cmp.Lexicographic.{slice_cmp}
-use Rattle.std.specs.List.{AllByRecursion, flat_map}
+use Rattle.std.specs.List.{flat_map}
 use Rattle.std.specs.List.Sorted.{IsStrictlySortedBy}
 use Rattle.std.specs.Map.{keys_of}
-use Rattle.std.specs.Ordering.{nat_cmp}
-use Rattle.std.specs.String.{string_cmp_total}
 use Rattle.std.proofs.lemmas.Grind.{flat_map-append}
-use Rattle.std.proofs.lemmas.List.{append-nil, take-append-drop}
+use Rattle.std.proofs.lemmas.List.{append-nil, take-append-drop, length-append, length-map}
 use Rattle.std.proofs.Math.Seq.{drop-cons}
 use Rattle.serde_json.specs.Data as serde
 use Rattle.serde_json.specs.Data.{Data}
@@ -18,8 +14,9 @@ use Rattle.serde_json.specs.View.{view, items_view, members_view}
 use Rattle.serde_json.specs.declared.value.Value.{Value}
 use Rattle.serde_json.proofs.Views.{Entry}
 use Rattle.ijson_string.specs.Cache.{Texts, interned}
-use Rattle.ijson_table.specs.Store.{put}
-use Rattle.ijson_table.proofs.pairs.KeyPositions.{same_key}
+use Rattle.ijson_table.specs.Store.{IsDistinct, keys_of as store_keys, put_each}
+use Rattle.ijson_table.proofs.pairs.PutEach.{put_each-new}
+use Rattle.ijson_value.proofs.FromMaps.{ordered_keys}
 use Rattle.ijson_value.specs.Tree.{Tree, null, boolean, number, string, array, object, Items, no_items, item, Members, no_members, member}
 use Rattle.ijson_value.specs.WellFormed.{WellFormed, item_trees, pair_trees}
 use Rattle.ijson_convert.specs.Interned.{all_interned, SomeInterned}
@@ -166,25 +163,24 @@ pub object_none : (before : List Entry) (e : Entry) (left : List Entry) → HasN
 object_none before e left never (object ps) h = members_none before e left never ps h
 object_none before e left never _ h = absurd h
 
--- ---- a key that is above those before it is put last
-below_middle : (f : Entry) (es : List Entry) (e : Entry) (left : List Entry)
-    → AllByRecursion (λ y. string_cmp f.0 y ≡ Less) (keys_of (es ++ e ∷ left)) → string_cmp f.0 e.0 ≡ Less
-below_middle f [] e left h = h.0
-below_middle f (x ∷ es) e left h = below_middle f es e left h.1
+-- ---- the keys of entries are those of their pairs
+keys_are : (es : List Entry) (ps : List (List ℕ × WellFormed)) → SerdeMembers (members_view es) (pair_trees ps)
+    → store_keys ps ≡ map (λ e. string_bytes e.0) es
+keys_are [] [] h = refl
+keys_are [] (p ∷ ps) h = absurd h
+keys_are (e ∷ es) [] h = absurd h
+keys_are (e ∷ es) (p ∷ ps) h = ap₂ (λ k l. k ∷ l) (sym h.0) (keys_are es ps h.2)
 
--- a key above all others is put last
-pub put_last : (es : List Entry) (ps : List (List ℕ × WellFormed)) (e : Entry) (left : List Entry) (u : WellFormed)
-    → SerdeMembers (members_view es) (pair_trees ps) → IsStrictlySortedBy string_cmp (keys_of (es ++ e ∷ left))
-    → put ps (string_bytes e.0) u ≡ ps ++ (string_bytes e.0, u) ∷ []
-unfolding IsStrictlySortedBy
-put_last [] [] e left u h s = refl
-put_last [] (p ∷ ps) e left u h s = absurd h
-put_last (f ∷ es) [] e left u h s = absurd h
-put_last (f ∷ es) (p ∷ ps) e left u h s = elim (same_key p.0 (string_bytes e.0)) [
-  | inl same ↦
-      let below = below_middle f es e left s.0 in
-      let tied : string_cmp f.0 e.0 ≡ Equal =
-      ap (slice_cmp nat_cmp (string_bytes f.0)) (sym (h.0 ∙ same.1)) ∙ tied_itself string_cmp_total f.0 in
-      cc
-  | inr other ↦ rw other.0 (ap (λ l. p ∷ l) (put_last es ps e left u h.2 s.1))
-]
+-- before one more they are fewer than all
+pub pairs_fewer : (done : List Entry) (e : Entry) (left es : List Entry) (ps : List (List ℕ × WellFormed)) → done ++ e ∷ left ≡ es
+    → SerdeMembers (members_view done) (pair_trees ps) → length ps < length es
+pairs_fewer done e left es ps parts h =
+    let all : length done + suc (length left) ≡ length es = sym (length-append done (e ∷ left)) ∙ ap length parts in
+    let same : length ps ≡ length done =
+    sym (length-map ps (λ p. p.0)) ∙ ap length (keys_are done ps h) ∙ length-map done (λ e. string_bytes e.0) in
+    omega (arith, all, same)
+
+-- where the keys ascend, each pair goes last
+pub pairs_last : (es : List Entry) (ps : List (List ℕ × WellFormed)) → SerdeMembers (members_view es) (pair_trees ps)
+    → IsStrictlySortedBy string_cmp (keys_of es) → put_each [] ps ≡ ps
+pairs_last es ps h sorted = put_each-new [] ps (subst IsDistinct (sym (keys_are es ps h)) (ordered_keys string_bytes es sorted))

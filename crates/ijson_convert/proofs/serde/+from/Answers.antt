@@ -1,15 +1,14 @@
-use Rattle.std.proofs.Common.{◌≡◌, [], ◌∷◌, ◌++◌, ◌+◌, suc, take, drop, append_assoc, ap, sym, subst, ◌∙◌, arith}
+use Rattle.std.proofs.Common.{◌≡◌, [], ◌∷◌, ◌++◌, ◌+◌, suc, take, drop, append_assoc, refl, ap, sym, subst, ◌∙◌, arith, rules}
 use Rattle.std.specs.Prelude.{string_bytes, string_cmp}
 use Rattle.std.specs.List.{flat_map}
 use Rattle.std.specs.List.Sorted.{IsStrictlySortedBy}
 use Rattle.std.specs.Map.{keys_of}
-use Rattle.std.proofs.lemmas.List.{take_more, take_all}
+use Rattle.std.proofs.lemmas.List.{append-nil, take_more, take_all}
 use Rattle.std.proofs.lemmas.Result.{err_from_is_err_and}
 use Rattle.serde_json.specs.Data as serde
 use Rattle.serde_json.specs.View.{view, items_view, members_view}
 use Rattle.serde_json.proofs.Views.{Entry, view-Array, view-Object}
 use Rattle.ijson_string.specs.Cache.{interned}
-use Rattle.ijson_table.specs.Store.{put}
 use Rattle.ijson_value.specs.Values.{array_tree, object_tree}
 use Rattle.ijson_value.specs.WellFormed.{item_trees, pair_trees}
 use Rattle.ijson_convert.specs.Interned.{all_interned, SomeInterned}
@@ -20,7 +19,8 @@ use Rattle.ijson_convert.proofs.Interning.{none_interned, wholly_interned, some_
 use Rattle.ijson_convert.proofs.Refusals.{refused_too}
 use Rattle.ijson_convert.proofs.serde_trees.SerdeTrees.{items_begun, members_begun, entry_interned}
 use Rattle.ijson_convert.proofs.serde_trees.SerdeTrees.{value_texts, entry_texts, tree_texts, items_flat, members_flat, interned_more}
-use Rattle.ijson_convert.proofs.serde_trees.SerdeTrees.{split_at, items_more, members_more, array_none, object_none, put_last}
+use Rattle.ijson_convert.proofs.serde_trees.SerdeTrees.{split_at, items_more, members_more, array_none, object_none}
+use Rattle.ijson_convert.proofs.serde_trees.SerdeTrees.{pairs_fewer, pairs_last}
 use Rattle.ijson_convert.proofs.serde.+from.Goals as goal
 
 -- ---- an item
@@ -106,9 +106,18 @@ from_serde-returns-in_ok-from_items-in-Array-clause-cache g t c =
     ∙ ap (λ v. all_interned (texts_of v.tree) c.args.cache.now) (sym c.from-in-Array.ensures)
 
 -- ---- a member
+pub from_serde_map-loop-key-init : goal.from_serde_map-loop-key-init
+from_serde_map-loop-key-init g t c = record {
+  done = [];
+  parts = search rules;
+  trees = subst (λ ps. SerdeMembers (members_view []) (pair_trees ps)) (sym c.in_ok-pairs.ensures.items) tt;
+  texts = refl;
+  room = search rules;
+}
+
 pub from_serde_map-returns-in_err-key-clause-begun : goal.from_serde_map-returns-in_err-key-clause-begun
 from_serde_map-returns-in_err-key-clause-begun g t c =
-    let p = err_from_is_err_and c.from_residual.result c.from_residual.ensures.1 in
+    let p = err_from_is_err_and c.from_residual-in_err-key.result c.from_residual-in_err-key.ensures.1 in
     let done = c.loop-key.invariant.done in
     let e : Entry = (c.in-Some.key.now, c.in-Some.member.now) in
     let left = c.next.new.self in
@@ -145,19 +154,15 @@ from_serde_map-returns-in_err-value-clause-begun g t c =
     rw p.1 (members_begun done e left entries c.args.cache.now c.loop-key.cache new parts c.loop-key.invariant.texts
     (some_behind (string_bytes e.0 ∷ []) (serde_texts (view e.1)) c.loop-key.cache new behind))
 
-pub from_serde_map-returns-in_err-insert-clause-begun : goal.from_serde_map-returns-in_err-insert-clause-begun
-from_serde_map-returns-in_err-insert-clause-begun g t c =
-    let p = err_from_is_err_and c.from_residual-in_err-insert.result c.from_residual-in_err-insert.ensures.1 in
+pub from_serde_map-push_reserved-requires : goal.from_serde_map-push_reserved-requires
+from_serde_map-push_reserved-requires g t c =
     let done = c.loop-key.invariant.done in
     let e : Entry = (c.in-Some.key.now, c.in-Some.member.now) in
     let left = c.next.new.self in
-    let new = c.from_serde.new.cache in
     let entries = c.args.map.now.entries in
     let parts : done ++ e ∷ left ≡ entries = sym (c.loop-key.invariant.parts ∙ ap (λ es. done ++ es) c.in-Some.ensures.steps) in
-    let read = entry_interned e c.in_ok-value.value.tree c.as_str.result.now c.loop-key.cache c.intern.new.cache new
-    c.in_ok-key.ensures.cache c.as_str.ensures.value c.in_ok-value.ensures.cache c.in_ok-value.ensures.tree in
-    rw p.1 (members_begun done e left entries c.args.cache.now c.loop-key.cache new parts c.loop-key.invariant.texts
-    (wholly_interned (entry_texts e) c.loop-key.cache new read))
+    let fewer = pairs_fewer done e left entries c.loop-key.pairs.items parts c.loop-key.invariant.trees in
+    omega (arith, fewer, c.loop-key.invariant.room, c.loop-key.pairs.ok.0)
 
 pub from_serde_map-loop-key-preserved : goal.from_serde_map-loop-key-preserved
 from_serde_map-loop-key-preserved g t c =
@@ -165,27 +170,45 @@ from_serde_map-loop-key-preserved g t c =
     let e : Entry = (c.in-Some.key.now, c.in-Some.member.now) in
     let left = c.next.new.self in
     let new = c.from_serde.new.cache in
-    let entries = c.args.map.now.entries in
-    let old = c.loop-key.object.pairs in
+    let old = c.loop-key.pairs.items in
     let u = c.in_ok-value.value in
-    let parts : done ++ e ∷ left ≡ entries = sym (c.loop-key.invariant.parts ∙ ap (λ es. done ++ es) c.in-Some.ensures.steps) in
     let read = entry_interned e c.in_ok-value.value.tree c.as_str.result.now c.loop-key.cache c.intern.new.cache new
     c.in_ok-key.ensures.cache c.as_str.ensures.value c.in_ok-value.ensures.cache c.in_ok-value.ensures.tree in
-    let sorted = subst (λ es. IsStrictlySortedBy string_cmp (keys_of es)) (sym parts) c.iter-key-items.ensures.ordered in
-    let last : c.insert.new.self.pairs ≡ old ++ (string_bytes e.0, u) ∷ [] =
-    c.in_ok-insert.ensures.pairs ∙ ap (λ k. put old k u) (c.in_ok-key.ensures.text ∙ c.as_str.ensures.value)
-    ∙ put_last done old e left u c.loop-key.invariant.trees sorted in
+    let pushed : c.push_reserved.new.self.items ≡ old ++ (c.in_ok-key.key, u) ∷ [] = search rules in
+    let last = pushed ∙ ap (λ k. old ++ (k, u) ∷ []) (c.in_ok-key.ensures.text ∙ c.as_str.ensures.value) in
     record {
       done = done ++ e ∷ [];
-      parts = sym parts ∙ sym (append_assoc done (e ∷ []) left);
+      parts = c.loop-key.invariant.parts ∙ ap (λ es. done ++ es) c.in-Some.ensures.steps ∙ sym (append_assoc done (e ∷ []) left);
       trees = subst (λ ps. SerdeMembers (members_view (done ++ e ∷ [])) (pair_trees ps)) (sym last)
           (members_more done old e u c.loop-key.invariant.trees c.in_ok-value.ensures.tree);
       texts = interned_more entry_texts done e c.args.cache.now c.loop-key.cache new c.loop-key.invariant.texts read;
+      room = search rules;
     }
+
+pub from_serde_map-returns-in_err-from_pairs-clause-begun : goal.from_serde_map-returns-in_err-from_pairs-clause-begun
+from_serde_map-returns-in_err-from_pairs-clause-begun g t c =
+    let p = err_from_is_err_and c.from_residual-in_err-from_pairs.result c.from_residual-in_err-from_pairs.ensures.1 in
+    let done = c.loop-key.invariant.done in
+    let entries = c.args.map.now.entries in
+    let all : entries ≡ done = c.loop-key.invariant.parts ∙ ap (λ es. done ++ es) c.in-None.ensures.steps.0 ∙ append-nil done in
+    let flat = members_flat entries ∙ ap (flat_map entry_texts) all in
+    rw p.1 (wholly_interned (serde_texts (serde.object (members_view entries))) c.args.cache.now c.loop-key.cache
+    (c.loop-key.invariant.texts ∙ ap (λ l. all_interned l c.args.cache.now) (sym flat)))
+
+pub from_serde_map-returns-clause-tree : goal.from_serde_map-returns-clause-tree
+from_serde_map-returns-clause-tree g t c =
+    let done = c.loop-key.invariant.done in
+    let entries = c.args.map.now.entries in
+    let all : entries ≡ done = c.loop-key.invariant.parts ∙ ap (λ es. done ++ es) c.in-None.ensures.steps.0 ∙ append-nil done in
+    let trees = subst (λ es. SerdeMembers (members_view es) (pair_trees c.loop-key.pairs.items)) (sym all) c.loop-key.invariant.trees in
+    let last = pairs_last entries c.loop-key.pairs.items trees c.iter-key-items.ensures.ordered in
+    subst (λ ps. SerdeMembers (members_view entries) (pair_trees ps)) (sym (c.in_ok-from_pairs.ensures.pairs ∙ last)) trees
 
 pub from_serde_map-returns-clause-cache : goal.from_serde_map-returns-clause-cache
 from_serde_map-returns-clause-cache g t c =
     let done = c.loop-key.invariant.done in
-    let texts = tree_texts (serde.object (members_view done)) (object_tree c.loop-key.object.pairs) c.loop-key.invariant.trees
-    ∙ members_flat done in
+    let entries = c.args.map.now.entries in
+    let all : entries ≡ done = c.loop-key.invariant.parts ∙ ap (λ es. done ++ es) c.in-None.ensures.steps.0 ∙ append-nil done in
+    let texts = tree_texts (serde.object (members_view entries)) (object_tree c.in_ok-from_pairs.field-0.pairs)
+    (from_serde_map-returns-clause-tree g t c) ∙ members_flat entries ∙ ap (flat_map entry_texts) all in
     c.loop-key.invariant.texts ∙ ap (λ l. all_interned l c.args.cache.now) (sym texts)
