@@ -71,8 +71,13 @@ module _ {X : Type 0} (tree : X → Tree) (entries : List (String Global × X)) 
         let size : length (tree_pairs ps) + suc (length (map (pair_tree tree) left)) ≡ length (map (pair_tree tree) entries) =
         sym (length-append (tree_pairs ps) (map (pair_tree tree) ((key, x) ∷ left)))
         ∙ ap (λ l. length (tree_pairs ps ++ map (pair_tree tree) l)) (sym next) ∙ ap length so_far.0 in
-        omega (arith, size, length-map {B = List ℕ × Tree} ps (λ p. (p.0, tree_of p.1)), length-map left (pair_tree tree),
-        length-map entries (pair_tree tree))
+        omega (
+          arith,
+          size,
+          length-map {B = List ℕ × Tree} ps (λ p. (p.0, tree_of p.1)),
+          length-map left (pair_tree tree),
+          length-map entries (pair_tree tree),
+        )
 
     module _ (k : List ℕ) (is : k ≡ string_bytes key) where
       -- the pairs so far, this one and those that are left
