@@ -1,4 +1,8 @@
 pub mod arithmetic
+pub mod building
+pub mod filling
+pub mod firsts
+pub mod merging
 pub mod pairs
 pub mod probing
 pub mod shifting

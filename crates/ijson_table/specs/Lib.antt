@@ -6,6 +6,7 @@ pub mod Steps
 pub mod Fold
 pub mod Crowd
 pub mod Slots
+pub mod BuildBound
 pub mod Sees
 pub mod Placed
 pub mod laws

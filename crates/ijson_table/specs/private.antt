@@ -1,10 +1,16 @@
+pub mod Changes
 pub mod Closing
+pub mod Entries
 pub mod FirstPlaced
 pub mod HashIndex
+pub mod HomeOrder
 pub mod Holds
 pub mod Insertion
 pub mod IsPlaced
+pub mod KeyOrder
 pub mod Lookup
+pub mod Merging
 pub mod Probe
 pub mod Room
 pub mod SlotHashes
+pub mod Sorting

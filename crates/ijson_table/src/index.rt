@@ -5,14 +5,17 @@
 //! - `places`: the trait of a table whose slots can be looked at, and `locate`, the look-up whose looks are counted.
 //! - `probe`: the one walk over the slots, which each look-up and each shift begins with.
 //! - `shift`: how the residents of slots move, in insertion, removal and growth.
+//! - `fill`: how a table is filled from entries that are sorted by home.
 
 ghost use Rattle.std.specs.Prelude.{◌≡◌, ◌+◌, ◌<◌, ◌≤◌, [], ◌∷◌, ◌++◌, length, get_or, vec_capacity, None, IfOk, OnErr};
 ghost use Rattle.std.specs.List.{All, remove, swap_remove as swapped_out};
 ghost use Rattle.ijson_table.specs.Slots.{resident, IsTable};
+ghost use Rattle.ijson_table.specs.private.Changes.{changes};
 ghost use Rattle.ijson_table.specs.private.Holds.{MayStand};
 ghost use Rattle.ijson_table.specs.private.Insertion.{EndsWith};
 ghost use Rattle.ijson_table.specs.private.SlotHashes.{position_in, HasHash};
 
+mod fill;
 pub mod places;
 pub mod probe;
 mod shift;
@@ -93,15 +96,17 @@ impl Index {
         self.push_at(slot, position, hash);
     }
 
-    /// The same, at the slot where a probe for it ended.
-    pub fn push_at(&mut self, slot: usize, position: usize, hash: u64)
+    /// The same, at the slot where a probe for it ended. Answers how many slots were written.
+    pub fn push_at(&mut self, slot: usize, position: usize, hash: u64) -> usize
         requires position { position ≡ length self.old.hashes }
         requires room { position < length self.old.slots }
         requires may { MayStand (self.old.hashes ++ hash ∷ []) self.old.slots position slot }
         ensures hashes { self.new.hashes ≡ self.old.hashes ++ hash ∷ [] }
         ensures count { length self.new.slots ≡ length self.old.slots }
+        ensures written { result ≤ length self.old.slots }
+        ensures changes { changes self.old.slots self.new.slots ≤ result }
     {
-        shift_forward(&mut self.slots, slot, position, hash);
+        shift_forward(&mut self.slots, slot, position, hash)
     }
 
     /// Takes a position out, and gives its number to the last one, which is another. The hashes are those of their keys.

@@ -9,6 +9,7 @@ mod growth;
 mod hash;
 mod index;
 mod linear;
+mod sorting;
 mod store;
 mod table;
 #[cfg(test)]

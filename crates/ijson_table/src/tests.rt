@@ -1,5 +1,6 @@
 //! Each store by commands, and tables worked by hand.
 
+mod crowds;
 mod lists;
 mod refusals;
 mod shown;

@@ -10,7 +10,8 @@ use Rattle.ijson_table.specs.Growth.{wanted, Ungrown}
 use Rattle.ijson_table.specs.Inserts.{Inserts}
 use Rattle.ijson_table.specs.Store.{at, keys_of, put, put_each, IsDistinct, Lacks}
 use Rattle.ijson_table.proofs.pairs.KeyPositions.{same_key}
-use Rattle.ijson_table.proofs.pairs.PairsByKey.{put-absent}
+use Rattle.ijson_table.specs.laws.Store.{keys-with_value}
+use Rattle.ijson_table.proofs.pairs.PairsByKey.{distinct_pushed, put-absent, put-present}
 use Rattle.ijson_table.proofs.probing.KeyHashes.{had_room}
 
 -- a growth that was refused lacked room
@@ -54,6 +55,24 @@ module _ {V : Type 0} where
   put_each-split pairs n d =
       ap (λ ps. put_each ps (drop n pairs)) (sym (put_each-new [] (take n pairs) d))
       ∙ (sym (put_each-append [] (take n pairs) (drop n pairs)) ∙ ap (put_each []) (take-append-drop n pairs))
+
+  -- where no key stands twice in a list, to put all of it and then more is to put more behind it
+  pub put_each-behind : (pairs more : List (List ℕ × V)) → IsDistinct (keys_of pairs) → put_each [] (pairs ++ more) ≡ put_each pairs more
+  put_each-behind pairs more d = put_each-append [] pairs more ∙ ap (λ ps. put_each ps more) (put_each-new [] pairs d)
+
+  -- a key that is put makes none stand twice
+  put-distinct : (pairs : List (List ℕ × V)) (key : List ℕ) (value : V) → IsDistinct (keys_of pairs) → IsDistinct (keys_of (put pairs key value))
+  put-distinct pairs key value d =
+      elim (at pairs key) as (λ o. at pairs key ≡ o → IsDistinct (keys_of (put pairs key value))) [
+        | None ↦ λ e. subst (λ ps. IsDistinct (keys_of ps)) (sym (put-absent pairs key value e)) (distinct_pushed pairs key value d e)
+        | Some i ↦ λ e. subst (λ ps. IsDistinct (keys_of ps)) (sym (put-present pairs i key value e))
+            (subst IsDistinct (sym (keys-with_value pairs i value)) d)
+      ] refl
+
+  -- nor do all of a list
+  pub put_each-distinct : (pairs more : List (List ℕ × V)) → IsDistinct (keys_of pairs) → IsDistinct (keys_of (put_each pairs more))
+  put_each-distinct pairs [] d = d
+  put_each-distinct pairs (pair ∷ more) d = put_each-distinct (put pairs pair.0 pair.1) more (put-distinct pairs pair.0 pair.1 d)
 
   -- one that is put is one more at most
   pub put-length : (pairs : List (List ℕ × V)) (key : List ℕ) (value : V) → length (put pairs key value) ≤ length pairs + 1

@@ -72,6 +72,11 @@ module _ (hashes : List ℕ) (slots : List Slot) (have : HaveHashes hashes slots
         ap (λ o. first_and o (hashes_from most (i + 1) slots)) (beside-none slots i never) ∙ sym (drop-end hashes i all)
   ]
 
+-- where each position stands once, beside its hash, they are the hashes of the list
+pub hashes_of-placed : (hashes : List ℕ) (slots : List Slot) → HaveHashes hashes slots
+    → ((i : ℕ) → times i (positions slots) ≡ below (length hashes) i) → length hashes ≤ length slots → hashes_of slots ≡ hashes
+hashes_of-placed hashes slots have placed fits = from hashes slots have placed (length slots) 0 (omega arith) (omega (arith, fits))
+
 -- where the slots are a table of these hashes, and each stands beside its position, they are the hashes of the list
 pub hashes_of-table : (hashes : List ℕ) (slots : List Slot) → IsTable hashes (positions slots) → HaveHashes hashes slots
     → length hashes ≤ length slots → hashes_of slots ≡ hashes

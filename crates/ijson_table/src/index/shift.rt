@@ -2,6 +2,7 @@
 
 ghost use Rattle.std.specs.Prelude.{◌≡◌, ℕ, ◌+◌, ◌<◌, ◌≤◌, ◌%◌, ◌^◌, List, length, get_or, map, Some, None};
 ghost use Rattle.ijson_table.specs.Slots.{below, resident, times, IsOrdered};
+ghost use Rattle.ijson_table.specs.private.Changes.{changes};
 ghost use Rattle.ijson_table.specs.private.Closing.{closed};
 ghost use Rattle.ijson_table.specs.private.Holds.{with_one, Holds, HasEmpty, HasGap, MayStand};
 ghost use Rattle.ijson_table.specs.private.Insertion.{Accepts, AcceptsEach, EndsWith, IsTableOf, Stands};
@@ -91,21 +92,23 @@ fn slot_of(slots: &[Slot], position: usize, hash: u64) -> usize
 }
 
 /// Puts a position down at a slot, whose key has this hash. The residents from there on move one slot forward each, up to the next
-/// empty slot.
-pub fn shift_forward(slots: &mut [Slot], from: usize, position: usize, hash: u64)
+/// empty slot. Answers how many slots were written.
+pub fn shift_forward(slots: &mut [Slot], from: usize, position: usize, hash: u64) -> usize
     ghost hashes: { List ℕ }
     requires accepts { Accepts hashes slots.old position hash }
     requires may { MayStand hashes (positions slots.old) position from }
     ensures holds { Holds hashes (with_one (positions slots.old) position) None (positions slots.new) }
     ensures hashes { HaveHashes hashes slots.new }
+    ensures written { result ≤ length slots.old }
+    ensures changes { changes (positions slots.old) (positions slots.new) ≤ result }
 {
     let mut entry = Slot::of(position, hash);
     let mut slot = from;
-    for _step in 0..slots.len() {
+    for step in 0..slots.len() {
         let was = slots[slot];
         slots[slot] = entry;
         let Some(_resident) = was.position() else {
-            return;
+            return step + 1;
         };
         entry = was;
         slot = next_slot(slots.len(), slot);

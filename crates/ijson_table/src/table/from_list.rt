@@ -1,8 +1,11 @@
 //! Tables over lists of pairs.
 
-ghost use Rattle.std.specs.Prelude.{◌≡◌, ◌↔◌, ◌+◌, ◌<◌, ◌≤◌, [], length, Err, IfOk, IsOk, IsTrue, IsFalse};
+ghost use Rattle.std.specs.Prelude.{◌≡◌, ◌↔◌, ℕ, ◌+◌, ◌-◌, ◌*◌, ◌^◌, ◌<◌, ◌≤◌, [], ◌++◌, length, reverse, vec_capacity, Err, IfOk, IsOk, OnOk, IsTrue, IsFalse};
+ghost use Rattle.ijson_table.specs.BuildBound.{IsBuildBounded};
+ghost use Rattle.ijson_table.specs.Crowd.{slot_count};
 ghost use Rattle.ijson_table.specs.Growth.{capacity_limit};
-ghost use Rattle.ijson_table.specs.Store.{put_each};
+ghost use Rattle.ijson_table.specs.Store.{put, put_each};
+ghost use Rattle.ijson_table.specs.private.Changes.{changes};
 ghost use Rattle.ijson_table.specs.private.FirstPlaced.{ComesAgain, FirstPlaced};
 
 use super::Table;
@@ -11,91 +14,248 @@ use crate::hash::KeyHash;
 use crate::index::Index;
 use crate::index::probe::{Lookup, Probed, probe};
 use crate::index::slot::Modulus;
-use crate::store::ReserveError;
+use crate::sorting::build::{fill_sorted, put_sorted};
+use crate::store::{PairStore, ReserveError};
 use ijson_number::Looks;
 use ijson_string::IString;
-use std::alloc::Global;
+use std::alloc::{AllocError, Global};
 use std::marker::PhantomData;
+use std::mem;
+
+/// How many steps a pair may take, on average over all of them, before the table is made by sorting. With keys that nobody chose it
+/// takes about three.
+const STEPS_A_PAIR: usize = 32;
 
 impl<V: Drop, H: KeyHash> Table<V, H> {
     /// A store of these pairs as if they were put one after the other: a key that comes again keeps its place, and has the value
     /// that it came with last. The list becomes that of the store: its length is the capacity, and room beyond that is given back.
     /// From the first key on that comes again, the pairs are taken off and put one by one; those before are not moved. It is refused
     /// as too large where the length passes 2^56; the pairs are then dropped, as where memory is refused. No pairs take no memory.
-    /// Each key is hashed once, and the first that comes again twice.
+    /// Each key is hashed once, and the first that comes again twice. That takes time linear in the pairs where few keys crowd.
+    /// Where many do, the table is made by sorting: then each key is hashed up to three times, entries of 16 bytes for each pair
+    /// are sorted in memory of their own, and the pairs move to another list. So whatever the keys are, it takes time n log n at
+    /// most, and that of the hashes and of comparing keys of one hash.
     pub fn from_pairs(
         alloc: Global,
-        mut pairs: Vec<(IString, V)>,
+        pairs: Vec<(IString, V)>,
     ) -> Result<Table<V, H>, ReserveError>
         ensures pairs { IfOk result (λ table. table.store.pairs ≡ put_each [] pairs.items) }
         ensures capacity { IfOk result (λ table. table.store.capacity ≡ length pairs.items) }
         ensures too_large { (result ≡ Err ReserveError.TooLarge) ↔ (capacity_limit < length pairs.items) }
         ensures none { length pairs.items ≡ 0 → IsOk result }
     {
+        Table::from_pairs_counted(alloc, pairs, &mut Looks::new())
+    }
+
+    /// The same, and its looks are counted: each slot that it looks at for a key, each slot that it writes, each two entries that
+    /// sorting compares and each two keys that are compared there.
+    pub fn from_pairs_counted(
+        alloc: Global,
+        pairs: Vec<(IString, V)>,
+        looks: &mut Looks,
+    ) -> Result<Table<V, H>, ReserveError>
+        requires fits { looks.old + 2 ^ 72 < 2 ^ 128 }
+        ensures pairs { IfOk result (λ table. table.store.pairs ≡ put_each [] pairs.items) }
+        ensures capacity { IfOk result (λ table. table.store.capacity ≡ length pairs.items) }
+        ensures too_large { (result ≡ Err ReserveError.TooLarge) ↔ (capacity_limit < length pairs.items) }
+        ensures none { length pairs.items ≡ 0 → IsOk result }
+        ensures counted { OnOk result (looks.old + length pairs.items ≤ looks.new) }
+        ensures grows { looks.old ≤ looks.new }
+        ensures bounded { IsBuildBounded (length pairs.items) (looks.new - looks.old) }
+    {
+        let mut steps = 0;
+        let made = Table::from_first(alloc, pairs, &mut steps);
+        count_steps(looks, steps);
+        let (table, rest) = made?;
+        if rest.is_empty() {
+            return Ok(table);
+        }
+        Ok(table.with_rest_sorted(rest, looks)?)
+    }
+
+    /// The same up to a bound on the steps, which are counted: the store so far, with room for all, and the pairs that are left, last
+    /// first.
+    fn from_first(
+        alloc: Global,
+        mut pairs: Vec<(IString, V)>,
+        steps: &mut usize,
+    ) -> Result<(Table<V, H>, Vec<(IString, V)>), ReserveError>
+        requires { steps.old ≡ 0 }
+        ensures pairs { IfOk result (λ made. put_each made.0.store.pairs (reverse made.1.items) ≡ put_each [] pairs.items) }
+        ensures capacity { IfOk result (λ made. made.0.store.capacity ≡ length pairs.items) }
+        ensures room { IfOk result (λ made. length made.0.store.pairs + length made.1.items ≤ length pairs.items) }
+        ensures too_large { (result ≡ Err ReserveError.TooLarge) ↔ (capacity_limit < length pairs.items) }
+        ensures none { length pairs.items ≡ 0 → IsOk result × IfOk result (λ made. length made.1.items ≡ 0) }
+        ensures steps { steps.new ≤ 35 * length pairs.items }
+        ensures counted { OnOk result (length pairs.items ≤ steps.new) }
+    {
         let capacity = limited(pairs.len())?;
         tighten(alloc, &mut pairs)?;
         let mut index = Index::with_slots(alloc, capacity + capacity / 4)?;
-        let placed = add_new_keys::<V, H>(&pairs, &mut index);
-        let rest = split_rest(alloc, &mut pairs, placed)?;
+        let most = STEPS_A_PAIR * capacity;
+        let placed = add_new_keys::<V, H>(&pairs, &mut index, most, steps);
+        let mut rest = split_rest(alloc, &mut pairs, placed)?;
+        rest.reverse();
         let mut table = Table {
             pairs,
             index,
             alloc,
             hash: PhantomData,
         };
-        table.insert_each(rest);
-        Ok(table)
+        table.insert_each(&mut rest, most, steps);
+        Ok((table, rest))
     }
 
-    /// Inserts pairs one after the other, in the room that there is.
-    fn insert_each(&mut self, pairs: Vec<(IString, V)>)
-        requires { length self.old.store.pairs + length pairs.items ≤ self.old.store.capacity }
-        ensures pairs { self.new.store.pairs ≡ put_each self.old.store.pairs pairs.items }
+    /// Inserts pairs from the last one of a list on, in the room that there is, up to a bound on the steps.
+    fn insert_each(&mut self, rest: &mut Vec<(IString, V)>, most: usize, steps: &mut usize)
+        requires room { length self.old.store.pairs + length rest.old.items ≤ self.old.store.capacity }
+        requires limited { self.old.store.capacity ≤ capacity_limit }
+        requires most { most ≤ 2 ^ 62 }
+        requires steps { steps.old ≤ most + 2 * slot_count self.old.store.capacity }
+        ensures pairs { put_each self.new.store.pairs (reverse rest.new.items) ≡ put_each self.old.store.pairs (reverse rest.old.items) }
         ensures capacity { self.new.store.capacity ≡ self.old.store.capacity }
+        ensures room { length self.new.store.pairs + length rest.new.items ≤ self.old.store.capacity }
+        ensures steps { steps.new ≤ most + 2 * slot_count self.old.store.capacity }
+        ensures counted { steps.old + length rest.old.items ≤ steps.new + length rest.new.items }
+        ensures stops { 0 < length rest.new.items → most < steps.new }
     {
-        for (key, value) in pairs {
-            let inserted = self.insert(key, value);
-            drop(inserted.unwrap());
+        while *steps <= most {
+            let Some((key, value)) = rest.pop() else {
+                return;
+            };
+            *steps += self.insert_in_room(key, value);
         }
+    }
+
+    /// Inserts a pair in the room that there is, and answers the steps: each slot that it looks at, and each slot that it writes.
+    fn insert_in_room(&mut self, key: IString, value: V) -> usize
+        requires { length self.old.store.pairs < self.old.store.capacity }
+        ensures pairs { self.new.store.pairs ≡ put self.old.store.pairs key value }
+        ensures capacity { self.new.store.capacity ≡ self.old.store.capacity }
+        ensures steps { result ≤ 2 * slot_count self.old.store.capacity }
+        ensures counted { 1 + changes self.old.slots self.new.slots ≤ result }
+    {
+        let position = self.pairs.len();
+        let hash = H::hash(key.as_str());
+        let mut looks = Looks::new();
+        match self.find(hash, key.as_str(), &mut looks) {
+            Probed::Found(at, _) => {
+                drop(mem::replace(self.value_mut(at), value));
+                looks.count() as usize
+            }
+            Probed::Vacant(slot) => {
+                self.pairs.push_reserved((key, value));
+                looks.count() as usize + self.index.push_at(slot, position, hash)
+            }
+            Probed::Full => unreachable!(),
+        }
+    }
+
+    /// The store with more pairs put, from the last one of a list on, in the room that there is. It is made anew by sorting.
+    fn with_rest_sorted(
+        self,
+        rest: Vec<(IString, V)>,
+        looks: &mut Looks,
+    ) -> Result<Table<V, H>, AllocError>
+        requires some { 0 < length rest.items }
+        requires room { length self.store.pairs + length rest.items ≤ self.store.capacity }
+        requires fits { looks.old + 2 ^ 71 + 2 ^ 64 < 2 ^ 128 }
+        ensures pairs { IfOk result (λ table. table.store.pairs ≡ put_each self.store.pairs (reverse rest.items)) }
+        ensures capacity { IfOk result (λ table. table.store.capacity ≡ self.store.capacity) }
+        ensures grows { looks.old ≤ looks.new }
+        ensures bounded { (k : ℕ) → self.store.capacity ≤ 2 ^ k → looks.new ≤ looks.old + self.store.capacity * (1 + 2 * k) }
+    {
+        let alloc = self.alloc;
+        let mut index = self.index;
+        index.clear();
+        let mut pairs = self.pairs;
+        put_back(&mut pairs, rest);
+        let pairs = put_sorted::<V, H>(alloc, pairs, looks)?;
+        fill_sorted::<V, H>(alloc, &pairs, &mut index, looks)?;
+        Ok(Table {
+            pairs,
+            index,
+            alloc,
+            hash: PhantomData,
+        })
     }
 }
 
-/// Puts the positions of pairs into empty slots, up to the first pair whose key stands before it, and answers how many they are.
-fn add_new_keys<V, H: KeyHash>(pairs: &[(IString, V)], index: &mut Index) -> usize
-    requires { index.old.hashes ≡ [] }
+/// Puts items behind those of a list that has room for them, from the last one on.
+fn put_back<T: Drop>(list: &mut Vec<T>, mut rest: Vec<T>)
+    requires { length list.old.items + length rest.items ≤ vec_capacity list.old }
+    ensures items { list.new.items ≡ list.old.items ++ reverse rest.items }
+    ensures room { vec_capacity list.new ≡ vec_capacity list.old }
+{
+    while let Some(item) = rest.pop() {
+        list.push_reserved(item);
+    }
+}
+
+/// Counts so many steps as looks.
+fn count_steps(looks: &mut Looks, steps: usize)
+    requires { looks.old + steps < 2 ^ 128 }
+    ensures { looks.new ≡ looks.old + steps }
+{
+    for _step in 0..steps {
+        looks.add_one();
+    }
+}
+
+/// Puts the positions of pairs into empty slots, up to the first pair whose key stands before it, or to a bound on the steps, and
+/// answers how many they are. The steps are counted: each slot that it looks at, and each slot that it writes.
+fn add_new_keys<V, H: KeyHash>(
+    pairs: &[(IString, V)],
+    index: &mut Index,
+    most: usize,
+    steps: &mut usize,
+) -> usize
+    requires empty { index.old.hashes ≡ [] }
+    requires most { most ≤ 2 ^ 62 }
+    requires steps { steps.old ≡ 0 }
+    requires few { length index.old.slots ≤ 2 ^ 60 }
     ensures within { result ≤ length pairs.now }
     ensures placed { FirstPlaced H.hash_of pairs.now result index.new }
-    ensures stops { result < length pairs.now → result < length index.old.slots
+    ensures stops { result < length pairs.now → result < length index.old.slots → steps.new ≤ most
         → ComesAgain pairs.now result }
     ensures count { length index.new.slots ≡ length index.old.slots }
+    ensures steps { steps.new ≤ most + 2 * length index.old.slots }
+    ensures counted { result ≤ steps.new }
 {
     if index.len() == 0 {
         return 0;
     }
     let modulus = Modulus::new(index.len());
     for position in 0..pairs.len() {
-        if !add_new_key::<V, H>(pairs, index, modulus, position) {
+        if *steps > most || !add_new_key::<V, H>(pairs, index, modulus, position, steps) {
             return position;
         }
     }
     pairs.len()
 }
 
-/// Puts the next position into slots, where one is left and its key is none of those before, and answers whether it did.
+/// Puts the next position into slots, where one is left and its key is none of those before, and answers whether it did. The steps are
+/// counted.
 fn add_new_key<V, H: KeyHash>(
     pairs: &[(IString, V)],
     index: &mut Index,
     modulus: Modulus,
     position: usize,
+    steps: &mut usize,
 ) -> bool
     requires counted { modulus.count ≡ length index.old.slots }
     requires within { position < length pairs.now }
     requires placed { FirstPlaced H.hash_of pairs.now position index.old }
+    requires fits { steps.old + 2 * length index.old.slots < 2 ^ 64 }
     ensures placed { IsTrue result → FirstPlaced H.hash_of pairs.now (position + 1) index.new }
     ensures left { IsFalse result → index.new ≡ index.old }
     ensures stops { IsFalse result → position < length index.old.slots
         → ComesAgain pairs.now position }
     ensures count { length index.new.slots ≡ length index.old.slots }
+    ensures steps { steps.new ≤ steps.old + 2 * length index.old.slots }
+    ensures grows { steps.old ≤ steps.new }
+    ensures looked { position < length index.old.slots → steps.old + 1 ≤ steps.new }
+    ensures counted { IsTrue result → steps.old + 1 + changes index.old.slots index.new.slots ≤ steps.new }
 {
     if position >= index.len() {
         return false;
@@ -109,11 +269,15 @@ fn add_new_key<V, H: KeyHash>(
         hash,
         key,
     };
-    match probe(&lookup, &mut Looks::new()) {
+    let mut looks = Looks::new();
+    match probe(&lookup, &mut looks) {
         Probed::Vacant(slot) => {
-            index.push_at(slot, position, hash);
+            *steps += looks.count() as usize + index.push_at(slot, position, hash);
             true
         }
-        Probed::Found(..) | Probed::Full => false,
+        Probed::Found(..) | Probed::Full => {
+            *steps += looks.count() as usize;
+            false
+        }
     }
 }

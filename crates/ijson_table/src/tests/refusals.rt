@@ -224,6 +224,7 @@ fn lists_of_pairs(rt: HostRuntime) {
     takes_list::<AlwaysZero>(&rt, rt.alloc(), 5);
     takes_list::<FixedHash>(&rt, rt.alloc(), 5);
     takes_list::<FixedHash>(&rt, rt.alloc(), 10_000);
+    takes_list::<AlwaysZero>(&rt, rt.alloc(), 300);
 }
 
 /// One command that inserts the pair of 4.

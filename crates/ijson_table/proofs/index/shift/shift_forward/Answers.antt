@@ -1,15 +1,26 @@
-use Rattle.std.proofs.Common.{◌≡◌, ◌<◌, ℕ, ◌+◌, List, length, get_or, set, Option, Some, None, refl, arith, ap, sym, ◌∙◌, subst}
+use Rattle.std.proofs.Common.{◌≡◌, ◌<◌, ◌≤◌, ℕ, ◌+◌, List, length, get_or, set, Option, Some, None, refl, arith, ap, sym, ◌∙◌, subst}
 use Rattle.std.proofs.lemmas.List.{length-set}
 use Rattle.ijson_table.specs.declared.index.slot.Slot.{Slot}
 use Rattle.ijson_table.specs.Slots.{after}
+use Rattle.ijson_table.specs.private.Changes.{changes}
 use Rattle.ijson_table.specs.private.Holds.{Holds, MayStand, with_one}
 use Rattle.ijson_table.specs.private.Insertion.{Accepts}
 use Rattle.ijson_table.specs.private.SlotHashes.{position_in, positions, blank}
 use Rattle.ijson_table.proofs.arithmetic.Circular.{distance-below}
 use Rattle.ijson_table.proofs.shifting.SlotWrites.{put_down}
 use Rattle.ijson_table.proofs.shifting.Insertion.{Shifting, shift_more}
-use Rattle.ijson_table.proofs.slots.HashesInSlots.{positions-length, positions-put, position-at, hashes-at, hashes-set, has_own_hash}
+use Rattle.ijson_table.proofs.slots.HashesInSlots.{positions-length, positions-put, positions-set, position-at, hashes-at, hashes-set, has_own_hash}
+use Rattle.ijson_table.proofs.slots.SlotChanges.{changes-none, changes-set}
 use Rattle.ijson_table.proofs.index.shift.shift_forward.Goals as goal
+
+-- a slot that is written counts once
+one_more : (old : List (Option ℕ)) (slots : List Slot) (slot step : ℕ) (entry : Slot) → changes old (positions slots) ≤ step
+    → changes old (positions (set slots slot entry)) ≤ step + 1
+one_more old slots slot step entry few = omega (
+  arith,
+  ap (changes old) (positions-set slots slot entry),
+  changes-set old (positions slots) slot (position_in entry),
+)
 
 pub loop-step-init : goal.loop-step-init
 loop-step-init g c =
@@ -27,6 +38,7 @@ loop-step-init g c =
           ahead = (e.0, e.1, e.2, omega (arith, distance-below (length slots) c.args.from e.0 may.within e.1));
         },
       );
+      changes = omega (arith, changes-none slots);
       hash = has_own_hash g.hashes c.of-entry.result c.args.position c.of-entry.ensures.position
           (c.of-entry.ensures.hash ∙ accepts.hash_is);
       hashes = accepts.hashes_are;
@@ -46,12 +58,16 @@ pub returns-in_default-clause-holds : goal.returns-in_default-clause-holds
 returns-in_default-clause-holds g c =
     let i = c.loop-step.invariant.shifting in
     ended g.hashes (with_one
-    (positions c.args.slots.now) c.args.position) c.loop-step.slots c.loop-step.entry i.0 c.loop-step.slot c.loop-step._step i.1 i.2
+    (positions c.args.slots.now) c.args.position) c.loop-step.slots c.loop-step.entry i.0 c.loop-step.slot c.loop-step.step i.1 i.2
     (sym c.in_default.is ∙ c.position.ensures)
 
 pub returns-in_default-clause-hashes : goal.returns-in_default-clause-hashes
 returns-in_default-clause-hashes g c =
     hashes-set g.hashes c.loop-step.slots c.loop-step.slot c.loop-step.entry c.loop-step.invariant.hash c.loop-step.invariant.hashes
+
+pub returns-in_default-clause-changes : goal.returns-in_default-clause-changes
+returns-in_default-clause-changes g c =
+    one_more (positions c.args.slots.now) c.loop-step.slots c.loop-step.slot c.loop-step.step c.loop-step.entry c.loop-step.invariant.changes
 
 pub loop-step-preserved : goal.loop-step-preserved
 loop-step-preserved g c =
@@ -70,11 +86,12 @@ loop-step-preserved g c =
       shifting = (
         next,
         sym there,
-        subst (λ p. Shifting hashes want next p (c.loop-step._step + 1) (positions (set c.loop-step.slots slot c.loop-step.entry))) to
-            (subst (Shifting hashes want next (after (length slots) slot) (c.loop-step._step + 1))
+        subst (λ p. Shifting hashes want next p (c.loop-step.step + 1) (positions (set c.loop-step.slots slot c.loop-step.entry))) to
+            (subst (Shifting hashes want next (after (length slots) slot) (c.loop-step.step + 1))
             (sym (positions-put c.loop-step.slots slot c.loop-step.entry i.0 i.1))
-            (shift_more hashes want i.0 slot c.loop-step._step next slots i.2 (position-at c.loop-step.slots slot (Some next) here there))),
+            (shift_more hashes want i.0 slot c.loop-step.step next slots i.2 (position-at c.loop-step.slots slot (Some next) here there))),
       );
+      changes = one_more (positions c.args.slots.now) c.loop-step.slots slot c.loop-step.step c.loop-step.entry c.loop-step.invariant.changes;
       hash = hashes-at hashes c.loop-step.slots slot c.loop-step.invariant.hashes here;
       hashes = hashes-set hashes c.loop-step.slots slot c.loop-step.entry c.loop-step.invariant.hash c.loop-step.invariant.hashes;
     }

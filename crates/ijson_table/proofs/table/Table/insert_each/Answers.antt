@@ -1,27 +1,32 @@
-use Rattle.std.proofs.Common.{◌<◌, [], ◌∷◌, length, arith, ap, sym, ◌∙◌, length-append}
-use Rattle.std.proofs.lemmas.Iterator.Adapters.{YieldsList-from_vec}
-use Rattle.std.proofs.lemmas.Iterator.Consumers.{YieldsList-turn}
-use Rattle.ijson_table.specs.Store.{put}
-use Rattle.ijson_table.proofs.pairs.PutEach.{put_each-append, put-length, put_in_room}
+use Rattle.std.proofs.Common.{◌≡◌, ◌+◌, ◌*◌, ◌≤◌, ℕ, arith, List, [], ◌∷◌, length, reverse, ap, sym, subst, ◌∙◌, length-append}
+use Rattle.std.proofs.lemmas.List.{reverse-append}
+use Rattle.ijson_table.specs.Crowd.{slot_count}
+use Rattle.ijson_table.specs.Store.{put_each}
+use Rattle.ijson_table.proofs.pairs.PutEach.{put-length}
 use Rattle.ijson_table.proofs.table.Table.insert_each.Goals as goal
 
-pub loop-key-preserved : goal.loop-key-preserved
-loop-key-preserved g c =
-    let old = c.loop-key.self.store in
-    let new = c.insert-inserted.new.self.store in
-    let key = c.in-Some.key in
-    let value = c.in-Some.value in
-    let i = c.loop-key.invariant in
-    let gives = c.into_iter-key-iterator.ensures.into_iter_gives in
-    let turn = YieldsList-turn (YieldsList-from_vec c.args.pairs.items gives.0
-    (gives.1 ∙ c.args.pairs.ok.0)) c.loop-key.yielded c.loop-key.key-iterator c.loop-key.yielded_by c.next.result c.next.new.self
-    (key, value) c.in-Some.is c.next.ensures.steps in
-    let room : length old.pairs < old.capacity = omega (arith, turn.0, i.4, i.3, c.requires) in
-    let it = put_in_room old.pairs old.capacity key value c.insert-inserted.result new.pairs new.capacity room c.insert-inserted.ensures
-    in (
-      tt,
-      tt,
-      it.1 ∙ (ap (λ ps. put ps key value) i.2 ∙ sym (put_each-append c.args.self.now.store.pairs c.loop-key.yielded ((key, value) ∷ []))),
-      it.2 ∙ i.3,
-      omega (arith, ap length it.1, put-length old.pairs key value, i.4, length-append c.loop-key.yielded ((key, value) ∷ [])),
-    )
+pub overflow_add-steps : goal.overflow_add-steps
+overflow_add-steps g c =
+    let slots : slot_count c.loop-steps.self.store.capacity ≡ slot_count c.args.self.now.store.capacity =
+    ap slot_count c.loop-steps.invariant.capacity in
+    omega (arith, c.insert_in_room.ensures.steps, c.requires.most, c.requires.limited, c.loop-steps-test.true)
+
+pub loop-steps-preserved : goal.loop-steps-preserved
+loop-steps-preserved g c =
+    let before = c.loop-steps.self.store in
+    let i = c.loop-steps.invariant in
+    let left = c.pop.new.self.items in
+    let pair : List ℕ × g.row.V.Denot = (c.in-Some.key, c.in-Some.value) in
+    let slots = slot_count c.args.self.now.store.capacity in
+    let popped = c.in-Some.ensures.items in
+    let turned : reverse c.loop-steps.rest.items ≡ pair ∷ reverse left = ap reverse popped ∙ reverse-append left (pair ∷ []) in
+    let size : length c.loop-steps.rest.items ≡ length left + 1 = omega (arith, ap length popped, length-append left (pair ∷ [])) in
+    let few : c.insert_in_room.result ≤ 2 * slots = subst (λ n. c.insert_in_room.result ≤ 2 * slot_count n) i.capacity
+    c.insert_in_room.ensures.steps in
+    record {
+      pairs = ap (λ ps. put_each ps (reverse left)) c.insert_in_room.ensures.pairs ∙ (sym (ap (put_each before.pairs) turned) ∙ i.pairs);
+      capacity = c.insert_in_room.ensures.capacity ∙ i.capacity;
+      room = omega (arith, ap length c.insert_in_room.ensures.pairs, put-length before.pairs c.in-Some.key c.in-Some.value, i.room, size);
+      steps = omega (arith, few, c.loop-steps-test.true);
+      counted = omega (arith, i.counted, size, c.insert_in_room.ensures.counted);
+    }

@@ -1,13 +1,17 @@
-use Rattle.std.proofs.Common.{◌≡◌, ◌-◌, [], get_or, take, arith, ap, sym, ◌∙◌}
+use Rattle.std.proofs.Common.{◌≡◌, ℕ, ◌-◌, ◌%◌, ◌<◌, Bool, List, [], length, get_or, take, Option, arith, ap, sym, ◌∙◌}
+use Rattle.ijson_table.specs.declared.index.probe.Probed.{Probed}
+use Rattle.ijson_table.specs.declared.index.probe.Probed.TheVariants.{Found, Vacant, Full}
+use Rattle.ijson_table.specs.Slots.{displacement}
 use Rattle.ijson_table.specs.Store.{at, keys_of}
+use Rattle.ijson_table.specs.private.Lookup.{is_hashed_key}
+use Rattle.ijson_table.specs.private.Probe.{Ends}
 use Rattle.ijson_table.proofs.probing.FirstPairs.{comes_again, next_ends, next_placed}
 use Rattle.ijson_table.proofs.pairs.PairsByKey.{key_at}
 use Rattle.ijson_table.proofs.table.from_list.add_new_key.Goals as goal
 
 pub push_at-requires-clause-may : goal.push_at-requires-clause-may
 push_at-requires-clause-may g c =
-    (next_ends g.H.KeyHash.hash_of c.args.pairs.now c.args.position c.args.index.now c.requires.placed
-    c.requires.within c.hash-hash.result c.as_str-key.result.now (c.probe.new.looks - c.new.result) c.in-Vacant.slot
+    (next_ends g.H.KeyHash.hash_of c.args.pairs.now c.args.position c.args.index.now c.requires.placed c.requires.within c.hash-hash.result c.as_str-key.result.now (c.probe.new.looks - c.new-looks.result) c.in-Vacant.slot
     c.hash-hash.ensures c.len.ensures.table (omega (arith, c.if-position-len.false, c.len.ensures.count)) c.in-Vacant.ensures.ends).1
 
 pub returns-in-Vacant-clause-placed : goal.returns-in-Vacant-clause-placed
@@ -16,11 +20,9 @@ returns-in-Vacant-clause-placed g c = λ _.
     let pair = c.index-pairs-position.result in
     let key : c.as_str-key.result.now ≡ pair.0 = c.as_str-key.ensures ∙ ap (λ p. p.0) (sym c.index-pairs-position.is) in
     let hashed : c.hash-hash.result ≡ hash pair.0 = c.hash-hash.ensures ∙ ap hash key in
-    let missing = (next_ends hash c.args.pairs.now c.args.position c.args.index.now c.requires.placed
-    c.requires.within c.hash-hash.result c.as_str-key.result.now (c.probe.new.looks - c.new.result) c.in-Vacant.slot
+    let missing = (next_ends hash c.args.pairs.now c.args.position c.args.index.now c.requires.placed c.requires.within c.hash-hash.result c.as_str-key.result.now (c.probe.new.looks - c.new-looks.result) c.in-Vacant.slot
     c.hash-hash.ensures c.len.ensures.table (omega (arith, c.if-position-len.false, c.len.ensures.count)) c.in-Vacant.ensures.ends).0 in
-    next_placed hash c.args.pairs.now c.args.position c.args.index.now c.requires.placed c.requires.within pair c.hash-hash.result
-    c.push_at.new.self c.index-pairs-position.is hashed
+    next_placed hash c.args.pairs.now c.args.position c.args.index.now c.requires.placed c.requires.within pair c.hash-hash.result c.push_at.new.self c.index-pairs-position.is hashed
     (ap (at (take c.args.position c.args.pairs.now)) (sym key) ∙ missing) c.push_at.ensures.hashes
 
 pub returns-in-Found-clause-stops : goal.returns-in-Found-clause-stops
@@ -30,5 +32,21 @@ returns-in-Found-clause-stops g c = λ _ room none.
     let key : get_or (keys_of pairs) n [] ≡ c.as_str-key.result.now =
     key_at pairs n c.index-pairs-position.result c.requires.within ∙ sym c.as_str-key.ensures in
     comes_again g.H.KeyHash.hash_of pairs n c.args.index.now c.requires.placed c.requires.within c.hash-hash.result c.as_str-key.result.now
-    (c.probe.new.looks - c.new.result) c.probe.result
+    (c.probe.new.looks - c.new-looks.result) c.probe.result
     c.hash-hash.ensures c.len.ensures.table room c.probe.ensures.ends c.in-Found.is (ap (at (take n pairs)) (sym key) ∙ none)
+
+-- where there is a slot, a probe looks once at least
+some_look : (slots : List (Option ℕ)) (displacements : ℕ → ℕ) (h : ℕ) (seeks : ℕ → Bool) (looks : ℕ) (end : Probed)
+    → Ends slots displacements h seeks looks end → 0 < length slots → 0 < looks
+some_look slots displacements h seeks looks (Found at p) ends some = omega (arith, ends.1.looked)
+some_look slots displacements h seeks looks (Vacant p) ends some = omega (arith, ends.1.looked)
+some_look slots displacements h seeks looks Full ends some = omega (arith, ends.2)
+
+pub returns-in-Found-clause-looked : goal.returns-in-Found-clause-looked
+returns-in-Found-clause-looked g c left =
+    let slots = c.args.index.now.slots in
+    let hs = c.args.index.now.hashes in
+    let looked = some_look slots (displacement hs slots) (c.hash-hash.result % length slots)
+    (is_hashed_key hs (keys_of (take c.args.position c.args.pairs.now)) c.hash-hash.result c.as_str-key.result.now)
+    (c.probe.new.looks - c.new-looks.result) c.probe.result c.probe.ensures.ends (omega (arith, left)) in
+    omega (arith, looked, c.count-in-Found.ensures, c.new-looks.ensures)

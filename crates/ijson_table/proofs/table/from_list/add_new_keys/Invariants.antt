@@ -1,4 +1,4 @@
-use Rattle.std.proofs.Common.{◌≡◌, length}
+use Rattle.std.proofs.Common.{◌≡◌, ◌≤◌, ◌+◌, ◌*◌, length}
 use Rattle.ijson_table.specs.private.FirstPlaced.{FirstPlaced}
 use Rattle.ijson_table.proofs.table.from_list.add_new_keys.Given as goal
 
@@ -6,4 +6,6 @@ abbrev pub invariant-loop-position : goal.invariant-loop-position
 invariant-loop-position g l = record {
   placed : FirstPlaced g.H.KeyHash.hash_of l.pairs l.position l.index;
   count : length l.index.slots ≡ length l.fn.index.slots;
+  counted : l.position ≤ l.steps;
+  steps : l.steps ≤ l.most + 2 * length l.fn.index.slots;
 }

@@ -1,0 +1,2 @@
+pub mod BuildBounds
+pub mod EntriesInOrder

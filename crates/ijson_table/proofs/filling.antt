@@ -1,0 +1,4 @@
+pub mod HomesAscend
+pub mod Rotation
+pub mod Laying
+pub mod NoneEmpty

@@ -1,0 +1,4 @@
+pub mod KeyRuns
+pub mod KeyTies
+pub mod PlacesSoFar
+pub mod PutPlaces

@@ -1,0 +1,90 @@
+-- Where keys stand before and after pairs are put.
+use Rattle.std.proofs.Common.{◌≡◌, ◌≢◌, ℕ, zero, suc, ◌+◌, ◌<◌, ◌≤◌, inl, inr, arith, List, [], ◌∷◌, ◌++◌, length, get_or, Option}
+use Rattle.std.proofs.Common.{Some, None, cond, true, false, refl, sym, ap, ◌∙◌}
+use Rattle.std.specs.Prelude.{bytes_eq, option_map}
+use Rattle.std.specs.Cmp.Lexicographic.{bytes_decides}
+use Rattle.ijson_table.specs.Store.{at, keys_of, position_of, put, put_each}
+use Rattle.ijson_table.specs.laws.Store.{keys-with_value}
+use Rattle.ijson_table.proofs.pairs.KeyPositions.{same_key, shifted}
+use Rattle.ijson_table.proofs.pairs.PairsByKey.{put-present}
+use Rattle.ijson_table.proofs.pairs.PutEach.{put_each-append, put-length}
+
+-- the position of a key is the first where it stands
+pub position-least : (keys : List (List ℕ)) (key : List ℕ) (i : ℕ) → position_of keys key ≡ Some i → (j : ℕ) → j < length keys
+    → get_or keys j [] ≡ key → i ≤ j
+position-least [] key i e j lj same = absurd (omega arith)
+position-least (k ∷ ks) key i e zero lj same =
+    let here : Some 0 ≡ Some i =
+    sym (ap (λ b. cond b (Some 0) (option_map (λ i. i + 1) (position_of ks key))) ((bytes_decides k key).1 same)) ∙ e in
+    let zero_is : 0 ≡ i = cc in
+    omega arith
+position-least (k ∷ ks) key i e (suc j) lj same = elim (same_key k key) [
+  | inl s ↦
+      let here : Some 0 ≡ Some i = sym (ap (λ b. cond b (Some 0) (option_map (λ i. i + 1) (position_of ks key))) s.0) ∙ e in
+      let zero_is : 0 ≡ i = cc in
+      omega arith
+  | inr d ↦
+      let there : option_map (λ i. i + 1) (position_of ks key) ≡ Some i =
+      sym (ap (λ b. cond b (Some 0) (option_map (λ i. i + 1) (position_of ks key))) d.0) ∙ e in
+      let rest = shifted (position_of ks key) i there in
+      omega (arith, rest.2, position-least ks key rest.0 rest.1 j (omega arith) same)
+]
+
+module _ {V : Type 0} where
+  -- a pair that is put leaves where another key stands
+  at-put_other : (ps : List (List ℕ × V)) (k key : List ℕ) (v : V) → k ≢ key → at (put ps k v) key ≡ at ps key
+  at-put_other [] k key v ne = elim (same_key k key) [
+    | inl s ↦ absurd (ne s.1)
+    | inr d ↦ let none : Option ℕ = None in ap (λ b. cond b (Some 0) none) d.0
+  ]
+  at-put_other (p ∷ ps) k key v ne = elim (bytes_eq p.0 k) as
+      (λ b. at (cond b ((p.0, v) ∷ ps) (p ∷ put ps k v)) key ≡ at (p ∷ ps) key) [
+        | true ↦ refl
+        | false ↦ ap (λ o. cond (bytes_eq p.0 key) (Some 0) (option_map (λ i. i + 1) o)) (at-put_other ps k key v ne)
+      ]
+
+  -- and where a key stands that is there
+  pub at-put_kept : (ps : List (List ℕ × V)) (k key : List ℕ) (v : V) (i : ℕ) → at ps key ≡ Some i → at (put ps k v) key ≡ Some i
+  at-put_kept ps k key v i e = elim (same_key k key) [
+    | inl s ↦ ap (λ qs. at qs key) (put-present ps i k v (ap (at ps) s.1 ∙ e))
+        ∙ (ap (λ ks. position_of ks key) (keys-with_value ps i v) ∙ e)
+    | inr d ↦ at-put_other ps k key v d.1 ∙ e
+  ]
+
+  -- a new key stands last
+  pub at-put_new : (ps : List (List ℕ × V)) (key : List ℕ) (v : V) → at ps key ≡ None → at (put ps key v) key ≡ Some (length ps)
+  at-put_new [] key v e =
+      let none : Option ℕ = None in ap (λ b. cond b (Some 0) none) ((bytes_decides key key).1 refl)
+  at-put_new (p ∷ ps) key v e = elim (same_key p.0 key) [
+    | inl s ↦
+        let bad : ◌≡◌ {A = Option ℕ} (Some 0) None = sym (ap (λ b. cond b (Some 0) (option_map (λ i. i + 1) (at ps key))) s.0) ∙ e in cc
+    | inr d ↦
+        let there : option_map (λ i. i + 1) (at ps key) ≡ None =
+        sym (ap (λ b. cond b (Some 0) (option_map (λ i. i + 1) (at ps key))) d.0) ∙ e in
+        ap (λ b. at (cond b ((p.0, v) ∷ ps) (p ∷ put ps key v)) key) d.0
+        ∙ (ap (λ b. cond b (Some 0) (option_map (λ i. i + 1) (at (put ps key v) key))) d.0
+        ∙ (ap (option_map (λ i. i + 1)) (at-put_new ps key v (unshifted (at ps key) there)) ∙ ap Some (omega arith)))
+  ]
+    where
+      -- no position comes from none
+      unshifted : (o : Option ℕ) → option_map (λ i. i + 1) o ≡ None → o ≡ None
+      unshifted None e = refl
+      unshifted (Some j) e = cc
+
+  -- a key that none of the pairs has stands where it stood before they were put
+  pub at-put_each : (ps more : List (List ℕ × V)) (key : List ℕ) → ((j : ℕ) → j < length more → get_or (keys_of more) j [] ≢ key)
+      → at (put_each ps more) key ≡ at ps key
+  at-put_each ps [] key other = refl
+  at-put_each ps (pair ∷ more) key other =
+      at-put_each (put ps pair.0 pair.1) more key (λ j lj. other (suc j) (omega arith))
+      ∙ at-put_other ps pair.0 key pair.1 (other 0 (omega arith))
+
+  -- pairs that are put are so many more at most
+  pub put_each-length : (ps more : List (List ℕ × V)) → length (put_each ps more) ≤ length ps + length more
+  put_each-length ps [] = omega arith
+  put_each-length ps (pair ∷ more) = omega (arith, put_each-length (put ps pair.0 pair.1) more, put-length ps pair.0 pair.1)
+
+  -- one more pair is put last
+  pub put_each-more : (done : List (List ℕ × V)) (key : List ℕ) (value : V)
+      → put_each [] (done ++ (key, value) ∷ []) ≡ put (put_each [] done) key value
+  put_each-more done key value = put_each-append [] done ((key, value) ∷ [])

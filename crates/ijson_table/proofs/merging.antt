@@ -1,0 +1,2 @@
+pub mod MergeSteps
+pub mod MergedLists

@@ -1,0 +1,81 @@
+use Rattle.std.proofs.Common.{◌≡◌, ◌≢◌, ◌<◌, ℕ, length, get_or, Option, Some, None, arith, sym, ap, ◌∙◌}
+use Rattle.std.proofs.lemmas.Bool.Decides.{nat_tests}
+use Rattle.ijson_table.specs.Store.{keys_of}
+use Rattle.ijson_table.specs.private.SlotHashes.{blank, position_in}
+use Rattle.ijson_table.proofs.firsts.KeyRuns.{all_told, each_stands, is_position, new_run, run_begins, same_run}
+use Rattle.ijson_table.proofs.pairs.PairsByKey.{keys-length}
+use Rattle.ijson_table.proofs.sorting.first.first_positions.Given.{Over}
+use Rattle.ijson_table.proofs.sorting.first.first_positions.Goals as goal
+use Rattle.ijson_table.proofs.sorting.first.first_positions.Goals.{then-not-has_same_key, else-not-has_same_key, Start}
+
+-- each entry has a position
+stands : (g : Over) (c : Start g) (k : ℕ) → k < length c.args.sorted.now → position_in (get_or c.args.sorted.now k blank) ≢ None
+stands g c = each_stands (keys_of c.args.pairs.now) c.args.sorted.now c.requires.entries
+
+pub loop-entry-init : goal.loop-entry-init
+loop-entry-init g c =
+    let keys = keys_of c.args.pairs.now in
+    let sorted = c.args.sorted.now in
+    let is_some = c.if-is_empty.ensures in
+    record {
+      run = run_begins keys sorted c.requires.entries c.in_ok-firsts.firsts.items
+          (omega (arith, c.in_ok-firsts.ensures.len, c.in_ok-firsts.firsts.ok.0, keys-length c.args.pairs.now))
+          (grind (arith, nat_tests));
+      looked = omega arith;
+    }
+
+pub own_position-requires : goal.own_position-requires
+own_position-requires g c = elim c.if-not-has_same_key.branch [
+  | then-not-has_same_key w ↦ λ none.
+      stands g (goal.at.own_position-requires g c).Start c.loop-entry.entry-index c.loop-entry-test.true
+      (sym (ap position_in w.run-is) ∙ none)
+  | else-not-has_same_key w ↦ λ none.
+      let leads = c.loop-entry.invariant.run.leads in
+      let bad : ◌≡◌ {A = Option ℕ} (Some leads.0) None = sym leads.1.stands ∙ (sym (ap position_in w.run-is) ∙ none) in cc
+]
+
+pub own_position-requires-in-loop-entry : goal.own_position-requires-in-loop-entry
+own_position-requires-in-loop-entry g c =
+    stands g (goal.at.own_position-requires-in-loop-entry g c).Start c.loop-entry.entry-index c.loop-entry-test.true
+
+pub index_mut-requires : goal.index_mut-requires
+index_mut-requires g c =
+    omega (
+      arith,
+      is_position (keys_of c.args.pairs.now) c.args.sorted.now c.requires.entries
+          c.loop-entry.entry-index c.own_position-in-loop-entry.result c.loop-entry-test.true c.own_position-in-loop-entry.ensures,
+      c.loop-entry.invariant.run.count,
+      c.loop-entry.firsts.ok.0,
+    )
+
+pub loop-entry-preserved : goal.loop-entry-preserved
+loop-entry-preserved g c =
+    let keys = keys_of c.args.pairs.now in
+    let sorted = c.args.sorted.now in
+    let k : ℕ = c.loop-entry.entry-index in
+    let p : ℕ = c.own_position-in-loop-entry.result in
+    let q : ℕ = c.own_position.result in
+    let run = c.loop-entry.run in
+    let next = c.if-not-has_same_key.run in
+    let firsts = c.loop-entry.firsts.items in
+    let s = c.requires.entries in
+    record {
+      run = elim c.if-not-has_same_key.branch [
+        | then-not-has_same_key w ↦
+            new_run keys sorted s k p q run next firsts c.loop-entry-test.true c.loop-entry.invariant.run
+            c.own_position-in-loop-entry.ensures w.run-is c.own_position.ensures (λ both.
+            let yes_it_is = c.has_same_key.ensures.1 both in
+            let no_it_is = w.if-not-has_same_key.true in
+            cc (yes_it_is, no_it_is))
+        | else-not-has_same_key w ↦
+            same_run keys sorted s k p q run next firsts c.loop-entry-test.true c.loop-entry.invariant.run
+            c.own_position-in-loop-entry.ensures w.run-is c.own_position.ensures
+            (c.has_same_key.ensures.0 w.if-not-has_same_key.false).1
+      ];
+      looked = omega (arith, c.add_one.ensures, c.loop-entry.invariant.looked);
+    }
+
+pub returns-clause-firsts : goal.returns-clause-firsts
+returns-clause-firsts g c =
+    all_told (keys_of c.args.pairs.now) c.args.sorted.now c.requires.entries
+    c.loop-entry.entry-index c.loop-entry.run c.loop-entry.firsts.items c.loop-entry-test.false c.loop-entry.invariant.run

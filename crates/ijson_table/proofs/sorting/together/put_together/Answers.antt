@@ -1,0 +1,93 @@
+use Rattle.std.proofs.Common.{◌≡◌, ◌∷◌, ◌++◌, [], ◌+◌, length, vec_capacity, sym, ap, subst, ◌∙◌, arith, length-append}
+use Rattle.std.proofs.lemmas.Iterator.Adapters.{YieldsList-from_vec}
+use Rattle.std.proofs.lemmas.Iterator.Consumers.{YieldsList-turn, YieldsList-so_far}
+use Rattle.std.proofs.lemmas.List.{with_items_is}
+use Rattle.ijson_table.specs.Store.{with_value}
+use Rattle.ijson_table.proofs.firsts.PlacesSoFar.{PlacesSoFar, Turn, place_of, room, with_new, with_old, within}
+use Rattle.ijson_table.proofs.pairs.PairsByKey.{position_within}
+use Rattle.ijson_table.proofs.pairs.RunSteps.{map-same}
+use Rattle.ijson_table.proofs.sorting.together.put_together.Given.{Over}
+use Rattle.ijson_table.proofs.sorting.together.put_together.Goals as goal
+use Rattle.ijson_table.proofs.sorting.together.put_together.Goals.{then-first-position, else-first-position, After-index-first}
+
+-- what is known of a turn
+turn : (g : Over) (c : After-index-first g) → Turn c.args.pairs.items c.loop-pair.yielded c.loop-pair.list.items c.args.firsts.items
+    c.loop-pair.places.items c.in-Some.pair c.loop-pair.position c.index-first.result.now
+turn g c =
+    let gives = c.into_iter-pair-iterator.ensures.into_iter_gives in
+    let all = YieldsList-from_vec c.args.pairs.items gives.0 (gives.1 ∙ c.args.pairs.ok.0) in
+    let it = YieldsList-turn all c.loop-pair.yielded c.loop-pair.pair-iterator c.loop-pair.yielded_by c.next.result c.next.new.self
+    c.in-Some.pair c.in-Some.is c.next.ensures.steps in
+    record {
+      so_far = c.loop-pair.invariant.2;
+      more = it.0;
+      begins = sym (map-same c.loop-pair.yielded)
+          ∙ YieldsList-so_far all c.loop-pair.yielded c.loop-pair.pair-iterator c.loop-pair.yielded_by;
+      next = it.1;
+      at_end = c.loop-pair.invariant.3;
+      read = c.index-first.ensures;
+    }
+
+pub push_reserved-requires : goal.push_reserved-requires
+push_reserved-requires g c =
+    let t = turn g (goal.at.push_reserved-requires g c).After-index-first in
+    let short = room c.args.pairs.items c.args.firsts.items c.requires.firsts c.loop-pair.yielded c.loop-pair.list.items
+    c.loop-pair.places.items c.in-Some.pair c.loop-pair.position c.index-first.result.now t in
+    omega (arith, short, c.loop-pair.list.ok.0, c.requires.fits, c.loop-pair.invariant.4)
+
+pub index-requires : goal.index-requires
+index-requires g c =
+    let t = turn g (goal.at.index-requires g c).After-index-first in
+    let below = within c.args.pairs.items c.args.firsts.items c.requires.firsts c.loop-pair.yielded c.loop-pair.list.items
+    c.loop-pair.places.items c.in-Some.pair c.loop-pair.position c.index-first.result.now t c.if-first-position.false in
+    omega (arith, below, c.loop-pair.places.ok.0)
+
+pub replace_value-requires : goal.replace_value-requires
+replace_value-requires g c =
+    let list = c.loop-pair.list.items in
+    let t = turn g (goal.at.replace_value-requires g c).After-index-first in
+    let found = place_of c.args.pairs.items c.args.firsts.items c.requires.firsts c.loop-pair.yielded list c.loop-pair.places.items
+    c.in-Some.pair c.loop-pair.position c.index-first.result.now t c.if-first-position.false c.index.result.now c.index.ensures in
+    omega (arith, position_within list c.in-Some.pair.0 c.index.result.now found, ap length c.deref_mut.ensures.value)
+
+pub loop-pair-preserved : goal.loop-pair-preserved
+loop-pair-preserved g c =
+    let all = c.args.pairs.items in
+    let firsts = c.args.firsts.items in
+    let done = c.loop-pair.yielded in
+    let list = c.loop-pair.list.items in
+    let list' = c.if-first-position.list.items in
+    let places = c.loop-pair.places.items in
+    let places' = c.if-first-position.places.items in
+    let pair = c.in-Some.pair in
+    let position = c.loop-pair.position in
+    let first = c.index-first.result.now in
+    let i = c.loop-pair.invariant in
+    let t = turn g (goal.at.loop-pair-preserved g c).After-index-first in
+    let size : position + 1 ≡ length (done ++ pair ∷ []) = omega (arith, i.3, length-append done (pair ∷ [])) in
+    elim c.if-first-position.branch [
+      | then-first-position w ↦ (
+        tt,
+        tt,
+        with_new all firsts c.requires.firsts done list places pair position first t w.if-first-position.true list' places' w.len.result
+            (ap (λ v. v.items) w.list-is ∙ w.push_reserved.ensures.items) (ap (λ v. v.items) w.places-is)
+            (w.len.ensures ∙ c.loop-pair.list.ok.0),
+        size,
+        ap vec_capacity w.list-is ∙ (w.push_reserved.ensures.capacity ∙ i.4),
+      )
+      | else-first-position w ↦
+          let lent : w.deref_mut.result.now ≡ list = w.deref_mut.ensures.value in
+          let back : w.replace_value.new.list ≡ with_value list w.index.result.now pair.1 =
+          w.replace_value.ensures ∙ ap (λ ps. with_value ps w.index.result.now pair.1) lent in
+          let list_is : list' ≡ with_value list w.index.result.now pair.1 =
+          ap (λ v. v.items) w.list-is ∙ (with_items_is c.loop-pair.list w.replace_value.new.list
+          (omega (arith, w.replace_value.auto.list, ap length lent, c.loop-pair.list.ok.0)) ∙ back) in (
+            tt,
+            tt,
+            subst (PlacesSoFar all (done ++ pair ∷ []) list' firsts) (sym (ap (λ v. v.items) w.places-is))
+                (with_old all firsts c.requires.firsts done list places pair position first t w.if-first-position.false list'
+                w.index.result.now w.index.ensures list_is),
+            size,
+            ap vec_capacity w.list-is ∙ i.4,
+          )
+    ]

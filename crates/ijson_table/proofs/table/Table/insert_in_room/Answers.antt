@@ -1,0 +1,59 @@
+use Rattle.std.proofs.Common.{◌≡◌, ℕ, ◌+◌, ◌<◌, [], ◌∷◌, ◌++◌, List, length, Option, arith, ap, sym, ◌∙◌, subst, Some, None}
+use Rattle.std.proofs.lemmas.Bool.Decides.{nat_tests}
+use Rattle.ijson_table.specs.Crowd.{slot_count}
+use Rattle.ijson_table.specs.Placed.{Placed}
+use Rattle.ijson_table.specs.Slots.{IsTable}
+use Rattle.ijson_table.specs.Store.{at, keys_of, with_value, IsDistinct}
+use Rattle.ijson_table.specs.private.Holds.{HasEmpty}
+use Rattle.ijson_table.proofs.pairs.PairsByKey.{distinct_pushed, position_within, put-present, put-absent}
+use Rattle.ijson_table.proofs.probing.KeyHashes.{length-hashes}
+use Rattle.ijson_table.proofs.shifting.Insertion.{some_empty}
+use Rattle.ijson_table.proofs.slots.SlotChanges.{changes-none}
+use Rattle.ijson_table.proofs.table.Table.insert_in_room.Goals as goal
+
+-- slots of which there are more than keys are not full
+left_empty : (hashes : List ℕ) (slots : List (Option ℕ)) → IsTable hashes slots → length hashes < length slots → HasEmpty slots
+left_empty hashes slots table room = some_empty slots (length hashes + 1) (length hashes) (λ i. grind (arith, nat_tests, table.placed i))
+    (omega arith) (grind (arith, nat_tests, table.placed (length hashes))) (omega (arith, room))
+
+pub value_mut-requires : goal.value_mut-requires
+value_mut-requires g c = position_within c.args.self.now.store.pairs c.as_str-2.result.now c.in-Found.at c.in-Found.ensures.ends
+
+pub invariant_of-self-inside : goal.invariant_of-self-inside
+invariant_of-self-inside g c =
+    let old = c.self.inside.pairs.items in
+    let pairs = c.args.self.now.store.pairs in
+    let viewed : old ≡ pairs = ap (λ (t : Placed g.row.V.Denot). t.store.pairs) c.self.view_is in
+    let now : c.push_reserved.new.self.items ≡ old ++ (c.args.key, c.args.value) ∷ [] = c.push_reserved.ensures.items in
+    let missing : at old c.args.key ≡ None = ap (λ ps. at ps c.args.key) viewed
+    ∙ (ap (at pairs) (sym c.as_str-2.ensures) ∙ c.in-Vacant.ensures.ends.0) in
+    (subst (λ ps. IsDistinct (keys_of ps)) (sym now) (distinct_pushed old c.args.key c.args.value c.self.inside.distinct missing), tt)
+
+pub unreachable-requires : goal.unreachable-requires
+unreachable-requires g c =
+    let pairs = c.args.self.now.store.pairs in
+    let size : length c.args.self.now.slots ≡ slot_count c.args.self.now.store.capacity =
+    subst (λ (t : Placed g.row.V.Denot). length t.slots ≡ slot_count t.store.capacity) c.self.view_is c.self.invariant.size in
+    c.in-Full.ensures.ends.1 (left_empty _ c.args.self.now.slots c.in-Full.ensures.table
+    (omega (arith, size, c.requires, length-hashes g.H.KeyHash.hash_of pairs)))
+
+pub returns-in-Found-clause-pairs : goal.returns-in-Found-clause-pairs
+returns-in-Found-clause-pairs g c =
+    let pairs = c.args.self.now.store.pairs in
+    let found : at pairs c.args.key ≡ Some c.in-Found.at = ap (at pairs) (sym c.as_str-2.ensures) ∙ c.in-Found.ensures.ends in
+    ap (with_value pairs c.in-Found.at) c.replace.ensures.after ∙ sym (put-present pairs c.in-Found.at c.args.key c.args.value found)
+
+pub returns-in-Vacant-clause-pairs : goal.returns-in-Vacant-clause-pairs
+returns-in-Vacant-clause-pairs g c =
+    let pairs = c.args.self.now.store.pairs in
+    let viewed : c.self.inside.pairs.items ≡ pairs = ap (λ (t : Placed g.row.V.Denot). t.store.pairs) c.self.view_is in
+    let missing : at pairs c.args.key ≡ None = ap (at pairs) (sym c.as_str-2.ensures) ∙ c.in-Vacant.ensures.ends.0 in
+    c.push_reserved.ensures.items ∙ (ap (λ ps. ps ++ (c.args.key, c.args.value) ∷ []) viewed
+    ∙ sym (put-absent pairs c.args.key c.args.value missing))
+
+pub returns-in-Found-clause-counted : goal.returns-in-Found-clause-counted
+returns-in-Found-clause-counted g c =
+    let size : length c.args.self.now.slots ≡ slot_count c.args.self.now.store.capacity =
+    subst (λ (t : Placed g.row.V.Denot). length t.slots ≡ slot_count t.store.capacity) c.self.view_is c.self.invariant.size in
+    let some : 0 < length c.args.self.now.slots = omega (arith, size, c.requires) in
+    omega (arith, changes-none c.args.self.now.slots, c.in-Found.ensures.bounded.some_look some, c.count.ensures, c.new-looks.ensures)
