@@ -6,6 +6,7 @@
 //! - `probe`: the one walk over the slots, which each look-up and each shift begins with.
 //! - `shift`: how the residents of slots move, in insertion, removal and growth.
 //! - `fill`: how a table is filled from entries that are sorted by home.
+//! - `copy`: how a table comes to have another count of slots.
 
 ghost use Rattle.std.specs.Prelude.{◌≡◌, ◌+◌, ◌<◌, ◌≤◌, [], ◌∷◌, ◌++◌, length, get_or, vec_capacity, None, IfOk, OnErr};
 ghost use Rattle.std.specs.List.{All, remove, swap_remove as swapped_out};
@@ -15,14 +16,15 @@ ghost use Rattle.ijson_table.specs.private.Holds.{MayStand};
 ghost use Rattle.ijson_table.specs.private.Insertion.{EndsWith};
 ghost use Rattle.ijson_table.specs.private.SlotHashes.{position_in, HasHash};
 
+mod copy;
 mod fill;
 pub mod places;
 pub mod probe;
 mod shift;
 pub mod slot;
 
-use crate::growth::{list_with_room, tighten};
-use crate::index::shift::{rehash, shift_forward, shift_remove, swap_remove, vacancy};
+use crate::growth::list_with_room;
+use crate::index::shift::{shift_forward, shift_remove, swap_remove, vacancy};
 use crate::index::slot::Slot;
 use std::alloc::{AllocError, Global};
 use std::marker::Model;
@@ -127,34 +129,6 @@ impl Index {
         ensures count { length self.new.slots ≡ length self.old.slots }
     {
         shift_remove(&mut self.slots, position, hash, last);
-    }
-
-    /// The same positions among so many slots, which have room for each. Where there are as many here, the slots are copied as they
-    /// are. Room for none takes no memory.
-    pub fn copy_with_slots(&self, alloc: Global, count: usize) -> Result<Index, AllocError>
-        requires { length self.now.hashes ≤ count }
-        ensures hashes { IfOk result (λ index. index.hashes ≡ self.now.hashes) }
-        ensures count { IfOk result (λ index. length index.slots ≡ count) }
-        ensures refused { OnErr result (0 < count) }
-    {
-        if count > 0 && count == self.slots.len() {
-            let mut slots = Vec::from_slice(alloc, &self.slots)?;
-            tighten(alloc, &mut slots)?;
-            return Ok(Index { slots });
-        }
-        let mut index = Index::with_slots(alloc, count)?;
-        index.rehash_from(self);
-        Ok(index)
-    }
-
-    /// Puts the positions of other slots into these, which are empty and have room for each.
-    pub fn rehash_from(&mut self, other: &Index)
-        requires empty { self.old.hashes ≡ [] }
-        requires room { length other.now.hashes ≤ length self.old.slots }
-        ensures hashes { self.new.hashes ≡ other.now.hashes }
-        ensures count { length self.new.slots ≡ length self.old.slots }
-    {
-        rehash(&other.slots, &mut self.slots);
     }
 
     /// Makes each slot empty.

@@ -90,15 +90,17 @@ pub trait PairStore<V>: Sized {
 
     /// Makes room for so many more pairs. Where they have none, the capacity becomes the greatest of twice the old one,
     /// the length with them, and 4. So pairs that are put one by one take room for 4, 8, 16 and so on, and each of them
-    /// constant time on average. A growth moves each pair once. Refused, the store is as it was: `TooLarge` where the capacity
-    /// would pass 2^56, `Memory` where it was not granted.
+    /// constant time on average. A growth moves each pair once. A table fills new slots then, in time linear in both capacities
+    /// where few keys crowd. Where many do, it sorts entries of 16 bytes for each pair, in memory that it gives back: so whatever
+    /// the keys are, it takes time n log n at most. Refused, the store is as it was: `TooLarge` where the capacity would pass
+    /// 2^56, `Memory` where it was not granted.
     fn reserve(&mut self, additional: usize) -> Result<(), ReserveError>
         ensures grown { Grow (length (pairs self.old)) (room self.old) additional result (room self.new) }
         ensures room { OnOk result (length (pairs self.new) + additional ≤ room self.new) }
         ensures pairs { pairs self.new ≡ pairs self.old };
 
-    /// Makes the capacity the length. That takes no memory where it is so already or the length is 0. Each pair is moved once.
-    /// Refused, the store is as it was.
+    /// Makes the capacity the length. That takes no memory where it is so already or the length is 0. Each pair is moved once,
+    /// and a table fills new slots as in growth. Refused, the store is as it was.
     fn shrink_to_fit(&mut self) -> Result<(), ReserveError>
         ensures room { Shrink (length (pairs self.old)) (room self.old) result (room self.new) }
         ensures pairs { pairs self.new ≡ pairs self.old };

@@ -76,7 +76,7 @@ impl<V: Drop, H: KeyHash> Table<V, H> {
 
     /// A store of pairs with the same keys in the same order, for a copy of this one: it has room for them alone, and no key
     /// is hashed again. Room for none takes no memory. Where memory is refused, the pairs are dropped. It takes time linear in
-    /// the capacities of both.
+    /// the capacities of both where few keys crowd. Where many do, the slots are filled by sorting, as in growth.
     pub fn with_same_keys(
         &self,
         alloc: Global,
@@ -88,7 +88,8 @@ impl<V: Drop, H: KeyHash> Table<V, H> {
         ensures refused { OnErr result (0 < length pairs.items) }
     {
         let capacity = pairs.len();
-        let index = self.index.copy_with_slots(alloc, capacity + capacity / 4)?;
+        let slots = capacity + capacity / 4;
+        let index = self.index.copy_with_slots(alloc, self.pairs.len(), slots)?;
         tighten(alloc, &mut pairs)?;
         Ok(Table {
             pairs,
@@ -291,9 +292,9 @@ impl<V: Drop, H: KeyHash> PairStore<V> for Table<V, H> {
             return Ok(());
         }
         let capacity = grown_capacity(len, room, additional)?;
-        let mut index = Index::with_slots(self.alloc, capacity + capacity / 4)?;
+        let slots = capacity + capacity / 4;
+        let index = self.index.copy_with_slots(self.alloc, len, slots)?;
         self.pairs.reserve_exact(capacity - len)?;
-        index.rehash_from(&self.index);
         self.index = index;
         Ok(())
     }
@@ -303,9 +304,8 @@ impl<V: Drop, H: KeyHash> PairStore<V> for Table<V, H> {
         if self.pairs.capacity() == len {
             return Ok(());
         }
-        let mut index = Index::with_slots(self.alloc, len + len / 4)?;
+        let index = self.index.copy_with_slots(self.alloc, len, len + len / 4)?;
         fit(self.alloc, &mut self.pairs)?;
-        index.rehash_from(&self.index);
         self.index = index;
         Ok(())
     }

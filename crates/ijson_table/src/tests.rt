@@ -1,5 +1,6 @@
 //! Each store by commands, and tables worked by hand.
 
+mod copies;
 mod crowds;
 mod lists;
 mod refusals;

@@ -1,6 +1,6 @@
-//! How the residents of slots move: insertion, backward shift and rehash.
+//! How the residents of slots move: insertion, backward shift and rehash, whose steps are counted.
 
-ghost use Rattle.std.specs.Prelude.{◌≡◌, ℕ, ◌+◌, ◌<◌, ◌≤◌, ◌%◌, ◌^◌, List, length, get_or, map, Some, None};
+ghost use Rattle.std.specs.Prelude.{◌≡◌, ℕ, ◌+◌, ◌*◌, ◌<◌, ◌≤◌, ◌%◌, ◌^◌, List, length, get_or, map, Some, None, IsTrue, IsFalse};
 ghost use Rattle.ijson_table.specs.Slots.{below, resident, times, IsOrdered};
 ghost use Rattle.ijson_table.specs.private.Changes.{changes};
 ghost use Rattle.ijson_table.specs.private.Closing.{closed};
@@ -10,6 +10,7 @@ ghost use Rattle.ijson_table.specs.private.SlotHashes.{displacement_in, position
 ghost use Rattle.ijson_table.specs.private.Probe.{IsVacancy};
 ghost use Rattle.std.specs.List.{All, remove, swap_remove as swapped_out};
 
+use crate::index::clear_slots;
 use crate::index::places::Seen;
 use crate::index::probe::{ProbeTarget, Probed, next_slot, probe};
 use crate::index::slot::{Modulus, Slot};
@@ -60,14 +61,25 @@ pub fn vacancy(slots: &[Slot], hash: u64) -> usize
     requires { HasEmpty (positions slots.now) }
     ensures { IsVacancy (displacement_in slots.now) (length slots.now) (hash % length slots.now) result }
 {
+    vacancy_counted(slots, hash).0
+}
+
+/// The same, and how many slots the probe looks at.
+fn vacancy_counted(slots: &[Slot], hash: u64) -> (usize, u128)
+    requires { HasEmpty (positions slots.now) }
+    ensures vacancy { IsVacancy (displacement_in slots.now) (length slots.now) (hash % length slots.now) result.0 }
+    ensures within { result.1 ≤ length slots.now }
+    ensures few { (n : ℕ) → ((i : ℕ) → times i (positions slots.now) ≤ below n i) → result.1 ≤ n + 1 }
+{
     let newcomer = HashProbe {
         slots,
         modulus: Modulus::new(slots.len()),
         hash,
         position: None,
     };
-    match probe(&newcomer, &mut Looks::new()) {
-        Probed::Vacant(slot) => slot,
+    let mut looks = Looks::new();
+    match probe(&newcomer, &mut looks) {
+        Probed::Vacant(slot) => (slot, looks.count()),
         Probed::Found(..) | Probed::Full => unreachable!(),
     }
 }
@@ -101,6 +113,7 @@ pub fn shift_forward(slots: &mut [Slot], from: usize, position: usize, hash: u64
     ensures hashes { HaveHashes hashes slots.new }
     ensures written { result ≤ length slots.old }
     ensures changes { changes (positions slots.old) (positions slots.new) ≤ result }
+    ensures few { (n : ℕ) → ((i : ℕ) → with_one (positions slots.old) position i ≤ below n i) → result ≤ n }
 {
     let mut entry = Slot::of(position, hash);
     let mut slot = from;
@@ -116,15 +129,18 @@ pub fn shift_forward(slots: &mut [Slot], from: usize, position: usize, hash: u64
     unreachable!()
 }
 
-/// Puts a position into the slots, one of which is empty. Its key has this hash.
-fn insert(slots: &mut [Slot], position: usize, hash: u64)
+/// Puts a position into the slots, one of which is empty. Its key has this hash. Answers the steps: each slot that it looks at, and
+/// each one that it writes.
+fn insert(slots: &mut [Slot], position: usize, hash: u64) -> u128
     ghost hashes: { List ℕ }
     requires { Accepts hashes slots.old position hash }
     ensures holds { Holds hashes (with_one (positions slots.old) position) None (positions slots.new) }
     ensures hashes { HaveHashes hashes slots.new }
+    ensures changes { changes (positions slots.old) (positions slots.new) ≤ result }
+    ensures few { (n : ℕ) → ((i : ℕ) → with_one (positions slots.old) position i ≤ below n i) → result ≤ 2 * n + 1 }
 {
-    let slot = vacancy(slots, hash);
-    shift_forward(slots, slot, position, hash);
+    let (slot, looked) = vacancy_counted(slots, hash);
+    looked + shift_forward(slots, slot, position, hash) as u128
 }
 
 /// Moves the residents behind a gap one slot back each, up to an empty slot or a resident at its home.
@@ -222,34 +238,52 @@ fn wrapped(slots: &[Slot]) -> usize
     slots.len()
 }
 
-/// Puts what stands at these slots into others, one by one.
-fn insert_each(from: &[Slot], slots: &mut [Slot])
+/// Puts what stands at these slots into others, one by one, up to a bound on the steps, which are counted. Answers whether it put
+/// all of it.
+fn insert_each(from: &[Slot], slots: &mut [Slot], most: u128, steps: &mut u128) -> bool
     ghost hashes: { List ℕ }
-    requires { AcceptsEach hashes slots.old from.now }
+    requires accepts { AcceptsEach hashes slots.old from.now }
+    requires fits { most + 3 * length hashes < 2 ^ 128 }
+    requires steps { steps.old ≤ most + 3 * length hashes }
     ensures ordered { IsOrdered hashes (positions slots.new) }
-    ensures placed { (i : ℕ) → times i (positions slots.new)
+    ensures placed { IsTrue result → (i : ℕ) → times i (positions slots.new)
         ≡ times i (positions slots.old) + times i (positions from.now) }
     ensures hashes { HaveHashes hashes slots.new }
+    ensures steps { steps.new ≤ most + 3 * length hashes }
 {
     for index in 0..from.len() {
         let entry = from[index];
         let Some(position) = entry.position() else {
             continue;
         };
-        insert(slots, position, entry.hash());
+        if *steps > most {
+            return false;
+        }
+        *steps += insert(slots, position, entry.hash());
     }
+    true
 }
 
 /// Puts what stands at the slots of a table into empty ones. It goes by their order, from the first resident that did
-/// not go round the end, so residents with the same home stay in their order. It goes to the memory of no key.
-pub fn rehash(old: &[Slot], slots: &mut [Slot])
+/// not go round the end, so residents with the same home stay in their order. It goes to the memory of no key. The steps are counted,
+/// and past a bound it stops: then it makes the slots empty again, and answers that it did not put all.
+pub fn rehash(old: &[Slot], slots: &mut [Slot], most: u128, steps: &mut u128) -> bool
     ghost hashes: { List ℕ }
     requires table { IsTableOf hashes old.now }
     requires empty { All (λ slot. position_in slot ≡ None) slots.old }
     requires room { length hashes ≤ length slots.old }
-    ensures { IsTableOf hashes slots.new }
+    requires fits { most + 3 * length hashes < 2 ^ 128 }
+    requires steps { steps.old ≡ 0 }
+    ensures table { IsTrue result → IsTableOf hashes slots.new }
+    ensures empty { IsFalse result → All (λ slot. position_in slot ≡ None) slots.new }
+    ensures steps { steps.new ≤ most + 3 * length hashes }
 {
     let start = wrapped(old);
-    insert_each(&old[start..], slots);
-    insert_each(&old[..start], slots);
+    if insert_each(&old[start..], slots, most, steps) {
+        if insert_each(&old[..start], slots, most, steps) {
+            return true;
+        }
+    }
+    clear_slots(slots);
+    false
 }

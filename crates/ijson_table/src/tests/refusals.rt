@@ -62,7 +62,7 @@ fn has_pair<P: PairStore<u16>>(rt: &impl Abort, alloc: Global, store: &P, number
 }
 
 /// Whether a store has so many pairs and this capacity. Of more than nine pairs it looks at the last and ten others.
-fn holds<P: PairStore<u16>>(
+pub fn holds<P: PairStore<u16>>(
     rt: &impl Abort,
     alloc: Global,
     store: &P,
@@ -189,6 +189,7 @@ fn bears_refusals_of_many<S: Store>(rt: &impl Abort, alloc: Global, count: u16) 
 fn stores_of_many_pairs(rt: HostRuntime) {
     bears_refusals_of_many::<LinearPairs<u16>>(&rt, rt.alloc(), 2_000);
     bears_refusals_of_many::<FixedTable<u16>>(&rt, rt.alloc(), 10_000);
+    bears_refusals_of_many::<Table<u16, AlwaysZero>>(&rt, rt.alloc(), 200);
 }
 
 /// A list of so many pairs, and the first of them once more.

@@ -1,6 +1,6 @@
-use Rattle.std.proofs.Common.{◌≡◌, ◌<◌, ◌≤◌, ◌+◌, ℕ, suc, List, length, get_or, take, Option, None, Some, arith, ap, sym, ◌∙◌}
+use Rattle.std.proofs.Common.{◌≡◌, ◌<◌, ◌≤◌, ◌+◌, ◌*◌, ℕ, suc, List, length, get_or, take, Option, None, Some, arith, ap, sym, ◌∙◌}
 use Rattle.std.proofs.lemmas.Bool.Decides.{nat_tests}
-use Rattle.ijson_table.specs.private.Holds.{one_if, HasEmpty}
+use Rattle.ijson_table.specs.private.Holds.{one_if, with_one, HasEmpty}
 use Rattle.ijson_table.specs.Slots.{resident, times, below}
 use Rattle.ijson_table.specs.private.SlotHashes.{position_in, positions, blank}
 use Rattle.ijson_table.proofs.shifting.Insertion.{some_empty}
@@ -36,8 +36,20 @@ has_empty count first from slots index k lt at once placed room =
     ) in
     some_empty slots count k few lk none room
 
+-- the steps of one insertion
+inserted : (count : ℕ) (first from slots : List (Option ℕ)) (index k steps : ℕ) → index < length from → resident from index ≡ Some k
+    → ((i : ℕ) → times i first + times i from ≤ below count i)
+    → ((i : ℕ) → times i slots ≡ times i first + times i (take index from))
+    → (((i : ℕ) → with_one slots k i ≤ below count i) → steps ≤ 2 * count + 1) → steps ≤ 3 * count
+inserted count first from slots index k steps lt at once placed few =
+    let all : (i : ℕ) → with_one slots k i ≤ below count i =
+    λ i. omega (arith, placed i, next i from index (Some k) lt at, times-split i from (index + 1), once i) in
+    let some : 1 ≤ times k from = times-some k from index lt at in
+    let lk : k < count = grind (arith, nat_tests, once k, some) in
+    omega (arith, few all, lk)
+
 pub loop-index-init : goal.loop-index-init
-loop-index-init g c = record { ordered = c.requires.ordered; placed = λ i. omega (arith, times-nil i); hashes = c.requires.hashes_are }
+loop-index-init g c = record { ordered = c.requires.0.ordered; placed = λ i. omega (arith, times-nil i); hashes = c.requires.0.hashes_are; steps = c.requires.1.1 }
 
 pub loop-index-preserved-in_default : goal.loop-index-preserved-in_default
 loop-index-preserved-in_default g c =
@@ -53,6 +65,7 @@ loop-index-preserved-in_default g c =
             (omega (arith, c.loop-index-test.true, positions-length c.args.from.now)) at,
       );
       hashes = c.loop-index.invariant.hashes;
+      steps = c.loop-index.invariant.steps;
     }
 
 pub insert-requires : goal.insert-requires
@@ -64,20 +77,20 @@ insert-requires g c =
     let inside : c.loop-index.index < length (positions c.args.from.now) =
     omega (arith, c.loop-index-test.true, positions-length c.args.from.now) in
     let few : times c.in-Some.position (positions c.args.from.now) ≤ below (length g.hashes) c.in-Some.position =
-    omega (arith, c.requires.once c.in-Some.position) in
+    omega (arith, c.requires.0.once c.in-Some.position) in
     let below_all : c.in-Some.position < length g.hashes =
     grind (arith, nat_tests, few, times-some c.in-Some.position (positions c.args.from.now) c.loop-index.index inside at) in
     record {
-      fits = omega (arith, below_all, c.requires.room, c.loop-index.auto.slots);
+      fits = omega (arith, below_all, c.requires.0.room, c.loop-index.auto.slots);
       hash_is = c.hash.ensures
-          ∙ hashes-at g.hashes c.args.from.now c.loop-index.index c.requires.from_hashes c.loop-index-test.true c.in-Some.position
+          ∙ hashes-at g.hashes c.args.from.now c.loop-index.index c.requires.0.from_hashes c.loop-index-test.true c.in-Some.position
           (sym here);
       hashes_are = c.loop-index.invariant.hashes;
       ordered = c.loop-index.invariant.ordered;
       empty = has_empty (length g.hashes) (positions c.args.slots.now) (positions c.args.from.now)
           (positions c.loop-index.slots) c.loop-index.index c.in-Some.position inside at
-          c.requires.once c.loop-index.invariant.placed (omega
-          (arith, c.requires.room, c.loop-index.auto.slots, positions-length c.loop-index.slots));
+          c.requires.0.once c.loop-index.invariant.placed (omega
+          (arith, c.requires.0.room, c.loop-index.auto.slots, positions-length c.loop-index.slots));
     }
 
 pub loop-index-preserved : goal.loop-index-preserved
@@ -96,4 +109,17 @@ loop-index-preserved g c =
             (Some c.in-Some.position) (omega (arith, c.loop-index-test.true, positions-length c.args.from.now)) at,
       );
       hashes = c.insert.ensures.hashes;
+      steps = omega (arith, inserted (length g.hashes) (positions c.args.slots.now) from (positions c.loop-index.slots) c.loop-index.index
+          c.in-Some.position c.insert.result (omega (arith, c.loop-index-test.true, positions-length c.args.from.now)) at
+          c.requires.0.once c.loop-index.invariant.placed (c.insert.ensures.few (length g.hashes)), c.if-steps-most.false);
     }
+
+pub overflow_add-steps : goal.overflow_add-steps
+overflow_add-steps g c =
+    let from : List (Option ℕ) = positions c.args.from.now in
+    let at : resident from c.loop-index.index ≡ Some c.in-Some.position =
+    position-at c.args.from.now c.loop-index.index (Some c.in-Some.position) c.loop-index-test.true
+    (sym c.in-Some.is ∙ c.position.ensures) in
+    omega (arith, inserted (length g.hashes) (positions c.args.slots.now) from (positions c.loop-index.slots) c.loop-index.index
+    c.in-Some.position c.insert.result (omega (arith, c.loop-index-test.true, positions-length c.args.from.now)) at
+    c.requires.0.once c.loop-index.invariant.placed (c.insert.ensures.few (length g.hashes)), c.if-steps-most.false, c.requires.1.0)

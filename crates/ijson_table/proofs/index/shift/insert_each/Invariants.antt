@@ -1,4 +1,4 @@
-use Rattle.std.proofs.Common.{◌≡◌, ◌+◌, ℕ, take}
+use Rattle.std.proofs.Common.{◌≡◌, ◌+◌, ◌*◌, ◌≤◌, ℕ, length, take}
 use Rattle.ijson_table.specs.Slots.{times, IsOrdered}
 use Rattle.ijson_table.specs.private.SlotHashes.{positions, HaveHashes}
 use Rattle.ijson_table.proofs.index.shift.insert_each.Given as goal
@@ -11,4 +11,5 @@ invariant-loop-index g l = record {
   ordered : IsOrdered g.hashes (positions l.slots);
   placed : (i : ℕ) → times i (positions l.slots) ≡ times i (positions l.fn.slots) + times i (take l.index (positions l.from));
   hashes : HaveHashes g.hashes l.slots;
+  steps : l.steps ≤ l.most + 3 * length g.hashes;
 }

@@ -32,7 +32,7 @@ front_hashes hashes slots start have = All-take (HasHash hashes) start slots hav
 pub insert_each-requires : goal.insert_each-requires
 insert_each-requires g c =
     let table : IsTableOf g.hashes c.args.old.now = c.requires.0 in
-    let empty = all_empty c.args.slots.now c.requires.1.0 in
+    let empty = all_empty c.args.slots.now c.requires.1.0 in (
     record {
       ordered = (holds_none g.hashes (positions c.args.slots.now) empty).ordered;
       hashes_are = hashes-none g.hashes c.args.slots.now c.requires.1.0;
@@ -43,13 +43,14 @@ insert_each-requires g c =
         parts i c.args.old.now c.wrapped-start.result,
         table.table.placed i,
       );
-      room = c.requires.1.1;
-    }
+      room = c.requires.1.1.0;
+    },
+    (c.requires.1.1.1.0, omega arith))
 
-pub insert_each-requires-2 : goal.insert_each-requires-2
-insert_each-requires-2 g c =
+pub insert_each-requires-then-insert_each : goal.insert_each-requires-then-insert_each
+insert_each-requires-then-insert_each g c =
     let table : IsTableOf g.hashes c.args.old.now = c.requires.0 in
-    let empty = all_empty c.args.slots.now c.requires.1.0 in
+    let empty = all_empty c.args.slots.now c.requires.1.0 in (
     record {
       ordered = c.insert_each.ensures.ordered;
       hashes_are = c.insert_each.ensures.hashes;
@@ -57,27 +58,28 @@ insert_each-requires-2 g c =
       once = λ i. omega (
         arith,
         times-none i (positions c.args.slots.now) empty,
-        c.insert_each.ensures.placed i,
+        c.insert_each.ensures.placed c.if-insert_each.true i,
         parts i c.args.old.now c.wrapped-start.result,
         table.table.placed i,
       );
-      room = omega (arith, c.requires.1.1, c.insert_each.auto.slots);
-    }
+      room = omega (arith, c.requires.1.1.0, c.insert_each.auto.slots);
+    },
+    (c.requires.1.1.1.0, c.insert_each.ensures.steps))
 
-pub returns : goal.returns
-returns g c =
+pub returns-then-insert_each-2-clause-table : goal.returns-then-insert_each-2-clause-table
+returns-then-insert_each-2-clause-table g c = λ _.
     let table : IsTableOf g.hashes c.args.old.now = c.requires.0 in
     record {
       table = record {
-        ordered = c.insert_each-2.ensures.ordered;
+        ordered = c.insert_each-then-insert_each.ensures.ordered;
         placed = λ i. omega (
           arith,
           times-none i (positions c.args.slots.now) (all_empty c.args.slots.now c.requires.1.0),
-          c.insert_each.ensures.placed i,
-          c.insert_each-2.ensures.placed i,
+          c.insert_each.ensures.placed c.if-insert_each.true i,
+          c.insert_each-then-insert_each.ensures.placed c.if-insert_each-2.true i,
           parts i c.args.old.now c.wrapped-start.result,
           table.table.placed i,
         );
       };
-      hashes_are = c.insert_each-2.ensures.hashes;
+      hashes_are = c.insert_each-then-insert_each.ensures.hashes;
     }
