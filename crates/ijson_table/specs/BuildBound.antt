@@ -8,11 +8,3 @@ looks_a_pair = 36
 -- The looks for n pairs are at most a constant times n log n: each pair takes so many and, for each k with n ≤ 2 ^ k, 2 * k more.
 abbrev pub IsBuildBounded : ℕ → ℕ → Type 0
 IsBuildBounded n looks = (k : ℕ) → n ≤ 2 ^ k → looks ≤ n * (looks_a_pair + 2 * k)
-
--- how many steps each resident may take where slots are copied to another count of slots, beside those that sorting takes
-abbrev pub steps_a_resident : ℕ
-steps_a_resident = 35
-
--- The steps for n residents are at most a constant times n log n: each takes so many and, for each k with n ≤ 2 ^ k, k more.
-abbrev pub IsCopyBounded : ℕ → ℕ → Type 0
-IsCopyBounded n steps = (k : ℕ) → n ≤ 2 ^ k → steps ≤ n * (steps_a_resident + k)

@@ -1,5 +1,6 @@
 pub mod Changes
 pub mod Closing
+pub mod CopyBound
 pub mod Entries
 pub mod FirstPlaced
 pub mod HashIndex

@@ -115,24 +115,24 @@ module _ (n start : ℕ) (entries : List Slot) (sorted : IsSortedBy (home_before
   far-ascends : (j k : ℕ) → j ≤ k → k < length entries → far j ≤ far k
   far-ascends j k le lk = elim (below_or_not (start + k) (length entries)) [
     | inl early ↦ omega (
-        arith,
-        far-early j (omega arith),
-        far-early k early,
-        homes_ascend n entries sorted (start + j) (start + k) (omega arith) early,
-      )
+      arith,
+      far-early j (omega arith),
+      far-early k early,
+      homes_ascend n entries sorted (start + j) (start + k) (omega arith) early,
+    )
     | inr late ↦ elim (below_or_not (start + j) (length entries)) [
       | inl early ↦ omega (
-          arith,
-          far-early j early,
-          far-late k lk late,
-          home_within (get_or entries (start + j) blank).hash n (omega arith),
-        )
+        arith,
+        far-early j early,
+        far-late k lk late,
+        home_within (get_or entries (start + j) blank).hash n (omega arith),
+      )
       | inr both ↦ omega (
-          arith,
-          far-late j (omega arith) both,
-          far-late k lk late,
-          homes_ascend n entries sorted (start + j - length entries) (start + k - length entries) (omega arith) (omega arith),
-        )
+        arith,
+        far-late j (omega arith) both,
+        far-late k lk late,
+        homes_ascend n entries sorted (start + j - length entries) (start + k - length entries) (omega arith) (omega arith),
+      )
     ]
   ]
 

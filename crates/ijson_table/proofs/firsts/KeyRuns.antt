@@ -178,7 +178,8 @@ module _ (keys : List (List ℕ)) (sorted : List Entry) (s : AreInOrder keys sor
       }
 
   -- what leads leads at its own position
-  leads_at : (entry next : Entry) (p q : ℕ) → Leads keys sorted entry p → next ≡ entry → position_in next ≡ Some q → Leads keys sorted next q
+  leads_at : (entry next : Entry) (p q : ℕ) → Leads keys sorted entry p → next ≡ entry → position_in next ≡ Some q
+      → Leads keys sorted next q
   leads_at entry next p q leads is at =
       let both : Some p ≡ Some q = sym leads.stands ∙ (ap position_in (sym is) ∙ at) in
       let same : p ≡ q = cc in

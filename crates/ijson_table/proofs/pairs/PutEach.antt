@@ -61,7 +61,8 @@ module _ {V : Type 0} where
   put_each-behind pairs more d = put_each-append [] pairs more ∙ ap (λ ps. put_each ps more) (put_each-new [] pairs d)
 
   -- a key that is put makes none stand twice
-  put-distinct : (pairs : List (List ℕ × V)) (key : List ℕ) (value : V) → IsDistinct (keys_of pairs) → IsDistinct (keys_of (put pairs key value))
+  put-distinct : (pairs : List (List ℕ × V)) (key : List ℕ) (value : V) → IsDistinct (keys_of pairs)
+      → IsDistinct (keys_of (put pairs key value))
   put-distinct pairs key value d =
       elim (at pairs key) as (λ o. at pairs key ≡ o → IsDistinct (keys_of (put pairs key value))) [
         | None ↦ λ e. subst (λ ps. IsDistinct (keys_of ps)) (sym (put-absent pairs key value e)) (distinct_pushed pairs key value d e)

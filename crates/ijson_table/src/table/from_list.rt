@@ -1,6 +1,7 @@
 //! Tables over lists of pairs.
 
-ghost use Rattle.std.specs.Prelude.{◌≡◌, ◌↔◌, ℕ, ◌+◌, ◌-◌, ◌*◌, ◌^◌, ◌<◌, ◌≤◌, [], ◌++◌, length, reverse, vec_capacity, Err, IfOk, IsOk, OnOk, IsTrue, IsFalse};
+ghost use Rattle.std.specs.Prelude.{◌≡◌, ◌↔◌, ℕ, ◌+◌, ◌-◌, ◌*◌, ◌^◌, ◌<◌, ◌≤◌, [], ◌++◌, length};
+ghost use Rattle.std.specs.Prelude.{reverse, vec_capacity, Err, IfOk, IsOk, OnOk, IsTrue, IsFalse};
 ghost use Rattle.ijson_table.specs.BuildBound.{IsBuildBounded};
 ghost use Rattle.ijson_table.specs.Crowd.{slot_count};
 ghost use Rattle.ijson_table.specs.Growth.{capacity_limit};
@@ -35,10 +36,7 @@ impl<V: Drop, H: KeyHash> Table<V, H> {
     /// Where many do, the table is made by sorting: then each key is hashed up to three times, entries of 16 bytes for each pair
     /// are sorted in memory of their own, and the pairs move to another list. So whatever the keys are, it takes time n log n at
     /// most, and that of the hashes and of comparing keys of one hash.
-    pub fn from_pairs(
-        alloc: Global,
-        pairs: Vec<(IString, V)>,
-    ) -> Result<Table<V, H>, ReserveError>
+    pub fn from_pairs(alloc: Global, pairs: Vec<(IString, V)>) -> Result<Table<V, H>, ReserveError>
         ensures pairs { IfOk result (λ table. table.store.pairs ≡ put_each [] pairs.items) }
         ensures capacity { IfOk result (λ table. table.store.capacity ≡ length pairs.items) }
         ensures too_large { (result ≡ Err ReserveError.TooLarge) ↔ (capacity_limit < length pairs.items) }

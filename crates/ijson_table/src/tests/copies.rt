@@ -58,7 +58,9 @@ fn is_copied(rt: &impl Abort, alloc: Global, copied: &Copied) {
     assert!(rt; len <= from && len <= to);
     let index = crowd(rt, alloc, len, from, hashes);
     let mut steps = 0;
-    let copy = index.copy_counted(alloc, len, to, &mut steps).expect(rt, "a copy");
+    let copy = index
+        .copy_counted(alloc, len, to, &mut steps)
+        .expect(rt, "a copy");
     assert!(rt; steps == want && copy.len() == to);
     assert!(rt; residents(&copy, hashes) == len);
 }
@@ -114,13 +116,7 @@ fn keeps_its_pairs<H: KeyHash>(rt: &impl Abort, alloc: Global, count: u16, capac
 }
 
 /// How many pairs a full table has, and its capacity after a growth for one more.
-static GROWTHS: [(u16, usize); 5] = [
-    (0, 4),
-    (1, 4),
-    (5, 10),
-    (100, 200),
-    (3_000, 6_000),
-];
+static GROWTHS: [(u16, usize); 5] = [(0, 4), (1, 4), (5, 10), (100, 200), (3_000, 6_000)];
 
 #[test]
 fn tables_and_their_copies_keep_the_pairs(rt: HostRuntime) {

@@ -71,7 +71,9 @@ fn letters(rt: &impl Abort, alloc: Global, chosen: Chosen, at: usize) -> String 
         Chosen::TwinsAgain => twins(rt, alloc, at % (COUNT / 2)),
         Chosen::TwinsInARow => twins(rt, alloc, at / 2),
         Chosen::Lengths if at < COUNT / 2 => "a".repeat(alloc, at + 1).expect(rt, "a text"),
-        Chosen::Lengths => "b".repeat(alloc, COUNT.saturating_sub(at)).expect(rt, "a text"),
+        Chosen::Lengths => "b"
+            .repeat(alloc, COUNT.saturating_sub(at))
+            .expect(rt, "a text"),
     }
 }
 
@@ -108,8 +110,11 @@ fn finds_all<H: KeyHash>(table: &Table<u64, H>) -> bool {
 /// Asserts what a table of the list holds, and that it takes looks between these bounds.
 fn is_made<H: KeyHash>(rt: &impl Abort, alloc: Global, chosen: Chosen, least: u128, most: u128) {
     let mut looks = Looks::new();
-    let made: Result<Table<u64, H>, _> =
-        Table::from_pairs_counted(alloc, listed(rt, alloc, chosen), &mut looks);
+    let made: Result<Table<u64, H>, _> = Table::from_pairs_counted(
+        alloc,
+        listed(rt, alloc, chosen),
+        &mut looks,
+    );
     let table = made.expect(rt, "a table");
     let store = put_one_by_one(rt, alloc, chosen);
     assert!(rt; table.as_slice() == store.as_slice());

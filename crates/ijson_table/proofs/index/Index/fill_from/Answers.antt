@@ -10,7 +10,15 @@ use Rattle.ijson_table.proofs.index.Index.fill_from.Goals as goal
 pub overflow_add-steps : goal.overflow_add-steps
 overflow_add-steps c =
     let fits : length c.in_ok-entries.entries.items ≤ 2 ^ 64 = omega (arith, c.in_ok-entries.entries.ok.0) in
-    omega (arith, c.merge_sort-sorted.ensures.bounded 64 fits, fits, c.requires.steps, c.ranges.len.fits, c.count.ensures, c.new-looks.ensures)
+    omega (
+      arith,
+      c.merge_sort-sorted.ensures.bounded 64 fits,
+      fits,
+      c.requires.steps,
+      c.ranges.len.fits,
+      c.count.ensures,
+      c.new-looks.ensures,
+    )
 
 pub fill-requires : goal.fill-requires
 fill-requires c =

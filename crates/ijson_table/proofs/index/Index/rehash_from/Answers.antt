@@ -69,7 +69,8 @@ left : (c : goal.After-self-2-1) → AreLeft c.rehash.result (hashes_of c.other.
     (take c.self.inside.slots.len (c.rehash.new.slots ++ drop (length c.rehash.new.slots) c.self.inside.slots.items))
 left c =
     let fresh : List Slot = c.self.inside.slots.items in
-    after_rehash c.rehash.result c.other.inside.slots.items c.deref.result.now fresh c.rehash.new.slots c.self.inside.slots.len c.deref.ensures.value
+    after_rehash c.rehash.result c.other.inside.slots.items c.deref.result.now fresh c.rehash.new.slots c.self.inside.slots.len
+    c.deref.ensures.value
     (omega (arith, c.rehash.auto.slots, ap length c.deref_mut.ensures.value)) (omega (arith, c.self.inside.slots.ok.0))
     (omega (
       arith,

@@ -49,7 +49,13 @@ inserted count first from slots index k steps lt at once placed few =
     omega (arith, few all, lk)
 
 pub loop-index-init : goal.loop-index-init
-loop-index-init g c = record { ordered = c.requires.0.ordered; placed = λ i. omega (arith, times-nil i); hashes = c.requires.0.hashes_are; steps = c.requires.1.1 }
+loop-index-init g c = record {
+  ordered = c.requires.0.ordered;
+  placed = λ i. omega (arith, times-nil i);
+  hashes
+      = c.requires.0.hashes_are;
+  steps = c.requires.1.1;
+}
 
 pub loop-index-preserved-in_default : goal.loop-index-preserved-in_default
 loop-index-preserved-in_default g c =
@@ -109,9 +115,13 @@ loop-index-preserved g c =
             (Some c.in-Some.position) (omega (arith, c.loop-index-test.true, positions-length c.args.from.now)) at,
       );
       hashes = c.insert.ensures.hashes;
-      steps = omega (arith, inserted (length g.hashes) (positions c.args.slots.now) from (positions c.loop-index.slots) c.loop-index.index
-          c.in-Some.position c.insert.result (omega (arith, c.loop-index-test.true, positions-length c.args.from.now)) at
-          c.requires.0.once c.loop-index.invariant.placed (c.insert.ensures.few (length g.hashes)), c.if-steps-most.false);
+      steps = omega (
+        arith,
+        inserted (length g.hashes) (positions c.args.slots.now) from (positions c.loop-index.slots) c.loop-index.index
+            c.in-Some.position c.insert.result (omega (arith, c.loop-index-test.true, positions-length c.args.from.now)) at
+            c.requires.0.once c.loop-index.invariant.placed (c.insert.ensures.few (length g.hashes)),
+        c.if-steps-most.false,
+      );
     }
 
 pub overflow_add-steps : goal.overflow_add-steps
@@ -120,6 +130,11 @@ overflow_add-steps g c =
     let at : resident from c.loop-index.index ≡ Some c.in-Some.position =
     position-at c.args.from.now c.loop-index.index (Some c.in-Some.position) c.loop-index-test.true
     (sym c.in-Some.is ∙ c.position.ensures) in
-    omega (arith, inserted (length g.hashes) (positions c.args.slots.now) from (positions c.loop-index.slots) c.loop-index.index
-    c.in-Some.position c.insert.result (omega (arith, c.loop-index-test.true, positions-length c.args.from.now)) at
-    c.requires.0.once c.loop-index.invariant.placed (c.insert.ensures.few (length g.hashes)), c.if-steps-most.false, c.requires.1.0)
+    omega (
+      arith,
+      inserted (length g.hashes) (positions c.args.slots.now) from (positions c.loop-index.slots) c.loop-index.index
+          c.in-Some.position c.insert.result (omega (arith, c.loop-index-test.true, positions-length c.args.from.now)) at
+          c.requires.0.once c.loop-index.invariant.placed (c.insert.ensures.few (length g.hashes)),
+      c.if-steps-most.false,
+      c.requires.1.0,
+    )

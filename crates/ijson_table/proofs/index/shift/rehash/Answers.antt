@@ -33,38 +33,40 @@ pub insert_each-requires : goal.insert_each-requires
 insert_each-requires g c =
     let table : IsTableOf g.hashes c.args.old.now = c.requires.0 in
     let empty = all_empty c.args.slots.now c.requires.1.0 in (
-    record {
-      ordered = (holds_none g.hashes (positions c.args.slots.now) empty).ordered;
-      hashes_are = hashes-none g.hashes c.args.slots.now c.requires.1.0;
-      from_hashes = part_hashes g.hashes c.args.old.now c.wrapped-start.result table.hashes_are;
-      once = λ i. omega (
-        arith,
-        times-none i (positions c.args.slots.now) empty,
-        parts i c.args.old.now c.wrapped-start.result,
-        table.table.placed i,
-      );
-      room = c.requires.1.1.0;
-    },
-    (c.requires.1.1.1.0, omega arith))
+      record {
+        ordered = (holds_none g.hashes (positions c.args.slots.now) empty).ordered;
+        hashes_are = hashes-none g.hashes c.args.slots.now c.requires.1.0;
+        from_hashes = part_hashes g.hashes c.args.old.now c.wrapped-start.result table.hashes_are;
+        once = λ i. omega (
+          arith,
+          times-none i (positions c.args.slots.now) empty,
+          parts i c.args.old.now c.wrapped-start.result,
+          table.table.placed i,
+        );
+        room = c.requires.1.1.0;
+      },
+      (c.requires.1.1.1.0, omega arith),
+    )
 
 pub insert_each-requires-then-insert_each : goal.insert_each-requires-then-insert_each
 insert_each-requires-then-insert_each g c =
     let table : IsTableOf g.hashes c.args.old.now = c.requires.0 in
     let empty = all_empty c.args.slots.now c.requires.1.0 in (
-    record {
-      ordered = c.insert_each.ensures.ordered;
-      hashes_are = c.insert_each.ensures.hashes;
-      from_hashes = front_hashes g.hashes c.args.old.now c.wrapped-start.result table.hashes_are;
-      once = λ i. omega (
-        arith,
-        times-none i (positions c.args.slots.now) empty,
-        c.insert_each.ensures.placed c.if-insert_each.true i,
-        parts i c.args.old.now c.wrapped-start.result,
-        table.table.placed i,
-      );
-      room = omega (arith, c.requires.1.1.0, c.insert_each.auto.slots);
-    },
-    (c.requires.1.1.1.0, c.insert_each.ensures.steps))
+      record {
+        ordered = c.insert_each.ensures.ordered;
+        hashes_are = c.insert_each.ensures.hashes;
+        from_hashes = front_hashes g.hashes c.args.old.now c.wrapped-start.result table.hashes_are;
+        once = λ i. omega (
+          arith,
+          times-none i (positions c.args.slots.now) empty,
+          c.insert_each.ensures.placed c.if-insert_each.true i,
+          parts i c.args.old.now c.wrapped-start.result,
+          table.table.placed i,
+        );
+        room = omega (arith, c.requires.1.1.0, c.insert_each.auto.slots);
+      },
+      (c.requires.1.1.1.0, c.insert_each.ensures.steps),
+    )
 
 pub returns-then-insert_each-2-clause-table : goal.returns-then-insert_each-2-clause-table
 returns-then-insert_each-2-clause-table g c = λ _.

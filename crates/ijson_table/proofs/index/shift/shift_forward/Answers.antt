@@ -11,7 +11,9 @@ use Rattle.ijson_table.specs.private.SlotHashes.{position_in, positions, blank}
 use Rattle.ijson_table.proofs.arithmetic.Circular.{distance-below, distance-onward, onward-below, onward-zero, after-onward}
 use Rattle.ijson_table.proofs.shifting.SlotWrites.{put_down}
 use Rattle.ijson_table.proofs.shifting.Insertion.{Shifting, shift_more}
-use Rattle.ijson_table.proofs.slots.HashesInSlots.{positions-length, positions-put, positions-set, position-at, hashes-at, hashes-set, has_own_hash}
+use Rattle.ijson_table.proofs.slots.HashesInSlots.{positions-length, positions-put, positions-set}
+use Rattle.ijson_table.proofs.slots.HashesInSlots.{position-at, hashes-at, hashes-set}
+use Rattle.ijson_table.proofs.slots.HashesInSlots.{has_own_hash}
 use Rattle.ijson_table.proofs.slots.ResidentCount.{few_residents, still_full}
 use Rattle.ijson_table.proofs.slots.SlotChanges.{changes-none, changes-set}
 use Rattle.ijson_table.proofs.index.shift.shift_forward.Goals as goal
@@ -76,7 +78,8 @@ returns-in_default-clause-hashes g c =
 
 pub returns-in_default-clause-changes : goal.returns-in_default-clause-changes
 returns-in_default-clause-changes g c =
-    one_more (positions c.args.slots.now) c.loop-step.slots c.loop-step.slot c.loop-step.step c.loop-step.entry c.loop-step.invariant.changes
+    one_more (positions c.args.slots.now) c.loop-step.slots c.loop-step.slot c.loop-step.step c.loop-step.entry
+    c.loop-step.invariant.changes
 
 -- the next slot
 one_on : (slots : List Slot) (entry : Slot) (from step slot : ℕ) → from < length slots → step < length slots
@@ -154,7 +157,8 @@ loop-step-preserved g c =
             (sym (positions-put c.loop-step.slots slot c.loop-step.entry i.0 i.1))
             (shift_more hashes want i.0 slot c.loop-step.step next slots i.2 (position-at c.loop-step.slots slot (Some next) here there))),
       );
-      changes = one_more (positions c.args.slots.now) c.loop-step.slots slot c.loop-step.step c.loop-step.entry c.loop-step.invariant.changes;
+      changes = one_more (positions c.args.slots.now) c.loop-step.slots slot c.loop-step.step c.loop-step.entry
+          c.loop-step.invariant.changes;
       hash = hashes-at hashes c.loop-step.slots slot c.loop-step.invariant.hashes here;
       hashes = hashes-set hashes c.loop-step.slots slot c.loop-step.entry c.loop-step.invariant.hash c.loop-step.invariant.hashes;
       here = c.next_slot-slot.ensures.slot ∙ one_on c.loop-step.slots c.loop-step.entry c.args.from c.loop-step.step slot

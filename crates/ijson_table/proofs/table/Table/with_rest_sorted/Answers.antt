@@ -8,8 +8,10 @@ use Rattle.ijson_table.proofs.table.Table.with_rest_sorted.Goals as goal
 
 pub returns-in_err-pairs-clause-bounded : goal.returns-in_err-pairs-clause-bounded
 returns-in_err-pairs-clause-bounded g c k fits =
-    let room : vec_capacity c.self.inside.pairs ≡ c.args.self.store.capacity = ap (λ (t : Placed g.row.V.Denot). t.store.capacity) c.self.view_is in
-    let few : length c.put_back.new.list.items ≤ c.args.self.store.capacity = omega (arith, c.put_back.ensures.room, room, c.put_back.new.list.ok) in
+    let room : vec_capacity c.self.inside.pairs ≡ c.args.self.store.capacity = ap (λ (t : Placed g.row.V.Denot). t.store.capacity)
+    c.self.view_is in
+    let few : length c.put_back.new.list.items ≤ c.args.self.store.capacity = omega
+    (arith, c.put_back.ensures.room, room, c.put_back.new.list.ok) in
     sorted_once c.args.self.store.capacity (length c.put_back.new.list.items) k c.args.looks.now c.put_sorted.new.looks few
     (c.put_sorted.ensures.bounded k (omega (arith, few, fits)))
 
@@ -25,13 +27,16 @@ fill_sorted-requires-clause-some g c = omega (
 
 pub fill_sorted-requires-clause-fits : goal.fill_sorted-requires-clause-fits
 fill_sorted-requires-clause-fits g c =
-    let few : length c.put_back.new.list.items ≤ 2 ^ 56 = omega (arith, c.put_back.ensures.room, c.self.invariant.room.limited, c.put_back.new.list.ok) in
+    let few : length c.put_back.new.list.items ≤ 2 ^ 56 = omega
+    (arith, c.put_back.ensures.room, c.self.invariant.room.limited, c.put_back.new.list.ok) in
     omega (arith, c.put_sorted.ensures.bounded 56 few, c.requires.fits, few)
 
 pub returns-in_err-fill_sorted-clause-bounded : goal.returns-in_err-fill_sorted-clause-bounded
 returns-in_err-fill_sorted-clause-bounded g c k fits =
-    let room : vec_capacity c.self.inside.pairs ≡ c.args.self.store.capacity = ap (λ (t : Placed g.row.V.Denot). t.store.capacity) c.self.view_is in
-    let few : length c.put_back.new.list.items ≤ c.args.self.store.capacity = omega (arith, c.put_back.ensures.room, room, c.put_back.new.list.ok) in
+    let room : vec_capacity c.self.inside.pairs ≡ c.args.self.store.capacity = ap (λ (t : Placed g.row.V.Denot). t.store.capacity)
+    c.self.view_is in
+    let few : length c.put_back.new.list.items ≤ c.args.self.store.capacity = omega
+    (arith, c.put_back.ensures.room, room, c.put_back.new.list.ok) in
     let fewer : length c.deref.result.now ≤ c.args.self.store.capacity =
     omega (arith, ap length c.deref.ensures.value, c.in_ok-pairs.ensures.room, c.put_back.ensures.room, room, c.in_ok-pairs.pairs.ok) in
     sorted_twice c.args.self.store.capacity (length c.put_back.new.list.items) (length c.deref.result.now) k c.args.looks.now
@@ -53,8 +58,10 @@ returns-clause-pairs g c =
 
 pub returns-clause-bounded : goal.returns-clause-bounded
 returns-clause-bounded g c k fits =
-    let room : vec_capacity c.self.inside.pairs ≡ c.args.self.store.capacity = ap (λ (t : Placed g.row.V.Denot). t.store.capacity) c.self.view_is in
-    let few : length c.put_back.new.list.items ≤ c.args.self.store.capacity = omega (arith, c.put_back.ensures.room, room, c.put_back.new.list.ok) in
+    let room : vec_capacity c.self.inside.pairs ≡ c.args.self.store.capacity = ap (λ (t : Placed g.row.V.Denot). t.store.capacity)
+    c.self.view_is in
+    let few : length c.put_back.new.list.items ≤ c.args.self.store.capacity = omega
+    (arith, c.put_back.ensures.room, room, c.put_back.new.list.ok) in
     let fewer : length c.deref.result.now ≤ c.args.self.store.capacity =
     omega (arith, ap length c.deref.ensures.value, c.in_ok-pairs.ensures.room, c.put_back.ensures.room, room, c.in_ok-pairs.pairs.ok) in
     sorted_twice c.args.self.store.capacity (length c.put_back.new.list.items) (length c.deref.result.now) k c.args.looks.now

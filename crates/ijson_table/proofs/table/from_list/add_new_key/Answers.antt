@@ -11,7 +11,8 @@ use Rattle.ijson_table.proofs.table.from_list.add_new_key.Goals as goal
 
 pub push_at-requires-clause-may : goal.push_at-requires-clause-may
 push_at-requires-clause-may g c =
-    (next_ends g.H.KeyHash.hash_of c.args.pairs.now c.args.position c.args.index.now c.requires.placed c.requires.within c.hash-hash.result c.as_str-key.result.now (c.probe.new.looks - c.new-looks.result) c.in-Vacant.slot
+    (next_ends g.H.KeyHash.hash_of c.args.pairs.now c.args.position c.args.index.now c.requires.placed
+    c.requires.within c.hash-hash.result c.as_str-key.result.now (c.probe.new.looks - c.new-looks.result) c.in-Vacant.slot
     c.hash-hash.ensures c.len.ensures.table (omega (arith, c.if-position-len.false, c.len.ensures.count)) c.in-Vacant.ensures.ends).1
 
 pub returns-in-Vacant-clause-placed : goal.returns-in-Vacant-clause-placed
@@ -20,9 +21,11 @@ returns-in-Vacant-clause-placed g c = λ _.
     let pair = c.index-pairs-position.result in
     let key : c.as_str-key.result.now ≡ pair.0 = c.as_str-key.ensures ∙ ap (λ p. p.0) (sym c.index-pairs-position.is) in
     let hashed : c.hash-hash.result ≡ hash pair.0 = c.hash-hash.ensures ∙ ap hash key in
-    let missing = (next_ends hash c.args.pairs.now c.args.position c.args.index.now c.requires.placed c.requires.within c.hash-hash.result c.as_str-key.result.now (c.probe.new.looks - c.new-looks.result) c.in-Vacant.slot
+    let missing = (next_ends hash c.args.pairs.now c.args.position c.args.index.now c.requires.placed
+    c.requires.within c.hash-hash.result c.as_str-key.result.now (c.probe.new.looks - c.new-looks.result) c.in-Vacant.slot
     c.hash-hash.ensures c.len.ensures.table (omega (arith, c.if-position-len.false, c.len.ensures.count)) c.in-Vacant.ensures.ends).0 in
-    next_placed hash c.args.pairs.now c.args.position c.args.index.now c.requires.placed c.requires.within pair c.hash-hash.result c.push_at.new.self c.index-pairs-position.is hashed
+    next_placed hash c.args.pairs.now c.args.position c.args.index.now c.requires.placed c.requires.within pair c.hash-hash.result
+    c.push_at.new.self c.index-pairs-position.is hashed
     (ap (at (take c.args.position c.args.pairs.now)) (sym key) ∙ missing) c.push_at.ensures.hashes
 
 pub returns-in-Found-clause-stops : goal.returns-in-Found-clause-stops
