@@ -1,11 +1,11 @@
 -- The pairs of an object, made one after the other.
-use Rattle.std.proofs.Common.{◌≡◌, ◌<◌, ◌+◌, ℕ, suc, List, [], ◌∷◌, ◌++◌, length, map, refl, ap, ap₂, sym, subst, ◌∙◌, arith}
+use Rattle.std.proofs.Common.{◌≡◌, ℕ, List, [], ◌∷◌, ◌++◌, map, refl, ap, ap₂, sym, subst, ◌∙◌}
 use Rattle.std.specs.Prelude.{String, string_bytes, string_eq, string_cmp}
 use Rattle.std.specs.declared.alloc.Global.{Global}
 use Rattle.std.specs.List.{IsDistinct}
 use Rattle.std.specs.List.Sorted.{IsStrictlySortedBy}
 use Rattle.std.specs.Map.{keys_of}
-use Rattle.std.proofs.lemmas.List.{append_assoc, append-nil, map-append, length-append, length-map}
+use Rattle.std.proofs.lemmas.List.{append_assoc, append-nil, map-append}
 use Rattle.ijson_string.specs.Cache.{Texts}
 use Rattle.ijson_table.specs.Store.{IsDistinct as NoneTwice, keys_of as store_keys, put_each}
 use Rattle.ijson_table.proofs.pairs.PutEach.{put_each-new}
@@ -64,54 +64,39 @@ module _ {X : Type 0} (tree : X → Tree) (entries : List (String Global × X)) 
       × (cache ≡ all_interned (pairs_texts (tree_pairs ps)) old)
 
   module _ (ps : List (List ℕ × WellFormed)) (rest left : List (String Global × X)) (cache : Texts) (so_far : SoFar ps rest cache)
-      (key : String Global) (x : X) (next : rest ≡ (key, x) ∷ left) where
-    -- before one more they are fewer
-    pub one_fewer : length ps < length entries
-    one_fewer =
-        let size : length (tree_pairs ps) + suc (length (map (pair_tree tree) left)) ≡ length (map (pair_tree tree) entries) =
-        sym (length-append (tree_pairs ps) (map (pair_tree tree) ((key, x) ∷ left)))
-        ∙ ap (λ l. length (tree_pairs ps ++ map (pair_tree tree) l)) (sym next) ∙ ap length so_far.0 in
-        omega (
-          arith,
-          size,
-          length-map {B = List ℕ × Tree} ps (λ p. (p.0, tree_of p.1)),
-          length-map left (pair_tree tree),
-          length-map entries (pair_tree tree),
+      (key : String Global) (x : X) (next : rest ≡ (key, x) ∷ left) (k : List ℕ) (is : k ≡ string_bytes key) where
+    -- the pairs so far, this one and those that are left
+    parts : tree_pairs ps ++ (k, tree x) ∷ map (pair_tree tree) left ≡ map (pair_tree tree) entries
+    parts =
+        ap (λ j. tree_pairs ps ++ (j, tree x) ∷ map (pair_tree tree) left) is
+        ∙ ap (λ l. tree_pairs ps ++ map (pair_tree tree) l) (sym next) ∙ so_far.0
+
+    -- it is made
+    pub one_more : (p : List ℕ × WellFormed) → p.0 ≡ k → p.1.tree ≡ tree x → (ps' : List (List ℕ × WellFormed))
+        → ps' ≡ ps ++ p ∷ [] → (new : Texts) → new ≡ all_interned (k ∷ texts_of (tree x)) cache → SoFar ps' left new
+    one_more p key_is tree_is ps' pushed new n =
+        let pairs_are : tree_pairs ps' ≡ tree_pairs ps ++ (k, tree x) ∷ [] =
+        ap tree_pairs pushed
+        ∙ map-append (λ p. (p.0, tree_of p.1)) ps (p ∷ [])
+        ∙ ap₂ (λ j u. tree_pairs ps ++ (j, u) ∷ []) key_is tree_is in (
+          ap (λ l. l ++ map (pair_tree tree) left) pairs_are
+              ∙ append_assoc (tree_pairs ps) ((k, tree x) ∷ []) (map (pair_tree tree) left) ∙ parts,
+          n ∙ ap (all_interned (k ∷ texts_of (tree x))) so_far.1
+              ∙ sym (both_interned (pairs_texts (tree_pairs ps)) (k ∷ texts_of (tree x)) old)
+              ∙ ap (λ l. all_interned (pairs_texts (tree_pairs ps) ++ k ∷ l) old) (sym (append-nil (texts_of (tree x))))
+              ∙ ap (λ l. all_interned l old) (sym (joined_texts (tree_pairs ps) ((k, tree x) ∷ [])))
+              ∙ ap (λ l. all_interned (pairs_texts l) old) (sym pairs_are),
         )
 
-    module _ (k : List ℕ) (is : k ≡ string_bytes key) where
-      -- the pairs so far, this one and those that are left
-      parts : tree_pairs ps ++ (k, tree x) ∷ map (pair_tree tree) left ≡ map (pair_tree tree) entries
-      parts =
-          ap (λ j. tree_pairs ps ++ (j, tree x) ∷ map (pair_tree tree) left) is
-          ∙ ap (λ l. tree_pairs ps ++ map (pair_tree tree) l) (sym next) ∙ so_far.0
-
-      -- it is made
-      pub one_more : (p : List ℕ × WellFormed) → p.0 ≡ k → p.1.tree ≡ tree x → (ps' : List (List ℕ × WellFormed))
-          → ps' ≡ ps ++ p ∷ [] → (new : Texts) → new ≡ all_interned (k ∷ texts_of (tree x)) cache → SoFar ps' left new
-      one_more p key_is tree_is ps' pushed new n =
-          let pairs_are : tree_pairs ps' ≡ tree_pairs ps ++ (k, tree x) ∷ [] =
-          ap tree_pairs pushed
-          ∙ map-append (λ p. (p.0, tree_of p.1)) ps (p ∷ [])
-          ∙ ap₂ (λ j u. tree_pairs ps ++ (j, u) ∷ []) key_is tree_is in (
-            ap (λ l. l ++ map (pair_tree tree) left) pairs_are
-                ∙ append_assoc (tree_pairs ps) ((k, tree x) ∷ []) (map (pair_tree tree) left) ∙ parts,
-            n ∙ ap (all_interned (k ∷ texts_of (tree x))) so_far.1
-                ∙ sym (both_interned (pairs_texts (tree_pairs ps)) (k ∷ texts_of (tree x)) old)
-                ∙ ap (λ l. all_interned (pairs_texts (tree_pairs ps) ++ k ∷ l) old) (sym (append-nil (texts_of (tree x))))
-                ∙ ap (λ l. all_interned l old) (sym (joined_texts (tree_pairs ps) ((k, tree x) ∷ [])))
-                ∙ ap (λ l. all_interned (pairs_texts l) old) (sym pairs_are),
-          )
-
-      -- or refused
-      pub one_refused : (new : Texts) → SomeInterned (k ∷ texts_of (tree x)) cache new
-          → SomeInterned (pairs_texts (map (pair_tree tree) entries)) old new
-      one_refused new s =
-          let behind = map (pair_tree tree) left in
-          let mine = some_before (k ∷ texts_of (tree x)) (pairs_texts behind) (all_interned (pairs_texts (tree_pairs ps)) old) new
-          (subst (λ m. SomeInterned (k ∷ texts_of (tree x)) m new) so_far.1 s) in
-          subst (λ l. SomeInterned l old new) (sym (joined_texts (tree_pairs ps) ((k, tree x) ∷ behind)) ∙ ap pairs_texts parts)
-          (some_behind (pairs_texts (tree_pairs ps)) (k ∷ (texts_of (tree x) ++ pairs_texts behind)) old new mine)
+    -- or refused
+    pub one_refused : (new : Texts) → SomeInterned (k ∷ texts_of (tree x)) cache new
+        → SomeInterned (pairs_texts (map (pair_tree tree) entries)) old new
+    one_refused new s =
+        let behind = map (pair_tree tree) left in
+        let mine = some_before (k ∷ texts_of (tree x)) (pairs_texts behind) (all_interned (pairs_texts (tree_pairs ps)) old) new
+        (subst (λ m. SomeInterned (k ∷ texts_of (tree x)) m new) so_far.1 s) in
+        subst (λ l. SomeInterned l old new) (sym (joined_texts (tree_pairs ps) ((k, tree x) ∷ behind)) ∙ ap pairs_texts parts)
+        (some_behind (pairs_texts (tree_pairs ps)) (k ∷ (texts_of (tree x) ++ pairs_texts behind)) old new mine)
 
   -- where none is left, each goes last in an object, as their keys are distinct
   pub all_put : (ps : List (List ℕ × WellFormed)) (rest : List (String Global × X)) (cache : Texts) → SoFar ps rest cache → rest ≡ []

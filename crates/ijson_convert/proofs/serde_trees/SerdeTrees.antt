@@ -1,12 +1,12 @@
 -- Values of `serde_json` and the trees that they have, one part after the other.
-use Rattle.std.proofs.Common.{◌≡◌, ◌<◌, ◌+◌, ℕ, suc, List, length, map, take, drop, get_or, [], ◌∷◌, ◌++◌, refl, ap, ap₂, sym, subst}
-use Rattle.std.proofs.Common.{◌∙◌, arith}
+use Rattle.std.proofs.Common.{◌≡◌, ◌<◌, ℕ, suc, List, length, map, take, drop, get_or, [], ◌∷◌, ◌++◌, refl, ap, ap₂, sym, subst}
+use Rattle.std.proofs.Common.{◌∙◌}
 use Rattle.std.specs.Prelude.{string_bytes, string_cmp}
 use Rattle.std.specs.List.{flat_map}
 use Rattle.std.specs.List.Sorted.{IsStrictlySortedBy}
 use Rattle.std.specs.Map.{keys_of}
 use Rattle.std.proofs.lemmas.Grind.{flat_map-append}
-use Rattle.std.proofs.lemmas.List.{append-nil, take-append-drop, length-append, length-map}
+use Rattle.std.proofs.lemmas.List.{append-nil, take-append-drop}
 use Rattle.std.proofs.Math.Seq.{drop-cons}
 use Rattle.serde_json.specs.Data as serde
 use Rattle.serde_json.specs.Data.{Data}
@@ -170,15 +170,6 @@ keys_are [] [] h = refl
 keys_are [] (p ∷ ps) h = absurd h
 keys_are (e ∷ es) [] h = absurd h
 keys_are (e ∷ es) (p ∷ ps) h = ap₂ (λ k l. k ∷ l) (sym h.0) (keys_are es ps h.2)
-
--- before one more they are fewer than all
-pub pairs_fewer : (done : List Entry) (e : Entry) (left es : List Entry) (ps : List (List ℕ × WellFormed)) → done ++ e ∷ left ≡ es
-    → SerdeMembers (members_view done) (pair_trees ps) → length ps < length es
-pairs_fewer done e left es ps parts h =
-    let all : length done + suc (length left) ≡ length es = sym (length-append done (e ∷ left)) ∙ ap length parts in
-    let same : length ps ≡ length done =
-    sym (length-map ps (λ p. p.0)) ∙ ap length (keys_are done ps h) ∙ length-map done (λ e. string_bytes e.0) in
-    omega (arith, all, same)
 
 -- where the keys ascend, each pair goes last
 pub pairs_last : (es : List Entry) (ps : List (List ℕ × WellFormed)) → SerdeMembers (members_view es) (pair_trees ps)

@@ -1,7 +1,7 @@
-use Rattle.std.proofs.Common.{◌≡◌, [], ◌∷◌, ◌++◌, ◌+◌, suc, take, drop, append_assoc, refl, ap, sym, subst, ◌∙◌, arith, rules}
+use Rattle.std.proofs.Common.{◌≡◌, [], ◌∷◌, ◌++◌, ◌+◌, suc, length, vec_capacity, take, drop, append_assoc, refl, ap, sym, subst, ◌∙◌, arith, rules}
 use Rattle.std.specs.Prelude.{string_bytes}
 use Rattle.std.specs.List.{flat_map}
-use Rattle.std.proofs.lemmas.List.{append-nil, take_more, take_all}
+use Rattle.std.proofs.lemmas.List.{append-nil, length-append, take_more, take_all}
 use Rattle.std.proofs.lemmas.Result.{err_from_is_err_and}
 use Rattle.serde_json.specs.Data as serde
 use Rattle.serde_json.specs.View.{view, items_view, members_view}
@@ -18,7 +18,7 @@ use Rattle.ijson_convert.proofs.Refusals.{refused_too}
 use Rattle.ijson_convert.proofs.serde_trees.SerdeTrees.{items_begun, members_begun, entry_interned}
 use Rattle.ijson_convert.proofs.serde_trees.SerdeTrees.{value_texts, entry_texts, tree_texts, items_flat, members_flat, interned_more}
 use Rattle.ijson_convert.proofs.serde_trees.SerdeTrees.{split_at, items_more, members_more, array_none, object_none}
-use Rattle.ijson_convert.proofs.serde_trees.SerdeTrees.{pairs_fewer, pairs_last}
+use Rattle.ijson_convert.proofs.serde_trees.SerdeTrees.{pairs_last}
 use Rattle.ijson_convert.proofs.serde.+from.Goals as goal
 
 -- ---- an item
@@ -154,13 +154,7 @@ from_serde_map-returns-in_err-value-clause-begun g t c =
 
 pub from_serde_map-push_reserved-requires : goal.from_serde_map-push_reserved-requires
 from_serde_map-push_reserved-requires g t c =
-    let done = c.loop-key.invariant.done in
-    let e : Entry = (c.in-Some.key.now, c.in-Some.member.now) in
-    let left = c.next.new.self in
-    let entries = c.args.map.now.entries in
-    let parts : done ++ e ∷ left ≡ entries = sym (c.loop-key.invariant.parts ∙ ap (λ es. done ++ es) c.in-Some.ensures.steps) in
-    let fewer = pairs_fewer done e left entries c.loop-key.pairs.items parts c.loop-key.invariant.trees in
-    omega (arith, fewer, c.loop-key.invariant.room, c.loop-key.pairs.ok.0)
+    omega (arith, c.loop-key.invariant.room, ap length c.in-Some.ensures.steps, c.loop-key.pairs.ok.0)
 
 pub from_serde_map-loop-key-preserved : goal.from_serde_map-loop-key-preserved
 from_serde_map-loop-key-preserved g t c =
@@ -173,6 +167,8 @@ from_serde_map-loop-key-preserved g t c =
     let read = entry_interned e c.in_ok-value.value.tree c.as_str.result.now c.loop-key.cache c.intern.new.cache new
     c.in_ok-key.ensures.cache c.as_str.ensures.value c.in_ok-value.ensures.cache c.in_ok-value.ensures.tree in
     let pushed : c.push_reserved.new.self.items ≡ old ++ (c.in_ok-key.key, u) ∷ [] = search rules in
+    let room : vec_capacity c.push_reserved.new.self ≡ vec_capacity c.loop-key.pairs = search rules in
+    let more = length-append old ((c.in_ok-key.key, u) ∷ []) in
     let last = pushed ∙ ap (λ k. old ++ (k, u) ∷ []) (c.in_ok-key.ensures.text ∙ c.as_str.ensures.value) in
     record {
       done = done ++ e ∷ [];
@@ -180,7 +176,7 @@ from_serde_map-loop-key-preserved g t c =
       trees = subst (λ ps. SerdeMembers (members_view (done ++ e ∷ [])) (pair_trees ps)) (sym last)
           (members_more done old e u c.loop-key.invariant.trees c.in_ok-value.ensures.tree);
       texts = interned_more entry_texts done e c.args.cache.now c.loop-key.cache new c.loop-key.invariant.texts read;
-      room = search rules;
+      room = omega (arith, room, ap length pushed, more, c.loop-key.invariant.room, ap length c.in-Some.ensures.steps);
     }
 
 pub from_serde_map-returns-in_err-from_pairs-clause-begun : goal.from_serde_map-returns-in_err-from_pairs-clause-begun

@@ -1,4 +1,4 @@
-use Rattle.std.proofs.Common.{◌≡◌, List, ◌++◌, length, take, vec_capacity}
+use Rattle.std.proofs.Common.{◌≡◌, List, ◌++◌, ◌+◌, length, take, vec_capacity}
 use Rattle.std.specs.List.{flat_map}
 use Rattle.serde_json.specs.View.{items_view, members_view}
 use Rattle.serde_json.proofs.Views.{Entry}
@@ -14,12 +14,12 @@ invariant-from_items-loop-item g l =
     SerdeItems (items_view (take l.item-index l.item-items)) (item_trees l.array.items)
     × (l.cache ≡ all_interned (flat_map value_texts (take l.item-index l.item-items)) l.fn.cache)
 
--- so have the members so far, in a list that has room for all of them
+-- so have the members so far, in a list that has room for those that are left
 abbrev pub invariant-from_serde_map-loop-key : goal.invariant-from_serde_map-loop-key
 invariant-from_serde_map-loop-key g l = record {
   done : List Entry;
   parts : l.map.entries ≡ done ++ l.key-iterator;
   trees : SerdeMembers (members_view done) (pair_trees l.pairs.items);
   texts : l.cache ≡ all_interned (flat_map entry_texts done) l.fn.cache;
-  room : vec_capacity l.pairs ≡ length l.map.entries;
+  room : vec_capacity l.pairs ≡ length l.pairs.items + length l.key-iterator;
 }
