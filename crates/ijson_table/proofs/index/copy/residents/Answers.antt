@@ -5,8 +5,7 @@ use Rattle.std.specs.List.{All}
 use Rattle.std.proofs.lemmas.List.{take_all}
 use Rattle.std.proofs.lemmas.List.Elements.{All-push}
 use Rattle.ijson_table.specs.declared.index.slot.Slot.{Slot}
-use Rattle.ijson_table.specs.Slots.{resident, times, below}
-use Rattle.ijson_table.specs.private.Entries.{AreEntries}
+use Rattle.ijson_table.specs.Slots.{times, below}
 use Rattle.ijson_table.specs.private.Holds.{one_if}
 use Rattle.ijson_table.specs.private.Insertion.{IsTableOf}
 use Rattle.ijson_table.specs.private.SlotHashes.{blank, position_in, positions, HasHash, HaveHashes}

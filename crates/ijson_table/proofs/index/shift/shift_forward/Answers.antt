@@ -2,7 +2,7 @@ use Rattle.std.proofs.Common.{◌≡◌, ◌≢◌, ◌<◌, ◌≤◌, ℕ, ◌
 use Rattle.std.proofs.lemmas.List.{length-set}
 use Rattle.ijson_table.specs.declared.index.slot.Slot.{Slot}
 use Rattle.ijson_table.specs.Crowd.{distance}
-use Rattle.ijson_table.specs.Slots.{after, below, resident, times}
+use Rattle.ijson_table.specs.Slots.{after, below, resident}
 use Rattle.ijson_table.specs.private.Changes.{changes}
 use Rattle.ijson_table.specs.private.Holds.{Holds, MayStand, with_one}
 use Rattle.ijson_table.specs.private.Insertion.{Accepts}
