@@ -19,8 +19,8 @@ use std::cmp::Ordering;
 /// A number that tells its stripped digits one by one. `1.50` has the digits 1 and 5, and the first stands one place before the
 /// point.
 ///
-/// An `INumber` that is stored as a word writes its digits out anew for each call, 20 at most, and one that is stored as a list
-/// answers at once. No call takes memory.
+/// An `INumber` that is stored as a word writes its digits out anew for each call but `sign`, 20 at most, and one that is stored
+/// as a list answers at once. No call takes memory.
 pub trait DigitRow {
     /// The number.
     ghost num: { Self → Num };
