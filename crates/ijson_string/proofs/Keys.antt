@@ -8,18 +8,27 @@ use Rattle.std.specs.Ordering.{nat_cmp}
 use Rattle.std.specs.Str.{bytes_eq}
 use Rattle.std.proofs.Math.Bool.{and-false}
 use Rattle.std.proofs.lemmas.Bool.{eq-eqb}
-use Rattle.std.proofs.lemmas.List.{length-append, map-append}
+use Rattle.std.proofs.lemmas.List.{get_or-map, length-append, length-map, map-append}
+use Rattle.std.proofs.lemmas.List.Folds.{list_any_at}
 use Rattle.ijson_string.specs.Cache.{AreLong}
 use Rattle.ijson_string.specs.laws.Longer.{longer_empty, longer_insert}
 use Rattle.ijson_string.specs.private.Chains.{mixed}
 use Rattle.ijson_string.specs.private.IsCache.{set_of, IsCache}
-use Rattle.ijson_string.specs.private.Keys.{Key, texts_of, is_key, AreHashed}
+use Rattle.ijson_string.specs.private.Keys.{Key, texts_of, is_key, no_key, IsTextAt, AreHashed}
 use Rattle.ijson_string.proofs.TextSets.{order, exact, contains-from_list}
 
 -- a key more is a text more
 pub set_of-push : (keys : List Key) (k : Key) → set_of (keys ++ k ∷ []) ≡ set.insert (set_of keys) k.text
 set_of-push keys k =
     ap set.from_list (map-append (λ k. k.text) keys (k ∷ [])) ∙ set.from_list_push order exact (texts_of keys) k.text
+
+-- it contains the text of each key
+pub contains-at : (q : List ℕ) (keys : List Key) (at : ℕ) → IsTextAt q keys at → set.contains (set_of keys) q ≡ true
+contains-at q keys at there =
+    let within : at < length (texts_of keys) = rw (length-map keys (λ k. k.text)) there.0 in
+    contains-from_list (texts_of keys) q
+    ∙ list_any_at (λ t. bytes_eq q t) (texts_of keys) at [] within
+    (ap (bytes_eq q) (get_or-map (λ k. k.text) keys at no_key [] there.0 ∙ there.1) ∙ (bytes_decides q q).1 refl)
 
 -- where the texts are long and this one is, they stay so
 pub AreLong-push : (keys : List Key) (k : Key) → AreLong (set_of keys) → 7 < length k.text → AreLong (set_of (keys ++ k ∷ []))

@@ -1,5 +1,6 @@
 pub mod Chains
 pub mod Filters
+pub mod Followers
 pub mod IsCache
 pub mod IsTable
 pub mod IsText

@@ -14,9 +14,10 @@ use std::marker::Model;
 
 /// A set of texts of more than 7 bytes, each kept once. `IString::intern` adds to it, and shares what it holds. A text stays
 /// until `clear`, also where nobody else has it. Beside its own memory it takes 24 bytes here, in two lists that double where they
-/// are full, and from 32 texts on 2 to 4 for the bucket of its hash; from 4,096 texts on 16 KB lead to those that came again. At
-/// most 2^32 - 1 texts fit, and one more is refused as where memory is. Texts that a stranger chose want a hasher with a random
-/// seed, as `RandomState` is.
+/// are full, and from 32 texts on 2 to 4 for the bucket of its hash; from 4,096 texts on 16 KB lead to those that came again. The
+/// cache itself takes 1 KB, which leads to the text that followed the last time: where texts come again in the same order, they are
+/// compared and not hashed. At most 2^32 - 1 texts fit, and one more is refused as where memory is. Texts that a stranger chose want
+/// a hasher with a random seed, as `RandomState` is.
 #[derive(Drop)]
 pub struct StringCache<S: BuildHasher> {
     alloc: Global,
@@ -85,17 +86,20 @@ impl<S: BuildHasher> StringCache<S> {
         self.texts.clear();
     }
 
-    /// The shared copy of a long text, which is added if it is new. Where memory is refused, or 2^32 - 1 texts are there, the set
-    /// stays as it was.
+    /// The shared copy of a long text, which is added if it is new. The text that followed the last time is compared first, and
+    /// where it is this one, nothing is hashed. Where memory is refused, or 2^32 - 1 texts are there, the set stays as it was.
     pub(crate) fn share(&mut self, text: &str) -> Result<IString, AllocError>
         requires { 7 < length text.now }
         ensures text { IfOk result (λ shared. shared ≡ text.now) }
         ensures added { OnOk result (self.new.texts ≡ set.insert self.old.texts text.now) }
         ensures refused { OnErr result (self.new ≡ self.old) }
     {
+        if let Some(position) = self.texts.find_following(text) {
+            return self.texts.shared(text, position);
+        }
         let hash = mix(hash_of(&self.hasher, text));
         if let Some(position) = self.texts.find(hash, text) {
-            return self.texts.shared(hash, position);
+            return self.texts.shared_by(hash, text, position);
         }
         let shared = IString::long(self.alloc, text)?;
         let text = shared.clone()?;

@@ -1,14 +1,17 @@
 //! `TextTable`: texts in the order in which they came, found by their hash.
 ghost use Rattle.std.specs.Prelude.{◌≡◌, ℕ, ◌<◌, [], ◌∷◌, ◌++◌, length, get_or, take, Some, IfSome, IfOk, OnOk, OnErr, is_some};
 ghost use Rattle.std.specs.List.{list_any};
-ghost use Rattle.ijson_string.specs.private.Keys.{is_key, no_key, IsKeyAt};
+ghost use Rattle.ijson_string.specs.private.Followers.{followed_by, text_size, IsFollower};
+ghost use Rattle.ijson_string.specs.private.Keys.{is_key, no_key, IsKeyAt, IsTextAt};
 ghost use Rattle.ijson_string.specs.private.Recent.{with_recent, IsRecent};
 ghost use Rattle.ijson_string.specs.private.Table.{no_table, buckets_for};
 
 mod chains;
+mod followers;
 mod recent;
 
 use crate::table::chains::{Bucket, EMPTY, Link, grow, head_for, prepend};
+use crate::table::followers::Followers;
 use crate::table::recent::Recent;
 use crate::text::IString;
 use std::alloc::{AllocError, Global};
@@ -19,13 +22,15 @@ use std::marker::Model;
 /// it. A chain is followed only where the filter of its bucket lets the hash pass, which tells thirty-nine in forty of the texts that
 /// are not there. A text takes 16 bytes and its link 8, and from 64 texts on there are two to four for each bucket of 8 bytes; each
 /// list doubles where it is full. The memory of a text is read only where its hash is the one that is sought. Where there are many
-/// texts, `recent` leads to those that come again and again with no look at the others. At most 2^32 - 1 texts fit.
+/// texts, `recent` leads to those that come again and again with no look at the others. Where texts come again in the same order,
+/// as keys do, `followers` leads to the next one before it is hashed; it takes 1 KB, in place. At most 2^32 - 1 texts fit.
 #[derive(Drop)]
 pub(crate) struct TextTable {
     texts: Vec<IString>,
     links: Vec<Link>,
     buckets: Vec<Bucket>,
     recent: Recent,
+    followers: Followers,
 }
 
 impl Model for TextTable {
@@ -41,10 +46,18 @@ impl Model for TextTable {
       keys = keys_of (hashes_of t.links.items) t.texts.items;
       buckets = length t.buckets.items;
       recent = t.recent;
+      followers = t.followers;
     } };
 
     ghost invariant = { λ t. IsTable t.links.items t.buckets.items × (length t.texts.items ≡ length t.links.items)
         × (length t.recent ≡ recent_for (length t.buckets.items)) };
+}
+
+/// The length of a text, in 32 bits.
+fn text_size(text: &str) -> u32
+    ensures { result ≡ text_size text.now }
+{
+    (text.len() % (1 << 32)) as u32
 }
 
 impl TextTable {
@@ -57,6 +70,7 @@ impl TextTable {
             links: Vec::new(alloc),
             buckets: Vec::new(alloc),
             recent: Recent::new(alloc),
+            followers: Followers::new(),
         }
     }
 
@@ -65,6 +79,21 @@ impl TextTable {
         ensures { result ≡ length self.now.keys }
     {
         self.texts.len()
+    }
+
+    /// The position of this text, where it is the one that followed the last time after the text that was found last. None says
+    /// nothing. No text is hashed, and only one of this length is read.
+    pub(crate) fn find_following(&self, text: &str) -> Option<u32>
+        ensures found { IfSome result (λ at. IsTextAt text.now self.now.keys at) }
+        ensures taken { (at : ℕ) → IsFollower at (text_size text.now) self.now.followers → IsTextAt text.now self.now.keys at
+            → result ≡ Some at }
+    {
+        let guess = self.followers.guess(text_size(text))?;
+        let position = guess as usize;
+        if position < self.texts.len() && self.texts[position].eq_str(text) {
+            return Some(guess);
+        }
+        None
     }
 
     /// The position of this text, which has this hash. It follows one chain at most, which has at most four texts on average.
@@ -119,15 +148,33 @@ impl TextTable {
         None
     }
 
-    /// One more owner of the text at a position, which was found by this hash. `recent` leads to it from then on.
-    pub(crate) fn shared(&mut self, hash: u32, position: u32) -> Result<IString, AllocError>
-        requires { position < length self.old.keys }
-        ensures text { IfOk result (λ text. text ≡ (get_or self.old.keys position no_key).text) }
-        ensures recent { self.new ≡ record self.old { recent = with_recent hash position self.old.recent } }
+    /// One more owner of this text, which was found at a position. `followers` leads from the one that was found before to it.
+    pub(crate) fn shared(&mut self, text: &str, position: u32) -> Result<IString, AllocError>
+        requires { IsTextAt text.now self.old.keys position }
+        ensures text { IfOk result (λ shared. shared ≡ text.now) }
+        ensures followed { self.new ≡ record self.old { followers = followed_by position (text_size text.now) self.old.followers } }
     {
-        let text: Result<IString, AllocError> = self.texts[position as usize].clone();
+        let shared: Result<IString, AllocError> = self.texts[position as usize].clone();
+        self.followers.put(position, text_size(text));
+        shared
+    }
+
+    /// The same, where it was found by this hash. `recent` leads to it from then on.
+    pub(crate) fn shared_by(
+        &mut self,
+        hash: u32,
+        text: &str,
+        position: u32,
+    ) -> Result<IString, AllocError>
+        requires { IsTextAt text.now self.old.keys position }
+        ensures text { IfOk result (λ shared. shared ≡ text.now) }
+        ensures noted { self.new ≡ record self.old {
+          recent = with_recent hash position self.old.recent;
+          followers = followed_by position (text_size text.now) self.old.followers;
+        } }
+    {
         self.recent.put(hash, position);
-        text
+        self.shared(text, position)
     }
 
     /// Puts a text behind the others. Where memory is refused, or the table is full, they are as they were.
@@ -135,6 +182,7 @@ impl TextTable {
         ensures pushed { OnOk result (self.new.keys ≡ self.old.keys ++ record { hash = hash; text = text } ∷ []) }
         ensures buckets { OnOk result (self.new.buckets ≡ buckets_for (length self.old.keys) self.old.buckets) }
         ensures recent { take (length self.old.recent) self.new.recent ≡ self.old.recent }
+        ensures followers { self.new.followers ≡ self.old.followers }
         ensures refused { OnErr result (self.new ≡ self.old) }
     {
         // A link is one more than a position.

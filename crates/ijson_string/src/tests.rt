@@ -2,6 +2,7 @@
 
 mod many;
 mod memory;
+mod order;
 mod texts;
 mod words;
 

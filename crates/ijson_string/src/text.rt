@@ -67,8 +67,8 @@ impl IString {
 
     /// The text, kept in place up to 7 bytes, and otherwise shared through `cache`, which takes it in if it is new there.
     /// Only a text of more than 7 bytes can want memory, and the cache is then as it was; so it is where it holds 2^32 - 1 texts and
-    /// this is one more. The text is hashed and looked up, in expected time linear in its length; a new one is copied, and the cache
-    /// grows at times.
+    /// this is one more. The text is looked up in expected time linear in its length; a new one is copied, and the cache grows at
+    /// times.
     ///
     /// ```
     /// let name = IString::intern(&mut cache, "name")?; // in place

@@ -33,6 +33,10 @@ no_key = record { hash = 0; text = [] }
 abbrev pub IsKeyAt : ℕ → List ℕ → List Key → ℕ → Type 0
 IsKeyAt hash text keys at = (at < length keys) × (get_or keys at no_key ≡ record { hash = hash; text = text })
 
+-- the key at this position has this text
+abbrev pub IsTextAt : List ℕ → List Key → ℕ → Type 0
+IsTextAt text keys at = (at < length keys) × ((get_or keys at no_key).text ≡ text)
+
 -- each stands beside the hash of its own text
 abbrev pub AreHashed : (List ℕ → ℕ) → List Key → Type 0
 AreHashed text_hash keys = AllByRecursion (λ k. k.hash ≡ mixed (text_hash k.text)) keys

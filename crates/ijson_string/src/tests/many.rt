@@ -7,7 +7,7 @@ use std::process::Abort;
 
 /// All texts have one hash.
 #[derive(Clone, Copy, Default, Drop)]
-struct OneHash;
+pub(super) struct OneHash;
 
 impl Hasher for OneHash {
     ghost write = { λ s _. s };
