@@ -1,5 +1,6 @@
 pub mod DistinctKeys
 pub mod KeyPositions
+pub mod NewPairs
 pub mod PairsByKey
 pub mod PutEach
 pub mod RunSteps

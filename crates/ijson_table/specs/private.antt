@@ -13,5 +13,6 @@ pub mod Lookup
 pub mod Merging
 pub mod Probe
 pub mod Room
+pub mod SecondHash
 pub mod SlotHashes
 pub mod Sorting

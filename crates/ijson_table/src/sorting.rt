@@ -5,4 +5,5 @@ pub mod fill;
 pub mod first;
 pub mod merge_sort;
 pub mod order;
+pub mod second_hash;
 pub mod together;

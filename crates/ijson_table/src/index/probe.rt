@@ -1,14 +1,14 @@
 //! The probe: the one walk over the slots of a table, and `Lookup`, the walk for a key among pairs.
 
-ghost use Rattle.std.specs.Prelude.{◌≡◌, ◌↔◌, ℕ, ◌+◌, ◌-◌, ◌<◌, ◌≤◌, ◌^◌, Bool, List, [], length, get_or, Option, IsTrue};
-ghost use Rattle.ijson_table.specs.Slots.{after};
+ghost use Rattle.std.specs.Prelude.{◌≡◌, ◌↔◌, ℕ, ◌+◌, ◌-◌, ◌%◌, ◌<◌, ◌≤◌, ◌^◌, Bool, List, [], length, get_or, Option, IsTrue};
+ghost use Rattle.ijson_table.specs.Slots.{after, displacement};
 ghost use Rattle.ijson_table.specs.Store.{keys_of};
-ghost use Rattle.ijson_table.specs.private.Lookup.{found_at};
+ghost use Rattle.ijson_table.specs.private.Lookup.{found_at, is_hashed_key};
 ghost use Rattle.ijson_table.specs.private.Probe.{Ends, LooksAt, Passed};
 
 use crate::index::Index;
 use crate::index::places::Seen;
-use crate::index::slot::Modulus;
+use crate::index::slot::{Modulus, Slot};
 use ijson_number::Looks;
 use ijson_string::IString;
 
@@ -150,6 +150,27 @@ impl<'a, V> ProbeTarget for Lookup<'a, V> {
         };
         there.seen(self.modulus, slot, same)
     }
+}
+
+/// How the walk for a key ends, and how many slots it looks at. That follows from where it ends, which takes less than to count.
+#[inline(always)]
+pub fn probe_measured<V>(lookup: &Lookup<V>) -> (Probed, usize)
+    requires some { 0 < length lookup.now.index.now.slots }
+    ensures ends { Ends lookup.now.index.now.slots (displacement lookup.now.index.now.hashes lookup.now.index.now.slots)
+        (lookup.now.hash % length lookup.now.index.now.slots)
+        (is_hashed_key lookup.now.index.now.hashes (keys_of lookup.now.pairs.now) lookup.now.hash lookup.now.key.now)
+        result.1 result.0 }
+    ensures looks { 0 < result.1 }
+    ensures within { result.1 ≤ length lookup.now.index.now.slots }
+{
+    let slots = lookup.index.len();
+    let entry = Slot::of(0, lookup.hash);
+    let end = probe(lookup, &mut Looks::new());
+    let looked = match end {
+        Probed::Found(_, slot) | Probed::Vacant(slot) => entry.distance(lookup.modulus, slot) + 1,
+        Probed::Full => slots,
+    };
+    (end, looked)
 }
 
 /// Whether the pair at a position has this key.

@@ -13,9 +13,10 @@ use super::Table;
 use crate::growth::{limited, split_rest, tighten};
 use crate::hash::KeyHash;
 use crate::index::Index;
-use crate::index::probe::{Lookup, Probed, probe};
+use crate::index::probe::{Lookup, Probed, probe_measured};
 use crate::index::slot::Modulus;
 use crate::sorting::build::{fill_sorted, put_sorted};
+use crate::sorting::second_hash::SecondHash;
 use crate::store::{PairStore, ReserveError};
 use ijson_number::Looks;
 use ijson_string::IString;
@@ -24,7 +25,7 @@ use std::marker::PhantomData;
 use std::mem;
 
 /// How many steps a pair may take, on average over all of them, before the table is made by sorting. With keys that nobody chose it
-/// takes about three.
+/// takes about three in a small object, and seventeen in one of 30,000 numbered keys.
 const STEPS_A_PAIR: usize = 32;
 
 impl<V: Drop, H: KeyHash> Table<V, H> {
@@ -45,11 +46,11 @@ impl<V: Drop, H: KeyHash> Table<V, H> {
         Table::from_pairs_counted(alloc, pairs, &mut Looks::new())
     }
 
-    /// The same, and its looks are counted: each slot that it looks at for a key, each slot that it writes, each two entries that
-    /// sorting compares and each two keys that are compared there.
+    /// The same, and its looks are counted: each slot that it looks at for a key, each slot that it writes up to the bound on the
+    /// steps, each two entries that sorting compares and each two keys that are compared there.
     pub fn from_pairs_counted(
         alloc: Global,
-        pairs: Vec<(IString, V)>,
+        mut pairs: Vec<(IString, V)>,
         looks: &mut Looks,
     ) -> Result<Table<V, H>, ReserveError>
         requires fits { looks.old + 2 ^ 72 < 2 ^ 128 }
@@ -61,47 +62,61 @@ impl<V: Drop, H: KeyHash> Table<V, H> {
         ensures grows { looks.old ≤ looks.new }
         ensures bounded { IsBuildBounded (length pairs.items) (looks.new - looks.old) }
     {
-        let mut steps = 0;
-        let made = Table::from_first(alloc, pairs, &mut steps);
-        count_steps(looks, steps);
-        let (table, rest) = made?;
-        if rest.is_empty() {
-            return Ok(table);
-        }
-        Ok(table.with_rest_sorted(rest, looks)?)
-    }
-
-    /// The same up to a bound on the steps, which are counted: the store so far, with room for all, and the pairs that are left, last
-    /// first.
-    fn from_first(
-        alloc: Global,
-        mut pairs: Vec<(IString, V)>,
-        steps: &mut usize,
-    ) -> Result<(Table<V, H>, Vec<(IString, V)>), ReserveError>
-        requires { steps.old ≡ 0 }
-        ensures pairs { IfOk result (λ made. put_each made.0.store.pairs (reverse made.1.items) ≡ put_each [] pairs.items) }
-        ensures capacity { IfOk result (λ made. made.0.store.capacity ≡ length pairs.items) }
-        ensures room { IfOk result (λ made. length made.0.store.pairs + length made.1.items ≤ length pairs.items) }
-        ensures too_large { (result ≡ Err ReserveError.TooLarge) ↔ (capacity_limit < length pairs.items) }
-        ensures none { length pairs.items ≡ 0 → IsOk result × IfOk result (λ made. length made.1.items ≡ 0) }
-        ensures steps { steps.new ≤ 35 * length pairs.items }
-        ensures counted { OnOk result (length pairs.items ≤ steps.new) }
-    {
         let capacity = limited(pairs.len())?;
         tighten(alloc, &mut pairs)?;
         let mut index = Index::with_slots(alloc, capacity + capacity / 4)?;
         let most = STEPS_A_PAIR * capacity;
-        let placed = add_new_keys::<V, H>(&pairs, &mut index, most, steps);
-        let mut rest = split_rest(alloc, &mut pairs, placed)?;
-        rest.reverse();
-        let mut table = Table {
+        let mut steps = 0;
+        let placed = add_new_keys::<V, H>(&pairs, &mut index, most, &mut steps);
+        count_steps(looks, steps);
+        if placed == capacity {
+            return Ok(Table {
+                pairs,
+                index,
+                alloc,
+                hash: PhantomData,
+            });
+        }
+        let rest = split_rest(alloc, &mut pairs, placed)?;
+        let table = Table {
             pairs,
             index,
             alloc,
             hash: PhantomData,
         };
-        table.insert_each(&mut rest, most, steps);
-        Ok((table, rest))
+        Ok(table.with_rest(rest, steps, looks)?)
+    }
+
+    /// The store with more pairs put, in the room that there is. It goes on in the usual way up to the bound on the steps, of which so
+    /// many were taken and counted, and then by sorting.
+    #[inline(never)]
+    fn with_rest(
+        mut self,
+        mut rest: Vec<(IString, V)>,
+        steps: usize,
+        looks: &mut Looks,
+    ) -> Result<Table<V, H>, AllocError>
+        requires room { length self.store.pairs + length rest.items ≤ self.store.capacity }
+        requires limited { self.store.capacity ≤ capacity_limit }
+        requires steps { steps ≤ 32 * self.store.capacity + 2 * slot_count self.store.capacity }
+        requires placed { length self.store.pairs ≤ steps }
+        requires fits { looks.old + 2 ^ 71 + 2 ^ 65 < 2 ^ 128 }
+        ensures pairs { IfOk result (λ table. table.store.pairs ≡ put_each self.store.pairs rest.items) }
+        ensures capacity { IfOk result (λ table. table.store.capacity ≡ self.store.capacity) }
+        ensures counted { OnOk result (looks.old + length self.store.pairs + length rest.items ≤ looks.new + steps) }
+        ensures grows { looks.old ≤ looks.new }
+        ensures bounded { (k : ℕ) → self.store.capacity ≤ 2 ^ k
+            → looks.new + steps ≤ looks.old + self.store.capacity * (36 + 2 * k) }
+    {
+        let most = STEPS_A_PAIR * self.pairs.capacity();
+        let mut taken = steps;
+        rest.reverse();
+        self.insert_each(&mut rest, most, &mut taken);
+        count_steps(looks, taken - steps);
+        if rest.is_empty() {
+            return Ok(self);
+        }
+        self.with_rest_sorted(rest, looks)
     }
 
     /// Inserts pairs from the last one of a list on, in the room that there is, up to a bound on the steps.
@@ -115,6 +130,7 @@ impl<V: Drop, H: KeyHash> Table<V, H> {
         ensures room { length self.new.store.pairs + length rest.new.items ≤ self.old.store.capacity }
         ensures steps { steps.new ≤ most + 2 * slot_count self.old.store.capacity }
         ensures counted { steps.old + length rest.old.items ≤ steps.new + length rest.new.items }
+        ensures grows { steps.old ≤ steps.new }
         ensures stops { 0 < length rest.new.items → most < steps.new }
     {
         while *steps <= most {
@@ -168,7 +184,7 @@ impl<V: Drop, H: KeyHash> Table<V, H> {
         index.clear();
         let mut pairs = self.pairs;
         put_back(&mut pairs, rest);
-        let pairs = put_sorted::<V, H>(alloc, pairs, looks)?;
+        let pairs = put_sorted::<V, SecondHash>(alloc, pairs, looks)?;
         fill_sorted::<V, H>(alloc, &pairs, &mut index, looks)?;
         Ok(Table {
             pairs,
@@ -267,15 +283,13 @@ fn add_new_key<V, H: KeyHash>(
         hash,
         key,
     };
-    let mut looks = Looks::new();
-    match probe(&lookup, &mut looks) {
+    let (end, looked) = probe_measured(&lookup);
+    *steps += looked;
+    match end {
         Probed::Vacant(slot) => {
-            *steps += looks.count() as usize + index.push_at(slot, position, hash);
+            *steps += index.push_at(slot, position, hash);
             true
         }
-        Probed::Found(..) | Probed::Full => {
-            *steps += looks.count() as usize;
-            false
-        }
+        Probed::Found(..) | Probed::Full => false,
     }
 }

@@ -14,8 +14,9 @@ const COUNT: usize = 2048;
 /// How many looks a list takes at most: 36 a pair, and 2 for each of the 11 times that the count can be halved.
 const MOST: u128 = 2048 * (36 + 2 * 11);
 
-/// How many steps a list takes before its table is made by sorting.
-const STEPS: u128 = 2048 * 32;
+/// How many looks a list takes at least whose table is made by sorting: 32 steps a pair before, then half a comparison for each pair and
+/// each time that the count can be halved, and one look a pair at the first of each key.
+const LEAST: u128 = 2048 * (32 + 1) + 2048 / 2 * 11;
 
 /// The greater half of the fixed hash times the count of slots: each key has the first slot for its home, and few have one hash.
 #[derive(Drop)]
@@ -130,9 +131,9 @@ fn keys_that_nobody_chose_take_few_looks(rt: HostRuntime) {
 /// One by one, each of these lists takes a million looks and writes, or more.
 #[test]
 fn chosen_keys_are_sorted(rt: HostRuntime) {
-    is_made::<Multiples>(&rt, rt.alloc(), Chosen::Digits, STEPS, MOST);
-    is_made::<FixedHash>(&rt, rt.alloc(), Chosen::Twins, STEPS, MOST);
-    is_made::<FixedHash>(&rt, rt.alloc(), Chosen::TwinsAgain, STEPS, MOST);
-    is_made::<FixedHash>(&rt, rt.alloc(), Chosen::TwinsInARow, STEPS, MOST);
-    is_made::<ByLength>(&rt, rt.alloc(), Chosen::Lengths, STEPS, MOST);
+    is_made::<Multiples>(&rt, rt.alloc(), Chosen::Digits, LEAST, MOST);
+    is_made::<FixedHash>(&rt, rt.alloc(), Chosen::Twins, LEAST, MOST);
+    is_made::<FixedHash>(&rt, rt.alloc(), Chosen::TwinsAgain, LEAST, MOST);
+    is_made::<FixedHash>(&rt, rt.alloc(), Chosen::TwinsInARow, LEAST, MOST);
+    is_made::<ByLength>(&rt, rt.alloc(), Chosen::Lengths, LEAST, MOST);
 }

@@ -25,8 +25,8 @@ impl IObject {
     /// An object of the pairs of a hash map, in the order in which the map goes over them. Its capacity is their count. They
     /// are moved to a list with that room, which is taken first, and the object is made of it as by `from_pairs`. It is
     /// refused as too large where the count passes 2^56, before memory is asked for; the map and its pairs are then dropped,
-    /// as where memory is refused. An empty map takes no memory. Nothing is copied, and each key is hashed once. It takes
-    /// time at most n log n in the count, whatever the keys are.
+    /// as where memory is refused. An empty map takes no memory. Nothing is copied, and each key is hashed once, or up to
+    /// three times where many keys crowd. It takes time at most n log n in the count, whatever the keys are.
     pub fn from_hash_map<S: BuildHasher + Drop>(
         alloc: Global,
         map: HashMap<IString, IValue, S>,
@@ -42,8 +42,8 @@ impl IObject {
     /// An object of the pairs of a sorted map, in the order of their keys. Its capacity is their count. They are moved to a
     /// list with that room, which is taken first, and the object is made of it as by `from_pairs`. It is refused as too large
     /// where the count passes 2^56, before memory is asked for; the map and its pairs are then dropped, as where memory is
-    /// refused. An empty map takes no memory. Nothing is copied, and each key is hashed once. It takes time at most n log n
-    /// in the count, whatever the keys are.
+    /// refused. An empty map takes no memory. Nothing is copied, and each key is hashed once, or up to three times where many
+    /// keys crowd. It takes time at most n log n in the count, whatever the keys are.
     pub fn from_btree_map(
         alloc: Global,
         map: BTreeMap<IString, IValue>,
@@ -59,8 +59,8 @@ impl IObject {
     /// An object of the pairs of a map in insertion order, in that order. Its capacity is their count. They are moved to a
     /// list with that room, which is taken first, and the object is made of it as by `from_pairs`. It is refused as too large
     /// where the count passes 2^56, before memory is asked for; the map and its pairs are then dropped, as where memory is
-    /// refused. An empty map takes no memory. Nothing is copied, and each key is hashed once. It takes time at most n log n
-    /// in the count, whatever the keys are.
+    /// refused. An empty map takes no memory. Nothing is copied, and each key is hashed once, or up to three times where many
+    /// keys crowd. It takes time at most n log n in the count, whatever the keys are.
     pub fn from_index_map<S: BuildHasher + Drop>(
         alloc: Global,
         map: IndexMap<IString, IValue, S>,

@@ -1,9 +1,10 @@
-use Rattle.std.proofs.Common.{◌≡◌, ◌<◌, [], ◌∷◌, ◌++◌, length, arith, refl, ap, sym, ◌∙◌, subst, Some, None}
+use Rattle.std.proofs.Common.{◌≡◌, ◌<◌, length, arith, refl, ap, sym, ◌∙◌, subst, Some}
 use Rattle.std.specs.Prelude.{vec_capacity}
 use Rattle.ijson_table.specs.Growth.{Grown}
 use Rattle.ijson_table.specs.Placed.{Placed}
-use Rattle.ijson_table.specs.Store.{at, keys_of, with_value, IsDistinct}
-use Rattle.ijson_table.proofs.pairs.PairsByKey.{distinct_pushed, position_within, put-present, put-absent, lookup-found, lookup-absent}
+use Rattle.ijson_table.specs.Store.{at, with_value}
+use Rattle.ijson_table.proofs.pairs.NewPairs.{still_distinct, put_last}
+use Rattle.ijson_table.proofs.pairs.PairsByKey.{position_within, put-present, lookup-found, lookup-absent}
 use Rattle.ijson_table.proofs.probing.KeyHashes.{had_room}
 use Rattle.ijson_table.proofs.table.Table.insert_counted.Goals as goal
 
@@ -12,13 +13,9 @@ value_mut-requires g c = position_within c.args.self.now.store.pairs c.as_str-2.
 
 pub invariant_of-self-inside : goal.invariant_of-self-inside
 invariant_of-self-inside g c =
-    let old = c.self.inside.pairs.items in
-    let pairs = c.args.self.now.store.pairs in
-    let viewed : old ≡ pairs = ap (λ (t : Placed g.row.V.Denot). t.store.pairs) c.self.view_is in
-    let now : c.push_reserved.new.self.items ≡ old ++ (c.args.key, c.args.value) ∷ [] = c.push_reserved.ensures.items in
-    let missing : at old c.args.key ≡ None = ap (λ ps. at ps c.args.key) viewed
-    ∙ (ap (at pairs) (sym c.as_str-2.ensures) ∙ c.in-Vacant.ensures.ends.0) in
-    (subst (λ ps. IsDistinct (keys_of ps)) (sym now) (distinct_pushed old c.args.key c.args.value c.self.inside.distinct missing), tt)
+    let viewed = ap (λ (t : Placed g.row.V.Denot). t.store.pairs) c.self.view_is in
+    let missing = ap (at c.args.self.now.store.pairs) (sym c.as_str-2.ensures) ∙ c.in-Vacant.ensures.ends.0 in
+    (still_distinct c.args.key c.args.value viewed c.push_reserved.ensures.items missing c.self.inside.distinct, tt)
 
 pub returns-in-Found-clause-inserts : goal.returns-in-Found-clause-inserts
 returns-in-Found-clause-inserts g c =
@@ -34,13 +31,12 @@ pub returns-in-Vacant-clause-inserts : goal.returns-in-Vacant-clause-inserts
 returns-in-Vacant-clause-inserts g c =
     let old = c.self.inside.pairs.items in
     let pairs = c.args.self.now.store.pairs in
-    let viewed : old ≡ pairs = ap (λ (t : Placed g.row.V.Denot). t.store.pairs) c.self.view_is in
-    let missing : at pairs c.args.key ≡ None = ap (at pairs) (sym c.as_str-2.ensures) ∙ c.in-Vacant.ensures.ends.0 in
+    let viewed = ap (λ (t : Placed g.row.V.Denot). t.store.pairs) c.self.view_is in
+    let missing = ap (at pairs) (sym c.as_str-2.ensures) ∙ c.in-Vacant.ensures.ends.0 in
     let room : length old < vec_capacity c.self.inside.pairs =
     omega (arith, c.if-position-capacity.true, c.capacity.ensures, c.len-position.ensures) in (
       lookup-absent pairs c.args.key missing,
-      c.push_reserved.ensures.items ∙ (ap (λ ps. ps ++ (c.args.key, c.args.value) ∷ []) viewed
-          ∙ sym (put-absent pairs c.args.key c.args.value missing)),
+      put_last c.args.key c.args.value viewed c.push_reserved.ensures.items missing,
       subst (Grown (length pairs) c.args.self.now.store.capacity 1) (sym c.push_reserved.ensures.capacity)
           (subst (λ (t : Placed g.row.V.Denot). Grown (length t.store.pairs) t.store.capacity 1 (vec_capacity c.self.inside.pairs))
           c.self.view_is (had_room (length old) (vec_capacity c.self.inside.pairs) room)),

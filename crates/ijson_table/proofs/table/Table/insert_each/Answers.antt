@@ -29,4 +29,5 @@ loop-steps-preserved g c =
       room = omega (arith, ap length c.insert_in_room.ensures.pairs, put-length before.pairs c.in-Some.key c.in-Some.value, i.room, size);
       steps = omega (arith, few, c.loop-steps-test.true);
       counted = omega (arith, i.counted, size, c.insert_in_room.ensures.counted);
+      grows = omega (arith, i.grows);
     }

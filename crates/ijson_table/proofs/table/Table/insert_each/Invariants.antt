@@ -10,6 +10,7 @@ invariant-loop-steps g l = record {
   room : length l.self.store.pairs + length l.rest.items ≤ l.fn.self.store.capacity;
   steps : l.steps ≤ l.most + 2 * slot_count l.fn.self.store.capacity;
   counted : l.fn.steps + length l.fn.rest.items ≤ l.steps + length l.rest.items;
+  grows : l.fn.steps ≤ l.steps;
 }
 
 abbrev pub decreases-loop-steps : goal.decreases-loop-steps

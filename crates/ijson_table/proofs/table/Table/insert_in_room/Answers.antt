@@ -1,11 +1,12 @@
-use Rattle.std.proofs.Common.{◌≡◌, ℕ, ◌+◌, ◌<◌, [], ◌∷◌, ◌++◌, List, length, Option, arith, ap, sym, ◌∙◌, subst, Some, None}
+use Rattle.std.proofs.Common.{◌≡◌, ℕ, ◌+◌, ◌<◌, List, length, Option, arith, ap, sym, ◌∙◌, subst, Some}
 use Rattle.std.proofs.lemmas.Bool.Decides.{nat_tests}
 use Rattle.ijson_table.specs.Crowd.{slot_count}
 use Rattle.ijson_table.specs.Placed.{Placed}
 use Rattle.ijson_table.specs.Slots.{IsTable}
-use Rattle.ijson_table.specs.Store.{at, keys_of, with_value, IsDistinct}
+use Rattle.ijson_table.specs.Store.{at, with_value}
 use Rattle.ijson_table.specs.private.Holds.{HasEmpty}
-use Rattle.ijson_table.proofs.pairs.PairsByKey.{distinct_pushed, position_within, put-present, put-absent}
+use Rattle.ijson_table.proofs.pairs.NewPairs.{still_distinct, put_last}
+use Rattle.ijson_table.proofs.pairs.PairsByKey.{position_within, put-present}
 use Rattle.ijson_table.proofs.probing.KeyHashes.{length-hashes}
 use Rattle.ijson_table.proofs.shifting.Insertion.{some_empty}
 use Rattle.ijson_table.proofs.slots.SlotChanges.{changes-none}
@@ -21,13 +22,9 @@ value_mut-requires g c = position_within c.args.self.now.store.pairs c.as_str-2.
 
 pub invariant_of-self-inside : goal.invariant_of-self-inside
 invariant_of-self-inside g c =
-    let old = c.self.inside.pairs.items in
-    let pairs = c.args.self.now.store.pairs in
-    let viewed : old ≡ pairs = ap (λ (t : Placed g.row.V.Denot). t.store.pairs) c.self.view_is in
-    let now : c.push_reserved.new.self.items ≡ old ++ (c.args.key, c.args.value) ∷ [] = c.push_reserved.ensures.items in
-    let missing : at old c.args.key ≡ None = ap (λ ps. at ps c.args.key) viewed
-    ∙ (ap (at pairs) (sym c.as_str-2.ensures) ∙ c.in-Vacant.ensures.ends.0) in
-    (subst (λ ps. IsDistinct (keys_of ps)) (sym now) (distinct_pushed old c.args.key c.args.value c.self.inside.distinct missing), tt)
+    let viewed = ap (λ (t : Placed g.row.V.Denot). t.store.pairs) c.self.view_is in
+    let missing = ap (at c.args.self.now.store.pairs) (sym c.as_str-2.ensures) ∙ c.in-Vacant.ensures.ends.0 in
+    (still_distinct c.args.key c.args.value viewed c.push_reserved.ensures.items missing c.self.inside.distinct, tt)
 
 pub unreachable-requires : goal.unreachable-requires
 unreachable-requires g c =
@@ -45,11 +42,9 @@ returns-in-Found-clause-pairs g c =
 
 pub returns-in-Vacant-clause-pairs : goal.returns-in-Vacant-clause-pairs
 returns-in-Vacant-clause-pairs g c =
-    let pairs = c.args.self.now.store.pairs in
-    let viewed : c.self.inside.pairs.items ≡ pairs = ap (λ (t : Placed g.row.V.Denot). t.store.pairs) c.self.view_is in
-    let missing : at pairs c.args.key ≡ None = ap (at pairs) (sym c.as_str-2.ensures) ∙ c.in-Vacant.ensures.ends.0 in
-    c.push_reserved.ensures.items ∙ (ap (λ ps. ps ++ (c.args.key, c.args.value) ∷ []) viewed
-    ∙ sym (put-absent pairs c.args.key c.args.value missing))
+    let viewed = ap (λ (t : Placed g.row.V.Denot). t.store.pairs) c.self.view_is in
+    let missing = ap (at c.args.self.now.store.pairs) (sym c.as_str-2.ensures) ∙ c.in-Vacant.ensures.ends.0 in
+    put_last c.args.key c.args.value viewed c.push_reserved.ensures.items missing
 
 pub returns-in-Found-clause-counted : goal.returns-in-Found-clause-counted
 returns-in-Found-clause-counted g c =

@@ -1,15 +1,28 @@
-use Rattle.std.proofs.Common.{◌≡◌, ◌≤◌, ◌^◌, [], length, reverse, arith, ap, sym, subst, ◌∙◌}
-use Rattle.std.specs.Prelude.{vec_capacity}
+use Rattle.std.proofs.Common.{◌≡◌, ◌≤◌, ◌+◌, ◌*◌, ◌^◌, ℕ, [], length, reverse, arith, ap, sym, subst, ◌∙◌}
 use Rattle.ijson_table.specs.Placed.{Placed}
 use Rattle.ijson_table.specs.Store.{keys_of, put_each, IsDistinct}
 use Rattle.ijson_table.proofs.building.BuildBounds.{sorted_once, sorted_twice}
 use Rattle.ijson_table.proofs.pairs.PutEach.{put_each-behind, put_each-distinct}
+use Rattle.ijson_table.proofs.table.Table.with_rest_sorted.Given.{Over}
 use Rattle.ijson_table.proofs.table.Table.with_rest_sorted.Goals as goal
+use Rattle.ijson_table.proofs.table.Table.with_rest_sorted.Goals.{After-fill_sorted}
+
+-- the looks of both sorts
+both : (g : Over) (c : After-fill_sorted g) (k : ℕ) → c.args.self.store.capacity ≤ 2 ^ k
+    → c.fill_sorted.new.looks ≤ c.args.looks.now + c.args.self.store.capacity * (1 + 2 * k)
+both g c k fits =
+    let room = ap (λ (t : Placed g.row.V.Denot). t.store.capacity) c.self.view_is in
+    let few : length c.put_back.new.list.items ≤ c.args.self.store.capacity = omega
+    (arith, c.put_back.ensures.room, room, c.put_back.new.list.ok) in
+    let fewer : length c.deref.result.now ≤ c.args.self.store.capacity =
+    omega (arith, ap length c.deref.ensures.value, c.in_ok-pairs.ensures.room, c.put_back.ensures.room, room, c.in_ok-pairs.pairs.ok) in
+    sorted_twice c.args.self.store.capacity (length c.put_back.new.list.items) (length c.deref.result.now) k c.args.looks.now
+    c.put_sorted.new.looks c.fill_sorted.new.looks few fewer (c.put_sorted.ensures.bounded k (omega (arith, few, fits)))
+    (c.fill_sorted.ensures.bounded k (omega (arith, fewer, fits)))
 
 pub returns-in_err-pairs-clause-bounded : goal.returns-in_err-pairs-clause-bounded
 returns-in_err-pairs-clause-bounded g c k fits =
-    let room : vec_capacity c.self.inside.pairs ≡ c.args.self.store.capacity = ap (λ (t : Placed g.row.V.Denot). t.store.capacity)
-    c.self.view_is in
+    let room = ap (λ (t : Placed g.row.V.Denot). t.store.capacity) c.self.view_is in
     let few : length c.put_back.new.list.items ≤ c.args.self.store.capacity = omega
     (arith, c.put_back.ensures.room, room, c.put_back.new.list.ok) in
     sorted_once c.args.self.store.capacity (length c.put_back.new.list.items) k c.args.looks.now c.put_sorted.new.looks few
@@ -32,16 +45,7 @@ fill_sorted-requires-clause-fits g c =
     omega (arith, c.put_sorted.ensures.bounded 56 few, c.requires.fits, few)
 
 pub returns-in_err-fill_sorted-clause-bounded : goal.returns-in_err-fill_sorted-clause-bounded
-returns-in_err-fill_sorted-clause-bounded g c k fits =
-    let room : vec_capacity c.self.inside.pairs ≡ c.args.self.store.capacity = ap (λ (t : Placed g.row.V.Denot). t.store.capacity)
-    c.self.view_is in
-    let few : length c.put_back.new.list.items ≤ c.args.self.store.capacity = omega
-    (arith, c.put_back.ensures.room, room, c.put_back.new.list.ok) in
-    let fewer : length c.deref.result.now ≤ c.args.self.store.capacity =
-    omega (arith, ap length c.deref.ensures.value, c.in_ok-pairs.ensures.room, c.put_back.ensures.room, room, c.in_ok-pairs.pairs.ok) in
-    sorted_twice c.args.self.store.capacity (length c.put_back.new.list.items) (length c.deref.result.now) k c.args.looks.now
-    c.put_sorted.new.looks c.fill_sorted.new.looks few fewer (c.put_sorted.ensures.bounded k (omega (arith, few, fits)))
-    (c.fill_sorted.ensures.bounded k (omega (arith, fewer, fits)))
+returns-in_err-fill_sorted-clause-bounded g c = both g (goal.at.returns-in_err-fill_sorted-clause-bounded g c).After-fill_sorted
 
 pub invariant_of-result : goal.invariant_of-result
 invariant_of-result g c = (
@@ -57,13 +61,4 @@ returns-clause-pairs g c =
     ∙ ap (λ ps. put_each ps (reverse c.args.rest.items)) viewed))
 
 pub returns-clause-bounded : goal.returns-clause-bounded
-returns-clause-bounded g c k fits =
-    let room : vec_capacity c.self.inside.pairs ≡ c.args.self.store.capacity = ap (λ (t : Placed g.row.V.Denot). t.store.capacity)
-    c.self.view_is in
-    let few : length c.put_back.new.list.items ≤ c.args.self.store.capacity = omega
-    (arith, c.put_back.ensures.room, room, c.put_back.new.list.ok) in
-    let fewer : length c.deref.result.now ≤ c.args.self.store.capacity =
-    omega (arith, ap length c.deref.ensures.value, c.in_ok-pairs.ensures.room, c.put_back.ensures.room, room, c.in_ok-pairs.pairs.ok) in
-    sorted_twice c.args.self.store.capacity (length c.put_back.new.list.items) (length c.deref.result.now) k c.args.looks.now
-    c.put_sorted.new.looks c.fill_sorted.new.looks few fewer (c.put_sorted.ensures.bounded k (omega (arith, few, fits)))
-    (c.fill_sorted.ensures.bounded k (omega (arith, fewer, fits)))
+returns-clause-bounded g c = both g (goal.at.returns-clause-bounded g c).After-fill_sorted
