@@ -80,8 +80,8 @@ module _ {X : Type 0} where
   then_given s xs x u d = yielded xs s d.0 d.1 ∙ ap (λ l. xs ++ l) d.2
 
 -- of an iterator that begins with these entries
-module _ {X : Type 0} (entries : List (List ℕ × X)) (count : ℕ) (counted : count ≡ length entries)
-    (added it : List (List ℕ × X)) (start : it ≡ entries) where
+module _ {X : Type 0} {entries : List (List ℕ × X)} {count : ℕ} (counted : count ≡ length entries) {it : List (List ℕ × X)}
+    (start : it ≡ entries) (added : List (List ℕ × X)) where
   -- all that it gave are the entries, whose keys are distinct
   pub map_all : IsDistinct (keys_of entries) → Drains (TakesFirst (λ (p : List ℕ × X). p)) it added
       → IsDistinct (keys_of added) × (length added ≡ count)

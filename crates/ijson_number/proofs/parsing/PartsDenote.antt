@@ -7,7 +7,7 @@ use Rattle.ijson_number.specs.StoredNumber.{stored_number}
 use Rattle.ijson_number.specs.private.Stripped.{digits_from_text}
 use Rattle.ijson_number.specs.Grammar.{Denotes, Parts, IsSpelled, Spells}
 use Rattle.ijson_number.specs.private.Reading.{BeginsWithNoZero, EndsWithNoZero, exponent_of}
-use Rattle.ijson_number.proofs.parsing.Scanning.{denotes_number, denotes_nought}
+use Rattle.ijson_number.proofs.parsing.Scanning.{ZerosTaken, denotes_number, denotes_nought}
 
 -- the zeros at the front, and what follows them
 front_zeros : (bs : List ℕ) → (j : ℕ) × (t : List ℕ) × (bs ≡ replicate j 48 ++ t) × BeginsWithNoZero t
@@ -48,17 +48,18 @@ pub parts_denote : (text : List ℕ) (p : Parts) → IsSpelled text p → (n : D
 parts_denote text p spelled =
     let f = front_zeros (p.whole ++ p.fraction) in
     let b = back_zeros f.1 in
+    let taken : ZerosTaken text p [] f.1 [] b.1 f.0 b.0 = record { spelled = spelled; front = f.2; back = b.2; first = f.3; last = b.3 } in
     elim (length_cases b.1) [
       | inl none ↦ (
         stored_number false (digits_from_text b.1)
             (pos 0) p.point,
-        denotes_nought text p spelled [] f.1 [] b.1 f.0 b.0 f.2 b.2 f.3 b.3 none,
+        denotes_nought taken none,
       )
       | inr some ↦ (
         stored_number p.negative (digits_from_text b.1)
             (exponent_of p.exponent
             (length p.fraction) b.0) p.point,
-        denotes_number text p spelled [] f.1 [] b.1 f.0 b.0 f.2 b.2 f.3 b.3 some _ refl,
+        denotes_number taken some _ refl,
       )
     ]
 

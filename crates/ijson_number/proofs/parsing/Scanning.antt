@@ -57,9 +57,17 @@ fraction_digits : (ft f : List ℕ) (p : Bool) → IsFraction ft f p → AllDigi
 fraction_digits [] f p g = rw g.0 tt
 fraction_digits (b ∷ bs) f p g = rw g.2 (IsDigits_all bs g.1)
 
-module _ (text : List ℕ) (p : Parts) (spelled : IsSpelled text p) (w f a b : List ℕ) (j k : ℕ)
-    (front : p.whole ++ p.fraction ≡ replicate j 48 ++ (w ++ f)) (back : w ++ f ≡ (a ++ b) ++ replicate k 48)
-    (first : BeginsWithNoZero (w ++ f)) (last : EndsWithNoZero (a ++ b)) where
+-- digits of which `j` zeros are taken in front, and then `k` behind
+pub record ZerosTaken (text : List ℕ) (p : Parts) (w f a b : List ℕ) (j k : ℕ) : Type 0 where
+  pub spelled : IsSpelled text p
+  pub front : p.whole ++ p.fraction ≡ replicate j 48 ++ (w ++ f)
+  pub back : w ++ f ≡ (a ++ b) ++ replicate k 48
+  pub first : BeginsWithNoZero (w ++ f)
+  pub last : EndsWithNoZero (a ++ b)
+
+module _ {text : List ℕ} {p : Parts} {w f a b : List ℕ} {j k : ℕ} (taken : ZerosTaken text p w f a b j k) where
+  open taken use {spelled, front, back, first, last}
+
   all_digits : AllDigits (a ++ b)
   all_digits =
       let h = AllDigits-append p.whole p.fraction (whole_all p.whole spelled.whole)

@@ -6,14 +6,19 @@ use lib.Dec.{eqb}
 use mathlib.Core.Bool.{true, false, true≢false}
 use mathlib.Core.Path.{◌≡◌, sym, ap, ◌∙◌}
 use seplogic.Ra.Ura.{Ura}
+use mir.Syntax.{named}
 use mir.Val.{Val}
 use base.Logic.{SProp, ent, sep, emp}
-use base.Fml.{Fml, Lft, Share, ftrue, flft}
+use base.Fml.{Fml, GName, Lft, Share, ftrue, flft, fdead, fres}
+use base.Fraction.{full_share}
 use contract.Monad.{fact, fact_i}
 use types.Logic.{Logic}
-use types.Kit.{Item, Goal, Seq, Step, Soaks, mean, step, ‵, raw, ◌⊛◌, some, later, ◌$◌, move, drop, split, join, use0, use1, use2, await}
-use types.Kit.{pick}
+use types.Kit.{Item, Goal, Seq, Step, Soaks, mean, step, ‵, raw, ◌⊛◌, some, later, ◌$◌, move, drop, split, join, use0, use1, use2, use3}
+use types.Kit.{pick, await}
+use types.Tokens.{lft_new}
 use denote.Laws.{Is, shows}
+use denote.Lend.{lends_again, comes_back, LentAgain}
+use denote.Ref.{MutBor, MutRef, mut_vals}
 use denote.RattleType.{RattleType}
 use denote.Steps.{nothing, heard, peeks}
 
@@ -41,6 +46,31 @@ module _ {M : Type 1} {𝓤 : Ura M} (𝓛 : Logic 𝓤) {K : Type 0} {Γ : List
       use1 𝓛 (Answer κ q R w L F P) gives $ await t soaks $ pick t (λ x. split t $ split t $ split t $ move t (3 ∷ []) $ pick t (λ ws.
       split t $ drop t $ split t $ move t (1 ∷ []) $ heard t _ (λ says.
       move t (3 ∷ []) $ peeks t R _ (shows 𝓛 R) x (w ∷ []) (λ seen. k x says seen))))
+
+-- ---- a value that is lent again for a lifetime that begins, and comes back when that is over
+-- what the lender keeps
+abbrev pub Kept : (R : RattleType) (κ : Lft) (q : Share) (r : MutBor R.Denot) → ℕ → GName → Fml
+Kept R κ q r α δ = LentAgain R κ (α ∷ []) q r.ghost_name r.ref_ptr.0 r.ref_ptr.1 δ r.now
+
+module _ {M : Type 1} {𝓤 : Ura M} (𝓛 : Logic 𝓤) {K : Type 0} {Γ : List (Item 𝓤)} {G : Goal 𝓤 𝓛.H} (t : K) (soaks : Soaks G) (R : RattleType)
+    (κ : Lft) (q : Share) (r : MutBor R.Denot) where
+  -- the loan, what the lender keeps, and the token of the lifetime
+  pub lent : ((α : ℕ) (δ : GName) → Seq K 𝓛 (‵ ((MutRef (named 0) (α ∷ []) R).own_val (record r { ghost_name = δ }) (mut_vals r))
+      ∷ ‵ (Kept R κ q r α δ) ∷ ‵ (flft (α ∷ []) full_share) ∷ Γ) G)
+      → Seq K 𝓛 (‵ ((MutRef (named 0) κ R).own_val r (mut_vals r)) ∷ ‵ (flft κ q) ∷ Γ) G
+  lent k = lft_new t soaks (λ α. move t (1 ∷ 2 ∷ []) $
+      use2 𝓛 (later (some (λ (δ : GName). ‵ ((MutRef (named 0) (α ∷ []) R).own_val (record r { ghost_name = δ }) (mut_vals r))
+      ⊛ ‵ (Kept R κ q r α δ))))
+      (lends_again 𝓛 R (named 0) κ (α ∷ []) q r.ghost_name r.ref_ptr.0 r.ref_ptr.1 (named 0) r.now) $
+      await t soaks $ pick t (λ δ. split t $ k α δ))
+
+  -- the lender's value, as the loan left it, and its token
+  pub back : (α : ℕ) (δ : GName) (n : R.Denot)
+      → Step K 𝓛 (‵ ((MutRef (named 0) κ R).own_val (record r { now = n }) (mut_vals r)) ∷ ‵ (flft κ q) ∷ Γ) G
+      (‵ (fdead (α ∷ [])) ∷ ‵ (Kept R κ q r α δ) ∷ ‵ (fres δ (R.coded.code n)) ∷ Γ) G
+  back α δ n = step (λ s.
+      use3 𝓛 (later (‵ ((MutRef (named 0) κ R).own_val (record r { now = n }) (mut_vals r)) ⊛ ‵ (flft κ q)))
+      (comes_back 𝓛 R (named 0) κ (α ∷ []) q r.ghost_name r.ref_ptr.0 r.ref_ptr.1 δ r.now n) $ await t soaks $ split t $ s)
 
 -- a number that a switch looks at is another one than that of an arm
 pub apart : {X : Type 1} (m n : ℕ) → eqb m n ≡ false → eqb n n ≡ true → m ≡ n → X

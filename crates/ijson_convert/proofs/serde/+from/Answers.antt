@@ -1,4 +1,4 @@
-use Rattle.std.proofs.Common.{◌≡◌, [], ◌∷◌, ◌++◌, ◌+◌, suc, length, vec_capacity, take, drop, append_assoc, refl, ap, sym, subst, ◌∙◌}
+use Rattle.std.proofs.Common.{◌≡◌, ℕ, [], ◌∷◌, ◌++◌, ◌+◌, suc, length, vec_capacity, take, drop, append_assoc, refl, ap, sym, subst, ◌∙◌}
 use Rattle.std.proofs.Common.{arith, rules}
 use Rattle.std.specs.Prelude.{string_bytes}
 use Rattle.std.specs.List.{flat_map}
@@ -20,16 +20,26 @@ use Rattle.ijson_convert.proofs.serde_trees.SerdeTrees.{items_begun, members_beg
 use Rattle.ijson_convert.proofs.serde_trees.SerdeTrees.{value_texts, entry_texts, tree_texts, items_flat, members_flat, interned_more}
 use Rattle.ijson_convert.proofs.serde_trees.SerdeTrees.{split_at, items_more, members_more, array_none, object_none}
 use Rattle.ijson_convert.proofs.serde_trees.SerdeTrees.{pairs_last}
+use Rattle.ijson_convert.proofs.serde.+from.Given.{Over}
 use Rattle.ijson_convert.proofs.serde.+from.Goals as goal
+use Rattle.ijson_convert.proofs.serde.+from.Goals.{from_items-After-from_serde, from_serde_map-After-intern}
+use Rattle.ijson_convert.proofs.serde.+from.Goals.{from_serde_map-After-from_pairs}
 
 -- ---- an item
+-- the items so far, this one and those behind it
+item_parts : (g : Over) (t : ℕ) (c : from_items-After-from_serde g t) →
+    let xs = c.deref-item-items.result.now in let i = c.loop-item.item-index in
+    take i xs ++ c.item-item.result ∷ drop (suc i) xs ≡ c.args.items.now.items
+item_parts g t c = split_at c.deref-item-items.result.now c.loop-item.item-index c.item-item.result (omega (arith, c.loop-item-test.true))
+    c.item-item.is ∙ c.deref-item-items.ensures.value
+
 pub from_items-returns-in_err-value-clause-refused : goal.from_items-returns-in_err-value-clause-refused
 from_items-returns-in_err-value-clause-refused g t c =
     let p = err_from_is_err_and c.from_residual-in_err-value.result c.from_residual-in_err-value.ensures.1 in
     let xs = c.deref-item-items.result.now in
     let i = c.loop-item.item-index in
     let v = c.item-item.result in
-    let parts = split_at xs i v (omega (arith, c.loop-item-test.true)) c.item-item.is ∙ c.deref-item-items.ensures.value in
+    let parts = item_parts g t (goal.at.from_items-returns-in_err-value-clause-refused g t c).After-from_serde in
     rw (p.1, p.2) (refused_too (λ none. subst (λ l. HasNoTree (serde.array (items_view l))) parts
     (array_none (take i xs) v (drop (suc i) xs) none)) c.in_err-value.ensures.refused)
 
@@ -40,7 +50,7 @@ from_items-returns-in_err-value-clause-begun g t c =
     let i = c.loop-item.item-index in
     let v = c.item-item.result in
     let new = c.from_serde.new.cache in
-    let parts = split_at xs i v (omega (arith, c.loop-item-test.true)) c.item-item.is ∙ c.deref-item-items.ensures.value in
+    let parts = item_parts g t (goal.at.from_items-returns-in_err-value-clause-begun g t c).After-from_serde in
     rw p.1 (items_begun (take i xs) v (drop (suc i) xs) c.args.items.now.items c.args.cache.now c.loop-item.cache new parts
     c.loop-item.invariant.1 c.in_err-value.ensures.begun)
 
@@ -51,7 +61,7 @@ from_items-returns-in_err-push-clause-begun g t c =
     let i = c.loop-item.item-index in
     let v = c.item-item.result in
     let new = c.from_serde.new.cache in
-    let parts = split_at xs i v (omega (arith, c.loop-item-test.true)) c.item-item.is ∙ c.deref-item-items.ensures.value in
+    let parts = item_parts g t (goal.at.from_items-returns-in_err-push-clause-begun g t c).After-from_serde in
     let read = c.in_ok-value.ensures.cache ∙ ap (λ l. all_interned l c.loop-item.cache)
     (tree_texts (view v) c.in_ok-value.value.tree c.in_ok-value.ensures.tree) in
     rw p.1 (items_begun (take i xs) v (drop (suc i) xs) c.args.items.now.items c.args.cache.now c.loop-item.cache new parts
@@ -114,6 +124,17 @@ from_serde_map-loop-key-init g t c = record {
   room = search rules;
 }
 
+-- the members so far, this one and those that are left
+member_parts : (g : Over) (t : ℕ) (c : from_serde_map-After-intern g t)
+    → c.loop-key.invariant.done ++ (c.in-Some.key.now, c.in-Some.member.now) ∷ c.next.new.self ≡ c.args.map.now.entries
+member_parts g t c = sym (c.loop-key.invariant.parts ∙ ap (λ es. c.loop-key.invariant.done ++ es) c.in-Some.ensures.steps)
+
+-- where none is left, those so far are all
+all_done : (g : Over) (t : ℕ) (c : from_serde_map-After-from_pairs g t) → c.args.map.now.entries ≡ c.loop-key.invariant.done
+all_done g t c =
+    let done = c.loop-key.invariant.done in
+    c.loop-key.invariant.parts ∙ ap (λ es. done ++ es) c.in-None.ensures.steps.0 ∙ append-nil done
+
 pub from_serde_map-returns-in_err-key-clause-begun : goal.from_serde_map-returns-in_err-key-clause-begun
 from_serde_map-returns-in_err-key-clause-begun g t c =
     let p = err_from_is_err_and c.from_residual-in_err-key.result c.from_residual-in_err-key.ensures.1 in
@@ -122,7 +143,7 @@ from_serde_map-returns-in_err-key-clause-begun g t c =
     let left = c.next.new.self in
     let new = c.intern.new.cache in
     let entries = c.args.map.now.entries in
-    let parts : done ++ e ∷ left ≡ entries = sym (c.loop-key.invariant.parts ∙ ap (λ es. done ++ es) c.in-Some.ensures.steps) in
+    let parts = member_parts g t (goal.at.from_serde_map-returns-in_err-key-clause-begun g t c).After-intern in
     let nothing = subst (λ m. SomeInterned (entry_texts e) c.loop-key.cache m) (sym c.in_err-key.ensures.refused)
     (none_interned (entry_texts e) c.loop-key.cache) in
     rw p.1 (members_begun done e left entries c.args.cache.now c.loop-key.cache new parts c.loop-key.invariant.texts nothing)
@@ -134,7 +155,7 @@ from_serde_map-returns-in_err-value-clause-refused g t c =
     let e : Entry = (c.in-Some.key.now, c.in-Some.member.now) in
     let left = c.next.new.self in
     let entries = c.args.map.now.entries in
-    let parts : done ++ e ∷ left ≡ entries = sym (c.loop-key.invariant.parts ∙ ap (λ es. done ++ es) c.in-Some.ensures.steps) in
+    let parts = member_parts g t (goal.at.from_serde_map-returns-in_err-value-clause-refused g t c).After-intern in
     rw (p.1, p.2) (refused_too (λ none. subst (λ es. HasNoTree (serde.object (members_view es))) parts (object_none done e left none))
     c.in_err-value.ensures.refused)
 
@@ -146,7 +167,7 @@ from_serde_map-returns-in_err-value-clause-begun g t c =
     let left = c.next.new.self in
     let new = c.from_serde.new.cache in
     let entries = c.args.map.now.entries in
-    let parts : done ++ e ∷ left ≡ entries = sym (c.loop-key.invariant.parts ∙ ap (λ es. done ++ es) c.in-Some.ensures.steps) in
+    let parts = member_parts g t (goal.at.from_serde_map-returns-in_err-value-clause-begun g t c).After-intern in
     let keyed : c.intern.new.cache ≡ all_interned (string_bytes e.0 ∷ []) c.loop-key.cache =
     c.in_ok-key.ensures.cache ∙ ap (λ k. interned k c.loop-key.cache) c.as_str.ensures.value in
     let behind = subst (λ m. SomeInterned (serde_texts (view e.1)) m new) keyed c.in_err-value.ensures.begun in
@@ -183,27 +204,24 @@ from_serde_map-loop-key-preserved g t c =
 pub from_serde_map-returns-in_err-from_pairs-clause-begun : goal.from_serde_map-returns-in_err-from_pairs-clause-begun
 from_serde_map-returns-in_err-from_pairs-clause-begun g t c =
     let p = err_from_is_err_and c.from_residual-in_err-from_pairs.result c.from_residual-in_err-from_pairs.ensures.1 in
-    let done = c.loop-key.invariant.done in
     let entries = c.args.map.now.entries in
-    let all : entries ≡ done = c.loop-key.invariant.parts ∙ ap (λ es. done ++ es) c.in-None.ensures.steps.0 ∙ append-nil done in
+    let all = all_done g t (goal.at.from_serde_map-returns-in_err-from_pairs-clause-begun g t c).After-from_pairs in
     let flat = members_flat entries ∙ ap (flat_map entry_texts) all in
     rw p.1 (wholly_interned (serde_texts (serde.object (members_view entries))) c.args.cache.now c.loop-key.cache
     (c.loop-key.invariant.texts ∙ ap (λ l. all_interned l c.args.cache.now) (sym flat)))
 
 pub from_serde_map-returns-clause-tree : goal.from_serde_map-returns-clause-tree
 from_serde_map-returns-clause-tree g t c =
-    let done = c.loop-key.invariant.done in
     let entries = c.args.map.now.entries in
-    let all : entries ≡ done = c.loop-key.invariant.parts ∙ ap (λ es. done ++ es) c.in-None.ensures.steps.0 ∙ append-nil done in
+    let all = all_done g t (goal.at.from_serde_map-returns-clause-tree g t c).After-from_pairs in
     let trees = subst (λ es. SerdeMembers (members_view es) (pair_trees c.loop-key.pairs.items)) (sym all) c.loop-key.invariant.trees in
     let last = pairs_last entries c.loop-key.pairs.items trees c.iter-key-items.ensures.ordered in
     subst (λ ps. SerdeMembers (members_view entries) (pair_trees ps)) (sym (c.in_ok-from_pairs.ensures.pairs ∙ last)) trees
 
 pub from_serde_map-returns-clause-cache : goal.from_serde_map-returns-clause-cache
 from_serde_map-returns-clause-cache g t c =
-    let done = c.loop-key.invariant.done in
     let entries = c.args.map.now.entries in
-    let all : entries ≡ done = c.loop-key.invariant.parts ∙ ap (λ es. done ++ es) c.in-None.ensures.steps.0 ∙ append-nil done in
+    let all = all_done g t (goal.at.from_serde_map-returns-clause-cache g t c).After-from_pairs in
     let texts = tree_texts (serde.object (members_view entries)) (object_tree c.in_ok-from_pairs.field-0.pairs)
     (from_serde_map-returns-clause-tree g t c) ∙ members_flat entries ∙ ap (flat_map entry_texts) all in
     c.loop-key.invariant.texts ∙ ap (λ l. all_interned l c.args.cache.now) (sym texts)

@@ -1,4 +1,4 @@
-use Rattle.std.proofs.Common.{◌∙◌, ap, sym}
+use Rattle.std.proofs.Common.{◌∙◌, ap, sym, rules}
 use Rattle.ijson_number.specs.Num.{Num}
 use Rattle.ijson_number.specs.declared.repr.stored.LongNumber.{LongNumber}
 use Rattle.ijson_number.specs.declared.repr.stored.ShortNumber.{ShortNumber}
@@ -7,30 +7,26 @@ use Rattle.ijson_number.specs.private.Stored.{long_form, short_form, stored_deci
 use Rattle.ijson_number.proofs.comparing.DigitOrder.{row_digits}
 use Rattle.ijson_number.proofs.number.INumber.push_stripped_digits.Goals as goal
 
-pub returns-in-Short-clause-digits : goal.returns-in-Short-clause-digits
-returns-in-Short-clause-digits c =
+pub returns-in-Short : goal.returns-in-Short
+returns-in-Short c =
     let n = c.stripped.result in
     let view = c.stripped.ensures.number ∙ ap (λ (x : ShortNumber). form_number (short_form x)) c.deref.ensures
     ∙ sym (ap stored_decimal c.in-Short.is) ∙ ap (λ (x : Num). x.decimal) c.self.view_is in
-    rw (← row_digits n.negative n.digits.now n.exponent n.point c.args.self.now.decimal view n.stripped) c.push_row.ensures.written
+    let digits = row_digits n.negative n.digits.now n.exponent n.point c.args.self.now.decimal view n.stripped in
+    record {
+      digits = rw (← digits) c.push_row.ensures.written;
+      exponent = search rules;
+      refused = rw (← digits) c.push_row.ensures.refused;
+    }
 
-pub returns-in-Short-clause-refused : goal.returns-in-Short-clause-refused
-returns-in-Short-clause-refused c =
-    let n = c.stripped.result in
-    let view = c.stripped.ensures.number ∙ ap (λ (x : ShortNumber). form_number (short_form x)) c.deref.ensures
-    ∙ sym (ap stored_decimal c.in-Short.is) ∙ ap (λ (x : Num). x.decimal) c.self.view_is in
-    rw (← row_digits n.negative n.digits.now n.exponent n.point c.args.self.now.decimal view n.stripped) c.push_row.ensures.refused
-
-pub returns-in-Long-clause-digits : goal.returns-in-Long-clause-digits
-returns-in-Long-clause-digits c =
+pub returns-in-Long : goal.returns-in-Long
+returns-in-Long c =
     let n = c.stripped-in-Long.result in
     let view = c.stripped-in-Long.ensures ∙ ap (λ (x : LongNumber). form_number (long_form x)) c.deref-in-Long.ensures
     ∙ sym (ap stored_decimal c.in-Long.is) ∙ ap (λ (x : Num). x.decimal) c.self.view_is in
-    rw (← row_digits n.negative n.digits.now n.exponent n.point c.args.self.now.decimal view n.stripped) c.push_runs.ensures.written
-
-pub returns-in-Long-clause-refused : goal.returns-in-Long-clause-refused
-returns-in-Long-clause-refused c =
-    let n = c.stripped-in-Long.result in
-    let view = c.stripped-in-Long.ensures ∙ ap (λ (x : LongNumber). form_number (long_form x)) c.deref-in-Long.ensures
-    ∙ sym (ap stored_decimal c.in-Long.is) ∙ ap (λ (x : Num). x.decimal) c.self.view_is in
-    rw (← row_digits n.negative n.digits.now n.exponent n.point c.args.self.now.decimal view n.stripped) c.push_runs.ensures.refused
+    let digits = row_digits n.negative n.digits.now n.exponent n.point c.args.self.now.decimal view n.stripped in
+    record {
+      digits = rw (← digits) c.push_runs.ensures.written;
+      exponent = search rules;
+      refused = rw (← digits) c.push_runs.ensures.refused;
+    }

@@ -1,12 +1,12 @@
 -- A value lends the part that it has, by a call for each kind. Assumes `Logic`.
-use Rattle.ijson_value.proofs.lends.Steps.{◌≡◌, ℕ, List, [], ◌∷◌, refl, sym, ap, ◌∙◌, lit<, MutBor, proved, full_share, id⊢, GName, Lft}
+use Rattle.ijson_value.proofs.lends.Steps.{◌≡◌, ℕ, List, [], ◌∷◌, refl, sym, ap, ◌∙◌, lit<, MutBor, proved, full_share, id⊢, Lft}
 use Rattle.ijson_value.proofs.lends.Steps.{ftrue, flft, fres, named, Val, fact, tables, ‵, raw, ◌⊛◌, some, later, at_ret, ◌$◌, ◌∵◌, !, qed}
-use Rattle.ijson_value.proofs.lends.Steps.{done, move, keep, use0, use1, use2, use3, split, join, rewrite, fsplit, fsplit3, fjoin, pick}
+use Rattle.ijson_value.proofs.lends.Steps.{done, move, keep, use0, use1, use2, split, join, rewrite, fsplit, fsplit3, fjoin, pick}
 use Rattle.ijson_value.proofs.lends.Steps.{await, suffices, frame, enter, of_opd, lit, addr, fld, stop, no_more, and_then, first, exec}
 use Rattle.ijson_value.proofs.lends.Steps.{returns, alloc_all, pass_all, free_all, look_at, get, get_tag, through, sets, sets_last}
 use Rattle.ijson_value.proofs.lends.Steps.{lands_as, agg, env, no, MutRef, mut_vals, mut_Tells, plain, mut_ref_to, nothing, heard, only}
 use Rattle.ijson_value.proofs.lends.Steps.{whole, vrt, mut_ref_laws, calls_at, lasts, triple_of, Stays, walk_of, says, stay_dropped}
-use Rattle.ijson_value.proofs.lends.Steps.{Goes-spent_ref, ends_at, framed, lends_again, comes_back, LentAgain, lft_new, lft_end, Sq, prop}
+use Rattle.ijson_value.proofs.lends.Steps.{Goes-spent_ref, ends_at, framed, lft_end, Sq, prop}
 use types.Match.{live}
 use types.Run.{switches}
 use mir.Val.{of_list}
@@ -28,7 +28,7 @@ use Rattle.ijson_value.specs.declared.value.ValueType.{ValueType}
 use Rattle.ijson_value.specs.declared.value.ValueType.TheVariants as kind
 use Rattle.ijson_value.specs.declared.value.destructure.DestructuredMut.TheVariants as parts
 use Rattle.ijson_value.proofs.value.destructure.BoolMut.TheLaws.{the_row_laws as bool_laws}
-use Rattle.ijson_value.proofs.lends.Called.{apart, past, asks, answered}
+use Rattle.ijson_value.proofs.lends.Called.{apart, past, asks, answered, lent, back}
 use Rattle.ijson_value.proofs.lends.LentOn.{none_if}
 use Rattle.ijson_value.specs.declared.value.destructure.DestructuredMut.{DestructuredMut}
 use Rattle.ijson_value.proofs.lends.Parts.{by_kind, is_null, kind_out, null_made, bool_made, number_made, string_made, array_made}
@@ -73,9 +73,7 @@ destructure_mut_spec 𝓤 𝓛 𝓜 𝓡 wired =
     enter ! _ _ _ _ _ $ alloc_all ! (λ l. pass_all ! refl ((tt, tt), tt) $
     -- [the value; its token]
     sets ! (addr ! (through ! refl (stop !))) refl (tt, tt) $
-    lft_new ! tt (λ α. move ! (1 ∷ 2 ∷ []) $ let β : Lft = α ∷ [] in
-    use2 𝓛 (later (some (λ (δ : GName). ‵ (Ref β (record r { ghost_name = δ })) ⊛ ‵ (LentAgain V κ β q γ b o δ r.now))))
-    (lends_again 𝓛 V (named 0) κ β q γ b o (named 0) r.now) $ await ! tt $ pick ! (λ δ. split ! $
+    lent 𝓛 ! tt V κ q r (λ α δ. let β : Lft = α ∷ [] in
     -- [the loan; what the lender keeps; the token of α]
     let r' : MutBor WellFormed = record r { ghost_name = δ } in
     let G = triple_of 𝓛 g.signature (g.spec 𝓛 𝓜.mem 𝓡.returns) in
@@ -91,8 +89,7 @@ destructure_mut_spec 𝓤 𝓛 𝓜 𝓡 wired =
     pick ! (λ ws. split ! $ move ! (1 ∷ []) $ split ! $ heard ! _ (λ kept. heard ! _ (λ told. fsplit ! $ fsplit ! $
     rewrite ! 0 (λ (n : WellFormed). ‵ (fres δ (V.coded.code n))) kept refl $
     -- [the loan's last value; its borrow; nothing; α is over; nothing; the kind; what the lender keeps]
-    move ! (3 ∷ 6 ∷ 0 ∷ []) $ use3 𝓛 (later (‵ (Ref κ r) ⊛ ‵ (flft κ q))) (comes_back 𝓛 V (named 0) κ β q γ b o δ r.now r.now) $
-    await ! tt $ split ! $
+    move ! (3 ∷ 6 ∷ 0 ∷ []) $ back 𝓛 ! tt V κ q r α δ r.now $
     -- [the value; its token; its borrow; nothing; nothing; the kind]
     by_kind x
     (λ is. rewrite ! 5 (λ (x' : ValueType). ‵ (KindRow.own_val x' (v ∷ []))) is refl $ move ! (5 ∷ []) $
@@ -233,4 +230,4 @@ destructure_mut_spec 𝓤 𝓛 𝓜 𝓡 wired =
           use1 𝓛 (‵ ((PartsOf at).own_val (parts.Object part) (live 5 (of_list (w ∷ [])) ∷ []))) (object_made 𝓛 at part w) $
           keep ! (0 ∷ 2 ∷ 1 ∷ []) $ ends (live 5 (of_list (w ∷ []))) (parts.Object part) stands))),
       (λ n. absurd (n.1 refl)),
-    )))))))))))))))))
+    ))))))))))))))))

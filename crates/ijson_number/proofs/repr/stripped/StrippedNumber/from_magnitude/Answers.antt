@@ -1,12 +1,14 @@
-use Rattle.std.proofs.Common.{◌≡◌, ◌≢◌, ◌<◌, ◌-◌, ◌*◌, ◌%◌, ◌^◌, ◌++◌, [], List, ℕ, ◌∙◌, length, drop, take, ap, sym, subst, rules, arith}
-use Rattle.std.specs.Prelude.{FitsSigned}
+use Rattle.std.proofs.Common.{◌≡◌, ◌≢◌, ◌<◌, ◌-◌, ◌%◌, ◌^◌, ◌++◌, [], List, ℕ, ◌∙◌, length, drop, take, ap, sym, subst, rules, arith}
+use Rattle.std.specs.Prelude.{FitsSigned, ◌+ℤ◌}
 use Rattle.std.specs.Fmt.{decimal}
 use Rattle.std.specs.Int.Digits.{digits_of}
 use Rattle.std.proofs.lemmas.Fmt.{length-decimal-le}
 use Rattle.std.proofs.lemmas.Int.{to_z-of_z}
 use Rattle.std.proofs.lemmas.List.{length-drop, take_all}
-use mir.Syntax.{w16}
+use mir.Syntax.{w16, w32}
+use mir.Val.{of_z, to_z}
 use Rattle.ijson_number.specs.Num.{IsNum}
+use Rattle.ijson_number.specs.StoredNumber.{stored_number}
 use Rattle.ijson_number.specs.Stripped.{stripped_number}
 use Rattle.ijson_number.specs.Strips.{signed}
 use Rattle.ijson_number.specs.private.Stripped.{digits_from_text}
@@ -14,6 +16,7 @@ use Rattle.ijson_number.proofs.storing.IntegerWords.{zero_is, some_is, some_stor
 use Rattle.ijson_number.proofs.storing.ShortNumbers.{made}
 use Rattle.ijson_number.proofs.storing.ZerosOff.{exact_sum, few, last}
 use Rattle.ijson_number.proofs.repr.stripped.StrippedNumber.from_magnitude.Goals as goal
+use Rattle.ijson_number.proofs.repr.stripped.StrippedNumber.from_magnitude.Goals.{After-from}
 
 pub returns-then-magnitude-eq0 : goal.returns-then-magnitude-eq0
 returns-then-magnitude-eq0 c =
@@ -31,41 +34,43 @@ written : (s start : ℕ) (text buffer : List ℕ) → 0 < s → s < 2 ^ 64 → 
 written s start text buffer some word long shown is =
     take_all (20 - start) (drop start buffer) (omega (arith, length-drop start buffer)) ∙ made s start text buffer some word shown is
 
+-- the last digit of what is left is not zero
+last_digit : (c : After-from) → c.without_zeros-stripped.result.0 % 10 ≢ 0
+last_digit c =
+    let s = c.without_zeros-stripped in
+    last c.args.magnitude s.result.0 s.result.1 c.if-magnitude-eq0.false (search rules) s.ensures.tens s.ensures.stripped
+
+-- the digits are those of what is left
+digits_are : (c : After-from) → let start = c.write_digits-start.result in
+    take (20 - start) (drop start c.make_digits.new.buffer) ≡ digits_of 10 c.without_zeros-stripped.result.0
+digits_are c =
+    let stripped = c.without_zeros-stripped.result.0 in
+    let w = c.write_digits-start in
+    let above : 0 < stripped = omega (arith, last_digit c) in
+    written stripped w.result w.new.buf c.make_digits.new.buffer above (search rules) (search rules) w.ensures.written c.make_digits.ensures
+
+-- the number is that of the digits, and the exponent has a ten for each zero that was taken off
+number_is : (c : After-from) → let start = c.write_digits-start.result in
+    stripped_number (signed c.args.negative c.args.magnitude) c.args.exponent c.args.point
+    ≡ stored_number c.args.negative (take (20 - start) (drop start c.make_digits.new.buffer))
+    (to_z w32 (of_z w32 (to_z w32 (of_z w32 c.from.result) +ℤ to_z w32 (20 - c.without_zeros-stripped.result.1)))) c.args.point
+number_is c =
+    let a = c.args in
+    let s = c.without_zeros-stripped in
+    let some = c.if-magnitude-eq0.false in
+    let fits : FitsSigned w16 a.exponent = search rules in
+    let tens = few a.magnitude s.result.0 s.result.1 some (search rules) s.ensures.tens in
+    let exact = exact_sum a.exponent c.from.result (20 - s.result.1) (c.from.ensures ∙ to_z-of_z w16 a.exponent fits) fits tens in
+    rw (digits_are c, exact)
+    (some_is a.magnitude s.result.0 (20 - s.result.1) some (omega arith) s.ensures.tens (last_digit c) a.negative a.exponent a.point)
+
 pub invariant_of-result-2 : goal.invariant_of-result-2
 invariant_of-result-2 c =
-    let a = c.args in
-    let s = c.without_zeros-stripped in
-    let w = c.write_digits-start in
-    let buffer = c.make_digits.new.buffer in
-    let fits : FitsSigned w16 a.exponent = search rules in
-    let word : a.magnitude < 2 ^ 64 = search rules in
-    let long : length buffer ≡ 20 = search rules in
-    let small : s.result.0 < 2 ^ 64 = search rules in
-    let some = c.if-magnitude-eq0.false in
-    let tens = few a.magnitude s.result.0 s.result.1 some word s.ensures.tens in
-    let exact = exact_sum a.exponent c.from.result (20 - s.result.1) (c.from.ensures ∙ to_z-of_z w16 a.exponent fits) fits tens in
-    let stripped = last a.magnitude s.result.0 s.result.1 some word s.ensures.tens s.ensures.stripped in
-    let above : 0 < s.result.0 = omega (arith, stripped) in
-    let digits = written s.result.0 w.result w.new.buf buffer above small long w.ensures.written c.make_digits.ensures in
-    let is = some_is a.magnitude s.result.0 (20 - s.result.1) some
-    (omega arith) s.ensures.tens stripped a.negative a.exponent a.point in
-    record { num = rw (digits, exact) (subst IsNum is c.requires); stripped = rw digits (some_stored s.result.0 stripped a.negative) }
+    let at = (goal.at.invariant_of-result-2 c).After-from in
+    record {
+      num = subst IsNum (number_is at) c.requires;
+      stripped = rw (digits_are at) (some_stored c.without_zeros-stripped.result.0 (last_digit at) c.args.negative);
+    }
 
 pub returns : goal.returns
-returns c =
-    let a = c.args in
-    let s = c.without_zeros-stripped in
-    let w = c.write_digits-start in
-    let buffer = c.make_digits.new.buffer in
-    let fits : FitsSigned w16 a.exponent = search rules in
-    let word : a.magnitude < 2 ^ 64 = search rules in
-    let long : length buffer ≡ 20 = search rules in
-    let small : s.result.0 < 2 ^ 64 = search rules in
-    let some = c.if-magnitude-eq0.false in
-    let tens = few a.magnitude s.result.0 s.result.1 some word s.ensures.tens in
-    let exact = exact_sum a.exponent c.from.result (20 - s.result.1) (c.from.ensures ∙ to_z-of_z w16 a.exponent fits) fits tens in
-    let stripped = last a.magnitude s.result.0 s.result.1 some word s.ensures.tens s.ensures.stripped in
-    let above : 0 < s.result.0 = omega (arith, stripped) in
-    let digits = written s.result.0 w.result w.new.buf buffer above small long w.ensures.written c.make_digits.ensures in
-    rw (digits, exact)
-    (sym (some_is a.magnitude s.result.0 (20 - s.result.1) some (omega arith) s.ensures.tens stripped a.negative a.exponent a.point))
+returns c = sym (number_is (goal.at.returns c).After-from)

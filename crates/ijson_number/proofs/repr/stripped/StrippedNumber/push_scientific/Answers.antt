@@ -4,48 +4,73 @@ use Rattle.std.specs.String.{string_bytes}
 use Rattle.std.proofs.lemmas.Int.{to_z-of_z}
 use mir.Syntax.{w32, w128}
 use mir.Val.{of_z, to_z}
+use Rattle.ijson_number.specs.Text.{num_text}
 use Rattle.ijson_number.specs.private.SplitText.{split_text}
+use Rattle.ijson_number.specs.private.StrippedNumber.{decimal_of}
 use Rattle.ijson_number.specs.private.WordText.{integer_text}
 use Rattle.ijson_number.proofs.AnyAnswer.{where_refused}
 use Rattle.ijson_number.proofs.writing.Beginnings.{last_begun, none_begun, some_begun}
 use Rattle.ijson_number.proofs.writing.SplitTexts.{scientific_shown}
 use Rattle.ijson_number.proofs.repr.stripped.StrippedNumber.push_scientific.Goals as goal
+use Rattle.ijson_number.proofs.repr.stripped.StrippedNumber.push_scientific.Goals.{After-push, After-push_split}
 
--- what is put together is the text
-joined : (old split power before after : List ℕ) → before ≡ (old ++ split) ++ 101 ∷ [] → after ≡ before ++ power
-    → after ≡ old ++ (split ++ 101 ∷ power)
-joined old split power before after is all =
-    rw (all, is) (append_assoc (old ++ split) (101 ∷ []) power ∙ append_assoc old split (101 ∷ power))
-
-pub returns-clause-done : goal.returns-clause-done
-unfolding lib.Utf8.encode
-returns-clause-done c = λ t.
+-- the digits, split behind the first, and the exponent are the text
+shown : (c : After-push_split) (power : ℤ) → power ≡ c.place_of-place.result -ℤ pos 1
+    → split_text c.args.self.now.negative c.args.self.now.digits.now 1 ++ 101 ∷ integer_text (int_lt power (pos 0)) (nat_abs power)
+    ≡ num_text (decimal_of c.args.self.now)
+shown c power is_power =
     let n = c.args.self.now in
     let ds = n.digits.now in
     let fits : FitsSigned w32 n.exponent = search rules in
     let exact = to_z-of_z w32 n.exponent fits in
-    let place = c.place_of-place.result in
-    let same = to_z-of_z w128 place c.place_of-place.ensures.fits in
-    let is : place ≡ pos (length ds) +ℤ n.exponent = c.place_of-place.ensures.value ∙ ap (λ e. pos (length ds) +ℤ e) exact in
-    let written : int_le place (negsuc 5) || int_lt (pos 20) n.exponent ≡ true =
-    ap₂ (λ p e. int_le p (negsuc 5) || int_lt (pos 20) e) (sym same) (sym exact) ∙ sym c.is_scientific.ensures ∙ grind arith in
-    let less : ℤ = to_z w128 (of_z w128 place) -ℤ pos 1 in
-    let power : to_z w128 (of_z w128 less) ≡ place -ℤ pos 1 = to_z-of_z w128 less (search rules) ∙ ap (λ p. p -ℤ pos 1) same in
-    let shown =
-    scientific_shown n.negative ds n.exponent n.point place (to_z w128 (of_z w128 less)) n.stripped.stripped c.requires.point
-    (omega (arith, c.if-count-lt2.false))
-    is c.place_of-place.ensures.low c.place_of-place.ensures.high written power in
+    let p = c.place_of-place in
+    let is : p.result ≡ pos (length ds) +ℤ n.exponent = p.ensures.value ∙ ap (λ e. pos (length ds) +ℤ e) exact in
+    let written : int_le p.result (negsuc 5) || int_lt (pos 20) n.exponent ≡ true =
+    ap₂ (λ p e. int_le p (negsuc 5) || int_lt (pos 20) e) (sym (to_z-of_z w128 p.result p.ensures.fits)) (sym exact)
+    ∙ sym c.is_scientific.ensures ∙ grind arith in
+    scientific_shown n.negative ds n.exponent n.point p.result power n.stripped.stripped c.requires.point
+    (omega (arith, c.if-count-lt2.false)) is p.ensures.low p.ensures.high written is_power
+
+-- the digits are split behind the first
+split : (c : After-push) → string_bytes c.push_split.new.out
+    ≡ string_bytes c.args.out.now ++ split_text c.args.self.now.negative c.args.self.now.digits.now 1
+split c =
+    let ds = c.args.self.now.digits.now in
     let one : length ds - (length ds - 1) ≡ 1 = omega (arith, c.if-count-lt2.false) in
-    let split = split_text n.negative ds 1 in
-    let before : string_bytes c.push.new.self ≡ (string_bytes c.args.out.now ++ split) ++ 101 ∷ [] =
-    c.in_ok-push.ensures.bytes
-    ∙ ap (λ x. x ++ 101 ∷ [])
-    (c.in_ok-push_split.ensures.written ∙ ap (λ k. string_bytes c.args.out.now ++ split_text n.negative ds k) one) in
-    joined (string_bytes c.args.out.now) split (integer_text (int_lt (to_z w128 (of_z w128 less)) (pos 0)) c.unsigned_abs.result)
-    (string_bytes c.push.new.self) (string_bytes c.push_integer.new.out) before c.in_ok-push_integer.ensures.written
-    ∙ ap (λ k. string_bytes c.args.out.now ++
-    (split ++ 101 ∷ integer_text (int_lt (to_z w128 (of_z w128 less)) (pos 0)) k)) c.unsigned_abs.ensures.value
-    ∙ ap (λ x. string_bytes c.args.out.now ++ x) shown
+    c.in_ok-push_split.ensures.written ∙ ap (λ k. string_bytes c.args.out.now ++ split_text c.args.self.now.negative ds k) one
+
+-- the exponent is one less than the point's place
+abbrev power : After-push_split → ℤ
+power c = to_z w128 (of_z w128 (to_z w128 (of_z w128 c.place_of-place.result) -ℤ pos 1))
+
+-- what is appended before the exponent, and the exponent
+abbrev parts : After-push_split → ℕ → List ℕ × List ℕ
+parts c magnitude = (
+  split_text c.args.self.now.negative c.args.self.now.digits.now 1 ++ 101 ∷ [],
+  integer_text (int_lt (power c) (pos 0)) magnitude,
+)
+
+both : (c : After-push_split) (magnitude : ℕ) → magnitude ≡ nat_abs (power c)
+    → (parts c magnitude).0 ++ (parts c magnitude).1 ≡ num_text (decimal_of c.args.self.now)
+both c magnitude is =
+    let text = split_text c.args.self.now.negative c.args.self.now.digits.now 1 in
+    let place = c.place_of-place in
+    let less : ℤ = to_z w128 (of_z w128 place.result) -ℤ pos 1 in
+    let one_less = to_z-of_z w128 less (search rules) ∙ ap (λ p. p -ℤ pos 1) (to_z-of_z w128 place.result place.ensures.fits) in
+    append_assoc text (101 ∷ []) (parts c magnitude).1
+    ∙ ap (λ k. text ++ 101 ∷ integer_text (int_lt (power c) (pos 0)) k) is
+    ∙ shown c (power c) one_less
+
+pub returns-clause-done : goal.returns-clause-done
+unfolding lib.Utf8.encode
+returns-clause-done c = λ t.
+    let at = goal.at.returns-clause-done c in
+    let old = string_bytes c.args.out.now in
+    let text = parts at.After-push_split c.unsigned_abs.result in
+    c.in_ok-push_integer.ensures.written
+    ∙ ap (λ x. x ++ text.1) (c.in_ok-push.ensures.bytes ∙ ap (λ x. x ++ 101 ∷ []) (split at.After-push))
+    ∙ ap (λ x. x ++ text.1) (append_assoc old _ (101 ∷ [])) ∙ append_assoc old text.0 text.1
+    ∙ ap (λ x. old ++ x) (both at.After-push_split c.unsigned_abs.result c.unsigned_abs.ensures.value)
 
 pub returns-in_err-push_split-clause-refused : goal.returns-in_err-push_split-clause-refused
 returns-in_err-push_split-clause-refused c =
@@ -53,54 +78,20 @@ returns-in_err-push_split-clause-refused c =
 
 pub returns-in_err-push-clause-refused : goal.returns-in_err-push-clause-refused
 returns-in_err-push-clause-refused c =
+    let at = goal.at.returns-in_err-push-clause-refused c in
     let n = c.args.self.now in
-    let ds = n.digits.now in
-    let old = string_bytes c.args.out.now in
-    let fits : FitsSigned w32 n.exponent = search rules in
-    let exact = to_z-of_z w32 n.exponent fits in
-    let place = c.place_of-place.result in
-    let same = to_z-of_z w128 place c.place_of-place.ensures.fits in
-    let is : place ≡ pos (length ds) +ℤ n.exponent = c.place_of-place.ensures.value ∙ ap (λ e. pos (length ds) +ℤ e) exact in
-    let written : int_le place (negsuc 5) || int_lt (pos 20) n.exponent ≡ true =
-    ap₂ (λ p e. int_le p (negsuc 5) || int_lt (pos 20) e) (sym same) (sym exact) ∙ sym c.is_scientific.ensures ∙ grind arith in
-    let shown =
-    scientific_shown n.negative ds n.exponent n.point place (place -ℤ pos 1) n.stripped.stripped c.requires.point
-    (omega (arith, c.if-count-lt2.false))
-    is c.place_of-place.ensures.low c.place_of-place.ensures.high written refl in
-    let one : length ds - (length ds - 1) ≡ 1 = omega (arith, c.if-count-lt2.false) in
-    let split = split_text n.negative ds 1 in
-    where_refused _ (some_begun old (string_bytes c.push.new.self) split
-    (101 ∷ integer_text (int_lt (place -ℤ pos 1) (pos 0)) (nat_abs (place -ℤ pos 1))) _
-    (c.in_err-push.ensures.bytes ∙ c.in_ok-push_split.ensures.written ∙ ap (λ k. old ++ split_text n.negative ds k) one) shown)
+    let less = c.place_of-place.result -ℤ pos 1 in
+    where_refused _ (some_begun (string_bytes c.args.out.now) (string_bytes c.push.new.self) (split_text n.negative n.digits.now 1)
+    (101 ∷ integer_text (int_lt less (pos 0)) (nat_abs less)) _ (c.in_err-push.ensures.bytes ∙ split at.After-push)
+    (shown at.After-push_split less refl))
 
 pub returns-in_err-push_integer-clause-refused : goal.returns-in_err-push_integer-clause-refused
 unfolding lib.Utf8.encode
 returns-in_err-push_integer-clause-refused c =
-    let n = c.args.self.now in
-    let ds = n.digits.now in
+    let at = goal.at.returns-in_err-push_integer-clause-refused c in
     let old = string_bytes c.args.out.now in
-    let fits : FitsSigned w32 n.exponent = search rules in
-    let exact = to_z-of_z w32 n.exponent fits in
-    let place = c.place_of-place.result in
-    let same = to_z-of_z w128 place c.place_of-place.ensures.fits in
-    let is : place ≡ pos (length ds) +ℤ n.exponent = c.place_of-place.ensures.value ∙ ap (λ e. pos (length ds) +ℤ e) exact in
-    let written : int_le place (negsuc 5) || int_lt (pos 20) n.exponent ≡ true =
-    ap₂ (λ p e. int_le p (negsuc 5) || int_lt (pos 20) e) (sym same) (sym exact) ∙ sym c.is_scientific.ensures ∙ grind arith in
-    let less : ℤ = to_z w128 (of_z w128 place) -ℤ pos 1 in
-    let power : to_z w128 (of_z w128 less) ≡ place -ℤ pos 1 = to_z-of_z w128 less (search rules) ∙ ap (λ p. p -ℤ pos 1) same in
-    let shown =
-    scientific_shown n.negative ds n.exponent n.point place (to_z w128 (of_z w128 less)) n.stripped.stripped c.requires.point
-    (omega (arith, c.if-count-lt2.false))
-    is c.place_of-place.ensures.low c.place_of-place.ensures.high written power in
-    let one : length ds - (length ds - 1) ≡ 1 = omega (arith, c.if-count-lt2.false) in
-    let split = split_text n.negative ds 1 in
-    let below = int_lt (to_z w128 (of_z w128 less)) (pos 0) in
+    let text = parts at.After-push_split c.unsigned_abs.result in
     where_refused c.from_residual-in_err-push_integer.result
-    (last_begun old (string_bytes c.push.new.self) (string_bytes c.push_integer.new.out) (split ++ 101 ∷ [])
-    (integer_text below c.unsigned_abs.result) _
-    (c.in_ok-push.ensures.bytes
-    ∙ ap (λ x. x ++ 101 ∷ []) (c.in_ok-push_split.ensures.written ∙ ap (λ k. old ++ split_text n.negative ds k) one)
-    ∙ append_assoc old split (101 ∷ []))
-    c.in_err-push_integer.ensures.refused
-    (append_assoc split (101 ∷ []) (integer_text below c.unsigned_abs.result)
-    ∙ ap (λ k. split ++ 101 ∷ integer_text below k) c.unsigned_abs.ensures.value ∙ shown))
+    (last_begun old (string_bytes c.push.new.self) (string_bytes c.push_integer.new.out) text.0 text.1 _
+    (c.in_ok-push.ensures.bytes ∙ ap (λ x. x ++ 101 ∷ []) (split at.After-push) ∙ append_assoc old _ (101 ∷ []))
+    c.in_err-push_integer.ensures.refused (both at.After-push_split c.unsigned_abs.result c.unsigned_abs.ensures.value))

@@ -1,6 +1,6 @@
 -- A map lends the value beside a key, with the key. Assumes `Logic`.
 use Rattle.ijson_value.proofs.lends.Steps.{◌≡◌, ℕ, List, [], ◌∷◌, refl, sym, ap, subst, ◌∙◌, lit<, w64, MutBor, Bor, proved, full_share}
-use Rattle.ijson_value.proofs.lends.Steps.{id⊢, GName, Lft, ftrue, flft, fres, named, Val, fact, fact_i, emp, tables, ‵, raw, ◌⊛◌, some}
+use Rattle.ijson_value.proofs.lends.Steps.{id⊢, Lft, ftrue, flft, fres, named, Val, fact, fact_i, emp, tables, ‵, raw, ◌⊛◌, some}
 use Rattle.ijson_value.proofs.lends.Steps.{later, at_ret, ◌$◌, ◌∵◌, !, qed, done, move, keep, drop, use0, use1, use2, use3, split, join}
 use Rattle.ijson_value.proofs.lends.Steps.{rewrite, fsplit, fsplit3, fjoin, pick, await, suffices, frame, enter, of_opd, lit, addr, fld}
 use Rattle.ijson_value.proofs.lends.Steps.{stop, no_more, and_then, first, exec, returns, alloc_all, pass_all, free_all, look_at, get}
@@ -8,7 +8,7 @@ use Rattle.ijson_value.proofs.lends.Steps.{get_in, get_tag, through, sets, sets_
 use Rattle.ijson_value.proofs.lends.Steps.{uint_Tells, RattleType, MutRef, mut_vals, mut_Tells, plain, mut_ref_to, nothing, heard, peeks}
 use Rattle.ijson_value.proofs.lends.Steps.{only, whole, vrt}
 use Rattle.ijson_value.proofs.lends.Steps.{calls_at, lasts, triple_of, Stays, walk_of, stay_dropped, Goes-dropped, Goes-spent_ref, ends_at}
-use Rattle.ijson_value.proofs.lends.Steps.{framed, lends_again, comes_back, LentAgain, lft_new, lft_end, follows, says}
+use Rattle.ijson_value.proofs.lends.Steps.{framed, lft_end, follows, says}
 use types.Match.{in_variant, live}
 use types.Run.{switches}
 use mathlib.Core.List.{◌++◌}
@@ -25,6 +25,7 @@ use Rattle.ijson_value.specs.LendsPair.{LendsPairIf}
 use Rattle.ijson_value.specs.LendsValue.{LendsValue}
 use Rattle.ijson_value.specs.contracts.value.IValue.{the_row as V}
 use Rattle.ijson_value.proofs.lends.LentLaws.{Pair, pair_laws}
+use Rattle.ijson_value.proofs.lends.Called.{lent, back}
 use Rattle.ijson_value.proofs.lends.LentOn.{none_if, some_if}
 use Rattle.ijson_value.proofs.lends.Variants.{and_tt, none_out, Some-out, by_option}
 use Rattle.ijson_value.specs.contracts.object.map.IObject.get_key_value_mut as f
@@ -64,9 +65,7 @@ get_key_value_mut_spec 𝓤 𝓛 𝓜 𝓡 wired I LI CI gx dx gs ds gc dc mx ms
     enter ! _ _ _ _ _ $ alloc_all ! (λ l. pass_all ! refl ((tt, tt), ((((copied_laws 0 I LI).lawful 𝓛).typed k ks are.1.0).0, tt)) $
     -- [the map; its token; the index's token; the index]
     sets ! (addr ! (through ! refl (stop !))) refl (tt, tt) $
-    lft_new ! tt (λ α. move ! (1 ∷ 2 ∷ []) $ let β : Lft = α ∷ [] in
-    use2 𝓛 (later (some (λ (δ : GName). ‵ (Ref β (record r { ghost_name = δ })) ⊛ ‵ (LentAgain M κ β q γ b o δ r.now))))
-    (lends_again 𝓛 M (named 0) κ β q γ b o (named 0) r.now) $ await ! tt $ pick ! (λ δ. split ! $
+    lent 𝓛 ! tt M κ q r (λ α δ. let β : Lft = α ∷ [] in
     -- [the loan; what the lender keeps; the token of α; the index's token; the index]
     let r' : MutBor M.Denot = record r { ghost_name = δ } in
     let G = triple_of 𝓛 (g.signature I) (g.spec I gx dx gs ds gc dc 𝓛 𝓜.mem 𝓡.returns) in
@@ -87,8 +86,7 @@ get_key_value_mut_spec 𝓤 𝓛 𝓜 𝓡 wired I LI CI gx dx gs ds gc dc mx ms
     heard ! _ (λ found. heard ! _ (λ within. heard ! _ (λ kept. fsplit ! $ fsplit ! $
     rewrite ! 0 (λ (n : M.Denot). ‵ (fres δ (M.coded.code n))) kept refl $
     -- [the loan's last value; its borrow; nothing; the index's token; nothing; α is over; the answer; what the lender keeps]
-    move ! (5 ∷ 7 ∷ 0 ∷ []) $ use3 𝓛 (later (‵ (Ref κ r) ⊛ ‵ (flft κ q))) (comes_back 𝓛 M (named 0) κ β q γ b o δ r.now r.now) $
-    await ! tt $ split ! $
+    move ! (5 ∷ 7 ∷ 0 ∷ []) $ back 𝓛 ! tt M κ q r α δ r.now $
     -- [the map; its token; the borrow; nothing; the index's token; nothing; the answer]
     by_option x
     (λ none. rewrite ! 6 (λ (x' : Option ℕ). ‵ ((OptionOf usize).own_val x' (v ∷ []))) none refl $ move ! (6 ∷ []) $
@@ -155,4 +153,4 @@ get_key_value_mut_spec 𝓤 𝓛 𝓜 𝓡 wired I LI CI gx dx gs ds gc dc mx ms
           join ! $ join ! $ frame ! $ says ! (sym stands ∙ ap (λ (x' : Option ℕ). option_and_then (slice_get r.now.pairs) x') is_found) $
           done !))))),
       ((λ e. absurd (suc-ne-zero 0 e)), (λ n. absurd (n.0.1 refl))),
-    ))))))))))))))))
+    )))))))))))))))
