@@ -143,11 +143,15 @@ def rapidjson(name, flags):
     return cpp_program(name, "rapidjson.cpp", f"-DREAD_FLAGS=rapidjson::{flags}")
 
 
+def passes_of_ijson():
+    """Passes of the library. It wants the library's crates to be built, as `calls_of_ijson` does."""
+    return rattle_program("passes_of_ijson", "ijson_json ijson_string ijson_value", library_crates())
+
+
 def libraries(ours):
     """What times passes within a process, by the names in the tables: this library, and the peers that could be built."""
-    crates = "ijson_json ijson_string ijson_value"
     found = {
-        ours: Library(rattle_program("passes_of_ijson", crates, library_crates()), True, "digits"),
+        ours: Library(passes_of_ijson(), True, "digits"),
         "serde_json exact": Library(rust_program("passes"), True, "digits"),
         "serde_json floats": Library(rust_program("passes", "order"), True, "floats"),
         "serde_json default": Library(rust_program("passes", ""), False, "floats"),
