@@ -1,6 +1,6 @@
 -- What is found beside a key once pairs were put or taken out. For callers: each law joins two words of the contracts.
-use Rattle.std.specs.Prelude.{◌≡◌, ◌≢◌, ℕ, zero, suc, ◌+◌, ◌-◌, ◌<◌, true, false, List, [], ◌∷◌, length, get_or, set, Option, Some, None}
-use Rattle.std.specs.Prelude.{cond, option_map}
+use Rattle.std.specs.Prelude.{◌≡◌, ◌≢◌, ℕ, zero, suc, ◌+◌, ◌-◌, ◌<◌, true, false, cond}
+use Rattle.std.specs.Prelude.{List, [], ◌∷◌, length, get_or, set, Option, Some, None, option_map}
 use Rattle.std.specs.Option.{option_or}
 use Rattle.std.specs.Str.{bytes_eq}
 use Rattle.std.proofs.Common.{inl, inr, refl, sym, ap, ◌∙◌, arith}
@@ -85,7 +85,8 @@ module _ {V : Type 0} where
     | inr away ↦ grind (arith, away)
   ]
 
-  lookup-shift_out : (pairs : List (List ℕ × V)) (key : List ℕ) (i : ℕ) → IsDistinct (keys_of pairs) → at pairs key ≡ Some i → (k : List ℕ)
+  lookup-shift_out : (pairs : List (List ℕ × V)) (key : List ℕ) (i : ℕ)
+      → IsDistinct (keys_of pairs) → at pairs key ≡ Some i → (k : List ℕ)
       → lookup k (shift_out pairs i) ≡ cond (bytes_eq k key) None (lookup k pairs)
   lookup-shift_out [] key i distinct e k = cc
   lookup-shift_out (pair ∷ pairs) key zero distinct e k = elim (same_key pair.0 key) [
@@ -97,12 +98,15 @@ module _ {V : Type 0} where
     | inr off ↦
         let rest = lookup-shift_out pairs key i distinct.1 (one_less (at pairs key) i (grind (arith, off, e))) k in
         elim (same_key k key) [
-          | inl same ↦ let past : bytes_eq k pair.0 ≡ false = grind (arith, same_key k pair.0, same, off) in grind (arith, past, same, rest)
+          | inl same ↦
+              let past : bytes_eq k pair.0 ≡ false = grind (arith, same_key k pair.0, same, off) in
+              grind (arith, past, same, rest)
           | inr other ↦ grind (arith, other, rest)
         ]
   ]
 
-  entry_out : (pair : List ℕ × V) (pairs : List (List ℕ × V)) (i j : ℕ) → i < length (pair ∷ pairs) → j + 1 < length (pair ∷ pairs)
+  entry_out : (pair : List ℕ × V) (pairs : List (List ℕ × V)) (i j : ℕ)
+      → i < length (pair ∷ pairs) → j + 1 < length (pair ∷ pairs)
       → get_or (swap_out (pair ∷ pairs) i) j pair
       ≡ get_or (set (pair ∷ pairs) i (get_or (pair ∷ pairs) (length (pair ∷ pairs) - 1) pair)) j pair
   entry_out pair pairs i j li lj =
@@ -111,8 +115,10 @@ module _ {V : Type 0} where
       ∙ get_or-take last (set (pair ∷ pairs) i (get_or (pair ∷ pairs) last pair)) j pair (omega arith)
 
   -- where a pair stands once the one at i is out
-  moved : (pair : List ℕ × V) (pairs : List (List ℕ × V)) (i m : ℕ) → i < length (pair ∷ pairs) → m < length (pair ∷ pairs) → m ≢ i
-      → (j : ℕ) × (j + 1 < length (pair ∷ pairs)) × (get_or (swap_out (pair ∷ pairs) i) j pair ≡ get_or (pair ∷ pairs) m pair)
+  moved : (pair : List ℕ × V) (pairs : List (List ℕ × V)) (i m : ℕ)
+      → i < length (pair ∷ pairs) → m < length (pair ∷ pairs) → m ≢ i
+      → (j : ℕ) × (j + 1 < length (pair ∷ pairs))
+      × (get_or (swap_out (pair ∷ pairs) i) j pair ≡ get_or (pair ∷ pairs) m pair)
   moved pair pairs i m li lm other =
       let last : ℕ = length (pair ∷ pairs) - 1 in
       elim (below_or_not (m + 1) (length (pair ∷ pairs))) [
@@ -159,8 +165,10 @@ module _ {V : Type 0} where
       let from = came pairs i j li (omega (arith, lj, length-swap_out pairs i li)) in
       away from.0 from.1 from.2 (sym from.3 ∙ e)))
 
-  stays_found : (pair : List ℕ × V) (pairs : List (List ℕ × V)) (i m : ℕ) (k : List ℕ) → IsDistinct (keys_of (pair ∷ pairs))
-      → i < length (pair ∷ pairs) → at (pair ∷ pairs) k ≡ Some m → m ≢ i → lookup k (swap_out (pair ∷ pairs) i) ≡ lookup k (pair ∷ pairs)
+  stays_found : (pair : List ℕ × V) (pairs : List (List ℕ × V)) (i m : ℕ) (k : List ℕ)
+      → IsDistinct (keys_of (pair ∷ pairs)) → i < length (pair ∷ pairs)
+      → at (pair ∷ pairs) k ≡ Some m → m ≢ i
+      → lookup k (swap_out (pair ∷ pairs) i) ≡ lookup k (pair ∷ pairs)
   stays_found pair pairs i m k distinct li e other =
       let lm = position_within (pair ∷ pairs) k m e in
       let to = moved pair pairs i m li lm other in
@@ -174,7 +182,8 @@ module _ {V : Type 0} where
       lookup-position now k to.0 found there inside_now (sym to.2 ∙ get_or_default now to.0 pair found inside_now)
       ∙ sym (lookup-position (pair ∷ pairs) k m found e lm (get_or_default (pair ∷ pairs) m pair found lm))
 
-  lookup-swap_out : (pairs : List (List ℕ × V)) (key : List ℕ) (i : ℕ) → IsDistinct (keys_of pairs) → at pairs key ≡ Some i → (k : List ℕ)
+  lookup-swap_out : (pairs : List (List ℕ × V)) (key : List ℕ) (i : ℕ)
+      → IsDistinct (keys_of pairs) → at pairs key ≡ Some i → (k : List ℕ)
       → lookup k (swap_out pairs i) ≡ cond (bytes_eq k key) None (lookup k pairs)
   lookup-swap_out [] key i distinct e k = cc
   lookup-swap_out (pair ∷ pairs) key i distinct e k =
@@ -185,7 +194,8 @@ module _ {V : Type 0} where
       elim (same_key k key) [
         | inl same ↦
             let gone = stays_absent (pair ∷ pairs) i k li
-            (λ m lm other is. other (apart_at m i (omega (arith, lm, size)) (omega (arith, li, size)) (is ∙ (same.1 ∙ sym key_is)))) in
+            (λ m lm other is. other (apart_at m i (omega (arith, lm, size)) (omega (arith, li, size))
+            (is ∙ (same.1 ∙ sym key_is)))) in
             grind (arith, same, gone)
         | inr other ↦
             let kept : lookup k (swap_out (pair ∷ pairs) i) ≡ lookup k (pair ∷ pairs) =
