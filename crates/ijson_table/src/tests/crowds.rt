@@ -15,7 +15,8 @@ const COUNT: usize = 2048;
 const MOST: u128 = 2048 * (36 + 2 * 11);
 
 /// How many looks a list takes at least whose table is made by sorting: 32 steps a pair before, then half a comparison for each pair and
-/// each time that the count can be halved, and one look a pair at the first of each key.
+/// each time that the count can be halved, and one look a pair at the first of each key. Where keys come twice in a row some pairs are
+/// gone by then, and those that are left take more than their least.
 const LEAST: u128 = 2048 * (32 + 1) + 2048 / 2 * 11;
 
 /// The greater half of the fixed hash times the count of slots: each key has the first slot for its home, and few have one hash.
