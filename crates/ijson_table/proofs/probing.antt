@@ -5,3 +5,4 @@ pub mod KeyTests
 pub mod LookCount
 pub mod ProbeEnds
 pub mod ProbePath
+pub mod StepsByEnd

@@ -1,7 +1,11 @@
 -- How few looks it takes to make a table of a list of pairs.
 use Rattle.std.specs.Prelude.{ℕ, ◌+◌, ◌*◌, ◌^◌, ◌≤◌}
 
--- how many each pair may take, beside those that sorting takes
+-- how many steps a pair may take in the usual way, on average over all of them
+abbrev pub steps_a_pair : ℕ
+steps_a_pair = 32
+
+-- how many looks each pair may take, beside those that sorting takes
 abbrev pub looks_a_pair : ℕ
 looks_a_pair = 36
 

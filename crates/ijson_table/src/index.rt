@@ -10,6 +10,7 @@
 
 ghost use Rattle.std.specs.Prelude.{◌≡◌, ◌+◌, ◌<◌, ◌≤◌, [], ◌∷◌, ◌++◌, length, get_or, vec_capacity, None, IfOk, OnErr};
 ghost use Rattle.std.specs.List.{All, remove, swap_remove as swapped_out};
+ghost use Rattle.ijson_table.specs.Crowd.{distance};
 ghost use Rattle.ijson_table.specs.Slots.{resident, IsTable};
 ghost use Rattle.ijson_table.specs.private.Changes.{changes};
 ghost use Rattle.ijson_table.specs.private.Holds.{MayStand};
@@ -98,15 +99,16 @@ impl Index {
         self.push_at(slot, position, hash);
     }
 
-    /// The same, at the slot where a probe for it ended. Answers how many slots were written.
+    /// The same, at the slot where a probe for it ended. Answers the last slot that is written, which was empty.
     pub fn push_at(&mut self, slot: usize, position: usize, hash: u64) -> usize
         requires position { position ≡ length self.old.hashes }
         requires room { position < length self.old.slots }
         requires may { MayStand (self.old.hashes ++ hash ∷ []) self.old.slots position slot }
         ensures hashes { self.new.hashes ≡ self.old.hashes ++ hash ∷ [] }
         ensures count { length self.new.slots ≡ length self.old.slots }
-        ensures written { result ≤ length self.old.slots }
-        ensures changes { changes self.old.slots self.new.slots ≤ result }
+        ensures within { result < length self.old.slots }
+        ensures empty { resident self.old.slots result ≡ None }
+        ensures changes { changes self.old.slots self.new.slots ≤ distance (length self.old.slots) slot result + 1 }
     {
         shift_forward(&mut self.slots, slot, position, hash)
     }

@@ -35,6 +35,11 @@ pub after-onward : (n p k : ℕ) → p < n → k < n → after n (onward n p k) 
 unfolding after onward
 after-onward n p k h j = grind (arith, nat_tests)
 
+-- a slot is at no distance from itself
+pub distance-self : (n p : ℕ) → distance n p p ≡ 0
+unfolding distance
+distance-self n p = grind (arith, nat_tests)
+
 -- a distance is less than the count of slots
 pub distance-below : (n p q : ℕ) → p < n → q < n → distance n p q < n
 unfolding distance
@@ -49,6 +54,11 @@ distance-onward n p k h j = grind (arith, nat_tests)
 pub onward-distance : (n p q : ℕ) → p < n → q < n → onward n p (distance n p q) ≡ q
 unfolding distance onward
 onward-distance n p q h k = grind (arith, nat_tests)
+
+-- from a slot on the way to another, the rest of the way is left
+pub distance-rest : (n h m q : ℕ) → h < n → q < n → m < n → m ≤ distance n h q → m + distance n (onward n h m) q ≡ distance n h q
+unfolding distance onward
+distance-rest n h m q a b c d = grind (arith, nat_tests)
 
 -- a slot one on is one further from home, unless it is home
 pub distance-after : (n h p : ℕ) → h < n → p < n → distance n h p + 1 < n → distance n h (after n p) ≡ distance n h p + 1

@@ -58,6 +58,34 @@ gap_closed hashes slots p lp gap end q lq = elim (same_or_not q p) [
   | inr other ↦ gap.ordered q lq other
 ]
 
+-- a step of the shift: the resident of the next slot moves to an empty one
+record Shift (hashes : List ℕ) (slots : List (Option ℕ)) (p k : ℕ) : Type 0 where
+  size_mid : length (set slots p (Some k)) ≡ length slots
+  size : length (set (set slots p (Some k)) (after (length slots) p) None) ≡ length slots
+  hollow : displacement hashes slots p ≡ 0
+  apart : p ≢ after (length slots) p
+  was : displacement hashes slots (after (length slots) p)
+      ≡ distance (length slots) (home_at (length slots) hashes k) (after (length slots) p) + 1
+  nearer : distance (length slots) (home_at (length slots) hashes k) p + 1
+      ≡ distance (length slots) (home_at (length slots) hashes k) (after (length slots) p)
+
+shift : (hashes : List ℕ) (slots : List (Option ℕ)) (p k : ℕ) → p < length slots → resident slots p ≡ None
+    → resident slots (after (length slots) p) ≡ Some k → 1 < displacement hashes slots (after (length slots) p) → Shift hashes slots p k
+shift hashes slots p k lp empty there far =
+    let n : ℕ = length slots in
+    let p' : ℕ = after n p in
+    let size_mid = length-set slots p (Some k) in
+    let hollow = displacement-none hashes slots p empty in
+    let was : displacement hashes slots p' ≡ distance n (home_at n hashes k) p' + 1 = displacement-some hashes slots p' k there in
+    record {
+      size_mid = size_mid;
+      size = length-set (set slots p (Some k)) p' None ∙ size_mid;
+      hollow = hollow;
+      apart = λ e. omega (arith, ap (displacement hashes slots) e, hollow, far);
+      was = was;
+      nearer = distance-back n (home_at n hashes k) p (home-below n hashes k (omega arith)) lp (omega (arith, was, far));
+    }
+
 -- the next resident moves one slot back, and leaves a gap
 pub moved_back : (hashes : List ℕ) (slots : List (Option ℕ)) (p k : ℕ) → p < length slots → HasGap hashes slots p
     → resident slots (after (length slots) p) ≡ Some k → 1 < displacement hashes slots (after (length slots) p)
@@ -68,25 +96,20 @@ moved_back hashes slots p k lp gap there far =
     let lp' : p' < n = after-below n p lp in
     let mid : List (Option ℕ) = set slots p (Some k) in
     let last : List (Option ℕ) = set mid p' None in
-    let size_mid : length mid ≡ n = length-set slots p (Some k) in
-    let size : length last ≡ n = length-set mid p' None ∙ size_mid in
-    let hollow : displacement hashes slots p ≡ 0 = displacement-none hashes slots p gap.empty in
-    let apart : p ≢ p' = λ e. omega (arith, ap (displacement hashes slots) e) in
-    let was : displacement hashes slots p' ≡ distance n (home_at n hashes k) p' + 1 = displacement-some hashes slots p' k there in
-    let nearer : distance n (home_at n hashes k) p + 1 ≡ distance n (home_at n hashes k) p' =
-    distance-back n (home_at n hashes k) p (home-below n hashes k (omega arith)) lp (omega arith) in
-    let at_p' : displacement hashes last p' ≡ 0 = displacement-set_none hashes mid p' (omega arith) in
+    let step : Shift hashes slots p k = shift hashes slots p k lp gap.empty there far in
+    let at_p' : displacement hashes last p' ≡ 0 = displacement-set_none hashes mid p' (omega (arith, step.size_mid, lp')) in
     let at_p : displacement hashes last p + 1 ≡ displacement hashes slots p' =
-    omega (arith, displacement-set_other hashes mid p' p None apart, displacement-set_some hashes slots p k lp) in
+    let at_mid = displacement-set_some hashes slots p k lp in
+    omega (arith, displacement-set_other hashes mid p' p None step.apart, at_mid, step.was, step.nearer) in
     let off : (q : ℕ) → q ≢ p → q ≢ p' → displacement hashes last q ≡ displacement hashes slots q =
     λ q a b. displacement-set_other hashes mid p' q None b ∙ displacement-set_other hashes slots p q (Some k) a in
     let off_up : (q : ℕ) → q ≢ p → displacement hashes last q ≤ displacement hashes slots q = λ q a. elim (same_or_not q p') [
       | inl at ↦ omega (arith, at_p', ap (displacement hashes last) at)
       | inr other ↦ omega (arith, off q a other)
     ] in
-    let mid_p' : resident mid p' ≡ Some k = get_or-set_other slots p p' (Some k) None (λ e. apart (sym e)) ∙ there in
+    let mid_p' : resident mid p' ≡ Some k = get_or-set_other slots p p' (Some k) None (λ e. step.apart (sym e)) ∙ there in
     record {
-      within = omega (arith, lp', size);
+      within = omega (arith, lp', step.size);
       empty = get_or-set_same mid p' None None (omega arith);
       ordered = λ q lq ne.
           let lq' : q < n = omega arith in
@@ -99,16 +122,16 @@ moved_back hashes slots p k lp gap there far =
                   | inr elsewhere ↦ omega (arith, gap.ordered q lq' other, off_up (after n q) elsewhere)
                 ]
           ] in
-          omega (arith, goal, ap (λ s. displacement hashes last (after s q)) size);
+          omega (arith, goal, ap (λ s. displacement hashes last (after s q)) step.size);
       behind = λ q lq at.
           let lq' : q < n = omega arith in
-          let self : q ≡ p = after-injective n q p lq' lp (ap (λ s. after s q) (sym size) ∙ at) in
+          let self : q ≡ p = after-injective n q p lq' lp (ap (λ s. after s q) (sym step.size) ∙ at) in
           let here : displacement hashes last q ≡ displacement hashes last p = ap (displacement hashes last) self in
           let goal : displacement hashes last (after n p') ≤ displacement hashes last p + 2 = elim (same_or_not (after n p') p) [
             | inl round ↦ omega (arith, ap (displacement hashes last) round)
-            | inr other ↦ omega (arith, gap.ordered p' lp' (λ e. apart (sym e)), off_up (after n p') other, at_p)
+            | inr other ↦ omega (arith, gap.ordered p' lp' (λ e. step.apart (sym e)), off_up (after n p') other, at_p)
           ] in
-          omega (arith, goal, here, ap (λ s. displacement hashes last (after s p')) size);
+          omega (arith, goal, here, ap (λ s. displacement hashes last (after s p')) step.size);
     }
 
 -- and each position stands as often as before
@@ -162,13 +185,7 @@ shift_falls hashes slots p k lp empty there far =
     let lp' : p' < n = after-below n p lp in
     let mid : List (Option ℕ) = set slots p (Some k) in
     let last : List (Option ℕ) = set mid p' None in
-    let size_mid : length mid ≡ n = length-set slots p (Some k) in
-    let size : length last ≡ n = length-set mid p' None ∙ size_mid in
-    let hollow : displacement hashes slots p ≡ 0 = displacement-none hashes slots p empty in
-    let apart : p' ≢ p = λ e. omega (arith, ap (displacement hashes slots) e) in
-    let was : displacement hashes slots p' ≡ distance n (home_at n hashes k) p' + 1 = displacement-some hashes slots p' k there in
-    let nearer : distance n (home_at n hashes k) p + 1 ≡ distance n (home_at n hashes k) p' =
-    distance-back n (home_at n hashes k) p (home-below n hashes k (omega arith)) lp (omega arith) in
+    let step : Shift hashes slots p k = shift hashes slots p k lp empty there far in
     let one = total-one (displacement hashes slots) (displacement hashes mid) n p lp
     (λ q ne. displacement-set_other hashes slots p q (Some k) ne) in
     let two = total-one (displacement hashes mid) (displacement hashes last) n p' lp'
@@ -177,9 +194,11 @@ shift_falls hashes slots p k lp empty there far =
       arith,
       one,
       two,
-      hollow,
+      step.hollow,
+      step.was,
+      step.nearer,
       displacement-set_some hashes slots p k lp,
-      displacement-set_none hashes mid p' (omega arith),
-      displacement-set_other hashes slots p p' (Some k) apart,
-      ap (total (displacement hashes last)) size,
+      displacement-set_none hashes mid p' (omega (arith, step.size_mid, lp')),
+      displacement-set_other hashes slots p p' (Some k) (λ e. step.apart (sym e)),
+      ap (total (displacement hashes last)) step.size,
     )

@@ -114,6 +114,19 @@ distance-next : (n p e : ℕ) → p < n → e < n → p ≢ e → distance n (af
 unfolding distance after
 distance-next n p e lp le ne = grind (arith, nat_tests)
 
+-- an empty slot is ahead of a resident
+ahead_of : (slots : List (Option ℕ)) (slot e next : ℕ) → resident slots e ≡ None → resident slots slot ≡ Some next → e ≢ slot
+ahead_of slots slot e next empty there = λ same. let bad : ◌≡◌ {A = Option ℕ} (Some next) None =
+    sym there ∙ (ap (resident slots) (sym same) ∙ empty) in cc
+
+-- where the slot has a resident, there is one to go on to
+pub goes_on : (hashes : List ℕ) (wanted : ℕ → ℕ) (pending slot step next : ℕ) (slots : List (Option ℕ))
+    → Shifting hashes wanted pending slot step slots → resident slots slot ≡ Some next → step + 1 < length slots
+goes_on hashes wanted pending slot step next slots s there =
+    let e : ℕ = s.ahead.0 in
+    let apart : e ≢ slot = ahead_of slots slot e next s.ahead.2 there in
+    omega (arith, s.ahead.3, distance-next (length slots) slot e s.may.within s.ahead.1 (λ same. apart (sym same)))
+
 -- one turn of the shift
 pub shift_more : (hashes : List ℕ) (wanted : ℕ → ℕ) (pending slot step next : ℕ) (slots : List (Option ℕ))
     → Shifting hashes wanted pending slot step slots
@@ -122,8 +135,7 @@ shift_more hashes wanted pending slot step next slots s there =
     let n : ℕ = length slots in
     let e : ℕ = s.ahead.0 in
     let size : length (set slots slot (Some pending)) ≡ n = length-set slots slot (Some pending) in
-    let apart : e ≢ slot = λ same. let bad : ◌≡◌ {A = Option ℕ} (Some next) None =
-    sym there ∙ (ap (resident slots) (sym same) ∙ s.ahead.2) in cc in
+    let apart : e ≢ slot = ahead_of slots slot e next s.ahead.2 there in
     let empty : displacement hashes slots e ≡ 0 = displacement-none hashes slots e s.ahead.2 in
     let put : Holds hashes wanted (resident slots slot) (set slots slot (Some pending)) =
     put_down hashes wanted slots pending slot s.may.within s.held s.may in

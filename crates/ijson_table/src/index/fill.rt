@@ -11,7 +11,7 @@ ghost use Rattle.ijson_table.specs.private.Sorting.{IsSortedBy};
 
 use crate::index::Index;
 use crate::index::probe::next_slot;
-use crate::index::slot::{Modulus, Slot};
+use crate::index::slot::{Modulus, Slot, distance_between};
 
 impl Index {
     /// Puts entries in the order of their homes into the slots, which are empty and have room for each. The time is linear in the
@@ -93,12 +93,7 @@ fn steps_to_home(entry: Slot, modulus: Modulus, from: usize) -> usize
     requires { from < modulus.count }
     ensures { result ≡ behind modulus.count from entry }
 {
-    let home = modulus.home_of_hash(entry.hash());
-    if from <= home {
-        home - from
-    } else {
-        modulus.count - (from - home)
-    }
+    distance_between(modulus.count, from, modulus.home_of_hash(entry.hash()))
 }
 
 /// The slot so many steps on, round the end.

@@ -8,7 +8,7 @@ ghost use Rattle.ijson_table.specs.private.Probe.{Ends, LooksAt, Passed};
 
 use crate::index::Index;
 use crate::index::places::Seen;
-use crate::index::slot::{Modulus, Slot};
+use crate::index::slot::Modulus;
 use ijson_number::Looks;
 use ijson_string::IString;
 
@@ -144,33 +144,12 @@ impl<'a, V> ProbeTarget for Lookup<'a, V> {
     fn look(&self, slot: usize, looks: &mut Looks) -> Seen {
         looks.add_one();
         let there = self.index.at(slot);
-        let same = match there.position() {
-            None => false,
-            Some(at) => there.has_hash(self.hash) && has_key(self.pairs, at, self.key),
-        };
+        if there.is_empty() {
+            return Seen::Empty;
+        }
+        let same = there.has_hash(self.hash) && has_key(self.pairs, there.resident(), self.key);
         there.seen(self.modulus, slot, same)
     }
-}
-
-/// How the walk for a key ends, and how many slots it looks at. That follows from where it ends, which takes less than to count.
-#[inline(always)]
-pub fn probe_measured<V>(lookup: &Lookup<V>) -> (Probed, usize)
-    requires some { 0 < length lookup.now.index.now.slots }
-    ensures ends { Ends lookup.now.index.now.slots (displacement lookup.now.index.now.hashes lookup.now.index.now.slots)
-        (lookup.now.hash % length lookup.now.index.now.slots)
-        (is_hashed_key lookup.now.index.now.hashes (keys_of lookup.now.pairs.now) lookup.now.hash lookup.now.key.now)
-        result.1 result.0 }
-    ensures looks { 0 < result.1 }
-    ensures within { result.1 ≤ length lookup.now.index.now.slots }
-{
-    let slots = lookup.index.len();
-    let entry = Slot::of(0, lookup.hash);
-    let end = probe(lookup, &mut Looks::new());
-    let looked = match end {
-        Probed::Found(_, slot) | Probed::Vacant(slot) => entry.distance(lookup.modulus, slot) + 1,
-        Probed::Full => slots,
-    };
-    (end, looked)
 }
 
 /// Whether the pair at a position has this key.

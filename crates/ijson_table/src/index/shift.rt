@@ -1,6 +1,7 @@
 //! How the residents of slots move: insertion, backward shift and rehash, whose steps are counted.
 
 ghost use Rattle.std.specs.Prelude.{◌≡◌, ℕ, ◌+◌, ◌*◌, ◌<◌, ◌≤◌, ◌%◌, ◌^◌, List, length, get_or, map, Some, None, IsTrue, IsFalse};
+ghost use Rattle.ijson_table.specs.Crowd.{distance};
 ghost use Rattle.ijson_table.specs.Slots.{below, resident, times, IsOrdered};
 ghost use Rattle.ijson_table.specs.private.Changes.{changes};
 ghost use Rattle.ijson_table.specs.private.Closing.{closed};
@@ -13,7 +14,7 @@ ghost use Rattle.std.specs.List.{All, remove, swap_remove as swapped_out};
 use crate::index::clear_slots;
 use crate::index::places::Seen;
 use crate::index::probe::{ProbeTarget, Probed, next_slot, probe};
-use crate::index::slot::{Modulus, Slot};
+use crate::index::slot::{Modulus, Slot, distance_between};
 use ijson_number::Looks;
 
 /// A probe that knows of a key its hash alone. It seeks the slot of a position, or with none the vacancy of a key that stands at no
@@ -104,29 +105,30 @@ fn slot_of(slots: &[Slot], position: usize, hash: u64) -> usize
 }
 
 /// Puts a position down at a slot, whose key has this hash. The residents from there on move one slot forward each, up to the next
-/// empty slot. Answers how many slots were written.
+/// empty slot. Answers that one, the last that is written.
 pub fn shift_forward(slots: &mut [Slot], from: usize, position: usize, hash: u64) -> usize
     ghost hashes: { List ℕ }
     requires accepts { Accepts hashes slots.old position hash }
     requires may { MayStand hashes (positions slots.old) position from }
     ensures holds { Holds hashes (with_one (positions slots.old) position) None (positions slots.new) }
     ensures hashes { HaveHashes hashes slots.new }
-    ensures written { result ≤ length slots.old }
-    ensures changes { changes (positions slots.old) (positions slots.new) ≤ result }
-    ensures few { (n : ℕ) → ((i : ℕ) → with_one (positions slots.old) position i ≤ below n i) → result ≤ n }
+    ensures within { result < length slots.old }
+    ensures empty { resident (positions slots.old) result ≡ None }
+    ensures changes { changes (positions slots.old) (positions slots.new) ≤ distance (length slots.old) from result + 1 }
+    ensures few { (n : ℕ) → ((i : ℕ) → with_one (positions slots.old) position i ≤ below n i)
+        → distance (length slots.old) from result + 1 ≤ n }
 {
     let mut entry = Slot::of(position, hash);
     let mut slot = from;
-    for step in 0..slots.len() {
+    loop {
         let was = slots[slot];
         slots[slot] = entry;
         let Some(_resident) = was.position() else {
-            return step + 1;
+            return slot;
         };
         entry = was;
         slot = next_slot(slots.len(), slot);
     }
-    unreachable!()
 }
 
 /// Puts a position into the slots, one of which is empty. Its key has this hash. Answers the steps: each slot that it looks at, and
@@ -140,7 +142,8 @@ fn insert(slots: &mut [Slot], position: usize, hash: u64) -> u128
     ensures few { (n : ℕ) → ((i : ℕ) → with_one (positions slots.old) position i ≤ below n i) → result ≤ 2 * n + 1 }
 {
     let (slot, looked) = vacancy_counted(slots, hash);
-    looked + shift_forward(slots, slot, position, hash) as u128
+    let last = shift_forward(slots, slot, position, hash);
+    looked + distance_between(slots.len(), slot, last) as u128 + 1
 }
 
 /// Moves the residents behind a gap one slot back each, up to an empty slot or a resident at its home.

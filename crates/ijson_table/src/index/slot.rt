@@ -1,6 +1,6 @@
 //! `Slot`: what stands at one slot of a table, and `Modulus`: the count of slots that hashes are reduced by.
 
-ghost use Rattle.std.specs.Prelude.{◌≡◌, ◌+◌, ◌-◌, ◌<◌, ◌/◌, ◌%◌, ◌^◌, Some, None, IsTrue, ◌↔◌};
+ghost use Rattle.std.specs.Prelude.{◌≡◌, ◌≢◌, ◌+◌, ◌-◌, ◌<◌, ◌/◌, ◌%◌, ◌^◌, Some, None, IsTrue, ◌↔◌};
 ghost use Rattle.ijson_table.specs.Crowd.{distance};
 ghost use Rattle.ijson_table.specs.private.Closing.{closed};
 ghost use Rattle.ijson_table.specs.private.SlotHashes.{position_in, SeenAs};
@@ -43,14 +43,29 @@ impl Slot {
         self.hash
     }
 
+    /// Whether nothing stands there.
+    pub fn is_empty(self) -> bool
+        ensures { IsTrue result ↔ (position_in self ≡ None) }
+    {
+        self.code == 0
+    }
+
+    /// The position that stands there.
+    pub fn resident(self) -> usize
+        requires { position_in self ≢ None }
+        ensures { position_in self ≡ Some result }
+    {
+        self.code - 1
+    }
+
     /// The position that stands there, or none.
     pub fn position(self) -> Option<usize>
         ensures { result ≡ position_in self }
     {
-        if self.code == 0 {
+        if self.is_empty() {
             None
         } else {
-            Some(self.code - 1)
+            Some(self.resident())
         }
     }
 
@@ -59,12 +74,7 @@ impl Slot {
         requires { slot < modulus.count }
         ensures { result ≡ distance modulus.count (self.hash % modulus.count) slot }
     {
-        let home = modulus.home_of_hash(self.hash);
-        if home <= slot {
-            slot - home
-        } else {
-            modulus.count - (home - slot)
-        }
+        distance_between(modulus.count, modulus.home_of_hash(self.hash), slot)
     }
 
     /// The slot once a position is out: a later one is one less.
@@ -93,14 +103,28 @@ impl Slot {
         requires { slot < modulus.count }
         ensures { SeenAs self modulus.count slot same result }
     {
-        match self.position() {
-            None => Seen::Empty,
-            Some(at) => Seen::Resident {
-                at,
-                distance: self.distance(modulus, slot),
-                same,
-            },
+        if self.is_empty() {
+            return Seen::Empty;
         }
+        Seen::Resident {
+            at: self.resident(),
+            distance: self.distance(modulus, slot),
+            same,
+        }
+    }
+}
+
+/// How many slots on from one slot to another, round the end.
+#[inline(always)]
+pub fn distance_between(slots: usize, from: usize, to: usize) -> usize
+    requires from { from < slots }
+    requires to { to < slots }
+    ensures { result ≡ distance slots from to }
+{
+    if from <= to {
+        to - from
+    } else {
+        slots - (from - to)
     }
 }
 

@@ -1,20 +1,21 @@
 //! Tables over lists of pairs.
 
-ghost use Rattle.std.specs.Prelude.{◌≡◌, ◌↔◌, ℕ, ◌+◌, ◌-◌, ◌*◌, ◌^◌, ◌<◌, ◌≤◌, [], ◌++◌, length};
+ghost use Rattle.std.specs.Prelude.{◌≡◌, ◌↔◌, ℕ, ◌+◌, ◌-◌, ◌*◌, ◌^◌, ◌<◌, ◌≤◌, [], ◌++◌, length, get_or, take};
 ghost use Rattle.std.specs.Prelude.{reverse, vec_capacity, Err, IfOk, IsOk, OnOk, IsTrue, IsFalse};
-ghost use Rattle.ijson_table.specs.BuildBound.{IsBuildBounded};
+ghost use Rattle.ijson_table.specs.BuildBound.{looks_a_pair, steps_a_pair, IsBuildBounded};
 ghost use Rattle.ijson_table.specs.Crowd.{slot_count};
 ghost use Rattle.ijson_table.specs.Growth.{capacity_limit};
-ghost use Rattle.ijson_table.specs.Store.{put, put_each};
+ghost use Rattle.ijson_table.specs.Store.{keys_of, put, put_each};
 ghost use Rattle.ijson_table.specs.private.Changes.{changes};
+ghost use Rattle.ijson_table.specs.private.CountedSteps.{CountsSteps};
 ghost use Rattle.ijson_table.specs.private.FirstPlaced.{ComesAgain, FirstPlaced};
 
 use super::Table;
 use crate::growth::{limited, split_rest, tighten};
 use crate::hash::KeyHash;
 use crate::index::Index;
-use crate::index::probe::{Lookup, Probed, probe_measured};
-use crate::index::slot::Modulus;
+use crate::index::probe::{Lookup, Probed, probe};
+use crate::index::slot::{Modulus, distance_between};
 use crate::sorting::build::{fill_sorted, put_sorted};
 use crate::sorting::second_hash::SecondHash;
 use crate::store::{PairStore, ReserveError};
@@ -98,7 +99,7 @@ impl<V: Drop, H: KeyHash> Table<V, H> {
     ) -> Result<Table<V, H>, AllocError>
         requires room { length self.store.pairs + length rest.items ≤ self.store.capacity }
         requires limited { self.store.capacity ≤ capacity_limit }
-        requires steps { steps ≤ 32 * self.store.capacity + 2 * slot_count self.store.capacity }
+        requires steps { steps ≤ steps_a_pair * self.store.capacity + 2 * slot_count self.store.capacity }
         requires placed { length self.store.pairs ≤ steps }
         requires fits { looks.old + 2 ^ 71 + 2 ^ 65 < 2 ^ 128 }
         ensures pairs { IfOk result (λ table. table.store.pairs ≡ put_each self.store.pairs rest.items) }
@@ -106,7 +107,7 @@ impl<V: Drop, H: KeyHash> Table<V, H> {
         ensures counted { OnOk result (looks.old + length self.store.pairs + length rest.items ≤ looks.new + steps) }
         ensures grows { looks.old ≤ looks.new }
         ensures bounded { (k : ℕ) → self.store.capacity ≤ 2 ^ k
-            → looks.new + steps ≤ looks.old + self.store.capacity * (36 + 2 * k) }
+            → looks.new + steps ≤ looks.old + self.store.capacity * (looks_a_pair + 2 * k) }
     {
         let most = STEPS_A_PAIR * self.pairs.capacity();
         let mut taken = steps;
@@ -159,7 +160,8 @@ impl<V: Drop, H: KeyHash> Table<V, H> {
             }
             Probed::Vacant(slot) => {
                 self.pairs.push_reserved((key, value));
-                looks.count() as usize + self.index.push_at(slot, position, hash)
+                let last = self.index.push_at(slot, position, hash);
+                looks.count() as usize + distance_between(self.index.len(), slot, last) + 1
             }
             Probed::Full => unreachable!(),
         }
@@ -225,18 +227,18 @@ fn add_new_keys<V, H: KeyHash>(
     steps: &mut usize,
 ) -> usize
     requires empty { index.old.hashes ≡ [] }
+    requires room { length pairs.now ≤ length index.old.slots }
     requires most { most ≤ 2 ^ 62 }
     requires steps { steps.old ≡ 0 }
     requires few { length index.old.slots ≤ 2 ^ 60 }
     ensures within { result ≤ length pairs.now }
     ensures placed { FirstPlaced H.hash_of pairs.now result index.new }
-    ensures stops { result < length pairs.now → result < length index.old.slots → steps.new ≤ most
-        → ComesAgain pairs.now result }
+    ensures stops { result < length pairs.now → steps.new ≤ most → ComesAgain pairs.now result }
     ensures count { length index.new.slots ≡ length index.old.slots }
     ensures steps { steps.new ≤ most + 2 * length index.old.slots }
     ensures counted { result ≤ steps.new }
 {
-    if index.len() == 0 {
+    if pairs.is_empty() {
         return 0;
     }
     let modulus = Modulus::new(index.len());
@@ -248,8 +250,9 @@ fn add_new_keys<V, H: KeyHash>(
     pairs.len()
 }
 
-/// Puts the next position into slots, where one is left and its key is none of those before, and answers whether it did. The steps are
-/// counted.
+/// Puts the next position into slots, where its key is none of those before, and answers whether it did. The steps are counted. Those of
+/// a key that is new follow from the last slot that is written: every slot from its home up to there was looked at or written, and the one
+/// where the probe ended was both.
 fn add_new_key<V, H: KeyHash>(
     pairs: &[(IString, V)],
     index: &mut Index,
@@ -259,21 +262,18 @@ fn add_new_key<V, H: KeyHash>(
 ) -> bool
     requires counted { modulus.count ≡ length index.old.slots }
     requires within { position < length pairs.now }
+    requires room { position < length index.old.slots }
     requires placed { FirstPlaced H.hash_of pairs.now position index.old }
     requires fits { steps.old + 2 * length index.old.slots < 2 ^ 64 }
     ensures placed { IsTrue result → FirstPlaced H.hash_of pairs.now (position + 1) index.new }
     ensures left { IsFalse result → index.new ≡ index.old }
-    ensures stops { IsFalse result → position < length index.old.slots
-        → ComesAgain pairs.now position }
+    ensures stops { IsFalse result → ComesAgain pairs.now position }
     ensures count { length index.new.slots ≡ length index.old.slots }
     ensures steps { steps.new ≤ steps.old + 2 * length index.old.slots }
-    ensures grows { steps.old ≤ steps.new }
-    ensures looked { position < length index.old.slots → steps.old + 1 ≤ steps.new }
-    ensures counted { IsTrue result → steps.old + 1 + changes index.old.slots index.new.slots ≤ steps.new }
+    ensures counted { CountsSteps H.hash_of (keys_of (take position pairs.now)) (get_or (keys_of pairs.now) position [])
+        index.old index.new (steps.new - steps.old) }
+    ensures grows { steps.old < steps.new }
 {
-    if position >= index.len() {
-        return false;
-    }
     let key = pairs[position].0.as_str();
     let hash = H::hash(key);
     let lookup = Lookup {
@@ -283,13 +283,21 @@ fn add_new_key<V, H: KeyHash>(
         hash,
         key,
     };
-    let (end, looked) = probe_measured(&lookup);
-    *steps += looked;
-    match end {
+    let slots = index.len();
+    let home = modulus.home_of_hash(hash);
+    match probe(&lookup, &mut Looks::new()) {
         Probed::Vacant(slot) => {
-            *steps += index.push_at(slot, position, hash);
+            let last = index.push_at(slot, position, hash);
+            *steps += distance_between(slots, home, last) + 2;
             true
         }
-        Probed::Found(..) | Probed::Full => false,
+        Probed::Found(_, slot) => {
+            *steps += distance_between(slots, home, slot) + 1;
+            false
+        }
+        Probed::Full => {
+            *steps += slots;
+            false
+        }
     }
 }

@@ -8,9 +8,10 @@ use Rattle.ijson_table.specs.private.Holds.{Holds, MayStand, with_one}
 use Rattle.ijson_table.specs.private.Insertion.{Accepts}
 use Rattle.ijson_table.specs.private.Probe.{onward}
 use Rattle.ijson_table.specs.private.SlotHashes.{position_in, positions, blank}
-use Rattle.ijson_table.proofs.arithmetic.Circular.{distance-below, distance-onward, onward-below, onward-zero, after-onward}
+use Rattle.ijson_table.proofs.arithmetic.Circular.{distance-after, distance-below, distance-onward, distance-self}
+use Rattle.ijson_table.proofs.arithmetic.Circular.{onward-below, onward-distance}
 use Rattle.ijson_table.proofs.shifting.SlotWrites.{put_down}
-use Rattle.ijson_table.proofs.shifting.Insertion.{Shifting, shift_more}
+use Rattle.ijson_table.proofs.shifting.Insertion.{Shifting, goes_on, shift_more}
 use Rattle.ijson_table.proofs.slots.HashesInSlots.{positions-length, positions-put, positions-set}
 use Rattle.ijson_table.proofs.slots.HashesInSlots.{position-at, hashes-at, hashes-set}
 use Rattle.ijson_table.proofs.slots.HashesInSlots.{has_own_hash}
@@ -19,20 +20,21 @@ use Rattle.ijson_table.proofs.slots.SlotChanges.{changes-none, changes-set}
 use Rattle.ijson_table.proofs.index.shift.shift_forward.Goals as goal
 
 -- a slot that is written counts once
-one_more : (old : List (Option ℕ)) (slots : List Slot) (slot step : ℕ) (entry : Slot) → changes old (positions slots) ≤ step
-    → changes old (positions (set slots slot entry)) ≤ step + 1
-one_more old slots slot step entry few = omega (
+one_more : (old : List (Option ℕ)) (slots : List Slot) (slot written : ℕ) (entry : Slot) → changes old (positions slots) ≤ written
+    → changes old (positions (set slots slot entry)) ≤ written + 1
+one_more old slots slot written entry few = omega (
   arith,
   ap (changes old) (positions-set slots slot entry),
   changes-set old (positions slots) slot (position_in entry),
 )
 
-pub loop-step-init : goal.loop-step-init
-loop-step-init g c =
+pub loop-resident-init : goal.loop-resident-init
+loop-resident-init g c =
     let slots : List (Option ℕ) = positions c.args.slots.now in
     let accepts : Accepts g.hashes c.args.slots.now c.args.position c.args.hash = c.requires.0 in
     let may : MayStand g.hashes slots c.args.position c.args.from = c.requires.1 in
     let e = accepts.empty in
+    let none : distance (length c.args.slots.now) c.args.from c.args.from ≡ 0 = distance-self (length c.args.slots.now) c.args.from in
     record {
       shifting = (
         c.args.position,
@@ -40,26 +42,27 @@ loop-step-init g c =
         record {
           held = record { ordered = accepts.ordered; placed = λ i. refl };
           may = may;
-          ahead = (e.0, e.1, e.2, omega (arith, distance-below (length slots) c.args.from e.0 may.within e.1));
+          ahead = (e.0, e.1, e.2, omega (arith, none, distance-below (length slots) c.args.from e.0 may.within e.1));
         },
       );
       changes = omega (arith, changes-none slots);
       hash = has_own_hash g.hashes c.of-entry.result c.args.position c.of-entry.ensures.position
           (c.of-entry.ensures.hash ∙ accepts.hash_is);
       hashes = accepts.hashes_are;
-      here = sym (onward-zero (length c.args.slots.now) c.args.from (omega (arith, may.within, positions-length c.args.slots.now)));
-      passed = λ j lj. absurd (omega (arith, lj));
+      passed = λ j lj. absurd (omega (arith, lj, none));
+      full = λ p there. there;
+      size = refl;
     }
 
 -- below the next number and not there
-before : (j step : ℕ) → j < step + 1 → j ≢ step → j < step
-before j step lj ne = omega arith
+before : (j written : ℕ) → j < written + 1 → j ≢ written → j < written
+before j written lj ne = omega arith
 
 -- the last one is put down at an empty slot
-ended : (hashes : List ℕ) (want : ℕ → ℕ) (slots : List Slot) (entry : Slot) (i slot step : ℕ) → position_in entry ≡ Some i
-    → Shifting hashes want i slot step (positions slots) → None ≡ position_in (get_or slots slot blank)
+ended : (hashes : List ℕ) (want : ℕ → ℕ) (slots : List Slot) (entry : Slot) (i slot written : ℕ) → position_in entry ≡ Some i
+    → Shifting hashes want i slot written (positions slots) → None ≡ position_in (get_or slots slot blank)
     → Holds hashes want None (positions (set slots slot entry))
-ended hashes want slots entry i slot step at s empty =
+ended hashes want slots entry i slot written at s empty =
     let here : slot < length slots = omega (arith, s.may.within, positions-length slots) in
     subst (Holds hashes want None) (sym (positions-put slots slot entry i at))
     (subst (λ o. Holds hashes want o (set (positions slots) slot (Some i))) (position-at slots slot None here empty)
@@ -67,48 +70,46 @@ ended hashes want slots entry i slot step at s empty =
 
 pub returns-in_default-clause-holds : goal.returns-in_default-clause-holds
 returns-in_default-clause-holds g c =
-    let i = c.loop-step.invariant.shifting in
-    ended g.hashes (with_one
-    (positions c.args.slots.now) c.args.position) c.loop-step.slots c.loop-step.entry i.0 c.loop-step.slot c.loop-step.step i.1 i.2
-    (sym c.in_default.is ∙ c.position.ensures)
+    let l = c.loop-resident in
+    let i = l.invariant.shifting in
+    ended g.hashes (with_one (positions c.args.slots.now) c.args.position) l.slots l.entry i.0 l.slot
+    (distance (length l.slots) c.args.from l.slot) i.1 i.2 (sym c.in_default.is ∙ c.position.ensures)
 
 pub returns-in_default-clause-hashes : goal.returns-in_default-clause-hashes
 returns-in_default-clause-hashes g c =
-    hashes-set g.hashes c.loop-step.slots c.loop-step.slot c.loop-step.entry c.loop-step.invariant.hash c.loop-step.invariant.hashes
+    let l = c.loop-resident in
+    hashes-set g.hashes l.slots l.slot l.entry l.invariant.hash l.invariant.hashes
 
 pub returns-in_default-clause-changes : goal.returns-in_default-clause-changes
 returns-in_default-clause-changes g c =
-    one_more (positions c.args.slots.now) c.loop-step.slots c.loop-step.slot c.loop-step.step c.loop-step.entry
-    c.loop-step.invariant.changes
-
--- the next slot
-one_on : (slots : List Slot) (entry : Slot) (from step slot : ℕ) → from < length slots → step < length slots
-    → slot ≡ onward (length slots) from step
-    → after (length (set slots slot entry)) slot ≡ onward (length (set slots slot entry)) from (step + 1)
-one_on slots entry from step slot lf ls at =
-    let size : length slots ≡ length (set slots slot entry) = sym (length-set slots slot entry) in
-    subst (λ n. after n slot ≡ onward n from (step + 1)) size
-    (ap (after (length slots)) at ∙ after-onward (length slots) from step lf ls)
+    let l = c.loop-resident in
+    omega (
+      arith,
+      one_more (positions c.args.slots.now) l.slots l.slot (distance (length l.slots) c.args.from l.slot) l.entry l.invariant.changes,
+      ap (λ n. distance n c.args.from l.slot) l.invariant.size,
+    )
 
 -- the slots that it passed, and the one that is written
-passed_more : (slots : List Slot) (entry : Slot) (i from step slot : ℕ) → position_in entry ≡ Some i → slot < length slots
-    → slot ≡ onward (length slots) from step
-    → ((j : ℕ) → j < step → resident (positions slots) (onward (length slots) from j) ≢ None) → (j : ℕ) → j < step + 1
+passed_more : (slots : List Slot) (entry : Slot) (i from slot : ℕ) → position_in entry ≡ Some i → from < length slots
+    → slot < length slots
+    → ((j : ℕ) → j < distance (length slots) from slot → resident (positions slots) (onward (length slots) from j) ≢ None)
+    → (j : ℕ) → j < distance (length slots) from slot + 1
     → resident (positions (set slots slot entry)) (onward (length (set slots slot entry)) from j) ≢ None
-passed_more slots entry i from step slot is ls at passed j lj =
+passed_more slots entry i from slot is lf ls passed j lj =
     let size : length slots ≡ length (set slots slot entry) = sym (length-set slots slot entry) in
     subst (λ n. resident (positions (set slots slot entry)) (onward n from j) ≢ None) size
     (subst (λ ps. resident ps (onward (length slots) from j) ≢ None) (sym (positions-put slots slot entry i is))
     (still_full (positions slots) slot i (onward (length slots) from j) (omega (arith, ls, positions-length slots))
-    (λ other. passed j (before j step lj (λ same. other (ap (onward (length slots) from) same ∙ sym at))))))
+    (λ other. passed j (before j (distance (length slots) from slot) lj
+    (λ same. other (ap (onward (length slots) from) same ∙ onward-distance (length slots) from slot lf ls))))))
 
 -- the slots that are written are as many positions
-written_few : (hashes : List ℕ) (want : ℕ → ℕ) (slots : List Slot) (from step n : ℕ) → from < length slots → step ≤ length slots
-    → ((j : ℕ) → j < step → resident (positions slots) (onward (length slots) from j) ≢ None)
-    → Holds hashes want None (positions slots) → ((k : ℕ) → want k ≤ below n k) → step ≤ n
-written_few hashes want slots from step n lf ls passed held few =
+written_few : (hashes : List ℕ) (want : ℕ → ℕ) (slots : List Slot) (from written n : ℕ) → from < length slots → written ≤ length slots
+    → ((j : ℕ) → j < written → resident (positions slots) (onward (length slots) from j) ≢ None)
+    → Holds hashes want None (positions slots) → ((k : ℕ) → want k ≤ below n k) → written ≤ n
+written_few hashes want slots from written n lf ls passed held few =
     let size : length (positions slots) ≡ length slots = positions-length slots in
-    few_residents n (positions slots) (λ k. omega (arith, held.placed k, few k)) (onward (length slots) from) step
+    few_residents n (positions slots) (λ k. omega (arith, held.placed k, few k)) (onward (length slots) from) written
     (λ j l lj ll e. omega (
       arith,
       distance-onward (length slots) from j lf (omega arith),
@@ -119,50 +120,86 @@ written_few hashes want slots from step n lf ls passed held few =
 
 pub returns-in_default-clause-few : goal.returns-in_default-clause-few
 returns-in_default-clause-few g c n few =
-    let i = c.loop-step.invariant.shifting in
+    let l = c.loop-resident in
+    let i = l.invariant.shifting in
     let may : MayStand g.hashes (positions c.args.slots.now) c.args.position c.args.from = c.requires.1 in
     let want : ℕ → ℕ = with_one (positions c.args.slots.now) c.args.position in
-    let size : length (set c.loop-step.slots c.loop-step.slot c.loop-step.entry) ≡ length c.args.slots.now =
-    length-set c.loop-step.slots c.loop-step.slot c.loop-step.entry ∙ c.loop-step.auto.slots in
-    let first : c.args.from < length c.args.slots.now = omega (arith, may.within, positions-length c.args.slots.now) in
-    let slot : c.loop-step.slot < length c.loop-step.slots = omega (arith, i.2.may.within, positions-length c.loop-step.slots) in
-    written_few g.hashes want (set c.loop-step.slots c.loop-step.slot c.loop-step.entry) c.args.from (c.loop-step.step + 1) n
-    (omega (arith, first, size)) (omega (arith, c.loop-step-test.true, size))
-    (passed_more c.loop-step.slots c.loop-step.entry i.0 c.args.from c.loop-step.step c.loop-step.slot i.1 slot c.loop-step.invariant.here
-    c.loop-step.invariant.passed)
-    (ended g.hashes want c.loop-step.slots c.loop-step.entry i.0 c.loop-step.slot c.loop-step.step i.1 i.2
-    (sym c.in_default.is ∙ c.position.ensures)) few
+    let written : ℕ = distance (length l.slots) c.args.from l.slot in
+    let size : length (set l.slots l.slot l.entry) ≡ length l.slots = length-set l.slots l.slot l.entry in
+    let first : c.args.from < length l.slots = omega (arith, may.within, positions-length c.args.slots.now, l.invariant.size) in
+    let here : l.slot < length l.slots = omega (arith, i.2.may.within, positions-length l.slots) in
+    let count : written + 1 ≤ n = written_few g.hashes want (set l.slots l.slot l.entry) c.args.from (written + 1) n
+    (omega (arith, first, size)) (omega (arith, distance-below (length l.slots) c.args.from l.slot first here, size))
+    (passed_more l.slots l.entry i.0 c.args.from l.slot i.1 first here l.invariant.passed)
+    (ended g.hashes want l.slots l.entry i.0 l.slot written i.1 i.2 (sym c.in_default.is ∙ c.position.ensures)) few in
+    omega (arith, count, ap (λ m. distance m c.args.from l.slot) l.invariant.size)
 
-pub loop-step-preserved : goal.loop-step-preserved
-loop-step-preserved g c =
+-- There is a slot to go on to,
+room : (g : _) (c : goal.After-next_slot-slot g) → distance (length c.loop-resident.slots) c.args.from c.loop-resident.slot + 1
+    < length c.loop-resident.slots
+room g c =
+    let l = c.loop-resident in
+    let i = l.invariant.shifting in
+    let here : l.slot < length l.slots = omega (arith, i.2.may.within, positions-length l.slots) in
+    let there : Some c.in-Some._resident ≡ position_in (get_or l.slots l.slot blank) = sym c.in-Some.is ∙ c.position.ensures in
+    let more = goes_on g.hashes (with_one (positions c.args.slots.now) c.args.position) i.0 l.slot
+    (distance (length l.slots) c.args.from l.slot) c.in-Some._resident (positions l.slots) i.2
+    (position-at l.slots l.slot (Some c.in-Some._resident) here there) in
+    omega (arith, more, positions-length l.slots)
+
+-- and it is one further from the first.
+further : (g : _) (c : goal.After-next_slot-slot g)
+    → distance (length (set c.loop-resident.slots c.loop-resident.slot c.loop-resident.entry)) c.args.from c.next_slot-slot.result
+    ≡ distance (length c.loop-resident.slots) c.args.from c.loop-resident.slot + 1
+further g c =
+    let l = c.loop-resident in
+    let i = l.invariant.shifting in
+    let n : ℕ = length l.slots in
+    let size : length (set l.slots l.slot l.entry) ≡ n = length-set l.slots l.slot l.entry in
+    let here : l.slot < n = omega (arith, i.2.may.within, positions-length l.slots) in
+    let first : c.args.from < n =
+    omega (arith, c.requires.1.within, positions-length c.args.slots.now, l.invariant.size) in
+    ap (λ k. distance k c.args.from c.next_slot-slot.result) size
+    ∙ (ap (distance n c.args.from) (c.next_slot-slot.ensures.slot ∙ ap (λ k. after k l.slot) size)
+    ∙ distance-after n c.args.from l.slot first here (omega (arith, room g c)))
+
+pub loop-resident-smaller : goal.loop-resident-smaller
+loop-resident-smaller g c =
+    let l = c.loop-resident in
+    omega (arith, further g c, room g c, length-set l.slots l.slot l.entry)
+
+pub loop-resident-preserved : goal.loop-resident-preserved
+loop-resident-preserved g c =
     let hashes : List ℕ = g.hashes in
     let want : ℕ → ℕ = with_one (positions c.args.slots.now) c.args.position in
-    let slots : List (Option ℕ) = positions c.loop-step.slots in
-    let slot : ℕ = c.loop-step.slot in
-    let i = c.loop-step.invariant.shifting in
+    let l = c.loop-resident in
+    let slots : List (Option ℕ) = positions l.slots in
+    let slot : ℕ = l.slot in
+    let i = l.invariant.shifting in
     let next : ℕ = c.in-Some._resident in
-    let here : slot < length c.loop-step.slots = omega (arith, i.2.may.within, positions-length c.loop-step.slots) in
-    let size : length (set c.loop-step.slots slot c.loop-step.entry) ≡ length slots =
-    length-set c.loop-step.slots slot c.loop-step.entry ∙ sym (positions-length c.loop-step.slots) in
+    let now : List Slot = set l.slots slot l.entry in
+    let here : slot < length l.slots = omega (arith, i.2.may.within, positions-length l.slots) in
+    let size : length now ≡ length slots = length-set l.slots slot l.entry ∙ sym (positions-length l.slots) in
     let to : after (length slots) slot ≡ c.next_slot-slot.result = ap (λ n. after n slot) (sym size) ∙ sym c.next_slot-slot.ensures.slot in
-    let same : length c.loop-step.slots ≡ length c.args.slots.now = omega (arith, c.loop-step.auto.slots) in
-    let first : c.args.from < length c.args.slots.now = omega (arith, c.requires.1.within, positions-length c.args.slots.now) in
-    let there : Some next ≡ position_in (get_or c.loop-step.slots slot blank) = sym c.in-Some.is ∙ c.position.ensures in
+    let first : c.args.from < length l.slots =
+    omega (arith, c.requires.1.within, positions-length c.args.slots.now, l.invariant.size) in
+    let there : Some next ≡ position_in (get_or l.slots slot blank) = sym c.in-Some.is ∙ c.position.ensures in
+    let written : ℕ = distance (length l.slots) c.args.from slot in
+    let more : distance (length now) c.args.from c.next_slot-slot.result ≡ written + 1 = further g c in
     record {
       shifting = (
         next,
         sym there,
-        subst (λ p. Shifting hashes want next p (c.loop-step.step + 1) (positions (set c.loop-step.slots slot c.loop-step.entry))) to
-            (subst (Shifting hashes want next (after (length slots) slot) (c.loop-step.step + 1))
-            (sym (positions-put c.loop-step.slots slot c.loop-step.entry i.0 i.1))
-            (shift_more hashes want i.0 slot c.loop-step.step next slots i.2 (position-at c.loop-step.slots slot (Some next) here there))),
+        subst (λ n. Shifting hashes want next c.next_slot-slot.result n (positions now)) (sym more)
+            (subst (λ p. Shifting hashes want next p (written + 1) (positions now)) to
+            (subst (Shifting hashes want next (after (length slots) slot) (written + 1)) (sym (positions-put l.slots slot l.entry i.0 i.1))
+            (shift_more hashes want i.0 slot written next slots i.2 (position-at l.slots slot (Some next) here there)))),
       );
-      changes = one_more (positions c.args.slots.now) c.loop-step.slots slot c.loop-step.step c.loop-step.entry
-          c.loop-step.invariant.changes;
-      hash = hashes-at hashes c.loop-step.slots slot c.loop-step.invariant.hashes here;
-      hashes = hashes-set hashes c.loop-step.slots slot c.loop-step.entry c.loop-step.invariant.hash c.loop-step.invariant.hashes;
-      here = c.next_slot-slot.ensures.slot ∙ one_on c.loop-step.slots c.loop-step.entry c.args.from c.loop-step.step slot
-          (omega (arith, first, same)) (omega (arith, c.loop-step-test.true, same)) c.loop-step.invariant.here;
-      passed = passed_more c.loop-step.slots c.loop-step.entry i.0 c.args.from c.loop-step.step slot i.1 here c.loop-step.invariant.here
-          c.loop-step.invariant.passed;
+      changes = omega (arith, more, one_more (positions c.args.slots.now) l.slots slot written l.entry l.invariant.changes);
+      hash = hashes-at hashes l.slots slot l.invariant.hashes here;
+      hashes = hashes-set hashes l.slots slot l.entry l.invariant.hash l.invariant.hashes;
+      passed = λ j lj. passed_more l.slots l.entry i.0 c.args.from slot i.1 first here l.invariant.passed j (omega (arith, lj, more));
+      full = λ p before. subst (λ ps. resident ps p ≢ None) (sym (positions-put l.slots slot l.entry i.0 i.1))
+          (still_full slots slot i.0 p i.2.may.within (λ other. l.invariant.full p before));
+      size = length-set l.slots slot l.entry ∙ l.invariant.size;
     }

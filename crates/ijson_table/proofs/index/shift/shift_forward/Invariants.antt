@@ -1,4 +1,5 @@
-use Rattle.std.proofs.Common.{◌≡◌, ◌≢◌, ◌<◌, ◌≤◌, ℕ, length, None, Some}
+use Rattle.std.proofs.Common.{◌≡◌, ◌≢◌, ◌<◌, ◌≤◌, ◌-◌, ℕ, length, None, Some}
+use Rattle.ijson_table.specs.Crowd.{distance}
 use Rattle.ijson_table.specs.Slots.{resident}
 use Rattle.ijson_table.specs.private.Changes.{changes}
 use Rattle.ijson_table.specs.private.Holds.{with_one}
@@ -7,13 +8,20 @@ use Rattle.ijson_table.specs.private.SlotHashes.{position_in, positions, HasHash
 use Rattle.ijson_table.proofs.shifting.Insertion.{Shifting}
 use Rattle.ijson_table.proofs.index.shift.shift_forward.Given as goal
 
-abbrev pub invariant-loop-step : goal.invariant-loop-step
-invariant-loop-step g l = record {
-  shifting : (i : ℕ) × (position_in l.entry ≡ Some i) × Shifting g.hashes (with_one (positions l.fn.slots) l.fn.position) i l.slot l.step
-      (positions l.slots);
-  changes : changes (positions l.fn.slots) (positions l.slots) ≤ l.step;
-  hash : HasHash g.hashes l.entry;
-  hashes : HaveHashes g.hashes l.slots;
-  here : l.slot ≡ onward (length l.slots) l.fn.from l.step;
-  passed : (j : ℕ) → j < l.step → resident (positions l.slots) (onward (length l.slots) l.fn.from j) ≢ None;
-}
+-- as many slots were written as the next one is on from the first
+abbrev pub invariant-loop-resident : goal.invariant-loop-resident
+invariant-loop-resident g l =
+    let written = distance (length l.slots) l.fn.from l.slot in
+    record {
+      shifting : (i : ℕ) × (position_in l.entry ≡ Some i)
+          × Shifting g.hashes (with_one (positions l.fn.slots) l.fn.position) i l.slot written (positions l.slots);
+      changes : changes (positions l.fn.slots) (positions l.slots) ≤ written;
+      hash : HasHash g.hashes l.entry;
+      hashes : HaveHashes g.hashes l.slots;
+      passed : (j : ℕ) → j < written → resident (positions l.slots) (onward (length l.slots) l.fn.from j) ≢ None;
+      full : (p : ℕ) → resident (positions l.fn.slots) p ≢ None → resident (positions l.slots) p ≢ None;
+      size : length l.slots ≡ length l.fn.slots;
+    }
+
+abbrev pub decreases-loop-resident : goal.decreases-loop-resident
+decreases-loop-resident g l = length l.slots - distance (length l.slots) l.fn.from l.slot

@@ -1,21 +1,52 @@
-use Rattle.std.proofs.Common.{◌≡◌, ℕ, ◌+◌, ◌<◌, List, length, Option, arith, ap, sym, ◌∙◌, subst, Some}
+use Rattle.std.proofs.Common.{◌≡◌, ℕ, ◌+◌, ◌*◌, ◌<◌, ◌≤◌, List, length, Option, arith, ap, sym, ◌∙◌, subst, Some}
 use Rattle.std.proofs.lemmas.Bool.Decides.{nat_tests}
-use Rattle.ijson_table.specs.Crowd.{slot_count}
+use Rattle.ijson_table.specs.Crowd.{distance, slot_count}
 use Rattle.ijson_table.specs.Placed.{Placed}
 use Rattle.ijson_table.specs.Slots.{IsTable}
 use Rattle.ijson_table.specs.Store.{at, with_value}
 use Rattle.ijson_table.specs.private.Holds.{HasEmpty}
+use Rattle.ijson_table.proofs.arithmetic.Circular.{distance-below}
 use Rattle.ijson_table.proofs.pairs.NewPairs.{still_distinct, put_last}
-use Rattle.ijson_table.proofs.pairs.PairsByKey.{position_within, put-present}
+use Rattle.ijson_table.proofs.pairs.PairsByKey.{keys-length, position_within, put-present}
 use Rattle.ijson_table.proofs.probing.KeyHashes.{length-hashes}
 use Rattle.ijson_table.proofs.shifting.Insertion.{some_empty}
 use Rattle.ijson_table.proofs.slots.SlotChanges.{changes-none}
+use Rattle.ijson_table.proofs.table.Table.insert_in_room.Goals.{After-distance_between}
 use Rattle.ijson_table.proofs.table.Table.insert_in_room.Goals as goal
 
 -- slots of which there are more than keys are not full
 left_empty : (hashes : List ℕ) (slots : List (Option ℕ)) → IsTable hashes slots → length hashes < length slots → HasEmpty slots
 left_empty hashes slots table room = some_empty slots (length hashes + 1) (length hashes) (λ i. grind (arith, nat_tests, table.placed i))
     (omega arith) (grind (arith, nat_tests, table.placed (length hashes))) (omega (arith, room))
+
+-- The slots that were looked at and those that were written are each no more than there are.
+few_steps : (n slots slot last away looks : ℕ) → away ≡ distance slots slot last → slots ≡ n → slot < n → last < n → looks ≤ n
+    → looks + away + 1 ≤ 2 * n
+few_steps n slots slot last away looks is size from to few =
+    omega (arith, is, distance-below slots slot last (omega (arith, size, from)) (omega (arith, size, to)))
+
+sized : (g : _) (c : After-distance_between g) → (length c.self.inside.index.slots ≡ length c.args.self.now.slots)
+    × (length c.args.self.now.slots ≡ slot_count c.args.self.now.store.capacity)
+sized g c = (
+  ap (λ (t : Placed g.row.V.Denot). length t.slots) c.self.view_is,
+  subst (λ (t : Placed g.row.V.Denot). length t.slots ≡ slot_count t.store.capacity) c.self.view_is c.self.invariant.size,
+)
+
+steps : (g : _) (c : After-distance_between g) → c.count-in-Vacant.result + c.distance_between.result + 1
+    ≤ 2 * length c.self.inside.index.slots
+steps g c = few_steps (length c.self.inside.index.slots) c.len.result c.in-Vacant.slot c.push_at-last.result c.distance_between.result
+    c.count-in-Vacant.result c.distance_between.ensures (omega (arith, c.len.ensures.count, c.push_at-last.ensures.count))
+    (omega (arith, c.in-Vacant.ensures.ends.1, (sized g c).0)) c.push_at-last.ensures.within
+    (omega (arith, (sized g c).0, (sized g c).1, c.in-Vacant.ensures.bounded.always, keys-length c.args.self.now.store.pairs, c.requires))
+
+pub overflow_add-result : goal.overflow_add-result
+overflow_add-result g c = omega (arith, steps g c, c.self.invariant.room, c.self.inside.pairs.ok)
+
+pub overflow_add-result-in-Vacant : goal.overflow_add-result-in-Vacant
+overflow_add-result-in-Vacant g c = omega (arith, steps g c, c.self.invariant.room, c.self.inside.pairs.ok)
+
+pub returns-in-Vacant-clause-steps : goal.returns-in-Vacant-clause-steps
+returns-in-Vacant-clause-steps g c = omega (arith, steps g c, (sized g c).0, (sized g c).1)
 
 pub value_mut-requires : goal.value_mut-requires
 value_mut-requires g c = position_within c.args.self.now.store.pairs c.as_str-2.result.now c.in-Found.at c.in-Found.ensures.ends

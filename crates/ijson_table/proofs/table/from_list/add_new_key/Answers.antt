@@ -1,47 +1,187 @@
-use Rattle.std.proofs.Common.{◌≡◌, ◌%◌, [], length, get_or, take, arith, ap, sym, subst, ◌∙◌}
+use Rattle.std.proofs.Common.{◌≡◌, inl, inr, ◌+◌, ◌-◌, ◌<◌, ◌%◌, [], List, ℕ, length, get_or, take, arith, ap, sym, subst, ◌∙◌}
+use Rattle.ijson_table.specs.declared.index.probe.Probed.{Probed}
+use Rattle.ijson_table.specs.declared.index.probe.Probed.TheVariants.{Found, Vacant}
+use Rattle.ijson_table.specs.Crowd.{distance}
 use Rattle.ijson_table.specs.Slots.{displacement}
 use Rattle.ijson_table.specs.Store.{at, keys_of}
+use Rattle.ijson_table.specs.private.CountedSteps.{CountsSteps}
+use Rattle.ijson_table.specs.private.HashIndex.{HashIndex}
 use Rattle.ijson_table.specs.private.Lookup.{is_hashed_key}
 use Rattle.ijson_table.specs.private.Probe.{Ends}
+use Rattle.ijson_table.proofs.arithmetic.Circular.{distance-below, home_within}
 use Rattle.ijson_table.proofs.probing.FirstPairs.{comes_again, next_ends, next_placed}
+use Rattle.ijson_table.proofs.probing.StepsByEnd.{ended_found, counts_found, counts_full, counts_new}
 use Rattle.ijson_table.proofs.pairs.PairsByKey.{key_at}
+use Rattle.ijson_table.proofs.table.from_list.add_new_key.Goals.{After-new, After-distance_between, After-distance_between-in-Found}
+use Rattle.ijson_table.proofs.table.from_list.add_new_key.Goals.{In-Found, In-Vacant}
 use Rattle.ijson_table.proofs.table.from_list.add_new_key.Goals as goal
 
-pub push_at-requires-clause-may : goal.push_at-requires-clause-may
-push_at-requires-clause-may g c =
-    let slots = c.args.index.now.slots in
-    let hs = c.args.index.now.hashes in
-    let ends = subst (Ends slots (displacement hs slots) (c.hash-hash.result % length slots)
-    (is_hashed_key hs (keys_of (take c.args.position c.args.pairs.now)) c.hash-hash.result c.as_str-key.result.now) c.probe_measured-end.result.1)
-    c.in-Vacant.is c.probe_measured-end.ensures.ends in
+-- how the walk for a key of this hash ended, by so many looks
+abbrev Walked : HashIndex → List (List ℕ) → ℕ → List ℕ → ℕ → Probed → Type 0
+Walked index keys h key looks end = Ends index.slots (displacement index.hashes index.slots) (h % length index.slots)
+    (is_hashed_key index.hashes keys h key) looks end
+
+-- the key of the pair
+keyed : (g : _) (c : After-new g) → get_or (keys_of c.args.pairs.now) c.args.position [] ≡ c.as_str-key.result.now
+keyed g c = key_at c.args.pairs.now c.args.position c.index-pairs-position.result c.requires.within ∙ sym c.as_str-key.ensures
+
+-- the walk for it, where it is new
+vacant : (g : _) (c : In-Vacant g) → Walked c.args.index.now (keys_of (take c.args.position c.args.pairs.now)) c.hash-hash.result
+    c.as_str-key.result.now (c.probe.new.looks - c.new.result) (Vacant c.in-Vacant.slot)
+vacant g c = subst (Walked c.args.index.now (keys_of (take c.args.position c.args.pairs.now)) c.hash-hash.result
+    c.as_str-key.result.now (c.probe.new.looks - c.new.result)) c.in-Vacant.is c.probe.ensures.ends
+
+-- and where it comes again
+found : (g : _) (c : In-Found g) → Walked c.args.index.now (keys_of (take c.args.position c.args.pairs.now)) c.hash-hash.result
+    c.as_str-key.result.now (c.probe.new.looks - c.new.result) (Found c.in-Found.field-0 c.in-Found.slot)
+found g c = subst (Walked c.args.index.now (keys_of (take c.args.position c.args.pairs.now)) c.hash-hash.result
+    c.as_str-key.result.now (c.probe.new.looks - c.new.result)) c.in-Found.is c.probe.ensures.ends
+
+-- How far a slot is from the home that was computed: less than a round.
+record Away (n h p away : ℕ) : Type 0 where
+  far : away ≡ distance n (h % n) p
+  near : away < n
+
+away_from : (n count h home p away slots : ℕ) → away ≡ distance slots home p → slots ≡ n → home ≡ h % count → count ≡ n → home < count
+    → p < n → Away n h p away
+away_from n count h home p away slots is size home_is counted within there = record {
+  far = is ∙ (ap (λ k. distance k home p) size ∙ ap (λ x. distance n x p) (home_is ∙ ap (λ k. h % k) counted));
+  near = omega (
+    arith,
+    is,
+    ap (λ k. distance k home p) size,
+    distance-below n home p (omega (arith, within, counted)) there,
+  );
+}
+
+-- the last slot that is written
+away_new : (g : _) (c : After-distance_between g) → Away (length c.args.index.now.slots) c.hash-hash.result c.push_at-last.result
+    c.distance_between.result
+away_new g c = away_from (length c.args.index.now.slots) c.args.modulus.count c.hash-hash.result c.home_of_hash-home.result
+    c.push_at-last.result c.distance_between.result c.len-slots.result c.distance_between.ensures c.len-slots.ensures.count
+    c.home_of_hash-home.ensures.value c.requires.counted c.home_of_hash-home.ensures.within c.push_at-last.ensures.within
+
+-- the slot where the key was found
+away_found : (g : _) (c : After-distance_between-in-Found g) → Away (length c.args.index.now.slots) c.hash-hash.result c.in-Found.slot
+    c.distance_between-in-Found.result
+away_found g c =
+    let index = c.args.index.now in
+    let n = length index.slots in
+    let some : 0 < n = omega (arith, c.requires.room) in
+    let keys = keys_of (take c.args.position c.args.pairs.now) in
+    let walk : Walked index keys c.hash-hash.result c.as_str-key.result.now (c.probe.new.looks - c.new.result)
+    (Found c.in-Found.field-0 c.in-Found.slot) =
+    subst (Walked index keys c.hash-hash.result c.as_str-key.result.now (c.probe.new.looks - c.new.result)) c.in-Found.is
+    c.probe.ensures.ends in
+    let there = (ended_found index.slots (displacement index.hashes index.slots) (c.hash-hash.result % n)
+    (is_hashed_key index.hashes keys c.hash-hash.result c.as_str-key.result.now) (home_within c.hash-hash.result n some)
+    (c.probe.new.looks - c.new.result) c.in-Found.field-0 c.in-Found.slot walk).there in
+    away_from n c.args.modulus.count c.hash-hash.result c.home_of_hash-home.result c.in-Found.slot c.distance_between-in-Found.result
+    c.len-slots.result c.distance_between-in-Found.ensures c.len-slots.ensures.count c.home_of_hash-home.ensures.value
+    c.requires.counted c.home_of_hash-home.ensures.within there
+
+pub push_at-last-requires-clause-may : goal.push_at-last-requires-clause-may
+push_at-last-requires-clause-may g c =
     (next_ends g.H.KeyHash.hash_of c.args.pairs.now c.args.position c.args.index.now c.requires.placed
-    c.requires.within c.hash-hash.result c.as_str-key.result.now c.probe_measured-end.result.1 c.in-Vacant.slot
-    c.hash-hash.ensures c.len.ensures.table (omega (arith, c.if-position-len.false, c.len.ensures.count)) ends).1
+    c.requires.within c.hash-hash.result c.as_str-key.result.now (c.probe.new.looks - c.new.result) c.in-Vacant.slot
+    c.hash-hash.ensures c.len-slots.ensures.table (omega (arith, c.requires.room))
+    (vacant g (goal.at.push_at-last-requires-clause-may g c).In-Vacant)).1
+
+pub overflow_add-steps : goal.overflow_add-steps
+overflow_add-steps g c = omega (
+  arith,
+  (away_new g (goal.at.overflow_add-steps g c).After-distance_between).near,
+  c.requires.fits,
+  c.len-slots.ensures.count,
+)
+
+pub overflow_add-steps-in-Vacant : goal.overflow_add-steps-in-Vacant
+overflow_add-steps-in-Vacant g c =
+    omega (arith, (away_new g (goal.at.overflow_add-steps-in-Vacant g c).After-distance_between).near, c.requires.fits)
+
+pub overflow_add-steps-in-Found : goal.overflow_add-steps-in-Found
+overflow_add-steps-in-Found g c =
+    omega (arith, (away_found g (goal.at.overflow_add-steps-in-Found g c).After-distance_between-in-Found).near, c.requires.fits)
+
+pub overflow_add-steps-in-Found-2 : goal.overflow_add-steps-in-Found-2
+overflow_add-steps-in-Found-2 g c =
+    omega (arith, (away_found g (goal.at.overflow_add-steps-in-Found-2 g c).After-distance_between-in-Found).near, c.requires.fits)
 
 pub returns-in-Vacant-clause-placed : goal.returns-in-Vacant-clause-placed
 returns-in-Vacant-clause-placed g c = λ _.
     let hash = g.H.KeyHash.hash_of in
-    let slots = c.args.index.now.slots in
-    let hs = c.args.index.now.hashes in
-    let ends = subst (Ends slots (displacement hs slots) (c.hash-hash.result % length slots)
-    (is_hashed_key hs (keys_of (take c.args.position c.args.pairs.now)) c.hash-hash.result c.as_str-key.result.now) c.probe_measured-end.result.1)
-    c.in-Vacant.is c.probe_measured-end.ensures.ends in
     let pair = c.index-pairs-position.result in
     let key : c.as_str-key.result.now ≡ pair.0 = c.as_str-key.ensures ∙ ap (λ p. p.0) (sym c.index-pairs-position.is) in
     let hashed : c.hash-hash.result ≡ hash pair.0 = c.hash-hash.ensures ∙ ap hash key in
     let missing = (next_ends hash c.args.pairs.now c.args.position c.args.index.now c.requires.placed
-    c.requires.within c.hash-hash.result c.as_str-key.result.now c.probe_measured-end.result.1 c.in-Vacant.slot
-    c.hash-hash.ensures c.len.ensures.table (omega (arith, c.if-position-len.false, c.len.ensures.count)) ends).0 in
+    c.requires.within c.hash-hash.result c.as_str-key.result.now (c.probe.new.looks - c.new.result) c.in-Vacant.slot
+    c.hash-hash.ensures c.len-slots.ensures.table (omega (arith, c.requires.room))
+    (vacant g (goal.at.returns-in-Vacant-clause-placed g c).In-Vacant)).0 in
     next_placed hash c.args.pairs.now c.args.position c.args.index.now c.requires.placed c.requires.within pair c.hash-hash.result
-    c.push_at.new.self c.index-pairs-position.is hashed
-    (ap (at (take c.args.position c.args.pairs.now)) (sym key) ∙ missing) c.push_at.ensures.hashes
+    c.push_at-last.new.self c.index-pairs-position.is hashed
+    (ap (at (take c.args.position c.args.pairs.now)) (sym key) ∙ missing) c.push_at-last.ensures.hashes
 
+pub returns-in-Vacant-clause-steps : goal.returns-in-Vacant-clause-steps
+returns-in-Vacant-clause-steps g c =
+    omega (arith, (away_new g (goal.at.returns-in-Vacant-clause-steps g c).After-distance_between).near)
+
+pub returns-in-Vacant-clause-counted : goal.returns-in-Vacant-clause-counted
+returns-in-Vacant-clause-counted g c =
+    let hash = g.H.KeyHash.hash_of in
+    let keys = keys_of (take c.args.position c.args.pairs.now) in
+    let index = c.args.index.now in
+    let place = goal.at.returns-in-Vacant-clause-counted g c in
+    let away = c.distance_between.result in
+    let steps = c.args.steps.now + (away + 2) - c.args.steps.now in
+    subst (λ k. CountsSteps hash keys k index c.push_at-last.new.self steps) (sym (keyed g place.After-new))
+    (counts_new hash keys index (omega (arith, c.requires.room)) c.hash-hash.result c.as_str-key.result.now
+    (c.probe.new.looks - c.new.result) c.in-Vacant.slot c.push_at-last.result away steps c.push_at-last.new.self c.hash-hash.ensures
+    (vacant g place.In-Vacant) c.push_at-last.ensures.within c.push_at-last.ensures.empty c.push_at-last.ensures.changes
+    (away_new g place.After-distance_between).far (omega arith))
+
+-- where a slot is left, a key for which there is no vacancy comes again
 pub returns-in-Found-clause-stops : goal.returns-in-Found-clause-stops
-returns-in-Found-clause-stops g c = λ _ room none.
+returns-in-Found-clause-stops g c = λ _ none.
     let pairs = c.args.pairs.now in
     let n = c.args.position in
-    let key : get_or (keys_of pairs) n [] ≡ c.as_str-key.result.now =
-    key_at pairs n c.index-pairs-position.result c.requires.within ∙ sym c.as_str-key.ensures in
     comes_again g.H.KeyHash.hash_of pairs n c.args.index.now c.requires.placed c.requires.within c.hash-hash.result c.as_str-key.result.now
-    c.probe_measured-end.result.1 c.probe_measured-end.result.0
-    c.hash-hash.ensures c.len.ensures.table room c.probe_measured-end.ensures.ends c.in-Found.is (ap (at (take n pairs)) (sym key) ∙ none)
+    (c.probe.new.looks - c.new.result) c.probe.result c.hash-hash.ensures c.len-slots.ensures.table c.requires.room c.probe.ensures.ends
+    (inl (c.in-Found.field-0, c.in-Found.slot, c.in-Found.is))
+    (ap (at (take n pairs)) (sym (keyed g (goal.at.returns-in-Found-clause-stops g c).After-new)) ∙ none)
+
+pub returns-in-Found-clause-steps : goal.returns-in-Found-clause-steps
+returns-in-Found-clause-steps g c =
+    omega (arith, (away_found g (goal.at.returns-in-Found-clause-steps g c).After-distance_between-in-Found).near)
+
+pub returns-in-Found-clause-counted : goal.returns-in-Found-clause-counted
+returns-in-Found-clause-counted g c =
+    let hash = g.H.KeyHash.hash_of in
+    let keys = keys_of (take c.args.position c.args.pairs.now) in
+    let index = c.args.index.now in
+    let place = goal.at.returns-in-Found-clause-counted g c in
+    let away = c.distance_between-in-Found.result in
+    let steps = c.args.steps.now + (away + 1) - c.args.steps.now in
+    subst (λ k. CountsSteps hash keys k index index steps) (sym (keyed g place.After-new))
+    (counts_found hash keys index (omega (arith, c.requires.room)) c.hash-hash.result c.as_str-key.result.now
+    (c.probe.new.looks - c.new.result) c.in-Found.field-0 c.in-Found.slot away steps c.hash-hash.ensures
+    (found g place.In-Found) (away_found g place.After-distance_between-in-Found).far (omega arith))
+
+pub returns-in-Full-clause-stops : goal.returns-in-Full-clause-stops
+returns-in-Full-clause-stops g c = λ _ none.
+    let pairs = c.args.pairs.now in
+    let n = c.args.position in
+    comes_again g.H.KeyHash.hash_of pairs n c.args.index.now c.requires.placed c.requires.within c.hash-hash.result c.as_str-key.result.now
+    (c.probe.new.looks - c.new.result) c.probe.result c.hash-hash.ensures c.len-slots.ensures.table c.requires.room c.probe.ensures.ends
+    (inr c.in-Full.is) (ap (at (take n pairs)) (sym (keyed g (goal.at.returns-in-Full-clause-stops g c).After-new)) ∙ none)
+
+pub returns-in-Full-clause-counted : goal.returns-in-Full-clause-counted
+returns-in-Full-clause-counted g c =
+    let hash = g.H.KeyHash.hash_of in
+    let keys = keys_of (take c.args.position c.args.pairs.now) in
+    let index = c.args.index.now in
+    let looks = c.probe.new.looks - c.new.result in
+    let steps = c.args.steps.now + c.len-slots.result - c.args.steps.now in
+    subst (λ k. CountsSteps hash keys k index index steps) (sym (keyed g (goal.at.returns-in-Full-clause-counted g c).After-new))
+    (counts_full hash keys index (omega (arith, c.requires.room)) c.hash-hash.result c.as_str-key.result.now looks steps c.hash-hash.ensures
+    (subst (Walked index keys c.hash-hash.result c.as_str-key.result.now looks) c.in-Full.is c.probe.ensures.ends)
+    (omega (arith, c.len-slots.ensures.count)))

@@ -5,20 +5,29 @@ use Rattle.ijson_table.specs.Store.{keys_of}
 use Rattle.ijson_table.specs.private.Lookup.{is_hashed_key}
 use Rattle.ijson_table.specs.private.SlotHashes.{position_in, SeenAs}
 use Rattle.ijson_table.proofs.probing.KeyTests.{same_test, same_hash, other_hash, looks_at_slot}
-use Rattle.ijson_table.proofs.probing.ProbePath.{in_list}
+use Rattle.ijson_table.proofs.probing.ProbePath.{displacement-none, in_list}
 use Rattle.ijson_table.proofs.index.probe.LookupProbeTarget.look.Goals as goal
-use Rattle.ijson_table.proofs.index.probe.LookupProbeTarget.look.Goals.{in-None, in-Some+then-has_hash, in-Some+else-has_hash}
+use Rattle.ijson_table.proofs.index.probe.LookupProbeTarget.look.Goals.{then-has_hash, else-has_hash}
 
-pub has_key-requires : goal.has_key-requires
-has_key-requires g c =
+pub resident-requires : goal.resident-requires
+resident-requires g c = λ none. let full = c.is_empty.ensures.1 none in let tested = c.if-is_empty.false in absurd (cc (full, tested))
+
+pub has_key-same-requires : goal.has_key-same-requires
+has_key-same-requires g c =
     let index = c.args.self.now.index.now in
-    let there : resident index.slots c.args.slot ≡ Some c.in-Some.at =
-    sym c.at-there.ensures.position ∙ (sym c.position.ensures ∙ c.in-Some.is) in
+    let there : resident index.slots c.args.slot ≡ Some c.resident.result = sym c.at-there.ensures.position ∙ c.resident.ensures in
     omega (
       arith,
-      in_list index.hashes index.slots c.at-there.ensures.table c.args.slot c.in-Some.at c.requires.within there,
+      in_list index.hashes index.slots c.at-there.ensures.table c.args.slot c.resident.result c.requires.within there,
       c.args.self.now.listed,
     )
+
+pub returns-then-is_empty-clause-sees : goal.returns-then-is_empty-clause-sees
+returns-then-is_empty-clause-sees g c =
+    let index = c.args.self.now.index.now in
+    let none : resident index.slots c.args.slot ≡ None =
+    sym c.at-there.ensures.position ∙ c.is_empty.ensures.0 c.if-is_empty.true in
+    (none, displacement-none index.hashes index.slots c.args.slot none)
 
 pub returns-clause-sees : goal.returns-clause-sees
 returns-clause-sees g c =
@@ -27,26 +36,22 @@ returns-clause-sees g c =
     let keys : List (List ℕ) = keys_of self.pairs.now in
     let there = c.at-there.result in
     let test : ℕ → Bool = is_hashed_key index.hashes keys self.hash self.key.now in
-    let sought : (i : ℕ) → position_in there ≡ Some i → c.match-position.same ≡ test i = λ i e.
+    let sought : (i : ℕ) → position_in there ≡ Some i → c.if-has_hash.same ≡ test i = λ i e.
     let hashed : there.hash ≡ get_or index.hashes i 0 = c.at-there.ensures.hash i e in
-    elim c.match-position.branch [
-      | in-None w ↦
-          let none : position_in there ≡ None = sym c.position.ensures ∙ w.in-None.is in
-          let bad : ◌≡◌ {A = Option ℕ} (Some i) None = sym e ∙ none in
-          cc
-      | in-Some+then-has_hash w ↦
-          let who : ◌≡◌ {A = Option ℕ} (Some w.in-Some.at) (Some i) = sym w.in-Some.is ∙ (c.position.ensures ∙ e) in
-          let at : w.in-Some.at ≡ i = cc in
-          w.same-is ∙ (same_test w.has_key.result (get_or keys i []) self.key.now
-          (subst (λ n. IsTrue w.has_key.result ↔ (get_or keys n [] ≡ self.key.now)) at w.has_key.ensures)
+    elim c.if-has_hash.branch [
+      | then-has_hash w ↦
+          let who : ◌≡◌ {A = Option ℕ} (Some w.resident.result) (Some i) = sym w.resident.ensures ∙ e in
+          let at : w.resident.result ≡ i = cc in
+          w.same-is ∙ (same_test w.has_key-same.result (get_or keys i []) self.key.now
+          (subst (λ n. IsTrue w.has_key-same.result ↔ (get_or keys n [] ≡ self.key.now)) at w.has_key-same.ensures)
           ∙ same_hash (get_or index.hashes i 0) self.hash (bytes_eq (get_or keys i []) self.key.now)
-          (sym hashed ∙ w.has_hash.ensures.0 w.if-has_hash.true))
-      | in-Some+else-has_hash w ↦
-          let apart : get_or index.hashes i 0 ≢ self.hash = λ same. let up = w.has_hash.ensures.1 (hashed ∙ same) in let down =
+          (sym hashed ∙ c.has_hash.ensures.0 w.if-has_hash.true))
+      | else-has_hash w ↦
+          let apart : get_or index.hashes i 0 ≢ self.hash = λ same. let up = c.has_hash.ensures.1 (hashed ∙ same) in let down =
           w.if-has_hash.false in absurd (cc (up, down)) in
-          w.same-is ∙ (w.if-has_hash.false ∙ other_hash (get_or index.hashes i 0) self.hash
-          (bytes_eq (get_or keys i []) self.key.now) apart)
+          w.same-is ∙ (w.if-has_hash.false
+          ∙ other_hash (get_or index.hashes i 0) self.hash (bytes_eq (get_or keys i []) self.key.now) apart)
     ] in
-    looks_at_slot index.hashes index.slots c.args.slot there c.match-position.same test c.seen.result c.at-there.ensures.position
+    looks_at_slot index.hashes index.slots c.args.slot there c.if-has_hash.same test c.seen.result c.at-there.ensures.position
     c.at-there.ensures.hash
-    (subst (λ n. SeenAs there n c.args.slot c.match-position.same c.seen.result) c.args.self.now.counted c.seen.ensures) sought
+    (subst (λ n. SeenAs there n c.args.slot c.if-has_hash.same c.seen.result) c.args.self.now.counted c.seen.ensures) sought

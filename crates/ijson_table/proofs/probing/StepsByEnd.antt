@@ -1,0 +1,106 @@
+-- The steps of a walk for a key, and of putting it where the walk ended, as they follow from where they end.
+use Rattle.std.proofs.Common.{◌≡◌, ℕ, ◌+◌, ◌%◌, ◌<◌, ◌≤◌, Bool, List, length, Option, None, arith, ap, sym, subst, ◌∙◌, inl, inr}
+use Rattle.ijson_table.specs.declared.index.probe.Probed.{Probed}
+use Rattle.ijson_table.specs.declared.index.probe.Probed.TheVariants.{Found, Vacant, Full}
+use Rattle.ijson_table.specs.Crowd.{distance}
+use Rattle.ijson_table.specs.Slots.{displacement, resident}
+use Rattle.ijson_table.specs.private.Changes.{changes}
+use Rattle.ijson_table.specs.private.CountedSteps.{CountsSteps}
+use Rattle.ijson_table.specs.private.HashIndex.{HashIndex}
+use Rattle.ijson_table.specs.private.Lookup.{is_hashed_key}
+use Rattle.ijson_table.specs.private.Probe.{onward, Ends, EndsAt}
+use Rattle.ijson_table.proofs.arithmetic.Circular.{distance-onward, home_within, distance-rest, onward-below, onward-distance}
+use Rattle.ijson_table.proofs.arithmetic.Comparing.{below_or_not}
+use Rattle.ijson_table.proofs.probing.ProbePath.{displacement-none}
+use Rattle.ijson_table.proofs.slots.SlotChanges.{changes-none}
+
+-- How a probe from home h by so many looks ended at slot p of n.
+pub record EndedAt (n h looks p : ℕ) : Type 0 where
+  pub there : p < n
+  pub looked : distance n h p + 1 ≡ looks
+  pub few : looks ≤ n
+
+module _ (slots : List (Option ℕ)) (displacements : ℕ → ℕ) (h : ℕ) (seeks : ℕ → Bool) (home : h < length slots) where
+  -- where a probe ends after m slots, that is how far from home it is
+  ended_after : (looks p m : ℕ) → EndsAt slots displacements h seeks looks p m → EndedAt (length slots) h looks p
+  ended_after looks p m e =
+      let n = length slots in
+      record {
+        there = subst (λ q. q < n) (sym e.there) (onward-below n h m home (omega (arith, e.within)));
+        looked = ap (λ q. distance n h q + 1) e.there ∙ (ap (λ d. d + 1) (distance-onward n h m home e.within) ∙ sym e.looked);
+        few = omega (arith, e.within, e.looked);
+      }
+
+  -- the same at what it seeks
+  pub ended_found : (looks at p : ℕ) → Ends slots displacements h seeks looks (Found at p) → EndedAt (length slots) h looks p
+  ended_found looks at p ends = ended_after looks p ends.0 ends.1
+
+  -- and where it does not stand
+  pub ended_vacant : (looks p : ℕ) → Ends slots displacements h seeks looks (Vacant p) → EndedAt (length slots) h looks p
+  ended_vacant looks p ends = ended_after looks p ends.0 ends.1
+
+  -- An empty slot is no nearer to the home than where the probe ended: the way to it from home leads there first.
+  pub through : (looks p last : ℕ) → Ends slots displacements h seeks looks (Vacant p) → last < length slots → displacements last ≡ 0
+      → distance (length slots) h p + distance (length slots) p last ≡ distance (length slots) h last
+  through looks p last ends there empty =
+      let n = length slots in
+      let m : ℕ = ends.0 in
+      let e = ends.1 in
+      let far : distance n h p ≡ m = ap (distance n h) e.there ∙ distance-onward n h m home e.within in
+      let way : distance n p last ≡ distance n (onward n h m) last = ap (λ q. distance n q last) e.there in
+      elim (below_or_not (distance n h last) m) [
+        | inl less ↦
+            let full = e.passed.far (distance n h last) less in
+            absurd (omega (arith, full, ap displacements (onward-distance n h last home there), empty))
+        | inr more ↦ omega (arith, far, way, distance-rest n h m last home there e.within more)
+      ]
+
+module _ (hash : List ℕ → ℕ) (keys : List (List ℕ)) (index : HashIndex) (some : 0 < length index.slots) where
+  -- How the walk for a key ends, by its hash
+  abbrev pub Walks : ℕ → List ℕ → ℕ → Probed → Type 0
+  Walks h key looks end = Ends index.slots (displacement index.hashes index.slots) (h % length index.slots)
+      (is_hashed_key index.hashes keys h key) looks end
+
+  -- A new key that is put where the walk for it ended: the last slot that is written tells the steps.
+  pub counts_new : (h : ℕ) (key : List ℕ) (looks p last far steps : ℕ) (new : HashIndex) → h ≡ hash key → Walks h key looks (Vacant p)
+      → last < length index.slots → resident index.slots last ≡ None
+      → changes index.slots new.slots ≤ distance (length index.slots) p last + 1
+      → far ≡ distance (length index.slots) (h % length index.slots) last
+      → far + 2 ≤ steps → CountsSteps hash keys key index new steps
+  counts_new h key looks p last far steps new is walks there empty few away_is enough =
+      let n = length index.slots in
+      let home = home_within h n some in
+      let ended = ended_vacant index.slots (displacement index.hashes index.slots) (h % n) (is_hashed_key index.hashes keys h key) home
+      looks p walks in
+      let way = through index.slots (displacement index.hashes index.slots) (h % n) (is_hashed_key index.hashes keys h key) home
+      looks p last walks there (displacement-none index.hashes index.slots last empty) in
+      record {
+        looks = looks;
+        end = Vacant p;
+        walked = subst (λ x. Walks x key looks (Vacant p)) is walks;
+        counted = omega (arith, ended.looked, way, few, away_is, enough);
+      }
+
+  -- A key that is found: the slot of its pair tells the steps.
+  pub counts_found : (h : ℕ) (key : List ℕ) (looks at p far steps : ℕ) → h ≡ hash key → Walks h key looks (Found at p)
+      → far ≡ distance (length index.slots) (h % length index.slots) p → far + 1 ≤ steps → CountsSteps hash keys key index index steps
+  counts_found h key looks at p far steps is walks away_is enough =
+      let n = length index.slots in
+      let ended = ended_found index.slots (displacement index.hashes index.slots) (h % n) (is_hashed_key index.hashes keys h key)
+      (home_within h n some) looks at p walks in
+      record {
+        looks = looks;
+        end = Found at p;
+        walked = subst (λ x. Walks x key looks (Found at p)) is walks;
+        counted = omega (arith, ended.looked, changes-none index.slots, away_is, enough);
+      }
+
+  -- A key that is not there, where no slot is empty: each of them was looked at.
+  pub counts_full : (h : ℕ) (key : List ℕ) (looks steps : ℕ) → h ≡ hash key → Walks h key looks Full → length index.slots ≤ steps
+      → CountsSteps hash keys key index index steps
+  counts_full h key looks steps is walks enough = record {
+    looks = looks;
+    end = Full;
+    walked = subst (λ x. Walks x key looks Full) is walks;
+    counted = omega (arith, walks.2, changes-none index.slots, enough);
+  }
