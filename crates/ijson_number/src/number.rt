@@ -132,9 +132,9 @@ impl INumber {
         Ok(Some((number, prefix.length)))
     }
 
-    /// The number that the text begins with, where an exponent of few digits stands behind the others. It stays a call, since few
-    /// numbers have one.
-    #[inline(never)]
+    /// The number that the text begins with, where an exponent of few digits stands behind the others. It is in line and what it calls is
+    /// not, so that room for what those answer is cleared for no number without an exponent.
+    #[inline(always)]
     fn with_exponent(
         alloc: Global,
         prefix: Prefix,
@@ -155,7 +155,8 @@ impl INumber {
         let Some((power, length)) = read_power(rest) else {
             return Ok(None);
         };
-        let number = INumber::from_power(alloc, prefix, power)?;
+        // the call takes the copy from memory, where the prefix itself need not be then
+        let number = INumber::from_power(alloc, Prefix { ..prefix }, power)?;
         Ok(Some((number, prefix.length + length)))
     }
 

@@ -105,6 +105,17 @@ fn read_long(alloc: Global, text: &str) -> Result<(INumber, &str), Fault>
     }
 }
 
+/// The same. It is in line, so that room for what the call answers is cleared for these numbers alone.
+#[inline(always)]
+fn read_other(alloc: Global, text: &str) -> Result<(INumber, &str), Fault>
+    ensures { MatchResult result
+        (λ x. NumberRead text.now x.0.decimal x.1.now)
+        (λ fault. NumberFault text.now fault) }
+{
+    let (number, rest) = read_long(alloc, text)?;
+    Ok((number, rest))
+}
+
 /// The number at the front. One past the limit is told at its first byte, whatever follows it.
 #[inline(always)]
 pub(crate) fn read_number(alloc: Global, text: &str) -> Result<(INumber, &str), Fault>
@@ -114,6 +125,6 @@ pub(crate) fn read_number(alloc: Global, text: &str) -> Result<(INumber, &str), 
 {
     match read_short(alloc, text)? {
         Some(read) => Ok(read),
-        None => read_long(alloc, text),
+        None => read_other(alloc, text),
     }
 }

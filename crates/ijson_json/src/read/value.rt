@@ -1,6 +1,6 @@
 //! Reading a value of any kind: arrays and objects here, the others by `scalar`.
 
-ghost use Rattle.std.specs.Prelude.{◌≡◌, ◌∷◌, ◌<◌, ◌≤◌, length, MatchResult, IfOk, OnOk};
+ghost use Rattle.std.specs.Prelude.{◌≡◌, ◌≢◌, ◌⊎◌, ◌∷◌, ◌<◌, ◌≤◌, length, MatchResult, IfOk, OnOk, IsTrue, IsFalse};
 ghost use Rattle.ijson_json.specs.Limits.{max_depth};
 ghost use Rattle.ijson_json.specs.private.Reading.{ReadAs, MemberAs};
 ghost use Rattle.ijson_json.specs.AddsOnlyRead.{AddsOnlyRead};
@@ -24,6 +24,15 @@ use std::hash::BuildHasher;
 
 /// The most containers that may be open at once.
 const MAX_DEPTH: usize = 127;
+
+/// Whether this is an opening bracket.
+#[inline(always)]
+fn opens_container(byte: u8) -> bool
+    ensures opens { IsTrue result → (byte ≡ 91) ⊎ (byte ≡ 123) }
+    ensures apart { IsFalse result → (byte ≢ 91) × (byte ≢ 123) }
+{
+    byte == b'[' || byte == b'{'
+}
 
 /// Refuses a container at the front of the text inside as many as may be open.
 fn check_depth(text: &str, opened: usize) -> Result<(), Fault>
@@ -60,17 +69,43 @@ pub(crate) fn read_value<'a, S: BuildHasher>(
     let Some((first, inside)) = split_ascii(text) else {
         return Err(Fault::Syntax { left: text.len() });
     };
-    match first {
-        b'[' => {
-            check_depth(text, opened)?;
-            read_array(alloc, cache, scratch, inside, opened)
-        }
-        b'{' => {
-            check_depth(text, opened)?;
-            read_object(alloc, cache, scratch, inside, opened)
-        }
-        _ => read_scalar(alloc, cache, &mut scratch.content, text, first),
+    if opens_container(first) {
+        return read_container(alloc, cache, scratch, text, first, inside, opened);
     }
+    read_scalar(alloc, cache, &mut scratch.content, text, first)
+}
+
+/// The array or object at the front of a text that begins with this bracket. It is in line, and what it calls is not: so a scalar has
+/// no place in memory, and room for a container is cleared for containers alone.
+#[cycle(read)]
+#[inline(always)]
+fn read_container<'a, S: BuildHasher>(
+    alloc: Global,
+    cache: &mut StringCache<S>,
+    scratch: &mut Scratch,
+    text: &'a str,
+    first: u8,
+    inside: &'a str,
+    opened: usize,
+) -> Result<(IValue, &'a str), Fault>
+    requires opened { opened ≤ max_depth }
+    requires begins { text.now ≡ first ∷ inside.now }
+    requires opens { (first ≡ 91) ⊎ (first ≡ 123) }
+    ensures read { MatchResult result
+        (λ x. ReadAs opened text.now x.0.tree x.1.now)
+        (λ fault. Explains opened text.now fault) }
+    ensures cache { AddsOnlyRead text.now cache.old cache.new }
+    ensures values { OnOk result (scratch.new.values.items ≡ scratch.old.values.items) }
+    ensures members { OnOk result (scratch.new.members.items ≡ scratch.old.members.items) }
+    ensures shared { IfOk result (λ x. AreShared cache.new x.0.tree) }
+{
+    check_depth(text, opened)?;
+    let (container, rest) = if first == b'[' {
+        read_array(alloc, cache, scratch, inside, opened)?
+    } else {
+        read_object(alloc, cache, scratch, inside, opened)?
+    };
+    Ok((container, rest))
 }
 
 /// The items of an array, behind its opening bracket. They are gathered in `scratch`, above those that lie there, so that

@@ -26,8 +26,12 @@ pub(crate) fn strip_byte(text: &str, byte: u8) -> Option<&str>
     ensures { MatchOption result (Past (λ b. b == byte) text.now)
         (λ rest. text.now ≡ byte ∷ rest.now) }
 {
-    let (first, rest) = split_ascii(text)?;
-    if first == byte { Some(rest) } else { None }
+    let (first, _) = text.as_bytes().split_first()?;
+    if *first == byte {
+        Some(&text[1..])
+    } else {
+        None
+    }
 }
 
 /// How far the text goes with the word.

@@ -7,7 +7,6 @@ ghost use Rattle.std.specs.Simd.Lanes.{mask_l};
 ghost use Rattle.ijson_json.specs.Grammar.{is_space};
 ghost use Rattle.ijson_json.specs.private.Reading.{Skips, Past};
 
-use crate::scan::prefix::split_ascii;
 use std::simd::prelude::*;
 
 /// Space, tab, line feed or carriage return.
@@ -23,8 +22,12 @@ fn strip_white(text: &str) -> Option<&str>
     ensures { MatchOption result (Past is_space text.now)
         (λ rest. (byte : ℕ) × IsTrue (is_space byte) × (text.now ≡ byte ∷ rest.now)) }
 {
-    let (byte, rest) = split_ascii(text)?;
-    if is_white(byte) { Some(rest) } else { None }
+    let (byte, _) = text.as_bytes().split_first()?;
+    if is_white(*byte) {
+        Some(&text[1..])
+    } else {
+        None
+    }
 }
 
 /// The text behind the white space that it begins with.

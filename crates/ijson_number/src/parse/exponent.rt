@@ -10,7 +10,9 @@ use crate::parse::prefix::{goes_on, take_digits};
 /// The most digits of an exponent that is read in one pass with what stands before it.
 const EXPONENT_DIGITS: usize = 4;
 
-/// The exponent at the front, and how many bytes it has, where it has few digits and nothing goes on with it.
+/// The exponent at the front, and how many bytes it has, where it has few digits and nothing goes on with it. It stays a call, since few
+/// numbers have one.
+#[inline(never)]
 pub fn read_power(bytes: &[u8]) -> Option<(i16, usize)>
     ensures power { IfSome result (λ r. IsPower bytes.now r.0 r.1) }
     ensures stops { IfSome result (λ r. GoesOnWithNone (drop r.1 bytes.now)) }

@@ -138,7 +138,8 @@ impl INumber {
         INumber::from_stripped(alloc, &number)
     }
 
-    /// The number of a prefix times a power of ten.
+    /// The number of a prefix times a power of ten. It stays a call, since few numbers have an exponent.
+    #[inline(never)]
     pub(crate) fn from_power(
         alloc: Global,
         prefix: Prefix,
@@ -179,10 +180,22 @@ impl INumber {
         if let Some(stored) = prefix.word() {
             return Ok(INumber { stored });
         }
-        INumber::from_wide_prefix(alloc, prefix)
+        INumber::from_other_prefix(alloc, prefix)
     }
 
-    /// The number of a prefix that no word holds. It stays a call, since its buffers would be cleared for each number that a word holds.
+    /// The number of a prefix that no word holds. It is in line, so that room for what the call answers is cleared here alone.
+    #[inline(always)]
+    fn from_other_prefix(alloc: Global, prefix: Prefix) -> Result<INumber, AllocError>
+        requires { (text : List ℕ) × IsPrefix text prefix }
+        ensures number { IfOk result (λ n. n.decimal ≡ prefix_number prefix) }
+        ensures refused { OnErr result (is_digits (form_of (prefix_number prefix)) ≡ true) }
+    {
+        // the call takes the copy from memory, where the prefix itself need not be then
+        let number = INumber::from_wide_prefix(alloc, Prefix { ..prefix })?;
+        Ok(number)
+    }
+
+    /// The same. It stays a call, since its buffers would be cleared for each number that a word holds.
     #[inline(never)]
     fn from_wide_prefix(alloc: Global, prefix: Prefix) -> Result<INumber, AllocError>
         requires { (text : List ℕ) × IsPrefix text prefix }

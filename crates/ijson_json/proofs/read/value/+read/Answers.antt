@@ -1,11 +1,15 @@
-use Rattle.std.proofs.Common.{List, [], ◌∷◌, ◌++◌, ℕ, ap, subst, sym, refl, ◌∙◌, arith, rules, map}
+use Rattle.std.proofs.Common.{◌≡◌, ◌⊎◌, inl, inr, length, List, [], ◌∷◌, ◌++◌, ℕ, ap, subst, sym, refl, ◌∙◌, arith, rules, map}
 use Rattle.std.proofs.lemmas.Result.{err_from_is_err_and}
 use Rattle.ijson_table.specs.Store.{put_each}
 use Rattle.ijson_value.specs.Tree.{Tree, array, object, items_of, members_of}
 use Rattle.ijson_value.specs.WellFormed.{WellFormed, item_trees, pair_trees}
 use Rattle.ijson_value.specs.laws.MemberTrees.{pair_tree}
 use Rattle.ijson_json.specs.AreShared.{AreShared, MembersAreShared}
+use Rattle.ijson_json.specs.Limits.{max_depth}
+use Rattle.ijson_json.specs.declared.fault.Fault.{Fault}
+use Rattle.ijson_json.specs.declared.fault.Fault.TheVariants.{TooDeep}
 use Rattle.ijson_json.specs.declared.read.separator.Separator.{Separator}
+use Rattle.ijson_json.specs.private.Explains.{Explains}
 use Rattle.ijson_json.specs.private.Separators.{SeparatorAt}
 use Rattle.ijson_json.proofs.scanning.Prefixes.{closes}
 use Rattle.ijson_json.proofs.grammar.ElementShapes.{items_shape, members_shape}
@@ -17,32 +21,29 @@ use Rattle.ijson_json.proofs.reading.Gathering.{gathered_start, gathered_adds, g
 use Rattle.ijson_json.proofs.reading.Gathering.{gathered_taken, gathered_left}
 use Rattle.ijson_json.proofs.reading.GatheredTrees.{kept_items, kept_members}
 use Rattle.ijson_json.proofs.reading.Members.{member_read, member_fault}
-use Rattle.ijson_json.proofs.reading.Values.{begins, no_character}
+use Rattle.ijson_json.proofs.reading.Values.{no_character}
 use Rattle.ijson_json.proofs.read.value.+read.Goals as goal
 
 -- ---- a value
 pub read_value-returns-in_default-clause-read : goal.read_value-returns-in_default-clause-read
 read_value-returns-in_default-clause-read g t c = (omega arith, no_character c.args.text.now c.in_default.ensures.cases)
 
-pub read_value-returns-in_err-check_depth-in-91-clause-read : goal.read_value-returns-in_err-check_depth-in-91-clause-read
-read_value-returns-in_err-check_depth-in-91-clause-read g t c =
+pub read_value-returns-clause-read : goal.read_value-returns-clause-read
+read_value-returns-clause-read g t c = c.read_scalar.ensures.read c.args.opened (omega arith)
+
+-- ---- a container
+container_too_deep : (opened : ℕ) (text inside : List ℕ) (first : ℕ) (fault : Fault) → text ≡ first ∷ inside → (first ≡ 91) ⊎ (first ≡ 123)
+    → (opened ≡ max_depth) × (fault ≡ TooDeep (length text)) → Explains opened text fault
+container_too_deep opened text inside first fault begins (inl is) deep =
+    bracket_too_deep Tree items_shape arrays opened text inside fault (begins ∙ ap (λ b. b ∷ inside) is) deep
+container_too_deep opened text inside first fault begins (inr is) deep =
+    bracket_too_deep (List ℕ × Tree) members_shape objects opened text inside fault (begins ∙ ap (λ b. b ∷ inside) is) deep
+
+pub read_container-returns-in_err-check_depth-clause-read : goal.read_container-returns-in_err-check_depth-clause-read
+read_container-returns-in_err-check_depth-clause-read g t c =
     let p = err_from_is_err_and c.from_residual.result c.from_residual.ensures.1 in
-    let begun = begins 91 c.args.text.now c.in-Some.first c.in-Some.inside.now c.in-Some.ensures.cases c.in-91.is in
-    rw (p.1, p.2) (bracket_too_deep Tree items_shape arrays c.args.opened c.args.text.now c.in-Some.inside.now
-    c.in_err-check_depth-in-91.field-0.0 begun c.in_err-check_depth-in-91.ensures)
-
-pub read_value-returns-in_err-check_depth-in-123-clause-read : goal.read_value-returns-in_err-check_depth-in-123-clause-read
-read_value-returns-in_err-check_depth-in-123-clause-read g t c =
-    let p = err_from_is_err_and c.from_residual-in_err-check_depth-in-123.result c.from_residual-in_err-check_depth-in-123.ensures.1 in
-    let begun = begins 123 c.args.text.now c.in-Some.first c.in-Some.inside.now c.in-Some.ensures.cases c.in-123.is in
-    rw (p.1, p.2) (bracket_too_deep (List ℕ × Tree) members_shape objects c.args.opened c.args.text.now c.in-Some.inside.now
-    c.in_err-check_depth-in-123.field-0.0 begun c.in_err-check_depth-in-123.ensures)
-
-pub read_value-read_scalar-requires-clause-apart : goal.read_value-read_scalar-requires-clause-apart
-read_value-read_scalar-requires-clause-apart g t c = (omega arith, omega arith)
-
-pub read_value-returns-in_default-first-clause-read : goal.read_value-returns-in_default-first-clause-read
-read_value-returns-in_default-first-clause-read g t c = c.read_scalar.ensures.read c.args.opened (omega arith)
+    rw (p.1, p.2) (container_too_deep c.args.opened c.args.text.now c.args.inside.now c.args.first c.in_err-check_depth.field-0.0
+    (search rules) (search rules) c.in_err-check_depth.ensures)
 
 -- ---- an array
 pub read_array-returns-in-Some-clause-read : goal.read_array-returns-in-Some-clause-read

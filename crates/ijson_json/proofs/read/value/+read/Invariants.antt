@@ -10,16 +10,19 @@ use Rattle.ijson_json.proofs.reading.GatheredTrees.{kept_items, kept_members}
 use Rattle.ijson_json.proofs.read.value.+read.Given as goal
 
 abbrev pub decreases-read_array : goal.decreases-read_array
-decreases-read_array g l = 3 * (max_depth - l.opened)
+decreases-read_array g l = 4 * (max_depth - l.opened)
 
 abbrev pub decreases-read_object : goal.decreases-read_object
-decreases-read_object g l = 3 * (max_depth - l.opened)
+decreases-read_object g l = 4 * (max_depth - l.opened)
 
 abbrev pub decreases-read_member : goal.decreases-read_member
-decreases-read_member g l = 3 * (max_depth - l.opened) + 2
+decreases-read_member g l = 4 * (max_depth - l.opened) + 3
 
 abbrev pub decreases-read_value : goal.decreases-read_value
-decreases-read_value g l = 3 * (max_depth - l.opened) + 1
+decreases-read_value g l = 4 * (max_depth - l.opened) + 2
+
+abbrev pub decreases-read_container : goal.decreases-read_container
+decreases-read_container g l = 4 * (max_depth - l.opened) + 1
 
 -- so many items were read, and another begins at the rest
 abbrev pub invariant-read_array-loop-item : goal.invariant-read_array-loop-item
