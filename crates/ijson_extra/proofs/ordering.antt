@@ -1,3 +1,4 @@
 pub mod Arranged
 pub mod InOrder
 pub mod Permuted
+pub mod Words

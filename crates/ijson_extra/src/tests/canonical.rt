@@ -16,7 +16,7 @@ fn is_canonical(rt: &impl Abort, alloc: Global, value: &IValue, want: &str) {
 }
 
 /// Texts, and the canonical text of what each spells.
-const TEXTS: [(&str, &str); 9] = [
+const TEXTS: [(&str, &str); 12] = [
     ("{\"b\":2.0,\"a\":[10,0.0]}", "{\"a\":[1e1,0],\"b\":2e0}"),
     (
         "{\"a\":-0.5,\"b\":100,\"c\":[1.50]}",
@@ -34,6 +34,24 @@ const TEXTS: [(&str, &str); 9] = [
     (
         "[{\"b\":{\"d\":\"\\n\",\"c\":false},\"a\":{\"ab\":[],\"\":{}}}]",
         "[{\"a\":{\"\":{},\"ab\":[]},\"b\":{\"c\":false,\"d\":\"\\n\"}}]",
+    ),
+    (
+        "{\"abcdz\":0,\"abcd\":1,\"abc\":2,\"abc\\u0000\":3,\"abcdé\":4,\"abcz\":5,\"abcé\":6,\"\":7}",
+        "{\"\":7e0,\"abc\":2e0,\"abc\\u0000\":3e0,\"abcd\":1e0,\"abcdz\":0,\"abcdé\":4e0,\"abcz\":5e0,\"abcé\":6e0}",
+    ),
+    (
+        "{\"abcdefghi\":0,\"abcdefgh\":1,\"abcdefg\":2,\"abcdefgha\":3,\"\":4,\"\\u0000\":5,\"é\":6,\"z\":7,\
+         \"a\":8,\"a\\u0000\":9,\"abcdefghé\":10,\"abcdefgh\\u0000\":11}",
+        "{\"\":4e0,\"\\u0000\":5e0,\"a\":8e0,\"a\\u0000\":9e0,\"abcdefg\":2e0,\"abcdefgh\":1e0,\
+         \"abcdefgh\\u0000\":11e0,\"abcdefgha\":3e0,\"abcdefghi\":0,\"abcdefghé\":1e1,\"z\":7e0,\"é\":6e0}",
+    ),
+    (
+        "{\"key:abcdefghi\":0,\"key:abcdefgh\":1,\"key:abcdefg\":2,\"key:abcdefgha\":3,\"key:\":4,\
+         \"key:\\u0000\":5,\"key:é\":6,\"key:z\":7,\"key:a\":8,\"key:a\\u0000\":9,\"key:abcdefghé\":10,\
+         \"key:abcdefgh\\u0000\":11}",
+        "{\"key:\":4e0,\"key:\\u0000\":5e0,\"key:a\":8e0,\"key:a\\u0000\":9e0,\"key:abcdefg\":2e0,\
+         \"key:abcdefgh\":1e0,\"key:abcdefgh\\u0000\":11e0,\"key:abcdefgha\":3e0,\"key:abcdefghi\":0,\
+         \"key:abcdefghé\":1e1,\"key:z\":7e0,\"key:é\":6e0}",
     ),
 ];
 
