@@ -1,6 +1,6 @@
 -- What is read of a number as an integer.
 use Rattle.std.proofs.Common.{◌≡◌, ◌<◌, ◌≤◌, ◌^◌, ℕ, refl, sym, subst, ◌∙◌, arith}
-use Rattle.std.specs.Prelude.{ℤ, pos, negsuc, FitsSigned}
+use Rattle.std.specs.Prelude.{ℤ, pos, FitsSigned}
 use Rattle.std.specs.Cmp.{tied_back}
 use Rattle.std.specs.Int.{Width, w8, w16, w32, w64, cast_signed, cast_unsigned}
 use Rattle.std.proofs.lemmas.Int.{to_z-of_z}
@@ -21,6 +21,7 @@ use Rattle.ijson_convert.specs.Refused.{SignedRefused, UnsignedRefused}
 use Rattle.ijson_convert.specs.private.NoInteger.{IsNoInteger}
 use Rattle.ijson_convert.specs.declared.convert_error.ConvertError.{ConvertError}
 use Rattle.ijson_convert.specs.declared.convert_error.ConvertError.TheVariants.{OutOfRange}
+use Rattle.ijson_convert.specs.laws.Whole.{widened}
 use Rattle.ijson_convert.specs.laws.Integers.{signed_has, unsigned_has, signed_is, unsigned_is}
 
 -- two of one value are equal
@@ -38,12 +39,10 @@ unsigned_back m k t h e = subst (λ i. HasInteger t (pos i)) (sym e) h
 
 -- the integers of a narrower type are among those of 32 bits
 pub narrow_8 : (z : ℤ) → FitsSigned w8 z → FitsSigned w32 z
-narrow_8 (pos n) h = omega arith
-narrow_8 (negsuc n) h = omega arith
+narrow_8 = widened w8 w32 (omega arith)
 
 pub narrow_16 : (z : ℤ) → FitsSigned w16 z → FitsSigned w32 z
-narrow_16 (pos n) h = omega arith
-narrow_16 (negsuc n) h = omega arith
+narrow_16 = widened w16 w32 (omega arith)
 
 module _ (width : Width) (wide : (z : ℤ) → FitsSigned width z → FitsSigned w64 z) where
   -- a value of the width is the same

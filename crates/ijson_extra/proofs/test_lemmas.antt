@@ -1,3 +1,4 @@
 pub mod Kept
-pub mod PairFound
+pub mod KeyMissing
+pub mod LentPart
 pub mod PutInside

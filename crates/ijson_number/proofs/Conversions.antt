@@ -1,12 +1,12 @@
 -- From a value that is whole to an integer type.
-use Rattle.std.proofs.Common.{◌≡◌, ◌<◌, ◌∙◌, ℕ, Option, Result, Ok, Err, refl, ap, sym, subst}
+use Rattle.std.proofs.Common.{◌≡◌, ◌<◌, ◌^◌, ◌∙◌, ℕ, Option, Result, None, Ok, Err, refl, ap, sym, subst, arith}
 use Rattle.std.specs.Prelude.{ℤ, pos, nat_abs, FitsSigned, IfSome, IfNone}
 use Rattle.std.specs.Int.{FitsUnsigned}
 use Rattle.std.specs.Result.{OkIff, result_ok}
 use Rattle.std.proofs.lemmas.Result.{OkIff-at_ok, OkIff-at_err}
-use Rattle.std.proofs.lemmas.Int.{to_z-of_z}
+use Rattle.std.proofs.lemmas.Int.{ints, to_z-of_z}
 use mir.Syntax.{Width, w128}
-use mir.Val.{of_z, to_z}
+use mir.Val.{bits, of_z, to_z}
 use Rattle.ijson_number.specs.Decimal.{Decimal, IsPlain}
 use Rattle.ijson_number.specs.Integers.{HasValue}
 use Rattle.ijson_number.proofs.storing.WholeValues.{value_one}
@@ -16,39 +16,51 @@ use Rattle.ijson_number.specs.laws.Ordered.{nonneg}
 abbrev held : ℤ → ℤ
 held v = to_z w128 (of_z w128 v)
 
-module _ {E : Type 0} (n : Decimal) (v : ℤ) (plain : IsPlain n) (has : HasValue n v) (small : FitsSigned w128 v) where
-  -- where the value doesn't fit, no other does
-  pub none_fits : (Fits : ℤ → Type 0) (o : Option ℤ) (r : Result ℤ E) → OkIff r (Fits (held v)) (held v) → o ≡ result_ok r
-      → IfNone o ((z : ℤ) → Fits z → HasValue n z → ⊥)
-  none_fits Fits o (Ok x) t e = rw e tt
-  none_fits Fits o (Err d) t e =
-      rw e (λ z f h. OkIff-at_err (Err d) (Fits (held v)) (held v) d t refl
-      (subst Fits (value_one n z v plain h has ∙ sym (to_z-of_z w128 v small)) f))
+held_is : (v : ℤ) → nat_abs v < 10 ^ 20 → held v ≡ v
+held_is v near = to_z-of_z w128 v (omega (arith, ints, near))
 
-  -- where it fits, it is the value
-  pub some_fits : (Fits : ℤ → Type 0) (o : Option ℤ) (r : Result ℤ E) → OkIff r (Fits (held v)) (held v) → o ≡ result_ok r
-      → IfSome o (λ z. HasValue n z)
-  some_fits Fits o (Ok x) t e =
-      let f : Fits (held v) × (x ≡ held v) = OkIff-at_ok {T = ℤ} {E = E} (Ok x) (Fits (held v)) (held v) x t refl in
-      rw e (subst (HasValue n) (sym (to_z-of_z w128 v small) ∙ sym f.1) has)
-  some_fits Fits o (Err d) t e = rw e tt
+-- What a conversion of a number to an integer type owes: what it gives is the number's value, and where it gives nothing, no
+-- member of the type is. `integer` is what a member stands for.
+abbrev pub IsConverted : {A : Type 0} → Decimal → (A → ℤ) → (A → Type 0) → Option A → Type 0
+IsConverted {A} n integer Fits o = record {
+  some : IfSome o (λ x. HasValue n (integer x));
+  none : IfNone o ((x : A) → Fits x → HasValue n (integer x) → ⊥);
+}
 
-  -- the same of an unsigned type
-  pub none_fits_unsigned : (width : Width) (limit : ℕ) (o : Option ℕ) (r : Result ℕ E)
-      → ((m : ℕ) → m < limit → FitsUnsigned width (pos m)) → OkIff r (FitsUnsigned width (held v)) (nat_abs (held v)) → o ≡ result_ok r
-      → IfNone o ((m : ℕ) → m < limit → HasValue n (pos m) → ⊥)
-  none_fits_unsigned width limit o (Ok x) f t e = rw e tt
-  none_fits_unsigned width limit o (Err d) f t e =
-      rw e (λ m l h. OkIff-at_err (Err d) (FitsUnsigned width (held v)) (nat_abs (held v)) d t refl
-      (subst (FitsUnsigned width) (value_one n (pos m) v plain h has ∙ sym (to_z-of_z w128 v small)) (f m l)))
+module _ {A : Type 0} (integer : A → ℤ) (Fits : A → Type 0) (n : Decimal) where
+  -- where the number has no whole value near zero
+  none_near : {o : Option A} → ((x : A) → Fits x → nat_abs (integer x) < 10 ^ 20) → ((z : ℤ) → nat_abs z < 10 ^ 20 → HasValue n z → ⊥)
+      → o ≡ None → IsConverted n integer Fits o
+  none_near near none e = rw e (record { some = tt; none = λ x f. none (integer x) (near x f) })
 
-  -- where it fits an unsigned type, it is the value
-  pub some_unsigned : (width : Width) (o : Option ℕ) (r : Result ℕ E)
-      → OkIff r (FitsUnsigned width (held v)) (nat_abs (held v)) → o ≡ result_ok r
-      → IfSome o (λ m. HasValue n (pos m))
-  some_unsigned width o (Ok x) t e =
-      let f : FitsUnsigned width (held v) × (x ≡ nat_abs (held v)) =
-      OkIff-at_ok {T = ℕ} {E = E} (Ok x) (FitsUnsigned width (held v)) (nat_abs (held v)) x t refl in
-      let s : v ≡ pos x = sym (to_z-of_z w128 v small) ∙ nonneg (held v) f.0.0 ∙ ap pos (sym f.1) in
-      rw e (subst (HasValue n) s has)
-  some_unsigned width o (Err d) t e = rw e tt
+  -- where it has one, which is cast if it fits
+  from_value : {E : Type 0} (cast : ℤ → A) (FitsCast : ℤ → Type 0) → ((x : A) → Fits x → FitsCast (integer x))
+      → ((z : ℤ) → FitsCast z → integer (cast z) ≡ z) → (v : ℤ) {o : Option A} (r : Result A E) → IsPlain n → HasValue n v
+      → nat_abs v < 10 ^ 20 → OkIff r (FitsCast (held v)) (cast (held v)) → o ≡ result_ok r → IsConverted n integer Fits o
+  from_value {E} cast FitsCast fits exact v (Ok x) plain has near t e =
+      let f : FitsCast (held v) × (x ≡ cast (held v)) =
+      OkIff-at_ok {T = A} {E = E} (Ok x) (FitsCast (held v)) (cast (held v)) x t refl in
+      rw e (record { some = subst (HasValue n) (sym (held_is v near) ∙ (sym (exact (held v) f.0) ∙ ap integer (sym f.1))) has; none = tt })
+  from_value {E} cast FitsCast fits exact v (Err d) plain has near t e =
+      rw e (record {
+        some = tt;
+        none = λ x f h. OkIff-at_err (Err d) (FitsCast (held v)) (cast (held v)) d t refl
+            (subst FitsCast (value_one n (integer x) v plain h has ∙ sym (held_is v near)) (fits x f));
+      })
+
+-- a signed type
+pub signed : {E : Type 0} (width : Width) {n : Decimal} (v : ℤ) {o : Option ℤ} (r : Result ℤ E) → IsPlain n → HasValue n v
+    → nat_abs v < 10 ^ 20 → OkIff r (FitsSigned width (held v)) (held v) → o ≡ result_ok r → IsConverted n (λ z. z) (FitsSigned width) o
+signed width {n} = from_value (λ z. z) (FitsSigned width) n (λ z. z) (FitsSigned width) (λ z f. f) (λ z f. refl)
+
+-- an unsigned type
+pub unsigned : {E : Type 0} (width : Width) {n : Decimal} (v : ℤ) {o : Option ℕ} (r : Result ℕ E) → IsPlain n → HasValue n v
+    → nat_abs v < 10 ^ 20 → OkIff r (FitsUnsigned width (held v)) (nat_abs (held v)) → o ≡ result_ok r
+    → IsConverted n pos (λ m. m < 2 ^ bits width) o
+unsigned width {n} = from_value pos (λ m. m < 2 ^ bits width) n nat_abs (FitsUnsigned width)
+    (λ m l. (omega (arith, ints), omega (arith, ints))) (λ z f. sym (nonneg z f.0))
+
+-- the same where the number has no whole value near zero, as each value of the type is
+pub none_unsigned : (width : Width) (n : Decimal) {o : Option ℕ} → 2 ^ bits width < 10 ^ 20
+    → ((z : ℤ) → nat_abs z < 10 ^ 20 → HasValue n z → ⊥) → o ≡ None → IsConverted n pos (λ m. m < 2 ^ bits width) o
+none_unsigned width n narrow = none_near pos (λ m. m < 2 ^ bits width) n (λ m l. omega arith)

@@ -87,21 +87,13 @@ module _ {X : Type 0} (texts : X → List (List ℕ)) (done : List X) (x : X) (o
       (some_before (texts x) (flat_map texts left) (all_interned (flat_map texts done) old) new
       (subst (λ m. SomeInterned (texts x) m new) so_far s)))
 
--- a beginning of the texts of a list, whose items so far were interned whole
-pub items_begun : (done : List Value) (v : Value) (left vs : List Value) (old middle new : Texts) → done ++ v ∷ left ≡ vs
-    → middle ≡ all_interned (flat_map value_texts done) old → SomeInterned (value_texts v) middle new
-    → SomeInterned (serde_items_texts (items_view vs)) old new
-items_begun done v left vs old middle new parts so_far s =
-    subst (λ l. SomeInterned l old new) (ap (flat_map value_texts) parts ∙ sym (items_flat vs))
-    (begun_more value_texts done v old middle new so_far left s)
-
--- and of a map
-pub members_begun : (done : List Entry) (e : Entry) (left es : List Entry) (old middle new : Texts) → done ++ e ∷ left ≡ es
-    → middle ≡ all_interned (flat_map entry_texts done) old → SomeInterned (entry_texts e) middle new
-    → SomeInterned (serde_members_texts (members_view es)) old new
-members_begun done e left es old middle new parts so_far s =
-    subst (λ l. SomeInterned l old new) (ap (flat_map entry_texts) parts ∙ sym (members_flat es))
-    (begun_more entry_texts done e old middle new so_far left s)
+-- a beginning of the texts of all parts, as of a list or of a map, whose parts so far were interned whole
+pub all_begun : {X : Type 0} (texts : X → List (List ℕ)) (all_texts : List X → List (List ℕ))
+    → ((xs : List X) → all_texts xs ≡ flat_map texts xs)
+    → (done : List X) (x : X) (left xs : List X) (old middle new : Texts) → done ++ x ∷ left ≡ xs
+    → middle ≡ all_interned (flat_map texts done) old → SomeInterned (texts x) middle new → SomeInterned (all_texts xs) old new
+all_begun texts all_texts flat done x left xs old middle new parts so_far s =
+    subst (λ l. SomeInterned l old new) (ap (flat_map texts) parts ∙ sym (flat xs)) (begun_more texts done x old middle new so_far left s)
 
 -- an entry's key was interned, and then the texts of its value
 pub entry_interned : (e : Entry) (t : Tree) (k : List ℕ) (old middle new : Texts) → middle ≡ interned k old → k ≡ string_bytes e.0

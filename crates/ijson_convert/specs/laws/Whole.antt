@@ -1,6 +1,7 @@
 -- Numbers and the integers that they are.
 use Rattle.std.proofs.Common.{◌≡◌, ◌<◌, ◌≤◌, ◌^◌, ℕ, ap, sym, ◌∙◌, arith}
-use Rattle.std.specs.Prelude.{ℤ, pos, negsuc, FitsSigned}
+use mir.Val.{hbits}
+use Rattle.std.specs.Prelude.{ℤ, pos, FitsSigned}
 use Rattle.std.specs.Int.{Width, w8, w16, w32, w64}
 use Rattle.std.specs.Ordering.{is_eq}
 use Rattle.std.specs.declared.cmp.Ordering.TheVariants.{Equal}
@@ -20,18 +21,18 @@ use Rattle.ijson_convert.specs.laws.Integers.{signed_has, unsigned_has}
 pub has_too : (a n : Decimal) (z : ℤ) → HasValue a z → number_cmp a n ≡ Equal → HasValue n z
 has_too a n z h s = ap is_eq (sym (number_cmp_total.congr a n (integer z) s) ∙ tests_equal _ h)
 
--- the integers of a narrower type are among those of 64 bits
+-- the integers of a narrower type are among those of a wider one
+pub widened : (narrow wide : Width) → 2 ^ hbits narrow ≤ 2 ^ hbits wide → (z : ℤ) → FitsSigned narrow z → FitsSigned wide z
+widened narrow wide less z h = record { sfits = omega (arith, less, h.sfits) }
+
 pub wide_8 : (z : ℤ) → FitsSigned w8 z → FitsSigned w64 z
-wide_8 (pos n) h = omega arith
-wide_8 (negsuc n) h = omega arith
+wide_8 = widened w8 w64 (omega arith)
 
 pub wide_16 : (z : ℤ) → FitsSigned w16 z → FitsSigned w64 z
-wide_16 (pos n) h = omega arith
-wide_16 (negsuc n) h = omega arith
+wide_16 = widened w16 w64 (omega arith)
 
 pub wide_32 : (z : ℤ) → FitsSigned w32 z → FitsSigned w64 z
-wide_32 (pos n) h = omega arith
-wide_32 (negsuc n) h = omega arith
+wide_32 = widened w32 w64 (omega arith)
 
 pub wide_64 : (z : ℤ) → FitsSigned w64 z → FitsSigned w64 z
 wide_64 z h = h

@@ -4,22 +4,23 @@ use Rattle.std.specs.Prelude.{not}
 use mathlib.Core.Path.{subst⁻¹}
 use mathlib.Core.List.{◌++◌}
 use seplogic.Ra.Ura.{Ura}
-use mir.Syntax.{Lifetime}
+use mir.Syntax.{Lifetime, named}
 use mir.Val.{Val, of_list}
 use base.Logic.{ent, sep}
-use base.Fml.{GName, Lft, fres}
+use base.Fml.{Fml, GName, Lft, Share, feq, fex, flft, fres, fsep}
+use base.Fraction.{full_share}
 use types.Logic.{Logic, sem}
-use types.Kit.{Item, Goal, Seq, ‵, ◌$◌, ◌∵◌, !, qed, move, keep, drop, use1, use2, fsplit, fsplit3, fpick, feq_l, done}
+use types.Kit.{Item, Goal, Seq, Soaks, ‵, ◌$◌, ◌∵◌, !, qed, move, keep, drop, use1, use2, fsplit, fsplit3, fpick, feq_l, done}
 use types.Match.{live}
 use denote.Follow.{follows, followed}
-use denote.Laws.{Typed}
-use denote.RattleType.{RattleType}
-use denote.Ref.{MutRef, NamedLft}
-use Rattle.ijson_number.specs.Num.{Num}
+use denote.Laws.{Typed, shows}
+use denote.Enum.Enum.{in_a_row}
+use denote.RattleType.{RattleType, Valss, owns}
+use denote.Ref.{MutRef, NamedLft, mut_vals, mut_Tells}
+use denote.Steps.{only, peeks}
+use types.Tokens.{lft_end}
 use Rattle.ijson_number.specs.contracts.number.INumber.{the_row as NumberRow}
 use Rattle.ijson_string.specs.contracts.text.IString.{the_row as StringRow}
-use Rattle.ijson_table.specs.Store.{Store}
-use Rattle.ijson_value.specs.Sequence.{Sequence}
 use Rattle.ijson_value.specs.Tree.{Tree, null, boolean, number, string, array, object}
 use Rattle.ijson_value.specs.Values.{boolean_value}
 use Rattle.ijson_value.specs.WellFormed.{WellFormed}
@@ -27,23 +28,12 @@ use Rattle.ijson_value.specs.contracts.array.IArray.{the_row as ArrayRow}
 use Rattle.ijson_value.specs.contracts.object.map.IObject.{the_row as ObjectRow}
 use Rattle.ijson_value.specs.contracts.value.destructure.BoolMut.{the_row as BoolRow}
 use Rattle.ijson_value.specs.contracts.value.destructure.DestructuredMut.{the_row as PartsOf}
+use Rattle.ijson_value.proofs.lends.Called.{back, Kept}
 use Rattle.ijson_value.specs.declared.value.ValueType.{ValueType}
 use Rattle.ijson_value.specs.declared.value.ValueType.TheVariants as kind
 use Rattle.ijson_value.specs.declared.value.destructure.BoolMut.{BoolMut}
 use Rattle.ijson_value.specs.declared.value.destructure.DestructuredMut.{DestructuredMut}
 use Rattle.ijson_value.specs.declared.value.destructure.DestructuredMut.TheVariants as parts
-
--- which of the six it is
-pub by_parts : {X : Type 1} (x : DestructuredMut) → (x ≡ parts.Null → X) → ((b : BoolMut) → x ≡ parts.Bool b → X)
-    → ((p : MutBor Num) → x ≡ parts.Number p → X)
-    → ((p : MutBor (List ℕ)) → x ≡ parts.String p → X) → ((p : MutBor Sequence) → x ≡ parts.Array p → X)
-    → ((p : MutBor (Store WellFormed)) → x ≡ parts.Object p → X) → X
-by_parts parts.Null a b c d e f = a refl
-by_parts (parts.Bool p) a b c d e f = b p refl
-by_parts (parts.Number p) a b c d e f = c p refl
-by_parts (parts.String p) a b c d e f = d p refl
-by_parts (parts.Array p) a b c d e f = e p refl
-by_parts (parts.Object p) a b c d e f = f p refl
 
 -- whether it is the kind of truth values
 abbrev pub is_bool : ValueType → Bool
@@ -80,38 +70,48 @@ module _ {M : Type 1} {𝓤 : Ura M} {𝓛 : Logic 𝓤} {K : Type 0} {Γ : List
       feq_l t (λ e'. drop t $
       k (subst⁻¹ (λ (ws : List Val). vs ≡ live 0 (of_list ws) ∷ [] → vs ≡ live 0 (of_list []) ∷ []) e' (λ p. p) e)))))
 
-  pub Bool-out : (x : BoolMut) (vs : List Val)
-      → ((xs : List Val) → vs ≡ live 1 (of_list (xs ++ [])) ∷ [] → Seq K 𝓛 (‵ ((BoolRow at).own_val x xs) ∷ Γ) G)
-      → Seq K 𝓛 (‵ ((PartsOf at).own_val (parts.Bool x) vs) ∷ Γ) G
-  Bool-out x vs k = fpick t (λ us. fsplit t $ feq_l t (λ e. fpick t (λ vss. fsplit t $ feq_l t (λ e'. fsplit t $ move t (1 ∷ []) $ drop t $
-      k vss.0 (subst⁻¹ (λ (ws : List Val). vs ≡ live 1 (of_list ws) ∷ [] → vs ≡ live 1 (of_list (vss.0 ++ [])) ∷ []) e' (λ p. p) e)))))
+-- one value under the tag n, as a variant of the parts owns it
+abbrev Tagged : ℕ → (R : RattleType) → R.Denot → List Val → Fml
+Tagged n R x vs =
+    fex (List Val) (λ us. fsep (feq (List Val) vs (live n (of_list us) ∷ []))
+    (fex (Valss (R ∷ [])) (in_a_row (R ∷ []) (owns (R ∷ []) (x, tt)) us)))
 
-  pub Number-out : (x : MutBor Num) (vs : List Val)
-      → ((xs : List Val) → vs ≡ live 2 (of_list (xs ++ [])) ∷ [] → Seq K 𝓛 (‵ ((MutRef at.mir at.lft NumberRow).own_val x xs) ∷ Γ) G)
-      → Seq K 𝓛 (‵ ((PartsOf at).own_val (parts.Number x) vs) ∷ Γ) G
-  Number-out x vs k = fpick t (λ us. fsplit t $
+module _ {M : Type 1} {𝓤 : Ura M} {𝓛 : Logic 𝓤} {K : Type 0} {Γ : List (Item 𝓤)} {G : Goal 𝓤 𝓛.H} (t : K) where
+  tagged_out : (n : ℕ) (R : RattleType) (x : R.Denot) (vs : List Val)
+      → ((xs : List Val) → vs ≡ live n (of_list (xs ++ [])) ∷ [] → Seq K 𝓛 (‵ (R.own_val x xs) ∷ Γ) G)
+      → Seq K 𝓛 (‵ (Tagged n R x vs) ∷ Γ) G
+  tagged_out n R x vs k = fpick t (λ us. fsplit t $
       feq_l t (λ e. fpick t (λ vss. fsplit t $ feq_l t (λ e'. fsplit t $ move t (1 ∷ []) $ drop t $
-      k vss.0 (subst⁻¹ (λ (ws : List Val). vs ≡ live 2 (of_list ws) ∷ [] → vs ≡ live 2 (of_list (vss.0 ++ [])) ∷ []) e' (λ p. p) e)))))
+      k vss.0 (subst⁻¹ (λ (ws : List Val). vs ≡ live n (of_list ws) ∷ [] → vs ≡ live n (of_list (vss.0 ++ [])) ∷ []) e' (λ p. p) e)))))
 
-  pub String-out : (x : MutBor (List ℕ)) (vs : List Val)
-      → ((xs : List Val) → vs ≡ live 3 (of_list (xs ++ [])) ∷ [] → Seq K 𝓛 (‵ ((MutRef at.mir at.lft StringRow).own_val x xs) ∷ Γ) G)
-      → Seq K 𝓛 (‵ ((PartsOf at).own_val (parts.String x) vs) ∷ Γ) G
-  String-out x vs k = fpick t (λ us. fsplit t $
-      feq_l t (λ e. fpick t (λ vss. fsplit t $ feq_l t (λ e'. fsplit t $ move t (1 ∷ []) $ drop t $
-      k vss.0 (subst⁻¹ (λ (ws : List Val). vs ≡ live 3 (of_list ws) ∷ [] → vs ≡ live 3 (of_list (vss.0 ++ [])) ∷ []) e' (λ p. p) e)))))
+module _ {M : Type 1} {𝓤 : Ura M} (at : NamedLft) (F : DestructuredMut → Fml) (P : DestructuredMut → Type 0) (v : Val)
+    (Shown : Item 𝓤 → Item 𝓤 → Type 1) where
+  -- what is to be shown where it is the part of one kind, behind a reference
+  abbrev PartIs : ℕ → (T : RattleType) → (MutBor T.Denot → DestructuredMut) → Type 1
+  PartIs n T as_part = (part : MutBor T.Denot) (xs : List Val) → P (as_part part) → v ≡ live n (of_list (xs ++ []))
+      → Shown (‵ ((MutRef at.mir at.lft T).own_val part xs)) (‵ (F (as_part part)))
 
-  pub Array-out : (x : MutBor Sequence) (vs : List Val)
-      → ((xs : List Val) → vs ≡ live 4 (of_list (xs ++ [])) ∷ [] → Seq K 𝓛 (‵ ((MutRef at.mir at.lft ArrayRow).own_val x xs) ∷ Γ) G)
-      → Seq K 𝓛 (‵ ((PartsOf at).own_val (parts.Array x) vs) ∷ Γ) G
-  Array-out x vs k = fpick t (λ us. fsplit t $ feq_l t (λ e. fpick t (λ vss. fsplit t $ feq_l t (λ e'. fsplit t $ move t (1 ∷ []) $ drop t $
-      k vss.0 (subst⁻¹ (λ (ws : List Val). vs ≡ live 4 (of_list ws) ∷ [] → vs ≡ live 4 (of_list (vss.0 ++ [])) ∷ []) e' (λ p. p) e)))))
-
-  pub Object-out : (x : MutBor (Store WellFormed)) (vs : List Val)
-      → ((xs : List Val) → vs ≡ live 5 (of_list (xs ++ [])) ∷ [] → Seq K 𝓛 (‵ ((MutRef at.mir at.lft ObjectRow).own_val x xs) ∷ Γ) G)
-      → Seq K 𝓛 (‵ ((PartsOf at).own_val (parts.Object x) vs) ∷ Γ) G
-  Object-out x vs k = fpick t (λ us. fsplit t $
-      feq_l t (λ e. fpick t (λ vss. fsplit t $ feq_l t (λ e'. fsplit t $ move t (1 ∷ []) $ drop t $
-      k vss.0 (subst⁻¹ (λ (ws : List Val). vs ≡ live 5 (of_list ws) ∷ [] → vs ≡ live 5 (of_list (vss.0 ++ [])) ∷ []) e' (λ p. p) e)))))
+module _ {M : Type 1} {𝓤 : Ura M} (𝓛 : Logic 𝓤) {K : Type 0} {Γ : List (Item 𝓤)} {G : Goal 𝓤 𝓛.H} (t : K) (at : NamedLft)
+    (F : DestructuredMut → Fml) (P : DestructuredMut → Type 0) (v : Val) where
+  -- which of the six it is, with what the lender follows and the fact in each case
+  pub parts_out : (x : DestructuredMut) → P x → (P parts.Null → v ≡ live 0 (of_list []) → Seq K 𝓛 (‵ (F parts.Null) ∷ Γ) G)
+      → ((part : BoolMut) (xs : List Val) → P (parts.Bool part) → v ≡ live 1 (of_list (xs ++ []))
+      → Seq K 𝓛 (‵ ((BoolRow at).own_val part xs) ∷ ‵ (F (parts.Bool part)) ∷ Γ) G)
+      → PartIs at F P v (λ i j. Seq K 𝓛 (i ∷ j ∷ Γ) G) 2 NumberRow parts.Number
+      → PartIs at F P v (λ i j. Seq K 𝓛 (i ∷ j ∷ Γ) G) 3 StringRow parts.String
+      → PartIs at F P v (λ i j. Seq K 𝓛 (i ∷ j ∷ Γ) G) 4 ArrayRow parts.Array
+      → PartIs at F P v (λ i j. Seq K 𝓛 (i ∷ j ∷ Γ) G) 5 ObjectRow parts.Object
+      → Seq K 𝓛 (‵ ((PartsOf at).own_val x (v ∷ [])) ∷ ‵ (F x) ∷ Γ) G
+  parts_out parts.Null said a b c d e f = null_out t at (v ∷ []) (λ led. a said (ap only led))
+  parts_out (parts.Bool p) said a b c d e f = tagged_out t 1 (BoolRow at) p (v ∷ []) (λ xs led. b p xs said (ap only led))
+  parts_out (parts.Number p) said a b c d e f =
+      tagged_out t 2 (MutRef at.mir at.lft NumberRow) p (v ∷ []) (λ xs led. c p xs said (ap only led))
+  parts_out (parts.String p) said a b c d e f =
+      tagged_out t 3 (MutRef at.mir at.lft StringRow) p (v ∷ []) (λ xs led. d p xs said (ap only led))
+  parts_out (parts.Array p) said a b c d e f =
+      tagged_out t 4 (MutRef at.mir at.lft ArrayRow) p (v ∷ []) (λ xs led. e p xs said (ap only led))
+  parts_out (parts.Object p) said a b c d e f =
+      tagged_out t 5 (MutRef at.mir at.lft ObjectRow) p (v ∷ []) (λ xs led. f p xs said (ap only led))
 
 -- a lender whose part is as it was
 module _ {M : Type 1} {𝓤 : Ura M} (𝓛 : Logic 𝓤) (R T : RattleType) (F : T.Denot → R.Denot) (ℓ : Lifetime) (κ : Lft) (γ : GName) where
@@ -123,3 +123,17 @@ module _ {M : Type 1} {𝓤 : Ura M} (𝓛 : Logic 𝓤) (R T : RattleType) (F :
       use1 𝓛 (‵ (fres part.ghost_name (T.coded.code part.now))) (𝓛.names.obs-res part.ghost_name (T.coded.code part.now)) $
       move ! (1 ∷ []) $
       use2 𝓛 (‵ (fres γ (R.coded.code (F part.now)))) (followed 𝓛 R T F γ part.ghost_name part.now) $ done !
+
+-- the loan of a value whose part is as it was is over, and the lender has it back
+module _ {M : Type 1} {𝓤 : Ura M} (𝓛 : Logic 𝓤) {K : Type 0} {Γ : List (Item 𝓤)} {G : Goal 𝓤 𝓛.H} (t : K) (soaks : Soaks G) (R : RattleType)
+    (κ : Lft) (q : Share) (r : MutBor R.Denot) (α : ℕ) (δ : GName) where
+  pub untouched_back : (T : RattleType) (F : T.Denot → R.Denot) (part : MutBor T.Denot) (xs : List Val)
+      → (xs ≡ mut_vals part
+      → Seq K 𝓛 (‵ ((MutRef (named 0) κ R).own_val (record r { now = F part.now }) (mut_vals r)) ∷ ‵ (flft κ q) ∷ Γ) G)
+      → Seq K 𝓛 (‵ ((MutRef (named 0) (α ∷ []) T).own_val part xs) ∷ ‵ (follows R T δ part.ghost_name F)
+      ∷ ‵ (flft (α ∷ []) full_share) ∷ ‵ (Kept R κ q r α δ) ∷ Γ) G
+  untouched_back T F part xs k =
+      peeks t (MutRef (named 0) (α ∷ []) T) _ (shows 𝓛 (MutRef (named 0) (α ∷ []) T)) part xs (λ told.
+      use2 𝓛 (‵ (fres δ (R.coded.code (F part.now)))) (untouched 𝓛 R T F (named 0) (α ∷ []) δ part xs) $
+      move t (1 ∷ []) $ lft_end t soaks $ move t (0 ∷ 2 ∷ 1 ∷ []) $ back 𝓛 t soaks R κ q r α δ (F part.now) $
+      k (mut_Tells (named 0) (α ∷ []) T part xs told))

@@ -1,5 +1,5 @@
 //! What is written through references that are lent in the signatures of the Rust crate `ijson`. Each caller's contract says what the
-//! whole then is. `set_named`, `set_pair`, `set_found`, `set_inside` and `turn_truth` are proved by hand, and what calls them is not.
+//! whole then is. `set_named`, `set_pair`, `set_inside` and `turn_truth` are proved by hand, and what calls them is not.
 ghost use Rattle.std.specs.Prelude.{◌≡◌, ◌≢◌, Bool, true, not, IfOk, IfErr, OnOk, IsTrue, IsFalse, IsSome, Some, None};
 ghost use Rattle.std.specs.String.{string_bytes};
 ghost use Rattle.ijson_json.specs.Grammar.{Accepted};
@@ -42,20 +42,16 @@ fn set_named(value: &mut IValue, pointer: &str)
     }
 }
 
-/// Writes true in the pair of a key that is there. Nothing else is changed.
-fn set_pair<I: ObjectIndex>(object: &mut IObject, index: I)
+/// Writes true in the pair of a key that is there, as the index finds it or as the object does. Nothing else is changed.
+fn set_pair<I: ObjectIndex>(object: &mut IObject, index: I, by_index: bool)
     ensures { object.new ≡ with_key object.old (I.Sealed.key index) (boolean_value true) }
 {
-    if let Some((_, place)) = object.get_key_value_mut(index) {
-        put_true(place);
-    }
-}
-
-/// As `set_pair`, by what finds the pair.
-fn set_found<I: ObjectIndex>(object: &mut IObject, index: I)
-    ensures { object.new ≡ with_key object.old (I.Sealed.key index) (boolean_value true) }
-{
-    if let Some((_, place)) = index.index_into_mut(object) {
+    let found = if by_index {
+        index.index_into_mut(object)
+    } else {
+        object.get_key_value_mut(index)
+    };
+    if let Some((_, place)) = found {
         put_true(place);
     }
 }
@@ -196,8 +192,12 @@ fn writes(
 ) {
     assert!(rt; value.is_object());
     match way {
-        Way::Pair => set_pair(value.as_object_mut().expect(rt, "an object"), letters),
-        Way::Found => set_found(value.as_object_mut().expect(rt, "an object"), letters),
+        Way::Pair => set_pair(
+            value.as_object_mut().expect(rt, "an object"),
+            letters,
+            false,
+        ),
+        Way::Found => set_pair(value.as_object_mut().expect(rt, "an object"), letters, true),
         Way::Inside => set_inside(value, letters),
         Way::Path => assert!(rt; set_by_path(value, letters) == there),
         Way::Put => put_by_path(value, key(rt, alloc, letters)).expect(rt, "room"),

@@ -1,5 +1,5 @@
 -- The words `null`, `true` and `false`: what is read of one, and why none is.
-use Rattle.std.proofs.Common.{◌≡◌, ℕ, ◌≤◌, true, false, List, ◌∷◌, ◌++◌, refl, sym, ap, subst, ◌∙◌, arith}
+use Rattle.std.proofs.Common.{◌≡◌, ℕ, ◌≤◌, Bool, true, false, List, ◌∷◌, ◌++◌, refl, sym, ap, subst, ◌∙◌, arith}
 use Rattle.std.specs.Prelude.{◌≢◌, Result, MatchResult}
 use Rattle.std.proofs.lemmas.Result.{MatchResult-weaker}
 use Rattle.ijson_value.specs.Tree.{Tree, null, boolean, depth}
@@ -35,27 +35,31 @@ null_alone t front v k o = absurd (omega (arith, k))
 pub null_word : Word 110 null_text null
 null_word = record { spells = refl; alone = null_alone; ends = λ rest. tt; flat = refl; ranged = refl; settles = refl }
 
--- of the values `true` alone begins with a t
-true_alone : (t : Tree) (front : List ℕ) → IsValue t front → kind 116 ≡ tree_kind t → (others : List ℕ) × (front ≡ 116 ∷ others)
-    → front ≡ boolean_text true
-true_alone (boolean true) front v k o = v
-true_alone (boolean false) front v k o = absurd (heads_apart 102 116 _ _ (sym v ∙ o.1) refl)
-true_alone t front v k o = absurd (omega (arith, k))
+-- the first byte of a truth value
+abbrev first_of : Bool → ℕ
+first_of true = 116
+first_of false = 102
+
+-- of the values a truth value alone begins with its first byte
+boolean_alone : (a : Bool) (t : Tree) (front : List ℕ) → IsValue t front → kind (first_of a) ≡ tree_kind t
+    → (others : List ℕ) × (front ≡ first_of a ∷ others) → front ≡ boolean_text a
+boolean_alone true (boolean true) front v k o = v
+boolean_alone false (boolean false) front v k o = v
+boolean_alone true (boolean false) front v k o = absurd (heads_apart 102 116 _ _ (sym v ∙ o.1) refl)
+boolean_alone false (boolean true) front v k o = absurd (heads_apart 116 102 _ _ (sym v ∙ o.1) refl)
+boolean_alone true t front v k o = absurd (omega (arith, k))
+boolean_alone false t front v k o = absurd (omega (arith, k))
+
+boolean_word : (a : Bool) → Word (first_of a) (boolean_text a) (boolean a)
+boolean_word a = record { spells = refl; alone = boolean_alone a; ends = λ rest. tt; flat = refl; ranged = refl; settles = refl }
 
 -- the word `true`
 pub true_word : Word 116 (boolean_text true) (boolean true)
-true_word = record { spells = refl; alone = true_alone; ends = λ rest. tt; flat = refl; ranged = refl; settles = refl }
-
--- of the values `false` alone begins with an f
-false_alone : (t : Tree) (front : List ℕ) → IsValue t front → kind 102 ≡ tree_kind t → (others : List ℕ) × (front ≡ 102 ∷ others)
-    → front ≡ boolean_text false
-false_alone (boolean false) front v k o = v
-false_alone (boolean true) front v k o = absurd (heads_apart 116 102 _ _ (sym v ∙ o.1) refl)
-false_alone t front v k o = absurd (omega (arith, k))
+true_word = boolean_word true
 
 -- the word `false`
 pub false_word : Word 102 (boolean_text false) (boolean false)
-false_word = record { spells = refl; alone = false_alone; ends = λ rest. tt; flat = refl; ranged = refl; settles = refl }
+false_word = boolean_word false
 
 module _ {b : ℕ} {word : List ℕ} {t : Tree} (w : Word b word t) where
   -- the word was read

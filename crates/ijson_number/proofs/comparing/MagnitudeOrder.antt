@@ -219,27 +219,19 @@ module _ (ds es : List ℕ) (e f : ℤ) (p : IsStripped ds) (q : IsStripped es) 
   pub same_place_cmp : pos (length ds) +ℤ e ≡ pos (length es) +ℤ f
       → number_cmp (stored_number false ds e true) (stored_number false es f true) ≡ slice_cmp nat_cmp ds es
   same_place_cmp h =
-      let a = left_gap in
-      let b = right_gap in
       aligned ds es left_tens right_tens below_left below_right (last_from ds p.last) (last_from es q.last)
-      (same_sums (length ds) (length es) left_tens right_tens e f least a b h)
+      (same_sums (length ds) (length es) left_tens right_tens e f least left_gap right_gap h)
 
   -- and else the places do
   pub lower_place_cmp : (pos (length ds) +ℤ e) <ℤ (pos (length es) +ℤ f)
       → number_cmp (stored_number false ds e true) (stored_number false es f true) ≡ Less
-  lower_place_cmp h =
-      let a = left_gap in
-      let b = right_gap in
-      below_cmp _ _ (lower_place ds es left_tens right_tens below_left t (q.first t)
-      (less_sums (length ds) (length es) left_tens right_tens e f least a b h))
+  lower_place_cmp h = below_cmp _ _ (lower_place ds es left_tens right_tens below_left t (q.first t)
+      (less_sums (length ds) (length es) left_tens right_tens e f least left_gap right_gap h))
 
   pub upper_place_cmp : (pos (length es) +ℤ f) <ℤ (pos (length ds) +ℤ e)
       → number_cmp (stored_number false ds e true) (stored_number false es f true) ≡ Greater
-  upper_place_cmp h =
-      let a = left_gap in
-      let b = right_gap in
-      above_cmp _ _ (lower_place es ds right_tens left_tens below_right s (p.first s)
-      (less_sums (length es) (length ds) right_tens left_tens f e least b a h))
+  upper_place_cmp h = above_cmp _ _ (lower_place es ds right_tens left_tens below_right s (p.first s)
+      (less_sums (length es) (length ds) right_tens left_tens f e least right_gap left_gap h))
 
   pub places_cmp : (x y : ℤ) → x ≡ pos (length ds) +ℤ e → y ≡ pos (length es) +ℤ f → (x ≡ y → ⊥)
       → int_cmp x y ≡ number_cmp (stored_number false ds e true) (stored_number false es f true)

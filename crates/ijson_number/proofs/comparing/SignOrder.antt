@@ -9,6 +9,10 @@ use Rattle.std.specs.Ordering.{nat_cmp, int_cmp, ordering_index}
 use Rattle.std.proofs.lemmas.Bool.Decides.{nat_tests}
 use Rattle.std.proofs.lemmas.Int.{ints, clamps}
 use Rattle.ijson_number.specs.Decimal.{Decimal}
+use Rattle.ijson_number.specs.Num.{Num}
+use Rattle.ijson_number.specs.StrippedDigits.{stripped_digits}
+use Rattle.ijson_number.specs.private.MagnitudeOrder.{magnitude_cmp}
+use Rattle.ijson_number.proofs.BooleanTests.{not_lt}
 use Rattle.ijson_number.specs.StoredNumber.{stored_number}
 use Rattle.ijson_number.specs.private.StoredNumber.{IsStored}
 use Rattle.ijson_number.specs.Order.{number_cmp, at_exponent}
@@ -18,7 +22,7 @@ use Rattle.ijson_number.specs.Strips.{signed}
 use Rattle.ijson_number.specs.laws.Tens.{ten_pos, signed_mul}
 use Rattle.ijson_number.proofs.parsing.Denotes.{stripped_mod}
 use Rattle.ijson_number.proofs.comparing.MagnitudeOrder.{below_cmp, above_cmp}
-use Rattle.ijson_number.proofs.storing.FormNumbers.{tens_out_is}
+use Rattle.ijson_number.proofs.storing.FormNumbers.{digits_case, tens_out_is}
 use Rattle.ijson_number.proofs.storing.IntegerWords.{zero_is as no_digits}
 
 below_zero_cmp : (v : ℕ) → 0 < v → int_cmp (neg_ℤ (pos v)) (pos 0) ≡ Less
@@ -100,34 +104,37 @@ zeros_cmp a b p q =
     let y : 0 * k ≡ 0 = omega arith in
     rw (zero_is a.mantissa p, zero_is b.mantissa q, x, y) refl
 
-minus_below : (negative : Bool) (v : ℕ) → int_cmp (signed negative v) (pos 0) ≡ Less → negative ≡ true
-minus_below true v h = refl
-minus_below false zero h = absurd (cc)
-minus_below false (suc v) h = absurd (let g : Greater ≡ Less = sym (above_sign v) ∙ h in cc)
+below_is_minus : (z : ℤ) → int_cmp z (pos 0) ≡ Less → int_lt z (pos 0) ≡ true
+below_is_minus (pos zero) h = absurd (cc)
+below_is_minus (pos (suc v)) h = absurd (let g : Greater ≡ Less = sym (above_sign v) ∙ h in cc)
+below_is_minus (negsuc v) h = refl
 
-no_minus_above : (negative : Bool) (v : ℕ) → int_cmp (signed negative v) (pos 0) ≡ Greater → negative ≡ false
-no_minus_above false v h = refl
-no_minus_above true zero h = absurd (cc)
-no_minus_above true (suc v) h = absurd (cc)
+above_is_no_minus : (z : ℤ) → int_cmp z (pos 0) ≡ Greater → int_lt z (pos 0) ≡ false
+above_is_no_minus (pos v) h = not_lt (pos v) (pos 0) (omega (arith, ints))
+above_is_no_minus (negsuc v) h = absurd (cc)
 
-module _ (n n' : Bool) (ds es : List ℕ) (e f : ℤ) (p p' : Bool) (a b : Decimal) (view : stored_number n ds e p ≡ a)
-    (view' : stored_number n' es f p' ≡ b) where
-  -- below zero the sizes are compared the other way round
-  pub below_zero_is : int_cmp a.mantissa (pos 0) ≡ Less → int_cmp b.mantissa (pos 0) ≡ Less
-      → number_cmp (stored_number false es f true) (stored_number false ds e true) ≡ number_cmp a b
+-- two numbers of one sign
+module _ (a b : Num) where
+  -- are compared by their digits with that sign:
+  same_sign : (minus : Bool) → int_lt a.decimal.mantissa (pos 0) ≡ minus → int_lt b.decimal.mantissa (pos 0) ≡ minus
+      → number_cmp (stored_number minus (stripped_digits a.decimal) a.decimal.exponent a.decimal.point)
+      (stored_number minus (stripped_digits b.decimal) b.decimal.exponent b.decimal.point) ≡ number_cmp a.decimal b.decimal
+  same_sign minus h g =
+      ap₂ (λ (s t : Bool). number_cmp (stored_number s (stripped_digits a.decimal) a.decimal.exponent a.decimal.point)
+      (stored_number t (stripped_digits b.decimal) b.decimal.exponent b.decimal.point)) (sym h) (sym g)
+      ∙ ap₂ number_cmp (digits_case a.decimal a.is_num.plain) (digits_case b.decimal b.is_num.plain)
+
+  -- below zero the other way round than their sizes,
+  pub below_zero_is : int_cmp a.decimal.mantissa (pos 0) ≡ Less → int_cmp b.decimal.mantissa (pos 0) ≡ Less
+      → magnitude_cmp b.decimal a.decimal ≡ number_cmp a.decimal b.decimal
   below_zero_is h g =
-      let m = minus_below n (number_from_digits 10 ds) (ap (λ (x : Decimal). int_cmp x.mantissa (pos 0)) view ∙ h) in
-      let m' = minus_below n' (number_from_digits 10 es) (ap (λ (x : Decimal). int_cmp x.mantissa (pos 0)) view' ∙ g) in
-      sym (flipped ds es e f) ∙ ap₂ (λ (s t : Bool). number_cmp (stored_number s ds e p) (stored_number t es f p')) (sym m) (sym m')
-      ∙ ap₂ number_cmp view view'
+      sym (flipped (stripped_digits a.decimal) (stripped_digits b.decimal) a.decimal.exponent b.decimal.exponent)
+      ∙ same_sign true (below_is_minus a.decimal.mantissa h) (below_is_minus b.decimal.mantissa g)
 
-  -- above zero as they stand
-  pub above_zero_is : int_cmp a.mantissa (pos 0) ≡ Greater → int_cmp b.mantissa (pos 0) ≡ Greater
-      → number_cmp (stored_number false ds e true) (stored_number false es f true) ≡ number_cmp a b
-  above_zero_is h g =
-      let m = no_minus_above n (number_from_digits 10 ds) (ap (λ (x : Decimal). int_cmp x.mantissa (pos 0)) view ∙ h) in
-      let m' = no_minus_above n' (number_from_digits 10 es) (ap (λ (x : Decimal). int_cmp x.mantissa (pos 0)) view' ∙ g) in
-      ap₂ (λ (s t : Bool). number_cmp (stored_number s ds e p) (stored_number t es f p')) (sym m) (sym m') ∙ ap₂ number_cmp view view'
+  -- and above zero as their sizes
+  pub above_zero_is : int_cmp a.decimal.mantissa (pos 0) ≡ Greater → int_cmp b.decimal.mantissa (pos 0) ≡ Greater
+      → magnitude_cmp a.decimal b.decimal ≡ number_cmp a.decimal b.decimal
+  above_zero_is h g = same_sign false (above_is_no_minus a.decimal.mantissa h) (above_is_no_minus b.decimal.mantissa g)
 
 -- two signs are told apart by their places among the three
 pub tests_same : (s t : Ordering) (r : Bool) → r ≡ not (ordering_index s == ordering_index t) → r ≡ false → s ≡ t

@@ -8,7 +8,7 @@ use Rattle.std.proofs.lemmas.Bool.Decides.{nat_tests}
 use Rattle.std.proofs.lemmas.Int.{ints}
 use Rattle.std.proofs.lemmas.Int.Digits.{number_digits_of}
 use Rattle.ijson_number.specs.Decimal.{Decimal, IsPlain}
-use Rattle.ijson_number.specs.Form.{FormOf, packed, signed_word, unsigned_word, fits_packed, fits_i64}
+use Rattle.ijson_number.specs.Form.{FormOf, packed, fits_packed, fits_i64}
 use Rattle.ijson_number.specs.Form.{fits_u64, digits_form, integer_form, smallest_packed, form_of}
 use Rattle.ijson_number.specs.FormNumber.{form_number}
 use Rattle.ijson_number.specs.Stripped.{with_ten, tens_out, exponent_above, stripped_number}
@@ -136,30 +136,20 @@ module _ (n : Decimal) (plain : IsPlain n) where
       ap (λ p. stripped_number z (pos 0) p) (sym h)
       ∙ packed_case (pos 0) z (plain.whole h) (is ∙ ap (λ d. n.mantissa *ℤ pos (10 ^ nat_abs d)) (sym e)) small
 
-  integer_by : (z : ℤ) (a b c : Bool) → (a ≡ true → stripped_number z (pos 0) false ≡ n)
-      → (b ≡ true → stripped_number z (pos 0) false ≡ n) → (c ≡ true → stripped_number (pos (nat_abs z)) (pos 0) false ≡ n)
-      → form_number (elim a [
-        | true ↦ packed z (pos 0) false
-        | false ↦
-            elim b [ true ↦ signed_word z | false ↦ elim c [ true ↦ unsigned_word (nat_abs z) | false ↦ digits_form n ] ]
-      ]) ≡ n
-  integer_by z true b c p q r = p refl
-  integer_by z false true c p q r = q refl
-  integer_by z false false true p q r = r refl
-  integer_by z false false false p q r = digits_case
-
-  integer_case : (z : ℤ) → n.point ≡ false → z ≡ n.mantissa *ℤ pos (10 ^ nat_abs n.exponent) → form_number (integer_form n z) ≡ n
-  integer_case z h is =
-      integer_by z (fits_packed z) (fits_i64 z) (fits_u64 z)
-      (λ t. whole_case z h is (small_packed z t))
-      (λ t. whole_case z h is (small_within (neg_ℤ (pos (2 ^ 63))) (pos (2 ^ 63)) z (omega (arith, ints)) (omega (arith, ints)) t))
-      (λ t. ap (λ y. stripped_number y (pos 0) false) (not_below z t)
-      ∙ whole_case z h is (small_within (pos 0) (pos (2 ^ 64)) z (omega (arith, ints)) (omega (arith, ints)) t))
-
   either : (b : Bool) (x y : FormOf) → (b ≡ true → form_number x ≡ n) → (b ≡ false → form_number y ≡ n)
       → form_number (elim b [ true ↦ x | false ↦ y ]) ≡ n
   either true x y p q = p refl
   either false x y p q = q refl
+
+  integer_case : (z : ℤ) → n.point ≡ false → z ≡ n.mantissa *ℤ pos (10 ^ nat_abs n.exponent) → form_number (integer_form n z) ≡ n
+  integer_case z h is =
+      either (fits_packed z) _ _ (λ t. whole_case z h is (small_packed z t))
+      (λ _. either (fits_i64 z) _ _
+      (λ t. whole_case z h is (small_within (neg_ℤ (pos (2 ^ 63))) (pos (2 ^ 63)) z (omega (arith, ints)) (omega (arith, ints)) t))
+      (λ _. either (fits_u64 z) _ _
+      (λ t. ap (λ y. stripped_number y (pos 0) false) (not_below z t)
+      ∙ whole_case z h is (small_within (pos 0) (pos (2 ^ 64)) z (omega (arith, ints)) (omega (arith, ints)) t))
+      (λ _. digits_case)))
 
   packed_test : (k m : ℤ) → n.point ≡ true → m ≡ n.mantissa *ℤ pos (10 ^ nat_abs (n.exponent -ℤ k))
       → int_le k n.exponent && fits_packed m ≡ true → form_number (packed m k true) ≡ n
@@ -186,21 +176,11 @@ module _ (n : Decimal) (plain : IsPlain n) where
 
   -- the number of a number's form is that number
   pub number_of_form : form_number (form_of n) ≡ n
-  number_of_form = point_case n.point refl
-    where
-      point_case : (p : Bool) → n.point ≡ p → form_number (elim p [
-        | false ↦ integer_form n (n.mantissa *ℤ pos (10 ^ nat_abs n.exponent))
-        | true ↦ elim (int_le (pos 0) n.exponent) [
-          | true ↦ smallest_packed 8 0 n
-          | false ↦ elim (int_le (negsuc 6) n.exponent && fits_packed n.mantissa) [
-            | true ↦ packed n.mantissa n.exponent true
-            | false ↦ digits_form n
-          ]
-        ]
-      ]) ≡ n
-      point_case false h = integer_case (n.mantissa *ℤ pos (10 ^ nat_abs n.exponent)) h refl
-      point_case true h = either (int_le (pos 0) n.exponent) _ _ (λ _. smallest_case 8 0 h)
-          (λ _. either (int_le (negsuc 6) n.exponent && fits_packed n.mantissa) _ _ (fraction_test h) (λ _. digits_case))
+  number_of_form =
+      either n.point _ _
+      (λ h. either (int_le (pos 0) n.exponent) _ _ (λ _. smallest_case 8 0 h)
+      (λ _. either (int_le (negsuc 6) n.exponent && fits_packed n.mantissa) _ _ (fraction_test h) (λ _. digits_case)))
+      (λ h. integer_case (n.mantissa *ℤ pos (10 ^ nat_abs n.exponent)) h refl)
 
 -- what is stored as a number's form has that number
 pub form_has : (n : Decimal) (f : FormOf) → IsPlain n → f ≡ form_of n → form_number f ≡ n

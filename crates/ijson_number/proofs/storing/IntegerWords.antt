@@ -58,6 +58,23 @@ some_stored s last negative = record {
       (last (let is : 0 ≡ s = ap (number_from_digits 10) (sym none) ∙ number_digits_of 10 s (omega arith) in rw (← is) refl));
 }
 
+-- a number whose mantissa isn't zero, with the tens that are taken out of the mantissa
+module _ (m : ℤ) (word : nat_abs m < 2 ^ 64) (some : nat_abs m ≢ 0) where
+  pub tens_are : IsTensOut (nat_abs m) (tens_out 20 (nat_abs m))
+  tens_are = tens_out_is 20 (nat_abs m) some (omega arith)
+
+  pub few_tens : (tens_out 20 (nat_abs m)).1 < 20
+  few_tens =
+      let out = tens_out 20 (nat_abs m) in
+      tens_few (nat_abs m) out.0 out.1 word (λ e. tens_are.1 (rw e refl)) tens_are.0
+
+  pub without_tens : (e : ℤ) (point : Bool) → let out = tens_out 20 (nat_abs m) in
+      stripped_number m e point ≡ stored_number (int_lt m (pos 0)) (digits_of 10 out.0) (e +ℤ pos out.1) point
+  without_tens e point =
+      let out = tens_out 20 (nat_abs m) in
+      ap (λ n. stripped_number n e point) (sym (sign_and_magnitude m))
+      ∙ some_is (nat_abs m) out.0 out.1 some (omega arith) tens_are.0 tens_are.1 (int_lt m (pos 0)) e point
+
 module _ (z : ℤ) (word : nat_abs z < 2 ^ 64) where
   abbrev number : Decimal
   number = stripped_number z (pos 0) false
@@ -67,17 +84,16 @@ module _ (z : ℤ) (word : nat_abs z < 2 ^ 64) where
     parts = tens_out 20 (nat_abs z)
 
     tens : IsTensOut (nat_abs z) parts
-    tens = tens_out_is 20 (nat_abs z) some (omega arith)
+    tens = tens_are z word some
 
     few : parts.1 < 20
-    few = tens_few (nat_abs z) parts.0 parts.1 word (λ e. tens.1 (rw e refl)) tens.0
+    few = few_tens z word some
 
     exact : pos 0 +ℤ pos parts.1 ≡ pos parts.1
     exact = omega (arith, ints)
 
     number_is : number ≡ stored_number (int_lt z (pos 0)) (digits_of 10 parts.0) (pos 0 +ℤ pos parts.1) false
-    number_is = ap (λ y. stripped_number y (pos 0) false) (sym (sign_and_magnitude z))
-        ∙ some_is (nat_abs z) parts.0 parts.1 some (omega arith) tens.0 tens.1 (int_lt z (pos 0)) (pos 0) false
+    number_is = without_tens z word some (pos 0) false
 
     some_num : IsNum number
     some_num = subst IsNum (sym number_is)

@@ -15,9 +15,8 @@ use Rattle.ijson_number.specs.Stripped.{tens_out, stripped_number}
 use Rattle.ijson_number.specs.StoredNumber.{stored_number}
 use Rattle.ijson_number.specs.private.WordText.{pointed_text}
 use Rattle.ijson_number.specs.laws.Tens.{ten_pos}
-use Rattle.ijson_number.proofs.storing.FormNumbers.{IsTensOut, tens_out_is, sign_and_magnitude}
 use Rattle.ijson_number.proofs.storing.FormCases.{taken as form_taken}
-use Rattle.ijson_number.proofs.storing.IntegerWords.{below_test, zero_is, some_is, some_stored}
+use Rattle.ijson_number.proofs.storing.IntegerWords.{below_test, zero_is, some_stored, tens_are, without_tens}
 use Rattle.ijson_number.proofs.BooleanTests.{abs_zero, both_of, test_le, not_le, not_lt}
 use Rattle.ijson_number.proofs.writing.Writing.{stored_text, left}
 use Rattle.ijson_number.proofs.writing.WordTexts.{count_is, fraction_is, neither}
@@ -78,37 +77,30 @@ module _ (m e : ℤ) (k : ℕ) (word : nat_abs m < 2 ^ 64) (scale : 0 < k) (belo
     abbrev sign : Bool
     sign = int_lt m (pos 0)
 
-    abbrev taken_out : ℕ × ℕ
-    taken_out = tens_out 20 abs
+    above : abs ≢ 0
+    above e = not_none (abs_zero m e)
 
-    not_zero : abs ≢ 0
-    not_zero z = not_none (abs_zero m z)
+    no_tens : (tens_out 20 abs).1 ≡ 0
+    no_tens =
+        let x : e +ℤ pos (tens_out 20 abs).1 ≡ e =
+        sym (ap (λ (n : Decimal). n.exponent) (without_tens m word above e true)) ∙ exponent_is.0 in
+        omega (arith, ints)
 
-    is_out : IsTensOut abs taken_out
-    is_out = tens_out_is 20 abs not_zero (omega arith)
-
-    number_at : stripped_number m e true ≡ stored_number sign (digits_of 10 taken_out.0) (e +ℤ pos taken_out.1) true
-    number_at = ap (λ y. stripped_number y e true) (sym (sign_and_magnitude m))
-        ∙ some_is abs taken_out.0 taken_out.1 not_zero (omega arith) is_out.0 is_out.1 sign e true
-
-    no_tens : taken_out.1 ≡ 0
-    no_tens = let x : e +ℤ pos taken_out.1 ≡ e = sym (ap (λ (n : Decimal). n.exponent) number_at) ∙ exponent_is.0 in omega (arith, ints)
+    same : (tens_out 20 abs).0 ≡ abs
+    same =
+        let is : abs ≡ (tens_out 20 abs).0 * 10 ^ 0 = (tens_are m word above).0 ∙ ap (λ t. (tens_out 20 abs).0 * 10 ^ t) no_tens in
+        omega (arith, is)
 
     last : abs % 10 ≢ 0
-    last =
-        let whole : abs ≡ taken_out.0 * 10 ^ 0 = is_out.0 ∙ ap (λ t. taken_out.0 * 10 ^ t) no_tens in
-        let same : abs ≡ taken_out.0 = omega arith in
-        rw same is_out.1
+    last = rw same at (tens_are m word above).1
 
     positive : 0 < abs
-    positive = let n = not_zero in omega (arith, n)
+    positive = omega (arith, above)
 
     stored_at : stripped_number m e true ≡ stored_number sign (digits_of 10 abs) e true
     stored_at =
         let none : e +ℤ pos 0 ≡ e = omega (arith, ints) in
-        ap (λ y. stripped_number y e true) (sym (sign_and_magnitude m))
-        ∙ some_is abs abs 0 not_zero (omega arith) (omega arith) last sign e true
-        ∙ ap (λ x. stored_number sign (digits_of 10 abs) x true) none
+        without_tens m word above e true ∙ rw (same, no_tens, none) refl
 
     abbrev shown_digits : List ℕ
     shown_digits = digits_of 10 abs

@@ -15,7 +15,7 @@ use Rattle.ijson_number.specs.StoredNumber.{stored_number}
 use Rattle.ijson_number.specs.private.Stripped.{IsStripped}
 use Rattle.ijson_number.specs.private.WordText.{integer_text}
 use Rattle.ijson_number.proofs.writing.AsciiTexts.{digits_text_ascii, sign_ascii}
-use Rattle.ijson_number.proofs.writing.Writing.{left, more_digits, stored_text, with_exponent, without_exponent}
+use Rattle.ijson_number.proofs.writing.Writing.{left, float_shape_is, more_digits, stored_text}
 use Rattle.ijson_number.proofs.BooleanTests.{not_le, not_lt}
 
 pub below_zero : (e x : ℤ) → x ≡ e → int_le (pos 0) x ≡ false → e <ℤ pos 0
@@ -31,7 +31,7 @@ row_shown negative ds e point k s p below is inside =
     let not_behind : int_le (pos (length ds)) (pos (length ds - k)) ≡ false =
     not_le (pos (length ds)) (pos (length ds - k)) (omega (arith, ints)) in
     let shape : point_text ds (pos (length ds - k)) ≡ shape_text point ds e =
-    without_exponent point ds e (pos (length ds - k)) p place not_scientific in
+    float_shape_is false point ds e (pos (length ds - k)) p place not_scientific in
     let split : digits_text (take (length ds - k) ds) ++ 46 ∷ digits_text (drop (length ds - k) ds) ≡ point_text ds
     (pos (length ds - k)) = left (int_le (pos (length ds)) (pos (length ds - k))) _ _ not_behind
     ∙ left (int_le (pos (length ds - k)) (pos 0)) _ _ not_front in
@@ -53,7 +53,7 @@ scientific_shown negative ds e point p z s is long place low high written power 
     let exponent = 101 ∷ integer_text (int_lt z (pos 0)) (nat_abs z) in
     let more : length (drop 1 ds) ≡ 0 → ⊥ = λ none. let l = length-drop 1 ds in omega (arith, none, l) in
     let shape : first ++ 46 ∷ (rest ++ exponent) ≡ shape_text point ds e = ap (λ x. first ++ 46 ∷ (rest ++ 101 ∷ x)) (signed_is z)
-    ∙ more_digits ds (take 1 ds) (drop 1 ds) p z refl refl more low high power ∙ with_exponent point ds e p is place written in
+    ∙ more_digits ds (take 1 ds) (drop 1 ds) p z refl refl more low high power ∙ float_shape_is true point ds e p is place written in
     append_assoc (minus_text negative) (first ++ 46 ∷ rest) exponent
     ∙ ap (λ x. minus_text negative ++ x) (append_assoc first (46 ∷ rest) exponent ∙ shape)
     ∙ stored_text negative ds e point s (omega arith)

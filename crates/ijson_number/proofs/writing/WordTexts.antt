@@ -16,10 +16,9 @@ use Rattle.ijson_number.specs.StoredNumber.{stored_number}
 use Rattle.ijson_number.specs.private.Word.{word_code, word_exponent, word_mantissa, word_point}
 use Rattle.ijson_number.specs.private.WordText.{last_digits, integer_text, pointed_text}
 use Rattle.ijson_number.specs.laws.Tens.{ten_pos, zero_or_not}
-use Rattle.ijson_number.proofs.storing.FormNumbers.{IsTensOut, tens_out_is, sign_and_magnitude}
-use Rattle.ijson_number.proofs.storing.IntegerWords.{zero_is, some_is, some_stored}
+use Rattle.ijson_number.proofs.storing.FormNumbers.{IsTensOut}
+use Rattle.ijson_number.proofs.storing.IntegerWords.{few_tens, zero_is, some_stored, tens_are, without_tens}
 use Rattle.ijson_number.proofs.BooleanTests.{abs_zero, le_test, not_le, not_lt}
-use Rattle.ijson_number.proofs.storing.WholeValues.{tens_few}
 use Rattle.ijson_number.proofs.writing.Writing.{decimal_is, stored_text, taken, left}
 use Rattle.ijson_number.proofs.writing.PaddedDigits.{joined, last_count, last_zeros, padded, some_places, whole_small}
 
@@ -94,10 +93,10 @@ module _ (z : ℤ) (word : nat_abs z < 2 ^ 64) where
     above e = some (abs_zero z e)
 
     tens : IsTensOut magnitude out
-    tens = tens_out_is 20 magnitude above (omega arith)
+    tens = tens_are z word above
 
     few : out.1 < 20
-    few = tens_few magnitude out.0 out.1 word (λ e. tens.1 (rw e refl)) tens.0
+    few = few_tens z word above
 
     front : 0 < out.0
     front = let n = tens.1 in omega (arith, n)
@@ -115,9 +114,7 @@ module _ (z : ℤ) (word : nat_abs z < 2 ^ 64) where
     exact = omega (arith, ints)
 
     number_is : (point : Bool) → stripped_number z (pos 0) point ≡ stored_number negative kept (pos out.1) point
-    number_is point = ap (λ y. stripped_number y (pos 0) point) (sym (sign_and_magnitude z))
-        ∙ some_is magnitude out.0 out.1 above (omega arith) tens.0 tens.1 negative (pos 0) point
-        ∙ ap (λ e. stored_number negative kept e point) exact
+    number_is point = without_tens z word above (pos 0) point ∙ ap (λ e. stored_number negative kept e point) exact
 
     stored_is : (point : Bool) → num_text (stripped_number z (pos 0) point) ≡ minus_text negative ++ shape_text point kept (pos out.1)
     stored_is point = ap num_text (number_is point)

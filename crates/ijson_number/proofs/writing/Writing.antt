@@ -62,17 +62,13 @@ pub left : (b : Bool) (xs ys : List ℕ) → b ≡ false → ys ≡ elim b [ tru
 left true xs ys e = absurd (cc)
 left false xs ys e = refl
 
-pub with_exponent : (point : Bool) (ds : List ℕ) (e p : ℤ) → point ≡ true → p ≡ pos (length ds) +ℤ e
-    → int_le p (negsuc 5) || int_lt (pos 20) e ≡ true → scientific_text ds p ≡ shape_text point ds e
-with_exponent point ds e p a b t =
-    rw (a, b) (taken (int_le (pos (length ds) +ℤ e) (negsuc 5) || int_lt (pos 20) e) (scientific_text ds (pos (length ds) +ℤ e))
-    (point_text ds (pos (length ds) +ℤ e)) (rw b at t))
+-- digits with the point, by whether they are written with an exponent
+abbrev pub float_shape : Bool → List ℕ → ℤ → List ℕ
+float_shape scientific ds p = elim scientific [ true ↦ scientific_text ds p | false ↦ point_text ds p ]
 
-pub without_exponent : (point : Bool) (ds : List ℕ) (e p : ℤ) → point ≡ true → p ≡ pos (length ds) +ℤ e
-    → int_le p (negsuc 5) || int_lt (pos 20) e ≡ false → point_text ds p ≡ shape_text point ds e
-without_exponent point ds e p a b t =
-    rw (a, b) (left (int_le (pos (length ds) +ℤ e) (negsuc 5) || int_lt (pos 20) e) (scientific_text ds (pos (length ds) +ℤ e))
-    (point_text ds (pos (length ds) +ℤ e)) (rw b at t))
+pub float_shape_is : (scientific point : Bool) (ds : List ℕ) (e p : ℤ) → point ≡ true → p ≡ pos (length ds) +ℤ e
+    → int_le p (negsuc 5) || int_lt (pos 20) e ≡ scientific → float_shape scientific ds p ≡ shape_text point ds e
+float_shape_is scientific point ds e p a b t = rw (a, b, ← rw b at t) refl
 
 pub below_zero : (negative : Bool) (v : ℕ) → 0 < v → int_lt (signed negative v) (pos 0) ≡ negative
 below_zero true zero h = absurd (omega arith)
@@ -94,13 +90,7 @@ stored_text negative ds e point s h =
     ∙ left (nat_eq (nat_abs m) 0) (zero_text point)
     (minus_text (int_lt m (pos 0)) ++ shape_text point (stripped_digits (stored_number negative ds e point)) e) a
 
-module _ (n : Decimal) (negative : Bool) (ds shown : List ℕ) (e bits : ℤ) (point : Bool) (is : stored_number negative ds e point ≡ n)
-    (same : shown ≡ ds) (exact : bits ≡ e) (s : IsStripped ds) (h : 0 < length shown) where
-  shown_text : minus_text negative ++ shape_text point shown bits ≡ num_text n
-  shown_text = rw (same, exact, ← is) (stored_text negative ds e point s (rw same at h))
-
-  pub with_minus : negative ≡ true → 45 ∷ shape_text point shown bits ≡ num_text n
-  with_minus t = rw (ap minus_text t) at shown_text
-
-  pub without_minus : negative ≡ false → shape_text point shown bits ≡ num_text n
-  without_minus t = rw (ap minus_text t) at shown_text
+-- a minus or none, and the digits behind it, where they stand for the number
+pub shown_text : (n : Decimal) (minus negative : Bool) (ds : List ℕ) (e bits : ℤ) (point : Bool) → stored_number negative ds e point ≡ n
+    → bits ≡ e → IsStripped ds → 0 < length ds → negative ≡ minus → minus_text minus ++ shape_text point ds bits ≡ num_text n
+shown_text n minus negative ds e bits point is exact s h sign = rw (← sign, exact, ← is) (stored_text negative ds e point s h)

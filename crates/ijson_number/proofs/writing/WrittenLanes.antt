@@ -172,15 +172,6 @@ module _ (lanes : List ℕ) (long : length lanes ≡ 16) (start count : ℕ) (wi
   pub front_ascii : IsAscii front
   front_ascii = IsAscii-append (drop start lanes) (replicate start 0) ascii (zeros_ascii start)
 
-  pub front_long : count ≤ length front
-  front_long = omega (
-    arith,
-    length-append (drop start lanes)
-        (replicate start 0),
-    length-drop start lanes,
-    length-replicate {A = ℕ} start 0,
-  )
-
   pub front_all : length front ≡ 16
   front_all = omega (
     arith,
@@ -189,6 +180,9 @@ module _ (lanes : List ℕ) (long : length lanes ≡ 16) (start count : ℕ) (wi
     length-drop start lanes,
     length-replicate {A = ℕ} start 0,
   )
+
+  pub front_long : count ≤ length front
+  front_long = omega (arith, front_all)
 
   pub front_taken : take count front ≡ take count (drop start lanes)
   front_taken = take-append-le count (drop start lanes) (replicate start 0) (omega (arith, length-drop start lanes))

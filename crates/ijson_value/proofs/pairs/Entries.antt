@@ -4,10 +4,10 @@ use Rattle.std.proofs.Common.{arith}
 use Rattle.std.specs.Prelude.{slice_get, option_map, IsSome}
 use denote.Struct.Props.{props}
 use Rattle.ijson_table.proofs.pairs.KeyPositions.{position-some, position-distinct}
-use Rattle.ijson_table.proofs.pairs.PairsByKey.{lookup-found, lookup-absent, position_within, keys-length}
+use Rattle.ijson_table.proofs.pairs.PairsByKey.{lookup-found, lookup-absent, position_within, keys-length, put-present, put-absent}
 use Rattle.ijson_table.proofs.pairs.SameStores.{store_path}
 use Rattle.ijson_table.specs.Growth.{Ungrown}
-use Rattle.ijson_table.specs.Store.{Store, at, lookup, keys_of, swap_out, with_value}
+use Rattle.ijson_table.specs.Store.{Store, at, lookup, keys_of, swap_out, with_value, put}
 use Rattle.ijson_table.specs.declared.store.ReserveError.{ReserveError}
 use Rattle.ijson_table.specs.declared.store.ReserveError.TheVariants.{Memory, TooLarge}
 use Rattle.ijson_table.specs.StoreWithValue.{store_with_value}
@@ -92,6 +92,35 @@ module _ {V : Type 0} where
       let found : at s.pairs (get_or (keys_of s.pairs) i []) ≡ Some i =
       position-distinct (keys_of s.pairs) (get_or (keys_of s.pairs) i []) i s.distinct (omega (arith, within, keys-length s.pairs)) refl in
       ap (λ o. swapped_at o s.pairs) (sym found)
+
+-- What an entry of a key is read of: of a key that is there, by what a look-up by its text answered.
+pub record IsAt (old : Store WellFormed) (k : List ℕ) (i : ℕ) : Type 0 where
+  pub there : IsSome (at old.pairs k)
+  pub key : get_or (keys_of old.pairs) i [] ≡ k
+  pub value : option_map (λ pair. pair.1) (slice_get old.pairs i) ≡ lookup k old.pairs
+  pub update : (w : WellFormed) → with_value old.pairs i w ≡ put old.pairs k w
+
+pub is_at : (old : Store WellFormed) (key : List ℕ) (i : ℕ) → at old.pairs key ≡ Some i → IsAt old key i
+is_at old key i found = record {
+  there = is_there (at old.pairs key) i found;
+  key = key_there old.pairs key i found;
+  value = value_there old.pairs key i found;
+  update = λ w. sym (put-present old.pairs i key w found);
+}
+
+-- and of a key that is not there, which a pair of a copy of it is pushed for
+pub record IsAbsent (old : Store WellFormed) (key : List ℕ) : Type 0 where
+  pub gone : at old.pairs key ≡ None
+  pub none : None ≡ lookup key old.pairs
+  pub pushed : {pairs : List (List ℕ × WellFormed)} {copy : List ℕ} → pairs ≡ old.pairs → copy ≡ key → (w : WellFormed)
+      → pairs ++ (copy, w) ∷ [] ≡ put old.pairs key w
+
+pub is_absent : (old : Store WellFormed) (key : List ℕ) → at old.pairs key ≡ None → IsAbsent old key
+is_absent old key missing = record {
+  gone = missing;
+  none = sym (lookup-absent old.pairs key missing);
+  pushed = λ same copied w. (λ i. same i ++ (copied i, w) ∷ []) ∙ sym (put-absent old.pairs key w missing);
+}
 
 -- a key that is not there, for which a growth was refused
 pub finds_no_room : (old : Store WellFormed) (key : List ℕ) (why : ReserveError) (c : ℕ) → at old.pairs key ≡ None

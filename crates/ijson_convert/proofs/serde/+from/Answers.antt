@@ -7,16 +7,16 @@ use Rattle.std.proofs.lemmas.Result.{err_from_is_err_and}
 use Rattle.serde_json.specs.Data as serde
 use Rattle.serde_json.specs.View.{view, items_view, members_view}
 use Rattle.serde_json.proofs.Views.{Entry, view-Array, view-Object}
-use Rattle.ijson_string.specs.Cache.{interned}
+use Rattle.ijson_string.specs.Cache.{Texts, interned}
 use Rattle.ijson_value.specs.Values.{array_tree, object_tree}
 use Rattle.ijson_value.specs.WellFormed.{item_trees, pair_trees}
 use Rattle.ijson_convert.specs.Interned.{all_interned, SomeInterned}
-use Rattle.ijson_convert.specs.SerdeTexts.{serde_texts}
+use Rattle.ijson_convert.specs.SerdeTexts.{serde_texts, serde_items_texts, serde_members_texts}
 use Rattle.ijson_convert.specs.SerdeTree.{SerdeItems, SerdeMembers, HasNoTree}
 use Rattle.ijson_convert.specs.TextsOf.{texts_of}
 use Rattle.ijson_convert.proofs.Interning.{none_interned, wholly_interned, some_behind}
 use Rattle.ijson_convert.proofs.Refusals.{refused_too}
-use Rattle.ijson_convert.proofs.serde_trees.SerdeTrees.{items_begun, members_begun, entry_interned}
+use Rattle.ijson_convert.proofs.serde_trees.SerdeTrees.{all_begun, entry_interned}
 use Rattle.ijson_convert.proofs.serde_trees.SerdeTrees.{value_texts, entry_texts, tree_texts, items_flat, members_flat, interned_more}
 use Rattle.ijson_convert.proofs.serde_trees.SerdeTrees.{split_at, items_more, members_more, array_none, object_none}
 use Rattle.ijson_convert.proofs.serde_trees.SerdeTrees.{pairs_last}
@@ -33,39 +33,38 @@ item_parts : (g : Over) (t : ℕ) (c : from_items-After-from_serde g t) →
 item_parts g t c = split_at c.deref-item-items.result.now c.loop-item.item-index c.item-item.result (omega (arith, c.loop-item-test.true))
     c.item-item.is ∙ c.deref-item-items.ensures.value
 
+-- a beginning of this item's texts is one of all texts
+item_begun : (g : Over) (t : ℕ) (c : from_items-After-from_serde g t)
+    → SomeInterned (value_texts c.item-item.result) c.loop-item.cache c.from_serde.new.cache
+    → SomeInterned (serde_items_texts (items_view c.args.items.now.items)) c.args.cache.now c.from_serde.new.cache
+item_begun g t c =
+    let xs = c.deref-item-items.result.now in let i = c.loop-item.item-index in
+    all_begun value_texts (λ vs. serde_items_texts (items_view vs)) items_flat
+    (take i xs) c.item-item.result (drop (suc i) xs) c.args.items.now.items c.args.cache.now c.loop-item.cache
+    c.from_serde.new.cache (item_parts g t c) c.loop-item.invariant.1
+
 pub from_items-returns-in_err-value-clause-refused : goal.from_items-returns-in_err-value-clause-refused
 from_items-returns-in_err-value-clause-refused g t c =
     let p = err_from_is_err_and c.from_residual-in_err-value.result c.from_residual-in_err-value.ensures.1 in
     let xs = c.deref-item-items.result.now in
     let i = c.loop-item.item-index in
-    let v = c.item-item.result in
     let parts = item_parts g t (goal.at.from_items-returns-in_err-value-clause-refused g t c).After-from_serde in
     rw (p.1, p.2) (refused_too (λ none. subst (λ l. HasNoTree (serde.array (items_view l))) parts
-    (array_none (take i xs) v (drop (suc i) xs) none)) c.in_err-value.ensures.refused)
+    (array_none (take i xs) c.item-item.result (drop (suc i) xs) none)) c.in_err-value.ensures.refused)
 
 pub from_items-returns-in_err-value-clause-begun : goal.from_items-returns-in_err-value-clause-begun
 from_items-returns-in_err-value-clause-begun g t c =
     let p = err_from_is_err_and c.from_residual-in_err-value.result c.from_residual-in_err-value.ensures.1 in
-    let xs = c.deref-item-items.result.now in
-    let i = c.loop-item.item-index in
-    let v = c.item-item.result in
-    let new = c.from_serde.new.cache in
-    let parts = item_parts g t (goal.at.from_items-returns-in_err-value-clause-begun g t c).After-from_serde in
-    rw p.1 (items_begun (take i xs) v (drop (suc i) xs) c.args.items.now.items c.args.cache.now c.loop-item.cache new parts
-    c.loop-item.invariant.1 c.in_err-value.ensures.begun)
+    rw p.1 (item_begun g t (goal.at.from_items-returns-in_err-value-clause-begun g t c).After-from_serde c.in_err-value.ensures.begun)
 
 pub from_items-returns-in_err-push-clause-begun : goal.from_items-returns-in_err-push-clause-begun
 from_items-returns-in_err-push-clause-begun g t c =
     let p = err_from_is_err_and c.from_residual-in_err-push.result c.from_residual-in_err-push.ensures.1 in
-    let xs = c.deref-item-items.result.now in
-    let i = c.loop-item.item-index in
     let v = c.item-item.result in
-    let new = c.from_serde.new.cache in
-    let parts = item_parts g t (goal.at.from_items-returns-in_err-push-clause-begun g t c).After-from_serde in
     let read = c.in_ok-value.ensures.cache ∙ ap (λ l. all_interned l c.loop-item.cache)
     (tree_texts (view v) c.in_ok-value.value.tree c.in_ok-value.ensures.tree) in
-    rw p.1 (items_begun (take i xs) v (drop (suc i) xs) c.args.items.now.items c.args.cache.now c.loop-item.cache new parts
-    c.loop-item.invariant.1 (wholly_interned (value_texts v) c.loop-item.cache new read))
+    rw p.1 (item_begun g t (goal.at.from_items-returns-in_err-push-clause-begun g t c).After-from_serde
+    (wholly_interned (value_texts v) c.loop-item.cache c.from_serde.new.cache read))
 
 pub from_items-loop-item-preserved : goal.from_items-loop-item-preserved
 from_items-loop-item-preserved g t c =
@@ -135,43 +134,40 @@ all_done g t c =
     let done = c.loop-key.invariant.done in
     c.loop-key.invariant.parts ∙ ap (λ es. done ++ es) c.in-None.ensures.steps.0 ∙ append-nil done
 
+-- a beginning of this member's texts is one of all texts
+member_begun : (g : Over) (t : ℕ) (c : from_serde_map-After-intern g t) (new : Texts)
+    → SomeInterned (entry_texts (c.in-Some.key.now, c.in-Some.member.now)) c.loop-key.cache new
+    → SomeInterned (serde_members_texts (members_view c.args.map.now.entries)) c.args.cache.now new
+member_begun g t c new =
+    all_begun entry_texts (λ es. serde_members_texts (members_view es)) members_flat c.loop-key.invariant.done
+    (c.in-Some.key.now, c.in-Some.member.now) c.next.new.self c.args.map.now.entries c.args.cache.now
+    c.loop-key.cache new (member_parts g t c) c.loop-key.invariant.texts
+
 pub from_serde_map-returns-in_err-key-clause-begun : goal.from_serde_map-returns-in_err-key-clause-begun
 from_serde_map-returns-in_err-key-clause-begun g t c =
     let p = err_from_is_err_and c.from_residual-in_err-key.result c.from_residual-in_err-key.ensures.1 in
-    let done = c.loop-key.invariant.done in
     let e : Entry = (c.in-Some.key.now, c.in-Some.member.now) in
-    let left = c.next.new.self in
-    let new = c.intern.new.cache in
-    let entries = c.args.map.now.entries in
-    let parts = member_parts g t (goal.at.from_serde_map-returns-in_err-key-clause-begun g t c).After-intern in
     let nothing = subst (λ m. SomeInterned (entry_texts e) c.loop-key.cache m) (sym c.in_err-key.ensures.refused)
     (none_interned (entry_texts e) c.loop-key.cache) in
-    rw p.1 (members_begun done e left entries c.args.cache.now c.loop-key.cache new parts c.loop-key.invariant.texts nothing)
+    rw p.1 (member_begun g t (goal.at.from_serde_map-returns-in_err-key-clause-begun g t c).After-intern c.intern.new.cache nothing)
 
 pub from_serde_map-returns-in_err-value-clause-refused : goal.from_serde_map-returns-in_err-value-clause-refused
 from_serde_map-returns-in_err-value-clause-refused g t c =
     let p = err_from_is_err_and c.from_residual-in_err-value.result c.from_residual-in_err-value.ensures.1 in
-    let done = c.loop-key.invariant.done in
     let e : Entry = (c.in-Some.key.now, c.in-Some.member.now) in
-    let left = c.next.new.self in
-    let entries = c.args.map.now.entries in
     let parts = member_parts g t (goal.at.from_serde_map-returns-in_err-value-clause-refused g t c).After-intern in
-    rw (p.1, p.2) (refused_too (λ none. subst (λ es. HasNoTree (serde.object (members_view es))) parts (object_none done e left none))
-    c.in_err-value.ensures.refused)
+    rw (p.1, p.2) (refused_too (λ none. subst (λ es. HasNoTree (serde.object (members_view es))) parts
+    (object_none c.loop-key.invariant.done e c.next.new.self none)) c.in_err-value.ensures.refused)
 
 pub from_serde_map-returns-in_err-value-clause-begun : goal.from_serde_map-returns-in_err-value-clause-begun
 from_serde_map-returns-in_err-value-clause-begun g t c =
     let p = err_from_is_err_and c.from_residual-in_err-value.result c.from_residual-in_err-value.ensures.1 in
-    let done = c.loop-key.invariant.done in
     let e : Entry = (c.in-Some.key.now, c.in-Some.member.now) in
-    let left = c.next.new.self in
     let new = c.from_serde.new.cache in
-    let entries = c.args.map.now.entries in
-    let parts = member_parts g t (goal.at.from_serde_map-returns-in_err-value-clause-begun g t c).After-intern in
     let keyed : c.intern.new.cache ≡ all_interned (string_bytes e.0 ∷ []) c.loop-key.cache =
     c.in_ok-key.ensures.cache ∙ ap (λ k. interned k c.loop-key.cache) c.as_str.ensures.value in
     let behind = subst (λ m. SomeInterned (serde_texts (view e.1)) m new) keyed c.in_err-value.ensures.begun in
-    rw p.1 (members_begun done e left entries c.args.cache.now c.loop-key.cache new parts c.loop-key.invariant.texts
+    rw p.1 (member_begun g t (goal.at.from_serde_map-returns-in_err-value-clause-begun g t c).After-intern new
     (some_behind (string_bytes e.0 ∷ []) (serde_texts (view e.1)) c.loop-key.cache new behind))
 
 pub from_serde_map-push_reserved-requires : goal.from_serde_map-push_reserved-requires

@@ -12,6 +12,7 @@ use Rattle.ijson_number.specs.private.MagnitudeOrder.{magnitude_cmp}
 use Rattle.ijson_number.proofs.comparing.DigitOrder.{some_digits, are_stripped}
 use Rattle.ijson_number.proofs.comparing.MagnitudeOrder.{same_place_cmp, places_cmp}
 use Rattle.ijson_number.proofs.comparison.compare_magnitudes.Goals as goal
+use Rattle.ijson_number.proofs.comparison.compare_magnitudes.Goals.{After-lead-other_place}
 
 -- two numbers that aren't zero, and the places that were told of them
 module _ (a b : Num) (some : a.decimal.mantissa ≢ pos 0) (some_other : b.decimal.mantissa ≢ pos 0) (x y : ℤ)
@@ -28,24 +29,29 @@ module _ (a b : Num) (some : a.decimal.mantissa ≢ pos 0) (some_other : b.decim
       (are_stripped a.decimal a.is_num.plain some) (are_stripped b.decimal b.is_num.plain some_other)
       (some_digits a.decimal a.is_num.plain some) (some_digits b.decimal b.is_num.plain some_other) x y place other_place
 
+-- the places, as the machine compares them, are exact
+place_held : (g : _) (c : After-lead-other_place g) → to_z w128 (of_z w128 c.lead-place.result) ≡ c.lead-place.result
+place_held g c =
+    let fits : FitsSigned w128 c.lead-place.result = search rules in
+    to_z-of_z w128 c.lead-place.result fits
+
+other_place_held : (g : _) (c : After-lead-other_place g) → to_z w128 (of_z w128 c.lead-other_place.result) ≡ c.lead-other_place.result
+other_place_held g c =
+    let fits : FitsSigned w128 c.lead-other_place.result = search rules in
+    to_z-of_z w128 c.lead-other_place.result fits
+
 pub returns-then-place-other_place-clause-order : goal.returns-then-place-other_place-clause-order
 returns-then-place-other_place-clause-order g c =
-    let x = c.lead-place.result in
-    let y = c.lead-other_place.result in
-    let e : FitsSigned w128 x = search rules in
-    let f : FitsSigned w128 y = search rules in
-    let same : x ≡ y = sym (to_z-of_z w128 x e) ∙ ap (to_z w128) c.if-place-other_place.true ∙ to_z-of_z w128 y f in
+    let at = (goal.at.returns-then-place-other_place-clause-order g c).After-lead-other_place in
     c.compare_digits.ensures.order
-    ∙ digits_decide (g.D.DigitRow.num c.args.a.now)
-    (g.D.DigitRow.num c.args.b.now) c.requires.some c.requires.some_other x y c.lead-place.ensures c.lead-other_place.ensures same
+    ∙ digits_decide (g.D.DigitRow.num c.args.a.now) (g.D.DigitRow.num c.args.b.now) c.requires.some c.requires.some_other
+    c.lead-place.result c.lead-other_place.result c.lead-place.ensures c.lead-other_place.ensures
+    (sym (place_held g at) ∙ ap (to_z w128) c.if-place-other_place.true ∙ other_place_held g at)
 
 pub returns-else-place-other_place-clause-order : goal.returns-else-place-other_place-clause-order
 returns-else-place-other_place-clause-order g c =
-    let x = c.lead-place.result in
-    let y = c.lead-other_place.result in
-    let e : FitsSigned w128 x = search rules in
-    let f : FitsSigned w128 y = search rules in
-    rw (to_z-of_z w128 x e, to_z-of_z w128 y f) at c.cmp.ensures
-    ∙ places_decide (g.D.DigitRow.num c.args.a.now)
-    (g.D.DigitRow.num c.args.b.now) c.requires.some c.requires.some_other x y c.lead-place.ensures c.lead-other_place.ensures
+    let at = (goal.at.returns-else-place-other_place-clause-order g c).After-lead-other_place in
+    rw (place_held g at, other_place_held g at) at c.cmp.ensures
+    ∙ places_decide (g.D.DigitRow.num c.args.a.now) (g.D.DigitRow.num c.args.b.now) c.requires.some c.requires.some_other
+    c.lead-place.result c.lead-other_place.result c.lead-place.ensures c.lead-other_place.ensures
     (λ h. c.if-place-other_place.false (ap (of_z w128) h))

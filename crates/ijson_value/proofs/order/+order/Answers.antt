@@ -1,8 +1,7 @@
 use Rattle.std.proofs.Common.{◌≢◌, ◌≤◌, length, Some, arith, sym, ap, ◌∙◌}
 use Rattle.ijson_value.proofs.DepthLemmas.{items_fall}
 use Rattle.ijson_value.specs.Kind.{kind_of}
-use Rattle.ijson_value.proofs.comparing.KindsApart.{kinds_cmp, null_first, bool_first, number_first, string_first}
-use Rattle.ijson_value.proofs.comparing.KindsApart.{array_first, object_first}
+use Rattle.ijson_value.proofs.comparing.KindsApart.{kinds_cmp, other_kind}
 use Rattle.ijson_value.proofs.comparing.OrderSteps.{second_ended, first_ended}
 use Rattle.ijson_value.proofs.order.+order.Goals as goal
 use Rattle.ijson_value.proofs.order.+order.Goals.{value_cmp-in_default-via-in-Null+in_default}
@@ -32,12 +31,12 @@ pub value_cmp-returns-in_default : goal.value_cmp-returns-in_default
 value_cmp-returns-in_default t c =
     let a = c.a.view_is in let b = c.b.view_is in
     let apart : kind_of c.args.a.now.tree ≢ kind_of c.args.b.now.tree = elim c.in_default.branch [
-      | value_cmp-in_default-via-in-Null+in_default w ↦ null_first a b w.in_default.is-0 w.in_default.not-Null-1
-      | value_cmp-in_default-via-in-Bool+in_default w ↦ bool_first a b w.in_default.is-0 w.in_default.not-Bool-1
-      | value_cmp-in_default-via-in-Number+in_default w ↦ number_first a b w.in_default.is-0 w.in_default.not-Number-1
-      | value_cmp-in_default-via-in-String+in_default w ↦ string_first a b w.in_default.is-0 w.in_default.not-String-1
-      | value_cmp-in_default-via-in-Array+in_default w ↦ array_first a b w.in_default.is-0 w.in_default.not-Array-1
-      | value_cmp-in_default-via-in-Object+in_default w ↦ object_first a b w.in_default.is-0 w.in_default.not-Object-1
+      | value_cmp-in_default-via-in-Null+in_default w ↦ other_kind _ a b w.in_default.is-0 w.in_default.not-Null-1
+      | value_cmp-in_default-via-in-Bool+in_default w ↦ other_kind _ a b w.in_default.is-0 w.in_default.not-Bool-1
+      | value_cmp-in_default-via-in-Number+in_default w ↦ other_kind _ a b w.in_default.is-0 w.in_default.not-Number-1
+      | value_cmp-in_default-via-in-String+in_default w ↦ other_kind _ a b w.in_default.is-0 w.in_default.not-String-1
+      | value_cmp-in_default-via-in-Array+in_default w ↦ other_kind _ a b w.in_default.is-0 w.in_default.not-Array-1
+      | value_cmp-in_default-via-in-Object+in_default w ↦ other_kind _ a b w.in_default.is-0 w.in_default.not-Object-1
     ] in
     kinds_cmp c.args.a.now.tree c.args.b.now.tree c.type_.result c.type_-in_default.result c.cmp-in_default.result c.type_.ensures
     c.type_-in_default.ensures c.cmp-in_default.ensures apart

@@ -1,20 +1,16 @@
 -- A caller that writes one step inside a value. Assumes `Logic`.
-use Rattle.ijson_value.proofs.lends.Steps.{◌≡◌, ℕ, List, [], ◌∷◌, refl, sym, ap, subst, ◌∙◌, lit<, MutBor, proved, full_share, id⊢, GName}
-use Rattle.ijson_value.proofs.lends.Steps.{Lft, ftrue, flft, fres, fex, named, Val, vunit, emp, fact, fact_i, tables, ‵, raw, ◌⊛◌, some}
-use Rattle.ijson_value.proofs.lends.Steps.{later, at_ret, ◌$◌, ◌∵◌, !, qed, done, move, keep, drop, use0, use1, use2, use3, split, join}
-use Rattle.ijson_value.proofs.lends.Steps.{rewrite, fsplit, fpick, feq_i, feq_l, pick, await, suffices, frame, enter, of_opd, addr}
-use Rattle.ijson_value.proofs.lends.Steps.{unit_lit, fld, stop, no_more, and_then, first, skips, exec, returns, alloc_all, pass_all}
-use Rattle.ijson_value.proofs.lends.Steps.{free_all, look_at, get, get_in, get_tag, through, sets, lands_as, lands_last, env, unit, no}
-use Rattle.ijson_value.proofs.lends.Steps.{shows, RattleType, MutRef, mut_vals, mut_Tells, plain, nothing, heard, peeks, only, whole, vrt}
-use Rattle.ijson_value.proofs.lends.Steps.{calls_at, lasts, triple_of, Stays, walk_of, stay_dropped, stay_ref, Goes-dropped, Goes-ref}
-use Rattle.ijson_value.proofs.lends.Steps.{ends_at, framed, lends_again, comes_back, LentAgain, lft_new, lft_end, live}
+use Rattle.ijson_value.proofs.lends.Steps.{◌≡◌, ℕ, List, [], ◌∷◌, refl, sym, ap, ◌∙◌, lit<, MutBor, proved, full_share, id⊢, Lft, ftrue}
+use Rattle.ijson_value.proofs.lends.Steps.{flft, fres, fex, named, Val, vunit, emp, fact, fact_i, tables, ‵, raw, ◌⊛◌, at_ret, ◌$◌, ◌∵◌, ! }
+use Rattle.ijson_value.proofs.lends.Steps.{qed, done, move, keep, use1, use2, split, join, fpick, feq_i, suffices, frame, enter, of_opd}
+use Rattle.ijson_value.proofs.lends.Steps.{addr, unit_lit, fld, stop, no_more, and_then, first, skips, exec, returns, alloc_all, pass_all}
+use Rattle.ijson_value.proofs.lends.Steps.{free_all, look_at, get, get_in, get_tag, through, sets, lands_as, lands_last, env, no}
+use Rattle.ijson_value.proofs.lends.Steps.{RattleType, MutRef, mut_vals, mut_Tells, plain, nothing, heard, whole, vrt, calls_at, lasts}
+use Rattle.ijson_value.proofs.lends.Steps.{triple_of, Stays, walk_of, stay_dropped, stay_ref, Goes-dropped, Goes-ref, Sq, prop, ends_at}
+use Rattle.ijson_value.proofs.lends.Steps.{framed, lft_end, live}
 use types.Match.{in_variant}
 use types.Run.{switches}
-use denote.Triple.Call.{calls_at_last}
 use mathlib.Core.List.{◌++◌}
-use lib.Dec.{T}
-use mir.Syntax.{ty_unit}
-use mir.Val.{WT, has_ty, of_list}
+use mir.Val.{of_list}
 use native.Mathlib.Nat.{suc-ne-zero}
 use mir.MapTy.{inst_fn}
 use mir.Syntax.{a_type, dcons, dnil}
@@ -27,14 +23,15 @@ use Rattle.std.specs.contracts.option.Option.{the_row as OptionOf}
 use Rattle.ijson_value.specs.Values.{boolean_value}
 use Rattle.ijson_value.specs.WellFormed.{WellFormed}
 use Rattle.ijson_value.specs.contracts.value.IValue.{the_row as V}
-use Rattle.ijson_value.proofs.lends.Variants.{by_option, none_out, Some-out}
+use Rattle.ijson_extra.proofs.test_lemmas.LentPart.{answered_both, asks_both, is_ref, option_out, writes_last}
 use Rattle.ijson_extra.specs.contracts.tests.lent.put_true as h
 use Rattle.ijson_extra.proofs.tests.lent.put_true.Met as h-thm
 use Rattle.std.specs.Prelude.{IsSome, OnSome, option_map}
 use Rattle.ijson_value.specs.Kind.{kind_of}
 use Rattle.ijson_value.specs.LendsInside.{LendsInsideIf}
 use Rattle.ijson_value.specs.Step.{kind_for, tree_at, tree_with}
-use Rattle.ijson_value.specs.Tree.{Tree}
+use Rattle.ijson_value.specs.Tree.{Tree, boolean}
+use Rattle.ijson_value.proofs.lends.Called.{lent, back}
 use Rattle.ijson_value.proofs.lends.LentOn.{so_none, so_some}
 use Rattle.std.proofs.mem.Facts.{says_two}
 use Rattle.ijson_extra.specs.contracts.tests.lent.set_inside as f
@@ -54,19 +51,23 @@ pub set_inside_spec : {M' : Type 1} → statement M'
 set_inside_spec 𝓤 𝓛 𝓜 𝓡 wired I LI CI gx dx gs ds gc dc mx ms mc =
     let X : RattleType = f.I-row I in let CX : IsCopy X = copied_copy 0 I CI in
     let En = f.ended I gx dx gs ds gc dc in let inst = bounded (a_type ∷ []) (I, tt) (dcons dx (dcons ds (dcons dc dnil))) in
-    let fn = inst_fn inst code.function in
-    let c = f.clauses I gx dx gs ds gc dc 𝓛 𝓜.mem 𝓡.returns in
+    let fn = inst_fn inst code.function in let c = f.clauses I gx dx gs ds gc dc 𝓛 𝓜.mem 𝓡.returns in
     let hs : Stays En.signature.params En.kept = (stay_ref (0 ∷ []) tt (plain (λ _. V)), (stay_dropped (plain (λ _. X)) no, tt)) in
     let W = walk_of 𝓛 En hs c in let 𝓣 = tables 𝓤 𝓛.H 𝓜 𝓡 𝓡.env in
     proved 𝓛 En hs c 𝓜 𝓡 (Goes-ref 𝓛 2 0 tt (plain (λ _. V)), (Goes-dropped 𝓛 2 (plain (λ _. X)) no (λ κs x w. refl), tt))
     (f.Key.name inst) fn (code.unfolded 𝓤 𝓛.H 𝓜 𝓡 wired (I, tt) dx ds dc)
     (λ κs. (mut_vals, ((λ x. CX.val x ∷ []), tt))) (λ κs. (mut_Tells (named 0) κs.0 V, (CX.tells, tt))) (λ κs qs bounds a gh are.
-    let κ = κs.0 in let q = qs.0 in let κ' = κs.1.0 in let q' = qs.1.0 in let r = a.0 in let k = a.1.0 in let b = r.ref_ptr.0 in
-    let o = r.ref_ptr.1 in let γ = r.ghost_name in let vs = mut_vals r in let ks : List Val = CX.val k ∷ [] in
-    let step = gs.step k in
+    let κ = κs.0 in let q = qs.0 in let κ' = κs.1.0 in let q' = qs.1.0 in let r = a.0 in let k = a.1.0 in
+    let vs = mut_vals r in let ks : List Val = CX.val k ∷ [] in let step = gs.step k in
     let P = λ (x : Option (MutBor WellFormed)) (w n : WellFormed). OnSome x (n.tree ≡ tree_with r.now.tree step w.tree) in
     let y : W.Ghost = ((κs, qs, bounds, a, (vs, (ks, tt))), gh) in
     let Ref = λ (β : List ℕ) (x : MutBor WellFormed). (MutRef (named 0) β V).own_val x vs in
+    let ends : (n : WellFormed) → (IsSome (tree_at r.now.tree step) → n.tree ≡ tree_with r.now.tree step (boolean true))
+    → (tree_at r.now.tree step ≡ None → n ≡ r.now)
+    → Sq 𝓛 (‵ (Ref κ (record r { now = n })) ∷ ‵ (flft κ q) ∷ (‵ (flft κ' q') ⊛ ‵ ftrue) ∷ []) (prop (W.post y vunit)) = λ n there missing.
+    suffices ! _ (ends_at 𝓛 En hs c y vunit tt (n, (tt, tt)) (tt, (tt, tt))) $ says_two ! (there, missing) $
+    nothing ! $ nothing ! $ join ! $ move ! (1 ∷ 0 ∷ []) $ join ! $ move ! (1 ∷ 2 ∷ []) $ join ! $ frame ! $ frame ! $
+    feq_i ! _ (vunit ∷ []) _ refl $ done ! in
     qed 𝓛 (((‵ (flft κ q) ⊛ ‵ (flft κ' q') ⊛ ‵ ftrue) ⊛ ‵ (Ref κ r) ⊛ ‵ (X.own_val k ks) ⊛ ‵ ftrue) ∷ raw (fact 𝓤 (κ' ⊑ I.lives)) ∷ raw
     (fact 𝓤 (kind_of r.now.tree ≡ kind_for step)) ∷ []) ∵
     move ! (1 ∷ []) $ heard ! _ (λ out. move ! (1 ∷ []) $ heard ! _ (λ kind.
@@ -74,91 +75,52 @@ set_inside_spec 𝓤 𝓛 𝓜 𝓡 wired I LI CI gx dx gs ds gc dc mx ms mc =
     enter ! _ _ _ _ _ $ alloc_all ! (λ l. pass_all ! refl ((tt, tt), ((((copied_laws 0 I LI).lawful 𝓛).typed k ks are.1.0).0, tt)) $
     -- [the value; its token; the index's token; the index]
     sets ! (addr ! (through ! refl (stop !))) refl (tt, tt) $
-    lft_new ! tt (λ α. move ! (1 ∷ 2 ∷ []) $ let β : Lft = α ∷ [] in
-    use2 𝓛 (later (some (λ (δ : GName). ‵ (Ref β (record r { ghost_name = δ })) ⊛ ‵ (LentAgain V κ β q γ b o δ r.now))))
-    (lends_again 𝓛 V (named 0) κ β q γ b o (named 0) r.now) $ await ! tt $ pick ! (λ δ. split ! $
+    lent 𝓛 ! tt V κ q r (λ α δ. let β : Lft = α ∷ [] in
     -- [the loan; what the lender keeps; the token of α; the index's token; the index]
     let r' : MutBor WellFormed = record r { ghost_name = δ } in
+    let Found = OptionOf (MutRef (named 0) β V) in
+    let Is = λ (x : Found.Denot). option_map (λ found. found.now.tree) x ≡ tree_at r.now.tree step in
     let G = triple_of 𝓛 (g.signature I) (g.spec I gx dx gs ds gc dc 𝓛 𝓜.mem 𝓡.returns) in
     let z : G.Ghost = (((β, (κ', tt)), (full_share, (q', tt)), tt, (k, (r', tt)), (ks, (vs, tt))), tt) in
-    nothing ! $ move ! (1 ∷ 0 ∷ []) $ join ! $ move ! (4 ∷ 0 ∷ []) $ join ! $ nothing ! $ move ! (4 ∷ 0 ∷ []) $ join ! $
-    move ! (3 ∷ 0 ∷ []) $ join ! $ join ! $
-    use0 𝓛 (raw (fact 𝓤 (kind_of r.now.tree ≡ kind_for step))) (fact_i 𝓤 (kind_of r.now.tree ≡ kind_for step) (emp 𝓤) kind) $
-    use0 𝓛 (raw (fact 𝓤 (κ' ⊑ I.lives))) (fact_i 𝓤 (κ' ⊑ I.lives) (emp 𝓤) out) $ move ! (2 ∷ 0 ∷ 1 ∷ []) $
-    use3 𝓛 (raw (G.pre z)) (id⊢ 𝓤 _) $
+    move ! (4 ∷ 0 ∷ 2 ∷ 3 ∷ []) $ asks_both 𝓛 ! β κ' full_share q' (X.own_val k ks) (Ref β r') (κ' ⊑ I.lives) (G.pre z)
+    (raw (fact 𝓤 (kind_of r.now.tree ≡ kind_for step))) out (fact_i 𝓤 (kind_of r.now.tree ≡ kind_for step) (emp 𝓤) kind) (id⊢ 𝓤 _) $
     calls_at ! (framed 𝓤 𝓛.H 𝓜 𝓣) G (g-thm.met 𝓤 𝓛 𝓜 𝓡 (code.calls-ijson_value::value::index::ValueIndex::index_into_mut 𝓡.env wired) I LI
-    CI gx dx gs ds gc dc mx ms mc) z
-    (and_then ! (get ! refl) (and_then ! (get ! refl) (no_more !))) (λ v.
-    use1 𝓛 (later
-    (some (λ (x : Option (MutBor V.Denot)). ((‵ (flft β full_share) ⊛ ‵ (flft κ' q') ⊛ ‵ ftrue)
-    ⊛ ‵ ((OptionOf (MutRef (named 0) β V)).own_val x (v ∷ []))) ⊛
-    some (λ (ws : Unit {0} × (Unit {0} × Unit {0})). ‵ (lasts (g.ended I gx dx gs ds gc dc) (β, (κ', tt)) (k, (r', tt)) ws)
-    ⊛ ‵ (LendsInsideIf r' step x) ⊛ raw (fact 𝓤 (option_map (λ found. found.now.tree) x ≡ tree_at r.now.tree step)))))) (id⊢ 𝓤 _) $
-    await ! tt $ pick ! (λ x. split ! $ split ! $ split ! $ move ! (3 ∷ []) $
-    pick ! (λ ws. split ! $ drop ! $ split ! $ move ! (1 ∷ []) $ heard ! _ (λ found.
-    -- [what the loan follows; the token of α; the index's token; the answer; what the lender keeps]
-    by_option x
-    (λ none. let found' = subst (λ (x' : Option (MutBor V.Denot)). option_map (λ found. found.now.tree) x' ≡ tree_at r.now.tree step) none
-    found in
-    rewrite ! 0 (λ (x' : Option (MutBor V.Denot)). ‵ (LendsInsideIf r' step x')) none refl $
-    rewrite ! 3 (λ (x' : Option (MutBor V.Denot)). ‵ ((OptionOf (MutRef (named 0) β V)).own_val x' (v ∷ []))) none refl $
-    move ! (3 ∷ []) $ none_out ! (MutRef (named 0) β V) (v ∷ []) (λ at.
-    lands_as ! (ap only at) refl (tt, (record { fits = lit< tt }, tt)) $
+    CI gx dx gs ds gc dc mx ms mc) z (and_then ! (get ! refl) (and_then ! (get ! refl) (no_more !))) (λ v.
+    answered_both 𝓛 ! β κ' full_share q' tt Found v
+    (λ (ws : Unit {0} × (Unit {0} × Unit {0})). lasts (g.ended I gx dx gs ds gc dc) (β, (κ', tt)) (k, (r', tt)) ws)
+    (LendsInsideIf r' step) Is (G.post z v) (id⊢ 𝓤 _) (λ x found. option_out 𝓛 ! (MutRef (named 0) β V) (LendsInsideIf r' step) Is v x found
+    (λ none at. lands_as ! at refl (tt, (record { fits = lit< tt }, tt)) $
+    -- [what the loan follows; the token of α; the index's token; what the lender keeps]
     use1 𝓛 (‵ (fex ((z' : V.Denot) × (z' ≡ r.now)) (λ s. fres δ (V.coded.code s.0)))) (so_none 𝓛 V V (P None) (λ n. n ≡ r.now) δ) $
-    fpick ! (λ s.
-    move ! (1 ∷ []) $ lft_end ! tt $ move ! (0 ∷ 3 ∷ 1 ∷ []) $ use3 𝓛 (later (‵ (Ref κ (record r { now = s.0 })) ⊛ ‵ (flft κ q)))
-    (comes_back 𝓛 V (named 0) κ β q γ b o δ r.now s.0) $ await ! tt $ split ! $
+    fpick ! (λ s. move ! (1 ∷ []) $ lft_end ! tt $ move ! (0 ∷ 3 ∷ 1 ∷ []) $ back 𝓛 ! tt V κ q r α δ s.0 $
     -- [the value; its token; the index's token]
     first ! $ switches ! (get_tag ! (vrt ! refl (fld ! refl (stop !))) (whole !)) (
       (λ e. absurd (suc-ne-zero 0 (sym e))),
       (
         (λ _. skips ! $ exec ! 𝓣.C 𝓣.Λ (env fn.locals l) (after 3 fn.body) (at_ret (env fn.locals l) (W.post y)) $
             sets ! (of_opd ! (unit_lit !)) refl (tt, tt) $ returns ! (look_at ! 0 refl) $ free_all ! refl $
-            suffices ! _ (ends_at 𝓛 En hs c y vunit tt (s.0, (tt, tt)) (tt, (tt, tt))) $
-            says_two ! ((λ is. absurd (nowhere (tree_at r.now.tree step) found' is)), (λ _. s.1)) $
-            nothing ! $ nothing ! $ join ! $ move ! (1 ∷ 0 ∷ []) $ join ! $ move ! (1 ∷ 2 ∷ []) $ join ! $ frame ! $ frame ! $
-            feq_i ! _ (vunit ∷ []) _ refl $ done !),
+            ends s.0 (λ is. absurd (nowhere (tree_at r.now.tree step) none is)) (λ _. s.1)),
         (λ n. absurd (n.1 refl)),
       ),
-    ))))
-    (λ inner there. let found' = subst (λ (x' : Option (MutBor V.Denot)). option_map (λ found. found.now.tree) x' ≡ tree_at r.now.tree step)
-    there found in
-    rewrite ! 0 (λ (x' : Option (MutBor V.Denot)). ‵ (LendsInsideIf r' step x')) there refl $
-    rewrite ! 3 (λ (x' : Option (MutBor V.Denot)). ‵ ((OptionOf (MutRef (named 0) β V)).own_val x' (v ∷ []))) there refl $
-    move ! (3 ∷ []) $ Some-out ! (MutRef (named 0) β V) inner (v ∷ [])
-    (λ xs at. peeks ! (MutRef (named 0) β V) _ (shows 𝓛 (MutRef (named 0) β V)) inner xs (λ told. let is_at =
-    mut_Tells (named 0) β V inner xs told in
-    rewrite ! 0 (λ (us : List Val). ‵ ((MutRef (named 0) β V).own_val inner us)) is_at refl $
-    lands_as ! (ap only at ∙ ap (λ (us : List Val). live 1 (of_list (us ++ []))) is_at) refl (tt, (record { fits = lit< tt }, (tt, tt))) $
+    )))
+    (λ inner xs there at. is_ref 𝓛 ! V β inner xs (λ is_at.
+    lands_as ! (at ∙ ap (λ (us : List Val). live 1 (of_list (us ++ []))) is_at) refl (tt, (record { fits = lit< tt }, (tt, tt))) $
     -- [inner; what the loan follows; the token of α; the index's token; what the lender keeps]
     first ! $ switches ! (get_tag ! (vrt ! refl (fld ! refl (stop !))) (whole !)) (
       (λ _. sets ! (of_opd ! (get_in ! (vrt ! refl (fld ! refl (stop !))) (in_variant ! 1 0 refl refl (whole !)))) refl (tt, tt) $
           sets ! (addr ! (through ! refl (stop !))) refl (tt, tt) $
-          let H = triple_of 𝓛 h.signature (h.spec 𝓛 𝓜.mem 𝓡.returns) in
-          let z' : H.Ghost = (((β, tt), (full_share, tt), tt, (inner, tt), (mut_vals inner, tt)), tt) in
-          nothing ! $ move ! (1 ∷ 0 ∷ []) $ join ! $ nothing ! $ move ! (3 ∷ 0 ∷ []) $ join ! $ join ! $ nothing ! $ move ! (1 ∷ 0 ∷ []) $
-          use2 𝓛 (raw (H.pre z')) (id⊢ 𝓤 _) $
-          calls_at_last ! (framed 𝓤 𝓛.H 𝓜 𝓣) H (h-thm.met 𝓤 𝓛 𝓜 𝓡 (code.calls-ijson_extra::tests::lent::put_true 𝓡.env wired)) z'
-          (and_then ! (get ! refl) (no_more !)) (λ w.
-          use1 𝓛 (later (some (λ (u : Unit {0}). ((‵ (flft β full_share) ⊛ ‵ ftrue) ⊛ ‵ (unit.own_val u (w ∷ []))) ⊛
-          some (λ (ws : WellFormed × Unit {0}). ‵ (lasts h.ended (β, tt) (inner, tt) ws) ⊛ raw (fact 𝓤 (ws.0 ≡ boolean_value true))))))
-          (id⊢ 𝓤 _) $
-          await ! tt $ pick ! (λ u. split ! $ split ! $ split ! $ lft_end ! tt $ move ! (2 ∷ []) $
-          feq_l ! (λ is_unit. move ! (2 ∷ []) $ pick ! (λ ws. split ! $ move ! (1 ∷ []) $ heard ! _ (λ put. fsplit ! $ fsplit ! $
-          rewrite ! 0 (λ (n : WellFormed). ‵ (fres inner.ghost_name (V.coded.code n))) put refl $
-          -- [the loan's last value; its borrow; nothing; α is over; nothing; what the loan follows; the index's token; what the lender
-          -- keeps]
-          move ! (5 ∷ 0 ∷ []) $
+          move ! (0 ∷ 2 ∷ []) $ writes_last 𝓛 ! α inner (boolean_value true) (framed 𝓤 𝓛.H 𝓜 𝓣)
+          (triple_of 𝓛 h.signature (h.spec 𝓛 𝓜.mem 𝓡.returns))
+          (h-thm.met 𝓤 𝓛 𝓜 𝓡 (code.calls-ijson_extra::tests::lent::put_true 𝓡.env wired))
+          (((β, tt), (full_share, tt), tt, (inner, tt), (mut_vals inner, tt)), tt) (id⊢ 𝓤 _)
+          (and_then ! (get ! refl) (no_more !)) (λ w. id⊢ 𝓤 _) (λ w typed.
+          -- [α is over; the loan's last value; what the loan follows; the index's token; what the lender keeps]
+          move ! (2 ∷ 1 ∷ []) $
           use2 𝓛 (‵ (fex ((z'' : V.Denot) × P (Some inner) (boolean_value true) z'') (λ s. fres δ (V.coded.code s.0))))
           (so_some 𝓛 V V (P (Some inner)) (λ n. n ≡ r.now) δ inner.ghost_name (boolean_value true)) $ fpick ! (λ s.
-          move ! (3 ∷ 6 ∷ 0 ∷ []) $ use3 𝓛 (later (‵ (Ref κ (record r { now = s.0 })) ⊛ ‵ (flft κ q)))
-          (comes_back 𝓛 V (named 0) κ β q γ b o δ r.now s.0) $ await ! tt $ split ! $
-          lands_last ! refl (subst (λ (t' : Val). T (has_ty ty_unit t') × WT t') (sym (ap only is_unit)) (tt, tt)) $
+          move ! (1 ∷ 3 ∷ 0 ∷ []) $ back 𝓛 ! tt V κ q r α δ s.0 $ lands_last ! refl typed $
           exec ! 𝓣.C 𝓣.Λ (env fn.locals l) (after 3 fn.body) (at_ret (env fn.locals l) (W.post y)) $
-          sets ! (of_opd ! (unit_lit !)) refl (tt, tt) $ returns ! (look_at ! 0 refl) $ free_all ! refl $ keep ! (0 ∷ 1 ∷ 5 ∷ []) $
-          suffices ! _ (ends_at 𝓛 En hs c y vunit tt (s.0, (tt, tt)) (tt, (tt, tt))) $
-          says_two ! ((λ _. s.1), (λ is. no_value (sym is ∙ sym found'))) $
-          nothing ! $ nothing ! $ join ! $ move ! (1 ∷ 0 ∷ []) $ join ! $ move ! (1 ∷ 2 ∷ []) $ join ! $ frame ! $ frame ! $
-          feq_i ! _ (vunit ∷ []) _ refl $ done !))))))),
+          sets ! (of_opd ! (unit_lit !)) refl (tt, tt) $ returns ! (look_at ! 0 refl) $ free_all ! refl $
+          ends s.0 (λ _. s.1) (λ is. no_value (sym is ∙ sym there))))),
       ((λ e. absurd (suc-ne-zero 0 e)), (λ n. absurd (n.0.1 refl))),
-    ))))))))))))))
+    ))))))))))

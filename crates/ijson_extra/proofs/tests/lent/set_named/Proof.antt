@@ -1,20 +1,16 @@
 -- A caller that writes where a pointer leads. Assumes `Logic`.
 use Rattle.ijson_value.proofs.lends.Steps.{◌≡◌, ℕ, List, [], ◌∷◌, refl, sym, ap, subst, ◌∙◌, lit<, MutBor, Bor, proved, full_share, id⊢}
-use Rattle.ijson_value.proofs.lends.Steps.{GName, Lft, ftrue, flft, fres, fex, named, Val, vunit, fact, tables, ‵, raw, ◌⊛◌, some, later}
-use Rattle.ijson_value.proofs.lends.Steps.{at_ret, ◌$◌, ◌∵◌, !, qed, done, move, keep, drop, use1, use2, use3, split, join, rewrite, fsplit}
-use Rattle.ijson_value.proofs.lends.Steps.{fpick, feq_i, feq_l, pick, await, suffices, frame, enter, of_opd, addr, unit_lit, fld, stop}
-use Rattle.ijson_value.proofs.lends.Steps.{no_more, and_then, first, skips, exec, returns, alloc_all, pass_all, free_all, look_at, get}
-use Rattle.ijson_value.proofs.lends.Steps.{get_in, get_tag, through, sets, lands_as, lands_last, env, unit, yes, shows, RattleType, MutRef}
-use Rattle.ijson_value.proofs.lends.Steps.{mut_vals, mut_Tells, plain, nothing, heard, peeks, only, whole, vrt, calls_at, lasts, triple_of}
-use Rattle.ijson_value.proofs.lends.Steps.{Stays, walk_of, stay_dropped, stay_ref, Goes-dropped, Goes-ref, ends_at, framed, lends_again}
-use Rattle.ijson_value.proofs.lends.Steps.{comes_back, LentAgain, lft_new, lft_end, live}
+use Rattle.ijson_value.proofs.lends.Steps.{Lft, ftrue, flft, fres, fex, named, Val, vunit, fact, tables, ‵, raw, ◌⊛◌, some, later, at_ret}
+use Rattle.ijson_value.proofs.lends.Steps.{◌$◌, ◌∵◌, !, qed, done, move, keep, drop, use1, use2, split, join, rewrite, fpick, feq_i, pick}
+use Rattle.ijson_value.proofs.lends.Steps.{await, suffices, frame, enter, of_opd, addr, unit_lit, fld, stop, no_more, and_then, first}
+use Rattle.ijson_value.proofs.lends.Steps.{skips, exec, returns, alloc_all, pass_all, free_all, look_at, get, get_in, get_tag, through}
+use Rattle.ijson_value.proofs.lends.Steps.{sets, lands_as, lands_last, env, yes, RattleType, MutRef, mut_vals, mut_Tells, plain, nothing}
+use Rattle.ijson_value.proofs.lends.Steps.{heard, only, whole, vrt, calls_at, lasts, triple_of, Stays, walk_of, stay_dropped, stay_ref}
+use Rattle.ijson_value.proofs.lends.Steps.{Goes-dropped, Goes-ref, ends_at, framed, lft_end, live, Sq, prop}
 use types.Match.{in_variant}
 use types.Run.{switches}
-use denote.Triple.Call.{calls_at_last}
 use mathlib.Core.List.{◌++◌}
-use lib.Dec.{T}
-use mir.Syntax.{ty_unit}
-use mir.Val.{WT, has_ty, of_list}
+use mir.Val.{of_list}
 use native.Mathlib.Nat.{suc-ne-zero}
 use denote.Text.{Str, StrRefOf, str-laws}
 use denote.Slice.{shr_slice_vals}
@@ -27,9 +23,11 @@ use Rattle.ijson_value.specs.Tree.{Tree, boolean}
 use Rattle.ijson_value.specs.Values.{boolean_value}
 use Rattle.ijson_value.specs.WellFormed.{WellFormed}
 use Rattle.ijson_value.specs.contracts.value.IValue.{the_row as V}
+use Rattle.ijson_value.proofs.lends.Called.{lent, back}
 use Rattle.ijson_value.proofs.lends.LentOn.{so_none, so_some}
 use Rattle.ijson_value.proofs.lends.Variants.{by_option, none_out, Some-out}
 use Rattle.ijson_extra.proofs.lends.Results.{by_result, Ok-out, Err-out, syntax_out}
+use Rattle.ijson_extra.proofs.test_lemmas.LentPart.{is_ref, writes_last}
 use Rattle.ijson_extra.specs.LendsNamedValue.{LendsNamedValue, IfLent}
 use Rattle.ijson_extra.specs.Pointer.{resolved, resolved_with}
 use Rattle.ijson_extra.specs.private.Walked.{tree_lent}
@@ -64,19 +62,23 @@ set_named_spec 𝓤 𝓛 𝓜 𝓡 wired =
     (λ κs. (mut_vals, (shr_slice_vals, tt)))
     (λ κs. (mut_Tells (named 0) κs.0 V, ((str-laws (record { mir = named 1; lft = κs.1.0 })).tells, tt))) (λ κs qs bounds a gh are.
     let κ = κs.0 in let q = qs.0 in let κ' = κs.1.0 in let q' = qs.1.0 in let r = a.0 in let p : Bor (List ℕ) = a.1.0 in
-    let b = r.ref_ptr.0 in let o = r.ref_ptr.1 in let γ = r.ghost_name in let vs = mut_vals r in let ps : List Val = shr_slice_vals p in
-    let S : RattleType = Str (named 1) κ' in let at : NamedLft = record { mir = named 1; lft = κ' } in
+    let vs = mut_vals r in let ps : List Val = shr_slice_vals p in let S : RattleType = Str (named 1) κ' in
+    let at : NamedLft = record { mir = named 1; lft = κ' } in
     let found : Option (Option Tree) = resolved r.now.tree p.now in let put : Tree = resolved_with r.now.tree p.now (boolean true) in
     let y : W.Ghost = ((κs, qs, bounds, a, (vs, (ps, tt))), gh) in
     let Ref = λ (β : List ℕ) (x : MutBor WellFormed). (MutRef (named 0) β V).own_val x vs in
+    let ends : (n : WellFormed) → ((t : Tree) → found ≡ Some (Some t) → n.tree ≡ put)
+    → (((t : Tree) → found ≡ Some (Some t) → ⊥) → n.tree ≡ r.now.tree)
+    → Sq 𝓛 (‵ (Ref κ (record r { now = n })) ∷ ‵ (flft κ q) ∷ (‵ (flft κ' q') ⊛ ‵ ftrue) ∷ []) (prop (W.post y vunit)) = λ n there missing.
+    suffices ! _ (ends_at 𝓛 f.ended stayed c y vunit tt (n, (tt, tt)) (tt, (tt, tt))) $ says_two ! (there, missing) $
+    nothing ! $ nothing ! $ join ! $ move ! (1 ∷ 0 ∷ []) $ join ! $ move ! (1 ∷ 2 ∷ []) $ join ! $ frame ! $ frame ! $
+    feq_i ! _ (vunit ∷ []) _ refl $ done ! in
     qed 𝓛 (((‵ (flft κ q) ⊛ ‵ (flft κ' q') ⊛ ‵ ftrue) ⊛ ‵ (Ref κ r) ⊛ ‵ (S.own_val p ps) ⊛ ‵ ftrue) ∷ ‵ ftrue ∷ []) ∵
     split ! $ split ! $ move ! (1 ∷ []) $ split ! $ move ! (3 ∷ []) $ split ! $ move ! (1 ∷ []) $ split ! $ keep ! (2 ∷ 5 ∷ 3 ∷ 0 ∷ []) $
     enter ! _ _ _ _ _ $ alloc_all ! (λ l. pass_all ! refl ((tt, tt), ((((str-laws at).lawful 𝓛).typed p ps are.1.0).0, tt)) $
     -- [value; its token; the text's token; the text]
     sets ! (addr ! (through ! refl (stop !))) refl (tt, tt) $
-    lft_new ! tt (λ α. move ! (1 ∷ 2 ∷ []) $ let β : Lft = α ∷ [] in let Out : RattleType = ResultOf (OptionOf (MutRef (named 0) β V)) E in
-    use2 𝓛 (later (some (λ (δ : GName). ‵ (Ref β (record r { ghost_name = δ })) ⊛ ‵ (LentAgain V κ β q γ b o δ r.now))))
-    (lends_again 𝓛 V (named 0) κ β q γ b o (named 0) r.now) $ await ! tt $ pick ! (λ δ. split ! $
+    lent 𝓛 ! tt V κ q r (λ α δ. let β : Lft = α ∷ [] in let Out : RattleType = ResultOf (OptionOf (MutRef (named 0) β V)) E in
     -- [the loan; what the lender keeps; the token of α; the text's token; the text]
     let r' : MutBor WellFormed = record r { ghost_name = δ } in
     let P = λ (x : Lent) (w n : WellFormed). IfLent x (n.tree ≡ resolved_with r.now.tree p.now w.tree) in
@@ -106,8 +108,7 @@ set_named_spec 𝓤 𝓛 𝓜 𝓡 wired =
     lands_as ! (ap only ok_at ∙ ap (λ (xs : List Val). live 0 (of_list (xs ++ []))) none_at) refl
     (tt, (record { fits = lit< tt }, ((record { fits = lit< tt }, tt), tt))) $
     use1 𝓛 (‵ (fex ((z' : V.Denot) × P₀ z') (λ s. fres δ (V.coded.code s.0)))) (so_none 𝓛 V V (P (Ok None)) P₀ δ) $ fpick ! (λ s.
-    move ! (1 ∷ []) $ lft_end ! tt $ move ! (0 ∷ 3 ∷ 1 ∷ []) $ use3 𝓛 (later (‵ (Ref κ (record r { now = s.0 })) ⊛ ‵ (flft κ q)))
-    (comes_back 𝓛 V (named 0) κ β q γ b o δ r.now s.0) $ await ! tt $ split ! $
+    move ! (1 ∷ []) $ lft_end ! tt $ move ! (0 ∷ 3 ∷ 1 ∷ []) $ back 𝓛 ! tt V κ q r α δ s.0 $
     -- [value; its token; the text's token]
     first ! $ switches ! (get_tag ! (vrt ! refl (fld ! refl (stop !))) (whole !)) (
       (λ _. sets ! (of_opd ! (get_in ! (vrt ! refl (fld ! refl (stop !))) (in_variant ! 0 0 refl refl (whole !)))) refl
@@ -117,10 +118,7 @@ set_named_spec 𝓤 𝓛 𝓜 𝓡 wired =
             (
               (λ _. skips ! $ exec ! 𝓣.C 𝓣.Λ (env code.Mir.locals l) code.Mir.t-4 (at_ret (env code.Mir.locals l) (W.post y)) $
                   sets ! (of_opd ! (unit_lit !)) refl (tt, tt) $ returns ! (look_at ! 0 refl) $ free_all ! refl $
-                  suffices ! _ (ends_at 𝓛 f.ended stayed c y vunit tt (s.0, (tt, tt)) (tt, (tt, tt))) $
-                  says_two ! ((λ t e. none_there found told' e), (λ _. s.1)) $
-                  nothing ! $ nothing ! $ join ! $ move ! (1 ∷ 0 ∷ []) $ join ! $ move ! (1 ∷ 2 ∷ []) $ join ! $ frame ! $ frame ! $
-                  feq_i ! _ (vunit ∷ []) _ refl $ done !),
+                  ends s.0 (λ t e. none_there found told' e) (λ _. s.1)),
               (λ n. absurd (n.1 refl)),
             ),
           )),
@@ -132,9 +130,7 @@ set_named_spec 𝓤 𝓛 𝓜 𝓡 wired =
     rewrite ! 3 (λ (x' : Lent). ‵ (Out.own_val x' (v ∷ []))) is' refl $
     move ! (3 ∷ []) $ Ok-out ! (OptionOf (MutRef (named 0) β V)) E (Some inner) (v ∷ [])
     (λ us ok_at. Some-out ! (MutRef (named 0) β V) inner us
-    (λ xs at'. peeks ! (MutRef (named 0) β V) _ (shows 𝓛 (MutRef (named 0) β V)) inner xs (λ seen. let is_at =
-    mut_Tells (named 0) β V inner xs seen in
-    rewrite ! 0 (λ (us' : List Val). ‵ ((MutRef (named 0) β V).own_val inner us')) is_at refl $
+    (λ xs at'. is_ref 𝓛 ! V β inner xs (λ is_at.
     lands_as ! (ap only ok_at ∙ ap (λ (us' : List Val). live 0 (of_list (us' ++ []))) (at'
     ∙ ap (λ (ws' : List Val). live 1 (of_list (ws' ++ [])) ∷ []) is_at)) refl
     (tt, (record { fits = lit< tt }, ((record { fits = lit< tt }, (tt, tt)), tt))) $
@@ -147,31 +143,17 @@ set_named_spec 𝓤 𝓛 𝓜 𝓡 wired =
                 sets ! (addr ! (through ! refl (stop !))) refl (tt, tt) $
                 let H = triple_of 𝓛 h.signature (h.spec 𝓛 𝓜.mem 𝓡.returns) in
                 let z' : H.Ghost = (((β, tt), (full_share, tt), tt, (inner, tt), (mut_vals inner, tt)), tt) in
-                nothing ! $ move ! (1 ∷ 0 ∷ []) $ join ! $ nothing ! $ move ! (3 ∷ 0 ∷ []) $ join ! $ join ! $ nothing ! $
-                move ! (1 ∷ 0 ∷ []) $
-                use2 𝓛 (raw (H.pre z')) (id⊢ 𝓤 _) $
-                calls_at_last ! (framed 𝓤 𝓛.H 𝓜 𝓣) H (h-thm.met 𝓤 𝓛 𝓜 𝓡 (code.calls-ijson_extra::tests::lent::put_true 𝓡.env wired)) z'
-                (and_then ! (get ! refl) (no_more !)) (λ w.
-                use1 𝓛 (later (some (λ (u : Unit {0}). ((‵ (flft β full_share) ⊛ ‵ ftrue) ⊛ ‵ (unit.own_val u (w ∷ []))) ⊛
-                some (λ (ws : WellFormed × Unit {0}). ‵ (lasts h.ended (β, tt) (inner, tt) ws)
-                ⊛ raw (fact 𝓤 (ws.0 ≡ boolean_value true)))))) (id⊢ 𝓤 _) $
-                await ! tt $ pick ! (λ u. split ! $ split ! $ split ! $ lft_end ! tt $ move ! (2 ∷ []) $
-                feq_l ! (λ is_unit. move ! (2 ∷ []) $ pick ! (λ ws. split ! $ move ! (1 ∷ []) $ heard ! _ (λ written. fsplit ! $ fsplit ! $
-                rewrite ! 0 (λ (n : WellFormed). ‵ (fres inner.ghost_name (V.coded.code n))) written refl $
-                -- [the loan's last value; its borrow; nothing; α is over; nothing; what the loan follows; the text's token; what the
-                -- lender keeps]
-                move ! (5 ∷ 0 ∷ []) $ use2 𝓛
+                move ! (0 ∷ 2 ∷ []) $ writes_last 𝓛 ! α inner (boolean_value true) (framed 𝓤 𝓛.H 𝓜 𝓣) H
+                (h-thm.met 𝓤 𝓛 𝓜 𝓡 (code.calls-ijson_extra::tests::lent::put_true 𝓡.env wired)) z' (id⊢ 𝓤 _)
+                (and_then ! (get ! refl) (no_more !)) (λ w. id⊢ 𝓤 _) (λ w typed.
+                -- [α is over; the loan's last value; what the loan follows; the text's token; what the lender keeps]
+                move ! (2 ∷ 1 ∷ []) $ use2 𝓛
                 (‵ (fex ((z'' : V.Denot) × P (Ok (Some inner)) (boolean_value true) z'') (λ s. fres δ (V.coded.code s.0))))
                 (so_some 𝓛 V V (P (Ok (Some inner))) P₀ δ inner.ghost_name (boolean_value true)) $ fpick ! (λ s.
-                move ! (3 ∷ 6 ∷ 0 ∷ []) $ use3 𝓛 (later (‵ (Ref κ (record r { now = s.0 })) ⊛ ‵ (flft κ q)))
-                (comes_back 𝓛 V (named 0) κ β q γ b o δ r.now s.0) $ await ! tt $ split ! $
-                lands_last ! refl (subst (λ (t' : Val). T (has_ty ty_unit t') × WT t') (sym (ap only is_unit)) (tt, tt)) $
+                move ! (1 ∷ 3 ∷ 0 ∷ []) $ back 𝓛 ! tt V κ q r α δ s.0 $ lands_last ! refl typed $
                 exec ! 𝓣.C 𝓣.Λ (env code.Mir.locals l) code.Mir.t-4 (at_ret (env code.Mir.locals l) (W.post y)) $
-                sets ! (of_opd ! (unit_lit !)) refl (tt, tt) $ returns ! (look_at ! 0 refl) $ free_all ! refl $ keep ! (0 ∷ 1 ∷ 5 ∷ []) $
-                suffices ! _ (ends_at 𝓛 f.ended stayed c y vunit tt (s.0, (tt, tt)) (tt, (tt, tt))) $
-                says_two ! ((λ t e. s.1), (λ never. absurd (never inner.now.tree (sym told')))) $
-                nothing ! $ nothing ! $ join ! $ move ! (1 ∷ 0 ∷ []) $ join ! $ move ! (1 ∷ 2 ∷ []) $ join ! $ frame ! $ frame ! $
-                feq_i ! _ (vunit ∷ []) _ refl $ done !))))))),
+                sets ! (of_opd ! (unit_lit !)) refl (tt, tt) $ returns ! (look_at ! 0 refl) $ free_all ! refl $
+                ends s.0 (λ t e. s.1) (λ never. absurd (never inner.now.tree (sym told')))))),
             ((λ e. absurd (suc-ne-zero 0 e)), (λ n. absurd (n.0.1 refl))),
           )),
       ((λ e. absurd (suc-ne-zero 0 (sym e))), (λ n. absurd (n.0.1 refl))),
@@ -183,18 +165,14 @@ set_named_spec 𝓤 𝓛 𝓜 𝓡 wired =
     lands_as ! (ap only err_at ∙ ap (λ (xs : List Val). live 1 (of_list (xs ++ []))) why_at) refl
     (tt, (record { fits = lit< tt }, ((record { fits = lit< tt }, tt), tt))) $
     use1 𝓛 (‵ (fex ((z' : V.Denot) × P₀ z') (λ s. fres δ (V.coded.code s.0)))) (so_none 𝓛 V V (P (Err why)) P₀ δ) $ fpick ! (λ s.
-    move ! (1 ∷ []) $ lft_end ! tt $ move ! (0 ∷ 3 ∷ 1 ∷ []) $ use3 𝓛 (later (‵ (Ref κ (record r { now = s.0 })) ⊛ ‵ (flft κ q)))
-    (comes_back 𝓛 V (named 0) κ β q γ b o δ r.now s.0) $ await ! tt $ split ! $
+    move ! (1 ∷ []) $ lft_end ! tt $ move ! (0 ∷ 3 ∷ 1 ∷ []) $ back 𝓛 ! tt V κ q r α δ s.0 $
     -- [value; its token; the text's token]
     first ! $ switches ! (get_tag ! (vrt ! refl (fld ! refl (stop !))) (whole !)) (
       (λ e. absurd (suc-ne-zero 0 e)),
       (
         (λ _. skips ! $ exec ! 𝓣.C 𝓣.Λ (env code.Mir.locals l) code.Mir.t-4 (at_ret (env code.Mir.locals l) (W.post y)) $
             sets ! (of_opd ! (unit_lit !)) refl (tt, tt) $ returns ! (look_at ! 0 refl) $ free_all ! refl $
-            suffices ! _ (ends_at 𝓛 f.ended stayed c y vunit tt (s.0, (tt, tt)) (tt, (tt, tt))) $
-            says_two ! ((λ t e. not_pointer found told e), (λ _. s.1)) $
-            nothing ! $ nothing ! $ join ! $ move ! (1 ∷ 0 ∷ []) $ join ! $ move ! (1 ∷ 2 ∷ []) $ join ! $ frame ! $ frame ! $
-            feq_i ! _ (vunit ∷ []) _ refl $ done !),
+            ends s.0 (λ t e. not_pointer found told e) (λ _. s.1)),
         (λ n. absurd (n.1 refl)),
       ),
-    ))))))))))))))
+    )))))))))))))

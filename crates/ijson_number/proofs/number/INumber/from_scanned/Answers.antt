@@ -15,6 +15,7 @@ use Rattle.ijson_number.proofs.storing.FormCases.{long_form}
 use Rattle.ijson_number.proofs.parsing.Scanning.{count_is, joined}
 use Rattle.ijson_number.proofs.storing.WholeValues.{large_mantissa, times_one}
 use Rattle.ijson_number.proofs.number.INumber.from_scanned.Goals as goal
+use Rattle.ijson_number.proofs.number.INumber.from_scanned.Goals.{After-as_slice}
 
 -- digits for which there is no room are no word
 many_form : (s : Scanned) → IsScanned s → 20 < length s.front.now + length s.back.now
@@ -46,26 +47,34 @@ returns-then-scanned-clause-number c =
     let s = c.args.scanned.now in
     form_has (scanned_number s) _ c.requires.num.plain (c.in_ok-stored.ensures ∙ sym (many_form s c.requires (omega arith)))
 
-pub invariant_of-number : goal.invariant_of-number
-invariant_of-number c =
+-- the digits that are stored are those of the text,
+digits_are : (c : After-as_slice) → c.as_slice.result.now ≡ scanned_digits c.args.scanned.now
+digits_are c =
     let s = c.args.scanned.now in
-    let fits : FitsSigned w32 s.exponent = search rules in
-    let is = c.as_slice.ensures.value
+    c.as_slice.ensures.value
     ∙ joined s.front.now s.back.now c.push_in_place.new.digits.items c.push_in_place-2.new.digits.items
     (c.push_in_place.ensures.items
-    ∙ ap (λ x. x ++ digits_from_text s.front.now) c.new-digits.ensures) c.push_in_place-2.ensures.items in
-    record { num = rw (is, to_z-of_z w32 s.exponent fits) c.requires.num; stripped = rw is c.requires.stored }
+    ∙ ap (λ x. x ++ digits_from_text s.front.now) c.new-digits.ensures) c.push_in_place-2.ensures.items
+
+-- and the exponent is its exponent
+exponent_is : (c : After-as_slice) → let e = c.args.scanned.now.exponent in
+    to_z w32 (of_z w32 e) ≡ e
+exponent_is c =
+    let e = c.args.scanned.now.exponent in
+    let fits : FitsSigned w32 e = search rules in
+    to_z-of_z w32 e fits
+
+pub invariant_of-number : goal.invariant_of-number
+invariant_of-number c =
+    let at = (goal.at.invariant_of-number c).After-as_slice in
+    record { num = rw (digits_are at, exponent_is at) c.requires.num; stripped = rw (digits_are at) c.requires.stored }
 
 pub returns : goal.returns
 returns c =
     let s = c.args.scanned.now in
-    let fits : FitsSigned w32 s.exponent = search rules in
-    let is = c.as_slice.ensures.value
-    ∙ joined s.front.now s.back.now c.push_in_place.new.digits.items c.push_in_place-2.new.digits.items
-    (c.push_in_place.ensures.items
-    ∙ ap (λ x. x ++ digits_from_text s.front.now) c.new-digits.ensures) c.push_in_place-2.ensures.items in
+    let at = (goal.at.returns c).After-as_slice in
     let number : stored_number s.negative c.as_slice.result.now (to_z w32 (of_z w32 s.exponent)) s.point ≡ scanned_number s =
-    rw (is, to_z-of_z w32 s.exponent fits) refl in
+    rw (digits_are at, exponent_is at) refl in
     record {
       number = subst (λ (n : Decimal). IfOk c.from_stripped.result (λ (m : Num). m.decimal ≡ n)) number c.from_stripped.ensures.number;
       refused = subst (λ (n : Decimal). OnErr c.from_stripped.result (is_digits (form_of n) ≡ true)) number c.from_stripped.ensures.refused;

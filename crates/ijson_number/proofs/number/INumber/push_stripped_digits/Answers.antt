@@ -12,21 +12,13 @@ returns-in-Short c =
     let n = c.stripped.result in
     let view = c.stripped.ensures.number ∙ ap (λ (x : ShortNumber). form_number (short_form x)) c.deref.ensures
     ∙ sym (ap stored_decimal c.in-Short.is) ∙ ap (λ (x : Num). x.decimal) c.self.view_is in
-    let digits = row_digits n.negative n.digits.now n.exponent n.point c.args.self.now.decimal view n.stripped in
-    record {
-      digits = rw (← digits) c.push_row.ensures.written;
-      exponent = search rules;
-      refused = rw (← digits) c.push_row.ensures.refused;
-    }
+    rw (← row_digits n.negative n.digits.now n.exponent n.point c.args.self.now.decimal view n.stripped)
+    (record { digits = c.push_row.ensures.written; exponent = search rules; refused = c.push_row.ensures.refused })
 
 pub returns-in-Long : goal.returns-in-Long
 returns-in-Long c =
     let n = c.stripped-in-Long.result in
     let view = c.stripped-in-Long.ensures ∙ ap (λ (x : LongNumber). form_number (long_form x)) c.deref-in-Long.ensures
     ∙ sym (ap stored_decimal c.in-Long.is) ∙ ap (λ (x : Num). x.decimal) c.self.view_is in
-    let digits = row_digits n.negative n.digits.now n.exponent n.point c.args.self.now.decimal view n.stripped in
-    record {
-      digits = rw (← digits) c.push_runs.ensures.written;
-      exponent = search rules;
-      refused = rw (← digits) c.push_runs.ensures.refused;
-    }
+    rw (← row_digits n.negative n.digits.now n.exponent n.point c.args.self.now.decimal view n.stripped)
+    (record { digits = c.push_runs.ensures.written; exponent = search rules; refused = c.push_runs.ensures.refused })

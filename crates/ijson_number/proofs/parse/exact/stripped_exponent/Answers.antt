@@ -8,6 +8,7 @@ use Rattle.ijson_number.specs.Strips.{signed}
 use Rattle.ijson_number.specs.Grammar.{value}
 use Rattle.ijson_number.proofs.parsing.Exponents.{capped_within, w32_within, within_capped}
 use Rattle.ijson_number.proofs.parse.exact.stripped_exponent.Goals as goal
+use Rattle.ijson_number.proofs.parse.exact.stripped_exponent.Goals.{After-written_exponent}
 use Rattle.ijson_number.proofs.parse.exact.stripped_exponent.Goals.{then-exponent-via-then-exponent}
 use Rattle.ijson_number.proofs.parse.exact.stripped_exponent.Goals.{then-exponent-via-else-exponent+then-exponent-gt-EXPONENT_LIMIT}
 
@@ -29,16 +30,24 @@ sum_is negative v f t w few many is =
     let h : FitsSigned w128 (w +ℤ (pos t -ℤ pos f)) = omega (arith, ints) in
     rw (x, y, to_z-of_z w128 (pos t -ℤ pos f) d, to_z-of_z w128 w g) (to_z-of_z w128 (w +ℤ (pos t -ℤ pos f)) h)
 
+-- what the sum is, with the places of the fraction that is there
+sum_at : (c : After-written_exponent) → let w : ℤ = c.written_exponent.result in
+    let tens = c.args.tens in
+    let places = length c.args.tail.now.fraction.now in
+    to_z w128 (of_z w128 (to_z w128 (of_z w128 w) +ℤ to_z w128 (of_z w128 (to_z w128 tens -ℤ to_z w128 places))))
+    ≡ w +ℤ (pos tens -ℤ pos places)
+sum_at c =
+    let tail = c.args.tail.now in
+    sum_is tail.negative (value tail.exponent.now) (length tail.fraction.now) c.args.tens c.written_exponent.result (grind arith)
+    c.requires.tens c.written_exponent.ensures
+
 pub returns-then-exponent-clause-none : goal.returns-then-exponent-clause-none
 returns-then-exponent-clause-none c = λ h.
     let tail = c.args.tail.now in
-    let v = value tail.exponent.now in
-    let f = length tail.fraction.now in
     let w : ℤ = c.written_exponent.result in
-    let small : f < 2 ^ 64 = grind arith in
-    let is = c.written_exponent.ensures in
-    let exact = sum_is tail.negative v f c.args.tens w small c.requires.tens is in
-    let within = within_capped tail.negative v f c.args.tens w (w +ℤ (pos c.args.tens -ℤ pos f)) small c.requires.tens is refl h in
+    let exact = sum_at (goal.at.returns-then-exponent-clause-none c).After-written_exponent in
+    let within = within_capped tail.negative (value tail.exponent.now) (length tail.fraction.now) c.args.tens w
+    (w +ℤ (pos c.args.tens -ℤ pos (length tail.fraction.now))) (grind arith) c.requires.tens c.written_exponent.ensures refl h in
     let low = within.0 in
     let high = within.1 in
     elim c.then-exponent.branch [
@@ -50,14 +59,14 @@ returns-then-exponent-clause-none c = λ h.
 pub returns-clause-some : goal.returns-clause-some
 returns-clause-some c =
     let tail = c.args.tail.now in
-    let v = value tail.exponent.now in
-    let f = length tail.fraction.now in
     let w : ℤ = c.written_exponent.result in
-    let small : f < 2 ^ 64 = grind arith in
-    let is = c.written_exponent.ensures in
-    let e : ℤ = w +ℤ (pos c.args.tens -ℤ pos f) in
-    let exact = sum_is tail.negative v f c.args.tens w small c.requires.tens is in
+    let e : ℤ = w +ℤ (pos c.args.tens -ℤ pos (length tail.fraction.now)) in
+    let exact = sum_at (goal.at.returns-clause-some c).After-written_exponent in
     let low = c.if-exponent.false in
     let high = c.if-exponent-gt-EXPONENT_LIMIT.false in
     let within : IsWithin e = (omega (arith, ints, exact, low), omega (arith, ints, exact, high)) in
-    rw (exact, w32_within e within) (capped_within tail.negative v f c.args.tens w e small c.requires.tens is refl within, within)
+    rw (exact, w32_within e within) (
+      capped_within tail.negative (value tail.exponent.now) (length tail.fraction.now) c.args.tens w e (grind arith) c.requires.tens
+          c.written_exponent.ensures refl within,
+      within,
+    )

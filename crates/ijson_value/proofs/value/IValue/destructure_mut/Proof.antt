@@ -1,12 +1,18 @@
 -- A value lends the part that it has, by a call for each kind. Assumes `Logic`.
-use Rattle.ijson_value.proofs.lends.Steps.{◌≡◌, ℕ, List, [], ◌∷◌, refl, sym, ap, ◌∙◌, lit<, MutBor, proved, full_share, id⊢, Lft}
-use Rattle.ijson_value.proofs.lends.Steps.{ftrue, flft, fres, named, Val, fact, tables, ‵, raw, ◌⊛◌, some, later, at_ret, ◌$◌, ◌∵◌, !, qed}
-use Rattle.ijson_value.proofs.lends.Steps.{done, move, keep, use0, use1, use2, split, join, rewrite, fsplit, fsplit3, fjoin, pick}
-use Rattle.ijson_value.proofs.lends.Steps.{await, suffices, frame, enter, of_opd, lit, addr, fld, stop, no_more, and_then, first, exec}
-use Rattle.ijson_value.proofs.lends.Steps.{returns, alloc_all, pass_all, free_all, look_at, get, get_tag, through, sets, sets_last}
-use Rattle.ijson_value.proofs.lends.Steps.{lands_as, agg, env, no, MutRef, mut_vals, mut_Tells, plain, mut_ref_to, nothing, heard, only}
-use Rattle.ijson_value.proofs.lends.Steps.{whole, vrt, mut_ref_laws, calls_at, lasts, triple_of, Stays, walk_of, says, stay_dropped}
-use Rattle.ijson_value.proofs.lends.Steps.{Goes-spent_ref, ends_at, framed, lft_end, Sq, prop}
+use Rattle.ijson_value.proofs.lends.Steps.{◌≡◌, ℕ, List, [], ◌∷◌, refl, sym, ap, ◌∙◌, lit<, MutBor, proved, full_share, id⊢, Lft, ftrue}
+use Rattle.ijson_value.proofs.lends.Steps.{flft, fres, named, Val, fact, tables, ‵, raw, ◌⊛◌, some, later, at_ret, ◌$◌, ◌∵◌, !, qed, done}
+use Rattle.ijson_value.proofs.lends.Steps.{move, keep, use1, use2, split, join, rewrite, fsplit, fsplit3, fjoin, pick, await, suffices}
+use Rattle.ijson_value.proofs.lends.Steps.{frame, enter, of_opd, lit, addr, fld, stop, no_more, and_then, first, exec, returns, alloc_all}
+use Rattle.ijson_value.proofs.lends.Steps.{pass_all, free_all, look_at, get, get_tag, through, sets, sets_last, lands_as, agg, env, no}
+use Rattle.ijson_value.proofs.lends.Steps.{MutRef, mut_vals, mut_Tells, plain, mut_ref_to, nothing, heard, only, whole, vrt, mut_ref_laws}
+use Rattle.ijson_value.proofs.lends.Steps.{calls_at, lasts, triple_of, Stays, walk_of, says, stay_dropped, Goes-spent_ref, ends_at, framed}
+use Rattle.ijson_value.proofs.lends.Steps.{lft_end, Sq, peeks, shows}
+use types.ByLocal.{forget_but, holding}
+use types.Kit.{drop, post, prop}
+use types.Logic.{sem}
+use prog.Wp.{Wp}
+use base.Fml.{Fml}
+use base.Logic.{ent}
 use types.Match.{live}
 use types.Run.{switches}
 use mir.Val.{of_list}
@@ -28,10 +34,12 @@ use Rattle.ijson_value.specs.declared.value.ValueType.{ValueType}
 use Rattle.ijson_value.specs.declared.value.ValueType.TheVariants as kind
 use Rattle.ijson_value.specs.declared.value.destructure.DestructuredMut.TheVariants as parts
 use Rattle.ijson_value.proofs.value.destructure.BoolMut.TheLaws.{the_row_laws as bool_laws}
-use Rattle.ijson_value.proofs.lends.Called.{apart, past, asks, answered, lent, back}
+use Rattle.ijson_value.proofs.lends.Called.{apart, past, lent, back}
+use Rattle.ijson_value.proofs.lends.PartCalled.{part_called}
+use Rattle.ijson_value.proofs.value.destructure.DestructuredMut.TheLaws.{the_row_laws as parts_laws}
 use Rattle.ijson_value.proofs.lends.LentOn.{none_if}
 use Rattle.ijson_value.specs.declared.value.destructure.DestructuredMut.{DestructuredMut}
-use Rattle.ijson_value.proofs.lends.Parts.{by_kind, is_null, kind_out, null_made, bool_made, number_made, string_made, array_made}
+use Rattle.ijson_value.proofs.lends.Parts.{by_kind, is_null, kind_out, place, null_made, bool_made, number_made, string_made, array_made}
 use Rattle.ijson_value.proofs.lends.Parts.{object_made}
 use Rattle.ijson_value.proofs.lends.Variants.{and_tt}
 use Rattle.ijson_value.specs.contracts.value.IValue.destructure_mut as f
@@ -59,18 +67,24 @@ destructure_mut_spec 𝓤 𝓛 𝓜 𝓡 wired =
     proved 𝓛 f.ended stayed c 𝓜 𝓡 (Goes-spent_ref 𝓛 1 (0 ∷ []) tt (plain (λ _. V)), tt)
     f.Key.name code.function (code.unfolded 𝓤 𝓛.H 𝓜 𝓡 wired)
     (λ κs. (mut_vals, tt)) (λ κs. (mut_Tells (named 0) κs.0 V, tt)) (λ κs qs bounds a gh are.
-    let κ = κs.0 in let q = qs.0 in let r = a.0 in let b = r.ref_ptr.0 in let o = r.ref_ptr.1 in let γ = r.ghost_name in
-    let vs = mut_vals r in
+    let κ = κs.0 in let q = qs.0 in let r = a.0 in let γ = r.ghost_name in let vs = mut_vals r in
     let at : NamedLft = record { mir = named 0; lft = κ } in
     let y : W.Ghost = ((κs, qs, bounds, a, (vs, tt)), gh) in
     let Ref = λ (κ' : List ℕ) (x : MutBor WellFormed). (MutRef (named 0) κ' V).own_val x vs in
-    let ends : (u : Val) (x : DestructuredMut) → mut_value x ≡ r.now
-    → Sq 𝓛 (‵ ((PartsOf at).own_val x (u ∷ [])) ∷ ‵ (flft κ q) ∷ ‵ (LendsParts r x) ∷ []) (prop (W.post y u)) = λ u x stands.
-    suffices ! _ (ends_at 𝓛 f.ended stayed c y u x (tt, tt) (tt, tt)) $ nothing ! $ nothing ! $ fjoin ! $ join ! $
-    nothing ! $ move ! (2 ∷ 0 ∷ []) $ join ! $ join ! $ frame ! $ says ! stands $ done ! in
     qed 𝓛 (((‵ (flft κ q) ⊛ ‵ ftrue) ⊛ ‵ (Ref κ r) ⊛ ‵ ftrue) ∷ ‵ ftrue ∷ []) ∵
     split ! $ split ! $ move ! (2 ∷ []) $ split ! $ keep ! (0 ∷ 2 ∷ []) $
     enter ! _ _ _ _ _ $ alloc_all ! (λ l. pass_all ! refl ((tt, tt), tt) $
+    -- the enum of the parts is made and returned
+    let leaves : (own : Fml) (u : Val) (x : DestructuredMut) → ent 𝓤 (sem 𝓛 own) (sem 𝓛 ((PartsOf at).own_val x (u ∷ [])))
+    → mut_value x ≡ r.now → Sq 𝓛 (‵ own ∷ ‵ (LendsParts r x) ∷ ‵ (flft κ q) ∷ holding 𝓛 (env code.Mir.locals l) ((4, u) ∷ []))
+    (prop (Wp 𝓤 𝓛.H 𝓣.C 𝓣.Λ (env code.Mir.locals l) code.Mir.t-4 (post 𝓤 𝓛.H (at_ret (env code.Mir.locals l) (W.post y))))) =
+    λ own u x made stands. use1 𝓛 (‵ ((PartsOf at).own_val x (u ∷ []))) made $
+    peeks ! (PartsOf at) _ (shows 𝓛 (PartsOf at)) x (u ∷ []) (λ seen.
+    exec ! 𝓣.C 𝓣.Λ (env code.Mir.locals l) code.Mir.t-4 (at_ret (env code.Mir.locals l) (W.post y)) $
+    sets ! (of_opd ! (get ! refl)) refl (((parts_laws at).lawful 𝓛).typed x (u ∷ []) seen).0 $
+    returns ! (look_at ! 0 refl) $ free_all ! refl $ keep ! (0 ∷ 2 ∷ 1 ∷ []) $
+    suffices ! _ (ends_at 𝓛 f.ended stayed c y u x (tt, tt) (tt, tt)) $ nothing ! $ nothing ! $ fjoin ! $ join ! $
+    nothing ! $ move ! (2 ∷ 0 ∷ []) $ join ! $ join ! $ frame ! $ says ! stands $ done !) in
     -- [the value; its token]
     sets ! (addr ! (through ! refl (stop !))) refl (tt, tt) $
     lent 𝓛 ! tt V κ q r (λ α δ. let β : Lft = α ∷ [] in
@@ -91,18 +105,18 @@ destructure_mut_spec 𝓤 𝓛 𝓜 𝓡 wired =
     -- [the loan's last value; its borrow; nothing; α is over; nothing; the kind; what the lender keeps]
     move ! (3 ∷ 6 ∷ 0 ∷ []) $ back 𝓛 ! tt V κ q r α δ r.now $
     -- [the value; its token; its borrow; nothing; nothing; the kind]
+    move ! (2 ∷ 3 ∷ 4 ∷ 5 ∷ []) $ drop ! $ drop ! $ drop ! $ kind_out ! x (v ∷ []) (λ led.
+    let tag : (k : ValueType) → x ≡ k → v ≡ live (place k) (of_list []) = λ k is.
+    ap only led ∙ ap (λ (k' : ValueType). live (place k') (of_list [])) is in
     by_kind x
-    (λ is. rewrite ! 5 (λ (x' : ValueType). ‵ (KindRow.own_val x' (v ∷ []))) is refl $ move ! (5 ∷ []) $
-    kind_out ! kind.Null (v ∷ []) (λ led. lands_as ! (ap only led) refl (tt, (record { fits = lit< tt }, tt)) $
+    (λ is. lands_as ! (tag kind.Null is) refl (tt, (record { fits = lit< tt }, tt)) $
     first ! $ switches ! (get_tag ! (vrt ! refl (fld ! refl (stop !))) (whole !)) (
       (λ _. sets_last ! (agg ! (and_then ! (lit ! tt) (no_more !))) refl (tt, (record { fits = lit< tt }, tt)) $
-          exec ! 𝓣.C 𝓣.Λ (env code.Mir.locals l) code.Mir.t-4 (at_ret (env code.Mir.locals l) (W.post y)) $
-          sets ! (of_opd ! (get ! refl)) refl (tt, (record { fits = lit< tt }, tt)) $ returns ! (look_at ! 0 refl) $ free_all ! refl $
-          keep ! (0 ∷ 1 ∷ []) $ fsplit3 ! $ keep ! (1 ∷ 3 ∷ []) $
+          fsplit3 ! $ move ! (0 ∷ 2 ∷ []) $ drop ! $ drop ! $
           use1 𝓛 (‵ (fres γ (V.coded.code r.now))) (𝓛.names.obs-res γ (V.coded.code r.now)) $
           use1 𝓛 (‵ (LendsParts r parts.Null)) (none_if 𝓛 V V (λ w. w) r.now γ) $
-          use0 𝓛 (‵ ((PartsOf at).own_val parts.Null (live 0 (of_list []) ∷ []))) (null_made 𝓛 at) $ move ! (0 ∷ 2 ∷ 1 ∷ []) $
-          ends (live 0 (of_list [])) parts.Null (is_null r.now (sym told ∙ is))),
+          nothing ! $ forget_but ! (env code.Mir.locals l) (4 ∷ []) refl $
+          leaves ftrue (live 0 (of_list [])) parts.Null (null_made 𝓛 at) (is_null r.now (sym told ∙ is))),
       (
         apart 0 1 refl refl,
         (
@@ -110,124 +124,75 @@ destructure_mut_spec 𝓤 𝓛 𝓜 𝓡 wired =
           (apart 0 3 refl refl, (apart 0 4 refl refl, (apart 0 5 refl refl, (λ n. absurd (n.0.0.0.0.0.1 refl))))),
         ),
       ),
-    )))
-    (λ is. rewrite ! 5 (λ (x' : ValueType). ‵ (KindRow.own_val x' (v ∷ []))) is refl $ move ! (5 ∷ []) $
-    kind_out ! kind.Bool (v ∷ []) (λ led. lands_as ! (ap only led) refl (tt, (record { fits = lit< tt }, tt)) $
-    first ! $ switches ! (get_tag ! (vrt ! refl (fld ! refl (stop !))) (whole !)) (past 1 0 refl refl (
+    ))
+    (λ is. lands_as ! (tag kind.Bool is) refl (tt, (record { fits = lit< tt }, tt)) $
+    first ! $ switches ! (get_tag ! (vrt ! refl (fld ! refl (stop !))) (whole !))
+    (past 1 0 refl refl (
       (λ _. sets ! (addr ! (through ! refl (stop !))) refl (tt, tt) $
-          let H = triple_of 𝓛 bool-part.signature (bool-part.spec 𝓛 𝓜.mem 𝓡.returns) in
-          let z' : H.Ghost = ((κs, qs, tt, (r, tt), (vs, tt)), tt) in
-          asks 𝓛 ! κ q ((MutRef (named 0) κ V).own_val r vs) (kind_of r.now.tree ≡ kind.Bool) (H.pre z') (sym told ∙ is) (id⊢ 𝓤 _) $
-          calls_at ! (framed 𝓤 𝓛.H 𝓜 𝓣) H (bool-thm.met 𝓤 𝓛 𝓜 𝓡 (code.calls-ijson_value::value::IValue::bool_part 𝓡.env wired)) z'
-          (and_then ! (get ! refl) (no_more !)) (λ w. answered 𝓛 ! κ q tt (BoolRow at) w
-          (λ part (ws' : Unit {0} × Unit {0}). lasts bool-part.ended κs (r, tt) ws') (λ part. LendsBoolPart r part.place)
-          (λ part. boolean_value part.place.now ≡ r.now)
-          (H.post z' w) (id⊢ 𝓤 _) (λ part stands seen. let typed = (((bool_laws at).lawful 𝓛).typed part (w ∷ []) seen).0 in
-          lands_as ! refl refl typed $
+          part_called 𝓛 ! κ q r (framed 𝓤 𝓛.H 𝓜 𝓣) kind.Bool (sym told ∙ is)
+          (BoolRow at) ((bool_laws at).lawful 𝓛).typed (λ part. LendsBoolPart r part.place) (λ part. boolean_value part.place.now)
+          (triple_of 𝓛 bool-part.signature (bool-part.spec 𝓛 𝓜.mem 𝓡.returns))
+          (bool-thm.met 𝓤 𝓛 𝓜 𝓡 (code.calls-ijson_value::value::IValue::bool_part 𝓡.env wired)) ((κs, qs, tt, (r, tt), (vs, tt)), tt)
+          (id⊢ 𝓤 _) (and_then ! (get ! refl) (no_more !)) (λ w. id⊢ 𝓤 _) (λ w part stands typed. lands_as ! refl refl typed.0 $
           sets_last ! (agg ! (and_then ! (lit ! tt) (and_then ! (get ! refl) (no_more !)))) refl
-          (and_tt _ typed.0, (record { fits = lit< tt }, (typed.1, tt))) $
-          exec ! 𝓣.C 𝓣.Λ (env code.Mir.locals l) code.Mir.t-4 (at_ret (env code.Mir.locals l) (W.post y)) $
-          sets ! (of_opd ! (get ! refl)) refl (and_tt _ typed.0, (record { fits = lit< tt }, (typed.1, tt))) $
-          returns ! (look_at ! 0 refl) $ free_all ! refl $
-          use1 𝓛 (‵ ((PartsOf at).own_val (parts.Bool part) (live 1 (of_list (w ∷ [])) ∷ []))) (bool_made 𝓛 at part w) $
-          keep ! (0 ∷ 2 ∷ 1 ∷ []) $ ends (live 1 (of_list (w ∷ []))) (parts.Bool part) stands))),
+          (and_tt _ typed.0.0, (record { fits = lit< tt }, (typed.0.1, tt))) $ forget_but ! (env code.Mir.locals l) (4 ∷ []) refl $
+          leaves _ (live 1 (of_list (w ∷ []))) (parts.Bool part) (bool_made 𝓛 at part w) stands)),
       (apart 1 2 refl refl, (apart 1 3 refl refl, (apart 1 4 refl refl, (apart 1 5 refl refl, (λ n. absurd (n.0.0.0.0.1 refl)))))),
-    ))))
-    (λ is. rewrite ! 5 (λ (x' : ValueType). ‵ (KindRow.own_val x' (v ∷ []))) is refl $ move ! (5 ∷ []) $
-    kind_out ! kind.Number (v ∷ []) (λ led. lands_as ! (ap only led) refl (tt, (record { fits = lit< tt }, tt)) $
-    first ! $ switches ! (get_tag ! (vrt ! refl (fld ! refl (stop !))) (whole !)) (past 2 0 refl refl (past 2 1 refl refl (
+    )))
+    (λ is. lands_as ! (tag kind.Number is) refl (tt, (record { fits = lit< tt }, tt)) $
+    first ! $ switches ! (get_tag ! (vrt ! refl (fld ! refl (stop !))) (whole !))
+    (past 2 0 refl refl (past 2 1 refl refl (
       (λ _. sets ! (addr ! (through ! refl (stop !))) refl (tt, tt) $
-          let H = triple_of 𝓛 number-part.signature (number-part.spec 𝓛 𝓜.mem 𝓡.returns) in
-          let z' : H.Ghost = ((κs, qs, tt, (r, tt), (vs, tt)), tt) in
-          asks 𝓛 ! κ q ((MutRef (named 0) κ V).own_val r vs) (kind_of r.now.tree ≡ kind.Number) (H.pre z') (sym told ∙ is) (id⊢ 𝓤 _) $
-          calls_at ! (framed 𝓤 𝓛.H 𝓜 𝓣) H (number-thm.met 𝓤 𝓛 𝓜 𝓡 (code.calls-ijson_value::value::IValue::number_part 𝓡.env wired)) z'
-          (and_then ! (get ! refl) (no_more !)) (λ w. answered 𝓛 ! κ q tt (MutRef (named 0) κ NumberRow) w
-          (λ part (ws' : Unit {0} × Unit {0}). lasts number-part.ended κs (r, tt) ws') (λ part. LendsNumberPart r part)
-          (λ part. number_value part.now ≡ r.now)
-          (H.post z' w) (id⊢ 𝓤 _) (λ part stands seen. let typed =
-          (((mut_ref_laws at NumberRow tt).lawful 𝓛).typed part (w ∷ []) seen).0 in
-          lands_as ! refl refl typed $
+          part_called 𝓛 ! κ q r (framed 𝓤 𝓛.H 𝓜 𝓣) kind.Number (sym told ∙ is)
+          (MutRef (named 0) κ NumberRow) ((mut_ref_laws at NumberRow tt).lawful 𝓛).typed (LendsNumberPart r) (λ part. number_value part.now)
+          (triple_of 𝓛 number-part.signature (number-part.spec 𝓛 𝓜.mem 𝓡.returns))
+          (number-thm.met 𝓤 𝓛 𝓜 𝓡 (code.calls-ijson_value::value::IValue::number_part 𝓡.env wired)) ((κs, qs, tt, (r, tt), (vs, tt)), tt)
+          (id⊢ 𝓤 _) (and_then ! (get ! refl) (no_more !)) (λ w. id⊢ 𝓤 _) (λ w part stands typed. lands_as ! refl refl typed.0 $
           sets_last ! (agg ! (and_then ! (lit ! tt) (and_then ! (get ! refl) (no_more !)))) refl
-          (and_tt _ typed.0, (record { fits = lit< tt }, (typed.1, tt))) $
-          exec ! 𝓣.C 𝓣.Λ (env code.Mir.locals l) code.Mir.t-4 (at_ret (env code.Mir.locals l) (W.post y)) $
-          sets ! (of_opd ! (get ! refl)) refl (and_tt _ typed.0, (record { fits = lit< tt }, (typed.1, tt))) $
-          returns ! (look_at ! 0 refl) $ free_all ! refl $
-          use1 𝓛 (‵ ((PartsOf at).own_val (parts.Number part) (live 2 (of_list (w ∷ [])) ∷ []))) (number_made 𝓛 at part w) $
-          keep ! (0 ∷ 2 ∷ 1 ∷ []) $ ends (live 2 (of_list (w ∷ []))) (parts.Number part) stands))),
+          (and_tt _ typed.0.0, (record { fits = lit< tt }, (typed.0.1, tt))) $ forget_but ! (env code.Mir.locals l) (4 ∷ []) refl $
+          leaves _ (live 2 (of_list (w ∷ []))) (parts.Number part) (number_made 𝓛 at part w) stands)),
       (apart 2 3 refl refl, (apart 2 4 refl refl, (apart 2 5 refl refl, (λ n. absurd (n.0.0.0.1 refl))))),
-    )))))
-    (λ is. rewrite ! 5 (λ (x' : ValueType). ‵ (KindRow.own_val x' (v ∷ []))) is refl $ move ! (5 ∷ []) $
-    kind_out ! kind.String (v ∷ []) (λ led. lands_as ! (ap only led) refl (tt, (record { fits = lit< tt }, tt)) $
+    ))))
+    (λ is. lands_as ! (tag kind.String is) refl (tt, (record { fits = lit< tt }, tt)) $
     first ! $ switches ! (get_tag ! (vrt ! refl (fld ! refl (stop !))) (whole !))
     (past 3 0 refl refl (past 3 1 refl refl (past 3 2 refl refl (
       (λ _. sets ! (addr ! (through ! refl (stop !))) refl (tt, tt) $
-          let H = triple_of 𝓛 string-part.signature (string-part.spec 𝓛 𝓜.mem 𝓡.returns) in
-          let z' : H.Ghost = ((κs, qs, tt, (r, tt), (vs, tt)), tt) in
-          asks 𝓛 ! κ q ((MutRef (named 0) κ V).own_val r vs) (kind_of r.now.tree ≡ kind.String) (H.pre z') (sym told ∙ is) (id⊢ 𝓤 _) $
-          calls_at ! (framed 𝓤 𝓛.H 𝓜 𝓣) H (string-thm.met 𝓤 𝓛 𝓜 𝓡 (code.calls-ijson_value::value::IValue::string_part 𝓡.env wired)) z'
-          (and_then ! (get ! refl) (no_more !)) (λ w. answered 𝓛 ! κ q tt (MutRef (named 0) κ StringRow) w
-          (λ part (ws' : Unit {0} × Unit {0}). lasts string-part.ended κs (r, tt) ws') (λ part. LendsStringPart r part)
-          (λ part. string_value part.now ≡ r.now)
-          (H.post z' w) (id⊢ 𝓤 _) (λ part stands seen. let typed =
-          (((mut_ref_laws at StringRow tt).lawful 𝓛).typed part (w ∷ []) seen).0 in
-          lands_as ! refl refl typed $
+          part_called 𝓛 ! κ q r (framed 𝓤 𝓛.H 𝓜 𝓣) kind.String (sym told ∙ is)
+          (MutRef (named 0) κ StringRow) ((mut_ref_laws at StringRow tt).lawful 𝓛).typed (LendsStringPart r) (λ part. string_value part.now)
+          (triple_of 𝓛 string-part.signature (string-part.spec 𝓛 𝓜.mem 𝓡.returns))
+          (string-thm.met 𝓤 𝓛 𝓜 𝓡 (code.calls-ijson_value::value::IValue::string_part 𝓡.env wired)) ((κs, qs, tt, (r, tt), (vs, tt)), tt)
+          (id⊢ 𝓤 _) (and_then ! (get ! refl) (no_more !)) (λ w. id⊢ 𝓤 _) (λ w part stands typed. lands_as ! refl refl typed.0 $
           sets_last ! (agg ! (and_then ! (lit ! tt) (and_then ! (get ! refl) (no_more !)))) refl
-          (and_tt _ typed.0, (record { fits = lit< tt }, (typed.1, tt))) $
-          exec ! 𝓣.C 𝓣.Λ (env code.Mir.locals l) code.Mir.t-4 (at_ret (env code.Mir.locals l) (W.post y)) $
-          sets ! (of_opd ! (get ! refl)) refl (and_tt _ typed.0, (record { fits = lit< tt }, (typed.1, tt))) $
-          returns ! (look_at ! 0 refl) $ free_all ! refl $
-          use1 𝓛 (‵ ((PartsOf at).own_val (parts.String part) (live 3 (of_list (w ∷ [])) ∷ []))) (string_made 𝓛 at part w) $
-          keep ! (0 ∷ 2 ∷ 1 ∷ []) $ ends (live 3 (of_list (w ∷ []))) (parts.String part) stands))),
+          (and_tt _ typed.0.0, (record { fits = lit< tt }, (typed.0.1, tt))) $ forget_but ! (env code.Mir.locals l) (4 ∷ []) refl $
+          leaves _ (live 3 (of_list (w ∷ []))) (parts.String part) (string_made 𝓛 at part w) stands)),
       (apart 3 4 refl refl, (apart 3 5 refl refl, (λ n. absurd (n.0.0.1 refl)))),
-    ))))))
-    (λ is. rewrite ! 5 (λ (x' : ValueType). ‵ (KindRow.own_val x' (v ∷ []))) is refl $ move ! (5 ∷ []) $
-    kind_out ! kind.Array (v ∷ []) (λ led. lands_as ! (ap only led) refl (tt, (record { fits = lit< tt }, tt)) $
+    )))))
+    (λ is. lands_as ! (tag kind.Array is) refl (tt, (record { fits = lit< tt }, tt)) $
     first ! $ switches ! (get_tag ! (vrt ! refl (fld ! refl (stop !))) (whole !))
     (past 4 0 refl refl (past 4 1 refl refl (past 4 2 refl refl (past 4 3 refl refl (
       (λ _. sets ! (addr ! (through ! refl (stop !))) refl (tt, tt) $
-          let H = triple_of 𝓛 array-part.signature (array-part.spec 𝓛 𝓜.mem 𝓡.returns) in
-          let z' : H.Ghost = ((κs, qs, tt, (r, tt), (vs, tt)), tt) in
-          asks 𝓛 ! κ q ((MutRef (named 0) κ V).own_val r vs) (kind_of r.now.tree ≡ kind.Array) (H.pre z') (sym told ∙ is)
-          (id⊢ 𝓤 _) $
-          calls_at ! (framed 𝓤 𝓛.H 𝓜 𝓣) H (array-thm.met 𝓤 𝓛 𝓜 𝓡 (code.calls-ijson_value::value::IValue::array_part 𝓡.env wired)) z'
-          (and_then ! (get ! refl) (no_more !)) (λ w. answered 𝓛 ! κ q tt (MutRef (named 0) κ ArrayRow) w
-          (λ part (ws' : Unit {0} × Unit {0}). lasts array-part.ended κs (r, tt) ws') (λ part. LendsArrayPart r part)
-          (λ part. array_value part.now.items ≡ r.now)
-          (H.post z' w) (id⊢ 𝓤 _) (λ part stands seen. let typed =
-          (((mut_ref_laws at ArrayRow tt).lawful 𝓛).typed part (w ∷ []) seen).0 in
-          lands_as ! refl refl typed $
+          part_called 𝓛 ! κ q r (framed 𝓤 𝓛.H 𝓜 𝓣) kind.Array (sym told ∙ is)
+          (MutRef (named 0) κ ArrayRow) ((mut_ref_laws at ArrayRow tt).lawful 𝓛).typed (LendsArrayPart r)
+          (λ part. array_value part.now.items)
+          (triple_of 𝓛 array-part.signature (array-part.spec 𝓛 𝓜.mem 𝓡.returns))
+          (array-thm.met 𝓤 𝓛 𝓜 𝓡 (code.calls-ijson_value::value::IValue::array_part 𝓡.env wired)) ((κs, qs, tt, (r, tt), (vs, tt)), tt)
+          (id⊢ 𝓤 _) (and_then ! (get ! refl) (no_more !)) (λ w. id⊢ 𝓤 _) (λ w part stands typed. lands_as ! refl refl typed.0 $
           sets_last ! (agg ! (and_then ! (lit ! tt) (and_then ! (get ! refl) (no_more !)))) refl
-          (and_tt _ typed.0, (record { fits = lit< tt }, (typed.1, tt))) $
-          exec ! 𝓣.C 𝓣.Λ (env code.Mir.locals l) code.Mir.t-4 (at_ret (env code.Mir.locals l) (W.post y)) $
-          sets ! (of_opd ! (get ! refl)) refl (and_tt _ typed.0, (record { fits = lit< tt }, (typed.1, tt))) $
-          returns ! (look_at ! 0 refl) $ free_all ! refl $
-          use1 𝓛 (‵ ((PartsOf at).own_val (parts.Array part) (live 4 (of_list (w ∷ [])) ∷ []))) (array_made 𝓛 at part w) $
-          keep ! (0 ∷ 2 ∷ 1 ∷ []) $ ends (live 4 (of_list (w ∷ []))) (parts.Array part) stands))),
+          (and_tt _ typed.0.0, (record { fits = lit< tt }, (typed.0.1, tt))) $ forget_but ! (env code.Mir.locals l) (4 ∷ []) refl $
+          leaves _ (live 4 (of_list (w ∷ []))) (parts.Array part) (array_made 𝓛 at part w) stands)),
       (apart 4 5 refl refl, (λ n. absurd (n.0.1 refl))),
-    )))))))
-    (λ is. rewrite ! 5 (λ (x' : ValueType). ‵ (KindRow.own_val x' (v ∷ []))) is refl $ move ! (5 ∷ []) $
-    kind_out ! kind.Object (v ∷ []) (λ led. lands_as ! (ap only led) refl (tt, (record { fits = lit< tt }, tt)) $
+    ))))))
+    (λ is. lands_as ! (tag kind.Object is) refl (tt, (record { fits = lit< tt }, tt)) $
     first ! $ switches ! (get_tag ! (vrt ! refl (fld ! refl (stop !))) (whole !))
     (past 5 0 refl refl (past 5 1 refl refl (past 5 2 refl refl (past 5 3 refl refl (past 5 4 refl refl (
       (λ _. sets ! (addr ! (through ! refl (stop !))) refl (tt, tt) $
-          let H = triple_of 𝓛 object-part.signature (object-part.spec 𝓛 𝓜.mem 𝓡.returns) in
-          let z' : H.Ghost = ((κs, qs, tt, (r, tt), (vs, tt)), tt) in
-          asks 𝓛 ! κ q ((MutRef (named 0) κ V).own_val r vs) (kind_of r.now.tree ≡ kind.Object) (H.pre z') (sym told ∙ is)
-          (id⊢ 𝓤 _) $
-          calls_at ! (framed 𝓤 𝓛.H 𝓜 𝓣) H
-          (object-thm.met 𝓤 𝓛 𝓜 𝓡 (code.calls-ijson_value::value::IValue::object_part 𝓡.env wired)) z'
-          (and_then ! (get ! refl) (no_more !)) (λ w. answered 𝓛 ! κ q tt (MutRef (named 0) κ ObjectRow) w
-          (λ part (ws' : Unit {0} × Unit {0}). lasts object-part.ended κs (r, tt) ws') (λ part. LendsObjectPart r part)
-          (λ part. object_value part.now ≡ r.now)
-          (H.post z' w) (id⊢ 𝓤 _) (λ part stands seen. let typed =
-          (((mut_ref_laws at ObjectRow tt).lawful 𝓛).typed part (w ∷ []) seen).0 in
-          lands_as ! refl refl typed $
+          part_called 𝓛 ! κ q r (framed 𝓤 𝓛.H 𝓜 𝓣) kind.Object (sym told ∙ is)
+          (MutRef (named 0) κ ObjectRow) ((mut_ref_laws at ObjectRow tt).lawful 𝓛).typed (LendsObjectPart r) (λ part. object_value part.now)
+          (triple_of 𝓛 object-part.signature (object-part.spec 𝓛 𝓜.mem 𝓡.returns))
+          (object-thm.met 𝓤 𝓛 𝓜 𝓡 (code.calls-ijson_value::value::IValue::object_part 𝓡.env wired)) ((κs, qs, tt, (r, tt), (vs, tt)), tt)
+          (id⊢ 𝓤 _) (and_then ! (get ! refl) (no_more !)) (λ w. id⊢ 𝓤 _) (λ w part stands typed. lands_as ! refl refl typed.0 $
           sets_last ! (agg ! (and_then ! (lit ! tt) (and_then ! (get ! refl) (no_more !)))) refl
-          (and_tt _ typed.0, (record { fits = lit< tt }, (typed.1, tt))) $
-          exec ! 𝓣.C 𝓣.Λ (env code.Mir.locals l) code.Mir.t-4 (at_ret (env code.Mir.locals l) (W.post y)) $
-          sets ! (of_opd ! (get ! refl)) refl (and_tt _ typed.0, (record { fits = lit< tt }, (typed.1, tt))) $
-          returns ! (look_at ! 0 refl) $ free_all ! refl $
-          use1 𝓛 (‵ ((PartsOf at).own_val (parts.Object part) (live 5 (of_list (w ∷ [])) ∷ []))) (object_made 𝓛 at part w) $
-          keep ! (0 ∷ 2 ∷ 1 ∷ []) $ ends (live 5 (of_list (w ∷ []))) (parts.Object part) stands))),
+          (and_tt _ typed.0.0, (record { fits = lit< tt }, (typed.0.1, tt))) $ forget_but ! (env code.Mir.locals l) (4 ∷ []) refl $
+          leaves _ (live 5 (of_list (w ∷ []))) (parts.Object part) (object_made 𝓛 at part w) stands)),
       (λ n. absurd (n.1 refl)),
     ))))))))))))))))

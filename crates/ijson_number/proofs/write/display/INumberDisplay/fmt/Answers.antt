@@ -1,28 +1,30 @@
-use Rattle.std.proofs.Common.{◌<◌, length, refl, arith, rules}
+use Rattle.std.proofs.Common.{◌≡◌, ◌++◌, Bool, true, false, arith, rules}
 use Rattle.std.proofs.lemmas.Int.{to_z-of_z}
 use Rattle.std.proofs.Output.{has_written_of_eq}
 use Rattle.std.specs.Prelude.{FitsSigned}
 use mir.Syntax.{w32}
 use mir.Val.{to_z, of_z}
-use Rattle.ijson_number.proofs.writing.Writing.{with_minus, without_minus}
+use Rattle.ijson_number.specs.Text.{minus_text, num_text, shape_text}
+use Rattle.ijson_number.proofs.writing.Writing.{shown_text}
 use Rattle.ijson_number.proofs.write.display.INumberDisplay.fmt.Goals as goal
+use Rattle.ijson_number.proofs.write.display.INumberDisplay.fmt.Goals.{Else-is_empty}
+
+-- what either branch writes, a minus or none and the shape, is the number's text
+shown : (g : _) (c : Else-is_empty g) (minus : Bool) → c.stripped-number.result.negative ≡ minus
+    → let n = c.stripped-number.result in
+    minus_text minus ++ shape_text n.point n.digits.now (to_z w32 (of_z w32 n.exponent)) ≡ num_text c.args.self.now.decimal
+shown g c minus branch =
+    let n = c.stripped-number.result in
+    let fits : FitsSigned w32 n.exponent = search rules in
+    shown_text c.args.self.now.decimal minus n.negative n.digits.now n.exponent (to_z w32 (of_z w32 n.exponent)) n.point
+    c.stripped-number.ensures (to_z-of_z w32 n.exponent fits) n.stripped.stripped (grind arith) branch
 
 pub returns-then-number-2-clause-writes : goal.returns-then-number-2-clause-writes
 returns-then-number-2-clause-writes g c = λ p ok.
-    let n = c.stripped-number.result in
-    let fits : FitsSigned w32 n.exponent = search rules in
-    let some : 0 < length n.digits.now = grind arith in
-    has_written_of_eq _ _ _ _ _
-    (with_minus c.args.self.now.decimal n.negative n.digits.now n.digits.now n.exponent
-    (to_z w32 (of_z w32 n.exponent)) n.point c.stripped-number.ensures refl
-    (to_z-of_z w32 n.exponent fits) n.stripped.stripped some c.if-number-2.true) (c.write-then-number-2.ensures.writes p ok)
+    has_written_of_eq _ _ _ _ _ (shown g (goal.at.returns-then-number-2-clause-writes g c).Else-is_empty true c.if-number-2.true)
+    (c.write-then-number-2.ensures.writes p ok)
 
 pub returns-else-number-2-clause-writes : goal.returns-else-number-2-clause-writes
 returns-else-number-2-clause-writes g c = λ p ok.
-    let n = c.stripped-number.result in
-    let fits : FitsSigned w32 n.exponent = search rules in
-    let some : 0 < length n.digits.now = grind arith in
-    has_written_of_eq _ _ _ _ _
-    (without_minus c.args.self.now.decimal n.negative n.digits.now n.digits.now n.exponent
-    (to_z w32 (of_z w32 n.exponent)) n.point c.stripped-number.ensures refl
-    (to_z-of_z w32 n.exponent fits) n.stripped.stripped some c.if-number-2.false) (c.fmt.ensures.writes p ok)
+    has_written_of_eq _ _ _ _ _ (shown g (goal.at.returns-else-number-2-clause-writes g c).Else-is_empty false c.if-number-2.false)
+    (c.fmt.ensures.writes p ok)

@@ -1,0 +1,44 @@
+-- The call that lends the part of a value of one kind, whichever kind that is. Assumes `Logic`.
+use mathlib.Core.List.{List, [], ◌∷◌}
+use mathlib.Core.Path.{◌≡◌}
+use seplogic.Ra.Ura.{Ura}
+use base.Fml.{Fml, Lft, Share, ftrue, flft, fsep}
+use base.Logic.{ent, sep}
+use contract.Monad.{fact}
+use denote.Laws.{Is, Typed}
+use denote.RattleType.{RattleType}
+use denote.Ref.{MutBor, MutRef, mut_vals}
+use denote.Triple.Call.{calls_at}
+use denote.Triple.Statement.{Contract, Triple}
+use mir.Syntax.{Body, Callee, Opd as Operand, Place, named, seq, call}
+use mir.Val.{Val}
+use prog.Wp.{Env, Calls, Loops}
+use sound.WpLaws.{FmC}
+use types.Kit.{Item, Post, Seq, mean, runs, lands, ‵, raw, ◌⊛◌, ◌$◌, move, drop}
+use types.Logic.{Logic}
+use types.Run.{Opds}
+use Rattle.ijson_value.specs.Kind.{kind_of}
+use Rattle.ijson_value.specs.WellFormed.{WellFormed}
+use Rattle.ijson_value.specs.contracts.value.IValue.{the_row as V}
+use Rattle.ijson_value.specs.declared.value.ValueType.{ValueType}
+use Rattle.ijson_value.proofs.lends.Called.{Answer, asks, answered}
+
+module _ {M : Type 1} {𝓤 : Ura M} (𝓛 : Logic 𝓤) {K : Type 0} {Γ : List (Item 𝓤)} {E : Env 𝓤 𝓛.H} {C : Calls 𝓤 𝓛.H} {Λ : Loops 𝓤 𝓛.H}
+    {f : Callee} {xs : List Operand} {d : Place} {rest : Body} {post : Post 𝓤 𝓛.H} (t : K) (κ : Lft) (q : Share) (r : MutBor V.Denot) where
+  -- the part, what the value follows and the token, where the value is of the kind that the call asks for
+  pub part_called : FmC 𝓤 𝓛.H 𝓛.laws C → (k : ValueType) → kind_of r.now.tree ≡ k → (R : RattleType)
+      → ((part : R.Denot) (vs : List Val) → Is R part vs → Typed R.mir vs) → (F : R.Denot → Fml) (value : R.Denot → WellFormed)
+      (c : Contract 𝓤) → Triple 𝓤 (C f) c → (x : c.Ghost)
+      → ent 𝓤 (sep 𝓤 (mean 𝓛 ((‵ (flft κ q) ⊛ ‵ ftrue) ⊛ ‵ ((MutRef (named 0) κ V).own_val r (mut_vals r)) ⊛ ‵ ftrue))
+      (mean 𝓛 (raw (fact 𝓤 (kind_of r.now.tree ≡ k))))) (c.pre x)
+      → Opds K 𝓛 (raw (c.pre x) ∷ Γ) E xs (c.args x)
+      → ((w : Val) → ent 𝓤 (c.post x w) (mean 𝓛 (Answer κ q R w (λ part (ws : Unit {0} × Unit {0}). fsep ftrue ftrue) F
+      (λ part. value part ≡ r.now))))
+      → ((w : Val) (part : R.Denot) → value part ≡ r.now → Typed R.mir (w ∷ [])
+      → Seq K 𝓛 (‵ (R.own_val part (w ∷ [])) ∷ ‵ (F part) ∷ ‵ (flft κ q) ∷ Γ) (lands C Λ E d w rest post))
+      → Seq K 𝓛 (‵ ((MutRef (named 0) κ V).own_val r (mut_vals r)) ∷ ‵ (flft κ q) ∷ Γ) (runs C Λ E (seq (call f xs d) rest) post)
+  part_called frames k is R types F value c met x gives reads answers go =
+      asks 𝓛 t κ q ((MutRef (named 0) κ V).own_val r (mut_vals r)) (kind_of r.now.tree ≡ k) (c.pre x) is gives $
+      calls_at t frames c met x reads (λ w.
+      answered 𝓛 t κ q tt R w (λ part (ws : Unit {0} × Unit {0}). fsep ftrue ftrue) F (λ part. value part ≡ r.now) (c.post x w) (answers w)
+      (λ part stands seen. move t (3 ∷ []) $ drop t $ go w part stands (types part (w ∷ []) seen)))
