@@ -1,7 +1,9 @@
 //! How a store grows and shrinks.
 
-ghost use Rattle.std.specs.Prelude.{◌≡◌, ◌+◌, ◌<◌, ◌≤◌, [], length, take, drop, vec_capacity, IfOk, OnOk, OnErr, MatchResult};
-ghost use Rattle.ijson_table.specs.Growth.{wanted, capacity_limit};
+ghost use Rattle.std.specs.Prelude.{◌≡◌, ◌<◌, ◌≤◌, ◌^◌, [], length, take, drop, vec_capacity, IfOk, OnOk, OnErr, MatchResult};
+ghost use Rattle.ijson_table.specs.Crowd.{slot_count};
+ghost use Rattle.ijson_table.specs.Growth.{capacity_limit};
+ghost use Rattle.ijson_table.specs.private.Room.{AsksFor};
 
 use crate::store::ReserveError;
 use std::alloc::{AllocError, Global};
@@ -10,22 +12,26 @@ use std::mem;
 /// The greatest capacity.
 const CAPACITY_LIMIT: usize = 1 << 56;
 
-/// The capacity that a growth asks for, where it is within the limit.
-pub fn grown_capacity(len: usize, capacity: usize, additional: usize) -> Result<usize, ReserveError>
+/// The capacity that a growth for so many more asks for, where it is within the limit. None where they have room.
+pub fn grown_capacity(
+    len: usize,
+    capacity: usize,
+    additional: usize,
+) -> Result<Option<usize>, ReserveError>
     requires length { len ≤ capacity }
     requires limited { capacity ≤ capacity_limit }
-    requires short { capacity < len + additional }
-    ensures { MatchResult result
-        (λ n. (n ≡ wanted len capacity additional) × (n ≤ capacity_limit))
-        (λ why. (why ≡ ReserveError.TooLarge) × (capacity_limit < wanted len capacity additional)) }
+    ensures { AsksFor len capacity additional result }
 {
+    if additional <= capacity - len {
+        return Ok(None);
+    }
     if additional > CAPACITY_LIMIT
         || len + additional > CAPACITY_LIMIT
         || 2 * capacity > CAPACITY_LIMIT
     {
         return Err(ReserveError::TooLarge);
     }
-    Ok((2 * capacity).max(len + additional).max(4))
+    Ok(Some((2 * capacity).max(len + additional).max(4)))
 }
 
 /// This capacity, where it is within the limit.
@@ -38,6 +44,15 @@ pub fn limited(capacity: usize) -> Result<usize, ReserveError>
         return Err(ReserveError::TooLarge);
     }
     Ok(capacity)
+}
+
+/// How many slots a table of this capacity has: five for four pairs.
+#[inline(always)]
+pub fn slots_for(capacity: usize) -> usize
+    requires { capacity < 2 ^ 63 }
+    ensures { result ≡ slot_count capacity }
+{
+    capacity + capacity / 4
 }
 
 /// An empty list with room for so many items and no more. Room for none takes no memory.

@@ -15,6 +15,7 @@ ghost use Rattle.ijson_table.specs.Slots.{resident, IsTable};
 ghost use Rattle.ijson_table.specs.private.Changes.{changes};
 ghost use Rattle.ijson_table.specs.private.Holds.{MayStand};
 ghost use Rattle.ijson_table.specs.private.Insertion.{EndsWith};
+ghost use Rattle.ijson_table.specs.private.Probe.{AreFull};
 ghost use Rattle.ijson_table.specs.private.SlotHashes.{position_in, HasHash};
 
 mod copy;
@@ -99,7 +100,8 @@ impl Index {
         self.push_at(slot, position, hash);
     }
 
-    /// The same, at the slot where a probe for it ended. Answers the last slot that is written, which was empty.
+    /// The same, at the slot where a probe for it ended. Answers the last slot that is written, which was the first empty one from
+    /// there on.
     pub fn push_at(&mut self, slot: usize, position: usize, hash: u64) -> usize
         requires position { position ≡ length self.old.hashes }
         requires room { position < length self.old.slots }
@@ -108,6 +110,7 @@ impl Index {
         ensures count { length self.new.slots ≡ length self.old.slots }
         ensures within { result < length self.old.slots }
         ensures empty { resident self.old.slots result ≡ None }
+        ensures passed { AreFull self.old.slots slot (distance (length self.old.slots) slot result) }
         ensures changes { changes self.old.slots self.new.slots ≤ distance (length self.old.slots) slot result + 1 }
     {
         shift_forward(&mut self.slots, slot, position, hash)

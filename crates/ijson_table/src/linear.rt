@@ -117,12 +117,10 @@ impl<V: Drop> PairStore<V> for LinearPairs<V> {
     }
 
     fn reserve(&mut self, additional: usize) -> Result<(), ReserveError> {
-        let (len, room) = (self.pairs.len(), self.pairs.capacity());
-        if additional <= room - len {
-            return Ok(());
+        match grown_capacity(self.pairs.len(), self.pairs.capacity(), additional)? {
+            Some(capacity) => Ok(self.pairs.reserve_exact(capacity - self.pairs.len())?),
+            None => Ok(()),
         }
-        let capacity = grown_capacity(len, room, additional)?;
-        Ok(self.pairs.reserve_exact(capacity - len)?)
     }
 
     fn shrink_to_fit(&mut self) -> Result<(), ReserveError> {

@@ -172,6 +172,7 @@ pub trait PairStore<V>: Sized {
 
 /// Puts a pair into a store. A key that is there keeps its place and needs no memory, and its old value is answered; a
 /// new key goes last, in room that is made first where there is none. Where that is refused, the pair comes back.
+#[tactic(auto, using(crate::proofs::pairs::PairsByKey::position_within))]
 pub fn insert<V: Drop, P: PairStore<V>>(
     store: &mut P,
     key: IString,

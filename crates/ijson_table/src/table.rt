@@ -13,7 +13,7 @@ ghost use Rattle.std.specs.Option.{option_copied};
 
 mod from_list;
 
-use crate::growth::{fit, grown_capacity, limited, list_with_room, tighten};
+use crate::growth::{fit, grown_capacity, limited, list_with_room, slots_for, tighten};
 use crate::hash::KeyHash;
 use crate::index::Index;
 use crate::index::places::{Places, Seen, locate};
@@ -65,7 +65,7 @@ impl<V: Drop, H: KeyHash> Table<V, H> {
     {
         let capacity = limited(capacity)?;
         let pairs = list_with_room(alloc, capacity)?;
-        let index = Index::with_slots(alloc, capacity + capacity / 4)?;
+        let index = Index::with_slots(alloc, slots_for(capacity))?;
         Ok(Table {
             pairs,
             index,
@@ -88,7 +88,7 @@ impl<V: Drop, H: KeyHash> Table<V, H> {
         ensures refused { OnErr result (0 < length pairs.items) }
     {
         let capacity = pairs.len();
-        let slots = capacity + capacity / 4;
+        let slots = slots_for(capacity);
         let index = self.index.copy_with_slots(alloc, self.pairs.len(), slots)?;
         tighten(alloc, &mut pairs)?;
         Ok(Table {
@@ -112,6 +112,7 @@ impl<V: Drop, H: KeyHash> Table<V, H> {
     /// The same, and each slot that it looks at for the key is counted. The walk that puts the pair down after a growth is not
     /// counted.
     #[inline(always)]
+    #[tactic(auto, using(crate::proofs::pairs::PairsByKey::position_within))]
     pub fn insert_counted(
         &mut self,
         key: IString,
@@ -287,12 +288,11 @@ impl<V: Drop, H: KeyHash> PairStore<V> for Table<V, H> {
     }
 
     fn reserve(&mut self, additional: usize) -> Result<(), ReserveError> {
-        let (len, room) = (self.pairs.len(), self.pairs.capacity());
-        if additional <= room - len {
+        let len = self.pairs.len();
+        let Some(capacity) = grown_capacity(len, self.pairs.capacity(), additional)? else {
             return Ok(());
-        }
-        let capacity = grown_capacity(len, room, additional)?;
-        let slots = capacity + capacity / 4;
+        };
+        let slots = slots_for(capacity);
         let index = self.index.copy_with_slots(self.alloc, len, slots)?;
         self.pairs.reserve_exact(capacity - len)?;
         self.index = index;
@@ -304,7 +304,7 @@ impl<V: Drop, H: KeyHash> PairStore<V> for Table<V, H> {
         if self.pairs.capacity() == len {
             return Ok(());
         }
-        let index = self.index.copy_with_slots(self.alloc, len, len + len / 4)?;
+        let index = self.index.copy_with_slots(self.alloc, len, slots_for(len))?;
         fit(self.alloc, &mut self.pairs)?;
         self.index = index;
         Ok(())

@@ -1,33 +1,28 @@
 -- Where keys stand before and after pairs are put.
 use Rattle.std.proofs.Common.{◌≡◌, ◌≢◌, ℕ, zero, suc, ◌+◌, ◌<◌, ◌≤◌, inl, inr, arith, List, [], ◌∷◌, ◌++◌, length, get_or, Option}
 use Rattle.std.proofs.Common.{Some, None, cond, true, false, refl, sym, ap, ◌∙◌}
+use Rattle.std.proofs.Common.{length-append}
+use Rattle.std.proofs.Math.ListN.{get_or-append}
+use Rattle.std.proofs.Math.Seq.{get_or-append_seam}
+use Rattle.std.proofs.lemmas.List.{map-append}
 use Rattle.std.specs.Prelude.{bytes_eq, option_map}
-use Rattle.std.specs.Cmp.Lexicographic.{bytes_decides}
 use Rattle.ijson_table.specs.Store.{at, keys_of, position_of, put, put_each}
 use Rattle.ijson_table.specs.laws.Store.{keys-with_value}
-use Rattle.ijson_table.proofs.pairs.KeyPositions.{same_key, shifted}
-use Rattle.ijson_table.proofs.pairs.PairsByKey.{put-present}
+use Rattle.ijson_table.proofs.pairs.KeyPositions.{absent-from, head_or_tail, position-first, same_key}
+use Rattle.ijson_table.proofs.pairs.PairsByKey.{keys-length, put-absent, put-present}
 use Rattle.ijson_table.proofs.pairs.PutEach.{put_each-append, put-length}
 
 -- the position of a key is the first where it stands
 pub position-least : (keys : List (List ℕ)) (key : List ℕ) (i : ℕ) → position_of keys key ≡ Some i → (j : ℕ) → j < length keys
     → get_or keys j [] ≡ key → i ≤ j
 position-least [] key i e j lj same = absurd (omega arith)
-position-least (k ∷ ks) key i e zero lj same =
-    let here : Some 0 ≡ Some i =
-    sym (ap (λ b. cond b (Some 0) (option_map (λ i. i + 1) (position_of ks key))) ((bytes_decides k key).1 same)) ∙ e in
-    let zero_is : 0 ≡ i = cc in
-    omega arith
-position-least (k ∷ ks) key i e (suc j) lj same = elim (same_key k key) [
-  | inl s ↦
-      let here : Some 0 ≡ Some i = sym (ap (λ b. cond b (Some 0) (option_map (λ i. i + 1) (position_of ks key))) s.0) ∙ e in
-      let zero_is : 0 ≡ i = cc in
-      omega arith
-  | inr d ↦
-      let there : option_map (λ i. i + 1) (position_of ks key) ≡ Some i =
-      sym (ap (λ b. cond b (Some 0) (option_map (λ i. i + 1) (position_of ks key))) d.0) ∙ e in
-      let rest = shifted (position_of ks key) i there in
-      omega (arith, rest.2, position-least ks key rest.0 rest.1 j (omega arith) same)
+position-least (k ∷ ks) key i e zero lj same = elim (head_or_tail k ks key i e) [
+  | inl s ↦ omega (arith, s.2)
+  | inr d ↦ absurd (d.1 same)
+]
+position-least (k ∷ ks) key i e (suc j) lj same = elim (head_or_tail k ks key i e) [
+  | inl s ↦ omega (arith, s.2)
+  | inr d ↦ omega (arith, d.4, position-least ks key d.2 d.3 j (omega arith) same)
 ]
 
 module _ {V : Type 0} where
@@ -53,23 +48,13 @@ module _ {V : Type 0} where
 
   -- a new key stands last
   pub at-put_new : (ps : List (List ℕ × V)) (key : List ℕ) (v : V) → at ps key ≡ None → at (put ps key v) key ≡ Some (length ps)
-  at-put_new [] key v e =
-      let none : Option ℕ = None in ap (λ b. cond b (Some 0) none) ((bytes_decides key key).1 refl)
-  at-put_new (p ∷ ps) key v e = elim (same_key p.0 key) [
-    | inl s ↦
-        let bad : ◌≡◌ {A = Option ℕ} (Some 0) None = sym (ap (λ b. cond b (Some 0) (option_map (λ i. i + 1) (at ps key))) s.0) ∙ e in cc
-    | inr d ↦
-        let there : option_map (λ i. i + 1) (at ps key) ≡ None =
-        sym (ap (λ b. cond b (Some 0) (option_map (λ i. i + 1) (at ps key))) d.0) ∙ e in
-        ap (λ b. at (cond b ((p.0, v) ∷ ps) (p ∷ put ps key v)) key) d.0
-        ∙ (ap (λ b. cond b (Some 0) (option_map (λ i. i + 1) (at (put ps key v) key))) d.0
-        ∙ (ap (option_map (λ i. i + 1)) (at-put_new ps key v (unshifted (at ps key) there)) ∙ ap Some (omega arith)))
-  ]
-    where
-      -- no position comes from none
-      unshifted : (o : Option ℕ) → option_map (λ i. i + 1) o ≡ None → o ≡ None
-      unshifted None e = refl
-      unshifted (Some j) e = cc
+  at-put_new ps key v e =
+      let keys : List (List ℕ) = keys_of ps in
+      ap (λ qs. at qs key) (put-absent ps key v e)
+      ∙ (ap (λ ks. position_of ks key) (map-append (λ p. p.0) ps ((key, v) ∷ []))
+      ∙ (position-first (keys ++ key ∷ []) key (length keys) (omega (arith, length-append keys (key ∷ [])))
+      (get_or-append_seam keys key [] [])
+      (λ j lj same. absent-from keys key e j lj (sym (get_or-append keys (key ∷ []) [] j lj) ∙ same)) ∙ ap Some (keys-length ps)))
 
   -- a key that none of the pairs has stands where it stood before they were put
   pub at-put_each : (ps more : List (List ℕ × V)) (key : List ℕ) → ((j : ℕ) → j < length more → get_or (keys_of more) j [] ≢ key)

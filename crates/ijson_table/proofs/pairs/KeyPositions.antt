@@ -13,15 +13,23 @@ same_key a b = elim (bytes_eq a b) as (λ r. bytes_eq a b ≡ r → ((bytes_eq a
   | false ↦ λ e. inr (e, λ same. let yes_it_is = (bytes_decides a b).1 same in let bad : true ≡ false = sym yes_it_is ∙ e in cc)
 ] refl
 
+-- the first key has position 0
+position-head : (k : List ℕ) (ks : List (List ℕ)) (key : List ℕ) → bytes_eq k key ≡ true → position_of (k ∷ ks) key ≡ Some 0
+position-head k ks key same = ap (λ b. cond b (Some 0) (option_map (λ i. i + 1) (position_of ks key))) same
+
+-- any other is one further on than among the rest
+pub position-tail : (k : List ℕ) (ks : List (List ℕ)) (key : List ℕ) → bytes_eq k key ≡ false
+    → position_of (k ∷ ks) key ≡ option_map (λ i. i + 1) (position_of ks key)
+position-tail k ks key other = ap (λ b. cond b (Some 0) (option_map (λ i. i + 1) (position_of ks key))) other
+
 -- the first of its kind
 pub position-first : (keys : List (List ℕ)) (key : List ℕ) (i : ℕ) → i < length keys → get_or keys i [] ≡ key
     → ((j : ℕ) → j < i → get_or keys j [] ≢ key) → position_of keys key ≡ Some i
 position-first [] key i li e before = absurd (omega arith)
-position-first (k ∷ ks) key zero li e before = ap (λ b. cond b (Some 0) (option_map (λ i. i + 1) (position_of ks key)))
-    ((bytes_decides k key).1 e)
+position-first (k ∷ ks) key zero li e before = position-head k ks key ((bytes_decides k key).1 e)
 position-first (k ∷ ks) key (suc i) li e before = elim (same_key k key) [
   | inl s ↦ absurd (before 0 (omega arith) s.1)
-  | inr d ↦ ap (λ b. cond b (Some 0) (option_map (λ i. i + 1) (position_of ks key))) d.0
+  | inr d ↦ position-tail k ks key d.0
       ∙ (ap (option_map (λ i. i + 1)) (position-first ks key i (omega arith) e (λ j lj. before (suc j) (omega arith)))
       ∙ ap Some (omega arith))
 ]
@@ -32,8 +40,7 @@ pub position-none : (keys : List (List ℕ)) (key : List ℕ) → ((j : ℕ) →
 position-none [] key missing = refl
 position-none (k ∷ ks) key missing = elim (same_key k key) [
   | inl s ↦ absurd (missing 0 (omega arith) s.1)
-  | inr d ↦ ap (λ b. cond b (Some 0) (option_map (λ i. i + 1) (position_of ks key))) d.0
-      ∙ ap (option_map (λ i. i + 1)) (position-none ks key (λ j lj. missing (suc j) (omega arith)))
+  | inr d ↦ position-tail k ks key d.0 ∙ ap (option_map (λ i. i + 1)) (position-none ks key (λ j lj. missing (suc j) (omega arith)))
 ]
 
 -- where keys are distinct, the position of a key is where it stands
@@ -46,15 +53,11 @@ position-distinct keys key i d li e = position-first keys key i li e
 first-below : (keys : List (List ℕ)) (key : List ℕ) (j : ℕ) → j < length keys → get_or keys j [] ≡ key
     → (i : ℕ) × (position_of keys key ≡ Some i)
 first-below [] key j lj e = absurd (omega arith)
-first-below (k ∷ ks) key zero lj e = (
-  0,
-  ap (λ b. cond b (Some 0) (option_map (λ i. i + 1) (position_of ks key)))
-      ((bytes_decides k key).1 e),
-)
+first-below (k ∷ ks) key zero lj e = (0, position-head k ks key ((bytes_decides k key).1 e))
 first-below (k ∷ ks) key (suc j) lj e = elim (same_key k key) [
-  | inl s ↦ (0, ap (λ b. cond b (Some 0) (option_map (λ i. i + 1) (position_of ks key))) s.0)
+  | inl s ↦ (0, position-head k ks key s.0)
   | inr d ↦ let rest = first-below ks key j (omega arith) e in
-      (rest.0 + 1, ap (λ b. cond b (Some 0) (option_map (λ i. i + 1) (position_of ks key))) d.0 ∙ ap (option_map (λ i. i + 1)) rest.1)
+      (rest.0 + 1, position-tail k ks key d.0 ∙ ap (option_map (λ i. i + 1)) rest.1)
 ]
 
 -- a key without a position stands nowhere
@@ -62,24 +65,39 @@ pub absent-from : (keys : List (List ℕ)) (key : List ℕ) → position_of keys
 absent-from keys key none j lj e = let found = first-below keys key j lj e in let bad : None ≡ Some found.0 = sym none ∙ found.1 in cc
 
 -- a position that was moved by one comes from one less
-pub shifted : (o : Option ℕ) (i : ℕ) → option_map (λ i. i + 1) o ≡ Some i → (j : ℕ) × (o ≡ Some j) × (j + 1 ≡ i)
+shifted : (o : Option ℕ) (i : ℕ) → option_map (λ i. i + 1) o ≡ Some i → (j : ℕ) × (o ≡ Some j) × (suc j ≡ i)
 shifted None i e = cc
-shifted (Some j) i e = (j, refl, cc)
+shifted (Some j) i e = let more : j + 1 ≡ i = cc in (j, refl, omega (arith, more))
+
+-- and none comes from none
+unshifted : (o : Option ℕ) → option_map (λ i. i + 1) o ≡ None → o ≡ None
+unshifted None e = refl
+unshifted (Some j) e = cc
+
+-- where a key has a position, the first key is this one, or it is one further on than among the rest
+pub head_or_tail : (k : List ℕ) (ks : List (List ℕ)) (key : List ℕ) (i : ℕ) → position_of (k ∷ ks) key ≡ Some i
+    → ((bytes_eq k key ≡ true) × (k ≡ key) × (0 ≡ i)) ⊎
+    ((bytes_eq k key ≡ false) × (k ≢ key) × (j : ℕ) × (position_of ks key ≡ Some j) × (suc j ≡ i))
+head_or_tail k ks key i e = elim (same_key k key) [
+  | inl s ↦ let here : Some 0 ≡ Some i = sym (position-head k ks key s.0) ∙ e in inl (s.0, s.1, cc)
+  | inr d ↦ let rest = shifted (position_of ks key) i (sym (position-tail k ks key d.0) ∙ e) in inr (d.0, d.1, rest.0, rest.1, rest.2)
+]
+
+-- where it has none, the first key is another, and the rest lack it too
+pub none_in : (k : List ℕ) (ks : List (List ℕ)) (key : List ℕ) → position_of (k ∷ ks) key ≡ None
+    → (bytes_eq k key ≡ false) × (k ≢ key) × (position_of ks key ≡ None)
+none_in k ks key e = elim (same_key k key) [
+  | inl s ↦ let bad : ◌≡◌ {A = Option ℕ} (Some 0) None = sym (position-head k ks key s.0) ∙ e in cc
+  | inr d ↦ (d.0, d.1, unshifted (position_of ks key) (sym (position-tail k ks key d.0) ∙ e))
+]
 
 -- where a key stands somewhere, its position is told
 pub position-some : (keys : List (List ℕ)) (key : List ℕ) (i : ℕ) → position_of keys key ≡ Some i
     → (i < length keys) × (get_or keys i [] ≡ key)
 position-some [] key i e = cc
-position-some (k ∷ ks) key i e = elim (same_key k key) [
-  | inl s ↦
-      let here : Some 0 ≡ Some i = sym (ap (λ b. cond b (Some 0) (option_map (λ i. i + 1) (position_of ks key))) s.0) ∙ e in
-      let zero_is : 0 ≡ i = cc in
-      (omega arith, subst (λ n. get_or (k ∷ ks) n [] ≡ key) zero_is s.1)
+position-some (k ∷ ks) key i e = elim (head_or_tail k ks key i e) [
+  | inl s ↦ (omega (arith, s.2), subst (λ n. get_or (k ∷ ks) n [] ≡ key) s.2 s.1)
   | inr d ↦
-      let there : option_map (λ i. i + 1) (position_of ks key) ≡ Some i =
-      sym (ap (λ b. cond b (Some 0) (option_map (λ i. i + 1) (position_of ks key))) d.0) ∙ e in
-      let rest = shifted (position_of ks key) i there in
-      let further = position-some ks key rest.0 rest.1 in
-      let suc_is : suc rest.0 ≡ i = omega (arith, rest.2) in
-      (omega (arith, further.0), subst (λ n. get_or (k ∷ ks) n [] ≡ key) suc_is further.1)
+      let further = position-some ks key d.2 d.3 in
+      (omega (arith, further.0, d.4), subst (λ n. get_or (k ∷ ks) n [] ≡ key) d.4 further.1)
 ]

@@ -1,10 +1,10 @@
 -- What changes of a list of pairs keep: its distinct keys, their positions and the values beside them.
 use Rattle.std.proofs.Common.{◌≡◌, ◌≢◌, ℕ, zero, suc, ◌+◌, ◌-◌, ◌<◌, ◌⊎◌, inl, inr, arith, List, [], ◌∷◌, ◌++◌, length, get_or, set, take}
-use Rattle.std.proofs.Common.{Option, Some, None, cond, refl, sym, ap, subst, ◌∙◌, length-append, get_or-set_other}
+use Rattle.std.proofs.Common.{Some, None, cond, refl, sym, ap, subst, ◌∙◌, length-append, get_or-set_other}
 use Rattle.std.proofs.Common.{get_or-set_same, length-take}
 use Rattle.std.proofs.Math.ListN.{get_or-append}
 use Rattle.std.proofs.Math.Seq.{get_or-append_seam}
-use Rattle.std.specs.Prelude.{swap_remove, option_map, slice_get}
+use Rattle.std.specs.Prelude.{swap_remove, slice_get}
 use Rattle.std.specs.Cmp.Lexicographic.{bytes_decides}
 use Rattle.std.proofs.lemmas.Option.{get_or_from_slice_get, slice_get_read}
 use Rattle.std.proofs.lemmas.List.{get_or_default, get_or-take, length-set, length-map, get_or-map, take-set-le, take-map, map-set}
@@ -12,13 +12,8 @@ use Rattle.std.proofs.lemmas.List.{map-append}
 use Rattle.ijson_table.specs.Store.{keys_of, at, lookup, put, swap_out, with_value, IsDistinct}
 use Rattle.ijson_table.specs.laws.Store.{keys-with_value}
 use Rattle.ijson_table.proofs.arithmetic.Comparing.{below_or_not, same_or_not}
-use Rattle.ijson_table.proofs.pairs.KeyPositions.{absent-from, position-some, same_key, shifted}
+use Rattle.ijson_table.proofs.pairs.KeyPositions.{absent-from, head_or_tail, none_in, position-some, same_key}
 use Rattle.ijson_table.proofs.pairs.DistinctKeys.{AreApart, apart, distinct}
-
--- no position comes from none
-unshifted : (o : Option ℕ) → option_map (λ i. i + 1) o ≡ None → o ≡ None
-unshifted None e = refl
-unshifted (Some j) e = cc
 
 -- keys that differ still do with a new one behind them
 apart_pushed : (keys : List (List ℕ)) (key : List ℕ) → AreApart keys → ((j : ℕ) → j < length keys → get_or keys j [] ≢ key)
@@ -75,33 +70,21 @@ module _ {V : Type 0} where
   pub put-present : (pairs : List (List ℕ × V)) (i : ℕ) (key : List ℕ) (value : V) → at pairs key ≡ Some i
       → put pairs key value ≡ with_value pairs i value
   put-present [] i key value e = cc
-  put-present (pair ∷ pairs) i key value e = elim (same_key pair.0 key) [
-    | inl s ↦
-        let here : Some 0 ≡ Some i = sym (ap (λ b. cond b (Some 0) (option_map (λ i. i + 1) (at pairs key))) s.0) ∙ e in
-        let zero_is : 0 ≡ i = cc in
-        ap (λ b. cond b ((pair.0, value) ∷ pairs) (pair ∷ put pairs key value)) s.0 ∙ ap (λ n. with_value (pair ∷ pairs) n value) zero_is
-    | inr d ↦
-        let there : option_map (λ i. i + 1) (at pairs key) ≡ Some i =
-        sym (ap (λ b. cond b (Some 0) (option_map (λ i. i + 1) (at pairs key))) d.0) ∙ e in
-        let rest = shifted (at pairs key) i there in
-        let suc_is : suc rest.0 ≡ i = omega (arith, rest.2) in
-        ap (λ b. cond b ((pair.0, value) ∷ pairs) (pair ∷ put pairs key value)) d.0
-        ∙ (ap (λ ps. pair ∷ ps) (put-present pairs rest.0 key value rest.1) ∙ ap (λ n. with_value (pair ∷ pairs) n value) suc_is)
+  put-present (pair ∷ pairs) i key value e = elim (head_or_tail pair.0 (keys_of pairs) key i e) [
+    | inl s ↦ ap (λ b. cond b ((pair.0, value) ∷ pairs) (pair ∷ put pairs key value)) s.0
+        ∙ ap (λ n. with_value (pair ∷ pairs) n value) s.2
+    | inr d ↦ ap (λ b. cond b ((pair.0, value) ∷ pairs) (pair ∷ put pairs key value)) d.0
+        ∙ (ap (λ ps. pair ∷ ps) (put-present pairs d.2 key value d.3) ∙ ap (λ n. with_value (pair ∷ pairs) n value) d.4)
   ]
 
   -- a new key goes last
   pub put-absent : (pairs : List (List ℕ × V)) (key : List ℕ) (value : V) → at pairs key ≡ None
       → put pairs key value ≡ pairs ++ (key, value) ∷ []
   put-absent [] key value e = refl
-  put-absent (pair ∷ pairs) key value e = elim (same_key pair.0 key) [
-    | inl s ↦
-        let bad : ◌≡◌ {A = Option ℕ} (Some 0) None = sym (ap (λ b. cond b (Some 0) (option_map (λ i. i + 1) (at pairs key))) s.0) ∙ e in cc
-    | inr d ↦
-        let there : option_map (λ i. i + 1) (at pairs key) ≡ None =
-        sym (ap (λ b. cond b (Some 0) (option_map (λ i. i + 1) (at pairs key))) d.0) ∙ e in
-        ap (λ b. cond b ((pair.0, value) ∷ pairs) (pair ∷ put pairs key value)) d.0
-        ∙ ap (λ ps. pair ∷ ps) (put-absent pairs key value (unshifted (at pairs key) there))
-  ]
+  put-absent (pair ∷ pairs) key value e =
+      let lacks = none_in pair.0 (keys_of pairs) key e in
+      ap (λ b. cond b ((pair.0, value) ∷ pairs) (pair ∷ put pairs key value)) lacks.0
+      ∙ ap (λ ps. pair ∷ ps) (put-absent pairs key value lacks.2)
 
   -- std's removal by swapping is this one
   pub swap_out-is : (pairs : List (List ℕ × V)) (i : ℕ) (d : List ℕ × V) → i < length pairs → swap_remove pairs i d ≡ swap_out pairs i
@@ -202,21 +185,15 @@ module _ {V : Type 0} where
   pub lookup-position : (pairs : List (List ℕ × V)) (key : List ℕ) (i : ℕ) (pair : List ℕ × V) → at pairs key ≡ Some i → i < length pairs
       → pair ≡ get_or pairs i pair → lookup key pairs ≡ Some pair.1
   lookup-position [] key i pair e li is = absurd (omega arith)
-  lookup-position (p ∷ ps) key zero pair e li is = elim (same_key p.0 key) [
+  lookup-position (p ∷ ps) key zero pair e li is = elim (head_or_tail p.0 (keys_of ps) key 0 e) [
     | inl s ↦ ap (λ b. cond b (Some p.1) (lookup key ps)) ((bytes_decides key p.0).1 (sym s.1)) ∙ ap (λ q. Some q.1) (sym is)
-    | inr d ↦
-        let rest = shifted (at ps key) 0 (sym (ap (λ b. cond b (Some 0) (option_map (λ i. i + 1) (at ps key))) d.0) ∙ e) in
-        absurd (omega (arith, rest.2))
+    | inr d ↦ absurd (omega (arith, d.4))
   ]
-  lookup-position (p ∷ ps) key (suc i) pair e li is = elim (same_key p.0 key) [
-    | inl s ↦
-        let here : Some 0 ≡ Some (suc i) = sym (ap (λ b. cond b (Some 0) (option_map (λ i. i + 1) (at ps key))) s.0) ∙ e in
-        let zero_is : 0 ≡ suc i = cc in
-        absurd (omega arith)
+  lookup-position (p ∷ ps) key (suc i) pair e li is = elim (head_or_tail p.0 (keys_of ps) key (suc i) e) [
+    | inl s ↦ absurd (omega (arith, s.2))
     | inr d ↦
-        let rest = shifted (at ps key) (suc i) (sym (ap (λ b. cond b (Some 0) (option_map (λ i. i + 1) (at ps key))) d.0) ∙ e) in
-        let same : rest.0 ≡ i = omega (arith, rest.2) in
-        lookup-other p ps key d.1 ∙ lookup-position ps key i pair (subst (λ n. at ps key ≡ Some n) same rest.1) (omega arith) is
+        let same : d.2 ≡ i = omega (arith, d.4) in
+        lookup-other p ps key d.1 ∙ lookup-position ps key i pair (subst (λ n. at ps key ≡ Some n) same d.3) (omega arith) is
   ]
 
   -- the same, of a pair that was told
@@ -228,11 +205,6 @@ module _ {V : Type 0} where
   -- beside a key that is not there stands no value
   pub lookup-absent : (pairs : List (List ℕ × V)) (key : List ℕ) → at pairs key ≡ None → lookup key pairs ≡ None
   lookup-absent [] key e = refl
-  lookup-absent (p ∷ ps) key e = elim (same_key p.0 key) [
-    | inl s ↦
-        let bad : ◌≡◌ {A = Option ℕ} (Some 0) None = sym (ap (λ b. cond b (Some 0) (option_map (λ i. i + 1) (at ps key))) s.0) ∙ e in cc
-    | inr d ↦
-        let there : option_map (λ i. i + 1) (at ps key) ≡ None =
-        sym (ap (λ b. cond b (Some 0) (option_map (λ i. i + 1) (at ps key))) d.0) ∙ e in
-        lookup-other p ps key d.1 ∙ lookup-absent ps key (unshifted (at ps key) there)
-  ]
+  lookup-absent (p ∷ ps) key e =
+      let lacks = none_in p.0 (keys_of ps) key e in
+      lookup-other p ps key lacks.1 ∙ lookup-absent ps key lacks.2

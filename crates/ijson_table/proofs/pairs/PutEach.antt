@@ -9,7 +9,7 @@ use Rattle.ijson_table.specs.declared.store.ReserveError.TheVariants.{Memory, To
 use Rattle.ijson_table.specs.Growth.{wanted, Ungrown}
 use Rattle.ijson_table.specs.Inserts.{Inserts}
 use Rattle.ijson_table.specs.Store.{at, keys_of, put, put_each, IsDistinct, Lacks}
-use Rattle.ijson_table.proofs.pairs.KeyPositions.{same_key}
+use Rattle.ijson_table.proofs.pairs.KeyPositions.{position-tail, same_key}
 use Rattle.ijson_table.specs.laws.Store.{keys-with_value}
 use Rattle.ijson_table.proofs.pairs.PairsByKey.{distinct_pushed, put-absent, put-present}
 use Rattle.ijson_table.proofs.probing.KeyHashes.{had_room}
@@ -37,8 +37,7 @@ module _ {V : Type 0} where
   missing [] pair more d = refl
   missing (p ∷ pairs) pair more d = elim (same_key p.0 pair.0) [
     | inl s ↦ absurd (lacks_middle p.0 pairs pair more d.0 s.1)
-    | inr n ↦ ap (λ b. cond b (Some 0) (option_map (λ i. i + 1) (at pairs pair.0))) n.0
-        ∙ ap (option_map (λ i. i + 1)) (missing pairs pair more d.1)
+    | inr n ↦ position-tail p.0 (keys_of pairs) pair.0 n.0 ∙ ap (option_map (λ i. i + 1)) (missing pairs pair more d.1)
   ]
 
   -- where no key stands twice, they go last

@@ -1,17 +1,16 @@
 -- Places of the first pairs of a list: a look-up of the next key among them, and the next one put.
-use Rattle.std.proofs.Common.{◌≡◌, ◌≢◌, ◌⊎◌, inl, inr, ℕ, ◌+◌, ◌%◌, ◌<◌, arith, List, [], ◌∷◌, ◌++◌, length, take, get_or, None, sym, ap}
+use Rattle.std.proofs.Common.{◌≡◌, ◌≢◌, ◌⊎◌, inl, inr, ℕ, ◌+◌, ◌<◌, arith, List, [], ◌∷◌, ◌++◌, length, take, get_or, None, sym, ap}
 use Rattle.std.proofs.Common.{subst, ◌∙◌, length-take}
 use Rattle.std.proofs.lemmas.Bool.Decides.{nat_tests}
 use Rattle.std.proofs.lemmas.List.{take_more}
 use Rattle.ijson_table.specs.declared.index.probe.Probed.{Probed}
 use Rattle.ijson_table.specs.declared.index.probe.Probed.TheVariants.{Found, Vacant, Full}
-use Rattle.ijson_table.specs.Slots.{displacement, IsTable}
+use Rattle.ijson_table.specs.Slots.{IsTable}
 use Rattle.ijson_table.specs.Store.{at, keys_of, IsDistinct}
+use Rattle.ijson_table.specs.private.CountedSteps.{Walks}
 use Rattle.ijson_table.specs.private.FirstPlaced.{FirstPlaced}
 use Rattle.ijson_table.specs.private.Holds.{MayStand}
-use Rattle.ijson_table.specs.private.Lookup.{is_hashed_key}
 use Rattle.ijson_table.specs.private.HashIndex.{HashIndex}
-use Rattle.ijson_table.specs.private.Probe.{Ends}
 use Rattle.ijson_table.proofs.pairs.PairsByKey.{distinct_pushed}
 use Rattle.ijson_table.proofs.shifting.Insertion.{some_empty}
 use Rattle.ijson_table.proofs.probing.KeyHashes.{hashes, length-hashes, hashes-push, find_ends}
@@ -20,8 +19,7 @@ module _ {V : Type 0} (hash : List ℕ → ℕ) (pairs : List (List ℕ × V)) (
     (within : n < length pairs) where
   -- a key that is none of theirs, and where it may stand as the next
   pub next_ends : (h : ℕ) (key : List ℕ) (looks p : ℕ) → h ≡ hash key → IsTable index.hashes index.slots → 0 < length index.slots
-      → Ends index.slots (displacement index.hashes index.slots) (h % length index.slots)
-      (is_hashed_key index.hashes (keys_of (take n pairs)) h key) looks (Vacant p)
+      → Walks index (keys_of (take n pairs)) h key looks (Vacant p)
       → (at (take n pairs) key ≡ None) × MayStand (index.hashes ++ h ∷ []) index.slots n p
   next_ends h key looks p hashed table some ends =
       let first : List (List ℕ × V) = take n pairs in
@@ -36,9 +34,7 @@ module _ {V : Type 0} (hash : List ℕ → ℕ) (pairs : List (List ℕ × V)) (
 
   -- where a slot is left, the key for which there is no vacancy is one of theirs
   pub comes_again : (h : ℕ) (key : List ℕ) (looks : ℕ) (end : Probed) → h ≡ hash key → IsTable index.hashes index.slots
-      → n < length index.slots
-      → Ends index.slots (displacement index.hashes index.slots) (h % length index.slots)
-      (is_hashed_key index.hashes (keys_of (take n pairs)) h key) looks end
+      → n < length index.slots → Walks index (keys_of (take n pairs)) h key looks end
       → ((i : ℕ) × (p : ℕ) × (end ≡ Found i p)) ⊎ (end ≡ Full) → at (take n pairs) key ≢ None
   comes_again h key looks (Found i p) hashed table room ends is none =
       let first : List (List ℕ × V) = take n pairs in

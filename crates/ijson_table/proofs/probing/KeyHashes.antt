@@ -1,5 +1,5 @@
 -- A store with a table: the hashes of its keys, and what a probe for a key tells.
-use Rattle.std.proofs.Common.{◌≡◌, ℕ, ◌-◌, ◌<◌, arith, ◌%◌, List, [], ◌∷◌, ◌++◌, length, take, map, get_or, set, Option, sym, ap, subst}
+use Rattle.std.proofs.Common.{◌≡◌, ℕ, ◌-◌, ◌<◌, arith, List, [], ◌∷◌, ◌++◌, length, take, map, get_or, set, Option, sym, ap, subst}
 use Rattle.std.proofs.Common.{◌∙◌}
 use Rattle.std.specs.List.{swap_remove}
 use Rattle.std.proofs.lemmas.Bool.Decides.{nat_tests}
@@ -10,13 +10,13 @@ use Rattle.ijson_table.specs.declared.index.probe.Probed.{Probed}
 use Rattle.ijson_table.specs.declared.index.probe.Probed.TheVariants.{Full}
 use Rattle.ijson_table.specs.Growth.{Grown}
 use Rattle.ijson_table.specs.private.IsPlaced.{IsPlaced}
-use Rattle.ijson_table.specs.Slots.{displacement, IsTable, IsBounded}
-use Rattle.ijson_table.specs.private.Lookup.{is_hashed_key, LookUpEnds}
+use Rattle.ijson_table.specs.Slots.{IsTable, IsBounded}
+use Rattle.ijson_table.specs.private.CountedSteps.{Walks}
+use Rattle.ijson_table.specs.private.Lookup.{LookUpEnds}
 use Rattle.ijson_table.specs.private.HashIndex.{HashIndex}
-use Rattle.ijson_table.specs.private.Probe.{Ends}
 use Rattle.ijson_table.proofs.pairs.KeyPositions.{position-none}
 use Rattle.ijson_table.proofs.pairs.PairsByKey.{keys-length, keys-swap_out, set-value}
-use Rattle.ijson_table.proofs.probing.KeyTests.{is_hashed_key-true, is_hashed_key-false}
+use Rattle.ijson_table.proofs.probing.KeyTests.{is_hashed_key-seeks}
 use Rattle.ijson_table.proofs.probing.ProbeEnds.{look_up_ends, bounded}
 use Rattle.ijson_table.proofs.probing.ProbePath.{placed_at}
 
@@ -59,7 +59,7 @@ module _ {V : Type 0} (hash : List ℕ → ℕ) where
 
   -- what ended a probe by the stored hashes
   abbrev EndsBy : List ℕ → List (List ℕ × V) → ℕ → List (Option ℕ) → List ℕ → ℕ → Probed → Type 0
-  EndsBy hs ps h slots key looks end = Ends slots (displacement hs slots) (h % length slots) (is_hashed_key hs (keys_of ps) h key) looks end
+  EndsBy hs ps h slots key looks end = Walks (record { hashes = hs; slots = slots }) (keys_of ps) h key looks end
 
   -- a probe by the stored hashes ends as one by the keys does
   ends_for : (pairs lent : List (List ℕ × V)) (index : HashIndex) (h : ℕ) (key : List ℕ) (looks : ℕ) (end : Probed)
@@ -77,9 +77,7 @@ module _ {V : Type 0} (hash : List ℕ → ℕ) where
       → EndsBy index.hashes lent h index.slots key looks end → LookUpEnds (hashes pairs) (keys_of pairs) index.slots (hash key) key end
   find_ends pairs lent index h key looks end stored is hashed distinct table some ends =
       look_up_ends hash (keys_of pairs) index.slots (table_of pairs index stored table) key
-      (is_hashed_key (hashes pairs) (keys_of pairs) (hash key) key)
-      (λ i li. is_hashed_key-true (hashes pairs) (keys_of pairs) (hash key) key i)
-      (is_hashed_key-false hash (keys_of pairs) key) distinct some end looks
+      (is_hashed_key-seeks hash (keys_of pairs) key) distinct some end looks
       (ends_for pairs lent index h key looks end stored is hashed ends)
 
   -- by no more looks than the crowd of its home allows
@@ -89,9 +87,7 @@ module _ {V : Type 0} (hash : List ℕ → ℕ) where
       → IsBounded hash (keys_of pairs) index.slots capacity key looks
   find_bounded pairs lent capacity index h key looks end placed is hashed table ends =
       bounded hash (keys_of pairs) index.slots (table_of pairs index placed.hashes table) key
-      (is_hashed_key (hashes pairs) (keys_of pairs) (hash key) key)
-      (λ i li. is_hashed_key-true (hashes pairs) (keys_of pairs) (hash key) key i)
-      (is_hashed_key-false hash (keys_of pairs) key) capacity placed.size end looks
+      (is_hashed_key-seeks hash (keys_of pairs) key) capacity placed.size end looks
       (ends_for pairs lent index h key looks end placed.hashes is hashed ends)
 
   -- in no slots there is no key

@@ -26,8 +26,13 @@ same_test r k key is = elim (same_key k key) [
   ] refl
 ]
 
+-- This test tells of each position whether the key there is the one that is sought.
+pub record Seeks (keys : List (List ℕ)) (key : List ℕ) (seeks : ℕ → Bool) : Type 0 where
+  pub yes_it_is : (i : ℕ) → i < length keys → seeks i ≡ true → get_or keys i [] ≡ key
+  pub no_it_is : (i : ℕ) → i < length keys → seeks i ≡ false → get_or keys i [] ≢ key
+
 -- a key that is told to be the one is it
-pub is_key-true : (keys : List (List ℕ)) (key : List ℕ) (i : ℕ) → is_key keys key i ≡ true → get_or keys i [] ≡ key
+is_key-true : (keys : List (List ℕ)) (key : List ℕ) (i : ℕ) → is_key keys key i ≡ true → get_or keys i [] ≡ key
 is_key-true keys key i e = elim (same_key (get_or keys i []) key) [
   | inl yes_it ↦ yes_it.1
   | inr no_it ↦ let bad = no_it.0 in
@@ -35,12 +40,15 @@ is_key-true keys key i e = elim (same_key (get_or keys i []) key) [
 ]
 
 -- and one that is told to be another is not
-pub is_key-false : (keys : List (List ℕ)) (key : List ℕ) (i : ℕ) → is_key keys key i ≡ false → get_or keys i [] ≢ key
+is_key-false : (keys : List (List ℕ)) (key : List ℕ) (i : ℕ) → is_key keys key i ≡ false → get_or keys i [] ≢ key
 is_key-false keys key i e same = elim (same_key (get_or keys i []) key) [
   | inl yes_it ↦ let bad = yes_it.0 in
       absurd (cc (bad, e))
   | inr no_it ↦ no_it.1 same
 ]
+
+pub is_key-seeks : (keys : List (List ℕ)) (key : List ℕ) → Seeks keys key (is_key keys key)
+is_key-seeks keys key = record { yes_it_is = λ i li. is_key-true keys key i; no_it_is = λ i li. is_key-false keys key i }
 
 -- where both hold, the second does
 and_true : (a b : Bool) → (a && b) ≡ true → b ≡ true
@@ -53,18 +61,25 @@ and_false true b e is = e
 and_false false b e is = cc
 
 -- a key that is told by its hash and its text is the one
-pub is_hashed_key-true : (hashes : List ℕ) (keys : List (List ℕ)) (hash : ℕ) (key : List ℕ) (i : ℕ)
+is_hashed_key-true : (hashes : List ℕ) (keys : List (List ℕ)) (hash : ℕ) (key : List ℕ) (i : ℕ)
     → is_hashed_key hashes keys hash key i ≡ true → get_or keys i [] ≡ key
 is_hashed_key-true hashes keys hash key i e = is_key-true keys key i
     (and_true (eqb (get_or hashes i 0) hash) (bytes_eq (get_or keys i []) key) e)
 
 -- where the hashes differ, so do the keys
-pub is_hashed_key-false : (hash : List ℕ → ℕ) (keys : List (List ℕ)) (key : List ℕ) (i : ℕ) → i < length keys
+is_hashed_key-false : (hash : List ℕ → ℕ) (keys : List (List ℕ)) (key : List ℕ) (i : ℕ) → i < length keys
     → is_hashed_key (map hash keys) keys (hash key) key i ≡ false → get_or keys i [] ≢ key
 is_hashed_key-false hash keys key i li e same =
     let at : get_or (map hash keys) i 0 ≡ hash key = get_or-map hash keys i [] 0 li ∙ ap hash same in
     let yes_it : eqb (get_or (map hash keys) i 0) (hash key) ≡ true = grind (arith, nat_tests, at) in
     is_key-false keys key i (and_false (eqb (get_or (map hash keys) i 0) (hash key)) (bytes_eq (get_or keys i []) key) e yes_it) same
+
+pub is_hashed_key-seeks : (hash : List ℕ → ℕ) (keys : List (List ℕ)) (key : List ℕ)
+    → Seeks keys key (is_hashed_key (map hash keys) keys (hash key) key)
+is_hashed_key-seeks hash keys key = record {
+  yes_it_is = λ i li. is_hashed_key-true (map hash keys) keys (hash key) key i;
+  no_it_is = is_hashed_key-false hash keys key;
+}
 
 -- where the hashes are the same, the texts decide
 pub same_hash : (a b : ℕ) (t : Bool) → a ≡ b → t ≡ (eqb a b && t)

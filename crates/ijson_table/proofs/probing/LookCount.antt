@@ -76,49 +76,38 @@ module _ (hash : List ℕ → ℕ) (keys : List (List ℕ)) (slots : List (Optio
   abbrev hashes : List ℕ
   hashes = map hash keys
 
-  -- it ended at the slot after those that it passed
-  pub bounded_there : (c : ℕ) → length slots ≡ slot_count c → (key : List ℕ) (m looks : ℕ) → m < length slots → looks ≡ m + 1
+  -- it looked at each slot that it passed, and at one more at most
+  bounded_by : (c : ℕ) → length slots ≡ slot_count c → (key : List ℕ) (m looks : ℕ) → 0 < looks → m ≤ length slots
+      → looks ≤ length slots → looks ≤ m + 1
       → Passed (displacement hashes slots) (length slots) (home_of hash (length slots) key) m → IsBounded hash keys slots c key looks
-  bounded_there c size key m looks lm is passed = record {
+  bounded_by c size key m looks some lm within is passed = record {
     some_empty = λ p lp none. omega (
       arith,
       is,
-      within_crowd hash keys slots t c size key m p (omega arith) lp
-          (displacement-none hashes slots p none) passed,
+      within_crowd hash keys slots t c size key m p lm lp (displacement-none hashes slots p none) passed,
     );
-    none_empty = λ full. omega (arith, is, filled hashes slots t full, length-map keys hash);
+    none_empty = λ full. omega (arith, within, filled hashes slots t full, length-map keys hash);
     always = omega (
       arith,
       is,
-      within_list hashes slots t (home_of hash (length slots) key) m (mod-lt (hash key) (omega arith))
-          (omega arith) passed,
+      within_list hashes slots t (home_of hash (length slots) key) m (mod-lt (hash key) (omega (arith, some, within))) lm passed,
       length-map keys hash,
     );
-    some_look = λ some. omega (arith, is);
+    some_look = λ _. some;
   }
+
+  -- it ended at the slot after those that it passed
+  pub bounded_there : (c : ℕ) → length slots ≡ slot_count c → (key : List ℕ) (m looks : ℕ) → m < length slots → looks ≡ m + 1
+      → Passed (displacement hashes slots) (length slots) (home_of hash (length slots) key) m → IsBounded hash keys slots c key looks
+  bounded_there c size key m looks lm is passed =
+      bounded_by c size key m looks (omega arith) (omega arith) (omega arith) (omega arith) passed
 
   -- it passed all slots
   pub bounded_all : (c : ℕ) → length slots ≡ slot_count c → (key : List ℕ) (looks : ℕ) → looks ≡ length slots
       → Passed (displacement hashes slots) (length slots) (home_of hash (length slots) key) (length slots)
       → IsBounded hash keys slots c key looks
   bounded_all c size key looks is passed = elim (below_or_not 0 (length slots)) [
-    | inl some ↦ record {
-      some_empty = λ p lp none. omega (
-        arith,
-        is,
-        within_crowd hash keys slots t c size key (length slots) p (omega arith) lp
-            (displacement-none hashes slots p none) passed,
-      );
-      none_empty = λ full. omega (arith, is, filled hashes slots t full, length-map keys hash);
-      always = omega (
-        arith,
-        is,
-        within_list hashes slots t (home_of hash (length slots) key) (length slots) (mod-lt (hash key) some)
-            (omega arith) passed,
-        length-map keys hash,
-      );
-      some_look = λ some. omega (arith, is);
-    }
+    | inl some ↦ bounded_by c size key (length slots) looks (omega arith) (omega arith) (omega arith) (omega arith) passed
     | inr empty ↦ record {
       some_empty = λ p lp none. omega arith;
       none_empty = λ full. omega arith;

@@ -1,5 +1,5 @@
 -- What the end of a probe for a key tells.
-use Rattle.std.proofs.Common.{◌≡◌, ◌≢◌, ℕ, ◌%◌, ◌<◌, ◌≤◌, inl, inr, arith, Bool, true, false, List, [], ◌∷◌, ◌++◌, length, map, get_or}
+use Rattle.std.proofs.Common.{◌≡◌, ◌≢◌, ℕ, ◌%◌, ◌<◌, ◌≤◌, inl, inr, arith, Bool, List, [], ◌∷◌, ◌++◌, length, map, get_or}
 use Rattle.std.proofs.Common.{Option, Some, sym, ap, subst, ◌∙◌}
 use Rattle.std.proofs.lemmas.List.{length-map}
 use Rattle.std.proofs.Math.Nat.{mod-lt}
@@ -15,6 +15,7 @@ use Rattle.ijson_table.specs.private.Lookup.{found_at, LookUpEnds}
 use Rattle.ijson_table.specs.private.Probe.{onward, Passed, PassedOthers, EndsAt, Ends}
 use Rattle.ijson_table.proofs.arithmetic.Circular.{onward-below}
 use Rattle.ijson_table.proofs.pairs.KeyPositions.{position-none, position-distinct}
+use Rattle.ijson_table.proofs.probing.KeyTests.{Seeks}
 use Rattle.ijson_table.proofs.probing.LookCount.{bounded_there, bounded_all}
 use Rattle.ijson_table.proofs.shifting.Insertion.{may_end, not_round}
 use Rattle.ijson_table.proofs.shifting.Removal.{displacement-as}
@@ -66,9 +67,7 @@ module _ (hashes : List ℕ) (slots : List (Option ℕ)) (t : IsTable hashes slo
       )))
 
 module _ (hash : List ℕ → ℕ) (keys : List (List ℕ)) (slots : List (Option ℕ)) (t : IsTable (map hash keys) slots) (key : List ℕ)
-    (seeks : ℕ → Bool)
-    (yes_it_is : (i : ℕ) → i < length keys → seeks i ≡ true → get_or keys i [] ≡ key)
-    (no_it_is : (i : ℕ) → i < length keys → seeks i ≡ false → get_or keys i [] ≢ key) where
+    {seeks : ℕ → Bool} (tells : Seeks keys key seeks) where
   abbrev hashes : List ℕ
   hashes = map hash keys
 
@@ -83,7 +82,7 @@ module _ (hash : List ℕ → ℕ) (keys : List (List ℕ)) (slots : List (Optio
   other_keys : (m : ℕ) → 0 < length slots → m ≤ length slots → PassedOthers slots seeks home m → (j i : ℕ) → j < m
       → resident slots (onward (length slots) home j) ≡ Some i → get_or keys i [] ≢ key
   other_keys m some lm others j i lj there =
-      no_it_is i (listed (onward (length slots) home j) i
+      tells.no_it_is i (listed (onward (length slots) home j) i
       (onward-below (length slots) home j (mod-lt (hash key) some) (omega arith)) there) (others j i lj there)
 
   -- which position it found, or that the key is not there
@@ -98,7 +97,7 @@ module _ (hash : List ℕ → ℕ) (keys : List (List ℕ)) (slots : List (Optio
         at.there,
       ) in
       let li : i < length keys = listed p i lp ends.2 in
-      position-distinct keys key i distinct li (yes_it_is i li ends.3)
+      position-distinct keys key i distinct li (tells.yes_it_is i li ends.3)
   look_up_ends distinct some (Vacant p) looks ends =
       let at : EndsAt slots (displacement hashes slots) home seeks looks p ends.0 = ends.1 in
       let near : displacement hashes slots (onward (length slots) home ends.0) ≤ ends.0 =

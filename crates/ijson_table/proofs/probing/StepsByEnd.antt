@@ -1,11 +1,10 @@
 -- The steps of a walk for a key, and of putting it where the walk ended, as they follow from where they end.
 use Rattle.std.proofs.Common.{◌≡◌, ℕ, ◌+◌, ◌%◌, ◌<◌, ◌≤◌, Bool, List, length, Option, None, arith, ap, sym, subst, ◌∙◌, inl, inr}
-use Rattle.ijson_table.specs.declared.index.probe.Probed.{Probed}
 use Rattle.ijson_table.specs.declared.index.probe.Probed.TheVariants.{Found, Vacant, Full}
 use Rattle.ijson_table.specs.Crowd.{distance}
 use Rattle.ijson_table.specs.Slots.{displacement, resident}
 use Rattle.ijson_table.specs.private.Changes.{changes}
-use Rattle.ijson_table.specs.private.CountedSteps.{CountsSteps}
+use Rattle.ijson_table.specs.private.CountedSteps.{CountsSteps, Walks}
 use Rattle.ijson_table.specs.private.HashIndex.{HashIndex}
 use Rattle.ijson_table.specs.private.Lookup.{is_hashed_key}
 use Rattle.ijson_table.specs.private.Probe.{onward, Ends, EndsAt}
@@ -56,14 +55,9 @@ module _ (slots : List (Option ℕ)) (displacements : ℕ → ℕ) (h : ℕ) (se
       ]
 
 module _ (hash : List ℕ → ℕ) (keys : List (List ℕ)) (index : HashIndex) (some : 0 < length index.slots) where
-  -- How the walk for a key ends, by its hash
-  abbrev pub Walks : ℕ → List ℕ → ℕ → Probed → Type 0
-  Walks h key looks end = Ends index.slots (displacement index.hashes index.slots) (h % length index.slots)
-      (is_hashed_key index.hashes keys h key) looks end
-
   -- A new key that is put where the walk for it ended: the last slot that is written tells the steps.
-  pub counts_new : (h : ℕ) (key : List ℕ) (looks p last far steps : ℕ) (new : HashIndex) → h ≡ hash key → Walks h key looks (Vacant p)
-      → last < length index.slots → resident index.slots last ≡ None
+  pub counts_new : (h : ℕ) (key : List ℕ) (looks p last far steps : ℕ) (new : HashIndex) → h ≡ hash key
+      → Walks index keys h key looks (Vacant p) → last < length index.slots → resident index.slots last ≡ None
       → changes index.slots new.slots ≤ distance (length index.slots) p last + 1
       → far ≡ distance (length index.slots) (h % length index.slots) last
       → far + 2 ≤ steps → CountsSteps hash keys key index new steps
@@ -77,12 +71,12 @@ module _ (hash : List ℕ → ℕ) (keys : List (List ℕ)) (index : HashIndex) 
       record {
         looks = looks;
         end = Vacant p;
-        walked = subst (λ x. Walks x key looks (Vacant p)) is walks;
+        walked = subst (λ x. Walks index keys x key looks (Vacant p)) is walks;
         counted = omega (arith, ended.looked, way, few, away_is, enough);
       }
 
   -- A key that is found: the slot of its pair tells the steps.
-  pub counts_found : (h : ℕ) (key : List ℕ) (looks at p far steps : ℕ) → h ≡ hash key → Walks h key looks (Found at p)
+  pub counts_found : (h : ℕ) (key : List ℕ) (looks at p far steps : ℕ) → h ≡ hash key → Walks index keys h key looks (Found at p)
       → far ≡ distance (length index.slots) (h % length index.slots) p → far + 1 ≤ steps → CountsSteps hash keys key index index steps
   counts_found h key looks at p far steps is walks away_is enough =
       let n = length index.slots in
@@ -91,16 +85,16 @@ module _ (hash : List ℕ → ℕ) (keys : List (List ℕ)) (index : HashIndex) 
       record {
         looks = looks;
         end = Found at p;
-        walked = subst (λ x. Walks x key looks (Found at p)) is walks;
+        walked = subst (λ x. Walks index keys x key looks (Found at p)) is walks;
         counted = omega (arith, ended.looked, changes-none index.slots, away_is, enough);
       }
 
   -- A key that is not there, where no slot is empty: each of them was looked at.
-  pub counts_full : (h : ℕ) (key : List ℕ) (looks steps : ℕ) → h ≡ hash key → Walks h key looks Full → length index.slots ≤ steps
+  pub counts_full : (h : ℕ) (key : List ℕ) (looks steps : ℕ) → h ≡ hash key → Walks index keys h key looks Full → length index.slots ≤ steps
       → CountsSteps hash keys key index index steps
   counts_full h key looks steps is walks enough = record {
     looks = looks;
     end = Full;
-    walked = subst (λ x. Walks x key looks Full) is walks;
+    walked = subst (λ x. Walks index keys x key looks Full) is walks;
     counted = omega (arith, walks.2, changes-none index.slots, enough);
   }

@@ -58,98 +58,6 @@ gap_closed hashes slots p lp gap end q lq = elim (same_or_not q p) [
   | inr other ↦ gap.ordered q lq other
 ]
 
--- a step of the shift: the resident of the next slot moves to an empty one
-record Shift (hashes : List ℕ) (slots : List (Option ℕ)) (p k : ℕ) : Type 0 where
-  size_mid : length (set slots p (Some k)) ≡ length slots
-  size : length (set (set slots p (Some k)) (after (length slots) p) None) ≡ length slots
-  hollow : displacement hashes slots p ≡ 0
-  apart : p ≢ after (length slots) p
-  was : displacement hashes slots (after (length slots) p)
-      ≡ distance (length slots) (home_at (length slots) hashes k) (after (length slots) p) + 1
-  nearer : distance (length slots) (home_at (length slots) hashes k) p + 1
-      ≡ distance (length slots) (home_at (length slots) hashes k) (after (length slots) p)
-
-shift : (hashes : List ℕ) (slots : List (Option ℕ)) (p k : ℕ) → p < length slots → resident slots p ≡ None
-    → resident slots (after (length slots) p) ≡ Some k → 1 < displacement hashes slots (after (length slots) p) → Shift hashes slots p k
-shift hashes slots p k lp empty there far =
-    let n : ℕ = length slots in
-    let p' : ℕ = after n p in
-    let size_mid = length-set slots p (Some k) in
-    let hollow = displacement-none hashes slots p empty in
-    let was : displacement hashes slots p' ≡ distance n (home_at n hashes k) p' + 1 = displacement-some hashes slots p' k there in
-    record {
-      size_mid = size_mid;
-      size = length-set (set slots p (Some k)) p' None ∙ size_mid;
-      hollow = hollow;
-      apart = λ e. omega (arith, ap (displacement hashes slots) e, hollow, far);
-      was = was;
-      nearer = distance-back n (home_at n hashes k) p (home-below n hashes k (omega arith)) lp (omega (arith, was, far));
-    }
-
--- the next resident moves one slot back, and leaves a gap
-pub moved_back : (hashes : List ℕ) (slots : List (Option ℕ)) (p k : ℕ) → p < length slots → HasGap hashes slots p
-    → resident slots (after (length slots) p) ≡ Some k → 1 < displacement hashes slots (after (length slots) p)
-    → HasGap hashes (set (set slots p (Some k)) (after (length slots) p) None) (after (length slots) p)
-moved_back hashes slots p k lp gap there far =
-    let n : ℕ = length slots in
-    let p' : ℕ = after n p in
-    let lp' : p' < n = after-below n p lp in
-    let mid : List (Option ℕ) = set slots p (Some k) in
-    let last : List (Option ℕ) = set mid p' None in
-    let step : Shift hashes slots p k = shift hashes slots p k lp gap.empty there far in
-    let at_p' : displacement hashes last p' ≡ 0 = displacement-set_none hashes mid p' (omega (arith, step.size_mid, lp')) in
-    let at_p : displacement hashes last p + 1 ≡ displacement hashes slots p' =
-    let at_mid = displacement-set_some hashes slots p k lp in
-    omega (arith, displacement-set_other hashes mid p' p None step.apart, at_mid, step.was, step.nearer) in
-    let off : (q : ℕ) → q ≢ p → q ≢ p' → displacement hashes last q ≡ displacement hashes slots q =
-    λ q a b. displacement-set_other hashes mid p' q None b ∙ displacement-set_other hashes slots p q (Some k) a in
-    let off_up : (q : ℕ) → q ≢ p → displacement hashes last q ≤ displacement hashes slots q = λ q a. elim (same_or_not q p') [
-      | inl at ↦ omega (arith, at_p', ap (displacement hashes last) at)
-      | inr other ↦ omega (arith, off q a other)
-    ] in
-    let mid_p' : resident mid p' ≡ Some k = get_or-set_other slots p p' (Some k) None (λ e. step.apart (sym e)) ∙ there in
-    record {
-      within = omega (arith, lp', step.size);
-      empty = get_or-set_same mid p' None None (omega arith);
-      ordered = λ q lq ne.
-          let lq' : q < n = omega arith in
-          let goal : displacement hashes last (after n q) ≤ displacement hashes last q + 1 = elim (same_or_not q p) [
-            | inl self ↦ let to : after n q ≡ p' = ap (after n) self in omega (arith, at_p', ap (displacement hashes last) to)
-            | inr other ↦
-                let same : displacement hashes last q ≡ displacement hashes slots q = off q other ne in
-                elim (same_or_not (after n q) p) [
-                  | inl before ↦ omega (arith, gap.behind q lq' before, at_p, ap (displacement hashes last) before)
-                  | inr elsewhere ↦ omega (arith, gap.ordered q lq' other, off_up (after n q) elsewhere)
-                ]
-          ] in
-          omega (arith, goal, ap (λ s. displacement hashes last (after s q)) step.size);
-      behind = λ q lq at.
-          let lq' : q < n = omega arith in
-          let self : q ≡ p = after-injective n q p lq' lp (ap (λ s. after s q) (sym step.size) ∙ at) in
-          let here : displacement hashes last q ≡ displacement hashes last p = ap (displacement hashes last) self in
-          let goal : displacement hashes last (after n p') ≤ displacement hashes last p + 2 = elim (same_or_not (after n p') p) [
-            | inl round ↦ omega (arith, ap (displacement hashes last) round)
-            | inr other ↦ omega (arith, gap.ordered p' lp' (λ e. step.apart (sym e)), off_up (after n p') other, at_p)
-          ] in
-          omega (arith, goal, here, ap (λ s. displacement hashes last (after s p')) step.size);
-    }
-
--- and each position stands as often as before
-pub times-moved_back : (slots : List (Option ℕ)) (p p' k i : ℕ) → p < length slots → p' < length slots → p' ≢ p → resident slots p ≡ None
-    → resident slots p' ≡ Some k
-    → times i (set (set slots p (Some k)) p' None) ≡ times i slots
-times-moved_back slots p p' k i lp lp' apart empty there =
-    let mid : List (Option ℕ) = set slots p (Some k) in
-    let mid_p' : resident mid p' ≡ Some k = get_or-set_other slots p p' (Some k) None apart ∙ there in
-    omega (
-      arith,
-      times-set i slots p (Some k) lp,
-      times-set i mid p' None (omega (arith, lp', length-set slots p (Some k))),
-      ap
-          (one_if i) empty,
-      ap (one_if i) mid_p',
-    )
-
 -- The sum over the slots, by which the shift ends.
 pub total : (ℕ → ℕ) → ℕ → ℕ
 total f zero = 0
@@ -174,31 +82,117 @@ total-one f g (suc n) p lp h = elim (same_or_not p n) [
 pub all_displacements : List ℕ → List (Option ℕ) → ℕ
 all_displacements hashes slots = total (displacement hashes slots) (length slots)
 
--- each step of the shift lowers it
-pub shift_falls : (hashes : List ℕ) (slots : List (Option ℕ)) (p k : ℕ) → p < length slots → resident slots p ≡ None
-    → resident slots (after (length slots) p) ≡ Some k → 1 < displacement hashes slots (after (length slots) p)
-    → all_displacements hashes (set (set slots p (Some k)) (after (length slots) p) None) < all_displacements hashes slots
-unfolding all_displacements
-shift_falls hashes slots p k lp empty there far =
-    let n : ℕ = length slots in
-    let p' : ℕ = after n p in
-    let lp' : p' < n = after-below n p lp in
-    let mid : List (Option ℕ) = set slots p (Some k) in
-    let last : List (Option ℕ) = set mid p' None in
-    let step : Shift hashes slots p k = shift hashes slots p k lp empty there far in
-    let one = total-one (displacement hashes slots) (displacement hashes mid) n p lp
-    (λ q ne. displacement-set_other hashes slots p q (Some k) ne) in
-    let two = total-one (displacement hashes mid) (displacement hashes last) n p' lp'
-    (λ q ne. displacement-set_other hashes mid p' q None ne) in
-    omega (
-      arith,
-      one,
-      two,
-      step.hollow,
-      step.was,
-      step.nearer,
-      displacement-set_some hashes slots p k lp,
-      displacement-set_none hashes mid p' (omega (arith, step.size_mid, lp')),
-      displacement-set_other hashes slots p p' (Some k) (λ e. step.apart (sym e)),
-      ap (total (displacement hashes last)) step.size,
-    )
+-- A step of the shift: the resident of the next slot, which is not at its home, moves to an empty one, and leaves a gap.
+module _ (hashes : List ℕ) (slots : List (Option ℕ)) (p k : ℕ) (lp : p < length slots) (empty : resident slots p ≡ None)
+    (there : resident slots (after (length slots) p) ≡ Some k) (far : 1 < displacement hashes slots (after (length slots) p)) where
+  abbrev n : ℕ
+  n = length slots
+
+  abbrev p' : ℕ
+  p' = after n p
+
+  abbrev mid : List (Option ℕ)
+  mid = set slots p (Some k)
+
+  abbrev last : List (Option ℕ)
+  last = set mid p' None
+
+  behind_within : p' < n
+  behind_within = after-below n p lp
+
+  size_mid : length mid ≡ n
+  size_mid = length-set slots p (Some k)
+
+  size_last : length last ≡ n
+  size_last = length-set mid p' None ∙ size_mid
+
+  hollow : displacement hashes slots p ≡ 0
+  hollow = displacement-none hashes slots p empty
+
+  moves : p ≢ p'
+  moves = λ e. omega (arith, ap (displacement hashes slots) e, hollow, far)
+
+  -- how far the resident was from its home, and is then
+  was : displacement hashes slots p' ≡ distance n (home_at n hashes k) p' + 1
+  was = displacement-some hashes slots p' k there
+
+  nearer : distance n (home_at n hashes k) p + 1 ≡ distance n (home_at n hashes k) p'
+  nearer = distance-back n (home_at n hashes k) p (home-below n hashes k (omega (arith, lp))) lp (omega (arith, was, far))
+
+  -- where it moved to
+  at_mid : displacement hashes mid p ≡ distance n (home_at n hashes k) p + 1
+  at_mid = displacement-set_some hashes slots p k lp
+
+  -- and where it stood
+  at_last : displacement hashes last p' ≡ 0
+  at_last = displacement-set_none hashes mid p' (omega (arith, size_mid, behind_within))
+
+  -- the order is open at the next slot then
+  pub moved_back : HasGap hashes slots p → HasGap hashes last p'
+  moved_back gap =
+      let at_p : displacement hashes last p + 1 ≡ displacement hashes slots p' =
+      omega (arith, displacement-set_other hashes mid p' p None moves, at_mid, was, nearer) in
+      let off : (q : ℕ) → q ≢ p → q ≢ p' → displacement hashes last q ≡ displacement hashes slots q =
+      λ q a b. displacement-set_other hashes mid p' q None b ∙ displacement-set_other hashes slots p q (Some k) a in
+      let off_up : (q : ℕ) → q ≢ p → displacement hashes last q ≤ displacement hashes slots q = λ q a. elim (same_or_not q p') [
+        | inl at ↦ omega (arith, at_last, ap (displacement hashes last) at)
+        | inr other ↦ omega (arith, off q a other)
+      ] in
+      record {
+        within = omega (arith, behind_within, size_last);
+        empty = get_or-set_same mid p' None None (omega (arith, behind_within, size_mid));
+        ordered = λ q lq ne.
+            let lq' : q < n = omega (arith, lq, size_last) in
+            let goal : displacement hashes last (after n q) ≤ displacement hashes last q + 1 = elim (same_or_not q p) [
+              | inl self ↦ let to : after n q ≡ p' = ap (after n) self in omega (arith, at_last, ap (displacement hashes last) to)
+              | inr other ↦
+                  let same : displacement hashes last q ≡ displacement hashes slots q = off q other ne in
+                  elim (same_or_not (after n q) p) [
+                    | inl before ↦ omega (arith, gap.behind q lq' before, at_p, ap (displacement hashes last) before)
+                    | inr elsewhere ↦ omega (arith, gap.ordered q lq' other, off_up (after n q) elsewhere)
+                  ]
+            ] in
+            omega (arith, goal, ap (λ s. displacement hashes last (after s q)) size_last);
+        behind = λ q lq at.
+            let lq' : q < n = omega (arith, lq, size_last) in
+            let self : q ≡ p = after-injective n q p lq' lp (ap (λ s. after s q) (sym size_last) ∙ at) in
+            let here : displacement hashes last q ≡ displacement hashes last p = ap (displacement hashes last) self in
+            let goal : displacement hashes last (after n p') ≤ displacement hashes last p + 2 = elim (same_or_not (after n p') p) [
+              | inl round ↦ omega (arith, ap (displacement hashes last) round)
+              | inr other ↦ omega (arith, gap.ordered p' behind_within (λ e. moves (sym e)), off_up (after n p') other, at_p)
+            ] in
+            omega (arith, goal, here, ap (λ s. displacement hashes last (after s p')) size_last);
+      }
+
+  -- each position stands as often as before
+  pub times-moved_back : (i : ℕ) → times i last ≡ times i slots
+  times-moved_back i =
+      let mid_p' : resident mid p' ≡ Some k = get_or-set_other slots p p' (Some k) None (λ e. moves (sym e)) ∙ there in
+      omega (
+        arith,
+        times-set i slots p (Some k) lp,
+        times-set i mid p' None (omega (arith, behind_within, size_mid)),
+        ap (one_if i) empty,
+        ap (one_if i) mid_p',
+      )
+
+  -- and the displacements are less in all
+  pub shift_falls : all_displacements hashes last < all_displacements hashes slots
+  unfolding all_displacements
+  shift_falls =
+      let one = total-one (displacement hashes slots) (displacement hashes mid) n p lp
+      (λ q ne. displacement-set_other hashes slots p q (Some k) ne) in
+      let two = total-one (displacement hashes mid) (displacement hashes last) n p' behind_within
+      (λ q ne. displacement-set_other hashes mid p' q None ne) in
+      omega (
+        arith,
+        one,
+        two,
+        hollow,
+        was,
+        nearer,
+        at_mid,
+        at_last,
+        displacement-set_other hashes slots p p' (Some k) (λ e. moves (sym e)),
+        ap (total (displacement hashes last)) size_last,
+      )

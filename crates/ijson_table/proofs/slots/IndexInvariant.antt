@@ -15,6 +15,7 @@ use Rattle.ijson_table.specs.private.HashIndex.{IsIndex}
 use Rattle.ijson_table.proofs.slots.HashesInSlots.{positions-length, position-at, all_empty, hashes-none, hashes-as}
 use Rattle.ijson_table.proofs.shifting.Insertion.{some_empty}
 use Rattle.ijson_table.proofs.shifting.Removal.{holds_none, holds_pushed, table-holds}
+use Rattle.ijson_table.proofs.slots.ResidentCount.{no_less}
 use Rattle.ijson_table.proofs.slots.Residents.{times-some}
 use Rattle.ijson_table.proofs.slots.HashesInOrder.{hashes_of-table, index_of}
 use Rattle.ijson_table.proofs.probing.ProbePath.{in_list}
@@ -35,29 +36,26 @@ pub record IsIndexOf (hashes : List ℕ) (slots : List Slot) : Type 0 where
   pub is : hashes_of slots ≡ hashes
 
 -- slots that are a table of hashes are an index with these
-pub index_is : (hashes : List ℕ) (slots : List Slot) → IsTable hashes (positions slots) → HaveHashes hashes slots
-    → length hashes ≤ length slots → IsIndexOf hashes slots
-index_is hashes slots table have fits = record {
-  index = index_of hashes slots table have fits;
-  is =
-      hashes_of-table hashes slots table have fits;
-}
+pub index_is : (hashes : List ℕ) (slots : List Slot) → IsTable hashes (positions slots) → HaveHashes hashes slots → IsIndexOf hashes slots
+index_is hashes slots table have =
+    let fits : length hashes ≤ length slots =
+    omega (arith, no_less (length hashes) (positions slots) table.placed, positions-length slots) in
+    record { index = index_of hashes slots table have fits; is = hashes_of-table hashes slots table have fits }
 
 -- the slots after a call that was lent them as a whole, and their hashes
-pub after_call : (f : List ℕ → List ℕ) (old lent new : List Slot) (len : ℕ) → length (f (hashes_of old)) ≤ length old → lent ≡ old
-    → length new ≡ length lent → len ≡ length old
+pub after_call : (f : List ℕ → List ℕ) (old lent new : List Slot) (len : ℕ) → lent ≡ old → length new ≡ length lent → len ≡ length old
     → IsTableOf (f (hashes_of lent)) new → IsIndexOf (f (hashes_of old)) (take len (new ++ drop (length new) old))
-after_call f old lent new len room is same size table =
+after_call f old lent new len is same size table =
     let now : length new ≡ length old = same ∙ ap length is in
     let t : IsTableOf (f (hashes_of old)) new = subst (λ ps. IsTableOf (f (hashes_of ps)) new) is table in
     subst (IsIndexOf (f (hashes_of old))) (sym (whole len new old now size))
-    (index_is (f (hashes_of old)) new t.table t.hashes_are (omega (arith, room, now)))
+    (index_is (f (hashes_of old)) new t.table t.hashes_are)
 
 -- where no position stands
 pub empty_index : (slots : List Slot) → All (λ slot. position_in slot ≡ None) slots → IsIndexOf [] slots
 empty_index slots empty =
     let held : Holds [] (below 0) None (positions slots) = holds_none [] (positions slots) (all_empty slots empty) in
-    index_is [] slots (table-holds [] 0 (positions slots) refl held) (hashes-none [] slots empty) (omega arith)
+    index_is [] slots (table-holds [] 0 (positions slots) refl held) (hashes-none [] slots empty)
 
 -- where no position has a hash, nothing stands at any slot
 nothing_there : (slots : List Slot) → IsIndex slots → hashes_of slots ≡ [] → (p : ℕ) → p < length slots → (read : Option ℕ)
@@ -108,7 +106,7 @@ module _ (slots : List Slot) (index : IsIndex slots) (position hash : ℕ) (next
         ordered = held.ordered;
         placed =
             λ i. grind (arith, nat_tests, held.placed i, index.table.table.placed i, next, size);
-      }) have (omega (arith, size, room, same))
+      }) have
 
 -- the slots after a call that was lent them as a whole and put one position more into them, and their hashes
 pub after_push : (old lent new : List Slot) (position hash len : ℕ) → IsIndex old → position ≡ length (hashes_of old)

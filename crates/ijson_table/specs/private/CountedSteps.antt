@@ -7,10 +7,14 @@ use Rattle.ijson_table.specs.private.HashIndex.{HashIndex}
 use Rattle.ijson_table.specs.private.Lookup.{is_hashed_key}
 use Rattle.ijson_table.specs.private.Probe.{Ends}
 
+-- How the walk for a key of hash h among others ended, by so many looks
+abbrev pub Walks : HashIndex → List (List ℕ) → ℕ → List ℕ → ℕ → Probed → Type 0
+Walks index keys h key looks end = Ends index.slots (displacement index.hashes index.slots) (h % length index.slots)
+    (is_hashed_key index.hashes keys h key) looks end
+
 -- So many steps have in them each look of the walk for a key among others, and each slot that was changed then.
 pub record CountsSteps (hash : List ℕ → ℕ) (keys : List (List ℕ)) (key : List ℕ) (old new : HashIndex) (steps : ℕ) : Type 0 where
   pub looks : ℕ
   pub end : Probed
-  pub walked : Ends old.slots (displacement old.hashes old.slots) (hash key % length old.slots)
-      (is_hashed_key old.hashes keys (hash key) key) looks end
+  pub walked : Walks old keys (hash key) key looks end
   pub counted : looks + changes old.slots new.slots ≤ steps

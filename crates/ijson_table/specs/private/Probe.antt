@@ -1,5 +1,5 @@
 -- The walk of a probe: from a home slot on, until what it seeks, an empty slot, or a resident that is nearer to its own home.
-use Rattle.std.specs.Prelude.{◌≡◌, ℕ, ◌+◌, ◌-◌, ◌<◌, ◌≤◌, Bool, true, false, ltb, List, length, Option, Some, None, if◌then◌else◌}
+use Rattle.std.specs.Prelude.{◌≡◌, ◌≢◌, ℕ, ◌+◌, ◌-◌, ◌<◌, ◌≤◌, Bool, true, false, ltb, List, length, Option, Some, None, if◌then◌else◌}
 use Rattle.ijson_table.specs.declared.index.places.Seen.{Seen}
 use Rattle.ijson_table.specs.declared.index.places.Seen.TheVariants.{Empty, Resident}
 use Rattle.ijson_table.specs.declared.index.probe.Probed.{Probed}
@@ -9,6 +9,10 @@ use Rattle.ijson_table.specs.Slots.{resident}
 -- the slot k on from p, round the end of n slots
 unfoldable pub onward : ℕ → ℕ → ℕ → ℕ
 onward n p k = (if ltb (p + k) n then p + k else p + k - n)
+
+-- the m slots from p on have residents, round the end
+abbrev pub AreFull : List (Option ℕ) → ℕ → ℕ → Type 0
+AreFull slots p m = (j : ℕ) → j < m → resident slots (onward (length slots) p j) ≢ None
 
 -- what one look of a probe tells: whether the slot is empty; else the position there, how far it is displaced, and
 -- whether it is what the probe seeks

@@ -1,8 +1,17 @@
--- How many pairs a store may have.
-use Rattle.std.specs.Prelude.{ℕ, ◌≤◌}
-use Rattle.ijson_table.specs.Growth.{capacity_limit}
+-- How many pairs a store may have, and what more of them ask for.
+use Rattle.std.specs.Prelude.{◌≡◌, ℕ, ◌+◌, ◌<◌, ◌≤◌, Option, Some, None, Result, Ok, Err}
+use Rattle.ijson_table.specs.Growth.{capacity_limit, wanted}
+use Rattle.ijson_table.specs.declared.store.ReserveError.{ReserveError}
+use Rattle.ijson_table.specs.declared.store.ReserveError.TheVariants.{TooLarge}
 
 -- Each pair has room, and the capacity is within the limit.
 pub record HasRoom (len c : ℕ) : Type 0 where
   pub within : len ≤ c
   pub limited : c ≤ capacity_limit
+
+-- What n more pairs ask of a store of this length and capacity c: nothing where they have room, else the capacity that it grows to,
+-- unless that passes the limit.
+abbrev pub AsksFor : ℕ → ℕ → ℕ → Result (Option ℕ) ReserveError → Type 0
+AsksFor len c n (Ok None) = len + n ≤ c
+AsksFor len c n (Ok (Some grown)) = (c < len + n) × (grown ≡ wanted len c n) × (grown ≤ capacity_limit)
+AsksFor len c n (Err why) = (c < len + n) × (why ≡ TooLarge) × (capacity_limit < wanted len c n)

@@ -97,6 +97,7 @@ fn steps_to_home(entry: Slot, modulus: Modulus, from: usize) -> usize
 }
 
 /// The slot so many steps on, round the end.
+#[tactic(auto, using(std::proofs::lemmas::Bool::Decides::nat_tests), unfolding(crate::specs::private::Probe::onward))]
 fn steps_on(slots: usize, from: usize, steps: usize) -> usize
     requires from { from < slots }
     requires steps { steps < slots }

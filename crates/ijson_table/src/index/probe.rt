@@ -68,6 +68,7 @@ pub trait ProbeTarget {
 }
 
 /// The slot after this one, round the end.
+#[tactic(auto, using(std::proofs::lemmas::Bool::Decides::nat_tests), unfolding(crate::specs::Slots::after))]
 pub fn next_slot(slots: usize, slot: usize) -> usize
     requires { slot < slots }
     ensures slot { result ≡ after slots slot }

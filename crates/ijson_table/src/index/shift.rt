@@ -8,7 +8,7 @@ ghost use Rattle.ijson_table.specs.private.Closing.{closed};
 ghost use Rattle.ijson_table.specs.private.Holds.{with_one, Holds, HasEmpty, HasGap, MayStand};
 ghost use Rattle.ijson_table.specs.private.Insertion.{Accepts, AcceptsEach, EndsWith, IsTableOf, Stands};
 ghost use Rattle.ijson_table.specs.private.SlotHashes.{displacement_in, positions, position_in, HaveHashes};
-ghost use Rattle.ijson_table.specs.private.Probe.{IsVacancy};
+ghost use Rattle.ijson_table.specs.private.Probe.{AreFull, IsVacancy};
 ghost use Rattle.std.specs.List.{All, remove, swap_remove as swapped_out};
 
 use crate::index::clear_slots;
@@ -114,6 +114,7 @@ pub fn shift_forward(slots: &mut [Slot], from: usize, position: usize, hash: u64
     ensures hashes { HaveHashes hashes slots.new }
     ensures within { result < length slots.old }
     ensures empty { resident (positions slots.old) result ≡ None }
+    ensures passed { AreFull (positions slots.old) from (distance (length slots.old) from result) }
     ensures changes { changes (positions slots.old) (positions slots.new) ≤ distance (length slots.old) from result + 1 }
     ensures few { (n : ℕ) → ((i : ℕ) → with_one (positions slots.old) position i ≤ below n i)
         → distance (length slots.old) from result + 1 ≤ n }

@@ -11,13 +11,12 @@ ghost use Rattle.ijson_table.specs.private.CountedSteps.{CountsSteps};
 ghost use Rattle.ijson_table.specs.private.FirstPlaced.{ComesAgain, FirstPlaced};
 
 use super::Table;
-use crate::growth::{limited, split_rest, tighten};
+use crate::growth::{limited, slots_for, split_rest, tighten};
 use crate::hash::KeyHash;
 use crate::index::Index;
 use crate::index::probe::{Lookup, Probed, probe};
 use crate::index::slot::{Modulus, distance_between};
 use crate::sorting::build::{fill_sorted, put_sorted};
-use crate::sorting::second_hash::SecondHash;
 use crate::store::{PairStore, ReserveError};
 use ijson_number::Looks;
 use ijson_string::IString;
@@ -65,7 +64,7 @@ impl<V: Drop, H: KeyHash> Table<V, H> {
     {
         let capacity = limited(pairs.len())?;
         tighten(alloc, &mut pairs)?;
-        let mut index = Index::with_slots(alloc, capacity + capacity / 4)?;
+        let mut index = Index::with_slots(alloc, slots_for(capacity))?;
         let most = STEPS_A_PAIR * capacity;
         let mut steps = 0;
         let placed = add_new_keys::<V, H>(&pairs, &mut index, most, &mut steps);
@@ -143,6 +142,7 @@ impl<V: Drop, H: KeyHash> Table<V, H> {
     }
 
     /// Inserts a pair in the room that there is, and answers the steps: each slot that it looks at, and each slot that it writes.
+    #[tactic(auto, using(crate::proofs::pairs::PairsByKey::position_within))]
     fn insert_in_room(&mut self, key: IString, value: V) -> usize
         requires { length self.old.store.pairs < self.old.store.capacity }
         ensures pairs { self.new.store.pairs ≡ put self.old.store.pairs key value }
@@ -186,7 +186,7 @@ impl<V: Drop, H: KeyHash> Table<V, H> {
         index.clear();
         let mut pairs = self.pairs;
         put_back(&mut pairs, rest);
-        let pairs = put_sorted::<V, SecondHash>(alloc, pairs, looks)?;
+        let pairs = put_sorted(alloc, pairs, looks)?;
         fill_sorted::<V, H>(alloc, &pairs, &mut index, looks)?;
         Ok(Table {
             pairs,

@@ -161,18 +161,10 @@ fn bears_refusals<S: Store>(rt: &impl Abort, alloc: Global) {
 }
 
 #[test]
-fn linear_pairs(rt: HostRuntime) {
+fn stores_of_few_pairs(rt: HostRuntime) {
     bears_refusals::<LinearPairs<u16>>(&rt, rt.alloc());
-}
-
-#[test]
-fn a_table(rt: HostRuntime) {
-    bears_refusals::<Table<u16, AlwaysZero>>(&rt, rt.alloc());
-}
-
-#[test]
-fn a_fixed_table(rt: HostRuntime) {
     bears_refusals::<FixedTable<u16>>(&rt, rt.alloc());
+    bears_refusals::<Table<u16, AlwaysZero>>(&rt, rt.alloc());
 }
 
 /// What holds of a store of so many pairs, whichever request is refused.

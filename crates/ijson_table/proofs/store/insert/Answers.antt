@@ -2,11 +2,8 @@ use Rattle.std.proofs.Common.{◌≡◌, length, refl, ap, sym, ◌∙◌, subst
 use Rattle.ijson_table.specs.Growth.{Grown}
 use Rattle.ijson_table.specs.Store.{at, with_value}
 use Rattle.ijson_table.proofs.pairs.NewPairs.{put_last}
-use Rattle.ijson_table.proofs.pairs.PairsByKey.{position_within, put-present, lookup-found, lookup-absent}
+use Rattle.ijson_table.proofs.pairs.PairsByKey.{put-present, lookup-found, lookup-absent}
 use Rattle.ijson_table.proofs.store.insert.Goals as goal
-
-pub value_mut-requires : goal.value_mut-requires
-value_mut-requires g c = position_within (g.P.PairStore.pairs c.args.store.now) c.as_str.result.now c.in-Some.at (sym c.in-Some.ensures)
 
 pub returns-in-Some : goal.returns-in-Some
 returns-in-Some g c =
@@ -31,7 +28,7 @@ returns g c =
     let before = g.P.PairStore.pairs c.args.store.now in
     let missing : at before c.args.key ≡ None = ap (at before) (sym c.as_str.ensures) ∙ sym c.in_default.ensures in (
       lookup-absent before c.args.key missing,
-      put_last c.args.key c.args.value c.in_default-reserve.ensures.pairs c.push_new.ensures.pairs missing,
+      put_last c.args.key c.args.value c.in_default-reserve.ensures.pairs c.push_new.ensures.pairs refl missing,
       subst (λ r. Grown (length before) (g.P.PairStore.room c.args.store.now) 1 r)
           (sym c.push_new.ensures.room) c.in_default-reserve.ensures.grown,
     )

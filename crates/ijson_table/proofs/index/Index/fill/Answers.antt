@@ -30,8 +30,7 @@ left g c =
     let slots : List Slot = c.self.inside.slots.items in
     let size : length c.fill.new.slots ≡ length slots = omega (arith, c.fill.auto.slots, ap length c.deref_mut.ensures.value) in
     subst (IsIndexOf g.hashes) (sym (whole c.self.inside.slots.len c.fill.new.slots slots size (omega (arith, c.self.inside.slots.ok.0))))
-    (index_is g.hashes c.fill.new.slots c.fill.ensures.table c.fill.ensures.hashes_are
-    (omega (arith, c.requires.1.0, size, positions-length slots, ap (λ (l : HashIndex). length l.slots) c.self.view_is)))
+    (index_is g.hashes c.fill.new.slots c.fill.ensures.table c.fill.ensures.hashes_are)
 
 pub invariant_of-self : goal.invariant_of-self
 invariant_of-self g c = (left g c).index

@@ -1,4 +1,4 @@
-use Rattle.std.proofs.Common.{◌≡◌, ◌≤◌, ℕ, List, [], length, take, drop, ◌++◌, arith, ap, refl, sym, ◌∙◌, subst, None, Bool, true, false}
+use Rattle.std.proofs.Common.{◌≡◌, ℕ, List, [], length, take, drop, ◌++◌, arith, ap, refl, sym, ◌∙◌, subst, None, Bool, true, false}
 use Rattle.std.specs.Prelude.{IsTrue, IsFalse}
 use Rattle.std.specs.List.{All}
 use Rattle.ijson_table.specs.declared.index.slot.Slot.{Slot}
@@ -20,24 +20,23 @@ bool_apart : ◌≡◌ {A = Bool} true false → ⊥
 bool_apart bad = cc
 
 -- all or none
-left_in : (done : Bool) (hashes : List ℕ) (new : List Slot) → length hashes ≤ length new → (IsTrue done → IsTableOf hashes new)
+left_in : (done : Bool) (hashes : List ℕ) (new : List Slot) → (IsTrue done → IsTableOf hashes new)
     → (IsFalse done → All (λ slot. position_in slot ≡ None) new) → AreLeft done hashes new
-left_in true hashes new fits table empty =
-    let all : IsIndexOf hashes new = index_is hashes new (table refl).table (table refl).hashes_are fits in
+left_in true hashes new table empty =
+    let all : IsIndexOf hashes new = index_is hashes new (table refl).table (table refl).hashes_are in
     record { index = all.index; full = λ _. all.is; empty = λ f. absurd (bool_apart f) }
-left_in false hashes new fits table empty =
+left_in false hashes new table empty =
     let none : IsIndexOf [] new = empty_index new (empty refl) in
     record { index = none.index; full = λ t. absurd (bool_apart (sym t)); empty = λ _. none.is }
 
 -- the same of slots that were lent as a whole
 after_rehash : (done : Bool) (old lent fresh new : List Slot) (len : ℕ) → lent ≡ old → length new ≡ length fresh → len ≡ length fresh
-    → length (hashes_of old) ≤ length fresh → (IsTrue done → IsTableOf (hashes_of lent) new)
+    → (IsTrue done → IsTableOf (hashes_of lent) new)
     → (IsFalse done → All (λ slot. position_in slot ≡ None) new)
     → AreLeft done (hashes_of old) (take len (new ++ drop (length new) fresh))
-after_rehash done old lent fresh new len is same size fits table empty =
+after_rehash done old lent fresh new len is same size table empty =
     subst (AreLeft done (hashes_of old)) (sym (whole len new fresh same size))
-    (left_in done (hashes_of old) new (omega (arith, fits, same))
-    (λ t. subst (λ ps. IsTableOf (hashes_of ps) new) is (table t)) empty)
+    (left_in done (hashes_of old) new (λ t. subst (λ ps. IsTableOf (hashes_of ps) new) is (table t)) empty)
 
 pub rehash-requires : goal.rehash-requires
 rehash-requires c =
@@ -72,13 +71,7 @@ left c =
     after_rehash c.rehash.result c.other.inside.slots.items c.deref.result.now fresh c.rehash.new.slots c.self.inside.slots.len
     c.deref.ensures.value
     (omega (arith, c.rehash.auto.slots, ap length c.deref_mut.ensures.value)) (omega (arith, c.self.inside.slots.ok.0))
-    (omega (
-      arith,
-      ap (λ (l : HashIndex). length l.hashes) c.other.view_is,
-      c.requires.room,
-      ap (λ (l : HashIndex). length l.slots) c.self.view_is,
-      positions-length fresh,
-    )) c.rehash.ensures.table c.rehash.ensures.empty
+    c.rehash.ensures.table c.rehash.ensures.empty
 
 pub invariant_of-self : goal.invariant_of-self
 invariant_of-self c = (left c).index

@@ -1,27 +1,16 @@
-use Rattle.std.proofs.Common.{◌≡◌, ◌≤◌, ◌++◌, List, length, take, drop, arith, ap, ◌∙◌}
+use Rattle.std.proofs.Common.{◌++◌, length, take, drop, arith, ap, ◌∙◌}
 use Rattle.std.specs.List.{swap_remove}
-use Rattle.ijson_table.specs.declared.index.slot.Slot.{Slot}
 use Rattle.ijson_table.specs.private.SlotHashes.{hashes_of}
 use Rattle.ijson_table.specs.private.HashIndex.{HashIndex}
 use Rattle.ijson_table.proofs.slots.IndexInvariant.{after_call, IsIndexOf}
-use Rattle.ijson_table.proofs.shifting.ListSwapRemove.{length-swap_remove}
 use Rattle.ijson_table.proofs.index.Index.swap_remove.Goals as goal
 
 -- the slots that come back, and their hashes
 left : (c : goal.After-self-2-1) → IsIndexOf (swap_remove (hashes_of c.self.inside.slots.items) c.args.position 0)
     (take c.self.inside.slots.len (c.swap_remove.new.slots ++ drop (length c.swap_remove.new.slots) c.self.inside.slots.items))
-left c =
-    let slots : List Slot = c.self.inside.slots.items in
-    let viewed : hashes_of slots ≡ c.args.self.now.hashes = ap (λ (l : HashIndex). l.hashes) c.self.view_is in
-    let fewer : length (swap_remove (hashes_of slots) c.args.position 0) ≤ length slots =
-    omega (
-      arith,
-      length-swap_remove (hashes_of slots) c.args.position
-          (omega (arith, c.requires.within, c.requires.is_last, ap length viewed)),
-      c.self.invariant.room,
-    ) in
-    after_call (λ hs. swap_remove hs c.args.position 0) slots c.deref_mut.result.now c.swap_remove.new.slots c.self.inside.slots.len fewer
-    c.deref_mut.ensures.value (omega (arith, c.swap_remove.auto.slots)) (omega (arith, c.self.inside.slots.ok.0)) c.swap_remove.ensures
+left c = after_call (λ hs. swap_remove hs c.args.position 0) c.self.inside.slots.items c.deref_mut.result.now c.swap_remove.new.slots
+    c.self.inside.slots.len c.deref_mut.ensures.value (omega (arith, c.swap_remove.auto.slots))
+    (omega (arith, c.self.inside.slots.ok.0)) c.swap_remove.ensures
 
 pub invariant_of-self : goal.invariant_of-self
 invariant_of-self c = (left c).index

@@ -2,10 +2,9 @@ use Rattle.std.proofs.Common.{ℕ, ◌-◌, ◌<◌, List, length, map, arith, s
 use Rattle.std.proofs.lemmas.List.{length-map}
 use Rattle.std.proofs.Math.Nat.{mod-lt}
 use Rattle.ijson_table.specs.Crowd.{home_of}
-use Rattle.ijson_table.specs.private.Lookup.{is_key}
 use Rattle.ijson_table.proofs.pairs.KeyPositions.{position-none}
 use Rattle.ijson_table.proofs.probing.LookCount.{within_list}
-use Rattle.ijson_table.proofs.probing.KeyTests.{is_key-true, is_key-false}
+use Rattle.ijson_table.proofs.probing.KeyTests.{is_key-seeks}
 use Rattle.ijson_table.proofs.probing.ProbeEnds.{look_up_ends, bounded, found_at-ends}
 use Rattle.ijson_table.proofs.probing.ProbePath.{placed_at}
 use Rattle.ijson_table.proofs.index.places.locate.Goals as goal
@@ -36,16 +35,12 @@ returns-clause-found g c =
     let key : List ℕ = c.args.key.now in
     let some : 0 < length (p.slots table) = omega (arith, c.if-places-eq0.false, c.places.ensures.count) in
     c.found.ensures ∙ found_at-ends (map p.hash_of keys) keys (p.slots table) (p.hash_of key) key c.probe.result
-    (look_up_ends p.hash_of keys (p.slots table) c.places.ensures.table key (is_key keys key) (λ i li. is_key-true keys key i)
-    (λ i li. is_key-false keys key i) (p.distinct table) some c.probe.result
-    (c.probe.new.looks - c.args.looks.now) c.probe.ensures.ends)
+    (look_up_ends p.hash_of keys (p.slots table) c.places.ensures.table key (is_key-seeks keys key) (p.distinct table) some
+    c.probe.result (c.probe.new.looks - c.args.looks.now) c.probe.ensures.ends)
 
 pub returns-clause-bounded : goal.returns-clause-bounded
 returns-clause-bounded g c =
     let p = g.P.Places in
     let table = c.args.table.now in
-    let keys : List (List ℕ) = p.keys table in
-    let key : List ℕ = c.args.key.now in
-    bounded p.hash_of keys (p.slots table) c.places.ensures.table key (is_key keys key) (λ i li. is_key-true keys key i)
-    (λ i li. is_key-false keys key i) (p.room table) c.places.ensures.size c.probe.result
-    (c.probe.new.looks - c.args.looks.now) c.probe.ensures.ends
+    bounded p.hash_of (p.keys table) (p.slots table) c.places.ensures.table c.args.key.now (is_key-seeks (p.keys table) c.args.key.now)
+    (p.room table) c.places.ensures.size c.probe.result (c.probe.new.looks - c.args.looks.now) c.probe.ensures.ends

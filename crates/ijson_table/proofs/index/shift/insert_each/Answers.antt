@@ -1,19 +1,19 @@
-use Rattle.std.proofs.Common.{◌≡◌, ◌<◌, ◌≤◌, ◌+◌, ◌*◌, ℕ, suc, List, length, get_or, take, Option, None, Some, arith, ap, sym, ◌∙◌}
+use Rattle.std.proofs.Common.{◌≡◌, ◌<◌, ◌≤◌, ◌+◌, ◌*◌, ℕ, List, length, take, Option, None, Some, arith, ap, sym, ◌∙◌}
 use Rattle.std.proofs.lemmas.Bool.Decides.{nat_tests}
 use Rattle.ijson_table.specs.private.Holds.{one_if, with_one, HasEmpty}
 use Rattle.ijson_table.specs.Slots.{resident, times, below}
-use Rattle.ijson_table.specs.private.SlotHashes.{position_in, positions, blank}
+use Rattle.ijson_table.specs.private.SlotHashes.{positions}
 use Rattle.ijson_table.proofs.shifting.Insertion.{some_empty}
-use Rattle.ijson_table.proofs.slots.Residents.{times-nil, times-some, times-split, times-more}
+use Rattle.ijson_table.proofs.slots.ResidentCount.{times-next}
+use Rattle.ijson_table.proofs.slots.Residents.{times-nil, times-some, times-split}
 use Rattle.ijson_table.proofs.slots.HashesInSlots.{positions-length, position-at, hashes-at}
+use Rattle.ijson_table.proofs.index.shift.insert_each.Goals.{After-insert, In-Some}
 use Rattle.ijson_table.proofs.index.shift.insert_each.Goals as goal
 
 -- what the next one of them adds
 next : (i : ℕ) (from : List (Option ℕ)) (index : ℕ) (told : Option ℕ) → index < length from → resident from index ≡ told
     → times i (take (index + 1) from) ≡ times i (take index from) + one_if i told
-next i from index told lt at =
-    let one : index + 1 ≡ suc index = omega arith in
-    ap (λ n. times i (take n from)) one ∙ (times-more i from index lt ∙ ap (λ o. times i (take index from) + one_if i o) at)
+next i from index told lt at = times-next i index from lt ∙ ap (λ o. times i (take index from) + one_if i o) at
 
 -- where one is still to come, a slot is empty
 has_empty : (count : ℕ) (first from slots : List (Option ℕ)) (index k : ℕ) → index < length from → resident from index ≡ Some k
@@ -74,12 +74,22 @@ loop-index-preserved-in_default g c =
       steps = c.loop-index.invariant.steps;
     }
 
+-- the resident that is put
+there : (g : _) (c : In-Some g) → resident (positions c.args.from.now) c.loop-index.index ≡ Some c.in-Some.position
+there g c = position-at c.args.from.now c.loop-index.index (Some c.in-Some.position) c.loop-index-test.true
+    (sym c.in-Some.is ∙ c.position.ensures)
+
+-- and the steps that it takes
+few_steps : (g : _) (c : After-insert g) → resident (positions c.args.from.now) c.loop-index.index ≡ Some c.in-Some.position
+    → c.insert.result ≤ 3 * length g.hashes
+few_steps g c at =
+    inserted (length g.hashes) (positions c.args.slots.now) (positions c.args.from.now) (positions c.loop-index.slots) c.loop-index.index
+    c.in-Some.position c.insert.result (omega (arith, c.loop-index-test.true, positions-length c.args.from.now)) at
+    c.requires.0.once c.loop-index.invariant.placed (c.insert.ensures.few (length g.hashes))
+
 pub insert-requires : goal.insert-requires
 insert-requires g c =
-    let here : Some c.in-Some.position ≡ position_in (get_or c.args.from.now c.loop-index.index blank) =
-    sym c.in-Some.is ∙ c.position.ensures in
-    let at : resident (positions c.args.from.now) c.loop-index.index ≡ Some c.in-Some.position =
-    position-at c.args.from.now c.loop-index.index (Some c.in-Some.position) c.loop-index-test.true here in
+    let at = there g (goal.at.insert-requires g c).In-Some in
     let inside : c.loop-index.index < length (positions c.args.from.now) =
     omega (arith, c.loop-index-test.true, positions-length c.args.from.now) in
     let few : times c.in-Some.position (positions c.args.from.now) ≤ below (length g.hashes) c.in-Some.position =
@@ -90,7 +100,7 @@ insert-requires g c =
       fits = omega (arith, below_all, c.requires.0.room, c.loop-index.auto.slots);
       hash_is = c.hash.ensures
           ∙ hashes-at g.hashes c.args.from.now c.loop-index.index c.requires.0.from_hashes c.loop-index-test.true c.in-Some.position
-          (sym here);
+          (sym (sym c.in-Some.is ∙ c.position.ensures));
       hashes_are = c.loop-index.invariant.hashes;
       ordered = c.loop-index.invariant.ordered;
       empty = has_empty (length g.hashes) (positions c.args.slots.now) (positions c.args.from.now)
@@ -101,40 +111,22 @@ insert-requires g c =
 
 pub loop-index-preserved : goal.loop-index-preserved
 loop-index-preserved g c =
-    let from : List (Option ℕ) = positions c.args.from.now in
-    let at : resident from c.loop-index.index ≡ Some c.in-Some.position =
-    position-at c.args.from.now c.loop-index.index (Some c.in-Some.position) c.loop-index-test.true
-    (sym c.in-Some.is ∙ c.position.ensures) in
+    let place = goal.at.loop-index-preserved g c in
+    let at = there g place.In-Some in
     record {
       ordered = c.insert.ensures.holds.ordered;
       placed = λ i. omega (
         arith,
         c.insert.ensures.holds.placed i,
         c.loop-index.invariant.placed i,
-        next i from c.loop-index.index
-            (Some c.in-Some.position) (omega (arith, c.loop-index-test.true, positions-length c.args.from.now)) at,
+        next i (positions c.args.from.now) c.loop-index.index (Some c.in-Some.position)
+            (omega (arith, c.loop-index-test.true, positions-length c.args.from.now)) at,
       );
       hashes = c.insert.ensures.hashes;
-      steps = omega (
-        arith,
-        inserted (length g.hashes) (positions c.args.slots.now) from (positions c.loop-index.slots) c.loop-index.index
-            c.in-Some.position c.insert.result (omega (arith, c.loop-index-test.true, positions-length c.args.from.now)) at
-            c.requires.0.once c.loop-index.invariant.placed (c.insert.ensures.few (length g.hashes)),
-        c.if-steps-most.false,
-      );
+      steps = omega (arith, few_steps g place.After-insert at, c.if-steps-most.false);
     }
 
 pub overflow_add-steps : goal.overflow_add-steps
 overflow_add-steps g c =
-    let from : List (Option ℕ) = positions c.args.from.now in
-    let at : resident from c.loop-index.index ≡ Some c.in-Some.position =
-    position-at c.args.from.now c.loop-index.index (Some c.in-Some.position) c.loop-index-test.true
-    (sym c.in-Some.is ∙ c.position.ensures) in
-    omega (
-      arith,
-      inserted (length g.hashes) (positions c.args.slots.now) from (positions c.loop-index.slots) c.loop-index.index
-          c.in-Some.position c.insert.result (omega (arith, c.loop-index-test.true, positions-length c.args.from.now)) at
-          c.requires.0.once c.loop-index.invariant.placed (c.insert.ensures.few (length g.hashes)),
-      c.if-steps-most.false,
-      c.requires.1.0,
-    )
+    let place = goal.at.overflow_add-steps g c in
+    omega (arith, few_steps g place.After-insert (there g place.In-Some), c.if-steps-most.false, c.requires.1.0)

@@ -47,71 +47,65 @@ returns-then-distance-eq0-clause-ordered g c =
     closed_before g.hashes slots c.loop-resident.gap next c.loop-resident.invariant.gap c.next_slot-next.ensures.slot
     (omega (arith, is, c.if-distance-eq0.true))
 
--- The positions once the resident behind the gap is moved one slot back.
-moved : (g : _) (c : goal.After-empty g) → positions (set (set c.loop-resident.slots c.loop-resident.gap
-    (get_or c.loop-resident.slots c.next_slot-next.result blank)) c.next_slot-next.result c.empty.result)
-    ≡ set (set (positions c.loop-resident.slots) c.loop-resident.gap (Some c.in-Some._resident)) c.next_slot-next.result None
-moved g c =
-    let slots : List Slot = c.loop-resident.slots in
-    let gap : ℕ = c.loop-resident.gap in
-    let next : ℕ = c.next_slot-next.result in
-    let behind : Slot = get_or slots next blank in
-    positions-set (set slots gap behind) next c.empty.result
-    ∙ (ap (set (positions (set slots gap behind)) next) c.empty.ensures
-    ∙ ap (λ ps. set ps next None) (positions-put slots gap behind c.in-Some._resident (sym (sym c.in-Some.is ∙ c.position.ensures))))
-
--- It stood at the slot after the gap,
+-- The resident behind the gap
 there : (g : _) (c : goal.After-empty g) → c.next_slot-next.result ≡ after (length (positions c.loop-resident.slots)) c.loop-resident.gap
 there g c = c.next_slot-next.ensures.slot ∙ ap (λ n. after n c.loop-resident.gap) (sym (positions-length c.loop-resident.slots))
 
-stood : (g : _) (c : goal.After-empty g) → resident (positions c.loop-resident.slots) c.next_slot-next.result ≡ Some c.in-Some._resident
-stood g c = position-at c.loop-resident.slots c.next_slot-next.result (Some c.in-Some._resident) c.next_slot-next.ensures.within
-    (sym c.in-Some.is ∙ c.position.ensures)
+stood : (g : _) (c : goal.After-empty g) → resident (positions c.loop-resident.slots)
+    (after (length (positions c.loop-resident.slots)) c.loop-resident.gap) ≡ Some c.in-Some._resident
+stood g c = ap (resident (positions c.loop-resident.slots)) (sym (there g c)) ∙ position-at c.loop-resident.slots c.next_slot-next.result
+    (Some c.in-Some._resident) c.next_slot-next.ensures.within (sym c.in-Some.is ∙ c.position.ensures)
 
--- which is not its home.
-far : (g : _) (c : goal.After-empty g) → 1 < displacement g.hashes (positions c.loop-resident.slots) c.next_slot-next.result
+-- is not at its home,
+far : (g : _) (c : goal.After-empty g) → 1 < displacement g.hashes (positions c.loop-resident.slots)
+    (after (length (positions c.loop-resident.slots)) c.loop-resident.gap)
 far g c =
     let is = displaced g.hashes c.loop-resident.slots c.new-modulus.result.count c.next_slot-next.result c.in-Some._resident
     c.distance.result c.loop-resident.invariant.hashes c.next_slot-next.ensures.within (sym c.in-Some.is ∙ c.position.ensures)
     (c.new-modulus.ensures ∙ sym c.loop-resident.invariant.size) c.distance.ensures in
-    omega (arith, is, c.if-distance-eq0.false)
+    omega (arith, is, c.if-distance-eq0.false, ap (displacement g.hashes (positions c.loop-resident.slots)) (there g c))
+
+-- and moves one slot back.
+moved : (g : _) (c : goal.After-empty g) → positions (set (set c.loop-resident.slots c.loop-resident.gap
+    (get_or c.loop-resident.slots c.next_slot-next.result blank)) c.next_slot-next.result c.empty.result)
+    ≡ set (set (positions c.loop-resident.slots) c.loop-resident.gap (Some c.in-Some._resident))
+    (after (length (positions c.loop-resident.slots)) c.loop-resident.gap) None
+moved g c =
+    let slots : List Slot = c.loop-resident.slots in
+    let gap : ℕ = c.loop-resident.gap in
+    let next : ℕ = c.next_slot-next.result in
+    let k : Option ℕ = Some c.in-Some._resident in
+    let behind : Slot = get_or slots next blank in
+    positions-set (set slots gap behind) next c.empty.result
+    ∙ (ap (set (positions (set slots gap behind)) next) c.empty.ensures
+    ∙ (ap (λ ps. set ps next None) (positions-put slots gap behind c.in-Some._resident (sym (sym c.in-Some.is ∙ c.position.ensures)))
+    ∙ ap (λ p. set (set (positions slots) gap k) p None) (there g c)))
 
 pub loop-resident-smaller : goal.loop-resident-smaller
 loop-resident-smaller g c =
-    let hashes : List ℕ = g.hashes in
     let slots : List (Option ℕ) = positions c.loop-resident.slots in
-    let gap : ℕ = c.loop-resident.gap in
-    let k : ℕ = c.in-Some._resident in
-    let to = there g c in
-    subst (λ ps. all_displacements hashes ps < all_displacements hashes slots) (sym (moved g c))
-    (subst (λ x. all_displacements hashes (set (set slots gap (Some k)) x None) < all_displacements hashes slots) (sym to)
-    (shift_falls hashes slots gap k c.loop-resident.invariant.gap.within c.loop-resident.invariant.gap.empty
-    (ap (resident slots) (sym to) ∙ stood g c) (subst (λ x. 1 < displacement hashes slots x) to (far g c))))
+    let was = c.loop-resident.invariant in
+    subst (λ ps. all_displacements g.hashes ps < all_displacements g.hashes slots) (sym (moved g c))
+    (shift_falls g.hashes slots c.loop-resident.gap c.in-Some._resident was.gap.within was.gap.empty (stood g c) (far g c))
 
 pub loop-resident-preserved : goal.loop-resident-preserved
 loop-resident-preserved g c =
-    let hashes : List ℕ = g.hashes in
     let slots : List (Option ℕ) = positions c.loop-resident.slots in
     let gap : ℕ = c.loop-resident.gap in
-    let next : ℕ = c.next_slot-next.result in
     let k : ℕ = c.in-Some._resident in
+    let next : ℕ = c.next_slot-next.result in
     let was = c.loop-resident.invariant in
-    let to = there g c in
     let behind : Slot = get_or c.loop-resident.slots next blank in
     record {
-      gap = subst (λ ps. HasGap hashes ps next) (sym (moved g c))
-          (subst (λ x. HasGap hashes (set (set slots gap (Some k)) x None) x) (sym to)
-          (moved_back hashes slots gap k was.gap.within was.gap
-          (ap (resident slots) (sym to) ∙ stood g c) (subst (λ x. 1 < displacement hashes slots x) to (far g c))));
+      gap = subst (λ ps. HasGap g.hashes ps next) (sym (moved g c)) (subst (HasGap g.hashes (set (set slots gap (Some k))
+          (after (length slots) gap) None)) (sym (there g c))
+          (moved_back g.hashes slots gap k was.gap.within was.gap.empty (stood g c) (far g c) was.gap));
       placed = λ i. ap (times i) (moved g c)
-          ∙ (times-moved_back slots gap next k i was.gap.within
-          (omega (arith, c.next_slot-next.ensures.within, positions-length c.loop-resident.slots))
-          (λ e. omega (arith, far g c, ap (displacement hashes slots) e, displacement-none hashes slots gap was.gap.empty))
-          was.gap.empty (stood g c) ∙ was.placed i);
-      hashes = hashes-set hashes (set c.loop-resident.slots gap behind) next c.empty.result
-          (nothing_has_hash hashes c.empty.result c.empty.ensures)
-          (hashes-set hashes c.loop-resident.slots gap behind
-          (hashes-at hashes c.loop-resident.slots next was.hashes c.next_slot-next.ensures.within) was.hashes);
+          ∙ (times-moved_back g.hashes slots gap k was.gap.within was.gap.empty (stood g c) (far g c) i ∙ was.placed i);
+      hashes = hashes-set g.hashes (set c.loop-resident.slots gap behind) next c.empty.result
+          (nothing_has_hash g.hashes c.empty.result c.empty.ensures)
+          (hashes-set g.hashes c.loop-resident.slots gap behind
+          (hashes-at g.hashes c.loop-resident.slots next was.hashes c.next_slot-next.ensures.within) was.hashes);
       size = length-set (set c.loop-resident.slots gap behind) next c.empty.result
           ∙ (length-set c.loop-resident.slots gap behind ∙ was.size);
     }

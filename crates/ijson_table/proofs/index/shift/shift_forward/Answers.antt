@@ -1,12 +1,13 @@
 use Rattle.std.proofs.Common.{◌≡◌, ◌≢◌, ◌<◌, ◌≤◌, ℕ, ◌+◌, List, length, get_or, set, Option, Some, None, refl, arith, ap, sym, ◌∙◌, subst}
+use Rattle.std.proofs.Common.{inl, inr, get_or-set_other}
 use Rattle.std.proofs.lemmas.List.{length-set}
 use Rattle.ijson_table.specs.declared.index.slot.Slot.{Slot}
 use Rattle.ijson_table.specs.Crowd.{distance}
 use Rattle.ijson_table.specs.Slots.{after, below, resident}
 use Rattle.ijson_table.specs.private.Changes.{changes}
-use Rattle.ijson_table.specs.private.Holds.{Holds, MayStand, with_one}
+use Rattle.ijson_table.specs.private.Holds.{one_if, Holds, MayStand, with_one}
 use Rattle.ijson_table.specs.private.Insertion.{Accepts}
-use Rattle.ijson_table.specs.private.Probe.{onward}
+use Rattle.ijson_table.specs.private.Probe.{onward, AreFull}
 use Rattle.ijson_table.specs.private.SlotHashes.{position_in, positions, blank}
 use Rattle.ijson_table.proofs.arithmetic.Circular.{distance-after, distance-below, distance-onward, distance-self}
 use Rattle.ijson_table.proofs.arithmetic.Circular.{onward-below, onward-distance}
@@ -16,7 +17,10 @@ use Rattle.ijson_table.proofs.slots.HashesInSlots.{positions-length, positions-p
 use Rattle.ijson_table.proofs.slots.HashesInSlots.{position-at, hashes-at, hashes-set}
 use Rattle.ijson_table.proofs.slots.HashesInSlots.{has_own_hash}
 use Rattle.ijson_table.proofs.slots.ResidentCount.{few_residents, still_full}
+use Rattle.ijson_table.proofs.slots.Residents.{times-set}
+use Rattle.ijson_table.proofs.arithmetic.Comparing.{same_or_not}
 use Rattle.ijson_table.proofs.slots.SlotChanges.{changes-none, changes-set}
+use Rattle.ijson_table.proofs.index.shift.shift_forward.Goals.{In_default}
 use Rattle.ijson_table.proofs.index.shift.shift_forward.Goals as goal
 
 -- a slot that is written counts once
@@ -50,7 +54,7 @@ loop-resident-init g c =
           (c.of-entry.ensures.hash ∙ accepts.hash_is);
       hashes = accepts.hashes_are;
       passed = λ j lj. absurd (omega (arith, lj, none));
-      full = λ p there. there;
+      left = λ p lp away. refl;
       size = refl;
     }
 
@@ -89,50 +93,56 @@ returns-in_default-clause-changes g c =
       ap (λ n. distance n c.args.from l.slot) l.invariant.size,
     )
 
--- the slots that it passed, and the one that is written
-passed_more : (slots : List Slot) (entry : Slot) (i from slot : ℕ) → position_in entry ≡ Some i → from < length slots
-    → slot < length slots
-    → ((j : ℕ) → j < distance (length slots) from slot → resident (positions slots) (onward (length slots) from j) ≢ None)
-    → (j : ℕ) → j < distance (length slots) from slot + 1
-    → resident (positions (set slots slot entry)) (onward (length (set slots slot entry)) from j) ≢ None
-passed_more slots entry i from slot is lf ls passed j lj =
-    let size : length slots ≡ length (set slots slot entry) = sym (length-set slots slot entry) in
-    subst (λ n. resident (positions (set slots slot entry)) (onward n from j) ≢ None) size
-    (subst (λ ps. resident ps (onward (length slots) from j) ≢ None) (sym (positions-put slots slot entry i is))
-    (still_full (positions slots) slot i (onward (length slots) from j) (omega (arith, ls, positions-length slots))
-    (λ other. passed j (before j (distance (length slots) from slot) lj
-    (λ same. other (ap (onward (length slots) from) same ∙ onward-distance (length slots) from slot lf ls))))))
+pub returns-in_default-clause-passed : goal.returns-in_default-clause-passed
+returns-in_default-clause-passed g c j lj =
+    let l = c.loop-resident in
+    l.invariant.passed j (omega (arith, lj, ap (λ n. distance n c.args.from l.slot) l.invariant.size))
 
--- the slots that are written are as many positions
-written_few : (hashes : List ℕ) (want : ℕ → ℕ) (slots : List Slot) (from written n : ℕ) → from < length slots → written ≤ length slots
-    → ((j : ℕ) → j < written → resident (positions slots) (onward (length slots) from j) ≢ None)
-    → Holds hashes want None (positions slots) → ((k : ℕ) → want k ≤ below n k) → written ≤ n
-written_few hashes want slots from written n lf ls passed held few =
-    let size : length (positions slots) ≡ length slots = positions-length slots in
-    few_residents n (positions slots) (λ k. omega (arith, held.placed k, few k)) (onward (length slots) from) written
-    (λ j l lj ll e. omega (
+-- the slot is empty, and was
+was_empty : (g : _) (c : In_default g) → resident (positions c.args.slots.now) c.loop-resident.slot ≡ None
+was_empty g c =
+    let l = c.loop-resident in
+    let here : l.slot < length l.slots = omega (arith, l.invariant.shifting.2.may.within, positions-length l.slots) in
+    sym (l.invariant.left l.slot here (omega arith)) ∙ position-at l.slots l.slot None here (sym c.in_default.is ∙ c.position.ensures)
+
+pub returns-in_default-clause-empty : goal.returns-in_default-clause-empty
+returns-in_default-clause-empty g c = was_empty g (goal.at.returns-in_default-clause-empty g c).In_default
+
+-- Some slots on from one, and the one after them, are as many positions where the last is filled.
+written_few : (old : List (Option ℕ)) (position from last n : ℕ) → from < length old → last < length old → resident old last ≡ None
+    → AreFull old from (distance (length old) from last) → ((k : ℕ) → with_one old position k ≤ below n k)
+    → distance (length old) from last + 1 ≤ n
+written_few old position from last n lf ll none passed few =
+    let m : ℕ = length old in
+    let away : distance m from last < m = distance-below m from last lf ll in
+    let size : length (set old last (Some position)) ≡ m = length-set old last (Some position) in
+    few_residents n (set old last (Some position))
+    (λ k. omega (arith, times-set k old last (Some position) ll, ap (one_if k) none, few k)) (onward m from) (distance m from last + 1)
+    (λ j l lj lk e. omega (
       arith,
-      distance-onward (length slots) from j lf (omega arith),
-      distance-onward (length slots) from l lf (omega arith),
-      ap (distance (length slots) from) e,
+      distance-onward m from j lf (omega arith),
+      distance-onward m from l lf (omega arith),
+      ap (distance m from) e,
     ))
-    (λ j lj. omega (arith, size, onward-below (length slots) from j lf (omega arith))) passed
+    (λ j lj. omega (arith, size, onward-below m from j lf (omega arith)))
+    (λ j lj. still_full old last position (onward m from j) ll (λ other. passed j (before j (distance m from last) lj
+    (λ same. other (ap (onward m from) same ∙ onward-distance m from last lf ll)))))
 
 pub returns-in_default-clause-few : goal.returns-in_default-clause-few
 returns-in_default-clause-few g c n few =
     let l = c.loop-resident in
-    let i = l.invariant.shifting in
-    let may : MayStand g.hashes (positions c.args.slots.now) c.args.position c.args.from = c.requires.1 in
-    let want : ℕ → ℕ = with_one (positions c.args.slots.now) c.args.position in
-    let written : ℕ = distance (length l.slots) c.args.from l.slot in
-    let size : length (set l.slots l.slot l.entry) ≡ length l.slots = length-set l.slots l.slot l.entry in
-    let first : c.args.from < length l.slots = omega (arith, may.within, positions-length c.args.slots.now, l.invariant.size) in
-    let here : l.slot < length l.slots = omega (arith, i.2.may.within, positions-length l.slots) in
-    let count : written + 1 ≤ n = written_few g.hashes want (set l.slots l.slot l.entry) c.args.from (written + 1) n
-    (omega (arith, first, size)) (omega (arith, distance-below (length l.slots) c.args.from l.slot first here, size))
-    (passed_more l.slots l.entry i.0 c.args.from l.slot i.1 first here l.invariant.passed)
-    (ended g.hashes want l.slots l.entry i.0 l.slot written i.1 i.2 (sym c.in_default.is ∙ c.position.ensures)) few in
-    omega (arith, count, ap (λ m. distance m c.args.from l.slot) l.invariant.size)
+    let old : List (Option ℕ) = positions c.args.slots.now in
+    let size : length l.slots ≡ length old = l.invariant.size ∙ sym (positions-length c.args.slots.now) in
+    let here : l.slot < length old = omega (arith, l.invariant.shifting.2.may.within, positions-length l.slots, size) in
+    let away : distance (length l.slots) c.args.from l.slot ≡ distance (length old) c.args.from l.slot =
+    ap (λ m. distance m c.args.from l.slot) size in
+    omega (
+      arith,
+      written_few old c.args.position c.args.from l.slot n c.requires.1.within here
+          (was_empty g (goal.at.returns-in_default-clause-few g c).In_default)
+          (λ j lj. l.invariant.passed j (omega (arith, lj, away))) few,
+      ap (λ m. distance m c.args.from l.slot) (positions-length c.args.slots.now),
+    )
 
 -- There is a slot to go on to,
 room : (g : _) (c : goal.After-next_slot-slot g) → distance (length c.loop-resident.slots) c.args.from c.loop-resident.slot + 1
@@ -162,6 +172,28 @@ further g c =
     ap (λ k. distance k c.args.from c.next_slot-slot.result) size
     ∙ (ap (distance n c.args.from) (c.next_slot-slot.ensures.slot ∙ ap (λ k. after k l.slot) size)
     ∙ distance-after n c.args.from l.slot first here (omega (arith, room g c)))
+
+-- where it goes on, the slot that it is at was full too,
+passed_more : (old : List (Option ℕ)) (n from slot more : ℕ) → n ≡ length old → from < n → slot < n → more ≡ distance n from slot + 1
+    → AreFull old from (distance n from slot) → resident old slot ≢ None → AreFull old from more
+passed_more old n from slot more size lf ls is passed here j lj none = elim (same_or_not j (distance n from slot)) [
+  | inl at ↦ here (ap (resident old) (sym (ap (onward (length old) from) (at ∙ ap (λ m. distance m from slot) size)
+      ∙ onward-distance (length old) from slot (omega (arith, lf, size)) (omega (arith, ls, size)))) ∙ none)
+  | inr other ↦ passed j (before j (distance n from slot) (omega (arith, lj, is)) other) none
+]
+
+-- and those further on stay
+still_left : (old : List (Option ℕ)) (slots : List Slot) (entry : Slot) (slot from : ℕ)
+    → ((p : ℕ) → p < length slots → distance (length slots) from slot ≤ distance (length slots) from p
+    → resident (positions slots) p ≡ resident old p)
+    → (p : ℕ) → p < length (set slots slot entry) → distance (length slots) from slot + 1 ≤ distance (length (set slots slot entry)) from p
+    → resident (positions (set slots slot entry)) p ≡ resident old p
+still_left old slots entry slot from left p lp far =
+    let size : length (set slots slot entry) ≡ length slots = length-set slots slot entry in
+    let same : distance (length (set slots slot entry)) from p ≡ distance (length slots) from p = ap (λ n. distance n from p) size in
+    ap (λ ps. resident ps p) (positions-set slots slot entry)
+    ∙ (get_or-set_other (positions slots) slot p (position_in entry) None
+    (λ at. omega (arith, far, same, ap (distance (length slots) from) at)) ∙ left p (omega (arith, lp, size)) (omega (arith, far, same)))
 
 pub loop-resident-smaller : goal.loop-resident-smaller
 loop-resident-smaller g c =
@@ -198,8 +230,11 @@ loop-resident-preserved g c =
       changes = omega (arith, more, one_more (positions c.args.slots.now) l.slots slot written l.entry l.invariant.changes);
       hash = hashes-at hashes l.slots slot l.invariant.hashes here;
       hashes = hashes-set hashes l.slots slot l.entry l.invariant.hash l.invariant.hashes;
-      passed = λ j lj. passed_more l.slots l.entry i.0 c.args.from slot i.1 first here l.invariant.passed j (omega (arith, lj, more));
-      full = λ p before. subst (λ ps. resident ps p ≢ None) (sym (positions-put l.slots slot l.entry i.0 i.1))
-          (still_full slots slot i.0 p i.2.may.within (λ other. l.invariant.full p before));
+      passed = passed_more (positions c.args.slots.now) (length l.slots) c.args.from slot (distance (length now) c.args.from
+          c.next_slot-slot.result) (l.invariant.size ∙ sym (positions-length c.args.slots.now)) first here more l.invariant.passed
+          (λ none. let bad : ◌≡◌ {A = Option ℕ} (Some next) None = sym (position-at l.slots slot (Some next) here there)
+          ∙ (l.invariant.left slot here (omega arith) ∙ none) in cc);
+      left = λ p lp away. still_left (positions c.args.slots.now) l.slots l.entry slot c.args.from l.invariant.left p lp
+          (omega (arith, away, more));
       size = length-set l.slots slot l.entry ∙ l.invariant.size;
     }

@@ -1,14 +1,14 @@
-use Rattle.std.proofs.Common.{◌≡◌, ◌≢◌, ◌<◌, ◌≤◌, ◌-◌, ℕ, length, None, Some}
+use Rattle.std.proofs.Common.{◌≡◌, ◌<◌, ◌≤◌, ◌-◌, ℕ, length, Some}
 use Rattle.ijson_table.specs.Crowd.{distance}
 use Rattle.ijson_table.specs.Slots.{resident}
 use Rattle.ijson_table.specs.private.Changes.{changes}
 use Rattle.ijson_table.specs.private.Holds.{with_one}
-use Rattle.ijson_table.specs.private.Probe.{onward}
+use Rattle.ijson_table.specs.private.Probe.{AreFull}
 use Rattle.ijson_table.specs.private.SlotHashes.{position_in, positions, HasHash, HaveHashes}
 use Rattle.ijson_table.proofs.shifting.Insertion.{Shifting}
 use Rattle.ijson_table.proofs.index.shift.shift_forward.Given as goal
 
--- as many slots were written as the next one is on from the first
+-- As many slots were written as the next one is on from the first. The others are as they were.
 abbrev pub invariant-loop-resident : goal.invariant-loop-resident
 invariant-loop-resident g l =
     let written = distance (length l.slots) l.fn.from l.slot in
@@ -18,8 +18,9 @@ invariant-loop-resident g l =
       changes : changes (positions l.fn.slots) (positions l.slots) ≤ written;
       hash : HasHash g.hashes l.entry;
       hashes : HaveHashes g.hashes l.slots;
-      passed : (j : ℕ) → j < written → resident (positions l.slots) (onward (length l.slots) l.fn.from j) ≢ None;
-      full : (p : ℕ) → resident (positions l.fn.slots) p ≢ None → resident (positions l.slots) p ≢ None;
+      passed : AreFull (positions l.fn.slots) l.fn.from written;
+      left : (p : ℕ) → p < length l.slots → written ≤ distance (length l.slots) l.fn.from p
+          → resident (positions l.slots) p ≡ resident (positions l.fn.slots) p;
       size : length l.slots ≡ length l.fn.slots;
     }
 

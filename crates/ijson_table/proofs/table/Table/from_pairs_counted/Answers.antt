@@ -9,7 +9,8 @@ returns-then-placed-capacity-clause-pairs g c =
     let pairs = c.args.pairs.items in
     let n = c.add_new_keys-placed.result in
     let same : c.deref.result.now ≡ pairs = c.deref.ensures.value ∙ c.tighten.ensures.items in
-    let all : length c.deref.result.now ≤ n = omega (arith, c.if-placed-capacity.true, c.in_ok-capacity.ensures.0, c.len.ensures, ap length same) in
+    let all : length c.deref.result.now ≤ n =
+    omega (arith, c.if-placed-capacity.true, c.in_ok-capacity.ensures.0, c.len.ensures, ap length same) in
     let distinct : IsDistinct (keys_of pairs) = subst (λ ps. IsDistinct (keys_of ps)) (take_all n c.deref.result.now all ∙ same)
     c.add_new_keys-placed.ensures.placed.distinct in
     c.tighten.ensures.items ∙ sym (put_each-new [] pairs distinct)
@@ -17,7 +18,8 @@ returns-then-placed-capacity-clause-pairs g c =
 pub invariant_of-table-inside : goal.invariant_of-table-inside
 invariant_of-table-inside g c =
     let n = c.add_new_keys-placed.result in
-    let kept : take n c.deref.result.now ≡ c.split_rest.new.list.items = ap (take n) c.deref.ensures.value ∙ sym c.in_ok-rest.ensures.kept in
+    let kept : take n c.deref.result.now ≡ c.split_rest.new.list.items =
+    ap (take n) c.deref.ensures.value ∙ sym c.in_ok-rest.ensures.kept in
     (subst (λ ps. IsDistinct (keys_of ps)) kept c.add_new_keys-placed.ensures.placed.distinct, tt)
 
 pub returns-clause-pairs : goal.returns-clause-pairs

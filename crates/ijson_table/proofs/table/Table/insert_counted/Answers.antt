@@ -4,18 +4,16 @@ use Rattle.ijson_table.specs.Growth.{Grown}
 use Rattle.ijson_table.specs.Placed.{Placed}
 use Rattle.ijson_table.specs.Store.{at, with_value}
 use Rattle.ijson_table.proofs.pairs.NewPairs.{still_distinct, put_last}
-use Rattle.ijson_table.proofs.pairs.PairsByKey.{position_within, put-present, lookup-found, lookup-absent}
+use Rattle.ijson_table.proofs.pairs.PairsByKey.{put-present, lookup-found, lookup-absent}
 use Rattle.ijson_table.proofs.probing.KeyHashes.{had_room}
 use Rattle.ijson_table.proofs.table.Table.insert_counted.Goals as goal
 
-pub value_mut-requires : goal.value_mut-requires
-value_mut-requires g c = position_within c.args.self.now.store.pairs c.as_str-2.result.now c.in-Found.at c.in-Found.ensures.ends
-
 pub invariant_of-self-inside : goal.invariant_of-self-inside
-invariant_of-self-inside g c =
-    let viewed = ap (λ (t : Placed g.row.V.Denot). t.store.pairs) c.self.view_is in
-    let missing = ap (at c.args.self.now.store.pairs) (sym c.as_str-2.ensures) ∙ c.in-Vacant.ensures.ends.0 in
-    (still_distinct c.args.key c.args.value viewed c.push_reserved.ensures.items missing c.self.inside.distinct, tt)
+invariant_of-self-inside g c = (
+  still_distinct c.args.key c.args.value (ap (λ (t : Placed g.row.V.Denot). t.store.pairs) c.self.view_is)
+      c.push_reserved.ensures.items c.as_str-2.ensures c.in-Vacant.ensures.ends.0 c.self.inside.distinct,
+  tt,
+)
 
 pub returns-in-Found-clause-inserts : goal.returns-in-Found-clause-inserts
 returns-in-Found-clause-inserts g c =
@@ -32,11 +30,10 @@ returns-in-Vacant-clause-inserts g c =
     let old = c.self.inside.pairs.items in
     let pairs = c.args.self.now.store.pairs in
     let viewed = ap (λ (t : Placed g.row.V.Denot). t.store.pairs) c.self.view_is in
-    let missing = ap (at pairs) (sym c.as_str-2.ensures) ∙ c.in-Vacant.ensures.ends.0 in
     let room : length old < vec_capacity c.self.inside.pairs =
     omega (arith, c.if-position-capacity.true, c.capacity.ensures, c.len-position.ensures) in (
-      lookup-absent pairs c.args.key missing,
-      put_last c.args.key c.args.value viewed c.push_reserved.ensures.items missing,
+      lookup-absent pairs c.args.key (ap (at pairs) (sym c.as_str-2.ensures) ∙ c.in-Vacant.ensures.ends.0),
+      put_last c.args.key c.args.value viewed c.push_reserved.ensures.items c.as_str-2.ensures c.in-Vacant.ensures.ends.0,
       subst (Grown (length pairs) c.args.self.now.store.capacity 1) (sym c.push_reserved.ensures.capacity)
           (subst (λ (t : Placed g.row.V.Denot). Grown (length t.store.pairs) t.store.capacity 1 (vec_capacity c.self.inside.pairs))
           c.self.view_is (had_room (length old) (vec_capacity c.self.inside.pairs) room)),

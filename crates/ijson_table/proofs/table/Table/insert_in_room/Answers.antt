@@ -7,7 +7,7 @@ use Rattle.ijson_table.specs.Store.{at, with_value}
 use Rattle.ijson_table.specs.private.Holds.{HasEmpty}
 use Rattle.ijson_table.proofs.arithmetic.Circular.{distance-below}
 use Rattle.ijson_table.proofs.pairs.NewPairs.{still_distinct, put_last}
-use Rattle.ijson_table.proofs.pairs.PairsByKey.{keys-length, position_within, put-present}
+use Rattle.ijson_table.proofs.pairs.PairsByKey.{keys-length, put-present}
 use Rattle.ijson_table.proofs.probing.KeyHashes.{length-hashes}
 use Rattle.ijson_table.proofs.shifting.Insertion.{some_empty}
 use Rattle.ijson_table.proofs.slots.SlotChanges.{changes-none}
@@ -48,14 +48,12 @@ overflow_add-result-in-Vacant g c = omega (arith, steps g c, c.self.invariant.ro
 pub returns-in-Vacant-clause-steps : goal.returns-in-Vacant-clause-steps
 returns-in-Vacant-clause-steps g c = omega (arith, steps g c, (sized g c).0, (sized g c).1)
 
-pub value_mut-requires : goal.value_mut-requires
-value_mut-requires g c = position_within c.args.self.now.store.pairs c.as_str-2.result.now c.in-Found.at c.in-Found.ensures.ends
-
 pub invariant_of-self-inside : goal.invariant_of-self-inside
-invariant_of-self-inside g c =
-    let viewed = ap (λ (t : Placed g.row.V.Denot). t.store.pairs) c.self.view_is in
-    let missing = ap (at c.args.self.now.store.pairs) (sym c.as_str-2.ensures) ∙ c.in-Vacant.ensures.ends.0 in
-    (still_distinct c.args.key c.args.value viewed c.push_reserved.ensures.items missing c.self.inside.distinct, tt)
+invariant_of-self-inside g c = (
+  still_distinct c.args.key c.args.value (ap (λ (t : Placed g.row.V.Denot). t.store.pairs) c.self.view_is)
+      c.push_reserved.ensures.items c.as_str-2.ensures c.in-Vacant.ensures.ends.0 c.self.inside.distinct,
+  tt,
+)
 
 pub unreachable-requires : goal.unreachable-requires
 unreachable-requires g c =
@@ -73,9 +71,8 @@ returns-in-Found-clause-pairs g c =
 
 pub returns-in-Vacant-clause-pairs : goal.returns-in-Vacant-clause-pairs
 returns-in-Vacant-clause-pairs g c =
-    let viewed = ap (λ (t : Placed g.row.V.Denot). t.store.pairs) c.self.view_is in
-    let missing = ap (at c.args.self.now.store.pairs) (sym c.as_str-2.ensures) ∙ c.in-Vacant.ensures.ends.0 in
-    put_last c.args.key c.args.value viewed c.push_reserved.ensures.items missing
+    put_last c.args.key c.args.value (ap (λ (t : Placed g.row.V.Denot). t.store.pairs) c.self.view_is)
+    c.push_reserved.ensures.items c.as_str-2.ensures c.in-Vacant.ensures.ends.0
 
 pub returns-in-Found-clause-counted : goal.returns-in-Found-clause-counted
 returns-in-Found-clause-counted g c =

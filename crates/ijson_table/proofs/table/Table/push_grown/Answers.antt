@@ -17,14 +17,14 @@ returns-in-Err g c = (
 pub invariant_of-self-inside : goal.invariant_of-self-inside
 invariant_of-self-inside g c =
     let viewed = ap (λ (t : Placed g.row.V.Denot). t.store.pairs) c.self.view_is ∙ c.in_default.ensures.pairs in
-    (still_distinct c.args.key c.args.value viewed c.push_reserved.ensures.items c.requires.missing c.self.inside.distinct, tt)
+    (still_distinct c.args.key c.args.value viewed c.push_reserved.ensures.items refl c.requires.missing c.self.inside.distinct, tt)
 
 pub returns : goal.returns
 returns g c =
     let pairs = c.args.self.now.store.pairs in
     let viewed = ap (λ (t : Placed g.row.V.Denot). t.store.pairs) c.self.view_is ∙ c.in_default.ensures.pairs in (
       lookup-absent pairs c.args.key c.requires.missing,
-      put_last c.args.key c.args.value viewed c.push_reserved.ensures.items c.requires.missing,
+      put_last c.args.key c.args.value viewed c.push_reserved.ensures.items refl c.requires.missing,
       subst (Grown (length pairs) c.args.self.now.store.capacity 1) (sym c.push_reserved.ensures.capacity)
           (subst (λ (t : Placed g.row.V.Denot). Grown (length pairs) c.args.self.now.store.capacity 1 t.store.capacity)
           (sym c.self.view_is) c.in_default.ensures.grown),

@@ -10,5 +10,5 @@ invariant_of-result-2 g c = record {
     limited = omega (arith, c.in_ok-capacity.ensures, c.in_ok-pairs.ensures.room);
   };
   hashes = c.in_ok-index.ensures.hashes ∙ sym (ap (λ ps. map g.H.KeyHash.hash_of (keys_of ps)) c.in_ok-pairs.ensures.empty);
-  size = c.in_ok-index.ensures.count ∙ ap slot_count (sym c.in_ok-pairs.ensures.room);
+  size = c.in_ok-index.ensures.count ∙ c.slots_for.ensures ∙ ap slot_count (sym c.in_ok-pairs.ensures.room);
 }

@@ -1,41 +1,51 @@
-use Rattle.std.proofs.Common.{◌≡◌, inl, inr, ◌+◌, ◌-◌, ◌<◌, ◌%◌, [], List, ℕ, length, get_or, take, arith, ap, sym, subst, ◌∙◌}
-use Rattle.ijson_table.specs.declared.index.probe.Probed.{Probed}
-use Rattle.ijson_table.specs.declared.index.probe.Probed.TheVariants.{Found, Vacant}
+use Rattle.std.proofs.Common.{◌≡◌, ◌⊎◌, inl, inr, ◌-◌, ◌<◌, ◌%◌, [], ℕ, length, get_or, take, arith, ap, sym, subst, ◌∙◌}
+use Rattle.ijson_table.specs.declared.index.probe.Probed.TheVariants.{Found, Vacant, Full}
 use Rattle.ijson_table.specs.Crowd.{distance}
 use Rattle.ijson_table.specs.Slots.{displacement}
 use Rattle.ijson_table.specs.Store.{at, keys_of}
-use Rattle.ijson_table.specs.private.CountedSteps.{CountsSteps}
+use Rattle.ijson_table.specs.private.CountedSteps.{CountsSteps, Walks}
+use Rattle.ijson_table.specs.private.FirstPlaced.{ComesAgain}
 use Rattle.ijson_table.specs.private.HashIndex.{HashIndex}
 use Rattle.ijson_table.specs.private.Lookup.{is_hashed_key}
-use Rattle.ijson_table.specs.private.Probe.{Ends}
 use Rattle.ijson_table.proofs.arithmetic.Circular.{distance-below, home_within}
 use Rattle.ijson_table.proofs.probing.FirstPairs.{comes_again, next_ends, next_placed}
 use Rattle.ijson_table.proofs.probing.StepsByEnd.{ended_found, counts_found, counts_full, counts_new}
 use Rattle.ijson_table.proofs.pairs.PairsByKey.{key_at}
-use Rattle.ijson_table.proofs.table.from_list.add_new_key.Goals.{After-new, After-distance_between, After-distance_between-in-Found}
-use Rattle.ijson_table.proofs.table.from_list.add_new_key.Goals.{In-Found, In-Vacant}
+use Rattle.ijson_table.proofs.table.from_list.add_new_key.Goals.{After-probe, After-distance_between}
+use Rattle.ijson_table.proofs.table.from_list.add_new_key.Goals.{After-distance_between-in-Found, In-Vacant}
 use Rattle.ijson_table.proofs.table.from_list.add_new_key.Goals as goal
 
--- how the walk for a key of this hash ended, by so many looks
-abbrev Walked : HashIndex → List (List ℕ) → ℕ → List ℕ → ℕ → Probed → Type 0
-Walked index keys h key looks end = Ends index.slots (displacement index.hashes index.slots) (h % length index.slots)
-    (is_hashed_key index.hashes keys h key) looks end
-
 -- the key of the pair
-keyed : (g : _) (c : After-new g) → get_or (keys_of c.args.pairs.now) c.args.position [] ≡ c.as_str-key.result.now
+keyed : (g : _) (c : After-probe g) → get_or (keys_of c.args.pairs.now) c.args.position [] ≡ c.as_str-key.result.now
 keyed g c = key_at c.args.pairs.now c.args.position c.index-pairs-position.result c.requires.within ∙ sym c.as_str-key.ensures
 
 -- the walk for it, where it is new
-vacant : (g : _) (c : In-Vacant g) → Walked c.args.index.now (keys_of (take c.args.position c.args.pairs.now)) c.hash-hash.result
+vacant : (g : _) (c : In-Vacant g) → Walks c.args.index.now (keys_of (take c.args.position c.args.pairs.now)) c.hash-hash.result
     c.as_str-key.result.now (c.probe.new.looks - c.new.result) (Vacant c.in-Vacant.slot)
-vacant g c = subst (Walked c.args.index.now (keys_of (take c.args.position c.args.pairs.now)) c.hash-hash.result
+vacant g c = subst (Walks c.args.index.now (keys_of (take c.args.position c.args.pairs.now)) c.hash-hash.result
     c.as_str-key.result.now (c.probe.new.looks - c.new.result)) c.in-Vacant.is c.probe.ensures.ends
 
 -- and where it comes again
-found : (g : _) (c : In-Found g) → Walked c.args.index.now (keys_of (take c.args.position c.args.pairs.now)) c.hash-hash.result
-    c.as_str-key.result.now (c.probe.new.looks - c.new.result) (Found c.in-Found.field-0 c.in-Found.slot)
-found g c = subst (Walked c.args.index.now (keys_of (take c.args.position c.args.pairs.now)) c.hash-hash.result
+found : (g : _) (c : After-distance_between-in-Found g) → Walks c.args.index.now (keys_of (take c.args.position c.args.pairs.now))
+    c.hash-hash.result c.as_str-key.result.now (c.probe.new.looks - c.new.result) (Found c.in-Found.field-0 c.in-Found.slot)
+found g c = subst (Walks c.args.index.now (keys_of (take c.args.position c.args.pairs.now)) c.hash-hash.result
     c.as_str-key.result.now (c.probe.new.looks - c.new.result)) c.in-Found.is c.probe.ensures.ends
+
+-- Where a slot is left, a key for which there is no vacancy comes again,
+again : (g : _) (c : After-probe g) → ((x : ℕ) × (p : ℕ) × (c.probe.result ≡ Found x p)) ⊎ (c.probe.result ≡ Full)
+    → ComesAgain c.args.pairs.now c.args.position
+again g c is none = comes_again g.H.KeyHash.hash_of c.args.pairs.now c.args.position c.args.index.now c.requires.placed
+    c.requires.within c.hash-hash.result c.as_str-key.result.now (c.probe.new.looks - c.new.result) c.probe.result c.hash-hash.ensures
+    c.len-slots.ensures.table c.requires.room c.probe.ensures.ends is
+    (ap (at (take c.args.position c.args.pairs.now)) (sym (keyed g c)) ∙ none)
+
+-- and the steps of the walk for it are those of the walk for the pair's key.
+counted : (g : _) (c : After-probe g) (new : HashIndex) (steps : ℕ) → CountsSteps g.H.KeyHash.hash_of
+    (keys_of (take c.args.position c.args.pairs.now)) c.as_str-key.result.now c.args.index.now new steps
+    → CountsSteps g.H.KeyHash.hash_of (keys_of (take c.args.position c.args.pairs.now))
+    (get_or (keys_of c.args.pairs.now) c.args.position []) c.args.index.now new steps
+counted g c new steps = subst (λ k. CountsSteps g.H.KeyHash.hash_of (keys_of (take c.args.position c.args.pairs.now)) k
+    c.args.index.now new steps) (sym (keyed g c))
 
 -- How far a slot is from the home that was computed: less than a round.
 record Away (n h p away : ℕ) : Type 0 where
@@ -67,15 +77,10 @@ away_found : (g : _) (c : After-distance_between-in-Found g) → Away (length c.
 away_found g c =
     let index = c.args.index.now in
     let n = length index.slots in
-    let some : 0 < n = omega (arith, c.requires.room) in
-    let keys = keys_of (take c.args.position c.args.pairs.now) in
-    let walk : Walked index keys c.hash-hash.result c.as_str-key.result.now (c.probe.new.looks - c.new.result)
-    (Found c.in-Found.field-0 c.in-Found.slot) =
-    subst (Walked index keys c.hash-hash.result c.as_str-key.result.now (c.probe.new.looks - c.new.result)) c.in-Found.is
-    c.probe.ensures.ends in
     let there = (ended_found index.slots (displacement index.hashes index.slots) (c.hash-hash.result % n)
-    (is_hashed_key index.hashes keys c.hash-hash.result c.as_str-key.result.now) (home_within c.hash-hash.result n some)
-    (c.probe.new.looks - c.new.result) c.in-Found.field-0 c.in-Found.slot walk).there in
+    (is_hashed_key index.hashes (keys_of (take c.args.position c.args.pairs.now)) c.hash-hash.result c.as_str-key.result.now)
+    (home_within c.hash-hash.result n (omega (arith, c.requires.room))) (c.probe.new.looks - c.new.result) c.in-Found.field-0
+    c.in-Found.slot (found g c)).there in
     away_from n c.args.modulus.count c.hash-hash.result c.home_of_hash-home.result c.in-Found.slot c.distance_between-in-Found.result
     c.len-slots.result c.distance_between-in-Found.ensures c.len-slots.ensures.count c.home_of_hash-home.ensures.value
     c.requires.counted c.home_of_hash-home.ensures.within there
@@ -127,27 +132,16 @@ returns-in-Vacant-clause-steps g c =
 
 pub returns-in-Vacant-clause-counted : goal.returns-in-Vacant-clause-counted
 returns-in-Vacant-clause-counted g c =
-    let hash = g.H.KeyHash.hash_of in
-    let keys = keys_of (take c.args.position c.args.pairs.now) in
-    let index = c.args.index.now in
     let place = goal.at.returns-in-Vacant-clause-counted g c in
-    let away = c.distance_between.result in
-    let steps = c.args.steps.now + (away + 2) - c.args.steps.now in
-    subst (λ k. CountsSteps hash keys k index c.push_at-last.new.self steps) (sym (keyed g place.After-new))
-    (counts_new hash keys index (omega (arith, c.requires.room)) c.hash-hash.result c.as_str-key.result.now
-    (c.probe.new.looks - c.new.result) c.in-Vacant.slot c.push_at-last.result away steps c.push_at-last.new.self c.hash-hash.ensures
+    counted g place.After-probe c.push_at-last.new.self _ (counts_new g.H.KeyHash.hash_of (keys_of (take c.args.position c.args.pairs.now))
+    c.args.index.now (omega (arith, c.requires.room)) c.hash-hash.result c.as_str-key.result.now (c.probe.new.looks - c.new.result)
+    c.in-Vacant.slot c.push_at-last.result c.distance_between.result _ c.push_at-last.new.self c.hash-hash.ensures
     (vacant g place.In-Vacant) c.push_at-last.ensures.within c.push_at-last.ensures.empty c.push_at-last.ensures.changes
     (away_new g place.After-distance_between).far (omega arith))
 
--- where a slot is left, a key for which there is no vacancy comes again
 pub returns-in-Found-clause-stops : goal.returns-in-Found-clause-stops
-returns-in-Found-clause-stops g c = λ _ none.
-    let pairs = c.args.pairs.now in
-    let n = c.args.position in
-    comes_again g.H.KeyHash.hash_of pairs n c.args.index.now c.requires.placed c.requires.within c.hash-hash.result c.as_str-key.result.now
-    (c.probe.new.looks - c.new.result) c.probe.result c.hash-hash.ensures c.len-slots.ensures.table c.requires.room c.probe.ensures.ends
-    (inl (c.in-Found.field-0, c.in-Found.slot, c.in-Found.is))
-    (ap (at (take n pairs)) (sym (keyed g (goal.at.returns-in-Found-clause-stops g c).After-new)) ∙ none)
+returns-in-Found-clause-stops g c = λ _.
+    again g (goal.at.returns-in-Found-clause-stops g c).After-probe (inl (c.in-Found.field-0, c.in-Found.slot, c.in-Found.is))
 
 pub returns-in-Found-clause-steps : goal.returns-in-Found-clause-steps
 returns-in-Found-clause-steps g c =
@@ -155,33 +149,20 @@ returns-in-Found-clause-steps g c =
 
 pub returns-in-Found-clause-counted : goal.returns-in-Found-clause-counted
 returns-in-Found-clause-counted g c =
-    let hash = g.H.KeyHash.hash_of in
-    let keys = keys_of (take c.args.position c.args.pairs.now) in
-    let index = c.args.index.now in
     let place = goal.at.returns-in-Found-clause-counted g c in
-    let away = c.distance_between-in-Found.result in
-    let steps = c.args.steps.now + (away + 1) - c.args.steps.now in
-    subst (λ k. CountsSteps hash keys k index index steps) (sym (keyed g place.After-new))
-    (counts_found hash keys index (omega (arith, c.requires.room)) c.hash-hash.result c.as_str-key.result.now
-    (c.probe.new.looks - c.new.result) c.in-Found.field-0 c.in-Found.slot away steps c.hash-hash.ensures
-    (found g place.In-Found) (away_found g place.After-distance_between-in-Found).far (omega arith))
+    counted g place.After-probe c.args.index.now _ (counts_found g.H.KeyHash.hash_of (keys_of (take c.args.position c.args.pairs.now))
+    c.args.index.now (omega (arith, c.requires.room)) c.hash-hash.result c.as_str-key.result.now (c.probe.new.looks - c.new.result)
+    c.in-Found.field-0 c.in-Found.slot c.distance_between-in-Found.result _ c.hash-hash.ensures
+    (found g place.After-distance_between-in-Found) (away_found g place.After-distance_between-in-Found).far (omega arith))
 
 pub returns-in-Full-clause-stops : goal.returns-in-Full-clause-stops
-returns-in-Full-clause-stops g c = λ _ none.
-    let pairs = c.args.pairs.now in
-    let n = c.args.position in
-    comes_again g.H.KeyHash.hash_of pairs n c.args.index.now c.requires.placed c.requires.within c.hash-hash.result c.as_str-key.result.now
-    (c.probe.new.looks - c.new.result) c.probe.result c.hash-hash.ensures c.len-slots.ensures.table c.requires.room c.probe.ensures.ends
-    (inr c.in-Full.is) (ap (at (take n pairs)) (sym (keyed g (goal.at.returns-in-Full-clause-stops g c).After-new)) ∙ none)
+returns-in-Full-clause-stops g c = λ _. again g (goal.at.returns-in-Full-clause-stops g c).After-probe (inr c.in-Full.is)
 
 pub returns-in-Full-clause-counted : goal.returns-in-Full-clause-counted
 returns-in-Full-clause-counted g c =
-    let hash = g.H.KeyHash.hash_of in
     let keys = keys_of (take c.args.position c.args.pairs.now) in
-    let index = c.args.index.now in
     let looks = c.probe.new.looks - c.new.result in
-    let steps = c.args.steps.now + c.len-slots.result - c.args.steps.now in
-    subst (λ k. CountsSteps hash keys k index index steps) (sym (keyed g (goal.at.returns-in-Full-clause-counted g c).After-new))
-    (counts_full hash keys index (omega (arith, c.requires.room)) c.hash-hash.result c.as_str-key.result.now looks steps c.hash-hash.ensures
-    (subst (Walked index keys c.hash-hash.result c.as_str-key.result.now looks) c.in-Full.is c.probe.ensures.ends)
+    counted g (goal.at.returns-in-Full-clause-counted g c).After-probe c.args.index.now _ (counts_full g.H.KeyHash.hash_of keys
+    c.args.index.now (omega (arith, c.requires.room)) c.hash-hash.result c.as_str-key.result.now looks _ c.hash-hash.ensures
+    (subst (Walks c.args.index.now keys c.hash-hash.result c.as_str-key.result.now looks) c.in-Full.is c.probe.ensures.ends)
     (omega (arith, c.len-slots.ensures.count)))
