@@ -1,5 +1,5 @@
 -- An item and a member's value are no deeper than what holds them together, by which a walk over a tree ends.
-use Rattle.std.proofs.Common.{◌≡◌, ℕ, zero, suc, ◌+◌, ◌*◌, ◌<◌, ◌≤◌, List, [], ◌∷◌, ◌∙◌, length, get_or, arith, ap, sym}
+use Rattle.std.proofs.Common.{◌≡◌, ℕ, zero, suc, ◌*◌, ◌<◌, ◌≤◌, List, [], ◌∷◌, ◌∙◌, length, get_or, arith, ap, sym}
 use denote.Param.Weighed.{most}
 use Rattle.ijson_table.specs.Store.{Store}
 use Rattle.ijson_value.specs.NodeValue.{node_value}
@@ -10,6 +10,7 @@ use Rattle.ijson_value.specs.Values.{array_tree, object_tree}
 use Rattle.ijson_value.specs.WellFormed.{WellFormed, tree_of, item_trees, pair_trees}
 use Rattle.ijson_value.specs.declared.value.Destructured.{Destructured}
 use Rattle.ijson_value.specs.declared.value.Destructured.TheVariants.{Array, Object}
+use Rattle.ijson_value.proofs.WalkMeasures.{at_value, at_items, at_pairs}
 
 -- an item is at most as deep as the items together
 pub item-items_depth : (vs : List WellFormed) (i : ℕ) (v : WellFormed) → i < length vs → v ≡ get_or vs i v
@@ -41,7 +42,7 @@ module _ {n : Destructured} {v : WellFormed} where
   array_shown read is view = ap array_tree read ∙ sym (ap (λ m. (node_value m).tree) is) ∙ ap tree_of view
 
   pub items_fall : {a : Sequence} {vs : List WellFormed} → vs ≡ a.items → n ≡ Array a → node_value n ≡ v
-      → 2 * most value_size vs + 1 < 2 * value_size v
+      → at_items vs < at_value v
   items_fall {a} {vs} read is view = omega (arith, items_below vs, ap depth (array_shown read is view))
 
   -- the same of the pairs of an opened object
@@ -50,5 +51,5 @@ module _ {n : Destructured} {v : WellFormed} where
   object_shown read is view = ap object_tree read ∙ sym (ap (λ m. (node_value m).tree) is) ∙ ap tree_of view
 
   pub pairs_fall : {s : Store WellFormed} {ps : List (List ℕ × WellFormed)} → ps ≡ s.pairs → n ≡ Object s → node_value n ≡ v
-      → 2 * most (λ p. value_size p.1) ps + 1 < 2 * value_size v
+      → at_pairs ps < at_value v
   pairs_fall {s} {ps} read is view = omega (arith, pairs_below ps, ap depth (object_shown read is view))

@@ -1,5 +1,5 @@
 -- Keys of which none comes twice, and what a map gives.
-use Rattle.std.proofs.Common.{◌≡◌, ◌≢◌, ◌<◌, ◌+◌, ℕ, suc, List, [], ◌∷◌, ◌++◌, length, map, Some, Result, Ok, Err, false}
+use Rattle.std.proofs.Common.{◌≡◌, ◌≢◌, ◌+◌, ℕ, suc, List, [], ◌∷◌, ◌++◌, length, map, Some, Result, Ok, Err, false}
 use Rattle.std.proofs.Common.{refl, ap, sym, subst, ◌∙◌, inl, inr, arith}
 use mathlib.Core.Bool.{true≢false}
 use Rattle.std.proofs.lemmas.List.{append-nil, length-append}
@@ -14,6 +14,7 @@ use Rattle.std.specs.Ordering.{nat_cmp}
 use Rattle.std.specs.Prelude.{nat_eq, IfOk}
 use Rattle.std.specs.declared.cmp.Ordering.TheVariants.{Less}
 use Rattle.ijson_table.specs.Store.{keys_of, put, Lacks, IsDistinct}
+use Rattle.ijson_value.specs.private.GivesPairs.{GivesDistinctPairs}
 use Rattle.ijson_table.proofs.pairs.KeyPositions.{same_key}
 
 -- ---- keys of which none comes twice
@@ -79,20 +80,23 @@ module _ {X : Type 0} where
   pub then_given : (s xs : List X) (x : X) (u : List X) → YieldsThen (TakesFirst (λ (x : X). x)) s xs (Some x) u → s ≡ xs ++ x ∷ u
   then_given s xs x u d = yielded xs s d.0 d.1 ∙ ap (λ l. xs ++ l) d.2
 
--- of an iterator that begins with these entries
-module _ {X : Type 0} {entries : List (List ℕ × X)} {count : ℕ} (counted : count ≡ length entries) {it : List (List ℕ × X)}
-    (start : it ≡ entries) (added : List (List ℕ × X)) where
-  -- all that it gave are the entries, whose keys are distinct
-  pub map_all : IsDistinct (keys_of entries) → Drains (TakesFirst (λ (p : List ℕ × X). p)) it added
-      → IsDistinct (keys_of added) × (length added ≡ count)
-  map_all distinct drains =
-      let same = sym start ∙ all_given it added drains in
-      (subst (λ l. IsDistinct (keys_of l)) same distinct, sym (counted ∙ ap length same))
+module _ {X : Type 0} {entries : List (List ℕ × X)} where
+  -- an iterator that begins with these entries gives them, and nothing else
+  pub entries_given : {it : List (List ℕ × X)} → it ≡ entries → (xs : List (List ℕ × X))
+      → Drains (TakesFirst (λ (p : List ℕ × X). p)) it xs → xs ≡ entries
+  entries_given {it} start xs drains = sym (all_given it xs drains) ∙ start
 
-  -- before one more they are fewer
-  pub map_more : (next : List ℕ × X) (rest : List (List ℕ × X))
-      → YieldsThen (TakesFirst (λ (p : List ℕ × X). p)) it added (Some next) rest → length added < count
-  map_more next rest yields =
-      let parts = sym start ∙ then_given it added next rest yields in
-      let size : length entries ≡ length added + suc (length rest) = ap length parts ∙ length-append added (next ∷ rest) in
-      omega (arith, size, counted)
+  -- so does a map whose iterator begins with them
+  pub map_gives : {U : Type 0} {becomes : U → List (List ℕ × X) → Type 0} {source : U}
+      → ((it : List (List ℕ × X)) → becomes source it → it ≡ entries) → {count : ℕ} → count ≡ length entries
+      → IsDistinct (keys_of entries) → GivesDistinctPairs becomes (TakesFirst (λ (p : List ℕ × X). p)) source count
+  map_gives starts counted distinct = record {
+    all = λ xs given. let same = entries_given (starts given.0 given.1) xs given.2 in (
+      subst (λ l. IsDistinct (keys_of l)) (sym same) distinct,
+      ap length same ∙ sym counted,
+    );
+    fewer = λ xs next given.
+        let parts : entries ≡ xs ++ next ∷ given.1 = sym (starts given.0 given.2) ∙ then_given given.0 xs next given.1 given.3 in
+        let size : length entries ≡ length xs + suc (length given.1) = ap length parts ∙ length-append xs (next ∷ given.1) in
+        omega (arith, size, counted);
+  }

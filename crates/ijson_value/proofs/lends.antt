@@ -1,8 +1,8 @@
 pub mod Called
 pub mod EmptySlice
+pub mod Kinds
 pub mod LentLaws
 pub mod LentOn
 pub mod PartCalled
-pub mod Parts
 pub mod Steps
 pub mod Variants

@@ -6,18 +6,15 @@ use Rattle.ijson_table.specs.Store.{at, swap_out, shift_out}
 abbrev pub pair_at_key : {V : Type 0} → List ℕ → List (List ℕ × V) → Option (List ℕ × V)
 pair_at_key key pairs = option_and_then (slice_get pairs) (at pairs key)
 
-abbrev pub swapped_at : {V : Type 0} → Option ℕ → List (List ℕ × V) → List (List ℕ × V)
-swapped_at None pairs = pairs
-swapped_at (Some i) pairs = swap_out pairs i
+-- the pairs without the one at a position, if there is one, which `out` takes out
+abbrev pub out_at : {X : Type 0} → (List X → ℕ → List X) → Option ℕ → List X → List X
+out_at out None pairs = pairs
+out_at out (Some i) pairs = out pairs i
 
 -- the pairs without the one with a key, where the last one fills the gap
 abbrev pub swap_out_key : {V : Type 0} → List ℕ → List (List ℕ × V) → List (List ℕ × V)
-swap_out_key key pairs = swapped_at (at pairs key) pairs
-
-abbrev pub shifted_at : {V : Type 0} → Option ℕ → List (List ℕ × V) → List (List ℕ × V)
-shifted_at None pairs = pairs
-shifted_at (Some i) pairs = shift_out pairs i
+swap_out_key key pairs = out_at swap_out (at pairs key) pairs
 
 -- the pairs without the one with a key, where those behind it are closed up
 abbrev pub shift_out_key : {V : Type 0} → List ℕ → List (List ℕ × V) → List (List ℕ × V)
-shift_out_key key pairs = shifted_at (at pairs key) pairs
+shift_out_key key pairs = out_at shift_out (at pairs key) pairs

@@ -1,3 +1,4 @@
 pub mod Boxed
 pub mod Folded
+pub mod GivesPairs
 pub mod LendsList

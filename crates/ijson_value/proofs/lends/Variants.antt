@@ -1,22 +1,27 @@
--- An Option is taken apart and a Result is made, at any rows, with no law of these. Assumes `Logic`.
+-- A variant of any enum is taken apart and made, at any rows, with no law of these. Assumes `Logic`.
 use mathlib.Core.Bool.{Bool, true, false, ◌&&◌}
-use mathlib.Core.Path.{◌≡◌, refl, subst⁻¹}
+use mathlib.Core.Logic.{inl, inr}
+use mathlib.Core.Path.{◌≡◌, refl, ap, ◌∙◌}
+use Prim.Native.Nat.{ℕ}
 use mathlib.Core.List.{List, [], ◌∷◌, ◌++◌}
 use lib.Dec.{T}
 use seplogic.Ra.Ura.{Ura}
 use mir.Val.{Val, of_list}
+use base.Fml.{Fml, feq, fex, fsep}
 use base.Logic.{ent}
 use types.Logic.{Logic, sem}
-use types.Kit.{Item, Goal, Seq, ‵, ◌$◌, ◌∵◌, !, qed, move, drop, fsplit, fjoin, fpick, fpack, feq_l, feq_i, done}
+use types.Kit.{Item, Goal, Seq, ‵, ◌$◌, ◌∵◌, !, qed, move, drop, use1, fsplit, fjoin, fpick, fpack, feq_l, feq_i, done}
 use types.Match.{live}
-use denote.RattleType.{RattleType, Valss, owns}
+use denote.Laws.{Is, Tells}
+use denote.RattleType.{RattleType, Denots, Valss, flat, owns}
+use denote.Shadow.{shadow, pure_l}
 use denote.Steps.{nothing}
-use denote.Enum.Row.{tagged_with}
-use denote.Enum.Enum.{form_of, in_a_row}
-use denote.Enum.Declared.{shape}
-use Rattle.std.specs.Prelude.{Option, None, Some, Ok, Err}
+use denote.Struct.Field.{Field}
+use denote.Enum.Bare.{Bare}
+use denote.Enum.Enum.{Sum, in_a_row, payload}
+use denote.Enum.Declared.{Declared, rowss, row, tag_of}
+use Rattle.std.specs.Prelude.{Option, None, Some}
 use Rattle.std.specs.contracts.option.Option.{the_row}
-use Rattle.std.specs.contracts.result.Result as result
 
 -- what one field alone is typed by
 pub and_tt : (b : Bool) → T b → T (b && true)
@@ -28,37 +33,59 @@ pub by_option : {X : Type 1} {Y : Type 0} (o : Option Y) → (o ≡ None → X) 
 by_option None none more = none refl
 by_option (Some y) none more = more y refl
 
-module _ {M : Type 1} {𝓤 : Ura M} {𝓛 : Logic 𝓤} {K : Type 0} {Γ : List (Item 𝓤)} {G : Goal 𝓤 𝓛.H} (t : K) (R : RattleType) where
-  pub none_out : (vs : List Val) → (vs ≡ live 0 (of_list []) ∷ [] → Seq K 𝓛 Γ G) → Seq K 𝓛 (‵ ((the_row R).own_val None vs) ∷ Γ) G
-  none_out vs k =
-      fpick t (λ us. fsplit t $
-      feq_l t (λ e. fpick t (λ vss. fsplit t $
-      feq_l t (λ e'. drop t $
-      k (subst⁻¹ (λ (ws : List Val). vs ≡ live 0 (of_list ws) ∷ [] → vs ≡ live 0 (of_list []) ∷ []) e' (λ p. p) e)))))
+-- what a variant with these fields owns, under its tag: the row of any enum computes to it at a variant that is written out
+abbrev Tagged_with : ℕ → (Rs : List RattleType) → Denots Rs → List Val → List Val → Fml
+Tagged_with n Rs parts vs us = fsep (feq (List Val) vs (live n (of_list us) ∷ [])) (fex (Valss Rs) (in_a_row Rs (owns Rs parts) us))
 
-  pub Some-out : (x : R.Denot) (vs : List Val)
-      → ((xs : List Val) → vs ≡ live 1 (of_list (xs ++ [])) ∷ [] → Seq K 𝓛 (‵ (R.own_val x xs) ∷ Γ) G)
-      → Seq K 𝓛 (‵ ((the_row R).own_val (Some x) vs) ∷ Γ) G
-  Some-out x vs k = fpick t (λ us. fsplit t $ feq_l t (λ e. fpick t (λ vss. fsplit t $ feq_l t (λ e'. fsplit t $ move t (1 ∷ []) $ drop t $
-      k vss.0 (subst⁻¹ (λ (ws : List Val). vs ≡ live 1 (of_list ws) ∷ [] → vs ≡ live 1 (of_list (vss.0 ++ [])) ∷ []) e' (λ p. p) e)))))
+abbrev pub Tagged : ℕ → (Rs : List RattleType) → Denots Rs → List Val → Fml
+Tagged n Rs parts vs = fex (List Val) (Tagged_with n Rs parts vs)
 
-module _ {M : Type 1} {𝓤 : Ura M} (𝓛 : Logic 𝓤) (R E : RattleType) where
-  pub ok_of : (x : R.Denot) (v : Val) → ent 𝓤 (sem 𝓛 (R.own_val x (v ∷ [])))
-      (sem 𝓛 ((result.the_row R E).own_val (Ok x) (live 0 (of_list (v ∷ [])) ∷ [])))
-  ok_of x v =
-      qed 𝓛 (‵ (R.own_val x (v ∷ [])) ∷ []) ∵ nothing ! $ move ! (1 ∷ 0 ∷ []) $ fjoin ! $ feq_i ! (List Val) (v ∷ []) (v ∷ []) refl $
-      fjoin ! $
-      fpack ! (Valss (R ∷ [])) (in_a_row (R ∷ []) (owns (R ∷ []) (x, tt)) (v ∷ [])) (v ∷ [], tt) $
-      feq_i ! (List Val) (live 0 (of_list (v ∷ [])) ∷ []) (live 0 (of_list (v ∷ [])) ∷ []) refl $ fjoin ! $
-      fpack ! (List Val) (tagged_with (form_of (shape (result.the_type R E))) (form_of (shape (result.the_type R E))).payload
-      ((result.the_type R E).to (Ok x)) (live 0 (of_list (v ∷ [])) ∷ [])) (v ∷ []) $ done !
+module _ {M : Type 1} {𝓤 : Ura M} {𝓛 : Logic 𝓤} {K : Type 0} {Γ : List (Item 𝓤)} {G : Goal 𝓤 𝓛.H} (t : K) where
+  -- no field
+  pub bare_out : (n : ℕ) (vs : List Val) → (vs ≡ live n (of_list []) ∷ [] → Seq K 𝓛 Γ G) → Seq K 𝓛 (‵ (Tagged n [] tt vs) ∷ Γ) G
+  bare_out n vs k = pure_l t (Tagged n [] tt vs) (λ seen. k (seen.1.0 ∙ ap (λ (us : List Val). live n (of_list us) ∷ []) seen.1.1.1.0))
 
-  pub err_of : (x : E.Denot) (v : Val) → ent 𝓤 (sem 𝓛 (E.own_val x (v ∷ [])))
-      (sem 𝓛 ((result.the_row R E).own_val (Err x) (live 1 (of_list (v ∷ [])) ∷ [])))
-  err_of x v =
-      qed 𝓛 (‵ (E.own_val x (v ∷ [])) ∷ []) ∵ nothing ! $ move ! (1 ∷ 0 ∷ []) $ fjoin ! $ feq_i ! (List Val) (v ∷ []) (v ∷ []) refl $
-      fjoin ! $
-      fpack ! (Valss (E ∷ [])) (in_a_row (E ∷ []) (owns (E ∷ []) (x, tt)) (v ∷ [])) (v ∷ [], tt) $
-      feq_i ! (List Val) (live 1 (of_list (v ∷ [])) ∷ []) (live 1 (of_list (v ∷ [])) ∷ []) refl $ fjoin ! $
-      fpack ! (List Val) (tagged_with (form_of (shape (result.the_type R E))) (form_of (shape (result.the_type R E))).payload
-      ((result.the_type R E).to (Err x)) (live 1 (of_list (v ∷ [])) ∷ [])) (v ∷ []) $ done !
+  -- one field
+  pub alone_out : (n : ℕ) (R : RattleType) (x : R.Denot) (vs : List Val)
+      → ((xs : List Val) → vs ≡ live n (of_list (xs ++ [])) ∷ [] → Seq K 𝓛 (‵ (R.own_val x xs) ∷ Γ) G)
+      → Seq K 𝓛 (‵ (Tagged n (R ∷ []) (x, tt) vs) ∷ Γ) G
+  alone_out n R x vs k = fpick t (λ us. fsplit t $ feq_l t (λ e. fpick t (λ vss. fsplit t $ feq_l t (λ e'.
+      fsplit t $ move t (1 ∷ []) $ drop t $
+      k vss.0 (e ∙ ap (λ (us : List Val). live n (of_list us) ∷ []) e')))))
+
+  -- an Option
+  module _ (R : RattleType) where
+    pub none_out : (vs : List Val) → (vs ≡ live 0 (of_list []) ∷ [] → Seq K 𝓛 Γ G) → Seq K 𝓛 (‵ ((the_row R).own_val None vs) ∷ Γ) G
+    none_out vs k = bare_out 0 vs k
+
+    pub Some-out : (x : R.Denot) (vs : List Val)
+        → ((xs : List Val) → vs ≡ live 1 (of_list (xs ++ [])) ∷ [] → Seq K 𝓛 (‵ (R.own_val x xs) ∷ Γ) G)
+        → Seq K 𝓛 (‵ ((the_row R).own_val (Some x) vs) ∷ Γ) G
+    Some-out x vs k = alone_out 1 R x vs k
+
+-- it is made of its fields
+module _ {M : Type 1} {𝓤 : Ura M} (𝓛 : Logic 𝓤) (n : ℕ) where
+  pub variant_made : (Rs : List RattleType) (parts : Denots Rs) (vss : Valss Rs)
+      → ent 𝓤 (sem 𝓛 (owns Rs parts vss)) (sem 𝓛 (Tagged n Rs parts (live n (of_list (flat Rs vss)) ∷ [])))
+  variant_made Rs parts vss = let us = flat Rs vss in let v : Val = live n (of_list us) in
+      qed 𝓛 (‵ (owns Rs parts vss) ∷ []) ∵ feq_i ! (List Val) us us refl $ fjoin ! $
+      fpack ! (Valss Rs) (in_a_row Rs (owns Rs parts) us) vss $ feq_i ! (List Val) (v ∷ []) (v ∷ []) refl $ fjoin ! $
+      fpack ! (List Val) (Tagged_with n Rs parts (v ∷ [])) us $ done !
+
+  -- of one
+  pub alone_made : (R : RattleType) (x : R.Denot) (v : Val)
+      → ent 𝓤 (sem 𝓛 (R.own_val x (v ∷ []))) (sem 𝓛 (Tagged n (R ∷ []) (x, tt) (live n (of_list (v ∷ [])) ∷ [])))
+  alone_made R x v =
+      qed 𝓛 (‵ (R.own_val x (v ∷ [])) ∷ []) ∵ nothing ! $ move ! (1 ∷ 0 ∷ []) $ fjoin ! $
+      use1 𝓛 (‵ (Tagged n (R ∷ []) (x, tt) (live n (of_list (v ∷ [])) ∷ []))) (variant_made (R ∷ []) (x, tt) (v ∷ [], tt)) $ done !
+
+-- The machine value of an enum with no fields is its tag.
+bare_fields : (Fss : List (List Field)) → Bare Fss → (x : Sum (rowss Fss)) (us : List Val) → shadow (payload (rowss Fss) x us) → us ≡ []
+bare_fields [] bare x us seen = absurd x
+bare_fields ([] ∷ Fss) bare (inl x) us seen = seen.1.0
+bare_fields ([] ∷ Fss) bare (inr x) us seen = bare_fields Fss bare x us seen
+bare_fields ((F ∷ Fs) ∷ Fss) bare x us seen = absurd bare
+
+pub bare_tells : (E : Declared) → Bare E.parts → Tells (row E) (Is (row E)) (λ x. live (tag_of E x) (of_list []) ∷ [])
+bare_tells E bare x vs seen =
+    seen.1.0 ∙ ap (λ (us : List Val). live (tag_of E x) (of_list us) ∷ []) (bare_fields E.parts bare (E.to x) seen.0 seen.1.1)

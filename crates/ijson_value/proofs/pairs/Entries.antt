@@ -11,7 +11,7 @@ use Rattle.ijson_table.specs.Store.{Store, at, lookup, keys_of, swap_out, with_v
 use Rattle.ijson_table.specs.declared.store.ReserveError.{ReserveError}
 use Rattle.ijson_table.specs.declared.store.ReserveError.TheVariants.{Memory, TooLarge}
 use Rattle.ijson_table.specs.StoreWithValue.{store_with_value}
-use Rattle.ijson_value.specs.AtKey.{swap_out_key, swapped_at}
+use Rattle.ijson_value.specs.AtKey.{swap_out_key, out_at}
 use Rattle.ijson_value.specs.FindsEntry.{FindsNoRoom}
 use Rattle.ijson_value.specs.WellFormed.{WellFormed}
 use Rattle.ijson_value.specs.WithEntry.{with_entry_value}
@@ -91,7 +91,7 @@ module _ {V : Type 0} where
   swap_out_there s i within =
       let found : at s.pairs (get_or (keys_of s.pairs) i []) ≡ Some i =
       position-distinct (keys_of s.pairs) (get_or (keys_of s.pairs) i []) i s.distinct (omega (arith, within, keys-length s.pairs)) refl in
-      ap (λ o. swapped_at o s.pairs) (sym found)
+      ap (λ o. out_at swap_out o s.pairs) (sym found)
 
 -- What an entry of a key is read of: of a key that is there, by what a look-up by its text answered.
 pub record IsAt (old : Store WellFormed) (k : List ℕ) (i : ℕ) : Type 0 where

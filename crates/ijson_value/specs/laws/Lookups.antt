@@ -12,7 +12,7 @@ use Rattle.ijson_table.proofs.pairs.KeyPositions.{same_key, position-none, posit
 use Rattle.ijson_table.proofs.pairs.PairsByKey.{position_within, keys-length, key_at, swap_out-is, length-swap_out, swapped-same}
 use Rattle.ijson_table.proofs.pairs.PairsByKey.{swapped-other}
 use Rattle.ijson_table.proofs.pairs.PairsByKey.{distinct_swapped, lookup-position, lookup-absent}
-use Rattle.ijson_value.specs.AtKey.{swapped_at, shifted_at, swap_out_key, shift_out_key}
+use Rattle.ijson_value.specs.AtKey.{out_at, swap_out_key, shift_out_key}
 
 -- the head's position is no later one
 no_head : (o : Option ℕ) → option_map (λ i. i + 1) o ≡ Some 0 → ⊥
@@ -212,19 +212,22 @@ module _ {V : Type 0} where
       ]
 
   -- once the pair with a key is taken out, nothing is found beside that key, and beside each other key what was there
+  lookup-out_key : (out : List (List ℕ × V) → ℕ → List (List ℕ × V)) (pairs : List (List ℕ × V)) (key k : List ℕ)
+      → ((i : ℕ) → at pairs key ≡ Some i → lookup k (out pairs i) ≡ cond (bytes_eq k key) None (lookup k pairs))
+      → lookup k (out_at out (at pairs key) pairs) ≡ cond (bytes_eq k key) None (lookup k pairs)
+  lookup-out_key out pairs key k taken = elim (at pairs key) as (λ o. at pairs key ≡ o
+      → lookup k (out_at out o pairs) ≡ cond (bytes_eq k key) None (lookup k pairs)) [
+        | None ↦ λ e. was_absent pairs key k e
+        | Some i ↦ λ e. taken i e
+      ] refl
+
   pub lookup-swap_out_key : (pairs : List (List ℕ × V)) (key : List ℕ) → IsDistinct (keys_of pairs) → (k : List ℕ)
       → lookup k (swap_out_key key pairs) ≡ cond (bytes_eq k key) None (lookup k pairs)
-  lookup-swap_out_key pairs key distinct k = elim (at pairs key) as (λ o. at pairs key ≡ o
-      → lookup k (swapped_at o pairs) ≡ cond (bytes_eq k key) None (lookup k pairs)) [
-        | None ↦ λ e. was_absent pairs key k e
-        | Some i ↦ λ e. lookup-swap_out pairs key i distinct e k
-      ] refl
+  lookup-swap_out_key pairs key distinct k =
+      lookup-out_key swap_out pairs key k (λ i e. lookup-swap_out pairs key i distinct e k)
 
   -- the same where the pairs behind it close up
   pub lookup-shift_out_key : (pairs : List (List ℕ × V)) (key : List ℕ) → IsDistinct (keys_of pairs) → (k : List ℕ)
       → lookup k (shift_out_key key pairs) ≡ cond (bytes_eq k key) None (lookup k pairs)
-  lookup-shift_out_key pairs key distinct k = elim (at pairs key) as (λ o. at pairs key ≡ o
-      → lookup k (shifted_at o pairs) ≡ cond (bytes_eq k key) None (lookup k pairs)) [
-        | None ↦ λ e. was_absent pairs key k e
-        | Some i ↦ λ e. lookup-shift_out pairs key i distinct e k
-      ] refl
+  lookup-shift_out_key pairs key distinct k =
+      lookup-out_key shift_out pairs key k (λ i e. lookup-shift_out pairs key i distinct e k)

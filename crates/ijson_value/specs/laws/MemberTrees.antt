@@ -1,11 +1,10 @@
 -- The members of an object's tree and the object's pairs: what is put, and what is taken out.
-use Rattle.std.specs.Prelude.{◌≡◌, ℕ, suc, ◌++◌, true, false, List, [], ◌∷◌, Option, Some, None, map, take, drop, cond}
-use Rattle.std.specs.List.{remove}
+use Rattle.std.specs.Prelude.{◌≡◌, ℕ, true, false, List, [], ◌∷◌, Option, Some, None, map, cond}
 use Rattle.std.specs.Str.{bytes_eq}
 use Rattle.std.proofs.Common.{refl, sym, ap, ◌∙◌}
-use Rattle.std.proofs.lemmas.List.{map-append, take-map, drop-map}
-use Rattle.ijson_table.specs.Store.{keys_of, position_of, at, put}
-use Rattle.ijson_value.specs.AtKey.{shift_out_key}
+use Rattle.indexmap.proofs.SetLemmas.{map-remove}
+use Rattle.ijson_table.specs.Store.{keys_of, position_of, at, put, shift_out}
+use Rattle.ijson_value.specs.AtKey.{out_at, shift_out_key}
 use Rattle.ijson_value.specs.Tree.{Tree, Members, no_members, member, members_of, members_list}
 use Rattle.ijson_value.specs.WellFormed.{WellFormed, tree_of, pair_trees}
 
@@ -44,21 +43,19 @@ pub put-members : (ps : List (List ℕ × WellFormed)) (key : List ℕ) (w : Wel
 put-members ps key w =
     members_list-pairs (put ps key w) ∙ put-trees ps key w ∙ ap (λ ms. put ms key w.tree) (sym (members_list-pairs ps))
 
--- a pair taken out is its member taken out
-remove-trees : (ps : List (List ℕ × WellFormed)) (i : ℕ) → map pair_tree (remove ps i) ≡ remove (map pair_tree ps) i
-remove-trees ps i =
-    map-append pair_tree (take i ps) (drop (suc i) ps)
-    ∙ ap (λ ms. ms ++ map pair_tree (drop (suc i) ps)) (sym (take-map pair_tree i ps))
-    ∙ ap (λ ms. take i (map pair_tree ps) ++ ms) (sym (drop-map pair_tree (suc i) ps))
+-- a pair with a key taken out in one way is its member taken out in another, where that holds at each position
+module _ (out : List (List ℕ × WellFormed) → ℕ → List (List ℕ × WellFormed))
+    (out_member : List (List ℕ × Tree) → ℕ → List (List ℕ × Tree)) (ps : List (List ℕ × WellFormed))
+    (each : (i : ℕ) → map pair_tree (out ps i) ≡ out_member (map pair_tree ps) i) where
+  out_at-trees : (found : Option ℕ) → map pair_tree (out_at out found ps) ≡ out_at out_member found (map pair_tree ps)
+  out_at-trees None = refl
+  out_at-trees (Some i) = each i
 
-shift_out-trees : (ps : List (List ℕ × WellFormed)) (key : List ℕ) (found : Option ℕ) → at ps key ≡ found
-    → map pair_tree (shift_out_key key ps) ≡ shift_out_key key (map pair_tree ps)
-shift_out-trees ps key None e =
-    let there = at-trees ps key ∙ e in rw e (rw there refl)
-shift_out-trees ps key (Some i) e =
-    let there = at-trees ps key ∙ e in rw e (rw there (remove-trees ps i))
+  pub out_key-trees : (key : List ℕ)
+      → map pair_tree (out_at out (at ps key) ps) ≡ out_at out_member (at (map pair_tree ps) key) (map pair_tree ps)
+  out_key-trees key = out_at-trees (at ps key) ∙ ap (λ found. out_at out_member found (map pair_tree ps)) (sym (at-trees ps key))
 
 pub shift_out-members : (ps : List (List ℕ × WellFormed)) (key : List ℕ)
     → members_list (pair_trees (shift_out_key key ps)) ≡ shift_out_key key (members_list (pair_trees ps))
-shift_out-members ps key = members_list-pairs (shift_out_key key ps) ∙ shift_out-trees ps key (at ps key) refl
+shift_out-members ps key = members_list-pairs (shift_out_key key ps) ∙ out_key-trees shift_out shift_out ps (map-remove pair_tree ps) key
     ∙ ap (shift_out_key key) (sym (members_list-pairs ps))

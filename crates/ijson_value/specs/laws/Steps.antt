@@ -1,11 +1,12 @@
 -- What stands one step inside a value, what is left without it, and the value with another there: the trees of what a list of
 -- items and a store of pairs answer.
-use Rattle.std.specs.Prelude.{◌≡◌, ℕ, zero, suc, ◌-◌, ◌++◌, true, false, List, [], ◌∷◌, Option, Some, None, map, length, take, drop, set}
+use Rattle.std.specs.Prelude.{◌≡◌, ℕ, zero, suc, ◌-◌, true, false, List, [], ◌∷◌, Some, None, map, length, take, set}
 use Rattle.std.specs.Prelude.{swap, get_or, slice_get, option_map, IsSome, cond}
 use Rattle.std.specs.List.{remove}
 use Rattle.std.specs.Str.{bytes_eq}
 use Rattle.std.proofs.Common.{refl, sym, ap, ◌∙◌}
-use Rattle.std.proofs.lemmas.List.{map-append, map-set, take-map, drop-map, length-map}
+use Rattle.std.proofs.lemmas.List.{map-set, take-map, length-map}
+use Rattle.indexmap.proofs.SetLemmas.{map-remove}
 use Rattle.ijson_table.specs.Store.{Store, at, lookup, put, swap_out}
 use Rattle.ijson_table.proofs.pairs.PairsByKey.{lookup-absent, put-present}
 use Rattle.ijson_value.specs.AtKey.{swap_out_key}
@@ -17,7 +18,7 @@ use Rattle.ijson_value.specs.Step.{Step, by_position, by_key, kind_for, tree_at,
 use Rattle.ijson_value.specs.Tree.{Tree, null, boolean, number, string, array, object, items_of, items_list, members_of, members_list}
 use Rattle.ijson_value.specs.Values.{array_tree, object_tree}
 use Rattle.ijson_value.specs.WellFormed.{WellFormed, tree_of, item_trees, pair_trees}
-use Rattle.ijson_value.specs.laws.MemberTrees.{pair_tree, members_list-pairs, at-trees, put-trees}
+use Rattle.ijson_value.specs.laws.MemberTrees.{pair_tree, members_list-pairs, put-trees, out_key-trees}
 use Rattle.ijson_value.specs.declared.value.Destructured.{Destructured}
 use Rattle.ijson_value.specs.declared.value.Destructured.TheVariants.{Null, Bool as Truth, Number, String, Array, Object}
 
@@ -54,9 +55,7 @@ value_at (p ∷ ps) key = elim (bytes_eq key p.0) as (λ b. option_map tree_of (
 -- without it
 pub item_without : (vs : List WellFormed) (i : ℕ) → array_tree (remove vs i) ≡ tree_without (array_tree vs) (by_position i)
 item_without vs i =
-    ap (λ ts. array (items_of ts)) (map-append tree_of (take i vs) (drop (suc i) vs)
-    ∙ ap (λ ts. ts ++ map tree_of (drop (suc i) vs)) (sym (take-map tree_of i vs))
-    ∙ ap (λ ts. take i (map tree_of vs) ++ ts) (sym (drop-map tree_of (suc i) vs)))
+    ap (λ ts. array (items_of ts)) (map-remove tree_of vs i)
     ∙ ap (λ ts. array (items_of (remove ts i))) (sym (items_list-items vs))
 
 get_or-trees : (ps : List (List ℕ × WellFormed)) (i : ℕ) (d : List ℕ × WellFormed)
@@ -79,16 +78,9 @@ swap_out-trees ps i = rw (length-map ps pair_tree) (
     sym (take-map pair_tree (length ps - 1) (swap ps i (length ps - 1)))
     ∙ ap (take (length ps - 1)) (swap-trees ps i (length ps - 1)))
 
-swap_out_key-trees : (ps : List (List ℕ × WellFormed)) (key : List ℕ) (found : Option ℕ) → at ps key ≡ found
-    → map pair_tree (swap_out_key key ps) ≡ swap_out_key key (map pair_tree ps)
-swap_out_key-trees ps key None e =
-    let there = at-trees ps key ∙ e in rw e (rw there refl)
-swap_out_key-trees ps key (Some i) e =
-    let there = at-trees ps key ∙ e in rw e (rw there (swap_out-trees ps i))
-
 pub value_without : (ps : List (List ℕ × WellFormed)) (key : List ℕ)
     → object_tree (swap_out_key key ps) ≡ tree_without (object_tree ps) (by_key key)
-value_without ps key = ap (λ ms. object (members_of ms)) (swap_out_key-trees ps key (at ps key) refl)
+value_without ps key = ap (λ ms. object (members_of ms)) (out_key-trees swap_out swap_out ps (swap_out-trees ps) key)
     ∙ ap (λ ms. object (members_of (swap_out_key key ms))) (sym (members_list-pairs ps))
 
 -- with another there

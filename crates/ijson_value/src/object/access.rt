@@ -50,7 +50,7 @@ impl IObject {
         ensures* writes_back { sem 𝓛 (LendsValue self.entry position result) }
         ensures value { (key : List ℕ) × (slice_get self.old.pairs position ≡ Some (key, result.now)) }
     {
-        self.table.as_mut().unwrap().value_mut(position)
+        self.pair_mut(position).1
     }
 
     /// The key at a position, and its value to be written.

@@ -1,13 +1,12 @@
 //! Objects of the pairs of maps.
-ghost use Rattle.std.specs.Prelude.{◌≡◌, ◌<◌, ◌↔◌, ℕ, List, Err, IfOk, IsOk, length};
+ghost use Rattle.std.specs.Prelude.{◌≡◌, ◌<◌, ◌↔◌, Err, IfOk, IsOk};
 ghost use Rattle.std.specs.BTreeMap.{btree_map_len};
 ghost use Rattle.std.specs.HashMap.{hash_map_len};
 ghost use Rattle.std.specs.Iterator.{IsFiniteIterable};
 ghost use Rattle.indexmap.specs.IndexMap.{index_map_len};
 ghost use Rattle.ijson_table.specs.Growth.{capacity_limit};
-ghost use Rattle.ijson_table.specs.Store.{IsDistinct, keys_of};
-ghost use Rattle.ijson_value.specs.Gives.{GivesAll, GivesThen};
-ghost use Rattle.ijson_value.specs.WellFormed.{WellFormed};
+ghost use Rattle.ijson_value.specs.Gives.{GivesAll};
+ghost use Rattle.ijson_value.specs.private.GivesPairs.{GivesDistinctPairs};
 
 use super::map::IObject;
 use crate::value::IValue;
@@ -81,12 +80,7 @@ impl IObject {
         pairs: I,
     ) -> Result<IObject, ReserveError>
         requires finite { IsFiniteIterable I.into_iter_gives I.IntoIter.can_next I.IntoIter.remaining pairs }
-        requires all { (added : List (List ℕ × WellFormed))
-            → GivesAll I.into_iter_gives I.IntoIter.next_gives pairs added
-            → IsDistinct (keys_of added) × (length added ≡ count) }
-        requires more { (added : List (List ℕ × WellFormed)) (next : List ℕ × WellFormed)
-            → GivesThen I.into_iter_gives I.IntoIter.next_gives pairs added next
-            → length added < count }
+        requires gives { GivesDistinctPairs I.into_iter_gives I.IntoIter.next_gives pairs count }
         ensures pairs { IfOk result (λ object.
             GivesAll I.into_iter_gives I.IntoIter.next_gives pairs object.pairs) }
         ensures capacity { IfOk result (λ object. object.capacity ≡ count) }

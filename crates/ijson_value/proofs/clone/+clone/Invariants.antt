@@ -1,7 +1,6 @@
-use Rattle.std.proofs.Common.{◌≡◌, ◌*◌, ◌+◌, take, length}
-use denote.Param.Weighed.{most}
+use Rattle.std.proofs.Common.{◌≡◌, take, length}
 use Rattle.std.specs.Prelude.{vec_capacity}
-use Rattle.ijson_value.specs.Sizes.{value_size}
+use Rattle.ijson_value.proofs.WalkMeasures.{at_value, at_items, at_pairs}
 use Rattle.ijson_value.proofs.clone.+clone.Given as goal
 
 abbrev pub invariant-clone_items-loop-item : goal.invariant-clone_items-loop-item
@@ -11,10 +10,10 @@ abbrev pub invariant-clone_pairs-loop-pair : goal.invariant-clone_pairs-loop-pai
 invariant-clone_pairs-loop-pair l = (l.copies.items ≡ take l.pair-index l.pairs) × (vec_capacity l.copies ≡ length l.pairs)
 
 abbrev pub decreases-clone_value : goal.decreases-clone_value
-decreases-clone_value l = 2 * value_size l.value.now
+decreases-clone_value l = at_value l.value.now
 
 abbrev pub decreases-clone_items : goal.decreases-clone_items
-decreases-clone_items l = 2 * most value_size l.items.now + 1
+decreases-clone_items l = at_items l.items.now
 
 abbrev pub decreases-clone_pairs : goal.decreases-clone_pairs
-decreases-clone_pairs l = 2 * most (λ p. value_size p.1) l.pairs.now + 1
+decreases-clone_pairs l = at_pairs l.pairs.now

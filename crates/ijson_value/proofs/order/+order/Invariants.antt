@@ -1,8 +1,7 @@
-use Rattle.std.proofs.Common.{◌≡◌, ◌*◌, ◌+◌, ◌≤◌, length, drop}
-use denote.Param.Weighed.{most}
+use Rattle.std.proofs.Common.{◌≡◌, ◌≤◌, length, drop}
 use Rattle.ijson_value.specs.Order.{items_cmp}
 use Rattle.ijson_value.specs.WellFormed.{item_trees}
-use Rattle.ijson_value.specs.Sizes.{value_size}
+use Rattle.ijson_value.proofs.WalkMeasures.{at_value, at_items}
 use Rattle.ijson_value.proofs.order.+order.Given as goal
 
 abbrev pub invariant-items_cmp-loop-i : goal.invariant-items_cmp-loop-i
@@ -13,7 +12,7 @@ invariant-items_cmp-loop-i l = record {
 }
 
 abbrev pub decreases-value_cmp : goal.decreases-value_cmp
-decreases-value_cmp l = 2 * value_size l.a.now
+decreases-value_cmp l = at_value l.a.now
 
 abbrev pub decreases-items_cmp : goal.decreases-items_cmp
-decreases-items_cmp l = 2 * most value_size l.xs.now + 1
+decreases-items_cmp l = at_items l.xs.now

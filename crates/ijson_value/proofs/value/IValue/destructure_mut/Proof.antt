@@ -7,6 +7,8 @@ use Rattle.ijson_value.proofs.lends.Steps.{pass_all, free_all, look_at, get, get
 use Rattle.ijson_value.proofs.lends.Steps.{MutRef, mut_vals, mut_Tells, plain, mut_ref_to, nothing, heard, only, whole, vrt, mut_ref_laws}
 use Rattle.ijson_value.proofs.lends.Steps.{calls_at, lasts, triple_of, Stays, walk_of, says, stay_dropped, Goes-spent_ref, ends_at, framed}
 use Rattle.ijson_value.proofs.lends.Steps.{lft_end, Sq, peeks, shows}
+use denote.Steps.{facts}
+use denote.Enum.Declared.{tag_of}
 use types.ByLocal.{forget_but, holding}
 use types.Kit.{drop, post, prop}
 use types.Logic.{sem}
@@ -27,7 +29,7 @@ use Rattle.ijson_value.specs.WellFormed.{WellFormed}
 use Rattle.ijson_value.specs.contracts.array.IArray.{the_row as ArrayRow}
 use Rattle.ijson_value.specs.contracts.object.map.IObject.{the_row as ObjectRow}
 use Rattle.ijson_value.specs.contracts.value.IValue.{the_row as V}
-use Rattle.ijson_value.specs.contracts.value.ValueType.{the_row as KindRow}
+use Rattle.ijson_value.specs.contracts.value.ValueType.{the_row as KindRow, the_type as Kinds}
 use Rattle.ijson_value.specs.contracts.value.destructure.BoolMut.{the_row as BoolRow}
 use Rattle.ijson_value.specs.contracts.value.destructure.DestructuredMut.{the_row as PartsOf}
 use Rattle.ijson_value.specs.declared.value.ValueType.{ValueType}
@@ -39,9 +41,8 @@ use Rattle.ijson_value.proofs.lends.PartCalled.{part_called}
 use Rattle.ijson_value.proofs.value.destructure.DestructuredMut.TheLaws.{the_row_laws as parts_laws}
 use Rattle.ijson_value.proofs.lends.LentOn.{none_if}
 use Rattle.ijson_value.specs.declared.value.destructure.DestructuredMut.{DestructuredMut}
-use Rattle.ijson_value.proofs.lends.Parts.{by_kind, is_null, kind_out, place, null_made, bool_made, number_made, string_made, array_made}
-use Rattle.ijson_value.proofs.lends.Parts.{object_made}
-use Rattle.ijson_value.proofs.lends.Variants.{and_tt}
+use Rattle.ijson_value.proofs.lends.Kinds.{by_kind, is_null}
+use Rattle.ijson_value.proofs.lends.Variants.{and_tt, bare_tells, variant_made, alone_made}
 use Rattle.ijson_value.specs.contracts.value.IValue.destructure_mut as f
 use Rattle.ijson_value.proofs.value.IValue.destructure_mut.Statement.{statement}
 use Rattle.ijson_value.proofs.value.IValue.destructure_mut.Code as code
@@ -105,9 +106,9 @@ destructure_mut_spec 𝓤 𝓛 𝓜 𝓡 wired =
     -- [the loan's last value; its borrow; nothing; α is over; nothing; the kind; what the lender keeps]
     move ! (3 ∷ 6 ∷ 0 ∷ []) $ back 𝓛 ! tt V κ q r α δ r.now $
     -- [the value; its token; its borrow; nothing; nothing; the kind]
-    move ! (2 ∷ 3 ∷ 4 ∷ 5 ∷ []) $ drop ! $ drop ! $ drop ! $ kind_out ! x (v ∷ []) (λ led.
-    let tag : (k : ValueType) → x ≡ k → v ≡ live (place k) (of_list []) = λ k is.
-    ap only led ∙ ap (λ (k' : ValueType). live (place k') (of_list [])) is in
+    move ! (2 ∷ 3 ∷ 4 ∷ 5 ∷ []) $ drop ! $ drop ! $ drop ! $ facts ! KindRow _ (shows 𝓛 KindRow) x (v ∷ []) (λ seen.
+    let tag : (k : ValueType) → x ≡ k → v ≡ live (tag_of Kinds k) (of_list []) = λ k is.
+    ap only (bare_tells Kinds tt x (v ∷ []) seen) ∙ ap (λ (k' : ValueType). live (tag_of Kinds k') (of_list [])) is in
     by_kind x
     (λ is. lands_as ! (tag kind.Null is) refl (tt, (record { fits = lit< tt }, tt)) $
     first ! $ switches ! (get_tag ! (vrt ! refl (fld ! refl (stop !))) (whole !)) (
@@ -116,7 +117,7 @@ destructure_mut_spec 𝓤 𝓛 𝓜 𝓡 wired =
           use1 𝓛 (‵ (fres γ (V.coded.code r.now))) (𝓛.names.obs-res γ (V.coded.code r.now)) $
           use1 𝓛 (‵ (LendsParts r parts.Null)) (none_if 𝓛 V V (λ w. w) r.now γ) $
           nothing ! $ forget_but ! (env code.Mir.locals l) (4 ∷ []) refl $
-          leaves ftrue (live 0 (of_list [])) parts.Null (null_made 𝓛 at) (is_null r.now (sym told ∙ is))),
+          leaves ftrue (live 0 (of_list [])) parts.Null (variant_made 𝓛 0 [] tt tt) (is_null r.now (sym told ∙ is))),
       (
         apart 0 1 refl refl,
         (
@@ -136,7 +137,7 @@ destructure_mut_spec 𝓤 𝓛 𝓜 𝓡 wired =
           (id⊢ 𝓤 _) (and_then ! (get ! refl) (no_more !)) (λ w. id⊢ 𝓤 _) (λ w part stands typed. lands_as ! refl refl typed.0 $
           sets_last ! (agg ! (and_then ! (lit ! tt) (and_then ! (get ! refl) (no_more !)))) refl
           (and_tt _ typed.0.0, (record { fits = lit< tt }, (typed.0.1, tt))) $ forget_but ! (env code.Mir.locals l) (4 ∷ []) refl $
-          leaves _ (live 1 (of_list (w ∷ []))) (parts.Bool part) (bool_made 𝓛 at part w) stands)),
+          leaves _ (live 1 (of_list (w ∷ []))) (parts.Bool part) (alone_made 𝓛 1 (BoolRow at) part w) stands)),
       (apart 1 2 refl refl, (apart 1 3 refl refl, (apart 1 4 refl refl, (apart 1 5 refl refl, (λ n. absurd (n.0.0.0.0.1 refl)))))),
     )))
     (λ is. lands_as ! (tag kind.Number is) refl (tt, (record { fits = lit< tt }, tt)) $
@@ -150,7 +151,7 @@ destructure_mut_spec 𝓤 𝓛 𝓜 𝓡 wired =
           (id⊢ 𝓤 _) (and_then ! (get ! refl) (no_more !)) (λ w. id⊢ 𝓤 _) (λ w part stands typed. lands_as ! refl refl typed.0 $
           sets_last ! (agg ! (and_then ! (lit ! tt) (and_then ! (get ! refl) (no_more !)))) refl
           (and_tt _ typed.0.0, (record { fits = lit< tt }, (typed.0.1, tt))) $ forget_but ! (env code.Mir.locals l) (4 ∷ []) refl $
-          leaves _ (live 2 (of_list (w ∷ []))) (parts.Number part) (number_made 𝓛 at part w) stands)),
+          leaves _ (live 2 (of_list (w ∷ []))) (parts.Number part) (alone_made 𝓛 2 (MutRef (named 0) κ NumberRow) part w) stands)),
       (apart 2 3 refl refl, (apart 2 4 refl refl, (apart 2 5 refl refl, (λ n. absurd (n.0.0.0.1 refl))))),
     ))))
     (λ is. lands_as ! (tag kind.String is) refl (tt, (record { fits = lit< tt }, tt)) $
@@ -164,7 +165,7 @@ destructure_mut_spec 𝓤 𝓛 𝓜 𝓡 wired =
           (id⊢ 𝓤 _) (and_then ! (get ! refl) (no_more !)) (λ w. id⊢ 𝓤 _) (λ w part stands typed. lands_as ! refl refl typed.0 $
           sets_last ! (agg ! (and_then ! (lit ! tt) (and_then ! (get ! refl) (no_more !)))) refl
           (and_tt _ typed.0.0, (record { fits = lit< tt }, (typed.0.1, tt))) $ forget_but ! (env code.Mir.locals l) (4 ∷ []) refl $
-          leaves _ (live 3 (of_list (w ∷ []))) (parts.String part) (string_made 𝓛 at part w) stands)),
+          leaves _ (live 3 (of_list (w ∷ []))) (parts.String part) (alone_made 𝓛 3 (MutRef (named 0) κ StringRow) part w) stands)),
       (apart 3 4 refl refl, (apart 3 5 refl refl, (λ n. absurd (n.0.0.1 refl)))),
     )))))
     (λ is. lands_as ! (tag kind.Array is) refl (tt, (record { fits = lit< tt }, tt)) $
@@ -179,7 +180,7 @@ destructure_mut_spec 𝓤 𝓛 𝓜 𝓡 wired =
           (id⊢ 𝓤 _) (and_then ! (get ! refl) (no_more !)) (λ w. id⊢ 𝓤 _) (λ w part stands typed. lands_as ! refl refl typed.0 $
           sets_last ! (agg ! (and_then ! (lit ! tt) (and_then ! (get ! refl) (no_more !)))) refl
           (and_tt _ typed.0.0, (record { fits = lit< tt }, (typed.0.1, tt))) $ forget_but ! (env code.Mir.locals l) (4 ∷ []) refl $
-          leaves _ (live 4 (of_list (w ∷ []))) (parts.Array part) (array_made 𝓛 at part w) stands)),
+          leaves _ (live 4 (of_list (w ∷ []))) (parts.Array part) (alone_made 𝓛 4 (MutRef (named 0) κ ArrayRow) part w) stands)),
       (apart 4 5 refl refl, (λ n. absurd (n.0.1 refl))),
     ))))))
     (λ is. lands_as ! (tag kind.Object is) refl (tt, (record { fits = lit< tt }, tt)) $
@@ -193,6 +194,6 @@ destructure_mut_spec 𝓤 𝓛 𝓜 𝓡 wired =
           (id⊢ 𝓤 _) (and_then ! (get ! refl) (no_more !)) (λ w. id⊢ 𝓤 _) (λ w part stands typed. lands_as ! refl refl typed.0 $
           sets_last ! (agg ! (and_then ! (lit ! tt) (and_then ! (get ! refl) (no_more !)))) refl
           (and_tt _ typed.0.0, (record { fits = lit< tt }, (typed.0.1, tt))) $ forget_but ! (env code.Mir.locals l) (4 ∷ []) refl $
-          leaves _ (live 5 (of_list (w ∷ []))) (parts.Object part) (object_made 𝓛 at part w) stands)),
+          leaves _ (live 5 (of_list (w ∷ []))) (parts.Object part) (alone_made 𝓛 5 (MutRef (named 0) κ ObjectRow) part w) stands)),
       (λ n. absurd (n.1 refl)),
     ))))))))))))))))

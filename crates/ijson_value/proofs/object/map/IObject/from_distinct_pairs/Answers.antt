@@ -9,7 +9,7 @@ use Rattle.ijson_value.proofs.object.map.IObject.from_distinct_pairs.Goals as go
 pub push_reserved-requires : goal.push_reserved-requires
 push_reserved-requires g c =
     let so_far = c.loop-pair.invariant in
-    let more = c.requires.more c.loop-pair.yielded c.in-Some.pair (
+    let more = c.requires.gives.fewer c.loop-pair.yielded c.in-Some.pair (
       _,
       c.next.new.self,
       c.into_iter-pair-iterator.ensures.into_iter_gives,
@@ -22,7 +22,7 @@ pub returns-clause-pairs : goal.returns-clause-pairs
 returns-clause-pairs g c =
     let yielded = c.loop-pair.yielded in
     let gives : GivesAll g.I.IntoIterator.into_iter_gives g.I.IntoIter.Iterator.next_gives c.args.pairs yielded = search rules in
-    let last = ap (put_each []) c.loop-pair.invariant.2 ∙ put_each-new [] yielded (c.requires.all yielded gives).0 in
+    let last = ap (put_each []) c.loop-pair.invariant.2 ∙ put_each-new [] yielded (c.requires.gives.all yielded gives).0 in
     ok_more c.from_pairs.result _ _ (λ object made.
     subst (GivesAll g.I.IntoIterator.into_iter_gives g.I.IntoIter.Iterator.next_gives c.args.pairs) (sym (made ∙ last)) gives)
     c.from_pairs.ensures.pairs

@@ -1,0 +1,30 @@
+-- Which of the six kinds a value is of.
+use Rattle.std.proofs.Common.{◌≡◌, refl}
+use Rattle.ijson_value.specs.Kind.{kind_of}
+use Rattle.ijson_value.specs.Tree.{Tree, null, boolean, number, string, array, object}
+use Rattle.ijson_value.specs.Values.{null_value}
+use Rattle.ijson_value.specs.WellFormed.{WellFormed, IsWellFormed}
+use Rattle.ijson_value.specs.declared.value.ValueType.{ValueType}
+use Rattle.ijson_value.specs.declared.value.ValueType.TheVariants as kind
+
+-- which of the six it is
+pub by_kind : {X : Type 1} (x : ValueType) → (x ≡ kind.Null → X) → (x ≡ kind.Bool → X) → (x ≡ kind.Number → X) → (x ≡ kind.String → X)
+    → (x ≡ kind.Array → X) → (x ≡ kind.Object → X) → X
+by_kind kind.Null a b c d e f = a refl
+by_kind kind.Bool a b c d e f = b refl
+by_kind kind.Number a b c d e f = c refl
+by_kind kind.String a b c d e f = d refl
+by_kind kind.Array a b c d e f = e refl
+by_kind kind.Object a b c d e f = f refl
+
+-- a value of the kind null is the value null
+only_null : (t : Tree) (h : IsWellFormed t) → kind_of t ≡ kind.Null → null_value ≡ record { tree = t; well_formed = h }
+only_null null h e = refl
+only_null (boolean b) h e = absurd (cc)
+only_null (number n) h e = absurd (cc)
+only_null (string s) h e = absurd (cc)
+only_null (array ts) h e = absurd (cc)
+only_null (object ps) h e = absurd (cc)
+
+pub is_null : (v : WellFormed) → kind_of v.tree ≡ kind.Null → null_value ≡ v
+is_null v e = only_null v.tree v.well_formed e
