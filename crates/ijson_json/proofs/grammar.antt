@@ -3,6 +3,7 @@ pub mod FirstBytes
 pub mod CommaLists
 pub mod ElementShapes
 pub mod OneTree
+pub mod SpelledTrees
 pub mod PrintedIsAccepted
 pub mod SettlesToItself
 pub mod WorkedExamples

@@ -5,6 +5,7 @@ pub mod Strings
 pub mod Grammar
 pub mod Print
 pub mod Separator
+pub mod KeyText
 pub mod OneTree
 pub mod PrintedIsAccepted
 pub mod Refuses

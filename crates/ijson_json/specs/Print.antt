@@ -1,6 +1,7 @@
 -- The text of a tree, without white space: this project's own choice among the texts that RFC 8259
 -- allows.
 use Rattle.std.specs.Prelude.{ℕ, ◌+◌, ◌/◌, ◌%◌, cond, ◌==◌, nat_lt, List, [], ◌∷◌, ◌++◌}
+use Rattle.ijson_number.specs.Decimal.{Decimal}
 use Rattle.ijson_number.specs.Text.{num_text}
 use Rattle.ijson_value.specs.Tree.{Tree, null, boolean, number, string, array, object, Items, no_items, item, Members, no_members, member}
 use Rattle.ijson_json.specs.Grammar.{null_text, boolean_text}
@@ -30,22 +31,33 @@ all_escaped (b ∷ bs) = escaped b ++ all_escaped bs
 abbrev pub quoted : List ℕ → List ℕ
 quoted s = 34 ∷ (all_escaped s ++ 34 ∷ [])
 
+-- the text of a tree, of which `num` gives those of the numbers
 abbrev mutual
-  pub print : Tree → List ℕ
-  print null = null_text
-  print (boolean b) = boolean_text b
-  print (number n) = num_text n
-  print (string s) = quoted s
-  print (array items) = 91 ∷ (print_items items ++ 93 ∷ [])
-  print (object members) = 123 ∷ (print_members members ++ 125 ∷ [])
+  pub text_by : (Decimal → List ℕ) → Tree → List ℕ
+  text_by num null = null_text
+  text_by num (boolean b) = boolean_text b
+  text_by num (number n) = num n
+  text_by num (string s) = quoted s
+  text_by num (array items) = 91 ∷ (items_by num items ++ 93 ∷ [])
+  text_by num (object members) = 123 ∷ (members_by num members ++ 125 ∷ [])
 
-  pub print_items : Items → List ℕ
-  print_items no_items = []
-  print_items (item t no_items) = print t
-  print_items (item t (item u more)) = print t ++ 44 ∷ print_items (item u more)
+  pub items_by : (Decimal → List ℕ) → Items → List ℕ
+  items_by num no_items = []
+  items_by num (item t no_items) = text_by num t
+  items_by num (item t (item u more)) = text_by num t ++ 44 ∷ items_by num (item u more)
 
-  pub print_members : Members → List ℕ
-  print_members no_members = []
-  print_members (member k t no_members) = quoted k ++ 58 ∷ print t
-  print_members (member k t (member l u more)) =
-      (quoted k ++ 58 ∷ print t) ++ 44 ∷ print_members (member l u more)
+  pub members_by : (Decimal → List ℕ) → Members → List ℕ
+  members_by num no_members = []
+  members_by num (member k t no_members) = quoted k ++ 58 ∷ text_by num t
+  members_by num (member k t (member l u more)) =
+      (quoted k ++ 58 ∷ text_by num t) ++ 44 ∷ members_by num (member l u more)
+
+-- each number as its digits with their shape
+abbrev pub print : Tree → List ℕ
+print t = text_by num_text t
+
+abbrev pub print_items : Items → List ℕ
+print_items items = items_by num_text items
+
+abbrev pub print_members : Members → List ℕ
+print_members members = members_by num_text members

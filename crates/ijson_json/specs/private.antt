@@ -3,4 +3,5 @@ pub mod CompactErrorOfReadFault
 pub mod Reading
 pub mod Separators
 pub mod Explains
+pub mod AnswersAt
 pub mod StringReading

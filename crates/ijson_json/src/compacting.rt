@@ -1,17 +1,16 @@
 //! `compact`: from a source to a sink.
-ghost use Rattle.std.specs.Prelude.{◌≡◌, ◌≢◌, ◌+◌, ◌^◌, ◌<◌, ◌↔◌, ◌⊎◌, ℕ, List, [], IfOk, IfErr, OnOk, IfSome, Some, Err, IsUtf8};
+ghost use Rattle.std.specs.Prelude.{◌≡◌, ◌≢◌, ◌+◌, ◌^◌, ◌<◌, ◌↔◌, ◌⊎◌, [], IfOk, IfErr, OnOk, IfSome, Err, IsUtf8};
 ghost use Rattle.std.specs.Prelude.{◌++◌, ◌∷◌};
-ghost use Rattle.std.specs.Io.KnownBytes.{Appends, Keeps};
+ghost use Rattle.std.specs.Io.KnownBytes.{Keeps};
 ghost use Rattle.std.specs.String.{string_bytes};
 ghost use Rattle.ijson_json.specs.AddsOnlyRead.{AddsOnlyRead};
 ghost use Rattle.ijson_json.specs.AreShared.{SharesTextsOf};
 ghost use Rattle.ijson_json.specs.CompactErrorOf.{compact_error_of};
 ghost use Rattle.ijson_json.specs.private.CompactErrorOfReadFault.{compact_error_of_read_fault};
-ghost use Rattle.ijson_json.specs.Compacts.{IsCompactLine};
+ghost use Rattle.ijson_json.specs.Compacts.{IsCompactLine, WritesLine, BeginsLine, AddsOnlyLeft};
 ghost use Rattle.ijson_json.specs.CompactRefusal.{IsCompactRefusal};
 ghost use Rattle.ijson_json.specs.Grammar.{Accepted};
 ghost use Rattle.ijson_json.specs.Print.{print};
-ghost use Rattle.ijson_json.specs.WritesBeginning.{WritesBeginning};
 ghost use Rattle.ijson_json.specs.declared.compacting.CompactError.TheVariants.{Read, NotUtf8, Write, Json, Memory as NoMemory};
 ghost use Rattle.ijson_json.specs.declared.fault.JsonError.TheVariants.{Memory};
 
@@ -100,21 +99,18 @@ pub fn compact<R: Source, W: Sink, S: BuildHasher>(
     ensures read { (result ≡ Err Read) ↔ (R.failed input.old < R.failed input.new) }
     ensures write { (result ≡ Err Write) ↔ (W.failed output.old < W.failed output.new) }
     // The line is written whole, of all that was left in the source.
-    ensures done { OnOk result (IfSome (R.left input.old) (λ bytes. (R.left input.new ≡ Some [])
-        × ((line : List ℕ) × IsCompactLine bytes line
-        × Appends (W.got output.old) (W.got output.new) line))) }
+    ensures done { OnOk result
+        (WritesLine (R.left input.old) (R.left input.new) (W.got output.old) (W.got output.new)) }
     // A failed write leaves a beginning of the line, and each other error leaves the sink.
-    ensures beginning { result ≡ Err Write → IfSome (R.left input.old) (λ bytes.
-        (line : List ℕ) × IsCompactLine bytes line
-        × WritesBeginning (W.got output.old) (W.got output.new) line) }
+    ensures beginning { result ≡ Err Write
+        → BeginsLine (R.left input.old) (W.got output.old) (W.got output.new) }
     ensures nothing { IfErr result (λ error.
         error ≢ Write → Keeps (W.got output.old) (W.got output.new)) }
     ensures error { IfErr result (λ error.
         IfSome (R.left input.old) (λ bytes. IsCompactRefusal bytes error)) }
     ensures never_memory { result ≢ Err (Json Memory) }
     // The cache holds what it held, and beyond that only what the bytes that were read spell.
-    ensures cache { (read : List ℕ) × IfSome (R.left input.old) (λ bytes. bytes ≡ read)
-        × AddsOnlyRead read cache.old cache.new }
+    ensures cache { AddsOnlyLeft (R.left input.old) cache.old cache.new }
     // It is as it was where none were read as JSON.
     ensures unread { (result ≡ Err Read) ⊎ (result ≡ Err NotUtf8) → cache.new ≡ cache.old }
     // It holds each long text and key of what was read.
@@ -130,7 +126,8 @@ pub fn compact<R: Source, W: Sink, S: BuildHasher>(
     }
 }
 
-/// As `compact`, and answers the value that was read. Where there is an error it is dropped.
+/// As `compact`, and answers the value that was read. Where there is an error it is dropped. The clauses are those of `compact`, and
+/// `value`.
 pub fn compact_value<R: Source, W: Sink, S: BuildHasher>(
     alloc: Global,
     input: &mut R,
@@ -141,25 +138,17 @@ pub fn compact_value<R: Source, W: Sink, S: BuildHasher>(
     requires sink { W.failed output.old + 1 < 2 ^ 64 }
     ensures read { (result ≡ Err Read) ↔ (R.failed input.old < R.failed input.new) }
     ensures write { (result ≡ Err Write) ↔ (W.failed output.old < W.failed output.new) }
-    // The line is written whole, of all that was left in the source.
-    ensures done { OnOk result (IfSome (R.left input.old) (λ bytes. (R.left input.new ≡ Some [])
-        × ((line : List ℕ) × IsCompactLine bytes line
-        × Appends (W.got output.old) (W.got output.new) line))) }
-    // A failed write leaves a beginning of the line, and each other error leaves the sink.
-    ensures beginning { result ≡ Err Write → IfSome (R.left input.old) (λ bytes.
-        (line : List ℕ) × IsCompactLine bytes line
-        × WritesBeginning (W.got output.old) (W.got output.new) line) }
+    ensures done { OnOk result
+        (WritesLine (R.left input.old) (R.left input.new) (W.got output.old) (W.got output.new)) }
+    ensures beginning { result ≡ Err Write
+        → BeginsLine (R.left input.old) (W.got output.old) (W.got output.new) }
     ensures nothing { IfErr result (λ error.
         error ≢ Write → Keeps (W.got output.old) (W.got output.new)) }
     ensures error { IfErr result (λ error.
         IfSome (R.left input.old) (λ bytes. IsCompactRefusal bytes error)) }
     ensures never_memory { result ≢ Err (Json Memory) }
-    // The cache holds what it held, and beyond that only what the bytes that were read spell.
-    ensures cache { (read : List ℕ) × IfSome (R.left input.old) (λ bytes. bytes ≡ read)
-        × AddsOnlyRead read cache.old cache.new }
-    // It is as it was where none were read as JSON.
+    ensures cache { AddsOnlyLeft (R.left input.old) cache.old cache.new }
     ensures unread { (result ≡ Err Read) ⊎ (result ≡ Err NotUtf8) → cache.new ≡ cache.old }
-    // It holds each long text and key of what was read.
     ensures shared { OnOk result (IfSome (R.left input.old)
         (λ bytes. SharesTextsOf bytes cache.new)) }
     // The value is the tree that the bytes spell.

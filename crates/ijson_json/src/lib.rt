@@ -1,7 +1,7 @@
 //! JSON texts: reading, writing, and compacting from a source to a sink.
 //!
-//! Tests: `ijson_compact/src/tests` (what is read and written, faults, devices, `compact` and `report`), and
-//! `ijson_extra/src/tests/refusals` (refused memory).
+//! Tests: `ijson_compact/src/tests` (what is read and written, where faults are, devices, `compact` and `report`),
+//! `ijson/src/tests/errors.rt` (the texts of faults), and `ijson_extra/src/tests/refusals` (refused memory).
 #![tactic(auto)]
 
 mod compacting;
@@ -22,7 +22,7 @@ pub use fault::JsonError;
 pub use line_column::{LineColumn, line_and_column};
 pub use read::from_json;
 pub use reporting::report;
-pub use write::{push_quoted, push_separator, to_json};
+pub use write::{push_key, push_quoted, push_separator, to_json};
 
 /// A text has at most one tree, and what is printed of a tree within the limits is accepted as that
 /// tree. It does nothing: a call of it gives a proof the law.

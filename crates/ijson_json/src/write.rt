@@ -10,7 +10,7 @@ mod quote;
 
 use ijson_value::object::IObject;
 use ijson_value::value::{DestructuredRef, IValue};
-pub use quote::push_quoted;
+pub use quote::{push_key, push_quoted};
 use std::alloc::{AllocError, Global};
 
 /// For how many bytes a text has room at first, so that a short one is made in one request for memory.
@@ -82,9 +82,7 @@ fn push_members(out: &mut String, object: &IObject) -> Result<(), AllocError>
 {
     let mut is_first = true;
     for (key, value) in object.iter() {
-        push_separator(out, is_first)?;
-        push_quoted(out, key.as_str())?;
-        out.push(':')?;
+        push_key(out, key.as_str(), is_first)?;
         push_value(out, value)?;
         is_first = false;
     }

@@ -1,44 +1,36 @@
--- The first byte of a value tells its kind.
+-- The first byte of a value tells its kind, by the order of kinds.
 use Rattle.std.proofs.Common.{◌≡◌, ℕ, ◌≤◌, Bool, true, false, cond, List, ◌∷◌, ◌++◌, eqb, refl, sym, ap, ◌∙◌, arith}
 use Rattle.std.specs.Prelude.{IsTrue, ◌||◌, ◌==◌}
 use Rattle.std.proofs.lemmas.Bool.{eqb-true}
 use Rattle.std.proofs.lemmas.Bool.Decides.{nat_tests}
 use Rattle.ijson_number.specs.NumberBytes.{is_digit}
+use Rattle.ijson_value.specs.Order.{rank}
 use Rattle.ijson_value.specs.Tree.{Tree, null, boolean, number, string, array, object}
 use Rattle.ijson_json.specs.Grammar.{is_space, boolean_text, IsValue}
 use Rattle.ijson_json.specs.private.Reading.{Past}
 use Rattle.ijson_number.proofs.parsing.SpelledBytes.{spells_first}
 use Rattle.ijson_json.proofs.scanning.Prefixes.{heads}
 
--- 0 where a number begins, and 7 where no value does
+-- the rank of the values that begin with the byte, and 6 where none does
 abbrev pub kind : ℕ → ℕ
-kind b = cond (b == 110) 1 (cond (b == 116) 2 (cond (b == 102) 2
-    (cond (b == 91) 4 (cond (b == 34) 5 (cond (b == 123) 6 (cond (is_digit b || (b == 45)) 0 7))))))
-
--- the kind of a tree, as its first byte tells it
-abbrev pub tree_kind : Tree → ℕ
-tree_kind null = 1
-tree_kind (boolean b) = 2
-tree_kind (number n) = 0
-tree_kind (string s) = 5
-tree_kind (array is) = 4
-tree_kind (object ms) = 6
+kind b = cond (b == 110) 0 (cond (b == 116) 1 (cond (b == 102) 1
+    (cond (b == 91) 4 (cond (b == 34) 3 (cond (b == 123) 5 (cond (is_digit b || (b == 45)) 2 6))))))
 
 -- a digit and `-` begin a number
-pub number_kind : (b : ℕ) → IsTrue (is_digit b || (b == 45)) → kind b ≡ 0
+pub number_kind : (b : ℕ) → IsTrue (is_digit b || (b == 45)) → kind b ≡ 2
 number_kind b h = grind (arith, nat_tests)
 
 -- white space begins no value
-pub space_kind : (b : ℕ) → IsTrue (is_space b) → kind b ≡ 7
+pub space_kind : (b : ℕ) → IsTrue (is_space b) → kind b ≡ 6
 space_kind b h = grind (arith, nat_tests)
 
 -- `true` and `false` begin with bytes of one kind
-boolean_first : (b : Bool) → (c : ℕ) × (more : List ℕ) × (kind c ≡ 2) × (boolean_text b ≡ c ∷ more)
+boolean_first : (b : Bool) → (c : ℕ) × (more : List ℕ) × (kind c ≡ 1) × (boolean_text b ≡ c ∷ more)
 boolean_first true = (_, _, refl, refl)
 boolean_first false = (_, _, refl, refl)
 
 -- a value is not empty, and its first byte has its kind
-pub value_first : (t : Tree) (text : List ℕ) → IsValue t text → (b : ℕ) × (more : List ℕ) × (kind b ≡ tree_kind t) × (text ≡ b ∷ more)
+pub value_first : (t : Tree) (text : List ℕ) → IsValue t text → (b : ℕ) × (more : List ℕ) × (kind b ≡ rank t) × (text ≡ b ∷ more)
 value_first null text v = (_, _, refl, v)
 value_first (boolean b) text v = let (c, more, k, e) = boolean_first b in (c, more, k, v ∙ e)
 value_first (number n) text v = let (b, more, d, e) = spells_first text n v in (b, more, number_kind b d, e)
@@ -47,38 +39,38 @@ value_first (array is) text (inside, v, e) = (91, _, refl, e)
 value_first (object ms) text (inside, v, e) = (123, _, refl, e)
 
 -- a byte that begins a value is no white space
-not_space : (b k : ℕ) → kind b ≡ k → k ≤ 6 → is_space b ≡ false
+not_space : (b k : ℕ) → kind b ≡ k → k ≤ 5 → is_space b ≡ false
 not_space b k e h = elim (is_space b) as (λ s. is_space b ≡ s → s ≡ false)
     [ true ↦ λ t. absurd (omega (arith, space_kind b t)) | false ↦ λ t. refl ] refl
 
 -- a byte that begins a value is none that begins no value
-not_kind : (b c k : ℕ) → kind b ≡ k → k ≤ 6 → kind c ≡ 7 → eqb b c ≡ false
+not_kind : (b c k : ℕ) → kind b ≡ k → k ≤ 5 → kind c ≡ 6 → eqb b c ≡ false
 not_kind b c k e h f = elim (eqb b c) as (λ s. eqb b c ≡ s → s ≡ false)
     [ true ↦ λ t. absurd (let g : kind b ≡ kind c = ap kind (eqb-true b c t) in omega (arith, g, e, f)) | false ↦ λ t. refl ] refl
 
 -- each tree has one of the kinds that begin a value
-pub tree_kind-le : (t : Tree) → tree_kind t ≤ 6
-tree_kind-le null = omega arith
-tree_kind-le (boolean b) = omega arith
-tree_kind-le (number n) = omega arith
-tree_kind-le (string s) = omega arith
-tree_kind-le (array is) = omega arith
-tree_kind-le (object ms) = omega arith
+pub rank-le : (t : Tree) → rank t ≤ 5
+rank-le null = omega arith
+rank-le (boolean b) = omega arith
+rank-le (number n) = omega arith
+rank-le (string s) = omega arith
+rank-le (array is) = omega arith
+rank-le (object ms) = omega arith
 
 -- a value begins with no white space
 pub value-past_space : (t : Tree) (text x : List ℕ) → IsValue t text → Past is_space (text ++ x)
 value-past_space t text x v =
     let first = value_first t text v in
-    rw first.3 (not_space first.0 (tree_kind t) first.2 (tree_kind-le t))
+    rw first.3 (not_space first.0 (rank t) first.2 (rank-le t))
 
 -- a value does not begin with a byte that begins none
-pub value-past_kind : (c : ℕ) → kind c ≡ 7 → (t : Tree) (text x : List ℕ) → IsValue t text → Past (λ b. b == c) (text ++ x)
+pub value-past_kind : (c : ℕ) → kind c ≡ 6 → (t : Tree) (text x : List ℕ) → IsValue t text → Past (λ b. b == c) (text ++ x)
 value-past_kind c k t text x v =
     let first = value_first t text v in
-    rw first.3 (not_kind first.0 c (tree_kind t) first.2 (tree_kind-le t) k)
+    rw first.3 (not_kind first.0 c (rank t) first.2 (rank-le t) k)
 
 -- two values in one text have one kind
-pub kinds_same : (t u : Tree) (a b x y : List ℕ) → IsValue t a → IsValue u b → a ++ x ≡ b ++ y → tree_kind t ≡ tree_kind u
+pub kinds_same : (t u : Tree) (a b x y : List ℕ) → IsValue t a → IsValue u b → a ++ x ≡ b ++ y → rank t ≡ rank u
 kinds_same t u a b x y v w e =
     let f = value_first t a v in
     let g = value_first u b w in

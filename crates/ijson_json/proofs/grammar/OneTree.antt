@@ -2,6 +2,7 @@
 use Rattle.std.proofs.Common.{◌≡◌, ℕ, Bool, true, false, List, [], ◌∷◌, ◌++◌, refl, sym, ap, ap₂, ◌∙◌, append_assoc, arith}
 use Rattle.std.proofs.lemmas.List.{append_cancel_left, append_cancel_right, append-nil}
 use Rattle.ijson_number.specs.NumberBytes.{is_number_byte}
+use Rattle.ijson_value.specs.Order.{rank}
 use Rattle.ijson_value.specs.Tree.{Tree, null, boolean, number, string, array, object, Items, no_items, item, items_list, Members}
 use Rattle.ijson_value.specs.Tree.{no_members, member, members_list}
 use Rattle.ijson_json.specs.Grammar.{is_space, Spaced, null_text, boolean_text, IsString, IsValue, IsItems, IsMembers}
@@ -12,19 +13,21 @@ use Rattle.ijson_number.proofs.parsing.Denotes.{spells_one}
 use Rattle.ijson_number.proofs.parsing.SpelledBytes.{spells_bytes}
 use Rattle.ijson_json.proofs.scanning.Prefixes.{run_same, tails, heads_apart}
 use Rattle.ijson_json.proofs.grammar.StringBodies.{body_same}
-use Rattle.ijson_json.proofs.grammar.FirstBytes.{tree_kind, value-past_space, kinds_same}
+use Rattle.ijson_json.proofs.grammar.FirstBytes.{value-past_space, kinds_same}
 use Rattle.ijson_json.proofs.grammar.CommaLists.{LeftSame, step, left_step, no_left, none_some, both_none, space-Stops, Ends-any}
 use Rattle.ijson_json.proofs.grammar.ElementShapes.{items_shape, members_shape, items_to, members_to}
 
 -- ---- between two bytes
 
+-- a text between two bytes, with a rest behind it
+pub enclosed_with : (opening closing : ℕ) (a i x : List ℕ) → a ≡ opening ∷ (i ++ closing ∷ []) → a ++ x ≡ opening ∷ (i ++ closing ∷ x)
+enclosed_with opening closing a i x f = rw f (simp append_assoc)
+
 -- two texts between the same bytes
 pub enclosed : (opening closing : ℕ) (a b i j x y : List ℕ) → a ≡ opening ∷ (i ++ closing ∷ []) → b ≡ opening ∷ (j ++ closing ∷ [])
     → a ++ x ≡ b ++ y → i ++ closing ∷ x ≡ j ++ closing ∷ y
 enclosed opening closing a b i j x y f g e =
-    let left : a ++ x ≡ opening ∷ (i ++ closing ∷ x) = rw f (simp append_assoc) in
-    let right : b ++ y ≡ opening ∷ (j ++ closing ∷ y) = rw g (simp append_assoc) in
-    tails opening opening _ _ (sym left ∙ e ∙ right)
+    tails opening opening _ _ (sym (enclosed_with opening closing a i x f) ∙ e ∙ enclosed_with opening closing b j y g)
 
 -- two fronts with one rest are one
 same_front : (a b x y : List ℕ) → a ++ x ≡ b ++ y → x ≡ y → a ≡ b
@@ -106,7 +109,7 @@ mutual
   value_same (object ms) (object ns) a b x y (i, v, f) (j, w, g) p q e =
       let same = members_same ms ns i j x y v w (enclosed 123 125 a b i j x y f g e) in
       (ap object same.0, (same_front a b x y e same.1, same.1))
-  value_same t u a b x y v w p q e = let k : tree_kind t ≡ tree_kind u = kinds_same t u a b x y v w e in absurd (omega (arith, k))
+  value_same t u a b x y v w p q e = let k : rank t ≡ rank u = kinds_same t u a b x y v w e in absurd (omega (arith, k))
 
   -- two lists of items in one text are the same
   pub items_same : (is js : Items) → ItemsSame is js

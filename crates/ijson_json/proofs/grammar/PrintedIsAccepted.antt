@@ -1,71 +1,22 @@
 -- What is printed of a well-formed tree within the limit on depth is accepted, as that tree.
-use Rattle.std.proofs.Common.{◌≡◌, ℕ, true, List, [], ◌∷◌, ◌++◌, refl, sym, ap₂}
+use Rattle.std.proofs.Common.{◌≡◌, true, refl, sym, ap₂, subst}
 use Rattle.std.specs.Prelude.{◌&&◌}
-use Rattle.std.proofs.lemmas.List.{append-nil}
+use Rattle.ijson_number.specs.Text.{num_text}
 use Rattle.ijson_number.proofs.writing.RoundTrip.{num_text_spells}
 use Rattle.ijson_value.specs.Tree.{Tree, null, boolean, number, string, array, object, Items, no_items, item, Members, no_members}
 use Rattle.ijson_value.specs.Tree.{member, depth}
 use Rattle.ijson_value.specs.WellFormed.{IsWellFormed, AreWellFormed, HaveWellFormed}
 use Rattle.ijson_json.specs.Ranged.{is_ranged, items_ranged, members_ranged}
-use Rattle.ijson_json.specs.Grammar.{Spaced, IsString, IsValue, IsItems, IsMembers}
-use Rattle.ijson_json.specs.Print.{print, print_items, print_members, quoted, all_escaped}
+use Rattle.ijson_json.specs.Grammar.{Spaced, IsValue}
+use Rattle.ijson_json.specs.Print.{print}
 use Rattle.ijson_json.specs.PrintedIsAccepted.{PrintedIsAccepted}
-use Rattle.ijson_json.proofs.grammar.StringBodies.{all_escaped_is}
 use Rattle.ijson_json.proofs.grammar.SettlesToItself.{settles}
-
--- no white space is white space
-pub spaced : (P : List ℕ → Type 0) (text : List ℕ) → P text → Spaced P text
-spaced P text p = ([], text, [], tt, p, tt, sym (append-nil text))
-
--- a quoted text is a string for it
-pub quoted_is : (s : List ℕ) → IsString s (quoted s)
-quoted_is s = (all_escaped s, all_escaped_is s, refl)
+use Rattle.ijson_json.proofs.grammar.SpelledTrees.{kept_shapes, tree_spelled}
 
 -- the text of a tree spells it
-mutual
-  printed : (t : Tree) → IsWellFormed t → IsValue t (print t)
-  printed null h = refl
-  printed (boolean b) h = refl
-  printed (number n) h = num_text_spells n h
-  printed (string s) h = quoted_is s
-  printed (array is) h = (print_items is, printed_items is h, refl)
-  printed (object ms) h = (print_members ms, printed_members ms h.1, refl)
-
-  -- the text of items spells them
-  printed_items : (is : Items) → AreWellFormed is → IsItems is (print_items is)
-  printed_items no_items h = tt
-  printed_items (item t no_items) h = spaced (λ value. IsValue t value) (print t) (printed t h.0)
-  printed_items (item t (item u more)) h = (
-    print t,
-    print_items (item u more),
-    spaced (λ value. IsValue t value) (print t) (printed t h.0),
-    printed_items (item u more) h.1,
-    refl,
-  )
-
-  -- the text of members spells them
-  printed_members : (ms : Members) → HaveWellFormed ms → IsMembers ms (print_members ms)
-  printed_members no_members h = tt
-  printed_members (member k t no_members) h = (
-    quoted k,
-    print t,
-    spaced (λ s. IsString k s) (quoted k) (quoted_is k),
-    spaced (λ value. IsValue t value) (print t) (printed t h.0),
-    refl,
-  )
-  printed_members (member k t (member l u more)) h = (
-    quoted k ++ 58 ∷ print t,
-    print_members (member l u more),
-    (
-      quoted k,
-      print t,
-      spaced (λ s. IsString k s) (quoted k) (quoted_is k),
-      spaced (λ value. IsValue t value) (print t) (printed t h.0),
-      refl,
-    ),
-    printed_members (member l u more) h.1,
-    refl,
-  )
+printed : (t : Tree) → IsWellFormed t → Spaced (λ value. IsValue t value) (print t)
+printed t h =
+    subst (λ (u : Tree). Spaced (λ value. IsValue u value) (print t)) (kept_shapes t) (tree_spelled num_text (λ n. n) num_text_spells t h)
 
 -- the numbers of a well-formed tree are within the limit
 mutual
@@ -94,7 +45,7 @@ printed_is_accepted t h d = (
   d,
   record {
     written = t;
-    spelled = spaced (λ value. IsValue t value) (print t) (printed t h);
+    spelled = printed t h;
     tree_is = sym (settles t h);
     deepest_is = refl;
     ranged_is = sym (ranged t h);

@@ -1,18 +1,19 @@
 -- Arrays and objects, read element by element.
-use Rattle.std.proofs.Common.{◌≡◌, ℕ, suc, Bool, List, [], ◌∷◌, ◌++◌, refl, sym, ap, ap₂, subst, ◌∙◌, append_assoc, arith, inl, inr}
+use Rattle.std.proofs.Common.{◌≡◌, ℕ, suc, Bool, List, [], ◌∷◌, ◌++◌, refl, sym, ap, ap₂, subst, ◌∙◌, arith, inl, inr}
 use Rattle.std.specs.Prelude.{◌&&◌}
 use Rattle.ijson_table.specs.Store.{put, put_each}
 use Rattle.ijson_value.specs.laws.MemberTrees.{members_of-list}
 use Rattle.ijson_value.specs.Tree.{Tree, array, object, Items, no_items, item, items_of, items_list, members_of, members_list}
 use Rattle.ijson_value.specs.Tree.{depth}
+use Rattle.ijson_value.specs.Order.{rank}
 use Rattle.ijson_json.specs.Ranged.{is_ranged}
 use Rattle.ijson_json.specs.Settled.{settled, settled_items, settled_pairs}
 use Rattle.ijson_json.specs.Grammar.{IsValue}
 use Rattle.ijson_json.specs.private.Reading.{Front}
 use Rattle.ijson_json.proofs.scanning.Prefixes.{heads, tails}
-use Rattle.ijson_json.proofs.grammar.FirstBytes.{kind, tree_kind, value_first}
+use Rattle.ijson_json.proofs.grammar.FirstBytes.{kind, value_first}
 use Rattle.ijson_json.proofs.grammar.CommaLists.{IsList}
-use Rattle.ijson_json.proofs.grammar.OneTree.{value_same, pair_same}
+use Rattle.ijson_json.proofs.grammar.OneTree.{value_same, pair_same, enclosed_with}
 use Rattle.ijson_json.proofs.reading.Elements.{Listing}
 use Rattle.ijson_json.proofs.grammar.ElementShapes.{items_shape, members_shape, items_to, items_from, members_to, members_from}
 use Rattle.ijson_json.proofs.reading.ElementLists.{deepest, all_ranged}
@@ -37,7 +38,7 @@ list-members_of (m ∷ ms) = ap (λ (l : List (List ℕ × Tree)). m ∷ l) (lis
 -- ---- a value that begins with a bracket
 
 -- the first byte tells the kind of a value
-pub kind_at : (t : Tree) (b : ℕ) (inside x : List ℕ) → Front (λ value. IsValue t value) (b ∷ inside) x → kind b ≡ tree_kind t
+pub kind_at : (t : Tree) (b : ℕ) (inside x : List ℕ) → Front (λ value. IsValue t value) (b ∷ inside) x → kind b ≡ rank t
 kind_at t b inside x f =
     let first = value_first t f.front f.holds in
     let whole : b ∷ inside ≡ first.0 ∷ (first.1 ++ x) = f.is ∙ ap (λ (l : List ℕ). l ++ x) first.3 in
@@ -47,21 +48,19 @@ kind_at t b inside x f =
 pub array_at : (t : Tree) (inside x : List ℕ) → Front (λ value. IsValue t value) (91 ∷ inside) x
     → (ts : List Tree) × (i : List ℕ) × (t ≡ array (items_of ts)) × IsList items_shape.Is ts i × (inside ≡ i ++ 93 ∷ x)
 array_at (array is) inside x f =
-    let h = f.holds in
-    let whole : 91 ∷ inside ≡ 91 ∷ (h.0 ++ 93 ∷ x) = f.is ∙ ap (λ (l : List ℕ). l ++ x) h.2
-    ∙ ap (λ (l : List ℕ). 91 ∷ l) (append_assoc h.0 (93 ∷ []) x) in
-    (items_list is, h.0, ap array (sym (items_of-list is)), items_to is h.0 h.1, tails _ _ _ _ whole)
-array_at t inside x f = absurd (let k : 4 ≡ tree_kind t = kind_at t 91 inside x f in omega (arith, k))
+    let (i, are, spelled) = f.holds in
+    let behind = tails _ _ _ _ (f.is ∙ enclosed_with 91 93 f.front i x spelled) in
+    (items_list is, i, ap array (sym (items_of-list is)), items_to is i are, behind)
+array_at t inside x f = absurd (let k : 4 ≡ rank t = kind_at t 91 inside x f in omega (arith, k))
 
 -- a value that begins with `{` is an object
 pub object_at : (t : Tree) (inside x : List ℕ) → Front (λ value. IsValue t value) (123 ∷ inside) x
     → (ms : List (List ℕ × Tree)) × (i : List ℕ) × (t ≡ object (members_of ms)) × IsList members_shape.Is ms i × (inside ≡ i ++ 125 ∷ x)
 object_at (object ms) inside x f =
-    let h = f.holds in
-    let whole : 123 ∷ inside ≡ 123 ∷ (h.0 ++ 125 ∷ x) = f.is ∙ ap (λ (l : List ℕ). l ++ x) h.2
-    ∙ ap (λ (l : List ℕ). 123 ∷ l) (append_assoc h.0 (125 ∷ []) x) in
-    (members_list ms, h.0, ap object (sym (members_of-list ms)), members_to ms h.0 h.1, tails _ _ _ _ whole)
-object_at t inside x f = absurd (let k : 6 ≡ tree_kind t = kind_at t 123 inside x f in omega (arith, k))
+    let (i, are, spelled) = f.holds in
+    let behind = tails _ _ _ _ (f.is ∙ enclosed_with 123 125 f.front i x spelled) in
+    (members_list ms, i, ap object (sym (members_of-list ms)), members_to ms i are, behind)
+object_at t inside x f = absurd (let k : 5 ≡ rank t = kind_at t 123 inside x f in omega (arith, k))
 
 -- items between brackets are an array
 pub array_builds : (ts : List Tree) (inside : List ℕ) → IsList items_shape.Is ts inside

@@ -6,13 +6,14 @@ use Rattle.std.proofs.lemmas.Bool.Decides.{nat_tests}
 use Rattle.std.proofs.lemmas.List.{append-nil}
 use Rattle.ijson_json.specs.declared.fault.Fault.{Fault}
 use Rattle.ijson_json.specs.declared.fault.Fault.TheVariants as faults
+use Rattle.ijson_value.specs.Order.{rank}
 use Rattle.ijson_value.specs.Tree.{Tree, null, boolean, number, string, array, object}
 use Rattle.ijson_number.proofs.parsing.SpelledBytes.{spells_first}
 use Rattle.ijson_json.specs.Ranged.{is_ranged}
 use Rattle.ijson_json.specs.Grammar.{IsValue, IsString}
 use Rattle.ijson_json.specs.private.Reading.{Past, Stops, Front, IsOutOfRange, NoValue, NoNumber, PastLimitAt}
 use Rattle.ijson_json.specs.private.Explains.{Explains, ExplainsMember, NumberFault, StringFault}
-use Rattle.ijson_json.proofs.grammar.FirstBytes.{kind, tree_kind, number_kind, value_first, tree_kind-le}
+use Rattle.ijson_json.proofs.grammar.FirstBytes.{kind, number_kind, value_first, rank-le}
 use Rattle.ijson_json.proofs.reading.Members.{no_key}
 use Rattle.ijson_json.proofs.scanning.Prefixes.{not_both, heads}
 use Rattle.ijson_json.proofs.reading.ArraysAndObjects.{kind_at}
@@ -38,7 +39,7 @@ no_value text n t f p q r m (object ms) x stops g = past_text text 123 _ q (g.is
 no_value text n t f p q r m (string s) x stops g = past_text text 34 _ r (g.is ∙ ap (λ (l : List ℕ). l ++ x) g.holds.2)
 
 -- a byte from 128 on begins no value
-low_kind : (b : ℕ) → nat_lt b 128 ≡ false → kind b ≡ 7
+low_kind : (b : ℕ) → nat_lt b 128 ≡ false → kind b ≡ 6
 low_kind b h = grind (arith, nat_tests)
 
 -- each value begins with a character
@@ -47,17 +48,17 @@ no_character text p t x stops g =
     let f = value_first t g.front g.holds in
     let whole : text ≡ f.0 ∷ (f.1 ++ x) = g.is ∙ ap (λ (l : List ℕ). l ++ x) f.3 in
     let high : nat_lt f.0 128 ≡ false = subst (λ (l : List ℕ). Past (λ b. nat_lt b 128) l) whole p in
-    absurd (omega (arith, low_kind f.0 high, f.2, tree_kind-le t))
+    absurd (omega (arith, low_kind f.0 high, f.2, rank-le t))
 
 -- the first byte of a text that begins with a number
-number_first : (text : List ℕ) (first : ℕ) (more : List ℕ) → text ≡ first ∷ more → PastLimitAt text → kind first ≡ 0
+number_first : (text : List ℕ) (first : ℕ) (more : List ℕ) → text ≡ first ∷ more → PastLimitAt text → kind first ≡ 2
 number_first text first more e p =
     let f = spells_first p.beginning.front p.beginning.holds.0 p.beginning.holds.1 in
     let same : f.0 ≡ first = heads f.0 first (f.1 ++ p.rest) more (ap (λ (l : List ℕ). l ++ p.rest) (sym f.3) ∙ sym p.beginning.is ∙ e) in
     ap kind (sym same) ∙ number_kind f.0 f.2
 
 -- every value at the front is a number past the limit, and some beginning is
-out_of_range : (text : List ℕ) (first : ℕ) (more : List ℕ) → text ≡ first ∷ more → kind first ≡ 0 → PastLimitAt text → IsOutOfRange text
+out_of_range : (text : List ℕ) (first : ℕ) (more : List ℕ) → text ≡ first ∷ more → kind first ≡ 2 → PastLimitAt text → IsOutOfRange text
 out_of_range text first more e k p = record {
   each = only;
   beginning = p.beginning.front;
@@ -72,7 +73,7 @@ out_of_range text first more e k p = record {
   where
     only : (t : Tree) (x : List ℕ) → Stops x → Front (λ value. IsValue t value) text x → is_ranged t ≡ false
     only (number n) x stops g = p.each n x (record { found = record { front = g.front; holds = g.holds; is = g.is }; stops = stops })
-    only t x stops g = absurd (let same : kind first ≡ tree_kind t =
+    only t x stops g = absurd (let same : kind first ≡ rank t =
         kind_at t first more x (record { front = g.front; holds = g.holds; is = sym e ∙ g.is }) in omega (arith, same, k))
 
 -- a text that begins with another byte
@@ -97,7 +98,7 @@ other_fault opened text first more faults.Memory e apart h = tt
 string_alone : (text more : List ℕ) → text ≡ 34 ∷ more → ((s rest : List ℕ) → Front (λ front. IsString s front) text rest → ⊥)
     → NoValue text
 string_alone text more e n (string s) x stops g = n s x (record { front = g.front; holds = g.holds; is = g.is })
-string_alone text more e n t x stops g = absurd (let k : 5 ≡ tree_kind t =
+string_alone text more e n t x stops g = absurd (let k : 3 ≡ rank t =
     kind_at t 34 more x (record { front = g.front; holds = g.holds; is = sym e ∙ g.is }) in omega (arith, k))
 
 -- a fault in a string is one of the value

@@ -2,6 +2,7 @@
 use Rattle.std.proofs.Common.{◌≡◌, ℕ, ◌≤◌, Bool, true, false, List, ◌∷◌, ◌++◌, refl, sym, ap, subst, ◌∙◌, arith}
 use Rattle.std.specs.Prelude.{◌≢◌, Result, MatchResult}
 use Rattle.std.proofs.lemmas.Result.{MatchResult-weaker}
+use Rattle.ijson_value.specs.Order.{rank}
 use Rattle.ijson_value.specs.Tree.{Tree, null, boolean, depth}
 use Rattle.ijson_value.specs.WellFormed.{WellFormed}
 use Rattle.ijson_json.specs.Grammar.{IsValue, null_text, boolean_text}
@@ -13,12 +14,12 @@ use Rattle.ijson_json.specs.private.Explains.{Explains, WordFault}
 use Rattle.ijson_json.specs.declared.fault.Fault.{Fault}
 use Rattle.ijson_json.specs.declared.fault.Fault.TheVariants as faults
 use Rattle.ijson_json.proofs.scanning.Prefixes.{heads, heads_apart}
-use Rattle.ijson_json.proofs.grammar.FirstBytes.{kind, tree_kind, value_first}
+use Rattle.ijson_json.proofs.grammar.FirstBytes.{kind, value_first}
 
 -- the word that begins with this byte and spells this tree, and that no other value begins as
 pub record Word (b : ℕ) (word : List ℕ) (t : Tree) : Type 0 where
   pub spells : IsValue t word
-  pub alone : (u : Tree) (front : List ℕ) → IsValue u front → kind b ≡ tree_kind u → (others : List ℕ) × (front ≡ b ∷ others)
+  pub alone : (u : Tree) (front : List ℕ) → IsValue u front → kind b ≡ rank u → (others : List ℕ) × (front ≡ b ∷ others)
       → front ≡ word
   pub ends : (rest : List ℕ) → Ends t rest
   pub flat : depth t ≡ 0
@@ -26,7 +27,7 @@ pub record Word (b : ℕ) (word : List ℕ) (t : Tree) : Type 0 where
   pub settles : t ≡ settled t
 
 -- of the values `null` alone begins with an n
-null_alone : (t : Tree) (front : List ℕ) → IsValue t front → kind 110 ≡ tree_kind t → (others : List ℕ) × (front ≡ 110 ∷ others)
+null_alone : (t : Tree) (front : List ℕ) → IsValue t front → kind 110 ≡ rank t → (others : List ℕ) × (front ≡ 110 ∷ others)
     → front ≡ null_text
 null_alone null front v k o = v
 null_alone t front v k o = absurd (omega (arith, k))
@@ -41,7 +42,7 @@ first_of true = 116
 first_of false = 102
 
 -- of the values a truth value alone begins with its first byte
-boolean_alone : (a : Bool) (t : Tree) (front : List ℕ) → IsValue t front → kind (first_of a) ≡ tree_kind t
+boolean_alone : (a : Bool) (t : Tree) (front : List ℕ) → IsValue t front → kind (first_of a) ≡ rank t
     → (others : List ℕ) × (front ≡ first_of a ∷ others) → front ≡ boolean_text a
 boolean_alone true (boolean true) front v k o = v
 boolean_alone false (boolean false) front v k o = v

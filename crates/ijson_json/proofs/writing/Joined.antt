@@ -1,5 +1,6 @@
 -- The items of an array and the members of an object, as they are written one by one.
 use Rattle.std.proofs.Common.{◌≡◌, Bool, true, false, ℕ, List, [], ◌∷◌, ◌++◌, map, refl, ap, sym, ◌∙◌, append-nil}
+use Rattle.ijson_value.specs.Tree.{Tree}
 use Rattle.ijson_value.specs.WellFormed.{WellFormed, item_trees, pair_trees}
 use Rattle.ijson_json.specs.Separator.{separator}
 use Rattle.ijson_json.specs.Print.{quoted, print, print_items, print_members}
@@ -24,18 +25,18 @@ module _ {X : Type 0} (text : X → List ℕ) (all : List X → List ℕ) (none 
   joined_all (x ∷ y ∷ xs) = ap (λ l. text x ++ l) (joined_others y xs) ∙ sym (several x y xs)
 
 -- the texts of items
-abbrev pub item_texts : List WellFormed → List (List ℕ)
-item_texts vs = map (λ v. print v.tree) vs
+abbrev pub item_texts : (Tree → List ℕ) → List WellFormed → List (List ℕ)
+item_texts text vs = map (λ v. text v.tree) vs
 
 -- the texts of members: a key, a colon and a value
-abbrev pub member_texts : List (List ℕ × WellFormed) → List (List ℕ)
-member_texts ps = map (λ p. quoted p.0 ++ 58 ∷ print p.1.tree) ps
+abbrev pub member_texts : (Tree → List ℕ) → List (List ℕ × WellFormed) → List (List ℕ)
+member_texts text ps = map (λ p. quoted p.0 ++ 58 ∷ text p.1.tree) ps
 
 -- the items, one by one
-pub joined-items : (vs : List WellFormed) → joined true (item_texts vs) ≡ print_items (item_trees vs)
+pub joined-items : (vs : List WellFormed) → joined true (item_texts print vs) ≡ print_items (item_trees vs)
 joined-items vs = joined_all (λ v. print v.tree) (λ vs. print_items (item_trees vs)) refl (λ v. refl) (λ v w vs. refl) vs
 
 -- the members, one by one
-pub joined-members : (ps : List (List ℕ × WellFormed)) → joined true (member_texts ps) ≡ print_members (pair_trees ps)
+pub joined-members : (ps : List (List ℕ × WellFormed)) → joined true (member_texts print ps) ≡ print_members (pair_trees ps)
 joined-members ps =
     joined_all (λ p. quoted p.0 ++ 58 ∷ print p.1.tree) (λ ps. print_members (pair_trees ps)) refl (λ p. refl) (λ p q ps. refl) ps

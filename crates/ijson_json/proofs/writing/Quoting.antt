@@ -8,7 +8,7 @@ use Rattle.std.proofs.Math.Seq.{take-add}
 use Rattle.std.proofs.lemmas.List.{append-nil, take_at, take-append-drop}
 use Rattle.std.proofs.lemmas.Str.{encode_ascii}
 use Rattle.ijson_json.specs.Strings.{is_unescaped}
-use Rattle.ijson_json.specs.Print.{escaped, all_escaped, hex_text, quoted}
+use Rattle.ijson_json.specs.Print.{escaped, all_escaped, hex_text}
 use Rattle.ijson_json.specs.WritesBeginning.{WritesBeginning}
 use Rattle.ijson_json.specs.private.Reading.{Past}
 use Rattle.ijson_json.proofs.scanning.Prefixes.{Run}
@@ -35,16 +35,15 @@ pub all_escaped-one : (b : ℕ) → all_escaped (b ∷ []) ≡ escaped b
 all_escaped-one b = append-nil (escaped b)
 
 -- one more piece is written
-pub written_more : (old out done more piece : List ℕ) → out ≡ old ++ 34 ∷ all_escaped done → all_escaped more ≡ piece
-    → out ++ piece ≡ old ++ 34 ∷ all_escaped (done ++ more)
+pub written_more : (old out done more piece : List ℕ) → out ≡ old ++ all_escaped done → all_escaped more ≡ piece
+    → out ++ piece ≡ old ++ all_escaped (done ++ more)
 written_more old out done more piece e f =
-    ap (λ (l : List ℕ). l ++ piece) e ∙ append_assoc old (34 ∷ all_escaped done) piece
-    ∙ ap (λ (l : List ℕ). old ++ 34 ∷ l) (ap (λ (l : List ℕ). all_escaped done ++ l) (sym f) ∙ sym (all_escaped-append done more))
+    ap (λ (l : List ℕ). l ++ piece) e ∙ append_assoc old (all_escaped done) piece
+    ∙ ap (λ (l : List ℕ). old ++ l) (ap (λ (l : List ℕ). all_escaped done ++ l) (sym f) ∙ sym (all_escaped-append done more))
 
--- the closing quote ends what is written
-pub written_end : (old out text : List ℕ) → out ≡ old ++ 34 ∷ all_escaped text → out ++ encode_utf8 34 ≡ old ++ quoted text
-written_end old out text e =
-    ap₂ ◌++◌ e (encode_ascii 34 (omega arith)) ∙ append_assoc old (34 ∷ all_escaped text) (34 ∷ [])
+-- what ends a text is written
+pub written_end : (old out text end : List ℕ) → out ≡ old ++ all_escaped text → out ++ end ≡ old ++ (all_escaped text ++ end)
+written_end old out text end e = ap (λ (l : List ℕ). l ++ end) e ∙ append_assoc old (all_escaped text) end
 
 -- the text before a run and the run are the text as far as it goes
 read_run : (text run after : List ℕ) (start : ℕ) → drop start text ≡ run ++ after → take (start + length run) text ≡ take start text ++ run
@@ -115,10 +114,17 @@ begun_piece old out new done piece behind text e w f = record {
   taken = w.taken ∙ ap (λ (l : List ℕ). l ++ w.front) e ∙ append_assoc old done w.front;
 }
 
--- a closing quote is left to write
-quote_left : (s : List ℕ) → s ++ 34 ∷ [] ≢ []
-quote_left [] e = cc e
-quote_left (b ∷ s) e = cc e
+-- the clause of a last call that appends the rest, where a first piece is written
+pub on_begun : {A E : Type 0} (r : Result A E) (old out new done rest text : List ℕ) → out ≡ old ++ done
+    → OnErr r (WritesBeginning (Some out) (Some new) rest) → text ≡ done ++ rest → OnErr r (WritesBeginning (Some old) (Some new) text)
+on_begun (Ok a) old out new done rest text e w f = tt
+on_begun (Err x) old out new done rest text e w f =
+    begun_piece old out new done rest [] text e w (f ∙ ap (λ (l : List ℕ). done ++ l) (sym (append-nil rest)))
+
+-- an end is left to write
+end_left : (s end : List ℕ) → end ≢ [] → s ++ end ≢ []
+end_left [] end some e = some e
+end_left (b ∷ s) end some e = cc e
 
 -- the text before a run, the run, the byte that ends it, and the rest
 pub read_to : (text run after rest : List ℕ) (b start : ℕ) → drop start text ≡ run ++ after → after ≡ b ∷ rest
@@ -127,26 +133,26 @@ read_to text run after rest b start e f =
     sym (take-append-drop start text) ∙ ap (λ (l : List ℕ). take start text ++ l) (e ∙ ap (λ (l : List ℕ). run ++ l) f)
     ∙ sym (append_assoc (take start text) run (b ∷ rest))
 
--- what is quoted of a text that is cut
-quoted_cut : (text done more : List ℕ) → text ≡ done ++ more → quoted text ≡ (34 ∷ all_escaped done) ++ (all_escaped more ++ 34 ∷ [])
-quoted_cut text done more e =
-    ap quoted e ∙ ap (λ (l : List ℕ). 34 ∷ (l ++ 34 ∷ [])) (all_escaped-append done more)
-    ∙ ap (λ (l : List ℕ). 34 ∷ l) (append_assoc (all_escaped done) (all_escaped more) (34 ∷ []))
+-- what is written of a text that is cut, and its end
+escaped_cut : (text done more end : List ℕ) → text ≡ done ++ more
+    → all_escaped text ++ end ≡ all_escaped done ++ (all_escaped more ++ end)
+escaped_cut text done more end e =
+    ap (λ (l : List ℕ). l ++ end) (ap all_escaped e ∙ all_escaped-append done more)
+    ∙ append_assoc (all_escaped done) (all_escaped more) end
 
--- the quote and a beginning of the text were written
-pub quoted_begun : (old new text done more : List ℕ) → text ≡ done ++ more → new ≡ old ++ 34 ∷ all_escaped done
-    → WritesBeginning (Some old) (Some new) (quoted text)
-quoted_begun old new text done more e f =
-    begun old new (34 ∷ all_escaped done) (all_escaped more ++ 34 ∷ []) (quoted text) f (quote_left (all_escaped more))
-    (quoted_cut text done more e)
+-- a beginning of the text was written
+pub escaped_begun : (old new text done more end : List ℕ) → end ≢ [] → text ≡ done ++ more → new ≡ old ++ all_escaped done
+    → WritesBeginning (Some old) (Some new) (all_escaped text ++ end)
+escaped_begun old new text done more end some e f =
+    begun old new (all_escaped done) (all_escaped more ++ end) (all_escaped text ++ end) f (end_left (all_escaped more) end some)
+    (escaped_cut text done more end e)
 
--- and a beginning of the escape of the byte behind them
-pub quoted_begun_escape : (old out new text done rest : List ℕ) (b : ℕ) → text ≡ done ++ b ∷ rest → out ≡ old ++ 34 ∷ all_escaped done
-    → WritesBeginning (Some out) (Some new) (escaped b) → WritesBeginning (Some old) (Some new) (quoted text)
-quoted_begun_escape old out new text done rest b e f w =
-    begun_piece old out new (34 ∷ all_escaped done) (escaped b) (all_escaped rest ++ 34 ∷ []) (quoted text) f w
-    (quoted_cut text done (b ∷ rest) e ∙ ap (λ (l : List ℕ). (34 ∷ all_escaped done) ++ l)
-    (append_assoc (escaped b) (all_escaped rest) (34 ∷ [])))
+-- and a beginning of the escape of the byte behind it
+pub escaped_begun_escape : (old out new text done rest end : List ℕ) (b : ℕ) → text ≡ done ++ b ∷ rest → out ≡ old ++ all_escaped done
+    → WritesBeginning (Some out) (Some new) (escaped b) → WritesBeginning (Some old) (Some new) (all_escaped text ++ end)
+escaped_begun_escape old out new text done rest end b e f w =
+    begun_piece old out new (all_escaped done) (escaped b) (all_escaped rest ++ end) (all_escaped text ++ end) f w
+    (escaped_cut text done (b ∷ rest) end e ∙ ap (λ (l : List ℕ). all_escaped done ++ l) (append_assoc (escaped b) (all_escaped rest) end))
 
 -- ---- the escape of a byte
 

@@ -2,10 +2,11 @@
 
 ghost use Rattle.std.specs.Prelude.{◌≡◌, ◌≢◌, ◌⊎◌, ◌∷◌, ◌<◌, ◌≤◌, length, MatchResult, IfOk, OnOk, IsTrue, IsFalse};
 ghost use Rattle.ijson_json.specs.Limits.{max_depth};
-ghost use Rattle.ijson_json.specs.private.Reading.{ReadAs, MemberAs};
+ghost use Rattle.ijson_json.specs.private.Reading.{MemberAs};
 ghost use Rattle.ijson_json.specs.AddsOnlyRead.{AddsOnlyRead};
 ghost use Rattle.ijson_json.specs.AreShared.{IsShared, AreShared};
-ghost use Rattle.ijson_json.specs.private.Explains.{Explains, ExplainsMember};
+ghost use Rattle.ijson_json.specs.private.AnswersAt.{AnswersAt};
+ghost use Rattle.ijson_json.specs.private.Explains.{ExplainsMember};
 ghost use Rattle.ijson_json.specs.declared.fault.Fault.TheVariants.{TooDeep};
 
 use crate::fault::Fault;
@@ -58,9 +59,7 @@ pub(crate) fn read_value<'a, S: BuildHasher>(
     opened: usize,
 ) -> Result<(IValue, &'a str), Fault>
     requires { opened ≤ max_depth }
-    ensures read { MatchResult result
-        (λ x. ReadAs opened text.now x.0.tree x.1.now)
-        (λ fault. Explains opened text.now fault) }
+    ensures read { AnswersAt opened text.now result }
     ensures cache { AddsOnlyRead text.now cache.old cache.new }
     ensures values { OnOk result (scratch.new.values.items ≡ scratch.old.values.items) }
     ensures members { OnOk result (scratch.new.members.items ≡ scratch.old.members.items) }
@@ -91,9 +90,7 @@ fn read_container<'a, S: BuildHasher>(
     requires opened { opened ≤ max_depth }
     requires begins { text.now ≡ first ∷ inside.now }
     requires opens { (first ≡ 91) ⊎ (first ≡ 123) }
-    ensures read { MatchResult result
-        (λ x. ReadAs opened text.now x.0.tree x.1.now)
-        (λ fault. Explains opened text.now fault) }
+    ensures read { AnswersAt opened text.now result }
     ensures cache { AddsOnlyRead text.now cache.old cache.new }
     ensures values { OnOk result (scratch.new.values.items ≡ scratch.old.values.items) }
     ensures members { OnOk result (scratch.new.members.items ≡ scratch.old.members.items) }
@@ -120,9 +117,7 @@ fn read_array<'a, S: BuildHasher>(
     opened: usize,
 ) -> Result<(IValue, &'a str), Fault>
     requires { opened < max_depth }
-    ensures read { MatchResult result
-        (λ x. ReadAs opened (91 ∷ inside.now) x.0.tree x.1.now)
-        (λ fault. Explains opened (91 ∷ inside.now) fault) }
+    ensures read { AnswersAt opened (91 ∷ inside.now) result }
     ensures cache { AddsOnlyRead (91 ∷ inside.now) cache.old cache.new }
     ensures values { OnOk result (scratch.new.values.items ≡ scratch.old.values.items) }
     ensures members { OnOk result (scratch.new.members.items ≡ scratch.old.members.items) }
@@ -157,9 +152,7 @@ fn read_object<'a, S: BuildHasher>(
     opened: usize,
 ) -> Result<(IValue, &'a str), Fault>
     requires { opened < max_depth }
-    ensures read { MatchResult result
-        (λ x. ReadAs opened (123 ∷ inside.now) x.0.tree x.1.now)
-        (λ fault. Explains opened (123 ∷ inside.now) fault) }
+    ensures read { AnswersAt opened (123 ∷ inside.now) result }
     ensures cache { AddsOnlyRead (123 ∷ inside.now) cache.old cache.new }
     ensures values { OnOk result (scratch.new.values.items ≡ scratch.old.values.items) }
     ensures members { OnOk result (scratch.new.members.items ≡ scratch.old.members.items) }

@@ -1,9 +1,11 @@
-//! Writing a string.
+//! Writing a string, and a key with what stands round it.
 
-ghost use Rattle.std.specs.Prelude.{◌≡◌, ◌++◌, ◌∷◌, [], ◌/◌, ◌%◌, ◌<◌, false, OnOk, OnErr, Some};
+ghost use Rattle.std.specs.Prelude.{◌≡◌, ◌≢◌, ◌++◌, ◌∷◌, [], ◌/◌, ◌%◌, ◌<◌, false, OnOk, OnErr, Some};
 ghost use Rattle.std.specs.String.{string_bytes};
 ghost use Rattle.ijson_json.specs.Strings.{is_unescaped};
-ghost use Rattle.ijson_json.specs.Print.{escaped, hex_text, quoted};
+ghost use Rattle.ijson_json.specs.KeyText.{key_text};
+ghost use Rattle.ijson_json.specs.Print.{all_escaped, escaped, hex_text, quoted};
+ghost use Rattle.ijson_json.specs.Separator.{separator};
 ghost use Rattle.ijson_json.specs.WritesBeginning.{WritesBeginning};
 
 use crate::scan::prefix::split_ascii;
@@ -44,6 +46,7 @@ static LETTERS: [u8; 128] = *b"\
     uuuuuuuuuuuuuuuuuuuuuuuuuuuuuuuu";
 
 /// Appends the escape of a byte that does not stand for itself.
+#[inline(always)]
 fn push_escape(out: &mut String, byte: u8) -> Result<(), AllocError>
     requires { is_unescaped byte ≡ false }
     ensures written { OnOk result (string_bytes out.new ≡ string_bytes out.old ++ escaped byte) }
@@ -67,12 +70,48 @@ pub fn push_quoted(out: &mut String, text: &str) -> Result<(), AllocError>
         (quoted text.now)) }
 {
     out.push('"')?;
+    push_escaped(out, text, "\"")
+}
+
+/// Appends what stands before the value of a member: a comma, but not before the first member, the key as by `push_quoted`, and
+/// a colon. The error comes where there was not enough memory. A beginning of what was to be appended may then stand in `out`,
+/// behind what was there. It takes time linear in the key.
+pub fn push_key(out: &mut String, key: &str, is_first: bool) -> Result<(), AllocError>
+    ensures written { OnOk result (string_bytes out.new ≡ string_bytes out.old ++ key_text is_first key.now) }
+    ensures refused { OnErr result (WritesBeginning (Some (string_bytes out.old)) (Some (string_bytes out.new))
+        (key_text is_first key.now)) }
+{
+    push_opening(out, is_first)?;
+    push_escaped(out, key, "\":")
+}
+
+/// Appends the quote before a key, behind a comma where the key is not the first. The two are appended at once, which takes less
+/// time than one by one.
+#[inline(always)]
+fn push_opening(out: &mut String, is_first: bool) -> Result<(), AllocError>
+    ensures written { OnOk result (string_bytes out.new ≡ string_bytes out.old ++ (separator is_first ++ 34 ∷ [])) }
+    ensures refused { OnErr result (string_bytes out.new ≡ string_bytes out.old) }
+{
+    if is_first {
+        return out.push('"');
+    }
+    out.push_str(",\"")
+}
+
+/// Appends the text with its escapes, and what ends it.
+#[inline(always)]
+fn push_escaped(out: &mut String, text: &str, end: &str) -> Result<(), AllocError>
+    requires { end.now ≢ [] }
+    ensures written { OnOk result (string_bytes out.new ≡ string_bytes out.old ++ (all_escaped text.now ++ end.now)) }
+    ensures refused { OnErr result (WritesBeginning (Some (string_bytes out.old)) (Some (string_bytes out.new))
+        (all_escaped text.now ++ end.now)) }
+{
     let mut start = 0;
     loop {
         let (run, after) = split_run_at(text, start);
         out.push_str(run)?;
         let Some((byte, _)) = split_ascii(after) else {
-            return out.push('"');
+            return out.push_str(end);
         };
         push_escape(out, byte)?;
         start += run.len() + 1;

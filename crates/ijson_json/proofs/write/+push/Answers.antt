@@ -2,6 +2,7 @@ use Rattle.std.proofs.Common.{true, ◌≡◌, ◌∙◌, ◌++◌, arith, ap, s
 use Rattle.ijson_value.specs.WellFormed.{pair_trees}
 use Rattle.ijson_value.specs.Tree.{members_depth}
 use Rattle.ijson_value.proofs.DepthLemmas.{item-items_depth}
+use Rattle.ijson_json.specs.Print.{print}
 use Rattle.ijson_json.proofs.writing.Joined.{joined, member_texts, joined-items, joined-members}
 use Rattle.ijson_json.proofs.write.+push.Goals as goal
 
@@ -21,5 +22,5 @@ push_members-loop-key-init t c =
     record {
       below = omega (arith, same);
       written = ap (λ l. string_bytes c.args.out.now ++ l)
-          (sym (ap (λ ps. joined true (member_texts ps)) all ∙ joined-members c.args.object.now.pairs));
+          (sym (ap (λ ps. joined true (member_texts print ps)) all ∙ joined-members c.args.object.now.pairs));
     }

@@ -2,7 +2,7 @@ use Rattle.std.proofs.Common.{◌≡◌, ◌+◌, ◌*◌, ◌≤◌, ◌++◌, 
 use Rattle.ijson_value.specs.Sizes.{value_size, object_size}
 use Rattle.ijson_value.specs.WellFormed.{item_trees, pair_trees}
 use Rattle.ijson_value.specs.Tree.{items_depth, members_depth}
-use Rattle.ijson_json.specs.Print.{print_items, print_members}
+use Rattle.ijson_json.specs.Print.{print, print_items, print_members}
 use Rattle.ijson_json.proofs.writing.Joined.{joined, item_texts, member_texts}
 use Rattle.ijson_json.proofs.write.+push.Given as goal
 
@@ -10,14 +10,14 @@ use Rattle.ijson_json.proofs.write.+push.Given as goal
 abbrev pub invariant-push_items-loop-item : goal.invariant-push_items-loop-item
 invariant-push_items-loop-item l =
     string_bytes l.initial.out ++ print_items (item_trees l.items) ≡ string_bytes l.out ++ joined l.is_first
-    (item_texts (drop l.item-index l.items))
+    (item_texts print (drop l.item-index l.items))
 
 -- with the members that are left, the whole is written
 abbrev pub invariant-push_members-loop-key : goal.invariant-push_members-loop-key
 invariant-push_members-loop-key l = record {
   below : members_depth (pair_trees l.key-iterator) ≤ members_depth (pair_trees l.fn.object.pairs);
   written : string_bytes l.initial.out ++ print_members (pair_trees l.fn.object.pairs) ≡ string_bytes l.out ++ joined l.is_first
-      (member_texts l.key-iterator);
+      (member_texts print l.key-iterator);
 }
 
 abbrev pub decreases-push_value : goal.decreases-push_value

@@ -1,0 +1,7 @@
+-- What stands before the value of a member (RFC 8259, section 4): a comma, but not before the first member, the key and a colon.
+use Rattle.std.specs.Prelude.{ℕ, Bool, List, [], ◌∷◌, ◌++◌}
+use Rattle.ijson_json.specs.Print.{quoted}
+use Rattle.ijson_json.specs.Separator.{separator}
+
+abbrev pub key_text : Bool → List ℕ → List ℕ
+key_text is_first key = separator is_first ++ (quoted key ++ 58 ∷ [])
