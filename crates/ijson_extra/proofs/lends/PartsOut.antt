@@ -1,27 +1,25 @@
 -- The parts of an opened value are taken apart, and what a value is whose part was left as it was. Assumes `Logic`.
 use Rattle.std.proofs.Common.{◌≡◌, refl, ap, ◌∙◌, ℕ, Bool, true, false, List, [], ◌∷◌, MutBor}
 use Rattle.std.specs.Prelude.{not}
-use mathlib.Core.Path.{subst⁻¹}
 use mathlib.Core.List.{◌++◌}
 use seplogic.Ra.Ura.{Ura}
 use mir.Syntax.{Lifetime, named}
 use mir.Val.{Val, of_list}
 use base.Logic.{ent, sep}
-use base.Fml.{Fml, GName, Lft, Share, feq, fex, flft, fres, fsep}
+use base.Fml.{Fml, GName, Lft, Share, flft, fres}
 use base.Fraction.{full_share}
 use types.Logic.{Logic, sem}
-use types.Kit.{Item, Goal, Seq, Soaks, ‵, ◌$◌, ◌∵◌, !, qed, move, keep, drop, use1, use2, fsplit, fsplit3, fpick, feq_l, done}
+use types.Kit.{Item, Goal, Seq, Soaks, ‵, ◌$◌, ◌∵◌, !, qed, move, keep, use1, use2, fsplit3, done}
 use types.Match.{live}
 use denote.Follow.{follows, followed}
 use denote.Laws.{Typed, shows}
-use denote.Enum.Enum.{in_a_row}
-use denote.RattleType.{RattleType, Valss, owns}
+use denote.RattleType.{RattleType}
 use denote.Ref.{MutRef, NamedLft, mut_vals, mut_Tells}
 use denote.Steps.{only, peeks}
 use types.Tokens.{lft_end}
 use Rattle.ijson_number.specs.contracts.number.INumber.{the_row as NumberRow}
 use Rattle.ijson_string.specs.contracts.text.IString.{the_row as StringRow}
-use Rattle.ijson_value.specs.Tree.{Tree, null, boolean, number, string, array, object}
+use Rattle.ijson_value.specs.Tree.{Tree, boolean}
 use Rattle.ijson_value.specs.Values.{boolean_value}
 use Rattle.ijson_value.specs.WellFormed.{WellFormed}
 use Rattle.ijson_value.specs.contracts.array.IArray.{the_row as ArrayRow}
@@ -29,6 +27,7 @@ use Rattle.ijson_value.specs.contracts.object.map.IObject.{the_row as ObjectRow}
 use Rattle.ijson_value.specs.contracts.value.destructure.BoolMut.{the_row as BoolRow}
 use Rattle.ijson_value.specs.contracts.value.destructure.DestructuredMut.{the_row as PartsOf}
 use Rattle.ijson_value.proofs.lends.Called.{back, Kept}
+use Rattle.ijson_value.proofs.lends.Variants.{bare_out, alone_out}
 use Rattle.ijson_value.specs.declared.value.ValueType.{ValueType}
 use Rattle.ijson_value.specs.declared.value.ValueType.TheVariants as kind
 use Rattle.ijson_value.specs.declared.value.destructure.BoolMut.{BoolMut}
@@ -37,20 +36,12 @@ use Rattle.ijson_value.specs.declared.value.destructure.DestructuredMut.TheVaria
 
 -- whether it is the kind of truth values
 abbrev pub is_bool : ValueType → Bool
-is_bool kind.Null = false
 is_bool kind.Bool = true
-is_bool kind.Number = false
-is_bool kind.String = false
-is_bool kind.Array = false
-is_bool kind.Object = false
+is_bool k = false
 
 abbrev truth_of : Tree → Bool
-truth_of null = false
 truth_of (boolean b) = b
-truth_of (number n) = false
-truth_of (string s) = false
-truth_of (array ts) = false
-truth_of (object ps) = false
+truth_of t = false
 
 -- the opposite of the one truth value that a value is
 pub opposite : (b t : Bool) (v : WellFormed) → boolean_value b ≡ v → v ≡ boolean_value t → boolean_value (not b) ≡ boolean_value (not t)
@@ -61,28 +52,6 @@ pub one_value : {X : Type 1} (at : NamedLft) (vs : List Val) → Typed (BoolRow 
 one_value at [] typed k = absurd typed
 one_value at (v ∷ []) typed k = k v refl
 one_value at (v ∷ u ∷ us) typed k = absurd typed.1
-
-module _ {M : Type 1} {𝓤 : Ura M} {𝓛 : Logic 𝓤} {K : Type 0} {Γ : List (Item 𝓤)} {G : Goal 𝓤 𝓛.H} (t : K) (at : NamedLft) where
-  pub null_out : (vs : List Val) → (vs ≡ live 0 (of_list []) ∷ [] → Seq K 𝓛 Γ G) → Seq K 𝓛 (‵ ((PartsOf at).own_val parts.Null vs) ∷ Γ) G
-  null_out vs k =
-      fpick t (λ us. fsplit t $
-      feq_l t (λ e. fpick t (λ vss. fsplit t $
-      feq_l t (λ e'. drop t $
-      k (subst⁻¹ (λ (ws : List Val). vs ≡ live 0 (of_list ws) ∷ [] → vs ≡ live 0 (of_list []) ∷ []) e' (λ p. p) e)))))
-
--- one value under the tag n, as a variant of the parts owns it
-abbrev Tagged : ℕ → (R : RattleType) → R.Denot → List Val → Fml
-Tagged n R x vs =
-    fex (List Val) (λ us. fsep (feq (List Val) vs (live n (of_list us) ∷ []))
-    (fex (Valss (R ∷ [])) (in_a_row (R ∷ []) (owns (R ∷ []) (x, tt)) us)))
-
-module _ {M : Type 1} {𝓤 : Ura M} {𝓛 : Logic 𝓤} {K : Type 0} {Γ : List (Item 𝓤)} {G : Goal 𝓤 𝓛.H} (t : K) where
-  tagged_out : (n : ℕ) (R : RattleType) (x : R.Denot) (vs : List Val)
-      → ((xs : List Val) → vs ≡ live n (of_list (xs ++ [])) ∷ [] → Seq K 𝓛 (‵ (R.own_val x xs) ∷ Γ) G)
-      → Seq K 𝓛 (‵ (Tagged n R x vs) ∷ Γ) G
-  tagged_out n R x vs k = fpick t (λ us. fsplit t $
-      feq_l t (λ e. fpick t (λ vss. fsplit t $ feq_l t (λ e'. fsplit t $ move t (1 ∷ []) $ drop t $
-      k vss.0 (subst⁻¹ (λ (ws : List Val). vs ≡ live n (of_list ws) ∷ [] → vs ≡ live n (of_list (vss.0 ++ [])) ∷ []) e' (λ p. p) e)))))
 
 module _ {M : Type 1} {𝓤 : Ura M} (at : NamedLft) (F : DestructuredMut → Fml) (P : DestructuredMut → Type 0) (v : Val)
     (Shown : Item 𝓤 → Item 𝓤 → Type 1) where
@@ -102,16 +71,16 @@ module _ {M : Type 1} {𝓤 : Ura M} (𝓛 : Logic 𝓤) {K : Type 0} {Γ : List
       → PartIs at F P v (λ i j. Seq K 𝓛 (i ∷ j ∷ Γ) G) 4 ArrayRow parts.Array
       → PartIs at F P v (λ i j. Seq K 𝓛 (i ∷ j ∷ Γ) G) 5 ObjectRow parts.Object
       → Seq K 𝓛 (‵ ((PartsOf at).own_val x (v ∷ [])) ∷ ‵ (F x) ∷ Γ) G
-  parts_out parts.Null said a b c d e f = null_out t at (v ∷ []) (λ led. a said (ap only led))
-  parts_out (parts.Bool p) said a b c d e f = tagged_out t 1 (BoolRow at) p (v ∷ []) (λ xs led. b p xs said (ap only led))
+  parts_out parts.Null said a b c d e f = bare_out t 0 (v ∷ []) (λ led. a said (ap only led))
+  parts_out (parts.Bool p) said a b c d e f = alone_out t 1 (BoolRow at) p (v ∷ []) (λ xs led. b p xs said (ap only led))
   parts_out (parts.Number p) said a b c d e f =
-      tagged_out t 2 (MutRef at.mir at.lft NumberRow) p (v ∷ []) (λ xs led. c p xs said (ap only led))
+      alone_out t 2 (MutRef at.mir at.lft NumberRow) p (v ∷ []) (λ xs led. c p xs said (ap only led))
   parts_out (parts.String p) said a b c d e f =
-      tagged_out t 3 (MutRef at.mir at.lft StringRow) p (v ∷ []) (λ xs led. d p xs said (ap only led))
+      alone_out t 3 (MutRef at.mir at.lft StringRow) p (v ∷ []) (λ xs led. d p xs said (ap only led))
   parts_out (parts.Array p) said a b c d e f =
-      tagged_out t 4 (MutRef at.mir at.lft ArrayRow) p (v ∷ []) (λ xs led. e p xs said (ap only led))
+      alone_out t 4 (MutRef at.mir at.lft ArrayRow) p (v ∷ []) (λ xs led. e p xs said (ap only led))
   parts_out (parts.Object p) said a b c d e f =
-      tagged_out t 5 (MutRef at.mir at.lft ObjectRow) p (v ∷ []) (λ xs led. f p xs said (ap only led))
+      alone_out t 5 (MutRef at.mir at.lft ObjectRow) p (v ∷ []) (λ xs led. f p xs said (ap only led))
 
 -- a lender whose part is as it was
 module _ {M : Type 1} {𝓤 : Ura M} (𝓛 : Logic 𝓤) (R T : RattleType) (F : T.Denot → R.Denot) (ℓ : Lifetime) (κ : Lft) (γ : GName) where

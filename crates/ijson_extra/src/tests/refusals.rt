@@ -9,7 +9,7 @@ mod objects;
 use super::{Cache, empty_cache};
 use crate::canonical::canonical_json;
 use ijson_json::{
-    CompactError, JsonError, MemorySink, MemorySource, compact, compact_value, from_json,
+    CompactError, JsonError, MemorySink, MemorySource, compact, compact_value, from_json, push_key,
     push_quoted, push_separator, report, to_json,
 };
 use ijson_number::{INumber, ParseNumberError};
@@ -18,7 +18,18 @@ use ijson_value::array::IArray;
 use ijson_value::object::IObject;
 use ijson_value::value::IValue;
 use std::alloc::{AllocError, Global};
+use std::fmt::Debug;
 use std::process::Abort;
+
+/// What a call gives, which is made again where memory was refused.
+fn retried<T: Drop, E: Debug + Drop, F: Fn() -> Result<T, E> + Drop>(rt: &impl Abort, call: F) -> T
+    requires { F.IsAlwaysCallable call }
+{
+    match call() {
+        Ok(given) => given,
+        Err(_) => call().expect(rt, "memory for the second call"),
+    }
+}
 
 /// The number that a text spells.
 fn spelled(rt: &impl Abort, alloc: Global, text: &str) -> INumber {
@@ -33,11 +44,7 @@ fn spelled(rt: &impl Abort, alloc: Global, text: &str) -> INumber {
 
 /// Asserts that a copy of a number is equal to it.
 fn copies_number(rt: &impl Abort, number: &INumber) {
-    let copy = match number.clone() {
-        Ok(copy) => copy,
-        Err(AllocError) => number.clone().expect(rt, "a copy"),
-    };
-    assert!(rt; copy == *number);
+    assert!(rt; retried(rt, || number.clone()) == *number);
 }
 
 #[test]
@@ -52,11 +59,7 @@ fn number_of_many_digits(rt: HostRuntime) {
 
 /// The number at the front of a text, and its length.
 fn at_front(rt: &impl Abort, alloc: Global, text: &str) -> (INumber, usize) {
-    let read = match INumber::at_front(alloc, text) {
-        Ok(read) => read,
-        Err(AllocError) => INumber::at_front(alloc, text).expect(rt, "room"),
-    };
-    read.expect(rt, "a number")
+    retried(rt, || INumber::at_front(alloc, text)).expect(rt, "a number")
 }
 
 #[test]
@@ -100,10 +103,7 @@ fn array_push(rt: HostRuntime) {
 
 /// An empty array that has room for so many items.
 fn array_of_room(rt: &impl Abort, alloc: Global, capacity: usize) -> IArray {
-    match IArray::with_capacity(alloc, capacity) {
-        Ok(array) => array,
-        Err(AllocError) => IArray::with_capacity(alloc, capacity).expect(rt, "an array"),
-    }
+    retried(rt, || IArray::with_capacity(alloc, capacity))
 }
 
 /// An array of the numbers 1 and 2.
@@ -209,10 +209,7 @@ fn made_again(rt: &impl Abort, alloc: Global, array: IArray) -> IArray {
 
 /// A list of the numbers from 0 to 2.
 fn three(rt: &impl Abort, alloc: Global) -> Vec<IValue> {
-    match vec![in alloc; number(0), number(1), number(2)] {
-        Ok(list) => list,
-        Err(_) => vec![in alloc; number(0), number(1), number(2)].expect(rt, "a list"),
-    }
+    retried(rt, || vec![in alloc; number(0), number(1), number(2)])
 }
 
 /// An array of the items of a list.
@@ -282,10 +279,7 @@ fn counted(rt: &impl Abort, cache: &mut Cache, text: &str, count: usize) -> IStr
 /// Asserts that a text and its copies are these letters.
 fn copies_text(rt: &impl Abort, alloc: Global, key: &IString, text: &str) {
     assert!(rt; key.eq_str(text) && key.clone().expect(rt, "a copy") == *key);
-    let copy = match key.to_owned_string(alloc) {
-        Ok(copy) => copy,
-        Err(AllocError) => key.to_owned_string(alloc).expect(rt, "a copy"),
-    };
+    let copy = retried(rt, || key.to_owned_string(alloc));
     assert!(rt; copy.as_str() == text && key.eq_str(text));
 }
 
@@ -312,10 +306,7 @@ fn read(rt: &impl Abort, alloc: Global, text: &str) -> IValue {
 }
 
 fn written(rt: &impl Abort, alloc: Global, value: &IValue) -> String {
-    match to_json(alloc, value) {
-        Ok(text) => text,
-        Err(AllocError) => to_json(alloc, value).expect(rt, "a text"),
-    }
+    retried(rt, || to_json(alloc, value))
 }
 
 /// Asserts that a text is what is written of a value.
@@ -345,10 +336,7 @@ fn read_into(rt: &impl Abort, alloc: Global, cache: &mut Cache, text: &str, held
 
 /// An empty text that has room for so many bytes.
 fn text_of_room(rt: &impl Abort, alloc: Global, bytes: usize) -> String {
-    match String::with_capacity(alloc, bytes) {
-        Ok(text) => text,
-        Err(AllocError) => String::with_capacity(alloc, bytes).expect(rt, "a text"),
-    }
+    retried(rt, || String::with_capacity(alloc, bytes))
 }
 
 /// The text `true`, which has no room for more.
@@ -358,7 +346,7 @@ fn full_text(rt: &impl Abort, alloc: Global) -> String {
     text
 }
 
-/// Puts a comma, a number or a string behind a text that has no room.
+/// Puts a comma, a number, a string or a key behind a text that has no room.
 fn parts(rt: &impl Abort, alloc: Global) {
     let mut found = full_text(rt, alloc);
     if push_separator(&mut found, false).is_err() {
@@ -375,6 +363,14 @@ fn parts(rt: &impl Abort, alloc: Global) {
     let mut found = full_text(rt, alloc);
     let pushed = push_quoted(&mut found, "0123456789\n");
     is_begun(rt, found.as_str(), "true\"0123456789\\n\"", pushed.is_ok());
+    let mut found = full_text(rt, alloc);
+    let pushed = push_key(&mut found, "0123456789\n", false);
+    is_begun(
+        rt,
+        found.as_str(),
+        "true,\"0123456789\\n\":",
+        pushed.is_ok(),
+    );
 }
 
 /// Numbers of few digits and of many, with zeros beside the digits and with an exponent, and what stands behind `true` once they are put
@@ -409,10 +405,7 @@ fn reading_and_writing(rt: HostRuntime) {
 
 /// Asserts that a text is the canonical one of a value.
 fn is_canonical(rt: &impl Abort, alloc: Global, value: &IValue, text: &str) {
-    let found = match canonical_json(alloc, value) {
-        Ok(found) => found,
-        Err(AllocError) => canonical_json(alloc, value).expect(rt, "a text"),
-    };
+    let found = retried(rt, || canonical_json(alloc, value));
     assert!(rt; found.as_str() == text);
 }
 
@@ -525,28 +518,18 @@ fn compacting_to_a_value(rt: HostRuntime) {
 
 /// Copies an array by its own call.
 fn copies_array(rt: &impl Abort, array: &IArray) {
-    let copy = match array.clone() {
-        Ok(copy) => copy,
-        Err(AllocError) => array.clone().expect(rt, "a copy"),
-    };
-    assert!(rt; copy == *array);
+    assert!(rt; retried(rt, || array.clone()) == *array);
 }
 
 /// Copies an object of two pairs by its own call.
 fn copies_object(rt: &impl Abort, object: &IObject) {
-    let copy = match object.clone() {
-        Ok(copy) => copy,
-        Err(AllocError) => object.clone().expect(rt, "a copy"),
-    };
+    let copy = retried(rt, || object.clone());
     assert!(rt; copy == *object && copy.capacity() == 2);
 }
 
 /// Copies a value that is written as this text.
 fn copied(rt: &impl Abort, alloc: Global, value: &IValue, text: &str) -> IValue {
-    let copy = match value.clone() {
-        Ok(copy) => copy,
-        Err(AllocError) => value.clone().expect(rt, "a copy"),
-    };
+    let copy = retried(rt, || value.clone());
     assert!(rt; copy == *value);
     is_written(rt, alloc, &copy, text);
     copy
@@ -554,10 +537,7 @@ fn copied(rt: &impl Abort, alloc: Global, value: &IValue, text: &str) -> IValue 
 
 /// Copies items into an array.
 fn copies_items(rt: &impl Abort, alloc: Global, items: &[IValue]) {
-    let array = match IArray::from_slice(alloc, items) {
-        Ok(array) => array,
-        Err(AllocError) => IArray::from_slice(alloc, items).expect(rt, "an array"),
-    };
+    let array = retried(rt, || IArray::from_slice(alloc, items));
     assert!(rt; array.as_slice() == items);
 }
 

@@ -2,7 +2,7 @@
 //! thousand rounds of them make as many requests as one does.
 
 use super::objects::{PAIRS, holds, is_number, refused_entry, with_pairs};
-use super::{Cache, array_of_room, interned, number, spelled};
+use super::{Cache, array_of_room, interned, number, retried, spelled};
 use crate::pointer::{resolve, resolve_mut};
 use crate::tests::{empty_cache, key};
 use ijson_json::{CompactError, MemorySink, Sink, report};
@@ -208,28 +208,22 @@ fn put_three<P: PairStore<u8>>(rt: &impl Abort, alloc: Global, store: &mut P) {
     }
 }
 
-/// Takes the first pair out, which the last one comes in place of, and puts it back last.
-fn turns_by_swap<P: PairStore<u8>>(rt: &impl Abort, store: &mut P) {
+/// Puts a pair that was taken out back last.
+fn puts_back<P: PairStore<u8>>(rt: &impl Abort, store: &mut P, key: IString, value: u8) {
+    assert!(rt; store.position(key.as_str()).is_none() && store.len() < store.capacity());
+    store.push_new(key, value);
+}
+
+/// Takes the first pair out and puts it back last, twice: the last one comes in its place, and then the others move up.
+fn turns<P: PairStore<u8>>(rt: &impl Abort, store: &mut P) {
     if store.len() > 0 {
         let (key, value) = store.swap_out(0);
-        assert!(rt; store.position(key.as_str()).is_none() && store.len() < store.capacity());
-        store.push_new(key, value);
+        puts_back(rt, store, key, value);
     }
-}
-
-/// Takes the first pair out, which the others move up for, and puts it back last.
-fn turns_by_shift<P: PairStore<u8>>(rt: &impl Abort, store: &mut P) {
     if store.len() > 0 {
         let (key, value) = store.shift_out(0);
-        assert!(rt; store.position(key.as_str()).is_none() && store.len() < store.capacity());
-        store.push_new(key, value);
+        puts_back(rt, store, key, value);
     }
-}
-
-/// Takes the first pair out, in both ways, and puts it back last.
-fn turns<P: PairStore<u8>>(rt: &impl Abort, store: &mut P) {
-    turns_by_swap(rt, store);
-    turns_by_shift(rt, store);
 }
 
 /// Two turns of three pairs bring each of them back to its place.
@@ -244,19 +238,13 @@ fn turns_twice<P: PairStore<u8>>(rt: &impl Abort, store: &mut P, rounds: u32) {
 }
 
 fn lists(rt: &impl Abort, alloc: Global, rounds: u32) {
-    let mut list = match LinearPairs::with_capacity(alloc, 3) {
-        Ok(list) => list,
-        Err(_) => LinearPairs::with_capacity(alloc, 3).expect(rt, "a list"),
-    };
+    let mut list = retried(rt, || LinearPairs::with_capacity(alloc, 3));
     put_three(rt, alloc, &mut list);
     turns_twice(rt, &mut list, rounds);
 }
 
 fn tables(rt: &impl Abort, alloc: Global, rounds: u32) {
-    let mut table = match FixedTable::with_capacity(alloc, 3) {
-        Ok(table) => table,
-        Err(_) => FixedTable::with_capacity(alloc, 3).expect(rt, "a table"),
-    };
+    let mut table = retried(rt, || FixedTable::with_capacity(alloc, 3));
     put_three(rt, alloc, &mut table);
     turns_twice(rt, &mut table, rounds);
     assert!(rt; table.into_pairs().len() == 3);

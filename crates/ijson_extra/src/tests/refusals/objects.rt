@@ -3,13 +3,13 @@ ghost use Rattle.std.specs.Prelude.{◌≡◌};
 ghost use Rattle.ijson_value.specs.Kind.{kind_of};
 ghost use Rattle.ijson_value.specs.declared.value.ValueType.TheVariants as kind;
 
-use super::interned;
+use super::{interned, retried};
 use crate::tests::{empty_cache, key};
 use ijson_string::IString;
 use ijson_table::ReserveError;
 use ijson_value::object::{Entry, IObject, RefusedKey, RefusedPair};
 use ijson_value::value::IValue;
-use std::alloc::{AllocError, Global};
+use std::alloc::Global;
 use std::process::Abort;
 
 /// The pairs of the objects that follow.
@@ -68,17 +68,9 @@ fn is_back(refused: &RefusedPair, len: usize) -> bool {
     }
 }
 
-/// An empty list that has room for six pairs.
-fn list_of_room(rt: &impl Abort, alloc: Global) -> Vec<(IString, IValue)> {
-    match Vec::with_capacity(alloc, 6) {
-        Ok(pairs) => pairs,
-        Err(AllocError) => Vec::with_capacity(alloc, 6).expect(rt, "a list"),
-    }
-}
-
 /// A list of the five pairs, and the first of them once more.
 fn listed(rt: &impl Abort, alloc: Global) -> Vec<(IString, IValue)> {
-    let mut pairs = list_of_room(rt, alloc);
+    let mut pairs = retried(rt, || Vec::with_capacity(alloc, 6));
     for (text, value) in PAIRS.iter().chain(PAIRS.iter().take(1)) {
         let pair = (key(rt, alloc, text), IValue::from(*value));
         pairs.push(pair).expect(rt, "room");
@@ -284,13 +276,18 @@ fn values_beside_keys(rt: HostRuntime) {
     }
 }
 
+/// Asserts that the first or the fifth of the pairs came back, and that an object has those before it.
+fn has_those_before(rt: &impl Abort, object: &IObject, refused: &RefusedPair) {
+    let len = object.len();
+    assert!(rt; len == 0 || len == 4);
+    assert!(rt; is_back(refused, len) && holds(object, len, len));
+}
+
 /// An object of the five pairs, which an empty one is extended by.
 fn extended(rt: &impl Abort, alloc: Global) -> IObject {
     let mut object = IObject::new(alloc);
     if let Err(refused) = object.extend(with_pairs(rt, alloc, 5, 5)) {
-        let len = object.len();
-        assert!(rt; len == 0 || len == 4);
-        assert!(rt; is_back(&refused, len) && holds(&object, len, len));
+        has_those_before(rt, &object, &refused);
         let pairs = with_pairs(rt, alloc, 5, 5);
         object.extend(pairs).expect(rt, "the pairs");
     }
@@ -301,12 +298,9 @@ fn extended(rt: &impl Abort, alloc: Global) -> IObject {
 fn laid_over(rt: &impl Abort, alloc: Global) -> IObject {
     let mut object = IObject::new(alloc);
     if let Err(refused) = object.overlay(with_pairs(rt, alloc, 5, 5)) {
-        let len = object.len();
-        assert!(rt; len == 0 || len == 4);
-        assert!(rt; is_back(&refused, len) && holds(&object, len, len));
-        object
-            .overlay(with_pairs(rt, alloc, 5, 5))
-            .expect(rt, "the pairs");
+        has_those_before(rt, &object, &refused);
+        let pairs = with_pairs(rt, alloc, 5, 5);
+        object.overlay(pairs).expect(rt, "the pairs");
     }
     object
 }

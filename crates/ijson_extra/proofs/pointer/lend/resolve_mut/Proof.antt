@@ -1,11 +1,11 @@
 -- A value lends itself, or a value inside it that a text names. Assumes `Logic`.
-use Rattle.ijson_value.proofs.lends.Steps.{◌≡◌, ℕ, List, [], ◌∷◌, refl, sym, ap, subst, ◌∙◌, lit<, w64, MutBor, proved, id⊢, ent, emp}
-use Rattle.ijson_value.proofs.lends.Steps.{ftrue, flft, fres, named, Val, vptr, sem, Logic, Ura, fact, fact_i, tables, ‵, raw, ◌⊛◌, some}
+use Rattle.ijson_value.proofs.lends.Steps.{◌≡◌, ℕ, List, [], ◌∷◌, refl, sym, ap, subst, ◌∙◌, lit<, w64, MutBor, proved, id⊢, emp}
+use Rattle.ijson_value.proofs.lends.Steps.{ftrue, flft, fres, named, Val, vptr, fact, fact_i, tables, ‵, raw, ◌⊛◌, some}
 use Rattle.ijson_value.proofs.lends.Steps.{later, at_ret, ◌$◌, ◌∵◌, !, qed, done, move, keep, drop, use0, use1, use2, split, join, rewrite}
-use Rattle.ijson_value.proofs.lends.Steps.{fsplit3, fjoin, fpack, feq_i, feq_l, pick, await, suffices, frame, enter, of_opd, lit, addr, fld}
+use Rattle.ijson_value.proofs.lends.Steps.{fsplit3, fjoin, feq_l, pick, await, suffices, frame, enter, of_opd, lit, addr, fld}
 use Rattle.ijson_value.proofs.lends.Steps.{stop, no_more, and_then, first, branches, skips, exec, returns, returns_within, alloc_all}
 use Rattle.ijson_value.proofs.lends.Steps.{pass_all, free_all, look_at, get, get_in, get_tag, through, sets, sets_last, lands_as, agg, env}
-use Rattle.ijson_value.proofs.lends.Steps.{usize, bool, yes, no, shows, uint_vals, uint_Tells, RattleType, owns, MutRef, Bor, mut_vals}
+use Rattle.ijson_value.proofs.lends.Steps.{usize, bool, yes, no, shows, uint_vals, uint_Tells, RattleType, MutRef, Bor, mut_vals}
 use Rattle.ijson_value.proofs.lends.Steps.{mut_Tells, plain, mut_ref_to, nothing, heard, peeks, only, whole, vrt, live, calls_at, lasts}
 use Rattle.ijson_value.proofs.lends.Steps.{triple_of, Stays, walk_of, stay_dropped, Goes-dropped, Goes-spent_ref, ends_at, framed, follows}
 use types.Match.{in_variant}
@@ -15,10 +15,6 @@ use mathlib.Core.Bool.{true≢false}
 use mathlib.Core.List.{◌++◌}
 use mir.Val.{of_list}
 use native.Mathlib.Nat.{suc-ne-zero}
-use denote.Enum.Row.{tagged_with}
-use denote.Enum.Enum.{form_of, in_a_row}
-use denote.Enum.Declared.{shape}
-use denote.RattleType.{Valss}
 use denote.Text.{Str, StrRefOf, str-laws, str-copy}
 use denote.Slice.{shr_slice_vals}
 use denote.Ref.{NamedLft}
@@ -28,6 +24,7 @@ use Rattle.std.specs.contracts.option.Option.{the_row as OptionOf}
 use Rattle.std.specs.contracts.result.Result.{the_row as ResultOf}
 use Rattle.std.proofs.mem.Facts.{says_two}
 use Rattle.std.proofs.option.Made.{Some-of}
+use Rattle.std.proofs.result.Made.{Ok-of, Err-of}
 use Rattle.ijson_value.specs.NodeValue.{node_value}
 use Rattle.ijson_value.specs.WellFormed.{WellFormed}
 use Rattle.ijson_value.specs.Tree.{Tree}
@@ -35,12 +32,11 @@ use Rattle.ijson_value.specs.contracts.value.IValue.{the_row as V}
 use Rattle.ijson_value.specs.contracts.value.Destructured.{the_row as N}
 use Rattle.ijson_value.specs.declared.value.Destructured.{Destructured}
 use Rattle.ijson_value.proofs.lends.LentOn.{then_such, itself_so, none_so}
-use Rattle.ijson_value.proofs.lends.Variants.{and_tt, by_option, none_out, Some-out, ok_of, err_of}
+use Rattle.ijson_value.proofs.lends.Variants.{and_tt, by_option, none_out, Some-out, variant_made}
 use Rattle.ijson_extra.proofs.lends.LentLaws.{lent_laws}
 use Rattle.ijson_extra.specs.LendsNamedValue.{LendsNamedValue, IfLent}
 use Rattle.ijson_extra.specs.Pointer.{resolved, resolved_with}
 use Rattle.ijson_extra.specs.private.Walked.{HasTokens, LendsNamedInside, node_tree, tree_lent}
-use Rattle.ijson_extra.specs.contracts.pointer.PointerError as PE
 use Rattle.ijson_extra.specs.contracts.pointer.PointerError.{the_row as E}
 use Rattle.ijson_extra.specs.declared.pointer.PointerError.TheVariants.{Syntax}
 use Rattle.ijson_extra.specs.contracts.pointer.lend.resolve_mut as f
@@ -75,14 +71,6 @@ with_itself t p e u = subst (λ x. u ≡ resolved_with t x u) (sym e) refl
 
 is_itself : (t : Tree) (p : List ℕ) → p ≡ [] → Some (Some t) ≡ resolved t p
 is_itself t p e = subst (λ x. Some (Some t) ≡ resolved t x) (sym e) refl
-
--- the refusal
-syntax_made : {M : Type 1} {𝓤 : Ura M} (𝓛 : Logic 𝓤) → ent 𝓤 (emp 𝓤) (sem 𝓛 (E.own_val Syntax (live 0 (of_list []) ∷ [])))
-syntax_made 𝓛 =
-    qed 𝓛 [] ∵ nothing ! $ feq_i ! (List Val) [] [] refl $ fjoin ! $ fpack ! (Valss []) (in_a_row [] (owns [] tt) []) tt $
-    feq_i ! (List Val) (live 0 (of_list []) ∷ []) (live 0 (of_list []) ∷ []) refl $ fjoin ! $
-    fpack ! (List Val) (tagged_with (form_of (shape PE.the_type)) (form_of (shape PE.the_type)).payload (PE.the_type.to Syntax)
-    (live 0 (of_list []) ∷ [])) [] $ done !
 
 pub resolve_mut_spec : {M : Type 1} → statement M
 resolve_mut_spec 𝓤 𝓛 𝓜 𝓡 wired =
@@ -124,7 +112,7 @@ resolve_mut_spec 𝓤 𝓛 𝓜 𝓡 wired =
     -- [value; its token; the text's token]
     let some_v : Val = live 1 (of_list (ptr ∷ [])) in
     use1 𝓛 (‵ ((OptionOf Lent).own_val (Some r) (some_v ∷ []))) (Some-of 𝓛 Lent r ptr) $
-    use1 𝓛 (‵ (Out.own_val (Ok (Some r)) (live 0 (of_list (some_v ∷ [])) ∷ []))) (ok_of 𝓛 (OptionOf Lent) E (Some r) some_v) $
+    use1 𝓛 (‵ (Out.own_val (Ok (Some r)) (live 0 (of_list (some_v ∷ [])) ∷ []))) (Ok-of 𝓛 (OptionOf Lent) E (Some r) some_v) $
     use0 𝓛 (‵ (LendsNamedValue r p.now (Ok (Some r))))
     (itself_so 𝓛 V r.ghost_name r.now (λ w n. IfLent (Ok (Some r)) (n.tree ≡ resolved_with r.now.tree p.now w.tree))
     (λ n. n.tree ≡ r.now.tree) (λ w. with_itself r.now.tree p.now (said.0 (truth t itself)) w.tree) refl) $
@@ -167,8 +155,8 @@ resolve_mut_spec 𝓤 𝓛 𝓜 𝓡 wired =
             use1 𝓛 (‵ (LendsNamedValue r p.now (Err Syntax)))
             (none_so 𝓛 V V r.ghost_name r.now (λ w. w) (λ w n. IfLent (Err Syntax) (n.tree ≡ resolved_with r.now.tree p.now w.tree))
             (λ n. n.tree ≡ r.now.tree) (λ w. tt) refl) $
-            use0 𝓛 (‵ (E.own_val Syntax (syn ∷ []))) (syntax_made 𝓛) $
-            use1 𝓛 (‵ (Out.own_val (Err Syntax) (live 1 (of_list (syn ∷ [])) ∷ []))) (err_of 𝓛 (OptionOf Lent) E Syntax syn) $
+            use0 𝓛 (‵ (E.own_val Syntax (syn ∷ []))) (variant_made 𝓛 0 [] tt tt) $
+            use1 𝓛 (‵ (Out.own_val (Err Syntax) (live 1 (of_list (syn ∷ [])) ∷ []))) (Err-of 𝓛 (OptionOf Lent) E Syntax syn) $
             move ! (0 ∷ 2 ∷ 3 ∷ 1 ∷ []) $
             suffices ! _ (ends_at 𝓛 f.ended stayed c y (live 1 (of_list (syn ∷ []))) (Err Syntax) (tt, (tt, tt)) (tt, (tt, tt))) $
             nothing ! $ nothing ! $ fjoin ! $ nothing ! $ fjoin ! $ join ! $ nothing ! $ move ! (3 ∷ 0 ∷ []) $ join ! $
@@ -229,7 +217,7 @@ resolve_mut_spec 𝓤 𝓛 𝓜 𝓡 wired =
           exec ! 𝓣.C 𝓣.Λ (env code.Mir.locals l) code.Mir.t-5 (at_ret (env code.Mir.locals l) (W.post y)) $
           sets ! (of_opd ! (get ! refl)) refl (and_tt _ typed.0, (record { fits = lit< tt }, (typed.1, tt))) $
           returns ! (look_at ! 0 refl) $ free_all ! refl $
-          use1 𝓛 (‵ (Out.own_val (Ok o) (live 0 (of_list (w ∷ [])) ∷ []))) (ok_of 𝓛 (OptionOf Lent) E o w) $
+          use1 𝓛 (‵ (Out.own_val (Ok o) (live 0 (of_list (w ∷ [])) ∷ []))) (Ok-of 𝓛 (OptionOf Lent) E o w) $
           move ! (5 ∷ 1 ∷ []) $ use2 𝓛 (‵ (LendsNamedValue r p.now (Ok o)))
           (then_such 𝓛 V N V node_value (λ w' y'. OnSome o (node_tree y' ≡ resolved_with (node_tree u.now) p.now w'.tree))
           (λ y'. node_tree y' ≡ node_tree u.now)
