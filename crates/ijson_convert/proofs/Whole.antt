@@ -1,6 +1,6 @@
 -- What is read of a number as an integer.
 use Rattle.std.proofs.Common.{◌≡◌, ◌<◌, ◌≤◌, ◌^◌, ℕ, refl, sym, subst, ◌∙◌, arith}
-use Rattle.std.specs.Prelude.{ℤ, pos, FitsSigned}
+use Rattle.std.specs.Prelude.{ℤ, pos, FitsSigned, ⊤}
 use Rattle.std.specs.Cmp.{tied_back}
 use Rattle.std.specs.Int.{Width, w8, w16, w32, w64, cast_signed, cast_unsigned}
 use Rattle.std.proofs.lemmas.Int.{to_z-of_z}
@@ -51,7 +51,7 @@ module _ (width : Width) (wide : (z : ℤ) → FitsSigned width z → FitsSigned
   signed_equal z _ h i = absurd h
 
   -- also back from its bits
-  pub signed_same : (z : ℤ) (t : Tree) → HasInteger t z → FitsSigned width z
+  signed_same : (z : ℤ) (t : Tree) → HasInteger t z → FitsSigned width z
       → Same (integer_tree (cast_signed width (cast_unsigned width z))) t
   signed_same z t h i = subst (λ y. Same (integer_tree y) t) (sym (to_z-of_z width z i)) (signed_equal z t h i)
 
@@ -62,7 +62,7 @@ module _ (width : Width) (wide : (z : ℤ) → FitsSigned width z → FitsSigned
 
 module _ (width : Width) where
   -- it is read
-  pub signed_read : (z : ℤ) (t : Tree) → HasInteger t z → FitsSigned width z → IsRead (SignedRefused width) t
+  signed_read : (z : ℤ) (t : Tree) → HasInteger t z → FitsSigned width z → IsRead (SignedRefused width) t
   signed_read z (number n) h i = λ e r. r.1 z i h
   signed_read z _ h i = absurd h
 
@@ -80,6 +80,18 @@ module _ (width : Width) where
   signed_none (number n) e none is = (is, none)
   signed_none _ e none is = is
 
+-- what a value of the width is read as
+pub signed_found : (width : Width) → ((z : ℤ) → FitsSigned width z → FitsSigned w64 z) → (z : ℤ) (t : Tree) → HasInteger t z
+    → FitsSigned width z
+    → record {
+      same : Same (integer_tree (cast_signed width (cast_unsigned width z))) t;
+      read : IsRead (SignedRefused width) t;
+      none : ⊤;
+      refused : ⊤;
+    }
+signed_found width wide z t h i =
+    record { same = signed_same width wide z t h i; read = signed_read width z t h i; none = tt; refused = tt }
+
 -- the same of one without a sign
 pub unsigned_made : (limit : ℕ) → limit ≤ 2 ^ 64 → (m : ℕ) (n : Num) (t : Tree) → m < limit → IsInteger n.decimal (pos m)
     → t ≡ number n.decimal → t ≡ integer_tree (pos m)
@@ -87,12 +99,12 @@ unsigned_made limit below m n t i h is = is ∙ unsigned_is n m (omega (arith, b
 
 module _ (limit : ℕ) where
   -- a value below the limit is the same
-  pub unsigned_same : limit ≤ 2 ^ 64 → (m : ℕ) (t : Tree) → HasInteger t (pos m) → m < limit → Same (integer_tree (pos m)) t
+  unsigned_same : limit ≤ 2 ^ 64 → (m : ℕ) (t : Tree) → HasInteger t (pos m) → m < limit → Same (integer_tree (pos m)) t
   unsigned_same below m (number n) h i = has_same (integer_number (pos m)) n (pos m) (unsigned_has m (omega (arith, below, i))) h
   unsigned_same below m _ h i = absurd h
 
   -- it is read
-  pub unsigned_read : (m : ℕ) (t : Tree) → HasInteger t (pos m) → m < limit → IsRead (UnsignedRefused limit) t
+  unsigned_read : (m : ℕ) (t : Tree) → HasInteger t (pos m) → m < limit → IsRead (UnsignedRefused limit) t
   unsigned_read m (number n) h i = λ e r. r.1 m i h
   unsigned_read m _ h i = absurd h
 
@@ -112,3 +124,9 @@ module _ (limit : ℕ) where
       → UnsignedRefused limit t e
   unsigned_none (number n) e none is = (is, none)
   unsigned_none _ e none is = is
+
+-- what a value below the limit is read as
+pub unsigned_found : (limit : ℕ) → limit ≤ 2 ^ 64 → (m : ℕ) (t : Tree) → HasInteger t (pos m) → m < limit
+    → record { same : Same (integer_tree (pos m)) t; read : IsRead (UnsignedRefused limit) t; none : ⊤; refused : ⊤ }
+unsigned_found limit below m t h i =
+    record { same = unsigned_same limit below m t h i; read = unsigned_read limit m t h i; none = tt; refused = tt }

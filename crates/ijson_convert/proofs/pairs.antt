@@ -1,2 +1,3 @@
 pub mod PairTrees
 pub mod PairsPut
+pub mod Shown

@@ -59,7 +59,6 @@ impl<T: ToIValue> ToIValue for Vec<T> {
         alloc: Global,
         cache: &mut StringCache<S>,
     ) -> Result<IValue, ConvertError> {
-        let array = array_of(alloc, cache, self.as_slice())?;
-        Ok(IValue::from(array))
+        self.as_slice().to_ivalue(alloc, cache)
     }
 }

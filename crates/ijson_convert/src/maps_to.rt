@@ -1,6 +1,9 @@
 //! `ToIValue` of maps.
-ghost use Rattle.std.specs.Prelude.{◌≡◌, ◌∷◌, OnOk, IfOk, IfErr};
-ghost use Rattle.ijson_value.specs.Values.{object_tree};
+ghost use Rattle.std.specs.Prelude.{◌≡◌, List, ◌∷◌, length, map, String, string_bytes, OnOk, IfOk, IfErr};
+ghost use Rattle.std.specs.Iterator.{AlwaysYields, IsFinite};
+ghost use Rattle.std.specs.Map.Iter.{deref_pair};
+ghost use Rattle.std.specs.declared.alloc.Global.{Global};
+ghost use Rattle.ijson_table.specs.Store.{IsDistinct};
 ghost use Rattle.ijson_convert.specs.Interned.{all_interned, SomeInterned};
 ghost use Rattle.ijson_convert.specs.MapTree.{map_tree};
 ghost use Rattle.ijson_convert.specs.TextsOf.{texts_of};
@@ -36,48 +39,36 @@ fn pair_of<T: ToIValue, S: BuildHasher>(
     Ok((key, value))
 }
 
-/// The pairs of a map as an object, in the order of the keys. Its capacity is their count. They are made in a list with that
-/// room, which is taken first, and the object is made of it as by `from_pairs`.
-fn object_of_btree_map<T: ToIValue, S: BuildHasher>(
+/// The object of the entries of a map, in the order in which the map gives them. Its capacity is their count, which is told. Its
+/// pairs are made in a list with that room, which is taken first, and the object is made of it as by `from_pairs`.
+fn object_of<'a, T: ToIValue + 'a, S: BuildHasher, I: Iterator<Item = (&'a String, &'a T)> + Drop>(
     alloc: Global,
     cache: &mut StringCache<S>,
-    map: &BTreeMap<String, T>,
-) -> Result<IObject, ConvertError>
-    ensures pairs { IfOk result (λ object.
-        object_tree object.pairs ≡ map_tree T.ToIValue.tree map.now.entries) }
-    ensures cache { OnOk result
-        (cache.new ≡ all_interned (texts_of (map_tree T.ToIValue.tree map.now.entries)) cache.old) }
-    ensures refused { IfErr result (λ e.
-        (e ≡ Memory)
-        × SomeInterned (texts_of (map_tree T.ToIValue.tree map.now.entries)) cache.old cache.new) }
+    count: usize,
+    entries: I,
+) -> Result<IValue, ConvertError>
+    requires finite { I.can_next entries × IsFinite (I.remaining entries) }
+    requires given { (all : List (String Global × T))
+        × AlwaysYields I.next_gives deref_pair entries all
+        × (count ≡ length all) × IsDistinct (map (λ e. string_bytes e.0) all) }
+    ensures tree { (all : List (String Global × T))
+        → AlwaysYields I.next_gives deref_pair entries all
+        → IfOk result (λ value. value.tree ≡ map_tree T.ToIValue.tree all) }
+    ensures cache { (all : List (String Global × T))
+        → AlwaysYields I.next_gives deref_pair entries all
+        → OnOk result
+        (cache.new ≡ all_interned (texts_of (map_tree T.ToIValue.tree all)) cache.old) }
+    ensures refused { (all : List (String Global × T))
+        → AlwaysYields I.next_gives deref_pair entries all
+        → IfErr result (λ e. (e ≡ Memory)
+        × SomeInterned (texts_of (map_tree T.ToIValue.tree all)) cache.old cache.new) }
 {
-    let mut pairs = Vec::with_capacity(alloc, map.len())?;
-    for (key, x) in map.iter() {
+    let mut pairs = Vec::with_capacity(alloc, count)?;
+    for (key, x) in entries {
         pairs.push_reserved(pair_of(alloc, cache, key.as_str(), x)?);
     }
-    Ok(IObject::from_pairs(alloc, pairs)?)
-}
-
-/// The pairs of a map as an object, in the order of the map. Its capacity is their count. They are made in a list with that
-/// room, which is taken first, and the object is made of it as by `from_pairs`.
-fn object_of_index_map<T: ToIValue, S: BuildHasher>(
-    alloc: Global,
-    cache: &mut StringCache<S>,
-    map: &IndexMap<String, T>,
-) -> Result<IObject, ConvertError>
-    ensures pairs { IfOk result (λ object.
-        object_tree object.pairs ≡ map_tree T.ToIValue.tree map.now.entries) }
-    ensures cache { OnOk result
-        (cache.new ≡ all_interned (texts_of (map_tree T.ToIValue.tree map.now.entries)) cache.old) }
-    ensures refused { IfErr result (λ e.
-        (e ≡ Memory)
-        × SomeInterned (texts_of (map_tree T.ToIValue.tree map.now.entries)) cache.old cache.new) }
-{
-    let mut pairs = Vec::with_capacity(alloc, map.len())?;
-    for (key, x) in map.iter() {
-        pairs.push_reserved(pair_of(alloc, cache, key.as_str(), x)?);
-    }
-    Ok(IObject::from_pairs(alloc, pairs)?)
+    let object = IObject::from_pairs(alloc, pairs)?;
+    Ok(IValue::from(object))
 }
 
 /// An object in the order of the keys, whose capacity is their count.
@@ -89,8 +80,7 @@ impl<T: ToIValue> ToIValue for BTreeMap<String, T> {
         alloc: Global,
         cache: &mut StringCache<S>,
     ) -> Result<IValue, ConvertError> {
-        let object = object_of_btree_map(alloc, cache, self)?;
-        Ok(IValue::from(object))
+        object_of(alloc, cache, self.len(), self.iter())
     }
 }
 
@@ -103,7 +93,6 @@ impl<T: ToIValue> ToIValue for IndexMap<String, T> {
         alloc: Global,
         cache: &mut StringCache<S>,
     ) -> Result<IValue, ConvertError> {
-        let object = object_of_index_map(alloc, cache, self)?;
-        Ok(IValue::from(object))
+        object_of(alloc, cache, self.len(), self.iter())
     }
 }

@@ -1,16 +1,13 @@
 use Rattle.std.proofs.Common.{rules, inr}
 use Rattle.std.specs.Int.{w16}
 use Rattle.ijson_convert.specs.laws.Whole.{wide_16}
-use Rattle.ijson_convert.proofs.Whole.{read_back, narrow_16, signed_same, signed_read, signed_past, signed_none}
+use Rattle.ijson_convert.proofs.Whole.{read_back, narrow_16, signed_found, signed_past, signed_none}
 use Rattle.ijson_convert.proofs.integers_from.I16FromIValue.from_ivalue.Goals as goal
 
-pub returns-in-Ok-clause-same : goal.returns-in-Ok-clause-same
-returns-in-Ok-clause-same c = signed_same w16 wide_16 c.in-Ok.z c.args.value.now.tree
-    (read_back c.in-Some.z c.in-Ok.z c.args.value.now.tree c.in-Some.ensures.some (search rules) c.in-Ok.ensures.1) (search rules)
-
-pub returns-in-Ok-clause-read : goal.returns-in-Ok-clause-read
-returns-in-Ok-clause-read c = signed_read w16 c.in-Ok.z c.args.value.now.tree
-    (read_back c.in-Some.z c.in-Ok.z c.args.value.now.tree c.in-Some.ensures.some (search rules) c.in-Ok.ensures.1) (search rules)
+pub returns-in-Ok : goal.returns-in-Ok
+returns-in-Ok c =
+    let read = read_back c.in-Some.z c.in-Ok.z c.args.value.now.tree c.in-Some.ensures.some (search rules) c.in-Ok.ensures.1 in
+    signed_found w16 wide_16 c.in-Ok.z c.args.value.now.tree read (search rules)
 
 pub returns-in-Err-clause-refused : goal.returns-in-Err-clause-refused
 returns-in-Err-clause-refused c = inr (signed_past w16 c.in-Some.z c.args.value.now c.in-Some.ensures.some (search rules))

@@ -1,13 +1,10 @@
 use Rattle.std.proofs.Common.{rules, inr, ◌^◌}
 use Rattle.ijson_convert.specs.laws.Whole.{below_32}
-use Rattle.ijson_convert.proofs.Whole.{unsigned_same, unsigned_read, unsigned_none}
+use Rattle.ijson_convert.proofs.Whole.{unsigned_found, unsigned_none}
 use Rattle.ijson_convert.proofs.integers_from.U32FromIValue.from_ivalue.Goals as goal
 
-pub returns-in-Some-clause-same : goal.returns-in-Some-clause-same
-returns-in-Some-clause-same c = unsigned_same (2 ^ 32) below_32 c.in-Some.m c.args.value.now.tree c.in-Some.ensures.some (search rules)
-
-pub returns-in-Some-clause-read : goal.returns-in-Some-clause-read
-returns-in-Some-clause-read c = unsigned_read (2 ^ 32) c.in-Some.m c.args.value.now.tree c.in-Some.ensures.some (search rules)
+pub returns-in-Some : goal.returns-in-Some
+returns-in-Some c = unsigned_found (2 ^ 32) below_32 c.in-Some.m c.args.value.now.tree c.in-Some.ensures.some (search rules)
 
 pub returns-in-None-clause-refused : goal.returns-in-None-clause-refused
 returns-in-None-clause-refused c = inr (unsigned_none (2 ^ 32) c.args.value.now.tree c.why_no_integer.result

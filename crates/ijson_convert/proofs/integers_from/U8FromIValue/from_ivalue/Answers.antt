@@ -1,15 +1,12 @@
 use Rattle.std.proofs.Common.{rules, inr, ◌^◌, arith}
 use Rattle.ijson_convert.specs.laws.Whole.{below_8}
-use Rattle.ijson_convert.proofs.Whole.{unsigned_back, unsigned_same, unsigned_read, unsigned_past, unsigned_none}
+use Rattle.ijson_convert.proofs.Whole.{unsigned_back, unsigned_found, unsigned_past, unsigned_none}
 use Rattle.ijson_convert.proofs.integers_from.U8FromIValue.from_ivalue.Goals as goal
 
-pub returns-in-Ok-clause-same : goal.returns-in-Ok-clause-same
-returns-in-Ok-clause-same c = unsigned_same (2 ^ 8) below_8 c.in-Ok.m c.args.value.now.tree
-    (unsigned_back c.in-Some.m c.in-Ok.m c.args.value.now.tree c.in-Some.ensures.some c.in-Ok.ensures.1) (search rules)
-
-pub returns-in-Ok-clause-read : goal.returns-in-Ok-clause-read
-returns-in-Ok-clause-read c = unsigned_read (2 ^ 8) c.in-Ok.m c.args.value.now.tree
-    (unsigned_back c.in-Some.m c.in-Ok.m c.args.value.now.tree c.in-Some.ensures.some c.in-Ok.ensures.1) (search rules)
+pub returns-in-Ok : goal.returns-in-Ok
+returns-in-Ok c =
+    let read = unsigned_back c.in-Some.m c.in-Ok.m c.args.value.now.tree c.in-Some.ensures.some c.in-Ok.ensures.1 in
+    unsigned_found (2 ^ 8) below_8 c.in-Ok.m c.args.value.now.tree read (search rules)
 
 pub returns-in-Err-clause-refused : goal.returns-in-Err-clause-refused
 returns-in-Err-clause-refused c = inr (unsigned_past (2 ^ 8) c.in-Some.m c.args.value.now c.in-Some.ensures.some (search rules))

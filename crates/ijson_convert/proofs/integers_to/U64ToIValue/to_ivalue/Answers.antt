@@ -4,9 +4,8 @@ use Rattle.ijson_convert.specs.laws.Whole.{below_64}
 use Rattle.ijson_convert.proofs.Whole.{unsigned_made}
 use Rattle.ijson_convert.proofs.integers_to.U64ToIValue.to_ivalue.Goals as goal
 
-pub returns-clause-tree : goal.returns-clause-tree
-returns-clause-tree g c = unsigned_made (2 ^ 64) below_64 c.args.self.now c.from.result c.from-2.result.tree (search rules) c.from.ensures
-    (ap tree_of c.from-2.ensures)
-
-pub returns-clause-cache : goal.returns-clause-cache
-returns-clause-cache g c = refl
+pub returns : goal.returns
+returns g c =
+    let is = ap tree_of c.from-2.ensures in
+    let made = unsigned_made (2 ^ 64) below_64 c.args.self.now c.from.result c.from-2.result.tree (search rules) c.from.ensures is in
+    record { tree = made; cache = refl; refused = tt }
