@@ -4,5 +4,5 @@
 pub use ijson_json::{
     CompactError, DeviceFault, JsonError, LineColumn, MemorySink, MemorySource, Sink, Source,
     StreamSink, StreamSource, compact, compact_value, from_json, grammar_law, line_and_column,
-    push_quoted, push_separator, report, to_json,
+    push_key, push_quoted, push_separator, report, to_json,
 };

@@ -1,7 +1,7 @@
 //! What no clause says of the crates that the program stands on: walks over values; the words that values feed a hasher; what is written
 //! of texts, where their faults are told, and devices that give and take little, and fail. Numbers are tested in `ijson_number`, texts and
-//! their cache in `ijson_string`, tables in `ijson_table`, objects and refused memory in `ijson_extra`, arrays and values in `ijson`, and
-//! what stands above these crates in both.
+//! their cache in `ijson_string`, tables in `ijson_table`, objects and refused memory in `ijson_extra`, arrays, values and the texts of
+//! faults in `ijson`, and what stands above these crates in both.
 
 mod cache;
 mod devices;
@@ -14,7 +14,7 @@ mod texts;
 mod walks;
 
 use ijson_json::{JsonError, from_json, to_json};
-use ijson_string::{IString, StringCache};
+use ijson_string::StringCache;
 use ijson_value::value::IValue;
 use std::alloc::{AllocError, Global};
 use std::hash::{BuildHasherDefault, FoldHasher};
@@ -24,11 +24,6 @@ type Cache = StringCache<BuildHasherDefault<FoldHasher>>;
 
 fn empty_cache(alloc: Global) -> Cache {
     StringCache::new(alloc, BuildHasherDefault::<FoldHasher>::new())
-}
-
-/// A text through a cache of its own.
-fn key(rt: &impl Abort, alloc: Global, letters: &str) -> IString {
-    IString::intern(&mut empty_cache(alloc), letters).expect(rt, "a text")
 }
 
 /// What `text` spells, through a cache of its own.

@@ -134,6 +134,6 @@ fn faults_without_a_value_become_errors(rt: HostRuntime) {
     is_told(&rt, alloc, PointerError::Syntax, text, "Syntax");
     let text = "a read or a write failed";
     is_told(&rt, alloc, DeviceFault, text, "DeviceFault");
-    let place = line_and_column("[\n 1", 3);
+    let place = line_and_column("[1,\né]", 6);
     is_shown(&rt, alloc, &place, "LineColumn { line: 2, column: 2 }");
 }

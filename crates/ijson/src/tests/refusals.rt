@@ -15,47 +15,54 @@ use crate::string::IString;
 use crate::table::ReserveError;
 use crate::value::IValue;
 use indexmap::IndexMap;
-use serde_json::{Map, Value};
 use std::alloc::{AllocError, Global};
 use std::collections::{BTreeMap, HashMap};
+use std::fmt::Debug;
 use std::process::Abort;
 
-/// A cache that holds one text.
+/// What a call answers, which is made again where memory is refused.
+fn granted<T: Drop, E: PartialEq + Debug + Drop, F: FnMut() -> Result<T, E> + Drop>(
+    rt: &impl Abort,
+    memory: E,
+    mut call: F,
+) -> T
+    requires { F.IsAlwaysCallable call }
+{
+    match call() {
+        Ok(answer) => answer,
+        Err(refused) => {
+            assert!(rt; refused == memory);
+            call().expect(rt, "an answer")
+        }
+    }
+}
+
+const THERE: &str = "a text that was there";
+
+/// A cache that holds this one text.
 fn used_cache(rt: &impl Abort, alloc: Global) -> Cache {
     let mut cache = empty_cache(alloc);
-    if IString::intern(&mut cache, "a text that was there").is_err() {
-        IString::intern(&mut cache, "a text that was there").expect(rt, "a text");
-    }
+    let text = granted(rt, AllocError, || IString::intern(&mut cache, THERE));
+    drop(text);
     cache
 }
 
-/// Whether a cache that held one text holds it still, and at most so many in all.
+/// Whether a cache that held the one text holds it still, and at most so many in all. No call here takes a text out of a cache, so what a
+/// refused one leaves there is seen behind the next one.
 fn is_kept(cache: &Cache, most: usize) -> bool {
-    cache.contains("a text that was there") && cache.len() <= most
+    cache.contains(THERE) && cache.len() <= most
 }
 
 /// What `text` spells, through a cache of its own.
 fn read(rt: &impl Abort, alloc: Global, text: &str) -> IValue {
     let mut cache = empty_cache(alloc);
-    match from_json(alloc, &mut cache, text) {
-        Ok(value) => value,
-        Err(refused) => {
-            assert!(rt; refused == JsonError::Memory);
-            from_json(alloc, &mut cache, text).expect(rt, text)
-        }
-    }
-}
-
-fn written(rt: &impl Abort, alloc: Global, value: &IValue) -> String {
-    match to_json(alloc, value) {
-        Ok(text) => text,
-        Err(AllocError) => to_json(alloc, value).expect(rt, "a text"),
-    }
+    granted(rt, JsonError::Memory, || from_json(alloc, &mut cache, text))
 }
 
 /// Asserts that a text is what is written of a value.
 fn is_written(rt: &impl Abort, alloc: Global, value: &IValue, text: &str) {
-    assert!(rt; written(rt, alloc, value).as_str() == text);
+    let written = granted(rt, AllocError, || to_json(alloc, value));
+    assert!(rt; written.as_str() == text);
 }
 
 /// What a map does with its keys.
@@ -84,17 +91,6 @@ pub(super) fn object_of_map(
     }
 }
 
-/// The object of such a map.
-fn mapped(rt: &impl Abort, alloc: Global, cache: &mut Cache, keys: Keys) -> IObject {
-    match object_of_map(alloc, cache, keys) {
-        Ok(object) => object,
-        Err(why) => {
-            assert!(rt; why == ReserveError::Memory);
-            object_of_map(alloc, cache, keys).expect(rt, "an object")
-        }
-    }
-}
-
 /// Asserts that each pair of the maps is in an object.
 fn has_pairs(rt: &impl Abort, object: &IObject) {
     for (key, n) in [("b", 1i8), ("a", 2), ("eight888", 3)] {
@@ -106,7 +102,9 @@ fn has_pairs(rt: &impl Abort, object: &IObject) {
 fn maps(rt: HostRuntime) {
     let mut cache = empty_cache(rt.alloc());
     for keys in [Keys::Hashes, Keys::Sorts, Keys::Keeps] {
-        let object = mapped(&rt, rt.alloc(), &mut cache, keys);
+        let object = granted(&rt, ReserveError::Memory, || {
+            object_of_map(rt.alloc(), &mut cache, keys)
+        });
         assert!(rt; object.len() == 3 && object.capacity() == 3);
         has_pairs(&rt, &object);
     }
@@ -115,35 +113,17 @@ fn maps(rt: HostRuntime) {
 /// The maps of the test that follows.
 type Lists = BTreeMap<String, Vec<Option<i32>>>;
 
-/// The lists of a value.
-fn lists_of(rt: &impl Abort, alloc: Global, value: &IValue) -> Lists {
-    match from_value::<Lists>(alloc, value) {
-        Ok(lists) => lists,
-        Err(refused) => {
-            assert!(rt; refused == ConvertError::Memory);
-            from_value::<Lists>(alloc, value).expect(rt, "lists")
-        }
-    }
-}
-
-/// The value of lists with one long key.
-fn of_lists(rt: &impl Abort, alloc: Global, cache: &mut Cache, lists: &Lists) -> IValue {
-    match to_value(alloc, cache, lists) {
-        Ok(value) => value,
-        Err(refused) => {
-            assert!(rt; refused == ConvertError::Memory && is_kept(cache, 2));
-            to_value(alloc, cache, lists).expect(rt, "a value")
-        }
-    }
-}
-
 #[test]
 fn conversions(rt: HostRuntime) {
     let text = "{\"a\":[1,null],\"b\":[],\"eight888\":[-2]}";
     let value = read(&rt, rt.alloc(), text);
-    let lists = lists_of(&rt, rt.alloc(), &value);
+    let lists = granted(&rt, ConvertError::Memory, || {
+        from_value::<Lists>(rt.alloc(), &value)
+    });
     let mut cache = used_cache(&rt, rt.alloc());
-    let again = of_lists(&rt, rt.alloc(), &mut cache, &lists);
+    let again = granted(&rt, ConvertError::Memory, || {
+        to_value(rt.alloc(), &mut cache, &lists)
+    });
     assert!(rt; is_kept(&cache, 2) && cache.contains("eight888") && again == value);
     is_written(&rt, rt.alloc(), &again, text);
 }
@@ -153,89 +133,39 @@ fn literal(alloc: Global, cache: &mut Cache) -> Result<IValue, ConvertError> {
     ijson!(alloc, cache; {"a": [1u8, null, "eight888"], "longlong": {"b": [true, {}]}, "c": {}, "a": ["x"]})
 }
 
-/// The value of the literal.
-fn of_literal(rt: &impl Abort, alloc: Global, cache: &mut Cache) -> IValue {
-    match literal(alloc, cache) {
-        Ok(value) => value,
-        Err(refused) => {
-            assert!(rt; refused == ConvertError::Memory && is_kept(cache, 3));
-            literal(alloc, cache).expect(rt, "a value")
-        }
-    }
-}
-
 #[test]
 fn literals(rt: HostRuntime) {
     let mut cache = used_cache(&rt, rt.alloc());
-    let value = of_literal(&rt, rt.alloc(), &mut cache);
+    let value = granted(
+        &rt,
+        ConvertError::Memory,
+        || literal(rt.alloc(), &mut cache),
+    );
     assert!(rt; is_kept(&cache, 3));
     let text = r#"{"a":["x"],"longlong":{"b":[true,{}]},"c":{}}"#;
     is_written(&rt, rt.alloc(), &value, text);
 }
 
-/// A value as `serde_json` has it.
-fn there(rt: &impl Abort, alloc: Global, value: &IValue) -> Value {
-    match to_serde(alloc, value) {
-        Ok(there) => there,
-        Err(refused) => {
-            assert!(rt; refused == ConvertError::Memory);
-            to_serde(alloc, value).expect(rt, "a value there")
-        }
-    }
-}
-
-/// A value that comes back from `serde_json`.
-fn back(rt: &impl Abort, alloc: Global, cache: &mut Cache, there: &Value) -> IValue {
-    match from_serde(alloc, cache, there) {
-        Ok(back) => back,
-        Err(refused) => {
-            assert!(rt; refused == ConvertError::Memory && is_kept(cache, 3));
-            from_serde(alloc, cache, there).expect(rt, "a value")
-        }
-    }
-}
-
 /// Asserts that a value gone to `serde_json` and back is the same.
 fn there_and_back(rt: &impl Abort, alloc: Global, value: &IValue) {
     let mut cache = used_cache(rt, alloc);
-    let there = there(rt, alloc, value);
-    assert!(rt; back(rt, alloc, &mut cache, &there) == *value);
-    assert!(rt; cache.len() == 3);
-}
-
-/// An object as a map of `serde_json`.
-fn map_there(rt: &impl Abort, alloc: Global, object: &IObject) -> Map<String, Value> {
-    match to_serde_map(alloc, object) {
-        Ok(there) => there,
-        Err(refused) => {
-            assert!(rt; refused == ConvertError::Memory);
-            to_serde_map(alloc, object).expect(rt, "a map there")
-        }
-    }
-}
-
-/// An object that comes back from a map of `serde_json`.
-fn map_back(
-    rt: &impl Abort,
-    alloc: Global,
-    cache: &mut Cache,
-    there: &Map<String, Value>,
-) -> IObject {
-    match from_serde_map(alloc, cache, there) {
-        Ok(back) => back,
-        Err(refused) => {
-            assert!(rt; refused == ConvertError::Memory && is_kept(cache, 3));
-            from_serde_map(alloc, cache, there).expect(rt, "an object")
-        }
-    }
+    let there = granted(rt, ConvertError::Memory, || to_serde(alloc, value));
+    let back = granted(
+        rt,
+        ConvertError::Memory,
+        || from_serde(alloc, &mut cache, &there),
+    );
+    assert!(rt; back == *value && is_kept(&cache, 3) && cache.len() == 3);
 }
 
 /// The same of an object, as a map of `serde_json`.
 fn map_and_back(rt: &impl Abort, alloc: Global, object: &IObject) {
     let mut cache = used_cache(rt, alloc);
-    let there = map_there(rt, alloc, object);
-    assert!(rt; map_back(rt, alloc, &mut cache, &there) == *object);
-    assert!(rt; cache.len() == 3);
+    let there = granted(rt, ConvertError::Memory, || to_serde_map(alloc, object));
+    let back = granted(rt, ConvertError::Memory, || {
+        from_serde_map(alloc, &mut cache, &there)
+    });
+    assert!(rt; back == *object && is_kept(&cache, 3) && cache.len() == 3);
 }
 
 #[test]

@@ -2,9 +2,8 @@
 
 use super::devices::compacts;
 use super::{nested, rewritten};
-use ijson_json::{CompactError, DeviceFault, JsonError, line_and_column};
+use ijson_json::JsonError;
 use std::alloc::{AllocError, Global};
-use std::fmt::{Debug, Display};
 use std::process::Abort;
 
 /// Texts that are no JSON, and where that is told.
@@ -153,65 +152,4 @@ fn too_deep(rt: HostRuntime) {
         let text = format!(in alloc; "{front}{deep}{behind}").expect(&rt, "a text");
         refused(&rt, alloc, text.as_str(), JsonError::TooDeep { at });
     }
-}
-
-/// Why texts are refused, and what `Display` and `Debug` write of that.
-const SHOWN: [(JsonError, &str, &str); 4] = [
-    (
-        JsonError::Syntax { at: 3 },
-        "syntax at byte 3",
-        "Syntax { at: 3 }",
-    ),
-    (
-        JsonError::TooDeep { at: 127 },
-        "nesting too deep at byte 127",
-        "TooDeep { at: 127 }",
-    ),
-    (
-        JsonError::NumberRange { at: 0 },
-        "number out of range at byte 0",
-        "NumberRange { at: 0 }",
-    ),
-    (JsonError::Memory, "out of memory", "Memory"),
-];
-
-/// Why texts are not compacted, and what `Display` and `Debug` write of that.
-const SHOWN_OF_COMPACT: [(CompactError, &str, &str); 5] = [
-    (CompactError::Read, "read failed", "Read"),
-    (CompactError::NotUtf8, "input is not UTF-8", "NotUtf8"),
-    (
-        CompactError::Json(JsonError::Syntax { at: 3 }),
-        "syntax at byte 3",
-        "Json(Syntax { at: 3 })",
-    ),
-    (CompactError::Write, "write failed", "Write"),
-    (CompactError::Memory, "out of memory", "Memory"),
-];
-
-/// Asserts what `Display` and `Debug` write.
-fn is_shown<E: Display + Debug>(
-    rt: &impl Abort,
-    alloc: Global,
-    fault: &E,
-    displayed: &str,
-    debugged: &str,
-) {
-    let found = format!(in alloc; "{fault} {fault:?}").expect(rt, "a text");
-    let want = format!(in alloc; "{displayed} {debugged}").expect(rt, "a text");
-    assert!(rt; found == want, "{want}");
-}
-
-#[test]
-fn faults_are_shown(rt: HostRuntime) {
-    let alloc = rt.alloc();
-    for (fault, displayed, debugged) in SHOWN {
-        is_shown(&rt, alloc, &fault, displayed, debugged);
-    }
-    for (fault, displayed, debugged) in SHOWN_OF_COMPACT {
-        is_shown(&rt, alloc, &fault, displayed, debugged);
-    }
-    let text = "a read or a write failed";
-    is_shown(&rt, alloc, &DeviceFault, text, "DeviceFault");
-    let place = format!(in alloc; "{:?}", line_and_column("[1,\né]", 6)).expect(&rt, "a text");
-    assert!(rt; place.as_str() == "LineColumn { line: 2, column: 2 }");
 }

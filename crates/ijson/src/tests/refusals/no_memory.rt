@@ -1,5 +1,5 @@
-//! Calls that take no memory. They are right whichever request is refused, so also where it is the next one after them, and a thousand rounds
-//! of them make as many requests as one does.
+//! Calls that take no memory. They are right whichever request is refused, so also where it is the next one after them, and a thousand
+//! rounds of them make as many requests as one does.
 
 use super::read;
 use crate::convert::{from_serde_number, to_serde_number};
