@@ -1,5 +1,5 @@
--- From a value that is whole to an integer type.
 use Rattle.std.proofs.Common.{◌≡◌, ◌<◌, ◌^◌, ◌∙◌, ℕ, Option, Result, None, Ok, Err, refl, ap, sym, subst, arith}
+-- From a value that is whole to an integer type.
 use Rattle.std.specs.Prelude.{ℤ, pos, nat_abs, FitsSigned, IfSome, IfNone}
 use Rattle.std.specs.Int.{FitsUnsigned}
 use Rattle.std.specs.Result.{OkIff, result_ok}
@@ -64,3 +64,8 @@ unsigned width {n} = from_value pos (λ m. m < 2 ^ bits width) n nat_abs (FitsUn
 pub none_unsigned : (width : Width) (n : Decimal) {o : Option ℕ} → 2 ^ bits width < 10 ^ 20
     → ((z : ℤ) → nat_abs z < 10 ^ 20 → HasValue n z → ⊥) → o ≡ None → IsConverted n pos (λ m. m < 2 ^ bits width) o
 none_unsigned width n narrow = none_near pos (λ m. m < 2 ^ bits width) n (λ m l. omega arith)
+
+-- and for a signed type
+pub none_signed : (width : Width) (n : Decimal) {o : Option ℤ} → ((z : ℤ) → FitsSigned width z → nat_abs z < 10 ^ 20)
+    → ((z : ℤ) → nat_abs z < 10 ^ 20 → HasValue n z → ⊥) → o ≡ None → IsConverted n (λ z. z) (FitsSigned width) o
+none_signed width n = none_near (λ z. z) (FitsSigned width) n

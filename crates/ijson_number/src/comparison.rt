@@ -55,7 +55,8 @@ fn compare_digits<D: DigitRow>(a: &D, b: &D, looks: &mut Looks) -> Ordering
     ensures grows { looks.old ≤ looks.new }
     ensures bounded { looks.new ≤ looks.old + most_looks (D.num a.now).decimal (D.num b.now).decimal }
 {
-    let (count, other_count) = (a.count(), b.count());
+    let count = a.count();
+    let other_count = b.count();
     for at in 0..count.min(other_count) {
         let digit = a.digit(at, looks);
         let other = b.digit(at, looks);
@@ -78,7 +79,8 @@ fn compare_magnitudes<D: DigitRow>(a: &D, b: &D, looks: &mut Looks) -> Ordering
     ensures unread { (leading_place (D.num a.now).decimal ≡ leading_place (D.num b.now).decimal → ⊥)
         → looks.new ≡ looks.old }
 {
-    let (place, other_place) = (a.lead(), b.lead());
+    let place = a.lead();
+    let other_place = b.lead();
     if place == other_place {
         compare_digits(a, b, looks)
     } else {
@@ -97,7 +99,8 @@ pub fn compare<D: DigitRow>(a: &D, b: &D, looks: &mut Looks) -> Ordering
     ensures bounded { looks.new ≤ looks.old + most_looks (D.num a.now).decimal (D.num b.now).decimal }
     ensures unread { (NeedsDigits (D.num a.now).decimal (D.num b.now).decimal → ⊥) → looks.new ≡ looks.old }
 {
-    let (sign, other_sign) = (a.sign(), b.sign());
+    let sign = a.sign();
+    let other_sign = b.sign();
     if sign != other_sign {
         return sign.cmp(&other_sign);
     }

@@ -21,11 +21,10 @@ impl PartialEq for INumber {
         if self.stored.is_same_word(&other.stored) {
             return true;
         }
-        let (mut buffer, mut other_buffer) = ([0; MAX_DIGITS], [0; MAX_DIGITS]);
-        let (a, b) = (
-            self.stripped(&mut buffer),
-            other.stripped(&mut other_buffer),
-        );
+        let mut buffer = [0; MAX_DIGITS];
+        let mut other_buffer = [0; MAX_DIGITS];
+        let a = self.stripped(&mut buffer);
+        let b = other.stripped(&mut other_buffer);
         if a.negative != b.negative || a.exponent != b.exponent {
             return false;
         }
@@ -60,11 +59,10 @@ impl Ord for INumber {
     ghost matches_eq = { λ a b. refl };
 
     fn cmp(&self, other: &INumber) -> Ordering {
-        let (mut buffer, mut other_buffer) = ([0; MAX_DIGITS], [0; MAX_DIGITS]);
-        let (a, b) = (
-            self.stripped(&mut buffer),
-            other.stripped(&mut other_buffer),
-        );
+        let mut buffer = [0; MAX_DIGITS];
+        let mut other_buffer = [0; MAX_DIGITS];
+        let a = self.stripped(&mut buffer);
+        let b = other.stripped(&mut other_buffer);
         compare(&a, &b, &mut Looks::new())
     }
 }

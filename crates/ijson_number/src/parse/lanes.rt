@@ -22,7 +22,7 @@ const HUNDREDS: [u8; LANES] = [10, 1, 0, 0, 10, 1, 0, 0, 10, 1, 0, 0, 10, 1, 0, 
 const UNITS: [u8; LANES] = [0, 0, 10, 1, 0, 0, 10, 1, 0, 0, 10, 1, 0, 0, 10, 1];
 
 /// Ten to each count of digits.
-const POWERS: [u64; LANES + 1] = [
+static POWERS: [u64; LANES + 1] = [
     1,
     10,
     100,

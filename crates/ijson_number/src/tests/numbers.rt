@@ -8,7 +8,7 @@ use std::fmt::Debug;
 use std::process::Abort;
 
 /// Texts, the text that each is written as, and whether it has float shape.
-const ROWS: [(&str, &str, bool); 18] = [
+static ROWS: [(&str, &str, bool); 18] = [
     ("-0", "0", false),
     ("-0.0", "0.0", true),
     ("1.50", "1.5", true),
@@ -66,13 +66,13 @@ fn written(rt: &impl Abort, alloc: Global, text: &str, want: &str, point: bool) 
 
 #[test]
 fn rows(rt: HostRuntime) {
-    for (text, want, point) in ROWS {
+    for &(text, want, point) in &ROWS {
         written(&rt, rt.alloc(), text, want, point);
     }
 }
 
 /// Texts, the stripped digits of each, and their exponent.
-const STRIPPED: [(&str, &str, i32); 15] = [
+static STRIPPED: [(&str, &str, i32); 15] = [
     ("0", "", 0),
     ("-0.00", "", 0),
     ("-0.50", "5", -1),
@@ -109,7 +109,7 @@ fn strips(rt: &impl Abort, alloc: Global, text: &str, digits: &str, want: i32) {
 
 #[test]
 fn stripped_texts(rt: HostRuntime) {
-    for (text, digits, exponent) in STRIPPED {
+    for &(text, digits, exponent) in &STRIPPED {
         strips(&rt, rt.alloc(), text, digits, exponent);
     }
 }
@@ -120,7 +120,7 @@ fn debugs(rt: &impl Abort, alloc: Global, value: &impl Debug, want: &str) {
 }
 
 /// Forms, and what `Debug` writes of each.
-const SHOWN: [(Form<'static>, &str); 4] = [
+static SHOWN: [(Form<'static>, &str); 4] = [
     (
         Form::Packed {
             mantissa: -25,
@@ -144,7 +144,7 @@ const SHOWN: [(Form<'static>, &str); 4] = [
 
 #[test]
 fn debug_texts(rt: HostRuntime) {
-    for (form, want) in SHOWN {
+    for &(form, want) in &SHOWN {
         debugs(&rt, rt.alloc(), &form, want);
     }
     let mut looks = Looks::new();
@@ -220,7 +220,7 @@ fn tells(rt: &impl Abort, alloc: Global, error: &impl Error, want: &str) {
 }
 
 /// Texts of no number, or of none in range.
-const INVALID: [&str; 12] = [
+static INVALID: [&str; 12] = [
     "",
     "01",
     "1.",
@@ -237,7 +237,7 @@ const INVALID: [&str; 12] = [
 
 #[test]
 fn refusals(rt: HostRuntime) {
-    for text in INVALID {
+    for text in &INVALID {
         refused(&rt, rt.alloc(), text);
     }
     let invalid = "not a JSON number, or its exponent is out of range";
@@ -246,7 +246,7 @@ fn refusals(rt: HostRuntime) {
 }
 
 /// Texts, and where the first fault of each is, if it has one.
-const FAULTS: [(&str, Option<usize>); 14] = [
+static FAULTS: [(&str, Option<usize>); 14] = [
     ("", Some(0)),
     ("+1", Some(0)),
     ("-", Some(1)),
@@ -265,13 +265,13 @@ const FAULTS: [(&str, Option<usize>); 14] = [
 
 #[test]
 fn faults(rt: HostRuntime) {
-    for (text, want) in FAULTS {
+    for &(text, want) in &FAULTS {
         assert!(rt; first_fault(text) == want, "{text}");
     }
 }
 
 /// Texts, and how many bytes of each are read at the front.
-const FRONTS: [(&str, Option<usize>); 9] = [
+static FRONTS: [(&str, Option<usize>); 9] = [
     ("12", Some(2)),
     ("-1.50]", Some(5)),
     ("1.5.5", Some(3)),
@@ -285,7 +285,7 @@ const FRONTS: [(&str, Option<usize>); 9] = [
 
 #[test]
 fn fronts(rt: HostRuntime) {
-    for (text, want) in FRONTS {
+    for &(text, want) in &FRONTS {
         let found = INumber::at_front(rt.alloc(), text).expect(&rt, "room");
         let length = match found {
             Some((_, length)) => Some(length),
@@ -296,7 +296,7 @@ fn fronts(rt: HostRuntime) {
 }
 
 /// Two texts, and whether their numbers are equal.
-const PAIRS: [(&str, &str, bool); 7] = [
+static PAIRS: [(&str, &str, bool); 7] = [
     ("-0", "-0.0", true),
     ("2", "20e-1", true),
     ("100", "100.0", true),
@@ -308,7 +308,7 @@ const PAIRS: [(&str, &str, bool); 7] = [
 
 #[test]
 fn equality(rt: HostRuntime) {
-    for (a, b, want) in PAIRS {
+    for &(a, b, want) in &PAIRS {
         let is_equal = number(&rt, rt.alloc(), a) == number(&rt, rt.alloc(), b);
         assert!(rt; is_equal == want, "{a} {b}");
     }
@@ -331,7 +331,7 @@ fn unsigned(rt: &impl Abort, number: INumber, long: Option<u64>, short: Option<u
 }
 
 /// Texts, and what each is as an `i64` and as an `i32`.
-const SIGNED: [(&str, Option<i64>, Option<i32>); 5] = [
+static SIGNED: [(&str, Option<i64>, Option<i32>); 5] = [
     ("12345678901234567890.0", None, None),
     ("1e19", None, None),
     ("-9223372036854775808.0", Some(i64::MIN), None),
@@ -341,13 +341,13 @@ const SIGNED: [(&str, Option<i64>, Option<i32>); 5] = [
 
 #[test]
 fn signed_texts(rt: HostRuntime) {
-    for (text, long, short) in SIGNED {
+    for &(text, long, short) in &SIGNED {
         signed(&rt, number(&rt, rt.alloc(), text), long, short);
     }
 }
 
 /// Texts, and what each is as a `u64` and as a `u32`.
-const UNSIGNED: [(&str, Option<u64>, Option<u32>); 4] = [
+static UNSIGNED: [(&str, Option<u64>, Option<u32>); 4] = [
     ("12345678901234567890.0", Some(12345678901234567890), None),
     ("1e19", Some(10000000000000000000), None),
     ("-0.0", Some(0), Some(0)),
@@ -356,7 +356,7 @@ const UNSIGNED: [(&str, Option<u64>, Option<u32>); 4] = [
 
 #[test]
 fn unsigned_texts(rt: HostRuntime) {
-    for (text, long, short) in UNSIGNED {
+    for &(text, long, short) in &UNSIGNED {
         unsigned(&rt, number(&rt, rt.alloc(), text), long, short);
     }
 }
@@ -406,7 +406,7 @@ fn unsigned_ranges(rt: HostRuntime) {
 }
 
 /// In strictly ascending order.
-const ASCENDING: [&str; 18] = [
+static ASCENDING: [&str; 18] = [
     "-1e1073741824",
     "-18446744073709551616",
     "-9223372036854775808",
@@ -445,7 +445,7 @@ fn order(rt: HostRuntime) {
 }
 
 /// Texts that are packed: the word, and the mantissa, the exponent and whether the shape is float in it.
-const PACKED: [(&str, u64, i64, i8, bool); 17] = [
+static PACKED: [(&str, u64, i64, i8, bool); 17] = [
     ("0", 0x00000000000000f8, 0, 0, false),
     ("-0", 0x00000000000000f8, 0, 0, false),
     ("1", 0x00000000000001f8, 1, 0, false),
@@ -496,7 +496,7 @@ const PACKED: [(&str, u64, i64, i8, bool); 17] = [
 ];
 
 /// Texts whose digits are stored: the sign, the digits, the exponent, and whether the shape is float.
-const STORED_DIGITS: [(&str, bool, &[u8], i32, bool); 7] = [
+static STORED_DIGITS: [(&str, bool, &[u8], i32, bool); 7] = [
     (
         "36028797018963968.0",
         false,
@@ -549,7 +549,7 @@ fn word_of(number: &INumber) -> Option<u64> {
 
 #[test]
 fn packed_forms(rt: HostRuntime) {
-    for (text, word, mantissa, exponent, point) in PACKED {
+    for &(text, word, mantissa, exponent, point) in &PACKED {
         let form = Form::Packed {
             mantissa,
             exponent,
@@ -564,7 +564,7 @@ fn packed_forms(rt: HostRuntime) {
 }
 
 /// Texts, and the word that each is kept in.
-const STORED_WORDS: [(&str, Form<'static>); 3] = [
+static STORED_WORDS: [(&str, Form<'static>); 3] = [
     ("36028797018963968", Form::I64(36028797018963968)),
     ("9223372036854775808", Form::U64(9223372036854775808)),
     ("-9223372036854775808", Form::I64(i64::MIN)),
@@ -572,7 +572,7 @@ const STORED_WORDS: [(&str, Form<'static>); 3] = [
 
 #[test]
 fn word_forms(rt: HostRuntime) {
-    for (text, form) in STORED_WORDS {
+    for &(text, form) in &STORED_WORDS {
         formed(&rt, rt.alloc(), text, form);
     }
 }
@@ -596,7 +596,7 @@ fn kind_of(form: Form<'_>) -> Kind {
 }
 
 /// Texts one below, at and one above each place where the stored form changes, of both signs and both shapes.
-const BOUNDARIES: [(&str, Kind); 44] = [
+static BOUNDARIES: [(&str, Kind); 44] = [
     ("36028797018963967", Kind::Packed),
     ("36028797018963968", Kind::I64),
     ("36028797018963969", Kind::I64),
@@ -645,14 +645,14 @@ const BOUNDARIES: [(&str, Kind); 44] = [
 
 #[test]
 fn form_boundaries(rt: HostRuntime) {
-    for (text, want) in BOUNDARIES {
+    for &(text, want) in &BOUNDARIES {
         let number = number(&rt, rt.alloc(), text);
         assert!(rt; kind_of(number.form()) == want, "{text}");
     }
 }
 
 /// Two texts, their order, and how many digits are read for it.
-const COMPARED: [(&str, &str, Ordering, u128); 8] = [
+static COMPARED: [(&str, &str, Ordering, u128); 8] = [
     ("1e1073741824", "7", Ordering::Greater, 0),
     (
         "18446744073709551616",
@@ -670,7 +670,7 @@ const COMPARED: [(&str, &str, Ordering, u128); 8] = [
 
 #[test]
 fn looks_of_compare(rt: HostRuntime) {
-    for (a, b, want, count) in COMPARED {
+    for &(a, b, want, count) in &COMPARED {
         let (a, b) = (number(&rt, rt.alloc(), a), number(&rt, rt.alloc(), b));
         let mut looks = Looks::new();
         // The counts show that the looks fit.
@@ -682,7 +682,7 @@ fn looks_of_compare(rt: HostRuntime) {
 
 #[test]
 fn digit_forms(rt: HostRuntime) {
-    for (text, negative, digits, exponent, point) in STORED_DIGITS {
+    for &(text, negative, digits, exponent, point) in &STORED_DIGITS {
         let form = Form::Digits {
             negative,
             digits,

@@ -22,3 +22,31 @@ returns-in-Long c =
     ∙ sym (ap stored_decimal c.in-Long.is) ∙ ap (λ (x : Num). x.decimal) c.self.view_is in
     rw (← row_digits n.negative n.digits.now n.exponent n.point c.args.self.now.decimal view n.stripped)
     (record { digits = c.push_runs.ensures.written; exponent = search rules; refused = c.push_runs.ensures.refused })
+
+-- what the check tries where no answer stands takes longer than these
+pub returns-in-Packed-clause-digits : goal.returns-in-Packed-clause-digits
+returns-in-Packed-clause-digits c = search rules
+
+pub returns-in-Packed-clause-exponent : goal.returns-in-Packed-clause-exponent
+returns-in-Packed-clause-exponent c = search rules
+
+pub returns-in-Packed-clause-refused : goal.returns-in-Packed-clause-refused
+returns-in-Packed-clause-refused c = search rules
+
+pub returns-in-I64-clause-digits : goal.returns-in-I64-clause-digits
+returns-in-I64-clause-digits c = search rules
+
+pub returns-in-I64-clause-exponent : goal.returns-in-I64-clause-exponent
+returns-in-I64-clause-exponent c = search rules
+
+pub returns-in-I64-clause-refused : goal.returns-in-I64-clause-refused
+returns-in-I64-clause-refused c = search rules
+
+pub returns-in-U64-clause-digits : goal.returns-in-U64-clause-digits
+returns-in-U64-clause-digits c = search rules
+
+pub returns-in-U64-clause-exponent : goal.returns-in-U64-clause-exponent
+returns-in-U64-clause-exponent c = search rules
+
+pub returns-in-U64-clause-refused : goal.returns-in-U64-clause-refused
+returns-in-U64-clause-refused c = search rules

@@ -1,4 +1,5 @@
 use Rattle.std.proofs.Common.{◌≡◌, ◌+◌, ◌++◌, length, take, sym, ap, ◌∙◌, append_assoc, arith}
+use Rattle.std.proofs.lemmas.Grind.{common_steps}
 use Rattle.std.proofs.lemmas.List.{length-append, length-take-le, take-append-drop}
 use Rattle.ijson_number.specs.Grammar.{value}
 use Rattle.ijson_number.proofs.storing.DigitBounds.{joined_value, room_left}
@@ -72,3 +73,7 @@ returns-in_err-magnitude-clause-none c =
     rw c.from_residual.ensures
     (λ p rest f. c.in_err-magnitude.ensures.none f.fraction_text rest
     (plain_parts c.args.text.now _ _ _ _ p rest _ c.split_sign-negative.ensures s.front s.back s.front_len t.digits t.all f).1)
+
+-- what the check tries where no answer stands takes longer than these
+pub overflow_sub-prefix : goal.overflow_sub-prefix
+overflow_sub-prefix c = grind (arith, common_steps)

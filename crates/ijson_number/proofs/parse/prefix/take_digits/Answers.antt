@@ -1,4 +1,5 @@
 use Rattle.std.proofs.Common.{◌≡◌, ℕ, ◌*◌, ◌+◌, ◌-◌, ◌<◌, ◌^◌, true, get_or, sym, ◌∙◌, arith}
+use Rattle.std.proofs.lemmas.Grind.{common_steps}
 use Rattle.std.specs.Char.{is_ascii_digit}
 use Rattle.std.proofs.lemmas.Bool.Decides.{nat_tests}
 use Rattle.ijson_number.specs.Grammar.{IsDigit}
@@ -40,3 +41,10 @@ loop-count-preserved c =
           (digit (goal.at.loop-count-preserved c).Then-is_ascii_digit);
       value = rw (l.invariant.value, c.from.ensures) (append_step c.args.number c.args.bytes.now l.count c.if-count-bytes.true);
     }
+
+-- what the check tries where no answer stands takes longer than these
+pub returns-else-is_ascii_digit : goal.returns-else-is_ascii_digit
+returns-else-is_ascii_digit c = grind (arith, common_steps)
+
+pub returns-else-count-bytes : goal.returns-else-count-bytes
+returns-else-count-bytes c = grind (arith, common_steps)

@@ -5,11 +5,18 @@ use Rattle.std.proofs.lemmas.List.{map-id}
 use Rattle.std.proofs.lemmas.Slice.Zip.{AllZip-map}
 use mir.Syntax.{w32}
 use Rattle.ijson_number.proofs.number.clone.LongNumberClone.clone.Goals as goal
+use Rattle.ijson_number.proofs.number.clone.LongNumberClone.clone.Goals.{In_ok-digits}
+
+-- the copy has the digits
+same_digits : (c : In_ok-digits) → c.in_ok-digits.digits.items ≡ c.args.self.now.digits.items
+same_digits c =
+    AllZip-map {A = ℕ} {B = ℕ} (λ x. x) _ _ c.in_ok-digits.ensures.cases.0 ∙ map-id c.args.self.now.digits.items
+
+pub invariant_of-result : goal.invariant_of-result
+invariant_of-result c = record { stripped = rw (same_digits (goal.at.invariant_of-result c).In_ok-digits) c.args.self.now.stripped }
 
 pub returns : goal.returns
 returns c =
     let n = c.args.self.now in
     let fits : FitsSigned w32 n.exponent = search rules in
-    let same : c.in_ok-digits.digits.items ≡ n.digits.items = AllZip-map {A = ℕ} {B = ℕ} (λ x. x) _ _ c.in_ok-digits.ensures.cases.0
-    ∙ map-id n.digits.items in
-    record { cases = rw (same, to_z-of_z w32 n.exponent fits) refl }
+    record { cases = rw (same_digits (goal.at.returns c).In_ok-digits, to_z-of_z w32 n.exponent fits) refl }

@@ -76,3 +76,40 @@ returns-then-exponent-lt27-clause-outside c = λ some outside.
       | inl below ↦ absurd (omega (arith, ints, exact, is, low, below))
       | inr above ↦ absurd (omega (arith, ints, exact, is, high, above))
     ]
+
+-- what the check tries where no answer stands takes longer than these
+pub returns-then-self-eq0-clause-form : goal.returns-then-self-eq0-clause-form
+returns-then-self-eq0-clause-form c = search rules
+
+pub returns-then-self-eq0-clause-outside : goal.returns-then-self-eq0-clause-outside
+returns-then-self-eq0-clause-outside c = search rules
+
+pub returns-then-exponent-lt27-clause-form : goal.returns-then-exponent-lt27-clause-form
+returns-then-exponent-lt27-clause-form c = search rules
+
+pub returns-clause-outside : goal.returns-clause-outside
+returns-clause-outside c = search rules
+
+pub overflow_cast-exponent : goal.overflow_cast-exponent
+overflow_cast-exponent c = search rules
+
+pub overflow_sub-exponent : goal.overflow_sub-exponent
+overflow_sub-exponent c = search rules
+
+pub overflow_sub-exponent-2 : goal.overflow_sub-exponent-2
+overflow_sub-exponent-2 c = search rules
+
+pub overflow_cast-exponent-2 : goal.overflow_cast-exponent-2
+overflow_cast-exponent-2 c = search rules
+
+pub overflow_add-exponent : goal.overflow_add-exponent
+overflow_add-exponent c = search rules
+
+pub without_zeros-number-requires : goal.without_zeros-number-requires
+without_zeros-number-requires c = search rules
+
+pub of_number-requires-clause-some : goal.of_number-requires-clause-some
+of_number-requires-clause-some c = search rules
+
+pub of_number-requires-clause-few : goal.of_number-requires-clause-few
+of_number-requires-clause-few c = search rules

@@ -1,4 +1,5 @@
-use Rattle.std.proofs.Common.{◌≡◌, ◌∙◌, ◌++◌, ap, sym, rules}
+use Rattle.std.proofs.Common.{arith, ◌≡◌, ◌∙◌, ◌++◌, ap, sym, rules}
+use Rattle.std.proofs.lemmas.Grind.{common_steps}
 use Rattle.std.specs.Prelude.{FitsSigned}
 use Rattle.std.proofs.lemmas.Int.{to_z-of_z}
 use mir.Syntax.{w32}
@@ -19,3 +20,7 @@ returns c =
     ∙ ap (λ x. x ++ digits_from_text s.front.now) c.new-digits.ensures.items) c.in_ok-push_apart-2.ensures in
     ap long_form c.in_ok-long.ensures.ok
     ∙ rw (is, to_z-of_z w32 s.exponent fits) (sym (stored_form s.negative (scanned_digits s) s.exponent s.point c.requires.stored))
+
+-- what the check tries where no answer stands takes longer than these
+pub invariant_of-long : goal.invariant_of-long
+invariant_of-long c = grind (arith, common_steps)

@@ -78,3 +78,37 @@ returns-in_default-try_from-clause-none c =
     c.in_default-try_from.field-0 c.try_from-in_default.ensures c.in_default-try_from.is (rw exact h)) in
     integer_digits (decimal_of n) v n.num.plain c.requires c.in_ok-value.ensures.some (not_packed at.Else-is_packed_mantissa)
     (no_signed at.In_default) unsigned
+
+-- what the check tries where no answer stands takes longer than these
+pub returns-in_err-value-clause-some : goal.returns-in_err-value-clause-some
+returns-in_err-value-clause-some c = search rules
+
+pub returns-then-is_packed_mantissa-clause-none : goal.returns-then-is_packed_mantissa-clause-none
+returns-then-is_packed_mantissa-clause-none c = search rules
+
+pub returns-in-Ok-clause-none : goal.returns-in-Ok-clause-none
+returns-in-Ok-clause-none c = search rules
+
+pub returns-in-Ok-try_from-clause-none : goal.returns-in-Ok-try_from-clause-none
+returns-in-Ok-try_from-clause-none c = search rules
+
+pub returns-in_default-try_from-clause-some : goal.returns-in_default-try_from-clause-some
+returns-in_default-try_from-clause-some c = search rules
+
+pub overflow_cast-value : goal.overflow_cast-value
+overflow_cast-value c = search rules
+
+pub whole-requires : goal.whole-requires
+whole-requires c = search rules
+
+pub is_packed_mantissa-requires : goal.is_packed_mantissa-requires
+is_packed_mantissa-requires c = search rules
+
+pub integer-requires : goal.integer-requires
+integer-requires c = search rules
+
+pub try_from-requires : goal.try_from-requires
+try_from-requires c = search rules
+
+pub try_from-requires-in_default : goal.try_from-requires-in_default
+try_from-requires-in_default c = search rules

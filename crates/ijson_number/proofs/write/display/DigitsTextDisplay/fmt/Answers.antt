@@ -1,7 +1,7 @@
-use Rattle.std.proofs.Common.{◌≡◌, ◌+◌, ◌-◌, ◌*◌, ◌/◌, ◌++◌, ℕ, List, length, take, drop, refl, arith, ap, sym, ◌∙◌}
+use Rattle.std.proofs.Common.{rules, ◌≡◌, ◌+◌, ◌-◌, ◌*◌, ◌/◌, ◌++◌, ℕ, List, length, take, drop, refl, arith, ap, sym, ◌∙◌}
+use Rattle.std.proofs.lemmas.Grind.{common_steps, put_two}
 use Rattle.std.proofs.Math.Nat.{div-mul-le_self}
 use Rattle.std.proofs.Math.Seq.{take-add}
-use Rattle.std.proofs.lemmas.Grind.{put_two}
 use Rattle.std.proofs.lemmas.List.{map-append, take_all}
 use Rattle.ijson_number.specs.Text.{digits_text}
 use Rattle.ijson_number.proofs.write.display.DigitsTextDisplay.fmt.Goals as goal
@@ -41,3 +41,25 @@ returns-clause-writes g c = λ plain ok.
     ∙ (ap (λ s. digits_text (take front digits) ++ s) text
     ∙ (joined digits front rest (length digits) (omega (arith, div-mul-le_self (length digits) 20))
     ∙ ap digits_text (take_all (length digits) digits (omega arith)))))
+
+-- what the check tries where no answer stands takes longer than these
+pub loop-run-init : goal.loop-run-init
+loop-run-init g c = search rules
+
+pub run_text-requires-clause-below_ten : goal.run_text-requires-clause-below_ten
+run_text-requires-clause-below_ten g c = grind (arith, common_steps)
+
+pub returns-in_err-write_str-clause-writes : goal.returns-in_err-write_str-clause-writes
+returns-in_err-write_str-clause-writes g c = search rules
+
+pub returns-in_err-write_str-clause-styled : goal.returns-in_err-write_str-clause-styled
+returns-in_err-write_str-clause-styled g c = search rules
+
+pub loop-run-smaller : goal.loop-run-smaller
+loop-run-smaller g c = search rules
+
+pub run_text-requires-2-clause-below_ten : goal.run_text-requires-2-clause-below_ten
+run_text-requires-2-clause-below_ten g c = grind (arith, common_steps)
+
+pub returns-clause-styled : goal.returns-clause-styled
+returns-clause-styled g c = search rules

@@ -1,4 +1,5 @@
 use Rattle.std.proofs.Common.{◌≡◌, ◌++◌, Bool, true, false, arith, rules}
+use Rattle.std.proofs.lemmas.Grind.{common_steps}
 use Rattle.std.proofs.lemmas.Int.{to_z-of_z}
 use Rattle.std.proofs.Output.{has_written_of_eq}
 use Rattle.std.specs.Prelude.{FitsSigned}
@@ -28,3 +29,22 @@ pub returns-else-number-2-clause-writes : goal.returns-else-number-2-clause-writ
 returns-else-number-2-clause-writes g c = λ p ok.
     has_written_of_eq _ _ _ _ _ (shown g (goal.at.returns-else-number-2-clause-writes g c).Else-is_empty false c.if-number-2.false)
     (c.fmt.ensures.writes p ok)
+
+-- what the check tries where no answer stands takes longer than these
+pub returns-then-number-clause-writes : goal.returns-then-number-clause-writes
+returns-then-number-clause-writes g c = grind (arith, common_steps)
+
+pub returns-then-number-clause-styled : goal.returns-then-number-clause-styled
+returns-then-number-clause-styled g c = search rules
+
+pub returns-else-number-clause-writes : goal.returns-else-number-clause-writes
+returns-else-number-clause-writes g c = grind (arith, common_steps)
+
+pub returns-else-number-clause-styled : goal.returns-else-number-clause-styled
+returns-else-number-clause-styled g c = search rules
+
+pub returns-then-number-2-clause-styled : goal.returns-then-number-2-clause-styled
+returns-then-number-2-clause-styled g c = search rules
+
+pub returns-else-number-2-clause-styled : goal.returns-else-number-2-clause-styled
+returns-else-number-2-clause-styled g c = search rules

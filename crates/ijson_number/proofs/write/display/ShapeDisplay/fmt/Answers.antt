@@ -1,4 +1,5 @@
 use Rattle.std.proofs.Common.{◌≡◌, ◌∙◌, Bool, arith, rules, sym, true, false}
+use Rattle.std.proofs.lemmas.Grind.{common_steps}
 use Rattle.std.proofs.lemmas.Int.{to_z-of_z}
 use Rattle.std.proofs.Output.{has_written_of_eq}
 use Rattle.std.specs.Prelude.{FitsSigned}
@@ -34,3 +35,22 @@ returns-else-is_scientific-clause-writes g c = λ p ok.
     has_written_of_eq _ _ _ _ _
     (shown g (goal.at.returns-else-is_scientific-clause-writes g c).After-is_scientific false c.if-is_scientific.false)
     (c.fmt-else-is_scientific.ensures.writes p ok)
+
+-- what the check tries where no answer stands takes longer than these
+pub returns-in_err-fmt-clause-writes : goal.returns-in_err-fmt-clause-writes
+returns-in_err-fmt-clause-writes g c = search rules
+
+pub returns-in_err-fmt-clause-styled : goal.returns-in_err-fmt-clause-styled
+returns-in_err-fmt-clause-styled g c = search rules
+
+pub returns-then-not-self-clause-writes : goal.returns-then-not-self-clause-writes
+returns-then-not-self-clause-writes g c = grind (arith, common_steps)
+
+pub returns-then-not-self-clause-styled : goal.returns-then-not-self-clause-styled
+returns-then-not-self-clause-styled g c = search rules
+
+pub returns-then-is_scientific-clause-styled : goal.returns-then-is_scientific-clause-styled
+returns-then-is_scientific-clause-styled g c = search rules
+
+pub returns-else-is_scientific-clause-styled : goal.returns-else-is_scientific-clause-styled
+returns-else-is_scientific-clause-styled g c = search rules
