@@ -33,7 +33,7 @@ fn is_text(rt: &impl Abort, alloc: Global, text: &IString, letters: &str) {
 }
 
 /// A text of each form that is stored, at its least and its greatest length, and long ones.
-const LENGTHS: [usize; 14] = [
+static LENGTHS: [usize; 14] = [
     0, 7, 8, 23, 24, 39, 40, 55, 56, 71, 72, 200, 41_000, 1_000_000,
 ];
 
@@ -43,7 +43,7 @@ fn texts_of_each_length_are_shared_and_print(rt: HostRuntime) {
         .repeat(rt.alloc(), 100_000)
         .expect(&rt, "a text");
     let mut cache = empty_cache(rt.alloc());
-    for length in LENGTHS {
+    for &length in &LENGTHS {
         let letters = text.as_str().get(..length).expect(&rt, "a beginning");
         let text = interned(&rt, &mut cache, letters);
         is_text(&rt, rt.alloc(), &text, letters);
@@ -52,7 +52,7 @@ fn texts_of_each_length_are_shared_and_print(rt: HostRuntime) {
 }
 
 /// Texts, and what `Debug` prints of each.
-const DEBUGGED: [(&str, &str); 4] = [
+static DEBUGGED: [(&str, &str); 4] = [
     ("", r#""""#),
     ("seven77", r#""seven77""#),
     ("a \"quote\" and \\", r#""a \"quote\" and \\""#),
@@ -72,7 +72,7 @@ fn texts_compare_by_bytes_and_print(rt: HostRuntime) {
     assert!(rt; a < b);
     assert!(rt; z < e_acute);
     assert!(rt; e_acute.as_bytes() == [0xc3, 0xa9].as_slice());
-    for (letters, want) in DEBUGGED {
+    for &(letters, want) in &DEBUGGED {
         let text = interned(&rt, &mut cache, letters);
         let printed = format!(in rt.alloc(); "{text:?}").expect(&rt, "a text");
         assert!(rt; printed.as_str() == want, "{want}");

@@ -51,7 +51,7 @@ fn feeds<T: Hash>(rt: &impl Abort, alloc: Global, value: &T, want: &[u64]) {
 }
 
 /// Texts, and the words that each feeds a hasher.
-const WORDS: [(&str, &[u64]); 4] = [
+static WORDS: [(&str, &[u64]); 4] = [
     ("", &[3, 0]),
     ("hi", &[3, 2, 104, 105]),
     ("é", &[3, 2, 195, 169]),
@@ -61,7 +61,7 @@ const WORDS: [(&str, &[u64]); 4] = [
 #[test]
 fn a_text_feeds_its_words(rt: HostRuntime) {
     let mut cache = empty_cache(rt.alloc());
-    for (letters, want) in WORDS {
+    for &(letters, want) in &WORDS {
         let text = interned(&rt, &mut cache, letters);
         feeds(&rt, rt.alloc(), &text, want);
     }
