@@ -1,4 +1,5 @@
 pub mod DistinctKeys
+pub mod GrownRoom
 pub mod KeyPositions
 pub mod NewPairs
 pub mod PairsByKey

@@ -1,9 +1,12 @@
 //! Running commands on a pair store.
 
-ghost use Rattle.std.specs.Prelude.{◌≡◌, IfOk, OnErr};
+ghost use Rattle.std.specs.Prelude.{◌≡◌, ℕ, List, IfOk, OnErr};
+ghost use Rattle.ijson_table.specs.Inserts.{Inserts};
 ghost use Rattle.ijson_table.specs.Steps.{Step, Run};
+ghost use Rattle.ijson_table.specs.declared.commands.Command.TheVariants.{Insert, Remove, ShiftRemove};
+ghost use Rattle.ijson_table.specs.declared.commands.Reply.TheVariants.{Removed};
 
-use crate::store::{PairStore, ReserveError, insert};
+use crate::store::{PairStore, RefusedPair, ReserveError, insert};
 use ijson_string::IString;
 use std::alloc::{AllocError, Global};
 
@@ -51,20 +54,10 @@ fn step<V: Drop, P: PairStore<V>>(store: &mut P, command: Command<V>) -> Reply<V
         (P.pairs store.new) (P.room store.new) }
 {
     match command {
-        Command::Insert(key, value) => match insert(store, key, value) {
-            Ok(None) => Reply::Added,
-            Ok(Some(old)) => Reply::Replaced(old),
-            Err(refused) => Reply::Refused(refused.key, refused.value, refused.why),
-        },
+        Command::Insert(key, value) => inserted(insert(store, key, value)),
         Command::Find(key) => Reply::Found(store.position(key.as_str())),
-        Command::Remove(key) => match store.position(key.as_str()) {
-            Some(at) => Reply::Removed(Some(store.swap_out(at))),
-            None => Reply::Removed(None),
-        },
-        Command::ShiftRemove(key) => match store.position(key.as_str()) {
-            Some(at) => Reply::Removed(Some(store.shift_out(at))),
-            None => Reply::Removed(None),
-        },
+        Command::Remove(key) => Reply::Removed(remove(store, key)),
+        Command::ShiftRemove(key) => Reply::Removed(shift_remove(store, key)),
         Command::Reserve(additional) => match store.reserve(additional) {
             Ok(()) => Reply::Done,
             Err(why) => Reply::NotDone(why),
@@ -78,6 +71,37 @@ fn step<V: Drop, P: PairStore<V>>(store: &mut P, command: Command<V>) -> Reply<V
             Reply::Done
         }
     }
+}
+
+/// The reply to an insertion.
+fn inserted<V>(outcome: Result<Option<V>, RefusedPair<V>>) -> Reply<V>
+    ensures { (pairs pairs' : List (List ℕ × V)) (c c' : ℕ) (key : List ℕ) (value : V)
+        → Inserts pairs c key value outcome pairs' c' → Step pairs c (Insert key value) result pairs' c' }
+{
+    match outcome {
+        Ok(None) => Reply::Added,
+        Ok(Some(old)) => Reply::Replaced(old),
+        Err(refused) => Reply::Refused(refused.key, refused.value, refused.why),
+    }
+}
+
+/// Takes out the pair with a key, or none. The last pair moves there.
+#[tactic(auto, using(crate::proofs::pairs::PairsByKey::position_within))]
+fn remove<V, P: PairStore<V>>(store: &mut P, key: IString) -> Option<(IString, V)>
+    ensures { Step (P.pairs store.old) (P.room store.old) (Remove key) (Removed result) (P.pairs store.new) (P.room store.new) }
+{
+    let at = store.position(key.as_str())?;
+    Some(store.swap_out(at))
+}
+
+/// Takes out the pair with a key, or none. Those behind it move one forward.
+#[tactic(auto, using(crate::proofs::pairs::PairsByKey::position_within))]
+fn shift_remove<V, P: PairStore<V>>(store: &mut P, key: IString) -> Option<(IString, V)>
+    ensures { Step (P.pairs store.old) (P.room store.old) (ShiftRemove key) (Removed result)
+        (P.pairs store.new) (P.room store.new) }
+{
+    let at = store.position(key.as_str())?;
+    Some(store.shift_out(at))
 }
 
 /// The commands in order. The replies and what the store has in the end are a run, however it is kept. Room for the replies is

@@ -96,7 +96,7 @@ impl Index {
         ensures hashes { self.new.hashes ≡ self.old.hashes ++ hash ∷ [] }
         ensures count { length self.new.slots ≡ length self.old.slots }
     {
-        let slot = vacancy(&self.slots, hash);
+        let (slot, _looked) = vacancy(&self.slots, hash);
         self.push_at(slot, position, hash);
     }
 

@@ -117,10 +117,12 @@ impl<V: Drop> PairStore<V> for LinearPairs<V> {
     }
 
     fn reserve(&mut self, additional: usize) -> Result<(), ReserveError> {
-        match grown_capacity(self.pairs.len(), self.pairs.capacity(), additional)? {
-            Some(capacity) => Ok(self.pairs.reserve_exact(capacity - self.pairs.len())?),
-            None => Ok(()),
-        }
+        let len = self.pairs.len();
+        let Some(capacity) = grown_capacity(len, self.pairs.capacity(), additional)? else {
+            return Ok(());
+        };
+        self.pairs.reserve_exact(capacity - len)?;
+        Ok(())
     }
 
     fn shrink_to_fit(&mut self) -> Result<(), ReserveError> {

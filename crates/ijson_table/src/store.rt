@@ -1,6 +1,6 @@
 //! What a pair store is.
 
-ghost use Rattle.std.specs.Prelude.{◌≡◌, ℕ, ◌+◌, ◌<◌, ◌≤◌, List, [], ◌∷◌, ◌++◌, length, slice_get, Some, None, OnOk};
+ghost use Rattle.std.specs.Prelude.{◌≡◌, ℕ, ◌+◌, ◌<◌, ◌≤◌, List, [], ◌∷◌, ◌++◌, length, slice_get, Some, None, Ok, OnOk};
 ghost use Rattle.ijson_table.specs.Store.{at, keys_of, shift_out, swap_out, IsDistinct, with_value};
 ghost use Rattle.ijson_table.specs.Growth.{Grow, Shrink, capacity_limit};
 ghost use Rattle.ijson_table.specs.Inserts.{Inserts};
@@ -170,9 +170,19 @@ pub trait PairStore<V>: Sized {
         → (pairs (set_value s i v) ≡ with_value (pairs s) i v) × (room (set_value s i v) ≡ room s) };
 }
 
+/// Puts a value in the place of the one at a position, which is answered.
+#[inline(always)]
+pub fn replace_at<V, P: PairStore<V>>(store: &mut P, position: usize, value: V) -> V
+    requires { position < length (P.pairs store.old) }
+    ensures inserts { (key : List ℕ) → at (P.pairs store.old) key ≡ Some position
+        → Inserts (P.pairs store.old) (P.room store.old) key value (Ok (Some result)) (P.pairs store.new) (P.room store.new) }
+    ensures store { store.new ≡ P.set_value store.old position value }
+{
+    mem::replace(store.value_mut(position), value)
+}
+
 /// Puts a pair into a store. A key that is there keeps its place and needs no memory, and its old value is answered; a
 /// new key goes last, in room that is made first where there is none. Where that is refused, the pair comes back.
-#[tactic(auto, using(crate::proofs::pairs::PairsByKey::position_within))]
 pub fn insert<V: Drop, P: PairStore<V>>(
     store: &mut P,
     key: IString,
@@ -182,7 +192,7 @@ pub fn insert<V: Drop, P: PairStore<V>>(
         (P.pairs store.new) (P.room store.new) }
 {
     if let Some(at) = store.position(key.as_str()) {
-        return Ok(Some(mem::replace(store.value_mut(at), value)));
+        return Ok(Some(replace_at(store, at, value)));
     }
     if let Err(why) = store.reserve(1) {
         return Err(RefusedPair { key, value, why });

@@ -19,12 +19,11 @@ use crate::index::Index;
 use crate::index::places::{Places, Seen, locate};
 use crate::index::probe::{Lookup, Probed, has_key, probe};
 use crate::index::slot::Modulus;
-use crate::store::{PairStore, RefusedPair, ReserveError};
+use crate::store::{PairStore, RefusedPair, ReserveError, replace_at};
 use ijson_number::Looks;
 use ijson_string::IString;
 use std::alloc::{AllocError, Global};
 use std::marker::{Model, PhantomData};
-use std::mem;
 
 /// Pairs in a list, and their positions in slots by the hash of their keys. A slot is 16 bytes, and there are five for four
 /// pairs of the capacity. A look-up goes to the memory of a key only where the hashes are the same.
@@ -112,7 +111,6 @@ impl<V: Drop, H: KeyHash> Table<V, H> {
     /// The same, and each slot that it looks at for the key is counted. The walk that puts the pair down after a growth is not
     /// counted.
     #[inline(always)]
-    #[tactic(auto, using(crate::proofs::pairs::PairsByKey::position_within))]
     pub fn insert_counted(
         &mut self,
         key: IString,
@@ -129,7 +127,7 @@ impl<V: Drop, H: KeyHash> Table<V, H> {
         let position = self.pairs.len();
         let hash = H::hash(key.as_str());
         match self.find(hash, key.as_str(), looks) {
-            Probed::Found(at, _) => Ok(Some(mem::replace(self.value_mut(at), value))),
+            Probed::Found(at, _) => Ok(Some(replace_at(self, at, value))),
             Probed::Vacant(slot) if position < self.pairs.capacity() => {
                 self.pairs.push_reserved((key, value));
                 self.index.push_at(slot, position, hash);

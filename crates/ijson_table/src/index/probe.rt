@@ -13,7 +13,7 @@ use ijson_number::Looks;
 use ijson_string::IString;
 
 /// How a probe ends.
-#[derive(Clone, Copy, Debug, Drop)]
+#[derive(Clone, Copy, Drop)]
 pub enum Probed {
     /// At the position that it seeks, and the slot of that.
     Found(usize, usize),

@@ -57,16 +57,8 @@ impl<'a> ProbeTarget for HashProbe<'a> {
     }
 }
 
-/// Where the probe for a key of this hash ends that stands at none of the slots.
-pub fn vacancy(slots: &[Slot], hash: u64) -> usize
-    requires { HasEmpty (positions slots.now) }
-    ensures { IsVacancy (displacement_in slots.now) (length slots.now) (hash % length slots.now) result }
-{
-    vacancy_counted(slots, hash).0
-}
-
-/// The same, and how many slots the probe looks at.
-fn vacancy_counted(slots: &[Slot], hash: u64) -> (usize, u128)
+/// Where the probe for a key of this hash ends that stands at none of the slots, and how many slots it looks at.
+pub fn vacancy(slots: &[Slot], hash: u64) -> (usize, u128)
     requires { HasEmpty (positions slots.now) }
     ensures vacancy { IsVacancy (displacement_in slots.now) (length slots.now) (hash % length slots.now) result.0 }
     ensures within { result.1 ≤ length slots.now }
@@ -116,8 +108,6 @@ pub fn shift_forward(slots: &mut [Slot], from: usize, position: usize, hash: u64
     ensures empty { resident (positions slots.old) result ≡ None }
     ensures passed { AreFull (positions slots.old) from (distance (length slots.old) from result) }
     ensures changes { changes (positions slots.old) (positions slots.new) ≤ distance (length slots.old) from result + 1 }
-    ensures few { (n : ℕ) → ((i : ℕ) → with_one (positions slots.old) position i ≤ below n i)
-        → distance (length slots.old) from result + 1 ≤ n }
 {
     let mut entry = Slot::of(position, hash);
     let mut slot = from;
@@ -142,7 +132,7 @@ fn insert(slots: &mut [Slot], position: usize, hash: u64) -> u128
     ensures changes { changes (positions slots.old) (positions slots.new) ≤ result }
     ensures few { (n : ℕ) → ((i : ℕ) → with_one (positions slots.old) position i ≤ below n i) → result ≤ 2 * n + 1 }
 {
-    let (slot, looked) = vacancy_counted(slots, hash);
+    let (slot, looked) = vacancy(slots, hash);
     let last = shift_forward(slots, slot, position, hash);
     looked + distance_between(slots.len(), slot, last) as u128 + 1
 }

@@ -130,7 +130,7 @@ pub fn distance_between(slots: usize, from: usize, to: usize) -> usize
 
 /// A count of slots beside its reciprocal. To take many hashes modulo the count it divides once, and goes by products, which
 /// take a fraction of the time.
-#[derive(Clone, Copy, Debug, Drop)]
+#[derive(Clone, Copy, Drop)]
 pub struct Modulus {
     /// How many slots there are.
     pub count: usize,

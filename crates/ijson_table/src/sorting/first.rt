@@ -1,9 +1,8 @@
 //! The first position of each key, by one walk over entries in the order of their keys.
 
-ghost use Rattle.std.specs.Prelude.{◌≡◌, ◌≢◌, ◌+◌, ◌<◌, ◌≤◌, ◌^◌, length, Some, None, IfOk, OnErr, IsTrue, ◌↔◌};
+ghost use Rattle.std.specs.Prelude.{◌≡◌, ◌+◌, ◌<◌, ◌≤◌, ◌^◌, length, IfOk, OnErr, IsTrue, ◌↔◌};
 ghost use Rattle.ijson_table.specs.Store.{keys_of};
 ghost use Rattle.ijson_table.specs.private.KeyOrder.{entry_key, AreFirsts, AreInOrder};
-ghost use Rattle.ijson_table.specs.private.SlotHashes.{position_in};
 
 use crate::index::slot::Slot;
 use crate::sorting::order::Order;
@@ -80,7 +79,7 @@ pub fn first_positions<V>(
         if !has_same_key(pairs, run, *entry) {
             run = *entry;
         }
-        firsts[own_position(*entry)] = own_position(run);
+        firsts[entry.resident()] = run.resident();
     }
     Ok(firsts)
 }
@@ -91,15 +90,4 @@ fn has_same_key<V>(pairs: &[(IString, V)], first: Slot, second: Slot) -> bool
         × (entry_key (keys_of pairs.now) first ≡ entry_key (keys_of pairs.now) second)) }
 {
     first.has_hash(second.hash()) && key_of(pairs, first) == key_of(pairs, second)
-}
-
-/// The position of an entry that has one.
-fn own_position(entry: Slot) -> usize
-    requires { position_in entry ≢ None }
-    ensures { position_in entry ≡ Some result }
-{
-    match entry.position() {
-        Some(position) => position,
-        None => unreachable!(),
-    }
 }

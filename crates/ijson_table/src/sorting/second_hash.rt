@@ -8,7 +8,7 @@ use crate::hash::KeyHash;
 /// The fold of the bytes of a text by another factor than that of `FixedHash`. Keys that were chosen to have one fixed hash have
 /// many here, so the memory of most of them is read once. Keys that were chosen to have one of both are sorted too, by comparing
 /// them. It takes time linear in the text.
-#[derive(Clone, Copy, Debug, Drop)]
+#[derive(Clone, Copy, Drop)]
 pub struct SecondHash;
 
 impl KeyHash for SecondHash {

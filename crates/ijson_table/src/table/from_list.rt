@@ -1,7 +1,7 @@
 //! Tables over lists of pairs.
 
 ghost use Rattle.std.specs.Prelude.{◌≡◌, ◌↔◌, ℕ, ◌+◌, ◌-◌, ◌*◌, ◌^◌, ◌<◌, ◌≤◌, [], ◌++◌, length, get_or, take};
-ghost use Rattle.std.specs.Prelude.{reverse, vec_capacity, Err, IfOk, IsOk, OnOk, IsTrue, IsFalse};
+ghost use Rattle.std.specs.Prelude.{reverse, vec_capacity, Err, IfOk, IsOk, OnErr, OnOk, IsTrue, IsFalse};
 ghost use Rattle.ijson_table.specs.BuildBound.{looks_a_pair, steps_a_pair, IsBuildBounded};
 ghost use Rattle.ijson_table.specs.Crowd.{slot_count};
 ghost use Rattle.ijson_table.specs.Growth.{capacity_limit};
@@ -17,12 +17,11 @@ use crate::index::Index;
 use crate::index::probe::{Lookup, Probed, probe};
 use crate::index::slot::{Modulus, distance_between};
 use crate::sorting::build::{fill_sorted, put_sorted};
-use crate::store::{PairStore, ReserveError};
+use crate::store::{PairStore, ReserveError, replace_at};
 use ijson_number::Looks;
 use ijson_string::IString;
 use std::alloc::{AllocError, Global};
 use std::marker::PhantomData;
-use std::mem;
 
 /// How many steps a pair may take, on average over all of them, before the table is made by sorting. With keys that nobody chose it
 /// takes about three in a small object, and seventeen in one of 30,000 numbered keys.
@@ -50,7 +49,7 @@ impl<V: Drop, H: KeyHash> Table<V, H> {
     /// steps, each two entries that sorting compares and each two keys that are compared there.
     pub fn from_pairs_counted(
         alloc: Global,
-        mut pairs: Vec<(IString, V)>,
+        pairs: Vec<(IString, V)>,
         looks: &mut Looks,
     ) -> Result<Table<V, H>, ReserveError>
         requires fits { looks.old + 2 ^ 72 < 2 ^ 128 }
@@ -62,21 +61,33 @@ impl<V: Drop, H: KeyHash> Table<V, H> {
         ensures grows { looks.old ≤ looks.new }
         ensures bounded { IsBuildBounded (length pairs.items) (looks.new - looks.old) }
     {
-        let capacity = limited(pairs.len())?;
+        limited(pairs.len())?;
+        Ok(Table::from_list(alloc, pairs, looks)?)
+    }
+
+    /// The same, of pairs that are within the limit.
+    #[inline(always)]
+    fn from_list(
+        alloc: Global,
+        mut pairs: Vec<(IString, V)>,
+        looks: &mut Looks,
+    ) -> Result<Table<V, H>, AllocError>
+        requires limited { length pairs.items ≤ capacity_limit }
+        requires fits { looks.old + 2 ^ 72 < 2 ^ 128 }
+        ensures pairs { IfOk result (λ table. table.store.pairs ≡ put_each [] pairs.items) }
+        ensures capacity { IfOk result (λ table. table.store.capacity ≡ length pairs.items) }
+        ensures refused { OnErr result (0 < length pairs.items) }
+        ensures counted { OnOk result (looks.old + length pairs.items ≤ looks.new) }
+        ensures grows { looks.old ≤ looks.new }
+        ensures bounded { IsBuildBounded (length pairs.items) (looks.new - looks.old) }
+    {
         tighten(alloc, &mut pairs)?;
+        let capacity = pairs.len();
         let mut index = Index::with_slots(alloc, slots_for(capacity))?;
         let most = STEPS_A_PAIR * capacity;
         let mut steps = 0;
         let placed = add_new_keys::<V, H>(&pairs, &mut index, most, &mut steps);
         count_steps(looks, steps);
-        if placed == capacity {
-            return Ok(Table {
-                pairs,
-                index,
-                alloc,
-                hash: PhantomData,
-            });
-        }
         let rest = split_rest(alloc, &mut pairs, placed)?;
         let table = Table {
             pairs,
@@ -84,7 +95,10 @@ impl<V: Drop, H: KeyHash> Table<V, H> {
             alloc,
             hash: PhantomData,
         };
-        Ok(table.with_rest(rest, steps, looks)?)
+        if rest.is_empty() {
+            return Ok(table);
+        }
+        table.with_rest(rest, steps, looks)
     }
 
     /// The store with more pairs put, in the room that there is. It goes on in the usual way up to the bound on the steps, of which so
@@ -108,7 +122,7 @@ impl<V: Drop, H: KeyHash> Table<V, H> {
         ensures bounded { (k : ℕ) → self.store.capacity ≤ 2 ^ k
             → looks.new + steps ≤ looks.old + self.store.capacity * (looks_a_pair + 2 * k) }
     {
-        let most = STEPS_A_PAIR * self.pairs.capacity();
+        let most = STEPS_A_PAIR * self.capacity();
         let mut taken = steps;
         rest.reverse();
         self.insert_each(&mut rest, most, &mut taken);
@@ -142,7 +156,6 @@ impl<V: Drop, H: KeyHash> Table<V, H> {
     }
 
     /// Inserts a pair in the room that there is, and answers the steps: each slot that it looks at, and each slot that it writes.
-    #[tactic(auto, using(crate::proofs::pairs::PairsByKey::position_within))]
     fn insert_in_room(&mut self, key: IString, value: V) -> usize
         requires { length self.old.store.pairs < self.old.store.capacity }
         ensures pairs { self.new.store.pairs ≡ put self.old.store.pairs key value }
@@ -155,7 +168,7 @@ impl<V: Drop, H: KeyHash> Table<V, H> {
         let mut looks = Looks::new();
         match self.find(hash, key.as_str(), &mut looks) {
             Probed::Found(at, _) => {
-                drop(mem::replace(self.value_mut(at), value));
+                drop(replace_at(self, at, value));
                 looks.count() as usize
             }
             Probed::Vacant(slot) => {

@@ -1,21 +1,18 @@
-use Rattle.std.proofs.Common.{◌≡◌, length, refl, ap, sym, ◌∙◌, subst, Some, None}
+use Rattle.std.proofs.Common.{◌≡◌, length, refl, ap, sym, ◌∙◌, subst, None}
 use Rattle.ijson_table.specs.Growth.{Grown}
-use Rattle.ijson_table.specs.Store.{at, with_value}
+use Rattle.ijson_table.specs.Store.{at}
 use Rattle.ijson_table.proofs.pairs.NewPairs.{put_last}
-use Rattle.ijson_table.proofs.pairs.PairsByKey.{put-present, lookup-found, lookup-absent}
+use Rattle.ijson_table.proofs.pairs.PairsByKey.{lookup-absent, position_within}
 use Rattle.ijson_table.proofs.store.insert.Goals as goal
 
-pub returns-in-Some : goal.returns-in-Some
-returns-in-Some g c =
+pub replace_at-requires : goal.replace_at-requires
+replace_at-requires g c =
     let before = g.P.PairStore.pairs c.args.store.now in
-    let found : at before c.args.key ≡ Some c.in-Some.at = ap (at before) (sym c.as_str.ensures) ∙ sym c.in-Some.ensures in
-    let law = g.met.P.PairStore.set_value_is c.args.store.now c.in-Some.at c.replace.new.dest in
-    let told = c.value_mut.ensures.value in (
-      lookup-found before c.args.key c.in-Some.at (told.0, c.value_mut.result.now) found told.1 ∙ ap Some (sym c.replace.ensures.value),
-      law.0 ∙ (ap (with_value before c.in-Some.at) c.replace.ensures.after
-          ∙ sym (put-present before c.in-Some.at c.args.key c.args.value found)),
-      law.1,
-    )
+    position_within before c.args.key c.in-Some.at (ap (at before) (sym c.as_str.ensures) ∙ sym c.in-Some.ensures)
+
+pub returns-in-Some : goal.returns-in-Some
+returns-in-Some g c = c.replace_at.ensures.inserts c.args.key (ap (at (g.P.PairStore.pairs c.args.store.now)) (sym c.as_str.ensures)
+    ∙ sym c.in-Some.ensures)
 
 pub returns-in-Err : goal.returns-in-Err
 returns-in-Err g c =

@@ -1,5 +1,6 @@
-use Rattle.std.proofs.Common.{◌≡◌, [], ◌∷◌, ◌++◌, List, length, take, drop, arith, ap, sym, ◌∙◌, subst}
+use Rattle.std.proofs.Common.{◌≡◌, None, [], ◌∷◌, ◌++◌, List, length, take, drop, arith, ap, sym, ◌∙◌, subst}
 use Rattle.ijson_table.specs.declared.index.slot.Slot.{Slot}
+use Rattle.ijson_table.specs.Slots.{resident}
 use Rattle.ijson_table.specs.private.Holds.{MayStand}
 use Rattle.ijson_table.specs.private.Insertion.{Accepts}
 use Rattle.ijson_table.specs.private.SlotHashes.{positions, hashes_of}
@@ -40,3 +41,17 @@ invariant_of-self c = (left c).index
 pub returns-clause-hashes : goal.returns-clause-hashes
 returns-clause-hashes c = (left c).is
     ∙ ap (λ (l : HashIndex). l.hashes ++ c.args.hash ∷ []) c.self.view_is
+
+pub returns-clause-within : goal.returns-clause-within
+returns-clause-within c = omega (
+  arith,
+  c.shift_forward.ensures.within,
+  ap length c.deref_mut.ensures.value,
+  positions-length c.self.inside.slots.items,
+  ap (λ (l : HashIndex). length l.slots) c.self.view_is,
+)
+
+pub returns-clause-empty : goal.returns-clause-empty
+returns-clause-empty c =
+    subst (λ (l : HashIndex). resident l.slots c.shift_forward.result ≡ None) c.self.view_is
+    (subst (λ ps. resident (positions ps) c.shift_forward.result ≡ None) c.deref_mut.ensures.value c.shift_forward.ensures.empty)

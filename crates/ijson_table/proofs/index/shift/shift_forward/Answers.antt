@@ -3,21 +3,19 @@ use Rattle.std.proofs.Common.{inl, inr, get_or-set_other}
 use Rattle.std.proofs.lemmas.List.{length-set}
 use Rattle.ijson_table.specs.declared.index.slot.Slot.{Slot}
 use Rattle.ijson_table.specs.Crowd.{distance}
-use Rattle.ijson_table.specs.Slots.{after, below, resident}
+use Rattle.ijson_table.specs.Slots.{after, resident}
 use Rattle.ijson_table.specs.private.Changes.{changes}
-use Rattle.ijson_table.specs.private.Holds.{one_if, Holds, MayStand, with_one}
+use Rattle.ijson_table.specs.private.Holds.{Holds, MayStand, with_one}
 use Rattle.ijson_table.specs.private.Insertion.{Accepts}
 use Rattle.ijson_table.specs.private.Probe.{onward, AreFull}
 use Rattle.ijson_table.specs.private.SlotHashes.{position_in, positions, blank}
-use Rattle.ijson_table.proofs.arithmetic.Circular.{distance-after, distance-below, distance-onward, distance-self}
-use Rattle.ijson_table.proofs.arithmetic.Circular.{onward-below, onward-distance}
+use Rattle.ijson_table.proofs.arithmetic.Circular.{distance-after, distance-below, distance-self}
+use Rattle.ijson_table.proofs.arithmetic.Circular.{onward-distance}
 use Rattle.ijson_table.proofs.shifting.SlotWrites.{put_down}
 use Rattle.ijson_table.proofs.shifting.Insertion.{Shifting, goes_on, shift_more}
 use Rattle.ijson_table.proofs.slots.HashesInSlots.{positions-length, positions-put, positions-set}
 use Rattle.ijson_table.proofs.slots.HashesInSlots.{position-at, hashes-at, hashes-set}
 use Rattle.ijson_table.proofs.slots.HashesInSlots.{has_own_hash}
-use Rattle.ijson_table.proofs.slots.ResidentCount.{few_residents, still_full}
-use Rattle.ijson_table.proofs.slots.Residents.{times-set}
 use Rattle.ijson_table.proofs.arithmetic.Comparing.{same_or_not}
 use Rattle.ijson_table.proofs.slots.SlotChanges.{changes-none, changes-set}
 use Rattle.ijson_table.proofs.index.shift.shift_forward.Goals.{In_default}
@@ -107,42 +105,6 @@ was_empty g c =
 
 pub returns-in_default-clause-empty : goal.returns-in_default-clause-empty
 returns-in_default-clause-empty g c = was_empty g (goal.at.returns-in_default-clause-empty g c).In_default
-
--- Some slots on from one, and the one after them, are as many positions where the last is filled.
-written_few : (old : List (Option ℕ)) (position from last n : ℕ) → from < length old → last < length old → resident old last ≡ None
-    → AreFull old from (distance (length old) from last) → ((k : ℕ) → with_one old position k ≤ below n k)
-    → distance (length old) from last + 1 ≤ n
-written_few old position from last n lf ll none passed few =
-    let m : ℕ = length old in
-    let away : distance m from last < m = distance-below m from last lf ll in
-    let size : length (set old last (Some position)) ≡ m = length-set old last (Some position) in
-    few_residents n (set old last (Some position))
-    (λ k. omega (arith, times-set k old last (Some position) ll, ap (one_if k) none, few k)) (onward m from) (distance m from last + 1)
-    (λ j l lj lk e. omega (
-      arith,
-      distance-onward m from j lf (omega arith),
-      distance-onward m from l lf (omega arith),
-      ap (distance m from) e,
-    ))
-    (λ j lj. omega (arith, size, onward-below m from j lf (omega arith)))
-    (λ j lj. still_full old last position (onward m from j) ll (λ other. passed j (before j (distance m from last) lj
-    (λ same. other (ap (onward m from) same ∙ onward-distance m from last lf ll)))))
-
-pub returns-in_default-clause-few : goal.returns-in_default-clause-few
-returns-in_default-clause-few g c n few =
-    let l = c.loop-resident in
-    let old : List (Option ℕ) = positions c.args.slots.now in
-    let size : length l.slots ≡ length old = l.invariant.size ∙ sym (positions-length c.args.slots.now) in
-    let here : l.slot < length old = omega (arith, l.invariant.shifting.2.may.within, positions-length l.slots, size) in
-    let away : distance (length l.slots) c.args.from l.slot ≡ distance (length old) c.args.from l.slot =
-    ap (λ m. distance m c.args.from l.slot) size in
-    omega (
-      arith,
-      written_few old c.args.position c.args.from l.slot n c.requires.1.within here
-          (was_empty g (goal.at.returns-in_default-clause-few g c).In_default)
-          (λ j lj. l.invariant.passed j (omega (arith, lj, away))) few,
-      ap (λ m. distance m c.args.from l.slot) (positions-length c.args.slots.now),
-    )
 
 -- There is a slot to go on to,
 room : (g : _) (c : goal.After-next_slot-slot g) → distance (length c.loop-resident.slots) c.args.from c.loop-resident.slot + 1
@@ -238,3 +200,16 @@ loop-resident-preserved g c =
           (omega (arith, away, more));
       size = length-set l.slots slot l.entry ∙ l.invariant.size;
     }
+
+pub bounds-slots-slot : goal.bounds-slots-slot
+bounds-slots-slot g c = omega (arith, c.loop-resident.invariant.shifting.2.may.within, positions-length c.loop-resident.slots)
+
+pub next_slot-slot-requires : goal.next_slot-slot-requires
+next_slot-slot-requires g c =
+    let l = c.loop-resident in
+    omega (arith, l.invariant.shifting.2.may.within, positions-length l.slots, length-set l.slots l.slot l.entry)
+
+pub returns-in_default-clause-within : goal.returns-in_default-clause-within
+returns-in_default-clause-within g c =
+    let l = c.loop-resident in
+    omega (arith, l.invariant.shifting.2.may.within, positions-length l.slots, l.invariant.size)

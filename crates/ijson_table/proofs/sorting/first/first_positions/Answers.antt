@@ -24,26 +24,26 @@ loop-entry-init g c =
       looked = omega arith;
     }
 
-pub own_position-requires : goal.own_position-requires
-own_position-requires g c = elim c.if-not-has_same_key.branch [
+pub resident-requires : goal.resident-requires
+resident-requires g c = elim c.if-not-has_same_key.branch [
   | then-not-has_same_key w ↦ λ none.
-      stands g (goal.at.own_position-requires g c).Start c.loop-entry.entry-index c.loop-entry-test.true
+      stands g (goal.at.resident-requires g c).Start c.loop-entry.entry-index c.loop-entry-test.true
       (sym (ap position_in w.run-is) ∙ none)
   | else-not-has_same_key w ↦ λ none.
       let leads = c.loop-entry.invariant.run.leads in
       let bad : ◌≡◌ {A = Option ℕ} (Some leads.0) None = sym leads.1.stands ∙ (sym (ap position_in w.run-is) ∙ none) in cc
 ]
 
-pub own_position-requires-in-loop-entry : goal.own_position-requires-in-loop-entry
-own_position-requires-in-loop-entry g c =
-    stands g (goal.at.own_position-requires-in-loop-entry g c).Start c.loop-entry.entry-index c.loop-entry-test.true
+pub resident-requires-in-loop-entry : goal.resident-requires-in-loop-entry
+resident-requires-in-loop-entry g c =
+    stands g (goal.at.resident-requires-in-loop-entry g c).Start c.loop-entry.entry-index c.loop-entry-test.true
 
 pub index_mut-requires : goal.index_mut-requires
 index_mut-requires g c =
     omega (
       arith,
       is_position (keys_of c.args.pairs.now) c.args.sorted.now c.requires.entries
-          c.loop-entry.entry-index c.own_position-in-loop-entry.result c.loop-entry-test.true c.own_position-in-loop-entry.ensures,
+          c.loop-entry.entry-index c.resident-in-loop-entry.result c.loop-entry-test.true c.resident-in-loop-entry.ensures,
       c.loop-entry.invariant.run.count,
       c.loop-entry.firsts.ok.0,
     )
@@ -53,8 +53,8 @@ loop-entry-preserved g c =
     let keys = keys_of c.args.pairs.now in
     let sorted = c.args.sorted.now in
     let k : ℕ = c.loop-entry.entry-index in
-    let p : ℕ = c.own_position-in-loop-entry.result in
-    let q : ℕ = c.own_position.result in
+    let p : ℕ = c.resident-in-loop-entry.result in
+    let q : ℕ = c.resident.result in
     let run = c.loop-entry.run in
     let next = c.if-not-has_same_key.run in
     let firsts = c.loop-entry.firsts.items in
@@ -63,13 +63,13 @@ loop-entry-preserved g c =
       run = elim c.if-not-has_same_key.branch [
         | then-not-has_same_key w ↦
             new_run keys sorted s k p q run next firsts c.loop-entry-test.true c.loop-entry.invariant.run
-            c.own_position-in-loop-entry.ensures w.run-is c.own_position.ensures (λ both.
+            c.resident-in-loop-entry.ensures w.run-is c.resident.ensures (λ both.
             let yes_it_is = c.has_same_key.ensures.1 both in
             let no_it_is = w.if-not-has_same_key.true in
             cc (yes_it_is, no_it_is))
         | else-not-has_same_key w ↦
             same_run keys sorted s k p q run next firsts c.loop-entry-test.true c.loop-entry.invariant.run
-            c.own_position-in-loop-entry.ensures w.run-is c.own_position.ensures
+            c.resident-in-loop-entry.ensures w.run-is c.resident.ensures
             (c.has_same_key.ensures.0 w.if-not-has_same_key.false).1
       ];
       looked = omega (arith, c.add_one.ensures, c.loop-entry.invariant.looked);

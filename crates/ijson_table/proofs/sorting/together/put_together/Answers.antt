@@ -1,14 +1,14 @@
-use Rattle.std.proofs.Common.{◌≡◌, ◌∷◌, ◌++◌, [], ◌+◌, length, vec_capacity, sym, ap, subst, ◌∙◌, arith, length-append}
+use Rattle.std.proofs.Common.{◌≡◌, ◌<◌, ◌∷◌, ◌++◌, [], ◌+◌, length, vec_capacity, sym, ap, subst, ◌∙◌, arith, length-append}
 use Rattle.std.proofs.lemmas.Iterator.Adapters.{YieldsList-from_vec}
 use Rattle.std.proofs.lemmas.Iterator.Consumers.{YieldsList-turn, YieldsList-so_far}
 use Rattle.std.proofs.lemmas.List.{with_items_is}
 use Rattle.ijson_table.specs.Store.{with_value}
 use Rattle.ijson_table.proofs.firsts.PlacesSoFar.{PlacesSoFar, Turn, place_of, room, with_new, with_old, within}
-use Rattle.ijson_table.proofs.pairs.PairsByKey.{position_within}
+use Rattle.ijson_table.proofs.pairs.PairsByKey.{keys-length, position_within}
 use Rattle.ijson_table.proofs.pairs.RunSteps.{map-same}
 use Rattle.ijson_table.proofs.sorting.together.put_together.Given.{Over}
 use Rattle.ijson_table.proofs.sorting.together.put_together.Goals as goal
-use Rattle.ijson_table.proofs.sorting.together.put_together.Goals.{then-first-position, else-first-position, After-index-first}
+use Rattle.ijson_table.proofs.sorting.together.put_together.Goals.{then-first-position, else-first-position, After-index-first, In-Some}
 
 -- what is known of a turn
 turn : (g : Over) (c : After-index-first g) → Turn c.args.pairs.items c.loop-pair.yielded c.loop-pair.list.items c.args.firsts.items
@@ -27,6 +27,40 @@ turn g c =
       at_end = c.loop-pair.invariant.3;
       read = c.index-first.ensures;
     }
+
+-- a pair is left
+more : (g : Over) (c : In-Some g) → length c.loop-pair.yielded < length c.args.pairs.items
+more g c =
+    let gives = c.into_iter-pair-iterator.ensures.into_iter_gives in
+    (YieldsList-turn (YieldsList-from_vec c.args.pairs.items gives.0 (gives.1 ∙ c.args.pairs.ok.0)) c.loop-pair.yielded
+    c.loop-pair.pair-iterator c.loop-pair.yielded_by c.next.result c.next.new.self c.in-Some.pair c.in-Some.is c.next.ensures.steps).0
+
+-- and a place at its position
+there : (g : Over) (c : In-Some g) → c.loop-pair.position < c.loop-pair.places.len
+there g c = omega (
+  arith,
+  more g c,
+  c.loop-pair.invariant.2.count,
+  c.requires.firsts.count,
+  keys-length c.args.pairs.items,
+  c.loop-pair.places.ok.0,
+  c.loop-pair.invariant.3,
+)
+
+pub index-first-requires : goal.index-first-requires
+index-first-requires g c = there g (goal.at.index-first-requires g c).In-Some
+
+pub index_mut-requires : goal.index_mut-requires
+index_mut-requires g c = there g (goal.at.index_mut-requires g c).In-Some
+
+pub overflow_add-position : goal.overflow_add-position
+overflow_add-position g c = omega (
+  arith,
+  more g (goal.at.overflow_add-position g c).In-Some,
+  c.loop-pair.invariant.3,
+  c.requires.fits,
+  c.ranges.capacity.fits,
+)
 
 pub push_reserved-requires : goal.push_reserved-requires
 push_reserved-requires g c =

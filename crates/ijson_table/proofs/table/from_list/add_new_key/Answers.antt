@@ -166,3 +166,15 @@ returns-in-Full-clause-counted g c =
     c.args.index.now (omega (arith, c.requires.room)) c.hash-hash.result c.as_str-key.result.now looks _ c.hash-hash.ensures
     (subst (Walks c.args.index.now keys c.hash-hash.result c.as_str-key.result.now looks) c.in-Full.is c.probe.ensures.ends)
     (omega (arith, c.len-slots.ensures.count)))
+
+pub probe-requires-clause-fits : goal.probe-requires-clause-fits
+probe-requires-clause-fits g c = λ m lm _. omega (arith, lm, c.new.ensures, c.requires.fits)
+
+pub overflow_add-steps-in-Full : goal.overflow_add-steps-in-Full
+overflow_add-steps-in-Full g c = omega (arith, c.len-slots.ensures.count, c.requires.fits)
+
+pub returns-in-Full-clause-steps : goal.returns-in-Full-clause-steps
+returns-in-Full-clause-steps g c = omega (arith, c.len-slots.ensures.count)
+
+pub returns-in-Full-clause-grows : goal.returns-in-Full-clause-grows
+returns-in-Full-clause-grows g c = omega (arith, c.len-slots.ensures.count, c.requires.room)

@@ -11,7 +11,7 @@ use Rattle.ijson_table.proofs.arithmetic.Circular.{home_within, distance-onward,
 use Rattle.ijson_table.proofs.shifting.Insertion.{not_round}
 use Rattle.ijson_table.proofs.slots.ResidentCount.{few_residents}
 use Rattle.ijson_table.proofs.slots.HashesInSlots.{positions-length, displacement_in-none}
-use Rattle.ijson_table.proofs.index.shift.vacancy_counted.Goals as goal
+use Rattle.ijson_table.proofs.index.shift.vacancy.Goals as goal
 
 -- what is sought stands nowhere, and a slot is empty
 no_other : (slots : List Slot) (hash looks : ℕ) → HasEmpty (positions slots)
