@@ -1,6 +1,6 @@
 -- What is found beside a key once pairs were put or taken out. For callers: each law joins two words of the contracts.
-use Rattle.std.specs.Prelude.{◌≡◌, ◌≢◌, ℕ, zero, suc, ◌+◌, ◌-◌, ◌<◌, true, false, cond}
-use Rattle.std.specs.Prelude.{List, [], ◌∷◌, length, get_or, set, Option, Some, None, option_map}
+use Rattle.std.specs.Prelude.{◌≡◌, ◌≢◌, ℕ, suc, ◌+◌, ◌-◌, ◌<◌, true, false, cond}
+use Rattle.std.specs.Prelude.{List, [], ◌∷◌, length, get_or, set, Some, None}
 use Rattle.std.specs.Option.{option_or}
 use Rattle.std.specs.Str.{bytes_eq}
 use Rattle.std.proofs.Common.{inl, inr, refl, sym, ap, ◌∙◌, arith}
@@ -8,23 +8,11 @@ use Rattle.std.proofs.lemmas.List.{get_or-set_other, get_or-set_same, get_or-tak
 use Rattle.ijson_table.specs.Store.{keys_of, at, lookup, put, put_each, swap_out, shift_out, Lacks, IsDistinct}
 use Rattle.ijson_table.proofs.arithmetic.Comparing.{below_or_not, same_or_not}
 use Rattle.ijson_table.proofs.pairs.DistinctKeys.{apart}
-use Rattle.ijson_table.proofs.pairs.KeyPositions.{same_key, position-none, position-some, position-distinct, absent-from}
+use Rattle.ijson_table.proofs.pairs.KeyPositions.{same_key, head_or_tail, position-none, position-some, position-distinct, absent-from}
 use Rattle.ijson_table.proofs.pairs.PairsByKey.{position_within, keys-length, key_at, swap_out-is, length-swap_out, swapped-same}
 use Rattle.ijson_table.proofs.pairs.PairsByKey.{swapped-other}
 use Rattle.ijson_table.proofs.pairs.PairsByKey.{distinct_swapped, lookup-position, lookup-absent}
 use Rattle.ijson_value.specs.AtKey.{out_at, swap_out_key, shift_out_key}
-
--- the head's position is no later one
-no_head : (o : Option ℕ) → option_map (λ i. i + 1) o ≡ Some 0 → ⊥
-no_head None e = let bad : true ≡ false = cc in cc
-no_head (Some i) e = let bad : i + 1 ≡ 0 = cc in omega arith
-
-head : (i : ℕ) → ◌≡◌ {A = Option ℕ} (Some 0) (Some (suc i)) → ⊥
-head i e = let bad : 0 ≡ suc i = cc in omega arith
-
-one_less : (o : Option ℕ) (i : ℕ) → option_map (λ i. i + 1) o ≡ Some (suc i) → o ≡ Some i
-one_less None i e = cc
-one_less (Some j) i e = let next : j + 1 ≡ suc i = cc in ap Some (omega arith)
 
 module _ {V : Type 0} where
   -- a value that was put is found beside its key, and nothing else is found otherwise than before
@@ -89,20 +77,19 @@ module _ {V : Type 0} where
       → IsDistinct (keys_of pairs) → at pairs key ≡ Some i → (k : List ℕ)
       → lookup k (shift_out pairs i) ≡ cond (bytes_eq k key) None (lookup k pairs)
   lookup-shift_out [] key i distinct e k = cc
-  lookup-shift_out (pair ∷ pairs) key zero distinct e k = elim (same_key pair.0 key) [
-    | inl here ↦ without_first pair pairs k distinct.0 ∙ ap (λ x. cond (bytes_eq k x) None (lookup k (pair ∷ pairs))) here.1
-    | inr off ↦ absurd (no_head (at pairs key) (grind (arith, off, e)))
-  ]
-  lookup-shift_out (pair ∷ pairs) key (suc i) distinct e k = elim (same_key pair.0 key) [
-    | inl here ↦ absurd (head i (grind (arith, here, e)))
+  lookup-shift_out (pair ∷ pairs) key i distinct e k = elim (head_or_tail pair.0 (keys_of pairs) key i e) [
+    | inl here ↦ ap (λ n. lookup k (shift_out (pair ∷ pairs) n)) (sym here.2) ∙ without_first pair pairs k distinct.0
+        ∙ ap (λ x. cond (bytes_eq k x) None (lookup k (pair ∷ pairs))) here.1
     | inr off ↦
-        let rest = lookup-shift_out pairs key i distinct.1 (one_less (at pairs key) i (grind (arith, off, e))) k in
+        let rest = lookup-shift_out pairs key off.2 distinct.1 off.3 k in
+        let later : lookup k (shift_out (pair ∷ pairs) (suc off.2)) ≡ cond (bytes_eq k key) None (lookup k (pair ∷ pairs)) =
         elim (same_key k key) [
           | inl same ↦
-              let past : bytes_eq k pair.0 ≡ false = grind (arith, same_key k pair.0, same, off) in
+              let past : bytes_eq k pair.0 ≡ false = grind (arith, same_key k pair.0, same, off.1) in
               grind (arith, past, same, rest)
           | inr other ↦ grind (arith, other, rest)
-        ]
+        ] in
+        ap (λ n. lookup k (shift_out (pair ∷ pairs) n)) (sym off.4) ∙ later
   ]
 
   entry_out : (pair : List ℕ × V) (pairs : List (List ℕ × V)) (i j : ℕ)
@@ -211,7 +198,7 @@ module _ {V : Type 0} where
             grind (arith, other, kept)
       ]
 
-  -- once the pair with a key is taken out, nothing is found beside that key, and beside each other key what was there
+  -- what is found once the pair at each position that a key may have is out is found once the key's pair is out
   lookup-out_key : (out : List (List ℕ × V) → ℕ → List (List ℕ × V)) (pairs : List (List ℕ × V)) (key k : List ℕ)
       → ((i : ℕ) → at pairs key ≡ Some i → lookup k (out pairs i) ≡ cond (bytes_eq k key) None (lookup k pairs))
       → lookup k (out_at out (at pairs key) pairs) ≡ cond (bytes_eq k key) None (lookup k pairs)
@@ -221,6 +208,7 @@ module _ {V : Type 0} where
         | Some i ↦ λ e. taken i e
       ] refl
 
+  -- once the pair with a key is taken out, nothing is found beside that key, and beside each other key what was there
   pub lookup-swap_out_key : (pairs : List (List ℕ × V)) (key : List ℕ) → IsDistinct (keys_of pairs) → (k : List ℕ)
       → lookup k (swap_out_key key pairs) ≡ cond (bytes_eq k key) None (lookup k pairs)
   lookup-swap_out_key pairs key distinct k =

@@ -38,10 +38,10 @@ impl IArray {
         ensures items { self.new.items ≡ remove self.old.items index }
         ensures capacity { self.new.capacity ≡ self.old.capacity }
     {
-        if self.len() <= index {
-            return None;
+        match &mut self.list {
+            Some(list) if index < list.len() => Some(list.remove(index)),
+            _ => None,
         }
-        Some(self.list.as_mut().unwrap().remove(index))
     }
 
     /// Takes the item at a place out, and puts the last one in its place. None past the end. It takes constant time: of
@@ -52,10 +52,10 @@ impl IArray {
             (λ item. self.new.items ≡ swap_remove self.old.items index item) }
         ensures capacity { self.new.capacity ≡ self.old.capacity }
     {
-        if self.len() <= index {
-            return None;
+        match &mut self.list {
+            Some(list) if index < list.len() => Some(list.swap_remove(index)),
+            _ => None,
         }
-        Some(self.list.as_mut().unwrap().swap_remove(index))
     }
 
     /// Takes the last item out. None where there is no item. The room stays.

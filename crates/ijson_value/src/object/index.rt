@@ -52,7 +52,7 @@ impl<T: Sealed> Sealed for &T {
 /// and no memory.
 pub trait ObjectIndex: Sealed + Copy {
     /// The pair with the key. None where it is not there.
-    fn index_into<'v>(self, v: &'v IObject) -> Option<(&'v IString, &'v IValue)>
+    final fn index_into<'v>(self, v: &'v IObject) -> Option<(&'v IString, &'v IValue)>
         ensures { option_map deref_pair result ≡ pair_at_key (Self.Sealed.key self) v.now.pairs }
     {
         match v.position(self.as_key()) {
@@ -70,7 +70,7 @@ pub trait ObjectIndex: Sealed + Copy {
     }
 
     /// Takes the pair with the key out. The last pair moves into its place. None where it is not there.
-    fn remove(self, v: &mut IObject) -> Option<(IString, IValue)>
+    final fn remove(self, v: &mut IObject) -> Option<(IString, IValue)>
         ensures pair { result ≡ pair_at_key (Self.Sealed.key self) v.old.pairs }
         ensures pairs { v.new.pairs ≡ swap_out_key (Self.Sealed.key self) v.old.pairs }
         ensures capacity { v.new.capacity ≡ v.old.capacity }
@@ -82,7 +82,7 @@ pub trait ObjectIndex: Sealed + Copy {
     }
 
     /// Takes the pair with the key out. Those behind it close up, so the order stays. None where it is not there.
-    fn shift_remove(self, v: &mut IObject) -> Option<(IString, IValue)>
+    final fn shift_remove(self, v: &mut IObject) -> Option<(IString, IValue)>
         ensures pair { result ≡ pair_at_key (Self.Sealed.key self) v.old.pairs }
         ensures pairs { v.new.pairs ≡ shift_out_key (Self.Sealed.key self) v.old.pairs }
         ensures capacity { v.new.capacity ≡ v.old.capacity }

@@ -55,7 +55,7 @@ pub trait Sealed: Copy {
 pub trait ValueIndex: Sealed {
     /// The value there. `v` is an array for a position, and an object for a key. None past the end, or where the key is not
     /// there.
-    fn index_into<'v>(self, v: &'v IValue) -> Option<&'v IValue>
+    final fn index_into<'v>(self, v: &'v IValue) -> Option<&'v IValue>
         requires { kind_of v.now.tree ≡ kind_for (Self.Sealed.step self) }
         ensures { option_map (λ found. found.now.tree) result
             ≡ tree_at v.now.tree (Self.Sealed.step self) }

@@ -27,3 +27,8 @@ items-preserved g c =
         c.in_ok-push-in-Some.ensures.ok ∙ ap (λ l. l ++ x ∷ []) run.4 ∙ append_assoc c.args.self.now.items run.1 (x ∷ []),
       ),
     )
+
+pub returns-in-None-clause-items : goal.returns-in-None-clause-items
+returns-in-None-clause-items g c =
+    let run = c.items.invariant.4 in
+    (run.1, run.4, (run.0, run.2, (c.next_of.new.rest, (c.items.rest, run.3, c.in-None.ensures.gives))))

@@ -1,4 +1,7 @@
-use Rattle.std.proofs.Common.{[], length, arith, rules, sym, ap, subst, ◌∙◌}
+use Rattle.std.proofs.Common.{◌≡◌, ◌<◌, [], length, arith, rules, sym, ap, subst, ◌∙◌, Err}
+use Rattle.std.specs.Prelude.{◌↔◌, IfOk}
+use Rattle.ijson_table.specs.Growth.{capacity_limit}
+use Rattle.ijson_table.specs.declared.store.ReserveError.TheVariants.{TooLarge}
 use Rattle.ijson_table.proofs.pairs.PutEach.{put_each-new}
 use Rattle.ijson_table.specs.Store.{put_each}
 use Rattle.ijson_value.specs.Gives.{GivesAll}
@@ -26,3 +29,24 @@ returns-clause-pairs g c =
     ok_more c.from_pairs.result _ _ (λ object made.
     subst (GivesAll g.I.IntoIterator.into_iter_gives g.I.IntoIter.Iterator.next_gives c.args.pairs) (sym (made ∙ last)) gives)
     c.from_pairs.ensures.pairs
+
+-- and they are as many as was told
+pub returns-clause-capacity : goal.returns-clause-capacity
+returns-clause-capacity g c =
+    let yielded = c.loop-pair.yielded in
+    let gives : GivesAll g.I.IntoIterator.into_iter_gives g.I.IntoIter.Iterator.next_gives c.args.pairs yielded = search rules in
+    subst (λ n. IfOk c.from_pairs.result (λ object. object.capacity ≡ n))
+    (ap length c.loop-pair.invariant.2 ∙ (c.requires.gives.all yielded gives).1) c.from_pairs.ensures.capacity
+
+pub returns-clause-too_large : goal.returns-clause-too_large
+returns-clause-too_large g c =
+    let yielded = c.loop-pair.yielded in
+    let gives : GivesAll g.I.IntoIterator.into_iter_gives g.I.IntoIter.Iterator.next_gives c.args.pairs yielded = search rules in
+    subst (λ n. (c.from_pairs.result ≡ Err TooLarge) ↔ (capacity_limit < n))
+    (ap length c.loop-pair.invariant.2 ∙ (c.requires.gives.all yielded gives).1) c.from_pairs.ensures.too_large
+
+pub returns-clause-none : goal.returns-clause-none
+returns-clause-none g c = λ e.
+    let yielded = c.loop-pair.yielded in
+    let gives : GivesAll g.I.IntoIterator.into_iter_gives g.I.IntoIter.Iterator.next_gives c.args.pairs yielded = search rules in
+    c.from_pairs.ensures.none (ap length c.loop-pair.invariant.2 ∙ (c.requires.gives.all yielded gives).1 ∙ e)
