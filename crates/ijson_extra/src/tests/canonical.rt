@@ -16,7 +16,7 @@ fn is_canonical(rt: &impl Abort, alloc: Global, value: &IValue, want: &str) {
 }
 
 /// Texts, and the canonical text of what each spells.
-const TEXTS: [(&str, &str); 12] = [
+static TEXTS: [(&str, &str); 12] = [
     ("{\"b\":2.0,\"a\":[10,0.0]}", "{\"a\":[1e1,0],\"b\":2e0}"),
     (
         "{\"a\":-0.5,\"b\":100,\"c\":[1.50]}",
@@ -59,7 +59,7 @@ const TEXTS: [(&str, &str); 12] = [
 /// though not where both are written with their escapes.
 #[test]
 fn canonical_texts(rt: HostRuntime) {
-    for (text, written) in TEXTS {
+    for &(text, written) in &TEXTS {
         let value = parsed(&rt, rt.alloc(), text);
         is_canonical(&rt, rt.alloc(), &value, written);
     }

@@ -143,7 +143,7 @@ fn turn_truth(value: &mut IValue)
 const TEXT: &str = "{\"a\":1,\"b\":[2]}";
 
 /// Keys, whether each is there, what is written of `TEXT` once true is written beside it, and once true is put beside it.
-const WRITTEN: [(&str, bool, &str, &str); 3] = [
+static WRITTEN: [(&str, bool, &str, &str); 3] = [
     (
         "a",
         true,
@@ -165,7 +165,7 @@ enum Way {
 }
 
 /// The ways that write nothing where the key is not there.
-const WAYS: [Way; 4] = [Way::Pair, Way::Found, Way::Inside, Way::Path];
+static WAYS: [Way; 4] = [Way::Pair, Way::Found, Way::Inside, Way::Path];
 
 /// Asserts whether a key is there, by the keys that come beside a value that is lent.
 fn is_beside(rt: &impl Abort, object: &mut IObject, letters: &str, there: bool) {
@@ -220,8 +220,8 @@ fn becomes(rt: &impl Abort, alloc: Global, letters: &str, there: bool, way: Way,
 /// One value is another one, and all else as it was.
 #[test]
 fn values_beside_keys(rt: HostRuntime) {
-    for (key, there, want, put) in WRITTEN {
-        for way in WAYS {
+    for &(key, there, want, put) in &WRITTEN {
+        for &way in &WAYS {
             becomes(&rt, rt.alloc(), key, there, way, want);
         }
         becomes(&rt, rt.alloc(), key, there, Way::Put, put);
@@ -229,7 +229,7 @@ fn values_beside_keys(rt: HostRuntime) {
 }
 
 /// Texts, and what is written of each once the truth value that it spells is turned.
-const TURNED: [(&str, &str); 7] = [
+static TURNED: [(&str, &str); 7] = [
     ("true", "false"),
     ("false", "true"),
     ("null", "null"),
@@ -242,7 +242,7 @@ const TURNED: [(&str, &str); 7] = [
 /// A truth value is turned, and another value is as it was.
 #[test]
 fn truth_values_turned(rt: HostRuntime) {
-    for (text, want) in TURNED {
+    for &(text, want) in &TURNED {
         let mut value = parsed(&rt, rt.alloc(), text);
         turn_truth(&mut value);
         is_written(&rt, rt.alloc(), &value, want);

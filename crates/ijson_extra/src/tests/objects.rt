@@ -222,7 +222,7 @@ fn extensions(rt: HostRuntime) {
     assert!(rt; object.capacity() == 8 && has_keys(&object, &["a", "b", "c", "d", "e"]));
 }
 
-const LENGTHS: [&str; 3] = ["id", "interned_string_a", "no"];
+static LENGTHS: [&str; 3] = ["id", "interned_string_a", "no"];
 
 /// An object of keys that are kept in place and in the cache, each with its position beside it.
 fn mixed(rt: &impl Abort, alloc: Global) -> IObject {
@@ -287,7 +287,7 @@ fn and_modify(rt: &impl Abort, object: &mut IObject, key: IString) -> usize {
 
 #[test]
 fn an_entry_gives_its_key_back(rt: HostRuntime) {
-    for (keys, left) in ASKED {
+    for &(keys, left) in &ASKED {
         let mut object = of_keys(&rt, rt.alloc(), keys);
         let back = asked(&rt, &mut object, key(&rt, rt.alloc(), "k"));
         assert!(rt; back.eq_str("k") && has_keys(&object, left) && object.capacity() == 4);
@@ -295,7 +295,7 @@ fn an_entry_gives_its_key_back(rt: HostRuntime) {
 }
 
 /// Keys, and those that are left once k is asked for.
-const ASKED: [(&[&str], &[&str]); 2] = [(&[], &[]), (&["a", "k", "x"], &["a", "x"])];
+static ASKED: [(&[&str], &[&str]); 2] = [(&[], &[]), (&["a", "k", "x"], &["a", "x"])];
 
 #[test]
 fn entries_put_once(rt: HostRuntime) {
@@ -446,7 +446,7 @@ fn is_shown<T: Debug>(rt: &impl Abort, alloc: Global, value: &T, want: &str) {
 }
 
 /// What is shown of the entries of a, which is there, and of x, which is not.
-const ENTRIES: [(&str, &str); 2] = [
+static ENTRIES: [(&str, &str); 2] = [
     ("a", "Occupied(OccupiedEntry { key: \"a\", value: 0 })"),
     ("x", "Vacant(VacantEntry(\"x\"))"),
 ];
@@ -455,7 +455,7 @@ const ENTRIES: [(&str, &str); 2] = [
 fn what_is_shown(rt: HostRuntime) {
     let alloc = rt.alloc();
     let mut object = of_keys(&rt, alloc, &["a", "k"]);
-    for (letters, want) in ENTRIES {
+    for &(letters, want) in &ENTRIES {
         let entry = object.entry(key(&rt, alloc, letters)).expect(&rt, "room");
         is_shown(&rt, alloc, &entry, want);
     }

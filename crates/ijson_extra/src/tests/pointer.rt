@@ -25,7 +25,7 @@ fn names_each(rt: &impl Abort, alloc: Global, text: &str, rows: &[(&str, &str)])
 const TEXT: &str = "{\"foo\":[\"bar\",\"baz\"],\"\":0,\"a/b\":1,\"m~n\":8,\"~1\":9}";
 
 /// Pointers, and the text of the value that each names in `TEXT`, or `none`.
-const NAMED: [(&str, &str); 15] = [
+static NAMED: [(&str, &str); 15] = [
     ("", TEXT),
     ("/foo/0", "\"bar\""),
     ("/", "0"),
@@ -44,10 +44,10 @@ const NAMED: [(&str, &str); 15] = [
 ];
 
 /// Texts that are no pointers.
-const NO_POINTERS: [&str; 6] = ["foo", "/~", "/~2", "/nope/~2", "/foo/0/~", "~0"];
+static NO_POINTERS: [&str; 6] = ["foo", "/~", "/~2", "/nope/~2", "/foo/0/~", "~0"];
 
 fn are_no_pointers(rt: &impl Abort, value: &IValue) {
-    for pointer in NO_POINTERS {
+    for &pointer in &NO_POINTERS {
         assert!(rt; resolve(value, pointer) == Err(PointerError::Syntax));
     }
 }
@@ -63,7 +63,7 @@ const RFC: &str =
     "{\"foo\":[\"bar\",\"baz\"],\"\":0,\"a/b\":1,\"c%d\":2,\"e^f\":3,\"g|h\":4,\"i\\\\j\":5,\"k\\\"l\":6,\" \":7,\"m~n\":8}";
 
 /// Pointers, and the text of the value that each names in `RFC`.
-const NAMED_IN_RFC: [(&str, &str); 12] = [
+static NAMED_IN_RFC: [(&str, &str); 12] = [
     ("", RFC),
     ("/foo", "[\"bar\",\"baz\"]"),
     ("/foo/0", "\"bar\""),
@@ -127,7 +127,7 @@ fn becomes(
 const NO_POINTER: Option<Unresolved> = Some(Unresolved::NoPointer(PointerError::Syntax));
 
 /// Pointers, what is written of `TEXT` once true is put where each leads, and why it leads nowhere.
-const WRITTEN: [(&str, &str, Option<Unresolved>); 17] = [
+static WRITTEN: [(&str, &str, Option<Unresolved>); 17] = [
     ("", "true", None),
     (
         "/foo",
@@ -174,7 +174,7 @@ const WRITTEN: [(&str, &str, Option<Unresolved>); 17] = [
 /// One value is another one, and all else as it was.
 #[test]
 fn pointers_to_be_written(rt: HostRuntime) {
-    for (pointer, written, refused) in WRITTEN {
+    for &(pointer, written, refused) in &WRITTEN {
         becomes(&rt, rt.alloc(), TEXT, pointer, written, refused);
     }
     let (deep, written) = ("[[[0,{\"a\":[1,[2]]}]],3]", "[[[0,{\"a\":[1,[true]]}]],3]");

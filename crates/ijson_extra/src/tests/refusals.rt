@@ -21,30 +21,35 @@ use std::alloc::{AllocError, Global};
 use std::fmt::Debug;
 use std::process::Abort;
 
-/// What a call gives, which is made again where memory was refused.
-fn retried<T: Drop, E: Debug + Drop, F: Fn() -> Result<T, E> + Drop>(rt: &impl Abort, call: F) -> T
+/// What a call answers, which is made again where memory is refused.
+fn granted<T: Drop, E: PartialEq + Debug + Drop, F: FnMut() -> Result<T, E> + Drop>(
+    rt: &impl Abort,
+    memory: E,
+    mut call: F,
+) -> T
     requires { F.IsAlwaysCallable call }
 {
     match call() {
-        Ok(given) => given,
-        Err(_) => call().expect(rt, "memory for the second call"),
+        Ok(answer) => answer,
+        Err(refused) => {
+            assert!(rt; refused == memory);
+            call().expect(rt, "an answer")
+        }
     }
 }
 
 /// The number that a text spells.
 fn spelled(rt: &impl Abort, alloc: Global, text: &str) -> INumber {
-    match INumber::from_str(alloc, text) {
-        Ok(number) => number,
-        Err(error) => {
-            assert!(rt; error == ParseNumberError::Memory);
-            INumber::from_str(alloc, text).expect(rt, "a number")
-        }
-    }
+    granted(
+        rt,
+        ParseNumberError::Memory,
+        || INumber::from_str(alloc, text),
+    )
 }
 
 /// Asserts that a copy of a number is equal to it.
 fn copies_number(rt: &impl Abort, number: &INumber) {
-    assert!(rt; retried(rt, || number.clone()) == *number);
+    assert!(rt; granted(rt, AllocError, || number.clone()) == *number);
 }
 
 #[test]
@@ -59,7 +64,7 @@ fn number_of_many_digits(rt: HostRuntime) {
 
 /// The number at the front of a text, and its length.
 fn at_front(rt: &impl Abort, alloc: Global, text: &str) -> (INumber, usize) {
-    retried(rt, || INumber::at_front(alloc, text)).expect(rt, "a number")
+    granted(rt, AllocError, || INumber::at_front(alloc, text)).expect(rt, "a number")
 }
 
 #[test]
@@ -103,7 +108,7 @@ fn array_push(rt: HostRuntime) {
 
 /// An empty array that has room for so many items.
 fn array_of_room(rt: &impl Abort, alloc: Global, capacity: usize) -> IArray {
-    retried(rt, || IArray::with_capacity(alloc, capacity))
+    granted(rt, AllocError, || IArray::with_capacity(alloc, capacity))
 }
 
 /// An array of the numbers 1 and 2.
@@ -209,7 +214,9 @@ fn made_again(rt: &impl Abort, alloc: Global, array: IArray) -> IArray {
 
 /// A list of the numbers from 0 to 2.
 fn three(rt: &impl Abort, alloc: Global) -> Vec<IValue> {
-    retried(rt, || vec![in alloc; number(0), number(1), number(2)])
+    granted(rt, AllocError, || {
+        Ok(vec![in alloc; number(0), number(1), number(2)]?)
+    })
 }
 
 /// An array of the items of a list.
@@ -255,7 +262,7 @@ fn interned(rt: &impl Abort, cache: &mut Cache, text: &str) -> IString {
 }
 
 /// Texts, and how many a cache of one other text holds once each is interned.
-const TEXTS: [(&str, usize); 4] = [
+static TEXTS: [(&str, usize); 4] = [
     ("seven77", 1),
     ("eight888", 2),
     ("interned_string_a", 3),
@@ -279,14 +286,14 @@ fn counted(rt: &impl Abort, cache: &mut Cache, text: &str, count: usize) -> IStr
 /// Asserts that a text and its copies are these letters.
 fn copies_text(rt: &impl Abort, alloc: Global, key: &IString, text: &str) {
     assert!(rt; key.eq_str(text) && key.clone().expect(rt, "a copy") == *key);
-    let copy = retried(rt, || key.to_owned_string(alloc));
+    let copy = granted(rt, AllocError, || key.to_owned_string(alloc));
     assert!(rt; copy.as_str() == text && key.eq_str(text));
 }
 
 #[test]
 fn intern(rt: HostRuntime) {
     let mut cache = used_cache(&rt, rt.alloc());
-    for (text, count) in TEXTS {
+    for &(text, count) in &TEXTS {
         let key = counted(&rt, &mut cache, text, count);
         assert!(rt; cache.len() == count && cache.contains(text) == (text.len() > 7));
         copies_text(&rt, rt.alloc(), &key, text);
@@ -296,17 +303,11 @@ fn intern(rt: HostRuntime) {
 /// What `text` spells, through a cache of its own.
 fn read(rt: &impl Abort, alloc: Global, text: &str) -> IValue {
     let mut cache = empty_cache(alloc);
-    match from_json(alloc, &mut cache, text) {
-        Ok(value) => value,
-        Err(refused) => {
-            assert!(rt; refused == JsonError::Memory);
-            from_json(alloc, &mut cache, text).expect(rt, text)
-        }
-    }
+    granted(rt, JsonError::Memory, || from_json(alloc, &mut cache, text))
 }
 
 fn written(rt: &impl Abort, alloc: Global, value: &IValue) -> String {
-    retried(rt, || to_json(alloc, value))
+    granted(rt, AllocError, || to_json(alloc, value))
 }
 
 /// Asserts that a text is what is written of a value.
@@ -315,7 +316,7 @@ fn is_written(rt: &impl Abort, alloc: Global, value: &IValue, text: &str) {
 }
 
 /// Texts that are written as they are read, and how many texts a cache of one other text holds then.
-const DOCUMENTS: [(&str, usize); 2] = [
+static DOCUMENTS: [(&str, usize); 2] = [
     (r#"["longlong",[1]]"#, 2),
     (
         r#"[1.5,[true,{"a":"longlong","eight888":"\n"}],12345678901234567890123,null]"#,
@@ -336,7 +337,7 @@ fn read_into(rt: &impl Abort, alloc: Global, cache: &mut Cache, text: &str, held
 
 /// An empty text that has room for so many bytes.
 fn text_of_room(rt: &impl Abort, alloc: Global, bytes: usize) -> String {
-    retried(rt, || String::with_capacity(alloc, bytes))
+    granted(rt, AllocError, || String::with_capacity(alloc, bytes))
 }
 
 /// The text `true`, which has no room for more.
@@ -354,7 +355,7 @@ fn parts(rt: &impl Abort, alloc: Global) {
         push_separator(&mut found, false).expect(rt, "a longer text");
     }
     assert!(rt; found.as_str() == "true,");
-    for (text, want) in NUMBERS {
+    for &(text, want) in &NUMBERS {
         let number = spelled(rt, alloc, text);
         let mut found = full_text(rt, alloc);
         let pushed = number.push_to(&mut found);
@@ -375,7 +376,7 @@ fn parts(rt: &impl Abort, alloc: Global) {
 
 /// Numbers of few digits and of many, with zeros beside the digits and with an exponent, and what stands behind `true` once they are put
 /// there.
-const NUMBERS: [(&str, &str); 5] = [
+static NUMBERS: [(&str, &str); 5] = [
     ("18446744073709551615", "true18446744073709551615"),
     (
         "123456789012345678901234567890.5",
@@ -394,7 +395,7 @@ fn is_begun(rt: &impl Abort, found: &str, want: &str, is_done: bool) {
 
 #[test]
 fn reading_and_writing(rt: HostRuntime) {
-    for (text, held) in DOCUMENTS {
+    for &(text, held) in &DOCUMENTS {
         let mut cache = used_cache(&rt, rt.alloc());
         let value = read_into(&rt, rt.alloc(), &mut cache, text, held);
         assert!(rt; is_kept(&cache, held) && cache.len() == held);
@@ -405,12 +406,12 @@ fn reading_and_writing(rt: HostRuntime) {
 
 /// Asserts that a text is the canonical one of a value.
 fn is_canonical(rt: &impl Abort, alloc: Global, value: &IValue, text: &str) {
-    let found = retried(rt, || canonical_json(alloc, value));
+    let found = granted(rt, AllocError, || canonical_json(alloc, value));
     assert!(rt; found.as_str() == text);
 }
 
 /// Numbers in a word, in one row and in more, and what stands behind `true` once their stripped digits are put there.
-const STRIPPED: [(&str, &str); 3] = [
+static STRIPPED: [(&str, &str); 3] = [
     ("18446744073709551600", "true184467440737095516"),
     ("-2.50e30", "true25"),
     (
@@ -421,7 +422,7 @@ const STRIPPED: [(&str, &str); 3] = [
 
 /// Puts the stripped digits of a number behind a text that has no room.
 fn stripped_parts(rt: &impl Abort, alloc: Global) {
-    for (text, want) in STRIPPED {
+    for &(text, want) in &STRIPPED {
         let number = spelled(rt, alloc, text);
         let mut found = full_text(rt, alloc);
         let pushed = number.push_stripped_digits(&mut found);
@@ -450,7 +451,7 @@ fn sink(alloc: Global) -> Result<MemorySink, AllocError>
 }
 
 /// Texts, and what is written of each.
-const COMPACTED: [(&[u8], &[u8]); 2] = [
+static COMPACTED: [(&[u8], &[u8]); 2] = [
     (b"[1.50]", b"[1.5]\n"),
     (b"[ \"longlong\" ]", b"[\"longlong\"]\n"),
 ];
@@ -491,7 +492,7 @@ fn is_compacted(
 
 #[test]
 fn compacting(rt: HostRuntime) {
-    for (text, line) in COMPACTED {
+    for &(text, line) in &COMPACTED {
         let mut cache = used_cache(&rt, rt.alloc());
         if !is_compacted(&rt, rt.alloc(), &mut cache, text, line) {
             assert!(rt; is_compacted(&rt, rt.alloc(), &mut cache, text, line));
@@ -518,18 +519,18 @@ fn compacting_to_a_value(rt: HostRuntime) {
 
 /// Copies an array by its own call.
 fn copies_array(rt: &impl Abort, array: &IArray) {
-    assert!(rt; retried(rt, || array.clone()) == *array);
+    assert!(rt; granted(rt, AllocError, || array.clone()) == *array);
 }
 
 /// Copies an object of two pairs by its own call.
 fn copies_object(rt: &impl Abort, object: &IObject) {
-    let copy = retried(rt, || object.clone());
+    let copy = granted(rt, AllocError, || object.clone());
     assert!(rt; copy == *object && copy.capacity() == 2);
 }
 
 /// Copies a value that is written as this text.
 fn copied(rt: &impl Abort, alloc: Global, value: &IValue, text: &str) -> IValue {
-    let copy = retried(rt, || value.clone());
+    let copy = granted(rt, AllocError, || value.clone());
     assert!(rt; copy == *value);
     is_written(rt, alloc, &copy, text);
     copy
@@ -537,7 +538,7 @@ fn copied(rt: &impl Abort, alloc: Global, value: &IValue, text: &str) -> IValue 
 
 /// Copies items into an array.
 fn copies_items(rt: &impl Abort, alloc: Global, items: &[IValue]) {
-    let array = retried(rt, || IArray::from_slice(alloc, items));
+    let array = granted(rt, AllocError, || IArray::from_slice(alloc, items));
     assert!(rt; array.as_slice() == items);
 }
 

@@ -2,13 +2,13 @@
 //! thousand rounds of them make as many requests as one does.
 
 use super::objects::{PAIRS, holds, is_number, refused_entry, with_pairs};
-use super::{Cache, array_of_room, interned, number, retried, spelled};
+use super::{Cache, array_of_room, granted, interned, number, spelled};
 use crate::pointer::{resolve, resolve_mut};
 use crate::tests::{empty_cache, key};
 use ijson_json::{CompactError, MemorySink, Sink, report};
 use ijson_number::{Form, INumber};
 use ijson_string::IString;
-use ijson_table::{FixedTable, LinearPairs, PairStore};
+use ijson_table::{FixedTable, LinearPairs, PairStore, ReserveError};
 use ijson_value::array::IArray;
 use ijson_value::object::{Entry, IObject};
 use ijson_value::value::{IValue, ValueType};
@@ -238,13 +238,21 @@ fn turns_twice<P: PairStore<u8>>(rt: &impl Abort, store: &mut P, rounds: u32) {
 }
 
 fn lists(rt: &impl Abort, alloc: Global, rounds: u32) {
-    let mut list = retried(rt, || LinearPairs::with_capacity(alloc, 3));
+    let mut list = granted(
+        rt,
+        ReserveError::Memory,
+        || LinearPairs::with_capacity(alloc, 3),
+    );
     put_three(rt, alloc, &mut list);
     turns_twice(rt, &mut list, rounds);
 }
 
 fn tables(rt: &impl Abort, alloc: Global, rounds: u32) {
-    let mut table = retried(rt, || FixedTable::with_capacity(alloc, 3));
+    let mut table = granted(
+        rt,
+        ReserveError::Memory,
+        || FixedTable::with_capacity(alloc, 3),
+    );
     put_three(rt, alloc, &mut table);
     turns_twice(rt, &mut table, rounds);
     assert!(rt; table.into_pairs().len() == 3);

@@ -3,17 +3,17 @@ ghost use Rattle.std.specs.Prelude.{◌≡◌};
 ghost use Rattle.ijson_value.specs.Kind.{kind_of};
 ghost use Rattle.ijson_value.specs.declared.value.ValueType.TheVariants as kind;
 
-use super::{interned, retried};
+use super::{granted, interned};
 use crate::tests::{empty_cache, key};
 use ijson_string::IString;
 use ijson_table::ReserveError;
 use ijson_value::object::{Entry, IObject, RefusedKey, RefusedPair};
 use ijson_value::value::IValue;
-use std::alloc::Global;
+use std::alloc::{AllocError, Global};
 use std::process::Abort;
 
 /// The pairs of the objects that follow.
-pub const PAIRS: [(&str, u8); 5] = [("a", 1), ("b", 2), ("c", 3), ("d", 4), ("e", 5)];
+pub static PAIRS: [(&str, u8); 5] = [("a", 1), ("b", 2), ("c", 3), ("d", 4), ("e", 5)];
 
 /// Whether a value is this number.
 pub fn is_number(value: &IValue, number: u8) -> bool {
@@ -70,7 +70,7 @@ fn is_back(refused: &RefusedPair, len: usize) -> bool {
 
 /// A list of the five pairs, and the first of them once more.
 fn listed(rt: &impl Abort, alloc: Global) -> Vec<(IString, IValue)> {
-    let mut pairs = retried(rt, || Vec::with_capacity(alloc, 6));
+    let mut pairs = granted(rt, AllocError, || Vec::with_capacity(alloc, 6));
     for (text, value) in PAIRS.iter().chain(PAIRS.iter().take(1)) {
         let pair = (key(rt, alloc, text), IValue::from(*value));
         pairs.push(pair).expect(rt, "room");
@@ -151,7 +151,7 @@ fn room(rt: HostRuntime) {
 
 /// The key and the value of a pair, which counts the pairs with it; how many others are before it and fill an object; and the
 /// capacity that it needs. The first of the objects has no memory yet.
-const FULL: [(&str, u8, usize, usize); 2] = [("a", 1, 0, 4), ("e", 5, 4, 8)];
+static FULL: [(&str, u8, usize, usize); 2] = [("a", 1, 0, 4), ("e", 5, 4, 8)];
 
 /// Why the entry of a copied key was refused, if it was.
 fn refused_copy(object: &mut IObject, key: &IString) -> Option<ReserveError> {
@@ -199,7 +199,7 @@ fn enters(rt: &impl Abort, object: &mut IObject, key: IString, number: u8, len: 
 
 #[test]
 fn entries(rt: HostRuntime) {
-    for (text, number, len, capacity) in FULL {
+    for &(text, number, len, capacity) in &FULL {
         let next = key(&rt, rt.alloc(), text);
         enters_copy(&rt, rt.alloc(), &next, len, capacity);
         let mut object = with_pairs(&rt, rt.alloc(), len, len);
@@ -266,7 +266,7 @@ fn puts_inside(rt: &impl Abort, value: &mut IValue, key: IString, number: u8, le
 #[test]
 fn values_beside_keys(rt: HostRuntime) {
     let alloc = rt.alloc();
-    for (text, number, len, capacity) in FULL {
+    for &(text, number, len, capacity) in &FULL {
         let mut object = with_pairs(&rt, alloc, len, len);
         puts(&rt, &mut object, key(&rt, alloc, text), number, len);
         assert!(rt; holds(&object, usize::from(number), capacity));
