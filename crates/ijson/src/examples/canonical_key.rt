@@ -37,7 +37,7 @@ fn same_key(alloc: Global, a: &IValue, b: &IValue) -> Result<bool, AllocError>
 }
 
 /// Two texts, and whether their values are equal.
-const PAIRS: [(&str, &str, bool); 5] = [
+static PAIRS: [(&str, &str, bool); 5] = [
     (
         "{\"b\":2.0,\"a\":[10,0.0]}",
         "{\"a\":[1e1,-0],\"b\":2}",
@@ -58,7 +58,7 @@ fn have_one_key(rt: &impl Abort, alloc: Global, a: &str, b: &str, want: bool) {
 
 #[test]
 fn keys_tell_values_apart(rt: HostRuntime) {
-    for (a, b, same) in PAIRS {
+    for &(a, b, same) in &PAIRS {
         have_one_key(&rt, rt.alloc(), a, b, same);
     }
 }

@@ -29,7 +29,7 @@ fn store(documents: &mut IndexSet<IValue>, document: IValue) -> Result<usize, Al
 }
 
 /// Texts that are stored one after the other, and the position that each is told.
-const STORED: [(&str, usize); 6] = [
+static STORED: [(&str, usize); 6] = [
     ("{\"k\":2,\"l\":[1,{}]}", 0),
     ("[1,2]", 1),
     ("{\"l\":[1.0,{}],\"k\":2.0}", 0),
@@ -48,7 +48,7 @@ fn is_stored(rt: &impl Abort, documents: &mut IndexSet<IValue>, document: IValue
 fn equal_documents_are_stored_once(rt: HostRuntime) {
     let alloc = rt.alloc();
     let mut documents = IndexSet::new(alloc);
-    for (text, position) in STORED {
+    for &(text, position) in &STORED {
         is_stored(&rt, &mut documents, parsed(&rt, alloc, text), position);
     }
     assert!(rt; find(&documents, &parsed(&rt, alloc, "[2.0,1]")) == Some(2));

@@ -53,7 +53,7 @@ fn invoice_total(records: &IValue) -> Result<i64, TotalError>
 }
 
 /// Invoices and their totals.
-const INVOICES: [(&str, Result<i64, TotalError>); 8] = [
+static INVOICES: [(&str, Result<i64, TotalError>); 8] = [
     (
         "[{\"amount\":3},{\"amount\":-1,\"note\":\"back\"},{\"amount\":4.0}]",
         Ok(6),
@@ -75,7 +75,7 @@ const INVOICES: [(&str, Result<i64, TotalError>); 8] = [
 
 #[test]
 fn invoices(rt: HostRuntime) {
-    for (text, want) in INVOICES {
+    for &(text, want) in &INVOICES {
         let value = parsed(&rt, rt.alloc(), text);
         assert!(rt; invoice_total(&value) == want, "{text}");
     }

@@ -45,7 +45,7 @@ fn object_of(alloc: Global, value: IValue) -> IObject
 }
 
 /// Targets, patches, and what the patches make of them: the table of RFC 7396, appendix A.
-const MERGED: [(&str, &str, &str); 15] = [
+static MERGED: [(&str, &str, &str); 15] = [
     ("{\"a\":\"b\"}", "{\"a\":\"c\"}", "{\"a\":\"c\"}"),
     (
         "{\"a\":\"b\"}",
@@ -88,7 +88,7 @@ fn is_patched(rt: &impl Abort, alloc: Global, target: &str, patch: &str, want: &
 
 #[test]
 fn patches(rt: HostRuntime) {
-    for (target, patch, want) in MERGED {
+    for &(target, patch, want) in &MERGED {
         is_patched(&rt, rt.alloc(), target, patch, want);
     }
 }

@@ -31,7 +31,7 @@ fn pointed(alloc: Global, text: &str, pointer: &str) -> Result<String> {
 }
 
 /// Texts, pointers, and what is printed, or told.
-const POINTED: [(&str, &str, &str); 7] = [
+static POINTED: [(&str, &str, &str); 7] = [
     ("{\"server\":{\"port\":8080}}", "/server/port", "8080"),
     ("[1,[2.50]]", "/1", "[2.5]"),
     ("{}", "/a", "nothing stands at \"/a\""),
@@ -47,7 +47,7 @@ const POINTED: [(&str, &str, &str); 7] = [
 
 #[test]
 fn values_are_pointed_at(rt: HostRuntime) {
-    for (text, pointer, want) in POINTED {
+    for &(text, pointer, want) in &POINTED {
         let found = match pointed(rt.alloc(), text, pointer) {
             Ok(found) => found.as_str() == want,
             Err(fault) => format!(in rt.alloc(); "{fault}")

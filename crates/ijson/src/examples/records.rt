@@ -36,7 +36,7 @@ fn count_refused(value: &IValue) -> Option<usize>
 }
 
 /// Texts, and how many items are refused.
-const REFUSED: [(&str, Option<usize>); 3] = [
+static REFUSED: [(&str, Option<usize>); 3] = [
     (
         "[{\"id\":7},{\"id\":0.0,\"name\":\"a\"},{\"id\":-1},{\"id\":1.5},{\"id\":\"7\"},{\"name\":\"b\"},7,\
         {\"id\":18446744073709551616},[],{\"id\":1e2}]",
@@ -48,7 +48,7 @@ const REFUSED: [(&str, Option<usize>); 3] = [
 
 #[test]
 fn items_with_no_id_are_counted(rt: HostRuntime) {
-    for (text, count) in REFUSED {
+    for &(text, count) in &REFUSED {
         let value = parsed(&rt, rt.alloc(), text);
         assert!(rt; count_refused(&value) == count);
     }

@@ -27,7 +27,7 @@ fn overlay(base: &mut IValue, over: IValue) -> Result<bool, RefusedPair>
 }
 
 /// Defaults, settings, and the defaults with the settings.
-const LAID_OVER: [(&str, &str, &str); 5] = [
+static LAID_OVER: [(&str, &str, &str); 5] = [
     (
         "{\"a\":1,\"b\":2}",
         "{\"b\":3,\"c\":4}",
@@ -48,7 +48,7 @@ fn laid_over(rt: &impl Abort, alloc: Global, base: &str, over: &str) -> IValue {
 
 #[test]
 fn settings(rt: HostRuntime) {
-    for (base, over, want) in LAID_OVER {
+    for &(base, over, want) in &LAID_OVER {
         let value = laid_over(&rt, rt.alloc(), base, over);
         is_written(&rt, rt.alloc(), &value, want);
     }

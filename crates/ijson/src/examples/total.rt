@@ -46,7 +46,7 @@ fn total_of_members(object: &IObject) -> Option<u64>
 }
 
 /// Texts, and the sum of the numbers in each.
-const TOTALS: [(&str, Option<u64>); 6] = [
+static TOTALS: [(&str, Option<u64>); 6] = [
     (
         "{\"apples\":3,\"pears\":[1,2.0,{\"green\":4}],\"note\":\"7\",\"more\":[[],null,true,1e1]}",
         Some(20),
@@ -60,7 +60,7 @@ const TOTALS: [(&str, Option<u64>); 6] = [
 
 #[test]
 fn numbers_are_summed(rt: HostRuntime) {
-    for (text, sum) in TOTALS {
+    for &(text, sum) in &TOTALS {
         let value = parsed(&rt, rt.alloc(), text);
         assert!(rt; total(&value) == sum);
     }

@@ -141,7 +141,7 @@ fn lengths_and_room(rt: HostRuntime) {
 }
 
 /// Letters, and for how many items there is room once they are pushed one after the other.
-const ROOMS: [(&str, usize); 5] = [
+static ROOMS: [(&str, usize); 5] = [
     ("", 0),
     ("n", 4),
     ("ntfn", 4),
@@ -151,7 +151,7 @@ const ROOMS: [(&str, usize); 5] = [
 
 #[test]
 fn room_that_pushes_make(rt: HostRuntime) {
-    for (letters, room) in ROOMS {
+    for &(letters, room) in &ROOMS {
         assert!(rt;
             spelled(&rt, rt.alloc(), letters).capacity() == room,
             "{letters}"
@@ -162,7 +162,7 @@ fn room_that_pushes_make(rt: HostRuntime) {
 /// Gives the items of `ntf` out.
 fn gives_out(rt: &impl Abort, array: IArray) {
     let mut items = array.into_iter();
-    for (left, item) in GIVEN {
+    for &(left, item) in &GIVEN {
         assert!(rt; items.size_hint() == (left, Some(left)));
         assert!(rt; items.len() == left && is_item(items.next(), item));
     }
@@ -170,7 +170,7 @@ fn gives_out(rt: &impl Abort, array: IArray) {
 }
 
 /// How many items are left, and the letter of the next one.
-const GIVEN: [(usize, u8); 3] = [(3, b'n'), (2, b't'), (1, b'f')];
+static GIVEN: [(usize, u8); 3] = [(3, b'n'), (2, b't'), (1, b'f')];
 
 #[test]
 fn iterators(rt: HostRuntime) {

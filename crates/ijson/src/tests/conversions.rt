@@ -89,12 +89,12 @@ fn text_of<T: ToIValue>(rt: &impl Abort, alloc: Global, x: &T) -> String {
 }
 
 /// The pairs of two maps, in the order in which they are put.
-const PUT: [(&str, u8); 2] = [("b", 1), ("a", 2)];
+static PUT: [(&str, u8); 2] = [("b", 1), ("a", 2)];
 
 /// A map that sorts its keys.
 fn sorted(rt: &impl Abort, alloc: Global) -> BTreeMap<String, u8> {
     let mut map: BTreeMap<String, u8> = BTreeMap::new(alloc);
-    for (letters, n) in PUT {
+    for &(letters, n) in &PUT {
         let key = String::from_str(alloc, letters).expect(rt, "a text");
         let old: Result<_, _> = map.insert(key, n);
         drop(old.expect(rt, "room"));
@@ -105,7 +105,7 @@ fn sorted(rt: &impl Abort, alloc: Global) -> BTreeMap<String, u8> {
 /// A map that keeps the order of its keys.
 fn inserted(rt: &impl Abort, alloc: Global) -> IndexMap<String, u8> {
     let mut map: IndexMap<String, u8> = IndexMap::new(alloc);
-    for (letters, n) in PUT {
+    for &(letters, n) in &PUT {
         let key = String::from_str(alloc, letters).expect(rt, "a text");
         let old: Result<_, _> = map.insert(key, n);
         drop(old.expect(rt, "room"));
@@ -131,7 +131,7 @@ fn slices_and_texts_are_values(rt: HostRuntime) {
 }
 
 /// What is written of the object of each map that has an order.
-const ORDERS: [(Keys, Option<&str>); 3] = [
+static ORDERS: [(Keys, Option<&str>); 3] = [
     (Keys::Hashes, None),
     (Keys::Sorts, Some(r#"{"a":2,"b":1,"eight888":3}"#)),
     (Keys::Keeps, Some(r#"{"b":1,"a":2,"eight888":3}"#)),
@@ -149,7 +149,7 @@ fn pairs_of_maps_are_objects(rt: HostRuntime) {
     let alloc = rt.alloc();
     let mut cache = empty_cache(alloc);
     let same = parsed(&rt, alloc, r#"{"a":2,"b":1,"eight888":3}"#);
-    for (keys, order) in ORDERS {
+    for &(keys, order) in &ORDERS {
         let value = of_map(&rt, alloc, &mut cache, keys);
         assert!(rt; value == same);
         if let Some(text) = order {
@@ -166,7 +166,7 @@ const PAST: Result<&str, ConvertError> = Err(ConvertError::OutOfRange);
 const WRONG_KIND: Result<&str, ConvertError> = Err(ConvertError::WrongKind);
 
 /// The least and the greatest `i8`, and the integers past them.
-const OF_I8: [Case; 4] = [
+static OF_I8: [Case; 4] = [
     ("-128", Ok("-128")),
     ("127", Ok("127")),
     ("-129", PAST),
@@ -174,7 +174,7 @@ const OF_I8: [Case; 4] = [
 ];
 
 /// The least and the greatest `u8`, and the integers past them.
-const OF_U8: [Case; 4] = [
+static OF_U8: [Case; 4] = [
     ("0", Ok("0")),
     ("255", Ok("255")),
     ("-1", PAST),
@@ -182,7 +182,7 @@ const OF_U8: [Case; 4] = [
 ];
 
 /// The least and the greatest `i16`, and the integers past them.
-const OF_I16: [Case; 4] = [
+static OF_I16: [Case; 4] = [
     ("-32768", Ok("-32768")),
     ("32767", Ok("32767")),
     ("-32769", PAST),
@@ -190,7 +190,7 @@ const OF_I16: [Case; 4] = [
 ];
 
 /// The least and the greatest `u16`, and the integers past them.
-const OF_U16: [Case; 4] = [
+static OF_U16: [Case; 4] = [
     ("0", Ok("0")),
     ("65535", Ok("65535")),
     ("-1", PAST),
@@ -198,7 +198,7 @@ const OF_U16: [Case; 4] = [
 ];
 
 /// The least and the greatest `i32`, and the integers past them.
-const OF_I32: [Case; 4] = [
+static OF_I32: [Case; 4] = [
     ("-2147483648", Ok("-2147483648")),
     ("2147483647", Ok("2147483647")),
     ("-2147483649", PAST),
@@ -206,7 +206,7 @@ const OF_I32: [Case; 4] = [
 ];
 
 /// The least and the greatest `u32`, and the integers past them.
-const OF_U32: [Case; 4] = [
+static OF_U32: [Case; 4] = [
     ("0", Ok("0")),
     ("4294967295", Ok("4294967295")),
     ("-1", PAST),
@@ -214,7 +214,7 @@ const OF_U32: [Case; 4] = [
 ];
 
 /// The least and the greatest `i64`, and `isize`, and the integers past them.
-const OF_I64: [Case; 4] = [
+static OF_I64: [Case; 4] = [
     ("-9223372036854775808", Ok("-9223372036854775808")),
     ("9223372036854775807", Ok("9223372036854775807")),
     ("-9223372036854775809", PAST),
@@ -222,7 +222,7 @@ const OF_I64: [Case; 4] = [
 ];
 
 /// The least and the greatest `u64`, and `usize`, and the integers past them.
-const OF_U64: [Case; 4] = [
+static OF_U64: [Case; 4] = [
     ("0", Ok("0")),
     ("18446744073709551615", Ok("18446744073709551615")),
     ("-1", PAST),
@@ -230,10 +230,10 @@ const OF_U64: [Case; 4] = [
 ];
 
 /// What is said as an `i32`.
-const INTEGERS: [Case; 3] = [("2.0", Ok("2")), ("2.5", PAST), ("\"x\"", WRONG_KIND)];
+static INTEGERS: [Case; 3] = [("2.0", Ok("2")), ("2.5", PAST), ("\"x\"", WRONG_KIND)];
 
 /// What is said as a truth value.
-const TRUTH: [Case; 4] = [
+static TRUTH: [Case; 4] = [
     ("true", Ok("true")),
     ("false", Ok("false")),
     ("0", WRONG_KIND),
@@ -241,7 +241,7 @@ const TRUTH: [Case; 4] = [
 ];
 
 /// What is said as a text.
-const TEXT: [Case; 4] = [
+static TEXT: [Case; 4] = [
     (r#""a text of many bytes""#, Ok(r#""a text of many bytes""#)),
     (r#""""#, Ok(r#""""#)),
     ("1", WRONG_KIND),
@@ -249,20 +249,20 @@ const TEXT: [Case; 4] = [
 ];
 
 /// What is said as a list of integers that may be missing.
-const OPTIONS: [Case; 2] = [("[1,null,2.0]", Ok("[1,null,2]")), ("{}", WRONG_KIND)];
+static OPTIONS: [Case; 2] = [("[1,null,2.0]", Ok("[1,null,2]")), ("{}", WRONG_KIND)];
 
 /// What is said as a list of bytes.
-const BYTES: [Case; 2] = [("[1,256,\"x\"]", PAST), ("[1,\"x\",256]", WRONG_KIND)];
+static BYTES: [Case; 2] = [("[1,256,\"x\"]", PAST), ("[1,\"x\",256]", WRONG_KIND)];
 
 /// What is said as a map of truth values.
-const TRUTHS: [Case; 3] = [
+static TRUTHS: [Case; 3] = [
     (r#"{"b":true,"a":false}"#, Ok(r#"{"a":false,"b":true}"#)),
     (r#"{"b":true,"a":1}"#, WRONG_KIND),
     ("[]", WRONG_KIND),
 ];
 
 /// What is said as a map of lists of integers that may be missing.
-const NESTED: [Case; 5] = [
+static NESTED: [Case; 5] = [
     (
         r#"{"b":[1,null],"eight888":[],"a":[-2.0]}"#,
         Ok(r#"{"a":[-2],"b":[1,null],"eight888":[]}"#),
@@ -422,7 +422,7 @@ fn many_pairs_go_there_and_back(rt: HostRuntime) {
     let pairs = goes_back(&rt, rt.alloc(), &numbered(&rt, rt.alloc(), 10_000));
     let object = pairs.as_object().expect(&rt, "an object");
     assert!(rt; object.len() == 10_000 && object.capacity() == 10_000);
-    for (keys, _order) in ORDERS {
+    for &(keys, _order) in &ORDERS {
         goes_through(&rt, rt.alloc(), object, keys);
     }
 }

@@ -28,7 +28,7 @@ fn is_told<E: Error>(rt: &impl Abort, alloc: Global, fault: E, text: &str, shown
 }
 
 /// Faults of a text, the text of each, and how it is shown.
-const OF_TEXTS: [(JsonError, &str, &str); 4] = [
+static OF_TEXTS: [(JsonError, &str, &str); 4] = [
     (
         JsonError::Syntax { at: 3 },
         "syntax at byte 3",
@@ -48,7 +48,7 @@ const OF_TEXTS: [(JsonError, &str, &str); 4] = [
 ];
 
 /// Faults of `compact`, the text of each, and how it is shown.
-const OF_COMPACT: [(CompactError, &str, &str); 5] = [
+static OF_COMPACT: [(CompactError, &str, &str); 5] = [
     (CompactError::Read, "read failed", "Read"),
     (CompactError::NotUtf8, "input is not UTF-8", "NotUtf8"),
     (
@@ -61,7 +61,7 @@ const OF_COMPACT: [(CompactError, &str, &str); 5] = [
 ];
 
 /// Refusals of a conversion, the text of each, and how it is shown.
-const OF_CONVERSIONS: [(ConvertError, &str, &str); 4] = [
+static OF_CONVERSIONS: [(ConvertError, &str, &str); 4] = [
     (
         ConvertError::WrongKind,
         "a value of another kind",
@@ -81,7 +81,7 @@ const OF_CONVERSIONS: [(ConvertError, &str, &str); 4] = [
 ];
 
 /// Why a pointer leads nowhere, the text of each reason, and how it is shown.
-const OF_POINTERS: [(Unresolved, &str, &str); 2] = [
+static OF_POINTERS: [(Unresolved, &str, &str); 2] = [
     (
         Unresolved::Nothing,
         "nothing is at the JSON Pointer",
@@ -96,16 +96,16 @@ const OF_POINTERS: [(Unresolved, &str, &str); 2] = [
 
 #[test]
 fn faults_become_errors(rt: HostRuntime) {
-    for (fault, text, shown) in OF_TEXTS {
+    for &(fault, text, shown) in &OF_TEXTS {
         is_told(&rt, rt.alloc(), fault, text, shown);
     }
-    for (fault, text, shown) in OF_COMPACT {
+    for &(fault, text, shown) in &OF_COMPACT {
         is_told(&rt, rt.alloc(), fault, text, shown);
     }
-    for (fault, text, shown) in OF_CONVERSIONS {
+    for &(fault, text, shown) in &OF_CONVERSIONS {
         is_told(&rt, rt.alloc(), fault, text, shown);
     }
-    for (fault, text, shown) in OF_POINTERS {
+    for &(fault, text, shown) in &OF_POINTERS {
         is_told(&rt, rt.alloc(), fault, text, shown);
     }
 }

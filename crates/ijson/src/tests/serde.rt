@@ -12,7 +12,7 @@ use std::alloc::Global;
 use std::process::Abort;
 
 /// Texts; what is written of the value of each, once it went to `serde_json` and back; and of what `serde_json` reads there.
-const SERDE: [(&str, Result<&str, ConvertError>, Result<&str, ConvertError>); 17] = [
+static SERDE: [(&str, Result<&str, ConvertError>, Result<&str, ConvertError>); 17] = [
     (
         r#"{"b":1,"a":2.0}"#,
         Ok(r#"{"a":2,"b":1}"#),
@@ -158,7 +158,7 @@ fn goes_over(rt: &impl Abort, alloc: Global, text: &str, over: Result<&str, Conv
 #[test]
 fn values_go_over_and_back(rt: HostRuntime) {
     let alloc = rt.alloc();
-    for (text, back, over) in SERDE {
+    for &(text, back, over) in &SERDE {
         goes_back(&rt, alloc, text, back);
         goes_over(&rt, alloc, text, over);
     }

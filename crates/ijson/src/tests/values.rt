@@ -98,7 +98,7 @@ fn values_take_what_they_are_given(rt: HostRuntime) {
 type Members = &'static [(&'static str, &'static str)];
 
 /// Members of two objects, and whether these are equal.
-const OBJECTS: [(Members, Members, bool); 3] = [
+static OBJECTS: [(Members, Members, bool); 3] = [
     (
         &[("x", "1"), ("y", "2")],
         &[("y", "2.0"), ("x", "1e0")],
@@ -116,7 +116,7 @@ fn are_equal(rt: &impl Abort, left: &IObject, right: &IObject, want: bool) {
 
 #[test]
 fn objects_are_equal_as_maps(rt: HostRuntime) {
-    for (left, right, want) in OBJECTS {
+    for &(left, right, want) in &OBJECTS {
         let left = object(&rt, rt.alloc(), left);
         are_equal(&rt, &left, &object(&rt, rt.alloc(), right), want);
     }
@@ -182,7 +182,7 @@ fn empty_part(value: &mut IValue) {
 }
 
 /// Texts, what is answered of each value, and what is left once it is emptied.
-const KINDS: [(&str, Answers, &str); 8] = [
+static KINDS: [(&str, Answers, &str); 8] = [
     ("null", (ValueType::Null, None, None, None), "null"),
     ("true", (ValueType::Bool, Some(true), None, None), "false"),
     ("false", (ValueType::Bool, Some(false), None, None), "true"),
@@ -218,7 +218,7 @@ fn is_emptied_by_part(rt: &impl Abort, value: &mut IValue, left: &IValue) {
 
 #[test]
 fn kinds_and_parts(rt: HostRuntime) {
-    for (text, told, left) in KINDS {
+    for &(text, told, left) in &KINDS {
         let mut value = parsed(&rt, rt.alloc(), text);
         let left = parsed(&rt, rt.alloc(), left);
         is_emptied(&rt, &mut value, told, &left);
@@ -228,7 +228,7 @@ fn kinds_and_parts(rt: HostRuntime) {
 }
 
 /// Texts, whether the values of both are equal once they are opened, and what is shown of the first.
-const OPENED: [(&str, &str, bool, &str); 12] = [
+static OPENED: [(&str, &str, bool, &str); 12] = [
     ("null", "null", true, "Null"),
     ("true", "false", false, "Bool(true)"),
     ("true", "true", true, "Bool(true)"),
@@ -272,7 +272,7 @@ fn are_equal_open(rt: &impl Abort, left: IValue, right: IValue, want: bool) {
 #[test]
 fn values_opened(rt: HostRuntime) {
     let alloc = rt.alloc();
-    for (text, other, want, shown) in OPENED {
+    for &(text, other, want, shown) in &OPENED {
         let (left, right) = (parsed(&rt, alloc, text), parsed(&rt, alloc, other));
         are_equal_open(&rt, left, right, want);
         is_shown_open(&rt, alloc, parsed(&rt, alloc, text), shown);
@@ -315,7 +315,7 @@ fn room_goes_along(rt: HostRuntime) {
 }
 
 /// Texts, and for how many items or pairs there is room in the value of each: no more than there are.
-const READ: [(&str, usize); 4] = [
+static READ: [(&str, usize); 4] = [
     ("[]", 0),
     ("[1,2,3]", 3),
     ("{}", 0),
@@ -335,7 +335,7 @@ fn zeros(rt: &impl Abort, alloc: Global, count: u32) -> String {
 
 #[test]
 fn room_of_what_is_read(rt: HostRuntime) {
-    for (text, want) in READ {
+    for &(text, want) in &READ {
         assert!(rt; room(&parsed(&rt, rt.alloc(), text)) == Some(want));
     }
     let long = zeros(&rt, rt.alloc(), 700_000);
@@ -367,7 +367,7 @@ fn are_integers(
 }
 
 /// Texts, and what each is as an `i32`, a `u32`, an `i64` and a `u64`.
-const INTEGERS: [(&str, Option<i32>, Option<u32>, Option<i64>, Option<u64>); 5] = [
+static INTEGERS: [(&str, Option<i32>, Option<u32>, Option<i64>, Option<u64>); 5] = [
     ("2.0", Some(2), Some(2), Some(2), Some(2)),
     ("-1", Some(-1), None, Some(-1), None),
     (
@@ -383,7 +383,7 @@ const INTEGERS: [(&str, Option<i32>, Option<u32>, Option<i64>, Option<u64>); 5] 
 
 #[test]
 fn integers(rt: HostRuntime) {
-    for (text, i32_, u32_, i64_, u64_) in INTEGERS {
+    for &(text, i32_, u32_, i64_, u64_) in &INTEGERS {
         let value = parsed(&rt, rt.alloc(), text);
         assert!(rt; are_integers(value, i32_, u32_, i64_, u64_));
     }

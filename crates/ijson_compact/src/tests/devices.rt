@@ -98,7 +98,7 @@ pub fn compacts(
 }
 
 /// Bytes, what is written of each, the line and the status.
-const TEXTS: [(&[u8], &[u8], &[u8], u8); 6] = [
+static TEXTS: [(&[u8], &[u8], &[u8], u8); 6] = [
     (b" [1.50, true ] ", LINE, b"", 0),
     (&[0x22, 0x7f, 0x22], &[0x22, 0x7f, 0x22, 0x0a], b"", 0),
     (b"[1,]", b"", b"ijson: syntax at byte 3\n", 1),
@@ -114,13 +114,13 @@ const TEXTS: [(&[u8], &[u8], &[u8], u8); 6] = [
 
 #[test]
 fn texts_and_their_lines(rt: HostRuntime) {
-    for (text, written, line, status) in TEXTS {
+    for &(text, written, line, status) in &TEXTS {
         compacts(&rt, rt.alloc(), text, written, line, status);
     }
 }
 
 /// Faults, the status of each, and the line.
-const REPORTS: [(CompactError, u8, &[u8]); 6] = [
+static REPORTS: [(CompactError, u8, &[u8]); 6] = [
     (
         CompactError::Json(JsonError::TooDeep { at: 127 }),
         1,
@@ -143,7 +143,7 @@ const REPORTS: [(CompactError, u8, &[u8]); 6] = [
 
 #[test]
 fn reports_have_a_line_and_a_status(rt: HostRuntime) {
-    for (error, status, line) in REPORTS {
+    for &(error, status, line) in &REPORTS {
         let mut errors = MemorySink::new(rt.alloc(), 7, 100).expect(&rt, "a sink");
         assert!(rt; report(&Err(error), &mut errors) == status);
         assert!(rt; errors.bytes() == line);

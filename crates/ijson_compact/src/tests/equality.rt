@@ -3,7 +3,7 @@
 use super::parsed;
 
 /// Two texts, and whether their values are equal.
-const PAIRS: [(&str, &str, bool); 10] = [
+static PAIRS: [(&str, &str, bool); 10] = [
     ("-0", "-0.0", true),
     ("2", "2.0", true),
     ("1e2", "100", true),
@@ -18,7 +18,7 @@ const PAIRS: [(&str, &str, bool); 10] = [
 
 #[test]
 fn pairs(rt: HostRuntime) {
-    for (left, right, want) in PAIRS {
+    for &(left, right, want) in &PAIRS {
         let left = parsed(&rt, rt.alloc(), left);
         let right = parsed(&rt, rt.alloc(), right);
         assert!(rt; (left == right) == want);

@@ -7,7 +7,7 @@ use std::alloc::{AllocError, Global};
 use std::process::Abort;
 
 /// Texts that are no JSON, and where that is told.
-const SYNTAX: [(&str, usize); 22] = [
+static SYNTAX: [(&str, usize); 22] = [
     ("", 0),
     (" ", 1),
     ("]", 0),
@@ -33,7 +33,7 @@ const SYNTAX: [(&str, usize); 22] = [
 ];
 
 /// Texts of numbers that are no JSON, and where that is told.
-const NUMBER_SYNTAX: [(&str, usize); 16] = [
+static NUMBER_SYNTAX: [(&str, usize); 16] = [
     ("01", 1),
     ("1.", 2),
     ("1.x", 2),
@@ -53,7 +53,7 @@ const NUMBER_SYNTAX: [(&str, usize); 16] = [
 ];
 
 /// Texts of strings that are no JSON, and where that is told.
-const STRING_SYNTAX: [(&str, usize); 16] = [
+static STRING_SYNTAX: [(&str, usize); 16] = [
     ("\"", 1),
     ("\"abc", 4),
     ("\"\t\"", 1),
@@ -73,7 +73,7 @@ const STRING_SYNTAX: [(&str, usize); 16] = [
 ];
 
 /// Texts with a number whose exponent is out of range, and where that is told.
-const NUMBER_RANGE: [(&str, usize); 6] = [
+static NUMBER_RANGE: [(&str, usize); 6] = [
     ("10e1073741824", 0),
     ("1e-1073741825", 0),
     ("1e99999999999999999999999", 0),
@@ -116,7 +116,7 @@ fn syntax(rt: HostRuntime) {
 
 #[test]
 fn number_range(rt: HostRuntime) {
-    for (text, at) in NUMBER_RANGE {
+    for &(text, at) in &NUMBER_RANGE {
         refused(&rt, rt.alloc(), text, JsonError::NumberRange { at });
     }
 }
@@ -138,7 +138,7 @@ fn beginnings(rt: HostRuntime) {
 }
 
 /// Texts that are too deep: what stands in front, an opening, how often, what is inside, a closing, what stands behind, and where it is told.
-const DEEP: [(&str, &str, usize, &str, &str, &str, usize); 3] = [
+static DEEP: [(&str, &str, usize, &str, &str, &str, usize); 3] = [
     ("", "[", 128, "", "]", "", 127),
     ("", "{\"a\":", 128, "null", "}", "", 635),
     ("{\"a\":", "[", 127, "", "]", ",\"a\":1}", 131),
@@ -147,7 +147,7 @@ const DEEP: [(&str, &str, usize, &str, &str, &str, usize); 3] = [
 #[test]
 fn too_deep(rt: HostRuntime) {
     let alloc = rt.alloc();
-    for (front, opening, count, inside, closing, behind, at) in DEEP {
+    for &(front, opening, count, inside, closing, behind, at) in &DEEP {
         let deep = nested(&rt, alloc, opening, count, inside, closing);
         let text = format!(in alloc; "{front}{deep}{behind}").expect(&rt, "a text");
         refused(&rt, alloc, text.as_str(), JsonError::TooDeep { at });

@@ -11,7 +11,7 @@ const WORDS_OF_DIGITS: [u64; 24] = [
 ];
 
 /// Numbers, and the words that each feeds a hasher.
-const NUMBERS: [(&str, &[u64]); 11] = [
+static NUMBERS: [(&str, &[u64]); 11] = [
     ("2", &[2, 1, 2147483648, 1, 2]),
     ("2.0", &[2, 1, 2147483648, 1, 2]),
     ("100", &[2, 1, 2147483650, 1, 1]),
@@ -27,7 +27,7 @@ const NUMBERS: [(&str, &[u64]); 11] = [
 
 #[test]
 fn a_number_feeds_its_words(rt: HostRuntime) {
-    for (text, want) in NUMBERS {
+    for &(text, want) in &NUMBERS {
         let number = INumber::from_str(rt.alloc(), text).expect(&rt, text);
         feeds(&rt, rt.alloc(), &number, want);
     }

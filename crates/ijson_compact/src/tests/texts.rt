@@ -7,7 +7,7 @@ use std::alloc::Global;
 use std::process::Abort;
 
 /// Texts of numbers, and how each is written.
-const NUMBERS: [(&str, &str); 19] = [
+static NUMBERS: [(&str, &str); 19] = [
     ("-0", "0"),
     ("-0.0", "0.0"),
     ("1.50", "1.5"),
@@ -36,7 +36,7 @@ const NUMBERS: [(&str, &str); 19] = [
 ];
 
 /// Texts of containers and words, and how each is written.
-const CONTAINERS: [(&str, &str); 11] = [
+static CONTAINERS: [(&str, &str); 11] = [
     (" [1.50, [true], null, -0.0] ", "[1.5,[true],null,0.0]"),
     ("[]", "[]"),
     ("[ [ ] ]", "[[]]"),
@@ -57,7 +57,7 @@ const CONTAINERS: [(&str, &str); 11] = [
 ];
 
 /// Texts of strings, and how each is written.
-const STRINGS: [(&str, &str); 8] = [
+static STRINGS: [(&str, &str); 8] = [
     ("\"\\ud83d\\ude00\"", "\"\u{1f600}\""),
     ("\"\\uD834\\uDD1E\"", "\"\u{1d11e}\""),
     ("\"\\/\\u001F\"", "\"/\\u001f\""),
@@ -98,7 +98,7 @@ fn texts(rt: HostRuntime) {
 }
 
 /// How a control character is written between quotes.
-const ESCAPES: [&str; 32] = [
+static ESCAPES: [&str; 32] = [
     "\"\\u0000\"",
     "\"\\u0001\"",
     "\"\\u0002\"",
@@ -147,18 +147,18 @@ fn control_characters(rt: HostRuntime) {
 }
 
 /// Texts that are as deep as they may be: an opening, what is inside, and a closing.
-const DEEPEST: [(&str, &str, &str); 2] = [("[", "", "]"), ("{\"a\":", "null", "}")];
+static DEEPEST: [(&str, &str, &str); 2] = [("[", "", "]"), ("{\"a\":", "null", "}")];
 
 #[test]
 fn deepest(rt: HostRuntime) {
-    for (opening, inside, closing) in DEEPEST {
+    for &(opening, inside, closing) in &DEEPEST {
         let text = nested(&rt, rt.alloc(), opening, 127, inside, closing);
         is_rewritten(&rt, rt.alloc(), text.as_str(), text.as_str());
     }
 }
 
 /// Long texts, each of which is written as it is read: what stands in front, what follows and how often, and what stands behind.
-const LONG: [(&str, &str, usize, &str); 7] = [
+static LONG: [(&str, &str, usize, &str); 7] = [
     ("\"", "abcdefg ", 1_000, "\""),
     ("\"", "\\né", 2_000, "\""),
     ("{\"", "abcdefghij", 500, "\":null}"),
@@ -171,7 +171,7 @@ const LONG: [(&str, &str, usize, &str); 7] = [
 #[test]
 fn long(rt: HostRuntime) {
     let alloc = rt.alloc();
-    for (front, piece, count, behind) in LONG {
+    for &(front, piece, count, behind) in &LONG {
         let inside = piece.repeat(alloc, count).expect(&rt, "the pieces");
         let text = format!(in alloc; "{front}{inside}{behind}").expect(&rt, "a text");
         is_rewritten(&rt, alloc, text.as_str(), text.as_str());
@@ -189,7 +189,7 @@ fn many_items(rt: HostRuntime) {
 }
 
 /// Texts, and for how many items or members there is room in what is read of each: for as many as were written.
-const ROOM: [(&str, usize); 6] = [
+static ROOM: [(&str, usize); 6] = [
     ("[]", 0),
     ("[1]", 1),
     ("[1,[2],3,4,5]", 5),
@@ -208,7 +208,7 @@ fn capacity(value: &IValue) -> usize {
 
 #[test]
 fn what_is_read_has_no_more_room(rt: HostRuntime) {
-    for (text, room) in ROOM {
+    for &(text, room) in &ROOM {
         assert!(rt; capacity(&parsed(&rt, rt.alloc(), text)) == room, "{text}");
     }
 }

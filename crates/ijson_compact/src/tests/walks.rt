@@ -15,7 +15,7 @@ use std::hash::{BuildHasherDefault, DefaultHasher, FoldHasher, Hash, Hasher};
 use std::process::Abort;
 
 /// Texts, and the words that the value of each feeds a hasher.
-const WORDS: [(&str, &[u64]); 16] = [
+static WORDS: [(&str, &[u64]); 16] = [
     ("null", &[0]),
     ("false", &[1, 0]),
     ("true", &[1, 1]),
@@ -46,13 +46,13 @@ fn feeds_whole(rt: &impl Abort, alloc: Global, value: &IValue, words: &[u64]) {
 
 #[test]
 fn values_feed_their_words(rt: HostRuntime) {
-    for (text, words) in WORDS {
+    for &(text, words) in &WORDS {
         feeds_whole(&rt, rt.alloc(), &parsed(&rt, rt.alloc(), text), words);
     }
 }
 
 /// Texts, and how the value of the first is ordered to that of the second.
-const ORDERED: [(&str, &str, Option<Ordering>); 24] = [
+static ORDERED: [(&str, &str, Option<Ordering>); 24] = [
     ("null", "false", Some(Ordering::Less)),
     ("false", "true", Some(Ordering::Less)),
     ("false", "0", Some(Ordering::Less)),
@@ -96,7 +96,7 @@ fn are_ordered(rt: &impl Abort, left: &IValue, right: &IValue, want: Option<Orde
 
 #[test]
 fn values_are_ordered(rt: HostRuntime) {
-    for (left, right, want) in ORDERED {
+    for &(left, right, want) in &ORDERED {
         let left = parsed(&rt, rt.alloc(), left);
         are_ordered(&rt, &left, &parsed(&rt, rt.alloc(), right), want);
     }

@@ -60,7 +60,7 @@ impl Write for Counted<'_> {
 /// What the reader gives, the byte of the seed, the call of the writer that fails, the answer, and how often the writer was called.
 /// A text is written and flushed in two calls. A reader is not asked again once it told its end or failed, and neither is a writer
 /// that failed.
-const RUNS: [(
+static RUNS: [(
     &[Option<&str>],
     Option<u8>,
     u32,
@@ -109,7 +109,7 @@ const RUNS: [(
 
 #[test]
 fn streams_are_called_as_often_as_they_must(rt: HostRuntime) {
-    for (pieces, byte, fails_at, want, count) in RUNS {
+    for &(pieces, byte, fails_at, want, count) in &RUNS {
         let calls = Cell::new(0);
         let random = OneByte::new(byte);
         let writer = Counted {
