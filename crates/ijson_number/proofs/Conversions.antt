@@ -1,5 +1,5 @@
-use Rattle.std.proofs.Common.{◌≡◌, ◌<◌, ◌^◌, ◌∙◌, ℕ, Option, Result, None, Ok, Err, refl, ap, sym, subst, arith}
 -- From a value that is whole to an integer type.
+use Rattle.std.proofs.Common.{◌≡◌, ◌<◌, ◌^◌, ◌∙◌, ℕ, Option, Result, None, Ok, Err, refl, ap, sym, subst, arith}
 use Rattle.std.specs.Prelude.{ℤ, pos, nat_abs, FitsSigned, IfSome, IfNone}
 use Rattle.std.specs.Int.{FitsUnsigned}
 use Rattle.std.specs.Result.{OkIff, result_ok}

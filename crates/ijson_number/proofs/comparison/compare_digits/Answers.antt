@@ -1,4 +1,5 @@
 use Rattle.std.proofs.Common.{◌≡◌, ◌<◌, ◌∙◌, length, min, sym, arith}
+use Rattle.std.proofs.lemmas.Grind.{common_steps}
 use Rattle.ijson_number.specs.StrippedDigits.{stripped_digits}
 use Rattle.ijson_number.proofs.comparing.DigitOrder.{same_digit, row_ends}
 use Rattle.ijson_number.proofs.comparison.compare_digits.Goals as goal
@@ -32,3 +33,7 @@ returns g c =
       grows = omega arith;
       bounded = omega arith;
     }
+
+-- what the check tries where no answer stands takes longer than these
+pub returns-then-digit-other-clause-order : goal.returns-then-digit-other-clause-order
+returns-then-digit-other-clause-order g c = grind (arith, common_steps)

@@ -1,4 +1,5 @@
-use Rattle.std.proofs.Common.{◌∙◌, ◌+◌, List, ℕ, length, ap, refl, sym, subst, take}
+use Rattle.std.proofs.Common.{◌∙◌, ◌+◌, List, ℕ, length, ap, refl, sym, subst, take, arith}
+use Rattle.std.proofs.lemmas.Grind.{common_steps}
 use Rattle.ijson_number.specs.Grammar.{Spells}
 use Rattle.ijson_number.specs.private.Prefix.{IsMantissa, prefix_number}
 use Rattle.ijson_number.proofs.storing.FewDigits.{some_with}
@@ -85,3 +86,7 @@ returns-clause-power c = λ p rest is.
     let read = rw c.as_bytes.ensures.value at c.in-Some.ensures.rest in
     absurd (tail_goes_on c.in-Some.rest.now rest (rw (read p is.power_text is.front) is.power)
     (c.goes_on.ensures.stops (rw c.if-goes_on.false refl)))
+
+-- what the check tries where no answer stands takes longer than these
+pub with_exponent-requires-clause-length : goal.with_exponent-requires-clause-length
+with_exponent-requires-clause-length c = grind (arith, common_steps)

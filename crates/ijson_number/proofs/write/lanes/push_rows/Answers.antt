@@ -1,5 +1,6 @@
 use Rattle.std.proofs.Common.{◌≡◌, ◌+◌, ◌-◌, ◌≤◌, ◌∙◌, ◌∷◌, ◌++◌, List, ℕ, Bool, ap, drop, length, refl}
 use Rattle.std.proofs.Common.{take, take_all, length-drop, arith, rules}
+use Rattle.std.proofs.lemmas.Grind.{common_steps}
 use Rattle.std.specs.Str.{IsAscii}
 use Rattle.std.specs.String.{string_bytes}
 use Rattle.std.proofs.lemmas.Str.{IsUtf8-from_ascii}
@@ -110,3 +111,10 @@ returns-clause-written c =
     c.truncate.ensures.bytes ∙ kept ∙ ap (λ x. string_bytes a.out.now ++ x)
     (text a.negative a.whole a.fraction a.start a.count a.scale r.whole r.within r.fraction r.places first
     (first + 16 - first) (first + a.count + 1 + 16 - (first + a.count + 1)) (minus_is at) (omega arith))
+
+-- what the check tries where no answer stands takes longer than these
+pub slice_bounds-room-end-2 : goal.slice_bounds-room-end-2
+slice_bounds-room-end-2 c = grind (arith, common_steps)
+
+pub slice_bounds-from_utf8_unchecked-end : goal.slice_bounds-from_utf8_unchecked-end
+slice_bounds-from_utf8_unchecked-end c = grind (arith, common_steps)
