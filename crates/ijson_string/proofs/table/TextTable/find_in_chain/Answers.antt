@@ -1,4 +1,5 @@
 use Rattle.std.proofs.Common.{◌∙◌, ◌-◌, ap, sym, is_some, get_or, length, arith}
+use Rattle.std.proofs.lemmas.Grind.{common_steps}
 use Rattle.std.specs.List.{list_any}
 use Rattle.ijson_string.specs.private.IsTable.{hashes_of, filters_of}
 use Rattle.ijson_string.specs.private.Keys.{is_key, no_key}
@@ -61,3 +62,7 @@ loop-at-preserved c =
     ∙ sym c.is_at.ensures ∙ c.if-is_at.false in
     IsAhead-step _ c.args.hash c.args.text.now c.self.inside.links.items c.self.inside.texts.items _ c.self.invariant.1
     c.self.invariant.0.chained c.loop-at.at _ c.loop-at.invariant c.loop-at-test.true c.index.ensures other
+
+-- what the check tries where no answer stands takes longer than these
+pub returns-then-is_empty-clause-exact : goal.returns-then-is_empty-clause-exact
+returns-then-is_empty-clause-exact c = grind (arith, common_steps)

@@ -1,4 +1,5 @@
 use Rattle.std.proofs.Common.{◌≡◌, ◌+◌, ◌∙◌, ap, ap₂, sym, [], ◌∷◌, ◌++◌, length, take, drop, arith}
+use Rattle.std.proofs.lemmas.Grind.{common_steps}
 use Rattle.std.specs.Prelude.{slice_set}
 use Rattle.std.proofs.Math.Seq.{take-append_seam}
 use Rattle.std.proofs.lemmas.List.{length-append, length-map, map-append}
@@ -86,3 +87,19 @@ returns-clause-buckets c =
     let links : length c.deref_mut.result.now ≡ length c.args.self.now.keys = omega (arith, many, c.deref_mut.ensures.len) in
     ap length (buckets_now c) ∙ known.as_many ∙ c.in_ok-grow.ensures.buckets
     ∙ ap₂ buckets_for links (ap (λ (t : Table). t.buckets) c.self.view_is)
+
+-- what the check tries where no answer stands takes longer than these
+pub returns-in_default-clause-recent : goal.returns-in_default-clause-recent
+returns-in_default-clause-recent c = grind (arith, common_steps)
+
+pub returns-in_err-reserve-clause-recent : goal.returns-in_err-reserve-clause-recent
+returns-in_err-reserve-clause-recent c = grind (arith, common_steps)
+
+pub returns-in_err-reserve-2-clause-recent : goal.returns-in_err-reserve-2-clause-recent
+returns-in_err-reserve-2-clause-recent c = grind (arith, common_steps)
+
+pub invariant_of-self-in_err-grow : goal.invariant_of-self-in_err-grow
+invariant_of-self-in_err-grow c = grind (arith, common_steps)
+
+pub returns-in_err-grow-clause-refused : goal.returns-in_err-grow-clause-refused
+returns-in_err-grow-clause-refused c = grind (arith, common_steps)
