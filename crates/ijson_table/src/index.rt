@@ -89,19 +89,16 @@ impl Index {
         self.slots[slot]
     }
 
-    /// Puts the next position into the slots, which have room for it. Its key has this hash.
-    pub fn push(&mut self, position: usize, hash: u64)
-        requires position { position ≡ length self.old.hashes }
-        requires room { position < length self.old.slots }
-        ensures hashes { self.new.hashes ≡ self.old.hashes ++ hash ∷ [] }
-        ensures count { length self.new.slots ≡ length self.old.slots }
+    /// The slot where the probe for a new key of this hash ends. There is room for one more.
+    pub fn vacancy(&self, hash: u64) -> usize
+        requires { length self.now.hashes < length self.now.slots }
+        ensures { MayStand (self.now.hashes ++ hash ∷ []) self.now.slots (length self.now.hashes) result }
     {
-        let (slot, _looked) = vacancy(&self.slots, hash);
-        self.push_at(slot, position, hash);
+        vacancy(&self.slots, hash).0
     }
 
-    /// The same, at the slot where a probe for it ended. Answers the last slot that is written, which was the first empty one from
-    /// there on.
+    /// Puts the next position into the slots, at the one where the probe for its key ended, which has this hash. Answers the last slot
+    /// that is written, which was the first empty one from there on.
     pub fn push_at(&mut self, slot: usize, position: usize, hash: u64) -> usize
         requires position { position ≡ length self.old.hashes }
         requires room { position < length self.old.slots }

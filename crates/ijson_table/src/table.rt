@@ -1,13 +1,16 @@
 //! A pair store whose keys are found by their hash.
 
-ghost use Rattle.std.specs.Prelude.{◌≡◌, ◌+◌, ◌-◌, ◌<◌, ◌≤◌, ◌^◌, [], length, get_or, map};
-ghost use Rattle.std.specs.Prelude.{Err, refl, IfOk, IsOk, OnErr, ◌↔◌, None};
+ghost use Rattle.std.specs.Prelude.{◌≡◌, ◌+◌, ◌-◌, ◌<◌, ◌≤◌, ◌^◌, [], ◌∷◌, ◌++◌, length, get_or, map};
+ghost use Rattle.std.specs.Prelude.{ℕ, List, Ok, Err, refl, IfOk, IsOk, OnErr, ◌↔◌, Some, None};
 ghost use Rattle.ijson_table.specs.Store.{at, keys_of, IsDistinct, lookup};
 ghost use Rattle.ijson_table.specs.laws.Store.{IsDistinct-prop};
 ghost use Rattle.ijson_table.specs.Slots.{IsBounded, IsTable};
 ghost use Rattle.ijson_table.specs.Growth.{capacity_limit};
 ghost use Rattle.ijson_table.specs.Inserts.{Inserts};
 ghost use Rattle.ijson_table.specs.laws.Placed.{placed_with_value};
+ghost use Rattle.ijson_table.specs.Crowd.{distance};
+ghost use Rattle.ijson_table.specs.private.Changes.{changes};
+ghost use Rattle.ijson_table.specs.private.Holds.{MayStand};
 ghost use Rattle.ijson_table.specs.private.Lookup.{LookUpEnds};
 ghost use Rattle.std.specs.Option.{option_copied};
 
@@ -19,11 +22,12 @@ use crate::index::Index;
 use crate::index::places::{Places, Seen, locate};
 use crate::index::probe::{Lookup, Probed, has_key, probe};
 use crate::index::slot::Modulus;
-use crate::store::{PairStore, RefusedPair, ReserveError, replace_at};
+use crate::store::{PairStore, RefusedPair, ReserveError};
 use ijson_number::Looks;
 use ijson_string::IString;
 use std::alloc::{AllocError, Global};
 use std::marker::{Model, PhantomData};
+use std::mem;
 
 /// Pairs in a list, and their positions in slots by the hash of their keys. A slot is 16 bytes, and there are five for four
 /// pairs of the capacity. A look-up goes to the memory of a key only where the hashes are the same.
@@ -124,13 +128,11 @@ impl<V: Drop, H: KeyHash> Table<V, H> {
         ensures bounded { IsBounded H.hash_of (keys_of self.old.store.pairs) self.old.slots
             self.old.store.capacity key (looks.new - looks.old) }
     {
-        let position = self.pairs.len();
         let hash = H::hash(key.as_str());
         match self.find(hash, key.as_str(), looks) {
-            Probed::Found(at, _) => Ok(Some(replace_at(self, at, value))),
-            Probed::Vacant(slot) if position < self.pairs.capacity() => {
-                self.pairs.push_reserved((key, value));
-                self.index.push_at(slot, position, hash);
+            Probed::Found(at, _) => Ok(Some(self.replace_at(at, value))),
+            Probed::Vacant(slot) if self.pairs.len() < self.pairs.capacity() => {
+                self.push_at(slot, key, value, hash);
                 Ok(None)
             }
             Probed::Vacant(_) | Probed::Full => self.push_grown(key, value, hash),
@@ -147,10 +149,52 @@ impl<V: Drop, H: KeyHash> Table<V, H> {
         if let Err(why) = self.reserve(1) {
             return Err(RefusedPair { key, value, why });
         }
+        self.push_hashed(key, value, hash);
+        Ok(None)
+    }
+
+    /// Puts a value in the place of the one at a position, which is answered. The function of the same name for each store would do, but
+    /// what calls that one is proved after all calls of the trait.
+    #[inline(always)]
+    fn replace_at(&mut self, position: usize, value: V) -> V
+        requires { position < length self.old.store.pairs }
+        ensures inserts { (key : List ℕ) → at self.old.store.pairs key ≡ Some position
+            → Inserts self.old.store.pairs self.old.store.capacity key value (Ok (Some result))
+            self.new.store.pairs self.new.store.capacity }
+        ensures store { self.new ≡ placed_with_value self.old position value }
+    {
+        mem::replace(self.value_mut(position), value)
+    }
+
+    /// Puts a pair last whose key is new and has this hash, in the room that there is.
+    fn push_hashed(&mut self, key: IString, value: V, hash: u64)
+        requires missing { at self.old.store.pairs key ≡ None }
+        requires hash { hash ≡ H.hash_of key }
+        requires room { length self.old.store.pairs < self.old.store.capacity }
+        ensures pairs { self.new.store.pairs ≡ self.old.store.pairs ++ (key, value) ∷ [] }
+        ensures capacity { self.new.store.capacity ≡ self.old.store.capacity }
+    {
+        let slot = self.index.vacancy(hash);
+        self.push_at(slot, key, value, hash);
+    }
+
+    /// The same, at the slot where a probe for the key ended. Answers the last slot that is written.
+    #[inline(always)]
+    fn push_at(&mut self, slot: usize, key: IString, value: V, hash: u64) -> usize
+        requires missing { at self.old.store.pairs key ≡ None }
+        requires hash { hash ≡ H.hash_of key }
+        requires room { length self.old.store.pairs < self.old.store.capacity }
+        requires may { MayStand (map H.hash_of (keys_of self.old.store.pairs) ++ hash ∷ []) self.old.slots
+            (length (map H.hash_of (keys_of self.old.store.pairs))) slot }
+        ensures pairs { self.new.store.pairs ≡ self.old.store.pairs ++ (key, value) ∷ [] }
+        ensures capacity { self.new.store.capacity ≡ self.old.store.capacity }
+        ensures count { length self.new.slots ≡ length self.old.slots }
+        ensures within { result < length self.old.slots }
+        ensures changes { changes self.old.slots self.new.slots ≤ distance (length self.old.slots) slot result + 1 }
+    {
         let position = self.pairs.len();
         self.pairs.push_reserved((key, value));
-        self.index.push(position, hash);
-        Ok(None)
+        self.index.push_at(slot, position, hash)
     }
 }
 
@@ -321,10 +365,8 @@ impl<V: Drop, H: KeyHash> PairStore<V> for Table<V, H> {
     }
 
     fn push_new(&mut self, key: IString, value: V) {
-        let position = self.pairs.len();
         let hash = H::hash(key.as_str());
-        self.pairs.push_reserved((key, value));
-        self.index.push(position, hash);
+        self.push_hashed(key, value, hash);
     }
 
     fn swap_out(&mut self, index: usize) -> (IString, V) {

@@ -17,7 +17,7 @@ use crate::index::Index;
 use crate::index::probe::{Lookup, Probed, probe};
 use crate::index::slot::{Modulus, distance_between};
 use crate::sorting::build::{fill_sorted, put_sorted};
-use crate::store::{PairStore, ReserveError, replace_at};
+use crate::store::{PairStore, ReserveError};
 use ijson_number::Looks;
 use ijson_string::IString;
 use std::alloc::{AllocError, Global};
@@ -163,18 +163,17 @@ impl<V: Drop, H: KeyHash> Table<V, H> {
         ensures steps { result ≤ 2 * slot_count self.old.store.capacity }
         ensures counted { 1 + changes self.old.slots self.new.slots ≤ result }
     {
-        let position = self.pairs.len();
+        let slots = self.index.len();
         let hash = H::hash(key.as_str());
         let mut looks = Looks::new();
         match self.find(hash, key.as_str(), &mut looks) {
             Probed::Found(at, _) => {
-                drop(replace_at(self, at, value));
+                drop(self.replace_at(at, value));
                 looks.count() as usize
             }
             Probed::Vacant(slot) => {
-                self.pairs.push_reserved((key, value));
-                let last = self.index.push_at(slot, position, hash);
-                looks.count() as usize + distance_between(self.index.len(), slot, last) + 1
+                let last = self.push_at(slot, key, value, hash);
+                looks.count() as usize + distance_between(slots, slot, last) + 1
             }
             Probed::Full => unreachable!(),
         }

@@ -37,7 +37,9 @@ fn crowd(rt: &impl Abort, alloc: Global, len: usize, count: usize, hashes: [u64;
 {
     let mut index = Index::with_slots(alloc, count).expect(rt, "slots");
     for position in 0..len {
-        index.push(position, hashes[position % 2]);
+        let hash = hashes[position % 2];
+        let slot = index.vacancy(hash);
+        index.push_at(slot, position, hash);
     }
     index
 }

@@ -1,4 +1,5 @@
 use Rattle.std.proofs.Common.{◌≡◌, ℕ, ◌+◌, ◌%◌, ◌<◌, ◌≤◌, List, length, get_or, set, Option, Some, None, arith, ap, sym, ◌∙◌, subst}
+use Rattle.std.proofs.lemmas.Grind.{common_steps}
 use Rattle.std.proofs.lemmas.List.{length-set}
 use Rattle.ijson_table.specs.declared.index.slot.Slot.{Slot}
 use Rattle.ijson_table.specs.Crowd.{distance}
@@ -109,3 +110,16 @@ loop-resident-preserved g c =
       size = length-set (set c.loop-resident.slots gap behind) next c.empty.result
           ∙ (length-set c.loop-resident.slots gap behind ∙ was.size);
     }
+
+-- what the check tries where no answer stands takes longer than these
+pub new-modulus-requires : goal.new-modulus-requires
+new-modulus-requires g c = grind (arith, common_steps)
+
+pub next_slot-next-requires : goal.next_slot-next-requires
+next_slot-next-requires g c = grind (arith, common_steps)
+
+pub offset_bounds-slots-gap : goal.offset_bounds-slots-gap
+offset_bounds-slots-gap g c = grind (arith, common_steps)
+
+pub bounds-slots-gap : goal.bounds-slots-gap
+bounds-slots-gap g c = grind (arith, common_steps)

@@ -1,4 +1,5 @@
 use Rattle.std.proofs.Common.{◌≡◌, ◌≢◌, ◌<◌, ℕ, length, get_or, Option, Some, None, arith, sym, ap, ◌∙◌}
+use Rattle.std.proofs.lemmas.Grind.{common_steps}
 use Rattle.std.proofs.lemmas.Bool.Decides.{nat_tests}
 use Rattle.ijson_table.specs.Store.{keys_of}
 use Rattle.ijson_table.specs.private.SlotHashes.{blank, position_in}
@@ -79,3 +80,7 @@ pub returns-clause-firsts : goal.returns-clause-firsts
 returns-clause-firsts g c =
     all_told (keys_of c.args.pairs.now) c.args.sorted.now c.requires.entries
     c.loop-entry.entry-index c.loop-entry.run c.loop-entry.firsts.items c.loop-entry-test.false c.loop-entry.invariant.run
+
+-- what the check tries where no answer stands takes longer than these
+pub returns-in_err-firsts-clause-refused : goal.returns-in_err-firsts-clause-refused
+returns-in_err-firsts-clause-refused g c = grind (arith, common_steps)

@@ -1,4 +1,5 @@
 use Rattle.std.proofs.Common.{ℕ, ◌-◌, ◌%◌, ◌<◌, length, map, arith, ap, subst}
+use Rattle.std.proofs.lemmas.Grind.{common_steps}
 use Rattle.std.proofs.Math.Nat.{mod-lt}
 use Rattle.std.specs.Prelude.{vec_capacity}
 use Rattle.ijson_table.specs.declared.index.probe.Probed.TheVariants.{Full}
@@ -79,3 +80,7 @@ returns-clause-bounded g c =
     (vec_capacity c.self.inside.pairs) c.self.inside.index c.args.hash c.args.key.now
     (c.probe.new.looks - c.args.looks.now) c.probe.result
     c.self.invariant c.deref.ensures.value c.requires.hash c.len.ensures.table c.probe.ensures.ends)
+
+-- what the check tries where no answer stands takes longer than these
+pub invariant_of-lookup : goal.invariant_of-lookup
+invariant_of-lookup g c = grind (arith, common_steps)

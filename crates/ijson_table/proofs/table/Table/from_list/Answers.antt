@@ -1,4 +1,5 @@
 use Rattle.std.proofs.Common.{◌≡◌, ◌≤◌, ◌+◌, ◌*◌, [], length, take, drop, arith, ap, ap₂, sym, subst, ◌∙◌}
+use Rattle.std.proofs.lemmas.Grind.{common_steps}
 use Rattle.std.proofs.lemmas.Bool.Decides.{nat_tests}
 use Rattle.std.proofs.lemmas.List.{nil_from_length}
 use Rattle.std.specs.Prelude.{IfOk, vec_capacity}
@@ -96,3 +97,13 @@ returns-clause-bounded g c k fits =
 pub returns-then-is_empty-clause-bounded : goal.returns-then-is_empty-clause-bounded
 returns-then-is_empty-clause-bounded g c k fits =
     omega (arith, few g (goal.at.returns-then-is_empty-clause-bounded g c).After-count_steps, c.count_steps.ensures)
+
+-- what the check tries where no answer stands takes longer than these
+pub with_rest-requires-clause-room : goal.with_rest-requires-clause-room
+with_rest-requires-clause-room g c = grind (arith, common_steps)
+
+pub returns-clause-counted : goal.returns-clause-counted
+returns-clause-counted g c = grind (arith, common_steps)
+
+pub returns-then-is_empty-clause-counted : goal.returns-then-is_empty-clause-counted
+returns-then-is_empty-clause-counted g c = grind (arith, common_steps)

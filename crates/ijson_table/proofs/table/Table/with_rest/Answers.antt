@@ -1,4 +1,5 @@
 use Rattle.std.proofs.Common.{◌+◌, ◌*◌, ◌≤◌, length, arith, ap}
+use Rattle.std.proofs.lemmas.Grind.{common_steps}
 use Rattle.std.proofs.lemmas.List.{length-reverse}
 use Rattle.ijson_table.specs.Crowd.{slot_count}
 use Rattle.ijson_table.proofs.table.Table.with_rest.Given.{Over}
@@ -50,3 +51,10 @@ returns-clause-bounded g c k fits =
       c.with_rest_sorted.ensures.bounded k (omega (arith, same, fits)),
       ap (λ n. n * (1 + 2 * k)) same,
     )
+
+-- what the check tries where no answer stands takes longer than these
+pub returns-then-is_empty-clause-pairs : goal.returns-then-is_empty-clause-pairs
+returns-then-is_empty-clause-pairs g c = grind (arith, common_steps)
+
+pub returns-clause-pairs : goal.returns-clause-pairs
+returns-clause-pairs g c = grind (arith, common_steps)

@@ -1,4 +1,5 @@
 use Rattle.std.proofs.Common.{◌≡◌, ◌+◌, ◌-◌, ◌≤◌, Ok, Some, length, map, arith, ap, ap₂, sym, subst, ◌∙◌}
+use Rattle.std.proofs.lemmas.Grind.{common_steps}
 use Rattle.std.specs.Prelude.{max, vec_capacity}
 use Rattle.ijson_table.specs.Crowd.{slot_count}
 use Rattle.ijson_table.specs.Growth.{wanted}
@@ -60,3 +61,7 @@ invariant_of-self-2 g c =
           ∙ ap (λ ps. map g.H.KeyHash.hash_of (keys_of ps)) (sym c.reserve_exact.ensures.items));
       size = c.in_ok-index.ensures.count ∙ (c.slots_for-slots.ensures ∙ ap slot_count (sym made.1));
     }
+
+-- what the check tries where no answer stands takes longer than these
+pub copy_with_slots-requires-clause-len : goal.copy_with_slots-requires-clause-len
+copy_with_slots-requires-clause-len g c = grind (arith, common_steps)

@@ -1,4 +1,5 @@
 use Rattle.std.proofs.Common.{◌≡◌, ◌<◌, length, map, arith, ap, sym, ◌∙◌, subst}
+use Rattle.std.proofs.lemmas.Grind.{common_steps}
 use Rattle.std.specs.List.{remove}
 use Rattle.ijson_table.proofs.pairs.PairsByKey.{slice_get-seen}
 use Rattle.ijson_table.specs.Crowd.{slot_count}
@@ -41,3 +42,7 @@ pub returns-clause-pair : goal.returns-clause-pair
 returns-clause-pair g c =
     slice_get-seen c.self.inside.pairs.items c.args.self.now.store.pairs c.args.index c.remove.result
     (ap (λ (s : Placed g.row.V.Denot). s.store.pairs) c.self.view_is) c.requires c.remove.ensures.value
+
+-- what the check tries where no answer stands takes longer than these
+pub shift_remove-requires-clause-last : goal.shift_remove-requires-clause-last
+shift_remove-requires-clause-last g c = grind (arith, common_steps)

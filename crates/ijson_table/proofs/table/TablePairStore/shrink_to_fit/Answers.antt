@@ -1,4 +1,5 @@
 use Rattle.std.proofs.Common.{length, map, arith, ap, sym, ◌∙◌}
+use Rattle.std.proofs.lemmas.Grind.{common_steps}
 use Rattle.ijson_table.specs.Crowd.{slot_count}
 use Rattle.ijson_table.specs.Placed.{Placed}
 use Rattle.ijson_table.specs.Store.{keys_of}
@@ -38,3 +39,7 @@ returns-then-capacity-len-clause-room g c = omega (
 
 pub returns-clause-pairs : goal.returns-clause-pairs
 returns-clause-pairs g c = c.fit.ensures.items ∙ ap (λ (t : Placed g.row.V.Denot). t.store.pairs) c.self.view_is
+
+-- what the check tries where no answer stands takes longer than these
+pub copy_with_slots-requires-clause-len : goal.copy_with_slots-requires-clause-len
+copy_with_slots-requires-clause-len g c = grind (arith, common_steps)

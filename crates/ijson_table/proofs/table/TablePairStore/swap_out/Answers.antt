@@ -1,4 +1,5 @@
 use Rattle.std.proofs.Common.{◌≡◌, ◌<◌, length, map, arith, ap, sym, ◌∙◌, subst}
+use Rattle.std.proofs.lemmas.Grind.{common_steps}
 use Rattle.std.specs.List.{swap_remove}
 use Rattle.ijson_table.specs.Crowd.{slot_count}
 use Rattle.ijson_table.specs.Store.{keys_of, swap_out, IsDistinct}
@@ -52,3 +53,10 @@ returns-clause-pair g c =
 pub returns-clause-pairs : goal.returns-clause-pairs
 returns-clause-pairs g c = left g c
     ∙ ap (λ (s : Placed g.row.V.Denot). swap_out s.store.pairs c.args.index) c.self.view_is
+
+-- what the check tries where no answer stands takes longer than these
+pub returns-then-index-last-clause-pairs : goal.returns-then-index-last-clause-pairs
+returns-then-index-last-clause-pairs g c = grind (arith, common_steps)
+
+pub swap_remove-requires : goal.swap_remove-requires
+swap_remove-requires g c = grind (arith, common_steps)

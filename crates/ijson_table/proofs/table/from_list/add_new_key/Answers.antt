@@ -1,4 +1,5 @@
 use Rattle.std.proofs.Common.{◌≡◌, ◌⊎◌, inl, inr, ◌-◌, ◌<◌, ◌%◌, [], ℕ, length, get_or, take, arith, ap, sym, subst, ◌∙◌}
+use Rattle.std.proofs.lemmas.Grind.{common_steps}
 use Rattle.ijson_table.specs.declared.index.probe.Probed.TheVariants.{Found, Vacant, Full}
 use Rattle.ijson_table.specs.Crowd.{distance}
 use Rattle.ijson_table.specs.Slots.{displacement}
@@ -178,3 +179,10 @@ returns-in-Full-clause-steps g c = omega (arith, c.len-slots.ensures.count)
 
 pub returns-in-Full-clause-grows : goal.returns-in-Full-clause-grows
 returns-in-Full-clause-grows g c = omega (arith, c.len-slots.ensures.count, c.requires.room)
+
+-- what the check tries where no answer stands takes longer than these
+pub invariant_of-lookup : goal.invariant_of-lookup
+invariant_of-lookup g c = grind (arith, common_steps)
+
+pub distance_between-requires-in-Found-clause-to : goal.distance_between-requires-in-Found-clause-to
+distance_between-requires-in-Found-clause-to g c = grind (arith, common_steps)

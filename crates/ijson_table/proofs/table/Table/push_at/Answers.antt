@@ -1,0 +1,87 @@
+use Rattle.std.proofs.Common.{◌≡◌, ◌≤◌, ◌<◌, ◌+◌, [], ◌∷◌, ◌++◌, length, arith, ap, sym, ◌∙◌, subst, refl, length-append}
+use Rattle.std.specs.Prelude.{vec_capacity}
+use Rattle.ijson_table.specs.Crowd.{distance, slot_count}
+use Rattle.ijson_table.specs.Placed.{Placed}
+use Rattle.ijson_table.specs.private.Changes.{changes}
+use Rattle.ijson_table.specs.private.Holds.{MayStand}
+use Rattle.ijson_table.proofs.pairs.NewPairs.{still_distinct}
+use Rattle.ijson_table.proofs.probing.KeyHashes.{hashes, hashes-push, length-hashes}
+use Rattle.ijson_table.proofs.table.Table.push_at.Goals.{After-len-position}
+use Rattle.ijson_table.proofs.table.Table.push_at.Goals as goal
+
+-- the list has room for a pair
+room : (g : _) (c : After-len-position g) → length c.self.inside.pairs.items < vec_capacity c.self.inside.pairs
+room g c = omega (
+  arith,
+  c.requires.room,
+  ap (λ (t : Placed g.row.V.Denot). length t.store.pairs) c.self.view_is,
+  ap (λ (t : Placed g.row.V.Denot). t.store.capacity) c.self.view_is,
+)
+
+-- the position is the next one
+next : (g : _) (c : After-len-position g) → c.len-position.result ≡ length c.self.inside.index.hashes
+next g c = omega (
+  arith,
+  c.len-position.ensures,
+  c.self.inside.pairs.ok.0,
+  ap length c.self.invariant.hashes,
+  length-hashes g.H.KeyHash.hash_of c.self.inside.pairs.items,
+)
+
+pub push_reserved-requires : goal.push_reserved-requires
+push_reserved-requires g c =
+    omega (arith, room g (goal.at.push_reserved-requires g c).After-len-position, c.self.inside.pairs.ok.0)
+
+pub push_at-requires-clause-position : goal.push_at-requires-clause-position
+push_at-requires-clause-position g c = next g (goal.at.push_at-requires-clause-position g c).After-len-position
+
+pub push_at-requires-clause-room : goal.push_at-requires-clause-room
+push_at-requires-clause-room g c = omega (
+  arith,
+  c.len-position.ensures,
+  c.self.inside.pairs.ok.0,
+  room g (goal.at.push_at-requires-clause-room g c).After-len-position,
+  c.self.invariant.size,
+)
+
+pub push_at-requires-clause-may : goal.push_at-requires-clause-may
+push_at-requires-clause-may g c =
+    let hash = g.H.KeyHash.hash_of in
+    let slots = c.self.inside.index.slots in
+    subst (λ n. MayStand (c.self.inside.index.hashes ++ c.args.hash ∷ []) slots n c.args.slot)
+    (sym (next g (goal.at.push_at-requires-clause-may g c).After-len-position))
+    (subst (λ hs. MayStand (hs ++ c.args.hash ∷ []) slots (length hs) c.args.slot) (sym c.self.invariant.hashes)
+    (subst (λ (t : Placed g.row.V.Denot). MayStand (hashes hash t.store.pairs ++ c.args.hash ∷ []) t.slots
+    (length (hashes hash t.store.pairs)) c.args.slot) (sym c.self.view_is) c.requires.may))
+
+pub invariant_of-self-inside : goal.invariant_of-self-inside
+invariant_of-self-inside g c =
+    let viewed = ap (λ (t : Placed g.row.V.Denot). t.store.pairs) c.self.view_is in
+    (still_distinct c.args.key c.args.value viewed c.push_reserved.ensures.items refl c.requires.missing c.self.inside.distinct, tt)
+
+pub invariant_of-self : goal.invariant_of-self
+invariant_of-self g c =
+    let hash = g.H.KeyHash.hash_of in
+    let old = c.self.inside.pairs.items in
+    let pushed = c.push_reserved.ensures.items in
+    record {
+      room = record {
+        within = omega (
+          arith,
+          ap length pushed,
+          length-append old ((c.args.key, c.args.value) ∷ []),
+          c.push_reserved.ensures.capacity,
+          room g (goal.at.invariant_of-self g c).After-len-position,
+        );
+        limited = omega (arith, c.self.invariant.room.limited, c.push_reserved.ensures.capacity);
+      };
+      hashes = c.push_at.ensures.hashes ∙ (ap (λ hs. hs ++ c.args.hash ∷ []) c.self.invariant.hashes
+          ∙ (ap (λ h. hashes hash old ++ h ∷ []) c.requires.hash
+          ∙ (sym (hashes-push hash old c.args.key c.args.value) ∙ ap (hashes hash) (sym pushed))));
+      size = c.push_at.ensures.count ∙ (c.self.invariant.size ∙ ap slot_count (sym c.push_reserved.ensures.capacity));
+    }
+
+pub returns-clause-changes : goal.returns-clause-changes
+returns-clause-changes g c =
+    subst (λ (t : Placed g.row.V.Denot). changes t.slots c.push_at.new.self.slots
+    ≤ distance (length t.slots) c.args.slot c.push_at.result + 1) c.self.view_is c.push_at.ensures.changes
