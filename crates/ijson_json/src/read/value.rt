@@ -177,7 +177,6 @@ fn read_object<'a, S: BuildHasher>(
 
 /// A key, `:` and a value.
 #[cycle(read)]
-#[tactic(auto, using(crate::proofs::reading::CacheContents::adds_behind_key))]
 fn read_member<'a, S: BuildHasher>(
     alloc: Global,
     cache: &mut StringCache<S>,

@@ -1,4 +1,5 @@
 use Rattle.std.proofs.Common.{sym, eq-eqb, arith, subst}
+use Rattle.std.proofs.lemmas.Grind.{common_steps}
 use Rattle.ijson_value.specs.Tree.{Tree}
 use Rattle.ijson_json.specs.Grammar.{Accepted}
 use Rattle.ijson_json.specs.Refuses.{Refuses}
@@ -40,3 +41,7 @@ pub returns-in-Err-clause-cache : goal.returns-in-Err-clause-cache
 returns-in-Err-clause-cache g c = adds_behind c.args.text.now c.skip_space-start.ensures.space c.skip_space-start.result.now
     c.args.cache.now
     c.read_value-read.new.cache c.skip_space-start.ensures.is c.read_value-read.ensures.cache
+
+-- what the check tries where no answer stands takes longer than these
+pub overflow_sub-result : goal.overflow_sub-result
+overflow_sub-result g c = grind (arith, common_steps)

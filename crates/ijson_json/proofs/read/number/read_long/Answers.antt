@@ -1,4 +1,5 @@
 use Rattle.std.proofs.Common.{true, refl, arith, subst, ◌∙◌}
+use Rattle.std.proofs.lemmas.Grind.{common_steps}
 use Rattle.ijson_json.specs.private.Reading.{IsPastLimit}
 use Rattle.ijson_json.proofs.scanning.Prefixes.{not_both}
 use Rattle.ijson_json.proofs.reading.Numbers.{no_number, run_past_limit, front_past_limit, front_range}
@@ -29,3 +30,10 @@ returns-else-is_past_limit c =
       no_number c.args.text.now c.split_number.result.0.now c.split_number.result.1.now s.whole s.run s.stops
           (λ v. not_both true refl (c.in-Some.ensures.none.1 v)),
     )
+
+-- what the check tries where no answer stands takes longer than these
+pub range-requires-clause-end_boundary : goal.range-requires-clause-end_boundary
+range-requires-clause-end_boundary c = grind (arith, common_steps)
+
+pub overflow_sub-result : goal.overflow_sub-result
+overflow_sub-result c = grind (arith, common_steps)

@@ -1,4 +1,5 @@
 use Rattle.std.proofs.Common.{◌≡◌, ◌⊎◌, inl, inr, length, List, [], ◌∷◌, ◌++◌, ℕ, ap, subst, sym, refl, ◌∙◌, arith, rules, map}
+use Rattle.std.proofs.lemmas.Grind.{common_steps}
 use Rattle.std.proofs.lemmas.Result.{err_from_is_err_and}
 use Rattle.ijson_table.specs.Store.{put_each}
 use Rattle.ijson_value.specs.Tree.{Tree, array, object, items_of, members_of}
@@ -14,7 +15,7 @@ use Rattle.ijson_json.specs.private.Separators.{SeparatorAt}
 use Rattle.ijson_json.proofs.scanning.Prefixes.{closes}
 use Rattle.ijson_json.proofs.grammar.ElementShapes.{items_shape, members_shape}
 use Rattle.ijson_json.proofs.reading.ArraysAndObjects.{arrays, objects}
-use Rattle.ijson_json.proofs.reading.CacheContents.{shared_more}
+use Rattle.ijson_json.proofs.reading.CacheContents.{adds_behind_key, shared_more}
 use Rattle.ijson_json.proofs.reading.ElementFaults.{bracket_too_deep, element_fault, push_fault}
 use Rattle.ijson_json.proofs.reading.Elements.{empty_read}
 use Rattle.ijson_json.proofs.reading.Gathering.{gathered_start, gathered_adds, gathered_shared, gathered_more, gathered_end}
@@ -234,6 +235,17 @@ read_member-returns-clause-shared g t c = (
   c.in_ok-value.ensures.shared,
 )
 
+-- a key and its value add what each of them does
+pub read_member-returns-in_err-value-clause-cache : goal.read_member-returns-in_err-value-clause-cache
+read_member-returns-in_err-value-clause-cache g t c = adds_behind_key c.in_ok-key.key c.args.text.now c.in_ok-key.start.now
+    c.args.cache.now c.read_key.new.cache c.read_value.new.cache c.in_ok-key.ensures.read c.read_key.ensures.cache
+    c.read_value.ensures.cache
+
+pub read_member-returns-clause-cache : goal.read_member-returns-clause-cache
+read_member-returns-clause-cache g t c = adds_behind_key c.in_ok-key.key c.args.text.now c.in_ok-key.start.now
+    c.args.cache.now c.read_key.new.cache c.read_value.new.cache c.in_ok-key.ensures.read c.read_key.ensures.cache
+    c.read_value.ensures.cache
+
 -- ---- the scratch
 pub read_array-returns-in-End-clause-values : goal.read_array-returns-in-End-clause-values
 read_array-returns-in-End-clause-values g t c =
@@ -246,3 +258,16 @@ read_object-returns-in-End-clause-members g t c =
     gathered_left c.loop-key.invariant.read (c.in_ok-key.key, c.in_ok-key.value) c.read_member.new.scratch.members.items
     c.push_read.new.stack.items _ c.len-base.result c.in_ok-key.ensures.members c.in_ok-next.ensures.pushed
     (c.len-base.ensures ∙ c.args.scratch.now.members.ok.0) c.in_ok-object-in-End.ensures.stack
+
+-- what the check tries where no answer stands takes longer than these
+pub read_array-loop-item-smaller : goal.read_array-loop-item-smaller
+read_array-loop-item-smaller g t c = grind (arith, common_steps)
+
+pub read_array-take_items-requires : goal.read_array-take_items-requires
+read_array-take_items-requires g t c = grind (arith, common_steps)
+
+pub read_object-loop-key-smaller : goal.read_object-loop-key-smaller
+read_object-loop-key-smaller g t c = grind (arith, common_steps)
+
+pub read_object-take_members-requires : goal.read_object-take_members-requires
+read_object-take_members-requires g t c = grind (arith, common_steps)

@@ -1,4 +1,6 @@
-use Rattle.std.proofs.Common.{◌≡◌, ◌++◌, ◌∷◌, [], List, ℕ, take, drop, append-nil, take-append-drop, length, refl, sym, ap, ◌∙◌, rules}
+use Rattle.std.proofs.Common.{◌≡◌, ◌++◌, ◌∷◌, [], List, ℕ, take, drop, append-nil, take-append-drop, length, refl, sym, ap, ◌∙◌, arith}
+use Rattle.std.proofs.Common.{rules}
+use Rattle.std.proofs.lemmas.Grind.{common_steps}
 use Rattle.std.specs.String.{string_bytes}
 use Rattle.std.proofs.lemmas.Str.{IsCharBoundary-start}
 use Rattle.ijson_json.specs.Print.{escaped, all_escaped}
@@ -87,3 +89,7 @@ loop-byte-preserved c =
           (read_on c.args.text.now run c.split_run_at.result.1.now c.in-Some.field-0-1.now c.in-Some.byte c.loop-byte.start
           c.split_run_at.ensures.whole c.in-Some.ensures.cases));
     }
+
+-- what the check tries where no answer stands takes longer than these
+pub loop-byte-smaller : goal.loop-byte-smaller
+loop-byte-smaller c = grind (arith, common_steps)
