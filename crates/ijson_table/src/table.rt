@@ -2,17 +2,18 @@
 
 ghost use Rattle.std.specs.Prelude.{◌≡◌, ◌+◌, ◌-◌, ◌<◌, ◌≤◌, ◌^◌, [], ◌∷◌, ◌++◌, length, get_or, map};
 ghost use Rattle.std.specs.Prelude.{ℕ, List, Ok, Err, refl, IfOk, IsOk, OnErr, ◌↔◌, Some, None};
-ghost use Rattle.ijson_table.specs.Store.{at, keys_of, IsDistinct, lookup};
-ghost use Rattle.ijson_table.specs.laws.Store.{IsDistinct-prop};
-ghost use Rattle.ijson_table.specs.Slots.{IsBounded, IsTable};
+ghost use Rattle.std.specs.Option.{option_copied};
+ghost use Rattle.ijson_table.specs.Crowd.{distance};
 ghost use Rattle.ijson_table.specs.Growth.{capacity_limit};
 ghost use Rattle.ijson_table.specs.Inserts.{Inserts};
+ghost use Rattle.ijson_table.specs.Slots.{resident, IsBounded, IsTable};
+ghost use Rattle.ijson_table.specs.Store.{at, keys_of, IsDistinct, lookup};
 ghost use Rattle.ijson_table.specs.laws.Placed.{placed_with_value};
-ghost use Rattle.ijson_table.specs.Crowd.{distance};
+ghost use Rattle.ijson_table.specs.laws.Store.{IsDistinct-prop};
 ghost use Rattle.ijson_table.specs.private.Changes.{changes};
 ghost use Rattle.ijson_table.specs.private.Holds.{MayStand};
 ghost use Rattle.ijson_table.specs.private.Lookup.{LookUpEnds};
-ghost use Rattle.std.specs.Option.{option_copied};
+ghost use Rattle.ijson_table.specs.private.Probe.{AreFull};
 
 mod from_list;
 
@@ -178,7 +179,8 @@ impl<V: Drop, H: KeyHash> Table<V, H> {
         self.push_at(slot, key, value, hash);
     }
 
-    /// The same, at the slot where a probe for the key ended. Answers the last slot that is written.
+    /// The same, at the slot where a probe for the key ended. Answers the last slot that is written, which was the first empty one from
+    /// there on.
     #[inline(always)]
     fn push_at(&mut self, slot: usize, key: IString, value: V, hash: u64) -> usize
         requires missing { at self.old.store.pairs key ≡ None }
@@ -190,6 +192,8 @@ impl<V: Drop, H: KeyHash> Table<V, H> {
         ensures capacity { self.new.store.capacity ≡ self.old.store.capacity }
         ensures count { length self.new.slots ≡ length self.old.slots }
         ensures within { result < length self.old.slots }
+        ensures empty { resident self.old.slots result ≡ None }
+        ensures passed { AreFull self.old.slots slot (distance (length self.old.slots) slot result) }
         ensures changes { changes self.old.slots self.new.slots ≤ distance (length self.old.slots) slot result + 1 }
     {
         let position = self.pairs.len();

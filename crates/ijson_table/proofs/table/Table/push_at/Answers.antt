@@ -1,9 +1,11 @@
-use Rattle.std.proofs.Common.{◌≡◌, ◌≤◌, ◌<◌, ◌+◌, [], ◌∷◌, ◌++◌, length, arith, ap, sym, ◌∙◌, subst, refl, length-append}
+use Rattle.std.proofs.Common.{None, ◌≡◌, ◌≤◌, ◌<◌, ◌+◌, [], ◌∷◌, ◌++◌, length, arith, ap, sym, ◌∙◌, subst, refl, length-append}
 use Rattle.std.specs.Prelude.{vec_capacity}
 use Rattle.ijson_table.specs.Crowd.{distance, slot_count}
 use Rattle.ijson_table.specs.Placed.{Placed}
+use Rattle.ijson_table.specs.Slots.{resident}
 use Rattle.ijson_table.specs.private.Changes.{changes}
 use Rattle.ijson_table.specs.private.Holds.{MayStand}
+use Rattle.ijson_table.specs.private.Probe.{AreFull}
 use Rattle.ijson_table.proofs.pairs.NewPairs.{still_distinct}
 use Rattle.ijson_table.proofs.probing.KeyHashes.{hashes, hashes-push, length-hashes}
 use Rattle.ijson_table.proofs.table.Table.push_at.Goals.{After-len-position}
@@ -85,3 +87,12 @@ pub returns-clause-changes : goal.returns-clause-changes
 returns-clause-changes g c =
     subst (λ (t : Placed g.row.V.Denot). changes t.slots c.push_at.new.self.slots
     ≤ distance (length t.slots) c.args.slot c.push_at.result + 1) c.self.view_is c.push_at.ensures.changes
+
+pub returns-clause-empty : goal.returns-clause-empty
+returns-clause-empty g c =
+    subst (λ (t : Placed g.row.V.Denot). resident t.slots c.push_at.result ≡ None) c.self.view_is c.push_at.ensures.empty
+
+pub returns-clause-passed : goal.returns-clause-passed
+returns-clause-passed g c =
+    subst (λ (t : Placed g.row.V.Denot). AreFull t.slots c.args.slot (distance (length t.slots) c.args.slot c.push_at.result))
+    c.self.view_is c.push_at.ensures.passed
