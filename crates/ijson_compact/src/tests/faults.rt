@@ -137,7 +137,8 @@ fn beginnings(rt: HostRuntime) {
     }
 }
 
-/// Texts that are too deep: what stands in front, an opening, how often, what is inside, a closing, what stands behind, and where it is told.
+/// Texts that are too deep: what stands in front, an opening, how often, what is inside, a closing, what stands behind, and where it is
+/// told.
 static DEEP: [(&str, &str, usize, &str, &str, &str, usize); 3] = [
     ("", "[", 128, "", "]", "", 127),
     ("", "{\"a\":", 128, "null", "}", "", 635),

@@ -5,8 +5,8 @@ use std::cell::{Cell, RefCell};
 use std::hash::{Hash, Hasher};
 use std::process::Abort;
 
-/// It notes the words of `write_u64`, and whether it was fed anything else or had no memory for a word. What a cell holds is no part of a value,
-/// so for a contract it stays as it was.
+/// It notes the words of `write_u64`, and whether it was fed anything else or had no memory for a word. What a cell holds is no part of
+/// a value, so for a contract it stays as it was.
 #[derive(Drop)]
 struct Recorder<'a> {
     words: &'a RefCell<Vec<u64>>,
