@@ -1,16 +1,16 @@
 //! `compact`: from a source to a sink.
 ghost use Rattle.std.specs.Prelude.{◌≡◌, ◌≢◌, ◌+◌, ◌^◌, ◌<◌, ◌↔◌, ◌⊎◌, [], IfOk, IfErr, OnOk, IfSome, Err, IsUtf8};
 ghost use Rattle.std.specs.Prelude.{◌++◌, ◌∷◌};
-ghost use Rattle.std.specs.Io.KnownBytes.{Keeps};
+ghost use Rattle.std.specs.Io.KnownBytes.{Appends, Consumes, IsAtEnd, Keeps};
 ghost use Rattle.std.specs.String.{string_bytes};
-ghost use Rattle.ijson_json.specs.AddsOnlyRead.{AddsOnlyRead};
 ghost use Rattle.ijson_json.specs.AreShared.{SharesTextsOf};
 ghost use Rattle.ijson_json.specs.CompactErrorOf.{compact_error_of};
 ghost use Rattle.ijson_json.specs.private.CompactErrorOfReadFault.{compact_error_of_read_fault};
-ghost use Rattle.ijson_json.specs.Compacts.{IsCompactLine, WritesLine, BeginsLine, AddsOnlyLeft};
+ghost use Rattle.ijson_json.specs.Compacts.{WritesLine, BeginsLine, AddsOnlyLeft};
 ghost use Rattle.ijson_json.specs.CompactRefusal.{IsCompactRefusal};
 ghost use Rattle.ijson_json.specs.Grammar.{Accepted};
 ghost use Rattle.ijson_json.specs.Print.{print};
+ghost use Rattle.ijson_json.specs.WritesBeginning.{WritesBeginning};
 ghost use Rattle.ijson_json.specs.declared.compacting.CompactError.TheVariants.{Read, NotUtf8, Write, Json, Memory as NoMemory};
 ghost use Rattle.ijson_json.specs.declared.fault.JsonError.TheVariants.{Memory};
 
@@ -155,32 +155,43 @@ pub fn compact_value<R: Source, W: Sink, S: BuildHasher>(
     ensures value { IfOk result (λ value.
         IfSome (R.left input.old) (λ bytes. Accepted bytes value.tree)) }
 {
-    let bytes = read_all(alloc, input)?;
-    let (value, line) = compact_line(alloc, cache, bytes)?;
-    let written = write_all(output, line.as_bytes()).map_err(|_| CompactError::Write);
-    written.and(Ok(value))
+    let text = remaining_text(alloc, input)?;
+    let value = from_json(alloc, cache, text.as_str())?;
+    write_line(output, text, value)
 }
 
-/// The value that `bytes` spell, and its compact text and a line feed, in the memory of `bytes` as far as that goes.
-fn compact_line<S: BuildHasher>(
-    alloc: Global,
-    cache: &mut StringCache<S>,
-    bytes: Vec<u8>,
-) -> Result<(IValue, String), CompactError>
-    ensures line { IfOk result (λ x. IsCompactLine bytes.items (string_bytes x.1)) }
-    ensures value { IfOk result (λ x. Accepted bytes.items x.0.tree) }
-    ensures error { IfErr result (λ error. IsCompactRefusal bytes.items error) }
-    ensures not_read { result ≢ Err Read }
-    ensures not_write { result ≢ Err Write }
-    ensures never_memory { result ≢ Err (Json Memory) }
-    ensures cache { AddsOnlyRead bytes.items cache.old cache.new }
-    ensures unread { result ≡ Err NotUtf8 → cache.new ≡ cache.old }
-    ensures shared { OnOk result (SharesTextsOf bytes.items cache.new) }
+/// All that is left in `input`, which has to be a text.
+fn remaining_text<R: Source>(alloc: Global, input: &mut R) -> Result<String, CompactError>
+    requires { R.failed input.old + 1 < 2 ^ 64 }
+    ensures text { IfOk result (λ text. IsUtf8 (string_bytes text)
+        × Consumes (R.left input.old) (R.left input.new) (string_bytes text) × IsAtEnd (R.left input.new)) }
+    ensures read { (result ≡ Err Read) ↔ (R.failed input.old < R.failed input.new) }
+    ensures refused { result ≡ Err NotUtf8 → IfSome (R.left input.old) (λ bytes. ¬ (IsUtf8 bytes)) }
+    ensures error { IfErr result (λ error. (error ≡ Read) ⊎ (error ≡ NotUtf8) ⊎ (error ≡ NoMemory)) }
 {
-    let text = text_of(bytes)?;
-    let value = from_json(alloc, cache, text.as_str())?;
-    match line_of(text, &value) {
-        Ok(line) => Ok((value, line)),
+    let bytes = read_all(alloc, input)?;
+    if from_utf8(&bytes).is_err() {
+        return Err(CompactError::NotUtf8);
+    }
+    Ok(unsafe { String::from_utf8_unchecked(bytes) })
+}
+
+/// Writes the compact text of the value and a line feed, made in the memory of `room` as far as that goes, and answers the value.
+fn write_line<W: Sink>(output: &mut W, room: String, value: IValue) -> Result<IValue, CompactError>
+    requires { W.failed output.old + 1 < 2 ^ 64 }
+    ensures line { IfOk result (λ written. (written ≡ value)
+        × Appends (W.got output.old) (W.got output.new) (print value.tree ++ 10 ∷ [])) }
+    ensures write { (result ≡ Err Write) ↔ (W.failed output.old < W.failed output.new) }
+    ensures beginning { result ≡ Err Write
+        → WritesBeginning (W.got output.old) (W.got output.new) (print value.tree ++ 10 ∷ []) }
+    ensures error { IfErr result (λ error. error ≢ Write
+        → (error ≡ NoMemory) × Keeps (W.got output.old) (W.got output.new)) }
+{
+    match line_of(room, &value) {
+        Ok(line) => {
+            let written = write_all(output, line.as_bytes()).map_err(|_| CompactError::Write);
+            written.and(Ok(value))
+        }
         Err(refused) => {
             drop(value);
             Err(CompactError::from(refused))
@@ -197,15 +208,4 @@ fn line_of(room: String, value: &IValue) -> Result<String, AllocError>
     push_value(&mut line, value)?;
     line.push('\n')?;
     Ok(line)
-}
-
-/// The text that `bytes` are, in their memory.
-fn text_of(bytes: Vec<u8>) -> Result<String, CompactError>
-    ensures text { IfOk result (λ text. (string_bytes text ≡ bytes.items) × IsUtf8 bytes.items) }
-    ensures refused { IfErr result (λ error. (error ≡ NotUtf8) × ¬ (IsUtf8 bytes.items)) }
-{
-    if from_utf8(&bytes).is_err() {
-        return Err(CompactError::NotUtf8);
-    }
-    Ok(unsafe { String::from_utf8_unchecked(bytes) })
 }

@@ -1,13 +1,11 @@
 -- What is known of a device's bytes after several moves.
 use Rattle.std.proofs.lemmas.List.{take_rest}
-use Rattle.std.proofs.Common.{is_ok, true, false, subst, Result, Ok, Err, OnOk, OnErr, append-nil, arith, take, drop, length, ◌+◌, ◌<◌}
+use Rattle.std.proofs.Common.{subst, Result, Ok, Err, OnErr, arith, take, drop, length, ◌+◌, ◌<◌}
 use Rattle.std.proofs.Common.{◌≢◌, take-append-drop, length-drop, take-add, ◌-◌, ◌≡◌, ◌∙◌, ap, sym, refl, ℕ, List, [], ◌++◌, Some, None}
 use Rattle.std.specs.Prelude.{Option}
 use Rattle.std.specs.Option.{IfSome}
-use Rattle.std.specs.Result.{result_and}
-use Rattle.std.specs.Io.KnownBytes.{Appends, Consumes, IsAtEnd, Keeps}
+use Rattle.std.specs.Io.KnownBytes.{Appends, Consumes, Keeps}
 use Rattle.std.proofs.KnownBytes.{Appends-kept, Appends-trans, Consumes-trans}
-use Rattle.ijson_json.specs.Compacts.{IsCompactLine}
 use Rattle.ijson_json.specs.WritesBeginning.{WritesBeginning}
 
 -- a piece behind the first i bytes, which a later write to the list kept
@@ -47,32 +45,3 @@ known_or_none (Some xs) = (xs, refl)
 pub on_any_err : {T E : Type 0} {P : Type 0} (r : Result T E) → P → OnErr r P
 on_any_err (Ok _) h = tt
 on_any_err (Err _) h = h
-
--- what holds under an error of a result holds where what it was mapped to is an error
-pub was_err : {T E F : Type 0} {P : Type 0} (r : Result T E) (mapped : Result T F) (f : F) → is_ok mapped ≡ is_ok r → mapped ≡ Err f
-    → OnErr r P → P
-was_err (Ok x) mapped f same is h = let ok : true ≡ false = sym same ∙ ap is_ok is in cc ok
-was_err (Err e) mapped f same is h = h
-
--- what follows from the first of two answers holds where both are Ok
-pub on_both : {T U E F : Type 0} {Q P : Type 0} (r : Result T E) (mapped : Result T F) (x : U) (both : Result U F)
-    → is_ok mapped ≡ is_ok r → both ≡ result_and mapped (Ok x) → (Q → P) → OnOk r Q → OnOk both P
-on_both {P = P} (Ok a) (Ok b) x both same is f h = subst (λ r. OnOk r P) (sym is) (f h)
-on_both {P = P} (Ok a) (Err b) x both same is f h = subst (λ r. OnOk r P) (sym is) tt
-on_both (Err a) (Ok b) x both same is f h = let ok : true ≡ false = same in cc ok
-on_both {P = P} (Err a) (Err b) x both same is f h = subst (λ r. OnOk r P) (sym is) tt
-
--- what was an error of the first answer is one of both
-pub both_err : {T U E : Type 0} (r : Result T E) (x : U) (e : E) → result_and r (Ok x) ≡ Err e → r ≡ Err e
-both_err (Ok a) x e is = cc is
-both_err (Err b) x e is = cc is
-
--- a source that is at its end gave all that it had, and the line is of that
-pub whole_line : (a b c d : Option (List ℕ)) (bytes line : List ℕ) → Consumes a b bytes → IsAtEnd b → IsCompactLine bytes line
-    → Appends c d line → IfSome a (λ all. (b ≡ Some []) × ((l : List ℕ) × IsCompactLine all l × Appends c d l))
-whole_line None b c d bytes line p q h taken = tt
-whole_line (Some x) None c d bytes line p q h taken = absurd p
-whole_line (Some x) (Some y) c d bytes line p q h taken =
-    let same : x ≡ bytes = p ∙ ap (λ l. bytes ++ l) q ∙ append-nil bytes in
-    let is_line : IsCompactLine x line = subst (λ all. IsCompactLine all line) (sym same) h in
-    (ap Some q, (line, is_line, taken))

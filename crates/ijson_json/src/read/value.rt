@@ -61,8 +61,8 @@ pub(crate) fn read_value<'a, S: BuildHasher>(
     requires { opened ≤ max_depth }
     ensures read { AnswersAt opened text.now result }
     ensures cache { AddsOnlyRead text.now cache.old cache.new }
-    ensures values { OnOk result (scratch.new.values.items ≡ scratch.old.values.items) }
-    ensures members { OnOk result (scratch.new.members.items ≡ scratch.old.members.items) }
+    ensures kept { OnOk result ((scratch.new.values.items ≡ scratch.old.values.items)
+        × (scratch.new.members.items ≡ scratch.old.members.items)) }
     ensures shared { IfOk result (λ x. AreShared cache.new x.0.tree) }
 {
     let Some((first, inside)) = split_ascii(text) else {
@@ -92,8 +92,8 @@ fn read_container<'a, S: BuildHasher>(
     requires opens { (first ≡ 91) ⊎ (first ≡ 123) }
     ensures read { AnswersAt opened text.now result }
     ensures cache { AddsOnlyRead text.now cache.old cache.new }
-    ensures values { OnOk result (scratch.new.values.items ≡ scratch.old.values.items) }
-    ensures members { OnOk result (scratch.new.members.items ≡ scratch.old.members.items) }
+    ensures kept { OnOk result ((scratch.new.values.items ≡ scratch.old.values.items)
+        × (scratch.new.members.items ≡ scratch.old.members.items)) }
     ensures shared { IfOk result (λ x. AreShared cache.new x.0.tree) }
 {
     check_depth(text, opened)?;
@@ -119,8 +119,8 @@ fn read_array<'a, S: BuildHasher>(
     requires { opened < max_depth }
     ensures read { AnswersAt opened (91 ∷ inside.now) result }
     ensures cache { AddsOnlyRead (91 ∷ inside.now) cache.old cache.new }
-    ensures values { OnOk result (scratch.new.values.items ≡ scratch.old.values.items) }
-    ensures members { OnOk result (scratch.new.members.items ≡ scratch.old.members.items) }
+    ensures kept { OnOk result ((scratch.new.values.items ≡ scratch.old.values.items)
+        × (scratch.new.members.items ≡ scratch.old.members.items)) }
     ensures shared { IfOk result (λ x. AreShared cache.new x.0.tree) }
 {
     let mut rest = skip_space(inside);
@@ -154,8 +154,8 @@ fn read_object<'a, S: BuildHasher>(
     requires { opened < max_depth }
     ensures read { AnswersAt opened (123 ∷ inside.now) result }
     ensures cache { AddsOnlyRead (123 ∷ inside.now) cache.old cache.new }
-    ensures values { OnOk result (scratch.new.values.items ≡ scratch.old.values.items) }
-    ensures members { OnOk result (scratch.new.members.items ≡ scratch.old.members.items) }
+    ensures kept { OnOk result ((scratch.new.values.items ≡ scratch.old.values.items)
+        × (scratch.new.members.items ≡ scratch.old.members.items)) }
     ensures shared { IfOk result (λ x. AreShared cache.new x.0.tree) }
 {
     let mut rest = skip_space(inside);
@@ -189,8 +189,8 @@ fn read_member<'a, S: BuildHasher>(
         (λ x. MemberAs opened text.now x.0 x.1.tree x.2.now)
         (λ fault. ExplainsMember opened text.now fault) }
     ensures cache { AddsOnlyRead text.now cache.old cache.new }
-    ensures values { OnOk result (scratch.new.values.items ≡ scratch.old.values.items) }
-    ensures members { OnOk result (scratch.new.members.items ≡ scratch.old.members.items) }
+    ensures kept { OnOk result ((scratch.new.values.items ≡ scratch.old.values.items)
+        × (scratch.new.members.items ≡ scratch.old.members.items)) }
     ensures shared { IfOk result (λ x. IsShared cache.new x.0 × AreShared cache.new x.1.tree) }
 {
     let (key, start) = read_key(cache, &mut scratch.content, text)?;

@@ -85,8 +85,8 @@ read_array-loop-item-preserved g t c =
     record {
       read = gathered_more c.loop-item.invariant.read c.in_ok-item.item item.0 c.in_ok-item.after.now c.in-Comma.next.now
           c.read_value.new.scratch.values.items c.push_read.new.stack.items c.read_value.new.cache item.1 item.2 comma
-          c.in_ok-item.ensures.values c.in_ok-next.ensures.pushed c.read_value.ensures.cache c.in_ok-item.ensures.shared;
-      members = c.in_ok-item.ensures.members ∙ c.loop-item.invariant.members;
+          c.in_ok-item.ensures.kept.0 c.in_ok-next.ensures.pushed c.read_value.ensures.cache c.in_ok-item.ensures.shared;
+      members = c.in_ok-item.ensures.kept.1 ∙ c.loop-item.invariant.members;
       utf8 = search rules;
     }
 
@@ -96,7 +96,7 @@ read_array-returns-in-End-clause-read g t c =
     let item = c.in_ok-item.ensures.read in
     let end = subst (λ (s : Separator). SeparatorAt 93 c.in_ok-item.after.now s) c.in-End.is c.in_ok-next.ensures.separator in
     let taken = gathered_taken i c.in_ok-item.item c.read_value.new.scratch.values.items c.push_read.new.stack.items
-    c.in_ok-items-in-End.items.items c.len-base.result c.in_ok-item.ensures.values c.in_ok-next.ensures.pushed
+    c.in_ok-items-in-End.items.items c.len-base.result c.in_ok-item.ensures.kept.0 c.in_ok-next.ensures.pushed
     (c.len-base.ensures ∙ c.args.scratch.now.values.ok.0) c.in_ok-items-in-End.ensures.items in (
       array (items_of (i.written ++ item.0 ∷ [])),
       gathered_end i item.0 c.in_ok-item.after.now c.in-End.behind.now item.1 end,
@@ -144,8 +144,8 @@ read_object-loop-key-preserved g t c =
     record {
       read = gathered_more c.loop-key.invariant.read (key, c.in_ok-key.value) (key, value.0) c.in_ok-key.after.now c.in-Comma.next.now
           c.read_member.new.scratch.members.items c.push_read.new.stack.items c.read_member.new.cache value.1 (refl, value.2) comma
-          c.in_ok-key.ensures.members c.in_ok-next.ensures.pushed c.read_member.ensures.cache c.in_ok-key.ensures.shared;
-      values = c.in_ok-key.ensures.values ∙ c.loop-key.invariant.values;
+          c.in_ok-key.ensures.kept.1 c.in_ok-next.ensures.pushed c.read_member.ensures.cache c.in_ok-key.ensures.shared;
+      values = c.in_ok-key.ensures.kept.0 ∙ c.loop-key.invariant.values;
       utf8 = search rules;
     }
 
@@ -156,7 +156,7 @@ read_object-returns-in-End-clause-read g t c =
     let key = c.in_ok-key.key in
     let end = subst (λ (s : Separator). SeparatorAt 125 c.in_ok-key.after.now s) c.in-End.is c.in_ok-next.ensures.separator in
     let taken = gathered_taken i (key, c.in_ok-key.value) c.read_member.new.scratch.members.items c.push_read.new.stack.items _
-    c.len-base.result c.in_ok-key.ensures.members c.in_ok-next.ensures.pushed
+    c.len-base.result c.in_ok-key.ensures.kept.1 c.in_ok-next.ensures.pushed
     (c.len-base.ensures ∙ c.args.scratch.now.members.ok.0) refl in (
       object (members_of (i.written ++ (key, value.0) ∷ [])),
       gathered_end i (key, value.0) c.in_ok-key.after.now c.in-End.behind.now value.1 end,
@@ -215,7 +215,7 @@ pub read_array-returns-in-End-clause-shared : goal.read_array-returns-in-End-cla
 read_array-returns-in-End-clause-shared g t c =
     subst (λ (v : WellFormed). AreShared c.read_value.new.cache v.tree) (sym c.from-in-End.ensures)
     (gathered_shared c.loop-item.invariant.read c.in_ok-item.item c.read_value.new.scratch.values.items c.push_read.new.stack.items
-    c.in_ok-items-in-End.items.items c.len-base.result c.read_value.new.cache c.in_ok-item.ensures.values c.in_ok-next.ensures.pushed
+    c.in_ok-items-in-End.items.items c.len-base.result c.read_value.new.cache c.in_ok-item.ensures.kept.0 c.in_ok-next.ensures.pushed
     (c.len-base.ensures ∙ c.args.scratch.now.values.ok.0) c.in_ok-items-in-End.ensures.items c.read_value.ensures.cache
     c.in_ok-item.ensures.shared)
 
@@ -225,7 +225,7 @@ read_object-returns-in-End-clause-shared g t c =
     (subst (λ (ps : List (List ℕ × WellFormed)). MembersAreShared c.read_member.new.cache (pair_trees ps))
     (sym c.in_ok-object-in-End.ensures.members)
     (gathered_shared c.loop-key.invariant.read (c.in_ok-key.key, c.in_ok-key.value) c.read_member.new.scratch.members.items
-    c.push_read.new.stack.items _ c.len-base.result c.read_member.new.cache c.in_ok-key.ensures.members c.in_ok-next.ensures.pushed
+    c.push_read.new.stack.items _ c.len-base.result c.read_member.new.cache c.in_ok-key.ensures.kept.1 c.in_ok-next.ensures.pushed
     (c.len-base.ensures ∙ c.args.scratch.now.members.ok.0) refl c.read_member.ensures.cache c.in_ok-key.ensures.shared))
 
 pub read_member-returns-clause-shared : goal.read_member-returns-clause-shared
@@ -247,17 +247,21 @@ read_member-returns-clause-cache g t c = adds_behind_key c.in_ok-key.key c.args.
     c.read_value.ensures.cache
 
 -- ---- the scratch
-pub read_array-returns-in-End-clause-values : goal.read_array-returns-in-End-clause-values
-read_array-returns-in-End-clause-values g t c =
-    gathered_left c.loop-item.invariant.read c.in_ok-item.item c.read_value.new.scratch.values.items c.push_read.new.stack.items _
-    c.len-base.result c.in_ok-item.ensures.values c.in_ok-next.ensures.pushed (c.len-base.ensures ∙ c.args.scratch.now.values.ok.0)
-    c.in_ok-items-in-End.ensures.stack
+pub read_array-returns-in-End-clause-kept : goal.read_array-returns-in-End-clause-kept
+read_array-returns-in-End-clause-kept g t c = (
+  gathered_left c.loop-item.invariant.read c.in_ok-item.item c.read_value.new.scratch.values.items c.push_read.new.stack.items _
+      c.len-base.result c.in_ok-item.ensures.kept.0 c.in_ok-next.ensures.pushed (c.len-base.ensures ∙ c.args.scratch.now.values.ok.0)
+      c.in_ok-items-in-End.ensures.stack,
+  c.in_ok-item.ensures.kept.1 ∙ c.loop-item.invariant.members,
+)
 
-pub read_object-returns-in-End-clause-members : goal.read_object-returns-in-End-clause-members
-read_object-returns-in-End-clause-members g t c =
-    gathered_left c.loop-key.invariant.read (c.in_ok-key.key, c.in_ok-key.value) c.read_member.new.scratch.members.items
-    c.push_read.new.stack.items _ c.len-base.result c.in_ok-key.ensures.members c.in_ok-next.ensures.pushed
-    (c.len-base.ensures ∙ c.args.scratch.now.members.ok.0) c.in_ok-object-in-End.ensures.stack
+pub read_object-returns-in-End-clause-kept : goal.read_object-returns-in-End-clause-kept
+read_object-returns-in-End-clause-kept g t c = (
+  c.in_ok-key.ensures.kept.0 ∙ c.loop-key.invariant.values,
+  gathered_left c.loop-key.invariant.read (c.in_ok-key.key, c.in_ok-key.value) c.read_member.new.scratch.members.items
+      c.push_read.new.stack.items _ c.len-base.result c.in_ok-key.ensures.kept.1 c.in_ok-next.ensures.pushed
+      (c.len-base.ensures ∙ c.args.scratch.now.members.ok.0) c.in_ok-object-in-End.ensures.stack,
+)
 
 -- what the check tries where no answer stands takes longer than these
 pub read_array-loop-item-smaller : goal.read_array-loop-item-smaller
