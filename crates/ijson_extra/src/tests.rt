@@ -9,6 +9,7 @@ mod refusals;
 
 use ijson_json::{from_json, to_json};
 use ijson_string::{IString, StringCache};
+use ijson_value::object::IObject;
 use ijson_value::value::IValue;
 use std::alloc::Global;
 use std::hash::{BuildHasherDefault, FoldHasher};
@@ -23,6 +24,11 @@ fn empty_cache(alloc: Global) -> Cache {
 /// A text through a cache of its own.
 fn key(rt: &impl Abort, alloc: Global, letters: &str) -> IString {
     IString::intern(&mut empty_cache(alloc), letters).expect(rt, "a text")
+}
+
+/// Puts a pair whose key is not there into an object that has room for it.
+fn insert_new(rt: &impl Abort, object: &mut IObject, key: IString, value: IValue) {
+    assert!(rt; object.insert(key, value).expect(rt, "room").is_none());
 }
 
 /// What `text` spells, through a cache of its own.

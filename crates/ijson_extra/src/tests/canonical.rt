@@ -59,9 +59,9 @@ static TEXTS: [(&str, &str); 12] = [
 /// though not where both are written with their escapes.
 #[test]
 fn canonical_texts(rt: HostRuntime) {
+    let alloc = rt.alloc();
     for &(text, written) in &TEXTS {
-        let value = parsed(&rt, rt.alloc(), text);
-        is_canonical(&rt, rt.alloc(), &value, written);
+        is_canonical(&rt, alloc, &parsed(&rt, alloc, text), written);
     }
 }
 
@@ -92,11 +92,12 @@ fn is_too_deep(rt: &impl Abort, alloc: Global, text: &str) {
 /// 128 arrays, one inside the other, which are written and not read.
 #[test]
 fn canonical_at_any_depth(rt: HostRuntime) {
-    let text = brackets(&rt, rt.alloc(), 128);
-    let value = arrays(&rt, rt.alloc(), 128);
-    is_canonical(&rt, rt.alloc(), &value, text.as_str());
-    is_written(&rt, rt.alloc(), &value, text.as_str());
-    is_too_deep(&rt, rt.alloc(), text.as_str());
+    let alloc = rt.alloc();
+    let text = brackets(&rt, alloc, 128);
+    let value = arrays(&rt, alloc, 128);
+    is_canonical(&rt, alloc, &value, text.as_str());
+    is_written(&rt, alloc, &value, text.as_str());
+    is_too_deep(&rt, alloc, text.as_str());
 }
 
 /// A list of a text, zeros, an object and a number, of 5,000 letters, items, members and digits, with something behind the number.
@@ -111,11 +112,7 @@ fn much(rt: &impl Abort, alloc: Global, behind: &str) -> String {
 
 #[test]
 fn canonical_of_much(rt: HostRuntime) {
-    let value = parsed(&rt, rt.alloc(), much(&rt, rt.alloc(), "").as_str());
-    is_canonical(
-        &rt,
-        rt.alloc(),
-        &value,
-        much(&rt, rt.alloc(), "e0").as_str(),
-    );
+    let alloc = rt.alloc();
+    let value = parsed(&rt, alloc, much(&rt, alloc, "").as_str());
+    is_canonical(&rt, alloc, &value, much(&rt, alloc, "e0").as_str());
 }

@@ -1,6 +1,7 @@
 //! What objects take out and replace, where keys and values hold memory. `refuse/gives-back` sees that none is held at the end of a test.
 
 use super::key;
+use ijson_string::IString;
 use ijson_value::array::IArray;
 use ijson_value::object::IObject;
 use ijson_value::value::IValue;
@@ -14,23 +15,32 @@ fn listed(rt: &impl Abort, alloc: Global) -> IValue {
     IValue::from(array)
 }
 
-/// An object of two keys that hold memory, as do the values beside them.
+/// Keys that hold memory.
+static KEYS: [&str; 2] = ["first_key", "second_key"];
+
+/// An object of these keys, beside values that hold memory too.
 fn holding(rt: &impl Abort, alloc: Global) -> IObject {
     let mut object = IObject::new(alloc);
-    for letters in ["first_key", "second_key"] {
+    for &letters in &KEYS {
         let old = object.insert(key(rt, alloc, letters), listed(rt, alloc));
         drop(old.expect(rt, "room"));
     }
     object
 }
 
+/// Whether a pair is the first of the two.
+fn is_first(key: &IString, _value: &mut IValue) -> bool {
+    key.eq_str("first_key")
+}
+
 /// Pairs are taken out, one and all of them.
 #[test]
 fn taken_out(rt: HostRuntime) {
-    let mut object = holding(&rt, rt.alloc());
-    object.retain(|key, _value| key.eq_str("first_key"));
+    let alloc = rt.alloc();
+    let mut object = holding(&rt, alloc);
+    object.retain(is_first);
     assert!(rt; object.len() == 1);
-    let mut object = holding(&rt, rt.alloc());
+    let mut object = holding(&rt, alloc);
     object.clear();
     assert!(rt; object.is_empty());
 }
@@ -38,20 +48,20 @@ fn taken_out(rt: HostRuntime) {
 /// Two values are replaced, in two ways.
 #[test]
 fn replaced(rt: HostRuntime) {
-    let mut object = holding(&rt, rt.alloc());
-    let again = holding(&rt, rt.alloc());
-    object.extend(again).expect(&rt, "room");
-    let again = holding(&rt, rt.alloc());
-    object.overlay(again).expect(&rt, "room");
+    let alloc = rt.alloc();
+    let mut object = holding(&rt, alloc);
+    object.extend(holding(&rt, alloc)).expect(&rt, "room");
+    object.overlay(holding(&rt, alloc)).expect(&rt, "room");
     assert!(rt; object.len() == 2);
 }
 
 /// Items are cut off, and others are given out and left.
 #[test]
 fn cut_off(rt: HostRuntime) {
-    let mut array = IArray::new(rt.alloc());
+    let alloc = rt.alloc();
+    let mut array = IArray::new(alloc);
     for _ in 0..4u8 {
-        array.push(listed(&rt, rt.alloc())).expect(&rt, "room");
+        array.push(listed(&rt, alloc)).expect(&rt, "room");
     }
     array.truncate(3);
     let mut items = array.into_iter();

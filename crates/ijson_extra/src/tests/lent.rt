@@ -220,11 +220,12 @@ fn becomes(rt: &impl Abort, alloc: Global, letters: &str, there: bool, way: Way,
 /// One value is another one, and all else as it was.
 #[test]
 fn values_beside_keys(rt: HostRuntime) {
+    let alloc = rt.alloc();
     for &(key, there, want, put) in &WRITTEN {
         for &way in &WAYS {
-            becomes(&rt, rt.alloc(), key, there, way, want);
+            becomes(&rt, alloc, key, there, way, want);
         }
-        becomes(&rt, rt.alloc(), key, there, Way::Put, put);
+        becomes(&rt, alloc, key, there, Way::Put, put);
     }
 }
 
@@ -242,10 +243,11 @@ static TURNED: [(&str, &str); 7] = [
 /// A truth value is turned, and another value is as it was.
 #[test]
 fn truth_values_turned(rt: HostRuntime) {
+    let alloc = rt.alloc();
     for &(text, want) in &TURNED {
-        let mut value = parsed(&rt, rt.alloc(), text);
+        let mut value = parsed(&rt, alloc, text);
         turn_truth(&mut value);
-        is_written(&rt, rt.alloc(), &value, want);
+        is_written(&rt, alloc, &value, want);
     }
 }
 

@@ -9,7 +9,7 @@ use super::{empty_cache, key};
 use ijson_number::INumber;
 use ijson_string::IString;
 use ijson_table::ReserveError;
-use ijson_value::object::{Entry, IObject};
+use ijson_value::object::{Entry, IObject, IntoIter, OccupiedEntry};
 use ijson_value::value::{DestructuredRef, IValue};
 use std::alloc::Global;
 use std::fmt::Debug;
@@ -46,12 +46,9 @@ fn number_at(object: &IObject, key: &str) -> usize {
     }
 }
 
-/// Whether there is a value, and it is this number.
-fn is_number(value: Option<IValue>, number: usize) -> bool {
-    match value {
-        Some(value) => number_of(&value) == number,
-        None => false,
-    }
+/// The number that a value is, if there was one: 99 where it is none.
+fn number_in(value: Option<IValue>) -> Option<usize> {
+    value.as_ref().map(number_of)
 }
 
 /// Whether there is a pair, and this is its key.
@@ -60,6 +57,11 @@ fn has_key(pair: Option<(IString, IValue)>, key: &str) -> bool {
         Some((text, _value)) => text.eq_str(key),
         None => false,
     }
+}
+
+/// Whether there is no pair.
+fn is_no_pair(pair: Option<(IString, IValue)>) -> bool {
+    pair.is_none()
 }
 
 /// Whether these are the keys, in this order.
@@ -77,16 +79,15 @@ fn has_keys(object: &IObject, keys: &[&str]) -> bool {
 /// Puts another number beside the first of four keys.
 fn replaces(rt: &impl Abort, a: IString, object: &mut IObject) {
     let old = object.insert(a, of_number(9)).expect(rt, "room");
-    assert!(rt; is_number(old, 0) && object.capacity() == 4 && number_at(object, "a") == 9);
+    assert!(rt; number_in(old) == Some(0));
+    assert!(rt; object.capacity() == 4 && number_at(object, "a") == 9);
 }
 
 /// Takes two of the keys a to d out. The last pair moves there.
 fn removes(rt: &impl Abort, object: &mut IObject, d: &IString) {
-    assert!(rt; is_number(object.remove("b"), 1));
-    assert!(rt; has_keys(object, &["a", "d", "c"]));
-    assert!(rt; has_key(object.remove_entry(d), "d"));
-    assert!(rt; has_keys(object, &["a", "c"]) && object.remove("b").is_none());
-    assert!(rt; object.capacity() == 4);
+    assert!(rt; number_in(object.remove("b")) == Some(1) && has_keys(object, &["a", "d", "c"]));
+    assert!(rt; has_key(object.remove_entry(d), "d") && has_keys(object, &["a", "c"]));
+    assert!(rt; number_in(object.remove("b")).is_none() && object.capacity() == 4);
 }
 
 /// An object of the keys a to d.
@@ -103,39 +104,46 @@ fn five(rt: &impl Abort, alloc: Global) -> IObject {
 
 #[test]
 fn insertions(rt: HostRuntime) {
-    drop(five(&rt, rt.alloc()));
-    let mut object = four(&rt, rt.alloc());
+    let alloc = rt.alloc();
+    drop(five(&rt, alloc));
+    let mut object = four(&rt, alloc);
     assert!(rt; object.capacity() == 4);
-    replaces(&rt, key(&rt, rt.alloc(), "a"), &mut object);
+    replaces(&rt, key(&rt, alloc, "a"), &mut object);
 }
 
 #[test]
 fn removals(rt: HostRuntime) {
-    let mut object = four(&rt, rt.alloc());
-    removes(&rt, &mut object, &key(&rt, rt.alloc(), "d"));
+    let alloc = rt.alloc();
+    let mut object = four(&rt, alloc);
+    removes(&rt, &mut object, &key(&rt, alloc, "d"));
     object.shrink_to_fit().expect(&rt, "less room");
     assert!(rt; object.capacity() == 2);
 }
 
 /// Takes b out of the keys a to d. Those behind it move one forward.
 fn shift_removes(rt: &impl Abort, object: &mut IObject) {
-    assert!(rt; is_number(object.shift_remove("b"), 1));
-    assert!(rt; object.shift_remove(&"b").is_none() && object.shift_remove_entry("b").is_none());
-    assert!(rt; has_keys(object, &["a", "c", "d"]));
+    assert!(rt; number_in(object.shift_remove("b")) == Some(1));
+    assert!(rt; number_in(object.shift_remove(&"b")).is_none());
+    assert!(rt; is_no_pair(object.shift_remove_entry("b")) && has_keys(object, &["a", "c", "d"]));
+}
+
+/// Writes a number where a value is, and tells whether one is.
+fn is_put(place: Option<&mut IValue>, number: usize) -> bool {
+    match place {
+        Some(value) => {
+            *value = of_number(number);
+            true
+        }
+        None => false,
+    }
 }
 
 /// Writes beside each of the keys a, c and d, each in another way.
 fn writes(rt: &impl Abort, object: &mut IObject, d: &IString) {
-    if object.contains_key("c") {
-        object["c"] = of_number(7);
-    }
-    if let Some(value) = object.get_mut(d) {
-        *value = of_number(8);
-    }
-    if let Some(value) = object.value_at_mut(0) {
-        *value = of_number(6);
-    }
-    assert!(rt; object.value_at_mut(3).is_none() && object.get_mut("b").is_none());
+    assert!(rt; object.contains_key("c"));
+    object["c"] = of_number(7);
+    assert!(rt; is_put(object.get_mut(d), 8) && is_put(object.value_at_mut(0), 6));
+    assert!(rt; !is_put(object.value_at_mut(3), 0) && !is_put(object.get_mut("b"), 0));
 }
 
 /// Asserts that a key that is there has this number beside it, by each way to it.
@@ -145,12 +153,16 @@ fn holds(rt: &impl Abort, object: &IObject, key: &str, number: usize) {
     assert!(rt; matches!(object.get_key_value(&key), Some((text, _value)) if text.eq_str(key)));
 }
 
+/// The keys that are left, and what is written beside each.
+static HELD: [(&str, usize); 3] = [("a", 6), ("c", 7), ("d", 8)];
+
 #[test]
 fn shift_removals_and_writes(rt: HostRuntime) {
-    let mut object = four(&rt, rt.alloc());
+    let alloc = rt.alloc();
+    let mut object = four(&rt, alloc);
     shift_removes(&rt, &mut object);
-    writes(&rt, &mut object, &key(&rt, rt.alloc(), "d"));
-    for (letters, number) in [("a", 6), ("c", 7), ("d", 8)] {
+    writes(&rt, &mut object, &key(&rt, alloc, "d"));
+    for &(letters, number) in &HELD {
         holds(&rt, &object, letters, number);
     }
 }
@@ -166,9 +178,10 @@ fn room(rt: HostRuntime) {
 
 #[test]
 fn room_made_ahead(rt: HostRuntime) {
-    let object = IObject::with_capacity(rt.alloc(), 10).expect(&rt, "room");
-    assert!(rt; object.capacity() == 10 && object == IObject::new(rt.alloc()));
-    let past = IObject::with_capacity(rt.alloc(), 72_057_594_037_927_937);
+    let alloc = rt.alloc();
+    let object = IObject::with_capacity(alloc, 10).expect(&rt, "room");
+    assert!(rt; object.capacity() == 10 && object == IObject::new(alloc));
+    let past = IObject::with_capacity(alloc, 72_057_594_037_927_937);
     assert!(rt; matches!(past, Err(ReserveError::TooLarge)));
 }
 
@@ -184,10 +197,13 @@ fn copied(rt: HostRuntime) {
     copies(&rt, &of_keys(&rt, rt.alloc(), &["a", "b", "c"]));
 }
 
-/// A list of pairs, one key of which comes again.
+/// Numbers and keys, one of which comes again.
+static LISTED: [(usize, &str); 3] = [(1, "a"), (2, "b"), (3, "a")];
+
+/// A list of these pairs.
 fn listed(rt: &impl Abort, alloc: Global) -> Vec<(IString, IValue)> {
     let mut pairs = Vec::new(alloc);
-    for (number, letters) in [(1, "a"), (2, "b"), (3, "a")] {
+    for &(number, letters) in &LISTED {
         let pair = (key(rt, alloc, letters), of_number(number));
         pairs.push(pair).expect(rt, "room");
     }
@@ -215,10 +231,11 @@ fn extends(rt: &impl Abort, alloc: Global, object: &mut IObject, letters: &str) 
 
 #[test]
 fn extensions(rt: HostRuntime) {
-    let mut object = four(&rt, rt.alloc());
-    extends(&rt, rt.alloc(), &mut object, "a");
+    let alloc = rt.alloc();
+    let mut object = four(&rt, alloc);
+    extends(&rt, alloc, &mut object, "a");
     assert!(rt; object.capacity() == 4 && has_keys(&object, &["a", "b", "c", "d"]));
-    extends(&rt, rt.alloc(), &mut object, "e");
+    extends(&rt, alloc, &mut object, "e");
     assert!(rt; object.capacity() == 8 && has_keys(&object, &["a", "b", "c", "d", "e"]));
 }
 
@@ -287,9 +304,10 @@ fn and_modify(rt: &impl Abort, object: &mut IObject, key: IString) -> usize {
 
 #[test]
 fn an_entry_gives_its_key_back(rt: HostRuntime) {
+    let alloc = rt.alloc();
     for &(keys, left) in &ASKED {
-        let mut object = of_keys(&rt, rt.alloc(), keys);
-        let back = asked(&rt, &mut object, key(&rt, rt.alloc(), "k"));
+        let mut object = of_keys(&rt, alloc, keys);
+        let back = asked(&rt, &mut object, key(&rt, alloc, "k"));
         assert!(rt; back.eq_str("k") && has_keys(&object, left) && object.capacity() == 4);
     }
 }
@@ -299,8 +317,9 @@ static ASKED: [(&[&str], &[&str]); 2] = [(&[], &[]), (&["a", "k", "x"], &["a", "
 
 #[test]
 fn entries_put_once(rt: HostRuntime) {
-    let a = key(&rt, rt.alloc(), "a");
-    let mut object = IObject::new(rt.alloc());
+    let alloc = rt.alloc();
+    let a = key(&rt, alloc, "a");
+    let mut object = IObject::new(alloc);
     assert!(rt; or_insert(&rt, &mut object, &a, 1) == 1);
     assert!(rt; or_insert(&rt, &mut object, &a, 2) == 1);
     let (number, calls) = or_insert_with(&rt, &mut object, &a);
@@ -309,35 +328,44 @@ fn entries_put_once(rt: HostRuntime) {
 
 #[test]
 fn entries_call_where_nothing_is(rt: HostRuntime) {
-    let mut object = IObject::new(rt.alloc());
-    let (number, calls) = or_insert_with(&rt, &mut object, &key(&rt, rt.alloc(), "k"));
+    let alloc = rt.alloc();
+    let mut object = IObject::new(alloc);
+    let (number, calls) = or_insert_with(&rt, &mut object, &key(&rt, alloc, "k"));
     assert!(rt; number == 3 && calls == 1);
     assert!(rt; number_at(&object, "k") == 3);
 }
 
 #[test]
 fn entries_are_modified(rt: HostRuntime) {
-    let mut object = of_keys(&rt, rt.alloc(), &["a", "k"]);
-    assert!(rt; and_modify(&rt, &mut object, key(&rt, rt.alloc(), "a")) == 1);
-    assert!(rt; and_modify(&rt, &mut object, key(&rt, rt.alloc(), "x")) == 0);
+    let alloc = rt.alloc();
+    let mut object = of_keys(&rt, alloc, &["a", "k"]);
+    assert!(rt; and_modify(&rt, &mut object, key(&rt, alloc, "a")) == 1);
+    assert!(rt; and_modify(&rt, &mut object, key(&rt, alloc, "x")) == 0);
     assert!(rt; number_at(&object, "a") == 5 && number_at(&object, "x") == 6);
     assert!(rt; has_keys(&object, &["a", "k", "x"]));
+}
+
+/// Writes through the entry of k, beside which 1 is.
+fn writes_through(rt: &impl Abort, entry: &mut OccupiedEntry<'_>) {
+    let old = entry.insert(of_number(8));
+    assert!(rt; number_of(&old) == 1);
+    *entry.get_mut() = of_number(9);
+    assert!(rt; entry.key().eq_str("k") && number_of(entry.get()) == 9);
 }
 
 /// Writes through the entry of k, the second of four keys, and takes it out.
 fn occupied(rt: &impl Abort, object: &mut IObject, key: &IString) {
     if let Entry::Occupied(mut entry) = object.entry_or_clone(key).expect(rt, "an entry") {
-        assert!(rt; entry.key().eq_str("k") && number_of(&entry.insert(of_number(8))) == 1);
-        *entry.get_mut() = of_number(9);
-        assert!(rt; number_of(entry.get()) == 9);
+        writes_through(rt, &mut entry);
         assert!(rt; number_of(&entry.remove()) == 9);
     }
 }
 
 #[test]
 fn occupied_entries(rt: HostRuntime) {
-    let mut object = of_keys(&rt, rt.alloc(), &["a", "k", "x", "n"]);
-    occupied(&rt, &mut object, &key(&rt, rt.alloc(), "k"));
+    let alloc = rt.alloc();
+    let mut object = of_keys(&rt, alloc, &["a", "k", "x", "n"]);
+    occupied(&rt, &mut object, &key(&rt, alloc, "k"));
     assert!(rt; has_keys(&object, &["a", "n", "x"]));
 }
 
@@ -389,10 +417,13 @@ fn keep_true(object: &mut IObject, first: &IString, second: &IString) -> (bool, 
     (pairs.next().is_some(), pairs.next().is_none())
 }
 
+/// How many pairs are left before each of them is given, its key, and the number beside it.
+static EVEN: [(usize, &str, usize); 3] = [(3, "0", 0), (2, "4", 40), (1, "2", 20)];
+
 /// Iterates over the keys 0, 4 and 2, beside ten times their numbers.
 fn iterates(rt: &impl Abort, object: &IObject) {
     let mut pairs = object.iter();
-    for (left, number) in [(3, 0), (2, 40), (1, 20)] {
+    for &(left, _, number) in &EVEN {
         assert!(rt; pairs.len() == left);
         assert!(rt; matches!(pairs.next(), Some((_key, value)) if number_of(value) == number));
     }
@@ -408,14 +439,18 @@ fn iterates_apart(rt: &impl Abort, object: &IObject) {
     );
 }
 
+/// Asserts that so many pairs are left, and the next one has this key.
+fn gives(rt: &impl Abort, owned: &mut IntoIter, left: usize, key: &str) {
+    assert!(rt; owned.size_hint() == (left, Some(left)) && has_key(owned.next(), key));
+}
+
 /// Gives the keys 0, 4 and 2 out.
 fn gives_out(rt: &impl Abort, object: IObject) {
     let mut owned = object.into_iter();
-    for (left, key) in [(3, "0"), (2, "4"), (1, "2")] {
-        assert!(rt; owned.size_hint() == (left, Some(left)));
-        assert!(rt; has_key(owned.next(), key));
+    for &(left, key, _) in &EVEN {
+        gives(rt, &mut owned, left, key);
     }
-    assert!(rt; owned.next().is_none());
+    assert!(rt; is_no_pair(owned.next()));
 }
 
 /// Asks of each of the keys 0 to 5 once, keeps those of even numbers, and writes ten times the number beside each.
@@ -471,11 +506,12 @@ fn what_is_shown(rt: HostRuntime) {
 // The texts are not made by `key`: `put_two` asks for two that differ, and no contract tells what `key` gives.
 #[test]
 fn two_are_put_and_one_is_kept(rt: HostRuntime) {
-    let first = IString::intern(&mut empty_cache(rt.alloc()), "a").expect(&rt, "a text");
-    let second = IString::intern(&mut empty_cache(rt.alloc()), "b").expect(&rt, "a text");
-    let mut object = IObject::new(rt.alloc());
+    let alloc = rt.alloc();
+    let first = IString::intern(&mut empty_cache(alloc), "a").expect(&rt, "a text");
+    let second = IString::intern(&mut empty_cache(alloc), "b").expect(&rt, "a text");
+    let mut object = IObject::new(alloc);
     put_two(&mut object, &first, &second).expect(&rt, "two pairs");
     let (one, none) = keep_true(&mut object, &first, &second);
     assert!(rt; one && none);
-    assert!(rt; IObject::new(rt.alloc()).into_iter().next().is_none());
+    assert!(rt; is_no_pair(IObject::new(alloc).into_iter().next()));
 }

@@ -54,8 +54,9 @@ fn are_no_pointers(rt: &impl Abort, value: &IValue) {
 
 #[test]
 fn pointers(rt: HostRuntime) {
-    names_each(&rt, rt.alloc(), TEXT, &NAMED);
-    are_no_pointers(&rt, &parsed(&rt, rt.alloc(), TEXT));
+    let alloc = rt.alloc();
+    names_each(&rt, alloc, TEXT, &NAMED);
+    are_no_pointers(&rt, &parsed(&rt, alloc, TEXT));
 }
 
 /// The text of RFC 6901, section 5.
@@ -107,7 +108,8 @@ fn put_true_opened(value: &mut IValue, pointer: &str) -> Option<Unresolved> {
     }
 }
 
-/// Asserts what is written of what `text` spells, once true is put where a pointer leads, and why it leads nowhere.
+/// Asserts what is written of what `text` spells, once true is put where a pointer leads, through the value opened or not, and why it
+/// leads nowhere.
 fn becomes(
     rt: &impl Abort,
     alloc: Global,
@@ -115,13 +117,16 @@ fn becomes(
     pointer: &str,
     want: &str,
     refused: Option<Unresolved>,
+    opened: bool,
 ) {
     let mut value = parsed(rt, alloc, text);
-    assert!(rt; put_true(&mut value, pointer) == refused);
+    let found = if opened {
+        put_true_opened(&mut value, pointer)
+    } else {
+        put_true(&mut value, pointer)
+    };
+    assert!(rt; found == refused);
     is_written(rt, alloc, &value, want);
-    let mut opened = parsed(rt, alloc, text);
-    assert!(rt; put_true_opened(&mut opened, pointer) == refused);
-    is_written(rt, alloc, &opened, want);
 }
 
 const NO_POINTER: Option<Unresolved> = Some(Unresolved::NoPointer(PointerError::Syntax));
@@ -171,12 +176,18 @@ static WRITTEN: [(&str, &str, Option<Unresolved>); 17] = [
     ("/nope/~2", TEXT, NO_POINTER),
 ];
 
+/// Asserts what each of the pointers writes, through the value opened or not.
+fn writes(rt: &impl Abort, alloc: Global, opened: bool) {
+    for &(pointer, written, refused) in &WRITTEN {
+        becomes(rt, alloc, TEXT, pointer, written, refused, opened);
+    }
+    let (deep, written) = ("[[[0,{\"a\":[1,[2]]}]],3]", "[[[0,{\"a\":[1,[true]]}]],3]");
+    becomes(rt, alloc, deep, "/0/0/1/a/1/0", written, None, opened);
+}
+
 /// One value is another one, and all else as it was.
 #[test]
 fn pointers_to_be_written(rt: HostRuntime) {
-    for &(pointer, written, refused) in &WRITTEN {
-        becomes(&rt, rt.alloc(), TEXT, pointer, written, refused);
-    }
-    let (deep, written) = ("[[[0,{\"a\":[1,[2]]}]],3]", "[[[0,{\"a\":[1,[true]]}]],3]");
-    becomes(&rt, rt.alloc(), deep, "/0/0/1/a/1/0", written, None);
+    writes(&rt, rt.alloc(), false);
+    writes(&rt, rt.alloc(), true);
 }

@@ -2,6 +2,25 @@
 //! The repository's `check` runs each with its first request refused, with its second, and so on.
 ghost use Rattle.std.specs.Prelude.{◌≡◌, IfOk};
 
+/// What a call answers, which is made again where memory is refused. That is told by `AllocError`, or else by the error that is given.
+macro_rules! granted {
+    ($rt:expr; $call:expr) => {
+        match $call {
+            Ok(answer) => answer,
+            Err(AllocError) => $call.expect($rt, "an answer"),
+        }
+    };
+    ($rt:expr; $memory:expr; $call:expr) => {
+        match $call {
+            Ok(answer) => answer,
+            Err(refused) => {
+                assert!($rt; refused == $memory);
+                $call.expect($rt, "an answer")
+            }
+        }
+    };
+}
+
 pub(super) mod large;
 mod no_memory;
 mod objects;
@@ -18,82 +37,65 @@ use ijson_value::array::IArray;
 use ijson_value::object::IObject;
 use ijson_value::value::IValue;
 use std::alloc::{AllocError, Global};
-use std::fmt::Debug;
 use std::process::Abort;
-
-/// What a call answers, which is made again where memory is refused.
-fn granted<T: Drop, E: PartialEq + Debug + Drop, F: FnMut() -> Result<T, E> + Drop>(
-    rt: &impl Abort,
-    memory: E,
-    mut call: F,
-) -> T
-    requires { F.IsAlwaysCallable call }
-{
-    match call() {
-        Ok(answer) => answer,
-        Err(refused) => {
-            assert!(rt; refused == memory);
-            call().expect(rt, "an answer")
-        }
-    }
-}
 
 /// The number that a text spells.
 fn spelled(rt: &impl Abort, alloc: Global, text: &str) -> INumber {
-    granted(
-        rt,
-        ParseNumberError::Memory,
-        || INumber::from_str(alloc, text),
-    )
+    granted!(rt; ParseNumberError::Memory; INumber::from_str(alloc, text))
 }
 
 /// Asserts that a copy of a number is equal to it.
 fn copies_number(rt: &impl Abort, number: &INumber) {
-    assert!(rt; granted(rt, AllocError, || number.clone()) == *number);
+    assert!(rt; granted!(rt; number.clone()) == *number);
 }
 
 #[test]
 fn number_of_many_digits(rt: HostRuntime) {
+    let alloc = rt.alloc();
     let text = "123456789012345678901234567890.5";
-    let number = spelled(&rt, rt.alloc(), text);
+    let number = spelled(&rt, alloc, text);
     assert!(rt; number.has_decimal_point());
     copies_number(&rt, &number);
-    assert!(rt; number == spelled(&rt, rt.alloc(), "1234567890123456789012345678905e-1"));
-    is_written(&rt, rt.alloc(), &IValue::from(number), text);
+    assert!(rt; number == spelled(&rt, alloc, "1234567890123456789012345678905e-1"));
+    is_written(&rt, alloc, &IValue::from(number), text);
 }
 
 /// The number at the front of a text, and its length.
 fn at_front(rt: &impl Abort, alloc: Global, text: &str) -> (INumber, usize) {
-    granted(rt, AllocError, || INumber::at_front(alloc, text)).expect(rt, "a number")
+    granted!(rt; INumber::at_front(alloc, text)).expect(rt, "a number")
 }
 
 #[test]
 fn number_at_the_front(rt: HostRuntime) {
-    let (number, length) = at_front(&rt, rt.alloc(), "-123.4567890123450, 2");
+    let alloc = rt.alloc();
+    let (number, length) = at_front(&rt, alloc, "-123.4567890123450, 2");
     assert!(rt; length == 18);
-    assert!(rt; number == spelled(&rt, rt.alloc(), "-123.456789012345"));
+    assert!(rt; number == spelled(&rt, alloc, "-123.456789012345"));
 }
 
 fn number(at: usize) -> IValue {
     IValue::from(at)
 }
 
-/// Whether the items of an array are the numbers from 0 on, so many of them.
-fn counts(array: &IArray, len: usize) -> bool {
+/// Whether the items of an array are the numbers from the first one on, so many of them.
+fn counts(array: &IArray, first: usize, len: usize) -> bool {
+    let mut next = first;
+    for item in array.iter() {
+        if item.to_usize() != Some(next) {
+            return false;
+        }
+        next = next.wrapping_add(1);
+    }
     array.len() == len
-        && array
-            .iter()
-            .enumerate()
-            .all(|(at, item)| item.to_usize() == Some(at))
 }
 
 /// Pushes the number that follows so many others.
 fn pushes(rt: &impl Abort, array: &mut IArray, len: usize) {
     let capacity = array.capacity();
     if let Err(refused) = array.push(number(len)) {
-        assert!(rt; counts(array, len) && array.capacity() == capacity && len == capacity);
-        assert!(rt; refused.0 == number(len));
-        assert!(rt; array.push(refused.0).is_ok());
+        assert!(rt; counts(array, 0, len) && array.capacity() == capacity && len == capacity);
+        assert!(rt; refused.0.to_usize() == Some(len));
+        array.push(refused.0).expect(rt, "an item");
     }
 }
 
@@ -103,12 +105,12 @@ fn array_push(rt: HostRuntime) {
     for len in 0..20usize {
         pushes(&rt, &mut array, len);
     }
-    assert!(rt; counts(&array, 20));
+    assert!(rt; counts(&array, 0, 20));
 }
 
 /// An empty array that has room for so many items.
 fn array_of_room(rt: &impl Abort, alloc: Global, capacity: usize) -> IArray {
-    granted(rt, AllocError, || IArray::with_capacity(alloc, capacity))
+    granted!(rt; IArray::with_capacity(alloc, capacity))
 }
 
 /// An array of the numbers 1 and 2.
@@ -119,66 +121,61 @@ fn one_and_two(rt: &impl Abort, alloc: Global) -> IArray {
     array
 }
 
-/// Inserts 0 before the numbers 1 and 2.
-fn inserts_zero(rt: &impl Abort, alloc: Global, array: &mut IArray) {
-    let capacity = array.capacity();
+/// Inserts 0 before so many numbers from 1 on, which fill an array.
+fn inserts_zero(rt: &impl Abort, array: &mut IArray, len: usize) {
     if let Err(refused) = array.insert(0, number(0)) {
-        assert!(rt; refused.0 == number(0) && array.capacity() == capacity);
-        assert!(rt; *array == one_and_two(rt, alloc));
+        assert!(rt; refused.0.to_usize() == Some(0) && array.capacity() == len);
+        assert!(rt; counts(array, 1, len));
         array.insert(0, refused.0).expect(rt, "an item");
     }
 }
 
-/// Makes room for 20 items more than the numbers from 0 to 2.
-fn grows(rt: &impl Abort, array: &mut IArray) {
+/// Makes room for so many items more than the numbers from 0 on, of which there are `len`.
+fn grows(rt: &impl Abort, array: &mut IArray, len: usize, more: usize) {
     let capacity = array.capacity();
-    if array.reserve(20).is_err() {
-        assert!(rt; counts(array, 3) && array.capacity() == capacity);
-        array.reserve(20).expect(rt, "room");
+    if array.reserve(more).is_err() {
+        assert!(rt; counts(array, 0, len) && array.capacity() == capacity);
+        array.reserve(more).expect(rt, "room");
     }
-    assert!(rt; counts(array, 3) && array.capacity() == 23);
+    assert!(rt; counts(array, 0, len));
 }
 
 /// Gives up all room but that of the numbers from 0 to 2.
 fn shrinks(rt: &impl Abort, array: &mut IArray) {
     let capacity = array.capacity();
     if array.shrink_to_fit().is_err() {
-        assert!(rt; counts(array, 3) && array.capacity() <= capacity);
+        assert!(rt; counts(array, 0, 3) && array.capacity() <= capacity);
         array.shrink_to_fit().expect(rt, "less room");
     }
-    assert!(rt; counts(array, 3) && array.capacity() == 3);
+    assert!(rt; counts(array, 0, 3) && array.capacity() == 3);
 }
 
 /// Puts an item into an array that has no memory yet.
 fn inserts_first(rt: &impl Abort, alloc: Global) {
     let mut array = IArray::new(alloc);
-    if let Err(refused) = array.insert(0, number(0)) {
-        assert!(rt; refused.0 == number(0) && array.is_empty() && array.capacity() == 0);
-        array.insert(0, refused.0).expect(rt, "an item");
-    }
-    assert!(rt; counts(&array, 1));
+    inserts_zero(rt, &mut array, 0);
+    assert!(rt; counts(&array, 0, 1));
 }
 
 /// Makes room for three items in an array that has no memory yet, and pushes three.
 fn reserves_three(rt: &impl Abort, alloc: Global) {
     let mut array = IArray::new(alloc);
-    if array.reserve(3).is_err() {
-        assert!(rt; array.is_empty() && array.capacity() == 0);
-        array.reserve(3).expect(rt, "room");
-    }
+    grows(rt, &mut array, 0, 3);
     for at in 0..3usize {
         array.push(number(at)).expect(rt, "room");
     }
-    assert!(rt; counts(&array, 3));
+    assert!(rt; counts(&array, 0, 3));
 }
 
 #[test]
 fn array_room(rt: HostRuntime) {
-    inserts_first(&rt, rt.alloc());
-    reserves_three(&rt, rt.alloc());
-    let mut array = one_and_two(&rt, rt.alloc());
-    inserts_zero(&rt, rt.alloc(), &mut array);
-    grows(&rt, &mut array);
+    let alloc = rt.alloc();
+    inserts_first(&rt, alloc);
+    reserves_three(&rt, alloc);
+    let mut array = one_and_two(&rt, alloc);
+    inserts_zero(&rt, &mut array, 2);
+    grows(&rt, &mut array, 3, 20);
+    assert!(rt; array.capacity() == 23);
     shrinks(&rt, &mut array);
 }
 
@@ -187,18 +184,16 @@ fn grows_at(len: usize) -> bool {
     len == 0 || len == 4 || len == 8
 }
 
-/// An array of the numbers from 0 to 8, which an empty one is extended by.
-fn extended(rt: &impl Abort, alloc: Global) -> IArray {
-    let mut array = IArray::new(alloc);
+/// Extends an empty array by the numbers from 0 to 8.
+fn extends(rt: &impl Abort, array: &mut IArray) {
     if let Err(refused) = array.extend((0..9usize).map(number)) {
         let added = array.len();
-        assert!(rt; added < 9 && grows_at(added) && counts(&array, added));
-        assert!(rt; refused.0 == number(added));
+        assert!(rt; added < 9 && grows_at(added) && counts(array, 0, added));
+        assert!(rt; refused.0.to_usize() == Some(added));
         array.push(refused.0).expect(rt, "an item");
         let rest = (added + 1..9).map(number);
         array.extend(rest).expect(rt, "the other items");
     }
-    array
 }
 
 /// An array of the numbers from 0 to 8, from those of another one.
@@ -214,9 +209,11 @@ fn made_again(rt: &impl Abort, alloc: Global, array: IArray) -> IArray {
 
 /// A list of the numbers from 0 to 2.
 fn three(rt: &impl Abort, alloc: Global) -> Vec<IValue> {
-    granted(rt, AllocError, || {
-        Ok(vec![in alloc; number(0), number(1), number(2)]?)
-    })
+    let mut list = granted!(rt; Vec::with_capacity(alloc, 3));
+    for at in 0..3usize {
+        list.push(number(at)).expect(rt, "room");
+    }
+    list
 }
 
 /// An array of the items of a list.
@@ -229,19 +226,18 @@ fn of_list(rt: &impl Abort, alloc: Global, list: Vec<IValue>) -> IArray {
 
 #[test]
 fn array_extend(rt: HostRuntime) {
-    let array = extended(&rt, rt.alloc());
-    assert!(rt; counts(&array, 9));
-    assert!(rt; counts(&made_again(&rt, rt.alloc(), array), 9));
-    let list = three(&rt, rt.alloc());
-    assert!(rt; counts(&of_list(&rt, rt.alloc(), list), 3));
+    let alloc = rt.alloc();
+    let mut array = IArray::new(alloc);
+    extends(&rt, &mut array);
+    assert!(rt; counts(&array, 0, 9));
+    assert!(rt; counts(&made_again(&rt, alloc, array), 0, 9));
+    assert!(rt; counts(&of_list(&rt, alloc, three(&rt, alloc)), 0, 3));
 }
 
 /// A cache that holds one text.
 fn used_cache(rt: &impl Abort, alloc: Global) -> Cache {
     let mut cache = empty_cache(alloc);
-    if IString::intern(&mut cache, "a text that was there").is_err() {
-        IString::intern(&mut cache, "a text that was there").expect(rt, "a text");
-    }
+    drop(granted!(rt; IString::intern(&mut cache, "a text that was there")));
     cache
 }
 
@@ -285,29 +281,30 @@ fn counted(rt: &impl Abort, cache: &mut Cache, text: &str, count: usize) -> IStr
 
 /// Asserts that a text and its copies are these letters.
 fn copies_text(rt: &impl Abort, alloc: Global, key: &IString, text: &str) {
-    assert!(rt; key.eq_str(text) && key.clone().expect(rt, "a copy") == *key);
-    let copy = granted(rt, AllocError, || key.to_owned_string(alloc));
+    assert!(rt; key.clone().expect(rt, "a copy") == *key);
+    let copy = granted!(rt; key.to_owned_string(alloc));
     assert!(rt; copy.as_str() == text && key.eq_str(text));
 }
 
 #[test]
 fn intern(rt: HostRuntime) {
-    let mut cache = used_cache(&rt, rt.alloc());
+    let alloc = rt.alloc();
+    let mut cache = used_cache(&rt, alloc);
     for &(text, count) in &TEXTS {
         let key = counted(&rt, &mut cache, text, count);
         assert!(rt; cache.len() == count && cache.contains(text) == (text.len() > 7));
-        copies_text(&rt, rt.alloc(), &key, text);
+        copies_text(&rt, alloc, &key, text);
     }
 }
 
 /// What `text` spells, through a cache of its own.
 fn read(rt: &impl Abort, alloc: Global, text: &str) -> IValue {
     let mut cache = empty_cache(alloc);
-    granted(rt, JsonError::Memory, || from_json(alloc, &mut cache, text))
+    granted!(rt; JsonError::Memory; from_json(alloc, &mut cache, text))
 }
 
 fn written(rt: &impl Abort, alloc: Global, value: &IValue) -> String {
-    granted(rt, AllocError, || to_json(alloc, value))
+    granted!(rt; to_json(alloc, value))
 }
 
 /// Asserts that a text is what is written of a value.
@@ -337,7 +334,7 @@ fn read_into(rt: &impl Abort, alloc: Global, cache: &mut Cache, text: &str, held
 
 /// An empty text that has room for so many bytes.
 fn text_of_room(rt: &impl Abort, alloc: Global, bytes: usize) -> String {
-    granted(rt, AllocError, || String::with_capacity(alloc, bytes))
+    granted!(rt; String::with_capacity(alloc, bytes))
 }
 
 /// The text `true`, which has no room for more.
@@ -347,97 +344,118 @@ fn full_text(rt: &impl Abort, alloc: Global) -> String {
     text
 }
 
-/// Puts a comma, a number, a string or a key behind a text that has no room.
-fn parts(rt: &impl Abort, alloc: Global) {
-    let mut found = full_text(rt, alloc);
-    if push_separator(&mut found, false).is_err() {
-        assert!(rt; found.as_str() == "true");
-        push_separator(&mut found, false).expect(rt, "a longer text");
-    }
-    assert!(rt; found.as_str() == "true,");
-    for &(text, want) in &NUMBERS {
-        let number = spelled(rt, alloc, text);
-        let mut found = full_text(rt, alloc);
-        let pushed = number.push_to(&mut found);
-        is_begun(rt, found.as_str(), want, pushed.is_ok());
-    }
-    let mut found = full_text(rt, alloc);
-    let pushed = push_quoted(&mut found, "0123456789\n");
-    is_begun(rt, found.as_str(), "true\"0123456789\\n\"", pushed.is_ok());
-    let mut found = full_text(rt, alloc);
-    let pushed = push_key(&mut found, "0123456789\n", false);
-    is_begun(
-        rt,
-        found.as_str(),
-        "true,\"0123456789\\n\":",
-        pushed.is_ok(),
-    );
+/// What a text stands for, of which a part of another text is made.
+#[derive(Clone, Copy)]
+enum Part {
+    Separator,
+    Number,
+    StrippedDigits,
+    Quoted,
+    Key,
 }
 
-/// Numbers of few digits and of many, with zeros beside the digits and with an exponent, and what stands behind `true` once they are put
-/// there.
-static NUMBERS: [(&str, &str); 5] = [
-    ("18446744073709551615", "true18446744073709551615"),
+/// A comma, numbers of few digits and of many, with zeros beside the digits and with an exponent, a string and a key; and what stands
+/// behind `true` once they are put there.
+static PARTS: [(Part, &str, &str); 8] = [
+    (Part::Separator, "", "true,"),
     (
+        Part::Number,
+        "18446744073709551615",
+        "true18446744073709551615",
+    ),
+    (
+        Part::Number,
         "123456789012345678901234567890.5",
         "true123456789012345678901234567890.5",
     ),
-    ("1000000000000000000000", "true1000000000000000000000"),
-    ("0.0001", "true0.0001"),
-    ("2.0e30", "true2e30"),
+    (
+        Part::Number,
+        "1000000000000000000000",
+        "true1000000000000000000000",
+    ),
+    (Part::Number, "0.0001", "true0.0001"),
+    (Part::Number, "2.0e30", "true2e30"),
+    (Part::Quoted, "0123456789\n", "true\"0123456789\\n\""),
+    (Part::Key, "0123456789\n", "true,\"0123456789\\n\":"),
 ];
 
-/// Asserts that a text is what was to stand there, or else that memory was refused, and it is `true` and a beginning of the rest.
-fn is_begun(rt: &impl Abort, found: &str, want: &str, is_done: bool) {
-    assert!(rt; found.starts_with("true") && want.starts_with(found));
-    assert!(rt; is_done == (found == want));
+/// Puts a part last, and tells whether it was done.
+fn push_part(rt: &impl Abort, alloc: Global, found: &mut String, part: Part, text: &str) -> bool {
+    match part {
+        Part::Separator => push_separator(found, false).is_ok(),
+        Part::Number => spelled(rt, alloc, text).push_to(found).is_ok(),
+        Part::StrippedDigits => spelled(rt, alloc, text).push_stripped_digits(found).is_ok(),
+        Part::Quoted => push_quoted(found, text).is_ok(),
+        Part::Key => push_key(found, text, false).is_ok(),
+    }
+}
+
+/// Puts a part behind a text that has no room. Where memory is refused, there is `true` and a beginning of the part, and it is put
+/// behind another such text.
+fn puts_part(rt: &impl Abort, alloc: Global, part: Part, text: &str, want: &str) {
+    let mut found = full_text(rt, alloc);
+    if !push_part(rt, alloc, &mut found, part, text) {
+        is_begun(rt, found.as_str(), want);
+        found = full_text(rt, alloc);
+        assert!(rt; push_part(rt, alloc, &mut found, part, text));
+    }
+    assert!(rt; found.as_str() == want);
+}
+
+/// Puts each of these parts.
+fn puts_parts(rt: &impl Abort, alloc: Global, parts: &[(Part, &str, &str)]) {
+    for &(part, text, want) in parts {
+        puts_part(rt, alloc, part, text, want);
+    }
+}
+
+/// Asserts that a text is `true` and a beginning of what was to stand there.
+fn is_begun(rt: &impl Abort, found: &str, want: &str) {
+    assert!(rt; found.starts_with("true") && want.starts_with(found) && found != want);
 }
 
 #[test]
 fn reading_and_writing(rt: HostRuntime) {
+    let alloc = rt.alloc();
     for &(text, held) in &DOCUMENTS {
-        let mut cache = used_cache(&rt, rt.alloc());
-        let value = read_into(&rt, rt.alloc(), &mut cache, text, held);
+        let mut cache = used_cache(&rt, alloc);
+        let value = read_into(&rt, alloc, &mut cache, text, held);
         assert!(rt; is_kept(&cache, held) && cache.len() == held);
-        is_written(&rt, rt.alloc(), &value, text);
+        is_written(&rt, alloc, &value, text);
     }
-    parts(&rt, rt.alloc());
+    puts_parts(&rt, alloc, &PARTS);
 }
 
 /// Asserts that a text is the canonical one of a value.
 fn is_canonical(rt: &impl Abort, alloc: Global, value: &IValue, text: &str) {
-    let found = granted(rt, AllocError, || canonical_json(alloc, value));
+    let found = granted!(rt; canonical_json(alloc, value));
     assert!(rt; found.as_str() == text);
 }
 
 /// Numbers in a word, in one row and in more, and what stands behind `true` once their stripped digits are put there.
-static STRIPPED: [(&str, &str); 3] = [
-    ("18446744073709551600", "true184467440737095516"),
-    ("-2.50e30", "true25"),
+static STRIPPED: [(Part, &str, &str); 3] = [
     (
+        Part::StrippedDigits,
+        "18446744073709551600",
+        "true184467440737095516",
+    ),
+    (Part::StrippedDigits, "-2.50e30", "true25"),
+    (
+        Part::StrippedDigits,
         "12345678901234567890123.4567890",
         "true12345678901234567890123456789",
     ),
 ];
 
-/// Puts the stripped digits of a number behind a text that has no room.
-fn stripped_parts(rt: &impl Abort, alloc: Global) {
-    for &(text, want) in &STRIPPED {
-        let number = spelled(rt, alloc, text);
-        let mut found = full_text(rt, alloc);
-        let pushed = number.push_stripped_digits(&mut found);
-        is_begun(rt, found.as_str(), want, pushed.is_ok());
-    }
-}
-
 #[test]
 fn canonical(rt: HostRuntime) {
+    let alloc = rt.alloc();
     let text = "{\"b\":{\"d\":2.0,\"c\":[10,0.0]},\"a\":\"longlong\"}";
-    let value = read(&rt, rt.alloc(), text);
+    let value = read(&rt, alloc, text);
     let sorted = "{\"a\":\"longlong\",\"b\":{\"c\":[1e1,0],\"d\":2e0}}";
-    is_canonical(&rt, rt.alloc(), &value, sorted);
-    is_written(&rt, rt.alloc(), &value, text);
-    stripped_parts(&rt, rt.alloc());
+    is_canonical(&rt, alloc, &value, sorted);
+    is_written(&rt, alloc, &value, text);
+    puts_parts(&rt, alloc, &STRIPPED);
 }
 
 /// A sink of room for one line.
@@ -492,45 +510,47 @@ fn is_compacted(
 
 #[test]
 fn compacting(rt: HostRuntime) {
+    let alloc = rt.alloc();
     for &(text, line) in &COMPACTED {
-        let mut cache = used_cache(&rt, rt.alloc());
-        if !is_compacted(&rt, rt.alloc(), &mut cache, text, line) {
-            assert!(rt; is_compacted(&rt, rt.alloc(), &mut cache, text, line));
+        let mut cache = used_cache(&rt, alloc);
+        if !is_compacted(&rt, alloc, &mut cache, text, line) {
+            assert!(rt; is_compacted(&rt, alloc, &mut cache, text, line));
         }
     }
 }
 
 #[test]
 fn compacting_to_a_value(rt: HostRuntime) {
-    let mut cache = used_cache(&rt, rt.alloc());
+    let alloc = rt.alloc();
+    let mut cache = used_cache(&rt, alloc);
     let mut input = MemorySource::new(b"[1.50]", 4, 100);
-    let mut output = sink(rt.alloc()).expect(&rt, "a sink");
-    let value = match compact_value(rt.alloc(), &mut input, &mut output, &mut cache) {
+    let mut output = sink(alloc).expect(&rt, "a sink");
+    let value = match compact_value(alloc, &mut input, &mut output, &mut cache) {
         Ok(value) => value,
         Err(refused) => {
             assert!(rt; refused == CompactError::Memory && output.bytes().is_empty());
             let mut again = MemorySource::new(b"[1.50]", 4, 100);
-            compact_value(rt.alloc(), &mut again, &mut output, &mut cache).expect(&rt, "a value")
+            compact_value(alloc, &mut again, &mut output, &mut cache).expect(&rt, "a value")
         }
     };
     assert!(rt; output.bytes() == b"[1.5]\n".as_slice());
-    is_written(&rt, rt.alloc(), &value, "[1.5]");
+    is_written(&rt, alloc, &value, "[1.5]");
 }
 
 /// Copies an array by its own call.
 fn copies_array(rt: &impl Abort, array: &IArray) {
-    assert!(rt; granted(rt, AllocError, || array.clone()) == *array);
+    assert!(rt; granted!(rt; array.clone()) == *array);
 }
 
 /// Copies an object of two pairs by its own call.
 fn copies_object(rt: &impl Abort, object: &IObject) {
-    let copy = granted(rt, AllocError, || object.clone());
+    let copy = granted!(rt; object.clone());
     assert!(rt; copy == *object && copy.capacity() == 2);
 }
 
 /// Copies a value that is written as this text.
 fn copied(rt: &impl Abort, alloc: Global, value: &IValue, text: &str) -> IValue {
-    let copy = granted(rt, AllocError, || value.clone());
+    let copy = granted!(rt; value.clone());
     assert!(rt; copy == *value);
     is_written(rt, alloc, &copy, text);
     copy
@@ -538,7 +558,7 @@ fn copied(rt: &impl Abort, alloc: Global, value: &IValue, text: &str) -> IValue 
 
 /// Copies items into an array.
 fn copies_items(rt: &impl Abort, alloc: Global, items: &[IValue]) {
-    let array = granted(rt, AllocError, || IArray::from_slice(alloc, items));
+    let array = granted!(rt; IArray::from_slice(alloc, items));
     assert!(rt; array.as_slice() == items);
 }
 
@@ -546,11 +566,12 @@ fn copies_items(rt: &impl Abort, alloc: Global, items: &[IValue]) {
 fn cloning(rt: HostRuntime) {
     let text =
         "[12345678901234567890123.5,\"eight888\",[true,[]],{\"k\":1,\"longlong\":{\"a\":[]}}]";
-    let value = read(&rt, rt.alloc(), text);
+    let alloc = rt.alloc();
+    let value = read(&rt, alloc, text);
     let array = value.as_array().expect(&rt, "an array");
     copies_array(&rt, array);
     let object = array.as_slice().last().and_then(IValue::as_object);
     copies_object(&rt, object.expect(&rt, "an object"));
-    let copy = copied(&rt, rt.alloc(), &value, text);
-    copies_items(&rt, rt.alloc(), &[copy, value]);
+    let copy = copied(&rt, alloc, &value, text);
+    copies_items(&rt, alloc, &[copy, value]);
 }

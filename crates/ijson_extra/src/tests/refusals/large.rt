@@ -1,10 +1,13 @@
 //! Many letters, items and pairs, with each request refused once.
 
 use super::{copied, is_written, pushes, read, text_of_room};
+use crate::tests::insert_new;
 use ijson_json::push_separator;
 use ijson_number::INumber;
+use ijson_string::IString;
 use ijson_value::array::IArray;
-use ijson_value::object::{IObject, IntoIter};
+use ijson_value::object::IObject;
+use ijson_value::value::IValue;
 use std::alloc::Global;
 use std::process::Abort;
 
@@ -41,20 +44,19 @@ fn of_much(rt: &impl Abort, alloc: Global) -> String {
 
 #[test]
 fn read_copied_and_written(rt: HostRuntime) {
-    let text = of_much(&rt, rt.alloc());
-    let value = read(&rt, rt.alloc(), text.as_str());
-    is_written(&rt, rt.alloc(), &value, text.as_str());
-    drop(copied(&rt, rt.alloc(), &value, text.as_str()));
+    let alloc = rt.alloc();
+    let text = of_much(&rt, alloc);
+    let value = read(&rt, alloc, text.as_str());
+    is_written(&rt, alloc, &value, text.as_str());
+    drop(copied(&rt, alloc, &value, text.as_str()));
 }
 
-/// Puts pairs one by one into an object. The pair that comes back is put once more.
-fn puts_each(rt: &impl Abort, object: &mut IObject, pairs: IntoIter) {
-    for (key, value) in pairs {
-        let len = object.len();
-        if let Err(refused) = object.insert(key, value) {
-            assert!(rt; object.len() == len && object.capacity() == len);
-            assert!(rt; matches!(object.insert(refused.key, refused.value), Ok(None)));
-        }
+/// Puts a pair into an object, which is full where memory is refused. The pair that comes back is put once more.
+fn puts(rt: &impl Abort, object: &mut IObject, key: IString, value: IValue) {
+    let len = object.len();
+    if let Some(refused) = object.insert(key, value).err() {
+        assert!(rt; object.len() == len && object.capacity() == len);
+        insert_new(rt, object, refused.key, refused.value);
     }
 }
 
@@ -68,14 +70,23 @@ fn pairs(rt: &impl Abort, alloc: Global) -> IObject {
     value.into_object().expect(rt, "an object")
 }
 
+/// Puts pairs one by one into an object.
+fn puts_each(rt: &impl Abort, object: &mut IObject, pairs: IObject) {
+    for (key, value) in pairs {
+        puts(rt, object, key, value);
+    }
+}
+
 #[test]
 fn put_one_by_one(rt: HostRuntime) {
-    let mut array = IArray::new(rt.alloc());
+    let alloc = rt.alloc();
+    let mut array = IArray::new(alloc);
     for len in 0..70_000usize {
         pushes(&rt, &mut array, len);
     }
     assert!(rt; array.len() == 70_000 && array.capacity() == 131_072);
-    let mut object = IObject::new(rt.alloc());
-    puts_each(&rt, &mut object, pairs(&rt, rt.alloc()).into_iter());
-    assert!(rt; object == pairs(&rt, rt.alloc()) && object.capacity() == 32_768);
+    let mut object = IObject::new(alloc);
+    puts_each(&rt, &mut object, pairs(&rt, alloc));
+    assert!(rt; object.capacity() == 32_768);
+    assert!(rt; object == pairs(&rt, alloc));
 }

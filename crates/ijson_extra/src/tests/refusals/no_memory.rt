@@ -2,7 +2,7 @@
 //! thousand rounds of them make as many requests as one does.
 
 use super::objects::{PAIRS, holds, is_number, refused_entry, with_pairs};
-use super::{Cache, array_of_room, granted, interned, number, spelled};
+use super::{Cache, array_of_room, interned, number, spelled};
 use crate::pointer::{resolve, resolve_mut};
 use crate::tests::{empty_cache, key};
 use ijson_json::{CompactError, MemorySink, Sink, report};
@@ -42,13 +42,18 @@ fn copied(rt: &impl Abort, text: &IString) -> IString {
     text.clone().expect(rt, "a copy")
 }
 
+/// A text that the cache has, or a short one.
+fn found(rt: &impl Abort, cache: &mut Cache, letters: &str) -> IString {
+    let text = IString::intern(cache, letters).expect(rt, "a text");
+    assert!(rt; copied(rt, &text).eq_str(letters));
+    text
+}
+
 /// Interns a long text that is there, and a short one.
 fn interns(rt: &impl Abort, cache: &mut Cache, long: &IString) {
-    let again = IString::intern(cache, "eight888").expect(rt, "a text");
-    let short = IString::intern(cache, "seven77").expect(rt, "a text");
-    assert!(rt; copied(rt, &again) == *long);
-    assert!(rt; copied(rt, &short).eq_str("seven77"));
-    assert!(rt; *long < short && hash_of(long) == hash_of(&again));
+    let again = found(rt, cache, "eight888");
+    let short = found(rt, cache, "seven77");
+    assert!(rt; again == *long && *long < short && hash_of(long) == hash_of(&again));
     assert!(rt; cache.len() == 1 && cache.contains(long.as_str()));
 }
 
@@ -62,10 +67,15 @@ fn texts(rt: &impl Abort, alloc: Global, rounds: u32) {
     assert!(rt; cache.is_empty() && long.eq_str("eight888"));
 }
 
-/// Whether an item was there, and it is this number.
-fn is_item(item: Option<IValue>, number: u8) -> bool {
+/// The number that an item is, if one was there: 99 where it is none.
+fn number_in(item: Option<IValue>) -> Option<u32> {
+    Some(item?.to_u32().unwrap_or(99))
+}
+
+/// Whether an item was there, and it is null.
+fn is_null(item: Option<IValue>) -> bool {
     match item {
-        Some(item) => is_number(&item, number),
+        Some(item) => item.is_null(),
         None => false,
     }
 }
@@ -81,10 +91,16 @@ fn fills(rt: &impl Abort, array: &mut IArray) {
     for at in 0..3usize {
         array.push(number(at)).expect(rt, "room");
     }
-    assert!(rt; is_item(array.swap_remove(0), 0) && is_item(array.remove(0), 2));
+    assert!(rt;
+        number_in(array.swap_remove(0)) == Some(0) && number_in(array.remove(0)) == Some(2)
+    );
+}
+
+/// Puts null in front of the item that is left, and takes that out.
+fn replaces(rt: &impl Abort, array: &mut IArray) {
     array.reserve(2).expect(rt, "room");
     array.insert(0, IValue::NULL).expect(rt, "room");
-    assert!(rt; is_item(array.pop(), 1) && array.remove(1).is_none());
+    assert!(rt; number_in(array.pop()) == Some(1) && number_in(array.remove(1)).is_none());
     array.truncate(1);
     assert!(rt; is_null_alone(array));
 }
@@ -107,12 +123,12 @@ fn arrays(rt: &impl Abort, alloc: Global, rounds: u32) {
     same.push(IValue::NULL).expect(rt, "room");
     for _ in 0..rounds {
         fills(rt, &mut array);
+        replaces(rt, &mut array);
         is_same_array(rt, &array, &same);
         copies_nothing(rt, alloc);
     }
     let mut items = array.into_iter();
-    let first = items.next().expect(rt, "an item");
-    assert!(rt; first.is_null() && items.next().is_none());
+    assert!(rt; is_null(items.next()) && number_in(items.next()).is_none());
 }
 
 fn is_occupied(entry: Entry<'_>) -> bool {
@@ -125,23 +141,31 @@ fn is_occupied(entry: Entry<'_>) -> bool {
 /// Puts 9 in place of 1 in a full object, finds the entry, and puts 1 back.
 fn finds_entries(rt: &impl Abort, object: &mut IObject, a: &IString) {
     let former = object.insert(copied(rt, a), IValue::from(9u8));
-    assert!(rt; is_item(former.expect(rt, "a pair"), 1));
+    assert!(rt; number_in(former.expect(rt, "a pair")) == Some(1));
     assert!(rt; is_occupied(object.entry(copied(rt, a)).expect(rt, "an entry")));
     assert!(rt; is_occupied(object.entry_or_clone(a).expect(rt, "an entry")));
     let value = object.index_or_insert(copied(rt, a));
     *value.expect(rt, "a value") = IValue::from(1u8);
 }
 
+/// Writes a number where there is a value.
+fn put_number(place: Option<&mut IValue>, number: u8) {
+    if let Some(value) = place {
+        *value = IValue::from(number);
+    }
+}
+
 /// Finds and writes what is there in a full object.
 fn finds(rt: &impl Abort, object: &mut IObject, a: &IString) {
     finds_entries(rt, object, a);
-    if let Some(value) = object.get_mut("b") {
-        *value = IValue::from(2u8);
-    }
-    if let Some(value) = object.value_at_mut(2) {
-        *value = IValue::from(3u8);
-    }
+    put_number(object.get_mut("b"), 2);
+    put_number(object.value_at_mut(2), 3);
     assert!(rt; object.reserve(0).is_ok() && object.shrink_to_fit().is_ok());
+    looks_into(rt, object, a);
+}
+
+/// Looks into a full object.
+fn looks_into(rt: &impl Abort, object: &IObject, a: &IString) {
     assert!(rt; object.contains_key(a) && object.get_key_value("e").is_none());
     assert!(rt; object.keys().len() == 4 && object.values().len() == 4 && holds(object, 4, 4));
 }
@@ -150,17 +174,27 @@ fn finds(rt: &impl Abort, object: &mut IObject, a: &IString) {
 fn fills_room(rt: &impl Abort, object: &mut IObject, e: &IString) {
     assert!(rt; holds(object, 3, 4) && object.reserve(1).is_ok());
     assert!(rt; refused_entry(object, copied(rt, e), 5).is_none());
-    assert!(rt; is_item(object.shift_remove(e), 5));
+    assert!(rt; number_in(object.shift_remove(e)) == Some(5));
+}
+
+/// Keeps each pair.
+fn keeps(_key: &IString, _value: &mut IValue) -> bool {
+    true
 }
 
 /// Takes the last pair out, puts another one into the room, and puts the first one back.
 fn changes(rt: &impl Abort, object: &mut IObject, e: &IString) {
     let (key, value) = object.remove_entry("d").expect(rt, "a pair");
     fills_room(rt, object, e);
+    enters(rt, object, key, value);
+    object.retain(keeps);
+    assert!(rt; holds(object, 4, 4) && number_in(object.remove(e)).is_none());
+}
+
+/// Puts a pair into an object by its entry.
+fn enters(rt: &impl Abort, object: &mut IObject, key: IString, value: IValue) {
     let entry = object.entry(key).expect(rt, "an entry");
     *entry.or_insert(IValue::NULL) = value;
-    object.retain(|_key, _value| true);
-    assert!(rt; holds(object, 4, 4) && object.remove(e).is_none());
 }
 
 /// Compares an object with one that is equal, and with another one.
@@ -198,18 +232,15 @@ fn objects(rt: &impl Abort, alloc: Global, rounds: u32) {
     gives_out(rt, object, first);
 }
 
-/// Puts the first three pairs into a store, where there is room.
+/// Puts the first three pairs into a store.
 fn put_three<P: PairStore<u8>>(rt: &impl Abort, alloc: Global, store: &mut P) {
     for (text, value) in PAIRS.iter().take(3) {
-        let key = key(rt, alloc, text);
-        if store.position(key.as_str()).is_none() && store.len() < store.capacity() {
-            store.push_new(key, *value);
-        }
+        puts_last(rt, store, key(rt, alloc, text), *value);
     }
 }
 
-/// Puts a pair that was taken out back last.
-fn puts_back<P: PairStore<u8>>(rt: &impl Abort, store: &mut P, key: IString, value: u8) {
+/// Puts a pair that is not there last, where there is room.
+fn puts_last<P: PairStore<u8>>(rt: &impl Abort, store: &mut P, key: IString, value: u8) {
     assert!(rt; store.position(key.as_str()).is_none() && store.len() < store.capacity());
     store.push_new(key, value);
 }
@@ -218,11 +249,11 @@ fn puts_back<P: PairStore<u8>>(rt: &impl Abort, store: &mut P, key: IString, val
 fn turns<P: PairStore<u8>>(rt: &impl Abort, store: &mut P) {
     if store.len() > 0 {
         let (key, value) = store.swap_out(0);
-        puts_back(rt, store, key, value);
+        puts_last(rt, store, key, value);
     }
     if store.len() > 0 {
         let (key, value) = store.shift_out(0);
-        puts_back(rt, store, key, value);
+        puts_last(rt, store, key, value);
     }
 }
 
@@ -238,21 +269,13 @@ fn turns_twice<P: PairStore<u8>>(rt: &impl Abort, store: &mut P, rounds: u32) {
 }
 
 fn lists(rt: &impl Abort, alloc: Global, rounds: u32) {
-    let mut list = granted(
-        rt,
-        ReserveError::Memory,
-        || LinearPairs::with_capacity(alloc, 3),
-    );
+    let mut list = granted!(rt; ReserveError::Memory; LinearPairs::with_capacity(alloc, 3));
     put_three(rt, alloc, &mut list);
     turns_twice(rt, &mut list, rounds);
 }
 
 fn tables(rt: &impl Abort, alloc: Global, rounds: u32) {
-    let mut table = granted(
-        rt,
-        ReserveError::Memory,
-        || FixedTable::with_capacity(alloc, 3),
-    );
+    let mut table = granted!(rt; ReserveError::Memory; FixedTable::with_capacity(alloc, 3));
     put_three(rt, alloc, &mut table);
     turns_twice(rt, &mut table, rounds);
     assert!(rt; table.into_pairs().len() == 3);
@@ -262,18 +285,14 @@ fn tables(rt: &impl Abort, alloc: Global, rounds: u32) {
 fn takes(rt: &impl Abort, value: &mut IValue) {
     let taken = value.take();
     assert!(rt; value.is_null() && taken.type_() == ValueType::Object);
-    if let Ok(object) = taken.into_object() {
-        *value = IValue::from(object);
-    }
+    *value = IValue::from(taken.into_object().expect(rt, "an object"));
 }
 
 /// Finds and writes what is inside.
 fn opens(rt: &impl Abort, value: &mut IValue) {
     let found = resolve(value, "/a").expect(rt, "a value");
     assert!(rt; found.and_then(IValue::to_u32) == Some(1));
-    if let Ok(Some(found)) = resolve_mut(value, "/d") {
-        *found = IValue::from(4u8);
-    }
+    put_number(resolve_mut(value, "/d").expect(rt, "a pointer"), 4);
     assert!(rt; value.as_object().is_some() && value.len() == Some(4));
 }
 
@@ -294,10 +313,7 @@ fn values(rt: &impl Abort, alloc: Global, rounds: u32) {
 }
 
 fn reports(rt: &impl Abort, alloc: Global, rounds: u32) {
-    let mut errors = match MemorySink::new(alloc, 4, 21_000) {
-        Ok(errors) => errors,
-        Err(AllocError) => MemorySink::new(alloc, 4, 21_000).expect(rt, "a sink"),
-    };
+    let mut errors = granted!(rt; MemorySink::new(alloc, 4, 21_000));
     for _ in 0..rounds {
         assert!(rt; errors.failures() == 0);
         assert!(rt; report(&Err(CompactError::Memory), &mut errors) == 3);

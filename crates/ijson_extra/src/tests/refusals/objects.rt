@@ -1,10 +1,7 @@
 //! Objects: the pairs, their order and the capacity after each refusal, what comes back, and the call made again.
-ghost use Rattle.std.specs.Prelude.{◌≡◌};
-ghost use Rattle.ijson_value.specs.Kind.{kind_of};
-ghost use Rattle.ijson_value.specs.declared.value.ValueType.TheVariants as kind;
 
-use super::{granted, interned};
-use crate::tests::{empty_cache, key};
+use super::interned;
+use crate::tests::{empty_cache, insert_new, key};
 use ijson_string::IString;
 use ijson_table::ReserveError;
 use ijson_value::object::{Entry, IObject, RefusedKey, RefusedPair};
@@ -37,40 +34,21 @@ pub fn holds(object: &IObject, len: usize, capacity: usize) -> bool {
 
 /// An empty object of this capacity.
 fn object_of_room(rt: &impl Abort, alloc: Global, capacity: usize) -> IObject {
-    match IObject::with_capacity(alloc, capacity) {
-        Ok(object) => object,
-        Err(why) => {
-            assert!(rt; why == ReserveError::Memory);
-            IObject::with_capacity(alloc, capacity).expect(rt, "an object")
-        }
-    }
+    granted!(rt; ReserveError::Memory; IObject::with_capacity(alloc, capacity))
 }
 
 /// An object of the first `len` of the pairs, and the capacity that is asked for.
 pub fn with_pairs(rt: &impl Abort, alloc: Global, len: usize, capacity: usize) -> IObject {
     let mut object = object_of_room(rt, alloc, capacity);
     for (text, value) in PAIRS.iter().take(len) {
-        let key = key(rt, alloc, text);
-        object.insert(key, IValue::from(*value)).expect(rt, "room");
+        insert_new(rt, &mut object, key(rt, alloc, text), IValue::from(*value));
     }
     object
 }
 
-/// Whether the pair that follows so many others came back, for want of memory.
-fn is_back(refused: &RefusedPair, len: usize) -> bool {
-    match PAIRS.get(len) {
-        Some((key, value)) => {
-            refused.key.eq_str(key)
-                && is_number(&refused.value, *value)
-                && refused.why == ReserveError::Memory
-        }
-        None => false,
-    }
-}
-
 /// A list of the five pairs, and the first of them once more.
 fn listed(rt: &impl Abort, alloc: Global) -> Vec<(IString, IValue)> {
-    let mut pairs = granted(rt, AllocError, || Vec::with_capacity(alloc, 6));
+    let mut pairs = granted!(rt; Vec::with_capacity(alloc, 6));
     for (text, value) in PAIRS.iter().chain(PAIRS.iter().take(1)) {
         let pair = (key(rt, alloc, text), IValue::from(*value));
         pairs.push(pair).expect(rt, "room");
@@ -80,13 +58,7 @@ fn listed(rt: &impl Abort, alloc: Global) -> Vec<(IString, IValue)> {
 
 /// An object of the list.
 fn of_list(rt: &impl Abort, alloc: Global) -> IObject {
-    match IObject::from_pairs(alloc, listed(rt, alloc)) {
-        Ok(object) => object,
-        Err(why) => {
-            assert!(rt; why == ReserveError::Memory);
-            IObject::from_pairs(alloc, listed(rt, alloc)).expect(rt, "an object")
-        }
-    }
+    granted!(rt; ReserveError::Memory; IObject::from_pairs(alloc, listed(rt, alloc)))
 }
 
 #[test]
@@ -94,31 +66,31 @@ fn pairs(rt: HostRuntime) {
     assert!(rt; holds(&of_list(&rt, rt.alloc()), 5, 6));
 }
 
-/// Inserts the pair that follows so many others.
-fn inserts(rt: &impl Abort, object: &mut IObject, key: IString, value: u8, len: usize) {
-    let capacity = object.capacity();
-    if let Err(refused) = object.insert(key, IValue::from(value)) {
-        assert!(rt; is_back(&refused, len) && holds(object, len, capacity));
-        assert!(rt; matches!(object.insert(refused.key, refused.value), Ok(None)));
+/// Inserts a pair whose key is not there into an object, which so many others fill where memory is refused.
+fn inserts(rt: &impl Abort, object: &mut IObject, key: IString, number: u8, len: usize) {
+    if let Some(refused) = object.insert(key, IValue::from(number)).err() {
+        assert!(rt; is_number(&refused.value, number) && refused.why == ReserveError::Memory);
+        assert!(rt; holds(object, len, len));
+        insert_new(rt, object, refused.key, refused.value);
     }
 }
 
 /// Inserts a long key behind the five pairs, where there is room.
 fn inserts_long(rt: &impl Abort, alloc: Global, object: &mut IObject) {
     let long = interned(rt, &mut empty_cache(alloc), "eight888");
-    assert!(rt; object.insert(long, IValue::NULL).is_ok());
+    insert_new(rt, object, long, IValue::NULL);
     assert!(rt; object.contains_key("eight888") && object.len() == 6);
 }
 
 #[test]
 fn insert(rt: HostRuntime) {
-    let mut object = IObject::new(rt.alloc());
-    for (len, (text, value)) in PAIRS.iter().enumerate() {
-        let key = key(&rt, rt.alloc(), text);
-        inserts(&rt, &mut object, key, *value, len);
+    let alloc = rt.alloc();
+    let mut object = IObject::new(alloc);
+    for (len, &(text, value)) in PAIRS.iter().enumerate() {
+        inserts(&rt, &mut object, key(&rt, alloc, text), value, len);
     }
     assert!(rt; holds(&object, 5, 8));
-    inserts_long(&rt, rt.alloc(), &mut object);
+    inserts_long(&rt, alloc, &mut object);
 }
 
 /// Makes room for a pair more than those that fill an object.
@@ -199,67 +171,74 @@ fn enters(rt: &impl Abort, object: &mut IObject, key: IString, number: u8, len: 
 
 #[test]
 fn entries(rt: HostRuntime) {
+    let alloc = rt.alloc();
     for &(text, number, len, capacity) in &FULL {
-        let next = key(&rt, rt.alloc(), text);
-        enters_copy(&rt, rt.alloc(), &next, len, capacity);
-        let mut object = with_pairs(&rt, rt.alloc(), len, len);
+        let next = key(&rt, alloc, text);
+        enters_copy(&rt, alloc, &next, len, capacity);
+        let mut object = with_pairs(&rt, alloc, len, len);
         enters(&rt, &mut object, next, number, len);
         assert!(rt; holds(&object, usize::from(number), capacity));
     }
 }
 
-/// What the value beside a key was refused with, if it was. Else a number is put there.
-fn refused_value(object: &mut IObject, key: IString, number: u8) -> Option<RefusedPair> {
+/// The key that came back with null, for want of memory.
+fn beside_null(rt: &impl Abort, refused: RefusedPair) -> IString {
+    let RefusedPair { key, value, why } = refused;
+    assert!(rt; value.is_null() && why == ReserveError::Memory);
+    key
+}
+
+/// The key that came back from the value beside it, if memory was refused. Else a number is put there.
+fn refused_value(
+    rt: &impl Abort,
+    object: &mut IObject,
+    key: IString,
+    number: u8,
+) -> Option<IString> {
     match object.index_or_insert(key) {
         Ok(value) => {
             *value = IValue::from(number);
             None
         }
-        Err(refused) => Some(refused),
+        Err(refused) => Some(beside_null(rt, refused)),
+    }
+}
+
+/// Puts a number beside the key that follows so many others, in an object that these fill.
+fn puts(rt: &impl Abort, object: &mut IObject, key: IString, number: u8, len: usize) {
+    if let Some(key) = refused_value(rt, object, key, number) {
+        assert!(rt; holds(object, len, len));
+        assert!(rt; refused_value(rt, object, key, number).is_none());
     }
 }
 
 /// The same of an object inside a value.
-fn refused_inside(value: &mut IValue, key: IString, number: u8) -> Option<RefusedPair>
-    requires { kind_of value.old.tree ≡ kind.Object }
-{
+fn refused_inside(
+    rt: &impl Abort,
+    value: &mut IValue,
+    key: IString,
+    number: u8,
+) -> Option<IString> {
+    assert!(rt; value.is_object());
     match value.index_or_insert(key) {
         Ok(value) => {
             *value = IValue::from(number);
             None
         }
-        Err(refused) => Some(refused),
+        Err(refused) => Some(beside_null(rt, refused)),
     }
 }
 
-/// Whether a value is such an object.
-fn holds_inside(value: &IValue, len: usize, capacity: usize) -> bool {
-    match value.as_object() {
-        Some(object) => holds(object, len, capacity),
-        None => false,
-    }
+/// Asserts that a value is such an object.
+fn holds_inside(rt: &impl Abort, value: &IValue, len: usize, capacity: usize) {
+    assert!(rt; holds(value.as_object().expect(rt, "an object"), len, capacity));
 }
 
-/// Whether a key came back with null, for want of memory.
-fn is_with_null(refused: &RefusedPair) -> bool {
-    refused.value.is_null() && refused.why == ReserveError::Memory
-}
-
-/// Puts a number beside the key that follows so many others, in an object that these fill.
-fn puts(rt: &impl Abort, object: &mut IObject, key: IString, number: u8, len: usize) {
-    if let Some(refused) = refused_value(object, key, number) {
-        assert!(rt; is_with_null(&refused) && holds(object, len, len));
-        assert!(rt; refused_value(object, refused.key, number).is_none());
-    }
-}
-
-/// The same of an object inside a value.
+/// Puts a number beside such a key, in such an object inside a value.
 fn puts_inside(rt: &impl Abort, value: &mut IValue, key: IString, number: u8, len: usize) {
-    assert!(rt; value.is_object());
-    if let Some(refused) = refused_inside(value, key, number) {
-        assert!(rt; is_with_null(&refused) && holds_inside(value, len, len));
-        assert!(rt; value.is_object());
-        assert!(rt; refused_inside(value, refused.key, number).is_none());
+    if let Some(key) = refused_inside(rt, value, key, number) {
+        holds_inside(rt, value, len, len);
+        assert!(rt; refused_inside(rt, value, key, number).is_none());
     }
 }
 
@@ -272,37 +251,53 @@ fn values_beside_keys(rt: HostRuntime) {
         assert!(rt; holds(&object, usize::from(number), capacity));
         let mut value = IValue::from(with_pairs(&rt, alloc, len, len));
         puts_inside(&rt, &mut value, key(&rt, alloc, text), number, len);
-        assert!(rt; holds_inside(&value, usize::from(number), capacity));
+        holds_inside(&rt, &value, usize::from(number), capacity);
     }
 }
 
-/// Asserts that the first or the fifth of the pairs came back, and that an object has those before it.
-fn has_those_before(rt: &impl Abort, object: &IObject, refused: &RefusedPair) {
-    let len = object.len();
-    assert!(rt; len == 0 || len == 4);
-    assert!(rt; is_back(refused, len) && holds(object, len, len));
+/// Whether the pair that follows so many others came back, for want of memory.
+fn is_back(refused: &RefusedPair, len: usize) -> bool {
+    match PAIRS.get(len) {
+        Some((key, value)) => {
+            refused.key.eq_str(key)
+                && is_number(&refused.value, *value)
+                && refused.why == ReserveError::Memory
+        }
+        None => false,
+    }
 }
 
-/// An object of the five pairs, which an empty one is extended by.
-fn extended(rt: &impl Abort, alloc: Global) -> IObject {
-    let mut object = IObject::new(alloc);
-    if let Err(refused) = object.extend(with_pairs(rt, alloc, 5, 5)) {
-        has_those_before(rt, &object, &refused);
-        let pairs = with_pairs(rt, alloc, 5, 5);
-        object.extend(pairs).expect(rt, "the pairs");
+/// Whether pairs were refused: the first or the fifth came back, and an object has those before it.
+fn are_refused(rt: &impl Abort, object: &IObject, answer: Result<(), RefusedPair>) -> bool {
+    match answer {
+        Ok(()) => false,
+        Err(refused) => {
+            let len = object.len();
+            assert!(rt; len == 0 || len == 4);
+            assert!(rt; is_back(&refused, len) && holds(object, len, len));
+            true
+        }
     }
-    object
 }
 
-/// An object of the five pairs, which are laid over an empty one.
-fn laid_over(rt: &impl Abort, alloc: Global) -> IObject {
-    let mut object = IObject::new(alloc);
-    if let Err(refused) = object.overlay(with_pairs(rt, alloc, 5, 5)) {
-        has_those_before(rt, &object, &refused);
-        let pairs = with_pairs(rt, alloc, 5, 5);
-        object.overlay(pairs).expect(rt, "the pairs");
+/// Extends an empty object by the five pairs.
+fn extends(rt: &impl Abort, alloc: Global, object: &mut IObject) {
+    let answer = object.extend(with_pairs(rt, alloc, 5, 5));
+    if are_refused(rt, object, answer) {
+        object
+            .extend(with_pairs(rt, alloc, 5, 5))
+            .expect(rt, "the pairs");
     }
-    object
+}
+
+/// Lays the five pairs over an empty object.
+fn overlays(rt: &impl Abort, alloc: Global, object: &mut IObject) {
+    let answer = object.overlay(with_pairs(rt, alloc, 5, 5));
+    if are_refused(rt, object, answer) {
+        object
+            .overlay(with_pairs(rt, alloc, 5, 5))
+            .expect(rt, "the pairs");
+    }
 }
 
 /// An object of the five pairs, from those of another one.
@@ -318,12 +313,16 @@ fn made_again(rt: &impl Abort, alloc: Global, object: IObject) -> IObject {
 
 #[test]
 fn extend(rt: HostRuntime) {
-    let object = extended(&rt, rt.alloc());
+    let alloc = rt.alloc();
+    let mut object = IObject::new(alloc);
+    extends(&rt, alloc, &mut object);
     assert!(rt; holds(&object, 5, 8));
-    assert!(rt; holds(&made_again(&rt, rt.alloc(), object), 5, 8));
+    assert!(rt; holds(&made_again(&rt, alloc, object), 5, 8));
 }
 
 #[test]
 fn overlay(rt: HostRuntime) {
-    assert!(rt; holds(&laid_over(&rt, rt.alloc()), 5, 8));
+    let mut object = IObject::new(rt.alloc());
+    overlays(&rt, rt.alloc(), &mut object);
+    assert!(rt; holds(&object, 5, 8));
 }
