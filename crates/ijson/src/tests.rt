@@ -1,9 +1,13 @@
 //! What no clause says: arrays and values, conversions, literals, the errors, and refusals of memory in these. Objects, canonical texts,
 //! pointers and all other refusals of memory are tested in `ijson_extra`, and all else that the program stands on in the program.
+//!
+//! Where a test is done with a value it calls `drop`, which is one step of the proof. At the end of a scope the proof has a way for each
+//! kind that the value may be of.
 
 mod arrays;
 mod conversions;
 mod errors;
+mod literals;
 mod refusals;
 mod serde;
 mod values;

@@ -2,6 +2,7 @@
 use super::empty_cache;
 use crate::json::{JsonError, from_json, line_and_column, to_json};
 use crate::pointer::resolve;
+use crate::value::IValue;
 use anyhow::{Result, anyhow, bail};
 use std::alloc::Global;
 
@@ -17,16 +18,20 @@ fn told(text: &str, fault: JsonError) -> anyhow::Error {
     anyhow!("{what} at line {}, column {}", place.line, place.column)
 }
 
-/// The text of the value at a pointer in a text.
-fn pointed(alloc: Global, text: &str, pointer: &str) -> Result<String> {
-    let value = match from_json(alloc, &mut empty_cache(alloc), text) {
-        Ok(value) => value,
-        Err(fault) => return Err(told(text, fault)),
-    };
-    match resolve(&value, pointer) {
+/// The text of the value at a pointer in a value.
+fn pointed_in(alloc: Global, value: &IValue, pointer: &str) -> Result<String> {
+    match resolve(value, pointer) {
         Ok(Some(found)) => Ok(to_json(alloc, found)?),
         Ok(None) => bail!("nothing stands at {pointer:?}"),
         Err(_) => bail!("{pointer:?} is no JSON Pointer"),
+    }
+}
+
+/// The text of the value at a pointer in a text.
+fn pointed(alloc: Global, text: &str, pointer: &str) -> Result<String> {
+    match from_json(alloc, &mut empty_cache(alloc), text) {
+        Ok(value) => pointed_in(alloc, &value, pointer),
+        Err(fault) => Err(told(text, fault)),
     }
 }
 
@@ -49,12 +54,9 @@ static POINTED: [(&str, &str, &str); 7] = [
 fn values_are_pointed_at(rt: HostRuntime) {
     for &(text, pointer, want) in &POINTED {
         let found = match pointed(rt.alloc(), text, pointer) {
-            Ok(found) => found.as_str() == want,
-            Err(fault) => format!(in rt.alloc(); "{fault}")
-                .expect(&rt, "memory")
-                .as_str()
-                == want,
+            Ok(found) => found,
+            Err(fault) => format!(in rt.alloc(); "{fault}").expect(&rt, "memory"),
         };
-        assert!(rt; found, "{text} {pointer}");
+        assert!(rt; found.as_str() == want, "{text} {pointer}");
     }
 }

@@ -1,8 +1,9 @@
 //! Arrays: what each call answers and leaves, each iterator in full, and callers that know the list by the contracts alone.
-ghost use Rattle.std.specs.Prelude.{◌≡◌, [], ◌∷◌, ◌++◌, true, IfOk, OnOk};
+ghost use Rattle.std.specs.Prelude.{◌≡◌, [], ◌∷◌, ◌++◌, true, OnOk};
 ghost use Rattle.ijson_value.specs.Values.{null_value, boolean_value};
 
-use crate::array::{IArray, Refused};
+use super::is_shown;
+use crate::array::IArray;
 use crate::value::IValue;
 use std::alloc::{AllocError, Global};
 use std::process::Abort;
@@ -35,30 +36,24 @@ fn is_spelled(array: &IArray, letters: &str) -> bool {
     array.iter().map(letter).eq(letters.bytes())
 }
 
-/// Whether an item was there, and this is its letter.
-fn is_item(item: Option<IValue>, want: u8) -> bool {
-    match item {
-        Some(item) => letter(&item) == want,
-        None => false,
-    }
-}
-
-/// Whether no item was there.
-fn is_nothing(item: Option<IValue>) -> bool {
-    item.is_none()
+/// Whether this is the letter of an item that was taken out; of none there is none.
+fn is_item(item: Option<IValue>, want: Option<u8>) -> bool {
+    let found = item.as_ref().map(letter);
+    drop(item);
+    found == want
 }
 
 /// Inserts, removes and writes items, and knows which are left.
-fn edited(alloc: Global, item: IValue) -> Result<IArray, Refused>
-    ensures { IfOk result (λ array. array.items ≡ boolean_value true ∷ item ∷ []) }
+fn edited(rt: &impl Abort, alloc: Global, item: IValue) -> IArray
+    ensures { result.items ≡ boolean_value true ∷ item ∷ [] }
 {
     let mut array = IArray::new(alloc);
-    array.push(IValue::NULL)?;
-    array.push(item)?;
-    array.insert(1, IValue::FALSE)?;
-    let _first = array.remove(0);
+    array.push(IValue::NULL).expect(rt, "an item");
+    array.push(item).expect(rt, "an item");
+    array.insert(1, IValue::FALSE).expect(rt, "an item");
+    drop(array.remove(0));
     array[0] = IValue::TRUE;
-    Ok(array)
+    array
 }
 
 /// Makes room once; the pushes that follow cannot be refused.
@@ -73,12 +68,6 @@ fn push_three(array: &mut IArray) -> Result<(), AllocError>
     Ok(())
 }
 
-/// Takes out where there is nothing.
-fn gives_nothing(rt: &impl Abort, array: &mut IArray) {
-    assert!(rt; is_nothing(array.remove(0)) && is_nothing(array.swap_remove(0)));
-    assert!(rt; is_nothing(array.pop()));
-}
-
 /// Inserts before, behind and between.
 fn inserts(rt: &impl Abort, array: &mut IArray) {
     array.insert(0, IValue::NULL).expect(rt, "an item");
@@ -90,31 +79,56 @@ fn inserts(rt: &impl Abort, array: &mut IArray) {
 fn insertions(rt: HostRuntime) {
     let mut array = IArray::new(rt.alloc());
     assert!(rt; array.capacity() == 0);
-    gives_nothing(&rt, &mut array);
     inserts(&rt, &mut array);
     assert!(rt; is_spelled(&array, "nft"));
+    drop(array);
 }
 
-/// Takes the items of `ntf` out in two ways, and leaves the first.
-fn removes(rt: &impl Abort, array: &mut IArray) {
-    assert!(rt; is_nothing(array.swap_remove(3)) && is_nothing(array.remove(3)));
-    assert!(rt; is_item(array.remove(1), b't') && is_item(array.pop(), b'f'));
-    assert!(rt; is_spelled(array, "n"));
+/// The calls that take an item out of an array.
+enum Removal {
+    Remove(usize),
+    SwapRemove(usize),
+    Pop,
 }
+
+/// Takes an item out by such a call.
+fn taken(array: &mut IArray, removal: &Removal) -> Option<IValue> {
+    match removal {
+        Removal::Remove(position) => array.remove(*position),
+        Removal::SwapRemove(position) => array.swap_remove(*position),
+        Removal::Pop => array.pop(),
+    }
+}
+
+/// The letters of an array, a call on it, the letter of the item that it takes out, and the letters that are left.
+static REMOVALS: [(&str, Removal, Option<u8>, &str); 8] = [
+    ("", Removal::Remove(0), None, ""),
+    ("", Removal::SwapRemove(0), None, ""),
+    ("", Removal::Pop, None, ""),
+    ("ntf", Removal::SwapRemove(3), None, "ntf"),
+    ("ntf", Removal::Remove(3), None, "ntf"),
+    ("ntf", Removal::Remove(1), Some(b't'), "nf"),
+    ("nf", Removal::Pop, Some(b'f'), "n"),
+    ("ntf", Removal::SwapRemove(0), Some(b'n'), "ft"),
+];
 
 #[test]
 fn removals(rt: HostRuntime) {
-    removes(&rt, &mut spelled(&rt, rt.alloc(), "ntf"));
-    let mut array = spelled(&rt, rt.alloc(), "ntf");
-    assert!(rt; is_item(array.swap_remove(0), b'n') && is_spelled(&array, "ft"));
+    for (letters, removal, item, left) in &REMOVALS {
+        let mut array = spelled(&rt, rt.alloc(), letters);
+        assert!(rt; is_item(taken(&mut array, removal), *item), "{letters}");
+        assert!(rt; is_spelled(&array, left), "{letters}");
+        drop(array);
+    }
 }
 
 #[test]
 fn edits(rt: HostRuntime) {
-    let mut array = edited(rt.alloc(), IValue::FALSE).expect(&rt, "an array");
+    let mut array = edited(&rt, rt.alloc(), IValue::FALSE);
     assert!(rt; is_spelled(&array, "tf") && array[1].is_false());
     array.as_mut_slice().reverse();
     assert!(rt; is_spelled(&array, "ft"));
+    drop(array);
 }
 
 /// Cuts `ntf` to a length past its own, to one item, and to none. The room stays.
@@ -130,14 +144,16 @@ fn cuts(rt: &impl Abort, array: &mut IArray) {
 
 #[test]
 fn lengths_and_room(rt: HostRuntime) {
+    let roomy = IArray::with_capacity(rt.alloc(), 7).expect(&rt, "room");
+    assert!(rt; roomy.capacity() == 7);
+    drop(roomy);
     let mut array = spelled(&rt, rt.alloc(), "ntf");
     cuts(&rt, &mut array);
     array.shrink_to_fit().expect(&rt, "no room");
     assert!(rt; array.capacity() == 0);
     push_three(&mut array).expect(&rt, "three items");
     assert!(rt; is_spelled(&array, "nnn"));
-    let roomy = IArray::with_capacity(rt.alloc(), 7).expect(&rt, "room");
-    assert!(rt; roomy.capacity() == 7);
+    drop(array);
 }
 
 /// Letters, and for how many items there is room once they are pushed one after the other.
@@ -152,10 +168,9 @@ static ROOMS: [(&str, usize); 5] = [
 #[test]
 fn room_that_pushes_make(rt: HostRuntime) {
     for &(letters, room) in &ROOMS {
-        assert!(rt;
-            spelled(&rt, rt.alloc(), letters).capacity() == room,
-            "{letters}"
-        );
+        let array = spelled(&rt, rt.alloc(), letters);
+        assert!(rt; array.capacity() == room, "{letters}");
+        drop(array);
     }
 }
 
@@ -166,21 +181,30 @@ fn gives_out(rt: &impl Abort, array: IArray) {
         assert!(rt; items.size_hint() == (left, Some(left)));
         assert!(rt; items.len() == left && is_item(items.next(), item));
     }
-    assert!(rt; items.len() == 0 && is_nothing(items.next()) && is_nothing(items.next()));
+    drop(items);
 }
 
 /// How many items are left, and the letter of the next one.
-static GIVEN: [(usize, u8); 3] = [(3, b'n'), (2, b't'), (1, b'f')];
+static GIVEN: [(usize, Option<u8>); 5] = [
+    (3, Some(b'n')),
+    (2, Some(b't')),
+    (1, Some(b'f')),
+    (0, None),
+    (0, None),
+];
 
 #[test]
 fn iterators(rt: HostRuntime) {
-    let array = spelled(&rt, rt.alloc(), "ntf");
+    let alloc = rt.alloc();
+    let given = spelled(&rt, alloc, "nf").into_iter();
+    is_shown(&rt, alloc, &given, "IntoIter([null, false])");
+    drop(given);
+    let mut none = IArray::new(alloc).into_iter();
+    assert!(rt; is_item(none.next(), None));
+    drop(none);
+    let array = spelled(&rt, alloc, "ntf");
     assert!(rt; array.iter().len() == 3 && is_spelled(&array, "ntf"));
-    let given = spelled(&rt, rt.alloc(), "nf").into_iter();
-    let shown = format!(in rt.alloc(); "{given:?}").expect(&rt, "a text");
-    assert!(rt; shown.as_str() == "IntoIter([null, false])");
     gives_out(&rt, array);
-    assert!(rt; IArray::new(rt.alloc()).into_iter().next().is_none());
 }
 
 /// The array `nt`, extended by `ff` and by nothing.
@@ -200,4 +224,5 @@ fn arrays_of_other_items(rt: HostRuntime) {
     let list: Vec<IValue> = array.into_iter().collect(rt.alloc()).expect(&rt, "a list");
     let again = IArray::from_vec(rt.alloc(), list).expect(&rt, "an array");
     assert!(rt; is_spelled(&again, "ntff"));
+    drop(again);
 }

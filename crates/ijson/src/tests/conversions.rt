@@ -1,9 +1,8 @@
-use super::refusals::{Keys, object_of_map};
+use super::literals::{EXAMPLE, LITERALS, Literal, value_of};
+use super::refusals::{Keys, MAPS, object_of_map};
+use super::serde::there_and_back;
 use super::{Cache, empty_cache, is_written, parsed};
-use crate::convert::{
-    ConvertError, FromIValue, ToIValue, from_serde, from_value, to_serde, to_value,
-};
-use crate::ijson;
+use crate::convert::{ConvertError, FromIValue, ToIValue, from_value, to_value};
 use crate::json::to_json;
 use crate::object::IObject;
 use crate::string::IString;
@@ -14,78 +13,33 @@ use std::alloc::Global;
 use std::collections::{BTreeMap, HashMap};
 use std::process::Abort;
 
-/// What is written of a value.
-fn written(rt: &impl Abort, alloc: Global, value: &IValue) -> String {
-    to_json(alloc, value).expect(rt, "a text")
-}
-
 /// Asserts what is written of the value of a literal.
-fn is_literal(rt: &impl Abort, alloc: Global, value: Result<IValue, ConvertError>, want: &str) {
-    is_written(rt, alloc, &value.expect(rt, "a value"), want);
-}
-
-// Each literal stands in a function of its own, with nothing else there to drop: each call that its tokens make is a way out of it, on
-// which the lists and objects made so far are dropped.
-
-/// Pairs of each kind of value, one key again, a key that is an expression, and a comma behind the last pair.
-fn pairs(alloc: Global, cache: &mut Cache, key: &str) -> Result<IValue, ConvertError> {
-    ijson!(alloc, cache; {"name": "ijson", "sizes": [], key: {}, "name": [],})
-}
-
-/// A text, and items that are plain, with a comma behind the last one.
-fn items(alloc: Global, cache: &mut Cache) -> Result<IValue, ConvertError> {
-    ijson!(alloc, cache; {"foo": "bar", "x": [], "y": [1, null, true,]})
-}
-
-/// An object in an object in an object.
-fn objects(alloc: Global, cache: &mut Cache, key: &str) -> Result<IValue, ConvertError> {
-    ijson!(alloc, cache; {key: {"deep": true, "none": {}}})
-}
-
-/// A list in a list, and an item that is more than one token.
-fn lists(alloc: Global, cache: &mut Cache, n: i64) -> Result<IValue, ConvertError> {
-    ijson!(alloc, cache; {"name": [[], n / 2]})
+fn is_literal(rt: &impl Abort, alloc: Global, cache: &mut Cache, which: &Literal, want: &str) {
+    let value = value_of(alloc, cache, which).expect(rt, "a value");
+    is_written(rt, alloc, &value, want);
+    drop(value);
 }
 
 #[test]
 fn literals_are_values(rt: HostRuntime) {
-    let alloc = rt.alloc();
-    let mut cache = empty_cache(alloc);
-    let value = pairs(alloc, &mut cache, "nested");
-    is_literal(&rt, alloc, value, r#"{"name":[],"sizes":[],"nested":{}}"#);
-    let value = items(alloc, &mut cache);
-    is_literal(
-        &rt,
-        alloc,
-        value,
-        r#"{"foo":"bar","x":[],"y":[1,null,true]}"#,
-    );
-    let value = objects(alloc, &mut cache, "nested");
-    is_literal(&rt, alloc, value, r#"{"nested":{"deep":true,"none":{}}}"#);
-    let value = lists(alloc, &mut cache, -14);
-    is_literal(&rt, alloc, value, r#"{"name":[[],-7]}"#);
-}
-
-/// The example of the documentation.
-fn example(alloc: Global, cache: &mut Cache) -> Result<IValue, ConvertError> {
-    ijson!(alloc, cache; {"name": "ijson", "sizes": [1u8, 2u8, null], "nested": {"deep": true}})
+    let mut cache = empty_cache(rt.alloc());
+    for (which, want) in &LITERALS {
+        is_literal(&rt, rt.alloc(), &mut cache, which, want);
+    }
 }
 
 #[test]
 fn the_example_is_written(rt: HostRuntime) {
-    let value = example(rt.alloc(), &mut empty_cache(rt.alloc()));
-    is_literal(
-        &rt,
-        rt.alloc(),
-        value,
-        r#"{"name":"ijson","sizes":[1,2,null],"nested":{"deep":true}}"#,
-    );
+    let mut cache = empty_cache(rt.alloc());
+    is_literal(&rt, rt.alloc(), &mut cache, &Literal::Example, EXAMPLE);
 }
 
 /// What is written of the value of `x`.
 fn text_of<T: ToIValue>(rt: &impl Abort, alloc: Global, x: &T) -> String {
     let value = to_value(alloc, &mut empty_cache(alloc), x).expect(rt, "a value");
-    written(rt, alloc, &value)
+    let text = to_json(alloc, &value).expect(rt, "a text");
+    drop(value);
+    text
 }
 
 /// The pairs of two maps, in the order in which they are put.
@@ -113,24 +67,28 @@ fn inserted(rt: &impl Abort, alloc: Global) -> IndexMap<String, u8> {
     map
 }
 
+/// Asserts what is written of the value of `x`.
+fn is_text<T: ToIValue + Drop>(rt: &impl Abort, alloc: Global, x: T, want: &str) {
+    let text = text_of(rt, alloc, &x);
+    assert!(rt; text.as_str() == want);
+}
+
 #[test]
 fn maps_keep_their_order(rt: HostRuntime) {
-    let text = text_of(&rt, rt.alloc(), &sorted(&rt, rt.alloc()));
-    assert!(rt; text.as_str() == r#"{"a":2,"b":1}"#);
-    let text = text_of(&rt, rt.alloc(), &inserted(&rt, rt.alloc()));
-    assert!(rt; text.as_str() == r#"{"b":1,"a":2}"#);
+    let alloc = rt.alloc();
+    is_text(&rt, alloc, sorted(&rt, alloc), r#"{"a":2,"b":1}"#);
+    is_text(&rt, alloc, inserted(&rt, alloc), r#"{"b":1,"a":2}"#);
 }
 
 #[test]
 fn slices_and_texts_are_values(rt: HostRuntime) {
     let slice: &[Option<u8>] = &[Some(255), None];
-    let text = text_of(&rt, rt.alloc(), &slice);
-    assert!(rt; text.as_str() == "[255,null]");
-    let text = text_of(&rt, rt.alloc(), &"a \"text\" of many bytes");
-    assert!(rt; text.as_str() == r#""a \"text\" of many bytes""#);
+    is_text(&rt, rt.alloc(), slice, "[255,null]");
+    let text = "a \"text\" of many bytes";
+    is_text(&rt, rt.alloc(), text, r#""a \"text\" of many bytes""#);
 }
 
-/// What is written of the object of each map that has an order.
+/// Maps, and what is written of the object of each that has an order.
 static ORDERS: [(Keys, Option<&str>); 3] = [
     (Keys::Hashes, None),
     (Keys::Sorts, Some(r#"{"a":2,"b":1,"eight888":3}"#)),
@@ -138,24 +96,29 @@ static ORDERS: [(Keys, Option<&str>); 3] = [
 ];
 
 /// The object of a map, which has no more room than pairs.
-fn of_map(rt: &impl Abort, alloc: Global, cache: &mut Cache, keys: Keys) -> IValue {
-    let object = object_of_map(alloc, cache, keys).expect(rt, "an object");
+fn of_map(rt: &impl Abort, alloc: Global, keys: Keys) -> IValue {
+    let object = object_of_map(alloc, &mut empty_cache(alloc), keys).expect(rt, "an object");
     assert!(rt; object.len() == 3 && object.capacity() == 3);
     IValue::from(object)
 }
 
+/// Asserts that the object of a map is the same as another, and is written in its order, if it has one.
+fn is_same(rt: &impl Abort, alloc: Global, keys: Keys, order: Option<&str>, same: &IValue) {
+    let value = of_map(rt, alloc, keys);
+    assert!(rt; value == *same);
+    if let Some(text) = order {
+        is_written(rt, alloc, &value, text);
+    }
+    drop(value);
+}
+
 #[test]
 fn pairs_of_maps_are_objects(rt: HostRuntime) {
-    let alloc = rt.alloc();
-    let mut cache = empty_cache(alloc);
-    let same = parsed(&rt, alloc, r#"{"a":2,"b":1,"eight888":3}"#);
+    let same = parsed(&rt, rt.alloc(), r#"{"a":2,"b":1,"eight888":3}"#);
     for &(keys, order) in &ORDERS {
-        let value = of_map(&rt, alloc, &mut cache, keys);
-        assert!(rt; value == same);
-        if let Some(text) = order {
-            is_written(&rt, alloc, &value, text);
-        }
+        is_same(&rt, rt.alloc(), keys, order, &same);
     }
+    drop(same);
 }
 
 /// A text, and what is written again of what its value says as some type, or why it says none.
@@ -280,7 +243,9 @@ fn said<T: FromIValue + Drop>(
     text: &str,
 ) -> Result<T, ConvertError> {
     let value = parsed(rt, alloc, text);
-    from_value::<T>(alloc, &value)
+    let said = from_value::<T>(alloc, &value);
+    drop(value);
+    said
 }
 
 /// Whether a case holds.
@@ -333,14 +298,17 @@ fn values_are_read_as_their_types(rt: HostRuntime) {
     reads::<BTreeMap<String, Vec<Option<i32>>>>(&rt, alloc, &NESTED);
 }
 
+/// What can be missing in two ways.
+type Twice = Option<Option<u8>>;
+
 /// What null says where it can be missing in two ways: it is missing, and nothing is there that is missing.
 #[test]
 fn null_is_none(rt: HostRuntime) {
-    let twice = said::<Option<Option<u8>>>(&rt, rt.alloc(), "null");
+    let twice = said::<Twice>(&rt, rt.alloc(), "null");
     assert!(rt; twice == Ok(None));
-    let twice = said::<Option<Option<u8>>>(&rt, rt.alloc(), "7.0");
+    let twice = said::<Twice>(&rt, rt.alloc(), "7.0");
     assert!(rt; twice == Ok(Some(Some(7))));
-    let list = said::<Vec<Option<Option<u8>>>>(&rt, rt.alloc(), "[null,7]").expect(&rt, "a list");
+    let list = said::<Vec<Twice>>(&rt, rt.alloc(), "[null,7]").expect(&rt, "a list");
     assert!(rt; list.as_slice() == [None, Some(Some(7))].as_slice());
 }
 
@@ -372,8 +340,9 @@ fn goes_back<T: ToIValue + FromIValue + PartialEq + Drop>(
 ) -> IValue {
     let value = to_value(alloc, &mut empty_cache(alloc), x).expect(rt, "a value");
     assert!(rt; from_value::<T>(alloc, &value).expect(rt, "the same") == *x);
-    let there = to_serde(alloc, &value).expect(rt, "a value there");
-    assert!(rt; from_serde(alloc, &mut empty_cache(alloc), &there).expect(rt, "a value") == value);
+    let back = there_and_back(alloc, &value).expect(rt, "a value");
+    assert!(rt; back == value);
+    drop(back);
     value
 }
 
@@ -388,6 +357,7 @@ fn many_letters_go_there_and_back(rt: HostRuntime) {
 fn many_items_go_there_and_back(rt: HostRuntime) {
     let items = goes_back(&rt, rt.alloc(), &numbers(&rt, rt.alloc(), 100_000));
     assert!(rt; items.len() == Some(100_000));
+    drop(items);
 }
 
 /// The object of a map of the pairs of another object.
@@ -409,20 +379,21 @@ fn through_map(alloc: Global, object: IObject, keys: Keys) -> Result<IObject, Re
     }
 }
 
-/// Asserts that an object goes through a map and comes back.
-fn goes_through(rt: &impl Abort, alloc: Global, object: &IObject, keys: Keys) {
-    let copy = object.clone().expect(rt, "a copy");
-    let again = through_map(alloc, copy, keys).expect(rt, "an object");
-    assert!(rt; again == *object && again.capacity() == object.len());
+/// Asserts that an object has so many pairs and room for these alone, and that it goes through each map and comes back so.
+fn goes_through(rt: &impl Abort, alloc: Global, object: &IObject, count: usize) {
+    assert!(rt; object.len() == count && object.capacity() == count);
+    for &keys in &MAPS {
+        let copy = object.clone().expect(rt, "a copy");
+        let again = through_map(alloc, copy, keys).expect(rt, "an object");
+        assert!(rt; again == *object && again.capacity() == count);
+        drop(again);
+    }
 }
 
-/// The object of a map has room for its pairs alone.
 #[test]
 fn many_pairs_go_there_and_back(rt: HostRuntime) {
     let pairs = goes_back(&rt, rt.alloc(), &numbered(&rt, rt.alloc(), 10_000));
     let object = pairs.as_object().expect(&rt, "an object");
-    assert!(rt; object.len() == 10_000 && object.capacity() == 10_000);
-    for &(keys, _order) in &ORDERS {
-        goes_through(&rt, rt.alloc(), object, keys);
-    }
+    goes_through(&rt, rt.alloc(), object, 10_000);
+    drop(pairs);
 }

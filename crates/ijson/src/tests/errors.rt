@@ -20,9 +20,7 @@ fn passed_on<E: Error>(fault: E) -> anyhow::Result<()> {
 /// Asserts how a fault is shown, and that the error that it becomes has this text.
 fn is_told<E: Error>(rt: &impl Abort, alloc: Global, fault: E, text: &str, shown: &str) {
     is_shown(rt, alloc, &fault, shown);
-    let Err(error) = passed_on(fault) else {
-        panic!(rt; "{text}");
-    };
+    let error = passed_on(fault).err().expect(rt, text);
     let found = format!(in alloc; "{error}").expect(rt, "a text");
     assert!(rt; found.as_str() == text);
 }

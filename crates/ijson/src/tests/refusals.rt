@@ -4,11 +4,11 @@
 
 mod no_memory;
 
+use super::literals::{EXAMPLE, LITERALS, Literal, value_of};
 use super::{Cache, empty_cache};
 use crate::convert::{
     ConvertError, from_serde, from_serde_map, from_value, to_serde, to_serde_map, to_value,
 };
-use crate::ijson;
 use crate::json::{JsonError, from_json, to_json};
 use crate::object::IObject;
 use crate::string::IString;
@@ -79,11 +79,9 @@ pub(super) fn object_of_map(
     cache: &mut Cache,
     keys: Keys,
 ) -> Result<IObject, ReserveError> {
-    let pairs = [
-        (IString::intern(cache, "b")?, IValue::from(1i8)),
-        (IString::intern(cache, "a")?, IValue::from(2i8)),
-        (IString::intern(cache, "eight888")?, IValue::from(3i8)),
-    ];
+    let (b, a) = (IString::intern(cache, "b")?, IString::intern(cache, "a")?);
+    let long = IString::intern(cache, "eight888")?;
+    let pairs = [(b, 1i8.into()), (a, 2i8.into()), (long, 3i8.into())];
     match keys {
         Keys::Hashes => IObject::from_hash_map(alloc, HashMap::from_array(alloc, pairs)?),
         Keys::Sorts => IObject::from_btree_map(alloc, BTreeMap::from_array(alloc, pairs)?),
@@ -91,22 +89,29 @@ pub(super) fn object_of_map(
     }
 }
 
+/// The pairs of the maps.
+static PAIRS: [(&str, i64); 3] = [("b", 1), ("a", 2), ("eight888", 3)];
+
 /// Asserts that each pair of the maps is in an object.
 fn has_pairs(rt: &impl Abort, object: &IObject) {
-    for (key, n) in [("b", 1i8), ("a", 2), ("eight888", 3)] {
-        assert!(rt; object.get(key) == Some(&IValue::from(n)));
+    for &(key, n) in &PAIRS {
+        assert!(rt; object.get(key).and_then(IValue::to_i64) == Some(n));
     }
 }
+
+/// Each map.
+pub(super) static MAPS: [Keys; 3] = [Keys::Hashes, Keys::Sorts, Keys::Keeps];
 
 #[test]
 fn maps(rt: HostRuntime) {
     let mut cache = empty_cache(rt.alloc());
-    for keys in [Keys::Hashes, Keys::Sorts, Keys::Keeps] {
+    for &keys in &MAPS {
         let object = granted(&rt, ReserveError::Memory, || {
             object_of_map(rt.alloc(), &mut cache, keys)
         });
         assert!(rt; object.len() == 3 && object.capacity() == 3);
         has_pairs(&rt, &object);
+        drop(object);
     }
 }
 
@@ -124,26 +129,33 @@ fn conversions(rt: HostRuntime) {
     let again = granted(&rt, ConvertError::Memory, || {
         to_value(rt.alloc(), &mut cache, &lists)
     });
-    assert!(rt; is_kept(&cache, 2) && cache.contains("eight888") && again == value);
+    assert!(rt; again == value);
+    drop(value);
+    assert!(rt; is_kept(&cache, 2) && cache.contains("eight888"));
     is_written(&rt, rt.alloc(), &again, text);
+    drop(again);
 }
 
-/// The value of a literal, in which a key stands twice.
-fn literal(alloc: Global, cache: &mut Cache) -> Result<IValue, ConvertError> {
-    ijson!(alloc, cache; {"a": [1u8, null, "eight888"], "longlong": {"b": [true, {}]}, "c": {}, "a": ["x"]})
+/// Asserts what is written of the value of a literal, and that the cache keeps its text.
+fn is_literal(rt: &impl Abort, alloc: Global, cache: &mut Cache, which: &Literal, text: &str) {
+    let value = granted(rt, ConvertError::Memory, || value_of(alloc, cache, which));
+    assert!(rt; is_kept(cache, 3));
+    is_written(rt, alloc, &value, text);
+    drop(value);
 }
 
 #[test]
 fn literals(rt: HostRuntime) {
     let mut cache = used_cache(&rt, rt.alloc());
-    let value = granted(
-        &rt,
-        ConvertError::Memory,
-        || literal(rt.alloc(), &mut cache),
-    );
-    assert!(rt; is_kept(&cache, 3));
-    let text = r#"{"a":["x"],"longlong":{"b":[true,{}]},"c":{}}"#;
-    is_written(&rt, rt.alloc(), &value, text);
+    is_literal(&rt, rt.alloc(), &mut cache, &Literal::Example, EXAMPLE);
+    for (which, text) in &LITERALS {
+        is_literal(&rt, rt.alloc(), &mut cache, which, text);
+    }
+}
+
+/// Whether a cache that held the one text holds it still, and two more.
+fn has_three(cache: &Cache) -> bool {
+    cache.contains(THERE) && cache.len() == 3
 }
 
 /// Asserts that a value gone to `serde_json` and back is the same.
@@ -155,7 +167,10 @@ fn there_and_back(rt: &impl Abort, alloc: Global, value: &IValue) {
         ConvertError::Memory,
         || from_serde(alloc, &mut cache, &there),
     );
-    assert!(rt; back == *value && is_kept(&cache, 3) && cache.len() == 3);
+    assert!(rt; back == *value);
+    assert!(rt; has_three(&cache));
+    drop(there);
+    drop(back);
 }
 
 /// The same of an object, as a map of `serde_json`.
@@ -165,7 +180,10 @@ fn map_and_back(rt: &impl Abort, alloc: Global, object: &IObject) {
     let back = granted(rt, ConvertError::Memory, || {
         from_serde_map(alloc, &mut cache, &there)
     });
-    assert!(rt; back == *object && is_kept(&cache, 3) && cache.len() == 3);
+    assert!(rt; back == *object);
+    assert!(rt; has_three(&cache));
+    drop(there);
+    drop(back);
 }
 
 #[test]
@@ -173,7 +191,7 @@ fn values_of_serde(rt: HostRuntime) {
     let text = "{\"longlong\":[\"eight888\",{}],\"n\":[1,{\"m\":2.0}]}";
     let value = read(&rt, rt.alloc(), text);
     there_and_back(&rt, rt.alloc(), &value);
-    let object = value.as_object().expect(&rt, "an object");
-    map_and_back(&rt, rt.alloc(), object);
+    map_and_back(&rt, rt.alloc(), value.as_object().expect(&rt, "an object"));
     is_written(&rt, rt.alloc(), &value, text);
+    drop(value);
 }

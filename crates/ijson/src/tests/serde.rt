@@ -106,62 +106,80 @@ fn to_kind(alloc: Global, value: &IValue) -> Result<Value, ConvertError> {
     }
 }
 
-/// Whether what is written of an answer is the text wanted, or the refusal is.
+/// Whether an answer is this value and what is written of it is the text wanted, or the refusal is.
 fn is_wanted(
     rt: &impl Abort,
     alloc: Global,
     answer: Result<IValue, ConvertError>,
+    same: &IValue,
     wanted: Result<&str, ConvertError>,
 ) -> bool {
-    match answer {
+    let holds = match &answer {
         Ok(value) => {
-            let found = to_json(alloc, &value).expect(rt, "a text");
-            wanted == Ok(found.as_str())
+            let found = to_json(alloc, value).expect(rt, "a text");
+            *value == *same && wanted == Ok(found.as_str())
         }
-        Err(why) => wanted == Err(why),
-    }
+        Err(why) => wanted == Err(*why),
+    };
+    drop(answer);
+    holds
 }
 
 /// A value gone to `serde_json` and back.
-fn there_and_back(alloc: Global, value: &IValue) -> Result<IValue, ConvertError> {
+pub(super) fn there_and_back(alloc: Global, value: &IValue) -> Result<IValue, ConvertError> {
     let there = to_serde(alloc, value)?;
-    from_serde(alloc, &mut empty_cache(alloc), &there)
+    let back = from_serde(alloc, &mut empty_cache(alloc), &there);
+    drop(there);
+    back
 }
 
 /// The same by the call for each kind.
 fn by_kind(alloc: Global, value: &IValue) -> Result<IValue, ConvertError> {
     let there = to_kind(alloc, value)?;
-    from_kind(alloc, &mut empty_cache(alloc), &there)
+    let back = from_kind(alloc, &mut empty_cache(alloc), &there);
+    drop(there);
+    back
 }
 
-/// Asserts what becomes of a text's value that goes there and back: it is equal, or refused.
-fn goes_back(rt: &impl Abort, alloc: Global, text: &str, back: Result<&str, ConvertError>) {
-    let value = parsed(rt, alloc, text);
-    let answer = there_and_back(alloc, &value);
-    if let Ok(made) = &answer {
-        assert!(rt; *made == value, "{text}");
-    }
-    assert!(rt; is_wanted(rt, alloc, answer, back), "{text}");
-    let answer = by_kind(alloc, &value);
-    assert!(rt; is_wanted(rt, alloc, answer, back), "{text}");
+/// Whether a value that goes there and back is equal, or is refused, as a whole and by the call for its kind.
+fn goes_back(
+    rt: &impl Abort,
+    alloc: Global,
+    value: &IValue,
+    back: Result<&str, ConvertError>,
+) -> bool {
+    let whole = is_wanted(rt, alloc, there_and_back(alloc, value), value, back);
+    let kind = is_wanted(rt, alloc, by_kind(alloc, value), value, back);
+    whole && kind
 }
 
-/// Asserts what becomes of what `serde_json` reads in a text.
-fn goes_over(rt: &impl Abort, alloc: Global, text: &str, over: Result<&str, ConvertError>) {
-    let value = Value::from_str(alloc, text).expect(rt, text);
-    let answer = from_serde(alloc, &mut empty_cache(alloc), &value);
-    assert!(rt; is_wanted(rt, alloc, answer, over), "{text}");
-    let answer = from_kind(alloc, &mut empty_cache(alloc), &value);
-    assert!(rt; is_wanted(rt, alloc, answer, over), "{text}");
+/// Whether what `serde_json` reads in a text is equal to the text's value, or is refused, likewise.
+fn goes_over(
+    rt: &impl Abort,
+    alloc: Global,
+    text: &str,
+    value: &IValue,
+    over: Result<&str, ConvertError>,
+) -> bool {
+    let there = Value::from_str(alloc, text).expect(rt, text);
+    let answer = from_serde(alloc, &mut empty_cache(alloc), &there);
+    let whole = is_wanted(rt, alloc, answer, value, over);
+    let answer = from_kind(alloc, &mut empty_cache(alloc), &there);
+    let kind = is_wanted(rt, alloc, answer, value, over);
+    drop(there);
+    whole && kind
 }
 
 #[test]
 fn values_go_over_and_back(rt: HostRuntime) {
     let alloc = rt.alloc();
     for &(text, back, over) in &SERDE {
-        goes_back(&rt, alloc, text, back);
-        goes_over(&rt, alloc, text, over);
+        let value = parsed(&rt, alloc, text);
+        assert!(rt; goes_back(&rt, alloc, &value, back), "{text}");
+        assert!(rt; goes_over(&rt, alloc, text, &value, over), "{text}");
+        drop(value);
     }
-    let past = to_serde(alloc, &parsed(&rt, alloc, "1e400"));
-    assert!(rt; past.err() == Some(ConvertError::Number));
+    let past = parsed(&rt, alloc, "1e400");
+    assert!(rt; to_serde(alloc, &past).err() == Some(ConvertError::Number));
+    drop(past);
 }

@@ -55,7 +55,7 @@ fn object(rt: &impl Abort, alloc: Global, members: &[(&str, &str)]) -> IObject {
     for (name, number) in members {
         let number = INumber::from_str(alloc, number).expect(rt, "a number");
         let inserted: Result<_, _> = object.insert(key(rt, alloc, name), number.into());
-        inserted.expect(rt, "room");
+        drop(inserted.expect(rt, "room"));
     }
     object
 }
@@ -78,20 +78,29 @@ fn has_two_pairs(rt: &impl Abort, object: &IObject) {
 }
 
 /// Asserts that a value is an array, by its type and by its parts.
-fn is_array(rt: &impl Abort, value: &IValue) {
+fn is_array(rt: &impl Abort, value: IValue) {
     assert!(rt; value.type_() == ValueType::Array);
     assert!(rt; matches!(value.destructure_ref(), DestructuredRef::Array(_)));
+    drop(value);
+}
+
+/// An object of two pairs, which are put as three.
+fn two_pairs(rt: &impl Abort, alloc: Global) -> IObject {
+    let object = object(rt, alloc, &[("x", "1"), ("y", "2"), ("x", "3")]);
+    has_two_pairs(rt, &object);
+    object
 }
 
 #[test]
 fn values_take_what_they_are_given(rt: HostRuntime) {
+    let null = IValue::NULL;
+    assert!(rt; null.type_() == ValueType::Null);
+    drop(null);
     let mut array = two_items(&rt, rt.alloc());
     assert!(rt; array.len() == 2);
-    assert!(rt; IValue::NULL.type_() == ValueType::Null);
-    let object = object(&rt, rt.alloc(), &[("x", "1"), ("y", "2"), ("x", "3")]);
-    has_two_pairs(&rt, &object);
-    array.push(object.into()).expect(&rt, "an item");
-    is_array(&rt, &array.into());
+    let item = two_pairs(&rt, rt.alloc()).into();
+    array.push(item).expect(&rt, "an item");
+    is_array(&rt, array.into());
 }
 
 /// Keys and numbers, in the order that they are put in.
@@ -201,29 +210,30 @@ static KINDS: [(&str, Answers, &str); 8] = [
     ),
 ];
 
-/// Asserts what a value answers, and that emptied it is what is left of it.
-fn is_emptied(rt: &impl Abort, value: &mut IValue, told: Answers, left: &IValue) {
-    assert!(rt; answers(value, told));
-    assert!(rt; is_of_kind(value, told.0));
-    empty(value);
-    assert!(rt; *value == *left);
+/// Asserts what a value answers, and that emptied it is what is left of it, which is taken then.
+fn is_emptied(rt: &impl Abort, mut value: IValue, told: Answers, left: &IValue) {
+    assert!(rt; answers(&value, told));
+    assert!(rt; is_of_kind(&value, told.0));
+    empty(&mut value);
+    assert!(rt; value == *left);
+    is_taken(rt, value, told.0);
 }
 
 /// Asserts that a value emptied by its part is what is left of it; a truth value stays.
-fn is_emptied_by_part(rt: &impl Abort, value: &mut IValue, left: &IValue) {
+fn is_emptied_by_part(rt: &impl Abort, mut value: IValue, left: &IValue) {
     let truth = value.to_bool();
-    empty_part(value);
-    assert!(rt; value.to_bool() == truth && (truth.is_some() || *value == *left));
+    empty_part(&mut value);
+    assert!(rt; value.to_bool() == truth && (truth.is_some() || value == *left));
+    drop(value);
 }
 
 #[test]
 fn kinds_and_parts(rt: HostRuntime) {
     for &(text, told, left) in &KINDS {
-        let mut value = parsed(&rt, rt.alloc(), text);
         let left = parsed(&rt, rt.alloc(), left);
-        is_emptied(&rt, &mut value, told, &left);
-        is_taken(&rt, value, told.0);
-        is_emptied_by_part(&rt, &mut parsed(&rt, rt.alloc(), text), &left);
+        is_emptied_by_part(&rt, parsed(&rt, rt.alloc(), text), &left);
+        is_emptied(&rt, parsed(&rt, rt.alloc(), text), told, &left);
+        drop(left);
     }
 }
 
@@ -252,7 +262,9 @@ static OPENED: [(&str, &str, bool, &str); 12] = [
 fn is_shown_open(rt: &impl Abort, alloc: Global, mut value: IValue, want: &str) {
     is_shown(rt, alloc, &value.destructure_ref(), want);
     is_shown_to_be_written(rt, alloc, value.destructure_mut(), want);
-    is_shown(rt, alloc, &value.destructure(), want);
+    let opened = value.destructure();
+    is_shown(rt, alloc, &opened, want);
+    drop(opened);
 }
 
 /// The same of one that is opened to be written, where a truth value is shown by itself.
@@ -263,10 +275,12 @@ fn is_shown_to_be_written(rt: &impl Abort, alloc: Global, value: DestructuredMut
     }
 }
 
-/// Compares two values once they are opened.
-fn are_equal_open(rt: &impl Abort, left: IValue, right: IValue, want: bool) {
-    let (left, right) = (left.destructure(), right.destructure());
-    assert!(rt; (left == right) == want && (left.as_ref() == right.as_ref()) == want);
+/// Asserts that two values that are opened are equal, or that they differ.
+fn are_equal_open(rt: &impl Abort, left: Destructured, right: Destructured, want: bool) {
+    assert!(rt; (left == right) == want);
+    assert!(rt; (left.as_ref() == right.as_ref()) == want);
+    drop(left);
+    drop(right);
 }
 
 #[test]
@@ -274,7 +288,7 @@ fn values_opened(rt: HostRuntime) {
     let alloc = rt.alloc();
     for &(text, other, want, shown) in &OPENED {
         let (left, right) = (parsed(&rt, alloc, text), parsed(&rt, alloc, other));
-        are_equal_open(&rt, left, right, want);
+        are_equal_open(&rt, left.destructure(), right.destructure(), want);
         is_shown_open(&rt, alloc, parsed(&rt, alloc, text), shown);
     }
     is_shown(&rt, alloc, &ValueType::Object, "Object");
@@ -304,6 +318,7 @@ fn keeps_room(rt: &impl Abort, mut value: IValue, want: usize) {
     empty_part(&mut value);
     assert!(rt; room(&value) == Some(want));
     assert!(rt; room_given(value.take()) == Some(want));
+    drop(value);
 }
 
 #[test]
@@ -312,6 +327,12 @@ fn room_goes_along(rt: HostRuntime) {
     keeps_room(&rt, array.into(), 7);
     let object = IObject::with_capacity(rt.alloc(), 7).expect(&rt, "room");
     keeps_room(&rt, object.into(), 7);
+}
+
+/// Asserts for how many items or pairs there is room in a value.
+fn has_room(rt: &impl Abort, value: IValue, want: usize) {
+    assert!(rt; room(&value) == Some(want));
+    drop(value);
 }
 
 /// Texts, and for how many items or pairs there is room in the value of each: no more than there are.
@@ -336,18 +357,22 @@ fn zeros(rt: &impl Abort, alloc: Global, count: u32) -> String {
 #[test]
 fn room_of_what_is_read(rt: HostRuntime) {
     for &(text, want) in &READ {
-        assert!(rt; room(&parsed(&rt, rt.alloc(), text)) == Some(want));
+        has_room(&rt, parsed(&rt, rt.alloc(), text), want);
     }
     let long = zeros(&rt, rt.alloc(), 700_000);
     let value = parsed(&rt, rt.alloc(), long.as_str());
     assert!(rt; value.len() == Some(700_000));
+    drop(value);
 }
 
 /// Takes a value of a kind, which leaves null, and takes it apart.
 fn is_taken(rt: &impl Abort, mut value: IValue, kind: ValueType) {
     let taken = value.take();
     assert!(rt; value.is_null() && is_of_kind(&taken, kind));
-    assert!(rt; handed_back(taken).is_some() == (kind < ValueType::Number));
+    drop(value);
+    let back = handed_back(taken);
+    assert!(rt; back.is_some() == (kind < ValueType::Number));
+    drop(back);
 }
 
 /// Whether a number answers these integers, and whether the others are these as well.
@@ -358,12 +383,14 @@ fn are_integers(
     i64_: Option<i64>,
     u64_: Option<u64>,
 ) -> bool {
-    value.to_i32() == i32_
+    let same = value.to_i32() == i32_
         && value.to_u32() == u32_
         && value.to_i64() == i64_
         && value.to_u64() == u64_
         && value.to_isize().map(|z| z as i64) == i64_
-        && value.to_usize().map(|n| n as u64) == u64_
+        && value.to_usize().map(|n| n as u64) == u64_;
+    drop(value);
+    same
 }
 
 /// Texts, and what each is as an `i32`, a `u32`, an `i64` and a `u64`.
@@ -441,7 +468,10 @@ fn wide_widths(rt: HostRuntime) {
 
 #[test]
 fn options(rt: HostRuntime) {
-    assert!(rt; IValue::from(Some(true)).is_true() && IValue::from(None::<u8>).is_null());
+    let (truth, none) = (IValue::from(Some(true)), IValue::from(None::<u8>));
+    assert!(rt; truth.is_true() && none.is_null());
+    drop(truth);
+    drop(none);
 }
 
 /// Writes into the array beside `b`, and sets `c` to null.
@@ -473,7 +503,7 @@ fn is_edited(rt: &impl Abort, value: &mut IValue) {
     assert!(rt; value.is_object());
     assert!(rt; clear_member(value, "c"));
     assert!(rt; value.is_object());
-    assert!(rt; value.remove("a").is_some());
+    drop(value.remove("a").expect(rt, "a value"));
 }
 
 #[test]
@@ -484,4 +514,6 @@ fn one_value_is_found_written_and_taken_out(rt: HostRuntime) {
     is_edited(&rt, &mut value);
     let left = parsed(&rt, rt.alloc(), "{\"c\":null,\"b\":[2,null]}");
     assert!(rt; value == left);
+    drop(value);
+    drop(left);
 }

@@ -21,6 +21,7 @@ fn all(rt: &impl Abort, alloc: Global, rounds: u32) {
     // The request behind the last of them.
     let last = read(rt, alloc, "18446744073709551616");
     assert!(rt; last.to_u64().is_none());
+    drop(last);
 }
 
 // Runs of this test and of the next one make the same number of requests for memory.
