@@ -33,6 +33,11 @@ fn pairs_of(number: u64) -> u16x8
     ensures { result ≡ number / 10 ^ 14 ∷ number / 10 ^ 12 % 100 ∷ number / 10 ^ 10 % 100 ∷ number / 10 ^ 8 % 100
         ∷ number / 10 ^ 6 % 100 ∷ number / 10 ^ 4 % 100 ∷ number / 10 ^ 2 % 100 ∷ number % 100 ∷ [] }
 {
+    // most numbers are small, and a division waits for the one before it
+    if number < 10_000 {
+        let small = number as u16;
+        return u16x8::from_array([0, 0, 0, 0, 0, 0, small / 100, small % 100]);
+    }
     let (high, low) = (number / 100_000_000, number % 100_000_000);
     let fours = u16x8::from_array([
         (high / 10_000) as u16,
