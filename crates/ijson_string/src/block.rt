@@ -1,12 +1,12 @@
 //! `Block`: a text of a few bytes beside its length.
-ghost use Rattle.std.specs.Prelude.{◌≡◌, ◌+◌, ◌≤◌, ◌<◌, length, take};
+ghost use Rattle.std.specs.Prelude.{◌≡◌, ◌+◌, ◌-◌, ◌≤◌, ◌<◌, length, take, drop, replicate, IsUtf8};
 
 use std::marker::Model;
 use std::str;
 
-/// A text in UTF-8 of at most `N` bytes. The bytes past `len` are no part of it. It lies where a word of 8 bytes may lie, so that an
-/// `IString` is moved by whole words, whichever variant it is. Its length comes first, so that it is at one place in a block of any
-/// size, and a text is found without a branch on its size.
+/// A text in UTF-8 of at most `N` bytes. The bytes past `len` are no part of it, and zeros. It lies where a word of 8 bytes may lie, so
+/// that an `IString` is moved by whole words, whichever variant it is. Its length comes first, so that it is at one place in a block
+/// of any size, and a text is found without a branch on its size.
 #[derive(Drop)]
 pub(crate) struct Block<const N: usize> {
     aligned: [u64; 0],
@@ -80,6 +80,19 @@ impl<const N: usize> Block<N> {
     }
 }
 
+impl Block<7> {
+    /// The length, and all that the text lies in: the text, and zeros behind it.
+    #[inline(always)]
+    pub(crate) fn row(&self) -> (u8, &str)
+        ensures text { take result.0 result.1.now ≡ self.now }
+        ensures utf8 { IsUtf8 (take result.0 result.1.now) }
+        ensures size { (result.0 ≤ 7) × (length result.1.now ≡ 7) }
+        ensures zeros { drop result.0 result.1.now ≡ replicate (7 - result.0) 0 }
+    {
+        (self.len, unsafe { str::from_utf8_unchecked(&self.bytes) })
+    }
+}
+
 impl Block<23> {
     /// A block that holds a `text` of 8 bytes or more.
     #[inline(always)]
@@ -110,6 +123,7 @@ fn put_piece(bytes: &mut [u8], text: &[u8], start: usize, size: usize)
     requires room { length text.now ≤ length bytes.old }
     requires begun { take start bytes.old ≡ take start text.now }
     ensures put { take (start + size) bytes.new ≡ take (start + size) text.now }
+    ensures rest { drop (length text.now) bytes.new ≡ drop (length text.now) bytes.old }
     ensures same { length bytes.new ≡ length bytes.old }
 {
     bytes[start..start + size].copy_from_slice(&text[start..start + size]);

@@ -1,5 +1,6 @@
 //! `IString`: a text that is compared, ordered and hashed by its bytes.
-ghost use Rattle.std.specs.Prelude.{◌≡◌, ℕ, ◌<◌, ◌≤◌, ◌==◌, List, [], length, Some, IfOk, IsOk, OnOk, OnErr, nat_eq, refl, IsTrue, ◌↔◌};
+ghost use Rattle.std.specs.Prelude.{◌≡◌, ℕ, ◌-◌, ◌<◌, ◌≤◌, ◌==◌, List, [], length, take, drop, replicate, Some, nat_eq, refl, ◌↔◌};
+ghost use Rattle.std.specs.Prelude.{IsTrue, IsUtf8, IfOk, IfSome, IsOk, IsSome, OnOk, OnErr};
 ghost use Rattle.std.specs.Hash as fed;
 ghost use Rattle.std.specs.List.{flat_map};
 ghost use Rattle.std.specs.Ordering.{nat_cmp};
@@ -117,6 +118,22 @@ impl IString {
             Stored::UpTo55(text) => text.as_str(),
             Stored::UpTo71(text) => text.as_str(),
             Stored::Long(text) => text.as_str(),
+        }
+    }
+
+    /// The length of a text of at most 7 bytes, and the 7 bytes that it lies in: the text, and zeros behind it. So it can be tested and
+    /// appended by moves of a size that is known where the code is built. There are none of a longer text.
+    #[inline(always)]
+    pub fn in_place(&self) -> Option<(u8, &str)>
+        ensures text { IfSome result (λ x. take x.0 x.1.now ≡ self.now) }
+        ensures utf8 { IfSome result (λ x. IsUtf8 (take x.0 x.1.now)) }
+        ensures size { IfSome result (λ x. (x.0 ≤ 7) × (length x.1.now ≡ 7)) }
+        ensures zeros { IfSome result (λ x. drop x.0 x.1.now ≡ replicate (7 - x.0) 0) }
+        ensures short { length self.now ≤ 7 → IsSome result }
+    {
+        match &self.stored {
+            Stored::InPlace(text) => Some(text.row()),
+            _ => None,
         }
     }
 

@@ -51,6 +51,26 @@ fn texts_of_each_length_are_shared_and_print(rt: HostRuntime) {
     assert!(rt; cache.len() == 12);
 }
 
+/// Texts, and the 7 bytes that each lies in.
+static ROWS: [(&str, &str); 3] = [
+    ("", "\0\0\0\0\0\0\0"),
+    ("é", "é\0\0\0\0\0"),
+    ("seven77", "seven77"),
+];
+
+#[test]
+fn short_texts_lie_in_seven_bytes(rt: HostRuntime) {
+    let mut cache = empty_cache(rt.alloc());
+    for &(letters, want) in &ROWS {
+        let text = interned(&rt, &mut cache, letters);
+        let (length, row) = text.in_place().expect(&rt, "a short text");
+        assert!(rt; usize::from(length) == letters.len());
+        assert!(rt; row == want);
+    }
+    let long = interned(&rt, &mut cache, "eight888");
+    assert!(rt; long.in_place().is_none());
+}
+
 /// Texts, and what `Debug` prints of each.
 static DEBUGGED: [(&str, &str); 4] = [
     ("", r#""""#),

@@ -1,10 +1,17 @@
-use Rattle.std.proofs.Common.{arith}
+use Rattle.std.proofs.Common.{◌≡◌, ◌∙◌, ℕ, List, length, drop, replicate, subst, arith}
 use Rattle.std.proofs.lemmas.Grind.{common_steps}
+use Rattle.ijson_string.proofs.Prefixes.{zeros_behind}
 use Rattle.ijson_string.proofs.block.Block.filled.Goals as goal
 
--- what the check tries where no answer stands takes longer than these
 pub invariant_of-result : goal.invariant_of-result
-invariant_of-result g c = grind (arith, common_steps)
+invariant_of-result g c = record {
+  inside = grind (arith, common_steps);
+  utf8 = grind (arith, common_steps);
+  zeros = zeros_behind c.put_piece-2.new.bytes (length c.args.text.now) g.row.N (grind (arith, common_steps))
+      (subst (λ (text : List ℕ). drop (length text) c.put_piece-2.new.bytes ≡ drop (length text) (replicate g.row.N 0))
+      c.as_bytes-source.ensures.value (c.put_piece-2.ensures.rest ∙ c.put_piece.ensures.rest));
+}
 
+-- what the check tries where no answer stands takes longer than these
 pub returns : goal.returns
 returns g c = grind (arith, common_steps)
