@@ -10,6 +10,7 @@ mod quote;
 
 use ijson_value::object::IObject;
 use ijson_value::value::{DestructuredRef, IValue};
+use quote::{push_member_key, push_string};
 pub use quote::{push_key, push_quoted};
 use std::alloc::{AllocError, Global};
 
@@ -43,7 +44,7 @@ pub(crate) fn push_value(out: &mut String, value: &IValue) -> Result<(), AllocEr
         DestructuredRef::Bool(false) => out.push_str("false"),
         DestructuredRef::Bool(true) => out.push_str("true"),
         DestructuredRef::Number(number) => number.push_to(out),
-        DestructuredRef::String(text) => push_quoted(out, text.as_str()),
+        DestructuredRef::String(text) => push_string(out, text),
         DestructuredRef::Array(array) => {
             out.push('[')?;
             push_items(out, array.as_slice())?;
@@ -82,7 +83,7 @@ fn push_members(out: &mut String, object: &IObject) -> Result<(), AllocError>
 {
     let mut is_first = true;
     for (key, value) in object.iter() {
-        push_key(out, key.as_str(), is_first)?;
+        push_member_key(out, key, is_first)?;
         push_value(out, value)?;
         is_first = false;
     }

@@ -43,9 +43,10 @@ pub adds_behind : (text head rest : List ℕ) (old new : Texts) → text ≡ hea
 adds_behind text head rest old new e a = adds_more text head rest old old new e (adds_none text old) a
 
 -- more was read behind a key
-pub adds_behind_key : (k text cur : List ℕ) (old middle new : Texts) → KeyRead k text cur → AddsOnlyRead text old middle
+pub adds_behind_key : {k text cur : List ℕ} {old middle new : Texts} → KeyRead k text cur → AddsOnlyRead text old middle
     → AddsOnlyRead cur middle new → AddsOnlyRead text old new
-adds_behind_key k text cur old middle new r a b = adds_more text (key_head k text cur r) cur old middle new (key_behind k text cur r) a b
+adds_behind_key {k} {text} {cur} {old} {middle} {new} r a b =
+    adds_more text (key_head k text cur r) cur old middle new (key_behind k text cur r) a b
 
 -- ---- a string that is interned
 

@@ -13,9 +13,9 @@ use Rattle.ijson_json.proofs.grammar.OneTree.{string_same}
 use Rattle.ijson_json.proofs.grammar.FirstBytes.{value-past_space}
 
 -- a member whose value was read
-pub member_read : (opened : ℕ) (k text cur : List ℕ) (t : Tree) (rest : List ℕ) → KeyRead k text cur → IsRead opened cur t rest
+pub member_read : {opened : ℕ} {k text cur : List ℕ} {t : Tree} {rest : List ℕ} → KeyRead k text cur → IsRead opened cur t rest
     → Found (List ℕ × Tree) (λ m text. Pair m text) (λ m. m.1) opened text (k, t) rest
-member_read opened k text cur t rest r v = record {
+member_read {opened} {k} {text} {cur} {t} {rest} r v = record {
   found = record {
     front = r.key ++ (r.gap ++ 58 ∷ (r.gap' ++ v.found.front));
     holds = record {
@@ -105,10 +105,10 @@ key_shorter : (k text cur : List ℕ) (left : ℕ) → KeyRead k text cur → le
 key_shorter k text cur left r h = omega (arith, h, ap length (key_behind k text cur r), length-append (key_head k text cur r) cur)
 
 -- a fault in the value is one of the member
-pub member_fault : (opened : ℕ) (k text cur : List ℕ) (fault : Fault) → KeyRead k text cur → Explains opened cur fault
+pub member_fault : {k text cur : List ℕ} (opened : ℕ) (fault : Fault) → KeyRead k text cur → Explains opened cur fault
     → ExplainsMember opened text fault
-member_fault opened k text cur (faults.Syntax left) r h =
+member_fault {k} {text} {cur} opened (faults.Syntax left) r h =
     (key_shorter k text cur left r h.0, λ m rest stops f. h.1 m.1 rest stops (value_of k text cur m rest r f))
-member_fault opened k text cur (faults.TooDeep left) r h = (key_shorter k text cur left r h.0, beyond_member k text cur _ _ r h.1)
-member_fault opened k text cur (faults.NumberRange left) r h = (key_shorter k text cur left r h.0, beyond_member k text cur _ _ r h.1)
-member_fault opened k text cur faults.Memory r h = tt
+member_fault {k} {text} {cur} opened (faults.TooDeep left) r h = (key_shorter k text cur left r h.0, beyond_member k text cur _ _ r h.1)
+member_fault {k} {text} {cur} opened (faults.NumberRange left) r h = (key_shorter k text cur left r h.0, beyond_member k text cur _ _ r h.1)
+member_fault {k} {text} {cur} opened faults.Memory r h = tt

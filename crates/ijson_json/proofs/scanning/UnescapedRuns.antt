@@ -1,25 +1,28 @@
 -- Runs of bytes that stand for themselves in a string.
-use Rattle.std.proofs.Common.{◌≡◌, ℕ, ◌+◌, ◌<◌, Bool, true, false, cond, List, [], ◌∷◌, length, take, drop, get_or, refl, ap, arith}
+use Rattle.std.proofs.Common.{◌≡◌, ℕ, ◌+◌, ◌<◌, ◌≤◌, Bool, true, false, cond, List, [], ◌∷◌, length, take, drop, get_or, refl, ap, arith}
 use Rattle.std.proofs.Common.{add-zero, ltb}
 use Rattle.std.specs.Prelude.{IsTrue, not, unwrap_or, Some, None}
 use Rattle.std.specs.List.{prefix_len, position, position_or_len}
 use Rattle.std.specs.Str.{IsCharBoundary}
 use Rattle.std.proofs.lemmas.Bool.{ltb-true, ltb-false}
 use Rattle.std.proofs.lemmas.Bool.Decides.{nat_tests}
-use Rattle.std.proofs.lemmas.List.{get_or-take, get_or-drop, length-drop}
+use Rattle.std.proofs.lemmas.List.{get_or-take, get_or-drop, length-drop, length-take-le}
 use Rattle.std.proofs.lemmas.List.Elements.{recursion_from_All}
-use Rattle.std.proofs.lemmas.List.Folds.{length-prefix_len}
 use Rattle.std.proofs.lemmas.List.Sums.{prefix_len_passes, prefix_len_stops, prefix_len-le-length}
 use Rattle.std.proofs.lemmas.Str.{IsCharBoundary-before_ascii, IsCharBoundary-end}
 use Rattle.ijson_json.specs.Strings.{is_unescaped}
 use Rattle.ijson_json.specs.private.Reading.{Past}
 use Rattle.ijson_json.proofs.scanning.Prefixes.{Run}
 
+-- up to the end of the longest run each byte passes
+pub run_before : (p : ℕ → Bool) (xs : List ℕ) (n : ℕ) → n ≤ prefix_len p xs → Run p (take n xs)
+run_before p xs n few = recursion_from_All (λ b. IsTrue (p b)) _ (λ k d h.
+    let below : k < n = omega (arith, length-take-le n xs (omega (arith, few, prefix_len-le-length p xs)), h) in
+    rw (get_or-take n xs k d below) (prefix_len_passes p xs k d (omega (arith, few))))
+
 -- the longest run passes, and stops where a byte does not
 pub run_passes : (p : ℕ → Bool) (xs : List ℕ) → Run p (take (prefix_len p xs) xs)
-run_passes p xs = recursion_from_All (λ b. IsTrue (p b)) _ (λ k d h.
-    let below : k < prefix_len p xs = omega (arith, length-prefix_len p xs, h) in
-    rw (get_or-take (prefix_len p xs) xs k d below) (prefix_len_passes p xs k d below))
+run_passes p xs = run_before p xs (prefix_len p xs) (omega arith)
 
 -- a text whose first byte fails is past the test
 past_at_first : (p : ℕ → Bool) (xs : List ℕ) → (0 < length xs → p (get_or xs 0 0) ≡ false) → Past p xs

@@ -128,12 +128,6 @@ abbrev pub ReadAs : ℕ → List ℕ → Tree → List ℕ → Type 0
 ReadAs opened text tree rest =
     (written : Tree) × IsRead opened text written rest × (tree ≡ settled written)
 
-abbrev pub MemberAs : ℕ → List ℕ → List ℕ → Tree → List ℕ → Type 0
-MemberAs opened text key tree rest =
-    (written : Tree)
-    × Found (List ℕ × Tree) (λ m text. Pair m text) (λ m. m.1) opened text (key, written) rest
-    × (tree ≡ settled written)
-
 abbrev pub IsTooDeep : ℕ → List ℕ → Type 0
 IsTooDeep opened text =
     IsBeyond (λ t. max_depth < opened + depth t) (λ t. opened + depth t ≡ max_depth + 1) text

@@ -2,11 +2,9 @@
 
 ghost use Rattle.std.specs.Prelude.{◌≡◌, ◌≢◌, ◌⊎◌, ◌∷◌, ◌<◌, ◌≤◌, length, MatchResult, IfOk, OnOk, IsTrue, IsFalse};
 ghost use Rattle.ijson_json.specs.Limits.{max_depth};
-ghost use Rattle.ijson_json.specs.private.Reading.{MemberAs};
 ghost use Rattle.ijson_json.specs.AddsOnlyRead.{AddsOnlyRead};
-ghost use Rattle.ijson_json.specs.AreShared.{IsShared, AreShared};
+ghost use Rattle.ijson_json.specs.AreShared.{AreShared};
 ghost use Rattle.ijson_json.specs.private.AnswersAt.{AnswersAt};
-ghost use Rattle.ijson_json.specs.private.Explains.{ExplainsMember};
 ghost use Rattle.ijson_json.specs.declared.fault.Fault.TheVariants.{TooDeep};
 
 use crate::fault::Fault;
@@ -16,7 +14,7 @@ use crate::read::separator::Separator;
 use crate::read::string::read_key;
 use crate::scan::prefix::{split_ascii, strip_byte};
 use crate::scan::space::skip_space;
-use ijson_string::{IString, StringCache};
+use ijson_string::StringCache;
 use ijson_value::array::IArray;
 use ijson_value::object::IObject;
 use ijson_value::value::IValue;
@@ -164,7 +162,8 @@ fn read_object<'a, S: BuildHasher>(
     }
     let base = scratch.members.len();
     loop {
-        let (key, value, after) = read_member(alloc, cache, scratch, rest, opened + 1)?;
+        let (key, start) = read_key(cache, &mut scratch.content, rest)?;
+        let (value, after) = read_value(alloc, cache, scratch, start, opened + 1)?;
         match push_read(&mut scratch.members, (key, value), after, b'}')? {
             Separator::Comma(next) => rest = next,
             Separator::End(behind) => {
@@ -173,27 +172,4 @@ fn read_object<'a, S: BuildHasher>(
             }
         }
     }
-}
-
-/// A key, `:` and a value.
-#[cycle(read)]
-fn read_member<'a, S: BuildHasher>(
-    alloc: Global,
-    cache: &mut StringCache<S>,
-    scratch: &mut Scratch,
-    text: &'a str,
-    opened: usize,
-) -> Result<(IString, IValue, &'a str), Fault>
-    requires { opened ≤ max_depth }
-    ensures read { MatchResult result
-        (λ x. MemberAs opened text.now x.0 x.1.tree x.2.now)
-        (λ fault. ExplainsMember opened text.now fault) }
-    ensures cache { AddsOnlyRead text.now cache.old cache.new }
-    ensures kept { OnOk result ((scratch.new.values.items ≡ scratch.old.values.items)
-        × (scratch.new.members.items ≡ scratch.old.members.items)) }
-    ensures shared { IfOk result (λ x. IsShared cache.new x.0 × AreShared cache.new x.1.tree) }
-{
-    let (key, start) = read_key(cache, &mut scratch.content, text)?;
-    let (value, rest) = read_value(alloc, cache, scratch, start, opened)?;
-    Ok((key, value, rest))
 }

@@ -1,6 +1,6 @@
 //! Runs of a string's bytes that stand for themselves.
 
-ghost use Rattle.std.specs.Prelude.{◌≡◌, ◌+◌, ◌*◌, ◌^◌, ◌<◌, ◌≤◌, ◌++◌, ℕ, List, IfOk, IsTrue, drop, length, map, not, take};
+ghost use Rattle.std.specs.Prelude.{◌≡◌, ◌+◌, ◌*◌, ◌^◌, ◌<◌, ◌≤◌, ◌++◌, ℕ, List, IfOk, IsTrue, ◌↔◌, drop, length, map, not, take};
 ghost use Rattle.std.specs.List.{AllByRecursion, position, prefix_len};
 ghost use Rattle.std.specs.Simd.Lanes.{mask_l};
 ghost use Rattle.std.specs.Str.{IsCharBoundary};
@@ -76,6 +76,20 @@ fn last_run_end(bytes: &[u8], start: usize) -> usize
     } else {
         start + run_by_bytes(&bytes[start..])
     }
+}
+
+/// Whether the first bytes of the row that a short text lies in, so many, all stand for themselves. Their count lies before them in
+/// memory and is tested with them, since the eight are one word.
+#[inline(always)]
+pub(crate) fn begins_unescaped(row: &str, count: u8) -> bool
+    requires { length row.now ≡ 7 }
+    ensures { IsTrue result ↔ count ≤ prefix_len is_unescaped row.now }
+{
+    let &[a, b, c, d, e, f, g] = row.as_bytes() else {
+        return false;
+    };
+    let found = specials_and_end(u8x8::from_array([count, a, b, c, d, e, f, g]));
+    u32::from(count) <= (found >> 1).trailing_zeros()
 }
 
 /// Where the run that begins at `start` ends, 16 bytes at a time.

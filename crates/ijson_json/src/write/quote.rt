@@ -9,7 +9,8 @@ ghost use Rattle.ijson_json.specs.Separator.{separator};
 ghost use Rattle.ijson_json.specs.WritesBeginning.{WritesBeginning};
 
 use crate::scan::prefix::split_ascii;
-use crate::scan::run::split_run_at;
+use crate::scan::run::{begins_unescaped, split_run_at};
+use ijson_string::IString;
 use std::alloc::AllocError;
 
 /// A digit below sixteen, in lower case.
@@ -96,6 +97,46 @@ fn push_opening(out: &mut String, is_first: bool) -> Result<(), AllocError>
         return out.push('"');
     }
     out.push_str(",\"")
+}
+
+/// Appends the text between quotes, as `push_quoted` does.
+pub(crate) fn push_string(out: &mut String, text: &IString) -> Result<(), AllocError>
+    ensures { OnOk result (string_bytes out.new ≡ string_bytes out.old ++ quoted text.now) }
+{
+    out.push('"')?;
+    push_text(out, text, "\"")
+}
+
+/// Appends what stands before the value of a member, as `push_key` does.
+#[inline(always)]
+pub(crate) fn push_member_key(
+    out: &mut String,
+    key: &IString,
+    is_first: bool,
+) -> Result<(), AllocError>
+    ensures { OnOk result (string_bytes out.new ≡ string_bytes out.old ++ key_text is_first key.now) }
+{
+    push_opening(out, is_first)?;
+    push_text(out, key, "\":")
+}
+
+/// Appends the text with its escapes, and what ends it. Most keys are short and have no escape. Of such a text all the row that it lies
+/// in is appended, and what is behind it cut off: a copy whose size is not known where this is compiled is a call, which branches on
+/// the size.
+#[inline(always)]
+fn push_text(out: &mut String, text: &IString, end: &str) -> Result<(), AllocError>
+    requires { end.now ≢ [] }
+    ensures { OnOk result (string_bytes out.new ≡ string_bytes out.old ++ (all_escaped text.now ++ end.now)) }
+{
+    if let Some((count, row)) = text.in_place() {
+        if begins_unescaped(row, count) {
+            let text_end = out.len() + usize::from(count);
+            out.push_str(row)?;
+            out.truncate(text_end);
+            return out.push_str(end);
+        }
+    }
+    push_escaped(out, text.as_str(), end)
 }
 
 /// Appends the text with its escapes, and what ends it.

@@ -1,4 +1,4 @@
-use Rattle.std.proofs.Common.{◌≡◌, ◌⊎◌, inl, inr, length, List, [], ◌∷◌, ◌++◌, ℕ, ap, subst, sym, refl, ◌∙◌, arith, rules, map}
+use Rattle.std.proofs.Common.{◌≡◌, ◌⊎◌, inl, inr, length, List, [], ◌∷◌, ◌++◌, ◌+◌, ℕ, ap, subst, sym, refl, ◌∙◌, arith, rules, map}
 use Rattle.std.proofs.lemmas.Grind.{common_steps}
 use Rattle.std.proofs.lemmas.Result.{err_from_is_err_and}
 use Rattle.ijson_table.specs.Store.{put_each}
@@ -126,64 +126,57 @@ read_object-returns-in_err-key-clause-read g t c =
     let p = err_from_is_err_and c.from_residual.result c.from_residual.ensures.1 in
     let i = c.loop-key.invariant.read in
     rw (p.1, p.2) (element_fault (List ℕ × Tree) members_shape objects c.args.opened (123 ∷ c.args.inside.now) c.loop-key.rest.now
-    i.written c.in_err-key.field-0.0 i.reached c.in_err-key.ensures.read)
+    i.written c.in_err-key.field-0.0 i.reached (c.in_err-key.ensures.read (c.args.opened + 1)))
+
+pub read_object-returns-in_err-value-clause-read : goal.read_object-returns-in_err-value-clause-read
+read_object-returns-in_err-value-clause-read g t c =
+    let p = err_from_is_err_and c.from_residual-in_err-value.result c.from_residual-in_err-value.ensures.1 in
+    let i = c.loop-key.invariant.read in
+    let fault = c.in_err-value.field-0.0 in
+    rw (p.1, p.2) (element_fault (List ℕ × Tree) members_shape objects c.args.opened (123 ∷ c.args.inside.now) c.loop-key.rest.now
+    i.written fault i.reached (member_fault (c.args.opened + 1) fault c.in_ok-key.ensures.read c.in_err-value.ensures.read))
 
 pub read_object-returns-in_err-next-clause-read : goal.read_object-returns-in_err-next-clause-read
 read_object-returns-in_err-next-clause-read g t c =
     let p = err_from_is_err_and c.from_residual-in_err-next.result c.from_residual-in_err-next.ensures.1 in
     let i = c.loop-key.invariant.read in
-    let value = c.in_ok-key.ensures.read in
+    let value = c.in_ok-value.ensures.read in
     rw (p.1, p.2) (push_fault (List ℕ × Tree) members_shape objects c.args.opened (123 ∷ c.args.inside.now) c.loop-key.rest.now
-    c.in_ok-key.after.now i.written (c.in_ok-key.key, value.0) c.in_err-next.field-0.0 i.reached value.1 c.in_err-next.ensures.fault)
+    c.in_ok-value.after.now i.written (c.in_ok-key.key, value.0) c.in_err-next.field-0.0 i.reached
+    (member_read c.in_ok-key.ensures.read value.1) c.in_err-next.ensures.fault)
 
 pub read_object-loop-key-preserved : goal.read_object-loop-key-preserved
 read_object-loop-key-preserved g t c =
-    let value = c.in_ok-key.ensures.read in
+    let value = c.in_ok-value.ensures.read in
     let key = c.in_ok-key.key in
-    let comma = subst (λ (s : Separator). SeparatorAt 125 c.in_ok-key.after.now s) c.in-Comma.is c.in_ok-next.ensures.separator in
+    let comma = subst (λ (s : Separator). SeparatorAt 125 c.in_ok-value.after.now s) c.in-Comma.is c.in_ok-next.ensures.separator in
     record {
-      read = gathered_more c.loop-key.invariant.read (key, c.in_ok-key.value) (key, value.0) c.in_ok-key.after.now c.in-Comma.next.now
-          c.read_member.new.scratch.members.items c.push_read.new.stack.items c.read_member.new.cache value.1 (refl, value.2) comma
-          c.in_ok-key.ensures.kept.1 c.in_ok-next.ensures.pushed c.read_member.ensures.cache c.in_ok-key.ensures.shared;
-      values = c.in_ok-key.ensures.kept.0 ∙ c.loop-key.invariant.values;
+      read = gathered_more c.loop-key.invariant.read (key, c.in_ok-value.value) (key, value.0) c.in_ok-value.after.now c.in-Comma.next.now
+          c.read_value.new.scratch.members.items c.push_read.new.stack.items c.read_value.new.cache
+          (member_read c.in_ok-key.ensures.read value.1) (refl, value.2) comma c.in_ok-value.ensures.kept.1 c.in_ok-next.ensures.pushed
+          (adds_behind_key c.in_ok-key.ensures.read c.read_key.ensures.cache c.read_value.ensures.cache) (
+            shared_more c.in_ok-key.start.now c.read_key.new.cache c.read_value.new.cache key c.read_value.ensures.cache
+                c.in_ok-key.ensures.shared,
+            c.in_ok-value.ensures.shared,
+          );
+      values = c.in_ok-value.ensures.kept.0 ∙ c.loop-key.invariant.values;
       utf8 = search rules;
     }
 
 pub read_object-returns-in-End-clause-read : goal.read_object-returns-in-End-clause-read
 read_object-returns-in-End-clause-read g t c =
     let i = c.loop-key.invariant.read in
-    let value = c.in_ok-key.ensures.read in
+    let value = c.in_ok-value.ensures.read in
     let key = c.in_ok-key.key in
-    let end = subst (λ (s : Separator). SeparatorAt 125 c.in_ok-key.after.now s) c.in-End.is c.in_ok-next.ensures.separator in
-    let taken = gathered_taken i (key, c.in_ok-key.value) c.read_member.new.scratch.members.items c.push_read.new.stack.items _
-    c.len-base.result c.in_ok-key.ensures.kept.1 c.in_ok-next.ensures.pushed
+    let end = subst (λ (s : Separator). SeparatorAt 125 c.in_ok-value.after.now s) c.in-End.is c.in_ok-next.ensures.separator in
+    let taken = gathered_taken i (key, c.in_ok-value.value) c.read_value.new.scratch.members.items c.push_read.new.stack.items _
+    c.len-base.result c.in_ok-value.ensures.kept.1 c.in_ok-next.ensures.pushed
     (c.len-base.ensures ∙ c.args.scratch.now.members.ok.0) refl in (
       object (members_of (i.written ++ (key, value.0) ∷ [])),
-      gathered_end i (key, value.0) c.in_ok-key.after.now c.in-End.behind.now value.1 end,
+      gathered_end i (key, value.0) c.in_ok-value.after.now c.in-End.behind.now (member_read c.in_ok-key.ensures.read value.1) end,
       ap (λ (v : WellFormed). v.tree) c.from-in-End.ensures
           ∙ ap (λ ps. object (members_of ps)) (ap (map pair_tree) (c.in_ok-object-in-End.ensures.members ∙ ap (put_each []) taken)
-          ∙ kept_members.push i.kept i.written (key, c.in_ok-key.value) (key, value.0) (refl, value.2) i.are),
-    )
-
--- ---- a member
-pub read_member-returns-in_err-key-clause-read : goal.read_member-returns-in_err-key-clause-read
-read_member-returns-in_err-key-clause-read g t c =
-    let p = err_from_is_err_and c.from_residual.result c.from_residual.ensures.1 in
-    rw (p.1, p.2) (c.in_err-key.ensures.read c.args.opened)
-
-pub read_member-returns-in_err-value-clause-read : goal.read_member-returns-in_err-value-clause-read
-read_member-returns-in_err-value-clause-read g t c =
-    let p = err_from_is_err_and c.from_residual-in_err-value.result c.from_residual-in_err-value.ensures.1 in
-    rw (p.1, p.2) (member_fault c.args.opened c.in_ok-key.key c.args.text.now c.in_ok-key.start.now c.in_err-value.field-0.0
-    c.in_ok-key.ensures.read c.in_err-value.ensures.read)
-
-pub read_member-returns-clause-read : goal.read_member-returns-clause-read
-read_member-returns-clause-read g t c =
-    let value = c.in_ok-value.ensures.read in (
-      value.0,
-      member_read c.args.opened c.in_ok-key.key c.args.text.now c.in_ok-key.start.now value.0 c.in_ok-value.rest.now
-          c.in_ok-key.ensures.read value.1,
-      value.2,
+          ∙ kept_members.push i.kept i.written (key, c.in_ok-value.value) (key, value.0) (refl, value.2) i.are),
     )
 
 -- ---- the cache
@@ -200,16 +193,23 @@ pub read_array-returns-in_err-next-clause-cache : goal.read_array-returns-in_err
 read_array-returns-in_err-next-clause-cache g t c = gathered_adds c.loop-item.invariant.read c.read_value.ensures.cache
 
 pub read_object-returns-in_err-key-clause-cache : goal.read_object-returns-in_err-key-clause-cache
-read_object-returns-in_err-key-clause-cache g t c = gathered_adds c.loop-key.invariant.read c.read_member.ensures.cache
+read_object-returns-in_err-key-clause-cache g t c = gathered_adds c.loop-key.invariant.read c.read_key.ensures.cache
+
+pub read_object-returns-in_err-value-clause-cache : goal.read_object-returns-in_err-value-clause-cache
+read_object-returns-in_err-value-clause-cache g t c = gathered_adds c.loop-key.invariant.read
+    (adds_behind_key c.in_ok-key.ensures.read c.read_key.ensures.cache c.read_value.ensures.cache)
 
 pub read_object-returns-in_err-object-in-End-clause-cache : goal.read_object-returns-in_err-object-in-End-clause-cache
-read_object-returns-in_err-object-in-End-clause-cache g t c = gathered_adds c.loop-key.invariant.read c.read_member.ensures.cache
+read_object-returns-in_err-object-in-End-clause-cache g t c = gathered_adds c.loop-key.invariant.read
+    (adds_behind_key c.in_ok-key.ensures.read c.read_key.ensures.cache c.read_value.ensures.cache)
 
 pub read_object-returns-in-End-clause-cache : goal.read_object-returns-in-End-clause-cache
-read_object-returns-in-End-clause-cache g t c = gathered_adds c.loop-key.invariant.read c.read_member.ensures.cache
+read_object-returns-in-End-clause-cache g t c = gathered_adds c.loop-key.invariant.read
+    (adds_behind_key c.in_ok-key.ensures.read c.read_key.ensures.cache c.read_value.ensures.cache)
 
 pub read_object-returns-in_err-next-clause-cache : goal.read_object-returns-in_err-next-clause-cache
-read_object-returns-in_err-next-clause-cache g t c = gathered_adds c.loop-key.invariant.read c.read_member.ensures.cache
+read_object-returns-in_err-next-clause-cache g t c = gathered_adds c.loop-key.invariant.read
+    (adds_behind_key c.in_ok-key.ensures.read c.read_key.ensures.cache c.read_value.ensures.cache)
 
 pub read_array-returns-in-End-clause-shared : goal.read_array-returns-in-End-clause-shared
 read_array-returns-in-End-clause-shared g t c =
@@ -221,30 +221,17 @@ read_array-returns-in-End-clause-shared g t c =
 
 pub read_object-returns-in-End-clause-shared : goal.read_object-returns-in-End-clause-shared
 read_object-returns-in-End-clause-shared g t c =
-    subst (λ (v : WellFormed). AreShared c.read_member.new.cache v.tree) (sym c.from-in-End.ensures)
-    (subst (λ (ps : List (List ℕ × WellFormed)). MembersAreShared c.read_member.new.cache (pair_trees ps))
+    subst (λ (v : WellFormed). AreShared c.read_value.new.cache v.tree) (sym c.from-in-End.ensures)
+    (subst (λ (ps : List (List ℕ × WellFormed)). MembersAreShared c.read_value.new.cache (pair_trees ps))
     (sym c.in_ok-object-in-End.ensures.members)
-    (gathered_shared c.loop-key.invariant.read (c.in_ok-key.key, c.in_ok-key.value) c.read_member.new.scratch.members.items
-    c.push_read.new.stack.items _ c.len-base.result c.read_member.new.cache c.in_ok-key.ensures.kept.1 c.in_ok-next.ensures.pushed
-    (c.len-base.ensures ∙ c.args.scratch.now.members.ok.0) refl c.read_member.ensures.cache c.in_ok-key.ensures.shared))
-
-pub read_member-returns-clause-shared : goal.read_member-returns-clause-shared
-read_member-returns-clause-shared g t c = (
-  shared_more c.in_ok-key.start.now c.read_key.new.cache c.read_value.new.cache c.in_ok-key.key c.read_value.ensures.cache
-      c.in_ok-key.ensures.shared,
-  c.in_ok-value.ensures.shared,
-)
-
--- a key and its value add what each of them does
-pub read_member-returns-in_err-value-clause-cache : goal.read_member-returns-in_err-value-clause-cache
-read_member-returns-in_err-value-clause-cache g t c = adds_behind_key c.in_ok-key.key c.args.text.now c.in_ok-key.start.now
-    c.args.cache.now c.read_key.new.cache c.read_value.new.cache c.in_ok-key.ensures.read c.read_key.ensures.cache
-    c.read_value.ensures.cache
-
-pub read_member-returns-clause-cache : goal.read_member-returns-clause-cache
-read_member-returns-clause-cache g t c = adds_behind_key c.in_ok-key.key c.args.text.now c.in_ok-key.start.now
-    c.args.cache.now c.read_key.new.cache c.read_value.new.cache c.in_ok-key.ensures.read c.read_key.ensures.cache
-    c.read_value.ensures.cache
+    (gathered_shared c.loop-key.invariant.read (c.in_ok-key.key, c.in_ok-value.value) c.read_value.new.scratch.members.items
+    c.push_read.new.stack.items _ c.len-base.result c.read_value.new.cache c.in_ok-value.ensures.kept.1 c.in_ok-next.ensures.pushed
+    (c.len-base.ensures ∙ c.args.scratch.now.members.ok.0) refl
+    (adds_behind_key c.in_ok-key.ensures.read c.read_key.ensures.cache c.read_value.ensures.cache) (
+      shared_more c.in_ok-key.start.now c.read_key.new.cache c.read_value.new.cache c.in_ok-key.key c.read_value.ensures.cache
+          c.in_ok-key.ensures.shared,
+      c.in_ok-value.ensures.shared,
+    )))
 
 -- ---- the scratch
 pub read_array-returns-in-End-clause-kept : goal.read_array-returns-in-End-clause-kept
@@ -257,9 +244,9 @@ read_array-returns-in-End-clause-kept g t c = (
 
 pub read_object-returns-in-End-clause-kept : goal.read_object-returns-in-End-clause-kept
 read_object-returns-in-End-clause-kept g t c = (
-  c.in_ok-key.ensures.kept.0 ∙ c.loop-key.invariant.values,
-  gathered_left c.loop-key.invariant.read (c.in_ok-key.key, c.in_ok-key.value) c.read_member.new.scratch.members.items
-      c.push_read.new.stack.items _ c.len-base.result c.in_ok-key.ensures.kept.1 c.in_ok-next.ensures.pushed
+  c.in_ok-value.ensures.kept.0 ∙ c.loop-key.invariant.values,
+  gathered_left c.loop-key.invariant.read (c.in_ok-key.key, c.in_ok-value.value) c.read_value.new.scratch.members.items
+      c.push_read.new.stack.items _ c.len-base.result c.in_ok-value.ensures.kept.1 c.in_ok-next.ensures.pushed
       (c.len-base.ensures ∙ c.args.scratch.now.members.ok.0) c.in_ok-object-in-End.ensures.stack,
 )
 

@@ -15,9 +15,6 @@ decreases-read_array g l = 4 * (max_depth - l.opened)
 abbrev pub decreases-read_object : goal.decreases-read_object
 decreases-read_object g l = 4 * (max_depth - l.opened)
 
-abbrev pub decreases-read_member : goal.decreases-read_member
-decreases-read_member g l = 4 * (max_depth - l.opened) + 3
-
 abbrev pub decreases-read_value : goal.decreases-read_value
 decreases-read_value g l = 4 * (max_depth - l.opened) + 2
 
