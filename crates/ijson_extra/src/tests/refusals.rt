@@ -344,7 +344,7 @@ fn full_text(rt: &impl Abort, alloc: Global) -> String {
     text
 }
 
-/// What a text stands for, of which a part of another text is made.
+/// A part that is put behind a text, by the call that puts it.
 #[derive(Clone, Copy)]
 enum Part {
     Separator,
