@@ -102,9 +102,10 @@ impl INumber {
         Ok(number)
     }
 
-    /// The number that the text begins with, and how many bytes spell it, in one pass over them. It has at most 19 digits, no
-    /// exponent or one of at most four digits, and no digit or letter stands behind it. Of `1.5.5` that is `1.5`; `1.` begins with
-    /// none. Else None may be answered, and `from_str` reads what stands there. Memory is taken as there.
+    /// The number that the text begins with, and how many bytes spell it, in one pass over them. It has at most 19 digits, among
+    /// which a single zero before the point does not count, no exponent or one of at most four digits, and no digit or letter stands
+    /// behind it. Of `1.5.5` that is `1.5`; `1.` begins with none. Else None may be answered, and `from_str` reads what stands there.
+    /// Memory is taken as there.
     #[inline(always)]
     pub fn at_front(alloc: Global, text: &str) -> Result<Option<(INumber, usize)>, AllocError>
         ensures found { IfOk result (λ found. IfSome found (λ f.

@@ -1,11 +1,11 @@
 -- A text has at most one plain number at its front.
-use Rattle.std.proofs.Common.{◌≡◌, ℕ, ◌-◌, ◌<◌, ◌≤◌, Bool, true, false, List, [], ◌∷◌, ◌++◌, length}
+use Rattle.std.proofs.Common.{◌≡◌, ◌≢◌, ◌⊎◌, ℕ, ◌+◌, ◌-◌, ◌<◌, ◌≤◌, Bool, true, false, List, [], ◌∷◌, ◌++◌, length}
 use Rattle.std.proofs.Common.{take, drop, ltb, refl, sym, ap, ◌∙◌, inl, inr, arith}
 use Rattle.std.specs.Char.{is_ascii_alphanumeric}
-use Rattle.std.proofs.lemmas.Bool.{ltb-true, ltb-false}
+use Rattle.std.proofs.lemmas.Bool.{cases_eq, ltb-true, ltb-false}
 use Rattle.std.proofs.lemmas.Bool.Decides.{nat_tests}
 use Rattle.std.proofs.lemmas.List.{take-append-drop}
-use Rattle.ijson_number.specs.Grammar.{AllDigits, IsDigit, IsDigits, IsFraction, IsWhole, Parts}
+use Rattle.ijson_number.specs.Grammar.{AllDigits, IsDigit, IsDigits, IsFraction, Parts, value}
 use Rattle.ijson_number.specs.DigitFront.{EndsDigits, IsDigitFront}
 use Rattle.ijson_number.specs.PlainFront.{GoesOnWithNone}
 use Rattle.ijson_number.specs.private.Prefix.{IsPlainTail}
@@ -86,24 +86,43 @@ plain_unsigned t u n p rest h f =
     ] in
     (sign_one t u r n p.negative h s).1
 
--- the digits that are taken in front are the whole part, and its fraction, or none, stands behind them
-pub plain_parts : (t u a x : List ℕ) (n : Bool) (p : Parts) (rest : List ℕ) (count : ℕ) → IsSignTaken t n u → a ≡ take count u
+-- so many digits may stand in front
+few_in_front : (p : Parts) → (length p.whole + length p.fraction ≤ 19) ⊎ ((p.whole ≡ 48 ∷ []) × (length p.fraction ≤ 19))
+    → length p.whole ≤ 19
+few_in_front p (inl few) = omega (arith, few)
+few_in_front p (inr zero) = rw zero.0 (omega arith)
+
+-- and so many behind them
+few_behind : (p : Parts) (count most : ℕ) → (value p.whole ≡ 0 → most ≡ 19) → (value p.whole ≢ 0 → most ≡ 19 - count)
+    → length p.whole ≡ count → (length p.whole + length p.fraction ≤ 19) ⊎ ((p.whole ≡ 48 ∷ []) × (length p.fraction ≤ 19))
+    → length p.fraction ≤ most
+few_behind p count most zero others long few = elim (cases_eq (value p.whole) 0) [
+  | inl none ↦ (let all = zero none in elim few [ inl few ↦ omega (arith, few, all) | inr few ↦ omega (arith, few.1, all) ])
+  | inr some ↦ (let rest = others some in elim few [
+    | inl few ↦ omega (arith, few, rest, long)
+    | inr few ↦ absurd (some (ap value few.0))
+  ])
+]
+
+-- the digits that are taken in front are the whole part,
+pub whole_taken : (t u a x : List ℕ) (n : Bool) (p : Parts) (rest : List ℕ) (count : ℕ) → IsSignTaken t n u → a ≡ take count u
     → x ≡ drop count u → length a ≡ count → AllDigits (take count u) → (count < 19 → BeginsWithNoDigit (drop count u))
-    → (f : IsDigitFront t p rest) → IsWhole a × IsPlainTail (19 - count) x f.fraction_text rest
-plain_parts t u a x n p rest count h is behind c d l f =
-    let few = f.few in
-    let w : length p.whole ≤ 19 = omega (arith, few) in
+    → (f : IsDigitFront t p rest) → (a ≡ p.whole) × (x ≡ f.fraction_text ++ rest)
+whole_taken t u a x n p rest count h is behind c d l f =
     let e : a ++ x ≡ p.whole ++ (f.fraction_text ++ rest) = rw (is, behind) (take-append-drop count u) ∙ plain_unsigned t u n p rest h f in
-    let r = same_run 19 a p.whole x (f.fraction_text ++ rest) (rw is d) (whole_all p.whole f.whole)
-    (λ m. rw behind (l (omega (arith, c, m)))) (behind_begins f.fraction_text p.fraction rest f.has_point f.fraction f.ends) w e in
-    let same : length p.whole ≡ count = ap length (sym r.0) ∙ c in (
-      rw r.0 f.whole,
-      record {
-        digits = p.fraction;
-        has_point = f.has_point;
-        text_is = r.1;
-        fraction = f.fraction;
-        few = omega (arith, few, same);
-        ends = f.ends;
-      },
-    )
+    same_run 19 a p.whole x (f.fraction_text ++ rest) (rw is d) (whole_all p.whole f.whole)
+    (λ m. rw behind (l (omega (arith, c, m)))) (behind_begins f.fraction_text p.fraction rest f.has_point f.fraction f.ends)
+    (few_in_front p f.few) e
+
+-- and its fraction, or none, stands behind them
+pub plain_tail : (t : List ℕ) (a x : List ℕ) (p : Parts) (rest : List ℕ) (count most : ℕ) → length a ≡ count
+    → (value a ≡ 0 → most ≡ 19) → (value a ≢ 0 → most ≡ 19 - count)
+    → (f : IsDigitFront t p rest) → (a ≡ p.whole) × (x ≡ f.fraction_text ++ rest) → IsPlainTail most x f.fraction_text rest
+plain_tail t a x p rest count most c zero others f r = record {
+  digits = p.fraction;
+  has_point = f.has_point;
+  text_is = r.1;
+  fraction = f.fraction;
+  few = few_behind p count most (rw r.0 at zero) (rw r.0 at others) (ap length (sym r.0) ∙ c) f.few;
+  ends = f.ends;
+}

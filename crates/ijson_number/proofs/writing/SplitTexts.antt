@@ -1,6 +1,6 @@
 -- The text of digits with the point between them.
 use Rattle.std.proofs.Common.{◌≡◌, ℕ, ◌-◌, ◌<◌, Bool, true, false, List, ◌∷◌, ◌++◌, length, take, drop, ap, refl, ◌∙◌, append_assoc, arith}
-use Rattle.std.specs.Prelude.{ℤ, pos, negsuc, neg_ℤ, nat_abs, int_le, int_lt, ◌<ℤ◌, ◌+ℤ◌, ◌-ℤ◌, ◌||◌, ◌^◌}
+use Rattle.std.specs.Prelude.{ℤ, pos, negsuc, neg_ℤ, nat_abs, int_le, int_lt, ◌<ℤ◌, ◌≤ℤ◌, ◌+ℤ◌, ◌-ℤ◌, ◌||◌, ◌^◌}
 use Rattle.std.specs.Fmt.{signed_decimal}
 use Rattle.std.specs.List.{All}
 use Rattle.std.proofs.lemmas.Int.{ints}
@@ -9,14 +9,14 @@ use Rattle.std.proofs.lemmas.List.Elements.{All-take, All-drop}
 use Rattle.std.proofs.lemmas.Str.{IsAscii-append}
 use Rattle.std.proofs.lemmas.Str.Ascii.{IsAscii-cons}
 use Rattle.std.specs.Str.{IsAscii}
-use Rattle.ijson_number.specs.Text.{digits_text, minus_text, num_text, point_text, shape_text}
+use Rattle.ijson_number.specs.Text.{digits_text, minus_text, num_text, point_text, shape_text, zeros_text}
 use Rattle.ijson_number.specs.private.SplitText.{split_text}
 use Rattle.ijson_number.specs.StoredNumber.{stored_number}
 use Rattle.ijson_number.specs.private.Stripped.{IsStripped}
 use Rattle.ijson_number.specs.private.WordText.{integer_text}
 use Rattle.ijson_number.proofs.writing.AsciiTexts.{digits_text_ascii, sign_ascii}
-use Rattle.ijson_number.proofs.writing.Writing.{left, float_shape_is, more_digits, stored_text}
-use Rattle.ijson_number.proofs.BooleanTests.{not_le, not_lt}
+use Rattle.ijson_number.proofs.writing.Writing.{left, float_shape_is, more_digits, stored_text, taken}
+use Rattle.ijson_number.proofs.BooleanTests.{le_test, not_le, not_lt}
 
 pub below_zero : (e x : ℤ) → x ≡ e → int_le (pos 0) x ≡ false → e <ℤ pos 0
 below_zero e x same test = grind (arith, ints)
@@ -36,6 +36,17 @@ row_shown negative ds e point k s p below is inside =
     (pos (length ds - k)) = left (int_le (pos (length ds)) (pos (length ds - k))) _ _ not_behind
     ∙ left (int_le (pos (length ds - k)) (pos 0)) _ _ not_front in
     ap (λ x. minus_text negative ++ x) (split ∙ shape) ∙ stored_text negative ds e point s (omega arith)
+
+-- the point stands before all digits, and so few zeros between it and them that no exponent is written
+pub fraction_shown : (negative : Bool) (ds : List ℕ) (e : ℤ) (point : Bool) (p : ℤ) → IsStripped ds → point ≡ true → 0 < length ds
+    → p ≡ pos (length ds) +ℤ e → p ≤ℤ pos 0 → int_le p (negsuc 5) || int_lt (pos 20) e ≡ false
+    → minus_text negative ++ (48 ∷ 46 ∷ zeros_text (nat_abs p) ++ digits_text ds) ≡ num_text (stored_number negative ds e point)
+fraction_shown negative ds e point p s is some place front not_scientific =
+    let pointed : 48 ∷ 46 ∷ zeros_text (nat_abs p) ++ digits_text ds ≡ point_text ds p =
+    taken (int_le p (pos 0)) _ _ (le_test p (pos 0) front) in
+    let shape : 48 ∷ 46 ∷ zeros_text (nat_abs p) ++ digits_text ds ≡ shape_text point ds e =
+    pointed ∙ float_shape_is false point ds e p is place not_scientific in
+    ap (λ x. minus_text negative ++ x) shape ∙ stored_text negative ds e point s some
 
 -- a number whole or not as std writes it, by its sign
 signed_is : (z : ℤ) → integer_text (int_lt z (pos 0)) (nat_abs z) ≡ signed_decimal z

@@ -1,5 +1,5 @@
 //! A number of few digits at the front of a text, read in one pass.
-ghost use Rattle.std.specs.Prelude.{◌≡◌, ◌+◌, ◌*◌, ◌^◌, ◌<◌, ◌≤◌, List, ℕ, take, length, IfNone, IfSome, IsFalse, IsTrue};
+ghost use Rattle.std.specs.Prelude.{◌≡◌, ◌≢◌, ◌+◌, ◌-◌, ◌*◌, ◌^◌, ◌<◌, ◌≤◌, List, ℕ, take, length, IfNone, IfSome, IsFalse, IsTrue};
 ghost use Rattle.ijson_number.specs.Grammar.{Parts};
 ghost use Rattle.ijson_number.specs.DigitFront.{IsDigitFront};
 ghost use Rattle.ijson_number.specs.PlainFront.{GoesOnWithNone};
@@ -86,6 +86,21 @@ fn take_tail(number: u64, bytes: &[u8], most: usize) -> Option<(u64, usize, &[u8
     Some((number, 0, bytes))
 }
 
+/// How many digits are read behind the point: with those before it 19, among which a single zero does not count.
+#[inline(always)]
+fn places_left(number: u64, count: usize) -> usize
+    requires { count ≤ 19 }
+    ensures zero { number ≡ 0 → result ≡ 19 }
+    ensures others { number ≢ 0 → result ≡ 19 - count }
+    ensures most { result ≤ 19 }
+{
+    if number == 0 {
+        WORD_DIGITS
+    } else {
+        WORD_DIGITS - count
+    }
+}
+
 /// The number at the front of a text that has no exponent: what its digits write, how many of them stand behind the point, and
 /// how many bytes it has. There is a point where digits stand behind it.
 #[derive(Clone, Copy)]
@@ -110,7 +125,7 @@ pub fn read_mantissa(text: &[u8]) -> Option<(Prefix, &[u8])>
     if !is_whole(whole) {
         return None;
     }
-    let (magnitude, scale, rest) = take_tail(number, behind, WORD_DIGITS - count)?;
+    let (magnitude, scale, rest) = take_tail(number, behind, places_left(number, count))?;
     let prefix = Prefix {
         negative,
         magnitude,

@@ -8,7 +8,7 @@ use std::fmt::Debug;
 use std::process::Abort;
 
 /// Texts, the text that each is written as, and whether it has float shape.
-static ROWS: [(&str, &str, bool); 18] = [
+static ROWS: [(&str, &str, bool); 23] = [
     ("-0", "0", false),
     ("-0.0", "0.0", true),
     ("1.50", "1.5", true),
@@ -21,6 +21,15 @@ static ROWS: [(&str, &str, bool); 18] = [
     ("0.0000001", "1e-7", true),
     ("12e30", "1.2e31", true),
     ("441044444333116.125", "441044444333116.125", true),
+    ("0.84442185152504812", "0.84442185152504812", true),
+    ("-0.0012345678901234", "-0.0012345678901234", true),
+    ("-0.000012345678901234567", "-0.000012345678901234567", true),
+    (
+        "1234567890123456789e-24",
+        "0.000001234567890123456789",
+        true,
+    ),
+    ("1234567890123456789e-25", "1.234567890123456789e-7", true),
     ("-250", "-250", false),
     (
         "0.100000000000000000000000000000000000000000000000000",
@@ -271,8 +280,11 @@ fn faults(rt: HostRuntime) {
 }
 
 /// Texts, and how many bytes of each are read at the front.
-static FRONTS: [(&str, Option<usize>); 9] = [
+static FRONTS: [(&str, Option<usize>); 12] = [
     ("12", Some(2)),
+    ("1234567890123456789,", Some(19)),
+    ("-0.0012345678901234567,", Some(22)),
+    ("0.1234567890123456789e-5", Some(24)),
     ("-1.50]", Some(5)),
     ("1.5.5", Some(3)),
     ("1E-0007,2", Some(7)),

@@ -1,11 +1,11 @@
 //! Appends a number's text, 16 digits at a time.
-ghost use Rattle.std.specs.Prelude.{◌≡◌, ◌+◌, ◌-◌, ◌/◌, ◌%◌, ◌^◌, ◌<◌, ◌≤◌, ◌++◌, ◌||◌, drop, length, nat_abs, neg_ℤ, negsuc, pos};
+ghost use Rattle.std.specs.Prelude.{◌≡◌, ◌+◌, ◌-◌, ◌/◌, ◌%◌, ◌^◌, ◌<◌, ◌≤◌, ◌∷◌, ◌++◌, ◌||◌, drop, length, nat_abs, neg_ℤ, negsuc, pos};
 ghost use Rattle.std.specs.Prelude.{int_le, int_lt, true, false, ◌+ℤ◌, ◌<ℤ◌, ◌≤ℤ◌, IfOk, IsFalse, IsTrue, OnErr, OnOk};
 ghost use Rattle.std.specs.Fmt.{decimal};
 ghost use Rattle.std.specs.String.{string_bytes};
 ghost use Rattle.ijson_number.specs.AppendsBeginning.{AppendsBeginning};
 ghost use Rattle.ijson_number.specs.Form.{form_of, is_digits, packed};
-ghost use Rattle.ijson_number.specs.Text.{digits_text, minus_text, num_text};
+ghost use Rattle.ijson_number.specs.Text.{digits_text, minus_text, num_text, zeros_text};
 ghost use Rattle.ijson_number.specs.Stripped.{stripped_number};
 ghost use Rattle.ijson_number.specs.private.SplitText.{split_text};
 ghost use Rattle.ijson_number.specs.private.StrippedNumber.{decimal_of};
@@ -19,7 +19,8 @@ use crate::repr::stripped::StrippedNumber;
 use crate::write::digits::TEXT_BUFFER;
 use crate::write::display::is_scientific;
 use crate::write::lanes::{
-    LANES_END, SHORT_END, lanes_of, push_lanes, push_rows, push_short, zeros_in_front,
+    LANES_END, SHORT_END, lanes_of, push_lanes, push_leading_zeros, push_rows, push_short,
+    zeros_in_front,
 };
 use std::alloc::AllocError;
 use std::simd::prelude::*;
@@ -140,10 +141,28 @@ impl StrippedNumber<'_> {
         push_rows(self.negative, whole, 0, before, last, scale, out)
     }
 
-    /// Appends the number, where its text has an exponent and two to 17 digits. If these are no more than 16, `lanes` has them at its
-    /// end. Where it tells `false` it appended nothing. It stays a call, as `push_digits` does.
+    /// Appends the minus, if there is one, and `0.` with so many zeros and the digits behind it. If these are no more than 16, `lanes`
+    /// has them at its end.
+    #[inline(always)]
+    fn push_fraction(&self, lanes: u8x16, zeros: usize, out: &mut String) -> Result<(), AllocError>
+        requires all { length lanes ≡ 16 }
+        requires lanes { length self.now.digits.now ≤ 16
+            → drop (16 - length self.now.digits.now) lanes ≡ digits_text self.now.digits.now }
+        requires zeros { zeros ≤ 5 }
+        ensures written { OnOk result (string_bytes out.new ≡ string_bytes out.old
+            ++ (minus_text self.now.negative ++ (48 ∷ 46 ∷ zeros_text zeros ++ digits_text self.now.digits.now))) }
+        ensures refused { OnErr result (AppendsBeginning (string_bytes out.old) (string_bytes out.new)
+            (minus_text self.now.negative ++ (48 ∷ 46 ∷ zeros_text zeros ++ digits_text self.now.digits.now))) }
+    {
+        push_leading_zeros(self.negative, zeros, out)?;
+        self.push_row(lanes, out)?;
+        Ok(())
+    }
+
+    /// Appends the number, where the point stands before all its digits, or where an exponent stands behind two to 17. If they are no
+    /// more than 16, `lanes` has them at its end. Where it tells `false` it appended nothing. It stays a call, as `push_digits` does.
     #[inline(never)]
-    fn push_scientific(&self, lanes: u8x16, out: &mut String) -> Result<bool, AllocError>
+    fn push_unsplit(&self, lanes: u8x16, out: &mut String) -> Result<bool, AllocError>
         requires all { length lanes ≡ 16 }
         requires point { self.now.point ≡ true }
         requires lanes { length self.now.digits.now ≤ 16
@@ -151,6 +170,9 @@ impl StrippedNumber<'_> {
         ensures done { IfOk result (λ d. IsTrue d → string_bytes out.new
             ≡ string_bytes out.old ++ num_text (decimal_of self.now)) }
         ensures left { IfOk result (λ d. IsFalse d → string_bytes out.new ≡ string_bytes out.old) }
+        ensures before { self.now.exponent <ℤ pos 0
+            → length self.now.digits.now ≤ nat_abs self.now.exponent
+            → nat_abs self.now.exponent ≤ length self.now.digits.now + 5 → IfOk result (λ d. IsTrue d) }
         ensures exponent { (int_le (pos (length self.now.digits.now) +ℤ self.now.exponent) (negsuc 5)
             || int_lt (pos 20) self.now.exponent) ≡ true
             → 1 < length self.now.digits.now → length self.now.digits.now ≤ 17 → IfOk result (λ d. IsTrue d) }
@@ -159,7 +181,14 @@ impl StrippedNumber<'_> {
     {
         let count = self.digits.len();
         let place = place_of(self.digits, self.exponent);
-        if count < 2 || count > LANES + 1 || !is_scientific(place, self.exponent) {
+        if !is_scientific(place, self.exponent) {
+            if place > 0 || count == 0 {
+                return Ok(false);
+            }
+            self.push_fraction(lanes, place.unsigned_abs() as usize, out)?;
+            return Ok(true);
+        }
+        if count < 2 || count > LANES + 1 {
             return Ok(false);
         }
         self.push_split(lanes, count - 1, out)?;
@@ -169,9 +198,9 @@ impl StrippedNumber<'_> {
         Ok(true)
     }
 
-    /// Appends the number, where the point stands between two of its digits, or an exponent behind two or more, and they are so few
-    /// that a row has those before the point, and a row those behind it. If all are no more than 16, `lanes` has them at its end.
-    /// Where it tells `false` it appended nothing.
+    /// Appends the number, where the point stands before its digits, or between two of them that are so few that a row has those before
+    /// the point, and a row those behind it, or where an exponent stands behind two to 17. If all are no more than 16, `lanes` has them
+    /// at its end. Where it tells `false` it appended nothing.
     #[inline(never)]
     fn push_digits(&self, lanes: u8x16, out: &mut String) -> Result<bool, AllocError>
         requires all { length lanes ≡ 16 }
@@ -183,6 +212,9 @@ impl StrippedNumber<'_> {
         ensures between { self.now.point ≡ true → self.now.exponent <ℤ pos 0
             → nat_abs self.now.exponent < length self.now.digits.now → nat_abs self.now.exponent ≤ 16
             → length self.now.digits.now ≤ nat_abs self.now.exponent + 16 → IfOk result (λ d. IsTrue d) }
+        ensures before { self.now.point ≡ true → self.now.exponent <ℤ pos 0
+            → length self.now.digits.now ≤ nat_abs self.now.exponent
+            → nat_abs self.now.exponent ≤ length self.now.digits.now + 5 → IfOk result (λ d. IsTrue d) }
         ensures exponent { self.now.point ≡ true
             → (int_le (pos (length self.now.digits.now) +ℤ self.now.exponent) (negsuc 5)
             || int_lt (pos 20) self.now.exponent) ≡ true
@@ -196,7 +228,7 @@ impl StrippedNumber<'_> {
             return Ok(false);
         }
         if self.exponent >= 0 || scale >= count {
-            return self.push_scientific(lanes, out);
+            return self.push_unsplit(lanes, out);
         }
         if scale > LANES || count - scale > LANES {
             return Ok(false);
@@ -207,7 +239,7 @@ impl StrippedNumber<'_> {
 }
 
 impl INumber {
-    /// Appends the text, where the number has few digits, no zeros are written beside them, and no exponent beside a single one.
+    /// Appends the text, where the number has few digits, no zeros are written behind them, and no exponent beside a single one.
     /// Where it tells `false` it appended nothing.
     #[inline(always)]
     fn push_plain(&self, out: &mut String) -> Result<bool, AllocError>
@@ -254,7 +286,7 @@ impl INumber {
     }
 
     /// Appends the text that `Display` writes, in less time: that of few digits is appended at once, by no formatter. It may want
-    /// room for 31 bytes more than the text has. A text with zeros beside the digits, with an exponent behind a single digit or with
+    /// room for 31 bytes more than the text has. A text with zeros behind the digits, with an exponent behind a single digit or with
     /// many digits is made in memory of its own first. The error comes where there was not enough memory. A beginning of the text may
     /// then stand in `out`, behind what was there. It takes time linear in the text.
     #[inline(always)]

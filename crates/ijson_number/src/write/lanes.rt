@@ -2,7 +2,7 @@
 ghost use Rattle.std.specs.Prelude.{◌≡◌, ◌+◌, ◌-◌, ◌/◌, ◌%◌, ◌^◌, ◌<◌, ◌≤◌, [], ◌∷◌, ◌++◌, drop, length, replicate, take, OnErr, OnOk};
 ghost use Rattle.std.specs.Str.{IsAscii};
 ghost use Rattle.std.specs.String.{string_bytes};
-ghost use Rattle.ijson_number.specs.Text.{minus_text};
+ghost use Rattle.ijson_number.specs.Text.{minus_text, zeros_text};
 ghost use Rattle.ijson_number.specs.private.WordText.{integer_text, last_digits};
 ghost use Rattle.ijson_number.specs.private.ZerosInFront.{IsZerosInFront};
 
@@ -25,6 +25,9 @@ static FRONT: [u8; 2 * LANES] = [
     0, 1, 2, 3, 4, 5, 6, 7, 8, 9, 10, 11, 12, 13, 14, 15, 128, 128, 128, 128, 128, 128, 128, 128,
     128, 128, 128, 128, 128, 128, 128, 128,
 ];
+
+/// A minus, and what stands before the first digit of a fraction that is no zero.
+const LEADING: [u8; LANES] = *b"-0.0000000000000";
 
 /// A number of 16 digits, two in each lane.
 #[inline(always)]
@@ -107,6 +110,23 @@ pub fn push_lanes(
     out.push_str(unsafe { str::from_utf8_unchecked(&front) })?;
     out.truncate(end);
     Ok(())
+}
+
+/// Appends the minus, if there is one, a zero, the point and so many zeros behind it.
+#[inline(always)]
+pub fn push_leading_zeros(negative: bool, zeros: usize, out: &mut String) -> Result<(), AllocError>
+    requires { zeros ≤ 13 }
+    ensures written { OnOk result (string_bytes out.new
+        ≡ string_bytes out.old ++ (minus_text negative ++ 48 ∷ 46 ∷ zeros_text zeros)) }
+    ensures refused { OnErr result (string_bytes out.new ≡ string_bytes out.old) }
+{
+    let minus = usize::from(negative);
+    push_lanes(
+        u8x16::from_array(LEADING),
+        1 - minus,
+        minus + 2 + zeros,
+        out,
+    )
 }
 
 /// Appends the minus, if there is one, and a number of at most 15 digits. The minus comes in the place of the zero before them, by a

@@ -50,7 +50,7 @@ impl StrippedNumber<'_> {
     }
 
     /// The same, all at once where they are no more than 16, which `lanes` then has at its end.
-    fn push_row(&self, lanes: u8x16, out: &mut String) -> Result<i32, AllocError>
+    pub(super) fn push_row(&self, lanes: u8x16, out: &mut String) -> Result<i32, AllocError>
         requires all { length lanes ≡ 16 }
         requires lanes { length self.now.digits.now ≤ 16
             → drop (16 - length self.now.digits.now) lanes ≡ digits_text self.now.digits.now }

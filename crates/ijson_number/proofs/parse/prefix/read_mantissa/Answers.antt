@@ -1,18 +1,27 @@
-use Rattle.std.proofs.Common.{◌≡◌, ◌+◌, ◌++◌, length, take, sym, ap, ◌∙◌, append_assoc, arith}
+use Rattle.std.proofs.Common.{◌≡◌, ◌+◌, ◌++◌, ℕ, List, inl, inr, length, take, sym, ap, ◌∙◌, append_assoc, arith}
+use Rattle.std.proofs.lemmas.Bool.{cases_eq}
 use Rattle.std.proofs.lemmas.Grind.{common_steps}
 use Rattle.std.proofs.lemmas.List.{length-append, length-take-le, take-append-drop}
-use Rattle.ijson_number.specs.Grammar.{value}
+use Rattle.ijson_number.specs.DigitFront.{IsDigitFront}
+use Rattle.ijson_number.specs.Grammar.{Parts, value}
+use Rattle.ijson_number.specs.private.Prefix.{IsPlainTail}
 use Rattle.ijson_number.proofs.storing.DigitBounds.{joined_value, room_left}
 use Rattle.ijson_number.proofs.parsing.OneDivision.{minus_of}
-use Rattle.ijson_number.proofs.parsing.PlainFronts.{plain_parts}
+use Rattle.ijson_number.proofs.parsing.PlainFronts.{plain_tail, whole_taken}
 use Rattle.ijson_number.proofs.parse.prefix.read_mantissa.Goals as goal
+use Rattle.ijson_number.proofs.parse.prefix.read_mantissa.Goals.{After-places_left, After-split_at}
 
 pub take_tail-requires : goal.take_tail-requires
 take_tail-requires c =
     let t = c.take_whole-number in
     let count : length (take t.result.1 c.split_sign-negative.result.1.now) ≡ t.result.1 =
     length-take-le t.result.1 c.split_sign-negative.result.1.now t.ensures.within in
-    rw t.ensures.value (room_left (take t.result.1 c.split_sign-negative.result.1.now) t.result.1 t.ensures.digits count t.ensures.few)
+    let left = c.places_left in
+    let room = room_left (take t.result.1 c.split_sign-negative.result.1.now) t.result.1 t.ensures.digits count t.ensures.few in
+    elim (cases_eq t.result.0 0) [
+      | inl none ↦ rw (none, left.ensures.zero none) (omega arith)
+      | inr some ↦ rw (left.ensures.others some, t.ensures.value) room
+    ]
 
 pub returns-clause-found : goal.returns-clause-found
 returns-clause-found c =
@@ -34,6 +43,7 @@ returns-clause-found c =
     let sum : length text ≡ length front + length rest = ap length all ∙ length-append front rest in
     let made : t.result.0 ≡ value whole = t.ensures.value ∙ ap value (sym c.split_at.ensures.front) in
     let few = e.few in
+    let most = c.places_left.ensures.most in
     record {
       minus_text = minus.0;
       whole = whole;
@@ -50,29 +60,43 @@ returns-clause-found c =
       small = e.small;
     }
 
-pub returns-clause-rest : goal.returns-clause-rest
-returns-clause-rest c = λ p rest f.
+-- the whole part is what was taken in front,
+taken : (c : After-split_at) (p : Parts) (rest : List ℕ) (f : IsDigitFront c.args.text.now p rest)
+    → (c.split_at.result.0.now ≡ p.whole) × (c.split_at.result.1.now ≡ f.fraction_text ++ rest)
+taken c p rest f =
     let t = c.take_whole-number.ensures in
     let s = c.split_at.ensures in
-    c.in_ok-magnitude.ensures.rest f.fraction_text rest
-    (plain_parts c.args.text.now _ _ _ _ p rest _ c.split_sign-negative.ensures s.front s.back s.front_len t.digits t.all f).1
+    whole_taken c.args.text.now _ _ _ _ p rest _ c.split_sign-negative.ensures s.front s.back s.front_len t.digits t.all f
+
+-- and the fraction has so few digits
+tail : (c : After-places_left) (p : Parts) (rest : List ℕ) (f : IsDigitFront c.args.text.now p rest)
+    → (c.split_at.result.0.now ≡ p.whole) × (c.split_at.result.1.now ≡ f.fraction_text ++ rest)
+    → IsPlainTail c.places_left.result c.split_at.result.1.now f.fraction_text rest
+tail c p rest f parts =
+    let t = c.take_whole-number.ensures in
+    let s = c.split_at.ensures in
+    let left = c.places_left.ensures in
+    let made = t.value ∙ ap value (sym s.front) in
+    plain_tail c.args.text.now _ _ p rest _ _ s.front_len (λ zero. left.zero (made ∙ zero))
+    (λ some. left.others (λ zero. some (sym made ∙ zero))) f parts
+
+pub returns-clause-rest : goal.returns-clause-rest
+returns-clause-rest c = λ p rest f.
+    let at = goal.at.returns-clause-rest c in
+    c.in_ok-magnitude.ensures.rest f.fraction_text rest (tail at.After-places_left p rest f (taken at.After-split_at p rest f))
 
 pub returns-then-not-is_whole-clause-none : goal.returns-then-not-is_whole-clause-none
 returns-then-not-is_whole-clause-none c = λ p rest f.
-    let t = c.take_whole-number.ensures in
-    let s = c.split_at.ensures in
-    let is = c.is_whole.ensures.1
-    (plain_parts c.args.text.now _ _ _ _ p rest _ c.split_sign-negative.ensures s.front s.back s.front_len t.digits t.all f).0 in
+    let is = c.is_whole.ensures.1 (rw (taken (goal.at.returns-then-not-is_whole-clause-none c).After-split_at p rest f).0 f.whole) in
     let not = c.if-not-is_whole.true in
     grind (arith, is, not)
 
 pub returns-in_err-magnitude-clause-none : goal.returns-in_err-magnitude-clause-none
 returns-in_err-magnitude-clause-none c =
-    let t = c.take_whole-number.ensures in
-    let s = c.split_at.ensures in
+    let at = goal.at.returns-in_err-magnitude-clause-none c in
     rw c.from_residual.ensures
     (λ p rest f. c.in_err-magnitude.ensures.none f.fraction_text rest
-    (plain_parts c.args.text.now _ _ _ _ p rest _ c.split_sign-negative.ensures s.front s.back s.front_len t.digits t.all f).1)
+    (tail at.After-places_left p rest f (taken at.After-split_at p rest f)))
 
 -- what the check tries where no answer stands takes longer than these
 pub overflow_sub-prefix : goal.overflow_sub-prefix

@@ -1,24 +1,24 @@
-use Rattle.std.proofs.Common.{◌≡◌, ◌∙◌, ◌-◌, ◌++◌, ◌∷◌, [], ap, ap₂, sym, refl, append_assoc, List, ℕ, true, length, arith, rules}
-use Rattle.std.specs.Prelude.{ℤ, FitsSigned, pos, ◌-ℤ◌, ◌+ℤ◌, ◌||◌, int_le, int_lt, nat_abs, negsuc}
+use Rattle.std.proofs.Common.{◌≡◌, ◌<◌, false, ◌∙◌, ◌-◌, ◌++◌, ◌∷◌, [], ap, ap₂, sym, refl, append_assoc, List, ℕ, true, length, arith, rules}
+use Rattle.std.specs.Prelude.{ℤ, FitsSigned, pos, ◌≤ℤ◌, ◌-ℤ◌, ◌+ℤ◌, ◌||◌, int_le, int_lt, nat_abs, negsuc}
 use Rattle.std.specs.String.{string_bytes}
-use Rattle.std.proofs.lemmas.Int.{to_z-of_z}
+use Rattle.std.proofs.lemmas.Int.{ints, to_z-of_z}
 use mir.Syntax.{w32, w128}
 use mir.Val.{of_z, to_z}
-use Rattle.ijson_number.specs.Text.{num_text}
+use Rattle.ijson_number.specs.Text.{digits_text, minus_text, num_text, zeros_text}
 use Rattle.ijson_number.specs.private.SplitText.{split_text}
 use Rattle.ijson_number.specs.private.StrippedNumber.{decimal_of}
 use Rattle.ijson_number.specs.private.WordText.{integer_text}
 use Rattle.ijson_number.proofs.AnyAnswer.{where_refused}
-use Rattle.ijson_number.proofs.writing.Beginnings.{last_begun, none_begun, some_begun}
-use Rattle.ijson_number.proofs.writing.SplitTexts.{scientific_shown}
-use Rattle.ijson_number.proofs.repr.stripped.StrippedNumber.push_scientific.Goals as goal
-use Rattle.ijson_number.proofs.repr.stripped.StrippedNumber.push_scientific.Goals.{After-push, After-push_split}
+use Rattle.ijson_number.proofs.writing.Beginnings.{begun_as, last_begun, none_begun, some_begun}
+use Rattle.ijson_number.proofs.writing.SplitTexts.{fraction_shown, scientific_shown}
+use Rattle.ijson_number.proofs.repr.stripped.StrippedNumber.push_unsplit.Goals as goal
+use Rattle.ijson_number.proofs.repr.stripped.StrippedNumber.push_unsplit.Goals.{After-push, After-push_fraction, After-push_split}
 
 -- the digits, split behind the first, and the exponent are the text
-shown : (c : After-push_split) (power : ℤ) → power ≡ c.place_of-place.result -ℤ pos 1
+scientific : (c : After-push_split) (power : ℤ) → power ≡ c.place_of-place.result -ℤ pos 1
     → split_text c.args.self.now.negative c.args.self.now.digits.now 1 ++ 101 ∷ integer_text (int_lt power (pos 0)) (nat_abs power)
     ≡ num_text (decimal_of c.args.self.now)
-shown c power is_power =
+scientific c power is_power =
     let n = c.args.self.now in
     let ds = n.digits.now in
     let fits : FitsSigned w32 n.exponent = search rules in
@@ -59,18 +59,18 @@ both c magnitude is =
     let one_less = to_z-of_z w128 less (search rules) ∙ ap (λ p. p -ℤ pos 1) (to_z-of_z w128 place.result place.ensures.fits) in
     append_assoc text (101 ∷ []) (parts c magnitude).1
     ∙ ap (λ k. text ++ 101 ∷ integer_text (int_lt (power c) (pos 0)) k) is
-    ∙ shown c (power c) one_less
+    ∙ scientific c (power c) one_less
 
 pub returns-clause-done : goal.returns-clause-done
 unfolding lib.Utf8.encode
 returns-clause-done c = λ t.
     let at = goal.at.returns-clause-done c in
     let old = string_bytes c.args.out.now in
-    let text = parts at.After-push_split c.unsigned_abs.result in
+    let text = parts at.After-push_split c.unsigned_abs-2.result in
     c.in_ok-push_integer.ensures.written
     ∙ ap (λ x. x ++ text.1) (c.in_ok-push.ensures.bytes ∙ ap (λ x. x ++ 101 ∷ []) (split at.After-push))
     ∙ ap (λ x. x ++ text.1) (append_assoc old _ (101 ∷ [])) ∙ append_assoc old text.0 text.1
-    ∙ ap (λ x. old ++ x) (both at.After-push_split c.unsigned_abs.result c.unsigned_abs.ensures.value)
+    ∙ ap (λ x. old ++ x) (both at.After-push_split c.unsigned_abs-2.result c.unsigned_abs-2.ensures.value)
 
 pub returns-in_err-push_split-clause-refused : goal.returns-in_err-push_split-clause-refused
 returns-in_err-push_split-clause-refused c =
@@ -83,15 +83,46 @@ returns-in_err-push-clause-refused c =
     let less = c.place_of-place.result -ℤ pos 1 in
     where_refused _ (some_begun (string_bytes c.args.out.now) (string_bytes c.push.new.self) (split_text n.negative n.digits.now 1)
     (101 ∷ integer_text (int_lt less (pos 0)) (nat_abs less)) _ (c.in_err-push.ensures.bytes ∙ split at.After-push)
-    (shown at.After-push_split less refl))
+    (scientific at.After-push_split less refl))
 
 pub returns-in_err-push_integer-clause-refused : goal.returns-in_err-push_integer-clause-refused
 unfolding lib.Utf8.encode
 returns-in_err-push_integer-clause-refused c =
     let at = goal.at.returns-in_err-push_integer-clause-refused c in
     let old = string_bytes c.args.out.now in
-    let text = parts at.After-push_split c.unsigned_abs.result in
+    let text = parts at.After-push_split c.unsigned_abs-2.result in
     where_refused c.from_residual-in_err-push_integer.result
     (last_begun old (string_bytes c.push.new.self) (string_bytes c.push_integer.new.out) text.0 text.1 _
     (c.in_ok-push.ensures.bytes ∙ ap (λ x. x ++ 101 ∷ []) (split at.After-push) ∙ append_assoc old _ (101 ∷ []))
-    c.in_err-push_integer.ensures.refused (both at.After-push_split c.unsigned_abs.result c.unsigned_abs.ensures.value))
+    c.in_err-push_integer.ensures.refused (both at.After-push_split c.unsigned_abs-2.result c.unsigned_abs-2.ensures.value))
+
+not_above : (p x : ℤ) → x ≡ p → int_lt (pos 0) x ≡ false → p ≤ℤ pos 0
+not_above p x same test = grind (arith, ints)
+
+-- the point, the zeros and the digits are the text
+fraction : (c : After-push_fraction) → minus_text c.args.self.now.negative
+    ++ (48 ∷ 46 ∷ zeros_text c.unsigned_abs.result ++ digits_text c.args.self.now.digits.now) ≡ num_text (decimal_of c.args.self.now)
+fraction c =
+    let n = c.args.self.now in
+    let ds = n.digits.now in
+    let fits : FitsSigned w32 n.exponent = search rules in
+    let exact = to_z-of_z w32 n.exponent fits in
+    let p = c.place_of-place in
+    let place = to_z-of_z w128 p.result p.ensures.fits in
+    let is : p.result ≡ pos (length ds) +ℤ n.exponent = p.ensures.value ∙ ap (λ e. pos (length ds) +ℤ e) exact in
+    let pointed : int_le p.result (negsuc 5) || int_lt (pos 20) n.exponent ≡ false =
+    ap₂ (λ p e. int_le p (negsuc 5) || int_lt (pos 20) e) (sym place) (sym exact) ∙ sym c.is_scientific.ensures ∙ grind arith in
+    let some : 0 < length ds = grind arith in
+    rw (c.unsigned_abs.ensures.value, place)
+    (fraction_shown n.negative ds n.exponent n.point p.result n.stripped.stripped c.requires.point some is
+    (not_above p.result _ place c.if-place-gt0.false) pointed)
+
+pub returns-then-not-is_scientific-clause-done : goal.returns-then-not-is_scientific-clause-done
+returns-then-not-is_scientific-clause-done c = λ t.
+    c.in_ok-push_fraction.ensures.written
+    ∙ ap (λ x. string_bytes c.args.out.now ++ x) (fraction (goal.at.returns-then-not-is_scientific-clause-done c).After-push_fraction)
+
+pub returns-in_err-push_fraction-clause-refused : goal.returns-in_err-push_fraction-clause-refused
+returns-in_err-push_fraction-clause-refused c =
+    where_refused _ (begun_as (string_bytes c.args.out.now) (string_bytes c.push_fraction.new.out) _ _
+    c.in_err-push_fraction.ensures.refused (fraction (goal.at.returns-in_err-push_fraction-clause-refused c).After-push_fraction))
