@@ -32,6 +32,20 @@ def fraction(rng):
     return f"{rng.uniform(-1000, 1000):.{places}f}"
 
 
+def probability(rng):
+    """A number below 1 with all the digits of a floating-point one."""
+    return repr(rng.random())
+
+
+def identifier(rng):
+    """A text that comes once."""
+    return '"%08x-%04x-%04x-%04x-%012x"' % tuple(rng.getrandbits(bits) for bits in (32, 16, 16, 16, 48))
+
+
+def point(rng):
+    return '{"x": %d, "y": %d}' % (rng.randrange(1000), rng.randrange(1000))
+
+
 def array_of(item):
     """What makes an array of such items up to a size."""
 
@@ -114,6 +128,9 @@ FILES = {
     "numbers": array_of(number),
     "arrays": array_of(shallow),
     "long_keys": array_of(row),
+    "probabilities": array_of(probability),
+    "identifiers": array_of(identifier),
+    "points": array_of(point),
     "coordinates": coordinates,
     "catalogue": catalogue,
     "messages": messages,

@@ -12,6 +12,8 @@ BENCH = pathlib.Path(__file__).resolve().parent
 FILES = ["integers", "fractions", "objects", "strings", "mixed", "one_object"]
 COMMON_FILES = ["coordinates", "catalogue", "messages"]
 MORE_FILES = ["numbers", "arrays", "long_keys"]
+# Each of one kind of value, whose cost the other files hide.
+NARROW_FILES = ["probabilities", "identifiers", "points"]
 
 
 class Run(NamedTuple):
