@@ -9,9 +9,12 @@ pub mod HomeOrder
 pub mod Holds
 pub mod Insertion
 pub mod IsPlaced
+pub mod KeptHash
 pub mod KeyOrder
 pub mod Lookup
 pub mod Merging
+pub mod Narrow
+pub mod NarrowSlots
 pub mod Probe
 pub mod Room
 pub mod SecondHash

@@ -15,6 +15,7 @@ ghost use Rattle.ijson_table.specs.Slots.{resident, IsTable};
 ghost use Rattle.ijson_table.specs.private.Changes.{changes};
 ghost use Rattle.ijson_table.specs.private.Holds.{MayStand};
 ghost use Rattle.ijson_table.specs.private.Insertion.{EndsWith};
+ghost use Rattle.ijson_table.specs.private.KeptHash.{kept};
 ghost use Rattle.ijson_table.specs.private.Probe.{AreFull};
 ghost use Rattle.ijson_table.specs.private.SlotHashes.{position_in, HasHash};
 
@@ -24,18 +25,19 @@ pub mod places;
 pub mod probe;
 mod shift;
 pub mod slot;
+mod slots;
 
-use crate::growth::list_with_room;
 use crate::index::shift::{shift_forward, shift_remove, swap_remove, vacancy};
 use crate::index::slot::Slot;
+use crate::index::slots::Slots;
 use std::alloc::{AllocError, Global};
 use std::marker::Model;
 
-/// Slots, each empty or with a position of a list and the hash of the key there. The list has no room for more.
+/// Slots, each empty or with a position of a list and what is kept of the hash of the key there: the whole hash, or where the slots are
+/// no more than `NARROW_SLOTS` the home and eight bits more.
 #[derive(Debug, Drop)]
 pub struct Index {
-    slots: Vec<Slot>,
-    ghost exact: { vec_capacity slots ≡ length slots.items },
+    slots: Slots,
 }
 
 impl Model for Index {
@@ -44,9 +46,9 @@ impl Model for Index {
 
     ghost Value = { HashIndex };
 
-    ghost view = { λ l. record { hashes = hashes_of l.slots.items; slots = positions l.slots.items } };
+    ghost view = { λ l. record { hashes = hashes_of l.slots; slots = positions l.slots } };
 
-    ghost invariant = { λ l. IsIndex l.slots.items };
+    ghost invariant = { λ l. IsIndex l.slots };
 }
 
 impl Index {
@@ -56,7 +58,7 @@ impl Index {
         ensures slots { result.slots ≡ [] }
     {
         Index {
-            slots: Vec::new(alloc),
+            slots: Slots::new(),
         }
     }
 
@@ -67,7 +69,7 @@ impl Index {
         ensures refused { OnErr result (0 < count) }
     {
         Ok(Index {
-            slots: empty_slots(alloc, count)?,
+            slots: Slots::with_count(alloc, count)?,
         })
     }
 
@@ -86,10 +88,10 @@ impl Index {
         ensures hash { HasHash self.now.hashes result }
         ensures table { IsTable self.now.hashes self.now.slots }
     {
-        self.slots[slot]
+        self.slots.at(slot)
     }
 
-    /// The slot where the probe for a new key of this hash ends. There is room for one more.
+    /// The slot where the probe ends for a new key, of whose hash this is kept. There is room for one more.
     pub fn vacancy(&self, hash: u64) -> usize
         requires { length self.now.hashes < length self.now.slots }
         ensures { MayStand (self.now.hashes ++ hash ∷ []) self.now.slots (length self.now.hashes) result }
@@ -97,12 +99,13 @@ impl Index {
         vacancy(&self.slots, hash).0
     }
 
-    /// Puts the next position into the slots, at the one where the probe for its key ended, which has this hash. Answers the last slot
-    /// that is written, which was the first empty one from there on.
+    /// Puts the next position into the slots, at the one where the probe for its key ended. This is what the slots keep of the hash of
+    /// that key. Answers the last slot that is written, which was the first empty one from there on.
     pub fn push_at(&mut self, slot: usize, position: usize, hash: u64) -> usize
         requires position { position ≡ length self.old.hashes }
         requires room { position < length self.old.slots }
         requires may { MayStand (self.old.hashes ++ hash ∷ []) self.old.slots position slot }
+        requires kept { hash ≡ kept (length self.old.slots) hash }
         ensures hashes { self.new.hashes ≡ self.old.hashes ++ hash ∷ [] }
         ensures count { length self.new.slots ≡ length self.old.slots }
         ensures within { result < length self.old.slots }
@@ -138,29 +141,6 @@ impl Index {
         ensures hashes { self.new.hashes ≡ [] }
         ensures count { length self.new.slots ≡ length self.old.slots }
     {
-        clear_slots(&mut self.slots);
-    }
-}
-
-/// So many empty slots, in a list that has room for no more.
-fn empty_slots(alloc: Global, count: usize) -> Result<Vec<Slot>, AllocError>
-    ensures empty { IfOk result (λ slots. All (λ slot. position_in slot ≡ None) slots.items) }
-    ensures count { IfOk result (λ slots. length slots.items ≡ count) }
-    ensures room { IfOk result (λ slots. vec_capacity slots ≡ count) }
-    ensures refused { OnErr result (0 < count) }
-{
-    let mut slots = list_with_room(alloc, count)?;
-    for _step in 0..count {
-        slots.push_reserved(Slot::empty());
-    }
-    Ok(slots)
-}
-
-/// Makes each slot empty.
-fn clear_slots(slots: &mut [Slot])
-    ensures { All (λ slot. position_in slot ≡ None) slots.new }
-{
-    for slot in slots.iter_mut() {
-        *slot = Slot::empty();
+        self.slots.clear();
     }
 }

@@ -58,8 +58,9 @@ impl<V: Drop> From<RefusedPair<V>> for ReserveError {
 }
 
 /// A list of pairs with distinct keys, and a capacity: the number of pairs that it has room for. A list takes 16 bytes and
-/// those of a value for each pair of its capacity. A table takes 20 more, and hashes no key again when it grows, shrinks or is
-/// copied.
+/// those of a value for each pair of its capacity. A table takes 20 more for each, but up to a capacity of 127 it takes 4, and up to
+/// 8 none. When it grows, shrinks or is copied it hashes no key again where it has room for more than 127 pairs before and
+/// after, and else each key once.
 pub trait PairStore<V>: Sized {
     /// The pairs, in order.
     ghost pairs: { Self → List (List ℕ × V) };
@@ -91,9 +92,9 @@ pub trait PairStore<V>: Sized {
     /// Makes room for so many more pairs. Where they have none, the capacity becomes the greatest of twice the old one,
     /// the length with them, and 4. So pairs that are put one by one take room for 4, 8, 16 and so on, and each of them
     /// constant time on average. A growth moves each pair once. A table fills new slots then, in time linear in both capacities
-    /// where few keys crowd. Where many do, it sorts entries of 16 bytes for each pair, in memory that it gives back: so whatever
-    /// the keys are, it takes time n log n at most. Refused, the store is as it was: `TooLarge` where the capacity would pass
-    /// 2^56, `Memory` where it was not granted.
+    /// where few keys crowd. Where many of more than 127 do, it sorts entries of 16 bytes for each pair, in memory that it gives
+    /// back: so whatever the keys are, it takes time n log n at most. Refused, the store is as it was: `TooLarge` where the
+    /// capacity would pass 2^56, `Memory` where it was not granted.
     fn reserve(&mut self, additional: usize) -> Result<(), ReserveError>
         ensures grown { Grow (length (pairs self.old)) (room self.old) additional result (room self.new) }
         ensures room { OnOk result (length (pairs self.new) + additional ≤ room self.new) }

@@ -12,6 +12,7 @@ ghost use Rattle.ijson_table.specs.laws.Placed.{placed_with_value};
 ghost use Rattle.ijson_table.specs.laws.Store.{IsDistinct-prop};
 ghost use Rattle.ijson_table.specs.private.Changes.{changes};
 ghost use Rattle.ijson_table.specs.private.Holds.{MayStand};
+ghost use Rattle.ijson_table.specs.private.KeptHash.{kept_hash};
 ghost use Rattle.ijson_table.specs.private.Lookup.{LookUpEnds};
 ghost use Rattle.ijson_table.specs.private.Probe.{AreFull};
 
@@ -22,7 +23,7 @@ use crate::hash::KeyHash;
 use crate::index::Index;
 use crate::index::places::{Places, Seen, locate};
 use crate::index::probe::{Lookup, Probed, has_key, probe};
-use crate::index::slot::Modulus;
+use crate::index::slot::{Modulus, NARROW_SLOTS};
 use crate::store::{PairStore, RefusedPair, ReserveError};
 use ijson_number::Looks;
 use ijson_string::IString;
@@ -30,8 +31,9 @@ use std::alloc::{AllocError, Global};
 use std::marker::{Model, PhantomData};
 use std::mem;
 
-/// Pairs in a list, and their positions in slots by the hash of their keys. A slot is 16 bytes, and there are five for four
-/// pairs of the capacity. A look-up goes to the memory of a key only where the hashes are the same.
+/// Pairs in a list, and their positions in slots by the hash of their keys. There are five slots for four pairs of the capacity. A
+/// slot takes 16 bytes. Up to a capacity of 127 it keeps of a hash the home and eight bits more, and takes three bytes, and up to 8
+/// the slots lie in the table itself. A look-up goes to the memory of a key only where what is kept of both hashes is the same.
 #[derive(Debug, Drop)]
 pub struct Table<V, H: KeyHash> {
     pairs: Vec<(IString, V)>,
@@ -78,8 +80,9 @@ impl<V: Drop, H: KeyHash> Table<V, H> {
         })
     }
 
-    /// A store of pairs with the same keys in the same order, for a copy of this one: it has room for them alone, and no key
-    /// is hashed again. Room for none takes no memory. Where memory is refused, the pairs are dropped. It takes time linear in
+    /// A store of pairs with the same keys in the same order, for a copy of this one: it has room for them alone. No key is hashed
+    /// again where this one has room for no more than its pairs, or where there are more than 127; else each is hashed once.
+    /// Room for none takes no memory. Where memory is refused, the pairs are dropped. It takes time linear in
     /// the capacities of both where few keys crowd. Where many do, the slots are filled by sorting, as in growth.
     pub fn with_same_keys(
         &self,
@@ -92,8 +95,7 @@ impl<V: Drop, H: KeyHash> Table<V, H> {
         ensures refused { OnErr result (0 < length pairs.items) }
     {
         let capacity = pairs.len();
-        let slots = slots_for(capacity);
-        let index = self.index.copy_with_slots(alloc, self.pairs.len(), slots)?;
+        let index = self.index_with_slots(alloc, slots_for(capacity))?;
         tighten(alloc, &mut pairs)?;
         Ok(Table {
             pairs,
@@ -175,7 +177,8 @@ impl<V: Drop, H: KeyHash> Table<V, H> {
         ensures pairs { self.new.store.pairs ≡ self.old.store.pairs ++ (key, value) ∷ [] }
         ensures capacity { self.new.store.capacity ≡ self.old.store.capacity }
     {
-        let slot = self.index.vacancy(hash);
+        let kept = Modulus::new(self.index.len()).kept_hash(hash);
+        let slot = self.index.vacancy(kept);
         self.push_at(slot, key, value, hash);
     }
 
@@ -198,7 +201,8 @@ impl<V: Drop, H: KeyHash> Table<V, H> {
     {
         let position = self.pairs.len();
         self.pairs.push_reserved((key, value));
-        self.index.push_at(slot, position, hash)
+        let kept = Modulus::new(self.index.len()).kept_hash(hash);
+        self.index.push_at(slot, position, kept)
     }
 }
 
@@ -255,22 +259,62 @@ impl<V, H: KeyHash> Table<V, H> {
         if self.index.len() == 0 {
             return Probed::Full;
         }
+        let modulus = Modulus::new(self.index.len());
         let lookup = Lookup {
             pairs: &self.pairs,
             index: &self.index,
-            modulus: Modulus::new(self.index.len()),
-            hash,
+            modulus,
+            hash: modulus.kept_hash(hash),
             key,
         };
         probe(&lookup, looks)
     }
 
-    /// The hash of the key at a position.
+    /// An index of so many slots, which have room for each position. Where there are as many here, or many here and there, both
+    /// keep the same of each hash, and no key is hashed. Else each key is hashed once: what few slots keep of a hash tells no home
+    /// among others.
+    fn index_with_slots(&self, alloc: Global, count: usize) -> Result<Index, AllocError>
+        requires room { length self.now.store.pairs ≤ count }
+        ensures hashes { IfOk result (λ index. index.hashes
+            ≡ map (kept_hash count H.hash_of) (keys_of self.now.store.pairs)) }
+        ensures count { IfOk result (λ index. length index.slots ≡ count) }
+        ensures refused { OnErr result (0 < count) }
+        ensures limited { length self.now.store.pairs ≤ capacity_limit }
+    {
+        let slots = self.index.len();
+        if count == slots || count.min(slots) > NARROW_SLOTS {
+            return self.index.copy_with_slots(alloc, self.pairs.len(), count);
+        }
+        let mut index = Index::with_slots(alloc, count)?;
+        place_each::<V, H>(&self.pairs, &mut index);
+        Ok(index)
+    }
+
+    /// What the index keeps of the hash of the key at a position.
     fn hash_at(&self, index: usize) -> u64
         requires { index < length self.now.store.pairs }
-        ensures { result ≡ get_or (map H.hash_of (keys_of self.now.store.pairs)) index 0 }
+        ensures { result ≡ get_or (map (kept_hash (length self.now.slots) H.hash_of) (keys_of self.now.store.pairs)) index 0 }
     {
-        H::hash(self.pairs[index].0.as_str())
+        let hash = H::hash(self.pairs[index].0.as_str());
+        Modulus::new(self.index.len()).kept_hash(hash)
+    }
+}
+
+/// Puts the positions of pairs into empty slots, which have room for each. Each key is hashed once.
+fn place_each<V, H: KeyHash>(pairs: &[(IString, V)], index: &mut Index)
+    requires empty { index.old.hashes ≡ [] }
+    requires room { length pairs.now ≤ length index.old.slots }
+    ensures hashes { index.new.hashes ≡ map (kept_hash (length index.old.slots) H.hash_of) (keys_of pairs.now) }
+    ensures count { length index.new.slots ≡ length index.old.slots }
+{
+    if pairs.is_empty() {
+        return;
+    }
+    let modulus = Modulus::new(index.len());
+    for position in 0..pairs.len() {
+        let hash = modulus.kept_hash(H::hash(pairs[position].0.as_str()));
+        let slot = index.vacancy(hash);
+        index.push_at(slot, position, hash);
     }
 }
 
@@ -306,7 +350,8 @@ impl<V, H: KeyHash> Places for Table<V, H> {
     }
 }
 
-/// Each key that is sought, put or taken out is hashed; growth and shrinking hash none.
+/// Each key that is sought, put or taken out is hashed. Growth and shrinking hash none where there is room for more than 127 pairs
+/// before and after, and else each once.
 impl<V: Drop, H: KeyHash> PairStore<V> for Table<V, H> {
     ghost pairs = { λ t. t.store.pairs };
 
@@ -338,8 +383,7 @@ impl<V: Drop, H: KeyHash> PairStore<V> for Table<V, H> {
         let Some(capacity) = grown_capacity(len, self.pairs.capacity(), additional)? else {
             return Ok(());
         };
-        let slots = slots_for(capacity);
-        let index = self.index.copy_with_slots(self.alloc, len, slots)?;
+        let index = self.index_with_slots(self.alloc, slots_for(capacity))?;
         self.pairs.reserve_exact(capacity - len)?;
         self.index = index;
         Ok(())
@@ -350,7 +394,7 @@ impl<V: Drop, H: KeyHash> PairStore<V> for Table<V, H> {
         if self.pairs.capacity() == len {
             return Ok(());
         }
-        let index = self.index.copy_with_slots(self.alloc, len, slots_for(len))?;
+        let index = self.index_with_slots(self.alloc, slots_for(len))?;
         fit(self.alloc, &mut self.pairs)?;
         self.index = index;
         Ok(())

@@ -3,7 +3,8 @@
 use Rattle.std.proofs.Common.{◌≡◌, ℕ, ◌+◌, ◌-◌, ◌*◌, ◌/◌, ◌%◌, ◌^◌, ◌<◌, ◌≤◌, ap, ap₂, subst, sym, ◌∙◌, arith}
 use Rattle.std.proofs.Math.Nat.{le_of_mul-le-mul_left, lt_of_mul-lt-mul_left, lt-mul-div-succ, mul-div-le, mul-le-mul_left}
 use Rattle.std.proofs.Math.Nat.{mul-le-mul_right, mul-lt-mul_of_pos_right}
-use Rattle.std.proofs.lemmas.Nat.{mod-mul-add}
+use Rattle.std.proofs.Math.Nat.{mod-lt, mul-add-mod_self_right}
+use Rattle.std.proofs.lemmas.Nat.{div-add-mod', div-mul-add, mod-mul-add, mul-add-lt}
 
 -- e is no more than the quotient by d
 not_above : (k n d m e : ℕ) → 0 < k → k * e ≤ n * m → d * m ≤ k → e * d ≤ n
@@ -40,16 +41,44 @@ quotient-near n d a b hash reciprocal p small =
     (omega (arith, r)) in
     subst (λ e. n < (e + 2) * d) (sym (ap₂ (λ x y. x * y / 2 ^ 64) hash reciprocal)) h
 
--- what a quotient leaves is the remainder where it is less than d
-pub left-is_remainder : (n d e : ℕ) → e * d ≤ n → n - e * d < d → n - e * d ≡ n % d
-left-is_remainder n d e h small =
+-- the quotient and the remainder of a number by d
+pub record IsDivided (n d e left : ℕ) : Type 0 where
+  pub quotient : e ≡ n / d
+  pub left_is : left ≡ n % d
+
+-- what is left is the remainder where it is less than d
+pub divides : (n d e : ℕ) → e * d ≤ n → n - e * d < d → IsDivided n d e (n - e * d)
+divides n d e h small =
     let whole : e * d + (n - e * d) ≡ n = omega (arith, h) in
-    sym (mod-mul-add e d (n - e * d) small) ∙ ap (λ x. x % d) whole
+    record {
+      quotient = sym (div-mul-add e d (n - e * d) small) ∙ ap (λ x. x / d) whole;
+      left_is = sym (mod-mul-add e d (n - e * d) small) ∙ ap (λ x. x % d) whole;
+    }
 
 -- and else d less than that, where the quotient is near
-pub left-is_more : (n d e : ℕ) → e * d ≤ n → n < (e + 2) * d → d ≤ n - e * d → n - e * d - d ≡ n % d
-left-is_more n d e h near more =
+pub divides_more : (n d e : ℕ) → e * d ≤ n → n < (e + 2) * d → d ≤ n - e * d → IsDivided n d (e + 1) (n - e * d - d)
+divides_more n d e h near more =
     let below : (e + 1) * d ≤ n = grind (arith, h, more) in
     let same : n - e * d - d ≡ n - (e + 1) * d = grind (arith, h, more) in
     let small : n - (e + 1) * d < d = grind (arith, near, below) in
-    same ∙ left-is_remainder n d (e + 1) below small
+    subst (IsDivided n d (e + 1)) (sym same) (divides n d (e + 1) below small)
+
+-- a number by 256 d: the remainder by d, and 256 of the quotient by d
+pub by_more : (n d : ℕ) → 0 < d → n / d % 256 * d + n % d ≡ n % (d * 256)
+by_more n d p =
+    let q : ℕ = n / d in
+    let r : ℕ = n % d in
+    let small : q % 256 * d + r < d * 256 = mul-add-lt (q % 256) d r 256 (mod-lt q (omega arith)) (mod-lt n p) in
+    let parts : q / 256 * 256 + q % 256 ≡ q = div-add-mod' q 256 in
+    let whole : q * d + r ≡ n = div-add-mod' n d in
+    let split : (q / 256 * 256 + q % 256) * d + r ≡ q / 256 * (d * 256) + (q % 256 * d + r) = grind arith in
+    sym (mod-mul-add (q / 256) (d * 256) (q % 256 * d + r) small)
+    ∙ ap (λ x. x % (d * 256)) (sym split ∙ (ap (λ x. x * d + r) parts ∙ whole))
+
+-- it tells the remainder by d
+pub mod-more : (n d : ℕ) → n % (d * 256) % d ≡ n % d
+mod-more n d =
+    let q : ℕ = n / (d * 256) in
+    let r : ℕ = n % (d * 256) in
+    let turned : q * (d * 256) + r ≡ q * 256 * d + r = grind arith in
+    sym (mul-add-mod_self_right (q * 256) d r) ∙ ap (λ x. x % d) (sym turned ∙ div-add-mod' n (d * 256))

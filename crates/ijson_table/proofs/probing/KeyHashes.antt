@@ -4,21 +4,23 @@ use Rattle.std.proofs.Common.{◌∙◌}
 use Rattle.std.specs.List.{swap_remove}
 use Rattle.std.proofs.lemmas.Bool.Decides.{nat_tests}
 use Rattle.std.proofs.lemmas.List.{length-map, map-append, map-set, get_or-map, take-map}
+use Rattle.ijson_table.specs.Crowd.{slot_count}
 use Rattle.ijson_table.specs.Store.{keys_of, swap_out, IsDistinct}
 use Rattle.ijson_table.specs.laws.Store.{keys-with_value}
 use Rattle.ijson_table.specs.declared.index.probe.Probed.{Probed}
 use Rattle.ijson_table.specs.declared.index.probe.Probed.TheVariants.{Full}
 use Rattle.ijson_table.specs.Growth.{Grown}
-use Rattle.ijson_table.specs.private.IsPlaced.{IsPlaced}
 use Rattle.ijson_table.specs.Slots.{IsTable, IsBounded}
 use Rattle.ijson_table.specs.private.CountedSteps.{Walks}
 use Rattle.ijson_table.specs.private.Lookup.{LookUpEnds}
 use Rattle.ijson_table.specs.private.HashIndex.{HashIndex}
+use Rattle.ijson_table.specs.private.KeptHash.{kept_hash}
 use Rattle.ijson_table.proofs.pairs.KeyPositions.{position-none}
 use Rattle.ijson_table.proofs.pairs.PairsByKey.{keys-length, keys-swap_out, set-value}
 use Rattle.ijson_table.proofs.probing.KeyTests.{is_hashed_key-seeks}
 use Rattle.ijson_table.proofs.probing.ProbeEnds.{look_up_ends, bounded}
 use Rattle.ijson_table.proofs.probing.ProbePath.{placed_at}
+use Rattle.ijson_table.proofs.slots.KeptHashes.{table_by_hash}
 
 module _ {V : Type 0} (hash : List ℕ → ℕ) where
   -- the hash of each key, in order
@@ -82,13 +84,13 @@ module _ {V : Type 0} (hash : List ℕ → ℕ) where
 
   -- by no more looks than the crowd of its home allows
   pub find_bounded : (pairs lent : List (List ℕ × V)) (capacity : ℕ) (index : HashIndex) (h : ℕ) (key : List ℕ) (looks : ℕ) (end : Probed)
-      → IsPlaced hash pairs capacity index → lent ≡ pairs → h ≡ hash key
+      → index.hashes ≡ hashes pairs → length index.slots ≡ slot_count capacity → lent ≡ pairs → h ≡ hash key
       → IsTable index.hashes index.slots → EndsBy index.hashes lent h index.slots key looks end
       → IsBounded hash (keys_of pairs) index.slots capacity key looks
-  find_bounded pairs lent capacity index h key looks end placed is hashed table ends =
-      bounded hash (keys_of pairs) index.slots (table_of pairs index placed.hashes table) key
-      (is_hashed_key-seeks hash (keys_of pairs) key) capacity placed.size end looks
-      (ends_for pairs lent index h key looks end placed.hashes is hashed ends)
+  find_bounded pairs lent capacity index h key looks end stored size is hashed table ends =
+      bounded hash (keys_of pairs) index.slots (table_of pairs index stored table) key
+      (is_hashed_key-seeks hash (keys_of pairs) key) capacity size end looks
+      (ends_for pairs lent index h key looks end stored is hashed ends)
 
   -- in no slots there is no key
   pub nowhere : (pairs : List (List ℕ × V)) (slots : List (Option ℕ)) (key : List ℕ) → IsTable (hashes pairs) slots → length slots ≡ 0
@@ -99,6 +101,13 @@ module _ {V : Type 0} (hash : List ℕ → ℕ) where
         omega (arith, spot.1, none)),
     λ e. omega (arith, e.1, none),
   )
+
+-- where an index keeps of the hashes what it keeps among its slots, these are a table of the whole ones
+pub table_whole : {V : Type 0} (hash : List ℕ → ℕ) (pairs : List (List ℕ × V)) (index : HashIndex)
+    → index.hashes ≡ hashes (kept_hash (length index.slots) hash) pairs → IsTable index.hashes index.slots
+    → IsTable (hashes hash pairs) index.slots
+table_whole hash pairs index stored table =
+    table_by_hash hash (keys_of pairs) index.slots (table_of (kept_hash (length index.slots) hash) pairs index stored table)
 
 -- where there is room for one more, there is no growth
 pub had_room : (len c : ℕ) → len < c → Grown len c 1 c

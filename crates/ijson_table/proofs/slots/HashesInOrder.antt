@@ -1,5 +1,5 @@
 -- The hashes of the positions are those that stand beside them.
-use Rattle.std.proofs.Common.{◌≡◌, ℕ, zero, suc, ◌+◌, ◌<◌, ◌≤◌, inl, inr, arith, List, [], ◌∷◌, length, get_or, drop, Some, None, true}
+use Rattle.std.proofs.Common.{◌≡◌, ℕ, zero, suc, ◌+◌, ◌<◌, ◌≤◌, ◌^◌, inl, inr, arith, List, [], ◌∷◌, length, get_or, drop, Some, None, true}
 use Rattle.std.proofs.Common.{false, cond, refl, sym, ap, subst, ◌∙◌, drop-cons}
 use Rattle.std.specs.Prelude.{if◌then◌else◌}
 use Rattle.std.proofs.lemmas.Bool.Decides.{nat_tests}
@@ -84,10 +84,11 @@ hashes_of-table hashes slots table have fits = from hashes slots have table.plac
 
 -- so the slots are an index with these hashes
 pub index_of : (hashes : List ℕ) (slots : List Slot) → IsTable hashes (positions slots) → HaveHashes hashes slots
-    → length hashes ≤ length slots → IsIndex slots
-index_of hashes slots table have fits =
+    → length hashes ≤ length slots → length slots < 2 ^ 64 → IsIndex slots
+index_of hashes slots table have fits limited =
     let is : hashes ≡ hashes_of slots = sym (hashes_of-table hashes slots table have fits) in
     record {
       table = subst (λ hs. IsTableOf hs slots) is (record { table = table; hashes_are = have });
       room = omega (arith, fits, ap length is);
+      limited = limited;
     }

@@ -36,26 +36,20 @@ pub record IsIndexOf (hashes : List ℕ) (slots : List Slot) : Type 0 where
   pub is : hashes_of slots ≡ hashes
 
 -- slots that are a table of hashes are an index with these
-pub index_is : (hashes : List ℕ) (slots : List Slot) → IsTable hashes (positions slots) → HaveHashes hashes slots → IsIndexOf hashes slots
-index_is hashes slots table have =
+pub index_is : (hashes : List ℕ) (slots : List Slot) → IsTableOf hashes slots → length slots < 2 ^ 64 → IsIndexOf hashes slots
+index_is hashes slots are limited =
     let fits : length hashes ≤ length slots =
-    omega (arith, no_less (length hashes) (positions slots) table.placed, positions-length slots) in
-    record { index = index_of hashes slots table have fits; is = hashes_of-table hashes slots table have fits }
-
--- the slots after a call that was lent them as a whole, and their hashes
-pub after_call : (f : List ℕ → List ℕ) (old lent new : List Slot) (len : ℕ) → lent ≡ old → length new ≡ length lent → len ≡ length old
-    → IsTableOf (f (hashes_of lent)) new → IsIndexOf (f (hashes_of old)) (take len (new ++ drop (length new) old))
-after_call f old lent new len is same size table =
-    let now : length new ≡ length old = same ∙ ap length is in
-    let t : IsTableOf (f (hashes_of old)) new = subst (λ ps. IsTableOf (f (hashes_of ps)) new) is table in
-    subst (IsIndexOf (f (hashes_of old))) (sym (whole len new old now size))
-    (index_is (f (hashes_of old)) new t.table t.hashes_are)
+    omega (arith, no_less (length hashes) (positions slots) are.table.placed, positions-length slots) in
+    record {
+      index = index_of hashes slots are.table are.hashes_are fits limited;
+      is = hashes_of-table hashes slots are.table are.hashes_are fits;
+    }
 
 -- where no position stands
-pub empty_index : (slots : List Slot) → All (λ slot. position_in slot ≡ None) slots → IsIndexOf [] slots
-empty_index slots empty =
+pub empty_index : (slots : List Slot) → All (λ slot. position_in slot ≡ None) slots → length slots < 2 ^ 64 → IsIndexOf [] slots
+empty_index slots empty limited =
     let held : Holds [] (below 0) None (positions slots) = holds_none [] (positions slots) (all_empty slots empty) in
-    index_is [] slots (table-holds [] 0 (positions slots) refl held) (hashes-none [] slots empty)
+    index_is [] slots (record { table = table-holds [] 0 (positions slots) refl held; hashes_are = hashes-none [] slots empty }) limited
 
 -- where no position has a hash, nothing stands at any slot
 nothing_there : (slots : List Slot) → IsIndex slots → hashes_of slots ≡ [] → (p : ℕ) → p < length slots → (read : Option ℕ)
@@ -86,9 +80,9 @@ module _ (slots : List Slot) (index : IsIndex slots) (position hash : ℕ) (next
       (omega (arith, next, room, positions-length slots))
 
   -- one position more may be put into them
-  pub accepts : position + 1 < 2 ^ 64 → Accepts (hashes ++ hash ∷ []) slots position hash
-  accepts fits = record {
-    fits = fits;
+  pub accepts : Accepts (hashes ++ hash ∷ []) slots position hash
+  accepts = record {
+    fits = omega (arith, room, index.limited);
     hash_is = sym (ap (λ n. get_or (hashes ++ hash ∷ []) n 0) next ∙ get_or-append_seam hashes hash [] 0);
     hashes_are = hashes-as hashes (hashes ++ hash ∷ []) slots index.table.hashes_are
         (λ p i lp e. get_or-append hashes (hash ∷ []) 0 i (in_list hashes (positions slots) index.table.table p i lp e));
@@ -103,19 +97,10 @@ module _ (slots : List Slot) (index : IsIndex slots) (position hash : ℕ) (next
   pushed new same held have =
       let size : length (hashes ++ hash ∷ []) ≡ position + 1 = omega (arith, length-append hashes (hash ∷ []), next) in
       index_is (hashes ++ hash ∷ []) new (record {
-        ordered = held.ordered;
-        placed =
-            λ i. grind (arith, nat_tests, held.placed i, index.table.table.placed i, next, size);
-      }) have
-
--- the slots after a call that was lent them as a whole and put one position more into them, and their hashes
-pub after_push : (old lent new : List Slot) (position hash len : ℕ) → IsIndex old → position ≡ length (hashes_of old)
-    → position < length old → lent ≡ old → length new ≡ length lent → len ≡ length old
-    → Holds (hashes_of lent ++ hash ∷ []) (with_one (positions lent) position) None (positions new)
-    → HaveHashes (hashes_of lent ++ hash ∷ []) new → IsIndexOf (hashes_of old ++ hash ∷ []) (take len (new ++ drop (length new) old))
-after_push old lent new position hash len index next room is same size held have =
-    let now : length new ≡ length old = same ∙ ap length is in
-    subst (IsIndexOf (hashes_of old ++ hash ∷ [])) (sym (whole len new old now size))
-    (pushed old index position hash next room new now
-    (subst (λ ps. Holds (hashes_of ps ++ hash ∷ []) (with_one (positions ps) position) None (positions new)) is held)
-    (subst (λ ps. HaveHashes (hashes_of ps ++ hash ∷ []) new) is have))
+        table = record {
+          ordered = held.ordered;
+          placed =
+              λ i. grind (arith, nat_tests, held.placed i, index.table.table.placed i, next, size);
+        };
+        hashes_are = have;
+      }) (omega (arith, same, index.limited))

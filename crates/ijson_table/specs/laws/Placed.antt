@@ -11,6 +11,7 @@ use Rattle.ijson_table.specs.StoreWithValue.{store_with_value}
 use Rattle.ijson_table.specs.laws.Store.{store_code}
 use Rattle.ijson_table.specs.private.IsPlaced.{IsPlaced}
 use Rattle.ijson_table.specs.private.HashIndex.{HashIndex}
+use Rattle.ijson_table.specs.private.KeptHash.{kept_hash}
 use Rattle.ijson_table.specs.private.Room.{HasRoom}
 
 abbrev pub placed_code : {V : Type 0} → Coded V → Coded (Placed V)
@@ -25,7 +26,7 @@ placed_with_value t i value = record { store = store_with_value t.store i value;
 pub IsPlaced-prop : {V : Type 0} (hash : List ℕ → ℕ) (pairs : List (List ℕ × V)) (capacity : ℕ) (index : HashIndex)
     → IsProp (IsPlaced hash pairs capacity index)
 IsPlaced-prop hash pairs capacity index x y =
-    let hashes_prop : IsProp (index.hashes ≡ map hash (keys_of pairs)) = hlevel props in
+    let hashes_prop : IsProp (index.hashes ≡ map (kept_hash (length index.slots) hash) (keys_of pairs)) = hlevel props in
     let size_prop : IsProp (length index.slots ≡ slot_count capacity) = hlevel props in
     λ i. record {
       room = HasRoom-prop (length pairs) capacity x.room y.room i;
@@ -38,6 +39,6 @@ pub placed_along : {X Y : Type 0} (hash : List ℕ → ℕ) (ps : List (List ℕ
     → keys_of ps ≡ keys_of qs → length ps ≡ length qs → IsPlaced hash ps capacity index → IsPlaced hash qs capacity index
 placed_along hash ps qs capacity index keys lengths placed = record {
   room = subst (λ n. HasRoom n capacity) lengths placed.room;
-  hashes = subst (λ ks. index.hashes ≡ map hash ks) keys placed.hashes;
+  hashes = subst (λ ks. index.hashes ≡ map (kept_hash (length index.slots) hash) ks) keys placed.hashes;
   size = placed.size;
 }

@@ -1,5 +1,5 @@
 -- What a list of slots is: the hashes of the keys in the order of their positions, and what stands at each slot.
-use Rattle.std.specs.Prelude.{ℕ, ◌≤◌, List, length, Option}
+use Rattle.std.specs.Prelude.{ℕ, ◌<◌, ◌≤◌, ◌^◌, List, length, Option}
 use Rattle.ijson_table.specs.declared.index.slot.Slot.{Slot}
 use Rattle.ijson_table.specs.private.Insertion.{IsTableOf}
 use Rattle.ijson_table.specs.private.SlotHashes.{hashes_of}
@@ -12,3 +12,4 @@ pub record HashIndex : Type 0 where
 pub record IsIndex (slots : List Slot) : Type 0 where
   pub table : IsTableOf (hashes_of slots) slots
   pub room : length (hashes_of slots) ≤ length slots
+  pub limited : length slots < 2 ^ 64

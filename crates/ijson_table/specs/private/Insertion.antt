@@ -3,6 +3,7 @@ use Rattle.std.specs.Prelude.{◌≡◌, ℕ, ◌+◌, ◌<◌, ◌≤◌, ◌^�
 use Rattle.ijson_table.specs.declared.index.slot.Slot.{Slot}
 use Rattle.ijson_table.specs.Slots.{resident, times, below, IsOrdered, IsTable}
 use Rattle.ijson_table.specs.private.Holds.{HasEmpty}
+use Rattle.ijson_table.specs.private.KeptHash.{narrow_slots}
 use Rattle.ijson_table.specs.private.SlotHashes.{positions, HaveHashes}
 
 -- This position may be put into the slots, one of which is empty. Its key has this hash.
@@ -27,6 +28,8 @@ pub record AcceptsEach (hashes : List ℕ) (slots from : List Slot) : Type 0 whe
   pub from_hashes : HaveHashes hashes from
   pub once : (i : ℕ) → times i (positions slots) + times i (positions from) ≤ below (length hashes) i
   pub room : length hashes ≤ length slots
+  pub limited : length slots < 2 ^ 64
+  pub wide : narrow_slots < length slots
 
 -- The slots are a table of the hashes that stand there.
 pub record IsTableOf (hashes : List ℕ) (slots : List Slot) : Type 0 where

@@ -1,11 +1,12 @@
 //! Copies of slots with another count of slots, in growth and shrinking. Where the residents crowd, the slots are filled by sorting.
 
-ghost use Rattle.std.specs.Prelude.{◌≡◌, ℕ, ◌+◌, ◌*◌, ◌^◌, ◌<◌, ◌≤◌, [], List, length, IfOk, OnOk, OnErr, IsTrue, IsFalse};
+ghost use Rattle.std.specs.Prelude.{◌≡◌, ◌≢◌, ℕ, ◌+◌, ◌*◌, ◌^◌, ◌<◌, ◌≤◌, [], List, length, IfOk, OnOk, OnErr, IsTrue, IsFalse};
 ghost use Rattle.ijson_table.specs.private.CopyBound.{steps_a_resident, IsCopyBounded};
 ghost use Rattle.ijson_table.specs.private.Entries.{AreEntries};
 ghost use Rattle.ijson_table.specs.private.Insertion.{IsTableOf};
+ghost use Rattle.ijson_table.specs.private.KeptHash.{narrow_slots};
 
-use crate::growth::{list_with_room, tighten};
+use crate::growth::list_with_room;
 use crate::index::Index;
 use crate::index::shift::rehash;
 use crate::index::slot::{Modulus, Slot};
@@ -20,8 +21,9 @@ const STEPS_A_RESIDENT: u128 = 32;
 
 impl Index {
     /// The same positions, `len` in number, among so many slots, which have room for each. Where there are as many here, the slots are
-    /// copied as they are. Room for none takes no memory. It takes time linear in both counts of slots where few keys crowd. Where many
-    /// do, entries of 16 bytes for each position are sorted in memory of their own, up to twice that, in time n log n at most.
+    /// copied as they are. Else there are many here and there, which keep whole hashes. Room for none takes no memory. It takes time linear
+    /// in both counts of slots where few keys crowd. Where many do, entries of 16 bytes for each position are sorted in memory of their
+    /// own, up to twice that, in time n log n at most.
     pub fn copy_with_slots(
         &self,
         alloc: Global,
@@ -30,6 +32,7 @@ impl Index {
     ) -> Result<Index, AllocError>
         requires len { len ≡ length self.now.hashes }
         requires room { len ≤ count }
+        requires kept { count ≢ length self.now.slots → (narrow_slots < length self.now.slots) × (narrow_slots < count) }
         ensures hashes { IfOk result (λ index. index.hashes ≡ self.now.hashes) }
         ensures count { IfOk result (λ index. length index.slots ≡ count) }
         ensures refused { OnErr result (0 < count) }
@@ -49,15 +52,16 @@ impl Index {
         requires len { len ≡ length self.now.hashes }
         requires room { len ≤ count }
         requires steps { steps.old ≡ 0 }
+        requires kept { count ≢ length self.now.slots → (narrow_slots < length self.now.slots) × (narrow_slots < count) }
         ensures hashes { IfOk result (λ index. index.hashes ≡ self.now.hashes) }
         ensures count { IfOk result (λ index. length index.slots ≡ count) }
         ensures refused { OnErr result (0 < count) }
         ensures bounded { IsCopyBounded len steps.new }
     {
-        if count > 0 && count == self.len() {
-            let mut slots = Vec::from_slice(alloc, &self.slots)?;
-            tighten(alloc, &mut slots)?;
-            return Ok(Index { slots });
+        if count == self.len() {
+            return Ok(Index {
+                slots: self.slots.copied(alloc)?,
+            });
         }
         let mut index = Index::with_slots(alloc, count)?;
         if !index.rehash_from(self, len, steps) {
@@ -72,6 +76,7 @@ impl Index {
         requires empty { self.old.hashes ≡ [] }
         requires len { len ≡ length other.now.hashes }
         requires room { len ≤ length self.old.slots }
+        requires wide { (narrow_slots < length self.old.slots) × (narrow_slots < length other.now.slots) }
         requires steps { steps.old ≡ 0 }
         ensures hashes { IsTrue result → self.new.hashes ≡ other.now.hashes }
         ensures empty { IsFalse result → self.new.hashes ≡ [] }
@@ -79,14 +84,14 @@ impl Index {
         ensures steps { steps.new ≤ len * steps_a_resident }
     {
         rehash(
-            &other.slots,
+            other.slots.as_slice(),
             &mut self.slots,
             STEPS_A_RESIDENT * len as u128,
             steps,
         )
     }
 
-    /// Puts the positions of other slots, `len` in number, into these, which are empty and have room for each, in the order of their
+    /// Puts the positions of other slots, `len` in number, into these, which are empty, many, and have room for each, in the order of their
     /// homes. Each look at two entries is counted.
     fn fill_from(
         &mut self,
@@ -99,12 +104,13 @@ impl Index {
         requires len { len ≡ length other.now.hashes }
         requires room { len ≤ length self.old.slots }
         requires steps { steps.old ≤ len * steps_a_resident }
+        requires wide { (narrow_slots < length self.old.slots) × (narrow_slots < length other.now.slots) }
         ensures hashes { OnOk result (self.new.hashes ≡ other.now.hashes) }
         ensures count { length self.new.slots ≡ length self.old.slots }
         ensures refused { OnErr result (0 < len) }
         ensures bounded { (k : ℕ) → len ≤ 2 ^ k → steps.new ≤ steps.old + len * k }
     {
-        let entries = residents(alloc, &other.slots, len)?;
+        let entries = residents(alloc, other.slots.as_slice(), len)?;
         if entries.is_empty() {
             return Ok(());
         }

@@ -5,6 +5,8 @@ ghost use Rattle.std.specs.List.{All};
 ghost use Rattle.ijson_table.specs.Slots.{times, IsOrdered};
 ghost use Rattle.ijson_table.specs.private.HomeOrder.{behind, home_before, home_in, AreInHomeOrder, CanBeLaid};
 ghost use Rattle.ijson_table.specs.private.Insertion.{IsTableOf};
+ghost use Rattle.ijson_table.specs.private.KeptHash.{kept};
+ghost use Rattle.ijson_table.specs.private.Narrow.{Fits};
 ghost use Rattle.ijson_table.specs.private.Probe.{onward};
 ghost use Rattle.ijson_table.specs.private.SlotHashes.{blank, position_in, positions, HaveHashes};
 ghost use Rattle.ijson_table.specs.private.Sorting.{IsSortedBy};
@@ -12,6 +14,7 @@ ghost use Rattle.ijson_table.specs.private.Sorting.{IsSortedBy};
 use crate::index::Index;
 use crate::index::probe::next_slot;
 use crate::index::slot::{Modulus, Slot, distance_between};
+use crate::index::slots::Slots;
 
 impl Index {
     /// Puts entries in the order of their homes into the slots, which are empty and have room for each. The time is linear in the
@@ -21,6 +24,7 @@ impl Index {
         requires empty { self.old.hashes ≡ [] }
         requires room { length hashes ≤ length self.old.slots }
         requires entries { AreInHomeOrder hashes (length self.old.slots) sorted.now }
+        requires kept { (i : ℕ) → kept (length self.old.slots) (get_or hashes i 0) ≡ get_or hashes i 0 }
         ensures hashes { self.new.hashes ≡ hashes }
         ensures count { length self.new.slots ≡ length self.old.slots }
     {
@@ -29,12 +33,14 @@ impl Index {
 }
 
 /// Puts entries in the order of their homes into empty slots, which have room for each.
-fn fill(slots: &mut [Slot], sorted: &[Slot])
+fn fill(slots: &mut Slots, sorted: &[Slot])
     ghost hashes: { List ℕ }
     requires empty { All (λ slot. position_in slot ≡ None) slots.old }
     requires room { length hashes ≤ length slots.old }
     requires entries { AreInHomeOrder hashes (length slots.old) sorted.now }
-    ensures { IsTableOf hashes slots.new }
+    requires narrow { All (Fits (length slots.old)) sorted.now }
+    ensures table { IsTableOf hashes slots.new }
+    ensures count { length slots.new ≡ length slots.old }
 {
     if sorted.is_empty() {
         return;
@@ -68,21 +74,23 @@ fn first_in_row(sorted: &[Slot], modulus: Modulus) -> usize
 
 /// Lays entries into empty slots, from the one at `start` on and its home `first`, round the end of both. Each goes to its home, or to
 /// the slot behind the entry before it where that is further on.
-fn lay(slots: &mut [Slot], sorted: &[Slot], modulus: Modulus, start: usize, first: usize)
+fn lay(slots: &mut Slots, sorted: &[Slot], modulus: Modulus, start: usize, first: usize)
     ghost hashes: { List ℕ }
     requires counted { modulus.count ≡ length slots.old }
     requires empty { All (λ slot. position_in slot ≡ None) slots.old }
     requires entries { CanBeLaid hashes (length slots.old) start first sorted.now }
+    requires narrow { All (Fits (length slots.old)) sorted.now }
     ensures ordered { IsOrdered hashes (positions slots.new) }
     ensures placed { (i : ℕ) → times i (positions slots.new) ≡ times i (positions sorted.now) }
     ensures hashes { HaveHashes hashes slots.new }
+    ensures count { length slots.new ≡ length slots.old }
 {
     let mut index = start;
     let mut next = 0;
     for _step in 0..sorted.len() {
         let entry = sorted[index];
         let steps = next.max(steps_to_home(entry, modulus, first));
-        slots[steps_on(slots.len(), first, steps)] = entry;
+        slots.set(steps_on(slots.len(), first, steps), entry);
         next = steps + 1;
         index = next_slot(sorted.len(), index);
     }

@@ -107,7 +107,8 @@ pub fn probe<P: ProbeTarget>(target: &P, looks: &mut Looks) -> Probed
     Probed::Full
 }
 
-/// A key that is sought among pairs, and its hash. It goes to the memory of a key only where the hashes are the same.
+/// A key that is sought among pairs, and what the index keeps of its hash. It goes to the memory of a key only where the same is kept
+/// of the hash of that.
 #[derive(Drop)]
 pub struct Lookup<'a, V> {
     pub pairs: &'a [(IString, V)],
@@ -135,7 +136,7 @@ impl<'a, V> ProbeTarget for Lookup<'a, V> {
     ghost seeks = { λ s. is_hashed_key s.index.now.hashes (keys_of s.pairs.now) s.hash s.key.now };
 
     fn count(&self) -> usize {
-        self.index.len()
+        self.modulus.count
     }
 
     fn home(&self) -> usize {

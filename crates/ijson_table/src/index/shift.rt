@@ -7,21 +7,23 @@ ghost use Rattle.ijson_table.specs.private.Changes.{changes};
 ghost use Rattle.ijson_table.specs.private.Closing.{closed};
 ghost use Rattle.ijson_table.specs.private.Holds.{with_one, Holds, HasEmpty, HasGap, MayStand};
 ghost use Rattle.ijson_table.specs.private.Insertion.{Accepts, AcceptsEach, EndsWith, IsTableOf, Stands};
+ghost use Rattle.ijson_table.specs.private.KeptHash.{narrow_slots};
+ghost use Rattle.ijson_table.specs.private.Narrow.{MayHold};
 ghost use Rattle.ijson_table.specs.private.SlotHashes.{displacement_in, positions, position_in, HaveHashes};
 ghost use Rattle.ijson_table.specs.private.Probe.{AreFull, IsVacancy};
 ghost use Rattle.std.specs.List.{All, remove, swap_remove as swapped_out};
 
-use crate::index::clear_slots;
 use crate::index::places::Seen;
 use crate::index::probe::{ProbeTarget, Probed, next_slot, probe};
 use crate::index::slot::{Modulus, Slot, distance_between};
+use crate::index::slots::Slots;
 use ijson_number::Looks;
 
 /// A probe that knows of a key its hash alone. It seeks the slot of a position, or with none the vacancy of a key that stands at no
 /// slot.
 #[derive(Drop)]
 struct HashProbe<'a> {
-    slots: &'a [Slot],
+    slots: &'a Slots,
     modulus: Modulus,
     hash: u64,
     position: Option<usize>,
@@ -51,14 +53,14 @@ impl<'a> ProbeTarget for HashProbe<'a> {
 
     fn look(&self, slot: usize, looks: &mut Looks) -> Seen {
         looks.add_one();
-        let there = self.slots[slot];
+        let there = self.slots.at(slot);
         let same = there.position() == self.position;
         there.seen(self.modulus, slot, same)
     }
 }
 
 /// Where the probe for a key of this hash ends that stands at none of the slots, and how many slots it looks at.
-pub fn vacancy(slots: &[Slot], hash: u64) -> (usize, u128)
+pub fn vacancy(slots: &Slots, hash: u64) -> (usize, u128)
     requires { HasEmpty (positions slots.now) }
     ensures vacancy { IsVacancy (displacement_in slots.now) (length slots.now) (hash % length slots.now) result.0 }
     ensures within { result.1 ≤ length slots.now }
@@ -78,7 +80,7 @@ pub fn vacancy(slots: &[Slot], hash: u64) -> (usize, u128)
 }
 
 /// The slot of a position, whose key has this hash.
-fn slot_of(slots: &[Slot], position: usize, hash: u64) -> usize
+fn slot_of(slots: &Slots, position: usize, hash: u64) -> usize
     ghost hashes: { List ℕ }
     requires { Stands hashes slots.now position hash }
     ensures within { result < length slots.now }
@@ -98,37 +100,42 @@ fn slot_of(slots: &[Slot], position: usize, hash: u64) -> usize
 
 /// Puts a position down at a slot, whose key has this hash. The residents from there on move one slot forward each, up to the next
 /// empty slot. Answers that one, the last that is written.
-pub fn shift_forward(slots: &mut [Slot], from: usize, position: usize, hash: u64) -> usize
+pub fn shift_forward(slots: &mut Slots, from: usize, position: usize, hash: u64) -> usize
     ghost hashes: { List ℕ }
     requires accepts { Accepts hashes slots.old position hash }
     requires may { MayStand hashes (positions slots.old) position from }
+    requires narrow { MayHold (length slots.old) position hash }
     ensures holds { Holds hashes (with_one (positions slots.old) position) None (positions slots.new) }
     ensures hashes { HaveHashes hashes slots.new }
+    ensures count { length slots.new ≡ length slots.old }
     ensures within { result < length slots.old }
     ensures empty { resident (positions slots.old) result ≡ None }
     ensures passed { AreFull (positions slots.old) from (distance (length slots.old) from result) }
     ensures changes { changes (positions slots.old) (positions slots.new) ≤ distance (length slots.old) from result + 1 }
 {
+    let count = slots.len();
     let mut entry = Slot::of(position, hash);
     let mut slot = from;
     loop {
-        let was = slots[slot];
-        slots[slot] = entry;
+        let was = slots.at(slot);
+        slots.set(slot, entry);
         let Some(_resident) = was.position() else {
             return slot;
         };
         entry = was;
-        slot = next_slot(slots.len(), slot);
+        slot = next_slot(count, slot);
     }
 }
 
 /// Puts a position into the slots, one of which is empty. Its key has this hash. Answers the steps: each slot that it looks at, and
 /// each one that it writes.
-fn insert(slots: &mut [Slot], position: usize, hash: u64) -> u128
+fn insert(slots: &mut Slots, position: usize, hash: u64) -> u128
     ghost hashes: { List ℕ }
-    requires { Accepts hashes slots.old position hash }
+    requires accepts { Accepts hashes slots.old position hash }
+    requires narrow { MayHold (length slots.old) position hash }
     ensures holds { Holds hashes (with_one (positions slots.old) position) None (positions slots.new) }
     ensures hashes { HaveHashes hashes slots.new }
+    ensures count { length slots.new ≡ length slots.old }
     ensures changes { changes (positions slots.old) (positions slots.new) ≤ result }
     ensures few { (n : ℕ) → ((i : ℕ) → with_one (positions slots.old) position i ≤ below n i) → result ≤ 2 * n + 1 }
 {
@@ -138,76 +145,82 @@ fn insert(slots: &mut [Slot], position: usize, hash: u64) -> u128
 }
 
 /// Moves the residents behind a gap one slot back each, up to an empty slot or a resident at its home.
-fn shift_back(slots: &mut [Slot], from: usize)
+fn shift_back(slots: &mut Slots, from: usize)
     ghost hashes: { List ℕ }
     requires gap { HasGap hashes (positions slots.old) from }
     requires hashes { HaveHashes hashes slots.old }
     ensures ordered { IsOrdered hashes (positions slots.new) }
     ensures placed { (i : ℕ) → times i (positions slots.new) ≡ times i (positions slots.old) }
     ensures hashes { HaveHashes hashes slots.new }
+    ensures count { length slots.new ≡ length slots.old }
 {
-    let modulus = Modulus::new(slots.len());
+    let count = slots.len();
+    let modulus = Modulus::new(count);
     let mut gap = from;
     loop {
-        let next = next_slot(slots.len(), gap);
-        let behind = slots[next];
+        let next = next_slot(count, gap);
+        let behind = slots.at(next);
         let Some(_resident) = behind.position() else {
             return;
         };
         if behind.distance(modulus, next) == 0 {
             return;
         }
-        slots[gap] = behind;
-        slots[next] = Slot::empty();
+        slots.set(gap, behind);
+        slots.set(next, Slot::empty());
         gap = next;
     }
 }
 
 /// Takes a position out of the slots of a table. Its key has this hash.
-fn take_out(slots: &mut [Slot], position: usize, hash: u64)
+fn take_out(slots: &mut Slots, position: usize, hash: u64)
     ghost hashes: { List ℕ }
     requires table { IsTableOf hashes slots.old }
     requires within { position < length hashes }
     requires hash { hash ≡ get_or hashes position 0 }
     ensures holds { Holds hashes (below (length hashes)) (Some position) (positions slots.new) }
     ensures hashes { HaveHashes hashes slots.new }
+    ensures count { length slots.new ≡ length slots.old }
 {
     let slot = slot_of(slots, position, hash);
-    slots[slot] = Slot::empty();
+    slots.set(slot, Slot::empty());
     shift_back(slots, slot);
 }
 
 /// Takes a position out, and gives its number to the last one, which is another.
-pub fn swap_remove(slots: &mut [Slot], position: usize, hash: u64, last: usize, last_hash: u64)
+pub fn swap_remove(slots: &mut Slots, position: usize, hash: u64, last: usize, last_hash: u64)
     ghost hashes: { List ℕ }
     requires table { IsTableOf hashes slots.old }
     requires hashes { EndsWith hashes position hash last last_hash }
-    ensures { IsTableOf (swapped_out hashes position 0) slots.new }
+    ensures table { IsTableOf (swapped_out hashes position 0) slots.new }
+    ensures count { length slots.new ≡ length slots.old }
 {
     take_out(slots, position, hash);
     let there = slot_of(slots, last, last_hash);
-    slots[there] = Slot::of(position, last_hash);
+    let moved = slots.at(there).hash();
+    slots.set(there, Slot::of(position, moved));
 }
 
 /// Makes each position behind one that is out one less.
-fn close_up(slots: &mut [Slot], gone: usize)
+fn close_up(slots: &mut Slots, gone: usize)
     requires { gone + 1 < 2 ^ 64 }
     ensures { slots.new ≡ map (closed gone) slots.old }
 {
-    for slot in slots.iter_mut() {
-        *slot = slot.closed(gone);
+    for slot in 0..slots.len() {
+        slots.set(slot, slots.at(slot).closed(gone));
     }
 }
 
 /// Takes a position out, and makes each later one one less. There is none behind the last.
-pub fn shift_remove(slots: &mut [Slot], position: usize, hash: u64, last: usize)
+pub fn shift_remove(slots: &mut Slots, position: usize, hash: u64, last: usize)
     ghost hashes: { List ℕ }
     requires table { IsTableOf hashes slots.old }
     requires within { position ≤ last }
     requires last { last + 1 ≡ length hashes }
     requires fits { last + 1 < 2 ^ 64 }
     requires hash { hash ≡ get_or hashes position 0 }
-    ensures { IsTableOf (remove hashes position) slots.new }
+    ensures table { IsTableOf (remove hashes position) slots.new }
+    ensures count { length slots.new ≡ length slots.old }
 {
     take_out(slots, position, hash);
     if position < last {
@@ -234,7 +247,7 @@ fn wrapped(slots: &[Slot]) -> usize
 
 /// Puts what stands at these slots into others, one by one, up to a bound on the steps, which are counted. Answers whether it put
 /// all of it.
-fn insert_each(from: &[Slot], slots: &mut [Slot], most: u128, steps: &mut u128) -> bool
+fn insert_each(from: &[Slot], slots: &mut Slots, most: u128, steps: &mut u128) -> bool
     ghost hashes: { List ℕ }
     requires accepts { AcceptsEach hashes slots.old from.now }
     requires fits { most + 3 * length hashes < 2 ^ 128 }
@@ -243,6 +256,7 @@ fn insert_each(from: &[Slot], slots: &mut [Slot], most: u128, steps: &mut u128) 
     ensures placed { IsTrue result → (i : ℕ) → times i (positions slots.new)
         ≡ times i (positions slots.old) + times i (positions from.now) }
     ensures hashes { HaveHashes hashes slots.new }
+    ensures count { length slots.new ≡ length slots.old }
     ensures steps { steps.new ≤ most + 3 * length hashes }
 {
     for index in 0..from.len() {
@@ -261,15 +275,18 @@ fn insert_each(from: &[Slot], slots: &mut [Slot], most: u128, steps: &mut u128) 
 /// Puts what stands at the slots of a table into empty ones. It goes by their order, from the first resident that did
 /// not go round the end, so residents with the same home stay in their order. It goes to the memory of no key. The steps are counted,
 /// and past a bound it stops: then it makes the slots empty again, and answers that it did not put all.
-pub fn rehash(old: &[Slot], slots: &mut [Slot], most: u128, steps: &mut u128) -> bool
+pub fn rehash(old: &[Slot], slots: &mut Slots, most: u128, steps: &mut u128) -> bool
     ghost hashes: { List ℕ }
     requires table { IsTableOf hashes old.now }
     requires empty { All (λ slot. position_in slot ≡ None) slots.old }
     requires room { length hashes ≤ length slots.old }
+    requires limited { length slots.old < 2 ^ 64 }
+    requires wide { narrow_slots < length slots.old }
     requires fits { most + 3 * length hashes < 2 ^ 128 }
     requires steps { steps.old ≡ 0 }
     ensures table { IsTrue result → IsTableOf hashes slots.new }
     ensures empty { IsFalse result → All (λ slot. position_in slot ≡ None) slots.new }
+    ensures count { length slots.new ≡ length slots.old }
     ensures steps { steps.new ≤ most + 3 * length hashes }
 {
     let start = wrapped(old);
@@ -278,6 +295,6 @@ pub fn rehash(old: &[Slot], slots: &mut [Slot], most: u128, steps: &mut u128) ->
             return true;
         }
     }
-    clear_slots(slots);
+    slots.clear();
     false
 }

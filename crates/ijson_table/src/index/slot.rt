@@ -3,12 +3,15 @@
 ghost use Rattle.std.specs.Prelude.{◌≡◌, ◌≢◌, ◌+◌, ◌-◌, ◌<◌, ◌/◌, ◌%◌, ◌^◌, Some, None, IsTrue, ◌↔◌};
 ghost use Rattle.ijson_table.specs.Crowd.{distance};
 ghost use Rattle.ijson_table.specs.private.Closing.{closed};
-ghost use Rattle.ijson_table.specs.private.SlotHashes.{position_in, SeenAs};
+ghost use Rattle.ijson_table.specs.private.KeptHash.{kept};
+ghost use Rattle.ijson_table.specs.private.SlotHashes.{blank, position_in, SeenAs};
+
+pub mod narrow;
 
 use crate::index::places::Seen;
 
-/// Nothing, or the position of a pair beside the hash of its key, which tells how far the slot is from the key's home, and
-/// most other keys from it. So a walk rarely goes to the memory of a key.
+/// Nothing, or the position of a pair beside the hash of its key, or what is kept of it, which tells how far the slot is from the key's
+/// home. A whole hash tells most other keys from it too, so a walk rarely goes to the memory of a key.
 #[derive(Clone, Copy, Debug, Drop)]
 pub struct Slot {
     /// 0 for nothing, or the position plus one.
@@ -19,7 +22,7 @@ pub struct Slot {
 impl Slot {
     /// The slot where nothing stands.
     pub fn empty() -> Slot
-        ensures { position_in result ≡ None }
+        ensures { result ≡ blank }
     {
         Slot { code: 0, hash: 0 }
     }
@@ -128,6 +131,9 @@ pub fn distance_between(slots: usize, from: usize, to: usize) -> usize
     }
 }
 
+/// Up to how many slots an index keeps of a hash no more than the home and eight bits of the quotient. They are those of 127 pairs.
+pub const NARROW_SLOTS: usize = 158;
+
 /// A count of slots beside its reciprocal. To take many hashes modulo the count it divides once, and goes by products, which
 /// take a fraction of the time.
 #[derive(Clone, Copy, Drop)]
@@ -157,19 +163,38 @@ impl Modulus {
         ensures value { result ≡ hash % self.count }
         ensures within { result < self.count }
     {
-        remainder(hash, self.count as u64, self.reciprocal) as usize
+        divided(hash, self.count as u64, self.reciprocal).1 as usize
+    }
+
+    /// What an index of so many slots keeps of a hash. Where they are few it is the home and eight bits of the quotient, which tell
+    /// most other keys from it, and else the whole hash.
+    #[inline(always)]
+    pub fn kept_hash(self, hash: u64) -> u64
+        ensures { result ≡ kept self.count hash }
+    {
+        if self.count > NARROW_SLOTS {
+            return hash;
+        }
+        let count = self.count as u64;
+        let (quotient, home) = divided(hash, count, self.reciprocal);
+        quotient % 256 * count + home
     }
 }
 
-/// What is left of a hash where it is divided by a count that has this reciprocal: the quotient by the reciprocal is that by the
-/// count, or one less.
+/// A hash divided by a count that has this reciprocal, and what is left: the quotient by the reciprocal is that by the count, or one
+/// less.
 #[inline(always)]
-fn remainder(hash: u64, count: u64, reciprocal: u64) -> u64
+fn divided(hash: u64, count: u64, reciprocal: u64) -> (u64, u64)
     requires some { 0 < count }
     requires reciprocal { reciprocal ≡ (2 ^ 64 - 1) / count }
-    ensures { result ≡ hash % count }
+    ensures quotient { result.0 ≡ hash / count }
+    ensures left { result.1 ≡ hash % count }
 {
     let quotient = ((u128::from(hash) * u128::from(reciprocal)) >> 64) as u64;
     let left = hash - quotient * count;
-    if left < count { left } else { left - count }
+    if left < count {
+        (quotient, left)
+    } else {
+        (quotient + 1, left - count)
+    }
 }

@@ -9,6 +9,7 @@ ghost use Rattle.ijson_table.specs.Store.{keys_of, put, put_each};
 ghost use Rattle.ijson_table.specs.private.Changes.{changes};
 ghost use Rattle.ijson_table.specs.private.CountedSteps.{CountsSteps};
 ghost use Rattle.ijson_table.specs.private.FirstPlaced.{ComesAgain, FirstPlaced};
+ghost use Rattle.ijson_table.specs.private.KeptHash.{kept_hash};
 
 use super::Table;
 use crate::growth::{limited, slots_for, split_rest, tighten};
@@ -244,7 +245,7 @@ fn add_new_keys<V, H: KeyHash>(
     requires steps { steps.old ≡ 0 }
     requires few { length index.old.slots ≤ 2 ^ 60 }
     ensures within { result ≤ length pairs.now }
-    ensures placed { FirstPlaced H.hash_of pairs.now result index.new }
+    ensures placed { FirstPlaced (kept_hash (length index.old.slots) H.hash_of) pairs.now result index.new }
     ensures stops { result < length pairs.now → steps.new ≤ most → ComesAgain pairs.now result }
     ensures count { length index.new.slots ≡ length index.old.slots }
     ensures steps { steps.new ≤ most + 2 * length index.old.slots }
@@ -275,19 +276,19 @@ fn add_new_key<V, H: KeyHash>(
     requires counted { modulus.count ≡ length index.old.slots }
     requires within { position < length pairs.now }
     requires room { position < length index.old.slots }
-    requires placed { FirstPlaced H.hash_of pairs.now position index.old }
+    requires placed { FirstPlaced (kept_hash (length index.old.slots) H.hash_of) pairs.now position index.old }
     requires fits { steps.old + 2 * length index.old.slots < 2 ^ 64 }
-    ensures placed { IsTrue result → FirstPlaced H.hash_of pairs.now (position + 1) index.new }
+    ensures placed { IsTrue result → FirstPlaced (kept_hash (length index.old.slots) H.hash_of) pairs.now (position + 1) index.new }
     ensures left { IsFalse result → index.new ≡ index.old }
     ensures stops { IsFalse result → ComesAgain pairs.now position }
     ensures count { length index.new.slots ≡ length index.old.slots }
     ensures steps { steps.new ≤ steps.old + 2 * length index.old.slots }
-    ensures counted { CountsSteps H.hash_of (keys_of (take position pairs.now)) (get_or (keys_of pairs.now) position [])
-        index.old index.new (steps.new - steps.old) }
+    ensures counted { CountsSteps (kept_hash (length index.old.slots) H.hash_of) (keys_of (take position pairs.now))
+        (get_or (keys_of pairs.now) position []) index.old index.new (steps.new - steps.old) }
     ensures grows { steps.old < steps.new }
 {
     let key = pairs[position].0.as_str();
-    let hash = H::hash(key);
+    let hash = modulus.kept_hash(H::hash(key));
     let lookup = Lookup {
         pairs: &pairs[..position],
         index,

@@ -1,11 +1,13 @@
 //! Tables whose keys have one home, or two: how many steps it takes to copy their slots to another count of slots, and what they hold
 //! then.
 
-ghost use Rattle.std.specs.Prelude.{◌≡◌, ◌≤◌, length};
+ghost use Rattle.std.specs.Prelude.{◌≡◌, ◌<◌, ◌≤◌, length};
+ghost use Rattle.ijson_table.specs.private.KeptHash.{narrow_slots};
 
 use super::refusals::holds;
 use super::{AlwaysZero, numbered};
 use crate::index::Index;
+use crate::index::slot::NARROW_SLOTS;
 use crate::{FixedHash, KeyHash, PairStore, Table};
 use ijson_string::IString;
 use std::alloc::Global;
@@ -18,11 +20,11 @@ type Copied = (usize, usize, usize, [u64; 2], u128);
 /// With one home and one by one, n positions take n * (n + 3) / 2 steps.
 static COPIES: [Copied; 7] = [
     // none, and one
-    (0, 5, 10, [0, 0], 0),
-    (1, 5, 2, [4, 4], 2),
+    (0, 159, 300, [0, 0], 0),
+    (1, 300, 159, [4, 4], 2),
     // one by one, within 32 steps for each
-    (40, 50, 100, [0, 0], 860),
-    (61, 80, 160, [9, 9], 1_952),
+    (40, 250, 500, [0, 0], 860),
+    (61, 160, 320, [9, 9], 1_952),
     // beyond that they are sorted, and not 2,003,000 steps are made
     (2_000, 2_500, 5_000, [7, 7], 66_259),
     (2_000, 5_000, 2_500, [7, 7], 66_259),
@@ -30,10 +32,12 @@ static COPIES: [Copied; 7] = [
     (2_000, 2_500, 2_501, [6_250_000, 2_501], 76_124),
 ];
 
-/// So many positions among these slots.
+/// So many positions among these slots, which are so many that they keep whole hashes.
 fn crowd(rt: &impl Abort, alloc: Global, len: usize, count: usize, hashes: [u64; 2]) -> Index
-    requires { len ≤ count }
-    ensures { length result.hashes ≡ len }
+    requires room { len ≤ count }
+    requires many { narrow_slots < count }
+    ensures hashes { length result.hashes ≡ len }
+    ensures count { length result.slots ≡ count }
 {
     let mut index = Index::with_slots(alloc, count).expect(rt, "slots");
     for position in 0..len {
@@ -57,7 +61,8 @@ fn residents(index: &Index, hashes: [u64; 2]) -> usize {
 /// Asserts what a copy takes and holds.
 fn is_copied(rt: &impl Abort, alloc: Global, copied: &Copied) {
     let (len, from, to, hashes, want) = *copied;
-    assert!(rt; len <= from && len <= to);
+    let fewest = from.min(to);
+    assert!(rt; len <= fewest && NARROW_SLOTS < fewest);
     let index = crowd(rt, alloc, len, from, hashes);
     let mut steps = 0;
     let copy = index
@@ -118,7 +123,16 @@ fn keeps_its_pairs<H: KeyHash>(rt: &impl Abort, alloc: Global, count: u16, capac
 }
 
 /// How many pairs a full table has, and its capacity after a growth for one more.
-static GROWTHS: [(u16, usize); 5] = [(0, 4), (1, 4), (5, 10), (100, 200), (3_000, 6_000)];
+static GROWTHS: [(u16, usize); 7] = [
+    (0, 4),
+    (1, 4),
+    (5, 10),
+    (100, 200),
+    // the last of few slots, and the first of many
+    (127, 254),
+    (128, 256),
+    (3_000, 6_000),
+];
 
 #[test]
 fn tables_and_their_copies_keep_the_pairs(rt: HostRuntime) {

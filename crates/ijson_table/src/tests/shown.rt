@@ -93,12 +93,13 @@ fn shown<P: PairStore<u64> + Debug + Drop>(rt: &impl Abort, alloc: Global) -> St
     format!(in alloc; "{store:?}").expect(rt, "a text")
 }
 
-/// What is shown of a table with the pair of a and 0: the home of a is 2 of 5 slots, and a slot shows the position plus one, or 0.
+/// What is shown of a table with the pair of a and 0: the home of a is 2 of 5 slots, and a slot shows the position plus one, or 0, and
+/// what is kept of the hash: of 12638153115695167552 the remainder by 5 times 256.
 static TABLE_SHOWN: &str = concat!(
     "Table { pairs: [(\"a\", 0)], index: Index { slots: [",
     "Slot { code: 0, hash: 0 }, ",
     "Slot { code: 0, hash: 0 }, ",
-    "Slot { code: 1, hash: 12638153115695167552 }, ",
+    "Slot { code: 1, hash: 832 }, ",
     "Slot { code: 0, hash: 0 }, ",
     "Slot { code: 0, hash: 0 }",
     "] }, alloc: Global, hash: PhantomData<_> }",

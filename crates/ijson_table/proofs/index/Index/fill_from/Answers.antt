@@ -1,9 +1,12 @@
-use Rattle.std.proofs.Common.{◌≡◌, ◌≤◌, ◌^◌, ℕ, List, length, arith, ap, ◌∙◌}
+use Rattle.std.proofs.Common.{◌≡◌, ◌<◌, ◌≤◌, ◌^◌, ℕ, List, length, get_or, arith, ap, ◌∙◌}
+use Rattle.std.proofs.lemmas.Bool.Decides.{nat_tests}
 use Rattle.ijson_table.specs.declared.index.slot.Slot.{Slot}
 use Rattle.ijson_table.specs.private.Entries.{AreEntries}
 use Rattle.ijson_table.specs.private.HashIndex.{HashIndex}
 use Rattle.ijson_table.specs.private.SlotHashes.{hashes_of}
 use Rattle.ijson_table.proofs.building.EntriesInOrder.{entries_hashes, entries_moved, home_order}
+use Rattle.ijson_table.proofs.slots.KeptHashes.{kept-wide}
+use Rattle.ijson_table.proofs.slots.HashesInSlots.{positions-length}
 use Rattle.ijson_table.proofs.index.Index.fill_from.Goals as goal
 
 -- looks at entries fit
@@ -22,24 +25,35 @@ overflow_add-steps c =
 
 pub fill-requires : goal.fill-requires
 fill-requires c =
-    let hs : List ℕ = hashes_of c.deref.result.now in
-    let sorted : List Slot = c.deref-2.result.now in
+    let hs : List ℕ = hashes_of c.as_slice.result.now in
+    let sorted : List Slot = c.deref.result.now in
     let are : AreEntries hs sorted = entries_moved hs c.in_ok-entries.entries.items c.in_ok-entries.ensures.entries
-    c.in_ok-sorted.field-0.items sorted c.in_ok-sorted.ensures.moved c.deref-2.ensures.value in
-    let viewed : hs ≡ c.args.other.now.hashes = ap hashes_of c.deref.ensures.value ∙ ap (λ (l : HashIndex). l.hashes) c.other.view_is in (
+    c.in_ok-sorted.field-0.items sorted c.in_ok-sorted.ensures.moved c.deref.ensures.value in
+    let viewed : hs ≡ c.args.other.now.hashes = ap hashes_of c.as_slice.ensures ∙ ap (λ (l : HashIndex). l.hashes) c.other.view_is in (
       c.requires.empty,
       (
         omega (arith, ap length (entries_hashes hs sorted are), ap length viewed, c.requires.len, c.requires.room),
-        home_order hs c.new.result.count _ sorted c.in_ok-sorted.field-0.items are c.deref-2.ensures.value
-            (c.new.ensures ∙ c.len.ensures.count) c.in_ok-sorted.ensures.sorted,
+        (
+          home_order hs c.new.result.count _ sorted c.in_ok-sorted.field-0.items are c.deref.ensures.value
+              (c.new.ensures ∙ c.len.ensures.count) c.in_ok-sorted.ensures.sorted,
+          λ i. kept-wide (length c.args.self.now.slots) (get_or (hashes_of sorted) i 0) c.requires.wide.0,
+        ),
       ),
     )
 
 pub returns-clause-hashes : goal.returns-clause-hashes
 returns-clause-hashes c =
-    let hs : List ℕ = hashes_of c.deref.result.now in
-    let sorted : List Slot = c.deref-2.result.now in
+    let hs : List ℕ = hashes_of c.as_slice.result.now in
+    let sorted : List Slot = c.deref.result.now in
     let are : AreEntries hs sorted = entries_moved hs c.in_ok-entries.entries.items c.in_ok-entries.ensures.entries
-    c.in_ok-sorted.field-0.items sorted c.in_ok-sorted.ensures.moved c.deref-2.ensures.value in
-    let viewed : hs ≡ c.args.other.now.hashes = ap hashes_of c.deref.ensures.value ∙ ap (λ (l : HashIndex). l.hashes) c.other.view_is in
+    c.in_ok-sorted.field-0.items sorted c.in_ok-sorted.ensures.moved c.deref.ensures.value in
+    let viewed : hs ≡ c.args.other.now.hashes = ap hashes_of c.as_slice.ensures ∙ ap (λ (l : HashIndex). l.hashes) c.other.view_is in
     c.fill.ensures.hashes ∙ (entries_hashes hs sorted are ∙ viewed)
+
+pub as_slice-requires : goal.as_slice-requires
+as_slice-requires c = omega (
+  arith,
+  c.requires.wide.1,
+  ap (λ (l : HashIndex). length l.slots) c.other.view_is,
+  positions-length c.other.inside.slots,
+)

@@ -1,39 +1,46 @@
-use Rattle.std.proofs.Common.{◌≡◌, None, [], ◌∷◌, ◌++◌, List, length, take, drop, arith, ap, sym, ◌∙◌, subst}
+use Rattle.std.proofs.Common.{◌≡◌, ◌<◌, ℕ, None, [], ◌∷◌, ◌++◌, List, length, arith, ap, sym, ◌∙◌, subst}
 use Rattle.ijson_table.specs.declared.index.slot.Slot.{Slot}
 use Rattle.ijson_table.specs.Slots.{resident}
 use Rattle.ijson_table.specs.private.Holds.{MayStand}
-use Rattle.ijson_table.specs.private.Insertion.{Accepts}
+use Rattle.ijson_table.specs.private.KeptHash.{kept}
 use Rattle.ijson_table.specs.private.SlotHashes.{positions, hashes_of}
 use Rattle.ijson_table.specs.private.HashIndex.{HashIndex}
-use Rattle.ijson_table.proofs.slots.IndexInvariant.{accepts, after_push, IsIndexOf}
+use Rattle.ijson_table.proofs.slots.IndexInvariant.{accepts, pushed, IsIndexOf}
 use Rattle.ijson_table.proofs.slots.HashesInSlots.{positions-length}
+use Rattle.ijson_table.proofs.slots.NarrowSlots.{may_hold}
 use Rattle.ijson_table.proofs.index.Index.push_at.Goals as goal
+
+-- the position is the next one, and there is room for it
+record IsNext (slots : List Slot) (position : ℕ) : Type 0 where
+  pub next : position ≡ length (hashes_of slots)
+  pub room : position < length slots
+
+is_next : (slots : List Slot) (seen : HashIndex) (position : ℕ) → record { hashes = hashes_of slots; slots = positions slots } ≡ seen
+    → position ≡ length seen.hashes → position < length seen.slots → IsNext slots position
+is_next slots seen position is next room = record {
+  next = omega (arith, next, ap (λ (l : HashIndex). length l.hashes) is);
+  room = omega (arith, room, ap (λ (l : HashIndex). length l.slots) is, positions-length slots);
+}
 
 pub shift_forward-requires : goal.shift_forward-requires
 shift_forward-requires c =
-    let slots : List Slot = c.self.inside.slots.items in
-    let viewed : hashes_of slots ≡ c.args.self.now.hashes = ap (λ (l : HashIndex). l.hashes) c.self.view_is in
-    let sized : length (positions slots) ≡ length c.args.self.now.slots = ap (λ (l : HashIndex). length l.slots) c.self.view_is in (
-      subst (λ ps. Accepts (hashes_of ps ++ c.args.hash ∷ []) ps c.args.position c.args.hash) (sym c.deref_mut.ensures.value)
-          (accepts slots c.self.invariant c.args.position c.args.hash (omega (arith, c.requires.position, ap length viewed))
-          (omega (arith, c.requires.room, sized, positions-length slots))
-          (omega (arith, c.requires.room, sized, positions-length slots, c.self.inside.slots.ok))),
-      subst (λ ps. MayStand (hashes_of ps ++ c.args.hash ∷ []) (positions ps) c.args.position c.args.slot) (sym c.deref_mut.ensures.value)
-          (subst (λ (l : HashIndex). MayStand (l.hashes ++ c.args.hash ∷ []) l.slots c.args.position c.args.slot)
-          (sym c.self.view_is) c.requires.may),
+    let to = is_next c.self.inside.slots c.args.self.now c.args.position c.self.view_is c.requires.position c.requires.room in (
+      accepts c.self.inside.slots c.self.invariant c.args.position c.args.hash to.next to.room,
+      (
+        subst (λ (l : HashIndex). MayStand (l.hashes ++ c.args.hash ∷ []) l.slots c.args.position c.args.slot)
+            (sym c.self.view_is) c.requires.may,
+        may_hold (length c.self.inside.slots) c.args.position c.args.hash
+            (subst (λ n. c.args.hash ≡ kept n c.args.hash)
+            (sym (ap (λ (l : HashIndex). length l.slots) c.self.view_is) ∙ positions-length c.self.inside.slots) c.requires.kept) to.room,
+      ),
     )
 
 -- the slots that come back, and their hashes
-left : (c : goal.After-self-2-1) → IsIndexOf (hashes_of c.self.inside.slots.items ++ c.args.hash ∷ [])
-    (take c.self.inside.slots.len (c.shift_forward.new.slots ++ drop (length c.shift_forward.new.slots) c.self.inside.slots.items))
+left : (c : goal.After-shift_forward) → IsIndexOf (hashes_of c.self.inside.slots ++ c.args.hash ∷ []) c.shift_forward.new.slots
 left c =
-    let slots : List Slot = c.self.inside.slots.items in
-    let viewed : hashes_of slots ≡ c.args.self.now.hashes = ap (λ (l : HashIndex). l.hashes) c.self.view_is in
-    let sized : length (positions slots) ≡ length c.args.self.now.slots = ap (λ (l : HashIndex). length l.slots) c.self.view_is in
-    after_push slots c.deref_mut.result.now c.shift_forward.new.slots c.args.position c.args.hash c.self.inside.slots.len c.self.invariant
-    (omega (arith, c.requires.position, ap length viewed)) (omega (arith, c.requires.room, sized, positions-length slots))
-    c.deref_mut.ensures.value (omega (arith, c.shift_forward.auto.slots))
-    (omega (arith, c.self.inside.slots.ok.0)) c.shift_forward.ensures.holds c.shift_forward.ensures.hashes
+    let to = is_next c.self.inside.slots c.args.self.now c.args.position c.self.view_is c.requires.position c.requires.room in
+    pushed c.self.inside.slots c.self.invariant c.args.position c.args.hash to.next to.room c.shift_forward.new.slots
+    c.shift_forward.ensures.count c.shift_forward.ensures.holds c.shift_forward.ensures.hashes
 
 pub invariant_of-self : goal.invariant_of-self
 invariant_of-self c = (left c).index
@@ -46,12 +53,10 @@ pub returns-clause-within : goal.returns-clause-within
 returns-clause-within c = omega (
   arith,
   c.shift_forward.ensures.within,
-  ap length c.deref_mut.ensures.value,
-  positions-length c.self.inside.slots.items,
+  positions-length c.self.inside.slots,
   ap (λ (l : HashIndex). length l.slots) c.self.view_is,
 )
 
 pub returns-clause-empty : goal.returns-clause-empty
 returns-clause-empty c =
-    subst (λ (l : HashIndex). resident l.slots c.shift_forward.result ≡ None) c.self.view_is
-    (subst (λ ps. resident (positions ps) c.shift_forward.result ≡ None) c.deref_mut.ensures.value c.shift_forward.ensures.empty)
+    subst (λ (l : HashIndex). resident l.slots c.shift_forward.result ≡ None) c.self.view_is c.shift_forward.ensures.empty

@@ -1,11 +1,11 @@
-use Rattle.std.proofs.Common.{◌≡◌, ℕ, List, [], length, take, drop, ◌++◌, arith, ap, refl, sym, ◌∙◌, subst, None, Bool, true, false}
+use Rattle.std.proofs.Common.{◌≡◌, ◌<◌, ◌^◌, ℕ, List, [], length, arith, ap, refl, sym, ◌∙◌, subst, None, Bool, true, false}
 use Rattle.std.specs.Prelude.{IsTrue, IsFalse}
 use Rattle.std.specs.List.{All}
 use Rattle.ijson_table.specs.declared.index.slot.Slot.{Slot}
 use Rattle.ijson_table.specs.private.Insertion.{IsTableOf}
 use Rattle.ijson_table.specs.private.SlotHashes.{hashes_of, position_in}
 use Rattle.ijson_table.specs.private.HashIndex.{HashIndex, IsIndex}
-use Rattle.ijson_table.proofs.slots.IndexInvariant.{whole, index_is, empty_index, each_empty, IsIndexOf}
+use Rattle.ijson_table.proofs.slots.IndexInvariant.{index_is, empty_index, each_empty, IsIndexOf}
 use Rattle.ijson_table.proofs.slots.HashesInSlots.{positions-length}
 use Rattle.ijson_table.proofs.index.Index.rehash_from.Goals as goal
 
@@ -21,63 +21,63 @@ bool_apart bad = cc
 
 -- all or none
 left_in : (done : Bool) (hashes : List ℕ) (new : List Slot) → (IsTrue done → IsTableOf hashes new)
-    → (IsFalse done → All (λ slot. position_in slot ≡ None) new) → AreLeft done hashes new
-left_in true hashes new table empty =
-    let all : IsIndexOf hashes new = index_is hashes new (table refl).table (table refl).hashes_are in
+    → (IsFalse done → All (λ slot. position_in slot ≡ None) new) → length new < 2 ^ 64 → AreLeft done hashes new
+left_in true hashes new table empty limited =
+    let all : IsIndexOf hashes new = index_is hashes new (table refl) limited in
     record { index = all.index; full = λ _. all.is; empty = λ f. absurd (bool_apart f) }
-left_in false hashes new table empty =
-    let none : IsIndexOf [] new = empty_index new (empty refl) in
+left_in false hashes new table empty limited =
+    let none : IsIndexOf [] new = empty_index new (empty refl) limited in
     record { index = none.index; full = λ t. absurd (bool_apart (sym t)); empty = λ _. none.is }
-
--- the same of slots that were lent as a whole
-after_rehash : (done : Bool) (old lent fresh new : List Slot) (len : ℕ) → lent ≡ old → length new ≡ length fresh → len ≡ length fresh
-    → (IsTrue done → IsTableOf (hashes_of lent) new)
-    → (IsFalse done → All (λ slot. position_in slot ≡ None) new)
-    → AreLeft done (hashes_of old) (take len (new ++ drop (length new) fresh))
-after_rehash done old lent fresh new len is same size table empty =
-    subst (AreLeft done (hashes_of old)) (sym (whole len new fresh same size))
-    (left_in done (hashes_of old) new (λ t. subst (λ ps. IsTableOf (hashes_of ps) new) is (table t)) empty)
 
 pub rehash-requires : goal.rehash-requires
 rehash-requires c =
-    let fresh : List Slot = c.self.inside.slots.items in
-    let old : List Slot = c.other.inside.slots.items in
-    let same : length (hashes_of c.deref.result.now) ≡ length c.args.other.now.hashes =
-    ap (λ ps. length (hashes_of ps)) c.deref.ensures.value ∙ ap (λ (l : HashIndex). length l.hashes) c.other.view_is in
+    let fresh : List Slot = c.self.inside.slots in
+    let old : List Slot = c.other.inside.slots in
+    let lent : c.as_slice.result.now ≡ old = c.as_slice.ensures in
+    let same : length (hashes_of c.as_slice.result.now) ≡ length c.args.other.now.hashes =
+    ap (λ ps. length (hashes_of ps)) lent ∙ ap (λ (l : HashIndex). length l.hashes) c.other.view_is in
     let none : hashes_of fresh ≡ [] = ap (λ (l : HashIndex). l.hashes) c.self.view_is ∙ c.requires.empty in (
-      subst (λ ps. IsTableOf (hashes_of ps) ps) (sym c.deref.ensures.value) c.other.invariant.table,
+      subst (λ ps. IsTableOf (hashes_of ps) ps) (sym lent) c.other.invariant.table,
       (
-        subst (All (λ slot. position_in slot ≡ None)) (sym c.deref_mut.ensures.value) (each_empty fresh c.self.invariant none),
+        each_empty fresh c.self.invariant none,
         (
           omega (
             arith,
             same,
             c.requires.len,
-            ap length c.deref_mut.ensures.value,
             c.requires.room,
             ap (λ (l : HashIndex). length l.slots) c.self.view_is,
             positions-length fresh,
           ),
-          (omega (arith, same, c.requires.len, c.ranges.len.fits), c.requires.steps),
+          (
+            c.self.invariant.limited,
+            (
+              omega (arith, c.requires.wide.0, ap (λ (l : HashIndex). length l.slots) c.self.view_is, positions-length fresh),
+              (omega (arith, same, c.requires.len, c.ranges.len.fits), c.requires.steps),
+            ),
+          ),
         ),
       ),
     )
 
 -- the slots that come back, and their hashes
-left : (c : goal.After-self-2-1) → AreLeft c.rehash.result (hashes_of c.other.inside.slots.items)
-    (take c.self.inside.slots.len (c.rehash.new.slots ++ drop (length c.rehash.new.slots) c.self.inside.slots.items))
-left c =
-    let fresh : List Slot = c.self.inside.slots.items in
-    after_rehash c.rehash.result c.other.inside.slots.items c.deref.result.now fresh c.rehash.new.slots c.self.inside.slots.len
-    c.deref.ensures.value
-    (omega (arith, c.rehash.auto.slots, ap length c.deref_mut.ensures.value)) (omega (arith, c.self.inside.slots.ok.0))
-    c.rehash.ensures.table c.rehash.ensures.empty
+left : (c : goal.After-rehash) → AreLeft c.rehash.result (hashes_of c.as_slice.result.now) c.rehash.new.slots
+left c = left_in c.rehash.result (hashes_of c.as_slice.result.now) c.rehash.new.slots c.rehash.ensures.table c.rehash.ensures.empty
+    (omega (arith, c.rehash.ensures.count, c.self.invariant.limited))
 
 pub invariant_of-self : goal.invariant_of-self
 invariant_of-self c = (left c).index
 
 pub returns-clause-hashes : goal.returns-clause-hashes
-returns-clause-hashes c = λ t. (left c).full t ∙ ap (λ (l : HashIndex). l.hashes) c.other.view_is
+returns-clause-hashes c = λ t. (left c).full t ∙ (ap hashes_of c.as_slice.ensures ∙ ap (λ (l : HashIndex). l.hashes) c.other.view_is)
 
 pub returns-clause-empty : goal.returns-clause-empty
 returns-clause-empty c = (left c).empty
+
+pub as_slice-requires : goal.as_slice-requires
+as_slice-requires c = omega (
+  arith,
+  c.requires.wide.1,
+  ap (λ (l : HashIndex). length l.slots) c.other.view_is,
+  positions-length c.other.inside.slots,
+)

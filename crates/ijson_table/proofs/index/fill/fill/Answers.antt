@@ -34,11 +34,11 @@ can_lay hashes n count start first sorted are fits counted starts within is grea
           (rotated_room n start sorted are.sorted starts (omega (arith, fits, are.count)) most);
     }
 
-pub returns-then-is_empty : goal.returns-then-is_empty
-returns-then-is_empty g c =
+pub returns-then-is_empty-clause-table : goal.returns-then-is_empty-clause-table
+returns-then-is_empty-clause-table g c =
     let slots : List Slot = c.args.slots.now in
     let sorted : List Slot = c.args.sorted.now in
-    let are : AreInHomeOrder g.hashes (length slots) sorted = c.requires.1.1 in
+    let are : AreInHomeOrder g.hashes (length slots) sorted = c.requires.1.1.0 in
     let none : length sorted ≡ 0 = grind (arith, nat_tests, c.is_empty.ensures, c.if-is_empty.true) in
     let empty = all_empty slots c.requires.0 in
     record {
@@ -50,13 +50,18 @@ returns-then-is_empty g c =
     }
 
 pub lay-requires : goal.lay-requires
-lay-requires g c = (
-  c.new-modulus.ensures,
-  (
-    c.requires.0,
-    can_lay g.hashes (length c.args.slots.now) c.new-modulus.result.count c.first_in_row-start.result c.home_of_hash-first.result
-        c.args.sorted.now c.requires.1.1 c.requires.1.0 c.new-modulus.ensures c.first_in_row-start.ensures.within
-        c.home_of_hash-first.ensures.within (c.home_of_hash-first.ensures.value ∙ ap (λ h. h % c.new-modulus.result.count) c.hash.ensures)
-        c.first_in_row-start.ensures.greatest,
-  ),
-)
+lay-requires g c =
+    let counted : c.new-modulus.result.count ≡ length c.args.slots.now = c.new-modulus.ensures ∙ c.len.ensures in (
+      counted,
+      (
+        c.requires.0,
+        (
+          can_lay g.hashes (length c.args.slots.now) c.new-modulus.result.count c.first_in_row-start.result c.home_of_hash-first.result
+              c.args.sorted.now c.requires.1.1.0 c.requires.1.0 counted c.first_in_row-start.ensures.within
+              c.home_of_hash-first.ensures.within
+              (c.home_of_hash-first.ensures.value ∙ ap (λ h. h % c.new-modulus.result.count) c.hash.ensures)
+              c.first_in_row-start.ensures.greatest,
+          c.requires.1.1.1,
+        ),
+      ),
+    )

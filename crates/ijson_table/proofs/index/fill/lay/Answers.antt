@@ -1,5 +1,5 @@
 use Rattle.std.proofs.Common.{◌≡◌, ◌+◌, ◌<◌, ℕ, List, length, get_or, set, max, Some, arith, refl, ap, ap₂, sym, ◌∙◌, subst}
-use Rattle.std.proofs.lemmas.List.{take_all}
+use Rattle.std.proofs.lemmas.List.{length-set, take_all}
 use Rattle.std.proofs.lemmas.List.Elements.{All-get_or}
 use Rattle.std.proofs.lemmas.Bool.Decides.{nat_tests}
 use Rattle.std.specs.Ordering.{nat_cmp, ord_max}
@@ -7,8 +7,9 @@ use Rattle.std.specs.Prelude.{◌≢◌, None}
 use Rattle.ijson_table.specs.declared.index.slot.Slot.{Slot}
 use Rattle.ijson_table.specs.Slots.{after, times}
 use Rattle.ijson_table.specs.private.HomeOrder.{rotated, behind, HaveRoom, CanBeLaid}
+use Rattle.ijson_table.specs.private.Narrow.{Fits}
 use Rattle.ijson_table.specs.private.Probe.{onward}
-use Rattle.ijson_table.specs.private.SlotHashes.{blank, position_in, positions, HasHash}
+use Rattle.ijson_table.specs.private.SlotHashes.{blank, position_in, positions, HasHash, HaveHashes}
 use Rattle.ijson_table.proofs.arithmetic.Circular.{onward-zero, after-onward}
 use Rattle.ijson_table.proofs.filling.Laying.{Laying, laid_none, laid_inside, laid_more}
 use Rattle.ijson_table.proofs.filling.NoneEmpty.{some_position}
@@ -62,7 +63,7 @@ loop-step-init g c =
     let slots : List Slot = c.args.slots.now in
     let sorted : List Slot = c.args.sorted.now in
     let start : ℕ = c.args.start in
-    let can : CanBeLaid g.hashes (length slots) start c.args.first sorted = c.requires.1.1 in
+    let can : CanBeLaid g.hashes (length slots) start c.args.first sorted = c.requires.1.1.0 in
     record {
       index = sym (onward-zero (length sorted) start can.starts);
       inside = can.starts;
@@ -71,21 +72,25 @@ loop-step-init g c =
           (omega (arith, can.starts, length-rotated start sorted (omega (arith, can.starts))))
           (omega (arith, can.within, positions-length slots)) (all_empty slots c.requires.1.0);
       hashes = hashes-none g.hashes slots c.requires.1.0;
+      count = refl;
     }
 
 pub steps_on-requires-clause-steps : goal.steps_on-requires-clause-steps
-steps_on-requires-clause-steps g c =
-    inside_now g.hashes (length c.args.slots.now) c.args.start c.args.first c.loop-step.next c.loop-step._step c.loop-step.index
-    c.steps_to_home.result c.args.modulus.count c.max-steps.result c.args.sorted.now c.loop-step.slots c.requires.1.1
-    (omega (arith, c.loop-step.auto.slots)) c.loop-step.invariant.laying c.loop-step-test.true c.loop-step.invariant.index c.requires.0
-    c.steps_to_home.ensures c.max-steps.ensures
+steps_on-requires-clause-steps g c = omega (
+  arith,
+  c.len.ensures,
+  inside_now g.hashes (length c.args.slots.now) c.args.start c.args.first c.loop-step.next c.loop-step._step c.loop-step.index
+      c.steps_to_home.result c.args.modulus.count c.max-steps.result c.args.sorted.now c.loop-step.slots c.requires.1.1.0
+      c.loop-step.invariant.count c.loop-step.invariant.laying c.loop-step-test.true c.loop-step.invariant.index c.requires.0
+      c.steps_to_home.ensures c.max-steps.ensures,
+)
 
 pub overflow_add-next : goal.overflow_add-next
 overflow_add-next g c =
     let inside : c.max-steps.result < length c.loop-step.slots =
     inside_now g.hashes (length c.args.slots.now) c.args.start c.args.first c.loop-step.next c.loop-step._step c.loop-step.index
-    c.steps_to_home.result c.args.modulus.count c.max-steps.result c.args.sorted.now c.loop-step.slots c.requires.1.1
-    (omega (arith, c.loop-step.auto.slots)) c.loop-step.invariant.laying c.loop-step-test.true c.loop-step.invariant.index c.requires.0
+    c.steps_to_home.result c.args.modulus.count c.max-steps.result c.args.sorted.now c.loop-step.slots c.requires.1.1.0
+    c.loop-step.invariant.count c.loop-step.invariant.laying c.loop-step-test.true c.loop-step.invariant.index c.requires.0
     c.steps_to_home.ensures c.max-steps.ensures in
     omega arith
 
@@ -101,7 +106,7 @@ loop-step-preserved g c =
     let steps : ℕ = c.max-steps.result in
     let entries : List Slot = rotated start sorted in
     let entry : Slot = get_or sorted index blank in
-    let can : CanBeLaid hashes (length c.args.slots.now) start first sorted = c.requires.1.1 in
+    let can : CanBeLaid hashes (length c.args.slots.now) start first sorted = c.requires.1.1.0 in
     let more : step < length sorted = c.loop-step-test.true in
     let here : index < length sorted = c.loop-step.invariant.inside in
     let same : get_or entries step blank ≡ entry = entry_now start step index sorted can.starts more c.loop-step.invariant.index in
@@ -110,29 +115,39 @@ loop-step-preserved g c =
     let laid : Laying hashes first entries (steps + 1) (step + 1) (set (positions slots) (onward (length (positions slots)) first steps)
     (Some who.0)) =
     laid_more hashes first entries c.loop-step.next step who.0 (positions slots)
-    (room_now hashes (length c.args.slots.now) start first sorted slots can (omega (arith, c.loop-step.auto.slots)))
+    (room_now hashes (length c.args.slots.now) start first sorted slots can (omega (arith, c.loop-step.invariant.count)))
     c.loop-step.invariant.laying (omega (arith, more, length-rotated start sorted (omega (arith, can.starts))))
-    (omega (arith, can.within, c.loop-step.auto.slots, positions-length slots)) (subst (HasHash hashes) (sym same) has)
+    (omega (arith, can.within, c.loop-step.invariant.count, positions-length slots)) (subst (HasHash hashes) (sym same) has)
     (ap position_in same ∙ who.1) steps (steps_now first step index start c.loop-step.next c.steps_to_home.result c.args.modulus.count steps
-    sorted slots same (omega (arith, c.requires.0, c.loop-step.auto.slots)) c.steps_to_home.ensures c.max-steps.ensures) in
+    sorted slots same (omega (arith, c.requires.0, c.loop-step.invariant.count)) c.steps_to_home.ensures c.max-steps.ensures) in
     let there : onward (length (positions slots)) first steps ≡ c.steps_on.result =
-    ap (λ m. onward m first steps) (positions-length slots) ∙ sym c.steps_on.ensures.slot in
+    ap (λ m. onward m first steps) (positions-length slots ∙ sym c.len.ensures) ∙ sym c.steps_on.ensures.slot in
+    let now : c.set.new.self ≡ set slots c.steps_on.result entry =
+    c.set.ensures in
     record {
       index = c.next_slot-index.ensures.slot
           ∙ (ap (after (length sorted)) c.loop-step.invariant.index ∙ after-onward (length sorted) start step can.starts more);
       inside = c.next_slot-index.ensures.within;
       laying = subst (Laying hashes first entries (steps + 1) (step + 1))
-          (ap (λ p. set (positions slots) p (Some who.0)) there ∙ sym (positions-put slots c.steps_on.result entry who.0 who.1)) laid;
-      hashes = hashes-set hashes slots c.steps_on.result entry has c.loop-step.invariant.hashes;
+          (ap (λ p. set (positions slots) p (Some who.0)) there
+          ∙ (sym (positions-put slots c.steps_on.result entry who.0 who.1) ∙ ap positions (sym now))) laid;
+      hashes = subst (HaveHashes hashes) (sym now)
+          (hashes-set hashes slots c.steps_on.result entry has c.loop-step.invariant.hashes);
+      count = ap length now ∙ (length-set slots c.steps_on.result entry ∙ c.loop-step.invariant.count);
     }
 
 pub returns-clause-placed : goal.returns-clause-placed
 returns-clause-placed g c i =
     let sorted : List Slot = c.args.sorted.now in
     let entries : List Slot = rotated c.args.start sorted in
-    let can : CanBeLaid g.hashes (length c.args.slots.now) c.args.start c.args.first sorted = c.requires.1.1 in
+    let can : CanBeLaid g.hashes (length c.args.slots.now) c.args.start c.args.first sorted = c.requires.1.1.0 in
     let size : length (positions entries) ≡ length sorted =
     positions-length entries ∙ length-rotated c.args.start sorted (omega (arith, can.starts)) in
     c.loop-step.invariant.laying.placed i
     ∙ (ap (times i) (take_all c.loop-step._step (positions entries) (omega (arith, size, c.loop-step-test.false)))
     ∙ times-rotated i c.args.start sorted)
+
+pub set-requires-clause-fits : goal.set-requires-clause-fits
+set-requires-clause-fits g c =
+    subst (λ n. Fits n (get_or c.args.sorted.now c.loop-step.index blank)) (sym c.loop-step.invariant.count)
+    (All-get_or (Fits (length c.args.slots.now)) c.args.sorted.now c.loop-step.index blank c.loop-step.invariant.inside c.requires.1.1.1)

@@ -11,4 +11,5 @@ invariant-loop-step g l = record {
   inside : l.index < length l.sorted;
   laying : Laying g.hashes l.first (rotated l.start l.sorted) l.next l._step (positions l.slots);
   hashes : HaveHashes g.hashes l.slots;
+  count : length l.slots ≡ length l.fn.slots;
 }

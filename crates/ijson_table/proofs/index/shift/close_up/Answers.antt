@@ -1,17 +1,32 @@
-use Rattle.std.proofs.Common.{◌∙◌, ◌<◌, ℕ, List, length, ap, arith, get_or, set}
+use Rattle.std.proofs.Common.{◌∙◌, ◌<◌, ◌++◌, ℕ, List, length, length-append, ap, sym, subst, arith, get_or, set, map, take, drop}
 use Rattle.std.proofs.lemmas.List.Edits.{map_over_more}
+use Rattle.std.proofs.lemmas.List.{get_or_default, length-map, length-take, length-drop}
 use Rattle.ijson_table.specs.declared.index.slot.Slot.{Slot}
 use Rattle.ijson_table.specs.private.Closing.{closed}
+use Rattle.ijson_table.specs.private.Narrow.{Fits}
 use Rattle.ijson_table.specs.private.SlotHashes.{blank}
-use Rattle.std.proofs.lemmas.List.{get_or_default}
+use Rattle.ijson_table.proofs.slots.NarrowSlots.{fits-closed}
 use Rattle.ijson_table.proofs.index.shift.close_up.Goals as goal
 
 pub loop-slot-preserved : goal.loop-slot-preserved
 loop-slot-preserved c =
+    let old : List Slot = c.args.slots.now in
     let slots : List Slot = c.loop-slot.slots in
-    let i : ℕ = c.loop-slot.slot-index in
+    let i : ℕ = c.loop-slot.slot in
     let read : Slot = get_or slots i blank in
-    let within : i < length slots = omega (arith, c.loop-slot-test.true, c.loop-slot.auto.slots) in
-    ap (set slots i) c.closed.ensures
-    ∙ map_over_more (closed c.args.gone) c.args.slots.now slots i read c.loop-slot-test.true c.loop-slot.invariant
-    (get_or_default slots i blank read within)
+    let there : i < length old = omega (arith, c.loop-slot-test.true, c.len-slot-end.ensures) in
+    let within : i < length slots = omega (
+      arith,
+      there,
+      ap length c.loop-slot.invariant,
+      length-append (map (closed c.args.gone) (take i old)) (drop i old),
+      length-map (take i old) (closed c.args.gone),
+      length-take i old,
+      length-drop i old,
+    ) in
+    c.set.ensures ∙ (ap (set slots i) (c.closed.ensures ∙ ap (closed c.args.gone) c.at.ensures.value)
+    ∙ map_over_more (closed c.args.gone) old slots i read there c.loop-slot.invariant (get_or_default slots i blank read within))
+
+pub set-requires-clause-fits : goal.set-requires-clause-fits
+set-requires-clause-fits c = subst (Fits (length c.loop-slot.slots)) (sym c.closed.ensures)
+    (fits-closed (length c.loop-slot.slots) c.args.gone c.at.result c.at.ensures.fits)

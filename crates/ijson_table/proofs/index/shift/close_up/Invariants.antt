@@ -4,4 +4,4 @@ use Rattle.ijson_table.proofs.index.shift.close_up.Given as goal
 
 -- the first slots are closed, and the rest stand as they did
 abbrev pub invariant-loop-slot : goal.invariant-loop-slot
-invariant-loop-slot l = l.slots ≡ map (closed l.fn.gone) (take l.slot-index l.fn.slots) ++ drop l.slot-index l.fn.slots
+invariant-loop-slot l = l.slots ≡ map (closed l.fn.gone) (take l.slot l.fn.slots) ++ drop l.slot l.fn.slots

@@ -14,17 +14,20 @@ use Rattle.ijson_table.proofs.index.shift.insert.Goals as goal
 
 pub shift_forward-last-requires : goal.shift_forward-last-requires
 shift_forward-last-requires g c = (
-  c.requires,
-  may_stand g.hashes c.args.slots.now c.args.position c.args.hash c.vacancy-slot.result.0 c.requires
-      c.vacancy-slot.ensures.vacancy,
+  c.requires.0,
+  (
+    may_stand g.hashes c.args.slots.now c.args.position c.args.hash c.vacancy-slot.result.0 c.requires.0
+        c.vacancy-slot.ensures.vacancy,
+    c.requires.1,
+  ),
 )
 
 pub distance_between-requires-clause-from : goal.distance_between-requires-clause-from
 distance_between-requires-clause-from g c =
     let may : MayStand g.hashes (positions c.args.slots.now) c.args.position c.vacancy-slot.result.0 =
-    may_stand g.hashes c.args.slots.now c.args.position c.args.hash c.vacancy-slot.result.0 c.requires
+    may_stand g.hashes c.args.slots.now c.args.position c.args.hash c.vacancy-slot.result.0 c.requires.0
     c.vacancy-slot.ensures.vacancy in
-    omega (arith, may.within, positions-length c.args.slots.now, c.shift_forward-last.auto.slots)
+    omega (arith, may.within, positions-length c.args.slots.now, c.len.ensures, c.shift_forward-last.ensures.count)
 
 -- below the next number and not there
 sooner : (j written : ℕ) → j < written + 1 → j ≢ written → j < written
@@ -58,7 +61,7 @@ returns-clause-few g c n few =
     let e = c.shift_forward-last.ensures in
     let size : length old ≡ length c.args.slots.now = positions-length c.args.slots.now in
     let may : MayStand g.hashes old c.args.position from =
-    may_stand g.hashes c.args.slots.now c.args.position c.args.hash from c.requires c.vacancy-slot.ensures.vacancy in
+    may_stand g.hashes c.args.slots.now c.args.position c.args.hash from c.requires.0 c.vacancy-slot.ensures.vacancy in
     let away : distance (length old) from last ≡ distance (length c.args.slots.now) from last = ap (λ k. distance k from last) size in
     omega (
       arith,
@@ -66,5 +69,5 @@ returns-clause-few g c n few =
       written_few old c.args.position from last n may.within (omega (arith, e.within, size)) e.empty
           (λ j lj. e.passed j (omega (arith, lj, away))) few,
       away,
-      ap (λ k. distance k from last) c.shift_forward-last.auto.slots,
+      ap (λ k. distance k from last) (c.len.ensures ∙ c.shift_forward-last.ensures.count),
     )

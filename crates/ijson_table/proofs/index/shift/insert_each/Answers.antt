@@ -1,4 +1,4 @@
-use Rattle.std.proofs.Common.{◌≡◌, ◌<◌, ◌≤◌, ◌+◌, ◌*◌, ℕ, List, length, take, Option, None, Some, arith, ap, sym, ◌∙◌}
+use Rattle.std.proofs.Common.{◌≡◌, ◌<◌, ◌≤◌, ◌+◌, ◌*◌, ℕ, List, length, take, Option, None, Some, arith, ap, refl, sym, ◌∙◌}
 use Rattle.std.proofs.lemmas.Bool.Decides.{nat_tests}
 use Rattle.ijson_table.specs.private.Holds.{one_if, with_one, HasEmpty}
 use Rattle.ijson_table.specs.Slots.{resident, times, below}
@@ -54,6 +54,7 @@ loop-index-init g c = record {
   placed = λ i. omega (arith, times-nil i);
   hashes
       = c.requires.0.hashes_are;
+  count = refl;
   steps = c.requires.1.1;
 }
 
@@ -71,6 +72,7 @@ loop-index-preserved-in_default g c =
             (omega (arith, c.loop-index-test.true, positions-length c.args.from.now)) at,
       );
       hashes = c.loop-index.invariant.hashes;
+      count = c.loop-index.invariant.count;
       steps = c.loop-index.invariant.steps;
     }
 
@@ -95,19 +97,21 @@ insert-requires g c =
     let few : times c.in-Some.position (positions c.args.from.now) ≤ below (length g.hashes) c.in-Some.position =
     omega (arith, c.requires.0.once c.in-Some.position) in
     let below_all : c.in-Some.position < length g.hashes =
-    grind (arith, nat_tests, few, times-some c.in-Some.position (positions c.args.from.now) c.loop-index.index inside at) in
-    record {
-      fits = omega (arith, below_all, c.requires.0.room, c.loop-index.auto.slots);
-      hash_is = c.hash.ensures
-          ∙ hashes-at g.hashes c.args.from.now c.loop-index.index c.requires.0.from_hashes c.loop-index-test.true c.in-Some.position
-          (sym (sym c.in-Some.is ∙ c.position.ensures));
-      hashes_are = c.loop-index.invariant.hashes;
-      ordered = c.loop-index.invariant.ordered;
-      empty = has_empty (length g.hashes) (positions c.args.slots.now) (positions c.args.from.now)
-          (positions c.loop-index.slots) c.loop-index.index c.in-Some.position inside at
-          c.requires.0.once c.loop-index.invariant.placed (omega
-          (arith, c.requires.0.room, c.loop-index.auto.slots, positions-length c.loop-index.slots));
-    }
+    grind (arith, nat_tests, few, times-some c.in-Some.position (positions c.args.from.now) c.loop-index.index inside at) in (
+      record {
+        fits = omega (arith, below_all, c.requires.0.room, c.requires.0.limited);
+        hash_is = c.hash.ensures
+            ∙ hashes-at g.hashes c.args.from.now c.loop-index.index c.requires.0.from_hashes c.loop-index-test.true c.in-Some.position
+            (sym (sym c.in-Some.is ∙ c.position.ensures));
+        hashes_are = c.loop-index.invariant.hashes;
+        ordered = c.loop-index.invariant.ordered;
+        empty = has_empty (length g.hashes) (positions c.args.slots.now) (positions c.args.from.now)
+            (positions c.loop-index.slots) c.loop-index.index c.in-Some.position inside at
+            c.requires.0.once c.loop-index.invariant.placed (omega
+            (arith, c.requires.0.room, c.loop-index.invariant.count, positions-length c.loop-index.slots));
+      },
+      λ few. absurd (omega (arith, few, c.requires.0.wide, c.loop-index.invariant.count)),
+    )
 
 pub loop-index-preserved : goal.loop-index-preserved
 loop-index-preserved g c =
@@ -123,6 +127,7 @@ loop-index-preserved g c =
             (omega (arith, c.loop-index-test.true, positions-length c.args.from.now)) at,
       );
       hashes = c.insert.ensures.hashes;
+      count = c.insert.ensures.count ∙ c.loop-index.invariant.count;
       steps = omega (arith, few_steps g place.After-insert at, c.if-steps-most.false);
     }
 

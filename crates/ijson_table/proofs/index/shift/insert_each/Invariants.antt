@@ -11,5 +11,6 @@ invariant-loop-index g l = record {
   ordered : IsOrdered g.hashes (positions l.slots);
   placed : (i : ℕ) → times i (positions l.slots) ≡ times i (positions l.fn.slots) + times i (take l.index (positions l.from));
   hashes : HaveHashes g.hashes l.slots;
+  count : length l.slots ≡ length l.fn.slots;
   steps : l.steps ≤ l.most + 3 * length g.hashes;
 }

@@ -44,8 +44,10 @@ insert_each-requires g c =
           table.table.placed i,
         );
         room = c.requires.1.1.0;
+        limited = c.requires.1.1.1.0;
+        wide = c.requires.1.1.1.1.0;
       },
-      (c.requires.1.1.1.0, omega arith),
+      (c.requires.1.1.1.1.1.0, omega arith),
     )
 
 pub insert_each-requires-then-insert_each : goal.insert_each-requires-then-insert_each
@@ -63,9 +65,11 @@ insert_each-requires-then-insert_each g c =
           parts i c.args.old.now c.wrapped-start.result,
           table.table.placed i,
         );
-        room = omega (arith, c.requires.1.1.0, c.insert_each.auto.slots);
+        room = omega (arith, c.requires.1.1.0, c.insert_each.ensures.count);
+        limited = omega (arith, c.requires.1.1.1.0, c.insert_each.ensures.count);
+        wide = omega (arith, c.requires.1.1.1.1.0, c.insert_each.ensures.count);
       },
-      (c.requires.1.1.1.0, c.insert_each.ensures.steps),
+      (c.requires.1.1.1.1.1.0, c.insert_each.ensures.steps),
     )
 
 pub returns-then-insert_each-2-clause-table : goal.returns-then-insert_each-2-clause-table

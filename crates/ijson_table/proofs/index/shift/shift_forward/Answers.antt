@@ -7,8 +7,9 @@ use Rattle.ijson_table.specs.Slots.{after, resident}
 use Rattle.ijson_table.specs.private.Changes.{changes}
 use Rattle.ijson_table.specs.private.Holds.{Holds, MayStand, with_one}
 use Rattle.ijson_table.specs.private.Insertion.{Accepts}
+use Rattle.ijson_table.specs.private.Narrow.{Fits}
 use Rattle.ijson_table.specs.private.Probe.{onward, AreFull}
-use Rattle.ijson_table.specs.private.SlotHashes.{position_in, positions, blank}
+use Rattle.ijson_table.specs.private.SlotHashes.{position_in, positions, blank, HaveHashes}
 use Rattle.ijson_table.proofs.arithmetic.Circular.{distance-after, distance-below, distance-self}
 use Rattle.ijson_table.proofs.arithmetic.Circular.{onward-distance}
 use Rattle.ijson_table.proofs.shifting.SlotWrites.{put_down}
@@ -16,9 +17,11 @@ use Rattle.ijson_table.proofs.shifting.Insertion.{Shifting, goes_on, shift_more}
 use Rattle.ijson_table.proofs.slots.HashesInSlots.{positions-length, positions-put, positions-set}
 use Rattle.ijson_table.proofs.slots.HashesInSlots.{position-at, hashes-at, hashes-set}
 use Rattle.ijson_table.proofs.slots.HashesInSlots.{has_own_hash}
+use Rattle.ijson_table.proofs.slots.NarrowSlots.{fits_at}
 use Rattle.ijson_table.proofs.arithmetic.Comparing.{same_or_not}
 use Rattle.ijson_table.proofs.slots.SlotChanges.{changes-none, changes-set}
-use Rattle.ijson_table.proofs.index.shift.shift_forward.Goals.{In_default}
+use Rattle.ijson_table.proofs.index.shift.shift_forward.Goals.{After-position, In_default}
+use Rattle.ijson_table.proofs.index.shift.shift_forward.Invariants.{IsOnTheWay}
 use Rattle.ijson_table.proofs.index.shift.shift_forward.Goals as goal
 
 -- a slot that is written counts once
@@ -34,7 +37,7 @@ pub loop-resident-init : goal.loop-resident-init
 loop-resident-init g c =
     let slots : List (Option ℕ) = positions c.args.slots.now in
     let accepts : Accepts g.hashes c.args.slots.now c.args.position c.args.hash = c.requires.0 in
-    let may : MayStand g.hashes slots c.args.position c.args.from = c.requires.1 in
+    let may : MayStand g.hashes slots c.args.position c.args.from = c.requires.1.0 in
     let e = accepts.empty in
     let none : distance (length c.args.slots.now) c.args.from c.args.from ≡ 0 = distance-self (length c.args.slots.now) c.args.from in
     record {
@@ -48,12 +51,14 @@ loop-resident-init g c =
         },
       );
       changes = omega (arith, changes-none slots);
-      hash = has_own_hash g.hashes c.of-entry.result c.args.position c.of-entry.ensures.position
+      has_hash = has_own_hash g.hashes c.of-entry.result c.args.position c.of-entry.ensures.position
           (c.of-entry.ensures.hash ∙ accepts.hash_is);
-      hashes = accepts.hashes_are;
+      have_hashes = accepts.hashes_are;
       passed = λ j lj. absurd (omega (arith, lj, none));
       left = λ p lp away. refl;
       size = refl;
+      fits = fits_at (length c.args.slots.now) c.of-entry.result c.args.position c.of-entry.ensures.position
+          (λ few. (c.requires.1.1 few).0) (λ few. subst (λ h. h < 65536) (sym c.of-entry.ensures.hash) (c.requires.1.1 few).1);
     }
 
 -- below the next number and not there
@@ -70,17 +75,29 @@ ended hashes want slots entry i slot written at s empty =
     (subst (λ o. Holds hashes want o (set (positions slots) slot (Some i))) (position-at slots slot None here empty)
     (put_down hashes want (positions slots) i slot s.may.within s.held s.may))
 
+-- what was read at the slot
+told : (g : _) (c : After-position g) → c.position.result ≡ position_in (get_or c.loop-resident.slots c.loop-resident.slot blank)
+told g c = c.position.ensures ∙ ap position_in c.at-was.ensures.value
+
 pub returns-in_default-clause-holds : goal.returns-in_default-clause-holds
 returns-in_default-clause-holds g c =
     let l = c.loop-resident in
     let i = l.invariant.shifting in
-    ended g.hashes (with_one (positions c.args.slots.now) c.args.position) l.slots l.entry i.0 l.slot
-    (distance (length l.slots) c.args.from l.slot) i.1 i.2 (sym c.in_default.is ∙ c.position.ensures)
+    let want = with_one (positions c.args.slots.now) c.args.position in
+    subst (λ ps. Holds g.hashes want None (positions ps)) (sym c.set.ensures)
+    (ended g.hashes want l.slots l.entry i.0 l.slot (distance (length l.slots) c.args.from l.slot) i.1 i.2
+    (sym c.in_default.is ∙ told g (goal.at.returns-in_default-clause-holds g c).After-position))
 
 pub returns-in_default-clause-hashes : goal.returns-in_default-clause-hashes
 returns-in_default-clause-hashes g c =
     let l = c.loop-resident in
-    hashes-set g.hashes l.slots l.slot l.entry l.invariant.hash l.invariant.hashes
+    subst (HaveHashes g.hashes) (sym c.set.ensures)
+    (hashes-set g.hashes l.slots l.slot l.entry l.invariant.has_hash l.invariant.have_hashes)
+
+pub returns-in_default-clause-count : goal.returns-in_default-clause-count
+returns-in_default-clause-count g c =
+    let l = c.loop-resident in
+    ap length c.set.ensures ∙ (length-set l.slots l.slot l.entry ∙ l.invariant.size)
 
 pub returns-in_default-clause-changes : goal.returns-in_default-clause-changes
 returns-in_default-clause-changes g c =
@@ -88,6 +105,7 @@ returns-in_default-clause-changes g c =
     omega (
       arith,
       one_more (positions c.args.slots.now) l.slots l.slot (distance (length l.slots) c.args.from l.slot) l.entry l.invariant.changes,
+      ap (λ ps. changes (positions c.args.slots.now) (positions ps)) c.set.ensures,
       ap (λ n. distance n c.args.from l.slot) l.invariant.size,
     )
 
@@ -101,25 +119,30 @@ was_empty : (g : _) (c : In_default g) → resident (positions c.args.slots.now)
 was_empty g c =
     let l = c.loop-resident in
     let here : l.slot < length l.slots = omega (arith, l.invariant.shifting.2.may.within, positions-length l.slots) in
-    sym (l.invariant.left l.slot here (omega arith)) ∙ position-at l.slots l.slot None here (sym c.in_default.is ∙ c.position.ensures)
+    sym (l.invariant.left l.slot here (omega arith))
+    ∙ position-at l.slots l.slot None here (sym c.in_default.is ∙ (c.position.ensures ∙ ap position_in c.at-was.ensures.value))
 
 pub returns-in_default-clause-empty : goal.returns-in_default-clause-empty
 returns-in_default-clause-empty g c = was_empty g (goal.at.returns-in_default-clause-empty g c).In_default
 
--- There is a slot to go on to,
+-- The resident that stood at the slot,
+stood : (g : _) (c : goal.After-next_slot-slot g) → Some c.in-Some._resident
+    ≡ position_in (get_or c.loop-resident.slots c.loop-resident.slot blank)
+stood g c = sym c.in-Some.is ∙ (c.position.ensures ∙ ap position_in c.at-was.ensures.value)
+
+-- the slot to go on to,
 room : (g : _) (c : goal.After-next_slot-slot g) → distance (length c.loop-resident.slots) c.args.from c.loop-resident.slot + 1
     < length c.loop-resident.slots
 room g c =
     let l = c.loop-resident in
     let i = l.invariant.shifting in
     let here : l.slot < length l.slots = omega (arith, i.2.may.within, positions-length l.slots) in
-    let there : Some c.in-Some._resident ≡ position_in (get_or l.slots l.slot blank) = sym c.in-Some.is ∙ c.position.ensures in
     let more = goes_on g.hashes (with_one (positions c.args.slots.now) c.args.position) i.0 l.slot
     (distance (length l.slots) c.args.from l.slot) c.in-Some._resident (positions l.slots) i.2
-    (position-at l.slots l.slot (Some c.in-Some._resident) here there) in
+    (position-at l.slots l.slot (Some c.in-Some._resident) here (stood g c)) in
     omega (arith, more, positions-length l.slots)
 
--- and it is one further from the first.
+-- and how far it is from the first.
 further : (g : _) (c : goal.After-next_slot-slot g)
     → distance (length (set c.loop-resident.slots c.loop-resident.slot c.loop-resident.entry)) c.args.from c.next_slot-slot.result
     ≡ distance (length c.loop-resident.slots) c.args.from c.loop-resident.slot + 1
@@ -130,9 +153,9 @@ further g c =
     let size : length (set l.slots l.slot l.entry) ≡ n = length-set l.slots l.slot l.entry in
     let here : l.slot < n = omega (arith, i.2.may.within, positions-length l.slots) in
     let first : c.args.from < n =
-    omega (arith, c.requires.1.within, positions-length c.args.slots.now, l.invariant.size) in
+    omega (arith, c.requires.1.0.within, positions-length c.args.slots.now, l.invariant.size) in
     ap (λ k. distance k c.args.from c.next_slot-slot.result) size
-    ∙ (ap (distance n c.args.from) (c.next_slot-slot.ensures.slot ∙ ap (λ k. after k l.slot) size)
+    ∙ (ap (distance n c.args.from) (c.next_slot-slot.ensures.slot ∙ ap (λ k. after k l.slot) (c.len-count.ensures ∙ sym l.invariant.size))
     ∙ distance-after n c.args.from l.slot first here (omega (arith, room g c)))
 
 -- where it goes on, the slot that it is at was full too,
@@ -160,7 +183,14 @@ still_left old slots entry slot from left p lp far =
 pub loop-resident-smaller : goal.loop-resident-smaller
 loop-resident-smaller g c =
     let l = c.loop-resident in
-    omega (arith, further g c, room g c, length-set l.slots l.slot l.entry)
+    omega (
+      arith,
+      further g c,
+      room g c,
+      length-set l.slots l.slot l.entry,
+      ap length c.set.ensures,
+      ap (λ ps. distance (length ps) c.args.from c.next_slot-slot.result) c.set.ensures,
+    )
 
 pub loop-resident-preserved : goal.loop-resident-preserved
 loop-resident-preserved g c =
@@ -174,13 +204,16 @@ loop-resident-preserved g c =
     let now : List Slot = set l.slots slot l.entry in
     let here : slot < length l.slots = omega (arith, i.2.may.within, positions-length l.slots) in
     let size : length now ≡ length slots = length-set l.slots slot l.entry ∙ sym (positions-length l.slots) in
-    let to : after (length slots) slot ≡ c.next_slot-slot.result = ap (λ n. after n slot) (sym size) ∙ sym c.next_slot-slot.ensures.slot in
+    let to : after (length slots) slot ≡ c.next_slot-slot.result =
+    sym (c.next_slot-slot.ensures.slot
+    ∙ ap (λ k. after k slot) (c.len-count.ensures ∙ (sym l.invariant.size ∙ sym (positions-length l.slots)))) in
     let first : c.args.from < length l.slots =
-    omega (arith, c.requires.1.within, positions-length c.args.slots.now, l.invariant.size) in
-    let there : Some next ≡ position_in (get_or l.slots slot blank) = sym c.in-Some.is ∙ c.position.ensures in
+    omega (arith, c.requires.1.0.within, positions-length c.args.slots.now, l.invariant.size) in
+    let there : Some next ≡ position_in (get_or l.slots slot blank) = stood g c in
     let written : ℕ = distance (length l.slots) c.args.from slot in
     let more : distance (length now) c.args.from c.next_slot-slot.result ≡ written + 1 = further g c in
-    record {
+    let is : IsOnTheWay hashes c.args.slots.now c.args.position c.args.from now (get_or l.slots slot blank) c.next_slot-slot.result
+    (distance (length now) c.args.from c.next_slot-slot.result) = record {
       shifting = (
         next,
         sym there,
@@ -190,8 +223,8 @@ loop-resident-preserved g c =
             (shift_more hashes want i.0 slot written next slots i.2 (position-at l.slots slot (Some next) here there)))),
       );
       changes = omega (arith, more, one_more (positions c.args.slots.now) l.slots slot written l.entry l.invariant.changes);
-      hash = hashes-at hashes l.slots slot l.invariant.hashes here;
-      hashes = hashes-set hashes l.slots slot l.entry l.invariant.hash l.invariant.hashes;
+      has_hash = hashes-at hashes l.slots slot l.invariant.have_hashes here;
+      have_hashes = hashes-set hashes l.slots slot l.entry l.invariant.has_hash l.invariant.have_hashes;
       passed = passed_more (positions c.args.slots.now) (length l.slots) c.args.from slot (distance (length now) c.args.from
           c.next_slot-slot.result) (l.invariant.size ∙ sym (positions-length c.args.slots.now)) first here more l.invariant.passed
           (λ none. let bad : ◌≡◌ {A = Option ℕ} (Some next) None = sym (position-at l.slots slot (Some next) here there)
@@ -199,15 +232,30 @@ loop-resident-preserved g c =
       left = λ p lp away. still_left (positions c.args.slots.now) l.slots l.entry slot c.args.from l.invariant.left p lp
           (omega (arith, away, more));
       size = length-set l.slots slot l.entry ∙ l.invariant.size;
-    }
+      fits = subst (Fits (length now)) c.at-was.ensures.value
+          (subst (λ n. Fits n c.at-was.result) (sym (length-set l.slots slot l.entry)) c.at-was.ensures.fits);
+    } in
+    subst (λ entry. IsOnTheWay hashes c.args.slots.now c.args.position c.args.from c.set.new.self entry c.next_slot-slot.result
+    (distance (length c.set.new.self) c.args.from c.next_slot-slot.result)) (sym c.at-was.ensures.value)
+    (subst (λ ps. IsOnTheWay hashes c.args.slots.now c.args.position c.args.from ps (get_or l.slots slot blank) c.next_slot-slot.result
+    (distance (length ps) c.args.from c.next_slot-slot.result)) (sym c.set.ensures) is)
 
-pub bounds-slots-slot : goal.bounds-slots-slot
-bounds-slots-slot g c = omega (arith, c.loop-resident.invariant.shifting.2.may.within, positions-length c.loop-resident.slots)
+pub at-was-requires : goal.at-was-requires
+at-was-requires g c = omega (arith, c.loop-resident.invariant.shifting.2.may.within, positions-length c.loop-resident.slots)
+
+pub set-requires-clause-within : goal.set-requires-clause-within
+set-requires-clause-within g c = omega (arith, c.loop-resident.invariant.shifting.2.may.within, positions-length c.loop-resident.slots)
 
 pub next_slot-slot-requires : goal.next_slot-slot-requires
 next_slot-slot-requires g c =
     let l = c.loop-resident in
-    omega (arith, l.invariant.shifting.2.may.within, positions-length l.slots, length-set l.slots l.slot l.entry)
+    omega (
+      arith,
+      l.invariant.shifting.2.may.within,
+      positions-length l.slots,
+      l.invariant.size,
+      c.len-count.ensures,
+    )
 
 pub returns-in_default-clause-within : goal.returns-in_default-clause-within
 returns-in_default-clause-within g c =

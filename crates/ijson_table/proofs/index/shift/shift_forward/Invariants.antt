@@ -1,28 +1,32 @@
-use Rattle.std.proofs.Common.{◌≡◌, ◌<◌, ◌≤◌, ◌-◌, ℕ, length, Some}
+use Rattle.std.proofs.Common.{◌≡◌, ◌<◌, ◌≤◌, ◌-◌, ℕ, List, length, Some}
+use Rattle.ijson_table.specs.declared.index.slot.Slot.{Slot}
 use Rattle.ijson_table.specs.Crowd.{distance}
 use Rattle.ijson_table.specs.Slots.{resident}
 use Rattle.ijson_table.specs.private.Changes.{changes}
 use Rattle.ijson_table.specs.private.Holds.{with_one}
+use Rattle.ijson_table.specs.private.Narrow.{Fits}
 use Rattle.ijson_table.specs.private.Probe.{AreFull}
 use Rattle.ijson_table.specs.private.SlotHashes.{position_in, positions, HasHash, HaveHashes}
 use Rattle.ijson_table.proofs.shifting.Insertion.{Shifting}
 use Rattle.ijson_table.proofs.index.shift.shift_forward.Given as goal
 
--- As many slots were written as the next one is on from the first. The others are as they were.
+-- As many slots were written as the next one is on from the first, after so many steps. The others are as they were.
+pub record IsOnTheWay (hashes : List ℕ) (old : List Slot) (position from : ℕ) (slots : List Slot) (entry : Slot)
+    (slot written : ℕ) : Type 0 where
+  pub shifting : (i : ℕ) × (position_in entry ≡ Some i)
+      × Shifting hashes (with_one (positions old) position) i slot written (positions slots)
+  pub changes : changes (positions old) (positions slots) ≤ written
+  pub has_hash : HasHash hashes entry
+  pub have_hashes : HaveHashes hashes slots
+  pub passed : AreFull (positions old) from written
+  pub left : (p : ℕ) → p < length slots → written ≤ distance (length slots) from p
+      → resident (positions slots) p ≡ resident (positions old) p
+  pub size : length slots ≡ length old
+  pub fits : Fits (length slots) entry
+
 abbrev pub invariant-loop-resident : goal.invariant-loop-resident
-invariant-loop-resident g l =
-    let written = distance (length l.slots) l.fn.from l.slot in
-    record {
-      shifting : (i : ℕ) × (position_in l.entry ≡ Some i)
-          × Shifting g.hashes (with_one (positions l.fn.slots) l.fn.position) i l.slot written (positions l.slots);
-      changes : changes (positions l.fn.slots) (positions l.slots) ≤ written;
-      hash : HasHash g.hashes l.entry;
-      hashes : HaveHashes g.hashes l.slots;
-      passed : AreFull (positions l.fn.slots) l.fn.from written;
-      left : (p : ℕ) → p < length l.slots → written ≤ distance (length l.slots) l.fn.from p
-          → resident (positions l.slots) p ≡ resident (positions l.fn.slots) p;
-      size : length l.slots ≡ length l.fn.slots;
-    }
+invariant-loop-resident g l = IsOnTheWay g.hashes l.fn.slots l.fn.position l.fn.from l.slots l.entry l.slot
+    (distance (length l.slots) l.fn.from l.slot)
 
 abbrev pub decreases-loop-resident : goal.decreases-loop-resident
 decreases-loop-resident g l = length l.slots - distance (length l.slots) l.fn.from l.slot

@@ -1,7 +1,9 @@
-use Rattle.std.proofs.Common.{◌≡◌, ◌+◌, ℕ, List, length, Some, arith, subst, sym}
+use Rattle.std.proofs.Common.{◌≡◌, ◌+◌, ℕ, List, length, Some, ap, arith, subst, sym, ◌∙◌}
 use Rattle.std.specs.List.{remove}
+use Rattle.std.proofs.lemmas.List.{length-map}
 use Rattle.std.proofs.lemmas.List.Edits.{get_or-remove_below}
 use Rattle.ijson_table.specs.declared.index.slot.Slot.{Slot}
+use Rattle.ijson_table.specs.private.Closing.{closed}
 use Rattle.ijson_table.specs.private.Insertion.{IsTableOf}
 use Rattle.ijson_table.specs.private.SlotHashes.{positions}
 use Rattle.ijson_table.proofs.shifting.LowerPositions.{closed_table}
@@ -10,8 +12,8 @@ use Rattle.ijson_table.proofs.shifting.Insertion.{held_below}
 use Rattle.ijson_table.proofs.shifting.Removal.{last_out, not_pending}
 use Rattle.ijson_table.proofs.index.shift.shift_remove.Goals as goal
 
-pub returns-then-position-last : goal.returns-then-position-last
-returns-then-position-last g c =
+pub returns-then-position-last-clause-table : goal.returns-then-position-last-clause-table
+returns-then-position-last-clause-table g c =
     subst (IsTableOf (remove g.hashes c.args.position)) (sym c.close_up.ensures)
     (closed_table g.hashes c.args.position (omega (
       arith,
@@ -19,8 +21,8 @@ returns-then-position-last g c =
       c.requires.1.1.0,
     )) c.take_out.new.slots c.take_out.ensures.holds c.take_out.ensures.hashes)
 
-pub returns-else-position-last : goal.returns-else-position-last
-returns-else-position-last g c =
+pub returns-else-position-last-clause-table : goal.returns-else-position-last-clause-table
+returns-else-position-last-clause-table g c =
     let left : List Slot = c.take_out.new.slots in
     let held = c.take_out.ensures.holds in
     let position : ℕ = c.args.position in
@@ -32,3 +34,7 @@ returns-else-position-last g c =
           let other = not_pending g.hashes (length g.hashes) position (positions left) held p k lp e in
           get_or-remove_below g.hashes position 0 k (omega (arith, below_all, other, is_last)) (omega (arith, is_last)));
     }
+
+pub returns-then-position-last-clause-count : goal.returns-then-position-last-clause-count
+returns-then-position-last-clause-count g c =
+    ap length c.close_up.ensures ∙ (length-map c.take_out.new.slots (closed c.args.position) ∙ c.take_out.ensures.count)

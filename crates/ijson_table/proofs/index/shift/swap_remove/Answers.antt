@@ -1,12 +1,15 @@
-use Rattle.std.proofs.Common.{◌≡◌, ◌≢◌, ◌<◌, ℕ, List, length, get_or, Some, arith, ap, sym, ◌∙◌, subst}
+use Rattle.std.proofs.Common.{◌≡◌, ◌≢◌, ◌<◌, ◌≤◌, ℕ, List, length, get_or, Some, arith, ap, refl, sym, ◌∙◌, subst}
 use Rattle.std.specs.List.{swap_remove}
+use Rattle.std.proofs.lemmas.List.{length-set}
 use Rattle.ijson_table.specs.declared.index.slot.Slot.{Slot}
 use Rattle.ijson_table.specs.Slots.{IsTable}
-use Rattle.ijson_table.specs.private.Insertion.{EndsWith}
-use Rattle.ijson_table.specs.private.SlotHashes.{positions}
-use Rattle.ijson_table.proofs.slots.HashesInSlots.{positions-length, positions-put, has_own_hash, hashes-put}
+use Rattle.ijson_table.specs.private.Insertion.{EndsWith, IsTableOf}
+use Rattle.ijson_table.specs.private.SlotHashes.{blank, position_in, positions}
+use Rattle.ijson_table.proofs.slots.HashesInSlots.{positions-length, hashes-at, position-at, positions-put, has_own_hash, hashes-put}
 use Rattle.ijson_table.proofs.shifting.Insertion.{held_below}
 use Rattle.ijson_table.proofs.shifting.Removal.{stands_still, renamed, not_pending, held_once}
+use Rattle.ijson_table.proofs.slots.NarrowSlots.{fits_at}
+use Rattle.ijson_table.proofs.slots.ResidentCount.{no_less}
 use Rattle.ijson_table.proofs.slots.Residents.{stands_once}
 use Rattle.ijson_table.proofs.shifting.ListSwapRemove.{swap_remove-same, swap_remove-other}
 use Rattle.ijson_table.proofs.index.shift.swap_remove.Goals as goal
@@ -24,8 +27,8 @@ slot_of-there-requires g c =
       stands = (spot.0, omega (arith, spot.1, positions-length left), spot.2);
     }
 
-pub returns : goal.returns
-returns g c =
+pub returns-clause-table : goal.returns-clause-table
+returns-clause-table g c =
     let hashes : List ℕ = g.hashes in
     let position : ℕ = c.args.position in
     let last : ℕ = c.args.last in
@@ -34,15 +37,20 @@ returns g c =
     let held = c.take_out.ensures.holds in
     let there : ℕ = c.slot_of-there.result in
     let lp : there < length (positions left) = omega (arith, c.slot_of-there.ensures.within, positions-length left) in
+    let kept : c.hash-moved.result ≡ get_or hashes last 0 =
+    c.hash-moved.ensures ∙ (ap (λ (s : Slot). s.hash) c.at.ensures.value ∙ hashes-at hashes left there c.take_out.ensures.hashes
+    c.slot_of-there.ensures.within last
+    (sym (position-at left there (position_in (get_or left there blank)) c.slot_of-there.ensures.within refl)
+    ∙ c.slot_of-there.ensures.there)) in
     let moved : get_or (swap_remove hashes position 0) position 0 ≡ get_or hashes last 0 =
     swap_remove-same hashes position (omega (arith, ends.within, ends.is_last))
     ∙ ap (λ x. get_or hashes x 0) (omega (arith, ends.is_last)) in
-    record {
+    subst (IsTableOf (swap_remove hashes position 0)) (sym c.set.ensures) (record {
       table = subst (IsTable (swap_remove hashes position 0)) (sym (positions-put left there c.of.result position c.of.ensures.position))
           (renamed hashes (positions left) position there last ends.is_last ends.within lp c.slot_of-there.ensures.there held);
       hashes_are = hashes-put hashes (swap_remove hashes position 0) left there c.of.result c.take_out.ensures.hashes
           (has_own_hash (swap_remove hashes position 0) c.of.result position c.of.ensures.position
-          (c.of.ensures.hash ∙ (ends.last_hash_is ∙ sym moved)))
+          (c.of.ensures.hash ∙ (kept ∙ sym moved)))
           (λ q k lq other e.
           let below_all : k < length hashes = held_below (length hashes) (Some position) (positions left) held.placed q k lq e in
           let not_last : k ≢ last = λ same. other (stands_once last (positions left) q there
@@ -50,4 +58,18 @@ returns g c =
           (e ∙ ap Some same) c.slot_of-there.ensures.there) in
           swap_remove-other hashes position k (omega (arith, ends.within, ends.is_last)) (omega (arith, below_all, not_last, ends.is_last))
           (not_pending hashes (length hashes) position (positions left) held q k lq e));
-    }
+    })
+
+pub returns-clause-count : goal.returns-clause-count
+returns-clause-count g c =
+    ap length c.set.ensures ∙ (length-set c.take_out.new.slots c.slot_of-there.result c.of.result ∙ c.take_out.ensures.count)
+
+pub set-requires-clause-fits : goal.set-requires-clause-fits
+set-requires-clause-fits g c =
+    let ends : EndsWith g.hashes c.args.position c.args.hash c.args.last c.args.last_hash = c.requires.1 in
+    let old : List Slot = c.args.slots.now in
+    let room : length g.hashes ≤ length old =
+    omega (arith, no_less (length g.hashes) (positions old) c.requires.0.table.placed, positions-length old) in
+    fits_at (length c.take_out.new.slots) c.of.result c.args.position c.of.ensures.position
+    (λ few. omega (arith, few, room, ends.within, ends.is_last, c.take_out.ensures.count))
+    (λ few. subst (λ h. h < 65536) (sym (c.of.ensures.hash ∙ c.hash-moved.ensures)) (c.at.ensures.fits few).1)

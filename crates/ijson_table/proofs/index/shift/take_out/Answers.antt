@@ -1,8 +1,10 @@
 use Rattle.std.proofs.Common.{◌≡◌, ◌<◌, ℕ, List, length, set, Option, None, arith, ap, sym, ◌∙◌, subst}
+use Rattle.std.proofs.lemmas.List.{length-set}
+use Rattle.ijson_table.specs.declared.index.slot.Slot.{Slot}
 use Rattle.ijson_table.specs.Slots.{times}
 use Rattle.ijson_table.specs.private.Holds.{one_if, HasGap}
 use Rattle.ijson_table.specs.private.Insertion.{IsTableOf}
-use Rattle.ijson_table.specs.private.SlotHashes.{positions}
+use Rattle.ijson_table.specs.private.SlotHashes.{position_in, positions, HaveHashes}
 use Rattle.ijson_table.proofs.probing.ProbePath.{placed_at}
 use Rattle.ijson_table.proofs.shifting.BackwardShift.{gap_from}
 use Rattle.ijson_table.proofs.slots.Residents.{times-set}
@@ -25,10 +27,12 @@ shift_back-requires g c =
     let table : IsTableOf g.hashes c.args.slots.now = c.requires.0 in
     let slots : List (Option ℕ) = positions c.args.slots.now in
     let slot : ℕ = c.slot_of-slot.result in
-    let lp : slot < length slots = omega (arith, c.slot_of-slot.ensures.within, positions-length c.args.slots.now) in (
+    let lp : slot < length slots = omega (arith, c.slot_of-slot.ensures.within, positions-length c.args.slots.now) in
+    subst (λ ps. HasGap g.hashes (positions ps) slot × HaveHashes g.hashes ps) (sym c.set.ensures) (
       subst (λ ps. HasGap g.hashes ps slot) (sym (positions-set c.args.slots.now slot c.empty.result
-          ∙ ap (set slots slot) c.empty.ensures)) (gap_from g.hashes slots slot lp table.table.ordered),
-      hashes-set g.hashes c.args.slots.now slot c.empty.result (nothing_has_hash g.hashes c.empty.result c.empty.ensures) table.hashes_are,
+          ∙ ap (set slots slot) (ap position_in c.empty.ensures))) (gap_from g.hashes slots slot lp table.table.ordered),
+      hashes-set g.hashes c.args.slots.now slot c.empty.result
+          (nothing_has_hash g.hashes c.empty.result (ap position_in c.empty.ensures)) table.hashes_are,
     )
 
 -- the position is out, and each other one stands where it did or one slot back
@@ -40,8 +44,9 @@ returns-clause-holds g c =
     record {
       ordered = c.shift_back.ensures.ordered;
       placed = λ i.
-          let out : times i (positions (set c.args.slots.now slot c.empty.result)) ≡ times i (set slots slot None) =
-          ap (times i) (positions-set c.args.slots.now slot c.empty.result ∙ ap (set slots slot) c.empty.ensures) in
+          let out : times i (positions c.set.new.self) ≡ times i (set slots slot None) =
+          ap (λ ps. times i (positions ps)) c.set.ensures
+          ∙ ap (times i) (positions-set c.args.slots.now slot c.empty.result ∙ ap (set slots slot) (ap position_in c.empty.ensures)) in
           omega (
             arith,
             c.shift_back.ensures.placed i,
@@ -53,3 +58,14 @@ returns-clause-holds g c =
             table.table.placed i,
           );
     }
+
+pub returns-clause-count : goal.returns-clause-count
+returns-clause-count g c = omega (
+  arith,
+  c.shift_back.ensures.count,
+  ap length c.set.ensures,
+  length-set c.args.slots.now c.slot_of-slot.result c.empty.result,
+)
+
+pub set-requires-clause-fits : goal.set-requires-clause-fits
+set-requires-clause-fits g c = λ few. subst (λ s. (s.code < 256) × (s.hash < 65536)) (sym c.empty.ensures) (omega arith, omega arith)

@@ -1,4 +1,4 @@
-use Rattle.std.proofs.Common.{ℕ, ◌-◌, ◌%◌, ◌<◌, length, map, arith, ap, subst}
+use Rattle.std.proofs.Common.{◌≡◌, ℕ, ◌-◌, ◌%◌, ◌<◌, length, map, arith, ap, ap₂, subst, ◌∙◌}
 use Rattle.std.proofs.lemmas.Grind.{common_steps}
 use Rattle.std.proofs.Math.Nat.{mod-lt}
 use Rattle.std.specs.Prelude.{vec_capacity}
@@ -6,16 +6,20 @@ use Rattle.ijson_table.specs.declared.index.probe.Probed.TheVariants.{Full}
 use Rattle.ijson_table.specs.Slots.{IsTable, IsBounded}
 use Rattle.ijson_table.specs.Placed.{Placed}
 use Rattle.ijson_table.specs.Store.{keys_of}
+use Rattle.ijson_table.specs.private.KeptHash.{kept, kept_hash}
 use Rattle.ijson_table.specs.private.Lookup.{LookUpEnds}
 use Rattle.ijson_table.proofs.probing.LookCount.{within_list}
-use Rattle.ijson_table.proofs.probing.KeyHashes.{length-hashes, table_of, find_ends, find_bounded, nowhere}
+use Rattle.ijson_table.proofs.probing.KeyHashes.{length-hashes, table_whole, find_ends, find_bounded, nowhere}
+use Rattle.ijson_table.proofs.slots.KeptHashes.{ends_by_hash, bounded_by_hash}
+use Rattle.ijson_table.proofs.table.Table.find.Goals.{After-probe}
 use Rattle.ijson_table.proofs.table.Table.find.Goals as goal
 
 pub probe-requires-clause-fits : goal.probe-requires-clause-fits
 probe-requires-clause-fits g c = λ m lm passed.
     let index = c.self.inside.index in
     let n : ℕ = length index.slots in
-    let few = within_list index.hashes index.slots c.len.ensures.table (c.args.hash % n) m (mod-lt c.args.hash (omega (arith, lm)))
+    let few = within_list index.hashes index.slots c.len.ensures.table (c.kept_hash.result % n) m
+    (mod-lt c.kept_hash.result (omega (arith, lm)))
     (omega (arith, lm)) passed in
     omega (
       arith,
@@ -24,13 +28,13 @@ probe-requires-clause-fits g c = λ m lm passed.
       c.self.invariant.room.within,
       c.self.invariant.room.limited,
       ap length c.self.invariant.hashes,
-      length-hashes g.H.KeyHash.hash_of c.self.inside.pairs.items,
+      length-hashes (kept_hash n g.H.KeyHash.hash_of) c.self.inside.pairs.items,
     )
 
 pub returns-then-len-eq0-clause-table : goal.returns-then-len-eq0-clause-table
 returns-then-len-eq0-clause-table g c =
     subst (λ (t : Placed g.row.V.Denot). IsTable (map g.H.KeyHash.hash_of (keys_of t.store.pairs)) t.slots) c.self.view_is
-    (table_of g.H.KeyHash.hash_of c.self.inside.pairs.items c.self.inside.index c.self.invariant.hashes c.len.ensures.table)
+    (table_whole g.H.KeyHash.hash_of c.self.inside.pairs.items c.self.inside.index c.self.invariant.hashes c.len.ensures.table)
 
 pub returns-then-len-eq0-clause-ends : goal.returns-then-len-eq0-clause-ends
 returns-then-len-eq0-clause-ends g c =
@@ -38,7 +42,7 @@ returns-then-len-eq0-clause-ends g c =
     subst (λ (t : Placed g.row.V.Denot). LookUpEnds (map hash (keys_of t.store.pairs)) (keys_of t.store.pairs) t.slots
     (hash c.args.key.now) c.args.key.now Full) c.self.view_is
     (nowhere hash c.self.inside.pairs.items c.self.inside.index.slots c.args.key.now
-    (table_of hash c.self.inside.pairs.items c.self.inside.index c.self.invariant.hashes c.len.ensures.table)
+    (table_whole hash c.self.inside.pairs.items c.self.inside.index c.self.invariant.hashes c.len.ensures.table)
     (omega (arith, c.if-len-eq0.true, c.len.ensures.count)))
 
 pub returns-then-len-eq0-clause-bounded : goal.returns-then-len-eq0-clause-bounded
@@ -59,27 +63,39 @@ returns-then-len-eq0-clause-bounded g c = record {
 pub returns-clause-table : goal.returns-clause-table
 returns-clause-table g c =
     subst (λ (t : Placed g.row.V.Denot). IsTable (map g.H.KeyHash.hash_of (keys_of t.store.pairs)) t.slots) c.self.view_is
-    (table_of g.H.KeyHash.hash_of c.self.inside.pairs.items c.self.inside.index c.self.invariant.hashes c.len.ensures.table)
+    (table_whole g.H.KeyHash.hash_of c.self.inside.pairs.items c.self.inside.index c.self.invariant.hashes c.len.ensures.table)
+
+-- what the walk goes by is kept of the hash of the key
+kept_is : (g : _) (c : After-probe g) → c.kept_hash.result ≡ kept_hash (length c.self.inside.index.slots) g.H.KeyHash.hash_of c.args.key.now
+kept_is g c = c.kept_hash.ensures ∙ ap₂ kept (c.new-modulus.ensures ∙ c.len-2.ensures.count) c.requires.hash
 
 pub returns-clause-ends : goal.returns-clause-ends
 returns-clause-ends g c =
     let hash = g.H.KeyHash.hash_of in
-    let some : 0 < length c.self.inside.index.slots = omega (arith, c.if-len-eq0.false, c.len.ensures.count) in
+    let pairs = c.self.inside.pairs.items in
+    let index = c.self.inside.index in
+    let some : 0 < length index.slots = omega (arith, c.if-len-eq0.false, c.len.ensures.count) in
     subst (λ (t : Placed g.row.V.Denot). LookUpEnds (map hash (keys_of t.store.pairs)) (keys_of t.store.pairs) t.slots
     (hash c.args.key.now) c.args.key.now c.probe.result) c.self.view_is
-    (find_ends hash c.self.inside.pairs.items c.deref.result.now c.self.inside.index c.args.hash c.args.key.now
+    (ends_by_hash hash (keys_of pairs) index.slots c.args.key.now c.probe.result
+    (find_ends (kept_hash (length index.slots) hash) pairs c.deref.result.now index c.kept_hash.result c.args.key.now
     (c.probe.new.looks - c.args.looks.now) c.probe.result
-    c.self.invariant.hashes c.deref.ensures.value c.requires.hash c.self.inside.distinct c.len.ensures.table some c.probe.ensures.ends)
+    c.self.invariant.hashes c.deref.ensures.value (kept_is g (goal.at.returns-clause-ends g c).After-probe) c.self.inside.distinct
+    c.len.ensures.table some c.probe.ensures.ends))
 
 pub returns-clause-bounded : goal.returns-clause-bounded
 returns-clause-bounded g c =
     let hash = g.H.KeyHash.hash_of in
-    subst (λ (t : Placed g.row.V.Denot). IsBounded hash (keys_of t.store.pairs) t.slots t.store.capacity c.args.key.now
-    (c.probe.new.looks - c.args.looks.now)) c.self.view_is
-    (find_bounded hash c.self.inside.pairs.items c.deref.result.now
-    (vec_capacity c.self.inside.pairs) c.self.inside.index c.args.hash c.args.key.now
-    (c.probe.new.looks - c.args.looks.now) c.probe.result
-    c.self.invariant c.deref.ensures.value c.requires.hash c.len.ensures.table c.probe.ensures.ends)
+    let pairs = c.self.inside.pairs.items in
+    let index = c.self.inside.index in
+    let capacity : ℕ = vec_capacity c.self.inside.pairs in
+    let looks : ℕ = c.probe.new.looks - c.args.looks.now in
+    subst (λ (t : Placed g.row.V.Denot). IsBounded hash (keys_of t.store.pairs) t.slots t.store.capacity c.args.key.now looks)
+    c.self.view_is
+    (bounded_by_hash hash (keys_of pairs) index.slots capacity c.args.key.now looks c.self.invariant.size
+    (find_bounded (kept_hash (length index.slots) hash) pairs c.deref.result.now capacity index c.kept_hash.result c.args.key.now looks
+    c.probe.result c.self.invariant.hashes c.self.invariant.size c.deref.ensures.value
+    (kept_is g (goal.at.returns-clause-bounded g c).After-probe) c.len.ensures.table c.probe.ensures.ends))
 
 -- what the check tries where no answer stands takes longer than these
 pub invariant_of-lookup : goal.invariant_of-lookup

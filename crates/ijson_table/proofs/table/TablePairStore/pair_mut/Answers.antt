@@ -2,6 +2,7 @@ use Rattle.std.proofs.Common.{◌≡◌, ◌<◌, length, arith, ap, sym, ◌∙
 use Rattle.std.proofs.lemmas.List.{length-set}
 use Rattle.ijson_table.specs.Store.{with_value}
 use Rattle.ijson_table.specs.Placed.{Placed}
+use Rattle.ijson_table.specs.private.KeptHash.{kept_hash}
 use Rattle.ijson_table.proofs.pairs.PairsByKey.{set-value, distinct_set, slice_get-seen}
 use Rattle.ijson_table.proofs.probing.KeyHashes.{hashes-set}
 use Rattle.ijson_table.proofs.pairs.SameStores.{placed_path}
@@ -26,7 +27,8 @@ invariant_of-self-lent g c = λ w.
         limited = c.self.invariant.room.limited;
       };
       hashes = c.self.invariant.hashes
-          ∙ sym (hashes-set g.H.KeyHash.hash_of old c.args.index pair w li c.index_mut-pair.ensures.value);
+          ∙ sym (hashes-set (kept_hash (length c.self.inside.index.slots) g.H.KeyHash.hash_of) old c.args.index pair w li
+          c.index_mut-pair.ensures.value);
       size = c.self.invariant.size;
     }
 

@@ -1,10 +1,10 @@
 use Rattle.std.proofs.Common.{◌≡◌, ◌+◌, ◌-◌, ◌≤◌, Ok, Some, length, map, arith, ap, ap₂, sym, subst, ◌∙◌}
-use Rattle.std.proofs.lemmas.Grind.{common_steps}
 use Rattle.std.specs.Prelude.{max, vec_capacity}
 use Rattle.ijson_table.specs.Crowd.{slot_count}
 use Rattle.ijson_table.specs.Growth.{wanted}
 use Rattle.ijson_table.specs.Placed.{Placed}
 use Rattle.ijson_table.specs.Store.{keys_of}
+use Rattle.ijson_table.specs.private.KeptHash.{kept_hash}
 use Rattle.ijson_table.specs.private.Room.{AsksFor}
 use Rattle.ijson_table.proofs.pairs.GrownRoom.{widened}
 use Rattle.ijson_table.proofs.pairs.SameStores.{put_back}
@@ -47,6 +47,7 @@ returns-clause-grown g c =
 pub invariant_of-self-2 : goal.invariant_of-self-2
 invariant_of-self-2 g c =
     let made = grown g (goal.at.invariant_of-self-2 g c).In_ok-reserve_exact in
+    let viewed = ap (λ (t : Placed g.row.V.Denot). t.store.pairs) c.self.view_is in
     record {
       room = record {
         within = omega (
@@ -57,11 +58,7 @@ invariant_of-self-2 g c =
         );
         limited = omega (arith, made.1, made.0.2);
       };
-      hashes = c.in_ok-index.ensures.hashes ∙ (c.self.invariant.hashes
-          ∙ ap (λ ps. map g.H.KeyHash.hash_of (keys_of ps)) (sym c.reserve_exact.ensures.items));
-      size = c.in_ok-index.ensures.count ∙ (c.slots_for-slots.ensures ∙ ap slot_count (sym made.1));
+      hashes = c.in_ok-index.ensures.hashes ∙ ap₂ (λ n ps. map (kept_hash n g.H.KeyHash.hash_of) (keys_of ps))
+          (sym c.in_ok-index.ensures.count) (sym (c.reserve_exact.ensures.items ∙ viewed));
+      size = c.in_ok-index.ensures.count ∙ (c.slots_for.ensures ∙ ap slot_count (sym made.1));
     }
-
--- what the check tries where no answer stands takes longer than these
-pub copy_with_slots-requires-clause-len : goal.copy_with_slots-requires-clause-len
-copy_with_slots-requires-clause-len g c = grind (arith, common_steps)

@@ -3,10 +3,12 @@ use Rattle.ijson_table.specs.Placed.{Placed}
 use Rattle.ijson_table.specs.Slots.{resident}
 use Rattle.ijson_table.specs.Sees.{Sees}
 use Rattle.ijson_table.specs.Store.{keys_of}
+use Rattle.ijson_table.specs.private.KeptHash.{kept_hash}
 use Rattle.ijson_table.specs.private.SlotHashes.{position_in, HasHash, SeenAs}
 use Rattle.ijson_table.proofs.probing.KeyTests.{sees_slot}
 use Rattle.ijson_table.proofs.probing.KeyHashes.{length-hashes}
 use Rattle.ijson_table.proofs.probing.ProbePath.{in_list}
+use Rattle.ijson_table.proofs.slots.KeptHashes.{sees_by_hash}
 use Rattle.ijson_table.proofs.table.TablePlaces.look.Goals as goal
 use Rattle.ijson_table.proofs.table.TablePlaces.look.Goals.{in-None, in-Some}
 
@@ -21,7 +23,7 @@ has_key-same-requires g c =
       arith,
       in_list index.hashes index.slots c.at-there.ensures.table c.args.slot c.in-Some.at within there,
       ap length c.self.invariant.hashes,
-      length-hashes g.H.KeyHash.hash_of c.self.inside.pairs.items,
+      length-hashes (kept_hash (length index.slots) g.H.KeyHash.hash_of) c.self.inside.pairs.items,
       ap length c.deref.ensures.value,
     )
 
@@ -48,7 +50,9 @@ returns-clause-sees g c =
           (keys_of ps) w.in-Some.at [] ≡ key)) w.deref.ensures.value w.has_key-same.ensures))
     ] in
     subst (λ (t : Placed g.row.V.Denot). Sees hash (keys_of t.store.pairs) t.slots c.args.slot key c.seen.result) c.self.view_is
-    (sees_slot hash keys index.slots c.args.slot there c.match-position.same key c.seen.result c.at-there.ensures.position
+    (sees_by_hash hash keys index.slots c.args.slot key c.seen.result
+    (sees_slot (kept_hash (length index.slots) hash) keys index.slots c.args.slot there c.match-position.same key c.seen.result
+    c.at-there.ensures.position
     (subst (λ hs. HasHash hs there) c.self.invariant.hashes c.at-there.ensures.hash)
     (subst (λ n. SeenAs there n c.args.slot c.match-position.same c.seen.result)
-    (c.new-modulus.ensures ∙ c.len.ensures.count) c.seen.ensures) sought)
+    (c.new-modulus.ensures ∙ c.len.ensures.count) c.seen.ensures) sought))

@@ -1,4 +1,4 @@
-use Rattle.std.proofs.Common.{◌≡◌, ◌⊎◌, inl, inr, ◌-◌, ◌<◌, ◌%◌, [], ℕ, length, get_or, take, arith, ap, sym, subst, ◌∙◌}
+use Rattle.std.proofs.Common.{◌≡◌, ◌⊎◌, inl, inr, ◌-◌, ◌<◌, ◌%◌, [], ℕ, List, length, get_or, take, arith, ap, ap₂, sym, subst, ◌∙◌}
 use Rattle.std.proofs.lemmas.Grind.{common_steps}
 use Rattle.ijson_table.specs.declared.index.probe.Probed.TheVariants.{Found, Vacant, Full}
 use Rattle.ijson_table.specs.Crowd.{distance}
@@ -7,11 +7,14 @@ use Rattle.ijson_table.specs.Store.{at, keys_of}
 use Rattle.ijson_table.specs.private.CountedSteps.{CountsSteps, Walks}
 use Rattle.ijson_table.specs.private.FirstPlaced.{ComesAgain}
 use Rattle.ijson_table.specs.private.HashIndex.{HashIndex}
+use Rattle.ijson_table.specs.private.KeptHash.{kept, kept_hash}
 use Rattle.ijson_table.specs.private.Lookup.{is_hashed_key}
 use Rattle.ijson_table.proofs.arithmetic.Circular.{distance-below, home_within}
 use Rattle.ijson_table.proofs.probing.FirstPairs.{comes_again, next_ends, next_placed}
 use Rattle.ijson_table.proofs.probing.StepsByEnd.{ended_found, counts_found, counts_full, counts_new}
 use Rattle.ijson_table.proofs.pairs.PairsByKey.{key_at}
+use Rattle.ijson_table.proofs.slots.KeptHashes.{kept_once}
+use Rattle.ijson_table.proofs.table.from_list.add_new_key.Given.{Over}
 use Rattle.ijson_table.proofs.table.from_list.add_new_key.Goals.{After-probe, After-distance_between}
 use Rattle.ijson_table.proofs.table.from_list.add_new_key.Goals.{After-distance_between-in-Found, In-Vacant}
 use Rattle.ijson_table.proofs.table.from_list.add_new_key.Goals as goal
@@ -20,32 +23,40 @@ use Rattle.ijson_table.proofs.table.from_list.add_new_key.Goals as goal
 keyed : (g : _) (c : After-probe g) → get_or (keys_of c.args.pairs.now) c.args.position [] ≡ c.as_str-key.result.now
 keyed g c = key_at c.args.pairs.now c.args.position c.index-pairs-position.result c.requires.within ∙ sym c.as_str-key.ensures
 
+-- what the index keeps of the hashes of keys
+abbrev short : (g : Over) → HashIndex → List ℕ → ℕ
+short g index = kept_hash (length index.slots) g.H.KeyHash.hash_of
+
+-- so of its hash
+kept_is : (g : _) (c : After-probe g) → c.kept_hash-hash.result ≡ short g c.args.index.now c.as_str-key.result.now
+kept_is g c = c.kept_hash-hash.ensures ∙ ap₂ kept c.requires.counted c.hash.ensures
+
 -- the walk for it, where it is new
-vacant : (g : _) (c : In-Vacant g) → Walks c.args.index.now (keys_of (take c.args.position c.args.pairs.now)) c.hash-hash.result
+vacant : (g : _) (c : In-Vacant g) → Walks c.args.index.now (keys_of (take c.args.position c.args.pairs.now)) c.kept_hash-hash.result
     c.as_str-key.result.now (c.probe.new.looks - c.new.result) (Vacant c.in-Vacant.slot)
-vacant g c = subst (Walks c.args.index.now (keys_of (take c.args.position c.args.pairs.now)) c.hash-hash.result
+vacant g c = subst (Walks c.args.index.now (keys_of (take c.args.position c.args.pairs.now)) c.kept_hash-hash.result
     c.as_str-key.result.now (c.probe.new.looks - c.new.result)) c.in-Vacant.is c.probe.ensures.ends
 
 -- and where it comes again
 found : (g : _) (c : After-distance_between-in-Found g) → Walks c.args.index.now (keys_of (take c.args.position c.args.pairs.now))
-    c.hash-hash.result c.as_str-key.result.now (c.probe.new.looks - c.new.result) (Found c.in-Found.field-0 c.in-Found.slot)
-found g c = subst (Walks c.args.index.now (keys_of (take c.args.position c.args.pairs.now)) c.hash-hash.result
+    c.kept_hash-hash.result c.as_str-key.result.now (c.probe.new.looks - c.new.result) (Found c.in-Found.field-0 c.in-Found.slot)
+found g c = subst (Walks c.args.index.now (keys_of (take c.args.position c.args.pairs.now)) c.kept_hash-hash.result
     c.as_str-key.result.now (c.probe.new.looks - c.new.result)) c.in-Found.is c.probe.ensures.ends
 
 -- Where a slot is left, a key for which there is no vacancy comes again,
 again : (g : _) (c : After-probe g) → ((x : ℕ) × (p : ℕ) × (c.probe.result ≡ Found x p)) ⊎ (c.probe.result ≡ Full)
     → ComesAgain c.args.pairs.now c.args.position
-again g c is none = comes_again g.H.KeyHash.hash_of c.args.pairs.now c.args.position c.args.index.now c.requires.placed
-    c.requires.within c.hash-hash.result c.as_str-key.result.now (c.probe.new.looks - c.new.result) c.probe.result c.hash-hash.ensures
+again g c is none = comes_again (short g c.args.index.now) c.args.pairs.now c.args.position c.args.index.now c.requires.placed
+    c.requires.within c.kept_hash-hash.result c.as_str-key.result.now (c.probe.new.looks - c.new.result) c.probe.result (kept_is g c)
     c.len-slots.ensures.table c.requires.room c.probe.ensures.ends is
     (ap (at (take c.args.position c.args.pairs.now)) (sym (keyed g c)) ∙ none)
 
 -- and the steps of the walk for it are those of the walk for the pair's key.
-counted : (g : _) (c : After-probe g) (new : HashIndex) (steps : ℕ) → CountsSteps g.H.KeyHash.hash_of
+counted : (g : _) (c : After-probe g) (new : HashIndex) (steps : ℕ) → CountsSteps (short g c.args.index.now)
     (keys_of (take c.args.position c.args.pairs.now)) c.as_str-key.result.now c.args.index.now new steps
-    → CountsSteps g.H.KeyHash.hash_of (keys_of (take c.args.position c.args.pairs.now))
+    → CountsSteps (short g c.args.index.now) (keys_of (take c.args.position c.args.pairs.now))
     (get_or (keys_of c.args.pairs.now) c.args.position []) c.args.index.now new steps
-counted g c new steps = subst (λ k. CountsSteps g.H.KeyHash.hash_of (keys_of (take c.args.position c.args.pairs.now)) k
+counted g c new steps = subst (λ k. CountsSteps (short g c.args.index.now) (keys_of (take c.args.position c.args.pairs.now)) k
     c.args.index.now new steps) (sym (keyed g c))
 
 -- How far a slot is from the home that was computed: less than a round.
@@ -66,32 +77,37 @@ away_from n count h home p away slots is size home_is counted within there = rec
 }
 
 -- the last slot that is written
-away_new : (g : _) (c : After-distance_between g) → Away (length c.args.index.now.slots) c.hash-hash.result c.push_at-last.result
+away_new : (g : _) (c : After-distance_between g) → Away (length c.args.index.now.slots) c.kept_hash-hash.result c.push_at-last.result
     c.distance_between.result
-away_new g c = away_from (length c.args.index.now.slots) c.args.modulus.count c.hash-hash.result c.home_of_hash-home.result
+away_new g c = away_from (length c.args.index.now.slots) c.args.modulus.count c.kept_hash-hash.result c.home_of_hash-home.result
     c.push_at-last.result c.distance_between.result c.len-slots.result c.distance_between.ensures c.len-slots.ensures.count
     c.home_of_hash-home.ensures.value c.requires.counted c.home_of_hash-home.ensures.within c.push_at-last.ensures.within
 
 -- the slot where the key was found
-away_found : (g : _) (c : After-distance_between-in-Found g) → Away (length c.args.index.now.slots) c.hash-hash.result c.in-Found.slot
+away_found : (g : _) (c : After-distance_between-in-Found g) → Away (length c.args.index.now.slots) c.kept_hash-hash.result c.in-Found.slot
     c.distance_between-in-Found.result
 away_found g c =
     let index = c.args.index.now in
     let n = length index.slots in
-    let there = (ended_found index.slots (displacement index.hashes index.slots) (c.hash-hash.result % n)
-    (is_hashed_key index.hashes (keys_of (take c.args.position c.args.pairs.now)) c.hash-hash.result c.as_str-key.result.now)
-    (home_within c.hash-hash.result n (omega (arith, c.requires.room))) (c.probe.new.looks - c.new.result) c.in-Found.field-0
+    let there = (ended_found index.slots (displacement index.hashes index.slots) (c.kept_hash-hash.result % n)
+    (is_hashed_key index.hashes (keys_of (take c.args.position c.args.pairs.now)) c.kept_hash-hash.result c.as_str-key.result.now)
+    (home_within c.kept_hash-hash.result n (omega (arith, c.requires.room))) (c.probe.new.looks - c.new.result) c.in-Found.field-0
     c.in-Found.slot (found g c)).there in
-    away_from n c.args.modulus.count c.hash-hash.result c.home_of_hash-home.result c.in-Found.slot c.distance_between-in-Found.result
+    away_from n c.args.modulus.count c.kept_hash-hash.result c.home_of_hash-home.result c.in-Found.slot c.distance_between-in-Found.result
     c.len-slots.result c.distance_between-in-Found.ensures c.len-slots.ensures.count c.home_of_hash-home.ensures.value
     c.requires.counted c.home_of_hash-home.ensures.within there
 
 pub push_at-last-requires-clause-may : goal.push_at-last-requires-clause-may
 push_at-last-requires-clause-may g c =
-    (next_ends g.H.KeyHash.hash_of c.args.pairs.now c.args.position c.args.index.now c.requires.placed
-    c.requires.within c.hash-hash.result c.as_str-key.result.now (c.probe.new.looks - c.new.result) c.in-Vacant.slot
-    c.hash-hash.ensures c.len-slots.ensures.table (omega (arith, c.requires.room))
-    (vacant g (goal.at.push_at-last-requires-clause-may g c).In-Vacant)).1
+    let place = goal.at.push_at-last-requires-clause-may g c in
+    (next_ends (short g c.args.index.now) c.args.pairs.now c.args.position c.args.index.now c.requires.placed
+    c.requires.within c.kept_hash-hash.result c.as_str-key.result.now (c.probe.new.looks - c.new.result) c.in-Vacant.slot
+    (kept_is g place.After-probe) c.len-slots.ensures.table (omega (arith, c.requires.room))
+    (vacant g place.In-Vacant)).1
+
+pub push_at-last-requires-clause-kept : goal.push_at-last-requires-clause-kept
+push_at-last-requires-clause-kept g c = kept_once (length c.args.index.now.slots) c.args.modulus.count c.hash.result
+    c.kept_hash-hash.result c.kept_hash-hash.ensures c.requires.counted
 
 pub overflow_add-steps : goal.overflow_add-steps
 overflow_add-steps g c = omega (
@@ -115,15 +131,16 @@ overflow_add-steps-in-Found-2 g c =
 
 pub returns-in-Vacant-clause-placed : goal.returns-in-Vacant-clause-placed
 returns-in-Vacant-clause-placed g c = λ _.
-    let hash = g.H.KeyHash.hash_of in
+    let place = goal.at.returns-in-Vacant-clause-placed g c in
+    let hash = short g c.args.index.now in
     let pair = c.index-pairs-position.result in
     let key : c.as_str-key.result.now ≡ pair.0 = c.as_str-key.ensures ∙ ap (λ p. p.0) (sym c.index-pairs-position.is) in
-    let hashed : c.hash-hash.result ≡ hash pair.0 = c.hash-hash.ensures ∙ ap hash key in
+    let hashed : c.kept_hash-hash.result ≡ hash pair.0 = kept_is g place.After-probe ∙ ap hash key in
     let missing = (next_ends hash c.args.pairs.now c.args.position c.args.index.now c.requires.placed
-    c.requires.within c.hash-hash.result c.as_str-key.result.now (c.probe.new.looks - c.new.result) c.in-Vacant.slot
-    c.hash-hash.ensures c.len-slots.ensures.table (omega (arith, c.requires.room))
-    (vacant g (goal.at.returns-in-Vacant-clause-placed g c).In-Vacant)).0 in
-    next_placed hash c.args.pairs.now c.args.position c.args.index.now c.requires.placed c.requires.within pair c.hash-hash.result
+    c.requires.within c.kept_hash-hash.result c.as_str-key.result.now (c.probe.new.looks - c.new.result) c.in-Vacant.slot
+    (kept_is g place.After-probe) c.len-slots.ensures.table (omega (arith, c.requires.room))
+    (vacant g place.In-Vacant)).0 in
+    next_placed hash c.args.pairs.now c.args.position c.args.index.now c.requires.placed c.requires.within pair c.kept_hash-hash.result
     c.push_at-last.new.self c.index-pairs-position.is hashed
     (ap (at (take c.args.position c.args.pairs.now)) (sym key) ∙ missing) c.push_at-last.ensures.hashes
 
@@ -134,9 +151,10 @@ returns-in-Vacant-clause-steps g c =
 pub returns-in-Vacant-clause-counted : goal.returns-in-Vacant-clause-counted
 returns-in-Vacant-clause-counted g c =
     let place = goal.at.returns-in-Vacant-clause-counted g c in
-    counted g place.After-probe c.push_at-last.new.self _ (counts_new g.H.KeyHash.hash_of (keys_of (take c.args.position c.args.pairs.now))
-    c.args.index.now (omega (arith, c.requires.room)) c.hash-hash.result c.as_str-key.result.now (c.probe.new.looks - c.new.result)
-    c.in-Vacant.slot c.push_at-last.result c.distance_between.result _ c.push_at-last.new.self c.hash-hash.ensures
+    counted g place.After-probe c.push_at-last.new.self _
+    (counts_new (short g c.args.index.now) (keys_of (take c.args.position c.args.pairs.now)) c.args.index.now
+    (omega (arith, c.requires.room)) c.kept_hash-hash.result c.as_str-key.result.now (c.probe.new.looks - c.new.result)
+    c.in-Vacant.slot c.push_at-last.result c.distance_between.result _ c.push_at-last.new.self (kept_is g place.After-probe)
     (vacant g place.In-Vacant) c.push_at-last.ensures.within c.push_at-last.ensures.empty c.push_at-last.ensures.changes
     (away_new g place.After-distance_between).far (omega arith))
 
@@ -151,9 +169,10 @@ returns-in-Found-clause-steps g c =
 pub returns-in-Found-clause-counted : goal.returns-in-Found-clause-counted
 returns-in-Found-clause-counted g c =
     let place = goal.at.returns-in-Found-clause-counted g c in
-    counted g place.After-probe c.args.index.now _ (counts_found g.H.KeyHash.hash_of (keys_of (take c.args.position c.args.pairs.now))
-    c.args.index.now (omega (arith, c.requires.room)) c.hash-hash.result c.as_str-key.result.now (c.probe.new.looks - c.new.result)
-    c.in-Found.field-0 c.in-Found.slot c.distance_between-in-Found.result _ c.hash-hash.ensures
+    counted g place.After-probe c.args.index.now _
+    (counts_found (short g c.args.index.now) (keys_of (take c.args.position c.args.pairs.now)) c.args.index.now
+    (omega (arith, c.requires.room)) c.kept_hash-hash.result c.as_str-key.result.now (c.probe.new.looks - c.new.result)
+    c.in-Found.field-0 c.in-Found.slot c.distance_between-in-Found.result _ (kept_is g place.After-probe)
     (found g place.After-distance_between-in-Found) (away_found g place.After-distance_between-in-Found).far (omega arith))
 
 pub returns-in-Full-clause-stops : goal.returns-in-Full-clause-stops
@@ -161,11 +180,12 @@ returns-in-Full-clause-stops g c = λ _. again g (goal.at.returns-in-Full-clause
 
 pub returns-in-Full-clause-counted : goal.returns-in-Full-clause-counted
 returns-in-Full-clause-counted g c =
+    let place = goal.at.returns-in-Full-clause-counted g c in
     let keys = keys_of (take c.args.position c.args.pairs.now) in
     let looks = c.probe.new.looks - c.new.result in
-    counted g (goal.at.returns-in-Full-clause-counted g c).After-probe c.args.index.now _ (counts_full g.H.KeyHash.hash_of keys
-    c.args.index.now (omega (arith, c.requires.room)) c.hash-hash.result c.as_str-key.result.now looks _ c.hash-hash.ensures
-    (subst (Walks c.args.index.now keys c.hash-hash.result c.as_str-key.result.now looks) c.in-Full.is c.probe.ensures.ends)
+    counted g place.After-probe c.args.index.now _ (counts_full (short g c.args.index.now) keys
+    c.args.index.now (omega (arith, c.requires.room)) c.kept_hash-hash.result c.as_str-key.result.now looks _ (kept_is g place.After-probe)
+    (subst (Walks c.args.index.now keys c.kept_hash-hash.result c.as_str-key.result.now looks) c.in-Full.is c.probe.ensures.ends)
     (omega (arith, c.len-slots.ensures.count)))
 
 pub probe-requires-clause-fits : goal.probe-requires-clause-fits

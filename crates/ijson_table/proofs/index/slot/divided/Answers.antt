@@ -1,6 +1,6 @@
-use Rattle.std.proofs.Common.{◌*◌, ◌/◌, ◌^◌, ◌∙◌}
-use Rattle.ijson_table.proofs.arithmetic.Reciprocal.{quotient-not_above, quotient-near, left-is_remainder, left-is_more}
-use Rattle.ijson_table.proofs.index.slot.remainder.Goals as goal
+use Rattle.std.proofs.Common.{◌*◌, ◌/◌, ◌^◌, ℕ, ◌≡◌, ◌∙◌}
+use Rattle.ijson_table.proofs.arithmetic.Reciprocal.{quotient-not_above, quotient-near, divides, divides_more}
+use Rattle.ijson_table.proofs.index.slot.divided.Goals as goal
 
 pub overflow_sub-left : goal.overflow_sub-left
 overflow_sub-left c =
@@ -10,7 +10,8 @@ pub returns-then-left-count : goal.returns-then-left-count
 returns-then-left-count c =
     let within = quotient-not_above c.args.hash c.args.count c.from.result c.from-2.result c.from.ensures
     (c.from-2.ensures ∙ c.requires.reciprocal) in
-    left-is_remainder c.args.hash c.args.count (c.from.result * c.from-2.result / 2 ^ 64) within c.if-left-count.true
+    let is = divides c.args.hash c.args.count (c.from.result * c.from-2.result / 2 ^ 64) within c.if-left-count.true in
+    record { quotient = is.quotient; left = is.left_is }
 
 pub returns-else-left-count : goal.returns-else-left-count
 returns-else-left-count c =
@@ -18,4 +19,5 @@ returns-else-left-count c =
     let within = quotient-not_above c.args.hash c.args.count c.from.result c.from-2.result c.from.ensures reciprocal in
     let near = quotient-near c.args.hash c.args.count c.from.result c.from-2.result c.from.ensures reciprocal c.requires.some
     c.ranges.hash.fits in
-    left-is_more c.args.hash c.args.count (c.from.result * c.from-2.result / 2 ^ 64) within near c.if-left-count.false
+    let is = divides_more c.args.hash c.args.count (c.from.result * c.from-2.result / 2 ^ 64) within near c.if-left-count.false in
+    record { quotient = is.quotient; left = is.left_is }

@@ -1,0 +1,59 @@
+-- What fits the three bytes of a narrow slot.
+use Rattle.std.proofs.Common.{◌≡◌, ◌≢◌, ℕ, zero, suc, ◌+◌, ◌*◌, ◌%◌, ◌<◌, ◌≤◌, List, length, get_or, Option, Some, None, arith, sym}
+use Rattle.std.proofs.Math.Nat.{mod-lt}
+use Rattle.std.proofs.lemmas.Bool.Decides.{nat_tests}
+use Rattle.std.proofs.lemmas.List.Elements.{All-get_or, All-from_get_or}
+use Rattle.std.specs.List.{All}
+use Rattle.ijson_table.specs.declared.index.slot.Slot.{Slot}
+use Rattle.ijson_table.specs.private.Closing.{closed}
+use Rattle.ijson_table.specs.private.HomeOrder.{AreInHomeOrder}
+use Rattle.ijson_table.specs.private.KeptHash.{narrow_slots, kept}
+use Rattle.ijson_table.specs.private.Narrow.{Fits, MayHold}
+use Rattle.ijson_table.specs.private.SlotHashes.{blank, coded_position, position_in, positions}
+use Rattle.ijson_table.proofs.filling.NoneEmpty.{none_empty, some_position}
+use Rattle.ijson_table.proofs.slots.HashesInSlots.{hashes-at, position-at, positions-length}
+use Rattle.ijson_table.proofs.slots.KeptHashes.{kept-narrow}
+use Rattle.ijson_table.proofs.slots.Residents.{times-some}
+
+-- the code of a position is one more than it
+code-of : (code i : ℕ) → coded_position code ≡ Some i → code ≡ i + 1
+code-of zero i e = let bad : ◌≡◌ {A = Option ℕ} None (Some i) = e in cc
+code-of (suc k) i e =
+    let is : ◌≡◌ {A = Option ℕ} (Some k) (Some i) = e in
+    let same : k ≡ i = cc in
+    omega (arith, same)
+
+-- a slot fits where its position and its hash do
+pub fits_at : (n : ℕ) (slot : Slot) (i : ℕ) → position_in slot ≡ Some i → (n ≤ narrow_slots → i + 1 < 256)
+    → (n ≤ narrow_slots → slot.hash < 65536)
+    → Fits n slot
+fits_at n slot i at position hash few = (omega (arith, code-of slot.code i at, position few), hash few)
+
+-- a slot still fits where a position before is out
+pub fits-closed : (n gone : ℕ) (slot : Slot) → Fits n slot → Fits n (closed gone slot)
+fits-closed n gone slot fits few = (grind (arith, nat_tests, (fits few).0), (fits few).1)
+
+-- what few slots keep of a hash is less than their count by 256
+kept-within : (n h : ℕ) → n ≤ narrow_slots → 0 < n → kept n h < n * 256
+kept-within n h few some =
+    let below : h % (n * 256) < n * 256 = mod-lt h (omega (arith, some)) in
+    omega (arith, kept-narrow n h few, below)
+
+-- so it fits, beside a position that has a slot
+pub may_hold : (n position h : ℕ) → h ≡ kept n h → position < n → MayHold n position h
+may_hold n position h is room few =
+    (omega (arith, few, room), omega (arith, few, is, kept-within n h few (omega (arith, room))))
+
+-- entries of hashes that are kept fit
+pub all_fit : (hashes : List ℕ) (n : ℕ) (entries : List Slot) → AreInHomeOrder hashes n entries → length hashes ≤ n
+    → ((i : ℕ) → kept n (get_or hashes i 0) ≡ get_or hashes i 0) → All (Fits n) entries
+all_fit hashes n entries are room is = All-from_get_or (Fits n) entries blank (λ p lp.
+    let entry : Slot = get_or entries p blank in
+    let who = some_position (position_in entry) (All-get_or (λ e. position_in e ≢ None) entries p blank lp
+    (none_empty (length hashes) entries are.count are.placed)) in
+    let once = times-some who.0 (positions entries) p (omega (arith, lp, positions-length entries))
+    (position-at entries p (Some who.0) lp (sym who.1)) in
+    let within : who.0 < length hashes = grind (arith, nat_tests, once, are.placed who.0) in
+    let hash : entry.hash ≡ get_or hashes who.0 0 = hashes-at hashes entries p are.hashes_are lp who.0 who.1 in
+    let held = may_hold n who.0 (get_or hashes who.0 0) (sym (is who.0)) (omega (arith, within, room)) in
+    fits_at n entry who.0 who.1 (λ few. (held few).0) (λ few. omega (arith, hash, (held few).1)))

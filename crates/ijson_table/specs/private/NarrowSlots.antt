@@ -1,0 +1,30 @@
+-- How `Slots` are stored, seen as a list of slots.
+use Rattle.std.specs.Prelude.{◌≡◌, ◌+◌, ◌*◌, ◌<◌, ◌≤◌, List, map, take, length, vec_capacity}
+use Rattle.ijson_table.specs.declared.index.slot.Slot.{Slot}
+use Rattle.ijson_table.specs.declared.index.slot.narrow.NarrowSlot.{NarrowSlot}
+use Rattle.ijson_table.specs.declared.index.slots.FewSlots.{FewSlots}
+use Rattle.ijson_table.specs.declared.index.slots.Stored.{Stored}
+use Rattle.ijson_table.specs.declared.index.slots.Stored.TheVariants.{Few, Narrow, Wide}
+use Rattle.ijson_table.specs.declared.index.slots.TheConstants.{FEW_SLOTS}
+use Rattle.ijson_table.specs.private.KeptHash.{narrow_slots}
+
+-- what stands at a slot of three bytes
+abbrev pub widened : NarrowSlot → Slot
+widened slot = record { code = slot.code; hash = slot.low + 256 * slot.high }
+
+-- what stands at each of a few slots
+abbrev pub few_items : FewSlots → List Slot
+few_items few = map widened (take few.count few.slots)
+
+-- what stands at each slot
+abbrev pub stored_slots : Stored → List Slot
+stored_slots (Few few) = few_items few
+stored_slots (Narrow slots) = map widened slots.items
+stored_slots (Wide slots) = slots.items
+
+-- They are stored by their count: up to FEW_SLOTS in place, up to 158 in three bytes each. No list has room for more.
+abbrev pub IsStoredByCount : Stored → Type 0
+IsStoredByCount (Few few) = Unit {0}
+IsStoredByCount (Narrow slots) =
+    (FEW_SLOTS < length slots.items) × (length slots.items ≤ narrow_slots) × (vec_capacity slots ≡ length slots.items)
+IsStoredByCount (Wide slots) = (narrow_slots < length slots.items) × (vec_capacity slots ≡ length slots.items)

@@ -1,0 +1,231 @@
+//! `Slots`: the slots of a table, in the least memory that they fit.
+
+ghost use Rattle.std.specs.Prelude.{◌≡◌, ◌<◌, ◌≤◌, [], length, set, get_or, replicate, vec_capacity, None, IfOk, OnErr};
+ghost use Rattle.std.specs.List.{All};
+ghost use Rattle.ijson_table.specs.declared.index.slots.TheConstants.{FEW_SLOTS};
+ghost use Rattle.ijson_table.specs.private.KeptHash.{narrow_slots};
+ghost use Rattle.ijson_table.specs.private.Narrow.{Fits};
+ghost use Rattle.ijson_table.specs.private.SlotHashes.{blank, position_in};
+
+use crate::growth::{list_with_room, tighten};
+use crate::index::slot::narrow::NarrowSlot;
+use crate::index::slot::{NARROW_SLOTS, Slot};
+use std::alloc::{AllocError, Global};
+use std::fmt;
+use std::marker::Model;
+use std::mem::size_of;
+
+/// The count of slots up to which they lie in place.
+const FEW_SLOTS: usize = 10;
+
+/// Slots, each empty or with a position of a list beside what is kept of the hash of the key there. Few of them take no memory but
+/// this.
+#[derive(Drop)]
+pub struct Slots {
+    stored: Stored,
+}
+
+/// Slots by the room that they take: up to 10 in place, up to 158 in a list of three bytes each, and more in a list of 16 bytes each.
+/// A list has no room for more.
+#[derive(Drop)]
+enum Stored {
+    Few(FewSlots),
+    Narrow(Vec<NarrowSlot>),
+    Wide(Vec<Slot>),
+}
+
+/// At most 10 slots. Those past the count are no part of it.
+#[derive(Clone, Copy, Drop)]
+struct FewSlots {
+    count: u8,
+    slots: [NarrowSlot; FEW_SLOTS],
+    ghost within: { count ≤ FEW_SLOTS },
+}
+
+const _: () = prove!(size_of::<FewSlots>() == 31);
+
+const _: () = prove!(size_of::<Slots>() == 32);
+
+impl Model for Slots {
+    ghost use Rattle.std.specs.Prelude.{List};
+    ghost use Rattle.ijson_table.specs.declared.index.slot.Slot.{Slot};
+
+    ghost Value = { List Slot };
+
+    ghost use Rattle.ijson_table.specs.private.NarrowSlots.{stored_slots, IsStoredByCount};
+
+    ghost view = { λ s. stored_slots s.stored };
+
+    ghost invariant = { λ s. IsStoredByCount s.stored };
+}
+
+impl Slots {
+    /// No slots. They take no memory.
+    pub fn new() -> Slots
+        ensures { result ≡ [] }
+    {
+        Slots {
+            stored: Stored::Few(FewSlots::empty(0)),
+        }
+    }
+
+    /// So many empty slots.
+    pub fn with_count(alloc: Global, count: usize) -> Result<Slots, AllocError>
+        ensures empty { IfOk result (λ slots. All (λ slot. position_in slot ≡ None) slots) }
+        ensures count { IfOk result (λ slots. length slots ≡ count) }
+        ensures refused { OnErr result (0 < count) }
+    {
+        let stored = if count <= FEW_SLOTS {
+            Stored::Few(FewSlots::empty(count))
+        } else if count <= NARROW_SLOTS {
+            Stored::Narrow(repeated(alloc, NarrowSlot::empty(), count)?)
+        } else {
+            Stored::Wide(repeated(alloc, Slot::empty(), count)?)
+        };
+        Ok(Slots { stored })
+    }
+
+    /// How many slots there are.
+    #[inline(always)]
+    pub fn len(&self) -> usize
+        ensures { result ≡ length self.now }
+    {
+        match &self.stored {
+            Stored::Few(few) => few.len(),
+            Stored::Narrow(slots) => slots.len(),
+            Stored::Wide(slots) => slots.len(),
+        }
+    }
+
+    /// What stands at a slot.
+    #[inline(always)]
+    pub fn at(&self, slot: usize) -> Slot
+        requires { slot < length self.now }
+        ensures value { result ≡ get_or self.now slot blank }
+        ensures fits { Fits (length self.now) result }
+    {
+        match &self.stored {
+            Stored::Few(few) => few.slots[slot].widened(),
+            Stored::Narrow(slots) => slots[slot].widened(),
+            Stored::Wide(slots) => slots[slot],
+        }
+    }
+
+    /// Puts this at a slot.
+    #[inline(always)]
+    pub fn set(&mut self, slot: usize, entry: Slot)
+        requires within { slot < length self.old }
+        requires fits { Fits (length self.old) entry }
+        ensures { self.new ≡ set self.old slot entry }
+    {
+        match &mut self.stored {
+            Stored::Few(few) => few.slots[slot] = NarrowSlot::of(entry),
+            Stored::Narrow(slots) => slots[slot] = NarrowSlot::of(entry),
+            Stored::Wide(slots) => slots[slot] = entry,
+        }
+    }
+
+    /// The slots as one list, where they are not narrow.
+    pub fn as_slice(&self) -> &[Slot]
+        requires { narrow_slots < length self.now }
+        ensures { result.now ≡ self.now }
+    {
+        match &self.stored {
+            Stored::Wide(slots) => slots,
+            Stored::Few(_) | Stored::Narrow(_) => unreachable!(),
+        }
+    }
+
+    /// Makes each slot empty.
+    pub fn clear(&mut self)
+        ensures empty { All (λ slot. position_in slot ≡ None) self.new }
+        ensures count { length self.new ≡ length self.old }
+    {
+        match &mut self.stored {
+            Stored::Few(few) => fill(&mut few.slots, NarrowSlot::empty()),
+            Stored::Narrow(slots) => fill(slots, NarrowSlot::empty()),
+            Stored::Wide(slots) => fill(slots, Slot::empty()),
+        }
+    }
+
+    /// The same slots, in memory of their own.
+    pub fn copied(&self, alloc: Global) -> Result<Slots, AllocError>
+        ensures copied { IfOk result (λ slots. slots ≡ self.now) }
+        ensures refused { OnErr result (0 < length self.now) }
+    {
+        let stored = match &self.stored {
+            Stored::Few(few) => Stored::Few(*few),
+            Stored::Narrow(slots) => Stored::Narrow(exact_copy(alloc, slots)?),
+            Stored::Wide(slots) => Stored::Wide(exact_copy(alloc, slots)?),
+        };
+        Ok(Slots { stored })
+    }
+}
+
+/// As a list, however they are stored.
+impl fmt::Debug for Slots {
+    fn fmt<W: fmt::Write>(&self, f: &mut fmt::Formatter<W>) -> fmt::Result {
+        let mut list = f.debug_list();
+        for slot in 0..self.len() {
+            list.entry(&self.at(slot));
+        }
+        list.finish()
+    }
+}
+
+impl FewSlots {
+    ghost use Rattle.ijson_table.specs.private.NarrowSlots.{few_items};
+
+    /// So many empty slots.
+    fn empty(count: usize) -> FewSlots
+        requires { count ≤ FEW_SLOTS }
+        ensures empty { All (λ slot. position_in slot ≡ None) (few_items result) }
+        ensures count { length (few_items result) ≡ count }
+    {
+        FewSlots {
+            count: count as u8,
+            slots: [NarrowSlot::empty(); FEW_SLOTS],
+        }
+    }
+
+    /// How many slots there are.
+    #[inline(always)]
+    fn len(&self) -> usize
+        ensures { result ≡ length (few_items self.now) }
+    {
+        usize::from(self.count)
+    }
+}
+
+/// A list that has this so many times, and room for no more.
+fn repeated<T: Copy + Drop>(alloc: Global, item: T, count: usize) -> Result<Vec<T>, AllocError>
+    ensures items { IfOk result (λ list. list.items ≡ replicate count item) }
+    ensures room { IfOk result (λ list. vec_capacity list ≡ count) }
+    ensures refused { OnErr result (0 < count) }
+{
+    let mut list = list_with_room(alloc, count)?;
+    for _step in 0..count {
+        list.push_reserved(item);
+    }
+    Ok(list)
+}
+
+/// Makes each item this one.
+fn fill<T: Copy + Drop>(items: &mut [T], item: T)
+    ensures { items.new ≡ replicate (length items.old) item }
+{
+    for place in items.iter_mut() {
+        *place = item;
+    }
+}
+
+/// A list of the same items, which has room for no more.
+fn exact_copy<T: Copy + Drop>(alloc: Global, items: &[T]) -> Result<Vec<T>, AllocError>
+    requires { 0 < length items.now }
+    ensures items { IfOk result (λ list. list.items ≡ items.now) }
+    ensures room { IfOk result (λ list. vec_capacity list ≡ length items.now) }
+{
+    let mut list = Vec::from_slice(alloc, items)?;
+    tighten(alloc, &mut list)?;
+    Ok(list)
+}
