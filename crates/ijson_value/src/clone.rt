@@ -64,7 +64,7 @@ fn clone_pairs(
 
 /// The same value. Texts are shared with it, and memory is taken for each array and object in it that is not empty, and for
 /// each number that is stored as a list of digits; where one of these requests is refused, what was made is dropped. It takes
-/// time linear in the value, and hashes no key.
+/// time linear in the value, and hashes no key of an object that has room for no more than its pairs or has more than 127 of them.
 impl Clone for IValue {
     ghost is_clone = { λ v copy. copy ≡ v };
 

@@ -13,8 +13,9 @@ impl IObject {
         self.alloc
     }
 
-    /// An object of pairs with the keys of this one in its order, as a copy of it has them; no key is hashed again. Its
-    /// capacity is its length, and one of no pairs takes no memory.
+    /// An object of pairs with the keys of this one in its order, as a copy of it has them. No key is hashed again where this one has
+    /// room for no more than its pairs, or where there are more than 127. Its capacity is its length, and one of no pairs takes no
+    /// memory.
     pub(crate) fn with_same_keys(
         &self,
         pairs: Vec<(IString, IValue)>,

@@ -144,8 +144,8 @@ impl IObject {
 
     /// Makes room for `additional` pairs more. Where they have none, the capacity becomes the greatest of twice the old one,
     /// the length with them, and 4. So pairs that are put one by one take room for 4, 8, 16 and so on. Each pair is moved once,
-    /// and no key is hashed again. Refused, the object is as it was: `TooLarge` where the capacity would pass 2^56, `Memory`
-    /// where it was not granted.
+    /// and no key is hashed again where there was room for more than 127 pairs. Refused, the object is as it was: `TooLarge`
+    /// where the capacity would pass 2^56, `Memory` where it was not granted.
     pub fn reserve(&mut self, additional: usize) -> Result<(), ReserveError>
         ensures growth { Grow (length self.old.pairs) self.old.capacity additional result
             self.new.capacity }
