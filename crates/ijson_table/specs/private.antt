@@ -11,6 +11,7 @@ pub mod Insertion
 pub mod IsPlaced
 pub mod KeptHash
 pub mod KeyOrder
+pub mod LentSlots
 pub mod Lookup
 pub mod Merging
 pub mod Narrow

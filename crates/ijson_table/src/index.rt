@@ -7,6 +7,7 @@
 //! - `shift`: how the residents of slots move, in insertion, removal and growth.
 //! - `fill`: how a table is filled from entries that are sorted by home.
 //! - `copy`: how a table comes to have another count of slots.
+//! - `view`: the slots as they are lent to a look-up.
 
 ghost use Rattle.std.specs.Prelude.{◌≡◌, ◌+◌, ◌<◌, ◌≤◌, [], ◌∷◌, ◌++◌, length, get_or, vec_capacity, None, IfOk, OnErr};
 ghost use Rattle.std.specs.List.{All, remove, swap_remove as swapped_out};
@@ -26,10 +27,12 @@ pub mod probe;
 mod shift;
 pub mod slot;
 mod slots;
+pub mod view;
 
 use crate::index::shift::{shift_forward, shift_remove, swap_remove, vacancy};
 use crate::index::slot::Slot;
 use crate::index::slots::Slots;
+use crate::index::view::View;
 use std::alloc::{AllocError, Global};
 use std::marker::Model;
 
@@ -89,6 +92,15 @@ impl Index {
         ensures table { IsTable self.now.hashes self.now.slots }
     {
         self.slots.at(slot)
+    }
+
+    /// The slots, lent to a look-up.
+    #[inline(always)]
+    pub fn view(&self) -> View<'_>
+        ensures value { result ≡ self.now }
+        ensures table { IsTable self.now.hashes self.now.slots }
+    {
+        View::new(self.slots.lent())
     }
 
     /// The slot where the probe ends for a new key, of whose hash this is kept. There is room for one more.

@@ -256,15 +256,17 @@ impl<V, H: KeyHash> Table<V, H> {
         ensures bounded { IsBounded H.hash_of (keys_of self.now.store.pairs) self.now.slots
             self.now.store.capacity key.now (looks.new - looks.old) }
     {
-        if self.index.len() == 0 {
+        let slots = self.index.len();
+        if slots == 0 {
             return Probed::Full;
         }
-        let modulus = Modulus::new(self.index.len());
+        let modulus = Modulus::new(slots);
         let lookup = Lookup {
             pairs: &self.pairs,
-            index: &self.index,
+            index: self.index.view(),
             modulus,
             hash: modulus.kept_hash(hash),
+            home: modulus.home_of_hash(hash),
             key,
         };
         probe(&lookup, looks)

@@ -24,6 +24,10 @@ pub kept-home : (n h : ℕ) → kept n h % n ≡ h % n
 unfolding kept
 kept-home n h = elim (leb n narrow_slots) as (λ b. (if b then h % (n * 256) else h) % n ≡ h % n) [ true ↦ mod-more h n | false ↦ refl ]
 
+-- a home that was computed is that of what is kept
+pub home_of_kept : (n h k home : ℕ) → k ≡ kept n h → home ≡ h % n → home ≡ k % n
+home_of_kept n h k home is home_is = home_is ∙ (sym (kept-home n h) ∙ ap (λ x. x % n) (sym is))
+
 -- it is kept whole
 pub kept-kept : (n h : ℕ) → kept n (kept n h) ≡ kept n h
 unfolding kept

@@ -6,9 +6,9 @@ ghost use Rattle.ijson_table.specs.Store.{keys_of};
 ghost use Rattle.ijson_table.specs.private.Lookup.{found_at, is_hashed_key};
 ghost use Rattle.ijson_table.specs.private.Probe.{Ends, LooksAt, Passed};
 
-use crate::index::Index;
 use crate::index::places::Seen;
 use crate::index::slot::Modulus;
+use crate::index::view::View;
 use ijson_number::Looks;
 use ijson_string::IString;
 
@@ -110,37 +110,40 @@ pub fn probe<P: ProbeTarget>(target: &P, looks: &mut Looks) -> Probed
 /// A key that is sought among pairs, and what the index keeps of its hash. It goes to the memory of a key only where the same is kept
 /// of the hash of that.
 #[derive(Drop)]
-pub struct Lookup<'a, V> {
+pub struct Lookup<'a, 'i, V> {
     pub pairs: &'a [(IString, V)],
-    pub index: &'a Index,
+    pub index: View<'i>,
     /// How many slots there are.
     pub modulus: Modulus,
     pub hash: u64,
+    /// The home of that hash.
+    pub home: usize,
     pub key: &'a str,
-    ghost listed: { length pairs.now ≡ length index.now.hashes },
-    ghost counted: { modulus.count ≡ length index.now.slots },
+    ghost listed: { length pairs.now ≡ length index.hashes },
+    ghost counted: { modulus.count ≡ length index.slots },
+    ghost homed: { home ≡ hash % modulus.count },
 }
 
-impl<'a, V> ProbeTarget for Lookup<'a, V> {
+impl<'a, 'i, V> ProbeTarget for Lookup<'a, 'i, V> {
     ghost use Rattle.std.specs.Prelude.{◌%◌, length};
     ghost use Rattle.ijson_table.specs.Slots.{displacement};
     ghost use Rattle.ijson_table.specs.Store.{keys_of};
     ghost use Rattle.ijson_table.specs.private.Lookup.{is_hashed_key};
 
-    ghost slots = { λ s. s.index.now.slots };
+    ghost slots = { λ s. s.index.slots };
 
-    ghost displacements = { λ s. displacement s.index.now.hashes s.index.now.slots };
+    ghost displacements = { λ s. displacement s.index.hashes s.index.slots };
 
-    ghost home_slot = { λ s. s.hash % length s.index.now.slots };
+    ghost home_slot = { λ s. s.hash % length s.index.slots };
 
-    ghost seeks = { λ s. is_hashed_key s.index.now.hashes (keys_of s.pairs.now) s.hash s.key.now };
+    ghost seeks = { λ s. is_hashed_key s.index.hashes (keys_of s.pairs.now) s.hash s.key.now };
 
     fn count(&self) -> usize {
         self.modulus.count
     }
 
     fn home(&self) -> usize {
-        self.modulus.home_of_hash(self.hash)
+        self.home
     }
 
     fn look(&self, slot: usize, looks: &mut Looks) -> Seen {

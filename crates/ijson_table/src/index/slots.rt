@@ -10,6 +10,7 @@ ghost use Rattle.ijson_table.specs.private.SlotHashes.{blank, position_in};
 use crate::growth::{list_with_room, tighten};
 use crate::index::slot::narrow::NarrowSlot;
 use crate::index::slot::{NARROW_SLOTS, Slot};
+use crate::index::view::Lent;
 use std::alloc::{AllocError, Global};
 use std::fmt;
 use std::marker::Model;
@@ -60,6 +61,8 @@ impl Model for Slots {
 }
 
 impl Slots {
+    ghost use Rattle.ijson_table.specs.private.LentSlots.{lent_slots};
+
     /// No slots. They take no memory.
     pub fn new() -> Slots
         ensures { result ≡ [] }
@@ -108,6 +111,18 @@ impl Slots {
             Stored::Few(few) => few.slots[slot].widened(),
             Stored::Narrow(slots) => slots[slot].widened(),
             Stored::Wide(slots) => slots[slot],
+        }
+    }
+
+    /// The slots as one list, in one of two ways.
+    #[inline(always)]
+    pub fn lent(&self) -> Lent<'_>
+        ensures { lent_slots result ≡ self.now }
+    {
+        match &self.stored {
+            Stored::Few(few) => Lent::Narrow(&few.slots[..few.len()]),
+            Stored::Narrow(slots) => Lent::Narrow(slots),
+            Stored::Wide(slots) => Lent::Wide(slots),
         }
     }
 

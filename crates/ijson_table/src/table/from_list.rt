@@ -288,16 +288,18 @@ fn add_new_key<V, H: KeyHash>(
     ensures grows { steps.old < steps.new }
 {
     let key = pairs[position].0.as_str();
-    let hash = modulus.kept_hash(H::hash(key));
+    let whole = H::hash(key);
+    let hash = modulus.kept_hash(whole);
+    let home = modulus.home_of_hash(whole);
     let lookup = Lookup {
         pairs: &pairs[..position],
-        index,
+        index: index.view(),
         modulus,
         hash,
+        home,
         key,
     };
-    let slots = index.len();
-    let home = modulus.home_of_hash(hash);
+    let slots = modulus.count;
     match probe(&lookup, &mut Looks::new()) {
         Probed::Vacant(slot) => {
             let last = index.push_at(slot, position, hash);

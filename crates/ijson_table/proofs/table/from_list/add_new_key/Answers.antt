@@ -1,5 +1,6 @@
-use Rattle.std.proofs.Common.{◌≡◌, ◌⊎◌, inl, inr, ◌-◌, ◌<◌, ◌%◌, [], ℕ, List, length, get_or, take, arith, ap, ap₂, sym, subst, ◌∙◌}
+use Rattle.std.proofs.Common.{◌≡◌, ◌⊎◌, inl, inr, ◌-◌, ◌<◌, ◌%◌, [], ℕ, List, length, get_or, take, arith, ap, ap₂, refl, sym, subst, ◌∙◌}
 use Rattle.std.proofs.lemmas.Grind.{common_steps}
+use Rattle.ijson_table.specs.declared.index.probe.Probed.{Probed}
 use Rattle.ijson_table.specs.declared.index.probe.Probed.TheVariants.{Found, Vacant, Full}
 use Rattle.ijson_table.specs.Crowd.{distance}
 use Rattle.ijson_table.specs.Slots.{displacement}
@@ -13,7 +14,7 @@ use Rattle.ijson_table.proofs.arithmetic.Circular.{distance-below, home_within}
 use Rattle.ijson_table.proofs.probing.FirstPairs.{comes_again, next_ends, next_placed}
 use Rattle.ijson_table.proofs.probing.StepsByEnd.{ended_found, counts_found, counts_full, counts_new}
 use Rattle.ijson_table.proofs.pairs.PairsByKey.{key_at}
-use Rattle.ijson_table.proofs.slots.KeptHashes.{kept_once}
+use Rattle.ijson_table.proofs.slots.KeptHashes.{home_of_kept, kept_once}
 use Rattle.ijson_table.proofs.table.from_list.add_new_key.Given.{Over}
 use Rattle.ijson_table.proofs.table.from_list.add_new_key.Goals.{After-probe, After-distance_between}
 use Rattle.ijson_table.proofs.table.from_list.add_new_key.Goals.{After-distance_between-in-Found, In-Vacant}
@@ -29,26 +30,37 @@ short g index = kept_hash (length index.slots) g.H.KeyHash.hash_of
 
 -- so of its hash
 kept_is : (g : _) (c : After-probe g) → c.kept_hash-hash.result ≡ short g c.args.index.now c.as_str-key.result.now
-kept_is g c = c.kept_hash-hash.ensures ∙ ap₂ kept c.requires.counted c.hash.ensures
+kept_is g c = c.kept_hash-hash.ensures ∙ ap₂ kept c.requires.counted c.hash-whole.ensures
+
+-- A walk over the slots that were lent is one over those of the index, at the end that it came to.
+walked : (lent index : HashIndex) (keys : List (List ℕ)) (h : ℕ) (key : List ℕ) (looks : ℕ) (probed end : Probed) → lent ≡ index
+    → probed ≡ end → Walks lent keys h key looks probed → Walks index keys h key looks end
+walked lent index keys h key looks probed end same is walks =
+    subst (λ l. Walks l keys h key looks end) same (subst (Walks lent keys h key looks) is walks)
 
 -- the walk for it, where it is new
 vacant : (g : _) (c : In-Vacant g) → Walks c.args.index.now (keys_of (take c.args.position c.args.pairs.now)) c.kept_hash-hash.result
     c.as_str-key.result.now (c.probe.new.looks - c.new.result) (Vacant c.in-Vacant.slot)
-vacant g c = subst (Walks c.args.index.now (keys_of (take c.args.position c.args.pairs.now)) c.kept_hash-hash.result
-    c.as_str-key.result.now (c.probe.new.looks - c.new.result)) c.in-Vacant.is c.probe.ensures.ends
+vacant g c = walked c.view.result c.args.index.now (keys_of (take c.args.position c.args.pairs.now)) c.kept_hash-hash.result
+    c.as_str-key.result.now (c.probe.new.looks - c.new.result) c.probe.result (Vacant c.in-Vacant.slot) c.view.ensures.value
+    c.in-Vacant.is c.probe.ensures.ends
 
 -- and where it comes again
 found : (g : _) (c : After-distance_between-in-Found g) → Walks c.args.index.now (keys_of (take c.args.position c.args.pairs.now))
     c.kept_hash-hash.result c.as_str-key.result.now (c.probe.new.looks - c.new.result) (Found c.in-Found.field-0 c.in-Found.slot)
-found g c = subst (Walks c.args.index.now (keys_of (take c.args.position c.args.pairs.now)) c.kept_hash-hash.result
-    c.as_str-key.result.now (c.probe.new.looks - c.new.result)) c.in-Found.is c.probe.ensures.ends
+found g c = walked c.view.result c.args.index.now (keys_of (take c.args.position c.args.pairs.now)) c.kept_hash-hash.result
+    c.as_str-key.result.now (c.probe.new.looks - c.new.result) c.probe.result (Found c.in-Found.field-0 c.in-Found.slot)
+    c.view.ensures.value c.in-Found.is c.probe.ensures.ends
 
 -- Where a slot is left, a key for which there is no vacancy comes again,
 again : (g : _) (c : After-probe g) → ((x : ℕ) × (p : ℕ) × (c.probe.result ≡ Found x p)) ⊎ (c.probe.result ≡ Full)
     → ComesAgain c.args.pairs.now c.args.position
 again g c is none = comes_again (short g c.args.index.now) c.args.pairs.now c.args.position c.args.index.now c.requires.placed
     c.requires.within c.kept_hash-hash.result c.as_str-key.result.now (c.probe.new.looks - c.new.result) c.probe.result (kept_is g c)
-    c.len-slots.ensures.table c.requires.room c.probe.ensures.ends is
+    c.view.ensures.table c.requires.room
+    (walked c.view.result c.args.index.now (keys_of (take c.args.position c.args.pairs.now)) c.kept_hash-hash.result
+    c.as_str-key.result.now (c.probe.new.looks - c.new.result) c.probe.result c.probe.result c.view.ensures.value refl
+    c.probe.ensures.ends) is
     (ap (at (take c.args.position c.args.pairs.now)) (sym (keyed g c)) ∙ none)
 
 -- and the steps of the walk for it are those of the walk for the pair's key.
@@ -64,14 +76,15 @@ record Away (n h p away : ℕ) : Type 0 where
   far : away ≡ distance n (h % n) p
   near : away < n
 
-away_from : (n count h home p away slots : ℕ) → away ≡ distance slots home p → slots ≡ n → home ≡ h % count → count ≡ n → home < count
-    → p < n → Away n h p away
-away_from n count h home p away slots is size home_is counted within there = record {
-  far = is ∙ (ap (λ k. distance k home p) size ∙ ap (λ x. distance n x p) (home_is ∙ ap (λ k. h % k) counted));
+away_from : (n count whole h home p away : ℕ) → away ≡ distance count home p → h ≡ kept count whole → home ≡ whole % count → count ≡ n
+    → home < count → p < n → Away n h p away
+away_from n count whole h home p away is kept_is home_is counted within there = record {
+  far = is ∙ (ap (λ k. distance k home p) counted
+      ∙ ap (λ x. distance n x p) (home_of_kept count whole h home kept_is home_is ∙ ap (λ k. h % k) counted));
   near = omega (
     arith,
     is,
-    ap (λ k. distance k home p) size,
+    ap (λ k. distance k home p) counted,
     distance-below n home p (omega (arith, within, counted)) there,
   );
 }
@@ -79,8 +92,8 @@ away_from n count h home p away slots is size home_is counted within there = rec
 -- the last slot that is written
 away_new : (g : _) (c : After-distance_between g) → Away (length c.args.index.now.slots) c.kept_hash-hash.result c.push_at-last.result
     c.distance_between.result
-away_new g c = away_from (length c.args.index.now.slots) c.args.modulus.count c.kept_hash-hash.result c.home_of_hash-home.result
-    c.push_at-last.result c.distance_between.result c.len-slots.result c.distance_between.ensures c.len-slots.ensures.count
+away_new g c = away_from (length c.args.index.now.slots) c.args.modulus.count c.hash-whole.result c.kept_hash-hash.result
+    c.home_of_hash-home.result c.push_at-last.result c.distance_between.result c.distance_between.ensures c.kept_hash-hash.ensures
     c.home_of_hash-home.ensures.value c.requires.counted c.home_of_hash-home.ensures.within c.push_at-last.ensures.within
 
 -- the slot where the key was found
@@ -93,8 +106,8 @@ away_found g c =
     (is_hashed_key index.hashes (keys_of (take c.args.position c.args.pairs.now)) c.kept_hash-hash.result c.as_str-key.result.now)
     (home_within c.kept_hash-hash.result n (omega (arith, c.requires.room))) (c.probe.new.looks - c.new.result) c.in-Found.field-0
     c.in-Found.slot (found g c)).there in
-    away_from n c.args.modulus.count c.kept_hash-hash.result c.home_of_hash-home.result c.in-Found.slot c.distance_between-in-Found.result
-    c.len-slots.result c.distance_between-in-Found.ensures c.len-slots.ensures.count c.home_of_hash-home.ensures.value
+    away_from n c.args.modulus.count c.hash-whole.result c.kept_hash-hash.result c.home_of_hash-home.result c.in-Found.slot
+    c.distance_between-in-Found.result c.distance_between-in-Found.ensures c.kept_hash-hash.ensures c.home_of_hash-home.ensures.value
     c.requires.counted c.home_of_hash-home.ensures.within there
 
 pub push_at-last-requires-clause-may : goal.push_at-last-requires-clause-may
@@ -102,11 +115,11 @@ push_at-last-requires-clause-may g c =
     let place = goal.at.push_at-last-requires-clause-may g c in
     (next_ends (short g c.args.index.now) c.args.pairs.now c.args.position c.args.index.now c.requires.placed
     c.requires.within c.kept_hash-hash.result c.as_str-key.result.now (c.probe.new.looks - c.new.result) c.in-Vacant.slot
-    (kept_is g place.After-probe) c.len-slots.ensures.table (omega (arith, c.requires.room))
+    (kept_is g place.After-probe) c.view.ensures.table (omega (arith, c.requires.room))
     (vacant g place.In-Vacant)).1
 
 pub push_at-last-requires-clause-kept : goal.push_at-last-requires-clause-kept
-push_at-last-requires-clause-kept g c = kept_once (length c.args.index.now.slots) c.args.modulus.count c.hash.result
+push_at-last-requires-clause-kept g c = kept_once (length c.args.index.now.slots) c.args.modulus.count c.hash-whole.result
     c.kept_hash-hash.result c.kept_hash-hash.ensures c.requires.counted
 
 pub overflow_add-steps : goal.overflow_add-steps
@@ -114,7 +127,7 @@ overflow_add-steps g c = omega (
   arith,
   (away_new g (goal.at.overflow_add-steps g c).After-distance_between).near,
   c.requires.fits,
-  c.len-slots.ensures.count,
+  c.requires.counted,
 )
 
 pub overflow_add-steps-in-Vacant : goal.overflow_add-steps-in-Vacant
@@ -138,7 +151,7 @@ returns-in-Vacant-clause-placed g c = λ _.
     let hashed : c.kept_hash-hash.result ≡ hash pair.0 = kept_is g place.After-probe ∙ ap hash key in
     let missing = (next_ends hash c.args.pairs.now c.args.position c.args.index.now c.requires.placed
     c.requires.within c.kept_hash-hash.result c.as_str-key.result.now (c.probe.new.looks - c.new.result) c.in-Vacant.slot
-    (kept_is g place.After-probe) c.len-slots.ensures.table (omega (arith, c.requires.room))
+    (kept_is g place.After-probe) c.view.ensures.table (omega (arith, c.requires.room))
     (vacant g place.In-Vacant)).0 in
     next_placed hash c.args.pairs.now c.args.position c.args.index.now c.requires.placed c.requires.within pair c.kept_hash-hash.result
     c.push_at-last.new.self c.index-pairs-position.is hashed
@@ -185,24 +198,28 @@ returns-in-Full-clause-counted g c =
     let looks = c.probe.new.looks - c.new.result in
     counted g place.After-probe c.args.index.now _ (counts_full (short g c.args.index.now) keys
     c.args.index.now (omega (arith, c.requires.room)) c.kept_hash-hash.result c.as_str-key.result.now looks _ (kept_is g place.After-probe)
-    (subst (Walks c.args.index.now keys c.kept_hash-hash.result c.as_str-key.result.now looks) c.in-Full.is c.probe.ensures.ends)
-    (omega (arith, c.len-slots.ensures.count)))
+    (walked c.view.result c.args.index.now keys c.kept_hash-hash.result c.as_str-key.result.now looks c.probe.result Full
+    c.view.ensures.value c.in-Full.is c.probe.ensures.ends)
+    (omega (arith, c.requires.counted)))
 
 pub probe-requires-clause-fits : goal.probe-requires-clause-fits
 probe-requires-clause-fits g c = λ m lm _. omega (arith, lm, c.new.ensures, c.requires.fits)
 
 pub overflow_add-steps-in-Full : goal.overflow_add-steps-in-Full
-overflow_add-steps-in-Full g c = omega (arith, c.len-slots.ensures.count, c.requires.fits)
+overflow_add-steps-in-Full g c = omega (arith, c.requires.counted, c.requires.fits)
 
 pub returns-in-Full-clause-steps : goal.returns-in-Full-clause-steps
-returns-in-Full-clause-steps g c = omega (arith, c.len-slots.ensures.count)
+returns-in-Full-clause-steps g c = omega (arith, c.requires.counted)
 
 pub returns-in-Full-clause-grows : goal.returns-in-Full-clause-grows
-returns-in-Full-clause-grows g c = omega (arith, c.len-slots.ensures.count, c.requires.room)
+returns-in-Full-clause-grows g c = omega (arith, c.requires.counted, c.requires.room)
 
 -- what the check tries where no answer stands takes longer than these
 pub invariant_of-lookup : goal.invariant_of-lookup
-invariant_of-lookup g c = grind (arith, common_steps)
+invariant_of-lookup g c =
+    let home : c.home_of_hash-home.result ≡ c.kept_hash-hash.result % c.args.modulus.count = home_of_kept c.args.modulus.count
+    c.hash-whole.result c.kept_hash-hash.result c.home_of_hash-home.result c.kept_hash-hash.ensures c.home_of_hash-home.ensures.value in
+    grind (arith, common_steps, home)
 
 pub distance_between-requires-in-Found-clause-to : goal.distance_between-requires-in-Found-clause-to
 distance_between-requires-in-Found-clause-to g c = grind (arith, common_steps)

@@ -14,7 +14,7 @@ resident-requires g c = λ none. let full = c.is_empty.ensures.1 none in let tes
 
 pub has_key-same-requires : goal.has_key-same-requires
 has_key-same-requires g c =
-    let index = c.args.self.now.index.now in
+    let index = c.args.self.now.index in
     let there : resident index.slots c.args.slot ≡ Some c.resident.result = sym c.at-there.ensures.position ∙ c.resident.ensures in
     omega (
       arith,
@@ -24,7 +24,7 @@ has_key-same-requires g c =
 
 pub returns-then-is_empty-clause-sees : goal.returns-then-is_empty-clause-sees
 returns-then-is_empty-clause-sees g c =
-    let index = c.args.self.now.index.now in
+    let index = c.args.self.now.index in
     let none : resident index.slots c.args.slot ≡ None =
     sym c.at-there.ensures.position ∙ c.is_empty.ensures.0 c.if-is_empty.true in
     (none, displacement-none index.hashes index.slots c.args.slot none)
@@ -32,7 +32,7 @@ returns-then-is_empty-clause-sees g c =
 pub returns-clause-sees : goal.returns-clause-sees
 returns-clause-sees g c =
     let self = c.args.self.now in
-    let index = self.index.now in
+    let index = self.index in
     let keys : List (List ℕ) = keys_of self.pairs.now in
     let there = c.at-there.result in
     let test : ℕ → Bool = is_hashed_key index.hashes keys self.hash self.key.now in
