@@ -4,13 +4,14 @@
 //! - `slot`: what stands at one slot, and the count that hashes are reduced by.
 //! - `places`: the trait of a table whose slots can be looked at, and `locate`, the look-up whose looks are counted.
 //! - `probe`: the one walk over the slots, which each look-up and each shift begins with.
+//! - `forward`: how residents make room for one more, in whichever form they are stored.
 //! - `shift`: how the residents of slots move, in insertion, removal and growth.
 //! - `fill`: how a table is filled from entries that are sorted by home.
 //! - `copy`: how a table comes to have another count of slots.
 //! - `view`: the slots as they are lent to a look-up.
 
-ghost use Rattle.std.specs.Prelude.{◌≡◌, ◌+◌, ◌<◌, ◌≤◌, [], ◌∷◌, ◌++◌, length, get_or, vec_capacity, None, IfOk, OnErr};
-ghost use Rattle.std.specs.List.{All, remove, swap_remove as swapped_out};
+ghost use Rattle.std.specs.Prelude.{◌≡◌, ◌+◌, ◌<◌, ◌≤◌, [], ◌∷◌, ◌++◌, length, get_or, None, IfOk, OnErr};
+ghost use Rattle.std.specs.List.{remove, swap_remove as swapped_out};
 ghost use Rattle.ijson_table.specs.Crowd.{distance};
 ghost use Rattle.ijson_table.specs.Slots.{resident, IsTable};
 ghost use Rattle.ijson_table.specs.private.Changes.{changes};
@@ -22,6 +23,7 @@ ghost use Rattle.ijson_table.specs.private.SlotHashes.{position_in, HasHash};
 
 mod copy;
 mod fill;
+mod forward;
 pub mod places;
 pub mod probe;
 mod shift;
@@ -29,7 +31,7 @@ pub mod slot;
 mod slots;
 pub mod view;
 
-use crate::index::shift::{shift_forward, shift_remove, swap_remove, vacancy};
+use crate::index::shift::{shift_remove, swap_remove, vacancy};
 use crate::index::slot::Slot;
 use crate::index::slots::Slots;
 use crate::index::view::View;
@@ -125,7 +127,7 @@ impl Index {
         ensures passed { AreFull self.old.slots slot (distance (length self.old.slots) slot result) }
         ensures changes { changes self.old.slots self.new.slots ≤ distance (length self.old.slots) slot result + 1 }
     {
-        shift_forward(&mut self.slots, slot, position, hash)
+        self.slots.shift_forward(slot, position, hash)
     }
 
     /// Takes a position out, and gives its number to the last one, which is another. The hashes are those of their keys.

@@ -41,7 +41,7 @@ kept_once n m h k is same =
     let here : k ≡ kept n h = is ∙ ap (λ x. kept x h) same in
     here ∙ (sym (kept-kept n h) ∙ ap (kept n) (sym here))
 
--- nothing is kept of 0
+-- of the hash 0, 0 is kept
 kept-zero : (n : ℕ) → kept n 0 ≡ 0
 unfolding kept
 kept-zero n = elim (leb n narrow_slots) as (λ b. (if b then 0 % (n * 256) else 0) ≡ 0) [ true ↦ zero-mod (n * 256) | false ↦ refl ]
@@ -63,7 +63,7 @@ pub kept-narrow : (n h : ℕ) → n ≤ narrow_slots → kept n h ≡ h % (n * 2
 unfolding kept
 kept-narrow n h few = grind (arith, nat_tests, few)
 
--- so are those of keys
+-- So among many slots what is kept of keys are their whole hashes.
 pub hashes-wide : (n : ℕ) (hash : List ℕ → ℕ) (keys : List (List ℕ)) → narrow_slots < n → map (kept_hash n hash) keys ≡ map hash keys
 hashes-wide n hash keys wide = λ i. map (λ key. kept-wide n (hash key) wide i) keys
 

@@ -16,7 +16,7 @@ use Rattle.ijson_table.proofs.slots.KeptHashes.{kept-narrow}
 use Rattle.ijson_table.proofs.slots.Residents.{times-some}
 
 -- the code of a position is one more than it
-code-of : (code i : ℕ) → coded_position code ≡ Some i → code ≡ i + 1
+pub code-of : (code i : ℕ) → coded_position code ≡ Some i → code ≡ i + 1
 code-of zero i e = let bad : ◌≡◌ {A = Option ℕ} None (Some i) = e in cc
 code-of (suc k) i e =
     let is : ◌≡◌ {A = Option ℕ} (Some k) (Some i) = e in

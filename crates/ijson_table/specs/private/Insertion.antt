@@ -1,9 +1,12 @@
 -- Places into which positions are put, or at which they stand.
-use Rattle.std.specs.Prelude.{◌≡◌, ℕ, ◌+◌, ◌<◌, ◌≤◌, ◌^◌, List, length, get_or, Some}
+use Rattle.std.specs.Prelude.{◌≡◌, ℕ, ◌+◌, ◌<◌, ◌≤◌, ◌^◌, List, length, get_or, Some, None}
 use Rattle.ijson_table.specs.declared.index.slot.Slot.{Slot}
+use Rattle.ijson_table.specs.Crowd.{distance}
 use Rattle.ijson_table.specs.Slots.{resident, times, below, IsOrdered, IsTable}
-use Rattle.ijson_table.specs.private.Holds.{HasEmpty}
+use Rattle.ijson_table.specs.private.Changes.{changes}
+use Rattle.ijson_table.specs.private.Holds.{with_one, Holds, HasEmpty, MayStand}
 use Rattle.ijson_table.specs.private.KeptHash.{narrow_slots}
+use Rattle.ijson_table.specs.private.Probe.{AreFull}
 use Rattle.ijson_table.specs.private.SlotHashes.{positions, HaveHashes}
 
 -- This position may be put into the slots, one of which is empty. Its key has this hash.
@@ -13,6 +16,20 @@ pub record Accepts (hashes : List ℕ) (slots : List Slot) (position hash : ℕ)
   pub hashes_are : HaveHashes hashes slots
   pub ordered : IsOrdered hashes (positions slots)
   pub empty : HasEmpty (positions slots)
+
+-- This position may be put down at one of the slots. Its key has this hash.
+abbrev pub MayPut : List ℕ → List Slot → ℕ → ℕ → ℕ → Type 0
+MayPut hashes slots position hash from = Accepts hashes slots position hash × MayStand hashes (positions slots) position from
+
+-- This position was put into the slots, from one slot on. The last one that was written was the first empty one from there on.
+pub record IsPut (hashes : List ℕ) (old : List Slot) (position from last : ℕ) (new : List Slot) : Type 0 where
+  pub holds : Holds hashes (with_one (positions old) position) None (positions new)
+  pub hashes_are : HaveHashes hashes new
+  pub count : length new ≡ length old
+  pub within : last < length old
+  pub empty : resident (positions old) last ≡ None
+  pub passed : AreFull (positions old) from (distance (length old) from last)
+  pub changes : changes (positions old) (positions new) ≤ distance (length old) from last + 1
 
 -- This position stands at one of the slots. Its key has this hash.
 pub record Stands (hashes : List ℕ) (slots : List Slot) (position hash : ℕ) : Type 0 where

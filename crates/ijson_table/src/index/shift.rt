@@ -5,12 +5,12 @@ ghost use Rattle.ijson_table.specs.Crowd.{distance};
 ghost use Rattle.ijson_table.specs.Slots.{below, resident, times, IsOrdered};
 ghost use Rattle.ijson_table.specs.private.Changes.{changes};
 ghost use Rattle.ijson_table.specs.private.Closing.{closed};
-ghost use Rattle.ijson_table.specs.private.Holds.{with_one, Holds, HasEmpty, HasGap, MayStand};
+ghost use Rattle.ijson_table.specs.private.Holds.{with_one, Holds, HasEmpty, HasGap};
 ghost use Rattle.ijson_table.specs.private.Insertion.{Accepts, AcceptsEach, EndsWith, IsTableOf, Stands};
 ghost use Rattle.ijson_table.specs.private.KeptHash.{narrow_slots};
 ghost use Rattle.ijson_table.specs.private.Narrow.{MayHold};
 ghost use Rattle.ijson_table.specs.private.SlotHashes.{displacement_in, positions, position_in, HaveHashes};
-ghost use Rattle.ijson_table.specs.private.Probe.{AreFull, IsVacancy};
+ghost use Rattle.ijson_table.specs.private.Probe.{IsVacancy};
 ghost use Rattle.std.specs.List.{All, remove, swap_remove as swapped_out};
 
 use crate::index::places::Seen;
@@ -98,35 +98,6 @@ fn slot_of(slots: &Slots, position: usize, hash: u64) -> usize
     }
 }
 
-/// Puts a position down at a slot, whose key has this hash. The residents from there on move one slot forward each, up to the next
-/// empty slot. Answers that one, the last that is written.
-pub fn shift_forward(slots: &mut Slots, from: usize, position: usize, hash: u64) -> usize
-    ghost hashes: { List ℕ }
-    requires accepts { Accepts hashes slots.old position hash }
-    requires may { MayStand hashes (positions slots.old) position from }
-    requires narrow { MayHold (length slots.old) position hash }
-    ensures holds { Holds hashes (with_one (positions slots.old) position) None (positions slots.new) }
-    ensures hashes { HaveHashes hashes slots.new }
-    ensures count { length slots.new ≡ length slots.old }
-    ensures within { result < length slots.old }
-    ensures empty { resident (positions slots.old) result ≡ None }
-    ensures passed { AreFull (positions slots.old) from (distance (length slots.old) from result) }
-    ensures changes { changes (positions slots.old) (positions slots.new) ≤ distance (length slots.old) from result + 1 }
-{
-    let count = slots.len();
-    let mut entry = Slot::of(position, hash);
-    let mut slot = from;
-    loop {
-        let was = slots.at(slot);
-        slots.set(slot, entry);
-        let Some(_resident) = was.position() else {
-            return slot;
-        };
-        entry = was;
-        slot = next_slot(count, slot);
-    }
-}
-
 /// Puts a position into the slots, one of which is empty. Its key has this hash. Answers the steps: each slot that it looks at, and
 /// each one that it writes.
 fn insert(slots: &mut Slots, position: usize, hash: u64) -> u128
@@ -140,7 +111,7 @@ fn insert(slots: &mut Slots, position: usize, hash: u64) -> u128
     ensures few { (n : ℕ) → ((i : ℕ) → with_one (positions slots.old) position i ≤ below n i) → result ≤ 2 * n + 1 }
 {
     let (slot, looked) = vacancy(slots, hash);
-    let last = shift_forward(slots, slot, position, hash);
+    let last = slots.shift_forward(slot, position, hash);
     looked + distance_between(slots.len(), slot, last) as u128 + 1
 }
 

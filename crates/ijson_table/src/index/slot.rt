@@ -7,6 +7,7 @@ ghost use Rattle.ijson_table.specs.private.KeptHash.{kept};
 ghost use Rattle.ijson_table.specs.private.SlotHashes.{blank, position_in, SeenAs};
 
 pub mod narrow;
+pub mod stored;
 
 use crate::index::places::Seen;
 

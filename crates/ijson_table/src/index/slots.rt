@@ -1,14 +1,17 @@
 //! `Slots`: the slots of a table, in the least memory that they fit.
 
-ghost use Rattle.std.specs.Prelude.{◌≡◌, ◌<◌, ◌≤◌, [], length, set, get_or, replicate, vec_capacity, None, IfOk, OnErr};
+ghost use Rattle.std.specs.Prelude.{◌≡◌, ℕ, ◌<◌, ◌≤◌, List, [], length, set, get_or, replicate, vec_capacity, None, IfOk, OnErr};
 ghost use Rattle.std.specs.List.{All};
 ghost use Rattle.ijson_table.specs.declared.index.slots.TheConstants.{FEW_SLOTS};
+ghost use Rattle.ijson_table.specs.private.Insertion.{IsPut, MayPut};
 ghost use Rattle.ijson_table.specs.private.KeptHash.{narrow_slots};
-ghost use Rattle.ijson_table.specs.private.Narrow.{Fits};
+ghost use Rattle.ijson_table.specs.private.Narrow.{Fits, MayHold};
 ghost use Rattle.ijson_table.specs.private.SlotHashes.{blank, position_in};
 
 use crate::growth::{list_with_room, tighten};
+use crate::index::forward::{shift_forward, shift_in_front};
 use crate::index::slot::narrow::NarrowSlot;
+use crate::index::slot::stored::StoredSlot;
 use crate::index::slot::{NARROW_SLOTS, Slot};
 use crate::index::view::Lent;
 use std::alloc::{AllocError, Global};
@@ -134,9 +137,30 @@ impl Slots {
         ensures { self.new ≡ set self.old slot entry }
     {
         match &mut self.stored {
-            Stored::Few(few) => few.slots[slot] = NarrowSlot::of(entry),
-            Stored::Narrow(slots) => slots[slot] = NarrowSlot::of(entry),
+            Stored::Few(few) => few.slots[slot] = NarrowSlot::stored(entry),
+            Stored::Narrow(slots) => slots[slot] = NarrowSlot::stored(entry),
             Stored::Wide(slots) => slots[slot] = entry,
+        }
+    }
+
+    /// Puts a position down at a slot, whose key has this hash. The residents from there on move one slot forward each, up to the next
+    /// empty slot. Answers that one, the last that is written. It asks once how the slots are stored.
+    pub fn shift_forward(&mut self, from: usize, position: usize, hash: u64) -> usize
+        ghost hashes: { List ℕ }
+        requires may { MayPut hashes self.old position hash from }
+        requires narrow { MayHold (length self.old) position hash }
+        ensures { IsPut hashes self.old position from result self.new }
+    {
+        match &mut self.stored {
+            Stored::Few(few) => shift_in_front(
+                &mut few.slots,
+                usize::from(few.count),
+                from,
+                position,
+                hash,
+            ),
+            Stored::Narrow(slots) => shift_forward(slots, from, position, hash),
+            Stored::Wide(slots) => shift_forward(slots, from, position, hash),
         }
     }
 

@@ -9,6 +9,7 @@ ghost use Rattle.ijson_table.specs.private.SlotHashes.{blank, hashes_of, positio
 
 use crate::index::slot::Slot;
 use crate::index::slot::narrow::NarrowSlot;
+use crate::index::slot::stored::StoredSlot;
 use std::marker::Model;
 
 /// Slots as one list, of which each takes three bytes or 16. Those that lie in the table are lent like a list.

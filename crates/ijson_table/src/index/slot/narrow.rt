@@ -1,10 +1,11 @@
 //! `NarrowSlot`: what stands at one slot of a table of few slots, in three bytes.
 
-ghost use Rattle.std.specs.Prelude.{◌≡◌, ◌<◌};
+ghost use Rattle.std.specs.Prelude.{◌≡◌};
 ghost use Rattle.ijson_table.specs.private.NarrowSlots.{widened};
 ghost use Rattle.ijson_table.specs.private.SlotHashes.{blank};
 
 use crate::index::slot::Slot;
+use crate::index::slot::stored::StoredSlot;
 
 /// A slot whose code is less than 2^8, and whose hash is less than 2^16: among few slots no more is kept of one.
 #[derive(Clone, Copy, Drop)]
@@ -28,14 +29,18 @@ impl NarrowSlot {
             high: 0,
         }
     }
+}
 
-    /// The same slot in three bytes.
+/// In three bytes.
+impl StoredSlot for NarrowSlot {
+    ghost stands_for = { widened };
+
+    ghost code_limit = { 256 };
+
+    ghost hash_limit = { 65536 };
+
     #[inline(always)]
-    pub fn of(slot: Slot) -> NarrowSlot
-        requires code { slot.code < 256 }
-        requires hash { slot.hash < 65536 }
-        ensures { widened result ≡ slot }
-    {
+    fn stored(slot: Slot) -> NarrowSlot {
         NarrowSlot {
             code: slot.code as u8,
             low: (slot.hash % 256) as u8,
@@ -43,13 +48,8 @@ impl NarrowSlot {
         }
     }
 
-    /// The same slot in the size of any.
     #[inline(always)]
-    pub fn widened(self) -> Slot
-        ensures value { result ≡ widened self }
-        ensures code { result.code < 256 }
-        ensures hash { result.hash < 65536 }
-    {
+    fn widened(self) -> Slot {
         Slot {
             code: usize::from(self.code),
             hash: u64::from(self.low) + 256 * u64::from(self.high),

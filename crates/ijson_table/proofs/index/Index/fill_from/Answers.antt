@@ -1,5 +1,4 @@
-use Rattle.std.proofs.Common.{◌≡◌, ◌<◌, ◌≤◌, ◌^◌, ℕ, List, length, get_or, arith, ap, ◌∙◌}
-use Rattle.std.proofs.lemmas.Bool.Decides.{nat_tests}
+use Rattle.std.proofs.Common.{◌≡◌, ◌≤◌, ◌^◌, ℕ, List, length, get_or, arith, ap, ◌∙◌}
 use Rattle.ijson_table.specs.declared.index.slot.Slot.{Slot}
 use Rattle.ijson_table.specs.private.Entries.{AreEntries}
 use Rattle.ijson_table.specs.private.HashIndex.{HashIndex}

@@ -1,4 +1,4 @@
-use Rattle.std.proofs.Common.{◌≡◌, [], length, arith, ap}
+use Rattle.std.proofs.Common.{[], length, arith, ap}
 use Rattle.ijson_table.proofs.slots.IndexInvariant.{empty_index, IsIndexOf}
 use Rattle.ijson_table.proofs.index.Index.new.Goals.{After-new}
 use Rattle.ijson_table.proofs.index.Index.new.Goals as goal

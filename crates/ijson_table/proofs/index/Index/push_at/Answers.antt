@@ -25,22 +25,22 @@ is_next slots seen position is next room = record {
 pub shift_forward-requires : goal.shift_forward-requires
 shift_forward-requires c =
     let to = is_next c.self.inside.slots c.args.self.now c.args.position c.self.view_is c.requires.position c.requires.room in (
-      accepts c.self.inside.slots c.self.invariant c.args.position c.args.hash to.next to.room,
       (
+        accepts c.self.inside.slots c.self.invariant c.args.position c.args.hash to.next to.room,
         subst (λ (l : HashIndex). MayStand (l.hashes ++ c.args.hash ∷ []) l.slots c.args.position c.args.slot)
             (sym c.self.view_is) c.requires.may,
-        may_hold (length c.self.inside.slots) c.args.position c.args.hash
-            (subst (λ n. c.args.hash ≡ kept n c.args.hash)
-            (sym (ap (λ (l : HashIndex). length l.slots) c.self.view_is) ∙ positions-length c.self.inside.slots) c.requires.kept) to.room,
       ),
+      may_hold (length c.self.inside.slots) c.args.position c.args.hash
+          (subst (λ n. c.args.hash ≡ kept n c.args.hash)
+          (sym (ap (λ (l : HashIndex). length l.slots) c.self.view_is) ∙ positions-length c.self.inside.slots) c.requires.kept) to.room,
     )
 
 -- the slots that come back, and their hashes
-left : (c : goal.After-shift_forward) → IsIndexOf (hashes_of c.self.inside.slots ++ c.args.hash ∷ []) c.shift_forward.new.slots
+left : (c : goal.After-shift_forward) → IsIndexOf (hashes_of c.self.inside.slots ++ c.args.hash ∷ []) c.shift_forward.new.self
 left c =
     let to = is_next c.self.inside.slots c.args.self.now c.args.position c.self.view_is c.requires.position c.requires.room in
-    pushed c.self.inside.slots c.self.invariant c.args.position c.args.hash to.next to.room c.shift_forward.new.slots
-    c.shift_forward.ensures.count c.shift_forward.ensures.holds c.shift_forward.ensures.hashes
+    pushed c.self.inside.slots c.self.invariant c.args.position c.args.hash to.next to.room c.shift_forward.new.self
+    c.shift_forward.ensures.count c.shift_forward.ensures.holds c.shift_forward.ensures.hashes_are
 
 pub invariant_of-self : goal.invariant_of-self
 invariant_of-self c = (left c).index

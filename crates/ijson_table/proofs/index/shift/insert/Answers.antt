@@ -14,12 +14,12 @@ use Rattle.ijson_table.proofs.index.shift.insert.Goals as goal
 
 pub shift_forward-last-requires : goal.shift_forward-last-requires
 shift_forward-last-requires g c = (
-  c.requires.0,
   (
+    c.requires.0,
     may_stand g.hashes c.args.slots.now c.args.position c.args.hash c.vacancy-slot.result.0 c.requires.0
         c.vacancy-slot.ensures.vacancy,
-    c.requires.1,
   ),
+  c.requires.1,
 )
 
 pub distance_between-requires-clause-from : goal.distance_between-requires-clause-from

@@ -1,6 +1,5 @@
 use Rattle.std.proofs.Common.{◌≡◌, ◌<◌, ℕ, List, length, set, Option, None, arith, ap, sym, ◌∙◌, subst}
 use Rattle.std.proofs.lemmas.List.{length-set}
-use Rattle.ijson_table.specs.declared.index.slot.Slot.{Slot}
 use Rattle.ijson_table.specs.Slots.{times}
 use Rattle.ijson_table.specs.private.Holds.{one_if, HasGap}
 use Rattle.ijson_table.specs.private.Insertion.{IsTableOf}

@@ -1,4 +1,4 @@
-use Rattle.std.proofs.Common.{◌*◌, ◌/◌, ◌^◌, ℕ, ◌≡◌, ◌∙◌}
+use Rattle.std.proofs.Common.{◌*◌, ◌/◌, ◌^◌, ◌∙◌}
 use Rattle.ijson_table.proofs.arithmetic.Reciprocal.{quotient-not_above, quotient-near, divides, divides_more}
 use Rattle.ijson_table.proofs.index.slot.divided.Goals as goal
 

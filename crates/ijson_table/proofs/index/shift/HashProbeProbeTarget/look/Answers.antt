@@ -1,4 +1,4 @@
-use Rattle.std.proofs.Common.{◌≡◌, List, get_or, arith, Some, ap, eqb, sym, subst, ◌∙◌}
+use Rattle.std.proofs.Common.{◌≡◌, List, get_or, arith, Some, ap, eqb, subst, ◌∙◌}
 use Rattle.std.specs.Option.{option_eq}
 use Rattle.ijson_table.specs.declared.index.slot.Slot.{Slot}
 use Rattle.ijson_table.specs.private.SlotHashes.{blank, position_in, SeenAs}

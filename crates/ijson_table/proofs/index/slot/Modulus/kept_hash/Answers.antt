@@ -1,4 +1,4 @@
-use Rattle.std.proofs.Common.{◌≡◌, ◌+◌, ◌*◌, ◌%◌, ap, ap₂, sym, ◌∙◌}
+use Rattle.std.proofs.Common.{◌+◌, ◌*◌, ◌%◌, ap₂, sym, ◌∙◌}
 use Rattle.ijson_table.proofs.arithmetic.Reciprocal.{by_more}
 use Rattle.ijson_table.proofs.slots.KeptHashes.{kept-narrow, kept-wide}
 use Rattle.ijson_table.proofs.index.slot.Modulus.kept_hash.Goals as goal

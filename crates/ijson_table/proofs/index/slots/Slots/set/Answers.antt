@@ -5,10 +5,10 @@ use Rattle.ijson_table.proofs.index.slots.Slots.set.Goals as goal
 
 pub returns-in-Few : goal.returns-in-Few
 returns-in-Few c =
-    few-set c.in-Few.few.count c.in-Few.few.slots c.args.slot c.of.result c.args.entry c.of.ensures
+    few-set c.in-Few.few.count c.in-Few.few.slots c.args.slot c.stored.result c.args.entry c.stored.ensures
     ∙ ap (λ slots. set slots c.args.slot c.args.entry) (ap stored_slots (sym c.in-Few.is) ∙ c.self.view_is)
 
 pub returns-in-Narrow : goal.returns-in-Narrow
 returns-in-Narrow c =
-    narrow-set c.in-Narrow.slots.items c.args.slot c.of-in-Narrow.result c.args.entry c.of-in-Narrow.ensures
+    narrow-set c.in-Narrow.slots.items c.args.slot c.stored-in-Narrow.result c.args.entry c.stored-in-Narrow.ensures
     ∙ ap (λ slots. set slots c.args.slot c.args.entry) (ap stored_slots (sym c.in-Narrow.is) ∙ c.self.view_is)

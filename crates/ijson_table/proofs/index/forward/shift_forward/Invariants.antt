@@ -1,14 +1,14 @@
-use Rattle.std.proofs.Common.{◌≡◌, ◌<◌, ◌≤◌, ◌-◌, ℕ, List, length, Some}
+use Rattle.std.proofs.Common.{◌≡◌, ◌<◌, ◌≤◌, ◌-◌, ℕ, List, length, map, Some}
 use Rattle.ijson_table.specs.declared.index.slot.Slot.{Slot}
 use Rattle.ijson_table.specs.Crowd.{distance}
 use Rattle.ijson_table.specs.Slots.{resident}
 use Rattle.ijson_table.specs.private.Changes.{changes}
 use Rattle.ijson_table.specs.private.Holds.{with_one}
-use Rattle.ijson_table.specs.private.Narrow.{Fits}
+use Rattle.ijson_table.specs.private.Insertion.{MayPut}
 use Rattle.ijson_table.specs.private.Probe.{AreFull}
 use Rattle.ijson_table.specs.private.SlotHashes.{position_in, positions, HasHash, HaveHashes}
 use Rattle.ijson_table.proofs.shifting.Insertion.{Shifting}
-use Rattle.ijson_table.proofs.index.shift.shift_forward.Given as goal
+use Rattle.ijson_table.proofs.index.forward.shift_forward.Given as goal
 
 -- As many slots were written as the next one is on from the first, after so many steps. The others are as they were.
 pub record IsOnTheWay (hashes : List ℕ) (old : List Slot) (position from : ℕ) (slots : List Slot) (entry : Slot)
@@ -22,11 +22,13 @@ pub record IsOnTheWay (hashes : List ℕ) (old : List Slot) (position from : ℕ
   pub left : (p : ℕ) → p < length slots → written ≤ distance (length slots) from p
       → resident (positions slots) p ≡ resident (positions old) p
   pub size : length slots ≡ length old
-  pub fits : Fits (length slots) entry
 
 abbrev pub invariant-loop-resident : goal.invariant-loop-resident
-invariant-loop-resident g l = IsOnTheWay g.hashes l.fn.slots l.fn.position l.fn.from l.slots l.entry l.slot
-    (distance (length l.slots) l.fn.from l.slot)
+invariant-loop-resident g l = (hashes : List ℕ)
+    → MayPut hashes (map g.S.StoredSlot.stands_for l.fn.slots) l.fn.position l.fn.hash l.fn.from
+    → IsOnTheWay hashes (map g.S.StoredSlot.stands_for l.fn.slots) l.fn.position l.fn.from
+    (map g.S.StoredSlot.stands_for l.slots) (g.S.StoredSlot.stands_for l.entry) l.slot
+    (distance (length (map g.S.StoredSlot.stands_for l.slots)) l.fn.from l.slot)
 
 abbrev pub decreases-loop-resident : goal.decreases-loop-resident
 decreases-loop-resident g l = length l.slots - distance (length l.slots) l.fn.from l.slot

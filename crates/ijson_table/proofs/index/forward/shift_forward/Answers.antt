@@ -1,0 +1,268 @@
+use Rattle.std.proofs.Common.{◌≡◌, ◌≢◌, ◌<◌, ◌≤◌, ℕ, ◌+◌, List, length, map, get_or, set, Option, Some, None, refl, arith, ap, sym, ◌∙◌}
+use Rattle.std.proofs.Common.{inl, inr, subst, get_or-set_other}
+use Rattle.std.proofs.lemmas.List.{get_or-map, length-map, length-set, map-set}
+use Rattle.ijson_table.specs.declared.index.slot.Slot.{Slot}
+use Rattle.ijson_table.specs.Crowd.{distance}
+use Rattle.ijson_table.specs.Slots.{after, resident}
+use Rattle.ijson_table.specs.private.Changes.{changes}
+use Rattle.ijson_table.specs.private.Holds.{Holds, MayStand, with_one}
+use Rattle.ijson_table.specs.private.Insertion.{Accepts, IsPut}
+use Rattle.ijson_table.specs.private.Probe.{onward, AreFull}
+use Rattle.ijson_table.specs.private.SlotHashes.{position_in, positions, blank}
+use Rattle.ijson_table.proofs.arithmetic.Circular.{distance-after, distance-below, distance-self, onward-distance}
+use Rattle.ijson_table.proofs.arithmetic.Comparing.{same_or_not}
+use Rattle.ijson_table.proofs.shifting.SlotWrites.{put_down}
+use Rattle.ijson_table.proofs.shifting.Insertion.{Shifting, goes_on, shift_more}
+use Rattle.ijson_table.proofs.slots.HashesInSlots.{positions-length, positions-put, positions-set}
+use Rattle.ijson_table.proofs.slots.HashesInSlots.{position-at, hashes-at, hashes-set}
+use Rattle.ijson_table.proofs.slots.HashesInSlots.{has_own_hash}
+use Rattle.ijson_table.proofs.slots.NarrowSlots.{code-of}
+use Rattle.ijson_table.proofs.slots.SlotChanges.{changes-none, changes-set}
+use Rattle.ijson_table.proofs.index.forward.shift_forward.Goals.{After-position}
+use Rattle.ijson_table.proofs.index.forward.shift_forward.Invariants.{IsOnTheWay}
+use Rattle.ijson_table.proofs.index.forward.shift_forward.Goals as goal
+
+-- a slot that is written counts once
+one_more : (old : List (Option ℕ)) (slots : List Slot) (slot written : ℕ) (entry : Slot) → changes old (positions slots) ≤ written
+    → changes old (positions (set slots slot entry)) ≤ written + 1
+one_more old slots slot written entry few = omega (
+  arith,
+  ap (changes old) (positions-set slots slot entry),
+  changes-set old (positions slots) slot (position_in entry),
+)
+
+-- below the next number and not there
+before : (j written : ℕ) → j < written + 1 → j ≢ written → j < written
+before j written lj ne = omega arith
+
+-- where it goes on, the slot that it is at was full too,
+passed_more : (old : List (Option ℕ)) (n from slot more : ℕ) → n ≡ length old → from < n → slot < n → more ≡ distance n from slot + 1
+    → AreFull old from (distance n from slot) → resident old slot ≢ None → AreFull old from more
+passed_more old n from slot more size lf ls is passed here j lj none = elim (same_or_not j (distance n from slot)) [
+  | inl at ↦ here (ap (resident old) (sym (ap (onward (length old) from) (at ∙ ap (λ m. distance m from slot) size)
+      ∙ onward-distance (length old) from slot (omega (arith, lf, size)) (omega (arith, ls, size)))) ∙ none)
+  | inr other ↦ passed j (before j (distance n from slot) (omega (arith, lj, is)) other) none
+]
+
+-- and those further on stay
+still_left : (old : List (Option ℕ)) (slots : List Slot) (entry : Slot) (slot from : ℕ)
+    → ((p : ℕ) → p < length slots → distance (length slots) from slot ≤ distance (length slots) from p
+    → resident (positions slots) p ≡ resident old p)
+    → (p : ℕ) → p < length (set slots slot entry) → distance (length slots) from slot + 1 ≤ distance (length (set slots slot entry)) from p
+    → resident (positions (set slots slot entry)) p ≡ resident old p
+still_left old slots entry slot from left p lp far =
+    let size : length (set slots slot entry) ≡ length slots = length-set slots slot entry in
+    let same : distance (length (set slots slot entry)) from p ≡ distance (length slots) from p = ap (λ n. distance n from p) size in
+    ap (λ ps. resident ps p) (positions-set slots slot entry)
+    ∙ (get_or-set_other (positions slots) slot p (position_in entry) None
+    (λ at. omega (arith, far, same, ap (distance (length slots) from) at)) ∙ left p (omega (arith, lp, size)) (omega (arith, far, same)))
+
+module _ (hashes : List ℕ) (old : List Slot) (position from : ℕ) (slots : List Slot) (entry : Slot) (slot : ℕ)
+    (first : from < length old) (way : IsOnTheWay hashes old position from slots entry slot (distance (length slots) from slot)) where
+  -- it is at one of the slots
+  here : slot < length slots
+  here = omega (arith, way.shifting.2.may.within, positions-length slots)
+
+  -- where the slot is empty, the last one is put down
+  is_put : None ≡ position_in (get_or slots slot blank) → IsPut hashes old position from slot (set slots slot entry)
+  is_put empty =
+      let s = way.shifting in
+      let want : ℕ → ℕ = with_one (positions old) position in
+      let size : distance (length slots) from slot ≡ distance (length old) from slot = ap (λ n. distance n from slot) way.size in
+      record {
+        holds = subst (Holds hashes want None) (sym (positions-put slots slot entry s.0 s.1))
+            (subst (λ o. Holds hashes want o (set (positions slots) slot (Some s.0))) (position-at slots slot None here empty)
+            (put_down hashes want (positions slots) s.0 slot s.2.may.within s.2.held s.2.may));
+        hashes_are = hashes-set hashes slots slot entry way.has_hash way.have_hashes;
+        count = length-set slots slot entry ∙ way.size;
+        within = omega (arith, here, way.size);
+        empty = sym (way.left slot here (omega arith)) ∙ position-at slots slot None here empty;
+        passed = λ j lj. way.passed j (omega (arith, lj, size));
+        changes = omega (
+          arith,
+          one_more (positions old) slots slot (distance (length slots) from slot) entry way.changes,
+          size,
+        );
+      }
+
+  -- where a resident stands there, there is a slot to go on to,
+  room : (next : ℕ) → Some next ≡ position_in (get_or slots slot blank) → distance (length slots) from slot + 1 < length slots
+  room next there =
+      let more = goes_on hashes (with_one (positions old) position) way.shifting.0 slot (distance (length slots) from slot) next
+      (positions slots) way.shifting.2 (position-at slots slot (Some next) here there) in
+      omega (arith, more, positions-length slots)
+
+  -- which is one further from the first,
+  further : (next : ℕ) → Some next ≡ position_in (get_or slots slot blank)
+      → distance (length (set slots slot entry)) from (after (length slots) slot) ≡ distance (length slots) from slot + 1
+  further next there =
+      ap (λ k. distance k from (after (length slots) slot)) (length-set slots slot entry)
+      ∙ distance-after (length slots) from slot (omega (arith, first, way.size)) here (omega (arith, room next there))
+
+  -- and it is on the way there.
+  goes_further : (next : ℕ) → Some next ≡ position_in (get_or slots slot blank)
+      → IsOnTheWay hashes old position from (set slots slot entry) (get_or slots slot blank) (after (length slots) slot)
+      (distance (length (set slots slot entry)) from (after (length slots) slot))
+  goes_further next there =
+      let i = way.shifting in
+      let want : ℕ → ℕ = with_one (positions old) position in
+      let now : List Slot = set slots slot entry in
+      let to : ℕ = after (length slots) slot in
+      let written : ℕ = distance (length slots) from slot in
+      let more : distance (length now) from to ≡ written + 1 = further next there in
+      let stood : resident (positions slots) slot ≡ Some next = position-at slots slot (Some next) here there in
+      record {
+        shifting = (
+          next,
+          sym there,
+          subst (λ n. Shifting hashes want next to n (positions now)) (sym more)
+              (subst (λ n. Shifting hashes want next (after n slot) (written + 1) (positions now)) (positions-length slots)
+              (subst (Shifting hashes want next (after (length (positions slots)) slot) (written + 1))
+              (sym (positions-put slots slot entry i.0 i.1)) (shift_more hashes want i.0 slot written next (positions slots) i.2 stood))),
+        );
+        changes = omega (arith, more, one_more (positions old) slots slot written entry way.changes);
+        has_hash = hashes-at hashes slots slot way.have_hashes here;
+        have_hashes = hashes-set hashes slots slot entry way.has_hash way.have_hashes;
+        passed = passed_more (positions old) (length slots) from slot (distance (length now) from to)
+            (way.size ∙ sym (positions-length old)) (omega (arith, first, way.size)) here more way.passed
+            (λ none. let bad : ◌≡◌ {A = Option ℕ} (Some next) None = sym stood ∙ (way.left slot here (omega arith) ∙ none) in cc);
+        left = λ p lp away. still_left (positions old) slots entry slot from way.left p lp (omega (arith, away, more));
+        size = length-set slots slot entry ∙ way.size;
+      }
+
+-- what is seen in a stored slot that was read is what is seen there
+seen_at : {X : Type 0} (f : X → Slot) (slots : List X) (p : ℕ) (read : X) → p < length (map f slots) → read ≡ get_or slots p read
+    → f read ≡ get_or (map f slots) p blank
+seen_at f slots p read lp is = ap f is ∙ sym (get_or-map f slots p read blank (omega (arith, lp, length-map slots f)))
+
+pub stored-entry-requires-clause-code : goal.stored-entry-requires-clause-code
+stored-entry-requires-clause-code g c = omega (
+  arith,
+  code-of c.of.result.code c.args.position c.of.ensures.position,
+  c.requires.code,
+)
+
+pub loop-resident-init : goal.loop-resident-init
+loop-resident-init g c hashes allowed =
+    let stored : List Slot = map g.S.StoredSlot.stands_for c.args.slots.now in
+    let slots : List (Option ℕ) = positions stored in
+    let accepts : Accepts hashes stored c.args.position c.args.hash = allowed.0 in
+    let may : MayStand hashes slots c.args.position c.args.from = allowed.1 in
+    let e = accepts.empty in
+    let none : distance (length stored) c.args.from c.args.from ≡ 0 = distance-self (length stored) c.args.from in
+    let way : IsOnTheWay hashes stored c.args.position c.args.from stored c.of.result c.args.from
+    (distance (length stored) c.args.from c.args.from) = record {
+      shifting = (
+        c.args.position,
+        c.of.ensures.position,
+        record {
+          held = record { ordered = accepts.ordered; placed = λ i. refl };
+          may = may;
+          ahead = (
+            e.0,
+            e.1,
+            e.2,
+            omega (arith, none, distance-below (length slots) c.args.from e.0 may.within e.1),
+          );
+        },
+      );
+      changes = omega (arith, changes-none slots);
+      has_hash = has_own_hash hashes c.of.result c.args.position c.of.ensures.position (c.of.ensures.hash ∙ accepts.hash_is);
+      have_hashes = accepts.hashes_are;
+      passed = λ j lj. absurd (omega (arith, lj, none));
+      left = λ p lp away. refl;
+      size = refl;
+    } in
+    subst (λ entry. IsOnTheWay hashes stored c.args.position c.args.from stored entry c.args.from
+    (distance (length stored) c.args.from c.args.from)) (sym c.stored-entry.ensures) way
+
+-- the slots that are seen,
+abbrev slots_seen : (g : _) (c : After-position g) → List Slot
+slots_seen g c = map g.S.StoredSlot.stands_for c.loop-resident.slots
+
+-- and the entry
+abbrev entry_seen : (g : _) (c : After-position g) → Slot
+entry_seen g c = g.S.StoredSlot.stands_for c.loop-resident.entry
+
+-- the slots that are seen once the entry is written
+written_seen : (g : _) (c : After-position g) → map g.S.StoredSlot.stands_for (set c.loop-resident.slots c.loop-resident.slot
+    c.loop-resident.entry) ≡ set (slots_seen g c) c.loop-resident.slot (entry_seen g c)
+written_seen g c = map-set g.S.StoredSlot.stands_for c.loop-resident.slots c.loop-resident.slot c.loop-resident.entry
+
+-- the first slot that is written is one of them
+first_in : (g : _) (c : After-position g) → c.args.from < length (map g.S.StoredSlot.stands_for c.args.slots.now)
+first_in g c = omega (arith, c.requires.may.1.1.within, positions-length (map g.S.StoredSlot.stands_for c.args.slots.now))
+
+-- it is on the way, by the hashes that it is called for
+on_way : (g : _) (c : After-position g) → IsOnTheWay c.requires.may.0 (map g.S.StoredSlot.stands_for c.args.slots.now) c.args.position
+    c.args.from (slots_seen g c) (entry_seen g c) c.loop-resident.slot
+    (distance (length (slots_seen g c)) c.args.from c.loop-resident.slot)
+on_way g c = c.loop-resident.invariant c.requires.may.0 c.requires.may.1
+
+-- what was read is seen at the slot,
+read_seen : (g : _) (c : After-position g) → g.S.StoredSlot.stands_for c.index-slots-slot.result
+    ≡ get_or (slots_seen g c) c.loop-resident.slot blank
+read_seen g c =
+    let l = c.loop-resident in
+    seen_at g.S.StoredSlot.stands_for l.slots l.slot c.index-slots-slot.result
+    (here c.requires.may.0 (map g.S.StoredSlot.stands_for c.args.slots.now) c.args.position c.args.from (slots_seen g c) (entry_seen g c)
+    l.slot (first_in g c) (on_way g c)) c.index-slots-slot.is
+
+-- and so is the position
+told : (g : _) (c : After-position g) → c.position.result ≡ position_in (get_or (slots_seen g c) c.loop-resident.slot blank)
+told g c = c.position.ensures ∙ (ap position_in c.widened.ensures.value ∙ ap position_in (read_seen g c))
+
+-- there are as many slots as before
+same_size : (g : _) (c : After-position g) → length (slots_seen g c) ≡ length c.args.slots.now
+same_size g c = (on_way g c).size ∙ length-map c.args.slots.now g.S.StoredSlot.stands_for
+
+pub loop-resident-preserved : goal.loop-resident-preserved
+loop-resident-preserved g c hashes allowed =
+    let p = (goal.at.loop-resident-preserved g c).After-position in
+    let l = c.loop-resident in
+    let f = g.S.StoredSlot.stands_for in
+    let old : List Slot = map f c.args.slots.now in
+    let slots : List Slot = slots_seen g p in
+    let to : after (length slots) l.slot ≡ c.next_slot-slot.result =
+    ap (λ n. after n l.slot) (same_size g p) ∙ sym c.next_slot-slot.ensures.slot in
+    let way = goes_further hashes old c.args.position c.args.from slots (entry_seen g p) l.slot (first_in g p)
+    (l.invariant hashes allowed) c.in-Some._resident (sym c.in-Some.is ∙ told g p) in
+    subst (λ ps. IsOnTheWay hashes old c.args.position c.args.from ps (f c.index-slots-slot.result) c.next_slot-slot.result
+    (distance (length ps) c.args.from c.next_slot-slot.result)) (sym (written_seen g p))
+    (subst (λ entry. IsOnTheWay hashes old c.args.position c.args.from (set slots l.slot (entry_seen g p)) entry c.next_slot-slot.result
+    (distance (length (set slots l.slot (entry_seen g p))) c.args.from c.next_slot-slot.result)) (sym (read_seen g p))
+    (subst (λ next. IsOnTheWay hashes old c.args.position c.args.from (set slots l.slot (entry_seen g p)) (get_or slots l.slot blank)
+    next (distance (length (set slots l.slot (entry_seen g p))) c.args.from next)) to way))
+
+pub loop-resident-smaller : goal.loop-resident-smaller
+loop-resident-smaller g c =
+    let p = (goal.at.loop-resident-smaller g c).After-position in
+    let l = c.loop-resident in
+    let old : List Slot = map g.S.StoredSlot.stands_for c.args.slots.now in
+    let slots : List Slot = slots_seen g p in
+    let there = sym c.in-Some.is ∙ told g p in
+    let hashes : List ℕ = c.requires.may.0 in
+    let size : length slots ≡ length l.slots = length-map l.slots g.S.StoredSlot.stands_for in
+    let to : c.next_slot-slot.result ≡ after (length slots) l.slot =
+    c.next_slot-slot.ensures.slot ∙ ap (λ n. after n l.slot) (sym (same_size g p)) in
+    omega (
+      arith,
+      room hashes old c.args.position c.args.from slots (entry_seen g p) l.slot (first_in g p) (on_way g p) c.in-Some._resident there,
+      further hashes old c.args.position c.args.from slots (entry_seen g p) l.slot (first_in g p) (on_way g p) c.in-Some._resident there,
+      ap (λ n. distance n c.args.from (after (length slots) l.slot)) (length-set slots l.slot (entry_seen g p)),
+      ap (λ n. distance n c.args.from l.slot) size,
+      ap (λ n. distance n c.args.from (after (length slots) l.slot)) size,
+      ap (distance (length l.slots) c.args.from) to,
+      size,
+      length-set l.slots l.slot l.entry,
+      ap (λ n. distance n c.args.from c.next_slot-slot.result) (length-set l.slots l.slot l.entry),
+    )
+
+pub returns-in_default : goal.returns-in_default
+returns-in_default g c hashes allowed =
+    let p = (goal.at.returns-in_default g c).After-position in
+    let l = c.loop-resident in
+    let old : List Slot = map g.S.StoredSlot.stands_for c.args.slots.now in
+    subst (IsPut hashes old c.args.position c.args.from l.slot) (sym (written_seen g p))
+    (is_put hashes old c.args.position c.args.from (slots_seen g p) (entry_seen g p) l.slot (first_in g p) (l.invariant hashes allowed)
+    (sym c.in_default.is ∙ told g p))

@@ -1,0 +1,86 @@
+use Rattle.std.proofs.Common.{◌≡◌, ◌≤◌, ◌∙◌, ℕ, List, length, map, take, ap, arith, rules, sym, subst}
+use Rattle.std.proofs.lemmas.List.{length-map, map-id, with_items_is}
+use Rattle.ijson_table.specs.declared.index.slot.Slot.{Slot}
+use Rattle.ijson_table.specs.declared.index.slots.Slots.TheInside.{Inside}
+use Rattle.ijson_table.specs.declared.index.slots.TheConstants.{FEW_SLOTS}
+use Rattle.ijson_table.specs.private.Insertion.{IsPut, MayPut}
+use Rattle.ijson_table.specs.private.Narrow.{MayHold}
+use Rattle.ijson_table.specs.private.NarrowSlots.{widened, stored_slots, IsStoredByCount}
+use Rattle.ijson_table.proofs.slots.StoredSlots.{few-length}
+use Rattle.ijson_table.proofs.index.slots.Slots.shift_forward.Goals.{Joined-self, in-Few, in-Narrow, in-Wide}
+use Rattle.ijson_table.proofs.index.slots.Slots.shift_forward.Goals as goal
+
+-- what is asked of slots, by these hashes
+abbrev IsAsked : List ℕ → ℕ → ℕ → ℕ → List Slot → Type 0
+IsAsked hashes position hash from slots = MayPut hashes slots position hash from × MayHold (length slots) position hash
+
+pub shift_in_front-requires : goal.shift_in_front-requires
+shift_in_front-requires g c =
+    let few = c.in-Few.few in
+    let within = few.within in
+    let all : length few.slots ≡ FEW_SLOTS = search rules in
+    let room : c.from.result ≤ length few.slots = omega (arith, within, all, c.from.ensures) in
+    let seen : map widened (take c.from.result few.slots) ≡ c.args.self.now =
+    ap (λ n. map widened (take n few.slots)) c.from.ensures ∙ (ap stored_slots (sym c.in-Few.is) ∙ c.self.view_is) in
+    let asked = subst (IsAsked g.hashes c.args.position c.args.hash c.args.from) (sym seen)
+    c.requires in
+    let fit = asked.1 (omega (arith, few-length c.from.result few.slots room, within, c.from.ensures)) in
+    record { within = room; may = (g.hashes, asked.0); code = fit.0; hash = fit.1 }
+
+pub shift_forward-requires : goal.shift_forward-requires
+shift_forward-requires g c =
+    let size = subst IsStoredByCount c.in-Narrow.is c.self.invariant in
+    let slots = c.deref_mut.result.now in
+    let seen : map widened slots ≡ c.args.self.now =
+    ap (map widened) c.deref_mut.ensures.value ∙ (ap stored_slots (sym c.in-Narrow.is) ∙ c.self.view_is) in
+    let asked = subst (IsAsked g.hashes c.args.position c.args.hash c.args.from) (sym seen)
+    c.requires in
+    let fit = asked.1 (omega (arith, length-map slots widened, ap length c.deref_mut.ensures.value, size.1)) in
+    record { may = (g.hashes, asked.0); code = fit.0; hash = fit.1 }
+
+pub shift_forward-requires-in-Wide : goal.shift_forward-requires-in-Wide
+shift_forward-requires-in-Wide g c =
+    let slots = c.deref_mut-in-Wide.result.now in
+    let seen : map (λ slot. slot) slots ≡ c.args.self.now =
+    map-id slots ∙ (c.deref_mut-in-Wide.ensures.value ∙ (ap stored_slots (sym c.in-Wide.is) ∙ c.self.view_is)) in
+    let asked = subst (IsAsked g.hashes c.args.position c.args.hash c.args.from) (sym seen)
+    c.requires in
+    record { may = (g.hashes, asked.0); code = asked.0.0.fits; hash = c.ranges.hash.fits }
+
+-- The slots that are seen at first and at last, where a call puts the position down among them as they are stored.
+put_as : (hashes : List ℕ) (position hash from : ℕ) (old old' new new' : List Slot) (last last' : ℕ)
+    → ((hashes : List ℕ) → MayPut hashes old position hash from → IsPut hashes old position from last new)
+    → old ≡ old' → new ≡ new' → last ≡ last' → MayPut hashes old' position hash from → IsPut hashes old' position from last' new'
+put_as hashes position hash from old old' new new' last last' put before after same may =
+    subst (λ ps. IsPut hashes ps position from last' new') before
+    (subst (λ ps. IsPut hashes old position from last' ps) after (subst (λ p. IsPut hashes old position from p new) same
+    (put hashes (subst (λ ps. MayPut hashes ps position hash from) (sym before) may))))
+
+-- the position is put down, however the slots are stored
+put : (g : _) (c : Joined-self g) → IsPut g.hashes c.args.self.now c.args.position c.args.from c.match-self.result
+    (stored_slots c.match-self.self-inside.stored)
+put g c =
+    let may : MayPut g.hashes c.args.self.now c.args.position c.args.hash c.args.from = c.requires.0 in
+    elim c.match-self.branch [
+      | in-Few w ↦ put_as g.hashes c.args.position c.args.hash c.args.from _ _ _ _ _ _ w.shift_in_front.ensures
+          (ap (λ n. map widened (take n w.in-Few.few.slots)) w.from.ensures ∙ (ap stored_slots (sym w.in-Few.is) ∙ c.self.view_is))
+          (ap (λ n. map widened (take n w.shift_in_front.new.slots)) w.from.ensures
+          ∙ sym (ap (λ (l : Inside). stored_slots l.stored) w.self-inside-is)) (sym w.result-is) may
+      | in-Narrow w ↦
+          let left = w.shift_forward.new.slots in
+          let same = with_items_is w.in-Narrow.slots left (omega (arith, w.shift_forward.auto.slots, w.deref_mut.ensures.len)) in
+          put_as g.hashes c.args.position c.args.hash c.args.from _ _ _ _ _ _ w.shift_forward.ensures
+          (ap (map widened) w.deref_mut.ensures.value ∙ (ap stored_slots (sym w.in-Narrow.is) ∙ c.self.view_is))
+          (sym (ap (map widened) same) ∙ sym (ap (λ (l : Inside). stored_slots l.stored) w.self-inside-is)) (sym w.result-is) may
+      | in-Wide w ↦
+          let slots = w.deref_mut-in-Wide.result.now in
+          let left = w.shift_forward-in-Wide.new.slots in
+          let same = with_items_is w.in-Wide.slots left
+          (omega (arith, w.shift_forward-in-Wide.auto.slots, w.deref_mut-in-Wide.ensures.len)) in
+          put_as g.hashes c.args.position c.args.hash c.args.from _ _ _ _ _ _ w.shift_forward-in-Wide.ensures
+          (map-id slots ∙ (w.deref_mut-in-Wide.ensures.value ∙ (ap stored_slots (sym w.in-Wide.is) ∙ c.self.view_is)))
+          (map-id left ∙ (sym same ∙ sym (ap (λ (l : Inside). stored_slots l.stored) w.self-inside-is))) (sym w.result-is) may
+    ]
+
+pub returns : goal.returns
+returns g c = put g c
