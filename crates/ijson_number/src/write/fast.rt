@@ -285,7 +285,7 @@ impl INumber {
         out.push_str(text.as_str())
     }
 
-    /// Appends the text that `Display` writes, in less time: that of few digits is appended at once, by no formatter. It may want
+    /// Appends the text that `Display` writes, in less time: that of few digits is appended by no formatter. It may want
     /// room for 31 bytes more than the text has. A text with zeros behind the digits, with an exponent behind a single digit or with
     /// many digits is made in memory of its own first. The error comes where there was not enough memory. A beginning of the text may
     /// then stand in `out`, behind what was there. It takes time linear in the text.
