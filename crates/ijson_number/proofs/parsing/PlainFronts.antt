@@ -47,6 +47,14 @@ same_run most a b x y p q n m l e =
       | false ↦ λ h. let g = ltb-false (length a) most h in run_within a b x y p m (omega (arith, g)) e
     ] refl
 
+-- so few digits are no more than so many places
+few_left : (number count most n : ℕ) → (number ≡ 0 → most ≡ 19) → (number ≢ 0 → most ≡ 19 - count)
+    → (count + n ≤ 19) ⊎ ((number ≡ 0) × (n ≤ 19)) → n ≤ most
+few_left number count most n zero others few = elim (cases_eq number 0) [
+  | inl none ↦ (let all = zero none in elim few [ inl few ↦ omega (arith, few, all) | inr few ↦ omega (arith, few.1, all) ])
+  | inr some ↦ (let rest = others some in elim few [ inl few ↦ omega (arith, few, rest) | inr few ↦ absurd (some few.0) ])
+]
+
 -- what follows a point and its digits
 point_tail_at : (most : ℕ) (front digits rest taken after : List ℕ) (point : Bool) → IsFraction front digits point → EndsDigits point rest
     → length digits ≤ most → 46 ∷ (taken ++ after) ≡ front ++ rest → AllDigits taken → (length taken < most → BeginsWithNoDigit after)
@@ -60,9 +68,11 @@ point_tail_at most (b ∷ bs) digits rest taken after point f s l e d n =
     (rw r.0 f.1, r.1)
 
 pub point_tail : (most : ℕ) (bytes front rest taken after : List ℕ) → bytes ≡ 46 ∷ (taken ++ after) → AllDigits taken
-    → (length taken < most → BeginsWithNoDigit after) → IsPlainTail most bytes front rest → IsDigits taken × (after ≡ rest)
-point_tail most bytes front rest taken after e d n t =
-    point_tail_at most front t.digits rest taken after t.has_point t.fraction t.ends t.few (sym e ∙ t.text_is) d n
+    → (length taken < most → BeginsWithNoDigit after) → (number count : ℕ) → (number ≡ 0 → most ≡ 19) → (number ≢ 0 → most ≡ 19 - count)
+    → IsPlainTail number count bytes front rest → IsDigits taken × (after ≡ rest)
+point_tail most bytes front rest taken after e d n number count zero others t =
+    point_tail_at most front t.digits rest taken after t.has_point t.fraction t.ends
+    (few_left number count most (length t.digits) zero others t.few) (sym e ∙ t.text_is) d n
 
 -- behind the whole part of a plain number no digit stands
 behind_begins : (ft f rest : List ℕ) (point : Bool) → IsFraction ft f point → EndsDigits point rest → BeginsWithNoDigit (ft ++ rest)
@@ -93,16 +103,11 @@ few_in_front p (inl few) = omega (arith, few)
 few_in_front p (inr zero) = rw zero.0 (omega arith)
 
 -- and so many behind them
-few_behind : (p : Parts) (count most : ℕ) → (value p.whole ≡ 0 → most ≡ 19) → (value p.whole ≢ 0 → most ≡ 19 - count)
-    → length p.whole ≡ count → (length p.whole + length p.fraction ≤ 19) ⊎ ((p.whole ≡ 48 ∷ []) × (length p.fraction ≤ 19))
-    → length p.fraction ≤ most
-few_behind p count most zero others long few = elim (cases_eq (value p.whole) 0) [
-  | inl none ↦ (let all = zero none in elim few [ inl few ↦ omega (arith, few, all) | inr few ↦ omega (arith, few.1, all) ])
-  | inr some ↦ (let rest = others some in elim few [
-    | inl few ↦ omega (arith, few, rest, long)
-    | inr few ↦ absurd (some (ap value few.0))
-  ])
-]
+few_behind : (p : Parts) (count : ℕ) → length p.whole ≡ count
+    → (length p.whole + length p.fraction ≤ 19) ⊎ ((p.whole ≡ 48 ∷ []) × (length p.fraction ≤ 19))
+    → (count + length p.fraction ≤ 19) ⊎ ((value p.whole ≡ 0) × (length p.fraction ≤ 19))
+few_behind p count long (inl few) = inl (omega (arith, few, long))
+few_behind p count long (inr few) = inr (ap value few.0, few.1)
 
 -- the digits that are taken in front are the whole part,
 pub whole_taken : (t u a x : List ℕ) (n : Bool) (p : Parts) (rest : List ℕ) (count : ℕ) → IsSignTaken t n u → a ≡ take count u
@@ -115,14 +120,13 @@ whole_taken t u a x n p rest count h is behind c d l f =
     (few_in_front p f.few) e
 
 -- and its fraction, or none, stands behind them
-pub plain_tail : (t : List ℕ) (a x : List ℕ) (p : Parts) (rest : List ℕ) (count most : ℕ) → length a ≡ count
-    → (value a ≡ 0 → most ≡ 19) → (value a ≢ 0 → most ≡ 19 - count)
-    → (f : IsDigitFront t p rest) → (a ≡ p.whole) × (x ≡ f.fraction_text ++ rest) → IsPlainTail most x f.fraction_text rest
-plain_tail t a x p rest count most c zero others f r = record {
+pub plain_tail : (t : List ℕ) (a x : List ℕ) (p : Parts) (rest : List ℕ) (count : ℕ) → length a ≡ count
+    → (f : IsDigitFront t p rest) → (a ≡ p.whole) × (x ≡ f.fraction_text ++ rest) → IsPlainTail (value a) count x f.fraction_text rest
+plain_tail t a x p rest count c f r = record {
   digits = p.fraction;
   has_point = f.has_point;
   text_is = r.1;
   fraction = f.fraction;
-  few = few_behind p count most (rw r.0 at zero) (rw r.0 at others) (ap length (sym r.0) ∙ c) f.few;
+  few = rw r.0 (few_behind p count (ap length (sym r.0) ∙ c) f.few);
   ends = f.ends;
 }

@@ -1,5 +1,5 @@
 -- What the pass over the front of a text finds there.
-use Rattle.std.specs.Prelude.{◌≡◌, ℕ, ◌^◌, ◌<◌, ◌≤◌, Bool, List, ◌++◌, length, nat_lt, take, true, ℤ, pos, neg_ℤ, ◌-ℤ◌, ◌≤ℤ◌}
+use Rattle.std.specs.Prelude.{◌≡◌, ◌⊎◌, ℕ, ◌+◌, ◌^◌, ◌<◌, ◌≤◌, Bool, List, ◌++◌, length, nat_lt, take, true, ℤ, pos, neg_ℤ, ◌-ℤ◌, ◌≤ℤ◌}
 use Rattle.std.specs.Int.Digits.{number_from_digits_after}
 use Rattle.ijson_number.specs.Decimal.{Decimal}
 use Rattle.ijson_number.specs.Grammar.{IsExponent, IsFraction, IsMinus, IsWhole, Spells, value}
@@ -10,7 +10,7 @@ use Rattle.ijson_number.specs.Strips.{Strips, signed}
 use Rattle.ijson_number.specs.private.Stripped.{digits_from_text}
 use Rattle.ijson_number.specs.declared.parse.prefix.Prefix.{Prefix}
 
--- a fraction of so many places or none, the text behind it, and the number that its digits make of one
+-- a fraction of so many places or none, the text behind it, and the number that its digits make of one, which are few
 pub record IsPrefixTail (number : ℕ) (text : List ℕ) (longer scale : ℕ) (rest : List ℕ) : Type 0 where
   pub front : List ℕ
   pub digits : List ℕ
@@ -18,14 +18,16 @@ pub record IsPrefixTail (number : ℕ) (text : List ℕ) (longer scale : ℕ) (r
   pub fraction : IsFraction front digits (nat_lt 0 scale)
   pub count : length digits ≡ scale
   pub value : longer ≡ number_from_digits_after 10 number (digits_from_text digits)
+  pub few : scale ≤ 19
+  pub small : longer < 10 ^ 19
 
--- a fraction of at most so many digits or none, and what follows it
-pub record IsPlainTail (most : ℕ) (text front rest : List ℕ) : Type 0 where
+-- a fraction of few digits or none behind a number of so many, and what follows it
+pub record IsPlainTail (number count : ℕ) (text front rest : List ℕ) : Type 0 where
   pub digits : List ℕ
   pub has_point : Bool
   pub text_is : text ≡ front ++ rest
   pub fraction : IsFraction front digits has_point
-  pub few : length digits ≤ most
+  pub few : (count + length digits ≤ 19) ⊎ ((number ≡ 0) × (length digits ≤ 19))
   pub ends : EndsDigits has_point rest
 
 -- a sign, a whole part and a fraction of few digits at the front, and the text behind them

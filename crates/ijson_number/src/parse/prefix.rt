@@ -61,22 +61,35 @@ fn take_whole(bytes: &[u8]) -> (u64, usize)
     (longer, FEW + more)
 }
 
-/// The point at the front and at most so many digits behind it, if it is there: the number that they make of one, how many
-/// digits they are, and the text behind them.
+/// How many digits are read behind the point: with those before it 19, among which a single zero does not count.
 #[inline(always)]
-fn take_tail(number: u64, bytes: &[u8], most: usize) -> Option<(u64, usize, &[u8])>
-    requires { (number + 1) * 10 ^ most ≤ 10 ^ 19 }
+fn places_left(number: u64, count: usize) -> usize
+    requires { count ≤ 19 }
+    ensures zero { number ≡ 0 → result ≡ 19 }
+    ensures others { number ≢ 0 → result ≡ 19 - count }
+{
+    if number == 0 {
+        WORD_DIGITS
+    } else {
+        WORD_DIGITS - count
+    }
+}
+
+/// The point at the front and few digits behind it, if it is there: the number that they make of one of so many digits, how many
+/// they are, and the text behind them. How many may stand there is asked behind a point alone, which most integers do not have.
+#[inline(always)]
+fn take_tail(number: u64, count: usize, bytes: &[u8]) -> Option<(u64, usize, &[u8])>
+    requires few { count ≤ 19 }
+    requires room { (number + 1) * 10 ^ (19 - count) ≤ 10 ^ 19 }
     ensures tail { IfSome result (λ r. IsPrefixTail number bytes.now r.0 r.1 r.2.now) }
-    ensures few { IfSome result (λ r. r.1 ≤ most) }
-    ensures small { IfSome result (λ r. r.0 < 10 ^ 19) }
     ensures rest { IfSome result (λ r. (front rest : List ℕ)
-        → IsPlainTail most bytes.now front rest → r.2.now ≡ rest) }
+        → IsPlainTail number count bytes.now front rest → r.2.now ≡ rest) }
     ensures none { IfNone result ((front rest : List ℕ)
-        → IsPlainTail most bytes.now front rest → ⊥) }
+        → IsPlainTail number count bytes.now front rest → ⊥) }
 {
     if !bytes.is_empty() && bytes[0] == b'.' {
         let behind = &bytes[1..];
-        let (longer, scale) = take_lanes(number, behind, most);
+        let (longer, scale) = take_lanes(number, behind, places_left(number, count));
         if scale == 0 {
             return None;
         }
@@ -84,21 +97,6 @@ fn take_tail(number: u64, bytes: &[u8], most: usize) -> Option<(u64, usize, &[u8
         return Some((longer, scale, rest));
     }
     Some((number, 0, bytes))
-}
-
-/// How many digits are read behind the point: with those before it 19, among which a single zero does not count.
-#[inline(always)]
-fn places_left(number: u64, count: usize) -> usize
-    requires { count ≤ 19 }
-    ensures zero { number ≡ 0 → result ≡ 19 }
-    ensures others { number ≢ 0 → result ≡ 19 - count }
-    ensures most { result ≤ 19 }
-{
-    if number == 0 {
-        WORD_DIGITS
-    } else {
-        WORD_DIGITS - count
-    }
 }
 
 /// The number at the front of a text that has no exponent: what its digits write, how many of them stand behind the point, and
@@ -125,7 +123,7 @@ pub fn read_mantissa(text: &[u8]) -> Option<(Prefix, &[u8])>
     if !is_whole(whole) {
         return None;
     }
-    let (magnitude, scale, rest) = take_tail(number, behind, places_left(number, count))?;
+    let (magnitude, scale, rest) = take_tail(number, count, behind)?;
     let prefix = Prefix {
         negative,
         magnitude,

@@ -1,5 +1,4 @@
-use Rattle.std.proofs.Common.{◌≡◌, ◌+◌, ◌++◌, ℕ, List, inl, inr, length, take, sym, ap, ◌∙◌, append_assoc, arith}
-use Rattle.std.proofs.lemmas.Bool.{cases_eq}
+use Rattle.std.proofs.Common.{◌≡◌, ◌+◌, ◌++◌, ℕ, List, length, take, sym, ap, ◌∙◌, append_assoc, arith}
 use Rattle.std.proofs.lemmas.Grind.{common_steps}
 use Rattle.std.proofs.lemmas.List.{length-append, length-take-le, take-append-drop}
 use Rattle.ijson_number.specs.DigitFront.{IsDigitFront}
@@ -9,19 +8,14 @@ use Rattle.ijson_number.proofs.storing.DigitBounds.{joined_value, room_left}
 use Rattle.ijson_number.proofs.parsing.OneDivision.{minus_of}
 use Rattle.ijson_number.proofs.parsing.PlainFronts.{plain_tail, whole_taken}
 use Rattle.ijson_number.proofs.parse.prefix.read_mantissa.Goals as goal
-use Rattle.ijson_number.proofs.parse.prefix.read_mantissa.Goals.{After-places_left, After-split_at}
+use Rattle.ijson_number.proofs.parse.prefix.read_mantissa.Goals.{After-split_at}
 
-pub take_tail-requires : goal.take_tail-requires
-take_tail-requires c =
+pub take_tail-requires-clause-room : goal.take_tail-requires-clause-room
+take_tail-requires-clause-room c =
     let t = c.take_whole-number in
     let count : length (take t.result.1 c.split_sign-negative.result.1.now) ≡ t.result.1 =
     length-take-le t.result.1 c.split_sign-negative.result.1.now t.ensures.within in
-    let left = c.places_left in
-    let room = room_left (take t.result.1 c.split_sign-negative.result.1.now) t.result.1 t.ensures.digits count t.ensures.few in
-    elim (cases_eq t.result.0 0) [
-      | inl none ↦ rw (none, left.ensures.zero none) (omega arith)
-      | inr some ↦ rw (left.ensures.others some, t.ensures.value) room
-    ]
+    rw t.ensures.value (room_left (take t.result.1 c.split_sign-negative.result.1.now) t.result.1 t.ensures.digits count t.ensures.few)
 
 pub returns-clause-found : goal.returns-clause-found
 returns-clause-found c =
@@ -30,8 +24,7 @@ returns-clause-found c =
     let unsigned = c.split_sign-negative.result.1.now in
     let whole = c.split_at.result.0.now in
     let behind = c.split_at.result.1.now in
-    let e = c.in_ok-magnitude.ensures in
-    let tail = e.tail in
+    let tail = c.in_ok-magnitude.ensures.tail in
     let rest = c.in_ok-magnitude.rest.now in
     let minus = minus_of text unsigned c.split_sign-negative.result.0 c.split_sign-negative.ensures in
     let split : unsigned ≡ whole ++ behind =
@@ -42,8 +35,6 @@ returns-clause-found c =
     ∙ sym (append_assoc minus.0 (whole ++ tail.front) rest) in
     let sum : length text ≡ length front + length rest = ap length all ∙ length-append front rest in
     let made : t.result.0 ≡ value whole = t.ensures.value ∙ ap value (sym c.split_at.ensures.front) in
-    let few = e.few in
-    let most = c.places_left.ensures.most in
     record {
       minus_text = minus.0;
       whole = whole;
@@ -56,8 +47,8 @@ returns-clause-found c =
       fraction_is = tail.fraction;
       count = tail.count;
       magnitude_is = rw made at tail.value ∙ joined_value whole tail.digits;
-      few = omega arith;
-      small = e.small;
+      few = tail.few;
+      small = tail.small;
     }
 
 -- the whole part is what was taken in front,
@@ -69,21 +60,18 @@ taken c p rest f =
     whole_taken c.args.text.now _ _ _ _ p rest _ c.split_sign-negative.ensures s.front s.back s.front_len t.digits t.all f
 
 -- and the fraction has so few digits
-tail : (c : After-places_left) (p : Parts) (rest : List ℕ) (f : IsDigitFront c.args.text.now p rest)
-    → (c.split_at.result.0.now ≡ p.whole) × (c.split_at.result.1.now ≡ f.fraction_text ++ rest)
-    → IsPlainTail c.places_left.result c.split_at.result.1.now f.fraction_text rest
-tail c p rest f parts =
-    let t = c.take_whole-number.ensures in
+tail : (c : After-split_at) (p : Parts) (rest : List ℕ) (f : IsDigitFront c.args.text.now p rest)
+    → IsPlainTail c.take_whole-number.result.0 c.take_whole-number.result.1 c.split_at.result.1.now f.fraction_text rest
+tail c p rest f =
     let s = c.split_at.ensures in
-    let left = c.places_left.ensures in
-    let made = t.value ∙ ap value (sym s.front) in
-    plain_tail c.args.text.now _ _ p rest _ _ s.front_len (λ zero. left.zero (made ∙ zero))
-    (λ some. left.others (λ zero. some (sym made ∙ zero))) f parts
+    rw (c.take_whole-number.ensures.value ∙ ap value (sym s.front))
+    (plain_tail c.args.text.now c.split_at.result.0.now c.split_at.result.1.now p rest c.take_whole-number.result.1 s.front_len f
+    (taken c p rest f))
 
 pub returns-clause-rest : goal.returns-clause-rest
 returns-clause-rest c = λ p rest f.
     let at = goal.at.returns-clause-rest c in
-    c.in_ok-magnitude.ensures.rest f.fraction_text rest (tail at.After-places_left p rest f (taken at.After-split_at p rest f))
+    c.in_ok-magnitude.ensures.rest f.fraction_text rest (tail at.After-split_at p rest f)
 
 pub returns-then-not-is_whole-clause-none : goal.returns-then-not-is_whole-clause-none
 returns-then-not-is_whole-clause-none c = λ p rest f.
@@ -96,7 +84,7 @@ returns-in_err-magnitude-clause-none c =
     let at = goal.at.returns-in_err-magnitude-clause-none c in
     rw c.from_residual.ensures
     (λ p rest f. c.in_err-magnitude.ensures.none f.fraction_text rest
-    (tail at.After-places_left p rest f (taken at.After-split_at p rest f)))
+    (tail at.After-split_at p rest f))
 
 -- what the check tries where no answer stands takes longer than these
 pub overflow_sub-prefix : goal.overflow_sub-prefix

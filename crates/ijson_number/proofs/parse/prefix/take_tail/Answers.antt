@@ -1,4 +1,5 @@
-use Rattle.std.proofs.Common.{◌≡◌, ◌+◌, ◌-◌, ◌<◌, ◌≤◌, List, ℕ, [], ◌∷◌, ◌++◌, length, take, drop, refl, sym, ap, ◌∙◌, arith}
+use Rattle.std.proofs.Common.{◌≡◌, ◌≢◌, ◌+◌, ◌-◌, ◌*◌, ◌^◌, ◌<◌, ◌≤◌, List, ℕ, [], ◌∷◌, ◌++◌, length, take, drop, inl, inr, refl, sym, ap, ◌∙◌, arith}
+use Rattle.std.proofs.lemmas.Bool.{cases_eq}
 use Rattle.std.specs.Int.Digits.{number_from_digits_after}
 use Rattle.std.proofs.lemmas.Bool.Decides.{nat_tests}
 use Rattle.std.proofs.lemmas.List.{take-append-drop}
@@ -22,7 +23,7 @@ record IsPointTaken (number : ℕ) (bytes : List ℕ) (most longer scale : ℕ) 
   ends : length digits < most → BeginsWithNoDigit rest
   value : longer ≡ number_from_digits_after 10 number (digits_from_text digits)
 
-point_taken : (c : goal.After-rest-1) → IsPointTaken c.args.number c.args.bytes.now c.args.most c.take_lanes-longer.result.0
+point_taken : (c : goal.After-rest-1) → IsPointTaken c.args.number c.args.bytes.now c.places_left.result c.take_lanes-longer.result.0
     c.take_lanes-longer.result.1 c.split_at.result.0.now c.split_at.result.1.now
 point_taken c =
     let bytes = c.args.bytes.now in
@@ -40,10 +41,30 @@ point_taken c =
           ∙ ap (λ (l : List ℕ). number_from_digits_after 10 c.args.number (digits_from_text l)) (sym split.front);
     }
 
+-- the number has room for so many more
+room : (number count most : ℕ) → (number ≡ 0 → most ≡ 19) → (number ≢ 0 → most ≡ 19 - count) → (number + 1) * 10 ^ (19 - count) ≤ 10 ^ 19
+    → (number + 1) * 10 ^ most ≤ 10 ^ 19
+room number count most zero others left = elim (cases_eq number 0) [
+  | inl none ↦ rw (none, zero none) (omega arith)
+  | inr some ↦ rw (others some) left
+]
+
+most_places : (number count most : ℕ) → (number ≡ 0 → most ≡ 19) → (number ≢ 0 → most ≡ 19 - count) → most ≤ 19
+most_places number count most zero others = elim (cases_eq number 0) [
+  | inl none ↦ (let all = zero none in omega (arith, all))
+  | inr some ↦ (let rest = others some in omega (arith, rest))
+]
+
+pub take_lanes-longer-requires : goal.take_lanes-longer-requires
+take_lanes-longer-requires c =
+    let left = c.places_left.ensures in
+    room c.args.number c.args.count c.places_left.result left.zero left.others c.requires.room
+
 pub returns-then-bytes-eq46-clause-tail : goal.returns-then-bytes-eq46-clause-tail
 returns-then-bytes-eq46-clause-tail c =
     let taken = point_taken c in
     let digits = c.split_at.result.0.now in
+    let left = c.places_left.ensures in
     let some : 0 < c.take_lanes-longer.result.1 = omega arith in
     record {
       front = 46 ∷ digits;
@@ -52,23 +73,30 @@ returns-then-bytes-eq46-clause-tail c =
       fraction = (refl, IsDigits_from digits (omega (arith, taken.count)) taken.all_digits, refl, grind (arith, nat_tests));
       count = taken.count;
       value = taken.value;
+      few = omega
+          (arith, taken.count, taken.few, most_places c.args.number c.args.count c.places_left.result left.zero left.others);
+      small = rw taken.value
+          (digits_small c.args.number digits c.places_left.result taken.all_digits taken.few
+          (room c.args.number c.args.count c.places_left.result left.zero left.others c.requires.room));
     }
 
 pub returns-clause-tail : goal.returns-clause-tail
-returns-clause-tail c = record { front = []; digits = []; text_is = refl; fraction = (refl, refl); count = refl; value = refl }
+returns-clause-tail c =
+    let more = no_more (c.args.number + 1) (19 - c.args.count) in
+    record {
+      front = [];
+      digits = [];
+      text_is = refl;
+      fraction = (refl, refl);
+      count = refl;
+      value = refl;
+      few = omega arith;
+      small = omega (arith, more, c.requires.room);
+    }
 
 pub returns-then-bytes-eq46-clause-rest : goal.returns-then-bytes-eq46-clause-rest
 returns-then-bytes-eq46-clause-rest c = λ front rest t.
     let taken = point_taken c in
-    (point_tail c.args.most c.args.bytes.now front rest c.split_at.result.0.now c.split_at.result.1.now taken.text_is taken.all_digits
-    taken.ends t).1
-
-pub returns-then-bytes-eq46-clause-small : goal.returns-then-bytes-eq46-clause-small
-returns-then-bytes-eq46-clause-small c =
-    let taken = point_taken c in
-    rw taken.value (digits_small c.args.number c.split_at.result.0.now c.args.most taken.all_digits taken.few c.requires)
-
-pub returns-clause-small : goal.returns-clause-small
-returns-clause-small c =
-    let more = no_more (c.args.number + 1) c.args.most in
-    omega (arith, more, c.requires)
+    let left = c.places_left.ensures in
+    (point_tail c.places_left.result c.args.bytes.now front rest c.split_at.result.0.now c.split_at.result.1.now taken.text_is
+    taken.all_digits taken.ends c.args.number c.args.count left.zero left.others t).1
