@@ -1,6 +1,7 @@
 -- What the reader of a tail owes.
-use Rattle.std.proofs.Common.{◌≡◌, ℕ, ◌-◌, ◌<◌, Bool, true, List, [], ◌∷◌, ◌++◌, length, get_or, take, drop, refl, sym, ◌∙◌, arith}
-use Rattle.std.specs.Prelude.{ℤ}
+use Rattle.std.proofs.Common.{◌≡◌, ℕ, ◌-◌, ◌<◌, Bool, false, true, List, [], ◌∷◌, ◌++◌, length, get_or, take, drop, refl, sym, ◌∙◌, arith}
+use Rattle.std.specs.Prelude.{ℤ, nat_eq, not}
+use Rattle.std.proofs.lemmas.Bool.Decides.{nat_tests}
 use Rattle.std.proofs.lemmas.List.{take_rest}
 use Rattle.ijson_number.specs.Grammar.{AllDigits, IsDigits, IsFraction, IsExponent}
 use Rattle.ijson_number.specs.private.Reading.{BeginsWithNoDigit, IsTail}
@@ -49,3 +50,35 @@ module _ (bytes a rest : List ℕ) (h : 0 < length bytes) (e : get_or bytes 0 0 
   pub no_tail_at_point : AllDigits a → BeginsWithNoDigit rest → ((z : ℤ) (w : Bool) → IsExponent rest z w → ⊥)
       → (f : List ℕ) (z : ℤ) (p : Bool) → IsTail bytes f z p → ⊥
   no_tail_at_point = no_tail bytes a rest point_first
+
+-- a tail with no point
+pub tail_without_point : (bytes : List ℕ) (z : ℤ) (w empty : Bool) → empty ≡ nat_eq (length bytes) 0 → IsExponent bytes z w
+    → IsTail bytes [] z (not empty)
+tail_without_point [] z w empty e x = record {
+  fraction_text = [];
+  exponent_text = [];
+  has_point = false;
+  has_exponent = w;
+  text_is = refl;
+  fraction_is = (refl, refl);
+  exponent_is = x;
+  point_is = rw (e, x.1) refl;
+}
+tail_without_point (b ∷ bs) z w empty e x = record {
+  fraction_text = [];
+  exponent_text = b ∷ bs;
+  has_point = false;
+  has_exponent = w;
+  text_is = refl;
+  fraction_is = (refl, refl);
+  exponent_is = x;
+  point_is = let some : not empty ≡ true = grind (arith, nat_tests) in some ∙ sym x.2;
+}
+
+pub no_tail_without_point : (bytes : List ℕ) → (0 < length bytes → get_or bytes 0 0 ≡ 46 → ⊥)
+    → ((z : ℤ) (w : Bool) → IsExponent bytes z w → ⊥) → (f : List ℕ) (z : ℤ) (p : Bool) → IsTail bytes f z p → ⊥
+no_tail_without_point bytes other none f z p t = by_front t.fraction_text t.exponent_text t.text_is t.fraction_is t.exponent_is
+  where
+    by_front : (ft et : List ℕ) → bytes ≡ ft ++ et → IsFraction ft f t.has_point → IsExponent et z t.has_exponent → ⊥
+    by_front [] et e g h = none z t.has_exponent (rw e h)
+    by_front (b ∷ ft) et e g h = other (rw e (omega arith)) (rw e g.0)

@@ -3,11 +3,11 @@ use Rattle.std.proofs.Common.{◌≡◌, ◌≢◌, ℕ, ◌*◌, ◌%◌, ◌^�
 use Rattle.std.specs.Prelude.{ℤ, pos, negsuc, neg_ℤ, nat_abs, int_le, int_lt, ◌+ℤ◌, ◌<ℤ◌, FitsSigned}
 use Rattle.std.specs.Int.{FitsUnsigned}
 use mir.Syntax.{w64}
-use Rattle.ijson_number.proofs.storing.FormCases.{within}
+use Rattle.ijson_number.proofs.storing.FormCases.{integer_packed, integer_signed, left, taken, within}
 use Rattle.std.specs.Int.Digits.{number_from_digits, digits_of}
 use Rattle.std.proofs.lemmas.Int.{ints}
 use Rattle.std.proofs.lemmas.Int.Digits.{number_digits_of}
-use Rattle.ijson_number.specs.Decimal.{Decimal}
+use Rattle.ijson_number.specs.Decimal.{Decimal, IsPlain}
 use Rattle.ijson_number.specs.Form.{FormOf, packed, signed_word, unsigned_word, fits_packed}
 use Rattle.ijson_number.specs.Form.{fits_i64, fits_u64, digits_form, integer_form, form_of}
 use Rattle.ijson_number.specs.FormNumber.{form_number, integer_word}
@@ -179,3 +179,19 @@ word_fits z h = both_hold (int_le (pos 0) z) (int_lt z (pos (2 ^ 64))) (le_test 
 -- a packed mantissa is a signed word
 pub packed_word : (z : ℤ) → fits_packed z ≡ true → FitsSigned w64 z
 packed_word z t = let w = within (neg_ℤ (pos 36028797018963968)) (pos 36028797018963968) z t in grind (arith, ints)
+
+pub not_packed : (z : ℤ) → fits_i64 z ≡ false → fits_packed z ≡ false
+not_packed z h = by_test (fits_packed z) refl
+  where
+    by_test : (b : Bool) → fits_packed z ≡ b → fits_packed z ≡ false
+    by_test true t = absurd (let e = signed_fits z (packed_word z t) in cc)
+    by_test false t = t
+
+-- an integer that fits a signed word is packed or that word
+pub integer_word_is : (n : Decimal) (z : ℤ) → IsPlain n → n.point ≡ false → HasValue n z → fits_i64 z ≡ true → form_of n ≡ integer_word z
+integer_word_is n z plain no_point value fits = by_packed (fits_packed z) refl
+  where
+    by_packed : (b : Bool) → fits_packed z ≡ b → form_of n ≡ integer_word z
+    by_packed true h = integer_packed n z plain no_point value h ∙ sym (taken (fits_packed z) _ _ h)
+    by_packed false h = integer_signed n z plain no_point value h fits
+        ∙ sym (left (fits_packed z) _ _ h ∙ taken (fits_i64 z) _ _ fits)

@@ -111,22 +111,17 @@ fn read_tail(bytes: &[u8]) -> Option<Tail<'_>>
     ensures none { IfNone result
         ((fraction : List ℕ) (z : ℤ) (point : Bool) → IsTail bytes.now fraction z point → ⊥) }
 {
+    let mut fraction: &[u8] = &[];
+    let mut rest = bytes;
     if !bytes.is_empty() && bytes[0] == b'.' {
-        let (fraction, rest) = split_digits(&bytes[1..]);
+        (fraction, rest) = split_digits(&bytes[1..]);
         if fraction.is_empty() {
             return None;
         }
-        let (negative, exponent) = read_exponent(rest)?;
-        return Some(Tail {
-            fraction,
-            negative,
-            exponent,
-            point: true,
-        });
     }
-    let (negative, exponent) = read_exponent(bytes)?;
+    let (negative, exponent) = read_exponent(rest)?;
     Some(Tail {
-        fraction: &[],
+        fraction,
         negative,
         exponent,
         point: !bytes.is_empty(),

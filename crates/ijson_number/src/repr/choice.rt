@@ -59,14 +59,12 @@ impl StrippedNumber<'_> {
         ensures none { IfNone result (form_of (decimal_of self.now) ≡ digits_form (decimal_of self.now)) }
     {
         let value = self.whole()?;
-        if is_packed_mantissa(value) {
-            Some(Stored::Packed(Word::integer(value as i64)))
-        } else if let Ok(value) = i64::try_from(value) {
-            Some(Stored::I64(value))
-        } else if let Ok(value) = u64::try_from(value) {
-            Some(Stored::U64(value))
-        } else {
-            None
+        if let Ok(value) = i64::try_from(value) {
+            return Some(stored_signed(value));
+        }
+        match u64::try_from(value) {
+            Ok(value) => Some(Stored::U64(value)),
+            Err(_) => None,
         }
     }
 

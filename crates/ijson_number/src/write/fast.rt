@@ -251,21 +251,22 @@ impl INumber {
         ensures refused { OnErr result
             (AppendsBeginning (string_bytes out.old) (string_bytes out.new) (num_text self.now.decimal)) }
     {
-        match &self.stored {
+        let (negative, magnitude) = match &self.stored {
             Stored::Packed(word) => {
                 let mantissa = word.mantissa();
                 if word.point() {
                     return push_pointed(mantissa, word.exponent(), out);
                 }
-                push_integer(mantissa < 0, mantissa.unsigned_abs(), out)?;
+                (mantissa < 0, mantissa.unsigned_abs())
             }
-            Stored::I64(value) => push_integer(*value < 0, value.unsigned_abs(), out)?,
-            Stored::U64(value) => push_integer(false, *value, out)?,
+            Stored::I64(value) => (*value < 0, value.unsigned_abs()),
+            Stored::U64(value) => (false, *value),
             Stored::Short(number) => return number
                 .stripped()
                 .push_digits(number.digits.lanes(), out),
             Stored::Long(_) => return Ok(false),
-        }
+        };
+        push_integer(negative, magnitude, out)?;
         Ok(true)
     }
 

@@ -1,59 +1,47 @@
-use Rattle.std.proofs.Common.{rules, arith, ◌<◌, length}
+use Rattle.std.proofs.Common.{◌≡◌, ◌<◌, length, true, arith, rules}
+use Rattle.std.specs.Prelude.{not}
 use Rattle.std.proofs.lemmas.Grind.{common_steps}
-use Rattle.ijson_number.proofs.parsing.NumberTails.{tail_at_point, no_tail_at_point}
+use Rattle.ijson_number.proofs.parsing.NumberTails.{tail_at_point, no_tail_at_point, tail_without_point, no_tail_without_point}
 use Rattle.ijson_number.proofs.parse.exact.read_tail.Goals as goal
+use Rattle.ijson_number.proofs.parse.exact.read_tail.Goals.{then-not-is_empty+then-bytes-eq46+else-is_empty, else-not-is_empty}
+use Rattle.ijson_number.proofs.parse.exact.read_tail.Goals.{else-not-is_empty-via-then-not-is_empty+else-bytes-eq46}
+use Rattle.ijson_number.proofs.parse.exact.read_tail.Goals.{else-not-is_empty-via-else-not-is_empty}
 
 pub returns-in_err-negative-clause-none : goal.returns-in_err-negative-clause-none
 returns-in_err-negative-clause-none c =
-    let l : 0 < length c.args.bytes.now = grind arith in
-    rw c.from_residual.ensures
-    (no_tail_at_point c.args.bytes.now c.split_digits.result.0.now c.split_digits.result.1.now l c.if-bytes-eq46.true
-    c.split_digits.ensures.text c.split_digits.ensures.digits c.split_digits.ensures.rest c.in_err-negative.ensures.none)
-
-pub returns-then-bytes-eq46-clause-found : goal.returns-then-bytes-eq46-clause-found
-returns-then-bytes-eq46-clause-found c =
-    let l : 0 < length c.args.bytes.now = grind arith in
-    let m : 0 < length c.split_digits.result.0.now = grind arith in
-    let x = c.in_ok-negative.ensures.found in
-    tail_at_point c.args.bytes.now c.split_digits.result.0.now c.split_digits.result.1.now l c.if-bytes-eq46.true
-    c.split_digits.ensures.text _ x.0 m c.split_digits.ensures.digits x.1
-
--- what the check tries where no answer stands takes longer than these
-pub returns-then-is_empty-clause-found : goal.returns-then-is_empty-clause-found
-returns-then-is_empty-clause-found c = search rules
-
-pub returns-then-is_empty-clause-digits : goal.returns-then-is_empty-clause-digits
-returns-then-is_empty-clause-digits c = search rules
-
-pub returns-then-is_empty-clause-none : goal.returns-then-is_empty-clause-none
-returns-then-is_empty-clause-none c = grind (arith, common_steps)
-
-pub returns-in_err-negative-clause-found : goal.returns-in_err-negative-clause-found
-returns-in_err-negative-clause-found c = search rules
-
-pub returns-in_err-negative-clause-digits : goal.returns-in_err-negative-clause-digits
-returns-in_err-negative-clause-digits c = search rules
-
-pub returns-then-bytes-eq46-clause-digits : goal.returns-then-bytes-eq46-clause-digits
-returns-then-bytes-eq46-clause-digits c = search rules
-
-pub returns-then-bytes-eq46-clause-none : goal.returns-then-bytes-eq46-clause-none
-returns-then-bytes-eq46-clause-none c = search rules
-
-pub returns-in_err-negative-2-clause-found : goal.returns-in_err-negative-2-clause-found
-returns-in_err-negative-2-clause-found c = search rules
-
-pub returns-in_err-negative-2-clause-digits : goal.returns-in_err-negative-2-clause-digits
-returns-in_err-negative-2-clause-digits c = search rules
-
-pub returns-in_err-negative-2-clause-none : goal.returns-in_err-negative-2-clause-none
-returns-in_err-negative-2-clause-none c = search rules
+    let bytes = c.args.bytes.now in
+    rw c.from_residual.ensures (elim c.if-not-is_empty.branch [
+      | then-not-is_empty+then-bytes-eq46+else-is_empty w ↦ (
+        let l : 0 < length bytes = grind arith in
+        no_tail_at_point bytes w.split_digits.result.0.now w.split_digits.result.1.now l w.if-bytes-eq46.true w.split_digits.ensures.text
+        w.split_digits.ensures.digits w.split_digits.ensures.rest (rw w.rest-is at c.in_err-negative.ensures.none)
+      )
+      | else-not-is_empty w ↦
+          no_tail_without_point bytes
+          (λ l e. elim w.else-not-is_empty.branch [
+            | else-not-is_empty-via-then-not-is_empty+else-bytes-eq46 v ↦ v.if-bytes-eq46.false e
+            | else-not-is_empty-via-else-not-is_empty v ↦ grind arith
+          ])
+          (rw w.rest-is at c.in_err-negative.ensures.none)
+    ])
 
 pub returns-clause-found : goal.returns-clause-found
-returns-clause-found c = search rules
+returns-clause-found c =
+    let bytes = c.args.bytes.now in
+    let found = c.in_ok-negative.ensures.found in
+    elim c.if-not-is_empty.branch [
+      | then-not-is_empty+then-bytes-eq46+else-is_empty w ↦ (
+        let l : 0 < length bytes = grind arith in
+        let m : 0 < length w.split_digits.result.0.now = grind arith in
+        let point : not c.is_empty-2.result ≡ true = grind arith in
+        rw (w.fraction-is, point)
+        (tail_at_point bytes w.split_digits.result.0.now w.split_digits.result.1.now l w.if-bytes-eq46.true w.split_digits.ensures.text _
+        found.0 m w.split_digits.ensures.digits (rw w.rest-is at found.1))
+      )
+      | else-not-is_empty w ↦
+          rw w.fraction-is (tail_without_point bytes _ found.0 c.is_empty-2.result c.is_empty-2.ensures (rw w.rest-is at found.1))
+    ]
 
-pub returns-clause-digits : goal.returns-clause-digits
-returns-clause-digits c = search rules
-
-pub returns-clause-none : goal.returns-clause-none
-returns-clause-none c = search rules
+-- what the check tries where no answer stands takes longer than these
+pub returns-then-is_empty-clause-none : goal.returns-then-is_empty-clause-none
+returns-then-is_empty-clause-none c = grind (arith, common_steps)
