@@ -1,3 +1,4 @@
+pub mod Pushed
 pub mod Reading
 pub mod PrefixDigits
 pub mod Scanned

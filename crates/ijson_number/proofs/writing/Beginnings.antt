@@ -1,7 +1,10 @@
 -- What an append leaves that was refused.
-use Rattle.std.proofs.Common.{◌≡◌, ℕ, List, [], ◌++◌, refl, sym, ap, ◌∙◌, append_assoc}
+use Rattle.std.proofs.Common.{◌≡◌, ℕ, Bool, Result, List, [], ◌++◌, refl, sym, ap, ◌∙◌, append_assoc}
+use Rattle.std.specs.Prelude.{IsErr}
 use Rattle.std.proofs.lemmas.List.{append-nil}
+use Rattle.std.proofs.lemmas.Result.{MatchResult-from_err}
 use Rattle.ijson_number.specs.AppendsBeginning.{AppendsBeginning}
+use Rattle.ijson_number.specs.private.Pushed.{Pushed}
 
 -- nothing was appended
 pub none_begun : (old new text : List ℕ) → new ≡ old → AppendsBeginning old new text
@@ -48,3 +51,8 @@ begun_as old new piece text w f = record {
   is = sym f ∙ w.is;
   taken = w.taken;
 }
+
+-- what is told where memory was refused
+pub refused_pushed : {E : Type 0} (r : Result Bool E) (old new text : List ℕ) → IsErr r → AppendsBeginning old new text
+    → Pushed r old new text
+refused_pushed r old new text e w = MatchResult-from_err r _ _ e (λ _. w)

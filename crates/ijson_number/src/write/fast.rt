@@ -7,6 +7,7 @@ ghost use Rattle.ijson_number.specs.AppendsBeginning.{AppendsBeginning};
 ghost use Rattle.ijson_number.specs.Form.{form_of, is_digits, packed};
 ghost use Rattle.ijson_number.specs.Text.{digits_text, minus_text, num_text, zeros_text};
 ghost use Rattle.ijson_number.specs.Stripped.{stripped_number};
+ghost use Rattle.ijson_number.specs.private.Pushed.{Pushed};
 ghost use Rattle.ijson_number.specs.private.SplitText.{split_text};
 ghost use Rattle.ijson_number.specs.private.StrippedNumber.{decimal_of};
 ghost use Rattle.ijson_number.specs.private.WordText.{integer_text, pointed_text};
@@ -85,12 +86,9 @@ pub fn push_integer(negative: bool, magnitude: u64, out: &mut String) -> Result<
 #[inline(always)]
 fn push_pointed(mantissa: i64, exponent: i8, out: &mut String) -> Result<bool, AllocError>
     requires { form_of (stripped_number mantissa exponent true) ≡ packed mantissa exponent true }
-    ensures done { IfOk result (λ d. IsTrue d → string_bytes out.new
-        ≡ string_bytes out.old ++ num_text (stripped_number mantissa exponent true)) }
-    ensures left { IfOk result (λ d. IsFalse d → string_bytes out.new ≡ string_bytes out.old) }
+    ensures pushed { Pushed result (string_bytes out.old) (string_bytes out.new)
+        (num_text (stripped_number mantissa exponent true)) }
     ensures short { neg_ℤ (pos 6) ≤ℤ exponent → exponent ≤ℤ pos 0 → IfOk result (λ d. IsTrue d) }
-    ensures refused { OnErr result (AppendsBeginning (string_bytes out.old) (string_bytes out.new)
-        (num_text (stripped_number mantissa exponent true))) }
 {
     let (negative, magnitude) = (mantissa < 0, mantissa.unsigned_abs());
     if exponent > 0 || (exponent < -6 && magnitude < 10) {
@@ -167,17 +165,13 @@ impl StrippedNumber<'_> {
         requires point { self.now.point ≡ true }
         requires lanes { length self.now.digits.now ≤ 16
             → drop (16 - length self.now.digits.now) lanes ≡ digits_text self.now.digits.now }
-        ensures done { IfOk result (λ d. IsTrue d → string_bytes out.new
-            ≡ string_bytes out.old ++ num_text (decimal_of self.now)) }
-        ensures left { IfOk result (λ d. IsFalse d → string_bytes out.new ≡ string_bytes out.old) }
+        ensures pushed { Pushed result (string_bytes out.old) (string_bytes out.new) (num_text (decimal_of self.now)) }
         ensures before { self.now.exponent <ℤ pos 0
             → length self.now.digits.now ≤ nat_abs self.now.exponent
             → nat_abs self.now.exponent ≤ length self.now.digits.now + 5 → IfOk result (λ d. IsTrue d) }
         ensures exponent { (int_le (pos (length self.now.digits.now) +ℤ self.now.exponent) (negsuc 5)
             || int_lt (pos 20) self.now.exponent) ≡ true
             → 1 < length self.now.digits.now → length self.now.digits.now ≤ 17 → IfOk result (λ d. IsTrue d) }
-        ensures refused { OnErr result
-            (AppendsBeginning (string_bytes out.old) (string_bytes out.new) (num_text (decimal_of self.now))) }
     {
         let count = self.digits.len();
         let place = place_of(self.digits, self.exponent);
@@ -206,9 +200,7 @@ impl StrippedNumber<'_> {
         requires all { length lanes ≡ 16 }
         requires lanes { length self.now.digits.now ≤ 16
             → drop (16 - length self.now.digits.now) lanes ≡ digits_text self.now.digits.now }
-        ensures done { IfOk result (λ d. IsTrue d → string_bytes out.new
-            ≡ string_bytes out.old ++ num_text (decimal_of self.now)) }
-        ensures left { IfOk result (λ d. IsFalse d → string_bytes out.new ≡ string_bytes out.old) }
+        ensures pushed { Pushed result (string_bytes out.old) (string_bytes out.new) (num_text (decimal_of self.now)) }
         ensures between { self.now.point ≡ true → self.now.exponent <ℤ pos 0
             → nat_abs self.now.exponent < length self.now.digits.now → nat_abs self.now.exponent ≤ 16
             → length self.now.digits.now ≤ nat_abs self.now.exponent + 16 → IfOk result (λ d. IsTrue d) }
@@ -219,8 +211,6 @@ impl StrippedNumber<'_> {
             → (int_le (pos (length self.now.digits.now) +ℤ self.now.exponent) (negsuc 5)
             || int_lt (pos 20) self.now.exponent) ≡ true
             → 1 < length self.now.digits.now → length self.now.digits.now ≤ 17 → IfOk result (λ d. IsTrue d) }
-        ensures refused { OnErr result
-            (AppendsBeginning (string_bytes out.old) (string_bytes out.new) (num_text (decimal_of self.now))) }
     {
         let scale = self.exponent.unsigned_abs() as usize;
         let count = self.digits.len();
@@ -243,13 +233,9 @@ impl INumber {
     /// Where it tells `false` it appended nothing.
     #[inline(always)]
     fn push_plain(&self, out: &mut String) -> Result<bool, AllocError>
-        ensures done { IfOk result (λ d. IsTrue d → string_bytes out.new
-            ≡ string_bytes out.old ++ num_text self.now.decimal) }
-        ensures left { IfOk result (λ d. IsFalse d → string_bytes out.new ≡ string_bytes out.old) }
+        ensures pushed { Pushed result (string_bytes out.old) (string_bytes out.new) (num_text self.now.decimal) }
         ensures whole { is_digits (form_of self.now.decimal) ≡ false
             → self.now.decimal.point ≡ false → IfOk result (λ d. IsTrue d) }
-        ensures refused { OnErr result
-            (AppendsBeginning (string_bytes out.old) (string_bytes out.new) (num_text self.now.decimal)) }
     {
         let (negative, magnitude) = match &self.stored {
             Stored::Packed(word) => {

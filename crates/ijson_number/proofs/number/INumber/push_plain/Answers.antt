@@ -2,6 +2,7 @@ use Rattle.std.proofs.Common.{◌≡◌, ◌^◌, ◌<◌, ◌∙◌, ◌++◌, 
 use Rattle.std.specs.Prelude.{false, pos, int_lt, nat_abs, FitsSigned}
 use Rattle.std.specs.String.{string_bytes}
 use Rattle.std.proofs.lemmas.Int.{to_z-of_z}
+use Rattle.std.proofs.lemmas.Result.{IfOk-from_err}
 use mir.Syntax.{w64}
 use mir.Val.{of_z, to_z}
 use Rattle.ijson_number.specs.Num.{Num}
@@ -10,8 +11,7 @@ use Rattle.ijson_number.specs.private.ShortDigits.{short_digits}
 use Rattle.ijson_number.specs.private.Stored.{stored_decimal}
 use Rattle.ijson_number.specs.private.WordText.{integer_text}
 use Rattle.ijson_number.specs.Text.{num_text}
-use Rattle.ijson_number.proofs.AnyAnswer.{where_refused}
-use Rattle.ijson_number.proofs.writing.Beginnings.{begun_as}
+use Rattle.ijson_number.proofs.writing.Beginnings.{begun_as, refused_pushed}
 use Rattle.ijson_number.proofs.writing.WordTexts.{integer_shown, packed_integer, unsigned_shown}
 use Rattle.ijson_number.proofs.number.INumber.push_plain.Goals as goal
 use Rattle.ijson_number.proofs.number.INumber.push_plain.Goals.{After-push_integer, in-I64, in-Packed+else-point, in-U64}
@@ -51,12 +51,20 @@ shown c =
       )
     ]
 
-pub returns-clause-done : goal.returns-clause-done
-returns-clause-done c = λ t.
-    c.in_ok-push_integer.ensures.written
-    ∙ ap (λ x. string_bytes c.args.out.now ++ x) (shown (goal.at.returns-clause-done c).After-push_integer)
+pub returns : goal.returns
+returns c = record {
+  pushed = c.in_ok-push_integer.ensures.written
+      ∙ ap (λ x. string_bytes c.args.out.now ++ x) (shown (goal.at.returns c).After-push_integer);
+  whole = λ _ _. refl;
+}
 
-pub returns-in_err-push_integer-clause-refused : goal.returns-in_err-push_integer-clause-refused
-returns-in_err-push_integer-clause-refused c =
-    where_refused _ (begun_as (string_bytes c.args.out.now) (string_bytes c.push_integer.new.out) _ _
-    c.in_err-push_integer.ensures.refused (shown (goal.at.returns-in_err-push_integer-clause-refused c).After-push_integer))
+pub returns-in_err-push_integer : goal.returns-in_err-push_integer
+returns-in_err-push_integer c =
+    let e = c.from_residual.ensures.0 in
+    let old = string_bytes c.args.out.now in
+    record {
+      pushed = refused_pushed _ old (string_bytes c.push_integer.new.out) _ e
+          (begun_as old (string_bytes c.push_integer.new.out) _ _ c.in_err-push_integer.ensures.refused
+          (shown (goal.at.returns-in_err-push_integer c).After-push_integer));
+      whole = λ _ _. IfOk-from_err _ _ e;
+    }

@@ -3,13 +3,13 @@ use Rattle.std.specs.Prelude.{pos, nat_abs, int_lt, ◌<ℤ◌}
 use Rattle.std.specs.Fmt.{decimal}
 use Rattle.std.specs.String.{string_bytes}
 use Rattle.std.proofs.lemmas.Int.{to_z-of_z}
+use Rattle.std.proofs.lemmas.Result.{IfOk-from_err}
 use mir.Syntax.{w8, w64}
 use mir.Val.{of_z, to_z}
 use Rattle.ijson_number.specs.Stripped.{stripped_number}
 use Rattle.ijson_number.specs.Text.{minus_text, num_text}
 use Rattle.ijson_number.specs.private.WordText.{integer_text, pointed_text}
-use Rattle.ijson_number.proofs.AnyAnswer.{where_refused}
-use Rattle.ijson_number.proofs.writing.Beginnings.{begun_as, front_begun, some_begun}
+use Rattle.ijson_number.proofs.writing.Beginnings.{begun_as, front_begun, refused_pushed, some_begun}
 use Rattle.ijson_number.proofs.writing.FractionTexts.{below_point, exponent_small, fraction_shown, many_places}
 use Rattle.ijson_number.proofs.writing.WordTexts.{whole_shown}
 use Rattle.ijson_number.proofs.write.fast.push_pointed.Goals as goal
@@ -53,34 +53,56 @@ push_magnitude-requires c =
     let at = (goal.at.push_magnitude-requires c).After-from-scale in
     omega (arith, scale_is at, exponent_small c.args.mantissa c.args.exponent (below at) c.requires)
 
-pub returns-then-exponent-eq0-clause-done : goal.returns-then-exponent-eq0-clause-done
-returns-then-exponent-eq0-clause-done c = λ t.
+pub returns-then-exponent-eq0 : goal.returns-then-exponent-eq0
+returns-then-exponent-eq0 c =
     let a = c.args in
-    c.in_ok-push_str.ensures.bytes ∙ ap (λ x. x ++ 46 ∷ 48 ∷ []) (c.in_ok-push_integer.ensures.written)
-    ∙ append_assoc (string_bytes a.out.now) (integer_text (int_lt (to_z w64 (of_z w64 a.mantissa)) (pos 0)) c.unsigned_abs-magnitude.result)
-    (46 ∷ 48 ∷ []) ∙ ap (λ x. string_bytes a.out.now ++ x) (whole_text (goal.at.returns-then-exponent-eq0-clause-done c).Then-exponent-eq0)
+    record {
+      pushed = c.in_ok-push_str.ensures.bytes ∙ ap (λ x. x ++ 46 ∷ 48 ∷ []) (c.in_ok-push_integer.ensures.written)
+          ∙ append_assoc (string_bytes a.out.now) (integer_text (int_lt (to_z w64 (of_z w64 a.mantissa)) (pos 0))
+          c.unsigned_abs-magnitude.result) (46 ∷ 48 ∷ [])
+          ∙ ap (λ x. string_bytes a.out.now ++ x) (whole_text (goal.at.returns-then-exponent-eq0 c).Then-exponent-eq0);
+      short = λ _ _. refl;
+    }
 
-pub returns-clause-done : goal.returns-clause-done
-returns-clause-done c = λ t.
-    c.in_ok-push_magnitude.ensures.written
-    ∙ ap (λ x. string_bytes c.args.out.now ++ x) (fraction_text (goal.at.returns-clause-done c).After-from-scale)
+pub returns : goal.returns
+returns c = record {
+  pushed = c.in_ok-push_magnitude.ensures.written
+      ∙ ap (λ x. string_bytes c.args.out.now ++ x) (fraction_text (goal.at.returns c).After-from-scale);
+  short = λ _ _. refl;
+}
 
-pub returns-in_err-push_magnitude-clause-refused : goal.returns-in_err-push_magnitude-clause-refused
-returns-in_err-push_magnitude-clause-refused c =
-    where_refused _ (begun_as (string_bytes c.args.out.now) (string_bytes c.push_magnitude.new.out) _ _
-    c.in_err-push_magnitude.ensures.refused (fraction_text (goal.at.returns-in_err-push_magnitude-clause-refused c).After-from-scale))
+pub returns-in_err-push_magnitude : goal.returns-in_err-push_magnitude
+returns-in_err-push_magnitude c =
+    let e = c.from_residual-in_err-push_magnitude.ensures.0 in
+    let old = string_bytes c.args.out.now in
+    record {
+      pushed = refused_pushed _ old (string_bytes c.push_magnitude.new.out) _ e
+          (begun_as old (string_bytes c.push_magnitude.new.out) _ _ c.in_err-push_magnitude.ensures.refused
+          (fraction_text (goal.at.returns-in_err-push_magnitude c).After-from-scale));
+      short = λ _ _. IfOk-from_err _ _ e;
+    }
 
-pub returns-in_err-push_integer-clause-refused : goal.returns-in_err-push_integer-clause-refused
-returns-in_err-push_integer-clause-refused c =
+pub returns-in_err-push_integer : goal.returns-in_err-push_integer
+returns-in_err-push_integer c =
     let a = c.args in
-    where_refused _ (front_begun (string_bytes a.out.now) (string_bytes c.push_integer.new.out)
-    (integer_text (int_lt (to_z w64 (of_z w64 a.mantissa)) (pos 0)) c.unsigned_abs-magnitude.result) (46 ∷ 48 ∷ []) _
-    c.in_err-push_integer.ensures.refused (whole_text (goal.at.returns-in_err-push_integer-clause-refused c).Then-exponent-eq0))
+    let e = c.from_residual.ensures.0 in
+    record {
+      pushed = refused_pushed _ (string_bytes a.out.now) (string_bytes c.push_integer.new.out) _ e
+          (front_begun (string_bytes a.out.now) (string_bytes c.push_integer.new.out)
+          (integer_text (int_lt (to_z w64 (of_z w64 a.mantissa)) (pos 0)) c.unsigned_abs-magnitude.result) (46 ∷ 48 ∷ []) _
+          c.in_err-push_integer.ensures.refused (whole_text (goal.at.returns-in_err-push_integer c).Then-exponent-eq0));
+      short = λ _ _. IfOk-from_err _ _ e;
+    }
 
-pub returns-in_err-push_str-clause-refused : goal.returns-in_err-push_str-clause-refused
-returns-in_err-push_str-clause-refused c =
+pub returns-in_err-push_str : goal.returns-in_err-push_str
+returns-in_err-push_str c =
     let a = c.args in
-    where_refused _ (some_begun (string_bytes a.out.now) _
-    (integer_text (int_lt (to_z w64 (of_z w64 a.mantissa)) (pos 0)) c.unsigned_abs-magnitude.result) (46 ∷ 48 ∷ []) _
-    (c.in_err-push_str.ensures.bytes ∙ c.in_ok-push_integer.ensures.written)
-    (whole_text (goal.at.returns-in_err-push_str-clause-refused c).Then-exponent-eq0))
+    let e = c.from_residual-in_err-push_str.ensures.0 in
+    record {
+      pushed = refused_pushed _ (string_bytes a.out.now) _ _ e
+          (some_begun (string_bytes a.out.now) _
+          (integer_text (int_lt (to_z w64 (of_z w64 a.mantissa)) (pos 0)) c.unsigned_abs-magnitude.result) (46 ∷ 48 ∷ []) _
+          (c.in_err-push_str.ensures.bytes ∙ c.in_ok-push_integer.ensures.written)
+          (whole_text (goal.at.returns-in_err-push_str c).Then-exponent-eq0));
+      short = λ _ _. IfOk-from_err _ _ e;
+    }

@@ -1,15 +1,17 @@
-use Rattle.std.proofs.Common.{◌≡◌, ◌<◌, false, ◌∙◌, ◌-◌, ◌++◌, ◌∷◌, [], ap, ap₂, sym, refl, append_assoc, List, ℕ, true, length, arith, rules}
+use Rattle.std.proofs.Common.{◌≡◌, ◌<◌, false, ◌∙◌, ◌-◌, ◌++◌, ◌∷◌, [], ap, ap₂, sym, refl}
+use Rattle.std.proofs.Common.{append_assoc, List, ℕ, true, length, arith, rules}
 use Rattle.std.specs.Prelude.{ℤ, FitsSigned, pos, ◌≤ℤ◌, ◌-ℤ◌, ◌+ℤ◌, ◌||◌, int_le, int_lt, nat_abs, negsuc}
 use Rattle.std.specs.String.{string_bytes}
 use Rattle.std.proofs.lemmas.Int.{ints, to_z-of_z}
+use Rattle.std.proofs.lemmas.Result.{IfOk-from_err}
+use Rattle.std.proofs.lemmas.Grind.{common_steps}
 use mir.Syntax.{w32, w128}
 use mir.Val.{of_z, to_z}
 use Rattle.ijson_number.specs.Text.{digits_text, minus_text, num_text, zeros_text}
 use Rattle.ijson_number.specs.private.SplitText.{split_text}
 use Rattle.ijson_number.specs.private.StrippedNumber.{decimal_of}
 use Rattle.ijson_number.specs.private.WordText.{integer_text}
-use Rattle.ijson_number.proofs.AnyAnswer.{where_refused}
-use Rattle.ijson_number.proofs.writing.Beginnings.{begun_as, last_begun, none_begun, some_begun}
+use Rattle.ijson_number.proofs.writing.Beginnings.{begun_as, last_begun, none_begun, refused_pushed, some_begun}
 use Rattle.ijson_number.proofs.writing.SplitTexts.{fraction_shown, scientific_shown}
 use Rattle.ijson_number.proofs.repr.stripped.StrippedNumber.push_unsplit.Goals as goal
 use Rattle.ijson_number.proofs.repr.stripped.StrippedNumber.push_unsplit.Goals.{After-push, After-push_fraction, After-push_split}
@@ -61,40 +63,63 @@ both c magnitude is =
     ∙ ap (λ k. text ++ 101 ∷ integer_text (int_lt (power c) (pos 0)) k) is
     ∙ scientific c (power c) one_less
 
-pub returns-clause-done : goal.returns-clause-done
+pub returns : goal.returns
 unfolding lib.Utf8.encode
-returns-clause-done c = λ t.
-    let at = goal.at.returns-clause-done c in
+returns c =
+    let at = goal.at.returns c in
     let old = string_bytes c.args.out.now in
     let text = parts at.After-push_split c.unsigned_abs-2.result in
-    c.in_ok-push_integer.ensures.written
-    ∙ ap (λ x. x ++ text.1) (c.in_ok-push.ensures.bytes ∙ ap (λ x. x ++ 101 ∷ []) (split at.After-push))
-    ∙ ap (λ x. x ++ text.1) (append_assoc old _ (101 ∷ [])) ∙ append_assoc old text.0 text.1
-    ∙ ap (λ x. old ++ x) (both at.After-push_split c.unsigned_abs-2.result c.unsigned_abs-2.ensures.value)
+    record {
+      pushed = c.in_ok-push_integer.ensures.written
+          ∙ ap (λ x. x ++ text.1) (c.in_ok-push.ensures.bytes ∙ ap (λ x. x ++ 101 ∷ []) (split at.After-push))
+          ∙ ap (λ x. x ++ text.1) (append_assoc old _ (101 ∷ [])) ∙ append_assoc old text.0 text.1
+          ∙ ap (λ x. old ++ x) (both at.After-push_split c.unsigned_abs-2.result c.unsigned_abs-2.ensures.value);
+      before = λ _ _ _. refl;
+      exponent = λ _ _ _. refl;
+    }
 
-pub returns-in_err-push_split-clause-refused : goal.returns-in_err-push_split-clause-refused
-returns-in_err-push_split-clause-refused c =
-    where_refused _ (none_begun (string_bytes c.args.out.now) (string_bytes c.push_split.new.out) _ c.in_err-push_split.ensures.refused)
+pub returns-in_err-push_split : goal.returns-in_err-push_split
+returns-in_err-push_split c =
+    let e = c.from_residual-in_err-push_split.ensures.0 in
+    let old = string_bytes c.args.out.now in
+    record {
+      pushed = refused_pushed _ old (string_bytes c.push_split.new.out) _ e
+          (none_begun old (string_bytes c.push_split.new.out) _ c.in_err-push_split.ensures.refused);
+      before = λ _ _ _. IfOk-from_err _ _ e;
+      exponent = λ _ _ _. IfOk-from_err _ _ e;
+    }
 
-pub returns-in_err-push-clause-refused : goal.returns-in_err-push-clause-refused
-returns-in_err-push-clause-refused c =
-    let at = goal.at.returns-in_err-push-clause-refused c in
+pub returns-in_err-push : goal.returns-in_err-push
+returns-in_err-push c =
+    let at = goal.at.returns-in_err-push c in
+    let e = c.from_residual-in_err-push.ensures.0 in
     let n = c.args.self.now in
     let less = c.place_of-place.result -ℤ pos 1 in
-    where_refused _ (some_begun (string_bytes c.args.out.now) (string_bytes c.push.new.self) (split_text n.negative n.digits.now 1)
-    (101 ∷ integer_text (int_lt less (pos 0)) (nat_abs less)) _ (c.in_err-push.ensures.bytes ∙ split at.After-push)
-    (scientific at.After-push_split less refl))
+    let old = string_bytes c.args.out.now in
+    record {
+      pushed = refused_pushed _ old (string_bytes c.push.new.self) _ e
+          (some_begun old (string_bytes c.push.new.self) (split_text n.negative n.digits.now 1)
+          (101 ∷ integer_text (int_lt less (pos 0)) (nat_abs less)) _ (c.in_err-push.ensures.bytes ∙ split at.After-push)
+          (scientific at.After-push_split less refl));
+      before = λ _ _ _. IfOk-from_err _ _ e;
+      exponent = λ _ _ _. IfOk-from_err _ _ e;
+    }
 
-pub returns-in_err-push_integer-clause-refused : goal.returns-in_err-push_integer-clause-refused
+pub returns-in_err-push_integer : goal.returns-in_err-push_integer
 unfolding lib.Utf8.encode
-returns-in_err-push_integer-clause-refused c =
-    let at = goal.at.returns-in_err-push_integer-clause-refused c in
+returns-in_err-push_integer c =
+    let at = goal.at.returns-in_err-push_integer c in
+    let e = c.from_residual-in_err-push_integer.ensures.0 in
     let old = string_bytes c.args.out.now in
     let text = parts at.After-push_split c.unsigned_abs-2.result in
-    where_refused c.from_residual-in_err-push_integer.result
-    (last_begun old (string_bytes c.push.new.self) (string_bytes c.push_integer.new.out) text.0 text.1 _
-    (c.in_ok-push.ensures.bytes ∙ ap (λ x. x ++ 101 ∷ []) (split at.After-push) ∙ append_assoc old _ (101 ∷ []))
-    c.in_err-push_integer.ensures.refused (both at.After-push_split c.unsigned_abs-2.result c.unsigned_abs-2.ensures.value))
+    record {
+      pushed = refused_pushed _ old (string_bytes c.push_integer.new.out) _ e
+          (last_begun old (string_bytes c.push.new.self) (string_bytes c.push_integer.new.out) text.0 text.1 _
+          (c.in_ok-push.ensures.bytes ∙ ap (λ x. x ++ 101 ∷ []) (split at.After-push) ∙ append_assoc old _ (101 ∷ []))
+          c.in_err-push_integer.ensures.refused (both at.After-push_split c.unsigned_abs-2.result c.unsigned_abs-2.ensures.value));
+      before = λ _ _ _. IfOk-from_err _ _ e;
+      exponent = λ _ _ _. IfOk-from_err _ _ e;
+    }
 
 not_above : (p x : ℤ) → x ≡ p → int_lt (pos 0) x ≡ false → p ≤ℤ pos 0
 not_above p x same test = grind (arith, ints)
@@ -117,12 +142,70 @@ fraction c =
     (fraction_shown n.negative ds n.exponent n.point p.result n.stripped.stripped c.requires.point some is
     (not_above p.result _ place c.if-place-gt0.false) pointed)
 
-pub returns-then-not-is_scientific-clause-done : goal.returns-then-not-is_scientific-clause-done
-returns-then-not-is_scientific-clause-done c = λ t.
-    c.in_ok-push_fraction.ensures.written
-    ∙ ap (λ x. string_bytes c.args.out.now ++ x) (fraction (goal.at.returns-then-not-is_scientific-clause-done c).After-push_fraction)
+pub returns-then-not-is_scientific : goal.returns-then-not-is_scientific
+returns-then-not-is_scientific c = record {
+  pushed = c.in_ok-push_fraction.ensures.written
+      ∙ ap (λ x. string_bytes c.args.out.now ++ x) (fraction (goal.at.returns-then-not-is_scientific c).After-push_fraction);
+  before = λ _ _ _. refl;
+  exponent = λ _ _ _. refl;
+}
 
-pub returns-in_err-push_fraction-clause-refused : goal.returns-in_err-push_fraction-clause-refused
-returns-in_err-push_fraction-clause-refused c =
-    where_refused _ (begun_as (string_bytes c.args.out.now) (string_bytes c.push_fraction.new.out) _ _
-    c.in_err-push_fraction.ensures.refused (fraction (goal.at.returns-in_err-push_fraction-clause-refused c).After-push_fraction))
+pub returns-in_err-push_fraction : goal.returns-in_err-push_fraction
+returns-in_err-push_fraction c =
+    let e = c.from_residual.ensures.0 in
+    let old = string_bytes c.args.out.now in
+    record {
+      pushed = refused_pushed _ old (string_bytes c.push_fraction.new.out) _ e
+          (begun_as old (string_bytes c.push_fraction.new.out) _ _ c.in_err-push_fraction.ensures.refused
+          (fraction (goal.at.returns-in_err-push_fraction c).After-push_fraction));
+      before = λ _ _ _. IfOk-from_err _ _ e;
+      exponent = λ _ _ _. IfOk-from_err _ _ e;
+    }
+
+pub returns-then-place-gt0-clause-pushed : goal.returns-then-place-gt0-clause-pushed
+returns-then-place-gt0-clause-pushed c = refl
+
+pub returns-then-place-gt0-clause-before : goal.returns-then-place-gt0-clause-before
+returns-then-place-gt0-clause-before c = grind (arith, common_steps)
+
+pub returns-then-place-gt0-clause-exponent : goal.returns-then-place-gt0-clause-exponent
+returns-then-place-gt0-clause-exponent c = search rules
+
+pub returns-then-count-lt2-clause-pushed : goal.returns-then-count-lt2-clause-pushed
+returns-then-count-lt2-clause-pushed c = search rules
+
+pub returns-then-count-lt2-clause-before : goal.returns-then-count-lt2-clause-before
+returns-then-count-lt2-clause-before c = search rules
+
+pub returns-then-count-lt2-clause-exponent : goal.returns-then-count-lt2-clause-exponent
+returns-then-count-lt2-clause-exponent c = search rules
+
+pub push_fraction-requires-clause-all : goal.push_fraction-requires-clause-all
+push_fraction-requires-clause-all c = search rules
+
+pub push_fraction-requires-clause-lanes : goal.push_fraction-requires-clause-lanes
+push_fraction-requires-clause-lanes c = search rules
+
+pub push_fraction-requires-clause-zeros : goal.push_fraction-requires-clause-zeros
+push_fraction-requires-clause-zeros c = search rules
+
+pub push_split-requires-clause-all : goal.push_split-requires-clause-all
+push_split-requires-clause-all c = search rules
+
+pub push_split-requires-clause-inside : goal.push_split-requires-clause-inside
+push_split-requires-clause-inside c = search rules
+
+pub push_split-requires-clause-whole : goal.push_split-requires-clause-whole
+push_split-requires-clause-whole c = search rules
+
+pub push_split-requires-clause-places : goal.push_split-requires-clause-places
+push_split-requires-clause-places c = search rules
+
+pub push_split-requires-clause-lanes : goal.push_split-requires-clause-lanes
+push_split-requires-clause-lanes c = search rules
+
+pub overflow_sub-count : goal.overflow_sub-count
+overflow_sub-count c = search rules
+
+pub overflow_cast-unsigned_abs : goal.overflow_cast-unsigned_abs
+overflow_cast-unsigned_abs c = search rules
