@@ -68,3 +68,6 @@ returns-in_err-push_integer c =
           (shown (goal.at.returns-in_err-push_integer c).After-push_integer));
       whole = λ _ _. IfOk-from_err _ _ e;
     }
+
+pub returns-in-Long-clause-pushed : goal.returns-in-Long-clause-pushed
+returns-in-Long-clause-pushed c = refl

@@ -1,4 +1,4 @@
-use Rattle.std.proofs.Common.{◌≡◌, ◌∙◌, ◌++◌, ap, true, arith, rules}
+use Rattle.std.proofs.Common.{◌≡◌, ◌∙◌, ◌++◌, ap, refl, true, false, arith, rules}
 use Rattle.std.specs.Prelude.{nat_abs, FitsSigned}
 use Rattle.std.specs.String.{string_bytes}
 use Rattle.std.proofs.lemmas.Int.{to_z-of_z}
@@ -8,8 +8,8 @@ use Rattle.ijson_number.proofs.writing.Beginnings.{none_begun, refused_pushed}
 use Rattle.ijson_number.proofs.writing.SplitTexts.{below_zero, row_shown}
 use Rattle.ijson_number.proofs.repr.stripped.StrippedNumber.push_digits.Goals as goal
 
-pub returns-clause-pushed : goal.returns-clause-pushed
-returns-clause-pushed c =
+pub returns : goal.returns
+returns c =
     let n = c.args.self.now in
     let fits : FitsSigned w32 n.exponent = search rules in
     let exact = to_z-of_z w32 n.exponent fits in
@@ -17,7 +17,12 @@ returns-clause-pushed c =
     let shown = row_shown n.negative n.digits.now n.exponent n.point c.unsigned_abs-scale.result n.stripped.stripped point
     (below_zero n.exponent _ exact c.if-self-ge0.false)
     (c.unsigned_abs-scale.ensures.value ∙ ap nat_abs exact) c.if-scale-count.false in
-    c.in_ok-push_split.ensures.written ∙ ap (λ x. string_bytes c.args.out.now ++ x) shown
+    record {
+      pushed = c.in_ok-push_split.ensures.written ∙ ap (λ x. string_bytes c.args.out.now ++ x) shown;
+      between = λ _ _ _ _ _. refl;
+      before = λ _ _ _ _. refl;
+      exponent = λ _ _ _ _. refl;
+    }
 
 pub returns-in_err-push_split : goal.returns-in_err-push_split
 returns-in_err-push_split c =
@@ -30,3 +35,25 @@ returns-in_err-push_split c =
       before = λ _ _ _ _. IfOk-from_err _ _ e;
       exponent = λ _ _ _ _. IfOk-from_err _ _ e;
     }
+
+pub returns-then-not-self : goal.returns-then-not-self
+returns-then-not-self c =
+    let none : c.args.self.now.point ≡ false = grind arith in
+    record {
+      pushed = refl;
+      between = λ p _ _ _ _. let q = none in cc;
+      before = λ p _ _ _. let q = none in cc;
+      exponent = λ p _ _ _. let q = none in cc;
+    }
+
+pub returns-then-self-ge0-clause-pushed : goal.returns-then-self-ge0-clause-pushed
+returns-then-self-ge0-clause-pushed c = c.push_unsplit.ensures.pushed
+
+pub returns-then-self-ge0-clause-before : goal.returns-then-self-ge0-clause-before
+returns-then-self-ge0-clause-before c = λ _. c.push_unsplit.ensures.before
+
+pub returns-then-self-ge0-clause-exponent : goal.returns-then-self-ge0-clause-exponent
+returns-then-self-ge0-clause-exponent c = λ _. c.push_unsplit.ensures.exponent
+
+pub returns-then-scale-gt-LANES-clause-pushed : goal.returns-then-scale-gt-LANES-clause-pushed
+returns-then-scale-gt-LANES-clause-pushed c = refl

@@ -172,7 +172,7 @@ pub returns-then-place-gt0-clause-exponent : goal.returns-then-place-gt0-clause-
 returns-then-place-gt0-clause-exponent c = search rules
 
 pub returns-then-count-lt2-clause-pushed : goal.returns-then-count-lt2-clause-pushed
-returns-then-count-lt2-clause-pushed c = search rules
+returns-then-count-lt2-clause-pushed c = refl
 
 pub returns-then-count-lt2-clause-before : goal.returns-then-count-lt2-clause-before
 returns-then-count-lt2-clause-before c = search rules
