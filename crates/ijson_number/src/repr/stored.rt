@@ -78,7 +78,7 @@ impl Stored {
         ensures word { IsFalse result → self.now ≡ other.now → IsList self.now }
     {
         match (self, other) {
-            (Stored::Packed(word), Stored::Packed(other_word)) => word == other_word,
+            (Stored::Packed(word), Stored::Packed(other_word)) => word.bits == other_word.bits,
             (Stored::I64(value), Stored::I64(other_value)) => value == other_value,
             (Stored::U64(value), Stored::U64(other_value)) => value == other_value,
             _ => false,

@@ -5,9 +5,9 @@ ghost use Rattle.ijson_number.specs.private.Word.{word_code, word_exponent, word
 
 /// Bits 8 to 63 are the mantissa in two's complement, bits 4 to 7 the exponent plus 7, or 15 for a number without the
 /// point, and bits 0 to 3 the value 8.
-#[derive(Clone, Copy, PartialEq, Eq)]
+#[derive(Clone, Copy)]
 pub struct Word {
-    bits: u64,
+    pub bits: u64,
 }
 
 /// The bits 4 to 7 of a number without the point.
@@ -87,12 +87,6 @@ impl Word {
     {
         let code = self.code();
         if code == NO_POINT { 0 } else { code as i8 - 7 }
-    }
-
-    /// The bits as they stand.
-    #[cfg(test)]
-    pub(crate) fn bits(self) -> u64 {
-        self.bits
     }
 
     /// Whether the number has the point.

@@ -554,7 +554,7 @@ fn formed(rt: &impl Abort, alloc: Global, text: &str, form: Form<'_>) {
 
 fn word_of(number: &INumber) -> Option<u64> {
     match &number.stored {
-        Stored::Packed(word) => Some(word.bits()),
+        Stored::Packed(word) => Some(word.bits),
         _ => None,
     }
 }

@@ -26,7 +26,7 @@ static FRONT: [u8; 2 * LANES] = [
     128, 128, 128, 128, 128, 128, 128, 128,
 ];
 
-/// A minus, `0.`, and zeros as they stand behind the point of a number below 1.
+/// What stands before the digits of a number between -1 and 1: a minus, `0.`, and zeros behind the point.
 const LEADING: [u8; LANES] = *b"-0.0000000000000";
 
 /// A number of 16 digits, two in each lane.

@@ -1,10 +1,9 @@
 use Rattle.std.proofs.Common.{◌≡◌, ◌^◌, ◌<◌, ◌∙◌, ◌++◌, ap, sym, refl, rules}
-use Rattle.std.specs.Prelude.{false, pos, int_lt, nat_abs, FitsSigned}
+use Rattle.std.specs.Prelude.{nat_abs, FitsSigned}
 use Rattle.std.specs.String.{string_bytes}
 use Rattle.std.proofs.lemmas.Int.{to_z-of_z}
 use Rattle.std.proofs.lemmas.Result.{IfOk-from_err}
 use mir.Syntax.{w64}
-use mir.Val.{of_z, to_z}
 use Rattle.ijson_number.specs.Num.{Num}
 use Rattle.ijson_number.specs.declared.repr.stored.ShortNumber.{ShortNumber}
 use Rattle.ijson_number.specs.private.ShortDigits.{short_digits}
@@ -29,26 +28,26 @@ shown c =
     let view = sym (ap (λ (x : Num). x.decimal) c.self.view_is) in
     elim c.match-self.branch [
       | in-Packed+else-point w ↦ (
-        let m = w.mantissa-mantissa in
-        let fits : FitsSigned w64 m.result = search rules in
-        let exact = to_z-of_z w64 m.result fits ∙ m.ensures.value in
-        let n = w.unsigned_abs in
-        rw w.negative-is (integer_shown c.args.self.now.decimal _ _ n.result _
-        (view ∙ ap stored_decimal w.in-Packed.is ∙ packed_integer w.in-Packed.word.bits (sym w.point.ensures ∙ w.if-point.false)) exact
-        (n.ensures.value ∙ ap nat_abs exact) n.type_inv refl)
-      )
+          let m = w.mantissa-mantissa in
+          let fits : FitsSigned w64 m.result = search rules in
+          let exact = to_z-of_z w64 m.result fits ∙ m.ensures.value in
+          let n = w.unsigned_abs in
+          rw w.negative-is (integer_shown c.args.self.now.decimal _ _ n.result _
+          (view ∙ ap stored_decimal w.in-Packed.is ∙ packed_integer w.in-Packed.word.bits (sym w.point.ensures ∙ w.if-point.false)) exact
+          (n.ensures.value ∙ ap nat_abs exact) n.type_inv refl)
+          )
       | in-I64 w ↦ (
-        let v = w.in-I64.value in
-        let fits : FitsSigned w64 v = search rules in
-        let exact = to_z-of_z w64 v fits in
-        let n = w.unsigned_abs-in-I64 in
-        rw w.negative-is (integer_shown c.args.self.now.decimal v _ n.result _ (view ∙ ap stored_decimal w.in-I64.is) exact
-        (n.ensures.value ∙ ap nat_abs exact) n.type_inv refl)
-      )
+          let v = w.in-I64.value in
+          let fits : FitsSigned w64 v = search rules in
+          let exact = to_z-of_z w64 v fits in
+          let n = w.unsigned_abs-in-I64 in
+          rw w.negative-is (integer_shown c.args.self.now.decimal v _ n.result _ (view ∙ ap stored_decimal w.in-I64.is) exact
+          (n.ensures.value ∙ ap nat_abs exact) n.type_inv refl)
+          )
       | in-U64 w ↦ (
-        let word : w.in-U64.value < 2 ^ 64 = search rules in
-        rw w.negative-is (unsigned_shown c.args.self.now.decimal w.in-U64.value _ (view ∙ ap stored_decimal w.in-U64.is) word refl)
-      )
+          let word : w.in-U64.value < 2 ^ 64 = search rules in
+          rw w.negative-is (unsigned_shown c.args.self.now.decimal w.in-U64.value _ (view ∙ ap stored_decimal w.in-U64.is) word refl)
+          )
     ]
 
 pub returns : goal.returns

@@ -1,4 +1,4 @@
-use Rattle.std.proofs.Common.{◌≡◌, ◌<◌, length, true, arith, rules}
+use Rattle.std.proofs.Common.{◌≡◌, ◌<◌, length, true, arith}
 use Rattle.std.specs.Prelude.{not}
 use Rattle.std.proofs.lemmas.Grind.{common_steps}
 use Rattle.ijson_number.proofs.parsing.NumberTails.{tail_at_point, no_tail_at_point, tail_without_point, no_tail_without_point}
@@ -12,10 +12,10 @@ returns-in_err-negative-clause-none c =
     let bytes = c.args.bytes.now in
     rw c.from_residual.ensures (elim c.if-not-is_empty.branch [
       | then-not-is_empty+then-bytes-eq46+else-is_empty w ↦ (
-        let l : 0 < length bytes = grind arith in
-        no_tail_at_point bytes w.split_digits.result.0.now w.split_digits.result.1.now l w.if-bytes-eq46.true w.split_digits.ensures.text
-        w.split_digits.ensures.digits w.split_digits.ensures.rest (rw w.rest-is at c.in_err-negative.ensures.none)
-      )
+          let l : 0 < length bytes = grind arith in
+          no_tail_at_point bytes w.split_digits.result.0.now w.split_digits.result.1.now l w.if-bytes-eq46.true w.split_digits.ensures.text
+          w.split_digits.ensures.digits w.split_digits.ensures.rest (rw w.rest-is at c.in_err-negative.ensures.none)
+          )
       | else-not-is_empty w ↦
           no_tail_without_point bytes
           (λ l e. elim w.else-not-is_empty.branch [
@@ -31,13 +31,13 @@ returns-clause-found c =
     let found = c.in_ok-negative.ensures.found in
     elim c.if-not-is_empty.branch [
       | then-not-is_empty+then-bytes-eq46+else-is_empty w ↦ (
-        let l : 0 < length bytes = grind arith in
-        let m : 0 < length w.split_digits.result.0.now = grind arith in
-        let point : not c.is_empty-2.result ≡ true = grind arith in
-        rw (w.fraction-is, point)
-        (tail_at_point bytes w.split_digits.result.0.now w.split_digits.result.1.now l w.if-bytes-eq46.true w.split_digits.ensures.text _
-        found.0 m w.split_digits.ensures.digits (rw w.rest-is at found.1))
-      )
+          let l : 0 < length bytes = grind arith in
+          let m : 0 < length w.split_digits.result.0.now = grind arith in
+          let point : not c.is_empty-2.result ≡ true = grind arith in
+          rw (w.fraction-is, point)
+          (tail_at_point bytes w.split_digits.result.0.now w.split_digits.result.1.now l w.if-bytes-eq46.true w.split_digits.ensures.text _
+          found.0 m w.split_digits.ensures.digits (rw w.rest-is at found.1))
+          )
       | else-not-is_empty w ↦
           rw w.fraction-is (tail_without_point bytes _ found.0 c.is_empty-2.result c.is_empty-2.ensures (rw w.rest-is at found.1))
     ]
