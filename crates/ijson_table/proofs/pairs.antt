@@ -1,5 +1,4 @@
 pub mod DistinctKeys
-pub mod GrownRoom
 pub mod KeyPositions
 pub mod NewPairs
 pub mod PairsByKey

@@ -3,7 +3,7 @@
 ghost use Rattle.std.specs.Prelude.{◌≡◌, ◌<◌, ◌≤◌, ◌^◌, [], length, take, drop, vec_capacity, IfOk, OnOk, OnErr, MatchResult};
 ghost use Rattle.ijson_table.specs.Crowd.{slot_count};
 ghost use Rattle.ijson_table.specs.Growth.{capacity_limit};
-ghost use Rattle.ijson_table.specs.private.Room.{AsksFor};
+ghost use Rattle.ijson_table.specs.private.Room.{AsksFor, IsResized};
 
 use crate::store::ReserveError;
 use std::alloc::{AllocError, Global};
@@ -79,6 +79,20 @@ pub fn fit<T: Drop>(alloc: Global, list: &mut Vec<T>) -> Result<(), AllocError>
         list.push_reserved(item);
     }
     Ok(())
+}
+
+/// Makes the room of a list so many items: as many as there are, or no fewer than there was room for. More room is taken in place where
+/// the allocator does that. Where memory is refused, nothing changes.
+pub fn set_room<T: Drop>(alloc: Global, list: &mut Vec<T>, room: usize) -> Result<(), AllocError>
+    requires within { length list.old.items ≤ room }
+    requires grows { length list.old.items < room → vec_capacity list.old ≤ room }
+    ensures { IsResized list.old.items (vec_capacity list.old) room result list.new.items (vec_capacity list.new) }
+{
+    let len = list.len();
+    if len < room {
+        return list.reserve_exact(room - len);
+    }
+    fit(alloc, list)
 }
 
 /// Gives back the room beyond the items: in place where the allocator does that, else by a move, which may be refused.

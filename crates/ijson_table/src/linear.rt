@@ -1,17 +1,18 @@
 //! A pair store that searches its list.
 
-ghost use Rattle.std.specs.Prelude.{◌≡◌, ◌↔◌, ◌<◌, [], Err, IfOk, IsOk, refl};
+ghost use Rattle.std.specs.Prelude.{◌≡◌, ◌↔◌, ◌<◌, ◌≤◌, [], length, Err, IfOk, IsOk, refl};
 ghost use Rattle.std.specs.Option.{option_copied};
 ghost use Rattle.ijson_table.specs.Store.{at, keys_of, IsDistinct, lookup};
 ghost use Rattle.ijson_table.specs.StoreWithValue.{store_with_value};
 ghost use Rattle.ijson_table.specs.laws.Store.{IsDistinct-prop};
 ghost use Rattle.ijson_table.specs.Growth.{capacity_limit};
 ghost use Rattle.ijson_table.specs.Inserts.{Inserts};
+ghost use Rattle.ijson_table.specs.private.Room.{IsResized};
 
-use crate::growth::{fit, grown_capacity, limited, list_with_room};
+use crate::growth::{grown_capacity, limited, list_with_room, set_room};
 use crate::store::{PairStore, RefusedPair, ReserveError, insert};
 use ijson_string::IString;
-use std::alloc::Global;
+use std::alloc::{AllocError, Global};
 use std::marker::Model;
 
 /// Pairs in a list, searched from the front. It hashes nothing, and a look-up takes time linear in the pairs.
@@ -90,6 +91,16 @@ impl<V: Drop> LinearPairs<V> {
     {
         insert(self, key, value)
     }
+
+    /// Makes the capacity this one, the length or one that is no less than the old. Where memory is refused, nothing changes.
+    fn set_capacity(&mut self, capacity: usize) -> Result<(), AllocError>
+        requires within { length self.old.pairs ≤ capacity }
+        requires grows { length self.old.pairs < capacity → self.old.capacity ≤ capacity }
+        requires limited { capacity ≤ capacity_limit }
+        ensures { IsResized self.old.pairs self.old.capacity capacity result self.new.pairs self.new.capacity }
+    {
+        set_room(*self.pairs.allocator(), &mut self.pairs, capacity)
+    }
 }
 
 /// A look-up compares the keys from the front.
@@ -117,20 +128,18 @@ impl<V: Drop> PairStore<V> for LinearPairs<V> {
     }
 
     fn reserve(&mut self, additional: usize) -> Result<(), ReserveError> {
-        let len = self.pairs.len();
-        let Some(capacity) = grown_capacity(len, self.pairs.capacity(), additional)? else {
-            return Ok(());
-        };
-        self.pairs.reserve_exact(capacity - len)?;
-        Ok(())
+        match grown_capacity(self.len(), self.capacity(), additional)? {
+            Some(capacity) => Ok(self.set_capacity(capacity)?),
+            None => Ok(()),
+        }
     }
 
     fn shrink_to_fit(&mut self) -> Result<(), ReserveError> {
-        let len = self.pairs.len();
-        if self.pairs.capacity() == len {
+        let len = self.len();
+        if self.capacity() == len {
             return Ok(());
         }
-        Ok(fit(*self.pairs.allocator(), &mut self.pairs)?)
+        Ok(self.set_capacity(len)?)
     }
 
     fn position(&self, key: &str) -> Option<usize> {

@@ -15,10 +15,11 @@ ghost use Rattle.ijson_table.specs.private.Holds.{MayStand};
 ghost use Rattle.ijson_table.specs.private.KeptHash.{kept_hash};
 ghost use Rattle.ijson_table.specs.private.Lookup.{LookUpEnds};
 ghost use Rattle.ijson_table.specs.private.Probe.{AreFull};
+ghost use Rattle.ijson_table.specs.private.Room.{IsResized};
 
 mod from_list;
 
-use crate::growth::{fit, grown_capacity, limited, list_with_room, slots_for, tighten};
+use crate::growth::{grown_capacity, limited, list_with_room, set_room, slots_for, tighten};
 use crate::hash::KeyHash;
 use crate::index::Index;
 use crate::index::places::{Places, Seen, locate};
@@ -156,6 +157,20 @@ impl<V: Drop, H: KeyHash> Table<V, H> {
         Ok(None)
     }
 
+    /// Makes the capacity this one, the length or one that is no less than the old. Where memory is refused, nothing changes.
+    fn set_capacity(&mut self, capacity: usize) -> Result<(), AllocError>
+        requires within { length self.old.store.pairs ≤ capacity }
+        requires grows { length self.old.store.pairs < capacity → self.old.store.capacity ≤ capacity }
+        requires limited { capacity ≤ capacity_limit }
+        ensures { IsResized self.old.store.pairs self.old.store.capacity capacity result
+            self.new.store.pairs self.new.store.capacity }
+    {
+        let index = self.index_with_slots(self.alloc, slots_for(capacity))?;
+        set_room(self.alloc, &mut self.pairs, capacity)?;
+        self.index = index;
+        Ok(())
+    }
+
     /// Puts a value in the place of the one at a position, which is answered. The function of the same name for each store would do, but
     /// what calls that one is proved after all calls of the trait.
     #[inline(always)]
@@ -285,7 +300,9 @@ impl<V, H: KeyHash> Table<V, H> {
     {
         let slots = self.index.len();
         if count == slots || count.min(slots) > NARROW_SLOTS {
-            return self.index.copy_with_slots(alloc, self.pairs.len(), count);
+            return self
+                .index
+                .copy_counted(alloc, self.pairs.len(), count, &mut 0);
         }
         let mut index = Index::with_slots(alloc, count)?;
         place_each::<V, H>(&self.pairs, &mut index);
@@ -381,25 +398,18 @@ impl<V: Drop, H: KeyHash> PairStore<V> for Table<V, H> {
     }
 
     fn reserve(&mut self, additional: usize) -> Result<(), ReserveError> {
-        let len = self.pairs.len();
-        let Some(capacity) = grown_capacity(len, self.pairs.capacity(), additional)? else {
-            return Ok(());
-        };
-        let index = self.index_with_slots(self.alloc, slots_for(capacity))?;
-        self.pairs.reserve_exact(capacity - len)?;
-        self.index = index;
-        Ok(())
+        match grown_capacity(self.len(), self.capacity(), additional)? {
+            Some(capacity) => Ok(self.set_capacity(capacity)?),
+            None => Ok(()),
+        }
     }
 
     fn shrink_to_fit(&mut self) -> Result<(), ReserveError> {
-        let len = self.pairs.len();
-        if self.pairs.capacity() == len {
+        let len = self.len();
+        if self.capacity() == len {
             return Ok(());
         }
-        let index = self.index_with_slots(self.alloc, slots_for(len))?;
-        fit(self.alloc, &mut self.pairs)?;
-        self.index = index;
-        Ok(())
+        Ok(self.set_capacity(len)?)
     }
 
     fn position(&self, key: &str) -> Option<usize> {

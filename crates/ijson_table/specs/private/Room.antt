@@ -1,5 +1,5 @@
 -- How many pairs a store may have, and what more of them ask for.
-use Rattle.std.specs.Prelude.{◌≡◌, ℕ, ◌+◌, ◌<◌, ◌≤◌, Option, Some, None, Result, Ok, Err}
+use Rattle.std.specs.Prelude.{◌≡◌, ℕ, ◌+◌, ◌<◌, ◌≤◌, List, Option, Some, None, Result, Ok, Err, OnOk, OnErr}
 use Rattle.ijson_table.specs.Growth.{capacity_limit, wanted}
 use Rattle.ijson_table.specs.declared.store.ReserveError.{ReserveError}
 use Rattle.ijson_table.specs.declared.store.ReserveError.TheVariants.{TooLarge}
@@ -15,3 +15,9 @@ abbrev pub AsksFor : ℕ → ℕ → ℕ → Result (Option ℕ) ReserveError �
 AsksFor len c n (Ok None) = len + n ≤ c
 AsksFor len c n (Ok (Some grown)) = (c < len + n) × (grown ≡ wanted len c n) × (grown ≤ capacity_limit)
 AsksFor len c n (Err why) = (c < len + n) × (why ≡ TooLarge) × (capacity_limit < wanted len c n)
+
+-- The room became what was asked for, or memory for it was refused. The items stay.
+pub record IsResized {A B : Type 0} {E : Type 0} (items : List A) (c room : ℕ) (result : Result B E) (items' : List A) (c' : ℕ) : Type 0 where
+  pub same : items' ≡ items
+  pub done : OnOk result (c' ≡ room)
+  pub refused : OnErr result ((0 < room) × (c' ≡ c))

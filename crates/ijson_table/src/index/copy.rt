@@ -24,24 +24,8 @@ impl Index {
     /// copied as they are. Else there are many here and there, which keep whole hashes. Room for none takes no memory. It takes time linear
     /// in both counts of slots where few keys crowd. Where many do, entries of 16 bytes for each position are sorted in memory of their
     /// own, up to twice that, in time n log n at most.
-    pub fn copy_with_slots(
-        &self,
-        alloc: Global,
-        len: usize,
-        count: usize,
-    ) -> Result<Index, AllocError>
-        requires len { len ≡ length self.now.hashes }
-        requires room { len ≤ count }
-        requires kept { count ≢ length self.now.slots → (narrow_slots < length self.now.slots) × (narrow_slots < count) }
-        ensures hashes { IfOk result (λ index. index.hashes ≡ self.now.hashes) }
-        ensures count { IfOk result (λ index. length index.slots ≡ count) }
-        ensures refused { OnErr result (0 < count) }
-    {
-        self.copy_counted(alloc, len, count, &mut 0)
-    }
-
-    /// The same, and its steps are counted: each slot that it looks at or writes to put a position into order, and each two entries
-    /// that sorting compares. Walks over all slots, which read or empty them, and the one that fills them in order, are not counted.
+    /// Its steps are counted: each slot that it looks at or writes to put a position into order, and each two entries that sorting
+    /// compares. Walks over all slots, which read or empty them, and the one that fills them in order, are not counted.
     pub fn copy_counted(
         &self,
         alloc: Global,

@@ -256,7 +256,10 @@ fn add_new_keys<V, H: KeyHash>(
     }
     let modulus = Modulus::new(index.len());
     for position in 0..pairs.len() {
-        if *steps > most || !add_new_key::<V, H>(pairs, index, modulus, position, steps) {
+        if *steps > most {
+            return position;
+        }
+        if !add_new_key::<V, H>(pairs, index, modulus, position, steps) {
             return position;
         }
     }

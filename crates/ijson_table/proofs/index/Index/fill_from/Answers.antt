@@ -56,3 +56,31 @@ as_slice-requires c = omega (
   ap (λ (l : HashIndex). length l.slots) c.other.view_is,
   positions-length c.other.inside.slots,
 )
+
+-- what the check tries where no answer stands takes longer than these
+pub merge_sort-sorted-requires : goal.merge_sort-sorted-requires
+merge_sort-sorted-requires c = omega arith
+
+pub returns-clause-count : goal.returns-clause-count
+returns-clause-count c = omega arith
+
+pub returns-clause-refused : goal.returns-clause-refused
+returns-clause-refused c = omega arith
+
+pub returns-in_err-entries-clause-bounded : goal.returns-in_err-entries-clause-bounded
+returns-in_err-entries-clause-bounded c = omega arith
+
+pub returns-in_err-entries-clause-count : goal.returns-in_err-entries-clause-count
+returns-in_err-entries-clause-count c = omega arith
+
+pub returns-in_err-sorted-clause-count : goal.returns-in_err-sorted-clause-count
+returns-in_err-sorted-clause-count c = omega arith
+
+pub returns-then-is_empty-clause-bounded : goal.returns-then-is_empty-clause-bounded
+returns-then-is_empty-clause-bounded c = omega arith
+
+pub returns-then-is_empty-clause-count : goal.returns-then-is_empty-clause-count
+returns-then-is_empty-clause-count c = omega arith
+
+pub returns-then-is_empty-clause-refused : goal.returns-then-is_empty-clause-refused
+returns-then-is_empty-clause-refused c = omega arith

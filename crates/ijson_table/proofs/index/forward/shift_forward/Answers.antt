@@ -135,12 +135,18 @@ seen_at : {X : Type 0} (f : X → Slot) (slots : List X) (p : ℕ) (read : X) �
     → f read ≡ get_or (map f slots) p blank
 seen_at f slots p read lp is = ap f is ∙ sym (get_or-map f slots p read blank (omega (arith, lp, length-map slots f)))
 
+pub of-requires : goal.of-requires
+of-requires g c = c.requires.may.1.0.fits
+
 pub stored-entry-requires-clause-code : goal.stored-entry-requires-clause-code
 stored-entry-requires-clause-code g c = omega (
   arith,
   code-of c.of.result.code c.args.position c.of.ensures.position,
   c.requires.code,
 )
+
+pub stored-entry-requires-clause-hash : goal.stored-entry-requires-clause-hash
+stored-entry-requires-clause-hash g c = subst (λ h. h < g.S.StoredSlot.hash_limit) (sym c.of.ensures.hash) c.requires.hash
 
 pub loop-resident-init : goal.loop-resident-init
 loop-resident-init g c hashes allowed =
@@ -266,3 +272,25 @@ returns-in_default g c hashes allowed =
     subst (IsPut hashes old c.args.position c.args.from l.slot) (sym (written_seen g p))
     (is_put hashes old c.args.position c.args.from (slots_seen g p) (entry_seen g p) l.slot (first_in g p) (l.invariant hashes allowed)
     (sym c.in_default.is ∙ told g p))
+
+-- the slot that it is at is one of them
+reached : {X : Type 0} (f : X → Slot) (slots : List X) (hashes : List ℕ) (old : List Slot) (position from slot written : ℕ) (entry : Slot)
+    → IsOnTheWay hashes old position from (map f slots) entry slot written → slot < length slots
+reached f slots hashes old position from slot written entry way =
+    omega (arith, way.shifting.2.may.within, positions-length (map f slots), length-map slots f)
+
+pub bounds-slots-slot : goal.bounds-slots-slot
+bounds-slots-slot g c = reached g.S.StoredSlot.stands_for c.loop-resident.slots _ _ _ _ _ _ _
+    (c.loop-resident.invariant c.requires.may.0 c.requires.may.1)
+
+pub bounds-slots-slot-in-loop-resident : goal.bounds-slots-slot-in-loop-resident
+bounds-slots-slot-in-loop-resident g c = reached g.S.StoredSlot.stands_for c.loop-resident.slots _ _ _ _ _ _ _
+    (c.loop-resident.invariant c.requires.may.0 c.requires.may.1)
+
+pub next_slot-slot-requires : goal.next_slot-slot-requires
+next_slot-slot-requires g c = omega (
+  arith,
+  reached g.S.StoredSlot.stands_for c.loop-resident.slots _ _ _ _ _ _ _ (c.loop-resident.invariant c.requires.may.0 c.requires.may.1),
+  same_size g (goal.at.next_slot-slot-requires g c).After-position,
+  length-map c.loop-resident.slots g.S.StoredSlot.stands_for,
+)

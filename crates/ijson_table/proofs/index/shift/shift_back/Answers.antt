@@ -154,3 +154,21 @@ set-requires-clause-fits g c = c.at-behind.ensures.fits
 pub set-requires-in-loop-resident-clause-fits : goal.set-requires-in-loop-resident-clause-fits
 set-requires-in-loop-resident-clause-fits g c =
     λ few. subst (λ s. (s.code < 256) × (s.hash < 65536)) (sym c.empty.ensures) (omega arith, omega arith)
+
+pub at-behind-requires : goal.at-behind-requires
+at-behind-requires c = omega arith
+
+pub distance-requires : goal.distance-requires
+distance-requires c = omega arith
+
+pub returns-in_default-clause-count : goal.returns-in_default-clause-count
+returns-in_default-clause-count c = omega arith
+
+pub returns-in_default-clause-placed : goal.returns-in_default-clause-placed
+returns-in_default-clause-placed c = omega arith
+
+pub returns-then-distance-eq0-clause-count : goal.returns-then-distance-eq0-clause-count
+returns-then-distance-eq0-clause-count c = omega arith
+
+pub returns-then-distance-eq0-clause-placed : goal.returns-then-distance-eq0-clause-placed
+returns-then-distance-eq0-clause-placed c = omega arith

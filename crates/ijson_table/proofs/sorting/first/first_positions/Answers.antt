@@ -84,3 +84,30 @@ returns-clause-firsts g c =
 -- what the check tries where no answer stands takes longer than these
 pub returns-in_err-firsts-clause-refused : goal.returns-in_err-firsts-clause-refused
 returns-in_err-firsts-clause-refused g c = grind (arith, common_steps)
+
+pub bounds-sorted-entry-index : goal.bounds-sorted-entry-index
+bounds-sorted-entry-index g c = omega arith
+
+pub loop-entry-smaller : goal.loop-entry-smaller
+loop-entry-smaller g c = omega arith
+
+pub returns-clause-grows : goal.returns-clause-grows
+returns-clause-grows g c = omega arith
+
+pub returns-clause-refused : goal.returns-clause-refused
+returns-clause-refused g c = omega arith
+
+pub returns-in_err-firsts-clause-bounded : goal.returns-in_err-firsts-clause-bounded
+returns-in_err-firsts-clause-bounded g c = omega arith
+
+pub returns-in_err-firsts-clause-grows : goal.returns-in_err-firsts-clause-grows
+returns-in_err-firsts-clause-grows g c = omega arith
+
+pub returns-then-is_empty-clause-bounded : goal.returns-then-is_empty-clause-bounded
+returns-then-is_empty-clause-bounded g c = omega arith
+
+pub returns-then-is_empty-clause-grows : goal.returns-then-is_empty-clause-grows
+returns-then-is_empty-clause-grows g c = omega arith
+
+pub returns-then-is_empty-clause-refused : goal.returns-then-is_empty-clause-refused
+returns-then-is_empty-clause-refused g c = omega arith

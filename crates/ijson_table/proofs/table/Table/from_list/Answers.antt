@@ -1,12 +1,14 @@
-use Rattle.std.proofs.Common.{◌≡◌, ◌≤◌, ◌+◌, ◌*◌, [], length, take, drop, arith, ap, ap₂, sym, subst, ◌∙◌}
+use Rattle.std.proofs.Common.{◌≡◌, ◌≤◌, ◌<◌, ◌+◌, ◌*◌, [], length, map, take, drop, Result, Ok, Err, refl, arith, ap, ap₂, sym, subst, ◌∙◌}
 use Rattle.std.proofs.lemmas.Grind.{common_steps}
 use Rattle.std.proofs.lemmas.Bool.Decides.{nat_tests}
-use Rattle.std.proofs.lemmas.List.{nil_from_length}
-use Rattle.std.specs.Prelude.{IfOk, vec_capacity}
+use Rattle.std.proofs.lemmas.List.{length-drop, length-take, nil_from_length}
+use Rattle.std.specs.Prelude.{IfOk, OnErr, vec_capacity}
 use Rattle.ijson_table.specs.BuildBound.{looks_a_pair}
 use Rattle.ijson_table.specs.Crowd.{slot_count}
+use Rattle.ijson_table.specs.Growth.{capacity_limit}
 use Rattle.ijson_table.specs.Placed.{Placed}
 use Rattle.ijson_table.specs.Store.{keys_of, put_each, IsDistinct}
+use Rattle.ijson_table.specs.private.KeptHash.{kept_hash}
 use Rattle.ijson_table.proofs.pairs.PutEach.{put_each-split}
 use Rattle.ijson_table.proofs.table.Table.from_list.Goals.{After-count_steps}
 use Rattle.ijson_table.proofs.table.Table.from_list.Goals as goal
@@ -55,6 +57,36 @@ exact g c = (
   c.in_ok-tighten.ensures.room,
   omega (arith, c.len-capacity.ensures, c.tighten.new.list.ok.0, ap length c.tighten.ensures.items),
 )
+
+pub invariant_of-table : goal.invariant_of-table
+invariant_of-table g c =
+    let n = c.add_new_keys-placed.result in
+    let kept : take n c.deref.result.now ≡ c.split_rest.new.list.items =
+    ap (take n) c.deref.ensures.value ∙ sym c.in_ok-rest.ensures.kept in
+    let w = (goal.at.invariant_of-table g c).After-count_steps in
+    let room : vec_capacity c.split_rest.new.list ≡ length c.args.pairs.items = c.split_rest.ensures.room ∙ (exact g w).0 in
+    record {
+      room = record { within = omega (arith, c.split_rest.new.list.ok); limited = subst (λ m. m ≤ capacity_limit) (sym room) c.requires.limited };
+      hashes = c.add_new_keys-placed.ensures.placed.hashes
+          ∙ ap₂ (λ m ps. map (kept_hash m g.H.KeyHash.hash_of) (keys_of ps)) (sym c.add_new_keys-placed.ensures.count) kept;
+      size = c.add_new_keys-placed.ensures.count
+          ∙ (c.in_ok-index.ensures.count ∙ (c.slots_for.ensures ∙ ap slot_count ((exact g w).1 ∙ sym room)));
+    }
+
+pub invariant_of-table-2 : goal.invariant_of-table-2
+invariant_of-table-2 g c =
+    let n = c.add_new_keys-placed.result in
+    let kept : take n c.deref.result.now ≡ c.split_rest.new.list.items =
+    ap (take n) c.deref.ensures.value ∙ sym c.in_ok-rest.ensures.kept in
+    let w = (goal.at.invariant_of-table-2 g c).After-count_steps in
+    let room : vec_capacity c.split_rest.new.list ≡ length c.args.pairs.items = c.split_rest.ensures.room ∙ (exact g w).0 in
+    record {
+      room = record { within = omega (arith, c.split_rest.new.list.ok); limited = subst (λ m. m ≤ capacity_limit) (sym room) c.requires.limited };
+      hashes = c.add_new_keys-placed.ensures.placed.hashes
+          ∙ ap₂ (λ m ps. map (kept_hash m g.H.KeyHash.hash_of) (keys_of ps)) (sym c.add_new_keys-placed.ensures.count) kept;
+      size = c.add_new_keys-placed.ensures.count
+          ∙ (c.in_ok-index.ensures.count ∙ (c.slots_for.ensures ∙ ap slot_count ((exact g w).1 ∙ sym room)));
+    }
 
 -- the steps so far, beside the bound on them
 few : (g : _) (c : After-count_steps g) → c.add_new_keys-placed.new.steps
@@ -107,3 +139,68 @@ returns-clause-counted g c = grind (arith, common_steps)
 
 pub returns-then-is_empty-clause-counted : goal.returns-then-is_empty-clause-counted
 returns-then-is_empty-clause-counted g c = grind (arith, common_steps)
+
+pub add_new_keys-placed-requires : goal.add_new_keys-placed-requires
+add_new_keys-placed-requires g c =
+    let exactly : c.len-capacity.result ≡ length c.args.pairs.items =
+    omega (arith, c.len-capacity.ensures, c.tighten.new.list.ok.0, ap length c.tighten.ensures.items) in
+    let slots : length c.in_ok-index.index.slots ≡ slot_count c.len-capacity.result = c.in_ok-index.ensures.count ∙ c.slots_for.ensures in
+    record {
+      empty = c.in_ok-index.ensures.hashes;
+      room = omega (arith, slots, exactly, ap length (c.deref.ensures.value ∙ c.tighten.ensures.items));
+      most = omega (arith, exactly, c.requires.limited);
+      steps = refl;
+      few = omega (arith, slots, exactly, c.requires.limited);
+    }
+
+pub count_steps-requires : goal.count_steps-requires
+count_steps-requires g c = omega (
+  arith,
+  c.add_new_keys-placed.ensures.steps,
+  c.in_ok-index.ensures.count,
+  c.slots_for.ensures,
+  c.len-capacity.ensures,
+  c.tighten.new.list.ok.0,
+  ap length c.tighten.ensures.items,
+  c.requires.limited,
+  c.requires.fits,
+)
+
+pub returns-clause-capacity : goal.returns-clause-capacity
+returns-clause-capacity g c = subst (λ n. IfOk c.with_rest.result (λ (t : Placed g.row.V.Denot). t.store.capacity ≡ n))
+    (c.split_rest.ensures.room ∙ c.in_ok-tighten.ensures.room) c.with_rest.ensures.capacity
+
+pub returns-then-is_empty-clause-capacity : goal.returns-then-is_empty-clause-capacity
+returns-then-is_empty-clause-capacity g c = c.split_rest.ensures.room ∙ c.in_ok-tighten.ensures.room
+
+pub with_rest-requires-clause-limited : goal.with_rest-requires-clause-limited
+with_rest-requires-clause-limited g c =
+    omega (arith, c.split_rest.ensures.room ∙ c.in_ok-tighten.ensures.room, c.requires.limited)
+
+pub with_rest-requires-clause-placed : goal.with_rest-requires-clause-placed
+with_rest-requires-clause-placed g c = omega (
+  arith,
+  ap length c.in_ok-rest.ensures.kept,
+  length-take c.add_new_keys-placed.result c.tighten.new.list.items,
+  c.add_new_keys-placed.ensures.counted,
+)
+
+-- an error says what is known of each
+on_err : {A E : Type 0} (r : Result A E) {P : Type 0} → P → OnErr r P
+on_err (Ok a) known = tt
+on_err (Err e) known = known
+
+pub returns-clause-refused : goal.returns-clause-refused
+returns-clause-refused g c = on_err c.with_rest.result (
+    let some : 0 < length c.in_ok-rest.rest.items = grind (arith, nat_tests, c.is_empty.ensures, c.if-is_empty.false) in
+    omega (
+      arith,
+      some,
+      ap length c.in_ok-rest.ensures.rest,
+      length-drop c.add_new_keys-placed.result c.tighten.new.list.items,
+      ap length c.tighten.ensures.items,
+    )
+    )
+
+pub returns-clause-grows : goal.returns-clause-grows
+returns-clause-grows g c = omega (arith, c.count_steps.ensures, c.with_rest.ensures.grows)

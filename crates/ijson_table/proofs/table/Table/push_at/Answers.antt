@@ -117,3 +117,25 @@ pub returns-clause-passed : goal.returns-clause-passed
 returns-clause-passed g c =
     subst (λ (t : Placed g.row.V.Denot). AreFull t.slots c.args.slot (distance (length t.slots) c.args.slot c.push_at.result))
     c.self.view_is c.push_at.ensures.passed
+
+pub returns-clause-pairs : goal.returns-clause-pairs
+returns-clause-pairs g c = c.push_reserved.ensures.items
+    ∙ ap (λ (t : Placed g.row.V.Denot). t.store.pairs ++ (c.args.key, c.args.value) ∷ []) c.self.view_is
+
+pub returns-clause-capacity : goal.returns-clause-capacity
+returns-clause-capacity g c = c.push_reserved.ensures.capacity ∙ ap (λ (t : Placed g.row.V.Denot). t.store.capacity) c.self.view_is
+
+pub returns-clause-count : goal.returns-clause-count
+returns-clause-count g c = c.push_at.ensures.count ∙ ap (λ (t : Placed g.row.V.Denot). length t.slots) c.self.view_is
+
+pub returns-clause-within : goal.returns-clause-within
+returns-clause-within g c =
+    subst (λ (t : Placed g.row.V.Denot). c.push_at.result < length t.slots) c.self.view_is c.push_at.ensures.within
+
+pub new-requires : goal.new-requires
+new-requires g c = omega (
+  arith,
+  c.len.ensures.count,
+  c.self.invariant.size,
+  room g (goal.at.new-requires g c).After-len-position,
+)

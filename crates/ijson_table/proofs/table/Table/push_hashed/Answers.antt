@@ -1,8 +1,9 @@
-use Rattle.std.proofs.Common.{◌≡◌, [], ◌∷◌, ◌++◌, length, map, ap, subst, ◌∙◌}
+use Rattle.std.proofs.Common.{◌≡◌, [], ◌∷◌, ◌++◌, length, map, arith, ap, subst, ◌∙◌}
 use Rattle.ijson_table.specs.Placed.{Placed}
 use Rattle.ijson_table.specs.Store.{keys_of}
 use Rattle.ijson_table.specs.private.Holds.{MayStand}
-use Rattle.ijson_table.specs.private.KeptHash.{kept}
+use Rattle.ijson_table.specs.private.KeptHash.{kept, kept_hash}
+use Rattle.ijson_table.proofs.probing.KeyHashes.{length-hashes}
 use Rattle.ijson_table.proofs.slots.KeptHashes.{may_by_hash}
 use Rattle.ijson_table.proofs.table.Table.push_hashed.Goals as goal
 
@@ -20,3 +21,30 @@ push_at-requires-clause-may g c =
     (subst (λ hs. MayStand (hs ++ kept (length slots) c.args.hash ∷ []) slots (length hs) slot) c.self.invariant.hashes
     (subst (λ h. MayStand (c.self.inside.index.hashes ++ h ∷ []) slots (length c.self.inside.index.hashes) slot) kept_is
     c.vacancy-slot.ensures)))
+
+pub push_at-requires-clause-room : goal.push_at-requires-clause-room
+push_at-requires-clause-room g c = c.requires.room
+
+pub push_at-requires-clause-missing : goal.push_at-requires-clause-missing
+push_at-requires-clause-missing g c = c.requires.missing
+
+-- there is room for one more among the slots
+pub vacancy-slot-requires : goal.vacancy-slot-requires
+vacancy-slot-requires g c = omega (
+  arith,
+  ap length c.self.invariant.hashes,
+  length-hashes (kept_hash (length c.self.inside.index.slots) g.H.KeyHash.hash_of) c.self.inside.pairs.items,
+  c.self.invariant.size,
+  ap (λ (t : Placed g.row.V.Denot). length t.store.pairs) c.self.view_is,
+  ap (λ (t : Placed g.row.V.Denot). t.store.capacity) c.self.view_is,
+  c.requires.room,
+)
+
+pub new-requires : goal.new-requires
+new-requires g c = omega (
+  arith,
+  c.len.ensures.count,
+  c.self.invariant.size,
+  ap (λ (t : Placed g.row.V.Denot). t.store.capacity) c.self.view_is,
+  c.requires.room,
+)

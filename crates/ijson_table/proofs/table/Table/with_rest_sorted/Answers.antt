@@ -62,3 +62,19 @@ returns-clause-pairs g c =
 
 pub returns-clause-bounded : goal.returns-clause-bounded
 returns-clause-bounded g c = both g (goal.at.returns-clause-bounded g c).After-fill_sorted
+
+-- what the check tries where no answer stands takes longer than these
+pub put_sorted-requires-clause-fits : goal.put_sorted-requires-clause-fits
+put_sorted-requires-clause-fits g c = omega arith
+
+pub put_sorted-requires-clause-limited : goal.put_sorted-requires-clause-limited
+put_sorted-requires-clause-limited g c = omega arith
+
+pub returns-clause-grows : goal.returns-clause-grows
+returns-clause-grows g c = omega arith
+
+pub returns-in_err-fill_sorted-clause-grows : goal.returns-in_err-fill_sorted-clause-grows
+returns-in_err-fill_sorted-clause-grows g c = omega arith
+
+pub returns-in_err-pairs-clause-grows : goal.returns-in_err-pairs-clause-grows
+returns-in_err-pairs-clause-grows g c = omega arith

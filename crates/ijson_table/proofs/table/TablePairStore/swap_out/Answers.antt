@@ -62,3 +62,12 @@ returns-then-index-last-clause-pairs g c = grind (arith, common_steps)
 
 pub swap_remove-requires : goal.swap_remove-requires
 swap_remove-requires g c = grind (arith, common_steps)
+
+pub returns-then-index-last-clause-room : goal.returns-then-index-last-clause-room
+returns-then-index-last-clause-room g c = omega arith
+
+pub shift_out-requires : goal.shift_out-requires
+shift_out-requires g c = omega arith
+
+pub returns-clause-room : goal.returns-clause-room
+returns-clause-room g c = c.swap_remove-2.ensures.capacity ∙ ap (λ (s : Placed g.row.V.Denot). s.store.capacity) c.self.view_is

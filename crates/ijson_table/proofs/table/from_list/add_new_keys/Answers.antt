@@ -1,4 +1,6 @@
-use Rattle.std.proofs.Common.{arith}
+use Rattle.std.proofs.Common.{◌+◌, length, arith, sym, subst, ◌∙◌}
+use Rattle.ijson_table.specs.private.FirstPlaced.{FirstPlaced}
+use Rattle.ijson_table.specs.private.KeptHash.{kept_hash}
 use Rattle.ijson_table.proofs.table.from_list.add_new_keys.Goals as goal
 
 pub add_new_key-requires-clause-room : goal.add_new_key-requires-clause-room
@@ -7,3 +9,46 @@ add_new_key-requires-clause-room g c = omega (arith, c.loop-position-test.true, 
 pub add_new_key-requires-clause-fits : goal.add_new_key-requires-clause-fits
 add_new_key-requires-clause-fits g c =
     omega (arith, c.loop-position.invariant.count, c.loop-position.invariant.steps, c.requires.most, c.requires.few)
+
+pub loop-position-preserved : goal.loop-position-preserved
+loop-position-preserved g c =
+    let i = c.loop-position.invariant in
+    let added = c.add_new_key.ensures in
+    record {
+      placed = subst (λ n. FirstPlaced (kept_hash n g.H.KeyHash.hash_of) c.args.pairs.now (c.loop-position.position + 1)
+          c.add_new_key.new.index) i.count (added.placed c.if-not-add_new_key.false);
+      count = added.count ∙ i.count;
+      counted = omega (arith, added.grows, i.counted);
+      steps = omega (arith, added.steps, i.count, c.if-steps-most.false);
+    }
+
+pub returns-then-steps-most : goal.returns-then-steps-most
+returns-then-steps-most g c =
+    let i = c.loop-position.invariant in
+    record {
+      within = c.loop-position.auto.position-end;
+      placed = i.placed;
+      stops = λ _ few. absurd (omega (arith, few, c.if-steps-most.true));
+      count = i.count;
+      steps = i.steps;
+      counted = i.counted;
+    }
+
+pub returns-then-not-add_new_key : goal.returns-then-not-add_new_key
+returns-then-not-add_new_key g c =
+    let i = c.loop-position.invariant in
+    let added = c.add_new_key.ensures in
+    record {
+      within = c.loop-position.auto.position-end;
+      placed = subst (FirstPlaced (kept_hash (length c.args.index.now.slots) g.H.KeyHash.hash_of) c.args.pairs.now c.loop-position.position)
+          (sym (added.left c.if-not-add_new_key.true)) i.placed;
+      stops = λ _ _. added.stops c.if-not-add_new_key.true;
+      count = added.count ∙ i.count;
+      steps = omega (arith, added.steps, i.count, c.if-steps-most.false);
+      counted = omega (arith, added.grows, i.counted);
+    }
+
+pub returns-clause-placed : goal.returns-clause-placed
+returns-clause-placed g c =
+    subst (λ n. FirstPlaced (kept_hash (length c.args.index.now.slots) g.H.KeyHash.hash_of) c.args.pairs.now n c.loop-position.index)
+    (omega (arith, c.loop-position-test.false, c.loop-position.auto.position-end)) c.loop-position.invariant.placed
