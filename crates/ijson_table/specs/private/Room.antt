@@ -17,7 +17,8 @@ AsksFor len c n (Ok (Some grown)) = (c < len + n) × (grown ≡ wanted len c n) 
 AsksFor len c n (Err why) = (c < len + n) × (why ≡ TooLarge) × (capacity_limit < wanted len c n)
 
 -- The room became what was asked for, or memory for it was refused. The items stay.
-pub record IsResized {A B : Type 0} {E : Type 0} (items : List A) (c room : ℕ) (result : Result B E) (items' : List A) (c' : ℕ) : Type 0 where
+pub record IsResized {A B E : Type 0} (items : List A) (c room : ℕ) (result : Result B E) (items' : List A)
+    (c' : ℕ) : Type 0 where
   pub same : items' ≡ items
   pub done : OnOk result (c' ≡ room)
   pub refused : OnErr result ((0 < room) × (c' ≡ c))

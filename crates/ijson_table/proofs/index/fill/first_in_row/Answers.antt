@@ -16,22 +16,3 @@ overflow_sub-home c =
       homes_ascend n c.args.sorted.now c.requires.sorted c.loop-index.start c.loop-index.index
           (omega (arith, c.loop-index.invariant.start)) c.loop-index-test.true,
     )
-
--- what the check tries where no answer stands takes longer than these
-pub bounds-sorted-0 : goal.bounds-sorted-0
-bounds-sorted-0 c = omega arith
-
-pub bounds-sorted-index : goal.bounds-sorted-index
-bounds-sorted-index c = omega arith
-
-pub loop-index-smaller : goal.loop-index-smaller
-loop-index-smaller c = omega arith
-
-pub overflow_sub-index : goal.overflow_sub-index
-overflow_sub-index c = omega arith
-
-pub returns-clause-greatest : goal.returns-clause-greatest
-returns-clause-greatest c = omega arith
-
-pub returns-clause-within : goal.returns-clause-within
-returns-clause-within c = omega arith

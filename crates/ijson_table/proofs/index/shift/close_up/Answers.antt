@@ -30,7 +30,3 @@ loop-slot-preserved c =
 pub set-requires-clause-fits : goal.set-requires-clause-fits
 set-requires-clause-fits c = subst (Fits (length c.loop-slot.slots)) (sym c.closed.ensures)
     (fits-closed (length c.loop-slot.slots) c.args.gone c.at.result c.at.ensures.fits)
-
--- what the check tries where no answer stands takes longer than these
-pub loop-slot-smaller : goal.loop-slot-smaller
-loop-slot-smaller c = omega arith

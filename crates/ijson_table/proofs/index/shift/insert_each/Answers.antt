@@ -135,31 +135,3 @@ pub overflow_add-steps : goal.overflow_add-steps
 overflow_add-steps g c =
     let place = goal.at.overflow_add-steps g c in
     omega (arith, few_steps g place.After-insert (there g place.In-Some), c.if-steps-most.false, c.requires.1.0)
-
--- what the check tries where no answer stands takes longer than these
-pub bounds-from-index : goal.bounds-from-index
-bounds-from-index g c = omega arith
-
-pub loop-index-smaller : goal.loop-index-smaller
-loop-index-smaller g c = omega arith
-
-pub loop-index-smaller-in_default : goal.loop-index-smaller-in_default
-loop-index-smaller-in_default g c = omega arith
-
-pub returns-clause-count : goal.returns-clause-count
-returns-clause-count g c = omega arith
-
-pub returns-clause-ordered : goal.returns-clause-ordered
-returns-clause-ordered g c = omega arith
-
-pub returns-clause-steps : goal.returns-clause-steps
-returns-clause-steps g c = omega arith
-
-pub returns-then-steps-most-clause-count : goal.returns-then-steps-most-clause-count
-returns-then-steps-most-clause-count g c = omega arith
-
-pub returns-then-steps-most-clause-ordered : goal.returns-then-steps-most-clause-ordered
-returns-then-steps-most-clause-ordered g c = omega arith
-
-pub returns-then-steps-most-clause-steps : goal.returns-then-steps-most-clause-steps
-returns-then-steps-most-clause-steps g c = omega arith

@@ -125,10 +125,3 @@ loop-pair-preserved g c =
             ap vec_capacity w.list-is ∙ i.4,
           )
     ]
-
--- what the check tries where no answer stands takes longer than these
-pub returns-clause-refused : goal.returns-clause-refused
-returns-clause-refused g c = omega arith
-
-pub returns-clause-room : goal.returns-clause-room
-returns-clause-room g c = omega arith

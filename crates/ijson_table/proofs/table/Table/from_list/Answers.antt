@@ -66,7 +66,10 @@ invariant_of-table g c =
     let w = (goal.at.invariant_of-table g c).After-count_steps in
     let room : vec_capacity c.split_rest.new.list ≡ length c.args.pairs.items = c.split_rest.ensures.room ∙ (exact g w).0 in
     record {
-      room = record { within = omega (arith, c.split_rest.new.list.ok); limited = subst (λ m. m ≤ capacity_limit) (sym room) c.requires.limited };
+      room = record {
+        within = omega (arith, c.split_rest.new.list.ok);
+        limited = subst (λ m. m ≤ capacity_limit) (sym room) c.requires.limited;
+      };
       hashes = c.add_new_keys-placed.ensures.placed.hashes
           ∙ ap₂ (λ m ps. map (kept_hash m g.H.KeyHash.hash_of) (keys_of ps)) (sym c.add_new_keys-placed.ensures.count) kept;
       size = c.add_new_keys-placed.ensures.count
@@ -81,7 +84,10 @@ invariant_of-table-2 g c =
     let w = (goal.at.invariant_of-table-2 g c).After-count_steps in
     let room : vec_capacity c.split_rest.new.list ≡ length c.args.pairs.items = c.split_rest.ensures.room ∙ (exact g w).0 in
     record {
-      room = record { within = omega (arith, c.split_rest.new.list.ok); limited = subst (λ m. m ≤ capacity_limit) (sym room) c.requires.limited };
+      room = record {
+        within = omega (arith, c.split_rest.new.list.ok);
+        limited = subst (λ m. m ≤ capacity_limit) (sym room) c.requires.limited;
+      };
       hashes = c.add_new_keys-placed.ensures.placed.hashes
           ∙ ap₂ (λ m ps. map (kept_hash m g.H.KeyHash.hash_of) (keys_of ps)) (sym c.add_new_keys-placed.ensures.count) kept;
       size = c.add_new_keys-placed.ensures.count

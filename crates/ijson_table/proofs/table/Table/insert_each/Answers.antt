@@ -31,34 +31,3 @@ loop-steps-preserved g c =
       counted = omega (arith, i.counted, size, c.insert_in_room.ensures.counted);
       grows = omega (arith, i.grows);
     }
-
--- what the check tries where no answer stands takes longer than these
-pub returns-clause-capacity : goal.returns-clause-capacity
-returns-clause-capacity g c = omega arith
-
-pub returns-clause-counted : goal.returns-clause-counted
-returns-clause-counted g c = omega arith
-
-pub returns-clause-grows : goal.returns-clause-grows
-returns-clause-grows g c = omega arith
-
-pub returns-clause-room : goal.returns-clause-room
-returns-clause-room g c = omega arith
-
-pub returns-clause-steps : goal.returns-clause-steps
-returns-clause-steps g c = omega arith
-
-pub returns-clause-stops : goal.returns-clause-stops
-returns-clause-stops g c = omega arith
-
-pub returns-in_default-clause-capacity : goal.returns-in_default-clause-capacity
-returns-in_default-clause-capacity g c = omega arith
-
-pub returns-in_default-clause-grows : goal.returns-in_default-clause-grows
-returns-in_default-clause-grows g c = omega arith
-
-pub returns-in_default-clause-room : goal.returns-in_default-clause-room
-returns-in_default-clause-room g c = omega arith
-
-pub returns-in_default-clause-steps : goal.returns-in_default-clause-steps
-returns-in_default-clause-steps g c = omega arith

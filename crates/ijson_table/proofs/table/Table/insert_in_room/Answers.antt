@@ -1,12 +1,12 @@
-use Rattle.std.proofs.Common.{◌≡◌, ℕ, ◌+◌, ◌*◌, ◌<◌, ◌≤◌, List, length, Option, arith, ap, refl, sym, ◌∙◌, subst}
+use Rattle.std.proofs.Common.{◌≡◌, ℕ, ◌+◌, ◌*◌, ◌<◌, ◌≤◌, List, [], ◌∷◌, ◌++◌, length, map, Option, arith, ap, refl, sym, ◌∙◌, subst}
 use Rattle.std.proofs.lemmas.Bool.Decides.{nat_tests}
 use Rattle.ijson_table.specs.Crowd.{distance, slot_count}
 use Rattle.ijson_table.specs.Growth.{capacity_limit}
 use Rattle.ijson_table.specs.Placed.{Placed}
 use Rattle.ijson_table.specs.Slots.{IsTable}
-use Rattle.ijson_table.specs.Store.{at}
+use Rattle.ijson_table.specs.Store.{at, keys_of}
 use Rattle.ijson_table.specs.private.Changes.{changes}
-use Rattle.ijson_table.specs.private.Holds.{HasEmpty}
+use Rattle.ijson_table.specs.private.Holds.{HasEmpty, MayStand}
 use Rattle.ijson_table.proofs.arithmetic.Circular.{distance-below}
 use Rattle.ijson_table.proofs.pairs.NewPairs.{put_last}
 use Rattle.ijson_table.proofs.pairs.PairsByKey.{keys-length, position_within}
@@ -148,12 +148,25 @@ returns-in-Vacant-clause-counted g c =
       c.new-looks.ensures,
     )
 
--- what the check tries where no answer stands takes longer than these
-pub find-requires-clause-fits : goal.find-requires-clause-fits
-find-requires-clause-fits g c = omega arith
+pub find-requires-clause-hash : goal.find-requires-clause-hash
+find-requires-clause-hash g c = c.hash-hash.ensures ∙ ap g.H.KeyHash.hash_of (c.as_str.ensures ∙ sym c.as_str-2.ensures)
 
-pub push_at-last-requires-clause-room : goal.push_at-last-requires-clause-room
-push_at-last-requires-clause-room g c = omega arith
+pub push_at-last-requires : goal.push_at-last-requires
+push_at-last-requires g c =
+    let pairs = c.args.self.now.store.pairs in
+    let hashes = map g.H.KeyHash.hash_of (keys_of pairs) in
+    record {
+      missing = ap (at pairs) (sym c.as_str-2.ensures) ∙ c.in-Vacant.ensures.ends.0;
+      hash = c.hash-hash.ensures ∙ ap g.H.KeyHash.hash_of c.as_str.ensures;
+      room = c.requires;
+      may = subst (λ h. MayStand (hashes ++ h ∷ []) c.args.self.now.slots (length hashes) c.in-Vacant.slot)
+          (sym (c.hash-hash.ensures ∙ ap g.H.KeyHash.hash_of (c.as_str.ensures ∙ sym c.as_str-2.ensures))) c.in-Vacant.ensures.ends.2;
+    }
 
-pub returns-in-Vacant-clause-capacity : goal.returns-in-Vacant-clause-capacity
-returns-in-Vacant-clause-capacity g c = omega arith
+pub distance_between-requires : goal.distance_between-requires
+distance_between-requires g c =
+    let seen = (sized g (goal.at.distance_between-requires g c).After-len-slots).seen_is in
+    record { from = omega (arith, c.in-Vacant.ensures.ends.1, seen); to = omega (arith, c.push_at-last.ensures.within, seen) }
+
+pub returns-in-Found-clause-capacity : goal.returns-in-Found-clause-capacity
+returns-in-Found-clause-capacity g c = ap (λ (t : Placed g.row.V.Denot). t.store.capacity) c.replace_at.ensures.store

@@ -58,24 +58,3 @@ returns-then-is_empty-clause-pairs g c = grind (arith, common_steps)
 
 pub returns-clause-pairs : goal.returns-clause-pairs
 returns-clause-pairs g c = grind (arith, common_steps)
-
-pub count_steps-requires : goal.count_steps-requires
-count_steps-requires g c = omega arith
-
-pub insert_each-requires-clause-limited : goal.insert_each-requires-clause-limited
-insert_each-requires-clause-limited g c = omega arith
-
-pub overflow_mul-most : goal.overflow_mul-most
-overflow_mul-most g c = omega arith
-
-pub overflow_sub-taken : goal.overflow_sub-taken
-overflow_sub-taken g c = omega arith
-
-pub returns-clause-grows : goal.returns-clause-grows
-returns-clause-grows g c = omega arith
-
-pub returns-then-is_empty-clause-capacity : goal.returns-then-is_empty-clause-capacity
-returns-then-is_empty-clause-capacity g c = omega arith
-
-pub returns-then-is_empty-clause-grows : goal.returns-then-is_empty-clause-grows
-returns-then-is_empty-clause-grows g c = omega arith

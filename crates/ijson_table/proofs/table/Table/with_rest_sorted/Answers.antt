@@ -1,6 +1,10 @@
-use Rattle.std.proofs.Common.{◌≡◌, ◌≤◌, ◌+◌, ◌*◌, ◌^◌, ℕ, [], length, reverse, arith, ap, sym, subst, ◌∙◌}
+use Rattle.std.proofs.Common.{◌≡◌, ◌≤◌, ◌+◌, ◌*◌, ◌^◌, ℕ, [], length, map, reverse, arith, ap, ap₂, sym, subst, ◌∙◌}
+use Rattle.std.specs.Prelude.{vec_capacity}
+use Rattle.ijson_table.specs.Crowd.{slot_count}
+use Rattle.ijson_table.specs.Growth.{capacity_limit}
 use Rattle.ijson_table.specs.Placed.{Placed}
 use Rattle.ijson_table.specs.Store.{keys_of, put_each, IsDistinct}
+use Rattle.ijson_table.specs.private.KeptHash.{kept_hash}
 use Rattle.ijson_table.proofs.building.BuildBounds.{sorted_once, sorted_twice}
 use Rattle.ijson_table.proofs.pairs.PutEach.{put_each-behind, put_each-distinct}
 use Rattle.ijson_table.proofs.table.Table.with_rest_sorted.Given.{Over}
@@ -63,18 +67,43 @@ returns-clause-pairs g c =
 pub returns-clause-bounded : goal.returns-clause-bounded
 returns-clause-bounded g c = both g (goal.at.returns-clause-bounded g c).After-fill_sorted
 
--- what the check tries where no answer stands takes longer than these
-pub put_sorted-requires-clause-fits : goal.put_sorted-requires-clause-fits
-put_sorted-requires-clause-fits g c = omega arith
+pub fill_sorted-requires-clause-empty : goal.fill_sorted-requires-clause-empty
+fill_sorted-requires-clause-empty g c = c.clear.ensures.hashes
 
-pub put_sorted-requires-clause-limited : goal.put_sorted-requires-clause-limited
-put_sorted-requires-clause-limited g c = omega arith
+pub fill_sorted-requires-clause-room : goal.fill_sorted-requires-clause-room
+fill_sorted-requires-clause-room g c = omega (
+  arith,
+  c.clear.ensures.count,
+  c.self.invariant.size,
+  ap length c.deref.ensures.value,
+  c.in_ok-pairs.pairs.ok,
+  c.in_ok-pairs.ensures.room,
+  c.put_back.ensures.room,
+)
 
-pub returns-clause-grows : goal.returns-clause-grows
-returns-clause-grows g c = omega arith
+pub fill_sorted-requires-clause-limited : goal.fill_sorted-requires-clause-limited
+fill_sorted-requires-clause-limited g c = omega (
+  arith,
+  c.self.invariant.room.limited,
+  ap length c.deref.ensures.value,
+  c.in_ok-pairs.pairs.ok,
+  c.in_ok-pairs.ensures.room,
+  c.put_back.ensures.room,
+)
 
-pub returns-in_err-fill_sorted-clause-grows : goal.returns-in_err-fill_sorted-clause-grows
-returns-in_err-fill_sorted-clause-grows g c = omega arith
+pub invariant_of-result-2 : goal.invariant_of-result-2
+invariant_of-result-2 g c =
+    let room : vec_capacity c.in_ok-pairs.pairs ≡ vec_capacity c.self.inside.pairs = c.in_ok-pairs.ensures.room ∙ c.put_back.ensures.room in
+    record {
+      room = record {
+        within = omega (arith, c.in_ok-pairs.pairs.ok);
+        limited = subst (λ n. n ≤ capacity_limit) (sym room) c.self.invariant.room.limited;
+      };
+      hashes = c.in_ok-fill_sorted.ensures.hashes
+          ∙ ap₂ (λ n ps. map (kept_hash n g.H.KeyHash.hash_of) (keys_of ps)) (sym c.fill_sorted.ensures.count) c.deref.ensures.value;
+      size = c.fill_sorted.ensures.count ∙ (c.clear.ensures.count ∙ (c.self.invariant.size ∙ ap slot_count (sym room)));
+    }
 
-pub returns-in_err-pairs-clause-grows : goal.returns-in_err-pairs-clause-grows
-returns-in_err-pairs-clause-grows g c = omega arith
+pub returns-clause-capacity : goal.returns-clause-capacity
+returns-clause-capacity g c = c.in_ok-pairs.ensures.room
+    ∙ (c.put_back.ensures.room ∙ ap (λ (t : Placed g.row.V.Denot). t.store.capacity) c.self.view_is)

@@ -223,36 +223,3 @@ invariant_of-lookup g c =
 
 pub distance_between-requires-in-Found-clause-to : goal.distance_between-requires-in-Found-clause-to
 distance_between-requires-in-Found-clause-to g c = grind (arith, common_steps)
-
-pub bounds-pairs-position : goal.bounds-pairs-position
-bounds-pairs-position g c = omega arith
-
-pub distance_between-requires-clause-from : goal.distance_between-requires-clause-from
-distance_between-requires-clause-from g c = omega arith
-
-pub distance_between-requires-clause-to : goal.distance_between-requires-clause-to
-distance_between-requires-clause-to g c = omega arith
-
-pub distance_between-requires-in-Found-clause-from : goal.distance_between-requires-in-Found-clause-from
-distance_between-requires-in-Found-clause-from g c = omega arith
-
-pub probe-requires-clause-some : goal.probe-requires-clause-some
-probe-requires-clause-some g c = omega arith
-
-pub push_at-last-requires-clause-room : goal.push_at-last-requires-clause-room
-push_at-last-requires-clause-room g c = omega arith
-
-pub returns-in-Found-clause-count : goal.returns-in-Found-clause-count
-returns-in-Found-clause-count g c = omega arith
-
-pub returns-in-Found-clause-grows : goal.returns-in-Found-clause-grows
-returns-in-Found-clause-grows g c = omega arith
-
-pub returns-in-Full-clause-count : goal.returns-in-Full-clause-count
-returns-in-Full-clause-count g c = omega arith
-
-pub returns-in-Vacant-clause-count : goal.returns-in-Vacant-clause-count
-returns-in-Vacant-clause-count g c = omega arith
-
-pub returns-in-Vacant-clause-grows : goal.returns-in-Vacant-clause-grows
-returns-in-Vacant-clause-grows g c = omega arith

@@ -1,4 +1,4 @@
-use Rattle.std.proofs.Common.{arith, ◌∙◌, ap, sym, set}
+use Rattle.std.proofs.Common.{◌∙◌, ap, sym, set}
 use Rattle.ijson_table.specs.private.NarrowSlots.{stored_slots}
 use Rattle.ijson_table.proofs.slots.StoredSlots.{few-set, narrow-set}
 use Rattle.ijson_table.proofs.index.slots.Slots.set.Goals as goal
@@ -12,10 +12,3 @@ pub returns-in-Narrow : goal.returns-in-Narrow
 returns-in-Narrow c =
     narrow-set c.in-Narrow.slots.items c.args.slot c.stored-in-Narrow.result c.args.entry c.stored-in-Narrow.ensures
     ∙ ap (λ slots. set slots c.args.slot c.args.entry) (ap stored_slots (sym c.in-Narrow.is) ∙ c.self.view_is)
-
--- what the check tries where no answer stands takes longer than these
-pub invariant_of-few : goal.invariant_of-few
-invariant_of-few c = omega arith
-
-pub invariant_of-self : goal.invariant_of-self
-invariant_of-self c = omega arith

@@ -1,0 +1,9 @@
+use Rattle.std.proofs.Common.{arith}
+use Rattle.ijson_table.proofs.index.slots.Slots.at.Goals as goal
+
+-- what the check tries where no answer stands takes longer than these
+pub returns-in-Few-clause-fits : goal.returns-in-Few-clause-fits
+returns-in-Few-clause-fits c = omega arith
+
+pub returns-in-Narrow-clause-fits : goal.returns-in-Narrow-clause-fits
+returns-in-Narrow-clause-fits c = omega arith
