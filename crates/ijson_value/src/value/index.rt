@@ -71,7 +71,7 @@ pub trait ValueIndex: Sealed {
         ensures value { option_map (λ found. found.now.tree) result
             ≡ tree_at v.old.tree (Self.Sealed.step self) }
     {
-        IValue::get_mut(opened(v), self)
+        IValue::get_mut(v.deref_mut(), self)
     }
 
     /// The value there in an opened value, to be written. As `index_into_mut`.
@@ -235,14 +235,6 @@ impl IValue {
     {
         opened.index_or_insert(key)
     }
-}
-
-/// The value opened, which it always is.
-fn opened(value: &mut IValue) -> &mut Destructured
-    ensures* writes_back { sem 𝓛 (LendsOpened value.entry result) }
-    ensures value { node_value result.now ≡ value.old }
-{
-    &mut **value
 }
 
 impl Destructured {

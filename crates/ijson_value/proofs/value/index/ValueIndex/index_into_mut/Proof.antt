@@ -31,8 +31,8 @@ use Rattle.ijson_value.proofs.lends.LentOn.{then_so}
 use Rattle.ijson_value.specs.contracts.value.index.ValueIndex.index_into_mut as f
 use Rattle.ijson_value.proofs.value.index.ValueIndex.index_into_mut.Statement.{statement}
 use Rattle.ijson_value.proofs.value.index.ValueIndex.index_into_mut.Code as code
-use Rattle.ijson_value.specs.contracts.value.index.opened as g
-use Rattle.ijson_value.proofs.value.index.opened.Met as g-thm
+use Rattle.ijson_value.specs.contracts.value.index.IValueDerefMut.deref_mut as g
+use Rattle.ijson_value.proofs.value.index.IValueDerefMut.deref_mut.Met as g-thm
 use Rattle.ijson_value.specs.contracts.value.IValue.get_mut as h
 use Rattle.ijson_value.proofs.value.IValue.get_mut.Met as h-thm
 
@@ -73,7 +73,7 @@ index_into_mut_spec 𝓤 𝓛 𝓜 𝓡 wired I LI CI gx dx gs ds gc dc mx ms mc
     let z : G.Ghost = (((κ, tt), (q, tt), tt, (r, tt), (vs, tt)), tt) in
     nothing ! $ move ! (1 ∷ 0 ∷ []) $ join ! $ nothing ! $ move ! (2 ∷ 0 ∷ []) $ join ! $ join ! $ nothing ! $ move ! (1 ∷ 0 ∷ []) $
     use2 𝓛 (raw (G.pre z)) (id⊢ 𝓤 _) $
-    calls_at ! (framed 𝓤 𝓛.H 𝓜 𝓣) G (g-thm.met 𝓤 𝓛 𝓜 𝓡 (code.calls-ijson_value::value::index::opened 𝓡.env wired)) z
+    calls_at ! (framed 𝓤 𝓛.H 𝓜 𝓣) G (g-thm.met 𝓤 𝓛 𝓜 𝓡 (code.calls-ijson_value::value::index::IValueDerefMut::deref_mut 𝓡.env wired)) z
     (and_then ! (get ! refl) (no_more !)) (λ x.
     use1 𝓛 (later (some (λ (u : MutBor Destructured). ((‵ (flft κ q) ⊛ ‵ ftrue) ⊛ ‵ ((MutRef (named 0) κ N).own_val u (x ∷ []))) ⊛
     some (λ (ws : Unit {0} × Unit {0}). ‵ (lasts g.ended (κ, tt) (r, tt) ws) ⊛ ‵ (follows V N r.ghost_name u.ghost_name node_value)
