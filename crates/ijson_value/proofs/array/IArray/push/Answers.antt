@@ -4,3 +4,6 @@ use Rattle.ijson_value.proofs.array.IArray.push.Goals as goal
 
 pub returns-clause-ok : goal.returns-clause-ok
 returns-clause-ok c = grind (arith, common_steps)
+
+pub returns-clause-doubles : goal.returns-clause-doubles
+returns-clause-doubles c = grind (arith, common_steps)
