@@ -28,14 +28,14 @@ impl IValue {
     pub fn is_true(&self) -> bool
         ensures { IsTrue result ↔ (self.now.tree ≡ boolean true) }
     {
-        matches!(self.node, Destructured::Bool(b) if b)
+        matches!(self.node, Destructured::Bool(true))
     }
 
     /// Whether the value is false.
     pub fn is_false(&self) -> bool
         ensures { IsTrue result ↔ (self.now.tree ≡ boolean false) }
     {
-        matches!(self.node, Destructured::Bool(b) if !b)
+        matches!(self.node, Destructured::Bool(false))
     }
 
     /// Whether the value is a number.
