@@ -3,5 +3,7 @@ pub mod CompactErrorOfReadFault
 pub mod Reading
 pub mod Separators
 pub mod Explains
-pub mod AnswersAt
+pub mod ReadsKey
+pub mod ReadsScalar
+pub mod ReadsValue
 pub mod StringReading

@@ -1,5 +1,5 @@
 -- The elements of an array or an object as they are read: what is kept of them lies on a stack, above what lay there.
-use Rattle.std.proofs.Common.{◌≡◌, ℕ, ◌+◌, ◌<◌, List, [], ◌∷◌, ◌++◌, length, take, drop, sym, subst, append-nil}
+use Rattle.std.proofs.Common.{◌≡◌, ℕ, ◌+◌, ◌<◌, List, [], ◌∷◌, ◌++◌, length, take, drop, sym, append-nil}
 use Rattle.std.specs.Prelude.{◌==◌}
 use Rattle.ijson_string.specs.Cache.{Texts}
 use Rattle.ijson_json.specs.AddsOnlyRead.{AddsOnlyRead}
@@ -84,12 +84,6 @@ module _ {E : Type 0} {S : Shape E} {L : Listing E S} {K : Gathers E S L}
       → base ≡ length below → taken ≡ drop base pushed → taken ≡ i.kept ++ k ∷ []
   gathered_taken k read pushed taken base same push begins is =
       taken_above below (i.kept ++ k ∷ []) pushed taken base begins (pushed_above below i.kept stack read pushed k i.above same push) is
-
-  -- and that shares its texts
-  pub gathered_shared : (k : K.Kept) (read pushed taken : List K.Kept) (base : ℕ) (new : Texts) → read ≡ stack → pushed ≡ read ++ k ∷ []
-      → base ≡ length below → taken ≡ drop base pushed → AddsOnlyRead rest cache new → K.Shares new k → K.AllShare new taken
-  gathered_shared k read pushed taken base new same push begins is adds shares =
-      subst (K.AllShare new) (sym (gathered_taken k read pushed taken base same push begins is)) (gathered_share k new adds shares)
 
   -- and what lay there before is left
   pub gathered_left : (k : K.Kept) (read pushed left : List K.Kept) (base : ℕ) → read ≡ stack → pushed ≡ read ++ k ∷ []

@@ -1,6 +1,7 @@
--- One value that is none: its first byte begins no kind of value, or the fault is that of a number or a string.
+-- One value: a scalar that was read, or none, since its first byte begins no kind of value or the fault is that of a number or a string.
 use Rattle.std.proofs.Common.{◌≡◌, ℕ, true, false, List, [], ◌∷◌, ◌++◌, sym, ap, subst, ◌∙◌, arith, eq-eqb, refl}
-use Rattle.std.specs.Prelude.{◌==◌, ◌≢◌, nat_lt}
+use Rattle.std.specs.Prelude.{◌==◌, ◌≢◌, ◌≤◌, Result, Ok, Err, nat_lt}
+use Rattle.std.specs.Borrow.{Bor}
 use Rattle.std.proofs.lemmas.Bool.{ne_eqb}
 use Rattle.std.proofs.lemmas.Bool.Decides.{nat_tests}
 use Rattle.std.proofs.lemmas.List.{append-nil}
@@ -8,11 +9,17 @@ use Rattle.ijson_json.specs.declared.fault.Fault.{Fault}
 use Rattle.ijson_json.specs.declared.fault.Fault.TheVariants as faults
 use Rattle.ijson_value.specs.Order.{rank}
 use Rattle.ijson_value.specs.Tree.{Tree, null, boolean, number, string, array, object}
+use Rattle.ijson_value.specs.WellFormed.{WellFormed}
+use Rattle.ijson_string.specs.Cache.{Texts}
 use Rattle.ijson_number.proofs.parsing.SpelledBytes.{spells_first}
 use Rattle.ijson_json.specs.Ranged.{is_ranged}
 use Rattle.ijson_json.specs.Grammar.{IsValue, IsString}
 use Rattle.ijson_json.specs.private.Reading.{Past, Stops, Front, IsOutOfRange, NoValue, NoNumber, PastLimitAt}
 use Rattle.ijson_json.specs.private.Explains.{Explains, ExplainsMember, NumberFault, StringFault}
+use Rattle.ijson_json.specs.private.ReadsScalar.{ReadsScalar}
+use Rattle.ijson_json.specs.private.ReadsValue.{ReadsValue}
+use Rattle.ijson_json.specs.Limits.{max_depth}
+use Rattle.ijson_json.specs.declared.read.scratch.Scratch.{Scratch}
 use Rattle.ijson_json.proofs.grammar.FirstBytes.{kind, number_kind, value_first, rank-le}
 use Rattle.ijson_json.proofs.reading.Members.{no_key}
 use Rattle.ijson_json.proofs.scanning.Prefixes.{not_both, heads}
@@ -115,3 +122,14 @@ key_fault opened text (faults.Syntax left) h = (h.0, no_key text h.1)
 key_fault opened text (faults.TooDeep left) h = absurd h
 key_fault opened text (faults.NumberRange left) h = absurd h
 key_fault opened text faults.Memory h = tt
+
+-- a reading of a scalar is one of a value
+pub scalar_read : (opened : ℕ) (text : List ℕ) (result : Result (WellFormed × Bor (List ℕ)) Fault) (old new : Texts)
+    (before after : Scratch) → opened ≤ max_depth → after.values.items ≡ before.values.items → after.members.items ≡ before.members.items
+    → ReadsScalar text result old new → ReadsValue opened text result old new before after
+scalar_read opened text (Ok x) old new before after within values members scalar = record {
+  cache = scalar.cache;
+  answer = record { read = scalar.answer.read opened within; shared = scalar.answer.shared; values = values; members = members };
+}
+scalar_read opened text (Err fault) old new before after within values members scalar =
+    record { cache = scalar.cache; answer = scalar.answer opened }

@@ -1,20 +1,25 @@
 -- The words `null`, `true` and `false`: what is read of one, and why none is.
 use Rattle.std.proofs.Common.{◌≡◌, ℕ, ◌≤◌, Bool, true, false, List, ◌∷◌, ◌++◌, refl, sym, ap, subst, ◌∙◌, arith}
 use Rattle.std.specs.Prelude.{◌≢◌, Result, MatchResult}
+use Rattle.std.specs.Borrow.{Bor}
 use Rattle.std.proofs.lemmas.Result.{MatchResult-weaker}
+use Rattle.ijson_string.specs.Cache.{Texts}
 use Rattle.ijson_value.specs.Order.{rank}
 use Rattle.ijson_value.specs.Tree.{Tree, null, boolean, depth}
 use Rattle.ijson_value.specs.WellFormed.{WellFormed}
+use Rattle.ijson_json.specs.AreShared.{AreShared}
 use Rattle.ijson_json.specs.Grammar.{IsValue, null_text, boolean_text}
 use Rattle.ijson_json.specs.Limits.{max_depth}
 use Rattle.ijson_json.specs.Ranged.{is_ranged}
 use Rattle.ijson_json.specs.Settled.{settled}
 use Rattle.ijson_json.specs.private.Reading.{Ends, NoValue, ReadAs}
 use Rattle.ijson_json.specs.private.Explains.{Explains, WordFault}
+use Rattle.ijson_json.specs.private.ReadsScalar.{ReadsScalar}
 use Rattle.ijson_json.specs.declared.fault.Fault.{Fault}
 use Rattle.ijson_json.specs.declared.fault.Fault.TheVariants as faults
 use Rattle.ijson_json.proofs.scanning.Prefixes.{heads, heads_apart}
 use Rattle.ijson_json.proofs.grammar.FirstBytes.{kind, value_first}
+use Rattle.ijson_json.proofs.reading.CacheContents.{adds_none}
 
 -- the word that begins with this byte and spells this tree, and that no other value begins as
 pub record Word (b : ℕ) (word : List ℕ) (t : Tree) : Type 0 where
@@ -25,6 +30,7 @@ pub record Word (b : ℕ) (word : List ℕ) (t : Tree) : Type 0 where
   pub flat : depth t ≡ 0
   pub ranged : is_ranged t ≡ true
   pub settles : t ≡ settled t
+  pub shares : (cache : Texts) → AreShared cache t
 
 -- of the values `null` alone begins with an n
 null_alone : (t : Tree) (front : List ℕ) → IsValue t front → kind 110 ≡ rank t → (others : List ℕ) × (front ≡ 110 ∷ others)
@@ -34,7 +40,15 @@ null_alone t front v k o = absurd (omega (arith, k))
 
 -- the word `null`
 pub null_word : Word 110 null_text null
-null_word = record { spells = refl; alone = null_alone; ends = λ rest. tt; flat = refl; ranged = refl; settles = refl }
+null_word = record {
+  spells = refl;
+  alone = null_alone;
+  ends = λ rest. tt;
+  flat = refl;
+  ranged = refl;
+  settles = refl;
+  shares = λ cache. tt;
+}
 
 -- the first byte of a truth value
 abbrev first_of : Bool → ℕ
@@ -52,7 +66,15 @@ boolean_alone true t front v k o = absurd (omega (arith, k))
 boolean_alone false t front v k o = absurd (omega (arith, k))
 
 boolean_word : (a : Bool) → Word (first_of a) (boolean_text a) (boolean a)
-boolean_word a = record { spells = refl; alone = boolean_alone a; ends = λ rest. tt; flat = refl; ranged = refl; settles = refl }
+boolean_word a = record {
+  spells = refl;
+  alone = boolean_alone a;
+  ends = λ rest. tt;
+  flat = refl;
+  ranged = refl;
+  settles = refl;
+  shares = λ cache. tt;
+}
 
 -- the word `true`
 pub true_word : Word 116 (boolean_text true) (boolean true)
@@ -92,13 +114,19 @@ module _ {b : ℕ} {word : List ℕ} {t : Tree} (w : Word b word t) where
   word_fault opened text more (faults.NumberRange left) e h = absurd h
   word_fault opened text more faults.Memory e h = absurd h
 
-  -- what is answered where the word may stand
-  pub word_answered : {S : Type 0} (answer : Result (WellFormed × S) Fault) (behind : S → List ℕ) (value : WellFormed) (opened : ℕ)
-      (text : List ℕ) (first : ℕ) (more : List ℕ) → opened ≤ max_depth → text ≡ first ∷ more → first ≡ b → value.tree ≡ t
-      → MatchResult answer (λ x. (x.0 ≡ value) × (text ≡ word ++ behind x.1)) (λ fault. WordFault text word fault)
-      → MatchResult answer (λ x. ReadAs opened text x.0.tree (behind x.1)) (λ fault. Explains opened text fault)
-  word_answered answer behind value opened text first more within e f is h =
-      MatchResult-weaker answer h
-      (λ x found. subst (λ (tree : Tree). ReadAs opened text tree (behind x.1)) (sym (ap (λ (v : WellFormed). v.tree) found.0 ∙ is))
-      (word_read opened text (behind x.1) within found.1))
-      (λ fault why. word_fault opened text more fault (e ∙ ap (λ (c : ℕ). c ∷ more) f) why)
+  -- what a reading does where the word may stand
+  pub word_reads : (answer : Result (WellFormed × Bor (List ℕ)) Fault) (value : WellFormed) (cache : Texts) (text : List ℕ) (first : ℕ)
+      (more : List ℕ) → text ≡ first ∷ more → first ≡ b → value.tree ≡ t
+      → MatchResult answer (λ x. (x.0 ≡ value) × (text ≡ word ++ x.1.now)) (λ fault. WordFault text word fault)
+      → ReadsScalar text answer cache cache
+  word_reads answer value cache text first more e f is h = record {
+    cache = adds_none text cache;
+    answer = MatchResult-weaker answer h
+        (λ x found. let same = ap (λ (v : WellFormed). v.tree) found.0 ∙ is in
+        record {
+          read = λ opened within. subst (λ (tree : Tree). ReadAs opened text tree x.1.now) (sym same)
+              (word_read opened text x.1.now within found.1);
+          shared = subst (λ (tree : Tree). AreShared cache tree) (sym same) (w.shares cache);
+        })
+        (λ fault why opened. word_fault opened text more fault (e ∙ ap (λ (c : ℕ). c ∷ more) f) why);
+  }

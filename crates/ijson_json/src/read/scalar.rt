@@ -1,11 +1,8 @@
 //! Reading a value that is no container.
 
-ghost use Rattle.std.specs.Prelude.{◌≡◌, ◌≢◌, ◌∷◌, ◌++◌, ◌≤◌, ℕ, List, IfOk, MatchResult};
-ghost use Rattle.ijson_json.specs.AddsOnlyRead.{AddsOnlyRead};
-ghost use Rattle.ijson_json.specs.AreShared.{AreShared};
-ghost use Rattle.ijson_json.specs.Limits.{max_depth};
-ghost use Rattle.ijson_json.specs.private.AnswersAt.{AnswersAt};
+ghost use Rattle.std.specs.Prelude.{◌≡◌, ◌≢◌, ◌∷◌, ◌++◌, ℕ, List, MatchResult};
 ghost use Rattle.ijson_json.specs.private.Explains.{WordFault};
+ghost use Rattle.ijson_json.specs.private.ReadsScalar.{ReadsScalar};
 
 use crate::fault::Fault;
 use crate::read::number::read_number;
@@ -44,9 +41,7 @@ pub(crate) fn read_scalar<'a, S: BuildHasher>(
 ) -> Result<(IValue, &'a str), Fault>
     requires begins { (rest : List ℕ) × (text.now ≡ first ∷ rest) }
     requires apart { (first ≢ 91) × (first ≢ 123) }
-    ensures read { (opened : ℕ) → opened ≤ max_depth → AnswersAt opened text.now result }
-    ensures cache { AddsOnlyRead text.now cache.old cache.new }
-    ensures shared { IfOk result (λ x. AreShared cache.new x.0.tree) }
+    ensures { ReadsScalar text.now result cache.old cache.new }
 {
     match first {
         b'"' => {

@@ -4,11 +4,10 @@ ghost use Rattle.std.specs.Prelude.{◌≡◌, ◌≢◌, ◌++◌, ◌∷◌, L
 ghost use Rattle.std.specs.String.{string_bytes};
 ghost use Rattle.ijson_string.specs.Cache.{interned};
 ghost use Rattle.ijson_json.specs.Grammar.{IsString};
-ghost use Rattle.ijson_json.specs.AddsOnlyRead.{AddsOnlyRead};
-ghost use Rattle.ijson_json.specs.AreShared.{IsShared};
 ghost use Rattle.ijson_json.specs.Strings.{is_unescaped};
-ghost use Rattle.ijson_json.specs.private.Reading.{Front, KeyRead, Past};
-ghost use Rattle.ijson_json.specs.private.Explains.{ExplainsMember, StringFault};
+ghost use Rattle.ijson_json.specs.private.Reading.{Front, Past};
+ghost use Rattle.ijson_json.specs.private.Explains.{StringFault};
+ghost use Rattle.ijson_json.specs.private.ReadsKey.{ReadsKey};
 ghost use Rattle.ijson_json.specs.private.StringReading.{ContentAt, ContentFault};
 
 use crate::fault::Fault;
@@ -88,11 +87,7 @@ pub(crate) fn read_key<'a, S: BuildHasher>(
     content: &mut String,
     text: &'a str,
 ) -> Result<(IString, &'a str), Fault>
-    ensures read { MatchResult result
-        (λ x. KeyRead x.0 text.now x.1.now)
-        (λ fault. (opened : ℕ) → ExplainsMember opened text.now fault) }
-    ensures cache { AddsOnlyRead text.now cache.old cache.new }
-    ensures shared { IfOk result (λ x. IsShared cache.new x.0) }
+    ensures { ReadsKey text.now result cache.old cache.new }
 {
     let (key, after) = read_string(cache, content, text)?;
     let after = skip_space(after);

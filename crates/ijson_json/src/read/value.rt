@@ -1,10 +1,8 @@
 //! Reading a value of any kind: arrays and objects here, the others by `scalar`.
 
-ghost use Rattle.std.specs.Prelude.{◌≡◌, ◌≢◌, ◌⊎◌, ◌∷◌, ◌<◌, ◌≤◌, length, MatchResult, IfOk, OnOk, IsTrue, IsFalse};
+ghost use Rattle.std.specs.Prelude.{◌≡◌, ◌≢◌, ◌⊎◌, ◌∷◌, ◌<◌, ◌≤◌, length, MatchResult, IsTrue, IsFalse};
 ghost use Rattle.ijson_json.specs.Limits.{max_depth};
-ghost use Rattle.ijson_json.specs.AddsOnlyRead.{AddsOnlyRead};
-ghost use Rattle.ijson_json.specs.AreShared.{AreShared};
-ghost use Rattle.ijson_json.specs.private.AnswersAt.{AnswersAt};
+ghost use Rattle.ijson_json.specs.private.ReadsValue.{ReadsValue};
 ghost use Rattle.ijson_json.specs.declared.fault.Fault.TheVariants.{TooDeep};
 
 use crate::fault::Fault;
@@ -57,11 +55,7 @@ pub(crate) fn read_value<'a, S: BuildHasher>(
     opened: usize,
 ) -> Result<(IValue, &'a str), Fault>
     requires { opened ≤ max_depth }
-    ensures read { AnswersAt opened text.now result }
-    ensures cache { AddsOnlyRead text.now cache.old cache.new }
-    ensures kept { OnOk result ((scratch.new.values.items ≡ scratch.old.values.items)
-        × (scratch.new.members.items ≡ scratch.old.members.items)) }
-    ensures shared { IfOk result (λ x. AreShared cache.new x.0.tree) }
+    ensures { ReadsValue opened text.now result cache.old cache.new scratch.old scratch.new }
 {
     let Some((first, inside)) = split_ascii(text) else {
         return Err(Fault::Syntax { left: text.len() });
@@ -88,11 +82,7 @@ fn read_container<'a, S: BuildHasher>(
     requires opened { opened ≤ max_depth }
     requires begins { text.now ≡ first ∷ inside.now }
     requires opens { (first ≡ 91) ⊎ (first ≡ 123) }
-    ensures read { AnswersAt opened text.now result }
-    ensures cache { AddsOnlyRead text.now cache.old cache.new }
-    ensures kept { OnOk result ((scratch.new.values.items ≡ scratch.old.values.items)
-        × (scratch.new.members.items ≡ scratch.old.members.items)) }
-    ensures shared { IfOk result (λ x. AreShared cache.new x.0.tree) }
+    ensures { ReadsValue opened text.now result cache.old cache.new scratch.old scratch.new }
 {
     check_depth(text, opened)?;
     let (container, rest) = if first == b'[' {
@@ -115,11 +105,7 @@ fn read_array<'a, S: BuildHasher>(
     opened: usize,
 ) -> Result<(IValue, &'a str), Fault>
     requires { opened < max_depth }
-    ensures read { AnswersAt opened (91 ∷ inside.now) result }
-    ensures cache { AddsOnlyRead (91 ∷ inside.now) cache.old cache.new }
-    ensures kept { OnOk result ((scratch.new.values.items ≡ scratch.old.values.items)
-        × (scratch.new.members.items ≡ scratch.old.members.items)) }
-    ensures shared { IfOk result (λ x. AreShared cache.new x.0.tree) }
+    ensures { ReadsValue opened (91 ∷ inside.now) result cache.old cache.new scratch.old scratch.new }
 {
     let mut rest = skip_space(inside);
     if let Some(behind) = strip_byte(rest, b']') {
@@ -150,11 +136,7 @@ fn read_object<'a, S: BuildHasher>(
     opened: usize,
 ) -> Result<(IValue, &'a str), Fault>
     requires { opened < max_depth }
-    ensures read { AnswersAt opened (123 ∷ inside.now) result }
-    ensures cache { AddsOnlyRead (123 ∷ inside.now) cache.old cache.new }
-    ensures kept { OnOk result ((scratch.new.values.items ≡ scratch.old.values.items)
-        × (scratch.new.members.items ≡ scratch.old.members.items)) }
-    ensures shared { IfOk result (λ x. AreShared cache.new x.0.tree) }
+    ensures { ReadsValue opened (123 ∷ inside.now) result cache.old cache.new scratch.old scratch.new }
 {
     let mut rest = skip_space(inside);
     if let Some(behind) = strip_byte(rest, b'}') {

@@ -12,14 +12,14 @@ use Rattle.ijson_json.proofs.read.read_text.Goals as goal
 
 pub returns-then-is_empty-clause-read : goal.returns-then-is_empty-clause-read
 returns-then-is_empty-clause-read g c =
-    let r = c.in-Ok.ensures.read in
+    let r = c.in-Ok.ensures.answer.read in
     subst (λ (t : Tree). Accepted c.args.text.now t) (sym r.2)
     (whole c.args.text.now c.skip_space-start.result.now c.in-Ok.rest.now c.skip_space-rest.result.now r.0 c.skip_space-start.ensures
     r.1 c.skip_space-rest.ensures (eqb-true _ _ (sym c.if-is_empty.ensures)))
 
 pub returns-else-is_empty-clause-read : goal.returns-else-is_empty-clause-read
 returns-else-is_empty-clause-read g c =
-    let r = c.in-Ok.ensures.read in (
+    let r = c.in-Ok.ensures.answer.read in (
       omega arith,
       behind c.args.text.now c.skip_space-start.result.now c.in-Ok.rest.now c.skip_space-rest.result.now r.0
           c.skip_space-start.ensures r.1 c.skip_space-rest.ensures (λ e. not_both _ (eq-eqb _ _ e) (sym c.if-is_empty.ensures)),
@@ -27,7 +27,7 @@ returns-else-is_empty-clause-read g c =
 
 pub returns-in-Err-clause-read : goal.returns-in-Err-clause-read
 returns-in-Err-clause-read g c = subst (λ (e : JsonError). Refuses c.args.text.now e) (sym c.located.ensures)
-    (refuses c.args.text.now c.skip_space-start.result.now c.in-Err.fault c.skip_space-start.ensures c.in-Err.ensures.read)
+    (refuses c.args.text.now c.skip_space-start.result.now c.in-Err.fault c.skip_space-start.ensures c.in-Err.ensures.answer)
 
 pub returns-then-is_empty-clause-cache : goal.returns-then-is_empty-clause-cache
 returns-then-is_empty-clause-cache g c = adds_behind c.args.text.now c.skip_space-start.ensures.space c.skip_space-start.result.now
@@ -41,6 +41,9 @@ pub returns-in-Err-clause-cache : goal.returns-in-Err-clause-cache
 returns-in-Err-clause-cache g c = adds_behind c.args.text.now c.skip_space-start.ensures.space c.skip_space-start.result.now
     c.args.cache.now
     c.read_value-read.new.cache c.skip_space-start.ensures.is c.read_value-read.ensures.cache
+
+pub returns-then-is_empty-clause-shared : goal.returns-then-is_empty-clause-shared
+returns-then-is_empty-clause-shared g c = c.in-Ok.ensures.answer.shared
 
 -- what the check tries where no answer stands takes longer than these
 pub overflow_sub-result : goal.overflow_sub-result

@@ -1,0 +1,28 @@
+-- What a reading of one value does.
+use Rattle.std.specs.Prelude.{◌≡◌, ℕ, List, Result, MatchResult}
+use Rattle.std.specs.Borrow.{Bor}
+use Rattle.ijson_string.specs.Cache.{Texts}
+use Rattle.ijson_value.specs.WellFormed.{WellFormed}
+use Rattle.ijson_json.specs.AddsOnlyRead.{AddsOnlyRead}
+use Rattle.ijson_json.specs.AreShared.{AreShared}
+use Rattle.ijson_json.specs.private.Explains.{Explains}
+use Rattle.ijson_json.specs.private.Reading.{ReadAs}
+use Rattle.ijson_json.specs.declared.fault.Fault.{Fault}
+use Rattle.ijson_json.specs.declared.read.scratch.Scratch.{Scratch}
+
+-- the value at the front of the text was read, inside so many open containers, the cache holds its
+-- texts, and the stacks of the scratch are as they were
+pub record ValueRead (opened : ℕ) (text : List ℕ) (cache : Texts) (old new : Scratch)
+    (value : WellFormed) (rest : List ℕ) : Type 0 where
+  pub read : ReadAs opened text value.tree rest
+  pub shared : AreShared cache value.tree
+  pub values : new.values.items ≡ old.values.items
+  pub members : new.members.items ≡ old.members.items
+
+-- the value and what stands behind it, or why there is none, and what the cache has then
+pub record ReadsValue (opened : ℕ) (text : List ℕ) (result : Result (WellFormed × Bor (List ℕ)) Fault)
+    (old new : Texts) (before after : Scratch) : Type 0 where
+  pub cache : AddsOnlyRead text old new
+  pub answer : MatchResult result
+      (λ x. ValueRead opened text new before after x.0 x.1.now)
+      (λ fault. Explains opened text fault)
