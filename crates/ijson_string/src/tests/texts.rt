@@ -15,21 +15,33 @@ fn long_texts_alone_enter_the_cache(rt: HostRuntime) {
     assert!(rt; cache.contains("eight888"));
     cache.clear();
     assert!(rt; cache.is_empty());
+    drop(cache);
     assert!(rt; long == again);
-    assert!(rt; short == short.clone().expect(&rt, "a copy"));
+    drop(again);
+    let copy = short.clone().expect(&rt, "a copy");
+    assert!(rt; short == copy);
+    drop(copy);
+    drop(short);
     let owned = long.to_owned_string(rt.alloc()).expect(&rt, "a text");
+    drop(long);
     assert!(rt; owned.as_str() == "eight888");
+    drop(owned);
 }
 
 /// Asserts that a text and its copies are these letters, and print them. `Debug` puts them between quotes, since none is escaped.
 fn is_text(rt: &impl Abort, alloc: Global, text: &IString, letters: &str) {
     assert!(rt; text.len() == letters.len());
-    assert!(rt; text.clone().expect(rt, "a copy").eq_str(letters));
+    let copy = text.clone().expect(rt, "a copy");
+    assert!(rt; copy.eq_str(letters));
+    drop(copy);
     let owned = text.to_owned_string(alloc).expect(rt, "a text");
     assert!(rt; owned.as_str() == letters);
+    drop(owned);
     let printed = format!(in alloc; "{text}{text:?}").expect(rt, "a text");
     let want = format!(in alloc; "{letters}\"{letters}\"").expect(rt, "a text");
     assert!(rt; printed == want);
+    drop(printed);
+    drop(want);
 }
 
 /// A text of each form that is stored, at its least and its greatest length, and long ones.
@@ -47,8 +59,11 @@ fn texts_of_each_length_are_shared_and_print(rt: HostRuntime) {
         let letters = text.as_str().get(..length).expect(&rt, "a beginning");
         let text = interned(&rt, &mut cache, letters);
         is_text(&rt, rt.alloc(), &text, letters);
+        drop(text);
     }
     assert!(rt; cache.len() == 12);
+    drop(cache);
+    drop(text);
 }
 
 /// Texts, and the 7 bytes that each lies in.
@@ -66,9 +81,12 @@ fn short_texts_lie_in_seven_bytes(rt: HostRuntime) {
         let (length, row) = text.in_place().expect(&rt, "a short text");
         assert!(rt; usize::from(length) == letters.len());
         assert!(rt; row == want);
+        drop(text);
     }
     let long = interned(&rt, &mut cache, "eight888");
     assert!(rt; long.in_place().is_none());
+    drop(long);
+    drop(cache);
 }
 
 /// Texts, and what `Debug` prints of each.
@@ -90,14 +108,24 @@ fn texts_compare_by_bytes_and_print(rt: HostRuntime) {
     let z = interned(&rt, &mut cache, "z");
     let e_acute = interned(&rt, &mut cache, "é");
     assert!(rt; a < b);
+    drop(a);
+    drop(b);
     assert!(rt; z < e_acute);
+    drop(z);
     assert!(rt; e_acute.as_bytes() == [0xc3, 0xa9].as_slice());
+    drop(e_acute);
     for &(letters, want) in &DEBUGGED {
         let text = interned(&rt, &mut cache, letters);
         let printed = format!(in rt.alloc(); "{text:?}").expect(&rt, "a text");
         assert!(rt; printed.as_str() == want, "{want}");
+        drop(printed);
+        drop(text);
     }
+    drop(cache);
     let empty: IString = IString::default();
     assert!(rt; empty.is_empty());
-    assert!(rt; IString::new().len() == 0);
+    drop(empty);
+    let new = IString::new();
+    assert!(rt; new.len() == 0);
+    drop(new);
 }
