@@ -31,6 +31,11 @@ fn insert_new(rt: &impl Abort, object: &mut IObject, key: IString, value: IValue
     assert!(rt; object.insert(key, value).expect(rt, "room").is_none());
 }
 
+/// Writes a value in the place of another one.
+fn set(place: &mut IValue, value: IValue) {
+    *place = value;
+}
+
 /// What `text` spells, through a cache of its own.
 fn parsed(rt: &impl Abort, alloc: Global, text: &str) -> IValue {
     from_json(alloc, &mut empty_cache(alloc), text).expect(rt, text)

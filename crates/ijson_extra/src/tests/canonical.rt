@@ -61,7 +61,9 @@ static TEXTS: [(&str, &str); 12] = [
 fn canonical_texts(rt: HostRuntime) {
     let alloc = rt.alloc();
     for &(text, written) in &TEXTS {
-        is_canonical(&rt, alloc, &parsed(&rt, alloc, text), written);
+        let value = parsed(&rt, alloc, text);
+        is_canonical(&rt, alloc, &value, written);
+        drop(value);
     }
 }
 
@@ -97,6 +99,7 @@ fn canonical_at_any_depth(rt: HostRuntime) {
     let value = arrays(&rt, alloc, 128);
     is_canonical(&rt, alloc, &value, text.as_str());
     is_written(&rt, alloc, &value, text.as_str());
+    drop(value);
     is_too_deep(&rt, alloc, text.as_str());
 }
 
@@ -115,4 +118,5 @@ fn canonical_of_much(rt: HostRuntime) {
     let alloc = rt.alloc();
     let value = parsed(&rt, alloc, much(&rt, alloc, "").as_str());
     is_canonical(&rt, alloc, &value, much(&rt, alloc, "e0").as_str());
+    drop(value);
 }

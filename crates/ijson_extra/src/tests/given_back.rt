@@ -40,9 +40,11 @@ fn taken_out(rt: HostRuntime) {
     let mut object = holding(&rt, alloc);
     object.retain(is_first);
     assert!(rt; object.len() == 1);
+    drop(object);
     let mut object = holding(&rt, alloc);
     object.clear();
     assert!(rt; object.is_empty());
+    drop(object);
 }
 
 /// Two values are replaced, in two ways.
@@ -53,6 +55,7 @@ fn replaced(rt: HostRuntime) {
     object.extend(holding(&rt, alloc)).expect(&rt, "room");
     object.overlay(holding(&rt, alloc)).expect(&rt, "room");
     assert!(rt; object.len() == 2);
+    drop(object);
 }
 
 /// Items are cut off, and others are given out and left.
@@ -65,5 +68,7 @@ fn cut_off(rt: HostRuntime) {
     }
     array.truncate(3);
     let mut items = array.into_iter();
-    assert!(rt; items.next().is_some() && items.len() == 2);
+    drop(items.next().expect(&rt, "an item"));
+    assert!(rt; items.len() == 2);
+    drop(items);
 }

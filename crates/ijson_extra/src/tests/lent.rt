@@ -215,6 +215,7 @@ fn becomes(rt: &impl Abort, alloc: Global, letters: &str, there: bool, way: Way,
     );
     writes(rt, alloc, &mut value, letters, there, way);
     is_written(rt, alloc, &value, want);
+    drop(value);
 }
 
 /// One value is another one, and all else as it was.
@@ -248,6 +249,7 @@ fn truth_values_turned(rt: HostRuntime) {
         let mut value = parsed(&rt, alloc, text);
         turn_truth(&mut value);
         is_written(&rt, alloc, &value, want);
+        drop(value);
     }
 }
 

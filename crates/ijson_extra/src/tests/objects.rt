@@ -5,7 +5,7 @@ ghost use Rattle.std.specs.Option.{unwrap_or};
 ghost use Rattle.ijson_table.specs.Store.{lookup, put};
 ghost use Rattle.ijson_value.specs.Values.{boolean_value};
 
-use super::{empty_cache, key};
+use super::{empty_cache, key, set};
 use ijson_number::INumber;
 use ijson_string::IString;
 use ijson_table::ReserveError;
@@ -48,20 +48,20 @@ fn number_at(object: &IObject, key: &str) -> usize {
 
 /// The number that a value is, if there was one: 99 where it is none.
 fn number_in(value: Option<IValue>) -> Option<usize> {
-    value.as_ref().map(number_of)
+    let number = value.as_ref().map(number_of);
+    drop(value);
+    number
 }
 
-/// Whether there is a pair, and this is its key.
-fn has_key(pair: Option<(IString, IValue)>, key: &str) -> bool {
-    match pair {
-        Some((text, _value)) => text.eq_str(key),
-        None => false,
-    }
-}
-
-/// Whether there is no pair.
-fn is_no_pair(pair: Option<(IString, IValue)>) -> bool {
-    pair.is_none()
+/// Whether this is the key of a pair that was taken out; of none there is none.
+fn is_pair(pair: Option<(IString, IValue)>, key: Option<&str>) -> bool {
+    let found = match (&pair, key) {
+        (Some((text, _)), Some(key)) => text.eq_str(key),
+        (None, None) => true,
+        _ => false,
+    };
+    drop(pair);
+    found
 }
 
 /// Whether these are the keys, in this order.
@@ -86,7 +86,7 @@ fn replaces(rt: &impl Abort, a: IString, object: &mut IObject) {
 /// Takes two of the keys a to d out. The last pair moves there.
 fn removes(rt: &impl Abort, object: &mut IObject, d: &IString) {
     assert!(rt; number_in(object.remove("b")) == Some(1) && has_keys(object, &["a", "d", "c"]));
-    assert!(rt; has_key(object.remove_entry(d), "d") && has_keys(object, &["a", "c"]));
+    assert!(rt; is_pair(object.remove_entry(d), Some("d")) && has_keys(object, &["a", "c"]));
     assert!(rt; number_in(object.remove("b")).is_none() && object.capacity() == 4);
 }
 
@@ -109,6 +109,7 @@ fn insertions(rt: HostRuntime) {
     let mut object = four(&rt, alloc);
     assert!(rt; object.capacity() == 4);
     replaces(&rt, key(&rt, alloc, "a"), &mut object);
+    drop(object);
 }
 
 #[test]
@@ -118,20 +119,23 @@ fn removals(rt: HostRuntime) {
     removes(&rt, &mut object, &key(&rt, alloc, "d"));
     object.shrink_to_fit().expect(&rt, "less room");
     assert!(rt; object.capacity() == 2);
+    drop(object);
 }
 
 /// Takes b out of the keys a to d. Those behind it move one forward.
 fn shift_removes(rt: &impl Abort, object: &mut IObject) {
     assert!(rt; number_in(object.shift_remove("b")) == Some(1));
     assert!(rt; number_in(object.shift_remove(&"b")).is_none());
-    assert!(rt; is_no_pair(object.shift_remove_entry("b")) && has_keys(object, &["a", "c", "d"]));
+    assert!(rt;
+        is_pair(object.shift_remove_entry("b"), None) && has_keys(object, &["a", "c", "d"])
+    );
 }
 
 /// Writes a number where a value is, and tells whether one is.
 fn is_put(place: Option<&mut IValue>, number: usize) -> bool {
     match place {
         Some(value) => {
-            *value = of_number(number);
+            set(value, of_number(number));
             true
         }
         None => false,
@@ -141,7 +145,7 @@ fn is_put(place: Option<&mut IValue>, number: usize) -> bool {
 /// Writes beside each of the keys a, c and d, each in another way.
 fn writes(rt: &impl Abort, object: &mut IObject, d: &IString) {
     assert!(rt; object.contains_key("c"));
-    object["c"] = of_number(7);
+    set(&mut object["c"], of_number(7));
     assert!(rt; is_put(object.get_mut(d), 8) && is_put(object.value_at_mut(0), 6));
     assert!(rt; !is_put(object.value_at_mut(3), 0) && !is_put(object.get_mut("b"), 0));
 }
@@ -165,6 +169,7 @@ fn shift_removals_and_writes(rt: HostRuntime) {
     for &(letters, number) in &HELD {
         holds(&rt, &object, letters, number);
     }
+    drop(object);
 }
 
 #[test]
@@ -174,6 +179,7 @@ fn room(rt: HostRuntime) {
     assert!(rt; object.is_empty() && object.capacity() == 8);
     object.reserve(9).expect(&rt, "room");
     assert!(rt; object.capacity() == 16);
+    drop(object);
 }
 
 #[test]
@@ -181,8 +187,9 @@ fn room_made_ahead(rt: HostRuntime) {
     let alloc = rt.alloc();
     let object = IObject::with_capacity(alloc, 10).expect(&rt, "room");
     assert!(rt; object.capacity() == 10 && object == IObject::new(alloc));
+    drop(object);
     let past = IObject::with_capacity(alloc, 72_057_594_037_927_937);
-    assert!(rt; matches!(past, Err(ReserveError::TooLarge)));
+    assert!(rt; past.err() == Some(ReserveError::TooLarge));
 }
 
 /// Copies an object of the keys a to c that has room for one more.
@@ -190,11 +197,14 @@ fn copies(rt: &impl Abort, object: &IObject) {
     let copy = object.clone().expect(rt, "a copy");
     assert!(rt; object.capacity() == 4 && copy.capacity() == 3 && copy == *object);
     assert!(rt; has_keys(&copy, &["a", "b", "c"]) && number_at(&copy, "c") == 2);
+    drop(copy);
 }
 
 #[test]
 fn copied(rt: HostRuntime) {
-    copies(&rt, &of_keys(&rt, rt.alloc(), &["a", "b", "c"]));
+    let object = of_keys(&rt, rt.alloc(), &["a", "b", "c"]);
+    copies(&rt, &object);
+    drop(object);
 }
 
 /// Numbers and keys, one of which comes again.
@@ -216,8 +226,10 @@ fn lists_of_pairs(rt: HostRuntime) {
     let object = IObject::from_pairs(alloc, listed(&rt, alloc)).expect(&rt, "an object");
     assert!(rt; has_keys(&object, &["a", "b"]) && object.capacity() == 3);
     assert!(rt; number_at(&object, "a") == 3 && number_at(&object, "b") == 2);
+    drop(object);
     let none = IObject::from_pairs(alloc, Vec::new(alloc)).expect(&rt, "an object");
     assert!(rt; none.is_empty() && none.capacity() == 0);
+    drop(none);
 }
 
 /// Extends an object of the keys a and so on by the pair of this key and 9.
@@ -237,6 +249,7 @@ fn extensions(rt: HostRuntime) {
     assert!(rt; object.capacity() == 4 && has_keys(&object, &["a", "b", "c", "d"]));
     extends(&rt, alloc, &mut object, "e");
     assert!(rt; object.capacity() == 8 && has_keys(&object, &["a", "b", "c", "d", "e"]));
+    drop(object);
 }
 
 static LENGTHS: [&str; 3] = ["id", "interned_string_a", "no"];
@@ -256,6 +269,7 @@ fn keys_of_each_length(rt: HostRuntime) {
     let alloc = rt.alloc();
     let again = IObject::from_iter(alloc, mixed(&rt, alloc)).expect(&rt, "an object");
     assert!(rt; again == mixed(&rt, alloc) && again.capacity() == 4);
+    drop(again);
 }
 
 /// Asks for the entry of k, and takes the key back: that of a pair that is there comes out with it.
@@ -296,7 +310,7 @@ fn and_modify(rt: &impl Abort, object: &mut IObject, key: IString) -> usize {
     entry
         .and_modify(|value| {
             calls = calls.wrapping_add(1);
-            *value = of_number(5);
+            set(value, of_number(5));
         })
         .or_insert(of_number(6));
     calls
@@ -309,6 +323,8 @@ fn an_entry_gives_its_key_back(rt: HostRuntime) {
         let mut object = of_keys(&rt, alloc, keys);
         let back = asked(&rt, &mut object, key(&rt, alloc, "k"));
         assert!(rt; back.eq_str("k") && has_keys(&object, left) && object.capacity() == 4);
+        drop(back);
+        drop(object);
     }
 }
 
@@ -324,6 +340,8 @@ fn entries_put_once(rt: HostRuntime) {
     assert!(rt; or_insert(&rt, &mut object, &a, 2) == 1);
     let (number, calls) = or_insert_with(&rt, &mut object, &a);
     assert!(rt; number == 1 && calls == 0);
+    drop(object);
+    drop(a);
 }
 
 #[test]
@@ -333,6 +351,7 @@ fn entries_call_where_nothing_is(rt: HostRuntime) {
     let (number, calls) = or_insert_with(&rt, &mut object, &key(&rt, alloc, "k"));
     assert!(rt; number == 3 && calls == 1);
     assert!(rt; number_at(&object, "k") == 3);
+    drop(object);
 }
 
 #[test]
@@ -343,13 +362,15 @@ fn entries_are_modified(rt: HostRuntime) {
     assert!(rt; and_modify(&rt, &mut object, key(&rt, alloc, "x")) == 0);
     assert!(rt; number_at(&object, "a") == 5 && number_at(&object, "x") == 6);
     assert!(rt; has_keys(&object, &["a", "k", "x"]));
+    drop(object);
 }
 
 /// Writes through the entry of k, beside which 1 is.
 fn writes_through(rt: &impl Abort, entry: &mut OccupiedEntry<'_>) {
     let old = entry.insert(of_number(8));
     assert!(rt; number_of(&old) == 1);
-    *entry.get_mut() = of_number(9);
+    drop(old);
+    set(entry.get_mut(), of_number(9));
     assert!(rt; entry.key().eq_str("k") && number_of(entry.get()) == 9);
 }
 
@@ -357,7 +378,7 @@ fn writes_through(rt: &impl Abort, entry: &mut OccupiedEntry<'_>) {
 fn occupied(rt: &impl Abort, object: &mut IObject, key: &IString) {
     if let Entry::Occupied(mut entry) = object.entry_or_clone(key).expect(rt, "an entry") {
         writes_through(rt, &mut entry);
-        assert!(rt; number_of(&entry.remove()) == 9);
+        assert!(rt; number_in(Some(entry.remove())) == Some(9));
     }
 }
 
@@ -367,12 +388,13 @@ fn occupied_entries(rt: HostRuntime) {
     let mut object = of_keys(&rt, alloc, &["a", "k", "x", "n"]);
     occupied(&rt, &mut object, &key(&rt, alloc, "k"));
     assert!(rt; has_keys(&object, &["a", "n", "x"]));
+    drop(object);
 }
 
 /// Gets null beside n, which is not there, and writes beside a, which is.
 fn indexes(rt: &impl Abort, object: &mut IObject, n: IString, a: IString) {
     assert!(rt; object.index_or_insert(n).expect(rt, "room").is_null());
-    *object.index_or_insert(a).expect(rt, "room") = of_number(7);
+    set(object.index_or_insert(a).expect(rt, "room"), of_number(7));
 }
 
 #[test]
@@ -382,6 +404,7 @@ fn indexed_entries(rt: HostRuntime) {
     indexes(&rt, &mut object, key(&rt, alloc, "n"), key(&rt, alloc, "a"));
     assert!(rt; has_keys(&object, &["a", "k", "x", "n"]) && number_at(&object, "a") == 7);
     assert!(rt; object.capacity() == 4);
+    drop(object);
 }
 
 /// Puts false beside a key that is not there.
@@ -441,7 +464,7 @@ fn iterates_apart(rt: &impl Abort, object: &IObject) {
 
 /// Asserts that so many pairs are left, and the next one has this key.
 fn gives(rt: &impl Abort, owned: &mut IntoIter, left: usize, key: &str) {
-    assert!(rt; owned.size_hint() == (left, Some(left)) && has_key(owned.next(), key));
+    assert!(rt; owned.size_hint() == (left, Some(left)) && is_pair(owned.next(), Some(key)));
 }
 
 /// Gives the keys 0, 4 and 2 out.
@@ -450,7 +473,8 @@ fn gives_out(rt: &impl Abort, object: IObject) {
     for &(left, key, _) in &EVEN {
         gives(rt, &mut owned, left, key);
     }
-    assert!(rt; is_no_pair(owned.next()));
+    assert!(rt; is_pair(owned.next(), None));
+    drop(owned);
 }
 
 /// Asks of each of the keys 0 to 5 once, keeps those of even numbers, and writes ten times the number beside each.
@@ -459,7 +483,7 @@ fn retains(rt: &impl Abort, object: &mut IObject) {
     object.retain(|_key, value| {
         let number = number_of(value);
         asked = asked.wrapping_mul(10).wrapping_add(number);
-        *value = of_number(number.wrapping_mul(10));
+        set(value, of_number(number.wrapping_mul(10)));
         number % 2 == 0
     });
     assert!(rt; asked == 7015423 && has_keys(object, &["0", "4", "2"]));
@@ -513,5 +537,10 @@ fn two_are_put_and_one_is_kept(rt: HostRuntime) {
     put_two(&mut object, &first, &second).expect(&rt, "two pairs");
     let (one, none) = keep_true(&mut object, &first, &second);
     assert!(rt; one && none);
-    assert!(rt; is_no_pair(IObject::new(alloc).into_iter().next()));
+    drop(object);
+    drop(first);
+    drop(second);
+    let mut pairs = IObject::new(alloc).into_iter();
+    assert!(rt; is_pair(pairs.next(), None));
+    drop(pairs);
 }

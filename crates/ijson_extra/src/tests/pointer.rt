@@ -1,6 +1,6 @@
 //! Values that pointers name.
 
-use super::{is_written, parsed};
+use super::{is_written, parsed, set};
 use crate::pointer::{PointerError, Unresolved, resolve, resolve_mut, resolve_opened_mut};
 use ijson_value::value::{Destructured, IValue};
 use std::alloc::Global;
@@ -19,6 +19,7 @@ fn names_each(rt: &impl Abort, alloc: Global, text: &str, rows: &[(&str, &str)])
     for (pointer, want) in rows {
         names(rt, alloc, &value, pointer, want);
     }
+    drop(value);
 }
 
 /// A text whose values are named, or written to.
@@ -46,17 +47,15 @@ static NAMED: [(&str, &str); 15] = [
 /// Texts that are no pointers.
 static NO_POINTERS: [&str; 6] = ["foo", "/~", "/~2", "/nope/~2", "/foo/0/~", "~0"];
 
-fn are_no_pointers(rt: &impl Abort, value: &IValue) {
-    for &pointer in &NO_POINTERS {
-        assert!(rt; resolve(value, pointer) == Err(PointerError::Syntax));
-    }
-}
-
 #[test]
 fn pointers(rt: HostRuntime) {
     let alloc = rt.alloc();
     names_each(&rt, alloc, TEXT, &NAMED);
-    are_no_pointers(&rt, &parsed(&rt, alloc, TEXT));
+    let value = parsed(&rt, alloc, TEXT);
+    for &pointer in &NO_POINTERS {
+        assert!(rt; resolve(&value, pointer) == Err(PointerError::Syntax));
+    }
+    drop(value);
 }
 
 /// The text of RFC 6901, section 5.
@@ -89,7 +88,7 @@ fn pointers_of_the_rfc(rt: HostRuntime) {
 fn put_true(value: &mut IValue, pointer: &str) -> Option<Unresolved> {
     match resolve_mut(value, pointer) {
         Ok(Some(found)) => {
-            *found = IValue::TRUE;
+            set(found, IValue::TRUE);
             None
         }
         Ok(None) => Some(Unresolved::Nothing),
@@ -127,6 +126,7 @@ fn becomes(
     };
     assert!(rt; found == refused);
     is_written(rt, alloc, &value, want);
+    drop(value);
 }
 
 const NO_POINTER: Option<Unresolved> = Some(Unresolved::NoPointer(PointerError::Syntax));
