@@ -2,6 +2,25 @@
 //! The repository's `check` runs each with its first request refused, with its second, and so on. Those of the other crates stand in
 //! `ijson_extra`.
 
+/// What a call answers, which is made again where memory is refused. That is told by `AllocError`, or else by the error that is given.
+macro_rules! granted {
+    ($rt:expr; $call:expr) => {
+        match $call {
+            Ok(answer) => answer,
+            Err(AllocError) => $call.expect($rt, "an answer"),
+        }
+    };
+    ($rt:expr; $memory:expr; $call:expr) => {
+        match $call {
+            Ok(answer) => answer,
+            Err(refused) => {
+                assert!($rt; refused == $memory);
+                $call.expect($rt, "an answer")
+            }
+        }
+    };
+}
+
 mod no_memory;
 
 use super::literals::{EXAMPLE, LITERALS, Literal, value_of};
@@ -17,33 +36,14 @@ use crate::value::IValue;
 use indexmap::IndexMap;
 use std::alloc::{AllocError, Global};
 use std::collections::{BTreeMap, HashMap};
-use std::fmt::Debug;
 use std::process::Abort;
-
-/// What a call answers, which is made again where memory is refused.
-fn granted<T: Drop, E: PartialEq + Debug + Drop, F: FnMut() -> Result<T, E> + Drop>(
-    rt: &impl Abort,
-    memory: E,
-    mut call: F,
-) -> T
-    requires { F.IsAlwaysCallable call }
-{
-    match call() {
-        Ok(answer) => answer,
-        Err(refused) => {
-            assert!(rt; refused == memory);
-            call().expect(rt, "an answer")
-        }
-    }
-}
 
 const THERE: &str = "a text that was there";
 
 /// A cache that holds this one text.
 fn used_cache(rt: &impl Abort, alloc: Global) -> Cache {
     let mut cache = empty_cache(alloc);
-    let text = granted(rt, AllocError, || IString::intern(&mut cache, THERE));
-    drop(text);
+    drop(granted!(rt; IString::intern(&mut cache, THERE)));
     cache
 }
 
@@ -56,12 +56,12 @@ fn is_kept(cache: &Cache, most: usize) -> bool {
 /// What `text` spells, through a cache of its own.
 fn read(rt: &impl Abort, alloc: Global, text: &str) -> IValue {
     let mut cache = empty_cache(alloc);
-    granted(rt, JsonError::Memory, || from_json(alloc, &mut cache, text))
+    granted!(rt; JsonError::Memory; from_json(alloc, &mut cache, text))
 }
 
 /// Asserts that a text is what is written of a value.
 fn is_written(rt: &impl Abort, alloc: Global, value: &IValue, text: &str) {
-    let written = granted(rt, AllocError, || to_json(alloc, value));
+    let written = granted!(rt; to_json(alloc, value));
     assert!(rt; written.as_str() == text);
 }
 
@@ -102,13 +102,16 @@ fn has_pairs(rt: &impl Abort, object: &IObject) {
 /// Each map.
 pub(super) static MAPS: [Keys; 3] = [Keys::Hashes, Keys::Sorts, Keys::Keeps];
 
+/// The object of a map.
+fn of_map(rt: &impl Abort, alloc: Global, cache: &mut Cache, keys: Keys) -> IObject {
+    granted!(rt; ReserveError::Memory; object_of_map(alloc, cache, keys))
+}
+
 #[test]
 fn maps(rt: HostRuntime) {
     let mut cache = empty_cache(rt.alloc());
     for &keys in &MAPS {
-        let object = granted(&rt, ReserveError::Memory, || {
-            object_of_map(rt.alloc(), &mut cache, keys)
-        });
+        let object = of_map(&rt, rt.alloc(), &mut cache, keys);
         assert!(rt; object.len() == 3 && object.capacity() == 3);
         has_pairs(&rt, &object);
         drop(object);
@@ -118,17 +121,24 @@ fn maps(rt: HostRuntime) {
 /// The maps of the test that follows.
 type Lists = BTreeMap<String, Vec<Option<i32>>>;
 
+/// The lists that a value says.
+fn said(rt: &impl Abort, alloc: Global, value: &IValue) -> Lists {
+    granted!(rt; ConvertError::Memory; from_value::<Lists>(alloc, value))
+}
+
+/// The value of lists.
+fn of_lists(rt: &impl Abort, alloc: Global, cache: &mut Cache, lists: &Lists) -> IValue {
+    granted!(rt; ConvertError::Memory; to_value(alloc, cache, lists))
+}
+
 #[test]
 fn conversions(rt: HostRuntime) {
     let text = "{\"a\":[1,null],\"b\":[],\"eight888\":[-2]}";
     let value = read(&rt, rt.alloc(), text);
-    let lists = granted(&rt, ConvertError::Memory, || {
-        from_value::<Lists>(rt.alloc(), &value)
-    });
+    let lists = said(&rt, rt.alloc(), &value);
     let mut cache = used_cache(&rt, rt.alloc());
-    let again = granted(&rt, ConvertError::Memory, || {
-        to_value(rt.alloc(), &mut cache, &lists)
-    });
+    let again = of_lists(&rt, rt.alloc(), &mut cache, &lists);
+    drop(lists);
     assert!(rt; again == value);
     drop(value);
     assert!(rt; is_kept(&cache, 2) && cache.contains("eight888"));
@@ -138,7 +148,7 @@ fn conversions(rt: HostRuntime) {
 
 /// Asserts what is written of the value of a literal, and that the cache keeps its text.
 fn is_literal(rt: &impl Abort, alloc: Global, cache: &mut Cache, which: &Literal, text: &str) {
-    let value = granted(rt, ConvertError::Memory, || value_of(alloc, cache, which));
+    let value = granted!(rt; ConvertError::Memory; value_of(alloc, cache, which));
     assert!(rt; is_kept(cache, 3));
     is_written(rt, alloc, &value, text);
     drop(value);
@@ -161,29 +171,23 @@ fn has_three(cache: &Cache) -> bool {
 /// Asserts that a value gone to `serde_json` and back is the same.
 fn there_and_back(rt: &impl Abort, alloc: Global, value: &IValue) {
     let mut cache = used_cache(rt, alloc);
-    let there = granted(rt, ConvertError::Memory, || to_serde(alloc, value));
-    let back = granted(
-        rt,
-        ConvertError::Memory,
-        || from_serde(alloc, &mut cache, &there),
-    );
-    assert!(rt; back == *value);
-    assert!(rt; has_three(&cache));
+    let there = granted!(rt; ConvertError::Memory; to_serde(alloc, value));
+    let back = granted!(rt; ConvertError::Memory; from_serde(alloc, &mut cache, &there));
     drop(there);
+    assert!(rt; back == *value);
     drop(back);
+    assert!(rt; has_three(&cache));
 }
 
 /// The same of an object, as a map of `serde_json`.
 fn map_and_back(rt: &impl Abort, alloc: Global, object: &IObject) {
     let mut cache = used_cache(rt, alloc);
-    let there = granted(rt, ConvertError::Memory, || to_serde_map(alloc, object));
-    let back = granted(rt, ConvertError::Memory, || {
-        from_serde_map(alloc, &mut cache, &there)
-    });
-    assert!(rt; back == *object);
-    assert!(rt; has_three(&cache));
+    let there = granted!(rt; ConvertError::Memory; to_serde_map(alloc, object));
+    let back = granted!(rt; ConvertError::Memory; from_serde_map(alloc, &mut cache, &there));
     drop(there);
+    assert!(rt; back == *object);
     drop(back);
+    assert!(rt; has_three(&cache));
 }
 
 #[test]
