@@ -46,7 +46,9 @@ fn spelled(rt: &impl Abort, alloc: Global, text: &str) -> INumber {
 
 /// Asserts that a copy of a number is equal to it.
 fn copies_number(rt: &impl Abort, number: &INumber) {
-    assert!(rt; granted!(rt; number.clone()) == *number);
+    let copy = granted!(rt; number.clone());
+    assert!(rt; copy == *number);
+    drop(copy);
 }
 
 #[test]
@@ -57,7 +59,9 @@ fn number_of_many_digits(rt: HostRuntime) {
     assert!(rt; number.has_decimal_point());
     copies_number(&rt, &number);
     assert!(rt; number == spelled(&rt, alloc, "1234567890123456789012345678905e-1"));
-    is_written(&rt, alloc, &IValue::from(number), text);
+    let value = IValue::from(number);
+    is_written(&rt, alloc, &value, text);
+    drop(value);
 }
 
 /// The number at the front of a text, and its length.
@@ -71,6 +75,7 @@ fn number_at_the_front(rt: HostRuntime) {
     let (number, length) = at_front(&rt, alloc, "-123.4567890123450, 2");
     assert!(rt; length == 18);
     assert!(rt; number == spelled(&rt, alloc, "-123.456789012345"));
+    drop(number);
 }
 
 fn number(at: usize) -> IValue {
@@ -106,6 +111,7 @@ fn array_push(rt: HostRuntime) {
         pushes(&rt, &mut array, len);
     }
     assert!(rt; counts(&array, 0, 20));
+    drop(array);
 }
 
 /// An empty array that has room for so many items.
@@ -155,6 +161,7 @@ fn inserts_first(rt: &impl Abort, alloc: Global) {
     let mut array = IArray::new(alloc);
     inserts_zero(rt, &mut array, 0);
     assert!(rt; counts(&array, 0, 1));
+    drop(array);
 }
 
 /// Makes room for three items in an array that has no memory yet, and pushes three.
@@ -165,6 +172,7 @@ fn reserves_three(rt: &impl Abort, alloc: Global) {
         array.push(number(at)).expect(rt, "room");
     }
     assert!(rt; counts(&array, 0, 3));
+    drop(array);
 }
 
 #[test]
@@ -177,6 +185,7 @@ fn array_room(rt: HostRuntime) {
     grows(&rt, &mut array, 3, 20);
     assert!(rt; array.capacity() == 23);
     shrinks(&rt, &mut array);
+    drop(array);
 }
 
 /// Whether an array of so many items has no room for one more, where they came one after the other.
@@ -230,8 +239,12 @@ fn array_extend(rt: HostRuntime) {
     let mut array = IArray::new(alloc);
     extends(&rt, &mut array);
     assert!(rt; counts(&array, 0, 9));
-    assert!(rt; counts(&made_again(&rt, alloc, array), 0, 9));
-    assert!(rt; counts(&of_list(&rt, alloc, three(&rt, alloc)), 0, 3));
+    let again = made_again(&rt, alloc, array);
+    assert!(rt; counts(&again, 0, 9));
+    drop(again);
+    let listed = of_list(&rt, alloc, three(&rt, alloc));
+    assert!(rt; counts(&listed, 0, 3));
+    drop(listed);
 }
 
 /// A cache that holds one text.
@@ -294,7 +307,9 @@ fn intern(rt: HostRuntime) {
         let key = counted(&rt, &mut cache, text, count);
         assert!(rt; cache.len() == count && cache.contains(text) == (text.len() > 7));
         copies_text(&rt, alloc, &key, text);
+        drop(key);
     }
+    drop(cache);
 }
 
 /// What `text` spells, through a cache of its own.
@@ -421,7 +436,9 @@ fn reading_and_writing(rt: HostRuntime) {
         let mut cache = used_cache(&rt, alloc);
         let value = read_into(&rt, alloc, &mut cache, text, held);
         assert!(rt; is_kept(&cache, held) && cache.len() == held);
+        drop(cache);
         is_written(&rt, alloc, &value, text);
+        drop(value);
     }
     puts_parts(&rt, alloc, &PARTS);
 }
@@ -455,6 +472,7 @@ fn canonical(rt: HostRuntime) {
     let sorted = "{\"a\":\"longlong\",\"b\":{\"c\":[1e1,0],\"d\":2e0}}";
     is_canonical(&rt, alloc, &value, sorted);
     is_written(&rt, alloc, &value, text);
+    drop(value);
     puts_parts(&rt, alloc, &STRIPPED);
 }
 
@@ -516,6 +534,7 @@ fn compacting(rt: HostRuntime) {
         if !is_compacted(&rt, alloc, &mut cache, text, line) {
             assert!(rt; is_compacted(&rt, alloc, &mut cache, text, line));
         }
+        drop(cache);
     }
 }
 
@@ -535,17 +554,21 @@ fn compacting_to_a_value(rt: HostRuntime) {
     };
     assert!(rt; output.bytes() == b"[1.5]\n".as_slice());
     is_written(&rt, alloc, &value, "[1.5]");
+    drop(value);
 }
 
 /// Copies an array by its own call.
 fn copies_array(rt: &impl Abort, array: &IArray) {
-    assert!(rt; granted!(rt; array.clone()) == *array);
+    let copy = granted!(rt; array.clone());
+    assert!(rt; copy == *array);
+    drop(copy);
 }
 
 /// Copies an object of two pairs by its own call.
 fn copies_object(rt: &impl Abort, object: &IObject) {
     let copy = granted!(rt; object.clone());
     assert!(rt; copy == *object && copy.capacity() == 2);
+    drop(copy);
 }
 
 /// Copies a value that is written as this text.
@@ -560,6 +583,7 @@ fn copied(rt: &impl Abort, alloc: Global, value: &IValue, text: &str) -> IValue 
 fn copies_items(rt: &impl Abort, alloc: Global, items: &[IValue]) {
     let array = granted!(rt; IArray::from_slice(alloc, items));
     assert!(rt; array.as_slice() == items);
+    drop(array);
 }
 
 #[test]
@@ -573,5 +597,7 @@ fn cloning(rt: HostRuntime) {
     let object = array.as_slice().last().and_then(IValue::as_object);
     copies_object(&rt, object.expect(&rt, "an object"));
     let copy = copied(&rt, alloc, &value, text);
-    copies_items(&rt, alloc, &[copy, value]);
+    let items = [copy, value];
+    copies_items(&rt, alloc, &items);
+    drop(items);
 }

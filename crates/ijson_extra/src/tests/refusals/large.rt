@@ -49,6 +49,7 @@ fn read_copied_and_written(rt: HostRuntime) {
     let value = read(&rt, alloc, text.as_str());
     is_written(&rt, alloc, &value, text.as_str());
     drop(copied(&rt, alloc, &value, text.as_str()));
+    drop(value);
 }
 
 /// Puts a pair into an object, which is full where memory is refused. The pair that comes back is put once more.
@@ -85,8 +86,10 @@ fn put_one_by_one(rt: HostRuntime) {
         pushes(&rt, &mut array, len);
     }
     assert!(rt; array.len() == 70_000 && array.capacity() == 131_072);
+    drop(array);
     let mut object = IObject::new(alloc);
     puts_each(&rt, &mut object, pairs(&rt, alloc));
     assert!(rt; object.capacity() == 32_768);
     assert!(rt; object == pairs(&rt, alloc));
+    drop(object);
 }

@@ -4,7 +4,7 @@
 use super::objects::{PAIRS, holds, is_number, refused_entry, with_pairs};
 use super::{Cache, array_of_room, interned, number, spelled};
 use crate::pointer::{resolve, resolve_mut};
-use crate::tests::{empty_cache, key};
+use crate::tests::{empty_cache, key, set};
 use ijson_json::{CompactError, MemorySink, Sink, report};
 use ijson_number::{Form, INumber};
 use ijson_string::IString;
@@ -36,6 +36,8 @@ fn numbers(rt: &impl Abort, alloc: Global, rounds: u32) {
     for _ in 0..rounds {
         finds_order(rt, &less, &more);
     }
+    drop(less);
+    drop(more);
 }
 
 fn copied(rt: &impl Abort, text: &IString) -> IString {
@@ -45,7 +47,9 @@ fn copied(rt: &impl Abort, text: &IString) -> IString {
 /// A text that the cache has, or a short one.
 fn found(rt: &impl Abort, cache: &mut Cache, letters: &str) -> IString {
     let text = IString::intern(cache, letters).expect(rt, "a text");
-    assert!(rt; copied(rt, &text).eq_str(letters));
+    let copy = copied(rt, &text);
+    assert!(rt; copy.eq_str(letters));
+    drop(copy);
     text
 }
 
@@ -55,6 +59,8 @@ fn interns(rt: &impl Abort, cache: &mut Cache, long: &IString) {
     let short = found(rt, cache, "seven77");
     assert!(rt; again == *long && *long < short && hash_of(long) == hash_of(&again));
     assert!(rt; cache.len() == 1 && cache.contains(long.as_str()));
+    drop(again);
+    drop(short);
 }
 
 fn texts(rt: &impl Abort, alloc: Global, rounds: u32) {
@@ -65,19 +71,23 @@ fn texts(rt: &impl Abort, alloc: Global, rounds: u32) {
     }
     cache.clear();
     assert!(rt; cache.is_empty() && long.eq_str("eight888"));
+    drop(long);
+    drop(cache);
 }
 
 /// The number that an item is, if one was there: 99 where it is none.
 fn number_in(item: Option<IValue>) -> Option<u32> {
-    Some(item?.to_u32().unwrap_or(99))
+    let item = item?;
+    let number = item.to_u32().unwrap_or(99);
+    drop(item);
+    Some(number)
 }
 
 /// Whether an item was there, and it is null.
 fn is_null(item: Option<IValue>) -> bool {
-    match item {
-        Some(item) => item.is_null(),
-        None => false,
-    }
+    let found = item.as_ref().is_some_and(IValue::is_null);
+    drop(item);
+    found
 }
 
 /// Whether an array has null alone.
@@ -113,8 +123,12 @@ fn is_same_array(rt: &impl Abort, array: &IArray, same: &IArray) {
 
 /// The copies of an array of no items, and of an object of no pairs.
 fn copies_nothing(rt: &impl Abort, alloc: Global) {
-    assert!(rt; IArray::new(alloc).clone().expect(rt, "a copy").capacity() == 0);
-    assert!(rt; IObject::new(alloc).clone().expect(rt, "a copy").capacity() == 0);
+    let array = IArray::new(alloc).clone().expect(rt, "a copy");
+    assert!(rt; array.capacity() == 0);
+    drop(array);
+    let object = IObject::new(alloc).clone().expect(rt, "a copy");
+    assert!(rt; object.capacity() == 0);
+    drop(object);
 }
 
 fn arrays(rt: &impl Abort, alloc: Global, rounds: u32) {
@@ -127,8 +141,10 @@ fn arrays(rt: &impl Abort, alloc: Global, rounds: u32) {
         is_same_array(rt, &array, &same);
         copies_nothing(rt, alloc);
     }
+    drop(same);
     let mut items = array.into_iter();
     assert!(rt; is_null(items.next()) && number_in(items.next()).is_none());
+    drop(items);
 }
 
 fn is_occupied(entry: Entry<'_>) -> bool {
@@ -145,13 +161,13 @@ fn finds_entries(rt: &impl Abort, object: &mut IObject, a: &IString) {
     assert!(rt; is_occupied(object.entry(copied(rt, a)).expect(rt, "an entry")));
     assert!(rt; is_occupied(object.entry_or_clone(a).expect(rt, "an entry")));
     let value = object.index_or_insert(copied(rt, a));
-    *value.expect(rt, "a value") = IValue::from(1u8);
+    set(value.expect(rt, "a value"), IValue::from(1u8));
 }
 
 /// Writes a number where there is a value.
 fn put_number(place: Option<&mut IValue>, number: u8) {
     if let Some(value) = place {
-        *value = IValue::from(number);
+        set(value, IValue::from(number));
     }
 }
 
@@ -194,7 +210,7 @@ fn changes(rt: &impl Abort, object: &mut IObject, e: &IString) {
 /// Puts a pair into an object by its entry.
 fn enters(rt: &impl Abort, object: &mut IObject, key: IString, value: IValue) {
     let entry = object.entry(key).expect(rt, "an entry");
-    *entry.or_insert(IValue::NULL) = value;
+    set(entry.or_insert(IValue::NULL), value);
 }
 
 /// Compares an object with one that is equal, and with another one.
@@ -205,10 +221,12 @@ fn is_same_object(rt: &impl Abort, object: &IObject, same: &IObject, other: &IOb
 
 /// Whether there is a pair, and it is the first of all.
 fn is_first(pair: Option<(IString, IValue)>) -> bool {
-    match pair {
-        Some((key, value)) => key.eq_str("a") && is_number(&value, 1),
+    let found = match &pair {
+        Some((key, value)) => key.eq_str("a") && is_number(value, 1),
         None => false,
-    }
+    };
+    drop(pair);
+    found
 }
 
 /// Adds a pair that is there, and gives the pairs out.
@@ -217,6 +235,7 @@ fn gives_out(rt: &impl Abort, mut object: IObject, first: IObject) {
     assert!(rt; holds(&object, 4, 4));
     let mut pairs = object.into_iter();
     assert!(rt; is_first(pairs.next()) && pairs.len() == 3);
+    drop(pairs);
 }
 
 fn objects(rt: &impl Abort, alloc: Global, rounds: u32) {
@@ -229,6 +248,9 @@ fn objects(rt: &impl Abort, alloc: Global, rounds: u32) {
         changes(rt, &mut object, &e);
         is_same_object(rt, &object, &same, &first);
     }
+    drop(a);
+    drop(e);
+    drop(same);
     gives_out(rt, object, first);
 }
 
@@ -272,20 +294,24 @@ fn lists(rt: &impl Abort, alloc: Global, rounds: u32) {
     let mut list = granted!(rt; ReserveError::Memory; LinearPairs::with_capacity(alloc, 3));
     put_three(rt, alloc, &mut list);
     turns_twice(rt, &mut list, rounds);
+    drop(list);
 }
 
 fn tables(rt: &impl Abort, alloc: Global, rounds: u32) {
     let mut table = granted!(rt; ReserveError::Memory; FixedTable::with_capacity(alloc, 3));
     put_three(rt, alloc, &mut table);
     turns_twice(rt, &mut table, rounds);
-    assert!(rt; table.into_pairs().len() == 3);
+    let pairs = table.into_pairs();
+    assert!(rt; pairs.len() == 3);
+    drop(pairs);
 }
 
 /// Takes a value out and puts it back.
 fn takes(rt: &impl Abort, value: &mut IValue) {
     let taken = value.take();
     assert!(rt; value.is_null() && taken.type_() == ValueType::Object);
-    *value = IValue::from(taken.into_object().expect(rt, "an object"));
+    let object = taken.into_object().expect(rt, "an object");
+    set(value, IValue::from(object));
 }
 
 /// Finds and writes what is inside.
@@ -310,6 +336,8 @@ fn values(rt: &impl Abort, alloc: Global, rounds: u32) {
         opens(rt, &mut value);
         is_same(rt, &value, &same);
     }
+    drop(value);
+    drop(same);
 }
 
 fn reports(rt: &impl Abort, alloc: Global, rounds: u32) {
@@ -333,6 +361,7 @@ fn all(rt: &impl Abort, alloc: Global, rounds: u32) {
     // The request behind the last of them.
     let last = spelled(rt, alloc, "18446744073709551616");
     assert!(rt; last.to_u64().is_none());
+    drop(last);
 }
 
 // Runs of this test and of the next one make the same number of requests for memory.

@@ -1,7 +1,7 @@
 //! Objects: the pairs, their order and the capacity after each refusal, what comes back, and the call made again.
 
 use super::interned;
-use crate::tests::{empty_cache, insert_new, key};
+use crate::tests::{empty_cache, insert_new, key, set};
 use ijson_string::IString;
 use ijson_table::ReserveError;
 use ijson_value::object::{Entry, IObject, RefusedKey, RefusedPair};
@@ -63,7 +63,9 @@ fn of_list(rt: &impl Abort, alloc: Global) -> IObject {
 
 #[test]
 fn pairs(rt: HostRuntime) {
-    assert!(rt; holds(&of_list(&rt, rt.alloc()), 5, 6));
+    let object = of_list(&rt, rt.alloc());
+    assert!(rt; holds(&object, 5, 6));
+    drop(object);
 }
 
 /// Inserts a pair whose key is not there into an object, which so many others fill where memory is refused.
@@ -91,6 +93,7 @@ fn insert(rt: HostRuntime) {
     }
     assert!(rt; holds(&object, 5, 8));
     inserts_long(&rt, alloc, &mut object);
+    drop(object);
 }
 
 /// Makes room for a pair more than those that fill an object.
@@ -118,6 +121,7 @@ fn room(rt: HostRuntime) {
         let mut object = with_pairs(&rt, rt.alloc(), len, len);
         grows(&rt, &mut object, len);
         shrinks(&rt, &mut object, len);
+        drop(object);
     }
 }
 
@@ -159,6 +163,7 @@ fn enters_copy(rt: &impl Abort, alloc: Global, key: &IString, len: usize, capaci
         assert!(rt; refused_copy(&mut object, key).is_none());
     }
     assert!(rt; holds(&object, len, capacity));
+    drop(object);
 }
 
 /// Puts the pair that follows so many others by its entry into an object that these fill.
@@ -178,6 +183,7 @@ fn entries(rt: HostRuntime) {
         let mut object = with_pairs(&rt, alloc, len, len);
         enters(&rt, &mut object, next, number, len);
         assert!(rt; holds(&object, usize::from(number), capacity));
+        drop(object);
     }
 }
 
@@ -197,7 +203,7 @@ fn refused_value(
 ) -> Option<IString> {
     match object.index_or_insert(key) {
         Ok(value) => {
-            *value = IValue::from(number);
+            set(value, IValue::from(number));
             None
         }
         Err(refused) => Some(beside_null(rt, refused)),
@@ -222,7 +228,7 @@ fn refused_inside(
     assert!(rt; value.is_object());
     match value.index_or_insert(key) {
         Ok(value) => {
-            *value = IValue::from(number);
+            set(value, IValue::from(number));
             None
         }
         Err(refused) => Some(beside_null(rt, refused)),
@@ -249,9 +255,11 @@ fn values_beside_keys(rt: HostRuntime) {
         let mut object = with_pairs(&rt, alloc, len, len);
         puts(&rt, &mut object, key(&rt, alloc, text), number, len);
         assert!(rt; holds(&object, usize::from(number), capacity));
+        drop(object);
         let mut value = IValue::from(with_pairs(&rt, alloc, len, len));
         puts_inside(&rt, &mut value, key(&rt, alloc, text), number, len);
         holds_inside(&rt, &value, usize::from(number), capacity);
+        drop(value);
     }
 }
 
@@ -317,7 +325,9 @@ fn extend(rt: HostRuntime) {
     let mut object = IObject::new(alloc);
     extends(&rt, alloc, &mut object);
     assert!(rt; holds(&object, 5, 8));
-    assert!(rt; holds(&made_again(&rt, alloc, object), 5, 8));
+    let again = made_again(&rt, alloc, object);
+    assert!(rt; holds(&again, 5, 8));
+    drop(again);
 }
 
 #[test]
@@ -325,4 +335,5 @@ fn overlay(rt: HostRuntime) {
     let mut object = IObject::new(rt.alloc());
     overlays(&rt, rt.alloc(), &mut object);
     assert!(rt; holds(&object, 5, 8));
+    drop(object);
 }
