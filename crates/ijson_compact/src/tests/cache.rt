@@ -12,7 +12,10 @@ fn long_texts_are_interned_once(rt: HostRuntime) {
     assert!(rt; cache.contains("longlong"));
     cache.clear();
     let after = from_json(rt.alloc(), &mut cache, text).expect(&rt, "a value");
+    drop(cache);
     assert!(rt; before == after);
     is_written(&rt, rt.alloc(), &before, text);
     is_written(&rt, rt.alloc(), &after, text);
+    drop(before);
+    drop(after);
 }

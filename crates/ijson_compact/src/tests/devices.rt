@@ -23,11 +23,19 @@ const TEXT: &[u8] = b"[1.50,true]";
 
 const LINE: &[u8] = b"[1.5,true]\n";
 
-/// Asserts that this line and the status 2 are reported of an answer.
-fn reported(rt: &impl Abort, alloc: Global, answer: &Result<(), CompactError>, line: &[u8]) {
-    let mut errors = MemorySink::new(alloc, 3, 100).expect(rt, "a sink");
-    assert!(rt; report(answer, &mut errors) == 2);
-    assert!(rt; errors.bytes() == line);
+/// Asserts that this status and this line are reported of an answer.
+fn reported(
+    rt: &impl Abort,
+    alloc: Global,
+    answer: &Result<(), CompactError>,
+    status: u8,
+    line: &[u8],
+) {
+    for piece in 1..4usize {
+        let mut errors = MemorySink::new(alloc, piece, 100).expect(rt, "a sink");
+        assert!(rt; report(answer, &mut errors) == status);
+        assert!(rt; errors.bytes() == line);
+    }
 }
 
 /// Compacts a text over a sink that fails after so many bytes, and tells the answer and the sink.
@@ -45,34 +53,54 @@ fn written_until(
     (answer, output)
 }
 
+/// Asserts that a sink that fails after so few bytes has a beginning of the line.
+fn is_cut_off(rt: &impl Abort, alloc: Global, piece: usize, fail_at: usize)
+    requires { 0 < piece }
+{
+    let (answer, output) = written_until(rt, alloc, piece, fail_at);
+    assert!(rt; answer == Err(CompactError::Write));
+    reported(rt, alloc, &answer, 2, b"ijson: write failed\n");
+    assert!(rt; LINE.starts_with(output.bytes()));
+    assert!(rt; output.bytes().len() == fail_at && output.failures() == 1);
+}
+
+/// Asserts that a sink that takes the whole line has it.
+fn is_whole(rt: &impl Abort, alloc: Global, piece: usize)
+    requires { 0 < piece }
+{
+    let (answer, output) = written_until(rt, alloc, piece, LINE.len());
+    assert!(rt; answer == Ok(()));
+    assert!(rt; output.bytes() == LINE);
+    assert!(rt; output.failures() == 0);
+}
+
 #[test]
 fn a_sink_that_fails_got_a_beginning(rt: HostRuntime) {
     for piece in 1..4usize {
-        for fail_at in 0..11usize {
-            let (answer, output) = written_until(&rt, rt.alloc(), piece, fail_at);
-            assert!(rt; answer == Err(CompactError::Write));
-            reported(&rt, rt.alloc(), &answer, b"ijson: write failed\n");
-            assert!(rt; LINE.starts_with(output.bytes()));
-            assert!(rt; output.bytes().len() == fail_at && output.failures() == 1);
+        for fail_at in 0..LINE.len() {
+            is_cut_off(&rt, rt.alloc(), piece, fail_at);
         }
-        let (answer, output) = written_until(&rt, rt.alloc(), piece, 11);
-        assert!(rt; answer == Ok(()));
-        assert!(rt; output.bytes() == LINE);
-        assert!(rt; output.failures() == 0);
+        is_whole(&rt, rt.alloc(), piece);
     }
+}
+
+/// Asserts that nothing is written of a source that fails after so few bytes.
+fn is_not_written(rt: &impl Abort, alloc: Global, piece: usize, fail_at: usize)
+    requires { 0 < piece }
+{
+    let mut input = MemorySource::new(TEXT, piece, fail_at);
+    let mut output = MemorySink::new(alloc, piece, 100).expect(rt, "a sink");
+    let answer = compact(alloc, &mut input, &mut output, &mut empty_cache(alloc));
+    assert!(rt; answer == Err(CompactError::Read));
+    reported(rt, alloc, &answer, 2, b"ijson: read failed\n");
+    assert!(rt; output.bytes().is_empty() && input.failures() == 1);
 }
 
 #[test]
 fn a_source_that_fails_leaves_the_sink(rt: HostRuntime) {
-    let alloc = rt.alloc();
     for piece in 1..4usize {
         for fail_at in 0..12usize {
-            let mut input = MemorySource::new(TEXT, piece, fail_at);
-            let mut output = MemorySink::new(alloc, piece, 100).expect(&rt, "a sink");
-            let answer = compact(alloc, &mut input, &mut output, &mut empty_cache(alloc));
-            assert!(rt; answer == Err(CompactError::Read));
-            reported(&rt, alloc, &answer, b"ijson: read failed\n");
-            assert!(rt; output.bytes().is_empty() && input.failures() == 1);
+            is_not_written(&rt, rt.alloc(), piece, fail_at);
         }
     }
 }
@@ -89,11 +117,9 @@ pub fn compacts(
     for piece in 1..4usize {
         let mut input = MemorySource::new(text, piece, text.len() + 1);
         let mut output = MemorySink::new(alloc, piece, written.len() + 1).expect(rt, "a sink");
-        let mut errors = MemorySink::new(alloc, piece, 100).expect(rt, "a sink");
         let answer = compact(alloc, &mut input, &mut output, &mut empty_cache(alloc));
-        assert!(rt; report(&answer, &mut errors) == status);
         assert!(rt; output.bytes() == written);
-        assert!(rt; errors.bytes() == line);
+        reported(rt, alloc, &answer, status, line);
     }
 }
 
@@ -252,18 +278,28 @@ fn passes_queues(rt: &impl Abort, alloc: Global) {
     assert!(rt; written.iter().eq(LINE.iter()));
 }
 
-/// A text longer than the room that is made at a time goes through streams that move few bytes a call, and a
-/// short one through queues.
-#[test]
-fn streams_pass_bytes_on(rt: HostRuntime) {
-    let alloc = rt.alloc();
-    let mut input = StreamSource::new(listed(&rt, alloc, b"[1.50", b", true ", b"]"));
-    let line = listed(&rt, alloc, b"[1.5", b",true", b"]\n").bytes;
+/// What is written of a text, through streams.
+fn streamed(rt: &impl Abort, alloc: Global, text: Slow) -> Slow {
+    let mut input = StreamSource::new(text);
     let bytes = Vec::new(alloc);
     let mut output = StreamSink::new(Slow { bytes, given: 0 });
     let answer = compact(alloc, &mut input, &mut output, &mut empty_cache(alloc));
     assert!(rt; answer == Ok(()));
     assert!(rt; input.failures() == 0 && output.failures() == 0);
-    assert!(rt; output.into_inner().bytes == line);
+    drop(input);
+    output.into_inner()
+}
+
+/// A text longer than the room that is made at a time goes through streams that move few bytes a call, and a
+/// short one through queues.
+#[test]
+fn streams_pass_bytes_on(rt: HostRuntime) {
+    let alloc = rt.alloc();
+    let text = listed(&rt, alloc, b"[1.50", b", true ", b"]");
+    let line = listed(&rt, alloc, b"[1.5", b",true", b"]\n");
+    let written = streamed(&rt, alloc, text);
+    assert!(rt; written.bytes == line.bytes);
+    drop(written);
+    drop(line);
     passes_queues(&rt, alloc);
 }

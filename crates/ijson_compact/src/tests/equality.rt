@@ -23,5 +23,7 @@ fn pairs(rt: HostRuntime) {
         let right = parsed(&rt, rt.alloc(), right);
         assert!(rt; (left == right) == want);
         assert!(rt; (right == left) == want);
+        drop(left);
+        drop(right);
     }
 }

@@ -30,5 +30,6 @@ fn a_number_feeds_its_words(rt: HostRuntime) {
     for &(text, want) in &NUMBERS {
         let number = INumber::from_str(rt.alloc(), text).expect(&rt, text);
         feeds(&rt, rt.alloc(), &number, want);
+        drop(number);
     }
 }

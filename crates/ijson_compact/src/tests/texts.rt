@@ -76,10 +76,11 @@ fn is_rewritten(rt: &impl Abort, alloc: Global, text: &str, want: &str) {
     let begins = text.get(..40).unwrap_or(text);
     let found = rewritten(alloc, text).expect(rt, begins);
     assert!(rt; found.as_str() == want, "{begins}");
-    assert!(rt;
-        parsed(rt, alloc, want) == parsed(rt, alloc, text),
-        "{begins}"
-    );
+    drop(found);
+    let (value, again) = (parsed(rt, alloc, text), parsed(rt, alloc, want));
+    assert!(rt; again == value, "{begins}");
+    drop(value);
+    drop(again);
     let line = format!(in alloc; "{want}\n").expect(rt, "a line");
     compacts(rt, alloc, text.as_bytes(), line.as_bytes(), b"", 0);
 }
@@ -209,7 +210,9 @@ fn capacity(value: &IValue) -> usize {
 #[test]
 fn what_is_read_has_no_more_room(rt: HostRuntime) {
     for &(text, room) in &ROOM {
-        assert!(rt; capacity(&parsed(&rt, rt.alloc(), text)) == room, "{text}");
+        let value = parsed(&rt, rt.alloc(), text);
+        assert!(rt; capacity(&value) == room, "{text}");
+        drop(value);
     }
 }
 

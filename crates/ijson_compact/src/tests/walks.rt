@@ -47,7 +47,9 @@ fn feeds_whole(rt: &impl Abort, alloc: Global, value: &IValue, words: &[u64]) {
 #[test]
 fn values_feed_their_words(rt: HostRuntime) {
     for &(text, words) in &WORDS {
-        feeds_whole(&rt, rt.alloc(), &parsed(&rt, rt.alloc(), text), words);
+        let value = parsed(&rt, rt.alloc(), text);
+        feeds_whole(&rt, rt.alloc(), &value, words);
+        drop(value);
     }
 }
 
@@ -98,7 +100,10 @@ fn are_ordered(rt: &impl Abort, left: &IValue, right: &IValue, want: Option<Orde
 fn values_are_ordered(rt: HostRuntime) {
     for &(left, right, want) in &ORDERED {
         let left = parsed(&rt, rt.alloc(), left);
-        are_ordered(&rt, &left, &parsed(&rt, rt.alloc(), right), want);
+        let right = parsed(&rt, rt.alloc(), right);
+        are_ordered(&rt, &left, &right, want);
+        drop(left);
+        drop(right);
     }
 }
 
@@ -129,6 +134,7 @@ fn is_copied(rt: &impl Abort, alloc: Global, value: &IValue) {
     assert!(rt; copy == *value);
     let written = to_json(alloc, value).expect(rt, "a text");
     is_written(rt, alloc, &copy, written.as_str());
+    drop(copy);
 }
 
 /// Asserts that a value agrees with each of these.
@@ -148,6 +154,8 @@ fn each_pair_of_values_agrees(rt: HostRuntime) {
     for left in values.as_slice() {
         agrees_with_each(&rt, left, copies.as_slice());
     }
+    drop(copies);
+    drop(all);
 }
 
 /// Asserts what is written of a copy of an object of three pairs, one of them of `a`, and that both have room for three.
@@ -155,7 +163,9 @@ fn is_copied_tightly(rt: &impl Abort, alloc: Global, object: &IObject, want: &st
     let copy = object.clone().expect(rt, "a copy");
     assert!(rt; object.capacity() == 3 && copy.capacity() == 3);
     assert!(rt; copy.get("a").is_some());
-    is_written(rt, alloc, &copy.into(), want);
+    let copy = IValue::from(copy);
+    is_written(rt, alloc, &copy, want);
+    drop(copy);
 }
 
 /// Asserts that a copy of an object that has room and no pairs has no room.
@@ -163,6 +173,8 @@ fn room_is_not_copied(rt: &impl Abort, alloc: Global) {
     let roomy = IObject::with_capacity(alloc, 10).expect(rt, "room");
     let copy = roomy.clone().expect(rt, "a copy");
     assert!(rt; copy.capacity() == 0);
+    drop(roomy);
+    drop(copy);
 }
 
 /// Asserts what is shown of a value.
@@ -180,6 +192,7 @@ fn a_copy_of_an_object_has_its_length_as_capacity(rt: HostRuntime) {
     is_copied_tightly(&rt, rt.alloc(), object, text);
     room_is_not_copied(&rt, rt.alloc());
     is_shown(&rt, rt.alloc(), &value, shown);
+    drop(value);
 }
 
 /// An array in an array, so many of them.
@@ -199,6 +212,8 @@ fn a_deep_value_is_walked(rt: HostRuntime) {
     let copy = value.clone().expect(&rt, "a copy");
     agree(&rt, &value, &copy);
     assert!(rt; value == copy);
+    drop(value);
+    drop(copy);
 }
 
 /// A copy of a value finds the value in a map.
@@ -227,6 +242,11 @@ fn a_map_of_values_finds_an_equal_one(rt: HostRuntime) {
     let found = found_by_copy(alloc, parsed(&rt, alloc, ALL_KINDS));
     assert!(rt; found.expect(&rt, "room"));
     let map = map_of(&rt, alloc, parsed(&rt, alloc, "{\"k\":2,\"l\":[1,{}]}"));
-    assert!(rt; map.contains_key(&parsed(&rt, alloc, "{\"l\":[1.0,{}],\"k\":2.0}")));
-    assert!(rt; !map.contains_key(&parsed(&rt, alloc, "{\"l\":[1.0,{}],\"k\":3}")));
+    let same = parsed(&rt, alloc, "{\"l\":[1.0,{}],\"k\":2.0}");
+    assert!(rt; map.contains_key(&same));
+    drop(same);
+    let other = parsed(&rt, alloc, "{\"l\":[1.0,{}],\"k\":3}");
+    assert!(rt; !map.contains_key(&other));
+    drop(other);
+    drop(map);
 }
