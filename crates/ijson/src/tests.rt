@@ -23,6 +23,11 @@ fn key(rt: &impl Abort, alloc: Global, letters: &str) -> IString {
     IString::intern(&mut empty_cache(alloc), letters).expect(rt, "a text")
 }
 
+/// Writes a value in the place of another one, which is dropped here, whatever it is.
+fn set<T: Drop>(place: &mut T, value: T) {
+    *place = value;
+}
+
 /// Asserts what is shown of something.
 fn is_shown<T: Debug>(rt: &impl Abort, alloc: Global, shown: &T, want: &str) {
     let text = format!(in alloc; "{shown:?}").expect(rt, "a text");

@@ -31,8 +31,8 @@ fn insert_new(rt: &impl Abort, object: &mut IObject, key: IString, value: IValue
     assert!(rt; object.insert(key, value).expect(rt, "room").is_none());
 }
 
-/// Writes a value in the place of another one.
-fn set(place: &mut IValue, value: IValue) {
+/// Writes a value in the place of another one, which is dropped here, whatever it is.
+fn set<T: Drop>(place: &mut T, value: T) {
     *place = value;
 }
 

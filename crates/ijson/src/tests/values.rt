@@ -5,7 +5,7 @@ ghost use Rattle.ijson_value.specs.declared.value.ValueType.TheVariants as kind;
 ghost use Rattle.ijson_value.specs.Step.{by_position, by_key, kind_for, tree_at, tree_with};
 ghost use Rattle.ijson_value.specs.Tree.{boolean, null};
 
-use super::{is_shown, key, parsed};
+use super::{is_shown, key, parsed, set};
 use crate::array::IArray;
 use crate::number::INumber;
 use crate::object::IObject;
@@ -167,8 +167,8 @@ fn empty(value: &mut IValue) {
     match value.destructure_mut() {
         DestructuredMut::Null => {}
         DestructuredMut::Bool(mut truth) => truth.set(!truth.get()),
-        DestructuredMut::Number(number) => *number = INumber::zero(),
-        DestructuredMut::String(string) => *string = IString::new(),
+        DestructuredMut::Number(number) => set(number, INumber::zero()),
+        DestructuredMut::String(string) => set(string, IString::new()),
         DestructuredMut::Array(array) => array.clear(),
         DestructuredMut::Object(object) => object.clear(),
     }
@@ -177,10 +177,10 @@ fn empty(value: &mut IValue) {
 /// Does the same through the part that is lent by its kind; a truth value stays.
 fn empty_part(value: &mut IValue) {
     if let Some(number) = value.as_number_mut() {
-        *number = INumber::zero();
+        set(number, INumber::zero());
     }
     if let Some(string) = value.as_string_mut() {
-        *string = IString::new();
+        set(string, IString::new());
     }
     if let Some(array) = value.as_array_mut() {
         array.clear();

@@ -100,7 +100,7 @@ fn put_true(value: &mut IValue, pointer: &str) -> Option<Unresolved> {
 fn put_true_opened(value: &mut IValue, pointer: &str) -> Option<Unresolved> {
     match resolve_opened_mut(value, pointer) {
         Ok(found) => {
-            *found = Destructured::Bool(true);
+            set(found, Destructured::Bool(true));
             None
         }
         Err(why) => Some(why),

@@ -191,6 +191,7 @@ fn entries(rt: HostRuntime) {
 fn beside_null(rt: &impl Abort, refused: RefusedPair) -> IString {
     let RefusedPair { key, value, why } = refused;
     assert!(rt; value.is_null() && why == ReserveError::Memory);
+    drop(value);
     key
 }
 
