@@ -11,3 +11,6 @@ returns-clause-bytes c = grind (arith, common_steps)
 
 pub returns-clause-taken : goal.returns-clause-taken
 returns-clause-taken c = grind (arith, common_steps)
+
+pub returns-clause-moved : goal.returns-clause-moved
+returns-clause-moved c = grind (arith, common_steps)
