@@ -103,3 +103,6 @@ invariant_of-self-in_err-grow c = grind (arith, common_steps)
 
 pub returns-in_err-grow-clause-refused : goal.returns-in_err-grow-clause-refused
 returns-in_err-grow-clause-refused c = grind (arith, common_steps)
+
+pub returns-clause-followers : goal.returns-clause-followers
+returns-clause-followers c = grind (arith, common_steps)
