@@ -8,6 +8,7 @@
 #![tactic(auto)]
 
 pub mod json;
+pub mod literal;
 pub mod macros;
 
 pub use ijson_convert as convert;

@@ -27,7 +27,7 @@ macro_rules! ijson_internal {
     (@try $out:lifetime $step:expr) => {
         match $step {
             Ok(done) => done,
-            Err(refused) => break $out Err($crate::convert::ConvertError::from(refused)),
+            Err(refused) => break $out Err(refused),
         }
     };
 
@@ -43,21 +43,22 @@ macro_rules! ijson_internal {
         $crate::ijson_internal!(@item $a $c $out $list ({$($inner)*}) $($rest)*);
     };
     (@array $a:ident $c:ident $out:lifetime $list:ident $next:expr, $($rest:tt)*) => {
-        $crate::ijson_internal!(@item $a $c $out $list ($next) , $($rest)*);
+        $crate::ijson_internal!(@try $out $crate::literal::push_of($a, $c, &mut $list, &$next));
+        $crate::ijson_internal!(@array $a $c $out $list $($rest)*);
     };
     (@array $a:ident $c:ident $out:lifetime $list:ident $last:expr) => {
-        $crate::ijson_internal!(@item $a $c $out $list ($last));
+        $crate::ijson_internal!(@try $out $crate::literal::push_of($a, $c, &mut $list, &$last));
     };
     (@array $a:ident $c:ident $out:lifetime $list:ident , $($rest:tt)*) => {
         $crate::ijson_unexpected!(,)
     };
     (@item $a:ident $c:ident $out:lifetime $list:ident ($($value:tt)+)) => {
         let item = $crate::ijson_internal!($a $c $out; $($value)+);
-        $crate::ijson_internal!(@try $out $list.push(item));
+        $crate::ijson_internal!(@try $out $crate::literal::push(&mut $list, item));
     };
     (@item $a:ident $c:ident $out:lifetime $list:ident ($($value:tt)+) , $($rest:tt)*) => {
         let item = $crate::ijson_internal!($a $c $out; $($value)+);
-        $crate::ijson_internal!(@try $out $list.push(item));
+        $crate::ijson_internal!(@try $out $crate::literal::push(&mut $list, item));
         $crate::ijson_internal!(@array $a $c $out $list $($rest)*);
     };
     (@item $a:ident $c:ident $out:lifetime $list:ident ($($value:tt)+) $unexpected:tt $($rest:tt)*) => {
@@ -76,10 +77,11 @@ macro_rules! ijson_internal {
         $crate::ijson_internal!(@pair $a $c $out $pairs ($($key)+) ({$($inner)*}) $($rest)*);
     };
     (@object $a:ident $c:ident $out:lifetime $pairs:ident ($($key:tt)+) (: $value:expr, $($rest:tt)*)) => {
-        $crate::ijson_internal!(@pair $a $c $out $pairs ($($key)+) ($value) , $($rest)*);
+        $crate::ijson_internal!(@try $out $crate::literal::insert_of($a, $c, &mut $pairs, $($key)+, &$value));
+        $crate::ijson_internal!(@object $a $c $out $pairs () ($($rest)*));
     };
     (@object $a:ident $c:ident $out:lifetime $pairs:ident ($($key:tt)+) (: $value:expr)) => {
-        $crate::ijson_internal!(@pair $a $c $out $pairs ($($key)+) ($value));
+        $crate::ijson_internal!(@try $out $crate::literal::insert_of($a, $c, &mut $pairs, $($key)+, &$value));
     };
     (@object $a:ident $c:ident $out:lifetime $pairs:ident () (: $($rest:tt)*)) => {
         $crate::ijson_unexpected!(:)
@@ -97,9 +99,9 @@ macro_rules! ijson_internal {
         $crate::ijson_internal!(@object $a $c $out $pairs ($($key)+ $next) ($($rest)*));
     };
     (@put $a:ident $c:ident $out:lifetime $pairs:ident ($($key:tt)+) ($($value:tt)+)) => {
-        let key = $crate::ijson_internal!(@try $out $crate::IString::intern($c, $($key)+));
+        let key = $crate::ijson_internal!(@try $out $crate::literal::intern($c, $($key)+));
         let value = $crate::ijson_internal!($a $c $out; $($value)+);
-        drop($crate::ijson_internal!(@try $out $pairs.insert(key, value)));
+        $crate::ijson_internal!(@try $out $crate::literal::insert(&mut $pairs, key, value));
     };
     (@pair $a:ident $c:ident $out:lifetime $pairs:ident ($($key:tt)+) ($($value:tt)+)) => {
         $crate::ijson_internal!(@put $a $c $out $pairs ($($key)+) ($($value)+));
