@@ -1,6 +1,6 @@
 //! Exact decimals, as JSON writes numbers.
 //!
-//! Tests: src/tests/numbers.rt
+//! Tests: `ijson/src/tests/numbers.rt`; the words that numbers feed a hasher in the tests of `ijson_compact`.
 #![tactic(auto)]
 
 mod comparison;
@@ -10,8 +10,6 @@ mod looks;
 mod number;
 mod parse;
 mod repr;
-#[cfg(test)]
-mod tests;
 mod write;
 
 pub use comparison::{DigitRow, compare};

@@ -1,6 +1,8 @@
-//! The words that numbers feed a hasher.
+//! The words that numbers and texts feed a hasher.
+use super::empty_cache;
 use super::recorder::feeds;
 use ijson_number::INumber;
+use ijson_string::IString;
 
 const WORDS_OF_I64: [u64; 21] = [
     2, 1, 2147483648, 17, 3, 6, 0, 2, 8, 7, 9, 7, 0, 1, 8, 9, 6, 3, 9, 6, 8,
@@ -32,4 +34,23 @@ fn a_number_feeds_its_words(rt: HostRuntime) {
         feeds(&rt, rt.alloc(), &number, want);
         drop(number);
     }
+}
+
+/// Texts, and the words that each feeds a hasher.
+static TEXTS: [(&str, &[u64]); 4] = [
+    ("", &[3, 0]),
+    ("hi", &[3, 2, 104, 105]),
+    ("é", &[3, 2, 195, 169]),
+    ("eight888", &[3, 8, 101, 105, 103, 104, 116, 56, 56, 56]),
+];
+
+#[test]
+fn a_text_feeds_its_words(rt: HostRuntime) {
+    let mut cache = empty_cache(rt.alloc());
+    for &(letters, want) in &TEXTS {
+        let text = IString::intern(&mut cache, letters).expect(&rt, "a text");
+        feeds(&rt, rt.alloc(), &text, want);
+        drop(text);
+    }
+    drop(cache);
 }

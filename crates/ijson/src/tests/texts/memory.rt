@@ -1,7 +1,8 @@
 //! Which requests for memory texts and their cache make. Of these tests two and two make the same number of requests, which
 //! `refuse/same-requests` compares.
-use super::{Cache, empty_cache, interned};
-use crate::IString;
+use super::interned;
+use crate::examples::{Cache, empty_cache};
+use crate::string::IString;
 use std::alloc::Global;
 use std::process::Abort;
 

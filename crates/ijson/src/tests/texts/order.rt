@@ -1,7 +1,7 @@
 //! Texts that come again in the same order are found with no hash, and those that come in another are found as well.
 use super::interned;
 use super::many::OneHash;
-use crate::StringCache;
+use crate::string::StringCache;
 use std::alloc::Global;
 use std::cell::Cell;
 use std::hash::BuildHasher;

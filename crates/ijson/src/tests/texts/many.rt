@@ -1,6 +1,6 @@
 //! A cache of many texts: its buckets double, and from 2,048 buckets on `recent` leads to those that came again.
 use super::interned;
-use crate::StringCache;
+use crate::string::StringCache;
 use std::alloc::Global;
 use std::hash::{BuildHasher, BuildHasherDefault, FoldHasher, Hasher};
 use std::process::Abort;

@@ -1,6 +1,7 @@
 //! Texts of each length, one by one.
-use super::{empty_cache, interned};
-use crate::IString;
+use super::interned;
+use crate::examples::empty_cache;
+use crate::string::IString;
 use std::alloc::Global;
 use std::process::Abort;
 

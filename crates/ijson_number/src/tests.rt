@@ -1,3 +1,0 @@
-//! What no clause says of numbers.
-
-mod numbers;
