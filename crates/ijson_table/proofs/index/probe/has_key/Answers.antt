@@ -1,4 +1,4 @@
-use Rattle.std.proofs.Common.{◌≡◌, [], get_or, sym, ◌∙◌}
+use Rattle.std.proofs.Common.{◌≡◌, [], get_or, rules}
 use Rattle.ijson_table.specs.Store.{keys_of}
 use Rattle.ijson_table.proofs.pairs.PairsByKey.{key_at}
 use Rattle.ijson_table.proofs.index.probe.has_key.Goals as goal
@@ -8,4 +8,4 @@ returns g c =
     let key : get_or (keys_of c.args.pairs.now) c.args.position [] ≡
     (get_or c.args.pairs.now c.args.position c.index-pairs-position.result).0 =
     key_at c.args.pairs.now c.args.position c.index-pairs-position.result c.requires in
-    (λ yes_it. key ∙ c.eq_str.ensures.0 yes_it, λ same. c.eq_str.ensures.1 (sym key ∙ same))
+    rw key (search rules)
