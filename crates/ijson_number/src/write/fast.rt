@@ -1,5 +1,5 @@
 //! Appends a number's text, 16 digits at a time.
-ghost use Rattle.std.specs.Prelude.{◌≡◌, ◌+◌, ◌-◌, ◌/◌, ◌%◌, ◌^◌, ◌<◌, ◌≤◌, ◌∷◌, ◌++◌, ◌||◌, drop, length, nat_abs, neg_ℤ, negsuc, pos};
+ghost use Rattle.std.specs.Prelude.{◌≡◌, ◌+◌, ◌-◌, ◌/◌, ◌%◌, ◌^◌, ◌<◌, ◌≤◌, ◌∷◌, ◌++◌, ◌||◌, ℤ, drop, length, nat_abs, neg_ℤ, negsuc, pos};
 ghost use Rattle.std.specs.Prelude.{int_le, int_lt, true, false, ◌+ℤ◌, ◌<ℤ◌, ◌≤ℤ◌, IfOk, IsFalse, IsTrue, OnErr, OnOk};
 ghost use Rattle.std.specs.Fmt.{decimal};
 ghost use Rattle.std.specs.String.{string_bytes};
@@ -236,6 +236,8 @@ impl INumber {
         ensures pushed { Pushed result (string_bytes out.old) (string_bytes out.new) (num_text self.now.decimal) }
         ensures whole { is_digits (form_of self.now.decimal) ≡ false
             → self.now.decimal.point ≡ false → IfOk result (λ d. IsTrue d) }
+        ensures pointed { (m e : ℤ) → form_of self.now.decimal ≡ packed m e true → neg_ℤ (pos 6) ≤ℤ e → e ≤ℤ pos 0
+            → IfOk result (λ d. IsTrue d) }
     {
         let (negative, magnitude) = match &self.stored {
             Stored::Packed(word) => {

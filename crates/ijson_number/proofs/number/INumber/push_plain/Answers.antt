@@ -55,6 +55,7 @@ returns c = record {
   pushed = c.in_ok-push_integer.ensures.written
       ∙ ap (λ x. string_bytes c.args.out.now ++ x) (shown (goal.at.returns c).After-push_integer);
   whole = λ _ _. refl;
+  pointed = λ _ _ _ _ _. refl;
 }
 
 pub returns-in_err-push_integer : goal.returns-in_err-push_integer
@@ -66,6 +67,7 @@ returns-in_err-push_integer c =
           (begun_as old (string_bytes c.push_integer.new.out) _ _ c.in_err-push_integer.ensures.refused
           (shown (goal.at.returns-in_err-push_integer c).After-push_integer));
       whole = λ _ _. IfOk-from_err _ _ e;
+      pointed = λ _ _ _ _ _. IfOk-from_err _ _ e;
     }
 
 pub returns-in-Long-clause-pushed : goal.returns-in-Long-clause-pushed
