@@ -1,8 +1,8 @@
-//! The steps of a literal of `ijson!`: hidden helpers. Where memory is refused each drops what it was given, so the body that has the
-//! literal leaves it in one way only.
-ghost use Rattle.std.specs.Prelude.{◌≡◌, ◌∷◌, ◌++◌, [], map, OnOk, OnErr, IfOk, IfErr};
+//! The steps of a literal of `ijson!`: hidden helpers. Where memory is refused a helper drops the item or the pair that it was given,
+//! and the list or the object that it was lent is as it was. So the body that has the literal leaves it in one way only.
+ghost use Rattle.std.specs.Prelude.{◌≡◌, ◌<◌, ◌≤◌, ◌∷◌, ◌++◌, [], length, map, OnOk, OnErr, IfOk, IfErr, IsOk, IsSome};
 ghost use Rattle.ijson_string.specs.Cache.{interned};
-ghost use Rattle.ijson_table.specs.Store.{put};
+ghost use Rattle.ijson_table.specs.Store.{lookup, put};
 ghost use Rattle.ijson_value.specs.WellFormed.{tree_of};
 ghost use Rattle.ijson_convert.specs.Interned.{all_interned, SomeInterned};
 ghost use Rattle.ijson_convert.specs.TextsOf.{texts_of};
@@ -23,6 +23,7 @@ pub fn intern<S: BuildHasher>(
     ensures cache { OnOk result (cache.new ≡ interned key.now cache.old) }
     ensures memory { IfErr result (λ e. e ≡ Memory) }
     ensures refused { OnErr result (cache.new ≡ cache.old) }
+    ensures short { length key.now ≤ 7 → IsOk result }
 {
     Ok(IString::intern(cache, key)?)
 }
@@ -32,6 +33,7 @@ pub fn push(list: &mut IArray, item: IValue) -> Result<(), ConvertError>
     ensures items { OnOk result (list.new.items ≡ list.old.items ++ item ∷ []) }
     ensures memory { IfErr result (λ e. e ≡ Memory) }
     ensures refused { OnErr result (list.new.items ≡ list.old.items) }
+    ensures room { length list.old.items < list.old.capacity → IsOk result }
 {
     Ok(list.push(item)?)
 }
@@ -60,6 +62,8 @@ pub fn insert(object: &mut IObject, key: IString, value: IValue) -> Result<(), C
     ensures pairs { OnOk result (object.new.pairs ≡ put object.old.pairs key value) }
     ensures memory { IfErr result (λ e. e ≡ Memory) }
     ensures refused { OnErr result (object.new.pairs ≡ object.old.pairs) }
+    ensures there { IsSome (lookup key object.old.pairs) → IsOk result }
+    ensures room { length object.old.pairs < object.old.capacity → IsOk result }
 {
     object.insert(key, value)?;
     Ok(())

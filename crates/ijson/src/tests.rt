@@ -2,8 +2,8 @@
 //! last four. Objects, canonical texts, pointers and all other refusals of memory are tested in `ijson_extra`, tables in `ijson_table`, and
 //! all else that the program stands on in the program.
 //!
-//! Where a test is done with a value it calls `drop`, which is one step of the proof. At the end of a scope the proof has a way for each
-//! kind that the value may be of.
+//! Where a test is done with a value it calls `drop`, which is one step of the proof, but in `numbers` and `texts`. At the end of a scope
+//! the proof has a way for each kind that the value may be of.
 
 mod arrays;
 mod conversions;

@@ -1,4 +1,4 @@
-use Rattle.std.proofs.Common.{◌≡◌, [], ◌∷◌, ap, subst, ◌∙◌}
+use Rattle.std.proofs.Common.{[], ◌∷◌, ap, subst, ◌∙◌}
 use Rattle.std.proofs.lemmas.Result.{on_ok_weaker}
 use Rattle.ijson_number.proofs.AnyAnswer.{where_refused}
 use Rattle.ijson_table.specs.Store.{put}
