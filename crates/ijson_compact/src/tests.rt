@@ -1,7 +1,7 @@
 //! What no clause says of the crates that the program stands on: walks over values; the words that values feed a hasher; what is written
-//! of texts, where their faults are told, and devices that give and take little, and fail. Tables are tested in `ijson_table`, objects and refused
-//! memory in `ijson_extra`, numbers, texts and their cache, arrays, values and the texts of faults in `ijson`, and what stands above these
-//! crates in both.
+//! of texts, where their faults are told, and devices that give and take little, and fail. Tables, objects and refused memory are tested in
+//! `ijson_extra`, numbers, texts and their cache, arrays, values and the texts of faults in `ijson`, and what stands above these crates in
+//! both.
 
 mod cache;
 mod devices;

@@ -1,4 +1,4 @@
-//! What no clause says of objects, canonical texts and pointers, and refusals of memory in this crate and in those below it.
+//! What no clause says of tables, objects, canonical texts and pointers, and refusals of memory in this crate and in those below it.
 
 mod canonical;
 mod given_back;
@@ -6,6 +6,7 @@ mod lent;
 mod objects;
 mod pointer;
 mod refusals;
+mod tables;
 
 use ijson_json::{from_json, to_json};
 use ijson_string::{IString, StringCache};

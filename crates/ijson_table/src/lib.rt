@@ -1,6 +1,6 @@
 //! Stores of pairs with distinct keys, in insertion order.
 //!
-//! Tests: `src/tests.rt` and `src/tests/`, refused memory too.
+//! Tests: they stand in `ijson_extra`.
 #![tactic(auto)]
 
 mod commands;
@@ -12,8 +12,6 @@ mod linear;
 mod sorting;
 mod store;
 mod table;
-#[cfg(test)]
-mod tests;
 
 pub use commands::{Command, Reply, run};
 pub use fixed::FixedTable;

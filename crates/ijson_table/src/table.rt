@@ -1,10 +1,11 @@
 //! A pair store whose keys are found by their hash.
 
 ghost use Rattle.std.specs.Prelude.{◌≡◌, ◌+◌, ◌-◌, ◌<◌, ◌≤◌, ◌^◌, [], ◌∷◌, ◌++◌, length, get_or, map};
-ghost use Rattle.std.specs.Prelude.{ℕ, List, Ok, Err, refl, IfOk, IsOk, OnErr, ◌↔◌, Some, None};
+ghost use Rattle.std.specs.Prelude.{ℕ, List, Ok, Err, refl, IfOk, IsOk, OnOk, OnErr, ◌↔◌, Some, None};
 ghost use Rattle.std.specs.Option.{option_copied};
+ghost use Rattle.ijson_table.specs.CopyBound.{IsCopyBounded};
 ghost use Rattle.ijson_table.specs.Crowd.{distance};
-ghost use Rattle.ijson_table.specs.Growth.{capacity_limit};
+ghost use Rattle.ijson_table.specs.Growth.{Grow, capacity_limit};
 ghost use Rattle.ijson_table.specs.Inserts.{Inserts};
 ghost use Rattle.ijson_table.specs.Slots.{resident, IsBounded, IsTable};
 ghost use Rattle.ijson_table.specs.Store.{at, keys_of, IsDistinct, lookup};
@@ -96,7 +97,7 @@ impl<V: Drop, H: KeyHash> Table<V, H> {
         ensures refused { OnErr result (0 < length pairs.items) }
     {
         let capacity = pairs.len();
-        let index = self.index_with_slots(alloc, slots_for(capacity))?;
+        let index = self.index_with_slots(alloc, slots_for(capacity), &mut 0)?;
         tighten(alloc, &mut pairs)?;
         Ok(Table {
             pairs,
@@ -143,6 +144,29 @@ impl<V: Drop, H: KeyHash> Table<V, H> {
         }
     }
 
+    /// Makes room as `reserve` does, and counts in `steps`, which is 0 before, what it takes to put the positions of more than 127 pairs
+    /// into new slots: each slot that it looks at or writes for one, and each two entries that sorting compares. Walks over all slots,
+    /// which read or empty them or fill them in order, are not counted, nor is anything where the room before or after is for at
+    /// most 127 pairs.
+    pub fn reserve_counted(
+        &mut self,
+        additional: usize,
+        steps: &mut u128,
+    ) -> Result<(), ReserveError>
+        requires none { steps.old ≡ 0 }
+        ensures grown { Grow (length self.old.store.pairs) self.old.store.capacity additional result
+            self.new.store.capacity }
+        ensures room { OnOk result (length self.new.store.pairs + additional ≤ self.new.store.capacity) }
+        ensures pairs { self.new.store.pairs ≡ self.old.store.pairs }
+        ensures bounded { IsCopyBounded (length self.old.store.pairs) steps.new }
+    {
+        let len = self.pairs.len();
+        match grown_capacity(len, self.pairs.capacity(), additional)? {
+            Some(capacity) => Ok(self.set_capacity(capacity, steps)?),
+            None => Ok(()),
+        }
+    }
+
     /// Puts a pair last whose key is new and has this hash, in room that is made first where there is none.
     fn push_grown(&mut self, key: IString, value: V, hash: u64) -> Result<Option<V>, RefusedPair<V>>
         requires missing { at self.old.store.pairs key ≡ None }
@@ -157,15 +181,18 @@ impl<V: Drop, H: KeyHash> Table<V, H> {
         Ok(None)
     }
 
-    /// Makes the capacity this one, the length or one that is no less than the old. Where memory is refused, nothing changes.
-    fn set_capacity(&mut self, capacity: usize) -> Result<(), AllocError>
+    /// Makes the capacity this one, the length or one that is no less than the old. Where memory is refused, nothing changes. The
+    /// steps are counted, as those of `reserve_counted` are.
+    fn set_capacity(&mut self, capacity: usize, steps: &mut u128) -> Result<(), AllocError>
         requires within { length self.old.store.pairs ≤ capacity }
         requires grows { length self.old.store.pairs < capacity → self.old.store.capacity ≤ capacity }
         requires limited { capacity ≤ capacity_limit }
-        ensures { IsResized self.old.store.pairs self.old.store.capacity capacity result
+        requires steps { steps.old ≡ 0 }
+        ensures resized { IsResized self.old.store.pairs self.old.store.capacity capacity result
             self.new.store.pairs self.new.store.capacity }
+        ensures bounded { IsCopyBounded (length self.old.store.pairs) steps.new }
     {
-        let index = self.index_with_slots(self.alloc, slots_for(capacity))?;
+        let index = self.index_with_slots(self.alloc, slots_for(capacity), steps)?;
         set_room(self.alloc, &mut self.pairs, capacity)?;
         self.index = index;
         Ok(())
@@ -289,20 +316,27 @@ impl<V, H: KeyHash> Table<V, H> {
 
     /// An index of so many slots, which have room for each position. Where there are as many here, or many here and there, both
     /// keep the same of each hash, and no key is hashed. Else each key is hashed once: what few slots keep of a hash tells no home
-    /// among others.
-    fn index_with_slots(&self, alloc: Global, count: usize) -> Result<Index, AllocError>
+    /// among others, and no step is counted.
+    fn index_with_slots(
+        &self,
+        alloc: Global,
+        count: usize,
+        steps: &mut u128,
+    ) -> Result<Index, AllocError>
         requires room { length self.now.store.pairs ≤ count }
+        requires steps { steps.old ≡ 0 }
         ensures hashes { IfOk result (λ index. index.hashes
             ≡ map (kept_hash count H.hash_of) (keys_of self.now.store.pairs)) }
         ensures count { IfOk result (λ index. length index.slots ≡ count) }
         ensures refused { OnErr result (0 < count) }
         ensures limited { length self.now.store.pairs ≤ capacity_limit }
+        ensures bounded { IsCopyBounded (length self.now.store.pairs) steps.new }
     {
         let slots = self.index.len();
         if count == slots || count.min(slots) > NARROW_SLOTS {
             return self
                 .index
-                .copy_counted(alloc, self.pairs.len(), count, &mut 0);
+                .copy_counted(alloc, self.pairs.len(), count, steps);
         }
         let mut index = Index::with_slots(alloc, count)?;
         place_each::<V, H>(&self.pairs, &mut index);
@@ -398,10 +432,7 @@ impl<V: Drop, H: KeyHash> PairStore<V> for Table<V, H> {
     }
 
     fn reserve(&mut self, additional: usize) -> Result<(), ReserveError> {
-        match grown_capacity(self.len(), self.capacity(), additional)? {
-            Some(capacity) => Ok(self.set_capacity(capacity)?),
-            None => Ok(()),
-        }
+        self.reserve_counted(additional, &mut 0)
     }
 
     fn shrink_to_fit(&mut self) -> Result<(), ReserveError> {
@@ -409,7 +440,7 @@ impl<V: Drop, H: KeyHash> PairStore<V> for Table<V, H> {
         if self.capacity() == len {
             return Ok(());
         }
-        Ok(self.set_capacity(len)?)
+        Ok(self.set_capacity(len, &mut 0)?)
     }
 
     fn position(&self, key: &str) -> Option<usize> {

@@ -24,6 +24,7 @@ macro_rules! granted {
 pub(super) mod large;
 mod no_memory;
 mod objects;
+pub(super) mod tables;
 
 use super::{Cache, empty_cache};
 use crate::canonical::canonical_json;

@@ -1,7 +1,7 @@
 //! Copies of slots with another count of slots, in growth and shrinking. Where the residents crowd, the slots are filled by sorting.
 
 ghost use Rattle.std.specs.Prelude.{◌≡◌, ◌≢◌, ℕ, ◌+◌, ◌*◌, ◌^◌, ◌<◌, ◌≤◌, [], List, length, IfOk, OnOk, OnErr, IsTrue, IsFalse};
-ghost use Rattle.ijson_table.specs.private.CopyBound.{steps_a_resident, IsCopyBounded};
+ghost use Rattle.ijson_table.specs.CopyBound.{steps_a_resident, IsCopyBounded};
 ghost use Rattle.ijson_table.specs.private.Entries.{AreEntries};
 ghost use Rattle.ijson_table.specs.private.Insertion.{IsTableOf};
 ghost use Rattle.ijson_table.specs.private.KeptHash.{narrow_slots};

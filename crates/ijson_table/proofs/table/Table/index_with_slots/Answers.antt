@@ -51,7 +51,7 @@ copy_counted-requires-clause-room g c = omega (
   c.len.ensures,
   c.self.inside.pairs.ok.0,
   ap (λ (t : Placed g.row.V.Denot). length t.store.pairs) c.self.view_is,
-  c.requires,
+  c.requires.room,
 )
 
 pub returns-then-count-slots-clause-count : goal.returns-then-count-slots-clause-count
@@ -84,7 +84,7 @@ place_each-requires g c = record {
     ap length c.deref.ensures.value,
     ap (λ (t : Placed g.row.V.Denot). length t.store.pairs) c.self.view_is,
     c.in_ok-index.ensures.count,
-    c.requires,
+    c.requires.room,
   );
 }
 
@@ -100,4 +100,5 @@ returns g c = record {
     c.self.invariant.room.limited,
     ap (λ (t : Placed g.row.V.Denot). length t.store.pairs) c.self.view_is,
   );
+  bounded = λ k few. omega (arith, c.requires.steps);
 }

@@ -11,6 +11,17 @@ overflow_add-steps g c =
     ap slot_count c.loop-steps.invariant.capacity in
     omega (arith, c.insert_in_room.ensures.steps, c.requires.most, c.requires.limited, c.loop-steps-test.true)
 
+pub insert_in_room-requires : goal.insert_in_room-requires
+insert_in_room-requires g c =
+    let pair : List ℕ × g.row.V.Denot = (c.in-Some.key, c.in-Some.value) in
+    omega (
+      arith,
+      ap length c.in-Some.ensures.items,
+      length-append c.pop.new.self.items (pair ∷ []),
+      c.loop-steps.invariant.room,
+      c.loop-steps.invariant.capacity,
+    )
+
 pub loop-steps-preserved : goal.loop-steps-preserved
 loop-steps-preserved g c =
     let before = c.loop-steps.self.store in

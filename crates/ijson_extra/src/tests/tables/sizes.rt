@@ -1,8 +1,9 @@
 //! Sizes far beyond those of the other tests: a store that gives up there tells it as want of memory, which no clause rules out.
 
-use super::refusals::Store;
-use super::{AlwaysZero, ByLength, key};
-use crate::{Command, FixedTable, LinearPairs, PairStore, Table, run};
+use super::{AlwaysZero, ByLength};
+use crate::tests::key;
+use crate::tests::refusals::tables::Store;
+use ijson_table::{Command, FixedTable, LinearPairs, PairStore, Table, run};
 use std::alloc::Global;
 use std::process::Abort;
 

@@ -1,29 +1,21 @@
-//! Each store by commands, and tables worked by hand.
+//! Pair stores: each by commands, and tables worked by hand.
 
 mod copies;
 mod crowds;
 mod lists;
-mod refusals;
 mod shown;
 mod sizes;
 mod slots;
 mod stores;
 
-use crate::store::insert;
-use crate::{Command, KeyHash, PairStore, Reply, run};
-use ijson_string::{IString, StringCache};
+use super::key;
+use ijson_string::IString;
+use ijson_table::{Command, KeyHash, PairStore, Reply, run};
 use std::alloc::Global;
-use std::hash::{BuildHasherDefault, FoldHasher};
 use std::process::Abort;
 
-/// A text through a cache of its own.
-fn key(rt: &impl Abort, alloc: Global, letters: &str) -> IString {
-    let mut cache = StringCache::new(alloc, BuildHasherDefault::<FoldHasher>::new());
-    IString::intern(&mut cache, letters).expect(rt, "a text")
-}
-
 /// A key for each number: one character, which takes no memory.
-fn numbered(rt: &impl Abort, alloc: Global, number: u16) -> IString {
+pub(super) fn numbered(rt: &impl Abort, alloc: Global, number: u16) -> IString {
     let character = char::from_u32(0x4e00 + u32::from(number)).expect(rt, "a character");
     let mut bytes = [0; 4];
     key(rt, alloc, character.encode_utf8(&mut bytes))
@@ -45,7 +37,7 @@ impl KeyHash for ByLength {
 
 /// Always 0.
 #[derive(Drop)]
-struct AlwaysZero;
+pub(super) struct AlwaysZero;
 
 impl KeyHash for AlwaysZero {
     ghost hash_of = { λ text. 0 };
@@ -108,8 +100,8 @@ fn replies_so<P: PairStore<u64>>(
 /// Inserts these keys, each beside its index.
 fn insert_all<P: PairStore<u64>>(rt: &impl Abort, alloc: Global, store: &mut P, keys: &[&str]) {
     for (i, letters) in keys.iter().enumerate() {
-        let inserted = insert(store, key(rt, alloc, letters), i as u64);
-        assert!(rt; matches!(inserted, Ok(None)));
+        let put = Command::Insert(key(rt, alloc, letters), i as u64);
+        assert!(rt; matches!(reply(rt, alloc, store, put), Reply::Added));
     }
 }
 

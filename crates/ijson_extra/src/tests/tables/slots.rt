@@ -1,9 +1,10 @@
 //! Tables worked by hand: what stands at their slots, and how many looks they take.
 
 use super::Step::{Clear, Find, Put, Remove, Reserve, ShiftRemove, Shrink};
-use super::{AlwaysZero, ByLength, Step, key, replies_so};
-use crate::{FixedHash, FixedTable, KeyHash, PairStore, Places, Seen, Table, locate};
+use super::{AlwaysZero, ByLength, Step, replies_so};
+use crate::tests::key;
 use ijson_number::Looks;
+use ijson_table::{FixedHash, FixedTable, KeyHash, PairStore, Places, Seen, Table, locate};
 use std::alloc::Global;
 use std::process::Abort;
 

@@ -1,8 +1,9 @@
 //! What is printed of errors, and what is shown of each type. What is shown of replies stands beside each step of a store.
 
 use super::Step::{Clear, Find, Put, Remove, Reserve, ShiftRemove, Shrink};
-use super::{Step, command, insert_all, key};
-use crate::{
+use super::{Step, command, insert_all};
+use crate::tests::key;
+use ijson_table::{
     FixedHash, FixedTable, LinearPairs, PairStore, RefusedPair, Reply, ReserveError, Seen,
 };
 use std::alloc::Global;

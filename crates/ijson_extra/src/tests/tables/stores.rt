@@ -1,8 +1,9 @@
 //! What each store does, the same for all of them.
 
 use super::Step::{Clear, Find, Put, Remove, Reserve, ShiftRemove, Shrink};
-use super::{AlwaysZero, ByLength, Step, command, has_keys, insert_all, key, replies_so};
-use crate::{Command, FixedTable, LinearPairs, PairStore, Places, ReserveError, Table, run};
+use super::{AlwaysZero, ByLength, Step, command, has_keys, insert_all, replies_so};
+use crate::tests::key;
+use ijson_table::{Command, FixedTable, LinearPairs, PairStore, Places, ReserveError, Table, run};
 use std::alloc::Global;
 use std::process::Abort;
 

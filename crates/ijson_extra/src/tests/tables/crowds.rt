@@ -1,10 +1,10 @@
 //! Tables of lists of keys that were chosen to crowd: what they hold, and how many looks they take.
 
-use super::{ByLength, key};
-use crate::store::insert;
-use crate::{FixedHash, KeyHash, LinearPairs, PairStore, Table};
+use super::ByLength;
+use crate::tests::key;
 use ijson_number::Looks;
 use ijson_string::IString;
+use ijson_table::{FixedHash, KeyHash, LinearPairs, PairStore, Table};
 use std::alloc::Global;
 use std::process::Abort;
 
@@ -95,7 +95,7 @@ fn listed(rt: &impl Abort, alloc: Global, chosen: Chosen) -> Vec<(IString, u64)>
 fn put_one_by_one(rt: &impl Abort, alloc: Global, chosen: Chosen) -> LinearPairs<u64> {
     let mut store = LinearPairs::new(alloc);
     for (key, value) in listed(rt, alloc, chosen) {
-        assert!(rt; insert(&mut store, key, value).is_ok());
+        assert!(rt; store.insert(key, value).is_ok());
     }
     store
 }

@@ -1,8 +1,9 @@
 //! Long lists of commands, which each store answers alike.
 
-use super::{AlwaysZero, ByLength, key, reply};
-use crate::{Command, FixedTable, LinearPairs, PairStore, Reply, Table, run};
+use super::{AlwaysZero, ByLength, reply};
+use crate::tests::key;
 use ijson_string::IString;
+use ijson_table::{Command, FixedTable, LinearPairs, PairStore, Reply, Table, run};
 use std::alloc::Global;
 use std::process::Abort;
 

@@ -1,14 +1,14 @@
-//! What holds after a refused request for memory. Each of these tests passes whichever one of its requests is refused.
+//! What holds of a pair store after a refused request for memory. Each of these tests passes whichever one of its requests is refused.
 //!
 //! The pairs of a store are those of the numbers below their count: each has a key of its own and the number as its value, and stands at
 //! the position of that number.
 
-use super::{AlwaysZero, numbered};
-use crate::{
+use crate::tests::tables::{AlwaysZero, numbered};
+use ijson_string::IString;
+use ijson_table::{
     Command, FixedHash, FixedTable, KeyHash, LinearPairs, PairStore, RefusedPair, Reply,
     ReserveError, Table, run,
 };
-use ijson_string::IString;
 use std::alloc::{AllocError, Global};
 use std::process::Abort;
 
