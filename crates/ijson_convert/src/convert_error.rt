@@ -38,7 +38,8 @@ impl From<AllocError> for ConvertError {
 impl From<Refused> for ConvertError {
     ghost from_gives = { λ _ e. e ≡ Memory };
 
-    fn from(_refused: Refused) -> ConvertError {
+    fn from(refused: Refused) -> ConvertError {
+        drop(refused);
         ConvertError::Memory
     }
 }
@@ -47,7 +48,8 @@ impl From<Refused> for ConvertError {
 impl From<RefusedPair> for ConvertError {
     ghost from_gives = { λ _ e. e ≡ Memory };
 
-    fn from(_refused: RefusedPair) -> ConvertError {
+    fn from(refused: RefusedPair) -> ConvertError {
+        drop(refused);
         ConvertError::Memory
     }
 }

@@ -29,9 +29,7 @@ impl<T: FromIValue + Drop> FromIValue for Vec<T> {
                 Ok(x) => x,
                 Err(e) => return Err(e),
             };
-            if list.push(x).is_err() {
-                return Err(ConvertError::Memory);
-            }
+            list.push_reserved(x);
         }
         Ok(list)
     }

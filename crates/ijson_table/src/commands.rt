@@ -55,7 +55,11 @@ fn step<V: Drop, P: PairStore<V>>(store: &mut P, command: Command<V>) -> Reply<V
 {
     match command {
         Command::Insert(key, value) => inserted(insert(store, key, value)),
-        Command::Find(key) => Reply::Found(store.position(key.as_str())),
+        Command::Find(key) => {
+            let found = store.position(key.as_str());
+            drop(key);
+            Reply::Found(found)
+        }
         Command::Remove(key) => Reply::Removed(remove(store, key)),
         Command::ShiftRemove(key) => Reply::Removed(shift_remove(store, key)),
         Command::Reserve(additional) => match store.reserve(additional) {
@@ -90,8 +94,9 @@ fn inserted<V>(outcome: Result<Option<V>, RefusedPair<V>>) -> Reply<V>
 fn remove<V, P: PairStore<V>>(store: &mut P, key: IString) -> Option<(IString, V)>
     ensures { Step (P.pairs store.old) (P.room store.old) (Remove key) (Removed result) (P.pairs store.new) (P.room store.new) }
 {
-    let at = store.position(key.as_str())?;
-    Some(store.swap_out(at))
+    let found = store.position(key.as_str());
+    drop(key);
+    Some(store.swap_out(found?))
 }
 
 /// Takes out the pair with a key, or none. Those behind it move one forward.
@@ -100,8 +105,9 @@ fn shift_remove<V, P: PairStore<V>>(store: &mut P, key: IString) -> Option<(IStr
     ensures { Step (P.pairs store.old) (P.room store.old) (ShiftRemove key) (Removed result)
         (P.pairs store.new) (P.room store.new) }
 {
-    let at = store.position(key.as_str())?;
-    Some(store.shift_out(at))
+    let found = store.position(key.as_str());
+    drop(key);
+    Some(store.shift_out(found?))
 }
 
 /// The commands in order. The replies and what the store has in the end are a run, however it is kept. Room for the replies is

@@ -53,7 +53,9 @@ impl<V: Drop> From<RefusedPair<V>> for ReserveError {
     ghost from_gives = { λ refused why. why ≡ refused.why };
 
     fn from(refused: RefusedPair<V>) -> ReserveError {
-        refused.why
+        let why = refused.why;
+        drop(refused);
+        why
     }
 }
 

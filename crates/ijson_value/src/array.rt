@@ -61,7 +61,8 @@ impl From<Refused> for ReserveError {
 
     ghost from_gives = { λ _ why. why ≡ Memory };
 
-    fn from(_refused: Refused) -> ReserveError {
+    fn from(refused: Refused) -> ReserveError {
+        drop(refused);
         ReserveError::Memory
     }
 }

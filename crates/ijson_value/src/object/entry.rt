@@ -76,7 +76,9 @@ impl From<RefusedKey> for ReserveError {
     ghost from_gives = { λ refused why. why ≡ refused.why };
 
     fn from(refused: RefusedKey) -> ReserveError {
-        refused.why
+        let why = refused.why;
+        drop(refused);
+        why
     }
 }
 
@@ -261,7 +263,9 @@ impl<'a> OccupiedEntry<'a> {
         ensures capacity { self.exit.0.now.capacity
             ≡ (entry_object (Occupied self.entry)).now.capacity }
     {
-        self.remove_entry().1
+        let (key, value) = self.remove_entry();
+        drop(key);
+        value
     }
 
     /// Takes the pair out. The last pair moves into its place. It takes no memory.

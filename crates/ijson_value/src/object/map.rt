@@ -164,7 +164,10 @@ impl IObject {
                 self.table = Some(table);
                 Ok(())
             }
-            Err(_) => Err(ReserveError::Memory),
+            Err(refused) => {
+                drop(refused);
+                Err(ReserveError::Memory)
+            }
         }
     }
 
@@ -206,7 +209,8 @@ impl IObject {
         if self.table.is_none() {
             match Box::new(self.alloc, FixedTable::new(self.alloc)) {
                 Ok(table) => self.table = Some(table),
-                Err(_) => {
+                Err(refused) => {
+                    drop(refused);
                     let why = ReserveError::Memory;
                     return Err(RefusedPair { key, value, why });
                 }

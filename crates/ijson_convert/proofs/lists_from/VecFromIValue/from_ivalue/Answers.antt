@@ -1,4 +1,4 @@
-use Rattle.std.proofs.Common.{◌≡◌, ◌+◌, ◌∷◌, [], ◌++◌, take, map, ap, sym, subst, ◌∙◌, arith, rules}
+use Rattle.std.proofs.Common.{◌≡◌, ◌+◌, ◌∷◌, [], ◌++◌, take, map, length, length-append, ap, sym, subst, ◌∙◌, arith}
 use Rattle.std.proofs.Math.Logic.{⊎_map}
 use Rattle.std.proofs.lemmas.List.{map_more, map_push}
 use Rattle.std.proofs.lemmas.List.Elements.{All-push}
@@ -35,8 +35,9 @@ loop-item-preserved g c =
     let ts = map tree c.loop-item.list.items in
     let more : map tree_of (take (i + 1) xs) ≡ us ++ u ∷ [] =
     map_more tree_of xs i c.item-item.result (omega (arith, c.loop-item-test.true)) ∙ ap (λ v. us ++ tree_of v ∷ []) (sym c.item-item.is) in
-    let items_are : c.push.new.self.items ≡ c.loop-item.list.items ++ c.in-Ok.x ∷ [] = search rules in
-    let pushed : map tree c.push.new.self.items ≡ ts ++ tree c.in-Ok.x ∷ [] =
+    let items_are : c.push_reserved.new.self.items ≡ c.loop-item.list.items ++ c.in-Ok.x ∷ [] =
+    c.push_reserved.ensures.items in
+    let pushed : map tree c.push_reserved.new.self.items ≡ ts ++ tree c.in-Ok.x ∷ [] =
     ap (map tree) items_are ∙ map_push tree c.loop-item.list.items c.in-Ok.x in
     let same = each_pushed ts us (tree c.in-Ok.x) u c.loop-item.invariant.same c.in-Ok.ensures.same in
     let read = read_pushed refused us u c.loop-item.invariant.read c.in-Ok.ensures.read in
@@ -46,4 +47,6 @@ loop-item-preserved g c =
       read = subst (AllRead refused) (sym more) read;
       none = subst (All none) (sym items_are)
           (All-push none c.loop-item.list.items c.in-Ok.x c.loop-item.invariant.none c.in-Ok.ensures.none);
+      full = ap length items_are ∙ omega (arith, length-append c.loop-item.list.items (c.in-Ok.x ∷ []), c.loop-item.invariant.full);
+      room = omega (arith, c.push_reserved.ensures.capacity, c.loop-item.invariant.room);
     }

@@ -1,4 +1,4 @@
-use Rattle.std.proofs.Common.{take, map}
+use Rattle.std.proofs.Common.{◌≡◌, ◌≤◌, take, map, length, vec_capacity}
 use Rattle.std.specs.Prelude.{All}
 use Rattle.ijson_value.specs.Same.{SameEach}
 use Rattle.ijson_value.specs.Tree.{items_of}
@@ -6,7 +6,7 @@ use Rattle.ijson_value.specs.WellFormed.{tree_of}
 use Rattle.ijson_convert.proofs.reading.ItemsRead.{AllRead}
 use Rattle.ijson_convert.proofs.lists_from.VecFromIValue.from_ivalue.Given as goal
 
--- the items so far are read, and the same, and each null that may be None is
+-- the items so far are read, and the same, and each null that may be None is; the list has room for all of them
 abbrev pub invariant-loop-item : goal.invariant-loop-item
 invariant-loop-item g l =
     let items = map tree_of (take l.item-index l.item-items) in
@@ -14,4 +14,6 @@ invariant-loop-item g l =
       same : SameEach (items_of (map g.T.FromIValue.tree l.list.items)) (items_of items);
       read : AllRead g.T.FromIValue.refused items;
       none : All g.T.FromIValue.null_is_none l.list.items;
+      full : length l.list.items ≡ l.item-index;
+      room : length l.item-items ≤ vec_capacity l.list;
     }
