@@ -1,6 +1,7 @@
-use Rattle.std.proofs.Common.{fold, add-one, arith, ap, ◌∙◌, drop_of_length-le}
+use Rattle.std.proofs.Common.{fold, add-one, arith, sym, ap, ◌∙◌, drop_of_length-le}
+use Rattle.ijson_value.specs.NodeValue.{node_value}
 use Rattle.ijson_value.specs.WellFormed.{item_trees}
-use Rattle.ijson_value.specs.Words.{item_words}
+use Rattle.ijson_value.specs.Words.{words, item_words}
 use Rattle.ijson_value.proofs.DepthLemmas.{items_fall}
 use Rattle.ijson_value.proofs.hashing.Feeds.{feed, array_fed, item_fed}
 use Rattle.ijson_value.proofs.hash.+hash.Goals as goal
@@ -8,6 +9,11 @@ use Rattle.ijson_value.proofs.hash.+hash.Goals as goal
 pub hash_value-hash_items-requires : goal.hash_value-hash_items-requires
 hash_value-hash_items-requires g t c κs within =
     (omega (arith, items_fall c.as_slice.ensures c.in-Array.is c.value.view_is, c.decreases), within)
+
+pub hash_value-returns-in-Number : goal.hash_value-returns-in-Number
+hash_value-returns-in-Number g t c =
+    c.hash.ensures
+    ∙ ap (λ v. fold g.H.Hasher.write c.args.state.now (feed (words v.tree))) (ap node_value (sym c.in-Number.is) ∙ c.value.view_is)
 
 pub hash_items-loop-item-preserved : goal.hash_items-loop-item-preserved
 hash_items-loop-item-preserved g t c =

@@ -1,9 +1,10 @@
-use Rattle.std.proofs.Common.{◌≡◌, Some, None, ◌&&◌, arith, sym, ap, ◌∙◌, drop, suc, add-one, length, drop_of_length-le}
+use Rattle.std.proofs.Common.{◌≡◌, Some, None, ◌&&◌, refl, arith, sym, ap, ◌∙◌, drop, suc, add-one, length, drop_of_length-le}
 use Rattle.ijson_table.specs.Store.{lookup}
 use Rattle.ijson_value.specs.WellFormed.{pair_trees}
-use Rattle.ijson_value.specs.SameTest.{same_in}
+use Rattle.ijson_value.specs.SameTest.{same, same_in}
+use Rattle.ijson_value.specs.Values.{object_tree}
 use Rattle.ijson_value.specs.Tree.{members_depth}
-use Rattle.ijson_value.proofs.DepthLemmas.{pair-members_depth, items_fall}
+use Rattle.ijson_value.proofs.DepthLemmas.{pair-members_depth, items_fall, object_shown}
 use Rattle.ijson_value.proofs.comparing.SameSteps.{in-drop-None, in-drop-Some, each-other_lengths, objects-lengths, objects-other_lengths}
 use Rattle.ijson_value.proofs.same.+same.Goals as goal
 
@@ -79,3 +80,9 @@ same_pairs-returns t c =
 pub same_value-same_items-requires : goal.same_value-same_items-requires
 same_value-same_items-requires t c =
     (omega (arith, items_fall c.as_slice.ensures c.in-Array-Array.is-0 c.a.view_is, c.decreases), tt)
+
+pub same_value-returns-in-Object-Object : goal.same_value-returns-in-Object-Object
+same_value-returns-in-Object-Object t c =
+    c.same_pairs.ensures
+    ∙ ap (λ u. same u (object_tree c.in-Object-Object.y.pairs)) (object_shown refl c.in-Object-Object.is-0 c.a.view_is)
+    ∙ ap (same c.args.a.now.tree) (object_shown refl c.in-Object-Object.is-1 c.b.view_is)

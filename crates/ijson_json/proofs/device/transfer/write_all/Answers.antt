@@ -1,4 +1,6 @@
-use Rattle.std.proofs.Common.{◌∙◌, arith}
+use Rattle.std.proofs.Common.{ℕ, List, ◌∙◌, subst, arith}
+use Rattle.std.specs.Io.KnownBytes.{Appends}
+use Rattle.std.proofs.lemmas.List.{take_all}
 use Rattle.std.proofs.lemmas.Grind.{common_steps}
 use Rattle.ijson_json.proofs.devices.TransferredBytes.{appends_rest, begun, on_any_err}
 use Rattle.ijson_json.proofs.device.transfer.write_all.Goals as goal
@@ -15,3 +17,12 @@ loop-at-preserved g c =
       steady = written.count ∙ c.loop-at.invariant.steady;
       within = grind (arith, common_steps, written.bound);
     }
+
+pub returns-clause-count : goal.returns-clause-count
+returns-clause-count g c = c.loop-at.invariant.steady
+
+pub returns-clause-bytes : goal.returns-clause-bytes
+returns-clause-bytes g c =
+    let text = c.args.text.now in
+    subst (λ (l : List ℕ). Appends (g.W.Sink.got c.args.output.now) (g.W.Sink.got c.loop-at.output) l)
+    (take_all c.loop-at.at text c.loop-at-test.false) c.loop-at.invariant.taken

@@ -5,6 +5,17 @@ use Rattle.ijson_json.proofs.scanning.Prefixes.{not_both}
 use Rattle.ijson_json.proofs.reading.Numbers.{no_number, run_past_limit, front_past_limit, front_range}
 use Rattle.ijson_json.proofs.read.number.read_long.Goals as goal
 
+pub returns-in-Ok : goal.returns-in-Ok
+returns-in-Ok c =
+    let s = c.split_number.ensures in
+    let n = c.in-Ok.number in (
+      record {
+        found = record { front = c.split_number.result.0.now; holds = c.in-Ok.ensures.ok; is = s.whole };
+        stops = s.stops;
+      },
+      n.is_num.in_range,
+    )
+
 pub returns-in-None : goal.returns-in-None
 returns-in-None c =
     let s = c.split_number.ensures in (

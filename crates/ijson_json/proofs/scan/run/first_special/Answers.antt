@@ -1,0 +1,11 @@
+use Rattle.std.proofs.Common.{rules, tests}
+use Rattle.std.specs.Prelude.{not}
+use Rattle.std.proofs.lemmas.Iterator.{YieldsList-from_slice}
+use Rattle.std.proofs.lemmas.Iterator.Search.{position_from_yields_List}
+use Rattle.ijson_json.specs.Strings.{is_unescaped}
+use Rattle.ijson_json.proofs.scan.run.first_special.Goals as goal
+
+pub returns : goal.returns
+returns c =
+    position_from_yields_List (λ byte. not (is_unescaped byte)) _ _ _ c.position.ensures.ran
+    (YieldsList-from_slice c.args.bytes.now cc) (λ x b q h. search (rules, tests))
