@@ -2,8 +2,8 @@
 //! last four. Tables, objects, canonical texts, pointers and all other refusals of memory are tested in `ijson_extra`, and all else that the
 //! program stands on in the program.
 //!
-//! Where a test is done with a value it calls `drop`, which is one step of the proof, but in `numbers` and `texts`. At the end of a scope
-//! the proof has a way for each kind that the value may be of.
+//! Where a test is done with a value it calls `drop`, which is one step of the proof. At the end of a scope the proof has a way for each
+//! kind that the value may be of. Those of `numbers` do without, and of `texts` only `lengths` calls it.
 
 mod arrays;
 mod conversions;

@@ -5,7 +5,7 @@ ghost use Rattle.std.specs.Prelude.{ℕ, List, Ok, Err, refl, IfOk, IsOk, OnOk, 
 ghost use Rattle.std.specs.Option.{option_copied};
 ghost use Rattle.ijson_table.specs.CopyBound.{IsCopyBounded};
 ghost use Rattle.ijson_table.specs.Crowd.{distance};
-ghost use Rattle.ijson_table.specs.Growth.{Grow, capacity_limit};
+ghost use Rattle.ijson_table.specs.Growth.{Grow, Shrink, capacity_limit};
 ghost use Rattle.ijson_table.specs.Inserts.{Inserts};
 ghost use Rattle.ijson_table.specs.Slots.{resident, IsBounded, IsTable};
 ghost use Rattle.ijson_table.specs.Store.{at, keys_of, IsDistinct, lookup};
@@ -144,10 +144,10 @@ impl<V: Drop, H: KeyHash> Table<V, H> {
         }
     }
 
-    /// Makes room as `reserve` does, and counts in `steps`, which is 0 before, what it takes to put the positions of more than 127 pairs
-    /// into new slots: each slot that it looks at or writes for one, and each two entries that sorting compares. Walks over all slots,
-    /// which read or empty them or fill them in order, are not counted, nor is anything where the room before or after is for at
-    /// most 127 pairs.
+    /// Makes room as `reserve` does, and counts in `steps`, which is 0 before, what it takes to put the positions into new slots, where
+    /// there is room for more than 127 pairs before and after: each slot that it looks at or writes for one, and each two entries that
+    /// sorting compares. Walks over all slots, which read or empty them or fill them in order, are not counted. Where the room
+    /// before or after is for at most 127 pairs, nothing is.
     pub fn reserve_counted(
         &mut self,
         additional: usize,
@@ -167,6 +167,21 @@ impl<V: Drop, H: KeyHash> Table<V, H> {
         }
     }
 
+    /// Makes the capacity the length, as `shrink_to_fit` does, and counts the steps, as `reserve_counted` does.
+    pub fn shrink_to_fit_counted(&mut self, steps: &mut u128) -> Result<(), ReserveError>
+        requires none { steps.old ≡ 0 }
+        ensures room { Shrink (length self.old.store.pairs) self.old.store.capacity result
+            self.new.store.capacity }
+        ensures pairs { self.new.store.pairs ≡ self.old.store.pairs }
+        ensures bounded { IsCopyBounded (length self.old.store.pairs) steps.new }
+    {
+        let len = self.pairs.len();
+        if self.pairs.capacity() == len {
+            return Ok(());
+        }
+        Ok(self.set_capacity(len, steps)?)
+    }
+
     /// Puts a pair last whose key is new and has this hash, in room that is made first where there is none.
     fn push_grown(&mut self, key: IString, value: V, hash: u64) -> Result<Option<V>, RefusedPair<V>>
         requires missing { at self.old.store.pairs key ≡ None }
@@ -182,7 +197,7 @@ impl<V: Drop, H: KeyHash> Table<V, H> {
     }
 
     /// Makes the capacity this one, the length or one that is no less than the old. Where memory is refused, nothing changes. The
-    /// steps are counted, as those of `reserve_counted` are.
+    /// steps are counted, as in `reserve_counted`.
     fn set_capacity(&mut self, capacity: usize, steps: &mut u128) -> Result<(), AllocError>
         requires within { length self.old.store.pairs ≤ capacity }
         requires grows { length self.old.store.pairs < capacity → self.old.store.capacity ≤ capacity }
@@ -436,11 +451,7 @@ impl<V: Drop, H: KeyHash> PairStore<V> for Table<V, H> {
     }
 
     fn shrink_to_fit(&mut self) -> Result<(), ReserveError> {
-        let len = self.len();
-        if self.capacity() == len {
-            return Ok(());
-        }
-        Ok(self.set_capacity(len, &mut 0)?)
+        self.shrink_to_fit_counted(&mut 0)
     }
 
     fn position(&self, key: &str) -> Option<usize> {

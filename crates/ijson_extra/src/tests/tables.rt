@@ -3,6 +3,7 @@
 mod copies;
 mod crowds;
 mod lists;
+mod resizing;
 mod shown;
 mod sizes;
 mod slots;
