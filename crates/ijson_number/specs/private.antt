@@ -1,4 +1,5 @@
 pub mod Pushed
+pub mod RowText
 pub mod Reading
 pub mod PrefixDigits
 pub mod Scanned

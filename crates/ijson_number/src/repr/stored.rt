@@ -1,5 +1,5 @@
 //! What is stored of a number.
-ghost use Rattle.std.specs.Prelude.{◌≡◌, ◌≤◌, length, FitsSigned, IfOk, IfSome, IsSome, IsTrue, IsFalse};
+ghost use Rattle.std.specs.Prelude.{◌≡◌, ◌+◌, ◌<◌, ◌≤◌, length, FitsSigned, IfOk, IfSome, IsSome, IsTrue, IsFalse};
 ghost use mir.Syntax.{w16};
 ghost use Rattle.ijson_number.specs.private.ShortDigits.{short_digits};
 ghost use Rattle.ijson_number.specs.private.StoredNumber.{IsStored};
@@ -31,6 +31,7 @@ pub struct LongNumber {
     pub point: bool,
     pub digits: Vec<u8>,
     ghost stripped: { IsStored negative digits.items } by { Prim.hlevel props },
+    ghost many: { FitsSigned w16 exponent → 19 < length digits.items } by { Prim.hlevel props },
 }
 
 /// The stored form of a number; the words lie beside the tag.
@@ -107,7 +108,8 @@ impl Stored {
 
     /// The digits of a text, which are too many for a buffer.
     pub fn from_scanned(alloc: Global, scanned: &Scanned<'_>) -> Result<Stored, AllocError>
-        requires { IsScanned scanned.now }
+        requires scanned { IsScanned scanned.now }
+        requires many { 19 < length scanned.now.front.now + length scanned.now.back.now }
         ensures { IfOk result (λ s. stored_form s ≡ digits_form (scanned_number scanned.now)) }
     {
         let mut digits = Vec::new(alloc);

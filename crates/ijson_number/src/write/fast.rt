@@ -1,13 +1,16 @@
 //! Appends a number's text, 16 digits at a time.
 ghost use Rattle.std.specs.Prelude.{◌≡◌, ◌+◌, ◌-◌, ◌/◌, ◌%◌, ◌^◌, ◌<◌, ◌≤◌, ◌∷◌, ◌++◌, ◌||◌, ℤ, drop, length, nat_abs, neg_ℤ, negsuc, pos};
-ghost use Rattle.std.specs.Prelude.{int_le, int_lt, true, false, ◌+ℤ◌, ◌<ℤ◌, ◌≤ℤ◌, IfOk, IsFalse, IsTrue, OnErr, OnOk};
+ghost use Rattle.std.specs.Prelude.{int_le, int_lt, true, false, ◌+ℤ◌, ◌<ℤ◌, ◌≤ℤ◌, ◌⊎◌, FitsSigned, IfOk, IsFalse, IsTrue, OnErr, OnOk};
+ghost use mir.Syntax.{w16};
 ghost use Rattle.std.specs.Fmt.{decimal};
 ghost use Rattle.std.specs.String.{string_bytes};
 ghost use Rattle.ijson_number.specs.AppendsBeginning.{AppendsBeginning};
 ghost use Rattle.ijson_number.specs.Form.{form_of, is_digits, packed};
 ghost use Rattle.ijson_number.specs.Text.{digits_text, minus_text, num_text, zeros_text};
 ghost use Rattle.ijson_number.specs.Stripped.{stripped_number};
+ghost use Rattle.ijson_number.specs.StrippedDigits.{stripped_digits};
 ghost use Rattle.ijson_number.specs.private.Pushed.{Pushed};
+ghost use Rattle.ijson_number.specs.private.RowText.{IsInRows};
 ghost use Rattle.ijson_number.specs.private.SplitText.{split_text};
 ghost use Rattle.ijson_number.specs.private.StrippedNumber.{decimal_of};
 ghost use Rattle.ijson_number.specs.private.WordText.{integer_text, pointed_text};
@@ -88,7 +91,8 @@ fn push_pointed(mantissa: i64, exponent: i8, out: &mut String) -> Result<bool, A
     requires { form_of (stripped_number mantissa exponent true) ≡ packed mantissa exponent true }
     ensures pushed { Pushed result (string_bytes out.old) (string_bytes out.new)
         (num_text (stripped_number mantissa exponent true)) }
-    ensures short { neg_ℤ (pos 6) ≤ℤ exponent → exponent ≤ℤ pos 0 → IfOk result (λ d. IsTrue d) }
+    ensures short { exponent ≤ℤ pos 0 → (neg_ℤ (pos 6) ≤ℤ exponent) ⊎ (10 ≤ nat_abs mantissa)
+        → IfOk result (λ d. IsTrue d) }
 {
     let (negative, magnitude) = (mantissa < 0, mantissa.unsigned_abs());
     if exponent > 0 || (exponent < -6 && magnitude < 10) {
@@ -236,7 +240,11 @@ impl INumber {
         ensures pushed { Pushed result (string_bytes out.old) (string_bytes out.new) (num_text self.now.decimal) }
         ensures whole { is_digits (form_of self.now.decimal) ≡ false
             → self.now.decimal.point ≡ false → IfOk result (λ d. IsTrue d) }
-        ensures pointed { (m e : ℤ) → form_of self.now.decimal ≡ packed m e true → neg_ℤ (pos 6) ≤ℤ e → e ≤ℤ pos 0
+        ensures pointed { (m e : ℤ) → form_of self.now.decimal ≡ packed m e true → e ≤ℤ pos 0
+            → (neg_ℤ (pos 6) ≤ℤ e) ⊎ (10 ≤ nat_abs m) → IfOk result (λ d. IsTrue d) }
+        ensures few { is_digits (form_of self.now.decimal) ≡ true → self.now.decimal.point ≡ true
+            → length (stripped_digits self.now.decimal) ≤ 19 → FitsSigned w16 self.now.decimal.exponent
+            → IsInRows (length (stripped_digits self.now.decimal)) self.now.decimal.exponent
             → IfOk result (λ d. IsTrue d) }
     {
         let (negative, magnitude) = match &self.stored {

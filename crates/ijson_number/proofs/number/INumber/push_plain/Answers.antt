@@ -1,15 +1,22 @@
-use Rattle.std.proofs.Common.{◌≡◌, ◌^◌, ◌<◌, ◌∙◌, ◌++◌, ap, sym, refl, rules}
+use Rattle.std.proofs.Common.{◌≡◌, ◌^◌, ◌<◌, ◌≤◌, ◌∙◌, ◌++◌, true, length, inl, inr, ap, sym, refl, rules, arith}
 use Rattle.std.specs.Prelude.{nat_abs, FitsSigned}
 use Rattle.std.specs.String.{string_bytes}
 use Rattle.std.proofs.lemmas.Int.{to_z-of_z}
 use Rattle.std.proofs.lemmas.Result.{IfOk-from_err}
-use mir.Syntax.{w64}
+use mir.Syntax.{w16, w64}
+use Rattle.ijson_number.specs.Decimal.{Decimal}
+use Rattle.ijson_number.specs.FormNumber.{form_number}
 use Rattle.ijson_number.specs.Num.{Num}
+use Rattle.ijson_number.specs.StoredNumber.{stored_number}
+use Rattle.ijson_number.specs.StrippedDigits.{stripped_digits}
 use Rattle.ijson_number.specs.declared.repr.stored.ShortNumber.{ShortNumber}
 use Rattle.ijson_number.specs.private.ShortDigits.{short_digits}
-use Rattle.ijson_number.specs.private.Stored.{stored_decimal}
+use Rattle.ijson_number.specs.private.RowText.{IsInRows}
+use Rattle.ijson_number.specs.private.Stored.{short_form, stored_decimal}
+use Rattle.ijson_number.specs.private.StrippedNumber.{decimal_of}
 use Rattle.ijson_number.specs.private.WordText.{integer_text}
 use Rattle.ijson_number.specs.Text.{num_text}
+use Rattle.ijson_number.proofs.storing.DigitsOf.{stored_digits_are}
 use Rattle.ijson_number.proofs.writing.Beginnings.{begun_as, refused_pushed}
 use Rattle.ijson_number.proofs.writing.WordTexts.{integer_shown, packed_integer, unsigned_shown}
 use Rattle.ijson_number.proofs.number.INumber.push_plain.Goals as goal
@@ -56,6 +63,7 @@ returns c = record {
       ∙ ap (λ x. string_bytes c.args.out.now ++ x) (shown (goal.at.returns c).After-push_integer);
   whole = λ _ _. refl;
   pointed = λ _ _ _ _ _. refl;
+  few = λ _ _ _ _ _. refl;
 }
 
 pub returns-in_err-push_integer : goal.returns-in_err-push_integer
@@ -68,7 +76,44 @@ returns-in_err-push_integer c =
           (shown (goal.at.returns-in_err-push_integer c).After-push_integer));
       whole = λ _ _. IfOk-from_err _ _ e;
       pointed = λ _ _ _ _ _. IfOk-from_err _ _ e;
+      few = λ _ _ _ _ _. IfOk-from_err _ _ e;
     }
+
+-- the digits that are passed on are those of the number
+pub returns-in-Short-clause-few : goal.returns-in-Short-clause-few
+returns-in-Short-clause-few c _ point _ _ rows =
+    let n = c.stripped.result in
+    let d = c.args.self.now.decimal in
+    let is : d ≡ decimal_of n = sym (ap (λ (x : Num). x.decimal) c.self.view_is) ∙ ap stored_decimal c.in-Short.is
+    ∙ ap (λ (x : ShortNumber). form_number (short_form x)) (sym c.deref.ensures) ∙ sym c.stripped.ensures.number in
+    let digits : stripped_digits d ≡ n.digits.now = ap stripped_digits is
+    ∙ stored_digits_are n.negative n.digits.now n.exponent n.point n.stripped.stripped in
+    let e : d.exponent ≡ n.exponent = ap (λ (x : Decimal). x.exponent) is in
+    let p : n.point ≡ true = sym (ap (λ (x : Decimal). x.point) is) ∙ point in
+    let here : IsInRows (length n.digits.now) n.exponent = rw (digits, e) at rows in
+    elim here [
+      | inl split ↦ c.push_digits.ensures.between p split.0 split.1 split.2 split.3
+      | inr other ↦
+          elim other [
+            | inl fraction ↦ c.push_digits.ensures.before p fraction.0 fraction.1 fraction.2
+            | inr power ↦ c.push_digits.ensures.exponent p power.0 power.1 power.2
+          ]
+    ]
 
 pub returns-in-Long-clause-pushed : goal.returns-in-Long-clause-pushed
 returns-in-Long-clause-pushed c = refl
+
+-- such a number has more digits, or its exponent is greater
+pub returns-in-Long-clause-few : goal.returns-in-Long-clause-few
+returns-in-Long-clause-few c _ _ few fits _ =
+    let n = c.in-Long.field-0.value in
+    let d = c.args.self.now.decimal in
+    let is : d ≡ stored_number n.negative n.digits.items n.exponent n.point = sym (ap (λ (x : Num). x.decimal) c.self.view_is)
+    ∙ ap stored_decimal c.in-Long.is in
+    let digits : stripped_digits d ≡ n.digits.items = ap stripped_digits is
+    ∙ stored_digits_are n.negative n.digits.items n.exponent n.point n.stripped.stripped in
+    let e : d.exponent ≡ n.exponent = ap (λ (x : Decimal). x.exponent) is in
+    let small : FitsSigned w16 n.exponent = rw e at fits in
+    let many : 19 < length n.digits.items = n.many small in
+    let count : length n.digits.items ≤ 19 = rw digits at few in
+    absurd (let none : ⊥ = omega (arith, many, count) in none)

@@ -13,7 +13,11 @@ same_digits c =
     AllZip-map {A = ℕ} {B = ℕ} (λ x. x) _ _ c.in_ok-digits.ensures.cases.0 ∙ map-id c.args.self.now.digits.items
 
 pub invariant_of-result : goal.invariant_of-result
-invariant_of-result c = record { stripped = rw (same_digits (goal.at.invariant_of-result c).In_ok-digits) c.args.self.now.stripped }
+invariant_of-result c =
+    let n = c.args.self.now in
+    let fits : FitsSigned w32 n.exponent = search rules in
+    let same = same_digits (goal.at.invariant_of-result c).In_ok-digits in
+    record { stripped = rw same n.stripped; many = rw (same, to_z-of_z w32 n.exponent fits) n.many }
 
 pub returns : goal.returns
 returns c =

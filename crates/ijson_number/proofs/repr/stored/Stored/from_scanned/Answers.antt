@@ -19,7 +19,7 @@ returns c =
     (c.in_ok-push_apart.ensures
     ∙ ap (λ x. x ++ digits_from_text s.front.now) c.new-digits.ensures.items) c.in_ok-push_apart-2.ensures in
     ap long_form c.in_ok-long.ensures.ok
-    ∙ rw (is, to_z-of_z w32 s.exponent fits) (sym (stored_form s.negative (scanned_digits s) s.exponent s.point c.requires.stored))
+    ∙ rw (is, to_z-of_z w32 s.exponent fits) (sym (stored_form s.negative (scanned_digits s) s.exponent s.point c.requires.scanned.stored))
 
 -- what the check tries where no answer stands takes longer than these
 pub invariant_of-long : goal.invariant_of-long
