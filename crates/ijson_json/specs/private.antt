@@ -1,6 +1,7 @@
 -- What the clauses of private functions alone cite.
 pub mod CompactErrorOfReadFault
 pub mod Reading
+pub mod OnePass
 pub mod Separators
 pub mod Explains
 pub mod ReadsKey

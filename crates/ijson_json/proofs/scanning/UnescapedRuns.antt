@@ -1,13 +1,14 @@
 -- Runs of bytes that stand for themselves in a string.
-use Rattle.std.proofs.Common.{◌≡◌, ℕ, ◌+◌, ◌<◌, ◌≤◌, Bool, true, false, cond, List, [], ◌∷◌, length, take, drop, get_or, refl, ap, arith}
-use Rattle.std.proofs.Common.{add-zero, ltb}
+use Rattle.std.proofs.Common.{◌≡◌, ℕ, ◌+◌, ◌<◌, ◌≤◌, Bool, true, false, cond, List, [], ◌∷◌, length, take, drop, get_or, refl, sym, ap, arith}
+use Rattle.std.proofs.Common.{add-zero, ltb, ◌∙◌}
 use Rattle.std.specs.Prelude.{IsTrue, not, unwrap_or, Some, None}
 use Rattle.std.specs.List.{prefix_len, position, position_or_len}
 use Rattle.std.specs.Str.{IsCharBoundary}
-use Rattle.std.proofs.lemmas.Bool.{ltb-true, ltb-false}
+use Rattle.std.proofs.lemmas.Bool.{eq-eqb, ltb-true, ltb-false}
 use Rattle.std.proofs.lemmas.Bool.Decides.{nat_tests}
-use Rattle.std.proofs.lemmas.List.{get_or-take, get_or-drop, length-drop, length-take-le}
+use Rattle.std.proofs.lemmas.List.{get_or-take, get_or-drop, length-drop, length-take-le, take-append-drop}
 use Rattle.std.proofs.lemmas.List.Elements.{recursion_from_All}
+use Rattle.std.proofs.lemmas.List.Folds.{prefix_len-append}
 use Rattle.std.proofs.lemmas.List.Sums.{prefix_len_passes, prefix_len_stops, prefix_len-le-length}
 use Rattle.std.proofs.lemmas.Str.{IsCharBoundary-before_ascii, IsCharBoundary-end}
 use Rattle.ijson_json.specs.Strings.{is_unescaped}
@@ -19,6 +20,16 @@ pub run_before : (p : ℕ → Bool) (xs : List ℕ) (n : ℕ) → n ≤ prefix_l
 run_before p xs n few = recursion_from_All (λ b. IsTrue (p b)) _ (λ k d h.
     let below : k < n = omega (arith, length-take-le n xs (omega (arith, few, prefix_len-le-length p xs)), h) in
     rw (get_or-take n xs k d below) (prefix_len_passes p xs k d (omega (arith, few))))
+
+-- where all of the first bytes pass, the longest run has them
+pub run_covers : (p : ℕ → Bool) (xs : List ℕ) (n : ℕ) → prefix_len p (take n xs) ≡ length (take n xs)
+    → length (take n xs) ≤ prefix_len p xs
+run_covers p xs n all =
+    let first = take n xs in
+    let whole : prefix_len p xs ≡ length first + prefix_len p (drop n xs) = ap (prefix_len p) (sym (take-append-drop n xs))
+    ∙ prefix_len-append p first (drop n xs)
+    ∙ ap (λ b. cond b (length first + prefix_len p (drop n xs)) (prefix_len p first)) (eq-eqb _ _ all) in
+    omega (arith, whole)
 
 -- the longest run passes, and stops where a byte does not
 pub run_passes : (p : ℕ → Bool) (xs : List ℕ) → Run p (take (prefix_len p xs) xs)

@@ -1,9 +1,10 @@
 //! Reading a number.
 
-ghost use Rattle.std.specs.Prelude.{◌≡◌, ◌++◌, ◌↔◌, IfOk, IfSome, IsTrue, MatchResult, not};
+ghost use Rattle.std.specs.Prelude.{◌≡◌, ◌++◌, ◌↔◌, IfNone, IfOk, IfSome, IsTrue, MatchResult, not};
 ghost use Rattle.std.specs.List.{AllByRecursion, position, prefix_len};
 ghost use Rattle.ijson_number.specs.NumberBytes.{is_number_byte};
 ghost use Rattle.ijson_json.specs.private.Explains.{NumberFault};
+ghost use Rattle.ijson_json.specs.private.OnePass.{HasNoShort};
 ghost use Rattle.ijson_json.specs.private.Reading.{IsPastLimit, NumberRead, Stops};
 
 use crate::fault::Fault;
@@ -66,8 +67,9 @@ fn stops(text: &str) -> bool
 /// The number at the front, where one pass reads it.
 #[inline(always)]
 fn read_short(alloc: Global, text: &str) -> Result<Option<(INumber, &str)>, AllocError>
-    ensures { IfOk result (λ found. IfSome found (λ x.
+    ensures read { IfOk result (λ found. IfSome found (λ x.
         NumberRead text.now x.0.decimal x.1.now)) }
+    ensures none { IfOk result (λ found. IfNone found (HasNoShort text.now)) }
 {
     let Some((number, length)) = INumber::at_front(alloc, text)? else {
         return Ok(None);
@@ -80,9 +82,11 @@ fn read_short(alloc: Global, text: &str) -> Result<Option<(INumber, &str)>, Allo
     }
 }
 
-/// The number at the front, by a split of the text. It stays a call, since few numbers want it.
+/// The number at the front, by a split of the text. It stays a call, since few numbers want it, and may be asked only where one pass
+/// reads none, so that no way leads past that.
 #[inline(never)]
 fn read_long(alloc: Global, text: &str) -> Result<(INumber, &str), Fault>
+    requires { HasNoShort text.now }
     ensures { MatchResult result
         (λ x. NumberRead text.now x.0.decimal x.1.now)
         (λ fault. NumberFault text.now fault) }
@@ -108,6 +112,7 @@ fn read_long(alloc: Global, text: &str) -> Result<(INumber, &str), Fault>
 /// The same. It is in line, so that room for what the call answers is cleared for these numbers alone.
 #[inline(always)]
 fn read_other(alloc: Global, text: &str) -> Result<(INumber, &str), Fault>
+    requires { HasNoShort text.now }
     ensures { MatchResult result
         (λ x. NumberRead text.now x.0.decimal x.1.now)
         (λ fault. NumberFault text.now fault) }

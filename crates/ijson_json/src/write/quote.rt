@@ -1,6 +1,7 @@
 //! Writing a string, and a key with what stands round it.
 
-ghost use Rattle.std.specs.Prelude.{◌≡◌, ◌≢◌, ◌++◌, ◌∷◌, [], ◌/◌, ◌%◌, ◌<◌, false, OnOk, OnErr, Some};
+ghost use Rattle.std.specs.Prelude.{◌≡◌, ◌≢◌, ◌++◌, ◌∷◌, [], ◌/◌, ◌%◌, ◌<◌, ◌≤◌, false, length, OnOk, OnErr, Some};
+ghost use Rattle.std.specs.List.{prefix_len};
 ghost use Rattle.std.specs.String.{string_bytes};
 ghost use Rattle.ijson_json.specs.Strings.{is_unescaped};
 ghost use Rattle.ijson_json.specs.KeyText.{key_text};
@@ -136,6 +137,16 @@ fn push_text(out: &mut String, text: &IString, end: &str) -> Result<(), AllocErr
             return out.push_str(end);
         }
     }
+    push_other(out, text, end)
+}
+
+/// The same of a text that lies in a block of its own or has an escape, so that no way leads past the row of a short one.
+#[inline(always)]
+fn push_other(out: &mut String, text: &IString, end: &str) -> Result<(), AllocError>
+    requires end { end.now ≢ [] }
+    requires other { length text.now ≤ 7 → prefix_len is_unescaped text.now < length text.now }
+    ensures { OnOk result (string_bytes out.new ≡ string_bytes out.old ++ (all_escaped text.now ++ end.now)) }
+{
     push_escaped(out, text.as_str(), end)
 }
 

@@ -1,12 +1,16 @@
-use Rattle.std.proofs.Common.{◌≡◌, List, ℕ, ◌+◌, ◌++◌, length, take, sym, ap, ◌∙◌, arith}
+use Rattle.std.proofs.Common.{◌≡◌, List, ℕ, ◌+◌, ◌<◌, ◌≤◌, ◌++◌, true, false, length, take, sym, subst, ap, ◌∙◌, arith}
+use Rattle.std.specs.List.{prefix_len}
 use Rattle.std.specs.String.{string_bytes}
 use Rattle.std.proofs.Math.Seq.{take-append-add}
+use Rattle.std.proofs.lemmas.List.{length-take-le}
+use Rattle.std.proofs.lemmas.List.Sums.{prefix_len-le-length}
 use Rattle.std.proofs.lemmas.Str.{IsCharBoundary-from_take, IsUtf8-append, IsUtf8-string_bytes}
 use Rattle.ijson_json.specs.Print.{all_escaped}
 use Rattle.ijson_json.specs.Strings.{is_unescaped}
-use Rattle.ijson_json.proofs.scanning.UnescapedRuns.{run_before}
+use Rattle.ijson_json.proofs.scanning.UnescapedRuns.{run_before, run_covers}
 use Rattle.ijson_json.proofs.writing.Quoting.{all_escaped-run, written_end, on_ok}
 use Rattle.ijson_json.proofs.write.quote.push_text.Goals as goal
+use Rattle.ijson_json.proofs.write.quote.push_text.Goals.{in-Some+else-begins_unescaped, in_default}
 
 -- of a row that was appended all but the first bytes are cut off
 cut_behind : (old row longer : List ℕ) (end n : ℕ) → longer ≡ old ++ row → end ≡ length old + n → take end longer ≡ old ++ take n row
@@ -36,3 +40,26 @@ returns-then-begins_unescaped c =
     on_ok c.push_str-then-begins_unescaped.result _ _ _ _ c.push_str-then-begins_unescaped.ensures.bytes
     (written_end old (string_bytes c.truncate.new.self) c.args.text.now c.args.end.now
     (c.truncate.ensures.bytes ∙ kept ∙ ap (λ (l : List ℕ). old ++ l) (sym plain ∙ ap all_escaped c.in-Some.ensures.text)))
+
+-- the text is longer than a row, or a byte of it must stand in an escape
+pub push_other-requires-clause-other : goal.push_other-requires-clause-other
+push_other-requires-clause-other c short = elim c.match-in_place.branch [
+  | in_default w ↦ (
+      let some : false ≡ true = rw w.in_default.is at (c.in_place.ensures.short short) in
+      absurd cc
+      )
+  | in-Some+else-begins_unescaped w ↦ (
+      let count = w.in-Some.count in
+      let row = w.in-Some.row.now in
+      let text : List ℕ = take count row in
+      let is : text ≡ c.args.text.now = w.in-Some.ensures.text in
+      let size : length text ≡ count = length-take-le count row (omega (arith, w.in-Some.ensures.size)) in
+      let some : count ≤ prefix_len is_unescaped row → ⊥ = λ le.
+      let yes : w.begins_unescaped.result ≡ true = w.begins_unescaped.ensures.1 le in
+      let no : w.begins_unescaped.result ≡ false = w.if-begins_unescaped.false in
+      cc in
+      let within = prefix_len-le-length is_unescaped text in
+      subst (λ (l : List ℕ). prefix_len is_unescaped l < length l) is
+      (grind (arith, size, within, some, run_covers is_unescaped row count))
+      )
+]
