@@ -1,8 +1,10 @@
 //! Reads a number's text into its parts.
 ghost use Rattle.std.specs.Prelude.{◌≡◌, ◌++◌, ◌↔◌, ◌<◌, ◌≤◌, ◌-◌, ◌+◌, ◌^◌, min, ℕ, List, ℤ, Bool};
-ghost use Rattle.std.specs.Prelude.{IsTrue, IfSome, IfNone, replicate, length};
+ghost use Rattle.std.specs.Prelude.{[], IsTrue, IfSome, IfNone, replicate, length};
 ghost use Rattle.ijson_number.specs.Decimal.{Decimal};
 ghost use Rattle.ijson_number.specs.Num.{IsNum};
+ghost use Rattle.ijson_number.specs.PlainFront.{IsPlainFront};
+ghost use Rattle.ijson_number.specs.PowerFront.{IsPowerFront};
 ghost use Rattle.ijson_number.specs.private.Reading.{IsWithin, exponent_of, BeginsWithNoDigit};
 ghost use Rattle.ijson_number.specs.private.Reading.{BeginsWithNoZero, EndsWithNoZero, IsExponentSignTaken};
 ghost use Rattle.ijson_number.specs.private.Reading.{IsSignTaken, IsTail};
@@ -157,7 +159,7 @@ pub struct Spelling<'a> {
 
 /// Reads a number's text into its parts.
 #[inline(always)]
-pub fn read(text: &[u8]) -> Option<Spelling<'_>>
+pub fn read_parts(text: &[u8]) -> Option<Spelling<'_>>
     ensures found { IfSome result (λ s. IsSpelled text.now (parts_of s)) }
     ensures digits { IfSome result (λ s. AllDigits s.tail.exponent.now) }
     ensures none { IfNone result ((p : Parts) → IsSpelled text.now p → ⊥) }
@@ -173,6 +175,18 @@ pub fn read(text: &[u8]) -> Option<Spelling<'_>>
         whole,
         tail,
     })
+}
+
+/// The same of a text that one pass does not read whole, so that no way leads past that.
+#[inline(always)]
+pub fn read(text: &[u8]) -> Option<Spelling<'_>>
+    requires plain { (p : Parts) → IsPlainFront text.now p [] → ⊥ }
+    requires power { (p : Parts) → IsPowerFront text.now p [] → ⊥ }
+    ensures found { IfSome result (λ s. IsSpelled text.now (parts_of s)) }
+    ensures digits { IfSome result (λ s. AllDigits s.tail.exponent.now) }
+    ensures none { IfNone result ((p : Parts) → IsSpelled text.now p → ⊥) }
+{
+    read_parts(text)
 }
 
 /// Takes the zeros off the front of digits in two pieces.

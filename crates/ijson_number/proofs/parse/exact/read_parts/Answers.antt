@@ -1,6 +1,6 @@
 use Rattle.std.proofs.Common.{arith}
 use Rattle.ijson_number.proofs.parsing.OneDivision.{no_rest, no_spelling, no_whole, spelled_from}
-use Rattle.ijson_number.proofs.parse.exact.read.Goals as goal
+use Rattle.ijson_number.proofs.parse.exact.read_parts.Goals as goal
 
 pub returns-then-not-is_whole-clause-none : goal.returns-then-not-is_whole-clause-none
 returns-then-not-is_whole-clause-none c =
