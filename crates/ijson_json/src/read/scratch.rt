@@ -1,6 +1,6 @@
 //! What was read and is in no array or object yet.
 
-ghost use Rattle.std.specs.Prelude.{◌≡◌, [], ◌∷◌, ◌++◌, ◌⊎◌, ◌<◌, ◌≤◌, length, take, drop, IfOk, IfErr, OnOk};
+ghost use Rattle.std.specs.Prelude.{◌≡◌, [], ◌∷◌, ◌++◌, ◌⊎◌, ◌<◌, ◌≤◌, length, take, drop, vec_capacity, IfOk, IfErr, OnOk};
 ghost use Rattle.ijson_table.specs.Store.{put_each};
 ghost use Rattle.ijson_json.specs.private.Separators.{SeparatorAt, NoSeparator};
 ghost use Rattle.ijson_json.specs.declared.fault.Fault.TheVariants.{Memory};
@@ -51,6 +51,8 @@ fn take_from<T: Drop>(alloc: Global, stack: &mut Vec<T>, base: usize) -> Result<
     requires { base ≤ length stack.old.items }
     ensures taken { IfOk result (λ taken. taken.items ≡ drop base stack.old.items) }
     ensures left { OnOk result (stack.new.items ≡ take base stack.old.items) }
+    ensures moved { IfOk result (λ taken. base ≡ 0 → 64 < length stack.old.items
+        → vec_capacity taken ≡ vec_capacity stack.old) }
 {
     if base == 0 && stack.len() > MANY_ITEMS {
         return Ok(mem::replace(stack, Vec::new(alloc)));
