@@ -81,3 +81,10 @@ as_slice-requires c = omega (
   ap (λ (l : HashIndex). length l.slots) c.other.view_is,
   positions-length c.other.inside.slots,
 )
+
+pub returns-clause-steps : goal.returns-clause-steps
+returns-clause-steps c =
+    let lent : c.as_slice.result.now ≡ c.other.inside.slots = c.as_slice.ensures in
+    let same : length (hashes_of c.as_slice.result.now) ≡ length c.args.other.now.hashes =
+    ap (λ ps. length (hashes_of ps)) lent ∙ ap (λ (l : HashIndex). length l.hashes) c.other.view_is in
+    omega (arith, same, c.requires.len, c.rehash.ensures.steps)

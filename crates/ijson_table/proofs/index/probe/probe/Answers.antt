@@ -109,3 +109,7 @@ returns-clause-ends g c =
       subst (PassedOthers (p.slots target) (p.seeks target) (p.home_slot target)) all i.others,
       omega (arith, i.looked, all),
     )
+
+-- what the check tries where no answer stands takes longer than this
+pub returns-in-Empty-clause-grows : goal.returns-in-Empty-clause-grows
+returns-in-Empty-clause-grows g c = omega (arith, c.in-Empty.ensures.counts, c.loop-passed.invariant.looked)

@@ -71,3 +71,11 @@ returns-clause-few g c n few =
       away,
       ap (λ k. distance k from last) (c.len.ensures ∙ c.shift_forward-last.ensures.count),
     )
+
+pub returns-clause-changes : goal.returns-clause-changes
+returns-clause-changes g c = omega (
+  arith,
+  c.shift_forward-last.ensures.changes,
+  c.distance_between.ensures,
+  ap (λ k. distance k c.vacancy-slot.result.0 c.shift_forward-last.result) (c.len.ensures ∙ c.shift_forward-last.ensures.count),
+)

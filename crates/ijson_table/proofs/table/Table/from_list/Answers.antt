@@ -2,6 +2,7 @@ use Rattle.std.proofs.Common.{◌≡◌, ◌≤◌, ◌<◌, ◌+◌, ◌*◌, [
 use Rattle.std.proofs.lemmas.Grind.{common_steps}
 use Rattle.std.proofs.lemmas.Bool.Decides.{nat_tests}
 use Rattle.std.proofs.lemmas.List.{length-drop, length-take, nil_from_length}
+use Rattle.std.proofs.lemmas.Result.{on_ok_weaker}
 use Rattle.std.specs.Prelude.{IfOk, OnErr, vec_capacity}
 use Rattle.ijson_table.specs.BuildBound.{looks_a_pair}
 use Rattle.ijson_table.specs.Crowd.{slot_count}
@@ -141,10 +142,31 @@ pub with_rest-requires-clause-room : goal.with_rest-requires-clause-room
 with_rest-requires-clause-room g c = grind (arith, common_steps)
 
 pub returns-clause-counted : goal.returns-clause-counted
-returns-clause-counted g c = grind (arith, common_steps)
+returns-clause-counted g c =
+    let items = c.tighten.new.list.items in
+    on_ok_weaker c.with_rest.result (λ e. omega (
+      arith,
+      e,
+      c.count_steps.ensures,
+      ap length c.in_ok-rest.ensures.kept,
+      ap length c.in_ok-rest.ensures.rest,
+      length-take c.add_new_keys-placed.result items,
+      length-drop c.add_new_keys-placed.result items,
+      ap length c.tighten.ensures.items,
+    )) c.with_rest.ensures.counted
 
 pub returns-then-is_empty-clause-counted : goal.returns-then-is_empty-clause-counted
-returns-then-is_empty-clause-counted g c = grind (arith, common_steps)
+returns-then-is_empty-clause-counted g c =
+    let none : length c.in_ok-rest.rest.items ≡ 0 = grind (arith, nat_tests, c.is_empty.ensures, c.if-is_empty.true) in
+    omega (
+      arith,
+      none,
+      c.count_steps.ensures,
+      c.add_new_keys-placed.ensures.counted,
+      ap length c.in_ok-rest.ensures.rest,
+      length-drop c.add_new_keys-placed.result c.tighten.new.list.items,
+      ap length c.tighten.ensures.items,
+    )
 
 pub add_new_keys-placed-requires : goal.add_new_keys-placed-requires
 add_new_keys-placed-requires g c =

@@ -1,7 +1,4 @@
-use Rattle.std.proofs.Common.{length, map, arith, ap, sym, ◌∙◌}
-use Rattle.ijson_table.specs.Crowd.{slot_count}
-use Rattle.ijson_table.specs.Store.{keys_of}
-use Rattle.ijson_table.specs.private.KeptHash.{kept_hash}
+use Rattle.std.proofs.Common.{length, arith, rules, ap}
 use Rattle.ijson_table.proofs.table.TablePairStore.clear.Goals as goal
 
 pub invariant_of-self : goal.invariant_of-self
@@ -10,7 +7,9 @@ invariant_of-self g c = record {
     within = omega (arith, ap length c.clear.ensures.items);
     limited = omega (arith, c.self.invariant.room.limited, c.clear.ensures.capacity);
   };
-  hashes = c.clear-2.ensures.hashes
-      ∙ sym (ap (λ ps. map (kept_hash (length c.clear-2.new.self.slots) g.H.KeyHash.hash_of) (keys_of ps)) c.clear.ensures.items);
-  size = c.clear-2.ensures.count ∙ c.self.invariant.size ∙ ap slot_count (sym c.clear.ensures.capacity);
+  hashes = rw c.clear.ensures.items (cc);
+  size = cc;
 }
+
+pub returns-clause-pairs : goal.returns-clause-pairs
+returns-clause-pairs g c = search rules

@@ -223,3 +223,9 @@ invariant_of-lookup g c =
 
 pub distance_between-requires-in-Found-clause-to : goal.distance_between-requires-in-Found-clause-to
 distance_between-requires-in-Found-clause-to g c = grind (arith, common_steps)
+
+pub distance_between-requires-clause-from : goal.distance_between-requires-clause-from
+distance_between-requires-clause-from g c = omega (arith, c.home_of_hash-home.ensures.within)
+
+pub distance_between-requires-clause-to : goal.distance_between-requires-clause-to
+distance_between-requires-clause-to g c = omega (arith, c.push_at-last.ensures.within, c.requires.counted)
