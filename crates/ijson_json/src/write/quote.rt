@@ -140,7 +140,7 @@ fn push_text(out: &mut String, text: &IString, end: &str) -> Result<(), AllocErr
     push_other(out, text, end)
 }
 
-/// The same of a text that lies in a block of its own or has an escape, so that no way leads past the row of a short one.
+/// The same of a text that lies in a block of its own or has an escape, so that a narrower test before it is refused.
 #[inline(always)]
 fn push_other(out: &mut String, text: &IString, end: &str) -> Result<(), AllocError>
     requires end { end.now ≢ [] }

@@ -159,7 +159,7 @@ pub struct Spelling<'a> {
 
 /// Reads a number's text into its parts.
 #[inline(always)]
-pub fn read_parts(text: &[u8]) -> Option<Spelling<'_>>
+fn read_parts(text: &[u8]) -> Option<Spelling<'_>>
     ensures found { IfSome result (λ s. IsSpelled text.now (parts_of s)) }
     ensures digits { IfSome result (λ s. AllDigits s.tail.exponent.now) }
     ensures none { IfNone result ((p : Parts) → IsSpelled text.now p → ⊥) }
@@ -177,7 +177,14 @@ pub fn read_parts(text: &[u8]) -> Option<Spelling<'_>>
     })
 }
 
-/// The same of a text that one pass does not read whole, so that no way leads past that.
+/// Whether the whole text spells a number, however large its exponent.
+pub fn is_spelling(text: &[u8]) -> bool
+    ensures { IsTrue result ↔ ((p : Parts) × IsSpelled text.now p) }
+{
+    read_parts(text).is_some()
+}
+
+/// The parts of a text that one pass does not read whole. No other function of this module hands out parts.
 #[inline(always)]
 pub fn read(text: &[u8]) -> Option<Spelling<'_>>
     requires plain { (p : Parts) → IsPlainFront text.now p [] → ⊥ }

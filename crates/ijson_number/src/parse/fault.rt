@@ -3,7 +3,7 @@ ghost use Rattle.std.specs.Prelude.{◌≤◌, ◌↔◌, length, IsNone, IfSome
 ghost use Rattle.ijson_number.specs.Decimal.{Decimal};
 ghost use Rattle.ijson_number.specs.Grammar.{Spells};
 
-use crate::parse::exact::{read_parts, split_digits, split_exponent_sign, split_sign};
+use crate::parse::exact::{is_spelling, split_digits, split_exponent_sign, split_sign};
 
 /// The rest of the text from the first byte on that no number could have there.
 fn after_number(text: &[u8]) -> &[u8]
@@ -40,8 +40,8 @@ pub fn first_fault(text: &str) -> Option<usize>
     ensures at { IfSome result (λ at. at ≤ length text.now) }
 {
     let bytes = text.as_bytes();
-    match read_parts(bytes) {
-        Some(_) => None,
-        None => Some(bytes.len() - after_number(bytes).len()),
+    if is_spelling(bytes) {
+        return None;
     }
+    Some(bytes.len() - after_number(bytes).len())
 }

@@ -10,7 +10,7 @@ ghost use Rattle.ijson_number.specs.Text.{digits_text, minus_text, num_text, zer
 ghost use Rattle.ijson_number.specs.Stripped.{stripped_number};
 ghost use Rattle.ijson_number.specs.StrippedDigits.{stripped_digits};
 ghost use Rattle.ijson_number.specs.private.Pushed.{Pushed};
-ghost use Rattle.ijson_number.specs.private.RowText.{IsInRows};
+ghost use Rattle.ijson_number.specs.private.RowText.{IsBelowOne, IsInRows, IsRowText, IsScientific};
 ghost use Rattle.ijson_number.specs.private.SplitText.{split_text};
 ghost use Rattle.ijson_number.specs.private.StrippedNumber.{decimal_of};
 ghost use Rattle.ijson_number.specs.private.WordText.{integer_text, pointed_text};
@@ -170,12 +170,8 @@ impl StrippedNumber<'_> {
         requires lanes { length self.now.digits.now ≤ 16
             → drop (16 - length self.now.digits.now) lanes ≡ digits_text self.now.digits.now }
         ensures pushed { Pushed result (string_bytes out.old) (string_bytes out.new) (num_text (decimal_of self.now)) }
-        ensures before { self.now.exponent <ℤ pos 0
-            → length self.now.digits.now ≤ nat_abs self.now.exponent
-            → nat_abs self.now.exponent ≤ length self.now.digits.now + 5 → IfOk result (λ d. IsTrue d) }
-        ensures exponent { (int_le (pos (length self.now.digits.now) +ℤ self.now.exponent) (negsuc 5)
-            || int_lt (pos 20) self.now.exponent) ≡ true
-            → 1 < length self.now.digits.now → length self.now.digits.now ≤ 17 → IfOk result (λ d. IsTrue d) }
+        ensures rows { IsBelowOne (length self.now.digits.now) self.now.exponent
+            ⊎ IsScientific (length self.now.digits.now) self.now.exponent → IfOk result (λ d. IsTrue d) }
     {
         let count = self.digits.len();
         let place = place_of(self.digits, self.exponent);
@@ -205,16 +201,8 @@ impl StrippedNumber<'_> {
         requires lanes { length self.now.digits.now ≤ 16
             → drop (16 - length self.now.digits.now) lanes ≡ digits_text self.now.digits.now }
         ensures pushed { Pushed result (string_bytes out.old) (string_bytes out.new) (num_text (decimal_of self.now)) }
-        ensures between { self.now.point ≡ true → self.now.exponent <ℤ pos 0
-            → nat_abs self.now.exponent < length self.now.digits.now → nat_abs self.now.exponent ≤ 16
-            → length self.now.digits.now ≤ nat_abs self.now.exponent + 16 → IfOk result (λ d. IsTrue d) }
-        ensures before { self.now.point ≡ true → self.now.exponent <ℤ pos 0
-            → length self.now.digits.now ≤ nat_abs self.now.exponent
-            → nat_abs self.now.exponent ≤ length self.now.digits.now + 5 → IfOk result (λ d. IsTrue d) }
-        ensures exponent { self.now.point ≡ true
-            → (int_le (pos (length self.now.digits.now) +ℤ self.now.exponent) (negsuc 5)
-            || int_lt (pos 20) self.now.exponent) ≡ true
-            → 1 < length self.now.digits.now → length self.now.digits.now ≤ 17 → IfOk result (λ d. IsTrue d) }
+        ensures rows { self.now.point ≡ true → IsInRows (length self.now.digits.now) self.now.exponent
+            → IfOk result (λ d. IsTrue d) }
     {
         let scale = self.exponent.unsigned_abs() as usize;
         let count = self.digits.len();
@@ -238,14 +226,7 @@ impl INumber {
     #[inline(always)]
     fn push_plain(&self, out: &mut String) -> Result<bool, AllocError>
         ensures pushed { Pushed result (string_bytes out.old) (string_bytes out.new) (num_text self.now.decimal) }
-        ensures whole { is_digits (form_of self.now.decimal) ≡ false
-            → self.now.decimal.point ≡ false → IfOk result (λ d. IsTrue d) }
-        ensures pointed { (m e : ℤ) → form_of self.now.decimal ≡ packed m e true → e ≤ℤ pos 0
-            → (neg_ℤ (pos 6) ≤ℤ e) ⊎ (10 ≤ nat_abs m) → IfOk result (λ d. IsTrue d) }
-        ensures few { is_digits (form_of self.now.decimal) ≡ true → self.now.decimal.point ≡ true
-            → length (stripped_digits self.now.decimal) ≤ 19 → FitsSigned w16 self.now.decimal.exponent
-            → IsInRows (length (stripped_digits self.now.decimal)) self.now.decimal.exponent
-            → IfOk result (λ d. IsTrue d) }
+        ensures rows { IsRowText self.now.decimal → IfOk result (λ d. IsTrue d) }
     {
         let (negative, magnitude) = match &self.stored {
             Stored::Packed(word) => {
@@ -266,10 +247,11 @@ impl INumber {
         Ok(true)
     }
 
-    /// Appends the text of any number. It stays a call, since few numbers want it. What a formatter leaves after an error is in no
-    /// clause of std, so it writes into a text of its own.
+    /// Appends the text of a number that `push_plain` leaves. It stays a call, since few numbers want it. What a formatter leaves after
+    /// an error is in no clause of std, so it writes into a text of its own.
     #[inline(never)]
-    fn push_any(&self, out: &mut String) -> Result<(), AllocError>
+    fn push_other(&self, out: &mut String) -> Result<(), AllocError>
+        requires { IsRowText self.now.decimal → ⊥ }
         ensures written { OnOk result (string_bytes out.new
             ≡ string_bytes out.old ++ num_text self.now.decimal) }
         ensures refused { OnErr result (string_bytes out.new ≡ string_bytes out.old) }
@@ -297,6 +279,6 @@ impl INumber {
         if self.push_plain(out)? {
             return Ok(());
         }
-        self.push_any(out)
+        self.push_other(out)
     }
 }

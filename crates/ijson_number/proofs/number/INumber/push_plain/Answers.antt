@@ -1,18 +1,19 @@
-use Rattle.std.proofs.Common.{◌≡◌, ◌^◌, ◌<◌, ◌≤◌, ◌∙◌, ◌++◌, true, length, inl, inr, ap, sym, refl, rules, arith}
+use Rattle.std.proofs.Common.{◌≡◌, ◌^◌, ◌<◌, ◌≤◌, ◌∙◌, ◌++◌, false, true, length, inl, inr, ap, sym, refl, rules, arith}
 use Rattle.std.specs.Prelude.{nat_abs, FitsSigned}
 use Rattle.std.specs.String.{string_bytes}
 use Rattle.std.proofs.lemmas.Int.{to_z-of_z}
 use Rattle.std.proofs.lemmas.Result.{IfOk-from_err}
 use mir.Syntax.{w16, w64}
 use Rattle.ijson_number.specs.Decimal.{Decimal}
+use Rattle.ijson_number.specs.Form.{form_of, is_digits}
 use Rattle.ijson_number.specs.FormNumber.{form_number}
 use Rattle.ijson_number.specs.Num.{Num}
 use Rattle.ijson_number.specs.StoredNumber.{stored_number}
 use Rattle.ijson_number.specs.StrippedDigits.{stripped_digits}
 use Rattle.ijson_number.specs.declared.repr.stored.ShortNumber.{ShortNumber}
+use Rattle.ijson_number.specs.private.RowText.{IsRowText, IsShortInRows}
 use Rattle.ijson_number.specs.private.ShortDigits.{short_digits}
-use Rattle.ijson_number.specs.private.RowText.{IsInRows}
-use Rattle.ijson_number.specs.private.Stored.{short_form, stored_decimal}
+use Rattle.ijson_number.specs.private.Stored.{short_form, stored_decimal, stored_form}
 use Rattle.ijson_number.specs.private.StrippedNumber.{decimal_of}
 use Rattle.ijson_number.specs.private.WordText.{integer_text}
 use Rattle.ijson_number.specs.Text.{num_text}
@@ -61,9 +62,7 @@ pub returns : goal.returns
 returns c = record {
   pushed = c.in_ok-push_integer.ensures.written
       ∙ ap (λ x. string_bytes c.args.out.now ++ x) (shown (goal.at.returns c).After-push_integer);
-  whole = λ _ _. refl;
-  pointed = λ _ _ _ _ _. refl;
-  few = λ _ _ _ _ _. refl;
+  rows = λ _. refl;
 }
 
 pub returns-in_err-push_integer : goal.returns-in_err-push_integer
@@ -74,14 +73,22 @@ returns-in_err-push_integer c =
       pushed = refused_pushed _ old (string_bytes c.push_integer.new.out) _ e
           (begun_as old (string_bytes c.push_integer.new.out) _ _ c.in_err-push_integer.ensures.refused
           (shown (goal.at.returns-in_err-push_integer c).After-push_integer));
-      whole = λ _ _. IfOk-from_err _ _ e;
-      pointed = λ _ _ _ _ _. IfOk-from_err _ _ e;
-      few = λ _ _ _ _ _. IfOk-from_err _ _ e;
+      rows = λ _. IfOk-from_err _ _ e;
     }
 
+-- a list of digits is in rows as one of few digits alone
+as_digits : (n : Decimal) → is_digits (form_of n) ≡ true → IsRowText n → IsShortInRows n
+as_digits n kept row = elim row [
+  | inl integer ↦ absurd (let none : false ≡ true = sym integer.0 ∙ kept in cc)
+  | inr other ↦ elim other [
+    | inl packed ↦ absurd (let none : false ≡ true = sym (ap is_digits packed.2) ∙ kept in cc)
+    | inr short ↦ short
+  ]
+]
+
 -- the digits that are passed on are those of the number
-pub returns-in-Short-clause-few : goal.returns-in-Short-clause-few
-returns-in-Short-clause-few c _ point _ _ rows =
+pub returns-in-Short-clause-rows : goal.returns-in-Short-clause-rows
+returns-in-Short-clause-rows c row =
     let n = c.stripped.result in
     let d = c.args.self.now.decimal in
     let is : d ≡ decimal_of n = sym (ap (λ (x : Num). x.decimal) c.self.view_is) ∙ ap stored_decimal c.in-Short.is
@@ -89,23 +96,18 @@ returns-in-Short-clause-few c _ point _ _ rows =
     let digits : stripped_digits d ≡ n.digits.now = ap stripped_digits is
     ∙ stored_digits_are n.negative n.digits.now n.exponent n.point n.stripped.stripped in
     let e : d.exponent ≡ n.exponent = ap (λ (x : Decimal). x.exponent) is in
-    let p : n.point ≡ true = sym (ap (λ (x : Decimal). x.point) is) ∙ point in
-    let here : IsInRows (length n.digits.now) n.exponent = rw (digits, e) at rows in
-    elim here [
-      | inl split ↦ c.push_digits.ensures.between p split.0 split.1 split.2 split.3
-      | inr other ↦
-          elim other [
-            | inl fraction ↦ c.push_digits.ensures.before p fraction.0 fraction.1 fraction.2
-            | inr power ↦ c.push_digits.ensures.exponent p power.0 power.1 power.2
-          ]
-    ]
+    let p : n.point ≡ d.point = sym (ap (λ (x : Decimal). x.point) is) in
+    let kept : is_digits (form_of d) ≡ true = ap (λ (x : Num). is_digits (form_of x.decimal)) (sym c.self.view_is)
+    ∙ ap is_digits c.self.invariant ∙ ap (λ s. is_digits (stored_form s)) c.in-Short.is in
+    let short = as_digits d kept row in
+    c.push_digits.ensures.rows (p ∙ short.1) (rw (digits, e) at short.4)
 
 pub returns-in-Long-clause-pushed : goal.returns-in-Long-clause-pushed
 returns-in-Long-clause-pushed c = refl
 
 -- such a number has more digits, or its exponent is greater
-pub returns-in-Long-clause-few : goal.returns-in-Long-clause-few
-returns-in-Long-clause-few c _ _ few fits _ =
+pub returns-in-Long-clause-rows : goal.returns-in-Long-clause-rows
+returns-in-Long-clause-rows c row =
     let n = c.in-Long.field-0.value in
     let d = c.args.self.now.decimal in
     let is : d ≡ stored_number n.negative n.digits.items n.exponent n.point = sym (ap (λ (x : Num). x.decimal) c.self.view_is)
@@ -113,7 +115,10 @@ returns-in-Long-clause-few c _ _ few fits _ =
     let digits : stripped_digits d ≡ n.digits.items = ap stripped_digits is
     ∙ stored_digits_are n.negative n.digits.items n.exponent n.point n.stripped.stripped in
     let e : d.exponent ≡ n.exponent = ap (λ (x : Decimal). x.exponent) is in
-    let small : FitsSigned w16 n.exponent = rw e at fits in
+    let kept : is_digits (form_of d) ≡ true = ap (λ (x : Num). is_digits (form_of x.decimal)) (sym c.self.view_is)
+    ∙ ap is_digits c.self.invariant ∙ ap (λ s. is_digits (stored_form s)) c.in-Long.is in
+    let short = as_digits d kept row in
+    let small : FitsSigned w16 n.exponent = rw e at short.3 in
     let many : 19 < length n.digits.items = n.many small in
-    let count : length n.digits.items ≤ 19 = rw digits at few in
+    let count : length n.digits.items ≤ 19 = rw digits at short.2 in
     absurd (let none : ⊥ = omega (arith, many, count) in none)

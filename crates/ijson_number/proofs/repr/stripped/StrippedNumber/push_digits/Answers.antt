@@ -1,7 +1,8 @@
-use Rattle.std.proofs.Common.{◌≡◌, ◌∙◌, ◌++◌, ap, refl, true, false, arith, rules}
+use Rattle.std.proofs.Common.{inl, inr, ◌≡◌, ◌∙◌, ◌++◌, ap, refl, true, false, arith, rules}
 use Rattle.std.specs.Prelude.{nat_abs, FitsSigned}
 use Rattle.std.specs.String.{string_bytes}
 use Rattle.std.proofs.lemmas.Int.{to_z-of_z}
+use Rattle.std.proofs.lemmas.Grind.{common_steps}
 use Rattle.std.proofs.lemmas.Result.{IfOk-from_err}
 use mir.Syntax.{w32}
 use Rattle.ijson_number.proofs.writing.Beginnings.{none_begun, refused_pushed}
@@ -19,9 +20,7 @@ returns c =
     (c.unsigned_abs-scale.ensures.value ∙ ap nat_abs exact) c.if-scale-count.false in
     record {
       pushed = c.in_ok-push_split.ensures.written ∙ ap (λ x. string_bytes c.args.out.now ++ x) shown;
-      between = λ _ _ _ _ _. refl;
-      before = λ _ _ _ _. refl;
-      exponent = λ _ _ _ _. refl;
+      rows = λ _ _. refl;
     }
 
 pub returns-in_err-push_split : goal.returns-in_err-push_split
@@ -31,9 +30,7 @@ returns-in_err-push_split c =
     record {
       pushed = refused_pushed _ old (string_bytes c.push_split.new.out) _ e
           (none_begun old (string_bytes c.push_split.new.out) _ c.in_err-push_split.ensures.refused);
-      between = λ _ _ _ _ _. IfOk-from_err _ _ e;
-      before = λ _ _ _ _. IfOk-from_err _ _ e;
-      exponent = λ _ _ _ _. IfOk-from_err _ _ e;
+      rows = λ _ _. IfOk-from_err _ _ e;
     }
 
 pub returns-then-not-self : goal.returns-then-not-self
@@ -41,19 +38,26 @@ returns-then-not-self c =
     let none : c.args.self.now.point ≡ false = grind arith in
     record {
       pushed = refl;
-      between = λ p _ _ _ _. let q = none in cc;
-      before = λ p _ _ _. let q = none in cc;
-      exponent = λ p _ _ _. let q = none in cc;
+      rows = λ p _. let q = none in cc;
     }
 
 pub returns-then-self-ge0-clause-pushed : goal.returns-then-self-ge0-clause-pushed
 returns-then-self-ge0-clause-pushed c = c.push_unsplit.ensures.pushed
 
-pub returns-then-self-ge0-clause-before : goal.returns-then-self-ge0-clause-before
-returns-then-self-ge0-clause-before c = λ _. c.push_unsplit.ensures.before
-
-pub returns-then-self-ge0-clause-exponent : goal.returns-then-self-ge0-clause-exponent
-returns-then-self-ge0-clause-exponent c = λ _. c.push_unsplit.ensures.exponent
+pub returns-then-self-ge0-clause-rows : goal.returns-then-self-ge0-clause-rows
+returns-then-self-ge0-clause-rows c _ rows = elim rows [
+  | inl split ↦ (let a = split.0 in let b = split.1 in grind (arith, common_steps))
+  | inr unsplit ↦ c.push_unsplit.ensures.rows unsplit
+]
 
 pub returns-then-scale-gt-LANES-clause-pushed : goal.returns-then-scale-gt-LANES-clause-pushed
 returns-then-scale-gt-LANES-clause-pushed c = refl
+
+pub returns-then-scale-gt-LANES-clause-rows : goal.returns-then-scale-gt-LANES-clause-rows
+returns-then-scale-gt-LANES-clause-rows c _ rows = elim rows [
+  | inl split ↦ (let a = split.2 in let b = split.3 in grind (arith, common_steps))
+  | inr unsplit ↦ elim unsplit [
+    | inl below ↦ (let a = below.1 in grind (arith, common_steps))
+    | inr power ↦ (let a = power.0 in let b = power.1 in let d = power.2 in grind (arith, common_steps))
+  ]
+]

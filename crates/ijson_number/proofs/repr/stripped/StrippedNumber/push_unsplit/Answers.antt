@@ -1,4 +1,4 @@
-use Rattle.std.proofs.Common.{◌≡◌, ◌<◌, false, ◌∙◌, ◌-◌, ◌++◌, ◌∷◌, [], ap, ap₂, sym, refl}
+use Rattle.std.proofs.Common.{inl, inr, ◌≡◌, ◌<◌, false, ◌∙◌, ◌-◌, ◌++◌, ◌∷◌, [], ap, ap₂, sym, refl}
 use Rattle.std.proofs.Common.{append_assoc, List, ℕ, true, length, arith, rules}
 use Rattle.std.specs.Prelude.{ℤ, FitsSigned, pos, ◌≤ℤ◌, ◌-ℤ◌, ◌+ℤ◌, ◌||◌, int_le, int_lt, nat_abs, negsuc}
 use Rattle.std.specs.String.{string_bytes}
@@ -74,8 +74,7 @@ returns c =
           ∙ ap (λ x. x ++ text.1) (c.in_ok-push.ensures.bytes ∙ ap (λ x. x ++ 101 ∷ []) (split at.After-push))
           ∙ ap (λ x. x ++ text.1) (append_assoc old _ (101 ∷ [])) ∙ append_assoc old text.0 text.1
           ∙ ap (λ x. old ++ x) (both at.After-push_split c.unsigned_abs-2.result c.unsigned_abs-2.ensures.value);
-      before = λ _ _ _. refl;
-      exponent = λ _ _ _. refl;
+      rows = λ _. refl;
     }
 
 pub returns-in_err-push_split : goal.returns-in_err-push_split
@@ -85,8 +84,7 @@ returns-in_err-push_split c =
     record {
       pushed = refused_pushed _ old (string_bytes c.push_split.new.out) _ e
           (none_begun old (string_bytes c.push_split.new.out) _ c.in_err-push_split.ensures.refused);
-      before = λ _ _ _. IfOk-from_err _ _ e;
-      exponent = λ _ _ _. IfOk-from_err _ _ e;
+      rows = λ _. IfOk-from_err _ _ e;
     }
 
 pub returns-in_err-push : goal.returns-in_err-push
@@ -101,8 +99,7 @@ returns-in_err-push c =
           (some_begun old (string_bytes c.push.new.self) (split_text n.negative n.digits.now 1)
           (101 ∷ integer_text (int_lt less (pos 0)) (nat_abs less)) _ (c.in_err-push.ensures.bytes ∙ split at.After-push)
           (scientific at.After-push_split less refl));
-      before = λ _ _ _. IfOk-from_err _ _ e;
-      exponent = λ _ _ _. IfOk-from_err _ _ e;
+      rows = λ _. IfOk-from_err _ _ e;
     }
 
 pub returns-in_err-push_integer : goal.returns-in_err-push_integer
@@ -117,8 +114,7 @@ returns-in_err-push_integer c =
           (last_begun old (string_bytes c.push.new.self) (string_bytes c.push_integer.new.out) text.0 text.1 _
           (c.in_ok-push.ensures.bytes ∙ ap (λ x. x ++ 101 ∷ []) (split at.After-push) ∙ append_assoc old _ (101 ∷ []))
           c.in_err-push_integer.ensures.refused (both at.After-push_split c.unsigned_abs-2.result c.unsigned_abs-2.ensures.value));
-      before = λ _ _ _. IfOk-from_err _ _ e;
-      exponent = λ _ _ _. IfOk-from_err _ _ e;
+      rows = λ _. IfOk-from_err _ _ e;
     }
 
 not_above : (p x : ℤ) → x ≡ p → int_lt (pos 0) x ≡ false → p ≤ℤ pos 0
@@ -146,8 +142,7 @@ pub returns-then-not-is_scientific : goal.returns-then-not-is_scientific
 returns-then-not-is_scientific c = record {
   pushed = c.in_ok-push_fraction.ensures.written
       ∙ ap (λ x. string_bytes c.args.out.now ++ x) (fraction (goal.at.returns-then-not-is_scientific c).After-push_fraction);
-  before = λ _ _ _. refl;
-  exponent = λ _ _ _. refl;
+  rows = λ _. refl;
 }
 
 pub returns-in_err-push_fraction : goal.returns-in_err-push_fraction
@@ -158,27 +153,26 @@ returns-in_err-push_fraction c =
       pushed = refused_pushed _ old (string_bytes c.push_fraction.new.out) _ e
           (begun_as old (string_bytes c.push_fraction.new.out) _ _ c.in_err-push_fraction.ensures.refused
           (fraction (goal.at.returns-in_err-push_fraction c).After-push_fraction));
-      before = λ _ _ _. IfOk-from_err _ _ e;
-      exponent = λ _ _ _. IfOk-from_err _ _ e;
+      rows = λ _. IfOk-from_err _ _ e;
     }
 
 pub returns-then-place-gt0-clause-pushed : goal.returns-then-place-gt0-clause-pushed
 returns-then-place-gt0-clause-pushed c = refl
 
-pub returns-then-place-gt0-clause-before : goal.returns-then-place-gt0-clause-before
-returns-then-place-gt0-clause-before c = grind (arith, common_steps)
-
-pub returns-then-place-gt0-clause-exponent : goal.returns-then-place-gt0-clause-exponent
-returns-then-place-gt0-clause-exponent c = search rules
+pub returns-then-place-gt0-clause-rows : goal.returns-then-place-gt0-clause-rows
+returns-then-place-gt0-clause-rows c rows = elim rows [
+  | inl below ↦ (let a = below.0 in let b = below.1 in grind (arith, common_steps))
+  | inr power ↦ (let a = power.0 in search rules)
+]
 
 pub returns-then-count-lt2-clause-pushed : goal.returns-then-count-lt2-clause-pushed
 returns-then-count-lt2-clause-pushed c = refl
 
-pub returns-then-count-lt2-clause-before : goal.returns-then-count-lt2-clause-before
-returns-then-count-lt2-clause-before c = search rules
-
-pub returns-then-count-lt2-clause-exponent : goal.returns-then-count-lt2-clause-exponent
-returns-then-count-lt2-clause-exponent c = search rules
+pub returns-then-count-lt2-clause-rows : goal.returns-then-count-lt2-clause-rows
+returns-then-count-lt2-clause-rows c rows = elim rows [
+  | inl below ↦ (let a = below.0 in let b = below.1 in grind (arith, common_steps))
+  | inr power ↦ (let a = power.1 in let b = power.2 in search rules)
+]
 
 pub push_fraction-requires-clause-all : goal.push_fraction-requires-clause-all
 push_fraction-requires-clause-all c = search rules
