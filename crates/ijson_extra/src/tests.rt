@@ -29,7 +29,9 @@ fn key(rt: &impl Abort, alloc: Global, letters: &str) -> IString {
 
 /// Puts a pair whose key is not there into an object that has room for it.
 fn insert_new(rt: &impl Abort, object: &mut IObject, key: IString, value: IValue) {
-    assert!(rt; object.insert(key, value).expect(rt, "room").is_none());
+    let before = object.insert(key, value).expect(rt, "room");
+    assert!(rt; before.is_none());
+    drop(before);
 }
 
 /// Writes a value in the place of another one, which is dropped here, whatever it is.

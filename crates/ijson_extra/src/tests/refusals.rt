@@ -212,6 +212,7 @@ fn made_again(rt: &impl Abort, alloc: Global, array: IArray) -> IArray {
         Ok(again) => again,
         Err(refused) => {
             assert!(rt; refused.0.to_usize().is_some_and(grows_at));
+            drop(refused);
             IArray::from_iter(alloc, (0..9usize).map(number)).expect(rt, "an array")
         }
     }
@@ -295,7 +296,9 @@ fn counted(rt: &impl Abort, cache: &mut Cache, text: &str, count: usize) -> IStr
 
 /// Asserts that a text and its copies are these letters.
 fn copies_text(rt: &impl Abort, alloc: Global, key: &IString, text: &str) {
-    assert!(rt; key.clone().expect(rt, "a copy") == *key);
+    let copy = key.clone().expect(rt, "a copy");
+    assert!(rt; copy == *key);
+    drop(copy);
     let copy = granted!(rt; key.to_owned_string(alloc));
     assert!(rt; copy.as_str() == text && key.eq_str(text));
 }

@@ -95,6 +95,7 @@ fn replies_so<P: PairStore<u64>>(
 ) -> bool {
     let reply = reply(rt, alloc, store, command(rt, alloc, step));
     let shown = format!(in alloc; "{reply:?}").expect(rt, "a text");
+    drop(reply);
     shown.as_str() == want
 }
 
@@ -102,7 +103,9 @@ fn replies_so<P: PairStore<u64>>(
 fn insert_all<P: PairStore<u64>>(rt: &impl Abort, alloc: Global, store: &mut P, keys: &[&str]) {
     for (i, letters) in keys.iter().enumerate() {
         let put = Command::Insert(key(rt, alloc, letters), i as u64);
-        assert!(rt; matches!(reply(rt, alloc, store, put), Reply::Added));
+        let reply = reply(rt, alloc, store, put);
+        assert!(rt; matches!(reply, Reply::Added));
+        drop(reply);
     }
 }
 

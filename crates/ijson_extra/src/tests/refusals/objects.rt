@@ -148,6 +148,13 @@ pub fn refused_entry(object: &mut IObject, key: IString, number: u8) -> Option<R
     }
 }
 
+/// Whether nothing came back.
+pub fn is_granted<T: Drop>(refused: Option<T>) -> bool {
+    let is_so = refused.is_none();
+    drop(refused);
+    is_so
+}
+
 /// Puts a number into a vacant entry.
 fn put(entry: Entry<'_>, number: u8) {
     if let Entry::Vacant(vacant) = entry {
@@ -170,7 +177,7 @@ fn enters_copy(rt: &impl Abort, alloc: Global, key: &IString, len: usize, capaci
 fn enters(rt: &impl Abort, object: &mut IObject, key: IString, number: u8, len: usize) {
     if let Some(refused) = refused_entry(object, key, number) {
         assert!(rt; refused.why == ReserveError::Memory && holds(object, len, len));
-        assert!(rt; refused_entry(object, refused.key, number).is_none());
+        assert!(rt; is_granted(refused_entry(object, refused.key, number)));
     }
 }
 
@@ -215,7 +222,7 @@ fn refused_value(
 fn puts(rt: &impl Abort, object: &mut IObject, key: IString, number: u8, len: usize) {
     if let Some(key) = refused_value(rt, object, key, number) {
         assert!(rt; holds(object, len, len));
-        assert!(rt; refused_value(rt, object, key, number).is_none());
+        assert!(rt; is_granted(refused_value(rt, object, key, number)));
     }
 }
 
@@ -245,7 +252,7 @@ fn holds_inside(rt: &impl Abort, value: &IValue, len: usize, capacity: usize) {
 fn puts_inside(rt: &impl Abort, value: &mut IValue, key: IString, number: u8, len: usize) {
     if let Some(key) = refused_inside(rt, value, key, number) {
         holds_inside(rt, value, len, len);
-        assert!(rt; refused_inside(rt, value, key, number).is_none());
+        assert!(rt; is_granted(refused_inside(rt, value, key, number)));
     }
 }
 
@@ -284,6 +291,7 @@ fn are_refused(rt: &impl Abort, object: &IObject, answer: Result<(), RefusedPair
             let len = object.len();
             assert!(rt; len == 0 || len == 4);
             assert!(rt; is_back(&refused, len) && holds(object, len, len));
+            drop(refused);
             true
         }
     }
@@ -315,6 +323,7 @@ fn made_again(rt: &impl Abort, alloc: Global, object: IObject) -> IObject {
         Ok(again) => again,
         Err(refused) => {
             assert!(rt; is_back(&refused, 0) || is_back(&refused, 4));
+            drop(refused);
             IObject::from_iter(alloc, with_pairs(rt, alloc, 5, 5)).expect(rt, "an object")
         }
     }

@@ -114,20 +114,32 @@ fn shrinks<P: PairStore<u16>>(
 /// Asserts that a key that a full store has takes no memory.
 fn replaces<S: Store>(rt: &impl Abort, alloc: Global, store: &mut S, count: u16) {
     let replaced = store.put(numbered(rt, alloc, 0), 0);
-    let same = holds(rt, alloc, store, count, usize::from(count));
-    assert!(rt; matches!(replaced, Ok(Some(0))) && same);
+    assert!(rt; replaced.expect(rt, "no request for memory") == Some(0));
+    assert!(rt; holds(rt, alloc, store, count, usize::from(count)));
+}
+
+/// Puts the pair that comes next, and that a full store refused, again: it came back, and is taken now.
+fn puts_again<S: Store>(
+    rt: &impl Abort,
+    alloc: Global,
+    store: &mut S,
+    count: u16,
+    refused: RefusedPair<u16>,
+) {
+    let RefusedPair { key, value, why } = refused;
+    let next = numbered(rt, alloc, count);
+    assert!(rt; why == ReserveError::Memory && key == next && value == count);
+    drop(next);
+    assert!(rt; holds(rt, alloc, store, count, usize::from(count)));
+    let before = store.put(key, value);
+    assert!(rt; before.expect(rt, "room").is_none());
 }
 
 /// Puts the next pair into a full store: where it is refused, it comes back, and is taken when it is put again.
 fn puts<S: Store>(rt: &impl Abort, alloc: Global, store: &mut S, count: u16) {
     let full = usize::from(count);
-    let key = numbered(rt, alloc, count);
-    if let Err(refused) = store.put(key, count) {
-        assert!(rt; refused.why == ReserveError::Memory);
-        assert!(rt; refused.key == numbered(rt, alloc, count) && refused.value == count);
-        assert!(rt; holds(rt, alloc, store, count, full));
-        let taken = store.put(refused.key, refused.value);
-        assert!(rt; matches!(taken, Ok(None)));
+    if let Err(refused) = store.put(numbered(rt, alloc, count), count) {
+        puts_again(rt, alloc, store, count, refused);
     }
     assert!(rt; store.capacity() == 2 * full && store.len() == full + 1);
     assert!(rt; has_pair(rt, alloc, store, 0) && has_pair(rt, alloc, store, count));
@@ -149,6 +161,7 @@ fn bears_refusals<S: Store>(rt: &impl Abort, alloc: Global) {
     let mut store: S = roomy(rt, alloc, 4);
     fill(rt, alloc, &mut store, 2);
     shrinks(rt, alloc, &mut store, 2, 4);
+    drop(store);
     let mut store = S::new(alloc);
     grows(rt, alloc, &mut store, 0, 4);
     fill(rt, alloc, &mut store, 4);
@@ -158,6 +171,7 @@ fn bears_refusals<S: Store>(rt: &impl Abort, alloc: Global) {
     puts(rt, alloc, &mut store, 4);
     store.clear();
     assert!(rt; store.shrink_to_fit().is_ok() && holds(rt, alloc, &store, 0, 0));
+    drop(store);
 }
 
 #[test]
@@ -175,6 +189,7 @@ fn bears_refusals_of_many<S: Store>(rt: &impl Abort, alloc: Global, count: u16) 
     grows(rt, alloc, &mut store, count, 2 * full);
     shrinks(rt, alloc, &mut store, count, 2 * full);
     puts(rt, alloc, &mut store, count);
+    drop(store);
 }
 
 #[test]
@@ -210,6 +225,7 @@ fn takes_list<H: KeyHash>(rt: &impl Abort, alloc: Global, count: u16) {
         }
     };
     assert!(rt; holds(rt, alloc, &table, count, usize::from(count) + 1));
+    drop(table);
 }
 
 #[test]
@@ -268,4 +284,6 @@ fn a_list_of_replies(rt: HostRuntime) {
     for reply in &replies {
         assert!(rt; is_told(&rt, alloc, reply, &store));
     }
+    drop(replies);
+    drop(store);
 }

@@ -37,19 +37,32 @@ fn copied(rt: &impl Abort, alloc: Global, pairs: &[(IString, u16)]) -> Vec<(IStr
     copies
 }
 
-/// Asserts what a table of so many pairs holds after growth, which gives it this capacity, in a copy then, and after shrinking.
+/// Asserts that a table of so many pairs has this capacity, and what it and a copy of it hold.
+fn is_copied<H: KeyHash>(
+    rt: &impl Abort,
+    alloc: Global,
+    table: &Table<u16, H>,
+    count: u16,
+    capacity: usize,
+) {
+    assert!(rt; holds(rt, alloc, table, count, capacity));
+    let pairs = copied(rt, alloc, table.as_slice());
+    let copy = table.with_same_keys(alloc, pairs).expect(rt, "a copy");
+    assert!(rt; holds(rt, alloc, &copy, count, usize::from(count)));
+    assert!(rt; copy.as_slice() == table.as_slice());
+    drop(copy);
+}
+
+/// Asserts what a table of so many pairs and its copies hold: as it was made, after growth, which gives it this capacity, and after
+/// shrinking.
 fn keeps_its_pairs<H: KeyHash>(rt: &impl Abort, alloc: Global, count: u16, capacity: usize) {
-    let full = usize::from(count);
     let mut table: Table<u16, H> = table_of(rt, alloc, count);
-    assert!(rt; holds(rt, alloc, &table, count, full));
-    assert!(rt; table.reserve(1).is_ok() && holds(rt, alloc, &table, count, capacity));
-    let pairs = copied(rt, alloc, table.as_slice());
-    let copy = table.with_same_keys(alloc, pairs).expect(rt, "a copy");
-    assert!(rt; holds(rt, alloc, &copy, count, full) && copy.as_slice() == table.as_slice());
-    assert!(rt; table.shrink_to_fit().is_ok() && holds(rt, alloc, &table, count, full));
-    let pairs = copied(rt, alloc, table.as_slice());
-    let copy = table.with_same_keys(alloc, pairs).expect(rt, "a copy");
-    assert!(rt; holds(rt, alloc, &copy, count, full) && copy.as_slice() == table.as_slice());
+    is_copied(rt, alloc, &table, count, usize::from(count));
+    table.reserve(1).expect(rt, "room");
+    is_copied(rt, alloc, &table, count, capacity);
+    table.shrink_to_fit().expect(rt, "less room");
+    is_copied(rt, alloc, &table, count, usize::from(count));
+    drop(table);
 }
 
 /// How many pairs a full table has, and its capacity after a growth for one more.

@@ -95,7 +95,7 @@ fn listed(rt: &impl Abort, alloc: Global, chosen: Chosen) -> Vec<(IString, u64)>
 fn put_one_by_one(rt: &impl Abort, alloc: Global, chosen: Chosen) -> LinearPairs<u64> {
     let mut store = LinearPairs::new(alloc);
     for (key, value) in listed(rt, alloc, chosen) {
-        assert!(rt; store.insert(key, value).is_ok());
+        store.insert(key, value).expect(rt, "room");
     }
     store
 }
@@ -109,18 +109,22 @@ fn finds_all<H: KeyHash>(table: &Table<u64, H>) -> bool {
         .all(|(at, pair)| table.index_of(pair.0.as_str()) == Some(at))
 }
 
+/// Asserts what a table of the list holds.
+fn holds<H: KeyHash>(rt: &impl Abort, alloc: Global, table: &Table<u64, H>, chosen: Chosen) {
+    let store = put_one_by_one(rt, alloc, chosen);
+    assert!(rt; table.as_slice() == store.as_slice());
+    drop(store);
+    assert!(rt; table.capacity() == COUNT && finds_all(table));
+}
+
 /// Asserts what a table of the list holds, and that it takes looks between these bounds.
 fn is_made<H: KeyHash>(rt: &impl Abort, alloc: Global, chosen: Chosen, least: u128, most: u128) {
     let mut looks = Looks::new();
-    let made: Result<Table<u64, H>, _> = Table::from_pairs_counted(
-        alloc,
-        listed(rt, alloc, chosen),
-        &mut looks,
-    );
+    let pairs = listed(rt, alloc, chosen);
+    let made: Result<Table<u64, H>, _> = Table::from_pairs_counted(alloc, pairs, &mut looks);
     let table = made.expect(rt, "a table");
-    let store = put_one_by_one(rt, alloc, chosen);
-    assert!(rt; table.as_slice() == store.as_slice());
-    assert!(rt; table.capacity() == COUNT && finds_all(&table));
+    holds(rt, alloc, &table, chosen);
+    drop(table);
     assert!(rt; least < looks.count() && looks.count() <= most);
 }
 

@@ -80,12 +80,17 @@ fn replies<P: PairStore<u64>>(
     run(alloc, store, commands(rt, alloc, seed)).expect(rt, "the replies")
 }
 
-/// Whether a store gives the same replies as `LinearPairs`, and ends with the same pairs at the same positions and the same capacity.
-fn agrees<P: PairStore<u64>>(rt: &impl Abort, alloc: Global, seed: u64, store: &mut P) -> bool {
-    let mut linear = LinearPairs::new(alloc);
-    let found = replies(rt, alloc, seed, store);
+/// Whether a new store gives the same replies as `LinearPairs`, and ends with the same pairs at the same positions and the same capacity.
+fn agrees<P: PairStore<u64> + Drop>(rt: &impl Abort, alloc: Global, seed: u64) -> bool {
+    let (mut store, mut linear) = (P::new(alloc), LinearPairs::new(alloc));
+    let found = replies(rt, alloc, seed, &mut store);
     let expected = replies(rt, alloc, seed, &mut linear);
-    found.as_slice() == expected.as_slice() && are_alike(store, &linear)
+    let is_so = found.as_slice() == expected.as_slice() && are_alike(&store, &linear);
+    drop(found);
+    drop(expected);
+    drop(store);
+    drop(linear);
+    is_so
 }
 
 /// Whether two stores have the same pairs at the same positions and the same capacity.
@@ -142,22 +147,29 @@ fn answers(rt: &impl Abort, alloc: Global, seed: u64) -> Vec<Reply<u64>> {
         let reply = answer(rt, alloc, &mut table, command);
         replies.push(reply).expect(rt, "a reply");
     }
+    drop(table);
     replies
 }
 
 /// Whether `insert` and `get` answer as the insertions and look-ups of `run` do.
 fn insert_and_get_agree(rt: &impl Abort, alloc: Global, seed: u64) -> bool {
-    let expected = replies(rt, alloc, seed, &mut LinearPairs::new(alloc));
-    answers(rt, alloc, seed).as_slice() == expected.as_slice()
+    let mut linear = LinearPairs::new(alloc);
+    let expected = replies(rt, alloc, seed, &mut linear);
+    drop(linear);
+    let found = answers(rt, alloc, seed);
+    let is_so = found.as_slice() == expected.as_slice();
+    drop(found);
+    drop(expected);
+    is_so
 }
 
 #[test]
 fn stores_agree(rt: HostRuntime) {
     let alloc = rt.alloc();
     for seed in 0..40 {
-        assert!(rt; agrees(&rt, alloc, seed, &mut Table::<u64, AlwaysZero>::new(alloc)));
-        assert!(rt; agrees(&rt, alloc, seed, &mut Table::<u64, ByLength>::new(alloc)));
-        assert!(rt; agrees(&rt, alloc, seed, &mut FixedTable::new(alloc)));
+        assert!(rt; agrees::<Table<u64, AlwaysZero>>(&rt, alloc, seed));
+        assert!(rt; agrees::<Table<u64, ByLength>>(&rt, alloc, seed));
+        assert!(rt; agrees::<FixedTable<u64>>(&rt, alloc, seed));
         assert!(rt; insert_and_get_agree(&rt, alloc, seed));
     }
 }

@@ -54,31 +54,54 @@ fn key_of(rt: &impl Abort, alloc: Global, number: u16) -> IString {
 fn holds_each<H: KeyHash>(rt: &impl Abort, alloc: Global, table: &Table<u16, H>, count: u16) {
     assert!(rt; table.len() == usize::from(count));
     for number in 0..count {
-        let found = table.get(key_of(rt, alloc, number).as_str());
-        assert!(rt; found == Some(&number));
+        let key = key_of(rt, alloc, number);
+        assert!(rt; table.get(key.as_str()) == Some(&number));
+        drop(key);
     }
+}
+
+/// A table of so many pairs, which were put one by one, with this capacity.
+fn table_of<H: KeyHash>(
+    rt: &impl Abort,
+    alloc: Global,
+    count: u16,
+    capacity: usize,
+) -> Table<u16, H> {
+    let mut table = Table::with_capacity(alloc, capacity).expect(rt, "a table");
+    for number in 0..count {
+        let before = table.insert(key_of(rt, alloc, number), number);
+        assert!(rt; before.expect(rt, "room").is_none());
+    }
+    table
+}
+
+/// The steps of a growth for one pair more than there is room for.
+fn grow<H: KeyHash>(rt: &impl Abort, table: &mut Table<u16, H>) -> u128 {
+    let vacant = table.capacity().saturating_sub(table.len());
+    let mut steps = 0;
+    let grown = table.reserve_counted(vacant.saturating_add(1), &mut steps);
+    grown.expect(rt, "room");
+    steps
+}
+
+/// The steps of giving the room beyond the pairs back.
+fn shrink<H: KeyHash>(rt: &impl Abort, table: &mut Table<u16, H>) -> u128 {
+    let mut steps = 0;
+    let shrunk = table.shrink_to_fit_counted(&mut steps);
+    shrunk.expect(rt, "less room");
+    steps
 }
 
 /// Asserts what a growth and then a shrinking take, and what the table holds after each.
 fn is_resized<H: KeyHash>(rt: &impl Abort, alloc: Global, resizing: &Resizing) {
     let (count, capacity, of_growth, of_shrinking) = *resizing;
-    let mut table: Table<u16, H> = Table::with_capacity(alloc, capacity).expect(rt, "a table");
-    for number in 0..count {
-        assert!(rt; table.insert(key_of(rt, alloc, number), number).is_ok());
-    }
-    let vacant = capacity.saturating_sub(table.len());
-    let mut steps = 0;
-    assert!(rt;
-        table
-            .reserve_counted(vacant.saturating_add(1), &mut steps)
-            .is_ok()
-    );
-    assert!(rt; steps == of_growth && Some(table.capacity()) == capacity.checked_mul(2));
+    let mut table: Table<u16, H> = table_of(rt, alloc, count, capacity);
+    assert!(rt; grow(rt, &mut table) == of_growth);
+    assert!(rt; Some(table.capacity()) == capacity.checked_mul(2));
     holds_each(rt, alloc, &table, count);
-    let mut steps = 0;
-    assert!(rt; table.shrink_to_fit_counted(&mut steps).is_ok());
-    assert!(rt; steps == of_shrinking && table.capacity() == table.len());
+    assert!(rt; shrink(rt, &mut table) == of_shrinking && table.capacity() == table.len());
     holds_each(rt, alloc, &table, count);
+    drop(table);
 }
 
 #[test]

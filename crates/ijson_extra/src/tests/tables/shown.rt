@@ -41,7 +41,9 @@ fn errors_tell_the_reason(rt: HostRuntime) {
     let alloc = rt.alloc();
     for (why, told, told_of_pair) in &REASONS {
         tells(&rt, alloc, why, told);
-        tells(&rt, alloc, &refused(&rt, alloc, *why), told_of_pair);
+        let refused = refused(&rt, alloc, *why);
+        tells(&rt, alloc, &refused, told_of_pair);
+        drop(refused);
     }
 }
 
@@ -70,7 +72,7 @@ static COMMANDS: [(Step, &str); 7] = [
 ];
 
 #[test]
-fn commands_and_looks_are_shown(rt: HostRuntime) {
+fn looks_are_shown(rt: HostRuntime) {
     let alloc = rt.alloc();
     shows(&rt, alloc, &FixedHash, "FixedHash");
     shows(&rt, alloc, &Seen::Empty, "Empty");
@@ -80,18 +82,28 @@ fn commands_and_looks_are_shown(rt: HostRuntime) {
         &RESIDENT,
         "Resident { at: 1, distance: 2, same: true }",
     );
+}
+
+#[test]
+fn commands_and_a_refusal_are_shown(rt: HostRuntime) {
+    let alloc = rt.alloc();
     for (step, want) in &COMMANDS {
-        shows(&rt, alloc, &command(&rt, alloc, *step), want);
+        let command = command(&rt, alloc, *step);
+        shows(&rt, alloc, &command, want);
+        drop(command);
     }
     let back = Reply::Refused(key(&rt, alloc, "a"), 1u64, ReserveError::Memory);
     shows(&rt, alloc, &back, "Refused(\"a\", 1, Memory)");
+    drop(back);
 }
 
 /// What is shown of a store with one pair.
 fn shown<P: PairStore<u64> + Debug + Drop>(rt: &impl Abort, alloc: Global) -> String {
     let mut store = P::new(alloc);
     insert_all(rt, alloc, &mut store, &["a"]);
-    format!(in alloc; "{store:?}").expect(rt, "a text")
+    let shown = format!(in alloc; "{store:?}").expect(rt, "a text");
+    drop(store);
+    shown
 }
 
 /// What is shown of a table with the pair of a and 0: the home of a is 2 of 5 slots, and a slot shows the position plus one, or 0, and

@@ -13,8 +13,8 @@ const PAIRS: u64 = 10_000;
 /// Whether a table takes a number under its digits, which are a new key.
 fn takes(rt: &impl Abort, alloc: Global, table: &mut FixedTable<u64>, number: u64) -> bool {
     let letters = format!(in alloc; "{number}").expect(rt, "a text");
-    let taken = table.insert(key(rt, alloc, &letters), number);
-    matches!(taken, Ok(None))
+    let before = table.insert(key(rt, alloc, &letters), number);
+    before.expect(rt, "room").is_none()
 }
 
 /// Whether a table has the pairs of the numbers below 10,000.
@@ -32,16 +32,22 @@ fn a_table_takes_ten_thousand_pairs(rt: HostRuntime) {
         assert!(rt; takes(&rt, rt.alloc(), &mut table, number));
     }
     assert!(rt; has_numbers(&table) && table.capacity() == 16_384);
-    assert!(rt; table.shrink_to_fit().is_ok() && has_numbers(&table));
+    table.shrink_to_fit().expect(&rt, "less room");
+    assert!(rt; has_numbers(&table));
+    drop(table);
 }
 
 /// Asserts that a new store makes room for 100,000 pairs, and gives it back, and that one is made with that room.
 fn grows_far<S: Store>(rt: &impl Abort, alloc: Global) {
     let mut store = S::new(alloc);
-    assert!(rt; store.reserve(100_000).is_ok() && store.capacity() == 100_000);
-    assert!(rt; store.shrink_to_fit().is_ok() && store.capacity() == 0);
+    store.reserve(100_000).expect(rt, "room");
+    assert!(rt; store.capacity() == 100_000);
+    store.shrink_to_fit().expect(rt, "less room");
+    assert!(rt; store.capacity() == 0);
+    drop(store);
     let roomy = S::with_room(alloc, 100_000).expect(rt, "room");
     assert!(rt; roomy.capacity() == 100_000);
+    drop(roomy);
 }
 
 #[test]
@@ -68,4 +74,5 @@ fn a_run_of_two_million_commands(rt: HostRuntime) {
     let commands = clearings(&rt, alloc, 2_000_000);
     let replies = run(alloc, &mut LinearPairs::new(alloc), commands).expect(&rt, "the replies");
     assert!(rt; replies.len() == 2_000_000);
+    drop(replies);
 }

@@ -124,6 +124,7 @@ fn homes_by_length(rt: HostRuntime) {
     follows(&rt, alloc, &mut table, &ROUND_THE_END);
     assert!(rt; finds(&table, "ccccc", Some(0), 1) && finds(&table, "bbbb", Some(1), 1));
     assert!(rt; finds(&table, "dddd", None, 2));
+    drop(table);
 }
 
 /// How many looks the insertions of these keys take, and that of the first one once more. The walk after a growth is not counted.
@@ -141,8 +142,10 @@ fn insertions_count_their_looks(rt: HostRuntime) {
     for (letters, count) in &LOOKS_OF_INSERTIONS {
         let mut looks = Looks::new();
         let inserted = table.insert_counted(key(&rt, rt.alloc(), letters), 7, &mut looks);
-        assert!(rt; inserted.is_ok() && looks.count() == *count);
+        inserted.expect(&rt, "room");
+        assert!(rt; looks.count() == *count);
     }
+    drop(table);
 }
 
 /// A new table.
@@ -179,6 +182,7 @@ fn one_home_for_all(rt: HostRuntime) {
     assert!(rt; finds(&table, "a", None, 0));
     follows(&rt, alloc, &mut table, &GROWS);
     assert!(rt; finds(&table, "z", None, 6));
+    drop(table);
 }
 
 /// An empty table with room for so many pairs. All have one home.
@@ -192,10 +196,12 @@ fn full_to_the_last_slot(rt: HostRuntime) {
     let mut table = roomy(&rt, alloc, 1);
     follows(&rt, alloc, &mut table, &ONE_SLOT);
     assert!(rt; finds(&table, "a", Some(0), 1) && finds(&table, "b", None, 1));
+    drop(table);
     let mut table = roomy(&rt, alloc, 3);
     follows(&rt, alloc, &mut table, &THREE_SLOTS);
     assert!(rt; finds(&table, "z", None, 3));
     follows(&rt, alloc, &mut table, &TWO_OF_THREE);
+    drop(table);
 }
 
 /// The homes of a, b, c and d are 2, 3, 4 and 0 of 5.
@@ -214,6 +220,7 @@ fn fixed_hashes(rt: HostRuntime) {
     follows(&rt, rt.alloc(), &mut table, &HOMES_OF_FOUR);
     assert!(rt; table.places() > 0 && table.home("d") == 0);
     assert!(rt; finds(&table, "d", Some(3), 1));
+    drop(table);
 }
 
 #[test]
@@ -221,5 +228,6 @@ fn a_table_has_five_slots_for_four_pairs(rt: HostRuntime) {
     for (capacity, slots) in [(0, 0), (1, 1), (3, 3), (4, 5), (8, 10), (10, 12)] {
         let table = roomy(&rt, rt.alloc(), capacity);
         assert!(rt; table.capacity() == capacity && table.places() == slots);
+        drop(table);
     }
 }

@@ -84,6 +84,7 @@ fn follows_the_steps<P: PairStore<u64> + Drop>(rt: &impl Abort, alloc: Global) {
         assert!(rt; replies_so(rt, alloc, &mut store, *step, want));
         assert!(rt; store.len() == *len && store.capacity() == *capacity);
     }
+    drop(store);
 }
 
 #[test]
@@ -99,24 +100,10 @@ fn each_store_keeps_order_and_capacity(rt: HostRuntime) {
 fn the_limit(rt: HostRuntime) {
     let alloc = rt.alloc();
     let past = 72_057_594_037_927_937;
-    assert!(rt;
-        matches!(
-            LinearPairs::<u64>::with_capacity(alloc, past),
-            Err(ReserveError::TooLarge)
-        )
-    );
-    assert!(rt;
-        matches!(
-            FixedTable::<u64>::with_capacity(alloc, past),
-            Err(ReserveError::TooLarge)
-        )
-    );
-    assert!(rt;
-        matches!(
-            Table::<u64, ByLength>::with_capacity(alloc, past),
-            Err(ReserveError::TooLarge)
-        )
-    );
+    let refused = Some(ReserveError::TooLarge);
+    assert!(rt; LinearPairs::<u64>::with_capacity(alloc, past).err() == refused);
+    assert!(rt; FixedTable::<u64>::with_capacity(alloc, past).err() == refused);
+    assert!(rt; Table::<u64, ByLength>::with_capacity(alloc, past).err() == refused);
 }
 
 /// Keys, whose values are their positions, and the pairs of a table that is made of them.
@@ -144,15 +131,23 @@ fn made(rt: &impl Abort, alloc: Global, keys: &[&str]) -> FixedTable<u64> {
     FixedTable::from_pairs(alloc, pairs).expect(rt, "a table")
 }
 
+/// Whether a table has these pairs and no others.
+fn has_pairs(table: &FixedTable<u64>, pairs: &[(&str, u64)]) -> bool {
+    for (i, (letters, value)) in pairs.iter().enumerate() {
+        if table.index_of(letters) != Some(i) || table.get(letters) != Some(value) {
+            return false;
+        }
+    }
+    table.len() == pairs.len()
+}
+
 #[test]
 fn what_is_made_of_pairs_has_no_spare_room(rt: HostRuntime) {
     for (keys, pairs) in &MADE {
         let table = made(&rt, rt.alloc(), keys);
-        assert!(rt; table.capacity() == keys.len() && table.len() == pairs.len());
+        assert!(rt; table.capacity() == keys.len() && has_pairs(&table, pairs));
         assert!(rt; table.places() == keys.len() + keys.len() / 4);
-        for (i, (letters, value)) in pairs.iter().enumerate() {
-            assert!(rt; table.index_of(letters) == Some(i) && table.get(letters) == Some(value));
-        }
+        drop(table);
     }
 }
 
@@ -180,6 +175,7 @@ fn lends<P: PairStore<u64> + Drop>(rt: &impl Abort, alloc: Global) {
     let pairs = store.into_pairs();
     assert!(rt; has_keys(&pairs, &["a", "b", "c"]));
     assert!(rt; pairs.iter().map(|pair| pair.1).eq([7, 8, 2]));
+    drop(pairs);
 }
 
 #[test]
@@ -194,6 +190,7 @@ fn a_list_shows_its_pairs(rt: HostRuntime) {
     insert_all(&rt, rt.alloc(), &mut store, &["a", "b"]);
     assert!(rt; has_keys(store.as_slice(), &["a", "b"]));
     assert!(rt; store.get("b") == Some(&1) && store.get("c").is_none());
+    drop(store);
 }
 
 /// Steps that are run at once, and what is shown of the reply to each.
@@ -223,8 +220,10 @@ fn a_run_replies_to_each_command(rt: HostRuntime) {
     let mut store = LinearPairs::new(alloc);
     let replies = run(alloc, &mut store, commands(&rt, alloc, &RUN)).expect(&rt, "the replies");
     assert!(rt; replies.len() == RUN.len() && store.capacity() == 0);
+    drop(store);
     for (reply, (_, want)) in replies.iter().zip(&RUN) {
         let shown = format!(in alloc; "{reply:?}").expect(&rt, "a text");
         assert!(rt; shown.as_str() == *want);
     }
+    drop(replies);
 }
