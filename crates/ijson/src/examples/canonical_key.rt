@@ -54,6 +54,8 @@ fn have_one_key(rt: &impl Abort, alloc: Global, a: &str, b: &str, want: bool) {
     let a = parsed(rt, alloc, a);
     let b = parsed(rt, alloc, b);
     assert!(rt; same_key(alloc, &a, &b).expect(rt, "the keys") == want);
+    drop(a);
+    drop(b);
 }
 
 #[test]

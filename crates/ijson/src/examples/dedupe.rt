@@ -39,4 +39,5 @@ fn repeats(rt: HostRuntime) {
         "[1,{\"a\":1,\"b\":2},1.0,\"1\",{\"b\":2,\"a\":1e0},[],1]",
     );
     is_written(&rt, rt.alloc(), &left, "[1,{\"a\":1,\"b\":2},\"1\",[]]");
+    drop(left);
 }

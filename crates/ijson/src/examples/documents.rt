@@ -44,6 +44,12 @@ fn is_stored(rt: &impl Abort, documents: &mut IndexSet<IValue>, document: IValue
     assert!(rt; position == want);
 }
 
+/// Asserts where a document is found.
+fn is_found(rt: &impl Abort, documents: &IndexSet<IValue>, document: IValue, want: Option<usize>) {
+    assert!(rt; find(documents, &document) == want);
+    drop(document);
+}
+
 #[test]
 fn equal_documents_are_stored_once(rt: HostRuntime) {
     let alloc = rt.alloc();
@@ -51,6 +57,7 @@ fn equal_documents_are_stored_once(rt: HostRuntime) {
     for &(text, position) in &STORED {
         is_stored(&rt, &mut documents, parsed(&rt, alloc, text), position);
     }
-    assert!(rt; find(&documents, &parsed(&rt, alloc, "[2.0,1]")) == Some(2));
-    assert!(rt; find(&documents, &parsed(&rt, alloc, "[2]")) == None);
+    is_found(&rt, &documents, parsed(&rt, alloc, "[2.0,1]"), Some(2));
+    is_found(&rt, &documents, parsed(&rt, alloc, "[2]"), None);
+    drop(documents);
 }

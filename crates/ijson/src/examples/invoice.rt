@@ -78,5 +78,6 @@ fn invoices(rt: HostRuntime) {
     for &(text, want) in &INVOICES {
         let value = parsed(&rt, rt.alloc(), text);
         assert!(rt; invoice_total(&value) == want, "{text}");
+        drop(value);
     }
 }

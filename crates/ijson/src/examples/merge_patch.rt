@@ -3,8 +3,7 @@ ghost use Rattle.std.specs.Prelude.{◌≡◌, IfOk};
 ghost use Rattle.ijson.specs.examples.MergePatch.{merged, members_in};
 ghost use Rattle.ijson_value.specs.Values.{object_tree};
 
-use super::parsed;
-use crate::json::to_json;
+use super::{is_written, parsed};
 use crate::{IObject, IValue};
 use std::alloc::{AllocError, Global};
 use std::mem;
@@ -79,11 +78,9 @@ static MERGED: [(&str, &str, &str); 15] = [
 fn is_patched(rt: &impl Abort, alloc: Global, target: &str, patch: &str, want: &str) {
     let change = parsed(rt, alloc, patch);
     let value = merge(alloc, parsed(rt, alloc, target), &change).expect(rt, "memory");
-    let found = to_json(alloc, &value).expect(rt, "a text");
-    assert!(rt;
-        found.as_str() == want,
-        "{patch} makes {found} of {target}, not {want}"
-    );
+    drop(change);
+    is_written(rt, alloc, &value, want);
+    drop(value);
 }
 
 #[test]

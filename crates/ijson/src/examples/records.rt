@@ -51,5 +51,6 @@ fn items_with_no_id_are_counted(rt: HostRuntime) {
     for &(text, count) in &REFUSED {
         let value = parsed(&rt, rt.alloc(), text);
         assert!(rt; count_refused(&value) == count);
+        drop(value);
     }
 }

@@ -51,5 +51,6 @@ fn settings(rt: HostRuntime) {
     for &(base, over, want) in &LAID_OVER {
         let value = laid_over(&rt, rt.alloc(), base, over);
         is_written(&rt, rt.alloc(), &value, want);
+        drop(value);
     }
 }

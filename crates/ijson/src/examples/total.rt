@@ -63,5 +63,6 @@ fn numbers_are_summed(rt: HostRuntime) {
     for &(text, sum) in &TOTALS {
         let value = parsed(&rt, rt.alloc(), text);
         assert!(rt; total(&value) == sum);
+        drop(value);
     }
 }

@@ -108,10 +108,10 @@ static STRIPPED: [(&str, &str, i32); 15] = [
 
 fn strips(rt: &impl Abort, alloc: Global, text: &str, digits: &str, want: i32) {
     let mut out = String::from_str(alloc, "[").expect(rt, "a text");
-    let exponent = number(rt, alloc, text)
-        .push_stripped_digits(&mut out)
-        .expect(rt, "a longer text");
-    assert!(rt; exponent == want, "{text}");
+    let number = number(rt, alloc, text);
+    let exponent = number.push_stripped_digits(&mut out);
+    assert!(rt; exponent.expect(rt, "a longer text") == want, "{text}");
+    drop(number);
     assert!(rt; out.as_str().strip_prefix("[") == Some(digits), "{text}");
 }
 
@@ -647,6 +647,8 @@ fn looks_of_compare(rt: HostRuntime) {
         assert!(rt; a.count() < 40);
         assert!(rt; compare(&a, &b, &mut looks) == want);
         assert!(rt; looks.count() == count);
+        drop(a);
+        drop(b);
     }
 }
 

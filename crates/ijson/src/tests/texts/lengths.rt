@@ -2,31 +2,26 @@
 use super::interned;
 use crate::examples::empty_cache;
 use crate::string::IString;
+use crate::tests::is_shown;
 use std::alloc::Global;
 use std::process::Abort;
 
 #[test]
 fn long_texts_alone_enter_the_cache(rt: HostRuntime) {
     let mut cache = empty_cache(rt.alloc());
-    let short = interned(&rt, &mut cache, "seven77");
+    drop(interned(&rt, &mut cache, "seven77"));
     assert!(rt; cache.is_empty());
     let long = interned(&rt, &mut cache, "eight888");
     let again = interned(&rt, &mut cache, "eight888");
+    assert!(rt; long == again);
+    drop(again);
     assert!(rt; cache.len() == 1);
     assert!(rt; cache.contains("eight888"));
     cache.clear();
     assert!(rt; cache.is_empty());
     drop(cache);
-    assert!(rt; long == again);
-    drop(again);
-    let copy = short.clone().expect(&rt, "a copy");
-    assert!(rt; short == copy);
-    drop(copy);
-    drop(short);
-    let owned = long.to_owned_string(rt.alloc()).expect(&rt, "a text");
+    assert!(rt; long.eq_str("eight888"));
     drop(long);
-    assert!(rt; owned.as_str() == "eight888");
-    drop(owned);
 }
 
 /// Asserts that a text and its copies are these letters, and print them. `Debug` puts them between quotes, since none is escaped.
@@ -38,6 +33,11 @@ fn is_text(rt: &impl Abort, alloc: Global, text: &IString, letters: &str) {
     let owned = text.to_owned_string(alloc).expect(rt, "a text");
     assert!(rt; owned.as_str() == letters);
     drop(owned);
+    is_printed(rt, alloc, text, letters);
+}
+
+/// Asserts that a text of these letters prints them.
+fn is_printed(rt: &impl Abort, alloc: Global, text: &IString, letters: &str) {
     let printed = format!(in alloc; "{text}{text:?}").expect(rt, "a text");
     let want = format!(in alloc; "{letters}\"{letters}\"").expect(rt, "a text");
     assert!(rt; printed == want);
@@ -101,28 +101,38 @@ static DEBUGGED: [(&str, &str); 4] = [
     ),
 ];
 
+/// Texts, each of which comes before the next.
+static RISING: [&str; 5] = ["", "interned_string_a", "interned_string_b", "z", "é"];
+
 #[test]
-fn texts_compare_by_bytes_and_print(rt: HostRuntime) {
+fn texts_compare_by_bytes(rt: HostRuntime) {
     let mut cache = empty_cache(rt.alloc());
-    let a = interned(&rt, &mut cache, "interned_string_a");
-    let b = interned(&rt, &mut cache, "interned_string_b");
-    let z = interned(&rt, &mut cache, "z");
+    for pair in RISING.windows(2) {
+        let less = interned(&rt, &mut cache, pair[0]);
+        let more = interned(&rt, &mut cache, pair[1]);
+        assert!(rt; less < more);
+        drop(less);
+        drop(more);
+    }
     let e_acute = interned(&rt, &mut cache, "é");
-    assert!(rt; a < b);
-    drop(a);
-    drop(b);
-    assert!(rt; z < e_acute);
-    drop(z);
     assert!(rt; e_acute.as_bytes() == [0xc3, 0xa9].as_slice());
     drop(e_acute);
+    drop(cache);
+}
+
+#[test]
+fn texts_are_shown_with_escapes(rt: HostRuntime) {
+    let mut cache = empty_cache(rt.alloc());
     for &(letters, want) in &DEBUGGED {
         let text = interned(&rt, &mut cache, letters);
-        let printed = format!(in rt.alloc(); "{text:?}").expect(&rt, "a text");
-        assert!(rt; printed.as_str() == want, "{want}");
-        drop(printed);
+        is_shown(&rt, rt.alloc(), &text, want);
         drop(text);
     }
     drop(cache);
+}
+
+#[test]
+fn a_new_text_is_empty(rt: HostRuntime) {
     let empty: IString = IString::default();
     assert!(rt; empty.is_empty());
     drop(empty);

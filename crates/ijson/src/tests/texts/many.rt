@@ -33,6 +33,7 @@ fn intern_each<S: BuildHasher>(
         let letters = format!(in alloc; "{number:08}").expect(rt, "a text");
         let text = interned(rt, cache, letters.as_str());
         assert!(rt; text.eq_str(letters.as_str()));
+        drop(text);
     }
     assert!(rt; cache.len() == held);
 }
@@ -46,6 +47,7 @@ fn keeps<S: BuildHasher + Drop>(rt: &impl Abort, alloc: Global, hasher: S, count
     cache.clear();
     assert!(rt; !cache.contains("00000000"));
     intern_each(rt, alloc, &mut cache, count / 2, count / 2);
+    drop(cache);
 }
 
 #[test]

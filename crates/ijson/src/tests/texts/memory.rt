@@ -12,12 +12,17 @@ fn intern_again_and_again(rt: &impl Abort, alloc: Global, further: u32) {
     let long = interned(rt, &mut cache, "eight888");
     let short = interned(rt, &mut cache, "seven77");
     for _ in 0..further {
-        let _long_again = interned(rt, &mut cache, "eight888");
-        let _short_again = interned(rt, &mut cache, "seven77");
-        let _long_copy = long.clone().expect(rt, "a copy");
-        let _short_copy = short.clone().expect(rt, "a copy");
-        let _empty = IString::new().to_owned_string(alloc).expect(rt, "a text");
+        drop(interned(rt, &mut cache, "eight888"));
+        drop(interned(rt, &mut cache, "seven77"));
+        drop(long.clone().expect(rt, "a copy"));
+        drop(short.clone().expect(rt, "a copy"));
+        let empty = IString::new();
+        drop(empty.to_owned_string(alloc).expect(rt, "a text"));
+        drop(empty);
     }
+    drop(short);
+    drop(long);
+    drop(cache);
 }
 
 #[test]
@@ -40,10 +45,11 @@ fn take_blocks(rt: &impl Abort, alloc: Global, count: usize) {
 /// A first long text takes memory for itself, which its first owner shares, and for each of the three lists that lead to it.
 #[test]
 fn a_first_intern_takes_four_blocks(rt: HostRuntime) {
-    let _unused = empty_cache(rt.alloc());
+    drop(empty_cache(rt.alloc()));
     let mut cache = empty_cache(rt.alloc());
-    let _short = interned(&rt, &mut cache, "seven77");
-    let _first = interned(&rt, &mut cache, "eight888");
+    drop(interned(&rt, &mut cache, "seven77"));
+    drop(interned(&rt, &mut cache, "eight888"));
+    drop(cache);
 }
 
 #[test]
@@ -56,7 +62,7 @@ fn intern_beginnings(rt: &impl Abort, cache: &mut Cache) {
     let text = "abcdefghijklmnopqrstuvwxyzabcdefghijklmnopqrstuvwxyzabcdefghijklmnop";
     for length in 8..68 {
         let letters = text.get(..length).expect(rt, "a beginning");
-        let _text = interned(rt, cache, letters);
+        drop(interned(rt, cache, letters));
     }
     assert!(rt; cache.len() == 60);
 }

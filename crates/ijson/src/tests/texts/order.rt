@@ -34,6 +34,19 @@ fn intern_number<S: BuildHasher>(
     let letters = format!(in alloc; "{number:08}").expect(rt, "a text");
     let text = interned(rt, cache, letters.as_str());
     assert!(rt; text.eq_str(letters.as_str()));
+    drop(text);
+}
+
+/// Interns the texts of the numbers below this one, from the last on.
+fn intern_down<S: BuildHasher>(
+    rt: &impl Abort,
+    alloc: Global,
+    cache: &mut StringCache<S>,
+    count: usize,
+) {
+    for number in 0..count {
+        intern_number(rt, alloc, cache, count - 1 - number);
+    }
 }
 
 #[test]
@@ -48,6 +61,7 @@ fn texts_of_one_order_are_not_hashed(rt: HostRuntime) {
         assert!(rt; hashed.get() <= most);
     }
     assert!(rt; cache.len() == 100);
+    drop(cache);
 }
 
 /// Of records with fifty keys, each before a text that comes once.
@@ -64,6 +78,7 @@ fn texts_that_come_once_leave_the_order_of_the_others(rt: HostRuntime) {
         assert!(rt; hashed.get() <= most);
     }
     assert!(rt; cache.len() == 250);
+    drop(cache);
 }
 
 /// Up and down, fewer and fewer, and once more where they were taken out.
@@ -75,15 +90,12 @@ fn texts_are_found_in_any_order(rt: HostRuntime) {
         for number in 0..count {
             intern_number(&rt, rt.alloc(), &mut cache, number);
         }
-        for number in 0..count {
-            intern_number(&rt, rt.alloc(), &mut cache, count - 1 - number);
-        }
+        intern_down(&rt, rt.alloc(), &mut cache, count);
         assert!(rt; cache.len() == 300);
     }
     cache.clear();
-    for number in 0..100 {
-        intern_number(&rt, rt.alloc(), &mut cache, 99 - number);
-    }
+    intern_down(&rt, rt.alloc(), &mut cache, 100);
     assert!(rt; cache.len() == 100);
     assert!(rt; !cache.contains("00000100"));
+    drop(cache);
 }
