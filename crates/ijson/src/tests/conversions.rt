@@ -26,12 +26,14 @@ fn literals_are_values(rt: HostRuntime) {
     for (which, want) in &LITERALS {
         is_literal(&rt, rt.alloc(), &mut cache, which, want);
     }
+    drop(cache);
 }
 
 #[test]
 fn the_example_is_written(rt: HostRuntime) {
     let mut cache = empty_cache(rt.alloc());
     is_literal(&rt, rt.alloc(), &mut cache, &Literal::Example, EXAMPLE);
+    drop(cache);
 }
 
 /// What is written of the value of `x`.

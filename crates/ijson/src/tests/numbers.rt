@@ -70,6 +70,7 @@ fn written(rt: &impl Abort, alloc: Global, text: &str, want: &str, point: bool) 
     assert!(rt; number.has_decimal_point() == point, "{text}");
     appends(rt, alloc, &number, want);
     displays(rt, alloc, &number, want);
+    drop(number);
 }
 
 #[test]
@@ -167,7 +168,9 @@ fn copies(rt: HostRuntime) {
     let long = number(&rt, rt.alloc(), "-1234567890123456789012345.5");
     let copy = long.clone().expect(&rt, "a copy");
     assert!(rt; copy == long);
+    drop(long);
     debugs(&rt, rt.alloc(), &copy, "-1234567890123456789012345.5");
+    drop(copy);
 }
 
 /// So many digits, none of them 0, of which no two runs of twenty side by side are alike.
@@ -198,6 +201,7 @@ fn is_written_whole(rt: &impl Abort, alloc: Global, text: &str) {
     appends(rt, alloc, &number, text);
     displays(rt, alloc, &number, text);
     debugs(rt, alloc, &number, text);
+    drop(number);
 }
 
 /// A contract can't say that a formatter only gives up where its writer does, nor that memory is all that a reader wants, so long
@@ -298,10 +302,11 @@ static FRONTS: [(&str, Option<usize>); 12] = [
 fn fronts(rt: HostRuntime) {
     for &(text, want) in &FRONTS {
         let found = INumber::at_front(rt.alloc(), text).expect(&rt, "room");
-        let length = match found {
-            Some((_, length)) => Some(length),
+        let length = match &found {
+            Some((_, length)) => Some(*length),
             None => None,
         };
+        drop(found);
         assert!(rt; length == want, "{text}");
     }
 }
@@ -320,8 +325,11 @@ static PAIRS: [(&str, &str, bool); 7] = [
 #[test]
 fn equality(rt: HostRuntime) {
     for &(a, b, want) in &PAIRS {
-        let is_equal = number(&rt, rt.alloc(), a) == number(&rt, rt.alloc(), b);
-        assert!(rt; is_equal == want, "{a} {b}");
+        let one = number(&rt, rt.alloc(), a);
+        let other = number(&rt, rt.alloc(), b);
+        assert!(rt; (one == other) == want, "{a} {b}");
+        drop(one);
+        drop(other);
     }
 }
 
@@ -329,16 +337,19 @@ fn equality(rt: HostRuntime) {
 fn signed(rt: &impl Abort, number: INumber, long: Option<i64>, short: Option<i32>) {
     assert!(rt; number.to_i64() == long);
     assert!(rt; number.to_i32() == short);
+    drop(number);
 }
 
 fn sized(rt: &impl Abort, number: INumber, want: Option<isize>) {
     assert!(rt; number.to_isize() == want);
+    drop(number);
 }
 
 /// What a number is as a `u64` and as a `u32`.
 fn unsigned(rt: &impl Abort, number: INumber, long: Option<u64>, short: Option<u32>) {
     assert!(rt; number.to_u64() == long);
     assert!(rt; number.to_u32() == short);
+    drop(number);
 }
 
 /// Texts, and what each is as an `i64` and as an `i32`.
@@ -451,7 +462,9 @@ fn order(rt: HostRuntime) {
         for j in 0..ASCENDING.len() {
             let b = number(&rt, rt.alloc(), ASCENDING[j]);
             compares(&rt, &a, &b, i.cmp(&j));
+            drop(b);
         }
+        drop(a);
     }
 }
 
@@ -518,7 +531,9 @@ static STORED_DIGITS: [(&str, bool, &[u8], i32, bool); 7] = [
 ];
 
 fn formed(rt: &impl Abort, alloc: Global, text: &str, form: Form<'_>) {
-    assert!(rt; number(rt, alloc, text).form() == form, "{text}");
+    let number = number(rt, alloc, text);
+    assert!(rt; number.form() == form, "{text}");
+    drop(number);
 }
 
 #[test]
@@ -618,6 +633,7 @@ fn form_boundaries(rt: HostRuntime) {
     for &(text, want) in &BOUNDARIES {
         let number = number(&rt, rt.alloc(), text);
         assert!(rt; kind_of(number.form()) == want, "{text}");
+        drop(number);
     }
 }
 

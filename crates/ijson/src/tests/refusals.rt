@@ -56,7 +56,9 @@ fn is_kept(cache: &Cache, most: usize) -> bool {
 /// What `text` spells, through a cache of its own.
 fn read(rt: &impl Abort, alloc: Global, text: &str) -> IValue {
     let mut cache = empty_cache(alloc);
-    granted!(rt; JsonError::Memory; from_json(alloc, &mut cache, text))
+    let value = granted!(rt; JsonError::Memory; from_json(alloc, &mut cache, text));
+    drop(cache);
+    value
 }
 
 /// Asserts that a text is what is written of a value.
@@ -116,6 +118,7 @@ fn maps(rt: HostRuntime) {
         has_pairs(&rt, &object);
         drop(object);
     }
+    drop(cache);
 }
 
 /// The maps of the test that follows.
@@ -142,6 +145,7 @@ fn conversions(rt: HostRuntime) {
     assert!(rt; again == value);
     drop(value);
     assert!(rt; is_kept(&cache, 2) && cache.contains("eight888"));
+    drop(cache);
     is_written(&rt, rt.alloc(), &again, text);
     drop(again);
 }
@@ -161,6 +165,7 @@ fn literals(rt: HostRuntime) {
     for (which, text) in &LITERALS {
         is_literal(&rt, rt.alloc(), &mut cache, which, text);
     }
+    drop(cache);
 }
 
 /// Whether a cache that held the one text holds it still, and two more.
@@ -177,6 +182,7 @@ fn there_and_back(rt: &impl Abort, alloc: Global, value: &IValue) {
     assert!(rt; back == *value);
     drop(back);
     assert!(rt; has_three(&cache));
+    drop(cache);
 }
 
 /// The same of an object, as a map of `serde_json`.
@@ -188,6 +194,7 @@ fn map_and_back(rt: &impl Abort, alloc: Global, object: &IObject) {
     assert!(rt; back == *object);
     drop(back);
     assert!(rt; has_three(&cache));
+    drop(cache);
 }
 
 #[test]

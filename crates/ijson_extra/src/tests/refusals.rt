@@ -59,7 +59,9 @@ fn number_of_many_digits(rt: HostRuntime) {
     let number = spelled(&rt, alloc, text);
     assert!(rt; number.has_decimal_point());
     copies_number(&rt, &number);
-    assert!(rt; number == spelled(&rt, alloc, "1234567890123456789012345678905e-1"));
+    let same = spelled(&rt, alloc, "1234567890123456789012345678905e-1");
+    assert!(rt; number == same);
+    drop(same);
     let value = IValue::from(number);
     is_written(&rt, alloc, &value, text);
     drop(value);
@@ -75,7 +77,9 @@ fn number_at_the_front(rt: HostRuntime) {
     let alloc = rt.alloc();
     let (number, length) = at_front(&rt, alloc, "-123.4567890123450, 2");
     assert!(rt; length == 18);
-    assert!(rt; number == spelled(&rt, alloc, "-123.456789012345"));
+    let same = spelled(&rt, alloc, "-123.456789012345");
+    assert!(rt; number == same);
+    drop(same);
     drop(number);
 }
 
@@ -319,7 +323,9 @@ fn intern(rt: HostRuntime) {
 /// What `text` spells, through a cache of its own.
 fn read(rt: &impl Abort, alloc: Global, text: &str) -> IValue {
     let mut cache = empty_cache(alloc);
-    granted!(rt; JsonError::Memory; from_json(alloc, &mut cache, text))
+    let value = granted!(rt; JsonError::Memory; from_json(alloc, &mut cache, text));
+    drop(cache);
+    value
 }
 
 fn written(rt: &impl Abort, alloc: Global, value: &IValue) -> String {
@@ -556,7 +562,9 @@ fn compacting_to_a_value(rt: HostRuntime) {
             compact_value(alloc, &mut again, &mut output, &mut cache).expect(&rt, "a value")
         }
     };
+    drop(cache);
     assert!(rt; output.bytes() == b"[1.5]\n".as_slice());
+    drop(output);
     is_written(&rt, alloc, &value, "[1.5]");
     drop(value);
 }

@@ -74,11 +74,13 @@ fn texts_that_come_again_take_a_block_each(rt: HostRuntime) {
     intern_beginnings(&rt, &mut cache);
     cache.clear();
     intern_beginnings(&rt, &mut cache);
+    drop(cache);
 }
 
 #[test]
 fn texts_that_come_once_and_sixty_blocks(rt: HostRuntime) {
     let mut cache = empty_cache(rt.alloc());
     intern_beginnings(&rt, &mut cache);
+    drop(cache);
     take_blocks(&rt, rt.alloc(), 60);
 }
