@@ -26,7 +26,7 @@ IsInRows count e = IsSplit count e ⊎ IsBelowOne count e ⊎ IsScientific count
 abbrev pub IsWordInteger : Decimal → Type 0
 IsWordInteger n = (is_digits (form_of n) ≡ false) × (n.point ≡ false)
 
--- a packed number with the point and no exponent
+-- a packed number with the point, whose text has no exponent, and no zeros behind the digits but one behind the point
 abbrev pub IsPackedPointed : Decimal → Type 0
 IsPackedPointed n = (m : ℤ) × (e : ℤ) × (form_of n ≡ packed m e true) × (e ≤ℤ pos 0) × ((neg_ℤ (pos 6) ≤ℤ e) ⊎ (10 ≤ nat_abs m))
 

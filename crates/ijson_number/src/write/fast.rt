@@ -1,14 +1,12 @@
 //! Appends a number's text, 16 digits at a time.
-ghost use Rattle.std.specs.Prelude.{◌≡◌, ◌+◌, ◌-◌, ◌/◌, ◌%◌, ◌^◌, ◌<◌, ◌≤◌, ◌∷◌, ◌++◌, ◌||◌, ℤ, drop, length, nat_abs, neg_ℤ, negsuc, pos};
-ghost use Rattle.std.specs.Prelude.{int_le, int_lt, true, false, ◌+ℤ◌, ◌<ℤ◌, ◌≤ℤ◌, ◌⊎◌, FitsSigned, IfOk, IsFalse, IsTrue, OnErr, OnOk};
-ghost use mir.Syntax.{w16};
+ghost use Rattle.std.specs.Prelude.{◌≡◌, ◌+◌, ◌-◌, ◌/◌, ◌%◌, ◌^◌, ◌<◌, ◌≤◌, ◌∷◌, ◌++◌, ◌||◌, ℤ, drop, length, nat_abs, neg_ℤ, pos};
+ghost use Rattle.std.specs.Prelude.{true, false, ◌≤ℤ◌, ◌⊎◌, IfOk, IsTrue, OnErr, OnOk};
 ghost use Rattle.std.specs.Fmt.{decimal};
 ghost use Rattle.std.specs.String.{string_bytes};
 ghost use Rattle.ijson_number.specs.AppendsBeginning.{AppendsBeginning};
-ghost use Rattle.ijson_number.specs.Form.{form_of, is_digits, packed};
+ghost use Rattle.ijson_number.specs.Form.{form_of, packed};
 ghost use Rattle.ijson_number.specs.Text.{digits_text, minus_text, num_text, zeros_text};
 ghost use Rattle.ijson_number.specs.Stripped.{stripped_number};
-ghost use Rattle.ijson_number.specs.StrippedDigits.{stripped_digits};
 ghost use Rattle.ijson_number.specs.private.Pushed.{Pushed};
 ghost use Rattle.ijson_number.specs.private.RowText.{IsBelowOne, IsInRows, IsRowText, IsScientific};
 ghost use Rattle.ijson_number.specs.private.SplitText.{split_text};

@@ -1,4 +1,4 @@
-use Rattle.std.proofs.Common.{◌≡◌, ◌^◌, ◌<◌, ◌≤◌, ◌∙◌, ◌++◌, false, true, length, inl, inr, ap, sym, refl, rules, arith}
+use Rattle.std.proofs.Common.{◌≡◌, ◌^◌, ◌<◌, ◌≤◌, ◌∙◌, ◌++◌, Bool, false, true, List, length, ℕ, ℤ, inl, inr, ap, sym, refl, rules, arith}
 use Rattle.std.specs.Prelude.{nat_abs, FitsSigned}
 use Rattle.std.specs.String.{string_bytes}
 use Rattle.std.proofs.lemmas.Int.{to_z-of_z}
@@ -11,9 +11,10 @@ use Rattle.ijson_number.specs.Num.{Num}
 use Rattle.ijson_number.specs.StoredNumber.{stored_number}
 use Rattle.ijson_number.specs.StrippedDigits.{stripped_digits}
 use Rattle.ijson_number.specs.declared.repr.stored.ShortNumber.{ShortNumber}
-use Rattle.ijson_number.specs.private.RowText.{IsRowText, IsShortInRows}
+use Rattle.ijson_number.specs.private.RowText.{IsInRows, IsRowText}
 use Rattle.ijson_number.specs.private.ShortDigits.{short_digits}
 use Rattle.ijson_number.specs.private.Stored.{short_form, stored_decimal, stored_form}
+use Rattle.ijson_number.specs.private.Stripped.{IsStripped}
 use Rattle.ijson_number.specs.private.StrippedNumber.{decimal_of}
 use Rattle.ijson_number.specs.private.WordText.{integer_text}
 use Rattle.ijson_number.specs.Text.{num_text}
@@ -76,31 +77,42 @@ returns-in_err-push_integer c =
       rows = λ _. IfOk-from_err _ _ e;
     }
 
--- a list of digits is in rows as one of few digits alone
-as_digits : (n : Decimal) → is_digits (form_of n) ≡ true → IsRowText n → IsShortInRows n
-as_digits n kept row = elim row [
-  | inl integer ↦ absurd (let none : false ≡ true = sym integer.0 ∙ kept in cc)
-  | inr other ↦ elim other [
-    | inl packed ↦ absurd (let none : false ≡ true = sym (ap is_digits packed.2) ∙ kept in cc)
-    | inr short ↦ short
-  ]
-]
+-- the digits are few and in rows
+record IsShort (digits : List ℕ) (exponent : ℤ) (point : Bool) : Type 0 where
+  point_is : point ≡ true
+  few : length digits ≤ 19
+  small : FitsSigned w16 exponent
+  rows : IsInRows (length digits) exponent
+
+-- a number of a row's text that is stored by its digits has few of them
+as_digits : (n : Decimal) (negative : Bool) (digits : List ℕ) (exponent : ℤ) (point : Bool) → IsStripped digits
+    → n ≡ stored_number negative digits exponent point → is_digits (form_of n) ≡ true → IsRowText n → IsShort digits exponent point
+as_digits n negative digits exponent point stripped is kept row =
+    let are : stripped_digits n ≡ digits = ap stripped_digits is ∙ stored_digits_are negative digits exponent point stripped in
+    let e : n.exponent ≡ exponent = ap (λ (x : Decimal). x.exponent) is in
+    elim row [
+      | inl integer ↦ absurd (let none : false ≡ true = sym integer.0 ∙ kept in cc)
+      | inr other ↦ elim other [
+        | inl packed ↦ absurd (let none : false ≡ true = sym (ap is_digits packed.2) ∙ kept in cc)
+        | inr short ↦ record {
+          point_is = sym (ap (λ (x : Decimal). x.point) is) ∙ short.1;
+          few = rw are at short.2;
+          small = rw e at short.3;
+          rows = rw (are, e) at short.4;
+        }
+      ]
+    ]
 
 -- the digits that are passed on are those of the number
 pub returns-in-Short-clause-rows : goal.returns-in-Short-clause-rows
 returns-in-Short-clause-rows c row =
     let n = c.stripped.result in
-    let d = c.args.self.now.decimal in
-    let is : d ≡ decimal_of n = sym (ap (λ (x : Num). x.decimal) c.self.view_is) ∙ ap stored_decimal c.in-Short.is
+    let is : c.args.self.now.decimal ≡ decimal_of n = sym (ap (λ (x : Num). x.decimal) c.self.view_is) ∙ ap stored_decimal c.in-Short.is
     ∙ ap (λ (x : ShortNumber). form_number (short_form x)) (sym c.deref.ensures) ∙ sym c.stripped.ensures.number in
-    let digits : stripped_digits d ≡ n.digits.now = ap stripped_digits is
-    ∙ stored_digits_are n.negative n.digits.now n.exponent n.point n.stripped.stripped in
-    let e : d.exponent ≡ n.exponent = ap (λ (x : Decimal). x.exponent) is in
-    let p : n.point ≡ d.point = sym (ap (λ (x : Decimal). x.point) is) in
-    let kept : is_digits (form_of d) ≡ true = ap (λ (x : Num). is_digits (form_of x.decimal)) (sym c.self.view_is)
+    let kept : is_digits (form_of c.args.self.now.decimal) ≡ true = ap (λ (x : Num). is_digits (form_of x.decimal)) (sym c.self.view_is)
     ∙ ap is_digits c.self.invariant ∙ ap (λ s. is_digits (stored_form s)) c.in-Short.is in
-    let short = as_digits d kept row in
-    c.push_digits.ensures.rows (p ∙ short.1) (rw (digits, e) at short.4)
+    let short = as_digits c.args.self.now.decimal n.negative n.digits.now n.exponent n.point n.stripped.stripped is kept row in
+    c.push_digits.ensures.rows short.point_is short.rows
 
 pub returns-in-Long-clause-pushed : goal.returns-in-Long-clause-pushed
 returns-in-Long-clause-pushed c = refl
@@ -109,16 +121,9 @@ returns-in-Long-clause-pushed c = refl
 pub returns-in-Long-clause-rows : goal.returns-in-Long-clause-rows
 returns-in-Long-clause-rows c row =
     let n = c.in-Long.field-0.value in
-    let d = c.args.self.now.decimal in
-    let is : d ≡ stored_number n.negative n.digits.items n.exponent n.point = sym (ap (λ (x : Num). x.decimal) c.self.view_is)
-    ∙ ap stored_decimal c.in-Long.is in
-    let digits : stripped_digits d ≡ n.digits.items = ap stripped_digits is
-    ∙ stored_digits_are n.negative n.digits.items n.exponent n.point n.stripped.stripped in
-    let e : d.exponent ≡ n.exponent = ap (λ (x : Decimal). x.exponent) is in
-    let kept : is_digits (form_of d) ≡ true = ap (λ (x : Num). is_digits (form_of x.decimal)) (sym c.self.view_is)
+    let kept : is_digits (form_of c.args.self.now.decimal) ≡ true = ap (λ (x : Num). is_digits (form_of x.decimal)) (sym c.self.view_is)
     ∙ ap is_digits c.self.invariant ∙ ap (λ s. is_digits (stored_form s)) c.in-Long.is in
-    let short = as_digits d kept row in
-    let small : FitsSigned w16 n.exponent = rw e at short.3 in
-    let many : 19 < length n.digits.items = n.many small in
-    let count : length n.digits.items ≤ 19 = rw digits at short.2 in
-    absurd (let none : ⊥ = omega (arith, many, count) in none)
+    let short = as_digits c.args.self.now.decimal n.negative n.digits.items n.exponent n.point n.stripped.stripped
+    (sym (ap (λ (x : Num). x.decimal) c.self.view_is) ∙ ap stored_decimal c.in-Long.is) kept row in
+    let many : 19 < length n.digits.items = n.many short.small in
+    absurd (let none : ⊥ = omega (arith, many, short.few) in none)
