@@ -135,7 +135,10 @@ impl<V: Drop, H: KeyHash> Table<V, H> {
     {
         let hash = H::hash(key.as_str());
         match self.find(hash, key.as_str(), looks) {
-            Probed::Found(at, _) => Ok(Some(self.replace_at(at, value))),
+            Probed::Found(at, _) => {
+                drop(key);
+                Ok(Some(self.replace_at(at, value)))
+            }
             Probed::Vacant(slot) if self.pairs.len() < self.pairs.capacity() => {
                 self.push_at(slot, key, value, hash);
                 Ok(None)

@@ -169,6 +169,7 @@ impl<V: Drop, H: KeyHash> Table<V, H> {
         let mut looks = Looks::new();
         match self.find(hash, key.as_str(), &mut looks) {
             Probed::Found(at, _) => {
+                drop(key);
                 drop(self.replace_at(at, value));
                 looks.count() as usize
             }
