@@ -56,8 +56,13 @@ fn clone_pairs(
     let mut copies = Vec::with_capacity(alloc, pairs.len())?;
     for pair in pairs {
         let key = pair.0.clone()?;
-        let value = clone_value(&pair.1)?;
-        copies.push_reserved((key, value));
+        match clone_value(&pair.1) {
+            Ok(value) => copies.push_reserved((key, value)),
+            Err(refused) => {
+                drop(key);
+                return Err(refused);
+            }
+        }
     }
     Ok(copies)
 }

@@ -101,10 +101,13 @@ impl IObject {
         ensures* rests { sem 𝓛 (RestsIfNoEntry self.entry result) }
     {
         match self.position(key.as_str()) {
-            Some(index) => Ok(Entry::Occupied(OccupiedEntry {
-                object: self,
-                index,
-            })),
+            Some(index) => {
+                drop(key);
+                Ok(Entry::Occupied(OccupiedEntry {
+                    object: self,
+                    index,
+                }))
+            }
             None => match self.reserve(1) {
                 Ok(()) => Ok(Entry::Vacant(VacantEntry { object: self, key })),
                 Err(why) => Err(RefusedKey { key, why }),

@@ -212,7 +212,10 @@ impl IObject {
             × (refused.value ≡ null_value) × FindsNoRoom self.old key refused.why) }
     {
         match self.position(key.as_str()) {
-            Some(position) => Ok(self.value_mut(position)),
+            Some(position) => {
+                drop(key);
+                Ok(self.value_mut(position))
+            }
             None => match self.reserve(1) {
                 Ok(()) => {
                     let position = self.len();

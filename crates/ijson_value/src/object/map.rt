@@ -14,7 +14,7 @@ use ijson_string::IString;
 use ijson_table::{FixedTable, PairStore, ReserveError};
 use std::alloc::Global;
 use std::marker::Model;
-use std::mem::size_of;
+use std::mem::{self, size_of};
 
 /// Pairs of a key and a value in order, where no key stands twice. A key is found by its hash, however many there are.
 /// It lies behind one pointer, and an object that has taken no memory yet is without it. It takes 16 bytes, and beside them the
@@ -112,7 +112,10 @@ impl IObject {
                 table: Some(table),
                 alloc,
             }),
-            Err(_) => Err(ReserveError::Memory),
+            Err(refused) => {
+                drop(refused);
+                Err(ReserveError::Memory)
+            }
         }
     }
 
@@ -159,16 +162,8 @@ impl IObject {
         }
         let mut table = FixedTable::new(self.alloc);
         table.reserve(additional)?;
-        match Box::new(self.alloc, table) {
-            Ok(table) => {
-                self.table = Some(table);
-                Ok(())
-            }
-            Err(refused) => {
-                drop(refused);
-                Err(ReserveError::Memory)
-            }
-        }
+        drop(mem::replace(self, IObject::of_table(self.alloc, table)?));
+        Ok(())
     }
 
     /// Makes the capacity the length. That takes no memory where it is so already or the length is 0. Each pair is moved once.

@@ -65,8 +65,8 @@ clone_items-returns t c =
 pub clone_pairs-loop-pair-preserved : goal.clone_pairs-loop-pair-preserved
 clone_pairs-loop-pair-preserved t c =
     let key : c.in_ok-key.key ≡ c.pair-item.result.0 = c.in_ok-key.ensures.cases in
-    let value : c.in_ok-value.value ≡ c.pair-item.result.1 = c.in_ok-value.ensures in (
-      one_more c.args.pairs.now c.loop-pair.pair-index c.pair-item.result (c.in_ok-key.key, c.in_ok-value.value)
+    let value : c.in-Ok.value ≡ c.pair-item.result.1 = c.in-Ok.ensures in (
+      one_more c.args.pairs.now c.loop-pair.pair-index c.pair-item.result (c.in_ok-key.key, c.in-Ok.value)
           c.loop-pair.copies.items c.push_reserved.new.self.items c.push_reserved.ensures.items
           c.loop-pair.invariant.0 (λ i. (key i, value i)) c.loop-pair-test.true c.pair-item.is,
       c.push_reserved.ensures.capacity ∙ c.loop-pair.invariant.1,

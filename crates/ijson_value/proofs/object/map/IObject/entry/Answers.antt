@@ -25,11 +25,11 @@ returns-in-Ok c =
       record { same_object = refl; found = (a.gone, r.pairs, r.growth); key = refl; value = a.none; update = up; refused = tt; rests = tt },
     )
 
-pub returns : goal.returns
-returns c =
+pub returns-in-Err : goal.returns-in-Err
+returns-in-Err c =
     let old : Store WellFormed = c.args.self.now in let new : Store WellFormed = c.reserve.new.self in
     let why = c.in-Err.why in let growth = c.in-Err.ensures.growth in
-    let no_room = finds_no_room old c.args.key why new.capacity (absent (goal.at.returns c).In-None) growth in (
+    let no_room = finds_no_room old c.args.key why new.capacity (absent (goal.at.returns-in-Err c).In-None) growth in (
       (refl, λ w. tt, refused_same old new why growth c.in-Err.ensures.pairs),
       record { same_object = tt; found = tt; key = tt; value = tt; update = tt; refused = (refl, no_room); rests = tt },
     )

@@ -59,8 +59,8 @@ returns-in-Ok c =
       },
     )
 
-pub returns : goal.returns
-returns c =
+pub returns-in-Err : goal.returns-in-Err
+returns-in-Err c =
     let old : Store WellFormed = c.args.self.now in let key = c.args.key in let new : Store WellFormed = c.reserve.new.self in
     let missing : at old.pairs key ≡ None = placed old.pairs c.as_str.ensures c.position.ensures.position c.in-None.is in
     let why = c.in-Err.why in let growth = c.in-Err.ensures.growth in
