@@ -145,7 +145,13 @@ fn read_object<'a, S: BuildHasher>(
     let base = scratch.members.len();
     loop {
         let (key, start) = read_key(cache, &mut scratch.content, rest)?;
-        let (value, after) = read_value(alloc, cache, scratch, start, opened + 1)?;
+        let (value, after) = match read_value(alloc, cache, scratch, start, opened + 1) {
+            Ok((value, after)) => (value, after),
+            Err(fault) => {
+                drop(key);
+                return Err(fault);
+            }
+        };
         match push_read(&mut scratch.members, (key, value), after, b'}')? {
             Separator::Comma(next) => rest = next,
             Separator::End(behind) => {

@@ -181,40 +181,39 @@ read_object-returns-in_err-key g t c =
           i.written c.in_err-key.field-0.0 i.reached (c.in_err-key.ensures.answer (c.args.opened + 1));
     })
 
-pub read_object-returns-in_err-value : goal.read_object-returns-in_err-value
-read_object-returns-in_err-value g t c =
-    let p = err_from_is_err_and c.from_residual-in_err-value.result c.from_residual-in_err-value.ensures.1 in
+pub read_object-returns-in-Err : goal.read_object-returns-in-Err
+read_object-returns-in-Err g t c =
     let i = c.loop-key.invariant.read in
     let key = c.in_ok-key.ensures.answer.read in
-    let fault = c.in_err-value.field-0.0 in
-    rw (p.1, p.2) (record {
+    let fault = c.in-Err.fault in
+    record {
       cache = gathered_adds i (adds_behind_key key c.read_key.ensures.cache c.read_value.ensures.cache);
       answer = element_fault (List ℕ × Tree) members_shape objects c.args.opened (123 ∷ c.args.inside.now) c.loop-key.rest.now
-          i.written fault i.reached (member_fault (c.args.opened + 1) fault key c.in_err-value.ensures.answer);
-    })
+          i.written fault i.reached (member_fault (c.args.opened + 1) fault key c.in-Err.ensures.answer);
+    }
 
 pub read_object-returns-in_err-next : goal.read_object-returns-in_err-next
 read_object-returns-in_err-next g t c =
     let p = err_from_is_err_and c.from_residual-in_err-next.result c.from_residual-in_err-next.ensures.1 in
     let i = c.loop-key.invariant.read in
     let key = c.in_ok-key.ensures.answer.read in
-    let value = c.in_ok-value.ensures.answer.read in
+    let value = c.in-Ok.ensures.answer.read in
     rw (p.1, p.2) (record {
       cache = gathered_adds i (adds_behind_key key c.read_key.ensures.cache c.read_value.ensures.cache);
       answer = push_fault (List ℕ × Tree) members_shape objects c.args.opened (123 ∷ c.args.inside.now) c.loop-key.rest.now
-          c.in_ok-value.after.now i.written (c.in_ok-key.key, value.0) c.in_err-next.field-0.0 i.reached
+          c.in-Ok.after.now i.written (c.in_ok-key.key, value.0) c.in_err-next.field-0.0 i.reached
           (member_read key value.1) c.in_err-next.ensures.fault;
     })
 
 pub read_object-loop-key-preserved : goal.read_object-loop-key-preserved
 read_object-loop-key-preserved g t c =
     let key = c.in_ok-key.ensures.answer in
-    let found = c.in_ok-value.ensures.answer in
+    let found = c.in-Ok.ensures.answer in
     let value = found.read in
     let name = c.in_ok-key.key in
-    let comma = subst (λ (s : Separator). SeparatorAt 125 c.in_ok-value.after.now s) c.in-Comma.is c.in_ok-next.ensures.separator in
+    let comma = subst (λ (s : Separator). SeparatorAt 125 c.in-Ok.after.now s) c.in-Comma.is c.in_ok-next.ensures.separator in
     record {
-      read = gathered_more c.loop-key.invariant.read (name, c.in_ok-value.value) (name, value.0) c.in_ok-value.after.now c.in-Comma.next.now
+      read = gathered_more c.loop-key.invariant.read (name, c.in-Ok.value) (name, value.0) c.in-Ok.after.now c.in-Comma.next.now
           c.read_value.new.scratch.members.items c.push_read.new.stack.items c.read_value.new.cache
           (member_read key.read value.1) (refl, value.2) comma found.members c.in_ok-next.ensures.pushed
           (adds_behind_key key.read c.read_key.ensures.cache c.read_value.ensures.cache) (
@@ -236,16 +235,16 @@ pub read_object-returns-in-End : goal.read_object-returns-in-End
 read_object-returns-in-End g t c =
     let i = c.loop-key.invariant.read in
     let key = c.in_ok-key.ensures.answer in
-    let found = c.in_ok-value.ensures.answer in
+    let found = c.in-Ok.ensures.answer in
     let value = found.read in
     let name = c.in_ok-key.key in
-    let end = subst (λ (s : Separator). SeparatorAt 125 c.in_ok-value.after.now s) c.in-End.is c.in_ok-next.ensures.separator in
+    let end = subst (λ (s : Separator). SeparatorAt 125 c.in-Ok.after.now s) c.in-End.is c.in_ok-next.ensures.separator in
     let adds = adds_behind_key key.read c.read_key.ensures.cache c.read_value.ensures.cache in
     let pushed = c.push_read.new.stack.items in
     let base = c.len-base.ensures ∙ c.args.scratch.now.members.ok.0 in
-    let taken = gathered_taken i (name, c.in_ok-value.value) c.read_value.new.scratch.members.items pushed _ c.len-base.result found.members
+    let taken = gathered_taken i (name, c.in-Ok.value) c.read_value.new.scratch.members.items pushed _ c.len-base.result found.members
     c.in_ok-next.ensures.pushed base refl in
-    let shared = gathered_share i (name, c.in_ok-value.value) c.read_value.new.cache adds (
+    let shared = gathered_share i (name, c.in-Ok.value) c.read_value.new.cache adds (
       shared_more c.in_ok-key.start.now c.read_key.new.cache c.read_value.new.cache name c.read_value.ensures.cache key.shared,
       found.shared,
     ) in
@@ -254,17 +253,17 @@ read_object-returns-in-End g t c =
       answer = record {
         read = (
           object (members_of (i.written ++ (name, value.0) ∷ [])),
-          gathered_end i (name, value.0) c.in_ok-value.after.now c.in-End.behind.now (member_read key.read value.1) end,
+          gathered_end i (name, value.0) c.in-Ok.after.now c.in-End.behind.now (member_read key.read value.1) end,
           ap (λ (v : WellFormed). v.tree) c.from-in-End.ensures
               ∙ ap (λ ps. object (members_of ps)) (ap (map pair_tree) (c.in_ok-object-in-End.ensures.members ∙ ap (put_each []) taken)
-              ∙ kept_members.push i.kept i.written (name, c.in_ok-value.value) (name, value.0) (refl, value.2) i.are),
+              ∙ kept_members.push i.kept i.written (name, c.in-Ok.value) (name, value.0) (refl, value.2) i.are),
         );
         shared = subst (λ (v : WellFormed). AreShared c.read_value.new.cache v.tree) (sym c.from-in-End.ensures)
             (subst (λ (ps : List (List ℕ × WellFormed)). MembersAreShared c.read_value.new.cache (pair_trees ps))
             (sym c.in_ok-object-in-End.ensures.members)
             (subst (kept_members.AllShare c.read_value.new.cache) (sym taken) shared));
         values = found.values ∙ c.loop-key.invariant.values;
-        members = gathered_left i (name, c.in_ok-value.value) c.read_value.new.scratch.members.items pushed _ c.len-base.result
+        members = gathered_left i (name, c.in-Ok.value) c.read_value.new.scratch.members.items pushed _ c.len-base.result
             found.members c.in_ok-next.ensures.pushed base c.in_ok-object-in-End.ensures.stack;
       };
     }
