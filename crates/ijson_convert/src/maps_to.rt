@@ -35,8 +35,13 @@ fn pair_of<T: ToIValue, S: BuildHasher>(
         × SomeInterned (key.now ∷ texts_of (T.ToIValue.tree x.now)) cache.old cache.new) }
 {
     let key = IString::intern(cache, key)?;
-    let value = x.to_ivalue(alloc, cache)?;
-    Ok((key, value))
+    match x.to_ivalue(alloc, cache) {
+        Ok(value) => Ok((key, value)),
+        Err(error) => {
+            drop(key);
+            Err(error)
+        }
+    }
 }
 
 /// The object of the entries of a map, in the order in which the map gives them. Its capacity is their count, which is told. Its

@@ -125,8 +125,13 @@ pub fn from_serde_map<S: BuildHasher>(
     let mut pairs = Vec::with_capacity(alloc, map.len())?;
     for (key, member) in map.iter() {
         let key = IString::intern(cache, key.as_str())?;
-        let value = from_serde(alloc, cache, member)?;
-        pairs.push_reserved((key, value));
+        match from_serde(alloc, cache, member) {
+            Ok(value) => pairs.push_reserved((key, value)),
+            Err(error) => {
+                drop(key);
+                return Err(error);
+            }
+        }
     }
     Ok(IObject::from_pairs(alloc, pairs)?)
 }

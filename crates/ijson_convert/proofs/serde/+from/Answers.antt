@@ -151,24 +151,22 @@ from_serde_map-returns-in_err-key-clause-begun g t c =
     (none_interned (entry_texts e) c.loop-key.cache) in
     rw p.1 (member_begun g t (goal.at.from_serde_map-returns-in_err-key-clause-begun g t c).After-intern c.intern.new.cache nothing)
 
-pub from_serde_map-returns-in_err-value-clause-refused : goal.from_serde_map-returns-in_err-value-clause-refused
-from_serde_map-returns-in_err-value-clause-refused g t c =
-    let p = err_from_is_err_and c.from_residual-in_err-value.result c.from_residual-in_err-value.ensures.1 in
+pub from_serde_map-returns-in-Err-clause-refused : goal.from_serde_map-returns-in-Err-clause-refused
+from_serde_map-returns-in-Err-clause-refused g t c =
     let e : Entry = (c.in-Some.key.now, c.in-Some.member.now) in
-    let parts = member_parts g t (goal.at.from_serde_map-returns-in_err-value-clause-refused g t c).After-intern in
-    rw (p.1, p.2) (refused_too (λ none. subst (λ es. HasNoTree (serde.object (members_view es))) parts
-    (object_none c.loop-key.invariant.done e c.next.new.self none)) c.in_err-value.ensures.refused)
+    let parts = member_parts g t (goal.at.from_serde_map-returns-in-Err-clause-refused g t c).After-intern in
+    refused_too (λ none. subst (λ es. HasNoTree (serde.object (members_view es))) parts
+    (object_none c.loop-key.invariant.done e c.next.new.self none)) c.in-Err.ensures.refused
 
-pub from_serde_map-returns-in_err-value-clause-begun : goal.from_serde_map-returns-in_err-value-clause-begun
-from_serde_map-returns-in_err-value-clause-begun g t c =
-    let p = err_from_is_err_and c.from_residual-in_err-value.result c.from_residual-in_err-value.ensures.1 in
+pub from_serde_map-returns-in-Err-clause-begun : goal.from_serde_map-returns-in-Err-clause-begun
+from_serde_map-returns-in-Err-clause-begun g t c =
     let e : Entry = (c.in-Some.key.now, c.in-Some.member.now) in
     let new = c.from_serde.new.cache in
     let keyed : c.intern.new.cache ≡ all_interned (string_bytes e.0 ∷ []) c.loop-key.cache =
     c.in_ok-key.ensures.cache ∙ ap (λ k. interned k c.loop-key.cache) c.as_str.ensures.value in
-    let behind = subst (λ m. SomeInterned (serde_texts (view e.1)) m new) keyed c.in_err-value.ensures.begun in
-    rw p.1 (member_begun g t (goal.at.from_serde_map-returns-in_err-value-clause-begun g t c).After-intern new
-    (some_behind (string_bytes e.0 ∷ []) (serde_texts (view e.1)) c.loop-key.cache new behind))
+    let behind = subst (λ m. SomeInterned (serde_texts (view e.1)) m new) keyed c.in-Err.ensures.begun in
+    member_begun g t (goal.at.from_serde_map-returns-in-Err-clause-begun g t c).After-intern new
+    (some_behind (string_bytes e.0 ∷ []) (serde_texts (view e.1)) c.loop-key.cache new behind)
 
 pub from_serde_map-push_reserved-requires : goal.from_serde_map-push_reserved-requires
 from_serde_map-push_reserved-requires g t c =
@@ -181,9 +179,9 @@ from_serde_map-loop-key-preserved g t c =
     let left = c.next.new.self in
     let new = c.from_serde.new.cache in
     let old = c.loop-key.pairs.items in
-    let u = c.in_ok-value.value in
-    let read = entry_interned e c.in_ok-value.value.tree c.as_str.result.now c.loop-key.cache c.intern.new.cache new
-    c.in_ok-key.ensures.cache c.as_str.ensures.value c.in_ok-value.ensures.cache c.in_ok-value.ensures.tree in
+    let u = c.in-Ok.value in
+    let read = entry_interned e c.in-Ok.value.tree c.as_str.result.now c.loop-key.cache c.intern.new.cache new
+    c.in_ok-key.ensures.cache c.as_str.ensures.value c.in-Ok.ensures.cache c.in-Ok.ensures.tree in
     let pushed : c.push_reserved.new.self.items ≡ old ++ (c.in_ok-key.key, u) ∷ [] = search rules in
     let room : vec_capacity c.push_reserved.new.self ≡ vec_capacity c.loop-key.pairs = search rules in
     let more = length-append old ((c.in_ok-key.key, u) ∷ []) in
@@ -192,7 +190,7 @@ from_serde_map-loop-key-preserved g t c =
       done = done ++ e ∷ [];
       parts = c.loop-key.invariant.parts ∙ ap (λ es. done ++ es) c.in-Some.ensures.steps ∙ sym (append_assoc done (e ∷ []) left);
       trees = subst (λ ps. SerdeMembers (members_view (done ++ e ∷ [])) (pair_trees ps)) (sym last)
-          (members_more done old e u c.loop-key.invariant.trees c.in_ok-value.ensures.tree);
+          (members_more done old e u c.loop-key.invariant.trees c.in-Ok.ensures.tree);
       texts = interned_more entry_texts done e c.args.cache.now c.loop-key.cache new c.loop-key.invariant.texts read;
       room = omega (arith, room, ap length pushed, more, c.loop-key.invariant.room, ap length c.in-Some.ensures.steps);
     }
