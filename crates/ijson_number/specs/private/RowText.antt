@@ -7,33 +7,47 @@ use Rattle.ijson_number.specs.Form.{form_of, is_digits, packed}
 use Rattle.ijson_number.specs.StrippedDigits.{stripped_digits}
 
 -- the point stands between two of so many digits, of which a row has those before it, and a row those behind it
-abbrev pub IsSplit : ℕ → ℤ → Type 0
-IsSplit count e = (e <ℤ pos 0) × (nat_abs e < count) × (nat_abs e ≤ 16) × (count ≤ nat_abs e + 16)
+pub record IsSplit (count : ℕ) (e : ℤ) : Type 0 where
+  pub below_zero : e <ℤ pos 0
+  pub between : nat_abs e < count
+  pub behind : nat_abs e ≤ 16
+  pub before : count ≤ nat_abs e + 16
 
 -- the point stands before all of them
-abbrev pub IsBelowOne : ℕ → ℤ → Type 0
-IsBelowOne count e = (e <ℤ pos 0) × (count ≤ nat_abs e) × (nat_abs e ≤ count + 5)
+pub record IsBelowOne (count : ℕ) (e : ℤ) : Type 0 where
+  pub below_zero : e <ℤ pos 0
+  pub before_all : count ≤ nat_abs e
+  pub no_exponent : nat_abs e ≤ count + 5
 
 -- an exponent stands behind two of them to 17
-abbrev pub IsScientific : ℕ → ℤ → Type 0
-IsScientific count e =
-    ((int_le (pos count +ℤ e) (negsuc 5) || int_lt (pos 20) e) ≡ true) × (1 < count) × (count ≤ 17)
+pub record IsScientific (count : ℕ) (e : ℤ) : Type 0 where
+  pub exponent : (int_le (pos count +ℤ e) (negsuc 5) || int_lt (pos 20) e) ≡ true
+  pub some : 1 < count
+  pub few : count ≤ 17
 
 abbrev pub IsInRows : ℕ → ℤ → Type 0
 IsInRows count e = IsSplit count e ⊎ IsBelowOne count e ⊎ IsScientific count e
 
 -- an integer that a word holds
-abbrev pub IsWordInteger : Decimal → Type 0
-IsWordInteger n = (is_digits (form_of n) ≡ false) × (n.point ≡ false)
+pub record IsWordInteger (n : Decimal) : Type 0 where
+  pub in_word : is_digits (form_of n) ≡ false
+  pub integer : n.point ≡ false
 
 -- a packed number with the point, whose text has no exponent, and no zeros behind the digits but one behind the point
-abbrev pub IsPackedPointed : Decimal → Type 0
-IsPackedPointed n = (m : ℤ) × (e : ℤ) × (form_of n ≡ packed m e true) × (e ≤ℤ pos 0) × ((neg_ℤ (pos 6) ≤ℤ e) ⊎ (10 ≤ nat_abs m))
+pub record IsPackedPointed (n : Decimal) : Type 0 where
+  pub mantissa : ℤ
+  pub exponent : ℤ
+  pub form : form_of n ≡ packed mantissa exponent true
+  pub no_zeros : exponent ≤ℤ pos 0
+  pub no_exponent : (neg_ℤ (pos 6) ≤ℤ exponent) ⊎ (10 ≤ nat_abs mantissa)
 
 -- digits in a block of 24 bytes
-abbrev pub IsShortInRows : Decimal → Type 0
-IsShortInRows n = (is_digits (form_of n) ≡ true) × (n.point ≡ true) × (length (stripped_digits n) ≤ 19)
-    × FitsSigned w16 n.exponent × IsInRows (length (stripped_digits n)) n.exponent
+pub record IsShortInRows (n : Decimal) : Type 0 where
+  pub by_digits : is_digits (form_of n) ≡ true
+  pub pointed : n.point ≡ true
+  pub few : length (stripped_digits n) ≤ 19
+  pub small : FitsSigned w16 n.exponent
+  pub rows : IsInRows (length (stripped_digits n)) n.exponent
 
 abbrev pub IsRowText : Decimal → Type 0
 IsRowText n = IsWordInteger n ⊎ IsPackedPointed n ⊎ IsShortInRows n

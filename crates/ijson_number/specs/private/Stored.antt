@@ -30,7 +30,7 @@ stored_decimal stored = form_number (stored_form stored)
 abbrev pub IsForm : Stored → Type 0
 IsForm stored = form_of (stored_decimal stored) ≡ stored_form stored
 
--- its digits are few, in the number itself
+-- its digits are few, in one block with the sign and the exponent
 abbrev pub IsShort : Stored → Type 0
 IsShort (Short number) = ⊤
 IsShort (Long number) = ⊥
@@ -38,7 +38,7 @@ IsShort (Packed word) = ⊥
 IsShort (I64 value) = ⊥
 IsShort (U64 value) = ⊥
 
--- a copy has the form of the other, and few digits in itself where the other has
+-- a copy has the form of the other, and is stored as few digits exactly where the other is
 pub record IsCopy (stored copy : Stored) : Type 0 where
   pub form : stored_form copy ≡ stored_form stored
   pub short : IsShort stored ↔ IsShort copy

@@ -94,7 +94,7 @@ impl Prefix {
         }
         let (number, left) = without_zeros(self.magnitude, WORD_DIGITS);
         let exponent = power - self.scale as i16 + (WORD_DIGITS - left) as i16;
-        // a word may hold a number whose stripped exponent is from -7 to 26
+        // no word holds a number whose stripped exponent is below -7, or from 27 on
         if -8 < exponent && exponent < 27 {
             return None;
         }

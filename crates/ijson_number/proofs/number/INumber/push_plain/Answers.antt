@@ -91,14 +91,14 @@ as_digits n negative digits exponent point stripped is kept row =
     let are : stripped_digits n ≡ digits = ap stripped_digits is ∙ stored_digits_are negative digits exponent point stripped in
     let e : n.exponent ≡ exponent = ap (λ (x : Decimal). x.exponent) is in
     elim row [
-      | inl integer ↦ absurd (let none : false ≡ true = sym integer.0 ∙ kept in cc)
+      | inl integer ↦ absurd (let none : false ≡ true = sym integer.in_word ∙ kept in cc)
       | inr other ↦ elim other [
-        | inl packed ↦ absurd (let none : false ≡ true = sym (ap is_digits packed.2) ∙ kept in cc)
+        | inl packed ↦ absurd (let none : false ≡ true = sym (ap is_digits packed.form) ∙ kept in cc)
         | inr short ↦ record {
-          point_is = sym (ap (λ (x : Decimal). x.point) is) ∙ short.1;
-          few = rw are at short.2;
-          small = rw e at short.3;
-          rows = rw (are, e) at short.4;
+          point_is = sym (ap (λ (x : Decimal). x.point) is) ∙ short.pointed;
+          few = rw are at short.few;
+          small = rw e at short.small;
+          rows = rw (are, e) at short.rows;
         }
       ]
     ]

@@ -46,7 +46,7 @@ returns-then-self-ge0-clause-pushed c = c.push_unsplit.ensures.pushed
 
 pub returns-then-self-ge0-clause-rows : goal.returns-then-self-ge0-clause-rows
 returns-then-self-ge0-clause-rows c _ rows = elim rows [
-  | inl split ↦ (let a = split.0 in let b = split.1 in grind (arith, common_steps))
+  | inl split ↦ (let a = split.below_zero in let b = split.between in grind (arith, common_steps))
   | inr unsplit ↦ c.push_unsplit.ensures.rows unsplit
 ]
 
@@ -55,9 +55,9 @@ returns-then-scale-gt-LANES-clause-pushed c = refl
 
 pub returns-then-scale-gt-LANES-clause-rows : goal.returns-then-scale-gt-LANES-clause-rows
 returns-then-scale-gt-LANES-clause-rows c _ rows = elim rows [
-  | inl split ↦ (let a = split.2 in let b = split.3 in grind (arith, common_steps))
+  | inl split ↦ (let a = split.behind in let b = split.before in grind (arith, common_steps))
   | inr unsplit ↦ elim unsplit [
-    | inl below ↦ (let a = below.1 in grind (arith, common_steps))
-    | inr power ↦ (let a = power.0 in let b = power.1 in let d = power.2 in grind (arith, common_steps))
+    | inl below ↦ (let a = below.before_all in grind (arith, common_steps))
+    | inr power ↦ (let a = power.exponent in let b = power.some in let d = power.few in grind (arith, common_steps))
   ]
 ]

@@ -161,8 +161,8 @@ returns-then-place-gt0-clause-pushed c = refl
 
 pub returns-then-place-gt0-clause-rows : goal.returns-then-place-gt0-clause-rows
 returns-then-place-gt0-clause-rows c rows = elim rows [
-  | inl below ↦ (let a = below.0 in let b = below.1 in grind (arith, common_steps))
-  | inr power ↦ (let a = power.0 in search rules)
+  | inl below ↦ (let a = below.below_zero in let b = below.before_all in grind (arith, common_steps))
+  | inr power ↦ (let a = power.exponent in search rules)
 ]
 
 pub returns-then-count-lt2-clause-pushed : goal.returns-then-count-lt2-clause-pushed
@@ -170,8 +170,8 @@ returns-then-count-lt2-clause-pushed c = refl
 
 pub returns-then-count-lt2-clause-rows : goal.returns-then-count-lt2-clause-rows
 returns-then-count-lt2-clause-rows c rows = elim rows [
-  | inl below ↦ (let a = below.0 in let b = below.1 in grind (arith, common_steps))
-  | inr power ↦ (let a = power.1 in let b = power.2 in search rules)
+  | inl below ↦ (let a = below.below_zero in let b = below.before_all in grind (arith, common_steps))
+  | inr power ↦ (let a = power.some in let b = power.few in search rules)
 ]
 
 pub push_fraction-requires-clause-all : goal.push_fraction-requires-clause-all
