@@ -11,7 +11,7 @@ followers_size = 128
 abbrev pub text_size : List ℕ → ℕ
 text_size text = length text % 2 ^ 32
 
--- no text, since none that is sought has this length
+-- what stands in a slot that nothing was put into yet
 abbrev pub no_follower : Follower
 no_follower = record { position = 0; size = 0 }
 

@@ -12,7 +12,7 @@ struct Follower {
     size: u32,
 }
 
-/// What stands in a slot that nothing was put into yet. No text that is sought has this length.
+/// What stands in a slot that nothing was put into yet: a guess like any other, at a length that few texts have in 32 bits.
 const NONE: Follower = Follower {
     position: 0,
     size: 0,
