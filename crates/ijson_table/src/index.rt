@@ -2,6 +2,7 @@
 //! is a list of its own, which knows of the keys no more than their hashes.
 //!
 //! - `slot`: what stands at one slot, and the count that hashes are reduced by.
+//! - `slots`: how the slots are stored, by how many they are.
 //! - `places`: the trait of a table whose slots can be looked at, and `locate`, the look-up whose looks are counted.
 //! - `probe`: the one walk over the slots, which each look-up and each shift begins with.
 //! - `forward`: how residents make room for one more, in whichever form they are stored.
@@ -58,7 +59,7 @@ impl Model for Index {
 
 impl Index {
     /// No slots. They take no memory.
-    pub fn new(alloc: Global) -> Index
+    pub fn new() -> Index
         ensures hashes { result.hashes ≡ [] }
         ensures slots { result.slots ≡ [] }
     {

@@ -62,7 +62,7 @@ impl<V: Drop> From<RefusedPair<V>> for ReserveError {
 /// A list of pairs with distinct keys, and a capacity: the number of pairs that it has room for. A list takes 16 bytes and
 /// those of a value for each pair of its capacity. A table takes 20 more for each, but up to a capacity of 127 it takes 4, and up to
 /// 8 none. When it grows, shrinks or is copied it hashes no key again where it has room for more than 127 pairs before and
-/// after, and else each key once.
+/// after, or where a copy has as many slots, and else each key once.
 pub trait PairStore<V>: Sized {
     /// The pairs, in order.
     ghost pairs: { Self → List (List ℕ × V) };

@@ -435,7 +435,7 @@ impl<V: Drop, H: KeyHash> PairStore<V> for Table<V, H> {
     fn new(alloc: Global) -> Self {
         Table {
             pairs: Vec::new(alloc),
-            index: Index::new(alloc),
+            index: Index::new(),
             alloc,
             hash: PhantomData,
         }

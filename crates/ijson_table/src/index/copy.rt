@@ -17,7 +17,7 @@ use std::alloc::{AllocError, Global};
 
 /// How many steps a position may take, on average over all of them, before the slots are filled by sorting. With keys that nobody
 /// chose it takes about three.
-const STEPS_A_RESIDENT: u128 = 32;
+const STEPS_BEFORE_SORTING: u128 = 32;
 
 impl Index {
     /// The same positions, `len` in number, among so many slots, which have room for each. Where there are as many here, the slots are
@@ -70,7 +70,7 @@ impl Index {
         rehash(
             other.slots.as_slice(),
             &mut self.slots,
-            STEPS_A_RESIDENT * len as u128,
+            STEPS_BEFORE_SORTING * len as u128,
             steps,
         )
     }
