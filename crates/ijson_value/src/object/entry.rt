@@ -115,8 +115,8 @@ impl IObject {
         }
     }
 
-    /// The place of a key that is copied only where it is not there, before room is made for it. Where there is no memory for
-    /// the copy or no room, the object is as it was. A copy of a key shares its text, and so takes no memory.
+    /// The place of a key that is copied only where it is not there, before room is made for it. A copy shares the text, and is refused
+    /// alone where the count of its owners is full. Where it is refused, or there is no room, the object is as it was.
     pub fn entry_or_clone(&mut self, key: &IString) -> Result<Entry<'_>, ReserveError>
         ensures same_object { IfOk result (λ e. (entry_object e).ghost_name ≡ self.entry.ghost_name) }
         ensures found { IfOk result (FindsEntry self.old key.now) }
