@@ -5,7 +5,7 @@ ghost use Rattle.std.specs.Option.{unwrap_or};
 ghost use Rattle.ijson_table.specs.Store.{lookup, put};
 ghost use Rattle.ijson_value.specs.Values.{boolean_value};
 
-use super::{empty_cache, key, set};
+use super::{empty_cache, insert_new, key, parsed, set};
 use ijson_number::INumber;
 use ijson_string::IString;
 use ijson_table::ReserveError;
@@ -117,8 +117,11 @@ fn removals(rt: HostRuntime) {
     let alloc = rt.alloc();
     let mut object = four(&rt, alloc);
     removes(&rt, &mut object, &key(&rt, alloc, "d"));
+    drop(object);
+    let mut object = of_keys(&rt, alloc, &["a", "b", "c"]);
+    assert!(rt; number_in(object.remove("b")) == Some(1) && object.capacity() == 4);
     object.shrink_to_fit().expect(&rt, "less room");
-    assert!(rt; object.capacity() == 2);
+    assert!(rt; has_keys(&object, &["a", "c"]) && object.capacity() == 2);
     drop(object);
 }
 
@@ -174,11 +177,26 @@ fn shift_removals_and_writes(rt: HostRuntime) {
 
 #[test]
 fn room(rt: HostRuntime) {
-    let mut object = five(&rt, rt.alloc());
+    let alloc = rt.alloc();
+    let mut object = IObject::with_capacity(alloc, 8).expect(&rt, "room");
+    insert_new(&rt, &mut object, key(&rt, alloc, "a"), of_number(0));
+    insert_new(&rt, &mut object, key(&rt, alloc, "b"), of_number(1));
     object.clear();
     assert!(rt; object.is_empty() && object.capacity() == 8);
     object.reserve(9).expect(&rt, "room");
     assert!(rt; object.capacity() == 16);
+    drop(object);
+}
+
+#[test]
+fn the_limit(rt: HostRuntime) {
+    let alloc = rt.alloc();
+    let past = 72_057_594_037_927_937;
+    let refused = Some(ReserveError::TooLarge);
+    assert!(rt; IObject::with_capacity(alloc, past).err() == refused);
+    let mut object = of_keys(&rt, alloc, &["a"]);
+    assert!(rt; object.reserve(past - 1).err() == refused);
+    assert!(rt; has_keys(&object, &["a"]) && object.capacity() == 4);
     drop(object);
 }
 
@@ -252,36 +270,66 @@ fn extensions(rt: HostRuntime) {
     drop(object);
 }
 
-static LENGTHS: [&str; 3] = ["id", "interned_string_a", "no"];
-
-/// An object of keys that are kept in place and in the cache, each with its position beside it.
-fn mixed(rt: &impl Abort, alloc: Global) -> IObject {
-    let object = of_keys(rt, alloc, &LENGTHS);
-    assert!(rt; object.len() == 3);
-    for (position, letters) in LENGTHS.iter().enumerate() {
-        assert!(rt; number_at(&object, letters) == position);
+/// An object of these pairs, whose keys are distinct.
+fn of_pairs(rt: &impl Abort, alloc: Global, pairs: &[(&str, usize)]) -> IObject {
+    let mut object = IObject::new(alloc);
+    for &(letters, number) in pairs {
+        insert_new(rt, &mut object, key(rt, alloc, letters), of_number(number));
     }
     object
 }
 
-#[test]
-fn keys_of_each_length(rt: HostRuntime) {
-    let alloc = rt.alloc();
-    let again = IObject::from_iter(alloc, mixed(&rt, alloc)).expect(&rt, "an object");
-    assert!(rt; again == mixed(&rt, alloc) && again.capacity() == 4);
-    drop(again);
+/// Asserts that each number is beside its key.
+fn has_pairs(rt: &impl Abort, object: &IObject, pairs: &[(&str, usize)]) {
+    for &(letters, number) in pairs {
+        assert!(rt; number_at(object, letters) == number);
+    }
 }
 
-/// Asks for the entry of k, and takes the key back: that of a pair that is there comes out with it.
-fn asked(rt: &impl Abort, object: &mut IObject, key: IString) -> IString {
+/// Pairs, and a text of the object that they are. The first keys are kept in place and in the cache.
+static COLLECTED: [(&[(&str, usize)], &str); 2] = [
+    (
+        &[("id", 1), ("interned_string_a", 2), ("no", 3)],
+        r#"{"id":1,"interned_string_a":2,"no":3}"#,
+    ),
+    (&[("0", 0), ("1", 1), ("2", 2)], r#"{"0":0,"1":1,"2":2}"#),
+];
+
+#[test]
+fn pairs_are_collected(rt: HostRuntime) {
+    let alloc = rt.alloc();
+    for &(pairs, text) in &COLLECTED {
+        let object = IObject::from_iter(alloc, of_pairs(&rt, alloc, pairs));
+        let object = object.expect(&rt, "an object");
+        has_pairs(&rt, &object, pairs);
+        assert!(rt; object.len() == 3 && object.capacity() == 4);
+        let read = parsed(&rt, alloc, text);
+        assert!(rt; matches!(read.as_object(), Some(want) if *want == object));
+        drop(read);
+        drop(object);
+    }
+}
+
+/// Asks for the entry of a key, and takes the key back: that of a pair that is there comes out with the number beside it.
+fn asked(
+    rt: &impl Abort,
+    object: &mut IObject,
+    letters: &str,
+    key: IString,
+) -> (IString, Option<usize>) {
     let entry = object.entry(key).expect(rt, "room");
-    assert!(rt; entry.key().eq_str("k"));
+    assert!(rt; entry.key().eq_str(letters));
     match entry {
         Entry::Vacant(entry) => {
-            assert!(rt; entry.key().eq_str("k"));
-            entry.into_key()
+            assert!(rt; entry.key().eq_str(letters));
+            (entry.into_key(), None)
         }
-        Entry::Occupied(entry) => entry.remove_entry().0,
+        Entry::Occupied(entry) => {
+            let (key, value) = entry.remove_entry();
+            let number = number_of(&value);
+            drop(value);
+            (key, Some(number))
+        }
     }
 }
 
@@ -319,17 +367,21 @@ fn and_modify(rt: &impl Abort, object: &mut IObject, key: IString) -> usize {
 #[test]
 fn an_entry_gives_its_key_back(rt: HostRuntime) {
     let alloc = rt.alloc();
-    for &(keys, left) in &ASKED {
+    for &(keys, letters, number, left) in &ASKED {
         let mut object = of_keys(&rt, alloc, keys);
-        let back = asked(&rt, &mut object, key(&rt, alloc, "k"));
-        assert!(rt; back.eq_str("k") && has_keys(&object, left) && object.capacity() == 4);
+        let (back, found) = asked(&rt, &mut object, letters, key(&rt, alloc, letters));
+        assert!(rt; back.eq_str(letters) && found == number);
+        assert!(rt; has_keys(&object, left) && object.capacity() == 4);
         drop(back);
         drop(object);
     }
 }
 
-/// Keys, and those that are left once k is asked for.
-static ASKED: [(&[&str], &[&str]); 2] = [(&[], &[]), (&["a", "k", "x"], &["a", "x"])];
+/// Keys, the one that is asked for, the number beside it, and the keys that are left.
+static ASKED: [(&[&str], &str, Option<usize>, &[&str]); 2] = [
+    (&[], "k", None, &[]),
+    (&["a", "b", "c", "d"], "b", Some(1), &["a", "d", "c"]),
+];
 
 #[test]
 fn entries_put_once(rt: HostRuntime) {

@@ -226,15 +226,21 @@ fn puts(rt: &impl Abort, object: &mut IObject, key: IString, number: u8, len: us
     }
 }
 
-/// The same of an object inside a value.
+/// The same of an object inside a value, as it is opened, or by the path of the value.
 fn refused_inside(
     rt: &impl Abort,
     value: &mut IValue,
+    by_path: bool,
     key: IString,
     number: u8,
 ) -> Option<IString> {
     assert!(rt; value.is_object());
-    match value.index_or_insert(key) {
+    let place = if by_path {
+        IValue::index_or_insert(value, key)
+    } else {
+        value.index_or_insert(key)
+    };
+    match place {
         Ok(value) => {
             set(value, IValue::from(number));
             None
@@ -249,10 +255,17 @@ fn holds_inside(rt: &impl Abort, value: &IValue, len: usize, capacity: usize) {
 }
 
 /// Puts a number beside such a key, in such an object inside a value.
-fn puts_inside(rt: &impl Abort, value: &mut IValue, key: IString, number: u8, len: usize) {
-    if let Some(key) = refused_inside(rt, value, key, number) {
+fn puts_inside(
+    rt: &impl Abort,
+    value: &mut IValue,
+    by_path: bool,
+    key: IString,
+    number: u8,
+    len: usize,
+) {
+    if let Some(key) = refused_inside(rt, value, by_path, key, number) {
         holds_inside(rt, value, len, len);
-        assert!(rt; is_granted(refused_inside(rt, value, key, number)));
+        assert!(rt; is_granted(refused_inside(rt, value, by_path, key, number)));
     }
 }
 
@@ -264,10 +277,20 @@ fn values_beside_keys(rt: HostRuntime) {
         puts(&rt, &mut object, key(&rt, alloc, text), number, len);
         assert!(rt; holds(&object, usize::from(number), capacity));
         drop(object);
-        let mut value = IValue::from(with_pairs(&rt, alloc, len, len));
-        puts_inside(&rt, &mut value, key(&rt, alloc, text), number, len);
-        holds_inside(&rt, &value, usize::from(number), capacity);
-        drop(value);
+    }
+}
+
+#[test]
+fn values_beside_keys_inside(rt: HostRuntime) {
+    let alloc = rt.alloc();
+    for by_path in [false, true] {
+        for &(text, number, len, capacity) in &FULL {
+            let mut value = IValue::from(with_pairs(&rt, alloc, len, len));
+            let key = key(&rt, alloc, text);
+            puts_inside(&rt, &mut value, by_path, key, number, len);
+            holds_inside(&rt, &value, usize::from(number), capacity);
+            drop(value);
+        }
     }
 }
 
