@@ -26,30 +26,32 @@ fn overlay(base: &mut IValue, over: IValue) -> Result<bool, RefusedPair>
     Ok(true)
 }
 
-/// Defaults, settings, and the defaults with the settings.
-static LAID_OVER: [(&str, &str, &str); 5] = [
+/// Defaults, settings, the defaults with the settings, and whether both are objects.
+static LAID_OVER: [(&str, &str, &str, bool); 5] = [
     (
         "{\"a\":1,\"b\":2}",
         "{\"b\":3,\"c\":4}",
         "{\"a\":1,\"b\":3,\"c\":4}",
+        true,
     ),
-    ("{}", "{\"b\":3}", "{\"b\":3}"),
-    ("{\"b\":3}", "{}", "{\"b\":3}"),
-    ("[1]", "{\"b\":3}", "[1]"),
-    ("{\"b\":3}", "null", "{\"b\":3}"),
+    ("{}", "{\"b\":3}", "{\"b\":3}", true),
+    ("{\"b\":3}", "{}", "{\"b\":3}", true),
+    ("[1]", "{\"b\":3}", "[1]", false),
+    ("{\"b\":3}", "null", "{\"b\":3}", false),
 ];
 
-/// What settings leave of defaults, both as texts.
-fn laid_over(rt: &impl Abort, alloc: Global, base: &str, over: &str) -> IValue {
+/// What settings leave of defaults, both as texts, and what the call answers.
+fn laid_over(rt: &impl Abort, alloc: Global, base: &str, over: &str) -> (IValue, bool) {
     let mut value = parsed(rt, alloc, base);
-    let _done = overlay(&mut value, parsed(rt, alloc, over)).expect(rt, "room");
-    value
+    let done = overlay(&mut value, parsed(rt, alloc, over)).expect(rt, "room");
+    (value, done)
 }
 
 #[test]
 fn settings(rt: HostRuntime) {
-    for &(base, over, want) in &LAID_OVER {
-        let value = laid_over(&rt, rt.alloc(), base, over);
+    for &(base, over, want, are_objects) in &LAID_OVER {
+        let (value, done) = laid_over(&rt, rt.alloc(), base, over);
+        assert!(rt; done == are_objects);
         is_written(&rt, rt.alloc(), &value, want);
         drop(value);
     }

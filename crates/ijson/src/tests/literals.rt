@@ -10,7 +10,7 @@ use std::alloc::Global;
 /// One of the literals below.
 pub(super) enum Literal {
     Pairs,
-    Items,
+    Members,
     Objects,
     Lists,
     Texts,
@@ -20,9 +20,12 @@ pub(super) enum Literal {
 /// What is written of the value of each literal but the last one.
 pub(super) static LITERALS: [(Literal, &str); 5] = [
     (Literal::Pairs, r#"{"name":[],"sizes":[],"nested":{}}"#),
-    (Literal::Items, "[1,null,true]"),
+    (
+        Literal::Members,
+        r#"{"foo":"bar","x":[],"y":[1,null,true]}"#,
+    ),
     (Literal::Objects, r#"{"nested":{"deep":true,"none":{}}}"#),
-    (Literal::Lists, r#"{"name":[[],-7]}"#),
+    (Literal::Lists, "[[],-7]"),
     (Literal::Texts, r#"{"longlong":["x"],"c":{}}"#),
 ];
 
@@ -37,7 +40,7 @@ pub(super) fn value_of(
 ) -> Result<IValue, ConvertError> {
     match which {
         Literal::Pairs => pairs(alloc, cache, "nested"),
-        Literal::Items => items(alloc, cache),
+        Literal::Members => members(alloc, cache),
         Literal::Objects => objects(alloc, cache, "nested"),
         Literal::Lists => lists(alloc, cache, -14),
         Literal::Texts => texts(alloc, cache),
@@ -53,9 +56,9 @@ fn pairs(alloc: Global, cache: &mut Cache, key: &str) -> Result<IValue, ConvertE
     ijson!(alloc, cache; {"name": "ijson", "sizes": [], key: {}, "name": [],})
 }
 
-/// Items that are plain, with a comma behind the last one.
-fn items(alloc: Global, cache: &mut Cache) -> Result<IValue, ConvertError> {
-    ijson!(alloc, cache; [1, null, true,])
+/// A text, and lists of no items and of plain ones, with a comma behind the last of them.
+fn members(alloc: Global, cache: &mut Cache) -> Result<IValue, ConvertError> {
+    ijson!(alloc, cache; {"foo": "bar", "x": [], "y": [1, null, true,]})
 }
 
 /// An object in an object in an object.
@@ -65,7 +68,7 @@ fn objects(alloc: Global, cache: &mut Cache, key: &str) -> Result<IValue, Conver
 
 /// A list in a list, and an item that is more than one token.
 fn lists(alloc: Global, cache: &mut Cache, n: i64) -> Result<IValue, ConvertError> {
-    ijson!(alloc, cache; {"name": [[], n / 2]})
+    ijson!(alloc, cache; [[], n / 2])
 }
 
 /// A key and a text that ask for memory, and an object in a list, which the value of the same key replaces.

@@ -469,7 +469,7 @@ fn order(rt: HostRuntime) {
 }
 
 /// Texts that are packed: the mantissa, the exponent and whether the shape is float.
-static PACKED: [(&str, i64, i8, bool); 17] = [
+static PACKED: [(&str, i64, i8, bool); 18] = [
     ("0", 0, 0, false),
     ("-0", 0, 0, false),
     ("1", 1, 0, false),
@@ -477,7 +477,13 @@ static PACKED: [(&str, i64, i8, bool); 17] = [
     ("0.0", 0, 0, true),
     ("2.0", 2, 0, true),
     ("0.5", 5, -1, true),
-    ("0.50000000000000000000000000000000", 5, -1, true),
+    ("0.1", 1, -1, true),
+    (
+        "0.100000000000000000000000000000000000000000000000000",
+        1,
+        -1,
+        true,
+    ),
     ("100.0", 100, 0, true),
     ("63.5", 635, -1, true),
     ("36028797018963967", 36028797018963967, 0, false),

@@ -154,12 +154,24 @@ fn is_of_kind(value: &IValue, kind: ValueType) -> bool {
     }
 }
 
-/// What is handed back where a value is none of the four kinds that hold something.
-fn handed_back(value: IValue) -> Option<IValue> {
-    let value = value.into_number().err()?;
-    let value = value.into_string().err()?;
-    let value = value.into_array().err()?;
-    value.into_object().err()
+/// The value again, once it was asked for each of the four kinds that hold something, and whether it was of one of them.
+fn handed_back(value: IValue) -> (IValue, bool) {
+    let value: IValue = match value.into_number() {
+        Ok(number) => return (IValue::from(number), true),
+        Err(value) => value,
+    };
+    let value: IValue = match value.into_string() {
+        Ok(string) => return (IValue::from(string), true),
+        Err(value) => value,
+    };
+    let value: IValue = match value.into_array() {
+        Ok(array) => return (IValue::from(array), true),
+        Err(value) => value,
+    };
+    match value.into_object() {
+        Ok(object) => (IValue::from(object), true),
+        Err(value) => (value, false),
+    }
 }
 
 /// Writes the opposite, or the empty value, of each kind.
@@ -367,12 +379,14 @@ fn room_of_what_is_read(rt: HostRuntime) {
 
 /// Takes a value of a kind, which leaves null, and takes it apart.
 fn is_taken(rt: &impl Abort, mut value: IValue, kind: ValueType) {
+    let copy = value.clone().expect(rt, "a copy");
     let taken = value.take();
     assert!(rt; value.is_null() && is_of_kind(&taken, kind));
     drop(value);
-    let back = handed_back(taken);
-    assert!(rt; back.is_some() == (kind < ValueType::Number));
+    let (back, holds) = handed_back(taken);
+    assert!(rt; back == copy && holds == (kind >= ValueType::Number));
     drop(back);
+    drop(copy);
 }
 
 /// Whether a number answers these integers, and whether the others are these as well.

@@ -2,6 +2,7 @@
 
 use super::devices::compacts;
 use super::{nested, parsed, rewritten};
+use ijson_json::JsonError;
 use ijson_value::value::{DestructuredRef, IValue};
 use std::alloc::Global;
 use std::process::Abort;
@@ -143,7 +144,7 @@ fn control_characters(rt: HostRuntime) {
         let found = rewritten(alloc, text.as_str()).expect(&rt, "an escape");
         assert!(rt; found.as_str() == ESCAPES[code as usize]);
         let raw = format!(in alloc; "\"{}\"", code as char).expect(&rt, "a text");
-        assert!(rt; rewritten(alloc, raw.as_str()).is_err());
+        assert!(rt; rewritten(alloc, raw.as_str()).err() == Some(JsonError::Syntax { at: 1 }));
     }
 }
 

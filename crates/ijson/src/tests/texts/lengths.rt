@@ -13,14 +13,13 @@ fn long_texts_alone_enter_the_cache(rt: HostRuntime) {
     assert!(rt; cache.is_empty());
     let long = interned(&rt, &mut cache, "eight888");
     let again = interned(&rt, &mut cache, "eight888");
-    assert!(rt; long == again);
-    drop(again);
     assert!(rt; cache.len() == 1);
     assert!(rt; cache.contains("eight888"));
     cache.clear();
     assert!(rt; cache.is_empty());
     drop(cache);
-    assert!(rt; long.eq_str("eight888"));
+    assert!(rt; long == again && long.eq_str("eight888"));
+    drop(again);
     drop(long);
 }
 
