@@ -1,4 +1,5 @@
-"""Which public calls the functions of the test files make, a call of a method by the type of what it is called on.
+"""Which public calls the functions of the test files make, a call of a method by the type of what it is called on, or by one that this
+opens to. A function without `self` is called by its path alone.
 
 Types are read off parameters, off `let` and off what a call is declared to answer; what a pattern takes out of a value has none. So a
 call of which this tells nothing may be there all the same, but one that it tells is there.
@@ -15,6 +16,8 @@ OPEN, CLOSED = "([{", ")]}"
 KEEPS = ("expect", "unwrap", "clone", "as_ref", "as_mut", "map_err", "ok", "and_then", "or", "take")
 # A path, a name, generics, and the bracket of a call; without it the name may be passed on.
 PATH = re.compile(r"(?<![\w.:>])((?:<?\w+(?:<[^()]*?>)?>?(?:::<[^()]*?>)?::)*)(\w+!?)(?:::<[^()]*?>)?(?=([(\[{])|\)|,|;|\n)")
+# A parameter `self`, which alone makes a function one that is called behind a dot.
+SELF = re.compile(r"\((?:&(?:'\w+ )?)?(?:mut )?self\b")
 WRAPPERS = re.compile(r"^(?:Result|Option|Box)<(.*)>$")
 
 
@@ -135,15 +138,20 @@ class Tests:
         where = self.module_at(function.module, path)
         return [other for other in self.functions if other.name == name and other.module == where and not other.owner and not other.trait]
 
-    def kinds(self, kind, function):
-        """The types and traits that a type is known by: its own, those that bound it, and what it opens to."""
+    def known_by(self, kind, function):
+        """The types and traits that a type is known by: its own, and those that bound it."""
         name = base(kind)
         name = function.owner or name if name == "Self" else name
         names = {name, self.aliases.get(name, name)} | function.bounds().get(name, set())
         for bound in re.findall(r"impl ([^,>]*)", kind):
             names |= {base(part) for part in bound.split("+")}
-        names |= {trait for owner, trait in self.has if owner in names} | {self.opens[owner] for owner in names & self.opens.keys()}
+        names |= {trait for owner, trait in self.has if owner in names}
         return names | {higher for lower in names for higher in self.supers.get(lower, ())}
+
+    def kinds(self, kind, function):
+        """The types and traits whose methods a value of a type has: those that it is known by, and what it opens to."""
+        names = self.known_by(kind, function)
+        return names | {self.opens[owner] for owner in names & self.opens.keys()}
 
     @functools.lru_cache(None)
     def variables(self, function):
@@ -234,7 +242,7 @@ class Tests:
         nearest = set()
         for path, name in self.paths(function):
             nearest |= set(self.called(function, path, name))
-            nearest |= self.own_methods(function, self.kinds(path[-1], function), name) if path else set()
+            nearest |= self.own_methods(function, self.known_by(path[-1], function), name) if path else set()
         for kinds, name in self.methods(function):
             nearest |= self.own_methods(function, kinds, name)
         return nearest
@@ -260,9 +268,10 @@ class Tests:
         """Whether a function, and no other that it calls, makes a public call: `Type::name`, `name` or `name!`."""
         owner, _, name = call.rpartition("::")
         for path, called in self.paths(function):
-            if called == name and (not owner or (path and owner in self.kinds(path[-1], function))):
+            if called == name and (not owner or (path and owner in self.known_by(path[-1], function))):
                 return True
-        return bool(owner) and any(called == name and owner in kinds for kinds, called in self.methods(function))
+        takes_self = SELF.search(self.answers.get((owner, name), ""))
+        return bool(takes_self) and any(called == name and owner in kinds for kinds, called in self.methods(function))
 
     def named(self, name):
         """The tests of this name: its module below `tests` and its own name."""

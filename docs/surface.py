@@ -1,6 +1,7 @@
 """The public surface of the crates, as their sources declare it: what the scripts of this folder compare the pages with."""
 
 import collections
+import difflib
 import pathlib
 import re
 
@@ -30,6 +31,14 @@ Constant = collections.namedtuple("Constant", "crate path owner name kind senten
 
 # A trait that a public type has, but for those that are derived.
 Implementation = collections.namedtuple("Implementation", "crate path trait owner")
+
+
+def differences(found, wanted):
+    """The lines that one list lacks of another, and those that it has too many, where a line at another place is both."""
+    parts = difflib.SequenceMatcher(None, found, wanted, autojunk=False).get_opcodes()
+    missing = [line for kind, _, _, start, end in parts if kind != "equal" for line in wanted[start:end]]
+    more = [line for kind, start, end, _, _ in parts if kind != "equal" for line in found[start:end]]
+    return missing, more
 
 
 def without_generics(text):
