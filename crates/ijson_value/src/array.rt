@@ -50,7 +50,7 @@ impl Model for IArray {
     ghost size_decreases = { λ a h. array_falls a.list a.alloc };
 }
 
-/// An item that an array had no memory for. The array is as it was.
+/// An item that an array had no memory for. This item changed nothing; after `extend` those before it are there.
 #[derive(Debug, Drop, Error)]
 #[error("no memory for one more item")]
 pub struct Refused(pub IValue);
@@ -179,8 +179,8 @@ impl IArray {
     }
 
     /// Makes room for `additional` items more, so that as many pushes take no memory. It takes memory only where there is
-    /// not that room. The room then at least doubles, and each item is moved once. Where that is refused, the array is as it
-    /// was. Room for more items than a `usize` counts is refused as well.
+    /// not that room. The room then at least doubles, and each item is moved at most once. Where that is refused, the array is
+    /// as it was. Room for more items than a `usize` counts is refused as well.
     pub fn reserve(&mut self, additional: usize) -> Result<(), AllocError>
         ensures items { self.new.items ≡ self.old.items }
         ensures ok { OnOk result (length self.new.items + additional ≤ self.new.capacity) }
@@ -204,8 +204,8 @@ impl IArray {
         Ok(())
     }
 
-    /// Gives back the room that no item fills. The items move to a list of their length, for which memory is asked; where that
-    /// is refused, they stay, and the capacity is no greater than it was.
+    /// Gives back the room that no item fills. It takes no memory where there is no such room. Else memory for a list of the length is
+    /// asked for; where that is refused, the items stay, and the capacity is no greater than it was.
     pub fn shrink_to_fit(&mut self) -> Result<(), AllocError>
         ensures items { self.new.items ≡ self.old.items }
         ensures ok { OnOk result (self.new.capacity ≡ length self.new.items) }

@@ -67,9 +67,11 @@ fn clone_pairs(
     Ok(copies)
 }
 
-/// The same value. Texts are shared with it, and memory is taken for each array and object in it that is not empty, and for
-/// each number that is stored as a list of digits; where one of these requests is refused, what was made is dropped. It takes
-/// time linear in the value, and hashes no key of an object that has room for no more than its pairs or has more than 127 of them.
+/// The same value. Texts are shared with it. Memory is taken for each array and object in it that is not empty, for each number that is
+/// stored as a list of digits, and for sorting where many keys of an object crowd. Where such a request is refused, or the count of
+/// owners of a text is full, what was made is dropped. It takes time linear in the value and in the capacities of its objects; where many
+/// keys of an object crowd, n log n in its pairs at most. It hashes no key of an object that has room for no more than its pairs or has
+/// more than 127 of them, and each other key once.
 impl Clone for IValue {
     ghost is_clone = { λ v copy. copy ≡ v };
 
@@ -78,7 +80,7 @@ impl Clone for IValue {
     }
 }
 
-/// An array of copies of the items, whose capacity is their count; its cost is that of `IValue::clone`.
+/// An array of copies of the items, whose capacity is their count. Its cost is that of `IValue::clone`.
 impl Clone for IArray {
     ghost is_clone = { λ a copy. (copy.items ≡ a.items) × (copy.capacity ≡ length a.items) };
 
@@ -89,8 +91,7 @@ impl Clone for IArray {
     }
 }
 
-/// An object of copies of the pairs, in their order, whose capacity is their count; its cost is that of `IValue::clone`, and no
-/// key is hashed.
+/// An object of copies of the pairs, in their order, whose capacity is their count. Its cost is that of `IValue::clone`.
 impl Clone for IObject {
     ghost is_clone = { λ o copy. (copy.pairs ≡ o.pairs) × (copy.capacity ≡ length o.pairs) };
 

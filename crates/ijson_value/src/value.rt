@@ -45,7 +45,7 @@ pub enum Destructured {
     Bool(bool),
     /// An exact decimal.
     Number(INumber),
-    /// A text.
+    /// A string.
     String(IString),
     /// A list of values.
     Array(IArray),

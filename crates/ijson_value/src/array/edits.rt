@@ -6,9 +6,9 @@ use super::{IArray, Refused};
 use crate::value::IValue;
 
 impl IArray {
-    /// Puts an item at a place, and those from there on one place further. It takes memory only where there is no room for
-    /// one more. Where that is refused, the item comes back and the array is as it was, with the room that it had. It takes time
-    /// linear in the items behind the place, of which `len` is the last.
+    /// Puts an item at a position, and those from there on one position further. `index` must be at most `len`; at `len` the item is put
+    /// last. It takes memory only where there is no room for one more. Where that is refused, the item comes back and the array is as it
+    /// was, with the room that it had. It takes time linear in the items from there on.
     pub fn insert(&mut self, index: usize, item: IValue) -> Result<(), Refused>
         requires { index ≤ length self.old.items }
         ensures ok { OnOk result (self.new.items ≡ insert self.old.items index item) }
@@ -31,8 +31,8 @@ impl IArray {
         }
     }
 
-    /// Takes the item at a place out, and closes up those behind it. None past the end. It takes time linear in these. The room
-    /// stays.
+    /// Takes the item at a position out, and closes up those behind it. None past the end. It takes time linear in the items behind it.
+    /// The capacity stays.
     pub fn remove(&mut self, index: usize) -> Option<IValue>
         ensures item { result ≡ slice_get self.old.items index }
         ensures items { self.new.items ≡ remove self.old.items index }
@@ -44,8 +44,8 @@ impl IArray {
         }
     }
 
-    /// Takes the item at a place out, and puts the last one in its place. None past the end. It takes constant time: of
-    /// `[1,2,3]` the first one leaves `[3,2]`. The room stays.
+    /// Takes the item at a position out, and puts the last one there. None past the end. It takes constant time: of
+    /// `[1,2,3]` the first one leaves `[3,2]`. The capacity stays.
     pub fn swap_remove(&mut self, index: usize) -> Option<IValue>
         ensures item { result ≡ slice_get self.old.items index }
         ensures items { MatchOption result (self.new.items ≡ self.old.items)
@@ -58,7 +58,7 @@ impl IArray {
         }
     }
 
-    /// Takes the last item out. None where there is no item. The room stays.
+    /// Takes the last item out. None where there is no item. The capacity stays.
     pub fn pop(&mut self) -> Option<IValue>
         ensures item { result ≡ slice_get self.old.items (length self.old.items - 1) }
         ensures items { self.new.items ≡ take (length self.old.items - 1) self.old.items }
@@ -67,8 +67,8 @@ impl IArray {
         self.list.as_mut()?.pop()
     }
 
-    /// Keeps the first `len` items. An array that has no more stays as it is. Those behind them are dropped, and the room
-    /// stays.
+    /// Keeps the first `len` items. An array that has no more stays as it is. Those behind them are dropped. The
+    /// capacity stays.
     pub fn truncate(&mut self, len: usize)
         ensures items { self.new.items ≡ take len self.old.items }
         ensures capacity { self.new.capacity ≡ self.old.capacity }
@@ -78,7 +78,7 @@ impl IArray {
         }
     }
 
-    /// Drops all items. The room stays.
+    /// Drops all items. The capacity stays.
     pub fn clear(&mut self)
         ensures items { self.new.items ≡ [] }
         ensures capacity { self.new.capacity ≡ self.old.capacity }

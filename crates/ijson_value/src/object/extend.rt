@@ -15,7 +15,7 @@ use std::alloc::Global;
 
 impl IObject {
     /// Inserts the pairs of an iterator, one after the other. A pair that there is no room for comes back; those before it
-    /// stay, and the rest of the iterator is dropped. Nothing is reserved beforehand: room grows as by `insert`.
+    /// stay, and the rest of the iterator is dropped. Nothing is reserved beforehand: room grows as by `insert`. The iterator must end.
     pub fn extend<I: IntoIterator<Item = (IString, IValue)>>(
         &mut self,
         pairs: I,
@@ -58,7 +58,7 @@ impl IObject {
     }
 
     /// An object of the pairs of an iterator, inserted one after the other. A pair that there is no room for comes back; what was
-    /// made and the rest of the iterator are dropped. Room grows as by `insert`.
+    /// made and the rest of the iterator are dropped. Room grows as by `insert`. The iterator must end.
     pub fn from_iter<I: IntoIterator<Item = (IString, IValue)>>(
         alloc: Global,
         pairs: I,

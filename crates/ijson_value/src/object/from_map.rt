@@ -25,7 +25,8 @@ impl IObject {
     /// are moved to a list with that room, which is taken first, and the object is made of it as by `from_pairs`. It is
     /// refused as too large where the count passes 2^56, before memory is asked for; the map and its pairs are then dropped,
     /// as where memory is refused. An empty map takes no memory. Nothing is copied, and each key is hashed once, or up to
-    /// three times where many keys crowd. It takes time at most n log n in the count, whatever the keys are.
+    /// three times where many keys crowd. Whatever the keys are, it takes time n log n in the count at most, and that of hashing the keys
+    /// and of comparing keys of one hash.
     pub fn from_hash_map<S: BuildHasher + Drop>(
         alloc: Global,
         map: HashMap<IString, IValue, S>,
@@ -42,7 +43,8 @@ impl IObject {
     /// list with that room, which is taken first, and the object is made of it as by `from_pairs`. It is refused as too large
     /// where the count passes 2^56, before memory is asked for; the map and its pairs are then dropped, as where memory is
     /// refused. An empty map takes no memory. Nothing is copied, and each key is hashed once, or up to three times where many
-    /// keys crowd. It takes time at most n log n in the count, whatever the keys are.
+    /// keys crowd. Whatever the keys are, it takes time n log n in the count at most, and that of hashing the keys and of comparing keys
+    /// of one hash.
     pub fn from_btree_map(
         alloc: Global,
         map: BTreeMap<IString, IValue>,
@@ -59,7 +61,8 @@ impl IObject {
     /// list with that room, which is taken first, and the object is made of it as by `from_pairs`. It is refused as too large
     /// where the count passes 2^56, before memory is asked for; the map and its pairs are then dropped, as where memory is
     /// refused. An empty map takes no memory. Nothing is copied, and each key is hashed once, or up to three times where many
-    /// keys crowd. It takes time at most n log n in the count, whatever the keys are.
+    /// keys crowd. Whatever the keys are, it takes time n log n in the count at most, and that of hashing the keys and of comparing keys
+    /// of one hash.
     pub fn from_index_map<S: BuildHasher + Drop>(
         alloc: Global,
         map: IndexMap<IString, IValue, S>,

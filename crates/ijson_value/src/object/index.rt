@@ -81,7 +81,8 @@ pub trait ObjectIndex: Sealed + Copy {
         }
     }
 
-    /// Takes the pair with the key out. Those behind it close up, so the order stays. None where it is not there.
+    /// Takes the pair with the key out. Those behind it close up, so the order stays. That takes time linear in the capacity of the
+    /// object, unless the pair is the last. None where the key is not there.
     final fn shift_remove(self, v: &mut IObject) -> Option<(IString, IValue)>
         ensures pair { result ≡ pair_at_key (Self.Sealed.key self) v.old.pairs }
         ensures pairs { v.new.pairs ≡ shift_out_key (Self.Sealed.key self) v.old.pairs }
@@ -177,7 +178,7 @@ impl IObject {
     }
 
     /// Takes the pair with a key out, and answers its value. Those behind it close up, so the order stays. That takes time
-    /// linear in the object. None where the key is not there.
+    /// linear in the capacity of the object, unless the pair is the last. None where the key is not there.
     #[tactic(auto, using(crate::proofs::pairs::PairLookups::lookup_pair))]
     pub fn shift_remove<I: ObjectIndex>(&mut self, index: I) -> Option<IValue>
         ensures value { result ≡ lookup (I.Sealed.key index) self.old.pairs }
@@ -187,8 +188,8 @@ impl IObject {
         Some(index.shift_remove(self)?.1)
     }
 
-    /// Takes the pair with a key out. Those behind it close up, so the order stays. That takes time linear in the object. None
-    /// where the key is not there.
+    /// Takes the pair with a key out. Those behind it close up, so the order stays. That takes time linear in the capacity of the
+    /// object, unless the pair is the last. None where the key is not there.
     pub fn shift_remove_entry<I: ObjectIndex>(&mut self, index: I) -> Option<(IString, IValue)>
         ensures pair { result ≡ pair_at_key (I.Sealed.key index) self.old.pairs }
         ensures pairs { self.new.pairs ≡ shift_out_key (I.Sealed.key index) self.old.pairs }

@@ -17,10 +17,10 @@ use std::marker::Model;
 use std::mem::{self, size_of};
 
 /// Pairs of a key and a value in order, where no key stands twice. A key is found by its hash, however many there are.
-/// It lies behind one pointer, and an object that has taken no memory yet is without it. It takes 16 bytes, and beside them the
-/// place of its table and 60 bytes for each pair of its capacity: 40 for the pair, and 20 for the places by hash. Objects are
-/// equal in any order of their pairs. The hash is the same in each run, so keys that somebody chose to have one hash are looked
-/// at one after the other.
+/// JSON calls a pair a member. The pairs lie behind one pointer, and an object that has taken no memory yet is without it. It takes
+/// 16 bytes, and beside them its table, with 40 bytes for each pair of its capacity. The slots, by which a key is found, take 20 bytes
+/// more for each, but only 4 up to a capacity of 127, and none up to 8. Objects are equal in any order of their pairs. The hash is the
+/// same in each run, so keys that somebody chose to have one hash are looked at one after the other.
 #[cycle(value)]
 #[derive(Drop)]
 pub struct IObject {
@@ -51,7 +51,8 @@ impl Model for IObject {
     ghost size_decreases = { λ o h. object_falls o.table o.alloc };
 }
 
-/// A pair that an object did not take, and why it did not grow. The object is as it was.
+/// A pair that an object did not take, and why it did not grow. This pair changed nothing; after `extend` and `overlay` those before it
+/// are there.
 pub type RefusedPair = ijson_table::RefusedPair<IValue>;
 
 impl IObject {
@@ -63,8 +64,8 @@ impl IObject {
         IObject { table: None, alloc }
     }
 
-    /// An object with no pairs and this capacity. It is refused as too large where that passes 2^56; a capacity of 0 takes no
-    /// memory.
+    /// An object with no pairs and this capacity. It is refused with `TooLarge` where that passes 2^56, and with `Memory` where memory is
+    /// refused. A capacity of 0 takes no memory.
     pub fn with_capacity(alloc: Global, capacity: usize) -> Result<IObject, ReserveError>
         ensures pairs { IfOk result (λ object. object.pairs ≡ []) }
         ensures capacity { IfOk result (λ object. object.capacity ≡ capacity) }
@@ -81,9 +82,11 @@ impl IObject {
     /// An object of these pairs as if they were put one after the other: a key that comes again keeps its place, and has the value
     /// that it came with last. The list becomes that of the object: its length is the capacity, and room beyond that is given back.
     /// From the first key on that comes again, the pairs are taken off and put one by one; those before are not moved. It is refused
-    /// as too large where the length passes 2^56; the pairs are then dropped, as where memory is refused. No pairs take no memory.
-    /// Each key is hashed once, and the first that comes again twice. Where many keys crowd, each is hashed up to three times, and it
-    /// takes time n log n at most and that of comparing keys of one hash.
+    /// with `TooLarge` where the length passes 2^56, and with `Memory` where memory is refused; the pairs are then dropped. An empty list
+    /// takes no memory, and any other takes it for the table. Each key is hashed once, and the first that comes again twice, in time
+    /// linear in the pairs where few keys crowd. Where many do, each is hashed up to three times, entries of 16 bytes for each pair are
+    /// sorted in memory of their own, and the pairs move to another list: that takes time n log n at most, and that of hashing the keys
+    /// and of comparing keys of one hash.
     ///
     /// ```
     /// let object = IObject::from_pairs(alloc, pairs)?; // of a: 1, b: 2, a: 3 it is a: 3, b: 2
@@ -146,8 +149,8 @@ impl IObject {
     }
 
     /// Makes room for `additional` pairs more. Where they have none, the capacity becomes the greatest of twice the old one,
-    /// the length with them, and 4. So pairs that are put one by one take room for 4, 8, 16 and so on. Each pair is moved once,
-    /// and no key is hashed again where there was room for more than 127 pairs. Refused, the object is as it was: `TooLarge`
+    /// the length with them, and 4. So pairs that are put one by one take room for 4, 8, 16 and so on. Each pair is moved at
+    /// most once, and no key is hashed again where there was room for more than 127 pairs. Refused, the object is as it was: `TooLarge`
     /// where the capacity would pass 2^56, `Memory` where it was not granted.
     pub fn reserve(&mut self, additional: usize) -> Result<(), ReserveError>
         ensures growth { Grow (length self.old.pairs) self.old.capacity additional result
@@ -166,8 +169,8 @@ impl IObject {
         Ok(())
     }
 
-    /// Makes the capacity the length. That takes no memory where it is so already or the length is 0. Each pair is moved once.
-    /// Refused, the object is as it was.
+    /// Makes the capacity the length. That takes no memory where it is so already or the length is 0. Each pair is moved at
+    /// most once. The only error is `Memory`, and the object is then as it was.
     pub fn shrink_to_fit(&mut self) -> Result<(), ReserveError>
         ensures capacity { Shrink (length self.old.pairs) self.old.capacity result self.new.capacity }
         ensures pairs { self.new.pairs ≡ self.old.pairs }
@@ -178,7 +181,7 @@ impl IObject {
         }
     }
 
-    /// Drops all pairs. The capacity stays.
+    /// Drops all pairs. The capacity stays. It takes time linear in the capacity.
     pub fn clear(&mut self)
         ensures pairs { self.new.pairs ≡ [] }
         ensures capacity { self.new.capacity ≡ self.old.capacity }
@@ -190,7 +193,7 @@ impl IObject {
 
     /// Puts a pair. A key that is there keeps its place and needs no memory, and its old value is answered; a new key goes
     /// last, in room that is made first where there is none. Where that is refused, the pair comes back. The key is hashed
-    /// once, and a pair takes constant time on average but for the walk of the look-up.
+    /// once, and a pair takes constant time on average beside the look-up.
     ///
     /// ```
     /// let old = object.insert(key, IValue::from(1u64))?; // None where the key is new

@@ -11,7 +11,8 @@ use ijson_string::IString;
 impl IObject {
     /// Asks about each pair, from the front, and keeps those for which the answer is yes, with the values that are left there. The
     /// last pair moves into the place of one that goes, and is asked about next. So the order stays where nothing goes. It
-    /// takes no memory, and time linear in the pairs but for what `asks` takes.
+    /// takes no memory. Where few keys crowd it takes time linear in the pairs, beside what `asks` takes; each removal walks the crowds of
+    /// two keys.
     pub fn retain<F: FnMut(&IString, &mut IValue) -> bool>(&mut self, mut asks: F)
         requires { MayAsk (CalledAtPair F.FnMut) (TakesPair F.FnMut) asks self.old.pairs }
         ensures pairs { Retains (CalledAtPair F.FnMut) asks self.old.pairs self.new.pairs }
