@@ -29,6 +29,6 @@ abbrev mutual
   MembersAreShared cache (member k t more) =
       IsShared cache k × AreShared cache t × MembersAreShared cache more
 
--- the text is accepted, and the cache holds what it holds of the text's tree
+-- the text is accepted, and the cache holds each long text and key of its tree
 abbrev pub SharesTextsOf : List ℕ → Texts → Type 0
 SharesTextsOf text cache = (tree : Tree) × Accepted text tree × AreShared cache tree

@@ -4,8 +4,8 @@ use Rattle.ijson_json.specs.Refuses.{Refuses}
 use Rattle.ijson_json.specs.declared.compacting.CompactError.{CompactError}
 use Rattle.ijson_json.specs.declared.compacting.CompactError.TheVariants as errors
 
--- bytes that are not UTF-8 are told as that, and a text that is refused as its reading tells it; the
--- others say nothing of the bytes
+-- `NotUtf8` says that the bytes are no UTF-8, and `Json` that they are, and why the text is refused; the others say nothing of the
+-- bytes
 abbrev pub IsCompactRefusal : List ℕ → CompactError → Type 0
 IsCompactRefusal bytes errors.NotUtf8 = ¬ (IsUtf8 bytes)
 IsCompactRefusal bytes (errors.Json error) = IsUtf8 bytes × Refuses bytes error

@@ -10,8 +10,8 @@ use Rattle.ijson_json.specs.declared.fault.JsonError.TheVariants.{Syntax, TooDee
 abbrev pub HasNoReading : List ℕ → Type 0
 HasNoReading text = (tree : Tree) (deepest : ℕ) (ranged : Bool) → Reads text tree deepest ranged → ⊥
 
--- each reading of the text is past a limit, and some beginning of it, with closing brackets alone
--- behind it, has a reading that is the first past that limit
+-- each reading of the text, if there is any, is past a limit, and some beginning of it, with nothing but closing brackets behind it,
+-- has a reading past that limit: for depth one that is 128 deep
 pub record Passes (Past First : ℕ → Bool → Type 0) (text : List ℕ) : Type 0 where
   pub each : (tree : Tree) (deepest : ℕ) (ranged : Bool)
       → Reads text tree deepest ranged → Past deepest ranged

@@ -83,7 +83,8 @@ impl From<AllocError> for CompactError {
 /// feed to `output`. Keys and strings are interned in `cache`, as `from_json` does.
 ///
 /// Each error says when it comes at `CompactError`. The whole line is made before its first byte is
-/// written.
+/// written. After an error other than `Read` and `NotUtf8`, texts of the input may be in the cache. The
+/// failures of both devices must be below 2^64 - 1.
 ///
 /// The input and its value are in memory at once, and then the value and the line, which is made in the memory of the input as
 /// far as that goes. The time is that of `from_json` and `to_json`, and of the calls of the devices: each read is offered at

@@ -34,7 +34,8 @@ pub trait Source {
         ensures { result ≡ failed self.now };
 
     /// Fills a beginning of `into` with the next bytes, and answers how many. Where `into` has room,
-    /// 0 is answered only at the end. On a fault no byte moves, and `failures` grows by one.
+    /// 0 is answered only at the end. On a fault no byte moves, and `failures` grows by one; it must be
+    /// below 2^64 - 1 before.
     fn read(&mut self, into: &mut [u8]) -> Result<usize, DeviceFault>
         requires { failed self.old + 1 < 2 ^ 64 }
         ensures bound { IfOk result (λ n. n ≤ length into.new) }
@@ -56,7 +57,7 @@ pub trait Sink {
         ensures { result ≡ failed self.now };
 
     /// Takes a beginning of `from`, at least one byte where `from` has any, and answers how many. On
-    /// a fault no byte moves, and `failures` grows by one.
+    /// a fault no byte moves, and `failures` grows by one; it must be below 2^64 - 1 before.
     fn write(&mut self, from: &[u8]) -> Result<usize, DeviceFault>
         requires { failed self.old + 1 < 2 ^ 64 }
         ensures bound { IfOk result (λ n. n ≤ length from.now) }

@@ -90,7 +90,7 @@ fn read_text<S: BuildHasher>(
 ///
 /// The text is refused where it is not JSON, where more than 127 containers are open at once, where a
 /// number's stripped exponent is past 2^30 either way, and where memory is refused; of several faults
-/// the first from the left is told.
+/// the first from the left is told. Some of its texts may then be in the cache.
 ///
 /// The time is linear in the text, but for the look-ups of keys and texts by their hashes, and it calls itself once a level,
 /// 127 times at most. Beside the value it takes memory for the items and members of the arrays and objects that are open, and for

@@ -14,8 +14,8 @@ const LINE: usize = 64;
 
 /// Writes the line for a refusal to `errors`, and nothing where there is none, and answers the status
 /// that the program ends with: 0 done, 1 not a JSON text within the limits, 2 a failed read or write,
-/// 3 not enough memory. It takes no memory itself. A failed write ends the line, and leaves the status. The line for `[1 2]` is
-/// `ijson: syntax at byte 3`.
+/// 3 not enough memory. It takes no memory itself. A failed write ends the line, and leaves the status. The failures of
+/// `errors` must be below 2^64 - 1. The line for `[1 2]` is `ijson: syntax at byte 3`.
 pub fn report<W: Sink>(answer: &Result<(), CompactError>, errors: &mut W) -> u8
     requires { W.failed errors.old + 1 < 2 ^ 64 }
     ensures status { result ≡ status_of answer.now }

@@ -21,7 +21,8 @@ const FIRST_ROOM: usize = 128;
 /// it.
 ///
 /// The time is linear in what is written, and so is the memory, which is 128 bytes at first and doubles as the text grows. It
-/// writes any value, however deep: it calls itself once a level. Objects keep the order of their pairs, and numbers their shape.
+/// has no limit of depth, but it calls itself once a level, so a very deep value can want more stack than there is. Objects keep the order
+/// of their members, and numbers their shape.
 ///
 /// ```
 /// let text = to_json(alloc, &value)?; // {"a":[1.5,100.0]} of what was read from { "a" : [1.50, 1e2] }
