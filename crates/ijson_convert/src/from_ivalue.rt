@@ -11,8 +11,8 @@ use crate::convert_error::ConvertError;
 use ijson_value::value::IValue;
 use std::alloc::Global;
 
-/// What has a tree, and can be made of a JSON value whose tree is the same. These are `bool`, the integers of up to 64 bits,
-/// `String`, and of what has it itself `Option`, where null is None, `Vec`, and `BTreeMap` with `String` keys. A number of any
+/// What has a tree, and can be made of a JSON value whose tree means the same. These are `bool`, the integers of up to 64 bits and
+/// `String`; and, where `T` has this trait, `Option<T>` (null is None), `Vec<T>` and `BTreeMap<String, T>`. A number of any
 /// shape is an integer where its value is whole: `2.0` is 2. Null is None of the outermost `Option`: of `Option<Option<u8>>` it
 /// is None, and never `Some(None)`.
 pub trait FromIValue: Sized {

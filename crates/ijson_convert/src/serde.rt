@@ -20,7 +20,7 @@ use serde_json::{Map, Number, Value};
 use std::alloc::Global;
 use std::hash::BuildHasher;
 
-/// The number that a number of `serde_json` is, without the point. A float of `serde_json` is refused as such a number,
+/// The number that a number of `serde_json` is, without the point. A float of `serde_json` is refused with `Number`,
 /// whatever its value. It takes no memory.
 pub fn from_serde_number(number: &Number) -> Result<INumber, ConvertError>
     ensures number { IfOk result (λ made. SerdeNumber (number_view number.now) made.decimal) }
@@ -37,7 +37,7 @@ pub fn from_serde_number(number: &Number) -> Result<INumber, ConvertError>
 }
 
 /// The number of `serde_json` with the value of a number, whose shape is lost. A value that is neither an `i64` nor a
-/// `u64` is refused. It takes no memory.
+/// `u64` is refused with `Number`. It takes no memory.
 pub fn to_serde_number(number: &INumber) -> Result<Number, ConvertError>
     ensures number { IfOk result (λ made.
         SerdeMeans (data_number (number_view made)) (number_tree number.now.decimal)) }
@@ -55,8 +55,8 @@ pub fn to_serde_number(number: &INumber) -> Result<Number, ConvertError>
 
 /// The JSON value of a value of `serde_json`: members come in the order of its map, which is that of their keys. Its texts
 /// and keys are interned in `cache`, in their order; where it is refused, a beginning of them may have been. `Number`
-/// comes where a number in it is a float, and `Memory` where memory for an array, an object or a text was refused. Numbers have
-/// no point then. It calls itself once a level.
+/// comes where a number in it is a float, and `Memory` where memory for an array, an object or a text was refused. The numbers
+/// that it makes have no point. It calls itself once a level.
 #[cycle(from)]
 pub fn from_serde<S: BuildHasher>(
     alloc: Global,
@@ -138,7 +138,8 @@ pub fn from_serde_map<S: BuildHasher>(
 
 /// The value of `serde_json` of a JSON value. A number goes over by its value, and its shape is lost; members come in the
 /// order of their keys. `Number` comes where the value of a number in it is neither an `i64` nor a `u64`, and `Memory`
-/// where memory for a list, a map or a text was refused. Texts are copied. It calls itself once a level.
+/// where memory for a list, a map or a text was refused. Texts are copied. It has no limit of depth, but it calls itself once a
+/// level, so a very deep value can want more stack than there is.
 #[cycle(to)]
 pub fn to_serde(alloc: Global, value: &IValue) -> Result<Value, ConvertError>
     ensures means { IfOk result (λ made. SerdeMeans (view made) value.now.tree) }

@@ -12,8 +12,8 @@ use std::alloc::Global;
 use std::hash::BuildHasher;
 
 /// What has a tree, and can be made a JSON value with that tree. These are `bool`, the integers of up to 64 bits, `&str` and
-/// `String`, and of what has it itself `Option`, where None is null, `&[T]`, `Vec`, and `BTreeMap` and `IndexMap` with `String`
-/// keys.
+/// `String`; and, where `T` has this trait, `Option<T>` (None is null), `&[T]`, `Vec<T>`, `BTreeMap<String, T>` and
+/// `IndexMap<String, T>`.
 pub trait ToIValue {
     /// The tree of a value.
     ghost tree: { Self → Tree };

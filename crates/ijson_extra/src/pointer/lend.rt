@@ -33,8 +33,7 @@ pub enum Unresolved {
 /// None where it names nothing. What is written changes that one value. It takes no memory. It costs what `resolve` does, and
 /// the text is gone over once more. The stack grows with each token that leads to a value.
 ///
-/// The proof of a caller that writes there and says what the whole value then is has to be written by hand. One that calls
-/// `resolve_opened_mut` learns it by itself.
+/// A caller whose contract says what the whole value is after a write needs a proof by hand. With `resolve_opened_mut` it needs none.
 ///
 /// ```
 /// if let Some(port) = resolve_mut(&mut value, "/servers/0/port")? {
