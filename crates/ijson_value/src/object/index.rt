@@ -69,7 +69,7 @@ pub trait ObjectIndex: Sealed + Copy {
         v.get_key_value_mut(self)
     }
 
-    /// Takes the pair with the key out. The last pair moves into its place. None where it is not there.
+    /// Takes the pair with the key out, and puts the last pair in its place. None where it is not there.
     final fn remove(self, v: &mut IObject) -> Option<(IString, IValue)>
         ensures pair { result ≡ pair_at_key (Self.Sealed.key self) v.old.pairs }
         ensures pairs { v.new.pairs ≡ swap_out_key (Self.Sealed.key self) v.old.pairs }
@@ -81,7 +81,7 @@ pub trait ObjectIndex: Sealed + Copy {
         }
     }
 
-    /// Takes the pair with the key out. Those behind it close up, so the order stays. That takes time linear in the capacity of the
+    /// Takes the pair with the key out, and closes up those behind it. So the order stays. That takes time linear in the capacity of the
     /// object, unless the pair is the last. None where the key is not there.
     final fn shift_remove(self, v: &mut IObject) -> Option<(IString, IValue)>
         ensures pair { result ≡ pair_at_key (Self.Sealed.key self) v.old.pairs }
@@ -157,8 +157,8 @@ impl IObject {
         self.get(index).is_some()
     }
 
-    /// Takes the pair with a key out, and answers its value. The last pair moves into its place. None where it is not there. No
-    /// other pair moves, and no memory is taken; `shift_remove` keeps the order.
+    /// Takes the pair with a key out, puts the last pair in its place, and answers its value. None where it is not there. No other pair
+    /// moves, and no memory is taken; `shift_remove` keeps the order.
     #[tactic(auto, using(crate::proofs::pairs::PairLookups::lookup_pair))]
     pub fn remove<I: ObjectIndex>(&mut self, index: I) -> Option<IValue>
         ensures value { result ≡ lookup (I.Sealed.key index) self.old.pairs }
@@ -168,7 +168,7 @@ impl IObject {
         Some(index.remove(self)?.1)
     }
 
-    /// Takes the pair with a key out. The last pair moves into its place. None where it is not there.
+    /// Takes the pair with a key out, and puts the last pair in its place. None where it is not there.
     pub fn remove_entry<I: ObjectIndex>(&mut self, index: I) -> Option<(IString, IValue)>
         ensures pair { result ≡ pair_at_key (I.Sealed.key index) self.old.pairs }
         ensures pairs { self.new.pairs ≡ swap_out_key (I.Sealed.key index) self.old.pairs }
@@ -177,7 +177,7 @@ impl IObject {
         index.remove(self)
     }
 
-    /// Takes the pair with a key out, and answers its value. Those behind it close up, so the order stays. That takes time
+    /// Takes the pair with a key out, closes up those behind it, and answers its value. So the order stays. That takes time
     /// linear in the capacity of the object, unless the pair is the last. None where the key is not there.
     #[tactic(auto, using(crate::proofs::pairs::PairLookups::lookup_pair))]
     pub fn shift_remove<I: ObjectIndex>(&mut self, index: I) -> Option<IValue>
@@ -188,7 +188,7 @@ impl IObject {
         Some(index.shift_remove(self)?.1)
     }
 
-    /// Takes the pair with a key out. Those behind it close up, so the order stays. That takes time linear in the capacity of the
+    /// Takes the pair with a key out, and closes up those behind it. So the order stays. That takes time linear in the capacity of the
     /// object, unless the pair is the last. None where the key is not there.
     pub fn shift_remove_entry<I: ObjectIndex>(&mut self, index: I) -> Option<(IString, IValue)>
         ensures pair { result ≡ pair_at_key (I.Sealed.key index) self.old.pairs }
