@@ -10,7 +10,7 @@ ghost use Rattle.ijson_extra.specs.Pointer.{meant, position_named, names_positio
 mod lend;
 
 use ijson_value::object::IObject;
-use ijson_value::value::{DestructuredRef, IValue};
+use ijson_value::value::IValue;
 pub use lend::{Unresolved, resolve_mut, resolve_opened_mut};
 use thiserror::Error;
 
@@ -118,11 +118,10 @@ fn child<'a>(value: &'a IValue, token: &str) -> Option<&'a IValue>
     ensures { (m : List ℕ) → meant token.now ≡ Some m
         → option_map (λ v. v.now.tree) result ≡ child_at value.now.tree m }
 {
-    match value.destructure_ref() {
-        DestructuredRef::Array(array) => item(array.as_slice(), token),
-        DestructuredRef::Object(object) => member(object, token),
-        _ => None,
+    if let Some(array) = value.as_array() {
+        return item(array.as_slice(), token);
     }
+    member(value.as_object()?, token)
 }
 
 /// The value beside the key that a token means.

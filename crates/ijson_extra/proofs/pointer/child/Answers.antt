@@ -1,12 +1,12 @@
+use Rattle.std.proofs.Common.{sym}
 use Rattle.ijson_extra.proofs.tokens.Children.{child_item, child_member}
 use Rattle.ijson_extra.proofs.pointer.child.Goals as goal
 
-pub returns-in-Array : goal.returns-in-Array
-returns-in-Array c = λ m e.
-    child_item c.args.value.now c.in-Array.array.now.items c.item.result c.args.token.now m (rw c.in-Array.is at c.destructure_ref.ensures)
+pub returns-in-Some : goal.returns-in-Some
+returns-in-Some c = λ m e.
+    child_item c.args.value.now c.in-Some.array.now.items c.item.result c.args.token.now m (sym c.in-Some.ensures.some)
     (rw c.as_slice.ensures at c.item.ensures) e
 
-pub returns-in-Object : goal.returns-in-Object
-returns-in-Object c = λ m e.
-    child_member c.args.value.now c.in-Object.object.now c.member.result m (rw c.in-Object.is at c.destructure_ref.ensures)
-    (c.member.ensures m e)
+pub returns : goal.returns
+returns c = λ m e.
+    child_member c.args.value.now c.in_ok-as_object.field-0.now c.member.result m (sym c.in_ok-as_object.ensures.some) (c.member.ensures m e)
