@@ -1,6 +1,7 @@
-//! Examples: small programs as a crate above the library would write them. Each function has a contract of its own, in definitions on trees
-//! (`specs/examples`), and is proved by what the calls promise. Copied into another crate, they name the library `ijson` in place of
-//! `crate`, and their definitions by that crate's name.
+//! Examples: small programs as a crate above the library would write them. All but `pointed`, which shows errors, have contracts, and
+//! five state theirs in definitions on trees (`specs/examples`). To copy one, take its definitions, its `proofs/examples/NAME` and the file
+//! of `proofs/example_lemmas` that these cite, where there are any. Write `ijson` for `crate`, and your crate's name for `Rattle.ijson.`;
+//! `canonical_key` and `pointed` need no proof file.
 
 mod canonical_key;
 mod dedupe;

@@ -4,8 +4,8 @@
 //! equal to another in any order of its pairs. Texts are read by `json::from_json` and written by `json::to_json`, and everything that
 //! takes memory can answer that there is none. This crate re-exports the library's modules.
 //!
-//! Tests: `src/tests`, of numbers, texts, arrays, values, conversions, literals and errors, and `src/examples`, small programs with contracts
-//! of their own.
+//! Tests: `src/tests`, of numbers, texts, arrays, values, conversions, literals and errors, and `src/examples`, small programs, all but
+//! one with contracts of their own.
 #![tactic(auto)]
 
 pub mod json;

@@ -1,5 +1,6 @@
-//! The steps of a literal of `ijson!`: hidden helpers. Where memory is refused a helper drops the item or the pair that it was given,
-//! and the list or the object that it was lent is as it was. So the body that has the literal leaves it in one way only.
+//! The steps of a literal of `ijson!`, not meant to be called by hand. Where memory is refused a step drops the item or the pair that
+//! it was given, and the list or the object that it was lent is as it was. So a step that is refused leaves no item or pair to drop, only
+//! the lists and objects made so far.
 ghost use Rattle.std.specs.Prelude.{◌≡◌, ◌<◌, ◌≤◌, ◌∷◌, ◌++◌, [], length, map, OnOk, OnErr, IfOk, IfErr, IsOk, IsSome};
 ghost use Rattle.ijson_string.specs.Cache.{interned};
 ghost use Rattle.ijson_table.specs.Store.{lookup, put};

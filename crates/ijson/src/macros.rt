@@ -1,8 +1,8 @@
 //! `ijson!`: values written as literals. It takes the tokens of a literal one value at a time, after the Rust crate's.
 
 /// The value of a literal, as a `Result<IValue, ConvertError>`: `null`, a list in brackets, an object in braces, or an
-/// expression whose type has `ToIValue`, nested at will. A key is an expression of type `&str`, and a later equal key
-/// replaces the value. A trailing comma is allowed; a misplaced token does not compile. Room grows as by `push` and `insert`.
+/// expression whose type has `ToIValue`, so no `IValue` and no fraction, nested at will. A key is an expression of type `&str`, and a later
+/// equal key replaces the value. A trailing comma is allowed; a misplaced token does not compile. Room grows as by `push` and `insert`.
 /// Where it is refused, what was made is dropped, and some of the texts may be in the cache.
 ///
 /// ```

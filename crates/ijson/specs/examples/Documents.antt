@@ -1,4 +1,4 @@
--- Documents in the order in which they came, where one is found that is equal.
+-- Documents in the order in which they came, and where among them an equal one stands.
 use Rattle.std.specs.Prelude.{◌≡◌, ◌⊎◌, ◌++◌, ◌∷◌, [], ℕ, List, Some, slice_get}
 use Rattle.ijson_value.specs.Same.{Same}
 use Rattle.ijson_value.specs.Tree.{Tree}

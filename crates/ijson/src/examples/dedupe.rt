@@ -1,4 +1,4 @@
-//! A list without its repeats. Values are keys of a set: `==`, and the hash that agrees with it.
+//! A list without its repeats. The set compares values by `==`, and finds them by the hash that agrees with it.
 ghost use Rattle.std.specs.Prelude.{◌≡◌, IfOk};
 ghost use Rattle.std.specs.List.{IsDistinct};
 ghost use Rattle.ijson_value.specs.SameTest.{same};
@@ -11,7 +11,8 @@ use indexmap::IndexSet;
 use std::alloc::{AllocError, Global};
 use std::process::Abort;
 
-/// The items that are equal to no earlier one, in their order. No two of them are equal, and each item is equal to one of them.
+/// The items that are equal to no earlier one, in their order. No two of them are equal, and each item is equal to one of them. No
+/// clause says the order, nor which of several equal items stays; the test shows both.
 fn without_repeats(alloc: Global, items: IArray) -> Result<IArray, AllocError>
     ensures distinct { IfOk result (λ kept. IsDistinct (λ a b. same a.tree b.tree) kept.items) }
     ensures each { IfOk result (λ kept. (v : WellFormed) → has_equal v kept.items ≡ has_equal v items.items) }

@@ -16,8 +16,8 @@ fn find(documents: &IndexSet<IValue>, document: &IValue) -> Option<usize>
     documents.get_index_of(document)
 }
 
-/// Puts a document last where none is equal to it, and answers the position of the one that is. Where there is no room for
-/// it, the document comes back and the store is as it was.
+/// Puts a document last where none is equal to it, and answers where the equal one stands, which may be this one. Where there is no room
+/// for it, the document comes back and the store is as it was.
 fn store(documents: &mut IndexSet<IValue>, document: IValue) -> Result<usize, AllocFailed<IValue>>
     ensures found { IfOk result (λ position. StandsAt documents.new.keys document.tree position) }
     ensures stores { OnOk result (Stores documents.old.keys document documents.new.keys) }

@@ -15,7 +15,7 @@ enum TotalError {
     NoArray,
     /// The line at this position has no amount, or one that is no whole number of 64 bits.
     NoAmount(usize),
-    /// The sum of the amounts so far passes 64 bits.
+    /// The sum of the amounts up to some line is no `i64`, though that of all may be one. No clause says so.
     TooLarge,
 }
 
@@ -53,7 +53,7 @@ fn invoice_total(records: &IValue) -> Result<i64, TotalError>
 }
 
 /// Invoices and their totals.
-static INVOICES: [(&str, Result<i64, TotalError>); 8] = [
+static INVOICES: [(&str, Result<i64, TotalError>); 11] = [
     (
         "[{\"amount\":3},{\"amount\":-1,\"note\":\"back\"},{\"amount\":4.0}]",
         Ok(6),
@@ -68,7 +68,19 @@ static INVOICES: [(&str, Result<i64, TotalError>); 8] = [
     ("[{\"sum\":1}]", Err(TotalError::NoAmount(0))),
     ("[{\"amount\":1},7]", Err(TotalError::NoAmount(1))),
     (
+        "[{\"amount\":9223372036854775808}]",
+        Err(TotalError::NoAmount(0)),
+    ),
+    (
         "[{\"amount\":9223372036854775807},{\"amount\":1}]",
+        Err(TotalError::TooLarge),
+    ),
+    (
+        "[{\"amount\":9223372036854775807},{\"amount\":1},{\"amount\":-1}]",
+        Err(TotalError::TooLarge),
+    ),
+    (
+        "[{\"amount\":-9223372036854775808},{\"amount\":-1}]",
         Err(TotalError::TooLarge),
     ),
 ];

@@ -9,8 +9,8 @@ use std::alloc::{AllocError, Global};
 use std::mem;
 use std::process::Abort;
 
-/// What `patch` makes of `target`. The error comes where there was no memory for a copy of a value or of a key of the patch, or for
-/// one pair more, which also is where an object has as many as it can have (2^56); the target is gone then.
+/// What `patch` makes of `target`. It is refused where there was no memory for a copy of a part of the patch or for one more pair, and
+/// where an object has 2^56 pairs already. The target is dropped then.
 fn merge(alloc: Global, target: IValue, patch: &IValue) -> Result<IValue, AllocError>
     ensures { IfOk result (λ value. value.tree ≡ merged target.tree patch.now.tree) }
 {
@@ -43,8 +43,14 @@ fn object_of(alloc: Global, value: IValue) -> IObject
     }
 }
 
-/// Targets, patches, and what the patches make of them: the table of RFC 7396, appendix A.
-static MERGED: [(&str, &str, &str); 15] = [
+/// Targets, patches, and what the patches make of them: two that show the order, and the table of RFC 7396, appendix A.
+static MERGED: [(&str, &str, &str); 17] = [
+    (
+        "{\"a\":1,\"b\":2,\"c\":3}",
+        "{\"a\":null}",
+        "{\"b\":2,\"c\":3}",
+    ),
+    ("{\"a\":1,\"b\":2}", "{\"a\":3}", "{\"a\":3,\"b\":2}"),
     ("{\"a\":\"b\"}", "{\"a\":\"c\"}", "{\"a\":\"c\"}"),
     (
         "{\"a\":\"b\"}",

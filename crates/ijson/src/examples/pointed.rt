@@ -36,13 +36,19 @@ fn pointed(alloc: Global, text: &str, pointer: &str) -> Result<String> {
 }
 
 /// Texts, pointers, and what is printed, or told.
-static POINTED: [(&str, &str, &str); 7] = [
+static POINTED: [(&str, &str, &str); 8] = [
     ("{\"server\":{\"port\":8080}}", "/server/port", "8080"),
     ("[1,[2.50]]", "/1", "[2.5]"),
     ("{}", "/a", "nothing stands at \"/a\""),
     ("{}", "a", "\"a\" is no JSON Pointer"),
     ("{\n\"b\": 01}", "", "no JSON at line 2, column 7"),
     ("[\"\u{e9}\" 1]", "", "no JSON at line 1, column 6"),
+    (
+        "[[[[[[[[[[[[[[[[[[[[[[[[[[[[[[[[[[[[[[[[[[[[[[[[[[[[[[[[[[[[[[[[\
+        [[[[[[[[[[[[[[[[[[[[[[[[[[[[[[[[[[[[[[[[[[[[[[[[[[[[[[[[[[[[[[[[",
+        "",
+        "too deep at line 1, column 128",
+    ),
     (
         "[\n\n1e2000000000]",
         "",

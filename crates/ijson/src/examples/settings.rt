@@ -9,8 +9,9 @@ use crate::object::RefusedPair;
 use std::alloc::Global;
 use std::process::Abort;
 
-/// Writes each setting of `over` into `base`; other settings stay. False where one of them is no object. Its proof goes by
-/// `at_key-over` of `ijson_value` (`proofs/examples/settings`).
+/// Writes each setting of `over` into `base`; its other settings stay. False, and `base` as it was, where `base` or `over` is no object,
+/// which no clause says. Where room is refused, the settings before the refused one are written. Its proof goes by `at_key-over` of
+/// `ijson_value` (`proofs/examples/settings`).
 fn overlay(base: &mut IValue, over: IValue) -> Result<bool, RefusedPair>
     ensures { IfOk result (λ done. IsTrue done → (key : List ℕ)
         → tree_at base.new.tree (by_key key)
