@@ -1,7 +1,9 @@
 //! Settings laid over defaults: each member of one object in place of the other's.
-ghost use Rattle.std.specs.Prelude.{◌≡◌, ℕ, List, IfOk, IsTrue};
+ghost use Rattle.std.specs.Prelude.{◌≡◌, ◌≢◌, ◌⊎◌, ℕ, List, IfOk, IsFalse, IsTrue};
 ghost use Rattle.std.specs.Option.{option_or};
+ghost use Rattle.ijson_value.specs.Kind.{kind_of};
 ghost use Rattle.ijson_value.specs.Step.{by_key, tree_at};
+ghost use Rattle.ijson_value.specs.declared.value.ValueType.TheVariants.{Object};
 
 use super::{is_written, parsed};
 use crate::IValue;
@@ -9,13 +11,15 @@ use crate::object::RefusedPair;
 use std::alloc::Global;
 use std::process::Abort;
 
-/// Writes each setting of `over` into `base`; its other settings stay. False, and `base` as it was, where `base` or `over` is no object,
-/// which no clause says. Where room is refused, the settings before the refused one are written. Its proof goes by `at_key-over` of
-/// `ijson_value` (`proofs/examples/settings`).
+/// Writes each setting of `over` into `base`; its other settings stay. False, and `base` as it was, where `base` or `over` is no object.
+/// Where room is refused, the settings before the refused one are written. Its proof goes by `at_key-over` of `ijson_value`
+/// (`proofs/examples/settings`).
 fn overlay(base: &mut IValue, over: IValue) -> Result<bool, RefusedPair>
-    ensures { IfOk result (λ done. IsTrue done → (key : List ℕ)
+    ensures laid_over { IfOk result (λ done. IsTrue done → (key : List ℕ)
         → tree_at base.new.tree (by_key key)
         ≡ option_or (tree_at over.tree (by_key key)) (tree_at base.old.tree (by_key key))) }
+    ensures left { IfOk result (λ done. IsFalse done
+        → (base.new ≡ base.old) × ((kind_of base.old.tree ≢ Object) ⊎ (kind_of over.tree ≢ Object))) }
 {
     let Ok(over) = over.into_object() else {
         return Ok(false);
