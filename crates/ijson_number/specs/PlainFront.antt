@@ -9,7 +9,7 @@ abbrev pub GoesOnWithNone : List ℕ → Type 0
 GoesOnWithNone [] = Unit {0}
 GoesOnWithNone (b ∷ bs) = is_ascii_alphanumeric b ≡ false
 
--- the text begins with a number of at most 19 digits and with no exponent, behind which none goes on
+-- the text begins with a number of at most 19 digits, as `IsDigitFront` counts them, and with no exponent, behind which none goes on
 pub record IsPlainFront (text : List ℕ) (p : Parts) (rest : List ℕ) : Type 0 where
   pub front : IsDigitFront text p rest
   pub stops : GoesOnWithNone rest

@@ -25,7 +25,8 @@ pub record IsPowerTail (text rest : List ℕ) : Type 0 where
   pub exponent : IsFewExponent exponent_text
   pub stops : GoesOnWithNone rest
 
--- the text begins with a number of at most 19 digits and with an exponent of at most four, behind which none goes on
+-- the text begins with a number of at most 19 digits, as `IsDigitFront` counts them, and with an exponent of at most four, behind which
+-- none goes on
 pub record IsPowerFront (text : List ℕ) (p : Parts) (rest : List ℕ) : Type 0 where
   pub power_text : List ℕ
   pub front : IsDigitFront text p power_text

@@ -33,12 +33,12 @@ pub trait DigitRow {
     fn count(&self) -> usize
         ensures { result ≡ digit_count (num self.now).decimal };
 
-    /// How many places the first digit stands before the point, which is the count of stripped digits and the stripped
+    /// How many places the first digit stands before the point, which is the count of stripped digits plus the stripped
     /// exponent; 0 for zero. It is 1 for `1.50`, 0 for `0.5` and -1 for `0.05`.
     fn lead(&self) -> i128
         ensures { result ≡ leading_place (num self.now).decimal };
 
-    /// One stripped digit, from 0 to 9; 0 is the place of the most significant. It is one look.
+    /// One stripped digit, from 0 to 9; `at` is 0 for the most significant, and must be below `count`. It is one look, which must fit.
     fn digit(&self, at: usize, looks: &mut Looks) -> u8
         requires within { at < digit_count (num self.now).decimal }
         requires fits { looks.old + 1 < 2 ^ 128 }
@@ -89,7 +89,8 @@ fn compare_magnitudes<D: DigitRow>(a: &D, b: &D, looks: &mut Looks) -> Ordering
 }
 
 /// The order by exact value; the point isn't looked at. It takes no memory, writes no exponent out, and reads digits
-/// where the signs and the leading places are the same alone. Those are at most twice as many as the number with fewer has.
+/// only where the signs and the leading places are the same. Those are at most twice as many as the number with fewer has. The looks must
+/// stay below 2^128.
 /// `1e1000000000` and `2` differ by their leading places, so no digit of them is read.
 pub fn compare<D: DigitRow>(a: &D, b: &D, looks: &mut Looks) -> Ordering
     requires fits { NeedsDigits (D.num a.now).decimal (D.num b.now).decimal →

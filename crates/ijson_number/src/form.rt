@@ -1,5 +1,5 @@
 //! The stored form of a number, as callers see it.
-ghost use Rattle.std.specs.Prelude.{◌≡◌, ◌^◌, ◌↔◌};
+ghost use Rattle.std.specs.Prelude.{◌≡◌, ◌↔◌};
 ghost use Rattle.ijson_number.specs.Alike.{IsAlike};
 ghost use Rattle.ijson_number.specs.Num.{Num};
 ghost use Rattle.ijson_number.specs.Text.{num_text};
@@ -22,7 +22,7 @@ pub enum Form<'a> {
     /// An integer without the point that is too large for an `i64`.
     U64(u64),
     /// Any other number: each digit from 0 to 9, the most significant first, with no zero at either end, times ten to
-    /// the `exponent`.
+    /// the `exponent`, which is from -2^30 to 2^30. `negative` tells the sign.
     Digits {
         negative: bool,
         digits: &'a [u8],

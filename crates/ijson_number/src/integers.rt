@@ -1,5 +1,5 @@
 //! Numbers from integers, and integers from numbers.
-ghost use Rattle.std.specs.Prelude.{◌/◌, ◌^◌, ◌<◌, ℕ, ℤ, pos, length, nat_abs, IfSome, IfNone, FitsSigned};
+ghost use Rattle.std.specs.Prelude.{◌^◌, ◌<◌, ℕ, ℤ, pos, nat_abs, IfSome, IfNone, FitsSigned};
 ghost use mir.Syntax.{w32, w64};
 ghost use Rattle.ijson_number.specs.Integers.{HasValue, IsInteger};
 

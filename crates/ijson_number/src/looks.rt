@@ -4,7 +4,7 @@ ghost use Rattle.std.specs.Prelude.{◌≡◌, ◌+◌, ◌<◌, ◌^◌};
 
 use std::marker::Model;
 
-/// How often something was looked at: places of a table, or digits of a number. The count is below 2^128.
+/// How often something was looked at: slots of a table, or digits of a number. The count is below 2^128.
 #[derive(Debug, Drop)]
 pub struct Looks {
     seen: u128,

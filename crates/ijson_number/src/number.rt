@@ -40,7 +40,7 @@ impl From<AllocError> for ParseNumberError {
 }
 
 /// An exact decimal: zero, or a whole mantissa that ten doesn't divide times a power of ten whose exponent lies from
-/// -2^30 to 2^30; and whether it was written with a point or an exponent. It is kept in its stored form. It takes 16 bytes; a
+/// -2^30 to 2^30; and its shape: whether it was written with a point or an exponent. It is kept in its stored form. It takes 16 bytes; a
 /// number that is stored as a list of digits has these in memory of its own. `2`, `2.0` and `20e-1` are equal, and the last two
 /// are printed as `2.0`.
 #[derive(Drop)]
@@ -72,8 +72,8 @@ impl INumber {
     ghost use Rattle.ijson_number.specs.declared.number.ParseNumberError.TheVariants.{Memory};
     ghost use Rattle.ijson_number.specs.private.Prefix.{IsMantissa};
 
-    /// The number that the whole text spells, with no white space round it. Memory is taken where the stored form is a
-    /// list of digits alone, once the text is known to spell one. The time is linear in the length of the text, whatever the
+    /// The number that the whole text spells, with no white space round it. Memory is taken only where the stored form is a
+    /// list of digits, once the text is known to spell one. The time is linear in the length of the text, whatever the
     /// exponent. `1.50` and `15e-1` spell equal numbers; `01`, `+1`, `.5`, `1.` and ` 1` are `Invalid`, and so is
     /// `1e2000000000`.
     pub fn from_str(alloc: Global, text: &str) -> Result<INumber, ParseNumberError>
@@ -104,8 +104,8 @@ impl INumber {
 
     /// The number that the text begins with, and how many bytes spell it, in one pass over them. It has at most 19 digits, among
     /// which a single zero before the point does not count, no exponent or one of at most four digits, and no digit or letter stands
-    /// behind it. Of `1.5.5` that is `1.5`; `1.` begins with none. Else None may be answered, and `from_str` reads what stands there.
-    /// Memory is taken as there.
+    /// behind it. Of `1.5.5` that is `1.5`; `1.` begins with none. For any other text the answer may be None; call `from_str` for it.
+    /// Memory is taken as by `from_str`.
     #[inline(always)]
     pub fn at_front(alloc: Global, text: &str) -> Result<Option<(INumber, usize)>, AllocError>
         ensures found { IfOk result (λ found. IfSome found (λ f.

@@ -1,5 +1,6 @@
 -- What the pass over the front of a text finds there.
-use Rattle.std.specs.Prelude.{◌≡◌, ◌⊎◌, ℕ, ◌+◌, ◌^◌, ◌<◌, ◌≤◌, Bool, List, ◌++◌, length, nat_lt, take, true, ℤ, pos, neg_ℤ, ◌-ℤ◌, ◌≤ℤ◌}
+use Rattle.std.specs.Prelude.{◌≡◌, ◌≢◌, ◌⊎◌, ℕ, ◌+◌, ◌%◌, ◌^◌, ◌<◌, ◌≤◌, Bool, List, ◌++◌, length, nat_lt, take, true, false}
+use Rattle.std.specs.Prelude.{ℤ, pos, negsuc, neg_ℤ, ◌-ℤ◌, ◌≤ℤ◌}
 use Rattle.std.specs.Int.Digits.{number_from_digits_after}
 use Rattle.ijson_number.specs.Decimal.{Decimal}
 use Rattle.ijson_number.specs.Grammar.{IsExponent, IsFraction, IsMinus, IsWhole, Spells, value}
@@ -60,9 +61,22 @@ pub record IsPower (text : List ℕ) (power : ℤ) (count : ℕ) : Type 0 where
 abbrev pub power_number : Prefix → ℤ → Decimal
 power_number f power = stripped_number (signed f.negative f.magnitude) (power -ℤ pos f.scale) true
 
+-- it is not zero, and its stripped exponent is too small or too large for a word, whatever the digits are
+abbrev pub IsOutsidePower : Prefix → ℤ → Type 0
+IsOutsidePower f power = let exponent = (power_number f power).exponent in
+    (f.magnitude ≢ 0) × ((exponent ≤ℤ negsuc 7) ⊎ (pos 27 ≤ℤ exponent))
+
 -- what the digits and the places are
 abbrev pub prefix_number : Prefix → Decimal
 prefix_number f = stripped_number (signed f.negative f.magnitude) (neg_ℤ (pos f.scale)) (nat_lt 0 f.scale)
+
+-- the digits make an integer of a word, or are few enough for the mantissa of one
+abbrev pub IsWordPrefix : Prefix → Type 0
+IsWordPrefix f = ((f.scale ≡ 0) × ((f.magnitude < 2 ^ 63) ⊎ (f.negative ≡ false))) ⊎ ((f.scale ≤ 7) × (f.magnitude < 2 ^ 55))
+
+-- the last of the digits, which is no zero, stands too deep behind the point for a word
+abbrev pub IsDeepPrefix : Prefix → Type 0
+IsDeepPrefix f = (7 < f.scale) × (f.magnitude % 10 ≢ 0)
 
 -- a number of few digits at the front
 pub record IsPrefix (text : List ℕ) (f : Prefix) : Type 0 where

@@ -1,4 +1,4 @@
--- Which numbers are written by rows of 16 digits, with no formatter.
+-- Which numbers are written by rows of 16 digits, and which in a buffer, with no formatter.
 use Rattle.std.specs.Prelude.{◌≡◌, ℕ, ◌+◌, ◌<◌, ◌≤◌, length, ℤ, pos, negsuc, nat_abs, neg_ℤ, int_le, int_lt, ◌+ℤ◌, ◌<ℤ◌, ◌≤ℤ◌}
 use Rattle.std.specs.Prelude.{◌||◌, true, false, ◌⊎◌, FitsSigned}
 use mir.Syntax.{w16}
@@ -51,3 +51,10 @@ pub record IsShortInRows (n : Decimal) : Type 0 where
 
 abbrev pub IsRowText : Decimal → Type 0
 IsRowText n = IsWordInteger n ⊎ IsPackedPointed n ⊎ IsShortInRows n
+
+-- the point stands between two digits, and a buffer has room for all of them
+pub record IsBufferText (n : Decimal) : Type 0 where
+  pub pointed : n.point ≡ true
+  pub below_zero : n.exponent <ℤ pos 0
+  pub between : nat_abs n.exponent < length (stripped_digits n)
+  pub few : length (stripped_digits n) ≤ 20

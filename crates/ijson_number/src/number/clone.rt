@@ -52,7 +52,7 @@ impl Clone for INumber {
 
     ghost is_infallible = { λ n. is_digits (form_of n.decimal) ≡ false };
 
-    /// Memory is taken, and time linear in the digits, where the stored form is a list of digits alone.
+    /// Only where the stored form is a list of digits does it take memory, and time linear in the digits.
     fn clone(&self) -> Result<INumber, AllocError> {
         let stored = self.stored.clone()?;
         Ok(INumber { stored })

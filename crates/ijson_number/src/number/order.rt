@@ -1,5 +1,5 @@
 //! Equality and order by exact value.
-ghost use Rattle.std.specs.Prelude.{◌<◌, Some, false, refl};
+ghost use Rattle.std.specs.Prelude.{Some, refl};
 ghost use Rattle.std.specs.Cmp.{partial_equiv_from_equiv, on_equiv, on_total, po};
 ghost use Rattle.ijson_number.specs.Order.{number_cmp, number_eq};
 ghost use Rattle.ijson_number.specs.laws.Ordered.{number_cmp_total, number_eq_equiv};
@@ -47,8 +47,8 @@ impl PartialOrd for INumber {
     }
 }
 
-/// By exact value; the point isn't looked at. It takes no memory and writes no exponent out. Digits are read where signs and
-/// leading places are the same alone, and then at most twice as many as the number with fewer has.
+/// By exact value; the point isn't looked at. It takes no memory and writes no exponent out. Digits are read only
+/// where signs and leading places are the same, and then at most twice as many as the number with fewer has.
 impl Ord for INumber {
     ghost cmp = { λ a b. number_cmp a.decimal b.decimal };
 

@@ -1,5 +1,5 @@
 //! An exponent behind the digits at the front of a text.
-ghost use Rattle.std.specs.Prelude.{◌≡◌, ◌+◌, ◌<◌, List, ℕ, drop, length, IfNone, IfSome};
+ghost use Rattle.std.specs.Prelude.{◌≡◌, ◌+◌, List, ℕ, drop, length, IfNone, IfSome};
 ghost use Rattle.ijson_number.specs.PlainFront.{GoesOnWithNone};
 ghost use Rattle.ijson_number.specs.PowerFront.{IsPowerTail};
 ghost use Rattle.ijson_number.specs.private.Prefix.{IsPower};

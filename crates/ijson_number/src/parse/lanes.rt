@@ -1,5 +1,5 @@
 //! The digits at the front of 16 bytes, read all at once.
-ghost use Rattle.std.specs.Prelude.{◌≡◌, ◌-◌, ◌^◌, ◌≤◌, length, take};
+ghost use Rattle.std.specs.Prelude.{◌≡◌, ◌^◌, ◌≤◌, length, take};
 ghost use Rattle.std.specs.Int.Digits.{AllBelowBase, number_from_digits};
 ghost use Rattle.ijson_number.specs.Grammar.{AllDigits, value};
 ghost use Rattle.ijson_number.specs.private.PrefixDigits.{IsCount};

@@ -1,5 +1,5 @@
 //! A number of few digits at the front of a text, read in one pass.
-ghost use Rattle.std.specs.Prelude.{◌≡◌, ◌≢◌, ◌+◌, ◌-◌, ◌*◌, ◌^◌, ◌<◌, ◌≤◌, List, ℕ, take, length, IfNone, IfSome, IsFalse, IsTrue};
+ghost use Rattle.std.specs.Prelude.{◌≡◌, ◌≢◌, ◌+◌, ◌-◌, ◌*◌, ◌^◌, ◌<◌, ◌≤◌, ◌⊎◌, List, ℕ, length, IfNone, IfSome, IsFalse, IsTrue};
 ghost use Rattle.ijson_number.specs.Grammar.{Parts};
 ghost use Rattle.ijson_number.specs.DigitFront.{IsDigitFront};
 ghost use Rattle.ijson_number.specs.PlainFront.{GoesOnWithNone};
@@ -14,10 +14,12 @@ use std::simd::prelude::*;
 /// How many digits of a whole part are read one by one.
 const FEW: usize = 4;
 
-/// The number that the digits at the front, but at most so many, make of one, and how many they are.
+/// The number that the digits at the front, but at most so many, make of one, and how many they are. They are read one by one, so it
+/// may be asked only for few, or of a text that is shorter than a row of 16: it does not take the place of the rows.
 #[inline(always)]
 pub fn take_digits(number: u64, bytes: &[u8], most: usize) -> (u64, usize)
-    requires { (number + 1) * 10 ^ most ≤ 10 ^ 19 }
+    requires few { (most ≤ 4) ⊎ (length bytes.now < 16) }
+    requires room { (number + 1) * 10 ^ most ≤ 10 ^ 19 }
     ensures { IsTaken number bytes.now most result.0 result.1 }
 {
     let (mut longer, mut count) = (number, 0);
@@ -99,8 +101,8 @@ fn take_tail(number: u64, count: usize, bytes: &[u8]) -> Option<(u64, usize, &[u
     Some((number, 0, bytes))
 }
 
-/// The number at the front of a text that has no exponent: what its digits write, how many of them stand behind the point, and
-/// how many bytes it has. There is a point where digits stand behind it.
+/// The number at the front of a text, without the exponent that may stand behind it: what its digits write, how many of them stand
+/// behind the point, and how many bytes it has. There is a point where digits stand behind it.
 #[derive(Clone, Copy)]
 pub struct Prefix {
     pub negative: bool,

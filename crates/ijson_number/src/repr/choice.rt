@@ -110,7 +110,8 @@ impl INumber {
     ghost use Rattle.std.specs.Prelude.{◌<◌, ◌≤◌, List, ℕ, IfOk, OnErr};
     ghost use Rattle.ijson_number.specs.Form.{is_digits};
     ghost use Rattle.ijson_number.specs.Num.{IsNum};
-    ghost use Rattle.ijson_number.specs.private.Prefix.{IsPrefix, IsPowerSmall, prefix_number, power_number};
+    ghost use Rattle.ijson_number.specs.private.Prefix.{IsDeepPrefix, IsOutsidePower, IsPowerSmall, IsPrefix, IsWordPrefix};
+    ghost use Rattle.ijson_number.specs.private.Prefix.{prefix_number, power_number};
     ghost use Rattle.ijson_number.specs.private.Scanned.{IsScanned, scanned_number};
     ghost use Rattle.ijson_number.specs.private.StrippedNumber.{decimal_of};
 
@@ -156,6 +157,20 @@ impl INumber {
                 stored: Stored::Short(number),
             });
         }
+        INumber::from_power_digits(alloc, prefix, power)
+    }
+
+    /// The number that `short_power` leaves, by its stripped digits: it may be asked of no other. It is in line, since `from_power` is a
+    /// call already.
+    #[inline(always)]
+    fn from_power_digits(alloc: Global, prefix: Prefix, power: i16) -> Result<INumber, AllocError>
+        requires few { prefix.scale ≤ 19 }
+        requires power { IsPowerSmall power }
+        requires num { IsNum (power_number prefix power) }
+        requires other { IsOutsidePower prefix power → ⊥ }
+        ensures number { IfOk result (λ n. n.decimal ≡ power_number prefix power) }
+        ensures refused { OnErr result (is_digits (form_of (power_number prefix power)) ≡ true) }
+    {
         let exponent = power - prefix.scale as i16;
         let mut buffer = [0; MAX_DIGITS];
         let number = StrippedNumber::from_magnitude(
@@ -181,10 +196,12 @@ impl INumber {
         INumber::from_other_prefix(alloc, prefix)
     }
 
-    /// The number of a prefix that no word holds. It is in line, so that room for what the call answers is cleared here alone.
+    /// The number of a prefix that `word` leaves: it may be asked of no other. It is in line, so that room for what the call answers is
+    /// cleared here alone.
     #[inline(always)]
     fn from_other_prefix(alloc: Global, prefix: Prefix) -> Result<INumber, AllocError>
-        requires { (text : List ℕ) × IsPrefix text prefix }
+        requires prefix { (text : List ℕ) × IsPrefix text prefix }
+        requires other { IsWordPrefix prefix → ⊥ }
         ensures number { IfOk result (λ n. n.decimal ≡ prefix_number prefix) }
         ensures refused { OnErr result (is_digits (form_of (prefix_number prefix)) ≡ true) }
     {
@@ -196,7 +213,8 @@ impl INumber {
     /// The same. It stays a call, since its buffers would be cleared for each number that a word holds.
     #[inline(never)]
     fn from_wide_prefix(alloc: Global, prefix: Prefix) -> Result<INumber, AllocError>
-        requires { (text : List ℕ) × IsPrefix text prefix }
+        requires prefix { (text : List ℕ) × IsPrefix text prefix }
+        requires other { IsWordPrefix prefix → ⊥ }
         ensures number { IfOk result (λ n. n.decimal ≡ prefix_number prefix) }
         ensures refused { OnErr result (is_digits (form_of (prefix_number prefix)) ≡ true) }
     {
@@ -206,6 +224,19 @@ impl INumber {
                 stored: Stored::Short(number),
             });
         }
+        INumber::from_prefix_digits(alloc, prefix)
+    }
+
+    /// The number of a prefix that `short` leaves too, by its stripped digits: it may be asked of no other. It is in line, since
+    /// `from_wide_prefix` is a call already.
+    #[inline(always)]
+    fn from_prefix_digits(alloc: Global, prefix: Prefix) -> Result<INumber, AllocError>
+        requires prefix { (text : List ℕ) × IsPrefix text prefix }
+        requires other { IsWordPrefix prefix → ⊥ }
+        requires places { IsDeepPrefix prefix → ⊥ }
+        ensures number { IfOk result (λ n. n.decimal ≡ prefix_number prefix) }
+        ensures refused { OnErr result (is_digits (form_of (prefix_number prefix)) ≡ true) }
+    {
         let exponent = -(prefix.scale as i16);
         let mut buffer = [0; MAX_DIGITS];
         let number = StrippedNumber::from_magnitude(

@@ -1,9 +1,10 @@
 //! What is stored of a number that `parse::prefix` has read: a word, or 24 bytes.
-ghost use Rattle.std.specs.Prelude.{◌≡◌, ◌≢◌, ◌⊎◌, ◌<◌, ◌≤◌, ◌≤ℤ◌, ◌-◌, ◌%◌, ◌^◌, pos, neg_ℤ, negsuc, true, IfSome, IsSome, List, ℕ};
+ghost use Rattle.std.specs.Prelude.{◌≡◌, ◌<◌, ◌≤◌, ◌^◌, pos, neg_ℤ, true, IfSome, IsSome, List, ℕ};
 ghost use Rattle.ijson_number.specs.Decimal.{Decimal};
 ghost use Rattle.ijson_number.specs.Form.{form_of};
 ghost use Rattle.ijson_number.specs.Strips.{Strips, signed};
-ghost use Rattle.ijson_number.specs.private.Prefix.{IsPrefix, IsPowerSmall, prefix_number, power_number};
+ghost use Rattle.ijson_number.specs.private.Prefix.{IsDeepPrefix, IsOutsidePower, IsPowerSmall, IsPrefix, IsWordPrefix};
+ghost use Rattle.ijson_number.specs.private.Prefix.{prefix_number, power_number};
 ghost use Rattle.ijson_number.specs.private.Stored.{short_form, stored_form};
 
 use crate::parse::prefix::Prefix;
@@ -46,8 +47,7 @@ impl Prefix {
     pub fn word(self) -> Option<Stored>
         requires { (text : List ℕ) × IsPrefix text self }
         ensures word { IfSome result (λ s. stored_form s ≡ form_of (prefix_number self)) }
-        ensures whole { self.scale ≡ 0 → self.magnitude < 2 ^ 63 → IsSome result }
-        ensures short { self.scale ≤ 7 → self.magnitude < 2 ^ 55 → IsSome result }
+        ensures common { IsWordPrefix self → IsSome result }
     {
         if self.scale > 0 {
             return pointed_word(self.negative, self.magnitude, self.scale);
@@ -65,7 +65,7 @@ impl Prefix {
     pub fn short(self) -> Option<ShortNumber>
         requires { (text : List ℕ) × IsPrefix text self }
         ensures form { IfSome result (λ n. short_form n ≡ form_of (prefix_number self)) }
-        ensures deep { 7 < self.scale → self.magnitude % 10 ≢ 0 → IsSome result }
+        ensures deep { IsDeepPrefix self → IsSome result }
     {
         let (number, scale) = without_zeros(self.magnitude, self.scale);
         if scale <= 7 {
@@ -86,8 +86,7 @@ impl Prefix {
         requires small { self.magnitude < 10 ^ 19 }
         requires power { IsPowerSmall power }
         ensures form { IfSome result (λ n. short_form n ≡ form_of (power_number self power)) }
-        ensures outside { let exponent = (power_number self power).exponent in
-            self.magnitude ≢ 0 → (exponent ≤ℤ negsuc 7 ⊎ pos 27 ≤ℤ exponent) → IsSome result }
+        ensures outside { IsOutsidePower self power → IsSome result }
     {
         if self.magnitude == 0 {
             return None;

@@ -1,7 +1,8 @@
 //! The text of a number with the point between its digits, written at once.
-ghost use Rattle.std.specs.Prelude.{◌≡◌, ◌+◌, ◌-◌, ◌<◌, ◌<ℤ◌, ◌≤◌, ◌++◌, drop, length, nat_abs, pos, true, IfSome, IsSome};
+ghost use Rattle.std.specs.Prelude.{◌≡◌, ◌+◌, ◌-◌, ◌<◌, ◌≤◌, ◌++◌, drop, length, IfSome, IsSome};
 ghost use Rattle.std.specs.List.{All};
 ghost use Rattle.ijson_number.specs.Text.{digits_text, minus_text, num_text};
+ghost use Rattle.ijson_number.specs.private.RowText.{IsBufferText};
 ghost use Rattle.ijson_number.specs.private.SplitText.{split_text};
 ghost use Rattle.ijson_number.specs.private.StrippedNumber.{decimal_of};
 
@@ -67,9 +68,7 @@ impl StrippedNumber<'_> {
     /// The text, where the point stands between two of its few digits.
     pub fn short_text<'a>(&self, buffer: &'a mut [u8; TEXT_BUFFER]) -> Option<&'a str>
         ensures text { IfSome result (λ text. text.now ≡ num_text (decimal_of self.now)) }
-        ensures between { self.now.point ≡ true → self.now.exponent <ℤ pos 0
-            → nat_abs self.now.exponent < length self.now.digits.now
-            → length self.now.digits.now ≤ 20 → IsSome result }
+        ensures between { IsBufferText (decimal_of self.now) → IsSome result }
     {
         let scale = self.exponent.unsigned_abs() as usize;
         let digits = self.digits;

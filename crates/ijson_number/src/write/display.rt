@@ -1,5 +1,5 @@
 //! Writes a number's text.
-ghost use Rattle.std.specs.Prelude.{Some, ◌<◌, ◌≤◌, ◌+◌, ◌≡◌, ◌^◌, pos, neg_ℤ, ◌<ℤ◌, int_le, int_lt, negsuc, ◌||◌, length};
+ghost use Rattle.std.specs.Prelude.{Some, ◌<◌, ◌≤◌, ◌≡◌, ◌^◌, pos, neg_ℤ, ◌<ℤ◌, int_le, int_lt, negsuc, ◌||◌, length};
 ghost use Rattle.std.specs.List.{All};
 ghost use Rattle.ijson_number.specs.Text.{digits_text, num_text, point_text, scientific_text, shape_text, zeros_text};
 

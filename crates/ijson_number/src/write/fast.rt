@@ -1,14 +1,13 @@
 //! Appends a number's text, 16 digits at a time.
-ghost use Rattle.std.specs.Prelude.{◌≡◌, ◌+◌, ◌-◌, ◌/◌, ◌%◌, ◌^◌, ◌<◌, ◌≤◌, ◌∷◌, ◌++◌, ◌||◌, ℤ, drop, length, nat_abs, neg_ℤ, pos};
-ghost use Rattle.std.specs.Prelude.{true, false, ◌≤ℤ◌, ◌⊎◌, IfOk, IsTrue, OnErr, OnOk};
-ghost use Rattle.std.specs.Fmt.{decimal};
+ghost use Rattle.std.specs.Prelude.{◌≡◌, ◌+◌, ◌-◌, ◌/◌, ◌%◌, ◌^◌, ◌<◌, ◌≤◌, ◌∷◌, ◌++◌, ℤ, drop, length, nat_abs, neg_ℤ, pos};
+ghost use Rattle.std.specs.Prelude.{true, ◌≤ℤ◌, ◌⊎◌, IfOk, IsTrue, OnErr, OnOk};
 ghost use Rattle.std.specs.String.{string_bytes};
 ghost use Rattle.ijson_number.specs.AppendsBeginning.{AppendsBeginning};
 ghost use Rattle.ijson_number.specs.Form.{form_of, packed};
 ghost use Rattle.ijson_number.specs.Text.{digits_text, minus_text, num_text, zeros_text};
 ghost use Rattle.ijson_number.specs.Stripped.{stripped_number};
 ghost use Rattle.ijson_number.specs.private.Pushed.{Pushed};
-ghost use Rattle.ijson_number.specs.private.RowText.{IsBelowOne, IsInRows, IsRowText, IsScientific};
+ghost use Rattle.ijson_number.specs.private.RowText.{IsBelowOne, IsBufferText, IsInRows, IsRowText, IsScientific};
 ghost use Rattle.ijson_number.specs.private.SplitText.{split_text};
 ghost use Rattle.ijson_number.specs.private.StrippedNumber.{decimal_of};
 ghost use Rattle.ijson_number.specs.private.WordText.{integer_text, pointed_text};
@@ -245,8 +244,7 @@ impl INumber {
         Ok(true)
     }
 
-    /// Appends the text of a number that `push_plain` leaves. It stays a call, since few numbers want it. What a formatter leaves after
-    /// an error is in no clause of std, so it writes into a text of its own.
+    /// Appends the text of a number that `push_plain` leaves. It stays a call, since few numbers want it.
     #[inline(never)]
     fn push_other(&self, out: &mut String) -> Result<(), AllocError>
         requires { IsRowText self.now.decimal → ⊥ }
@@ -258,6 +256,18 @@ impl INumber {
         if let Some(text) = self.stripped(&mut buffer).short_text(&mut text_buffer) {
             return out.push_str(text);
         }
+        self.push_formatted(out)
+    }
+
+    /// Appends the text of a number that `short_text` leaves too, by a formatter. What that leaves after an error is in no clause of
+    /// std, so it writes into a text of its own.
+    fn push_formatted(&self, out: &mut String) -> Result<(), AllocError>
+        requires row { IsRowText self.now.decimal → ⊥ }
+        requires buffer { IsBufferText self.now.decimal → ⊥ }
+        ensures written { OnOk result (string_bytes out.new
+            ≡ string_bytes out.old ++ num_text self.now.decimal) }
+        ensures refused { OnErr result (string_bytes out.new ≡ string_bytes out.old) }
+    {
         let text = format!(in *out.allocator(); "{self}")?;
         out.push_str(text.as_str())
     }

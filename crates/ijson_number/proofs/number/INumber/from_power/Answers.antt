@@ -1,18 +1,15 @@
-use Rattle.std.proofs.Common.{◌≡◌, ◌∙◌, ap, sym, subst}
-use Rattle.std.specs.Prelude.{ℤ, IfOk, OnErr, true}
+use Rattle.std.proofs.Common.{◌≡◌, ◌∙◌, ap, sym}
+use Rattle.std.specs.Prelude.{ℤ}
 use mir.Syntax.{w16}
 use mir.Val.{of_z, to_z}
-use Rattle.ijson_number.specs.Decimal.{Decimal}
 use Rattle.ijson_number.specs.Form.{form_of, is_digits}
-use Rattle.ijson_number.specs.Num.{Num}
 use Rattle.ijson_number.specs.declared.parse.prefix.Prefix.{Prefix}
 use Rattle.ijson_number.specs.declared.repr.stored.ShortNumber.{ShortNumber}
 use Rattle.ijson_number.specs.private.Prefix.{IsPowerSmall, power_number}
 use Rattle.ijson_number.specs.private.Stored.{short_form}
-use Rattle.ijson_number.specs.private.StrippedNumber.{decimal_of}
 use Rattle.ijson_number.proofs.storing.FormNumbers.{form_has, stored_num, stored_form_of}
 use Rattle.ijson_number.proofs.AnyAnswer.{where_refused}
-use Rattle.ijson_number.proofs.storing.ShortNumbers.{lowered, small_exact}
+use Rattle.ijson_number.proofs.storing.ShortNumbers.{small_exact}
 use Rattle.ijson_number.proofs.number.INumber.from_power.Goals as goal
 
 -- the digits are the form of the number
@@ -45,16 +42,3 @@ pub returns-in_err-number-clause-refused : goal.returns-in_err-number-clause-ref
 returns-in_err-number-clause-refused c =
     where_refused c.from_residual.result
     (ap is_digits (sym (form_is c.args.prefix c.args.power c.in-Some.short c.requires.power c.in-Some.ensures.form)))
-
-pub from_magnitude-number-requires : goal.from_magnitude-number-requires
-from_magnitude-number-requires c = rw (lowered c.args.power c.args.prefix.scale c.requires.power c.requires.few) c.requires.num
-
-pub returns : goal.returns
-returns c =
-    let r = c.from_stripped in
-    let is : decimal_of c.from_magnitude-number.result ≡ power_number c.args.prefix c.args.power =
-    rw (lowered c.args.power c.args.prefix.scale c.requires.power c.requires.few) at c.from_magnitude-number.ensures in
-    record {
-      number = subst (λ (n : Decimal). IfOk r.result (λ (m : Num). m.decimal ≡ n)) is r.ensures.number;
-      refused = subst (λ (n : Decimal). OnErr r.result (is_digits (form_of n) ≡ true)) is r.ensures.refused;
-    }

@@ -20,7 +20,7 @@ small c =
     let l = c.loop-count in
     rw l.invariant.value
     (step_small c.args.number c.args.bytes.now l.count c.args.most l.invariant.digits c.if-count-bytes.true
-    c.loop-count-test.true (digit c) c.requires)
+    c.loop-count-test.true (digit c) c.requires.room)
 
 pub overflow_mul-longer : goal.overflow_mul-longer
 overflow_mul-longer c = let s = small c in grind (arith, s)

@@ -1,4 +1,4 @@
-use Rattle.std.proofs.Common.{◌≡◌, ℕ, ◌+◌, ◌-◌, ◌*◌, ◌^◌, ◌≤◌, min, List, length, take, drop, ap, ◌∙◌, arith}
+use Rattle.std.proofs.Common.{◌≡◌, ℕ, ◌+◌, ◌-◌, ◌*◌, ◌^◌, ◌≤◌, min, List, length, take, drop, ap, inl, refl, ◌∙◌, arith}
 use Rattle.std.specs.Int.Digits.{number_from_digits_after}
 use Rattle.std.proofs.lemmas.List.{length-take-le, take_rest}
 use lib.Lanes.{chunk}
@@ -8,6 +8,7 @@ use Rattle.ijson_number.specs.private.PrefixDigits.{IsCount, IsTaken}
 use Rattle.ijson_number.proofs.parsing.PrefixDigits.{at_most_16, room_behind, row_digits}
 use Rattle.ijson_number.proofs.parsing.PrefixDigits.{row_in_text, row_small, row_taken, row_value}
 use Rattle.ijson_number.proofs.parsing.PrefixDigits.{taken_behind}
+use Rattle.ijson_number.proofs.storing.WholeValues.{tens_few}
 use Rattle.ijson_number.proofs.parse.prefix.take_lanes.Goals as goal
 
 pub number_of-requires-clause-digits : goal.number_of-requires-clause-digits
@@ -68,8 +69,15 @@ module _ (number : ℕ) (bytes : List ℕ) (most found count power read : ℕ) (
   all_taken longest more t =
       taken_behind number (number * power + read) bytes 16 most longest more enough buffer digits taken (rw (take_rest bytes 16) at t)
 
-pub take_digits-longest-requires : goal.take_digits-longest-requires
-take_digits-longest-requires c =
+-- there is room for 19 digits at most
+pub take_digits-longest-requires-clause-few : goal.take_digits-longest-requires-clause-few
+take_digits-longest-requires-clause-few c =
+    let a = c.args in
+    let few = tens_few ((a.number + 1) * 10 ^ a.most) (a.number + 1) a.most (omega (arith, c.requires)) (omega arith) refl in
+    inl (omega (arith, few))
+
+pub take_digits-longest-requires-clause-room : goal.take_digits-longest-requires-clause-room
+take_digits-longest-requires-clause-room c =
     room_left c.args.number c.args.bytes.now c.args.most c.digit_count.result c.min-count.result _ _
     (omega arith) c.digit_count.ensures c.min-count.ensures (omega arith) c.power_of_ten.ensures c.number_of.ensures c.requires
 

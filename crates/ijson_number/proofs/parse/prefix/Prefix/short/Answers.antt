@@ -39,9 +39,9 @@ returns-clause-form c =
     rw (c.of_number.ensures, exact, point) (sym form)
 
 pub returns-then-scale-le7-clause-deep : goal.returns-then-scale-le7-clause-deep
-returns-then-scale-le7-clause-deep c many ends =
+returns-then-scale-le7-clause-deep c deep =
     let f = c.args.self in
     let w = c.without_zeros-number in
     let t = f.scale - w.result.1 in
     let some : t ≡ suc (t - 1) = omega arith in
-    absurd (ends (rw (w.ensures.tens, some) (ends_in_zero w.result.0 (t - 1))))
+    absurd (deep.1 (rw (w.ensures.tens, some) (ends_in_zero w.result.0 (t - 1))))

@@ -59,20 +59,20 @@ returns-clause-form c =
     (some_left f.magnitude w.result.0 left w.ensures.tens c.if-self-eq0.false c.requires.small)) word refl outside))
 
 pub returns-then-exponent-lt27-clause-outside : goal.returns-then-exponent-lt27-clause-outside
-returns-then-exponent-lt27-clause-outside c = λ some outside.
+returns-then-exponent-lt27-clause-outside c = λ outside.
     let f = c.args.self in
     let w = c.without_zeros-number in
     let left = w.result.1 in
     let e : ℤ = c.args.power -ℤ pos f.scale in
     let exact = exponent_is c.args.power f.scale left c.requires.power c.requires.few in
-    let last = w.ensures.stripped (some_left f.magnitude w.result.0 left w.ensures.tens some c.requires.small) in
+    let last = w.ensures.stripped (some_left f.magnitude w.result.0 left w.ensures.tens outside.0 c.requires.small) in
     let small = c.requires.small in
     let few : f.magnitude < 10 ^ 20 = omega (arith, small) in
     let is : (power_number f c.args.power).exponent ≡ e +ℤ pos (19 - left) =
-    ap (λ (n : Decimal). n.exponent) (some_is f.magnitude w.result.0 (19 - left) some few w.ensures.tens last f.negative e true) in
+    ap (λ (n : Decimal). n.exponent) (some_is f.magnitude w.result.0 (19 - left) outside.0 few w.ensures.tens last f.negative e true) in
     let low = c.if-exponent-gtminus8.true in
     let high = c.if-exponent-lt27.true in
-    elim outside [
+    elim outside.1 [
       | inl below ↦ absurd (omega (arith, ints, exact, is, low, below))
       | inr above ↦ absurd (omega (arith, ints, exact, is, high, above))
     ]
