@@ -1,10 +1,12 @@
 -- The keys of a table, by the hashes and the texts at their positions.
-use Rattle.std.proofs.Common.{◌≡◌, ◌∙◌, ap, sym, refl, ℕ, zero, suc, ◌<◌, List, [], ◌∷◌, ◌++◌, length, get_or, map, arith}
+use Rattle.std.proofs.Common.{◌≡◌, ◌∙◌, ap, sym, refl, ℕ, zero, suc, ◌<◌, List, [], ◌∷◌, ◌++◌, length, get_or, map}
+use Rattle.std.proofs.Common.{IfOk, Result, Ok, Err, arith}
 use Rattle.std.proofs.lemmas.List.{get_or-map, get_or_default, length-map}
+use Rattle.std.specs.Result.{MatchResult}
 use Rattle.ijson_string.specs.declared.table.chains.Link.{Link}
 use Rattle.ijson_string.specs.private.Chains.{bucket_of}
 use Rattle.ijson_string.specs.private.IsTable.{hashes_of}
-use Rattle.ijson_string.specs.private.Keys.{Key, buckets_of, keys_of, no_key}
+use Rattle.ijson_string.specs.private.Keys.{Key, buckets_of, keys_of, no_key, IsTextAt}
 
 -- the bucket of each key, among so many
 abbrev pub buckets_of_keys : ℕ → List Key → List ℕ
@@ -61,3 +63,9 @@ module _ (links : List Link) (texts : List (List ℕ)) (keys : List Key) (listed
   -- and the text there
   pub text_there : (i : ℕ) (t : List ℕ) → i < length keys → t ≡ get_or texts i t → (get_or keys i no_key).text ≡ t
   text_there i t within text = ap (λ k. k.text) (key_at i) ∙ get_or_default texts i [] t (omega (arith, listed, as_many_keys)) ∙ sym text
+
+  -- and a clone of that has this text, where it was found there
+  pub clone_there : {E : Type 0} (P : E → Type 0) (r : Result (List ℕ) E) (i : ℕ) (t text : List ℕ) → IsTextAt text keys i
+      → t ≡ get_or texts i t → MatchResult r (λ copy. copy ≡ t) P → IfOk r (λ copy. copy ≡ text)
+  clone_there P (Ok copy) i t text found there same = same ∙ sym (text_there i t found.0 there) ∙ found.1
+  clone_there P (Err e) i t text found there same = tt

@@ -14,7 +14,7 @@ use std::marker::Model;
 
 /// A set of texts of more than 7 bytes, each kept once. `IString::intern` adds to it, and shares what it holds. A text stays
 /// until `clear`, also where nobody else has it. Beside its own memory it takes 24 bytes here, in two lists that double where they
-/// are full, and from 32 texts on 2 to 4 for the bucket of its hash; from 4,096 texts on 16 KB lead to those that came again. The
+/// are full, and from 32 texts on 2 to 4 for the bucket of its hash; from 4,097 texts on 16 KB lead to those that came again. The
 /// cache itself takes 1 KB, which leads to the text that followed the last time: where texts come again in the same order, they are
 /// compared and not hashed. At most 2^32 - 1 texts fit, and one more is refused as where memory is. Texts that a stranger chose want
 /// a hasher with a random seed, as `RandomState` is.

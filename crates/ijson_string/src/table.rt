@@ -20,7 +20,7 @@ use std::marker::Model;
 /// A hash table with separate chaining. The texts stand in a list, in the order in which they came, and beside it is a list of
 /// links, which a look-up follows. The texts of a bucket form a chain, from the last that came to the first, so positions fall along
 /// it. A chain is followed only where the filter of its bucket lets the hash pass, which tells thirty-nine in forty of the texts that
-/// are not there. A text takes 16 bytes and its link 8, and from 64 texts on there are two to four for each bucket of 8 bytes; each
+/// are not there. A text takes 16 bytes and its link 8, and from 32 texts on there are two to four for each bucket of 8 bytes; each
 /// list doubles where it is full. The memory of a text is read only where its hash is the one that is sought. Where there are many
 /// texts, `recent` leads to those that come again and again with no look at the others. Where texts come again in the same order,
 /// as keys do, `followers` leads to the next one before it is hashed; it takes 1 KB, in place. At most 2^32 - 1 texts fit.
@@ -85,6 +85,7 @@ impl TextTable {
     /// nothing. No text is hashed, and only one of this length is read.
     pub(crate) fn find_following(&self, text: &str) -> Option<u32>
         ensures found { IfSome result (λ at. IsTextAt text.now self.now.keys at) }
+        ensures guessed { IfSome result (λ at. IsFollower at (text_size text.now) self.now.followers) }
         ensures taken { (at : ℕ) → IsFollower at (text_size text.now) self.now.followers → IsTextAt text.now self.now.keys at
             → result ≡ Some at }
     {
@@ -129,8 +130,9 @@ impl TextTable {
         self.links[position].hash == hash && self.texts[position].eq_str(text)
     }
 
-    /// The same, by the chain of its bucket.
+    /// The same, by the chain of its bucket. It may be asked only where `recent` does not lead to it: it does not take its place.
     fn find_in_chain(&self, hash: u32, text: &str) -> Option<u32>
+        requires { (at : ℕ) → IsRecent hash at self.now.recent → IsKeyAt hash text.now self.now.keys at → ⊥ }
         ensures found { IfSome result (λ at. IsKeyAt hash text.now self.now.keys at) }
         ensures exact { is_some result ≡ list_any (is_key hash text.now) self.now.keys }
     {
@@ -148,9 +150,11 @@ impl TextTable {
         None
     }
 
-    /// One more owner of this text, which was found at a position. `followers` leads from the one that was found before to it.
+    /// One more owner of this text, which was guessed at a position. `followers` leads from the one that was found before to it. It may
+    /// be asked only of a guess, so that a text that was found by its hash goes into `recent`.
     pub(crate) fn shared(&mut self, text: &str, position: u32) -> Result<IString, AllocError>
-        requires { IsTextAt text.now self.old.keys position }
+        requires there { IsTextAt text.now self.old.keys position }
+        requires guessed { IsFollower position (text_size text.now) self.old.followers }
         ensures text { IfOk result (λ shared. shared ≡ text.now) }
         ensures followed { self.new ≡ record self.old { followers = followed_by position (text_size text.now) self.old.followers } }
     {
@@ -159,14 +163,16 @@ impl TextTable {
         shared
     }
 
-    /// The same, where it was found by this hash. `recent` leads to it from then on.
+    /// The same, where it was found by this hash. `recent` leads to it from then on. It may be asked only where no guess leads to it: it
+    /// does not take the place of the guess.
     pub(crate) fn shared_by(
         &mut self,
         hash: u32,
         text: &str,
         position: u32,
     ) -> Result<IString, AllocError>
-        requires { IsTextAt text.now self.old.keys position }
+        requires there { IsKeyAt hash text.now self.old.keys position }
+        requires unguessed { (at : ℕ) → IsFollower at (text_size text.now) self.old.followers → IsTextAt text.now self.old.keys at → ⊥ }
         ensures text { IfOk result (λ shared. shared ≡ text.now) }
         ensures noted { self.new ≡ record self.old {
           recent = with_recent hash position self.old.recent;
@@ -174,7 +180,9 @@ impl TextTable {
         } }
     {
         self.recent.put(hash, position);
-        self.shared(text, position)
+        let shared: Result<IString, AllocError> = self.texts[position as usize].clone();
+        self.followers.put(position, text_size(text));
+        shared
     }
 
     /// Puts a text behind the others. Where memory is refused, or the table is full, they are as they were.

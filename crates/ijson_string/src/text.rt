@@ -67,9 +67,9 @@ impl IString {
     }
 
     /// The text, kept in place up to 7 bytes, and otherwise shared through `cache`, which takes it in if it is new there.
-    /// Only a text of more than 7 bytes can want memory, and the cache is then as it was; so it is where it holds 2^32 - 1 texts and
-    /// this is one more. The text is looked up in expected time linear in its length; a new one is copied, and the cache grows at
-    /// times.
+    /// A text of at most 7 bytes is never refused. A longer one is refused where memory is, where it is new and the cache holds 2^32 - 1
+    /// texts, and where it is there and the count of its owners is full. The cache is then as it was. The text is looked up in expected
+    /// time linear in its length; a new one is copied, and the cache grows at times.
     ///
     /// ```
     /// let name = IString::intern(&mut cache, "name")?; // in place
@@ -174,7 +174,7 @@ impl IString {
 }
 
 /// The same text, in constant time and with no memory: up to 7 bytes are copied, and a longer text has one owner more. That is
-/// refused alone where the count of its owners is full.
+/// refused only where the count of its owners is full.
 impl Clone for IString {
     ghost is_clone = { λ s copy. copy ≡ s };
 
