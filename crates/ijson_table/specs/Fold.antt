@@ -1,4 +1,4 @@
--- The fold of words to one number below 2^64, this project's own.
+-- The fold of words to one number below 2^64, this project's own, with the basis and the prime of FNV in 64 bits.
 use Rattle.std.specs.Prelude.{ℕ, ◌+◌, ◌*◌, ◌%◌, ◌^◌, List, fold}
 
 -- where it starts, and what each step multiplies by

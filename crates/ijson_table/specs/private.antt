@@ -1,3 +1,4 @@
+pub mod BeforeSorting
 pub mod Changes
 pub mod Closing
 pub mod CountedSteps

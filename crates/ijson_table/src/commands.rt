@@ -110,7 +110,7 @@ fn shift_remove<V, P: PairStore<V>>(store: &mut P, key: IString) -> Option<(IStr
     Some(store.shift_out(found?))
 }
 
-/// The commands in order. The replies and what the store has in the end are a run, however it is kept. Room for the replies is
+/// The commands in order. Each kind of store gives replies and an end that the rules of the commands allow. Room for the replies is
 /// made first: where that is refused, no command was run, and they are dropped.
 ///
 /// ```

@@ -33,9 +33,10 @@ impl KeyHash for FixedHash {
     }
 }
 
+/// Where the fold starts: the offset basis of FNV (Fowler, Noll, Vo) in 64 bits.
 const BASIS: u64 = 14_695_981_039_346_656_037;
 
-/// What one word multiplies the hash by, modulo 2^64.
+/// What one word multiplies the hash by, modulo 2^64: the prime of FNV. FNV combines a byte by exclusive or; here a word is added.
 const PRIME: u64 = 1_099_511_628_211;
 
 /// What two words multiply it by.

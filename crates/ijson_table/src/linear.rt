@@ -50,8 +50,8 @@ fn find<V>(pairs: &[(IString, V)], key: &str) -> Option<usize>
 }
 
 impl<V> LinearPairs<V> {
-    /// An empty store with room for so many pairs. It is refused as too large where that passes 2^56. Room for none takes no
-    /// memory.
+    /// An empty store with room for so many pairs. It is refused with `TooLarge` where that passes 2^56, and with `Memory` where memory is
+    /// refused. Room for none takes no memory.
     pub fn with_capacity(alloc: Global, capacity: usize) -> Result<LinearPairs<V>, ReserveError>
         ensures made { IfOk result (λ s. (s.pairs ≡ []) × (s.capacity ≡ capacity)) }
         ensures too_large { (result ≡ Err ReserveError.TooLarge) ↔ (capacity_limit < capacity) }

@@ -59,10 +59,10 @@ impl<V: Drop> From<RefusedPair<V>> for ReserveError {
     }
 }
 
-/// A list of pairs with distinct keys, and a capacity: the number of pairs that it has room for. A list takes 16 bytes and
-/// those of a value for each pair of its capacity. A table takes 20 more for each, but up to a capacity of 127 it takes 4, and up to
-/// 8 none. When it grows, shrinks or is copied it hashes no key again where it has room for more than 127 pairs before and
-/// after, or where a copy has as many slots, and else each key once.
+/// A list of pairs with distinct keys, and a capacity: the number of pairs that it has room for. A list takes, for each pair of its
+/// capacity, 16 bytes and the size of a value. A table takes 20 more for each, but up to a capacity of 127 it takes 4, and up to 8 none.
+/// When it grows, shrinks or is copied it hashes no key again where it has room for more than 127 pairs before and after, or where a copy
+/// has as many slots, and else each key once.
 pub trait PairStore<V>: Sized {
     /// The pairs, in order.
     ghost pairs: { Self → List (List ℕ × V) };
@@ -93,7 +93,7 @@ pub trait PairStore<V>: Sized {
 
     /// Makes room for so many more pairs. Where they have none, the capacity becomes the greatest of twice the old one,
     /// the length with them, and 4. So pairs that are put one by one take room for 4, 8, 16 and so on, and each of them
-    /// constant time on average. A growth moves each pair once. A table fills new slots then, in time linear in both capacities
+    /// constant time on average. A growth moves each pair at most once. A table fills new slots then, in time linear in both capacities
     /// where few keys crowd. Where many of more than 127 do, it sorts entries of 16 bytes for each pair, in memory that it gives
     /// back: so whatever the keys are, it takes time n log n at most. Refused, the store is as it was: `TooLarge` where the
     /// capacity would pass 2^56, `Memory` where it was not granted.
@@ -102,23 +102,23 @@ pub trait PairStore<V>: Sized {
         ensures room { OnOk result (length (pairs self.new) + additional ≤ room self.new) }
         ensures pairs { pairs self.new ≡ pairs self.old };
 
-    /// Makes the capacity the length. That takes no memory where it is so already or the length is 0. Each pair is moved once,
-    /// and a table fills new slots as in growth. Refused, the store is as it was.
+    /// Makes the capacity the length. That takes no memory where it is so already or the length is 0. Each pair is moved at most
+    /// once, and a table fills new slots as in growth. The only error is `Memory`, and the store is then as it was.
     fn shrink_to_fit(&mut self) -> Result<(), ReserveError>
         ensures room { Shrink (length (pairs self.old)) (room self.old) result (room self.new) }
         ensures pairs { pairs self.new ≡ pairs self.old };
 
-    /// The position of a key, from 0. A list compares each key with it from the front; a table hashes it once and looks at what
-    /// stands in the crowd of its home.
+    /// The position of a key, from 0. A list compares each key with it from the front; a table hashes it once, and compares it
+    /// with the key of each resident that it passes in the crowd of its home.
     fn position(&self, key: &str) -> Option<usize>
         ensures { result ≡ at (pairs self.now) key.now };
 
-    /// The pair at a position. It takes constant time.
+    /// The pair at a position, which must be below the length. It takes constant time.
     fn pair(&self, index: usize) -> (&IString, &V)
         requires { index < length (pairs self.now) }
         ensures { slice_get (pairs self.now) index ≡ Some (result.0.now, result.1.now) };
 
-    /// Lends the value at a position. It takes constant time.
+    /// Lends the value at a position, which must be below the length. It takes constant time.
     fn value_mut(&mut self, index: usize) -> &mut V
         requires { index < length (pairs self.old) }
         ensures* writes_back { sem 𝓛
@@ -129,30 +129,31 @@ pub trait PairStore<V>: Sized {
         value
     }
 
-    /// Lends the value at a position, and shows its key. It takes constant time.
+    /// Lends the value at a position, which must be below the length, and shows its key. It takes constant time.
     fn pair_mut(&mut self, index: usize) -> (&IString, &mut V)
         requires { index < length (pairs self.old) }
         ensures* writes_back { sem 𝓛
             (Lends Self.row V.row self.entry result.1 (λ w. set_value self.old index w)) }
         ensures pair { slice_get (pairs self.old) index ≡ Some (result.0.now, result.1.now) };
 
-    /// Puts a pair last, in the room that there is. A table hashes its key.
+    /// Puts a pair last, in the room that there is. Its key must not be there, and the length must be below the capacity. A table hashes
+    /// the key.
     fn push_new(&mut self, key: IString, value: V)
         requires missing { at (pairs self.old) key ≡ None }
         requires within { length (pairs self.old) < room self.old }
         ensures pairs { pairs self.new ≡ pairs self.old ++ (key, value) ∷ [] }
         ensures room { room self.new ≡ room self.old };
 
-    /// Takes out the pair at a position. The last pair moves there. A list does it in constant time; a table hashes both keys,
-    /// and closes the gap among the slots. It takes no memory.
+    /// Takes out the pair at a position, below the length, where the last pair moves. A list does it in constant time; a table hashes both
+    /// keys, and closes the gap among the slots. It takes no memory.
     fn swap_out(&mut self, index: usize) -> (IString, V)
         requires { index < length (pairs self.old) }
         ensures pair { slice_get (pairs self.old) index ≡ Some result }
         ensures pairs { pairs self.new ≡ swap_out (pairs self.old) index }
         ensures room { room self.new ≡ room self.old };
 
-    /// Takes out the pair at a position. Those behind it move one forward. That needs no memory, and time linear in their count;
-    /// a table goes over all its slots too, unless the pair is the last.
+    /// Takes out the pair at a position, below the length, and closes up those behind it. That needs no memory, and time linear in their
+    /// count; a table goes over all its slots too, unless the pair is the last.
     fn shift_out(&mut self, index: usize) -> (IString, V)
         requires { index < length (pairs self.old) }
         ensures pair { slice_get (pairs self.old) index ≡ Some result }

@@ -1,6 +1,6 @@
 //! A pair store whose keys are found by their hash.
 
-ghost use Rattle.std.specs.Prelude.{◌≡◌, ◌+◌, ◌-◌, ◌<◌, ◌≤◌, ◌^◌, [], ◌∷◌, ◌++◌, length, get_or, map};
+ghost use Rattle.std.specs.Prelude.{◌≡◌, ◌≢◌, ◌+◌, ◌-◌, ◌<◌, ◌≤◌, ◌^◌, [], ◌∷◌, ◌++◌, length, get_or, map};
 ghost use Rattle.std.specs.Prelude.{ℕ, List, Ok, Err, refl, IfOk, IsOk, OnOk, OnErr, ◌↔◌, Some, None};
 ghost use Rattle.std.specs.Option.{option_copied};
 ghost use Rattle.ijson_table.specs.CopyBound.{IsCopyBounded};
@@ -13,7 +13,7 @@ ghost use Rattle.ijson_table.specs.laws.Placed.{placed_with_value};
 ghost use Rattle.ijson_table.specs.laws.Store.{IsDistinct-prop};
 ghost use Rattle.ijson_table.specs.private.Changes.{changes};
 ghost use Rattle.ijson_table.specs.private.Holds.{MayStand};
-ghost use Rattle.ijson_table.specs.private.KeptHash.{kept_hash};
+ghost use Rattle.ijson_table.specs.private.KeptHash.{kept_hash, narrow_slots};
 ghost use Rattle.ijson_table.specs.private.Lookup.{LookUpEnds};
 ghost use Rattle.ijson_table.specs.private.Probe.{AreFull};
 ghost use Rattle.ijson_table.specs.private.Room.{IsResized};
@@ -35,7 +35,8 @@ use std::mem;
 
 /// Pairs in a list, and their positions in slots by the hash of their keys. There are five slots for four pairs of the capacity. A
 /// slot takes 16 bytes. Up to a capacity of 127 it keeps of a hash the home and eight bits more, and takes three bytes, and up to 8
-/// the slots lie in the table itself. A look-up goes to the memory of a key only where what is kept of both hashes is the same.
+/// the slots lie in the table itself. `get`, `index_of` and `insert` go to the memory of a key only where what is kept of both hashes is
+/// the same; `position` and `locate` read the key of each resident that they pass.
 #[derive(Debug, Drop)]
 pub struct Table<V, H: KeyHash> {
     pairs: Vec<(IString, V)>,
@@ -64,8 +65,8 @@ impl<V, H: KeyHash> Model for Table<V, H> {
 }
 
 impl<V: Drop, H: KeyHash> Table<V, H> {
-    /// An empty store with room for so many pairs. It is refused as too large where that passes 2^56. Room for none takes no
-    /// memory.
+    /// An empty store with room for so many pairs. It is refused with `TooLarge` where that passes 2^56, and with `Memory` where memory is
+    /// refused. Room for none takes no memory.
     pub fn with_capacity(alloc: Global, capacity: usize) -> Result<Table<V, H>, ReserveError>
         ensures made { IfOk result (λ t. (t.store.pairs ≡ []) × (t.store.capacity ≡ capacity)) }
         ensures too_large { (result ≡ Err ReserveError.TooLarge) ↔ (capacity_limit < capacity) }
@@ -82,7 +83,7 @@ impl<V: Drop, H: KeyHash> Table<V, H> {
         })
     }
 
-    /// A store of pairs with the same keys in the same order, for a copy of this one: it has room for them alone. No key is hashed
+    /// A store of pairs with the same keys in the same order, for a copy of this one: it has room for no more. No key is hashed
     /// again where this one has room for no more than its pairs, or where there are more than 127; else each is hashed once.
     /// Room for none takes no memory. Where memory is refused, the pairs are dropped. It takes time linear in
     /// the capacities of both where few keys crowd. Where many do, the slots are filled by sorting, as in growth.
@@ -297,7 +298,7 @@ impl<V, H: KeyHash> Table<V, H> {
         }
     }
 
-    /// The position of a key, by the same probe as `get`. None where the key is not there.
+    /// The position of a key, at the cost of `get`. None where the key is not there.
     pub fn index_of(&self, key: &str) -> Option<usize>
         ensures { result ≡ at self.now.store.pairs key.now }
     {
@@ -357,8 +358,30 @@ impl<V, H: KeyHash> Table<V, H> {
                 .copy_counted(alloc, self.pairs.len(), count, steps);
         }
         let mut index = Index::with_slots(alloc, count)?;
-        place_each::<V, H>(&self.pairs, &mut index);
+        self.place_each(&mut index);
         Ok(index)
+    }
+
+    /// Puts the positions of the pairs into empty slots, which have room for each. Each key is hashed once, and no step is counted. So
+    /// it serves only where they are not as many as here, and few here or there: else the slots here are copied.
+    fn place_each(&self, index: &mut Index)
+        requires empty { index.old.hashes ≡ [] }
+        requires room { length self.now.store.pairs ≤ length index.old.slots }
+        requires other { length index.old.slots ≢ length self.now.slots }
+        requires few { narrow_slots < length index.old.slots → length self.now.slots ≤ narrow_slots }
+        ensures hashes { index.new.hashes ≡ map (kept_hash (length index.old.slots) H.hash_of) (keys_of self.now.store.pairs) }
+        ensures count { length index.new.slots ≡ length index.old.slots }
+    {
+        let pairs: &[(IString, V)] = &self.pairs;
+        if pairs.is_empty() {
+            return;
+        }
+        let modulus = Modulus::new(index.len());
+        for position in 0..pairs.len() {
+            let hash = modulus.kept_hash(H::hash(pairs[position].0.as_str()));
+            let slot = index.vacancy(hash);
+            index.push_at(slot, position, hash);
+        }
     }
 
     /// What the index keeps of the hash of the key at a position.
@@ -368,24 +391,6 @@ impl<V, H: KeyHash> Table<V, H> {
     {
         let hash = H::hash(self.pairs[index].0.as_str());
         Modulus::new(self.index.len()).kept_hash(hash)
-    }
-}
-
-/// Puts the positions of pairs into empty slots, which have room for each. Each key is hashed once.
-fn place_each<V, H: KeyHash>(pairs: &[(IString, V)], index: &mut Index)
-    requires empty { index.old.hashes ≡ [] }
-    requires room { length pairs.now ≤ length index.old.slots }
-    ensures hashes { index.new.hashes ≡ map (kept_hash (length index.old.slots) H.hash_of) (keys_of pairs.now) }
-    ensures count { length index.new.slots ≡ length index.old.slots }
-{
-    if pairs.is_empty() {
-        return;
-    }
-    let modulus = Modulus::new(index.len());
-    for position in 0..pairs.len() {
-        let hash = modulus.kept_hash(H::hash(pairs[position].0.as_str()));
-        let slot = index.vacancy(hash);
-        index.push_at(slot, position, hash);
     }
 }
 

@@ -1,4 +1,4 @@
--- Places of the first pairs of a list.
+-- Slots that hold the first pairs of a list.
 use Rattle.std.specs.Prelude.{◌≡◌, ◌≢◌, ℕ, List, [], None, get_or, map, take}
 use Rattle.ijson_table.specs.Store.{at, keys_of, IsDistinct}
 use Rattle.ijson_table.specs.private.HashIndex.{HashIndex}

@@ -1,4 +1,4 @@
--- Places in the midst of an insertion or a removal.
+-- Slots in the midst of an insertion or a removal.
 use Rattle.std.specs.Prelude.{◌≡◌, ◌≢◌, ℕ, ◌+◌, ◌<◌, ◌≤◌, cond, List, length, Option, Some, None}
 use Rattle.ijson_table.specs.Crowd.{distance}
 use Rattle.ijson_table.specs.Slots.{after, displacement, resident, home_at, holds, times, IsOrdered}
@@ -11,7 +11,7 @@ one_if i o = cond (holds i o) 1 0
 abbrev pub HasEmpty : List (Option ℕ) → Type 0
 HasEmpty slots = (p : ℕ) × (p < length slots) × (resident slots p ≡ None)
 
--- Places in order, at which each position stands so often as it is wanted, but for the one that is pending.
+-- Slots in order, at which each position stands so often as it is wanted, but for the one that is pending.
 pub record Holds (hashes : List ℕ) (wanted : ℕ → ℕ) (pending : Option ℕ) (slots : List (Option ℕ)) : Type 0 where
   pub ordered : IsOrdered hashes slots
   pub placed : (i : ℕ) → times i slots + one_if i pending ≡ wanted i

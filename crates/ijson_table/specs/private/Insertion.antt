@@ -1,4 +1,4 @@
--- Places into which positions are put, or at which they stand.
+-- Slots into which positions are put, or at which they stand.
 use Rattle.std.specs.Prelude.{◌≡◌, ℕ, ◌+◌, ◌<◌, ◌≤◌, ◌^◌, List, length, get_or, Some, None}
 use Rattle.ijson_table.specs.declared.index.slot.Slot.{Slot}
 use Rattle.ijson_table.specs.Crowd.{distance}

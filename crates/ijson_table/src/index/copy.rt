@@ -2,6 +2,7 @@
 
 ghost use Rattle.std.specs.Prelude.{◌≡◌, ◌≢◌, ℕ, ◌+◌, ◌*◌, ◌^◌, ◌<◌, ◌≤◌, [], List, length, IfOk, OnOk, OnErr, IsTrue, IsFalse};
 ghost use Rattle.ijson_table.specs.CopyBound.{steps_a_resident, IsCopyBounded};
+ghost use Rattle.ijson_table.specs.private.BeforeSorting.{steps_before_sorting};
 ghost use Rattle.ijson_table.specs.private.Entries.{AreEntries};
 ghost use Rattle.ijson_table.specs.private.Insertion.{IsTableOf};
 ghost use Rattle.ijson_table.specs.private.KeptHash.{narrow_slots};
@@ -54,18 +55,21 @@ impl Index {
         Ok(index)
     }
 
-    /// Puts the positions of other slots, `len` in number, into these, which are empty and have room for each. The steps are counted,
-    /// and past a bound it stops: then these are empty again, and it answers that it did not put all.
+    /// Puts the positions of other slots, `len` in number, into these, which are empty and have room for each. They are more or fewer
+    /// than those: as many would be copied as they are. The steps are counted, and past a bound it stops: then these are empty again,
+    /// and it answers that it did not put all.
     fn rehash_from(&mut self, other: &Index, len: usize, steps: &mut u128) -> bool
         requires empty { self.old.hashes ≡ [] }
         requires len { len ≡ length other.now.hashes }
         requires room { len ≤ length self.old.slots }
         requires wide { (narrow_slots < length self.old.slots) × (narrow_slots < length other.now.slots) }
+        requires other { length self.old.slots ≢ length other.now.slots }
         requires steps { steps.old ≡ 0 }
         ensures hashes { IsTrue result → self.new.hashes ≡ other.now.hashes }
         ensures empty { IsFalse result → self.new.hashes ≡ [] }
         ensures count { length self.new.slots ≡ length self.old.slots }
         ensures steps { steps.new ≤ len * steps_a_resident }
+        ensures past { IsFalse result → len * steps_before_sorting < steps.new }
     {
         rehash(
             other.slots.as_slice(),
@@ -76,7 +80,7 @@ impl Index {
     }
 
     /// Puts the positions of other slots, `len` in number, into these, which are empty, many, and have room for each, in the order of their
-    /// homes. Each look at two entries is counted.
+    /// homes. Each look at two entries is counted. The usual way was tried before, and the steps passed its bound.
     fn fill_from(
         &mut self,
         alloc: Global,
@@ -88,6 +92,7 @@ impl Index {
         requires len { len ≡ length other.now.hashes }
         requires room { len ≤ length self.old.slots }
         requires steps { steps.old ≤ len * steps_a_resident }
+        requires past { len * steps_before_sorting < steps.old }
         requires wide { (narrow_slots < length self.old.slots) × (narrow_slots < length other.now.slots) }
         ensures hashes { OnOk result (self.new.hashes ≡ other.now.hashes) }
         ensures count { length self.new.slots ≡ length self.old.slots }

@@ -94,8 +94,8 @@ impl<'a, P: Places> ProbeTarget for KeyProbe<'a, P> {
 }
 
 /// The position of a key. None where it is not there. It begins at the home of the key, and ends at the key, at an empty slot
-/// or at a resident that is nearer to its own home. So it looks at no more than the crowd of that home and one slot where a slot is
-/// empty, and where none is at no more slots than there are keys.
+/// or at a resident that is nearer to its own home. Where a slot is empty, it looks at no more slots than the crowd of that home and
+/// one. Where none is, it looks at no more slots than there are keys. The looks must stay below 2^128.
 pub fn locate<P: Places>(table: &P, key: &str, looks: &mut Looks) -> Option<usize>
     requires { looks.old + length (P.keys table.now) + 1 < 2 ^ 128 }
     ensures found { result ≡ position_of (P.keys table.now) key.now }

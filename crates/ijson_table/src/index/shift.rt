@@ -1,7 +1,6 @@
 //! How the residents of slots move: insertion, backward shift and rehash, whose steps are counted.
 
 ghost use Rattle.std.specs.Prelude.{◌≡◌, ℕ, ◌+◌, ◌*◌, ◌<◌, ◌≤◌, ◌%◌, ◌^◌, List, length, get_or, map, Some, None, IsTrue, IsFalse};
-ghost use Rattle.ijson_table.specs.Crowd.{distance};
 ghost use Rattle.ijson_table.specs.Slots.{below, resident, times, IsOrdered};
 ghost use Rattle.ijson_table.specs.private.Changes.{changes};
 ghost use Rattle.ijson_table.specs.private.Closing.{closed};
@@ -229,6 +228,7 @@ fn insert_each(from: &[Slot], slots: &mut Slots, most: u128, steps: &mut u128) -
     ensures hashes { HaveHashes hashes slots.new }
     ensures count { length slots.new ≡ length slots.old }
     ensures steps { steps.new ≤ most + 3 * length hashes }
+    ensures past { IsFalse result → most < steps.new }
 {
     for index in 0..from.len() {
         let entry = from[index];
@@ -259,6 +259,7 @@ pub fn rehash(old: &[Slot], slots: &mut Slots, most: u128, steps: &mut u128) -> 
     ensures empty { IsFalse result → All (λ slot. position_in slot ≡ None) slots.new }
     ensures count { length slots.new ≡ length slots.old }
     ensures steps { steps.new ≤ most + 3 * length hashes }
+    ensures past { IsFalse result → most < steps.new }
 {
     let start = wrapped(old);
     if insert_each(&old[start..], slots, most, steps) {

@@ -1,6 +1,6 @@
 //! `SecondHash`: the hash that pairs are sorted by where many keys crowd.
 
-ghost use Rattle.std.specs.Prelude.{◌≡◌, fold};
+ghost use Rattle.std.specs.Prelude.{◌≡◌};
 ghost use Rattle.ijson_table.specs.private.SecondHash.{second_word};
 
 use crate::hash::KeyHash;

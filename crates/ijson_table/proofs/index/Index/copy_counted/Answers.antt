@@ -11,6 +11,9 @@ fill_from-requires-clause-steps c = omega arith
 pub rehash_from-requires-clause-len : goal.rehash_from-requires-clause-len
 rehash_from-requires-clause-len c = omega arith
 
+pub rehash_from-requires-clause-other : goal.rehash_from-requires-clause-other
+rehash_from-requires-clause-other c = omega (arith, c.in_ok-index.ensures.count)
+
 pub rehash_from-requires-clause-steps : goal.rehash_from-requires-clause-steps
 rehash_from-requires-clause-steps c = omega arith
 

@@ -1,4 +1,4 @@
-use Rattle.std.proofs.Common.{◌≡◌, ◌≢◌, ◌<◌, length, map, arith, rules, ap, ap₂, subst, ◌∙◌}
+use Rattle.std.proofs.Common.{◌≡◌, ◌≢◌, ◌<◌, length, map, arith, rules, ap, subst, ◌∙◌}
 use Rattle.std.specs.Prelude.{IfOk}
 use Rattle.ijson_table.specs.Placed.{Placed}
 use Rattle.ijson_table.specs.Store.{keys_of}
@@ -77,21 +77,27 @@ returns-in_err-index-clause-limited g c = omega (
 )
 
 pub place_each-requires : goal.place_each-requires
-place_each-requires g c = record {
-  empty = c.in_ok-index.ensures.hashes;
-  room = omega (
-    arith,
-    ap length c.deref.ensures.value,
-    ap (λ (t : Placed g.row.V.Denot). length t.store.pairs) c.self.view_is,
-    c.in_ok-index.ensures.count,
-    c.requires.room,
-  );
-}
+place_each-requires g c =
+    let here = ap (λ (t : Placed g.row.V.Denot). length t.slots) c.self.view_is in
+    record {
+      empty = c.in_ok-index.ensures.hashes;
+      room = omega (arith, c.in_ok-index.ensures.count, c.requires.room);
+      other = λ same. omega (arith, same, here, c.in_ok-index.ensures.count, c.len-slots.ensures.count, c.if-count-slots.false);
+      few = λ many. omega (
+        arith,
+        many,
+        here,
+        c.in_ok-index.ensures.count,
+        c.len-slots.ensures.count,
+        c.if-min-gt-NARROW_SLOTS.false,
+        c.min.ensures,
+      );
+    }
 
 pub returns : goal.returns
 returns g c = record {
-  hashes = c.place_each.ensures.hashes ∙ ap₂ (λ n ps. map (kept_hash n g.H.KeyHash.hash_of) (keys_of ps)) c.in_ok-index.ensures.count
-      (c.deref.ensures.value ∙ ap (λ (t : Placed g.row.V.Denot). t.store.pairs) c.self.view_is);
+  hashes = c.place_each.ensures.hashes
+      ∙ ap (λ n. map (kept_hash n g.H.KeyHash.hash_of) (keys_of c.args.self.now.store.pairs)) c.in_ok-index.ensures.count;
   count = c.place_each.ensures.count ∙ c.in_ok-index.ensures.count;
   refused = search rules;
   limited = omega (

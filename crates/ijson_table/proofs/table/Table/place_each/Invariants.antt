@@ -1,7 +1,7 @@
 use Rattle.std.proofs.Common.{◌≡◌, length, map, take}
 use Rattle.ijson_table.specs.Store.{keys_of}
 use Rattle.ijson_table.specs.private.KeptHash.{kept_hash}
-use Rattle.ijson_table.proofs.table.place_each.Given as goal
+use Rattle.ijson_table.proofs.table.Table.place_each.Given as goal
 
 abbrev pub invariant-loop-position : goal.invariant-loop-position
 invariant-loop-position g l = record {

@@ -1,12 +1,14 @@
 use Rattle.std.proofs.Common.{◌≡◌, ◌≤◌, ◌<◌, ◌+◌, ℕ, List, [], ◌∷◌, ◌++◌, length, map, take, get_or, arith, ap, ap₂, subst, sym, ◌∙◌}
 use Rattle.std.proofs.lemmas.List.{length-map, length-take-le, take_more, take_all}
+use Rattle.ijson_table.specs.Placed.{Placed}
 use Rattle.ijson_table.specs.Store.{keys_of}
 use Rattle.ijson_table.specs.private.Holds.{MayStand}
 use Rattle.ijson_table.specs.private.KeptHash.{kept, kept_hash}
 use Rattle.ijson_table.proofs.pairs.PairsByKey.{keys-length}
 use Rattle.ijson_table.proofs.probing.KeyHashes.{hashes-push}
 use Rattle.ijson_table.proofs.slots.KeptHashes.{kept_once}
-use Rattle.ijson_table.proofs.table.place_each.Goals as goal
+use Rattle.ijson_table.proofs.table.Table.place_each.Goals.{After-deref-pairs}
+use Rattle.ijson_table.proofs.table.Table.place_each.Goals as goal
 
 module _ {V : Type 0} (f : List ℕ → ℕ) (hashes : List ℕ) (pairs : List (List ℕ × V)) (n : ℕ)
     (are : hashes ≡ map f (keys_of (take n pairs))) where
@@ -22,21 +24,27 @@ module _ {V : Type 0} (f : List ℕ → ℕ) (hashes : List ℕ) (pairs : List (
       let last : take (n + 1) pairs ≡ first ++ pair ∷ [] = take_more pairs n pair within ∙ ap (λ p. first ++ p ∷ []) (sym at) in
       more ∙ (ap₂ (λ hs h. hs ++ h ∷ []) are is ∙ sym (ap (λ ps. map f (keys_of ps)) last ∙ hashes-push f first pair.0 pair.1))
 
+-- the pairs are lent from the table
+lent : (g : _) (c : After-deref-pairs g) → c.deref-pairs.result.now ≡ c.args.self.now.store.pairs
+lent g c = c.deref-pairs.ensures.value ∙ ap (λ (t : Placed g.row.V.Denot). t.store.pairs) c.self.view_is
+
 pub vacancy-slot-requires : goal.vacancy-slot-requires
 vacancy-slot-requires g c =
     let i = c.loop-position.invariant in
-    let many = as_many _ c.loop-position.index.hashes c.args.pairs.now c.loop-position.position i.hashes
+    let many = as_many _ c.loop-position.index.hashes c.deref-pairs.result.now c.loop-position.position i.hashes
     (omega (arith, c.loop-position-test.true)) in
-    omega (arith, many, i.count, c.requires.room, c.loop-position-test.true)
+    let each = lent g (goal.at.vacancy-slot-requires g c).After-deref-pairs in
+    omega (arith, many, i.count, ap length each, c.requires.room, c.loop-position-test.true)
 
 pub push_at-requires : goal.push_at-requires
 push_at-requires g c =
     let i = c.loop-position.invariant in
-    let many = as_many _ c.loop-position.index.hashes c.args.pairs.now c.loop-position.position i.hashes
+    let many = as_many _ c.loop-position.index.hashes c.deref-pairs.result.now c.loop-position.position i.hashes
     (omega (arith, c.loop-position-test.true)) in
+    let each = lent g (goal.at.push_at-requires g c).After-deref-pairs in
     record {
       position = sym many;
-      room = omega (arith, i.count, c.requires.room, c.loop-position-test.true);
+      room = omega (arith, i.count, ap length each, c.requires.room, c.loop-position-test.true);
       may = subst (λ n. MayStand (c.loop-position.index.hashes ++ c.kept_hash-hash.result ∷ []) c.loop-position.index.slots n
           c.vacancy-slot.result) many c.vacancy-slot.ensures;
       kept = kept_once (length c.loop-position.index.slots) c.new-modulus.result.count c.hash.result
@@ -51,13 +59,14 @@ loop-position-preserved g c =
     let key : c.as_str.result.now ≡ pair.0 = c.as_str.ensures ∙ ap (λ p. p.0) (sym c.index-pairs-position.is) in
     let whole : c.hash.result ≡ g.H.KeyHash.hash_of pair.0 = c.hash.ensures ∙ ap g.H.KeyHash.hash_of key in
     record {
-      hashes = one_more (kept_hash (length c.args.index.now.slots) g.H.KeyHash.hash_of) c.loop-position.index.hashes c.args.pairs.now
-          c.loop-position.position i.hashes pair c.kept_hash-hash.result c.push_at.new.self.hashes c.loop-position-test.true
-          c.index-pairs-position.is (c.kept_hash-hash.ensures ∙ ap₂ kept count whole) c.push_at.ensures.hashes;
+      hashes = one_more (kept_hash (length c.args.index.now.slots) g.H.KeyHash.hash_of) c.loop-position.index.hashes
+          c.deref-pairs.result.now c.loop-position.position i.hashes pair c.kept_hash-hash.result c.push_at.new.self.hashes
+          c.loop-position-test.true c.index-pairs-position.is (c.kept_hash-hash.ensures ∙ ap₂ kept count whole) c.push_at.ensures.hashes;
       count = c.push_at.ensures.count ∙ i.count;
     }
 
 pub returns-clause-hashes : goal.returns-clause-hashes
 returns-clause-hashes g c = c.loop-position.invariant.hashes
     ∙ ap (λ ps. map (kept_hash (length c.args.index.now.slots) g.H.KeyHash.hash_of) (keys_of ps))
-    (take_all c.loop-position.position c.args.pairs.now c.loop-position-test.false)
+    (take_all c.loop-position.position c.deref-pairs.result.now c.loop-position-test.false
+    ∙ lent g (goal.at.returns-clause-hashes g c).After-deref-pairs)
