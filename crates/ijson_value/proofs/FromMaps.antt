@@ -1,6 +1,6 @@
 -- Keys of which none comes twice, and what a map gives.
 use Rattle.std.proofs.Common.{◌≡◌, ◌≢◌, ◌+◌, ℕ, suc, List, [], ◌∷◌, ◌++◌, length, map, Some, Result, Ok, Err, false}
-use Rattle.std.proofs.Common.{refl, ap, sym, subst, ◌∙◌, inl, inr, arith}
+use Rattle.std.proofs.Common.{refl, ap, sym, subst, ◌∙◌, arith}
 use mathlib.Core.Bool.{true≢false}
 use Rattle.std.proofs.lemmas.List.{append-nil, length-append}
 use Rattle.std.specs.Cmp.{tied_itself}
@@ -13,9 +13,8 @@ use Rattle.std.specs.Map.Iter.{TakesFirst}
 use Rattle.std.specs.Ordering.{nat_cmp}
 use Rattle.std.specs.Prelude.{nat_eq, IfOk}
 use Rattle.std.specs.declared.cmp.Ordering.TheVariants.{Less}
-use Rattle.ijson_table.specs.Store.{keys_of, put, Lacks, IsDistinct}
+use Rattle.ijson_table.specs.Store.{keys_of, Lacks, IsDistinct}
 use Rattle.ijson_value.specs.private.GivesPairs.{GivesDistinctPairs}
-use Rattle.ijson_table.proofs.pairs.KeyPositions.{same_key}
 
 -- ---- keys of which none comes twice
 lacks_middle : (ks rest : List (List ℕ)) (j k : List ℕ) → Lacks j (ks ++ k ∷ rest) → k ≢ j
@@ -54,14 +53,6 @@ module _ {K X : Type 0} (bytes : K → List ℕ) where
     lacks_apart (λ j k. slice_cmp nat_cmp j k ≡ Less) (λ k less. let tied = tied_itself nat_list_cmp_total k in cc) e.0 es d.0,
     ordered_keys es d.1,
   )
-
--- a new key goes last
-pub put_lacking : {V : Type 0} (ps : List (List ℕ × V)) (k : List ℕ) (v : V) → Lacks k (keys_of ps) → put ps k v ≡ ps ++ (k, v) ∷ []
-put_lacking [] k v l = refl
-put_lacking (p ∷ ps) k v l = elim (same_key p.0 k) [
-  | inl h ↦ absurd (l.0 (sym h.1))
-  | inr h ↦ rw h.0 (ap (λ rest. p ∷ rest) (put_lacking ps k v l.1))
-]
 
 -- what holds of an answer, said in other words
 pub ok_more : {A E : Type 0} (answer : Result A E) (P Q : A → Type 0) → ((x : A) → P x → Q x) → IfOk answer P → IfOk answer Q

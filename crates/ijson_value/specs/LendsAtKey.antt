@@ -24,13 +24,14 @@ LendsAtKey s key r = Lends object.the_row value.the_row s r (with_key s.now key)
 abbrev pub LendsAtKeyIf : MutBor (Store WellFormed) → List ℕ → Option (MutBor WellFormed) → Fml
 LendsAtKeyIf s key r = LendsIf object.the_row value.the_row s r (with_key s.now key) s.now
 
-abbrev pub grown_at : Option ℕ → ℕ → ℕ → ℕ → Type 0
-grown_at (Some i) len c c' = c' ≡ c
-grown_at None len c c' = Grown len c 1 c'
+-- no room more where the key is there, else room for one
+abbrev pub GrownAt : Option ℕ → ℕ → ℕ → ℕ → Type 0
+GrownAt (Some i) len c c' = c' ≡ c
+GrownAt None len c c' = Grown len c 1 c'
 
 -- the object once this value is put beside a key, with the room that the key needs
 abbrev pub IsPut : Store WellFormed → List ℕ → WellFormed → Store WellFormed → Type 0
-IsPut s key w n = (n.pairs ≡ put s.pairs key w) × grown_at (at s.pairs key) (length s.pairs) s.capacity n.capacity
+IsPut s key w n = (n.pairs ≡ put s.pairs key w) × GrownAt (at s.pairs key) (length s.pairs) s.capacity n.capacity
 
 -- the value beside a key that is put where it is not there; or no room for that: then the object is as it was
 abbrev pub LendsPut : {E : Type 0} → MutBor (Store WellFormed) → List ℕ → Result (MutBor WellFormed) E → Fml

@@ -16,8 +16,8 @@ use Rattle.ijson_value.specs.contracts.value.Destructured as node
 use Rattle.ijson_value.specs.contracts.value.IValue as value
 use Rattle.ijson_value.specs.declared.value.Destructured.{Destructured}
 
-abbrev pub LendsTruth : MutBor WellFormed → Option (MutBor Bool) → Fml
-LendsTruth s r = LendsIf value.the_row bool s r boolean_value s.now
+abbrev pub LendsBool : MutBor WellFormed → Option (MutBor Bool) → Fml
+LendsBool s r = LendsIf value.the_row bool s r boolean_value s.now
 
 abbrev pub LendsNumber : MutBor WellFormed → Option (MutBor Num) → Fml
 LendsNumber s r = LendsIf value.the_row numbers.the_row s r number_value s.now

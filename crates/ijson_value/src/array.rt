@@ -97,10 +97,7 @@ impl IArray {
         if list.capacity() == 0 {
             return Ok(IArray::new(alloc));
         }
-        match IArray::from_vec(alloc, list) {
-            Ok(array) => Ok(array),
-            Err(_) => Err(AllocError),
-        }
+        Ok(IArray::from_vec(alloc, list)?)
     }
 
     /// An array of the items of `list`, which are not copied. It takes memory for the place of the list, and the list comes

@@ -31,7 +31,7 @@ fn clone_value(value: &IValue) -> Result<IValue, AllocError>
 
 /// An array of copies of these items. An array of none takes no memory.
 #[cycle(clone)]
-pub(crate) fn clone_items(alloc: Global, items: &[IValue]) -> Result<IArray, AllocError>
+fn clone_items(alloc: Global, items: &[IValue]) -> Result<IArray, AllocError>
     ensures items { IfOk result (λ copy. copy.items ≡ items.now) }
     ensures room { IfOk result (λ copy. copy.capacity ≡ length items.now) }
     ensures none { length items.now ≡ 0 → IsOk result }

@@ -76,11 +76,17 @@ impl Model for IValue {
 /// The kinds of values, in their order. Values of two kinds are ordered as these are.
 #[derive(Clone, Copy, Debug, PartialEq, Eq, PartialOrd, Ord, Hash)]
 pub enum ValueType {
+    /// `null`.
     Null,
+    /// `true` or `false`.
     Bool,
+    /// An exact decimal.
     Number,
+    /// A string.
     String,
+    /// A list of values.
     Array,
+    /// Pairs with distinct keys, in order.
     Object,
 }
 

@@ -13,9 +13,10 @@ use ijson_number::INumber;
 use ijson_string::IString;
 use std::hash::{Hash, Hasher};
 
+/// Where the fold starts, as that of `FixedHash` does.
 const BASIS: u64 = 14_695_981_039_346_656_037;
 
-/// What each word multiplies the fold by, modulo 2^64.
+/// What each word multiplies the fold by, modulo 2^64, as in that of `FixedHash`.
 const PRIME: u64 = 1_099_511_628_211;
 
 /// A fold of words. As a hasher it takes each write of eight bytes as a word.

@@ -127,9 +127,9 @@ impl IObject {
         ensures* rests { sem 𝓛 (RestsIfNoEntry self.entry result) }
     {
         match self.position(key.as_str()) {
-            Some(position) => Ok(Entry::Occupied(OccupiedEntry {
+            Some(index) => Ok(Entry::Occupied(OccupiedEntry {
                 object: self,
-                index: position,
+                index,
             })),
             None => match key.clone() {
                 Ok(key) => match self.reserve(1) {

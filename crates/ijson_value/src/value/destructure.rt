@@ -18,22 +18,34 @@ use ijson_string::IString;
 /// A value opened, with what it holds by reference. Nothing is copied but a truth value.
 #[derive(Clone, Copy, Debug, PartialEq, Eq)]
 pub enum DestructuredRef<'a> {
+    /// `null`.
     Null,
+    /// `true` or `false`.
     Bool(bool),
+    /// An exact decimal.
     Number(&'a INumber),
+    /// A string.
     String(&'a IString),
+    /// A list of values.
     Array(&'a IArray),
+    /// Pairs with distinct keys, in order.
     Object(&'a IObject),
 }
 
 /// A value opened, with what it holds to be written.
 #[derive(Debug, Drop)]
 pub enum DestructuredMut<'a> {
+    /// `null`.
     Null,
+    /// `true` or `false`.
     Bool(BoolMut<'a>),
+    /// An exact decimal.
     Number(&'a mut INumber),
+    /// A string.
     String(&'a mut IString),
+    /// A list of values.
     Array(&'a mut IArray),
+    /// Pairs with distinct keys, in order.
     Object(&'a mut IObject),
 }
 

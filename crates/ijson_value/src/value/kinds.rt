@@ -1,4 +1,4 @@
-//! Questions about a value: its kind, its truth value, its length.
+//! Questions about a value: its kind, its truth value, its length; and what takes it out.
 ghost use Rattle.std.specs.Prelude.{◌≡◌, ◌≢◌, ◌==◌, ◌↔◌, IsTrue, IfSome, IfNone, true, false, option_map};
 ghost use Rattle.ijson_value.specs.Kind.{kind_of};
 ghost use Rattle.ijson_value.specs.declared.value.ValueType.TheVariants as kind;

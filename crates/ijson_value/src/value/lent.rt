@@ -2,7 +2,7 @@
 ghost use Rattle.std.specs.Prelude.{◌≡◌, ◌≢◌, IfSome, IfNone};
 ghost use Rattle.std.specs.Borrow.{sem};
 ghost use Rattle.ijson_value.specs.Kind.{kind_of};
-ghost use Rattle.ijson_value.specs.LendsPart.{LendsTruth, LendsNumber, LendsString, LendsArray, LendsObject};
+ghost use Rattle.ijson_value.specs.LendsPart.{LendsBool, LendsNumber, LendsString, LendsArray, LendsObject};
 ghost use Rattle.ijson_value.specs.Values.{boolean_value, number_value, string_value, array_value, object_value};
 ghost use Rattle.ijson_value.specs.declared.value.ValueType.TheVariants as kind;
 
@@ -15,7 +15,7 @@ use ijson_string::IString;
 impl IValue {
     /// The truth value to be written, where the value is one. None of another kind.
     pub(super) fn bool_mut(&mut self) -> Option<&mut bool>
-        ensures* writes_back { sem 𝓛 (LendsTruth self.entry result) }
+        ensures* writes_back { sem 𝓛 (LendsBool self.entry result) }
         ensures some { IfSome result (λ truth. self.old ≡ boolean_value truth.now) }
         ensures none { IfNone result (kind_of self.old.tree ≢ kind.Bool) }
     {

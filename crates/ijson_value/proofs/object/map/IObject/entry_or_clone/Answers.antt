@@ -17,7 +17,7 @@ absent c = placed c.args.self.now.pairs c.as_str.ensures c.position.ensures.posi
 pub returns-in-Some : goal.returns-in-Some
 returns-in-Some c =
     let old : Store WellFormed = c.args.self.now in
-    let o = is_at old c.args.key.now c.in-Some.position (placed old.pairs c.as_str.ensures c.position.ensures.position c.in-Some.is) in (
+    let o = is_at old c.args.key.now c.in-Some.index (placed old.pairs c.as_str.ensures c.position.ensures.position c.in-Some.is) in (
       (refl, λ w. refl, tt),
       record { same_object = refl; found = (o.there, refl); key = o.key; value = o.value; update = o.update; refused = tt; rests = tt },
     )

@@ -5,7 +5,7 @@ use Rattle.std.proofs.lemmas.Bool.{false≢true}
 use Rattle.ijson_table.proofs.pairs.PairsByKey.{put-present, put-absent, lookup-found, lookup-absent}
 use Rattle.ijson_table.specs.Growth.{Grown}
 use Rattle.ijson_table.specs.Store.{Store, at, with_value}
-use Rattle.ijson_value.specs.LendsAtKey.{grown_at}
+use Rattle.ijson_value.specs.LendsAtKey.{GrownAt}
 use Rattle.ijson_value.specs.Values.{null_value}
 use Rattle.ijson_value.specs.WellFormed.{WellFormed}
 use Rattle.ijson_value.proofs.pairs.Entries.{placed, finds_no_room, refused_capacity, written_last, got_last, same_value}
@@ -20,7 +20,7 @@ returns-in-Some c =
         refl,
         (λ w _. (
           sym (put-present old.pairs i key w found),
-          subst (λ o. grown_at o (length old.pairs) old.capacity old.capacity) (sym found) refl,
+          subst (λ o. GrownAt o (length old.pairs) old.capacity old.capacity) (sym found) refl,
         )),
         tt,
       ),
@@ -46,7 +46,7 @@ returns-in-Ok c =
         refl,
         (λ w _. (
           (λ j. with_value (pushed j) (last j) w) ∙ written_last old.pairs key null w ∙ sym (put-absent old.pairs key w missing),
-          subst (λ o. grown_at o (length old.pairs) old.capacity new.capacity) (sym missing)
+          subst (λ o. GrownAt o (length old.pairs) old.capacity new.capacity) (sym missing)
               (subst (λ n. Grown (length old.pairs) old.capacity 1 n) (sym c.push_new.ensures.capacity) c.in-Ok.ensures.growth),
         )),
         tt,
