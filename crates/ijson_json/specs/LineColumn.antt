@@ -21,12 +21,12 @@ abbrev pub AreLines : List ℕ → Type 0
 AreLines bytes = (bytes ≡ []) ⊎ ((before : List ℕ) × (bytes ≡ before ++ 10 ∷ []))
 
 -- the bytes are so many whole lines, and then so many characters of another
-abbrev pub Passes : List ℕ → ℕ → ℕ → Type 0
-Passes bytes lines more =
+abbrev pub Counts : List ℕ → ℕ → ℕ → Type 0
+Counts bytes lines more =
     (whole : List ℕ) × (begun : List ℕ) × (bytes ≡ whole ++ begun) × AreLines whole × (line_feeds begun ≡ 0)
     × (lines ≡ line_feeds bytes) × (more ≡ characters begun)
 
 -- the line and the column behind the bytes, from 1; what passes a usize is told as its greatest
 abbrev pub Follows : List ℕ → ℕ → ℕ → Type 0
-Follows bytes line column = (lines : ℕ) × (more : ℕ) × Passes bytes lines more
+Follows bytes line column = (lines : ℕ) × (more : ℕ) × Counts bytes lines more
     × (line ≡ min (lines + 1) (2 ^ 64 - 1)) × (column ≡ min (more + 1) (2 ^ 64 - 1))

@@ -12,7 +12,7 @@ pub struct LineColumn {
 }
 
 /// The line and the column, each from 1, of the byte at the offset `at`, which counts from 0: what a person is told of a fault
-/// (`JsonError`). Past the end of the text it is where the text ends. It takes time in proportion to the text before, and no memory.
+/// (`JsonError`). Past the end of the text it is where the text ends. It takes time linear in the text before, and no memory.
 pub fn line_and_column(text: &str, at: usize) -> LineColumn
     ensures { Follows (take at text.now) result.line result.column }
 {

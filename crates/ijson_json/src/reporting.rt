@@ -35,9 +35,8 @@ fn status(error: CompactError) -> u8
     ensures { result ≡ status_of (Err error) }
 {
     match error {
-        CompactError::NotUtf8 => 1,
         CompactError::Json(JsonError::Memory) | CompactError::Memory => 3,
-        CompactError::Json(_) => 1,
+        CompactError::NotUtf8 | CompactError::Json(_) => 1,
         CompactError::Read | CompactError::Write => 2,
     }
 }

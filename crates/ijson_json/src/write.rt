@@ -35,6 +35,7 @@ pub fn to_json(alloc: Global, value: &IValue) -> Result<String, AllocError>
     Ok(out)
 }
 
+/// Appends the JSON text of a value.
 #[cycle(push)]
 #[inline(always)]
 pub(crate) fn push_value(out: &mut String, value: &IValue) -> Result<(), AllocError>

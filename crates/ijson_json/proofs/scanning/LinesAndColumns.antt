@@ -4,7 +4,7 @@ use Rattle.std.proofs.Common.{length, take, length-take, refl, sym, ap, ◌∙�
 use Rattle.std.specs.Prelude.{nat_eq}
 use Rattle.std.proofs.lemmas.Bool.Decides.{nat_tests}
 use Rattle.std.proofs.lemmas.List.{append-nil, length-append}
-use Rattle.ijson_json.specs.LineColumn.{begins, line_feeds, characters, Passes}
+use Rattle.ijson_json.specs.LineColumn.{begins, line_feeds, characters, Counts}
 
 line_feeds-append : (xs ys : List ℕ) → line_feeds (xs ++ ys) ≡ line_feeds xs + line_feeds ys
 line_feeds-append [] ys = omega arith
@@ -23,7 +23,7 @@ characters-append (x ∷ xs) ys = elim (begins x) as (λ b. cond b (suc (charact
     ]
 
 -- a line feed ends a line
-pub line_feed_passed : (bytes : List ℕ) (lines more : ℕ) → Passes bytes lines more → Passes (bytes ++ 10 ∷ []) (lines + 1) 0
+pub line_feed_passed : (bytes : List ℕ) (lines more : ℕ) → Counts bytes lines more → Counts (bytes ++ 10 ∷ []) (lines + 1) 0
 line_feed_passed bytes lines more f = (
   bytes ++ 10 ∷ [],
   [],
@@ -35,8 +35,8 @@ line_feed_passed bytes lines more f = (
 )
 
 -- another byte goes on with the line
-further : (bytes : List ℕ) (lines more b now : ℕ) → Passes bytes lines more → b ≢ 10 → now ≡ more + characters (b ∷ [])
-    → Passes (bytes ++ b ∷ []) lines now
+further : (bytes : List ℕ) (lines more b now : ℕ) → Counts bytes lines more → b ≢ 10 → now ≡ more + characters (b ∷ [])
+    → Counts (bytes ++ b ∷ []) lines now
 further bytes lines more b now f other counts =
     let none : line_feeds (b ∷ []) ≡ 0 = grind (arith, nat_tests, other) in (
       f.0,
@@ -52,12 +52,12 @@ counted : (b : ℕ) (is : Bool) → begins b ≡ is → characters (b ∷ []) �
 counted b is e = ap (λ c. cond c (suc (characters [])) (characters [])) e
 
 -- and begins a character or none
-pub first_passed : (bytes : List ℕ) (lines more b : ℕ) → Passes bytes lines more → b ≢ 10 → begins b ≡ true
-    → Passes (bytes ++ b ∷ []) lines (more + 1)
+pub first_passed : (bytes : List ℕ) (lines more b : ℕ) → Counts bytes lines more → b ≢ 10 → begins b ≡ true
+    → Counts (bytes ++ b ∷ []) lines (more + 1)
 first_passed bytes lines more b f other is = further bytes lines more b (more + 1) f other (omega (arith, counted b true is))
 
-pub other_passed : (bytes : List ℕ) (lines more b : ℕ) → Passes bytes lines more → b ≢ 10 → begins b ≡ false
-    → Passes (bytes ++ b ∷ []) lines more
+pub other_passed : (bytes : List ℕ) (lines more b : ℕ) → Counts bytes lines more → b ≢ 10 → begins b ≡ false
+    → Counts (bytes ++ b ∷ []) lines more
 other_passed bytes lines more b f other is = further bytes lines more b more f other (omega (arith, counted b false is))
 
 -- neither is more than the bytes
@@ -76,7 +76,7 @@ characters-within (b ∷ bytes) = elim (begins b) as (λ c. cond c (suc (charact
 ]
 
 -- of some bytes before others there are fewer lines and characters than bytes
-pub passed_within : (bytes : List ℕ) (at lines more : ℕ) → at < length bytes → Passes (take at bytes) lines more
+pub passed_within : (bytes : List ℕ) (at lines more : ℕ) → at < length bytes → Counts (take at bytes) lines more
     → (lines < length bytes) × (more < length bytes)
 passed_within bytes at lines more before f = (
   omega (arith, f.5, line_feeds-within (take at bytes), length-take at bytes),

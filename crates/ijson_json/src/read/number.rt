@@ -83,7 +83,7 @@ fn read_short(alloc: Global, text: &str) -> Result<Option<(INumber, &str)>, Allo
 }
 
 /// The number at the front, by a split of the text. It stays a call, since few numbers want it, and may be asked only where one pass
-/// reads none, so that no way leads past that.
+/// reads none, so that it does not take the place of that.
 #[inline(never)]
 fn read_long(alloc: Global, text: &str) -> Result<(INumber, &str), Fault>
     requires { HasNoShort text.now }

@@ -53,6 +53,7 @@ fn take_from<T: Drop>(alloc: Global, stack: &mut Vec<T>, base: usize) -> Result<
     ensures left { OnOk result (stack.new.items ≡ take base stack.old.items) }
     ensures moved { IfOk result (λ taken. base ≡ 0 → 64 < length stack.old.items
         → vec_capacity taken ≡ vec_capacity stack.old) }
+    ensures spent { OnOk result (base ≡ 0 → 64 < length stack.old.items → vec_capacity stack.new ≡ 0) }
 {
     if base == 0 && stack.len() > MANY_ITEMS {
         return Ok(mem::replace(stack, Vec::new(alloc)));
@@ -69,9 +70,11 @@ pub(crate) fn take_items(
     requires { base ≤ length stack.old.items }
     ensures items { IfOk result (λ array. array.items ≡ drop base stack.old.items) }
     ensures stack { OnOk result (stack.new.items ≡ take base stack.old.items) }
+    ensures moved { IfOk result (λ array. base ≡ 0 → 64 < length stack.old.items
+        → array.capacity ≡ vec_capacity stack.old) }
 {
     let items = take_from(alloc, stack, base)?;
-    IArray::from_vec(alloc, items).map_err(|_| AllocError)
+    Ok(IArray::from_vec(alloc, items)?)
 }
 
 /// Takes the members from `base` on off the stack, as an object with room for as many.
@@ -85,6 +88,8 @@ pub(crate) fn take_members(
         object.pairs ≡ put_each [] (drop base stack.old.items)) }
     ensures room { IfOk result (λ object. object.capacity ≡ length (drop base stack.old.items)) }
     ensures stack { OnOk result (stack.new.items ≡ take base stack.old.items) }
+    // The stack itself is taken where the object is all that it holds, and large.
+    ensures spent { OnOk result (base ≡ 0 → 64 < length stack.old.items → vec_capacity stack.new ≡ 0) }
 {
     let members = take_from(alloc, stack, base)?;
     IObject::from_pairs(alloc, members).map_err(|_| AllocError)

@@ -12,8 +12,10 @@ use std::alloc::AllocError;
 use std::mem;
 use std::simd::prelude::*;
 
-/// Where the first byte is that must stand in an escape, or ends the string.
+/// Where the first byte is that must stand in an escape, or ends the string, one byte at a time. It may be asked only of fewer than 4,
+/// so that this walk does not take the place of the rows.
 fn first_special(bytes: &[u8]) -> Option<usize>
+    requires { length bytes.now < 4 }
     ensures { result ≡ position (λ byte. not (is_unescaped byte)) bytes.now }
 {
     bytes
@@ -23,6 +25,7 @@ fn first_special(bytes: &[u8]) -> Option<usize>
 
 /// How many bytes at the front stand for themselves, one byte at a time.
 fn run_by_bytes(bytes: &[u8]) -> usize
+    requires { length bytes.now < 4 }
     ensures { result ≡ prefix_len is_unescaped bytes.now }
 {
     first_special(bytes).unwrap_or(bytes.len())

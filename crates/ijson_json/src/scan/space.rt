@@ -1,7 +1,7 @@
 //! White space. Of a compact text it is none or a byte, of one that is laid out mostly a line feed and an indent. So a byte or two are
 //! looked at by themselves, and all that is behind two of them 16 bytes at a time.
 
-ghost use Rattle.std.specs.Prelude.{◌≡◌, ◌+◌, ◌<◌, ◌∷◌, ℕ, IsTrue, length, map, not, MatchOption};
+ghost use Rattle.std.specs.Prelude.{◌≡◌, ◌<◌, ◌∷◌, ℕ, IsTrue, length, map, not, MatchOption};
 ghost use Rattle.std.specs.List.{position, prefix_len};
 ghost use Rattle.std.specs.Simd.Lanes.{mask_l};
 ghost use Rattle.ijson_json.specs.Grammar.{is_space};
@@ -77,7 +77,7 @@ fn others(bytes: u8x16) -> u64
 }
 
 /// Where the first byte is that is no white space, one byte at a time. It may be asked only of the few bytes at the end of a text, so that
-/// no way leads past the rows of 16.
+/// this walk does not take the place of the rows of 16.
 fn first_other(bytes: &[u8]) -> Option<usize>
     requires { length bytes.now < 16 }
     ensures { result ≡ position (λ byte. not (is_space byte)) bytes.now }

@@ -1,6 +1,6 @@
 use Rattle.std.proofs.Common.{arith, ◌≡◌, ◌++◌, ◌+◌, ◌∷◌, [], ℕ, List, take, slice_index_or, subst, sym, ◌∙◌}
 use Rattle.std.proofs.lemmas.List.{take_more}
-use Rattle.ijson_json.specs.LineColumn.{Passes}
+use Rattle.ijson_json.specs.LineColumn.{Counts}
 use Rattle.ijson_json.proofs.scanning.LinesAndColumns.{line_feed_passed, first_passed, other_passed, passed_within}
 use Rattle.ijson_json.proofs.line_column.line_and_column.Goals.{then-byte-eq10, else-byte-eq10+then-is_first, else-byte-eq10+else-is_first}
 use Rattle.ijson_json.proofs.line_column.line_and_column.Goals as goal
@@ -21,18 +21,18 @@ loop-byte-preserved c =
     let byte : ℕ = slice_index_or c.if-at-bytes.before.now c.loop-byte.byte-index 0 in
     let more : take (c.loop-byte.byte-index + 1) c.if-at-bytes.before.now
     ≡ passed ++ byte ∷ [] = take_more c.if-at-bytes.before.now c.loop-byte.byte-index 0 c.loop-byte-test.true in
-    let before : Passes passed c.loop-byte.lines c.loop-byte.characters = c.loop-byte.invariant in
-    subst (λ bytes. Passes bytes c.if-byte-eq10.lines c.if-byte-eq10.characters) (sym more) (elim c.if-byte-eq10.branch [
+    let before : Counts passed c.loop-byte.lines c.loop-byte.characters = c.loop-byte.invariant in
+    subst (λ bytes. Counts bytes c.if-byte-eq10.lines c.if-byte-eq10.characters) (sym more) (elim c.if-byte-eq10.branch [
       | then-byte-eq10 w ↦
           let now = line_feed_passed passed c.loop-byte.lines c.loop-byte.characters before in
-          subst (λ (p : ℕ × ℕ × ℕ). Passes (passed ++ p.0 ∷ []) p.1 p.2)
+          subst (λ (p : ℕ × ℕ × ℕ). Counts (passed ++ p.0 ∷ []) p.1 p.2)
           (λ i. (sym w.if-byte-eq10.true i, sym w.lines-is i, sym w.characters-is i)) now
       | else-byte-eq10+then-is_first w ↦
           let now = first_passed passed c.loop-byte.lines c.loop-byte.characters byte before w.if-byte-eq10.false
           (sym w.is_first.ensures ∙ w.if-is_first.true) in
-          subst (λ (p : ℕ × ℕ). Passes (passed ++ byte ∷ []) p.0 p.1) (λ i. (sym w.lines-is i, sym w.characters-is i)) now
+          subst (λ (p : ℕ × ℕ). Counts (passed ++ byte ∷ []) p.0 p.1) (λ i. (sym w.lines-is i, sym w.characters-is i)) now
       | else-byte-eq10+else-is_first w ↦
           let now = other_passed passed c.loop-byte.lines c.loop-byte.characters byte before w.if-byte-eq10.false
           (sym w.is_first.ensures ∙ w.if-is_first.false) in
-          subst (λ (p : ℕ × ℕ). Passes (passed ++ byte ∷ []) p.0 p.1) (λ i. (sym w.lines-is i, sym w.characters-is i)) now
+          subst (λ (p : ℕ × ℕ). Counts (passed ++ byte ∷ []) p.0 p.1) (λ i. (sym w.lines-is i, sym w.characters-is i)) now
     ])
