@@ -1,6 +1,5 @@
 -- Which of two values with the tree null is read, where a type of what may be missing has both: what is missing. So null is read as None,
--- and
--- never as Some of what has the tree null itself. This project's own.
+-- and never as Some of what has the tree null itself. This project's own.
 use Rattle.std.specs.Prelude.{◌≡◌, Option, None, Some, ⊤}
 use Rattle.ijson_value.specs.Tree.{Tree, null}
 

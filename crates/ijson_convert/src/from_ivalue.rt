@@ -49,7 +49,8 @@ pub trait FromIValue: Sized {
 }
 
 /// What the JSON value says, as a `T`. It is refused where its tree is no `T`'s, with the first reason in order, and else only with
-/// `Memory`. Texts are copied. For an `Option`, null is None.
+/// `Memory`. Texts are copied. For an `Option`, null is None. It takes time linear in the value, and where it
+/// makes a `BTreeMap`, n log n in its pairs and that of comparing keys.
 ///
 /// ```
 /// let ids: Vec<u64> = from_value(alloc, &value)?; // of [1,2.0]; [1,"2"] is refused as WrongKind, [1,2.5] as OutOfRange

@@ -11,7 +11,8 @@ use ijson_value::value::{DestructuredRef, IValue};
 use std::alloc::Global;
 use std::collections::BTreeMap;
 
-/// An object, value by value; its keys are copied, and its order is lost.
+/// An object, value by value; its keys are copied, and its order is lost. The pairs of each object are put into a sorted map, in time
+/// n log n and that of comparing keys.
 impl<T: FromIValue + Drop> FromIValue for BTreeMap<String, T> {
     ghost tree = { λ map. map_tree T.FromIValue.tree map.entries };
 

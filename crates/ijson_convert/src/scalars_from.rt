@@ -64,10 +64,7 @@ impl<T: FromIValue> FromIValue for Option<T> {
     fn from_ivalue(alloc: Global, value: &IValue) -> Result<Option<T>, ConvertError> {
         match value.destructure_ref() {
             DestructuredRef::Null => Ok(None),
-            _ => match T::from_ivalue(alloc, value) {
-                Ok(x) => Ok(Some(x)),
-                Err(e) => Err(e),
-            },
+            _ => Ok(Some(T::from_ivalue(alloc, value)?)),
         }
     }
 

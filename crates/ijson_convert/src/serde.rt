@@ -56,7 +56,8 @@ pub fn to_serde_number(number: &INumber) -> Result<Number, ConvertError>
 /// The JSON value of a value of `serde_json`: members come in the order of its map, which is that of their keys. Its texts
 /// and keys are interned in `cache`, in their order; where it is refused, a beginning of them may have been. `Number`
 /// comes where a number in it is a float, and `Memory` where memory for an array, an object or a text was refused. The numbers
-/// that it makes have no point. It calls itself once a level.
+/// that it makes have no point. It takes time linear in the value, beside the look-ups of keys and texts by their hashes; where
+/// many keys of an object crowd, n log n in its pairs. It calls itself once a level.
 #[cycle(from)]
 pub fn from_serde<S: BuildHasher>(
     alloc: Global,
@@ -106,7 +107,7 @@ fn from_items<S: BuildHasher>(
 /// The object of a map of `serde_json`, in its order, which is that of the keys. Its pairs are made in a list with room for
 /// all, which is taken first, and the object is made of it as by `from_pairs`. The keys and the texts are interned in
 /// `cache`, in their order; where the map is refused, a beginning of them may have been. `Number` comes where a number in it
-/// is a float, and `Memory` where memory was refused.
+/// is a float, and `Memory` where memory was refused. It takes the time that `from_serde` does.
 #[cycle(from)]
 pub fn from_serde_map<S: BuildHasher>(
     alloc: Global,
@@ -138,8 +139,9 @@ pub fn from_serde_map<S: BuildHasher>(
 
 /// The value of `serde_json` of a JSON value. A number goes over by its value, and its shape is lost; members come in the
 /// order of their keys. `Number` comes where the value of a number in it is neither an `i64` nor a `u64`, and `Memory`
-/// where memory for a list, a map or a text was refused. Texts are copied. It has no limit of depth, but it calls itself once a
-/// level, so a very deep value can want more stack than there is.
+/// where memory for a list, a map or a text was refused. Texts are copied. The pairs of each object are put into a sorted map, in
+/// time n log n and that of comparing keys; all else takes time linear in the value. It has no limit of depth, but it calls itself
+/// once a level, so a very deep value can want more stack than there is.
 #[cycle(to)]
 pub fn to_serde(alloc: Global, value: &IValue) -> Result<Value, ConvertError>
     ensures means { IfOk result (λ made. SerdeMeans (view made) value.now.tree) }
@@ -175,7 +177,7 @@ fn to_items(alloc: Global, items: &[IValue]) -> Result<Vec<Value>, ConvertError>
 }
 
 /// The map of `serde_json` of an object, which keeps its pairs in the order of their keys. `Number` comes where the value
-/// of a number in it is neither an `i64` nor a `u64`, and `Memory` where memory was refused.
+/// of a number in it is neither an `i64` nor a `u64`, and `Memory` where memory was refused. It takes the time that `to_serde` does.
 #[cycle(to)]
 pub fn to_serde_map(alloc: Global, object: &IObject) -> Result<Map<String, Value>, ConvertError>
     ensures means { IfOk result (λ made.

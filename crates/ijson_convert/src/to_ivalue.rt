@@ -37,7 +37,9 @@ pub trait ToIValue {
 }
 
 /// The JSON value of `x`. Its texts and keys are interned in `cache`, in their order. The only error is `Memory`, and a beginning
-/// of them may then have been interned. Lists and maps are gone over once, and their arrays and objects take their room at once.
+/// of them may then have been interned. Lists and maps are gone over once, and their arrays and objects take their room at once. It
+/// takes time linear in the value, beside the look-ups of keys and texts by their hashes; where many keys of an object crowd, n log n
+/// in its pairs.
 ///
 /// ```
 /// let sizes = to_value(alloc, &mut cache, &vec![in alloc; 1u8, 2]?)?; // [1,2]
