@@ -94,10 +94,6 @@ meant_itself [] h = refl
 meant_itself (b ∷ token) h = tilde b token (not_byte b 126 (h 0 (omega arith)))
     ∙ ap (option_map (λ t. b ∷ t)) (meant_itself token (tail_lacks 126 b token h))
 
-abbrev tail_of : List ℕ → List ℕ
-tail_of [] = []
-tail_of (b ∷ bs) = bs
-
 abbrev first_of : Option (List ℕ) → ℕ
 first_of None = 0
 first_of (Some []) = 0

@@ -1,6 +1,6 @@
 //! JSON Pointer (RFC 6901): the value inside a value that a text names.
 ghost use Rattle.std.specs.Prelude.{◌≡◌, ◌<◌, ◌≤◌, ◌⊎◌, ◌∷◌, ℕ, List, [], length, Some, None, option_map, option_and_then};
-ghost use Rattle.std.specs.Prelude.{is_some, IfOk, IfErr, IfSome, IfNone, IsTrue, ◌↔◌, slice_get};
+ghost use Rattle.std.specs.Prelude.{is_some, Contains, IfOk, IfErr, IfSome, IfNone, IsTrue, ◌↔◌, slice_get};
 ghost use Rattle.std.specs.Str.{all_ascii_digits};
 ghost use Rattle.std.specs.Option.{option_copied};
 ghost use Rattle.ijson_table.specs.Store.{at, lookup};
@@ -138,8 +138,10 @@ fn member<'a>(object: &'a IObject, token: &str) -> Option<&'a IValue>
     }
 }
 
-/// The position of the key that a token means, and the value beside it. Each key is compared with the token as it is written.
+/// The position of the key that a token with `~` means, and the value beside it. Each key is compared with the token as it is
+/// written. A token without `~` is a key itself, which is looked up.
 fn find_member<'a>(object: &'a IObject, token: &str) -> Option<(usize, &'a IValue)>
+    requires { Contains token.now 126 }
     ensures position { option_map (λ found. found.0) result
         ≡ option_and_then (at object.now.pairs) (meant token.now) }
     ensures value { option_map (λ found. found.1.now) result

@@ -5,7 +5,7 @@ ghost use Rattle.std.specs.Option.{unwrap_or};
 ghost use Rattle.ijson_table.specs.Store.{lookup, put};
 ghost use Rattle.ijson_value.specs.Values.{boolean_value};
 
-use super::{empty_cache, insert_new, key, parsed, set};
+use super::{empty_cache, insert_new, is_written, key, parsed, set};
 use ijson_number::INumber;
 use ijson_string::IString;
 use ijson_table::ReserveError;
@@ -120,6 +120,7 @@ fn removals(rt: HostRuntime) {
     drop(object);
     let mut object = of_keys(&rt, alloc, &["a", "b", "c"]);
     assert!(rt; number_in(object.remove("b")) == Some(1) && object.capacity() == 4);
+    assert!(rt; has_keys(&object, &["a", "c"]));
     object.shrink_to_fit().expect(&rt, "less room");
     assert!(rt; has_keys(&object, &["a", "c"]) && object.capacity() == 2);
     drop(object);
@@ -210,18 +211,23 @@ fn room_made_ahead(rt: HostRuntime) {
     assert!(rt; past.err() == Some(ReserveError::TooLarge));
 }
 
-/// Copies an object of the keys a to c that has room for one more.
-fn copies(rt: &impl Abort, object: &IObject) {
+/// Copies an object of the keys a to c that has room for one more. The number beside c has a point.
+fn copies(rt: &impl Abort, alloc: Global, object: &IObject) {
     let copy = object.clone().expect(rt, "a copy");
     assert!(rt; object.capacity() == 4 && copy.capacity() == 3 && copy == *object);
     assert!(rt; has_keys(&copy, &["a", "b", "c"]) && number_at(&copy, "c") == 2);
-    drop(copy);
+    let value = IValue::from(copy);
+    is_written(rt, alloc, &value, r#"{"a":0,"b":1,"c":2.0}"#);
+    drop(value);
 }
 
 #[test]
 fn copied(rt: HostRuntime) {
-    let object = of_keys(&rt, rt.alloc(), &["a", "b", "c"]);
-    copies(&rt, &object);
+    let alloc = rt.alloc();
+    let mut object = of_keys(&rt, alloc, &["a", "b"]);
+    let number = parsed(&rt, alloc, "2.0");
+    insert_new(&rt, &mut object, key(&rt, alloc, "c"), number);
+    copies(&rt, alloc, &object);
     drop(object);
 }
 
@@ -512,6 +518,7 @@ fn iterates_apart(rt: &impl Abort, object: &IObject) {
     assert!(rt;
         values.next().map(number_of) == Some(0) && values.next().map(number_of) == Some(40)
     );
+    assert!(rt; values.next().map(number_of) == Some(20) && values.next().is_none());
 }
 
 /// Asserts that so many pairs are left, and the next one has this key.

@@ -1,6 +1,7 @@
-//! Each test here holds under any one refused request for memory: what a refused call leaves is compared whole, and the call is made again.
+//! Each test here holds under any one refused request for memory: what a refused call leaves is compared, whole where
+//! it is small, and the call is made again.
 //! The repository's `check` runs each with its first request refused, with its second, and so on.
-ghost use Rattle.std.specs.Prelude.{◌≡◌, IfOk};
+ghost use Rattle.std.specs.Prelude.{◌≡◌, ◌<◌, IfOk};
 
 /// What a call answers, which is made again where memory is refused. That is told by `AllocError`, or else by the error that is given.
 macro_rules! granted {
@@ -59,6 +60,9 @@ fn number_of_many_digits(rt: HostRuntime) {
     let number = spelled(&rt, alloc, text);
     assert!(rt; number.has_decimal_point());
     copies_number(&rt, &number);
+    let short = spelled(&rt, alloc, "441044444333116.125");
+    copies_number(&rt, &short);
+    drop(short);
     let same = spelled(&rt, alloc, "1234567890123456789012345678905e-1");
     assert!(rt; number == same);
     drop(same);
@@ -292,7 +296,7 @@ fn counted(rt: &impl Abort, cache: &mut Cache, text: &str, count: usize) -> IStr
         Ok(key) => key,
         Err(AllocError) => {
             assert!(rt; !was_there && !cache.contains(text));
-            assert!(rt; count > before && cache.len() == before && is_kept(cache, 2));
+            assert!(rt; count > before && cache.len() == before && is_kept(cache, before));
             IString::intern(cache, text).expect(rt, "a text")
         }
     }
@@ -316,6 +320,22 @@ fn intern(rt: HostRuntime) {
         assert!(rt; cache.len() == count && cache.contains(text) == (text.len() > 7));
         copies_text(&rt, alloc, &key, text);
         drop(key);
+    }
+    drop(cache);
+}
+
+/// 72 letters.
+static LETTERS: &str = "abcdefghijklmnopqrstuvwxyz0123456789ABCDEFGHIJKLMNOPQRSTUVWXYZ9876543210";
+
+// The list of the texts grows at the 5th, and the buckets at the 65th.
+#[test]
+fn intern_many(rt: HostRuntime) {
+    let alloc = rt.alloc();
+    let mut cache = used_cache(&rt, alloc);
+    for length in 8..73usize {
+        let text = LETTERS.get(..length).expect(&rt, "a beginning");
+        drop(counted(&rt, &mut cache, text, length - 6));
+        assert!(rt; cache.len() == length - 6 && cache.contains("abcdefgh"));
     }
     drop(cache);
 }
@@ -474,25 +494,41 @@ static STRIPPED: [(Part, &str, &str); 3] = [
     ),
 ];
 
+/// Texts that are written as they are read, and the canonical text of what each spells. The second outgrows the memory that a
+/// canonical text gets at first, and its second object the list of the first one.
+static CANONICAL: [(&str, &str); 2] = [
+    (
+        "{\"b\":{\"d\":2.0,\"c\":[10,0.0]},\"a\":\"longlong\"}",
+        "{\"a\":\"longlong\",\"b\":{\"c\":[1e1,0],\"d\":2e0}}",
+    ),
+    (
+        "[{\"b\":1,\"a\":2},{\"f\":1,\"e\":2,\"d\":3,\"c\":4,\"b\":5,\"a\":6},\
+         \"abcdefghijklmnopqrstuvwxyz0123456789ABCDEFGHIJKLMNOPQRSTUVWXYZ9876543210\"]",
+        "[{\"a\":2e0,\"b\":1e0},{\"a\":6e0,\"b\":5e0,\"c\":4e0,\"d\":3e0,\"e\":2e0,\"f\":1e0},\
+         \"abcdefghijklmnopqrstuvwxyz0123456789ABCDEFGHIJKLMNOPQRSTUVWXYZ9876543210\"]",
+    ),
+];
+
 #[test]
 fn canonical(rt: HostRuntime) {
     let alloc = rt.alloc();
-    let text = "{\"b\":{\"d\":2.0,\"c\":[10,0.0]},\"a\":\"longlong\"}";
-    let value = read(&rt, alloc, text);
-    let sorted = "{\"a\":\"longlong\",\"b\":{\"c\":[1e1,0],\"d\":2e0}}";
-    is_canonical(&rt, alloc, &value, sorted);
-    is_written(&rt, alloc, &value, text);
-    drop(value);
+    for &(text, sorted) in &CANONICAL {
+        let value = read(&rt, alloc, text);
+        is_canonical(&rt, alloc, &value, sorted);
+        is_written(&rt, alloc, &value, text);
+        drop(value);
+    }
     puts_parts(&rt, alloc, &STRIPPED);
 }
 
-/// A sink of room for one line.
-fn sink(alloc: Global) -> Result<MemorySink, AllocError>
+/// A sink that takes so many bytes, in pieces.
+fn sink(alloc: Global, piece: usize, most: usize) -> Result<MemorySink, AllocError>
+    requires { 0 < piece }
     ensures { IfOk result (λ sink. sink.failed ≡ 0) }
 {
-    match MemorySink::new(alloc, 4, 100) {
+    match MemorySink::new(alloc, piece, most) {
         Ok(sink) => Ok(sink),
-        Err(AllocError) => MemorySink::new(alloc, 4, 100),
+        Err(AllocError) => MemorySink::new(alloc, piece, most),
     }
 }
 
@@ -512,17 +548,22 @@ fn is_reported(rt: &impl Abort, answer: &Result<(), CompactError>, status: u8, l
     }
 }
 
-/// Compacts a text and reports the answer. Whether it was done: where it was refused, nothing is written but the line.
+/// Compacts a text in pieces between devices of so many bytes, and reports the answer. Whether it was done: where it was refused,
+/// nothing is written but the line.
 fn is_compacted(
     rt: &impl Abort,
     alloc: Global,
     cache: &mut Cache,
+    piece: usize,
+    most: usize,
     text: &[u8],
     written: &[u8],
-) -> bool {
-    let mut input = MemorySource::new(text, 4, 100);
-    let mut output = sink(alloc).expect(rt, "a sink");
-    let mut errors = sink(alloc).expect(rt, "a sink");
+) -> bool
+    requires { 0 < piece }
+{
+    let mut input = MemorySource::new(text, piece, most);
+    let mut output = sink(alloc, piece, most).expect(rt, "a sink");
+    let mut errors = sink(alloc, piece, most).expect(rt, "a sink");
     let answer = compact(alloc, &mut input, &mut output, cache);
     let status = report(&answer, &mut errors);
     is_reported(rt, &answer, status, errors.bytes());
@@ -541,8 +582,8 @@ fn compacting(rt: HostRuntime) {
     let alloc = rt.alloc();
     for &(text, line) in &COMPACTED {
         let mut cache = used_cache(&rt, alloc);
-        if !is_compacted(&rt, alloc, &mut cache, text, line) {
-            assert!(rt; is_compacted(&rt, alloc, &mut cache, text, line));
+        if !is_compacted(&rt, alloc, &mut cache, 4, 100, text, line) {
+            assert!(rt; is_compacted(&rt, alloc, &mut cache, 4, 100, text, line));
         }
         drop(cache);
     }
@@ -553,7 +594,7 @@ fn compacting_to_a_value(rt: HostRuntime) {
     let alloc = rt.alloc();
     let mut cache = used_cache(&rt, alloc);
     let mut input = MemorySource::new(b"[1.50]", 4, 100);
-    let mut output = sink(alloc).expect(&rt, "a sink");
+    let mut output = sink(alloc, 4, 100).expect(&rt, "a sink");
     let value = match compact_value(alloc, &mut input, &mut output, &mut cache) {
         Ok(value) => value,
         Err(refused) => {

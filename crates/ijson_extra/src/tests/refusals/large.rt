@@ -1,6 +1,6 @@
 //! Many letters, items and pairs, with each request refused once.
 
-use super::{copied, is_written, pushes, read, text_of_room};
+use super::{copied, is_compacted, is_written, pushes, read, text_of_room, used_cache};
 use crate::tests::insert_new;
 use ijson_json::push_separator;
 use ijson_number::INumber;
@@ -50,6 +50,29 @@ fn read_copied_and_written(rt: HostRuntime) {
     is_written(&rt, alloc, &value, text.as_str());
     drop(copied(&rt, alloc, &value, text.as_str()));
     drop(value);
+}
+
+/// The text of a list of an item, 30,000 times, with this end.
+fn of_items(rt: &impl Abort, alloc: Global, item: &str, end: &str) -> String {
+    let mut text = text_of_room(rt, alloc, 800_000);
+    text.push('[').expect(rt, "room");
+    push_times(rt, &mut text, item, 30_000);
+    text.push_str(end).expect(rt, "room");
+    text
+}
+
+// The input outgrows the memory that is taken for it at first, and the line that of the input.
+#[test]
+fn compacted(rt: HostRuntime) {
+    let alloc = rt.alloc();
+    let text = of_items(&rt, alloc, "1e16,", "1]");
+    let line = of_items(&rt, alloc, "10000000000000000.0,", "1]\n");
+    let (text, line) = (text.as_bytes(), line.as_bytes());
+    let mut cache = used_cache(&rt, alloc);
+    if !is_compacted(&rt, alloc, &mut cache, 100_000, 1_000_000, text, line) {
+        assert!(rt; is_compacted(&rt, alloc, &mut cache, 100_000, 1_000_000, text, line));
+    }
+    drop(cache);
 }
 
 /// Puts a pair into an object, which is full where memory is refused. The pair that comes back is put once more.

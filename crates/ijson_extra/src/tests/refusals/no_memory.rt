@@ -5,13 +5,13 @@ use super::objects::{PAIRS, holds, is_granted, is_number, refused_entry, with_pa
 use super::{Cache, array_of_room, interned, number, spelled};
 use crate::pointer::{resolve, resolve_mut};
 use crate::tests::{empty_cache, key, set};
-use ijson_json::{CompactError, MemorySink, Sink, report};
-use ijson_number::{Form, INumber};
+use ijson_json::{CompactError, MemorySink, Sink, line_and_column, report};
+use ijson_number::{Form, INumber, Looks, first_fault};
 use ijson_string::IString;
-use ijson_table::{FixedTable, LinearPairs, PairStore, ReserveError};
+use ijson_table::{FixedTable, LinearPairs, PairStore, ReserveError, locate};
 use ijson_value::array::IArray;
 use ijson_value::object::{Entry, IObject};
-use ijson_value::value::{IValue, ValueType};
+use ijson_value::value::{Destructured, DestructuredMut, DestructuredRef, IValue, ValueType};
 use std::alloc::{AllocError, Global};
 use std::cmp::Ordering;
 use std::hash::{DefaultHasher, Hash, Hasher};
@@ -50,6 +50,7 @@ fn numbers(rt: &impl Abort, alloc: Global, rounds: u32) {
     let more = spelled(rt, alloc, "18446744073709551616.5");
     for _ in 0..rounds {
         assert!(rt; are_in_order(&less, &more) && is_list_with_point(&more));
+        assert!(rt; first_fault("01") == Some(1) && line_and_column("a\nb", 2).line == 2);
     }
     drop(less);
     drop(more);
@@ -177,6 +178,46 @@ fn finds_entries(rt: &impl Abort, object: &mut IObject, a: &IString) {
     set(value.expect(rt, "a value"), IValue::from(1u8));
 }
 
+/// Writes 7 in the place of a value.
+fn seven(value: &mut IValue) {
+    set(value, IValue::from(7u8));
+}
+
+/// Writes 7 beside a key that is there by its entry, and then 1 again.
+fn writes_entry(rt: &impl Abort, object: &mut IObject, a: &IString) {
+    let entry = object.entry_or_clone(a).expect(rt, "an entry");
+    if let Entry::Occupied(mut entry) = entry.and_modify(seven) {
+        assert!(rt; entry.key() == a && is_number(entry.get(), 7));
+        set(entry.get_mut(), IValue::from(8u8));
+        assert!(rt; number_in(Some(entry.insert(IValue::from(1u8)))) == Some(8));
+    }
+}
+
+/// The key of a pair that an entry takes out, or the key itself where it is not there.
+fn key_of(entry: Entry<'_>) -> IString {
+    match entry {
+        Entry::Occupied(entry) => {
+            let (key, value) = entry.remove_entry();
+            drop(value);
+            key
+        }
+        Entry::Vacant(entry) => entry.into_key(),
+    }
+}
+
+fn four() -> IValue {
+    IValue::from(4u8)
+}
+
+/// Takes the last pair out by its entry, asks for its entry in vain, and puts it last again.
+fn enters_again(rt: &impl Abort, object: &mut IObject, d: &IString) {
+    let key = key_of(object.entry(copied(rt, d)).expect(rt, "an entry"));
+    let key = key_of(object.entry(key).expect(rt, "room"));
+    assert!(rt; holds(object, 3, 4));
+    let entry = object.entry(key).expect(rt, "room");
+    assert!(rt; is_number(entry.or_insert_with(four), 4));
+}
+
 /// Writes a number where there is a value.
 fn put_number(place: Option<&mut IValue>, number: u8) {
     if let Some(value) = place {
@@ -184,11 +225,20 @@ fn put_number(place: Option<&mut IValue>, number: u8) {
     }
 }
 
+/// Writes beside a key that is there by its index.
+fn writes_by_index(rt: &impl Abort, object: &mut IObject) {
+    assert!(rt; object.contains_key("b"));
+    set(&mut object["b"], IValue::from(2u8));
+    assert!(rt; object.contains_key("b") && is_number(&object["b"], 2));
+}
+
 /// Finds and writes what is there in a full object.
 fn finds(rt: &impl Abort, object: &mut IObject, a: &IString) {
     finds_entries(rt, object, a);
+    writes_entry(rt, object, a);
     put_number(object.get_mut("b"), 2);
     put_number(object.value_at_mut(2), 3);
+    writes_by_index(rt, object);
     assert!(rt; object.reserve(0).is_ok() && object.shrink_to_fit().is_ok());
     assert!(rt; tells_four(object, a));
 }
@@ -209,18 +259,26 @@ fn fills_room(rt: &impl Abort, object: &mut IObject, e: &IString) {
     assert!(rt; number_in(object.shift_remove(e)) == Some(5));
 }
 
-/// Keeps each pair.
-fn keeps(_key: &IString, _value: &mut IValue) -> bool {
-    true
+/// Keeps each pair but that of `e`.
+fn keeps(key: &IString, _value: &mut IValue) -> bool {
+    !key.eq_str("e")
 }
 
 /// Takes the last pair out, puts another one into the room, and puts the first one back.
 fn changes(rt: &impl Abort, object: &mut IObject, e: &IString) {
     let (key, value) = object.remove_entry("d").expect(rt, "a pair");
     fills_room(rt, object, e);
-    enters(rt, object, key, value);
+    assert!(rt; is_granted(refused_entry(object, copied(rt, e), 5)));
     object.retain(keeps);
+    enters(rt, object, key, value);
     assert!(rt; holds(object, 4, 4) && number_in(object.remove(e)).is_none());
+}
+
+/// Takes all pairs out of an object that has one, and puts that in again.
+fn refills(rt: &impl Abort, object: &mut IObject, a: &IString) {
+    object.clear();
+    assert!(rt; object.is_empty() && object.capacity() == 1);
+    assert!(rt; is_granted(refused_entry(object, copied(rt, a), 1)));
 }
 
 /// Puts a pair into an object by its entry.
@@ -251,14 +309,21 @@ fn gives_out(rt: &impl Abort, mut object: IObject, first: IObject) {
 fn objects(rt: &impl Abort, alloc: Global, rounds: u32) {
     let mut object = with_pairs(rt, alloc, 4, 4);
     let same = with_pairs(rt, alloc, 4, 4);
-    let first = with_pairs(rt, alloc, 1, 1);
-    let (a, e) = (key(rt, alloc, "a"), key(rt, alloc, "e"));
+    let mut first = with_pairs(rt, alloc, 1, 1);
+    let (a, d, e) = (
+        key(rt, alloc, "a"),
+        key(rt, alloc, "d"),
+        key(rt, alloc, "e"),
+    );
     for _ in 0..rounds {
         finds(rt, &mut object, &a);
         changes(rt, &mut object, &e);
+        enters_again(rt, &mut object, &d);
+        refills(rt, &mut first, &a);
         assert!(rt; are_same(&object, &same) && object != first);
     }
     drop(a);
+    drop(d);
     drop(e);
     drop(same);
     gives_out(rt, object, first);
@@ -316,10 +381,20 @@ fn lists(rt: &impl Abort, alloc: Global, rounds: u32) {
     drop(list);
 }
 
+/// Where a table has a key, by a look-up that counts.
+fn located(table: &FixedTable<u8>, key: &str) -> Option<usize> {
+    if table.len() > 1000 {
+        return None;
+    }
+    let mut looks = Looks::new();
+    locate(table, key, &mut looks)
+}
+
 fn tables(rt: &impl Abort, alloc: Global, rounds: u32) {
     let mut table = granted!(rt; ReserveError::Memory; FixedTable::with_capacity(alloc, 3));
     put_three(rt, alloc, &mut table);
     turns_twice(rt, &mut table, rounds);
+    assert!(rt; located(&table, "b") == Some(1) && located(&table, "d").is_none());
     let pairs = table.into_pairs();
     assert!(rt; pairs.len() == 3);
     drop(pairs);
@@ -331,6 +406,19 @@ fn takes(rt: &impl Abort, value: &mut IValue) {
     assert!(rt; value.is_null() && taken.type_() == ValueType::Object);
     let object = taken.into_object().expect(rt, "an object");
     set(value, IValue::from(object));
+}
+
+/// Opens a value in each way, and puts it together again.
+fn takes_apart(rt: &impl Abort, value: &mut IValue) {
+    assert!(rt;
+        matches!(value.destructure_ref(), DestructuredRef::Object(object) if object.len() == 4)
+    );
+    if let DestructuredMut::Object(object) = value.destructure_mut() {
+        put_number(object.get_mut("c"), 3);
+    }
+    if let Destructured::Object(object) = value.take().destructure() {
+        set(value, IValue::from(object));
+    }
 }
 
 /// Finds and writes what is inside.
@@ -346,6 +434,7 @@ fn values(rt: &impl Abort, alloc: Global, rounds: u32) {
     let same = IValue::from(with_pairs(rt, alloc, 4, 4));
     for _ in 0..rounds {
         takes(rt, &mut value);
+        takes_apart(rt, &mut value);
         opens(rt, &mut value);
         assert!(rt; are_same(&value, &same));
     }

@@ -68,6 +68,21 @@ fn pairs(rt: HostRuntime) {
     drop(object);
 }
 
+/// How many pairs an object has, and its capacity.
+static COPIED: [(usize, usize); 2] = [(3, 4), (5, 12)];
+
+// A copy has room for its pairs alone.
+#[test]
+fn copied(rt: HostRuntime) {
+    for &(len, capacity) in &COPIED {
+        let object = with_pairs(&rt, rt.alloc(), len, capacity);
+        let copy = granted!(&rt; object.clone());
+        assert!(rt; holds(&copy, len, len) && holds(&object, len, capacity));
+        drop(copy);
+        drop(object);
+    }
+}
+
 /// Inserts a pair whose key is not there into an object, which so many others fill where memory is refused.
 fn inserts(rt: &impl Abort, object: &mut IObject, key: IString, number: u8, len: usize) {
     if let Some(refused) = object.insert(key, IValue::from(number)).err() {

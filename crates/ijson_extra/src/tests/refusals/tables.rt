@@ -195,6 +195,8 @@ fn bears_refusals_of_many<S: Store>(rt: &impl Abort, alloc: Global, count: u16) 
 #[test]
 fn stores_of_many_pairs(rt: HostRuntime) {
     bears_refusals_of_many::<LinearPairs<u16>>(&rt, rt.alloc(), 2_000);
+    bears_refusals_of_many::<FixedTable<u16>>(&rt, rt.alloc(), 40);
+    bears_refusals_of_many::<FixedTable<u16>>(&rt, rt.alloc(), 100);
     bears_refusals_of_many::<FixedTable<u16>>(&rt, rt.alloc(), 10_000);
     bears_refusals_of_many::<Table<u16, AlwaysZero>>(&rt, rt.alloc(), 200);
 }
@@ -232,58 +234,92 @@ fn takes_list<H: KeyHash>(rt: &impl Abort, alloc: Global, count: u16) {
 fn lists_of_pairs(rt: HostRuntime) {
     takes_list::<AlwaysZero>(&rt, rt.alloc(), 5);
     takes_list::<FixedHash>(&rt, rt.alloc(), 5);
+    takes_list::<FixedHash>(&rt, rt.alloc(), 40);
     takes_list::<FixedHash>(&rt, rt.alloc(), 10_000);
     takes_list::<AlwaysZero>(&rt, rt.alloc(), 300);
 }
 
-/// One command that inserts the pair of 4.
-fn insertion(rt: &impl Abort, alloc: Global) -> Vec<Command<u16>> {
-    match vec![in alloc; Command::Insert(numbered(rt, alloc, 4), 4)] {
-        Ok(commands) => commands,
-        Err(_) => {
-            vec![in alloc; Command::Insert(numbered(rt, alloc, 4), 4)].expect(rt, "a list")
-        }
-    }
+/// A command to a store of four pairs.
+#[derive(Clone, Copy)]
+enum Order {
+    Insert,
+    Reserve,
+    ShrinkToFit,
 }
 
-/// A full store of four pairs.
-fn four(rt: &impl Abort, alloc: Global) -> LinearPairs<u16> {
-    let mut store = roomy(rt, alloc, 4);
-    fill(rt, alloc, &mut store, 4);
-    store
+/// A command, the capacity of a store of four pairs before it, and how many pairs there are then, at which capacity, where it is done.
+static ORDERS: [(Order, usize, u16, usize); 3] = [
+    (Order::Insert, 4, 5, 8),
+    (Order::Reserve, 4, 4, 8),
+    (Order::ShrinkToFit, 8, 4, 4),
+];
+
+/// One command: that inserts the pair of 4, or makes room for one more pair, or gives room back.
+fn ordered(rt: &impl Abort, alloc: Global, order: Order) -> Vec<Command<u16>> {
+    let mut commands = granted!(rt; Vec::with_capacity(alloc, 1));
+    let command = match order {
+        Order::Insert => Command::Insert(numbered(rt, alloc, 4), 4),
+        Order::Reserve => Command::Reserve(1),
+        Order::ShrinkToFit => Command::ShrinkToFit,
+    };
+    commands.push(command).expect(rt, "room");
+    commands
 }
 
-/// The replies to the command. Where the list of them is refused, the store is as it was.
-fn replies(rt: &impl Abort, alloc: Global, store: &mut LinearPairs<u16>) -> Vec<Reply<u16>> {
-    match run(alloc, store, insertion(rt, alloc)) {
+/// The reply to the command. Where the list of the replies is refused, the store is as it was.
+fn reply<S: Store>(
+    rt: &impl Abort,
+    alloc: Global,
+    store: &mut S,
+    order: Order,
+    capacity: usize,
+) -> Reply<u16> {
+    let mut replies = match run(alloc, store, ordered(rt, alloc, order)) {
         Ok(replies) => replies,
         Err(AllocError) => {
-            assert!(rt; holds(rt, alloc, store, 4, 4));
-            run(alloc, store, insertion(rt, alloc)).expect(rt, "the replies")
+            assert!(rt; holds(rt, alloc, store, 4, capacity));
+            run(alloc, store, ordered(rt, alloc, order)).expect(rt, "the replies")
         }
+    };
+    assert!(rt; replies.len() == 1);
+    replies.pop().expect(rt, "a reply")
+}
+
+/// Whether a reply tells what the store has now: so many pairs at this capacity, or four pairs at the one that it had before.
+fn is_told<S: Store>(
+    rt: &impl Abort,
+    alloc: Global,
+    reply: &Reply<u16>,
+    store: &S,
+    before: usize,
+    count: u16,
+    capacity: usize,
+) -> bool {
+    match reply {
+        Reply::Added => count == 5 && holds(rt, alloc, store, count, capacity),
+        Reply::Done => count == 4 && holds(rt, alloc, store, count, capacity),
+        Reply::Refused(key, 4, ReserveError::Memory) => {
+            count == 5 && *key == numbered(rt, alloc, 4) && holds(rt, alloc, store, 4, before)
+        }
+        Reply::NotDone(ReserveError::Memory) => count == 4 && holds(rt, alloc, store, 4, before),
+        _ => false,
     }
 }
 
-/// Whether a reply to the command tells what the store of four pairs has now.
-fn is_told(rt: &impl Abort, alloc: Global, reply: &Reply<u16>, store: &LinearPairs<u16>) -> bool {
-    match reply {
-        Reply::Added => holds(rt, alloc, store, 5, 8),
-        Reply::Refused(key, 4, ReserveError::Memory) => {
-            *key == numbered(rt, alloc, 4) && holds(rt, alloc, store, 4, 4)
-        }
-        _ => false,
+/// Runs each of the commands over a store of its own.
+fn replies_rightly<S: Store>(rt: &impl Abort, alloc: Global) {
+    for &(order, before, count, capacity) in &ORDERS {
+        let mut store: S = roomy(rt, alloc, before);
+        fill(rt, alloc, &mut store, 4);
+        let reply = reply(rt, alloc, &mut store, order, before);
+        assert!(rt; is_told(rt, alloc, &reply, &store, before, count, capacity));
+        drop(reply);
+        drop(store);
     }
 }
 
 #[test]
 fn a_list_of_replies(rt: HostRuntime) {
-    let alloc = rt.alloc();
-    let mut store = four(&rt, alloc);
-    let replies = replies(&rt, alloc, &mut store);
-    assert!(rt; replies.len() == 1);
-    for reply in &replies {
-        assert!(rt; is_told(&rt, alloc, reply, &store));
-    }
-    drop(replies);
-    drop(store);
+    replies_rightly::<LinearPairs<u16>>(&rt, rt.alloc());
+    replies_rightly::<FixedTable<u16>>(&rt, rt.alloc());
 }

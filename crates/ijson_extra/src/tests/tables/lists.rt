@@ -10,6 +10,9 @@ use std::process::Abort;
 /// How many commands a list has.
 const COUNT: usize = 200;
 
+/// After how many of them two stores are compared.
+const PIECE: usize = 20;
+
 static KEYS: [&str; 24] = [
     "",
     "a",
@@ -53,16 +56,16 @@ fn command(rt: &impl Abort, alloc: Global, number: u64) -> Command<u64> {
         44..=49 => Command::Remove(key),
         50..=55 => Command::ShiftRemove(key),
         56..=59 => Command::Reserve((number >> 20) as usize % 12),
-        60..=62 => Command::ShrinkToFit,
+        60..=61 => Command::ShrinkToFit,
         _ => Command::Clear,
     }
 }
 
-/// The list of commands that begins with this number.
-fn commands(rt: &impl Abort, alloc: Global, seed: u64) -> Vec<Command<u64>> {
+/// So many commands, of the numbers that follow this one.
+fn commands(rt: &impl Abort, alloc: Global, seed: u64, count: usize) -> Vec<Command<u64>> {
     let mut state = seed;
     let mut commands = Vec::new(alloc);
-    for _ in 0..COUNT {
+    for _ in 0..count {
         state = next(state);
         let command = command(rt, alloc, state);
         commands.push(command).expect(rt, "a command");
@@ -70,24 +73,51 @@ fn commands(rt: &impl Abort, alloc: Global, seed: u64) -> Vec<Command<u64>> {
     commands
 }
 
-/// What a store replies to this list.
+/// What a store replies to so many commands.
 fn replies<P: PairStore<u64>>(
     rt: &impl Abort,
     alloc: Global,
     seed: u64,
+    count: usize,
     store: &mut P,
 ) -> Vec<Reply<u64>> {
-    run(alloc, store, commands(rt, alloc, seed)).expect(rt, "the replies")
+    run(alloc, store, commands(rt, alloc, seed, count)).expect(rt, "the replies")
 }
 
-/// Whether a new store gives the same replies as `LinearPairs`, and ends with the same pairs at the same positions and the same capacity.
-fn agrees<P: PairStore<u64> + Drop>(rt: &impl Abort, alloc: Global, seed: u64) -> bool {
-    let (mut store, mut linear) = (P::new(alloc), LinearPairs::new(alloc));
-    let found = replies(rt, alloc, seed, &mut store);
-    let expected = replies(rt, alloc, seed, &mut linear);
-    let is_so = found.as_slice() == expected.as_slice() && are_alike(&store, &linear);
+/// The number that follows as many others as a piece of a list has commands.
+fn after_piece(seed: u64) -> u64 {
+    let mut state = seed;
+    for _ in 0..PIECE {
+        state = next(state);
+    }
+    state
+}
+
+/// Whether a store gives the same replies as another one to a piece of a list, and both then have the same pairs at the same positions
+/// and the same capacity.
+fn agrees_on_piece<P: PairStore<u64>>(
+    rt: &impl Abort,
+    alloc: Global,
+    seed: u64,
+    store: &mut P,
+    linear: &mut LinearPairs<u64>,
+) -> bool {
+    let found = replies(rt, alloc, seed, PIECE, store);
+    let expected = replies(rt, alloc, seed, PIECE, linear);
+    let is_so = found.as_slice() == expected.as_slice() && are_alike(store, linear);
     drop(found);
     drop(expected);
+    is_so
+}
+
+/// Whether a new store agrees with `LinearPairs` on each piece of this list.
+fn agrees<P: PairStore<u64> + Drop>(rt: &impl Abort, alloc: Global, seed: u64) -> bool {
+    let (mut store, mut linear) = (P::new(alloc), LinearPairs::new(alloc));
+    let (mut state, mut is_so) = (seed, true);
+    for _ in 0..COUNT / PIECE {
+        is_so = is_so && agrees_on_piece(rt, alloc, state, &mut store, &mut linear);
+        state = after_piece(state);
+    }
     drop(store);
     drop(linear);
     is_so
@@ -143,7 +173,7 @@ fn answer(
 fn answers(rt: &impl Abort, alloc: Global, seed: u64) -> Vec<Reply<u64>> {
     let mut table = FixedTable::new(alloc);
     let mut replies = Vec::new(alloc);
-    for command in commands(rt, alloc, seed) {
+    for command in commands(rt, alloc, seed, COUNT) {
         let reply = answer(rt, alloc, &mut table, command);
         replies.push(reply).expect(rt, "a reply");
     }
@@ -154,7 +184,7 @@ fn answers(rt: &impl Abort, alloc: Global, seed: u64) -> Vec<Reply<u64>> {
 /// Whether `insert` and `get` answer as the insertions and look-ups of `run` do.
 fn insert_and_get_agree(rt: &impl Abort, alloc: Global, seed: u64) -> bool {
     let mut linear = LinearPairs::new(alloc);
-    let expected = replies(rt, alloc, seed, &mut linear);
+    let expected = replies(rt, alloc, seed, COUNT, &mut linear);
     drop(linear);
     let found = answers(rt, alloc, seed);
     let is_so = found.as_slice() == expected.as_slice();

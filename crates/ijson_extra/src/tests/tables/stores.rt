@@ -198,8 +198,8 @@ static RUN: [(Step, &str); 6] = [
     (Put("a", 1), "Added"),
     (Put("a", 2), "Replaced(1)"),
     (Find("a"), "Found(Some(0))"),
-    (ShiftRemove("a"), "Removed(Some((\"a\", 2)))"),
-    (Find("a"), "Found(None)"),
+    (Find("b"), "Found(None)"),
+    (Remove("a"), "Removed(Some((\"a\", 2)))"),
     (Shrink, "Done"),
 ];
 

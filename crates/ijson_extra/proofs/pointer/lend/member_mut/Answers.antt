@@ -1,5 +1,6 @@
-use Rattle.std.proofs.Common.{◌≡◌, ◌∙◌, false, rules, refl, sym, ap, arith, List, ℕ}
+use Rattle.std.proofs.Common.{◌≡◌, ◌∙◌, Contains, false, rules, refl, sym, subst, ap, arith, List, ℕ}
 use Rattle.std.specs.Prelude.{option_and_then}
+use Rattle.std.proofs.lemmas.List.Elements.{Contains-get_or}
 use Rattle.std.proofs.lemmas.Str.Pattern.{contains_char}
 use mathlib.Core.Bool.{true≢false}
 use Rattle.ijson_table.specs.Store.{lookup}
@@ -34,3 +35,9 @@ returns-in-None c = (
   (refl, (λ w. tt), refl),
   member_missing c.args.object.now.pairs c.args.token.now c.in-None.ensures.value,
 )
+
+pub find_member-requires : goal.find_member-requires
+find_member-requires c =
+    let token = c.args.token.now in
+    let found = (contains_char 126 token c.contains.result c.contains.ensures.cases (omega arith)).0 c.if-not-contains.false in
+    subst (Contains token) found.2 (Contains-get_or token found.0 0 found.1)
