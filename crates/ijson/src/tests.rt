@@ -1,9 +1,9 @@
 //! What no clause says: numbers, texts and their cache, arrays and values, conversions, literals, the errors, and refusals of memory in the
-//! last four. Tables, objects, canonical texts, pointers and all other refusals of memory are tested in `ijson_extra`, and all else that the
-//! program stands on in the program.
+//! last four. Tables, objects, canonical texts, pointers and all other refusals of memory are tested in `ijson_extra`, and all else that
+//! the program stands on in the program.
 //!
 //! Where a test is done with a value it calls `drop`, which is one step of the proof. At the end of a scope the proof has a way for each
-//! kind that the value may be of. Those of `numbers` do without, and of `texts` only `lengths` calls it.
+//! kind that the value may be of.
 
 mod arrays;
 mod conversions;

@@ -1,5 +1,5 @@
 -- The amounts of records, and their sum.
-use Rattle.std.specs.Prelude.{◌≡◌, ℕ, ℤ, pos, ◌+ℤ◌, Some, codes, FitsSigned}
+use Rattle.std.specs.Prelude.{◌≡◌, ◌⊎◌, ℕ, ℤ, pos, ◌+ℤ◌, Some, codes, FitsSigned}
 use Rattle.std.specs.Int.{w64}
 use Rattle.ijson_value.specs.Integers.{HasInteger}
 use Rattle.ijson_value.specs.Step.{by_key, by_position, tree_at}
@@ -18,6 +18,16 @@ AmountsAddTo sum (item t ts) z = (a : ℤ) × HasAmount t a × AmountsAddTo (sum
 abbrev pub IsTotal : Tree → ℤ → Type 0
 IsTotal (array ts) z = AmountsAddTo (pos 0) ts z
 IsTotal _ z = ⊥
+
+-- with the amounts of some first items added to `sum`, one after the other, it is no number that fits 64 bits with a sign
+abbrev pub AmountsPass : (sum : ℤ) → Items → Type 0
+AmountsPass sum no_items = ⊥
+AmountsPass sum (item t ts) = (a : ℤ) × HasAmount t a × ((FitsSigned w64 (sum +ℤ a) → ⊥) ⊎ AmountsPass (sum +ℤ a) ts)
+
+-- an array of such items, whose amounts are added to zero
+abbrev pub IsPastTotal : Tree → Type 0
+IsPastTotal (array ts) = AmountsPass (pos 0) ts
+IsPastTotal _ = ⊥
 
 -- the item at this position has no amount that fits 64 bits with a sign
 abbrev pub LacksAmount : Tree → ℕ → Type 0

@@ -1,7 +1,7 @@
 //! The total of an invoice: a sum over the lines in an array.
 ghost use Rattle.std.specs.Prelude.{◌≡◌, ◌≢◌, ℕ, ℤ, Err, FitsSigned, IfNone, IfOk, IfSome};
 ghost use Rattle.std.specs.Int.{w64};
-ghost use Rattle.ijson.specs.examples.Invoice.{HasAmount, IsTotal, LacksAmount};
+ghost use Rattle.ijson.specs.examples.Invoice.{HasAmount, IsPastTotal, IsTotal, LacksAmount};
 ghost use Rattle.ijson_value.specs.Kind.{kind_of};
 ghost use Rattle.ijson_value.specs.declared.value.ValueType.TheVariants.{Array};
 
@@ -15,7 +15,7 @@ enum TotalError {
     NoArray,
     /// The line at this position has no amount, or one that is no whole number of 64 bits.
     NoAmount(usize),
-    /// The sum of the amounts up to some line is no `i64`, though that of all may be one. No clause says so.
+    /// The sum of the amounts up to some line is no `i64`, though that of all may be one.
     TooLarge,
 }
 
@@ -35,6 +35,7 @@ fn invoice_total(records: &IValue) -> Result<i64, TotalError>
     ensures total { IfOk result (λ sum. IsTotal records.now.tree sum) }
     ensures no_array { result ≡ Err TotalError.NoArray → kind_of records.now.tree ≢ Array }
     ensures no_amount { (i : ℕ) → result ≡ Err (TotalError.NoAmount i) → LacksAmount records.now.tree i }
+    ensures too_large { result ≡ Err TotalError.TooLarge → IsPastTotal records.now.tree }
 {
     let Some(items) = records.as_array() else {
         return Err(TotalError::NoArray);

@@ -1,5 +1,5 @@
 //! Settings laid over defaults: each member of one object in place of the other's.
-ghost use Rattle.std.specs.Prelude.{◌≡◌, ◌≢◌, ◌⊎◌, ℕ, List, IfOk, IsFalse, IsTrue};
+ghost use Rattle.std.specs.Prelude.{◌≡◌, ◌≢◌, ◌⊎◌, ℕ, List, IfOk, IsFalse, IsTrue, OnErr};
 ghost use Rattle.std.specs.Option.{option_or};
 ghost use Rattle.ijson_value.specs.Kind.{kind_of};
 ghost use Rattle.ijson_value.specs.Step.{by_key, tree_at};
@@ -18,8 +18,10 @@ fn overlay(base: &mut IValue, over: IValue) -> Result<bool, RefusedPair>
     ensures laid_over { IfOk result (λ done. IsTrue done → (key : List ℕ)
         → tree_at base.new.tree (by_key key)
         ≡ option_or (tree_at over.tree (by_key key)) (tree_at base.old.tree (by_key key))) }
+    ensures objects { IfOk result (λ done. IsTrue done → (kind_of base.old.tree ≡ Object) × (kind_of over.tree ≡ Object)) }
     ensures left { IfOk result (λ done. IsFalse done
         → (base.new ≡ base.old) × ((kind_of base.old.tree ≢ Object) ⊎ (kind_of over.tree ≢ Object))) }
+    ensures refused { OnErr result ((kind_of base.old.tree ≡ Object) × (kind_of over.tree ≡ Object)) }
 {
     let Ok(over) = over.into_object() else {
         return Ok(false);

@@ -22,12 +22,13 @@ fn spelled(rt: &impl Abort, alloc: Global, letters: &str) -> IArray {
     array
 }
 
-/// The letter of an item.
+/// The letter of an item, and `?` of one that is neither null nor a truth value.
 fn letter(item: &IValue) -> u8 {
     match item.to_bool() {
         Some(true) => b't',
         Some(false) => b'f',
-        None => b'n',
+        None if item.is_null() => b'n',
+        None => b'?',
     }
 }
 

@@ -273,6 +273,16 @@ fn reads<T: FromIValue + ToIValue + Drop>(rt: &impl Abort, alloc: Global, cases:
     }
 }
 
+/// What is read is compared itself here, and not what is written of it.
+#[test]
+fn a_list_and_a_number_are_read(rt: HostRuntime) {
+    let alloc = rt.alloc();
+    let list = said::<Vec<Option<i64>>>(&rt, alloc, "[1,null,2.0]").expect(&rt, "a list");
+    assert!(rt; list.as_slice() == [Some(1), None, Some(2)].as_slice());
+    drop(list);
+    assert!(rt; said::<i32>(&rt, alloc, "2.0") == Ok(2));
+}
+
 #[test]
 fn integers_are_whole_and_in_range(rt: HostRuntime) {
     let alloc = rt.alloc();

@@ -1,4 +1,5 @@
-//! Each test here holds under any one refused request for memory: what a refused call leaves is compared whole, and the call is made again.
+//! Each test here holds under any one refused request for memory: what a refused call leaves is compared, whole where
+//! it is small, and the call is made again.
 //! The repository's `check` runs each with its first request refused, with its second, and so on. Those of the other crates stand in
 //! `ijson_extra`.
 
@@ -147,6 +148,31 @@ fn conversions(rt: HostRuntime) {
     assert!(rt; is_kept(&cache, 2) && cache.contains("eight888"));
     drop(cache);
     is_written(&rt, rt.alloc(), &again, text);
+    drop(again);
+}
+
+/// The text that a value says.
+fn said_text(rt: &impl Abort, alloc: Global, value: &IValue) -> String {
+    granted!(rt; ConvertError::Memory; from_value::<String>(alloc, value))
+}
+
+/// The value of a text.
+fn of_text(rt: &impl Abort, alloc: Global, cache: &mut Cache, text: &String) -> IValue {
+    granted!(rt; ConvertError::Memory; to_value(alloc, cache, text))
+}
+
+#[test]
+fn conversion_of_a_text(rt: HostRuntime) {
+    let value = read(&rt, rt.alloc(), "\"eight888\"");
+    let text = said_text(&rt, rt.alloc(), &value);
+    assert!(rt; text.as_str() == "eight888");
+    let mut cache = used_cache(&rt, rt.alloc());
+    let again = of_text(&rt, rt.alloc(), &mut cache, &text);
+    drop(text);
+    assert!(rt; again == value);
+    drop(value);
+    assert!(rt; is_kept(&cache, 2) && cache.contains("eight888"));
+    drop(cache);
     drop(again);
 }
 

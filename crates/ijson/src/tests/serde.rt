@@ -175,6 +175,7 @@ fn values_go_over_and_back(rt: HostRuntime) {
     let alloc = rt.alloc();
     for &(text, back, over) in &SERDE {
         let value = parsed(&rt, alloc, text);
+        assert!(rt; to_serde(alloc, &value).err() == back.err(), "{text}");
         assert!(rt; goes_back(&rt, alloc, &value, back), "{text}");
         assert!(rt; goes_over(&rt, alloc, text, &value, over), "{text}");
         drop(value);

@@ -142,16 +142,24 @@ fn answers(value: &IValue, told: Answers) -> bool {
         && value.is_empty() == told.3
 }
 
-/// Whether a value is of a kind, by each question that tells it.
+/// Whether a value is of a kind and of no other, by each question that tells it.
 fn is_of_kind(value: &IValue, kind: ValueType) -> bool {
-    match kind {
-        ValueType::Null => value.is_null() && value.destructure_ref() == DestructuredRef::Null,
-        ValueType::Bool => value.is_bool() && value.is_true() != value.is_false(),
-        ValueType::Number => value.is_number() && value.as_number().is_some(),
-        ValueType::String => value.is_string() && value.as_string().is_some(),
-        ValueType::Array => value.is_array() && value.as_array().is_some(),
-        ValueType::Object => value.is_object() && value.as_object().is_some(),
-    }
+    let told = [
+        (ValueType::Null, value.is_null()),
+        (ValueType::Bool, value.is_bool()),
+        (ValueType::Number, value.is_number()),
+        (ValueType::String, value.is_string()),
+        (ValueType::Array, value.is_array()),
+        (ValueType::Object, value.is_object()),
+        (ValueType::Number, value.as_number().is_some()),
+        (ValueType::String, value.as_string().is_some()),
+        (ValueType::Array, value.as_array().is_some()),
+        (ValueType::Object, value.as_object().is_some()),
+    ];
+    told.iter().all(|&(asked, is_so)| is_so == (asked == kind))
+        && (value.destructure_ref() == DestructuredRef::Null) == (kind == ValueType::Null)
+        && value.is_true() == (value.to_bool() == Some(true))
+        && value.is_false() == (value.to_bool() == Some(false))
 }
 
 /// The value again, once it was asked for each of the four kinds that hold something, and whether it was of one of them.

@@ -4,19 +4,20 @@ use crate::examples::empty_cache;
 use crate::string::IString;
 use crate::tests::is_shown;
 use std::alloc::Global;
+use std::cmp::Ordering;
 use std::process::Abort;
 
 #[test]
 fn long_texts_alone_enter_the_cache(rt: HostRuntime) {
     let mut cache = empty_cache(rt.alloc());
     drop(interned(&rt, &mut cache, "seven77"));
-    assert!(rt; cache.is_empty());
+    assert!(rt; cache.len() == 0);
     let long = interned(&rt, &mut cache, "eight888");
     let again = interned(&rt, &mut cache, "eight888");
     assert!(rt; cache.len() == 1);
     assert!(rt; cache.contains("eight888"));
     cache.clear();
-    assert!(rt; cache.is_empty());
+    assert!(rt; cache.len() == 0);
     drop(cache);
     assert!(rt; long == again && long.eq_str("eight888"));
     drop(again);
@@ -109,10 +110,14 @@ fn texts_compare_by_bytes(rt: HostRuntime) {
     for pair in RISING.windows(2) {
         let less = interned(&rt, &mut cache, pair[0]);
         let more = interned(&rt, &mut cache, pair[1]);
-        assert!(rt; less < more);
+        assert!(rt; less.cmp(&more) == Ordering::Less);
+        assert!(rt; more.cmp(&less) == Ordering::Greater);
         drop(less);
         drop(more);
     }
+    let z = interned(&rt, &mut cache, "z");
+    assert!(rt; z.as_bytes() == [0x7a].as_slice());
+    drop(z);
     let e_acute = interned(&rt, &mut cache, "é");
     assert!(rt; e_acute.as_bytes() == [0xc3, 0xa9].as_slice());
     drop(e_acute);

@@ -1,4 +1,5 @@
-//! Texts that come again in the same order are found with no hash, and those that come in another are found as well.
+//! Of texts that come again in one order hardly any is hashed from the third time on, and those that come in another order are found as
+//! well.
 use super::interned;
 use super::many::OneHash;
 use crate::string::StringCache;
@@ -50,7 +51,7 @@ fn intern_down<S: BuildHasher>(
 }
 
 #[test]
-fn texts_of_one_order_are_not_hashed(rt: HostRuntime) {
+fn texts_of_one_order_are_hardly_hashed(rt: HostRuntime) {
     let hashed = Cell::new(0);
     let mut cache = StringCache::new(rt.alloc(), Counting { hashed: &hashed });
     for most in [100, 100, 2, 2] {

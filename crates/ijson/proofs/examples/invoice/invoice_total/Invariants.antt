@@ -1,9 +1,11 @@
 use Rattle.std.proofs.Common.{ℤ, pos, drop}
 use Rattle.ijson_value.specs.WellFormed.{item_trees}
-use Rattle.ijson.specs.examples.Invoice.{AmountsAddTo}
+use Rattle.ijson.specs.examples.Invoice.{AmountsAddTo, AmountsPass}
 use Rattle.ijson.proofs.examples.invoice.invoice_total.Given as goal
 
--- what the items that are left add to the sum so far, all items add to zero
+-- what the items that are left add to the sum so far, all items add to zero; and where those pass, all pass
 abbrev pub invariant-loop-i : goal.invariant-loop-i
-invariant-loop-i l =
-    (z : ℤ) → AmountsAddTo l.sum (item_trees (drop l.i l.item-items)) z → AmountsAddTo (pos 0) (item_trees l.item-items) z
+invariant-loop-i l = record {
+  total : (z : ℤ) → AmountsAddTo l.sum (item_trees (drop l.i l.item-items)) z → AmountsAddTo (pos 0) (item_trees l.item-items) z;
+  past : AmountsPass l.sum (item_trees (drop l.i l.item-items)) → AmountsPass (pos 0) (item_trees l.item-items);
+}
