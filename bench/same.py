@@ -33,6 +33,17 @@ def are_near(first, second):
     return first == second
 
 
+def marked(value):
+    """The value with each truth value marked, since Python takes `True` for 1."""
+    if isinstance(value, bool):
+        return "truth value", value
+    if isinstance(value, dict):
+        return {key: marked(item) for key, item in value.items()}
+    if isinstance(value, (list, tuple)):
+        return type(value)(map(marked, value))
+    return value
+
+
 def main():
     parser = argparse.ArgumentParser(description=__doc__)
     parser.add_argument("--order", action="store_true")
@@ -40,7 +51,7 @@ def main():
     parser.add_argument("texts", nargs=2)
     options = parser.parse_args()
     told = dict(NUMBERS[options.numbers], object_pairs_hook=tuple if options.order else dict)
-    first, second = (json.load(open(path, encoding="utf-8"), **told) for path in options.texts)
+    first, second = (marked(json.load(open(path, encoding="utf-8"), **told)) for path in options.texts)
     same = first == second or options.numbers == "floats" and are_near(first, second)
     sys.exit(not same)
 
