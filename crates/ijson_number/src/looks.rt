@@ -40,4 +40,12 @@ impl Looks {
     {
         self.seen += 1;
     }
+
+    /// Counts so many more looks. The count with them must be below 2^128.
+    pub fn add(&mut self, count: u128)
+        requires { self.old + count < 2 ^ 128 }
+        ensures { self.new ≡ self.old + count }
+    {
+        self.seen += count;
+    }
 }
