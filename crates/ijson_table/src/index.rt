@@ -111,7 +111,8 @@ impl Index {
         requires { length self.now.hashes < length self.now.slots }
         ensures { MayStand (self.now.hashes ++ hash ∷ []) self.now.slots (length self.now.hashes) result }
     {
-        vacancy(&self.slots, hash).0
+        let (slot, _looked) = vacancy(&self.slots, hash);
+        slot
     }
 
     /// Puts the next position into the slots, at the one where the probe for its key ended. This is what the slots keep of the hash of

@@ -136,7 +136,7 @@ impl<V: Drop, H: KeyHash> Table<V, H> {
     {
         let hash = H::hash(key.as_str());
         match self.find(hash, key.as_str(), looks) {
-            Probed::Found(at, _) => {
+            Probed::Found { at, .. } => {
                 drop(key);
                 Ok(Some(self.replace_at(at, value)))
             }

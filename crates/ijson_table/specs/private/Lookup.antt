@@ -16,13 +16,13 @@ is_hashed_key hashes keys hash key i = eqb (get_or hashes i 0) hash && bytes_eq 
 
 -- the position that was found, or none
 abbrev pub found_at : Probed → Option ℕ
-found_at (Found i p) = Some i
+found_at (Found at p) = Some at
 found_at (Vacant p) = None
 found_at Full = None
 
 -- The position of the key; or that it is not there, and a slot where it may stand as the last one of the list, or that no slot is empty.
 abbrev pub LookUpEnds : List ℕ → List (List ℕ) → List (Option ℕ) → ℕ → List ℕ → Probed → Type 0
-LookUpEnds hashes keys slots hash key (Found i p) = position_of keys key ≡ Some i
+LookUpEnds hashes keys slots hash key (Found at p) = position_of keys key ≡ Some at
 LookUpEnds hashes keys slots hash key (Vacant p) =
     (position_of keys key ≡ None) × (p < length slots) × MayStand (hashes ++ hash ∷ []) slots (length hashes) p
 LookUpEnds hashes keys slots hash key Full = (position_of keys key ≡ None) × (HasEmpty slots → ⊥)

@@ -100,9 +100,6 @@ impl Index {
         ensures bounded { (k : ℕ) → len ≤ 2 ^ k → steps.new ≤ steps.old + len * k }
     {
         let entries = residents(alloc, other.slots.as_slice(), len)?;
-        if entries.is_empty() {
-            return Ok(());
-        }
         let order = HomeOrder {
             modulus: Modulus::new(self.len()),
         };
@@ -125,10 +122,9 @@ fn residents(alloc: Global, slots: &[Slot], len: usize) -> Result<Vec<Slot>, All
     let mut entries = list_with_room(alloc, len)?;
     for index in 0..slots.len() {
         let entry = slots[index];
-        let Some(_position) = entry.position() else {
-            continue;
-        };
-        entries.push_reserved(entry);
+        if !entry.is_empty() {
+            entries.push_reserved(entry);
+        }
     }
     Ok(entries)
 }

@@ -27,9 +27,9 @@ pub fn shift_forward<S: StoredSlot + Copy + Drop>(
     loop {
         let was = slots[slot];
         slots[slot] = entry;
-        let Some(_resident) = was.widened().position() else {
+        if was.widened().is_empty() {
             return slot;
-        };
+        }
         entry = was;
         slot = next_slot(count, slot);
     }

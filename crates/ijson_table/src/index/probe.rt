@@ -15,8 +15,13 @@ use ijson_string::IString;
 /// How a probe ends.
 #[derive(Clone, Copy, Drop)]
 pub enum Probed {
-    /// At the position that it seeks, and the slot of that.
-    Found(usize, usize),
+    /// At what it seeks.
+    Found {
+        /// The position.
+        at: usize,
+        /// The slot where it stands.
+        slot: usize,
+    },
     /// At the slot where what it seeks would stand.
     Vacant(usize),
     /// After all slots, none of which is empty.
@@ -29,7 +34,7 @@ impl Probed {
         ensures { result ≡ found_at self }
     {
         match self {
-            Probed::Found(at, _) => Some(at),
+            Probed::Found { at, .. } => Some(at),
             Probed::Vacant(_) | Probed::Full => None,
         }
     }
@@ -95,7 +100,7 @@ pub fn probe<P: ProbeTarget>(target: &P, looks: &mut Looks) -> Probed
             Seen::Empty => return Probed::Vacant(slot),
             Seen::Resident { at, distance, same } => {
                 if same {
-                    return Probed::Found(at, slot);
+                    return Probed::Found { at, slot };
                 }
                 if distance < passed {
                     return Probed::Vacant(slot);

@@ -74,7 +74,7 @@ pub fn vacancy(slots: &Slots, hash: u64) -> (usize, u128)
     let mut looks = Looks::new();
     match probe(&newcomer, &mut looks) {
         Probed::Vacant(slot) => (slot, looks.count()),
-        Probed::Found(..) | Probed::Full => unreachable!(),
+        Probed::Found { .. } | Probed::Full => unreachable!(),
     }
 }
 
@@ -92,7 +92,7 @@ fn slot_of(slots: &Slots, position: usize, hash: u64) -> usize
         position: Some(position),
     };
     match probe(&resident, &mut Looks::new()) {
-        Probed::Found(_, slot) => slot,
+        Probed::Found { slot, .. } => slot,
         Probed::Vacant(_) | Probed::Full => unreachable!(),
     }
 }
@@ -130,10 +130,7 @@ fn shift_back(slots: &mut Slots, from: usize)
     loop {
         let next = next_slot(count, gap);
         let behind = slots.at(next);
-        let Some(_resident) = behind.position() else {
-            return;
-        };
-        if behind.distance(modulus, next) == 0 {
+        if behind.is_empty() || behind.distance(modulus, next) == 0 {
             return;
         }
         slots.set(gap, behind);
@@ -208,7 +205,7 @@ fn wrapped(slots: &[Slot]) -> usize
     let modulus = Modulus::new(slots.len());
     for slot in 0..slots.len() {
         let there = slots[slot];
-        if there.position().is_none() || there.distance(modulus, slot) <= slot {
+        if there.is_empty() || there.distance(modulus, slot) <= slot {
             return slot;
         }
     }
@@ -262,10 +259,10 @@ pub fn rehash(old: &[Slot], slots: &mut Slots, most: u128, steps: &mut u128) -> 
     ensures past { IsFalse result → most < steps.new }
 {
     let start = wrapped(old);
-    if insert_each(&old[start..], slots, most, steps) {
-        if insert_each(&old[..start], slots, most, steps) {
-            return true;
-        }
+    if insert_each(&old[start..], slots, most, steps)
+        && insert_each(&old[..start], slots, most, steps)
+    {
+        return true;
     }
     slots.clear();
     false

@@ -164,7 +164,8 @@ impl Modulus {
         ensures value { result ≡ hash % self.count }
         ensures within { result < self.count }
     {
-        divided(hash, self.count as u64, self.reciprocal).1 as usize
+        let (_quotient, home) = divided(hash, self.count as u64, self.reciprocal);
+        home as usize
     }
 
     /// What an index of so many slots keeps of a hash. Where they are few it is the home and eight bits of the quotient, which tell

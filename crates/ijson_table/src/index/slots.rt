@@ -181,9 +181,9 @@ impl Slots {
         ensures count { length self.new ≡ length self.old }
     {
         match &mut self.stored {
-            Stored::Few(few) => fill(&mut few.slots, NarrowSlot::empty()),
-            Stored::Narrow(slots) => fill(slots, NarrowSlot::empty()),
-            Stored::Wide(slots) => fill(slots, Slot::empty()),
+            Stored::Few(few) => few.slots.fill(NarrowSlot::empty()),
+            Stored::Narrow(slots) => slots.fill(NarrowSlot::empty()),
+            Stored::Wide(slots) => slots.fill(Slot::empty()),
         }
     }
 
@@ -247,15 +247,6 @@ fn repeated<T: Copy + Drop>(alloc: Global, item: T, count: usize) -> Result<Vec<
         list.push_reserved(item);
     }
     Ok(list)
-}
-
-/// Makes each item this one.
-fn fill<T: Copy + Drop>(items: &mut [T], item: T)
-    ensures { items.new ≡ replicate (length items.old) item }
-{
-    for place in items.iter_mut() {
-        *place = item;
-    }
 }
 
 /// A list of the same items, which has room for no more.

@@ -88,7 +88,7 @@ impl<V: Drop, H: KeyHash> Table<V, H> {
         let most = STEPS_A_PAIR * capacity;
         let mut steps = 0;
         let placed = add_new_keys::<V, H>(&pairs, &mut index, most, &mut steps);
-        count_steps(looks, steps);
+        looks.add(steps as u128);
         let rest = split_rest(alloc, &mut pairs, placed)?;
         let table = Table {
             pairs,
@@ -127,7 +127,7 @@ impl<V: Drop, H: KeyHash> Table<V, H> {
         let mut taken = steps;
         rest.reverse();
         self.insert_each(&mut rest, most, &mut taken);
-        count_steps(looks, taken - steps);
+        looks.add((taken - steps) as u128);
         if rest.is_empty() {
             return Ok(self);
         }
@@ -168,7 +168,7 @@ impl<V: Drop, H: KeyHash> Table<V, H> {
         let hash = H::hash(key.as_str());
         let mut looks = Looks::new();
         match self.find(hash, key.as_str(), &mut looks) {
-            Probed::Found(at, _) => {
+            Probed::Found { at, .. } => {
                 drop(key);
                 drop(self.replace_at(at, value));
                 looks.count() as usize
@@ -219,16 +219,6 @@ fn put_back<T: Drop>(list: &mut Vec<T>, mut rest: Vec<T>)
 {
     while let Some(item) = rest.pop() {
         list.push_reserved(item);
-    }
-}
-
-/// Counts so many steps as looks.
-fn count_steps(looks: &mut Looks, steps: usize)
-    requires { looks.old + steps < 2 ^ 128 }
-    ensures { looks.new ≡ looks.old + steps }
-{
-    for _step in 0..steps {
-        looks.add_one();
     }
 }
 
@@ -310,7 +300,7 @@ fn add_new_key<V, H: KeyHash>(
             *steps += distance_between(slots, home, last) + 2;
             true
         }
-        Probed::Found(_, slot) => {
+        Probed::Found { slot, .. } => {
             *steps += distance_between(slots, home, slot) + 1;
             false
         }

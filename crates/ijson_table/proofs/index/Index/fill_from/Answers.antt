@@ -75,12 +75,3 @@ returns-in_err-entries-clause-count c = omega arith
 
 pub returns-in_err-sorted-clause-count : goal.returns-in_err-sorted-clause-count
 returns-in_err-sorted-clause-count c = omega arith
-
-pub returns-then-is_empty-clause-bounded : goal.returns-then-is_empty-clause-bounded
-returns-then-is_empty-clause-bounded c = omega arith
-
-pub returns-then-is_empty-clause-count : goal.returns-then-is_empty-clause-count
-returns-then-is_empty-clause-count c = omega arith
-
-pub returns-then-is_empty-clause-refused : goal.returns-then-is_empty-clause-refused
-returns-then-is_empty-clause-refused c = omega arith

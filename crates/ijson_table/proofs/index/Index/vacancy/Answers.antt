@@ -21,12 +21,12 @@ may slots seen hash index is room = accepts slots index (length (hashes_of slots
   positions-length slots,
 ))
 
-pub vacancy-requires : goal.vacancy-requires
-vacancy-requires c = (may c.self.inside.slots c.args.self.now c.args.hash c.self.invariant c.self.view_is c.requires).empty
+pub vacancy-slot-requires : goal.vacancy-slot-requires
+vacancy-slot-requires c = (may c.self.inside.slots c.args.self.now c.args.hash c.self.invariant c.self.view_is c.requires).empty
 
 pub returns : goal.returns
 returns c =
     let slots : List Slot = c.self.inside.slots in
-    subst (λ (l : HashIndex). MayStand (l.hashes ++ c.args.hash ∷ []) l.slots (length l.hashes) c.vacancy.result.0) c.self.view_is
-    (may_stand (hashes_of slots ++ c.args.hash ∷ []) slots (length (hashes_of slots)) c.args.hash c.vacancy.result.0
-    (may slots c.args.self.now c.args.hash c.self.invariant c.self.view_is c.requires) c.vacancy.ensures.vacancy)
+    subst (λ (l : HashIndex). MayStand (l.hashes ++ c.args.hash ∷ []) l.slots (length l.hashes) c.vacancy-slot.result.0) c.self.view_is
+    (may_stand (hashes_of slots ++ c.args.hash ∷ []) slots (length (hashes_of slots)) c.args.hash c.vacancy-slot.result.0
+    (may slots c.args.self.now c.args.hash c.self.invariant c.self.view_is c.requires) c.vacancy-slot.ensures.vacancy)

@@ -1,6 +1,6 @@
 use Rattle.std.proofs.Common.{◌≡◌, ◌≢◌, ◌<◌, ◌≤◌, ℕ, ◌+◌, List, [], ◌∷◌, ◌++◌, length, get_or}
-use Rattle.std.proofs.Common.{take, Option, None, Some, arith, ap, refl, sym}
-use Rattle.std.proofs.Common.{length-append, subst, ◌∙◌}
+use Rattle.std.proofs.Common.{take, Option, None, Bool, false, IsTrue, ◌↔◌, arith, ap, refl, sym}
+use Rattle.std.proofs.Common.{length-append, ◌∙◌}
 use Rattle.std.proofs.lemmas.Grind.{common_steps}
 use Rattle.std.specs.List.{All}
 use Rattle.std.proofs.lemmas.List.{take_all}
@@ -9,9 +9,10 @@ use Rattle.ijson_table.specs.declared.index.slot.Slot.{Slot}
 use Rattle.ijson_table.specs.Slots.{times, below}
 use Rattle.ijson_table.specs.private.Holds.{one_if}
 use Rattle.ijson_table.specs.private.Insertion.{IsTableOf}
-use Rattle.ijson_table.specs.private.SlotHashes.{blank, position_in, positions, HasHash, HaveHashes}
+use Rattle.ijson_table.specs.private.SlotHashes.{blank, position_in, positions, HasHash}
 use Rattle.ijson_table.proofs.slots.HashesInSlots.{positions-length, position-at, hashes-at}
 use Rattle.ijson_table.proofs.slots.ResidentCount.{few_entries, no_less, times-front, times-next, times-pushed}
+use Rattle.ijson_table.proofs.index.copy.residents.Goals.{then-not-is_empty, else-not-is_empty}
 use Rattle.ijson_table.proofs.index.copy.residents.Goals as goal
 
 -- the positions among the slots and the next one
@@ -32,24 +33,10 @@ next_entry i slots entries index lt placed = omega (
 )
 
 -- it is not empty
-entry_full : (slots entries : List Slot) (index k : ℕ) → Some k ≡ position_in (get_or slots index blank)
-    → All (λ entry. position_in entry ≢ None) entries → All (λ entry. position_in entry ≢ None) (entries ++ get_or slots index blank ∷ [])
-entry_full slots entries index k is full = All-push (λ entry. position_in entry ≢ None) entries (get_or slots index blank) full
-    (λ none. let bad : ◌≡◌ {A = Option ℕ} (Some k) None = is ∙ none in cc)
-
-pub loop-index-preserved-in_default : goal.loop-index-preserved-in_default
-loop-index-preserved-in_default g c =
-    let i = c.loop-index.invariant in
-    record {
-      placed = λ k. omega (
-        arith,
-        i.placed k,
-        next k c.args.slots.now c.loop-index.index None c.loop-index-test.true (sym c.in_default.is ∙ c.position.ensures),
-      );
-      hashes = i.hashes;
-      full = i.full;
-      room = i.room;
-    }
+more_full : (entries : List Slot) (entry : Slot) (empty : Bool) → IsTrue empty ↔ (position_in entry ≡ None) → empty ≡ false
+    → All (λ entry. position_in entry ≢ None) entries → All (λ entry. position_in entry ≢ None) (entries ++ entry ∷ [])
+more_full entries entry empty told not full = All-push (λ entry. position_in entry ≢ None) entries entry full
+    (λ none. let is = told.1 none in absurd (cc (is, not)))
 
 pub push_reserved-requires : goal.push_reserved-requires
 push_reserved-requires g c =
@@ -61,8 +48,7 @@ push_reserved-requires g c =
       next_entry k c.args.slots.now c.loop-index.entries.items c.loop-index.index c.loop-index-test.true i.placed,
       times-front k (c.loop-index.index + 1) (positions c.args.slots.now),
       table.table.placed k,
-    )) (entry_full c.args.slots.now c.loop-index.entries.items c.loop-index.index c.in-Some._position
-    (sym c.in-Some.is ∙ c.position.ensures) i.full) in
+    )) (more_full c.loop-index.entries.items _ c.is_empty.result c.is_empty.ensures c.if-not-is_empty.true i.full) in
     omega (
       arith,
       few,
@@ -76,17 +62,26 @@ pub loop-index-preserved : goal.loop-index-preserved
 loop-index-preserved g c =
     let i = c.loop-index.invariant in
     let table : IsTableOf g.hashes c.args.slots.now = c.requires.0 in
-    let now = c.push_reserved.ensures.items in
-    record {
-      placed = λ k. ap (λ es. times k (positions es)) now
-          ∙ next_entry k c.args.slots.now c.loop-index.entries.items c.loop-index.index c.loop-index-test.true i.placed;
-      hashes = subst (HaveHashes g.hashes) (sym now) (All-push (HasHash g.hashes) c.loop-index.entries.items
-          (get_or c.args.slots.now c.loop-index.index blank) i.hashes
-          (hashes-at g.hashes c.args.slots.now c.loop-index.index table.hashes_are c.loop-index-test.true));
-      full = subst (All (λ entry. position_in entry ≢ None)) (sym now) (entry_full c.args.slots.now c.loop-index.entries.items
-          c.loop-index.index c.in-Some._position (sym c.in-Some.is ∙ c.position.ensures) i.full);
-      room = c.push_reserved.ensures.capacity ∙ i.room;
-    }
+    let entries : List Slot = c.loop-index.entries.items in
+    elim c.if-not-is_empty.branch [
+      | then-not-is_empty w ↦ rw (w.entries-is, w.push_reserved.ensures.items, w.push_reserved.ensures.capacity) (record {
+        placed = λ k. next_entry k c.args.slots.now entries c.loop-index.index c.loop-index-test.true i.placed;
+        hashes = All-push (HasHash g.hashes) entries (get_or c.args.slots.now c.loop-index.index blank) i.hashes
+            (hashes-at g.hashes c.args.slots.now c.loop-index.index table.hashes_are c.loop-index-test.true);
+        full = more_full entries _ c.is_empty.result c.is_empty.ensures w.if-not-is_empty.true i.full;
+        room = i.room;
+      })
+      | else-not-is_empty w ↦ rw w.entries-is (record {
+        placed = λ k. omega (
+          arith,
+          i.placed k,
+          next k c.args.slots.now c.loop-index.index None c.loop-index-test.true (sym (c.is_empty.ensures.0 w.if-not-is_empty.false)),
+        );
+        hashes = i.hashes;
+        full = i.full;
+        room = i.room;
+      })
+    ]
 
 pub returns-clause-entries : goal.returns-clause-entries
 returns-clause-entries g c =

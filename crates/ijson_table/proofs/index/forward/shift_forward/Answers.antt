@@ -1,5 +1,5 @@
 use Rattle.std.proofs.Common.{◌≡◌, ◌≢◌, ◌<◌, ◌≤◌, ℕ, ◌+◌, List, length, map, get_or, set, Option, Some, None, refl, arith, ap, sym, ◌∙◌}
-use Rattle.std.proofs.Common.{inl, inr, subst, get_or-set_other}
+use Rattle.std.proofs.Common.{false, inl, inr, subst, get_or-set_other}
 use Rattle.std.proofs.lemmas.List.{get_or-map, length-map, length-set, map-set}
 use Rattle.ijson_table.specs.declared.index.slot.Slot.{Slot}
 use Rattle.ijson_table.specs.Crowd.{distance}
@@ -11,6 +11,7 @@ use Rattle.ijson_table.specs.private.Probe.{onward, AreFull}
 use Rattle.ijson_table.specs.private.SlotHashes.{position_in, positions, blank}
 use Rattle.ijson_table.proofs.arithmetic.Circular.{distance-after, distance-below, distance-self, onward-distance}
 use Rattle.ijson_table.proofs.arithmetic.Comparing.{same_or_not}
+use Rattle.ijson_table.proofs.filling.NoneEmpty.{some_position}
 use Rattle.ijson_table.proofs.shifting.SlotWrites.{put_down}
 use Rattle.ijson_table.proofs.shifting.Insertion.{Shifting, goes_on, shift_more}
 use Rattle.ijson_table.proofs.slots.HashesInSlots.{positions-length, positions-put, positions-set}
@@ -18,7 +19,7 @@ use Rattle.ijson_table.proofs.slots.HashesInSlots.{position-at, hashes-at, hashe
 use Rattle.ijson_table.proofs.slots.HashesInSlots.{has_own_hash}
 use Rattle.ijson_table.proofs.slots.NarrowSlots.{code-of}
 use Rattle.ijson_table.proofs.slots.SlotChanges.{changes-none, changes-set}
-use Rattle.ijson_table.proofs.index.forward.shift_forward.Goals.{After-position}
+use Rattle.ijson_table.proofs.index.forward.shift_forward.Goals.{After-is_empty}
 use Rattle.ijson_table.proofs.index.forward.shift_forward.Invariants.{IsOnTheWay}
 use Rattle.ijson_table.proofs.index.forward.shift_forward.Goals as goal
 
@@ -148,8 +149,8 @@ stored-entry-requires-clause-code g c = omega (
 pub stored-entry-requires-clause-hash : goal.stored-entry-requires-clause-hash
 stored-entry-requires-clause-hash g c = subst (λ h. h < g.S.StoredSlot.hash_limit) (sym c.of.ensures.hash) c.requires.hash
 
-pub loop-resident-init : goal.loop-resident-init
-loop-resident-init g c hashes allowed =
+pub loop-was-init : goal.loop-was-init
+loop-was-init g c hashes allowed =
     let stored : List Slot = map g.S.StoredSlot.stands_for c.args.slots.now in
     let slots : List (Option ℕ) = positions stored in
     let accepts : Accepts hashes stored c.args.position c.args.hash = allowed.0 in
@@ -183,56 +184,64 @@ loop-resident-init g c hashes allowed =
     (distance (length stored) c.args.from c.args.from)) (sym c.stored-entry.ensures) way
 
 -- the slots that are seen,
-abbrev slots_seen : (g : _) (c : After-position g) → List Slot
-slots_seen g c = map g.S.StoredSlot.stands_for c.loop-resident.slots
+abbrev slots_seen : (g : _) (c : After-is_empty g) → List Slot
+slots_seen g c = map g.S.StoredSlot.stands_for c.loop-was.slots
 
 -- and the entry
-abbrev entry_seen : (g : _) (c : After-position g) → Slot
-entry_seen g c = g.S.StoredSlot.stands_for c.loop-resident.entry
+abbrev entry_seen : (g : _) (c : After-is_empty g) → Slot
+entry_seen g c = g.S.StoredSlot.stands_for c.loop-was.entry
 
 -- the slots that are seen once the entry is written
-written_seen : (g : _) (c : After-position g) → map g.S.StoredSlot.stands_for (set c.loop-resident.slots c.loop-resident.slot
-    c.loop-resident.entry) ≡ set (slots_seen g c) c.loop-resident.slot (entry_seen g c)
-written_seen g c = map-set g.S.StoredSlot.stands_for c.loop-resident.slots c.loop-resident.slot c.loop-resident.entry
+written_seen : (g : _) (c : After-is_empty g) → map g.S.StoredSlot.stands_for (set c.loop-was.slots c.loop-was.slot
+    c.loop-was.entry) ≡ set (slots_seen g c) c.loop-was.slot (entry_seen g c)
+written_seen g c = map-set g.S.StoredSlot.stands_for c.loop-was.slots c.loop-was.slot c.loop-was.entry
 
 -- the first slot that is written is one of them
-first_in : (g : _) (c : After-position g) → c.args.from < length (map g.S.StoredSlot.stands_for c.args.slots.now)
+first_in : (g : _) (c : After-is_empty g) → c.args.from < length (map g.S.StoredSlot.stands_for c.args.slots.now)
 first_in g c = omega (arith, c.requires.may.1.1.within, positions-length (map g.S.StoredSlot.stands_for c.args.slots.now))
 
 -- it is on the way, by the hashes that it is called for
-on_way : (g : _) (c : After-position g) → IsOnTheWay c.requires.may.0 (map g.S.StoredSlot.stands_for c.args.slots.now) c.args.position
-    c.args.from (slots_seen g c) (entry_seen g c) c.loop-resident.slot
-    (distance (length (slots_seen g c)) c.args.from c.loop-resident.slot)
-on_way g c = c.loop-resident.invariant c.requires.may.0 c.requires.may.1
+on_way : (g : _) (c : After-is_empty g) → IsOnTheWay c.requires.may.0 (map g.S.StoredSlot.stands_for c.args.slots.now) c.args.position
+    c.args.from (slots_seen g c) (entry_seen g c) c.loop-was.slot
+    (distance (length (slots_seen g c)) c.args.from c.loop-was.slot)
+on_way g c = c.loop-was.invariant c.requires.may.0 c.requires.may.1
 
 -- what was read is seen at the slot,
-read_seen : (g : _) (c : After-position g) → g.S.StoredSlot.stands_for c.index-slots-slot.result
-    ≡ get_or (slots_seen g c) c.loop-resident.slot blank
+read_seen : (g : _) (c : After-is_empty g) → g.S.StoredSlot.stands_for c.index-slots-slot.result
+    ≡ get_or (slots_seen g c) c.loop-was.slot blank
 read_seen g c =
-    let l = c.loop-resident in
+    let l = c.loop-was in
     seen_at g.S.StoredSlot.stands_for l.slots l.slot c.index-slots-slot.result
     (here c.requires.may.0 (map g.S.StoredSlot.stands_for c.args.slots.now) c.args.position c.args.from (slots_seen g c) (entry_seen g c)
     l.slot (first_in g c) (on_way g c)) c.index-slots-slot.is
 
--- and so is the position
-told : (g : _) (c : After-position g) → c.position.result ≡ position_in (get_or (slots_seen g c) c.loop-resident.slot blank)
-told g c = c.position.ensures ∙ (ap position_in c.widened.ensures.value ∙ ap position_in (read_seen g c))
+-- and so is the position, or none
+told : (g : _) (c : After-is_empty g) → position_in c.widened.result ≡ position_in (get_or (slots_seen g c) c.loop-was.slot blank)
+told g c = ap position_in c.widened.ensures.value ∙ ap position_in (read_seen g c)
+
+-- so where it is not empty, a resident stands there
+stands : (g : _) (c : After-is_empty g) → c.is_empty.result ≡ false
+    → (next : ℕ) × (Some next ≡ position_in (get_or (slots_seen g c) c.loop-was.slot blank))
+stands g c full =
+    let who = some_position (position_in c.widened.result) (λ none. let empty = c.is_empty.ensures.1 none in absurd (cc (empty, full))) in
+    (who.0, sym who.1 ∙ told g c)
 
 -- there are as many slots as before
-same_size : (g : _) (c : After-position g) → length (slots_seen g c) ≡ length c.args.slots.now
+same_size : (g : _) (c : After-is_empty g) → length (slots_seen g c) ≡ length c.args.slots.now
 same_size g c = (on_way g c).size ∙ length-map c.args.slots.now g.S.StoredSlot.stands_for
 
-pub loop-resident-preserved : goal.loop-resident-preserved
-loop-resident-preserved g c hashes allowed =
-    let p = (goal.at.loop-resident-preserved g c).After-position in
-    let l = c.loop-resident in
+pub loop-was-preserved : goal.loop-was-preserved
+loop-was-preserved g c hashes allowed =
+    let p = (goal.at.loop-was-preserved g c).After-is_empty in
+    let l = c.loop-was in
     let f = g.S.StoredSlot.stands_for in
     let old : List Slot = map f c.args.slots.now in
     let slots : List Slot = slots_seen g p in
     let to : after (length slots) l.slot ≡ c.next_slot-slot.result =
     ap (λ n. after n l.slot) (same_size g p) ∙ sym c.next_slot-slot.ensures.slot in
+    let there = stands g p c.if-is_empty.false in
     let way = goes_further hashes old c.args.position c.args.from slots (entry_seen g p) l.slot (first_in g p)
-    (l.invariant hashes allowed) c.in-Some._resident (sym c.in-Some.is ∙ told g p) in
+    (l.invariant hashes allowed) there.0 there.1 in
     subst (λ ps. IsOnTheWay hashes old c.args.position c.args.from ps (f c.index-slots-slot.result) c.next_slot-slot.result
     (distance (length ps) c.args.from c.next_slot-slot.result)) (sym (written_seen g p))
     (subst (λ entry. IsOnTheWay hashes old c.args.position c.args.from (set slots l.slot (entry_seen g p)) entry c.next_slot-slot.result
@@ -240,21 +249,21 @@ loop-resident-preserved g c hashes allowed =
     (subst (λ next. IsOnTheWay hashes old c.args.position c.args.from (set slots l.slot (entry_seen g p)) (get_or slots l.slot blank)
     next (distance (length (set slots l.slot (entry_seen g p))) c.args.from next)) to way))
 
-pub loop-resident-smaller : goal.loop-resident-smaller
-loop-resident-smaller g c =
-    let p = (goal.at.loop-resident-smaller g c).After-position in
-    let l = c.loop-resident in
+pub loop-was-smaller : goal.loop-was-smaller
+loop-was-smaller g c =
+    let p = (goal.at.loop-was-smaller g c).After-is_empty in
+    let l = c.loop-was in
     let old : List Slot = map g.S.StoredSlot.stands_for c.args.slots.now in
     let slots : List Slot = slots_seen g p in
-    let there = sym c.in-Some.is ∙ told g p in
+    let there = stands g p c.if-is_empty.false in
     let hashes : List ℕ = c.requires.may.0 in
     let size : length slots ≡ length l.slots = length-map l.slots g.S.StoredSlot.stands_for in
     let to : c.next_slot-slot.result ≡ after (length slots) l.slot =
     c.next_slot-slot.ensures.slot ∙ ap (λ n. after n l.slot) (sym (same_size g p)) in
     omega (
       arith,
-      room hashes old c.args.position c.args.from slots (entry_seen g p) l.slot (first_in g p) (on_way g p) c.in-Some._resident there,
-      further hashes old c.args.position c.args.from slots (entry_seen g p) l.slot (first_in g p) (on_way g p) c.in-Some._resident there,
+      room hashes old c.args.position c.args.from slots (entry_seen g p) l.slot (first_in g p) (on_way g p) there.0 there.1,
+      further hashes old c.args.position c.args.from slots (entry_seen g p) l.slot (first_in g p) (on_way g p) there.0 there.1,
       ap (λ n. distance n c.args.from (after (length slots) l.slot)) (length-set slots l.slot (entry_seen g p)),
       ap (λ n. distance n c.args.from l.slot) size,
       ap (λ n. distance n c.args.from (after (length slots) l.slot)) size,
@@ -264,14 +273,14 @@ loop-resident-smaller g c =
       ap (λ n. distance n c.args.from c.next_slot-slot.result) (length-set l.slots l.slot l.entry),
     )
 
-pub returns-in_default : goal.returns-in_default
-returns-in_default g c hashes allowed =
-    let p = (goal.at.returns-in_default g c).After-position in
-    let l = c.loop-resident in
+pub returns-then-is_empty : goal.returns-then-is_empty
+returns-then-is_empty g c hashes allowed =
+    let p = (goal.at.returns-then-is_empty g c).After-is_empty in
+    let l = c.loop-was in
     let old : List Slot = map g.S.StoredSlot.stands_for c.args.slots.now in
     subst (IsPut hashes old c.args.position c.args.from l.slot) (sym (written_seen g p))
     (is_put hashes old c.args.position c.args.from (slots_seen g p) (entry_seen g p) l.slot (first_in g p) (l.invariant hashes allowed)
-    (sym c.in_default.is ∙ told g p))
+    (sym (c.is_empty.ensures.0 c.if-is_empty.true) ∙ told g p))
 
 -- the slot that it is at is one of them
 reached : {X : Type 0} (f : X → Slot) (slots : List X) (hashes : List ℕ) (old : List Slot) (position from slot written : ℕ) (entry : Slot)
@@ -280,17 +289,17 @@ reached f slots hashes old position from slot written entry way =
     omega (arith, way.shifting.2.may.within, positions-length (map f slots), length-map slots f)
 
 pub bounds-slots-slot : goal.bounds-slots-slot
-bounds-slots-slot g c = reached g.S.StoredSlot.stands_for c.loop-resident.slots _ _ _ _ _ _ _
-    (c.loop-resident.invariant c.requires.may.0 c.requires.may.1)
+bounds-slots-slot g c = reached g.S.StoredSlot.stands_for c.loop-was.slots _ _ _ _ _ _ _
+    (c.loop-was.invariant c.requires.may.0 c.requires.may.1)
 
-pub bounds-slots-slot-in-loop-resident : goal.bounds-slots-slot-in-loop-resident
-bounds-slots-slot-in-loop-resident g c = reached g.S.StoredSlot.stands_for c.loop-resident.slots _ _ _ _ _ _ _
-    (c.loop-resident.invariant c.requires.may.0 c.requires.may.1)
+pub bounds-slots-slot-in-loop-was : goal.bounds-slots-slot-in-loop-was
+bounds-slots-slot-in-loop-was g c = reached g.S.StoredSlot.stands_for c.loop-was.slots _ _ _ _ _ _ _
+    (c.loop-was.invariant c.requires.may.0 c.requires.may.1)
 
 pub next_slot-slot-requires : goal.next_slot-slot-requires
 next_slot-slot-requires g c = omega (
   arith,
-  reached g.S.StoredSlot.stands_for c.loop-resident.slots _ _ _ _ _ _ _ (c.loop-resident.invariant c.requires.may.0 c.requires.may.1),
-  same_size g (goal.at.next_slot-slot-requires g c).After-position,
-  length-map c.loop-resident.slots g.S.StoredSlot.stands_for,
+  reached g.S.StoredSlot.stands_for c.loop-was.slots _ _ _ _ _ _ _ (c.loop-was.invariant c.requires.may.0 c.requires.may.1),
+  same_size g (goal.at.next_slot-slot-requires g c).After-is_empty,
+  length-map c.loop-was.slots g.S.StoredSlot.stands_for,
 )

@@ -23,12 +23,12 @@ pub record IsOnTheWay (hashes : List ℕ) (old : List Slot) (position from : ℕ
       → resident (positions slots) p ≡ resident (positions old) p
   pub size : length slots ≡ length old
 
-abbrev pub invariant-loop-resident : goal.invariant-loop-resident
-invariant-loop-resident g l = (hashes : List ℕ)
+abbrev pub invariant-loop-was : goal.invariant-loop-was
+invariant-loop-was g l = (hashes : List ℕ)
     → MayPut hashes (map g.S.StoredSlot.stands_for l.fn.slots) l.fn.position l.fn.hash l.fn.from
     → IsOnTheWay hashes (map g.S.StoredSlot.stands_for l.fn.slots) l.fn.position l.fn.from
     (map g.S.StoredSlot.stands_for l.slots) (g.S.StoredSlot.stands_for l.entry) l.slot
     (distance (length (map g.S.StoredSlot.stands_for l.slots)) l.fn.from l.slot)
 
-abbrev pub decreases-loop-resident : goal.decreases-loop-resident
-decreases-loop-resident g l = length l.slots - distance (length l.slots) l.fn.from l.slot
+abbrev pub decreases-loop-was : goal.decreases-loop-was
+decreases-loop-was g l = length l.slots - distance (length l.slots) l.fn.from l.slot

@@ -5,13 +5,13 @@ use Rattle.ijson_table.specs.private.SlotHashes.{positions, HaveHashes}
 use Rattle.ijson_table.proofs.shifting.BackwardShift.{all_displacements}
 use Rattle.ijson_table.proofs.index.shift.shift_back.Given as goal
 
-abbrev pub invariant-loop-resident : goal.invariant-loop-resident
-invariant-loop-resident g l = record {
+abbrev pub invariant-loop-modulus : goal.invariant-loop-modulus
+invariant-loop-modulus g l = record {
   gap : HasGap g.hashes (positions l.slots) l.gap;
   placed : (i : ℕ) → times i (positions l.slots) ≡ times i (positions l.fn.slots);
   hashes : HaveHashes g.hashes l.slots;
   size : length l.slots ≡ length l.fn.slots;
 }
 
-abbrev pub decreases-loop-resident : goal.decreases-loop-resident
-decreases-loop-resident g l = all_displacements g.hashes (positions l.slots)
+abbrev pub decreases-loop-modulus : goal.decreases-loop-modulus
+decreases-loop-modulus g l = all_displacements g.hashes (positions l.slots)

@@ -38,7 +38,7 @@ returns-clause-within g c =
 pub returns-clause-there : goal.returns-clause-there
 returns-clause-there g c =
     let ends = c.in-Found.ensures.ends in
-    let same : c.in-Found.field-0 ≡ c.args.position = grind (arith, nat_tests, ends.3) in
+    let same : c.in-Found.at ≡ c.args.position = grind (arith, nat_tests, ends.3) in
     ends.2 ∙ ap Some same
 
 -- the probe does not pass the position, and does not end before it

@@ -11,7 +11,7 @@ use Rattle.ijson_table.specs.Placed.{Placed}
 use Rattle.ijson_table.specs.Store.{keys_of, put_each, IsDistinct}
 use Rattle.ijson_table.specs.private.KeptHash.{kept_hash}
 use Rattle.ijson_table.proofs.pairs.PutEach.{put_each-split}
-use Rattle.ijson_table.proofs.table.Table.from_list.Goals.{After-count_steps}
+use Rattle.ijson_table.proofs.table.Table.from_list.Goals.{After-add}
 use Rattle.ijson_table.proofs.table.Table.from_list.Goals as goal
 
 pub invariant_of-table-inside : goal.invariant_of-table-inside
@@ -52,7 +52,7 @@ returns-clause-pairs g c =
     c.with_rest.ensures.pairs
 
 -- the room of the list is the count of its pairs
-exact : (g : _) (c : After-count_steps g) → (vec_capacity c.tighten.new.list ≡ length c.args.pairs.items)
+exact : (g : _) (c : After-add g) → (vec_capacity c.tighten.new.list ≡ length c.args.pairs.items)
     × (c.len-capacity.result ≡ length c.args.pairs.items)
 exact g c = (
   c.in_ok-tighten.ensures.room,
@@ -64,7 +64,7 @@ invariant_of-table g c =
     let n = c.add_new_keys-placed.result in
     let kept : take n c.deref.result.now ≡ c.split_rest.new.list.items =
     ap (take n) c.deref.ensures.value ∙ sym c.in_ok-rest.ensures.kept in
-    let w = (goal.at.invariant_of-table g c).After-count_steps in
+    let w = (goal.at.invariant_of-table g c).After-add in
     let room : vec_capacity c.split_rest.new.list ≡ length c.args.pairs.items = c.split_rest.ensures.room ∙ (exact g w).0 in
     record {
       room = record {
@@ -82,7 +82,7 @@ invariant_of-table-2 g c =
     let n = c.add_new_keys-placed.result in
     let kept : take n c.deref.result.now ≡ c.split_rest.new.list.items =
     ap (take n) c.deref.ensures.value ∙ sym c.in_ok-rest.ensures.kept in
-    let w = (goal.at.invariant_of-table-2 g c).After-count_steps in
+    let w = (goal.at.invariant_of-table-2 g c).After-add in
     let room : vec_capacity c.split_rest.new.list ≡ length c.args.pairs.items = c.split_rest.ensures.room ∙ (exact g w).0 in
     record {
       room = record {
@@ -96,7 +96,7 @@ invariant_of-table-2 g c =
     }
 
 -- the steps so far, beside the bound on them
-few : (g : _) (c : After-count_steps g) → c.add_new_keys-placed.new.steps
+few : (g : _) (c : After-add g) → c.add_new_keys-placed.new.steps
     ≤ 32 * length c.args.pairs.items + 2 * slot_count (length c.args.pairs.items)
 few g c = omega (
   arith,
@@ -109,33 +109,33 @@ few g c = omega (
 
 pub with_rest-requires-clause-steps : goal.with_rest-requires-clause-steps
 with_rest-requires-clause-steps g c =
-    let w = (goal.at.with_rest-requires-clause-steps g c).After-count_steps in
+    let w = (goal.at.with_rest-requires-clause-steps g c).After-add in
     let room : vec_capacity c.split_rest.new.list ≡ length c.args.pairs.items = c.split_rest.ensures.room ∙ (exact g w).0 in
     omega (arith, few g w, room, ap slot_count room)
 
 pub with_rest-requires-clause-fits : goal.with_rest-requires-clause-fits
 with_rest-requires-clause-fits g c = omega (
   arith,
-  few g (goal.at.with_rest-requires-clause-fits g c).After-count_steps,
-  c.count_steps.ensures,
+  few g (goal.at.with_rest-requires-clause-fits g c).After-add,
+  c.add.ensures,
   c.requires.fits,
   c.requires.limited,
 )
 
 pub returns-clause-bounded : goal.returns-clause-bounded
 returns-clause-bounded g c k fits =
-    let w = (goal.at.returns-clause-bounded g c).After-count_steps in
+    let w = (goal.at.returns-clause-bounded g c).After-add in
     let room : vec_capacity c.split_rest.new.list ≡ length c.args.pairs.items = c.split_rest.ensures.room ∙ (exact g w).0 in
     omega (
       arith,
       c.with_rest.ensures.bounded k (omega (arith, room, fits)),
       ap (λ n. n * (looks_a_pair + 2 * k)) room,
-      c.count_steps.ensures,
+      c.add.ensures,
     )
 
 pub returns-then-is_empty-clause-bounded : goal.returns-then-is_empty-clause-bounded
 returns-then-is_empty-clause-bounded g c k fits =
-    omega (arith, few g (goal.at.returns-then-is_empty-clause-bounded g c).After-count_steps, c.count_steps.ensures)
+    omega (arith, few g (goal.at.returns-then-is_empty-clause-bounded g c).After-add, c.add.ensures)
 
 -- what the check tries where no answer stands takes longer than these
 pub with_rest-requires-clause-room : goal.with_rest-requires-clause-room
@@ -147,7 +147,7 @@ returns-clause-counted g c =
     on_ok_weaker c.with_rest.result (λ e. omega (
       arith,
       e,
-      c.count_steps.ensures,
+      c.add.ensures,
       ap length c.in_ok-rest.ensures.kept,
       ap length c.in_ok-rest.ensures.rest,
       length-take c.add_new_keys-placed.result items,
@@ -161,7 +161,7 @@ returns-then-is_empty-clause-counted g c =
     omega (
       arith,
       none,
-      c.count_steps.ensures,
+      c.add.ensures,
       c.add_new_keys-placed.ensures.counted,
       ap length c.in_ok-rest.ensures.rest,
       length-drop c.add_new_keys-placed.result c.tighten.new.list.items,
@@ -181,8 +181,8 @@ add_new_keys-placed-requires g c =
       few = omega (arith, slots, exactly, c.requires.limited);
     }
 
-pub count_steps-requires : goal.count_steps-requires
-count_steps-requires g c = omega (
+pub add-requires : goal.add-requires
+add-requires g c = omega (
   arith,
   c.add_new_keys-placed.ensures.steps,
   c.in_ok-index.ensures.count,
@@ -231,4 +231,4 @@ returns-clause-refused g c = on_err c.with_rest.result (
     )
 
 pub returns-clause-grows : goal.returns-clause-grows
-returns-clause-grows g c = omega (arith, c.count_steps.ensures, c.with_rest.ensures.grows)
+returns-clause-grows g c = omega (arith, c.add.ensures, c.with_rest.ensures.grows)

@@ -3,11 +3,11 @@ use Rattle.std.proofs.lemmas.Grind.{common_steps}
 use Rattle.std.proofs.lemmas.List.{length-reverse}
 use Rattle.ijson_table.specs.Crowd.{slot_count}
 use Rattle.ijson_table.proofs.table.Table.with_rest.Given.{Over}
-use Rattle.ijson_table.proofs.table.Table.with_rest.Goals.{After-count_steps}
+use Rattle.ijson_table.proofs.table.Table.with_rest.Goals.{After-add}
 use Rattle.ijson_table.proofs.table.Table.with_rest.Goals as goal
 
 -- how many steps are taken in the usual way
-few : (g : Over) (c : After-count_steps g) → c.insert_each.new.steps
+few : (g : Over) (c : After-add g) → c.insert_each.new.steps
     ≤ 32 * c.args.self.store.capacity + 2 * slot_count c.args.self.store.capacity
 few g c = omega (arith, c.insert_each.ensures.steps, c.capacity-most.ensures.room)
 
@@ -23,8 +23,8 @@ insert_each-requires-clause-steps g c = omega (arith, c.capacity-most.ensures.ro
 pub returns-then-is_empty-clause-bounded : goal.returns-then-is_empty-clause-bounded
 returns-then-is_empty-clause-bounded g c k fits = omega (
   arith,
-  few g (goal.at.returns-then-is_empty-clause-bounded g c).After-count_steps,
-  c.count_steps.ensures,
+  few g (goal.at.returns-then-is_empty-clause-bounded g c).After-add,
+  c.add.ensures,
   c.insert_each.ensures.grows,
 )
 
@@ -34,8 +34,8 @@ with_rest_sorted-requires-clause-room g c = omega (arith, c.insert_each.ensures.
 pub with_rest_sorted-requires-clause-fits : goal.with_rest_sorted-requires-clause-fits
 with_rest_sorted-requires-clause-fits g c = omega (
   arith,
-  few g (goal.at.with_rest_sorted-requires-clause-fits g c).After-count_steps,
-  c.count_steps.ensures,
+  few g (goal.at.with_rest_sorted-requires-clause-fits g c).After-add,
+  c.add.ensures,
   c.requires.fits,
   c.requires.limited,
 )
@@ -45,8 +45,8 @@ returns-clause-bounded g c k fits =
     let same = c.insert_each.ensures.capacity in
     omega (
       arith,
-      few g (goal.at.returns-clause-bounded g c).After-count_steps,
-      c.count_steps.ensures,
+      few g (goal.at.returns-clause-bounded g c).After-add,
+      c.add.ensures,
       c.insert_each.ensures.grows,
       c.with_rest_sorted.ensures.bounded k (omega (arith, same, fits)),
       ap (λ n. n * (1 + 2 * k)) same,

@@ -47,9 +47,9 @@ vacant g c = walked c.view.result c.args.index.now (keys_of (take c.args.positio
 
 -- and where it comes again
 found : (g : _) (c : After-distance_between-in-Found g) → Walks c.args.index.now (keys_of (take c.args.position c.args.pairs.now))
-    c.kept_hash-hash.result c.as_str-key.result.now (c.probe.new.looks - c.new.result) (Found c.in-Found.field-0 c.in-Found.slot)
+    c.kept_hash-hash.result c.as_str-key.result.now (c.probe.new.looks - c.new.result) (Found c.in-Found.at c.in-Found.slot)
 found g c = walked c.view.result c.args.index.now (keys_of (take c.args.position c.args.pairs.now)) c.kept_hash-hash.result
-    c.as_str-key.result.now (c.probe.new.looks - c.new.result) c.probe.result (Found c.in-Found.field-0 c.in-Found.slot)
+    c.as_str-key.result.now (c.probe.new.looks - c.new.result) c.probe.result (Found c.in-Found.at c.in-Found.slot)
     c.view.ensures.value c.in-Found.is c.probe.ensures.ends
 
 -- Where a slot is left, a key for which there is no vacancy comes again,
@@ -104,7 +104,7 @@ away_found g c =
     let n = length index.slots in
     let there = (ended_found index.slots (displacement index.hashes index.slots) (c.kept_hash-hash.result % n)
     (is_hashed_key index.hashes (keys_of (take c.args.position c.args.pairs.now)) c.kept_hash-hash.result c.as_str-key.result.now)
-    (home_within c.kept_hash-hash.result n (omega (arith, c.requires.room))) (c.probe.new.looks - c.new.result) c.in-Found.field-0
+    (home_within c.kept_hash-hash.result n (omega (arith, c.requires.room))) (c.probe.new.looks - c.new.result) c.in-Found.at
     c.in-Found.slot (found g c)).there in
     away_from n c.args.modulus.count c.hash-whole.result c.kept_hash-hash.result c.home_of_hash-home.result c.in-Found.slot
     c.distance_between-in-Found.result c.distance_between-in-Found.ensures c.kept_hash-hash.ensures c.home_of_hash-home.ensures.value
@@ -173,7 +173,7 @@ returns-in-Vacant-clause-counted g c =
 
 pub returns-in-Found-clause-stops : goal.returns-in-Found-clause-stops
 returns-in-Found-clause-stops g c = λ _.
-    again g (goal.at.returns-in-Found-clause-stops g c).After-probe (inl (c.in-Found.field-0, c.in-Found.slot, c.in-Found.is))
+    again g (goal.at.returns-in-Found-clause-stops g c).After-probe (inl (c.in-Found.at, c.in-Found.slot, c.in-Found.is))
 
 pub returns-in-Found-clause-steps : goal.returns-in-Found-clause-steps
 returns-in-Found-clause-steps g c =
@@ -185,7 +185,7 @@ returns-in-Found-clause-counted g c =
     counted g place.After-probe c.args.index.now _
     (counts_found (short g c.args.index.now) (keys_of (take c.args.position c.args.pairs.now)) c.args.index.now
     (omega (arith, c.requires.room)) c.kept_hash-hash.result c.as_str-key.result.now (c.probe.new.looks - c.new.result)
-    c.in-Found.field-0 c.in-Found.slot c.distance_between-in-Found.result _ (kept_is g place.After-probe)
+    c.in-Found.at c.in-Found.slot c.distance_between-in-Found.result _ (kept_is g place.After-probe)
     (found g place.After-distance_between-in-Found) (away_found g place.After-distance_between-in-Found).far (omega arith))
 
 pub returns-in-Full-clause-stops : goal.returns-in-Full-clause-stops

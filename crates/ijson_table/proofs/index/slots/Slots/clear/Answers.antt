@@ -1,5 +1,4 @@
-use Rattle.std.proofs.Common.{◌∙◌, ap, arith, sym, subst, length}
-use Rattle.std.proofs.lemmas.List.{with_items_is}
+use Rattle.std.proofs.Common.{ap, sym, subst, length}
 use Rattle.ijson_table.specs.declared.index.slots.Slots.TheInside.{Inside}
 use Rattle.ijson_table.specs.private.NarrowSlots.{stored_slots}
 use Rattle.ijson_table.specs.private.SlotHashes.{position_in}
@@ -10,19 +9,10 @@ use Rattle.ijson_table.proofs.index.slots.Slots.clear.Goals as goal
 pub returns-clause-empty : goal.returns-clause-empty
 returns-clause-empty c = elim c.match-self.branch [
   | in-Few w ↦ subst (λ (l : Inside). IsEmpty (stored_slots l.stored)) (sym w.self-inside-is)
-      (few-empty w.in-Few.few.count w.fill.new.items (length w.in-Few.few.slots) w.empty.result w.fill.ensures w.empty.ensures)
-  | in-Narrow w ↦
-      let slots = w.in-Narrow.slots in
-      let left = w.fill-in-Narrow.new.items in
-      let same = with_items_is slots left (omega (arith, w.fill-in-Narrow.auto.items, w.deref_mut.ensures.len)) in
-      subst (λ (l : Inside). IsEmpty (stored_slots l.stored)) (sym w.self-inside-is)
-      (narrow-empty _ (length w.deref_mut.result.now) w.empty-in-Narrow.result (same ∙ w.fill-in-Narrow.ensures)
-      w.empty-in-Narrow.ensures)
-  | in-Wide w ↦
-      let slots = w.in-Wide.slots in
-      let left = w.fill-in-Wide.new.items in
-      let same = with_items_is slots left (omega (arith, w.fill-in-Wide.auto.items, w.deref_mut-in-Wide.ensures.len)) in
-      subst (λ (l : Inside). IsEmpty (stored_slots l.stored)) (sym w.self-inside-is)
-      (wide-empty _ (length w.deref_mut-in-Wide.result.now) w.empty-in-Wide.result (same ∙ w.fill-in-Wide.ensures)
-      (ap position_in w.empty-in-Wide.ensures))
+      (few-empty w.in-Few.few.count w.fill.new.self (length w.in-Few.few.slots) w.empty.result (w.fill.ensures.after (λ _ e. e))
+      w.empty.ensures)
+  | in-Narrow w ↦ subst (λ (l : Inside). IsEmpty (stored_slots l.stored)) (sym w.self-inside-is)
+      (narrow-empty _ _ w.empty-in-Narrow.result (w.fill-in-Narrow.ensures.items (λ _ e. e)) w.empty-in-Narrow.ensures)
+  | in-Wide w ↦ subst (λ (l : Inside). IsEmpty (stored_slots l.stored)) (sym w.self-inside-is)
+      (wide-empty _ _ w.empty-in-Wide.result (w.fill-in-Wide.ensures.items (λ _ e. e)) (ap position_in w.empty-in-Wide.ensures))
 ]
