@@ -158,7 +158,8 @@ fn debug_texts(rt: HostRuntime) {
     }
     let mut looks = Looks::new();
     looks.add_one();
-    debugs(&rt, rt.alloc(), &looks, "Looks { seen: 1 }");
+    looks.add(41);
+    debugs(&rt, rt.alloc(), &looks, "Looks { seen: 42 }");
     debugs(&rt, rt.alloc(), &ParseNumberError::Invalid, "Invalid");
     debugs(&rt, rt.alloc(), &ParseNumberError::Memory, "Memory");
 }
