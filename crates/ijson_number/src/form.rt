@@ -17,7 +17,7 @@ pub enum Form<'a> {
         exponent: i8,
         point: bool,
     },
-    /// An integer without the point that is too large for a packed mantissa.
+    /// An integer without the point that is no packed mantissa.
     I64(i64),
     /// An integer without the point that is too large for an `i64`.
     U64(u64),
@@ -34,6 +34,7 @@ pub enum Form<'a> {
 impl INumber {
     ghost use Rattle.ijson_number.specs.FormValue.{form_value};
 
+    /// What is stored, as `form` shows it.
     fn form_of_stored(&self) -> Form<'_>
         ensures { form_value result ≡ form_of self.now.decimal }
     {

@@ -73,7 +73,7 @@ impl INumber {
     ghost use Rattle.ijson_number.specs.private.Prefix.{IsMantissa};
 
     /// The number that the whole text spells, with no white space round it. Memory is taken only where the stored form is a
-    /// list of digits, once the text is known to spell one. The time is linear in the length of the text, whatever the
+    /// list of digits, once the text is known to spell a number. The time is linear in the length of the text, whatever the
     /// exponent. `1.50` and `15e-1` spell equal numbers; `01`, `+1`, `.5`, `1.` and ` 1` are `Invalid`, and so is
     /// `1e2000000000`.
     pub fn from_str(alloc: Global, text: &str) -> Result<INumber, ParseNumberError>
@@ -81,7 +81,7 @@ impl INumber {
         ensures err { IfErr result (λ e. IsRefused text.now e) }
     {
         let bytes = text.as_bytes();
-        // the pass of `at_front`, which takes memory once the text is known to end
+        // the same pass as that of `at_front`, but memory is taken only where the text is known to end behind it
         if let Some((prefix, rest)) = read_mantissa(bytes) {
             if rest.is_empty() {
                 return Ok(INumber::from_prefix(alloc, prefix)?);
@@ -98,8 +98,7 @@ impl INumber {
         let Some(scanned) = spelling.scan() else {
             return Err(ParseNumberError::Invalid);
         };
-        let number = INumber::from_scanned(alloc, &scanned)?;
-        Ok(number)
+        Ok(INumber::from_scanned(alloc, &scanned)?)
     }
 
     /// The number that the text begins with, and how many bytes spell it, in one pass over them. It has at most 19 digits, among

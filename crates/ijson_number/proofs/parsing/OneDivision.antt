@@ -2,7 +2,7 @@
 use Rattle.std.proofs.Common.{◌≡◌, ℕ, ◌<◌, Bool, List, [], ◌∷◌, ◌++◌, length, get_or, refl, sym, ap, ◌∙◌, inl, inr, arith, append_assoc}
 use Rattle.std.specs.Prelude.{ℤ}
 use Rattle.ijson_number.specs.Grammar.{AllDigits, IsMinus, IsWhole, IsFraction, IsExponent, IsSigned, Parts, IsSpelled}
-use Rattle.ijson_number.specs.private.Reading.{BeginsWithNoDigit, IsTail, IsUnsigned, IsSignTaken}
+use Rattle.ijson_number.specs.private.Reading.{BeginsWithNoDigit, IsTail, IsSignTaken}
 use Rattle.ijson_number.proofs.parsing.DigitRuns.{one_run, IsDigits_all}
 
 pub exponent_begins : (et : List ℕ) (z : ℤ) (w : Bool) → IsExponent et z w → BeginsWithNoDigit et
@@ -64,7 +64,14 @@ pub whole_all : (bs : List ℕ) → IsWhole bs → AllDigits bs
 whole_all [] h = absurd h
 whole_all (b ∷ bs) h = elim h [ inl e ↦ ((omega arith, omega arith), rw e.1 tt) | inr e ↦ ((omega arith, omega arith), e.2) ]
 
--- a text without its sign, at its first run of digits
+-- a number's text without its sign
+pub record IsUnsigned (text whole fraction : List ℕ) (exponent : ℤ) (point : Bool) : Type 0 where
+  pub rest : List ℕ
+  pub text_is : text ≡ whole ++ rest
+  pub whole_is : IsWhole whole
+  pub tail_is : IsTail rest fraction exponent point
+
+-- its whole part is its first run of digits
 pub unsigned_at : (bytes a rest w f : List ℕ) (z : ℤ) (p : Bool) → bytes ≡ a ++ rest → AllDigits a → BeginsWithNoDigit rest
     → IsUnsigned bytes w f z p → (w ≡ a) × IsTail rest f z p
 unsigned_at bytes a rest w f z p e d n u =

@@ -2,7 +2,7 @@
 use Rattle.std.specs.Prelude.{true, false, ◌≡◌, ◌≢◌, ◌<◌, ◌-◌, length, slice_index, ◌⊎◌, ◌||◌, ℕ, ℤ}
 use Rattle.std.specs.Prelude.{Bool, List, [], ◌∷◌, ◌++◌, pos, neg_ℤ, ◌≤ℤ◌, ◌+ℤ◌, ◌-ℤ◌}
 use Rattle.ijson_number.specs.Num.{exponent_limit}
-use Rattle.ijson_number.specs.Grammar.{IsDigit, IsWhole, IsFraction, IsExponent}
+use Rattle.ijson_number.specs.Grammar.{IsDigit, IsFraction, IsExponent}
 
 -- the exponent is within the limit
 abbrev pub IsWithin : ℤ → Type 0
@@ -35,13 +35,6 @@ pub record IsTail (text fraction : List ℕ) (exponent : ℤ) (point : Bool) : T
   pub fraction_is : IsFraction fraction_text fraction has_point
   pub exponent_is : IsExponent exponent_text exponent has_exponent
   pub point_is : point ≡ has_point || has_exponent
-
--- a number's text without its sign
-pub record IsUnsigned (text whole fraction : List ℕ) (exponent : ℤ) (point : Bool) : Type 0 where
-  pub rest : List ℕ
-  pub text_is : text ≡ whole ++ rest
-  pub whole_is : IsWhole whole
-  pub tail_is : IsTail rest fraction exponent point
 
 -- a sign taken off the front
 abbrev pub IsSignTaken : (text : List ℕ) → (negative : Bool) → (rest : List ℕ) → Type 0

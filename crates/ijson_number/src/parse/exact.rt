@@ -115,8 +115,8 @@ fn read_tail(bytes: &[u8]) -> Option<Tail<'_>>
 {
     let mut fraction: &[u8] = &[];
     let mut rest = bytes;
-    if !bytes.is_empty() && bytes[0] == b'.' {
-        (fraction, rest) = split_digits(&bytes[1..]);
+    if let [b'.', behind @ ..] = bytes {
+        (fraction, rest) = split_digits(behind);
         if fraction.is_empty() {
             return None;
         }
@@ -134,10 +134,9 @@ fn read_tail(bytes: &[u8]) -> Option<Tail<'_>>
 pub fn split_sign(text: &[u8]) -> (bool, &[u8])
     ensures { IsSignTaken text.now result.0 result.1.now }
 {
-    if !text.is_empty() && text[0] == b'-' {
-        (true, &text[1..])
-    } else {
-        (false, text)
+    match text {
+        [b'-', unsigned @ ..] => (true, unsigned),
+        _ => (false, text),
     }
 }
 
@@ -184,7 +183,7 @@ pub fn is_spelling(text: &[u8]) -> bool
     read_parts(text).is_some()
 }
 
-/// The parts of a text that one pass does not read whole. No other function of this module hands out parts.
+/// The parts of a text that one pass does not read whole. No other function hands out parts to other modules.
 #[inline(always)]
 pub fn read(text: &[u8]) -> Option<Spelling<'_>>
     requires plain { (p : Parts) → IsPlainFront text.now p [] → ⊥ }
@@ -197,7 +196,7 @@ pub fn read(text: &[u8]) -> Option<Spelling<'_>>
 }
 
 /// Takes the zeros off the front of digits in two pieces.
-pub fn strip_front<'a>(whole: &'a [u8], fraction: &'a [u8]) -> (&'a [u8], &'a [u8])
+fn strip_front<'a>(whole: &'a [u8], fraction: &'a [u8]) -> (&'a [u8], &'a [u8])
     ensures zeros { (zeros : ℕ)
         × whole.now ++ fraction.now ≡ replicate zeros 48 ++ (result.0.now ++ result.1.now) }
     ensures first { BeginsWithNoZero (result.0.now ++ result.1.now) }
@@ -211,7 +210,7 @@ pub fn strip_front<'a>(whole: &'a [u8], fraction: &'a [u8]) -> (&'a [u8], &'a [u
 }
 
 /// Takes the zeros off the end of digits in two pieces.
-pub fn strip_back<'a>(front: &'a [u8], back: &'a [u8]) -> (&'a [u8], &'a [u8])
+fn strip_back<'a>(front: &'a [u8], back: &'a [u8]) -> (&'a [u8], &'a [u8])
     ensures zeros { let off_front = length front.now - length result.0.now in
         let off_back = length back.now - length result.1.now in
         front.now ++ back.now ≡ (result.0.now ++ result.1.now) ++ replicate (off_front + off_back) 48 }
@@ -228,7 +227,7 @@ pub fn strip_back<'a>(front: &'a [u8], back: &'a [u8]) -> (&'a [u8], &'a [u8])
 }
 
 /// The digits as a number, or the cap where that is less.
-pub fn capped(digits: &[u8]) -> u128
+fn capped(digits: &[u8]) -> u128
     requires { AllDigits digits.now }
     ensures { result ≡ min (value digits.now) CAP }
 {
@@ -240,7 +239,7 @@ pub fn capped(digits: &[u8]) -> u128
 }
 
 /// The greatest stripped exponent. The limit is this project's own.
-pub const EXPONENT_LIMIT: i128 = 1 << 30;
+const EXPONENT_LIMIT: i128 = 1 << 30;
 
 /// The written exponent, or the cap with its sign where that is nearer to zero.
 fn written_exponent(tail: &Tail<'_>) -> i128
@@ -253,7 +252,7 @@ fn written_exponent(tail: &Tail<'_>) -> i128
 
 /// The exponent that digits have once tens are taken out: the written one less the count of fraction digits, and
 /// one more for each zero at the end. There is none past the limit.
-pub fn stripped_exponent(tail: &Tail<'_>, tens: u128) -> Option<i32>
+fn stripped_exponent(tail: &Tail<'_>, tens: u128) -> Option<i32>
     requires digits { AllDigits tail.now.exponent.now }
     requires tens { tens < 2 ^ 65 }
     ensures some { let written = signed tail.now.negative (value tail.now.exponent.now) in
@@ -269,7 +268,7 @@ pub fn stripped_exponent(tail: &Tail<'_>, tens: u128) -> Option<i32>
     Some(exponent as i32)
 }
 
-/// A number that isn't too large, whose stripped digits still lie in its text, in two pieces.
+/// A number whose exponent is within the limit, and whose stripped digits still lie in its text, in two pieces.
 #[derive(Clone, Copy)]
 pub struct Scanned<'a> {
     pub negative: bool,
@@ -280,7 +279,7 @@ pub struct Scanned<'a> {
 }
 
 impl<'a> Spelling<'a> {
-    /// The number of the parts, with the zeros taken off its digits.
+    /// The number of the parts, with the zeros taken off its digits. There is none where its stripped exponent is past the limit.
     pub fn scan(&self) -> Option<Scanned<'a>>
         requires spelled { (text : List ℕ) × IsSpelled text (parts_of self.now) }
         requires digits { AllDigits self.now.tail.exponent.now }

@@ -20,10 +20,10 @@ pub fn read_power(bytes: &[u8]) -> Option<(i16, usize)>
         → IsPowerTail bytes.now rest → r.1 + length rest ≡ length bytes.now) }
     ensures none { IfNone result ((rest : List ℕ) → IsPowerTail bytes.now rest → ⊥) }
 {
-    if bytes.is_empty() || (bytes[0] != b'e' && bytes[0] != b'E') {
+    let [b'e' | b'E', signed @ ..] = bytes else {
         return None;
-    }
-    let (negative, digits) = split_exponent_sign(&bytes[1..]);
+    };
+    let (negative, digits) = split_exponent_sign(signed);
     let (magnitude, count) = take_digits(0, digits, EXPONENT_DIGITS);
     let (_, rest) = digits.split_at(count);
     if count == 0 || goes_on(rest) {

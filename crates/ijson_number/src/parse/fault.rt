@@ -14,7 +14,7 @@ fn after_number(text: &[u8]) -> &[u8]
     if whole.is_empty() {
         return rest;
     }
-    if whole[0] == b'0' && whole.len() > 1 {
+    if let [b'0', _, ..] = whole {
         return &unsigned[1..];
     }
     if let [b'.', behind @ ..] = rest {

@@ -89,16 +89,15 @@ fn take_tail(number: u64, count: usize, bytes: &[u8]) -> Option<(u64, usize, &[u
     ensures none { IfNone result ((front rest : List ℕ)
         → IsPlainTail number count bytes.now front rest → ⊥) }
 {
-    if !bytes.is_empty() && bytes[0] == b'.' {
-        let behind = &bytes[1..];
-        let (longer, scale) = take_lanes(number, behind, places_left(number, count));
-        if scale == 0 {
-            return None;
-        }
-        let (_, rest) = behind.split_at(scale);
-        return Some((longer, scale, rest));
+    let [b'.', behind @ ..] = bytes else {
+        return Some((number, 0, bytes));
+    };
+    let (longer, scale) = take_lanes(number, behind, places_left(number, count));
+    if scale == 0 {
+        return None;
     }
-    Some((number, 0, bytes))
+    let (_, rest) = behind.split_at(scale);
+    Some((longer, scale, rest))
 }
 
 /// The number at the front of a text, without the exponent that may stand behind it: what its digits write, how many of them stand
@@ -141,5 +140,8 @@ pub fn goes_on(bytes: &[u8]) -> bool
     ensures on { IsTrue result → GoesOnWithNone bytes.now → ⊥ }
     ensures stops { IsFalse result → GoesOnWithNone bytes.now }
 {
-    !bytes.is_empty() && bytes[0].is_ascii_alphanumeric()
+    match bytes {
+        [byte, ..] => byte.is_ascii_alphanumeric(),
+        [] => false,
+    }
 }

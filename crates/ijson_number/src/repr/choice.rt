@@ -113,6 +113,8 @@ impl INumber {
     ghost use Rattle.ijson_number.specs.private.Prefix.{IsDeepPrefix, IsOutsidePower, IsPowerSmall, IsPrefix, IsWordPrefix};
     ghost use Rattle.ijson_number.specs.private.Prefix.{prefix_number, power_number};
     ghost use Rattle.ijson_number.specs.private.Scanned.{IsScanned, scanned_number};
+    ghost use Rattle.ijson_number.specs.Stripped.{stripped_number};
+    ghost use Rattle.ijson_number.specs.Strips.{signed};
     ghost use Rattle.ijson_number.specs.private.StrippedNumber.{decimal_of};
 
     /// The number whose digits still lie in its text. Where they are at most 20, they are made digits in a buffer.
@@ -121,7 +123,7 @@ impl INumber {
         ensures number { IfOk result (λ n. n.decimal ≡ scanned_number scanned.now) }
         ensures refused { OnErr result (is_digits (form_of (scanned_number scanned.now)) ≡ true) }
     {
-        if scanned.front.len() as u128 + scanned.back.len() as u128 > MAX_DIGITS as u128 {
+        if scanned.front.len() + scanned.back.len() > MAX_DIGITS {
             let stored = Stored::from_scanned(alloc, scanned)?;
             return Ok(INumber { stored });
         }
@@ -172,15 +174,7 @@ impl INumber {
         ensures refused { OnErr result (is_digits (form_of (power_number prefix power)) ≡ true) }
     {
         let exponent = power - prefix.scale as i16;
-        let mut buffer = [0; MAX_DIGITS];
-        let number = StrippedNumber::from_magnitude(
-            prefix.negative,
-            prefix.magnitude,
-            exponent,
-            true,
-            &mut buffer,
-        );
-        INumber::from_stripped(alloc, &number)
+        INumber::from_magnitude(alloc, prefix.negative, prefix.magnitude, exponent, true)
     }
 
     /// The number of a prefix.
@@ -238,12 +232,30 @@ impl INumber {
         ensures refused { OnErr result (is_digits (form_of (prefix_number prefix)) ≡ true) }
     {
         let exponent = -(prefix.scale as i16);
+        let point = prefix.scale > 0;
+        INumber::from_magnitude(alloc, prefix.negative, prefix.magnitude, exponent, point)
+    }
+
+    /// A mantissa times a power of ten, by its stripped digits. It is in line, since each of its callers is in a call already.
+    #[inline(always)]
+    fn from_magnitude(
+        alloc: Global,
+        negative: bool,
+        magnitude: u64,
+        exponent: i16,
+        point: bool,
+    ) -> Result<INumber, AllocError>
+        requires { IsNum (stripped_number (signed negative magnitude) exponent point) }
+        ensures number { IfOk result (λ n. n.decimal ≡ stripped_number (signed negative magnitude) exponent point) }
+        ensures refused { OnErr result
+            (is_digits (form_of (stripped_number (signed negative magnitude) exponent point)) ≡ true) }
+    {
         let mut buffer = [0; MAX_DIGITS];
         let number = StrippedNumber::from_magnitude(
-            prefix.negative,
-            prefix.magnitude,
+            negative,
+            magnitude,
             exponent,
-            prefix.scale > 0,
+            point,
             &mut buffer,
         );
         INumber::from_stripped(alloc, &number)

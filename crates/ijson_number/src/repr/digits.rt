@@ -115,7 +115,7 @@ pub fn push_in_place(digits: &mut ArrayVec<u8, MAX_DIGITS>, text: &[u8])
     }
 }
 
-/// Appends the digits that a text has.
+/// The same to a list, which has memory of its own.
 pub fn push_apart(digits: &mut Vec<u8>, text: &[u8]) -> Result<(), AllocError>
     requires { AllDigits text.now }
     ensures { OnOk result (digits.new.items ≡ digits.old.items ++ digits_from_text text.now) }
@@ -136,8 +136,8 @@ pub fn place_of(digits: &[u8], exponent: i32) -> i128
     digits.len() as i128 + exponent as i128
 }
 
-/// A magnitude without the zeros at its end, of which so many places behind the point hold one each at most, and how many of
-/// these places are left.
+/// A magnitude with the zeros taken off its end, but at most so many, and how many more might have been taken off. Where there are so
+/// many places behind the point, those are the places that are left.
 pub fn without_zeros(magnitude: u64, scale: usize) -> (u64, usize)
     ensures tens { magnitude ≡ result.0 * 10 ^ (scale - result.1) }
     ensures fewer { result.1 ≤ scale }

@@ -13,6 +13,7 @@ use crate::repr::digits::{ShortDigits, WORD_DIGITS, without_zeros};
 use crate::repr::stored::{ShortNumber, Stored};
 use crate::repr::word::{PACKED_END, Word};
 
+/// The magnitude, or what is as far below zero.
 fn with_sign(negative: bool, magnitude: u64) -> i64
     requires { magnitude < 2 ^ 63 }
     ensures { result ≡ signed negative magnitude }

@@ -112,7 +112,7 @@ impl Stored {
         requires many { 19 < length scanned.now.front.now + length scanned.now.back.now }
         ensures { IfOk result (λ s. stored_form s ≡ digits_form (scanned_number scanned.now)) }
     {
-        let mut digits = Vec::new(alloc);
+        let mut digits = Vec::with_capacity(alloc, scanned.front.len() + scanned.back.len())?;
         push_apart(&mut digits, scanned.front)?;
         push_apart(&mut digits, scanned.back)?;
         let long = LongNumber {

@@ -24,6 +24,7 @@ pub fn is_packed_mantissa(mantissa: i128) -> bool
 }
 
 impl Word {
+    /// A mantissa, and what bits 4 to 7 are.
     fn from_code(mantissa: i64, code: u64) -> Word
         requires mantissa { IsTrue (fits_packed mantissa) }
         requires code { code < 16 }

@@ -10,7 +10,7 @@ use std::{fmt, str};
 
 /// So many zeros.
 #[derive(Drop)]
-pub struct Zeros(pub u128);
+struct Zeros(u128);
 
 impl fmt::Display for Zeros {
     ghost output = { λ z. Some (zeros_text z.0) };
@@ -37,8 +37,8 @@ pub fn run_text<'a>(digits: &[u8], buffer: &'a mut [u8; MAX_DIGITS]) -> &'a str
 
 /// Digits from 0 to 9.
 #[derive(Drop)]
-pub struct DigitsText<'a> {
-    pub digits: &'a [u8],
+struct DigitsText<'a> {
+    digits: &'a [u8],
     ghost below_ten: { All (λ d. d < 10) digits.now },
 }
 
@@ -47,20 +47,18 @@ impl fmt::Display for DigitsText<'_> {
 
     fn fmt<W: fmt::Write>(&self, f: &mut fmt::Formatter<W>) -> fmt::Result {
         let mut buffer = [0; MAX_DIGITS];
-        let runs = self.digits.len() / MAX_DIGITS;
-        for run in 0..runs {
-            let digits = &self.digits[run * MAX_DIGITS..run * MAX_DIGITS + MAX_DIGITS];
-            f.write_str(run_text(digits, &mut buffer))?;
+        for run in self.digits.chunks(MAX_DIGITS) {
+            f.write_str(run_text(run, &mut buffer))?;
         }
-        f.write_str(run_text(&self.digits[runs * MAX_DIGITS..], &mut buffer))
+        Ok(())
     }
 }
 
 /// Digits, of which there is one at least, with the first one before the point, and a power of ten.
 #[derive(Drop)]
-pub struct Scientific<'a> {
-    pub digits: &'a [u8],
-    pub place: i128,
+struct Scientific<'a> {
+    digits: &'a [u8],
+    place: i128,
     ghost below_ten: { All (λ d. d < 10) digits.now },
     ghost some: { 0 < length digits.now },
     ghost low: { neg_ℤ (pos (2 ^ 70)) <ℤ place },
@@ -85,9 +83,9 @@ impl fmt::Display for Scientific<'_> {
 
 /// Digits with the point so many places behind their front.
 #[derive(Drop)]
-pub struct Pointed<'a> {
-    pub digits: &'a [u8],
-    pub place: i128,
+struct Pointed<'a> {
+    digits: &'a [u8],
+    place: i128,
     ghost below_ten: { All (λ d. d < 10) digits.now },
     ghost low: { neg_ℤ (pos (2 ^ 70)) <ℤ place },
     ghost high: { place <ℤ pos (2 ^ 70) },
@@ -97,18 +95,16 @@ impl fmt::Display for Pointed<'_> {
     ghost output = { λ t. Some (point_text t.digits.now t.place) };
 
     fn fmt<W: fmt::Write>(&self, f: &mut fmt::Formatter<W>) -> fmt::Result {
+        let digits = DigitsText {
+            digits: self.digits,
+        };
         if self.place <= 0 {
             let zeros = Zeros(self.place.unsigned_abs());
-            let digits = DigitsText {
-                digits: self.digits,
-            };
             return write!(f, "0.{zeros}{digits}");
         }
-        if self.digits.len() as i128 <= self.place {
-            let zeros = Zeros((self.place - self.digits.len() as i128).unsigned_abs());
-            let digits = DigitsText {
-                digits: self.digits,
-            };
+        let count = self.digits.len() as i128;
+        if count <= self.place {
+            let zeros = Zeros((self.place - count).unsigned_abs());
             return write!(f, "{digits}{zeros}.0");
         }
         let (whole, fraction) = self.digits.split_at(self.place as usize);
@@ -127,10 +123,10 @@ pub fn is_scientific(place: i128, exponent: i32) -> bool
 
 /// Digits, of which there is one at least, and a power of ten, with float shape or without.
 #[derive(Drop)]
-pub struct Shape<'a> {
-    pub digits: &'a [u8],
-    pub exponent: i32,
-    pub point: bool,
+struct Shape<'a> {
+    digits: &'a [u8],
+    exponent: i32,
+    point: bool,
     ghost below_ten: { All (λ d. d < 10) digits.now },
     ghost some: { 0 < length digits.now },
 }
@@ -143,8 +139,7 @@ impl fmt::Display for Shape<'_> {
         if !self.point {
             let digits = DigitsText { digits };
             let zeros = Zeros(self.exponent.unsigned_abs() as u128);
-            fmt::Display::fmt(&digits, f)?;
-            return fmt::Display::fmt(&zeros, f);
+            return write!(f, "{digits}{zeros}");
         }
         let place = place_of(digits, self.exponent);
         if is_scientific(place, self.exponent) {
@@ -166,11 +161,7 @@ impl fmt::Display for INumber {
         let number = self.stripped(&mut buffer);
         let digits = number.digits;
         if digits.is_empty() {
-            return if number.point {
-                write!(f, "0.0")
-            } else {
-                write!(f, "0")
-            };
+            return f.write_str(if number.point { "0.0" } else { "0" });
         }
         let shape = Shape {
             digits,

@@ -26,6 +26,9 @@ use crate::write::lanes::{
 use std::alloc::AllocError;
 use std::simd::prelude::*;
 
+/// The most bytes that a text with the point has beside the digits: a minus, 20 zeros and `.0`.
+const BESIDE_DIGITS: usize = 23;
+
 /// Appends the minus, if there is one, and a whole number over ten to the places, with so many digits behind the point. It stays a
 /// call, as `push_integer` and `push_digits` do: in a longer function a compiler leaves each append of a few bytes a call.
 #[inline(never)]
@@ -253,22 +256,24 @@ impl INumber {
         ensures refused { OnErr result (string_bytes out.new ≡ string_bytes out.old) }
     {
         let (mut buffer, mut text_buffer) = ([0; MAX_DIGITS], [0; TEXT_BUFFER]);
-        if let Some(text) = self.stripped(&mut buffer).short_text(&mut text_buffer) {
+        let number = self.stripped(&mut buffer);
+        if let Some(text) = number.short_text(&mut text_buffer) {
             return out.push_str(text);
         }
-        self.push_formatted(out)
+        self.push_formatted(number.digits.len() + BESIDE_DIGITS, out)
     }
 
     /// Appends the text of a number that `short_text` leaves too, by a formatter. What that leaves after an error is in no clause of
-    /// std, so it writes into a text of its own.
-    fn push_formatted(&self, out: &mut String) -> Result<(), AllocError>
+    /// std, so it writes into a text of its own, which is made with so much room.
+    fn push_formatted(&self, room: usize, out: &mut String) -> Result<(), AllocError>
         requires row { IsRowText self.now.decimal → ⊥ }
         requires buffer { IsBufferText self.now.decimal → ⊥ }
         ensures written { OnOk result (string_bytes out.new
             ≡ string_bytes out.old ++ num_text self.now.decimal) }
         ensures refused { OnErr result (string_bytes out.new ≡ string_bytes out.old) }
     {
-        let text = format!(in *out.allocator(); "{self}")?;
+        let mut text = String::with_capacity(*out.allocator(), room)?;
+        write!(text, "{self}")?;
         out.push_str(text.as_str())
     }
 

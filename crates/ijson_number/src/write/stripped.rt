@@ -72,7 +72,7 @@ impl StrippedNumber<'_> {
 impl INumber {
     /// Appends the stripped digits, the most significant first, and answers the stripped exponent. Neither the sign nor the point is
     /// written. Zero has no digit and the exponent 0; `-0.50` has the digit 5 and the exponent -1, and `100` the digit 1 and the
-    /// exponent 2. It may want room for 16 bytes more than the digits. The error comes where there was not enough memory. Some of the
+    /// exponent 2. It may want room for 15 bytes more than the digits. The error comes where there was not enough memory. Some of the
     /// digits, or all, may then stand in `out`, behind what was there. It takes time linear in the digits.
     pub fn push_stripped_digits(&self, out: &mut String) -> Result<i32, AllocError>
         ensures digits { OnOk result (string_bytes out.new

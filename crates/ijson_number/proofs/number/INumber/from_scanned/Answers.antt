@@ -37,13 +37,13 @@ invariant_of-result c =
     let s = c.args.scanned.now in
     (stored_num (scanned_number s) _ c.requires.num (c.in_ok-stored.ensures ∙ sym (many_form s c.requires (omega arith))), tt)
 
-pub invariant_of-result-then-scanned : goal.invariant_of-result-then-scanned
-invariant_of-result-then-scanned c =
+pub invariant_of-result-then-scanned-gt-MAX_DIGITS : goal.invariant_of-result-then-scanned-gt-MAX_DIGITS
+invariant_of-result-then-scanned-gt-MAX_DIGITS c =
     let s = c.args.scanned.now in
     stored_form_of (scanned_number s) _ c.requires.num (c.in_ok-stored.ensures ∙ sym (many_form s c.requires (omega arith)))
 
-pub returns-then-scanned-clause-number : goal.returns-then-scanned-clause-number
-returns-then-scanned-clause-number c =
+pub returns-then-scanned-gt-MAX_DIGITS-clause-number : goal.returns-then-scanned-gt-MAX_DIGITS-clause-number
+returns-then-scanned-gt-MAX_DIGITS-clause-number c =
     let s = c.args.scanned.now in
     form_has (scanned_number s) _ c.requires.num.plain (c.in_ok-stored.ensures ∙ sym (many_form s c.requires (omega arith)))
 

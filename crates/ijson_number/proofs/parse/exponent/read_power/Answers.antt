@@ -1,11 +1,11 @@
-use Rattle.std.proofs.Common.{List, drop, ◌≡◌, ℕ, ◌<◌, ◌^◌, ◌⊎◌, inl, inr, get_or, ap, sym, ◌∙◌, length, refl, arith}
+use Rattle.std.proofs.Common.{List, drop, ◌≡◌, ℕ, ◌<◌, ◌^◌, ◌⊎◌, get_or, ap, sym, ◌∙◌, length, refl, arith}
 use Rattle.std.specs.Prelude.{pos}
 use mir.Syntax.{w16}
 use mir.Val.{to_z}
 use Rattle.ijson_number.specs.PowerFront.{IsPowerTail}
 use Rattle.ijson_number.specs.Strips.{signed}
 use Rattle.ijson_number.specs.private.Reading.{IsExponentSignTaken}
-use Rattle.std.proofs.lemmas.Bool.Decides.{nat_tests}
+use Rattle.std.proofs.lemmas.Grind.{common_steps}
 use Rattle.std.proofs.lemmas.Int.{ints}
 use Rattle.std.proofs.lemmas.List.{length-append, take_rest}
 use Rattle.ijson_number.proofs.parsing.PrefixNumbers.{digits_few, power_at}
@@ -13,7 +13,7 @@ use Rattle.ijson_number.proofs.parsing.PowerTails.{behind_taken, power_rest}
 use Rattle.ijson_number.proofs.storing.ShortNumbers.{negated}
 use Rattle.ijson_number.proofs.parse.exponent.read_power.Goals as goal
 use Rattle.ijson_number.proofs.parse.exponent.read_power.Goals.{After-take_digits-magnitude}
-use Rattle.ijson_number.proofs.parse.exponent.read_power.Goals.{then-bytes-ne101, else-bytes-ne101, then-negative, else-negative}
+use Rattle.ijson_number.proofs.parse.exponent.read_power.Goals.{then-negative, else-negative}
 use Rattle.ijson_number.proofs.parse.exponent.read_power.Goals.{then-count-eq0-via-then-count-eq0}
 use Rattle.ijson_number.proofs.parse.exponent.read_power.Goals.{then-count-eq0-via-else-count-eq0+then-goes_on}
 
@@ -57,10 +57,7 @@ returns-clause-power c =
     let t = c.take_digits-magnitude in
     let at = (goal.at.returns-clause-power c).After-take_digits-magnitude in
     let few = small at in
-    let begins : get_or bytes 0 0 ≡ 101 ⊎ get_or bytes 0 0 ≡ 69 = elim c.if-bytes-ne101.branch [
-      | then-bytes-ne101 w ↦ inr (grind (arith, nat_tests))
-      | else-bytes-ne101 w ↦ inl (grind (arith, nat_tests))
-    ] in
+    let begins : get_or bytes 0 0 ≡ 101 ⊎ get_or bytes 0 0 ≡ 69 = grind (arith, common_steps) in
     let power : to_z w16 c.if-negative.power-bits ≡ signed negative t.result.0 = elim c.if-negative.branch [
       | then-negative w ↦ w.power-is ∙ negated w16 t.result.0 (omega (arith, ints, few)) (omega (arith, ints, few))
           ∙ ap (λ n. signed n t.result.0) (sym w.if-negative.true)

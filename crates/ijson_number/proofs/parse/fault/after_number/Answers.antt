@@ -1,4 +1,4 @@
-use Rattle.std.proofs.Common.{arith, rules}
+use Rattle.std.proofs.Common.{arith}
 use Rattle.std.proofs.lemmas.Grind.{common_steps}
 use Rattle.ijson_number.proofs.parse.fault.after_number.Goals as goal
 
@@ -12,14 +12,8 @@ slice_bounds-result-count c = grind (arith, common_steps)
 pub slice_bounds-result-start : goal.slice_bounds-result-start
 slice_bounds-result-start c = grind (arith, common_steps)
 
-pub returns-then-whole-gt1 : goal.returns-then-whole-gt1
-returns-then-whole-gt1 c = search rules
-
 pub returns-then-is_empty-2 : goal.returns-then-is_empty-2
 returns-then-is_empty-2 c = grind (arith, common_steps)
-
-pub returns-in_default-rest : goal.returns-in_default-rest
-returns-in_default-rest c = search rules
 
 pub returns-in_default-rest-2 : goal.returns-in_default-rest-2
 returns-in_default-rest-2 c = grind (arith, common_steps)

@@ -32,7 +32,7 @@ point_taken c =
     let split = c.split_at.ensures in
     let behind = take (length bytes - 1) (drop 1 bytes) in
     record {
-      text_is = point_first bytes c.split_at.result.0.now c.split_at.result.1.now (grind arith) c.if-bytes-eq46.true
+      text_is = point_first bytes c.split_at.result.0.now c.split_at.result.1.now (grind arith) (grind arith)
           (rw (split.front, split.back) (sym (take-append-drop taken.result.1 behind)));
       all_digits = rw split.front taken.ensures.digits;
       count = split.front_len;
@@ -61,8 +61,22 @@ take_lanes-longer-requires c =
     let left = c.places_left.ensures in
     room c.args.number c.args.count c.places_left.result left.zero left.others c.requires.room
 
-pub returns-then-bytes-eq46-clause-tail : goal.returns-then-bytes-eq46-clause-tail
-returns-then-bytes-eq46-clause-tail c =
+pub returns-in_default-clause-tail : goal.returns-in_default-clause-tail
+returns-in_default-clause-tail c =
+    let more = no_more (c.args.number + 1) (19 - c.args.count) in
+    record {
+      front = [];
+      digits = [];
+      text_is = refl;
+      fraction = (refl, refl);
+      count = refl;
+      value = refl;
+      few = omega arith;
+      small = omega (arith, more, c.requires.room);
+    }
+
+pub returns-clause-tail : goal.returns-clause-tail
+returns-clause-tail c =
     let taken = point_taken c in
     let digits = c.split_at.result.0.now in
     let left = c.places_left.ensures in
@@ -81,22 +95,8 @@ returns-then-bytes-eq46-clause-tail c =
           (room c.args.number c.args.count c.places_left.result left.zero left.others c.requires.room));
     }
 
-pub returns-clause-tail : goal.returns-clause-tail
-returns-clause-tail c =
-    let more = no_more (c.args.number + 1) (19 - c.args.count) in
-    record {
-      front = [];
-      digits = [];
-      text_is = refl;
-      fraction = (refl, refl);
-      count = refl;
-      value = refl;
-      few = omega arith;
-      small = omega (arith, more, c.requires.room);
-    }
-
-pub returns-then-bytes-eq46-clause-rest : goal.returns-then-bytes-eq46-clause-rest
-returns-then-bytes-eq46-clause-rest c = λ front rest t.
+pub returns-clause-rest : goal.returns-clause-rest
+returns-clause-rest c = λ front rest t.
     let taken = point_taken c in
     let left = c.places_left.ensures in
     (point_tail c.places_left.result c.args.bytes.now front rest c.split_at.result.0.now c.split_at.result.1.now taken.text_is

@@ -17,7 +17,7 @@ returns c =
     let is : c.push_apart-2.new.digits.items ≡ scanned_digits s =
     joined s.front.now s.back.now c.push_apart.new.digits.items c.push_apart-2.new.digits.items
     (c.in_ok-push_apart.ensures
-    ∙ ap (λ x. x ++ digits_from_text s.front.now) c.new-digits.ensures.items) c.in_ok-push_apart-2.ensures in
+    ∙ ap (λ x. x ++ digits_from_text s.front.now) c.in_ok-digits.ensures.items) c.in_ok-push_apart-2.ensures in
     ap long_form c.in_ok-long.ensures.ok
     ∙ rw (is, to_z-of_z w32 s.exponent fits) (sym (stored_form s.negative (scanned_digits s) s.exponent s.point c.requires.scanned.stored))
 

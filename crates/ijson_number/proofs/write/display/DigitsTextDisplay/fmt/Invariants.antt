@@ -1,8 +1,15 @@
-use Rattle.std.proofs.Common.{◌*◌, take}
+use Rattle.std.proofs.Common.{◌≡◌, ◌<◌, ◌++◌, List, ℕ, All}
 use Rattle.std.specs.Fmt.{HasWritten, IsPlainFormatter}
+use Rattle.std.specs.Slice.Iter.{chunks_rest, chunks_size}
 use Rattle.ijson_number.specs.Text.{digits_text}
 use Rattle.ijson_number.proofs.write.display.DigitsTextDisplay.fmt.Given as goal
 
+-- with the digits that are left, all are written
 abbrev pub invariant-loop-run : goal.invariant-loop-run
 invariant-loop-run g l =
-    IsPlainFormatter l.initial.f → HasWritten g.W.Write.write_str_gives l.initial.f (digits_text (take (l.run * 20) l.self.digits.now)) l.f
+    (goal.iterator-loop-run g).can_next l.run-iterator
+    × (goal.iterator-loop-run g).is_finite l.run-iterator
+    × (chunks_size l.run-iterator ≡ 20)
+    × All (λ d. d < 10) (chunks_rest l.run-iterator)
+    × ((done : List ℕ) × (done ++ chunks_rest l.run-iterator ≡ l.self.digits.now)
+    × (IsPlainFormatter l.initial.f → HasWritten g.W.Write.write_str_gives l.initial.f (digits_text done) l.f))

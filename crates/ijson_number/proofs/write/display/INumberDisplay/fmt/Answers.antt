@@ -23,7 +23,7 @@ shown g c minus branch =
 pub returns-then-number-2-clause-writes : goal.returns-then-number-2-clause-writes
 returns-then-number-2-clause-writes g c = λ p ok.
     has_written_of_eq _ _ _ _ _ (shown g (goal.at.returns-then-number-2-clause-writes g c).Else-is_empty true c.if-number-2.true)
-    (c.write-then-number-2.ensures.writes p ok)
+    (c.write.ensures.writes p ok)
 
 pub returns-else-number-2-clause-writes : goal.returns-else-number-2-clause-writes
 returns-else-number-2-clause-writes g c = λ p ok.
@@ -31,17 +31,11 @@ returns-else-number-2-clause-writes g c = λ p ok.
     (c.fmt.ensures.writes p ok)
 
 -- what the check tries where no answer stands takes longer than these
-pub returns-then-number-clause-writes : goal.returns-then-number-clause-writes
-returns-then-number-clause-writes g c = grind (arith, common_steps)
+pub returns-then-is_empty-clause-writes : goal.returns-then-is_empty-clause-writes
+returns-then-is_empty-clause-writes g c = grind (arith, common_steps)
 
-pub returns-then-number-clause-styled : goal.returns-then-number-clause-styled
-returns-then-number-clause-styled g c = search rules
-
-pub returns-else-number-clause-writes : goal.returns-else-number-clause-writes
-returns-else-number-clause-writes g c = grind (arith, common_steps)
-
-pub returns-else-number-clause-styled : goal.returns-else-number-clause-styled
-returns-else-number-clause-styled g c = search rules
+pub returns-then-is_empty-clause-styled : goal.returns-then-is_empty-clause-styled
+returns-then-is_empty-clause-styled g c = search rules
 
 pub returns-then-number-2-clause-styled : goal.returns-then-number-2-clause-styled
 returns-then-number-2-clause-styled g c = search rules

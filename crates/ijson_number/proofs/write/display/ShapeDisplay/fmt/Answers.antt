@@ -28,7 +28,7 @@ pub returns-then-is_scientific-clause-writes : goal.returns-then-is_scientific-c
 returns-then-is_scientific-clause-writes g c = λ p ok.
     has_written_of_eq _ _ _ _ _
     (shown g (goal.at.returns-then-is_scientific-clause-writes g c).After-is_scientific true c.if-is_scientific.true)
-    (c.fmt-then-is_scientific.ensures.writes p ok)
+    (c.fmt.ensures.writes p ok)
 
 pub returns-else-is_scientific-clause-writes : goal.returns-else-is_scientific-clause-writes
 returns-else-is_scientific-clause-writes g c = λ p ok.
@@ -37,12 +37,6 @@ returns-else-is_scientific-clause-writes g c = λ p ok.
     (c.fmt-else-is_scientific.ensures.writes p ok)
 
 -- what the check tries where no answer stands takes longer than these
-pub returns-in_err-fmt-clause-writes : goal.returns-in_err-fmt-clause-writes
-returns-in_err-fmt-clause-writes g c = search rules
-
-pub returns-in_err-fmt-clause-styled : goal.returns-in_err-fmt-clause-styled
-returns-in_err-fmt-clause-styled g c = search rules
-
 pub returns-then-not-self-clause-writes : goal.returns-then-not-self-clause-writes
 returns-then-not-self-clause-writes g c = grind (arith, common_steps)
 
