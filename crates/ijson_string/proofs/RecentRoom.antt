@@ -3,12 +3,16 @@ use Rattle.std.proofs.Common.{◌≡◌, ◌∙◌, ◌≤◌, ◌++◌, ap, ℕ
 use Rattle.std.specs.Prelude.{nat_lt}
 use Rattle.std.proofs.Math.Seq.{take-append_seam, take-length}
 use Rattle.std.proofs.lemmas.List.{take_all}
-use Rattle.ijson_string.specs.private.Recent.{recent_for, recent_size}
+use Rattle.ijson_string.specs.private.Recent.{recent_for, recent_slots}
 
 -- there are at most 2048 slots
-pub recent_for-most : (buckets : ℕ) → recent_for buckets ≤ recent_size
+pub recent_for-most : (buckets : ℕ) → recent_for buckets ≤ recent_slots
 recent_for-most buckets =
-    elim (nat_lt buckets recent_size) as (λ b. (if b then 0 else recent_size) ≤ recent_size) [ true ↦ omega arith | false ↦ omega arith ]
+    elim (nat_lt buckets recent_slots) as (λ b. (if b then 0 else recent_slots) ≤ recent_slots) [ true ↦ omega arith | false ↦ omega arith ]
+
+-- and beside more buckets no fewer
+pub recent_for-grows : (fewer more : ℕ) → fewer ≤ more → recent_for fewer ≤ recent_for more
+recent_for-grows fewer more le = grind arith
 
 -- a list that is filled up to a length begins as it was, and so does one that stays
 pub begins_alike : {A : Type 0} (n : ℕ) (xs rest : List A) (filled : Bool) → length xs ≤ n

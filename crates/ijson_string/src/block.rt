@@ -115,8 +115,8 @@ impl Block<23> {
     }
 }
 
-/// Copies so many bytes of the text to where they stand in it, behind those that were copied before. A copy of a size that is known
-/// where this is compiled is a few moves, and any other is a call, which branches on its size.
+/// Copies `size` bytes of the text, from `start` on, to the same place in `bytes`, where all before `start` stand already. A copy of
+/// a size that is known where this is compiled is a few moves, and any other is a call, which branches on its size.
 #[inline(always)]
 fn put_piece(bytes: &mut [u8], text: &[u8], start: usize, size: usize)
     requires inside { start + size ≤ length text.now }

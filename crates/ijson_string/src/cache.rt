@@ -5,7 +5,7 @@ ghost use Rattle.ijson_string.specs.Cache.{AreLong};
 ghost use Rattle.ijson_string.specs.laws.Texts.{AreLong-prop};
 ghost use Rattle.ijson_string.specs.private.IsCache.{set_of};
 
-use crate::hash::{hash_of, mix};
+use crate::hash::hash_of;
 use crate::table::TextTable;
 use crate::text::IString;
 use std::alloc::{AllocError, Global};
@@ -74,7 +74,7 @@ impl<S: BuildHasher> StringCache<S> {
         ensures exact { result ≡ set.contains self.now.texts text.now }
         ensures short { length text.now ≤ 7 → result ≡ false }
     {
-        let hash = mix(hash_of(&self.hasher, text));
+        let hash = hash_of(&self.hasher, text);
         self.texts.find(hash, text).is_some()
     }
 
@@ -87,7 +87,8 @@ impl<S: BuildHasher> StringCache<S> {
     }
 
     /// The shared copy of a long text, which is added if it is new. The text that followed the last time is compared first, and
-    /// where it is this one, nothing is hashed. Where memory is refused, or 2^32 - 1 texts are there, the set stays as it was.
+    /// where it is this one, nothing is hashed. Where memory is refused, 2^32 - 1 texts are there, or the count of the text's owners
+    /// is full, the set stays as it was.
     pub(crate) fn share(&mut self, text: &str) -> Result<IString, AllocError>
         requires { 7 < length text.now }
         ensures text { IfOk result (λ shared. shared ≡ text.now) }
@@ -97,7 +98,7 @@ impl<S: BuildHasher> StringCache<S> {
         if let Some(position) = self.texts.find_following(text) {
             return self.texts.shared(text, position);
         }
-        let hash = mix(hash_of(&self.hasher, text));
+        let hash = hash_of(&self.hasher, text);
         if let Some(position) = self.texts.find(hash, text) {
             return self.texts.shared_by(hash, text, position);
         }

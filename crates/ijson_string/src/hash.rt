@@ -11,8 +11,8 @@ const MIXER: u64 = 0x9E37_79B9_7F4A_7C15;
 
 /// A text as it is hashed: its bytes in one write, with nothing behind them, since nothing but the text is hashed.
 #[derive(Clone, Copy, PartialEq, Eq)]
-pub(crate) struct TextBytes<'a> {
-    pub(crate) bytes: &'a [u8],
+struct TextBytes<'a> {
+    bytes: &'a [u8],
 }
 
 impl<'a> Hash for TextBytes<'a> {
@@ -25,19 +25,19 @@ impl<'a> Hash for TextBytes<'a> {
     }
 }
 
-/// The hash of a text.
-pub(crate) fn hash_of<S: BuildHasher>(hasher: &S, text: &str) -> u64
-    ensures { result ≡ S.Hasher.finish (fold S.Hasher.write (S.build_hasher hasher.now) (text.now ∷ [])) }
+/// The hash of a text, in 32 bits.
+pub(crate) fn hash_of<S: BuildHasher>(hasher: &S, text: &str) -> u32
+    ensures { result ≡ mixed (S.Hasher.finish (fold S.Hasher.write (S.build_hasher hasher.now) (text.now ∷ []))) }
 {
-    hasher.hash_one(TextBytes {
+    mix(hasher.hash_one(TextBytes {
         bytes: text.as_bytes(),
-    })
+    }))
 }
 
 /// A hash in 32 bits: the upper half of a product in which each bit of the hash counts, so that a hasher which leaves some bits as
 /// they are does too.
 #[tactic(auto, unfolding(crate::specs::private::Chains::mixed))]
-pub(crate) fn mix(hash: u64) -> u32
+fn mix(hash: u64) -> u32
     ensures { result ≡ mixed hash }
 {
     (hash.wrapping_mul(MIXER) >> 32) as u32

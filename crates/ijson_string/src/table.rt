@@ -1,7 +1,7 @@
 //! `TextTable`: texts in the order in which they came, found by their hash.
 ghost use Rattle.std.specs.Prelude.{◌≡◌, ℕ, ◌<◌, [], ◌∷◌, ◌++◌, length, get_or, take, Some, IfSome, IfOk, OnOk, OnErr, is_some};
 ghost use Rattle.std.specs.List.{list_any};
-ghost use Rattle.ijson_string.specs.private.Followers.{followed_by, text_size, IsFollower};
+ghost use Rattle.ijson_string.specs.private.Followers.{followed_by, wrapped_len, IsFollower};
 ghost use Rattle.ijson_string.specs.private.Keys.{is_key, no_key, IsKeyAt, IsTextAt};
 ghost use Rattle.ijson_string.specs.private.Recent.{with_recent, IsRecent};
 ghost use Rattle.ijson_string.specs.private.Table.{no_table, buckets_for};
@@ -53,9 +53,9 @@ impl Model for TextTable {
         × (length t.recent ≡ recent_for (length t.buckets.items)) };
 }
 
-/// The length of a text, in 32 bits.
-fn text_size(text: &str) -> u32
-    ensures { result ≡ text_size text.now }
+/// The length of a text, modulo 2^32.
+fn wrapped_len(text: &str) -> u32
+    ensures { result ≡ wrapped_len text.now }
 {
     (text.len() % (1 << 32)) as u32
 }
@@ -85,11 +85,11 @@ impl TextTable {
     /// nothing. No text is hashed, and only one of this length is read.
     pub(crate) fn find_following(&self, text: &str) -> Option<u32>
         ensures found { IfSome result (λ at. IsTextAt text.now self.now.keys at) }
-        ensures guessed { IfSome result (λ at. IsFollower at (text_size text.now) self.now.followers) }
-        ensures taken { (at : ℕ) → IsFollower at (text_size text.now) self.now.followers → IsTextAt text.now self.now.keys at
+        ensures guessed { IfSome result (λ at. IsFollower at (wrapped_len text.now) self.now.followers) }
+        ensures taken { (at : ℕ) → IsFollower at (wrapped_len text.now) self.now.followers → IsTextAt text.now self.now.keys at
             → result ≡ Some at }
     {
-        let guess = self.followers.guess(text_size(text))?;
+        let guess = self.followers.guess(wrapped_len(text))?;
         let position = guess as usize;
         if position < self.texts.len() && self.texts[position].eq_str(text) {
             return Some(guess);
@@ -130,7 +130,8 @@ impl TextTable {
         self.links[position].hash == hash && self.texts[position].eq_str(text)
     }
 
-    /// The same, by the chain of its bucket. It may be asked only where `recent` does not lead to it: it does not take its place.
+    /// The same, by the chain of its bucket. It may be asked only where `recent` does not lead to the text, so that the walk along the
+    /// chain does not take the place of `recent`.
     fn find_in_chain(&self, hash: u32, text: &str) -> Option<u32>
         requires { (at : ℕ) → IsRecent hash at self.now.recent → IsKeyAt hash text.now self.now.keys at → ⊥ }
         ensures found { IfSome result (λ at. IsKeyAt hash text.now self.now.keys at) }
@@ -150,21 +151,21 @@ impl TextTable {
         None
     }
 
-    /// One more owner of this text, which was guessed at a position. `followers` leads from the one that was found before to it. It may
-    /// be asked only of a guess, so that a text that was found by its hash goes into `recent`.
+    /// One more owner of this text, which was guessed at a position. From then on `followers` leads to it from the text that was found
+    /// before. It may be asked only of a guess, so that a text that was found by its hash goes into `recent`.
     pub(crate) fn shared(&mut self, text: &str, position: u32) -> Result<IString, AllocError>
         requires there { IsTextAt text.now self.old.keys position }
-        requires guessed { IsFollower position (text_size text.now) self.old.followers }
+        requires guessed { IsFollower position (wrapped_len text.now) self.old.followers }
         ensures text { IfOk result (λ shared. shared ≡ text.now) }
-        ensures followed { self.new ≡ record self.old { followers = followed_by position (text_size text.now) self.old.followers } }
+        ensures followed { self.new ≡ record self.old { followers = followed_by position (wrapped_len text.now) self.old.followers } }
     {
         let shared: Result<IString, AllocError> = self.texts[position as usize].clone();
-        self.followers.put(position, text_size(text));
+        self.followers.put(position, wrapped_len(text));
         shared
     }
 
-    /// The same, where it was found by this hash. `recent` leads to it from then on. It may be asked only where no guess leads to it: it
-    /// does not take the place of the guess.
+    /// The same, where it was found by this hash. `recent` leads to it from then on, too. It may be asked only where no guess leads to
+    /// it, so that the look-up by the hash does not take the place of the guess.
     pub(crate) fn shared_by(
         &mut self,
         hash: u32,
@@ -172,16 +173,16 @@ impl TextTable {
         position: u32,
     ) -> Result<IString, AllocError>
         requires there { IsKeyAt hash text.now self.old.keys position }
-        requires unguessed { (at : ℕ) → IsFollower at (text_size text.now) self.old.followers → IsTextAt text.now self.old.keys at → ⊥ }
+        requires unguessed { (at : ℕ) → IsFollower at (wrapped_len text.now) self.old.followers → IsTextAt text.now self.old.keys at → ⊥ }
         ensures text { IfOk result (λ shared. shared ≡ text.now) }
         ensures noted { self.new ≡ record self.old {
           recent = with_recent hash position self.old.recent;
-          followers = followed_by position (text_size text.now) self.old.followers;
+          followers = followed_by position (wrapped_len text.now) self.old.followers;
         } }
     {
         self.recent.put(hash, position);
         let shared: Result<IString, AllocError> = self.texts[position as usize].clone();
-        self.followers.put(position, text_size(text));
+        self.followers.put(position, wrapped_len(text));
         shared
     }
 
@@ -193,14 +194,14 @@ impl TextTable {
         ensures followers { self.new.followers ≡ self.old.followers }
         ensures refused { OnErr result (self.new ≡ self.old) }
     {
-        // A link is one more than a position.
-        let Ok(link) = u32::try_from(self.links.len() + 1) else {
+        // A head of a chain is one more than a position.
+        let Ok(head) = u32::try_from(self.links.len() + 1) else {
             return Err(AllocError);
         };
         self.links.reserve(1)?;
         self.texts.reserve(1)?;
         grow(&mut self.links, &mut self.buckets, &mut self.recent)?;
-        let next = prepend(&mut self.buckets, hash, link);
+        let next = prepend(&mut self.buckets, hash, head);
         self.links.push_reserved(Link { hash, next });
         self.texts.push_reserved(text);
         Ok(())

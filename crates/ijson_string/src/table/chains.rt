@@ -6,7 +6,7 @@ ghost use Rattle.ijson_string.specs.private.IsTable.{hashes_of, filters_of, head
 ghost use Rattle.ijson_string.specs.private.Recent.{recent_for};
 ghost use Rattle.ijson_string.specs.private.Table.{buckets_for};
 
-use crate::table::recent::{Recent, SIZE};
+use crate::table::recent::Recent;
 use std::alloc::AllocError;
 use std::mem::size_of;
 
@@ -41,8 +41,8 @@ const _: () = prove!(size_of::<Bucket>() == 8);
 /// A bucket with no text.
 pub(crate) const EMPTY: Bucket = Bucket { head: 0, filter: 0 };
 
-/// Makes twice as many buckets, where there are four times as many texts as buckets, and the slots of `recent` where there are
-/// buckets enough. Where memory is refused, both are as they were.
+/// Makes twice as many buckets, where there are four times as many texts as buckets, and the slots of `recent` where these are
+/// enough for them. Where memory is refused, both are as they were.
 pub(crate) fn grow(
     links: &mut [Link],
     buckets: &mut Vec<Bucket>,
@@ -64,9 +64,7 @@ pub(crate) fn grow(
     }
     let count = (2 * buckets.len()).max(MIN_BUCKETS);
     buckets.reserve(count - buckets.len())?;
-    if count >= SIZE {
-        recent.make_slots()?;
-    }
+    recent.make_slots(count)?;
     buckets.resize(count, EMPTY)?;
     rebuild(links, buckets);
     Ok(())
@@ -88,23 +86,24 @@ fn rebuild(links: &mut [Link], buckets: &mut [Bucket])
     }
 }
 
-/// Makes a text the head of its chain, adds its hash to the filter, and returns the head before it.
-pub(crate) fn prepend(buckets: &mut [Bucket], hash: u32, link: u32) -> u32
+/// Makes a text the head of its chain, adds its hash to the filter, and returns the head before it. A head is one more than a
+/// position.
+pub(crate) fn prepend(buckets: &mut [Bucket], hash: u32, head: u32) -> u32
     requires some { 0 < length buckets.old }
     requires bounded { length buckets.old ≤ 2 ^ 32 }
     ensures as_many { length buckets.new ≡ length buckets.old }
     ensures inside { bucket_of (length buckets.old) hash < length buckets.old }
     ensures next { result ≡ get_or (heads_of buckets.old) (bucket_of (length buckets.old) hash) 0 }
-    ensures head { heads_of buckets.new ≡ slice_set (heads_of buckets.old) (bucket_of (length buckets.old) hash) link }
+    ensures head { heads_of buckets.new ≡ slice_set (heads_of buckets.old) (bucket_of (length buckets.old) hash) head }
     ensures filters { filters_of buckets.new ≡ with_filter (filters_of buckets.old) hash }
 {
     let at = bucket_index(hash, buckets.len());
-    let Bucket { head, filter } = buckets[at];
+    let before = buckets[at];
     buckets[at] = Bucket {
-        head: link,
-        filter: filter | filter_bits(hash),
+        head,
+        filter: before.filter | filter_bits(hash),
     };
-    head
+    before.head
 }
 
 /// The head of the chain of a hash, where the filter of its bucket lets the hash pass. The filter is tested alone: whether the chain

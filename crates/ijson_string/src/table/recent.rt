@@ -1,12 +1,12 @@
 //! `Recent`: where texts were found last.
 ghost use Rattle.std.specs.Prelude.{◌≡◌, ℕ, ◌≤◌, [], length, take, Some, IfSome, OnOk, OnErr};
-ghost use Rattle.ijson_string.specs.private.Recent.{recent_size, with_recent, IsRecent};
+ghost use Rattle.ijson_string.specs.private.Recent.{recent_for, with_recent, IsRecent};
 
 use std::alloc::{AllocError, Global};
 use std::marker::Model;
 
-/// How many hints there are, once there are any.
-pub(crate) const SIZE: usize = 2048;
+/// How many slots there are, from as many buckets on. Where a table has fewer buckets, there are none.
+const RECENT_SLOTS: usize = 2048;
 
 /// A hash, and the position of the text that was found by it last.
 #[derive(Clone, Copy, Drop)]
@@ -48,14 +48,17 @@ impl Recent {
         }
     }
 
-    /// Makes the slots, where there are none. Where memory is refused, nothing changes.
-    pub(crate) fn make_slots(&mut self) -> Result<(), AllocError>
-        requires { length self.old ≤ recent_size }
-        ensures made { OnOk result (length self.new ≡ recent_size) }
+    /// Makes the slots, where there are none and a table of so many buckets has them. Where memory is refused, nothing changes.
+    pub(crate) fn make_slots(&mut self, buckets: usize) -> Result<(), AllocError>
+        requires { length self.old ≤ recent_for buckets }
+        ensures made { OnOk result (length self.new ≡ recent_for buckets) }
         ensures kept { take (length self.old) self.new ≡ self.old }
         ensures refused { OnErr result (self.new ≡ self.old) }
     {
-        self.hints.resize(SIZE, NO_HINT)
+        if buckets < RECENT_SLOTS {
+            return Ok(());
+        }
+        self.hints.resize(RECENT_SLOTS, NO_HINT)
     }
 
     /// The position that was put last beside this hash. None where another hash was put into its slot since.
@@ -63,7 +66,7 @@ impl Recent {
         ensures put { IfSome result (λ at. IsRecent hash at self.now) }
         ensures recent { (at : ℕ) → IsRecent hash at self.now → result ≡ Some at }
     {
-        let hint = self.hints.get(hash as usize % SIZE)?;
+        let hint = self.hints.get(hash as usize % RECENT_SLOTS)?;
         if hint.hash == hash {
             Some(hint.position)
         } else {
@@ -75,7 +78,7 @@ impl Recent {
     pub(crate) fn put(&mut self, hash: u32, position: u32)
         ensures { self.new ≡ with_recent hash position self.old }
     {
-        if let Some(hint) = self.hints.get_mut(hash as usize % SIZE) {
+        if let Some(hint) = self.hints.get_mut(hash as usize % RECENT_SLOTS) {
             *hint = Hint { hash, position };
         }
     }

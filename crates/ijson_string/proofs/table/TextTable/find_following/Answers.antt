@@ -1,7 +1,7 @@
 use Rattle.std.proofs.Common.{◌≡◌, ◌∙◌, ◌<◌, ap, sym, subst, ℕ, List, length, get_or, arith}
 use Rattle.std.proofs.lemmas.Bool.{false≢true}
 use Rattle.std.proofs.lemmas.Option.{same_Some}
-use Rattle.ijson_string.specs.private.Followers.{text_size, IsFollower}
+use Rattle.ijson_string.specs.private.Followers.{wrapped_len, IsFollower}
 use Rattle.ijson_string.specs.private.Keys.{no_key}
 use Rattle.ijson_string.specs.private.Table.{Table}
 use Rattle.ijson_string.proofs.KeysAt.{as_many_keys, text_there}
@@ -10,16 +10,16 @@ use Rattle.ijson_string.proofs.table.TextTable.find_following.Goals.{else-positi
 use Rattle.ijson_string.proofs.table.TextTable.find_following.Goals.{else-position-len-via-else-position-len}
 
 -- what is put is read by the length of the text
-sought : (size at : ℕ) (text : List ℕ) (inside now : Table) → inside ≡ now → size ≡ text_size text
-    → IsFollower at (text_size text) now.followers → IsFollower at size inside.followers
-sought size at text inside now same is follows =
+sought : (len at : ℕ) (text : List ℕ) (inside now : Table) → inside ≡ now → len ≡ wrapped_len text
+    → IsFollower at (wrapped_len text) now.followers → IsFollower at len inside.followers
+sought len at text inside now same is follows =
     subst (λ n. IsFollower at n inside.followers) (sym is)
-    (subst (λ (t : Table). IsFollower at (text_size text) t.followers) (sym same) follows)
+    (subst (λ (t : Table). IsFollower at (wrapped_len text) t.followers) (sym same) follows)
 
 pub returns-in_err-guess-clause-taken : goal.returns-in_err-guess-clause-taken
 returns-in_err-guess-clause-taken c = λ at follows there.
     c.from_residual.ensures
-    ∙ c.in_err-guess.ensures.taken at (sought c.text_size.result at c.args.text.now _ _ c.self.view_is c.text_size.ensures follows)
+    ∙ c.in_err-guess.ensures.taken at (sought c.wrapped_len.result at c.args.text.now _ _ c.self.view_is c.wrapped_len.ensures follows)
 
 pub returns-then-eq_str-clause-found : goal.returns-then-eq_str-clause-found
 returns-then-eq_str-clause-found c =
@@ -36,7 +36,7 @@ returns-then-eq_str-clause-found c =
 
 pub returns-then-eq_str-clause-taken : goal.returns-then-eq_str-clause-taken
 returns-then-eq_str-clause-taken c = λ at follows there.
-    c.in_ok-guess.ensures.taken at (sought c.text_size.result at c.args.text.now _ _ c.self.view_is c.text_size.ensures follows)
+    c.in_ok-guess.ensures.taken at (sought c.wrapped_len.result at c.args.text.now _ _ c.self.view_is c.wrapped_len.ensures follows)
 
 pub returns-clause-taken : goal.returns-clause-taken
 returns-clause-taken c = λ at follows there.
@@ -46,7 +46,7 @@ returns-clause-taken c = λ at follows there.
     let are = ap (λ (t : Table). t.keys) c.self.view_is in
     let many = as_many_keys links texts keys c.self.invariant.1 are in
     let is : c.in_ok-guess.guess ≡ at = same_Some _ _ (c.in_ok-guess.ensures.taken at
-    (sought c.text_size.result at c.args.text.now _ _ c.self.view_is c.text_size.ensures follows)) in
+    (sought c.wrapped_len.result at c.args.text.now _ _ c.self.view_is c.wrapped_len.ensures follows)) in
     let within : c.in_ok-guess.guess < length keys = omega (arith, is, there.0) in
     elim c.else-position-len.branch [
       | else-position-len-via-then-position-len+else-eq_str w ↦

@@ -54,11 +54,11 @@ invariant_of-self-2 c =
     let known = rw c.deref_mut-2.ensures.value at c.prepend-next.ensures in
     let same : length after ≡ length buckets = known.as_many in
     let buckets_back = buckets_now c in
-    let link : c.in-Ok.link ≡ length links + 1 = omega (arith, c.in-Ok.ensures) in
+    let at : c.in-Ok.head ≡ length links + 1 = omega (arith, c.in-Ok.ensures) in
     let entered : IsEntered buckets after hash (length links + 1) = record {
       as_many = same;
       inside = known.inside;
-      head = known.head ∙ ap (slice_set (heads_of buckets) (bucket_of (length buckets) hash)) link;
+      head = known.head ∙ ap (slice_set (heads_of buckets) (bucket_of (length buckets) hash)) at;
       filters = known.filters;
     } in
     let more = length-append links (link_of c ∷ []) in

@@ -11,7 +11,7 @@ pub returns-clause-head : goal.returns-clause-head
 returns-clause-head c =
     let buckets = c.args.buckets.now in
     map-set (λ b. b.head) buckets c.bucket_index-at.result _
-    ∙ ap (λ at. slice_set (heads_of buckets) at c.args.link) c.bucket_index-at.ensures.bucket
+    ∙ ap (λ at. slice_set (heads_of buckets) at c.args.head) c.bucket_index-at.ensures.bucket
 
 pub returns-clause-filters : goal.returns-clause-filters
 returns-clause-filters c =
