@@ -1,8 +1,8 @@
 -- What the clauses of private functions alone cite.
 pub mod CompactErrorOfReadFault
+pub mod Delimiters
 pub mod Reading
 pub mod OnePass
-pub mod Separators
 pub mod Explains
 pub mod ReadsKey
 pub mod ReadsScalar

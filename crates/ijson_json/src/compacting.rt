@@ -74,7 +74,7 @@ impl From<JsonError> for CompactError {
 impl From<AllocError> for CompactError {
     ghost from_gives = { λ _ error. error ≡ NoMemory };
 
-    fn from(_error: AllocError) -> CompactError {
+    fn from(_refused: AllocError) -> CompactError {
         CompactError::Memory
     }
 }
@@ -118,13 +118,9 @@ pub fn compact<R: Source, W: Sink, S: BuildHasher>(
     ensures shared { OnOk result (IfSome (R.left input.old)
         (λ bytes. SharesTextsOf bytes cache.new)) }
 {
-    match compact_value(alloc, input, output, cache) {
-        Ok(value) => {
-            drop(value);
-            Ok(())
-        }
-        Err(error) => Err(error),
-    }
+    let value = compact_value(alloc, input, output, cache)?;
+    drop(value);
+    Ok(())
 }
 
 /// As `compact`, and answers the value that was read. Where there is an error it is dropped. The clauses are those of `compact`, and

@@ -57,7 +57,7 @@ impl<T: Drop> From<AllocFailed<T>> for Fault {
 impl From<AllocError> for Fault {
     ghost from_gives = { λ _ fault. fault ≡ Memory };
 
-    fn from(_error: AllocError) -> Fault {
+    fn from(_refused: AllocError) -> Fault {
         Fault::Memory
     }
 }

@@ -28,7 +28,7 @@ pub fn line_and_column(text: &str, at: usize) -> LineColumn
         if *byte == b'\n' {
             lines += 1;
             characters = 0;
-        } else if is_first(*byte) {
+        } else if begins_character(*byte) {
             characters += 1;
         }
     }
@@ -38,8 +38,8 @@ pub fn line_and_column(text: &str, at: usize) -> LineColumn
     }
 }
 
-/// Whether a byte of a text in UTF-8 is the first of a character.
-fn is_first(byte: u8) -> bool
+/// Whether a byte of a text in UTF-8 is the first of a character: it is no continuation byte.
+fn begins_character(byte: u8) -> bool
     ensures { result ≡ begins byte }
 {
     byte < 128 || byte >= 192

@@ -1,5 +1,5 @@
 //! Reading a text. `from_json` skips white space and reads one value by `value`, which looks at its first byte: arrays and
-//! objects it reads itself, their commas and brackets by `separator` and what they are made of in `scratch`. All else goes to
+//! objects it reads itself, their commas and brackets by `delimiter` and what they are made of in `scratch`. All else goes to
 //! `scalar`, which leaves strings to `string`, with `escape` for what stands behind a backslash, and numbers to `number`. Of a
 //! string the run without an escape is tried first, and of a number the one pass over a common one.
 
@@ -15,11 +15,11 @@ ghost use Rattle.ijson_json.specs.private.Explains.{Answers, error_of};
 ghost use Rattle.ijson_json.specs.Refuses.{Refuses};
 ghost use Rattle.ijson_json.specs.declared.fault.JsonError;
 
+mod delimiter;
 mod escape;
 mod number;
 mod scalar;
 mod scratch;
-mod separator;
 mod string;
 mod value;
 
@@ -68,20 +68,18 @@ fn read_text<S: BuildHasher>(
     };
     let read = read_value(alloc, cache, &mut scratch, start, 0);
     drop(scratch);
-    match read {
-        Ok((value, rest)) => {
-            let rest = skip_space(rest);
-            if rest.is_empty() {
-                Ok(value)
-            } else {
-                drop(value);
-                Err(JsonError::Syntax {
-                    at: text.len() - rest.len(),
-                })
-            }
-        }
-        Err(fault) => Err(located(fault, text.len())),
+    let (value, rest) = match read {
+        Ok((value, rest)) => (value, rest),
+        Err(fault) => return Err(located(fault, text.len())),
+    };
+    let rest = skip_space(rest);
+    if rest.is_empty() {
+        return Ok(value);
     }
+    drop(value);
+    Err(JsonError::Syntax {
+        at: text.len() - rest.len(),
+    })
 }
 
 /// The value that a whole JSON text spells (RFC 8259), white space round it allowed. Keys and strings

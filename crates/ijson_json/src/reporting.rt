@@ -31,6 +31,7 @@ pub fn report<W: Sink>(answer: &Result<(), CompactError>, errors: &mut W) -> u8
     status(*error)
 }
 
+/// The status that the program ends with after this error.
 fn status(error: CompactError) -> u8
     ensures { result ≡ status_of (Err error) }
 {

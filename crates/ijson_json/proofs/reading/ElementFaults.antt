@@ -9,7 +9,7 @@ use Rattle.ijson_json.specs.Grammar.{IsValue, IsClosers}
 use Rattle.ijson_json.specs.Limits.{max_depth}
 use Rattle.ijson_json.specs.private.Reading.{IsBeyond, IsTooDeep, IsOutOfRange, NoValue}
 use Rattle.ijson_json.specs.private.Explains.{Explains, ExplainsOf}
-use Rattle.ijson_json.specs.private.Separators.{NoSeparator}
+use Rattle.ijson_json.specs.private.Delimiters.{NoDelimiter}
 use Rattle.ijson_json.specs.declared.fault.Fault.{Fault}
 use Rattle.ijson_json.specs.declared.fault.Fault.TheVariants as faults
 use Rattle.ijson_json.proofs.scanning.Prefixes.{front_shorter, skips_shorter}
@@ -114,10 +114,10 @@ module _ (E : Type 0) (S : Shape E) (L : Listing E S) where
   element_fault opened text cur found faults.Memory r h = tt
 
   -- and so is one behind an element
-  separator_fault : (opened : ℕ) (text cur after : List ℕ) (found : List E) (t : E) (fault : Fault)
+  delimiter_fault : (opened : ℕ) (text cur after : List ℕ) (found : List E) (t : E) (fault : Fault)
       → Reached E S L opened text found cur
-      → ElementRead E S (opened + 1) cur t after → NoSeparator S.closing after fault → Explains opened text fault
-  separator_fault opened text cur after found t fault r d (left, stuck, e) =
+      → ElementRead E S (opened + 1) cur t after → NoDelimiter S.closing after fault → Explains opened text fault
+  delimiter_fault opened text cur after found t fault r d (left, stuck, e) =
       let short : length left ≤ length cur = omega (arith, skips_shorter after left stuck.skipped, front_shorter _ cur after d.found) in
       subst (λ (f : Fault). Explains opened text f) (sym e)
       (reached_shorter opened text cur found (length left) r short, reached_stuck E S L opened text cur after left found t r d stuck)
@@ -125,13 +125,13 @@ module _ (E : Type 0) (S : Shape E) (L : Listing E S) where
   -- or where it could not be kept
   pub push_fault : (opened : ℕ) (text cur after : List ℕ) (found : List E) (t : E) (fault : Fault)
       → Reached E S L opened text found cur
-      → ElementRead E S (opened + 1) cur t after → (fault ≡ faults.Memory) ⊎ NoSeparator S.closing after fault → Explains opened text fault
+      → ElementRead E S (opened + 1) cur t after → (fault ≡ faults.Memory) ⊎ NoDelimiter S.closing after fault → Explains opened text fault
   push_fault opened text cur after found t fault r d (inl e) = subst (λ (f : Fault). Explains opened text f) (sym e) tt
-  push_fault opened text cur after found t fault r d (inr none) = separator_fault opened text cur after found t fault r d none
+  push_fault opened text cur after found t fault r d (inr none) = delimiter_fault opened text cur after found t fault r d none
 
 -- what may be told behind an element
 pub behind_element : {X : Type 0} (closing : ℕ) (after : List ℕ) (r : Result X Fault) (P : X → Type 0)
-    → MatchResult r P (λ fault. NoSeparator closing after fault)
-    → IfErr r (λ fault. (fault ≡ faults.Memory) ⊎ NoSeparator closing after fault)
+    → MatchResult r P (λ fault. NoDelimiter closing after fault)
+    → IfErr r (λ fault. (fault ≡ faults.Memory) ⊎ NoDelimiter closing after fault)
 behind_element closing after (Ok x) P h = tt
 behind_element closing after (Err fault) P h = inr h

@@ -29,7 +29,7 @@ impl From<DeviceFault> for ReadFault {
 impl From<AllocError> for ReadFault {
     ghost from_gives = { λ _ fault. fault ≡ Memory };
 
-    fn from(_error: AllocError) -> ReadFault {
+    fn from(_refused: AllocError) -> ReadFault {
         ReadFault::Memory
     }
 }
@@ -53,7 +53,7 @@ pub(crate) fn read_all<R: Source>(alloc: Global, input: &mut R) -> Result<Vec<u8
         }
         filled += count;
     }
-    // each turn added a byte, and no list has so many
+    // Each turn added a byte, and no list has so many.
     unreachable!()
 }
 
@@ -82,7 +82,7 @@ fn read_piece<R: Source>(
     Ok(count)
 }
 
-/// Makes the list longer by a piece. Its memory doubles where it is full, and what is not read into stays untouched.
+/// Makes the list longer by a piece of zeros. Its memory doubles where it is full, and what lies behind the piece is not touched.
 fn make_room(bytes: &mut Vec<u8>) -> Result<(), AllocError>
     ensures kept { take (vec_len bytes.old) bytes.new.items ≡ bytes.old.items }
     ensures longer { OnOk result (vec_len bytes.old < vec_len bytes.new) }

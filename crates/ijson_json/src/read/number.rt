@@ -11,7 +11,7 @@ use crate::fault::Fault;
 use ijson_number::{INumber, ParseNumberError, first_fault};
 use std::alloc::{AllocError, Global};
 
-/// A byte that a number may be made of.
+/// Whether a number may be made of this byte.
 fn in_number(byte: u8) -> bool
     ensures { result ≡ is_number_byte byte }
 {
@@ -96,15 +96,10 @@ fn read_long(alloc: Global, text: &str) -> Result<(INumber, &str), Fault>
         Ok(number) => Ok((number, rest)),
         Err(ParseNumberError::Memory) => Err(Fault::Memory),
         Err(ParseNumberError::Invalid) => match first_fault(run) {
-            None => Err(Fault::NumberRange { left: text.len() }),
-            Some(at) => {
-                if is_past_limit(alloc, &run[..at]) {
-                    return Err(Fault::NumberRange { left: text.len() });
-                }
-                Err(Fault::Syntax {
-                    left: text.len() - at,
-                })
-            }
+            Some(at) if !is_past_limit(alloc, &run[..at]) => Err(Fault::Syntax {
+                left: text.len() - at,
+            }),
+            _ => Err(Fault::NumberRange { left: text.len() }),
         },
     }
 }

@@ -2,11 +2,11 @@
 
 ghost use Rattle.std.specs.Prelude.{◌≡◌, [], ◌∷◌, ◌++◌, ◌⊎◌, ◌<◌, ◌≤◌, length, take, drop, vec_capacity, IfOk, IfErr, OnOk};
 ghost use Rattle.ijson_table.specs.Store.{put_each};
-ghost use Rattle.ijson_json.specs.private.Separators.{SeparatorAt, NoSeparator};
+ghost use Rattle.ijson_json.specs.private.Delimiters.{DelimiterAt, NoDelimiter};
 ghost use Rattle.ijson_json.specs.declared.fault.Fault.TheVariants.{Memory};
 
 use crate::fault::Fault;
-use crate::read::separator::{Separator, read_separator};
+use crate::read::delimiter::{Delimiter, read_delimiter};
 use ijson_string::IString;
 use ijson_value::array::IArray;
 use ijson_value::object::IObject;
@@ -28,21 +28,21 @@ pub(crate) struct Scratch {
     pub(crate) content: String,
 }
 
-/// Puts what was read on the stack, and tells what stands behind it in a container that is closed by this bracket.
+/// Puts what was read on the stack, and reads the delimiter behind it, in a container that is closed by this bracket.
 #[inline(always)]
 pub(crate) fn push_read<'a, T: Drop>(
     stack: &mut Vec<T>,
     read: T,
     after: &'a str,
     closing: u8,
-) -> Result<Separator<'a>, Fault>
+) -> Result<Delimiter<'a>, Fault>
     requires { closing < 128 }
     ensures pushed { OnOk result (stack.new.items ≡ stack.old.items ++ read ∷ []) }
-    ensures separator { IfOk result (λ separator. SeparatorAt closing after.now separator) }
-    ensures fault { IfErr result (λ fault. (fault ≡ Memory) ⊎ NoSeparator closing after.now fault) }
+    ensures delimiter { IfOk result (λ delimiter. DelimiterAt closing after.now delimiter) }
+    ensures fault { IfErr result (λ fault. (fault ≡ Memory) ⊎ NoDelimiter closing after.now fault) }
 {
     stack.push(read)?;
-    read_separator(after, closing)
+    read_delimiter(after, closing)
 }
 
 /// Takes what lies from `base` on off the stack. Where that is much and all that there is, it is not copied, and has the room

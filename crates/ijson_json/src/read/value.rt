@@ -6,9 +6,9 @@ ghost use Rattle.ijson_json.specs.private.ReadsValue.{ReadsValue};
 ghost use Rattle.ijson_json.specs.declared.fault.Fault.TheVariants.{TooDeep};
 
 use crate::fault::Fault;
+use crate::read::delimiter::Delimiter;
 use crate::read::scalar::read_scalar;
 use crate::read::scratch::{Scratch, push_read, take_items, take_members};
-use crate::read::separator::Separator;
 use crate::read::string::read_key;
 use crate::scan::prefix::{split_ascii, strip_byte};
 use crate::scan::space::skip_space;
@@ -115,8 +115,8 @@ fn read_array<'a, S: BuildHasher>(
     loop {
         let (item, after) = read_value(alloc, cache, scratch, rest, opened + 1)?;
         match push_read(&mut scratch.values, item, after, b']')? {
-            Separator::Comma(next) => rest = next,
-            Separator::End(behind) => {
+            Delimiter::Comma(next) => rest = next,
+            Delimiter::End(behind) => {
                 let items = take_items(alloc, &mut scratch.values, base)?;
                 return Ok((IValue::from(items), behind));
             }
@@ -153,8 +153,8 @@ fn read_object<'a, S: BuildHasher>(
             }
         };
         match push_read(&mut scratch.members, (key, value), after, b'}')? {
-            Separator::Comma(next) => rest = next,
-            Separator::End(behind) => {
+            Delimiter::Comma(next) => rest = next,
+            Delimiter::End(behind) => {
                 let object = take_members(alloc, &mut scratch.members, base)?;
                 return Ok((IValue::from(object), behind));
             }

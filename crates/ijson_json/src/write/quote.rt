@@ -129,18 +129,18 @@ fn push_text(out: &mut String, text: &IString, end: &str) -> Result<(), AllocErr
     requires { end.now ≢ [] }
     ensures { OnOk result (string_bytes out.new ≡ string_bytes out.old ++ (all_escaped text.now ++ end.now)) }
 {
-    if let Some((count, row)) = text.in_place() {
-        if begins_unescaped(row, count) {
+    match text.in_place() {
+        Some((count, row)) if begins_unescaped(row, count) => {
             let text_end = out.len() + usize::from(count);
             out.push_str(row)?;
             out.truncate(text_end);
-            return out.push_str(end);
+            out.push_str(end)
         }
+        _ => push_other(out, text, end),
     }
-    push_other(out, text, end)
 }
 
-/// The same of a text that lies in a block of its own or has an escape, so that a narrower test before it is refused.
+/// The same of a text that is too long to lie in place or has an escape. What it requires refuses a narrower test before it.
 #[inline(always)]
 fn push_other(out: &mut String, text: &IString, end: &str) -> Result<(), AllocError>
     requires end { end.now ≢ [] }

@@ -2,7 +2,8 @@ use Rattle.std.proofs.Common.{arith, ◌≡◌, ◌++◌, ◌+◌, ◌∷◌, []
 use Rattle.std.proofs.lemmas.List.{take_more}
 use Rattle.ijson_json.specs.LineColumn.{Counts}
 use Rattle.ijson_json.proofs.scanning.LinesAndColumns.{line_feed_passed, first_passed, other_passed, passed_within}
-use Rattle.ijson_json.proofs.line_column.line_and_column.Goals.{then-byte-eq10, else-byte-eq10+then-is_first, else-byte-eq10+else-is_first}
+use Rattle.ijson_json.proofs.line_column.line_and_column.Goals.{then-byte-eq10, else-byte-eq10+then-begins_character}
+use Rattle.ijson_json.proofs.line_column.line_and_column.Goals.{else-byte-eq10+else-begins_character}
 use Rattle.ijson_json.proofs.line_column.line_and_column.Goals as goal
 
 pub overflow_add-lines : goal.overflow_add-lines
@@ -27,12 +28,12 @@ loop-byte-preserved c =
           let now = line_feed_passed passed c.loop-byte.lines c.loop-byte.characters before in
           subst (λ (p : ℕ × ℕ × ℕ). Counts (passed ++ p.0 ∷ []) p.1 p.2)
           (λ i. (sym w.if-byte-eq10.true i, sym w.lines-is i, sym w.characters-is i)) now
-      | else-byte-eq10+then-is_first w ↦
+      | else-byte-eq10+then-begins_character w ↦
           let now = first_passed passed c.loop-byte.lines c.loop-byte.characters byte before w.if-byte-eq10.false
-          (sym w.is_first.ensures ∙ w.if-is_first.true) in
+          (sym w.begins_character.ensures ∙ w.if-begins_character.true) in
           subst (λ (p : ℕ × ℕ). Counts (passed ++ byte ∷ []) p.0 p.1) (λ i. (sym w.lines-is i, sym w.characters-is i)) now
-      | else-byte-eq10+else-is_first w ↦
+      | else-byte-eq10+else-begins_character w ↦
           let now = other_passed passed c.loop-byte.lines c.loop-byte.characters byte before w.if-byte-eq10.false
-          (sym w.is_first.ensures ∙ w.if-is_first.false) in
+          (sym w.begins_character.ensures ∙ w.if-begins_character.false) in
           subst (λ (p : ℕ × ℕ). Counts (passed ++ byte ∷ []) p.0 p.1) (λ i. (sym w.lines-is i, sym w.characters-is i)) now
     ])

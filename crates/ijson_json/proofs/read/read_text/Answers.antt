@@ -17,8 +17,8 @@ returns-then-is_empty-clause-read g c =
     (whole c.args.text.now c.skip_space-start.result.now c.in-Ok.rest.now c.skip_space-rest.result.now r.0 c.skip_space-start.ensures
     r.1 c.skip_space-rest.ensures (eqb-true _ _ (sym c.if-is_empty.ensures)))
 
-pub returns-else-is_empty-clause-read : goal.returns-else-is_empty-clause-read
-returns-else-is_empty-clause-read g c =
+pub returns-clause-read : goal.returns-clause-read
+returns-clause-read g c =
     let r = c.in-Ok.ensures.answer.read in (
       omega arith,
       behind c.args.text.now c.skip_space-start.result.now c.in-Ok.rest.now c.skip_space-rest.result.now r.0
@@ -33,8 +33,8 @@ pub returns-then-is_empty-clause-cache : goal.returns-then-is_empty-clause-cache
 returns-then-is_empty-clause-cache g c = adds_behind c.args.text.now c.skip_space-start.ensures.space c.skip_space-start.result.now
     c.args.cache.now c.read_value-read.new.cache c.skip_space-start.ensures.is c.read_value-read.ensures.cache
 
-pub returns-else-is_empty-clause-cache : goal.returns-else-is_empty-clause-cache
-returns-else-is_empty-clause-cache g c = adds_behind c.args.text.now c.skip_space-start.ensures.space c.skip_space-start.result.now
+pub returns-clause-cache : goal.returns-clause-cache
+returns-clause-cache g c = adds_behind c.args.text.now c.skip_space-start.ensures.space c.skip_space-start.result.now
     c.args.cache.now c.read_value-read.new.cache c.skip_space-start.ensures.is c.read_value-read.ensures.cache
 
 pub returns-in-Err-clause-cache : goal.returns-in-Err-clause-cache

@@ -9,9 +9,9 @@ use Rattle.ijson_json.specs.AreShared.{AreShared, MembersAreShared}
 use Rattle.ijson_json.specs.Limits.{max_depth}
 use Rattle.ijson_json.specs.declared.fault.Fault.{Fault}
 use Rattle.ijson_json.specs.declared.fault.Fault.TheVariants.{TooDeep}
-use Rattle.ijson_json.specs.declared.read.separator.Separator.{Separator}
+use Rattle.ijson_json.specs.declared.read.delimiter.Delimiter.{Delimiter}
 use Rattle.ijson_json.specs.private.Explains.{Explains}
-use Rattle.ijson_json.specs.private.Separators.{SeparatorAt}
+use Rattle.ijson_json.specs.private.Delimiters.{DelimiterAt}
 use Rattle.ijson_json.proofs.scanning.Prefixes.{closes}
 use Rattle.ijson_json.proofs.grammar.ElementShapes.{items_shape, members_shape}
 use Rattle.ijson_json.proofs.reading.ArraysAndObjects.{arrays, objects}
@@ -103,7 +103,7 @@ pub read_array-loop-item-preserved : goal.read_array-loop-item-preserved
 read_array-loop-item-preserved g t c =
     let found = c.in_ok-item.ensures.answer in
     let item = found.read in
-    let comma = subst (λ (s : Separator). SeparatorAt 93 c.in_ok-item.after.now s) c.in-Comma.is c.in_ok-next.ensures.separator in
+    let comma = subst (λ (s : Delimiter). DelimiterAt 93 c.in_ok-item.after.now s) c.in-Comma.is c.in_ok-next.ensures.delimiter in
     record {
       read = gathered_more c.loop-item.invariant.read c.in_ok-item.item item.0 c.in_ok-item.after.now c.in-Comma.next.now
           c.read_value.new.scratch.values.items c.push_read.new.stack.items c.read_value.new.cache item.1 item.2 comma
@@ -123,7 +123,7 @@ read_array-returns-in-End g t c =
     let i = c.loop-item.invariant.read in
     let found = c.in_ok-item.ensures.answer in
     let item = found.read in
-    let end = subst (λ (s : Separator). SeparatorAt 93 c.in_ok-item.after.now s) c.in-End.is c.in_ok-next.ensures.separator in
+    let end = subst (λ (s : Delimiter). DelimiterAt 93 c.in_ok-item.after.now s) c.in-End.is c.in_ok-next.ensures.delimiter in
     let pushed = c.push_read.new.stack.items in
     let base = c.len-base.ensures ∙ c.args.scratch.now.values.ok.0 in
     let taken = gathered_taken i c.in_ok-item.item c.read_value.new.scratch.values.items pushed c.in_ok-items-in-End.items.items
@@ -211,7 +211,7 @@ read_object-loop-key-preserved g t c =
     let found = c.in-Ok.ensures.answer in
     let value = found.read in
     let name = c.in_ok-key.key in
-    let comma = subst (λ (s : Separator). SeparatorAt 125 c.in-Ok.after.now s) c.in-Comma.is c.in_ok-next.ensures.separator in
+    let comma = subst (λ (s : Delimiter). DelimiterAt 125 c.in-Ok.after.now s) c.in-Comma.is c.in_ok-next.ensures.delimiter in
     record {
       read = gathered_more c.loop-key.invariant.read (name, c.in-Ok.value) (name, value.0) c.in-Ok.after.now c.in-Comma.next.now
           c.read_value.new.scratch.members.items c.push_read.new.stack.items c.read_value.new.cache
@@ -238,7 +238,7 @@ read_object-returns-in-End g t c =
     let found = c.in-Ok.ensures.answer in
     let value = found.read in
     let name = c.in_ok-key.key in
-    let end = subst (λ (s : Separator). SeparatorAt 125 c.in-Ok.after.now s) c.in-End.is c.in_ok-next.ensures.separator in
+    let end = subst (λ (s : Delimiter). DelimiterAt 125 c.in-Ok.after.now s) c.in-End.is c.in_ok-next.ensures.delimiter in
     let adds = adds_behind_key key.read c.read_key.ensures.cache c.read_value.ensures.cache in
     let pushed = c.push_read.new.stack.items in
     let base = c.len-base.ensures ∙ c.args.scratch.now.members.ok.0 in

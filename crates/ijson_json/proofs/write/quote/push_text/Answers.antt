@@ -10,7 +10,7 @@ use Rattle.ijson_json.specs.Strings.{is_unescaped}
 use Rattle.ijson_json.proofs.scanning.UnescapedRuns.{run_before, run_covers}
 use Rattle.ijson_json.proofs.writing.Quoting.{all_escaped-run, written_end, on_ok}
 use Rattle.ijson_json.proofs.write.quote.push_text.Goals as goal
-use Rattle.ijson_json.proofs.write.quote.push_text.Goals.{in-Some+else-begins_unescaped, in_default}
+use Rattle.ijson_json.proofs.write.quote.push_text.Goals.{in_default-via-in-Some+else-begins_unescaped, in_default-via-in_default}
 
 -- of a row that was appended all but the first bytes are cut off
 cut_behind : (old row longer : List ℕ) (end n : ℕ) → longer ≡ old ++ row → end ≡ length old + n → take end longer ≡ old ++ take n row
@@ -21,34 +21,34 @@ pub truncate-requires : goal.truncate-requires
 truncate-requires c =
     let old = string_bytes c.args.out.now in
     let end = c.len.result + c.from.result in
-    let kept = cut_behind old c.in-Some.row.now (string_bytes c.push_str.new.self) end c.in-Some.count c.in_ok-push_str.ensures.bytes
-    (omega arith) in
+    let kept = cut_behind old c.in-Some.row.now (string_bytes c.push_str.new.self) end c.in-Some.count
+    c.in_ok-push_str-in-Some.ensures.bytes (omega arith) in
     λ inside.
     let boundary = IsCharBoundary-from_take (string_bytes c.push_str.new.self) end (IsUtf8-string_bytes c.push_str.new.self)
     (omega (arith, inside))
     (rw kept (IsUtf8-append old (take c.in-Some.count c.in-Some.row.now) (IsUtf8-string_bytes c.args.out.now) c.in-Some.ensures.utf8)) in
     (boundary.0, λ _. boundary.1)
 
-pub returns-then-begins_unescaped : goal.returns-then-begins_unescaped
-returns-then-begins_unescaped c =
+pub returns-in_ok-push_str-in-Some : goal.returns-in_ok-push_str-in-Some
+returns-in_ok-push_str-in-Some c =
     let old = string_bytes c.args.out.now in
     let text : List ℕ = take c.in-Some.count c.in-Some.row.now in
     let kept = cut_behind old c.in-Some.row.now (string_bytes c.push_str.new.self) (c.len.result + c.from.result) c.in-Some.count
-    c.in_ok-push_str.ensures.bytes (omega arith) in
+    c.in_ok-push_str-in-Some.ensures.bytes (omega arith) in
     let plain = all_escaped-run text (run_before is_unescaped c.in-Some.row.now c.in-Some.count
     (c.begins_unescaped.ensures.0 c.if-begins_unescaped.true)) in
-    on_ok c.push_str-then-begins_unescaped.result _ _ _ _ c.push_str-then-begins_unescaped.ensures.bytes
+    on_ok c.push_str-in-Some.result _ _ _ _ c.push_str-in-Some.ensures.bytes
     (written_end old (string_bytes c.truncate.new.self) c.args.text.now c.args.end.now
     (c.truncate.ensures.bytes ∙ kept ∙ ap (λ (l : List ℕ). old ++ l) (sym plain ∙ ap all_escaped c.in-Some.ensures.text)))
 
 -- the text is longer than a row, or a byte of it must stand in an escape
 pub push_other-requires-clause-other : goal.push_other-requires-clause-other
-push_other-requires-clause-other c short = elim c.match-in_place.branch [
-  | in_default w ↦ (
+push_other-requires-clause-other c short = elim c.in_default.branch [
+  | in_default-via-in_default w ↦ (
       let some : false ≡ true = rw w.in_default.is at (c.in_place.ensures.short short) in
       absurd cc
       )
-  | in-Some+else-begins_unescaped w ↦ (
+  | in_default-via-in-Some+else-begins_unescaped w ↦ (
       let count = w.in-Some.count in
       let row = w.in-Some.row.now in
       let text : List ℕ = take count row in
