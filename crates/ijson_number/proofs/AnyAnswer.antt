@@ -20,8 +20,3 @@ where_some None P p = tt
 pub none_with : {T P Q : Type 0} (found : Option T) → IfNone found P → (P → Q) → IfNone found Q
 none_with (Some _) h f = tt
 none_with None h f = f h
-
--- where there is an error, of which another follows
-pub refused_with : {T E P Q : Type 0} (r : Result T E) → OnErr r P → (P → Q) → OnErr r Q
-refused_with (Ok x) h f = tt
-refused_with (Err e) h f = f h

@@ -1,6 +1,6 @@
 -- What the outcome of a test says.
-use Rattle.std.proofs.Common.{◌≡◌, ◌⊎◌, ℕ, ◌<◌, Bool, true, false, refl, ap, inl, inr, arith}
-use Rattle.std.specs.Prelude.{ℤ, pos, negsuc, nat_abs, nat_eq, int_le, int_lt, ◌≤ℤ◌, ◌<ℤ◌, ◌&&◌, ◌||◌}
+use Rattle.std.proofs.Common.{◌≡◌, ℕ, ◌<◌, true, false, ap, arith}
+use Rattle.std.specs.Prelude.{ℤ, pos, negsuc, nat_abs, nat_eq, int_le, int_lt, ◌≤ℤ◌, ◌<ℤ◌}
 use Rattle.std.proofs.lemmas.Int.{ints}
 
 pub test_le : (a b : ℤ) → int_le a b ≡ true → a ≤ℤ b
@@ -24,28 +24,6 @@ test_not_zero v h = grind arith
 pub abs_zero : (m : ℤ) → nat_abs m ≡ 0 → m ≡ pos 0
 abs_zero (pos m) h = ap pos h
 abs_zero (negsuc m) h = absurd (cc)
-
-pub both_of : (a b : Bool) → a && b ≡ true → (a ≡ true) × (b ≡ true)
-both_of true b e = (refl, e)
-both_of false b e = absurd (cc)
-
-pub both_hold : (a b : Bool) → a ≡ true → b ≡ true → a && b ≡ true
-both_hold a b p q = rw (p, q) refl
-
-pub first_fails : (a b : Bool) → a ≡ false → a && b ≡ false
-first_fails a b e = rw e refl
-
-pub second_fails : (a b : Bool) → b ≡ false → a && b ≡ false
-second_fails true b e = e
-second_fails false b e = refl
-
-pub one_of : (a b : Bool) → a || b ≡ true → (a ≡ true) ⊎ (b ≡ true)
-one_of true b e = inl refl
-one_of false b e = inr e
-
-pub second_holds : (a b : Bool) → b ≡ true → a || b ≡ true
-second_holds true b p = refl
-second_holds false b p = p
 
 pub not_le : (a b : ℤ) → b <ℤ a → int_le a b ≡ false
 not_le a b h = grind (arith, ints)

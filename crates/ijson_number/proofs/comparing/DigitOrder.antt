@@ -9,6 +9,7 @@ use Rattle.std.specs.Ordering.{nat_cmp, ordering_then}
 use Rattle.std.proofs.Math.Seq.{drop-cons}
 use Rattle.std.proofs.lemmas.Bool.Decides.{nat_tests}
 use Rattle.std.proofs.lemmas.Int.Digits.{number_digits_of}
+use Rattle.std.specs.Cmp.{nat_cmp_total, tied_itself}
 use Rattle.ijson_number.specs.Decimal.{Decimal, IsPlain}
 use Rattle.ijson_number.specs.StoredNumber.{stored_number}
 use Rattle.ijson_number.specs.private.StoredNumber.{IsStored}
@@ -17,7 +18,7 @@ use Rattle.ijson_number.specs.StrippedDigits.{stripped_digits}
 use Rattle.ijson_number.proofs.storing.DigitsOf.{digits_are, stored_digits_are}
 use Rattle.ijson_number.proofs.BooleanTests.{abs_zero}
 use Rattle.ijson_number.proofs.storing.WholeValues.{whole_stripped}
-use Rattle.ijson_number.proofs.comparing.MagnitudeOrder.{nat_same, nat_below, nat_above}
+use Rattle.ijson_number.proofs.comparing.MagnitudeOrder.{nat_below, nat_above}
 
 -- digits are compared from a place on
 from_place : (ds es : List ℕ) (i : ℕ) → i < length ds → i < length es
@@ -28,7 +29,7 @@ from_place ds es i h g =
     rw (← next, drop-cons ds i 0, drop-cons es i 0) refl
 
 then_same : (x y : ℕ) (o : Ordering) → x ≡ y → ordering_then (nat_cmp x y) o ≡ o
-then_same x y o e = rw (e, nat_same y) refl
+then_same x y o e = rw (e, tied_itself nat_cmp_total y) refl
 
 -- digits that are the same decide nothing
 pub same_digit : (ds es : List ℕ) (i x y : ℕ) → i < length ds → i < length es → x ≡ get_or ds i 0 → y ≡ get_or es i 0 → x ≡ y
@@ -39,8 +40,8 @@ same_digit ds es i x y h g p q e = from_place ds es i h g
 -- where one row ends, the lengths decide
 pub row_ends : (ds es : List ℕ) (i : ℕ) → i ≡ min (length ds) (length es)
     → slice_cmp nat_cmp (drop i ds) (drop i es) ≡ nat_cmp (length ds) (length es)
-row_ends [] [] zero h = sym (nat_same 0)
-row_ends [] [] (suc i) h = sym (nat_same 0)
+row_ends [] [] zero h = sym (tied_itself nat_cmp_total 0)
+row_ends [] [] (suc i) h = sym (tied_itself nat_cmp_total 0)
 row_ends [] (y ∷ es) zero h = sym (nat_below 0 (length (y ∷ es)) (omega arith))
 row_ends [] (y ∷ es) (suc i) h = absurd (omega arith)
 row_ends (x ∷ ds) [] zero h = sym (nat_above (length (x ∷ ds)) 0 (omega arith))

@@ -14,6 +14,7 @@ use Rattle.std.proofs.lemmas.Bool.Decides.{nat_tests}
 use Rattle.std.proofs.lemmas.Int.{ints, clamps}
 use Rattle.std.proofs.lemmas.Int.Digits.{number_lt}
 use Rattle.std.proofs.lemmas.List.Elements.{recursion_from_All}
+use Rattle.std.specs.Cmp.{nat_cmp_total, tied_itself}
 use Rattle.ijson_number.specs.StoredNumber.{stored_number}
 use Rattle.ijson_number.specs.Order.{number_cmp}
 use Rattle.ijson_number.specs.private.Stripped.{IsStripped}
@@ -34,9 +35,6 @@ nat_below x y h = grind (arith, nat_tests)
 
 pub nat_above : (x y : ℕ) → y < x → nat_cmp x y ≡ Greater
 nat_above x y h = grind (arith, nat_tests)
-
-pub nat_same : (x : ℕ) → nat_cmp x x ≡ Equal
-nat_same x = grind (arith, nat_tests)
 
 data Rank (x y : ℕ) : Type 0 where
   below : x < y → Rank x y
@@ -142,7 +140,7 @@ aligned (d ∷ ds) (x ∷ es) j k p q l m e =
     rw (scaled_first d ds j, scaled_first x es k, same_place) (elim (rank d x) [
       | below h ↦ first_apart d x power a b h a_below ∙ rw (nat_below d x h) refl
       | same h ↦ rw h (shifted_cmp (x * power) a b ∙ aligned ds es j k p.1 q.1 (last_rest d ds l) (last_rest x es m) same_place
-          ∙ rw (nat_same x) refl)
+          ∙ rw (tied_itself nat_cmp_total x) refl)
       | above h ↦ first_apart_back d x power a b h b_below ∙ rw (nat_above d x h) refl
     ])
 

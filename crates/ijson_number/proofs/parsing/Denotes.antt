@@ -6,6 +6,7 @@ use Rattle.std.proofs.lemmas.Int.{ints}
 use Rattle.std.proofs.lemmas.List.{take_more, take_all, nil_from_length}
 use Rattle.std.proofs.lemmas.Int.Digits.{number_push}
 use Rattle.std.specs.Int.Digits.{number_from_digits}
+use Rattle.std.proofs.lemmas.Bool.{or_parts}
 use Rattle.ijson_number.specs.Decimal.{Decimal, IsPlain}
 use Rattle.ijson_number.specs.private.Reading.{exponent_of}
 use Rattle.ijson_number.specs.Strips.{signed}
@@ -90,14 +91,10 @@ module _ (p : Parts) (t s : List ℕ) (j k : ℕ) (front : p.whole ++ p.fraction
         refl,
       )
 
-both_false : (a b : Bool) → a || b ≡ false → (a ≡ false) × (b ≡ false)
-both_false true b e = absurd (cc)
-both_false false b e = (refl, e)
-
 pub no_point : (ft et f : List ℕ) (z : ℤ) (a b : Bool) → IsFraction ft f a → IsExponent et z b → a || b ≡ false → (f ≡ []) × (z ≡ pos 0)
 no_point [] [] f z a b g h e = (g.0, h.0)
-no_point [] (x ∷ et) f z a b g h e = let r = both_false a b e in absurd (cc (r.1, h.2))
-no_point (x ∷ ft) et f z a b g h e = let r = both_false a b e in absurd (cc (r.0, g.3))
+no_point [] (x ∷ et) f z a b g h e = let r = or_parts a b e in absurd (cc (r.1, h.2))
+no_point (x ∷ ft) et f z a b g h e = let r = or_parts a b e in absurd (cc (r.0, g.3))
 
 -- without point and exponent the exponent is the count of zeros
 pub pointless : (t : List ℕ) (p : Parts) (k : ℕ) → IsSpelled t p → p.point ≡ false → pos 0 ≤ℤ exponent_of p.exponent (length p.fraction) k

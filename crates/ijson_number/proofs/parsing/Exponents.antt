@@ -2,11 +2,12 @@
 use Rattle.std.proofs.Common.{◌≡◌, ℕ, ◌^◌, ◌<◌, min, Bool, true, false, arith, ◌⊎◌, inl, inr}
 use Rattle.std.specs.Prelude.{ℤ, pos, neg_ℤ, ◌+ℤ◌, ◌-ℤ◌, nat_eq, nat_abs, int_le, IsTrue}
 use Rattle.std.proofs.lemmas.Int.{ints}
+use Rattle.std.proofs.lemmas.Bool.{and_parts, and_from, or_cases, or_right}
 use mir.Syntax.{w32}
 use mir.Val.{to_z, of_z}
 use Rattle.ijson_number.specs.Decimal.{Decimal}
 use Rattle.ijson_number.specs.Num.{exponent_limit, is_in_range}
-use Rattle.ijson_number.proofs.BooleanTests.{test_le, le_test, test_zero, abs_zero, both_of, both_hold, one_of, second_holds}
+use Rattle.ijson_number.proofs.BooleanTests.{test_le, le_test, test_zero, abs_zero}
 use Rattle.ijson_number.specs.private.Reading.{IsWithin, exponent_of}
 use Rattle.ijson_number.specs.Strips.{signed}
 
@@ -26,13 +27,13 @@ w32_within e h = omega (arith, ints)
 
 -- a number whose exponent is within the limit is in range
 pub within_in_range : (n : Decimal) → IsWithin n.exponent → IsTrue (is_in_range n)
-within_in_range n h = second_holds (nat_eq (nat_abs n.mantissa) 0) _ (both_hold _ _ (le_test _ _ h.0) (le_test _ _ h.1))
+within_in_range n h = or_right (nat_eq (nat_abs n.mantissa) 0) _ (and_from _ _ (le_test _ _ h.0) (le_test _ _ h.1))
 
 -- a number in range is zero, or its exponent is within the limit
 pub in_range_within : (n : Decimal) → IsTrue (is_in_range n) → (n.mantissa ≡ pos 0) ⊎ IsWithin n.exponent
 in_range_within n h =
-    elim (one_of (nat_eq (nat_abs n.mantissa) 0) _ h) [
+    elim (or_cases (nat_eq (nat_abs n.mantissa) 0) _ h) [
       | inl z ↦ inl (abs_zero n.mantissa (test_zero (nat_abs n.mantissa) z))
-      | inr w ↦ (let b = both_of (int_le (neg_ℤ exponent_limit) n.exponent) (int_le n.exponent exponent_limit) w in
+      | inr w ↦ (let b = and_parts (int_le (neg_ℤ exponent_limit) n.exponent) (int_le n.exponent exponent_limit) w in
           inr (test_le _ _ b.0, test_le _ _ b.1))
     ]

@@ -1,20 +1,14 @@
 -- A text has at most one exponent of few digits at its front.
 use Rattle.std.proofs.Common.{◌≡◌, ◌∙◌, ◌⊎◌, inl, inr, ℕ, ◌-◌, ◌<◌, Bool, List, [], ◌∷◌, ◌++◌}
 use Rattle.std.proofs.Common.{length, get_or, take, drop, sym, ap, append_assoc, arith}
-use Rattle.std.proofs.Math.Seq.{drop-append_seam}
-use Rattle.std.proofs.lemmas.List.{length-append, length-take-le, take-append-drop}
+use Rattle.std.proofs.lemmas.List.{length-take-le, take-append-drop}
+use Rattle.std.proofs.lemmas.List.Prefix.{end_rest}
 use Rattle.ijson_number.specs.PlainFront.{GoesOnWithNone}
 use Rattle.ijson_number.specs.PowerFront.{IsFewDigits, IsFewExponent, IsFewSigned, IsPowerTail}
 use Rattle.ijson_number.specs.private.Reading.{IsExponentSignTaken}
 use Rattle.ijson_number.specs.private.PrefixDigits.{IsTaken}
 use Rattle.ijson_number.proofs.parsing.PlainFronts.{none_begins, same_run}
 use Rattle.ijson_number.proofs.parsing.DigitRuns.{IsDigits_all, IsDigits_nonempty}
-
--- what stands behind a front
-pub behind_is : (text front rest : List ℕ) → text ≡ front ++ rest → drop (length text - length rest) text ≡ rest
-behind_is text front rest e =
-    let long : length text - length rest ≡ length front = omega (arith, ap length e ∙ length-append front rest) in
-    ap (λ n. drop n text) long ∙ ap (drop (length front)) e ∙ drop-append_seam front rest
 
 -- the text of such an exponent is not empty, and begins with its letter
 tail_begins_at : (text exponent_text rest : List ℕ) → text ≡ exponent_text ++ rest → IsFewExponent exponent_text
@@ -96,4 +90,4 @@ behind_taken (b ∷ text) digits negative count some sign =
     let s = sign_of text digits negative sign in
     let all : text ≡ (s.0 ++ take count digits) ++ drop count digits = s.1 ∙ ap (λ d. s.0 ++ d) (sym (take-append-drop count digits))
     ∙ sym (append_assoc s.0 (take count digits) (drop count digits)) in
-    behind_is (b ∷ text) (b ∷ (s.0 ++ take count digits)) (drop count digits) (ap (λ t. b ∷ t) all)
+    end_rest (b ∷ text) (drop count digits) (b ∷ (s.0 ++ take count digits)) (ap (λ t. b ∷ t) all)

@@ -1,7 +1,7 @@
 -- Numbers of few digits, read straight into a word.
 use Rattle.std.proofs.Common.{◌≡◌, ◌≢◌, ℕ, zero, suc, ◌+◌, ◌-◌, ◌*◌, ◌%◌, ◌^◌, ◌<◌, ◌≤◌, Bool, true, false, List}
 use Rattle.std.proofs.Common.{◌++◌, length, refl, ap, sym, subst, ◌∙◌, inl, inr, arith, pow-add}
-use Rattle.std.specs.Prelude.{Option, Some, None, IfSome, ℤ, pos, negsuc, neg_ℤ, nat_abs, int_le, int_lt, ◌≤ℤ◌, ◌+ℤ◌, ◌-ℤ◌, ◌*ℤ◌, ◌&&◌}
+use Rattle.std.specs.Prelude.{ℤ, pos, negsuc, neg_ℤ, nat_abs, int_le, int_lt, ◌≤ℤ◌, ◌+ℤ◌, ◌-ℤ◌, ◌*ℤ◌, ◌&&◌}
 use Rattle.std.proofs.Math.Nat.{mul-le-mul_left}
 use Rattle.std.proofs.lemmas.Int.{ints}
 use Rattle.ijson_number.specs.Decimal.{Decimal}
@@ -12,13 +12,13 @@ use Rattle.ijson_number.specs.Strips.{Strips, signed}
 use Rattle.ijson_number.specs.FormNumber.{integer_word}
 use Rattle.ijson_number.specs.Stripped.{tens_out, stripped_number}
 use Rattle.ijson_number.specs.laws.Tens.{ten_pos, abs_signed, int_tens, int_zero, signed_mul, signed_zero, zero_or_not}
-use Rattle.std.proofs.lemmas.Bool.{cases_lt}
+use Rattle.std.proofs.lemmas.Bool.{and_from, cases_lt}
 use Rattle.ijson_number.proofs.parsing.PartsDenote.{parts_denote}
 use Rattle.ijson_number.proofs.parsing.Exponents.{within_in_range}
 use Rattle.ijson_number.proofs.storing.FormNumbers.{IsTensOut, tens_out_is, sign_and_magnitude, stripped_is}
 use Rattle.ijson_number.proofs.storing.FormCases.{left, packed_here, packed_is, taken}
 use Rattle.ijson_number.proofs.storing.IntegerWords.{below_test, form_is, signed_known, unsigned_fits}
-use Rattle.ijson_number.proofs.BooleanTests.{abs_zero, both_hold, le_test, not_le}
+use Rattle.ijson_number.proofs.BooleanTests.{abs_zero, le_test, not_le}
 use Rattle.ijson_number.specs.laws.Ordered.{times}
 use Rattle.ijson_number.proofs.storing.WholeValues.{abs_times, tens_few, times_one}
 
@@ -63,10 +63,10 @@ strips_less m e t n small s =
 packed_fits : (negative : Bool) (m : ℕ) → m < 2 ^ 55 → fits_packed (signed negative m) ≡ true
 packed_fits true zero h = refl
 packed_fits true (suc m) h =
-    both_hold (int_le (neg_ℤ (pos 36028797018963968)) (negsuc m)) (int_lt (negsuc m) (pos 36028797018963968))
+    and_from (int_le (neg_ℤ (pos 36028797018963968)) (negsuc m)) (int_lt (negsuc m) (pos 36028797018963968))
     (le_test (neg_ℤ (pos 36028797018963968)) (negsuc m) (omega (arith, ints)))
     (below_test (negsuc m) (pos 36028797018963968) (omega (arith, ints)))
-packed_fits false m h = both_hold (int_le (neg_ℤ (pos 36028797018963968)) (pos m)) (int_lt (pos m) (pos 36028797018963968))
+packed_fits false m h = and_from (int_le (neg_ℤ (pos 36028797018963968)) (pos m)) (int_lt (pos m) (pos 36028797018963968))
     (le_test (neg_ℤ (pos 36028797018963968)) (pos m) (omega (arith, ints)))
     (below_test (pos m) (pos 36028797018963968) (omega (arith, ints)))
 
@@ -95,7 +95,7 @@ fraction_packed negative m k n point some few small last s =
     let r = same_parts in
     let below : int_le (pos 0) n.exponent ≡ false = not_le (pos 0) n.exponent (let e = r.1 in omega (arith, ints)) in
     let fits : int_le (negsuc 6) n.exponent && fits_packed n.mantissa ≡ true =
-    both_hold (int_le (negsuc 6) n.exponent) (fits_packed n.mantissa)
+    and_from (int_le (negsuc 6) n.exponent) (fits_packed n.mantissa)
     (le_test (negsuc 6) n.exponent (let e = r.1 in omega (arith, ints))) (ap fits_packed r.0 ∙ packed_fits negative m small) in
     taken n.point _ _ point ∙ left (int_le (pos 0) n.exponent) _ _ below
     ∙ taken (int_le (negsuc 6) n.exponent && fits_packed n.mantissa) _ _ fits
@@ -173,11 +173,6 @@ pub fits_known : (negative : Bool) (magnitude : ℕ) → magnitude < 2 ^ 64 → 
 fits_known false magnitude word h = λ _. unsigned_fits magnitude word
 fits_known true magnitude word h = let small : magnitude < 2 ^ 63 = h refl in
     signed_known (neg_ℤ (pos magnitude)) (grind (arith, ints, small))
-
--- what is known of a value holds of what follows from it
-pub some_with : {A : Type 0} (o : Option A) (P Q : A → Type 0) → IfSome o P → ((x : A) → P x → Q x) → IfSome o Q
-some_with (Some x) P Q h f = f x h
-some_with None P Q h f = tt
 
 -- few digits and a small exponent spell the number that they and the places are
 pub parts_number : (t : List ℕ) (p : Parts) (magnitude : ℕ) (e : ℤ) → IsSpelled t p → e ≡ p.exponent -ℤ pos (length p.fraction)

@@ -2,7 +2,7 @@
 use Rattle.std.proofs.Common.{◌≡◌, ◌∙◌, ℕ, zero, suc, ◌+◌, ◌-◌, ◌*◌, ◌^◌, ◌<◌, ◌≤◌, Bool, true, false, refl, ap, sym, arith, List, inl, inr}
 use Rattle.std.specs.Prelude.{ℤ, pos, negsuc, neg_ℤ, nat_abs, int_le, int_lt, ◌&&◌, ◌*ℤ◌, ◌-ℤ◌, ◌≤ℤ◌, ◌<ℤ◌, FitsSigned}
 use Rattle.std.specs.Int.{FitsUnsigned}
-use Rattle.std.proofs.lemmas.Bool.{cases_lt}
+use Rattle.std.proofs.lemmas.Bool.{and_from, and_left, and_parts, and_right, cases_lt, false_from_ne_true}
 use Rattle.std.proofs.lemmas.Int.{ints}
 use Rattle.std.proofs.Math.Nat.{mul-le-mul_left}
 use Rattle.ijson_number.specs.laws.Tens.{ten_pos}
@@ -14,7 +14,7 @@ use Rattle.ijson_number.specs.Integers.{HasValue}
 use Rattle.ijson_number.specs.StoredNumber.{stored_number}
 use Rattle.ijson_number.specs.private.StoredNumber.{IsStored}
 use Rattle.ijson_number.proofs.storing.DigitsOf.{stored_digits_are}
-use Rattle.ijson_number.proofs.BooleanTests.{test_le, test_below, le_test, both_of, both_hold, first_fails, second_fails}
+use Rattle.ijson_number.proofs.BooleanTests.{test_le, test_below, le_test}
 use Rattle.ijson_number.proofs.storing.SameParts.{stored_sign}
 use Rattle.ijson_number.proofs.storing.WholeValues.{abs_times, value_is, value_from}
 
@@ -30,10 +30,6 @@ left false x y e = refl
 -- a packed form by its parts
 pub packed_is : (m m' e e' : ℤ) (p p' : Bool) → m ≡ m' → e ≡ e' → p ≡ p' → packed m e p ≡ packed m' e' p'
 packed_is m m' e e' p p' a b c = rw (a, b, c) refl
-
-never : (b : Bool) → (b ≡ true → ⊥) → b ≡ false
-never true h = absurd (h refl)
-never false h = refl
 
 -- the digits of stored parts
 pub stored_form : (negative : Bool) (ds : List ℕ) (e : ℤ) (point : Bool) → IsStored negative ds
@@ -79,15 +75,15 @@ integer_digits n z p h v a b c =
     ∙ left (fits_u64 z) _ _ c
 
 pub within : (low high z : ℤ) → int_le low z && int_lt z high ≡ true → (low ≤ℤ z) × (z <ℤ high)
-within low high z t = let b = both_of (int_le low z) (int_lt z high) t in (test_le low z b.0, test_below z high b.1)
+within low high z t = let b = and_parts (int_le low z) (int_lt z high) t in (test_le low z b.0, test_below z high b.1)
 
 -- what doesn't fit a signed word
 pub not_signed : (z : ℤ) → (FitsSigned w64 z → ⊥) → fits_i64 z ≡ false
-not_signed z h = never (fits_i64 z) (λ t. let b = within (neg_ℤ (pos (2 ^ 63))) (pos (2 ^ 63)) z t in h (grind (arith, ints)))
+not_signed z h = false_from_ne_true (fits_i64 z) (λ t. let b = within (neg_ℤ (pos (2 ^ 63))) (pos (2 ^ 63)) z t in h (grind (arith, ints)))
 
 -- what doesn't fit an unsigned word
 pub not_unsigned : (z : ℤ) → (FitsUnsigned w64 z → ⊥) → fits_u64 z ≡ false
-not_unsigned z h = never (fits_u64 z) (λ t. h (within (pos 0) (pos (2 ^ 64)) z t))
+not_unsigned z h = false_from_ne_true (fits_u64 z) (λ t. h (within (pos 0) (pos (2 ^ 64)) z t))
 
 large_apart : (z low high : ℤ) → neg_ℤ (pos (2 ^ 64)) ≤ℤ low → high ≤ℤ pos (2 ^ 64) → 10 ^ 20 ≤ nat_abs z → low ≤ℤ z → z <ℤ high → ⊥
 large_apart (pos n) low high a b h l u = omega (arith, ints)
@@ -96,7 +92,7 @@ large_apart (negsuc n) low high a b h l u = omega (arith, ints)
 pub large_fails : (z low high : ℤ) → neg_ℤ (pos (2 ^ 64)) ≤ℤ low → high ≤ℤ pos (2 ^ 64) → 10 ^ 20 ≤ nat_abs z
     → int_le low z && int_lt z high ≡ false
 large_fails z low high a b h =
-    never (int_le low z && int_lt z high) (λ t. let c = within low high z t in large_apart z low high a b h c.0 c.1)
+    false_from_ne_true (int_le low z && int_lt z high) (λ t. let c = within low high z t in large_apart z low high a b h c.0 c.1)
 
 -- a large integer has its digits
 pub large_form : (n : Decimal) → IsPlain n → n.point ≡ false → ((z : ℤ) → nat_abs z < 10 ^ 20 → HasValue n z → ⊥)
@@ -144,7 +140,7 @@ module _ (n : Decimal) (k : ℕ) (whole : pos 0 ≤ℤ n.exponent) (so_far : for
     -- the exponent that serves
     pub packed_here : fits_packed m ≡ true → form_of n ≡ packed m (pos k) true
     packed_here f =
-        let test = both_hold (int_le (pos k) n.exponent) (fits_packed here)
+        let test = and_from (int_le (pos k) n.exponent) (fits_packed here)
         (le_test (pos k) n.exponent (reached n.exponent k whole reach)) (ap fits_packed same ∙ f) in
         now ∙ taken (int_le (pos k) n.exponent && fits_packed here) (packed here (pos k) true) rest test
         ∙ ap (λ x. packed x (pos k) true) same
@@ -152,15 +148,15 @@ module _ (n : Decimal) (k : ℕ) (whole : pos 0 ≤ℤ n.exponent) (so_far : for
     -- one whose mantissa is too large doesn't
     pub too_large_here : fits_packed m ≡ false → form_of n ≡ smallest_packed (8 - (k + 1)) (k + 1) n
     too_large_here f = now ∙ left (int_le (pos k) n.exponent && fits_packed here) (packed here (pos k) true) rest
-        (second_fails (int_le (pos k) n.exponent) (fits_packed here) (ap fits_packed same ∙ f)) ∙ on
+        (and_right (int_le (pos k) n.exponent) (fits_packed here) (ap fits_packed same ∙ f)) ∙ on
 
   -- nor does one past the number's own
   pub past_exponent : nat_abs n.exponent < k → form_of n ≡ smallest_packed (8 - (k + 1)) (k + 1) n
   past_exponent h =
-      let fails = never (int_le (pos k) n.exponent)
+      let fails = false_from_ne_true (int_le (pos k) n.exponent)
       (λ t. let l = test_le (pos k) n.exponent t in let p = passed n.exponent k whole h in omega (arith, ints)) in
       now ∙ left (int_le (pos k) n.exponent && fits_packed here) (packed here (pos k) true) rest
-      (first_fails (int_le (pos k) n.exponent) (fits_packed here) fails) ∙ on
+      (and_left (int_le (pos k) n.exponent) (fits_packed here) fails) ∙ on
 
 -- a mantissa of more than twenty digits
 module _ (n : Decimal) (plain : IsPlain n) (long : 10 ^ 20 ≤ nat_abs n.mantissa) where
@@ -178,7 +174,7 @@ module _ (n : Decimal) (plain : IsPlain n) (long : 10 ^ 20 ≤ nat_abs n.mantiss
   none_smallest (suc tries) k =
       let m = n.mantissa *ℤ pos (10 ^ nat_abs (n.exponent -ℤ pos k)) in
       left (int_le (pos k) n.exponent && fits_packed m) (packed m (pos k) true) (smallest_packed tries (suc k) n)
-      (second_fails (int_le (pos k) n.exponent) (fits_packed m) (not_packed m (long_scaled (nat_abs (n.exponent -ℤ pos k)))))
+      (and_right (int_le (pos k) n.exponent) (fits_packed m) (not_packed m (long_scaled (nat_abs (n.exponent -ℤ pos k)))))
       ∙ none_smallest tries (suc k)
 
   either_digits : (b : Bool) (x y : FormOf) → x ≡ digits_form n → y ≡ digits_form n
@@ -190,7 +186,7 @@ module _ (n : Decimal) (plain : IsPlain n) (long : 10 ^ 20 ≤ nat_abs n.mantiss
   point_digits h =
       taken n.point _ _ h ∙ either_digits (int_le (pos 0) n.exponent) _ _ (none_smallest 8 0)
       (left (int_le (negsuc 6) n.exponent && fits_packed n.mantissa) _ _
-      (second_fails (int_le (negsuc 6) n.exponent) (fits_packed n.mantissa) (not_packed n.mantissa long)))
+      (and_right (int_le (negsuc 6) n.exponent) (fits_packed n.mantissa) (not_packed n.mantissa long)))
 
   no_point_digits : n.point ≡ false → form_of n ≡ digits_form n
   no_point_digits h = large_form n plain h

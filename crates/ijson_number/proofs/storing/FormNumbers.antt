@@ -7,6 +7,7 @@ use Rattle.std.proofs.Math.Nat.{pow-succ'}
 use Rattle.std.proofs.lemmas.Bool.Decides.{nat_tests}
 use Rattle.std.proofs.lemmas.Int.{ints}
 use Rattle.std.proofs.lemmas.Int.Digits.{number_digits_of}
+use Rattle.std.proofs.lemmas.Bool.{and_parts}
 use Rattle.ijson_number.specs.Decimal.{Decimal, IsPlain}
 use Rattle.ijson_number.specs.Form.{FormOf, packed, fits_packed, fits_i64}
 use Rattle.ijson_number.specs.Form.{fits_u64, digits_form, integer_form, smallest_packed, form_of}
@@ -19,7 +20,7 @@ use Rattle.ijson_number.specs.laws.Tens.{int_tens, int_zero, signed_mul, abs_sig
 use Rattle.ijson_number.proofs.storing.DigitsOf.{digits_are}
 use Rattle.ijson_number.proofs.storing.FormCases.{within}
 use Rattle.ijson_number.proofs.parsing.Denotes.{same_decimal}
-use Rattle.ijson_number.proofs.BooleanTests.{both_of, test_le}
+use Rattle.ijson_number.proofs.BooleanTests.{test_le}
 use Rattle.ijson_number.proofs.storing.WholeValues.{times_one}
 use Rattle.ijson_number.proofs.comparing.MagnitudeOrder.{gap}
 
@@ -109,7 +110,8 @@ small_within low high (negsuc n) a b t = let w = within low high (negsuc n) t in
 small_packed : (z : ℤ) → fits_packed z ≡ true → nat_abs z < 10 ^ 20
 small_packed z t = small_within (neg_ℤ (pos 36028797018963968)) (pos 36028797018963968) z (omega (arith, ints)) (omega (arith, ints)) t
 
-not_below : (z : ℤ) → fits_u64 z ≡ true → pos (nat_abs z) ≡ z
+-- what isn't below zero is its size
+pub not_below : (z : ℤ) → fits_u64 z ≡ true → pos (nat_abs z) ≡ z
 not_below (pos n) t = refl
 not_below (negsuc n) t = let w = within (pos 0) (pos (2 ^ 64)) (negsuc n) t in absurd (omega (arith, ints))
 
@@ -154,7 +156,7 @@ module _ (n : Decimal) (plain : IsPlain n) where
   packed_test : (k m : ℤ) → n.point ≡ true → m ≡ n.mantissa *ℤ pos (10 ^ nat_abs (n.exponent -ℤ k))
       → int_le k n.exponent && fits_packed m ≡ true → form_number (packed m k true) ≡ n
   packed_test k m h is t =
-      let b = both_of (int_le k n.exponent) (fits_packed m) t in
+      let b = and_parts (int_le k n.exponent) (fits_packed m) t in
       ap (λ p. stripped_number m k p) (sym h) ∙ packed_case k m (test_le k n.exponent b.0) is (small_packed m b.1)
 
   smallest_case : (tries k : ℕ) → n.point ≡ true → form_number (smallest_packed tries k n) ≡ n
@@ -170,7 +172,7 @@ module _ (n : Decimal) (plain : IsPlain n) where
   fraction_test : n.point ≡ true → int_le (negsuc 6) n.exponent && fits_packed n.mantissa ≡ true
       → form_number (packed n.mantissa n.exponent true) ≡ n
   fraction_test h t =
-      let b = both_of (int_le (negsuc 6) n.exponent) (fits_packed n.mantissa) t in
+      let b = and_parts (int_le (negsuc 6) n.exponent) (fits_packed n.mantissa) t in
       ap (λ p. stripped_number n.mantissa n.exponent p) (sym h)
       ∙ packed_case n.exponent n.mantissa (omega (arith, ints)) no_tens (small_packed n.mantissa b.1)
 

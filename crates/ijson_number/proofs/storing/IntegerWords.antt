@@ -7,6 +7,7 @@ use Rattle.ijson_number.proofs.storing.FormCases.{integer_packed, integer_signed
 use Rattle.std.specs.Int.Digits.{number_from_digits, digits_of}
 use Rattle.std.proofs.lemmas.Int.{ints}
 use Rattle.std.proofs.lemmas.Int.Digits.{number_digits_of}
+use Rattle.std.proofs.lemmas.Bool.{and_from}
 use Rattle.ijson_number.specs.Decimal.{Decimal, IsPlain}
 use Rattle.ijson_number.specs.Form.{FormOf, packed, signed_word, unsigned_word, fits_packed}
 use Rattle.ijson_number.specs.Form.{fits_i64, fits_u64, digits_form, integer_form, form_of}
@@ -20,7 +21,7 @@ use Rattle.ijson_number.specs.Strips.{signed}
 use Rattle.ijson_number.specs.laws.Tens.{int_tens, abs_signed, zero_or_not}
 use Rattle.ijson_number.proofs.storing.FormNumbers.{IsTensOut, tens_out_is, tens_out_zero, sign_and_magnitude, not_zero, form_has}
 use Rattle.ijson_number.proofs.parsing.Denotes.{same_decimal}
-use Rattle.ijson_number.proofs.BooleanTests.{abs_zero, both_hold, le_test}
+use Rattle.ijson_number.proofs.BooleanTests.{abs_zero, le_test}
 use Rattle.ijson_number.proofs.storing.WholeValues.{tens_few, whole_stripped, value_from, value_is, whole_num, whole_value}
 use Rattle.ijson_number.proofs.writing.Writing.{below_zero}
 
@@ -162,19 +163,19 @@ signed_small (pos n) h = omega (arith, ints)
 signed_small (negsuc n) h = omega (arith, ints)
 
 pub signed_fits : (z : ℤ) → FitsSigned w64 z → fits_i64 z ≡ true
-signed_fits z h = both_hold (int_le (neg_ℤ (pos (2 ^ 63))) z) (int_lt z (pos (2 ^ 63)))
+signed_fits z h = and_from (int_le (neg_ℤ (pos (2 ^ 63))) z) (int_lt z (pos (2 ^ 63)))
     (le_test (neg_ℤ (pos (2 ^ 63))) z (omega (arith, ints))) (below_test z (pos (2 ^ 63)) (omega (arith, ints)))
 
 -- an unsigned word
 pub unsigned_fits : (n : ℕ) → n < 2 ^ 64 → fits_u64 (pos n) ≡ true
-unsigned_fits n h = both_hold (int_le (pos 0) (pos n)) (int_lt (pos n) (pos (2 ^ 64))) (le_test (pos 0) (pos n) (omega (arith, ints)))
+unsigned_fits n h = and_from (int_le (pos 0) (pos n)) (int_lt (pos n) (pos (2 ^ 64))) (le_test (pos 0) (pos n) (omega (arith, ints)))
     (below_test (pos n) (pos (2 ^ 64)) (omega (arith, ints)))
 
 pub signed_known : (z : ℤ) → FitsSigned w64 z → fits_i64 z ≡ false → fits_u64 z ≡ true
 signed_known z h n = absurd (let e = signed_fits z h in cc)
 
 pub word_fits : (z : ℤ) → FitsUnsigned w64 z → fits_u64 z ≡ true
-word_fits z h = both_hold (int_le (pos 0) z) (int_lt z (pos (2 ^ 64))) (le_test (pos 0) z h.0) (below_test z (pos (2 ^ 64)) h.1)
+word_fits z h = and_from (int_le (pos 0) z) (int_lt z (pos (2 ^ 64))) (le_test (pos 0) z h.0) (below_test z (pos (2 ^ 64)) h.1)
 
 -- a packed mantissa is a signed word
 pub packed_word : (z : ℤ) → fits_packed z ≡ true → FitsSigned w64 z

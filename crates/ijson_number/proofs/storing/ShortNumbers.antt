@@ -14,6 +14,7 @@ use Rattle.std.proofs.Math.Nat.{mul-le-mul_left}
 use Rattle.std.proofs.lemmas.Int.Digits.{all_below_base_digits_of, number_digits_of}
 use Rattle.std.proofs.lemmas.List.{append-nil, take_all}
 use Rattle.std.proofs.lemmas.Simd.{zip2_splat}
+use Rattle.std.proofs.lemmas.Bool.{and_left, and_right}
 use Rattle.ijson_number.specs.Decimal.{Decimal}
 use Rattle.ijson_number.specs.Form.{digits, digits_form, fits_packed, form_of, packed, smallest_packed}
 use Rattle.ijson_number.specs.Strips.{signed}
@@ -26,7 +27,7 @@ use Rattle.ijson_number.specs.private.Stripped.{digits_from_text}
 use Rattle.ijson_number.specs.private.WordText.{last_digits}
 use Rattle.ijson_number.specs.private.ZerosInFront.{IsZerosInFront}
 use Rattle.ijson_number.proofs.storing.FewDigits.{no_more}
-use Rattle.ijson_number.proofs.BooleanTests.{not_le, first_fails, le_test, second_fails}
+use Rattle.ijson_number.proofs.BooleanTests.{not_le, le_test}
 use Rattle.ijson_number.proofs.storing.FormCases.{large_fails, left, stored_form, taken}
 use Rattle.ijson_number.proofs.storing.IntegerWords.{some_is, some_stored}
 use Rattle.ijson_number.proofs.writing.LastDigits.{front_is}
@@ -84,7 +85,7 @@ module _ (negative : Bool) (m : ℕ) (x : ℤ) (above : 0 < m) (large : pos 27 �
       let times : nat_abs number.mantissa * 10 ^ 20 ≤ nat_abs number.mantissa * 10 ^ j = mul-le-mul_left (nat_abs number.mantissa) p in
       let long : 10 ^ 20 ≤ nat_abs scaled = rw (abs_times number.mantissa (10 ^ j)) (omega (arith, magnitude_is, times)) in
       left (int_le (pos k) x && fits_packed scaled) (packed scaled (pos k) true) (smallest_packed tries (suc k) number)
-      (second_fails (int_le (pos k) x) (fits_packed scaled)
+      (and_right (int_le (pos k) x) (fits_packed scaled)
       (large_fails scaled (neg_ℤ (pos 36028797018963968)) (pos 36028797018963968) (omega (arith, ints)) (omega (arith, ints)) long))
       ∙ none_packed tries (suc k) (omega arith)
 
@@ -100,7 +101,7 @@ small_form negative m x small =
     let below : int_le (pos 0) x ≡ false = not_le (pos 0) x (omega (arith, ints)) in
     left (int_le (pos 0) x) _ _ below
     ∙ left (int_le (negsuc 6) x && fits_packed mantissa) _ _
-    (first_fails (int_le (negsuc 6) x) (fits_packed mantissa) (not_le (negsuc 6) x small))
+    (and_left (int_le (negsuc 6) x) (fits_packed mantissa) (not_le (negsuc 6) x small))
 
 -- a number with the point whose stripped exponent no word has is a list of digits
 pub outside_form : (negative : Bool) (magnitude m t : ℕ) (e x : ℤ) → magnitude ≡ m * 10 ^ t → m % 10 ≢ 0 → magnitude < 2 ^ 64

@@ -2,7 +2,7 @@
 use Rattle.std.proofs.Common.{◌≡◌, ◌≢◌, ℕ, zero, suc, ◌+◌, ◌*◌, ◌/◌, ◌%◌, ◌^◌, ◌<◌, ◌≤◌, ◌⊎◌, Bool, true}
 use Rattle.std.proofs.Common.{false, List, ◌++◌, length, refl, ap, sym, ◌∙◌, arith, inl, inr}
 use Rattle.std.specs.Prelude.{ℤ, pos, negsuc, neg_ℤ, nat_abs, int_le, int_lt, ◌≤ℤ◌, ◌<ℤ◌, ◌+ℤ◌, ◌-ℤ◌, ◌*ℤ◌, ◌||◌, ◌&&◌}
-use Rattle.std.proofs.lemmas.Bool.{cases_lt}
+use Rattle.std.proofs.lemmas.Bool.{and_parts, cases_lt, or_from}
 use Rattle.std.proofs.lemmas.Fmt.{decimal_step_wide, decimal_nonempty}
 use Rattle.std.proofs.lemmas.Int.{ints}
 use Rattle.std.proofs.lemmas.List.{length_push}
@@ -17,9 +17,9 @@ use Rattle.ijson_number.specs.private.WordText.{pointed_text}
 use Rattle.ijson_number.specs.laws.Tens.{ten_pos}
 use Rattle.ijson_number.proofs.storing.FormCases.{taken as form_taken}
 use Rattle.ijson_number.proofs.storing.IntegerWords.{below_test, zero_is, some_stored, tens_are, without_tens}
-use Rattle.ijson_number.proofs.BooleanTests.{abs_zero, both_of, test_le, not_le, not_lt}
+use Rattle.ijson_number.proofs.BooleanTests.{abs_zero, test_le, not_le, not_lt}
 use Rattle.ijson_number.proofs.writing.Writing.{stored_text, left}
-use Rattle.ijson_number.proofs.writing.WordTexts.{count_is, fraction_is, neither}
+use Rattle.ijson_number.proofs.writing.WordTexts.{count_is, fraction_is}
 
 either_form : (b : Bool) (x y f : FormOf) → (let r : FormOf = elim b [ true ↦ x | false ↦ y ] in r) ≡ f → ((b ≡ true) × (x ≡ f)) ⊎ (y ≡ f)
 either_form true x y f e = inl (refl, e)
@@ -49,7 +49,7 @@ kept_exponent n m e h l is =
       | inl q ↦ absurd (not_smallest 8 0 n m e l q.1)
       | inr q ↦ elim (either_form (int_le (negsuc 6) n.exponent && fits_packed n.mantissa) (packed n.mantissa n.exponent true)
           (digits_form n) (packed m e true) q) [
-            | inl r ↦ (let b = both_of (int_le (negsuc 6) n.exponent) (fits_packed n.mantissa) r.0 in let f = r.1 in
+            | inl r ↦ (let b = and_parts (int_le (negsuc 6) n.exponent) (fits_packed n.mantissa) r.0 in let f = r.1 in
                 (cc, test_le (negsuc 6) n.exponent b.0))
             | inr r ↦ absurd (cc)
           ]
@@ -133,7 +133,7 @@ module _ (m e : ℤ) (k : ℕ) (word : nat_abs m < 2 ^ 64) (scale : 0 < k) (belo
         ]
 
     plain : int_le point_place (negsuc 5) || int_lt (pos 20) e ≡ false
-    plain = neither (int_le point_place (negsuc 5)) (int_lt (pos 20) e) (not_le point_place (negsuc 5) not_far)
+    plain = or_from (int_le point_place (negsuc 5)) (int_lt (pos 20) e) (not_le point_place (negsuc 5) not_far)
         (not_lt (pos 20) e (omega (arith, ints)))
 
     parts : abs ≡ abs / 10 ^ k * 10 ^ k + abs % 10 ^ k

@@ -2,7 +2,7 @@
 use Rattle.std.proofs.Common.{◌≡◌, ◌≢◌, ℕ, ◌+◌, ◌-◌, ◌*◌, ◌^◌, ◌<◌, ◌≤◌, Bool, true, false, List, []}
 use Rattle.std.proofs.Common.{◌∷◌, ◌++◌, length, refl, ap, sym, ◌∙◌, arith, inl, inr}
 use Rattle.std.specs.Prelude.{ℤ, pos, negsuc, nat_abs, int_le, int_lt, ◌+ℤ◌, ◌-ℤ◌, ◌||◌, nat_eq, not}
-use Rattle.std.proofs.lemmas.Bool.{cases_lt}
+use Rattle.std.proofs.lemmas.Bool.{cases_lt, or_from}
 use Rattle.std.proofs.lemmas.Fmt.{decimal_digit, decimal_nonempty}
 use Rattle.std.proofs.lemmas.Int.{ints}
 use Rattle.std.proofs.lemmas.Int.Digits.{length-digits_of-le}
@@ -21,9 +21,6 @@ use Rattle.ijson_number.proofs.storing.IntegerWords.{few_tens, zero_is, some_sto
 use Rattle.ijson_number.proofs.BooleanTests.{abs_zero, le_test, not_le, not_lt}
 use Rattle.ijson_number.proofs.writing.Writing.{decimal_is, stored_text, taken, left}
 use Rattle.ijson_number.proofs.writing.PaddedDigits.{joined, last_count, last_zeros, padded, some_places, whole_small}
-
-pub neither : (a b : Bool) → a ≡ false → b ≡ false → a || b ≡ false
-neither a b p q = rw (p, q) refl
 
 module _ (magnitude : ℕ) (some : 0 < magnitude) (small : magnitude < 2 ^ 64) where
   abbrev ds : List ℕ
@@ -136,7 +133,7 @@ module _ (z : ℤ) (word : nat_abs z < 2 ^ 64) where
     some_float =
         let long = some_kept in
         let low = few in
-        let plain = neither (int_le place (negsuc 5)) (int_lt (pos 20) (pos out.1)) (not_le place (negsuc 5) (omega (arith, ints)))
+        let plain = or_from (int_le place (negsuc 5)) (int_lt (pos 20) (pos out.1)) (not_le place (negsuc 5) (omega (arith, ints)))
         (not_lt (pos 20) (pos out.1) (omega (arith, ints))) in
         let first : int_le place (pos 0) ≡ false = not_le place (pos 0) (omega (arith, ints)) in
         let second : int_le (pos (length kept)) place ≡ true = le_test (pos (length kept)) place (omega (arith, ints)) in

@@ -1,8 +1,8 @@
 use Rattle.std.proofs.Common.{◌∙◌, ◌+◌, List, ℕ, length, ap, refl, sym, subst, take, arith}
 use Rattle.std.proofs.lemmas.Grind.{common_steps}
+use Rattle.std.proofs.lemmas.Option.{IfSome_then}
 use Rattle.ijson_number.specs.Grammar.{Spells}
 use Rattle.ijson_number.specs.private.Prefix.{IsMantissa, prefix_number}
-use Rattle.ijson_number.proofs.storing.FewDigits.{some_with}
 use Rattle.ijson_number.proofs.AnyAnswer.{none_with, where_none, where_refused, where_some}
 use Rattle.ijson_number.proofs.parsing.PrefixNumbers.{front_of, rest_is, whole_length}
 use Rattle.ijson_number.proofs.parsing.PowerTails.{tail_goes_on}
@@ -18,13 +18,13 @@ pub returns-then-goes_on-clause-found : goal.returns-then-goes_on-clause-found
 returns-then-goes_on-clause-found c =
     let text = c.args.text.now in
     let m : IsMantissa text c.in-Some.prefix c.in-Some.rest.now = rw c.as_bytes.ensures.value at c.in-Some.ensures.found in
-    some_with c.in_ok-found.found _ _ c.in_ok-found.ensures.found (λ f s. s text m)
+    IfSome_then c.in_ok-found.found c.in_ok-found.ensures.found (λ f s. s text m)
 
 pub returns-then-goes_on-clause-stops : goal.returns-then-goes_on-clause-stops
 returns-then-goes_on-clause-stops c =
     let text = c.args.text.now in
     let m : IsMantissa text c.in-Some.prefix c.in-Some.rest.now = rw c.as_bytes.ensures.value at c.in-Some.ensures.found in
-    some_with c.in_ok-found.found _ _ c.in_ok-found.ensures.stops (λ f s. s text m)
+    IfSome_then c.in_ok-found.found c.in_ok-found.ensures.stops (λ f s. s text m)
 
 pub returns-then-goes_on-clause-plain : goal.returns-then-goes_on-clause-plain
 returns-then-goes_on-clause-plain c =
@@ -36,7 +36,7 @@ returns-then-goes_on-clause-power c =
     let text = c.args.text.now in
     let read = rw c.as_bytes.ensures.value at c.in-Some.ensures.rest in
     let m : IsMantissa text c.in-Some.prefix c.in-Some.rest.now = rw c.as_bytes.ensures.value at c.in-Some.ensures.found in
-    some_with c.in_ok-found.found _ _ c.in_ok-found.ensures.power
+    IfSome_then c.in_ok-found.found c.in_ok-found.ensures.power
     (λ f s p rest is. s rest (rw (read p is.power_text is.front) is.power)
     ∙ sym (whole_length text c.in-Some.prefix c.in-Some.rest.now m))
 

@@ -2,9 +2,9 @@ use Rattle.std.proofs.Common.{◌≡◌, ◌/◌, ◌%◌, ◌^◌, ◌<◌, ◌
 use Rattle.std.specs.Fmt.{decimal}
 use Rattle.std.specs.String.{string_bytes}
 use Rattle.std.proofs.lemmas.Str.{IsAscii-drop}
+use Rattle.std.proofs.lemmas.Result.{on_err_weaker}
 use Rattle.ijson_number.specs.Text.{minus_text}
 use Rattle.ijson_number.specs.private.WordText.{last_digits}
-use Rattle.ijson_number.proofs.AnyAnswer.{refused_with}
 use Rattle.ijson_number.proofs.writing.AsciiTexts.{digits_ascii}
 use Rattle.ijson_number.proofs.writing.Beginnings.{some_begun}
 use Rattle.ijson_number.proofs.writing.LastDigits.{but_first, full_row, wide_decimal}
@@ -64,7 +64,7 @@ returns-clause-refused c =
     let a = c.args in
     let minus = minus_text a.negative in
     let wide : 10 ^ 15 ≤ a.magnitude = omega (arith, c.if-magnitude-lt-SHORT_END.false) in
-    refused_with _ c.push_lanes-2.ensures.refused (λ same.
+    on_err_weaker _ (λ same.
     some_begun (string_bytes a.out.now) _ (minus ++ decimal (a.magnitude / 10 ^ 15)) (take 15 (drop 1 c.lanes_of-2.result)) _
     (same ∙ c.in_ok-push_short.ensures.written)
-    (whole a.magnitude c.ranges.magnitude.fits wide c.lanes_of-2.result c.lanes_of-2.ensures minus))
+    (whole a.magnitude c.ranges.magnitude.fits wide c.lanes_of-2.result c.lanes_of-2.ensures minus)) c.push_lanes-2.ensures.refused

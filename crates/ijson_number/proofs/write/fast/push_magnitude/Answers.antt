@@ -3,9 +3,9 @@ use Rattle.std.proofs.lemmas.Str.{IsAscii-drop}
 use Rattle.std.specs.Fmt.{decimal}
 use Rattle.std.specs.Str.{IsAscii}
 use Rattle.std.specs.String.{string_bytes}
+use Rattle.std.proofs.lemmas.Result.{on_err_weaker}
 use Rattle.ijson_number.specs.Text.{minus_text}
 use Rattle.ijson_number.specs.private.WordText.{last_digits}
-use Rattle.ijson_number.proofs.AnyAnswer.{refused_with}
 use Rattle.ijson_number.proofs.writing.Beginnings.{some_begun}
 use Rattle.ijson_number.proofs.writing.LastDigits.{behind_point, but_first, front_is, wide_rest, wide_whole}
 use Rattle.ijson_number.proofs.writing.AsciiTexts.{digits_ascii}
@@ -95,6 +95,7 @@ returns-clause-refused c =
     let front = decimal (a.magnitude / 10 ^ 15) in
     let more : List ℕ = take (15 - a.scale) (drop 1 lanes.result) in
     let rest = 46 ∷ last_digits a.scale (a.magnitude % 10 ^ a.scale) in
-    refused_with c.push_rows-2.result c.push_rows-2.ensures.refused (λ same.
+    on_err_weaker c.push_rows-2.result (λ same.
     some_begun (string_bytes a.out.now) _ (minus ++ front) (more ++ rest) _ (same ∙ c.in_ok-push_short.ensures.written)
     (glued (string_bytes a.out.now) minus front more rest _ (wide_front a.magnitude a.scale few word wide lanes.result lanes.ensures)))
+    c.push_rows-2.ensures.refused

@@ -2,6 +2,7 @@ use Rattle.std.proofs.Common.{◌≡◌, ◌∙◌, ◌<◌, ◌^◌, true, fals
 use Rattle.std.specs.Prelude.{ℤ, List, ℕ, pos, neg_ℤ, nat_abs, nat_lt, FitsSigned}
 use Rattle.std.proofs.lemmas.Bool.Decides.{nat_tests}
 use Rattle.std.proofs.lemmas.Int.{to_z-of_z}
+use Rattle.std.proofs.lemmas.Option.{IfSome_then}
 use mir.Syntax.{w64}
 use Rattle.ijson_number.specs.Form.{form_of}
 use Rattle.ijson_number.specs.FormNumber.{integer_word}
@@ -9,7 +10,7 @@ use Rattle.ijson_number.specs.Strips.{Strips, signed}
 use Rattle.ijson_number.specs.laws.Tens.{abs_signed}
 use Rattle.ijson_number.specs.declared.parse.prefix.Prefix.{Prefix}
 use Rattle.ijson_number.specs.private.Prefix.{IsPrefix, prefix_number}
-use Rattle.ijson_number.proofs.storing.FewDigits.{fits_known, integer_form_is, some_with}
+use Rattle.ijson_number.proofs.storing.FewDigits.{fits_known, integer_form_is}
 use Rattle.ijson_number.proofs.parse.prefix.Prefix.word.Goals as goal
 
 -- a prefix with no places is an integer
@@ -27,7 +28,7 @@ pub returns-then-self-gt0-clause-word : goal.returns-then-self-gt0-clause-word
 returns-then-self-gt0-clause-word c =
     let f = c.args.self in
     let point : nat_lt 0 f.scale ≡ true = grind (arith, nat_tests) in
-    some_with c.pointed_word.result _ _ c.pointed_word.ensures.word (λ s h. sym (h (prefix_number f) point c.requires.1.strips))
+    IfSome_then c.pointed_word.result c.pointed_word.ensures.word (λ s h. sym (h (prefix_number f) point c.requires.1.strips))
 
 pub returns-then-self-clause-word : goal.returns-then-self-clause-word
 returns-then-self-clause-word c =
