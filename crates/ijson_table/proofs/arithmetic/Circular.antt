@@ -1,16 +1,11 @@
 -- Arithmetic on n slots in a round.
-use Rattle.std.proofs.Common.{◌≡◌, ℕ, ◌+◌, ◌-◌, ◌<◌, ◌≤◌, ◌%◌, ◌⊎◌, arith}
+use Rattle.std.proofs.Common.{◌≡◌, ℕ, ◌+◌, ◌-◌, ◌<◌, ◌≤◌, ◌⊎◌, arith}
 use Rattle.std.proofs.lemmas.Bool.Decides.{nat_tests}
-use Rattle.std.proofs.Math.Nat.{mod-lt}
 use Rattle.ijson_table.specs.Crowd.{distance}
 use Rattle.ijson_table.specs.Slots.{after}
 use Rattle.ijson_table.specs.private.Probe.{onward}
 
--- the home of a hash is one of the slots
-pub home_within : (hash n : ℕ) → 0 < n → hash % n < n
-home_within hash n some = mod-lt hash some
-
--- and so is the slot after one
+-- the slot after one is one of the slots
 pub after-below : (n p : ℕ) → p < n → after n p < n
 unfolding after
 after-below n p h = grind (arith, nat_tests)

@@ -3,6 +3,8 @@ use Rattle.std.proofs.Common.{◌≡◌, ◌≢◌, ℕ, suc, ◌+◌, ◌-◌, 
 use Rattle.std.proofs.Common.{Option, Some, None, max, ap, sym, subst, ◌∙◌, get_or-set_other, refl}
 use Rattle.std.proofs.lemmas.Bool.Decides.{nat_tests}
 use Rattle.std.proofs.lemmas.List.{length-set}
+use Rattle.std.proofs.lemmas.Bool.{cases_lt}
+use Rattle.std.proofs.lemmas.Nat.{mod_below}
 use Rattle.ijson_table.specs.declared.index.slot.Slot.{Slot}
 use Rattle.ijson_table.specs.Crowd.{distance}
 use Rattle.ijson_table.specs.Slots.{after, displacement, home_at, resident, times, IsOrdered}
@@ -10,8 +12,7 @@ use Rattle.ijson_table.specs.private.Holds.{one_if, with_one, Holds, MayStand}
 use Rattle.ijson_table.specs.private.HomeOrder.{behind, HaveRoom}
 use Rattle.ijson_table.specs.private.Probe.{onward}
 use Rattle.ijson_table.specs.private.SlotHashes.{blank, position_in, positions, HasHash}
-use Rattle.ijson_table.proofs.arithmetic.Circular.{home_within, after-injective, after-onward, onward-below}
-use Rattle.ijson_table.proofs.arithmetic.Comparing.{below_or_not}
+use Rattle.ijson_table.proofs.arithmetic.Circular.{after-injective, after-onward, onward-below}
 use Rattle.ijson_table.proofs.probing.ProbePath.{displacement-none}
 use Rattle.ijson_table.proofs.shifting.SlotWrites.{put_down, displacement-set_some}
 use Rattle.ijson_table.proofs.slots.HashesInSlots.{positions-length, position-at}
@@ -83,7 +84,7 @@ module _ (hashes : List ℕ) (first : ℕ) (entries : List Slot) (next step i : 
   home-below = omega (
     arith,
     home_of-entry hashes n i (get_or entries step blank) has at,
-    home_within (get_or entries step blank).hash n (omega arith),
+    mod_below (get_or entries step blank).hash n (omega arith),
   )
 
   module _ (steps : ℕ) (is : steps ≡ max next far) where
@@ -114,7 +115,7 @@ module _ (hashes : List ℕ) (first : ℕ) (entries : List Slot) (next step i : 
     may = record {
       within = there;
       further = omega (arith, displacement-none hashes slots (onward n first steps) none);
-      led_to = λ q lq at_slot. elim (below_or_not far steps) [
+      led_to = λ q lq at_slot. elim (cases_lt far steps) [
         | inl pushed ↦
             let before : ℕ = next - 1 in
             let done : steps ≡ next = omega arith in

@@ -1,5 +1,5 @@
 -- Of as many entries as positions, among which each position stands once, none is empty.
-use Rattle.std.proofs.Common.{◌≡◌, ◌≢◌, ℕ, ◌<◌, ◌≤◌, arith, List, length, set, Option, Some, None, refl, ap, sym, ◌∙◌, get_or-set_other}
+use Rattle.std.proofs.Common.{◌≡◌, ◌≢◌, ℕ, ◌<◌, ◌≤◌, arith, List, length, set, Option, Some, None, ap, sym, ◌∙◌, get_or-set_other}
 use Rattle.std.specs.Prelude.{sum}
 use Rattle.std.specs.List.{All}
 use Rattle.std.proofs.lemmas.Bool.Decides.{nat_tests}
@@ -13,11 +13,6 @@ use Rattle.ijson_table.proofs.arithmetic.Counting.{covers}
 use Rattle.ijson_table.proofs.probing.LookCount.{ones, sum-ones, one-at, length-ones}
 use Rattle.ijson_table.proofs.slots.HashesInSlots.{positions-length, position-at}
 use Rattle.ijson_table.proofs.slots.Residents.{stands}
-
--- what is not empty has a position
-pub some_position : (o : Option ℕ) → o ≢ None → (i : ℕ) × (o ≡ Some i)
-some_position None not = absurd (not refl)
-some_position (Some i) not = (i, refl)
 
 -- an empty one would leave too few for the positions
 not_empty : (count : ℕ) (slots : List (Option ℕ)) → length slots ≡ count → ((i : ℕ) → times i slots ≡ below count i)

@@ -5,6 +5,8 @@ use Rattle.std.proofs.lemmas.Bool.Decides.{nat_tests}
 use Rattle.std.proofs.lemmas.List.{length-take-le, length-drop, get_or-take, get_or-drop, get_or_append_left, get_or-append_right}
 use Rattle.std.proofs.lemmas.List.{map-append, take-map, drop-map}
 use Rattle.std.proofs.lemmas.List.Sums.{sum_by-append}
+use Rattle.std.proofs.lemmas.Bool.{cases_lt}
+use Rattle.std.proofs.lemmas.Nat.{mod_below}
 use Rattle.ijson_table.specs.declared.index.slot.Slot.{Slot}
 use Rattle.ijson_table.specs.Crowd.{distance}
 use Rattle.ijson_table.specs.Slots.{times}
@@ -13,8 +15,6 @@ use Rattle.ijson_table.specs.private.HomeOrder.{home_in, home_before, rotated, b
 use Rattle.ijson_table.specs.private.Probe.{onward}
 use Rattle.ijson_table.specs.private.SlotHashes.{blank, positions}
 use Rattle.ijson_table.specs.private.Sorting.{IsSortedBy}
-use Rattle.ijson_table.proofs.arithmetic.Circular.{home_within}
-use Rattle.ijson_table.proofs.arithmetic.Comparing.{below_or_not}
 use Rattle.ijson_table.proofs.filling.HomesAscend.{homes_ascend}
 use Rattle.ijson_table.proofs.slots.Residents.{times-split}
 
@@ -53,7 +53,7 @@ pub rotated-at : (start k : ℕ) (entries : List Slot) → start ≤ length entr
 rotated-at start k entries le lk =
     let n : ℕ = length entries in
     let back : length (drop start entries) ≡ n - start = length-drop start entries in
-    elim (below_or_not (start + k) n) [
+    elim (cases_lt (start + k) n) [
       | inl early ↦ get_or_append_left (drop start entries) (take start entries) blank k (omega arith)
           ∙ (get_or-drop start entries k blank ∙ ap (λ i. get_or entries i blank) (sym (onward-early n start k early)))
       | inr late ↦
@@ -108,24 +108,24 @@ module _ (n start : ℕ) (entries : List Slot) (sorted : IsSortedBy (home_before
         far-is k lk,
         ap (λ i. distance n (home start) (home i)) (onward-late (length entries) start k late),
         distance-round n (home start) (home j) (omega (arith, greatest j (omega arith)))
-            (home_within (get_or entries start blank).hash n (omega arith)),
+            (mod_below (get_or entries start blank).hash n (omega arith)),
       )
 
   -- the homes ascend from the first one on
   far-ascends : (j k : ℕ) → j ≤ k → k < length entries → far j ≤ far k
-  far-ascends j k le lk = elim (below_or_not (start + k) (length entries)) [
+  far-ascends j k le lk = elim (cases_lt (start + k) (length entries)) [
     | inl early ↦ omega (
       arith,
       far-early j (omega arith),
       far-early k early,
       homes_ascend n entries sorted (start + j) (start + k) (omega arith) early,
     )
-    | inr late ↦ elim (below_or_not (start + j) (length entries)) [
+    | inr late ↦ elim (cases_lt (start + j) (length entries)) [
       | inl early ↦ omega (
         arith,
         far-early j early,
         far-late k lk late,
-        home_within (get_or entries (start + j) blank).hash n (omega arith),
+        mod_below (get_or entries (start + j) blank).hash n (omega arith),
       )
       | inr both ↦ omega (
         arith,
@@ -138,7 +138,7 @@ module _ (n start : ℕ) (entries : List Slot) (sorted : IsSortedBy (home_before
 
   -- and there is room from each on
   far-room : (k : ℕ) → k < length entries → far k + length entries ≤ n + k
-  far-room k lk = elim (below_or_not (start + k) (length entries)) [
+  far-room k lk = elim (cases_lt (start + k) (length entries)) [
     | inl early ↦ omega (arith, far-early k early, greatest (start + k) early)
     | inr late ↦ omega (arith, far-late k lk late, greatest (start + k - length entries) (omega arith))
   ]

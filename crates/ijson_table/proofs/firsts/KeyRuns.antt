@@ -1,7 +1,7 @@
 -- The walk over the entries of pairs in the order of their keys: the first of each run has the first position of its key.
 use Rattle.std.proofs.Common.{◌≡◌, ◌≢◌, ℕ, suc, ◌+◌, ◌-◌, ◌<◌, ◌≤◌, inl, inr, arith, List, [], length, get_or, set, map, Option, Some, None}
 use Rattle.std.proofs.Common.{refl, sym, ap, subst, ◌∙◌, get_or-set_other, get_or-set_same}
-use Rattle.std.proofs.lemmas.Bool.{cases_order}
+use Rattle.std.proofs.lemmas.Bool.{cases_eq, cases_order}
 use Rattle.std.proofs.lemmas.Bool.Decides.{nat_tests}
 use Rattle.std.proofs.lemmas.List.{get_or-map, length-set}
 use Rattle.std.proofs.lemmas.List.Sums.{sum_by-set}
@@ -12,13 +12,12 @@ use Rattle.ijson_table.specs.Store.{position_of}
 use Rattle.ijson_table.specs.private.KeyOrder.{AreFirsts, AreInOrder, before_by_key, cmp_keys, entry_key, key_at_position}
 use Rattle.ijson_table.specs.private.SlotHashes.{blank, position_in, positions}
 use Rattle.ijson_table.specs.private.Sorting.{Entry}
-use Rattle.ijson_table.proofs.arithmetic.Comparing.{same_or_not}
 use Rattle.ijson_table.proofs.arithmetic.Counting.{covers}
 use Rattle.ijson_table.proofs.firsts.KeyTies.{between, lower_first, same_entry_key, sorted_at, tied}
 use Rattle.ijson_table.proofs.pairs.KeyPositions.{position-first}
 use Rattle.ijson_table.proofs.probing.LookCount.{ones, sum-ones, one-at, length-ones}
 use Rattle.ijson_table.proofs.slots.HashesInSlots.{hashes-at, position-at, positions-length}
-use Rattle.ijson_table.proofs.slots.Residents.{stands, times-some}
+use Rattle.ijson_table.proofs.slots.Residents.{some_position, stands, times-some}
 
 -- This entry has the first position of its key, and the hash that the others of that key have.
 pub record Leads (keys : List (List ℕ)) (sorted : List Entry) (entry : Entry) (position : ℕ) : Type 0 where
@@ -34,11 +33,6 @@ pub record RunSoFar (keys : List (List ℕ)) (sorted : List Entry) (k : ℕ) (ru
   pub last : (j : ℕ) → suc j ≡ k → entry_key keys (get_or sorted j blank) ≡ entry_key keys run
   pub told : (j p : ℕ) → j < k → position_in (get_or sorted j blank) ≡ Some p
       → position_of keys (get_or keys p []) ≡ Some (get_or firsts p 0)
-
--- what is something is some position
-some_position : (o : Option ℕ) → o ≢ None → (p : ℕ) × (o ≡ Some p)
-some_position None other = absurd (other refl)
-some_position (Some p) other = (p, refl)
 
 module _ (keys : List (List ℕ)) (sorted : List Entry) (s : AreInOrder keys sorted) where
   -- the position of an entry is one of the list
@@ -124,7 +118,7 @@ module _ (keys : List (List ℕ)) (sorted : List Entry) (s : AreInOrder keys sor
                 | inl before ↦
                     let l : ℕ = k - 1 in
                     let next : suc l ≡ k = omega arith in
-                    elim (same_or_not m l) [
+                    elim (cases_eq m l) [
                       | inl at ↦ other l next (subst (λ n. cmp_keys keys (get_or sorted n blank) entry ≡ Equal) at level)
                       | inr ne ↦ other l next (between keys seen (get_or sorted l blank) entry
                           (sorted_at (before_by_key keys) sorted s.order m l (omega (arith, before, ne)) (omega (arith, lk)))
@@ -165,9 +159,9 @@ module _ (keys : List (List ℕ)) (sorted : List Entry) (s : AreInOrder keys sor
         count = length-set firsts p q ∙ so.count;
         leads = (q, leads);
         last = λ j is. ap (λ n. entry_key keys (get_or sorted n blank)) (let same : j ≡ k = omega arith in same) ∙ key;
-        told = λ j r lj at. elim (same_or_not r p) [
+        told = λ j r lj at. elim (cases_eq r p) [
           | inl same ↦ subst (λ n. position_of keys (get_or keys n []) ≡ Some (get_or (set firsts p q) n 0)) (sym same) new
-          | inr apart ↦ elim (same_or_not j k) [
+          | inr apart ↦ elim (cases_eq j k) [
             | inl here ↦
                 let both : Some r ≡ Some p = sym at ∙ (ap (λ n. position_in (get_or sorted n blank)) here ∙ e) in
                 let same : r ≡ p = cc in

@@ -2,9 +2,9 @@
 use Rattle.std.proofs.Common.{◌≡◌, ◌≢◌, ℕ, ◌+◌, ◌<◌, ◌≤◌, inl, inr, arith, List, [], ◌∷◌, ◌++◌, length, get_or, set, take}
 use Rattle.std.proofs.Common.{Some, None, refl, sym, ap, subst, ◌∙◌, length-append, get_or-set_other, get_or-set_same}
 use Rattle.std.proofs.lemmas.List.{get_or-take, get_or_read, length-set, take-map}
+use Rattle.std.proofs.lemmas.Bool.{cases_eq}
 use Rattle.ijson_table.specs.Store.{at, keys_of, position_of, put, put_each, with_value}
 use Rattle.ijson_table.specs.private.KeyOrder.{AreFirsts}
-use Rattle.ijson_table.proofs.arithmetic.Comparing.{same_or_not}
 use Rattle.ijson_table.proofs.firsts.PutPlaces.{at-put_each, at-put_kept, at-put_new, position-least, put_each-length, put_each-more}
 use Rattle.ijson_table.proofs.pairs.KeyPositions.{position-some}
 use Rattle.ijson_table.proofs.pairs.PairsByKey.{key_at, keys-length, put-absent, put-present}
@@ -104,7 +104,7 @@ module _ {V : Type 0} (all : List (List ℕ × V)) (firsts : List ℕ) (are : Ar
         put = put' ∙ (ap (λ ps. put ps pair.0 pair.1) t.so_far.put ∙ sym (put_each-more done pair.0 pair.1));
         count = same_count ∙ t.so_far.count;
         rest = λ i li. others i (λ e. omega (arith, e, li, size)) ∙ t.so_far.rest i (omega (arith, li, size));
-        placed = λ i li own. elim (same_or_not i n) [
+        placed = λ i li own. elim (cases_eq i n) [
           | inl here ↦
               let first_one = new (subst (λ m. get_or firsts m 0 ≡ m) here own) in
               ap (λ ps. at ps (get_or keys i [])) put'

@@ -9,9 +9,9 @@ use Rattle.std.specs.Cmp.Lexicographic.{bytes_decides}
 use Rattle.std.proofs.lemmas.Option.{get_or_from_slice_get, slice_get_read}
 use Rattle.std.proofs.lemmas.List.{get_or_default, get_or-take, length-set, length-map, get_or-map, take-set-le, take-map, map-set}
 use Rattle.std.proofs.lemmas.List.{map-append}
+use Rattle.std.proofs.lemmas.Bool.{cases_eq, cases_lt}
 use Rattle.ijson_table.specs.Store.{keys_of, at, lookup, put, swap_out, with_value, IsDistinct}
 use Rattle.ijson_table.specs.laws.Store.{keys-with_value}
-use Rattle.ijson_table.proofs.arithmetic.Comparing.{below_or_not, same_or_not}
 use Rattle.ijson_table.proofs.pairs.KeyPositions.{absent-from, head_or_tail, none_in, position-some, same_key}
 use Rattle.ijson_table.proofs.pairs.DistinctKeys.{AreApart, apart, distinct}
 
@@ -22,12 +22,12 @@ apart_pushed keys key are_apart missing i j li lj e =
     let size : length (keys ++ key ∷ []) ≡ length keys + 1 = length-append keys (key ∷ []) in
     let end : (k : ℕ) → k ≡ length keys → get_or (keys ++ key ∷ []) k [] ≡ key =
     λ k is. ap (λ n. get_or (keys ++ key ∷ []) n []) is ∙ get_or-append_seam keys key [] [] in
-    elim (below_or_not i (length keys)) [
-      | inl a ↦ elim (below_or_not j (length keys)) [
+    elim (cases_lt i (length keys)) [
+      | inl a ↦ elim (cases_lt j (length keys)) [
         | inl b ↦ are_apart i j a b (sym (get_or-append keys (key ∷ []) [] i a) ∙ (e ∙ get_or-append keys (key ∷ []) [] j b))
         | inr b ↦ absurd (missing i a (sym (get_or-append keys (key ∷ []) [] i a) ∙ (e ∙ end j (omega arith))))
       ]
-      | inr a ↦ elim (below_or_not j (length keys)) [
+      | inr a ↦ elim (cases_lt j (length keys)) [
         | inl b ↦ absurd (missing j b (sym (get_or-append keys (key ∷ []) [] j b) ∙ (sym e ∙ end i (omega arith))))
         | inr b ↦ omega arith
       ]
@@ -139,7 +139,7 @@ module _ {V : Type 0} where
   came_from : (pairs : List (List ℕ × V)) (i j : ℕ) → i < length pairs → j + 1 < length pairs
       → (k : ℕ) × (k < length pairs) × (get_or (keys_of (swap_out pairs i)) j [] ≡ get_or (keys_of pairs) k []) ×
       (((j ≡ i) × (k + 1 ≡ length pairs)) ⊎ ((j ≢ i) × (k ≡ j)))
-  came_from pairs i j li lj = elim (same_or_not j i) [
+  came_from pairs i j li lj = elim (cases_eq j i) [
     | inl e ↦ (
       length pairs - 1,
       omega arith,

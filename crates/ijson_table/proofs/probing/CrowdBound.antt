@@ -6,10 +6,10 @@ use Rattle.std.proofs.lemmas.Bool.Decides.{nat_tests}
 use Rattle.std.proofs.lemmas.List.{get_or-map, length-map}
 use Rattle.std.proofs.lemmas.List.Sums.{sum-map}
 use Rattle.std.proofs.Math.Nat.{mod-lt}
+use Rattle.std.proofs.lemmas.Bool.{cases_lt}
 use Rattle.ijson_table.specs.Crowd.{distance, home_of, homed, crowd, slot_count}
 use Rattle.ijson_table.specs.Slots.{displacement, resident, home_at, IsTable}
 use Rattle.ijson_table.specs.private.Probe.{onward, Passed}
-use Rattle.ijson_table.proofs.arithmetic.Comparing.{below_or_not}
 use Rattle.ijson_table.proofs.arithmetic.Circular.{onward-below, onward-zero, distance-below, distance-onward, onward-distance}
 use Rattle.ijson_table.proofs.arithmetic.Circular.{distance-seen, onward-onward, round, distance-round, onward-round}
 use Rattle.ijson_table.proofs.arithmetic.Counting.{covers, nearest, greatest-at}
@@ -86,7 +86,7 @@ module _ (hash : List ℕ → ℕ) (keys : List (List ℕ)) (slots : List (Optio
   run e h s m le lh none way full far lm =
       let n : ℕ = length slots in
       let lw : distance n e h < n = distance-below n e h le lh in
-      let fits : s + 1 + m ≤ n = elim (below_or_not n (s + 1 + m)) [
+      let fits : s + 1 + m ≤ n = elim (cases_lt n (s + 1 + m)) [
         | inl over ↦
             let back : onward n h (n - distance n e h) ≡ e = round n e h le lh in
             let same : onward n h (n - (s + 1)) ≡ onward n h (n - distance n e h) = ap (λ d. onward n h (n - d)) (sym way) in
@@ -104,7 +104,7 @@ module _ (hash : List ℕ → ℕ) (keys : List (List ℕ)) (slots : List (Optio
       (λ j lj.
       let q : ℕ = onward n e (j + 1) in
       let lq : q < n = onward-below n e (j + 1) le (omega arith) in
-      let height : (0 < displacement hashes slots q) × (j + 1 ≤ s + displacement hashes slots q) = elim (below_or_not j (s + 1)) [
+      let height : (0 < displacement hashes slots q) × (j + 1 ≤ s + displacement hashes slots q) = elim (cases_lt j (s + 1)) [
         | inl before ↦ let got : 0 < displacement hashes slots q = full (j + 1) (omega arith) (omega arith) in (got, omega arith)
         | inr behind ↦
             let k : ℕ = j - s in
@@ -150,7 +150,7 @@ module _ (hash : List ℕ → ℕ) (keys : List (List ℕ)) (slots : List (Optio
       let way : distance n e' h ≡ w = distance-round n h w lh lw in
       let at_home : 1 ≤ displacement hashes slots h = omega
       (arith, passed.far 0 (omega arith), ap (displacement hashes slots) (onward-zero n h lh)) in
-      let apart : 0 < w = elim (below_or_not 0 w) [
+      let apart : 0 < w = elim (cases_lt 0 w) [
         | inl more ↦ more
         | inr none_left ↦
             let gone : w ≡ 0 = omega arith in let whole : n - w ≡ n = omega arith in let same : e' ≡ h =

@@ -5,14 +5,15 @@ use Rattle.std.specs.Prelude.{sum}
 use Rattle.std.proofs.lemmas.List.{length-map}
 use Rattle.std.proofs.lemmas.List.Sums.{sum_by-cons}
 use Rattle.std.proofs.Math.Nat.{mod-lt}
+use Rattle.std.proofs.lemmas.Bool.{cases_lt}
 use Rattle.ijson_table.specs.Crowd.{distance, home_of, slot_count}
 use Rattle.ijson_table.specs.Slots.{displacement, resident, IsTable, IsBounded}
 use Rattle.ijson_table.specs.private.Probe.{onward, Passed}
-use Rattle.ijson_table.proofs.arithmetic.Comparing.{below_or_not}
 use Rattle.ijson_table.proofs.arithmetic.Circular.{onward-below, distance-onward}
 use Rattle.ijson_table.proofs.arithmetic.Counting.{covers}
 use Rattle.ijson_table.proofs.probing.ProbePath.{reached, displacement-none, one_slot, in_list}
 use Rattle.ijson_table.proofs.probing.CrowdBound.{within_crowd}
+use Rattle.ijson_table.proofs.slots.Residents.{some_position}
 
 -- a list of so many ones
 pub ones : ℕ → List ℕ
@@ -36,11 +37,6 @@ pub length-ones : (n : ℕ) → length (ones n) ≡ n
 unfolding ones
 length-ones zero = refl
 length-ones (suc n) = ap suc (length-ones n)
-
--- a slot that is not empty has a resident
-some_resident : (o : Option ℕ) → o ≢ None → (i : ℕ) × (o ≡ Some i)
-some_resident None ne = absurd (ne refl)
-some_resident (Some i) ne = (i, refl)
 
 module _ (hashes : List ℕ) (slots : List (Option ℕ)) (t : IsTable hashes slots) where
   -- the residents that were passed are as many positions
@@ -67,7 +63,7 @@ module _ (hashes : List ℕ) (slots : List (Option ℕ)) (t : IsTable hashes slo
       let all : length slots ≤ sum (ones (length hashes)) = covers (length slots) R (ones (length hashes))
       (λ i j l lj ll a b. one_slot hashes slots t j l i lj ll a b)
       (λ j lj.
-      let who = some_resident (resident slots j) (full j lj) in
+      let who = some_position (resident slots j) (full j lj) in
       let li : who.0 < length hashes = in_list hashes slots t j who.0 lj who.1 in
       (who.0, omega (arith, length-ones (length hashes), li), who.1, omega (arith, one-at (length hashes) who.0 li)))
       in omega (arith, sum-ones (length hashes))
@@ -106,7 +102,7 @@ module _ (hash : List ℕ → ℕ) (keys : List (List ℕ)) (slots : List (Optio
   pub bounded_all : (c : ℕ) → length slots ≡ slot_count c → (key : List ℕ) (looks : ℕ) → looks ≡ length slots
       → Passed (displacement hashes slots) (length slots) (home_of hash (length slots) key) (length slots)
       → IsBounded hash keys slots c key looks
-  bounded_all c size key looks is passed = elim (below_or_not 0 (length slots)) [
+  bounded_all c size key looks is passed = elim (cases_lt 0 (length slots)) [
     | inl some ↦ bounded_by c size key (length slots) looks (omega arith) (omega arith) (omega arith) (omega arith) passed
     | inr empty ↦ record {
       some_empty = λ p lp none. omega arith;
@@ -124,7 +120,7 @@ passed_none displacements n h = record { far = λ j lj. absurd (omega arith) }
 pub passed_more : (displacements : ℕ → ℕ) (n h m : ℕ) → Passed displacements n h m → m + 1 ≤ displacements (onward n h m)
     → Passed displacements n h (m + 1)
 passed_more displacements n h m passed far = record {
-  far = λ j lj. elim (below_or_not j m) [
+  far = λ j lj. elim (cases_lt j m) [
     | inl less ↦ passed.far j less
     | inr last ↦ let same : m ≡ j = omega arith in subst (λ k. k + 1 ≤ displacements (onward n h k)) same far
   ];

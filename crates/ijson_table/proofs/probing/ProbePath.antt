@@ -4,10 +4,10 @@ use Rattle.std.proofs.Common.{Some, None, refl, ap, ◌∙◌}
 use Rattle.std.proofs.lemmas.Bool.Decides.{nat_tests}
 use Rattle.std.proofs.lemmas.List.{get_or-map, length-map}
 use Rattle.std.proofs.Math.Nat.{mod-lt}
+use Rattle.std.proofs.lemmas.Bool.{cases_lt}
 use Rattle.ijson_table.specs.Crowd.{distance, home_of}
 use Rattle.ijson_table.specs.Slots.{after, displacement, resident, home_at, displaced, times, IsOrdered, IsTable}
 use Rattle.ijson_table.specs.private.Probe.{onward, Passed}
-use Rattle.ijson_table.proofs.arithmetic.Comparing.{below_or_not}
 use Rattle.ijson_table.proofs.arithmetic.Circular.{onward-below, onward-zero, after-onward, distance-below, onward-distance}
 use Rattle.ijson_table.proofs.slots.Residents.{stands, stands_once, times-some}
 
@@ -108,7 +108,7 @@ absent hash keys slots t key m some passed others ended i li same =
     let home : home_at n hashes i ≡ h = home-key hash n keys i li ∙ ap (home_of hash n) same in
     let far : d + 1 ≤ displacement hashes slots p = omega
     (arith, displacement-some hashes slots p i spot.2, ap (λ x. distance n x p) home) in
-    elim (below_or_not d m) [
+    elim (cases_lt d m) [
       | inl early ↦ others d i early (ap (resident slots) (onward-distance n h p lh spot.1) ∙ spot.2) same
       | inr late ↦ elim ended [
         | inl all ↦ omega arith

@@ -1,5 +1,7 @@
 -- The steps of a walk for a key, and of putting it where the walk ended, as they follow from where they end.
 use Rattle.std.proofs.Common.{◌≡◌, ℕ, ◌+◌, ◌%◌, ◌<◌, ◌≤◌, Bool, List, length, Option, None, arith, ap, sym, subst, ◌∙◌, inl, inr}
+use Rattle.std.proofs.lemmas.Bool.{cases_lt}
+use Rattle.std.proofs.lemmas.Nat.{mod_below}
 use Rattle.ijson_table.specs.declared.index.probe.Probed.TheVariants.{Found, Vacant, Full}
 use Rattle.ijson_table.specs.Crowd.{distance}
 use Rattle.ijson_table.specs.Slots.{displacement, resident}
@@ -8,8 +10,7 @@ use Rattle.ijson_table.specs.private.CountedSteps.{CountsSteps, Walks}
 use Rattle.ijson_table.specs.private.HashIndex.{HashIndex}
 use Rattle.ijson_table.specs.private.Lookup.{is_hashed_key}
 use Rattle.ijson_table.specs.private.Probe.{onward, Ends, EndsAt}
-use Rattle.ijson_table.proofs.arithmetic.Circular.{distance-onward, home_within, distance-rest, onward-below, onward-distance}
-use Rattle.ijson_table.proofs.arithmetic.Comparing.{below_or_not}
+use Rattle.ijson_table.proofs.arithmetic.Circular.{distance-onward, distance-rest, onward-below, onward-distance}
 use Rattle.ijson_table.proofs.probing.ProbePath.{displacement-none}
 use Rattle.ijson_table.proofs.slots.SlotChanges.{changes-none}
 
@@ -47,7 +48,7 @@ module _ (slots : List (Option ℕ)) (displacements : ℕ → ℕ) (h : ℕ) (se
       let e = ends.1 in
       let far : distance n h p ≡ m = ap (distance n h) e.there ∙ distance-onward n h m home e.within in
       let way : distance n p last ≡ distance n (onward n h m) last = ap (λ q. distance n q last) e.there in
-      elim (below_or_not (distance n h last) m) [
+      elim (cases_lt (distance n h last) m) [
         | inl less ↦
             let full = e.passed.far (distance n h last) less in
             absurd (omega (arith, full, ap displacements (onward-distance n h last home there), empty))
@@ -63,7 +64,7 @@ module _ (hash : List ℕ → ℕ) (keys : List (List ℕ)) (index : HashIndex) 
       → far + 2 ≤ steps → CountsSteps hash keys key index new steps
   counts_new h key looks p last far steps new is walks there empty few away_is enough =
       let n = length index.slots in
-      let home = home_within h n some in
+      let home = mod_below h n some in
       let ended = ended_vacant index.slots (displacement index.hashes index.slots) (h % n) (is_hashed_key index.hashes keys h key) home
       looks p walks in
       let way = through index.slots (displacement index.hashes index.slots) (h % n) (is_hashed_key index.hashes keys h key) home
@@ -81,7 +82,7 @@ module _ (hash : List ℕ → ℕ) (keys : List (List ℕ)) (index : HashIndex) 
   counts_found h key looks at p far steps is walks away_is enough =
       let n = length index.slots in
       let ended = ended_found index.slots (displacement index.hashes index.slots) (h % n) (is_hashed_key index.hashes keys h key)
-      (home_within h n some) looks at p walks in
+      (mod_below h n some) looks at p walks in
       record {
         looks = looks;
         end = Found at p;

@@ -2,10 +2,10 @@
 use Rattle.std.proofs.Common.{◌≡◌, ◌≢◌, ℕ, zero, suc, ◌+◌, ◌<◌, ◌≤◌, inl, inr, arith, List, length, set, Option, Some, None, refl, sym, ap}
 use Rattle.std.proofs.Common.{◌∙◌, get_or-set_other, get_or-set_same}
 use Rattle.std.proofs.lemmas.List.{length-set}
+use Rattle.std.proofs.lemmas.Bool.{cases_eq}
 use Rattle.ijson_table.specs.Crowd.{distance}
 use Rattle.ijson_table.specs.private.Holds.{one_if, HasGap}
 use Rattle.ijson_table.specs.Slots.{after, displacement, resident, home_at, times, IsOrdered}
-use Rattle.ijson_table.proofs.arithmetic.Comparing.{same_or_not}
 use Rattle.ijson_table.proofs.arithmetic.Circular.{after-below, after-injective, distance-back}
 use Rattle.ijson_table.proofs.slots.Residents.{times-set}
 use Rattle.ijson_table.proofs.probing.ProbePath.{displacement-some, displacement-none}
@@ -20,7 +20,7 @@ gap_from hashes slots p lp ordered =
     let slots' : List (Option ℕ) = set slots p None in
     let size : length slots' ≡ n = length-set slots p None in
     let zeroed : displacement hashes slots' p ≡ 0 = displacement-set_none hashes slots p lp in
-    let less : (q : ℕ) → displacement hashes slots' q ≤ displacement hashes slots q = λ q. elim (same_or_not q p) [
+    let less : (q : ℕ) → displacement hashes slots' q ≤ displacement hashes slots q = λ q. elim (cases_eq q p) [
       | inl self ↦ omega (arith, zeroed, ap (displacement hashes slots') self)
       | inr other ↦ omega (arith, displacement-set_other hashes slots p q None other)
     ] in
@@ -41,7 +41,7 @@ gap_from hashes slots p lp ordered =
           let eq : displacement hashes slots (after n q) ≡ displacement hashes slots p = ap (displacement hashes slots) here in
           let next : displacement hashes slots (after n p) ≤ displacement hashes slots p + 1 = ordered p lp in
           let shrunk : displacement hashes slots' (after n p) ≤ displacement hashes slots (after n p) = less (after n p) in
-          let q_same : displacement hashes slots' (after n p) ≤ displacement hashes slots' q + 2 = elim (same_or_not q p) [
+          let q_same : displacement hashes slots' (after n p) ≤ displacement hashes slots' q + 2 = elim (cases_eq q p) [
             | inl self ↦ let loop : after n p ≡ p = ap (after n) (sym self) ∙ here in
                 omega (arith, zeroed, ap (displacement hashes slots') loop)
             | inr other ↦ let same : displacement hashes slots' q ≡ displacement hashes slots q =
@@ -53,7 +53,7 @@ gap_from hashes slots p lp ordered =
 -- the shift ends before an empty slot, and before a resident at its home
 pub gap_closed : (hashes : List ℕ) (slots : List (Option ℕ)) (p : ℕ) → p < length slots → HasGap hashes slots p
     → displacement hashes slots (after (length slots) p) ≤ 1 → IsOrdered hashes slots
-gap_closed hashes slots p lp gap end q lq = elim (same_or_not q p) [
+gap_closed hashes slots p lp gap end q lq = elim (cases_eq q p) [
   | inl self ↦ omega (arith, end, ap (λ k. displacement hashes slots (after (length slots) k)) self)
   | inr other ↦ gap.ordered q lq other
 ]
@@ -73,7 +73,7 @@ total-same f g (suc n) h = let rest = total-same f g n (λ q lq. h q (omega arit
 total-one : (f g : ℕ → ℕ) (n p : ℕ) → p < n → ((q : ℕ) → q ≢ p → g q ≡ f q) → total g n + f p ≡ total f n + g p
 unfolding total
 total-one f g zero p lp h = absurd (omega arith)
-total-one f g (suc n) p lp h = elim (same_or_not p n) [
+total-one f g (suc n) p lp h = elim (cases_eq p n) [
   | inl at ↦ omega (arith, total-same g f n (λ q lq. h q (λ e. omega arith)), ap f at, ap g at)
   | inr other ↦ omega (arith, total-one f g n p (omega arith) h, h n (λ e. other (sym e)))
 ]
@@ -134,7 +134,7 @@ module _ (hashes : List ℕ) (slots : List (Option ℕ)) (p k : ℕ) (lp : p < l
       omega (arith, displacement-set_other hashes mid p' p None moves, at_mid, was, nearer) in
       let off : (q : ℕ) → q ≢ p → q ≢ p' → displacement hashes last q ≡ displacement hashes slots q =
       λ q a b. displacement-set_other hashes mid p' q None b ∙ displacement-set_other hashes slots p q (Some k) a in
-      let off_up : (q : ℕ) → q ≢ p → displacement hashes last q ≤ displacement hashes slots q = λ q a. elim (same_or_not q p') [
+      let off_up : (q : ℕ) → q ≢ p → displacement hashes last q ≤ displacement hashes slots q = λ q a. elim (cases_eq q p') [
         | inl at ↦ omega (arith, at_last, ap (displacement hashes last) at)
         | inr other ↦ omega (arith, off q a other)
       ] in
@@ -143,11 +143,11 @@ module _ (hashes : List ℕ) (slots : List (Option ℕ)) (p k : ℕ) (lp : p < l
         empty = get_or-set_same mid p' None None (omega (arith, behind_within, size_mid));
         ordered = λ q lq ne.
             let lq' : q < n = omega (arith, lq, size_last) in
-            let goal : displacement hashes last (after n q) ≤ displacement hashes last q + 1 = elim (same_or_not q p) [
+            let goal : displacement hashes last (after n q) ≤ displacement hashes last q + 1 = elim (cases_eq q p) [
               | inl self ↦ let to : after n q ≡ p' = ap (after n) self in omega (arith, at_last, ap (displacement hashes last) to)
               | inr other ↦
                   let same : displacement hashes last q ≡ displacement hashes slots q = off q other ne in
-                  elim (same_or_not (after n q) p) [
+                  elim (cases_eq (after n q) p) [
                     | inl before ↦ omega (arith, gap.behind q lq' before, at_p, ap (displacement hashes last) before)
                     | inr elsewhere ↦ omega (arith, gap.ordered q lq' other, off_up (after n q) elsewhere)
                   ]
@@ -157,7 +157,7 @@ module _ (hashes : List ℕ) (slots : List (Option ℕ)) (p k : ℕ) (lp : p < l
             let lq' : q < n = omega (arith, lq, size_last) in
             let self : q ≡ p = after-injective n q p lq' lp (ap (λ s. after s q) (sym size_last) ∙ at) in
             let here : displacement hashes last q ≡ displacement hashes last p = ap (displacement hashes last) self in
-            let goal : displacement hashes last (after n p') ≤ displacement hashes last p + 2 = elim (same_or_not (after n p') p) [
+            let goal : displacement hashes last (after n p') ≤ displacement hashes last p + 2 = elim (cases_eq (after n p') p) [
               | inl round ↦ omega (arith, ap (displacement hashes last) round)
               | inr other ↦ omega (arith, gap.ordered p' behind_within (λ e. moves (sym e)), off_up (after n p') other, at_p)
             ] in

@@ -5,11 +5,11 @@ use Rattle.std.specs.Prelude.{sum, ltb, eqb, true, if◌then◌else◌}
 use Rattle.std.proofs.lemmas.Bool.Decides.{nat_tests}
 use Rattle.std.proofs.lemmas.List.{length-set}
 use Rattle.std.proofs.lemmas.List.Sums.{sum_by-set}
+use Rattle.std.proofs.lemmas.Bool.{cases_lt}
 use Rattle.ijson_table.specs.Crowd.{distance}
 use Rattle.ijson_table.specs.private.Holds.{one_if, Holds, MayStand, HasEmpty}
 use Rattle.ijson_table.specs.Slots.{after, displacement, resident, home_at, times, below}
 use Rattle.ijson_table.specs.private.Probe.{onward, Passed}
-use Rattle.ijson_table.proofs.arithmetic.Comparing.{below_or_not}
 use Rattle.ijson_table.proofs.arithmetic.Circular.{after-injective, onward-below, after-onward, distance-below, distance-onward}
 use Rattle.ijson_table.proofs.arithmetic.Circular.{onward-distance}
 use Rattle.ijson_table.proofs.arithmetic.Counting.{covers}
@@ -86,7 +86,7 @@ may_end hashes slots i m lm lh passed stop =
     record {
       within = onward-below n h m lh (omega arith);
       further = omega arith;
-      led_to = λ q lq at. elim (below_or_not 0 m) [
+      led_to = λ q lq at. elim (cases_lt 0 m) [
         | inl pos ↦
             let k : ℕ = m - 1 in
             let back : after n (onward n h k) ≡ onward n h m = after-onward n h k lh (omega arith) ∙ ap (onward n h) (omega arith) in

@@ -5,8 +5,8 @@ use Rattle.std.specs.List.{remove}
 use Rattle.std.proofs.lemmas.Bool.Decides.{nat_tests}
 use Rattle.std.proofs.lemmas.List.{map-append, take-map, drop-map}
 use Rattle.std.proofs.lemmas.List.Edits.{length-remove, get_or-remove_below, get_or-remove_above}
+use Rattle.std.proofs.lemmas.Bool.{cases_lt}
 use Rattle.ijson_table.specs.Store.{keys_of, shift_out, IsDistinct}
-use Rattle.ijson_table.proofs.arithmetic.Comparing.{below_or_not}
 use Rattle.ijson_table.proofs.pairs.DistinctKeys.{apart, distinct}
 use Rattle.ijson_table.proofs.pairs.PairsByKey.{keys-length}
 
@@ -17,7 +17,7 @@ raise gone i = (if ltb i gone then i else i + 1)
 -- what stands behind the one that went is one further back
 pub get_or-remove : {X : Type 0} (xs : List X) (gone i : ℕ) (d : X) → gone < length xs
     → get_or (remove xs gone) i d ≡ get_or xs (raise gone i) d
-get_or-remove xs gone i d lg = elim (below_or_not i gone) [
+get_or-remove xs gone i d lg = elim (cases_lt i gone) [
   | inl lt ↦ let same : raise gone i ≡ i = grind (arith, nat_tests) in
       get_or-remove_below xs gone d i lt lg ∙ ap (λ n. get_or xs n d) (sym same)
   | inr ge ↦ let same : raise gone i ≡ i + 1 = grind (arith, nat_tests) in

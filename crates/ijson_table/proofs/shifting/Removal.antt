@@ -7,9 +7,9 @@ use Rattle.std.proofs.Math.ListN.{get_or-append}
 use Rattle.ijson_table.specs.Crowd.{distance}
 use Rattle.std.specs.List.{remove, swap_remove}
 use Rattle.std.proofs.lemmas.List.Edits.{length-remove, get_or-remove_below}
+use Rattle.std.proofs.lemmas.Bool.{cases_eq, cases_lt}
 use Rattle.ijson_table.specs.private.Holds.{one_if, Holds}
 use Rattle.ijson_table.specs.Slots.{after, displacement, resident, home_at, times, IsTable, displaced, below}
-use Rattle.ijson_table.proofs.arithmetic.Comparing.{below_or_not, same_or_not}
 use Rattle.ijson_table.proofs.arithmetic.Circular.{after-below}
 use Rattle.ijson_table.proofs.slots.Residents.{stands, stands_once, one_if-same, one_if-other, times-set, times-some}
 use Rattle.ijson_table.proofs.shifting.ListSwapRemove.{length-swap_remove, swap_remove-same, swap_remove-other}
@@ -100,7 +100,7 @@ module _ (hashes : List ℕ) (slots : List (Option ℕ)) where
       (λ p k lp e. get_or-remove_below hashes i 0 k (apart p k lp e) (omega arith)) in
       record {
         ordered = now.ordered;
-        placed = λ k. elim (same_or_not k i) [
+        placed = λ k. elim (cases_eq k i) [
           | inl same ↦ let one : one_if k (Some i) ≡ 1 = ap (λ x. one_if k (Some x)) (sym same) ∙ one_if-same k in
               grind (arith, nat_tests, held.placed k, one, size)
           | inr other ↦ let none : one_if k (Some i) ≡ 0 = one_if-other k i other in grind (arith, nat_tests, held.placed k, none, size)
@@ -120,7 +120,7 @@ module _ (hashes : List ℕ) (slots : List (Option ℕ)) where
       swap_remove-same hashes i (omega arith) ∙ ap (λ x. get_or hashes x 0) (omega arith) in
       let one_last : times last slots ≡ 1 = let none : one_if last (Some i) ≡ 0 = one_if-other last i (λ e. omega arith) in
       grind (arith, nat_tests, held.placed last, none) in
-      let reached : (q : ℕ) → q < n → displacement hashes' slots' q ≡ displacement hashes slots q = λ q lq. elim (same_or_not q p) [
+      let reached : (q : ℕ) → q < n → displacement hashes' slots' q ≡ displacement hashes slots q = λ q lq. elim (cases_eq q p) [
         | inl self ↦
             let a : displacement hashes' slots' p ≡ distance n (home_at n hashes' i) p + 1 = displacement-set_some hashes' slots p i lp in
             let b : displacement hashes slots p ≡ distance n (home_at n hashes last) p + 1 = displacement-some hashes slots p last there in
@@ -148,14 +148,14 @@ module _ (hashes : List ℕ) (slots : List (Option ℕ)) where
         placed = λ k.
             let moves = times-set k slots p (Some i) lp in
             let was = ap (one_if k) there in
-            elim (same_or_not k i) [
+            elim (cases_eq k i) [
               | inl same ↦
                   let one : one_if k (Some i) ≡ 1 = ap (λ x. one_if k (Some x)) (sym same) ∙ one_if-same k in
                   let none : one_if k (Some last) ≡ 0 = one_if-other k last (λ e. omega arith) in
                   grind (arith, nat_tests, held.placed k, one, none, moves, was, size)
               | inr other ↦
                   let none : one_if k (Some i) ≡ 0 = one_if-other k i other in
-                  elim (same_or_not k last) [
+                  elim (cases_eq k last) [
                     | inl at_last ↦
                         let one : one_if k (Some last) ≡ 1 = ap (λ x. one_if k (Some x)) (sym at_last) ∙ one_if-same k in
                         grind (arith, nat_tests, held.placed k, one, none, moves, was, size)
@@ -168,7 +168,7 @@ module _ (hashes : List ℕ) (slots : List (Option ℕ)) where
 
 -- a position that stands in no slot is not counted
 pub times-none : (i : ℕ) (slots : List (Option ℕ)) → ((p : ℕ) → p < length slots → resident slots p ≡ None) → times i slots ≡ 0
-times-none i slots empty = elim (below_or_not 0 (times i slots)) [
+times-none i slots empty = elim (cases_lt 0 (times i slots)) [
   | inl some ↦
       let spot = stands i slots some in
       let bad : ◌≡◌ {A = Option ℕ} (Some i) None = sym spot.2 ∙ empty spot.0 spot.1 in

@@ -3,11 +3,11 @@ use Rattle.std.proofs.Common.{◌≡◌, ◌≢◌, ℕ, ◌+◌, ◌<◌, ◌�
 use Rattle.std.proofs.Common.{get_or-set_other, get_or-set_same}
 use Rattle.std.proofs.lemmas.Bool.Decides.{nat_tests}
 use Rattle.std.proofs.lemmas.List.{length-set}
+use Rattle.std.proofs.lemmas.Bool.{cases_eq}
 use Rattle.ijson_table.specs.Crowd.{distance}
 use Rattle.ijson_table.specs.private.Holds.{Holds, MayStand}
 use Rattle.ijson_table.specs.Slots.{after, displacement, resident, home_at, displaced, IsOrdered}
 use Rattle.ijson_table.specs.private.Probe.{onward}
-use Rattle.ijson_table.proofs.arithmetic.Comparing.{same_or_not}
 use Rattle.ijson_table.proofs.arithmetic.Circular.{after-below, after-injective, distance-below, onward-distance, distance-after}
 use Rattle.ijson_table.proofs.slots.Residents.{times-set}
 use Rattle.ijson_table.proofs.probing.ProbePath.{displacement-some, from_empty}
@@ -46,11 +46,11 @@ raised hashes slots p o lp ordered more bound q lq =
     let slots' : List (Option ℕ) = set slots p o in
     let size : length slots' ≡ n = length-set slots p o in
     let lq' : q < n = omega arith in
-    let goal : displacement hashes slots' (after n q) ≤ displacement hashes slots' q + 1 = elim (same_or_not (after n q) p) [
+    let goal : displacement hashes slots' (after n q) ≤ displacement hashes slots' q + 1 = elim (cases_eq (after n q) p) [
       | inl at ↦
           let up : displacement hashes slots' p ≤ displacement hashes slots q + 1 = bound q lq' at in
           let to : displacement hashes slots' (after n q) ≡ displacement hashes slots' p = ap (displacement hashes slots') at in
-          elim (same_or_not q p) [
+          elim (cases_eq q p) [
             | inl self ↦ let same : displacement hashes slots' q ≡ displacement hashes slots' p = ap (displacement hashes slots') self in
                 omega arith
             | inr other ↦ let same : displacement hashes slots' q ≡ displacement hashes slots q =
@@ -60,7 +60,7 @@ raised hashes slots p o lp ordered more bound q lq =
           let to : displacement hashes slots' (after n q) ≡ displacement hashes slots (after n q) =
           displacement-set_other hashes slots p (after n q) o off in
           let was : displacement hashes slots (after n q) ≤ displacement hashes slots q + 1 = ordered q lq' in
-          elim (same_or_not q p) [
+          elim (cases_eq q p) [
             | inl self ↦
                 let here : displacement hashes slots' q ≡ displacement hashes slots' p = ap (displacement hashes slots') self in
                 let there : displacement hashes slots q ≡ displacement hashes slots p = ap (displacement hashes slots) self in omega arith

@@ -3,13 +3,14 @@ use Rattle.std.proofs.Common.{◌≡◌, ℕ, zero, suc, ◌+◌, ◌<◌, ◌�
 use Rattle.std.proofs.Common.{false, cond, refl, sym, ap, subst, ◌∙◌, drop-cons}
 use Rattle.std.specs.Prelude.{if◌then◌else◌}
 use Rattle.std.proofs.lemmas.Bool.Decides.{nat_tests}
+use Rattle.std.proofs.lemmas.Bool.{cases_lt}
+use Rattle.std.proofs.lemmas.List.{drop_all}
 use Rattle.ijson_table.specs.declared.index.slot.Slot.{Slot}
 use Rattle.ijson_table.specs.Slots.{holds, times, below, IsTable}
 use Rattle.ijson_table.specs.private.Holds.{one_if}
 use Rattle.ijson_table.specs.private.SlotHashes.{position_in, positions, blank, HaveHashes, hash_beside, first_and, hashes_from, hashes_of}
 use Rattle.ijson_table.specs.private.Insertion.{IsTableOf}
 use Rattle.ijson_table.specs.private.HashIndex.{IsIndex}
-use Rattle.ijson_table.proofs.arithmetic.Comparing.{below_or_not}
 use Rattle.ijson_table.proofs.slots.Residents.{held, times-nil, times-cons}
 
 -- the slots behind the first have their hashes too
@@ -47,20 +48,13 @@ beside-none (slot ∷ slots) i none =
       | false ↦ λ e. beside-none slots i (omega (arith, none, times-cons i (position_in slot) (positions slots)))
     ] refl
 
--- nothing is left past the end
-drop-end : (xs : List ℕ) (i : ℕ) → length xs ≤ i → drop i xs ≡ []
-drop-end [] zero le = refl
-drop-end [] (suc i) le = refl
-drop-end (x ∷ xs) zero le = absurd (omega (arith, le))
-drop-end (x ∷ xs) (suc i) le = drop-end xs i (omega (arith, le))
-
 module _ (hashes : List ℕ) (slots : List Slot) (have : HaveHashes hashes slots)
     (placed : (i : ℕ) → times i (positions slots) ≡ below (length hashes) i) where
   -- the hashes from a position on are the rest of the list
   from : (most i : ℕ) → i ≤ length hashes → length hashes ≤ i + most → hashes_from most i slots ≡ drop i hashes
   unfolding hashes_from
-  from zero i le fits = sym (drop-end hashes i (omega arith))
-  from (suc most) i le fits = elim (below_or_not i (length hashes)) [
+  from zero i le fits = sym (drop_all i hashes (omega arith))
+  from (suc most) i le fits = elim (cases_lt i (length hashes)) [
     | inl less ↦
         let once : times i (positions slots) ≡ 1 = grind (arith, nat_tests, placed i) in
         let next : i + 1 ≡ suc i = omega arith in
@@ -69,7 +63,7 @@ module _ (hashes : List ℕ) (slots : List Slot) (have : HaveHashes hashes slots
         ∙ (ap (λ rest. get_or hashes i 0 ∷ rest) (from most (i + 1) (omega arith) (omega arith) ∙ one) ∙ sym (drop-cons hashes i 0 less))
     | inr all ↦
         let never : times i (positions slots) ≡ 0 = grind (arith, nat_tests, placed i) in
-        ap (λ o. first_and o (hashes_from most (i + 1) slots)) (beside-none slots i never) ∙ sym (drop-end hashes i all)
+        ap (λ o. first_and o (hashes_from most (i + 1) slots)) (beside-none slots i never) ∙ sym (drop_all i hashes all)
   ]
 
 -- where each position stands once, beside its hash, they are the hashes of the list

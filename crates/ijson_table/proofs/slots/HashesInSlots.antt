@@ -4,10 +4,10 @@ use Rattle.std.proofs.Common.{get_or, set, Option, Some, None, refl, ap, sym, su
 use Rattle.std.specs.List.{All, slice_index_or}
 use Rattle.std.proofs.lemmas.List.{get_or-map, length-map, length-set, map-set}
 use Rattle.std.proofs.lemmas.List.Elements.{All-get_or, All-from_get_or, All-set}
+use Rattle.std.proofs.lemmas.Bool.{cases_eq}
 use Rattle.ijson_table.specs.declared.index.slot.Slot.{Slot}
 use Rattle.ijson_table.specs.Crowd.{distance}
 use Rattle.ijson_table.specs.Slots.{home_at, displaced, displacement, resident}
-use Rattle.ijson_table.proofs.arithmetic.Comparing.{same_or_not}
 use Rattle.ijson_table.proofs.probing.ProbePath.{displacement-some}
 use Rattle.ijson_table.specs.private.SlotHashes.{position_in, positions, blank, coded_position, displaced_by, displacement_in, HasHash}
 use Rattle.ijson_table.specs.private.SlotHashes.{HaveHashes, SeenAs}
@@ -121,7 +121,7 @@ module _ (hashes : List ℕ) where
       → HaveHashes hashes' (set slots p slot)
   hashes-put hashes' slots p slot have has same = All-from_get_or (HasHash hashes') (set slots p slot) blank (λ q lq'.
       let lq : q < length slots = omega (arith, lq', length-set slots p slot) in
-      elim (same_or_not q p) [
+      elim (cases_eq q p) [
         | inl self ↦ subst (HasHash hashes') (sym (ap (λ k. get_or (set slots p slot) k blank) self
             ∙ get_or-set_same slots p slot blank (omega (arith, lq, self)))) has
         | inr other ↦ subst (HasHash hashes') (sym (get_or-set_other slots p q slot blank other))

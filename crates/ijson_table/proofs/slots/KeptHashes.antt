@@ -6,6 +6,7 @@ use Rattle.std.specs.Prelude.{◌-◌, count_by, if◌then◌else◌}
 use Rattle.std.proofs.Math.Nat.{mod-mod, zero-mod}
 use Rattle.std.proofs.lemmas.Bool.Decides.{nat_tests}
 use Rattle.std.proofs.lemmas.List.{length-map, map-append}
+use Rattle.std.proofs.lemmas.Bool.{cases_eq}
 use Rattle.ijson_table.specs.Crowd.{distance, home_of, homed, crowd, slot_count, greatest_below}
 use Rattle.ijson_table.specs.Sees.{Sees}
 use Rattle.ijson_table.specs.Slots.{after, displaced, displacement, resident, home_at, below, IsTable, IsBounded}
@@ -16,7 +17,6 @@ use Rattle.ijson_table.specs.declared.index.probe.Probed.TheVariants.{Found, Vac
 use Rattle.ijson_table.specs.private.Holds.{MayStand}
 use Rattle.ijson_table.specs.private.KeptHash.{narrow_slots, kept, kept_hash}
 use Rattle.ijson_table.specs.private.Lookup.{LookUpEnds}
-use Rattle.ijson_table.proofs.arithmetic.Comparing.{same_or_not}
 use Rattle.ijson_table.proofs.arithmetic.Reciprocal.{mod-more}
 
 -- what is kept tells the same home
@@ -200,7 +200,7 @@ bounded_by_hash hash keys slots c key looks size bounded =
 -- as many slots, or many here and there, keep the same of each hash
 pub hashes-same : (n m : ℕ) (hash : List ℕ → ℕ) (keys : List (List ℕ))
     → (m ≢ n → (narrow_slots < n) × (narrow_slots < m)) → map (kept_hash n hash) keys ≡ map (kept_hash m hash) keys
-hashes-same n m hash keys many = elim (same_or_not m n) [
+hashes-same n m hash keys many = elim (cases_eq m n) [
   | inl same ↦ ap (λ k. map (kept_hash k hash) keys) (sym same)
   | inr other ↦ hashes-wide n hash keys (many other).0 ∙ sym (hashes-wide m hash keys (many other).1)
 ]

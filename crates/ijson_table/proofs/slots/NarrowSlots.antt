@@ -10,10 +10,10 @@ use Rattle.ijson_table.specs.private.HomeOrder.{AreInHomeOrder}
 use Rattle.ijson_table.specs.private.KeptHash.{narrow_slots, kept}
 use Rattle.ijson_table.specs.private.Narrow.{Fits, MayHold}
 use Rattle.ijson_table.specs.private.SlotHashes.{blank, coded_position, position_in, positions}
-use Rattle.ijson_table.proofs.filling.NoneEmpty.{none_empty, some_position}
+use Rattle.ijson_table.proofs.filling.NoneEmpty.{none_empty}
 use Rattle.ijson_table.proofs.slots.HashesInSlots.{hashes-at, position-at, positions-length}
 use Rattle.ijson_table.proofs.slots.KeptHashes.{kept-narrow}
-use Rattle.ijson_table.proofs.slots.Residents.{times-some}
+use Rattle.ijson_table.proofs.slots.Residents.{some_position, times-some}
 
 -- the code of a position is one more than it
 pub code-of : (code i : ℕ) → coded_position code ≡ Some i → code ≡ i + 1

@@ -8,16 +8,16 @@ use Rattle.std.proofs.lemmas.Bool.Decides.{nat_tests}
 use Rattle.std.proofs.lemmas.List.{map-append}
 use Rattle.std.proofs.lemmas.List.Elements.{All-get_or}
 use Rattle.std.proofs.lemmas.List.Sums.{sum_by-append}
+use Rattle.std.proofs.lemmas.Bool.{cases_eq}
 use Rattle.ijson_table.specs.declared.index.slot.Slot.{Slot}
 use Rattle.ijson_table.specs.Slots.{resident, times, below}
 use Rattle.ijson_table.specs.private.Holds.{one_if}
 use Rattle.ijson_table.specs.private.SlotHashes.{blank, position_in, positions}
-use Rattle.ijson_table.proofs.arithmetic.Comparing.{same_or_not}
 use Rattle.ijson_table.proofs.arithmetic.Counting.{covers}
-use Rattle.ijson_table.proofs.filling.NoneEmpty.{some_position}
 use Rattle.ijson_table.proofs.probing.LookCount.{ones, sum-ones, one-at, length-ones}
 use Rattle.ijson_table.proofs.slots.HashesInSlots.{positions-length, position-at}
-use Rattle.ijson_table.proofs.slots.Residents.{times-nil, times-cons, times-some, times-split, times-more, stands, stands_once}
+use Rattle.ijson_table.proofs.slots.Residents.{some_position, times-nil, times-cons, times-some, times-split, times-more, stands}
+use Rattle.ijson_table.proofs.slots.Residents.{stands_once}
 
 -- Different slots, none of which is empty, are no more than the positions.
 pub few_residents : (n : ℕ) (slots : List (Option ℕ)) → ((i : ℕ) → times i slots ≤ below n i) → (f : ℕ → ℕ) (m : ℕ)
@@ -57,7 +57,7 @@ no_less n slots placed =
 -- a slot that is not empty, or is written, is not empty then
 pub still_full : (slots : List (Option ℕ)) (p i q : ℕ) → p < length slots → (q ≢ p → resident slots q ≢ None)
     → resident (set slots p (Some i)) q ≢ None
-still_full slots p i q lp full none = elim (same_or_not q p) [
+still_full slots p i q lp full none = elim (cases_eq q p) [
   | inl same ↦
       let written : resident (set slots p (Some i)) q ≡ Some i =
       ap (resident (set slots p (Some i))) same ∙ get_or-set_same slots p (Some i) None lp in

@@ -43,6 +43,11 @@ pub held : (i : ℕ) (o : Option ℕ) → 0 < one_if i o → o ≡ Some i
 held i None h = absurd (omega (arith, h))
 held i (Some j) h = ap Some (grind (arith, nat_tests))
 
+-- what is not empty has a position
+pub some_position : (o : Option ℕ) → o ≢ None → (i : ℕ) × (o ≡ Some i)
+some_position None not = absurd (not refl)
+some_position (Some i) not = (i, refl)
+
 -- the first slot counts beside the rest
 pub times-cons : (i : ℕ) (o : Option ℕ) (slots : List (Option ℕ)) → times i (o ∷ slots) ≡ one_if i o + times i slots
 unfolding times

@@ -12,9 +12,9 @@ use Rattle.ijson_table.specs.private.Probe.{onward}
 use Rattle.ijson_table.specs.private.SlotHashes.{blank, position_in, positions, HasHash, HaveHashes}
 use Rattle.ijson_table.proofs.arithmetic.Circular.{onward-zero, after-onward}
 use Rattle.ijson_table.proofs.filling.Laying.{Laying, laid_none, laid_inside, laid_more}
-use Rattle.ijson_table.proofs.filling.NoneEmpty.{some_position}
 use Rattle.ijson_table.proofs.filling.Rotation.{length-rotated, rotated-at, times-rotated}
 use Rattle.ijson_table.proofs.slots.HashesInSlots.{positions-length, positions-put, all_empty, hashes-at, hashes-set, hashes-none}
+use Rattle.ijson_table.proofs.slots.Residents.{some_position}
 use Rattle.ijson_table.proofs.index.fill.lay.Goals as goal
 
 -- the entries have room in the slots as they are now

@@ -1,6 +1,7 @@
 use Rattle.std.proofs.Common.{◌≡◌, ◌≢◌, ◌<◌, ◌≤◌, ℕ, ◌+◌, List, length, map, get_or, set, Option, Some, None, refl, arith, ap, sym, ◌∙◌}
 use Rattle.std.proofs.Common.{false, inl, inr, subst, get_or-set_other}
 use Rattle.std.proofs.lemmas.List.{get_or-map, length-map, length-set, map-set}
+use Rattle.std.proofs.lemmas.Bool.{cases_eq}
 use Rattle.ijson_table.specs.declared.index.slot.Slot.{Slot}
 use Rattle.ijson_table.specs.Crowd.{distance}
 use Rattle.ijson_table.specs.Slots.{after, resident}
@@ -10,13 +11,12 @@ use Rattle.ijson_table.specs.private.Insertion.{Accepts, IsPut}
 use Rattle.ijson_table.specs.private.Probe.{onward, AreFull}
 use Rattle.ijson_table.specs.private.SlotHashes.{position_in, positions, blank}
 use Rattle.ijson_table.proofs.arithmetic.Circular.{distance-after, distance-below, distance-self, onward-distance}
-use Rattle.ijson_table.proofs.arithmetic.Comparing.{same_or_not}
-use Rattle.ijson_table.proofs.filling.NoneEmpty.{some_position}
 use Rattle.ijson_table.proofs.shifting.SlotWrites.{put_down}
 use Rattle.ijson_table.proofs.shifting.Insertion.{Shifting, goes_on, shift_more}
 use Rattle.ijson_table.proofs.slots.HashesInSlots.{positions-length, positions-put, positions-set}
 use Rattle.ijson_table.proofs.slots.HashesInSlots.{position-at, hashes-at, hashes-set}
 use Rattle.ijson_table.proofs.slots.HashesInSlots.{has_own_hash}
+use Rattle.ijson_table.proofs.slots.Residents.{some_position}
 use Rattle.ijson_table.proofs.slots.NarrowSlots.{code-of}
 use Rattle.ijson_table.proofs.slots.SlotChanges.{changes-none, changes-set}
 use Rattle.ijson_table.proofs.index.forward.shift_forward.Goals.{After-is_empty}
@@ -39,7 +39,7 @@ before j written lj ne = omega arith
 -- where it goes on, the slot that it is at was full too,
 passed_more : (old : List (Option ℕ)) (n from slot more : ℕ) → n ≡ length old → from < n → slot < n → more ≡ distance n from slot + 1
     → AreFull old from (distance n from slot) → resident old slot ≢ None → AreFull old from more
-passed_more old n from slot more size lf ls is passed here j lj none = elim (same_or_not j (distance n from slot)) [
+passed_more old n from slot more size lf ls is passed here j lj none = elim (cases_eq j (distance n from slot)) [
   | inl at ↦ here (ap (resident old) (sym (ap (onward (length old) from) (at ∙ ap (λ m. distance m from slot) size)
       ∙ onward-distance (length old) from slot (omega (arith, lf, size)) (omega (arith, ls, size)))) ∙ none)
   | inr other ↦ passed j (before j (distance n from slot) (omega (arith, lj, is)) other) none

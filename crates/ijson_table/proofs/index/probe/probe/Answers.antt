@@ -1,7 +1,7 @@
 use Rattle.std.proofs.Common.{◌≡◌, ◌<◌, ◌+◌, ℕ, List, Bool, false, length, Option, Some, arith, ap, sym, ◌∙◌, subst, inl, inr}
+use Rattle.std.proofs.lemmas.Bool.{cases_lt}
 use Rattle.ijson_table.specs.Slots.{after, resident}
 use Rattle.ijson_table.specs.private.Probe.{onward, EndsAt, Passed, PassedOthers}
-use Rattle.ijson_table.proofs.arithmetic.Comparing.{below_or_not}
 use Rattle.ijson_table.proofs.arithmetic.Circular.{onward-zero, after-onward}
 use Rattle.ijson_table.proofs.probing.LookCount.{passed_none, passed_more}
 use Rattle.ijson_table.proofs.index.probe.probe.Goals as goal
@@ -30,7 +30,7 @@ look-requires-clause-fits g c =
 -- the residents that were passed and one more
 more : (slots : List (Option ℕ)) (seeks : ℕ → Bool) (h m i : ℕ) → PassedOthers slots seeks h m
     → resident slots (onward (length slots) h m) ≡ Some i → seeks i ≡ false → PassedOthers slots seeks h (m + 1)
-more slots seeks h m i others there no_it_is j k lj at = elim (below_or_not j m) [
+more slots seeks h m i others there no_it_is j k lj at = elim (cases_lt j m) [
   | inl less ↦ others j k less at
   | inr last ↦
       let same : m ≡ j = omega arith in

@@ -6,11 +6,11 @@ use Rattle.ijson_table.specs.Crowd.{distance}
 use Rattle.ijson_table.specs.Slots.{after, displacement, resident, times, IsOrdered}
 use Rattle.ijson_table.specs.private.Holds.{HasGap}
 use Rattle.ijson_table.specs.private.SlotHashes.{position_in, positions, blank, HaveHashes}
-use Rattle.ijson_table.proofs.filling.NoneEmpty.{some_position}
 use Rattle.ijson_table.proofs.probing.ProbePath.{displacement-none}
 use Rattle.ijson_table.proofs.shifting.BackwardShift.{gap_closed, moved_back, times-moved_back, shift_falls, all_displacements}
 use Rattle.ijson_table.proofs.slots.HashesInSlots.{positions-length, positions-put, positions-set, position-at, nothing_has_hash, hashes-at}
 use Rattle.ijson_table.proofs.slots.HashesInSlots.{hashes-set, displacement-read}
+use Rattle.ijson_table.proofs.slots.Residents.{some_position}
 use Rattle.ijson_table.proofs.index.shift.shift_back.Goals.{After-is_empty, After-set-in-loop-modulus}
 use Rattle.ijson_table.proofs.index.shift.shift_back.Goals.{then-is_empty-via-then-is_empty}
 use Rattle.ijson_table.proofs.index.shift.shift_back.Goals.{then-is_empty-via-else-is_empty+then-distance-eq0}

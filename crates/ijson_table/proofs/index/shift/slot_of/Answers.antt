@@ -2,6 +2,8 @@ use Rattle.std.proofs.Common.{◌≡◌, ℕ, ◌%◌, ◌+◌, ◌-◌, ◌<◌
 use Rattle.std.proofs.Common.{inl, inr}
 use Rattle.std.proofs.lemmas.Bool.Decides.{nat_tests}
 use Rattle.std.proofs.Math.Nat.{mod-lt}
+use Rattle.std.proofs.lemmas.Bool.{cases_lt}
+use Rattle.std.proofs.lemmas.Nat.{mod_below}
 use Rattle.ijson_table.specs.declared.index.slot.Slot.{Slot}
 use Rattle.ijson_table.specs.Crowd.{distance}
 use Rattle.ijson_table.specs.Slots.{displacement, home_at, resident, IsOrdered}
@@ -10,8 +12,7 @@ use Rattle.ijson_table.specs.declared.index.probe.Probed.{Probed}
 use Rattle.ijson_table.specs.declared.index.probe.Probed.TheVariants.{Found, Vacant, Full}
 use Rattle.ijson_table.specs.private.Insertion.{Stands}
 use Rattle.ijson_table.specs.private.Probe.{onward, PassedOthers, Ends}
-use Rattle.ijson_table.proofs.arithmetic.Comparing.{below_or_not}
-use Rattle.ijson_table.proofs.arithmetic.Circular.{home_within, onward-below, onward-distance, distance-below}
+use Rattle.ijson_table.proofs.arithmetic.Circular.{onward-below, onward-distance, distance-below}
 use Rattle.ijson_table.proofs.shifting.Insertion.{eqb-self}
 use Rattle.ijson_table.proofs.shifting.Vacancy.{home_here}
 use Rattle.ijson_table.proofs.slots.HashesInSlots.{positions-length, displacement-in}
@@ -29,7 +30,7 @@ returns-clause-within g c =
     omega (
       arith,
       onward-below n (c.args.hash % length c.args.slots.now) ends.0
-          (omega (arith, home_within c.args.hash (length c.args.slots.now) (omega (arith, c.requires.stands.1)), size))
+          (omega (arith, mod_below c.args.hash (length c.args.slots.now) (omega (arith, c.requires.stands.1)), size))
           (omega (arith, ends.1.within)),
       ends.1.there,
       size,
@@ -82,7 +83,7 @@ no_other hashes slots position hash looks s (Vacant p) ends is =
     let size : k ≡ n = positions-length slots in
     let lh : h < n = mod-lt hash (omega (arith, s.stands.1)) in
     let d : ℕ = distance n h s.stands.0 in
-    elim (below_or_not d m) [
+    elim (cases_lt d m) [
       | inl before ↦ not_before hashes slots position hash m s.hash_is s.hashes_are s.ordered s.stands ends.1.others before
       | inr after ↦
           let home : home_at k hashes position ≡ h = sym (home_here hashes k position hash s.hash_is) ∙ ap (λ x. hash % x) size in

@@ -1,4 +1,5 @@
 use Rattle.std.proofs.Common.{◌≡◌, ◌⊎◌, ℕ, ◌%◌, ◌+◌, ◌-◌, ◌<◌, ◌≤◌, List, false, length, arith, ap, inl, inr}
+use Rattle.std.proofs.lemmas.Nat.{mod_below}
 use Rattle.ijson_table.specs.declared.index.slot.Slot.{Slot}
 use Rattle.ijson_table.specs.declared.index.probe.Probed.{Probed}
 use Rattle.ijson_table.specs.declared.index.probe.Probed.TheVariants.{Found, Vacant, Full}
@@ -7,7 +8,7 @@ use Rattle.ijson_table.specs.Slots.{times, below}
 use Rattle.ijson_table.specs.private.Holds.{HasEmpty}
 use Rattle.ijson_table.specs.private.SlotHashes.{displacement_in, positions}
 use Rattle.ijson_table.specs.private.Probe.{onward, Ends, EndsAt}
-use Rattle.ijson_table.proofs.arithmetic.Circular.{home_within, distance-onward, onward-below}
+use Rattle.ijson_table.proofs.arithmetic.Circular.{distance-onward, onward-below}
 use Rattle.ijson_table.proofs.shifting.Insertion.{not_round}
 use Rattle.ijson_table.proofs.slots.ResidentCount.{few_residents}
 use Rattle.ijson_table.proofs.slots.HashesInSlots.{positions-length, displacement_in-none}
@@ -24,7 +25,7 @@ no_other slots hash looks e Full ends is =
     let size : length (positions slots) ≡ length slots = positions-length slots in
     let le : e.0 < length slots = omega (arith, e.1, size) in
     not_round (displacement_in slots) (length (positions slots)) (hash % length slots) e.0
-    (omega (arith, home_within hash (length slots) (omega (arith, le)), size)) e.1 (displacement_in-none slots e.0 le e.2) ends.0
+    (omega (arith, mod_below hash (length slots) (omega (arith, le)), size)) e.1 (displacement_in-none slots e.0 le e.2) ends.0
 
 pub unreachable-requires : goal.unreachable-requires
 unreachable-requires c = no_other c.args.slots.now c.args.hash
@@ -37,7 +38,7 @@ looked_few slots hash looks n p m ends few =
     let size : length (positions slots) ≡ length slots = positions-length slots in
     let k : ℕ = length (positions slots) in
     let h : ℕ = hash % length slots in
-    let lh : h < k = omega (arith, home_within hash (length slots) (omega (arith, ends.within, size)), size) in
+    let lh : h < k = omega (arith, mod_below hash (length slots) (omega (arith, ends.within, size)), size) in
     let passed : m ≤ n = few_residents n (positions slots) few (onward k h) m
     (λ j l lj ll e. omega (
       arith,

@@ -1,9 +1,10 @@
-use Rattle.std.proofs.Common.{◌≡◌, ◌≤◌, ◌<◌, ◌+◌, ◌*◌, [], length, map, take, drop, Result, Ok, Err, refl, arith, ap, ap₂, sym, subst, ◌∙◌}
+use Rattle.std.proofs.Common.{◌≡◌, ◌≤◌, ◌<◌, ◌+◌, ◌*◌, [], length, map, take, drop, refl, arith, ap, ap₂, sym, subst, ◌∙◌}
 use Rattle.std.proofs.lemmas.Grind.{common_steps}
 use Rattle.std.proofs.lemmas.Bool.Decides.{nat_tests}
 use Rattle.std.proofs.lemmas.List.{length-drop, length-take, nil_from_length}
 use Rattle.std.proofs.lemmas.Result.{on_ok_weaker}
-use Rattle.std.specs.Prelude.{IfOk, OnErr, vec_capacity}
+use Rattle.std.specs.Prelude.{IfOk, vec_capacity}
+use Rattle.ijson_number.proofs.AnyAnswer.{where_refused}
 use Rattle.ijson_table.specs.BuildBound.{looks_a_pair}
 use Rattle.ijson_table.specs.Crowd.{slot_count}
 use Rattle.ijson_table.specs.Growth.{capacity_limit}
@@ -214,12 +215,8 @@ with_rest-requires-clause-placed g c = omega (
 )
 
 -- an error says what is known of each
-on_err : {A E : Type 0} (r : Result A E) {P : Type 0} → P → OnErr r P
-on_err (Ok a) known = tt
-on_err (Err e) known = known
-
 pub returns-clause-refused : goal.returns-clause-refused
-returns-clause-refused g c = on_err c.with_rest.result (
+returns-clause-refused g c = where_refused c.with_rest.result (
     let some : 0 < length c.in_ok-rest.rest.items = grind (arith, nat_tests, c.is_empty.ensures, c.if-is_empty.false) in
     omega (
       arith,

@@ -1,5 +1,6 @@
-use Rattle.std.proofs.Common.{◌≡◌, length, map, Result, Ok, Err, arith, ap, ap₂, sym, subst, ◌∙◌}
-use Rattle.std.specs.Prelude.{vec_capacity, OnErr}
+use Rattle.std.proofs.Common.{◌≡◌, length, map, arith, ap, ap₂, sym, subst, ◌∙◌}
+use Rattle.std.specs.Prelude.{vec_capacity}
+use Rattle.ijson_number.proofs.AnyAnswer.{where_refused}
 use Rattle.ijson_table.specs.Crowd.{slot_count}
 use Rattle.ijson_table.specs.Store.{keys_of, IsDistinct}
 use Rattle.ijson_table.specs.private.KeptHash.{kept_hash}
@@ -47,10 +48,6 @@ invariant_of-result-2 g c =
     }
 
 -- an error says what is known of each
-on_err : {A E : Type 0} (r : Result A E) {P : Type 0} → P → OnErr r P
-on_err (Ok a) known = tt
-on_err (Err e) known = known
-
 pub returns-in_err-index-clause-refused : goal.returns-in_err-index-clause-refused
-returns-in_err-index-clause-refused g c = on_err c.from_residual.result
+returns-in_err-index-clause-refused g c = where_refused c.from_residual.result
     (omega (arith, c.in_err-index.ensures.refused, c.slots_for.ensures, c.len-capacity.ensures, c.args.pairs.ok.0))

@@ -1,5 +1,6 @@
 use Rattle.std.proofs.Common.{◌≡◌, ◌⊎◌, inl, inr, ◌-◌, ◌<◌, ◌%◌, [], ℕ, List, length, get_or, take, arith, ap, ap₂, refl, sym, subst, ◌∙◌}
 use Rattle.std.proofs.lemmas.Grind.{common_steps}
+use Rattle.std.proofs.lemmas.Nat.{mod_below}
 use Rattle.ijson_table.specs.declared.index.probe.Probed.{Probed}
 use Rattle.ijson_table.specs.declared.index.probe.Probed.TheVariants.{Found, Vacant, Full}
 use Rattle.ijson_table.specs.Crowd.{distance}
@@ -10,7 +11,7 @@ use Rattle.ijson_table.specs.private.FirstPlaced.{ComesAgain}
 use Rattle.ijson_table.specs.private.HashIndex.{HashIndex}
 use Rattle.ijson_table.specs.private.KeptHash.{kept, kept_hash}
 use Rattle.ijson_table.specs.private.Lookup.{is_hashed_key}
-use Rattle.ijson_table.proofs.arithmetic.Circular.{distance-below, home_within}
+use Rattle.ijson_table.proofs.arithmetic.Circular.{distance-below}
 use Rattle.ijson_table.proofs.probing.FirstPairs.{comes_again, next_ends, next_placed}
 use Rattle.ijson_table.proofs.probing.StepsByEnd.{ended_found, counts_found, counts_full, counts_new}
 use Rattle.ijson_table.proofs.pairs.PairsByKey.{key_at}
@@ -104,7 +105,7 @@ away_found g c =
     let n = length index.slots in
     let there = (ended_found index.slots (displacement index.hashes index.slots) (c.kept_hash-hash.result % n)
     (is_hashed_key index.hashes (keys_of (take c.args.position c.args.pairs.now)) c.kept_hash-hash.result c.as_str-key.result.now)
-    (home_within c.kept_hash-hash.result n (omega (arith, c.requires.room))) (c.probe.new.looks - c.new.result) c.in-Found.at
+    (mod_below c.kept_hash-hash.result n (omega (arith, c.requires.room))) (c.probe.new.looks - c.new.result) c.in-Found.at
     c.in-Found.slot (found g c)).there in
     away_from n c.args.modulus.count c.hash-whole.result c.kept_hash-hash.result c.home_of_hash-home.result c.in-Found.slot
     c.distance_between-in-Found.result c.distance_between-in-Found.ensures c.kept_hash-hash.ensures c.home_of_hash-home.ensures.value
