@@ -1,5 +1,5 @@
 -- Keys of which none comes twice, and what a map gives.
-use Rattle.std.proofs.Common.{◌≡◌, ◌≢◌, ◌+◌, ℕ, suc, List, [], ◌∷◌, ◌++◌, length, map, Some, Result, Ok, Err, false}
+use Rattle.std.proofs.Common.{◌≡◌, ◌≢◌, ◌+◌, ℕ, suc, List, [], ◌∷◌, ◌++◌, length, map, Some, false}
 use Rattle.std.proofs.Common.{refl, ap, sym, subst, ◌∙◌, arith}
 use mathlib.Core.Bool.{true≢false}
 use Rattle.std.proofs.lemmas.List.{append-nil, length-append}
@@ -11,7 +11,7 @@ use Rattle.std.specs.List.Sorted.{IsStrictlySortedBy}
 use Rattle.std.specs.Map.{keys_of as map_keys}
 use Rattle.std.specs.Map.Iter.{TakesFirst}
 use Rattle.std.specs.Ordering.{nat_cmp}
-use Rattle.std.specs.Prelude.{nat_eq, IfOk}
+use Rattle.std.specs.Prelude.{nat_eq}
 use Rattle.std.specs.declared.cmp.Ordering.TheVariants.{Less}
 use Rattle.ijson_table.specs.Store.{keys_of, Lacks, IsDistinct}
 use Rattle.ijson_value.specs.private.GivesPairs.{GivesDistinctPairs}
@@ -53,11 +53,6 @@ module _ {K X : Type 0} (bytes : K → List ℕ) where
     lacks_apart (λ j k. slice_cmp nat_cmp j k ≡ Less) (λ k less. let tied = tied_itself nat_list_cmp_total k in cc) e.0 es d.0,
     ordered_keys es d.1,
   )
-
--- what holds of an answer, said in other words
-pub ok_more : {A E : Type 0} (answer : Result A E) (P Q : A → Type 0) → ((x : A) → P x → Q x) → IfOk answer P → IfOk answer Q
-ok_more (Ok x) P Q h p = h x p
-ok_more (Err e) P Q h p = tt
 
 -- ---- what the owner of a map's pairs gives
 module _ {X : Type 0} where

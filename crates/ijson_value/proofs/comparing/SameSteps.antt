@@ -3,6 +3,7 @@ use Rattle.std.proofs.Common.{◌≡◌, ◌≢◌, ℕ, suc, ◌<◌, List, [],
 use Rattle.std.proofs.Common.{None, refl, sym, ap, ◌∙◌, eq-eqb}
 use Rattle.std.proofs.Math.Seq.{drop-cons}
 use Rattle.std.specs.Str.{bytes_eq}
+use Rattle.std.proofs.lemmas.Bool.{false_from_ne_true}
 use Rattle.std.proofs.lemmas.Bool.Decides.{Decides-eqb}
 use Rattle.std.specs.Cmp.Lexicographic.{bytes_decides}
 use Rattle.ijson_table.specs.Store.{Store, lookup, keys_of, Lacks, IsDistinct}
@@ -12,11 +13,8 @@ use Rattle.ijson_value.specs.SameTest.{same, same_each, same_in, some_has}
 use Rattle.ijson_value.specs.Tree.{Tree, object, Members, members_len}
 
 -- a text that is another has other bytes
-other_bytes : (k j : List ℕ) → k ≢ j → bytes_eq k j ≡ false
-other_bytes k j ne = elim (bytes_eq k j) as (λ b. bytes_eq k j ≡ b → b ≡ false) [
-  | true ↦ λ e. absurd (ne ((bytes_decides k j).0 e))
-  | false ↦ λ e. refl
-] refl
+pub other_bytes : (k j : List ℕ) → k ≢ j → bytes_eq k j ≡ false
+other_bytes k j ne = false_from_ne_true (bytes_eq k j) (λ e. ne ((bytes_decides k j).0 e))
 
 -- no pair passes under a key that is lacking
 some_has-lacking : (k : List ℕ) (passes : Tree → Bool) (ps : List (List ℕ × WellFormed))

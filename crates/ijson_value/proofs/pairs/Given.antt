@@ -6,10 +6,6 @@ use Rattle.ijson_value.specs.Gives.{GivesAll, GivesThen, GivesList}
 use Rattle.ijson_value.proofs.FromMaps.{all_given, then_given}
 use Rattle.ijson_value.proofs.pairs.PutInTurn.{first_left}
 
-pub on_ok : {A E P Q : Type 0} (r : Result A E) → (P → Q) → OnOk r P → OnOk r Q
-on_ok (Ok x) f p = f p
-on_ok (Err e) f p = tt
-
 module _ {X : Type 0} (all : List X) where
   abbrev starts : List X → List X → Type 0
   starts xs it = it ≡ xs

@@ -1,6 +1,6 @@
 -- What putting into an object says of the opened value round it.
 use Rattle.std.proofs.Common.{◌≡◌, ℕ, List, Option, Some, None, Result, Ok, Err, MutBor, refl, sym, ap, subst, ◌∙◌}
-use Rattle.std.specs.Prelude.{IfOk, IfErr, OnErr, option_map, unwrap_or}
+use Rattle.std.specs.Prelude.{IfOk, IfErr, option_map, unwrap_or}
 use Rattle.ijson_table.specs.Store.{Store, lookup}
 use Rattle.ijson_value.specs.FindsEntry.{FindsNoRoom}
 use Rattle.ijson_value.specs.LendsStep.{InObject}
@@ -41,7 +41,3 @@ pub both_inside : (R : Store WellFormed → Store WellFormed → Type 0) (n m : 
     → n ≡ Object old → m ≡ Object new → R old new → InObject (λ o. InObject (R o) m) n
 both_inside R n m old new n_is m_is r =
     subst (λ k. InObject (λ o. InObject (R o) m) k) (sym n_is) (subst (λ k. InObject (R old) k) (sym m_is) r)
-
-pub on_err : {A E P Q : Type 0} (r : Result A E) → (P → Q) → OnErr r P → OnErr r Q
-on_err (Ok x) f p = tt
-on_err (Err e) f p = f p

@@ -3,12 +3,12 @@ use Rattle.std.proofs.Common.{◌≡◌, ◌<◌, ℕ, zero, suc, ◌+◌, ◌-�
 use Rattle.std.proofs.Common.{sym, ap, subst, ◌∙◌, arith, inl, inr, length-set}
 use Rattle.std.specs.Prelude.{slice_get, swap_remove, if◌then◌else◌}
 use Rattle.std.proofs.lemmas.List.{take-set-le, set-set, get_or-set_other}
+use Rattle.std.proofs.lemmas.Bool.{cases_lt}
 use Rattle.ijson_table.proofs.pairs.PairsByKey.{set-value, swap_out-is}
 use Rattle.ijson_table.specs.Store.{with_value, swap_out}
 use Rattle.ijson_value.specs.MayAsk.{MayAskFrom}
 use Rattle.ijson_value.specs.Retains.{RetainsFrom}
 use Rattle.ijson_value.specs.laws.EntryValid.{length-with_value}
-use Rattle.ijson_table.proofs.arithmetic.Comparing.{below_or_not}
 use Rattle.ijson_value.proofs.pairs.PairLookups.{pair_there}
 
 module _ {X : Type 0} where
@@ -23,7 +23,7 @@ module _ {X : Type 0} where
       let size = length-set xs i y in
       ap (λ n. take (n - 1) (set (set xs i y) i (get_or (set xs i y) (n - 1) d))) size
       ∙ ap (take last) (set-set xs i y (get_or (set xs i y) last d))
-      ∙ elim (below_or_not i last) [
+      ∙ elim (cases_lt i last) [
         | inl before ↦ ap (λ x. take last (set xs i x)) (get_or-set_other xs i last y d (λ e. omega (arith, before, e)))
         | inr past ↦ take-set-le last xs i (get_or (set xs i y) last d) past ∙ sym (take-set-le last xs i (get_or xs last d) past)
       ]

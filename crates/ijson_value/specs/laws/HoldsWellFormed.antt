@@ -14,7 +14,7 @@ HaveWellFormed-pairs [] = tt
 HaveWellFormed-pairs (p ∷ ps) = (p.1.well_formed, HaveWellFormed-pairs ps)
 
 -- the members have the keys of the pairs
-member_keys-pairs : (ps : List (List ℕ × WellFormed)) → member_keys (pair_trees ps) ≡ keys_of ps
+pub member_keys-pairs : (ps : List (List ℕ × WellFormed)) → member_keys (pair_trees ps) ≡ keys_of ps
 member_keys-pairs [] = refl
 member_keys-pairs (p ∷ ps) = ap (λ l. p.0 ∷ l) (member_keys-pairs ps)
 

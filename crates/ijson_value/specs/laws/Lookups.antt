@@ -5,8 +5,8 @@ use Rattle.std.specs.Option.{option_or}
 use Rattle.std.specs.Str.{bytes_eq}
 use Rattle.std.proofs.Common.{inl, inr, refl, sym, ap, ◌∙◌, arith}
 use Rattle.std.proofs.lemmas.List.{get_or-set_other, get_or-set_same, get_or-take, get_or_default}
+use Rattle.std.proofs.lemmas.Bool.{cases_eq, cases_lt}
 use Rattle.ijson_table.specs.Store.{keys_of, at, lookup, put, put_each, swap_out, shift_out, Lacks, IsDistinct}
-use Rattle.ijson_table.proofs.arithmetic.Comparing.{below_or_not, same_or_not}
 use Rattle.ijson_table.proofs.pairs.DistinctKeys.{apart}
 use Rattle.ijson_table.proofs.pairs.KeyPositions.{same_key, head_or_tail, position-none, position-some, position-distinct, absent-from}
 use Rattle.ijson_table.proofs.pairs.PairsByKey.{position_within, keys-length, key_at, swap_out-is, length-swap_out, swapped-same}
@@ -108,7 +108,7 @@ module _ {V : Type 0} where
       × (get_or (swap_out (pair ∷ pairs) i) j pair ≡ get_or (pair ∷ pairs) m pair)
   moved pair pairs i m li lm other =
       let last : ℕ = length (pair ∷ pairs) - 1 in
-      elim (below_or_not (m + 1) (length (pair ∷ pairs))) [
+      elim (cases_lt (m + 1) (length (pair ∷ pairs))) [
         | inl inside ↦ (
           m,
           inside,
@@ -134,7 +134,7 @@ module _ {V : Type 0} where
   -- which pair stands there now
   came : (pairs : List (List ℕ × V)) (i j : ℕ) → i < length pairs → j + 1 < length pairs
       → (m : ℕ) × (m < length pairs) × (m ≢ i) × (get_or (keys_of (swap_out pairs i)) j [] ≡ get_or (keys_of pairs) m [])
-  came pairs i j li lj = elim (same_or_not j i) [
+  came pairs i j li lj = elim (cases_eq j i) [
     | inl e ↦ (
       length pairs - 1,
       omega arith,

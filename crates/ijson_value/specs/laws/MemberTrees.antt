@@ -15,7 +15,8 @@ pub members_list-pairs : (ps : List (List ℕ × WellFormed)) → members_list (
 members_list-pairs [] = refl
 members_list-pairs (p ∷ ps) = ap (λ ms. pair_tree p ∷ ms) (members_list-pairs ps)
 
-keys_of-trees : (ps : List (List ℕ × WellFormed)) → keys_of (map pair_tree ps) ≡ keys_of ps
+-- the pairs with the trees of their values have their keys
+pub keys_of-trees : (ps : List (List ℕ × WellFormed)) → keys_of (map pair_tree ps) ≡ keys_of ps
 keys_of-trees [] = refl
 keys_of-trees (p ∷ ps) = ap (λ ks. p.0 ∷ ks) (keys_of-trees ps)
 

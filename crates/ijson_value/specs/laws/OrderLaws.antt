@@ -3,12 +3,13 @@
 use Rattle.std.proofs.Common.{◌≡◌, ℕ, ◌<◌, ◌≤◌, Bool, true, false, cond, ◌==◌, Option, Some, None, refl, sym, ap, ◌∙◌, arith}
 use mathlib.Core.Bool.{true≢false, beq}
 use Rattle.std.specs.Bool.{Decides}
-use Rattle.std.specs.Option.{option_map, unwrap_or}
+use Rattle.std.specs.Option.{option_map}
 use Rattle.std.specs.Prelude.{nat_lt}
 use Rattle.std.specs.Ordering.{nat_cmp, bool_cmp, ordering_reverse, partial_ordering_then, is_eq, MatchOrdering}
 use Rattle.std.specs.Cmp.{IsPartialOrder, Equal-is, bool_cmp_total, first_so, second_so, per_alike, ranks, some_flip, some_level}
 use Rattle.std.specs.Cmp.Lexicographic.{nat_list_cmp_total, texts_po}
 use Rattle.std.proofs.lemmas.Bool.Decides.{nat_tests}
+use Rattle.std.proofs.lemmas.Option.{same_Some}
 use Rattle.std.specs.declared.cmp.Ordering.{Ordering}
 use Rattle.std.specs.declared.cmp.Ordering.TheVariants.{Less, Equal, Greater}
 use Rattle.ijson_number.specs.Order.{number_cmp}
@@ -166,9 +167,6 @@ earlier t u h = nat_less (rank t) (rank u) h
 earlier_then : (t u v : Tree) → Some (nat_cmp (rank t) (rank u)) ≡ Some Less → tree_cmp u v ≡ Some Less → tree_cmp t v ≡ Some Less
 earlier_then t u v h g = earlier t v (omega (arith, nat_lesser (rank t) (rank u) h, below u v g))
 
-inside : (r s : Ordering) → Some r ≡ Some s → r ≡ s
-inside r s e = ap (λ p. unwrap_or p Equal) e
-
 -- Equal and Greater are not Less
 apart : (o : Ordering) → Some o ≡ Some Less → MatchOrdering o (Unit {0}) ⊥ ⊥
 apart Less e = tt
@@ -208,10 +206,10 @@ mutual
       → tree_cmp u v ≡ Some Less → tree_cmp t v ≡ Some Less
   cmp_less null null v d e f h g = g
   cmp_less (boolean a) (boolean b) (boolean c) d e f h g =
-      ap Some (bool_cmp_total.trans a b c (inside (bool_cmp a b) Less h) (inside (bool_cmp b c) Less g))
+      ap Some (bool_cmp_total.trans a b c (same_Some (bool_cmp a b) Less h) (same_Some (bool_cmp b c) Less g))
   cmp_less (boolean a) (boolean b) v d e f h g = g
   cmp_less (number l) (number m) (number n) d e f h g =
-      ap Some (number_cmp_total.trans l m n (inside (number_cmp l m) Less h) (inside (number_cmp m n) Less g))
+      ap Some (number_cmp_total.trans l m n (same_Some (number_cmp l m) Less h) (same_Some (number_cmp m n) Less g))
   cmp_less (number l) (number m) v d e f h g = g
   cmp_less (string l) (string m) (string n) d e f h g = texts_po.trans l m n h g
   cmp_less (string l) (string m) v d e f h g = g

@@ -1,8 +1,8 @@
 -- `same` is the test of `Same`, at any two trees.
-use Rattle.std.proofs.Common.{◌≡◌, ◌⊎◌, inl, inr, ◌==◌, ℕ, List, Bool, true, false, ◌&&◌, ◌||◌, refl, sym, subst}
+use Rattle.std.proofs.Common.{◌≡◌, inl, inr, ◌==◌, ℕ, List, Bool, true, false, ◌&&◌, ◌||◌, refl, sym, subst}
 use Rattle.std.specs.Bool.{Decides}
 use mathlib.Core.Bool.{true≢false, beq}
-use Rattle.std.proofs.lemmas.Bool.Decides.{Decides-eqb}
+use Rattle.std.proofs.lemmas.Bool.Decides.{Decides-and, Decides-eqb, Decides-or}
 use Rattle.std.specs.Str.{bytes_eq}
 use Rattle.std.specs.Cmp.{Equal-is}
 use Rattle.std.specs.Cmp.Lexicographic.{bytes_decides}
@@ -17,16 +17,6 @@ no_way = (λ e. absurd (true≢false (sym e)), λ e. absurd e)
 
 yes : Decides true (Unit {0})
 yes = (λ e. tt, λ e. refl)
-
-both : {A B : Type 0} (a b : Bool) → Decides a A → Decides b B → Decides (a && b) (A × B)
-both true true p q = (λ e. (p.0 refl, q.0 refl), λ h. refl)
-both true false p q = (λ e. absurd (true≢false (sym e)), λ h. q.1 h.1)
-both false b p q = (λ e. absurd (true≢false (sym e)), λ h. p.1 h.0)
-
-either : {A B : Type 0} (a b : Bool) → Decides a A → Decides b B → Decides (a || b) (A ⊎ B)
-either true b p q = (λ e. inl (p.0 refl), λ h. refl)
-either false true p q = (λ e. inr (q.0 refl), λ h. refl)
-either false false p q = (λ e. absurd (true≢false (sym e)), λ h. elim h [ inl x ↦ p.1 x | inr y ↦ q.1 y ])
 
 along : {A B : Type 0} (a : Bool) → Decides a A → (A → B) → (B → A) → Decides a B
 along a d f g = (λ e. f (d.0 e), λ h. d.1 (g h))
@@ -45,7 +35,7 @@ has_decides : (k : List ℕ) (p : Tree → Bool) (P : Tree → Type 0) → ((u :
 has_decides k p P d no_members = (λ e. absurd (true≢false (sym e)), λ h. absurd h.1)
 has_decides k p P d (member j v qs) =
     along ((bytes_eq k j && p v) || some_has k p qs)
-    (either (bytes_eq k j && p v) (some_has k p qs) (both (bytes_eq k j) (p v) (bytes_decides k j)
+    (Decides-or (bytes_eq k j && p v) (some_has k p qs) (Decides-and (bytes_eq k j) (p v) (bytes_decides k j)
     (d v)) (has_decides k p P d qs))
     (λ h. elim h [ inl x ↦ (v, inl (x.0, refl), x.1) | inr y ↦ (y.0, inr y.1, y.2) ])
     (λ h. elim h.1 [ inl e ↦ inl (e.0, subst P e.1 h.2) | inr m ↦ inr (h.0, m, h.2) ])
@@ -58,17 +48,17 @@ mutual
   decides (string s) (string t) = bytes_decides s t
   decides (array ts) (array us) = decides_each ts us
   decides (object ps) (object qs) =
-      both (members_len ps == members_len qs) (same_in ps qs)
+      Decides-and (members_len ps == members_len qs) (same_in ps qs)
       (Decides-eqb (members_len ps) (members_len qs)) (decides_in ps qs)
   decides _ _ = no_way
 
   pub decides_each : (ts us : Items) → Decides (same_each ts us) (SameEach ts us)
   decides_each no_items no_items = yes
-  decides_each (item t ts) (item u us) = both (same t u) (same_each ts us) (decides t u) (decides_each ts us)
+  decides_each (item t ts) (item u us) = Decides-and (same t u) (same_each ts us) (decides t u) (decides_each ts us)
   decides_each _ _ = no_way
 
   pub decides_in : (ps qs : Members) → Decides (same_in ps qs) (SameIn ps qs)
   decides_in no_members qs = yes
   decides_in (member k t ps) qs =
-      both (some_has k (same t) qs) (same_in ps qs) (has_decides k (same t) (Same t) (decides t) qs)
+      Decides-and (some_has k (same t) qs) (same_in ps qs) (has_decides k (same t) (Same t) (decides t) qs)
       (decides_in ps qs)

@@ -159,7 +159,8 @@ member_distinct no_members d k u h = absurd h
 member_distinct (member i v qs) d k u h =
     elim h [ inl e ↦ subst IsWellFormed (sym e.1) d.0 | inr m ↦ member_distinct qs d.1 k u m ]
 
-covers : (qs ps : Members) → ((k : List ℕ) (u : Tree) → Has k u qs → (t : Tree) × Has k t ps × Same u t)
+-- members that each have a partner among others are the same as some of those
+pub covers : (qs ps : Members) → ((k : List ℕ) (u : Tree) → Has k u qs → (t : Tree) × Has k t ps × Same u t)
     → SameIn qs ps
 covers no_members ps h = tt
 covers (member k u qs) ps h = (h k u (inl (refl, refl)), covers qs ps (λ j v m. h j v (inr m)))

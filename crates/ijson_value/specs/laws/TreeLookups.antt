@@ -10,22 +10,27 @@ use Rattle.ijson_table.specs.Store.{keys_of, lookup, put, IsDistinct}
 use Rattle.ijson_value.specs.AtKey.{swap_out_key}
 use Rattle.ijson_value.specs.Kind.{kind_of}
 use Rattle.ijson_value.specs.Step.{by_position, by_key, tree_at, tree_with, tree_without}
-use Rattle.ijson_value.specs.Tree.{Tree, null, boolean, number, string, array, object, items_of, items_list, Members, no_members, member}
-use Rattle.ijson_value.specs.Tree.{members_of, members_list, member_keys}
+use Rattle.ijson_value.specs.Tree.{Tree, null, boolean, number, string, array, object, Items, no_items, item, items_of, items_list, Members}
+use Rattle.ijson_value.specs.Tree.{no_members, member, members_of, members_list, member_keys}
 use Rattle.ijson_value.specs.Values.{array_value, object_tree}
 use Rattle.ijson_value.specs.WellFormed.{WellFormed, IsWellFormed, tree_of}
 use Rattle.ijson_value.specs.declared.value.ValueType.TheVariants.{Object}
 use Rattle.ijson_value.specs.laws.Lookups.{lookup-put, lookup-swap_out_key}
 use Rattle.ijson_value.specs.laws.Steps.{item_at, value_at}
 
--- a list made members and listed again
-members_list-of : (ps : List (List ℕ × Tree)) → members_list (members_of ps) ≡ ps
+-- a list made members, and one made items, and listed again
+pub members_list-of : (ps : List (List ℕ × Tree)) → members_list (members_of ps) ≡ ps
 members_list-of [] = refl
 members_list-of (p ∷ ps) = ap (λ qs. p ∷ qs) (members_list-of ps)
 
-items_list-of : (ts : List Tree) → items_list (items_of ts) ≡ ts
+pub items_list-of : (ts : List Tree) → items_list (items_of ts) ≡ ts
 items_list-of [] = refl
 items_list-of (t ∷ ts) = ap (λ us. t ∷ us) (items_list-of ts)
+
+-- items listed and joined again
+pub items_of-list : (ts : Items) → items_of (items_list ts) ≡ ts
+items_of-list no_items = refl
+items_of-list (item t ts) = ap (item t) (items_of-list ts)
 
 keys_of-list : (ps : Members) → keys_of (members_list ps) ≡ member_keys ps
 keys_of-list no_members = refl

@@ -6,15 +6,14 @@ use Rattle.std.specs.Prelude.{◌^◌, ℤ, pos, negsuc, neg_ℤ, nat_abs, nat_e
 use Rattle.std.specs.Int.Digits.{number_from_digits}
 use Rattle.std.proofs.lemmas.Bool.Decides.{nat_tests}
 use Rattle.std.proofs.lemmas.Int.{ints}
-use Rattle.std.proofs.lemmas.Int.Digits.{number_digits_of}
 use Rattle.ijson_number.specs.Decimal.{Decimal}
 use Rattle.ijson_number.specs.Num.{IsNum}
 use Rattle.ijson_number.specs.Order.{number_cmp}
-use Rattle.ijson_number.specs.StrippedDigits.{stripped_digits, digits_within}
+use Rattle.ijson_number.specs.StrippedDigits.{stripped_digits}
 use Rattle.ijson_number.specs.Words.{number_words}
 use Rattle.ijson_number.specs.laws.Ordered.{same_equal}
-use Rattle.ijson_number.proofs.storing.DigitsOf.{digits_are}
 use Rattle.ijson_number.proofs.parsing.Exponents.{in_range_within}
+use Rattle.ijson_number.proofs.writing.DigitTexts.{within_value}
 use Rattle.ijson_value.specs.HoldsNoObject.{HoldsNoObject, HoldNoObject}
 use Rattle.ijson_value.specs.Order.{rank}
 use Rattle.ijson_value.specs.Same.{Same, SameEach}
@@ -88,14 +87,11 @@ least_exponent n k s = elim (in_range_within n k.in_range) [
   | inr w ↦ w.0
 ]
 
-size_of : (n : ℕ) → number_from_digits 10 (digits_within n n) ≡ n
-size_of n = ap (number_from_digits 10) (digits_are n n) ∙ number_digits_of 10 n (omega arith)
-
 some_same : (m n : Decimal) → IsNum m → IsNum n → IsSome m → IsSome n → some_words m ≡ some_words n
     → number_cmp m n ≡ Equal
 some_same m n j k p q h =
-    let size : nat_abs m.mantissa ≡ nat_abs n.mantissa = sym (size_of (nat_abs m.mantissa))
-    ∙ ap (λ ws. number_from_digits 10 (drop 4 ws)) h ∙ size_of (nat_abs n.mantissa) in
+    let size : nat_abs m.mantissa ≡ nat_abs n.mantissa = sym (within_value (nat_abs m.mantissa))
+    ∙ ap (λ ws. number_from_digits 10 (drop 4 ws)) h ∙ within_value (nat_abs n.mantissa) in
     same_equal m n (same_mantissa m.mantissa n.mantissa (ap (word 1) h) size)
     (same_exponent m.exponent n.exponent (least_exponent m j p) (least_exponent n k q) (ap (word 2) h))
 

@@ -1,7 +1,8 @@
 use Rattle.std.proofs.Common.{rules, ◌≡◌, refl, sym, ap, ◌∙◌}
+use Rattle.std.proofs.lemmas.Result.{on_err_weaker}
 use Rattle.ijson_value.specs.LendsAtKey.{IsPut}
 use Rattle.ijson_value.specs.declared.value.Destructured.TheVariants.{Object}
-use Rattle.ijson_value.proofs.pairs.PutInside.{put_value, put_refused, both_inside, on_err}
+use Rattle.ijson_value.proofs.pairs.PutInside.{put_value, put_refused, both_inside}
 use Rattle.ijson_value.proofs.value.Destructured.index_or_insert.Goals as goal
 
 pub returns : goal.returns
@@ -12,7 +13,7 @@ returns c =
       (
         refl,
         (λ w ok. both_inside (λ old new. IsPut old key w new) c.args.self.now _ _ (lent.lender w) is (search rules) (lent.holds w ok)),
-        on_err c.index_or_insert.result (λ h. both_inside (λ old new. (new.pairs ≡ old.pairs) × (new.capacity ≡ old.capacity))
+        on_err_weaker c.index_or_insert.result (λ h. both_inside (λ old new. (new.pairs ≡ old.pairs) × (new.capacity ≡ old.capacity))
             c.args.self.now _ _ lent.lender-at-none is (search rules) h) lent.holds-at-none,
       ),
       record {

@@ -1,5 +1,5 @@
 use Rattle.std.proofs.Common.{◌≡◌, ◌<◌, ◌≤◌, refl, ℕ, length, sym, None, inl, inr}
-use Rattle.ijson_table.proofs.arithmetic.Comparing.{below_or_not}
+use Rattle.std.proofs.lemmas.Bool.{cases_lt}
 use Rattle.ijson_table.specs.Store.{Store, at}
 use Rattle.ijson_value.specs.WellFormed.{WellFormed}
 use Rattle.ijson_value.proofs.pairs.Entries.{placed, finds_no_room, refused_same, is_at, is_absent}
@@ -8,7 +8,7 @@ use Rattle.ijson_value.proofs.object.map.IObject.entry_or_clone.Goals.{In-None}
 
 -- a key that is not short is long
 above : (n : ℕ) → (n ≤ 7 → ⊥) → 7 < n
-above n h = elim (below_or_not 7 n) [ inl long ↦ long | inr short ↦ absurd (h short) ]
+above n h = elim (cases_lt 7 n) [ inl long ↦ long | inr short ↦ absurd (h short) ]
 
 -- the key is not there
 absent : (c : In-None) → at c.args.self.now.pairs c.args.key.now ≡ None

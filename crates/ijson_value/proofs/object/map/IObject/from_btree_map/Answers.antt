@@ -1,4 +1,5 @@
-use Rattle.ijson_value.proofs.FromMaps.{ordered_keys, map_gives, entries_given, ok_more}
+use Rattle.std.proofs.lemmas.Result.{IfOk-weaker}
+use Rattle.ijson_value.proofs.FromMaps.{ordered_keys, map_gives, entries_given}
 use Rattle.ijson_value.proofs.object.map.IObject.from_btree_map.Goals as goal
 
 pub from_distinct_pairs-requires-clause-gives : goal.from_distinct_pairs-requires-clause-gives
@@ -6,5 +7,5 @@ from_distinct_pairs-requires-clause-gives c = map_gives (λ it begun. begun.0) c
     (ordered_keys (λ k. k) c.args.map.entries c.len.ensures.ordered)
 
 pub returns-clause-pairs : goal.returns-clause-pairs
-returns-clause-pairs c = ok_more c.from_distinct_pairs.result _ _
+returns-clause-pairs c = IfOk-weaker c.from_distinct_pairs.result _ _
     (λ object given. entries_given given.1.0 object.pairs given.2) c.from_distinct_pairs.ensures.pairs

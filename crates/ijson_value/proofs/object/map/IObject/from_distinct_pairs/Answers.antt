@@ -1,11 +1,11 @@
 use Rattle.std.proofs.Common.{◌≡◌, ◌<◌, [], length, arith, rules, sym, ap, subst, ◌∙◌, Err}
 use Rattle.std.specs.Prelude.{◌↔◌, IfOk}
+use Rattle.std.proofs.lemmas.Result.{IfOk-weaker}
 use Rattle.ijson_table.specs.Growth.{capacity_limit}
 use Rattle.ijson_table.specs.declared.store.ReserveError.TheVariants.{TooLarge}
 use Rattle.ijson_table.proofs.pairs.PutEach.{put_each-new}
 use Rattle.ijson_table.specs.Store.{put_each}
 use Rattle.ijson_value.specs.Gives.{GivesAll}
-use Rattle.ijson_value.proofs.FromMaps.{ok_more}
 use Rattle.ijson_value.proofs.object.map.IObject.from_distinct_pairs.Goals as goal
 
 -- one more is given than those that stand in the list, so they are fewer than its room
@@ -26,7 +26,7 @@ returns-clause-pairs g c =
     let yielded = c.loop-pair.yielded in
     let gives : GivesAll g.I.IntoIterator.into_iter_gives g.I.IntoIter.Iterator.next_gives c.args.pairs yielded = search rules in
     let last = ap (put_each []) c.loop-pair.invariant.2 ∙ put_each-new [] yielded (c.requires.gives.all yielded gives).0 in
-    ok_more c.from_pairs.result _ _ (λ object made.
+    IfOk-weaker c.from_pairs.result _ _ (λ object made.
     subst (GivesAll g.I.IntoIterator.into_iter_gives g.I.IntoIter.Iterator.next_gives c.args.pairs) (sym (made ∙ last)) gives)
     c.from_pairs.ensures.pairs
 

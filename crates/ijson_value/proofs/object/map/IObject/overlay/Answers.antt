@@ -1,10 +1,11 @@
 use Rattle.std.proofs.Common.{◌∙◌, ap}
+use Rattle.std.proofs.lemmas.Result.{on_ok_weaker}
 use Rattle.ijson_table.specs.Store.{Store, lookup}
 use Rattle.ijson_value.specs.FindsEntry.{FindsNoRoom}
 use Rattle.ijson_value.specs.InsertsEach.{InsertsEach}
 use Rattle.ijson_value.specs.WellFormed.{WellFormed}
 use Rattle.ijson_value.specs.laws.Lookups.{lookup-put_each}
-use Rattle.ijson_value.proofs.pairs.Given.{on_ok, gives_list, all_put, some_put}
+use Rattle.ijson_value.proofs.pairs.Given.{gives_list, all_put, some_put}
 use Rattle.ijson_value.proofs.object.map.IObject.overlay.Goals as goal
 
 pub returns-clause-inserts : goal.returns-clause-inserts
@@ -17,7 +18,7 @@ pub returns-clause-pairs : goal.returns-clause-pairs
 returns-clause-pairs c = c.extend.ensures.list c.args.other.pairs (gives_list c.args.other.pairs)
 
 pub returns-clause-each : goal.returns-clause-each
-returns-clause-each c = on_ok c.extend.result (λ is key. ap (lookup key) is
+returns-clause-each c = on_ok_weaker c.extend.result (λ is key. ap (lookup key) is
     ∙ lookup-put_each c.args.self.now.pairs c.args.other.pairs c.args.other.distinct key) (returns-clause-pairs c)
 
 pub returns-clause-refused : goal.returns-clause-refused
