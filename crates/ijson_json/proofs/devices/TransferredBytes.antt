@@ -1,6 +1,6 @@
 -- What is known of a device's bytes after several moves.
 use Rattle.std.proofs.lemmas.List.{take_rest}
-use Rattle.std.proofs.Common.{subst, Result, Ok, Err, OnErr, arith, take, drop, length, ◌+◌, ◌<◌}
+use Rattle.std.proofs.Common.{subst, arith, take, drop, length, ◌+◌, ◌<◌}
 use Rattle.std.proofs.Common.{◌≢◌, take-append-drop, length-drop, take-add, ◌-◌, ◌≡◌, ◌∙◌, ap, sym, refl, ℕ, List, [], ◌++◌, Some, None}
 use Rattle.std.specs.Prelude.{Option}
 use Rattle.std.specs.Option.{IfSome}
@@ -40,8 +40,3 @@ begun a b c i xs below p same = record {
 pub known_or_none : (a : Option (List ℕ)) → (bytes : List ℕ) × IfSome a (λ xs. xs ≡ bytes)
 known_or_none None = ([], tt)
 known_or_none (Some xs) = (xs, refl)
-
--- what holds anyway holds under an error
-pub on_any_err : {T E : Type 0} {P : Type 0} (r : Result T E) → P → OnErr r P
-on_any_err (Ok _) h = tt
-on_any_err (Err _) h = h

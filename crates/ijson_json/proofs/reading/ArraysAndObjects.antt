@@ -3,7 +3,8 @@ use Rattle.std.proofs.Common.{◌≡◌, ℕ, suc, Bool, List, [], ◌∷◌, �
 use Rattle.std.specs.Prelude.{◌&&◌}
 use Rattle.ijson_table.specs.Store.{put, put_each}
 use Rattle.ijson_value.specs.laws.MemberTrees.{members_of-list}
-use Rattle.ijson_value.specs.Tree.{Tree, array, object, Items, no_items, item, items_of, items_list, members_of, members_list}
+use Rattle.ijson_value.specs.laws.TreeLookups.{items_list-of, items_of-list, members_list-of}
+use Rattle.ijson_value.specs.Tree.{Tree, array, object, item, items_of, items_list, members_of, members_list}
 use Rattle.ijson_value.specs.Tree.{depth}
 use Rattle.ijson_value.specs.Order.{rank}
 use Rattle.ijson_json.specs.Ranged.{is_ranged}
@@ -17,23 +18,6 @@ use Rattle.ijson_json.proofs.grammar.OneTree.{value_same, pair_same, enclosed_wi
 use Rattle.ijson_json.proofs.reading.Elements.{Listing}
 use Rattle.ijson_json.proofs.grammar.ElementShapes.{items_shape, members_shape, items_to, items_from, members_to, members_from}
 use Rattle.ijson_json.proofs.reading.ElementLists.{deepest, all_ranged}
-
--- ---- lists of elements
-
--- items and lists are the same
-pub list-items_of : (ts : List Tree) → items_list (items_of ts) ≡ ts
-list-items_of [] = refl
-list-items_of (t ∷ ts) = ap (λ (l : List Tree). t ∷ l) (list-items_of ts)
-
--- and back
-pub items_of-list : (is : Items) → items_of (items_list is) ≡ is
-items_of-list no_items = refl
-items_of-list (item t is) = ap (item t) (items_of-list is)
-
--- members and lists are the same
-pub list-members_of : (ms : List (List ℕ × Tree)) → members_list (members_of ms) ≡ ms
-list-members_of [] = refl
-list-members_of (m ∷ ms) = ap (λ (l : List (List ℕ × Tree)). m ∷ l) (list-members_of ms)
 
 -- ---- a value that begins with a bracket
 
@@ -68,7 +52,7 @@ pub array_builds : (ts : List Tree) (inside : List ℕ) → IsList items_shape.I
 array_builds ts inside h = (
   inside,
   items_from (items_of ts) inside
-      (subst (λ (l : List Tree). IsList items_shape.Is l inside) (sym (list-items_of ts)) h),
+      (subst (λ (l : List Tree). IsList items_shape.Is l inside) (sym (items_list-of ts)) h),
   refl,
 )
 
@@ -78,7 +62,7 @@ pub object_builds : (ms : List (List ℕ × Tree)) (inside : List ℕ) → IsLis
 object_builds ms inside h = (
   inside,
   members_from (members_of ms) inside
-      (subst (λ (l : List (List ℕ × Tree)). IsList members_shape.Is l inside) (sym (list-members_of ms)) h),
+      (subst (λ (l : List (List ℕ × Tree)). IsList members_shape.Is l inside) (sym (members_list-of ms)) h),
   refl,
 )
 

@@ -80,13 +80,10 @@ interned_adds text cache s p = go (ltb 7 (length s)) refl
         subst (λ (c : Texts). AddsOnlyRead text cache c)
         (texts_same cache (interned s cache) (sym (interned_short s cache (ltb-false 7 (length s) e)))) (adds_none text cache)
 
--- a text is itself
-same_bytes : (s : List ℕ) → bytes_eq s s ≡ true
-same_bytes s = (bytes_eq-Decides s s).1 refl
-
 -- what was interned is shared
 interned_shared : (cache : Texts) (s : List ℕ) → IsShared (interned s cache) s
-interned_shared cache s h = interned_contains cache s s h ∙ ap (λ (b : Bool). b || set.contains cache.texts s) (same_bytes s)
+interned_shared cache s h =
+    interned_contains cache s s h ∙ ap (λ (b : Bool). b || set.contains cache.texts s) ((bytes_eq-Decides s s).1 refl)
 
 -- the string at the front was interned
 pub string_adds : (text rest s : List ℕ) (old new : Texts) → Front (λ front. IsString s front) text rest → new ≡ interned s old

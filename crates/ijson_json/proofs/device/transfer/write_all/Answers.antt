@@ -2,12 +2,13 @@ use Rattle.std.proofs.Common.{ℕ, List, ◌∙◌, subst, arith}
 use Rattle.std.specs.Io.KnownBytes.{Appends}
 use Rattle.std.proofs.lemmas.List.{take_all}
 use Rattle.std.proofs.lemmas.Grind.{common_steps}
-use Rattle.ijson_json.proofs.devices.TransferredBytes.{appends_rest, begun, on_any_err}
+use Rattle.ijson_number.proofs.AnyAnswer.{where_refused}
+use Rattle.ijson_json.proofs.devices.TransferredBytes.{appends_rest, begun}
 use Rattle.ijson_json.proofs.device.transfer.write_all.Goals as goal
 
 pub returns-in_err-at-clause-beginning : goal.returns-in_err-at-clause-beginning
 returns-in_err-at-clause-beginning g c =
-    on_any_err _ (begun _ _ _ c.loop-at.at c.args.text.now c.loop-at-test.true c.loop-at.invariant.taken c.in_err-at.ensures.bytes)
+    where_refused _ (begun _ _ _ c.loop-at.at c.args.text.now c.loop-at-test.true c.loop-at.invariant.taken c.in_err-at.ensures.bytes)
 
 pub loop-at-preserved : goal.loop-at-preserved
 loop-at-preserved g c =

@@ -1,10 +1,10 @@
 use Rattle.std.proofs.Common.{◌≡◌, ℕ, false, refl, sym, ◌∙◌, get_or}
 use Rattle.std.specs.String.{string_bytes}
+use Rattle.ijson_number.proofs.AnyAnswer.{where_refused}
 use Rattle.ijson_json.specs.declared.write.quote.TheConstants.{LETTERS}
 use Rattle.ijson_json.specs.Strings.{is_unescaped}
 use Rattle.ijson_json.proofs.scanning.UnescapedRuns.{special_ascii}
 use Rattle.ijson_json.proofs.scanning.TableLookups.{agree_below, from_table}
-use Rattle.ijson_json.proofs.devices.TransferredBytes.{on_any_err}
 use Rattle.ijson_json.proofs.writing.Quoting.{letter_of, letter_written, letter_begun, letter_unbegun, escaped_control, on_ok, on_refused}
 use Rattle.ijson_json.proofs.write.quote.push_escape.Goals as goal
 
@@ -18,7 +18,7 @@ returns-then-letter-eq117 c = rw (escaped_control c.args.byte c.requires (sym (i
 
 pub returns-in_err-push-clause-refused : goal.returns-in_err-push-clause-refused
 returns-in_err-push-clause-refused c =
-    on_any_err _ (letter_unbegun (string_bytes c.args.out.now) (string_bytes c.push.new.self) c.args.byte _
+    where_refused _ (letter_unbegun (string_bytes c.args.out.now) (string_bytes c.push.new.self) c.args.byte _
     (in_table c.args.byte c.requires) c.if-letter-eq117.false c.in_err-push.ensures.bytes)
 
 pub returns-clause-refused : goal.returns-clause-refused

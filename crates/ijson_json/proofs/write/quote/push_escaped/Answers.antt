@@ -3,9 +3,9 @@ use Rattle.std.proofs.Common.{rules}
 use Rattle.std.proofs.lemmas.Grind.{common_steps}
 use Rattle.std.specs.String.{string_bytes}
 use Rattle.std.proofs.lemmas.Str.{IsCharBoundary-start}
+use Rattle.ijson_number.proofs.AnyAnswer.{where_refused}
 use Rattle.ijson_json.specs.Print.{escaped, all_escaped}
 use Rattle.ijson_json.proofs.scanning.CharBoundaries.{behind_byte}
-use Rattle.ijson_json.proofs.devices.TransferredBytes.{on_any_err}
 use Rattle.ijson_json.proofs.writing.Quoting.{all_escaped-run, all_escaped-one, written_more, written_end, read_all, read_on, read_to}
 use Rattle.ijson_json.proofs.writing.Quoting.{nothing_left, special_first, on_ok, on_refused, escaped_begun, escaped_begun_escape}
 use Rattle.ijson_json.proofs.write.quote.push_escaped.Goals as goal
@@ -50,7 +50,7 @@ returns-in_default-clause-refused c =
 
 pub returns-in_err-push_str-clause-refused : goal.returns-in_err-push_str-clause-refused
 returns-in_err-push_str-clause-refused c =
-    on_any_err _ (escaped_begun (string_bytes c.args.out.now) (string_bytes c.push_str.new.self) c.args.text.now
+    where_refused _ (escaped_begun (string_bytes c.args.out.now) (string_bytes c.push_str.new.self) c.args.text.now
     (take c.loop-byte.start c.args.text.now) (drop c.loop-byte.start c.args.text.now) c.args.end.now c.requires
     (sym (take-append-drop c.loop-byte.start c.args.text.now)) (c.in_err-push_str.ensures.bytes ∙ c.loop-byte.invariant.written))
 
@@ -59,7 +59,7 @@ returns-in_err-push_escape-clause-refused c =
     let old = string_bytes c.args.out.now in
     let done : List ℕ = take c.loop-byte.start c.args.text.now in
     let run : List ℕ = c.split_run_at.result.0.now in
-    on_any_err _ (escaped_begun_escape old (string_bytes c.push_str.new.self) (string_bytes c.push_escape.new.out) c.args.text.now
+    where_refused _ (escaped_begun_escape old (string_bytes c.push_str.new.self) (string_bytes c.push_escape.new.out) c.args.text.now
     (done ++ run) c.in-Some.field-0-1.now c.args.end.now c.in-Some.byte
     (read_to c.args.text.now run c.split_run_at.result.1.now c.in-Some.field-0-1.now c.in-Some.byte c.loop-byte.start
     c.split_run_at.ensures.whole c.in-Some.ensures.cases)
