@@ -1,19 +1,16 @@
 -- The tokens of a pointer, one after the other.
-use Rattle.std.proofs.Common.{◌≡◌, ◌≢◌, ◌⊎◌, inl, inr, ◌↔◌, IsTrue, ℕ, zero, suc, ◌+◌, ◌<◌, ◌≤◌, drop, is_some, Bool, true, false, List, []}
+use Rattle.std.proofs.Common.{◌≡◌, ◌≢◌, ◌⊎◌, inl, inr, ◌↔◌, IsTrue, ℕ, suc, ◌+◌, ◌<◌, ◌≤◌, drop, is_some, Bool, true, false, List, []}
 use Rattle.std.proofs.Common.{◌∷◌, ◌++◌, eqb, length, get_or, refl, sym, ap, ◌∙◌, arith, Option, Some, None, option_map}
 use mathlib.Core.Bool.{true≢false}
 use Rattle.std.specs.Prelude.{◌==◌, option_and_then}
-use Rattle.std.proofs.lemmas.List.{get_or_default}
+use Rattle.std.proofs.lemmas.Bool.{ne_eqb}
+use Rattle.std.proofs.lemmas.List.{drop_all, drop_more}
 use Rattle.std.proofs.lemmas.Bool.Decides.{nat_tests}
 use Rattle.ijson_value.specs.Tree.{Tree}
-use Rattle.ijson_extra.proofs.numbers.Numbers.{one_up}
 use Rattle.ijson_extra.specs.Pointer.{in_first, written_tokens, meant, escape_meant, all_meant, child_at, followed}
 
 abbrev pub LacksByte : ℕ → List ℕ → Type 0
 LacksByte c text = (i : ℕ) → i < length text → get_or text i 0 ≢ c
-
-not_byte : (b c : ℕ) → b ≢ c → eqb b c ≡ false
-not_byte b c ne = grind (arith, nat_tests)
 
 tail_lacks : (c b : ℕ) (text : List ℕ) → LacksByte c (b ∷ text) → LacksByte c text
 tail_lacks c b text h i l = h (suc i) (omega (arith, l))
@@ -24,13 +21,13 @@ in_token b text e = ap (λ (r : Bool). elim r [ true ↦ [] ∷ written_tokens t
 pub written_split : (token rest : List ℕ) → LacksByte 47 token → written_tokens (token ++ 47 ∷ rest) ≡ token ∷ written_tokens rest
 written_split [] rest h = refl
 written_split (b ∷ token) rest h =
-    in_token b (token ++ 47 ∷ rest) (not_byte b 47 (h 0 (omega arith)))
+    in_token b (token ++ 47 ∷ rest) (ne_eqb b 47 (h 0 (omega arith)))
     ∙ ap (in_first b) (written_split token rest (tail_lacks 47 b token h))
 
 pub written_last : (token : List ℕ) → LacksByte 47 token → written_tokens token ≡ token ∷ []
 written_last [] h = refl
 written_last (b ∷ token) h =
-    in_token b token (not_byte b 47 (h 0 (omega arith))) ∙ ap (in_first b) (written_last token (tail_lacks 47 b token h))
+    in_token b token (ne_eqb b 47 (h 0 (omega arith))) ∙ ap (in_first b) (written_last token (tail_lacks 47 b token h))
 
 -- what comes of a value that was found so far, or of none, and of what is left of the pointer
 abbrev pub outcome : Option Tree → List ℕ → Option (Option Tree)
@@ -91,18 +88,13 @@ tilde b text e = ap (λ (r : Bool). elim r [ true ↦ escape_meant text | false 
 -- a token without `~` means itself
 pub meant_itself : (token : List ℕ) → LacksByte 126 token → meant token ≡ Some token
 meant_itself [] h = refl
-meant_itself (b ∷ token) h = tilde b token (not_byte b 126 (h 0 (omega arith)))
+meant_itself (b ∷ token) h = tilde b token (ne_eqb b 126 (h 0 (omega arith)))
     ∙ ap (option_map (λ t. b ∷ t)) (meant_itself token (tail_lacks 126 b token h))
 
 abbrev first_of : Option (List ℕ) → ℕ
 first_of None = 0
 first_of (Some []) = 0
 first_of (Some (b ∷ bs)) = b
-
-drop-step : (key : List ℕ) (i c : ℕ) → i < length key → c ≡ get_or key i c → drop i key ≡ c ∷ drop (i + 1) key
-drop-step [] i c l e = absurd (omega (arith, l))
-drop-step (k ∷ key) zero c l e = ap (λ x. x ∷ key) (sym e)
-drop-step (k ∷ key) (suc i) c l e = drop-step key i c (omega (arith, l)) e ∙ ap (λ n. c ∷ drop n (k ∷ key)) (sym (one_up i))
 
 -- nothing but the empty text means the empty key
 some_longer : (b : ℕ) (o : Option (List ℕ)) → option_map (λ token. b ∷ token) o ≡ Some [] → ⊥
@@ -140,19 +132,12 @@ pub byte_none : (P : Type 0) (key left : List ℕ) (i : ℕ) → i < length key 
     → P ↔ (meant left ≡ Some (drop i key)) → P → ⊥
 byte_none P key left i l (inl e) both f = let g = sym e ∙ both.0 f in absurd (cc)
 byte_none P key left i l (inr e) both f =
-    let c = get_or key i 0 in
-    let g = ap meant (sym e) ∙ both.0 f ∙ ap (λ x. Some x) (drop-step key i c l (get_or_default key i 0 c l)) in absurd (cc)
-
-drop-past : (key : List ℕ) (i : ℕ) → length key ≤ i → drop i key ≡ []
-drop-past [] zero h = refl
-drop-past [] (suc i) h = refl
-drop-past (k ∷ key) zero h = absurd (omega (arith, h))
-drop-past (k ∷ key) (suc i) h = drop-past key i (omega (arith, h))
+    let g = ap meant (sym e) ∙ both.0 f ∙ ap (λ x. Some x) (drop_more key i 0 l) in absurd (cc)
 
 -- no byte of the key is left
 pub key_ended : (P : Type 0) (key left : List ℕ) (i : ℕ) (r : Bool) → length key ≤ i → r ≡ (length left == 0)
     → P ↔ (meant left ≡ Some (drop i key)) → IsTrue r ↔ P
 key_ended P key left i r h e both =
     let tells = all_left left r e in
-    let past = ap (λ (x : List ℕ). Some x) (drop-past key i h) in
+    let past = ap (λ (x : List ℕ). Some x) (drop_all i key h) in
     (λ t. both.1 (tells.0 t ∙ sym past), λ f. tells.1 (both.0 f ∙ past))

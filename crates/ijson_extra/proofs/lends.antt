@@ -1,5 +1,4 @@
 pub mod Countdown
-pub mod LentLaws
 pub mod PartsOut
 pub mod Recursion
 pub mod Results

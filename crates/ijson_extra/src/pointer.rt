@@ -147,7 +147,7 @@ fn find_member<'a>(object: &'a IObject, token: &str) -> Option<(usize, &'a IValu
     ensures value { option_map (λ found. found.1.now) result
         ≡ option_and_then (λ m. lookup m object.now.pairs) (meant token.now) }
 {
-    // There are as many keys as a `usize` can count, so it can count the position.
+    // The count of the keys is a `usize`, so the position is one, too.
     let _count = object.len();
     let mut position: usize = 0;
     for (key, value) in object.iter() {
@@ -165,7 +165,7 @@ fn item<'a>(items: &'a [IValue], token: &str) -> Option<&'a IValue>
         ≡ option_map tree_of (option_and_then (slice_get items.now) (position_named token.now)) }
 {
     match position_below(token, items.len()) {
-        Some(position) => items.get(position),
+        Some(position) => Some(&items[position]),
         None => None,
     }
 }
@@ -178,6 +178,7 @@ fn position_below(token: &str, count: usize) -> Option<usize>
     if !is_position(token.as_bytes()) {
         return None;
     }
+    // What no `usize` holds is past every count.
     let Ok(position) = token.parse::<usize>() else {
         return None;
     };

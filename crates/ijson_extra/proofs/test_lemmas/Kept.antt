@@ -1,23 +1,18 @@
 -- Lists of two pairs: both put, the second one's value written, and what is left where a question keeps the second one and writes
 -- nothing.
 use Rattle.std.proofs.Common.{◌≡◌, ◌≢◌, ◌↔◌, ℕ, List, [], ◌∷◌, length, get_or, Bool, true, false, Option, Some, None, MutBor, refl, sym, ap}
-use Rattle.std.proofs.Common.{subst, ◌∙◌, arith, inl, inr}
+use Rattle.std.proofs.Common.{subst, ◌∙◌, arith}
 use Rattle.std.specs.Option.{option_copied_mut, unwrap_or}
 use Rattle.std.specs.Prelude.{if◌then◌else◌, cond, IsSome, IsTrue}
-use Rattle.std.specs.Str.{bytes_eq}
-use Rattle.ijson_table.proofs.pairs.KeyPositions.{same_key, position-distinct}
+use Rattle.std.specs.Cmp.Lexicographic.{bytes_decides}
+use Rattle.ijson_table.proofs.pairs.KeyPositions.{position-distinct}
 use Rattle.ijson_table.specs.Store.{Store, at, keys_of, lookup, put, with_value, swap_out}
 use Rattle.ijson_value.specs.LendsAtKey.{with_found}
 use Rattle.ijson_value.specs.Retains.{RetainsFrom, Retains}
 use Rattle.ijson_value.specs.Tree.{boolean}
 use Rattle.ijson_value.specs.Values.{boolean_value}
 use Rattle.ijson_value.specs.WellFormed.{WellFormed}
-
-differ : (k₁ k₂ : List ℕ) → k₁ ≢ k₂ → bytes_eq k₁ k₂ ≡ false
-differ k₁ k₂ apart = elim (same_key k₁ k₂) [ inl e ↦ absurd (apart e.1) | inr e ↦ e.0 ]
-
-agree : (k : List ℕ) → bytes_eq k k ≡ true
-agree k = elim (same_key k k) [ inl e ↦ e.0 | inr e ↦ absurd (e.1 refl) ]
+use Rattle.ijson_value.proofs.comparing.SameSteps.{other_bytes}
 
 some_there : (r : Option (MutBor WellFormed)) (v : WellFormed) → option_copied_mut r ≡ Some v → IsSome r
 some_there None v e = cc
@@ -31,16 +26,16 @@ module _ (k₁ k₂ : List ℕ) (v₁ v₂ : WellFormed) (old ps : List (List �
   two_put =
       let one : ps ≡ (k₁, v₁) ∷ [] = first ∙ ap (λ ps. put ps k₁ (unwrap_or (lookup k₁ ps) v₁)) empty in
       let missing : lookup k₂ ps ≡ None =
-      ap (lookup k₂) one ∙ ap (λ b. cond b (Some v₁) None) (differ k₂ k₁ (λ e. apart (sym e))) in
+      ap (lookup k₂) one ∙ ap (λ b. cond b (Some v₁) None) (other_bytes k₂ k₁ (λ e. apart (sym e))) in
       second ∙ ap (λ o. put ps k₂ (unwrap_or o v₂)) missing ∙ ap (λ ps. put ps k₂ v₂) one
-      ∙ ap (λ b. if b then (k₁, v₂) ∷ [] else (k₁, v₁) ∷ (k₂, v₂) ∷ []) (differ k₁ k₂ apart)
+      ∙ ap (λ b. if b then (k₁, v₂) ∷ [] else (k₁, v₁) ∷ (k₂, v₂) ∷ []) (other_bytes k₁ k₂ apart)
 
   -- the second key is found
   pub second_there : (r : Option (MutBor WellFormed)) → option_copied_mut r ≡ lookup k₂ s.pairs → IsSome r
   second_there r got =
       some_there r v₂ (got ∙ ap (lookup k₂) two_put
-      ∙ ap (λ b. cond b (Some v₁) (lookup k₂ ((k₂, v₂) ∷ []))) (differ k₂ k₁ (λ e. apart (sym e)))
-      ∙ ap (λ b. cond b (Some v₂) None) (agree k₂))
+      ∙ ap (λ b. cond b (Some v₁) (lookup k₂ ((k₂, v₂) ∷ []))) (other_bytes k₂ k₁ (λ e. apart (sym e)))
+      ∙ ap (λ b. cond b (Some v₂) None) ((bytes_decides k₂ k₂).1 refl))
 
   -- and what is written beside it
   pub second_written : (w : WellFormed) → (with_found s (at s.pairs k₂) w).pairs ≡ (k₁, v₁) ∷ (k₂, w) ∷ []

@@ -1,5 +1,5 @@
 -- The value that a token names in a value, as the lists of items and of pairs give it.
-use Rattle.std.proofs.Common.{◌≡◌, ℕ, Bool, true, false, List, [], ◌∷◌, Option, Some, None, Result, Ok, Err, IfOk, IfErr, option_map}
+use Rattle.std.proofs.Common.{◌≡◌, ℕ, Bool, true, false, List, [], ◌∷◌, Option, Some, None, option_map}
 use Rattle.std.proofs.Common.{option_copied, eqb, length, refl, ap, ◌∙◌, arith}
 use Rattle.std.specs.Prelude.{◌==◌, ◌≢◌, option_and_then, slice_get}
 use Rattle.std.proofs.lemmas.Bool.{eqb-true}
@@ -35,19 +35,6 @@ pub child_member : (v : WellFormed) (s : Store WellFormed) (o : Option (Bor Well
     → option_copied o ≡ lookup m s.pairs
     → option_map (λ x. x.now.tree) o ≡ child_at v.tree m
 child_member v s o m is e = found_tree o ∙ ap (option_map tree_of) e ∙ value_at s.pairs m ∙ ap (λ w. child_at (tree_of w) m) is
-
--- ---- answers of `step`
-pub ok_then : {A E : Type 0} {P Q : A → Type 0} (r : Result A E) → IfOk r P → ((x : A) → P x → Q x) → IfOk r Q
-ok_then (Ok x) h f = f x h
-ok_then (Err e) h f = tt
-
-pub err_then : {A E : Type 0} {P Q : Type 0} (r : Result A E) → IfErr r (λ e. P) → (P → Q) → IfErr r (λ e. Q)
-err_then (Ok x) h f = tt
-err_then (Err e) h f = f h
-
-pub err_any : {A E : Type 0} {Q : Type 0} (r : Result A E) → Q → IfErr r (λ e. Q)
-err_any (Ok x) q = tt
-err_any (Err e) q = q
 
 -- ---- a text that is no pointer
 begins_by : (t : Tree) (b : ℕ) (text : List ℕ) (r : Bool) → eqb b 47 ≡ r → ((rest : List ℕ) → b ∷ text ≢ 47 ∷ rest)

@@ -1,10 +1,9 @@
 -- The tokens of a text, counted one after the other.
-use Rattle.std.proofs.Common.{◌≡◌, ℕ, zero, suc, ◌+◌, ◌<◌, Bool, true, false, List, [], ◌∷◌, ◌++◌, Option, Some, None, Bor, refl, sym, ap}
+use Rattle.std.proofs.Common.{◌≡◌, ℕ, suc, ◌+◌, ◌<◌, Bool, true, false, List, [], ◌∷◌, ◌++◌, Option, Some, None, Bor, refl, sym, ap}
 use Rattle.std.proofs.Common.{◌∙◌, arith, length, drop, is_some}
 use Rattle.std.specs.Prelude.{◌&&◌, IsSome, MatchOption, option_map, option_and_then}
-use Rattle.std.proofs.lemmas.List.{length-append}
+use Rattle.std.proofs.lemmas.List.{drop-drop, length-append, length-drop}
 use Rattle.ijson_extra.specs.Pointer.{meant, all_meant, written_tokens}
-use Rattle.ijson_extra.proofs.numbers.Numbers.{one_up}
 use Rattle.ijson_extra.proofs.Pointers.{LacksByte, written_split, written_last}
 
 both_some : (m : Option (List ℕ)) (rest : Option (List (List ℕ)))
@@ -48,10 +47,7 @@ none_meant whole left rest token e f g = none_is (all_meant (written_tokens whol
 
 -- ---- so many tokens passed
 dropped : (ws rest : List (List ℕ)) (w : List ℕ) (i : ℕ) → drop i ws ≡ w ∷ rest → drop (i + 1) ws ≡ rest
-dropped [] rest w zero e = absurd (cc)
-dropped [] rest w (suc i) e = absurd (cc)
-dropped (v ∷ ws) rest w zero e = ap (λ l. drop 1 l) e
-dropped (v ∷ ws) rest w (suc i) e = ap (λ n. drop n (v ∷ ws)) (one_up i) ∙ dropped ws rest w i e
+dropped ws rest w i e = sym (drop-drop 1 i ws) ∙ ap (λ l. drop 1 l) e
 
 pub passed_more : (ws : List (List ℕ)) (text token rest : List ℕ) (i : ℕ) → text ≡ token ++ 47 ∷ rest → LacksByte 47 token
     → written_tokens text ≡ drop i ws → written_tokens rest ≡ drop (i + 1) ws
@@ -59,10 +55,7 @@ passed_more ws text token rest i is lacks e =
     sym (dropped ws (written_tokens rest) token i (sym e ∙ tokens_before text token rest is lacks))
 
 length_dropped : (ws : List (List ℕ)) (w : List ℕ) (i : ℕ) → drop i ws ≡ w ∷ [] → length ws ≡ i + 1
-length_dropped [] w zero e = absurd (cc)
-length_dropped [] w (suc i) e = absurd (cc)
-length_dropped (v ∷ ws) w zero e = ap length e
-length_dropped (v ∷ ws) w (suc i) e = ap suc (length_dropped ws w i e) ∙ sym (one_up i)
+length_dropped ws w i e = omega (arith, length-drop i ws, ap length e)
 
 -- there is one more
 pub more_there : (ws : List (List ℕ)) (text : List ℕ) (i count : ℕ) (r : Option (Bor (List ℕ) × Bor (List ℕ)))

@@ -1,15 +1,8 @@
 -- What may be there: answers that hold a value or none.
-use Rattle.std.proofs.Common.{◌≡◌, Option, Some, None, refl, sym, ap, MutBor}
+use Rattle.std.proofs.Common.{◌≡◌, Option, Some, None, refl, sym, MutBor}
 use Rattle.std.specs.Prelude.{OnSome, IsSome, option_map}
 use Rattle.ijson_value.specs.Tree.{Tree}
 use Rattle.ijson_value.specs.WellFormed.{WellFormed}
-
-abbrev or_this : {A : Type 0} → A → Option A → A
-or_this d None = d
-or_this d (Some x) = x
-
-pub some_is : {A : Type 0} (x y : A) → Some x ≡ Some y → x ≡ y
-some_is x y e = ap (or_this x) e
 
 pub not_both : {A P : Type 0} (x : A) → None ≡ Some x → P
 not_both x e = absurd (cc)

@@ -3,15 +3,14 @@ use Rattle.std.proofs.Common.{◌≡◌, inl, inr, ℕ, ◌<◌, ◌≤◌, ◌^
 use Rattle.std.proofs.Common.{sym, ap, ◌∙◌, arith, Option, Some, None, option_map}
 use mathlib.Core.Bool.{true≢false}
 use Rattle.std.specs.Prelude.{◌==◌, option_and_then, slice_get}
-use Rattle.std.proofs.lemmas.Bool.{cases_lt}
-use Rattle.std.proofs.lemmas.Option.{slice_get_past}
+use Rattle.std.proofs.lemmas.Bool.{and_parts, cases_lt}
+use Rattle.std.proofs.lemmas.Option.{same_Some, slice_get_past}
 use Rattle.std.proofs.lemmas.Str.Parse.{IsNumeralModel, numerals_by_value, tells_all_ascii_digits, not_in_digits, parse_digits}
 use Rattle.std.specs.Char.{is_ascii_digit}
 use Rattle.std.specs.Str.{all_ascii_digits}
 use Rattle.std.specs.Str.Parse.{digits_value, ParsesUnsigned}
 use Rattle.std.specs.Result.{OkIff, MatchResult}
 use Rattle.std.specs.Int.{IsInRange}
-use Rattle.ijson_extra.proofs.numbers.Numbers.{and_left, and_right}
 use Rattle.ijson_extra.specs.Pointer.{names_position, position_named, meant, escape_meant}
 use Rattle.ijson_extra.proofs.Pointers.{by_tests, meant_itself}
 
@@ -24,24 +23,17 @@ not_digit h = omega (arith, h)
 pub position_digits : (token : List ℕ) → names_position token ≡ true → all_ascii_digits token ≡ true
 position_digits [] e = absurd (cc)
 position_digits (b ∷ []) e = e
-position_digits (b ∷ c ∷ token) e = and_right (not (b == 48)) (all_ascii_digits (b ∷ c ∷ token)) e
+position_digits (b ∷ c ∷ token) e = (and_parts (not (b == 48)) (all_ascii_digits (b ∷ c ∷ token)) e).1
 
 pub digits_meant : (token : List ℕ) → all_ascii_digits token ≡ true → meant token ≡ Some token
 digits_meant token e = meant_itself token (not_in_digits own token 126 e not_digit)
-
-abbrev or_none : Option (List ℕ) → List ℕ
-or_none None = []
-or_none (Some t) = t
-
-pub from_some : {x y : List ℕ} → Some x ≡ Some y → x ≡ y
-from_some e = ap or_none e
 
 -- digits that a text with an escape in front would mean
 no_escape : (b : ℕ) (o : Option (List ℕ)) (m : List ℕ) → is_ascii_digit b ≡ false → option_map (λ token. b ∷ token) o ≡ Some m
     → all_ascii_digits m ≡ true → ⊥
 no_escape b None m n e h = absurd (cc)
-no_escape b (Some t) m n e h = true≢false (sym (and_left (is_ascii_digit b) (all_ascii_digits t) (ap all_ascii_digits (from_some e) ∙ h))
-    ∙ n)
+no_escape b (Some t) m n e h =
+    true≢false (sym (and_parts (is_ascii_digit b) (all_ascii_digits t) (ap all_ascii_digits (same_Some (b ∷ t) m e) ∙ h)).0 ∙ n)
 
 no_escapes : (text m : List ℕ) → escape_meant text ≡ Some m → all_ascii_digits m ≡ true → ⊥
 no_escapes [] m e h = absurd (cc)
@@ -54,12 +46,12 @@ same_tail : (b : ℕ) (text m : List ℕ) (o : Option (List ℕ)) → meant text
     → all_ascii_digits m ≡ true → b ∷ text ≡ m
 same_tail b text m None is back e h = absurd (cc)
 same_tail b text m (Some t) is back e h =
-    let all : all_ascii_digits (b ∷ t) ≡ true = ap all_ascii_digits (from_some e) ∙ h in
-    ap (λ x. b ∷ x) (back t is (and_right (is_ascii_digit b) (all_ascii_digits t) all)) ∙ from_some e
+    let all : all_ascii_digits (b ∷ t) ≡ true = ap all_ascii_digits (same_Some (b ∷ t) m e) ∙ h in
+    ap (λ x. b ∷ x) (back t is (and_parts (is_ascii_digit b) (all_ascii_digits t) all).1) ∙ same_Some (b ∷ t) m e
 
 -- a token that means digits is those
 digits_back : (token m : List ℕ) → meant token ≡ Some m → all_ascii_digits m ≡ true → token ≡ m
-digits_back [] m e h = from_some e
+digits_back [] m e h = same_Some [] m e
 digits_back (b ∷ text) m e h =
     by_tests (λ o. o ≡ Some m → b ∷ text ≡ m) (eqb b 126) _ _ (λ f. absurd (no_escapes text m f h))
     (λ f. same_tail b text m (meant text) refl (λ n. digits_back text n) f h) e
@@ -73,7 +65,7 @@ named token e = ap (λ (r : Bool). elim r [ true ↦ Some (digits_value 10 token
 by_position : (token m : List ℕ) (p q : Bool) → names_position token ≡ p → names_position m ≡ q → meant token ≡ Some m
     → position_named token ≡ position_named m
 by_position token m p true f g e = ap position_named (digits_back token m e (position_digits m g))
-by_position token m true false f g e = ap position_named (from_some (sym (digits_meant token (position_digits token f)) ∙ e))
+by_position token m true false f g e = ap position_named (same_Some token m (sym (digits_meant token (position_digits token f)) ∙ e))
 by_position token m false false f g e = not_named token f ∙ sym (not_named m g)
 
 -- a token names the position that it names as it is meant
@@ -87,16 +79,13 @@ position_some : (token : List ℕ) → names_position token ≡ true → 0 < len
 position_some [] e = absurd (cc)
 position_some (b ∷ token) e = omega arith
 
-number_is : (n i : ℕ) → Some n ≡ Some i → n ≡ i
-number_is n i e = ap (λ (o : Option ℕ). elim o [ None ↦ n | Some j ↦ j ]) e
-
 read_by : {E : Type 0} (token : List ℕ) (count : ℕ) (r : Result ℕ E)
     → OkIff r ((0 < length token) × (digits_value 10 token < 2 ^ 64)) (digits_value 10 token) → names_position token ≡ true
     → 0 < length token → count < 2 ^ 64
     → MatchResult r (λ n. position_named token ≡ Some n) (λ e. (i : ℕ) → position_named token ≡ Some i → count ≤ i)
 read_by token count (Ok n) h p s l = named token p ∙ ap (λ (k : ℕ). Some k) (sym h.1)
 read_by token count (Err x) h p s l = λ i e.
-    let is = number_is (digits_value 10 token) i (sym (named token p) ∙ e) in
+    let is = same_Some (digits_value 10 token) i (sym (named token p) ∙ e) in
     let past = at_least (digits_value 10 token) count l (λ m. h (s, m)) in
     omega (arith, is, past)
 

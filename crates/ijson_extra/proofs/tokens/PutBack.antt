@@ -2,23 +2,21 @@
 use Rattle.std.proofs.Common.{◌≡◌, ◌⊎◌, inl, inr, ℕ, zero, suc, true, false, List, Option, Some, None, refl, sym, ap, ◌∙◌}
 use Rattle.std.specs.Prelude.{option_and_then, slice_get, set}
 use Rattle.std.specs.Str.{bytes_eq}
+use Rattle.std.proofs.lemmas.Option.{same_Some}
 use Rattle.ijson_table.specs.Store.{lookup, put}
 use Rattle.ijson_table.proofs.pairs.KeyPositions.{same_key}
 use Rattle.ijson_value.specs.Step.{Step, by_position, by_key, tree_at, tree_with}
 use Rattle.ijson_value.specs.Tree.{Tree, null, boolean, number, string, array, object, Items, no_items, item, items_of, items_list, Members}
 use Rattle.ijson_value.specs.Tree.{no_members, member, members_of, members_list}
 use Rattle.ijson_value.specs.laws.MemberTrees.{members_of-list}
+use Rattle.ijson_value.specs.laws.TreeLookups.{items_of-list}
 use Rattle.ijson_extra.specs.Pointer.{step_named, child_at, stepped_with}
 use Rattle.ijson_extra.specs.private.Walked.{meant_with}
-use Rattle.ijson_extra.proofs.tokens.Options.{not_both, some_is}
-
-items_again : (ts : Items) → items_of (items_list ts) ≡ ts
-items_again no_items = refl
-items_again (item t ts) = ap (item t) (items_again ts)
+use Rattle.ijson_extra.proofs.tokens.Options.{not_both}
 
 item_same : (ts : Items) (i : ℕ) (u : Tree) → slice_get (items_list ts) i ≡ Some u → items_of (set (items_list ts) i u) ≡ ts
 item_same no_items i u e = not_both u e
-item_same (item t ts) zero u e = ap (λ v. item v (items_of (items_list ts))) (sym (some_is t u e)) ∙ ap (item t) (items_again ts)
+item_same (item t ts) zero u e = ap (λ v. item v (items_of (items_list ts))) (sym (same_Some t u e)) ∙ ap (item t) (items_of-list ts)
 item_same (item t ts) (suc i) u e = ap (item t) (item_same ts i u e)
 
 same_both : (j k : List ℕ) → ((bytes_eq j k ≡ true) × (bytes_eq k j ≡ true)) ⊎ ((bytes_eq j k ≡ false) × (bytes_eq k j ≡ false))
@@ -37,7 +35,7 @@ member_same : (ps : Members) (key : List ℕ) (u : Tree) → lookup key (members
     → members_of (put (members_list ps) key u) ≡ ps
 member_same no_members key u e = not_both u e
 member_same (member k t ps) key u e = elim (same_both k key) [
-  | inl s ↦ rw s.0 (ap (λ v. member k v (members_of (members_list ps))) (sym (some_is t u (rw s.1 at e)))
+  | inl s ↦ rw s.0 (ap (λ v. member k v (members_of (members_list ps))) (sym (same_Some t u (rw s.1 at e)))
       ∙ ap (member k t) (members_of-list ps))
   | inr s ↦ rw s.0 (ap (member k t) (member_same ps key u (rw s.1 at e)))
 ]

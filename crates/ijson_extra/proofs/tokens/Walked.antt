@@ -1,14 +1,15 @@
 -- What tokens lead to one after the other, and the tree with another one there.
 use Rattle.std.proofs.Common.{◌≡◌, ℕ, zero, suc, ◌+◌, ◌-◌, ◌≤◌, List, [], ◌∷◌, ◌++◌, Option, Some, None, refl, sym, ap, subst, ◌∙◌, arith}
-use Rattle.std.proofs.Common.{length, take, drop, MutBor}
+use Rattle.std.proofs.Common.{length, take, drop, add-one, take-add, MutBor}
 use Rattle.std.specs.Prelude.{IsSome, option_map, option_and_then}
 use Rattle.std.proofs.lemmas.List.{take_all}
+use Rattle.std.proofs.lemmas.Option.{same_Some}
 use Rattle.ijson_value.specs.Tree.{Tree}
 use Rattle.ijson_value.specs.WellFormed.{WellFormed}
 use Rattle.ijson_extra.specs.Pointer.{meant, all_meant, written_tokens, child_at, child_with, followed, followed_with, tokens_with}
 use Rattle.ijson_extra.specs.Pointer.{resolved, resolved_with}
 use Rattle.ijson_extra.specs.private.Walked.{HasTokens, written_at, meant_with, written_with, walked, walked_with, steps_of}
-use Rattle.ijson_extra.proofs.tokens.Options.{not_both, some_is, some_there}
+use Rattle.ijson_extra.proofs.tokens.Options.{not_both, some_there}
 use Rattle.ijson_extra.proofs.tokens.PutBack.{meant_same}
 
 -- ---- one list of tokens behind another
@@ -36,11 +37,11 @@ found_before (w ∷ ws) None u e = not_both u (sym (walked_none ws) ∙ e)
 found_before (w ∷ ws) (Some t) u e = (t, refl)
 
 walked_same : (ws : List (List ℕ)) (o : Option Tree) (t u : Tree) → o ≡ Some t → walked ws o ≡ Some u → walked_with ws o u ≡ t
-walked_same [] o t u is e = some_is u t (sym e ∙ is)
+walked_same [] o t u is e = same_Some u t (sym e ∙ is)
 walked_same (w ∷ ws) None t u is e = not_both t is
 walked_same (w ∷ ws) (Some s) t u is e =
     let x = found_before ws (written_at s w) u e in
-    ap (written_with s w) (walked_same ws (written_at s w) x.0 u x.1 e) ∙ meant_same s (meant w) x.0 x.1 ∙ some_is s t is
+    ap (written_with s w) (walked_same ws (written_at s w) x.0 u x.1 e) ∙ meant_same s (meant w) x.0 x.1 ∙ same_Some s t is
 
 -- two walks, one after the other
 module _ (old : Tree) (front back whole : List (List ℕ)) (cut : front ++ back ≡ whole) where
@@ -60,25 +61,14 @@ module _ (old : Tree) (front back whole : List (List ℕ)) (cut : front ++ back 
   left_alone : (v m n : Tree) → Some v ≡ walked front (Some old) → n ≡ walked_with front (Some old) m → m ≡ v → n ≡ old
   left_alone v m n e f g = f ∙ ap (walked_with front (Some old)) g ∙ walked_same front (Some old) old v refl (sym e)
 
-one_more : (n : ℕ) → n + 1 ≡ suc n
-one_more n = omega arith
-
-take_nothing : {X : Type 0} (j : ℕ) → ◌≡◌ {A = List X} (take j []) []
-take_nothing zero = refl
-take_nothing (suc j) = refl
-
-take_more : {X : Type 0} (i j n : ℕ) (xs : List X) → j + i ≡ n → take i xs ++ take j (drop i xs) ≡ take n xs
-take_more zero j n xs e = ap (λ k. take k xs) (omega (arith, e))
-take_more (suc i) j n [] e = take_nothing j ∙ sym (take_nothing n)
-take_more (suc i) j zero (x ∷ xs) e = absurd (omega (arith, e))
-take_more (suc i) j (suc n) (x ∷ xs) e = ap (λ l. x ∷ l) (take_more i j n xs (omega (arith, e)))
-
 -- the tokens of a walk are those of its two halves
 cut_at : (ws behind : List (List ℕ)) (half more : ℕ) → half + 1 ≤ more → behind ≡ drop (half + 1) ws
     → take (suc half) ws ++ take (suc (more - (half + 1))) behind ≡ take (suc more) ws
 cut_at ws behind half more h e =
-    ap (λ l. take (suc half) ws ++ take (suc (more - (half + 1))) l) (e ∙ ap (λ n. drop n ws) (one_more half))
-    ∙ take_more (suc half) (suc (more - (half + 1))) (suc more) ws (omega (arith, h))
+    let rest = suc (more - (half + 1)) in
+    let count : suc half + rest ≡ suc more = omega (arith, h) in
+    ap (λ l. take (suc half) ws ++ take rest l) (e ∙ ap (λ n. drop n ws) (add-one half))
+    ∙ sym (take-add (suc half) rest ws) ∙ ap (λ n. take n ws) count
 
 -- where the first token leads to nothing, more of them do so too
 pub none_first : (old : Tree) (left : List ℕ) (more : ℕ) → None ≡ walked (steps_of left 0) (Some old)
@@ -113,7 +103,7 @@ split_meant : (m : Option (List ℕ)) (rest : Option (List (List ℕ))) (tokens 
     → (token : List ℕ) × (more : List (List ℕ)) × (m ≡ Some token) × (rest ≡ Some more) × (token ∷ more ≡ tokens)
 split_meant None rest tokens e = not_both tokens e
 split_meant (Some m) None tokens e = not_both tokens e
-split_meant (Some m) (Some more) tokens e = (m, more, refl, refl, some_is (m ∷ more) tokens e)
+split_meant (Some m) (Some more) tokens e = (m, more, refl, refl, same_Some (m ∷ more) tokens e)
 
 followed_none : (o : Option Tree) → o ≡ option_and_then (λ t. followed t []) o
 followed_none None = refl
@@ -125,7 +115,7 @@ with_none-here (Some t) u = refl
 
 pub walked_meant : (ws tokens : List (List ℕ)) → all_meant ws ≡ Some tokens → (o : Option Tree)
     → walked ws o ≡ option_and_then (λ t. followed t tokens) o
-walked_meant [] tokens e o = followed_none o ∙ ap (λ ts. option_and_then (λ t. followed t ts) o) (some_is [] tokens e)
+walked_meant [] tokens e o = followed_none o ∙ ap (λ ts. option_and_then (λ t. followed t ts) o) (same_Some [] tokens e)
 walked_meant (w ∷ ws) tokens e None = walked_none ws
 walked_meant (w ∷ ws) tokens e (Some t) =
     let is = split_meant (meant w) (all_meant ws) tokens e in
@@ -133,7 +123,7 @@ walked_meant (w ∷ ws) tokens e (Some t) =
 
 pub with_meant : (ws tokens : List (List ℕ)) → all_meant ws ≡ Some tokens → (o : Option Tree) (u : Tree)
     → walked_with ws o u ≡ followed_with o tokens u
-with_meant [] tokens e o u = with_none-here o u ∙ ap (λ ts. followed_with o ts u) (some_is [] tokens e)
+with_meant [] tokens e o u = with_none-here o u ∙ ap (λ ts. followed_with o ts u) (same_Some [] tokens e)
 with_meant (w ∷ ws) tokens e None u =
     let is = split_meant (meant w) (all_meant ws) tokens e in ap (λ ts. followed_with None ts u) is.4
 with_meant (w ∷ ws) tokens e (Some t) u =
@@ -172,4 +162,4 @@ with_tokens pointer left more is has =
 -- what is lent is what was found
 pub lent_here : (r : Option (MutBor WellFormed)) (t : Tree) (o : Option (Option Tree)) → Some (option_map (λ v. v.now.tree) r) ≡ o
     → Some (Some t) ≡ o → option_map (λ v. v.now.tree) r ≡ Some t
-lent_here r t o is found = some_is (option_map (λ v. v.now.tree) r) (Some t) (is ∙ sym found)
+lent_here r t o is found = same_Some (option_map (λ v. v.now.tree) r) (Some t) (is ∙ sym found)

@@ -31,7 +31,7 @@ pub enum Unresolved {
 
 /// The value that `pointer` names inside `value`, as RFC 6901 has it, to be written: the value itself where the text is empty.
 /// None where it names nothing. What is written changes that one value. It takes no memory. It costs what `resolve` does, and
-/// the text is gone over once more. The stack grows with each token that leads to a value.
+/// goes over the text up to twice more. The stack grows with each token that leads to a value.
 ///
 /// A caller whose contract says what the whole value is after a write needs a proof by hand. With `resolve_opened_mut` it needs none.
 ///

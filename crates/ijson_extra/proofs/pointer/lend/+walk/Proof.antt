@@ -34,7 +34,7 @@ use Rattle.ijson_extra.specs.private.Walked.{LendsWalked, tree_lent, node_tree, 
 use Rattle.ijson_extra.proofs.tokens.Walked.{none_first, further_found, further_with, further_left}
 use Rattle.ijson_extra.proofs.tokens.Options.{on_both}
 use Rattle.ijson_extra.proofs.lends.Countdown.{is_zero, not_zero, less_one, two_at_least, one_fewer, falls, number_made}
-use Rattle.ijson_extra.proofs.lends.LentLaws.{lent_laws}
+use Rattle.ijson_value.proofs.lends.LentLaws.{value_found_laws}
 use Rattle.ijson_extra.proofs.lends.StepOn.{step_on}
 use Rattle.ijson_value.proofs.lends.LentOn.{then_such, so_none, none_so}
 use Rattle.ijson_value.proofs.lends.Variants.{by_option, none_out, Some-out}
@@ -217,7 +217,7 @@ pub +walk_spec : {M : Type 1} → statement M
           -- [what the value opened follows; the text's token; nothing; its token; the answer; nothing; what the value follows; nothing;
           -- what the opened value follows; ..]
           move ! (4 ∷ []) $ peeks ! (OptionOf Lent) _ (shows 𝓛 (OptionOf Lent)) o (v₄ ∷ []) (λ told₄.
-          lands_as ! refl refl (((lent_laws κ).lawful 𝓛).typed o (v₄ ∷ []) told₄).0 $
+          lands_as ! refl refl (((value_found_laws κ).lawful 𝓛).typed o (v₄ ∷ []) told₄).0 $
           returns ! (look_at ! 0 refl) $ free_all ! refl $
           move ! (8 ∷ 6 ∷ 1 ∷ []) $ use3 𝓛 (‵ (LendsWalked r p.now m o))
           (step_on 𝓛 N V V N (O (Some value)) P₀ node_value

@@ -33,7 +33,7 @@ use Rattle.ijson_value.specs.contracts.value.Destructured.{the_row as N}
 use Rattle.ijson_value.specs.declared.value.Destructured.{Destructured}
 use Rattle.ijson_value.proofs.lends.LentOn.{then_such, itself_so, none_so}
 use Rattle.ijson_value.proofs.lends.Variants.{and_tt, by_option, none_out, Some-out, variant_made}
-use Rattle.ijson_extra.proofs.lends.LentLaws.{lent_laws}
+use Rattle.ijson_value.proofs.lends.LentLaws.{value_found_laws}
 use Rattle.ijson_extra.specs.LendsNamedValue.{LendsNamedValue, IfLent}
 use Rattle.ijson_extra.specs.Pointer.{resolved, resolved_with}
 use Rattle.ijson_extra.specs.private.Walked.{HasTokens, LendsNamedInside, node_tree, tree_lent}
@@ -210,7 +210,7 @@ resolve_mut_spec 𝓤 𝓛 𝓜 𝓡 wired =
           pick ! (λ ws₄. split ! $ drop ! $ split ! $ move ! (1 ∷ []) $ heard ! _ (λ is. let same = ap (λ (x : WellFormed). x.tree) e in
           -- [what opened follows; the text's token; nothing; value's token; the result; what value follows]
           move ! (4 ∷ []) $ peeks ! (OptionOf Lent) _ (shows 𝓛 (OptionOf Lent)) o (w ∷ []) (λ told'. let typed =
-          (((lent_laws κ).lawful 𝓛).typed o (w ∷ []) told').0 in
+          (((value_found_laws κ).lawful 𝓛).typed o (w ∷ []) told').0 in
           lands_as ! refl refl typed $
           sets_last ! (agg ! (and_then ! (lit ! tt) (and_then ! (get ! refl) (no_more !)))) refl
           (and_tt _ typed.0, (record { fits = lit< tt }, (typed.1, tt))) $
