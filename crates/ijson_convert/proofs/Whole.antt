@@ -7,10 +7,9 @@ use Rattle.std.proofs.lemmas.Int.{to_z-of_z}
 use Rattle.std.specs.declared.cmp.Ordering.TheVariants.{Equal}
 use Rattle.ijson_number.specs.Decimal.{Decimal}
 use Rattle.ijson_number.specs.Integers.{integer, HasValue, IsInteger}
-use Rattle.ijson_number.specs.Num.{Num}
 use Rattle.ijson_number.specs.Order.{number_cmp}
 use Rattle.ijson_number.specs.laws.Ordered.{number_cmp_total, tests_equal}
-use Rattle.ijson_value.specs.Integers.{HasInteger}
+use Rattle.ijson_value.specs.Integers.{HasInteger, IsIntegerTree}
 use Rattle.ijson_value.specs.Same.{Same}
 use Rattle.ijson_value.specs.Tree.{Tree, number}
 use Rattle.ijson_value.specs.WellFormed.{WellFormed, IsWellFormed}
@@ -55,10 +54,16 @@ module _ (width : Width) (wide : (z : ℤ) → FitsSigned width z → FitsSigned
       → Same (integer_tree (cast_signed width (cast_unsigned width z))) t
   signed_same z t h i = subst (λ y. Same (integer_tree y) t) (sym (to_z-of_z width z i)) (signed_equal z t h i)
 
-  -- a number that is made of one is its tree
-  pub signed_made : (z : ℤ) (n : Num) (t : Tree) → FitsSigned width z → IsInteger n.decimal (cast_signed width (cast_unsigned width z))
-      → t ≡ number n.decimal → t ≡ integer_tree z
-  signed_made z n t i h is = is ∙ signed_is n z (wide z i) (subst (IsInteger n.decimal) (to_z-of_z width z i) h)
+  tree_made : (z : ℤ) (t : Tree) → IsWellFormed t → FitsSigned width z → IsIntegerTree t (cast_signed width (cast_unsigned width z))
+      → t ≡ integer_tree z
+  tree_made z (number n) w i h =
+      signed_is (record { decimal = n; is_num = w }) z (wide z i) (subst (IsInteger n) (to_z-of_z width z i) h)
+  tree_made z _ w i h = absurd h
+
+  -- a value that is made of one has its tree
+  pub signed_made : (z : ℤ) (v : WellFormed) → FitsSigned width z → IsIntegerTree v.tree (cast_signed width (cast_unsigned width z))
+      → v.tree ≡ integer_tree z
+  signed_made z v i h = tree_made z v.tree v.well_formed i h
 
 module _ (width : Width) where
   -- it is read
@@ -93,9 +98,13 @@ signed_found width wide z t h i =
     record { same = signed_same width wide z t h i; read = signed_read width z t h i; none = tt; refused = tt }
 
 -- the same of one without a sign
-pub unsigned_made : (limit : ℕ) → limit ≤ 2 ^ 64 → (m : ℕ) (n : Num) (t : Tree) → m < limit → IsInteger n.decimal (pos m)
-    → t ≡ number n.decimal → t ≡ integer_tree (pos m)
-unsigned_made limit below m n t i h is = is ∙ unsigned_is n m (omega (arith, below, i)) h
+unsigned_tree_made : (m : ℕ) (t : Tree) → IsWellFormed t → m < 2 ^ 64 → IsIntegerTree t (pos m) → t ≡ integer_tree (pos m)
+unsigned_tree_made m (number n) w i h = unsigned_is (record { decimal = n; is_num = w }) m i h
+unsigned_tree_made m _ w i h = absurd h
+
+pub unsigned_made : (limit : ℕ) → limit ≤ 2 ^ 64 → (m : ℕ) (v : WellFormed) → m < limit → IsIntegerTree v.tree (pos m)
+    → v.tree ≡ integer_tree (pos m)
+unsigned_made limit below m v i h = unsigned_tree_made m v.tree v.well_formed (omega (arith, below, i)) h
 
 module _ (limit : ℕ) where
   -- a value below the limit is the same

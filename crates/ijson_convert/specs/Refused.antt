@@ -1,6 +1,6 @@
 -- Why a tree is not read as a Rust value, by the type: a tree of another kind is refused as such, a number that is not
 -- whole or not in range as out of range, and a list or a map for the first refusal in its order. This project's own.
-use Rattle.std.specs.Prelude.{◌≡◌, ◌⊎◌, ◌<◌, ℕ, ℤ, pos, Option, None, Some, List, [], ◌∷◌, ⊤, FitsSigned}
+use Rattle.std.specs.Prelude.{◌≡◌, ◌⊎◌, ◌<◌, ℕ, ℤ, pos, FitsSigned}
 use Rattle.std.specs.Int.{Width}
 use Rattle.ijson_number.specs.Integers.{HasValue}
 use Rattle.ijson_value.specs.Tree.{Tree, null, boolean, number, string, array, object, Items, no_items, item, Members, no_members, member}
@@ -50,16 +50,3 @@ member_values (member k t more) = item t (member_values more)
 abbrev pub MapRefused : (Tree → ConvertError → Type 0) → Tree → ConvertError → Type 0
 MapRefused Refused (object members) e = FirstRefused Refused (member_values members) e
 MapRefused Refused _ e = e ≡ WrongKind
-
--- what holds of the integers in what may be missing, in a list, and in a map
-abbrev pub option_in_range : {X : Type 0} → (X → Type 0) → Option X → Type 0
-option_in_range in_range None = ⊤
-option_in_range in_range (Some x) = in_range x
-
-abbrev pub all_in_range : {X : Type 0} → (X → Type 0) → List X → Type 0
-all_in_range in_range [] = ⊤
-all_in_range in_range (x ∷ xs) = in_range x × all_in_range in_range xs
-
-abbrev pub values_in_range : {K X : Type 0} → (X → Type 0) → List (K × X) → Type 0
-values_in_range in_range [] = ⊤
-values_in_range in_range (e ∷ es) = in_range e.1 × values_in_range in_range es

@@ -54,7 +54,7 @@ impl From<RefusedPair> for ConvertError {
     }
 }
 
-/// `Memory`.
+/// `Memory`, also where an object would be too large.
 impl From<ReserveError> for ConvertError {
     ghost from_gives = { λ _ e. e ≡ Memory };
 

@@ -4,7 +4,6 @@ ghost use Rattle.ijson_convert.specs.IntegerTree.{integer_tree};
 
 use crate::convert_error::ConvertError;
 use crate::to_ivalue::ToIValue;
-use ijson_number::INumber;
 use ijson_string::StringCache;
 use ijson_value::value::IValue;
 use std::alloc::Global;
@@ -19,7 +18,7 @@ impl ToIValue for i8 {
         _alloc: Global,
         _cache: &mut StringCache<S>,
     ) -> Result<IValue, ConvertError> {
-        Ok(IValue::from(INumber::from(*self)))
+        Ok(IValue::from(*self))
     }
 }
 
@@ -32,7 +31,7 @@ impl ToIValue for i16 {
         _alloc: Global,
         _cache: &mut StringCache<S>,
     ) -> Result<IValue, ConvertError> {
-        Ok(IValue::from(INumber::from(*self)))
+        Ok(IValue::from(*self))
     }
 }
 
@@ -45,7 +44,7 @@ impl ToIValue for i32 {
         _alloc: Global,
         _cache: &mut StringCache<S>,
     ) -> Result<IValue, ConvertError> {
-        Ok(IValue::from(INumber::from(*self)))
+        Ok(IValue::from(*self))
     }
 }
 
@@ -58,7 +57,7 @@ impl ToIValue for i64 {
         _alloc: Global,
         _cache: &mut StringCache<S>,
     ) -> Result<IValue, ConvertError> {
-        Ok(IValue::from(INumber::from(*self)))
+        Ok(IValue::from(*self))
     }
 }
 
@@ -71,7 +70,7 @@ impl ToIValue for isize {
         _alloc: Global,
         _cache: &mut StringCache<S>,
     ) -> Result<IValue, ConvertError> {
-        Ok(IValue::from(INumber::from(*self)))
+        Ok(IValue::from(*self))
     }
 }
 
@@ -84,7 +83,7 @@ impl ToIValue for u8 {
         _alloc: Global,
         _cache: &mut StringCache<S>,
     ) -> Result<IValue, ConvertError> {
-        Ok(IValue::from(INumber::from(*self)))
+        Ok(IValue::from(*self))
     }
 }
 
@@ -97,7 +96,7 @@ impl ToIValue for u16 {
         _alloc: Global,
         _cache: &mut StringCache<S>,
     ) -> Result<IValue, ConvertError> {
-        Ok(IValue::from(INumber::from(*self)))
+        Ok(IValue::from(*self))
     }
 }
 
@@ -110,7 +109,7 @@ impl ToIValue for u32 {
         _alloc: Global,
         _cache: &mut StringCache<S>,
     ) -> Result<IValue, ConvertError> {
-        Ok(IValue::from(INumber::from(*self)))
+        Ok(IValue::from(*self))
     }
 }
 
@@ -123,7 +122,7 @@ impl ToIValue for u64 {
         _alloc: Global,
         _cache: &mut StringCache<S>,
     ) -> Result<IValue, ConvertError> {
-        Ok(IValue::from(INumber::from(*self)))
+        Ok(IValue::from(*self))
     }
 }
 
@@ -136,6 +135,6 @@ impl ToIValue for usize {
         _alloc: Global,
         _cache: &mut StringCache<S>,
     ) -> Result<IValue, ConvertError> {
-        Ok(IValue::from(INumber::from(*self)))
+        Ok(IValue::from(*self))
     }
 }

@@ -1,7 +1,7 @@
 //! `FromIValue` of lists.
 ghost use Rattle.std.specs.Prelude.{All};
 ghost use Rattle.ijson_convert.specs.ListTree.{list_tree};
-ghost use Rattle.ijson_convert.specs.Refused.{ListRefused, all_in_range};
+ghost use Rattle.ijson_convert.specs.Refused.{ListRefused};
 ghost use Rattle.ijson_convert.specs.laws.Complete.{list_complete};
 
 use crate::convert_error::ConvertError;
@@ -15,7 +15,7 @@ impl<T: FromIValue + Drop> FromIValue for Vec<T> {
 
     ghost refused = { ListRefused T.FromIValue.refused };
 
-    ghost in_range = { λ list. all_in_range T.FromIValue.in_range list.items };
+    ghost in_range = { λ list. All T.FromIValue.in_range list.items };
 
     ghost null_is_none = { λ list. All T.FromIValue.null_is_none list.items };
 
@@ -25,11 +25,7 @@ impl<T: FromIValue + Drop> FromIValue for Vec<T> {
         };
         let mut list = Vec::with_capacity(alloc, items.len())?;
         for item in items.as_slice() {
-            let x = match T::from_ivalue(alloc, item) {
-                Ok(x) => x,
-                Err(e) => return Err(e),
-            };
-            list.push_reserved(x);
+            list.push_reserved(T::from_ivalue(alloc, item)?);
         }
         Ok(list)
     }

@@ -2,7 +2,7 @@
 ghost use Rattle.std.specs.Map.{values_of};
 ghost use Rattle.std.specs.Prelude.{All};
 ghost use Rattle.ijson_convert.specs.MapTree.{map_tree};
-ghost use Rattle.ijson_convert.specs.Refused.{MapRefused, values_in_range};
+ghost use Rattle.ijson_convert.specs.Refused.{MapRefused};
 ghost use Rattle.ijson_convert.specs.laws.Complete.{map_complete};
 
 use crate::convert_error::ConvertError;
@@ -18,7 +18,7 @@ impl<T: FromIValue + Drop> FromIValue for BTreeMap<String, T> {
 
     ghost refused = { MapRefused T.FromIValue.refused };
 
-    ghost in_range = { λ map. values_in_range T.FromIValue.in_range map.entries };
+    ghost in_range = { λ map. All T.FromIValue.in_range (values_of map.entries) };
 
     ghost null_is_none = { λ map. All T.FromIValue.null_is_none (values_of map.entries) };
 
@@ -28,10 +28,7 @@ impl<T: FromIValue + Drop> FromIValue for BTreeMap<String, T> {
         };
         let mut map = BTreeMap::new(alloc);
         for (key, item) in object.iter() {
-            let x = match T::from_ivalue(alloc, item) {
-                Ok(x) => x,
-                Err(e) => return Err(e),
-            };
+            let x = T::from_ivalue(alloc, item)?;
             let key = key.to_owned_string(alloc)?;
             if map.insert(key, x).is_err() {
                 return Err(ConvertError::Memory);

@@ -1,9 +1,9 @@
 //! `FromIValue` of truth values, texts, and what may be missing.
-ghost use Rattle.std.specs.Prelude.{⊤, string_bytes};
+ghost use Rattle.std.specs.Prelude.{⊤, string_bytes, IfSome};
 ghost use Rattle.ijson_value.specs.Tree.{boolean, string};
 ghost use Rattle.ijson_convert.specs.NullIsNone.{option_null_is_none};
 ghost use Rattle.ijson_convert.specs.OptionTree.{option_tree};
-ghost use Rattle.ijson_convert.specs.Refused.{BoolRefused, TextRefused, OptionRefused, option_in_range};
+ghost use Rattle.ijson_convert.specs.Refused.{BoolRefused, TextRefused, OptionRefused};
 ghost use Rattle.ijson_convert.specs.laws.Complete.{bool_complete, text_complete, option_complete};
 
 use crate::convert_error::ConvertError;
@@ -51,13 +51,13 @@ impl FromIValue for String {
     ghost complete = { λ s. text_complete (string_bytes s) };
 }
 
-/// None where the value is null, also where what is in it would be read of null too.
+/// None where the value is null, even if a `T` can be made of null, too.
 impl<T: FromIValue> FromIValue for Option<T> {
     ghost tree = { option_tree T.FromIValue.tree };
 
     ghost refused = { OptionRefused T.FromIValue.refused };
 
-    ghost in_range = { option_in_range T.FromIValue.in_range };
+    ghost in_range = { λ option. IfSome option T.FromIValue.in_range };
 
     ghost null_is_none = { option_null_is_none T.FromIValue.tree T.FromIValue.null_is_none };
 

@@ -57,7 +57,8 @@ pub fn to_serde_number(number: &INumber) -> Result<Number, ConvertError>
 /// and keys are interned in `cache`, in their order; where it is refused, a beginning of them may have been. `Number`
 /// comes where a number in it is a float, and `Memory` where memory for an array, an object or a text was refused. The numbers
 /// that it makes have no point. It takes time linear in the value, beside the look-ups of keys and texts by their hashes; where
-/// many keys of an object crowd, n log n in its pairs. It calls itself once a level.
+/// many keys of an object crowd, n log n in its pairs. It has no limit of depth, but it calls itself once a level, so a very deep
+/// value can want more stack than there is.
 #[cycle(from)]
 pub fn from_serde<S: BuildHasher>(
     alloc: Global,
@@ -168,10 +169,7 @@ fn to_items(alloc: Global, items: &[IValue]) -> Result<Vec<Value>, ConvertError>
 {
     let mut list = Vec::with_capacity(alloc, items.len())?;
     for item in items {
-        let value = to_serde(alloc, item)?;
-        if list.push(value).is_err() {
-            return Err(ConvertError::Memory);
-        }
+        list.push_reserved(to_serde(alloc, item)?);
     }
     Ok(list)
 }

@@ -1,5 +1,8 @@
 -- The trees of pairs: one pair among others.
-use Rattle.std.proofs.Common.{◌≡◌, ◌≤◌, ℕ, List, [], ◌∷◌, ◌++◌, suc, refl, ap, inl, inr, arith}
+use Rattle.std.proofs.Common.{◌≡◌, ◌≤◌, ℕ, List, [], ◌∷◌, ◌++◌, suc, refl, ap, sym, subst, inl, inr, arith}
+use Rattle.std.proofs.lemmas.List.{map-append}
+use Rattle.ijson_table.specs.Store.{Lacks, IsDistinct, keys_of}
+use Rattle.ijson_value.proofs.FromMaps.{lacks_before}
 use Rattle.ijson_value.specs.Same.{Has}
 use Rattle.ijson_value.specs.Tree.{Tree, depth, members_depth, members_len}
 use Rattle.ijson_value.specs.WellFormed.{WellFormed, pair_trees}
@@ -27,3 +30,10 @@ pub len_last : (done : List (List ℕ × WellFormed)) (p : List ℕ × WellForme
     → members_len (pair_trees (done ++ p ∷ [])) ≡ suc (members_len (pair_trees done))
 len_last [] p = refl
 len_last (q ∷ done) p = ap suc (len_last done p)
+
+-- the key of a pair is not among those before it
+pub key_is_new : (done : List (List ℕ × WellFormed)) (k : List ℕ) (v : WellFormed) (left pairs : List (List ℕ × WellFormed))
+    → done ++ (k, v) ∷ left ≡ pairs → IsDistinct (keys_of pairs) → Lacks k (keys_of done)
+key_is_new done k v left pairs is d =
+    lacks_before (keys_of done) k (keys_of left) (subst IsDistinct (map-append (λ p. p.0) done ((k, v) ∷ left))
+    (subst (λ l. IsDistinct (keys_of l)) (sym is) d))

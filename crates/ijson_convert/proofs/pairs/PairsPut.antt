@@ -8,7 +8,8 @@ use Rattle.ijson_table.specs.Store.{IsDistinct as NoneTwice, keys_of as store_ke
 use Rattle.ijson_table.proofs.pairs.PutEach.{put_each-new}
 use Rattle.ijson_value.specs.Tree.{Tree, object, members_of}
 use Rattle.ijson_value.specs.Values.{object_tree}
-use Rattle.ijson_value.specs.WellFormed.{WellFormed, tree_of}
+use Rattle.ijson_value.specs.WellFormed.{WellFormed}
+use Rattle.ijson_value.specs.laws.MemberTrees.{pair_tree as with_tree, keys_of-trees}
 use Rattle.ijson_convert.specs.Interned.{all_interned, SomeInterned}
 use Rattle.ijson_convert.specs.MapTree.{pair_tree, map_tree}
 use Rattle.ijson_convert.specs.TextsOf.{texts_of, members_texts}
@@ -16,23 +17,17 @@ use Rattle.ijson_convert.proofs.Interning.{both_interned, some_before, some_behi
 
 -- pairs with the trees of their values
 abbrev pub tree_pairs : List (List ℕ × WellFormed) → List (List ℕ × Tree)
-tree_pairs ps = map (λ p. (p.0, tree_of p.1)) ps
+tree_pairs ps = map with_tree ps
 
 -- the texts of pairs
 abbrev pub pairs_texts : List (List ℕ × Tree) → List (List ℕ)
 pairs_texts ps = members_texts (members_of ps)
 
--- ---- the keys of pairs
--- those of the entries
+-- the keys of the entries
 entry_keys : {X : Type 0} (tree : X → Tree) (es : List (String Global × X))
     → store_keys (map (pair_tree tree) es) ≡ map (λ e. string_bytes e.0) es
 entry_keys tree [] = refl
 entry_keys tree (e ∷ es) = ap (λ l. string_bytes e.0 ∷ l) (entry_keys tree es)
-
--- those of the pairs with trees
-tree_keys : (ps : List (List ℕ × WellFormed)) → store_keys (tree_pairs ps) ≡ store_keys ps
-tree_keys [] = refl
-tree_keys (p ∷ ps) = ap (λ l. p.0 ∷ l) (tree_keys ps)
 
 -- ---- the texts of pairs
 pub joined_texts : (ps qs : List (List ℕ × Tree)) → pairs_texts (ps ++ qs) ≡ pairs_texts ps ++ pairs_texts qs
@@ -53,7 +48,7 @@ module _ {X : Type 0} {tree : X → Tree} {old : Texts} {ps : List (List ℕ × 
   -- they are as many
   pub as_many : length ps ≡ length given
   as_many =
-      sym (length-map ps (λ p. (p.0, tree_of p.1))) ∙ ap length so_far.pairs ∙ length-map given (pair_tree tree)
+      sym (length-map ps with_tree) ∙ ap length so_far.pairs ∙ length-map given (pair_tree tree)
 
   module _ (key : String Global) (x : X) {k : List ℕ} (is : k ≡ string_bytes key) where
     -- one more is made
@@ -66,7 +61,7 @@ module _ {X : Type 0} {tree : X → Tree} {old : Texts} {ps : List (List ℕ × 
         ap (map (pair_tree tree)) grown ∙ map-append (pair_tree tree) given ((key, x) ∷ [])
         ∙ ap (λ j. before ++ (j, tree x) ∷ []) (sym is) in
         record {
-          pairs = ap tree_pairs pushed ∙ map-append (λ q. (q.0, tree_of q.1)) ps (p ∷ [])
+          pairs = ap tree_pairs pushed ∙ map-append with_tree ps (p ∷ [])
               ∙ ap₂ (λ l (q : List ℕ × Tree). l ++ q ∷ []) so_far.pairs (λ i. (key_is i, tree_is i)) ∙ sym more;
           texts = n ∙ ap (all_interned (k ∷ texts_of (tree x))) so_far.texts
               ∙ sym (both_interned (pairs_texts before) (k ∷ texts_of (tree x)) old)
@@ -91,5 +86,5 @@ module _ {X : Type 0} {tree : X → Tree} {old : Texts} {ps : List (List ℕ × 
   pub all_put : NoneTwice (map (λ e. string_bytes e.0) given) → {made : List (List ℕ × WellFormed)} → made ≡ put_each [] ps
       → object_tree made ≡ map_tree tree given
   all_put distinct puts =
-      let keys = sym (entry_keys tree given) ∙ ap store_keys (sym so_far.pairs) ∙ tree_keys ps in
+      let keys = sym (entry_keys tree given) ∙ ap store_keys (sym so_far.pairs) ∙ keys_of-trees ps in
       ap object_tree (puts ∙ put_each-new [] ps (subst NoneTwice keys distinct)) ∙ ap (λ l. object (members_of l)) so_far.pairs

@@ -1,18 +1,18 @@
 -- Members that are read into a map, one after the other.
-use Rattle.std.proofs.Common.{◌≡◌, ℕ, suc, List, [], ◌∷◌, ◌++◌, map, refl, ap, sym, subst, ◌∙◌, inl, inr}
+use Rattle.std.proofs.Common.{◌≡◌, ℕ, suc, List, [], ◌∷◌, ◌++◌, map, refl, ap, sym, subst, ◌∙◌}
 use Rattle.std.specs.BTreeMap.{insert_entry}
 use Rattle.std.specs.Ordering.{match_ordering}
 use Rattle.std.specs.Prelude.{String, string_bytes, string_cmp}
 use Rattle.std.specs.declared.alloc.Global.{Global}
 use Rattle.std.specs.declared.cmp.Ordering.TheVariants.{Less, Equal, Greater}
-use Rattle.std.proofs.lemmas.List.{map-append}
 use Rattle.std.proofs.lemmas.Map.Lookups.{exact_bytes}
-use Rattle.ijson_table.specs.Store.{Lacks, IsDistinct, keys_of}
-use Rattle.ijson_value.proofs.FromMaps.{lacks_before}
+use Rattle.ijson_table.specs.Store.{Lacks, keys_of}
 use Rattle.ijson_value.specs.Same.{Same, SameIn, Has}
 use Rattle.ijson_value.specs.Tree.{Tree, Items, Members, no_members, member, members_of, members_len, items_of}
 use Rattle.ijson_value.specs.Values.{object_tree}
 use Rattle.ijson_value.specs.WellFormed.{WellFormed, tree_of, pair_trees}
+use Rattle.ijson_value.specs.laws.HoldsWellFormed.{member_keys-pairs}
+use Rattle.ijson_value.specs.laws.SameLaws.{lacks_it}
 use Rattle.ijson_convert.specs.IsRead.{IsRead}
 use Rattle.ijson_convert.specs.MapTree.{pair_tree, map_tree}
 use Rattle.ijson_convert.specs.Refused.{FirstRefused, MapRefused, member_values}
@@ -55,12 +55,6 @@ module _ (Refused : Tree → ConvertError → Type 0) where
       ∙ ap items_of (values_pushed done ((k, v) ∷ left))))
       (refused_behind Refused (value_trees done) v.tree (value_trees left) e a r)
 
--- ---- pairs of an object
--- a key that is lacking has no pair
-lacks_pair : (done : List (List ℕ × WellFormed)) (k : List ℕ) (u : Tree) → Lacks k (keys_of done) → Has k u (pair_trees done) → ⊥
-lacks_pair [] k u l h = h
-lacks_pair (p ∷ done) k u l h = elim h [ inl here ↦ l.0 here.0 | inr later ↦ lacks_pair done k u l.1 later ]
-
 -- ---- an entry more of the map
 module _ {X : Type 0} (tree : X → Tree) where
   abbrev map_members : List (String Global × X) → Members
@@ -98,14 +92,8 @@ module _ {X : Type 0} (tree : X → Tree) where
       → Same (map_tree tree (insert_entry string_cmp es key x)) (object_tree (done ++ (k, v) ∷ []))
   member_same es done key k x v is lacks s same =
       let more = inserted (pair_trees done) (pair_trees (done ++ (k, v) ∷ [])) (has_more done ((k, v) ∷ [])) key x
-      (λ u h. lacks_pair done k u lacks (subst (λ j. Has j u (pair_trees done)) is h))
+      (λ u h. lacks_it k u (pair_trees done) (subst (Lacks k) (sym (member_keys-pairs done)) lacks)
+      (subst (λ j. Has j u (pair_trees done)) is h))
       (v.tree, subst (λ j. Has j v.tree (pair_trees (done ++ (k, v) ∷ []))) (sym is) (has_middle done (k, v) []), same)
       es s.1 in
       (more.0 ∙ ap suc s.0 ∙ sym (len_last done (k, v)), more.1)
-
--- the key of a pair is not among those before it
-pub key_is_new : (done : List (List ℕ × WellFormed)) (k : List ℕ) (v : WellFormed) (left pairs : List (List ℕ × WellFormed))
-    → done ++ (k, v) ∷ left ≡ pairs → IsDistinct (keys_of pairs) → Lacks k (keys_of done)
-key_is_new done k v left pairs is d =
-    lacks_before (keys_of done) k (keys_of left) (subst IsDistinct (map-append (λ p. p.0) done ((k, v) ∷ left))
-    (subst (λ l. IsDistinct (keys_of l)) (sym is) d))

@@ -8,13 +8,14 @@ use Rattle.serde_json.specs.Data as serde
 use Rattle.serde_json.specs.Data.{Data}
 use Rattle.serde_json.specs.View.{view, items_view}
 use Rattle.serde_json.specs.declared.value.Value.{Value}
-use Rattle.ijson_table.specs.Store.{Lacks, IsDistinct}
+use Rattle.ijson_table.specs.Store.{keys_of, Lacks, IsDistinct}
 use Rattle.ijson_value.specs.Same.{Same, SameEach, SameIn, Has}
 use Rattle.ijson_value.specs.Tree.{Tree, null, boolean, number, string, array, object, Items, no_items, item, Members, no_members}
 use Rattle.ijson_value.specs.Tree.{member, members_len, member_keys}
 use Rattle.ijson_value.specs.Values.{array_tree, object_tree}
 use Rattle.ijson_value.specs.WellFormed.{WellFormed, IsWellFormed, AreWellFormed, HaveWellFormed, item_trees, pair_trees}
-use Rattle.ijson_value.specs.laws.SameLaws.{same_symm, partner, member_distinct, lacks_it}
+use Rattle.ijson_value.specs.laws.HoldsWellFormed.{member_keys-pairs}
+use Rattle.ijson_value.specs.laws.SameLaws.{same_symm, partner, member_distinct, lacks_it, covers}
 use Rattle.ijson_convert.proofs.pairs.PairTrees.{has_more, has_middle, len_last}
 use Rattle.ijson_convert.specs.SerdeTree.{SerdeTree, SerdeItems, SerdeMembers, SerdeMeans, NoSerdeMeans}
 
@@ -129,23 +130,6 @@ added k d t (serde.member i e ms) (member j u ps) h s l = elim (slice_cmp nat_cm
     ] refl
 
 -- ---- objects
-covered : (qs rs : Members) → ((k : List ℕ) (t : Tree) → Has k t qs → (u : Tree) × Has k u rs × Same t u) → SameIn qs rs
-covered no_members rs h = tt
-covered (member k t qs) rs h = (h k t (inl (refl, refl)), covered qs rs (λ j u m. h j u (inr m)))
-
--- a key that is lacking is not that of a pair among them
-lacks_middle : (done : List (List ℕ × WellFormed)) (p : List ℕ × WellFormed) (left : List (List ℕ × WellFormed))
-    (j : List ℕ) → Lacks j (member_keys (pair_trees (done ++ p ∷ left))) → j ≢ p.0
-lacks_middle [] p left j l = l.0
-lacks_middle (q ∷ done) p left j l = lacks_middle done p left j l.1
-
--- the key of a pair is none of those before it
-pub lacks_before : (done : List (List ℕ × WellFormed)) (p : List ℕ × WellFormed) (left : List (List ℕ × WellFormed))
-    → IsDistinct (member_keys (pair_trees (done ++ p ∷ left))) → Lacks p.0 (member_keys (pair_trees done))
-lacks_before [] p left d = tt
-lacks_before (q ∷ done) p left d =
-    (λ e. lacks_middle done p left q.0 d.0 (sym e), lacks_before done p left d.1)
-
 -- a key that an object lacks is lacking in members that all stand in it
 lacks_inside : (k : List ℕ) (ps qs : Members) → SameIn ps qs → Lacks k (member_keys qs) → Lacks k (member_keys ps)
 lacks_inside k no_members qs s l = tt
@@ -153,11 +137,11 @@ lacks_inside k (member j t ps) qs s l =
     (λ e. lacks_it k s.0.0 qs l (subst (λ i. Has i s.0.0 qs) (sym e) s.0.1), lacks_inside k ps qs s.1 l)
 
 module _ (es : serde.Members) (done : List (List ℕ × WellFormed)) (d : Data) (p : List ℕ × WellFormed)
-    (lacks : Lacks p.0 (member_keys (pair_trees done))) (m : SerdeMeans d p.1.tree) where
+    (lacks : Lacks p.0 (keys_of done)) (m : SerdeMeans d p.1.tree) where
   members_means : (ps : Members) → IsWellFormed (object ps) → SerdeMembers es ps → Same (object ps) (object_tree done)
       → SerdeMeans (serde.object (serde.put p.0 d es)) (object_tree (done ++ p ∷ []))
   members_means ps w h s =
-      let without = lacks_inside p.0 ps (pair_trees done) s.1 lacks in
+      let without = lacks_inside p.0 ps (pair_trees done) s.1 (subst (Lacks p.0) (sym (member_keys-pairs done)) lacks) in
       let a = added p.0 d m.0 es ps h m.2 without in
       let rs = pair_trees (done ++ p ∷ []) in
       let found : (k : List ℕ) (t : Tree) → Has k t a.0 → (u : Tree) × Has k u rs × Same t u = λ k t q.
@@ -172,7 +156,7 @@ module _ (es : serde.Members) (done : List (List ℕ × WellFormed)) (d : Data) 
         object a.0,
         (a.2.distinct without w.0, a.2.well m.1 w.1),
         a.1,
-        (a.2.len ∙ ap suc s.0 ∙ sym (len_last done p), covered a.0 rs found),
+        (a.2.len ∙ ap suc s.0 ∙ sym (len_last done p), covers a.0 rs found),
       )
 
   -- one more pair means the same, by the tree between

@@ -1,6 +1,8 @@
 -- A tree that is refused is no value's.
-use Rattle.std.specs.Prelude.{◌≡◌, ℕ, Bool, List, [], ◌∷◌, map, Option, None, Some, ⊤, String}
+use Rattle.std.specs.Prelude.{◌≡◌, ℕ, Bool, List, [], ◌∷◌, map, All, Option, None, Some, IfSome, ⊤, String}
+use Rattle.std.specs.Map.{values_of}
 use Rattle.std.proofs.Common.{inl, inr, subst}
+use Rattle.std.proofs.lemmas.List.Elements.{All-head, All-tail}
 use Rattle.std.specs.declared.alloc.Global.{Global}
 use Rattle.ijson_value.specs.Same.{Same, SameEach, SameIn, Has}
 use Rattle.ijson_value.specs.Tree.{Tree, null, boolean, string, array, object, Items, no_items, item, items_of, Members}
@@ -11,7 +13,6 @@ use Rattle.ijson_convert.specs.ListTree.{list_tree}
 use Rattle.ijson_convert.specs.MapTree.{pair_tree, map_tree}
 use Rattle.ijson_convert.specs.OptionTree.{option_tree}
 use Rattle.ijson_convert.specs.Refused.{BoolRefused, TextRefused, OptionRefused, FirstRefused, ListRefused, MapRefused, member_values}
-use Rattle.ijson_convert.specs.Refused.{option_in_range, all_in_range, values_in_range}
 use Rattle.ijson_convert.specs.declared.convert_error.ConvertError.{ConvertError}
 
 pub bool_complete : (b : Bool) (t : Tree) (e : ConvertError) → ⊤ → IsWellFormed (boolean b) → IsWellFormed t
@@ -35,40 +36,40 @@ module _ {X : Type 0} (tree : X → Tree) (Refused : Tree → ConvertError → T
   none_complete null e s r = r
   none_complete _ e s r = absurd s
 
-  pub option_complete : (o : Option X) (t : Tree) (e : ConvertError) → option_in_range in_range o
+  pub option_complete : (o : Option X) (t : Tree) (e : ConvertError) → IfSome o in_range
       → IsWellFormed (option_tree tree o) → IsWellFormed t → Same (option_tree tree o) t
       → OptionRefused Refused t e → ⊥
   option_complete None t e i w v s r = none_complete t e s r
   option_complete (Some x) t e i w v s r = complete x t e i w v s (refused_inside t e r)
 
-  items_complete : (xs : List X) (ts : Items) (e : ConvertError) → all_in_range in_range xs
+  items_complete : (xs : List X) (ts : Items) (e : ConvertError) → All in_range xs
       → AreWellFormed (items_of (map tree xs)) → AreWellFormed ts → SameEach (items_of (map tree xs)) ts
       → FirstRefused Refused ts e → ⊥
   items_complete [] no_items e i w v s r = r
   items_complete [] (item t ts) e i w v s r = s
   items_complete (x ∷ xs) no_items e i w v s r = s
   items_complete (x ∷ xs) (item t ts) e i w v s r = elim r [
-    | inl here ↦ complete x t e i.0 w.0 v.0 s.0 here
-    | inr later ↦ items_complete xs ts e i.1 w.1 v.1 s.1 later.1
+    | inl here ↦ complete x t e (All-head in_range x xs i) w.0 v.0 s.0 here
+    | inr later ↦ items_complete xs ts e (All-tail in_range x xs i) w.1 v.1 s.1 later.1
   ]
 
-  pub list_complete : (xs : List X) (t : Tree) (e : ConvertError) → all_in_range in_range xs
+  pub list_complete : (xs : List X) (t : Tree) (e : ConvertError) → All in_range xs
       → IsWellFormed (list_tree tree xs) → IsWellFormed t → Same (list_tree tree xs) t
       → ListRefused Refused t e → ⊥
   list_complete xs (array ts) e i w v s r = items_complete xs ts e i w v s r
   list_complete xs _ e i w v s r = absurd s
 
   -- the pair of a map that has this key and this tree
-  pair_of : (es : List (String Global × X)) → values_in_range in_range es → HaveWellFormed (members_of (map (pair_tree tree) es))
+  pair_of : (es : List (String Global × X)) → All in_range (values_of es) → HaveWellFormed (members_of (map (pair_tree tree) es))
       → (k : List ℕ) (u : Tree) → Has k u (members_of (map (pair_tree tree) es))
       → (x : X) × (u ≡ tree x) × in_range x × IsWellFormed (tree x)
   pair_of [] i w k u h = absurd h
   pair_of (e ∷ es) i w k u h = elim h [
-    | inl here ↦ (e.1, here.1, i.0, w.0)
-    | inr later ↦ pair_of es i.1 w.1 k u later
+    | inl here ↦ (e.1, here.1, All-head in_range e.1 (values_of es) i, w.0)
+    | inr later ↦ pair_of es (All-tail in_range e.1 (values_of es) i) w.1 k u later
   ]
 
-  members_complete : (es : List (String Global × X)) (ts : Members) (e : ConvertError) → values_in_range in_range es
+  members_complete : (es : List (String Global × X)) (ts : Members) (e : ConvertError) → All in_range (values_of es)
       → HaveWellFormed (members_of (map (pair_tree tree) es)) → HaveWellFormed ts
       → SameIn ts (members_of (map (pair_tree tree) es)) → FirstRefused Refused (member_values ts) e → ⊥
   members_complete es no_members e i w v s r = r
@@ -80,7 +81,7 @@ module _ {X : Type 0} (tree : X → Tree) (Refused : Tree → ConvertError → T
     | inr later ↦ members_complete es ts e i w v.1 s.1 later.1
   ]
 
-  pub map_complete : (es : List (String Global × X)) (t : Tree) (e : ConvertError) → values_in_range in_range es
+  pub map_complete : (es : List (String Global × X)) (t : Tree) (e : ConvertError) → All in_range (values_of es)
       → IsWellFormed (map_tree tree es) → IsWellFormed t → Same (map_tree tree es) t
       → MapRefused Refused t e → ⊥
   map_complete es (object ts) e i w v s r =

@@ -1,6 +1,6 @@
 -- The number of an integer.
 use Rattle.std.proofs.Common.{◌≡◌, ℕ, ◌^◌, ◌<◌, Bool, true, false, refl, ap, sym, subst, ◌∙◌}
-use Rattle.std.specs.Prelude.{ℤ, pos, negsuc, nat_abs, FitsSigned}
+use Rattle.std.specs.Prelude.{ℤ, pos, nat_abs, FitsSigned}
 use Rattle.std.specs.Cmp.{tied_back}
 use Rattle.std.specs.declared.cmp.Ordering.TheVariants.{Equal}
 use mir.Syntax.{w64}
@@ -11,6 +11,7 @@ use Rattle.ijson_number.specs.Order.{number_cmp}
 use Rattle.ijson_number.specs.laws.Ordered.{number_cmp_total, tests_equal, equal_same}
 use Rattle.ijson_number.specs.FormNumber.{form_number, integer_word}
 use Rattle.ijson_number.proofs.parsing.Denotes.{same_decimal}
+use Rattle.ijson_number.proofs.storing.FormNumbers.{not_below}
 use Rattle.ijson_number.proofs.storing.IntegerWords.{word_num, word_integer, signed_small, signed_fits, unsigned_fits}
 use Rattle.ijson_value.specs.Tree.{number}
 use Rattle.ijson_convert.specs.IntegerTree.{integer_number, integer_tree}
@@ -25,11 +26,6 @@ same_integer a b z h k =
     same_decimal a.decimal.mantissa b.decimal.mantissa a.decimal.exponent b.decimal.exponent
     a.decimal.point b.decimal.point e.0 e.1 (h.no_point ∙ sym k.no_point)
 
--- what isn't below zero is its size
-size_is : (z : ℤ) → fits_u64 z ≡ true → pos (nat_abs z) ≡ z
-size_is (pos n) h = refl
-size_is (negsuc n) h = cc
-
 word_is : (z : ℤ) (a b : Bool) → (b ≡ false → pos (nat_abs z) ≡ z)
     → form_number (elim a [
       | true ↦ packed z (pos 0) false
@@ -41,7 +37,7 @@ word_is z false false h = ap integer_number (h refl)
 
 module _ (z : ℤ) (small : nat_abs z < 2 ^ 64) (fits : fits_i64 z ≡ false → fits_u64 z ≡ true) where
   is : form_number (integer_word z) ≡ integer_number z
-  is = word_is z (fits_packed z) (fits_i64 z) (λ e. size_is z (fits e))
+  is = word_is z (fits_packed z) (fits_i64 z) (λ e. not_below z (fits e))
 
   pub integer_num : IsNum (integer_number z)
   integer_num = subst IsNum is (word_num z small (integer_word z) fits refl)

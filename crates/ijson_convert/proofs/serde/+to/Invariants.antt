@@ -1,4 +1,4 @@
-use Rattle.std.proofs.Common.{◌≡◌, ℕ, List, ◌++◌, ◌+◌, ◌*◌, take}
+use Rattle.std.proofs.Common.{◌≡◌, ◌≤◌, ℕ, List, ◌++◌, ◌+◌, ◌*◌, length, take, vec_capacity}
 use Rattle.serde_json.specs.Data as serde
 use Rattle.serde_json.specs.View.{items_view, members_view}
 use Rattle.ijson_value.specs.Sizes.{value_size, object_size}
@@ -8,10 +8,13 @@ use Rattle.ijson_value.specs.WellFormed.{WellFormed, item_trees}
 use Rattle.ijson_convert.specs.SerdeTree.{SerdeMeans}
 use Rattle.ijson_convert.proofs.serde.+to.Given as goal
 
--- the items so far mean the same
+-- the items so far mean the same, in a list that has room for all
 abbrev pub invariant-to_items-loop-item : goal.invariant-to_items-loop-item
-invariant-to_items-loop-item l =
-    SerdeMeans (serde.array (items_view l.list.items)) (array_tree (take l.item-index l.items))
+invariant-to_items-loop-item l = record {
+  means : SerdeMeans (serde.array (items_view l.list.items)) (array_tree (take l.item-index l.items));
+  full : length l.list.items ≡ l.item-index;
+  room : length l.items ≤ vec_capacity l.list;
+}
 
 -- so do the members so far
 abbrev pub invariant-to_serde_map-loop-key : goal.invariant-to_serde_map-loop-key

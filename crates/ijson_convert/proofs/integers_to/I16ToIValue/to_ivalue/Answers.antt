@@ -1,12 +1,10 @@
-use Rattle.std.proofs.Common.{rules, ap, refl}
+use Rattle.std.proofs.Common.{rules, refl}
 use Rattle.std.specs.Int.{w16}
-use Rattle.ijson_value.specs.WellFormed.{tree_of}
 use Rattle.ijson_convert.specs.laws.Whole.{wide_16}
 use Rattle.ijson_convert.proofs.Whole.{signed_made}
 use Rattle.ijson_convert.proofs.integers_to.I16ToIValue.to_ivalue.Goals as goal
 
 pub returns : goal.returns
 returns g c =
-    let is = ap tree_of c.from-2.ensures in
-    let made = signed_made w16 wide_16 c.args.self.now c.from.result c.from-2.result.tree (search rules) c.from.ensures is in
+    let made = signed_made w16 wide_16 c.args.self.now c.from.result (search rules) c.from.ensures in
     record { tree = made; cache = refl; refused = tt }
