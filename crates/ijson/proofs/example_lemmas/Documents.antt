@@ -1,6 +1,7 @@
 -- Documents that are found by a test of their trees.
-use Rattle.std.proofs.Common.{◌≡◌, ℕ, zero, suc, Bool, true, false, ◌||◌, List, [], ◌∷◌, ◌++◌, get_or}
-use Rattle.std.proofs.Common.{Option, Some, None, is_some, refl, sym, ap, subst, ◌∙◌, inl, inr}
+use Rattle.std.proofs.Common.{◌≡◌, ℕ, zero, suc, Bool, true, false, List, [], ◌∷◌, ◌++◌, get_or}
+use Rattle.std.proofs.Common.{Option, Some, None, is_some, sym, ap, subst, ◌∙◌, inl, inr}
+use Rattle.std.proofs.lemmas.Bool.{or_parts}
 use Rattle.std.proofs.lemmas.List.Quantifiers.{position-Some}
 use Rattle.std.proofs.lemmas.Option.{slice_get-get_or}
 use Rattle.std.specs.List.{position, list_any}
@@ -23,19 +24,15 @@ found_at vs t (Some i) is =
     let v = get_or vs i null_value in
     (v, slice_get-get_or vs i null_value found.0, (decides t v.tree).0 found.1)
 
-either : (a b : Bool) → a || b ≡ false → (a ≡ false) × (b ≡ false)
-either true b e = absurd (cc)
-either false b e = (refl, e)
-
 none_stands : (vs : List WellFormed) (t : Tree) → list_any (tests t) vs ≡ false → (i : ℕ) → StandsAt vs t i → ⊥
 none_stands [] t none i h = let e = h.1 in absurd (cc)
 none_stands (v ∷ vs) t none zero h =
-    let first = (either (tests t v) (list_any (tests t) vs) none).0 in
+    let first = (or_parts (tests t v) (list_any (tests t) vs) none).0 in
     let e : v ≡ h.0 = let s = h.1 in cc in
     let yes = (decides t h.0.tree).1 h.2 in
     let no = ap (tests t) (sym e) ∙ first in absurd (cc)
 none_stands (v ∷ vs) t none (suc i) h =
-    none_stands vs t (either (tests t v) (list_any (tests t) vs) none).1 i h
+    none_stands vs t (or_parts (tests t v) (list_any (tests t) vs) none).1 i h
 
 pub none_at : (vs : List WellFormed) (t : Tree) (r : Option ℕ) → is_some r ≡ list_any (tests t) vs
     → IfNone r ((i : ℕ) → StandsAt vs t i → ⊥)
