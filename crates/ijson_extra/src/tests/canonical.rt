@@ -6,13 +6,13 @@ use crate::canonical::canonical_json;
 use ijson_json::{JsonError, from_json};
 use ijson_value::array::IArray;
 use ijson_value::value::IValue;
-use std::alloc::Global;
+use std::alloc::{AllocError, Global};
 use std::process::Abort;
 
 /// Asserts the canonical text of a value.
-fn is_canonical(rt: &impl Abort, alloc: Global, value: &IValue, want: &str) {
-    let found = canonical_json(alloc, value).expect(rt, "a text");
-    assert!(rt; found.as_str() == want);
+pub(super) fn is_canonical(rt: &impl Abort, alloc: Global, value: &IValue, want: &str) {
+    let found = granted!(rt; canonical_json(alloc, value));
+    assert!(*rt; found.as_str() == want);
 }
 
 /// Texts, and the canonical text of what each spells.
@@ -87,8 +87,10 @@ fn brackets(rt: &impl Abort, alloc: Global, count: usize) -> String {
 
 /// Asserts that a text is refused as too deep at its 128th opening.
 fn is_too_deep(rt: &impl Abort, alloc: Global, text: &str) {
-    let fault = from_json(alloc, &mut empty_cache(alloc), text).err();
-    assert!(rt; fault == Some(JsonError::TooDeep { at: 127 }));
+    let mut cache = empty_cache(alloc);
+    let fault = from_json(alloc, &mut cache, text).err();
+    drop(cache);
+    assert!(*rt; fault == Some(JsonError::TooDeep { at: 127 }));
 }
 
 /// 128 arrays, one inside the other, which are written and not read.

@@ -74,9 +74,14 @@ fn with_true(alloc: Global, text: &str, pointer: &str) -> Result<String, JsonErr
         × ((u : Tree) → resolved t pointer.now ≡ Some (Some u)
         → string_bytes written ≡ print (resolved_with t pointer.now (boolean true)))) }
 {
-    let mut value = from_json(alloc, &mut empty_cache(alloc), text)?;
+    let mut cache = empty_cache(alloc);
+    let read = from_json(alloc, &mut cache, text);
+    drop(cache);
+    let mut value = read?;
     set_named(&mut value, pointer);
-    match to_json(alloc, &value) {
+    let written = to_json(alloc, &value);
+    drop(value);
+    match written {
         Ok(written) => Ok(written),
         Err(_) => Err(JsonError::Memory),
     }
@@ -173,12 +178,12 @@ fn is_beside(rt: &impl Abort, object: &mut IObject, letters: &str, there: bool) 
         Some((key, _)) => key.eq_str(letters),
         None => false,
     };
-    assert!(rt; found == there);
+    assert!(*rt; found == there);
     let found = match ObjectIndex::index_into_mut(letters, object) {
         Some((key, _)) => key.eq_str(letters),
         None => false,
     };
-    assert!(rt; found == there);
+    assert!(*rt; found == there);
 }
 
 /// Writes true beside a key of an object.
@@ -190,7 +195,7 @@ fn writes(
     there: bool,
     way: Way,
 ) {
-    assert!(rt; value.is_object());
+    assert!(*rt; value.is_object());
     match way {
         Way::Pair => set_pair(
             value.as_object_mut().expect(rt, "an object"),
@@ -199,7 +204,7 @@ fn writes(
         ),
         Way::Found => set_pair(value.as_object_mut().expect(rt, "an object"), letters, true),
         Way::Inside => set_inside(value, letters),
-        Way::Path => assert!(rt; set_by_path(value, letters) == there),
+        Way::Path => assert!(*rt; set_by_path(value, letters) == there),
         Way::Put => put_by_path(value, key(rt, alloc, letters)).expect(rt, "room"),
     }
 }

@@ -5,14 +5,13 @@ ghost use Rattle.std.specs.Option.{unwrap_or};
 ghost use Rattle.ijson_table.specs.Store.{lookup, put};
 ghost use Rattle.ijson_value.specs.Values.{boolean_value};
 
-use super::{empty_cache, insert_new, is_written, key, parsed, set};
+use super::{empty_cache, insert_new, is_shown, is_written, key, parsed, set};
 use ijson_number::INumber;
 use ijson_string::IString;
 use ijson_table::ReserveError;
-use ijson_value::object::{Entry, IObject, IntoIter, OccupiedEntry};
+use ijson_value::object::{Entry, IObject};
 use ijson_value::value::{DestructuredRef, IValue};
 use std::alloc::Global;
-use std::fmt::Debug;
 use std::process::Abort;
 
 /// An object of these keys, each with its position beside it.
@@ -47,8 +46,11 @@ fn number_at(object: &IObject, key: &str) -> usize {
 }
 
 /// The number that a value is, if there was one: 99 where it is none.
-fn number_in(value: Option<IValue>) -> Option<usize> {
-    let number = value.as_ref().map(number_of);
+pub(super) fn number_in(value: Option<IValue>) -> Option<usize> {
+    let number = match &value {
+        Some(value) => Some(number_of(value)),
+        None => None,
+    };
     drop(value);
     number
 }
@@ -76,47 +78,35 @@ fn has_keys(object: &IObject, keys: &[&str]) -> bool {
     found.next().is_none()
 }
 
-/// Puts another number beside the first of four keys.
-fn replaces(rt: &impl Abort, a: IString, object: &mut IObject) {
-    let old = object.insert(a, of_number(9)).expect(rt, "room");
-    assert!(rt; number_in(old) == Some(0));
-    assert!(rt; object.capacity() == 4 && number_at(object, "a") == 9);
-}
-
-/// Takes two of the keys a to d out. The last pair moves there.
-fn removes(rt: &impl Abort, object: &mut IObject, d: &IString) {
-    assert!(rt; number_in(object.remove("b")) == Some(1) && has_keys(object, &["a", "d", "c"]));
-    assert!(rt; is_pair(object.remove_entry(d), Some("d")) && has_keys(object, &["a", "c"]));
-    assert!(rt; number_in(object.remove("b")).is_none() && object.capacity() == 4);
-}
-
 /// An object of the keys a to d.
 fn four(rt: &impl Abort, alloc: Global) -> IObject {
     of_keys(rt, alloc, &["a", "b", "c", "d"])
 }
 
-/// An object of the keys a to e, which have room for three more.
-fn five(rt: &impl Abort, alloc: Global) -> IObject {
-    let object = of_keys(rt, alloc, &["a", "b", "c", "d", "e"]);
-    assert!(rt; has_keys(&object, &["a", "b", "c", "d", "e"]) && object.capacity() == 8);
-    object
-}
-
+/// Five keys have room for three more. Another number is put beside the first of four.
 #[test]
 fn insertions(rt: HostRuntime) {
     let alloc = rt.alloc();
-    drop(five(&rt, alloc));
+    let object = of_keys(&rt, alloc, &["a", "b", "c", "d", "e"]);
+    assert!(rt; has_keys(&object, &["a", "b", "c", "d", "e"]) && object.capacity() == 8);
+    drop(object);
     let mut object = four(&rt, alloc);
     assert!(rt; object.capacity() == 4);
-    replaces(&rt, key(&rt, alloc, "a"), &mut object);
+    let old = object.insert(key(&rt, alloc, "a"), of_number(9));
+    assert!(rt; number_in(old.expect(&rt, "room")) == Some(0));
+    assert!(rt; object.capacity() == 4 && number_at(&object, "a") == 9);
     drop(object);
 }
 
+/// Two of the keys a to d are taken out. The last pair moves there.
 #[test]
 fn removals(rt: HostRuntime) {
     let alloc = rt.alloc();
-    let mut object = four(&rt, alloc);
-    removes(&rt, &mut object, &key(&rt, alloc, "d"));
+    let (mut object, d) = (four(&rt, alloc), key(&rt, alloc, "d"));
+    assert!(rt; number_in(object.remove("b")) == Some(1) && has_keys(&object, &["a", "d", "c"]));
+    assert!(rt; is_pair(object.remove_entry(&d), Some("d")) && has_keys(&object, &["a", "c"]));
+    assert!(rt; number_in(object.remove("b")).is_none() && object.capacity() == 4);
+    drop(d);
     drop(object);
     let mut object = of_keys(&rt, alloc, &["a", "b", "c"]);
     assert!(rt; number_in(object.remove("b")) == Some(1) && object.capacity() == 4);
@@ -124,15 +114,6 @@ fn removals(rt: HostRuntime) {
     object.shrink_to_fit().expect(&rt, "less room");
     assert!(rt; has_keys(&object, &["a", "c"]) && object.capacity() == 2);
     drop(object);
-}
-
-/// Takes b out of the keys a to d. Those behind it move one forward.
-fn shift_removes(rt: &impl Abort, object: &mut IObject) {
-    assert!(rt; number_in(object.shift_remove("b")) == Some(1));
-    assert!(rt; number_in(object.shift_remove(&"b")).is_none());
-    assert!(rt;
-        is_pair(object.shift_remove_entry("b"), None) && has_keys(object, &["a", "c", "d"])
-    );
 }
 
 /// Writes a number where a value is, and tells whether one is.
@@ -148,27 +129,32 @@ fn is_put(place: Option<&mut IValue>, number: usize) -> bool {
 
 /// Writes beside each of the keys a, c and d, each in another way.
 fn writes(rt: &impl Abort, object: &mut IObject, d: &IString) {
-    assert!(rt; object.contains_key("c"));
+    assert!(*rt; object.contains_key("c"));
     set(&mut object["c"], of_number(7));
-    assert!(rt; is_put(object.get_mut(d), 8) && is_put(object.value_at_mut(0), 6));
-    assert!(rt; !is_put(object.value_at_mut(3), 0) && !is_put(object.get_mut("b"), 0));
+    assert!(*rt; is_put(object.get_mut(d), 8) && is_put(object.value_at_mut(0), 6));
+    assert!(*rt; !is_put(object.value_at_mut(3), 0) && !is_put(object.get_mut("b"), 0));
 }
 
 /// Asserts that a key that is there has this number beside it, by each way to it.
 fn holds(rt: &impl Abort, object: &IObject, key: &str, number: usize) {
-    assert!(rt; object.get(key).map(number_of) == Some(number));
-    assert!(rt; number_at(object, key) == number);
-    assert!(rt; matches!(object.get_key_value(&key), Some((text, _value)) if text.eq_str(key)));
+    assert!(*rt; matches!(object.get(key), Some(value) if number_of(value) == number));
+    assert!(*rt; number_at(object, key) == number);
+    assert!(*rt; matches!(object.get_key_value(&key), Some((text, _value)) if text.eq_str(key)));
 }
 
 /// The keys that are left, and what is written beside each.
 static HELD: [(&str, usize); 3] = [("a", 6), ("c", 7), ("d", 8)];
 
+/// b is taken out of the keys a to d. Those behind it move one forward.
 #[test]
 fn shift_removals_and_writes(rt: HostRuntime) {
     let alloc = rt.alloc();
     let mut object = four(&rt, alloc);
-    shift_removes(&rt, &mut object);
+    assert!(rt; number_in(object.shift_remove("b")) == Some(1));
+    assert!(rt; number_in(object.shift_remove(&"b")).is_none());
+    assert!(rt;
+        is_pair(object.shift_remove_entry("b"), None) && has_keys(&object, &["a", "c", "d"])
+    );
     writes(&rt, &mut object, &key(&rt, alloc, "d"));
     for &(letters, number) in &HELD {
         holds(&rt, &object, letters, number);
@@ -205,30 +191,28 @@ fn the_limit(rt: HostRuntime) {
 fn room_made_ahead(rt: HostRuntime) {
     let alloc = rt.alloc();
     let object = IObject::with_capacity(alloc, 10).expect(&rt, "room");
-    assert!(rt; object.capacity() == 10 && object == IObject::new(alloc));
+    let none = IObject::new(alloc);
+    assert!(rt; object.capacity() == 10 && object == none);
+    drop(none);
     drop(object);
     let past = IObject::with_capacity(alloc, 72_057_594_037_927_937);
     assert!(rt; past.err() == Some(ReserveError::TooLarge));
 }
 
-/// Copies an object of the keys a to c that has room for one more. The number beside c has a point.
-fn copies(rt: &impl Abort, alloc: Global, object: &IObject) {
-    let copy = object.clone().expect(rt, "a copy");
-    assert!(rt; object.capacity() == 4 && copy.capacity() == 3 && copy == *object);
-    assert!(rt; has_keys(&copy, &["a", "b", "c"]) && number_at(&copy, "c") == 2);
-    let value = IValue::from(copy);
-    is_written(rt, alloc, &value, r#"{"a":0,"b":1,"c":2.0}"#);
-    drop(value);
-}
-
+/// An object of the keys a to c that has room for one more is copied. The number beside c has a point.
 #[test]
 fn copied(rt: HostRuntime) {
     let alloc = rt.alloc();
     let mut object = of_keys(&rt, alloc, &["a", "b"]);
     let number = parsed(&rt, alloc, "2.0");
     insert_new(&rt, &mut object, key(&rt, alloc, "c"), number);
-    copies(&rt, alloc, &object);
+    let copy = object.clone().expect(&rt, "a copy");
+    assert!(rt; object.capacity() == 4 && copy.capacity() == 3 && copy == object);
     drop(object);
+    assert!(rt; has_keys(&copy, &["a", "b", "c"]) && number_at(&copy, "c") == 2);
+    let value = IValue::from(copy);
+    is_written(&rt, alloc, &value, r#"{"a":0,"b":1,"c":2.0}"#);
+    drop(value);
 }
 
 /// Numbers and keys, one of which comes again.
@@ -262,7 +246,7 @@ fn extends(rt: &impl Abort, alloc: Global, object: &mut IObject, letters: &str) 
     let old = more.insert(key(rt, alloc, letters), of_number(9));
     drop(old.expect(rt, "room"));
     object.extend(more).expect(rt, "room");
-    assert!(rt; number_at(object, letters) == 9 && number_at(object, "b") == 1);
+    assert!(*rt; number_at(object, letters) == 9 && number_at(object, "b") == 1);
 }
 
 #[test]
@@ -288,7 +272,7 @@ fn of_pairs(rt: &impl Abort, alloc: Global, pairs: &[(&str, usize)]) -> IObject 
 /// Asserts that each number is beside its key.
 fn has_pairs(rt: &impl Abort, object: &IObject, pairs: &[(&str, usize)]) {
     for &(letters, number) in pairs {
-        assert!(rt; number_at(object, letters) == number);
+        assert!(*rt; number_at(object, letters) == number);
     }
 }
 
@@ -317,17 +301,17 @@ fn pairs_are_collected(rt: HostRuntime) {
 }
 
 /// Asks for the entry of a key, and takes the key back: that of a pair that is there comes out with the number beside it.
-fn asked(
+pub(super) fn asked(
     rt: &impl Abort,
     object: &mut IObject,
     letters: &str,
     key: IString,
 ) -> (IString, Option<usize>) {
     let entry = object.entry(key).expect(rt, "room");
-    assert!(rt; entry.key().eq_str(letters));
+    assert!(*rt; entry.key().eq_str(letters));
     match entry {
         Entry::Vacant(entry) => {
-            assert!(rt; entry.key().eq_str(letters));
+            assert!(*rt; entry.key().eq_str(letters));
             (entry.into_key(), None)
         }
         Entry::Occupied(entry) => {
@@ -423,20 +407,16 @@ fn entries_are_modified(rt: HostRuntime) {
     drop(object);
 }
 
-/// Writes through the entry of k, beside which 1 is.
-fn writes_through(rt: &impl Abort, entry: &mut OccupiedEntry<'_>) {
-    let old = entry.insert(of_number(8));
-    assert!(rt; number_of(&old) == 1);
-    drop(old);
-    set(entry.get_mut(), of_number(9));
-    assert!(rt; entry.key().eq_str("k") && number_of(entry.get()) == 9);
-}
-
 /// Writes through the entry of k, the second of four keys, and takes it out.
 fn occupied(rt: &impl Abort, object: &mut IObject, key: &IString) {
-    if let Entry::Occupied(mut entry) = object.entry_or_clone(key).expect(rt, "an entry") {
-        writes_through(rt, &mut entry);
-        assert!(rt; number_in(Some(entry.remove())) == Some(9));
+    match object.entry_or_clone(key).expect(rt, "an entry") {
+        Entry::Occupied(mut entry) => {
+            assert!(*rt; number_in(Some(entry.insert(of_number(8)))) == Some(1));
+            set(entry.get_mut(), of_number(9));
+            assert!(*rt; entry.key().eq_str("k") && number_of(entry.get()) == 9);
+            assert!(*rt; number_in(Some(entry.remove())) == Some(9));
+        }
+        Entry::Vacant(entry) => drop(entry),
     }
 }
 
@@ -449,17 +429,15 @@ fn occupied_entries(rt: HostRuntime) {
     drop(object);
 }
 
-/// Gets null beside n, which is not there, and writes beside a, which is.
-fn indexes(rt: &impl Abort, object: &mut IObject, n: IString, a: IString) {
-    assert!(rt; object.index_or_insert(n).expect(rt, "room").is_null());
-    set(object.index_or_insert(a).expect(rt, "room"), of_number(7));
-}
-
+/// Null comes beside n, which is not there, and a number is written beside a, which is.
 #[test]
 fn indexed_entries(rt: HostRuntime) {
     let alloc = rt.alloc();
     let mut object = of_keys(&rt, alloc, &["a", "k", "x"]);
-    indexes(&rt, &mut object, key(&rt, alloc, "n"), key(&rt, alloc, "a"));
+    let value = object.index_or_insert(key(&rt, alloc, "n"));
+    assert!(rt; value.expect(&rt, "room").is_null());
+    let value = object.index_or_insert(key(&rt, alloc, "a"));
+    set(value.expect(&rt, "room"), of_number(7));
     assert!(rt; has_keys(&object, &["a", "k", "x", "n"]) && number_at(&object, "a") == 7);
     assert!(rt; object.capacity() == 4);
     drop(object);
@@ -505,34 +483,29 @@ static EVEN: [(usize, &str, usize); 3] = [(3, "0", 0), (2, "4", 40), (1, "2", 20
 fn iterates(rt: &impl Abort, object: &IObject) {
     let mut pairs = object.iter();
     for &(left, _, number) in &EVEN {
-        assert!(rt; pairs.len() == left);
-        assert!(rt; matches!(pairs.next(), Some((_key, value)) if number_of(value) == number));
+        assert!(*rt; pairs.len() == left);
+        assert!(*rt; matches!(pairs.next(), Some((_key, value)) if number_of(value) == number));
     }
-    assert!(rt; pairs.next().is_none() && pairs.next().is_none());
+    assert!(*rt; pairs.next().is_none() && pairs.next().is_none());
 }
 
 /// The same of the values alone, and of the keys.
 fn iterates_apart(rt: &impl Abort, object: &IObject) {
     let mut values = object.values();
-    assert!(rt; values.len() == 3 && object.keys().len() == 3);
-    assert!(rt;
-        values.next().map(number_of) == Some(0) && values.next().map(number_of) == Some(40)
-    );
-    assert!(rt; values.next().map(number_of) == Some(20) && values.next().is_none());
-}
-
-/// Asserts that so many pairs are left, and the next one has this key.
-fn gives(rt: &impl Abort, owned: &mut IntoIter, left: usize, key: &str) {
-    assert!(rt; owned.size_hint() == (left, Some(left)) && is_pair(owned.next(), Some(key)));
+    assert!(*rt; values.len() == 3 && object.keys().len() == 3);
+    for &(_, _, number) in &EVEN {
+        assert!(*rt; matches!(values.next(), Some(value) if number_of(value) == number));
+    }
+    assert!(*rt; values.next().is_none());
 }
 
 /// Gives the keys 0, 4 and 2 out.
 fn gives_out(rt: &impl Abort, object: IObject) {
     let mut owned = object.into_iter();
     for &(left, key, _) in &EVEN {
-        gives(rt, &mut owned, left, key);
+        assert!(*rt; owned.size_hint() == (left, Some(left)) && is_pair(owned.next(), Some(key)));
     }
-    assert!(rt; is_pair(owned.next(), None));
+    assert!(*rt; is_pair(owned.next(), None));
     drop(owned);
 }
 
@@ -545,7 +518,7 @@ fn retains(rt: &impl Abort, object: &mut IObject) {
         set(value, of_number(number.wrapping_mul(10)));
         number % 2 == 0
     });
-    assert!(rt; asked == 7015423 && has_keys(object, &["0", "4", "2"]));
+    assert!(*rt; asked == 7015423 && has_keys(object, &["0", "4", "2"]));
 }
 
 #[test]
@@ -555,12 +528,6 @@ fn retained(rt: HostRuntime) {
     iterates(&rt, &object);
     iterates_apart(&rt, &object);
     gives_out(&rt, object);
-}
-
-/// Asserts what is shown of a value.
-fn is_shown<T: Debug>(rt: &impl Abort, alloc: Global, value: &T, want: &str) {
-    let shown = format!(in alloc; "{value:?}").expect(rt, "a text");
-    assert!(rt; shown.as_str() == want);
 }
 
 /// What is shown of the entries of a, which is there, and of x, which is not.
@@ -576,22 +543,22 @@ fn what_is_shown(rt: HostRuntime) {
     for &(letters, want) in &ENTRIES {
         let entry = object.entry(key(&rt, alloc, letters)).expect(&rt, "room");
         is_shown(&rt, alloc, &entry, want);
+        drop(entry);
     }
     is_shown(&rt, alloc, &object.iter(), "[(\"a\", 0), (\"k\", 1)]");
-    is_shown(
-        &rt,
-        alloc,
-        &object.into_iter(),
-        "IntoIter([(\"a\", 0), (\"k\", 1)])",
-    );
+    let pairs = object.into_iter();
+    is_shown(&rt, alloc, &pairs, "IntoIter([(\"a\", 0), (\"k\", 1)])");
+    drop(pairs);
 }
 
 // The texts are not made by `key`: `put_two` asks for two that differ, and no contract tells what `key` gives.
 #[test]
 fn two_are_put_and_one_is_kept(rt: HostRuntime) {
     let alloc = rt.alloc();
-    let first = IString::intern(&mut empty_cache(alloc), "a").expect(&rt, "a text");
-    let second = IString::intern(&mut empty_cache(alloc), "b").expect(&rt, "a text");
+    let mut cache = empty_cache(alloc);
+    let first = IString::intern(&mut cache, "a").expect(&rt, "a text");
+    let second = IString::intern(&mut cache, "b").expect(&rt, "a text");
+    drop(cache);
     let mut object = IObject::new(alloc);
     put_two(&mut object, &first, &second).expect(&rt, "two pairs");
     let (one, none) = keep_true(&mut object, &first, &second);

@@ -10,7 +10,7 @@ use std::process::Abort;
 fn names(rt: &impl Abort, alloc: Global, value: &IValue, pointer: &str, want: &str) {
     match resolve(value, pointer).expect(rt, "a pointer") {
         Some(found) => is_written(rt, alloc, found, want),
-        None => assert!(rt; want == "none"),
+        None => assert!(*rt; want == "none"),
     }
 }
 
@@ -124,7 +124,7 @@ fn becomes(
     } else {
         put_true(&mut value, pointer)
     };
-    assert!(rt; found == refused);
+    assert!(*rt; found == refused);
     is_written(rt, alloc, &value, want);
     drop(value);
 }
@@ -188,6 +188,7 @@ fn writes(rt: &impl Abort, alloc: Global, opened: bool) {
 /// One value is another one, and all else as it was.
 #[test]
 fn pointers_to_be_written(rt: HostRuntime) {
-    writes(&rt, rt.alloc(), false);
-    writes(&rt, rt.alloc(), true);
+    let alloc = rt.alloc();
+    writes(&rt, alloc, false);
+    writes(&rt, alloc, true);
 }

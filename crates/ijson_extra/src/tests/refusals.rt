@@ -3,35 +3,16 @@
 //! The repository's `check` runs each with its first request refused, with its second, and so on.
 ghost use Rattle.std.specs.Prelude.{◌≡◌, ◌<◌, IfOk};
 
-/// What a call answers, which is made again where memory is refused. That is told by `AllocError`, or else by the error that is given.
-macro_rules! granted {
-    ($rt:expr; $call:expr) => {
-        match $call {
-            Ok(answer) => answer,
-            Err(AllocError) => $call.expect($rt, "an answer"),
-        }
-    };
-    ($rt:expr; $memory:expr; $call:expr) => {
-        match $call {
-            Ok(answer) => answer,
-            Err(refused) => {
-                assert!($rt; refused == $memory);
-                $call.expect($rt, "an answer")
-            }
-        }
-    };
-}
-
 pub(super) mod large;
 mod no_memory;
 mod objects;
 pub(super) mod tables;
 
-use super::{Cache, empty_cache};
-use crate::canonical::canonical_json;
+use super::canonical::is_canonical;
+use super::{Cache, empty_cache, is_written, parsed};
 use ijson_json::{
     CompactError, JsonError, MemorySink, MemorySource, compact, compact_value, from_json, push_key,
-    push_quoted, push_separator, report, to_json,
+    push_quoted, push_separator, report,
 };
 use ijson_number::{INumber, ParseNumberError};
 use ijson_string::IString;
@@ -49,7 +30,7 @@ fn spelled(rt: &impl Abort, alloc: Global, text: &str) -> INumber {
 /// Asserts that a copy of a number is equal to it.
 fn copies_number(rt: &impl Abort, number: &INumber) {
     let copy = granted!(rt; number.clone());
-    assert!(rt; copy == *number);
+    assert!(*rt; copy == *number);
     drop(copy);
 }
 
@@ -107,8 +88,8 @@ fn counts(array: &IArray, first: usize, len: usize) -> bool {
 fn pushes(rt: &impl Abort, array: &mut IArray, len: usize) {
     let capacity = array.capacity();
     if let Err(refused) = array.push(number(len)) {
-        assert!(rt; counts(array, 0, len) && array.capacity() == capacity && len == capacity);
-        assert!(rt; refused.0.to_usize() == Some(len));
+        assert!(*rt; counts(array, 0, len) && array.capacity() == capacity && len == capacity);
+        assert!(*rt; refused.0.to_usize() == Some(len));
         array.push(refused.0).expect(rt, "an item");
     }
 }
@@ -139,8 +120,8 @@ fn one_and_two(rt: &impl Abort, alloc: Global) -> IArray {
 /// Inserts 0 before so many numbers from 1 on, which fill an array.
 fn inserts_zero(rt: &impl Abort, array: &mut IArray, len: usize) {
     if let Err(refused) = array.insert(0, number(0)) {
-        assert!(rt; refused.0.to_usize() == Some(0) && array.capacity() == len);
-        assert!(rt; counts(array, 1, len));
+        assert!(*rt; refused.0.to_usize() == Some(0) && array.capacity() == len);
+        assert!(*rt; counts(array, 1, len));
         array.insert(0, refused.0).expect(rt, "an item");
     }
 }
@@ -149,27 +130,27 @@ fn inserts_zero(rt: &impl Abort, array: &mut IArray, len: usize) {
 fn grows(rt: &impl Abort, array: &mut IArray, len: usize, more: usize) {
     let capacity = array.capacity();
     if array.reserve(more).is_err() {
-        assert!(rt; counts(array, 0, len) && array.capacity() == capacity);
+        assert!(*rt; counts(array, 0, len) && array.capacity() == capacity);
         array.reserve(more).expect(rt, "room");
     }
-    assert!(rt; counts(array, 0, len));
+    assert!(*rt; counts(array, 0, len));
 }
 
 /// Gives up all room but that of the numbers from 0 to 2.
 fn shrinks(rt: &impl Abort, array: &mut IArray) {
     let capacity = array.capacity();
     if array.shrink_to_fit().is_err() {
-        assert!(rt; counts(array, 0, 3) && array.capacity() <= capacity);
+        assert!(*rt; counts(array, 0, 3) && array.capacity() <= capacity);
         array.shrink_to_fit().expect(rt, "less room");
     }
-    assert!(rt; counts(array, 0, 3) && array.capacity() == 3);
+    assert!(*rt; counts(array, 0, 3) && array.capacity() == 3);
 }
 
 /// Puts an item into an array that has no memory yet.
 fn inserts_first(rt: &impl Abort, alloc: Global) {
     let mut array = IArray::new(alloc);
     inserts_zero(rt, &mut array, 0);
-    assert!(rt; counts(&array, 0, 1));
+    assert!(*rt; counts(&array, 0, 1));
     drop(array);
 }
 
@@ -180,7 +161,7 @@ fn reserves_three(rt: &impl Abort, alloc: Global) {
     for at in 0..3usize {
         array.push(number(at)).expect(rt, "room");
     }
-    assert!(rt; counts(&array, 0, 3));
+    assert!(*rt; counts(&array, 0, 3));
     drop(array);
 }
 
@@ -199,15 +180,15 @@ fn array_room(rt: HostRuntime) {
 
 /// Whether an array of so many items has no room for one more, where they came one after the other.
 fn grows_at(len: usize) -> bool {
-    len == 0 || len == 4 || len == 8
+    matches!(len, 0 | 4 | 8)
 }
 
 /// Extends an empty array by the numbers from 0 to 8.
 fn extends(rt: &impl Abort, array: &mut IArray) {
     if let Err(refused) = array.extend((0..9usize).map(number)) {
         let added = array.len();
-        assert!(rt; added < 9 && grows_at(added) && counts(array, 0, added));
-        assert!(rt; refused.0.to_usize() == Some(added));
+        assert!(*rt; added < 9 && grows_at(added) && counts(array, 0, added));
+        assert!(*rt; refused.0.to_usize() == Some(added));
         array.push(refused.0).expect(rt, "an item");
         let rest = (added + 1..9).map(number);
         array.extend(rest).expect(rt, "the other items");
@@ -219,7 +200,7 @@ fn made_again(rt: &impl Abort, alloc: Global, array: IArray) -> IArray {
     match IArray::from_iter(alloc, array) {
         Ok(again) => again,
         Err(refused) => {
-            assert!(rt; refused.0.to_usize().is_some_and(grows_at));
+            assert!(*rt; grows_at(refused.0.to_usize().unwrap_or(9)));
             drop(refused);
             IArray::from_iter(alloc, (0..9usize).map(number)).expect(rt, "an array")
         }
@@ -274,7 +255,7 @@ fn interned(rt: &impl Abort, cache: &mut Cache, text: &str) -> IString {
     match IString::intern(cache, text) {
         Ok(text) => text,
         Err(AllocError) => {
-            assert!(rt; cache.len() == before);
+            assert!(*rt; cache.len() == before);
             IString::intern(cache, text).expect(rt, "a text")
         }
     }
@@ -295,8 +276,8 @@ fn counted(rt: &impl Abort, cache: &mut Cache, text: &str, count: usize) -> IStr
     match IString::intern(cache, text) {
         Ok(key) => key,
         Err(AllocError) => {
-            assert!(rt; !was_there && !cache.contains(text));
-            assert!(rt; count > before && cache.len() == before && is_kept(cache, before));
+            assert!(*rt; !was_there && !cache.contains(text));
+            assert!(*rt; count > before && cache.len() == before && is_kept(cache, before));
             IString::intern(cache, text).expect(rt, "a text")
         }
     }
@@ -305,10 +286,10 @@ fn counted(rt: &impl Abort, cache: &mut Cache, text: &str, count: usize) -> IStr
 /// Asserts that a text and its copies are these letters.
 fn copies_text(rt: &impl Abort, alloc: Global, key: &IString, text: &str) {
     let copy = key.clone().expect(rt, "a copy");
-    assert!(rt; copy == *key);
+    assert!(*rt; copy == *key);
     drop(copy);
     let copy = granted!(rt; key.to_owned_string(alloc));
-    assert!(rt; copy.as_str() == text && key.eq_str(text));
+    assert!(*rt; copy.as_str() == text && key.eq_str(text));
 }
 
 #[test]
@@ -340,23 +321,6 @@ fn intern_many(rt: HostRuntime) {
     drop(cache);
 }
 
-/// What `text` spells, through a cache of its own.
-fn read(rt: &impl Abort, alloc: Global, text: &str) -> IValue {
-    let mut cache = empty_cache(alloc);
-    let value = granted!(rt; JsonError::Memory; from_json(alloc, &mut cache, text));
-    drop(cache);
-    value
-}
-
-fn written(rt: &impl Abort, alloc: Global, value: &IValue) -> String {
-    granted!(rt; to_json(alloc, value))
-}
-
-/// Asserts that a text is what is written of a value.
-fn is_written(rt: &impl Abort, alloc: Global, value: &IValue, text: &str) {
-    assert!(rt; written(rt, alloc, value).as_str() == text);
-}
-
 /// Texts that are written as they are read, and how many texts a cache of one other text holds then.
 static DOCUMENTS: [(&str, usize); 2] = [
     (r#"["longlong",[1]]"#, 2),
@@ -371,7 +335,7 @@ fn read_into(rt: &impl Abort, alloc: Global, cache: &mut Cache, text: &str, held
     match from_json(alloc, cache, text) {
         Ok(value) => value,
         Err(refused) => {
-            assert!(rt; refused == JsonError::Memory && is_kept(cache, held));
+            assert!(*rt; refused == JsonError::Memory && is_kept(cache, held));
             from_json(alloc, cache, text).expect(rt, text)
         }
     }
@@ -424,12 +388,30 @@ static PARTS: [(Part, &str, &str); 8] = [
     (Part::Key, "0123456789\n", "true,\"0123456789\\n\":"),
 ];
 
+/// Puts the number that a text spells last, or its stripped digits, and tells whether it was done.
+fn push_number(
+    rt: &impl Abort,
+    alloc: Global,
+    found: &mut String,
+    text: &str,
+    is_stripped: bool,
+) -> bool {
+    let number = spelled(rt, alloc, text);
+    let is_done = if is_stripped {
+        number.push_stripped_digits(found).is_ok()
+    } else {
+        number.push_to(found).is_ok()
+    };
+    drop(number);
+    is_done
+}
+
 /// Puts a part last, and tells whether it was done.
 fn push_part(rt: &impl Abort, alloc: Global, found: &mut String, part: Part, text: &str) -> bool {
     match part {
         Part::Separator => push_separator(found, false).is_ok(),
-        Part::Number => spelled(rt, alloc, text).push_to(found).is_ok(),
-        Part::StrippedDigits => spelled(rt, alloc, text).push_stripped_digits(found).is_ok(),
+        Part::Number => push_number(rt, alloc, found, text, false),
+        Part::StrippedDigits => push_number(rt, alloc, found, text, true),
         Part::Quoted => push_quoted(found, text).is_ok(),
         Part::Key => push_key(found, text, false).is_ok(),
     }
@@ -440,11 +422,12 @@ fn push_part(rt: &impl Abort, alloc: Global, found: &mut String, part: Part, tex
 fn puts_part(rt: &impl Abort, alloc: Global, part: Part, text: &str, want: &str) {
     let mut found = full_text(rt, alloc);
     if !push_part(rt, alloc, &mut found, part, text) {
-        is_begun(rt, found.as_str(), want);
+        let begun = found.as_str();
+        assert!(*rt; begun.starts_with("true") && want.starts_with(begun) && begun != want);
         found = full_text(rt, alloc);
-        assert!(rt; push_part(rt, alloc, &mut found, part, text));
+        assert!(*rt; push_part(rt, alloc, &mut found, part, text));
     }
-    assert!(rt; found.as_str() == want);
+    assert!(*rt; found.as_str() == want);
 }
 
 /// Puts each of these parts.
@@ -452,11 +435,6 @@ fn puts_parts(rt: &impl Abort, alloc: Global, parts: &[(Part, &str, &str)]) {
     for &(part, text, want) in parts {
         puts_part(rt, alloc, part, text, want);
     }
-}
-
-/// Asserts that a text is `true` and a beginning of what was to stand there.
-fn is_begun(rt: &impl Abort, found: &str, want: &str) {
-    assert!(rt; found.starts_with("true") && want.starts_with(found) && found != want);
 }
 
 #[test]
@@ -471,12 +449,6 @@ fn reading_and_writing(rt: HostRuntime) {
         drop(value);
     }
     puts_parts(&rt, alloc, &PARTS);
-}
-
-/// Asserts that a text is the canonical one of a value.
-fn is_canonical(rt: &impl Abort, alloc: Global, value: &IValue, text: &str) {
-    let found = granted!(rt; canonical_json(alloc, value));
-    assert!(rt; found.as_str() == text);
 }
 
 /// Numbers in a word, in one row and in more, and what stands behind `true` once their stripped digits are put there.
@@ -513,7 +485,7 @@ static CANONICAL: [(&str, &str); 2] = [
 fn canonical(rt: HostRuntime) {
     let alloc = rt.alloc();
     for &(text, sorted) in &CANONICAL {
-        let value = read(&rt, alloc, text);
+        let value = parsed(&rt, alloc, text);
         is_canonical(&rt, alloc, &value, sorted);
         is_written(&rt, alloc, &value, text);
         drop(value);
@@ -541,10 +513,10 @@ static COMPACTED: [(&[u8], &[u8]); 2] = [
 /// Asserts that nothing is reported of a compacted text, and of any other one that memory was refused.
 fn is_reported(rt: &impl Abort, answer: &Result<(), CompactError>, status: u8, line: &[u8]) {
     if answer.is_ok() {
-        assert!(rt; status == 0 && line.is_empty());
+        assert!(*rt; status == 0 && line.is_empty());
     } else {
-        assert!(rt; *answer == Err(CompactError::Memory));
-        assert!(rt; status == 3 && line == b"ijson: out of memory\n".as_slice());
+        assert!(*rt; *answer == Err(CompactError::Memory));
+        assert!(*rt; status == 3 && line == b"ijson: out of memory\n".as_slice());
     }
 }
 
@@ -567,13 +539,13 @@ fn is_compacted(
     let answer = compact(alloc, &mut input, &mut output, cache);
     let status = report(&answer, &mut errors);
     is_reported(rt, &answer, status, errors.bytes());
-    assert!(rt; is_kept(cache, 2));
+    assert!(*rt; is_kept(cache, 2));
     let line = if answer.is_ok() {
         written
     } else {
         b"".as_slice()
     };
-    assert!(rt; output.bytes() == line);
+    assert!(*rt; output.bytes() == line);
     answer.is_ok()
 }
 
@@ -610,24 +582,22 @@ fn compacting_to_a_value(rt: HostRuntime) {
     drop(value);
 }
 
-/// Copies an array by its own call.
-fn copies_array(rt: &impl Abort, array: &IArray) {
+/// Copies an array by its own call, and an object of two pairs, which is its last item.
+fn copies_parts(rt: &impl Abort, array: &IArray) {
     let copy = granted!(rt; array.clone());
-    assert!(rt; copy == *array);
+    assert!(*rt; copy == *array);
     drop(copy);
-}
-
-/// Copies an object of two pairs by its own call.
-fn copies_object(rt: &impl Abort, object: &IObject) {
+    let last = array.as_slice().last().expect(rt, "an item");
+    let object = last.as_object().expect(rt, "an object");
     let copy = granted!(rt; object.clone());
-    assert!(rt; copy == *object && copy.capacity() == 2);
+    assert!(*rt; copy == *object && copy.capacity() == 2);
     drop(copy);
 }
 
 /// Copies a value that is written as this text.
 fn copied(rt: &impl Abort, alloc: Global, value: &IValue, text: &str) -> IValue {
     let copy = granted!(rt; value.clone());
-    assert!(rt; copy == *value);
+    assert!(*rt; copy == *value);
     is_written(rt, alloc, &copy, text);
     copy
 }
@@ -635,7 +605,7 @@ fn copied(rt: &impl Abort, alloc: Global, value: &IValue, text: &str) -> IValue 
 /// Copies items into an array.
 fn copies_items(rt: &impl Abort, alloc: Global, items: &[IValue]) {
     let array = granted!(rt; IArray::from_slice(alloc, items));
-    assert!(rt; array.as_slice() == items);
+    assert!(*rt; array.as_slice() == items);
     drop(array);
 }
 
@@ -644,11 +614,8 @@ fn cloning(rt: HostRuntime) {
     let text =
         "[12345678901234567890123.5,\"eight888\",[true,[]],{\"k\":1,\"longlong\":{\"a\":[]}}]";
     let alloc = rt.alloc();
-    let value = read(&rt, alloc, text);
-    let array = value.as_array().expect(&rt, "an array");
-    copies_array(&rt, array);
-    let object = array.as_slice().last().and_then(IValue::as_object);
-    copies_object(&rt, object.expect(&rt, "an object"));
+    let value = parsed(&rt, alloc, text);
+    copies_parts(&rt, value.as_array().expect(&rt, "an array"));
     let copy = copied(&rt, alloc, &value, text);
     let items = [copy, value];
     copies_items(&rt, alloc, &items);

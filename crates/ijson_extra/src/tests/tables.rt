@@ -9,7 +9,7 @@ mod sizes;
 mod slots;
 mod stores;
 
-use super::key;
+use super::{is_shown, key};
 use ijson_string::IString;
 use ijson_table::{Command, KeyHash, PairStore, Reply, run};
 use std::alloc::Global;
@@ -85,18 +85,17 @@ fn reply<P: PairStore<u64>>(
     replies.pop().expect(rt, "a reply")
 }
 
-/// Whether this is shown of the reply to a step.
+/// Asserts what is shown of the reply to a step.
 fn replies_so<P: PairStore<u64>>(
     rt: &impl Abort,
     alloc: Global,
     store: &mut P,
     step: Step,
     want: &str,
-) -> bool {
+) {
     let reply = reply(rt, alloc, store, command(rt, alloc, step));
-    let shown = format!(in alloc; "{reply:?}").expect(rt, "a text");
+    is_shown(rt, alloc, &reply, want);
     drop(reply);
-    shown.as_str() == want
 }
 
 /// Inserts these keys, each beside its index.
@@ -104,15 +103,17 @@ fn insert_all<P: PairStore<u64>>(rt: &impl Abort, alloc: Global, store: &mut P, 
     for (i, letters) in keys.iter().enumerate() {
         let put = Command::Insert(key(rt, alloc, letters), i as u64);
         let reply = reply(rt, alloc, store, put);
-        assert!(rt; matches!(reply, Reply::Added));
+        assert!(*rt; matches!(reply, Reply::Added));
         drop(reply);
     }
 }
 
-/// Whether these are the keys, in order.
-fn has_keys(pairs: &[(IString, u64)], keys: &[&str]) -> bool {
-    pairs
-        .iter()
-        .map(|pair| pair.0.as_str())
-        .eq(keys.iter().copied())
+/// Whether these are the pairs, in order.
+fn are_pairs(pairs: &[(IString, u64)], wanted: &[(&str, u64)]) -> bool {
+    for (pair, (letters, value)) in pairs.iter().zip(wanted) {
+        if !pair.0.eq_str(letters) || pair.1 != *value {
+            return false;
+        }
+    }
+    pairs.len() == wanted.len()
 }

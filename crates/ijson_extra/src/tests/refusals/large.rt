@@ -1,7 +1,7 @@
 //! Many letters, items and pairs, with each request refused once.
 
-use super::{copied, is_compacted, is_written, pushes, read, text_of_room, used_cache};
-use crate::tests::insert_new;
+use super::{copied, is_compacted, pushes, text_of_room, used_cache};
+use crate::tests::{insert_new, is_written, parsed};
 use ijson_json::push_separator;
 use ijson_number::INumber;
 use ijson_string::IString;
@@ -46,7 +46,7 @@ fn of_much(rt: &impl Abort, alloc: Global) -> String {
 fn read_copied_and_written(rt: HostRuntime) {
     let alloc = rt.alloc();
     let text = of_much(&rt, alloc);
-    let value = read(&rt, alloc, text.as_str());
+    let value = parsed(&rt, alloc, text.as_str());
     is_written(&rt, alloc, &value, text.as_str());
     drop(copied(&rt, alloc, &value, text.as_str()));
     drop(value);
@@ -79,7 +79,7 @@ fn compacted(rt: HostRuntime) {
 fn puts(rt: &impl Abort, object: &mut IObject, key: IString, value: IValue) {
     let len = object.len();
     if let Some(refused) = object.insert(key, value).err() {
-        assert!(rt; object.len() == len && object.capacity() == len);
+        assert!(*rt; object.len() == len && object.capacity() == len);
         insert_new(rt, object, refused.key, refused.value);
     }
 }
@@ -90,7 +90,7 @@ fn pairs(rt: &impl Abort, alloc: Global) -> IObject {
     text.push('{').expect(rt, "room");
     push_members(rt, &mut text, 30_000);
     text.push('}').expect(rt, "room");
-    let value = read(rt, alloc, text.as_str());
+    let value = parsed(rt, alloc, text.as_str());
     value.into_object().expect(rt, "an object")
 }
 

@@ -4,6 +4,7 @@
 use super::objects::{PAIRS, holds, is_granted, is_number, refused_entry, with_pairs};
 use super::{Cache, array_of_room, interned, number, spelled};
 use crate::pointer::{resolve, resolve_mut};
+use crate::tests::objects::{asked, number_in};
 use crate::tests::{empty_cache, key, set};
 use ijson_json::{CompactError, MemorySink, Sink, line_and_column, report};
 use ijson_number::{Form, INumber, Looks, first_fault};
@@ -49,8 +50,8 @@ fn numbers(rt: &impl Abort, alloc: Global, rounds: u32) {
     let less = spelled(rt, alloc, "18446744073709551616");
     let more = spelled(rt, alloc, "18446744073709551616.5");
     for _ in 0..rounds {
-        assert!(rt; are_in_order(&less, &more) && is_list_with_point(&more));
-        assert!(rt; first_fault("01") == Some(1) && line_and_column("a\nb", 2).line == 2);
+        assert!(*rt; are_in_order(&less, &more) && is_list_with_point(&more));
+        assert!(*rt; first_fault("01") == Some(1) && line_and_column("a\nb", 2).line == 2);
     }
     drop(less);
     drop(more);
@@ -64,7 +65,7 @@ fn copied(rt: &impl Abort, text: &IString) -> IString {
 fn found(rt: &impl Abort, cache: &mut Cache, letters: &str) -> IString {
     let text = IString::intern(cache, letters).expect(rt, "a text");
     let copy = copied(rt, &text);
-    assert!(rt; copy.eq_str(letters));
+    assert!(*rt; copy.eq_str(letters));
     drop(copy);
     text
 }
@@ -73,8 +74,8 @@ fn found(rt: &impl Abort, cache: &mut Cache, letters: &str) -> IString {
 fn interns(rt: &impl Abort, cache: &mut Cache, long: &IString) {
     let again = found(rt, cache, "eight888");
     let short = found(rt, cache, "seven77");
-    assert!(rt; again == *long && *long < short && hash_of(long) == hash_of(&again));
-    assert!(rt; cache.len() == 1 && cache.contains(long.as_str()));
+    assert!(*rt; again == *long && *long < short && hash_of(long) == hash_of(&again));
+    assert!(*rt; cache.len() == 1 && cache.contains(long.as_str()));
     drop(again);
     drop(short);
 }
@@ -86,29 +87,24 @@ fn texts(rt: &impl Abort, alloc: Global, rounds: u32) {
         interns(rt, &mut cache, &long);
     }
     cache.clear();
-    assert!(rt; cache.is_empty() && long.eq_str("eight888"));
+    assert!(*rt; cache.is_empty() && long.eq_str("eight888"));
     drop(long);
     drop(cache);
 }
 
-/// The number that an item is, if one was there: 99 where it is none.
-fn number_in(item: Option<IValue>) -> Option<u32> {
-    let item = item?;
-    let number = item.to_u32().unwrap_or(99);
-    drop(item);
-    Some(number)
-}
-
 /// Whether an item was there, and it is null.
 fn is_null(item: Option<IValue>) -> bool {
-    let found = item.as_ref().is_some_and(IValue::is_null);
+    let found = match &item {
+        Some(item) => item.is_null(),
+        None => false,
+    };
     drop(item);
     found
 }
 
 /// Whether an array has null alone.
 fn is_null_alone(array: &IArray) -> bool {
-    array.len() == 1 && array.iter().all(IValue::is_null)
+    array.len() == 1 && array[0].is_null()
 }
 
 /// Fills an array that has room for three items, and takes two of them out.
@@ -117,7 +113,7 @@ fn fills(rt: &impl Abort, array: &mut IArray) {
     for at in 0..3usize {
         array.push(number(at)).expect(rt, "room");
     }
-    assert!(rt;
+    assert!(*rt;
         number_in(array.swap_remove(0)) == Some(0) && number_in(array.remove(0)) == Some(2)
     );
 }
@@ -126,21 +122,21 @@ fn fills(rt: &impl Abort, array: &mut IArray) {
 fn replaces(rt: &impl Abort, array: &mut IArray) {
     array.reserve(2).expect(rt, "room");
     array.insert(0, IValue::NULL).expect(rt, "room");
-    assert!(rt; number_in(array.pop()) == Some(1) && number_in(array.remove(1)).is_none());
+    assert!(*rt; number_in(array.pop()) == Some(1) && number_in(array.remove(1)).is_none());
     array.truncate(1);
-    assert!(rt; is_null_alone(array));
+    assert!(*rt; is_null_alone(array));
 }
 
 /// The copies of an array of no items, and of an object of no pairs.
 fn copies_nothing(rt: &impl Abort, alloc: Global) {
     let array = IArray::new(alloc);
     let copy = array.clone().expect(rt, "a copy");
-    assert!(rt; copy.capacity() == 0);
+    assert!(*rt; copy.capacity() == 0);
     drop(array);
     drop(copy);
     let object = IObject::new(alloc);
     let copy = object.clone().expect(rt, "a copy");
-    assert!(rt; copy.capacity() == 0);
+    assert!(*rt; copy.capacity() == 0);
     drop(object);
     drop(copy);
 }
@@ -152,28 +148,27 @@ fn arrays(rt: &impl Abort, alloc: Global, rounds: u32) {
     for _ in 0..rounds {
         fills(rt, &mut array);
         replaces(rt, &mut array);
-        assert!(rt; are_same(&array, &same) && array.iter().len() == 1);
+        assert!(*rt; are_same(&array, &same) && array.iter().len() == 1);
         copies_nothing(rt, alloc);
     }
     drop(same);
     let mut items = array.into_iter();
-    assert!(rt; is_null(items.next()) && number_in(items.next()).is_none());
+    assert!(*rt; is_null(items.next()) && number_in(items.next()).is_none());
     drop(items);
 }
 
 fn is_occupied(entry: Entry<'_>) -> bool {
-    match entry {
-        Entry::Occupied(_) => true,
-        Entry::Vacant(_) => false,
-    }
+    let is_so = matches!(entry, Entry::Occupied(_));
+    drop(entry);
+    is_so
 }
 
 /// Puts 9 in place of 1 in a full object, finds the entry, and puts 1 back.
 fn finds_entries(rt: &impl Abort, object: &mut IObject, a: &IString) {
     let former = object.insert(copied(rt, a), IValue::from(9u8));
-    assert!(rt; number_in(former.expect(rt, "a pair")) == Some(1));
-    assert!(rt; is_occupied(object.entry(copied(rt, a)).expect(rt, "an entry")));
-    assert!(rt; is_occupied(object.entry_or_clone(a).expect(rt, "an entry")));
+    assert!(*rt; number_in(former.expect(rt, "a pair")) == Some(1));
+    assert!(*rt; is_occupied(object.entry(copied(rt, a)).expect(rt, "an entry")));
+    assert!(*rt; is_occupied(object.entry_or_clone(a).expect(rt, "an entry")));
     let value = object.index_or_insert(copied(rt, a));
     set(value.expect(rt, "a value"), IValue::from(1u8));
 }
@@ -186,22 +181,13 @@ fn seven(value: &mut IValue) {
 /// Writes 7 beside a key that is there by its entry, and then 1 again.
 fn writes_entry(rt: &impl Abort, object: &mut IObject, a: &IString) {
     let entry = object.entry_or_clone(a).expect(rt, "an entry");
-    if let Entry::Occupied(mut entry) = entry.and_modify(seven) {
-        assert!(rt; entry.key() == a && is_number(entry.get(), 7));
-        set(entry.get_mut(), IValue::from(8u8));
-        assert!(rt; number_in(Some(entry.insert(IValue::from(1u8)))) == Some(8));
-    }
-}
-
-/// The key of a pair that an entry takes out, or the key itself where it is not there.
-fn key_of(entry: Entry<'_>) -> IString {
-    match entry {
-        Entry::Occupied(entry) => {
-            let (key, value) = entry.remove_entry();
-            drop(value);
-            key
+    match entry.and_modify(seven) {
+        Entry::Occupied(mut entry) => {
+            assert!(*rt; entry.key() == a && is_number(entry.get(), 7));
+            set(entry.get_mut(), IValue::from(8u8));
+            assert!(*rt; number_in(Some(entry.insert(IValue::from(1u8)))) == Some(8));
         }
-        Entry::Vacant(entry) => entry.into_key(),
+        Entry::Vacant(entry) => drop(entry),
     }
 }
 
@@ -211,11 +197,11 @@ fn four() -> IValue {
 
 /// Takes the last pair out by its entry, asks for its entry in vain, and puts it last again.
 fn enters_again(rt: &impl Abort, object: &mut IObject, d: &IString) {
-    let key = key_of(object.entry(copied(rt, d)).expect(rt, "an entry"));
-    let key = key_of(object.entry(key).expect(rt, "room"));
-    assert!(rt; holds(object, 3, 4));
+    let (key, number) = asked(rt, object, "d", copied(rt, d));
+    let (key, none) = asked(rt, object, "d", key);
+    assert!(*rt; number == Some(4) && none.is_none() && holds(object, 3, 4));
     let entry = object.entry(key).expect(rt, "room");
-    assert!(rt; is_number(entry.or_insert_with(four), 4));
+    assert!(*rt; is_number(entry.or_insert_with(four), 4));
 }
 
 /// Writes a number where there is a value.
@@ -227,9 +213,9 @@ fn put_number(place: Option<&mut IValue>, number: u8) {
 
 /// Writes beside a key that is there by its index.
 fn writes_by_index(rt: &impl Abort, object: &mut IObject) {
-    assert!(rt; object.contains_key("b"));
+    assert!(*rt; object.contains_key("b"));
     set(&mut object["b"], IValue::from(2u8));
-    assert!(rt; object.contains_key("b") && is_number(&object["b"], 2));
+    assert!(*rt; object.contains_key("b") && is_number(&object["b"], 2));
 }
 
 /// Finds and writes what is there in a full object.
@@ -239,8 +225,8 @@ fn finds(rt: &impl Abort, object: &mut IObject, a: &IString) {
     put_number(object.get_mut("b"), 2);
     put_number(object.value_at_mut(2), 3);
     writes_by_index(rt, object);
-    assert!(rt; object.reserve(0).is_ok() && object.shrink_to_fit().is_ok());
-    assert!(rt; tells_four(object, a));
+    assert!(*rt; object.reserve(0).is_ok() && object.shrink_to_fit().is_ok());
+    assert!(*rt; tells_four(object, a));
 }
 
 /// Whether a full object tells this key and four pairs.
@@ -254,9 +240,9 @@ fn tells_four(object: &IObject, a: &IString) -> bool {
 
 /// Puts another pair into the room of the last one, and takes it out.
 fn fills_room(rt: &impl Abort, object: &mut IObject, e: &IString) {
-    assert!(rt; holds(object, 3, 4) && object.reserve(1).is_ok());
-    assert!(rt; is_granted(refused_entry(object, copied(rt, e), 5)));
-    assert!(rt; number_in(object.shift_remove(e)) == Some(5));
+    assert!(*rt; holds(object, 3, 4) && object.reserve(1).is_ok());
+    assert!(*rt; is_granted(refused_entry(object, copied(rt, e), 5)));
+    assert!(*rt; number_in(object.shift_remove(e)) == Some(5));
 }
 
 /// Keeps each pair but that of `e`.
@@ -268,17 +254,17 @@ fn keeps(key: &IString, _value: &mut IValue) -> bool {
 fn changes(rt: &impl Abort, object: &mut IObject, e: &IString) {
     let (key, value) = object.remove_entry("d").expect(rt, "a pair");
     fills_room(rt, object, e);
-    assert!(rt; is_granted(refused_entry(object, copied(rt, e), 5)));
+    assert!(*rt; is_granted(refused_entry(object, copied(rt, e), 5)));
     object.retain(keeps);
     enters(rt, object, key, value);
-    assert!(rt; holds(object, 4, 4) && number_in(object.remove(e)).is_none());
+    assert!(*rt; holds(object, 4, 4) && number_in(object.remove(e)).is_none());
 }
 
 /// Takes all pairs out of an object that has one, and puts that in again.
 fn refills(rt: &impl Abort, object: &mut IObject, a: &IString) {
     object.clear();
-    assert!(rt; object.is_empty() && object.capacity() == 1);
-    assert!(rt; is_granted(refused_entry(object, copied(rt, a), 1)));
+    assert!(*rt; object.is_empty() && object.capacity() == 1);
+    assert!(*rt; is_granted(refused_entry(object, copied(rt, a), 1)));
 }
 
 /// Puts a pair into an object by its entry.
@@ -300,9 +286,9 @@ fn is_first(pair: Option<(IString, IValue)>) -> bool {
 /// Adds a pair that is there, and gives the pairs out.
 fn gives_out(rt: &impl Abort, mut object: IObject, first: IObject) {
     object.extend(first).expect(rt, "a pair");
-    assert!(rt; holds(&object, 4, 4));
+    assert!(*rt; holds(&object, 4, 4));
     let mut pairs = object.into_iter();
-    assert!(rt; is_first(pairs.next()) && pairs.len() == 3);
+    assert!(*rt; is_first(pairs.next()) && pairs.len() == 3);
     drop(pairs);
 }
 
@@ -320,7 +306,7 @@ fn objects(rt: &impl Abort, alloc: Global, rounds: u32) {
         changes(rt, &mut object, &e);
         enters_again(rt, &mut object, &d);
         refills(rt, &mut first, &a);
-        assert!(rt; are_same(&object, &same) && object != first);
+        assert!(*rt; are_same(&object, &same) && object != first);
     }
     drop(a);
     drop(d);
@@ -338,7 +324,7 @@ fn put_three<P: PairStore<u8>>(rt: &impl Abort, alloc: Global, store: &mut P) {
 
 /// Puts a pair that is not there last, where there is room.
 fn puts_last<P: PairStore<u8>>(rt: &impl Abort, store: &mut P, key: IString, value: u8) {
-    assert!(rt; store.position(key.as_str()).is_none() && store.len() < store.capacity());
+    assert!(*rt; store.position(key.as_str()).is_none() && store.len() < store.capacity());
     store.push_new(key, value);
 }
 
@@ -364,13 +350,18 @@ fn begins_so<P: PairStore<u8>>(store: &P, keys: &[&str]) -> bool {
     true
 }
 
+/// The keys of three pairs, and those after a turn.
+static KEYS: [&str; 3] = ["a", "b", "c"];
+
+static TURNED: [&str; 3] = ["b", "a", "c"];
+
 /// Two turns of three pairs bring each of them back to its place.
 fn turns_twice<P: PairStore<u8>>(rt: &impl Abort, store: &mut P, rounds: u32) {
     for _ in 0..rounds {
         turns(rt, store);
-        assert!(rt; begins_so(store, &["b", "a", "c"]));
+        assert!(*rt; begins_so(store, &TURNED));
         turns(rt, store);
-        assert!(rt; begins_so(store, &["a", "b", "c"]) && store.shrink_to_fit().is_ok());
+        assert!(*rt; begins_so(store, &KEYS) && store.shrink_to_fit().is_ok());
     }
 }
 
@@ -394,39 +385,40 @@ fn tables(rt: &impl Abort, alloc: Global, rounds: u32) {
     let mut table = granted!(rt; ReserveError::Memory; FixedTable::with_capacity(alloc, 3));
     put_three(rt, alloc, &mut table);
     turns_twice(rt, &mut table, rounds);
-    assert!(rt; located(&table, "b") == Some(1) && located(&table, "d").is_none());
+    assert!(*rt; located(&table, "b") == Some(1) && located(&table, "d").is_none());
     let pairs = table.into_pairs();
-    assert!(rt; pairs.len() == 3);
+    assert!(*rt; pairs.len() == 3);
     drop(pairs);
 }
 
 /// Takes a value out and puts it back.
 fn takes(rt: &impl Abort, value: &mut IValue) {
     let taken = value.take();
-    assert!(rt; value.is_null() && taken.type_() == ValueType::Object);
+    assert!(*rt; value.is_null() && taken.type_() == ValueType::Object);
     let object = taken.into_object().expect(rt, "an object");
     set(value, IValue::from(object));
 }
 
 /// Opens a value in each way, and puts it together again.
 fn takes_apart(rt: &impl Abort, value: &mut IValue) {
-    assert!(rt;
+    assert!(*rt;
         matches!(value.destructure_ref(), DestructuredRef::Object(object) if object.len() == 4)
     );
     if let DestructuredMut::Object(object) = value.destructure_mut() {
         put_number(object.get_mut("c"), 3);
     }
-    if let Destructured::Object(object) = value.take().destructure() {
-        set(value, IValue::from(object));
+    match value.take().destructure() {
+        Destructured::Object(object) => set(value, IValue::from(object)),
+        other => drop(other),
     }
 }
 
 /// Finds and writes what is inside.
 fn opens(rt: &impl Abort, value: &mut IValue) {
     let found = resolve(value, "/a").expect(rt, "a value");
-    assert!(rt; found.and_then(IValue::to_u32) == Some(1));
+    assert!(*rt; matches!(found, Some(value) if is_number(value, 1)));
     put_number(resolve_mut(value, "/d").expect(rt, "a pointer"), 4);
-    assert!(rt; value.as_object().is_some() && value.len() == Some(4));
+    assert!(*rt; value.as_object().is_some() && value.len() == Some(4));
 }
 
 fn values(rt: &impl Abort, alloc: Global, rounds: u32) {
@@ -436,7 +428,7 @@ fn values(rt: &impl Abort, alloc: Global, rounds: u32) {
         takes(rt, &mut value);
         takes_apart(rt, &mut value);
         opens(rt, &mut value);
-        assert!(rt; are_same(&value, &same));
+        assert!(*rt; are_same(&value, &same));
     }
     drop(value);
     drop(same);
@@ -445,9 +437,9 @@ fn values(rt: &impl Abort, alloc: Global, rounds: u32) {
 fn reports(rt: &impl Abort, alloc: Global, rounds: u32) {
     let mut errors = granted!(rt; MemorySink::new(alloc, 4, 21_000));
     for _ in 0..rounds {
-        assert!(rt; errors.failures() == 0);
-        assert!(rt; report(&Err(CompactError::Memory), &mut errors) == 3);
-        assert!(rt; errors.bytes().ends_with(b"ijson: out of memory\n"));
+        assert!(*rt; errors.failures() == 0);
+        assert!(*rt; report(&Err(CompactError::Memory), &mut errors) == 3);
+        assert!(*rt; errors.bytes().ends_with(b"ijson: out of memory\n"));
     }
 }
 
@@ -462,7 +454,7 @@ fn all(rt: &impl Abort, alloc: Global, rounds: u32) {
     reports(rt, alloc, rounds);
     // The request behind the last of them.
     let last = spelled(rt, alloc, "18446744073709551616");
-    assert!(rt; last.to_u64().is_none());
+    assert!(*rt; last.to_u64().is_none());
     drop(last);
 }
 

@@ -47,18 +47,27 @@ fn fill<P: PairStore<u16>>(rt: &impl Abort, alloc: Global, store: &mut P, count:
         let key = numbered(rt, alloc, number);
         if store.position(key.as_str()).is_none() && store.len() < store.capacity() {
             store.push_new(key, number);
+        } else {
+            drop(key);
         }
     }
 }
 
-/// Whether the pair of a number is there.
-fn has_pair<P: PairStore<u16>>(rt: &impl Abort, alloc: Global, store: &P, number: u16) -> bool {
-    let (at, wanted) = (usize::from(number), numbered(rt, alloc, number));
+/// Whether a store has this key at a position and finds it there, with a number beside it.
+fn has_at<P: PairStore<u16>>(store: &P, at: usize, wanted: &IString, number: u16) -> bool {
     if at >= store.len() || store.position(wanted.as_str()) != Some(at) {
         return false;
     }
     let (key, value) = store.pair(at);
-    *key == wanted && *value == number
+    *key == *wanted && *value == number
+}
+
+/// Whether the pair of a number is there.
+fn has_pair<P: PairStore<u16>>(rt: &impl Abort, alloc: Global, store: &P, number: u16) -> bool {
+    let wanted = numbered(rt, alloc, number);
+    let is_so = has_at(store, usize::from(number), &wanted, number);
+    drop(wanted);
+    is_so
 }
 
 /// Whether a store has so many pairs and this capacity. Of more than nine pairs it looks at the last and ten others.
@@ -89,10 +98,10 @@ fn grows<P: PairStore<u16>>(
 ) {
     if let Err(why) = store.reserve(1) {
         let same = holds(rt, alloc, store, count, usize::from(count));
-        assert!(rt; why == ReserveError::Memory && same);
-        assert!(rt; store.reserve(1).is_ok());
+        assert!(*rt; why == ReserveError::Memory && same);
+        assert!(*rt; store.reserve(1).is_ok());
     }
-    assert!(rt; holds(rt, alloc, store, count, capacity));
+    assert!(*rt; holds(rt, alloc, store, count, capacity));
 }
 
 /// The same of giving the room beyond the pairs back.
@@ -105,44 +114,39 @@ fn shrinks<P: PairStore<u16>>(
 ) {
     if let Err(why) = store.shrink_to_fit() {
         let same = holds(rt, alloc, store, count, capacity);
-        assert!(rt; why == ReserveError::Memory && same);
-        assert!(rt; store.shrink_to_fit().is_ok());
+        assert!(*rt; why == ReserveError::Memory && same);
+        assert!(*rt; store.shrink_to_fit().is_ok());
     }
-    assert!(rt; holds(rt, alloc, store, count, usize::from(count)));
+    assert!(*rt; holds(rt, alloc, store, count, usize::from(count)));
 }
 
 /// Asserts that a key that a full store has takes no memory.
 fn replaces<S: Store>(rt: &impl Abort, alloc: Global, store: &mut S, count: u16) {
     let replaced = store.put(numbered(rt, alloc, 0), 0);
-    assert!(rt; replaced.expect(rt, "no request for memory") == Some(0));
-    assert!(rt; holds(rt, alloc, store, count, usize::from(count)));
+    assert!(*rt; replaced.expect(rt, "no request for memory") == Some(0));
+    assert!(*rt; holds(rt, alloc, store, count, usize::from(count)));
 }
 
-/// Puts the pair that comes next, and that a full store refused, again: it came back, and is taken now.
-fn puts_again<S: Store>(
-    rt: &impl Abort,
-    alloc: Global,
-    store: &mut S,
-    count: u16,
-    refused: RefusedPair<u16>,
-) {
-    let RefusedPair { key, value, why } = refused;
-    let next = numbered(rt, alloc, count);
-    assert!(rt; why == ReserveError::Memory && key == next && value == count);
-    drop(next);
-    assert!(rt; holds(rt, alloc, store, count, usize::from(count)));
-    let before = store.put(key, value);
-    assert!(rt; before.expect(rt, "room").is_none());
+/// Whether a key is that of this number.
+fn is_key_of(rt: &impl Abort, alloc: Global, key: &IString, number: u16) -> bool {
+    let wanted = numbered(rt, alloc, number);
+    let is_so = *key == wanted;
+    drop(wanted);
+    is_so
 }
 
 /// Puts the next pair into a full store: where it is refused, it comes back, and is taken when it is put again.
 fn puts<S: Store>(rt: &impl Abort, alloc: Global, store: &mut S, count: u16) {
     let full = usize::from(count);
     if let Err(refused) = store.put(numbered(rt, alloc, count), count) {
-        puts_again(rt, alloc, store, count, refused);
+        let RefusedPair { key, value, why } = refused;
+        assert!(*rt; why == ReserveError::Memory && value == count);
+        assert!(*rt; is_key_of(rt, alloc, &key, count) && holds(rt, alloc, store, count, full));
+        let before = store.put(key, value);
+        assert!(*rt; before.expect(rt, "room").is_none());
     }
-    assert!(rt; store.capacity() == 2 * full && store.len() == full + 1);
-    assert!(rt; has_pair(rt, alloc, store, 0) && has_pair(rt, alloc, store, count));
+    assert!(*rt; store.capacity() == 2 * full && store.len() == full + 1);
+    assert!(*rt; has_pair(rt, alloc, store, 0) && has_pair(rt, alloc, store, count));
 }
 
 /// An empty store with room for so many pairs, which is granted when it is asked for again.
@@ -150,7 +154,7 @@ fn roomy<S: Store>(rt: &impl Abort, alloc: Global, capacity: usize) -> S {
     match S::with_room(alloc, capacity) {
         Ok(store) => store,
         Err(why) => {
-            assert!(rt; why == ReserveError::Memory);
+            assert!(*rt; why == ReserveError::Memory);
             S::with_room(alloc, capacity).expect(rt, "room")
         }
     }
@@ -170,15 +174,16 @@ fn bears_refusals<S: Store>(rt: &impl Abort, alloc: Global) {
     replaces(rt, alloc, &mut store, 4);
     puts(rt, alloc, &mut store, 4);
     store.clear();
-    assert!(rt; store.shrink_to_fit().is_ok() && holds(rt, alloc, &store, 0, 0));
+    assert!(*rt; store.shrink_to_fit().is_ok() && holds(rt, alloc, &store, 0, 0));
     drop(store);
 }
 
 #[test]
 fn stores_of_few_pairs(rt: HostRuntime) {
-    bears_refusals::<LinearPairs<u16>>(&rt, rt.alloc());
-    bears_refusals::<FixedTable<u16>>(&rt, rt.alloc());
-    bears_refusals::<Table<u16, AlwaysZero>>(&rt, rt.alloc());
+    let alloc = rt.alloc();
+    bears_refusals::<LinearPairs<u16>>(&rt, alloc);
+    bears_refusals::<FixedTable<u16>>(&rt, alloc);
+    bears_refusals::<Table<u16, AlwaysZero>>(&rt, alloc);
 }
 
 /// What holds of a store of so many pairs, whichever request is refused.
@@ -194,11 +199,12 @@ fn bears_refusals_of_many<S: Store>(rt: &impl Abort, alloc: Global, count: u16) 
 
 #[test]
 fn stores_of_many_pairs(rt: HostRuntime) {
-    bears_refusals_of_many::<LinearPairs<u16>>(&rt, rt.alloc(), 2_000);
-    bears_refusals_of_many::<FixedTable<u16>>(&rt, rt.alloc(), 40);
-    bears_refusals_of_many::<FixedTable<u16>>(&rt, rt.alloc(), 100);
-    bears_refusals_of_many::<FixedTable<u16>>(&rt, rt.alloc(), 10_000);
-    bears_refusals_of_many::<Table<u16, AlwaysZero>>(&rt, rt.alloc(), 200);
+    let alloc = rt.alloc();
+    bears_refusals_of_many::<LinearPairs<u16>>(&rt, alloc, 2_000);
+    bears_refusals_of_many::<FixedTable<u16>>(&rt, alloc, 40);
+    bears_refusals_of_many::<FixedTable<u16>>(&rt, alloc, 100);
+    bears_refusals_of_many::<FixedTable<u16>>(&rt, alloc, 10_000);
+    bears_refusals_of_many::<Table<u16, AlwaysZero>>(&rt, alloc, 200);
 }
 
 /// A list of so many pairs, and the first of them once more.
@@ -222,21 +228,22 @@ fn takes_list<H: KeyHash>(rt: &impl Abort, alloc: Global, count: u16) {
     let table: Table<u16, H> = match Table::from_pairs(alloc, listed(rt, alloc, count)) {
         Ok(table) => table,
         Err(why) => {
-            assert!(rt; why == ReserveError::Memory);
+            assert!(*rt; why == ReserveError::Memory);
             Table::from_pairs(alloc, listed(rt, alloc, count)).expect(rt, "a table")
         }
     };
-    assert!(rt; holds(rt, alloc, &table, count, usize::from(count) + 1));
+    assert!(*rt; holds(rt, alloc, &table, count, usize::from(count) + 1));
     drop(table);
 }
 
 #[test]
 fn lists_of_pairs(rt: HostRuntime) {
-    takes_list::<AlwaysZero>(&rt, rt.alloc(), 5);
-    takes_list::<FixedHash>(&rt, rt.alloc(), 5);
-    takes_list::<FixedHash>(&rt, rt.alloc(), 40);
-    takes_list::<FixedHash>(&rt, rt.alloc(), 10_000);
-    takes_list::<AlwaysZero>(&rt, rt.alloc(), 300);
+    let alloc = rt.alloc();
+    takes_list::<AlwaysZero>(&rt, alloc, 5);
+    takes_list::<FixedHash>(&rt, alloc, 5);
+    takes_list::<FixedHash>(&rt, alloc, 40);
+    takes_list::<FixedHash>(&rt, alloc, 10_000);
+    takes_list::<AlwaysZero>(&rt, alloc, 300);
 }
 
 /// A command to a store of four pairs.
@@ -277,11 +284,11 @@ fn reply<S: Store>(
     let mut replies = match run(alloc, store, ordered(rt, alloc, order)) {
         Ok(replies) => replies,
         Err(AllocError) => {
-            assert!(rt; holds(rt, alloc, store, 4, capacity));
+            assert!(*rt; holds(rt, alloc, store, 4, capacity));
             run(alloc, store, ordered(rt, alloc, order)).expect(rt, "the replies")
         }
     };
-    assert!(rt; replies.len() == 1);
+    assert!(*rt; replies.len() == 1);
     replies.pop().expect(rt, "a reply")
 }
 
@@ -299,7 +306,7 @@ fn is_told<S: Store>(
         Reply::Added => count == 5 && holds(rt, alloc, store, count, capacity),
         Reply::Done => count == 4 && holds(rt, alloc, store, count, capacity),
         Reply::Refused(key, 4, ReserveError::Memory) => {
-            count == 5 && *key == numbered(rt, alloc, 4) && holds(rt, alloc, store, 4, before)
+            count == 5 && is_key_of(rt, alloc, key, 4) && holds(rt, alloc, store, 4, before)
         }
         Reply::NotDone(ReserveError::Memory) => count == 4 && holds(rt, alloc, store, 4, before),
         _ => false,
@@ -312,7 +319,7 @@ fn replies_rightly<S: Store>(rt: &impl Abort, alloc: Global) {
         let mut store: S = roomy(rt, alloc, before);
         fill(rt, alloc, &mut store, 4);
         let reply = reply(rt, alloc, &mut store, order, before);
-        assert!(rt; is_told(rt, alloc, &reply, &store, before, count, capacity));
+        assert!(*rt; is_told(rt, alloc, &reply, &store, before, count, capacity));
         drop(reply);
         drop(store);
     }
@@ -320,6 +327,7 @@ fn replies_rightly<S: Store>(rt: &impl Abort, alloc: Global) {
 
 #[test]
 fn a_list_of_replies(rt: HostRuntime) {
-    replies_rightly::<LinearPairs<u16>>(&rt, rt.alloc());
-    replies_rightly::<FixedTable<u16>>(&rt, rt.alloc());
+    let alloc = rt.alloc();
+    replies_rightly::<LinearPairs<u16>>(&rt, alloc);
+    replies_rightly::<FixedTable<u16>>(&rt, alloc);
 }

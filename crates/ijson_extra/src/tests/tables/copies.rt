@@ -45,11 +45,11 @@ fn is_copied<H: KeyHash>(
     count: u16,
     capacity: usize,
 ) {
-    assert!(rt; holds(rt, alloc, table, count, capacity));
+    assert!(*rt; holds(rt, alloc, table, count, capacity));
     let pairs = copied(rt, alloc, table.as_slice());
     let copy = table.with_same_keys(alloc, pairs).expect(rt, "a copy");
-    assert!(rt; holds(rt, alloc, &copy, count, usize::from(count)));
-    assert!(rt; copy.as_slice() == table.as_slice());
+    let is_full = holds(rt, alloc, &copy, count, usize::from(count));
+    assert!(*rt; is_full && copy.as_slice() == table.as_slice());
     drop(copy);
 }
 
@@ -79,8 +79,9 @@ static GROWTHS: [(u16, usize); 7] = [
 
 #[test]
 fn tables_and_their_copies_keep_the_pairs(rt: HostRuntime) {
+    let alloc = rt.alloc();
     for (count, capacity) in &GROWTHS {
-        keeps_its_pairs::<AlwaysZero>(&rt, rt.alloc(), *count, *capacity);
-        keeps_its_pairs::<FixedHash>(&rt, rt.alloc(), *count, *capacity);
+        keeps_its_pairs::<AlwaysZero>(&rt, alloc, *count, *capacity);
+        keeps_its_pairs::<FixedHash>(&rt, alloc, *count, *capacity);
     }
 }

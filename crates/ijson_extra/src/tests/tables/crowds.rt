@@ -102,19 +102,20 @@ fn put_one_by_one(rt: &impl Abort, alloc: Global, chosen: Chosen) -> LinearPairs
 
 /// Whether a table finds each of its keys where it stands.
 fn finds_all<H: KeyHash>(table: &Table<u64, H>) -> bool {
-    table
-        .as_slice()
-        .iter()
-        .enumerate()
-        .all(|(at, pair)| table.index_of(pair.0.as_str()) == Some(at))
+    for (at, pair) in table.as_slice().iter().enumerate() {
+        if table.index_of(pair.0.as_str()) != Some(at) {
+            return false;
+        }
+    }
+    true
 }
 
 /// Asserts what a table of the list holds.
 fn holds<H: KeyHash>(rt: &impl Abort, alloc: Global, table: &Table<u64, H>, chosen: Chosen) {
     let store = put_one_by_one(rt, alloc, chosen);
-    assert!(rt; table.as_slice() == store.as_slice());
+    assert!(*rt; table.as_slice() == store.as_slice());
     drop(store);
-    assert!(rt; table.capacity() == COUNT && finds_all(table));
+    assert!(*rt; table.capacity() == COUNT && finds_all(table));
 }
 
 /// Asserts what a table of the list holds, and that it takes looks between these bounds.
@@ -125,7 +126,7 @@ fn is_made<H: KeyHash>(rt: &impl Abort, alloc: Global, chosen: Chosen, least: u1
     let table = made.expect(rt, "a table");
     holds(rt, alloc, &table, chosen);
     drop(table);
-    assert!(rt; least < looks.count() && looks.count() <= most);
+    assert!(*rt; least < looks.count() && looks.count() <= most);
 }
 
 #[test]
@@ -136,9 +137,10 @@ fn keys_that_nobody_chose_take_few_looks(rt: HostRuntime) {
 /// One by one, each of these lists takes a million looks and writes, or more.
 #[test]
 fn chosen_keys_are_sorted(rt: HostRuntime) {
-    is_made::<Multiples>(&rt, rt.alloc(), Chosen::Digits, LEAST, MOST);
-    is_made::<FixedHash>(&rt, rt.alloc(), Chosen::Twins, LEAST, MOST);
-    is_made::<FixedHash>(&rt, rt.alloc(), Chosen::TwinsAgain, LEAST, MOST);
-    is_made::<FixedHash>(&rt, rt.alloc(), Chosen::TwinsInARow, LEAST, MOST);
-    is_made::<ByLength>(&rt, rt.alloc(), Chosen::Lengths, LEAST, MOST);
+    let alloc = rt.alloc();
+    is_made::<Multiples>(&rt, alloc, Chosen::Digits, LEAST, MOST);
+    is_made::<FixedHash>(&rt, alloc, Chosen::Twins, LEAST, MOST);
+    is_made::<FixedHash>(&rt, alloc, Chosen::TwinsAgain, LEAST, MOST);
+    is_made::<FixedHash>(&rt, alloc, Chosen::TwinsInARow, LEAST, MOST);
+    is_made::<ByLength>(&rt, alloc, Chosen::Lengths, LEAST, MOST);
 }

@@ -47,14 +47,18 @@ fn next(state: u64) -> u64 {
         .wrapping_add(1_442_695_040_888_963_407)
 }
 
+/// The key that a number stands for.
+fn key_of(rt: &impl Abort, alloc: Global, number: u64) -> IString {
+    key(rt, alloc, KEYS[(number >> 33) as usize % KEYS.len()])
+}
+
 /// The command that a number stands for.
 fn command(rt: &impl Abort, alloc: Global, number: u64) -> Command<u64> {
-    let key = key(rt, alloc, KEYS[(number >> 33) as usize % KEYS.len()]);
     match (number >> 40) % 64 {
-        0..=35 => Command::Insert(key, number),
-        36..=43 => Command::Find(key),
-        44..=49 => Command::Remove(key),
-        50..=55 => Command::ShiftRemove(key),
+        0..=35 => Command::Insert(key_of(rt, alloc, number), number),
+        36..=43 => Command::Find(key_of(rt, alloc, number)),
+        44..=49 => Command::Remove(key_of(rt, alloc, number)),
+        50..=55 => Command::ShiftRemove(key_of(rt, alloc, number)),
         56..=59 => Command::Reserve((number >> 20) as usize % 12),
         60..=61 => Command::ShrinkToFit,
         _ => Command::Clear,
@@ -164,7 +168,11 @@ fn answer(
 ) -> Reply<u64> {
     match command {
         Command::Insert(key, value) => inserted(table, key, value),
-        Command::Find(key) => got(table, key.as_str()),
+        Command::Find(key) => {
+            let reply = got(table, key.as_str());
+            drop(key);
+            reply
+        }
         other => reply(rt, alloc, table, other),
     }
 }

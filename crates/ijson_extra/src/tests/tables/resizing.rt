@@ -47,15 +47,16 @@ fn key_of(rt: &impl Abort, alloc: Global, number: u16) -> IString {
         return letters;
     }
     let longer = format!(in alloc; "{}a", letters.as_str()).expect(rt, "a text");
+    drop(letters);
     key(rt, alloc, longer.as_str())
 }
 
 /// Asserts that a table holds so many pairs, and no other.
 fn holds_each<H: KeyHash>(rt: &impl Abort, alloc: Global, table: &Table<u16, H>, count: u16) {
-    assert!(rt; table.len() == usize::from(count));
+    assert!(*rt; table.len() == usize::from(count));
     for number in 0..count {
         let key = key_of(rt, alloc, number);
-        assert!(rt; table.get(key.as_str()) == Some(&number));
+        assert!(*rt; table.get(key.as_str()) == Some(&number));
         drop(key);
     }
 }
@@ -70,7 +71,7 @@ fn table_of<H: KeyHash>(
     let mut table = Table::with_capacity(alloc, capacity).expect(rt, "a table");
     for number in 0..count {
         let before = table.insert(key_of(rt, alloc, number), number);
-        assert!(rt; before.expect(rt, "room").is_none());
+        assert!(*rt; before.expect(rt, "room").is_none());
     }
     table
 }
@@ -96,20 +97,21 @@ fn shrink<H: KeyHash>(rt: &impl Abort, table: &mut Table<u16, H>) -> u128 {
 fn is_resized<H: KeyHash>(rt: &impl Abort, alloc: Global, resizing: &Resizing) {
     let (count, capacity, of_growth, of_shrinking) = *resizing;
     let mut table: Table<u16, H> = table_of(rt, alloc, count, capacity);
-    assert!(rt; grow(rt, &mut table) == of_growth);
-    assert!(rt; Some(table.capacity()) == capacity.checked_mul(2));
+    assert!(*rt; grow(rt, &mut table) == of_growth);
+    assert!(*rt; Some(table.capacity()) == capacity.checked_mul(2));
     holds_each(rt, alloc, &table, count);
-    assert!(rt; shrink(rt, &mut table) == of_shrinking && table.capacity() == table.len());
+    assert!(*rt; shrink(rt, &mut table) == of_shrinking && table.capacity() == table.len());
     holds_each(rt, alloc, &table, count);
     drop(table);
 }
 
 #[test]
 fn growth_and_shrinking_take_few_steps(rt: HostRuntime) {
+    let alloc = rt.alloc();
     for resizing in &RESIZINGS_OF_ONE_HOME {
-        is_resized::<AlwaysZero>(&rt, rt.alloc(), resizing);
+        is_resized::<AlwaysZero>(&rt, alloc, resizing);
     }
     // of two homes, the second comes first among the new slots, so what sorting compares is more: 1,000 entries to see that they are not
     // in order, 4,932 for each half, and 1,000 to put the second half before the first
-    is_resized::<ByParity>(&rt, rt.alloc(), &(2_000, 2_000, 76_124, 76_124));
+    is_resized::<ByParity>(&rt, alloc, &(2_000, 2_000, 76_124, 76_124));
 }

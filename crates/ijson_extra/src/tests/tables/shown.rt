@@ -2,7 +2,7 @@
 
 use super::Step::{Clear, Find, Put, Remove, Reserve, ShiftRemove, Shrink};
 use super::{Step, command, insert_all};
-use crate::tests::key;
+use crate::tests::{is_shown, key};
 use ijson_table::{
     FixedHash, FixedTable, LinearPairs, PairStore, RefusedPair, Reply, ReserveError, Seen,
 };
@@ -13,7 +13,7 @@ use std::process::Abort;
 /// Asserts what is printed and what is shown of an error.
 fn tells<T: Debug + Display>(rt: &impl Abort, alloc: Global, error: &T, want: &str) {
     let told = format!(in alloc; "{error}|{error:?}").expect(rt, "a text");
-    assert!(rt; told.as_str() == want);
+    assert!(*rt; told.as_str() == want);
 }
 
 /// The pair of a and 1, which was refused for this reason.
@@ -47,14 +47,8 @@ fn errors_tell_the_reason(rt: HostRuntime) {
     }
 }
 
-/// Asserts what is shown of a value.
-fn shows<T: Debug>(rt: &impl Abort, alloc: Global, value: &T, want: &str) {
-    let shown = format!(in alloc; "{value:?}").expect(rt, "a text");
-    assert!(rt; shown.as_str() == want);
-}
-
 /// What a look tells of a resident.
-const RESIDENT: Seen = Seen::Resident {
+static RESIDENT: Seen = Seen::Resident {
     at: 1,
     distance: 2,
     same: true,
@@ -74,9 +68,9 @@ static COMMANDS: [(Step, &str); 7] = [
 #[test]
 fn looks_are_shown(rt: HostRuntime) {
     let alloc = rt.alloc();
-    shows(&rt, alloc, &FixedHash, "FixedHash");
-    shows(&rt, alloc, &Seen::Empty, "Empty");
-    shows(
+    is_shown(&rt, alloc, &FixedHash, "FixedHash");
+    is_shown(&rt, alloc, &Seen::Empty, "Empty");
+    is_shown(
         &rt,
         alloc,
         &RESIDENT,
@@ -89,21 +83,20 @@ fn commands_and_a_refusal_are_shown(rt: HostRuntime) {
     let alloc = rt.alloc();
     for (step, want) in &COMMANDS {
         let command = command(&rt, alloc, *step);
-        shows(&rt, alloc, &command, want);
+        is_shown(&rt, alloc, &command, want);
         drop(command);
     }
     let back = Reply::Refused(key(&rt, alloc, "a"), 1u64, ReserveError::Memory);
-    shows(&rt, alloc, &back, "Refused(\"a\", 1, Memory)");
+    is_shown(&rt, alloc, &back, "Refused(\"a\", 1, Memory)");
     drop(back);
 }
 
-/// What is shown of a store with one pair.
-fn shown<P: PairStore<u64> + Debug + Drop>(rt: &impl Abort, alloc: Global) -> String {
+/// Asserts what is shown of a store with the pair of a and 0.
+fn is_shown_so<P: PairStore<u64> + Debug + Drop>(rt: &impl Abort, alloc: Global, want: &str) {
     let mut store = P::new(alloc);
     insert_all(rt, alloc, &mut store, &["a"]);
-    let shown = format!(in alloc; "{store:?}").expect(rt, "a text");
+    is_shown(rt, alloc, &store, want);
     drop(store);
-    shown
 }
 
 /// What is shown of a table with the pair of a and 0: the home of a is 2 of 5 slots, and a slot shows the position plus one, or 0, and
@@ -121,8 +114,7 @@ static TABLE_SHOWN: &str = concat!(
 #[test]
 fn stores_are_shown(rt: HostRuntime) {
     let alloc = rt.alloc();
-    let list = shown::<LinearPairs<u64>>(&rt, alloc);
-    assert!(rt; list.as_str() == "LinearPairs { pairs: [(\"a\", 0)] }");
-    let table = shown::<FixedTable<u64>>(&rt, alloc);
-    assert!(rt; table.as_str() == TABLE_SHOWN);
+    let list = "LinearPairs { pairs: [(\"a\", 0)] }";
+    is_shown_so::<LinearPairs<u64>>(&rt, alloc, list);
+    is_shown_so::<FixedTable<u64>>(&rt, alloc, TABLE_SHOWN);
 }

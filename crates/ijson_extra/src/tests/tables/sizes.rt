@@ -27,9 +27,10 @@ fn has_numbers(table: &FixedTable<u64>) -> bool {
 
 #[test]
 fn a_table_takes_ten_thousand_pairs(rt: HostRuntime) {
-    let mut table = FixedTable::new(rt.alloc());
+    let alloc = rt.alloc();
+    let mut table = FixedTable::new(alloc);
     for number in 0..PAIRS {
-        assert!(rt; takes(&rt, rt.alloc(), &mut table, number));
+        assert!(rt; takes(&rt, alloc, &mut table, number));
     }
     assert!(rt; has_numbers(&table) && table.capacity() == 16_384);
     table.shrink_to_fit().expect(&rt, "less room");
@@ -41,12 +42,12 @@ fn a_table_takes_ten_thousand_pairs(rt: HostRuntime) {
 fn grows_far<S: Store>(rt: &impl Abort, alloc: Global) {
     let mut store = S::new(alloc);
     store.reserve(100_000).expect(rt, "room");
-    assert!(rt; store.capacity() == 100_000);
+    assert!(*rt; store.capacity() == 100_000);
     store.shrink_to_fit().expect(rt, "less room");
-    assert!(rt; store.capacity() == 0);
+    assert!(*rt; store.capacity() == 0);
     drop(store);
     let roomy = S::with_room(alloc, 100_000).expect(rt, "room");
-    assert!(rt; roomy.capacity() == 100_000);
+    assert!(*rt; roomy.capacity() == 100_000);
     drop(roomy);
 }
 
@@ -72,7 +73,9 @@ fn clearings(rt: &impl Abort, alloc: Global, count: usize) -> Vec<Command<u64>> 
 fn a_run_of_two_million_commands(rt: HostRuntime) {
     let alloc = rt.alloc();
     let commands = clearings(&rt, alloc, 2_000_000);
-    let replies = run(alloc, &mut LinearPairs::new(alloc), commands).expect(&rt, "the replies");
+    let mut store = LinearPairs::new(alloc);
+    let replies = run(alloc, &mut store, commands).expect(&rt, "the replies");
+    drop(store);
     assert!(rt; replies.len() == 2_000_000);
     drop(replies);
 }

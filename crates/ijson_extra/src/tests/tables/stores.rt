@@ -1,8 +1,8 @@
 //! What each store does, the same for all of them.
 
 use super::Step::{Clear, Find, Put, Remove, Reserve, ShiftRemove, Shrink};
-use super::{AlwaysZero, ByLength, Step, command, has_keys, insert_all, replies_so};
-use crate::tests::key;
+use super::{AlwaysZero, ByLength, Step, are_pairs, command, insert_all, replies_so};
+use crate::tests::{is_shown, key};
 use ijson_table::{Command, FixedTable, LinearPairs, PairStore, Places, ReserveError, Table, run};
 use std::alloc::Global;
 use std::process::Abort;
@@ -81,8 +81,8 @@ static STEPS: [(Step, &str, usize, usize); 57] = [
 fn follows_the_steps<P: PairStore<u64> + Drop>(rt: &impl Abort, alloc: Global) {
     let mut store = P::new(alloc);
     for (step, want, len, capacity) in &STEPS {
-        assert!(rt; replies_so(rt, alloc, &mut store, *step, want));
-        assert!(rt; store.len() == *len && store.capacity() == *capacity);
+        replies_so(rt, alloc, &mut store, *step, want);
+        assert!(*rt; store.len() == *len && store.capacity() == *capacity);
     }
     drop(store);
 }
@@ -158,12 +158,12 @@ fn writes<P: PairStore<u64>>(rt: &impl Abort, store: &mut P) {
     }
     if store.len() > 1 {
         let (key, value) = store.pair_mut(1);
-        assert!(rt; key.eq_str("b"));
+        assert!(*rt; key.eq_str("b"));
         *value = 8;
     }
     if store.len() > 2 {
         let (key, value) = store.pair(2);
-        assert!(rt; key.eq_str("c") && *value == 2);
+        assert!(*rt; key.eq_str("c") && *value == 2);
     }
 }
 
@@ -173,22 +173,23 @@ fn lends<P: PairStore<u64> + Drop>(rt: &impl Abort, alloc: Global) {
     insert_all(rt, alloc, &mut store, &["a", "b", "c"]);
     writes(rt, &mut store);
     let pairs = store.into_pairs();
-    assert!(rt; has_keys(&pairs, &["a", "b", "c"]));
-    assert!(rt; pairs.iter().map(|pair| pair.1).eq([7, 8, 2]));
+    assert!(*rt; are_pairs(&pairs, &[("a", 7), ("b", 8), ("c", 2)]));
     drop(pairs);
 }
 
 #[test]
 fn each_store_lends(rt: HostRuntime) {
-    lends::<LinearPairs<u64>>(&rt, rt.alloc());
-    lends::<FixedTable<u64>>(&rt, rt.alloc());
+    let alloc = rt.alloc();
+    lends::<LinearPairs<u64>>(&rt, alloc);
+    lends::<FixedTable<u64>>(&rt, alloc);
 }
 
 #[test]
 fn a_list_shows_its_pairs(rt: HostRuntime) {
-    let mut store = LinearPairs::new(rt.alloc());
-    insert_all(&rt, rt.alloc(), &mut store, &["a", "b"]);
-    assert!(rt; has_keys(store.as_slice(), &["a", "b"]));
+    let alloc = rt.alloc();
+    let mut store = LinearPairs::new(alloc);
+    insert_all(&rt, alloc, &mut store, &["a", "b"]);
+    assert!(rt; are_pairs(store.as_slice(), &[("a", 0), ("b", 1)]));
     assert!(rt; store.get("b") == Some(&1) && store.get("c").is_none());
     drop(store);
 }
@@ -222,8 +223,7 @@ fn a_run_replies_to_each_command(rt: HostRuntime) {
     assert!(rt; replies.len() == RUN.len() && store.capacity() == 0);
     drop(store);
     for (reply, (_, want)) in replies.iter().zip(&RUN) {
-        let shown = format!(in alloc; "{reply:?}").expect(&rt, "a text");
-        assert!(rt; shown.as_str() == *want);
+        is_shown(&rt, alloc, reply, want);
     }
     drop(replies);
 }
