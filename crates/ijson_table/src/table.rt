@@ -212,8 +212,11 @@ impl<V: Drop, H: KeyHash> Table<V, H> {
         ensures bounded { IsCopyBounded (length self.old.store.pairs) steps.new }
     {
         let index = self.index_with_slots(self.alloc, slots_for(capacity), steps)?;
-        set_room(self.alloc, &mut self.pairs, capacity)?;
-        self.index = index;
+        if let Err(refused) = set_room(self.alloc, &mut self.pairs, capacity) {
+            drop(index);
+            return Err(refused);
+        }
+        drop(mem::replace(&mut self.index, index));
         Ok(())
     }
 

@@ -1,6 +1,6 @@
 -- Counting by different indices.
-use Rattle.std.proofs.Common.{◌≡◌, ◌≢◌, ℕ, zero, suc, ◌<◌, ◌≤◌, arith, List, length, get_or, set, true, false, eqb, refl, ap, subst, max}
-use Rattle.std.proofs.Common.{get_or-set_other}
+use Rattle.std.proofs.Common.{◌≡◌, ◌≢◌, ℕ, zero, suc, ◌+◌, ◌-◌, ◌<◌, ◌≤◌, arith, List, length, get_or, set, true, false, eqb, ap}
+use Rattle.std.proofs.Common.{max, refl, subst, get_or-set_other}
 use Rattle.std.specs.Prelude.{sum}
 use Rattle.std.proofs.lemmas.List.{length-set}
 use Rattle.std.proofs.lemmas.List.Sums.{sum_by-set}
@@ -45,3 +45,11 @@ greatest-at (suc k) f s h = elim (eqb s k) as (λ b. eqb s k ≡ b → f s ≤ m
   | true ↦ λ e. let same : s ≡ k = grind (arith, nat_tests) in omega (arith, ap f same)
   | false ↦ λ e. let lt : s < k = grind (arith, nat_tests) in omega (arith, greatest-at k f s lt)
 ] refl
+
+-- what one is added to is less than the sum
+pub one_less : (n m : ℕ) → n + 1 ≡ m → n < m
+one_less n m is = omega arith
+
+-- a step nearer to a bound, less is left
+pub less_left : (n m : ℕ) → n < m → m - (n + 1) < m - n
+less_left n m below = omega arith

@@ -50,7 +50,10 @@ impl Index {
         }
         let mut index = Index::with_slots(alloc, count)?;
         if !index.rehash_from(self, len, steps) {
-            index.fill_from(alloc, self, len, steps)?;
+            if let Err(refused) = index.fill_from(alloc, self, len, steps) {
+                drop(index);
+                return Err(refused);
+            }
         }
         Ok(index)
     }

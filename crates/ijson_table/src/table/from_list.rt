@@ -50,7 +50,7 @@ impl<V: Drop, H: KeyHash> Table<V, H> {
     /// steps, each two entries that sorting compares and each two keys that are compared there.
     pub fn from_pairs_counted(
         alloc: Global,
-        pairs: Vec<(IString, V)>,
+        mut pairs: Vec<(IString, V)>,
         looks: &mut Looks,
     ) -> Result<Table<V, H>, ReserveError>
         requires fits { looks.old + 2 ^ 72 < 2 ^ 128 }
@@ -62,34 +62,17 @@ impl<V: Drop, H: KeyHash> Table<V, H> {
         ensures grows { looks.old ≤ looks.new }
         ensures bounded { IsBuildBounded (length pairs.items) (looks.new - looks.old) }
     {
-        limited(pairs.len())?;
-        Ok(Table::from_list(alloc, pairs, looks)?)
-    }
-
-    /// The same, of pairs that are within the limit.
-    #[inline(always)]
-    fn from_list(
-        alloc: Global,
-        mut pairs: Vec<(IString, V)>,
-        looks: &mut Looks,
-    ) -> Result<Table<V, H>, AllocError>
-        requires limited { length pairs.items ≤ capacity_limit }
-        requires fits { looks.old + 2 ^ 72 < 2 ^ 128 }
-        ensures pairs { IfOk result (λ table. table.store.pairs ≡ put_each [] pairs.items) }
-        ensures capacity { IfOk result (λ table. table.store.capacity ≡ length pairs.items) }
-        ensures refused { OnErr result (0 < length pairs.items) }
-        ensures counted { OnOk result (looks.old + length pairs.items ≤ looks.new) }
-        ensures grows { looks.old ≤ looks.new }
-        ensures bounded { IsBuildBounded (length pairs.items) (looks.new - looks.old) }
-    {
+        let capacity = limited(pairs.len())?;
         tighten(alloc, &mut pairs)?;
-        let capacity = pairs.len();
         let mut index = Index::with_slots(alloc, slots_for(capacity))?;
         let most = STEPS_A_PAIR * capacity;
         let mut steps = 0;
         let placed = add_new_keys::<V, H>(&pairs, &mut index, most, &mut steps);
         looks.add(steps as u128);
-        let rest = split_rest(alloc, &mut pairs, placed)?;
+        let Ok(rest) = split_rest(alloc, &mut pairs, placed) else {
+            drop(index);
+            return Err(ReserveError::Memory);
+        };
         let table = Table {
             pairs,
             index,
@@ -99,7 +82,7 @@ impl<V: Drop, H: KeyHash> Table<V, H> {
         if rest.is_empty() {
             return Ok(table);
         }
-        table.with_rest(rest, steps, looks)
+        Ok(table.with_rest(rest, steps, looks)?)
     }
 
     /// The store with more pairs put, in the room that there is. It goes on in the usual way up to the bound on the steps, of which so

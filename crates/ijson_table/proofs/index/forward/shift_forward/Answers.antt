@@ -1,5 +1,6 @@
 use Rattle.std.proofs.Common.{◌≡◌, ◌≢◌, ◌<◌, ◌≤◌, ℕ, ◌+◌, List, length, map, get_or, set, Option, Some, None, refl, arith, ap, sym, ◌∙◌}
-use Rattle.std.proofs.Common.{false, inl, inr, subst, get_or-set_other}
+use borrow.Author.Rules.{scaled_Fits}
+use Rattle.std.proofs.Common.{◌*◌, ◌^◌, Fits, w64, false, inl, inr, subst, get_or-set_other}
 use Rattle.std.proofs.lemmas.List.{get_or-map, length-map, length-set, map-set}
 use Rattle.std.proofs.lemmas.Bool.{cases_eq}
 use Rattle.ijson_table.specs.declared.index.slot.Slot.{Slot}
@@ -303,3 +304,17 @@ next_slot-slot-requires g c = omega (
   same_size g (goal.at.next_slot-slot-requires g c).After-is_empty,
   length-map c.loop-was.slots g.S.StoredSlot.stands_for,
 )
+
+-- and so is its offset in the memory that they take
+offset_fits : (slot count many size : ℕ) → slot < count → count ≡ many → many * size < 2 ^ 63 → Fits w64 (slot * size)
+offset_fits slot count many size here same room = scaled_Fits slot many size (omega arith) room
+
+pub offset_bounds-slots-slot : goal.offset_bounds-slots-slot
+offset_bounds-slots-slot g c = offset_fits c.loop-was.slot _ _ _
+    (reached g.S.StoredSlot.stands_for c.loop-was.slots _ _ _ _ _ _ _ (c.loop-was.invariant c.requires.may.0 c.requires.may.1))
+    c.loop-was.auto.slots c.well_formed.0.1
+
+pub offset_bounds-slots-slot-in-loop-was : goal.offset_bounds-slots-slot-in-loop-was
+offset_bounds-slots-slot-in-loop-was g c = offset_fits c.loop-was.slot _ _ _
+    (reached g.S.StoredSlot.stands_for c.loop-was.slots _ _ _ _ _ _ _ (c.loop-was.invariant c.requires.may.0 c.requires.may.1))
+    c.loop-was.auto.slots c.well_formed.0.1

@@ -1,5 +1,6 @@
 use Rattle.std.proofs.Common.{◌≡◌, ◌⊎◌, ℕ, ◌%◌, ◌+◌, ◌-◌, ◌<◌, ◌≤◌, List, false, length, arith, ap, inl, inr}
 use Rattle.std.proofs.lemmas.Nat.{mod_below}
+use Rattle.std.proofs.Common.{◌∙◌, subst}
 use Rattle.ijson_table.specs.declared.index.slot.Slot.{Slot}
 use Rattle.ijson_table.specs.declared.index.probe.Probed.{Probed}
 use Rattle.ijson_table.specs.declared.index.probe.Probed.TheVariants.{Found, Vacant, Full}
@@ -7,7 +8,7 @@ use Rattle.ijson_table.specs.Crowd.{distance}
 use Rattle.ijson_table.specs.Slots.{times, below}
 use Rattle.ijson_table.specs.private.Holds.{HasEmpty}
 use Rattle.ijson_table.specs.private.SlotHashes.{displacement_in, positions}
-use Rattle.ijson_table.specs.private.Probe.{onward, Ends, EndsAt}
+use Rattle.ijson_table.specs.private.Probe.{onward, Ends, EndsAt, IsVacancy}
 use Rattle.ijson_table.proofs.arithmetic.Circular.{distance-onward, onward-below}
 use Rattle.ijson_table.proofs.shifting.Insertion.{not_round}
 use Rattle.ijson_table.proofs.slots.ResidentCount.{few_residents}
@@ -71,3 +72,18 @@ returns-clause-within c =
 
 pub probe-requires-clause-some : goal.probe-requires-clause-some
 probe-requires-clause-some c = omega (arith, c.requires.1, positions-length c.args.slots.now)
+
+pub new-requires : goal.new-requires
+new-requires c = omega (arith, c.len.ensures, c.requires.1, positions-length c.args.slots.now)
+
+pub invariant_of-newcomer : goal.invariant_of-newcomer
+invariant_of-newcomer c = record { counted = c.new.ensures ∙ c.len.ensures }
+
+pub probe-requires-clause-fits : goal.probe-requires-clause-fits
+probe-requires-clause-fits c = λ m lm _. omega (arith, lm, c.new-looks.ensures, c.len.ensures, positions-length c.args.slots.now)
+
+pub returns-clause-vacancy : goal.returns-clause-vacancy
+returns-clause-vacancy c =
+    let ends = c.in-Vacant.ensures.ends in
+    subst (λ n. IsVacancy (displacement_in c.args.slots.now) n (c.args.hash % length c.args.slots.now) c.in-Vacant.slot)
+    (positions-length c.args.slots.now) (ends.0, ends.1.within, ends.1.there, ends.1.passed, ends.2)

@@ -1,5 +1,10 @@
 use Rattle.std.proofs.Common.{◌++◌, ◌∷◌, ◌∙◌, [], arith, ap, length}
 use Rattle.std.proofs.lemmas.List.{length-replicate, replicate_more}
+use Rattle.std.proofs.Common.{◌<◌, sym, subst, replicate}
+use Rattle.std.proofs.Math.Nat.{le_antisymm}
+use Rattle.std.proofs.lemmas.Result.{IfOk-from_err, err_from_is_err_and}
+use Rattle.std.specs.Result.{OnErr}
+use Rattle.ijson_table.proofs.arithmetic.Counting.{less_left}
 use Rattle.ijson_table.proofs.index.slots.repeated.Goals as goal
 
 pub push_reserved-requires : goal.push_reserved-requires
@@ -18,3 +23,27 @@ loop-step-preserved g c = record {
       ∙ replicate_more c.loop-step._step c.args.item);
   room = c.push_reserved.ensures.capacity ∙ c.loop-step.invariant.room;
 }
+
+pub returns-in_err-list-clause-items : goal.returns-in_err-list-clause-items
+returns-in_err-list-clause-items g c = IfOk-from_err c.from_residual.result _ c.from_residual.ensures.0
+
+pub returns-in_err-list-clause-room : goal.returns-in_err-list-clause-room
+returns-in_err-list-clause-room g c = IfOk-from_err c.from_residual.result _ c.from_residual.ensures.0
+
+pub returns-in_err-list-clause-refused : goal.returns-in_err-list-clause-refused
+returns-in_err-list-clause-refused g c =
+    let p = err_from_is_err_and c.from_residual.result c.from_residual.ensures.1 in
+    subst (λ r. OnErr r (0 < c.args.count)) (sym p.1) c.in_err-list.ensures.refused
+
+pub loop-step-init : goal.loop-step-init
+loop-step-init g c = record { items = c.in_ok-list.ensures.empty; room = c.in_ok-list.ensures.room }
+
+pub loop-step-smaller : goal.loop-step-smaller
+loop-step-smaller g c = less_left c.loop-step._step c.args.count c.loop-step-test.true
+
+pub returns-clause-items : goal.returns-clause-items
+returns-clause-items g c =
+    c.loop-step.invariant.items ∙ ap (λ n. replicate n c.args.item) (le_antisymm c.loop-step.auto._step-end c.loop-step-test.false)
+
+pub returns-clause-room : goal.returns-clause-room
+returns-clause-room g c = c.loop-step.invariant.room

@@ -1,6 +1,9 @@
 use Rattle.std.proofs.Common.{◌≡◌, ◌≢◌, ◌<◌, ℕ, length, get_or, Option, Some, None, arith, sym, ap, ◌∙◌}
 use Rattle.std.proofs.lemmas.Grind.{common_steps}
 use Rattle.std.proofs.lemmas.Bool.Decides.{nat_tests}
+use Rattle.std.proofs.Common.{◌+◌, ◌^◌, ◌≤◌}
+use Rattle.std.proofs.lemmas.Result.{IfOk-from_err}
+use borrow.Author.Rules.{scaled_Fits}
 use Rattle.ijson_table.specs.Store.{keys_of}
 use Rattle.ijson_table.specs.private.SlotHashes.{blank, position_in}
 use Rattle.ijson_table.proofs.firsts.KeyRuns.{all_told, each_stands, is_position, new_run, run_begins, same_run}
@@ -111,3 +114,28 @@ returns-then-is_empty-clause-grows g c = omega arith
 
 pub returns-then-is_empty-clause-refused : goal.returns-then-is_empty-clause-refused
 returns-then-is_empty-clause-refused g c = omega arith
+
+-- one more look can be counted,
+one_more : (old index sorted keys pairs looks : ℕ) → looks ≡ old + index → index < sorted → sorted ≡ keys → keys ≡ pairs
+    → old + pairs < 2 ^ 128 → looks + 1 < 2 ^ 128
+one_more old index sorted keys pairs looks looked there count size fits = omega arith
+
+-- and they are no more than the pairs
+in_all : (old index sorted keys pairs looks : ℕ) → looks ≡ old + index → index ≤ sorted → sorted ≡ keys → keys ≡ pairs
+    → looks ≤ old + pairs
+in_all old index sorted keys pairs looks looked there count size = omega arith
+
+pub offset_bounds-sorted-entry-index : goal.offset_bounds-sorted-entry-index
+offset_bounds-sorted-entry-index g c = scaled_Fits c.loop-entry.entry-index (length c.args.sorted.now) 16 c.loop-entry-test.true
+    c.well_formed.1.0.1
+
+pub add_one-requires : goal.add_one-requires
+add_one-requires g c = one_more c.args.looks.now c.loop-entry.entry-index _ _ _ c.loop-entry.looks c.loop-entry.invariant.looked
+    c.loop-entry-test.true c.requires.entries.count (keys-length c.args.pairs.now) c.requires.fits
+
+pub returns-clause-bounded : goal.returns-clause-bounded
+returns-clause-bounded g c = in_all c.args.looks.now c.loop-entry.entry-index _ _ _ c.loop-entry.looks c.loop-entry.invariant.looked
+    c.loop-entry.auto.entry-index-end c.requires.entries.count (keys-length c.args.pairs.now)
+
+pub returns-in_err-firsts-clause-firsts : goal.returns-in_err-firsts-clause-firsts
+returns-in_err-firsts-clause-firsts g c = IfOk-from_err c.from_residual.result _ c.from_residual.ensures.0

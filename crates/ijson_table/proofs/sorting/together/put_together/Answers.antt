@@ -2,6 +2,10 @@ use Rattle.std.proofs.Common.{◌≡◌, ◌<◌, ◌∷◌, ◌++◌, [], ◌+�
 use Rattle.std.proofs.lemmas.Iterator.Adapters.{YieldsList-from_vec}
 use Rattle.std.proofs.lemmas.Iterator.Consumers.{YieldsList-turn, YieldsList-so_far}
 use Rattle.std.proofs.lemmas.List.{with_items_is}
+use Rattle.std.proofs.Common.{refl}
+use Rattle.std.proofs.lemmas.Result.{IfOk-from_err, err_from_is_err_and}
+use Rattle.std.specs.Result.{OnErr}
+use Rattle.std.proofs.lemmas.Iterator.Consumers.{YieldsList-end}
 use Rattle.ijson_table.specs.Store.{with_value}
 use Rattle.ijson_table.proofs.firsts.PlacesSoFar.{PlacesSoFar, Turn, place_of, room, with_new, with_old, within}
 use Rattle.ijson_table.proofs.pairs.PairsByKey.{keys-length, position_within}
@@ -9,6 +13,8 @@ use Rattle.ijson_table.proofs.pairs.RunSteps.{map-same}
 use Rattle.ijson_table.proofs.sorting.together.put_together.Given.{Over}
 use Rattle.ijson_table.proofs.sorting.together.put_together.Goals as goal
 use Rattle.ijson_table.proofs.sorting.together.put_together.Goals.{then-first-position, else-first-position, After-index-first, In-Some}
+use Rattle.ijson_table.proofs.arithmetic.Counting.{one_less}
+use Rattle.ijson_table.specs.Store.{put_each}
 
 -- what is known of a turn
 turn : (g : Over) (c : After-index-first g) → Turn c.args.pairs.items c.loop-pair.yielded c.loop-pair.list.items c.args.firsts.items
@@ -125,3 +131,36 @@ loop-pair-preserved g c =
             ap vec_capacity w.list-is ∙ i.4,
           )
     ]
+
+pub returns-in_err-list-clause-pairs : goal.returns-in_err-list-clause-pairs
+returns-in_err-list-clause-pairs g c = IfOk-from_err c.from_residual.result _ c.from_residual.ensures.0
+
+pub returns-in_err-list-clause-room : goal.returns-in_err-list-clause-room
+returns-in_err-list-clause-room g c = IfOk-from_err c.from_residual.result _ c.from_residual.ensures.0
+
+pub returns-in_err-list-clause-refused : goal.returns-in_err-list-clause-refused
+returns-in_err-list-clause-refused g c =
+    let p = err_from_is_err_and c.from_residual.result c.from_residual.ensures.1 in
+    subst (λ r. OnErr r (0 < c.args.capacity)) (sym p.1) c.in_err-list.ensures.refused
+
+pub loop-pair-init : goal.loop-pair-init
+loop-pair-init g c = (
+  tt,
+  tt,
+  record { put = c.in_ok-list.ensures.empty; count = refl; rest = λ i _. refl; placed = λ i l. absurd (omega (arith, l)) },
+  refl,
+  c.in_ok-list.ensures.room,
+)
+
+pub returns-clause-room : goal.returns-clause-room
+returns-clause-room g c = c.loop-pair.invariant.4
+
+pub loop-pair-smaller : goal.loop-pair-smaller
+loop-pair-smaller g c = one_less c.next.new.self.rest.len c.loop-pair.pair-iterator.rest.len c.in-Some.ensures.steps.1
+
+pub returns-clause-pairs : goal.returns-clause-pairs
+returns-clause-pairs g c =
+    let gives = c.into_iter-pair-iterator.ensures.into_iter_gives in
+    let end = YieldsList-end (YieldsList-from_vec c.args.pairs.items gives.0 (gives.1 ∙ c.args.pairs.ok.0)) c.loop-pair.yielded
+    c.loop-pair.pair-iterator c.loop-pair.yielded_by c.next.result c.next.new.self c.in-None.is c.next.ensures.steps in
+    c.loop-pair.invariant.2.put ∙ ap (put_each []) (sym (map-same c.loop-pair.yielded) ∙ end.0)

@@ -1,5 +1,7 @@
-use Rattle.std.proofs.Common.{◌≡◌, ◌≢◌, ◌<◌, length, map, arith, rules, ap, subst, ◌∙◌}
+use Rattle.std.proofs.Common.{◌≡◌, ◌≢◌, ◌<◌, length, map, arith, ap, subst, ◌∙◌}
 use Rattle.std.specs.Prelude.{IfOk}
+use Rattle.std.proofs.lemmas.Result.{err_from_is_err_and}
+use Rattle.ijson_table.specs.CopyBound.{IsCopyBounded}
 use Rattle.ijson_table.specs.Placed.{Placed}
 use Rattle.ijson_table.specs.Store.{keys_of}
 use Rattle.ijson_table.specs.private.HashIndex.{HashIndex}
@@ -22,59 +24,58 @@ many g c other = elim c.then-count-slots.branch [
   )
 ]
 
-pub returns-then-count-slots-clause-hashes : goal.returns-then-count-slots-clause-hashes
-returns-then-count-slots-clause-hashes g c =
+pub copy_counted-requires : goal.copy_counted-requires
+copy_counted-requires g c =
+    let len : c.len.result ≡ length c.self.inside.pairs.items = c.len.ensures ∙ c.self.inside.pairs.ok.0 in
+    record {
+      len = omega (
+        arith,
+        len,
+        ap length c.self.invariant.hashes,
+        length-hashes (kept_hash (length c.self.inside.index.slots) g.H.KeyHash.hash_of) c.self.inside.pairs.items,
+      );
+      room = omega (arith, len, ap (λ (t : Placed g.row.V.Denot). length t.store.pairs) c.self.view_is, c.requires.room);
+      steps = c.requires.steps;
+      kept = many g (goal.at.copy_counted-requires g c).After-len;
+    }
+
+pub returns-then-count-slots : goal.returns-then-count-slots
+returns-then-count-slots g c =
     let hash = g.H.KeyHash.hash_of in
     let index = c.self.inside.index in
     let keys = keys_of c.self.inside.pairs.items in
-    subst (λ hs. IfOk c.copy_counted.result (λ (made : HashIndex). made.hashes ≡ hs))
-    (c.self.invariant.hashes ∙ (hashes-same (length index.slots) c.args.count hash keys
-    (many g (goal.at.returns-then-count-slots-clause-hashes g c).After-len)
-    ∙ ap (λ (t : Placed g.row.V.Denot). map (kept_hash c.args.count hash) (keys_of t.store.pairs)) c.self.view_is))
-    c.copy_counted.ensures.hashes
+    let w = (goal.at.returns-then-count-slots g c).After-len in
+    let len : c.len.result ≡ length c.args.self.now.store.pairs =
+    c.len.ensures ∙ (c.self.inside.pairs.ok.0 ∙ ap (λ (t : Placed g.row.V.Denot). length t.store.pairs) c.self.view_is) in
+    record {
+      hashes = subst (λ hs. IfOk c.copy_counted.result (λ (made : HashIndex). made.hashes ≡ hs))
+          (c.self.invariant.hashes ∙ (hashes-same (length index.slots) c.args.count hash keys (many g w)
+          ∙ ap (λ (t : Placed g.row.V.Denot). map (kept_hash c.args.count hash) (keys_of t.store.pairs)) c.self.view_is))
+          c.copy_counted.ensures.hashes;
+      count = c.copy_counted.ensures.count;
+      refused = c.copy_counted.ensures.refused;
+      limited = omega (
+        arith,
+        c.self.invariant.room.within,
+        c.self.invariant.room.limited,
+        ap (λ (t : Placed g.row.V.Denot). length t.store.pairs) c.self.view_is,
+      );
+      bounded = subst (λ n. IsCopyBounded n c.copy_counted.new.steps) len c.copy_counted.ensures.bounded;
+    }
 
-pub copy_counted-requires-clause-kept : goal.copy_counted-requires-clause-kept
-copy_counted-requires-clause-kept g c = many g (goal.at.copy_counted-requires-clause-kept g c).After-len
-
-pub copy_counted-requires-clause-len : goal.copy_counted-requires-clause-len
-copy_counted-requires-clause-len g c = omega (
-  arith,
-  c.len.ensures,
-  c.self.inside.pairs.ok.0,
-  ap length c.self.invariant.hashes,
-  length-hashes (kept_hash (length c.self.inside.index.slots) g.H.KeyHash.hash_of) c.self.inside.pairs.items,
-)
-
-pub copy_counted-requires-clause-room : goal.copy_counted-requires-clause-room
-copy_counted-requires-clause-room g c = omega (
-  arith,
-  c.len.ensures,
-  c.self.inside.pairs.ok.0,
-  ap (λ (t : Placed g.row.V.Denot). length t.store.pairs) c.self.view_is,
-  c.requires.room,
-)
-
-pub returns-then-count-slots-clause-count : goal.returns-then-count-slots-clause-count
-returns-then-count-slots-clause-count g c = c.copy_counted.ensures.count
-
-pub returns-then-count-slots-clause-refused : goal.returns-then-count-slots-clause-refused
-returns-then-count-slots-clause-refused g c = c.copy_counted.ensures.refused
-
-pub returns-then-count-slots-clause-limited : goal.returns-then-count-slots-clause-limited
-returns-then-count-slots-clause-limited g c = omega (
-  arith,
-  c.self.invariant.room.within,
-  c.self.invariant.room.limited,
-  ap (λ (t : Placed g.row.V.Denot). length t.store.pairs) c.self.view_is,
-)
-
-pub returns-in_err-index-clause-limited : goal.returns-in_err-index-clause-limited
-returns-in_err-index-clause-limited g c = omega (
-  arith,
-  c.self.invariant.room.within,
-  c.self.invariant.room.limited,
-  ap (λ (t : Placed g.row.V.Denot). length t.store.pairs) c.self.view_is,
-)
+pub returns-in_err-index : goal.returns-in_err-index
+returns-in_err-index g c = rw (err_from_is_err_and c.from_residual.result c.from_residual.ensures.1).1 (record {
+  hashes = tt;
+  count = tt;
+  refused = c.in_err-index.ensures.refused;
+  limited = omega (
+    arith,
+    c.self.invariant.room.within,
+    c.self.invariant.room.limited,
+    ap (λ (t : Placed g.row.V.Denot). length t.store.pairs) c.self.view_is,
+  );
+  bounded = λ k few. omega (arith, c.requires.steps);
+})
 
 pub place_each-requires : goal.place_each-requires
 place_each-requires g c =
@@ -99,7 +100,7 @@ returns g c = record {
   hashes = c.place_each.ensures.hashes
       ∙ ap (λ n. map (kept_hash n g.H.KeyHash.hash_of) (keys_of c.args.self.now.store.pairs)) c.in_ok-index.ensures.count;
   count = c.place_each.ensures.count ∙ c.in_ok-index.ensures.count;
-  refused = search rules;
+  refused = tt;
   limited = omega (
     arith,
     c.self.invariant.room.within,

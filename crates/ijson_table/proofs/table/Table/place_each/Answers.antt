@@ -1,5 +1,8 @@
 use Rattle.std.proofs.Common.{◌≡◌, ◌≤◌, ◌<◌, ◌+◌, ℕ, List, [], ◌∷◌, ◌++◌, length, map, take, get_or, arith, ap, ap₂, subst, sym, ◌∙◌}
 use Rattle.std.proofs.lemmas.List.{length-map, length-take-le, take_more, take_all}
+use Rattle.std.proofs.Common.{refl, le_of_lt, false, ◌≤◌, ◌==◌}
+use Rattle.std.proofs.lemmas.Bool.Decides.{nat_tests}
+use Rattle.std.proofs.lemmas.List.{nil_from_length}
 use Rattle.ijson_table.specs.Placed.{Placed}
 use Rattle.ijson_table.specs.Store.{keys_of}
 use Rattle.ijson_table.specs.private.Holds.{MayStand}
@@ -8,6 +11,7 @@ use Rattle.ijson_table.proofs.pairs.PairsByKey.{keys-length}
 use Rattle.ijson_table.proofs.probing.KeyHashes.{hashes-push}
 use Rattle.ijson_table.proofs.slots.KeptHashes.{kept_once}
 use Rattle.ijson_table.proofs.table.Table.place_each.Goals.{After-deref-pairs}
+use Rattle.ijson_table.proofs.arithmetic.Counting.{less_left}
 use Rattle.ijson_table.proofs.table.Table.place_each.Goals as goal
 
 module _ {V : Type 0} (f : List ℕ → ℕ) (hashes : List ℕ) (pairs : List (List ℕ × V)) (n : ℕ)
@@ -70,3 +74,36 @@ returns-clause-hashes g c = c.loop-position.invariant.hashes
     ∙ ap (λ ps. map (kept_hash (length c.args.index.now.slots) g.H.KeyHash.hash_of) (keys_of ps))
     (take_all c.loop-position.position c.deref-pairs.result.now c.loop-position-test.false
     ∙ lent g (goal.at.returns-clause-hashes g c).After-deref-pairs)
+
+pub loop-position-init : goal.loop-position-init
+loop-position-init g c = record { hashes = c.requires.empty; count = refl }
+
+pub offset_bounds-pairs-position : goal.offset_bounds-pairs-position
+offset_bounds-pairs-position g c = le_of_lt c.loop-position-test.true
+
+pub bounds-pairs-position : goal.bounds-pairs-position
+bounds-pairs-position g c = c.loop-position-test.true
+
+pub loop-position-smaller : goal.loop-position-smaller
+loop-position-smaller g c = less_left c.loop-position.position (length c.deref-pairs.result.now) c.loop-position-test.true
+
+pub returns-clause-count : goal.returns-clause-count
+returns-clause-count g c = c.loop-position.invariant.count
+
+pub returns-then-is_empty-clause-count : goal.returns-then-is_empty-clause-count
+returns-then-is_empty-clause-count g c = refl
+
+-- where there are pairs, there are slots
+some_slots : (pairs room slots count : ℕ) → false ≡ (pairs == 0) → pairs ≡ room → room ≤ slots → count ≡ slots → 0 < count
+some_slots pairs room slots count some same fits is = grind (arith, nat_tests)
+
+pub new-modulus-requires : goal.new-modulus-requires
+new-modulus-requires g c = some_slots (length c.deref-pairs.result.now) (length c.args.self.now.store.pairs) (length c.args.index.now.slots)
+    c.len.result c.if-is_empty.ensures (ap length (lent g (goal.at.new-modulus-requires g c).After-deref-pairs)) c.requires.room
+    c.len.ensures.count
+
+pub returns-then-is_empty-clause-hashes : goal.returns-then-is_empty-clause-hashes
+returns-then-is_empty-clause-hashes g c =
+    let none : c.deref-pairs.result.now ≡ [] = nil_from_length c.deref-pairs.result.now (grind (arith, nat_tests, c.if-is_empty.ensures)) in
+    c.requires.empty ∙ ap (λ ps. map (kept_hash (length c.args.index.now.slots) g.H.KeyHash.hash_of) (keys_of ps))
+    (sym none ∙ lent g (goal.at.returns-then-is_empty-clause-hashes g c).After-deref-pairs)

@@ -1,16 +1,55 @@
-use Rattle.std.proofs.Common.{length, arith, ap}
-use Rattle.std.proofs.lemmas.Grind.{common_steps}
+use Rattle.std.proofs.Common.{◌≡◌, length, refl, arith, ap, ◌∙◌}
+use Rattle.std.proofs.lemmas.Result.{err_from_is_err_and}
 use Rattle.ijson_table.specs.Placed.{Placed}
+use Rattle.ijson_table.proofs.table.Table.shrink_to_fit_counted.Given.{Over}
+use Rattle.ijson_table.proofs.table.Table.shrink_to_fit_counted.Goals.{After-capacity}
 use Rattle.ijson_table.proofs.table.Table.shrink_to_fit_counted.Goals as goal
 
-pub returns-then-capacity-len-clause-room : goal.returns-then-capacity-len-clause-room
-returns-then-capacity-len-clause-room g c = omega (
-  arith,
-  c.len-len.ensures,
-  c.capacity.ensures,
-  ap (λ (s : Placed g.row.V.Denot). length s.store.pairs) c.self.view_is,
-  ap (λ (s : Placed g.row.V.Denot). s.store.capacity) c.self.view_is,
+-- the length and the capacity, as they were read
+sizes : (g : Over) (c : After-capacity g)
+    → (c.len-len.result ≡ length c.args.self.now.store.pairs) × (c.capacity.result ≡ c.args.self.now.store.capacity)
+sizes g c = (
+  c.len-len.ensures ∙ (c.self.inside.pairs.ok.0 ∙ ap (λ (t : Placed g.row.V.Denot). length t.store.pairs) c.self.view_is),
+  c.capacity.ensures ∙ ap (λ (t : Placed g.row.V.Denot). t.store.capacity) c.self.view_is,
 )
 
-pub returns-clause-room : goal.returns-clause-room
-returns-clause-room g c = grind (arith, common_steps)
+pub returns-then-capacity-len : goal.returns-then-capacity-len
+returns-then-capacity-len g c =
+    let are = sizes g (goal.at.returns-then-capacity-len g c).After-capacity in
+    record {
+      room = omega (arith, c.if-capacity-len.true, are.0, are.1);
+      pairs = refl;
+      bounded = λ k few. omega (arith, c.requires.none);
+    }
+
+pub set_capacity-requires : goal.set_capacity-requires
+set_capacity-requires g c =
+    let are = sizes g (goal.at.set_capacity-requires g c).After-capacity in
+    record {
+      within = omega (arith, are.0);
+      grows = λ less. omega (arith, are.0, less);
+      limited = omega (arith, c.len-len.ensures, c.self.inside.pairs.ok.0, c.self.invariant.room.within, c.self.invariant.room.limited);
+      steps = c.requires.none;
+    }
+
+pub returns-in_err-set_capacity : goal.returns-in_err-set_capacity
+returns-in_err-set_capacity g c =
+    let p = err_from_is_err_and c.from_residual.result c.from_residual.ensures.1 in
+    let are = sizes g (goal.at.returns-in_err-set_capacity g c).After-capacity in
+    let resized = c.in_err-set_capacity.ensures.resized in
+    rw (p.1, p.2) (record {
+      room = (
+        resized.refused.1,
+        λ same. omega (arith, same, are.0, are.1, c.if-capacity-len.false),
+        omega (arith, are.0, resized.refused.0),
+      );
+      pairs = resized.same;
+      bounded = c.set_capacity.ensures.bounded;
+    })
+
+pub returns : goal.returns
+returns g c = record {
+  room = c.in_ok-set_capacity.ensures.resized.done ∙ (sizes g (goal.at.returns g c).After-capacity).0;
+  pairs = c.in_ok-set_capacity.ensures.resized.same;
+  bounded = c.set_capacity.ensures.bounded;
+}

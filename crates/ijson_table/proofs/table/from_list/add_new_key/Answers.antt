@@ -1,6 +1,7 @@
 use Rattle.std.proofs.Common.{◌≡◌, ◌⊎◌, inl, inr, ◌-◌, ◌<◌, ◌%◌, [], ℕ, List, length, get_or, take, arith, ap, ap₂, refl, sym, subst, ◌∙◌}
 use Rattle.std.proofs.lemmas.Grind.{common_steps}
 use Rattle.std.proofs.lemmas.Nat.{mod_below}
+use Rattle.std.proofs.Common.{◌+◌, true≢false, length-take-le, le_of_lt}
 use Rattle.ijson_table.specs.declared.index.probe.Probed.{Probed}
 use Rattle.ijson_table.specs.declared.index.probe.Probed.TheVariants.{Found, Vacant, Full}
 use Rattle.ijson_table.specs.Crowd.{distance}
@@ -19,6 +20,7 @@ use Rattle.ijson_table.proofs.slots.KeptHashes.{home_of_kept, kept_once}
 use Rattle.ijson_table.proofs.table.from_list.add_new_key.Given.{Over}
 use Rattle.ijson_table.proofs.table.from_list.add_new_key.Goals.{After-probe, After-distance_between}
 use Rattle.ijson_table.proofs.table.from_list.add_new_key.Goals.{After-distance_between-in-Found, In-Vacant}
+use Rattle.ijson_table.proofs.probing.KeyHashes.{length-hashes}
 use Rattle.ijson_table.proofs.table.from_list.add_new_key.Goals as goal
 
 -- the key of the pair
@@ -230,3 +232,60 @@ distance_between-requires-clause-from g c = omega (arith, c.home_of_hash-home.en
 
 pub distance_between-requires-clause-to : goal.distance_between-requires-clause-to
 distance_between-requires-clause-to g c = omega (arith, c.push_at-last.ensures.within, c.requires.counted)
+
+pub offset_bounds-pairs-position : goal.offset_bounds-pairs-position
+offset_bounds-pairs-position g c = le_of_lt c.requires.within
+
+pub bounds-pairs-position : goal.bounds-pairs-position
+bounds-pairs-position g c = c.requires.within
+
+pub slice_bounds-lookup-end : goal.slice_bounds-lookup-end
+slice_bounds-lookup-end g c = sym (length-take-le c.args.position c.args.pairs.now (le_of_lt c.requires.within))
+
+pub probe-requires-clause-some : goal.probe-requires-clause-some
+probe-requires-clause-some g c = omega (arith, c.requires.room, ap (λ i. length i.slots) c.view.ensures.value)
+
+pub push_at-last-requires-clause-room : goal.push_at-last-requires-clause-room
+push_at-last-requires-clause-room g c = c.requires.room
+
+pub returns-in-Vacant-clause-left : goal.returns-in-Vacant-clause-left
+returns-in-Vacant-clause-left g c = λ no. absurd (true≢false no)
+
+pub returns-in-Vacant-clause-stops : goal.returns-in-Vacant-clause-stops
+returns-in-Vacant-clause-stops g c = λ no. absurd (true≢false no)
+
+pub returns-in-Vacant-clause-count : goal.returns-in-Vacant-clause-count
+returns-in-Vacant-clause-count g c = c.push_at-last.ensures.count
+
+-- a walk has a step
+more : (steps away k : ℕ) → steps < steps + (away + (k + 1))
+more steps away k = omega arith
+
+pub returns-in-Vacant-clause-grows : goal.returns-in-Vacant-clause-grows
+returns-in-Vacant-clause-grows g c = more c.args.steps.now c.distance_between.result 1
+
+pub returns-in-Found-clause-placed : goal.returns-in-Found-clause-placed
+returns-in-Found-clause-placed g c = λ no. absurd (true≢false (sym no))
+
+pub returns-in-Found-clause-left : goal.returns-in-Found-clause-left
+returns-in-Found-clause-left g c = λ _. refl
+
+pub returns-in-Found-clause-count : goal.returns-in-Found-clause-count
+returns-in-Found-clause-count g c = refl
+
+pub returns-in-Found-clause-grows : goal.returns-in-Found-clause-grows
+returns-in-Found-clause-grows g c = more c.args.steps.now c.distance_between-in-Found.result 0
+
+pub returns-in-Full-clause-placed : goal.returns-in-Full-clause-placed
+returns-in-Full-clause-placed g c = λ no. absurd (true≢false (sym no))
+
+pub returns-in-Full-clause-left : goal.returns-in-Full-clause-left
+returns-in-Full-clause-left g c = λ _. refl
+
+pub returns-in-Full-clause-count : goal.returns-in-Full-clause-count
+returns-in-Full-clause-count g c = refl
+
+pub push_at-last-requires-clause-position : goal.push_at-last-requires-clause-position
+push_at-last-requires-clause-position g c = sym (ap length c.requires.placed.hashes
+    ∙ length-hashes (short g c.args.index.now) (take c.args.position c.args.pairs.now)
+    ∙ length-take-le c.args.position c.args.pairs.now (le_of_lt c.requires.within))
