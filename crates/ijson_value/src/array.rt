@@ -31,6 +31,9 @@ pub struct IArray {
 
 const _: () = prove!(size_of::<IArray>() == 16);
 
+/// The fewest items that room is made for.
+const LEAST_ROOM: usize = 4;
+
 impl Model for IArray {
     ghost use Rattle.ijson_value.specs.Sequence.{Sequence};
     ghost use Rattle.ijson_value.specs.laws.SequenceCode.{sequence_code};
@@ -168,7 +171,7 @@ impl IArray {
             → 2 * self.old.capacity ≤ self.new.capacity) }
         ensures capacity { self.old.capacity ≤ self.new.capacity }
     {
-        if self.reserve(1).is_err() {
+        if let Err(AllocError) = self.reserve(1) {
             return Err(Refused(item));
         }
         self.list.as_mut().unwrap().push_reserved(item);
@@ -195,8 +198,7 @@ impl IArray {
         if additional == 0 {
             return Ok(());
         }
-        let mut list = Vec::new(self.alloc);
-        grow(&mut list, additional)?;
+        let list = Vec::with_capacity(self.alloc, additional.max(LEAST_ROOM))?;
         self.list = Some(Box::new(self.alloc, list)?);
         Ok(())
     }
@@ -221,8 +223,9 @@ impl IArray {
 }
 
 /// Makes room in a list for `additional` items more. Where it has not that room, its capacity becomes the greatest of twice the
-/// old one, the length with them, and 4. Where one of these passes what a `usize` counts, no such memory exists, so the error is the
-/// same as for memory that was refused. Twice the old one never does, since an item takes 24 bytes, but no contract of `Vec` says so.
+/// old one, the length with them, and `LEAST_ROOM`. Where one of these passes what a `usize` counts, no such memory exists, so the
+/// error is the same as for memory that was refused. Twice the old one never does, since an item takes 24 bytes, but no contract of
+/// `Vec` says so.
 fn grow(list: &mut Vec<IValue>, additional: usize) -> Result<(), AllocError>
     ensures items { list.new.items ≡ list.old.items }
     ensures ok { OnOk result (length list.new.items + additional ≤ vec_capacity list.new) }
@@ -240,7 +243,7 @@ fn grow(list: &mut Vec<IValue>, additional: usize) -> Result<(), AllocError>
     let Some(twice) = list.capacity().checked_mul(2) else {
         return Err(AllocError);
     };
-    list.reserve_exact(additional.max(twice.max(4) - len))
+    list.reserve_exact(additional.max(twice.max(LEAST_ROOM) - len))
 }
 
 /// Whether there are as many items and each means the same as the one at its position. It takes no memory.

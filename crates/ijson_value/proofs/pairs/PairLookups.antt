@@ -39,6 +39,11 @@ module _ {V : Type 0} where
   pub lookup_pair : (pairs : List (List ℕ × V)) (key : List ℕ) → lookup key pairs ≡ option_map (λ pair. pair.1) (pair_at_key key pairs)
   lookup_pair pairs key = lookup-position pairs key (at pairs key) refl
 
+  -- the value of a pair that was taken is the one beside the key
+  pub taken_value : (pairs : List (List ℕ × V)) (key : List ℕ) (taken : Option (List ℕ × V)) → taken ≡ pair_at_key key pairs
+      → option_map (λ pair. pair.1) taken ≡ lookup key pairs
+  taken_value pairs key taken is = ap (option_map (λ pair. pair.1)) is ∙ sym (lookup_pair pairs key)
+
   -- a key with a value beside it has a position
   pub at-some : (pairs : List (List ℕ × V)) (key : List ℕ) → IsSome (lookup key pairs) → IsSome (at pairs key)
   at-some pairs key some =

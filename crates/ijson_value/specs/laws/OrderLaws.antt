@@ -1,14 +1,13 @@
 -- The laws of the order, for whatever has a well-formed tree: it answers Equal exactly where `==` holds, turns round when its
 -- sides are swapped, and its Less is transitive.
-use Rattle.std.proofs.Common.{◌≡◌, ℕ, ◌<◌, ◌≤◌, Bool, true, false, cond, ◌==◌, Option, Some, None, refl, sym, ap, ◌∙◌, arith}
+use Rattle.std.proofs.Common.{◌≡◌, ℕ, ◌<◌, ◌≤◌, Bool, true, false, cond, ◌==◌, Option, Some, None, refl, sym, ap, subst, ◌∙◌, arith}
 use mathlib.Core.Bool.{true≢false, beq}
 use Rattle.std.specs.Bool.{Decides}
-use Rattle.std.specs.Option.{option_map}
-use Rattle.std.specs.Prelude.{nat_lt}
+use Rattle.std.specs.Option.{option_map, is_some}
 use Rattle.std.specs.Ordering.{nat_cmp, bool_cmp, ordering_reverse, partial_ordering_then, is_eq, MatchOrdering}
 use Rattle.std.specs.Cmp.{IsPartialOrder, Equal-is, bool_cmp_total, first_so, second_so, per_alike, ranks, some_flip, some_level}
 use Rattle.std.specs.Cmp.Lexicographic.{nat_list_cmp_total, texts_po}
-use Rattle.std.proofs.lemmas.Bool.Decides.{nat_tests}
+use Rattle.std.proofs.lemmas.Bool.{lt-ltb}
 use Rattle.std.proofs.lemmas.Option.{same_Some}
 use Rattle.std.specs.declared.cmp.Ordering.{Ordering}
 use Rattle.std.specs.declared.cmp.Ordering.TheVariants.{Less, Equal, Greater}
@@ -63,9 +62,9 @@ mutual
 
 -- ---- Equal
 some_equal : (o : Ordering) → Decides (is_eq o) (Some o ≡ Some Equal)
-some_equal Less = (λ e. absurd (true≢false (sym e)), λ e. absurd (cc))
+some_equal Less = (λ e. absurd (true≢false (sym e)), λ e. ap is_eq (same_Some Less Equal e))
 some_equal Equal = (λ e. refl, λ e. refl)
-some_equal Greater = (λ e. absurd (true≢false (sym e)), λ e. absurd (cc))
+some_equal Greater = (λ e. absurd (true≢false (sym e)), λ e. ap is_eq (same_Some Greater Equal e))
 
 boolean_equal : (a b : Bool) → Decides (beq a b) (Some (bool_cmp a b) ≡ Some Equal)
 boolean_equal true true = some_equal Equal
@@ -75,7 +74,7 @@ boolean_equal false false = some_equal Equal
 
 object_equal : (b : Bool) → Decides b (object_answer b ≡ Some Equal)
 object_equal true = (λ e. refl, λ e. refl)
-object_equal false = (λ e. absurd (true≢false (sym e)), λ e. absurd (cc))
+object_equal false = (λ e. absurd (true≢false (sym e)), λ e. ap is_some e)
 
 mutual
   cmp_equal : (t u : Tree) → Decides (same t u) (tree_cmp t u ≡ Some Equal)
@@ -122,17 +121,23 @@ mutual
       (items_alike ts us vs d.1 e.1 f.1 (second_so (same t u) (same_each ts us) h) i)
 
 -- ---- Less is transitive
+-- no other answer is Less
+abbrev IsLess : Option Ordering → Type 0
+IsLess None = ⊥
+IsLess (Some o) = MatchOrdering o (Unit {0}) ⊥ ⊥
+
+apart : (o : Option Ordering) → o ≡ Some Less → IsLess o
+apart o e = subst IsLess (sym e) tt
+
 nat_lesser : (m n : ℕ) → Some (nat_cmp m n) ≡ Some Less → m < n
 nat_lesser m n = elim (nat_cmp m n) as (λ o. MatchOrdering o (m < n) (m ≡ n) (n < m) → Some o ≡ Some Less → m < n) [
   | Less ↦ λ r e. r
-  | Equal ↦ λ r e. absurd (cc)
-  | Greater ↦ λ r e. absurd (cc)
+  | Equal ↦ λ r e. absurd (apart (Some Equal) e)
+  | Greater ↦ λ r e. absurd (apart (Some Greater) e)
 ] (ranks m n)
 
 pub nat_less : (m n : ℕ) → m < n → Some (nat_cmp m n) ≡ Some Less
-nat_less m n h =
-    let t : nat_lt m n ≡ true = grind (arith, nat_tests) in
-    ap (λ b. Some (cond b Less (cond (m == n) Equal Greater))) t
+nat_less m n h = ap (λ b. Some (cond b Less (cond (m == n) Equal Greater))) (lt-ltb m n h)
 
 itself : (n : ℕ) → n ≤ n
 itself n = omega arith
@@ -167,15 +172,9 @@ earlier t u h = nat_less (rank t) (rank u) h
 earlier_then : (t u v : Tree) → Some (nat_cmp (rank t) (rank u)) ≡ Some Less → tree_cmp u v ≡ Some Less → tree_cmp t v ≡ Some Less
 earlier_then t u v h g = earlier t v (omega (arith, nat_lesser (rank t) (rank u) h, below u v g))
 
--- Equal and Greater are not Less
-apart : (o : Ordering) → Some o ≡ Some Less → MatchOrdering o (Unit {0}) ⊥ ⊥
-apart Less e = tt
-apart Equal e = absurd (cc)
-apart Greater e = absurd (cc)
-
 not_less : (b : Bool) → object_answer b ≡ Some Less → ⊥
-not_less true e = absurd (cc)
-not_less false e = absurd (cc)
+not_less true e = apart (Some Equal) e
+not_less false e = apart None e
 
 -- the first items of three arrays, where p, q and s are what the rests answer
 module _ (t u v : Tree) (d : IsWellFormed t) (e : IsWellFormed u) (f : IsWellFormed v) (p q s : Option Ordering) where
@@ -188,14 +187,14 @@ module _ (t u v : Tree) (d : IsWellFormed t) (e : IsWellFormed u) (f : IsWellFor
       → (p ≡ Some Less → q ≡ Some Less → s ≡ Some Less) → (k m : Option Ordering)
       → tree_cmp t u ≡ k → tree_cmp u v ≡ m → partial_ordering_then k p ≡ Some Less
       → partial_ordering_then m q ≡ Some Less → partial_ordering_then (tree_cmp t v) s ≡ Some Less
-  chain heads rests None m a b h g = absurd (cc)
-  chain heads rests (Some Greater) m a b h g = absurd (cc)
-  chain heads rests (Some Less) None a b h g = absurd (cc)
-  chain heads rests (Some Less) (Some Greater) a b h g = absurd (cc)
+  chain heads rests None m a b h g = absurd (apart None h)
+  chain heads rests (Some Greater) m a b h g = absurd (apart (Some Greater) h)
+  chain heads rests (Some Less) None a b h g = absurd (apart None g)
+  chain heads rests (Some Less) (Some Greater) a b h g = absurd (apart (Some Greater) g)
   chain heads rests (Some Less) (Some Less) a b h g = ap (λ k. partial_ordering_then k s) (heads a b)
   chain heads rests (Some Less) (Some Equal) a b h g = ap (λ k. partial_ordering_then k s) (alike_right b ∙ a)
-  chain heads rests (Some Equal) None a b h g = absurd (cc)
-  chain heads rests (Some Equal) (Some Greater) a b h g = absurd (cc)
+  chain heads rests (Some Equal) None a b h g = absurd (apart None g)
+  chain heads rests (Some Equal) (Some Greater) a b h g = absurd (apart (Some Greater) g)
   chain heads rests (Some Equal) (Some Less) a b h g =
       ap (λ k. partial_ordering_then k s) (cmp_alike t u v d e f ((cmp_equal t u).1 a) ∙ b)
   chain heads rests (Some Equal) (Some Equal) a b h g =
@@ -220,11 +219,11 @@ mutual
 
   items_less : (ts us vs : Items) → AreWellFormed ts → AreWellFormed us → AreWellFormed vs
       → items_cmp ts us ≡ Some Less → items_cmp us vs ≡ Some Less → items_cmp ts vs ≡ Some Less
-  items_less no_items no_items vs d e f h g = absurd (apart Equal h)
-  items_less no_items (item u us) no_items d e f h g = absurd (apart Greater g)
+  items_less no_items no_items vs d e f h g = absurd (apart (Some Equal) h)
+  items_less no_items (item u us) no_items d e f h g = absurd (apart (Some Greater) g)
   items_less no_items (item u us) (item v vs) d e f h g = refl
-  items_less (item t ts) no_items vs d e f h g = absurd (apart Greater h)
-  items_less (item t ts) (item u us) no_items d e f h g = absurd (apart Greater g)
+  items_less (item t ts) no_items vs d e f h g = absurd (apart (Some Greater) h)
+  items_less (item t ts) (item u us) no_items d e f h g = absurd (apart (Some Greater) g)
   items_less (item t ts) (item u us) (item v vs) d e f h g =
       chain t u v d.0 e.0 f.0 (items_cmp ts us) (items_cmp us vs) (items_cmp ts vs)
       (cmp_less t u v d.0 e.0 f.0) (items_less ts us vs d.1 e.1 f.1) (tree_cmp t u) (tree_cmp u v) refl refl h g

@@ -4,6 +4,7 @@ ghost use Rattle.std.specs.List.{insert, remove, swap_remove};
 
 use super::{IArray, Refused};
 use crate::value::IValue;
+use std::alloc::AllocError;
 
 impl IArray {
     /// Puts an item at a position, and those from there on one position further. `index` must be at most `len`; at `len` the item is put
@@ -22,7 +23,7 @@ impl IArray {
             → 2 * self.old.capacity ≤ self.new.capacity) }
         ensures capacity { self.old.capacity ≤ self.new.capacity }
     {
-        if self.reserve(1).is_err() {
+        if let Err(AllocError) = self.reserve(1) {
             return Err(Refused(item));
         }
         match self.list.as_mut().unwrap().insert(index, item) {

@@ -159,13 +159,16 @@ impl IObject {
 
     /// Takes the pair with a key out, puts the last pair in its place, and answers its value. None where it is not there. No other pair
     /// moves, and no memory is taken; `shift_remove` keeps the order.
-    #[tactic(auto, using(crate::proofs::pairs::PairLookups::lookup_pair))]
     pub fn remove<I: ObjectIndex>(&mut self, index: I) -> Option<IValue>
         ensures value { result ≡ lookup (I.Sealed.key index) self.old.pairs }
         ensures pairs { self.new.pairs ≡ swap_out_key (I.Sealed.key index) self.old.pairs }
         ensures capacity { self.new.capacity ≡ self.old.capacity }
     {
-        Some(index.remove(self)?.1)
+        let Some((key, value)) = index.remove(self) else {
+            return None;
+        };
+        drop(key);
+        Some(value)
     }
 
     /// Takes the pair with a key out, and puts the last pair in its place. None where it is not there.
@@ -179,13 +182,16 @@ impl IObject {
 
     /// Takes the pair with a key out, closes up those behind it, and answers its value. So the order stays. That takes time
     /// linear in the capacity of the object, unless the pair is the last. None where the key is not there.
-    #[tactic(auto, using(crate::proofs::pairs::PairLookups::lookup_pair))]
     pub fn shift_remove<I: ObjectIndex>(&mut self, index: I) -> Option<IValue>
         ensures value { result ≡ lookup (I.Sealed.key index) self.old.pairs }
         ensures pairs { self.new.pairs ≡ shift_out_key (I.Sealed.key index) self.old.pairs }
         ensures capacity { self.new.capacity ≡ self.old.capacity }
     {
-        Some(index.shift_remove(self)?.1)
+        let Some((key, value)) = index.shift_remove(self) else {
+            return None;
+        };
+        drop(key);
+        Some(value)
     }
 
     /// Takes the pair with a key out, and closes up those behind it. So the order stays. That takes time linear in the capacity of the

@@ -164,7 +164,10 @@ impl IObject {
             return Ok(());
         }
         let mut table = FixedTable::new(self.alloc);
-        table.reserve(additional)?;
+        if let Err(error) = table.reserve(additional) {
+            drop(table);
+            return Err(error);
+        }
         drop(mem::replace(self, IObject::of_table(self.alloc, table)?));
         Ok(())
     }
