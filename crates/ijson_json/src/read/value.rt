@@ -1,9 +1,8 @@
 //! Reading a value of any kind: arrays and objects here, the others by `scalar`.
 
-ghost use Rattle.std.specs.Prelude.{◌≡◌, ◌≢◌, ◌⊎◌, ◌∷◌, ◌<◌, ◌≤◌, length, MatchResult, IsTrue, IsFalse};
+ghost use Rattle.std.specs.Prelude.{◌≡◌, ◌≢◌, ◌⊎◌, ◌∷◌, ◌<◌, ◌≤◌, IsTrue, IsFalse};
 ghost use Rattle.ijson_json.specs.Limits.{max_depth};
 ghost use Rattle.ijson_json.specs.private.ReadsValue.{ReadsValue};
-ghost use Rattle.ijson_json.specs.declared.fault.Fault.TheVariants.{TooDeep};
 
 use crate::fault::Fault;
 use crate::read::delimiter::Delimiter;
@@ -31,19 +30,6 @@ fn opens_container(byte: u8) -> bool
     byte == b'[' || byte == b'{'
 }
 
-/// Refuses a container at the front of the text inside as many as may be open.
-fn check_depth(text: &str, opened: usize) -> Result<(), Fault>
-    requires { opened ≤ max_depth }
-    ensures { MatchResult result
-        (λ _. opened < max_depth)
-        (λ fault. (opened ≡ max_depth) × (fault ≡ TooDeep (length text.now))) }
-{
-    if opened == MAX_DEPTH {
-        return Err(Fault::TooDeep { left: text.len() });
-    }
-    Ok(())
-}
-
 /// The value at the front of the text, inside so many open containers.
 #[cycle(read)]
 #[inline(always)]
@@ -66,8 +52,8 @@ pub(crate) fn read_value<'a, S: BuildHasher>(
     read_scalar(alloc, cache, &mut scratch.content, text, first)
 }
 
-/// The array or object at the front of a text that begins with this bracket. It is in line, and what it calls is not: so a scalar has
-/// no place in memory, and room for a container is cleared for containers alone.
+/// The array or object at the front of a text that begins with this bracket. One inside as many as may be open is refused. It is in
+/// line, and what it calls is not: so a scalar has no place in memory, and room for a container is cleared for containers alone.
 #[cycle(read)]
 #[inline(always)]
 fn read_container<'a, S: BuildHasher>(
@@ -84,12 +70,15 @@ fn read_container<'a, S: BuildHasher>(
     requires opens { (first ≡ 91) ⊎ (first ≡ 123) }
     ensures { ReadsValue opened text.now result cache.old cache.new scratch.old scratch.new }
 {
-    check_depth(text, opened)?;
-    let (container, rest) = if first == b'[' {
-        read_array(alloc, cache, scratch, inside, opened)?
+    if opened == MAX_DEPTH {
+        return Err(Fault::TooDeep { left: text.len() });
+    }
+    let read = if first == b'[' {
+        read_array(alloc, cache, scratch, inside, opened)
     } else {
-        read_object(alloc, cache, scratch, inside, opened)?
+        read_object(alloc, cache, scratch, inside, opened)
     };
+    let (container, rest) = read?;
     Ok((container, rest))
 }
 

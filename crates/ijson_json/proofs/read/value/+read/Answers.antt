@@ -1,17 +1,23 @@
 use Rattle.std.proofs.Common.{◌≡◌, ◌⊎◌, inl, inr, length, List, [], ◌∷◌, ◌++◌, ◌+◌, ℕ, ap, subst, sym, refl, ◌∙◌, arith, rules, map}
+use Rattle.std.specs.Prelude.{Result, Err, IsErrAnd}
+use Rattle.std.specs.Borrow.{Bor}
 use Rattle.std.proofs.lemmas.Grind.{common_steps}
 use Rattle.std.proofs.lemmas.Result.{err_from_is_err_and}
 use Rattle.ijson_table.specs.Store.{put_each}
 use Rattle.ijson_value.specs.Tree.{Tree, array, object, items_of, members_of}
 use Rattle.ijson_value.specs.WellFormed.{WellFormed, item_trees, pair_trees}
 use Rattle.ijson_value.specs.laws.MemberTrees.{pair_tree}
+use Rattle.ijson_string.specs.Cache.{Texts}
+use Rattle.ijson_json.specs.AddsOnlyRead.{AddsOnlyRead}
 use Rattle.ijson_json.specs.AreShared.{AreShared, MembersAreShared}
 use Rattle.ijson_json.specs.Limits.{max_depth}
 use Rattle.ijson_json.specs.declared.fault.Fault.{Fault}
-use Rattle.ijson_json.specs.declared.fault.Fault.TheVariants.{TooDeep}
+use Rattle.ijson_json.specs.declared.fault.Fault.TheVariants.{TooDeep, Memory}
 use Rattle.ijson_json.specs.declared.read.delimiter.Delimiter.{Delimiter}
+use Rattle.ijson_json.specs.declared.read.scratch.Scratch.{Scratch}
 use Rattle.ijson_json.specs.private.Explains.{Explains}
 use Rattle.ijson_json.specs.private.Delimiters.{DelimiterAt}
+use Rattle.ijson_json.specs.private.ReadsValue.{ReadsValue}
 use Rattle.ijson_json.proofs.scanning.Prefixes.{closes}
 use Rattle.ijson_json.proofs.grammar.ElementShapes.{items_shape, members_shape}
 use Rattle.ijson_json.proofs.reading.ArraysAndObjects.{arrays, objects}
@@ -22,8 +28,15 @@ use Rattle.ijson_json.proofs.reading.Gathering.{gathered_start, gathered_adds, g
 use Rattle.ijson_json.proofs.reading.Gathering.{gathered_taken, gathered_left}
 use Rattle.ijson_json.proofs.reading.GatheredTrees.{kept_items, kept_members}
 use Rattle.ijson_json.proofs.reading.Members.{member_read, member_fault}
-use Rattle.ijson_json.proofs.reading.Values.{no_character, scalar_read}
+use Rattle.ijson_json.proofs.reading.Values.{begins, no_character, scalar_read}
 use Rattle.ijson_json.proofs.read.value.+read.Goals as goal
+use Rattle.ijson_json.proofs.read.value.+read.Goals.{read_container-then-first-eq91, read_container-else-first-eq91}
+
+-- what the exit of a `?` answers
+refused : {opened : ℕ} {text : List ℕ} {r : Result (WellFormed × Bor (List ℕ)) Fault} {old new : Texts} {before after : Scratch}
+    (fault : Fault) → IsErrAnd r (λ e. e ≡ fault) → AddsOnlyRead text old new → Explains opened text fault
+    → ReadsValue opened text r old new before after
+refused {r = r} fault is adds explains = let p = err_from_is_err_and r is in rw (p.1, p.2) (record { cache = adds; answer = explains })
 
 -- ---- a value
 pub read_value-returns-in_default : goal.read_value-returns-in_default
@@ -44,14 +57,43 @@ container_too_deep opened text inside first fault begins (inl is) deep =
 container_too_deep opened text inside first fault begins (inr is) deep =
     bracket_too_deep (List ℕ × Tree) members_shape objects opened text inside fault (begins ∙ ap (λ b. b ∷ inside) is) deep
 
-pub read_container-returns-in_err-check_depth : goal.read_container-returns-in_err-check_depth
-read_container-returns-in_err-check_depth g t c =
+pub read_container-returns-then-opened-eq-MAX_DEPTH : goal.read_container-returns-then-opened-eq-MAX_DEPTH
+read_container-returns-then-opened-eq-MAX_DEPTH g t c = record {
+  cache = adds_none c.args.text.now c.args.cache.now;
+  answer = container_too_deep c.args.opened c.args.text.now c.args.inside.now c.args.first _ (search rules) (search rules)
+      (c.if-opened-eq-MAX_DEPTH.true, refl);
+}
+
+-- what was read behind the bracket was read of the whole text
+bracketed : {opened : ℕ} {r s : Result (WellFormed × Bor (List ℕ)) Fault} {old new last : Texts} {before after final : Scratch}
+    (text inside : List ℕ) (first b : ℕ) → text ≡ first ∷ inside → first ≡ b → s ≡ r → last ≡ new → final ≡ after
+    → ReadsValue opened (b ∷ inside) r old new before after → ReadsValue opened text s old last before final
+bracketed text inside first b begin is result cache scratch read = rw (result, cache, scratch, begins b text first inside begin is) read
+
+other : (first : ℕ) → (first ≡ 91) ⊎ (first ≡ 123) → (first ≡ 91 → ⊥) → first ≡ 123
+other first (inl is) not = absurd (not is)
+other first (inr is) not = is
+
+pub read_container-returns : goal.read_container-returns
+read_container-returns g t c = elim c.if-first-eq91.branch [
+  | read_container-then-first-eq91 w ↦ bracketed c.args.text.now c.args.inside.now c.args.first 91 (search rules) w.if-first-eq91.true
+      (sym c.in_ok-container.was ∙ w.read-is) w.cache-is w.scratch-is w.read_array-read.ensures
+  | read_container-else-first-eq91 w ↦ bracketed c.args.text.now c.args.inside.now c.args.first 123 (search rules)
+      (other c.args.first (search rules) w.if-first-eq91.false)
+      (sym c.in_ok-container.was ∙ w.read-is) w.cache-is w.scratch-is w.read_object-read.ensures
+]
+
+pub read_container-returns-in_err-container : goal.read_container-returns-in_err-container
+read_container-returns-in_err-container g t c =
     let p = err_from_is_err_and c.from_residual.result c.from_residual.ensures.1 in
-    rw (p.1, p.2) (record {
-      cache = adds_none c.args.text.now c.args.cache.now;
-      answer = container_too_deep c.args.opened c.args.text.now c.args.inside.now c.args.first c.in_err-check_depth.field-0.0
-          (search rules) (search rules) c.in_err-check_depth.ensures;
-    })
+    let is = p.1 ∙ ap Err p.2 ∙ sym c.in_err-container.was in
+    elim c.if-first-eq91.branch [
+      | read_container-then-first-eq91 w ↦ bracketed c.args.text.now c.args.inside.now c.args.first 91 (search rules)
+          w.if-first-eq91.true (is ∙ w.read-is) w.cache-is w.scratch-is w.read_array-read.ensures
+      | read_container-else-first-eq91 w ↦ bracketed c.args.text.now c.args.inside.now c.args.first 123 (search rules)
+          (other c.args.first (search rules) w.if-first-eq91.false)
+          (is ∙ w.read-is) w.cache-is w.scratch-is w.read_object-read.ensures
+    ]
 
 -- ---- an array
 pub read_array-returns-in-Some : goal.read_array-returns-in-Some
@@ -80,24 +122,18 @@ read_array-loop-item-init g t c = record {
 
 pub read_array-returns-in_err-item : goal.read_array-returns-in_err-item
 read_array-returns-in_err-item g t c =
-    let p = err_from_is_err_and c.from_residual.result c.from_residual.ensures.1 in
     let i = c.loop-item.invariant.read in
-    rw (p.1, p.2) (record {
-      cache = gathered_adds i c.read_value.ensures.cache;
-      answer = element_fault Tree items_shape arrays c.args.opened (91 ∷ c.args.inside.now) c.loop-item.rest.now i.written
-          c.in_err-item.field-0.0 i.reached c.in_err-item.ensures.answer;
-    })
+    refused c.in_err-item.field-0.0 c.from_residual.ensures.1 (gathered_adds i c.read_value.ensures.cache)
+    (element_fault Tree items_shape arrays c.args.opened (91 ∷ c.args.inside.now) c.loop-item.rest.now i.written
+    c.in_err-item.field-0.0 i.reached c.in_err-item.ensures.answer)
 
 pub read_array-returns-in_err-next : goal.read_array-returns-in_err-next
 read_array-returns-in_err-next g t c =
-    let p = err_from_is_err_and c.from_residual-in_err-next.result c.from_residual-in_err-next.ensures.1 in
     let i = c.loop-item.invariant.read in
     let item = c.in_ok-item.ensures.answer.read in
-    rw (p.1, p.2) (record {
-      cache = gathered_adds i c.read_value.ensures.cache;
-      answer = push_fault Tree items_shape arrays c.args.opened (91 ∷ c.args.inside.now) c.loop-item.rest.now
-          c.in_ok-item.after.now i.written item.0 c.in_err-next.field-0.0 i.reached item.1 c.in_err-next.ensures.fault;
-    })
+    refused c.in_err-next.field-0.0 c.from_residual-in_err-next.ensures.1 (gathered_adds i c.read_value.ensures.cache)
+    (push_fault Tree items_shape arrays c.args.opened (91 ∷ c.args.inside.now) c.loop-item.rest.now
+    c.in_ok-item.after.now i.written item.0 c.in_err-next.field-0.0 i.reached item.1 c.in_err-next.ensures.fault)
 
 pub read_array-loop-item-preserved : goal.read_array-loop-item-preserved
 read_array-loop-item-preserved g t c =
@@ -113,10 +149,8 @@ read_array-loop-item-preserved g t c =
     }
 
 pub read_array-returns-in_err-items-in-End : goal.read_array-returns-in_err-items-in-End
-read_array-returns-in_err-items-in-End g t c = record {
-  cache = gathered_adds c.loop-item.invariant.read c.read_value.ensures.cache;
-  answer = search rules;
-}
+read_array-returns-in_err-items-in-End g t c =
+    refused Memory c.from_residual-in_err-items-in-End.ensures.1 (gathered_adds c.loop-item.invariant.read c.read_value.ensures.cache) tt
 
 pub read_array-returns-in-End : goal.read_array-returns-in-End
 read_array-returns-in-End g t c =
@@ -173,13 +207,10 @@ read_object-loop-key-init g t c = record {
 
 pub read_object-returns-in_err-key : goal.read_object-returns-in_err-key
 read_object-returns-in_err-key g t c =
-    let p = err_from_is_err_and c.from_residual.result c.from_residual.ensures.1 in
     let i = c.loop-key.invariant.read in
-    rw (p.1, p.2) (record {
-      cache = gathered_adds i c.read_key.ensures.cache;
-      answer = element_fault (List ℕ × Tree) members_shape objects c.args.opened (123 ∷ c.args.inside.now) c.loop-key.rest.now
-          i.written c.in_err-key.field-0.0 i.reached (c.in_err-key.ensures.answer (c.args.opened + 1));
-    })
+    refused c.in_err-key.field-0.0 c.from_residual.ensures.1 (gathered_adds i c.read_key.ensures.cache)
+    (element_fault (List ℕ × Tree) members_shape objects c.args.opened (123 ∷ c.args.inside.now) c.loop-key.rest.now
+    i.written c.in_err-key.field-0.0 i.reached (c.in_err-key.ensures.answer (c.args.opened + 1)))
 
 pub read_object-returns-in-Err : goal.read_object-returns-in-Err
 read_object-returns-in-Err g t c =
@@ -194,16 +225,14 @@ read_object-returns-in-Err g t c =
 
 pub read_object-returns-in_err-next : goal.read_object-returns-in_err-next
 read_object-returns-in_err-next g t c =
-    let p = err_from_is_err_and c.from_residual-in_err-next.result c.from_residual-in_err-next.ensures.1 in
     let i = c.loop-key.invariant.read in
     let key = c.in_ok-key.ensures.answer.read in
     let value = c.in-Ok.ensures.answer.read in
-    rw (p.1, p.2) (record {
-      cache = gathered_adds i (adds_behind_key key c.read_key.ensures.cache c.read_value.ensures.cache);
-      answer = push_fault (List ℕ × Tree) members_shape objects c.args.opened (123 ∷ c.args.inside.now) c.loop-key.rest.now
-          c.in-Ok.after.now i.written (c.in_ok-key.key, value.0) c.in_err-next.field-0.0 i.reached
-          (member_read key value.1) c.in_err-next.ensures.fault;
-    })
+    refused c.in_err-next.field-0.0 c.from_residual-in_err-next.ensures.1
+    (gathered_adds i (adds_behind_key key c.read_key.ensures.cache c.read_value.ensures.cache))
+    (push_fault (List ℕ × Tree) members_shape objects c.args.opened (123 ∷ c.args.inside.now) c.loop-key.rest.now
+    c.in-Ok.after.now i.written (c.in_ok-key.key, value.0) c.in_err-next.field-0.0 i.reached
+    (member_read key value.1) c.in_err-next.ensures.fault)
 
 pub read_object-loop-key-preserved : goal.read_object-loop-key-preserved
 read_object-loop-key-preserved g t c =
@@ -225,11 +254,9 @@ read_object-loop-key-preserved g t c =
     }
 
 pub read_object-returns-in_err-object-in-End : goal.read_object-returns-in_err-object-in-End
-read_object-returns-in_err-object-in-End g t c = record {
-  cache = gathered_adds c.loop-key.invariant.read
-      (adds_behind_key c.in_ok-key.ensures.answer.read c.read_key.ensures.cache c.read_value.ensures.cache);
-  answer = search rules;
-}
+read_object-returns-in_err-object-in-End g t c =
+    refused Memory c.from_residual-in_err-object-in-End.ensures.1 (gathered_adds c.loop-key.invariant.read
+    (adds_behind_key c.in_ok-key.ensures.answer.read c.read_key.ensures.cache c.read_value.ensures.cache)) tt
 
 pub read_object-returns-in-End : goal.read_object-returns-in-End
 read_object-returns-in-End g t c =
@@ -280,3 +307,21 @@ read_object-loop-key-smaller g t c = grind (arith, common_steps)
 
 pub read_object-take_members-requires : goal.read_object-take_members-requires
 read_object-take_members-requires g t c = grind (arith, common_steps)
+
+pub read_array-overflow_add-opened : goal.read_array-overflow_add-opened
+read_array-overflow_add-opened g t c = omega arith
+
+pub read_array-read_value-requires : goal.read_array-read_value-requires
+read_array-read_value-requires g t c κs within = (omega arith, (within.0, (within.1, omega arith)))
+
+pub read_object-overflow_add-opened : goal.read_object-overflow_add-opened
+read_object-overflow_add-opened g t c = omega arith
+
+pub read_object-read_value-requires : goal.read_object-read_value-requires
+read_object-read_value-requires g t c κs within = (omega arith, (within.0, (within.1, omega arith)))
+
+pub read_container-read_array-read-requires : goal.read_container-read_array-read-requires
+read_container-read_array-read-requires g t c κs within = (omega arith, (within.0, (within.1, omega arith)))
+
+pub read_container-read_object-read-requires : goal.read_container-read_object-read-requires
+read_container-read_object-read-requires g t c κs within = (omega arith, (within.0, (within.1, omega arith)))
