@@ -212,8 +212,7 @@ impl INumber {
         ensures number { IfOk result (λ n. n.decimal ≡ prefix_number prefix) }
         ensures refused { OnErr result (is_digits (form_of (prefix_number prefix)) ≡ true) }
     {
-        if let Some(short) = prefix.short() {
-            let number = Box::new(alloc, short)?;
+        if let Some(number) = prefix.short(alloc)? {
             return Ok(INumber {
                 stored: Stored::Short(number),
             });

@@ -61,26 +61,52 @@ impl ShortDigits {
         })
     }
 
-    /// The digits of a number that isn't zero.
+    /// The digits of a number that isn't zero. Each way has a buffer of its own: one for both would be written to memory in parts and read
+    /// back at once, for which a processor waits.
+    #[inline(always)]
     pub fn of_number(number: u64) -> ShortDigits
         requires some { 0 < number }
         requires few { number < 10 ^ 19 }
         ensures { short_digits result ≡ digits_of 10 number }
     {
-        let mut buffer = [0; WORD_DIGITS];
         if number < LANES_END {
-            let lanes = lanes_of(number);
-            buffer[WORD_DIGITS - LANES..].copy_from_slice(&(lanes - u8x16::splat(b'0')).to_array());
-            return ShortDigits {
-                count: (LANES - zeros_in_front(lanes)) as u8,
-                buffer,
-            };
+            return ShortDigits::of_row(number);
         }
-        let mut text = [0; WORD_DIGITS];
-        let start = write_digits(number, &mut text, WORD_DIGITS);
-        make_digits(&text, &mut buffer);
+        ShortDigits::of_wide(number)
+    }
+
+    /// The digits of a number that isn't zero and has no more than a row.
+    #[inline(always)]
+    fn of_row(number: u64) -> ShortDigits
+        requires some { 0 < number }
+        requires row { number < 10 ^ 16 }
+        ensures { short_digits result ≡ digits_of 10 number }
+    {
+        let lanes = lanes_of(number);
+        let mut buffer = [0; WORD_DIGITS];
+        buffer[WORD_DIGITS - LANES..].copy_from_slice(&(lanes - u8x16::splat(b'0')).to_array());
         ShortDigits {
-            count: (WORD_DIGITS - start) as u8,
+            count: (LANES - zeros_in_front(lanes)) as u8,
+            buffer,
+        }
+    }
+
+    /// The digits of a number that has one to three more than a row.
+    #[inline(always)]
+    fn of_wide(number: u64) -> ShortDigits
+        requires wide { 10 ^ 16 ≤ number }
+        requires few { number < 10 ^ 19 }
+        ensures { short_digits result ≡ digits_of 10 number }
+    {
+        let front = number / LANES_END;
+        let digits = lanes_of(number % LANES_END) - u8x16::splat(b'0');
+        let mut buffer = [0; WORD_DIGITS];
+        buffer[0] = (front / 100) as u8;
+        buffer[1] = (front / 10 % 10) as u8;
+        buffer[2] = (front % 10) as u8;
+        buffer[WORD_DIGITS - LANES..].copy_from_slice(&digits.to_array());
+        ShortDigits {
+            count: LANES as u8 + 1 + u8::from(front >= 10) + u8::from(front >= 100),
             buffer,
         }
     }

@@ -1,7 +1,7 @@
 //! What is stored of a number that `parse::prefix` has read: a word, or 24 bytes.
-ghost use Rattle.std.specs.Prelude.{◌≡◌, ◌<◌, ◌≤◌, ◌^◌, pos, neg_ℤ, true, IfSome, IsSome, List, ℕ};
+ghost use Rattle.std.specs.Prelude.{◌≡◌, ◌<◌, ◌≤◌, ◌^◌, pos, neg_ℤ, true, IfOk, IfSome, IsSome, OnErr, List, ℕ};
 ghost use Rattle.ijson_number.specs.Decimal.{Decimal};
-ghost use Rattle.ijson_number.specs.Form.{form_of};
+ghost use Rattle.ijson_number.specs.Form.{form_of, is_digits};
 ghost use Rattle.ijson_number.specs.Strips.{Strips, signed};
 ghost use Rattle.ijson_number.specs.private.Prefix.{IsDeepPrefix, IsOutsidePower, IsPowerSmall, IsPrefix, IsWordPrefix};
 ghost use Rattle.ijson_number.specs.private.Prefix.{prefix_number, power_number};
@@ -12,6 +12,7 @@ use crate::repr::choice::{stored_signed, stored_unsigned};
 use crate::repr::digits::{ShortDigits, WORD_DIGITS, without_zeros};
 use crate::repr::stored::{ShortNumber, Stored};
 use crate::repr::word::{PACKED_END, Word};
+use std::alloc::{AllocError, Global};
 
 /// The magnitude, or what is as far below zero.
 fn with_sign(negative: bool, magnitude: u64) -> i64
@@ -62,22 +63,27 @@ impl Prefix {
         Some(stored_unsigned(self.magnitude))
     }
 
-    /// The number in 24 bytes, where too many of its digits stand behind the point for a word.
-    pub fn short(self) -> Option<ShortNumber>
+    /// The number in a block of 24 bytes, where too many of its digits stand behind the point for a word. It is boxed here, and not where
+    /// this is called: an answer by value would be written to memory in parts and read back at once, for which a processor waits.
+    #[inline(always)]
+    pub fn short(self, alloc: Global) -> Result<Option<Box<ShortNumber>>, AllocError>
         requires { (text : List ℕ) × IsPrefix text self }
-        ensures form { IfSome result (λ n. short_form n ≡ form_of (prefix_number self)) }
-        ensures deep { IsDeepPrefix self → IsSome result }
+        ensures form { IfOk result (λ found. IfSome found (λ n. short_form n.value ≡ form_of (prefix_number self))) }
+        ensures deep { IsDeepPrefix self → IfOk result IsSome }
+        ensures refused { OnErr result (is_digits (form_of (prefix_number self)) ≡ true) }
     {
         let (number, scale) = without_zeros(self.magnitude, self.scale);
         if scale <= 7 {
-            return None;
+            return Ok(None);
         }
-        Some(ShortNumber {
+        let short = ShortNumber {
             exponent: -(scale as i16),
             negative: self.negative,
             point: true,
             digits: ShortDigits::of_number(number),
-        })
+        };
+        let short = Box::new(alloc, short)?;
+        Ok(Some(short))
     }
 
     /// The number times a power of ten, in 24 bytes, where its exponent is too small or too large for a word. It may be stored so
