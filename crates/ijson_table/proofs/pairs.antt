@@ -6,3 +6,4 @@ pub mod PutEach
 pub mod Replaced
 pub mod RunSteps
 pub mod SameStores
+pub mod Shown

@@ -1,7 +1,6 @@
 -- What changes of a list of pairs keep: its distinct keys, their positions and the values beside them.
 use Rattle.std.proofs.Common.{◌≡◌, ◌≢◌, ℕ, zero, suc, ◌+◌, ◌-◌, ◌<◌, ◌⊎◌, inl, inr, arith, List, [], ◌∷◌, ◌++◌, length, get_or, set, take}
-use Rattle.std.proofs.Common.{Some, None, cond, refl, sym, ap, subst, ◌∙◌, length-append, get_or-set_other}
-use Rattle.std.proofs.Common.{get_or-set_same, length-take}
+use Rattle.std.proofs.Common.{Some, None, cond, refl, sym, ap, subst, ◌∙◌, length-append, get_or-set_other, get_or-set_same, length-take}
 use Rattle.std.proofs.Math.ListN.{get_or-append}
 use Rattle.std.proofs.Math.Seq.{get_or-append_seam}
 use Rattle.std.specs.Prelude.{swap_remove, slice_get}

@@ -1,7 +1,6 @@
 -- What is kept of a hash among so many slots tells the same home, so the slots are ordered by it as by the whole hash.
-use Rattle.std.proofs.Common.{◌≡◌, ◌≢◌, inl, inr, ℕ, zero, suc, ◌+◌, ◌*◌, ◌%◌, ◌<◌, ◌≤◌, arith, true, false}
-use Rattle.std.proofs.Common.{List, [], ◌∷◌, ◌++◌, length, map, get_or}
-use Rattle.std.proofs.Common.{leb, Option, Some, None, refl, sym, ap, subst, ◌∙◌}
+use Rattle.std.proofs.Common.{◌≡◌, ◌≢◌, inl, inr, ℕ, zero, suc, ◌+◌, ◌*◌, ◌%◌, ◌<◌, ◌≤◌, arith, true, false, List, [], ◌∷◌, ◌++◌, length}
+use Rattle.std.proofs.Common.{map, get_or, leb, Option, Some, None, refl, sym, ap, subst, ◌∙◌}
 use Rattle.std.specs.Prelude.{◌-◌, count_by, if◌then◌else◌}
 use Rattle.std.proofs.Math.Nat.{mod-mod, zero-mod}
 use Rattle.std.proofs.lemmas.Bool.Decides.{nat_tests}
@@ -89,6 +88,17 @@ displaced_kept : (n : ℕ) (hs : List ℕ) (p : ℕ) (o : Option ℕ) → displa
 displaced_kept n hs p None = refl
 displaced_kept n hs p (Some i) = ap (λ x. distance n x p + 1) (homes n hs i)
 
+-- Where a position may stand by some hashes, it may by others that displace the slots as far and give it the same home.
+may_alike : (slots : List (Option ℕ)) (hs others : List ℕ) → ((q : ℕ) → displacement hs slots q ≡ displacement others slots q)
+    → (i p : ℕ) → home_at (length slots) hs i ≡ home_at (length slots) others i → MayStand hs slots i p → MayStand others slots i p
+may_alike slots hs others same i p home may =
+    let away = ap (λ x. distance (length slots) x p) home in
+    record {
+      within = may.within;
+      further = omega (arith, may.further, same p, away);
+      led_to = λ q lq e. omega (arith, may.led_to q lq e, same q, away);
+    }
+
 module _ (hs : List ℕ) (slots : List (Option ℕ)) where
   abbrev n : ℕ
   n = length slots
@@ -110,23 +120,11 @@ module _ (hs : List ℕ) (slots : List (Option ℕ)) where
 
   -- where a position may stand by what is kept, it may by the whole hashes
   may_whole : (i p : ℕ) → MayStand short slots i p → MayStand hs slots i p
-  may_whole i p may =
-      let home : distance n (home_at n short i) p ≡ distance n (home_at n hs i) p = ap (λ x. distance n x p) (homes n hs i) in
-      record {
-        within = may.within;
-        further = omega (arith, may.further, displacements p, home);
-        led_to = λ q lq e. omega (arith, may.led_to q lq e, displacements q, home);
-      }
+  may_whole i p = may_alike slots short hs displacements i p (homes n hs i)
 
   -- and the other way round
   may_short : (i p : ℕ) → MayStand hs slots i p → MayStand short slots i p
-  may_short i p may =
-      let home : distance n (home_at n short i) p ≡ distance n (home_at n hs i) p = ap (λ x. distance n x p) (homes n hs i) in
-      record {
-        within = may.within;
-        further = omega (arith, may.further, displacements p, home);
-        led_to = λ q lq e. omega (arith, may.led_to q lq e, displacements q, home);
-      }
+  may_short i p = may_alike slots hs short (λ q. sym (displacements q)) i p (sym (homes n hs i))
 
 module _ (hash : List ℕ → ℕ) (keys : List (List ℕ)) (slots : List (Option ℕ)) where
   abbrev few : List ℕ

@@ -12,9 +12,9 @@ pub record HasRoom (len c : ℕ) : Type 0 where
 -- What n more pairs ask of a store of this length and capacity c: nothing where they have room, else the capacity that it grows to,
 -- unless that passes the limit.
 abbrev pub AsksFor : ℕ → ℕ → ℕ → Result (Option ℕ) ReserveError → Type 0
-AsksFor len c n (Ok None) = len + n ≤ c
-AsksFor len c n (Ok (Some grown)) = (c < len + n) × (grown ≡ wanted len c n) × (grown ≤ capacity_limit)
-AsksFor len c n (Err why) = (c < len + n) × (why ≡ TooLarge) × (capacity_limit < wanted len c n)
+AsksFor len c n (Ok None) = (len + n ≤ c) × (c ≡ wanted len c n)
+AsksFor len c n (Ok (Some grown)) = (c < len + n) × (len + n ≤ grown) × (grown ≡ wanted len c n) × (grown ≤ capacity_limit)
+AsksFor len c n (Err why) = (c < wanted len c n) × (why ≡ TooLarge) × (capacity_limit < wanted len c n)
 
 -- The room became what was asked for, or memory for it was refused. The items stay.
 pub record IsResized {A B E : Type 0} (items : List A) (c room : ℕ) (result : Result B E) (items' : List A)

@@ -183,8 +183,15 @@ impl<V: Drop, H: KeyHash> Table<V, H> {
         index.clear();
         let mut pairs = self.pairs;
         put_back(&mut pairs, rest);
-        let pairs = put_sorted(alloc, pairs, looks)?;
-        fill_sorted::<V, H>(alloc, &pairs, &mut index, looks)?;
+        let Ok(pairs) = put_sorted(alloc, pairs, looks) else {
+            drop(index);
+            return Err(AllocError);
+        };
+        if let Err(refused) = fill_sorted::<V, H>(alloc, &pairs, &mut index, looks) {
+            drop(pairs);
+            drop(index);
+            return Err(refused);
+        }
         Ok(Table {
             pairs,
             index,

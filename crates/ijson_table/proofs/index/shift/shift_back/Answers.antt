@@ -11,8 +11,7 @@ use Rattle.ijson_table.proofs.shifting.BackwardShift.{gap_closed, moved_back, ti
 use Rattle.ijson_table.proofs.slots.HashesInSlots.{positions-length, positions-put, positions-set, position-at, nothing_has_hash, hashes-at}
 use Rattle.ijson_table.proofs.slots.HashesInSlots.{hashes-set, displacement-read}
 use Rattle.ijson_table.proofs.slots.Residents.{some_position}
-use Rattle.ijson_table.proofs.index.shift.shift_back.Goals.{After-is_empty, After-set-in-loop-modulus}
-use Rattle.ijson_table.proofs.index.shift.shift_back.Goals.{then-is_empty-via-then-is_empty}
+use Rattle.ijson_table.proofs.index.shift.shift_back.Goals.{After-is_empty, After-set-in-loop-modulus, then-is_empty-via-then-is_empty}
 use Rattle.ijson_table.proofs.index.shift.shift_back.Goals.{then-is_empty-via-else-is_empty+then-distance-eq0}
 use Rattle.ijson_table.proofs.index.shift.shift_back.Goals as goal
 

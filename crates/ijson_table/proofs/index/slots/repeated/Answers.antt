@@ -1,9 +1,7 @@
-use Rattle.std.proofs.Common.{◌++◌, ◌∷◌, ◌∙◌, [], arith, ap, length}
-use Rattle.std.proofs.lemmas.List.{length-replicate, replicate_more}
-use Rattle.std.proofs.Common.{◌<◌, sym, subst, replicate}
+use Rattle.std.proofs.Common.{◌++◌, ◌∷◌, ◌∙◌, [], arith, ap, length, replicate}
 use Rattle.std.proofs.Math.Nat.{le_antisymm}
-use Rattle.std.proofs.lemmas.Result.{IfOk-from_err, err_from_is_err_and}
-use Rattle.std.specs.Result.{OnErr}
+use Rattle.std.proofs.lemmas.List.{length-replicate, replicate_more}
+use Rattle.std.proofs.lemmas.Result.{err_from_is_err_and}
 use Rattle.ijson_table.proofs.arithmetic.Counting.{less_left}
 use Rattle.ijson_table.proofs.index.slots.repeated.Goals as goal
 
@@ -24,16 +22,9 @@ loop-step-preserved g c = record {
   room = c.push_reserved.ensures.capacity ∙ c.loop-step.invariant.room;
 }
 
-pub returns-in_err-list-clause-items : goal.returns-in_err-list-clause-items
-returns-in_err-list-clause-items g c = IfOk-from_err c.from_residual.result _ c.from_residual.ensures.0
-
-pub returns-in_err-list-clause-room : goal.returns-in_err-list-clause-room
-returns-in_err-list-clause-room g c = IfOk-from_err c.from_residual.result _ c.from_residual.ensures.0
-
-pub returns-in_err-list-clause-refused : goal.returns-in_err-list-clause-refused
-returns-in_err-list-clause-refused g c =
-    let p = err_from_is_err_and c.from_residual.result c.from_residual.ensures.1 in
-    subst (λ r. OnErr r (0 < c.args.count)) (sym p.1) c.in_err-list.ensures.refused
+pub returns-in_err-list : goal.returns-in_err-list
+returns-in_err-list g c = rw (err_from_is_err_and c.from_residual.result c.from_residual.ensures.1).1
+    (record { items = tt; room = tt; refused = c.in_err-list.ensures.refused })
 
 pub loop-step-init : goal.loop-step-init
 loop-step-init g c = record { items = c.in_ok-list.ensures.empty; room = c.in_ok-list.ensures.room }

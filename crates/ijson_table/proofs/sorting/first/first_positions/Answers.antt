@@ -1,7 +1,6 @@
-use Rattle.std.proofs.Common.{◌≡◌, ◌≢◌, ◌<◌, ℕ, length, get_or, Option, Some, None, arith, sym, ap, ◌∙◌}
+use Rattle.std.proofs.Common.{◌≡◌, ◌≢◌, ◌<◌, ℕ, length, get_or, Option, Some, None, arith, sym, ap, ◌∙◌, ◌+◌, ◌^◌, ◌≤◌}
 use Rattle.std.proofs.lemmas.Grind.{common_steps}
 use Rattle.std.proofs.lemmas.Bool.Decides.{nat_tests}
-use Rattle.std.proofs.Common.{◌+◌, ◌^◌, ◌≤◌}
 use Rattle.std.proofs.lemmas.Result.{IfOk-from_err}
 use borrow.Author.Rules.{scaled_Fits}
 use Rattle.ijson_table.specs.Store.{keys_of}

@@ -1,20 +1,16 @@
-use Rattle.std.proofs.Common.{◌≡◌, ◌<◌, ◌∷◌, ◌++◌, [], ◌+◌, length, vec_capacity, sym, ap, subst, ◌∙◌, arith, length-append}
+use Rattle.std.proofs.Common.{◌≡◌, ◌<◌, ◌∷◌, ◌++◌, [], ◌+◌, length, vec_capacity, refl, sym, ap, subst, ◌∙◌, arith, length-append}
 use Rattle.std.proofs.lemmas.Iterator.Adapters.{YieldsList-from_vec}
-use Rattle.std.proofs.lemmas.Iterator.Consumers.{YieldsList-turn, YieldsList-so_far}
+use Rattle.std.proofs.lemmas.Iterator.Consumers.{YieldsList-turn, YieldsList-so_far, YieldsList-end}
 use Rattle.std.proofs.lemmas.List.{with_items_is}
-use Rattle.std.proofs.Common.{refl}
-use Rattle.std.proofs.lemmas.Result.{IfOk-from_err, err_from_is_err_and}
-use Rattle.std.specs.Result.{OnErr}
-use Rattle.std.proofs.lemmas.Iterator.Consumers.{YieldsList-end}
-use Rattle.ijson_table.specs.Store.{with_value}
+use Rattle.std.proofs.lemmas.Result.{err_from_is_err_and}
+use Rattle.ijson_table.specs.Store.{put_each, with_value}
+use Rattle.ijson_table.proofs.arithmetic.Counting.{one_less}
 use Rattle.ijson_table.proofs.firsts.PlacesSoFar.{PlacesSoFar, Turn, place_of, room, with_new, with_old, within}
 use Rattle.ijson_table.proofs.pairs.PairsByKey.{keys-length, position_within}
 use Rattle.ijson_table.proofs.pairs.RunSteps.{map-same}
 use Rattle.ijson_table.proofs.sorting.together.put_together.Given.{Over}
 use Rattle.ijson_table.proofs.sorting.together.put_together.Goals as goal
 use Rattle.ijson_table.proofs.sorting.together.put_together.Goals.{then-first-position, else-first-position, After-index-first, In-Some}
-use Rattle.ijson_table.proofs.arithmetic.Counting.{one_less}
-use Rattle.ijson_table.specs.Store.{put_each}
 
 -- what is known of a turn
 turn : (g : Over) (c : After-index-first g) → Turn c.args.pairs.items c.loop-pair.yielded c.loop-pair.list.items c.args.firsts.items
@@ -132,16 +128,9 @@ loop-pair-preserved g c =
           )
     ]
 
-pub returns-in_err-list-clause-pairs : goal.returns-in_err-list-clause-pairs
-returns-in_err-list-clause-pairs g c = IfOk-from_err c.from_residual.result _ c.from_residual.ensures.0
-
-pub returns-in_err-list-clause-room : goal.returns-in_err-list-clause-room
-returns-in_err-list-clause-room g c = IfOk-from_err c.from_residual.result _ c.from_residual.ensures.0
-
-pub returns-in_err-list-clause-refused : goal.returns-in_err-list-clause-refused
-returns-in_err-list-clause-refused g c =
-    let p = err_from_is_err_and c.from_residual.result c.from_residual.ensures.1 in
-    subst (λ r. OnErr r (0 < c.args.capacity)) (sym p.1) c.in_err-list.ensures.refused
+pub returns-in_err-list : goal.returns-in_err-list
+returns-in_err-list g c = rw (err_from_is_err_and c.from_residual.result c.from_residual.ensures.1).1
+    (record { pairs = tt; room = tt; refused = c.in_err-list.ensures.refused })
 
 pub loop-pair-init : goal.loop-pair-init
 loop-pair-init g c = (

@@ -11,8 +11,9 @@ use Rattle.ijson_table.specs.private.HashIndex.{HashIndex}
 use Rattle.ijson_table.specs.private.KeptHash.{kept, kept_hash}
 use Rattle.ijson_table.specs.private.Lookup.{LookUpEnds}
 use Rattle.ijson_table.specs.private.Probe.{Passed}
+use Rattle.ijson_table.proofs.pairs.Shown.{hashes_in}
 use Rattle.ijson_table.proofs.probing.LookCount.{within_list}
-use Rattle.ijson_table.proofs.probing.KeyHashes.{length-hashes, table_whole, find_ends, find_bounded, nowhere}
+use Rattle.ijson_table.proofs.probing.KeyHashes.{table_whole, find_ends, find_bounded, nowhere}
 use Rattle.ijson_table.proofs.slots.KeptHashes.{home_of_kept, ends_by_hash, bounded_by_hash}
 use Rattle.ijson_table.proofs.table.Table.find.Goals.{After-probe}
 use Rattle.ijson_table.proofs.table.Table.find.Goals as goal
@@ -33,8 +34,7 @@ probe-requires-clause-fits g c = λ m lm passed.
       c.requires.fits,
       c.self.invariant.room.within,
       c.self.invariant.room.limited,
-      ap length c.self.invariant.hashes,
-      length-hashes (kept_hash n g.H.KeyHash.hash_of) c.self.inside.pairs.items,
+      hashes_in c.self.invariant,
     )
 
 pub returns-then-slots-eq0-clause-table : goal.returns-then-slots-eq0-clause-table

@@ -1,9 +1,9 @@
 use Rattle.std.proofs.Common.{◌≡◌, ℕ, ◌≤◌, ◌<◌, ◌+◌, ◌*◌, [], length, map, take, drop, refl, arith, ap, ap₂, sym, subst, ◌∙◌}
-use Rattle.std.proofs.Common.{Result, Ok, Err}
+use Rattle.std.proofs.Common.{Result, Ok, Err, ◌↔◌}
 use Rattle.std.proofs.lemmas.Bool.Decides.{nat_tests}
 use Rattle.std.proofs.lemmas.List.{length-drop, length-take, nil_from_length}
-use Rattle.std.proofs.lemmas.Result.{err_from_is_err_and, IfOk-from_err}
-use Rattle.std.specs.Prelude.{vec_capacity}
+use Rattle.std.proofs.lemmas.Result.{err_from_is_err_and}
+use Rattle.std.specs.Prelude.{vec_capacity, IfOk, IsOk, OnOk}
 use Rattle.std.specs.Result.{IsErrAnd}
 use Rattle.ijson_table.specs.BuildBound.{looks_a_pair}
 use Rattle.ijson_table.specs.Crowd.{slot_count}
@@ -22,11 +22,27 @@ use Rattle.ijson_table.proofs.table.Table.from_pairs_counted.Goals as goal
 no_error : {T : Type 0} {x : T} → ◌≡◌ {A = Result T ReserveError} (Ok x) (Err TooLarge) → ⊥
 no_error bad = cc
 
--- a refusal of memory is not one of a list that is too long
-for_memory : {T : Type 0} (r : Result T ReserveError) (n : ℕ) → IsErrAnd r (λ why. why ≡ Memory) → n ≤ capacity_limit
-    → (r ≡ Err TooLarge → capacity_limit < n) × (capacity_limit < n → r ≡ Err TooLarge)
-for_memory (Ok _) n is within = absurd is
-for_memory (Err why) n is within = (λ bad. cc, λ over. absurd (omega (arith, over, within)))
+-- Memory is refused: what is then left to say is that there are pairs, and what was counted.
+refused : {T : Type 0} (P Q : T → Type 0) (C : Type 0) {G B : Type 0} (r : Result T ReserveError) (n : ℕ) → IsErrAnd r (λ why. why ≡ Memory)
+    → n ≤ capacity_limit → 0 < n → G → B → record {
+      pairs : IfOk r P;
+      capacity : IfOk r Q;
+      too_large : (r ≡ Err TooLarge) ↔ (capacity_limit < n);
+      none : n ≡ 0 → IsOk r;
+      counted : OnOk r C;
+      grows : G;
+      bounded : B;
+    }
+refused P Q C (Ok _) n is within some grows bounded = absurd is
+refused P Q C (Err why) n is within some grows bounded = record {
+  pairs = tt;
+  capacity = tt;
+  too_large = (λ bad. cc, λ over. absurd (omega (arith, over, within)));
+  none = λ zero. absurd (omega (arith, zero, some));
+  counted = tt;
+  grows = grows;
+  bounded = bounded;
+}
 
 -- the capacity is the count of the pairs, and within the limit
 within : (g : Over) (c : In_ok-capacity g) → (c.in_ok-capacity.capacity ≡ length c.args.pairs.items)
@@ -36,47 +52,43 @@ within g c =
     (c.in_ok-capacity.ensures.0 ∙ len, subst (λ n. n ≤ capacity_limit) len c.in_ok-capacity.ensures.1)
 
 -- the first pairs are a table
-placed_in : (g : Over) (c : In-Ok g) → c.in_ok-capacity.capacity ≡ length c.args.pairs.items → length c.args.pairs.items ≤ capacity_limit
-    → IsDistinct (keys_of c.split_rest.new.list.items)
+placed_in : (g : Over) (c : In-Ok g) → (c.in_ok-capacity.capacity ≡ length c.args.pairs.items)
+    × (length c.args.pairs.items ≤ capacity_limit) → IsDistinct (keys_of c.split_rest.new.list.items)
     × IsPlaced g.H.KeyHash.hash_of c.split_rest.new.list.items (vec_capacity c.split_rest.new.list) c.add_new_keys-placed.new.index
-placed_in g c exactly limited =
+placed_in g c are =
     let n = c.add_new_keys-placed.result in
     let list = c.split_rest.new.list in
     let kept : take n c.deref.result.now ≡ list.items = ap (take n) c.deref.ensures.value ∙ sym c.in-Ok.ensures.kept in
     let room : vec_capacity list ≡ length c.args.pairs.items = c.split_rest.ensures.room ∙ c.in_ok-tighten.ensures.room in (
       subst (λ ps. IsDistinct (keys_of ps)) kept c.add_new_keys-placed.ensures.placed.distinct,
       record {
-        room = record { within = omega (arith, list.ok); limited = subst (λ m. m ≤ capacity_limit) (sym room) limited };
+        room = record { within = omega (arith, list.ok); limited = subst (λ m. m ≤ capacity_limit) (sym room) are.1 };
         hashes = c.add_new_keys-placed.ensures.placed.hashes
             ∙ ap₂ (λ m ps. map (kept_hash m g.H.KeyHash.hash_of) (keys_of ps)) (sym c.add_new_keys-placed.ensures.count) kept;
         size = c.add_new_keys-placed.ensures.count
-            ∙ (c.in_ok-index.ensures.count ∙ (c.slots_for.ensures ∙ ap slot_count (exactly ∙ sym room)));
+            ∙ (c.in_ok-index.ensures.count ∙ (c.slots_for.ensures ∙ ap slot_count (are.0 ∙ sym room)));
       },
     )
 
 pub invariant_of-table-inside : goal.invariant_of-table-inside
 invariant_of-table-inside g c =
     let w = goal.at.invariant_of-table-inside g c in
-    let are = within g w.In_ok-capacity in
-    ((placed_in g w.In-Ok are.0 are.1).0, tt)
+    ((placed_in g w.In-Ok (within g w.In_ok-capacity)).0, tt)
 
 pub invariant_of-table-inside-2 : goal.invariant_of-table-inside-2
 invariant_of-table-inside-2 g c =
     let w = goal.at.invariant_of-table-inside-2 g c in
-    let are = within g w.In_ok-capacity in
-    ((placed_in g w.In-Ok are.0 are.1).0, tt)
+    ((placed_in g w.In-Ok (within g w.In_ok-capacity)).0, tt)
 
 pub invariant_of-table : goal.invariant_of-table
 invariant_of-table g c =
     let w = goal.at.invariant_of-table g c in
-    let are = within g w.In_ok-capacity in
-    (placed_in g w.In-Ok are.0 are.1).1
+    (placed_in g w.In-Ok (within g w.In_ok-capacity)).1
 
 pub invariant_of-table-2 : goal.invariant_of-table-2
 invariant_of-table-2 g c =
     let w = goal.at.invariant_of-table-2 g c in
-    let are = within g w.In_ok-capacity in
-    (placed_in g w.In-Ok are.0 are.1).1
+    (placed_in g w.In-Ok (within g w.In_ok-capacity)).1
 
 -- the steps so far, beside the bound on them
 few : (g : Over) (c : After-add g) → c.in_ok-capacity.capacity ≡ length c.args.pairs.items
@@ -134,33 +146,15 @@ overflow_mul-most g c = omega (arith, c.in_ok-capacity.ensures)
 
 pub returns-in_err-tighten : goal.returns-in_err-tighten
 returns-in_err-tighten g c =
-    let r = c.from_residual-in_err-tighten.result in
-    let is = c.from_residual-in_err-tighten.ensures in
     let are = within g (goal.at.returns-in_err-tighten g c).In_ok-capacity in
-    record {
-      pairs = IfOk-from_err r _ is.0;
-      capacity = IfOk-from_err r _ is.0;
-      too_large = for_memory r (length c.args.pairs.items) is.1 are.1;
-      none = λ zero. absurd (omega (arith, zero, c.in_err-tighten.ensures.refused));
-      counted = IfOk-from_err r _ is.0;
-      grows = omega arith;
-      bounded = λ k fits. omega arith;
-    }
+    refused _ _ _ c.from_residual-in_err-tighten.result (length c.args.pairs.items) c.from_residual-in_err-tighten.ensures.1 are.1
+    c.in_err-tighten.ensures.refused (omega arith) (λ k fits. omega arith)
 
 pub returns-in_err-index : goal.returns-in_err-index
 returns-in_err-index g c =
-    let r = c.from_residual-in_err-index.result in
-    let is = c.from_residual-in_err-index.ensures in
     let are = within g (goal.at.returns-in_err-index g c).In_ok-capacity in
-    record {
-      pairs = IfOk-from_err r _ is.0;
-      capacity = IfOk-from_err r _ is.0;
-      too_large = for_memory r (length c.args.pairs.items) is.1 are.1;
-      none = λ zero. absurd (omega (arith, zero, c.in_err-index.ensures.refused, c.slots_for.ensures, are.0));
-      counted = IfOk-from_err r _ is.0;
-      grows = omega arith;
-      bounded = λ k fits. omega arith;
-    }
+    refused _ _ _ c.from_residual-in_err-index.result (length c.args.pairs.items) c.from_residual-in_err-index.ensures.1 are.1
+    (omega (arith, c.in_err-index.ensures.refused, c.slots_for.ensures, are.0)) (omega arith) (λ k fits. omega arith)
 
 pub add_new_keys-placed-requires : goal.add_new_keys-placed-requires
 add_new_keys-placed-requires g c =
@@ -192,15 +186,9 @@ pub returns-in_default : goal.returns-in_default
 returns-in_default g c =
     let w = goal.at.returns-in_default g c in
     let are = within g w.In_ok-capacity in
-    record {
-      pairs = tt;
-      capacity = tt;
-      too_large = for_memory _ (length c.args.pairs.items) refl are.1;
-      none = λ zero. absurd (omega (arith, zero, c.in_default.ensures.refused, ap length c.tighten.ensures.items));
-      counted = tt;
-      grows = omega (arith, c.add.ensures);
-      bounded = λ k fits. omega (arith, few g w.After-add are.0, c.add.ensures);
-    }
+    refused (λ _. Unit) (λ _. Unit) Unit (Err Memory) (length c.args.pairs.items) refl are.1
+    (omega (arith, c.in_default.ensures.refused, ap length c.tighten.ensures.items)) (omega (arith, c.add.ensures))
+    (λ k fits. omega (arith, few g w.After-add are.0, c.add.ensures))
 
 pub returns-then-is_empty : goal.returns-then-is_empty
 returns-then-is_empty g c =
@@ -236,25 +224,16 @@ with_rest-requires g c =
 pub returns-in_err-with_rest : goal.returns-in_err-with_rest
 returns-in_err-with_rest g c =
     let w = goal.at.returns-in_err-with_rest g c in
-    let r = c.from_residual-in_err-with_rest.result in
-    let is = c.from_residual-in_err-with_rest.ensures in
-    let are = within g w.In_ok-capacity in
     let room = room_of g w.In-Ok in
     let some : 0 < length c.in-Ok.rest.items = grind (arith, nat_tests, c.is_empty.ensures, c.if-is_empty.false) in
-    record {
-      pairs = IfOk-from_err r _ is.0;
-      capacity = IfOk-from_err r _ is.0;
-      too_large = for_memory r (length c.args.pairs.items) is.1 are.1;
-      none = λ zero. absurd (omega (arith, zero, some, (apart g w.In-Ok).1));
-      counted = IfOk-from_err r _ is.0;
-      grows = omega (arith, c.add.ensures, c.with_rest.ensures.grows);
-      bounded = λ k fits. omega (
-        arith,
-        c.with_rest.ensures.bounded k (omega (arith, room, fits)),
-        ap (λ n. n * (looks_a_pair + 2 * k)) room,
-        c.add.ensures,
-      );
-    }
+    refused _ _ _ c.from_residual-in_err-with_rest.result (length c.args.pairs.items) c.from_residual-in_err-with_rest.ensures.1
+    (within g w.In_ok-capacity).1 (omega (arith, some, (apart g w.In-Ok).1)) (omega (arith, c.add.ensures, c.with_rest.ensures.grows))
+    (λ k fits. omega (
+      arith,
+      c.with_rest.ensures.bounded k (omega (arith, room, fits)),
+      ap (λ n. n * (looks_a_pair + 2 * k)) room,
+      c.add.ensures,
+    ))
 
 pub returns : goal.returns
 returns g c =

@@ -1,6 +1,6 @@
-use Rattle.std.proofs.Common.{◌≡◌, ℕ, Some, List, length, map, arith, ap, sym, ◌∙◌}
-use Rattle.ijson_table.specs.Placed.{Placed}
+use Rattle.std.proofs.Common.{◌≡◌, ℕ, Some, List, map, arith, ap, sym, ◌∙◌}
 use Rattle.ijson_table.specs.Store.{at, keys_of, lookup}
+use Rattle.ijson_table.proofs.pairs.Shown.{count_shown, pairs_shown}
 use Rattle.ijson_table.proofs.pairs.PairsByKey.{position_within, lookup-position, lookup-absent}
 use Rattle.ijson_table.proofs.probing.ProbeEnds.{found_at-ends}
 use Rattle.ijson_table.proofs.table.Table.get_counted.Goals.{After-found}
@@ -18,7 +18,7 @@ index-requires g c = omega (
   arith,
   position_within c.args.self.now.store.pairs c.args.key.now c.in-Some.at
       (told g (goal.at.index-requires g c).After-found ∙ c.in-Some.is),
-  ap (λ (t : Placed g.row.V.Denot). length t.store.pairs) c.self.view_is,
+  count_shown c.self.view_is,
   c.self.inside.pairs.ok.0,
 )
 
@@ -27,7 +27,7 @@ returns-in-Some-clause-value g c =
     let pairs = c.args.self.now.store.pairs in
     let old = c.self.inside.pairs.items in
     let key : List ℕ = c.args.key.now in
-    let viewed : old ≡ pairs = ap (λ (t : Placed g.row.V.Denot). t.store.pairs) c.self.view_is in
+    let viewed : old ≡ pairs = pairs_shown c.self.view_is in
     let found : at old key ≡ Some c.in-Some.at =
     ap (λ ps. at ps key) viewed ∙ (told g (goal.at.returns-in-Some-clause-value g c).After-found ∙ c.in-Some.is) in
     sym (lookup-position old key c.in-Some.at c.index.result.now found (position_within old key c.in-Some.at found) c.index.ensures)

@@ -3,6 +3,7 @@ use Rattle.std.proofs.lemmas.List.{get_or-map}
 use Rattle.ijson_table.specs.Placed.{Placed}
 use Rattle.ijson_table.specs.Store.{keys_of}
 use Rattle.ijson_table.specs.private.KeptHash.{kept, kept_hash}
+use Rattle.ijson_table.proofs.pairs.Shown.{pairs_shown}
 use Rattle.ijson_table.proofs.pairs.PairsByKey.{keys-length, key_at}
 use Rattle.ijson_table.proofs.table.Table.hash_at.Goals as goal
 
@@ -12,7 +13,7 @@ returns g c =
     let n = length c.self.inside.index.slots in
     let short = kept_hash n hash in
     let old = c.self.inside.pairs.items in
-    let viewed : old ≡ c.args.self.now.store.pairs = ap (λ (t : Placed g.row.V.Denot). t.store.pairs) c.self.view_is in
+    let viewed : old ≡ c.args.self.now.store.pairs = pairs_shown c.self.view_is in
     let li : c.args.index < length old = omega (arith, ap length viewed, c.requires) in
     let key : (get_or old c.args.index c.index.result.now).0 ≡ get_or (keys_of old) c.args.index [] =
     sym (key_at old c.args.index c.index.result.now li) in

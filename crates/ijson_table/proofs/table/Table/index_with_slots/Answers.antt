@@ -1,17 +1,23 @@
-use Rattle.std.proofs.Common.{◌≡◌, ◌≢◌, ◌<◌, length, map, arith, ap, subst, ◌∙◌}
+use Rattle.std.proofs.Common.{◌≡◌, ◌≢◌, ◌<◌, ◌≤◌, length, map, arith, ap, subst, ◌∙◌}
 use Rattle.std.specs.Prelude.{IfOk}
 use Rattle.std.proofs.lemmas.Result.{err_from_is_err_and}
 use Rattle.ijson_table.specs.CopyBound.{IsCopyBounded}
+use Rattle.ijson_table.specs.Growth.{capacity_limit}
 use Rattle.ijson_table.specs.Placed.{Placed}
 use Rattle.ijson_table.specs.Store.{keys_of}
 use Rattle.ijson_table.specs.private.HashIndex.{HashIndex}
 use Rattle.ijson_table.specs.private.KeptHash.{kept_hash, narrow_slots}
-use Rattle.ijson_table.proofs.probing.KeyHashes.{length-hashes}
+use Rattle.ijson_table.specs.private.Room.{HasRoom}
+use Rattle.ijson_table.proofs.pairs.Shown.{count_shown, hashes_in}
 use Rattle.ijson_table.proofs.slots.KeptHashes.{hashes-same}
-use Rattle.ijson_table.proofs.table.Table.index_with_slots.Goals.{After-len}
-use Rattle.ijson_table.proofs.table.Table.index_with_slots.Goals.{then-count-slots-via-then-count-slots}
+use Rattle.ijson_table.proofs.table.Table.index_with_slots.Goals.{After-len, then-count-slots-via-then-count-slots}
 use Rattle.ijson_table.proofs.table.Table.index_with_slots.Goals.{then-count-slots-via-else-count-slots+then-min-gt-NARROW_SLOTS}
 use Rattle.ijson_table.proofs.table.Table.index_with_slots.Goals as goal
+
+-- the pairs that a table shows are within the limit
+few : {V : Type 0} {inside shown : Placed V} → HasRoom (length inside.store.pairs) inside.store.capacity → inside ≡ shown
+    → length shown.store.pairs ≤ capacity_limit
+few room same = omega (arith, room.within, room.limited, ap (λ t. length t.store.pairs) same)
 
 -- where the slots are not as many, there are many here and there
 many : (g : _) (c : After-len g) → c.args.count ≢ length c.self.inside.index.slots
@@ -28,13 +34,8 @@ pub copy_counted-requires : goal.copy_counted-requires
 copy_counted-requires g c =
     let len : c.len.result ≡ length c.self.inside.pairs.items = c.len.ensures ∙ c.self.inside.pairs.ok.0 in
     record {
-      len = omega (
-        arith,
-        len,
-        ap length c.self.invariant.hashes,
-        length-hashes (kept_hash (length c.self.inside.index.slots) g.H.KeyHash.hash_of) c.self.inside.pairs.items,
-      );
-      room = omega (arith, len, ap (λ (t : Placed g.row.V.Denot). length t.store.pairs) c.self.view_is, c.requires.room);
+      len = omega (arith, len, hashes_in c.self.invariant);
+      room = omega (arith, len, count_shown c.self.view_is, c.requires.room);
       steps = c.requires.steps;
       kept = many g (goal.at.copy_counted-requires g c).After-len;
     }
@@ -46,7 +47,7 @@ returns-then-count-slots g c =
     let keys = keys_of c.self.inside.pairs.items in
     let w = (goal.at.returns-then-count-slots g c).After-len in
     let len : c.len.result ≡ length c.args.self.now.store.pairs =
-    c.len.ensures ∙ (c.self.inside.pairs.ok.0 ∙ ap (λ (t : Placed g.row.V.Denot). length t.store.pairs) c.self.view_is) in
+    c.len.ensures ∙ (c.self.inside.pairs.ok.0 ∙ count_shown c.self.view_is) in
     record {
       hashes = subst (λ hs. IfOk c.copy_counted.result (λ (made : HashIndex). made.hashes ≡ hs))
           (c.self.invariant.hashes ∙ (hashes-same (length index.slots) c.args.count hash keys (many g w)
@@ -54,12 +55,7 @@ returns-then-count-slots g c =
           c.copy_counted.ensures.hashes;
       count = c.copy_counted.ensures.count;
       refused = c.copy_counted.ensures.refused;
-      limited = omega (
-        arith,
-        c.self.invariant.room.within,
-        c.self.invariant.room.limited,
-        ap (λ (t : Placed g.row.V.Denot). length t.store.pairs) c.self.view_is,
-      );
+      limited = few c.self.invariant.room c.self.view_is;
       bounded = subst (λ n. IsCopyBounded n c.copy_counted.new.steps) len c.copy_counted.ensures.bounded;
     }
 
@@ -68,13 +64,8 @@ returns-in_err-index g c = rw (err_from_is_err_and c.from_residual.result c.from
   hashes = tt;
   count = tt;
   refused = c.in_err-index.ensures.refused;
-  limited = omega (
-    arith,
-    c.self.invariant.room.within,
-    c.self.invariant.room.limited,
-    ap (λ (t : Placed g.row.V.Denot). length t.store.pairs) c.self.view_is,
-  );
-  bounded = λ k few. omega (arith, c.requires.steps);
+  limited = few c.self.invariant.room c.self.view_is;
+  bounded = λ k fits. omega (arith, c.requires.steps);
 })
 
 pub place_each-requires : goal.place_each-requires
@@ -101,11 +92,6 @@ returns g c = record {
       ∙ ap (λ n. map (kept_hash n g.H.KeyHash.hash_of) (keys_of c.args.self.now.store.pairs)) c.in_ok-index.ensures.count;
   count = c.place_each.ensures.count ∙ c.in_ok-index.ensures.count;
   refused = tt;
-  limited = omega (
-    arith,
-    c.self.invariant.room.within,
-    c.self.invariant.room.limited,
-    ap (λ (t : Placed g.row.V.Denot). length t.store.pairs) c.self.view_is,
-  );
-  bounded = λ k few. omega (arith, c.requires.steps);
+  limited = few c.self.invariant.room c.self.view_is;
+  bounded = λ k fits. omega (arith, c.requires.steps);
 }

@@ -5,6 +5,7 @@ use Rattle.ijson_table.specs.Placed.{Placed}
 use Rattle.ijson_table.specs.Slots.{IsBounded}
 use Rattle.ijson_table.specs.Store.{at, keys_of}
 use Rattle.ijson_table.specs.private.Holds.{MayStand}
+use Rattle.ijson_table.proofs.pairs.Shown.{count_shown, room_shown}
 use Rattle.ijson_table.proofs.pairs.NewPairs.{put_last}
 use Rattle.ijson_table.proofs.pairs.PairsByKey.{lookup-absent, position_within}
 use Rattle.ijson_table.proofs.probing.KeyHashes.{had_room}
@@ -68,8 +69,8 @@ push_at-requires g c =
         c.capacity.ensures,
         c.len.ensures,
         c.self.inside.pairs.ok.0,
-        ap (λ (t : Placed g.row.V.Denot). length t.store.pairs) c.self.view_is,
-        ap (λ (t : Placed g.row.V.Denot). t.store.capacity) c.self.view_is,
+        count_shown c.self.view_is,
+        room_shown c.self.view_is,
       );
       may = subst (λ h. MayStand (hashes ++ h ∷ []) c.args.self.now.slots (length hashes) c.in-Vacant.slot)
           (sym (c.hash-hash.ensures ∙ ap g.H.KeyHash.hash_of (c.as_str.ensures ∙ sym c.as_str-2.ensures))) c.in-Vacant.ensures.ends.2;

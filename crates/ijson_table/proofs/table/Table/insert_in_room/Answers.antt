@@ -7,6 +7,7 @@ use Rattle.ijson_table.specs.Slots.{IsTable}
 use Rattle.ijson_table.specs.Store.{at, keys_of}
 use Rattle.ijson_table.specs.private.Changes.{changes}
 use Rattle.ijson_table.specs.private.Holds.{HasEmpty, MayStand}
+use Rattle.ijson_table.proofs.pairs.Shown.{room_shown}
 use Rattle.ijson_table.proofs.arithmetic.Circular.{distance-below}
 use Rattle.ijson_table.proofs.pairs.NewPairs.{put_last}
 use Rattle.ijson_table.proofs.pairs.PairsByKey.{keys-length, position_within}
@@ -37,7 +38,7 @@ sized : (g : _) (c : After-len-slots g) → IsSized c.len-slots.result (length c
 sized g c = record {
   seen_is = c.len-slots.ensures.count ∙ ap (λ (t : Placed g.row.V.Denot). length t.slots) c.self.view_is;
   size = subst (λ (t : Placed g.row.V.Denot). length t.slots ≡ slot_count t.store.capacity) c.self.view_is c.self.invariant.size;
-  limited = omega (arith, c.self.invariant.room.limited, ap (λ (t : Placed g.row.V.Denot). t.store.capacity) c.self.view_is);
+  limited = omega (arith, c.self.invariant.room.limited, room_shown c.self.view_is);
 }
 
 -- the steps of a new key

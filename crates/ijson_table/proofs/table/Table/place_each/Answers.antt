@@ -1,12 +1,11 @@
-use Rattle.std.proofs.Common.{◌≡◌, ◌≤◌, ◌<◌, ◌+◌, ℕ, List, [], ◌∷◌, ◌++◌, length, map, take, get_or, arith, ap, ap₂, subst, sym, ◌∙◌}
-use Rattle.std.proofs.lemmas.List.{length-map, length-take-le, take_more, take_all}
-use Rattle.std.proofs.Common.{refl, le_of_lt, false, ◌≤◌, ◌==◌}
+use Rattle.std.proofs.Common.{◌≡◌, ◌≤◌, ◌<◌, ◌+◌, ℕ, List, [], ◌∷◌, ◌++◌, length, map, take, get_or, arith, ap, ap₂, subst, sym, ◌∙◌, refl}
+use Rattle.std.proofs.Common.{le_of_lt, false, ◌==◌}
+use Rattle.std.proofs.lemmas.List.{length-map, length-take-le, take_more, take_all, nil_from_length}
 use Rattle.std.proofs.lemmas.Bool.Decides.{nat_tests}
-use Rattle.std.proofs.lemmas.List.{nil_from_length}
-use Rattle.ijson_table.specs.Placed.{Placed}
 use Rattle.ijson_table.specs.Store.{keys_of}
 use Rattle.ijson_table.specs.private.Holds.{MayStand}
 use Rattle.ijson_table.specs.private.KeptHash.{kept, kept_hash}
+use Rattle.ijson_table.proofs.pairs.Shown.{pairs_shown}
 use Rattle.ijson_table.proofs.pairs.PairsByKey.{keys-length}
 use Rattle.ijson_table.proofs.probing.KeyHashes.{hashes-push}
 use Rattle.ijson_table.proofs.slots.KeptHashes.{kept_once}
@@ -30,7 +29,7 @@ module _ {V : Type 0} (f : List ℕ → ℕ) (hashes : List ℕ) (pairs : List (
 
 -- the pairs are lent from the table
 lent : (g : _) (c : After-deref-pairs g) → c.deref-pairs.result.now ≡ c.args.self.now.store.pairs
-lent g c = c.deref-pairs.ensures.value ∙ ap (λ (t : Placed g.row.V.Denot). t.store.pairs) c.self.view_is
+lent g c = c.deref-pairs.ensures.value ∙ pairs_shown c.self.view_is
 
 pub vacancy-slot-requires : goal.vacancy-slot-requires
 vacancy-slot-requires g c =

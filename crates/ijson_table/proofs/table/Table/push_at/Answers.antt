@@ -1,5 +1,4 @@
-use Rattle.std.proofs.Common.{None, ◌≡◌, ◌≤◌, ◌<◌, ◌+◌, [], ◌∷◌, ◌++◌, length, arith, ap, ap₂, sym, ◌∙◌, subst, refl}
-use Rattle.std.proofs.Common.{length-append}
+use Rattle.std.proofs.Common.{None, ◌≡◌, ◌≤◌, ◌<◌, ◌+◌, [], ◌∷◌, ◌++◌, length, arith, ap, ap₂, sym, ◌∙◌, subst, refl, length-append}
 use Rattle.std.specs.Prelude.{vec_capacity}
 use Rattle.ijson_table.specs.Crowd.{distance, slot_count}
 use Rattle.ijson_table.specs.Placed.{Placed}
@@ -9,30 +8,20 @@ use Rattle.ijson_table.specs.Store.{keys_of}
 use Rattle.ijson_table.specs.private.Holds.{MayStand}
 use Rattle.ijson_table.specs.private.KeptHash.{kept, kept_hash}
 use Rattle.ijson_table.specs.private.Probe.{AreFull}
+use Rattle.ijson_table.proofs.pairs.Shown.{count_shown, hashes_in, pairs_shown, room_shown}
 use Rattle.ijson_table.proofs.pairs.NewPairs.{still_distinct}
-use Rattle.ijson_table.proofs.probing.KeyHashes.{hashes, hashes-push, length-hashes}
+use Rattle.ijson_table.proofs.probing.KeyHashes.{hashes, hashes-push}
 use Rattle.ijson_table.proofs.slots.KeptHashes.{kept_once, may_by_kept}
 use Rattle.ijson_table.proofs.table.Table.push_at.Goals.{After-kept_hash-kept, After-len-position}
 use Rattle.ijson_table.proofs.table.Table.push_at.Goals as goal
 
 -- the list has room for a pair
 room : (g : _) (c : After-len-position g) → length c.self.inside.pairs.items < vec_capacity c.self.inside.pairs
-room g c = omega (
-  arith,
-  c.requires.room,
-  ap (λ (t : Placed g.row.V.Denot). length t.store.pairs) c.self.view_is,
-  ap (λ (t : Placed g.row.V.Denot). t.store.capacity) c.self.view_is,
-)
+room g c = omega (arith, c.requires.room, count_shown c.self.view_is, room_shown c.self.view_is)
 
 -- the position is the next one
 next : (g : _) (c : After-len-position g) → c.len-position.result ≡ length c.self.inside.index.hashes
-next g c = omega (
-  arith,
-  c.len-position.ensures,
-  c.self.inside.pairs.ok.0,
-  ap length c.self.invariant.hashes,
-  length-hashes (kept_hash (length c.self.inside.index.slots) g.H.KeyHash.hash_of) c.self.inside.pairs.items,
-)
+next g c = omega (arith, c.len-position.ensures, c.self.inside.pairs.ok.0, hashes_in c.self.invariant)
 
 pub push_reserved-requires : goal.push_reserved-requires
 push_reserved-requires g c =
@@ -75,7 +64,7 @@ push_at-requires-clause-kept g c = kept_once (length c.self.inside.index.slots) 
 
 pub invariant_of-self-inside : goal.invariant_of-self-inside
 invariant_of-self-inside g c =
-    let viewed = ap (λ (t : Placed g.row.V.Denot). t.store.pairs) c.self.view_is in
+    let viewed = pairs_shown c.self.view_is in
     (still_distinct c.args.key c.args.value viewed c.push_reserved.ensures.items refl c.requires.missing c.self.inside.distinct, tt)
 
 pub invariant_of-self : goal.invariant_of-self
@@ -123,7 +112,7 @@ returns-clause-pairs g c = c.push_reserved.ensures.items
     ∙ ap (λ (t : Placed g.row.V.Denot). t.store.pairs ++ (c.args.key, c.args.value) ∷ []) c.self.view_is
 
 pub returns-clause-capacity : goal.returns-clause-capacity
-returns-clause-capacity g c = c.push_reserved.ensures.capacity ∙ ap (λ (t : Placed g.row.V.Denot). t.store.capacity) c.self.view_is
+returns-clause-capacity g c = c.push_reserved.ensures.capacity ∙ room_shown c.self.view_is
 
 pub returns-clause-count : goal.returns-clause-count
 returns-clause-count g c = c.push_at.ensures.count ∙ ap (λ (t : Placed g.row.V.Denot). length t.slots) c.self.view_is
@@ -133,9 +122,4 @@ returns-clause-within g c =
     subst (λ (t : Placed g.row.V.Denot). c.push_at.result < length t.slots) c.self.view_is c.push_at.ensures.within
 
 pub new-requires : goal.new-requires
-new-requires g c = omega (
-  arith,
-  c.len.ensures.count,
-  c.self.invariant.size,
-  room g (goal.at.new-requires g c).After-len-position,
-)
+new-requires g c = omega (arith, c.len.ensures.count, c.self.invariant.size, room g (goal.at.new-requires g c).After-len-position)

@@ -2,8 +2,8 @@ use Rattle.std.proofs.Common.{◌≡◌, [], ◌∷◌, ◌++◌, length, map, a
 use Rattle.ijson_table.specs.Placed.{Placed}
 use Rattle.ijson_table.specs.Store.{keys_of}
 use Rattle.ijson_table.specs.private.Holds.{MayStand}
-use Rattle.ijson_table.specs.private.KeptHash.{kept, kept_hash}
-use Rattle.ijson_table.proofs.probing.KeyHashes.{length-hashes}
+use Rattle.ijson_table.specs.private.KeptHash.{kept}
+use Rattle.ijson_table.proofs.pairs.Shown.{count_shown, hashes_in, room_shown}
 use Rattle.ijson_table.proofs.slots.KeptHashes.{may_by_hash}
 use Rattle.ijson_table.proofs.table.Table.push_hashed.Goals as goal
 
@@ -32,19 +32,12 @@ push_at-requires-clause-missing g c = c.requires.missing
 pub vacancy-slot-requires : goal.vacancy-slot-requires
 vacancy-slot-requires g c = omega (
   arith,
-  ap length c.self.invariant.hashes,
-  length-hashes (kept_hash (length c.self.inside.index.slots) g.H.KeyHash.hash_of) c.self.inside.pairs.items,
+  hashes_in c.self.invariant,
   c.self.invariant.size,
-  ap (λ (t : Placed g.row.V.Denot). length t.store.pairs) c.self.view_is,
-  ap (λ (t : Placed g.row.V.Denot). t.store.capacity) c.self.view_is,
+  count_shown c.self.view_is,
+  room_shown c.self.view_is,
   c.requires.room,
 )
 
 pub new-requires : goal.new-requires
-new-requires g c = omega (
-  arith,
-  c.len.ensures.count,
-  c.self.invariant.size,
-  ap (λ (t : Placed g.row.V.Denot). t.store.capacity) c.self.view_is,
-  c.requires.room,
-)
+new-requires g c = omega (arith, c.len.ensures.count, c.self.invariant.size, room_shown c.self.view_is, c.requires.room)

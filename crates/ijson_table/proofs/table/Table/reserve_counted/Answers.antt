@@ -1,16 +1,11 @@
-use Rattle.std.proofs.Common.{◌≡◌, ℕ, ◌+◌, ◌≤◌, length, Ok, Err, Some, refl, arith, ap, subst, ◌∙◌}
-use Rattle.std.proofs.lemmas.Bool.Decides.{nat_tests}
+use Rattle.std.proofs.Common.{◌≡◌, ◌<◌, ◌≤◌, length, Ok, Err, Some, None, refl, arith, ap, subst, ◌∙◌}
 use Rattle.std.proofs.lemmas.Result.{err_from_is_err_and}
-use Rattle.ijson_table.specs.Growth.{wanted}
-use Rattle.ijson_table.specs.Placed.{Placed}
+use Rattle.ijson_table.specs.Growth.{capacity_limit}
 use Rattle.ijson_table.specs.private.Room.{AsksFor}
+use Rattle.ijson_table.proofs.pairs.Shown.{count_shown, room_shown}
 use Rattle.ijson_table.proofs.table.Table.reserve_counted.Given.{Over}
 use Rattle.ijson_table.proofs.table.Table.reserve_counted.Goals.{After-grown_capacity}
 use Rattle.ijson_table.proofs.table.Table.reserve_counted.Goals as goal
-
--- what is wanted has room for all
-suffices : (len c n : ℕ) → (c ≤ wanted len c n) × (len + n ≤ wanted len c n)
-suffices len c n = (grind (arith, nat_tests), grind (arith, nat_tests))
 
 -- what more pairs ask of the table
 asked : (g : Over) (c : After-grown_capacity g)
@@ -18,21 +13,21 @@ asked : (g : Over) (c : After-grown_capacity g)
 asked g c =
     let table = c.args.self.now in
     let len : c.len-len.result ≡ length table.store.pairs =
-    c.len-len.ensures ∙ (c.self.inside.pairs.ok.0 ∙ ap (λ (t : Placed g.row.V.Denot). length t.store.pairs) c.self.view_is) in
+    c.len-len.ensures ∙ (c.self.inside.pairs.ok.0 ∙ count_shown c.self.view_is) in
     let capacity : c.capacity.result ≡ table.store.capacity =
-    c.capacity.ensures ∙ ap (λ (t : Placed g.row.V.Denot). t.store.capacity) c.self.view_is in
+    c.capacity.ensures ∙ room_shown c.self.view_is in
     subst (λ l. AsksFor l table.store.capacity c.args.additional c.grown_capacity.result) len
     (subst (λ room. AsksFor c.len-len.result room c.args.additional c.grown_capacity.result) capacity c.grown_capacity.ensures)
 
 pub returns-in-None : goal.returns-in-None
 returns-in-None g c =
     let old = c.args.self.now.store in
-    let room : length old.pairs + c.args.additional ≤ old.capacity =
+    let asks : AsksFor (length old.pairs) old.capacity c.args.additional (Ok None) =
     subst (AsksFor (length old.pairs) old.capacity c.args.additional) (c.in_ok-capacity.was ∙ ap Ok c.in-None.is)
     (asked g (goal.at.returns-in-None g c).After-grown_capacity) in
     record {
-      grown = (grind (arith, nat_tests, room), λ less. absurd (omega (arith, less)));
-      room = room;
+      grown = (asks.1, λ less. absurd (omega (arith, less)));
+      room = asks.0;
       pairs = refl;
       bounded = λ k few. omega (arith, c.requires.none);
     }
@@ -45,7 +40,7 @@ returns-in_err-capacity g c =
     subst (AsksFor (length old.pairs) old.capacity c.args.additional) c.in_err-capacity.was
     (asked g (goal.at.returns-in_err-capacity g c).After-grown_capacity) in
     rw (p.1, p.2, asks.1) (record {
-      grown = (refl, omega (arith, asks.0, (suffices (length old.pairs) old.capacity c.args.additional).1), asks.2);
+      grown = (refl, asks.0, asks.2);
       room = tt;
       pairs = refl;
       bounded = λ k few. omega (arith, c.requires.none);
@@ -57,11 +52,10 @@ set_capacity-requires g c =
     let asks : AsksFor (length old.pairs) old.capacity c.args.additional (Ok (Some c.in-Some.capacity)) =
     subst (AsksFor (length old.pairs) old.capacity c.args.additional) (c.in_ok-capacity.was ∙ ap Ok c.in-Some.is)
     (asked g (goal.at.set_capacity-requires g c).After-grown_capacity) in
-    let enough = suffices (length old.pairs) old.capacity c.args.additional in
     record {
-      within = omega (arith, asks.1, enough.1);
-      grows = λ _. omega (arith, asks.1, enough.0);
-      limited = asks.2;
+      within = omega (arith, asks.1);
+      grows = λ _. omega (arith, asks.0, asks.1);
+      limited = asks.3;
       steps = c.requires.none;
     }
 
@@ -73,14 +67,8 @@ returns-in_ok-set_capacity-in-Some g c =
     (asked g (goal.at.returns-in_ok-set_capacity-in-Some g c).After-grown_capacity) in
     let resized = c.in_ok-set_capacity-in-Some.ensures.resized in
     record {
-      grown = (resized.done ∙ asks.1, λ _. omega (arith, resized.done, asks.2));
-      room = omega (
-        arith,
-        ap length resized.same,
-        resized.done,
-        asks.1,
-        (suffices (length old.pairs) old.capacity c.args.additional).1,
-      );
+      grown = (resized.done ∙ asks.2, λ _. omega (arith, resized.done, asks.3));
+      room = omega (arith, ap length resized.same, resized.done, asks.1);
       pairs = resized.same;
       bounded = c.set_capacity.ensures.bounded;
     }
@@ -96,8 +84,8 @@ returns-in_err-set_capacity-in-Some g c =
     rw (p.1, p.2) (record {
       grown = (
         resized.refused.1,
-        omega (arith, asks.0, (suffices (length old.pairs) old.capacity c.args.additional).1),
-        omega (arith, asks.1, asks.2),
+        subst (λ n. old.capacity < n) asks.2 (omega (arith, asks.0, asks.1)),
+        subst (λ n. n ≤ capacity_limit) asks.2 asks.3,
       );
       room = tt;
       pairs = resized.same;

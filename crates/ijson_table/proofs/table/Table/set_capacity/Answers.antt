@@ -2,10 +2,10 @@ use Rattle.std.proofs.Common.{◌≡◌, length, map, refl, arith, ap, ap₂, sy
 use Rattle.std.specs.Prelude.{vec_capacity}
 use Rattle.std.proofs.lemmas.Result.{err_from_is_err_and}
 use Rattle.ijson_table.specs.Crowd.{slot_count}
-use Rattle.ijson_table.specs.Placed.{Placed}
 use Rattle.ijson_table.specs.Store.{keys_of, IsDistinct}
 use Rattle.ijson_table.specs.private.IsPlaced.{IsPlaced}
 use Rattle.ijson_table.specs.private.KeptHash.{kept_hash}
+use Rattle.ijson_table.proofs.pairs.Shown.{count_shown, pairs_shown, room_shown}
 use Rattle.ijson_table.proofs.table.Table.set_capacity.Goals as goal
 
 pub index_with_slots-requires : goal.index_with_slots-requires
@@ -26,14 +26,10 @@ returns-in_err-index g c = rw (err_from_is_err_and c.from_residual.result c.from
 
 pub set_room-requires : goal.set_room-requires
 set_room-requires g c =
-    let len = ap (λ (t : Placed g.row.V.Denot). length t.store.pairs) c.self.view_is in
+    let len = count_shown c.self.view_is in
     record {
       within = omega (arith, len, c.requires.within);
-      grows = λ less. omega (
-        arith,
-        ap (λ (t : Placed g.row.V.Denot). t.store.capacity) c.self.view_is,
-        c.requires.grows (omega (arith, len, less)),
-      );
+      grows = λ less. omega (arith, room_shown c.self.view_is, c.requires.grows (omega (arith, len, less)));
     }
 
 pub invariant_of-self-inside : goal.invariant_of-self-inside
@@ -57,11 +53,11 @@ invariant_of-self g c =
 pub returns-in-Err : goal.returns-in-Err
 returns-in-Err g c = record {
   resized = record {
-    same = c.set_room.ensures.same ∙ ap (λ (t : Placed g.row.V.Denot). t.store.pairs) c.self.view_is;
+    same = c.set_room.ensures.same ∙ pairs_shown c.self.view_is;
     done = tt;
     refused = (
       c.in-Err.ensures.refused.0,
-      c.in-Err.ensures.refused.1 ∙ ap (λ (t : Placed g.row.V.Denot). t.store.capacity) c.self.view_is,
+      c.in-Err.ensures.refused.1 ∙ room_shown c.self.view_is,
     );
   };
   bounded = c.index_with_slots.ensures.bounded;
@@ -73,7 +69,7 @@ invariant_of-self-inside-2 g c = (subst (λ ps. IsDistinct (keys_of ps)) (sym c.
 pub invariant_of-self-2 : goal.invariant_of-self-2
 invariant_of-self-2 g c =
     let new = c.set_room.new.list in
-    let same = c.set_room.ensures.same ∙ ap (λ (t : Placed g.row.V.Denot). t.store.pairs) c.self.view_is in
+    let same = c.set_room.ensures.same ∙ pairs_shown c.self.view_is in
     let room : vec_capacity new ≡ c.args.capacity = c.in_default.ensures.done in
     subst (IsPlaced g.H.KeyHash.hash_of new.items (vec_capacity new)) (sym c.replace.ensures.after) (record {
       room = record { within = omega (arith, ap length same, room, c.requires.within); limited = omega (arith, room, c.requires.limited) };
@@ -85,7 +81,7 @@ invariant_of-self-2 g c =
 pub returns : goal.returns
 returns g c = record {
   resized = record {
-    same = c.set_room.ensures.same ∙ ap (λ (t : Placed g.row.V.Denot). t.store.pairs) c.self.view_is;
+    same = c.set_room.ensures.same ∙ pairs_shown c.self.view_is;
     done = c.in_default.ensures.done;
     refused = tt;
   };

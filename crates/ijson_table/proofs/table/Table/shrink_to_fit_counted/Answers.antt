@@ -1,6 +1,6 @@
-use Rattle.std.proofs.Common.{◌≡◌, length, refl, arith, ap, ◌∙◌}
+use Rattle.std.proofs.Common.{◌≡◌, length, refl, arith, ◌∙◌}
 use Rattle.std.proofs.lemmas.Result.{err_from_is_err_and}
-use Rattle.ijson_table.specs.Placed.{Placed}
+use Rattle.ijson_table.proofs.pairs.Shown.{count_shown, room_shown}
 use Rattle.ijson_table.proofs.table.Table.shrink_to_fit_counted.Given.{Over}
 use Rattle.ijson_table.proofs.table.Table.shrink_to_fit_counted.Goals.{After-capacity}
 use Rattle.ijson_table.proofs.table.Table.shrink_to_fit_counted.Goals as goal
@@ -9,8 +9,8 @@ use Rattle.ijson_table.proofs.table.Table.shrink_to_fit_counted.Goals as goal
 sizes : (g : Over) (c : After-capacity g)
     → (c.len-len.result ≡ length c.args.self.now.store.pairs) × (c.capacity.result ≡ c.args.self.now.store.capacity)
 sizes g c = (
-  c.len-len.ensures ∙ (c.self.inside.pairs.ok.0 ∙ ap (λ (t : Placed g.row.V.Denot). length t.store.pairs) c.self.view_is),
-  c.capacity.ensures ∙ ap (λ (t : Placed g.row.V.Denot). t.store.capacity) c.self.view_is,
+  c.len-len.ensures ∙ (c.self.inside.pairs.ok.0 ∙ count_shown c.self.view_is),
+  c.capacity.ensures ∙ room_shown c.self.view_is,
 )
 
 pub returns-then-capacity-len : goal.returns-then-capacity-len

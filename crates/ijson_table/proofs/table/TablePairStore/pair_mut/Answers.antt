@@ -3,6 +3,7 @@ use Rattle.std.proofs.lemmas.List.{length-set}
 use Rattle.ijson_table.specs.Store.{with_value}
 use Rattle.ijson_table.specs.Placed.{Placed}
 use Rattle.ijson_table.specs.private.KeptHash.{kept_hash}
+use Rattle.ijson_table.proofs.pairs.Shown.{pairs_shown, room_shown}
 use Rattle.ijson_table.proofs.pairs.PairsByKey.{set-value, distinct_set, slice_get-seen}
 use Rattle.ijson_table.proofs.probing.KeyHashes.{hashes-set}
 use Rattle.ijson_table.proofs.pairs.SameStores.{placed_path}
@@ -11,7 +12,7 @@ use Rattle.ijson_table.proofs.table.TablePairStore.pair_mut.Goals as goal
 pub invariant_of-self-inside-lent : goal.invariant_of-self-inside-lent
 invariant_of-self-inside-lent g c = λ w.
     let old = c.self.inside.pairs.items in
-    let viewed : old ≡ c.args.self.now.store.pairs = ap (λ (s : Placed g.row.V.Denot). s.store.pairs) c.self.view_is in
+    let viewed : old ≡ c.args.self.now.store.pairs = pairs_shown c.self.view_is in
     let li : c.args.index < length old = omega (arith, ap length viewed, c.requires) in
     (distinct_set old c.args.index c.index_mut-pair.result.now w li c.index_mut-pair.ensures.value c.self.inside.distinct, tt)
 
@@ -19,7 +20,7 @@ pub invariant_of-self-lent : goal.invariant_of-self-lent
 invariant_of-self-lent g c = λ w.
     let old = c.self.inside.pairs.items in
     let pair = c.index_mut-pair.result.now in
-    let viewed : old ≡ c.args.self.now.store.pairs = ap (λ (s : Placed g.row.V.Denot). s.store.pairs) c.self.view_is in
+    let viewed : old ≡ c.args.self.now.store.pairs = pairs_shown c.self.view_is in
     let li : c.args.index < length old = omega (arith, ap length viewed, c.requires) in
     record {
       room = record {
@@ -36,13 +37,13 @@ pub returns : goal.returns
 returns g c =
     let old = c.self.inside.pairs.items in
     let pair = c.index_mut-pair.result.now in
-    let viewed : old ≡ c.args.self.now.store.pairs = ap (λ (s : Placed g.row.V.Denot). s.store.pairs) c.self.view_is in (
+    let viewed : old ≡ c.args.self.now.store.pairs = pairs_shown c.self.view_is in (
       (
         refl,
         λ w. placed_path _ _
             (set-value old c.args.index pair w (omega (arith, ap length viewed, c.requires)) c.index_mut-pair.ensures.value
             ∙ ap (λ ps. with_value ps c.args.index w) viewed)
-            (ap (λ (s : Placed g.row.V.Denot). s.store.capacity) c.self.view_is)
+            (room_shown c.self.view_is)
             (ap (λ (s : Placed g.row.V.Denot). s.slots) c.self.view_is),
       ),
       record {

@@ -1,19 +1,18 @@
-use Rattle.std.proofs.Common.{◌≡◌, ◌<◌, length, map, get_or, arith, ap, ap₂, sym, ◌∙◌, subst}
+use Rattle.std.proofs.Common.{◌≡◌, ◌<◌, length, map, arith, ap, ap₂, sym, ◌∙◌, subst}
 use Rattle.std.specs.List.{remove}
+use Rattle.ijson_table.proofs.pairs.Shown.{count_shown, hash_in, hashes_in, pairs_shown, room_shown}
 use Rattle.ijson_table.proofs.pairs.PairsByKey.{slice_get-seen}
 use Rattle.ijson_table.specs.Crowd.{slot_count}
 use Rattle.ijson_table.specs.Store.{keys_of, shift_out, IsDistinct}
 use Rattle.ijson_table.specs.Placed.{Placed}
 use Rattle.ijson_table.specs.private.KeptHash.{kept_hash}
-use Rattle.ijson_table.proofs.probing.KeyHashes.{length-hashes}
 use Rattle.ijson_table.proofs.shifting.ListShiftOut.{distinct_shifted, keys-shift_out, map-remove}
-use Rattle.ijson_table.proofs.table.TablePairStore.shift_out.Goals.{After-len-last}
 use Rattle.ijson_table.proofs.table.TablePairStore.shift_out.Goals as goal
 
 pub invariant_of-self-inside : goal.invariant_of-self-inside
 invariant_of-self-inside g c =
     let old = c.self.inside.pairs.items in
-    let size : length old ≡ length c.args.self.now.store.pairs = ap (λ (s : Placed g.row.V.Denot). length s.store.pairs) c.self.view_is in
+    let size : length old ≡ length c.args.self.now.store.pairs = count_shown c.self.view_is in
     let li : c.args.index < length old = omega (arith, size, c.requires) in
     (subst (λ ps. IsDistinct (keys_of ps)) (sym c.remove.ensures.items) (distinct_shifted old c.args.index c.self.inside.distinct li), tt)
 
@@ -44,39 +43,24 @@ invariant_of-self g c =
 pub returns-clause-pair : goal.returns-clause-pair
 returns-clause-pair g c =
     slice_get-seen c.self.inside.pairs.items c.args.self.now.store.pairs c.args.index c.remove.result
-    (ap (λ (s : Placed g.row.V.Denot). s.store.pairs) c.self.view_is) c.requires c.remove.ensures.value
+    (pairs_shown c.self.view_is) c.requires c.remove.ensures.value
 
 pub returns-clause-pairs : goal.returns-clause-pairs
 returns-clause-pairs g c =
     c.remove.ensures.items ∙ ap (λ (s : Placed g.row.V.Denot). shift_out s.store.pairs c.args.index) c.self.view_is
 
 pub returns-clause-room : goal.returns-clause-room
-returns-clause-room g c = c.remove.ensures.capacity ∙ ap (λ (s : Placed g.row.V.Denot). s.store.capacity) c.self.view_is
-
--- there are as many hashes as pairs
-as_many : (g : _) (c : After-len-last g) → length c.self.inside.index.hashes ≡ length c.args.self.now.store.pairs
-as_many g c = ap length c.self.invariant.hashes
-    ∙ (length-hashes (kept_hash (length c.self.inside.index.slots) g.H.KeyHash.hash_of) c.self.inside.pairs.items
-    ∙ ap (λ (s : Placed g.row.V.Denot). length s.store.pairs) c.self.view_is)
-
--- and the list tells how many
-count : (g : _) (c : After-len-last g) → c.len-last.result ≡ length c.args.self.now.store.pairs
-count g c = omega (
-  arith,
-  c.len-last.ensures,
-  c.self.inside.pairs.ok.0,
-  ap (λ (s : Placed g.row.V.Denot). length s.store.pairs) c.self.view_is,
-)
+returns-clause-room g c = c.remove.ensures.capacity ∙ room_shown c.self.view_is
 
 pub overflow_sub-last : goal.overflow_sub-last
-overflow_sub-last g c = omega (arith, count g c, c.requires)
+overflow_sub-last g c = omega (arith, c.len-last.ensures, c.self.inside.pairs.ok.0, count_shown c.self.view_is, c.requires)
 
 pub shift_remove-requires : goal.shift_remove-requires
 shift_remove-requires g c =
-    let w = (goal.at.shift_remove-requires g c).After-len-last in
+    let last : c.len-last.result ≡ length c.args.self.now.store.pairs =
+    c.len-last.ensures ∙ (c.self.inside.pairs.ok.0 ∙ count_shown c.self.view_is) in
     record {
-      within = omega (arith, count g w, c.requires);
-      last = omega (arith, count g w, as_many g w, c.requires);
-      hash = c.hash_at-hash.ensures ∙ (sym (ap (λ (s : Placed g.row.V.Denot). get_or (map (kept_hash (length s.slots) g.H.KeyHash.hash_of)
-          (keys_of s.store.pairs)) c.args.index 0) c.self.view_is) ∙ ap (λ hs. get_or hs c.args.index 0) (sym c.self.invariant.hashes));
+      within = omega (arith, last, c.requires);
+      last = omega (arith, last, hashes_in c.self.invariant, count_shown c.self.view_is, c.requires);
+      hash = hash_in c.self.invariant c.self.view_is _ _ c.hash_at-hash.ensures;
     }

@@ -5,8 +5,8 @@ use Rattle.ijson_table.specs.Sees.{Sees}
 use Rattle.ijson_table.specs.Store.{keys_of}
 use Rattle.ijson_table.specs.private.KeptHash.{kept_hash}
 use Rattle.ijson_table.specs.private.SlotHashes.{position_in, HasHash, SeenAs}
+use Rattle.ijson_table.proofs.pairs.Shown.{hashes_in}
 use Rattle.ijson_table.proofs.probing.KeyTests.{sees_slot}
-use Rattle.ijson_table.proofs.probing.KeyHashes.{length-hashes}
 use Rattle.ijson_table.proofs.probing.ProbePath.{in_list}
 use Rattle.ijson_table.proofs.slots.KeptHashes.{sees_by_hash}
 use Rattle.ijson_table.proofs.table.TablePlaces.look.Goals as goal
@@ -22,8 +22,7 @@ has_key-same-requires g c =
     omega (
       arith,
       in_list index.hashes index.slots c.at-there.ensures.table c.args.slot c.in-Some.at within there,
-      ap length c.self.invariant.hashes,
-      length-hashes (kept_hash (length index.slots) g.H.KeyHash.hash_of) c.self.inside.pairs.items,
+      hashes_in c.self.invariant,
       ap length c.deref.ensures.value,
     )
 

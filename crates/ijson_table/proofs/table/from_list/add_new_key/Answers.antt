@@ -1,7 +1,7 @@
 use Rattle.std.proofs.Common.{◌≡◌, ◌⊎◌, inl, inr, ◌-◌, ◌<◌, ◌%◌, [], ℕ, List, length, get_or, take, arith, ap, ap₂, refl, sym, subst, ◌∙◌}
+use Rattle.std.proofs.Common.{◌+◌, true≢false, length-take-le, le_of_lt}
 use Rattle.std.proofs.lemmas.Grind.{common_steps}
 use Rattle.std.proofs.lemmas.Nat.{mod_below}
-use Rattle.std.proofs.Common.{◌+◌, true≢false, length-take-le, le_of_lt}
 use Rattle.ijson_table.specs.declared.index.probe.Probed.{Probed}
 use Rattle.ijson_table.specs.declared.index.probe.Probed.TheVariants.{Found, Vacant, Full}
 use Rattle.ijson_table.specs.Crowd.{distance}
@@ -18,8 +18,7 @@ use Rattle.ijson_table.proofs.probing.StepsByEnd.{ended_found, counts_found, cou
 use Rattle.ijson_table.proofs.pairs.PairsByKey.{key_at}
 use Rattle.ijson_table.proofs.slots.KeptHashes.{home_of_kept, kept_once}
 use Rattle.ijson_table.proofs.table.from_list.add_new_key.Given.{Over}
-use Rattle.ijson_table.proofs.table.from_list.add_new_key.Goals.{After-probe, After-distance_between}
-use Rattle.ijson_table.proofs.table.from_list.add_new_key.Goals.{After-distance_between-in-Found, In-Vacant}
+use Rattle.ijson_table.proofs.table.from_list.add_new_key.Goals.{After-probe, After-distance_between, After-distance_between-in-Found}
 use Rattle.ijson_table.proofs.probing.KeyHashes.{length-hashes}
 use Rattle.ijson_table.proofs.table.from_list.add_new_key.Goals as goal
 
@@ -41,29 +40,18 @@ walked : (lent index : HashIndex) (keys : List (List ℕ)) (h : ℕ) (key : List
 walked lent index keys h key looks probed end same is walks =
     subst (λ l. Walks l keys h key looks end) same (subst (Walks lent keys h key looks) is walks)
 
--- the walk for it, where it is new
-vacant : (g : _) (c : In-Vacant g) → Walks c.args.index.now (keys_of (take c.args.position c.args.pairs.now)) c.kept_hash-hash.result
-    c.as_str-key.result.now (c.probe.new.looks - c.new.result) (Vacant c.in-Vacant.slot)
-vacant g c = walked c.view.result c.args.index.now (keys_of (take c.args.position c.args.pairs.now)) c.kept_hash-hash.result
-    c.as_str-key.result.now (c.probe.new.looks - c.new.result) c.probe.result (Vacant c.in-Vacant.slot) c.view.ensures.value
-    c.in-Vacant.is c.probe.ensures.ends
-
--- and where it comes again
-found : (g : _) (c : After-distance_between-in-Found g) → Walks c.args.index.now (keys_of (take c.args.position c.args.pairs.now))
-    c.kept_hash-hash.result c.as_str-key.result.now (c.probe.new.looks - c.new.result) (Found c.in-Found.at c.in-Found.slot)
-found g c = walked c.view.result c.args.index.now (keys_of (take c.args.position c.args.pairs.now)) c.kept_hash-hash.result
-    c.as_str-key.result.now (c.probe.new.looks - c.new.result) c.probe.result (Found c.in-Found.at c.in-Found.slot)
-    c.view.ensures.value c.in-Found.is c.probe.ensures.ends
+-- the walk for it, to the end that it came to
+walk : (g : _) (c : After-probe g) (end : Probed) → c.probe.result ≡ end → Walks c.args.index.now
+    (keys_of (take c.args.position c.args.pairs.now)) c.kept_hash-hash.result c.as_str-key.result.now (c.probe.new.looks - c.new.result) end
+walk g c end is = walked c.view.result c.args.index.now (keys_of (take c.args.position c.args.pairs.now)) c.kept_hash-hash.result
+    c.as_str-key.result.now (c.probe.new.looks - c.new.result) c.probe.result end c.view.ensures.value is c.probe.ensures.ends
 
 -- Where a slot is left, a key for which there is no vacancy comes again,
 again : (g : _) (c : After-probe g) → ((x : ℕ) × (p : ℕ) × (c.probe.result ≡ Found x p)) ⊎ (c.probe.result ≡ Full)
     → ComesAgain c.args.pairs.now c.args.position
 again g c is none = comes_again (short g c.args.index.now) c.args.pairs.now c.args.position c.args.index.now c.requires.placed
     c.requires.within c.kept_hash-hash.result c.as_str-key.result.now (c.probe.new.looks - c.new.result) c.probe.result (kept_is g c)
-    c.view.ensures.table c.requires.room
-    (walked c.view.result c.args.index.now (keys_of (take c.args.position c.args.pairs.now)) c.kept_hash-hash.result
-    c.as_str-key.result.now (c.probe.new.looks - c.new.result) c.probe.result c.probe.result c.view.ensures.value refl
-    c.probe.ensures.ends) is
+    c.view.ensures.table c.requires.room (walk g c c.probe.result refl) is
     (ap (at (take c.args.position c.args.pairs.now)) (sym (keyed g c)) ∙ none)
 
 -- and the steps of the walk for it are those of the walk for the pair's key.
@@ -105,10 +93,14 @@ away_found : (g : _) (c : After-distance_between-in-Found g) → Away (length c.
 away_found g c =
     let index = c.args.index.now in
     let n = length index.slots in
-    let there = (ended_found index.slots (displacement index.hashes index.slots) (c.kept_hash-hash.result % n)
-    (is_hashed_key index.hashes (keys_of (take c.args.position c.args.pairs.now)) c.kept_hash-hash.result c.as_str-key.result.now)
-    (mod_below c.kept_hash-hash.result n (omega (arith, c.requires.room))) (c.probe.new.looks - c.new.result) c.in-Found.at
-    c.in-Found.slot (found g c)).there in
+    let h = c.kept_hash-hash.result in
+    let keys = keys_of (take c.args.position c.args.pairs.now) in
+    let key = c.as_str-key.result.now in
+    let looks = c.probe.new.looks - c.new.result in
+    let end = Found c.in-Found.at c.in-Found.slot in
+    let there = (ended_found index.slots (displacement index.hashes index.slots) (h % n) (is_hashed_key index.hashes keys h key)
+    (mod_below h n (omega (arith, c.requires.room))) looks c.in-Found.at c.in-Found.slot
+    (walked c.view.result index keys h key looks c.probe.result end c.view.ensures.value c.in-Found.is c.probe.ensures.ends)).there in
     away_from n c.args.modulus.count c.hash-whole.result c.kept_hash-hash.result c.home_of_hash-home.result c.in-Found.slot
     c.distance_between-in-Found.result c.distance_between-in-Found.ensures c.kept_hash-hash.ensures c.home_of_hash-home.ensures.value
     c.requires.counted c.home_of_hash-home.ensures.within there
@@ -119,7 +111,7 @@ push_at-last-requires-clause-may g c =
     (next_ends (short g c.args.index.now) c.args.pairs.now c.args.position c.args.index.now c.requires.placed
     c.requires.within c.kept_hash-hash.result c.as_str-key.result.now (c.probe.new.looks - c.new.result) c.in-Vacant.slot
     (kept_is g place.After-probe) c.view.ensures.table (omega (arith, c.requires.room))
-    (vacant g place.In-Vacant)).1
+    (walk g place.After-probe (Vacant c.in-Vacant.slot) c.in-Vacant.is)).1
 
 pub push_at-last-requires-clause-kept : goal.push_at-last-requires-clause-kept
 push_at-last-requires-clause-kept g c = kept_once (length c.args.index.now.slots) c.args.modulus.count c.hash-whole.result
@@ -145,77 +137,78 @@ pub overflow_add-steps-in-Found-2 : goal.overflow_add-steps-in-Found-2
 overflow_add-steps-in-Found-2 g c =
     omega (arith, (away_found g (goal.at.overflow_add-steps-in-Found-2 g c).After-distance_between-in-Found).near, c.requires.fits)
 
-pub returns-in-Vacant-clause-placed : goal.returns-in-Vacant-clause-placed
-returns-in-Vacant-clause-placed g c = λ _.
-    let place = goal.at.returns-in-Vacant-clause-placed g c in
+-- a walk has a step
+more : (steps away k : ℕ) → steps < steps + (away + (k + 1))
+more steps away k = omega arith
+
+pub returns-in-Vacant : goal.returns-in-Vacant
+returns-in-Vacant g c =
+    let place = goal.at.returns-in-Vacant g c in
     let hash = short g c.args.index.now in
     let pair = c.index-pairs-position.result in
     let key : c.as_str-key.result.now ≡ pair.0 = c.as_str-key.ensures ∙ ap (λ p. p.0) (sym c.index-pairs-position.is) in
     let hashed : c.kept_hash-hash.result ≡ hash pair.0 = kept_is g place.After-probe ∙ ap hash key in
-    let missing = (next_ends hash c.args.pairs.now c.args.position c.args.index.now c.requires.placed
-    c.requires.within c.kept_hash-hash.result c.as_str-key.result.now (c.probe.new.looks - c.new.result) c.in-Vacant.slot
-    (kept_is g place.After-probe) c.view.ensures.table (omega (arith, c.requires.room))
-    (vacant g place.In-Vacant)).0 in
-    next_placed hash c.args.pairs.now c.args.position c.args.index.now c.requires.placed c.requires.within pair c.kept_hash-hash.result
-    c.push_at-last.new.self c.index-pairs-position.is hashed
-    (ap (at (take c.args.position c.args.pairs.now)) (sym key) ∙ missing) c.push_at-last.ensures.hashes
+    let some : 0 < length c.args.index.now.slots = omega (arith, c.requires.room) in
+    let walks = walk g place.After-probe (Vacant c.in-Vacant.slot) c.in-Vacant.is in
+    let missing = (next_ends hash c.args.pairs.now c.args.position c.args.index.now c.requires.placed c.requires.within
+    c.kept_hash-hash.result c.as_str-key.result.now (c.probe.new.looks - c.new.result) c.in-Vacant.slot
+    (kept_is g place.After-probe) c.view.ensures.table some walks).0 in
+    let away = away_new g place.After-distance_between in
+    record {
+      placed = λ _. next_placed hash c.args.pairs.now c.args.position c.args.index.now c.requires.placed c.requires.within pair
+          c.kept_hash-hash.result c.push_at-last.new.self c.index-pairs-position.is hashed
+          (ap (at (take c.args.position c.args.pairs.now)) (sym key) ∙ missing) c.push_at-last.ensures.hashes;
+      left = λ no. absurd (true≢false no);
+      stops = λ no. absurd (true≢false no);
+      count = c.push_at-last.ensures.count;
+      steps = omega (arith, away.near);
+      counted = counted g place.After-probe c.push_at-last.new.self _
+          (counts_new hash (keys_of (take c.args.position c.args.pairs.now)) c.args.index.now some c.kept_hash-hash.result
+          c.as_str-key.result.now (c.probe.new.looks - c.new.result) c.in-Vacant.slot c.push_at-last.result c.distance_between.result _
+          c.push_at-last.new.self (kept_is g place.After-probe) walks c.push_at-last.ensures.within c.push_at-last.ensures.empty
+          c.push_at-last.ensures.changes away.far (omega arith));
+      grows = more c.args.steps.now c.distance_between.result 1;
+    }
 
-pub returns-in-Vacant-clause-steps : goal.returns-in-Vacant-clause-steps
-returns-in-Vacant-clause-steps g c =
-    omega (arith, (away_new g (goal.at.returns-in-Vacant-clause-steps g c).After-distance_between).near)
+pub returns-in-Found : goal.returns-in-Found
+returns-in-Found g c =
+    let place = goal.at.returns-in-Found g c in
+    let away = away_found g place.After-distance_between-in-Found in
+    record {
+      placed = λ no. absurd (true≢false (sym no));
+      left = λ _. refl;
+      stops = λ _. again g place.After-probe (inl (c.in-Found.at, c.in-Found.slot, c.in-Found.is));
+      count = refl;
+      steps = omega (arith, away.near);
+      counted = counted g place.After-probe c.args.index.now _
+          (counts_found (short g c.args.index.now) (keys_of (take c.args.position c.args.pairs.now)) c.args.index.now
+          (omega (arith, c.requires.room)) c.kept_hash-hash.result c.as_str-key.result.now (c.probe.new.looks - c.new.result)
+          c.in-Found.at c.in-Found.slot c.distance_between-in-Found.result _ (kept_is g place.After-probe)
+          (walk g place.After-probe (Found c.in-Found.at c.in-Found.slot) c.in-Found.is) away.far (omega arith));
+      grows = more c.args.steps.now c.distance_between-in-Found.result 0;
+    }
 
-pub returns-in-Vacant-clause-counted : goal.returns-in-Vacant-clause-counted
-returns-in-Vacant-clause-counted g c =
-    let place = goal.at.returns-in-Vacant-clause-counted g c in
-    counted g place.After-probe c.push_at-last.new.self _
-    (counts_new (short g c.args.index.now) (keys_of (take c.args.position c.args.pairs.now)) c.args.index.now
-    (omega (arith, c.requires.room)) c.kept_hash-hash.result c.as_str-key.result.now (c.probe.new.looks - c.new.result)
-    c.in-Vacant.slot c.push_at-last.result c.distance_between.result _ c.push_at-last.new.self (kept_is g place.After-probe)
-    (vacant g place.In-Vacant) c.push_at-last.ensures.within c.push_at-last.ensures.empty c.push_at-last.ensures.changes
-    (away_new g place.After-distance_between).far (omega arith))
-
-pub returns-in-Found-clause-stops : goal.returns-in-Found-clause-stops
-returns-in-Found-clause-stops g c = λ _.
-    again g (goal.at.returns-in-Found-clause-stops g c).After-probe (inl (c.in-Found.at, c.in-Found.slot, c.in-Found.is))
-
-pub returns-in-Found-clause-steps : goal.returns-in-Found-clause-steps
-returns-in-Found-clause-steps g c =
-    omega (arith, (away_found g (goal.at.returns-in-Found-clause-steps g c).After-distance_between-in-Found).near)
-
-pub returns-in-Found-clause-counted : goal.returns-in-Found-clause-counted
-returns-in-Found-clause-counted g c =
-    let place = goal.at.returns-in-Found-clause-counted g c in
-    counted g place.After-probe c.args.index.now _
-    (counts_found (short g c.args.index.now) (keys_of (take c.args.position c.args.pairs.now)) c.args.index.now
-    (omega (arith, c.requires.room)) c.kept_hash-hash.result c.as_str-key.result.now (c.probe.new.looks - c.new.result)
-    c.in-Found.at c.in-Found.slot c.distance_between-in-Found.result _ (kept_is g place.After-probe)
-    (found g place.After-distance_between-in-Found) (away_found g place.After-distance_between-in-Found).far (omega arith))
-
-pub returns-in-Full-clause-stops : goal.returns-in-Full-clause-stops
-returns-in-Full-clause-stops g c = λ _. again g (goal.at.returns-in-Full-clause-stops g c).After-probe (inr c.in-Full.is)
-
-pub returns-in-Full-clause-counted : goal.returns-in-Full-clause-counted
-returns-in-Full-clause-counted g c =
-    let place = goal.at.returns-in-Full-clause-counted g c in
-    let keys = keys_of (take c.args.position c.args.pairs.now) in
-    let looks = c.probe.new.looks - c.new.result in
-    counted g place.After-probe c.args.index.now _ (counts_full (short g c.args.index.now) keys
-    c.args.index.now (omega (arith, c.requires.room)) c.kept_hash-hash.result c.as_str-key.result.now looks _ (kept_is g place.After-probe)
-    (walked c.view.result c.args.index.now keys c.kept_hash-hash.result c.as_str-key.result.now looks c.probe.result Full
-    c.view.ensures.value c.in-Full.is c.probe.ensures.ends)
-    (omega (arith, c.requires.counted)))
+pub returns-in-Full : goal.returns-in-Full
+returns-in-Full g c =
+    let place = goal.at.returns-in-Full g c in
+    record {
+      placed = λ no. absurd (true≢false (sym no));
+      left = λ _. refl;
+      stops = λ _. again g place.After-probe (inr c.in-Full.is);
+      count = refl;
+      steps = omega (arith, c.requires.counted);
+      counted = counted g place.After-probe c.args.index.now _
+          (counts_full (short g c.args.index.now) (keys_of (take c.args.position c.args.pairs.now)) c.args.index.now
+          (omega (arith, c.requires.room)) c.kept_hash-hash.result c.as_str-key.result.now (c.probe.new.looks - c.new.result) _
+          (kept_is g place.After-probe) (walk g place.After-probe Full c.in-Full.is) (omega (arith, c.requires.counted)));
+      grows = omega (arith, c.requires.counted, c.requires.room);
+    }
 
 pub probe-requires-clause-fits : goal.probe-requires-clause-fits
 probe-requires-clause-fits g c = λ m lm _. omega (arith, lm, c.new.ensures, c.requires.fits)
 
 pub overflow_add-steps-in-Full : goal.overflow_add-steps-in-Full
 overflow_add-steps-in-Full g c = omega (arith, c.requires.counted, c.requires.fits)
-
-pub returns-in-Full-clause-steps : goal.returns-in-Full-clause-steps
-returns-in-Full-clause-steps g c = omega (arith, c.requires.counted)
-
-pub returns-in-Full-clause-grows : goal.returns-in-Full-clause-grows
-returns-in-Full-clause-grows g c = omega (arith, c.requires.counted, c.requires.room)
 
 -- what the check tries where no answer stands takes longer than these
 pub invariant_of-lookup : goal.invariant_of-lookup
@@ -247,43 +240,6 @@ probe-requires-clause-some g c = omega (arith, c.requires.room, ap (λ i. length
 
 pub push_at-last-requires-clause-room : goal.push_at-last-requires-clause-room
 push_at-last-requires-clause-room g c = c.requires.room
-
-pub returns-in-Vacant-clause-left : goal.returns-in-Vacant-clause-left
-returns-in-Vacant-clause-left g c = λ no. absurd (true≢false no)
-
-pub returns-in-Vacant-clause-stops : goal.returns-in-Vacant-clause-stops
-returns-in-Vacant-clause-stops g c = λ no. absurd (true≢false no)
-
-pub returns-in-Vacant-clause-count : goal.returns-in-Vacant-clause-count
-returns-in-Vacant-clause-count g c = c.push_at-last.ensures.count
-
--- a walk has a step
-more : (steps away k : ℕ) → steps < steps + (away + (k + 1))
-more steps away k = omega arith
-
-pub returns-in-Vacant-clause-grows : goal.returns-in-Vacant-clause-grows
-returns-in-Vacant-clause-grows g c = more c.args.steps.now c.distance_between.result 1
-
-pub returns-in-Found-clause-placed : goal.returns-in-Found-clause-placed
-returns-in-Found-clause-placed g c = λ no. absurd (true≢false (sym no))
-
-pub returns-in-Found-clause-left : goal.returns-in-Found-clause-left
-returns-in-Found-clause-left g c = λ _. refl
-
-pub returns-in-Found-clause-count : goal.returns-in-Found-clause-count
-returns-in-Found-clause-count g c = refl
-
-pub returns-in-Found-clause-grows : goal.returns-in-Found-clause-grows
-returns-in-Found-clause-grows g c = more c.args.steps.now c.distance_between-in-Found.result 0
-
-pub returns-in-Full-clause-placed : goal.returns-in-Full-clause-placed
-returns-in-Full-clause-placed g c = λ no. absurd (true≢false (sym no))
-
-pub returns-in-Full-clause-left : goal.returns-in-Full-clause-left
-returns-in-Full-clause-left g c = λ _. refl
-
-pub returns-in-Full-clause-count : goal.returns-in-Full-clause-count
-returns-in-Full-clause-count g c = refl
 
 pub push_at-last-requires-clause-position : goal.push_at-last-requires-clause-position
 push_at-last-requires-clause-position g c = sym (ap length c.requires.placed.hashes
