@@ -1,7 +1,6 @@
 pub mod DepthLemmas
 pub mod Found
 pub mod FromMaps
-pub mod OpenedLists
 pub mod WalkMeasures
 pub mod Walks
 pub mod comparing

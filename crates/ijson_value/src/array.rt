@@ -31,7 +31,8 @@ pub struct IArray {
 
 const _: () = prove!(size_of::<IArray>() == 16);
 
-/// The fewest items that room is made for.
+/// The least capacity after `reserve` has taken memory, and so after `push`, `insert` and `extend`. `with_capacity` gives exactly the
+/// capacity that it is asked for.
 const LEAST_ROOM: usize = 4;
 
 impl Model for IArray {

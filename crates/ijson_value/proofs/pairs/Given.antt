@@ -14,18 +14,28 @@ module _ {X : Type 0} (all : List X) where
   pub gives_list : GivesList starts (YieldsFirst (λ (s : List X). s)) all all
   gives_list xs gives = sym (all_given gives.0 xs gives.2) ∙ gives.1
 
+  -- what each list that it may give has, all of its items have
+  pub list_put : {A E : Type 0} (r : Result A E) (P : List X → Type 0)
+      → ((xs : List X) → GivesList starts (YieldsFirst (λ (s : List X). s)) all xs → OnOk r (P xs)) → OnOk r (P all)
+  list_put r P put = put all gives_list
+
+  -- what was put when it ended: what it gave, or what it gave until one came back
+  abbrev Put : {A E : Type 0} → Result A E → (E → X) → (E → Type 0) → (List X → Type 0) → Type 0
+  Put r item F P =
+      (added : List X) × P added
+      × MatchResult r (λ _. GivesAll starts (YieldsFirst (λ (s : List X). s)) all added)
+      (λ e. GivesThen starts (YieldsFirst (λ (s : List X). s)) all added (item e) × F e)
+
   -- what holds of those that it gave holds of all
-  pub all_put : {A E : Type 0} (r : Result A E) (Q : E → Type 0) (added : List X) (P : List X → Type 0)
-      → MatchResult r (λ _. GivesAll starts (YieldsFirst (λ (s : List X). s)) all added) Q → P added → OnOk r (P all)
-  all_put (Ok x) Q added P gives p = subst P (gives_list added gives) p
-  all_put (Err e) Q added P gives p = tt
+  pub all_put : {A E : Type 0} (r : Result A E) (item : E → X) (F : E → Type 0) (P : List X → Type 0) → Put r item F P → OnOk r (P all)
+  all_put (Ok x) item F P (added, p, gives) = subst P (gives_list added gives) p
+  all_put (Err e) item F P put = tt
 
   -- or of those before the one that came back
-  pub some_put : {A E : Type 0} (r : Result A E) (Q : A → Type 0) (item : E → X) (F : E → Type 0) (added : List X) (P : List X → Type 0)
-      → MatchResult r Q (λ e. GivesThen starts (YieldsFirst (λ (s : List X). s)) all added (item e) × F e) → P added
+  pub some_put : {A E : Type 0} (r : Result A E) (item : E → X) (F : E → Type 0) (P : List X → Type 0) → Put r item F P
       → IfErr r (λ e. (n : ℕ) × (slice_get all n ≡ Some (item e)) × P (take n all) × F e)
-  some_put (Ok x) Q item F added P gives p = tt
-  some_put (Err e) Q item F added P gives p =
+  some_put (Ok x) item F P put = tt
+  some_put (Err e) item F P (added, p, gives) =
       let given = gives.0 in
       let whole = sym given.2 ∙ then_given given.0 added (item e) given.1 given.3 in
       let at_item = first_left all added (item e ∷ given.1) (item e) given.1 whole refl in

@@ -1,4 +1,4 @@
-use Rattle.std.proofs.Common.{fold, add-one, arith, sym, ap, ◌∙◌, drop_of_length-le}
+use Rattle.std.proofs.Common.{fold, add-one, arith, rules, sym, ap, ◌∙◌, drop_of_length-le}
 use Rattle.ijson_value.specs.NodeValue.{node_value}
 use Rattle.ijson_value.specs.WellFormed.{item_trees}
 use Rattle.ijson_value.specs.Words.{words, item_words}
@@ -12,7 +12,7 @@ hash_value-hash_items-requires g t c κs within =
 
 pub hash_value-returns-in-Number : goal.hash_value-returns-in-Number
 hash_value-returns-in-Number g t c =
-    c.hash.ensures
+    (search rules)
     ∙ ap (λ v. fold g.H.Hasher.write c.args.state.now (feed (words v.tree))) (ap node_value (sym c.in-Number.is) ∙ c.value.view_is)
 
 pub hash_items-loop-item-preserved : goal.hash_items-loop-item-preserved
@@ -25,7 +25,7 @@ pub hash_items-returns : goal.hash_items-returns
 hash_items-returns g t c =
     let vs = c.args.items.now in
     array_fed g.H.Hasher.write c.args.state.now c.write_u64.new.self c.write_u64-2.new.self c.loop-item.state vs
-    c.write_u64.ensures c.write_u64-2.ensures
+    c.write_u64.ensures (search rules)
     (c.loop-item.invariant
     ∙ ap (λ l. fold g.H.Hasher.write c.loop-item.state (feed (item_words (item_trees l))))
     (drop_of_length-le vs c.loop-item-test.false))

@@ -1,4 +1,4 @@
-use Rattle.std.proofs.Common.{◌≡◌, Some, None, ◌&&◌, refl, arith, sym, ap, ◌∙◌, drop, suc, add-one, length, drop_of_length-le}
+use Rattle.std.proofs.Common.{◌≡◌, Some, None, ◌&&◌, refl, arith, rules, sym, ap, ◌∙◌, drop, suc, add-one, length, drop_of_length-le}
 use Rattle.ijson_table.specs.Store.{lookup}
 use Rattle.ijson_value.specs.WellFormed.{pair_trees}
 use Rattle.ijson_value.specs.SameTest.{same, same_in}
@@ -83,6 +83,8 @@ same_value-same_items-requires t c =
 
 pub same_value-returns-in-Object-Object : goal.same_value-returns-in-Object-Object
 same_value-returns-in-Object-Object t c =
+    let told : c.same_pairs.result ≡ same c.args.a.now.tree c.args.b.now.tree =
     c.same_pairs.ensures
     ∙ ap (λ u. same u (object_tree c.in-Object-Object.y.pairs)) (object_shown refl c.in-Object-Object.is-0 c.a.view_is)
-    ∙ ap (same c.args.a.now.tree) (object_shown refl c.in-Object-Object.is-1 c.b.view_is)
+    ∙ ap (same c.args.a.now.tree) (object_shown refl c.in-Object-Object.is-1 c.b.view_is) in
+    search rules

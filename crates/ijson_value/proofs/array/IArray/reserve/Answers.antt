@@ -1,37 +1,23 @@
-use Rattle.std.proofs.Common.{arith, ◌≡◌, ◌+◌, ◌*◌, ◌<◌, ◌≤◌, length, ap, subst, ◌∙◌}
-use Rattle.std.specs.Prelude.{OnOk, OnErr, IsOk}
+use Rattle.std.proofs.Common.{arith, ap}
 use Rattle.std.proofs.lemmas.Grind.{common_steps}
 use Rattle.std.proofs.lemmas.Result.{IfOk-from_err, MatchResult-from_err}
 use Rattle.ijson_value.specs.Sequence.{Sequence}
-use Rattle.ijson_value.proofs.OpenedLists.{behind, unchanged_capacity}
 use Rattle.ijson_value.proofs.array.IArray.reserve.Goals as goal
 
--- where there is a list, it is that of the array
-same : (c : goal.After-self-in-Some-1)
-    → record { items = c.deref_mut.result.now.items; capacity = c.deref_mut.result.now.cap } ≡ c.args.self.now
-same c =
-    behind c.self.inside.list c.in-Some.list c.deref_mut.result.now c.args.self.now c.in-Some.is c.deref_mut.ensures.value c.self.view_is
-
 pub returns-in-Some-clause-items : goal.returns-in-Some-clause-items
-returns-in-Some-clause-items c = c.grow.ensures.items ∙ ap (λ (a : Sequence). a.items) (same c)
+returns-in-Some-clause-items c = grind (arith, common_steps)
 
 pub returns-in-Some-clause-refused : goal.returns-in-Some-clause-refused
-returns-in-Some-clause-refused c =
-    subst (λ (a : Sequence). OnErr c.grow.result (c.grow.new.list.cap ≡ a.capacity)) (same c) c.grow.ensures.refused
+returns-in-Some-clause-refused c = grind (arith, common_steps)
 
 pub returns-in-Some-clause-room : goal.returns-in-Some-clause-room
-returns-in-Some-clause-room c =
-    subst (λ (a : Sequence). length a.items + c.args.additional ≤ a.capacity → IsOk c.grow.result) (same c) c.grow.ensures.room
+returns-in-Some-clause-room c = grind (arith, common_steps)
 
 pub returns-in-Some-clause-stays : goal.returns-in-Some-clause-stays
-returns-in-Some-clause-stays c =
-    subst (λ (a : Sequence). length a.items + c.args.additional ≤ a.capacity → c.grow.new.list.cap ≡ a.capacity) (same c)
-    c.grow.ensures.stays
+returns-in-Some-clause-stays c = grind (arith, common_steps)
 
 pub returns-in-Some-clause-doubles : goal.returns-in-Some-clause-doubles
-returns-in-Some-clause-doubles c =
-    subst (λ (a : Sequence). OnOk c.grow.result (a.capacity < length a.items + c.args.additional → 2 * a.capacity ≤ c.grow.new.list.cap))
-    (same c) c.grow.ensures.doubles
+returns-in-Some-clause-doubles c = grind (arith, common_steps)
 
 pub returns-in-Some-clause-capacity : goal.returns-in-Some-clause-capacity
 returns-in-Some-clause-capacity c = grind (arith, common_steps)
@@ -43,7 +29,7 @@ pub returns-then-additional-eq0-clause-doubles : goal.returns-then-additional-eq
 returns-then-additional-eq0-clause-doubles c = grind (arith, common_steps)
 
 pub returns-then-additional-eq0-clause-capacity : goal.returns-then-additional-eq0-clause-capacity
-returns-then-additional-eq0-clause-capacity c = unchanged_capacity c.self.inside.list c.args.self.now c.self.view_is
+returns-then-additional-eq0-clause-capacity c = grind (arith, common_steps)
 
 pub returns-in_err-list-clause-ok : goal.returns-in_err-list-clause-ok
 returns-in_err-list-clause-ok c = IfOk-from_err c.from_residual.result _ c.from_residual.ensures.0
@@ -59,7 +45,7 @@ pub returns-in_err-list-clause-doubles : goal.returns-in_err-list-clause-doubles
 returns-in_err-list-clause-doubles c = IfOk-from_err c.from_residual.result _ c.from_residual.ensures.0
 
 pub returns-in_err-list-clause-capacity : goal.returns-in_err-list-clause-capacity
-returns-in_err-list-clause-capacity c = unchanged_capacity c.self.inside.list c.args.self.now c.self.view_is
+returns-in_err-list-clause-capacity c = grind (arith, common_steps)
 
 pub returns-in_err-new-clause-ok : goal.returns-in_err-new-clause-ok
 returns-in_err-new-clause-ok c = IfOk-from_err c.from_residual-in_err-new.result _ c.from_residual-in_err-new.ensures.0
@@ -76,7 +62,7 @@ pub returns-in_err-new-clause-doubles : goal.returns-in_err-new-clause-doubles
 returns-in_err-new-clause-doubles c = IfOk-from_err c.from_residual-in_err-new.result _ c.from_residual-in_err-new.ensures.0
 
 pub returns-in_err-new-clause-capacity : goal.returns-in_err-new-clause-capacity
-returns-in_err-new-clause-capacity c = unchanged_capacity c.self.inside.list c.args.self.now c.self.view_is
+returns-in_err-new-clause-capacity c = grind (arith, common_steps)
 
 pub returns-clause-items : goal.returns-clause-items
 returns-clause-items c = grind (arith, common_steps)

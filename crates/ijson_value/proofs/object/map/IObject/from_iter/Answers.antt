@@ -1,4 +1,4 @@
-use Rattle.std.proofs.Common.{ℕ, List, subst}
+use Rattle.std.proofs.Common.{ℕ, List, [], rules, subst}
 use Rattle.ijson_table.specs.Store.{Store}
 use Rattle.ijson_value.specs.InsertsEach.{InsertsEach}
 use Rattle.ijson_value.specs.WellFormed.{WellFormed}
@@ -7,14 +7,11 @@ use Rattle.ijson_value.proofs.object.map.IObject.from_iter.Goals as goal
 pub returns-in-Ok : goal.returns-in-Ok
 returns-in-Ok g c =
     let made : Store WellFormed = c.extend.new.self in
-    let all = c.in-Ok.ensures.added in (
-      all.0,
-      (
-        subst (λ (s : List (List ℕ × WellFormed) × ℕ). InsertsEach s.0 s.1 all.0 made.pairs made.capacity)
-            (λ i. (c.new-object.ensures.pairs i, c.new-object.ensures.capacity i)) all.1,
-        all.2,
-      ),
-    )
+    let all = c.in-Ok.ensures.added in
+    let inserted : InsertsEach [] 0 all.0 made.pairs made.capacity =
+    subst (λ (s : List (List ℕ × WellFormed) × ℕ). InsertsEach s.0 s.1 all.0 made.pairs made.capacity)
+    (λ i. (c.new-object.ensures.pairs i, c.new-object.ensures.capacity i)) all.1 in
+    (all.0, (search rules, all.2))
 
 -- what was made until then is the object that did not grow
 pub returns-in-Err : goal.returns-in-Err
