@@ -20,7 +20,6 @@ use std::marker::Model;
 /// a hasher with a random seed, as `RandomState` is.
 #[derive(Drop)]
 pub struct StringCache<S: BuildHasher> {
-    alloc: Global,
     texts: TextTable,
     hasher: S,
     ghost long: { AreLong (set_of texts.keys) } by { AreLong-prop (set_of texts.keys) },
@@ -48,7 +47,6 @@ impl<S: BuildHasher> StringCache<S> {
         ensures { result.texts ≡ set.empty }
     {
         StringCache {
-            alloc,
             texts: TextTable::new(alloc),
             hasher,
         }
@@ -99,12 +97,9 @@ impl<S: BuildHasher> StringCache<S> {
             return self.texts.shared(text, position);
         }
         let hash = hash_of(&self.hasher, text);
-        if let Some(position) = self.texts.find(hash, text) {
-            return self.texts.shared_by(hash, text, position);
+        match self.texts.find(hash, text) {
+            Some(position) => self.texts.shared_by(hash, text, position),
+            None => self.texts.push(hash, text),
         }
-        let shared = IString::long(self.alloc, text)?;
-        let text = shared.clone()?;
-        self.texts.push(hash, text)?;
-        Ok(shared)
     }
 }

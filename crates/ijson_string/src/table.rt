@@ -186,12 +186,15 @@ impl TextTable {
         shared
     }
 
-    /// Puts a text behind the others. Where memory is refused, or the table is full, they are as they were.
-    pub(crate) fn push(&mut self, hash: u32, text: IString) -> Result<(), AllocError>
-        ensures pushed { OnOk result (self.new.keys ≡ self.old.keys ++ record { hash = hash; text = text } ∷ []) }
+    /// Puts a text of more than 7 bytes behind the others, and returns one more owner of it. Where memory is refused, or the table or the
+    /// count of owners is full, they are as they were.
+    pub(crate) fn push(&mut self, hash: u32, text: &str) -> Result<IString, AllocError>
+        requires { 7 < length text.now }
+        ensures text { IfOk result (λ shared. shared ≡ text.now) }
+        ensures pushed { OnOk result (self.new.keys ≡ self.old.keys ++ record { hash = hash; text = text.now } ∷ []) }
         ensures buckets { OnOk result (self.new.buckets ≡ buckets_for (length self.old.keys) self.old.buckets) }
-        ensures recent { take (length self.old.recent) self.new.recent ≡ self.old.recent }
-        ensures followers { self.new.followers ≡ self.old.followers }
+        ensures followers { OnOk result (self.new.followers ≡ self.old.followers) }
+        ensures recent { OnOk result (take (length self.old.recent) self.new.recent ≡ self.old.recent) }
         ensures refused { OnErr result (self.new ≡ self.old) }
     {
         // A head of a chain is one more than a position.
@@ -200,11 +203,20 @@ impl TextTable {
         };
         self.links.reserve(1)?;
         self.texts.reserve(1)?;
-        grow(&mut self.links, &mut self.buckets, &mut self.recent)?;
+        let shared = IString::long(*self.texts.allocator(), text)?;
+        let Ok(text) = shared.clone() else {
+            drop(shared);
+            return Err(AllocError);
+        };
+        let Ok(()) = grow(&mut self.links, &mut self.buckets, &mut self.recent) else {
+            drop(text);
+            drop(shared);
+            return Err(AllocError);
+        };
         let next = prepend(&mut self.buckets, hash, head);
         self.links.push_reserved(Link { hash, next });
         self.texts.push_reserved(text);
-        Ok(())
+        Ok(shared)
     }
 
     /// Takes out every text, and keeps the room, in time linear in it.

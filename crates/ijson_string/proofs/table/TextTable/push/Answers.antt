@@ -1,4 +1,4 @@
-use Rattle.std.proofs.Common.{◌≡◌, ◌+◌, ◌∙◌, ap, ap₂, sym, [], ◌∷◌, ◌++◌, length, take, drop, arith}
+use Rattle.std.proofs.Common.{◌≡◌, ◌+◌, ◌∙◌, ap, ap₂, sym, ℕ, List, [], ◌∷◌, ◌++◌, length, take, drop, arith, rules}
 use Rattle.std.proofs.lemmas.Grind.{common_steps}
 use Rattle.std.specs.Prelude.{slice_set}
 use Rattle.std.proofs.Math.Seq.{take-append_seam}
@@ -14,59 +14,76 @@ use Rattle.ijson_string.proofs.KeysAt.{as_many_keys, keys-push}
 use Rattle.ijson_string.proofs.table.TextTable.push.Goals as goal
 use Rattle.ijson_string.proofs.table.TextTable.push.Goals.{After-push_reserved-2}
 
+-- a list that was lent is what came back
+back : {A : Type 0} (n : ℕ) (items lent : List A) → n ≡ length lent → take n (lent ++ drop (length lent) items) ≡ lent
+back n items lent as_many = let rest = drop (length lent) items in ap (λ n. take n (lent ++ rest)) as_many ∙ take-append_seam lent rest
+
+pub invariant_of-self : goal.invariant_of-self
+invariant_of-self c = rw c.reserve.ensures.items c.self.invariant
+
+pub invariant_of-self-in_err-reserve-2 : goal.invariant_of-self-in_err-reserve-2
+invariant_of-self-in_err-reserve-2 c = rw (c.reserve.ensures.items, c.reserve-2.ensures.items) c.self.invariant
+
+pub invariant_of-self-in_err-shared : goal.invariant_of-self-in_err-shared
+invariant_of-self-in_err-shared c = rw (c.reserve.ensures.items, c.reserve-2.ensures.items) c.self.invariant
+
+pub invariant_of-self-in_default-clone : goal.invariant_of-self-in_default-clone
+invariant_of-self-in_default-clone c = rw (c.reserve.ensures.items, c.reserve-2.ensures.items) c.self.invariant
+
+pub returns-in_default-grow-clause-refused : goal.returns-in_default-grow-clause-refused
+returns-in_default-grow-clause-refused c = grind (arith, common_steps)
+
+pub invariant_of-self-in_default-grow : goal.invariant_of-self-in_default-grow
+invariant_of-self-in_default-grow c = grind (arith, common_steps)
+
+-- the links and the texts that were there, and one more of each
 abbrev link_of : After-push_reserved-2 → Link
 link_of c = record { hash = c.args.hash; next = c.prepend-next.result }
 
--- the link stands behind the others
+lent_links : (c : After-push_reserved-2) → c.reserve.new.self.len ≡ length c.grow.new.links
+lent_links c = sym (c.grow.auto.links ∙ c.deref_mut.ensures.len)
+
 links_now : (c : After-push_reserved-2) → c.push_reserved.new.self.items ≡ c.grow.new.links ++ link_of c ∷ []
 links_now c =
-    let links = c.grow.new.links in
-    let as_many : c.reserve.new.self.len ≡ length links = omega arith in
-    let rest = drop (length links) c.reserve.new.self.items in
-    let back : take c.reserve.new.self.len (links ++ rest) ≡ links =
-    ap (λ n. take n (links ++ rest)) as_many ∙ take-append_seam links rest in
-    c.push_reserved.ensures.items ∙ ap (λ ls. ls ++ link_of c ∷ []) back
+    let kept = back c.reserve.new.self.len c.reserve.new.self.items c.grow.new.links (lent_links c) in
+    let pushed = c.push_reserved.ensures.items in
+    search rules
 
--- and so does the text
-texts_now : (c : After-push_reserved-2) → c.push_reserved-2.new.self.items ≡ c.self.inside.texts.items ++ c.args.text ∷ []
-texts_now c = c.push_reserved-2.ensures.items ∙ ap (λ ts. ts ++ c.args.text ∷ []) c.in_ok-reserve-2.ensures.items
+texts_now : (c : After-push_reserved-2) → c.push_reserved-2.new.self.items ≡ c.self.inside.texts.items ++ c.args.text.now ∷ []
+texts_now c =
+    c.push_reserved-2.ensures.items
+    ∙ ap₂ (λ texts text. texts ++ text ∷ []) c.reserve-2.ensures.items (c.in-Ok-clone.ensures.cases ∙ c.in_ok-shared.ensures)
 
 -- the buckets are as many as they were made
 buckets_now : (c : After-push_reserved-2) → take c.grow.new.buckets.len
     (c.prepend-next.new.buckets ++ drop (length c.prepend-next.new.buckets) c.grow.new.buckets.items) ≡ c.prepend-next.new.buckets
 buckets_now c =
-    let after = c.prepend-next.new.buckets in
-    let rest = drop (length after) c.grow.new.buckets.items in
-    let known = rw c.deref_mut-2.ensures.value at c.prepend-next.ensures in
-    let same = known.as_many in
-    let as_many : c.grow.new.buckets.len ≡ length after = omega arith in
-    ap (λ n. take n (after ++ rest)) as_many ∙ take-append_seam after rest
+    back c.grow.new.buckets.len c.grow.new.buckets.items c.prepend-next.new.buckets
+    (sym (c.prepend-next.auto.buckets ∙ c.deref_mut-2.ensures.len))
 
 listed : (c : After-push_reserved-2) → length c.self.inside.texts.items ≡ length c.grow.new.links
-listed c = let was = c.self.invariant.1 in omega (arith, was)
+listed c = c.self.invariant.1 ∙ sym (ap length c.reserve.ensures.items) ∙ sym c.reserve.new.self.ok.0 ∙ lent_links c
 
 pub invariant_of-self-2 : goal.invariant_of-self-2
 invariant_of-self-2 c =
     let links = c.grow.new.links in
     let buckets = c.grow.new.buckets.items in
     let after = c.prepend-next.new.buckets in
-    let hash = c.args.hash in
     let known = rw c.deref_mut-2.ensures.value at c.prepend-next.ensures in
     let same : length after ≡ length buckets = known.as_many in
-    let buckets_back = buckets_now c in
-    let at : c.in-Ok.head ≡ length links + 1 = omega (arith, c.in-Ok.ensures) in
-    let entered : IsEntered buckets after hash (length links + 1) = record {
+    let at : c.in-Ok.head ≡ length links + 1 =
+    c.in-Ok.ensures.1 ∙ ap (λ n. n + 1) (c.len.ensures ∙ sym c.reserve.ensures.len ∙ lent_links c) in
+    let entered : IsEntered buckets after c.args.hash (length links + 1) = record {
       as_many = same;
       inside = known.inside;
-      head = known.head ∙ ap (slice_set (heads_of buckets) (bucket_of (length buckets) hash)) at;
+      head = known.head ∙ ap (slice_set (heads_of buckets) (bucket_of (length buckets) c.args.hash)) at;
       filters = known.filters;
-    } in
-    let more = length-append links (link_of c ∷ []) in
-    let more_texts = length-append c.self.inside.texts.items (c.args.text ∷ []) in (
-      rw (links_now c, buckets_back) (IsTable-push links buckets after
-          (link_of c) c.in_ok-grow.ensures.table c.in_ok-grow.ensures.room entered known.next),
-      rw (links_now c, texts_now c) (omega (arith, more, more_texts, listed c)),
-      rw buckets_back (c.in_ok-grow.ensures.slots ∙ ap recent_for (sym same)),
+    } in (
+      rw (links_now c, buckets_now c) (IsTable-push links buckets after
+          (link_of c) c.in-Ok-grow.ensures.table c.in-Ok-grow.ensures.room entered known.next),
+      rw (links_now c, texts_now c) (length-append c.self.inside.texts.items (c.args.text.now ∷ [])
+          ∙ ap (λ n. n + 1) (listed c) ∙ sym (length-append links (link_of c ∷ []))),
+      rw (buckets_now c) (c.in-Ok-grow.ensures.slots ∙ ap recent_for (sym same)),
     )
 
 pub returns-clause-pushed : goal.returns-clause-pushed
@@ -74,35 +91,22 @@ returns-clause-pushed c =
     let links = c.grow.new.links in
     let texts = c.self.inside.texts.items in
     ap₂ keys_of (ap hashes_of (links_now c) ∙ map-append (λ l. l.hash) links (link_of c ∷ [])) (texts_now c)
-    ∙ keys-push (hashes_of links) texts c.args.hash c.args.text (listed c ∙ sym (length-map links (λ l. l.hash)))
-    ∙ ap (λ keys. keys ++ record { hash = c.args.hash; text = c.args.text } ∷ [])
+    ∙ keys-push (hashes_of links) texts c.args.hash c.args.text.now (listed c ∙ sym (length-map links (λ l. l.hash)))
+    ∙ ap (λ keys. keys ++ record { hash = c.args.hash; text = c.args.text.now } ∷ [])
     (ap (λ hashes. keys_of hashes texts) (c.grow.ensures.kept
-    ∙ ap hashes_of (c.deref_mut.ensures.value ∙ c.in_ok-reserve.ensures.items)) ∙ ap (λ (t : Table). t.keys) c.self.view_is)
+    ∙ ap hashes_of (c.deref_mut.ensures.value ∙ c.reserve.ensures.items)) ∙ ap (λ (t : Table). t.keys) c.self.view_is)
 
 pub returns-clause-buckets : goal.returns-clause-buckets
 returns-clause-buckets c =
     let known = rw c.deref_mut-2.ensures.value at c.prepend-next.ensures in
     let many = as_many_keys c.self.inside.links.items c.self.inside.texts.items c.args.self.now.keys c.self.invariant.1
     (ap (λ (t : Table). t.keys) c.self.view_is) in
-    let links : length c.deref_mut.result.now ≡ length c.args.self.now.keys = omega (arith, many, c.deref_mut.ensures.len) in
-    ap length (buckets_now c) ∙ known.as_many ∙ c.in_ok-grow.ensures.buckets
-    ∙ ap₂ buckets_for links (ap (λ (t : Table). t.buckets) c.self.view_is)
+    let lent = c.deref_mut.ensures.len ∙ c.reserve.ensures.len ∙ c.self.inside.links.ok.0 ∙ sym many in
+    ap length (buckets_now c) ∙ known.as_many ∙ c.in-Ok-grow.ensures.buckets
+    ∙ ap₂ buckets_for lent (ap (λ (t : Table). t.buckets) c.self.view_is)
 
--- what the check tries where no answer stands takes longer than these
-pub returns-in_default-clause-recent : goal.returns-in_default-clause-recent
-returns-in_default-clause-recent c = grind (arith, common_steps)
+pub push_reserved-requires : goal.push_reserved-requires
+push_reserved-requires c = grind (arith, common_steps)
 
-pub returns-in_err-reserve-clause-recent : goal.returns-in_err-reserve-clause-recent
-returns-in_err-reserve-clause-recent c = grind (arith, common_steps)
-
-pub returns-in_err-reserve-2-clause-recent : goal.returns-in_err-reserve-2-clause-recent
-returns-in_err-reserve-2-clause-recent c = grind (arith, common_steps)
-
-pub invariant_of-self-in_err-grow : goal.invariant_of-self-in_err-grow
-invariant_of-self-in_err-grow c = grind (arith, common_steps)
-
-pub returns-in_err-grow-clause-refused : goal.returns-in_err-grow-clause-refused
-returns-in_err-grow-clause-refused c = grind (arith, common_steps)
-
-pub returns-clause-followers : goal.returns-clause-followers
-returns-clause-followers c = grind (arith, common_steps)
+pub push_reserved-requires-2 : goal.push_reserved-requires-2
+push_reserved-requires-2 c = grind (arith, common_steps)
