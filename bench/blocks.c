@@ -1,8 +1,7 @@
-/* Counts the blocks of memory that a program asks for between its first two looks at the clock.
+/* Counts the allocations of a program between its first two readings of the clock.
  *
- * Loaded before the C library (LD_PRELOAD), it writes to the file that BLOCKS names how many blocks were asked for in that time, how many
- * times one was made larger or smaller, how many were given back, and by how many bytes the blocks that are held became more. The bytes are
- * as malloc rounds them, with the word that it keeps before each block. */
+ * Loaded before the C library (LD_PRELOAD), it writes to the file in BLOCKS the numbers of allocations, reallocations and frees in that time,
+ * and the growth of live bytes. Bytes are as malloc rounds them, with its word before each block. */
 #define _GNU_SOURCE
 #include <dlfcn.h>
 #include <malloc.h>

@@ -1,4 +1,4 @@
-"""Times programs on files, turn by turn."""
+"""Times programs on files, in turns."""
 
 import os
 import pathlib
@@ -12,23 +12,23 @@ BENCH = pathlib.Path(__file__).resolve().parent
 FILES = ["integers", "fractions", "objects", "strings", "mixed", "one_object"]
 COMMON_FILES = ["coordinates", "catalogue", "messages"]
 MORE_FILES = ["numbers", "arrays", "long_keys"]
-# Each of one kind of value, whose cost the other files hide.
+# One kind of value each, whose cost the other files hide.
 NARROW_FILES = ["probabilities", "identifiers", "points"]
 
 
 class Run(NamedTuple):
     elapsed: float  # seconds
     processor: float  # seconds, in the program and in the kernel
-    memory: float  # MB, the most that was resident
+    memory: float  # MB, maximum resident
 
 
-# What is told of the runs of one program on one file.
+# Figures of the runs of one program on one file.
 FIGURES = {
-    "elapsed, least": lambda runs: min(run.elapsed for run in runs),
+    "elapsed, min": lambda runs: min(run.elapsed for run in runs),
     "elapsed, median": lambda runs: statistics.median(run.elapsed for run in runs),
-    "processor, least": lambda runs: min(run.processor for run in runs),
+    "processor, min": lambda runs: min(run.processor for run in runs),
     "processor, median": lambda runs: statistics.median(run.processor for run in runs),
-    "memory, most": lambda runs: max(run.memory for run in runs),
+    "memory, max": lambda runs: max(run.memory for run in runs),
 }
 
 
@@ -43,7 +43,7 @@ def run_once(command, path, sink=os.devnull):
 
 
 def in_turns(names, turns):
-    """The names in turns, in each of which every one comes once; each turn begins with another."""
+    """The names in turns: each turn has every name once and begins with another."""
     names = list(names)
     for turn in range(turns):
         first = turn % len(names)
@@ -51,7 +51,7 @@ def in_turns(names, turns):
 
 
 def figures(jobs, turns):
-    """The figures of each job, a command and a file by a name, from turns in which each runs once."""
+    """The figures of each job (a command and a file, by name) from turns in which each runs once."""
     runs = {name: [] for name in jobs}
     for name in in_turns(jobs, turns):
         runs[name].append(run_once(*jobs[name]))

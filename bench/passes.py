@@ -1,4 +1,4 @@
-"""Runs the programs that time passes within one process, and ends the benchmark where one of them answers wrongly."""
+"""Runs the programs that time passes within one process, and ends the benchmark if one of them writes a wrong text."""
 
 import hashlib
 import pathlib
@@ -11,7 +11,7 @@ BENCH = pathlib.Path(__file__).resolve().parent
 
 
 def run_once(name, library, path, count, written):
-    """The nanoseconds of reading, writing and giving back in each pass. The last text goes to the file `written`."""
+    """The nanoseconds of reading, writing and dropping in each pass. Writes the last text to the file `written`."""
     with open(path, "rb") as text, open(written, "wb") as output:
         done = subprocess.run([library.program, str(count)], stdin=text, stdout=output, stderr=subprocess.PIPE, text=True)
     if done.returncode:
@@ -25,7 +25,7 @@ def run_once(name, library, path, count, written):
 
 
 def check_value(name, library, path, written):
-    """Ends the benchmark where the text is not of the value that was read, but for what the library does not keep."""
+    """Ends the benchmark if the text is not that of the value that was read, except for what the library does not keep."""
     command = [sys.executable, BENCH / "same.py", "--numbers", library.numbers, path, written]
     if subprocess.run(command + ["--order"] * library.order).returncode:
         sys.exit(f"{name} does not write the value of {path}")
@@ -36,7 +36,7 @@ def digest(path):
 
 
 def passes_of(libraries, path, count, turns, work):
-    """By the library, the nanoseconds of reading, writing and giving back in each pass of all turns."""
+    """The nanoseconds of reading, writing and dropping in each pass of all turns, by the library."""
     written = pathlib.Path(work) / "written"
     answers = {}
     for name, library in libraries.items():

@@ -1,4 +1,4 @@
-"""Builds the programs that are timed, and keeps them in out/. Each function gives a program's path, or None where it could not be built."""
+"""Builds the programs to time, and keeps them in out/. Each function returns a program's path, or None if it could not be built."""
 
 import hashlib
 import pathlib
@@ -17,7 +17,7 @@ PACKAGES = ["librust-serde-json-dev", "rapidjson-dev", "libsimdjson-dev"]
 
 
 class Library(NamedTuple):
-    """A program that times passes of a library, and what that keeps of a text."""
+    """A program that times passes of a library, and what the library keeps of a text."""
 
     program: pathlib.Path
     order: bool  # whether it keeps the order of members
@@ -25,7 +25,7 @@ class Library(NamedTuple):
 
 
 def built(command, folder, name):
-    """Whether the command made what it should; if not, says why."""
+    """Whether the command succeeded; if not, prints why."""
     try:
         done = subprocess.run(command, cwd=folder, input="[]", capture_output=True, text=True)
         why = done.stderr.splitlines()[-5:] if done.returncode else []
@@ -41,7 +41,7 @@ def kit_version():
 
 
 def library_crates(top="ijson_json"):
-    """The lines of crates.txt for the crates that a crate of the library stands on and for itself, by name."""
+    """The lines of crates.txt for a crate of the library and all that it depends on, by name."""
     lines = {line.partition(":")[0]: line for line in (BENCH.parent / "crates.txt").read_text().splitlines() if not line.startswith("#")}
     wanted, found = [top], {}
     while wanted:
@@ -53,7 +53,7 @@ def library_crates(top="ijson_json"):
 
 
 def stamp(source, crates):
-    """What a program is made of: the kit, its source, and the files of the crates."""
+    """A checksum of the kit, a program's source, and the files of its crates."""
     made_of = hashlib.sha256((kit_version() + source.read_text()).encode())
     for name in sorted(crates):
         for path in sorted(path for part in ("src", "specs", "proofs") for path in (CRATES / name / part).rglob("*") if path.is_file()):
@@ -90,17 +90,17 @@ def rattle_program(name, dependencies, crates, folder=BENCH):
 
 
 def kit_serde_json():
-    """The kit's own serde_json, which reads a text from standard input and writes it compactly."""
+    """The kit's own serde_json: reads a text from standard input and writes it compactly."""
     return rattle_program("kit_peer", "anyhow serde_json", {})
 
 
 def calls_of_ijson():
-    """Calls of the library. It wants the library's crates to be built, else it proves them first, which takes long."""
+    """Calls of the library. The library's crates must be built, else they are proved first, which takes long."""
     return rattle_program("calls_of_ijson", "ijson_json ijson_string ijson_value", library_crates())
 
 
 def canonical_of_ijson():
-    """Canonical and plain texts of the library. It wants the library's crates to be built, as `calls_of_ijson` does."""
+    """Canonical and plain texts of the library. The library's crates must be built, as for `calls_of_ijson`."""
     return rattle_program("canonical_of_ijson", "ijson_extra ijson_json ijson_string ijson_value", library_crates("ijson_extra"))
 
 
@@ -123,7 +123,7 @@ def rust_program(name, features="digits order"):
 
 
 def rust_serde_json():
-    """Rust's serde_json, which reads a text from standard input and writes it compactly."""
+    """Rust's serde_json: reads a text from standard input and writes it compactly."""
     return rust_program("baseline")
 
 
@@ -144,12 +144,12 @@ def rapidjson(name, flags):
 
 
 def passes_of_ijson():
-    """Passes of the library. It wants the library's crates to be built, as `calls_of_ijson` does."""
+    """Passes of the library. The library's crates must be built, as for `calls_of_ijson`."""
     return rattle_program("passes_of_ijson", "ijson_json ijson_string ijson_value", library_crates())
 
 
 def libraries(ours):
-    """What times passes within a process, by the names in the tables: this library, and the peers that could be built."""
+    """Programs that time passes within a process, by the names in the tables: this library, and the peers that could be built."""
     found = {
         ours: Library(passes_of_ijson(), True, "digits"),
         "serde_json exact": Library(rust_program("passes"), True, "digits"),
@@ -164,7 +164,7 @@ def libraries(ours):
 
 
 def package_versions():
-    """The versions of the peers' packages, those that are there."""
+    """The versions of the peers' packages that are installed."""
     if not shutil.which("dpkg-query"):
         return "No packages of Debian."
     done = subprocess.run(["dpkg-query", "--show", "--showformat", "${Package} ${Version}\n", *PACKAGES], capture_output=True, text=True)

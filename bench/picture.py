@@ -1,4 +1,4 @@
-"""A picture of the ratios of bench/in_process, in SVG: a panel for each act, a line for each file, and in it a mark for each library."""
+"""A picture of the ratios of bench/in_process, in SVG: a panel per act, a line per file, and in it a mark per library."""
 
 import math
 from html import escape
@@ -25,13 +25,13 @@ def line(x1, y1, x2, y2, colour):
 
 
 def mark(x, y, colour, is_full, words=""):
-    """A full one for what keeps order and digits, and else a ring."""
+    """Filled if order and digits are kept, else a ring."""
     inside = colour if is_full else "none"
     return f'<circle cx="{x:.1f}" cy="{y:.1f}" r="5" fill="{inside}" stroke="{colour}" stroke-width="2"><title>{escape(words)}</title></circle>'
 
 
 class Scale:
-    """Powers of two round all ratios, on a scale of logarithms."""
+    """Powers of two around all ratios, on a logarithmic scale."""
 
     def __init__(self, all_ratios):
         exponents = [math.log2(ratio) for ratio in all_ratios]
@@ -47,8 +47,8 @@ class Scale:
 
 def legend(libraries, colours):
     """The first lines of the picture."""
-    parts = [text(LABELS, 20, "Times as long as ijson, the least of all passes: right of 1, ijson takes less.", "start", "bold")]
-    parts.append(text(LABELS, 38, "A full mark: order and digits are kept. A ring: not both are.", "start"))
+    parts = [text(LABELS, 20, "Time relative to ijson, minimum of all passes. Right of 1, ijson takes less.", "start", "bold")]
+    parts.append(text(LABELS, 38, "Filled: order and digits are kept. Ring: not both are.", "start"))
     for number, (name, colour) in enumerate(colours.items()):
         x, y = LABELS + number % LEGEND_COLUMNS * 230, 58 + number // LEGEND_COLUMNS * 18
         parts += [mark(x + 6, y - 5, colour, is_exact(libraries[name])), text(x + 18, y, name, "start")]
@@ -76,11 +76,11 @@ def panel(left, act, by_line, scale, libraries, colours):
 
 
 def picture(passes, libraries):
-    """The whole picture, of the least of the passes."""
+    """The whole picture, from the minimum of the passes."""
     colours = dict(zip((name for name in libraries if name != OURS), COLOURS))
     acts = {}
     for act in PANELS:
-        by_file = ratios(passes, act, "least")
+        by_file = ratios(passes, act, "min")
         acts[act] = by_file | {MEAN: {name: mean(by_file, name) for name in libraries}}
     scale = Scale([ratio for by_line in acts.values() for by_library in by_line.values() for ratio in by_library.values()])
     names = list(passes) + [MEAN]

@@ -1,8 +1,8 @@
 #!/usr/bin/env python3
-"""same.py [--order] [--numbers digits|floats|texts] READ WRITTEN: ends with status 0 only where both files are JSON texts of one value.
+"""same.py [--order] [--numbers digits|floats|texts] READ WRITTEN: ends with status 0 only if both files are JSON texts of one value.
 
-With --order the members stand in one order. Numbers are compared as the nearest floating point if nothing is said; by exact value (`digits`); as
-floating point that a reader may have rounded twice (`floats`); or the number that was read is a string of its digits now (`texts`).
+With --order the members have one order. Numbers are compared as the nearest floating point by default; by exact value (`digits`); as floating
+point that a reader may have rounded twice (`floats`); or the number that was read is now a string of its digits (`texts`).
 """
 
 import argparse
@@ -11,7 +11,7 @@ import json
 import math
 import sys
 
-# What a reader is told of numbers.
+# How a reader parses numbers.
 NUMBERS = {
     "nearest": {},
     "digits": {"parse_int": decimal.Decimal, "parse_float": decimal.Decimal},

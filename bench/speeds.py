@@ -5,14 +5,14 @@ from operator import itemgetter
 
 from tables import OURS, head, row
 
-# What is told of the three times of a pass.
+# Figures from the three times of a pass.
 ACTS = {
     "reading": itemgetter(0),
     "writing": itemgetter(1),
-    "giving back": itemgetter(2),
+    "dropping": itemgetter(2),
     "all three": sum,
 }
-FIGURES = {"least": min, "median": statistics.median}
+FIGURES = {"min": min, "median": statistics.median}
 
 
 def shown_speed(size, nanoseconds):
@@ -20,7 +20,7 @@ def shown_speed(size, nanoseconds):
 
 
 def speed_table(act, passes, sizes):
-    """Megabytes of the text that is read, a second, by the least time and by the median. `passes` is by the file and then by the library."""
+    """Megabytes of the input per second, by the minimum time and by the median. `passes` is by the file and then by the library."""
     lines = [head(f"{act}, MB/s, {' / '.join(FIGURES)}", *next(iter(passes.values())))]
     for file, by_library in passes.items():
         size = sizes[file]
@@ -32,7 +32,7 @@ def speed_table(act, passes, sizes):
 
 
 def ratios(passes, act, figure):
-    """By the file and then by the library, how many times as long as ours it takes."""
+    """Time relative to ours, by the file and then by the library."""
     found = {}
     for file, by_library in passes.items():
         taken = {name: FIGURES[figure](map(ACTS[act], it)) for name, it in by_library.items()}
@@ -49,8 +49,8 @@ def shown_ratio(ratio):
 
 
 def mean_table(passes, libraries):
-    """The geometric means over the files, a row a library, with what it keeps."""
-    lines = [head("times as long as ijson, geometric mean", "order of members", "numbers", *ACTS)]
+    """The geometric means over the files, one row per library, with what the library keeps."""
+    lines = [head("time relative to ijson, geometric mean", "order of members", "numbers", *ACTS)]
     by_act = {act: [ratios(passes, act, figure) for figure in FIGURES] for act in ACTS}
     for name, library in libraries.items():
         cells = (" / ".join(shown_ratio(mean(it, name)) for it in both_figures) for both_figures in by_act.values())

@@ -1,4 +1,4 @@
-"""What bench/run, bench/calls and bench/in_process print. A number in brackets is how many times as much as ijson a program takes: above 1, ijson takes less."""
+"""Tables of bench/run, bench/calls and bench/in_process. A number in brackets is the ratio to ijson: above 1, ijson takes less."""
 
 import datetime
 import os
@@ -13,7 +13,7 @@ BETTER = "better peer"
 
 
 def print_conditions(turns, passes=None):
-    """When, with what and on what machine: the first lines of a report."""
+    """The first lines of a report: date, kit, machine, turns."""
     with open("/proc/cpuinfo", encoding="utf-8") as lines:
         models = [line.partition(":")[2].strip() for line in lines if line.startswith("model name")]
     print(f"{datetime.date.today()}, {kit_version()}, {len(models)} processors {models[0]}, {turns} turns" + (f" of {passes} passes." if passes else "."))
@@ -33,7 +33,7 @@ def shown(figure, value):
 
 
 def ratios(figures, peers):
-    """By the name of each program but ours, and of the better peer (for each figure by itself), its figures over ours."""
+    """The figures of each other program, and of the better peer (for each figure by itself), divided by ours."""
     others = {name: it for name, it in figures.items() if name != OURS}
     if peers:
         others[BETTER] = {figure: min(figures[name][figure] for name in peers) for figure in FIGURES}
@@ -51,7 +51,7 @@ def file_table(title, figures, file_ratios):
 
 
 def ratio_table(all_ratios):
-    """The ratios against the better peer, a row a file, and the geometric means against each program. `all_ratios` is by the file's name."""
+    """The ratios against the better peer, one row per file, and the geometric means against each program. `all_ratios` is by the file's name."""
     lines = [head(f"Against the {BETTER}", *FIGURES)]
     names = list(next(iter(all_ratios.values())))
     if BETTER in names:
@@ -64,8 +64,8 @@ def ratio_table(all_ratios):
 
 
 def growth_table(nanoseconds):
-    """`nanoseconds`: for each byte, by the file's name and then by the size."""
-    lines = [head("Processor time, ns a byte", *next(iter(nanoseconds.values())))]
+    """`nanoseconds` per byte, by the file's name and then by the size."""
+    lines = [head("Processor time, ns per byte", *next(iter(nanoseconds.values())))]
     for file, it in nanoseconds.items():
         lines.append(row(file, *(f"{value:.1f}" for value in it.values())))
     return "\n".join(lines)

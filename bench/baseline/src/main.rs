@@ -1,4 +1,4 @@
-//! What the benchmark measures against: reads a JSON text of standard input into a `serde_json::Value`, and writes it compactly.
+//! A peer of the benchmark: reads a JSON text of standard input into a `serde_json::Value`, and writes it compactly.
 
 use std::io::{Read, Write};
 

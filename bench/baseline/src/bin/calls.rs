@@ -1,4 +1,4 @@
-//! Times calls of `serde_json` on the values of standard input, a line for each pass: what was timed, what the calls gave, and nanoseconds.
+//! Times calls of `serde_json` on the values of standard input, a line per pass: the call, its result, and nanoseconds.
 
 use serde_json::Value;
 use std::hint::black_box;

@@ -1,5 +1,5 @@
-//! Times `serde_json` as `passes_of_ijson` does this library: reading, writing and giving back the text of standard input, as many times as the
-//! first argument says.
+//! Times `serde_json` as `passes_of_ijson` does this library: reading, writing and dropping the value of standard input; the first
+//! argument is the number of passes.
 
 use serde_json::Value;
 use std::io::Write;
@@ -7,7 +7,7 @@ use std::time::Instant;
 
 type Failure = Box<dyn std::error::Error>;
 
-/// Times one pass, and gives the text that it wrote.
+/// Times one pass, and returns its text.
 fn pass(text: &str) -> Result<String, Failure> {
     let start = Instant::now();
     let value: Value = serde_json::from_str(text)?;
