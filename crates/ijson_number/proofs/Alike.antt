@@ -1,4 +1,4 @@
--- Numbers that can't be told apart, their texts and their forms.
+-- Indistinguishable numbers, their texts and their forms.
 use Rattle.std.proofs.Common.{◌≡◌, ◌∙◌, ◌↔◌, ap, subst}
 use Rattle.ijson_number.specs.Alike.{IsAlike}
 use Rattle.ijson_number.specs.Decimal.{Decimal}
@@ -11,7 +11,7 @@ use Rattle.ijson_number.specs.Text.{num_text}
 use Rattle.ijson_number.proofs.parsing.Denotes.{same_decimal, spells_one}
 use Rattle.ijson_number.proofs.writing.RoundTrip.{num_text_spells}
 
--- they are one number
+-- they are equal
 alike_same : (a b : Num) → IsAlike a.decimal b.decimal → a.decimal ≡ b.decimal
 alike_same a b h =
     let e = equal_same a.decimal b.decimal a.is_num.plain b.is_num.plain (tests_equal _ h.value) in
@@ -31,6 +31,6 @@ text_alike a b e =
       shape = ap (λ (d : Decimal). d.point) one;
     }
 
--- they, and no others, have one text
+-- they have one text, and no other number has it
 pub text_tells : (a b : Num) → (num_text a.decimal ≡ num_text b.decimal) ↔ IsAlike a.decimal b.decimal
 text_tells a b = (text_alike a b, λ h. ap num_text (alike_same a b h))

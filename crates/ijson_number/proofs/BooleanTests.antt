@@ -1,4 +1,4 @@
--- What the outcome of a test says.
+-- Facts from the results of tests.
 use Rattle.std.proofs.Common.{◌≡◌, ℕ, ◌<◌, true, false, ap, arith}
 use Rattle.std.specs.Prelude.{ℤ, pos, negsuc, nat_abs, nat_eq, int_le, int_lt, ◌≤ℤ◌, ◌<ℤ◌}
 use Rattle.std.proofs.lemmas.Int.{ints}

@@ -1,4 +1,4 @@
--- From a value that is whole to an integer type.
+-- Conversions of a whole value to an integer type.
 use Rattle.std.proofs.Common.{◌≡◌, ◌<◌, ◌^◌, ◌∙◌, ℕ, Option, Result, None, Ok, Err, refl, ap, sym, subst, arith}
 use Rattle.std.specs.Prelude.{ℤ, pos, nat_abs, FitsSigned, IfSome, IfNone}
 use Rattle.std.specs.Int.{FitsUnsigned}
@@ -12,15 +12,15 @@ use Rattle.ijson_number.specs.Integers.{HasValue}
 use Rattle.ijson_number.proofs.storing.WholeValues.{value_one}
 use Rattle.ijson_number.specs.laws.Ordered.{nonneg}
 
--- the value, as an `i128` has it
+-- the value, as an `i128`
 abbrev held : ℤ → ℤ
 held v = to_z w128 (of_z w128 v)
 
 held_is : (v : ℤ) → nat_abs v < 10 ^ 20 → held v ≡ v
 held_is v near = to_z-of_z w128 v (omega (arith, ints, near))
 
--- What a conversion of a number to an integer type owes: what it gives is the number's value, and where it gives nothing, no
--- member of the type is. `integer` is what a member stands for.
+-- A conversion of a number to an integer type: its result is the value of the number, and if there is none, no integer of the type is.
+-- `integer` is the value of an integer of the type.
 abbrev pub IsConverted : {A : Type 0} → Decimal → (A → ℤ) → (A → Type 0) → Option A → Type 0
 IsConverted {A} n integer Fits o = record {
   some : IfSome o (λ x. HasValue n (integer x));
@@ -28,12 +28,12 @@ IsConverted {A} n integer Fits o = record {
 }
 
 module _ {A : Type 0} (integer : A → ℤ) (Fits : A → Type 0) (n : Decimal) where
-  -- where the number has no whole value near zero
+  -- the number has no whole value below the bound
   none_near : {o : Option A} → ((x : A) → Fits x → nat_abs (integer x) < 10 ^ 20) → ((z : ℤ) → nat_abs z < 10 ^ 20 → HasValue n z → ⊥)
       → o ≡ None → IsConverted n integer Fits o
   none_near near none e = rw e (record { some = tt; none = λ x f. none (integer x) (near x f) })
 
-  -- where it has one, which is cast if it fits
+  -- it has one, which is cast if it fits
   from_value : {E : Type 0} (cast : ℤ → A) (FitsCast : ℤ → Type 0) → ((x : A) → Fits x → FitsCast (integer x))
       → ((z : ℤ) → FitsCast z → integer (cast z) ≡ z) → (v : ℤ) {o : Option A} (r : Result A E) → IsPlain n → HasValue n v
       → nat_abs v < 10 ^ 20 → OkIff r (FitsCast (held v)) (cast (held v)) → o ≡ result_ok r → IsConverted n integer Fits o
@@ -60,12 +60,12 @@ pub unsigned : {E : Type 0} (width : Width) {n : Decimal} (v : ℤ) {o : Option 
 unsigned width {n} = from_value pos (λ m. m < 2 ^ bits width) n nat_abs (FitsUnsigned width)
     (λ m l. (omega (arith, ints), omega (arith, ints))) (λ z f. sym (nonneg z f.0))
 
--- the same where the number has no whole value near zero, as each value of the type is
+-- the number has no whole value below the bound, and the values of an unsigned type are below it
 pub none_unsigned : (width : Width) (n : Decimal) {o : Option ℕ} → 2 ^ bits width < 10 ^ 20
     → ((z : ℤ) → nat_abs z < 10 ^ 20 → HasValue n z → ⊥) → o ≡ None → IsConverted n pos (λ m. m < 2 ^ bits width) o
 none_unsigned width n narrow = none_near pos (λ m. m < 2 ^ bits width) n (λ m l. omega arith)
 
--- and for a signed type
+-- or those of a signed type
 pub none_signed : (width : Width) (n : Decimal) {o : Option ℤ} → ((z : ℤ) → FitsSigned width z → nat_abs z < 10 ^ 20)
     → ((z : ℤ) → nat_abs z < 10 ^ 20 → HasValue n z → ⊥) → o ≡ None → IsConverted n (λ z. z) (FitsSigned width) o
 none_signed width n = none_near (λ z. z) (FitsSigned width) n

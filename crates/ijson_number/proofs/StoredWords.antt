@@ -1,4 +1,4 @@
--- What stored parts feed a hasher.
+-- The words that stored parts feed a hasher.
 use Rattle.std.proofs.Common.{◌≡◌, ℕ, ◌<◌, Bool, true, false, List, [], ◌∷◌, length, refl, ap, sym, ◌∙◌, arith}
 use Rattle.std.specs.Prelude.{ℤ, pos, nat_abs, nat_eq, int_lt, ◌+ℤ◌, if◌then◌else◌}
 use Rattle.std.specs.Int.Digits.{number_from_digits}

@@ -1,4 +1,4 @@
--- The worked rows, by computation.
+-- Worked examples, by computation.
 use Rattle.std.proofs.Common.{◌≡◌, ℕ, ◌%◌, true, false, List, [], ◌∷◌, map, refl, inl, inr, arith}
 use Rattle.ijson_number.specs.Grammar.{Spells}
 use Rattle.std.specs.Prelude.{ℤ, pos, negsuc, neg_ℤ, codes}
@@ -17,7 +17,7 @@ float m e = record { mantissa = m; exponent = e; point = true }
 abbrev whole : ℤ → ℤ → Decimal
 whole m e = record { mantissa = m; exponent = e; point = false }
 
--- what the definition gives for the first part of each row is the second part
+-- the definition maps the first component of each row to the second
 abbrev IsTable : {A B : Type 0} → (A → B) → List (A × B) → Type 0
 IsTable f rows = map (λ r. f r.0) rows ≡ map (λ r. r.1) rows
 
@@ -70,7 +70,7 @@ words : IsTable number_words (
     [])
 words = refl
 
--- what the texts of a row spell, by their parts
+-- the number that a text of a row spells, by its parts
 spelled-1_5E-3 : Spells (codes "1.5E-3") (float (pos 15) (negsuc 3))
 spelled-1_5E-3 = (
   record { negative = false; whole = 49 ∷ []; fraction = 53 ∷ []; exponent = negsuc 2; point = true },
@@ -97,7 +97,7 @@ spelled-1_5E-3 = (
   ),
 )
 
--- the form of the number that a word keeps, and the word's last four bits, which are 8 in each row
+-- the form of the number that a word stores, and the last four bits of the word, which are 8 in each row
 abbrev kept : ℕ → FormOf × ℕ
 kept bits = (packed (word_mantissa bits) (word_exponent bits) (word_point bits), bits % 16)
 

@@ -6,10 +6,10 @@ pub mod MovedLanes
 pub mod NumberTails
 pub mod OneDivision
 pub mod PartsDenote
-pub mod PlainFronts
-pub mod PowerTails
+pub mod CommonFronts
+pub mod ExponentTails
 pub mod PrefixDigits
-pub mod PrefixNumbers
+pub mod FrontNumbers
 pub mod ReadLanes
-pub mod Scanning
+pub mod CanonicalSpellings
 pub mod SpelledBytes

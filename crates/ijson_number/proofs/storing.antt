@@ -1,10 +1,11 @@
 pub mod DigitBounds
 pub mod DigitsOf
-pub mod FewDigits
 pub mod FormCases
 pub mod FormNumbers
 pub mod IntegerWords
 pub mod SameParts
-pub mod ShortNumbers
+pub mod BlockDigits
+pub mod Significands
+pub mod SmallExponents
 pub mod WholeValues
 pub mod ZerosOff

@@ -1,7 +1,7 @@
--- What an append leaves that was refused. This project's own.
+-- The state after a failed append. This project's own.
 use Rattle.std.specs.Prelude.{◌≡◌, ℕ, List, ◌++◌}
 
--- a beginning of the text, none or all of it too, stands behind what was there before
+-- a beginning of `text`, possibly none or all of it, was appended to `before`
 pub record AppendsBeginning (before after text : List ℕ) : Type 0 where
   pub front : List ℕ
   pub rest : List ℕ

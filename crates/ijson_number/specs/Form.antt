@@ -1,4 +1,4 @@
--- The stored form of a number. This project's own.
+-- The representation of a number. This project's own.
 use Rattle.std.specs.Prelude.{ℕ, zero, suc, ◌^◌, ℤ, pos, negsuc, neg_ℤ, nat_abs, ◌*ℤ◌, ◌-ℤ◌, int_lt, int_le, Bool, true, false, ◌&&◌, List}
 use Rattle.ijson_number.specs.Decimal.{Decimal}
 use Rattle.ijson_number.specs.StrippedDigits.{stripped_digits}
@@ -9,7 +9,7 @@ pub data FormOf : Type 0 where
   unsigned_word : ℕ → FormOf
   digits : Bool → List ℕ → ℤ → Bool → FormOf
 
--- a mantissa fits in a packed number
+-- a mantissa fits a packed number
 abbrev pub fits_packed : ℤ → Bool
 fits_packed m = int_le (neg_ℤ (pos 36028797018963968)) m && int_lt m (pos 36028797018963968)
 
@@ -22,7 +22,7 @@ fits_u64 m = int_le (pos 0) m && int_lt m (pos (2 ^ 64))
 abbrev pub digits_form : Decimal → FormOf
 digits_form n = digits (int_lt n.mantissa (pos 0)) (stripped_digits n) n.exponent n.point
 
--- the whole number m * 10 ^ e, integer shape
+-- the whole number m * 10 ^ e, without the fraction point
 abbrev pub integer_form : Decimal → ℤ → FormOf
 integer_form n m =
     elim (fits_packed m) [
@@ -36,7 +36,7 @@ integer_form n m =
       ]
     ]
 
--- the smallest exponent from k on, of at most `tries` that are tried, that leaves a mantissa that fits
+-- the smallest exponent from k on, among `tries` of them, with a mantissa that fits
 abbrev pub smallest_packed : (tries k : ℕ) → Decimal → FormOf
 smallest_packed zero k n = digits_form n
 smallest_packed (suc tries) k n =
@@ -59,7 +59,7 @@ form_of n =
       ]
     ]
 
--- a list of digits, which takes memory
+-- a list of digits, which is allocated
 abbrev pub is_digits : FormOf → Bool
 is_digits (packed m e point) = false
 is_digits (signed_word z) = false

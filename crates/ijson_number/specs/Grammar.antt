@@ -1,4 +1,4 @@
--- Which texts spell a number, and which number: the number grammar of RFC 8259, section 6.
+-- The texts that spell a number, and the number of each: the number grammar of RFC 8259, section 6.
 use Rattle.std.specs.Prelude.{◌≡◌, ◌⊎◌, ℕ, ◌≤◌, ◌-◌, ℤ, pos, neg_ℤ, ◌-ℤ◌, Bool, true, false, List, [], ◌∷◌, ◌++◌, map, length, ◌||◌}
 use Rattle.std.specs.List.{AllByRecursion}
 use Rattle.std.specs.Int.Digits.{number_from_digits}
@@ -17,7 +17,7 @@ abbrev pub IsDigits : List ℕ → Type 0
 IsDigits [] = ⊥
 IsDigits (b ∷ bs) = IsDigit b × AllDigits bs
 
--- the number that digits write
+-- the value of digits
 abbrev pub value : List ℕ → ℕ
 value bs = number_from_digits 10 (map (λ b. b - 48) bs)
 
@@ -35,7 +35,7 @@ abbrev pub IsFraction : List ℕ → (digits : List ℕ) → (written : Bool) �
 IsFraction [] digits written = digits ≡ [] × written ≡ false
 IsFraction (b ∷ bs) digits written = b ≡ 46 × IsDigits bs × digits ≡ bs × written ≡ true
 
--- at least one digit, with '+', '-' or no sign in front
+-- at least one digit, after '+', '-' or no sign
 abbrev pub IsSigned : List ℕ → ℤ → Type 0
 IsSigned [] z = ⊥
 IsSigned (b ∷ bs) z =
@@ -48,7 +48,7 @@ abbrev pub IsExponent : List ℕ → ℤ → (written : Bool) → Type 0
 IsExponent [] z written = z ≡ pos 0 × written ≡ false
 IsExponent (b ∷ bs) z written = (b ≡ 101 ⊎ b ≡ 69) × IsSigned bs z × written ≡ true
 
--- the parts of a number's text, in order, and what each says
+-- the parts of a number's text, in order, and their values
 pub record Parts : Type 0 where
   pub negative : Bool
   pub whole : List ℕ
@@ -56,7 +56,7 @@ pub record Parts : Type 0 where
   pub exponent : ℤ
   pub point : Bool
 
--- the text is these parts
+-- the text consists of these parts
 pub record IsSpelled (text : List ℕ) (p : Parts) : Type 0 where
   pub minus_text : List ℕ
   pub fraction_text : List ℕ
@@ -70,8 +70,8 @@ pub record IsSpelled (text : List ℕ) (p : Parts) : Type 0 where
   pub exponent : IsExponent exponent_text p.exponent has_exponent
   pub point : p.point ≡ has_point || has_exponent
 
--- the parts denote the number: all digits as one whole number with the sign, times ten to the written exponent less the
--- count of fraction digits, with all tens taken out
+-- the parts denote the number: the value of all digits with the sign, times ten to the written exponent minus the number of fraction
+-- digits, without trailing zeros
 abbrev pub Denotes : Parts → Decimal → Type 0
 Denotes p n =
     let mantissa = signed p.negative (value (p.whole ++ p.fraction)) in

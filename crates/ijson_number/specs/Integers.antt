@@ -1,9 +1,9 @@
--- Whole numbers as numbers. This project's own.
+-- Whole numbers as decimals. This project's own.
 use Rattle.std.specs.Prelude.{◌≡◌, ℤ, pos, false, IsTrue}
 use Rattle.ijson_number.specs.Decimal.{Decimal}
 use Rattle.ijson_number.specs.Order.{number_eq}
 
--- a whole number, without the point
+-- a whole number, without the fraction point
 abbrev pub integer : ℤ → Decimal
 integer z = record { mantissa = z; exponent = pos 0; point = false }
 
@@ -11,7 +11,7 @@ integer z = record { mantissa = z; exponent = pos 0; point = false }
 abbrev pub HasValue : Decimal → ℤ → Type 0
 HasValue n z = IsTrue (number_eq n (integer z))
 
--- the number has the value z, and no point
+-- the number has the value z, and no fraction point
 pub record IsInteger (n : Decimal) (z : ℤ) : Type 0 where
   pub value : HasValue n z
   pub no_point : n.point ≡ false

@@ -5,9 +5,7 @@ pub mod Strips
 pub mod StrippedDigits
 pub mod Grammar
 pub mod NumberBytes
-pub mod DigitFront
-pub mod PlainFront
-pub mod PowerFront
+pub mod CommonFront
 pub mod Refused
 pub mod Text
 pub mod AppendsBeginning

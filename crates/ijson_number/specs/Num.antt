@@ -2,7 +2,7 @@
 use Rattle.std.specs.Prelude.{ℤ, pos, neg_ℤ, ◌^◌, nat_abs, int_le, nat_eq, Bool, ◌&&◌, ◌||◌, IsTrue}
 use Rattle.ijson_number.specs.Decimal.{Decimal, IsPlain}
 
--- the greatest exponent
+-- the maximum exponent
 abbrev pub exponent_limit : ℤ
 exponent_limit = pos (2 ^ 30)
 

@@ -1,4 +1,4 @@
--- Which bytes a number's text is made of: those of RFC 8259, section 6.
+-- The bytes of a number's text: those of RFC 8259, section 6.
 use Rattle.std.specs.Prelude.{ℕ, Bool, ◌&&◌, ◌||◌, ◌==◌, nat_le}
 
 -- '0' to '9'

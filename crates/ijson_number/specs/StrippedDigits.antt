@@ -2,7 +2,7 @@
 use Rattle.std.specs.Prelude.{ℕ, zero, suc, ◌/◌, ◌%◌, nat_eq, nat_abs, true, false, List, [], ◌∷◌, ◌++◌}
 use Rattle.ijson_number.specs.Decimal.{Decimal}
 
--- the digits of a number in at most so many turns
+-- the digits of a number, or its last `turns` digits if it has more
 abbrev pub digits_within : ℕ → ℕ → List ℕ
 digits_within zero n = []
 digits_within (suc turns) n =
@@ -11,6 +11,6 @@ digits_within (suc turns) n =
       | false ↦ digits_within turns (n / 10) ++ (n % 10 ∷ [])
     ]
 
--- the digits of the mantissa, the most significant first; none at zero
+-- the digits of the mantissa, the most significant first; none for zero
 abbrev pub stripped_digits : Decimal → List ℕ
 stripped_digits n = digits_within (nat_abs n.mantissa) (nat_abs n.mantissa)

@@ -1,12 +1,12 @@
--- Taking the tens out of a mantissa. This project's own.
+-- Stripping the trailing zeros of a mantissa. This project's own.
 use Rattle.std.specs.Prelude.{◌≡◌, ◌⊎◌, ℕ, ◌^◌, ℤ, pos, neg_ℤ, ◌*ℤ◌, ◌+ℤ◌, Bool, cond}
 use Rattle.ijson_number.specs.Decimal.{Decimal, IsPlain}
 
--- a whole number by its sign and size
+-- a whole number by its sign and absolute value
 abbrev pub signed : (negative : Bool) → ℕ → ℤ
 signed negative n = cond negative (neg_ℤ (pos n)) (pos n)
 
--- n is m * 10 ^ e with all tens taken out of m
+-- n is m * 10 ^ e, without trailing zeros of m
 pub record Strips (m e : ℤ) (n : Decimal) : Type 0 where
   pub plain : IsPlain n
   pub tens :

@@ -1,4 +1,4 @@
--- How a number is written. The rules are this project's own; what they write is JSON (RFC 8259, section 6).
+-- How a number is written. The rules are this project's own; the text is JSON (RFC 8259, section 6).
 use Rattle.std.specs.Prelude.{ℕ, ◌+◌, ℤ, pos, negsuc, nat_abs, ◌+ℤ◌, ◌-ℤ◌, int_lt, int_le, Bool, true, false, ◌||◌}
 use Rattle.std.specs.Prelude.{List, [], ◌∷◌, ◌++◌, map, length, take, drop, replicate, nat_eq, zero, suc}
 use Rattle.ijson_number.specs.Decimal.{Decimal}
@@ -17,14 +17,14 @@ whole_text (pos zero) = 48 ∷ []
 whole_text (pos (suc n)) = digits_text (digits_within (suc n) (suc n))
 whole_text (negsuc n) = 45 ∷ digits_text (digits_within (suc n) (suc n))
 
--- the first digit, '.' and the rest if there is one, 'e' and the power of ten of the first digit
+-- the first digit, '.' and any others, 'e' and the power of ten of the first digit
 abbrev pub scientific_text : List ℕ → (p : ℤ) → List ℕ
 scientific_text [] p = []
 scientific_text (d ∷ []) p = (48 + d) ∷ 101 ∷ whole_text (p -ℤ pos 1)
 scientific_text (d ∷ c ∷ ds) p =
     (48 + d) ∷ 46 ∷ digits_text (c ∷ ds) ++ 101 ∷ whole_text (p -ℤ pos 1)
 
--- the digits ds with the point p places behind their front, with zeros as far as they don't reach
+-- the digits ds with the point after p of them, and zeros if p is outside them
 abbrev pub point_text : List ℕ → (p : ℤ) → List ℕ
 point_text ds p =
     elim (int_le p (pos 0)) [
@@ -35,7 +35,7 @@ point_text ds p =
       ]
     ]
 
--- float shape: the digits ds and the exponent e
+-- the digits ds and the exponent e, with the fraction point
 abbrev pub float_text : List ℕ → ℤ → List ℕ
 float_text ds e =
     elim (int_le (pos (length ds) +ℤ e) (negsuc 5) || int_lt (pos 20) e) [
@@ -43,7 +43,7 @@ float_text ds e =
       | false ↦ point_text ds (pos (length ds) +ℤ e)
     ]
 
--- the digits ds and the exponent e, with float shape or without
+-- the digits ds and the exponent e, with or without the fraction point
 abbrev pub shape_text : Bool → List ℕ → ℤ → List ℕ
 shape_text point ds e =
     elim point [

@@ -2,8 +2,8 @@ pub mod Pushed
 pub mod RowText
 pub mod Reading
 pub mod PrefixDigits
-pub mod Scanned
-pub mod Prefix
+pub mod CanonicalSpelling
+pub mod Significand
 pub mod ShortDigits
 pub mod StoredNumber
 pub mod Stripped

@@ -1,4 +1,4 @@
-//! The order of two numbers by their digits, by exact value.
+//! Compares two numbers by value, digit by digit.
 ghost use Rattle.std.specs.Prelude.{◌≡◌, ◌≢◌, ◌+◌, ◌<◌, ◌≤◌, ◌^◌, pos, slice_index};
 ghost use Rattle.std.specs.Cmp.Lexicographic.{slice_cmp};
 ghost use Rattle.std.specs.Ordering.{int_cmp, nat_cmp};
@@ -16,29 +16,35 @@ use crate::repr::stored::Stored;
 use crate::repr::stripped::StrippedNumber;
 use std::cmp::Ordering;
 
-/// A number that tells its stripped digits one by one. `1.50` has the digits 1 and 5, and the first stands one place before the
-/// point.
+/// A number whose canonical digits are read one by one.
 ///
-/// An `INumber` that is stored as a word writes its digits out anew for each call but `sign`, 20 at most, and one that is stored
-/// as a list answers at once. No call takes memory.
+/// `1.50` has the digits 1 and 5. No call allocates.
+///
+/// # Cost
+///
+/// An `INumber` that is stored in one word computes its digits, at most 20, anew for each call except `sign`. A boxed one takes constant
+/// time for each call.
 pub trait DigitRow {
     /// The number.
     ghost num: { Self → Num };
 
-    /// `Less` below zero, `Equal` at zero and `Greater` above.
+    /// Returns `Less` for a negative number, `Equal` for zero and `Greater` for a positive number.
     fn sign(&self) -> Ordering
         ensures { result ≡ int_cmp (num self.now).decimal.mantissa (pos 0) };
 
-    /// The count of stripped digits; 0 for zero.
+    /// Returns the number of canonical digits; 0 for zero.
     fn count(&self) -> usize
         ensures { result ≡ digit_count (num self.now).decimal };
 
-    /// How many places the first digit stands before the point, which is the count of stripped digits plus the stripped
-    /// exponent; 0 for zero. It is 1 for `1.50`, 0 for `0.5` and -1 for `0.05`.
+    /// Returns the number of canonical digits plus the canonical exponent; 0 for zero.
+    ///
+    /// It is the position of the decimal point after the start of the digits: 1 for `1.50`, 0 for `0.5` and -1 for `0.05`.
     fn lead(&self) -> i128
         ensures { result ≡ leading_place (num self.now).decimal };
 
-    /// One stripped digit, from 0 to 9; `at` is 0 for the most significant, and must be below `count`. It is one look, which must fit.
+    /// Returns the canonical digit at `at`, from 0 to 9; the one at 0 is the most significant.
+    ///
+    /// Call it only if `at` is below `count`. It adds one inspection to `looks`, whose count must stay below 2^128.
     fn digit(&self, at: usize, looks: &mut Looks) -> u8
         requires within { at < digit_count (num self.now).decimal }
         requires fits { looks.old + 1 < 2 ^ 128 }
@@ -46,7 +52,7 @@ pub trait DigitRow {
         ensures counts { looks.new ≡ looks.old + 1 };
 }
 
-/// The order of digits that begin at one place.
+/// Compares the digits of two numbers whose leading digits have the same place.
 fn compare_digits<D: DigitRow>(a: &D, b: &D, looks: &mut Looks) -> Ordering
     requires fits { looks.old + most_looks (D.num a.now).decimal (D.num b.now).decimal < 2 ^ 128 }
     ensures order { result ≡ slice_cmp nat_cmp
@@ -67,7 +73,7 @@ fn compare_digits<D: DigitRow>(a: &D, b: &D, looks: &mut Looks) -> Ordering
     count.cmp(&other_count)
 }
 
-/// The order of the sizes of two numbers of one sign, neither of which is zero.
+/// Compares the absolute values of two numbers of one sign, neither of which is zero.
 fn compare_magnitudes<D: DigitRow>(a: &D, b: &D, looks: &mut Looks) -> Ordering
     requires some { (D.num a.now).decimal.mantissa ≢ pos 0 }
     requires some_other { (D.num b.now).decimal.mantissa ≢ pos 0 }
@@ -88,10 +94,15 @@ fn compare_magnitudes<D: DigitRow>(a: &D, b: &D, looks: &mut Looks) -> Ordering
     }
 }
 
-/// The order by exact value; the point isn't looked at. It takes no memory, writes no exponent out, and reads digits
-/// only where the signs and the leading places are the same. Those are at most twice as many as the number with fewer has. The looks must
-/// stay below 2^128.
-/// `1e1000000000` and `2` differ by their leading places, so no digit of them is read.
+/// Compares two numbers by value. The fraction point is ignored.
+///
+/// The inspections must stay below 2^128.
+///
+/// # Cost
+///
+/// Reads digits only if the signs and the leading places are equal, and then at most two for each digit of the number with fewer.
+/// `1e1000000000` and `2` differ by their leading places, so none of their digits is read. It does not allocate, and writes no
+/// exponent out as zeros.
 pub fn compare<D: DigitRow>(a: &D, b: &D, looks: &mut Looks) -> Ordering
     requires fits { NeedsDigits (D.num a.now).decimal (D.num b.now).decimal →
         looks.old + most_looks (D.num a.now).decimal (D.num b.now).decimal < 2 ^ 128 }

@@ -1,4 +1,4 @@
-//! The stored form of a number, as callers see it.
+//! The representation of a number, as callers see it.
 ghost use Rattle.std.specs.Prelude.{◌≡◌, ◌↔◌};
 ghost use Rattle.ijson_number.specs.Alike.{IsAlike};
 ghost use Rattle.ijson_number.specs.Num.{Num};
@@ -8,21 +8,24 @@ ghost use Rattle.ijson_number.specs.Form.{form_of};
 use crate::number::INumber;
 use crate::repr::stored::Stored;
 
-/// The stored form of a number. `point` says whether the number was written with a point or an exponent.
+/// The representation of a number.
+///
+/// `point` is `true` if the number was written with a fraction point or an exponent.
 #[derive(Clone, Copy, PartialEq, Eq, Debug)]
 pub enum Form<'a> {
-    /// `mantissa` times ten to the `exponent`, which is from -7 to 7; the mantissa is at least -2^55 and below 2^55.
+    /// `mantissa * 10^exponent`; the exponent is from -7 to 7, the mantissa from -2^55 to 2^55 - 1.
     Packed {
         mantissa: i64,
         exponent: i8,
         point: bool,
     },
-    /// An integer without the point that is no packed mantissa.
+    /// An integer without the fraction point that does not fit a packed mantissa.
     I64(i64),
-    /// An integer without the point that is too large for an `i64`.
+    /// An integer without the fraction point that is too large for an `i64`.
     U64(u64),
-    /// Any other number: each digit from 0 to 9, the most significant first, with no zero at either end, times ten to
-    /// the `exponent`, which is from -2^30 to 2^30. `negative` tells the sign.
+    /// Any other number: `digits * 10^exponent`, negated if `negative`.
+    ///
+    /// Each digit is from 0 to 9, the most significant first, without leading and trailing zeros. The exponent is from -2^30 to 2^30.
     Digits {
         negative: bool,
         digits: &'a [u8],
@@ -34,7 +37,7 @@ pub enum Form<'a> {
 impl INumber {
     ghost use Rattle.ijson_number.specs.FormValue.{form_value};
 
-    /// What is stored, as `form` shows it.
+    /// The representation, as `form` returns it.
     fn form_of_stored(&self) -> Form<'_>
         ensures { form_value result ≡ form_of self.now.decimal }
     {
@@ -61,9 +64,10 @@ impl INumber {
         }
     }
 
-    /// The stored form. Numbers of one value and one shape have one form and one text, and no others have that text. It takes
-    /// no memory, and digits are lent. `1.50` is `Packed` with the mantissa 15 and the exponent -1, `9223372036854775807` is
-    /// `I64`, and `1e-9` is a list of one digit.
+    /// Returns the representation. Digits are borrowed.
+    ///
+    /// Numbers with the same value and fraction point have one form and one text, and no other number has that text. It does not allocate.
+    /// `1.50` is `Packed` with the mantissa 15 and the exponent -1, `9223372036854775807` is `I64`, and `1e-9` is a list of one digit.
     pub fn form(&self) -> Form<'_>
         ensures form { form_value result ≡ form_of self.now.decimal }
         ensures alike { (other : Num)

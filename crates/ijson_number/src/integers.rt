@@ -1,21 +1,24 @@
-//! Numbers from integers, and integers from numbers.
-ghost use Rattle.std.specs.Prelude.{◌^◌, ◌<◌, ℕ, ℤ, pos, nat_abs, IfSome, IfNone, FitsSigned};
+//! Converts integers to numbers, and numbers to integers.
+ghost use Rattle.std.specs.Int.Digits.{number_from_digits};
+ghost use Rattle.std.specs.List.{All};
+ghost use Rattle.std.specs.Prelude.{◌≡◌, ◌+◌, ◌*◌, ◌*ℤ◌, ◌^◌, ◌<◌, ◌≤◌, length, ℕ, ℤ, pos, nat_abs, IfSome, IfNone, FitsSigned};
 ghost use mir.Syntax.{w32, w64};
 ghost use Rattle.ijson_number.specs.Integers.{HasValue, IsInteger};
 
+use crate::encode::{encode_signed, encode_unsigned};
 use crate::number::INumber;
-use crate::repr::choice::{stored_signed, stored_unsigned};
 use crate::repr::digits::MAX_DIGITS;
+use crate::repr::stripped::StrippedNumber;
 
 impl INumber {
-    /// The integer 0. It takes no memory.
+    /// Returns the integer 0. It does not allocate.
     pub fn zero() -> INumber
         ensures { IsInteger result.decimal (pos 0) }
     {
         INumber::from(0i64)
     }
 
-    /// The integer 1. It takes no memory.
+    /// Returns the integer 1. It does not allocate.
     pub fn one() -> INumber
         ensures { IsInteger result.decimal (pos 1) }
     {
@@ -32,29 +35,29 @@ impl Default for INumber {
     }
 }
 
-/// The integer, without the point. It takes no memory.
+/// The integer, without the fraction point. It does not allocate.
 impl From<i64> for INumber {
     ghost from_gives = { λ z n. IsInteger n.decimal z };
 
     fn from(value: i64) -> INumber {
         INumber {
-            stored: stored_signed(value),
+            stored: encode_signed(value),
         }
     }
 }
 
-/// The integer, without the point. It takes no memory.
+/// The integer, without the fraction point. It does not allocate.
 impl From<u64> for INumber {
     ghost from_gives = { λ value n. IsInteger n.decimal (pos value) };
 
     fn from(value: u64) -> INumber {
         INumber {
-            stored: stored_unsigned(value),
+            stored: encode_unsigned(value),
         }
     }
 }
 
-/// The integer, without the point. It takes no memory.
+/// The integer, without the fraction point. It does not allocate.
 impl From<i8> for INumber {
     ghost from_gives = { λ value n. IsInteger n.decimal value };
 
@@ -63,7 +66,7 @@ impl From<i8> for INumber {
     }
 }
 
-/// The integer, without the point. It takes no memory.
+/// The integer, without the fraction point. It does not allocate.
 impl From<i16> for INumber {
     ghost from_gives = { λ value n. IsInteger n.decimal value };
 
@@ -72,7 +75,7 @@ impl From<i16> for INumber {
     }
 }
 
-/// The integer, without the point. It takes no memory.
+/// The integer, without the fraction point. It does not allocate.
 impl From<i32> for INumber {
     ghost from_gives = { λ value n. IsInteger n.decimal value };
 
@@ -81,7 +84,7 @@ impl From<i32> for INumber {
     }
 }
 
-/// The integer, without the point. It takes no memory.
+/// The integer, without the fraction point. It does not allocate.
 impl From<isize> for INumber {
     ghost from_gives = { λ value n. IsInteger n.decimal value };
 
@@ -90,7 +93,7 @@ impl From<isize> for INumber {
     }
 }
 
-/// The integer, without the point. It takes no memory.
+/// The integer, without the fraction point. It does not allocate.
 impl From<u8> for INumber {
     ghost from_gives = { λ value n. IsInteger n.decimal (pos value) };
 
@@ -99,7 +102,7 @@ impl From<u8> for INumber {
     }
 }
 
-/// The integer, without the point. It takes no memory.
+/// The integer, without the fraction point. It does not allocate.
 impl From<u16> for INumber {
     ghost from_gives = { λ value n. IsInteger n.decimal (pos value) };
 
@@ -108,7 +111,7 @@ impl From<u16> for INumber {
     }
 }
 
-/// The integer, without the point. It takes no memory.
+/// The integer, without the fraction point. It does not allocate.
 impl From<u32> for INumber {
     ghost from_gives = { λ value n. IsInteger n.decimal (pos value) };
 
@@ -117,7 +120,7 @@ impl From<u32> for INumber {
     }
 }
 
-/// The integer, without the point. It takes no memory.
+/// The integer, without the fraction point. It does not allocate.
 impl From<usize> for INumber {
     ghost from_gives = { λ value n. IsInteger n.decimal (pos value) };
 
@@ -126,8 +129,65 @@ impl From<usize> for INumber {
     }
 }
 
+/// Returns the value of up to 20 digits.
+fn number_of_digits(digits: &[u8]) -> u128
+    requires below_ten { All (λ d. d < 10) digits.now }
+    requires fits { length digits.now ≤ 20 }
+    ensures { result ≡ number_from_digits 10 digits.now }
+{
+    let mut number: u128 = 0;
+    for digit in digits {
+        number = number * 10 + u128::from(*digit);
+    }
+    number
+}
+
+/// Returns the value of the digits times `10^zeros`.
+fn scaled(digits: &[u8], zeros: usize) -> u128
+    requires below_ten { All (λ d. d < 10) digits.now }
+    requires fits { length digits.now + zeros ≤ 20 }
+    ensures value { result ≡ number_from_digits 10 digits.now * 10 ^ zeros }
+    ensures small { result < 10 ^ 20 }
+{
+    number_of_digits(digits) * 10u128.pow(zeros as u32)
+}
+
+impl StrippedNumber<'_> {
+    ghost use Rattle.ijson_number.specs.private.StrippedNumber.{decimal_of};
+
+    /// Returns the mantissa times `10^zeros`, if its absolute value is below 10^20.
+    fn mantissa_with(&self, zeros: usize) -> Option<i128>
+        ensures some { IfSome result (λ m. m ≡ (decimal_of self.now).mantissa *ℤ pos (10 ^ zeros)) }
+        ensures small { IfSome result (λ m. nat_abs m < 10 ^ 20) }
+        ensures none { IfNone result
+            (10 ^ 20 ≤ nat_abs ((decimal_of self.now).mantissa *ℤ pos (10 ^ zeros))) }
+    {
+        if self.digits.is_empty() {
+            return Some(0);
+        }
+        if zeros as u128 + self.digits.len() as u128 > MAX_DIGITS as u128 {
+            return None;
+        }
+        let magnitude = scaled(self.digits, zeros) as i128;
+        Some(if self.negative { -magnitude } else { magnitude })
+    }
+
+    /// Returns the value, if it is whole and its absolute value is below 10^20.
+    fn whole(&self) -> Option<i128>
+        ensures some { IfSome result (λ z. HasValue (decimal_of self.now) z) }
+        ensures small { IfSome result (λ z. nat_abs z < 10 ^ 20) }
+        ensures none { IfNone result
+            ((z : ℤ) → nat_abs z < 10 ^ 20 → HasValue (decimal_of self.now) z → ⊥) }
+    {
+        if self.exponent < 0 {
+            return None;
+        }
+        self.mantissa_with(self.exponent as usize)
+    }
+}
+
 impl INumber {
-    /// The value where it is whole and nearer to zero than 10^20.
+    /// Returns the value, if it is whole and its absolute value is below 10^20.
     fn whole(&self) -> Option<i128>
         ensures some { IfSome result (λ z. HasValue self.now.decimal z) }
         ensures small { IfSome result (λ z. nat_abs z < 10 ^ 20) }
@@ -137,8 +197,9 @@ impl INumber {
         self.stripped(&mut [0; MAX_DIGITS]).whole()
     }
 
-    /// The value where it is whole and an `i64`, whatever the shape. None where it has a fraction or is past the range. `2.0`
-    /// and `20e-1` are 2. It takes no memory, and the same time for a number of any length.
+    /// Returns the value if it is a whole number in the range of `i64`, and `None` otherwise.
+    ///
+    /// The fraction point is ignored: `2.0` and `20e-1` are 2. Takes constant time and does not allocate.
     pub fn to_i64(&self) -> Option<i64>
         ensures some { IfSome result (λ z. HasValue self.now.decimal z) }
         ensures none { IfNone result
@@ -147,8 +208,9 @@ impl INumber {
         i64::try_from(self.whole()?).ok()
     }
 
-    /// The value where it is whole and an `i32`, whatever the shape. None where it has a fraction or is past the range, as
-    /// `to_i64`.
+    /// Returns the value if it is a whole number in the range of `i32`, and `None` otherwise.
+    ///
+    /// Like `to_i64`.
     pub fn to_i32(&self) -> Option<i32>
         ensures some { IfSome result (λ z. HasValue self.now.decimal z) }
         ensures none { IfNone result
@@ -157,8 +219,9 @@ impl INumber {
         i32::try_from(self.whole()?).ok()
     }
 
-    /// The value where it is whole and an `isize`, whatever the shape. None where it has a fraction or is past the range, as
-    /// `to_i64`.
+    /// Returns the value if it is a whole number in the range of `isize`, and `None` otherwise.
+    ///
+    /// Like `to_i64`.
     pub fn to_isize(&self) -> Option<isize>
         ensures some { IfSome result (λ z. HasValue self.now.decimal z) }
         ensures none { IfNone result
@@ -167,8 +230,9 @@ impl INumber {
         isize::try_from(self.whole()?).ok()
     }
 
-    /// The value where it is whole and a `u64`, whatever the shape. None where it has a fraction or is past the range, as
-    /// `to_i64`.
+    /// Returns the value if it is a whole number in the range of `u64`, and `None` otherwise.
+    ///
+    /// Like `to_i64`.
     pub fn to_u64(&self) -> Option<u64>
         ensures some { IfSome result (λ n. HasValue self.now.decimal (pos n)) }
         ensures none { IfNone result
@@ -177,8 +241,9 @@ impl INumber {
         u64::try_from(self.whole()?).ok()
     }
 
-    /// The value where it is whole and a `u32`, whatever the shape. None where it has a fraction or is past the range, as
-    /// `to_i64`.
+    /// Returns the value if it is a whole number in the range of `u32`, and `None` otherwise.
+    ///
+    /// Like `to_i64`.
     pub fn to_u32(&self) -> Option<u32>
         ensures some { IfSome result (λ n. HasValue self.now.decimal (pos n)) }
         ensures none { IfNone result
@@ -187,8 +252,9 @@ impl INumber {
         u32::try_from(self.whole()?).ok()
     }
 
-    /// The value where it is whole and a `usize`, whatever the shape. None where it has a fraction or is past the range, as
-    /// `to_i64`.
+    /// Returns the value if it is a whole number in the range of `usize`, and `None` otherwise.
+    ///
+    /// Like `to_i64`.
     pub fn to_usize(&self) -> Option<usize>
         ensures some { IfSome result (λ n. HasValue self.now.decimal (pos n)) }
         ensures none { IfNone result

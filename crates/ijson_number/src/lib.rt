@@ -4,16 +4,22 @@
 #![tactic(auto)]
 
 mod comparison;
+mod encode;
+mod fast_reader;
 mod form;
+mod general_reader;
 mod integers;
 mod looks;
 mod number;
 mod parse;
 mod repr;
+mod significand;
+#[cfg(test)]
+mod tests;
 mod write;
 
 pub use comparison::{DigitRow, compare};
 pub use form::Form;
+pub use general_reader::first_fault;
 pub use looks::Looks;
 pub use number::{INumber, ParseNumberError};
-pub use parse::fault::first_fault;

@@ -1,9 +1,9 @@
-//! A count of looks.
+//! A count of inspections.
 ghost use Rattle.std.specs.Prelude.{◌≡◌, ◌+◌, ◌<◌, ◌^◌};
 
 use std::marker::Model;
 
-/// How often something was looked at: slots of a table, or digits of a number. The count is below 2^128.
+/// The number of inspections: of slots of a table, or of digits of a number. It is below 2^128.
 #[derive(Debug, Drop)]
 pub struct Looks {
     seen: u128,
@@ -18,21 +18,21 @@ impl Model for Looks {
 }
 
 impl Looks {
-    /// No look yet.
+    /// Creates a count of 0.
     pub fn new() -> Looks
         ensures { result ≡ 0 }
     {
         Looks { seen: 0 }
     }
 
-    /// How many looks there were.
+    /// Returns the number of inspections.
     pub fn count(&self) -> u128
         ensures { result ≡ self.now }
     {
         self.seen
     }
 
-    /// Counts one more look. The count with it must be below 2^128.
+    /// Adds one inspection. The sum must be below 2^128.
     pub fn add_one(&mut self)
         requires { self.old + 1 < 2 ^ 128 }
         ensures { self.new ≡ self.old + 1 }
@@ -40,7 +40,7 @@ impl Looks {
         self.seen += 1;
     }
 
-    /// Counts so many more looks. The count with them must be below 2^128.
+    /// Adds `count` inspections. The sum must be below 2^128.
     pub fn add(&mut self, count: u128)
         requires { self.old + count < 2 ^ 128 }
         ensures { self.new ≡ self.old + count }

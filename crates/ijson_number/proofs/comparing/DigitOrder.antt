@@ -1,4 +1,4 @@
--- Rows of digits that are compared.
+-- Comparing lists of digits.
 use Rattle.std.proofs.Common.{◌≡◌, ◌≢◌, ℕ, zero, suc, ◌+◌, ◌<◌, min, Bool, List, [], ◌∷◌, length}
 use Rattle.std.proofs.Common.{get_or, drop, refl, ap, sym, subst, ◌∙◌, arith}
 use Rattle.std.specs.Prelude.{ℤ, pos, nat_abs}
@@ -20,7 +20,7 @@ use Rattle.ijson_number.proofs.BooleanTests.{abs_zero}
 use Rattle.ijson_number.proofs.storing.WholeValues.{whole_stripped}
 use Rattle.ijson_number.proofs.comparing.MagnitudeOrder.{nat_below, nat_above}
 
--- digits are compared from a place on
+-- comparing digits from an index on
 from_place : (ds es : List ℕ) (i : ℕ) → i < length ds → i < length es
     → slice_cmp nat_cmp (drop i ds) (drop i es) ≡ ordering_then (nat_cmp (get_or ds i 0) (get_or es i 0))
     (slice_cmp nat_cmp (drop (i + 1) ds) (drop (i + 1) es))
@@ -31,13 +31,13 @@ from_place ds es i h g =
 then_same : (x y : ℕ) (o : Ordering) → x ≡ y → ordering_then (nat_cmp x y) o ≡ o
 then_same x y o e = rw (e, tied_itself nat_cmp_total y) refl
 
--- digits that are the same decide nothing
+-- equal digits decide nothing
 pub same_digit : (ds es : List ℕ) (i x y : ℕ) → i < length ds → i < length es → x ≡ get_or ds i 0 → y ≡ get_or es i 0 → x ≡ y
     → slice_cmp nat_cmp (drop i ds) (drop i es) ≡ slice_cmp nat_cmp (drop (i + 1) ds) (drop (i + 1) es)
 same_digit ds es i x y h g p q e = from_place ds es i h g
     ∙ then_same (get_or ds i 0) (get_or es i 0) (slice_cmp nat_cmp (drop (i + 1) ds) (drop (i + 1) es)) (cc)
 
--- where one row ends, the lengths decide
+-- at the end of the shorter list, the lengths decide
 pub row_ends : (ds es : List ℕ) (i : ℕ) → i ≡ min (length ds) (length es)
     → slice_cmp nat_cmp (drop i ds) (drop i es) ≡ nat_cmp (length ds) (length es)
 row_ends [] [] zero h = sym (tied_itself nat_cmp_total 0)
@@ -56,7 +56,7 @@ module _ (n : Decimal) (plain : IsPlain n) where
   digits_is : stripped_digits n ≡ digits_of 10 (nat_abs n.mantissa)
   digits_is = digits_are (nat_abs n.mantissa) (nat_abs n.mantissa)
 
-  -- the stripped digits of a number that isn't zero
+  -- the canonical digits of a number that is not zero
   pub some_digits : n.mantissa ≢ pos 0 → 0 < length (stripped_digits n)
   some_digits some = not_empty (stripped_digits n) refl
     where
@@ -69,7 +69,7 @@ module _ (n : Decimal) (plain : IsPlain n) where
   pub are_stripped : n.mantissa ≢ pos 0 → IsStripped (stripped_digits n)
   are_stripped some = subst IsStripped (sym digits_is) (whole_stripped (nat_abs n.mantissa) (plain.stripped some))
 
--- the digits of a row are the stripped digits of its number
+-- stored digits are the canonical digits of their number
 pub row_digits : (negative : Bool) (ds : List ℕ) (e : ℤ) (point : Bool) (n : Decimal) → stored_number negative ds e point ≡ n
     → IsStored negative ds → ds ≡ stripped_digits n
 row_digits negative ds e point n view k = sym (ap stripped_digits (sym view) ∙ stored_digits_are negative ds e point k.stripped)

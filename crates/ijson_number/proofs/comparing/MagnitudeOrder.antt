@@ -1,4 +1,4 @@
--- The order of numbers above zero, by places and digits.
+-- The order of positive numbers, by leading places and digits.
 use Rattle.std.proofs.Common.{◌≡◌, ◌≢◌, ◌⊎◌, ℕ, zero, suc, ◌+◌, ◌-◌, ◌*◌, ◌^◌, ◌<◌, ◌≤◌, List, [], ◌∷◌}
 use Rattle.std.proofs.Common.{length, get_or, refl, ap, sym, ◌∙◌, inl, inr, arith, pow-add}
 use Rattle.std.specs.Prelude.{ℤ, pos, nat_abs, int_lt, ◌+ℤ◌, ◌-ℤ◌, ◌<ℤ◌, ◌≤ℤ◌, Bool, false, true}
@@ -47,7 +47,7 @@ rank x y = elim (cases_lt x y) [ inl l ↦ below l | inr g ↦ (elim (cases_eq x
 below_times : (a b c : ℕ) → a < b → 0 < c → a * c < b * c
 below_times a b c h g = let m : suc a * c ≤ b * c = mul-le-mul_right c h in grind (arith, m)
 
--- what stands in front of both doesn't matter
+-- adding a constant to both keeps the order
 shifted_cmp : (p x y : ℕ) → int_cmp (pos (p + x)) (pos (p + y)) ≡ int_cmp (pos x) (pos y)
 shifted_cmp p x y =
     elim (rank x y) [
@@ -62,21 +62,21 @@ spread n d p v = grind arith
 from_first : (d : ℕ) (ds : List ℕ) → number_from_digits 10 (d ∷ ds) ≡ number_from_digits_after 10 d ds
 from_first d ds = let z : 0 * 10 + d ≡ d = omega arith in ap (λ x. number_from_digits_after 10 x ds) z
 
--- digits behind a number
+-- appending digits to a number
 pub number_after_is : (n : ℕ) (ds : List ℕ) → number_from_digits_after 10 n ds ≡ n * 10 ^ length ds + number_from_digits 10 ds
 number_after_is n [] = omega arith
 number_after_is n (d ∷ ds) =
     let t : 10 ^ suc (length ds) ≡ 10 * 10 ^ length ds = pow-succ' 10 (length ds) in
     number_after_is (n * 10 + d) ds ∙ rw (from_first d ds, number_after_is d ds, t) (spread n d (10 ^ length ds) (number_from_digits 10 ds))
 
--- the first digit counts ten to the number of the others
+-- the first digit has the weight ten to the number of the others
 pub number_first : (d : ℕ) (ds : List ℕ) → number_from_digits 10 (d ∷ ds) ≡ d * 10 ^ length ds + number_from_digits 10 ds
 number_first d ds = from_first d ds ∙ number_after_is d ds
 
 abbrev Below : List ℕ → Type 0
 Below ds = AllByRecursion (λ d. d < 10) ds
 
--- there is a last digit and it isn't 0, or there is none
+-- the last digit is not 0, if there is one
 abbrev LastSome : List ℕ → Type 0
 LastSome [] = Unit {0}
 LastSome (d ∷ []) = d ≢ 0
@@ -118,7 +118,7 @@ first_apart d x p a b h l = below_cmp (d * p + a) (x * p + b) (first_below d x p
 first_apart_back : (d x p a b : ℕ) → x < d → b < p → int_cmp (pos (d * p + a)) (pos (x * p + b)) ≡ Greater
 first_apart_back d x p a b h l = above_cmp (d * p + a) (x * p + b) (first_below x d p b a h l)
 
--- digits whose points stand at one place compare digit by digit
+-- digits with the same leading place compare digit by digit
 aligned : (ds es : List ℕ) (j k : ℕ) → Below ds → Below es → LastSome ds → LastSome es → length ds + j ≡ length es + k
     → int_cmp (pos (number_from_digits 10 ds * 10 ^ j)) (pos (number_from_digits 10 es * 10 ^ k)) ≡ slice_cmp nat_cmp ds es
 aligned [] [] j k p q l m e = let a : 0 * 10 ^ j ≡ 0 = omega arith in let b : 0 * 10 ^ k ≡ 0 = omega arith in rw (a, b) refl
@@ -148,7 +148,7 @@ pub above_none : (d : ℕ) → d ≢ 0 → 1 ≤ d
 above_none zero n = absurd (n refl)
 above_none (suc d) n = omega arith
 
--- digits that begin with no 0 write at least ten to the number of the others
+-- digits without a leading 0 have at least the value ten to the number of the others
 pub number_least : (ds : List ℕ) → 0 < length ds → get_or ds 0 0 ≢ 0 → 10 ^ (length ds - 1) ≤ number_from_digits 10 ds
 number_least [] h n = absurd (omega arith)
 number_least (d ∷ ds) h n =
@@ -156,7 +156,7 @@ number_least (d ∷ ds) h n =
     let m : 1 * 10 ^ length ds ≤ d * 10 ^ length ds = mul-le-mul_right (10 ^ length ds) (above_none d n) in
     rw (e, number_first d ds) (omega arith)
 
--- digits whose point stands further left write less
+-- digits with a smaller leading place have a smaller value
 lower_place : (ds es : List ℕ) (j k : ℕ) → Below ds → 0 < length es → get_or es 0 0 ≢ 0 → length ds + j < length es + k
     → number_from_digits 10 ds * 10 ^ j < number_from_digits 10 es * 10 ^ k
 lower_place ds es j k p s n h =
@@ -213,14 +213,14 @@ module _ (ds es : List ℕ) (e f : ℤ) (p : IsStripped ds) (q : IsStripped es) 
   right_gap : f ≡ least +ℤ pos right_tens
   right_gap = gap f least (omega (arith, ints, clamps))
 
-  -- where the points stand at one place, the digits decide
+  -- if the leading places are equal, the digits decide
   pub same_place_cmp : pos (length ds) +ℤ e ≡ pos (length es) +ℤ f
       → number_cmp (stored_number false ds e true) (stored_number false es f true) ≡ slice_cmp nat_cmp ds es
   same_place_cmp h =
       aligned ds es left_tens right_tens below_left below_right (last_from ds p.last) (last_from es q.last)
       (same_sums (length ds) (length es) left_tens right_tens e f least left_gap right_gap h)
 
-  -- and else the places do
+  -- otherwise the leading places do
   pub lower_place_cmp : (pos (length ds) +ℤ e) <ℤ (pos (length es) +ℤ f)
       → number_cmp (stored_number false ds e true) (stored_number false es f true) ≡ Less
   lower_place_cmp h = below_cmp _ _ (lower_place ds es left_tens right_tens below_left t (q.first t)

@@ -29,12 +29,12 @@ below_zero_cmp : (v : ℕ) → 0 < v → int_cmp (neg_ℤ (pos v)) (pos 0) ≡ L
 below_zero_cmp zero h = absurd (omega arith)
 below_zero_cmp (suc v) h = refl
 
--- some digits are below zero with a minus
+-- digits with a minus are negative
 pub sign_below : (negative : Bool) (ds : List ℕ) → negative ≡ true → IsStored negative ds → 0 < length ds
     → int_cmp (signed negative (number_from_digits 10 ds)) (pos 0) ≡ Less
 sign_below negative ds is k h = let n = stripped_mod ds k.stripped h in rw is (below_zero_cmp (number_from_digits 10 ds) (omega (arith, n)))
 
--- and above zero without
+-- and positive without
 pub sign_above : (negative : Bool) (ds : List ℕ) → negative ≡ false → IsStored negative ds → 0 < length ds
     → int_cmp (signed negative (number_from_digits 10 ds)) (pos 0) ≡ Greater
 sign_above negative ds is k h = let n = stripped_mod ds k.stripped h in rw is (above_cmp (number_from_digits 10 ds) 0 (omega (arith, n)))
@@ -45,7 +45,7 @@ neg_cmp zero (suc y) = sym (above_cmp (suc y) 0 (omega arith))
 neg_cmp (suc x) zero = sym (below_cmp 0 (suc x) (omega arith))
 neg_cmp (suc x) (suc y) = grind (arith, nat_tests)
 
--- below zero the order is turned round
+-- for negative numbers the order is reversed
 pub flipped : (ds es : List ℕ) (e f : ℤ)
     → number_cmp (stored_number true ds e true) (stored_number true es f true) ≡ number_cmp (stored_number false es f true)
     (stored_number false ds e true)
@@ -78,7 +78,7 @@ apart (negsuc x) (pos zero) n = refl
 apart (negsuc x) (pos (suc y)) n = rw above_sign refl
 apart (negsuc x) (negsuc y) n = absurd (n refl)
 
--- where the signs differ, they decide
+-- if the signs differ, they decide
 pub signs_cmp : (a b : Decimal) (s t : Ordering) → s ≡ int_cmp a.mantissa (pos 0) → t ≡ int_cmp b.mantissa (pos 0) → (s ≡ t → ⊥)
     → nat_cmp (ordering_index s) (ordering_index t) ≡ number_cmp a b
 signs_cmp a b s t p q n =
@@ -124,19 +124,19 @@ module _ (a b : Num) where
       (stored_number t (stripped_digits b.decimal) b.decimal.exponent b.decimal.point)) (sym h) (sym g)
       ∙ ap₂ number_cmp (digits_case a.decimal a.is_num.plain) (digits_case b.decimal b.is_num.plain)
 
-  -- below zero the other way round than their sizes,
+  -- if negative, in the reverse order of their absolute values,
   pub below_zero_is : int_cmp a.decimal.mantissa (pos 0) ≡ Less → int_cmp b.decimal.mantissa (pos 0) ≡ Less
       → magnitude_cmp b.decimal a.decimal ≡ number_cmp a.decimal b.decimal
   below_zero_is h g =
       sym (flipped (stripped_digits a.decimal) (stripped_digits b.decimal) a.decimal.exponent b.decimal.exponent)
       ∙ same_sign true (below_is_minus a.decimal.mantissa h) (below_is_minus b.decimal.mantissa g)
 
-  -- and above zero as their sizes
+  -- and if positive, in their order
   pub above_zero_is : int_cmp a.decimal.mantissa (pos 0) ≡ Greater → int_cmp b.decimal.mantissa (pos 0) ≡ Greater
       → magnitude_cmp a.decimal b.decimal ≡ number_cmp a.decimal b.decimal
   above_zero_is h g = same_sign false (above_is_no_minus a.decimal.mantissa h) (above_is_no_minus b.decimal.mantissa g)
 
--- two signs are told apart by their places among the three
+-- two signs are equal if their indices are
 pub tests_same : (s t : Ordering) (r : Bool) → r ≡ not (ordering_index s == ordering_index t) → r ≡ false → s ≡ t
 tests_same Less Less r e h = refl
 tests_same Less Equal r e h = absurd (cc)
@@ -156,7 +156,7 @@ not_itself Greater = refl
 pub tests_apart : (s t : Ordering) (r : Bool) → r ≡ not (ordering_index s == ordering_index t) → r ≡ true → s ≡ t → ⊥
 tests_apart s t r e h g = let n : not (ordering_index s == ordering_index t) ≡ false = rw g (not_itself t) in cc
 
--- taking tens out of a mantissa leaves its sign
+-- stripping trailing zeros of a mantissa keeps its sign
 pub stripped_sign : (m e : ℤ) (point : Bool) → nat_abs m < 2 ^ 64 → int_cmp (stripped_number m e point).mantissa (pos 0) ≡ int_cmp m (pos 0)
 stripped_sign (pos zero) e point word = ap (λ (n : Decimal). int_cmp n.mantissa (pos 0)) (no_digits false e point)
 stripped_sign (pos (suc n)) e point word =

@@ -1,4 +1,4 @@
--- What a number's parts denote.
+-- The number that parts denote.
 use Rattle.std.proofs.Common.{◌≡◌, ◌≢◌, ℕ, ◌+◌, ◌-◌, ◌*◌, ◌%◌, ◌^◌, ◌<◌, Bool, true, false, List, [], ◌∷◌, ◌++◌}
 use Rattle.std.proofs.Common.{length, get_or, take, replicate, refl, ap, sym, ◌∙◌, inl, inr, arith}
 use Rattle.std.specs.Prelude.{ℤ, pos, ◌-ℤ◌, ◌≤ℤ◌, ◌||◌}
@@ -96,7 +96,7 @@ no_point [] [] f z a b g h e = (g.0, h.0)
 no_point [] (x ∷ et) f z a b g h e = let r = or_parts a b e in absurd (cc (r.1, h.2))
 no_point (x ∷ ft) et f z a b g h e = let r = or_parts a b e in absurd (cc (r.0, g.3))
 
--- without point and exponent the exponent is the count of zeros
+-- without point and exponent the exponent is the number of zeros
 pub pointless : (t : List ℕ) (p : Parts) (k : ℕ) → IsSpelled t p → p.point ≡ false → pos 0 ≤ℤ exponent_of p.exponent (length p.fraction) k
 pointless t p k s e =
     let r = no_point s.fraction_text s.exponent_text p.fraction p.exponent s.has_point s.has_exponent s.fraction s.exponent

@@ -1,4 +1,4 @@
--- A run of digits at the front of a text.
+-- The leading digits of a text.
 use Rattle.std.proofs.Common.{◌≡◌, ◌↔◌, ℕ, suc, ◌+◌, ◌-◌, ◌<◌, ◌≤◌, List, [], ◌∷◌, ◌++◌, length, get_or, drop, replicate, refl, ◌∙◌, arith}
 use Rattle.std.proofs.lemmas.List.{drop_more, append-nil}
 use Rattle.ijson_number.specs.Grammar.{AllDigits, IsDigits}
@@ -23,7 +23,7 @@ pub AllDigits_right : (a b : List ℕ) → AllDigits (a ++ b) → AllDigits b
 AllDigits_right [] b p = p
 AllDigits_right (x ∷ a) b p = AllDigits_right a b p.1
 
--- what goes on with no digit and is all digits is empty
+-- a text that begins with no digit and consists of digits is empty
 pub no_more : (b : List ℕ) → BeginsWithNoDigit b → AllDigits b → b ≡ []
 no_more [] n p = refl
 no_more (x ∷ b) n p = absurd (n p.0)
@@ -40,7 +40,7 @@ pub IsDigits_nonempty : (a : List ℕ) → IsDigits a → 0 < length a
 IsDigits_nonempty [] h = absurd h
 IsDigits_nonempty (x ∷ a) h = omega arith
 
--- two ways to split a text after its first run of digits are one
+-- two divisions of a text after its leading digits are equal
 pub one_run : (a b x y : List ℕ) → AllDigits a → AllDigits b → BeginsWithNoDigit x → BeginsWithNoDigit y → a ++ x ≡ b ++ y
     → (a ≡ b) × (x ≡ y)
 one_run [] [] x y p q n m e = (refl, e)
@@ -54,7 +54,7 @@ one_run (c ∷ a) (d ∷ b) x y p q n m e =
     let s : a ≡ b = r.0 in
     (cc, r.1)
 
--- a text that begins with a run of digits is digits exactly where nothing follows them
+-- a text that begins with a run of digits consists of digits if and only if nothing follows them
 pub run_digits : (a b : List ℕ) → AllDigits a → BeginsWithNoDigit b → IsDigits (a ++ b) ↔ ((0 < length a) × (length b ≡ 0))
 run_digits a [] p n = (
   λ h. let l : 0 < length (a ++ []) = IsDigits_nonempty (a ++ []) h in

@@ -1,4 +1,4 @@
--- The number that digits write, and zeros at either end.
+-- The value of digits, and leading and trailing zeros.
 use Rattle.std.proofs.Common.{◌≡◌, ℕ, zero, suc, ◌+◌, ◌-◌, ◌*◌, ◌^◌, ◌<◌, min, List, [], ◌∷◌, ◌++◌, map, length}
 use Rattle.std.proofs.Common.{get_or, take, replicate, refl, ap, sym, ◌∙◌, arith, append_assoc}
 use Rattle.std.proofs.lemmas.List.{append-nil, take_more, nil_from_length, replicate-append-replicate, map-append}
@@ -24,7 +24,7 @@ value_push bs b = rw (map-append {A = ℕ} {B = ℕ} (λ b. b - 48) bs (b ∷ []
 pub value_more : (bs : List ℕ) (i : ℕ) → i < length bs → value (take (i + 1) bs) ≡ value (take i bs) * 10 + (get_or bs i 0 - 48)
 value_more bs i h = ap value (take_more bs i 0 h) ∙ value_push (take i bs) (get_or bs i 0)
 
--- a step of the number up to a limit
+-- a step of the value up to a limit
 pub capped_more : (limit n v d : ℕ) → n ≡ min v limit → min (n * 10 + d) limit ≡ min (v * 10 + d) limit
 capped_more limit n v d e = omega arith
 
@@ -33,7 +33,7 @@ pub capped_step : (bs : List ℕ) (i n : ℕ) → i < length bs → n ≡ min (v
 capped_step bs i n h e = capped_more (2 ^ 80) n (value (take i bs)) (get_or bs i 0 - 48) e
     ∙ ap (λ v. min v (2 ^ 80)) (sym (value_more bs i h))
 
--- zeros in front don't count
+-- leading zeros do not count
 pub value_zeros_front : (k : ℕ) (bs : List ℕ) → value (replicate k 48 ++ bs) ≡ value bs
 value_zeros_front zero bs = refl
 value_zeros_front (suc k) bs = value_zeros_front k bs
@@ -41,7 +41,7 @@ value_zeros_front (suc k) bs = value_zeros_front k bs
 tens : (v k : ℕ) → (v * 10 + (48 - 48)) * 10 ^ k ≡ v * 10 ^ suc k
 tens v k = rw pow-succ' (omega arith)
 
--- each zero at the end is a ten
+-- each trailing zero multiplies by ten
 pub value_zeros_back : (bs : List ℕ) (k : ℕ) → value (bs ++ replicate k 48) ≡ value bs * 10 ^ k
 value_zeros_back bs zero = ap value (append-nil bs) ∙ omega arith
 value_zeros_back bs (suc k) =

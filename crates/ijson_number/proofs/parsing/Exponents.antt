@@ -1,4 +1,4 @@
--- The exponent reckoned with a capped written exponent.
+-- The exponent computed from a capped written exponent.
 use Rattle.std.proofs.Common.{◌≡◌, ℕ, ◌^◌, ◌<◌, min, Bool, true, false, arith, ◌⊎◌, inl, inr}
 use Rattle.std.specs.Prelude.{ℤ, pos, neg_ℤ, ◌+ℤ◌, ◌-ℤ◌, nat_eq, nat_abs, int_le, IsTrue}
 use Rattle.std.proofs.lemmas.Int.{ints}

@@ -1,4 +1,4 @@
--- Lanes of a vector that are moved to an end.
+-- Lanes of a vector that are moved to either end.
 use Rattle.std.proofs.Common.{◌≡◌, ℕ, zero, suc, ◌-◌, ◌<◌, ◌≤◌, Bool, true, ◌&&◌, ◌||◌, T, ltb, map, get_or, replicate}
 use Rattle.std.proofs.Common.{List, [], ◌∷◌, ◌++◌, length, take, drop, refl, sym, subst, ◌∙◌, inl, inr, arith}
 use Rattle.std.specs.Prelude.{⊤}
@@ -14,7 +14,7 @@ use mir.Val.{zeroes}
 use Rattle.ijson_number.specs.declared.parse.lanes.TheConstants.{BACK}
 use Rattle.ijson_number.specs.declared.write.lanes.TheConstants.{FRONT}
 
--- a fact of each number below one
+-- a fact of each number below n
 abbrev Each : (ℕ → Type 0) → ℕ → Type 0
 Each P zero = ⊤
 Each P (suc n) = P n × Each P n
@@ -26,14 +26,14 @@ each P (suc n) k h l = elim (cases_lt k n) [ inl a ↦ each P n k h.1 a | inr a 
 abbrev listed : (ℕ → ℕ) → ℕ → List ℕ
 listed f n = map f (range_with_len 0 n)
 
--- a fact of each list of n numbers, from the same of n numbers written out
+-- a fact of all lists of n numbers, from that of n numbers written out
 pub spelled : (P : List ℕ → Type 0) (n : ℕ) → ((f : ℕ → ℕ) → P (listed f n)) → (xs : List ℕ) → length xs ≡ n → P xs
 spelled P n h xs long =
     let f = λ (k : ℕ). get_or xs k 0 in
     let many = length-map-range_with_len f 0 n in
     subst P (ext_get_or 0 _ xs (many ∙ sym long) (λ i l. get_or-map-range_with_len f 0 n i i 0 (omega arith) (omega arith))) (h f)
 
--- ---- lanes that are moved to an end
+-- ---- lanes that are moved to either end
 
 abbrev pub positions : (table : List ℕ) → ℕ → List ℕ
 positions table n = chunk 0 16 (take (32 - n) (drop n table))
@@ -49,20 +49,20 @@ each_position : (js : List ℕ) → T (are_positions js) → Each1 (λ j. T (is_
 each_position [] h = tt
 each_position (j ∷ js) h = (and_l (is_position j) (are_positions js) h, each_position js (and_r (is_position j) (are_positions js) h))
 
--- by the positions of a table from place n on, the lanes come to stand as they are told to
+-- the indices of a table from n on move the lanes as `to` specifies
 abbrev Moved : (table : List ℕ) (to : List ℕ → ℕ → List ℕ) → List ℕ → ℕ → Type 0
 Moved table to xs n = T (are_positions (positions table n)) × (length (positions table n) ≡ 16)
     × (swz_l w8 16 xs 0 (positions table n) ≡ to xs n)
 
--- the first n lanes at the end, with zeros before them
+-- the first n lanes at the end, after zeros
 abbrev to_end : List ℕ → ℕ → List ℕ
 to_end xs n = replicate (16 - n) 0 ++ take n xs
 
--- the lanes from n on at the front, with zeros behind them
+-- the lanes from n on at the start, before zeros
 abbrev to_front : List ℕ → ℕ → List ℕ
 to_front xs n = drop n xs ++ replicate n 0
 
--- so it is by the tables of both
+-- both tables do
 abbrev Both : List ℕ → ℕ → Type 0
 Both xs n = Moved BACK to_end xs n × Moved FRONT to_front xs n
 
@@ -130,4 +130,4 @@ pub moved_to_front : (start : ℕ) → start ≤ 16 → (xs : List ℕ) → leng
     → SwzOk w8 16 16 0 (positions FRONT start) × (swz_l w8 16 xs 0 (positions FRONT start) ≡ drop start xs ++ replicate start 0)
 moved_to_front start few xs long = moved FRONT to_front xs start (both start few xs long).1
 
--- ---- the number that sixteen digits make, four in each lane
+-- ---- the number of sixteen digits, four in each lane

@@ -1,4 +1,4 @@
--- What the reader of a tail owes.
+-- The postconditions of the reader of a tail.
 use Rattle.std.proofs.Common.{◌≡◌, ℕ, ◌-◌, ◌<◌, Bool, false, true, List, [], ◌∷◌, ◌++◌, length, get_or, take, drop, refl, sym, ◌∙◌, arith}
 use Rattle.std.specs.Prelude.{ℤ, nat_eq, not}
 use Rattle.std.proofs.lemmas.Bool.Decides.{nat_tests}
@@ -38,7 +38,7 @@ no_tail bytes a rest e d n none f z p t =
     no_tail_at t.fraction_text t.exponent_text a rest f z t.has_point t.has_exponent d n none t.fraction_is t.exponent_is
     (sym e ∙ t.text_is)
 
--- the two, at a text that is looked at from its first byte on
+-- both, for a text that is read from its first byte on
 module _ (bytes a rest : List ℕ) (h : 0 < length bytes) (e : get_or bytes 0 0 ≡ 46)
     (s : take (length bytes - 1) (drop 1 bytes) ≡ a ++ rest) where
   pub point_first : bytes ≡ 46 ∷ (a ++ rest)
@@ -51,7 +51,7 @@ module _ (bytes a rest : List ℕ) (h : 0 < length bytes) (e : get_or bytes 0 0 
       → (f : List ℕ) (z : ℤ) (p : Bool) → IsTail bytes f z p → ⊥
   no_tail_at_point = no_tail bytes a rest point_first
 
--- a tail with no point
+-- a tail without a point
 pub tail_without_point : (bytes : List ℕ) (z : ℤ) (w empty : Bool) → empty ≡ nat_eq (length bytes) 0 → IsExponent bytes z w
     → IsTail bytes [] z (not empty)
 tail_without_point [] z w empty e x = record {

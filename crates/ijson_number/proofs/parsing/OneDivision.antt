@@ -142,7 +142,7 @@ spelled_sign t p s =
       u,
     )
 
--- a sign that was taken off stood in front
+-- a sign that was split off precedes the rest
 pub minus_of : (text unsigned : List ℕ) (negative : Bool) → IsSignTaken text negative unsigned
     → (minus : List ℕ) × IsMinus minus negative × (text ≡ minus ++ unsigned)
 minus_of text unsigned negative sign = elim sign [

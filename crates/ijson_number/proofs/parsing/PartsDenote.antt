@@ -1,4 +1,4 @@
--- Each text that has a number's parts spells a number.
+-- Each text that consists of the parts of a number spells a number.
 use Rattle.std.proofs.Common.{◌≡◌, ◌≢◌, ◌⊎◌, ℕ, suc, ◌-◌, ◌<◌, false, List, [], ◌∷◌, ◌++◌, length, replicate, refl, ap, inl, inr, arith}
 use Rattle.std.specs.Prelude.{pos}
 use Rattle.std.proofs.lemmas.Bool.{cases_eq}
@@ -7,9 +7,9 @@ use Rattle.ijson_number.specs.StoredNumber.{stored_number}
 use Rattle.ijson_number.specs.private.Stripped.{digits_from_text}
 use Rattle.ijson_number.specs.Grammar.{Denotes, Parts, IsSpelled, Spells}
 use Rattle.ijson_number.specs.private.Reading.{BeginsWithNoZero, EndsWithNoZero, exponent_of}
-use Rattle.ijson_number.proofs.parsing.Scanning.{ZerosTaken, denotes_number, denotes_nought}
+use Rattle.ijson_number.proofs.parsing.CanonicalSpellings.{ZerosTaken, denotes_number, denotes_nought}
 
--- the zeros at the front, and what follows them
+-- the leading zeros, and the text after them
 front_zeros : (bs : List ℕ) → (j : ℕ) × (t : List ℕ) × (bs ≡ replicate j 48 ++ t) × BeginsWithNoZero t
 front_zeros [] = (0, [], refl, λ l. absurd (omega arith))
 front_zeros (b ∷ bs) =
@@ -35,7 +35,7 @@ back_step b k [] bs e h =
     ]
 back_step b k (c ∷ cs) bs e h = (k, b ∷ c ∷ cs, rw e refl, longer_end b c cs h)
 
--- the zeros at the end, and what precedes them
+-- the trailing zeros, and the text before them
 back_zeros : (bs : List ℕ) → (k : ℕ) × (s : List ℕ) × (bs ≡ s ++ replicate k 48) × EndsWithNoZero s
 back_zeros [] = (0, [], refl, λ l. absurd (omega arith))
 back_zeros (b ∷ bs) = let r = back_zeros bs in back_step b r.0 r.1 bs r.2 r.3

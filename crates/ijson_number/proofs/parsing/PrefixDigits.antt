@@ -1,4 +1,4 @@
--- Digits that are taken from the front of a text, some at a time.
+-- Leading digits that are read in steps.
 use Rattle.std.proofs.Common.{◌≡◌, ℕ, ◌+◌, ◌-◌, ◌*◌, ◌^◌, ◌<◌, ◌≤◌, List, length, get_or, take}
 use Rattle.std.proofs.Common.{drop, sym, ap, ◌∙◌, arith, pow-add, take-add}
 use Rattle.std.specs.Int.Digits.{number_from_digits_after}
@@ -23,7 +23,7 @@ fewer_digits bytes count most few digits =
     let all : count + (most - count) ≡ most = omega arith in
     AllDigits_left (take count bytes) (take (most - count) (drop count bytes)) (rw (← take-add count (most - count) bytes, all) digits)
 
--- digits leave room for those that may still be taken
+-- after `count` digits, the remaining ones still fit
 pub room_behind : (number : ℕ) (digits : List ℕ) (count most : ℕ) → AllDigits digits → length digits ≡ count → count ≤ most
     → (number + 1) * 10 ^ most ≤ 10 ^ 19
     → (number_from_digits_after 10 number (digits_from_text digits) + 1) * 10 ^ (most - count) ≤ 10 ^ 19
@@ -38,7 +38,7 @@ room_behind number digits count most all long few buffer =
     let whole : (number + 1) * 10 ^ count * 10 ^ (most - count) ≡ (number + 1) * 10 ^ most = rw (← split) (grind arith) in
     omega arith
 
--- some were taken, and then those behind them
+-- some digits were read, and then those after them
 pub taken_behind : (number longer : ℕ) (bytes : List ℕ) (count most longest more : ℕ) → count ≤ most → count ≤ length bytes
     → AllDigits (take count bytes) → longer ≡ number_from_digits_after 10 number (digits_from_text (take count bytes))
     → IsTaken longer (drop count bytes) (most - count) longest more → IsTaken number bytes most longest (count + more)
@@ -56,7 +56,7 @@ taken_behind number longer bytes count most longest more few within digits value
           ∙ number_after_append 10 number (digits_from_text (take count bytes)) (digits_from_text (take more (drop count bytes))));
     }
 
--- the digits of the first 16 bytes, but at most so many
+-- up to `most` of the digits among the first 16 bytes
 module _ (number : ℕ) (bytes : List ℕ) (most found count : ℕ) (buffer : 16 ≤ length bytes) (is : IsCount (chunk 0 16 bytes) found)
     (fewer : count ≤ found) (few : count ≤ most) where
   long : length (chunk 0 16 bytes) ≡ 16
@@ -88,7 +88,7 @@ module _ (number : ℕ) (bytes : List ℕ) (most found count : ℕ) (buffer : 16
   at_front : 0 + count ≡ count
   at_front = omega arith
 
-  -- where they are fewer than 16, and fewer than may be taken, no digit follows
+  -- if fewer than 16 and fewer than `most` were read, no digit follows
   pub row_taken : count < 16 → (count < most → count ≡ found)
       → IsTaken number bytes most (number * 10 ^ count + value (take count (chunk 0 16 bytes))) count
   row_taken less stops = record {

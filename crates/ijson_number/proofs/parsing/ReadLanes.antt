@@ -1,4 +1,4 @@
--- Sixteen bytes in the lanes of a vector: which are digits, and the number that these make.
+-- Sixteen bytes in the lanes of a vector: which are digits, and their value.
 use Rattle.std.proofs.Common.{◌≡◌, ℕ, zero, suc, ◌+◌, ◌-◌, ◌*◌, ◌%◌, ◌^◌, ◌<◌, ◌≤◌, Bool, true, false, cond, ◌&&◌, ltb, map}
 use Rattle.std.proofs.Common.{get_or, replicate, List, [], ◌∷◌, ◌++◌, length, take, refl, sym, ap, ap₂, ◌∙◌, arith}
 use Rattle.std.specs.Prelude.{not}
@@ -77,7 +77,7 @@ power_is count few = each (λ k. get_or POWERS k 0 ≡ 10 ^ k) 17 count (
   ),
 ) (omega arith)
 
--- ---- bytes that are digits, less '0'
+-- ---- the values of bytes that are digits
 
 abbrev pub digit_lanes : List ℕ → List ℕ
 digit_lanes bytes = zip2 (λ a b. (a + (2 ^ 8 - b)) % 2 ^ 8) bytes (replicate 16 48)
@@ -99,7 +99,7 @@ number_of_zeros : (k : ℕ) (ds : List ℕ) → number_from_digits 10 (replicate
 number_of_zeros zero ds = refl
 number_of_zeros (suc k) ds = number_of_zeros k ds
 
--- the digits at the front, moved to the end
+-- the leading digits, moved to the end
 module _ (bytes : List ℕ) (long : length bytes ≡ 16) (count : ℕ) (digits : AllDigits (take count bytes)) where
   moved_digits : replicate (16 - count) 0 ++ take count (digit_lanes bytes) ≡ replicate (16 - count) 0 ++ digits_from_text
       (take count bytes)
@@ -166,11 +166,11 @@ module _ (bytes : List ℕ) (long : length bytes ≡ 16) where
         stops = λ l. other_is (get_or bytes n 0) (rw is (prefix_len_stops q bytes 0 (omega (arith, is))));
       }
 
-  -- no byte is another one, and all are digits
+  -- without other bytes all are digits
   pub count_of_all : others bytes ≡ 0 → IsCount bytes 16
   count_of_all none = count_is 16 (sym long ∙ sym (leading_from_mask_l is_other bytes (sym others_are ∙ none)))
 
-  -- the lowest bit is that of the first byte that is no digit
+  -- otherwise the lowest set bit is that of the first byte that is no digit
   pub count_of_some : 0 < others bytes → IsCount bytes (count_trailing_zeros 64 (others bytes))
   count_of_some some = rw others_are
       (count_is (count_trailing_zeros 64 (mask_l (map is_other bytes)))

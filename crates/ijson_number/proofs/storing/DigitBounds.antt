@@ -1,9 +1,9 @@
--- The number that few digits write stays below a power of ten.
-use Rattle.std.proofs.Common.{◌≡◌, ℕ, ◌+◌, ◌-◌, ◌*◌, ◌^◌, ◌<◌, ◌≤◌, List, [], ◌∷◌, ◌++◌, length, get_or, take, ap, sym, ◌∙◌, arith, pow-add}
+-- The value of few digits is below a power of ten.
+use Rattle.std.proofs.Common.{◌≡◌, ℕ, ◌+◌, ◌-◌, ◌*◌, ◌^◌, ◌<◌, ◌≤◌, List, [], ◌∷◌, ◌++◌, length, get_or, take, drop, ap, sym, ◌∙◌, arith, pow-add}
 use Rattle.std.specs.Int.Digits.{number_from_digits, number_from_digits_after, AllBelowBase}
 use Rattle.std.proofs.Math.Nat.{mul-le-mul_left, mul-le-mul_right}
 use Rattle.std.proofs.lemmas.Int.Digits.{number_after_append, number_after_lt, number_lt}
-use Rattle.std.proofs.lemmas.List.{length-map, length-take-le, map-append, take_more}
+use Rattle.std.proofs.lemmas.List.{length-map, length-take-le, map-append, take-append-drop, take_more}
 use Rattle.ijson_number.specs.Grammar.{AllDigits, IsDigit, value}
 use Rattle.ijson_number.specs.private.Stripped.{digits_from_text}
 use Rattle.ijson_number.specs.laws.Tens.{power_le}
@@ -16,7 +16,7 @@ below_base (b ∷ bs) h = (let d = h.0 in omega arith, below_base bs h.1)
 pub count_of : (bs : List ℕ) → length (digits_from_text bs) ≡ length bs
 count_of bs = length-map {A = ℕ} {B = ℕ} bs (λ b. b - 48)
 
--- one more digit
+-- appending a digit
 pub append_step : (n : ℕ) (bs : List ℕ) (i : ℕ) → i < length bs
     → number_from_digits_after 10 n (digits_from_text (take i bs)) * 10 + (get_or bs i 0 - 48) ≡ number_from_digits_after 10 n
     (digits_from_text (take (i + 1) bs))
@@ -25,7 +25,7 @@ append_step n bs i h =
     ap digits_from_text (take_more bs i 0 h) ∙ map-append {A = ℕ} {B = ℕ} (λ b. b - 48) (take i bs) (get_or bs i 0 ∷ []) in
     sym (ap (number_from_digits_after 10 n) split ∙ number_after_append 10 n (digits_from_text (take i bs)) ((get_or bs i 0 - 48) ∷ []))
 
--- few digits more stay below a word
+-- appending few digits stays below 10^19
 pub digits_small : (n : ℕ) (bs : List ℕ) (most : ℕ) → AllDigits bs → length bs ≤ most → (n + 1) * 10 ^ most ≤ 10 ^ 19
     → number_from_digits_after 10 n (digits_from_text bs) < 10 ^ 19
 digits_small n bs most h l buffer =
@@ -38,7 +38,7 @@ digits_small n bs most h l buffer =
 pub digits_more : (bs : List ℕ) (i : ℕ) → AllDigits (take i bs) → i < length bs → IsDigit (get_or bs i 0) → AllDigits (take (i + 1) bs)
 digits_more bs i front inside digit = rw (take_more bs i 0 inside) (AllDigits-append (take i bs) (get_or bs i 0 ∷ []) front (digit, tt))
 
--- and so does one digit more
+-- and so does appending one digit
 pub step_small : (n : ℕ) (bs : List ℕ) (i most : ℕ) → AllDigits (take i bs) → i < length bs → i < most → IsDigit (get_or bs i 0)
     → (n + 1) * 10 ^ most ≤ 10 ^ 19 → number_from_digits_after 10 n (digits_from_text (take i bs)) * 10 + (get_or bs i 0 - 48) < 10 ^ 19
 step_small n bs i most front inside few digit buffer =
@@ -49,13 +49,13 @@ step_small n bs i most front inside few digit buffer =
 pub value_small : (bs : List ℕ) → AllDigits bs → value bs < 10 ^ length bs
 value_small bs h = rw (count_of bs) at (number_lt 10 (digits_from_text bs) (below_base bs h))
 
--- digits behind others
+-- appending digits to others
 pub joined_value : (front back : List ℕ) → number_from_digits_after 10 (value front) (digits_from_text back) ≡ value (front ++ back)
 joined_value front back =
     sym (ap (number_from_digits 10) (map-append {A = ℕ} {B = ℕ} (λ b. b - 48) front back)
     ∙ number_after_append 10 0 (digits_from_text front) (digits_from_text back))
 
--- digits leave room for so many more
+-- after `k` digits, 19 - `k` more fit
 pub room_left : (front : List ℕ) (k : ℕ) → AllDigits front → length front ≡ k → k ≤ 19 → (value front + 1) * 10 ^ (19 - k) ≤ 10 ^ 19
 room_left front k digits count few =
     let v : value front < 10 ^ k = rw count at (value_small front digits) in
@@ -63,3 +63,22 @@ room_left front k digits count few =
     let all : k + (19 - k) ≡ 19 = omega arith in
     let whole : 10 ^ k * 10 ^ (19 - k) ≡ 10 ^ 19 = sym (pow-add 10 k (19 - k)) ∙ ap (λ j. 10 ^ j) all in
     omega arith
+
+-- appending digits does not decrease a number
+pub no_less : (n : ℕ) (ds : List ℕ) → n ≤ number_from_digits_after 10 n ds
+no_less n [] = omega arith
+no_less n (d ∷ ds) = let h = no_less (n * 10 + d) ds in omega arith
+
+-- nor does appending those after a digit that was read
+pub digits_after : (n : ℕ) (bs : List ℕ) (i : ℕ) → i < length bs
+    → number_from_digits_after 10 n (digits_from_text (take i bs)) * 10 + (get_or bs i 0 - 48) ≤ number_from_digits_after 10 n (digits_from_text bs)
+digits_after n bs i h =
+    let front = take (i + 1) bs in
+    let back = drop (i + 1) bs in
+    let split : digits_from_text bs ≡ digits_from_text front ++ digits_from_text back =
+    ap digits_from_text (sym (take-append-drop (i + 1) bs)) ∙ map-append {A = ℕ} {B = ℕ} (λ b. b - 48) front back in
+    let whole : number_from_digits_after 10 n (digits_from_text bs)
+    ≡ number_from_digits_after 10 (number_from_digits_after 10 n (digits_from_text front)) (digits_from_text back) =
+    ap (number_from_digits_after 10 n) split ∙ number_after_append 10 n (digits_from_text front) (digits_from_text back) in
+    let more = no_less (number_from_digits_after 10 n (digits_from_text front)) (digits_from_text back) in
+    omega (arith, append_step n bs i h, whole, more)

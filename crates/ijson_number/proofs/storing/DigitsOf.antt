@@ -1,4 +1,4 @@
--- Stripped digits are the digits of the number that they write.
+-- Canonical digits are the digits of their value.
 use Rattle.std.proofs.Common.{◌≡◌, ◌≢◌, ℕ, zero, suc, ◌+◌, ◌*◌, ◌/◌, ◌%◌, ◌<◌, Bool, List, [], ◌∷◌, ◌++◌}
 use Rattle.std.proofs.Common.{length, get_or, refl, ap, sym, ◌∙◌, arith, append_assoc}
 use Rattle.std.specs.Prelude.{nat_abs, nat_eq, true, false, cond, ℤ}
@@ -35,7 +35,7 @@ digits_back (d ∷ ds) h f =
 pub stripped_back : (ds : List ℕ) → IsStripped ds → digits_of 10 (number_from_digits 10 ds) ≡ ds
 stripped_back ds s = digits_back ds (recursion_from_All (λ d. d < 10) ds s.below_ten) s.first
 
--- the digits that the definitions speak of are std's
+-- the digits of the definitions are those of std
 same_turn : (b : Bool) (xs ys : List ℕ) → xs ≡ ys → (let r : List ℕ = elim b [ true ↦ [] | false ↦ xs ] in r) ≡ cond b [] ys
 same_turn true xs ys e = refl
 same_turn false xs ys e = e
@@ -46,7 +46,7 @@ digits_are (suc turns) n =
     same_turn (nat_eq n 0) (digits_within turns (n / 10) ++ (n % 10 ∷ [])) (digits_with_fuel 10 turns (n / 10) ++ (n % 10 ∷ []))
     (ap (λ x. x ++ (n % 10 ∷ [])) (digits_are turns (n / 10)))
 
--- the digits of the stored number are those that are stored
+-- the digits of the stored number are the stored digits
 pub stored_digits_are : (negative : Bool) (ds : List ℕ) (e : ℤ) (point : Bool) → IsStripped ds
     → stripped_digits (stored_number negative ds e point) ≡ ds
 stored_digits_are negative ds e point s =

@@ -88,7 +88,7 @@ module _ (m e : ℤ) (n : Decimal) (small : nat_abs m < 10 ^ 20) (s : Strips m e
         (λ _. rw (abs_signed (int_lt m (pos 0)) out.0) tens.1) s.plain.stripped (sym scaled ∙ is) in
         (r.0, same_exponent e n.exponent out.1 k x (r.1 (λ z. some (scaled ∙ rw z (let w : 0 * 10 ^ out.1 ≡ 0 = omega arith in ap pos w)))))
 
-  -- taking the tens out of the mantissa gives the number
+  -- stripping the trailing zeros of the mantissa yields the number
   pub stripped_is : stripped_number m e n.point ≡ n
   stripped_is =
       elim (zero_or_not m) [
@@ -110,7 +110,7 @@ small_within low high (negsuc n) a b t = let w = within low high (negsuc n) t in
 small_packed : (z : ℤ) → fits_packed z ≡ true → nat_abs z < 10 ^ 20
 small_packed z t = small_within (neg_ℤ (pos 36028797018963968)) (pos 36028797018963968) z (omega (arith, ints)) (omega (arith, ints)) t
 
--- what isn't below zero is its size
+-- a nonnegative number is its absolute value
 pub not_below : (z : ℤ) → fits_u64 z ≡ true → pos (nat_abs z) ≡ z
 not_below (pos n) t = refl
 not_below (negsuc n) t = let w = within (pos 0) (pos (2 ^ 64)) (negsuc n) t in absurd (omega (arith, ints))
@@ -125,7 +125,7 @@ module _ (n : Decimal) (plain : IsPlain n) where
       same_decimal _ n.mantissa n.exponent n.exponent n.point n.point
       (ap (signed (int_lt n.mantissa (pos 0))) is ∙ sign_and_magnitude n.mantissa) refl refl
 
-  -- a mantissa with so many tens less
+  -- a mantissa with some trailing zeros kept
   packed_case : (k : ℤ) (m : ℤ) → k ≤ℤ n.exponent → m ≡ n.mantissa *ℤ pos (10 ^ nat_abs (n.exponent -ℤ k)) → nat_abs m < 10 ^ 20
       → stripped_number m k n.point ≡ n
   packed_case k m h is small =
@@ -184,7 +184,7 @@ module _ (n : Decimal) (plain : IsPlain n) where
       (λ _. either (int_le (negsuc 6) n.exponent && fits_packed n.mantissa) _ _ (fraction_test h) (λ _. digits_case)))
       (λ h. integer_case (n.mantissa *ℤ pos (10 ^ nat_abs n.exponent)) h refl)
 
--- what is stored as a number's form has that number
+-- a form of a number has that number
 pub form_has : (n : Decimal) (f : FormOf) → IsPlain n → f ≡ form_of n → form_number f ≡ n
 form_has n f plain e = ap form_number e ∙ number_of_form n plain
 

@@ -1,14 +1,13 @@
--- Integers of 64 bits, and their stored forms.
+-- Integers of 64 bits, and their forms.
 use Rattle.std.proofs.Common.{◌≡◌, ◌≢◌, ℕ, ◌*◌, ◌%◌, ◌^◌, ◌<◌, Bool, true, false, [], refl, ap, sym, subst, ◌∙◌, inl, inr, arith}
 use Rattle.std.specs.Prelude.{ℤ, pos, negsuc, neg_ℤ, nat_abs, int_le, int_lt, ◌+ℤ◌, ◌<ℤ◌, FitsSigned}
 use Rattle.std.specs.Int.{FitsUnsigned}
 use mir.Syntax.{w64}
-use Rattle.ijson_number.proofs.storing.FormCases.{integer_packed, integer_signed, left, taken, within}
 use Rattle.std.specs.Int.Digits.{number_from_digits, digits_of}
 use Rattle.std.proofs.lemmas.Int.{ints}
 use Rattle.std.proofs.lemmas.Int.Digits.{number_digits_of}
 use Rattle.std.proofs.lemmas.Bool.{and_from}
-use Rattle.ijson_number.specs.Decimal.{Decimal, IsPlain}
+use Rattle.ijson_number.specs.Decimal.{Decimal}
 use Rattle.ijson_number.specs.Form.{FormOf, packed, signed_word, unsigned_word, fits_packed}
 use Rattle.ijson_number.specs.Form.{fits_i64, fits_u64, digits_form, integer_form, form_of}
 use Rattle.ijson_number.specs.FormNumber.{form_number, integer_word}
@@ -34,14 +33,14 @@ module _ (magnitude s t : ℕ) (some : magnitude ≢ 0) (small : magnitude < 10 
   abbrev out : ℕ × ℕ
   out = tens_out 20 magnitude
 
-  -- tens are taken out in one way
+  -- stripping trailing zeros has one result
   same_tens : (out.0 ≡ s) × (out.1 ≡ t)
   same_tens =
       let is : IsTensOut magnitude out = tens_out_is 20 magnitude some small in
       let r = int_tens (pos out.0) (pos s) out.1 t (λ _. is.1) (λ _. last) (ap pos (sym is.0 ∙ tens)) in
       (let e : pos out.0 ≡ pos s = r.0 in cc, r.1 (λ z. is.1 (let e : out.0 ≡ 0 = cc in rw e refl)))
 
-  -- a mantissa that isn't zero
+  -- a mantissa that is not zero
   pub some_is : (negative : Bool) (e : ℤ) (point : Bool)
       → stripped_number (signed negative magnitude) e point ≡ stored_number negative (digits_of 10 s) (e +ℤ pos t) point
   some_is negative e point =
@@ -51,7 +50,7 @@ module _ (magnitude s t : ℕ) (some : magnitude ≢ 0) (small : magnitude < 10 
       let number : number_from_digits 10 (digits_of 10 s) ≡ s = number_digits_of 10 s (omega arith) in
       rw (abs, sign, not_zero magnitude some, same_tens.0, same_tens.1, number) refl
 
--- the digits of a number that ten doesn't divide
+-- the digits of a number that ten does not divide
 pub some_stored : (s : ℕ) → s % 10 ≢ 0 → (negative : Bool) → IsStored negative (digits_of 10 s)
 some_stored s last negative = record {
   stripped = whole_stripped s last;
@@ -59,7 +58,7 @@ some_stored s last negative = record {
       (last (let is : 0 ≡ s = ap (number_from_digits 10) (sym none) ∙ number_digits_of 10 s (omega arith) in rw (← is) refl));
 }
 
--- a number whose mantissa isn't zero, with the tens that are taken out of the mantissa
+-- a number whose mantissa is not zero, and the trailing zeros stripped from it
 module _ (m : ℤ) (word : nat_abs m < 2 ^ 64) (some : nat_abs m ≢ 0) where
   pub tens_are : IsTensOut (nat_abs m) (tens_out 20 (nat_abs m))
   tens_are = tens_out_is 20 (nat_abs m) some (omega arith)
@@ -127,7 +126,7 @@ module _ (z : ℤ) (word : nat_abs z < 2 ^ 64) where
     | inr n ↦ some_value (λ e. n (abs_zero z e))
   ]
 
-  -- the forms of an integer of 64 bits don't end in digits
+  -- an integer of 64 bits is not stored by its digits
   same_word : (n : Decimal) (a b c : Bool) → (b ≡ false → c ≡ true)
       → (let f : FormOf = elim a [
         | true ↦ packed z (pos 0) false
@@ -176,23 +175,3 @@ signed_known z h n = absurd (let e = signed_fits z h in cc)
 
 pub word_fits : (z : ℤ) → FitsUnsigned w64 z → fits_u64 z ≡ true
 word_fits z h = and_from (int_le (pos 0) z) (int_lt z (pos (2 ^ 64))) (le_test (pos 0) z h.0) (below_test z (pos (2 ^ 64)) h.1)
-
--- a packed mantissa is a signed word
-pub packed_word : (z : ℤ) → fits_packed z ≡ true → FitsSigned w64 z
-packed_word z t = let w = within (neg_ℤ (pos 36028797018963968)) (pos 36028797018963968) z t in grind (arith, ints)
-
-pub not_packed : (z : ℤ) → fits_i64 z ≡ false → fits_packed z ≡ false
-not_packed z h = by_test (fits_packed z) refl
-  where
-    by_test : (b : Bool) → fits_packed z ≡ b → fits_packed z ≡ false
-    by_test true t = absurd (let e = signed_fits z (packed_word z t) in cc)
-    by_test false t = t
-
--- an integer that fits a signed word is packed or that word
-pub integer_word_is : (n : Decimal) (z : ℤ) → IsPlain n → n.point ≡ false → HasValue n z → fits_i64 z ≡ true → form_of n ≡ integer_word z
-integer_word_is n z plain no_point value fits = by_packed (fits_packed z) refl
-  where
-    by_packed : (b : Bool) → fits_packed z ≡ b → form_of n ≡ integer_word z
-    by_packed true h = integer_packed n z plain no_point value h ∙ sym (taken (fits_packed z) _ _ h)
-    by_packed false h = integer_signed n z plain no_point value h fits
-        ∙ sym (left (fits_packed z) _ _ h ∙ taken (fits_i64 z) _ _ fits)

@@ -1,4 +1,4 @@
--- Stored parts of one value are the same parts.
+-- Stored parts of equal numbers are equal.
 use Rattle.std.proofs.Common.{◌≡◌, ℕ, Bool, true, false, List, [], ◌∷◌, refl, ap, ap₂, sym, ◌∙◌, arith}
 use Rattle.std.specs.Prelude.{ℤ, pos, nat_abs, int_lt, not}
 use Rattle.std.specs.Int.Digits.{number_from_digits}
@@ -67,16 +67,16 @@ module _ (n n' : Bool) (ds ds' : List ℕ) (e e' : ℤ) (p p' : Bool) (a b : Dec
   parts_equal s d x = sym (ap₂ number_eq view view')
       ∙ ap is_eq (same_equal (stored_number n ds e p) (stored_number n' ds' e' p') (rw (s, d) refl) x)
 
-  -- two numbers of one sign and one exponent are equal where their digits are
+  -- two numbers with equal signs and exponents are equal if and only if their digits are
   pub digits_tell : (r : Bool) → n ≡ n' → e ≡ e' → r ≡ pointwise eqb ds ds' → r ≡ number_eq a b
   digits_tell r s x d =
       let tells = slice_eq-Decides Decides-eqb ds ds' r d in
       both_ways r (number_eq a b) (λ t. parts_equal s (tells.0 t) x) (λ t. tells.1 (equal_digits t))
 
-  -- of two signs they differ
+  -- with different signs they differ
   pub signs_tell : (n ≡ n' → ⊥) → false ≡ number_eq a b
   signs_tell h = never false (number_eq a b) refl (λ is. h (equal_sign is))
 
-  -- of two exponents they differ
+  -- with different exponents they differ
   pub exponents_tell : (e ≡ e' → ⊥) → false ≡ number_eq a b
   exponents_tell h = never false (number_eq a b) refl (λ is. h (mantissa_exponent is).1)

@@ -34,7 +34,7 @@ last_pushed (c ∷ b ∷ ds) d =
     let e : length (c ∷ b ∷ ds ++ d ∷ []) - 1 ≡ suc (length (b ∷ ds ++ d ∷ []) - 1) = omega arith in
     rw e (last_pushed (b ∷ ds) d)
 
--- the digits of a number that ten doesn't divide are stripped
+-- the digits of a number that ten does not divide are canonical
 pub whole_stripped : (n : ℕ) → n % 10 ≢ 0 → IsStripped (digits_of 10 n)
 whole_stripped n h =
     let some : 0 < n = omega arith in
@@ -75,7 +75,7 @@ below_cmp_is n z h =
     let e : n.exponent -ℤ n.exponent ≡ pos 0 = omega (arith, ints) in
     rescale n (integer z) n.exponent (omega (arith, ints)) h ∙ rw (e, times_one n.mantissa) refl
 
--- a number times ten or a hundred or more ends in zero
+-- a multiple of a positive power of ten ends in zero
 pub ends_in_zero : (n k : ℕ) → n * 10 ^ suc k % 10 ≡ 0
 ends_in_zero n k =
     let e : n * (10 * 10 ^ k) ≡ n * 10 ^ k * 10 = omega arith in
@@ -98,7 +98,7 @@ sign_cases : (z : ℤ) → (pos 0 ≤ℤ z) ⊎ (z <ℤ pos 0)
 sign_cases (pos n) = inl (omega (arith, ints))
 sign_cases (negsuc n) = inr (omega (arith, ints))
 
--- a plain number that has the value z is whole, and no other
+-- a plain number with the value z is whole, and z is its mantissa with its zeros
 pub value_is : (n : Decimal) (z : ℤ) → IsPlain n → HasValue n z → (pos 0 ≤ℤ n.exponent) × (z ≡ n.mantissa *ℤ pos (10 ^ nat_abs n.exponent))
 value_is n z p v =
     elim (sign_cases n.exponent) [
@@ -110,7 +110,7 @@ value_is n z p v =
 pub value_one : (n : Decimal) (y z : ℤ) → IsPlain n → HasValue n y → HasValue n z → y ≡ z
 value_one n y z p v w = (value_is n y p v).1 ∙ sym (value_is n z p w).1
 
--- the number so far of at most twenty digits, before the last of them
+-- the value of at most twenty digits, without the last of them
 pub number_so_far : (ds : List ℕ) (i : ℕ) → All (λ d. d < 10) ds → i < length ds → length ds ≤ 20
     → number_from_digits 10 (take i ds) < 10 ^ 19
 number_so_far ds i h m l =
@@ -127,7 +127,7 @@ scaled_small ds zeros h l =
     let p = power_le (length ds + zeros) 20 l in
     omega arith
 
--- a number of a word has fewer than twenty tens
+-- a number of one word has fewer than twenty trailing zeros
 pub tens_few : (number rest tens : ℕ) → number < 2 ^ 64 → rest ≢ 0 → number ≡ rest * 10 ^ tens → tens < 20
 tens_few number rest tens h n e =
     elim (cases_lt tens 20) [
@@ -139,7 +139,7 @@ tens_few number rest tens h n e =
 ten_moved : (q rest p : ℕ) → rest ≡ q * 10 → rest * p ≡ q * (p * 10 ^ 1)
 ten_moved q rest p e = rw e (mul_assoc q 10 p ∙ ap (λ x. q * x) (mul_comm 10 p))
 
--- a ten less
+-- stripping a zero
 pub ten_out : (number rest tens : ℕ) → rest % 10 ≡ 0 → number ≡ rest * 10 ^ tens → number ≡ rest / 10 * 10 ^ (tens + 1)
 ten_out number rest tens h e =
     let r : rest ≡ rest / 10 * 10 = omega arith in
@@ -158,7 +158,7 @@ module _ (negative : Bool) (magnitude s t : ℕ) (ds : List ℕ) (e : ℤ) (is :
   number_is : number_from_digits 10 ds ≡ s
   number_is = rw is (number_digits_of 10 s (omega arith))
 
-  -- the digits of an integer and its tens are a Num
+  -- the digits of an integer and its zeros are a Num
   pub whole_num : IsNum (stored_number negative ds e false)
   whole_num = record {
     plain = stripped_plain negative false ds e stripped_ds (digits_some ds s number_is n) (λ _. omega (arith, ints));
@@ -171,7 +171,7 @@ module _ (negative : Bool) (magnitude s t : ℕ) (ds : List ℕ) (e : ℤ) (is :
       value_from (stored_number negative ds e false) (signed negative magnitude) (omega (arith, ints))
       (rw (tens, number_is, exact) (signed_mul negative s (10 ^ t)))
 
--- stripped digits and zeros that are more than twenty together are large
+-- canonical digits and zeros that are more than twenty together have a large value
 pub large_mantissa : (negative : Bool) (ds : List ℕ) (zeros : ℕ) → IsStripped ds → 0 < length ds → 20 < zeros + length ds
     → 10 ^ 20 ≤ nat_abs (signed negative (number_from_digits 10 ds) *ℤ pos (10 ^ zeros))
 large_mantissa negative ds zeros stripped some h =
@@ -184,7 +184,7 @@ large_mantissa negative ds zeros stripped some h =
     let twenty : 10 ^ 20 ≤ 10 ^ (length ds - 1 + zeros) = power_le 20 (length ds - 1 + zeros) (omega arith) in
     rw magnitude (omega arith)
 
--- where the mantissa with its zeros is large, so is the value
+-- if the mantissa with its zeros is large, so is the value
 pub large_value : (n : Decimal) (o : Option ℤ) → IsPlain n → IfNone o (10 ^ 20 ≤ nat_abs (n.mantissa *ℤ pos (10 ^ nat_abs n.exponent)))
     → IfNone o ((z : ℤ) → nat_abs z < 10 ^ 20 → HasValue n z → ⊥)
 large_value n (Some x) p h = tt

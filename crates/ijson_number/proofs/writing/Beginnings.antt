@@ -1,10 +1,10 @@
--- What an append leaves that was refused.
-use Rattle.std.proofs.Common.{◌≡◌, ℕ, Bool, Result, List, [], ◌++◌, refl, sym, ap, ◌∙◌, append_assoc}
-use Rattle.std.specs.Prelude.{IsErr}
+-- The results of several appends.
+use Rattle.std.proofs.Common.{◌≡◌, ℕ, Bool, true, Result, Ok, Err, OnErr, List, [], ◌++◌, refl, sym, ap, ◌∙◌, append_assoc}
+use Rattle.std.specs.Prelude.{IfOk, IsErr, IsTrue, OnOk, if◌then◌else◌, is_ok}
 use Rattle.std.proofs.lemmas.List.{append-nil}
-use Rattle.std.proofs.lemmas.Result.{MatchResult-from_err}
+use Rattle.std.proofs.lemmas.Result.{IfOk-from_err, MatchResult-from_err}
 use Rattle.ijson_number.specs.AppendsBeginning.{AppendsBeginning}
-use Rattle.ijson_number.specs.private.Pushed.{Pushed}
+use Rattle.ijson_number.specs.private.Pushed.{Appends, Pushed}
 
 -- nothing was appended
 pub none_begun : (old new text : List ℕ) → new ≡ old → AppendsBeginning old new text
@@ -15,7 +15,7 @@ none_begun old new text e = record {
   taken = e ∙ sym (append-nil old);
 }
 
--- some of the text was appended, and no more
+-- a part of the text was appended, and no more
 pub some_begun : (old new done rest text : List ℕ) → new ≡ old ++ done → done ++ rest ≡ text → AppendsBeginning old new text
 some_begun old new done rest text e f = record {
   front = done;
@@ -24,7 +24,7 @@ some_begun old new done rest text e f = record {
   taken = e;
 }
 
--- a beginning of what stands in front was appended
+-- a beginning of its first part was appended
 pub front_begun : (old new piece rest text : List ℕ) → AppendsBeginning old new piece → piece ++ rest ≡ text → AppendsBeginning old new text
 front_begun old new piece rest text w f = record {
   front = w.front;
@@ -33,7 +33,7 @@ front_begun old new piece rest text w f = record {
   taken = w.taken;
 }
 
--- a beginning of the whole behind some of it
+-- a beginning of the last part was appended after the others
 pub last_begun : (old out new done piece text : List ℕ) → out ≡ old ++ done → AppendsBeginning out new piece → done ++ piece ≡ text
     → AppendsBeginning old new text
 last_begun old out new done piece text e w f = record {
@@ -43,7 +43,7 @@ last_begun old out new done piece text e w f = record {
   taken = w.taken ∙ ap (λ (l : List ℕ). l ++ w.front) e ∙ append_assoc old done w.front;
 }
 
--- a beginning of a text that is another's
+-- a beginning of an equal text was appended
 pub begun_as : (old new piece text : List ℕ) → AppendsBeginning old new piece → piece ≡ text → AppendsBeginning old new text
 begun_as old new piece text w f = record {
   front = w.front;
@@ -52,7 +52,44 @@ begun_as old new piece text w f = record {
   taken = w.taken;
 }
 
--- what is told where memory was refused
-pub refused_pushed : {E : Type 0} (r : Result Bool E) (old new text : List ℕ) → IsErr r → AppendsBeginning old new text
-    → Pushed r old new text
-refused_pushed r old new text e w = MatchResult-from_err r _ _ e (λ _. w)
+-- an append that failed
+pub failed : {T E : Type 0} (r : Result T E) (old new text : List ℕ) → IsErr r → AppendsBeginning old new text → Appends r old new text
+failed r old new text e w = MatchResult-from_err r _ _ e (λ _. w)
+
+-- an append of all or nothing
+pub all_or_none : {T E : Type 0} (r : Result T E) (old new text : List ℕ) → OnOk r (new ≡ old ++ text) → OnErr r (new ≡ old)
+    → Appends r old new text
+all_or_none (Ok _) old new text all none = all
+all_or_none (Err _) old new text all none = none_begun old new text none
+
+-- an append by `push_str`
+pub by_push_str : {T E : Type 0} (r : Result T E) (old new text : List ℕ) → new ≡ (if is_ok r then old ++ text else old)
+    → Appends r old new text
+by_push_str (Ok _) old new text is = is
+by_push_str (Err _) old new text is = none_begun old new text is
+
+-- the last of several appends
+pub last_append : {T E : Type 0} (r : Result T E) (old mid new done piece text : List ℕ) → mid ≡ old ++ done → Appends r mid new piece
+    → done ++ piece ≡ text → Appends r old new text
+last_append (Ok _) old mid new done piece text e w f = rw (w, e, append_assoc, f) refl
+last_append (Err _) old mid new done piece text e w f = last_begun old mid new done piece text e w f
+
+-- the result of two appends
+pub both : (old mid new front piece : List ℕ) → mid ≡ old ++ front → new ≡ mid ++ piece → new ≡ old ++ (front ++ piece)
+both old mid new front piece e f = rw (f, e) (append_assoc old front piece)
+
+-- the result of `done` for an append
+module _ {E : Type 0} (a : Result (Unit {0}) E) (r : Result Bool E) (ok : OnOk a (r ≡ Ok true)) (err : OnErr a (IsErr r)) where
+  pub pushed : (old new piece text : List ℕ) → Appends a old new piece → piece ≡ text → Pushed r old new text
+  pushed old new piece text w is = by_result a ok err (rw is at w)
+    where
+      by_result : (a : Result (Unit {0}) E) → OnOk a (r ≡ Ok true) → OnErr a (IsErr r) → Appends a old new text → Pushed r old new text
+      by_result (Ok _) ok err w = rw ok w
+      by_result (Err _) ok err w = MatchResult-from_err r _ _ err (λ _. w)
+
+  pub pushed_true : IfOk r (λ d. IsTrue d)
+  pushed_true = by_result a ok err
+    where
+      by_result : (a : Result (Unit {0}) E) → OnOk a (r ≡ Ok true) → OnErr a (IsErr r) → IfOk r (λ d. IsTrue d)
+      by_result (Ok _) ok err = rw ok refl
+      by_result (Err _) ok err = IfOk-from_err r _ err

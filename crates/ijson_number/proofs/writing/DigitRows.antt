@@ -1,4 +1,4 @@
--- Digits that lie in a room, and what is written of a row of them.
+-- Digits in a buffer, and the text of 16 of them.
 use Rattle.std.proofs.Common.{◌≡◌, ℕ, ◌+◌, ◌-◌, ◌%◌, ◌^◌, ◌<◌, ◌≤◌, replicate, take, drop, List, []}
 use Rattle.std.proofs.Common.{◌∷◌, map, length, length-drop, refl, ap, ◌∙◌, arith}
 use Rattle.std.specs.List.{All, AllByRecursion}
@@ -18,7 +18,7 @@ text_from : (ds : List ℕ) → AllByRecursion (λ d. d < 10) ds → map digit d
 text_from [] h = refl
 text_from (d ∷ ds) h = let first : digit d ≡ 48 + d = omega (arith, h.0) in let rest = text_from ds h.1 in λ i. first i ∷ rest i
 
--- the last digits of a room of 19
+-- the last digits of a buffer of 19
 module _ (buffer : List ℕ) (long : length buffer ≡ 19) where
   abbrev last : List ℕ
   last = take 16 (take 16 (drop 3 buffer))
@@ -42,7 +42,7 @@ module _ (buffer : List ℕ) (long : length buffer ≡ 19) where
       ∙ ap (map digit) (ap (drop (16 - count)) last_is ∙ drop-drop (16 - count) 3 buffer ∙ ap (λ n. drop n buffer) at)
       ∙ text_from (drop (19 - count) buffer) (recursion_from_All (λ d. d < 10) (drop (19 - count) buffer) below)
 
--- a row of digits
+-- 16 digits
 module _ (ds : List ℕ) (long : length ds ≡ 16) (below : All (λ d. d < 10) ds) where
   pub row_text : with_zero ds ≡ digits_text ds
   row_text = zip2_splat (λ a b. (a + b) % 2 ^ 8) ds 16 48 long ∙ text_from ds (recursion_from_All (λ d. d < 10) ds below)

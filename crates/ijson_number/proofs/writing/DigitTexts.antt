@@ -1,4 +1,4 @@
--- Digits that are written are read as they were.
+-- Digits that are written are read unchanged.
 use Rattle.std.proofs.Common.{◌≡◌, ℕ, zero, suc, ◌+◌, ◌-◌, ◌<◌, List, [], ◌∷◌, ◌++◌, length}
 use Rattle.std.proofs.Common.{get_or, take, drop, refl, ap, sym, ◌∙◌, inl, inr, arith}
 use Rattle.std.specs.Prelude.{ℤ, pos, negsuc, neg_ℤ}
@@ -16,7 +16,7 @@ use Rattle.ijson_number.proofs.storing.DigitsOf.{digits_are}
 abbrev pub Below : List ℕ → Type 0
 Below ds = AllByRecursion (λ d. d < 10) ds
 
--- digits that are written are read as they were
+-- digits that are written are read unchanged
 pub read_back : (ds : List ℕ) → digits_from_text (digits_text ds) ≡ ds
 read_back [] = refl
 read_back (d ∷ ds) = let h : 48 + d - 48 ≡ d = omega arith in rw (h, read_back ds) refl
@@ -32,7 +32,7 @@ pub zeros_digits : (k : ℕ) → AllDigits (zeros_text k)
 zeros_digits zero = tt
 zeros_digits (suc k) = ((omega arith, omega arith), zeros_digits k)
 
--- digits that begin with no zero may stand before the point, with more digits behind them
+-- digits without a leading zero, with more digits after them, are a whole part
 pub whole_from : (ds xs : List ℕ) → Below ds → 0 < get_or ds 0 0 → AllDigits xs → IsWhole (digits_text ds ++ xs)
 whole_from [] xs h f x = absurd (omega arith)
 whole_from (d ∷ ds) xs h f x = inr (omega arith, omega arith, AllDigits-append (digits_text ds) xs (text_digits ds h.1) x)

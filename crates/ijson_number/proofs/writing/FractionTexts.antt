@@ -1,4 +1,4 @@
--- The text of a number with a fraction that is kept in one word.
+-- The text of a number with a fraction that is stored in one word.
 use Rattle.std.proofs.Common.{◌≡◌, ◌≢◌, ℕ, zero, suc, ◌+◌, ◌*◌, ◌/◌, ◌%◌, ◌^◌, ◌<◌, ◌≤◌, ◌⊎◌, Bool, true}
 use Rattle.std.proofs.Common.{false, List, ◌++◌, length, refl, ap, sym, ◌∙◌, arith, inl, inr}
 use Rattle.std.specs.Prelude.{ℤ, pos, negsuc, neg_ℤ, nat_abs, int_le, int_lt, ◌≤ℤ◌, ◌<ℤ◌, ◌+ℤ◌, ◌-ℤ◌, ◌*ℤ◌, ◌||◌, ◌&&◌}
@@ -25,7 +25,7 @@ either_form : (b : Bool) (x y f : FormOf) → (let r : FormOf = elim b [ true �
 either_form true x y f e = inl (refl, e)
 either_form false x y f e = inr e
 
--- no number is packed with an exponent below zero where it is whole
+-- no whole number is packed with a negative exponent
 not_smallest : (tries k : ℕ) (n : Decimal) (m e : ℤ) → e <ℤ pos 0 → smallest_packed tries k n ≡ packed m e true → ⊥
 not_smallest zero k n m e h is = cc
 not_smallest (suc tries) k n m e h is =
@@ -36,7 +36,7 @@ not_smallest (suc tries) k n m e h is =
       | inr p ↦ not_smallest tries (suc k) n m e h p
     ]
 
--- a number that is packed with an exponent below zero has that exponent
+-- a number that is packed with a negative exponent has that exponent
 kept_exponent : (n : Decimal) (m e : ℤ) → n.point ≡ true → e <ℤ pos 0 → form_of n ≡ packed m e true
     → (n.exponent ≡ e) × (negsuc 6 ≤ℤ n.exponent)
 kept_exponent n m e h l is =
@@ -55,7 +55,7 @@ kept_exponent n m e h l is =
           ]
     ]
 
--- a packed number with an exponent below zero, in whose text no exponent is written
+-- a packed number with a negative exponent, whose text has no exponent
 module _ (m e : ℤ) (k : ℕ) (word : nat_abs m < 2 ^ 64) (scale : 0 < k) (below : e ≡ neg_ℤ (pos k))
     (form : form_of (stripped_number m e true) ≡ packed m e true) (shown : 6 < k → 10 ≤ nat_abs m) where
   exponent_is : ((stripped_number m e true).exponent ≡ e) × (negsuc 6 ≤ℤ (stripped_number m e true).exponent)

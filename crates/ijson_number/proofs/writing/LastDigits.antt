@@ -15,7 +15,7 @@ use Rattle.ijson_number.specs.private.ZerosInFront.{IsZerosInFront}
 use Rattle.ijson_number.specs.laws.Tens.{ten_pos, power_le}
 use Rattle.ijson_number.proofs.writing.PaddedDigits.{joined, last_count, last_zeros, padded}
 
--- digits in front don't change the last ones
+-- leading digits do not change the last ones
 last_behind : (scale more n : ℕ) → last_digits scale (more * 10 ^ scale + n) ≡ last_digits scale n
 unfolding last_digits
 last_behind zero more n = refl
@@ -31,7 +31,7 @@ last_rest p n =
     let parts : n / 10 ^ p * 10 ^ p + n % 10 ^ p ≡ n = omega arith in
     sym (last_behind p (n / 10 ^ p) (n % 10 ^ p)) ∙ ap (last_digits p) parts
 
--- the last digits are those before the places, and those behind them
+-- the last digits are those before the last `scale`, and these
 last_split : (count scale n : ℕ) → last_digits (count + scale) n ≡ last_digits count (n / 10 ^ scale) ++ last_digits scale n
 unfolding last_digits
 last_split count zero n =
@@ -45,17 +45,17 @@ last_split count (suc p) n =
     ∙ ap (λ l. l ++ (48 + n % 10) ∷ []) (last_split count p (n / 10) ∙ ap (λ m. last_digits count m ++ last_digits p (n / 10)) over)
     ∙ append_assoc (last_digits count (n / 10 ^ suc p)) (last_digits p (n / 10)) ((48 + n % 10) ∷ [])
 
--- the powers of ten of both parts of a row of digits
+-- the powers of ten of both parts of a list of digits
 row_powers : (row scale : ℕ) → scale ≤ row → 10 ^ (row - scale) * 10 ^ scale ≡ 10 ^ row
 row_powers row scale few =
     let both : row - scale + scale ≡ row = omega arith in sym (pow-add 10 (row - scale) scale) ∙ ap (λ k. 10 ^ k) both
 
--- a row of digits is those before the places, and those behind them
+-- a list of digits consists of those before the last `scale`, and these
 row_split : (row scale n : ℕ) → scale ≤ row → last_digits row n ≡ last_digits (row - scale) (n / 10 ^ scale) ++ last_digits scale n
 row_split row scale n few = let both : row - scale + scale ≡ row = omega arith in ap (λ k. last_digits k n) (sym both)
     ∙ last_split (row - scale) scale n
 
--- a number that fits into so many digits has zeros in front of it there
+-- a number of at most `count` digits, with leading zeros
 fitted : (count n : ℕ) → 1 ≤ count → n < 10 ^ count → n < 10 ^ 64
     → last_digits count n ≡ zeros_text (count - length (decimal n)) ++ decimal n
 fitted count zero some less small =
@@ -64,7 +64,7 @@ fitted count zero some less small =
     last_zeros count ∙ ap zeros_text (sym next) ∙ sym (replicate_more {X = ℕ} (count - 1) 48) ∙ rw (one, decimal_digit 0 (omega arith)) refl
 fitted count (suc n) some less small = sym (padded count (suc n) (omega arith) less small)
 
--- where the zeros in front end, the number begins
+-- at the end of the leading zeros, the number begins
 module _ (lanes : List ℕ) (zeros : ℕ) (shown behind : List ℕ) (lead : ℕ) (is : lanes ≡ replicate lead 48 ++ (shown ++ behind))
     (counted : IsZerosInFront lanes zeros) where
   zero_at : (k : ℕ) → k < lead → get_or lanes k 0 ≡ 48
@@ -91,7 +91,7 @@ module _ (lanes : List ℕ) (zeros : ℕ) (shown behind : List ℕ) (lead : ℕ)
   shown_at = rw (is, drop_at (replicate lead 48) (shown ++ behind) lead (length-replicate {A = ℕ} lead 48))
       (take_at shown behind (length shown) refl)
 
--- the number without its last places, in a row of 16 digits, behind the zeros there
+-- a number of 16 digits without its last `scale`, after its leading zeros
 module _ (n scale : ℕ) (small : n < 10 ^ 16) (few : scale < 16) (lanes : List ℕ) (is : lanes ≡ last_digits 16 n) (zeros : ℕ)
     (counted : IsZerosInFront lanes zeros) where
   abbrev whole : ℕ
@@ -135,7 +135,7 @@ module _ (n scale : ℕ) (small : n < 10 ^ 16) (few : scale < 16) (lanes : List 
       let count : end - lead ≡ length shown = omega arith in
       rw (start_is start s, count) (shown_at lanes zeros shown (last_digits scale n) lead row_is counted)
 
--- a number of at most 15 digits, behind the zeros before it in a row of 16
+-- a number of at most 15 digits, after its leading zeros among 16 digits
 module _ (n : ℕ) (small : n < 10 ^ 15) (lanes : List ℕ) (is : lanes ≡ last_digits 16 n) (zeros : ℕ)
     (counted : IsZerosInFront lanes zeros) where
   zero_first : get_or lanes 0 0 ≡ 48
@@ -161,18 +161,18 @@ module _ (n : ℕ) (small : n < 10 ^ 15) (lanes : List ℕ) (is : lanes ≡ last
       sym (take_all (16 - zeros) (drop zeros lanes) (omega (arith, length-drop zeros lanes)))
       ∙ front_is n 0 (omega arith) (omega arith) lanes is zeros counted zeros (omega arith) ∙ ap decimal same
 
--- the digits of a row behind its first one
+-- the last 15 of 16 digits
 pub but_first : (n : ℕ) → drop 1 (last_digits 16 n) ≡ last_digits 15 n
 but_first n = ap (drop 1) (row_split 16 15 n (omega arith))
     ∙ drop_at (last_digits 1 (n / 10 ^ 15)) (last_digits 15 n) 1 (last_count 1 (n / 10 ^ 15))
 
--- the digits behind the point
+-- the digits after the point
 pub behind_point : (n scale : ℕ) → scale < 16 → drop (16 - scale) (last_digits 16 n) ≡ last_digits scale (n % 10 ^ scale)
 behind_point n scale few = ap (drop (16 - scale)) (row_split 16 scale n (omega arith))
     ∙ drop_at (last_digits (16 - scale) (n / 10 ^ scale)) (last_digits scale n) (16 - scale) (last_count (16 - scale) (n / 10 ^ scale))
     ∙ sym (last_rest scale n)
 
--- a number of more than 15 digits: those in front, and the last 15
+-- a number of more than 15 digits: the leading ones, and the last 15
 module _ (magnitude scale : ℕ) (few : scale < 16) (word : magnitude < 2 ^ 64) (wide : 10 ^ 15 ≤ magnitude) where
   abbrev before : ℕ
   before = 15 - scale
@@ -217,7 +217,7 @@ one_digit : (d : ℕ) → d < 10 → last_digits 1 d ≡ decimal d
 unfolding last_digits
 one_digit d few = let same : d % 10 ≡ d = omega arith in rw (same, decimal_digit d few) refl
 
--- a number of 16 digits fills a row
+-- a number of 16 digits has no leading zeros among them
 pub full_row : (n : ℕ) → 10 ^ 15 ≤ n → n < 10 ^ 16 → last_digits 16 n ≡ decimal n
 full_row n wide small =
     row_split 16 15 n (omega arith)

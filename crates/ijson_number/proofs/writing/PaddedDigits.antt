@@ -1,4 +1,4 @@
--- The last digits of a number, with zeros in front, and a whole part before them.
+-- The last digits of a number, with leading zeros, and a whole part before them.
 use Rattle.std.proofs.Common.{◌≡◌, ℕ, zero, suc, ◌+◌, ◌-◌, ◌*◌, ◌/◌, ◌%◌, ◌^◌, ◌<◌, ◌≤◌, List, [], ◌∷◌}
 use Rattle.std.proofs.Common.{◌++◌, length, refl, ap, sym, ◌∙◌, arith, append_assoc, inl, inr}
 use Rattle.std.proofs.Math.Nat.{pow-succ', mul-le-mul_right, mul_comm}
@@ -14,7 +14,7 @@ pub some_places : (whole k : ℕ) → 0 < whole → 0 < whole * 10 ^ k
 some_places zero k h = absurd (omega arith)
 some_places (suc w) k h = let t = ten_pos k in grind (arith, t)
 
--- a whole part and the digits behind it
+-- a whole part and the digits after it
 pub joined : (scale whole fraction : ℕ) → 0 < whole → fraction < 10 ^ scale → whole * 10 ^ scale + fraction < 10 ^ 64
     → decimal (whole * 10 ^ scale + fraction) ≡ decimal whole ++ last_digits scale fraction
 unfolding last_digits
@@ -42,7 +42,7 @@ last_zeros (suc k) =
     let next : k + 1 ≡ suc k = omega arith in
     rw (last_zeros k, replicate_more {X = ℕ} k 48, next) refl
 
--- digits behind the point, with the zeros in front of them
+-- digits after the point, with leading zeros
 pub padded : (scale n : ℕ) → 0 < n → n < 10 ^ scale → n < 10 ^ 64
     → zeros_text (scale - length (decimal n)) ++ decimal n ≡ last_digits scale n
 unfolding last_digits

@@ -1,4 +1,4 @@
--- A text that is put together in a room: the minus, digits, the point, and digits behind it.
+-- A text that is assembled in a buffer: the minus, digits, the point, and digits after it.
 use Rattle.std.proofs.Common.{◌≡◌, ℕ, ◌+◌, ◌-◌, ◌≤◌, Bool, true, false, List, [], ◌∷◌, ◌++◌, length, length-append}
 use Rattle.std.proofs.Common.{length-drop, take, drop, set, replicate, refl, sym, ap, ◌∙◌, append_assoc, arith}
 use Rattle.std.proofs.lemmas.List.{length-set, length-take-le, take-append-le, take_more_set}
@@ -8,9 +8,9 @@ use Rattle.std.specs.Str.{IsAscii}
 use lib.Seq.{take-append-add}
 use mir.Val.{bool_byte}
 use Rattle.ijson_number.specs.Text.{minus_text}
-use Rattle.ijson_number.proofs.writing.WrittenLanes.{zeros_ascii}
+use Rattle.ijson_number.proofs.writing.WrittenLanes.{IsFront, zeros_ascii}
 
--- a piece in a room, in the place of so many bytes
+-- a piece that replaces `many` bytes of a buffer
 abbrev pub with_piece : (room piece : List ℕ) (at many : ℕ) → List ℕ
 with_piece room piece at many = take at room ++ (piece ++ drop many (drop at room))
 
@@ -53,47 +53,37 @@ pub minus_length : (negative : Bool) → bool_byte negative ≡ length (minus_te
 minus_length true = refl
 minus_length false = refl
 
-module _ (negative : Bool) (start : ℕ) (is : start ≡ length (minus_text negative)) (whole fraction : List ℕ)
-    (w : (length whole ≡ 16) × IsAscii whole) (f : (length fraction ≡ 16) × IsAscii fraction) (count scale many more : ℕ)
-    (few : (count ≤ 16) × (scale ≤ 16)) (row : many ≡ 16) where
-  abbrev pub with_whole : List ℕ
-  with_whole = with_piece empty whole start many
+-- the buffer with both pieces and the point in it
+abbrev pub filled : (start count many more : ℕ) (whole fraction : List ℕ) → List ℕ
+filled start count many more whole fraction =
+    with_piece (set (with_piece empty whole start many) (start + count) 46) fraction (start + count + 1) more
 
-  abbrev pub with_point : List ℕ
-  with_point = set with_whole (start + count) 46
-
-  abbrev behind : ℕ
-  behind = start + count + 1
-
-  abbrev pub with_fraction : List ℕ
-  with_fraction = with_piece with_point fraction behind more
-
-  whole_length : length with_whole ≡ 34
-  whole_length = let at : start ≤ 34 = omega (arith, is, minus_short negative) in
-      omega (arith, w.0, row, piece_length empty whole start many at, is, minus_short negative)
-
-  inside : behind ≤ length with_point
-  inside = omega (arith, length-set {A = ℕ} with_whole (start + count) 46, whole_length, is, minus_short negative, few.0)
-
-  pub room_long : behind + scale ≤ length with_fraction
-  room_long = omega (arith, piece_length with_point fraction behind more inside, f.0, few.1)
-
-  pub room_ascii : IsAscii with_fraction
-  room_ascii =
-      piece_ascii with_point fraction behind more
-      (IsAscii-set with_whole (start + count) 46
-      (piece_ascii empty whole start many (IsAscii-set (replicate 34 0) 0 45 (zeros_ascii 34) (omega arith)) w.1) (omega arith)) f.1
-
-  up_to_whole : take (start + count) with_whole ≡ minus_text negative ++ take count whole
-  up_to_whole = taken_piece empty whole start many count (omega (arith, is, minus_short negative)) (omega (arith, w.0, few.0))
-      ∙ ap (λ l. l ++ take count whole) (minus_put negative start is)
-
-  up_to_point : take behind with_point ≡ (minus_text negative ++ take count whole) ++ 46 ∷ []
-  up_to_point = take_more_set with_whole (start + count) 46 (omega (arith, is, minus_short negative, few.0, whole_length))
-      ∙ ap (λ l. l ++ 46 ∷ []) up_to_whole
-
-  pub room_text : take (behind + scale) with_fraction ≡ minus_text negative ++ (take count whole ++ 46 ∷ take scale fraction)
-  room_text = taken_piece with_point fraction behind more scale inside (omega (arith, f.0, few.1))
-      ∙ ap (λ l. l ++ take scale fraction) up_to_point
-      ∙ append_assoc (minus_text negative ++ take count whole) (46 ∷ []) (take scale fraction)
-      ∙ append_assoc (minus_text negative) (take count whole) (46 ∷ take scale fraction)
+pub filled_is : (negative : Bool) (start count scale many more : ℕ) (whole fraction : List ℕ) → start ≡ length (minus_text negative)
+    → (length whole ≡ 16) × IsAscii whole → (length fraction ≡ 16) × IsAscii fraction → (count ≤ 16) × (scale ≤ 16) → many ≡ 16
+    → IsFront (filled start count many more whole fraction) (start + count + 1 + scale)
+    (minus_text negative ++ (take count whole ++ 46 ∷ take scale fraction))
+filled_is negative start count scale many more whole fraction is w f few row =
+    let short = minus_short negative in
+    let with_whole : List ℕ = with_piece empty whole start many in
+    let with_point : List ℕ = set with_whole (start + count) 46 in
+    let at : start ≤ 34 = omega arith in
+    let long : length with_whole ≡ 34 = omega (arith, w.0, piece_length empty whole start many at) in
+    let inside : start + count + 1 ≤ length with_point = omega (arith, length-set {A = ℕ} with_whole (start + count) 46, long, few.0) in
+    let up_to_point : take (start + count + 1) with_point ≡ (minus_text negative ++ take count whole) ++ 46 ∷ [] =
+    rw (
+      take_more_set with_whole (start + count) 46 (omega (arith, long, few.0)),
+      taken_piece empty whole start many count at (omega (arith, w.0, few.0)),
+      minus_put negative start is,
+    ) refl in
+    record {
+      ascii = piece_ascii with_point fraction (start + count + 1) more
+          (IsAscii-set with_whole (start + count) 46
+          (piece_ascii empty whole start many (IsAscii-set (replicate 34 0) 0 45 (zeros_ascii 34) (omega arith)) w.1) (omega arith)) f.1;
+      within = omega (arith, piece_length with_point fraction (start + count + 1) more inside, f.0, few.1);
+      shown = rw (
+        taken_piece with_point fraction (start + count + 1) more scale inside (omega (arith, f.0, few.1)),
+        up_to_point,
+        append_assoc (minus_text negative ++ take count whole),
+        append_assoc (minus_text negative),
+      ) refl;
+    }

@@ -1,4 +1,4 @@
--- What is written spells the number that was written.
+-- The text of a number spells that number.
 use Rattle.std.proofs.Common.{◌≡◌, ◌⊎◌, ℕ, zero, suc, ◌+◌, ◌-◌, ◌*◌, ◌^◌, ◌<◌, Bool, true, false, List, [], ◌∷◌, ◌++◌, length}
 use Rattle.std.proofs.Common.{get_or, take, drop, refl, ap, sym, ◌∙◌, inl, inr, arith, append_assoc, length-append}
 use Rattle.std.specs.Prelude.{ℤ, pos, negsuc, neg_ℤ, nat_abs, nat_eq, int_lt, int_le, ◌+ℤ◌, ◌-ℤ◌, ◌≤ℤ◌, ◌<ℤ◌, ◌||◌}
@@ -27,7 +27,7 @@ minus_is : (negative : Bool) → ((minus_text negative ≡ []) × (negative ≡ 
 minus_is true = inr (refl, refl)
 minus_is false = inl (refl, refl)
 
--- the parts of a text that was written, where the number isn't zero
+-- the parts of the text of a number that is not zero
 module _ (n : Decimal) (plain : IsPlain n) (ds : List ℕ) (negative : Bool) (below : Below ds) (first : 0 < get_or ds 0 0)
     (mantissa_is : n.mantissa ≡ signed negative (number_from_digits 10 ds)) where
   strips_by : (v k : ℕ) (x : ℤ) → v ≡ number_from_digits 10 ds * 10 ^ k → n.exponent ≡ x +ℤ pos k → Strips (signed negative v) x n
@@ -230,7 +230,7 @@ module _ (n : Decimal) (plain : IsPlain n) where
     shape_parts = choose (λ x. Spells (minus_text negative ++ x) n) n.point _ _ float_parts
         (integer_case n plain ds negative below first mantissa_is)
 
-  -- what is written of a plain number spells it
+  -- the text of a plain number spells it
   written_spells : Spells (num_text n) n
   written_spells =
       let v = nat_abs n.mantissa in
@@ -240,6 +240,6 @@ module _ (n : Decimal) (plain : IsPlain n) where
       shape_parts (digits_within v v) (int_lt n.mantissa (pos 0)) (within_below v) (within_first v some)
       (sign_of n.mantissa some ∙ ap (signed (int_lt n.mantissa (pos 0))) (sym (within_value v))))
 
--- what is written of a Num spells it
+-- the text of a Num spells it
 pub num_text_spells : (n : Decimal) → IsNum n → Spells (num_text n) n
 num_text_spells n h = written_spells n h.plain

@@ -2,19 +2,13 @@
 use Rattle.std.proofs.Common.{◌≡◌, ℕ, ◌-◌, ◌<◌, Bool, true, false, List, ◌∷◌, ◌++◌, length, take, drop, ap, refl, ◌∙◌, append_assoc, arith}
 use Rattle.std.specs.Prelude.{ℤ, pos, negsuc, neg_ℤ, nat_abs, int_le, int_lt, ◌<ℤ◌, ◌≤ℤ◌, ◌+ℤ◌, ◌-ℤ◌, ◌||◌, ◌^◌}
 use Rattle.std.specs.Fmt.{signed_decimal}
-use Rattle.std.specs.List.{All}
 use Rattle.std.proofs.lemmas.Int.{ints}
 use Rattle.std.proofs.lemmas.List.{length-drop}
-use Rattle.std.proofs.lemmas.List.Elements.{All-take, All-drop}
-use Rattle.std.proofs.lemmas.Str.{IsAscii-append}
-use Rattle.std.proofs.lemmas.Str.Ascii.{IsAscii-cons}
-use Rattle.std.specs.Str.{IsAscii}
 use Rattle.ijson_number.specs.Text.{digits_text, minus_text, num_text, point_text, shape_text, zeros_text}
 use Rattle.ijson_number.specs.private.SplitText.{split_text}
 use Rattle.ijson_number.specs.StoredNumber.{stored_number}
 use Rattle.ijson_number.specs.private.Stripped.{IsStripped}
 use Rattle.ijson_number.specs.private.WordText.{integer_text}
-use Rattle.ijson_number.proofs.writing.AsciiTexts.{digits_text_ascii, sign_ascii}
 use Rattle.ijson_number.proofs.writing.Writing.{left, float_shape_is, more_digits, stored_text, taken}
 use Rattle.ijson_number.proofs.BooleanTests.{le_test, not_le, not_lt}
 
@@ -37,7 +31,7 @@ row_shown negative ds e point k s p below is inside =
     ∙ left (int_le (pos (length ds - k)) (pos 0)) _ _ not_front in
     ap (λ x. minus_text negative ++ x) (split ∙ shape) ∙ stored_text negative ds e point s (omega arith)
 
--- the point stands before all digits, and so few zeros between it and them that no exponent is written
+-- the point is before all digits, with few zeros between, so that the text has no exponent
 pub fraction_shown : (negative : Bool) (ds : List ℕ) (e : ℤ) (point : Bool) (p : ℤ) → IsStripped ds → point ≡ true → 0 < length ds
     → p ≡ pos (length ds) +ℤ e → p ≤ℤ pos 0 → int_le p (negsuc 5) || int_lt (pos 20) e ≡ false
     → minus_text negative ++ (48 ∷ 46 ∷ zeros_text (nat_abs p) ++ digits_text ds) ≡ num_text (stored_number negative ds e point)
@@ -48,12 +42,12 @@ fraction_shown negative ds e point p s is some place front not_scientific =
     pointed ∙ float_shape_is false point ds e p is place not_scientific in
     ap (λ x. minus_text negative ++ x) shape ∙ stored_text negative ds e point s some
 
--- a number whole or not as std writes it, by its sign
+-- the text of a whole number as std writes it, by its sign
 signed_is : (z : ℤ) → integer_text (int_lt z (pos 0)) (nat_abs z) ≡ signed_decimal z
 signed_is (pos n) = rw (not_lt (pos n) (pos 0) (omega (arith, ints))) refl
 signed_is (negsuc n) = refl
 
--- the point stands behind the first digit, and an exponent behind the last
+-- the point is after the first digit, and an exponent after the last
 pub scientific_shown : (negative : Bool) (ds : List ℕ) (e : ℤ) (point : Bool) (p z : ℤ) → IsStripped ds → point ≡ true → 1 < length ds
     → p ≡ pos (length ds) +ℤ e
     → neg_ℤ (pos (2 ^ 70)) <ℤ p → p <ℤ pos (2 ^ 70) → int_le p (negsuc 5) || int_lt (pos 20) e ≡ true → z ≡ p -ℤ pos 1
@@ -68,11 +62,3 @@ scientific_shown negative ds e point p z s is long place low high written power 
     append_assoc (minus_text negative) (first ++ 46 ∷ rest) exponent
     ∙ ap (λ x. minus_text negative ++ x) (append_assoc first (46 ∷ rest) exponent ∙ shape)
     ∙ stored_text negative ds e point s (omega arith)
-
-pub split_ascii : (negative : Bool) (ds : List ℕ) (place : ℕ) → All (λ d. d < 10) ds → IsAscii (split_text negative ds place)
-split_ascii negative ds place h =
-    IsAscii-append (minus_text negative) (digits_text (take place ds) ++ 46 ∷ digits_text (drop place ds)) (sign_ascii negative)
-    (IsAscii-append (digits_text (take place ds)) (46 ∷ digits_text (drop place ds))
-    (digits_text_ascii (take place ds) (All-take (λ d. d < 10) place ds h))
-    (IsAscii-cons 46 (digits_text (drop place ds)) (omega arith)
-    (digits_text_ascii (drop place ds) (All-drop (λ d. d < 10) place ds h))))

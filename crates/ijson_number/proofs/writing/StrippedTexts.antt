@@ -1,4 +1,4 @@
--- The text of stripped digits alone.
+-- The text of canonical digits alone.
 use Rattle.std.proofs.Common.{◌≡◌, ◌≢◌, ℕ, ◌*◌, ◌%◌, ◌^◌, ◌<◌, false, List, [], ◌++◌, length, refl, ap, sym, subst, ◌∙◌, arith}
 use Rattle.std.specs.Prelude.{ℤ, pos, nat_abs, ◌+ℤ◌, Bool, int_lt}
 use Rattle.std.specs.Fmt.{decimal}
@@ -17,7 +17,7 @@ use Rattle.ijson_number.proofs.storing.IntegerWords.{zero_is, some_is, some_stor
 use Rattle.ijson_number.proofs.writing.PaddedDigits.{whole_small}
 use Rattle.ijson_number.proofs.writing.Writing.{decimal_is}
 
--- the digits do not go by the sign, the exponent and the point
+-- the digits do not depend on the sign, the exponent and the fraction point
 pub same_digits : (m e f : ℤ) (point other : Bool)
     → stripped_digits (stripped_number m e point) ≡ stripped_digits (stripped_number (pos (nat_abs m)) f other)
 same_digits m e f point other =
@@ -43,7 +43,7 @@ module _ (magnitude s t : ℕ) (some : magnitude ≢ 0) (word : magnitude < 2 ^ 
   pub exponent_shown : (stripped_number (pos magnitude) e point).exponent ≡ e +ℤ pos t
   exponent_shown = ap (λ (n : Decimal). n.exponent) number_is
 
--- what holds of all digits holds of a part in front, and of those behind it
+-- a fact of all digits holds of the leading part, and of the rest
 module _ (P : ℕ → Type 0) (all front back : List ℕ) (parts : all ≡ front ++ back) (each : All P all) where
   pub front_too : All P front
   front_too = subst (All P) (take_at front back (length front) refl) (All-take P (length front) (front ++ back) (subst (All P) parts each))

@@ -1,5 +1,5 @@
--- The text of a whole number that is kept in one word.
-use Rattle.std.proofs.Common.{◌≡◌, ◌≢◌, ℕ, ◌+◌, ◌-◌, ◌*◌, ◌^◌, ◌<◌, ◌≤◌, Bool, true, false, List, []}
+-- The text of a whole number that is stored in one word.
+use Rattle.std.proofs.Common.{◌≡◌, ◌≢◌, ℕ, ◌+◌, ◌-◌, ◌*◌, ◌/◌, ◌%◌, ◌^◌, ◌<◌, ◌≤◌, Bool, true, false, List, []}
 use Rattle.std.proofs.Common.{◌∷◌, ◌++◌, length, refl, ap, sym, ◌∙◌, arith, inl, inr}
 use Rattle.std.specs.Prelude.{ℤ, pos, negsuc, nat_abs, int_le, int_lt, ◌+ℤ◌, ◌-ℤ◌, ◌||◌, nat_eq, not}
 use Rattle.std.proofs.lemmas.Bool.{cases_lt, or_from}
@@ -32,7 +32,7 @@ module _ (magnitude : ℕ) (some : 0 < magnitude) (small : magnitude < 2 ^ 64) w
   pub count_is : length ds ≡ length (decimal magnitude)
   count_is = sym (length-map {A = ℕ} {B = ℕ} ds (λ d. 48 + d)) ∙ ap (λ (x : List ℕ). length x) text_is
 
-  -- the text where the point stands between the digits or before them
+  -- the text if the point is between the digits or before them
   module _ (k whole fraction : ℕ) (scale : 0 < k) (is : magnitude ≡ whole * 10 ^ k + fraction) (below : fraction < 10 ^ k) (place : ℤ)
       (place_is : place ≡ pos (length ds) -ℤ pos k) where
     before_digits : whole ≡ 0 → point_text ds place ≡ decimal whole ++ 46 ∷ last_digits k fraction
@@ -74,7 +74,7 @@ module _ (magnitude : ℕ) (some : 0 < magnitude) (small : magnitude < 2 ^ 64) w
     pub fraction_is : point_text ds place ≡ decimal whole ++ 46 ∷ last_digits k fraction
     fraction_is = elim (cases_lt 0 whole) [ inl above ↦ between_digits above | inr none ↦ before_digits (omega arith) ]
 
--- a whole number, whose zeros at the end are taken off
+-- a whole number, whose trailing zeros are stripped
 module _ (z : ℤ) (word : nat_abs z < 2 ^ 64) where
   abbrev magnitude : ℕ
   magnitude = nat_abs z
@@ -148,7 +148,7 @@ module _ (z : ℤ) (word : nat_abs z < 2 ^ 64) where
         let one : decimal magnitude ++ 46 ∷ 48 ∷ [] ≡ decimal magnitude ++ 46 ∷ last_digits 1 0 = rw (last_zeros 1) refl in
         stored_is true ∙ ap (λ x. minus_text negative ++ x) (some_float ∙ one)
 
-  -- without the point
+  -- without the fraction point
   pub integer_num_text : num_text (stripped_number z (pos 0) false) ≡ integer_text negative magnitude
   integer_num_text =
       elim (zero_or_not z) [
@@ -156,7 +156,7 @@ module _ (z : ℤ) (word : nat_abs z < 2 ^ 64) where
         | inr some ↦ some_integer some
       ]
 
-  -- with the point
+  -- with the fraction point
   pub whole_num_text : num_text (stripped_number z (pos 0) true) ≡ pointed_text negative magnitude 1 0
   whole_num_text =
       elim (zero_or_not z) [
@@ -164,12 +164,13 @@ module _ (z : ℤ) (word : nat_abs z < 2 ^ 64) where
         | inr some ↦ some_whole some
       ]
 
--- the text that is put together is the number's
-pub whole_shown : (m e s : ℤ) (n : ℕ) → s ≡ m → n ≡ nat_abs m → e ≡ pos 0 → n < 2 ^ 64
-    → minus_text (int_lt s (pos 0)) ++ (decimal n ++ 46 ∷ 48 ∷ []) ≡ num_text (stripped_number m e true)
-whole_shown m e s n sign magnitude none word =
-    let zero : 48 ∷ [] ≡ last_digits 1 0 = sym (last_zeros 1) in
-    rw (zero, sign, magnitude) (sym (whole_num_text m (rw (← magnitude) word))) ∙ ap (λ x. num_text (stripped_number m x true)) (sym none)
+-- the assembled text is the number's
+pub whole_shown : (m e s : ℤ) (n tens : ℕ) → s ≡ m → n ≡ nat_abs m → e ≡ pos 0 → n < 2 ^ 64 → tens ≡ n * 10
+    → pointed_text (int_lt s (pos 0)) (tens / 10 ^ 1) 1 (tens % 10 ^ 1) ≡ num_text (stripped_number m e true)
+whole_shown m e s n tens sign magnitude none word is =
+    let whole : tens / 10 ^ 1 ≡ n = omega arith in
+    let rest : tens % 10 ^ 1 ≡ 0 = omega arith in
+    rw (whole, rest, sign, magnitude, none) (sym (whole_num_text m (rw (← magnitude) word)))
 
 pub integer_shown : (n : Decimal) (z s : ℤ) (magnitude : ℕ) (shown : List ℕ) → n ≡ stripped_number z (pos 0) false → s ≡ z
     → magnitude ≡ nat_abs z → magnitude < 2 ^ 64 → shown ≡ integer_text (int_lt s (pos 0)) magnitude → shown ≡ num_text n
@@ -181,7 +182,7 @@ unsigned_shown n magnitude shown number word is =
     let above : int_lt (pos magnitude) (pos 0) ≡ false = not_lt (pos magnitude) (pos 0) (omega (arith, ints)) in
     is ∙ ap (λ b. integer_text b magnitude) (sym above) ∙ sym (integer_num_text (pos magnitude) word) ∙ ap num_text (sym number)
 
--- a packed number without the point has no exponent
+-- a packed number without the fraction point has no exponent
 pub packed_integer : (bits : ℕ) → word_point bits ≡ false
     → stripped_number (word_mantissa bits) (word_exponent bits) (word_point bits) ≡ stripped_number (word_mantissa bits) (pos 0) false
 packed_integer bits h = rw h

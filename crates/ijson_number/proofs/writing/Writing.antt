@@ -62,7 +62,7 @@ pub left : (b : Bool) (xs ys : List ℕ) → b ≡ false → ys ≡ elim b [ tru
 left true xs ys e = absurd (cc)
 left false xs ys e = refl
 
--- digits with the point, by whether they are written with an exponent
+-- digits with the point, with an exponent or without
 abbrev pub float_shape : Bool → List ℕ → ℤ → List ℕ
 float_shape scientific ds p = elim scientific [ true ↦ scientific_text ds p | false ↦ point_text ds p ]
 
@@ -78,7 +78,7 @@ below_zero false v h = grind (arith, nat_tests)
 pub not_zero : (v : ℕ) → 0 < v → nat_eq v 0 ≡ false
 not_zero v h = grind arith
 
--- the text of the stored number that isn't zero
+-- the text of a stored number that is not zero
 pub stored_text : (negative : Bool) (ds : List ℕ) (e : ℤ) (point : Bool) → IsStripped ds → 0 < length ds
     → minus_text negative ++ shape_text point ds e ≡ num_text (stored_number negative ds e point)
 stored_text negative ds e point s h =
@@ -90,7 +90,7 @@ stored_text negative ds e point s h =
     ∙ left (nat_eq (nat_abs m) 0) (zero_text point)
     (minus_text (int_lt m (pos 0)) ++ shape_text point (stripped_digits (stored_number negative ds e point)) e) a
 
--- a minus or none, and the digits behind it, where they stand for the number
+-- a minus or none, and the digits after it, if they are those of the number
 pub shown_text : (n : Decimal) (minus negative : Bool) (ds : List ℕ) (e bits : ℤ) (point : Bool) → stored_number negative ds e point ≡ n
     → bits ≡ e → IsStripped ds → 0 < length ds → negative ≡ minus → minus_text minus ++ shape_text point ds bits ≡ num_text n
 shown_text n minus negative ds e bits point is exact s h sign = rw (← sign, exact, ← is) (stored_text negative ds e point s h)

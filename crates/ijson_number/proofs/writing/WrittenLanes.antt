@@ -1,4 +1,4 @@
--- Sixteen digits that are written at once: made by lanes, moved to the front, and without the zeros before them.
+-- Sixteen digits that are written by one vector: computed in lanes, moved to the start, and without leading zeros.
 use Rattle.std.proofs.Common.{◌≡◌, ℕ, zero, suc, ◌+◌, ◌-◌, ◌*◌, ◌/◌, ◌%◌, ◌^◌, ◌<◌, ◌≤◌, Bool, true, false, not}
 use Rattle.std.proofs.Common.{cond, eqb, min, get_or, replicate, take, drop, List, [], ◌∷◌, ◌++◌, map, length}
 use Rattle.std.proofs.Common.{length-append, length-drop, refl, sym, ap, ◌∙◌, inl, inr, arith, append_assoc}
@@ -91,7 +91,7 @@ row_text_is n h =
       top,
     ) refl)
 
--- ---- the zeros in front
+-- ---- leading zeros
 
 abbrev differs : ℕ → ℕ → Bool
 differs a b = not (eqb a b)
@@ -135,7 +135,7 @@ module _ (lanes : List ℕ) (long : length lanes ≡ 16) where
   unfolding count_trailing_zeros
   all_bits = refl
 
-  -- the lowest bit is that of the first byte that is no zero
+  -- the lowest set bit is that of the first byte that is no zero
   pub zeros_counted : (n : ℕ) → n ≡ min (count_trailing_zeros 64 bits) 15 → IsZerosInFront lanes n
   zeros_counted n is = elim (cases_eq (mask_l (map (λ b. differs b 48) lanes)) 0) [
     | inl none ↦ zeros_of n (let all = leading_from_mask_l (λ b. differs b 48) lanes none in rw (bits_are, none, all_bits) at is
@@ -143,9 +143,9 @@ module _ (lanes : List ℕ) (long : length lanes ≡ 16) where
     | inr some ↦ zeros_of n (rw (bits_are, trailing_mask_l (λ b. differs b 48) 64 lanes (omega arith) (omega arith)) at is)
   ]
 
--- ---- what is appended and cut off again
+-- ---- bytes that are appended and truncated
 
--- of an appended text in ASCII some bytes stay
+-- some bytes of an appended ASCII text are kept
 module _ (old added : List ℕ) (ascii : IsAscii added) (count end : ℕ) (few : count ≤ length added) (is : end ≡ length old + count) where
   pub cut_point : IsSplitPoint (old ++ added) end
   cut_point = (
@@ -163,31 +163,31 @@ pub zeros_ascii : (n : ℕ) → IsAscii (replicate n 0)
 zeros_ascii zero = IsAscii-nil
 zeros_ascii (suc n) = IsAscii-cons 0 (replicate n 0) (omega arith) (zeros_ascii n)
 
--- the lanes of a row from a start on, with zeros behind them
+-- bytes that begin with a text
+pub record IsFront (bytes : List ℕ) (count : ℕ) (text : List ℕ) : Type 0 where
+  pub ascii : IsAscii bytes
+  pub within : count ≤ length bytes
+  pub shown : take count bytes ≡ text
+
+-- the lanes from `start` on, before zeros
 module _ (lanes : List ℕ) (long : length lanes ≡ 16) (start count : ℕ) (within : start + count ≤ 16)
     (ascii : IsAscii (drop start lanes)) where
-  abbrev pub front : List ℕ
-  front = drop start lanes ++ replicate start 0
-
-  pub front_ascii : IsAscii front
-  front_ascii = IsAscii-append (drop start lanes) (replicate start 0) ascii (zeros_ascii start)
-
-  pub front_all : length front ≡ 16
+  pub front_all : length (drop start lanes ++ replicate start 0) ≡ 16
   front_all = omega (
     arith,
-    length-append (drop start lanes)
-        (replicate start 0),
+    length-append (drop start lanes) (replicate start 0),
     length-drop start lanes,
     length-replicate {A = ℕ} start 0,
   )
 
-  pub front_long : count ≤ length front
-  front_long = omega (arith, front_all)
+  pub front_is : IsFront (drop start lanes ++ replicate start 0) count (take count (drop start lanes))
+  front_is = record {
+    ascii = IsAscii-append (drop start lanes) (replicate start 0) ascii (zeros_ascii start);
+    within = omega (arith, front_all);
+    shown = take-append-le count (drop start lanes) (replicate start 0) (omega (arith, length-drop start lanes));
+  }
 
-  pub front_taken : take count front ≡ take count (drop start lanes)
-  front_taken = take-append-le count (drop start lanes) (replicate start 0) (omega (arith, length-drop start lanes))
-
--- ---- a minus in the place of a zero
+-- ---- a minus instead of a zero
 
 abbrev pub less : ℕ → ℕ → ℕ
 less a b = (a + (2 ^ 8 - b)) % 2 ^ 8
@@ -198,7 +198,7 @@ less_nothing (b ∷ bs) zero long h = absurd (omega arith)
 less_nothing (b ∷ bs) (suc n) long h =
     let first : less b 0 ≡ b = omega (arith, h.0) in let rest = less_nothing bs n (omega arith) h.1 in λ i. first i ∷ rest i
 
--- a row from a start on, at the front behind the minus, if there is one
+-- the lanes from `start` on, moved to the start and after the minus, if there is one
 module _ (lanes : List ℕ) (long : length lanes ≡ 16) (ascii : IsAscii lanes) (start : ℕ) (some : (0 < start) × (start ≤ 16))
     (zero_before : get_or lanes (start - 1) 0 ≡ 48) where
   abbrev behind : ℕ → List ℕ

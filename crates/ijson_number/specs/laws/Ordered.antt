@@ -78,7 +78,7 @@ lower n c d h g =
     ∙ ap (λ k. n.mantissa *ℤ pos k) (pow-add 10 (nat_abs (n.exponent -ℤ c)) (nat_abs (c -ℤ d)))
     ∙ times n.mantissa (10 ^ nat_abs (n.exponent -ℤ c)) (10 ^ nat_abs (c -ℤ d))
 
--- any exponent that is no greater than both serves
+-- the order is the same at any exponent that is at most both
 pub rescale : (a b : Decimal) (d : ℤ) → d ≤ℤ a.exponent → d ≤ℤ b.exponent
     → number_cmp a b ≡ int_cmp (at_exponent d a) (at_exponent d b)
 rescale a b d h g =
@@ -133,7 +133,7 @@ number_cmp_total = record {
 pub number_eq_equiv : IsEquivalence number_eq
 number_eq_equiv = eq_by_cmp_equiv number_cmp_total
 
--- the test says Equal
+-- the test returns Equal
 pub tests_equal : (o : Ordering) → is_eq o ≡ true → o ≡ Equal
 tests_equal Less h = absurd (cc)
 tests_equal Equal h = refl
@@ -177,7 +177,7 @@ same_equal a b p q =
     ap₂ (λ (m e : ℤ). number_cmp a (record { mantissa = m; exponent = e; point = b.point })) (sym p) (sym q)
     ∙ tied_itself number_cmp_total a
 
--- equal numbers feed a hasher the same
+-- equal numbers feed a hasher the same words
 pub equal_feed : (a b : Num) → number_eq a.decimal b.decimal ≡ true
     → flat_map fed.u64 (number_words a.decimal) ≡ flat_map fed.u64 (number_words b.decimal)
 equal_feed a b h = ap (flat_map fed.u64) (equal_words a.decimal b.decimal a.is_num.plain b.is_num.plain (tests_equal _ h))

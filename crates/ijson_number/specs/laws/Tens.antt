@@ -1,4 +1,4 @@
--- Taking tens out of a whole number leaves one number.
+-- Stripping the trailing zeros of a whole number has one result.
 use Rattle.std.proofs.Common.{◌≡◌, ◌≢◌, ◌⊎◌, ℕ, zero, suc, ◌+◌, ◌-◌, ◌*◌, ◌%◌, ◌^◌, ◌<◌, ◌≤◌, pow-add}
 use Rattle.std.proofs.Common.{Bool, true, false, refl, ap, sym, ◌∙◌, inl, inr, arith}
 use Rattle.std.specs.Prelude.{ℤ, pos, negsuc, neg_ℤ, nat_abs, ◌*ℤ◌, ◌+ℤ◌}
@@ -32,7 +32,7 @@ one_less a b j k e =
     let f : a * (10 * 10 ^ j) ≡ b * (10 * 10 ^ k) = rw (pow-succ' 10 j, pow-succ' 10 k) at e in
     omega arith
 
--- ten divides neither, so the tens are as many
+-- ten divides neither, so the exponents are equal
 nat_tens : (a b j k : ℕ) → (a ≢ 0 → a % 10 ≢ 0) → (b ≢ 0 → b % 10 ≢ 0) → a * 10 ^ j ≡ b * 10 ^ k
     → (a ≡ b) × (a ≢ 0 → j ≡ k)
 nat_tens a b zero zero p q e = (omega arith, λ _. refl)
@@ -106,7 +106,7 @@ strips_apart m e n n' j k g h p q x y =
       ],
     )
 
--- taking the tens out gives one number
+-- stripping trailing zeros has one result
 pub strips_one : (m e : ℤ) (n n' : Decimal) → Strips m e n → Strips m e n'
     → (n.mantissa ≡ n'.mantissa) × (n.exponent ≡ n'.exponent)
 strips_one m e n n' s t =

@@ -1,4 +1,4 @@
--- The order of the sizes of two numbers, without their signs.
+-- The order of the absolute values of two numbers.
 use Rattle.std.specs.Prelude.{false, true}
 use Rattle.std.specs.declared.cmp.Ordering.{Ordering}
 use Rattle.ijson_number.specs.Decimal.{Decimal}

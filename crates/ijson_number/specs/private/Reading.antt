@@ -1,4 +1,4 @@
--- What the steps of the reader promise.
+-- The postconditions of the reader's steps.
 use Rattle.std.specs.Prelude.{true, false, ◌≡◌, ◌≢◌, ◌<◌, ◌-◌, length, slice_index, ◌⊎◌, ◌||◌, ℕ, ℤ}
 use Rattle.std.specs.Prelude.{Bool, List, [], ◌∷◌, ◌++◌, pos, neg_ℤ, ◌≤ℤ◌, ◌+ℤ◌, ◌-ℤ◌}
 use Rattle.ijson_number.specs.Num.{exponent_limit}
@@ -8,24 +8,24 @@ use Rattle.ijson_number.specs.Grammar.{IsDigit, IsFraction, IsExponent}
 abbrev pub IsWithin : ℤ → Type 0
 IsWithin e = (neg_ℤ exponent_limit ≤ℤ e) × (e ≤ℤ exponent_limit)
 
--- the exponent after some tens are taken out: the written one less the count of fraction digits, and those tens
+-- the exponent after `tens` zeros are stripped: the written one minus the number of fraction digits, plus `tens`
 abbrev pub exponent_of : (written : ℤ) → (fraction tens : ℕ) → ℤ
 exponent_of written fraction tens = (written -ℤ pos fraction) +ℤ pos tens
 
--- the text is at its end, or goes on with something else than a digit
+-- the text ends, or continues with no digit
 abbrev pub BeginsWithNoDigit : List ℕ → Type 0
 BeginsWithNoDigit [] = Unit {0}
 BeginsWithNoDigit (b ∷ bs) = IsDigit b → ⊥
 
--- no '0' in front
+-- no leading '0'
 abbrev pub BeginsWithNoZero : List ℕ → Type 0
 BeginsWithNoZero bs = 0 < length bs → slice_index bs 0 ≢ 48
 
--- no '0' at the end
+-- no trailing '0'
 abbrev pub EndsWithNoZero : List ℕ → Type 0
 EndsWithNoZero bs = 0 < length bs → slice_index bs (length bs - 1) ≢ 48
 
--- what follows the whole part
+-- the part after the whole digits
 pub record IsTail (text fraction : List ℕ) (exponent : ℤ) (point : Bool) : Type 0 where
   pub fraction_text : List ℕ
   pub exponent_text : List ℕ
@@ -36,13 +36,13 @@ pub record IsTail (text fraction : List ℕ) (exponent : ℤ) (point : Bool) : T
   pub exponent_is : IsExponent exponent_text exponent has_exponent
   pub point_is : point ≡ has_point || has_exponent
 
--- a sign taken off the front
+-- a leading sign is split off
 abbrev pub IsSignTaken : (text : List ℕ) → (negative : Bool) → (rest : List ℕ) → Type 0
 IsSignTaken text negative rest =
     (text ≡ 45 ∷ rest × negative ≡ true)
     ⊎ (text ≡ rest × negative ≡ false × (0 < length text → slice_index text 0 ≢ 45))
 
--- a sign taken off the front of an exponent
+-- a leading sign of an exponent is split off
 abbrev pub IsExponentSignTaken : (text : List ℕ) → (negative : Bool) → (rest : List ℕ) → Type 0
 IsExponentSignTaken text negative rest =
     (text ≡ 45 ∷ rest × negative ≡ true)

@@ -1,4 +1,4 @@
--- Which numbers are written by rows of 16 digits, and which in a buffer, with no formatter.
+-- The numbers that are written by vectors of 16 digits, without a formatter.
 use Rattle.std.specs.Prelude.{◌≡◌, ℕ, ◌+◌, ◌<◌, ◌≤◌, length, ℤ, pos, negsuc, nat_abs, neg_ℤ, int_le, int_lt, ◌+ℤ◌, ◌<ℤ◌, ◌≤ℤ◌}
 use Rattle.std.specs.Prelude.{◌||◌, true, false, ◌⊎◌, FitsSigned}
 use mir.Syntax.{w16}
@@ -6,34 +6,31 @@ use Rattle.ijson_number.specs.Decimal.{Decimal}
 use Rattle.ijson_number.specs.Form.{form_of, is_digits, packed}
 use Rattle.ijson_number.specs.StrippedDigits.{stripped_digits}
 
--- the point stands between two of so many digits, of which a row has those before it, and a row those behind it
+-- the point is between two of `count` digits
 pub record IsSplit (count : ℕ) (e : ℤ) : Type 0 where
   pub below_zero : e <ℤ pos 0
   pub between : nat_abs e < count
-  pub behind : nat_abs e ≤ 16
-  pub before : count ≤ nat_abs e + 16
 
--- the point stands before all of them
+-- the point is before all of them
 pub record IsBelowOne (count : ℕ) (e : ℤ) : Type 0 where
   pub below_zero : e <ℤ pos 0
   pub before_all : count ≤ nat_abs e
   pub no_exponent : nat_abs e ≤ count + 5
 
--- an exponent stands behind two of them to 17
+-- an exponent follows two or more of them
 pub record IsScientific (count : ℕ) (e : ℤ) : Type 0 where
   pub exponent : (int_le (pos count +ℤ e) (negsuc 5) || int_lt (pos 20) e) ≡ true
   pub some : 1 < count
-  pub few : count ≤ 17
 
 abbrev pub IsInRows : ℕ → ℤ → Type 0
 IsInRows count e = IsSplit count e ⊎ IsBelowOne count e ⊎ IsScientific count e
 
--- an integer that a word holds
+-- an integer that fits a word
 pub record IsWordInteger (n : Decimal) : Type 0 where
   pub in_word : is_digits (form_of n) ≡ false
   pub integer : n.point ≡ false
 
--- a packed number with the point, whose text has no exponent, and no zeros behind the digits but one behind the point
+-- a packed number with the fraction point, whose text has no exponent, and no zeros between its digits and the point
 pub record IsPackedPointed (n : Decimal) : Type 0 where
   pub mantissa : ℤ
   pub exponent : ℤ
@@ -51,10 +48,3 @@ pub record IsShortInRows (n : Decimal) : Type 0 where
 
 abbrev pub IsRowText : Decimal → Type 0
 IsRowText n = IsWordInteger n ⊎ IsPackedPointed n ⊎ IsShortInRows n
-
--- the point stands between two digits, and a buffer has room for all of them
-pub record IsBufferText (n : Decimal) : Type 0 where
-  pub pointed : n.point ≡ true
-  pub below_zero : n.exponent <ℤ pos 0
-  pub between : nat_abs n.exponent < length (stripped_digits n)
-  pub few : length (stripped_digits n) ≤ 20

@@ -1,4 +1,4 @@
--- The digits at the end of their room.
+-- The digits at the end of their buffer.
 use Rattle.std.specs.Prelude.{ℕ, ◌-◌, List, drop}
 use Rattle.ijson_number.specs.declared.repr.digits.ShortDigits.{ShortDigits}
 

@@ -2,7 +2,7 @@
 use Rattle.std.specs.Prelude.{ℕ, Bool, List, ◌∷◌, ◌++◌, take, drop}
 use Rattle.ijson_number.specs.Text.{digits_text, minus_text}
 
--- so many digits stand before the point
+-- the point is after `place` digits
 abbrev pub split_text : (negative : Bool) → (digits : List ℕ) → (place : ℕ) → List ℕ
 split_text negative digits place =
     minus_text negative ++ (digits_text (take place digits) ++ 46 ∷ digits_text (drop place digits))

@@ -1,4 +1,4 @@
--- What is stored of a number.
+-- The representation of a number.
 use Rattle.std.specs.Prelude.{◌≡◌, ◌↔◌, ⊤}
 use Rattle.ijson_number.specs.Decimal.{Decimal}
 use Rattle.ijson_number.specs.Form.{FormOf, packed, signed_word, unsigned_word, digits, form_of}
@@ -26,7 +26,7 @@ stored_form (Long number) = long_form number.value
 abbrev pub stored_decimal : Stored → Decimal
 stored_decimal stored = form_number (stored_form stored)
 
--- what is stored is the form of the number
+-- the representation is the form of its number
 abbrev pub IsForm : Stored → Type 0
 IsForm stored = form_of (stored_decimal stored) ≡ stored_form stored
 
@@ -38,12 +38,12 @@ IsShort (Packed word) = ⊥
 IsShort (I64 value) = ⊥
 IsShort (U64 value) = ⊥
 
--- a copy has the form of the other, and is stored as few digits exactly where the other is
+-- a copy has the form of the original, and is a block if and only if the original is
 pub record IsCopy (stored copy : Stored) : Type 0 where
   pub form : stored_form copy ≡ stored_form stored
   pub short : IsShort stored ↔ IsShort copy
 
--- its digits are a list
+-- its form is a list of digits
 abbrev pub IsList : Stored → Type 0
 IsList (Short number) = ⊤
 IsList (Long number) = ⊤

@@ -1,4 +1,4 @@
--- Digits without zeros at the ends.
+-- Digits without leading and trailing zeros.
 use Rattle.std.specs.Prelude.{◌≢◌, ◌<◌, ◌-◌, ℕ, List, map, length, slice_index}
 use Rattle.std.specs.List.{All}
 
@@ -8,6 +8,6 @@ pub record IsStripped (ds : List ℕ) : Type 0 where
   pub first : 0 < length ds → slice_index ds 0 ≢ 0
   pub last : 0 < length ds → slice_index ds (length ds - 1) ≢ 0
 
--- what the bytes '0' to '9' stand for
+-- the values of the bytes '0' to '9'
 abbrev pub digits_from_text : List ℕ → List ℕ
 digits_from_text bs = map (λ b. b - 48) bs

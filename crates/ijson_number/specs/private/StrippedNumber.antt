@@ -1,4 +1,4 @@
--- A number by its stripped digits.
+-- A number by its canonical digits.
 use Rattle.ijson_number.specs.Decimal.{Decimal}
 use Rattle.ijson_number.specs.Num.{Num}
 use Rattle.ijson_number.specs.StoredNumber.{stored_number}
@@ -7,6 +7,6 @@ use Rattle.ijson_number.specs.declared.repr.stripped.StrippedNumber.{StrippedNum
 abbrev pub decimal_of : StrippedNumber → Decimal
 decimal_of n = stored_number n.negative n.digits.now n.exponent n.point
 
--- and with the proof that it is one
+-- with the proof that it is a Num
 abbrev pub stripped_num : StrippedNumber → Num
 stripped_num n = record { decimal = decimal_of n; is_num = n.num }

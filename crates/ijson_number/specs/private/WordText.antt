@@ -1,9 +1,9 @@
--- The text of a number that is kept in one word, put together from its sign, its whole part and its fraction.
+-- The text of a number that is stored in one word, assembled from its sign, its whole part and its fraction.
 use Rattle.std.specs.Prelude.{ℕ, zero, suc, ◌+◌, ◌/◌, ◌%◌, Bool, List, [], ◌∷◌, ◌++◌}
 use Rattle.std.specs.Fmt.{decimal}
 use Rattle.ijson_number.specs.Text.{minus_text}
 
--- so many last digits of a number, with zeros in front where it has fewer
+-- the last `count` digits of a number, with leading zeros if it has fewer
 unfoldable pub last_digits : (count n : ℕ) → List ℕ
 last_digits zero n = []
 last_digits (suc count) n = last_digits count (n / 10) ++ (48 + n % 10) ∷ []

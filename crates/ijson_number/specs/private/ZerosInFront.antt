@@ -1,4 +1,4 @@
--- The zeros in front of the digits in lanes, of which the last one always counts.
+-- The number of leading '0' lanes, not counting the last lane.
 use Rattle.std.specs.Prelude.{◌≡◌, ◌≢◌, ℕ, ◌<◌, ◌≤◌, List, get_or, replicate, take}
 
 pub record IsZerosInFront (lanes : List ℕ) (count : ℕ) : Type 0 where

@@ -1,4 +1,4 @@
-//! Copies of a number.
+//! Copies a number.
 ghost use Rattle.std.specs.Prelude.{◌≡◌, false};
 ghost use Rattle.ijson_number.specs.Form.{form_of, is_digits};
 
@@ -46,13 +46,13 @@ impl Clone for Stored {
     }
 }
 
-/// The same number in the same shape.
+/// Copies the number with its fraction point.
 impl Clone for INumber {
     ghost is_clone = { λ n copy. copy ≡ n };
 
     ghost is_infallible = { λ n. is_digits (form_of n.decimal) ≡ false };
 
-    /// Only where the stored form is a list of digits does it take memory, and time linear in the digits.
+    /// It allocates, and takes time linear in the digits, only if the form is a list of digits.
     fn clone(&self) -> Result<INumber, AllocError> {
         let stored = self.stored.clone()?;
         Ok(INumber { stored })

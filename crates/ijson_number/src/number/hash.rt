@@ -1,4 +1,4 @@
-//! What a number feeds a hasher.
+//! Feeds a number to a hasher.
 ghost use Rattle.std.specs.List.{flat_map};
 ghost use Rattle.std.specs.Hash as fed;
 ghost use Rattle.ijson_number.specs.laws.Ordered.{equal_feed};
@@ -8,12 +8,13 @@ use crate::number::INumber;
 use crate::repr::digits::MAX_DIGITS;
 use std::hash::{Hash, Hasher};
 
-/// What is added to an exponent, so that an unsigned word has it.
+/// Added to an exponent, so that it fits an unsigned word.
 const EXPONENT_BIAS: i64 = 1 << 31;
 
-/// Equal numbers feed the same words, and each word is one `write_u64`: 2, and 0 for zero; for another number 2, the
-/// sign (1 above zero, 2 below), the stripped exponent above -2^31, the count of stripped digits and each of these. It takes
-/// time linear in the stripped digits, and no memory.
+/// Feeds the same words for equal numbers, each by one `write_u64`.
+///
+/// Zero feeds 2 and 0. Any other number feeds 2, the sign (1 if positive, 2 if negative), the canonical exponent plus 2^31, the number of
+/// canonical digits, and each of them. Takes time linear in those digits, and does not allocate.
 impl Hash for INumber {
     ghost hash_input = { λ n. flat_map fed.u64 (number_words n.decimal) };
 

@@ -1,4 +1,4 @@
-//! Equality and order by exact value.
+//! Equality and order by value.
 ghost use Rattle.std.specs.Prelude.{Some, refl};
 ghost use Rattle.std.specs.Cmp.{partial_equiv_from_equiv, on_equiv, on_total, po};
 ghost use Rattle.ijson_number.specs.Order.{number_cmp, number_eq};
@@ -10,8 +10,9 @@ use crate::number::INumber;
 use crate::repr::digits::MAX_DIGITS;
 use std::cmp::Ordering;
 
-/// Two numbers are equal where their values are, whether or not they were written with a point. It takes no memory, and looks
-/// at each digit once at most.
+/// Two numbers are equal if their values are; the fraction point is ignored.
+///
+/// It does not allocate, and reads each digit at most once.
 impl PartialEq for INumber {
     ghost eq = { λ a b. number_eq a.decimal b.decimal };
 
@@ -36,7 +37,7 @@ impl Eq for INumber {
     ghost laws = { on_equiv (λ n. n.decimal) number_eq_equiv };
 }
 
-/// As `cmp`: any two numbers are ordered.
+/// As `cmp`: the order is total.
 impl PartialOrd for INumber {
     ghost partial_cmp = { λ a b. Some (number_cmp a.decimal b.decimal) };
 
@@ -47,8 +48,10 @@ impl PartialOrd for INumber {
     }
 }
 
-/// By exact value; the point isn't looked at. It takes no memory and writes no exponent out. Digits are read only
-/// where signs and leading places are the same, and then at most twice as many as the number with fewer has.
+/// Orders numbers by value; the fraction point is ignored.
+///
+/// It does not allocate, and writes no exponent out as zeros. It reads digits only if the signs and the leading places are equal, and
+/// then at most two for each digit of the number with fewer.
 impl Ord for INumber {
     ghost cmp = { λ a b. number_cmp a.decimal b.decimal };
 

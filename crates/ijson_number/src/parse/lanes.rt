@@ -1,4 +1,4 @@
-//! The digits at the front of 16 bytes, read all at once.
+//! Reads up to 16 leading digits as one vector.
 ghost use Rattle.std.specs.Prelude.{◌≡◌, ◌^◌, ◌≤◌, length, take};
 ghost use Rattle.std.specs.Int.Digits.{AllBelowBase, number_from_digits};
 ghost use Rattle.ijson_number.specs.Grammar.{AllDigits, value};
@@ -6,22 +6,22 @@ ghost use Rattle.ijson_number.specs.private.PrefixDigits.{IsCount};
 
 use std::simd::prelude::*;
 
-/// How many bytes are read at once.
+/// The number of bytes in a vector.
 pub const LANES: usize = 16;
 
-/// From place `n` on: the positions by which the first n lanes of a vector come to its end, with zeros before them.
+/// From index `n` on: the indices that move the first `n` lanes to the end of a vector, after zeros.
 static BACK: [u8; 2 * LANES] = [
     128, 128, 128, 128, 128, 128, 128, 128, 128, 128, 128, 128, 128, 128, 128, 128, 0, 1, 2, 3, 4,
     5, 6, 7, 8, 9, 10, 11, 12, 13, 14, 15,
 ];
 
-/// What each of four digits counts in hundreds.
+/// The weight of each of four digits in hundreds.
 const HUNDREDS: [u8; LANES] = [10, 1, 0, 0, 10, 1, 0, 0, 10, 1, 0, 0, 10, 1, 0, 0];
 
-/// What each of four digits counts beside the hundreds.
+/// The weight of each of four digits below the hundreds.
 const UNITS: [u8; LANES] = [0, 0, 10, 1, 0, 0, 10, 1, 0, 0, 10, 1, 0, 0, 10, 1];
 
-/// Ten to each count of digits.
+/// The powers of ten by their exponent.
 static POWERS: [u64; LANES + 1] = [
     1,
     10,
@@ -42,7 +42,7 @@ static POWERS: [u64; LANES + 1] = [
     10_000_000_000_000_000,
 ];
 
-/// Ten to a count of digits.
+/// Returns `10^count`.
 #[inline(always)]
 pub fn power_of_ten(count: usize) -> u64
     requires { count ≤ 16 }
@@ -51,7 +51,7 @@ pub fn power_of_ten(count: usize) -> u64
     POWERS[count]
 }
 
-/// How many bytes at the front are digits.
+/// Returns the number of leading digits.
 #[inline(always)]
 pub fn digit_count(bytes: u8x16) -> usize
     requires { length bytes ≡ 16 }
@@ -65,7 +65,7 @@ pub fn digit_count(bytes: u8x16) -> usize
     others.trailing_zeros() as usize
 }
 
-/// The number that 16 digits make.
+/// Returns the value of 16 digits.
 #[inline(always)]
 fn number_of_lanes(digits: u8x16) -> u64
     requires all { length digits ≡ 16 }
@@ -80,7 +80,7 @@ fn number_of_lanes(digits: u8x16) -> u64
     front * 100_000_000 + back
 }
 
-/// The number that the first bytes make, so many, which are digits.
+/// Returns the value of the first `count` bytes, all of them digits.
 #[inline(always)]
 pub fn number_of(bytes: u8x16, count: usize) -> u64
     requires all { length bytes ≡ 16 }
@@ -89,6 +89,6 @@ pub fn number_of(bytes: u8x16, count: usize) -> u64
     ensures { result ≡ value (take count bytes) }
 {
     let digits = bytes - u8x16::splat(b'0');
-    // they come to the end, with zeros before them
+    // moved to the end, after zeros
     number_of_lanes(digits.swizzle_dyn(u8x16::from_slice(&BACK[count..])))
 }

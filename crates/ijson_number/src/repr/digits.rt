@@ -1,4 +1,4 @@
-//! The digits that a number keeps.
+//! The digits that a number stores.
 ghost use Rattle.std.specs.Prelude.{◌≡◌, ◌<◌, ◌≤◌, ◌+◌, ◌-◌, ◌++◌, drop, length, IfSome, IfNone, OnOk};
 ghost use Rattle.ijson_number.specs.Grammar.{AllDigits};
 ghost use Rattle.ijson_number.specs.private.Stripped.{digits_from_text};
@@ -7,22 +7,23 @@ ghost use Rattle.std.specs.Int.Digits.{digits_of, number_from_digits};
 ghost use mir.Syntax.{w128};
 ghost use Rattle.std.specs.List.{All};
 ghost use Rattle.ijson_number.specs.Text.{digits_text};
-ghost use Rattle.arrayvec.specs.ArrayVec.{array_vec_len};
 
 use crate::parse::lanes::LANES;
 use crate::write::lanes::{LANES_END, lanes_of, zeros_in_front};
-use arrayvec::ArrayVec;
 use itoa::write_digits;
 use std::alloc::AllocError;
 use std::simd::prelude::*;
 
-/// How many digits a word holds, whatever they are.
+/// The number of decimal digits that always fit a `u64`.
 pub const WORD_DIGITS: usize = 19;
 
-/// The most digits that a word holds.
+/// One past the largest number of `WORD_DIGITS` digits.
+pub const DIGITS_END: u64 = 10_000_000_000_000_000_000;
+
+/// The maximum number of decimal digits of a `u64`.
 pub const MAX_DIGITS: usize = 20;
 
-/// Makes digits of all of a text at once, and 0 of what stands in front of them.
+/// Converts the bytes of a text from ASCII digits to their values; bytes below `'0'` become 0.
 #[inline(always)]
 pub fn make_digits(text: &[u8], buffer: &mut [u8])
     requires { length buffer.old ≡ length text.now }
@@ -33,7 +34,7 @@ pub fn make_digits(text: &[u8], buffer: &mut [u8])
     }
 }
 
-/// At most 19 digits, at the end of their buffer, which has 0 before them.
+/// Up to 19 digits, at the end of their buffer, after zeros.
 #[derive(Clone, Copy, Drop)]
 pub struct ShortDigits {
     count: u8,
@@ -44,25 +45,9 @@ pub struct ShortDigits {
 impl ShortDigits {
     ghost use Rattle.ijson_number.specs.private.ShortDigits.{short_digits};
 
-    /// The same digits, where they are so few.
-    pub fn new(digits: &[u8]) -> Option<ShortDigits>
-        ensures same { IfSome result (λ d. short_digits d ≡ digits.now) }
-        ensures none { IfNone result (19 < length digits.now) }
-    {
-        let count = digits.len();
-        if count > WORD_DIGITS {
-            return None;
-        }
-        let mut buffer = [0; WORD_DIGITS];
-        buffer[WORD_DIGITS - count..].copy_from_slice(digits);
-        Some(ShortDigits {
-            count: count as u8,
-            buffer,
-        })
-    }
-
-    /// The digits of a number that isn't zero. Each way has a buffer of its own: one for both would be written to memory in parts and read
-    /// back at once, for which a processor waits.
+    /// Returns the digits of a number that is not zero.
+    ///
+    /// Each path has a buffer of its own: a shared one would be written to memory in parts and read back, which stalls the processor.
     #[inline(always)]
     pub fn of_number(number: u64) -> ShortDigits
         requires some { 0 < number }
@@ -75,7 +60,7 @@ impl ShortDigits {
         ShortDigits::of_wide(number)
     }
 
-    /// The digits of a number that isn't zero and has no more than a row.
+    /// Returns the digits of a number of at most 16 digits that is not zero.
     #[inline(always)]
     fn of_row(number: u64) -> ShortDigits
         requires some { 0 < number }
@@ -91,7 +76,7 @@ impl ShortDigits {
         }
     }
 
-    /// The digits of a number that has one to three more than a row.
+    /// Returns the digits of a number of 17 to 19 digits.
     #[inline(always)]
     fn of_wide(number: u64) -> ShortDigits
         requires wide { 10 ^ 16 ≤ number }
@@ -111,7 +96,7 @@ impl ShortDigits {
         }
     }
 
-    /// The text of the last 16 digits, which has the whole where there are no more.
+    /// Returns the text of the last 16 digits, which ends with all digits if there are no more.
     #[inline(always)]
     pub fn lanes(&self) -> u8x16
         ensures all { length result ≡ 16 }
@@ -121,28 +106,17 @@ impl ShortDigits {
         u8x16::from_slice(&self.buffer[WORD_DIGITS - LANES..]) + u8x16::splat(b'0')
     }
 
-    /// The digits.
+    /// Returns the digits.
     pub fn as_slice(&self) -> &[u8]
-        ensures { result.now ≡ short_digits self.now }
+        ensures digits { result.now ≡ short_digits self.now }
+        ensures few { length result.now ≤ 19 }
     {
         &self.buffer[WORD_DIGITS - self.count as usize..]
     }
 }
 
-/// Appends the digits that a text has.
-pub fn push_in_place(digits: &mut ArrayVec<u8, MAX_DIGITS>, text: &[u8])
-    requires digits { AllDigits text.now }
-    requires buffer { array_vec_len digits.old + length text.now ≤ 20 }
-    ensures items { digits.new.items ≡ digits.old.items ++ digits_from_text text.now }
-    ensures len { array_vec_len digits.new ≡ array_vec_len digits.old + length text.now }
-{
-    for byte in text {
-        digits.push(*byte - b'0');
-    }
-}
-
-/// The same to a list, which has memory of its own.
-pub fn push_apart(digits: &mut Vec<u8>, text: &[u8]) -> Result<(), AllocError>
+/// Appends the values of the digits of a text.
+pub fn push_values(digits: &mut Vec<u8>, text: &[u8]) -> Result<(), AllocError>
     requires { AllDigits text.now }
     ensures { OnOk result (digits.new.items ≡ digits.old.items ++ digits_from_text text.now) }
 {
@@ -152,7 +126,7 @@ pub fn push_apart(digits: &mut Vec<u8>, text: &[u8]) -> Result<(), AllocError>
     Ok(())
 }
 
-/// Where the point stands, counted from the front of the digits.
+/// Returns the position of the decimal point after the start of the digits.
 pub fn place_of(digits: &[u8], exponent: i32) -> i128
     ensures value { result ≡ pos (length digits.now) +ℤ exponent }
     ensures low { neg_ℤ (pos (2 ^ 70)) <ℤ result }
@@ -162,8 +136,9 @@ pub fn place_of(digits: &[u8], exponent: i32) -> i128
     digits.len() as i128 + exponent as i128
 }
 
-/// A magnitude with the zeros taken off its end, but at most so many, and how many more might have been taken off. Where there are so
-/// many places behind the point, those are the places that are left.
+/// Strips up to `scale` trailing zeros; returns the result, and `scale` minus their number.
+///
+/// If `scale` is the number of fraction digits, that is the number of those left.
 pub fn without_zeros(magnitude: u64, scale: usize) -> (u64, usize)
     ensures tens { magnitude ≡ result.0 * 10 ^ (scale - result.1) }
     ensures fewer { result.1 ≤ scale }
@@ -175,27 +150,4 @@ pub fn without_zeros(magnitude: u64, scale: usize) -> (u64, usize)
         left -= 1;
     }
     (rest, left)
-}
-
-/// What at most twenty digits write.
-fn number_of_digits(digits: &[u8]) -> u128
-    requires below_ten { All (λ d. d < 10) digits.now }
-    requires fits { length digits.now ≤ 20 }
-    ensures { result ≡ number_from_digits 10 digits.now }
-{
-    let mut number: u128 = 0;
-    for digit in digits {
-        number = number * 10 + u128::from(*digit);
-    }
-    number
-}
-
-/// What the digits write, and so many zeros behind them.
-pub fn scaled(digits: &[u8], zeros: usize) -> u128
-    requires below_ten { All (λ d. d < 10) digits.now }
-    requires fits { length digits.now + zeros ≤ 20 }
-    ensures value { result ≡ number_from_digits 10 digits.now * 10 ^ zeros }
-    ensures small { result < 10 ^ 20 }
-{
-    number_of_digits(digits) * 10u128.pow(zeros as u32)
 }

@@ -1,5 +1,5 @@
-//! A number by its stripped digits.
-ghost use Rattle.std.specs.Prelude.{◌≡◌, ◌^◌, ◌<◌, pos, ◌*ℤ◌, nat_abs, IfSome, IfNone};
+//! A number by its canonical digits.
+ghost use Rattle.std.specs.Prelude.{◌≡◌, ◌^◌, ◌<◌, ◌≤◌, length, pos, ◌*ℤ◌, nat_abs, IfSome, IfNone};
 ghost use Rattle.ijson_number.specs.Stripped.{stripped_number};
 ghost use Rattle.ijson_number.specs.private.ShortDigits.{short_digits};
 ghost use Rattle.ijson_number.specs.StoredNumber.{stored_number};
@@ -10,12 +10,13 @@ ghost use Rattle.ijson_number.specs.Strips.{signed};
 ghost use Rattle.std.proofs.Props.{props};
 
 use crate::number::INumber;
-use crate::repr::digits::{MAX_DIGITS, make_digits, scaled, without_zeros};
+use crate::repr::digits::{MAX_DIGITS, make_digits, without_zeros};
 use crate::repr::stored::{LongNumber, ShortNumber, Stored};
 use itoa::write_digits;
 
-/// The sign, the stripped digits, the power of ten and the shape of a number. The digits lie where the number is
-/// stored, or in a buffer that was lent for them.
+/// The sign, the canonical digits, the exponent and the fraction point of a number.
+///
+/// The digits are borrowed from the number, or from a buffer.
 #[derive(Clone, Copy)]
 pub struct StrippedNumber<'a> {
     pub negative: bool,
@@ -29,7 +30,9 @@ pub struct StrippedNumber<'a> {
 impl<'a> StrippedNumber<'a> {
     ghost use Rattle.ijson_number.specs.private.StrippedNumber.{decimal_of};
 
-    /// A mantissa times a power of ten. The text of the digits is written first, four at a time.
+    /// Returns `magnitude * 10^exponent`, negated if `negative`, by its canonical digits.
+    ///
+    /// The digits are written to `buffer` as text first, four at a time.
     pub fn from_magnitude(
         negative: bool,
         magnitude: u64,
@@ -60,7 +63,7 @@ impl<'a> StrippedNumber<'a> {
         }
     }
 
-    /// A mantissa with its sign times a power of ten.
+    /// Like `from_magnitude`, for a signed mantissa.
     fn from_signed(
         mantissa: i64,
         exponent: i8,
@@ -75,46 +78,10 @@ impl<'a> StrippedNumber<'a> {
     }
 }
 
-impl StrippedNumber<'_> {
-    ghost use Rattle.ijson_number.specs.Integers.{HasValue};
-    ghost use Rattle.ijson_number.specs.private.StrippedNumber.{decimal_of};
-    ghost use Rattle.std.specs.Prelude.{ℤ, ◌≤◌};
-
-    /// The mantissa with so many zeros behind it, where that is nearer to zero than 10^20.
-    pub fn mantissa_with(&self, zeros: usize) -> Option<i128>
-        ensures some { IfSome result (λ m. m ≡ (decimal_of self.now).mantissa *ℤ pos (10 ^ zeros)) }
-        ensures small { IfSome result (λ m. nat_abs m < 10 ^ 20) }
-        ensures none { IfNone result
-            (10 ^ 20 ≤ nat_abs ((decimal_of self.now).mantissa *ℤ pos (10 ^ zeros))) }
-    {
-        if self.digits.is_empty() {
-            return Some(0);
-        }
-        if zeros as u128 + self.digits.len() as u128 > MAX_DIGITS as u128 {
-            return None;
-        }
-        let magnitude = scaled(self.digits, zeros) as i128;
-        Some(if self.negative { -magnitude } else { magnitude })
-    }
-
-    /// The value where it is whole and nearer to zero than 10^20.
-    pub fn whole(&self) -> Option<i128>
-        ensures some { IfSome result (λ z. HasValue (decimal_of self.now) z) }
-        ensures small { IfSome result (λ z. nat_abs z < 10 ^ 20) }
-        ensures none { IfNone result
-            ((z : ℤ) → nat_abs z < 10 ^ 20 → HasValue (decimal_of self.now) z → ⊥) }
-    {
-        if self.exponent < 0 {
-            return None;
-        }
-        self.mantissa_with(self.exponent as usize)
-    }
-}
-
 impl INumber {
     ghost use Rattle.ijson_number.specs.private.StrippedNumber.{decimal_of};
 
-    /// The number by its stripped digits, which go into the buffer where they are not stored.
+    /// Returns the number by its canonical digits, which are written to `buffer` unless they are stored.
     pub(crate) fn stripped<'a>(&'a self, buffer: &'a mut [u8; MAX_DIGITS]) -> StrippedNumber<'a>
         ensures { decimal_of result ≡ self.now.decimal }
     {
@@ -133,13 +100,14 @@ impl INumber {
 impl ShortNumber {
     ghost use Rattle.ijson_number.specs.private.StrippedNumber.{decimal_of};
 
-    /// The number by its stripped digits.
+    /// Returns the number by its canonical digits.
     pub fn stripped(&self) -> StrippedNumber<'_>
         requires { IsNum
             (stored_number self.now.negative (short_digits self.now.digits) self.now.exponent self.now.point) }
         ensures number { decimal_of result
             ≡ stored_number self.now.negative (short_digits self.now.digits) self.now.exponent self.now.point }
         ensures digits { result.digits.now ≡ short_digits self.now.digits }
+        ensures few { length result.digits.now ≤ 19 }
     {
         StrippedNumber {
             negative: self.negative,
@@ -153,7 +121,7 @@ impl ShortNumber {
 impl LongNumber {
     ghost use Rattle.ijson_number.specs.private.StrippedNumber.{decimal_of};
 
-    /// The number by its stripped digits.
+    /// Returns the number by its canonical digits.
     pub fn stripped(&self) -> StrippedNumber<'_>
         requires { IsNum
             (stored_number self.now.negative self.now.digits.items self.now.exponent self.now.point) }

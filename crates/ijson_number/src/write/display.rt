@@ -1,4 +1,4 @@
-//! Writes a number's text.
+//! Writes the text of a number by a formatter.
 ghost use Rattle.std.specs.Prelude.{Some, ◌<◌, ◌≤◌, ◌≡◌, ◌^◌, pos, neg_ℤ, ◌<ℤ◌, int_le, int_lt, negsuc, ◌||◌, length};
 ghost use Rattle.std.specs.List.{All};
 ghost use Rattle.ijson_number.specs.Text.{digits_text, num_text, point_text, scientific_text, shape_text, zeros_text};
@@ -8,7 +8,7 @@ use crate::repr::digits::{MAX_DIGITS, place_of};
 use std::fmt::Write;
 use std::{fmt, str};
 
-/// So many zeros.
+/// The digit 0, repeated.
 #[derive(Drop)]
 struct Zeros(u128);
 
@@ -23,7 +23,7 @@ impl fmt::Display for Zeros {
     }
 }
 
-/// The text of a run of digits, which is written into the buffer.
+/// The text of at most 20 digits, written into `buffer`.
 pub fn run_text<'a>(digits: &[u8], buffer: &'a mut [u8; MAX_DIGITS]) -> &'a str
     requires below_ten { All (λ d. d < 10) digits.now }
     requires short { length digits.now ≤ 20 }
@@ -54,7 +54,7 @@ impl fmt::Display for DigitsText<'_> {
     }
 }
 
-/// Digits, of which there is one at least, with the first one before the point, and a power of ten.
+/// One or more digits, with the point after the first one, and a power of ten.
 #[derive(Drop)]
 struct Scientific<'a> {
     digits: &'a [u8],
@@ -81,7 +81,7 @@ impl fmt::Display for Scientific<'_> {
     }
 }
 
-/// Digits with the point so many places behind their front.
+/// Digits with the point at index `place`, which may be outside them.
 #[derive(Drop)]
 struct Pointed<'a> {
     digits: &'a [u8],
@@ -114,14 +114,14 @@ impl fmt::Display for Pointed<'_> {
     }
 }
 
-/// Whether a number with float shape is written with an exponent.
+/// Whether a number with the fraction point is written with an exponent.
 pub fn is_scientific(place: i128, exponent: i32) -> bool
     ensures { result ≡ (int_le place (negsuc 5) || int_lt (pos 20) exponent) }
 {
     place <= -6 || exponent > 20
 }
 
-/// Digits, of which there is one at least, and a power of ten, with float shape or without.
+/// One or more digits and an exponent, with or without the fraction point.
 #[derive(Drop)]
 struct Shape<'a> {
     digits: &'a [u8],
@@ -150,9 +150,11 @@ impl fmt::Display for Shape<'_> {
     }
 }
 
-/// The text of a number, as JSON writes it. It takes no memory, and time linear in what is written: a number without the point
-/// is written with all its digits, and one with it by an exponent where the stripped one is past 20 or the first digit stands
-/// more than 6 places behind the point. `1e2` is written `100.0`, `1e21` as `1e21`, and `0.0000001` as `1e-7`.
+/// Writes the text of a number, as JSON.
+///
+/// A number without the fraction point is written with all its digits. One with it is written with an exponent if the canonical exponent
+/// is above 20 or more than five zeros would follow `0.`. `1e2` is written `100.0`, `1e21` as `1e21`, and `0.0000001` as `1e-7`. Takes
+/// time linear in the text, and does not allocate.
 impl fmt::Display for INumber {
     ghost output = { λ n. Some (num_text n.decimal) };
 
@@ -176,7 +178,7 @@ impl fmt::Display for INumber {
     }
 }
 
-/// As `Display`.
+/// Writes the text, as `Display` does.
 impl fmt::Debug for INumber {
     ghost debug_output = { λ n. Some (num_text n.decimal) };
 

@@ -1,13 +1,13 @@
-//! Appends a number's text, 16 digits at a time.
+//! Appends the text of a number by vectors of 16 digits.
 ghost use Rattle.std.specs.Prelude.{◌≡◌, ◌+◌, ◌-◌, ◌/◌, ◌%◌, ◌^◌, ◌<◌, ◌≤◌, ◌∷◌, ◌++◌, ℤ, drop, length, nat_abs, neg_ℤ, pos};
-ghost use Rattle.std.specs.Prelude.{true, ◌≤ℤ◌, ◌⊎◌, IfOk, IsTrue, OnErr, OnOk};
+ghost use Rattle.std.specs.Prelude.{true, negsuc, int_le, int_lt, ◌||◌, ◌+ℤ◌, ◌≤ℤ◌, ◌⊎◌, IfOk, IsErr, IsTrue, Ok, OnErr, OnOk};
 ghost use Rattle.std.specs.String.{string_bytes};
 ghost use Rattle.ijson_number.specs.AppendsBeginning.{AppendsBeginning};
 ghost use Rattle.ijson_number.specs.Form.{form_of, packed};
 ghost use Rattle.ijson_number.specs.Text.{digits_text, minus_text, num_text, zeros_text};
 ghost use Rattle.ijson_number.specs.Stripped.{stripped_number};
-ghost use Rattle.ijson_number.specs.private.Pushed.{Pushed};
-ghost use Rattle.ijson_number.specs.private.RowText.{IsBelowOne, IsBufferText, IsInRows, IsRowText, IsScientific};
+ghost use Rattle.ijson_number.specs.private.Pushed.{Appends, Pushed};
+ghost use Rattle.ijson_number.specs.private.RowText.{IsBelowOne, IsInRows, IsRowText, IsScientific};
 ghost use Rattle.ijson_number.specs.private.SplitText.{split_text};
 ghost use Rattle.ijson_number.specs.private.StrippedNumber.{decimal_of};
 ghost use Rattle.ijson_number.specs.private.WordText.{integer_text, pointed_text};
@@ -17,8 +17,7 @@ use crate::parse::lanes::LANES;
 use crate::repr::digits::{MAX_DIGITS, place_of};
 use crate::repr::stored::Stored;
 use crate::repr::stripped::StrippedNumber;
-use crate::write::digits::TEXT_BUFFER;
-use crate::write::display::is_scientific;
+use crate::write::display::{is_scientific, run_text};
 use crate::write::lanes::{
     LANES_END, SHORT_END, lanes_of, push_lanes, push_leading_zeros, push_rows, push_short,
     zeros_in_front,
@@ -26,23 +25,32 @@ use crate::write::lanes::{
 use std::alloc::AllocError;
 use std::simd::prelude::*;
 
-/// The most bytes that a text with the point has beside the digits: a minus, 20 zeros and `.0`.
+/// The maximum number of bytes, besides the digits, of a text with the fraction point: a minus, 20 zeros and `.0`.
 const BESIDE_DIGITS: usize = 23;
 
-/// Appends the minus, if there is one, and a whole number over ten to the places, with so many digits behind the point. It stays a
-/// call, as `push_integer` and `push_digits` do: in a longer function a compiler leaves each append of a few bytes a call.
+/// `Ok(true)` if `appended` is `Ok`, else its error.
+#[inline(always)]
+fn done(appended: Result<(), AllocError>) -> Result<bool, AllocError>
+    ensures ok { OnOk appended (result ≡ Ok true) }
+    ensures err { OnErr appended (IsErr result) }
+{
+    appended?;
+    Ok(true)
+}
+
+/// Appends `magnitude / 10^scale` with a sign and `scale` fraction digits.
+///
+/// Not inlined, like `push_integer` and `push_digits`: in a longer function the compiler does not inline the appends of a few bytes.
 #[inline(never)]
-fn push_magnitude(
+fn push_decimal(
     negative: bool,
     magnitude: u64,
     scale: usize,
     out: &mut String,
 ) -> Result<(), AllocError>
     requires few { scale < 16 }
-    ensures written { OnOk result (string_bytes out.new
-        ≡ string_bytes out.old ++ pointed_text negative (magnitude / 10 ^ scale) scale (magnitude % 10 ^ scale)) }
-    ensures refused { OnErr result (AppendsBeginning (string_bytes out.old) (string_bytes out.new)
-        (pointed_text negative (magnitude / 10 ^ scale) scale (magnitude % 10 ^ scale))) }
+    ensures { Appends result (string_bytes out.old) (string_bytes out.new)
+        (pointed_text negative (magnitude / 10 ^ scale) scale (magnitude % 10 ^ scale)) }
 {
     if magnitude < LANES_END {
         let (lanes, end) = (lanes_of(magnitude), LANES - scale);
@@ -66,12 +74,10 @@ fn push_minus(negative: bool, out: &mut String) -> Result<(), AllocError>
     Ok(())
 }
 
-/// Appends an integer without the point.
+/// Appends an integer.
 #[inline(never)]
 pub fn push_integer(negative: bool, magnitude: u64, out: &mut String) -> Result<(), AllocError>
-    ensures written { OnOk result (string_bytes out.new ≡ string_bytes out.old ++ integer_text negative magnitude) }
-    ensures refused { OnErr result
-        (AppendsBeginning (string_bytes out.old) (string_bytes out.new) (integer_text negative magnitude)) }
+    ensures { Appends result (string_bytes out.old) (string_bytes out.new) (integer_text negative magnitude) }
 {
     if magnitude < SHORT_END {
         return push_short(negative, magnitude, out);
@@ -84,11 +90,13 @@ pub fn push_integer(negative: bool, magnitude: u64, out: &mut String) -> Result<
     push_lanes(lanes_of(magnitude % SHORT_END), 1, LANES - 1, out)
 }
 
-/// Appends a packed number with the point, where no exponent is written and none is above zero. Where it tells `false` it
-/// appended nothing.
+/// Appends a packed number with the fraction point.
+///
+/// Returns `false`, with nothing appended, if its text has an exponent, or zeros before the point that are not digits.
 #[inline(always)]
 fn push_pointed(mantissa: i64, exponent: i8, out: &mut String) -> Result<bool, AllocError>
-    requires { form_of (stripped_number mantissa exponent true) ≡ packed mantissa exponent true }
+    requires form { form_of (stripped_number mantissa exponent true) ≡ packed mantissa exponent true }
+    requires small { nat_abs mantissa ≤ 2 ^ 55 }
     ensures pushed { Pushed result (string_bytes out.old) (string_bytes out.new)
         (num_text (stripped_number mantissa exponent true)) }
     ensures short { exponent ≤ℤ pos 0 → (neg_ℤ (pos 6) ≤ℤ exponent) ⊎ (10 ≤ nat_abs mantissa)
@@ -99,30 +107,26 @@ fn push_pointed(mantissa: i64, exponent: i8, out: &mut String) -> Result<bool, A
         return Ok(false);
     }
     if exponent == 0 {
-        push_integer(negative, magnitude, out)?;
-        out.push_str(".0")?;
-        return Ok(true);
+        // `5.0` is 50 / 10
+        return done(push_decimal(negative, magnitude * 10, 1, out));
     }
     let scale = usize::from(exponent.unsigned_abs());
-    push_magnitude(negative, magnitude, scale, out)?;
-    Ok(true)
+    done(push_decimal(negative, magnitude, scale, out))
 }
 
 impl StrippedNumber<'_> {
-    /// Appends the minus, if there is one, and the digits with the point before the last so many. At most 16 of them stand on either
-    /// side, and `lanes` has all at its end where there are no more. It is no call of its own, since `push_digits` is one already,
-    /// and appends most numbers that have a point.
+    /// Appends the minus, if there is one, and the digits, with the point before the last `scale` of them.
+    ///
+    /// If there are at most 16 digits, `lanes` ends with them.
     #[inline(always)]
     fn push_split(&self, lanes: u8x16, scale: usize, out: &mut String) -> Result<(), AllocError>
         requires all { length lanes ≡ 16 }
         requires inside { scale ≤ length self.now.digits.now }
-        requires whole { length self.now.digits.now ≤ scale + 16 }
-        requires places { scale ≤ 16 }
+        requires few { length self.now.digits.now ≤ 19 }
         requires lanes { length self.now.digits.now ≤ 16
             → drop (16 - length self.now.digits.now) lanes ≡ digits_text self.now.digits.now }
-        ensures written { OnOk result (string_bytes out.new ≡ string_bytes out.old
-            ++ split_text self.now.negative self.now.digits.now (length self.now.digits.now - scale)) }
-        ensures refused { OnErr result (string_bytes out.new ≡ string_bytes out.old) }
+        ensures { Appends result (string_bytes out.old) (string_bytes out.new)
+            (split_text self.now.negative self.now.digits.now (length self.now.digits.now - scale)) }
     {
         let count = self.digits.len();
         let before = count - scale;
@@ -137,35 +141,77 @@ impl StrippedNumber<'_> {
                 out,
             );
         }
+        if before > LANES || scale > LANES {
+            return self.push_long_split(scale, out);
+        }
         let zero = u8x16::splat(b'0');
         let whole = u8x16::from_slice(self.digits) + zero;
         let last = u8x16::from_slice(&self.digits[count - LANES..]) + zero;
         push_rows(self.negative, whole, 0, before, last, scale, out)
     }
 
-    /// Appends the minus, if there is one, and `0.` with so many zeros and the digits behind it. If these are no more than 16, `lanes`
-    /// has them at its end.
+    /// Like `push_split`, without vectors.
+    ///
+    /// Not inlined: few numbers have more than 16 digits on one side of the point.
+    #[inline(never)]
+    fn push_long_split(&self, scale: usize, out: &mut String) -> Result<(), AllocError>
+        requires inside { scale ≤ length self.now.digits.now }
+        requires few { length self.now.digits.now ≤ 19 }
+        ensures { Appends result (string_bytes out.old) (string_bytes out.new)
+            (split_text self.now.negative self.now.digits.now (length self.now.digits.now - scale)) }
+    {
+        let (whole, fraction) = self.digits.split_at(self.digits.len() - scale);
+        let mut buffer = [0; MAX_DIGITS];
+        push_minus(self.negative, out)?;
+        out.push_str(run_text(whole, &mut buffer))?;
+        out.push('.')?;
+        out.push_str(run_text(fraction, &mut buffer))
+    }
+
+    /// Appends the minus, if there is one, `0.`, `zeros` zeros, and the digits.
+    ///
+    /// If there are at most 16 digits, `lanes` ends with them.
     #[inline(always)]
     fn push_fraction(&self, lanes: u8x16, zeros: usize, out: &mut String) -> Result<(), AllocError>
         requires all { length lanes ≡ 16 }
         requires lanes { length self.now.digits.now ≤ 16
             → drop (16 - length self.now.digits.now) lanes ≡ digits_text self.now.digits.now }
         requires zeros { zeros ≤ 5 }
-        ensures written { OnOk result (string_bytes out.new ≡ string_bytes out.old
-            ++ (minus_text self.now.negative ++ (48 ∷ 46 ∷ zeros_text zeros ++ digits_text self.now.digits.now))) }
-        ensures refused { OnErr result (AppendsBeginning (string_bytes out.old) (string_bytes out.new)
-            (minus_text self.now.negative ++ (48 ∷ 46 ∷ zeros_text zeros ++ digits_text self.now.digits.now))) }
+        ensures { Appends result (string_bytes out.old) (string_bytes out.new)
+            (minus_text self.now.negative ++ (48 ∷ 46 ∷ zeros_text zeros ++ digits_text self.now.digits.now)) }
     {
         push_leading_zeros(self.negative, zeros, out)?;
         self.push_row(lanes, out)?;
         Ok(())
     }
 
-    /// Appends the number, where the point stands before all its digits, or where an exponent stands behind two to 17. If they are no
-    /// more than 16, `lanes` has them at its end. Where it tells `false` it appended nothing. It stays a call, as `push_digits` does.
+    /// Appends a number of two or more digits with the point after the first one and an exponent.
+    #[inline(always)]
+    fn push_scientific(&self, lanes: u8x16, place: i128, out: &mut String) -> Result<(), AllocError>
+        requires all { length lanes ≡ 16 }
+        requires few { length self.now.digits.now ≤ 19 }
+        requires some { 1 < length self.now.digits.now }
+        requires point { self.now.point ≡ true }
+        requires lanes { length self.now.digits.now ≤ 16
+            → drop (16 - length self.now.digits.now) lanes ≡ digits_text self.now.digits.now }
+        requires place { place ≡ pos (length self.now.digits.now) +ℤ self.now.exponent }
+        requires exponent { (int_le place (negsuc 5) || int_lt (pos 20) self.now.exponent) ≡ true }
+        ensures { Appends result (string_bytes out.old) (string_bytes out.new) (num_text (decimal_of self.now)) }
+    {
+        self.push_split(lanes, self.digits.len() - 1, out)?;
+        out.push('e')?;
+        let power = place - 1;
+        push_integer(power < 0, power.unsigned_abs() as u64, out)
+    }
+
+    /// Appends the number if the point is before its digits or an exponent follows two or more digits.
+    ///
+    /// Otherwise returns `false`, with nothing appended. If there are at most 16 digits, `lanes` ends with them. Not inlined, like
+    /// `push_digits`.
     #[inline(never)]
     fn push_unsplit(&self, lanes: u8x16, out: &mut String) -> Result<bool, AllocError>
         requires all { length lanes ≡ 16 }
+        requires few { length self.now.digits.now ≤ 19 }
         requires point { self.now.point ≡ true }
         requires lanes { length self.now.digits.now ≤ 16
             → drop (16 - length self.now.digits.now) lanes ≡ digits_text self.now.digits.now }
@@ -175,56 +221,47 @@ impl StrippedNumber<'_> {
     {
         let count = self.digits.len();
         let place = place_of(self.digits, self.exponent);
-        if !is_scientific(place, self.exponent) {
-            if place > 0 || count == 0 {
+        if is_scientific(place, self.exponent) {
+            if count < 2 {
                 return Ok(false);
             }
-            self.push_fraction(lanes, place.unsigned_abs() as usize, out)?;
-            return Ok(true);
+            return done(self.push_scientific(lanes, place, out));
         }
-        if count < 2 || count > LANES + 1 {
+        if place > 0 || count == 0 {
             return Ok(false);
         }
-        self.push_split(lanes, count - 1, out)?;
-        out.push('e')?;
-        let power = place - 1;
-        push_integer(power < 0, power.unsigned_abs() as u64, out)?;
-        Ok(true)
+        done(self.push_fraction(lanes, place.unsigned_abs() as usize, out))
     }
 
-    /// Appends the number, where the point stands before its digits, or between two of them that are so few that a row has those before
-    /// the point, and a row those behind it, or where an exponent stands behind two to 17. If all are no more than 16, `lanes` has them
-    /// at its end. Where it tells `false` it appended nothing.
+    /// Appends a number with the fraction point, or returns `false` with nothing appended.
+    ///
+    /// It returns `false` only if an exponent follows a single digit, zeros are between the digits and the point, or there is no fraction
+    /// point. If there are at most 16 digits, `lanes` ends with them.
     #[inline(never)]
     fn push_digits(&self, lanes: u8x16, out: &mut String) -> Result<bool, AllocError>
         requires all { length lanes ≡ 16 }
+        requires few { length self.now.digits.now ≤ 19 }
         requires lanes { length self.now.digits.now ≤ 16
             → drop (16 - length self.now.digits.now) lanes ≡ digits_text self.now.digits.now }
         ensures pushed { Pushed result (string_bytes out.old) (string_bytes out.new) (num_text (decimal_of self.now)) }
         ensures rows { self.now.point ≡ true → IsInRows (length self.now.digits.now) self.now.exponent
             → IfOk result (λ d. IsTrue d) }
     {
-        let scale = self.exponent.unsigned_abs() as usize;
-        let count = self.digits.len();
         if !self.point {
             return Ok(false);
         }
-        if self.exponent >= 0 || scale >= count {
+        let scale = self.exponent.unsigned_abs() as usize;
+        if self.exponent >= 0 || scale >= self.digits.len() {
             return self.push_unsplit(lanes, out);
         }
-        if scale > LANES || count - scale > LANES {
-            return Ok(false);
-        }
-        self.push_split(lanes, scale, out)?;
-        Ok(true)
+        done(self.push_split(lanes, scale, out))
     }
 }
 
 impl INumber {
-    /// Appends the text, where the number has few digits, no zeros are written behind them, and no exponent beside a single one.
-    /// Where it tells `false` it appended nothing.
+    /// Appends the text if vectors write it, and otherwise returns `false`, with nothing appended.
     #[inline(always)]
-    fn push_plain(&self, out: &mut String) -> Result<bool, AllocError>
+    fn push_fast(&self, out: &mut String) -> Result<bool, AllocError>
         ensures pushed { Pushed result (string_bytes out.old) (string_bytes out.new) (num_text self.now.decimal) }
         ensures rows { IsRowText self.now.decimal → IfOk result (λ d. IsTrue d) }
     {
@@ -243,55 +280,46 @@ impl INumber {
                 .push_digits(number.digits.lanes(), out),
             Stored::Long(_) => return Ok(false),
         };
-        push_integer(negative, magnitude, out)?;
-        Ok(true)
+        done(push_integer(negative, magnitude, out))
     }
 
-    /// Appends the text of a number that `push_plain` leaves. It stays a call, since few numbers want it.
+    /// Appends the text by a formatter. Not inlined: few numbers need it.
     #[inline(never)]
-    fn push_other(&self, out: &mut String) -> Result<(), AllocError>
-        requires { IsRowText self.now.decimal → ⊥ }
+    fn push_slow(&self, out: &mut String) -> Result<(), AllocError>
         ensures written { OnOk result (string_bytes out.new
             ≡ string_bytes out.old ++ num_text self.now.decimal) }
         ensures refused { OnErr result (string_bytes out.new ≡ string_bytes out.old) }
     {
-        let (mut buffer, mut text_buffer) = ([0; MAX_DIGITS], [0; TEXT_BUFFER]);
-        let number = self.stripped(&mut buffer);
-        if let Some(text) = number.short_text(&mut text_buffer) {
-            return out.push_str(text);
-        }
-        self.push_formatted(number.digits.len() + BESIDE_DIGITS, out)
-    }
-
-    /// Appends the text of a number that `short_text` leaves too, by a formatter. What that leaves after an error is in no clause of
-    /// std, so it writes into a text of its own, which is made with so much room.
-    fn push_formatted(&self, room: usize, out: &mut String) -> Result<(), AllocError>
-        requires row { IsRowText self.now.decimal → ⊥ }
-        requires buffer { IsBufferText self.now.decimal → ⊥ }
-        ensures written { OnOk result (string_bytes out.new
-            ≡ string_bytes out.old ++ num_text self.now.decimal) }
-        ensures refused { OnErr result (string_bytes out.new ≡ string_bytes out.old) }
-    {
+        let mut buffer = [0; MAX_DIGITS];
+        let room = self.stripped(&mut buffer).digits.len() + BESIDE_DIGITS;
+        // std does not specify what a formatter leaves after an error
         let mut text = String::with_capacity(*out.allocator(), room)?;
         write!(text, "{self}")?;
         out.push_str(text.as_str())
     }
 
-    /// Appends the text that `Display` writes, in less time: that of few digits is appended by no formatter. It may want
-    /// room for 31 bytes more than the text has. A text with zeros behind the digits, with an exponent behind a single digit or with
-    /// many digits is made in memory of its own first. The error comes where there was not enough memory. A beginning of the text may
-    /// then stand in `out`, behind what was there. It takes time linear in the text.
+    /// Appends the text that `Display` writes, mostly without a formatter.
+    ///
+    /// It may need capacity for 31 bytes more than the text.
+    ///
+    /// # Errors
+    ///
+    /// Returns `AllocError` if an allocation fails. The beginning of the text may then be at the end of `out`.
+    ///
+    /// # Cost
+    ///
+    /// Linear in the text. A text with zeros after the digits, with an exponent after a single digit or with more than 19 digits is first
+    /// written to a string of its own.
     #[inline(always)]
     pub fn push_to(&self, out: &mut String) -> Result<(), AllocError>
         ensures written { OnOk result (string_bytes out.new
             ≡ string_bytes out.old ++ num_text self.now.decimal) }
-        // Where memory is refused, a beginning of it stands behind what was there.
         ensures refused { OnErr result
             (AppendsBeginning (string_bytes out.old) (string_bytes out.new) (num_text self.now.decimal)) }
     {
-        if self.push_plain(out)? {
+        if self.push_fast(out)? {
             return Ok(());
         }
-        self.push_other(out)
+        self.push_slow(out)
     }
 }

@@ -1,4 +1,4 @@
-//! Sixteen digits of a number, made and appended all at once.
+//! Converts numbers to vectors of 16 digits, and appends these.
 ghost use Rattle.std.specs.Prelude.{◌≡◌, ◌+◌, ◌-◌, ◌/◌, ◌%◌, ◌^◌, ◌<◌, ◌≤◌, [], ◌∷◌, ◌++◌, drop, length, replicate, take, OnErr, OnOk};
 ghost use Rattle.std.specs.Str.{IsAscii};
 ghost use Rattle.std.specs.String.{string_bytes};
@@ -11,32 +11,32 @@ use std::alloc::AllocError;
 use std::simd::prelude::*;
 use std::str;
 
-/// One past the most that 16 digits count.
+/// One past the maximum number of 16 digits.
 pub const LANES_END: u64 = 10_000_000_000_000_000;
 
-/// One past the most that 15 digits count, before which a row has a zero.
+/// One past the maximum number of 15 digits, whose vector has a leading zero.
 pub const SHORT_END: u64 = LANES_END / 10;
 
-/// Room for a minus, two rows and the point between them.
+/// The size of a minus, two vectors and the point between them.
 const ROOM: usize = 2 * LANES + 2;
 
-/// From place `n` on: the positions by which the lanes from n on come to the front of a vector, with zeros behind them.
+/// From index `n` on: the indices that move the lanes from `n` on to the start of a vector, before zeros.
 static FRONT: [u8; 2 * LANES] = [
     0, 1, 2, 3, 4, 5, 6, 7, 8, 9, 10, 11, 12, 13, 14, 15, 128, 128, 128, 128, 128, 128, 128, 128,
     128, 128, 128, 128, 128, 128, 128, 128,
 ];
 
-/// What stands before the digits of a number between -1 and 1: a minus, `0.`, and zeros behind the point.
+/// The text before the digits of a number between -1 and 1: a minus, `0.`, and zeros.
 const LEADING: [u8; LANES] = *b"-0.0000000000000";
 
-/// A number of 16 digits, two in each lane.
+/// Splits a number of 16 digits into pairs, one in each lane.
 #[inline(always)]
 fn pairs_of(number: u64) -> u16x8
     requires { number < 10 ^ 16 }
     ensures { result ≡ number / 10 ^ 14 ∷ number / 10 ^ 12 % 100 ∷ number / 10 ^ 10 % 100 ∷ number / 10 ^ 8 % 100
         ∷ number / 10 ^ 6 % 100 ∷ number / 10 ^ 4 % 100 ∷ number / 10 ^ 2 % 100 ∷ number % 100 ∷ [] }
 {
-    // most numbers are small, and a division waits for the one before it
+    // most numbers are small, and each division waits for the one before
     if number < 10_000 {
         let small = number as u16;
         return u16x8::from_array([0, 0, 0, 0, 0, 0, small / 100, small % 100]);
@@ -57,7 +57,7 @@ fn pairs_of(number: u64) -> u16x8
     hundreds.shuffle(units, [0, 8, 1, 9, 2, 10, 3, 11])
 }
 
-/// The text of a number's last 16 digits, with zeros in front where it has fewer.
+/// Returns the text of the last 16 digits of a number, with leading zeros if it has fewer.
 #[inline(always)]
 pub fn lanes_of(number: u64) -> u8x16
     requires { number < 10 ^ 16 }
@@ -65,12 +65,12 @@ pub fn lanes_of(number: u64) -> u8x16
 {
     let pairs = pairs_of(number);
     let tens = pairs / u16x8::splat(10);
-    // the tens come into the lower byte of each lane, and the ones above them
+    // the tens are in the lower byte of each lane, and the ones in the upper
     let digits = ((pairs << 8) - tens * u16x8::splat(2559)).to_le_bytes();
     digits + u8x16::splat(b'0')
 }
 
-/// How many of the first 15 bytes are zeros, up to another digit.
+/// Returns the number of leading zeros, at most 15.
 #[inline(always)]
 pub fn zeros_in_front(lanes: u8x16) -> usize
     requires { length lanes ≡ 16 }
@@ -80,7 +80,7 @@ pub fn zeros_in_front(lanes: u8x16) -> usize
     (others.trailing_zeros() as usize).min(LANES - 1)
 }
 
-/// The lanes from a start on, moved to the front, with zeros behind them.
+/// Moves the lanes from `start` on to the start of the vector, before zeros.
 #[inline(always)]
 fn front_of(lanes: u8x16, start: usize) -> u8x16
     requires all { length lanes ≡ 16 }
@@ -90,7 +90,22 @@ fn front_of(lanes: u8x16, start: usize) -> u8x16
     lanes.swizzle_dyn(u8x16::from_slice(&FRONT[start..]))
 }
 
-/// Appends some bytes of the lanes.
+/// Appends the first `count` of `bytes`.
+#[inline(always)]
+fn push_front(bytes: &[u8], count: usize, out: &mut String) -> Result<(), AllocError>
+    requires ascii { IsAscii bytes.now }
+    requires within { count ≤ length bytes.now }
+    ensures written { OnOk result (string_bytes out.new ≡ string_bytes out.old ++ take count bytes.now) }
+    ensures refused { OnErr result (string_bytes out.new ≡ string_bytes out.old) }
+{
+    let end = out.len() + count;
+    // a copy whose size is known at compile time is faster
+    out.push_str(unsafe { str::from_utf8_unchecked(bytes) })?;
+    out.truncate(end);
+    Ok(())
+}
+
+/// Appends `count` lanes, from `start` on.
 #[inline(always)]
 pub fn push_lanes(
     lanes: u8x16,
@@ -104,15 +119,10 @@ pub fn push_lanes(
     ensures written { OnOk result (string_bytes out.new ≡ string_bytes out.old ++ take count (drop start lanes)) }
     ensures refused { OnErr result (string_bytes out.new ≡ string_bytes out.old) }
 {
-    let front = front_of(lanes, start).to_array();
-    let end = out.len() + count;
-    // all 16 bytes take less time than fewer, whose count is not known when the code is built
-    out.push_str(unsafe { str::from_utf8_unchecked(&front) })?;
-    out.truncate(end);
-    Ok(())
+    push_front(&front_of(lanes, start).to_array(), count, out)
 }
 
-/// Appends the minus, if there is one, a zero, the point and so many zeros behind it.
+/// Appends the minus, if there is one, `0.` and `zeros` zeros.
 #[inline(always)]
 pub fn push_leading_zeros(negative: bool, zeros: usize, out: &mut String) -> Result<(), AllocError>
     requires { zeros ≤ 13 }
@@ -129,8 +139,9 @@ pub fn push_leading_zeros(negative: bool, zeros: usize, out: &mut String) -> Res
     )
 }
 
-/// Appends the minus, if there is one, and a number of at most 15 digits. The minus comes in the place of the zero before them, by a
-/// difference that is none where there is no minus, since a processor cannot guess which numbers have one.
+/// Appends a number of at most 15 digits with its sign.
+///
+/// The minus replaces the zero before the digits by a subtraction: the branch predictor cannot predict a branch on the sign.
 #[inline(always)]
 pub fn push_short(negative: bool, number: u64, out: &mut String) -> Result<(), AllocError>
     requires { number < 10 ^ 15 }
@@ -144,8 +155,10 @@ pub fn push_short(negative: bool, number: u64, out: &mut String) -> Result<(), A
     push_lanes(front_of(lanes, start) - difference, 0, LANES - start, out)
 }
 
-/// Appends the minus, if there is one, some bytes of a row, the point, and the last bytes of another row. They are put together in a
-/// room of their own and appended at once, since each append tests for room.
+/// Appends the sign, a whole part, the point, and a fraction.
+///
+/// The whole part is `count` lanes of `whole` from `start` on, and the fraction the last `scale` lanes of `fraction`. All is assembled
+/// first and appended once, since each append tests for spare capacity.
 #[inline(always)]
 pub fn push_rows(
     negative: bool,
@@ -172,8 +185,5 @@ pub fn push_rows(
     room[point] = b'.';
     let behind = point + 1;
     room[behind..behind + LANES].copy_from_slice(&front_of(fraction, LANES - scale).to_array());
-    let end = out.len() + behind + scale;
-    out.push_str(unsafe { str::from_utf8_unchecked(&room) })?;
-    out.truncate(end);
-    Ok(())
+    push_front(&room, behind + scale, out)
 }

@@ -1,4 +1,4 @@
-//! Appends the stripped digits of a number, for a text in which they stand alone.
+//! Appends the digits of the canonical significand.
 ghost use Rattle.std.specs.Prelude.{◌≡◌, ◌-◌, ◌≤◌, ◌++◌, drop, length, pos, true, IfOk, OnErr, OnOk};
 ghost use Rattle.std.specs.String.{string_bytes};
 ghost use Rattle.ijson_number.specs.AppendsBeginning.{AppendsBeginning};
@@ -17,8 +17,8 @@ use crate::write::lanes::push_lanes;
 use std::alloc::AllocError;
 use std::simd::prelude::*;
 
-/// Appends the stripped digits of a magnitude times a power of ten, and answers their exponent.
-fn push_magnitude(magnitude: u64, exponent: i8, out: &mut String) -> Result<i32, AllocError>
+/// Appends the canonical significand of `magnitude * 10^exponent`, and returns its exponent.
+fn push_significand(magnitude: u64, exponent: i8, out: &mut String) -> Result<i32, AllocError>
     ensures written { OnOk result (string_bytes out.new ≡ string_bytes out.old
         ++ digits_text (stripped_digits (stripped_number (pos magnitude) exponent true))) }
     ensures exponent { IfOk result (λ e. e ≡ (stripped_number (pos magnitude) exponent true).exponent) }
@@ -34,7 +34,7 @@ fn push_magnitude(magnitude: u64, exponent: i8, out: &mut String) -> Result<i32,
 }
 
 impl StrippedNumber<'_> {
-    /// Appends the digits, 20 at a time, and answers the exponent.
+    /// Appends the digits, 20 at a time, and returns the exponent.
     fn push_runs(&self, out: &mut String) -> Result<i32, AllocError>
         ensures written { OnOk result (string_bytes out.new
             ≡ string_bytes out.old ++ digits_text self.now.digits.now) }
@@ -49,7 +49,7 @@ impl StrippedNumber<'_> {
         Ok(self.exponent)
     }
 
-    /// The same, all at once where they are no more than 16, which `lanes` then has at its end.
+    /// Like `push_runs`, but in one append if there are at most 16 digits, with which `lanes` then ends.
     pub(super) fn push_row(&self, lanes: u8x16, out: &mut String) -> Result<i32, AllocError>
         requires all { length lanes ≡ 16 }
         requires lanes { length self.now.digits.now ≤ 16
@@ -70,25 +70,28 @@ impl StrippedNumber<'_> {
 }
 
 impl INumber {
-    /// Appends the stripped digits, the most significant first, and answers the stripped exponent. Neither the sign nor the point is
-    /// written. Zero has no digit and the exponent 0; `-0.50` has the digit 5 and the exponent -1, and `100` the digit 1 and the
-    /// exponent 2. It may want room for 15 bytes more than the digits. The error comes where there was not enough memory. Some of the
-    /// digits, or all, may then stand in `out`, behind what was there. It takes time linear in the digits.
+    /// Appends the digits of the canonical significand, and returns its exponent.
+    ///
+    /// The sign and the point are not written. Zero has no digit and the exponent 0; `-0.50` has the digit 5 and the exponent -1, and `100`
+    /// the digit 1 and the exponent 2. It may need capacity for 15 bytes more than the digits. Takes time linear in the digits.
+    ///
+    /// # Errors
+    ///
+    /// Returns `AllocError` if an allocation fails. Some or all of the digits may then be at the end of `out`.
     pub fn push_stripped_digits(&self, out: &mut String) -> Result<i32, AllocError>
         ensures digits { OnOk result (string_bytes out.new
             ≡ string_bytes out.old ++ digits_text (stripped_digits self.now.decimal)) }
         ensures exponent { IfOk result (λ e. e ≡ self.now.decimal.exponent) }
-        // Where memory is refused, a beginning of the digits stands behind what was there.
         ensures refused { OnErr result (AppendsBeginning (string_bytes out.old) (string_bytes out.new)
             (digits_text (stripped_digits self.now.decimal))) }
     {
         match &self.stored {
             Stored::Packed(word) => {
                 let magnitude = word.mantissa().unsigned_abs();
-                push_magnitude(magnitude, word.exponent(), out)
+                push_significand(magnitude, word.exponent(), out)
             }
-            Stored::I64(value) => push_magnitude(value.unsigned_abs(), 0, out),
-            Stored::U64(value) => push_magnitude(*value, 0, out),
+            Stored::I64(value) => push_significand(value.unsigned_abs(), 0, out),
+            Stored::U64(value) => push_significand(*value, 0, out),
             Stored::Short(number) => number.stripped().push_row(number.digits.lanes(), out),
             Stored::Long(number) => number.stripped().push_runs(out),
         }

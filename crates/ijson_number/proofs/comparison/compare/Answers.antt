@@ -14,7 +14,7 @@ returns-then-ne-clause-order g c =
     c.cmp.ensures ∙ signs_cmp a b c.sign-sign.result c.sign-other_sign.result c.sign-sign.ensures c.sign-other_sign.ensures
     (tests_apart c.sign-sign.result c.sign-other_sign.result c.ne.result c.ne.ensures c.if-ne.true)
 
--- past the test the two signs are the same
+-- after the test the two signs are equal
 first_sign : (g : _) (c : Else-ne g) (sign : Ordering) → c.sign-sign.result ≡ sign
     → int_cmp (g.D.DigitRow.num c.args.a.now).decimal.mantissa (pos 0) ≡ sign
 first_sign g c sign is = sym c.sign-sign.ensures ∙ is

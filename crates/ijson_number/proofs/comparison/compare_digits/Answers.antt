@@ -34,6 +34,6 @@ returns g c =
       bounded = omega arith;
     }
 
--- what the check tries where no answer stands takes longer than these
+-- given for speed: the default tactics take longer
 pub returns-then-digit-other-clause-order : goal.returns-then-digit-other-clause-order
 returns-then-digit-other-clause-order g c = grind (arith, common_steps)

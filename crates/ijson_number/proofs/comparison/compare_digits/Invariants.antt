@@ -4,7 +4,7 @@ use Rattle.std.specs.Ordering.{nat_cmp}
 use Rattle.ijson_number.specs.StrippedDigits.{stripped_digits}
 use Rattle.ijson_number.proofs.comparison.compare_digits.Given as goal
 
--- the digits so far are the same
+-- the digits so far are equal
 abbrev pub invariant-loop-at : goal.invariant-loop-at
 invariant-loop-at g l = record {
   same : slice_cmp nat_cmp (stripped_digits (g.D.DigitRow.num l.a).decimal) (stripped_digits (g.D.DigitRow.num l.b).decimal)

@@ -14,7 +14,7 @@ use Rattle.ijson_number.proofs.comparing.MagnitudeOrder.{same_place_cmp, places_
 use Rattle.ijson_number.proofs.comparison.compare_magnitudes.Goals as goal
 use Rattle.ijson_number.proofs.comparison.compare_magnitudes.Goals.{After-lead-other_place}
 
--- two numbers that aren't zero, and the places that were told of them
+-- two numbers that are not zero, and their leading places
 module _ (a b : Num) (some : a.decimal.mantissa ≢ pos 0) (some_other : b.decimal.mantissa ≢ pos 0) (x y : ℤ)
     (place : x ≡ leading_place a.decimal) (other_place : y ≡ leading_place b.decimal) where
   digits_decide : x ≡ y → slice_cmp nat_cmp (stripped_digits a.decimal) (stripped_digits b.decimal) ≡ magnitude_cmp a.decimal b.decimal
@@ -29,7 +29,7 @@ module _ (a b : Num) (some : a.decimal.mantissa ≢ pos 0) (some_other : b.decim
       (are_stripped a.decimal a.is_num.plain some) (are_stripped b.decimal b.is_num.plain some_other)
       (some_digits a.decimal a.is_num.plain some) (some_digits b.decimal b.is_num.plain some_other) x y place other_place
 
--- the places, as the machine compares them, are exact
+-- the leading places, converted to `i128` and back, are exact
 place_held : (g : _) (c : After-lead-other_place g) → to_z w128 (of_z w128 c.lead-place.result) ≡ c.lead-place.result
 place_held g c =
     let fits : FitsSigned w128 c.lead-place.result = search rules in

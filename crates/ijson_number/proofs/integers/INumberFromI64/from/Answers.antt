@@ -9,16 +9,16 @@ pub invariant_of-result : goal.invariant_of-result
 invariant_of-result c =
     let z = c.args.value in
     let word : FitsSigned w64 z = search rules in
-    (word_num z (signed_small z word) _ (signed_known z word) (rw (to_z-of_z w64 z word) at c.stored_signed.ensures), tt)
+    (word_num z (signed_small z word) _ (signed_known z word) (rw (to_z-of_z w64 z word) at c.encode_signed.ensures), tt)
 
 pub invariant_of-result-2 : goal.invariant_of-result-2
 invariant_of-result-2 c =
     let z = c.args.value in
     let word : FitsSigned w64 z = search rules in
-    word_form z (signed_small z word) _ (signed_known z word) (rw (to_z-of_z w64 z word) at c.stored_signed.ensures)
+    word_form z (signed_small z word) _ (signed_known z word) (rw (to_z-of_z w64 z word) at c.encode_signed.ensures)
 
 pub returns : goal.returns
 returns c =
     let z = c.args.value in
     let word : FitsSigned w64 z = search rules in
-    word_integer z (signed_small z word) _ (signed_known z word) (rw (to_z-of_z w64 z word) at c.stored_signed.ensures)
+    word_integer z (signed_small z word) _ (signed_known z word) (rw (to_z-of_z w64 z word) at c.encode_signed.ensures)

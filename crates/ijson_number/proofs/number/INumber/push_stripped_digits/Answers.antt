@@ -23,7 +23,7 @@ returns-in-Long c =
     rw (← row_digits n.negative n.digits.now n.exponent n.point c.args.self.now.decimal view n.stripped)
     (record { digits = c.push_runs.ensures.written; exponent = search rules; refused = c.push_runs.ensures.refused })
 
--- what the check tries where no answer stands takes longer than these
+-- given for speed: the default tactics take longer
 pub returns-in-Packed-clause-digits : goal.returns-in-Packed-clause-digits
 returns-in-Packed-clause-digits c = search rules
 

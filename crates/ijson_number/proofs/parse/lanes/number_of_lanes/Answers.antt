@@ -11,7 +11,7 @@ dot4-hundreds c = (dot4_Fits c.args.digits HUNDREDS c.fits-digits.1 tt, tt)
 pub dot4-units : goal.dot4-units
 dot4-units c = (dot4_Fits c.args.digits UNITS c.fits-digits.1 tt, tt)
 
--- what the lanes hold, of the numbers that were taken out of them
+-- the value of the lanes, from the numbers that were extracted from them
 lanes : (xs : List ℕ) (a b c d : ℕ) → length xs ≡ 16 → AllBelowBase 10 xs → a ≡ lane xs 0 → b ≡ lane xs 1 → c ≡ lane xs 2 → d ≡ lane xs 3
     → ((a * 10000 + b) * 100000000 + (c * 10000 + d) < 10 ^ 16) × ((a * 10000 + b) * 100000000 + (c * 10000 + d) ≡ number_from_digits 10 xs)
 lanes xs a b c d long digits la lb lc ld =

@@ -1,120 +1,59 @@
-use Rattle.std.proofs.Common.{◌≡◌, ◌+◌, ◌-◌, ◌≤◌, ◌∙◌, ◌∷◌, ◌++◌, List, ℕ, Bool, ap, drop, length, refl}
-use Rattle.std.proofs.Common.{take, take_all, length-drop, arith, rules}
+use Rattle.std.proofs.Common.{◌≡◌, ◌+◌, ◌-◌, ◌≤◌, ◌∙◌, ◌∷◌, ◌++◌, List, ℕ, Bool, drop, length, refl, replicate}
+use Rattle.std.proofs.Common.{take, take_all, length-drop, arith}
 use Rattle.std.proofs.lemmas.Grind.{common_steps}
 use Rattle.std.specs.Str.{IsAscii}
-use Rattle.std.specs.String.{string_bytes}
-use Rattle.std.proofs.lemmas.Str.{IsUtf8-from_ascii}
+use mir.Val.{bool_byte}
 use Rattle.ijson_number.specs.Text.{minus_text}
-use Rattle.ijson_number.proofs.writing.RoomTexts.{minus_length, room_ascii, room_long, room_text, with_fraction}
-use Rattle.ijson_number.proofs.writing.WrittenLanes.{cut, cut_point, front, front_all, front_ascii, front_taken}
+use Rattle.ijson_number.proofs.writing.RoomTexts.{filled, filled_is, minus_length}
+use Rattle.ijson_number.proofs.writing.WrittenLanes.{IsFront, front_all, front_is}
 use Rattle.ijson_number.proofs.write.lanes.push_rows.Goals as goal
-use Rattle.ijson_number.proofs.write.lanes.push_rows.Goals.{In_ok-push_str}
 
--- the room with the front of both rows in it
-module _ (negative : Bool) (whole fraction : List ℕ) (start count scale : ℕ) (w : (length whole ≡ 16) × IsAscii (drop start whole))
-    (within : start + count ≤ 16) (f : (length fraction ≡ 16) × IsAscii (drop (16 - scale) fraction)) (places : scale ≤ 16)
-    (first many more : ℕ) (is : first ≡ length (minus_text negative)) (row : many ≡ 16) where
-  abbrev before : List ℕ
-  before = front whole w.0 start count within w.1
+-- the buffer with both vectors in it
+rows : (negative : Bool) (whole fraction : List ℕ) (start count scale first many more : ℕ)
+    → (length whole ≡ 16) × IsAscii (drop start whole) → start + count ≤ 16
+    → (length fraction ≡ 16) × IsAscii (drop (16 - scale) fraction) → scale ≤ 16 → first ≡ bool_byte negative → many ≡ 16
+    → IsFront (filled first count many more (drop start whole ++ replicate start 0) (drop (16 - scale) fraction ++ replicate (16 - scale) 0))
+    (first + count + 1 + scale) (minus_text negative ++ (take count (drop start whole) ++ 46 ∷ drop (16 - scale) fraction))
+rows negative whole fraction start count scale first many more w within f places is row =
+    let behind : 16 - scale + scale ≤ 16 = omega arith in
+    let a = front_is whole w.0 start count within w.1 in
+    let b = front_is fraction f.0 (16 - scale) scale behind f.1 in
+    let last = take_all scale (drop (16 - scale) fraction) (omega (arith, f.0, length-drop (16 - scale) fraction)) in
+    let room = filled_is negative first count scale many more _ _ (is ∙ minus_length negative)
+    (front_all whole w.0 start count within w.1, a.ascii) (front_all fraction f.0 (16 - scale) scale behind f.1, b.ascii)
+    (omega arith, places) row in
+    record {
+      ascii = room.ascii;
+      within = room.within;
+      shown = room.shown ∙ rw (a.shown, b.shown, last) refl;
+    }
 
-  abbrev behind : List ℕ
-  behind = front fraction f.0 (16 - scale) scale (omega arith) f.1
-
-  some : (length before ≡ 16) × IsAscii before
-  some = (front_all whole w.0 start count within w.1, front_ascii whole w.0 start count within w.1)
-
-  rest : (length behind ≡ 16) × IsAscii behind
-  rest = (front_all fraction f.0 (16 - scale) scale (omega arith) f.1, front_ascii fraction f.0 (16 - scale) scale (omega arith) f.1)
-
-  few : (count ≤ 16) × (scale ≤ 16)
-  few = (omega arith, places)
-
-  abbrev room : List ℕ
-  room = with_fraction negative first is before behind some rest count scale many more few row
-
-  ascii : IsAscii room
-  ascii = room_ascii negative first is before behind some rest count scale many more few row
-
-  long : first + count + 1 + scale ≤ length room
-  long = room_long negative first is before behind some rest count scale many more few row
-
-  text : take (first + count + 1 + scale) room
-      ≡ minus_text negative ++ (take count (drop start whole) ++ 46 ∷ drop (16 - scale) fraction)
-  text = room_text negative first is before behind some rest count scale many more few row
-      ∙ rw (front_taken whole w.0 start count within w.1, front_taken fraction f.0 (16 - scale) scale (omega arith) f.1)
-      (ap (λ l. minus_text negative ++ (take count (drop start whole) ++ 46 ∷ l))
-      (take_all scale (drop (16 - scale) fraction) (omega (arith, f.0, length-drop (16 - scale) fraction))))
-
-pub from_utf8_unchecked-requires : goal.from_utf8_unchecked-requires
-from_utf8_unchecked-requires c =
+pub push_front-requires : goal.push_front-requires
+push_front-requires c =
     let a = c.args in
     let r = c.requires in
-    let is = c.from-first.ensures ∙ minus_length a.negative in
-    IsUtf8-from_ascii _ (rw (c.copy_from_slice.ensures.after, c.copy_from_slice-2.ensures.after, c.front_of.ensures, c.front_of-2.ensures)
-    (ascii a.negative a.whole a.fraction a.start a.count a.scale r.whole r.within r.fraction r.places c.from-first.result
-    _ _ is (omega arith)))
-
-minus_is : (c : In_ok-push_str) → c.from-first.result ≡ length (minus_text c.args.negative)
-minus_is c = c.from-first.ensures ∙ minus_length c.args.negative
-
--- the room as it is filled
-abbrev filled : In_ok-push_str → List ℕ
-filled c =
-    let a = c.args in
-    let r = c.requires in
-    let first = c.from-first.result in
-    room a.negative a.whole a.fraction a.start a.count a.scale r.whole r.within r.fraction r.places first (first + 16 - first)
-    (first + a.count + 1 + 16 - (first + a.count + 1)) (minus_is c) (omega arith)
-
--- is appended whole,
-appended : (c : In_ok-push_str) → string_bytes c.push_str.new.self ≡ string_bytes c.args.out.now ++ filled c
-appended c = rw (
-  c.in_ok-push_str.ensures.bytes,
-  c.from_utf8_unchecked.ensures,
-  c.copy_from_slice.ensures.after,
-  c.copy_from_slice-2.ensures.after,
-  c.front_of.ensures,
-  c.front_of-2.ensures,
-) refl
-
--- and has what is kept of it at its front
-filled_ascii : (c : In_ok-push_str) → IsAscii (filled c)
-filled_ascii c =
-    let a = c.args in
-    let r = c.requires in
-    ascii a.negative a.whole a.fraction a.start a.count a.scale r.whole r.within r.fraction r.places c.from-first.result _ _ (minus_is c)
-    (omega arith)
-
-filled_long : (c : In_ok-push_str) → c.from-first.result + c.args.count + 1 + c.args.scale ≤ length (filled c)
-filled_long c =
-    let a = c.args in
-    let r = c.requires in
-    long a.negative a.whole a.fraction a.start a.count a.scale r.whole r.within r.fraction r.places c.from-first.result _ _ (minus_is c)
-    (omega arith)
-
-pub truncate-requires : goal.truncate-requires
-truncate-requires c = λ l.
-    let at = (goal.at.truncate-requires c).In_ok-push_str in
-    rw (appended at)
-    (cut_point _ _ (filled_ascii at) (c.from-first.result + c.args.count + 1 + c.args.scale) _ (filled_long at) (search rules))
+    let room = rows a.negative a.whole a.fraction a.start a.count a.scale c.from-first.result _ _ r.whole r.within r.fraction r.places
+    c.from-first.ensures (omega arith) in
+    rw (c.copy_from_slice.ensures.after, c.copy_from_slice-2.ensures.after, c.front_of.ensures, c.front_of-2.ensures)
+    (record { ascii = room.ascii; within = room.within })
 
 pub returns-clause-written : goal.returns-clause-written
 returns-clause-written c =
     let a = c.args in
     let r = c.requires in
     let first = c.from-first.result in
-    let at = (goal.at.returns-clause-written c).In_ok-push_str in
-    let kept : take (c.len.result + (first + a.count + 1) + a.scale) (string_bytes c.push_str.new.self)
-    ≡ string_bytes a.out.now ++ take (first + a.count + 1 + a.scale) (filled at) =
-    rw (appended at)
-    (cut (string_bytes a.out.now) _ (filled_ascii at) (first + a.count + 1 + a.scale) _ (filled_long at) (search rules)) in
-    c.truncate.ensures.bytes ∙ kept ∙ ap (λ x. string_bytes a.out.now ++ x)
-    (text a.negative a.whole a.fraction a.start a.count a.scale r.whole r.within r.fraction r.places first
-    (first + 16 - first) (first + a.count + 1 + 16 - (first + a.count + 1)) (minus_is at) (omega arith))
+    rw (
+      ← (rows a.negative a.whole a.fraction a.start a.count a.scale first (first + 16 - first)
+          (first + a.count + 1 + 16 - (first + a.count + 1)) r.whole r.within r.fraction r.places c.from-first.ensures (omega arith)).shown,
+      ← c.front_of.ensures,
+      ← c.front_of-2.ensures,
+      ← c.copy_from_slice-2.ensures.after,
+      ← c.copy_from_slice.ensures.after,
+    ) c.push_front.ensures.written
 
--- what the check tries where no answer stands takes longer than these
+-- given for speed: the default tactics take longer
 pub slice_bounds-room-end-2 : goal.slice_bounds-room-end-2
 slice_bounds-room-end-2 c = grind (arith, common_steps)
 
-pub slice_bounds-from_utf8_unchecked-end : goal.slice_bounds-from_utf8_unchecked-end
-slice_bounds-from_utf8_unchecked-end c = grind (arith, common_steps)
+pub slice_bounds-push_front-end : goal.slice_bounds-push_front-end
+slice_bounds-push_front-end c = grind (arith, common_steps)

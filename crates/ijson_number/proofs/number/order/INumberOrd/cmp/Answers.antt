@@ -4,7 +4,7 @@ use Rattle.ijson_number.specs.private.StrippedNumber.{decimal_of}
 use Rattle.ijson_number.proofs.comparing.DigitOrder.{row_digits}
 use Rattle.ijson_number.proofs.number.order.INumberOrd.cmp.Goals as goal
 
--- the looks fit, since the count of digits does
+-- the number of inspections fits, since the number of digits does
 pub compare-requires : goal.compare-requires
 compare-requires c =
     let n = c.stripped-a.result in

@@ -1,6 +1,6 @@
 use Rattle.std.proofs.Common.{◌≡◌, ◌∙◌, suc, ◌-◌, ap, drop, length, arith, rules}
 use Rattle.std.proofs.lemmas.List.{append-nil}
-use Rattle.ijson_number.proofs.storing.ShortNumbers.{row_digits}
+use Rattle.ijson_number.proofs.storing.BlockDigits.{row_digits}
 use Rattle.ijson_number.proofs.repr.digits.ShortDigits.of_row.Goals as goal
 
 pub returns : goal.returns

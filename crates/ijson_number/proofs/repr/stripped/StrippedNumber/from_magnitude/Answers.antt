@@ -13,7 +13,7 @@ use Rattle.ijson_number.specs.Stripped.{stripped_number}
 use Rattle.ijson_number.specs.Strips.{signed}
 use Rattle.ijson_number.specs.private.Stripped.{digits_from_text}
 use Rattle.ijson_number.proofs.storing.IntegerWords.{zero_is, some_is, some_stored}
-use Rattle.ijson_number.proofs.storing.ShortNumbers.{made}
+use Rattle.ijson_number.proofs.storing.BlockDigits.{made}
 use Rattle.ijson_number.proofs.storing.ZerosOff.{exact_sum, few, last}
 use Rattle.ijson_number.proofs.repr.stripped.StrippedNumber.from_magnitude.Goals as goal
 use Rattle.ijson_number.proofs.repr.stripped.StrippedNumber.from_magnitude.Goals.{After-from}
@@ -28,19 +28,19 @@ write_digits-start-requires c =
     let stripped = c.without_zeros-stripped.result.0 in
     (length-decimal-le 20 stripped (omega arith) (omega arith) (search rules), omega arith)
 
--- what is written of the stripped number, and made digits
+-- the text of the stripped number, converted to digits
 written : (s start : ℕ) (text buffer : List ℕ) → 0 < s → s < 2 ^ 64 → length buffer ≡ 20 → drop start text ≡ decimal s ++ []
     → buffer ≡ digits_from_text text → take (20 - start) (drop start buffer) ≡ digits_of 10 s
 written s start text buffer some word long shown is =
     take_all (20 - start) (drop start buffer) (omega (arith, length-drop start buffer)) ∙ made s start text buffer some word shown is
 
--- the last digit of what is left is not zero
+-- the last digit of the stripped number is not zero
 last_digit : (c : After-from) → c.without_zeros-stripped.result.0 % 10 ≢ 0
 last_digit c =
     let s = c.without_zeros-stripped in
     last c.args.magnitude s.result.0 s.result.1 c.if-magnitude-eq0.false (search rules) s.ensures.tens s.ensures.stripped
 
--- the digits are those of what is left
+-- the digits are those of the stripped number
 digits_are : (c : After-from) → let start = c.write_digits-start.result in
     take (20 - start) (drop start c.make_digits.new.buffer) ≡ digits_of 10 c.without_zeros-stripped.result.0
 digits_are c =
@@ -49,7 +49,7 @@ digits_are c =
     let above : 0 < stripped = omega (arith, last_digit c) in
     written stripped w.result w.new.buf c.make_digits.new.buffer above (search rules) (search rules) w.ensures.written c.make_digits.ensures
 
--- the number is that of the digits, and the exponent has a ten for each zero that was taken off
+-- the number is that of the digits, and its exponent counts the stripped zeros
 number_is : (c : After-from) → let start = c.write_digits-start.result in
     stripped_number (signed c.args.negative c.args.magnitude) c.args.exponent c.args.point
     ≡ stored_number c.args.negative (take (20 - start) (drop start c.make_digits.new.buffer))

@@ -1,7 +1,7 @@
 use Rattle.std.proofs.Common.{rules}
 use Rattle.ijson_number.proofs.repr.stripped.StrippedNumber.from_signed.Goals as goal
 
--- what the check tries where no answer stands takes longer than these
+-- given for speed: the default tactics take longer
 pub from_magnitude-requires : goal.from_magnitude-requires
 from_magnitude-requires c = search rules
 

@@ -10,7 +10,7 @@ returns-then-zeros-self-clause-none c =
     let many : 20 < c.args.zeros + length n.digits.now = omega (arith, c.if-zeros-self.true) in
     large_mantissa n.negative n.digits.now c.args.zeros n.stripped.stripped some many
 
--- what the check tries where no answer stands takes longer than these
+-- given for speed: the default tactics take longer
 pub returns-then-is_empty-clause-some : goal.returns-then-is_empty-clause-some
 returns-then-is_empty-clause-some c = grind (arith, common_steps)
 

@@ -15,6 +15,6 @@ pub returns-in_err-push_lanes-clause-refused : goal.returns-in_err-push_lanes-cl
 returns-in_err-push_lanes-clause-refused c =
     where_refused _ (none_begun (string_bytes c.args.out.now) (string_bytes c.push_lanes.new.out) _ c.in_err-push_lanes.ensures.refused)
 
--- what the check tries where no answer stands takes longer than these
+-- given for speed: the default tactics take longer
 pub returns-clause-written : goal.returns-clause-written
 returns-clause-written c = grind (arith, common_steps)

@@ -1,26 +1,27 @@
-use Rattle.std.proofs.Common.{◌≡◌, ◌∙◌, ◌-◌, ◌+◌, ◌<◌, ◌≤◌, List, ℕ, length, take, drop, drop-drop, take_all, ap, sym, arith}
+use Rattle.std.proofs.Common.{◌≡◌, ◌-◌, ◌+◌, ◌<◌, ◌≤◌, List, ℕ, length, take, drop, drop-drop, take_all, ap, refl, arith}
 use Rattle.std.specs.List.{All}
 use Rattle.std.proofs.lemmas.List.{drop-map, length-drop, length-take-le, take-map, take-take}
 use Rattle.std.proofs.lemmas.List.Elements.{All-drop, All-take}
 use Rattle.std.proofs.lemmas.Str.{IsAscii-drop}
 use Rattle.ijson_number.specs.Text.{digits_text}
 use Rattle.ijson_number.proofs.writing.AsciiTexts.{digits_text_ascii}
+use Rattle.ijson_number.proofs.writing.Beginnings.{all_or_none}
 use Rattle.ijson_number.proofs.writing.DigitRows.{row_ascii, row_long, row_text, with_zero}
 use Rattle.ijson_number.proofs.repr.stripped.StrippedNumber.push_split.Goals as goal
 
--- the digits behind the point stand at the end of the row
-module _ (lanes ds : List ℕ) (few : length ds ≤ 16) (is : drop (16 - length ds) lanes ≡ digits_text ds)
-    (scale : ℕ) (inside : scale ≤ length ds) where
+-- at most 16 digits, with which a vector ends
+module _ (lanes ds : List ℕ) (few : length ds ≤ 16) (is : drop (16 - length ds) lanes ≡ digits_text ds) (scale : ℕ)
+    (inside : scale ≤ length ds) where
   behind : drop (16 - scale) lanes ≡ digits_text (drop (length ds - scale) ds)
   behind =
-      let at : 16 - length ds + (length ds - scale) ≡ 16 - scale = omega arith in
-      ap (λ n. drop n lanes) (sym at) ∙ sym (drop-drop {A = ℕ} (length ds - scale) (16 - length ds) lanes)
-      ∙ ap (drop (length ds - scale)) is ∙ drop-map {X = ℕ} {Y = ℕ} (λ d. 48 + d) (length ds - scale) ds
+      let at : 16 - scale ≡ 16 - length ds + (length ds - scale) = omega arith in
+      rw (at, ← drop-drop {A = ℕ} (length ds - scale) (16 - length ds) lanes, is)
+      (drop-map {X = ℕ} {Y = ℕ} (λ d. 48 + d) (length ds - scale) ds)
 
   before : take (length ds - scale) (drop (16 - length ds) lanes) ≡ digits_text (take (length ds - scale) ds)
-  before = ap (take (length ds - scale)) is ∙ take-map {X = ℕ} {Y = ℕ} (λ d. 48 + d) (length ds - scale) ds
+  before = rw is (take-map {X = ℕ} {Y = ℕ} (λ d. 48 + d) (length ds - scale) ds)
 
--- more digits than a row has, of which one shows the first and another the last
+-- more digits: one vector has the first of them, and another the last
 module _ (ds : List ℕ) (below : All (λ d. d < 10) ds) (many : 16 < length ds) where
   abbrev first : List ℕ
   first = take 16 ds
@@ -37,8 +38,8 @@ module _ (ds : List ℕ) (below : All (λ d. d < 10) ds) (many : 16 < length ds)
   last_is : last ≡ drop (length ds - 16) ds
   last_is =
       let long = length-drop (length ds - 16) ds in
-      ap (take 16) (take_all (length ds - (length ds - 16)) (drop (length ds - 16) ds) (omega (arith, long)))
-      ∙ take_all 16 (drop (length ds - 16) ds) (omega (arith, length-drop (length ds - 16) ds))
+      rw (take_all (length ds - (length ds - 16)) (drop (length ds - 16) ds) (omega (arith, long)))
+      (take_all 16 (drop (length ds - 16) ds) (omega (arith, long)))
 
   last_long : length last ≡ 16
   last_long = rw last_is (omega (arith, length-drop (length ds - 16) ds))
@@ -48,16 +49,20 @@ module _ (ds : List ℕ) (below : All (λ d. d < 10) ds) (many : 16 < length ds)
 
   module _ (scale : ℕ) (inside : scale ≤ 16) (most : length ds ≤ scale + 16) where
     first_shown : take (length ds - scale) (with_zero first) ≡ digits_text (take (length ds - scale) ds)
-    first_shown = ap (take (length ds - scale)) (row_text first first_long first_below)
-        ∙ take-map {X = ℕ} {Y = ℕ} (λ d. 48 + d) (length ds - scale) first
-        ∙ ap digits_text (take-take (length ds - scale) 16 ds (omega arith))
+    first_shown =
+        rw (row_text first first_long first_below, take-map {X = ℕ} {Y = ℕ} (λ d. 48 + d) (length ds - scale) first)
+        (ap digits_text (take-take (length ds - scale) 16 ds (omega arith)))
 
     last_shown : drop (16 - scale) (with_zero last) ≡ digits_text (drop (length ds - scale) ds)
     last_shown =
         let at : length ds - 16 + (16 - scale) ≡ length ds - scale = omega arith in
-        ap (drop (16 - scale)) (row_text last last_long last_below)
-        ∙ drop-map {X = ℕ} {Y = ℕ} (λ d. 48 + d) (16 - scale) last
-        ∙ ap digits_text (ap (drop (16 - scale)) last_is ∙ drop-drop {A = ℕ} (16 - scale) (length ds - 16) ds ∙ ap (λ n. drop n ds) at)
+        rw (
+          row_text last last_long last_below,
+          last_is,
+          drop-map {X = ℕ} {Y = ℕ} (λ d. 48 + d) (16 - scale) (drop (length ds - 16) ds),
+          drop-drop {A = ℕ} (16 - scale) (length ds - 16) ds,
+          at,
+        ) refl
 
 pub push_rows-requires-clause-whole : goal.push_rows-requires-clause-whole
 push_rows-requires-clause-whole c =
@@ -78,14 +83,16 @@ push_rows-requires-clause-fraction c =
           (digits_text_ascii (drop (length ds - scale) ds) (All-drop (λ d. d < 10) (length ds - scale) ds n.stripped.stripped.below_ten)),
     )
 
-pub returns-then-count-le-LANES-clause-written : goal.returns-then-count-le-LANES-clause-written
-returns-then-count-le-LANES-clause-written c =
+pub returns-then-count-le-LANES : goal.returns-then-count-le-LANES
+returns-then-count-le-LANES c =
     let ds = c.args.self.now.digits.now in
     let few : length ds ≤ 16 = omega (arith, c.if-count-le-LANES.true) in
     let lanes = c.requires.lanes few in
     let scale = c.args.scale in
-    rw (← before c.args.lanes ds few lanes scale c.requires.inside, ← behind c.args.lanes ds few lanes scale c.requires.inside)
-    c.push_rows.ensures.written
+    all_or_none _ _ _ _ (rw (
+      ← before c.args.lanes ds few lanes scale c.requires.inside,
+      ← behind c.args.lanes ds few lanes scale c.requires.inside,
+    ) c.push_rows.ensures.written) c.push_rows.ensures.refused
 
 pub push_rows-requires-2-clause-whole : goal.push_rows-requires-2-clause-whole
 push_rows-requires-2-clause-whole c =
@@ -108,13 +115,15 @@ push_rows-requires-2-clause-fraction c =
       IsAscii-drop (with_zero row) (16 - c.args.scale) (row_ascii row (last_long ds below many) (last_below ds below many)),
     )
 
-pub returns-clause-written : goal.returns-clause-written
-returns-clause-written c =
+pub returns : goal.returns
+returns c =
     let n = c.args.self.now in
     let ds = n.digits.now in
     let below = n.stripped.stripped.below_ten in
     let many : 16 < length ds = omega (arith, c.if-count-le-LANES.false) in
-    rw (
-      ← first_shown ds below many c.args.scale c.requires.places c.requires.whole,
-      ← last_shown ds below many c.args.scale c.requires.places c.requires.whole,
-    ) c.push_rows-2.ensures.written
+    let places : c.args.scale ≤ 16 = omega (arith, c.if-scale-gt-LANES.false) in
+    let whole : length ds ≤ c.args.scale + 16 = omega (arith, c.if-before-gt-LANES.false) in
+    all_or_none _ _ _ _ (rw (
+      ← first_shown ds below many c.args.scale places whole,
+      ← last_shown ds below many c.args.scale places whole,
+    ) c.push_rows-2.ensures.written) c.push_rows-2.ensures.refused

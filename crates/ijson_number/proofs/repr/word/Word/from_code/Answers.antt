@@ -1,7 +1,7 @@
 use Rattle.std.proofs.Common.{rules}
 use Rattle.ijson_number.proofs.repr.word.Word.from_code.Goals as goal
 
--- what the check tries where no answer stands takes longer than these
+-- given for speed: the default tactics take longer
 pub returns-clause-mantissa : goal.returns-clause-mantissa
 returns-clause-mantissa c = search rules
 

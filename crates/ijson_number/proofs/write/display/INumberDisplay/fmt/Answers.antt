@@ -10,7 +10,7 @@ use Rattle.ijson_number.proofs.writing.Writing.{shown_text}
 use Rattle.ijson_number.proofs.write.display.INumberDisplay.fmt.Goals as goal
 use Rattle.ijson_number.proofs.write.display.INumberDisplay.fmt.Goals.{Else-is_empty}
 
--- what either branch writes, a minus or none and the shape, is the number's text
+-- either branch, with a minus or none and the shape, writes the text of the number
 shown : (g : _) (c : Else-is_empty g) (minus : Bool) → c.stripped-number.result.negative ≡ minus
     → let n = c.stripped-number.result in
     minus_text minus ++ shape_text n.point n.digits.now (to_z w32 (of_z w32 n.exponent)) ≡ num_text c.args.self.now.decimal
@@ -30,7 +30,7 @@ returns-else-number-2-clause-writes g c = λ p ok.
     has_written_of_eq _ _ _ _ _ (shown g (goal.at.returns-else-number-2-clause-writes g c).Else-is_empty false c.if-number-2.false)
     (c.fmt.ensures.writes p ok)
 
--- what the check tries where no answer stands takes longer than these
+-- given for speed: the default tactics take longer
 pub returns-then-is_empty-clause-writes : goal.returns-then-is_empty-clause-writes
 returns-then-is_empty-clause-writes g c = grind (arith, common_steps)
 

@@ -2,7 +2,7 @@ use Rattle.std.proofs.Common.{arith, rules}
 use Rattle.std.proofs.lemmas.Grind.{common_steps}
 use Rattle.ijson_number.proofs.write.display.PointedDisplay.fmt.Goals as goal
 
--- what the check tries where no answer stands takes longer than these
+-- given for speed: the default tactics take longer
 pub returns-then-self-le0-clause-writes : goal.returns-then-self-le0-clause-writes
 returns-then-self-le0-clause-writes g c = search rules
 

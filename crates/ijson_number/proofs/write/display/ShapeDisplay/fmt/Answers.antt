@@ -10,7 +10,7 @@ use Rattle.ijson_number.proofs.writing.Writing.{float_shape, float_shape_is}
 use Rattle.ijson_number.proofs.write.display.ShapeDisplay.fmt.Goals as goal
 use Rattle.ijson_number.proofs.write.display.ShapeDisplay.fmt.Goals.{After-is_scientific}
 
--- what either branch writes, at the place as the machine has it, is the shape's text
+-- either branch, at the place as an `i128`, writes the text of the shape
 shown : (g : _) (c : After-is_scientific g) (scientific : Bool) → c.is_scientific.result ≡ scientific
     → let s = c.args.self.now in
     let place = to_z w128 (of_z w128 c.place_of-place.result) in
@@ -36,7 +36,7 @@ returns-else-is_scientific-clause-writes g c = λ p ok.
     (shown g (goal.at.returns-else-is_scientific-clause-writes g c).After-is_scientific false c.if-is_scientific.false)
     (c.fmt-else-is_scientific.ensures.writes p ok)
 
--- what the check tries where no answer stands takes longer than these
+-- given for speed: the default tactics take longer
 pub returns-then-not-self-clause-writes : goal.returns-then-not-self-clause-writes
 returns-then-not-self-clause-writes g c = grind (arith, common_steps)
 

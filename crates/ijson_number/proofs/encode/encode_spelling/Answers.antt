@@ -1,0 +1,46 @@
+use Rattle.std.proofs.Common.{◌≡◌, ◌∙◌, ◌++◌, ◌≤◌, ◌^◌, ap, sym, subst, arith}
+use Rattle.std.specs.Prelude.{nat_abs}
+use Rattle.ijson_number.specs.Decimal.{Decimal, IsPlain}
+use Rattle.ijson_number.specs.Form.{is_digits}
+use Rattle.ijson_number.specs.Grammar.{value}
+use Rattle.ijson_number.specs.declared.general_reader.CanonicalSpelling.{CanonicalSpelling}
+use Rattle.ijson_number.specs.declared.significand.Significand.{Significand}
+use Rattle.ijson_number.specs.laws.Tens.{abs_signed}
+use Rattle.ijson_number.specs.private.CanonicalSpelling.{spelled_number}
+use Rattle.ijson_number.specs.private.Significand.{canonical_number}
+use Rattle.ijson_number.proofs.AnyAnswer.{where_refused}
+use Rattle.ijson_number.proofs.parsing.CanonicalSpellings.{many_digits}
+use Rattle.ijson_number.proofs.storing.FormCases.{long_form}
+use Rattle.ijson_number.proofs.storing.Significands.{encoded}
+use Rattle.ijson_number.proofs.encode.encode_spelling.Goals as goal
+
+-- the magnitude is the value of the digits
+magnitude_is : (s : Significand) (t : CanonicalSpelling) → canonical_number s ≡ spelled_number t → s.magnitude ≡ value (t.front.now ++ t.back.now)
+magnitude_is s t is =
+    sym (abs_signed s.negative s.magnitude) ∙ ap (λ (n : Decimal). nat_abs n.mantissa) is
+    ∙ abs_signed t.negative (value (t.front.now ++ t.back.now))
+
+pub word-requires : goal.word-requires
+word-requires c = subst IsPlain (sym c.in-Some.ensures.some) c.requires.num.plain
+
+pub encode_list-requires-clause-many : goal.encode_list-requires-clause-many
+encode_list-requires-clause-many c = λ _.
+    let s = c.args.spelling.now in
+    let large : 2 ^ 64 ≤ value (s.front.now ++ s.back.now) = rw (abs_signed s.negative (value (s.front.now ++ s.back.now))) at
+    c.in_default.ensures.none in
+    many_digits s.front.now s.back.now c.requires.front c.requires.back (omega (arith, large))
+
+pub returns-in_default-clause-form : goal.returns-in_default-clause-form
+returns-in_default-clause-form c =
+    encoded c.encode_list.result _ _ (long_form (spelled_number c.args.spelling.now) c.in_default.ensures.none) c.encode_list.ensures
+
+pub returns-in_default-clause-refused : goal.returns-in_default-clause-refused
+returns-in_default-clause-refused c =
+    where_refused c.encode_list.result (ap is_digits (long_form (spelled_number c.args.spelling.now) c.in_default.ensures.none))
+
+pub encode_list-requires-then-significand-ge-DIGITS_END-clause-many : goal.encode_list-requires-then-significand-ge-DIGITS_END-clause-many
+encode_list-requires-then-significand-ge-DIGITS_END-clause-many c = λ _.
+    let s = c.args.spelling.now in
+    let large = c.if-significand-ge-DIGITS_END.true in
+    many_digits s.front.now s.back.now c.requires.front c.requires.back
+    (omega (arith, large, magnitude_is c.in-Some.significand s c.in-Some.ensures.some))

@@ -1,0 +1,7 @@
+use Rattle.std.proofs.Common.{arith}
+use Rattle.std.proofs.lemmas.Grind.{common_steps}
+use Rattle.ijson_number.proofs.fast_reader.is_whole.Goals as goal
+
+-- given for speed: the default tactics take longer
+pub returns-then-digits-eq1 : goal.returns-then-digits-eq1
+returns-then-digits-eq1 c = grind (arith, common_steps)

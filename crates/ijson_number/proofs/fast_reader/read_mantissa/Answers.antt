@@ -1,0 +1,96 @@
+use Rattle.std.proofs.Common.{◌≡◌, ◌+◌, ◌++◌, ℕ, List, length, take, sym, ap, ◌∙◌, append_assoc, arith}
+use Rattle.std.specs.Prelude.{pos, neg_ℤ}
+use Rattle.std.proofs.lemmas.Grind.{common_steps}
+use Rattle.std.proofs.lemmas.Int.{ints}
+use mir.Syntax.{w32}
+use Rattle.ijson_number.proofs.storing.SmallExponents.{negated}
+use Rattle.std.proofs.lemmas.List.{length-append, length-take-le, take-append-drop}
+use Rattle.ijson_number.specs.CommonFront.{IsCommonFront}
+use Rattle.ijson_number.specs.Grammar.{Parts, value}
+use Rattle.ijson_number.specs.private.Significand.{IsFewFraction}
+use Rattle.ijson_number.proofs.storing.DigitBounds.{joined_value, room_left}
+use Rattle.ijson_number.proofs.parsing.OneDivision.{minus_of}
+use Rattle.ijson_number.proofs.parsing.CommonFronts.{plain_tail, whole_taken}
+use Rattle.ijson_number.proofs.fast_reader.read_mantissa.Goals as goal
+use Rattle.ijson_number.proofs.fast_reader.read_mantissa.Goals.{After-split_at}
+
+pub take_fraction-requires-clause-room : goal.take_fraction-requires-clause-room
+take_fraction-requires-clause-room c =
+    let t = c.take_whole-number in
+    let count : length (take t.result.1 c.split_sign-negative.result.1.now) ≡ t.result.1 =
+    length-take-le t.result.1 c.split_sign-negative.result.1.now t.ensures.within in
+    rw t.ensures.value (room_left (take t.result.1 c.split_sign-negative.result.1.now) t.result.1 t.ensures.digits count t.ensures.few)
+
+pub returns-clause-found : goal.returns-clause-found
+returns-clause-found c =
+    let text = c.args.text.now in
+    let t = c.take_whole-number in
+    let unsigned = c.split_sign-negative.result.1.now in
+    let whole = c.split_at.result.0.now in
+    let behind = c.split_at.result.1.now in
+    let tail = c.in_ok-magnitude.ensures.tail in
+    let rest = c.in_ok-magnitude.rest.now in
+    let few = tail.few in
+    let minus = minus_of text unsigned c.split_sign-negative.result.0 c.split_sign-negative.ensures in
+    let split : unsigned ≡ whole ++ behind =
+    rw (c.split_at.ensures.front, c.split_at.ensures.back) (sym (take-append-drop t.result.1 unsigned)) in
+    let front = minus.0 ++ (whole ++ tail.front) in
+    let all : text ≡ front ++ rest =
+    minus.2 ∙ ap (λ u. minus.0 ++ u) (split ∙ ap (λ b. whole ++ b) tail.text_is ∙ sym (append_assoc whole tail.front rest))
+    ∙ sym (append_assoc minus.0 (whole ++ tail.front) rest) in
+    let sum : length text ≡ length front + length rest = ap length all ∙ length-append front rest in
+    let made : t.result.0 ≡ value whole = t.ensures.value ∙ ap value (sym c.split_at.ensures.front) in
+    record {
+      minus_text = minus.0;
+      whole = whole;
+      fraction_text = tail.front;
+      fraction = tail.digits;
+      text_is = all;
+      length_is = omega (arith, sum);
+      minus = minus.1;
+      whole_is = c.is_whole.ensures.0 c.if-not-is_whole.false;
+      fraction_is = tail.fraction;
+      exponent_is = rw (negated w32 c.in_ok-magnitude.scale (omega (arith, ints, few)) (omega (arith, ints, few))) (ap (λ n. neg_ℤ (pos n)) (sym tail.count));
+      magnitude_is = rw made at tail.value ∙ joined_value whole tail.digits;
+      few = omega (arith, tail.count, few);
+      small = tail.small;
+    }
+
+-- the whole part consists of the leading digits,
+taken : (c : After-split_at) (p : Parts) (rest : List ℕ) (f : IsCommonFront c.args.text.now p rest)
+    → (c.split_at.result.0.now ≡ p.whole) × (c.split_at.result.1.now ≡ f.fraction_text ++ f.after)
+taken c p rest f =
+    let t = c.take_whole-number.ensures in
+    let s = c.split_at.ensures in
+    whole_taken c.args.text.now _ _ _ _ p rest _ c.split_sign-negative.ensures s.front s.back s.front_len t.digits t.all f
+
+-- and the fraction has few digits
+tail : (c : After-split_at) (p : Parts) (rest : List ℕ) (f : IsCommonFront c.args.text.now p rest)
+    → IsFewFraction c.take_whole-number.result.0 c.take_whole-number.result.1 c.split_at.result.1.now f.fraction_text f.after
+tail c p rest f =
+    let s = c.split_at.ensures in
+    rw (c.take_whole-number.ensures.value ∙ ap value (sym s.front))
+    (plain_tail c.args.text.now c.split_at.result.0.now c.split_at.result.1.now p rest c.take_whole-number.result.1 s.front_len f
+    (taken c p rest f))
+
+pub returns-clause-rest : goal.returns-clause-rest
+returns-clause-rest c = λ p rest f.
+    let at = goal.at.returns-clause-rest c in
+    c.in_ok-magnitude.ensures.rest f.fraction_text f.after (tail at.After-split_at p rest f)
+
+pub returns-then-not-is_whole-clause-none : goal.returns-then-not-is_whole-clause-none
+returns-then-not-is_whole-clause-none c = λ p rest f.
+    let is = c.is_whole.ensures.1 (rw (taken (goal.at.returns-then-not-is_whole-clause-none c).After-split_at p rest f).0 f.whole) in
+    let not = c.if-not-is_whole.true in
+    grind (arith, is, not)
+
+pub returns-in_err-magnitude-clause-none : goal.returns-in_err-magnitude-clause-none
+returns-in_err-magnitude-clause-none c =
+    let at = goal.at.returns-in_err-magnitude-clause-none c in
+    rw c.from_residual.ensures
+    (λ p rest f. c.in_err-magnitude.ensures.none f.fraction_text f.after
+    (tail at.After-split_at p rest f))
+
+-- given for speed: the default tactics take longer
+pub overflow_sub-front : goal.overflow_sub-front
+overflow_sub-front c = grind (arith, common_steps)

@@ -1,0 +1,103 @@
+use Rattle.std.proofs.Common.{◌≡◌, ◌≢◌, ◌+◌, ◌-◌, ◌*◌, ◌^◌, ◌<◌, ◌≤◌, List, ℕ, [], ◌∷◌, ◌++◌, length, take, drop}
+use Rattle.std.proofs.Common.{inl, inr, refl, sym, ap, ◌∙◌, arith}
+use Rattle.std.proofs.lemmas.Bool.{cases_eq}
+use Rattle.std.specs.Int.Digits.{number_from_digits_after}
+use Rattle.std.proofs.lemmas.Bool.Decides.{nat_tests}
+use Rattle.std.proofs.lemmas.List.{take-append-drop}
+use Rattle.ijson_number.specs.Grammar.{AllDigits}
+use Rattle.ijson_number.specs.private.Reading.{BeginsWithNoDigit}
+use Rattle.ijson_number.specs.private.Stripped.{digits_from_text}
+use Rattle.ijson_number.proofs.storing.DigitBounds.{digits_small}
+use Rattle.ijson_number.proofs.storing.Significands.{no_more}
+use Rattle.ijson_number.proofs.parsing.CommonFronts.{point_tail}
+use Rattle.ijson_number.proofs.parsing.DigitRuns.{IsDigits_from}
+use Rattle.ijson_number.proofs.parsing.NumberTails.{point_first}
+use Rattle.ijson_number.proofs.fast_reader.take_fraction.Goals as goal
+
+-- a point, at most `most` digits after it, the text after them, and the number with the digits appended
+record IsPointTaken (number : ℕ) (bytes : List ℕ) (most longer scale : ℕ) (digits rest : List ℕ) : Type 0 where
+  text_is : bytes ≡ 46 ∷ (digits ++ rest)
+  all_digits : AllDigits digits
+  count : length digits ≡ scale
+  few : length digits ≤ most
+  -- no digit follows, unless there are `most`
+  ends : length digits < most → BeginsWithNoDigit rest
+  value : longer ≡ number_from_digits_after 10 number (digits_from_text digits)
+
+point_taken : (c : goal.After-rest-1) → IsPointTaken c.args.number c.args.bytes.now c.places_left.result c.take_lanes-longer.result.0
+    c.take_lanes-longer.result.1 c.split_at.result.0.now c.split_at.result.1.now
+point_taken c =
+    let bytes = c.args.bytes.now in
+    let taken = c.take_lanes-longer in
+    let split = c.split_at.ensures in
+    let behind = take (length bytes - 1) (drop 1 bytes) in
+    record {
+      text_is = point_first bytes c.split_at.result.0.now c.split_at.result.1.now (grind arith) (grind arith)
+          (rw (split.front, split.back) (sym (take-append-drop taken.result.1 behind)));
+      all_digits = rw split.front taken.ensures.digits;
+      count = split.front_len;
+      few = omega (arith, split.front_len, taken.ensures.few);
+      ends = λ h. rw split.back (taken.ensures.all (omega (arith, split.front_len)));
+      value = taken.ensures.value
+          ∙ ap (λ (l : List ℕ). number_from_digits_after 10 c.args.number (digits_from_text l)) (sym split.front);
+    }
+
+-- the number with `most` more digits stays below 10^19
+room : (number count most : ℕ) → (number ≡ 0 → most ≡ 19) → (number ≢ 0 → most ≡ 19 - count) → (number + 1) * 10 ^ (19 - count) ≤ 10 ^ 19
+    → (number + 1) * 10 ^ most ≤ 10 ^ 19
+room number count most zero others left = elim (cases_eq number 0) [
+  | inl none ↦ rw (none, zero none) (omega arith)
+  | inr some ↦ rw (others some) left
+]
+
+most_places : (number count most : ℕ) → (number ≡ 0 → most ≡ 19) → (number ≢ 0 → most ≡ 19 - count) → most ≤ 19
+most_places number count most zero others = elim (cases_eq number 0) [
+  | inl none ↦ (let all = zero none in omega (arith, all))
+  | inr some ↦ (let rest = others some in omega (arith, rest))
+]
+
+pub take_lanes-longer-requires : goal.take_lanes-longer-requires
+take_lanes-longer-requires c =
+    let left = c.places_left.ensures in
+    room c.args.number c.args.count c.places_left.result left.zero left.others c.requires.room
+
+pub returns-in_default-clause-tail : goal.returns-in_default-clause-tail
+returns-in_default-clause-tail c =
+    let more = no_more (c.args.number + 1) (19 - c.args.count) in
+    record {
+      front = [];
+      digits = [];
+      text_is = refl;
+      fraction = (refl, refl);
+      count = refl;
+      value = refl;
+      few = omega arith;
+      small = omega (arith, more, c.requires.room);
+    }
+
+pub returns-clause-tail : goal.returns-clause-tail
+returns-clause-tail c =
+    let taken = point_taken c in
+    let digits = c.split_at.result.0.now in
+    let left = c.places_left.ensures in
+    let some : 0 < c.take_lanes-longer.result.1 = omega arith in
+    record {
+      front = 46 ∷ digits;
+      digits = digits;
+      text_is = taken.text_is;
+      fraction = (refl, IsDigits_from digits (omega (arith, taken.count)) taken.all_digits, refl, grind (arith, nat_tests));
+      count = taken.count;
+      value = taken.value;
+      few = omega
+          (arith, taken.count, taken.few, most_places c.args.number c.args.count c.places_left.result left.zero left.others);
+      small = rw taken.value
+          (digits_small c.args.number digits c.places_left.result taken.all_digits taken.few
+          (room c.args.number c.args.count c.places_left.result left.zero left.others c.requires.room));
+    }
+
+pub returns-clause-rest : goal.returns-clause-rest
+returns-clause-rest c = λ front rest t.
+    let taken = point_taken c in
+    let left = c.places_left.ensures in
+    (point_tail c.places_left.result c.args.bytes.now front rest c.split_at.result.0.now c.split_at.result.1.now taken.text_is
+    taken.all_digits taken.ends c.args.number c.args.count left.zero left.others t).1

@@ -1,0 +1,9 @@
+use Rattle.std.proofs.Common.{◌≤◌, ◌-◌, length, take}
+use Rattle.ijson_number.specs.Grammar.{AllDigits}
+use Rattle.ijson_number.proofs.general_reader.split_digits.Given as goal
+
+abbrev pub invariant-loop-count : goal.invariant-loop-count
+invariant-loop-count l = record { inside : l.count ≤ length l.bytes; digits : AllDigits (take l.count l.bytes) }
+
+abbrev pub decreases-loop-count : goal.decreases-loop-count
+decreases-loop-count l = length l.bytes - l.count

@@ -1,6 +1,0 @@
-use Rattle.std.proofs.Common.{◌≡◌, ◌^◌, min, take}
-use Rattle.ijson_number.specs.Grammar.{value}
-use Rattle.ijson_number.proofs.parse.exact.capped.Given as goal
-
-abbrev pub invariant-loop-digit : goal.invariant-loop-digit
-invariant-loop-digit l = l.number ≡ min (value (take l.digit-index l.digits)) (2 ^ 80)

@@ -1,0 +1,137 @@
+-- The postconditions of the scanner, once the zeros are stripped.
+use Rattle.std.proofs.Common.{◌≡◌, ◌≢◌, ℕ, zero, suc, ◌+◌, ◌-◌, ◌^◌, ◌<◌, ◌≤◌, Bool, false, List, [], ◌∷◌, ◌++◌, length}
+use Rattle.std.proofs.Common.{get_or, replicate, refl, ap, sym, ◌∙◌, length-append, inl, inr, arith}
+use Rattle.std.specs.Prelude.{ℤ, pos}
+use Rattle.std.specs.List.{AllByRecursion}
+use Rattle.std.proofs.lemmas.List.{length-map, map-append, nil_from_length}
+use Rattle.std.proofs.lemmas.List.Elements.{All-from_recursion}
+use Rattle.std.specs.Int.Digits.{number_from_digits}
+use Rattle.ijson_number.specs.Decimal.{Decimal}
+use Rattle.ijson_number.specs.Num.{IsNum}
+use Rattle.ijson_number.specs.private.Reading.{IsWithin, exponent_of, BeginsWithNoZero, EndsWithNoZero}
+use Rattle.ijson_number.specs.private.StoredNumber.{IsStored}
+use Rattle.ijson_number.specs.StoredNumber.{stored_number}
+use Rattle.ijson_number.specs.Grammar.{AllDigits, Denotes, Parts, IsSpelled, IsFraction, Spells, value}
+use Rattle.ijson_number.specs.private.Stripped.{IsStripped, digits_from_text}
+use Rattle.ijson_number.proofs.parsing.DigitRuns.{AllDigits-append, AllDigits_left, AllDigits_right, IsDigits_all}
+use Rattle.ijson_number.proofs.parsing.OneDivision.{whole_all}
+use Rattle.std.proofs.lemmas.Bool.{cases_lt}
+use Rattle.ijson_number.proofs.storing.DigitBounds.{value_small}
+use Rattle.ijson_number.specs.laws.Tens.{power_le, signed_zero}
+use Rattle.ijson_number.proofs.parsing.Exponents.{within_in_range, in_range_within}
+use Rattle.ijson_number.proofs.parsing.Denotes.{denotes_some, denotes_zero, spells_one, stripped_plain, stripped_mod, pointless}
+
+below_ten : (bs : List ℕ) → AllDigits bs → AllByRecursion (λ d. d < 10) (digits_from_text bs)
+below_ten [] h = tt
+below_ten (b ∷ bs) h = (omega arith, below_ten bs h.1)
+
+digit_at : (bs : List ℕ) (i : ℕ) → AllDigits bs → i < length bs
+    → (48 ≤ get_or bs i 0) × (get_or (digits_from_text bs) i 0 ≡ get_or bs i 0 - 48)
+digit_at [] i h l = absurd (omega arith)
+digit_at (b ∷ bs) zero h l = (omega arith, refl)
+digit_at (b ∷ bs) (suc i) h l = digit_at bs i h.1 (omega arith)
+
+not_zero_at : (bs : List ℕ) (i : ℕ) → AllDigits bs → i < length bs → get_or bs i 0 ≢ 48 → get_or (digits_from_text bs) i 0 ≢ 0
+not_zero_at bs i h l n e = let r = digit_at bs i h l in n (omega arith)
+
+pub count_is : (front back : List ℕ) → length (digits_from_text (front ++ back)) ≡ length front + length back
+count_is front back = length-map {A = ℕ} {B = ℕ} (front ++ back) (λ b. b - 48) ∙ length-append front back
+
+-- the digits of two texts in order
+pub joined : (front back one two : List ℕ) → one ≡ digits_from_text front → two ≡ one ++ digits_from_text back
+    → two ≡ digits_from_text (front ++ back)
+joined front back one two a b = b ∙ ap (λ x. x ++ digits_from_text back) a ∙ sym (map-append {A = ℕ} {B = ℕ} (λ b. b - 48) front back)
+
+pub text_stripped : (bs : List ℕ) → AllDigits bs → BeginsWithNoZero bs → EndsWithNoZero bs → IsStripped (digits_from_text bs)
+text_stripped bs h f l =
+    let len : length (digits_from_text bs) ≡ length bs = length-map {A = ℕ} {B = ℕ} bs (λ b. b - 48) in
+    record {
+      below_ten = All-from_recursion (λ d. d < 10) (digits_from_text bs) (below_ten bs h);
+      first = λ p. not_zero_at bs 0 h (rw len at p) (f (rw len at p));
+      last = λ p. rw len (not_zero_at bs (length bs - 1) h (omega arith) (l (rw len at p)));
+    }
+
+begins_left : (a b : List ℕ) → BeginsWithNoZero (a ++ b) → BeginsWithNoZero a
+begins_left [] b h p = absurd (omega arith)
+begins_left (x ∷ a) b h p = h (omega arith)
+
+fraction_digits : (ft f : List ℕ) (p : Bool) → IsFraction ft f p → AllDigits f
+fraction_digits [] f p g = rw g.0 tt
+fraction_digits (b ∷ bs) f p g = rw g.2 (IsDigits_all bs g.1)
+
+-- digits of which `j` leading and then `k` trailing zeros are stripped
+pub record ZerosTaken (text : List ℕ) (p : Parts) (w f a b : List ℕ) (j k : ℕ) : Type 0 where
+  pub spelled : IsSpelled text p
+  pub front : p.whole ++ p.fraction ≡ replicate j 48 ++ (w ++ f)
+  pub back : w ++ f ≡ (a ++ b) ++ replicate k 48
+  pub first : BeginsWithNoZero (w ++ f)
+  pub last : EndsWithNoZero (a ++ b)
+
+module _ {text : List ℕ} {p : Parts} {w f a b : List ℕ} {j k : ℕ} (taken : ZerosTaken text p w f a b j k) where
+  open taken use {spelled, front, back, first, last}
+
+  all_digits : AllDigits (a ++ b)
+  all_digits =
+      let h = AllDigits-append p.whole p.fraction (whole_all p.whole spelled.whole)
+      (fraction_digits spelled.fraction_text p.fraction spelled.has_point spelled.fraction) in
+      let g : AllDigits (w ++ f) = AllDigits_right (replicate j 48) (w ++ f) (rw front at h) in
+      AllDigits_left (a ++ b) (replicate k 48) (rw back at g)
+
+  pub digits_front : AllDigits a
+  digits_front = AllDigits_left a b all_digits
+
+  pub digits_back : AllDigits b
+  digits_back = AllDigits_right a b all_digits
+
+  stripped : IsStripped (digits_from_text (a ++ b))
+  stripped = text_stripped (a ++ b) all_digits (begins_left (a ++ b) (replicate k 48) (rw back at first)) last
+
+  some_digits : 0 < length (a ++ b) → 0 < length (digits_from_text (a ++ b))
+  some_digits h = rw (length-map {A = ℕ} {B = ℕ} (a ++ b) (λ b. b - 48)) h
+
+  pub denotes_number : 0 < length (a ++ b) → (e : ℤ) → e ≡ exponent_of p.exponent (length p.fraction) k
+      → Denotes p (stored_number p.negative (digits_from_text (a ++ b)) e p.point)
+  denotes_number h e is = rw is (denotes_some p (w ++ f) (a ++ b) j k front back (some_digits h) stripped (pointless text p k spelled))
+
+  pub denotes_nought : length (a ++ b) ≡ 0 → Denotes p (stored_number false (digits_from_text (a ++ b)) (pos 0) p.point)
+  denotes_nought h =
+      let nil : a ++ b ≡ [] = nil_from_length (a ++ b) h in
+      rw nil (denotes_zero p (w ++ f) (a ++ b) j k front back h)
+
+  pub stores_number : 0 < length (a ++ b) → IsStored p.negative (digits_from_text (a ++ b))
+  stores_number h = record {
+    stripped = stripped;
+    no_minus = λ nil. (let l : length (digits_from_text (a ++ b)) ≡ 0 = ap length nil in let s = some_digits h in absurd (omega arith));
+  }
+
+  pub is_num : 0 < length (a ++ b) → (e : ℤ) → e ≡ exponent_of p.exponent (length p.fraction) k → IsWithin e
+      → IsNum (stored_number p.negative (digits_from_text (a ++ b)) e p.point)
+  is_num h e is within = record {
+    plain = stripped_plain p.negative p.point (digits_from_text (a ++ b)) e stripped (some_digits h)
+        (λ n. rw is (pointless text p k spelled n));
+    in_range = within_in_range (stored_number p.negative (digits_from_text (a ++ b)) e p.point) within;
+  }
+
+  pub past_limit : 0 < length (a ++ b) → (IsWithin (exponent_of p.exponent (length p.fraction) k) → ⊥) → (n : Decimal) → Spells text n
+      → IsNum n → ⊥
+  past_limit h out n s num =
+      let e : n ≡ stored_number p.negative (digits_from_text (a ++ b)) (exponent_of p.exponent (length p.fraction) k) p.point =
+      spells_one text n _ s (p, spelled, denotes_number h _ refl) in
+      let num' = rw e at num in
+      elim (in_range_within (stored_number p.negative (digits_from_text (a ++ b))
+      (exponent_of p.exponent (length p.fraction) k) p.point) num'.in_range) [
+        | inl z ↦ stripped_mod (digits_from_text (a ++ b)) stripped (some_digits h)
+            (rw (signed_zero p.negative (number_from_digits 10 (digits_from_text (a ++ b))) z) refl)
+        | inr within ↦ out within
+      ]
+
+-- a number of at least 10^19 has 20 digits or more
+pub many_digits : (front back : List ℕ) → AllDigits front → AllDigits back → 10 ^ 19 ≤ value (front ++ back) → 19 < length front + length back
+many_digits front back a b large = elim (cases_lt 19 (length front + length back)) [
+  | inl many ↦ many
+  | inr few ↦ (
+      let small = value_small (front ++ back) (AllDigits-append front back a b) in
+      let power = power_le (length (front ++ back)) 19 (rw length-append few) in
+      absurd (omega (arith, small, power, large))
+      )
+]

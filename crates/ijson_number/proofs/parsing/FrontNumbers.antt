@@ -1,0 +1,200 @@
+-- The leading number of a text, with or without an exponent.
+use Rattle.std.proofs.Common.{◌≡◌, ◌∙◌, ◌⊎◌, get_or, ℕ, ◌+◌, ◌-◌, ◌<◌, ◌≤◌, ◌^◌, Bool, true, false, List, [], ◌∷◌, ◌++◌}
+use Rattle.std.proofs.Common.{length, drop, take, refl, sym, subst, ap, inl, inr, append_assoc, arith}
+use Rattle.std.specs.Prelude.{ℤ, pos, neg_ℤ, ◌+ℤ◌, ◌-ℤ◌, ◌||◌}
+use Rattle.std.proofs.Math.Seq.{drop-append-add, take-append_seam}
+use Rattle.std.proofs.Math.Bool.{or-false, or-true}
+use Rattle.std.proofs.lemmas.Int.{ints}
+use Rattle.std.proofs.lemmas.List.{length-append, length-take-le, take-append-drop}
+use Rattle.ijson_number.specs.Grammar.{AllDigits, IsExponent, IsFraction, IsSigned, IsSpelled, Parts, Spells, value}
+use Rattle.ijson_number.specs.Num.{IsNum}
+use Rattle.ijson_number.specs.Strips.{signed}
+use Rattle.ijson_number.specs.CommonFront.{EndsToken}
+use Rattle.ijson_number.specs.Stripped.{stripped_number}
+use Rattle.ijson_number.specs.declared.fast_reader.Front.{Front}
+use Rattle.ijson_number.specs.declared.significand.Significand.{Significand}
+use Rattle.ijson_number.specs.private.Significand.{IsFront, IsMantissa, IsPower, IsPowerSmall, significand_number}
+use Rattle.ijson_number.specs.private.Reading.{IsExponentSignTaken}
+use Rattle.ijson_number.specs.private.PrefixDigits.{IsTaken}
+use Rattle.ijson_number.proofs.storing.Significands.{parts_number}
+use Rattle.ijson_number.proofs.storing.DigitBounds.{value_small}
+use Rattle.ijson_number.proofs.parsing.DigitRuns.{IsDigits_from}
+use Rattle.ijson_number.proofs.parsing.ExponentTails.{behind_taken}
+use Rattle.ijson_number.specs.laws.Tens.{power_le}
+
+-- leading digits, with an exponent after them or none
+module _ (text : List ℕ) (f : Front) (rest : List ℕ) (m : IsMantissa text f rest) where
+  abbrev front : List ℕ
+  front = m.minus_text ++ (m.whole ++ m.fraction_text)
+
+  abbrev parts : (z : ℤ) (written : Bool) → Parts
+  parts z written = record {
+    negative = f.significand.negative;
+    whole = m.whole;
+    fraction = m.fraction;
+    exponent = z;
+    point = f.significand.point || written;
+  }
+
+  -- followed by the text of an exponent they spell these parts
+  spelled : (exponent_text : List ℕ) (z : ℤ) (written : Bool) → IsExponent exponent_text z written
+      → IsSpelled (front ++ exponent_text) (parts z written)
+  spelled exponent_text z written is = record {
+    minus_text = m.minus_text;
+    fraction_text = m.fraction_text;
+    exponent_text = exponent_text;
+    has_point = f.significand.point;
+    has_exponent = written;
+    text_is = simp append_assoc;
+    minus = m.minus;
+    whole = m.whole_is;
+    fraction = m.fraction_is;
+    exponent = is;
+    point = refl;
+  }
+
+  -- the text up to the end of an exponent of `count` bytes
+  taken : (count : ℕ) → count ≤ length rest → take (f.length + count) text ≡ front ++ take count rest
+  taken count within =
+      let long : length (front ++ take count rest) ≡ f.length + count =
+      omega (arith, length-append front (take count rest), length-take-le count rest within, m.length_is) in
+      let split : text ≡ (front ++ take count rest) ++ drop count rest = m.text_is
+      ∙ ap (λ r. front ++ r) (sym (take-append-drop count rest)) ∙ sym (append_assoc front (take count rest) (drop count rest)) in
+      ap (λ n. take n text) (sym long) ∙ ap (take (length (front ++ take count rest))) split
+      ∙ take-append_seam (front ++ take count rest) (drop count rest)
+
+  -- and the text after it
+  behind : (count : ℕ) → drop (f.length + count) text ≡ drop count rest
+  behind count = ap (λ n. drop (n + count) text) m.length_is ∙ ap (drop (length front + count)) m.text_is ∙ drop-append-add front rest count
+
+  -- the text is as long as both
+  pub whole_length : length text ≡ f.length + length rest
+  whole_length = ap length m.text_is ∙ length-append front rest ∙ ap (λ n. n + length rest) (sym m.length_is)
+
+  -- with `count` bytes of an exponent they are a number
+  at_exponent : (s : Significand) (z : ℤ) (written : Bool) (count : ℕ) → count ≤ length rest → IsExponent (take count rest) z written
+      → EndsToken (drop count rest) → IsPowerSmall z → s.negative ≡ f.significand.negative → s.magnitude ≡ f.significand.magnitude
+      → s.exponent ≡ f.significand.exponent +ℤ z → s.point ≡ f.significand.point || written
+      → (s.point ≡ false → s.exponent ≡ pos 0)
+      → IsFront text (record { significand = s; length = f.length + count })
+  at_exponent s z written count within is ends small negative magnitude exponent point integer =
+      let few = m.few in
+      let low = small.0 in
+      let high = small.1 in
+      let e : s.exponent ≡ z -ℤ pos (length m.fraction) = omega (arith, ints, exponent, m.exponent_is) in
+      let bound = m.small in
+      let n = parts_number (front ++ take count rest) (parts z written) s.magnitude s.exponent (spelled (take count rest) z written is) e
+      (omega (arith, ints)) (omega (arith, ints)) (magnitude ∙ m.magnitude_is) (omega (arith, magnitude)) in
+      let same : stripped_number (signed f.significand.negative s.magnitude) s.exponent (f.significand.point || written)
+      ≡ significand_number s = rw (negative, point) refl in
+      record {
+        within = omega (arith, whole_length);
+        spelled = rw (taken count within) (subst (Spells (front ++ take count rest)) same n.0);
+        small = record {
+          magnitude = omega (arith, magnitude);
+          low = omega (arith, ints, e);
+          high = omega (arith, ints, e);
+          integer = integer;
+          num = subst IsNum same n.1;
+        };
+        ends = rw (behind count) ends;
+      }
+
+-- digits without a sign are a signed number
+signed_of : (ds : List ℕ) (z : ℤ) → 0 < length ds → AllDigits ds → z ≡ pos (value ds) → IsSigned ds z
+signed_of [] z some all is = absurd (omega arith)
+signed_of (d ∷ ds) z some all is = inr (inr ((all.0, all.1), is))
+
+-- `e`, a sign or none and digits are an exponent
+exponent_at : (b : ℕ) (number digits : List ℕ) (negative : Bool) (count : ℕ) (z : ℤ) → b ≡ 101 ⊎ b ≡ 69
+    → IsExponentSignTaken number negative digits
+    → 0 < count → count ≤ length digits → AllDigits (take count digits) → z ≡ signed negative (value (take count digits))
+    → (text : List ℕ) × (b ∷ number ≡ text ++ drop count digits) × IsExponent text z true
+exponent_at b number digits negative count z begins sign some within all is =
+    let ds : List ℕ = take count digits in
+    let long : length ds ≡ count = length-take-le count digits within in
+    let split : digits ≡ ds ++ drop count digits = sym (take-append-drop count digits) in
+    elim sign [
+      | inl e ↦ (
+        b ∷ 45 ∷ ds,
+        ap (λ n. b ∷ n) (e.0 ∙ ap (λ d. 45 ∷ d) split),
+        (begins, inr (inl (refl, IsDigits_from ds (omega (arith, long)) all, is ∙ ap (λ n. signed n (value ds)) e.1)), refl),
+      )
+      | inr e ↦ elim e [
+        | inl p ↦ (
+          b ∷ 43 ∷ ds,
+          ap (λ n. b ∷ n) (p.0 ∙ ap (λ d. 43 ∷ d) split),
+          (begins, inl (refl, IsDigits_from ds (omega (arith, long)) all, is ∙ ap (λ n. signed n (value ds)) p.1), refl),
+        )
+        | inr p ↦ (
+          b ∷ ds,
+          ap (λ n. b ∷ n) (p.0 ∙ split),
+          (begins, signed_of ds z (omega (arith, long)) all (is ∙ ap (λ n. signed n (value ds)) p.1), refl),
+        )
+      ]
+    ]
+
+-- four digits have a value below 10^4
+few_small : (ds : List ℕ) → AllDigits ds → length ds ≤ 4 → value ds < 10 ^ 4
+few_small ds all few = let v = value_small ds all in let p = power_le (length ds) 4 few in omega arith
+
+-- and so have the digits read after `e` and a sign
+pub digits_few : (digits : List ℕ) (magnitude count : ℕ) → IsTaken 0 digits 4 magnitude count → magnitude < 10 ^ 4
+digits_few digits magnitude count t =
+    rw t.value (few_small (take count digits) t.digits (let few = t.few in omega (arith, length-take-le count digits t.within)))
+
+-- `e`, the sign and the digits that were read are a leading exponent
+pub power_at : (bytes digits : List ℕ) (negative : Bool) (magnitude count : ℕ) (z : ℤ) → 0 < length bytes
+    → get_or bytes 0 0 ≡ 101 ⊎ get_or bytes 0 0 ≡ 69
+    → IsExponentSignTaken (drop 1 bytes) negative digits → 0 < count → IsTaken 0 digits 4 magnitude count → z ≡ signed negative magnitude
+    → EndsToken (drop count digits) → IsPower bytes z (length bytes - length (drop count digits))
+power_at [] digits negative magnitude count z some begins sign one t is ends = absurd (omega arith)
+power_at (b ∷ number) digits negative magnitude count z some begins sign one t is ends =
+    let e = exponent_at b number digits negative count z begins sign one t.within t.digits (is ∙ ap (signed negative) t.value) in
+    let long = ap length e.1 ∙ length-append e.0 (drop count digits) in
+    let all : take (length (b ∷ number) - length (drop count digits)) (b ∷ number) ≡ e.0 =
+    (let n : length (b ∷ number) - length (drop count digits) ≡ length e.0 = omega (arith, long) in
+    rw n (ap (take (length e.0)) e.1 ∙ take-append_seam e.0 (drop count digits))) in
+    record {
+      within = omega arith;
+      exponent = rw all e.2;
+      small = rw is (signed_small negative magnitude (digits_few digits magnitude count t));
+      ends = rw (behind_taken (b ∷ number) digits negative count (omega arith) sign) ends;
+    }
+  where
+    signed_small : (negative : Bool) (n : ℕ) → n < 10 ^ 4 → IsPowerSmall (signed negative n)
+    signed_small true n h = (omega (arith, ints), omega (arith, ints))
+    signed_small false n h = (omega (arith, ints), omega (arith, ints))
+
+-- the mantissa with the exponent that was read is a number
+pub front_with : (text rest : List ℕ) (f : Front) (m : IsMantissa text f rest) (power exponent : ℤ) (count : ℕ) → IsPower rest power count
+    → exponent ≡ f.significand.exponent +ℤ power
+    → IsFront text (record {
+      significand = record {
+        negative = f.significand.negative;
+        magnitude = f.significand.magnitude;
+        exponent = exponent;
+        point = true;
+      };
+      length = f.length + count;
+    })
+front_with text rest f m power exponent count is e =
+    at_exponent text f rest m (record {
+      negative = f.significand.negative;
+      magnitude = f.significand.magnitude;
+      exponent = exponent;
+      point = true;
+    }) power true count is.within is.exponent is.ends is.small refl refl e (sym (or-true _)) (λ h. absurd (cc))
+
+-- and it is one without an exponent
+pub front_alone : (text rest : List ℕ) (f : Front) → IsMantissa text f rest → EndsToken rest → IsFront text f
+front_alone text rest f m ends =
+    let s = f.significand in
+    let none : f.length + 0 ≡ f.length = omega arith in
+    let zero : s.exponent ≡ s.exponent +ℤ pos 0 = omega (arith, ints) in
+    rw (← none) (at_exponent text f rest m s (pos 0) false 0 (omega arith) (refl, refl) ends (omega (arith, ints), omega (arith, ints))
+    refl refl zero (sym (or-false _)) (integer s.point m.fraction_text m.fraction m.fraction_is m.exponent_is))
+  where
+    integer : (point : Bool) (text digits : List ℕ) → IsFraction text digits point → {e : ℤ} → e ≡ neg_ℤ (pos (length digits)) → point ≡ false → e ≡ pos 0
+    integer point [] digits f is h = rw f.0 at is
+    integer point (b ∷ bs) digits f is h = absurd (let t : point ≡ true = f.3 in cc)

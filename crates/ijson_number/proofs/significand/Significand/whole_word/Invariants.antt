@@ -1,0 +1,8 @@
+use Rattle.std.proofs.Common.{◌≡◌, ◌-◌}
+use Rattle.ijson_number.specs.Form.{form_of, smallest_packed}
+use Rattle.ijson_number.specs.private.Significand.{canonical_number}
+use Rattle.ijson_number.proofs.significand.Significand.whole_word.Given as goal
+
+-- no smaller exponent fits
+abbrev pub invariant-loop-exponent : goal.invariant-loop-exponent
+invariant-loop-exponent l = form_of (canonical_number l.self) ≡ smallest_packed (8 - l.exponent) l.exponent (canonical_number l.self)

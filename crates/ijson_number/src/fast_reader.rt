@@ -1,0 +1,246 @@
+//! Reads a leading number of at most 19 digits, with no exponent or one of at most four digits, in one pass.
+ghost use Rattle.std.specs.Prelude.{◌≡◌, ◌≢◌, ◌++◌, ◌+◌, ◌-◌, ◌*◌, ◌^◌, ◌<◌, ◌≤◌, ◌↔◌, List, ℕ, length, IfNone, IfSome, IsFalse, IsTrue};
+ghost use Rattle.ijson_number.specs.CommonFront.{EndsToken, IsCommonFront, IsExponentTail};
+ghost use Rattle.ijson_number.specs.Grammar.{AllDigits, IsWhole, Parts};
+ghost use Rattle.ijson_number.specs.private.PrefixDigits.{IsTaken};
+ghost use Rattle.ijson_number.specs.private.Reading.{IsExponentSignTaken, IsSignTaken};
+ghost use Rattle.ijson_number.specs.private.Significand.{IsFewFraction, IsFractionTaken, IsFront, IsMantissa, IsPower};
+
+use crate::parse::lanes::{LANES, digit_count, number_of, power_of_ten};
+use crate::repr::digits::WORD_DIGITS;
+use crate::significand::Significand;
+use std::simd::prelude::*;
+
+/// The number of whole digits that are read one by one, before a vector: most have no more.
+const FEW: usize = 4;
+
+/// The maximum number of exponent digits that this pass reads.
+const EXPONENT_DIGITS: usize = 4;
+
+/// Splits off the sign of an exponent.
+pub fn split_exponent_sign(number: &[u8]) -> (bool, &[u8])
+    ensures { IsExponentSignTaken number.now result.0 result.1.now }
+{
+    match number {
+        [b'-', digits @ ..] => (true, digits),
+        [b'+', digits @ ..] => (false, digits),
+        _ => (false, number),
+    }
+}
+
+/// Splits off a leading minus.
+pub fn split_sign(text: &[u8]) -> (bool, &[u8])
+    ensures { IsSignTaken text.now result.0 result.1.now }
+{
+    match text {
+        [b'-', unsigned @ ..] => (true, unsigned),
+        _ => (false, text),
+    }
+}
+
+/// Whether the digits are a whole part: one digit, or more without a leading zero.
+pub fn is_whole(digits: &[u8]) -> bool
+    requires { AllDigits digits.now }
+    ensures { IsTrue result ↔ IsWhole digits.now }
+{
+    digits.len() == 1 || (!digits.is_empty() && digits[0] != b'0')
+}
+
+/// Appends up to `most` leading digits to `number`, one by one.
+///
+/// Returns the result and how many digits were read.
+#[inline(always)]
+pub fn take_digits(number: u64, bytes: &[u8], most: usize) -> (u64, usize)
+    requires { (number + 1) * 10 ^ most ≤ 10 ^ 19 }
+    ensures { IsTaken number bytes.now most result.0 result.1 }
+{
+    let (mut longer, mut count) = (number, 0);
+    while count < most && count < bytes.len() && bytes[count].is_ascii_digit() {
+        longer = longer * 10 + u64::from(bytes[count] - b'0');
+        count += 1;
+    }
+    (longer, count)
+}
+
+/// Like `take_digits`, with the first 16 bytes read as one vector.
+#[inline(always)]
+fn take_lanes(number: u64, bytes: &[u8], most: usize) -> (u64, usize)
+    requires { (number + 1) * 10 ^ most ≤ 10 ^ 19 }
+    ensures { IsTaken number bytes.now most result.0 result.1 }
+{
+    if bytes.len() < LANES {
+        return take_digits(number, bytes, most);
+    }
+    let lanes = u8x16::from_slice(bytes);
+    let count = digit_count(lanes).min(most);
+    let longer = number * power_of_ten(count) + number_of(lanes, count);
+    if count < LANES {
+        return (longer, count);
+    }
+    let (longest, more) = take_digits(longer, &bytes[LANES..], most - LANES);
+    (longest, LANES + more)
+}
+
+/// Returns the value of up to 19 leading digits, and how many digits were read.
+#[inline(always)]
+fn take_whole(bytes: &[u8]) -> (u64, usize)
+    ensures { IsTaken 0 bytes.now 19 result.0 result.1 }
+{
+    let (number, count) = take_digits(0, bytes, FEW);
+    if count < FEW {
+        return (number, count);
+    }
+    let (longer, more) = take_lanes(number, &bytes[FEW..], WORD_DIGITS - FEW);
+    (longer, FEW + more)
+}
+
+/// Returns the maximum number of fraction digits after `count` whole digits.
+///
+/// There are at most 19 digits in total, not counting a single zero before the point.
+#[inline(always)]
+fn places_left(number: u64, count: usize) -> usize
+    requires { count ≤ 19 }
+    ensures zero { number ≡ 0 → result ≡ 19 }
+    ensures others { number ≢ 0 → result ≡ 19 - count }
+{
+    if number == 0 {
+        WORD_DIGITS
+    } else {
+        WORD_DIGITS - count
+    }
+}
+
+/// Appends the digits after a leading point to `number`, which has `count` digits.
+///
+/// Returns the result, how many digits were read, and the text after them. `None` if no digit follows the point.
+#[inline(always)]
+fn take_fraction(number: u64, count: usize, bytes: &[u8]) -> Option<(u64, usize, &[u8])>
+    requires few { count ≤ 19 }
+    requires room { (number + 1) * 10 ^ (19 - count) ≤ 10 ^ 19 }
+    ensures tail { IfSome result (λ r. IsFractionTaken number bytes.now r.0 r.1 r.2.now) }
+    ensures rest { IfSome result (λ r. (front rest : List ℕ)
+        → IsFewFraction number count bytes.now front rest → r.2.now ≡ rest) }
+    ensures none { IfNone result ((front rest : List ℕ)
+        → IsFewFraction number count bytes.now front rest → ⊥) }
+{
+    let [b'.', behind @ ..] = bytes else {
+        return Some((number, 0, bytes));
+    };
+    let (longer, scale) = take_lanes(number, behind, places_left(number, count));
+    if scale == 0 {
+        return None;
+    }
+    let (_, rest) = behind.split_at(scale);
+    Some((longer, scale, rest))
+}
+
+/// A leading number of a text, and its length in bytes.
+#[derive(Clone, Copy)]
+pub struct Front {
+    pub significand: Significand,
+    pub length: usize,
+}
+
+/// Reads the sign, the whole part and the fraction, and returns the text after them.
+#[inline(always)]
+fn read_mantissa(text: &[u8]) -> Option<(Front, &[u8])>
+    ensures found { IfSome result (λ r. IsMantissa text.now r.0 r.1.now) }
+    ensures rest { IfSome result (λ r. (p : Parts) (rest : List ℕ)
+        → (f : IsCommonFront text.now p rest) → r.1.now ≡ f.after) }
+    ensures none { IfNone result ((p : Parts) (rest : List ℕ) → IsCommonFront text.now p rest → ⊥) }
+{
+    let (negative, unsigned) = split_sign(text);
+    let (number, count) = take_whole(unsigned);
+    let (whole, behind) = unsigned.split_at(count);
+    if !is_whole(whole) {
+        return None;
+    }
+    let (magnitude, scale, rest) = take_fraction(number, count, behind)?;
+    let significand = Significand {
+        negative,
+        magnitude,
+        exponent: -(scale as i32),
+        point: scale > 0,
+    };
+    let front = Front {
+        significand,
+        length: text.len() - rest.len(),
+    };
+    Some((front, rest))
+}
+
+/// Whether the text continues with a digit or a letter, so that no number ends before it.
+#[inline(always)]
+fn continues_token(bytes: &[u8]) -> bool
+    ensures on { IsTrue result → EndsToken bytes.now → ⊥ }
+    ensures ends { IsFalse result → EndsToken bytes.now }
+{
+    match bytes {
+        [byte, ..] => byte.is_ascii_alphanumeric(),
+        [] => false,
+    }
+}
+
+/// Reads an exponent of at most four digits that ends the token, and returns its length in bytes.
+///
+/// Not inlined: few numbers have one.
+#[inline(never)]
+fn read_exponent(bytes: &[u8]) -> Option<(i32, usize)>
+    ensures power { IfSome result (λ r. IsPower bytes.now r.0 r.1) }
+    ensures rest { IfSome result (λ r. (rest : List ℕ)
+        → IsExponentTail bytes.now rest → r.1 + length rest ≡ length bytes.now) }
+    ensures none { IfNone result ((rest : List ℕ) → IsExponentTail bytes.now rest → EndsToken bytes.now) }
+{
+    let [b'e' | b'E', signed @ ..] = bytes else {
+        return None;
+    };
+    let (negative, digits) = split_exponent_sign(signed);
+    let (magnitude, count) = take_digits(0, digits, EXPONENT_DIGITS);
+    let (_, rest) = digits.split_at(count);
+    if count == 0 || continues_token(rest) {
+        return None;
+    }
+    let magnitude = magnitude as i32;
+    let power = if negative { -magnitude } else { magnitude };
+    Some((power, bytes.len() - rest.len()))
+}
+
+/// Adds the exponent that follows, if there is one.
+///
+/// Inlined, so that the return slot of `read_exponent` is zeroed only if there is an exponent.
+#[inline(always)]
+fn with_exponent(front: Front, rest: &[u8]) -> Option<Front>
+    requires mantissa { (text : List ℕ) × IsMantissa text front rest.now }
+    requires continues { EndsToken rest.now → ⊥ }
+    requires length { front.length + length rest.now < 2 ^ 64 }
+    ensures front { IfSome result (λ f. (text : List ℕ) → IsMantissa text front rest.now → IsFront text f) }
+    ensures rest { IfSome result (λ f. (behind : List ℕ)
+        → IsExponentTail rest.now behind → f.length + length behind ≡ front.length + length rest.now) }
+    ensures none { IfNone result ((behind : List ℕ) → IsExponentTail rest.now behind → ⊥) }
+{
+    let (power, length) = read_exponent(rest)?;
+    let significand = Significand {
+        exponent: front.significand.exponent + power,
+        point: true,
+        ..front.significand
+    };
+    Some(Front {
+        significand,
+        length: front.length + length,
+    })
+}
+
+/// Reads a leading number that no digit or letter follows.
+#[inline(always)]
+pub fn read_front(text: &[u8]) -> Option<Front>
+    ensures found { IfSome result (IsFront text.now) }
+    ensures common { IfSome result (λ f. (p : Parts) (rest : List ℕ)
+        → IsCommonFront text.now p rest → f.length + length rest ≡ length text.now) }
+    ensures none { IfNone result ((p : Parts) (rest : List ℕ) → IsCommonFront text.now p rest → ⊥) }
+{
+    let (front, rest) = read_mantissa(text)?;
+    if continues_token(rest) {
+        return with_exponent(front, rest);
+    }
+    Some(front)
+}

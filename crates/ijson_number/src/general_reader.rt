@@ -1,0 +1,357 @@
+//! Reads a number of any length into its parts, and finds the first byte at which a text stops being a number.
+ghost use Rattle.std.specs.Prelude.{◌≡◌, ◌≢◌, ◌++◌, ◌↔◌, ◌<◌, ◌≤◌, ◌-◌, ◌+◌, ◌^◌, min, nat_abs, ℕ, List, ℤ, Bool};
+ghost use Rattle.std.specs.Prelude.{IsTrue, IfSome, IfNone, IsNone, replicate, length};
+ghost use Rattle.std.specs.Int.Digits.{number_from_digits_after};
+ghost use Rattle.ijson_number.specs.Decimal.{Decimal};
+ghost use Rattle.ijson_number.specs.Num.{IsNum};
+ghost use Rattle.ijson_number.specs.private.Reading.{IsWithin, exponent_of, BeginsWithNoDigit};
+ghost use Rattle.ijson_number.specs.private.Reading.{BeginsWithNoZero, EndsWithNoZero, IsTail};
+ghost use Rattle.ijson_number.specs.Strips.{signed};
+ghost use Rattle.ijson_number.specs.Grammar.{AllDigits, Denotes, IsDigits, IsExponent, IsSpelled, Parts, Spells, value};
+ghost use Rattle.ijson_number.specs.private.CanonicalSpelling.{IsCanonicalSpelling, parts_of, spelled_number};
+ghost use Rattle.ijson_number.specs.private.Significand.{canonical_number};
+ghost use Rattle.ijson_number.specs.private.Stripped.{digits_from_text};
+
+use crate::fast_reader::{is_whole, split_exponent_sign, split_sign};
+use crate::significand::Significand;
+
+/// Larger than any exponent within the limit requires, whatever the length of the text.
+const CAP: u128 = 1 << 80;
+
+/// Splits off the leading digits.
+pub fn split_digits<'a>(bytes: &'a [u8]) -> (&'a [u8], &'a [u8])
+    ensures text { bytes.now ≡ result.0.now ++ result.1.now }
+    ensures digits { AllDigits result.0.now }
+    ensures rest { BeginsWithNoDigit result.1.now }
+{
+    let mut count = 0;
+    while count < bytes.len() && bytes[count].is_ascii_digit() {
+        count += 1;
+    }
+    bytes.split_at(count)
+}
+
+/// Whether the text consists of one or more digits.
+#[tactic(auto, using(crate::proofs::parsing::DigitRuns::run_digits))]
+fn is_digits(bytes: &[u8]) -> bool
+    ensures { IsTrue result ↔ IsDigits bytes.now }
+{
+    let (digits, rest) = split_digits(bytes);
+    !digits.is_empty() && rest.is_empty()
+}
+
+/// Strips leading zeros.
+fn strip_leading_zeros(digits: &[u8]) -> &[u8]
+    ensures zeros { digits.now
+        ≡ replicate (length digits.now - length result.now) 48 ++ result.now }
+    ensures first { BeginsWithNoZero result.now }
+{
+    let mut count = 0;
+    while count < digits.len() && digits[count] == b'0' {
+        count += 1;
+    }
+    &digits[count..]
+}
+
+/// Strips trailing zeros.
+fn strip_trailing_zeros(digits: &[u8]) -> &[u8]
+    ensures zeros { digits.now
+        ≡ result.now ++ replicate (length digits.now - length result.now) 48 }
+    ensures last { EndsWithNoZero result.now }
+{
+    let mut end = digits.len();
+    while end > 0 && digits[end - 1] == b'0' {
+        end -= 1;
+    }
+    &digits[..end]
+}
+
+/// Splits an exponent into its sign and its digits; an empty text has neither.
+fn split_exponent(bytes: &[u8]) -> Option<(bool, &[u8])>
+    ensures found { IfSome result (λ r.
+        (written : Bool) × IsExponent bytes.now (signed r.0 (value r.1.now)) written) }
+    ensures digits { IfSome result (λ r. AllDigits r.1.now) }
+    ensures none { IfNone result ((z : ℤ) (written : Bool) → IsExponent bytes.now z written → ⊥) }
+{
+    if bytes.is_empty() {
+        return Some((false, bytes));
+    }
+    let [b'e' | b'E', number @ ..] = bytes else {
+        return None;
+    };
+    let (negative, digits) = split_exponent_sign(number);
+    if is_digits(digits) {
+        Some((negative, digits))
+    } else {
+        None
+    }
+}
+
+/// The part after the whole digits: the fraction digits, and the sign and the digits of the exponent.
+#[derive(Clone, Copy)]
+pub struct Tail<'a> {
+    pub fraction: &'a [u8],
+    pub negative: bool,
+    pub exponent: &'a [u8],
+    pub point: bool,
+}
+
+/// Reads the part after the whole digits.
+#[inline(always)]
+fn read_tail(bytes: &[u8]) -> Option<Tail<'_>>
+    ensures found { IfSome result (λ t.
+        IsTail bytes.now t.fraction.now (signed t.negative (value t.exponent.now)) t.point) }
+    ensures digits { IfSome result (λ t. AllDigits t.exponent.now) }
+    ensures none { IfNone result
+        ((fraction : List ℕ) (z : ℤ) (point : Bool) → IsTail bytes.now fraction z point → ⊥) }
+{
+    let mut fraction: &[u8] = &[];
+    let mut rest = bytes;
+    if let [b'.', behind @ ..] = bytes {
+        (fraction, rest) = split_digits(behind);
+        if fraction.is_empty() {
+            return None;
+        }
+    }
+    let (negative, exponent) = split_exponent(rest)?;
+    Some(Tail {
+        fraction,
+        negative,
+        exponent,
+        point: !bytes.is_empty(),
+    })
+}
+
+/// The parts of a number's text.
+#[derive(Clone, Copy)]
+pub struct Spelling<'a> {
+    pub negative: bool,
+    pub whole: &'a [u8],
+    pub tail: Tail<'a>,
+}
+
+/// Reads a number's text into its parts.
+#[inline(always)]
+pub fn read_spelling(text: &[u8]) -> Option<Spelling<'_>>
+    ensures found { IfSome result (λ s. IsSpelled text.now (parts_of s)) }
+    ensures digits { IfSome result (λ s. AllDigits s.tail.exponent.now) }
+    ensures none { IfNone result ((p : Parts) → IsSpelled text.now p → ⊥) }
+{
+    let (negative, unsigned) = split_sign(text);
+    let (whole, rest) = split_digits(unsigned);
+    if !is_whole(whole) {
+        return None;
+    }
+    let tail = read_tail(rest)?;
+    Some(Spelling {
+        negative,
+        whole,
+        tail,
+    })
+}
+
+/// Whether the whole text spells a number, however large its exponent.
+pub fn is_spelling(text: &[u8]) -> bool
+    ensures { IsTrue result ↔ ((p : Parts) × IsSpelled text.now p) }
+{
+    read_spelling(text).is_some()
+}
+
+/// Strips leading zeros of digits in two pieces.
+fn strip_front<'a>(whole: &'a [u8], fraction: &'a [u8]) -> (&'a [u8], &'a [u8])
+    ensures zeros { (zeros : ℕ)
+        × whole.now ++ fraction.now ≡ replicate zeros 48 ++ (result.0.now ++ result.1.now) }
+    ensures first { BeginsWithNoZero (result.0.now ++ result.1.now) }
+{
+    let front = strip_leading_zeros(whole);
+    if front.is_empty() {
+        (front, strip_leading_zeros(fraction))
+    } else {
+        (front, fraction)
+    }
+}
+
+/// Strips trailing zeros of digits in two pieces.
+fn strip_back<'a>(front: &'a [u8], back: &'a [u8]) -> (&'a [u8], &'a [u8])
+    ensures zeros { let off_front = length front.now - length result.0.now in
+        let off_back = length back.now - length result.1.now in
+        front.now ++ back.now ≡ (result.0.now ++ result.1.now) ++ replicate (off_front + off_back) 48 }
+    ensures front_len { length result.0.now ≤ length front.now }
+    ensures back_len { length result.1.now ≤ length back.now }
+    ensures last { EndsWithNoZero (result.0.now ++ result.1.now) }
+{
+    let tail = strip_trailing_zeros(back);
+    if tail.is_empty() {
+        (strip_trailing_zeros(front), tail)
+    } else {
+        (front, tail)
+    }
+}
+
+/// Returns the value of the digits, capped at `CAP`.
+fn capped(digits: &[u8]) -> u128
+    requires { AllDigits digits.now }
+    ensures { result ≡ min (value digits.now) CAP }
+{
+    let mut number: u128 = 0;
+    for digit in digits {
+        number = (number * 10 + (*digit - b'0') as u128).min(CAP);
+    }
+    number
+}
+
+/// The maximum canonical exponent; this project's own limit.
+const EXPONENT_LIMIT: i128 = 1 << 30;
+
+/// Returns the written exponent, clamped to the cap on both sides.
+fn written_exponent(tail: &Tail<'_>) -> i128
+    requires { AllDigits tail.now.exponent.now }
+    ensures { result ≡ signed tail.now.negative (min (value tail.now.exponent.now) CAP) }
+{
+    let number = capped(tail.exponent) as i128;
+    if tail.negative { -number } else { number }
+}
+
+/// Returns the canonical exponent, or `None` if it exceeds the limit.
+///
+/// It is the written exponent minus the number of fraction digits, plus `tens` trailing zeros.
+fn canonical_exponent(tail: &Tail<'_>, tens: u128) -> Option<i32>
+    requires digits { AllDigits tail.now.exponent.now }
+    requires tens { tens < 2 ^ 65 }
+    ensures some { let written = signed tail.now.negative (value tail.now.exponent.now) in
+        IfSome result (λ e.
+        e ≡ exponent_of written (length tail.now.fraction.now) tens × IsWithin e) }
+    ensures none { let written = signed tail.now.negative (value tail.now.exponent.now) in
+        IfNone result (IsWithin (exponent_of written (length tail.now.fraction.now) tens) → ⊥) }
+{
+    let exponent = written_exponent(tail) + (tens as i128 - tail.fraction.len() as i128);
+    if exponent < -EXPONENT_LIMIT || EXPONENT_LIMIT < exponent {
+        return None;
+    }
+    Some(exponent as i32)
+}
+
+/// The canonical digits of a number, in two pieces of its text, and its exponent within the limit.
+#[derive(Clone, Copy)]
+pub struct CanonicalSpelling<'a> {
+    pub negative: bool,
+    pub front: &'a [u8],
+    pub back: &'a [u8],
+    pub exponent: i32,
+    pub point: bool,
+}
+
+impl<'a> Spelling<'a> {
+    /// Strips leading and trailing zeros. `None` if the canonical exponent exceeds the limit.
+    pub fn canonical(&self) -> Option<CanonicalSpelling<'a>>
+        requires spelled { (text : List ℕ) × IsSpelled text (parts_of self.now) }
+        requires digits { AllDigits self.now.tail.exponent.now }
+        ensures denoted { IfSome result (λ s. Denotes (parts_of self.now) (spelled_number s)) }
+        ensures canonical { IfSome result IsCanonicalSpelling }
+        ensures none { IfNone result ((n : Decimal)
+            → Denotes (parts_of self.now) n
+            → IsNum n
+            → ⊥) }
+    {
+        let tail = self.tail;
+        let (whole, fraction) = strip_front(self.whole, tail.fraction);
+        let (front, back) = strip_back(whole, fraction);
+        if front.is_empty() && back.is_empty() {
+            return Some(CanonicalSpelling {
+                negative: false,
+                front,
+                back,
+                exponent: 0,
+                point: tail.point,
+            });
+        }
+        let tens = (whole.len() - front.len()) as u128 + (fraction.len() - back.len()) as u128;
+        let exponent = canonical_exponent(&tail, tens)?;
+        Some(CanonicalSpelling {
+            negative: self.negative,
+            front,
+            back,
+            exponent,
+            point: tail.point,
+        })
+    }
+}
+
+/// Appends the digits to `number`, if the result fits a `u64`.
+fn append_digits(number: u64, digits: &[u8]) -> Option<u64>
+    requires { AllDigits digits.now }
+    ensures some { IfSome result (λ n. n ≡ number_from_digits_after 10 number (digits_from_text digits.now)) }
+    ensures none { IfNone result (2 ^ 64 ≤ number_from_digits_after 10 number (digits_from_text digits.now)) }
+{
+    let mut longer = number;
+    for digit in digits {
+        longer = longer
+            .checked_mul(10)?
+            .checked_add(u64::from(*digit - b'0'))?;
+    }
+    Some(longer)
+}
+
+impl CanonicalSpelling<'_> {
+    /// Returns the number by its magnitude, if that fits a `u64`.
+    pub fn significand(&self) -> Option<Significand>
+        requires { IsCanonicalSpelling self.now }
+        ensures some { IfSome result (λ s. canonical_number s ≡ spelled_number self.now) }
+        ensures none { IfNone result (2 ^ 64 ≤ nat_abs (spelled_number self.now).mantissa) }
+    {
+        let front = append_digits(0, self.front)?;
+        let magnitude = append_digits(front, self.back)?;
+        Some(Significand {
+            negative: self.negative,
+            magnitude,
+            exponent: self.exponent,
+            point: self.point,
+        })
+    }
+}
+
+/// Returns the rest of the text from the first byte with which no number could continue.
+fn after_number(text: &[u8]) -> &[u8]
+    ensures { length result.now ≤ length text.now }
+{
+    let (_, unsigned) = split_sign(text);
+    let (whole, mut rest) = split_digits(unsigned);
+    if whole.is_empty() {
+        return rest;
+    }
+    if let [b'0', _, ..] = whole {
+        return &unsigned[1..];
+    }
+    if let [b'.', behind @ ..] = rest {
+        let (fraction, after) = split_digits(behind);
+        if fraction.is_empty() {
+            return after;
+        }
+        rest = after;
+    }
+    let [b'e' | b'E', signed @ ..] = rest else {
+        return rest;
+    };
+    let (_, exponent) = split_exponent_sign(signed);
+    let (_, after) = split_digits(exponent);
+    after
+}
+
+/// Returns the offset of the first byte that no number could continue with.
+///
+/// It is the length if the text ends too early, and `None` if the whole text spells a number, however large its exponent. 1 for `01` and
+/// `-x`; 2 for `1.`, `1e` and `12a`; `None` for `1e2000000000`.
+///
+/// # Cost
+///
+/// Linear in the text. Does not allocate.
+pub fn first_fault(text: &str) -> Option<usize>
+    ensures none { IsNone result ↔ ((n : Decimal) × Spells text.now n) }
+    ensures at { IfSome result (λ at. at ≤ length text.now) }
+{
+    let bytes = text.as_bytes();
+    if is_spelling(bytes) {
+        return None;
+    }
+    Some(bytes.len() - after_number(bytes).len())
+}

@@ -1,0 +1,57 @@
+//! A number as a sign, a magnitude of one word, and an exponent.
+ghost use Rattle.std.specs.Prelude.{◌≡◌, ◌≢◌, ◌%◌, ◌≤◌, ◌⊎◌, pos, neg_ℤ, ◌<ℤ◌, ◌≤ℤ◌};
+ghost use Rattle.ijson_number.specs.private.Significand.{HasFewerTens, canonical_number, significand_number};
+
+/// `magnitude * 10^exponent`, negated if `negative`.
+///
+/// `point` is `true` if a fraction point or an exponent was written. The number is canonical if ten does not divide the magnitude, and
+/// zero has no sign and the exponent 0.
+#[derive(Clone, Copy)]
+pub struct Significand {
+    pub negative: bool,
+    pub magnitude: u64,
+    pub exponent: i32,
+    pub point: bool,
+}
+
+impl Significand {
+    /// Strips trailing zeros while the exponent is below `end`.
+    #[inline(always)]
+    pub fn strip_trailing_zeros(self, end: i32) -> Significand
+        ensures tens { HasFewerTens self result }
+        ensures stripped { result.exponent <ℤ end → result.magnitude % 10 ≢ 0 }
+        ensures most { (result.exponent ≤ℤ end) ⊎ (result.exponent ≡ self.exponent) }
+        ensures negative { result.negative ≡ self.negative }
+        ensures point { result.point ≡ self.point }
+    {
+        let (mut magnitude, mut exponent) = (self.magnitude, self.exponent);
+        while exponent < end && magnitude % 10 == 0 {
+            magnitude /= 10;
+            exponent += 1;
+        }
+        Significand {
+            magnitude,
+            exponent,
+            ..self
+        }
+    }
+
+    /// Returns the number by its canonical significand.
+    pub fn canonical(self) -> Significand
+        requires low { neg_ℤ (pos 20000) ≤ℤ self.exponent }
+        requires high { self.exponent ≤ℤ pos 20000 }
+        ensures number { canonical_number result ≡ significand_number self }
+        ensures low { neg_ℤ (pos 20000) ≤ℤ result.exponent }
+        ensures high { result.exponent ≤ℤ pos 20020 }
+        ensures fewer { result.magnitude ≤ self.magnitude }
+    {
+        if self.magnitude == 0 {
+            return Significand {
+                negative: false,
+                exponent: 0,
+                ..self
+            };
+        }
+        self.strip_trailing_zeros(self.exponent + 20)
+    }
+}
