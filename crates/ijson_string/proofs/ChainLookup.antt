@@ -1,11 +1,11 @@
--- A look-up follows the chain of a bucket, from its head on.
+-- A lookup follows the chain of a bucket from its head.
 use Rattle.std.proofs.Common.{◌≡◌, ◌∙◌, ap, ap₂, sym, subst, refl, ℕ, zero, suc, ◌+◌, ◌-◌, ◌<◌, ◌≤◌, ◌≢◌, true, false, ◌&&◌, ◌||◌, List, []}
 use Rattle.std.proofs.Common.{◌∷◌, length, get_or, take, if◌then◌else◌, arith, add-one}
 use Rattle.std.specs.Prelude.{◌==◌, nat_eq}
 use Rattle.std.specs.Cmp.Lexicographic.{bytes_decides}
 use Rattle.std.specs.List.{list_any}
 use Rattle.std.specs.Str.{bytes_eq}
-use Rattle.std.proofs.lemmas.Bool.{eq-eqb, eqb-true, eqb-false, ne_eqb}
+use Rattle.std.proofs.lemmas.Bool.{eq-eqb, eqb-false, ne_eqb}
 use Rattle.std.proofs.Math.Bool.{and-false, or-false}
 use Rattle.std.proofs.Math.Dec.{eqb-suc-zero}
 use Rattle.std.proofs.Math.Seq.{take-length}
@@ -20,33 +20,20 @@ use Rattle.ijson_string.proofs.Chains.{head_of-within, head_of-here}
 use Rattle.ijson_string.proofs.KeysAt.{buckets_of_keys, buckets-keys, as_many_keys}
 
 module _ (hash : ℕ) (text : List ℕ) where
-  -- a key of this hash and this text is the key
+  -- a key of this hash and this string is the key
   pub is_same : (k : Key) → k.hash ≡ hash → k.text ≡ text → is_key hash text k ≡ true
   is_same k h t = ap₂ ◌&&◌ (eq-eqb hash k.hash (sym h)) ((bytes_decides text k.text).1 (sym t))
 
-  -- and no other is
-  same_key : (k : Key) → is_key hash text k ≡ true → k ≡ record { hash = hash; text = text }
-  same_key k is = elim (nat_eq hash k.hash) as (λ b. nat_eq hash k.hash ≡ b → (b && bytes_eq text k.text) ≡ true
-      → k ≡ record { hash = hash; text = text }) [
-        | true ↦ λ same there. ap₂ {B = List ℕ} (λ h t. record { hash = h; text = t }) (sym (eqb-true hash k.hash same))
-            (sym ((bytes_decides text k.text).0 there))
-        | false ↦ λ _ none. absurd cc
-      ] refl is
-
-  -- where it stands at a position, it is there
+  -- a key at an index is in the list
   pub any_at : (keys : List Key) (at : ℕ) → IsKeyAt hash text keys at → list_any (is_key hash text) keys ≡ true
   any_at keys at there = list_any_at (is_key hash text) keys at no_key there.0
       (ap (is_key hash text) there.1 ∙ is_same (record { hash = hash; text = text }) refl refl)
 
-  -- what is the key stands where it does
-  pub is_at : (keys : List Key) (at : ℕ) → at < length keys → is_key hash text (get_or keys at no_key) ≡ true → IsKeyAt hash text keys at
-  is_at keys at within is = (within, same_key (get_or keys at no_key) is)
-
-  -- one of another hash is not
+  -- a key of another hash is another key
   pub is_other_hash : (k : Key) → k.hash ≢ hash → is_key hash text k ≡ false
   is_other_hash k h = ap (λ b. b && bytes_eq text k.text) (ne_eqb hash k.hash (λ e. h (sym e)))
 
-  -- and neither is one of another text
+  -- a key of another string is another key
   pub is_other_text : (k : Key) → k.text ≢ text → is_key hash text k ≡ false
   is_other_text k t = elim (bytes_eq text k.text)
       as (λ b. bytes_eq text k.text ≡ b → (nat_eq hash k.hash && b) ≡ false) [
@@ -55,11 +42,11 @@ module _ (hash : ℕ) (text : List ℕ) where
       ] refl
 
 module _ (count hash : ℕ) (text : List ℕ) where
-  -- nor one of another bucket
+  -- a key of another bucket is another key
   is_other_bucket : (k : Key) → (bucket_of count k.hash == bucket_of count hash) ≡ false → is_key hash text k ≡ false
   is_other_bucket k other = is_other_hash hash text k (λ e. eqb-false _ _ other (ap (bucket_of count) e))
 
-  -- the key is not past the last one of its bucket
+  -- the key is not after the last one of its bucket
   any-heads : (keys : List Key)
       → list_any (is_key hash text) keys
       ≡ list_any (is_key hash text) (take (head_of (bucket_of count hash) (buckets_of_keys count keys)) keys)
@@ -82,13 +69,13 @@ module _ (count hash : ℕ) (text : List ℕ) where
             (sym (eqb-suc-zero n)) (rw (add-one (suc n)) (ap (λ b. is_key hash text k || b) some))
       ] (any-heads keys)
 
-  -- What a look-up has before it: the key, if it is anywhere, is among the first `at` keys, the last of which has its bucket.
+  -- The rest of a lookup: the key, if it is present, is among the first `at` keys, and the last of those is in its bucket.
   pub record IsAhead (keys : List Key) (at : ℕ) : Type 0 where
     pub within : at ≤ length keys
     pub here : 0 < at → get_or (buckets_of_keys count keys) (at - 1) 0 ≡ bucket_of count hash
     pub ahead : list_any (is_key hash text) keys ≡ list_any (is_key hash text) (take at keys)
 
-  -- where it is among the first n, it is so up to the last of its bucket there
+  -- if the key is among the first `n`, it is not after the last one of its bucket among those
   IsAhead-heads : (keys : List Key) (n at : ℕ) → n ≤ length keys
       → list_any (is_key hash text) keys ≡ list_any (is_key hash text) (take n keys)
       → at ≡ head_of (bucket_of count hash) (take n (buckets_of_keys count keys)) → IsAhead keys at
@@ -114,7 +101,7 @@ module _ (count hash : ℕ) (text : List ℕ) where
     abbrev keys : List Key
     keys = keys_of (hashes_of links) texts
 
-    -- there are as many keys as links
+    -- each link has a key
     as_many : length keys ≡ length links
     as_many = as_many_keys links texts keys listed refl
 
@@ -127,7 +114,7 @@ module _ (count hash : ℕ) (text : List ℕ) where
     as_many_buckets : length (buckets_of_keys count keys) ≡ length links
     as_many_buckets = length-map keys (λ k. bucket_of count k.hash) ∙ as_many
 
-    -- at the start
+    -- the start of a lookup
     IsAhead-start : bucket_of count hash < length heads → IsAhead keys (get_or heads (bucket_of count hash) 0)
     IsAhead-start inside =
         IsAhead-heads keys (length keys) _ (omega arith) (ap (list_any (is_key hash text)) (sym (take-length keys)))
@@ -136,7 +123,7 @@ module _ (count hash : ℕ) (text : List ℕ) where
         (as_many_buckets ∙ sym as_many)))
 
     module _ (at : ℕ) (l : Link) (ahead : IsAhead keys at) (some : 0 < at) (there : l ≡ get_or links (at - 1) l) where
-      -- the look is at a link
+      -- the lookup is at a link
       within : at - 1 < length links
       within = let heads = ahead.within in omega (arith, as_many)
 
@@ -147,7 +134,7 @@ module _ (count hash : ℕ) (text : List ℕ) where
           ∙ by_bucket.links (at - 1) (omega (arith, as_many_buckets, within))
           ∙ ap (λ h. head_of h (take (at - 1) (buckets_of_keys count keys))) (ahead.here some)
 
-      -- the text before it is nearer to the front
+      -- the next index is smaller
       pub falls : l.next < at
       falls = omega (
         arith,
@@ -157,7 +144,7 @@ module _ (count hash : ℕ) (text : List ℕ) where
             (buckets_of_keys count keys),
       )
 
-      -- and the key is there or further on, where this is another
+      -- if this is another key, the lookup continues at the next index
       pub IsAhead-step : is_key hash text (get_or keys (at - 1) no_key) ≡ false → IsAhead keys l.next
       IsAhead-step other =
           let on : at - 1 + 1 ≡ at = omega arith in
@@ -169,7 +156,7 @@ module _ (count hash : ℕ) (text : List ℕ) where
           ∙ or-false _)
           leads
 
--- what a look-up sees first: the head of the bucket
+-- a lookup starts at the head of its bucket
 pub IsAhead-first : (hash : ℕ) (text : List ℕ) (links : List Link) (texts : List (List ℕ)) (buckets : List Bucket) (at : ℕ)
     → IsTable links buckets
     → length texts ≡ length links → bucket_of (length buckets) hash < length buckets

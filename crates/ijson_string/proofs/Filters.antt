@@ -1,17 +1,15 @@
--- The filters of the buckets: a hash that was added passes, and goes on to pass.
-use Rattle.std.proofs.Common.{◌≡◌, ◌∙◌, ap, sym, subst, refl, ℕ, ◌+◌, ◌<◌, max, true, false, ◌&&◌, ◌||◌, List, [], ◌∷◌, ◌++◌, length}
-use Rattle.std.proofs.Common.{get_or, take, arith}
+-- The filters of the buckets: an added hash passes, and keeps passing.
+use Rattle.std.proofs.Common.{◌≡◌, ◌∙◌, ap, sym, subst, refl, ℕ, ◌<◌, max, true, false, ◌&&◌, ◌||◌, List, [], ◌∷◌, ◌++◌, length}
+use Rattle.std.proofs.Common.{get_or, arith}
 use Rattle.std.specs.Prelude.{◌==◌, nat_eq}
 use Rattle.std.specs.Int.{bit_at}
 use Rattle.std.specs.Int.Bits.{bit_or}
 use Rattle.std.specs.List.{list_any}
 use Rattle.std.specs.Str.{bytes_eq}
 use Rattle.std.proofs.lemmas.Bool.{eq-eqb, eqb-true, eqb-false}
-use Rattle.std.proofs.lemmas.List.{get_or-map, get_or-set_same, get_or-set_other, length-map, length-set, take_more}
+use Rattle.std.proofs.lemmas.List.{get_or-set_same, get_or-set_other, length-set}
 use Rattle.std.proofs.lemmas.Nat.Bits.{bit_at_or, same_from_bits}
-use Rattle.ijson_string.specs.declared.table.chains.Link.{Link}
 use Rattle.ijson_string.specs.private.Chains.{bucket_of}
-use Rattle.ijson_string.specs.private.IsTable.{hashes_of}
 use Rattle.ijson_string.specs.private.Keys.{is_key, keys_of}
 use Rattle.ijson_string.specs.private.Filters.{AllPass, passes, filter_of, with_filter}
 
@@ -21,21 +19,21 @@ greatest_kept a b c e = omega arith
 greatest_there : (a b : ℕ) → max (max a b) b ≡ max a b
 greatest_there a b = omega arith
 
--- a bit that is set stays, whatever is set beside it
+-- a set bit stays set
 or_kept : (x m n : ℕ) → bit_or x n ≡ x → bit_or (bit_or x m) n ≡ bit_or x m
 or_kept x m n e = same_from_bits _ _ (λ i.
     bit_at_or (bit_or x m) n i ∙ ap (λ y. max y (bit_at n i)) (bit_at_or x m i)
     ∙ greatest_kept (bit_at x i) (bit_at m i) (bit_at n i) (sym (bit_at_or x n i) ∙ ap (λ y. bit_at y i) e)
     ∙ sym (bit_at_or x m i))
 
--- and bits that are set are there
+-- setting bits twice changes nothing
 or_there : (x n : ℕ) → bit_or (bit_or x n) n ≡ bit_or x n
 or_there x n = same_from_bits _ _ (λ i.
     bit_at_or (bit_or x n) n i ∙ ap (λ y. max y (bit_at n i)) (bit_at_or x n i)
     ∙ greatest_there (bit_at x i) (bit_at n i) ∙ sym (bit_at_or x n i))
 
 module _ (filters : List ℕ) (hash : ℕ) (inside : bucket_of (length filters) hash < length filters) where
-  -- what is read at a bucket once the bits of a hash are set
+  -- reading a filter after the bits of a hash are set
   read_filter : (q : ℕ) → get_or (with_filter filters hash) (bucket_of (length (with_filter filters hash)) q) 0 ≡ get_or
       (with_filter filters hash) (bucket_of (length filters) q) 0
   read_filter q = ap (λ n. get_or (with_filter filters hash) (bucket_of n q) 0)
@@ -53,7 +51,7 @@ module _ (filters : List ℕ) (hash : ℕ) (inside : bucket_of (length filters) 
       ∙ get_or-set_same filters (bucket_of (length filters) hash) (bit_or there (filter_of hash)) 0 inside)
       (or_there there (filter_of hash))
 
-  -- and one that passed goes on to pass
+  -- a hash that passed keeps passing
   passes-kept : (q : ℕ) → passes filters q ≡ true → passes (with_filter filters hash) q ≡ true
   passes-kept q before =
       let bucket : ℕ = bucket_of (length filters) hash in
@@ -76,23 +74,12 @@ module _ (filters : List ℕ) (hash : ℕ) (inside : bucket_of (length filters) 
             was
       ] refl
 
-  -- a hash more, whose bits are set
+  -- adding a hash
   pub AllPass-push : (hashes : List ℕ) → AllPass filters hashes → AllPass (with_filter filters hash) (hashes ++ hash ∷ [])
   AllPass-push [] all = (passes-own, tt)
   AllPass-push (h ∷ hashes) all = (passes-kept h all.0, AllPass-push hashes all.1)
 
--- the hash of the next link is added
-pub AllPass-step : (filters : List ℕ) (links : List Link) (i : ℕ) (l : Link) → AllPass filters (take i (hashes_of links)) → i < length links
-    → l ≡ get_or links i l → bucket_of (length filters) l.hash < length filters
-    → AllPass (with_filter filters l.hash) (take (i + 1) (hashes_of links))
-AllPass-step filters links i l all lt there inside =
-    let hashes = hashes_of links in
-    let as_many = length-map links (λ l. l.hash) in
-    let hash : get_or hashes i l.hash ≡ l.hash = get_or-map (λ l. l.hash) links i l l.hash lt ∙ ap (λ l. l.hash) (sym there) in
-    subst (AllPass (with_filter filters l.hash)) (sym (take_more hashes i l.hash (omega arith) ∙ ap (λ h. take i hashes ++ h ∷ []) hash))
-    (AllPass-push filters l.hash inside (take i hashes) all)
-
--- no key of a hash that does not pass is there
+-- a hash that does not pass has no key
 pub is_nowhere : (filters : List ℕ) (hash : ℕ) (text : List ℕ) (hashes : List ℕ) (texts : List (List ℕ)) → AllPass filters hashes
     → passes filters hash ≡ false
     → list_any (is_key hash text) (keys_of hashes texts) ≡ false

@@ -1,4 +1,4 @@
--- The texts of a list, as a finite set.
+-- The strings of a list as a finite set.
 use Rattle.std.proofs.Common.{◌≡◌, ◌∙◌, sym, refl, ℕ, true, false, ◌||◌, List, [], ◌∷◌}
 use Rattle.std.specs.List.{list_any}
 use Rattle.std.specs.Ordering.{nat_cmp, eq_by_cmp}
@@ -9,11 +9,11 @@ use Rattle.std.specs.FinSet as set
 use Rattle.std.specs.FinMap.{IsAntisymmetric, slice_cmp-IsAntisymmetric, nat_cmp-IsAntisymmetric}
 use Rattle.std.proofs.lemmas.Map.Text.{is_eq-slice_cmp}
 
--- texts are totally ordered by their bytes
+-- the order by bytes is total
 pub order : IsTotalOrder (slice_cmp nat_cmp)
 order = nat_list_cmp_total
 
--- texts that tie are equal
+-- strings that tie are equal
 pub exact : IsAntisymmetric (slice_cmp nat_cmp)
 exact = slice_cmp-IsAntisymmetric nat_cmp-IsAntisymmetric
 
@@ -23,12 +23,12 @@ tied : (keys : List (List ℕ)) (q : List ℕ)
 tied [] q = refl
 tied (k ∷ keys) q = λ i. is_eq-slice_cmp q k i || tied keys q i
 
--- the set contains the texts of the list
+-- the set has the strings of the list
 pub contains-from_list : (keys : List (List ℕ)) (q : List ℕ)
     → set.contains {R = slice_cmp nat_cmp} (set.from_list keys) q ≡ list_any (λ k. bytes_eq q k) keys
 contains-from_list keys q = set.contains-from_list order keys q ∙ tied keys q
 
--- a text that is there already changes nothing
+-- adding a present string changes nothing
 pub insert-present : (texts : set.FinSet (slice_cmp nat_cmp)) (text : List ℕ) → set.contains texts text ≡ true
     → set.insert texts text ≡ texts
 insert-present texts text present =

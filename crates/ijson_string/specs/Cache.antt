@@ -1,4 +1,4 @@
--- A cache is a finite set of texts, each a list of more than 7 bytes. As in the Rust crate `ijson`; that 7 bytes stay in place
+-- A cache is a finite set of strings of more than 7 bytes. As in the Rust crate `ijson`; that up to 7 bytes are inline
 -- is this project's own.
 use Rattle.std.specs.Prelude.{◌≡◌, ◌<◌, ℕ, List, Bool, true, length, ltb, if◌then◌else◌}
 use Rattle.std.specs.Ordering.{nat_cmp}
@@ -6,20 +6,20 @@ use Rattle.std.specs.Cmp.Lexicographic.{slice_cmp}
 use Rattle.std.specs.FinSet as set
 use Rattle.ijson_string.specs.laws.Longer.{longer_with}
 
--- each text of the set has more than 7 bytes
+-- each string of the set has more than 7 bytes
 abbrev pub AreLong : set.FinSet (slice_cmp nat_cmp) → Type 0
 AreLong texts = (text : List ℕ) → set.contains texts text ≡ true → 7 < length text
 
--- a finite set of texts, with the proof that each has more than 7 bytes
+-- a finite set of strings, with the proof that each has more than 7 bytes
 pub record Texts : Type 0 where
   pub texts : set.FinSet (slice_cmp nat_cmp)
   pub long : AreLong texts
 
--- whether a text is too long to be kept in place
+-- whether a string is too long to be inline
 abbrev pub is_long : List ℕ → Bool
 is_long text = ltb 7 (length text)
 
--- interning adds a long text, and leaves the cache at a short one
+-- interning adds a long string, and a short one leaves the cache unchanged
 abbrev pub interned : List ℕ → Texts → Texts
 interned text cache = record {
   texts = if is_long text then set.insert cache.texts text else cache.texts;

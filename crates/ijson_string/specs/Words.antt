@@ -1,4 +1,4 @@
--- The words that a text feeds a hasher: 3, its length in bytes, and each byte. Each word is one `write_u64`.
+-- The words that a string feeds a hasher: 3, its length in bytes, and each byte. Each word is one `write_u64`.
 -- This project's own.
 use Rattle.std.specs.Prelude.{ℕ, List, ◌∷◌, length}
 

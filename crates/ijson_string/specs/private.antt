@@ -5,6 +5,5 @@ pub mod IsCache
 pub mod IsTable
 pub mod IsText
 pub mod Keys
-pub mod Recent
 pub mod Stored
 pub mod Table

@@ -1,12 +1,13 @@
-//! `Block`: a text of a few bytes beside its length.
+//! `Block`: a string of up to `N` bytes with its length.
 ghost use Rattle.std.specs.Prelude.{◌≡◌, ◌+◌, ◌-◌, ◌≤◌, ◌<◌, length, take, drop, replicate, IsUtf8};
 
 use std::marker::Model;
 use std::str;
 
-/// A text in UTF-8 of at most `N` bytes. The bytes past `len` are no part of it, and zeros. It lies where a word of 8 bytes may lie, so
-/// that an `IString` is moved by whole words, whichever variant it is. Its length comes first, so that it is at one place in a block
-/// of any size, and a text is found without a branch on its size.
+/// A UTF-8 string of up to `N` bytes, padded with zeros.
+///
+/// It is aligned to 8 bytes, so that an `IString` is moved by whole words. The length comes first, so that it has one offset in a block
+/// of any size, and a string is found without a branch on the size.
 #[derive(Drop)]
 pub(crate) struct Block<const N: usize> {
     aligned: [u64; 0],
@@ -26,34 +27,22 @@ impl<const N: usize> Model for Block<N> {
 }
 
 impl<const N: usize> Block<N> {
-    /// A block that holds `text`.
-    pub(crate) fn new(text: &str) -> Block<N>
-        requires fits { length text.now ≤ N }
-        requires small { N < 256 }
-        ensures { result ≡ text.now }
-    {
-        let mut bytes = [0; N];
-        bytes[..text.len()].copy_from_slice(text.as_bytes());
-        Block {
-            aligned: [],
-            len: text.len() as u8,
-            bytes,
-        }
-    }
-
-    /// A block that holds a long `text`, which leaves at most 15 of its bytes free.
+    /// A block with `text`, copied as its `first` first bytes and its `last` last ones, which may overlap.
+    ///
+    /// Both sizes are constants of the caller, so each copy is a few moves instead of a call.
     #[inline(always)]
-    pub(crate) fn filled(text: &str) -> Block<N>
-        requires long { 16 ≤ length text.now }
+    pub(crate) fn of_ends(text: &str, first: usize, last: usize) -> Block<N>
+        requires first { first ≤ length text.now }
+        requires last { last ≤ length text.now }
+        requires whole { length text.now ≤ first + last }
         requires fits { length text.now ≤ N }
-        requires filled { N ≤ length text.now + 15 }
         requires small { N < 256 }
         ensures { result ≡ text.now }
     {
         let source = text.as_bytes();
         let mut bytes = [0; N];
-        put_piece(&mut bytes, source, 0, N - 15);
-        put_piece(&mut bytes, source, source.len() - 16, 16);
+        put_piece(&mut bytes, source, 0, first);
+        put_piece(&mut bytes, source, source.len() - last, last);
         Block {
             aligned: [],
             len: text.len() as u8,
@@ -61,7 +50,7 @@ impl<const N: usize> Block<N> {
         }
     }
 
-    /// A block that holds the same text.
+    /// A copy of the block. (No `Copy`: a struct with a model has none.)
     pub(crate) fn copy(&self) -> Block<N>
         ensures { result ≡ self.now }
     {
@@ -72,7 +61,7 @@ impl<const N: usize> Block<N> {
         }
     }
 
-    /// The text.
+    /// The string.
     pub(crate) fn as_str(&self) -> &str
         ensures { result.now ≡ self.now }
     {
@@ -81,9 +70,23 @@ impl<const N: usize> Block<N> {
 }
 
 impl Block<7> {
-    /// The length, and all that the text lies in: the text, and zeros behind it.
+    /// A block with `text`.
     #[inline(always)]
-    pub(crate) fn row(&self) -> (u8, &str)
+    pub(crate) fn inline(text: &str) -> Block<7>
+        requires { length text.now ≤ 7 }
+        ensures { result ≡ text.now }
+    {
+        match text.len() {
+            4.. => Block::of_ends(text, 4, 4),
+            2..=3 => Block::of_ends(text, 2, 2),
+            1 => Block::of_ends(text, 1, 1),
+            0 => Block::of_ends(text, 0, 0),
+        }
+    }
+
+    /// The length, and the string padded with NULs to 7 bytes.
+    #[inline(always)]
+    pub(crate) fn padded(&self) -> (u8, &str)
         ensures text { take result.0 result.1.now ≡ self.now }
         ensures utf8 { IsUtf8 (take result.0 result.1.now) }
         ensures size { (result.0 ≤ 7) × (length result.1.now ≡ 7) }
@@ -94,7 +97,7 @@ impl Block<7> {
 }
 
 impl Block<23> {
-    /// A block that holds a `text` of 8 bytes or more.
+    /// A block with a `text` of 8 bytes or more, copied as three words, which may overlap.
     #[inline(always)]
     pub(crate) fn of_words(text: &str) -> Block<23>
         requires long { 8 ≤ length text.now }
@@ -115,8 +118,7 @@ impl Block<23> {
     }
 }
 
-/// Copies `size` bytes of the text, from `start` on, to the same place in `bytes`, where all before `start` stand already. A copy of
-/// a size that is known where this is compiled is a few moves, and any other is a call, which branches on its size.
+/// Copies `size` bytes of `text`, from `start` on, to the same place in `bytes`, whose bytes before `start` are those of `text`.
 #[inline(always)]
 fn put_piece(bytes: &mut [u8], text: &[u8], start: usize, size: usize)
     requires inside { start + size ≤ length text.now }

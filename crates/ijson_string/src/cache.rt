@@ -1,4 +1,4 @@
-//! `StringCache`: the set of long texts that were interned.
+//! `StringCache`: the set of long strings that were interned.
 ghost use Rattle.std.specs.Prelude.{◌≡◌, ◌<◌, ◌≤◌, ◌==◌, false, length, IfOk, OnOk, OnErr};
 ghost use Rattle.std.specs.FinSet as set;
 ghost use Rattle.ijson_string.specs.Cache.{AreLong};
@@ -9,15 +9,19 @@ use crate::hash::hash_of;
 use crate::table::TextTable;
 use crate::text::IString;
 use std::alloc::{AllocError, Global};
+use std::fmt;
 use std::hash::BuildHasher;
 use std::marker::Model;
 
-/// A set of texts of more than 7 bytes, each kept once. `IString::intern` adds to it, and shares what it holds. A text stays
-/// until `clear`, also where nobody else has it. Beside its own memory it takes 24 bytes here, in two lists that double where they
-/// are full, and from 32 texts on 2 to 4 for the bucket of its hash; from 4,097 texts on 16 KB lead to those that came again. The
-/// cache itself takes 1 KB, which leads to the text that followed the last time: where texts come again in the same order, they are
-/// compared and not hashed. At most 2^32 - 1 texts fit, and one more is refused as where memory is. Texts that a stranger chose want
-/// a hasher with a random seed, as `RandomState` is.
+/// A set of strings of more than 7 bytes, each stored once and shared by `IString::intern`.
+///
+/// A string stays until `clear`, even if the cache is its only owner. At most 2^32 - 1 strings fit. For untrusted input use a hasher
+/// with a random seed, such as `RandomState`.
+///
+/// # Cost
+///
+/// The cache takes 1 KB, inline. Each string takes 24 bytes next to its own allocation, in two lists that double when they are full,
+/// and from 32 strings on 2 to 4 bytes for its bucket. Strings that repeat in the same order are compared and not hashed.
 #[derive(Drop)]
 pub struct StringCache<S: BuildHasher> {
     texts: TextTable,
@@ -42,7 +46,7 @@ impl<S: BuildHasher> Model for StringCache<S> {
 }
 
 impl<S: BuildHasher> StringCache<S> {
-    /// An empty cache, which takes its memory from `alloc` as it grows. It takes none before the first long text.
+    /// An empty cache. It allocates nothing before the first string.
     pub fn new(alloc: Global, hasher: S) -> StringCache<S>
         ensures { result.texts ≡ set.empty }
     {
@@ -52,22 +56,21 @@ impl<S: BuildHasher> StringCache<S> {
         }
     }
 
-    /// How many texts there are.
+    /// The number of strings.
     pub fn len(&self) -> usize
         ensures { result ≡ set.len self.now.texts }
     {
-        self.texts.len()
+        self.texts.texts().len()
     }
 
-    /// Whether there is no text.
+    /// Whether the cache has no string.
     pub fn is_empty(&self) -> bool
         ensures { result ≡ (set.len self.now.texts == 0) }
     {
         self.len() == 0
     }
 
-    /// Whether `text` is there. A text of at most 7 bytes never is. The text is hashed and looked up, in expected time linear
-    /// in its length.
+    /// Whether `text` is in the cache, which has no string of up to 7 bytes. Expected linear in the length.
     pub fn contains(&self, text: &str) -> bool
         ensures exact { result ≡ set.contains self.now.texts text.now }
         ensures short { length text.now ≤ 7 → result ≡ false }
@@ -76,30 +79,38 @@ impl<S: BuildHasher> StringCache<S> {
         self.texts.find(hash, text).is_some()
     }
 
-    /// Takes out every text. Each `IString` keeps the text that it has. The room for the most texts that there were stays, and it
-    /// takes time linear in that.
+    /// Removes every string and keeps the capacity, in time linear in that. Each `IString` stays valid.
     pub fn clear(&mut self)
         ensures { self.new.texts ≡ set.empty }
     {
         self.texts.clear();
     }
 
-    /// The shared copy of a long text, which is added if it is new. The text that followed the last time is compared first, and
-    /// where it is this one, nothing is hashed. Where memory is refused, 2^32 - 1 texts are there, or the count of the text's owners
-    /// is full, the set stays as it was.
+    /// The shared copy of a long `text`, which is added if it is new. If the guess is right, nothing is hashed.
+    ///
+    /// # Errors
+    ///
+    /// If an allocation fails, the cache has 2^32 - 1 strings, or the reference count is saturated. The cache is then unchanged.
     pub(crate) fn share(&mut self, text: &str) -> Result<IString, AllocError>
         requires { 7 < length text.now }
         ensures text { IfOk result (λ shared. shared ≡ text.now) }
         ensures added { OnOk result (self.new.texts ≡ set.insert self.old.texts text.now) }
         ensures refused { OnErr result (self.new ≡ self.old) }
     {
-        if let Some(position) = self.texts.find_following(text) {
-            return self.texts.shared(text, position);
+        if let Some(index) = self.texts.guess(text) {
+            return self.texts.share_at(index, text);
         }
         let hash = hash_of(&self.hasher, text);
         match self.texts.find(hash, text) {
-            Some(position) => self.texts.shared_by(hash, text, position),
+            Some(index) => self.texts.share_at(index, text),
             None => self.texts.push(hash, text),
         }
+    }
+}
+
+/// The strings, as a set in insertion order.
+impl<S: BuildHasher> fmt::Debug for StringCache<S> {
+    fn fmt<W: fmt::Write>(&self, f: &mut fmt::Formatter<W>) -> fmt::Result {
+        f.debug_set().entries(self.texts.texts()).finish()
     }
 }

@@ -1,4 +1,4 @@
-//! The hash of a text.
+//! The hash of a string.
 ghost use Rattle.ijson_string.specs.private.Chains.{mixed};
 ghost use Rattle.std.specs.Prelude.{[], ◌∷◌, ◌≡◌, fold};
 ghost use Rattle.std.proofs.Common.{ap};
@@ -6,10 +6,10 @@ ghost use Rattle.std.specs.Cmp.Lexicographic.{bytes_decides};
 
 use std::hash::{BuildHasher, Hash, Hasher};
 
-/// An odd number whose bits show no pattern: 2^64 by the golden ratio.
+/// An odd number whose bits have no pattern: 2^64 divided by the golden ratio.
 const MIXER: u64 = 0x9E37_79B9_7F4A_7C15;
 
-/// A text as it is hashed: its bytes in one write, with nothing behind them, since nothing but the text is hashed.
+/// A string as it is hashed: its bytes in one write, without a terminator, since nothing else is hashed.
 #[derive(Clone, Copy, PartialEq, Eq)]
 struct TextBytes<'a> {
     bytes: &'a [u8],
@@ -25,20 +25,15 @@ impl<'a> Hash for TextBytes<'a> {
     }
 }
 
-/// The hash of a text, in 32 bits.
+/// The hash of `text` in 32 bits: the upper half of the product of its hash and `MIXER`.
+///
+/// Each bit of the hash counts in that product, so a hasher may leave some bits constant.
+#[tactic(auto, unfolding(crate::specs::private::Chains::mixed))]
 pub(crate) fn hash_of<S: BuildHasher>(hasher: &S, text: &str) -> u32
     ensures { result ≡ mixed (S.Hasher.finish (fold S.Hasher.write (S.build_hasher hasher.now) (text.now ∷ []))) }
 {
-    mix(hasher.hash_one(TextBytes {
+    let hash = hasher.hash_one(TextBytes {
         bytes: text.as_bytes(),
-    }))
-}
-
-/// A hash in 32 bits: the upper half of a product in which each bit of the hash counts, so that a hasher which leaves some bits as
-/// they are does too.
-#[tactic(auto, unfolding(crate::specs::private::Chains::mixed))]
-fn mix(hash: u64) -> u32
-    ensures { result ≡ mixed hash }
-{
+    });
     (hash.wrapping_mul(MIXER) >> 32) as u32
 }

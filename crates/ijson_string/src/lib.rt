@@ -1,7 +1,7 @@
-//! Immutable texts: up to 7 bytes are kept in place, and longer texts are shared through a cache.
+//! Immutable strings: up to 7 bytes are inline, and longer strings are shared through a cache.
 //!
-//! Tests: `ijson/src/tests/texts`; refused memory in the tests of `ijson_extra`; caches of readers, seeds, and the words that texts feed a
-//! hasher in those of `ijson_compact`.
+//! Tests: `ijson/src/tests/texts`; failed allocations in the tests of `ijson_extra`; caches of readers, seeds, and the words that
+//! strings feed a hasher in those of `ijson_compact`.
 #![tactic(auto)]
 
 mod block;

@@ -1,4 +1,4 @@
-//! `IString`: a text that is compared, ordered and hashed by its bytes.
+//! `IString`: a string that is compared, ordered and hashed by its bytes.
 ghost use Rattle.std.specs.Prelude.{◌≡◌, ℕ, ◌-◌, ◌<◌, ◌≤◌, ◌==◌, List, [], length, take, drop, replicate, Some, nat_eq, refl, ◌↔◌};
 ghost use Rattle.std.specs.Prelude.{IsTrue, IsUtf8, IfOk, IfSome, IsOk, IsSome, OnOk, OnErr};
 ghost use Rattle.std.specs.Hash as fed;
@@ -22,16 +22,16 @@ use std::marker::Model;
 use std::mem::size_of;
 use std::rc::{Rc, RcStr};
 
-/// A text in UTF-8. One of at most 7 bytes lies in the value itself, and a longer one is shared with its clones and with
-/// the cache that it was interned in. Equality, order and hash are those of its bytes, whatever the cache. It takes 16 bytes;
-/// the memory of a longer text goes with its last owner, of which the cache is one.
+/// An immutable UTF-8 string of 16 bytes.
+///
+/// Up to 7 bytes are inline. A longer string is shared with its clones and with the cache that interned it, and its last owner frees
+/// it. Equality, order and hash are those of the bytes, independent of the cache.
 #[derive(Drop)]
 pub struct IString {
     stored: Stored,
 }
 
-/// A text by the room that it takes, each variant in 16 bytes: in place; in one block of memory, beside its two counts; or
-/// in two blocks where it is longer than 71 bytes.
+/// A string by its length: inline; in one block with its two reference counts; or in two blocks, if it is longer than 71 bytes.
 #[derive(Drop)]
 enum Stored {
     InPlace(Block<7>),
@@ -57,23 +57,29 @@ impl Model for IString {
 }
 
 impl IString {
-    /// The empty text. It takes no memory.
+    /// The empty string. It allocates nothing.
     pub fn new() -> IString
         ensures { result ≡ [] }
     {
         IString {
-            stored: Stored::InPlace(Block::new("")),
+            stored: Stored::InPlace(Block::inline("")),
         }
     }
 
-    /// The text, kept in place up to 7 bytes, and otherwise shared through `cache`, which takes it in if it is new there.
-    /// A text of at most 7 bytes is never refused. A longer one is refused where memory is, where it is new and the cache holds 2^32 - 1
-    /// texts, and where it is there and the count of its owners is full. The cache is then as it was. The text is looked up in expected
-    /// time linear in its length; a new one is copied, and the cache grows at times.
+    /// Returns `text` inline, if it has up to 7 bytes, and otherwise its shared copy in `cache`, which is added if it is new.
+    ///
+    /// # Errors
+    ///
+    /// Never for up to 7 bytes. Otherwise if an allocation fails, if the string is new and the cache has 2^32 - 1 strings, and if its
+    /// reference count is saturated. The cache is then unchanged.
+    ///
+    /// # Cost
+    ///
+    /// Expected linear in the length. A new string is copied, and the cache grows by doubling.
     ///
     /// ```
-    /// let name = IString::intern(&mut cache, "name")?; // in place
-    /// let long = IString::intern(&mut cache, "a longer text")?; // in the cache, and each further one of this text shares it
+    /// let name = IString::intern(&mut cache, "name")?; // inline
+    /// let long = IString::intern(&mut cache, "a longer string")?; // in the cache; the next one shares it
     /// ```
     pub fn intern<S: BuildHasher>(
         cache: &mut StringCache<S>,
@@ -88,26 +94,30 @@ impl IString {
             return cache.share(text);
         }
         Ok(IString {
-            stored: Stored::InPlace(Block::new(text)),
+            stored: Stored::InPlace(Block::inline(text)),
         })
     }
 
-    /// A text of more than 7 bytes, in memory of its own. The error is that memory was refused.
+    /// Copies a `text` of more than 7 bytes into a new allocation.
+    ///
+    /// # Errors
+    ///
+    /// If the allocation fails.
     pub(crate) fn long(alloc: Global, text: &str) -> Result<IString, AllocError>
         requires { 7 < length text.now }
         ensures { IfOk result (λ s. s ≡ text.now) }
     {
         let stored = match text.len() {
             0..=23 => Stored::UpTo23(Rc::new(alloc, Block::of_words(text))?),
-            24..=39 => Stored::UpTo39(Rc::new(alloc, Block::filled(text))?),
-            40..=55 => Stored::UpTo55(Rc::new(alloc, Block::filled(text))?),
-            56..=71 => Stored::UpTo71(Rc::new(alloc, Block::filled(text))?),
+            24..=39 => Stored::UpTo39(Rc::new(alloc, Block::of_ends(text, 24, 16))?),
+            40..=55 => Stored::UpTo55(Rc::new(alloc, Block::of_ends(text, 40, 16))?),
+            56..=71 => Stored::UpTo71(Rc::new(alloc, Block::of_ends(text, 56, 16))?),
             _ => Stored::Long(RcStr::from_str(alloc, text)?),
         };
         Ok(IString { stored })
     }
 
-    /// The text. It is lent, and not copied.
+    /// The string, borrowed.
     pub fn as_str(&self) -> &str
         ensures { result.now ≡ self.now }
     {
@@ -121,10 +131,11 @@ impl IString {
         }
     }
 
-    /// The length of a text of at most 7 bytes, and the 7 bytes that it lies in: the text, and zeros behind it. So it can be tested and
-    /// appended by moves of a size that is known where the code is built. There are none of a longer text.
+    /// The length of an inline string, and the string padded with NULs to 7 bytes. `None` for a longer string.
+    ///
+    /// The padded string can be tested and appended by moves of constant size.
     #[inline(always)]
-    pub fn in_place(&self) -> Option<(u8, &str)>
+    pub fn inline_padded(&self) -> Option<(u8, &str)>
         ensures text { IfSome result (λ x. take x.0 x.1.now ≡ self.now) }
         ensures utf8 { IfSome result (λ x. IsUtf8 (take x.0 x.1.now)) }
         ensures size { IfSome result (λ x. (x.0 ≤ 7) × (length x.1.now ≡ 7)) }
@@ -132,12 +143,12 @@ impl IString {
         ensures short { length self.now ≤ 7 → IsSome result }
     {
         match &self.stored {
-            Stored::InPlace(text) => Some(text.row()),
+            Stored::InPlace(text) => Some(text.padded()),
             _ => None,
         }
     }
 
-    /// The bytes of the text. They are lent, and not copied.
+    /// The bytes of the string, borrowed.
     pub fn as_bytes(&self) -> &[u8]
         ensures { result.now ≡ self.now }
     {
@@ -151,21 +162,25 @@ impl IString {
         self.as_str().len()
     }
 
-    /// Whether there is no byte.
+    /// Whether the length is 0.
     pub fn is_empty(&self) -> bool
         ensures { result ≡ (length self.now == 0) }
     {
         self.len() == 0
     }
 
-    /// Whether this is `text`, byte by byte. Where the lengths differ, no byte is read.
+    /// Whether the bytes are those of `text`. If the lengths differ, no byte is read.
     pub fn eq_str(&self, text: &str) -> bool
         ensures { IsTrue result ↔ (self.now ≡ text.now) }
     {
         self.as_str() == text
     }
 
-    /// A copy of the text on `alloc`. The error is that memory was refused; an empty text takes none.
+    /// Copies the string into a `String`. The empty string allocates nothing.
+    ///
+    /// # Errors
+    ///
+    /// If the allocation fails.
     pub fn to_owned_string(&self, alloc: Global) -> Result<String, AllocError>
         ensures { IfOk result (λ s. string_bytes s ≡ self.now) }
     {
@@ -173,8 +188,8 @@ impl IString {
     }
 }
 
-/// The same text, in constant time and with no memory: up to 7 bytes are copied, and a longer text has one owner more. That is
-/// refused only where the count of its owners is full.
+/// Copies an inline string, and adds an owner to a longer one, in constant time and without an allocation. Fails only if the reference
+/// count is saturated.
 impl Clone for IString {
     ghost is_clone = { λ s copy. copy ≡ s };
 
@@ -193,7 +208,7 @@ impl Clone for IString {
     }
 }
 
-/// By the bytes; where the lengths differ, none is read.
+/// By the bytes. If the lengths differ, none is read.
 impl PartialEq for IString {
     ghost eq = { λ x y. pointwise nat_eq x y };
 
@@ -208,7 +223,7 @@ impl Eq for IString {
     ghost laws = { nat_list_eq_equiv };
 }
 
-/// As `cmp`: any two texts are ordered.
+/// As `cmp`: the order is total.
 impl PartialOrd for IString {
     ghost partial_cmp = { λ x y. Some (slice_cmp nat_cmp x y) };
 
@@ -219,8 +234,7 @@ impl PartialOrd for IString {
     }
 }
 
-/// By the bytes, from the front, which is the order of the characters' code points; a text comes before those that go on from
-/// it.
+/// Lexicographic by the bytes, which is the order of the code points.
 impl Ord for IString {
     ghost cmp = { λ x y. slice_cmp nat_cmp x y };
 
@@ -235,7 +249,7 @@ impl Ord for IString {
     }
 }
 
-/// Equal texts feed the same words, and each word is one `write_u64`: 3, the length in bytes, and each byte.
+/// Feeds 3, the length in bytes, and each byte, each by one `write_u64`.
 impl Hash for IString {
     ghost hash_input = { λ s. flat_map fed.u64 (text_words s) };
 
@@ -251,7 +265,7 @@ impl Hash for IString {
     }
 }
 
-/// The empty text.
+/// The empty string.
 impl Default for IString {
     ghost is_default = { λ s. s ≡ [] };
 
@@ -260,7 +274,7 @@ impl Default for IString {
     }
 }
 
-/// The text, as it is.
+/// The string, unchanged.
 impl fmt::Display for IString {
     ghost output = { λ s. Some s };
 
@@ -269,7 +283,7 @@ impl fmt::Display for IString {
     }
 }
 
-/// The text between quotes, with the escapes of `str`.
+/// The string between quotes, with the escapes of `str`.
 impl fmt::Debug for IString {
     fn fmt<W: fmt::Write>(&self, f: &mut fmt::Formatter<W>) -> fmt::Result {
         fmt::Debug::fmt(self.as_str(), f)

@@ -1,4 +1,4 @@
--- The filter of each bucket, of thirty-two bits: a hash sets three of them, or fewer where some are the same. This project's own.
+-- The Bloom filter of each bucket, of 32 bits, of which a hash sets up to three. This project's own.
 use Rattle.std.specs.Prelude.{◌≡◌, ℕ, ◌/◌, ◌%◌, ◌^◌, ◌==◌, Bool, true, List, length, get_or, slice_set}
 use Rattle.std.specs.Int.Bits.{bit_or}
 use Rattle.std.specs.List.{AllByRecursion}
@@ -8,7 +8,7 @@ use Rattle.ijson_string.specs.private.Chains.{bucket_of}
 unfoldable pub filter_of : ℕ → ℕ
 filter_of hash = bit_or (bit_or (2 ^ (hash % 32)) (2 ^ (hash / 32 % 32))) (2 ^ (hash / 1024 % 32))
 
--- whether the filter of its bucket lets a hash pass: all its bits are set there
+-- whether the filter of its bucket lets a hash pass: all bits of the hash are set in it
 abbrev pub passes : List ℕ → ℕ → Bool
 passes filters hash = bit_or (get_or filters (bucket_of (length filters) hash) 0) (filter_of hash) == get_or filters
     (bucket_of (length filters) hash) 0

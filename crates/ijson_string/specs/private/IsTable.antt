@@ -1,10 +1,10 @@
--- What leads to the texts of a table: chains of links, and the filters of each bucket. This project's own.
-use Rattle.std.specs.Prelude.{ℕ, ◌*◌, ◌≤◌, ◌^◌, List, length, map}
+-- The links and buckets of a table. This project's own.
+use Rattle.std.specs.Prelude.{◌≡◌, ℕ, ◌*◌, ◌<◌, ◌≤◌, ◌^◌, List, length, map, slice_set}
 use Rattle.ijson_string.specs.declared.table.chains.Bucket.{Bucket}
 use Rattle.ijson_string.specs.declared.table.chains.Link.{Link}
-use Rattle.ijson_string.specs.private.Chains.{IsChained}
+use Rattle.ijson_string.specs.private.Chains.{bucket_of, IsChained}
 use Rattle.ijson_string.specs.private.Keys.{buckets_of}
-use Rattle.ijson_string.specs.private.Filters.{AllPass}
+use Rattle.ijson_string.specs.private.Filters.{AllPass, with_filter}
 
 abbrev pub hashes_of : List Link → List ℕ
 hashes_of links = map (λ l. l.hash) links
@@ -18,13 +18,20 @@ heads_of buckets = map (λ b. b.head) buckets
 abbrev pub filters_of : List Bucket → List ℕ
 filters_of buckets = map (λ b. b.filter) buckets
 
--- the links lie in chains, one for each bucket
+-- the links form chains, one for each bucket
 abbrev pub AreChained : List Link → List ℕ → Type 0
 AreChained links heads = IsChained (buckets_of (length heads) (hashes_of links)) (nexts_of links) heads
 
--- and there are at most four times as many as buckets
+-- with up to four links for each bucket, and filters that let each hash pass
 pub record IsTable (links : List Link) (buckets : List Bucket) : Type 0 where
   pub room : length links ≤ 4 * length buckets
   pub bounded : length buckets ≤ 2 ^ 32
   pub chained : AreChained links (heads_of buckets)
   pub filtered : AllPass (filters_of buckets) (hashes_of links)
+
+-- the buckets after a string with this hash was added, whose index plus 1 is `link`
+pub record IsEntered (buckets after : List Bucket) (hash link : ℕ) : Type 0 where
+  pub as_many : length after ≡ length buckets
+  pub inside : bucket_of (length buckets) hash < length buckets
+  pub head : heads_of after ≡ slice_set (heads_of buckets) (bucket_of (length buckets) hash) link
+  pub filters : filters_of after ≡ with_filter (filters_of buckets) hash

@@ -1,4 +1,4 @@
--- How an `IString` is stored, seen as its bytes. This project's own.
+-- The bytes of a stored `IString`. This project's own.
 use Rattle.std.specs.Prelude.{ℕ, ◌<◌, ◌≤◌, List, length}
 use Rattle.std.specs.Rc.{rc_value, rc_str_bytes}
 use Rattle.ijson_string.specs.declared.text.Stored.{Stored}
@@ -12,7 +12,7 @@ stored_bytes (UpTo55 text) = rc_value text
 stored_bytes (UpTo71 text) = rc_value text
 stored_bytes (Long text) = rc_str_bytes text
 
--- in place if and only if it is at most 7 bytes long
+-- inline if and only if it has up to 7 bytes
 abbrev pub IsStoredByLength : Stored → Type 0
 IsStoredByLength (InPlace text) = length text ≤ 7
 IsStoredByLength stored = 7 < length (stored_bytes stored)

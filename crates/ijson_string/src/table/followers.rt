@@ -1,38 +1,40 @@
-//! `Followers`: which text followed which.
-ghost use Rattle.std.specs.Prelude.{◌≡◌, ℕ, Some, IfSome};
-ghost use Rattle.ijson_string.specs.private.Followers.{followed_by, no_followers, IsFollower};
+//! `Followers`: which string followed which.
+ghost use Rattle.std.specs.Prelude.{◌≡◌, ℕ};
+ghost use Rattle.ijson_string.specs.private.Followers.{followed_by, no_followers};
 
-/// How many slots there are.
+/// The number of slots.
 const FOLLOWER_SLOTS: usize = 128;
 
-/// The position of a text, and its length modulo 2^32.
+/// The index of a string, and its length, or `u32::MAX` if it is longer.
 #[derive(Clone, Copy, Drop)]
-struct Follower {
-    position: u32,
-    len: u32,
+pub(super) struct Follower {
+    pub(super) position: u32,
+    pub(super) len: u32,
 }
 
-/// What stands in a slot that nothing was put into yet: a guess like any other, at a length modulo 2^32 that few texts have.
+/// The content of a slot that was never written. No string of a table has this length.
 const NONE: Follower = Follower {
     position: 0,
     len: 0,
 };
 
-/// Which text followed which, among those that came again. The slot of a position is its remainder by the number of slots, and holds
-/// the text that was found last behind a position of this slot. What it holds is a guess alone, since it stays where texts are taken
-/// out. So a look-up compares the text there in any case, and no answer depends on what this holds. It takes 1 KB, in place, so that a
-/// cache of few texts has it with no request for memory.
+/// Which string followed which, among those that repeat.
+///
+/// The slot of an index is its remainder by the number of slots. It has the string that was last found after a string of this slot.
+/// That is a guess, since it stays when the strings are removed: a lookup compares the string, and no result depends on it. New
+/// strings change no slot, so that values between keys leave the order of the keys. The slots take 1 KB, inline, so that a small cache
+/// has them without an allocation.
 #[derive(Drop)]
 pub(crate) struct Followers {
     slots: [Follower; FOLLOWER_SLOTS],
-    /// The position of the text that was found last.
+    /// The index of the current string: the one that was found last.
     last: u32,
-    /// What stands in its slot.
-    next: Follower,
+    /// The content of its slot.
+    pub(super) next: Follower,
 }
 
 impl Followers {
-    /// No text follows any.
+    /// No string follows any.
     pub(crate) fn new() -> Followers
         ensures { result ≡ no_followers }
     {
@@ -43,23 +45,11 @@ impl Followers {
         }
     }
 
-    /// The position of the text that followed the last time after the one that was found last, where it has this length. A
-    /// text of another length is told apart without being read.
-    pub(crate) fn guess(&self, len: u32) -> Option<u32>
-        ensures put { IfSome result (λ at. IsFollower at len self.now) }
-        ensures taken { (at : ℕ) → IsFollower at len self.now → result ≡ Some at }
-    {
-        if self.next.len == len {
-            Some(self.next.position)
-        } else {
-            None
-        }
-    }
-
-    /// Puts the position of a text that was found, and its length, behind the one that was found before it.
-    pub(crate) fn put(&mut self, position: u32, len: u32)
+    /// Records that the string at `position`, of length `len`, follows the current one, and makes it the current one.
+    pub(crate) fn put(&mut self, position: u32, len: usize)
         ensures { self.new ≡ followed_by position len self.old }
     {
+        let len = len.min(u32::MAX as usize) as u32;
         self.slots[self.last as usize % FOLLOWER_SLOTS] = Follower { position, len };
         self.last = position;
         self.next = self.slots[position as usize % FOLLOWER_SLOTS];

@@ -2,9 +2,9 @@ use Rattle.std.proofs.Common.{length}
 use Rattle.ijson_string.specs.private.IsTable.{hashes_of, heads_of}
 use Rattle.ijson_string.specs.private.Keys.{keys_of}
 use Rattle.ijson_string.proofs.ChainLookup.{IsAhead}
-use Rattle.ijson_string.proofs.table.TextTable.find_in_chain.Given as goal
+use Rattle.ijson_string.proofs.table.TextTable.find.Given as goal
 
--- the text is among those that are still ahead, or nowhere
+-- the string is among those that the rest of the chain reaches, or absent
 abbrev pub invariant-loop-at : goal.invariant-loop-at
 invariant-loop-at l = IsAhead (length (heads_of l.self-inside.buckets.items)) l.hash l.text
     (keys_of (hashes_of l.self-inside.links.items) l.self-inside.texts.items) l.at

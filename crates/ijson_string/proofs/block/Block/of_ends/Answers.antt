@@ -1,7 +1,7 @@
 use Rattle.std.proofs.Common.{◌≡◌, ◌∙◌, ℕ, List, length, drop, replicate, subst, arith}
 use Rattle.std.proofs.lemmas.Grind.{common_steps}
 use Rattle.ijson_string.proofs.Prefixes.{zeros_behind}
-use Rattle.ijson_string.proofs.block.Block.filled.Goals as goal
+use Rattle.ijson_string.proofs.block.Block.of_ends.Goals as goal
 
 pub invariant_of-result : goal.invariant_of-result
 invariant_of-result g c = record {
@@ -12,6 +12,6 @@ invariant_of-result g c = record {
       c.as_bytes-source.ensures.value (c.put_piece-2.ensures.rest ∙ c.put_piece.ensures.rest));
 }
 
--- what the check tries where no answer stands takes longer than these
+-- given for speed: the default tactics take longer
 pub returns : goal.returns
 returns g c = grind (arith, common_steps)

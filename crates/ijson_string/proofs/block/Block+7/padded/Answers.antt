@@ -1,7 +1,7 @@
 use Rattle.std.proofs.Common.{ℕ, ◌-◌, ◌∙◌, replicate, ap, arith}
 use Rattle.std.proofs.lemmas.Str.{IsUtf8-had}
 use Rattle.ijson_string.proofs.Prefixes.{utf8_with_zeros}
-use Rattle.ijson_string.proofs.block.Block+7.row.Goals as goal
+use Rattle.ijson_string.proofs.block.Block+7.padded.Goals as goal
 
 pub returns-clause-utf8 : goal.returns-clause-utf8
 returns-clause-utf8 c = rw c.from_utf8_unchecked.ensures (IsUtf8-had _ c.self.invariant.utf8)
