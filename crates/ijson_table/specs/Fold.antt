@@ -1,7 +1,7 @@
 -- The fold of words to one number below 2^64, this project's own, with the basis and the prime of FNV in 64 bits.
 use Rattle.std.specs.Prelude.{ℕ, ◌+◌, ◌*◌, ◌%◌, ◌^◌, List, fold}
 
--- where it starts, and what each step multiplies by
+-- the initial number, and the multiplier of each step
 abbrev pub basis : ℕ
 basis = 14695981039346656037
 
@@ -12,6 +12,6 @@ prime = 1099511628211
 unfoldable pub fold_word : ℕ → ℕ → ℕ
 fold_word h word = (h * prime + word) % 2 ^ 64
 
--- all words, from the basis on
+-- all words, folded from the basis
 abbrev pub fold_words : List ℕ → ℕ
 fold_words words = fold fold_word basis words

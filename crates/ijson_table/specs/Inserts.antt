@@ -1,11 +1,11 @@
--- What an insertion answers and leaves.
+-- The result and the effect of an insertion.
 use Rattle.std.specs.Prelude.{◌≡◌, ℕ, List, length, Option, Some, None, Result, Ok, Err}
 use Rattle.ijson_table.specs.declared.store.RefusedPair.{RefusedPair}
 use Rattle.ijson_table.specs.Store.{lookup, put}
 use Rattle.ijson_table.specs.Growth.{Grown, Ungrown}
 
--- A pair is put into a store of these pairs and capacity c, which then has pairs' and c'. A key that is there takes no room;
--- for a new one there is growth first, and where that is refused the pair comes back.
+-- An entry is inserted into a store of these pairs and capacity c, which then has pairs' and c'. A key that is present
+-- takes no capacity; for a new one, growth comes first, and if it fails, the entry is returned.
 abbrev pub Inserts : {V : Type 0} → List (List ℕ × V) → ℕ → List ℕ → V → Result (Option V) (RefusedPair V)
     → List (List ℕ × V) → ℕ → Type 0
 Inserts pairs c key value (Ok (Some old)) pairs' c' =

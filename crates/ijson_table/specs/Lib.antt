@@ -10,6 +10,7 @@ pub mod BuildBound
 pub mod CopyBound
 pub mod Sees
 pub mod Placed
+pub mod PlacedWithValue
 pub mod laws
 pub mod private
 pub mod formers

@@ -1,10 +1,10 @@
--- A store once the value at a position is another one. This project's own.
+-- A store after the value at an index is replaced. This project's own.
 use Rattle.std.specs.Prelude.{ℕ}
 use Rattle.std.proofs.Common.{sym, subst}
 use Rattle.ijson_table.specs.Store.{Store, IsDistinct, with_value}
 use Rattle.ijson_table.specs.laws.Store.{keys-with_value}
 
--- the store with this value at i, its keys and its capacity left
+-- the store with this value at i, with its keys and its capacity
 abbrev pub store_with_value : {V : Type 0} → Store V → ℕ → V → Store V
 store_with_value s i value = record {
   pairs = with_value s.pairs i value;

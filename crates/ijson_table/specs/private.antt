@@ -11,7 +11,6 @@ pub mod Insertion
 pub mod IsPlaced
 pub mod KeptHash
 pub mod KeyOrder
-pub mod LentSlots
 pub mod Lookup
 pub mod Merging
 pub mod Narrow

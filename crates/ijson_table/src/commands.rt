@@ -1,4 +1,4 @@
-//! Running commands on a pair store.
+//! Commands on a pair store, and a function that runs them.
 
 ghost use Rattle.std.specs.Prelude.{◌≡◌, ℕ, List, IfOk, OnErr};
 ghost use Rattle.ijson_table.specs.Inserts.{Inserts};
@@ -13,42 +13,42 @@ use std::alloc::{AllocError, Global};
 /// A command to a store.
 #[derive(Debug, Drop)]
 pub enum Command<V> {
-    /// Puts the value beside the key: in place of the old one, which needs no memory, or as a new pair last.
+    /// Replaces the value of the key, without allocating, or appends a new entry.
     Insert(IString, V),
-    /// Asks for the position of the key.
+    /// Looks up the index of the key.
     Find(IString),
-    /// Takes out the pair with the key. The last pair moves there.
+    /// Removes the entry with the key. The last entry takes its place.
     Remove(IString),
-    /// Takes out the pair with the key. Those behind it move one forward.
+    /// Removes the entry with the key. Each later entry moves down by one index.
     ShiftRemove(IString),
-    /// Makes room for so many more pairs.
+    /// Reserves capacity for this number of additional entries.
     Reserve(usize),
-    /// Makes the capacity the length.
+    /// Shrinks the capacity to the length.
     ShrinkToFit,
-    /// Drops each pair.
+    /// Drops all entries.
     Clear,
 }
 
 /// The reply to a command.
 #[derive(Debug, PartialEq, Eq, Drop)]
 pub enum Reply<V> {
-    /// The pair is new.
+    /// The entry is new.
     Added,
-    /// The key was there, beside this value.
+    /// The key was present, with this value.
     Replaced(V),
-    /// There was no room for one more pair, which comes back.
+    /// The store could not grow for the entry, which is returned with the reason.
     Refused(IString, V, ReserveError),
-    /// The position, or none.
+    /// The index, or `None` if the key is missing.
     Found(Option<usize>),
-    /// The pair that was taken out, or none.
+    /// The removed entry, or `None` if the key is missing.
     Removed(Option<(IString, V)>),
-    /// What was asked for is so.
+    /// The command succeeded.
     Done,
-    /// The capacity stays.
+    /// The capacity did not change, for this reason.
     NotDone(ReserveError),
 }
 
-/// One command.
+/// Runs one command.
 fn step<V: Drop, P: PairStore<V>>(store: &mut P, command: Command<V>) -> Reply<V>
     ensures { Step (P.pairs store.old) (P.room store.old) command result
         (P.pairs store.new) (P.room store.new) }
@@ -77,7 +77,7 @@ fn step<V: Drop, P: PairStore<V>>(store: &mut P, command: Command<V>) -> Reply<V
     }
 }
 
-/// The reply to an insertion.
+/// Converts the result of an insertion to a reply.
 fn inserted<V>(outcome: Result<Option<V>, RefusedPair<V>>) -> Reply<V>
     ensures { (pairs pairs' : List (List ℕ × V)) (c c' : ℕ) (key : List ℕ) (value : V)
         → Inserts pairs c key value outcome pairs' c' → Step pairs c (Insert key value) result pairs' c' }
@@ -89,7 +89,7 @@ fn inserted<V>(outcome: Result<Option<V>, RefusedPair<V>>) -> Reply<V>
     }
 }
 
-/// Takes out the pair with a key, or none. The last pair moves there.
+/// Removes the entry with a key, if present. The last entry takes its place.
 #[tactic(auto, using(crate::proofs::pairs::PairsByKey::position_within))]
 fn remove<V, P: PairStore<V>>(store: &mut P, key: IString) -> Option<(IString, V)>
     ensures { Step (P.pairs store.old) (P.room store.old) (Remove key) (Removed result) (P.pairs store.new) (P.room store.new) }
@@ -99,7 +99,7 @@ fn remove<V, P: PairStore<V>>(store: &mut P, key: IString) -> Option<(IString, V
     Some(store.swap_out(found?))
 }
 
-/// Takes out the pair with a key, or none. Those behind it move one forward.
+/// Removes the entry with a key, if present. Each later entry moves down by one index.
 #[tactic(auto, using(crate::proofs::pairs::PairsByKey::position_within))]
 fn shift_remove<V, P: PairStore<V>>(store: &mut P, key: IString) -> Option<(IString, V)>
     ensures { Step (P.pairs store.old) (P.room store.old) (ShiftRemove key) (Removed result)
@@ -110,8 +110,13 @@ fn shift_remove<V, P: PairStore<V>>(store: &mut P, key: IString) -> Option<(IStr
     Some(store.shift_out(found?))
 }
 
-/// The commands in order. Each kind of store gives replies and an end that the rules of the commands allow. Room for the replies is
-/// made first: where that is refused, no command was run, and they are dropped.
+/// Runs commands in order and returns their replies.
+///
+/// Every kind of store replies and ends as the rules of the commands allow.
+///
+/// # Errors
+///
+/// The list of replies is allocated first. If that fails, no command is run, and the commands are dropped.
 ///
 /// ```
 /// let commands = vec![in alloc; Command::Insert(key, 1u64), Command::Reserve(10), Command::Clear]?;

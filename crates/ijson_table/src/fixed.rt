@@ -1,8 +1,12 @@
-//! The table under the fixed hash.
+//! The table with the fixed hash.
 
 use crate::hash::FixedHash;
 use crate::table::Table;
 
-/// A [`Table`] whose slots go by [`FixedHash`]. It is what objects are kept in. Its look-ups cost what those of a [`Table`]
-/// do; keys that were chosen to have one hash make one crowd, which each call for one of them walks.
+/// A [`Table`] that hashes keys by [`FixedHash`]; objects store their entries in it.
+///
+/// # Cost
+///
+/// Lookups cost the same as those of a [`Table`]. Keys chosen to have one hash form one collision cluster, which each
+/// call for one of them scans.
 pub type FixedTable<V> = Table<V, FixedHash>;

@@ -1,18 +1,20 @@
-//! How a store grows and shrinks.
+//! Growth and shrinking of a store.
 
-ghost use Rattle.std.specs.Prelude.{◌≡◌, ◌<◌, ◌≤◌, ◌^◌, [], length, take, drop, vec_capacity, IfOk, OnOk, OnErr, MatchResult};
+ghost use Rattle.std.specs.Prelude.{◌≡◌, ◌<◌, ◌≤◌, ◌^◌, MatchResult};
 ghost use Rattle.ijson_table.specs.Crowd.{slot_count};
 ghost use Rattle.ijson_table.specs.Growth.{capacity_limit};
-ghost use Rattle.ijson_table.specs.private.Room.{AsksFor, IsResized};
+ghost use Rattle.ijson_table.specs.private.Room.{AsksFor};
 
 use crate::store::ReserveError;
-use std::alloc::{AllocError, Global};
-use std::mem;
 
-/// The greatest capacity.
+/// The maximum capacity.
 const CAPACITY_LIMIT: usize = 1 << 56;
 
-/// The capacity that a growth for so many more asks for, where it is within the limit. None where they have room.
+/// Returns the capacity that `additional` more entries require, or `None` if they fit.
+///
+/// # Errors
+///
+/// `TooLarge` if that capacity would exceed the limit.
 pub fn grown_capacity(
     len: usize,
     capacity: usize,
@@ -34,7 +36,7 @@ pub fn grown_capacity(
     Ok(Some((2 * capacity).max(len + additional).max(4)))
 }
 
-/// This capacity, where it is within the limit.
+/// Returns `capacity`, or `TooLarge` if it exceeds the limit.
 pub fn limited(capacity: usize) -> Result<usize, ReserveError>
     ensures { MatchResult result
         (λ n. (n ≡ capacity) × (capacity ≤ capacity_limit))
@@ -46,79 +48,11 @@ pub fn limited(capacity: usize) -> Result<usize, ReserveError>
     Ok(capacity)
 }
 
-/// How many slots a table of this capacity has: five for four pairs.
+/// Returns the number of slots of a table with this capacity: five for every four entries.
 #[inline(always)]
 pub fn slots_for(capacity: usize) -> usize
     requires { capacity < 2 ^ 63 }
     ensures { result ≡ slot_count capacity }
 {
     capacity + capacity / 4
-}
-
-/// An empty list with room for so many items and no more. Room for none takes no memory.
-pub fn list_with_room<T>(alloc: Global, room: usize) -> Result<Vec<T>, AllocError>
-    ensures empty { IfOk result (λ list. list.items ≡ []) }
-    ensures room { IfOk result (λ list. vec_capacity list ≡ room) }
-    ensures refused { OnErr result (0 < room) }
-{
-    if room == 0 {
-        return Ok(Vec::new(alloc));
-    }
-    Vec::with_capacity(alloc, room)
-}
-
-/// Moves the items to a list that has room for them alone. Where that is refused, nothing changes.
-pub fn fit<T: Drop>(alloc: Global, list: &mut Vec<T>) -> Result<(), AllocError>
-    ensures items { list.new.items ≡ list.old.items }
-    ensures room { OnOk result (vec_capacity list.new ≡ length list.old.items) }
-    ensures refused { OnErr result
-        ((0 < length list.old.items) × (vec_capacity list.new ≡ vec_capacity list.old)) }
-{
-    let fitted = list_with_room(alloc, list.len())?;
-    for item in mem::replace(list, fitted) {
-        list.push_reserved(item);
-    }
-    Ok(())
-}
-
-/// Makes the room of a list so many items: as many as there are, or no fewer than there was room for. More room is taken in place where
-/// the allocator does that. Where memory is refused, nothing changes.
-pub fn set_room<T: Drop>(alloc: Global, list: &mut Vec<T>, room: usize) -> Result<(), AllocError>
-    requires within { length list.old.items ≤ room }
-    requires grows { length list.old.items < room → vec_capacity list.old ≤ room }
-    ensures { IsResized list.old.items (vec_capacity list.old) room result list.new.items (vec_capacity list.new) }
-{
-    let len = list.len();
-    if len < room {
-        return list.reserve_exact(room - len);
-    }
-    fit(alloc, list)
-}
-
-/// Gives back the room beyond the items: in place where the allocator does that, else by a move, which may be refused.
-pub fn tighten<T: Drop>(alloc: Global, list: &mut Vec<T>) -> Result<(), AllocError>
-    ensures items { list.new.items ≡ list.old.items }
-    ensures room { OnOk result (vec_capacity list.new ≡ length list.old.items) }
-    ensures refused { OnErr result (0 < length list.old.items) }
-{
-    list.shrink_to_fit();
-    if list.capacity() == list.len() {
-        return Ok(());
-    }
-    fit(alloc, list)
-}
-
-/// Takes off what stands from a position on. Nothing takes no memory. The room of the list stays. Where memory is refused, nothing
-/// changes.
-pub fn split_rest<T>(alloc: Global, list: &mut Vec<T>, at: usize) -> Result<Vec<T>, AllocError>
-    requires { at ≤ length list.old.items }
-    ensures rest { IfOk result (λ rest. rest.items ≡ drop at list.old.items) }
-    ensures kept { OnOk result (list.new.items ≡ take at list.old.items) }
-    ensures room { vec_capacity list.new ≡ vec_capacity list.old }
-    ensures refused { OnErr result (at < length list.old.items) }
-{
-    if at == list.len() {
-        return Ok(Vec::new(alloc));
-    }
-    list.split_off(at)
 }

@@ -1,24 +1,29 @@
-//! Hashes of keys.
+//! Hash functions for keys.
 
 ghost use Rattle.std.specs.Prelude.{◌≡◌, ℕ, List, fold};
 ghost use Rattle.ijson_table.specs.Fold.{fold_word, fold_words};
 
-/// A hash of texts: any function of the text.
+/// A hash of strings: any function of their bytes.
 pub trait KeyHash {
-    /// What it answers, by the bytes of a text.
+    /// The hash, by the bytes of a string.
     ghost hash_of: { List ℕ → ℕ };
 
-    /// The hash of a text.
+    /// Returns the hash of a string.
     fn hash(text: &str) -> u64
         ensures { result ≡ hash_of text.now };
 }
 
-/// The fold of the bytes of a text, the same in each run. Anybody can choose texts that have one hash. It takes time linear in
-/// the text.
+/// A fold of the bytes of a string, identical in every run.
+///
+/// Anybody can choose strings that have the same hash.
+///
+/// # Cost
+///
+/// Linear in the length of the string.
 #[derive(Clone, Copy, Debug, Drop)]
 pub struct FixedHash;
 
-/// Four bytes are taken at a time.
+/// Folds four bytes per step.
 impl KeyHash for FixedHash {
     ghost hash_of = { λ text. fold_words text };
 
@@ -33,23 +38,26 @@ impl KeyHash for FixedHash {
     }
 }
 
-/// Where the fold starts: the offset basis of FNV (Fowler, Noll, Vo) in 64 bits.
+/// The initial hash: the offset basis of FNV (Fowler, Noll, Vo) in 64 bits.
 const BASIS: u64 = 14_695_981_039_346_656_037;
 
-/// What one word multiplies the hash by, modulo 2^64: the prime of FNV. FNV combines a byte by exclusive or; here a word is added.
+/// The multiplier for one word, modulo 2^64: the prime of FNV.
+///
+/// FNV combines a byte by exclusive or; here, a word is added.
 const PRIME: u64 = 1_099_511_628_211;
 
-/// What two words multiply it by.
+/// The multiplier for two words.
 const PRIME_POWER_2: u64 = PRIME.wrapping_mul(PRIME);
 
-/// What three words multiply it by.
+/// The multiplier for three words.
 const PRIME_POWER_3: u64 = PRIME_POWER_2.wrapping_mul(PRIME);
 
-/// What four words multiply it by, so that a step can take four at once.
+/// The multiplier for four words, folded in one step.
 const PRIME_POWER_4: u64 = PRIME_POWER_3.wrapping_mul(PRIME);
 
-/// Four more words, in one step. The products of the words do not need the
-/// hash, so only one multiplication waits for the step before.
+/// Folds four more words in one step.
+///
+/// The products of the words do not depend on the hash, so only one multiplication waits for the previous step.
 fn add_four(hash: u64, words: [u8; 4]) -> u64
     ensures { result ≡ fold fold_word hash words }
 {
@@ -62,7 +70,7 @@ fn add_four(hash: u64, words: [u8; 4]) -> u64
     hash.wrapping_mul(PRIME_POWER_4).wrapping_add(sum)
 }
 
-/// More words, one by one.
+/// Folds more words, one at a time.
 fn add_each(mut hash: u64, words: &[u8]) -> u64
     ensures { result ≡ fold fold_word hash words.now }
 {
@@ -72,7 +80,7 @@ fn add_each(mut hash: u64, words: &[u8]) -> u64
     hash
 }
 
-/// One more word.
+/// Folds one more word.
 fn add_word(hash: u64, word: u64) -> u64
     ensures { result ≡ fold_word hash word }
 {

@@ -1,47 +1,49 @@
-//! The index of a table: slots that hold the positions of its pairs, ordered by the distance from home, as in Robin Hood hashing. It
-//! is a list of its own, which knows of the keys no more than their hashes.
+//! The hash index of a table: slots with the indices of its entries, as in Robin Hood hashing.
 //!
-//! - `slot`: what stands at one slot, and the count that hashes are reduced by.
-//! - `slots`: how the slots are stored, by how many they are.
-//! - `places`: the trait of a table whose slots can be looked at, and `locate`, the look-up whose looks are counted.
-//! - `probe`: the one walk over the slots, which each look-up and each shift begins with.
-//! - `forward`: how residents make room for one more, in whichever form they are stored.
-//! - `shift`: how the residents of slots move, in insertion, removal and growth.
-//! - `fill`: how a table is filled from entries that are sorted by home.
-//! - `copy`: how a table comes to have another count of slots.
-//! - `view`: the slots as they are lent to a look-up.
+//! Residents are ordered by probe distance. Of the keys, the index knows only the hashes.
+//!
+//! - `slots`: the representation of the slots, by their number.
+//! - `places`: the trait of a table whose slots can be inspected, and `locate`, the lookup that counts inspections.
+//! - `probe`: the one walk over the slots, with which each lookup and each shift begins.
+//! - `forward`: the forward shift, in each representation.
+//! - `shift`: the moves of residents in insertion, removal and growth.
+//! - `fill`: filling a table from entries sorted by home slot.
+//! - `copy`: copying the slots to another number of slots.
 
-ghost use Rattle.std.specs.Prelude.{◌≡◌, ◌+◌, ◌<◌, ◌≤◌, [], ◌∷◌, ◌++◌, length, get_or, None, IfOk, OnErr};
+ghost use Rattle.std.specs.Prelude.{◌≡◌, ℕ, ◌+◌, ◌-◌, ◌%◌, ◌^◌, ◌<◌, ◌≤◌, [], ◌∷◌, ◌++◌, length, get_or, None, IfOk, OnErr};
 ghost use Rattle.std.specs.List.{remove, swap_remove as swapped_out};
 ghost use Rattle.ijson_table.specs.Crowd.{distance};
-ghost use Rattle.ijson_table.specs.Slots.{resident, IsTable};
+ghost use Rattle.ijson_table.specs.Slots.{displacement, resident, IsTable};
+ghost use Rattle.ijson_table.specs.Store.{keys_of};
 ghost use Rattle.ijson_table.specs.private.Changes.{changes};
+ghost use Rattle.ijson_table.specs.private.CountedSteps.{Walks};
 ghost use Rattle.ijson_table.specs.private.Holds.{MayStand};
 ghost use Rattle.ijson_table.specs.private.Insertion.{EndsWith};
 ghost use Rattle.ijson_table.specs.private.KeptHash.{kept};
-ghost use Rattle.ijson_table.specs.private.Probe.{AreFull};
+ghost use Rattle.ijson_table.specs.private.Probe.{AreFull, Passed};
 ghost use Rattle.ijson_table.specs.private.SlotHashes.{position_in, HasHash};
 
 mod copy;
-mod fill;
+pub mod fill;
 mod forward;
 pub mod places;
 pub mod probe;
 mod shift;
-pub mod slot;
 mod slots;
-pub mod view;
 
+use crate::index::probe::{Lookup, Probed, probe};
 use crate::index::shift::{shift_remove, swap_remove, vacancy};
-use crate::index::slot::Slot;
 use crate::index::slots::Slots;
-use crate::index::view::View;
+use crate::slot::{Modulus, Slot};
+use ijson_number::Looks;
+use ijson_string::IString;
 use std::alloc::{AllocError, Global};
 use std::marker::Model;
 
-/// Slots, each empty or with a position of a list and what is kept of the hash of the key there: the whole hash, or where the slots are
-/// no more than `NARROW_SLOTS` the home and eight bits more.
-#[derive(Debug, Drop)]
+/// Slots, each empty or with the index of an entry and the kept part of the hash of its key.
+///
+/// The kept part is the whole hash or, with at most `NARROW_SLOTS` slots, the home slot and eight more bits.
+#[derive(Drop)]
 pub struct Index {
     slots: Slots,
 }
@@ -58,7 +60,7 @@ impl Model for Index {
 }
 
 impl Index {
-    /// No slots. They take no memory.
+    /// Creates a hash index without slots, which does not allocate.
     pub fn new() -> Index
         ensures hashes { result.hashes ≡ [] }
         ensures slots { result.slots ≡ [] }
@@ -68,7 +70,7 @@ impl Index {
         }
     }
 
-    /// So many empty slots.
+    /// Creates `count` empty slots.
     pub fn with_slots(alloc: Global, count: usize) -> Result<Index, AllocError>
         ensures hashes { IfOk result (λ list. list.hashes ≡ []) }
         ensures count { IfOk result (λ list. length list.slots ≡ count) }
@@ -79,7 +81,7 @@ impl Index {
         })
     }
 
-    /// How many slots there are.
+    /// Returns the number of slots.
     pub fn len(&self) -> usize
         ensures count { result ≡ length self.now.slots }
         ensures table { IsTable self.now.hashes self.now.slots }
@@ -87,7 +89,7 @@ impl Index {
         self.slots.len()
     }
 
-    /// What stands at a slot.
+    /// Reads a slot.
     pub fn at(&self, slot: usize) -> Slot
         requires { slot < length self.now.slots }
         ensures position { position_in result ≡ resident self.now.slots slot }
@@ -97,16 +99,59 @@ impl Index {
         self.slots.at(slot)
     }
 
-    /// The slots, lent to a look-up.
+    /// Probes for a key among entries, from its home slot.
+    ///
+    /// `hash` is the part of its hash that the slots keep. Their representation is tested once.
     #[inline(always)]
-    pub fn view(&self) -> View<'_>
-        ensures value { result ≡ self.now }
+    pub fn probe_for<V>(
+        &self,
+        pairs: &[(IString, V)],
+        modulus: Modulus,
+        hash: u64,
+        home: usize,
+        key: &str,
+        looks: &mut Looks,
+    ) -> Probed
+        requires listed { length pairs.now ≡ length self.now.hashes }
+        requires counted { modulus.count ≡ length self.now.slots }
+        requires homed { home ≡ hash % modulus.count }
+        requires fits { (m : ℕ) → m < length self.now.slots
+            → Passed (displacement self.now.hashes self.now.slots) (length self.now.slots) (hash % length self.now.slots) m
+            → looks.old + m + 1 < 2 ^ 128 }
         ensures table { IsTable self.now.hashes self.now.slots }
+        ensures grows { looks.old ≤ looks.new }
+        ensures ends { Walks self.now (keys_of pairs.now) hash key.now (looks.new - looks.old) result }
     {
-        View::new(self.slots.lent())
+        match self.slots.as_narrow() {
+            Some(slots) => {
+                let lookup = Lookup {
+                    pairs,
+                    slots,
+                    modulus,
+                    hash,
+                    home,
+                    key,
+                };
+                probe(&lookup, looks)
+            }
+            None => {
+                let slots = self.slots.as_slice();
+                let lookup = Lookup {
+                    pairs,
+                    slots,
+                    modulus,
+                    hash,
+                    home,
+                    key,
+                };
+                probe(&lookup, looks)
+            }
+        }
     }
 
-    /// The slot where the probe ends for a new key, of whose hash this is kept. There is room for one more.
+    /// Returns the slot at which the probe for a new key ends.
+    ///
+    /// `hash` is the part of its hash that the slots keep. Call it only if there are more slots than entries.
     pub fn vacancy(&self, hash: u64) -> usize
         requires { length self.now.hashes < length self.now.slots }
         ensures { MayStand (self.now.hashes ++ hash ∷ []) self.now.slots (length self.now.hashes) result }
@@ -115,8 +160,10 @@ impl Index {
         slot
     }
 
-    /// Puts the next position into the slots, at the one where the probe for its key ended. This is what the slots keep of the hash of
-    /// that key. Answers the last slot that is written, which was the first empty one from there on.
+    /// Inserts the next index at the slot at which the probe for its key ended.
+    ///
+    /// `hash` is the part of the hash of its key that the slots keep. Returns the last slot written, which was the
+    /// first empty one from `slot` on.
     pub fn push_at(&mut self, slot: usize, position: usize, hash: u64) -> usize
         requires position { position ≡ length self.old.hashes }
         requires room { position < length self.old.slots }
@@ -132,7 +179,9 @@ impl Index {
         self.slots.shift_forward(slot, position, hash)
     }
 
-    /// Takes a position out, and gives its number to the last one, which is another. The hashes are those of their keys.
+    /// Removes index `position` and gives its number to `last`, a different index.
+    ///
+    /// The hashes are those of their keys.
     pub fn swap_remove(&mut self, position: usize, hash: u64, last: usize, last_hash: u64)
         requires { EndsWith self.old.hashes position hash last last_hash }
         ensures hashes { self.new.hashes ≡ swapped_out self.old.hashes position 0 }
@@ -141,7 +190,7 @@ impl Index {
         swap_remove(&mut self.slots, position, hash, last, last_hash);
     }
 
-    /// Takes a position out, and makes each later one one less. Its key has this hash.
+    /// Removes index `position`, whose key has this hash, and decrements each later index.
     pub fn shift_remove(&mut self, position: usize, hash: u64, last: usize)
         requires within { position ≤ last }
         requires last { last + 1 ≡ length self.old.hashes }
@@ -152,7 +201,7 @@ impl Index {
         shift_remove(&mut self.slots, position, hash, last);
     }
 
-    /// Makes each slot empty.
+    /// Empties all slots.
     pub fn clear(&mut self)
         ensures hashes { self.new.hashes ≡ [] }
         ensures count { length self.new.slots ≡ length self.old.slots }

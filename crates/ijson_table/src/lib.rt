@@ -1,6 +1,6 @@
-//! Stores of pairs with distinct keys, in insertion order.
+//! Stores of entries with distinct keys, in insertion order.
 //!
-//! Tests: they stand in `ijson_extra`.
+//! The tests are in `ijson_extra`.
 #![tactic(auto)]
 
 mod commands;
@@ -9,14 +9,17 @@ mod growth;
 mod hash;
 mod index;
 mod linear;
+mod slot;
 mod sorting;
 mod store;
 mod table;
+mod vec;
 
 pub use commands::{Command, Reply, run};
 pub use fixed::FixedTable;
 pub use hash::{FixedHash, KeyHash};
-pub use index::places::{Places, Seen, locate};
+pub use index::places::{Places, locate};
 pub use linear::LinearPairs;
+pub use slot::Seen;
 pub use store::{PairStore, RefusedPair, ReserveError};
 pub use table::Table;

@@ -9,14 +9,20 @@ ghost use Rattle.ijson_table.specs.Growth.{capacity_limit};
 ghost use Rattle.ijson_table.specs.Inserts.{Inserts};
 ghost use Rattle.ijson_table.specs.private.Room.{IsResized};
 
-use crate::growth::{grown_capacity, limited, list_with_room, set_room};
-use crate::store::{PairStore, RefusedPair, ReserveError, insert};
+use crate::growth::{grown_capacity, limited};
+use crate::store::{PairStore, RefusedPair, ReserveError, fmt_pairs, insert};
+use crate::vec::{list_with_room, set_room};
 use ijson_string::IString;
 use std::alloc::{AllocError, Global};
+use std::fmt;
 use std::marker::Model;
 
-/// Pairs in a list, searched from the front. It hashes nothing, and a look-up takes time linear in the pairs.
-#[derive(Debug, Drop)]
+/// Entries in a list, searched from the first on.
+///
+/// # Cost
+///
+/// Nothing is hashed. A lookup takes time linear in the number of entries.
+#[derive(Drop)]
 pub struct LinearPairs<V> {
     pairs: Vec<(IString, V)>,
     ghost distinct: { IsDistinct (keys_of pairs.items) } by { IsDistinct-prop (keys_of pairs.items) },
@@ -37,7 +43,7 @@ impl<V> Model for LinearPairs<V> {
     ghost invariant = { λ s. HasRoom (length s.pairs.items) (vec_capacity s.pairs) };
 }
 
-/// The position of a key.
+/// Returns the index of a key, if present.
 fn find<V>(pairs: &[(IString, V)], key: &str) -> Option<usize>
     ensures { result ≡ at pairs.now key.now }
 {
@@ -50,8 +56,13 @@ fn find<V>(pairs: &[(IString, V)], key: &str) -> Option<usize>
 }
 
 impl<V> LinearPairs<V> {
-    /// An empty store with room for so many pairs. It is refused with `TooLarge` where that passes 2^56, and with `Memory` where memory is
-    /// refused. Room for none takes no memory.
+    /// Creates an empty store with this capacity.
+    ///
+    /// A capacity of 0 does not allocate.
+    ///
+    /// # Errors
+    ///
+    /// `TooLarge` if `capacity` exceeds 2^56, `Memory` if an allocation fails.
     pub fn with_capacity(alloc: Global, capacity: usize) -> Result<LinearPairs<V>, ReserveError>
         ensures made { IfOk result (λ s. (s.pairs ≡ []) × (s.capacity ≡ capacity)) }
         ensures too_large { (result ≡ Err ReserveError.TooLarge) ↔ (capacity_limit < capacity) }
@@ -63,14 +74,14 @@ impl<V> LinearPairs<V> {
         })
     }
 
-    /// The pairs, in order. They are lent, and not copied.
+    /// Borrows the entries, in order.
     pub fn as_slice(&self) -> &[(IString, V)]
         ensures { result.now ≡ self.now.pairs }
     {
         self.pairs.as_slice()
     }
 
-    /// The value beside a key. None where the key is not there.
+    /// Returns the value of a key, or `None` if the key is missing.
     pub fn get(&self, key: &str) -> Option<&V>
         ensures { option_copied result ≡ lookup key.now self.now.pairs }
     {
@@ -82,9 +93,18 @@ impl<V> LinearPairs<V> {
 }
 
 impl<V: Drop> LinearPairs<V> {
-    /// Puts a pair. A key that is there keeps its place and needs no memory, and its old value is answered; a new key
-    /// goes last, in room that is made first where there is none. Where that is refused, the pair comes back. The keys are
-    /// compared from the front.
+    /// Inserts an entry and returns the old value of its key, if any.
+    ///
+    /// A key that is present keeps its index, and nothing is allocated. A new key is appended; the store grows first if
+    /// it has no spare capacity.
+    ///
+    /// # Errors
+    ///
+    /// If the growth fails, the entry is returned and the store is unchanged.
+    ///
+    /// # Cost
+    ///
+    /// The keys are compared from the first on.
     pub fn insert(&mut self, key: IString, value: V) -> Result<Option<V>, RefusedPair<V>>
         ensures { Inserts self.old.pairs self.old.capacity key value result
             self.new.pairs self.new.capacity }
@@ -92,7 +112,9 @@ impl<V: Drop> LinearPairs<V> {
         insert(self, key, value)
     }
 
-    /// Makes the capacity this one, the length or one that is no less than the old. Where memory is refused, nothing changes.
+    /// Sets the capacity, to the length or to at least the old one.
+    ///
+    /// If an allocation fails, nothing changes.
     fn set_capacity(&mut self, capacity: usize) -> Result<(), AllocError>
         requires within { length self.old.pairs ≤ capacity }
         requires grows { length self.old.pairs < capacity → self.old.capacity ≤ capacity }
@@ -103,7 +125,14 @@ impl<V: Drop> LinearPairs<V> {
     }
 }
 
-/// A look-up compares the keys from the front.
+/// Formats the entries as a map, in order.
+impl<V: fmt::Debug> fmt::Debug for LinearPairs<V> {
+    fn fmt<W: fmt::Write>(&self, f: &mut fmt::Formatter<W>) -> fmt::Result {
+        fmt_pairs(&self.pairs, f)
+    }
+}
+
+/// A lookup compares the keys from the first on.
 impl<V: Drop> PairStore<V> for LinearPairs<V> {
     ghost pairs = { λ s. s.pairs };
 

@@ -1,7 +1,6 @@
-//! Tables made by sorting: what a list of pairs takes at most, whatever its keys are.
+//! Tables built by sorting, which bounds the time for all keys.
 
 pub mod build;
-pub mod fill;
 pub mod first;
 pub mod merge_sort;
 pub mod order;

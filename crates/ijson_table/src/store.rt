@@ -1,4 +1,4 @@
-//! What a pair store is.
+//! The interface of a pair store.
 
 ghost use Rattle.std.specs.Prelude.{◌≡◌, ℕ, ◌+◌, ◌<◌, ◌≤◌, List, [], ◌∷◌, ◌++◌, length, slice_get, Some, None, Ok, OnOk};
 ghost use Rattle.ijson_table.specs.Store.{at, keys_of, shift_out, swap_out, IsDistinct, with_value};
@@ -8,21 +8,21 @@ ghost use Rattle.std.specs.Borrow.{Lends, sem};
 
 use ijson_string::IString;
 use std::alloc::{AllocError, Global};
-use std::mem;
+use std::{fmt, mem};
 use thiserror::Error;
 
-/// Why the capacity of a store did not change.
+/// The reason why the capacity of a store did not change.
 #[derive(Clone, Copy, Debug, PartialEq, Eq, Drop, Error)]
 pub enum ReserveError {
-    /// A request for memory was refused.
+    /// An allocation failed.
     #[error("a request for memory was refused")]
     Memory,
-    /// The new capacity would pass 2^56.
+    /// The new capacity would exceed 2^56.
     #[error("the capacity would pass 2^56")]
     TooLarge,
 }
 
-/// `Memory`.
+/// Converts to `Memory`.
 impl From<AllocError> for ReserveError {
     ghost use Rattle.std.specs.Prelude.{◌≡◌};
     ghost use Rattle.ijson_table.specs.declared.store.ReserveError.TheVariants.{Memory};
@@ -34,19 +34,21 @@ impl From<AllocError> for ReserveError {
     }
 }
 
-/// A pair that a store did not take, and why it did not grow. The store is as it was.
+/// An entry that was not inserted, and the reason.
+///
+/// The store is unchanged.
 #[derive(Debug, Drop, Error)]
 #[error("the store did not grow for one more pair: {why}")]
 pub struct RefusedPair<V> {
-    /// The key that was given.
+    /// The given key.
     pub key: IString,
-    /// The value that was given.
+    /// The given value.
     pub value: V,
-    /// Why there is no room for them.
+    /// The reason why the store did not grow.
     pub why: ReserveError,
 }
 
-/// Why there is no room. The pair that came back is dropped.
+/// Converts to the reason. The returned entry is dropped.
 impl<V: Drop> From<RefusedPair<V>> for ReserveError {
     ghost use Rattle.std.specs.Prelude.{◌≡◌};
 
@@ -59,66 +61,91 @@ impl<V: Drop> From<RefusedPair<V>> for ReserveError {
     }
 }
 
-/// A list of pairs with distinct keys, and a capacity: the number of pairs that it has room for. A list takes, for each pair of its
-/// capacity, 16 bytes and the size of a value. A table takes 20 more for each, but up to a capacity of 127 it takes 4, and up to 8 none.
-/// When it grows, shrinks or is copied it hashes no key again where it has room for more than 127 pairs before and after, or where a copy
-/// has as many slots, and else each key once.
+/// A list of entries with distinct keys, and a capacity.
+///
+/// The capacity is the number of entries that fit without growth.
+///
+/// # Cost
+///
+/// A list takes, per entry of its capacity, 16 bytes and the size of a value. A table takes 20 bytes more, but 4 up to
+/// a capacity of 127, and none up to 8.
+///
+/// A table that grows, shrinks or is copied hashes no key again if its capacity exceeds 127 before and after, or if a
+/// copy has the same number of slots. Otherwise, it hashes each key once.
 pub trait PairStore<V>: Sized {
-    /// The pairs, in order.
+    /// The entries, in order.
     ghost pairs: { Self → List (List ℕ × V) };
 
-    /// How many pairs have room.
+    /// The capacity.
     ghost room: { Self → ℕ };
 
-    /// No key stands twice.
+    /// All keys are distinct.
     ghost distinct: { (s : Self) → IsDistinct (keys_of (pairs s)) };
 
-    /// The store with another value at a position.
+    /// The store with another value at an index.
     ghost set_value: { Self → ℕ → V → Self };
 
-    /// An empty store of capacity 0, which takes no memory.
+    /// Creates an empty store of capacity 0, which does not allocate.
     fn new(alloc: Global) -> Self
         ensures pairs { pairs result ≡ [] }
         ensures room { room result ≡ 0 };
 
-    /// How many pairs there are.
+    /// Returns the number of entries.
     fn len(&self) -> usize
         ensures { result ≡ length (pairs self.now) };
 
-    /// How many pairs have room, from the length to 2^56.
+    /// Returns the capacity, from the length to 2^56.
     fn capacity(&self) -> usize
         ensures room { result ≡ room self.now }
         ensures within { length (pairs self.now) ≤ room self.now }
         ensures limited { room self.now ≤ capacity_limit };
 
-    /// Makes room for so many more pairs. Where they have none, the capacity becomes the greatest of twice the old one,
-    /// the length with them, and 4. So pairs that are put one by one take room for 4, 8, 16 and so on, and each of them
-    /// constant time on average. A growth moves each pair at most once. A table fills new slots then, in time linear in both capacities
-    /// where few keys crowd. Where many of more than 127 do, it sorts entries of 16 bytes for each pair, in memory that it gives
-    /// back: so whatever the keys are, it takes time n log n at most. Refused, the store is as it was: `TooLarge` where the
-    /// capacity would pass 2^56, `Memory` where it was not granted.
+    /// Reserves capacity for `additional` more entries.
+    ///
+    /// If they do not fit, the new capacity is the maximum of twice the old one, the length plus `additional`, and 4.
+    /// Entries inserted one by one take a capacity of 4, 8, 16 and so on, and constant time each on average.
+    ///
+    /// # Errors
+    ///
+    /// `TooLarge` if the capacity would exceed 2^56, `Memory` if an allocation fails. The store is unchanged.
+    ///
+    /// # Cost
+    ///
+    /// A growth moves each entry at most once. A table then fills new slots, in time linear in both capacities if few
+    /// keys collide. If many of more than 127 do, it sorts entries of 16 bytes each in temporary memory. So, for all
+    /// keys, the time is at most O(n log n).
     fn reserve(&mut self, additional: usize) -> Result<(), ReserveError>
         ensures grown { Grow (length (pairs self.old)) (room self.old) additional result (room self.new) }
         ensures room { OnOk result (length (pairs self.new) + additional ≤ room self.new) }
         ensures pairs { pairs self.new ≡ pairs self.old };
 
-    /// Makes the capacity the length. That takes no memory where it is so already or the length is 0. Each pair is moved at most
-    /// once, and a table fills new slots as in growth. The only error is `Memory`, and the store is then as it was.
+    /// Shrinks the capacity to the length.
+    ///
+    /// It does not allocate if the two are equal or the length is 0. Each entry moves at most once, and a table fills
+    /// new slots as in growth.
+    ///
+    /// # Errors
+    ///
+    /// Only `Memory`, if an allocation fails. The store is unchanged.
     fn shrink_to_fit(&mut self) -> Result<(), ReserveError>
         ensures room { Shrink (length (pairs self.old)) (room self.old) result (room self.new) }
         ensures pairs { pairs self.new ≡ pairs self.old };
 
-    /// The position of a key, from 0. A list compares each key with it from the front; a table hashes it once, and compares it
-    /// with the key of each resident that it passes in the crowd of its home.
+    /// Returns the index of a key, or `None` if the key is missing.
+    ///
+    /// # Cost
+    ///
+    /// A list compares its keys from the first on. A table hashes the key once, and compares it with the key of each
+    /// resident that it passes in the collision cluster of its home slot.
     fn position(&self, key: &str) -> Option<usize>
         ensures { result ≡ at (pairs self.now) key.now };
 
-    /// The pair at a position, which must be below the length. It takes constant time.
+    /// Returns the entry at `index`, which must be below the length, in constant time.
     fn pair(&self, index: usize) -> (&IString, &V)
         requires { index < length (pairs self.now) }
         ensures { slice_get (pairs self.now) index ≡ Some (result.0.now, result.1.now) };
 
-    /// Lends the value at a position, which must be below the length. It takes constant time.
+    /// Mutably borrows the value at `index`, which must be below the length, in constant time.
     fn value_mut(&mut self, index: usize) -> &mut V
         requires { index < length (pairs self.old) }
         ensures* writes_back { sem 𝓛
@@ -129,52 +156,64 @@ pub trait PairStore<V>: Sized {
         value
     }
 
-    /// Lends the value at a position, which must be below the length, and shows its key. It takes constant time.
+    /// Borrows the key and mutably the value at `index`, which must be below the length.
+    ///
+    /// It takes constant time.
     fn pair_mut(&mut self, index: usize) -> (&IString, &mut V)
         requires { index < length (pairs self.old) }
         ensures* writes_back { sem 𝓛
             (Lends Self.row V.row self.entry result.1 (λ w. set_value self.old index w)) }
         ensures pair { slice_get (pairs self.old) index ≡ Some (result.0.now, result.1.now) };
 
-    /// Puts a pair last, in the room that there is. Its key must not be there, and the length must be below the capacity. A table hashes
-    /// the key.
+    /// Appends an entry within the spare capacity.
+    ///
+    /// The key must be missing, and the length must be below the capacity. A table hashes the key.
     fn push_new(&mut self, key: IString, value: V)
         requires missing { at (pairs self.old) key ≡ None }
         requires within { length (pairs self.old) < room self.old }
         ensures pairs { pairs self.new ≡ pairs self.old ++ (key, value) ∷ [] }
         ensures room { room self.new ≡ room self.old };
 
-    /// Takes out the pair at a position, below the length, where the last pair moves. A list does it in constant time; a table hashes both
-    /// keys, and closes the gap among the slots. It takes no memory.
+    /// Removes the entry at `index`, below the length; the last entry takes its place.
+    ///
+    /// # Cost
+    ///
+    /// Constant for a list. A table hashes both keys, and shifts residents backward. Nothing is allocated.
     fn swap_out(&mut self, index: usize) -> (IString, V)
         requires { index < length (pairs self.old) }
         ensures pair { slice_get (pairs self.old) index ≡ Some result }
         ensures pairs { pairs self.new ≡ swap_out (pairs self.old) index }
         ensures room { room self.new ≡ room self.old };
 
-    /// Takes out the pair at a position, below the length, and closes up those behind it. That needs no memory, and time linear in their
-    /// count; a table goes over all its slots too, unless the pair is the last.
+    /// Removes the entry at `index`, below the length; later entries move down by one index.
+    ///
+    /// # Cost
+    ///
+    /// Linear in the number of later entries. Nothing is allocated. A table also passes over all its slots, unless the
+    /// entry is the last.
     fn shift_out(&mut self, index: usize) -> (IString, V)
         requires { index < length (pairs self.old) }
         ensures pair { slice_get (pairs self.old) index ≡ Some result }
         ensures pairs { pairs self.new ≡ shift_out (pairs self.old) index }
         ensures room { room self.new ≡ room self.old };
 
-    /// The pairs, in order. They are not copied.
+    /// Returns the entries, in order, without copying them.
     fn into_pairs(self) -> Vec<(IString, V)>
         ensures { result.items ≡ pairs self };
 
-    /// Drops each pair. The capacity stays. A table goes over all its slots too.
+    /// Drops all entries and keeps the capacity.
+    ///
+    /// A table also passes over all its slots.
     fn clear(&mut self)
         ensures pairs { pairs self.new ≡ [] }
         ensures room { room self.new ≡ room self.old };
 
-    /// Another value changes no key, no other pair and no room.
+    /// Another value changes no key, no other entry and not the capacity.
     ghost set_value_is: { (s : Self) (i : ℕ) (v : V)
         → (pairs (set_value s i v) ≡ with_value (pairs s) i v) × (room (set_value s i v) ≡ room s) };
 }
 
-/// Puts a value in the place of the one at a position, which is answered.
+/// Replaces the value at an index and returns the old one.
 #[inline(always)]
 pub fn replace_at<V, P: PairStore<V>>(store: &mut P, position: usize, value: V) -> V
     requires { position < length (P.pairs store.old) }
@@ -185,8 +224,14 @@ pub fn replace_at<V, P: PairStore<V>>(store: &mut P, position: usize, value: V) 
     mem::replace(store.value_mut(position), value)
 }
 
-/// Puts a pair into a store. A key that is there keeps its place and needs no memory, and its old value is answered; a
-/// new key goes last, in room that is made first where there is none. Where that is refused, the pair comes back.
+/// Inserts an entry into a store and returns the old value of its key, if any.
+///
+/// A key that is present keeps its index, and nothing is allocated. A new key is appended; the store grows first if it
+/// has no spare capacity.
+///
+/// # Errors
+///
+/// If the growth fails, the entry is returned and the store is unchanged.
 pub fn insert<V: Drop, P: PairStore<V>>(
     store: &mut P,
     key: IString,
@@ -203,4 +248,16 @@ pub fn insert<V: Drop, P: PairStore<V>>(
     }
     store.push_new(key, value);
     Ok(None)
+}
+
+/// Formats pairs as a map, in order.
+pub fn fmt_pairs<V: fmt::Debug, W: fmt::Write>(
+    pairs: &[(IString, V)],
+    f: &mut fmt::Formatter<W>,
+) -> fmt::Result {
+    let mut map = f.debug_map();
+    for pair in pairs {
+        map.entry(&pair.0, &pair.1);
+    }
+    map.finish()
 }

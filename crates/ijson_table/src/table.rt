@@ -1,15 +1,15 @@
-//! A pair store whose keys are found by their hash.
+//! A pair store that finds keys by their hash.
 
 ghost use Rattle.std.specs.Prelude.{◌≡◌, ◌≢◌, ◌+◌, ◌-◌, ◌<◌, ◌≤◌, ◌^◌, [], ◌∷◌, ◌++◌, length, get_or, map};
-ghost use Rattle.std.specs.Prelude.{ℕ, List, Ok, Err, refl, IfOk, IsOk, OnOk, OnErr, ◌↔◌, Some, None};
+ghost use Rattle.std.specs.Prelude.{ℕ, List, Ok, Err, refl, is_some, IfOk, IsOk, IsTrue, OnErr, ◌↔◌, Some, None};
 ghost use Rattle.std.specs.Option.{option_copied};
 ghost use Rattle.ijson_table.specs.CopyBound.{IsCopyBounded};
 ghost use Rattle.ijson_table.specs.Crowd.{distance};
-ghost use Rattle.ijson_table.specs.Growth.{Grow, Shrink, capacity_limit};
+ghost use Rattle.ijson_table.specs.Growth.{capacity_limit};
 ghost use Rattle.ijson_table.specs.Inserts.{Inserts};
 ghost use Rattle.ijson_table.specs.Slots.{resident, IsBounded, IsTable};
 ghost use Rattle.ijson_table.specs.Store.{at, keys_of, IsDistinct, lookup};
-ghost use Rattle.ijson_table.specs.laws.Placed.{placed_with_value};
+ghost use Rattle.ijson_table.specs.PlacedWithValue.{placed_with_value};
 ghost use Rattle.ijson_table.specs.laws.Store.{IsDistinct-prop};
 ghost use Rattle.ijson_table.specs.private.Changes.{changes};
 ghost use Rattle.ijson_table.specs.private.Holds.{MayStand};
@@ -20,24 +20,30 @@ ghost use Rattle.ijson_table.specs.private.Room.{IsResized};
 
 mod from_list;
 
-use crate::growth::{grown_capacity, limited, list_with_room, set_room, slots_for, tighten};
+use crate::growth::{grown_capacity, limited, slots_for};
 use crate::hash::KeyHash;
 use crate::index::Index;
-use crate::index::places::{Places, Seen, locate};
-use crate::index::probe::{Lookup, Probed, has_key, probe};
-use crate::index::slot::{Modulus, NARROW_SLOTS};
-use crate::store::{PairStore, RefusedPair, ReserveError};
+use crate::index::places::{Places, locate};
+use crate::index::probe::{Probed, has_key};
+use crate::slot::{Modulus, NARROW_SLOTS, Seen};
+use crate::store::{PairStore, RefusedPair, ReserveError, fmt_pairs};
+use crate::vec::{list_with_room, set_room, tighten};
 use ijson_number::Looks;
 use ijson_string::IString;
 use std::alloc::{AllocError, Global};
 use std::marker::{Model, PhantomData};
-use std::mem;
+use std::{fmt, mem};
 
-/// Pairs in a list, and their positions in slots by the hash of their keys. There are five slots for four pairs of the capacity. A
-/// slot takes 16 bytes. Up to a capacity of 127 it keeps of a hash the home and eight bits more, and takes three bytes, and up to 8
-/// the slots lie in the table itself. `get`, `index_of` and `insert` go to the memory of a key only where what is kept of both hashes is
-/// the same; `position` and `locate` read the key of each resident that they pass.
-#[derive(Debug, Drop)]
+/// Entries in a list, and their indices in slots by the hash of their keys.
+///
+/// There are five slots for every four entries of the capacity. A slot takes 16 bytes. Up to a capacity of 127, it
+/// takes three bytes and keeps only the home slot and eight more bits of a hash; up to 8, the slots are inline.
+///
+/// # Cost
+///
+/// `get`, `get_index_of` and `insert` read the memory of a key only if the kept parts of both hashes are equal;
+/// `position` and `locate` read the key of each resident that they pass.
+#[derive(Drop)]
 pub struct Table<V, H: KeyHash> {
     pairs: Vec<(IString, V)>,
     index: Index,
@@ -65,8 +71,13 @@ impl<V, H: KeyHash> Model for Table<V, H> {
 }
 
 impl<V: Drop, H: KeyHash> Table<V, H> {
-    /// An empty store with room for so many pairs. It is refused with `TooLarge` where that passes 2^56, and with `Memory` where memory is
-    /// refused. Room for none takes no memory.
+    /// Creates an empty store with this capacity.
+    ///
+    /// A capacity of 0 does not allocate.
+    ///
+    /// # Errors
+    ///
+    /// `TooLarge` if `capacity` exceeds 2^56, `Memory` if an allocation fails.
     pub fn with_capacity(alloc: Global, capacity: usize) -> Result<Table<V, H>, ReserveError>
         ensures made { IfOk result (λ t. (t.store.pairs ≡ []) × (t.store.capacity ≡ capacity)) }
         ensures too_large { (result ≡ Err ReserveError.TooLarge) ↔ (capacity_limit < capacity) }
@@ -83,10 +94,19 @@ impl<V: Drop, H: KeyHash> Table<V, H> {
         })
     }
 
-    /// A store of pairs with the same keys in the same order, for a copy of this one: it has room for no more. No key is hashed
-    /// again where this one has room for no more than its pairs, or where there are more than 127; else each is hashed once.
-    /// Room for none takes no memory. Where memory is refused, the pairs are dropped. It takes time linear in
-    /// the capacities of both where few keys crowd. Where many do, the slots are filled by sorting, as in growth.
+    /// Creates a store of pairs with the same keys in the same order, with no spare capacity.
+    ///
+    /// It serves to clone this store. An empty list does not allocate.
+    ///
+    /// # Errors
+    ///
+    /// If an allocation fails, the pairs are dropped.
+    ///
+    /// # Cost
+    ///
+    /// No key is hashed again if this store has no spare capacity, or if there are more than 127 entries; otherwise,
+    /// each is hashed once. The time is linear in both capacities if few keys collide. If many do, the slots are filled
+    /// by sorting, as in growth.
     pub fn with_same_keys(
         &self,
         alloc: Global,
@@ -108,9 +128,18 @@ impl<V: Drop, H: KeyHash> Table<V, H> {
         })
     }
 
-    /// Puts a pair. A key that is there keeps its place and needs no memory, and its old value is answered; a new key
-    /// goes last, in room that is made first where there is none. Where that is refused, the pair comes back. It walks
-    /// the slots once, and once more only where the store grew. Its key is hashed once.
+    /// Inserts an entry and returns the old value of its key, if any.
+    ///
+    /// A key that is present keeps its index, and nothing is allocated. A new key is appended; the store grows first if
+    /// it has no spare capacity.
+    ///
+    /// # Errors
+    ///
+    /// If the growth fails, the entry is returned and the store is unchanged.
+    ///
+    /// # Cost
+    ///
+    /// One walk over the slots, and a second one only if the store grew. The key is hashed once.
     pub fn insert(&mut self, key: IString, value: V) -> Result<Option<V>, RefusedPair<V>>
         ensures { Inserts self.old.store.pairs self.old.store.capacity key value result
             self.new.store.pairs self.new.store.capacity }
@@ -118,8 +147,9 @@ impl<V: Drop, H: KeyHash> Table<V, H> {
         self.insert_counted(key, value, &mut Looks::new())
     }
 
-    /// The same, and each slot that it looks at for the key is counted. The walk that puts the pair down after a growth is not
-    /// counted.
+    /// Like `insert`, but counts each slot inspected for the key.
+    ///
+    /// The walk that inserts the entry after a growth is not counted.
     #[inline(always)]
     pub fn insert_counted(
         &mut self,
@@ -148,45 +178,7 @@ impl<V: Drop, H: KeyHash> Table<V, H> {
         }
     }
 
-    /// Makes room as `reserve` does, and counts in `steps`, which is 0 before, what it takes to put the positions into new slots, where
-    /// there is room for more than 127 pairs before and after: each slot that it looks at or writes for one, and each two entries that
-    /// sorting compares. Walks over all slots, which read or empty them or fill them in order, are not counted. Where the room
-    /// before or after is for at most 127 pairs, nothing is.
-    pub fn reserve_counted(
-        &mut self,
-        additional: usize,
-        steps: &mut u128,
-    ) -> Result<(), ReserveError>
-        requires none { steps.old ≡ 0 }
-        ensures grown { Grow (length self.old.store.pairs) self.old.store.capacity additional result
-            self.new.store.capacity }
-        ensures room { OnOk result (length self.new.store.pairs + additional ≤ self.new.store.capacity) }
-        ensures pairs { self.new.store.pairs ≡ self.old.store.pairs }
-        ensures bounded { IsCopyBounded (length self.old.store.pairs) steps.new }
-    {
-        let len = self.pairs.len();
-        match grown_capacity(len, self.pairs.capacity(), additional)? {
-            Some(capacity) => Ok(self.set_capacity(capacity, steps)?),
-            None => Ok(()),
-        }
-    }
-
-    /// Makes the capacity the length, as `shrink_to_fit` does, and counts the steps, as `reserve_counted` does.
-    pub fn shrink_to_fit_counted(&mut self, steps: &mut u128) -> Result<(), ReserveError>
-        requires none { steps.old ≡ 0 }
-        ensures room { Shrink (length self.old.store.pairs) self.old.store.capacity result
-            self.new.store.capacity }
-        ensures pairs { self.new.store.pairs ≡ self.old.store.pairs }
-        ensures bounded { IsCopyBounded (length self.old.store.pairs) steps.new }
-    {
-        let len = self.pairs.len();
-        if self.pairs.capacity() == len {
-            return Ok(());
-        }
-        Ok(self.set_capacity(len, steps)?)
-    }
-
-    /// Puts a pair last whose key is new and has this hash, in room that is made first where there is none.
+    /// Appends an entry whose key is new and has this hash; grows first if there is no spare capacity.
     fn push_grown(&mut self, key: IString, value: V, hash: u64) -> Result<Option<V>, RefusedPair<V>>
         requires missing { at self.old.store.pairs key ≡ None }
         requires hash { hash ≡ H.hash_of key }
@@ -200,8 +192,11 @@ impl<V: Drop, H: KeyHash> Table<V, H> {
         Ok(None)
     }
 
-    /// Makes the capacity this one, the length or one that is no less than the old. Where memory is refused, nothing changes. The
-    /// steps are counted, as in `reserve_counted`.
+    /// Sets the capacity, to the length or to at least the old one.
+    ///
+    /// If an allocation fails, nothing changes. `steps`, which is 0 before, counts each slot that is inspected or
+    /// written for an entry, and each comparison of two entries, if there are more than 158 slots before and after.
+    /// Passes over all slots, which read, empty or fill them in order, do not count.
     fn set_capacity(&mut self, capacity: usize, steps: &mut u128) -> Result<(), AllocError>
         requires within { length self.old.store.pairs ≤ capacity }
         requires grows { length self.old.store.pairs < capacity → self.old.store.capacity ≤ capacity }
@@ -220,8 +215,9 @@ impl<V: Drop, H: KeyHash> Table<V, H> {
         Ok(())
     }
 
-    /// Puts a value in the place of the one at a position, which is answered. The function of the same name for each store would do, but
-    /// what calls that one is proved after all calls of the trait.
+    /// Replaces the value at an index and returns the old one.
+    ///
+    /// The function of the same name for every store would do, but its callers are proved after all calls of the trait.
     #[inline(always)]
     fn replace_at(&mut self, position: usize, value: V) -> V
         requires { position < length self.old.store.pairs }
@@ -233,7 +229,7 @@ impl<V: Drop, H: KeyHash> Table<V, H> {
         mem::replace(self.value_mut(position), value)
     }
 
-    /// Puts a pair last whose key is new and has this hash, in the room that there is.
+    /// Appends an entry whose key is new and has this hash, within the spare capacity.
     fn push_hashed(&mut self, key: IString, value: V, hash: u64)
         requires missing { at self.old.store.pairs key ≡ None }
         requires hash { hash ≡ H.hash_of key }
@@ -246,8 +242,9 @@ impl<V: Drop, H: KeyHash> Table<V, H> {
         self.push_at(slot, key, value, hash);
     }
 
-    /// The same, at the slot where a probe for the key ended. Answers the last slot that is written, which was the first empty one from
-    /// there on.
+    /// Like `push_hashed`, at the slot at which the probe for the key ended.
+    ///
+    /// Returns the last slot written, which was the first empty one from `slot` on.
     #[inline(always)]
     fn push_at(&mut self, slot: usize, key: IString, value: V, hash: u64) -> usize
         requires missing { at self.old.store.pairs key ≡ None }
@@ -264,29 +261,40 @@ impl<V: Drop, H: KeyHash> Table<V, H> {
         ensures changes { changes self.old.slots self.new.slots ≤ distance (length self.old.slots) slot result + 1 }
     {
         let position = self.pairs.len();
-        self.pairs.push_reserved((key, value));
+        // Before the entry is written, so that the compiler shares the division with `find`.
         let kept = Modulus::new(self.index.len()).kept_hash(hash);
+        self.pairs.push_reserved((key, value));
         self.index.push_at(slot, position, kept)
     }
 }
 
 impl<V, H: KeyHash> Table<V, H> {
-    /// The pairs, in order. They are lent, and not copied.
+    /// Borrows the entries, in order.
     pub fn as_slice(&self) -> &[(IString, V)]
         ensures { result.now ≡ self.now.store.pairs }
     {
         self.pairs.as_slice()
     }
 
-    /// The value beside a key. It hashes the key once, and looks at what stands in the crowd of its home. None where the key is
-    /// not there.
+    /// Returns whether the table has no entries.
+    pub fn is_empty(&self) -> bool
+        ensures { IsTrue result ↔ (self.now.store.pairs ≡ []) }
+    {
+        self.pairs.is_empty()
+    }
+
+    /// Returns the value of a key, or `None` if the key is missing.
+    ///
+    /// # Cost
+    ///
+    /// It hashes the key once, and inspects the collision cluster of its home slot.
     pub fn get(&self, key: &str) -> Option<&V>
         ensures { option_copied result ≡ lookup key.now self.now.store.pairs }
     {
         self.get_counted(key, &mut Looks::new())
     }
 
-    /// The same, and each slot that it looks at is counted.
+    /// Like `get`, but counts each slot inspected.
     #[inline(always)]
     pub fn get_counted(&self, key: &str, looks: &mut Looks) -> Option<&V>
         requires { looks.old + capacity_limit + 1 < 2 ^ 128 }
@@ -301,11 +309,26 @@ impl<V, H: KeyHash> Table<V, H> {
         }
     }
 
-    /// The position of a key, at the cost of `get`. None where the key is not there.
-    pub fn index_of(&self, key: &str) -> Option<usize>
+    /// Returns the index of a key, or `None` if the key is missing.
+    ///
+    /// # Cost
+    ///
+    /// That of `get`.
+    pub fn get_index_of(&self, key: &str) -> Option<usize>
         ensures { result ≡ at self.now.store.pairs key.now }
     {
         self.find(H::hash(key), key, &mut Looks::new()).found()
+    }
+
+    /// Returns whether the table has a key.
+    ///
+    /// # Cost
+    ///
+    /// That of `get`.
+    pub fn contains_key(&self, key: &str) -> bool
+        ensures { result ≡ is_some (at self.now.store.pairs key.now) }
+    {
+        self.get_index_of(key).is_some()
     }
 
     /// Probes for a key of this hash.
@@ -325,20 +348,17 @@ impl<V, H: KeyHash> Table<V, H> {
             return Probed::Full;
         }
         let modulus = Modulus::new(slots);
-        let lookup = Lookup {
-            pairs: &self.pairs,
-            index: self.index.view(),
-            modulus,
-            hash: modulus.kept_hash(hash),
-            home: modulus.home_of_hash(hash),
-            key,
-        };
-        probe(&lookup, looks)
+        let kept = modulus.kept_hash(hash);
+        let home = modulus.home_of_hash(hash);
+        self.index
+            .probe_for(&self.pairs, modulus, kept, home, key, looks)
     }
 
-    /// An index of so many slots, which have room for each position. Where there are as many here, or many here and there, both
-    /// keep the same of each hash, and no key is hashed. Else each key is hashed once: what few slots keep of a hash tells no home
-    /// among others, and no step is counted.
+    /// Creates a hash index of `count` slots, which are enough for all entries.
+    ///
+    /// If the number of slots is unchanged, or both numbers exceed `NARROW_SLOTS`, both keep the same part of each
+    /// hash, and no key is hashed. Otherwise, each key is hashed once, since the part that few slots keep does not give
+    /// the home slot among other numbers of slots, and no step is counted.
     fn index_with_slots(
         &self,
         alloc: Global,
@@ -365,8 +385,10 @@ impl<V, H: KeyHash> Table<V, H> {
         Ok(index)
     }
 
-    /// Puts the positions of the pairs into empty slots, which have room for each. Each key is hashed once, and no step is counted. So
-    /// it serves only where they are not as many as here, and few here or there: else the slots here are copied.
+    /// Inserts the indices of the entries into empty slots, which are enough for all of them.
+    ///
+    /// Each key is hashed once, and no step is counted. Needed only if the numbers of slots differ and one is at most
+    /// `NARROW_SLOTS`; otherwise the slots are copied.
     fn place_each(&self, index: &mut Index)
         requires empty { index.old.hashes ≡ [] }
         requires room { length self.now.store.pairs ≤ length index.old.slots }
@@ -387,7 +409,7 @@ impl<V, H: KeyHash> Table<V, H> {
         }
     }
 
-    /// What the index keeps of the hash of the key at a position.
+    /// Returns the part of the hash of the key at `index` that the slots keep.
     fn hash_at(&self, index: usize) -> u64
         requires { index < length self.now.store.pairs }
         ensures { result ≡ get_or (map (kept_hash (length self.now.slots) H.hash_of) (keys_of self.now.store.pairs)) index 0 }
@@ -397,7 +419,14 @@ impl<V, H: KeyHash> Table<V, H> {
     }
 }
 
-/// A look compares the key with that of the resident, if there is one.
+/// Formats the entries as a map, in order.
+impl<V: fmt::Debug, H: KeyHash> fmt::Debug for Table<V, H> {
+    fn fmt<W: fmt::Write>(&self, f: &mut fmt::Formatter<W>) -> fmt::Result {
+        fmt_pairs(&self.pairs, f)
+    }
+}
+
+/// An inspection compares the key with that of the resident, if any.
 impl<V, H: KeyHash> Places for Table<V, H> {
     ghost hash_of = { H.hash_of };
 
@@ -429,8 +458,9 @@ impl<V, H: KeyHash> Places for Table<V, H> {
     }
 }
 
-/// Each key that is sought, put or taken out is hashed. Growth and shrinking hash none where there is room for more than 127 pairs
-/// before and after, and else each once.
+/// Each key that is looked up, inserted or removed is hashed.
+///
+/// Growth and shrinking hash no key if the capacity exceeds 127 before and after; otherwise, they hash each key once.
 impl<V: Drop, H: KeyHash> PairStore<V> for Table<V, H> {
     ghost pairs = { λ t. t.store.pairs };
 
@@ -458,11 +488,19 @@ impl<V: Drop, H: KeyHash> PairStore<V> for Table<V, H> {
     }
 
     fn reserve(&mut self, additional: usize) -> Result<(), ReserveError> {
-        self.reserve_counted(additional, &mut 0)
+        let len = self.pairs.len();
+        match grown_capacity(len, self.pairs.capacity(), additional)? {
+            Some(capacity) => Ok(self.set_capacity(capacity, &mut 0)?),
+            None => Ok(()),
+        }
     }
 
     fn shrink_to_fit(&mut self) -> Result<(), ReserveError> {
-        self.shrink_to_fit_counted(&mut 0)
+        let len = self.pairs.len();
+        if self.pairs.capacity() == len {
+            return Ok(());
+        }
+        Ok(self.set_capacity(len, &mut 0)?)
     }
 
     fn position(&self, key: &str) -> Option<usize> {

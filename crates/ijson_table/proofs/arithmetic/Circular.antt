@@ -1,66 +1,66 @@
--- Arithmetic on n slots in a round.
+-- Arithmetic on a circle of n slots.
 use Rattle.std.proofs.Common.{◌≡◌, ℕ, ◌+◌, ◌-◌, ◌<◌, ◌≤◌, ◌⊎◌, arith}
 use Rattle.std.proofs.lemmas.Bool.Decides.{nat_tests}
 use Rattle.ijson_table.specs.Crowd.{distance}
 use Rattle.ijson_table.specs.Slots.{after}
 use Rattle.ijson_table.specs.private.Probe.{onward}
 
--- the slot after one is one of the slots
+-- the slot after a slot is a slot
 pub after-below : (n p : ℕ) → p < n → after n p < n
 unfolding after
 after-below n p h = grind (arith, nat_tests)
 
--- two slots before one slot are one
+-- `after` is injective
 pub after-injective : (n p q : ℕ) → p < n → q < n → after n p ≡ after n q → p ≡ q
 unfolding after
 after-injective n p q h k e = grind (arith, nat_tests)
 
--- a slot some steps on is one of the slots
+-- a slot k steps on is a slot
 pub onward-below : (n p k : ℕ) → p < n → k ≤ n → onward n p k < n
 unfolding onward
 onward-below n p k h j = grind (arith, nat_tests)
 
--- no step on is the slot itself
+-- zero steps on is the slot itself
 pub onward-zero : (n p : ℕ) → p < n → onward n p 0 ≡ p
 unfolding onward
 onward-zero n p h = grind (arith, nat_tests)
 
--- the slot after one is one step further on
+-- the slot after a slot is one step further on
 pub after-onward : (n p k : ℕ) → p < n → k < n → after n (onward n p k) ≡ onward n p (k + 1)
 unfolding after onward
 after-onward n p k h j = grind (arith, nat_tests)
 
--- a slot is at no distance from itself
+-- the distance of a slot from itself is zero
 pub distance-self : (n p : ℕ) → distance n p p ≡ 0
 unfolding distance
 distance-self n p = grind (arith, nat_tests)
 
--- a distance is less than the count of slots
+-- a distance is less than the number of slots
 pub distance-below : (n p q : ℕ) → p < n → q < n → distance n p q < n
 unfolding distance
 distance-below n p q h k = grind (arith, nat_tests)
 
--- what is k steps on is at distance k
+-- the slot k steps on is at distance k
 pub distance-onward : (n p k : ℕ) → p < n → k < n → distance n p (onward n p k) ≡ k
 unfolding distance onward
 distance-onward n p k h j = grind (arith, nat_tests)
 
--- as many steps on as the distance lead to the slot
+-- the distance, as steps, leads to the slot
 pub onward-distance : (n p q : ℕ) → p < n → q < n → onward n p (distance n p q) ≡ q
 unfolding distance onward
 onward-distance n p q h k = grind (arith, nat_tests)
 
--- from a slot on the way to another, the rest of the way is left
+-- from a slot on the way to another, the rest of the way remains
 pub distance-rest : (n h m q : ℕ) → h < n → q < n → m < n → m ≤ distance n h q → m + distance n (onward n h m) q ≡ distance n h q
 unfolding distance onward
 distance-rest n h m q a b c d = grind (arith, nat_tests)
 
--- a slot one on is one further from home, unless it is home
+-- the next slot is one further from home, unless it is home
 pub distance-after : (n h p : ℕ) → h < n → p < n → distance n h p + 1 < n → distance n h (after n p) ≡ distance n h p + 1
 unfolding distance after
 distance-after n h p a b c = grind (arith, nat_tests)
 
--- where the slot after is not home, it is one further from home
+-- if the next slot is not home, it is one further from home
 pub distance-back : (n h p : ℕ) → h < n → p < n → 0 < distance n h (after n p) → distance n h p + 1 ≡ distance n h (after n p)
 unfolding distance after
 distance-back n h p a b c = grind (arith, nat_tests)
@@ -72,17 +72,17 @@ pub distance-seen : (n e x p : ℕ) → e < n → x < n → p < n
 unfolding distance
 distance-seen n e x p a b c = grind (arith, nat_tests)
 
--- steps on from a slot that is some steps on add up
+-- steps from a slot that is some steps on add up
 pub onward-onward : (n p j k : ℕ) → p < n → j < n → j + k < n → onward n (onward n p j) k ≡ onward n p (j + k)
 unfolding onward
 onward-onward n p j k a b c = grind (arith, nat_tests)
 
--- from p on, what is left of the round after the way from e to p leads to e
+-- from p on, the rest of the circle after the way from e to p leads to e
 pub round : (n e p : ℕ) → e < n → p < n → onward n p (n - distance n e p) ≡ e
 unfolding onward distance
 round n e p a b = grind (arith, nat_tests)
 
--- t steps back, the slot is t steps on
+-- from t steps back, the slot is t steps on
 pub distance-round : (n p t : ℕ) → p < n → t < n → distance n (onward n p (n - t)) p ≡ t
 unfolding onward distance
 distance-round n p t a b = grind (arith, nat_tests)

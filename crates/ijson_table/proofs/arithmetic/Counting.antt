@@ -7,8 +7,8 @@ use Rattle.std.proofs.lemmas.List.Sums.{sum_by-set}
 use Rattle.std.proofs.lemmas.Bool.Decides.{nat_tests}
 use Rattle.ijson_table.specs.Crowd.{greatest_below}
 
--- Where each number below k is tied to an index at which the list has something, and no index is tied to two numbers, the list
--- sums up to k.
+-- If each number below k is tied to an index at which the list is not zero, and no index is tied to two numbers, the
+-- list sums up to at least k.
 pub covers : (k : ℕ) (R : ℕ → ℕ → Type 0) (ns : List ℕ) → ((i j l : ℕ) → j < k → l < k → R i j → R i l → j ≡ l)
     → ((j : ℕ) → j < k → (i : ℕ) × (i < length ns) × R i j × (1 ≤ get_or ns i 0)) → k ≤ sum ns
 covers zero R ns alone h = omega arith
@@ -22,7 +22,7 @@ covers (suc k) R ns alone h =
     (one.0, omega (arith, length-set ns i 0, one.1), one.2, omega (arith, get_or-set_other ns i one.0 0 0 ne, one.3))) in
     omega (arith, sum_by-set (λ x. x) ns i 0 0 last.1, last.3, rest)
 
--- what holds at 0 and at each later number below t + 1 holds below it
+-- a function that is positive at 0 and at each later number below t + 1 is positive below it
 later : (f : ℕ → ℕ) → 0 < f 0 → (t : ℕ) → ((j : ℕ) → j < t → 0 < f (suc j)) → (j : ℕ) → j < suc t → 0 < f j
 later f first t h zero lj = first
 later f first t h (suc j) lj = h j (omega arith)
@@ -38,7 +38,7 @@ nearest (suc d) f e = elim (eqb (f 0) 0) as (λ b. eqb (f 0) 0 ≡ b → (t : �
       (suc rest.0, omega (arith, rest.1), rest.2, λ j lj. later f first rest.0 rest.3 j lj)
 ] refl
 
--- the greatest value below k is no less than any of them
+-- the maximum below k is at least each value
 pub greatest-at : (k : ℕ) (f : ℕ → ℕ) (s : ℕ) → s < k → f s ≤ greatest_below k f
 greatest-at zero f s h = absurd (omega arith)
 greatest-at (suc k) f s h = elim (eqb s k) as (λ b. eqb s k ≡ b → f s ≤ max (f k) (greatest_below k f)) [
@@ -46,10 +46,10 @@ greatest-at (suc k) f s h = elim (eqb s k) as (λ b. eqb s k ≡ b → f s ≤ m
   | false ↦ λ e. let lt : s < k = grind (arith, nat_tests) in omega (arith, greatest-at k f s lt)
 ] refl
 
--- what one is added to is less than the sum
+-- a number is less than its successor
 pub one_less : (n m : ℕ) → n + 1 ≡ m → n < m
 one_less n m is = omega arith
 
--- a step nearer to a bound, less is left
+-- one step closer to a bound, less remains
 pub less_left : (n m : ℕ) → n < m → m - (n + 1) < m - n
 less_left n m below = omega arith

@@ -1,11 +1,11 @@
--- Division of a hash n by a count d through the reciprocal of d, which is 2^64 - 1 divided by d. In the first lemmas k stands for 2^64,
--- m for the reciprocal, and e for the quotient n m / k.
+-- Division of a hash n by a count d through the reciprocal of d, which is 2^64 - 1 divided by d. In the first lemmas, k
+-- denotes 2^64, m the reciprocal, and e the quotient n m / k.
 use Rattle.std.proofs.Common.{◌≡◌, ℕ, ◌+◌, ◌-◌, ◌*◌, ◌/◌, ◌%◌, ◌^◌, ◌<◌, ◌≤◌, ap, ap₂, subst, sym, ◌∙◌, arith}
 use Rattle.std.proofs.Math.Nat.{le_of_mul-le-mul_left, lt_of_mul-lt-mul_left, lt-mul-div-succ, mul-div-le, mul-le-mul_left}
 use Rattle.std.proofs.Math.Nat.{mul-le-mul_right, mul-lt-mul_of_pos_right, mod-lt, mul-add-mod_self_right}
 use Rattle.std.proofs.lemmas.Nat.{div-add-mod', div-mul-add, mod-mul-add, mul-add-lt}
 
--- e is no more than the quotient by d
+-- e is at most the quotient by d
 not_above : (k n d m e : ℕ) → 0 < k → k * e ≤ n * m → d * m ≤ k → e * d ≤ n
 not_above k n d m e p below reciprocal =
     let a : k * e * d ≤ n * m * d = mul-le-mul_right d below in
@@ -45,7 +45,7 @@ pub record IsDivided (n d e left : ℕ) : Type 0 where
   pub quotient : e ≡ n / d
   pub left_is : left ≡ n % d
 
--- what is left is the remainder where it is less than d
+-- the difference is the remainder if it is less than d
 pub divides : (n d e : ℕ) → e * d ≤ n → n - e * d < d → IsDivided n d e (n - e * d)
 divides n d e h small =
     let whole : e * d + (n - e * d) ≡ n = omega (arith, h) in
@@ -54,7 +54,7 @@ divides n d e h small =
       left_is = sym (mod-mul-add e d (n - e * d) small) ∙ ap (λ x. x % d) whole;
     }
 
--- and else d less than that, where the quotient is near
+-- otherwise the remainder is d less, if the quotient is near
 pub divides_more : (n d e : ℕ) → e * d ≤ n → n < (e + 2) * d → d ≤ n - e * d → IsDivided n d (e + 1) (n - e * d - d)
 divides_more n d e h near more =
     let below : (e + 1) * d ≤ n = grind (arith, h, more) in
@@ -62,7 +62,7 @@ divides_more n d e h near more =
     let small : n - (e + 1) * d < d = grind (arith, near, below) in
     subst (IsDivided n d (e + 1)) (sym same) (divides n d (e + 1) below small)
 
--- a number by 256 d: the remainder by d, and 256 of the quotient by d
+-- a number modulo 256 d: the remainder by d, and 256 of the quotient by d
 pub by_more : (n d : ℕ) → 0 < d → n / d % 256 * d + n % d ≡ n % (d * 256)
 by_more n d p =
     let q : ℕ = n / d in
@@ -74,7 +74,7 @@ by_more n d p =
     sym (mod-mul-add (q / 256) (d * 256) (q % 256 * d + r) small)
     ∙ ap (λ x. x % (d * 256)) (sym split ∙ (ap (λ x. x * d + r) parts ∙ whole))
 
--- it tells the remainder by d
+-- it has the same remainder by d
 pub mod-more : (n d : ℕ) → n % (d * 256) % d ≡ n % d
 mod-more n d =
     let q : ℕ = n / (d * 256) in

@@ -1,11 +1,11 @@
--- What holds while entries are laid into slots one by one, from a first slot on.
+-- The invariant of writing entries to slots one by one, from a first slot on.
 use Rattle.std.proofs.Common.{◌≡◌, ◌≢◌, ℕ, suc, ◌+◌, ◌-◌, ◌%◌, ◌<◌, ◌≤◌, inl, inr, arith, List, length, get_or, set, take}
 use Rattle.std.proofs.Common.{Option, Some, None, max, ap, sym, subst, ◌∙◌, get_or-set_other, refl}
 use Rattle.std.proofs.lemmas.Bool.Decides.{nat_tests}
 use Rattle.std.proofs.lemmas.List.{length-set}
 use Rattle.std.proofs.lemmas.Bool.{cases_lt}
 use Rattle.std.proofs.lemmas.Nat.{mod_below}
-use Rattle.ijson_table.specs.declared.index.slot.Slot.{Slot}
+use Rattle.ijson_table.specs.declared.slot.Slot.{Slot}
 use Rattle.ijson_table.specs.Crowd.{distance}
 use Rattle.ijson_table.specs.Slots.{after, displacement, home_at, resident, times, IsOrdered}
 use Rattle.ijson_table.specs.private.Holds.{one_if, with_one, Holds, MayStand}
@@ -19,7 +19,7 @@ use Rattle.ijson_table.proofs.slots.HashesInSlots.{positions-length, position-at
 use Rattle.ijson_table.proofs.shifting.Removal.{holds_none, times-none}
 use Rattle.ijson_table.proofs.slots.Residents.{times-nil, times-more}
 
--- a slot so many steps from a first one is as far from a home as the steps are more than those to the home
+-- a slot some steps from a first one is as far from a home slot as the steps exceed those to the home slot
 distance-laid : (n first home steps : ℕ) → first < n → home < n → steps < n → distance n first home ≤ steps
     → distance n home (onward n first steps) + distance n first home ≡ steps
 unfolding distance onward
@@ -30,8 +30,8 @@ onward-injective : (n first j k : ℕ) → first < n → j < k → k < n → onw
 unfolding onward
 onward-injective n first j k lf lj lk same = grind (arith, nat_tests)
 
--- So many steps of the way are done: so many of the entries stand in the slots, and the rest of the way is empty. The last one is
--- displaced so far that each that is left may stand behind it.
+-- The first `step` entries are in the first `next` slots of the way, and the rest of the way is empty. The last one is
+-- displaced far enough that each remaining one may follow it.
 pub record Laying (hashes : List ℕ) (first : ℕ) (entries : List Slot) (next step : ℕ) (slots : List (Option ℕ)) : Type 0 where
   pub ordered : IsOrdered hashes slots
   pub placed : (i : ℕ) → times i slots ≡ times i (take step (positions entries))
@@ -52,12 +52,12 @@ laid_none hashes first entries slots room some within empty = record {
   led = λ k le lk next. absurd (omega arith);
 }
 
--- where the next entry is laid there is a slot
+-- the next entry has a slot
 pub laid_inside : (n first next step steps : ℕ) (entries : List Slot) → HaveRoom n first entries → next + length entries ≤ n + step
     → step < length entries → steps ≡ max next (behind n first (get_or entries step blank)) → steps < n
 laid_inside n first next step steps entries room fits more is = omega (arith, room.room step more)
 
--- the home of a position, by the hash beside it
+-- the home slot of an index, by its hash
 home_of-entry : (hashes : List ℕ) (n i : ℕ) (entry : Slot) → HasHash hashes entry → position_in entry ≡ Some i
     → home_at n hashes i ≡ entry.hash % n
 unfolding home_at
@@ -70,7 +70,7 @@ module _ (hashes : List ℕ) (first : ℕ) (entries : List Slot) (next step i : 
   abbrev n : ℕ
   n = length slots
 
-  -- the home of the next entry, and how many steps on that is
+  -- the home slot of the next entry, and the steps to it
   abbrev home : ℕ
   home = home_at n hashes i
 
@@ -88,7 +88,7 @@ module _ (hashes : List ℕ) (first : ℕ) (entries : List Slot) (next step i : 
   )
 
   module _ (steps : ℕ) (is : steps ≡ max next far) where
-    -- it is put down on the way
+    -- it is written on the way
     steps-below : steps + length entries ≤ n + step
     steps-below = omega (arith, laying.fits, room.room step more)
 
@@ -110,7 +110,7 @@ module _ (hashes : List ℕ) (first : ℕ) (entries : List Slot) (next step i : 
     none : resident slots (onward n first steps) ≡ None
     none = laying.empty steps (omega arith) steps-inside
 
-    -- where it may stand
+    -- the slot accepts it
     may : MayStand hashes slots i (onward n first steps)
     may = record {
       within = there;
@@ -133,7 +133,7 @@ module _ (hashes : List ℕ) (first : ℕ) (entries : List Slot) (next step i : 
       ];
     }
 
-    -- one more is laid
+    -- one more is written
     put : Holds hashes (with_one slots i) None slots'
     put = subst (λ o. Holds hashes (with_one slots i) o slots') none
         (put_down hashes (with_one slots i) slots i (onward n first steps) there

@@ -1,4 +1,4 @@
--- Of as many entries as positions, among which each position stands once, none is empty.
+-- If there are as many entries as indices, and each index occurs once, no entry is empty.
 use Rattle.std.proofs.Common.{◌≡◌, ◌≢◌, ℕ, ◌<◌, ◌≤◌, arith, List, length, set, Option, Some, None, ap, sym, ◌∙◌, get_or-set_other}
 use Rattle.std.specs.Prelude.{sum}
 use Rattle.std.specs.List.{All}
@@ -6,7 +6,7 @@ use Rattle.std.proofs.lemmas.Bool.Decides.{nat_tests}
 use Rattle.std.proofs.lemmas.List.{length-set}
 use Rattle.std.proofs.lemmas.List.Elements.{All-from_get_or}
 use Rattle.std.proofs.lemmas.List.Sums.{sum_by-set}
-use Rattle.ijson_table.specs.declared.index.slot.Slot.{Slot}
+use Rattle.ijson_table.specs.declared.slot.Slot.{Slot}
 use Rattle.ijson_table.specs.Slots.{resident, times, below}
 use Rattle.ijson_table.specs.private.SlotHashes.{blank, position_in, positions}
 use Rattle.ijson_table.proofs.arithmetic.Counting.{covers}
@@ -14,7 +14,7 @@ use Rattle.ijson_table.proofs.probing.LookCount.{ones, sum-ones, one-at, length-
 use Rattle.ijson_table.proofs.slots.HashesInSlots.{positions-length, position-at}
 use Rattle.ijson_table.proofs.slots.Residents.{stands}
 
--- an empty one would leave too few for the positions
+-- an empty one would leave too few for the indices
 not_empty : (count : ℕ) (slots : List (Option ℕ)) → length slots ≡ count → ((i : ℕ) → times i slots ≡ below count i)
     → (p : ℕ) → p < count → resident slots p ≢ None
 not_empty count slots size placed p lp empty =

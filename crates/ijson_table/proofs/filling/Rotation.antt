@@ -1,4 +1,4 @@
--- Entries from one on, round the end: where they stand among all, and that they have room.
+-- Entries rotated to begin with one of them: their order among all, and that they fit.
 use Rattle.std.proofs.Common.{◌≡◌, ℕ, ◌+◌, ◌-◌, ◌<◌, ◌≤◌, inl, inr, arith, List, ◌++◌, length, get_or}
 use Rattle.std.proofs.Common.{take, drop, ap, sym, ◌∙◌, length-append}
 use Rattle.std.proofs.lemmas.Bool.Decides.{nat_tests}
@@ -7,7 +7,7 @@ use Rattle.std.proofs.lemmas.List.{map-append, take-map, drop-map}
 use Rattle.std.proofs.lemmas.List.Sums.{sum_by-append}
 use Rattle.std.proofs.lemmas.Bool.{cases_lt}
 use Rattle.std.proofs.lemmas.Nat.{mod_below}
-use Rattle.ijson_table.specs.declared.index.slot.Slot.{Slot}
+use Rattle.ijson_table.specs.declared.slot.Slot.{Slot}
 use Rattle.ijson_table.specs.Crowd.{distance}
 use Rattle.ijson_table.specs.Slots.{times}
 use Rattle.ijson_table.specs.private.Holds.{one_if}
@@ -18,7 +18,7 @@ use Rattle.ijson_table.specs.private.Sorting.{IsSortedBy}
 use Rattle.ijson_table.proofs.filling.HomesAscend.{homes_ascend}
 use Rattle.ijson_table.proofs.slots.Residents.{times-split}
 
--- steps that do not pass the end
+-- steps that do not wrap around
 onward-early : (n p k : ℕ) → p + k < n → onward n p k ≡ p + k
 unfolding onward
 onward-early n p k lt = grind (arith, nat_tests)
@@ -28,17 +28,17 @@ onward-late : (n p k : ℕ) → n ≤ p + k → onward n p k ≡ p + k - n
 unfolding onward
 onward-late n p k le = grind (arith, nat_tests)
 
--- a slot that is no earlier is so far on
+-- the distance to a slot that is not earlier
 distance-ahead : (n p q : ℕ) → p ≤ q → distance n p q + p ≡ q
 unfolding distance
 distance-ahead n p q le = grind (arith, nat_tests)
 
--- and one that is earlier is a round further
+-- and to one that is earlier, a circle further
 distance-round : (n p q : ℕ) → q < p → p < n → distance n p q + p ≡ q + n
 unfolding distance
 distance-round n p q lt lp = grind (arith, nat_tests)
 
--- they are as many
+-- rotation keeps the length
 pub length-rotated : (start : ℕ) (entries : List Slot) → start ≤ length entries → length (rotated start entries) ≡ length entries
 length-rotated start entries le = omega (
   arith,
@@ -47,7 +47,7 @@ length-rotated start entries le = omega (
   length-take-le start entries le,
 )
 
--- the one so many steps on
+-- the entry k steps on
 pub rotated-at : (start k : ℕ) (entries : List Slot) → start ≤ length entries → k < length entries
     → get_or (rotated start entries) k blank ≡ get_or entries (onward (length entries) start k) blank
 rotated-at start k entries le lk =
@@ -62,7 +62,7 @@ rotated-at start k entries le lk =
           ∙ (get_or-take start entries (k - (n - start)) blank (omega arith) ∙ ap (λ i. get_or entries i blank) same)
     ]
 
--- each position stands as often among them
+-- rotation keeps the count of each index
 pub times-rotated : (i start : ℕ) (entries : List Slot) → times i (positions (rotated start entries)) ≡ times i (positions entries)
 unfolding times
 times-rotated i start entries =
@@ -82,14 +82,14 @@ module _ (n start : ℕ) (entries : List Slot) (sorted : IsSortedBy (home_before
   abbrev home : ℕ → ℕ
   home k = home_in n (get_or entries k blank)
 
-  -- how far the home of the one so many steps on is behind the first
+  -- the distance of the home slot of the k-th from that of the first
   abbrev far : ℕ → ℕ
   far k = behind n (home start) (get_or (rotated start entries) k blank)
 
   far-is : (k : ℕ) → k < length entries → far k ≡ distance n (home start) (home (onward (length entries) start k))
   far-is k lk = ap (λ e. behind n (home start) e) (rotated-at start k entries (omega arith) lk)
 
-  -- up to the last of all, and from the first of all on
+  -- before the end, and after wrapping around
   far-early : (k : ℕ) → start + k < length entries → far k + home start ≡ home (start + k)
   far-early k early =
       omega (
@@ -111,7 +111,7 @@ module _ (n start : ℕ) (entries : List Slot) (sorted : IsSortedBy (home_before
             (mod_below (get_or entries start blank).hash n (omega arith)),
       )
 
-  -- the homes ascend from the first one on
+  -- the home slots ascend from the first one on
   far-ascends : (j k : ℕ) → j ≤ k → k < length entries → far j ≤ far k
   far-ascends j k le lk = elim (cases_lt (start + k) (length entries)) [
     | inl early ↦ omega (
@@ -136,7 +136,7 @@ module _ (n start : ℕ) (entries : List Slot) (sorted : IsSortedBy (home_before
     ]
   ]
 
-  -- and there is room from each on
+  -- and each entry has a slot
   far-room : (k : ℕ) → k < length entries → far k + length entries ≤ n + k
   far-room k lk = elim (cases_lt (start + k) (length entries)) [
     | inl early ↦ omega (arith, far-early k early, greatest (start + k) early)

@@ -1,4 +1,4 @@
--- The walk over the entries of pairs in the order of their keys: the first of each run has the first position of its key.
+-- The walk over the entries of pairs in the order of their keys: the first of each run has the first index of its key.
 use Rattle.std.proofs.Common.{◌≡◌, ◌≢◌, ℕ, suc, ◌+◌, ◌-◌, ◌<◌, ◌≤◌, inl, inr, arith, List, [], length, get_or, set, map, Option, Some, None}
 use Rattle.std.proofs.Common.{refl, sym, ap, subst, ◌∙◌, get_or-set_other, get_or-set_same}
 use Rattle.std.proofs.lemmas.Bool.{cases_eq, cases_order}
@@ -10,6 +10,7 @@ use Rattle.std.specs.declared.cmp.Ordering.TheVariants.{Equal}
 use Rattle.ijson_table.specs.Slots.{resident, times}
 use Rattle.ijson_table.specs.Store.{position_of}
 use Rattle.ijson_table.specs.private.KeyOrder.{AreFirsts, AreInOrder, before_by_key, cmp_keys, entry_key, key_at_position}
+use Rattle.ijson_table.specs.private.SecondHash.{second_hash}
 use Rattle.ijson_table.specs.private.SlotHashes.{blank, position_in, positions}
 use Rattle.ijson_table.specs.private.Sorting.{Entry}
 use Rattle.ijson_table.proofs.arithmetic.Counting.{covers}
@@ -19,14 +20,15 @@ use Rattle.ijson_table.proofs.probing.LookCount.{ones, sum-ones, one-at, length-
 use Rattle.ijson_table.proofs.slots.HashesInSlots.{hashes-at, position-at, positions-length}
 use Rattle.ijson_table.proofs.slots.Residents.{some_position, stands, times-some}
 
--- This entry has the first position of its key, and the hash that the others of that key have.
+-- This entry has the first index of its key, and the hash of all entries of that key.
 pub record Leads (keys : List (List ℕ)) (sorted : List Entry) (entry : Entry) (position : ℕ) : Type 0 where
   pub stands : position_in entry ≡ Some position
   pub first : position_of keys (entry_key keys entry) ≡ Some position
   pub hashed : (k : ℕ) → k < length sorted → entry_key keys entry ≡ entry_key keys (get_or sorted k blank)
       → entry.hash ≡ (get_or sorted k blank).hash
 
--- After k entries: the first positions are told at the positions that were passed, and the run of the last one began at this entry.
+-- After k entries: the first indices are written at the indices that were passed, and the run of the last one began at
+-- this entry.
 pub record RunSoFar (keys : List (List ℕ)) (sorted : List Entry) (k : ℕ) (run : Entry) (firsts : List ℕ) : Type 0 where
   pub count : length firsts ≡ length keys
   pub leads : (position : ℕ) × Leads keys sorted run position
@@ -35,28 +37,28 @@ pub record RunSoFar (keys : List (List ℕ)) (sorted : List Entry) (k : ℕ) (ru
       → position_of keys (get_or keys p []) ≡ Some (get_or firsts p 0)
 
 module _ (keys : List (List ℕ)) (sorted : List Entry) (s : AreInOrder keys sorted) where
-  -- the position of an entry is one of the list
+  -- the index of an entry is one of the list
   pub is_position : (k p : ℕ) → k < length sorted → position_in (get_or sorted k blank) ≡ Some p → p < length keys
   is_position k p lk e =
       let there : resident (positions sorted) k ≡ Some p = position-at sorted k (Some p) lk (sym e) in
       let some = times-some p (positions sorted) k (omega (arith, lk, positions-length sorted)) there in
       grind (arith, nat_tests, s.each p, some)
 
-  -- where a position was found, it stands at an entry
+  -- an index that was found is that of an entry
   found : (i k : ℕ) → k < length (positions sorted) → resident (positions sorted) k ≡ Some i
       → (k : ℕ) × (k < length sorted) × (position_in (get_or sorted k blank) ≡ Some i)
   found i k lp at =
       let lk : k < length sorted = omega (arith, lp, positions-length sorted) in
       (k, lk, sym (position-at sorted k (position_in (get_or sorted k blank)) lk refl) ∙ at)
 
-  -- each position stands at an entry
+  -- each index is that of an entry
   pub spot : (i : ℕ) → i < length keys → (k : ℕ) × (k < length sorted) × (position_in (get_or sorted k blank) ≡ Some i)
   spot i li =
       let one : times i (positions sorted) ≡ 1 = grind (arith, nat_tests, s.each i) in
       let it = stands i (positions sorted) (omega arith) in
       found i it.0 it.1 it.2
 
-  -- no entry is empty, since there are no more than positions
+  -- no entry is empty, since there are no more than indices
   pub each_stands : (k : ℕ) → k < length sorted → position_in (get_or sorted k blank) ≢ None
   each_stands k lk none =
       let others : List ℕ = set (ones (length sorted)) k 0 in
@@ -81,19 +83,19 @@ module _ (keys : List (List ℕ)) (sorted : List Entry) (s : AreInOrder keys sor
       )
 
   -- so each has the hash of its key
-  is_hashed : (k : ℕ) → k < length sorted → (get_or sorted k blank).hash ≡ s.hash (entry_key keys (get_or sorted k blank))
+  is_hashed : (k : ℕ) → k < length sorted → (get_or sorted k blank).hash ≡ second_hash (entry_key keys (get_or sorted k blank))
   is_hashed k lk =
       let it = some_position (position_in (get_or sorted k blank)) (each_stands k lk) in
-      hashes-at (map s.hash keys) sorted k s.hashes lk it.0 it.1
-      ∙ (get_or-map s.hash keys it.0 [] 0 (is_position k it.0 lk it.1) ∙ ap (λ o. s.hash (key_at_position keys o)) (sym it.1))
+      hashes-at (map second_hash keys) sorted k s.hashes lk it.0 it.1
+      ∙ (get_or-map second_hash keys it.0 [] 0 (is_position k it.0 lk it.1) ∙ ap (λ o. second_hash (key_at_position keys o)) (sym it.1))
 
   -- and entries of one key have one hash
   one_hash : (k l : ℕ) → k < length sorted → l < length sorted
       → entry_key keys (get_or sorted k blank) ≡ entry_key keys (get_or sorted l blank)
       → (get_or sorted k blank).hash ≡ (get_or sorted l blank).hash
-  one_hash k l lk ll same = is_hashed k lk ∙ (ap s.hash same ∙ sym (is_hashed l ll))
+  one_hash k l lk ll same = is_hashed k lk ∙ (ap second_hash same ∙ sym (is_hashed l ll))
 
-  -- an entry whose key is not that of the one before has the first position of it
+  -- an entry whose key differs from the previous one has the first index of its key
   pub leads_run : (k p : ℕ) → k < length sorted → position_in (get_or sorted k blank) ≡ Some p
       → ((j : ℕ) → suc j ≡ k → cmp_keys keys (get_or sorted j blank) (get_or sorted k blank) ≢ Equal)
       → Leads keys sorted (get_or sorted k blank) p
@@ -146,7 +148,7 @@ module _ (keys : List (List ℕ)) (sorted : List Entry) (s : AreInOrder keys sor
         told = λ j q lj at. absurd (omega arith);
       }
 
-  -- one entry more, which has the key of this run
+  -- one more entry, with the key of this run
   run_goes_on : (k p q : ℕ) (run next : Entry) (firsts : List ℕ) → k < length sorted → RunSoFar keys sorted k run firsts
       → position_in (get_or sorted k blank) ≡ Some p → Leads keys sorted next q
       → entry_key keys (get_or sorted k blank) ≡ entry_key keys next → RunSoFar keys sorted (k + 1) next (set firsts p q)
@@ -171,7 +173,7 @@ module _ (keys : List (List ℕ)) (sorted : List Entry) (s : AreInOrder keys sor
         ];
       }
 
-  -- what leads leads at its own position
+  -- a leading entry leads at its own index
   leads_at : (entry next : Entry) (p q : ℕ) → Leads keys sorted entry p → next ≡ entry → position_in next ≡ Some q
       → Leads keys sorted next q
   leads_at entry next p q leads is at =
@@ -179,14 +181,14 @@ module _ (keys : List (List ℕ)) (sorted : List Entry) (s : AreInOrder keys sor
       let same : p ≡ q = cc in
       subst (λ x. Leads keys sorted x q) (sym is) (subst (Leads keys sorted entry) same leads)
 
-  -- the same, in the run so far
+  -- one more entry of the run so far
   pub same_run : (k p q : ℕ) (run next : Entry) (firsts : List ℕ) → k < length sorted → RunSoFar keys sorted k run firsts
       → position_in (get_or sorted k blank) ≡ Some p → next ≡ run → position_in next ≡ Some q
       → entry_key keys run ≡ entry_key keys (get_or sorted k blank) → RunSoFar keys sorted (k + 1) next (set firsts p q)
   same_run k p q run next firsts lk so e is at key =
       run_goes_on k p q run next firsts lk so e (leads_at run next so.leads.0 q so.leads.1 is at) (sym key ∙ ap (entry_key keys) (sym is))
 
-  -- or where another run begins
+  -- or one that begins another run
   pub new_run : (k p q : ℕ) (run next : Entry) (firsts : List ℕ) → k < length sorted → RunSoFar keys sorted k run firsts
       → position_in (get_or sorted k blank) ≡ Some p → next ≡ get_or sorted k blank → position_in next ≡ Some q
       → ((run.hash ≡ (get_or sorted k blank).hash) × (entry_key keys run ≡ entry_key keys (get_or sorted k blank)) → ⊥)

@@ -1,4 +1,4 @@
--- Pairs put one after the other by the first positions of their keys, and the places that their keys have so far.
+-- Pairs inserted in order by the first indices of their keys, and the indices of their keys so far.
 use Rattle.std.proofs.Common.{◌≡◌, ◌≢◌, ℕ, ◌+◌, ◌<◌, ◌≤◌, inl, inr, arith, List, [], ◌∷◌, ◌++◌, length, get_or, set, take}
 use Rattle.std.proofs.Common.{Some, None, refl, sym, ap, subst, ◌∙◌, length-append, get_or-set_other, get_or-set_same}
 use Rattle.std.proofs.lemmas.List.{get_or-take, get_or_read, length-set, take-map}
@@ -9,15 +9,15 @@ use Rattle.ijson_table.proofs.firsts.PutPlaces.{at-put_each, at-put_kept, at-put
 use Rattle.ijson_table.proofs.pairs.KeyPositions.{position-some}
 use Rattle.ijson_table.proofs.pairs.PairsByKey.{key_at, keys-length, put-absent, put-present}
 
--- The pairs that are done stand in the list as if they were put one after the other. At the first position of a key stands its place
--- in the list; at those that are not done, their first positions.
+-- The list has the pairs that are done as if they were inserted in order. At the first index of a key is its index in
+-- the list; at the indices that are not done, their first indices.
 pub record PlacesSoFar {V : Type 0} (all done list : List (List ℕ × V)) (firsts places : List ℕ) : Type 0 where
   pub put : list ≡ put_each [] done
   pub count : length places ≡ length firsts
   pub rest : (i : ℕ) → length done ≤ i → get_or places i 0 ≡ get_or firsts i 0
   pub placed : (i : ℕ) → i < length done → get_or firsts i 0 ≡ i → at list (get_or (keys_of all) i []) ≡ Some (get_or places i 0)
 
--- A turn: the next pair is at hand, and what stands at its position was read.
+-- An iteration: the next pair is taken, and the number at its index was read.
 pub record Turn {V : Type 0} (all done list : List (List ℕ × V)) (firsts places : List ℕ) (pair : List ℕ × V) (position first : ℕ)
     : Type 0 where
   pub so_far : PlacesSoFar all done list firsts places
@@ -30,7 +30,7 @@ pub record Turn {V : Type 0} (all done list : List (List ℕ × V)) (firsts plac
 module _ {V : Type 0} (all : List (List ℕ × V)) (firsts : List ℕ) (are : AreFirsts (keys_of all) firsts)
     (done list : List (List ℕ × V)) (places : List ℕ) (pair : List ℕ × V) (position first : ℕ)
     (t : Turn all done list firsts places pair position first) where
-  -- as many places as pairs
+  -- a number for each pair
   pub count : length places ≡ length all
   count = omega (arith, t.so_far.count, are.count, keys-length all)
 
@@ -42,7 +42,7 @@ module _ {V : Type 0} (all : List (List ℕ × V)) (firsts : List ℕ) (are : Ar
   key_is : get_or (keys_of all) (length done) [] ≡ pair.0
   key_is = key_at all (length done) pair t.more ∙ ap (λ p. p.0) (sym t.next)
 
-  -- what was read is its first position
+  -- the number read is its first index
   first_is : first ≡ get_or firsts (length done) 0
   first_is =
       get_or_read places position first (omega (arith, t.more, t.at_end, count)) t.read 0
@@ -53,7 +53,7 @@ module _ {V : Type 0} (all : List (List ℕ × V)) (firsts : List ℕ) (are : Ar
       ap (position_of (keys_of all)) (sym key_is)
       ∙ (are.each (length done) (omega (arith, t.more, keys-length all)) ∙ ap Some (sym first_is))
 
-  -- a first position: the list lacks the key
+  -- a first index: the list lacks the key
   pub lacks : first ≡ position → at list pair.0 ≡ None
   lacks own =
       let n : ℕ = length done in
@@ -67,7 +67,7 @@ module _ {V : Type 0} (all : List (List ℕ × V)) (firsts : List ℕ) (are : Ar
       omega (arith, least, own, t.at_end, lj) in
       ap (λ ps. at ps pair.0) t.so_far.put ∙ at-put_each [] done pair.0 other
 
-  -- another position of the key: the first one is done, and it is its own first one
+  -- another index of the key: the first one is done, and it is its own first one
   before : first ≢ position → (first < length done) × (get_or firsts first 0 ≡ first)
   before other =
       let keys : List (List ℕ) = keys_of all in
@@ -80,18 +80,18 @@ module _ {V : Type 0} (all : List (List ℕ × V)) (firsts : List ℕ) (are : Ar
         cc,
       )
 
-  -- it is below the count of places
+  -- it is below the length
   pub within : first ≢ position → first < length places
   within other = omega (arith, (before other).0, t.more, count)
 
-  -- and there stands the place of the key
+  -- and the index of the key in the list is there
   pub place_of : first ≢ position → (place : ℕ) → place ≡ get_or places first place → at list pair.0 ≡ Some place
   place_of other place read =
       let it = before other in
       ap (at list) (sym (position-some (keys_of all) pair.0 first position_is).1)
       ∙ (t.so_far.placed first it.0 it.1 ∙ ap Some (sym (get_or_read places first place (within other) read 0)))
 
-  -- one pair more is put: where it is the first of its key, its place is written down
+  -- one more pair is inserted: if it is the first of its key, its index is written
   one_more : (list' : List (List ℕ × V)) (places' : List ℕ) → list' ≡ put list pair.0 pair.1 → length places' ≡ length places
       → ((i : ℕ) → i ≢ length done → get_or places' i 0 ≡ get_or places i 0)
       → (get_or firsts (length done) 0 ≡ length done → (at list pair.0 ≡ None) × (get_or places' (length done) 0 ≡ length list))
@@ -117,7 +117,7 @@ module _ {V : Type 0} (all : List (List ℕ × V)) (firsts : List ℕ) (are : Ar
         ];
       }
 
-  -- the first of its key goes last
+  -- the first of its key is appended
   pub with_new : first ≡ position → (list' : List (List ℕ × V)) (places' : List ℕ) (len : ℕ) → list' ≡ list ++ pair ∷ []
       → places' ≡ set places position len → len ≡ length list → PlacesSoFar all (done ++ pair ∷ []) list' firsts places'
   with_new own list' places' len list_is places_is len_is =
@@ -131,7 +131,7 @@ module _ {V : Type 0} (all : List (List ℕ × V)) (firsts : List ℕ) (are : Ar
             ∙ (get_or-set_same places position len 0 (omega (arith, t.at_end, t.more, count)) ∙ len_is)),
       ))
 
-  -- another one's value replaces that beside the key
+  -- the value of another replaces the value of the key
   pub with_old : first ≢ position → (list' : List (List ℕ × V)) (place : ℕ) → place ≡ get_or places first place
       → list' ≡ with_value list place pair.1 → PlacesSoFar all (done ++ pair ∷ []) list' firsts places
   with_old other list' place read list_is =

@@ -1,4 +1,4 @@
--- Where keys stand before and after pairs are put.
+-- Indices of keys before and after insertions.
 use Rattle.std.proofs.Common.{◌≡◌, ◌≢◌, ℕ, zero, suc, ◌+◌, ◌<◌, ◌≤◌, inl, inr, arith, List, [], ◌∷◌, ◌++◌, length, get_or, Option, Some}
 use Rattle.std.proofs.Common.{None, cond, true, false, refl, sym, ap, ◌∙◌, length-append}
 use Rattle.std.proofs.Math.ListN.{get_or-append}
@@ -11,7 +11,7 @@ use Rattle.ijson_table.proofs.pairs.KeyPositions.{absent-from, head_or_tail, pos
 use Rattle.ijson_table.proofs.pairs.PairsByKey.{keys-length, put-absent, put-present}
 use Rattle.ijson_table.proofs.pairs.PutEach.{put_each-append, put-length}
 
--- the position of a key is the first where it stands
+-- the index of a key is the first at which it is
 pub position-least : (keys : List (List ℕ)) (key : List ℕ) (i : ℕ) → position_of keys key ≡ Some i → (j : ℕ) → j < length keys
     → get_or keys j [] ≡ key → i ≤ j
 position-least [] key i e j lj same = absurd (omega arith)
@@ -25,7 +25,7 @@ position-least (k ∷ ks) key i e (suc j) lj same = elim (head_or_tail k ks key 
 ]
 
 module _ {V : Type 0} where
-  -- a pair that is put leaves where another key stands
+  -- an insertion keeps the index of any other key
   at-put_other : (ps : List (List ℕ × V)) (k key : List ℕ) (v : V) → k ≢ key → at (put ps k v) key ≡ at ps key
   at-put_other [] k key v ne = elim (same_key k key) [
     | inl s ↦ absurd (ne s.1)
@@ -37,7 +37,7 @@ module _ {V : Type 0} where
         | false ↦ ap (λ o. cond (bytes_eq p.0 key) (Some 0) (option_map (λ i. i + 1) o)) (at-put_other ps k key v ne)
       ]
 
-  -- and where a key stands that is there
+  -- and that of a key that is present
   pub at-put_kept : (ps : List (List ℕ × V)) (k key : List ℕ) (v : V) (i : ℕ) → at ps key ≡ Some i → at (put ps k v) key ≡ Some i
   at-put_kept ps k key v i e = elim (same_key k key) [
     | inl s ↦ ap (λ qs. at qs key) (put-present ps i k v (ap (at ps) s.1 ∙ e))
@@ -45,7 +45,7 @@ module _ {V : Type 0} where
     | inr d ↦ at-put_other ps k key v d.1 ∙ e
   ]
 
-  -- a new key stands last
+  -- a new key is last
   pub at-put_new : (ps : List (List ℕ × V)) (key : List ℕ) (v : V) → at ps key ≡ None → at (put ps key v) key ≡ Some (length ps)
   at-put_new ps key v e =
       let keys : List (List ℕ) = keys_of ps in
@@ -55,7 +55,7 @@ module _ {V : Type 0} where
       (get_or-append_seam keys key [] [])
       (λ j lj same. absent-from keys key e j lj (sym (get_or-append keys (key ∷ []) [] j lj) ∙ same)) ∙ ap Some (keys-length ps)))
 
-  -- a key that none of the pairs has stands where it stood before they were put
+  -- inserting pairs keeps the index of a key that none of them has
   pub at-put_each : (ps more : List (List ℕ × V)) (key : List ℕ) → ((j : ℕ) → j < length more → get_or (keys_of more) j [] ≢ key)
       → at (put_each ps more) key ≡ at ps key
   at-put_each ps [] key other = refl
@@ -63,12 +63,12 @@ module _ {V : Type 0} where
       at-put_each (put ps pair.0 pair.1) more key (λ j lj. other (suc j) (omega arith))
       ∙ at-put_other ps pair.0 key pair.1 (other 0 (omega arith))
 
-  -- pairs that are put are so many more at most
+  -- inserting pairs adds at most their number
   pub put_each-length : (ps more : List (List ℕ × V)) → length (put_each ps more) ≤ length ps + length more
   put_each-length ps [] = omega arith
   put_each-length ps (pair ∷ more) = omega (arith, put_each-length (put ps pair.0 pair.1) more, put-length ps pair.0 pair.1)
 
-  -- one more pair is put last
+  -- one more pair is inserted last
   pub put_each-more : (done : List (List ℕ × V)) (key : List ℕ) (value : V)
       → put_each [] (done ++ (key, value) ∷ []) ≡ put (put_each [] done) key value
   put_each-more done key value = put_each-append [] done ((key, value) ∷ [])

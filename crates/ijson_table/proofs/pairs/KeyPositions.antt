@@ -1,4 +1,4 @@
--- Positions of keys in a list: the first that is the key, and none where it is missing.
+-- Indices of keys in a list: the first at which it is the key, and none if it is missing.
 use Rattle.std.proofs.Common.{◌≡◌, ◌≢◌, ℕ, zero, suc, ◌+◌, ◌<◌, ◌⊎◌, inl, inr, arith, List, [], ◌∷◌, length, get_or}
 use Rattle.std.proofs.Common.{Option, Some, None, cond, true, false, refl, sym, ap, subst, ◌∙◌}
 use Rattle.std.specs.Prelude.{bytes_eq, option_map}
@@ -6,23 +6,23 @@ use Rattle.std.specs.Cmp.Lexicographic.{bytes_decides}
 use Rattle.ijson_table.specs.Store.{position_of, IsDistinct}
 use Rattle.ijson_table.proofs.pairs.DistinctKeys.{apart}
 
--- whether two keys are the same
+-- whether two keys are equal
 pub same_key : (a b : List ℕ) → ((bytes_eq a b ≡ true) × (a ≡ b)) ⊎ ((bytes_eq a b ≡ false) × (a ≢ b))
 same_key a b = elim (bytes_eq a b) as (λ r. bytes_eq a b ≡ r → ((bytes_eq a b ≡ true) × (a ≡ b)) ⊎ ((bytes_eq a b ≡ false) × (a ≢ b))) [
   | true ↦ λ e. inl (e, (bytes_decides a b).0 e)
   | false ↦ λ e. inr (e, λ same. let yes_it_is = (bytes_decides a b).1 same in let bad : true ≡ false = sym yes_it_is ∙ e in cc)
 ] refl
 
--- the first key has position 0
+-- the first key has index 0
 position-head : (k : List ℕ) (ks : List (List ℕ)) (key : List ℕ) → bytes_eq k key ≡ true → position_of (k ∷ ks) key ≡ Some 0
 position-head k ks key same = ap (λ b. cond b (Some 0) (option_map (λ i. i + 1) (position_of ks key))) same
 
--- any other is one further on than among the rest
+-- any other is one further on than in the rest
 pub position-tail : (k : List ℕ) (ks : List (List ℕ)) (key : List ℕ) → bytes_eq k key ≡ false
     → position_of (k ∷ ks) key ≡ option_map (λ i. i + 1) (position_of ks key)
 position-tail k ks key other = ap (λ b. cond b (Some 0) (option_map (λ i. i + 1) (position_of ks key))) other
 
--- the first of its kind
+-- the first of equal keys
 pub position-first : (keys : List (List ℕ)) (key : List ℕ) (i : ℕ) → i < length keys → get_or keys i [] ≡ key
     → ((j : ℕ) → j < i → get_or keys j [] ≢ key) → position_of keys key ≡ Some i
 position-first [] key i li e before = absurd (omega arith)
@@ -34,7 +34,7 @@ position-first (k ∷ ks) key (suc i) li e before = elim (same_key k key) [
       ∙ ap Some (omega arith))
 ]
 
--- a key that stands at no position has none
+-- a key at no index has none
 pub position-none : (keys : List (List ℕ)) (key : List ℕ) → ((j : ℕ) → j < length keys → get_or keys j [] ≢ key)
     → position_of keys key ≡ None
 position-none [] key missing = refl
@@ -43,13 +43,13 @@ position-none (k ∷ ks) key missing = elim (same_key k key) [
   | inr d ↦ position-tail k ks key d.0 ∙ ap (option_map (λ i. i + 1)) (position-none ks key (λ j lj. missing (suc j) (omega arith)))
 ]
 
--- where keys are distinct, the position of a key is where it stands
+-- if keys are distinct, the index of a key is the one at which it is
 pub position-distinct : (keys : List (List ℕ)) (key : List ℕ) (i : ℕ) → IsDistinct keys → i < length keys → get_or keys i [] ≡ key
     → position_of keys key ≡ Some i
 position-distinct keys key i d li e = position-first keys key i li e
     (λ j lj same. let it : j ≡ i = apart keys d j i (omega arith) li (same ∙ sym e) in omega arith)
 
--- a key that stands somewhere has a position
+-- a key in the list has an index
 first-below : (keys : List (List ℕ)) (key : List ℕ) (j : ℕ) → j < length keys → get_or keys j [] ≡ key
     → (i : ℕ) × (position_of keys key ≡ Some i)
 first-below [] key j lj e = absurd (omega arith)
@@ -60,11 +60,11 @@ first-below (k ∷ ks) key (suc j) lj e = elim (same_key k key) [
       (rest.0 + 1, position-tail k ks key d.0 ∙ ap (option_map (λ i. i + 1)) rest.1)
 ]
 
--- a key without a position stands nowhere
+-- a key without an index is not in the list
 pub absent-from : (keys : List (List ℕ)) (key : List ℕ) → position_of keys key ≡ None → (j : ℕ) → j < length keys → get_or keys j [] ≢ key
 absent-from keys key none j lj e = let found = first-below keys key j lj e in let bad : None ≡ Some found.0 = sym none ∙ found.1 in cc
 
--- a position that was moved by one comes from one less
+-- an index that was incremented comes from one less
 shifted : (o : Option ℕ) (i : ℕ) → option_map (λ i. i + 1) o ≡ Some i → (j : ℕ) × (o ≡ Some j) × (suc j ≡ i)
 shifted None i e = cc
 shifted (Some j) i e = let more : j + 1 ≡ i = cc in (j, refl, omega (arith, more))
@@ -74,7 +74,7 @@ unshifted : (o : Option ℕ) → option_map (λ i. i + 1) o ≡ None → o ≡ N
 unshifted None e = refl
 unshifted (Some j) e = cc
 
--- where a key has a position, the first key is this one, or it is one further on than among the rest
+-- if a key has an index, it is the first key, or one further on than in the rest
 pub head_or_tail : (k : List ℕ) (ks : List (List ℕ)) (key : List ℕ) (i : ℕ) → position_of (k ∷ ks) key ≡ Some i
     → ((bytes_eq k key ≡ true) × (k ≡ key) × (0 ≡ i)) ⊎
     ((bytes_eq k key ≡ false) × (k ≢ key) × (j : ℕ) × (position_of ks key ≡ Some j) × (suc j ≡ i))
@@ -83,7 +83,7 @@ head_or_tail k ks key i e = elim (same_key k key) [
   | inr d ↦ let rest = shifted (position_of ks key) i (sym (position-tail k ks key d.0) ∙ e) in inr (d.0, d.1, rest.0, rest.1, rest.2)
 ]
 
--- where it has none, the first key is another, and the rest lack it too
+-- if it has none, the first key is another, and the rest lack it too
 pub none_in : (k : List ℕ) (ks : List (List ℕ)) (key : List ℕ) → position_of (k ∷ ks) key ≡ None
     → (bytes_eq k key ≡ false) × (k ≢ key) × (position_of ks key ≡ None)
 none_in k ks key e = elim (same_key k key) [
@@ -91,7 +91,7 @@ none_in k ks key e = elim (same_key k key) [
   | inr d ↦ (d.0, d.1, unshifted (position_of ks key) (sym (position-tail k ks key d.0) ∙ e))
 ]
 
--- where a key stands somewhere, its position is told
+-- if a key is in the list, its index is found
 pub position-some : (keys : List (List ℕ)) (key : List ℕ) (i : ℕ) → position_of keys key ≡ Some i
     → (i < length keys) × (get_or keys i [] ≡ key)
 position-some [] key i e = cc

@@ -1,4 +1,5 @@
--- A pair of a new key that is put behind a list of pairs, which is seen as another list. The key was sought there by its text.
+-- A pair with a new key, appended to a list of pairs, which is seen as another list. The key was looked up there by its
+-- string.
 use Rattle.std.proofs.Common.{◌≡◌, ℕ, List, [], ◌∷◌, ◌++◌, None, ap, sym, subst, ◌∙◌}
 use Rattle.ijson_table.specs.Store.{keys_of, at, put, IsDistinct}
 use Rattle.ijson_table.proofs.pairs.PairsByKey.{distinct_pushed, put-absent}
@@ -10,6 +11,6 @@ module _ {V : Type 0} {old seen now : List (List ℕ × V)} {text : List ℕ} (k
   still_distinct d = subst (λ ps. IsDistinct (keys_of ps)) (sym pushed)
       (distinct_pushed old key value d (ap (λ ps. at ps key) same ∙ (ap (at seen) (sym is) ∙ missing)))
 
-  -- the pair is put
+  -- the pair is appended
   pub put_last : now ≡ put seen key value
   put_last = pushed ∙ (ap (λ ps. ps ++ (key, value) ∷ []) same ∙ sym (put-absent seen key value (ap (at seen) (sym is) ∙ missing)))

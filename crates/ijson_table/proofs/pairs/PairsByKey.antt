@@ -1,4 +1,4 @@
--- What changes of a list of pairs keep: its distinct keys, their positions and the values beside them.
+-- Changes of a list of pairs keep distinct keys, their indices and their values.
 use Rattle.std.proofs.Common.{◌≡◌, ◌≢◌, ℕ, zero, suc, ◌+◌, ◌-◌, ◌<◌, ◌⊎◌, inl, inr, arith, List, [], ◌∷◌, ◌++◌, length, get_or, set, take}
 use Rattle.std.proofs.Common.{Some, None, cond, refl, sym, ap, subst, ◌∙◌, length-append, get_or-set_other, get_or-set_same, length-take}
 use Rattle.std.proofs.Math.ListN.{get_or-append}
@@ -14,7 +14,7 @@ use Rattle.ijson_table.specs.laws.Store.{keys-with_value}
 use Rattle.ijson_table.proofs.pairs.KeyPositions.{absent-from, head_or_tail, none_in, position-some, same_key}
 use Rattle.ijson_table.proofs.pairs.DistinctKeys.{AreApart, apart, distinct}
 
--- keys that differ still do with a new one behind them
+-- distinct keys with a new one after them are distinct
 apart_pushed : (keys : List (List ℕ)) (key : List ℕ) → AreApart keys → ((j : ℕ) → j < length keys → get_or keys j [] ≢ key)
     → AreApart (keys ++ key ∷ [])
 apart_pushed keys key are_apart missing i j li lj e =
@@ -33,11 +33,11 @@ apart_pushed keys key are_apart missing i j li lj e =
     ]
 
 module _ {V : Type 0} where
-  -- there are as many keys as pairs
+  -- the numbers of keys and of pairs are equal
   pub keys-length : (pairs : List (List ℕ × V)) → length (keys_of pairs) ≡ length pairs
   keys-length pairs = length-map pairs (λ pair. pair.0)
 
-  -- the position of a key is below the length
+  -- the index of a key is below the length
   pub position_within : (pairs : List (List ℕ × V)) (key : List ℕ) (i : ℕ) → at pairs key ≡ Some i → i < length pairs
   position_within pairs key i e = let found = position-some (keys_of pairs) key i e in omega (arith, found.0, keys-length pairs)
 
@@ -46,26 +46,26 @@ module _ {V : Type 0} where
       → get_or (keys_of pairs) i [] ≡ (get_or pairs i pair).0
   key_at pairs i pair li = get_or-map (λ p. p.0) pairs i pair [] li
 
-  -- a pair that was read at a position of a list, which is seen as this one
+  -- a pair read at an index of a list, which is seen as this one
   pub slice_get-seen : (old seen : List (List ℕ × V)) (i : ℕ) (pair : List ℕ × V) → old ≡ seen → i < length seen → pair ≡ get_or old i pair
       → slice_get seen i ≡ Some pair
   slice_get-seen old seen i pair same li read =
       slice_get_read seen (length seen) i pair refl li (read ∙ ap (λ ps. get_or ps i pair) same)
 
-  -- a pair that was lent, with another value in it
+  -- a pair that was lent, with another value
   pub set-value : (pairs : List (List ℕ × V)) (i : ℕ) (pair : List ℕ × V) (value : V) → i < length pairs → pair ≡ get_or pairs i pair
       → set pairs i (pair.0, value) ≡ with_value pairs i value
   set-value [] i pair value li e = absurd (omega arith)
   set-value (p ∷ ps) zero pair value li e = ap (λ q. (q.0, value) ∷ ps) e
   set-value (p ∷ ps) (suc i) pair value li e = ap (λ l. p ∷ l) (set-value ps i pair value (omega arith) e)
 
-  -- another value leaves the keys distinct
+  -- another value keeps the keys distinct
   pub distinct_set : (pairs : List (List ℕ × V)) (i : ℕ) (pair : List ℕ × V) (value : V) → i < length pairs → pair ≡ get_or pairs i pair
       → IsDistinct (keys_of pairs) → IsDistinct (keys_of (set pairs i (pair.0, value)))
   distinct_set pairs i pair value li e d = subst IsDistinct
       (sym (ap keys_of (set-value pairs i pair value li e) ∙ keys-with_value pairs i value)) d
 
-  -- a key that is there keeps its position and has the new value
+  -- a key that is present keeps its index and has the new value
   pub put-present : (pairs : List (List ℕ × V)) (i : ℕ) (key : List ℕ) (value : V) → at pairs key ≡ Some i
       → put pairs key value ≡ with_value pairs i value
   put-present [] i key value e = cc
@@ -76,7 +76,7 @@ module _ {V : Type 0} where
         ∙ (ap (λ ps. pair ∷ ps) (put-present pairs d.2 key value d.3) ∙ ap (λ n. with_value (pair ∷ pairs) n value) d.4)
   ]
 
-  -- a new key goes last
+  -- a new key is appended
   pub put-absent : (pairs : List (List ℕ × V)) (key : List ℕ) (value : V) → at pairs key ≡ None
       → put pairs key value ≡ pairs ++ (key, value) ∷ []
   put-absent [] key value e = refl
@@ -85,7 +85,7 @@ module _ {V : Type 0} where
       ap (λ b. cond b ((pair.0, value) ∷ pairs) (pair ∷ put pairs key value)) lacks.0
       ∙ ap (λ ps. pair ∷ ps) (put-absent pairs key value lacks.2)
 
-  -- std's removal by swapping is this one
+  -- `swap_remove` of std is this removal
   pub swap_out-is : (pairs : List (List ℕ × V)) (i : ℕ) (d : List ℕ × V) → i < length pairs → swap_remove pairs i d ≡ swap_out pairs i
   swap_out-is [] i d li = absurd (omega arith)
   swap_out-is (pair ∷ pairs) i d li =
@@ -93,7 +93,7 @@ module _ {V : Type 0} where
       ap (λ x. take last (set (pair ∷ pairs) i x)) (get_or_default (pair ∷ pairs) last d pair (omega arith))
       ∙ sym (take-set-le last (set (pair ∷ pairs) i (get_or (pair ∷ pairs) last pair)) last (get_or (pair ∷ pairs) i pair) (omega arith))
 
-  -- the keys once one is out and the last fills the gap
+  -- the keys after one is removed and the last fills the gap
   pub keys-swap_out : (pairs : List (List ℕ × V)) (i : ℕ) → i < length pairs
       → keys_of (swap_out pairs i) ≡ take (length pairs - 1) (set (keys_of pairs) i (get_or (keys_of pairs) (length pairs - 1) []))
   keys-swap_out [] i li = absurd (omega arith)
@@ -117,7 +117,7 @@ module _ {V : Type 0} where
     keys-length pairs,
   )
 
-  -- the last key stands where the one that went stood
+  -- the last key takes the index of the removed one
   pub swapped-same : (pairs : List (List ℕ × V)) (i : ℕ) → i + 1 < length pairs
       → get_or (keys_of (swap_out pairs i)) i [] ≡ get_or (keys_of pairs) (length pairs - 1) []
   swapped-same pairs i li =
@@ -126,7 +126,7 @@ module _ {V : Type 0} where
       ∙ (get_or-take (length pairs - 1) (set (keys_of pairs) i (get_or (keys_of pairs) (length pairs - 1) [])) i [] (omega arith)
       ∙ get_or-set_same (keys_of pairs) i (get_or (keys_of pairs) (length pairs - 1) []) [] inside)
 
-  -- the other keys stay where they stood
+  -- the other keys keep their indices
   pub swapped-other : (pairs : List (List ℕ × V)) (i j : ℕ) → i < length pairs → j + 1 < length pairs → j ≢ i
       → get_or (keys_of (swap_out pairs i)) j [] ≡ get_or (keys_of pairs) j []
   swapped-other pairs i j li lj ne =
@@ -134,7 +134,7 @@ module _ {V : Type 0} where
       ∙ (get_or-take (length pairs - 1) (set (keys_of pairs) i (get_or (keys_of pairs) (length pairs - 1) [])) j [] (omega arith)
       ∙ get_or-set_other (keys_of pairs) i j (get_or (keys_of pairs) (length pairs - 1) []) [] ne)
 
-  -- which key of the list before a key of the list after it is
+  -- the old index of each remaining key
   came_from : (pairs : List (List ℕ × V)) (i j : ℕ) → i < length pairs → j + 1 < length pairs
       → (k : ℕ) × (k < length pairs) × (get_or (keys_of (swap_out pairs i)) j [] ≡ get_or (keys_of pairs) k []) ×
       (((j ≡ i) × (k + 1 ≡ length pairs)) ⊎ ((j ≢ i) × (k ≡ j)))
@@ -164,7 +164,7 @@ module _ {V : Type 0} where
         | inr x ↦ elim b.3 [ inl y ↦ omega (arith, x, y) | inr y ↦ omega (arith, x, y) ]
       ])
 
-  -- with a new key behind them, keys are distinct
+  -- with a new key after them, keys are distinct
   pub distinct_pushed : (pairs : List (List ℕ × V)) (key : List ℕ) (value : V) → IsDistinct (keys_of pairs) → at pairs key ≡ None
       → IsDistinct (keys_of (pairs ++ (key, value) ∷ []))
   distinct_pushed pairs key value d missing =
@@ -172,7 +172,7 @@ module _ {V : Type 0} where
       (distinct (keys_of pairs ++ key ∷ []) (apart_pushed (keys_of pairs) key (apart (keys_of pairs) d)
       (absent-from (keys_of pairs) key missing)))
 
-  -- a look-up passes a pair of another key
+  -- a lookup passes a pair with another key
   lookup-other : (pair : List ℕ × V) (pairs : List (List ℕ × V)) (key : List ℕ) → pair.0 ≢ key
       → lookup key (pair ∷ pairs) ≡ lookup key pairs
   lookup-other pair pairs key other = elim (same_key key pair.0) [
@@ -180,7 +180,7 @@ module _ {V : Type 0} where
     | inr d ↦ ap (λ b. cond b (Some pair.1) (lookup key pairs)) d.0
   ]
 
-  -- the value at the position of a key is the one beside it
+  -- the value at the index of a key is that of the key
   pub lookup-position : (pairs : List (List ℕ × V)) (key : List ℕ) (i : ℕ) (pair : List ℕ × V) → at pairs key ≡ Some i → i < length pairs
       → pair ≡ get_or pairs i pair → lookup key pairs ≡ Some pair.1
   lookup-position [] key i pair e li is = absurd (omega arith)
@@ -195,13 +195,13 @@ module _ {V : Type 0} where
         lookup-other p ps key d.1 ∙ lookup-position ps key i pair (subst (λ n. at ps key ≡ Some n) same d.3) (omega arith) is
   ]
 
-  -- the same, of a pair that was told
+  -- so is that of a pair that was read
   pub lookup-found : (pairs : List (List ℕ × V)) (key : List ℕ) (i : ℕ) (pair : List ℕ × V) → at pairs key ≡ Some i
       → slice_get pairs i ≡ Some pair → lookup key pairs ≡ Some pair.1
   lookup-found pairs key i pair e is = lookup-position pairs key i pair e (position_within pairs key i e)
       (sym (get_or_from_slice_get pairs i pair pair is))
 
-  -- beside a key that is not there stands no value
+  -- a missing key has no value
   pub lookup-absent : (pairs : List (List ℕ × V)) (key : List ℕ) → at pairs key ≡ None → lookup key pairs ≡ None
   lookup-absent [] key e = refl
   lookup-absent (p ∷ ps) key e =

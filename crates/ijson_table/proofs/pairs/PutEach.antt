@@ -1,4 +1,4 @@
--- Pairs put one after the other.
+-- Pairs inserted in order.
 use Rattle.std.proofs.Common.{◌≡◌, ◌≢◌, ℕ, ◌+◌, ◌<◌, ◌≤◌, inl, inr, arith, List, [], ◌∷◌, ◌++◌, length, take, drop, Option, Some, None}
 use Rattle.std.proofs.Common.{Result, Ok, Err, cond, true, false, refl, sym, ap, subst, ◌∙◌, append_assoc}
 use Rattle.std.specs.Prelude.{bytes_eq, option_map, IsOk}
@@ -14,7 +14,7 @@ use Rattle.ijson_table.specs.laws.Store.{keys-with_value}
 use Rattle.ijson_table.proofs.pairs.PairsByKey.{distinct_pushed, put-absent, put-present}
 use Rattle.ijson_table.proofs.probing.KeyHashes.{had_room}
 
--- a growth that was refused lacked room
+-- a growth that failed lacked capacity
 short : (len c n c' : ℕ) (why : ReserveError) → Ungrown len c n why c' → c < wanted len c n
 short len c n c' Memory h = h.1
 short len c n c' TooLarge h = h.1
@@ -31,7 +31,7 @@ module _ {V : Type 0} where
   lacks_middle key [] pair more l = l.0
   lacks_middle key (p ∷ pairs) pair more l = lacks_middle key pairs pair more l.1
 
-  -- where keys are distinct, the first pairs lack the key of the next
+  -- if keys are distinct, the first pairs lack the key of the next
   missing : (pairs : List (List ℕ × V)) (pair : List ℕ × V) (more : List (List ℕ × V)) → IsDistinct (keys_of (pairs ++ pair ∷ more))
       → at pairs pair.0 ≡ None
   missing [] pair more d = refl
@@ -40,7 +40,7 @@ module _ {V : Type 0} where
     | inr n ↦ position-tail p.0 (keys_of pairs) pair.0 n.0 ∙ ap (option_map (λ i. i + 1)) (missing pairs pair more d.1)
   ]
 
-  -- where no key stands twice, they go last
+  -- if all keys are distinct, the pairs are appended
   pub put_each-new : (pairs more : List (List ℕ × V)) → IsDistinct (keys_of (pairs ++ more)) → put_each pairs more ≡ pairs ++ more
   put_each-new pairs [] d = sym (append-nil pairs)
   put_each-new pairs (pair ∷ more) d =
@@ -48,18 +48,18 @@ module _ {V : Type 0} where
       ap (λ ps. put_each ps more) (put-absent pairs pair.0 pair.1 (missing pairs pair more d))
       ∙ (put_each-new (pairs ++ pair ∷ []) more (subst (λ ps. IsDistinct (keys_of ps)) (sym whole) d) ∙ whole)
 
-  -- so the first ones may be there already, where none of their keys stands twice
+  -- so the first ones may be present already, if their keys are distinct
   pub put_each-split : (pairs : List (List ℕ × V)) (n : ℕ) → IsDistinct (keys_of (take n pairs))
       → put_each (take n pairs) (drop n pairs) ≡ put_each [] pairs
   put_each-split pairs n d =
       ap (λ ps. put_each ps (drop n pairs)) (sym (put_each-new [] (take n pairs) d))
       ∙ (sym (put_each-append [] (take n pairs) (drop n pairs)) ∙ ap (put_each []) (take-append-drop n pairs))
 
-  -- where no key stands twice in a list, to put all of it and then more is to put more behind it
+  -- if the keys of a list are distinct, inserting all of it and then more is inserting more after it
   pub put_each-behind : (pairs more : List (List ℕ × V)) → IsDistinct (keys_of pairs) → put_each [] (pairs ++ more) ≡ put_each pairs more
   put_each-behind pairs more d = put_each-append [] pairs more ∙ ap (λ ps. put_each ps more) (put_each-new [] pairs d)
 
-  -- a key that is put makes none stand twice
+  -- inserting a key keeps the keys distinct
   put-distinct : (pairs : List (List ℕ × V)) (key : List ℕ) (value : V) → IsDistinct (keys_of pairs)
       → IsDistinct (keys_of (put pairs key value))
   put-distinct pairs key value d =
@@ -69,12 +69,12 @@ module _ {V : Type 0} where
             (subst IsDistinct (sym (keys-with_value pairs i value)) d)
       ] refl
 
-  -- nor do all of a list
+  -- so does inserting all of a list
   pub put_each-distinct : (pairs more : List (List ℕ × V)) → IsDistinct (keys_of pairs) → IsDistinct (keys_of (put_each pairs more))
   put_each-distinct pairs [] d = d
   put_each-distinct pairs (pair ∷ more) d = put_each-distinct (put pairs pair.0 pair.1) more (put-distinct pairs pair.0 pair.1 d)
 
-  -- one that is put is one more at most
+  -- an insertion adds at most one
   pub put-length : (pairs : List (List ℕ × V)) (key : List ℕ) (value : V) → length (put pairs key value) ≤ length pairs + 1
   put-length [] key value = omega arith
   put-length (pair ∷ pairs) key value = elim (bytes_eq pair.0 key) as
@@ -83,7 +83,7 @@ module _ {V : Type 0} where
         | false ↦ omega (arith, put-length pairs key value)
       ]
 
-  -- where there is room for one more, it is put without growth
+  -- if there is spare capacity, an insertion does not grow
   pub put_in_room : (pairs : List (List ℕ × V)) (c : ℕ) (key : List ℕ) (value : V) (answer : Result (Option V) (RefusedPair V))
       (pairs' : List (List ℕ × V)) (c' : ℕ) → length pairs < c
       → Inserts pairs c key value answer pairs' c' → IsOk answer × (pairs' ≡ put pairs key value) × (c' ≡ c)

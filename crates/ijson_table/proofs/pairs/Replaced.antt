@@ -1,10 +1,10 @@
--- A value that is put in the place of the one beside a key.
+-- Replacing the value of a key.
 use Rattle.std.proofs.Common.{◌≡◌, ℕ, List, Some, ap, sym, ◌∙◌}
 use Rattle.std.specs.Prelude.{slice_get}
 use Rattle.ijson_table.specs.Store.{at, lookup, put, with_value}
 use Rattle.ijson_table.proofs.pairs.PairsByKey.{lookup-found, put-present}
 
--- what an insertion answers and leaves where the key is there
+-- the result and the effect of inserting a key that is present
 pub replaced : {V : Type 0} (before after : List (List ℕ × V)) (position : ℕ) (pair : List ℕ × V) (key : List ℕ) (value old : V)
     → slice_get before position ≡ Some pair → old ≡ pair.1 → after ≡ with_value before position value → at before key ≡ Some position
     → (lookup key before ≡ Some old) × (after ≡ put before key value)

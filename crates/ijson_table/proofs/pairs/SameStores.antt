@@ -1,4 +1,4 @@
--- Two stores with the same pairs and the same capacity are one.
+-- Two stores with the same pairs and the same capacity are equal.
 use Rattle.std.proofs.Common.{◌≡◌}
 use mathlib.Core.HLevel.{is_prop→PathP}
 use Rattle.ijson_table.specs.Store.{Store, IsDistinct, keys_of}
@@ -7,7 +7,7 @@ use Rattle.ijson_table.specs.Placed.{Placed}
 use Rattle.ijson_table.specs.declared.hash.KeyHash as hashing
 use Rattle.ijson_table.specs.declared.table.Table.TheInside.{Inside}
 
--- two stores with the same pairs and the same capacity are one
+-- two stores with the same pairs and the same capacity are equal
 pub store_path : {V : Type 0} (s t : Store V) → s.pairs ≡ t.pairs → s.capacity ≡ t.capacity → s ≡ t
 store_path s t e f = λ j. record {
   pairs = e j;
@@ -15,12 +15,12 @@ store_path s t e f = λ j. record {
   distinct = is_prop→PathP (λ k. IsDistinct (keys_of (e k))) (λ k. IsDistinct-prop (keys_of (e k))) s.distinct t.distinct j;
 }
 
--- so are two tables with the same slots too
+-- so are two tables that also have the same slots
 pub placed_path : {V : Type 0} (s t : Placed V) → s.store.pairs ≡ t.store.pairs → s.store.capacity ≡ t.store.capacity → s.slots ≡ t.slots
     → s ≡ t
 placed_path s t e f g = λ j. record { store = store_path s.store t.store e f j; slots = g j }
 
--- a table whose fields were looked at and put back
+-- a table whose fields were read and put back
 pub put_back : {V H : Type 0} (K : hashing.Ghosts H) (t : Inside V H K) (distinct : IsDistinct (keys_of t.pairs.items))
     → ◌≡◌ {A = Inside V H K} (record {
       pairs = t.pairs;

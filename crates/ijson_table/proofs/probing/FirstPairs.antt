@@ -1,4 +1,4 @@
--- Places of the first pairs of a list: a look-up of the next key among them, and the next one put.
+-- Slots with the first pairs of a list: a lookup of the next key among them, and its insertion.
 use Rattle.std.proofs.Common.{◌≡◌, ◌≢◌, ◌⊎◌, inl, inr, ℕ, ◌+◌, ◌<◌, arith, List, [], ◌∷◌, ◌++◌, length, take, get_or, None, sym, ap}
 use Rattle.std.proofs.Common.{subst, ◌∙◌, length-take}
 use Rattle.std.proofs.lemmas.Bool.Decides.{nat_tests}
@@ -17,7 +17,7 @@ use Rattle.ijson_table.proofs.probing.KeyHashes.{hashes, length-hashes, hashes-p
 
 module _ {V : Type 0} (hash : List ℕ → ℕ) (pairs : List (List ℕ × V)) (n : ℕ) (index : HashIndex) (placed : FirstPlaced hash pairs n index)
     (within : n < length pairs) where
-  -- a key that is none of theirs, and where it may stand as the next
+  -- a key that none of them has, and the slot that accepts it as the next
   pub next_ends : (h : ℕ) (key : List ℕ) (looks p : ℕ) → h ≡ hash key → IsTable index.hashes index.slots → 0 < length index.slots
       → Walks index (keys_of (take n pairs)) h key looks (Vacant p)
       → (at (take n pairs) key ≡ None) × MayStand (index.hashes ++ h ∷ []) index.slots n p
@@ -32,7 +32,7 @@ module _ {V : Type 0} (hash : List ℕ → ℕ) (pairs : List (List ℕ × V)) (
             (subst (λ k. MayStand (hashes hash first ++ hash key ∷ []) index.slots k p) size told.2)),
       )
 
-  -- where a slot is left, the key for which there is no vacancy is one of theirs
+  -- if a slot remains, a key without a vacancy is one of theirs
   pub comes_again : (h : ℕ) (key : List ℕ) (looks : ℕ) (end : Probed) → h ≡ hash key → IsTable index.hashes index.slots
       → n < length index.slots → Walks index (keys_of (take n pairs)) h key looks end
       → ((i : ℕ) × (p : ℕ) × (end ≡ Found i p)) ⊎ (end ≡ Full) → at (take n pairs) key ≢ None
@@ -52,7 +52,7 @@ module _ {V : Type 0} (hash : List ℕ → ℕ) (pairs : List (List ℕ × V)) (
       told.1 (some_empty index.slots (n + 1) n (λ i. grind (arith, nat_tests, table.placed i, count)) (omega arith)
       (grind (arith, nat_tests, table.placed n, count)) (omega (arith, room)))
 
-  -- with its hash they are one more
+  -- with its hash, there is one more of them
   pub next_placed : (pair : List ℕ × V) (h : ℕ) (new : HashIndex) → pair ≡ get_or pairs n pair → h ≡ hash pair.0
       → at (take n pairs) pair.0 ≡ None
       → new.hashes ≡ index.hashes ++ h ∷ [] → FirstPlaced hash pairs (n + 1) new

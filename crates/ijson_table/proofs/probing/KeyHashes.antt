@@ -1,4 +1,4 @@
--- A store with a table: the hashes of its keys, and what a probe for a key tells.
+-- A store with a table: the hashes of its keys, and the results of a probe for a key.
 use Rattle.std.proofs.Common.{◌≡◌, ℕ, ◌-◌, ◌<◌, arith, List, [], ◌∷◌, ◌++◌, length, take, map, get_or, set, Option, sym, ap, subst, ◌∙◌}
 use Rattle.std.specs.List.{swap_remove}
 use Rattle.std.proofs.lemmas.Bool.Decides.{nat_tests}
@@ -26,21 +26,21 @@ module _ {V : Type 0} (hash : List ℕ → ℕ) where
   abbrev pub hashes : List (List ℕ × V) → List ℕ
   hashes pairs = map hash (keys_of pairs)
 
-  -- there are as many hashes as pairs
+  -- the numbers of hashes and of pairs are equal
   pub length-hashes : (pairs : List (List ℕ × V)) → length (hashes pairs) ≡ length pairs
   length-hashes pairs = length-map (keys_of pairs) hash ∙ keys-length pairs
 
-  -- a pair behind the others adds its hash
+  -- an appended pair adds its hash
   pub hashes-push : (pairs : List (List ℕ × V)) (key : List ℕ) (value : V)
       → hashes (pairs ++ (key, value) ∷ []) ≡ hashes pairs ++ hash key ∷ []
   hashes-push pairs key value = ap (map hash) (map-append (λ p. p.0) pairs ((key, value) ∷ [])) ∙ map-append hash (keys_of pairs) (key ∷ [])
 
-  -- another value leaves the hashes
+  -- another value keeps the hashes
   pub hashes-set : (pairs : List (List ℕ × V)) (i : ℕ) (pair : List ℕ × V) (value : V) → i < length pairs → pair ≡ get_or pairs i pair
       → hashes (set pairs i (pair.0, value)) ≡ hashes pairs
   hashes-set pairs i pair value li e = ap (map hash) (ap keys_of (set-value pairs i pair value li e) ∙ keys-with_value pairs i value)
 
-  -- a pair out, and the last in its place, does the same to the hashes
+  -- removing a pair and moving the last into its place does the same to the hashes
   pub hashes-swap_out : (pairs : List (List ℕ × V)) (i : ℕ) → i < length pairs → hashes (swap_out pairs i) ≡ swap_remove (hashes pairs) i 0
   hashes-swap_out pairs i li =
       let keys : List (List ℕ) = keys_of pairs in
@@ -58,7 +58,7 @@ module _ {V : Type 0} (hash : List ℕ → ℕ) where
       → IsTable (hashes pairs) index.slots
   table_of pairs index stored table = subst (λ hs. IsTable hs index.slots) stored table
 
-  -- what ended a probe by the stored hashes
+  -- how a probe by the stored hashes ended
   abbrev EndsBy : List ℕ → List (List ℕ × V) → ℕ → List (Option ℕ) → List ℕ → ℕ → Probed → Type 0
   EndsBy hs ps h slots key looks end = Walks (record { hashes = hs; slots = slots }) (keys_of ps) h key looks end
 
@@ -71,7 +71,7 @@ module _ {V : Type 0} (hash : List ℕ → ℕ) where
       (subst (λ ps. EndsBy (hashes pairs) ps h index.slots key looks end) is
       (subst (λ hs. EndsBy hs lent h index.slots key looks end) stored ends))
 
-  -- and tells the position of the key, or that it is not there
+  -- and finds the index of the key, or that it is missing
   pub find_ends : (pairs lent : List (List ℕ × V)) (index : HashIndex) (h : ℕ) (key : List ℕ) (looks : ℕ) (end : Probed)
       → index.hashes ≡ hashes pairs → lent ≡ pairs → h ≡ hash key
       → IsDistinct (keys_of pairs) → IsTable index.hashes index.slots → 0 < length index.slots
@@ -81,7 +81,7 @@ module _ {V : Type 0} (hash : List ℕ → ℕ) where
       (is_hashed_key-seeks hash (keys_of pairs) key) distinct some end looks
       (ends_for pairs lent index h key looks end stored is hashed ends)
 
-  -- by no more looks than the crowd of its home allows
+  -- within the inspections that the collision cluster of its home slot allows
   pub find_bounded : (pairs lent : List (List ℕ × V)) (capacity : ℕ) (index : HashIndex) (h : ℕ) (key : List ℕ) (looks : ℕ) (end : Probed)
       → index.hashes ≡ hashes pairs → length index.slots ≡ slot_count capacity → lent ≡ pairs → h ≡ hash key
       → IsTable index.hashes index.slots → EndsBy index.hashes lent h index.slots key looks end
@@ -91,7 +91,7 @@ module _ {V : Type 0} (hash : List ℕ → ℕ) where
       (is_hashed_key-seeks hash (keys_of pairs) key) capacity size end looks
       (ends_for pairs lent index h key looks end stored is hashed ends)
 
-  -- in no slots there is no key
+  -- without slots, there is no key
   pub nowhere : (pairs : List (List ℕ × V)) (slots : List (Option ℕ)) (key : List ℕ) → IsTable (hashes pairs) slots → length slots ≡ 0
       → LookUpEnds (hashes pairs) (keys_of pairs) slots (hash key) key Full
   nowhere pairs slots key table none = (
@@ -101,13 +101,13 @@ module _ {V : Type 0} (hash : List ℕ → ℕ) where
     λ e. omega (arith, e.1, none),
   )
 
--- where an index keeps of the hashes what it keeps among its slots, these are a table of the whole ones
+-- if a hash index keeps the parts of the hashes for its slots, these are a table of the whole hashes
 pub table_whole : {V : Type 0} (hash : List ℕ → ℕ) (pairs : List (List ℕ × V)) (index : HashIndex)
     → index.hashes ≡ hashes (kept_hash (length index.slots) hash) pairs → IsTable index.hashes index.slots
     → IsTable (hashes hash pairs) index.slots
 table_whole hash pairs index stored table =
     table_by_hash hash (keys_of pairs) index.slots (table_of (kept_hash (length index.slots) hash) pairs index stored table)
 
--- where there is room for one more, there is no growth
+-- with spare capacity, there is no growth
 pub had_room : (len c : ℕ) → len < c → Grown len c 1 c
 had_room len c room = (grind (arith, nat_tests, room), λ less. absurd (omega (arith, less)))

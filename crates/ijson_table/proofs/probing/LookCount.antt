@@ -1,4 +1,4 @@
--- The looks of a look-up.
+-- The inspections of a lookup.
 use Rattle.std.proofs.Common.{◌≡◌, ◌≢◌, ℕ, zero, suc, ◌+◌, ◌<◌, ◌≤◌, inl, inr, arith, List, length, map, get_or, replicate, Option, Some}
 use Rattle.std.proofs.Common.{None, refl, ap, subst}
 use Rattle.std.specs.Prelude.{sum}
@@ -15,11 +15,11 @@ use Rattle.ijson_table.proofs.probing.ProbePath.{reached, displacement-none, one
 use Rattle.ijson_table.proofs.probing.CrowdBound.{within_crowd}
 use Rattle.ijson_table.proofs.slots.Residents.{some_position}
 
--- a list of so many ones
+-- a list of n ones
 pub ones : ℕ → List ℕ
 ones n = replicate n 1
 
--- their sum is their count
+-- their sum is n
 pub sum-ones : (n : ℕ) → sum (ones n) ≡ n
 unfolding ones
 sum-ones zero = refl
@@ -32,14 +32,14 @@ one-at zero i li = absurd (omega arith)
 one-at (suc n) zero li = refl
 one-at (suc n) (suc i) li = one-at n i (omega arith)
 
--- there are so many
+-- their number is n
 pub length-ones : (n : ℕ) → length (ones n) ≡ n
 unfolding ones
 length-ones zero = refl
 length-ones (suc n) = ap suc (length-ones n)
 
 module _ (hashes : List ℕ) (slots : List (Option ℕ)) (t : IsTable hashes slots) where
-  -- the residents that were passed are as many positions
+  -- the residents that were passed are different indices
   pub within_list : (h m : ℕ) → h < length slots → m ≤ length slots → Passed (displacement hashes slots) (length slots) h m
       → m ≤ length hashes
   within_list h m lh lm passed =
@@ -56,7 +56,7 @@ module _ (hashes : List ℕ) (slots : List (Option ℕ)) (t : IsTable hashes slo
       (who.0, omega (arith, length-ones (length hashes), li), who.1, omega (arith, one-at (length hashes) who.0 li)))
       in omega (arith, sum-ones (length hashes))
 
-  -- a full table has as many positions as slots
+  -- in a full table, the number of slots is at most that of indices
   filled : ((p : ℕ) → p < length slots → resident slots p ≢ None) → length slots ≤ length hashes
   filled full =
       let R : ℕ → ℕ → Type 0 = λ i j. resident slots j ≡ Some i in
@@ -72,7 +72,7 @@ module _ (hash : List ℕ → ℕ) (keys : List (List ℕ)) (slots : List (Optio
   abbrev hashes : List ℕ
   hashes = map hash keys
 
-  -- it looked at each slot that it passed, and at one more at most
+  -- it inspected each slot that it passed, and at most one more
   bounded_by : (c : ℕ) → length slots ≡ slot_count c → (key : List ℕ) (m looks : ℕ) → 0 < looks → m ≤ length slots
       → looks ≤ length slots → looks ≤ m + 1
       → Passed (displacement hashes slots) (length slots) (home_of hash (length slots) key) m → IsBounded hash keys slots c key looks
@@ -112,7 +112,7 @@ module _ (hash : List ℕ → ℕ) (keys : List (List ℕ)) (slots : List (Optio
     }
   ]
 
--- a probe has passed no slot, or one more
+-- a probe that has passed no slot
 pub passed_none : (displacements : ℕ → ℕ) (n h : ℕ) → Passed displacements n h 0
 passed_none displacements n h = record { far = λ j lj. absurd (omega arith) }
 

@@ -1,4 +1,4 @@
--- What the end of a probe for a key tells.
+-- The results of the end of a probe for a key.
 use Rattle.std.proofs.Common.{◌≡◌, ◌≢◌, ℕ, ◌%◌, ◌<◌, ◌≤◌, inl, inr, arith, Bool, List, [], ◌∷◌, ◌++◌, length, map, get_or}
 use Rattle.std.proofs.Common.{Option, Some, sym, ap, subst, ◌∙◌}
 use Rattle.std.proofs.lemmas.List.{length-map}
@@ -25,17 +25,17 @@ module _ (hashes : List ℕ) (slots : List (Option ℕ)) (t : IsTable hashes slo
   abbrev longer : List ℕ
   longer = hashes ++ hash ∷ []
 
-  -- the home of the new position is that of its hash
+  -- the home slot of the new index is that of its hash
   home-last : (n : ℕ) → home_at n longer (length hashes) ≡ hash % n
   unfolding home_at
   home-last n = ap (λ x. x % n) (get_or-append_seam hashes hash [] 0)
 
-  -- the residents are displaced so far whether one hash more stands last in the list or not
+  -- the residents are displaced equally with one more hash last in the list
   displacement-longer : (p : ℕ) → p < length slots → displacement longer slots p ≡ displacement hashes slots p
   displacement-longer p lp = displacement-as hashes longer slots p
       (λ i e. get_or-append hashes (hash ∷ []) 0 i (in_list hashes slots t p i lp e))
 
-  -- where a probe for one more ends, it may stand
+  -- a probe for one more ends at a slot that accepts it
   pub may_last : (p m : ℕ) → m < length slots → p ≡ onward (length slots) (hash % length slots) m
       → Passed (displacement hashes slots) (length slots) (hash % length slots) m
       → displacement hashes slots p ≤ m → MayStand longer slots (length hashes) p
@@ -74,7 +74,7 @@ module _ (hash : List ℕ → ℕ) (keys : List (List ℕ)) (slots : List (Optio
   abbrev home : ℕ
   home = home_of hash (length slots) key
 
-  -- what stands in a slot is a position of the list
+  -- a resident is an index of the list
   listed : (p i : ℕ) → p < length slots → resident slots p ≡ Some i → i < length keys
   listed p i lp there = omega (arith, in_list hashes slots t p i lp there, length-map keys hash)
 
@@ -85,7 +85,7 @@ module _ (hash : List ℕ → ℕ) (keys : List (List ℕ)) (slots : List (Optio
       tells.no_it_is i (listed (onward (length slots) home j) i
       (onward-below (length slots) home j (mod-lt (hash key) some) (omega arith)) there) (others j i lj there)
 
-  -- which position it found, or that the key is not there
+  -- the index that it found, or that the key is missing
   pub look_up_ends : IsDistinct keys → 0 < length slots → (end : Probed) (looks : ℕ)
       → Ends slots (displacement hashes slots) home seeks looks end → LookUpEnds hashes keys slots (hash key) key end
   look_up_ends distinct some (Found i p) looks ends =
@@ -114,14 +114,14 @@ module _ (hash : List ℕ → ℕ) (keys : List (List ℕ)) (slots : List (Optio
         (displacement-none hashes slots e.0 e.2) ends.0,
   )
 
-  -- and by how few looks
+  -- and a bound on the inspections
   pub bounded : (c : ℕ) → length slots ≡ slot_count c → (end : Probed) (looks : ℕ)
       → Ends slots (displacement hashes slots) home seeks looks end → IsBounded hash keys slots c key looks
   bounded c size (Found i p) looks ends = bounded_there hash keys slots t c size key ends.0 looks ends.1.within ends.1.looked ends.1.passed
   bounded c size (Vacant p) looks ends = bounded_there hash keys slots t c size key ends.0 looks ends.1.within ends.1.looked ends.1.passed
   bounded c size Full looks ends = bounded_all hash keys slots t c size key looks ends.2 ends.0
 
--- the position that a look-up found is that of the key
+-- the index that a lookup found is that of the key
 pub found_at-ends : (hs : List ℕ) (keys : List (List ℕ)) (slots : List (Option ℕ)) (hash : ℕ) (key : List ℕ) (end : Probed)
     → LookUpEnds hs keys slots hash key end → found_at end ≡ position_of keys key
 found_at-ends hs keys slots hash key (Found i p) told = sym told

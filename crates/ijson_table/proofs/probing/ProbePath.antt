@@ -1,4 +1,4 @@
--- The walk of a look-up.
+-- The walk of a lookup.
 use Rattle.std.proofs.Common.{◌≡◌, ◌≢◌, ℕ, zero, suc, ◌+◌, ◌-◌, ◌%◌, ◌<◌, ◌≤◌, ◌⊎◌, inl, inr, arith, List, [], length, map, get_or, Option}
 use Rattle.std.proofs.Common.{Some, None, refl, ap, ◌∙◌}
 use Rattle.std.proofs.lemmas.Bool.Decides.{nat_tests}
@@ -12,7 +12,7 @@ use Rattle.ijson_table.proofs.arithmetic.Circular.{onward-below, onward-zero, af
 use Rattle.ijson_table.proofs.slots.Residents.{stands, stands_once, times-some}
 
 module _ (hashes : List ℕ) (slots : List (Option ℕ)) where
-  -- a resident is displaced by its distance from home and one
+  -- a resident is displaced by its distance from home plus one
   pub displacement-some : (p i : ℕ) → resident slots p ≡ Some i
       → displacement hashes slots p ≡ distance (length slots) (home_at (length slots) hashes i) p + 1
   unfolding displacement
@@ -23,17 +23,18 @@ module _ (hashes : List ℕ) (slots : List (Option ℕ)) where
   unfolding displacement
   displacement-none p e = ap (displaced (length slots) hashes p) e
 
-  -- what is displaced is a resident
+  -- a displacement is that of a resident
   someone : (p : ℕ) (o : Option ℕ) → 0 < displaced (length slots) hashes p o → (i : ℕ) × (o ≡ Some i)
   someone p None h = absurd (omega (arith, h))
   someone p (Some i) h = (i, refl)
 
-  -- a slot that is displaced has a resident
+  -- a slot with a displacement has a resident
   pub reached : (p : ℕ) → 0 < displacement hashes slots p → (i : ℕ) × (resident slots p ≡ Some i)
   unfolding displacement
   reached p h = someone p (resident slots p) h
 
-  -- on the way from a home, each slot has a resident that is as far from its own home, up to one that has got so far
+  -- on the way from a home slot, each slot has a resident that is as far from its own home slot, up to one that has
+  -- reached that distance
   pub on_the_way : IsOrdered hashes slots → (h p : ℕ) → h < length slots → p < length slots
       → distance (length slots) h p + 1 ≤ displacement hashes slots p
       → (k m : ℕ) → m + k ≡ distance (length slots) h p → m + 1 ≤ displacement hashes slots (onward (length slots) h m)
@@ -50,7 +51,7 @@ module _ (hashes : List ℕ) (slots : List (Option ℕ)) where
       after-onward (length slots) h m lh (omega arith) in
       omega (arith, ordered (onward (length slots) h m) here, ap (displacement hashes slots) next)
 
-  -- the slot k on from an empty one is reached at most k
+  -- the slot k after an empty one is displaced by at most k
   pub from_empty : IsOrdered hashes slots → (e : ℕ) → e < length slots → displacement hashes slots e ≡ 0
       → (k : ℕ) → k < length slots → displacement hashes slots (onward (length slots) e k) ≤ k
   from_empty ordered e le none zero lk = omega (arith, ap (displacement hashes slots) (onward-zero (length slots) e le))
@@ -62,34 +63,34 @@ module _ (hashes : List ℕ) (slots : List (Option ℕ)) where
       let same : onward (length slots) e (k + 1) ≡ onward (length slots) e (suc k) = ap (onward (length slots) e) (omega arith) in
       omega (arith, ordered (onward (length slots) e k) here, ap (displacement hashes slots) next, ap (displacement hashes slots) same)
 
--- what the invariant says of one position
+-- the invariant at one index
 pub placed_at : (hashes : List ℕ) (slots : List (Option ℕ)) → IsTable hashes slots → (i : ℕ) → i < length hashes
     → (p : ℕ) × (p < length slots) × (resident slots p ≡ Some i)
 placed_at hashes slots t i li =
     let one : times i slots ≡ 1 = grind (arith, nat_tests, t.placed i) in
     stands i slots (omega arith)
 
--- no position stands at two slots
+-- no index is in two slots
 pub one_slot : (hashes : List ℕ) (slots : List (Option ℕ)) → IsTable hashes slots → (p q i : ℕ) → p < length slots → q < length slots
     → resident slots p ≡ Some i → resident slots q ≡ Some i → p ≡ q
 one_slot hashes slots t p q i lp lq ep eq =
     let one : times i slots ≤ 1 = grind (arith, nat_tests, t.placed i) in
     stands_once i slots p q one lp lq ep eq
 
--- what stands in a slot is a position of the list
+-- a resident is an index of the list
 pub in_list : (hashes : List ℕ) (slots : List (Option ℕ)) → IsTable hashes slots → (p i : ℕ) → p < length slots → resident slots p ≡ Some i
     → i < length hashes
 in_list hashes slots t p i lp e =
     let some = times-some i slots p lp e in
     grind (arith, nat_tests, t.placed i, some)
 
--- the home of a key, by its hash
+-- the home slot of a key, by its hash
 pub home-key : (hash : List ℕ → ℕ) (n : ℕ) (keys : List (List ℕ)) (i : ℕ) → i < length keys
     → home_at n (map hash keys) i ≡ home_of hash n (get_or keys i [])
 unfolding home_at
 home-key hash n keys i li = ap (λ x. x % n) (get_or-map hash keys i [] 0 li)
 
--- Where a look-up ends at an empty slot, at a resident that is nearer to its home, or after all slots, the key is nowhere.
+-- If a lookup ends at an empty slot, at a resident closer to its home slot, or after all slots, the key is in no slot.
 pub absent : (hash : List ℕ → ℕ) (keys : List (List ℕ)) (slots : List (Option ℕ)) → IsTable (map hash keys) slots → (key : List ℕ) (m : ℕ)
     → 0 < length slots
     → Passed (displacement (map hash keys) slots) (length slots) (home_of hash (length slots) key) m

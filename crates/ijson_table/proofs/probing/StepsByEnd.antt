@@ -1,4 +1,4 @@
--- The steps of a walk for a key, and of putting it where the walk ended, as they follow from where they end.
+-- The steps of a probe for a key and of its insertion there, as they follow from the slots at which they end.
 use Rattle.std.proofs.Common.{◌≡◌, ℕ, ◌+◌, ◌%◌, ◌<◌, ◌≤◌, Bool, List, length, Option, None, arith, ap, sym, subst, ◌∙◌, inl, inr}
 use Rattle.std.proofs.lemmas.Bool.{cases_lt}
 use Rattle.std.proofs.lemmas.Nat.{mod_below}
@@ -14,14 +14,14 @@ use Rattle.ijson_table.proofs.arithmetic.Circular.{distance-onward, distance-res
 use Rattle.ijson_table.proofs.probing.ProbePath.{displacement-none}
 use Rattle.ijson_table.proofs.slots.SlotChanges.{changes-none}
 
--- How a probe from home h by so many looks ended at slot p of n.
+-- How a probe from home slot h ended at slot p of n, after these inspections.
 pub record EndedAt (n h looks p : ℕ) : Type 0 where
   pub there : p < n
   pub looked : distance n h p + 1 ≡ looks
   pub few : looks ≤ n
 
 module _ (slots : List (Option ℕ)) (displacements : ℕ → ℕ) (h : ℕ) (seeks : ℕ → Bool) (home : h < length slots) where
-  -- where a probe ends after m slots, that is how far from home it is
+  -- if a probe ends after m slots, m is the distance from its home slot
   ended_after : (looks p m : ℕ) → EndsAt slots displacements h seeks looks p m → EndedAt (length slots) h looks p
   ended_after looks p m e =
       let n = length slots in
@@ -31,15 +31,16 @@ module _ (slots : List (Option ℕ)) (displacements : ℕ → ℕ) (h : ℕ) (se
         few = omega (arith, e.within, e.looked);
       }
 
-  -- the same at what it seeks
+  -- so it is if it found the target
   pub ended_found : (looks at p : ℕ) → Ends slots displacements h seeks looks (Found at p) → EndedAt (length slots) h looks p
   ended_found looks at p ends = ended_after looks p ends.0 ends.1
 
-  -- and where it does not stand
+  -- and if the target is missing
   pub ended_vacant : (looks p : ℕ) → Ends slots displacements h seeks looks (Vacant p) → EndedAt (length slots) h looks p
   ended_vacant looks p ends = ended_after looks p ends.0 ends.1
 
-  -- An empty slot is no nearer to the home than where the probe ended: the way to it from home leads there first.
+  -- An empty slot is no closer to the home slot than the end of the probe: the way to it from the home slot passes that
+  -- end.
   pub through : (looks p last : ℕ) → Ends slots displacements h seeks looks (Vacant p) → last < length slots → displacements last ≡ 0
       → distance (length slots) h p + distance (length slots) p last ≡ distance (length slots) h last
   through looks p last ends there empty =
@@ -56,7 +57,7 @@ module _ (slots : List (Option ℕ)) (displacements : ℕ → ℕ) (h : ℕ) (se
       ]
 
 module _ (hash : List ℕ → ℕ) (keys : List (List ℕ)) (index : HashIndex) (some : 0 < length index.slots) where
-  -- A new key that is put where the walk for it ended: the last slot that is written tells the steps.
+  -- A new key that is inserted at the end of its probe: the last slot written determines the steps.
   pub counts_new : (h : ℕ) (key : List ℕ) (looks p last far steps : ℕ) (new : HashIndex) → h ≡ hash key
       → Walks index keys h key looks (Vacant p) → last < length index.slots → resident index.slots last ≡ None
       → changes index.slots new.slots ≤ distance (length index.slots) p last + 1
@@ -76,7 +77,7 @@ module _ (hash : List ℕ → ℕ) (keys : List (List ℕ)) (index : HashIndex) 
         counted = omega (arith, ended.looked, way, few, away_is, enough);
       }
 
-  -- A key that is found: the slot of its pair tells the steps.
+  -- A key that is found: the slot of its pair determines the steps.
   pub counts_found : (h : ℕ) (key : List ℕ) (looks at p far steps : ℕ) → h ≡ hash key → Walks index keys h key looks (Found at p)
       → far ≡ distance (length index.slots) (h % length index.slots) p → far + 1 ≤ steps → CountsSteps hash keys key index index steps
   counts_found h key looks at p far steps is walks away_is enough =
@@ -90,7 +91,7 @@ module _ (hash : List ℕ → ℕ) (keys : List (List ℕ)) (index : HashIndex) 
         counted = omega (arith, ended.looked, changes-none index.slots, away_is, enough);
       }
 
-  -- A key that is not there, where no slot is empty: each of them was looked at.
+  -- A missing key if no slot is empty: each slot was inspected.
   pub counts_full : (h : ℕ) (key : List ℕ) (looks steps : ℕ) → h ≡ hash key → Walks index keys h key looks Full → length index.slots ≤ steps
       → CountsSteps hash keys key index index steps
   counts_full h key looks steps is walks enough = record {

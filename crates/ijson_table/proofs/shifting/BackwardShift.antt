@@ -1,4 +1,4 @@
--- What the backward shift of a removal keeps.
+-- Invariants of the backward shift of a removal.
 use Rattle.std.proofs.Common.{◌≡◌, ◌≢◌, ℕ, zero, suc, ◌+◌, ◌<◌, ◌≤◌, inl, inr, arith, List, length, set, Option, Some, None, refl, sym, ap}
 use Rattle.std.proofs.Common.{◌∙◌, get_or-set_other, get_or-set_same}
 use Rattle.std.proofs.lemmas.List.{length-set}
@@ -12,7 +12,7 @@ use Rattle.ijson_table.proofs.probing.ProbePath.{displacement-some, displacement
 use Rattle.ijson_table.proofs.probing.CrowdBound.{home-below}
 use Rattle.ijson_table.proofs.shifting.SlotWrites.{displacement-set_other, displacement-set_some, displacement-set_none}
 
--- a resident is taken out
+-- a resident is removed
 pub gap_from : (hashes : List ℕ) (slots : List (Option ℕ)) (p : ℕ) → p < length slots → IsOrdered hashes slots
     → HasGap hashes (set slots p None) p
 gap_from hashes slots p lp ordered =
@@ -50,7 +50,7 @@ gap_from hashes slots p lp ordered =
           omega (arith, q_same, ap (λ k. displacement hashes slots' (after k p)) size);
     }
 
--- the shift ends before an empty slot, and before a resident at its home
+-- the shift ends before an empty slot, and before a resident at its home slot
 pub gap_closed : (hashes : List ℕ) (slots : List (Option ℕ)) (p : ℕ) → p < length slots → HasGap hashes slots p
     → displacement hashes slots (after (length slots) p) ≤ 1 → IsOrdered hashes slots
 gap_closed hashes slots p lp gap end q lq = elim (cases_eq q p) [
@@ -58,18 +58,18 @@ gap_closed hashes slots p lp gap end q lq = elim (cases_eq q p) [
   | inr other ↦ gap.ordered q lq other
 ]
 
--- The sum over the slots, by which the shift ends.
+-- The sum over the slots, a measure for the termination of the shift.
 pub total : (ℕ → ℕ) → ℕ → ℕ
 total f zero = 0
 total f (suc n) = total f n + f n
 
--- totals of the same values are the same
+-- totals of equal values are equal
 total-same : (f g : ℕ → ℕ) (n : ℕ) → ((q : ℕ) → q < n → f q ≡ g q) → total f n ≡ total g n
 unfolding total
 total-same f g zero h = refl
 total-same f g (suc n) h = let rest = total-same f g n (λ q lq. h q (omega arith)) in omega (arith, rest, h n (omega arith))
 
--- where one value differs, the totals differ by as much
+-- if one value differs, the totals differ by as much
 total-one : (f g : ℕ → ℕ) (n p : ℕ) → p < n → ((q : ℕ) → q ≢ p → g q ≡ f q) → total g n + f p ≡ total f n + g p
 unfolding total
 total-one f g zero p lp h = absurd (omega arith)
@@ -82,7 +82,7 @@ total-one f g (suc n) p lp h = elim (cases_eq p n) [
 pub all_displacements : List ℕ → List (Option ℕ) → ℕ
 all_displacements hashes slots = total (displacement hashes slots) (length slots)
 
--- A step of the shift: the resident of the next slot, which is not at its home, moves to an empty one, and leaves a gap.
+-- A step of the shift: the resident of the next slot, which is not at home, moves to an empty one, and leaves a gap.
 module _ (hashes : List ℕ) (slots : List (Option ℕ)) (p k : ℕ) (lp : p < length slots) (empty : resident slots p ≡ None)
     (there : resident slots (after (length slots) p) ≡ Some k) (far : 1 < displacement hashes slots (after (length slots) p)) where
   abbrev n : ℕ
@@ -112,22 +112,22 @@ module _ (hashes : List ℕ) (slots : List (Option ℕ)) (p k : ℕ) (lp : p < l
   moves : p ≢ p'
   moves = λ e. omega (arith, ap (displacement hashes slots) e, hollow, far)
 
-  -- how far the resident was from its home, and is then
+  -- the distance of the resident from its home slot, before and after
   was : displacement hashes slots p' ≡ distance n (home_at n hashes k) p' + 1
   was = displacement-some hashes slots p' k there
 
   nearer : distance n (home_at n hashes k) p + 1 ≡ distance n (home_at n hashes k) p'
   nearer = distance-back n (home_at n hashes k) p (home-below n hashes k (omega (arith, lp))) lp (omega (arith, was, far))
 
-  -- where it moved to
+  -- the slot that it moved to
   at_mid : displacement hashes mid p ≡ distance n (home_at n hashes k) p + 1
   at_mid = displacement-set_some hashes slots p k lp
 
-  -- and where it stood
+  -- and the slot that it left
   at_last : displacement hashes last p' ≡ 0
   at_last = displacement-set_none hashes mid p' (omega (arith, size_mid, behind_within))
 
-  -- the order is open at the next slot then
+  -- then the order is relaxed at the next slot
   pub moved_back : HasGap hashes slots p → HasGap hashes last p'
   moved_back gap =
       let at_p : displacement hashes last p + 1 ≡ displacement hashes slots p' =
@@ -164,7 +164,7 @@ module _ (hashes : List ℕ) (slots : List (Option ℕ)) (p k : ℕ) (lp : p < l
             omega (arith, goal, here, ap (λ s. displacement hashes last (after s p')) size_last);
       }
 
-  -- each position stands as often as before
+  -- the count of each index is unchanged
   pub times-moved_back : (i : ℕ) → times i last ≡ times i slots
   times-moved_back i =
       let mid_p' : resident mid p' ≡ Some k = get_or-set_other slots p p' (Some k) None (λ e. moves (sym e)) ∙ there in
@@ -176,7 +176,7 @@ module _ (hashes : List ℕ) (slots : List (Option ℕ)) (p k : ℕ) (lp : p < l
         ap (one_if i) mid_p',
       )
 
-  -- and the displacements are less in all
+  -- and the total of the displacements is less
   pub shift_falls : all_displacements hashes last < all_displacements hashes slots
   unfolding all_displacements
   shift_falls =

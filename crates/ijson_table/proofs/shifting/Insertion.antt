@@ -1,4 +1,4 @@
--- What insertion needs of a table of the first positions.
+-- The conditions for insertion into a table of the first indices.
 use Rattle.std.proofs.Common.{◌≡◌, ◌≢◌, ℕ, zero, suc, ◌+◌, ◌-◌, ◌<◌, ◌≤◌, ◌⊎◌, inl, inr, arith, List, [], ◌∷◌, length, set, Option, Some}
 use Rattle.std.proofs.Common.{None, refl, sym, ap, subst, ◌∙◌, get_or-set_other}
 use Rattle.std.specs.Prelude.{sum, ltb, eqb, true, if◌then◌else◌}
@@ -18,7 +18,7 @@ use Rattle.ijson_table.proofs.probing.ProbePath.{displacement-none}
 use Rattle.ijson_table.proofs.shifting.SlotWrites.{put_down, taken_up}
 use Rattle.ijson_table.proofs.probing.LookCount.{ones, sum-ones, one-at, length-ones}
 
--- where each slot has a resident, so has each slot but the first
+-- if each slot has a resident, so has each slot but the first
 later : (i : ℕ) (slots : List (Option ℕ)) → ((p : ℕ) → p < length slots → (j : ℕ) × (resident slots p ≡ Some j)) → (p : ℕ)
     → p < length (Some i ∷ slots) → (j : ℕ) × (resident (Some i ∷ slots) p ≡ Some j)
 later i slots full zero lp = (i, refl)
@@ -34,7 +34,7 @@ empty_or_full (Some i ∷ slots) = elim (empty_or_full slots) [
   | inr full ↦ inr (later i slots full)
 ]
 
--- what stands in a slot is one of the first positions
+-- a resident is one of the first indices
 pub held_below : (count : ℕ) (pending : Option ℕ) (slots : List (Option ℕ))
     → ((i : ℕ) → times i slots + one_if i pending ≡ (if ltb i count then 1 else 0)) → (p i : ℕ) → p < length slots
     → resident slots p ≡ Some i → i < count
@@ -42,7 +42,7 @@ held_below count pending slots placed p i lp e =
     let some = times-some i slots p lp e in
     grind (arith, nat_tests, placed i, some)
 
--- Where no other positions than the first ones stand, none of them twice, and one of them not at all, there is an empty slot.
+-- If the slots hold only first indices, none of them twice, and one of them not at all, there is an empty slot.
 pub some_empty : (slots : List (Option ℕ)) (count k : ℕ) → ((i : ℕ) → times i slots ≤ below count i) → k < count → times k slots ≡ 0
     → count ≤ length slots → HasEmpty slots
 some_empty slots count k few lk none fits = elim (empty_or_full slots) [
@@ -74,7 +74,7 @@ some_empty slots count k few lk none fits = elim (empty_or_full slots) [
       ))
 ]
 
--- where the walk ends, the position may stand
+-- the slot at which the walk ends accepts the index
 pub may_end : (hashes : List ℕ) (slots : List (Option ℕ)) (i m : ℕ) → m < length slots → home_at (length slots) hashes i < length slots
     → Passed (displacement hashes slots) (length slots) (home_at (length slots) hashes i) m
     → displacement hashes slots (onward (length slots) (home_at (length slots) hashes i) m) ≤ m
@@ -96,20 +96,20 @@ may_end hashes slots i m lm lh passed stop =
       ];
     }
 
--- a probe does not go round, where a slot is empty
+-- a probe does not wrap around if a slot is empty
 pub not_round : (displacements : ℕ → ℕ) (n h e : ℕ) → h < n → e < n → displacements e ≡ 0 → Passed displacements n h n → ⊥
 not_round displacements n h e lh le none passed =
     let there : onward n h (distance n h e) ≡ e = onward-distance n h e lh le in
     let far = passed.far (distance n h e) (distance-below n h e lh le) in
     omega (arith, far, ap displacements there, none)
 
--- what the shift keeps from turn to turn
+-- the invariant of the shift
 pub record Shifting (hashes : List ℕ) (wanted : ℕ → ℕ) (pending slot step : ℕ) (slots : List (Option ℕ)) : Type 0 where
   pub held : Holds hashes wanted (Some pending) slots
   pub may : MayStand hashes slots pending slot
   pub ahead : (e : ℕ) × (e < length slots) × (resident slots e ≡ None) × (step + distance (length slots) slot e < length slots)
 
--- the next slot is one nearer
+-- the next slot is one closer
 distance-next : (n p e : ℕ) → p < n → e < n → p ≢ e → distance n (after n p) e + 1 ≡ distance n p e
 unfolding distance after
 distance-next n p e lp le ne = grind (arith, nat_tests)
@@ -119,7 +119,7 @@ ahead_of : (slots : List (Option ℕ)) (slot e next : ℕ) → resident slots e 
 ahead_of slots slot e next empty there = λ same. let bad : ◌≡◌ {A = Option ℕ} (Some next) None =
     sym there ∙ (ap (resident slots) (sym same) ∙ empty) in cc
 
--- where the slot has a resident, there is one to go on to
+-- if the slot has a resident, the shift continues
 pub goes_on : (hashes : List ℕ) (wanted : ℕ → ℕ) (pending slot step next : ℕ) (slots : List (Option ℕ))
     → Shifting hashes wanted pending slot step slots → resident slots slot ≡ Some next → step + 1 < length slots
 goes_on hashes wanted pending slot step next slots s there =
@@ -127,7 +127,7 @@ goes_on hashes wanted pending slot step next slots s there =
     let apart : e ≢ slot = ahead_of slots slot e next s.ahead.2 there in
     omega (arith, s.ahead.3, distance-next (length slots) slot e s.may.within s.ahead.1 (λ same. apart (sym same)))
 
--- one turn of the shift
+-- one iteration of the shift
 pub shift_more : (hashes : List ℕ) (wanted : ℕ → ℕ) (pending slot step next : ℕ) (slots : List (Option ℕ))
     → Shifting hashes wanted pending slot step slots
     → resident slots slot ≡ Some next → Shifting hashes wanted next (after (length slots) slot) (step + 1) (set slots slot (Some pending))
@@ -157,12 +157,12 @@ shift_more hashes wanted pending slot step next slots s there =
       );
     }
 
--- the distance from a home before the slot
+-- the distance from an earlier home slot
 pub distance-on : (n h p : ℕ) → h ≤ p → p - h ≡ distance n h p
 unfolding distance
 distance-on n h p le = grind (arith, nat_tests)
 
--- the distance from a home behind the slot, round the end
+-- the distance from a later home slot, around the end
 pub distance-over : (n h p : ℕ) → p < h → h < n → n - (h - p) ≡ distance n h p
 unfolding distance
 distance-over n h p lt lh = grind (arith, nat_tests)

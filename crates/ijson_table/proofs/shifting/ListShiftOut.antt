@@ -1,4 +1,4 @@
--- A list with one out, and the rest closed up.
+-- A list with one item removed, and later ones moved down.
 use Rattle.std.proofs.Common.{◌≡◌, ℕ, suc, ◌+◌, ◌<◌, inl, inr, arith, List, [], ◌++◌, length, get_or, map, ltb, sym, ap, subst, ◌∙◌}
 use Rattle.std.proofs.Common.{if◌then◌else◌}
 use Rattle.std.specs.List.{remove}
@@ -10,11 +10,11 @@ use Rattle.ijson_table.specs.Store.{keys_of, shift_out, IsDistinct}
 use Rattle.ijson_table.proofs.pairs.DistinctKeys.{apart, distinct}
 use Rattle.ijson_table.proofs.pairs.PairsByKey.{keys-length}
 
--- which position of a list a position was before another one went
+-- the old index of an item after another one was removed
 abbrev pub raise : ℕ → ℕ → ℕ
 raise gone i = (if ltb i gone then i else i + 1)
 
--- what stands behind the one that went is one further back
+-- items after the removed one are at one index less
 pub get_or-remove : {X : Type 0} (xs : List X) (gone i : ℕ) (d : X) → gone < length xs
     → get_or (remove xs gone) i d ≡ get_or xs (raise gone i) d
 get_or-remove xs gone i d lg = elim (cases_lt i gone) [
@@ -24,12 +24,12 @@ get_or-remove xs gone i d lg = elim (cases_lt i gone) [
       get_or-remove_above xs gone d i ge lg ∙ ap (λ n. get_or xs n d) (sym same)
 ]
 
--- a map of the list without one is the map without it
+-- mapping and removing commute
 pub map-remove : {X Y : Type 0} (f : X → Y) (xs : List X) (i : ℕ) → map f (remove xs i) ≡ remove (map f xs) i
 map-remove f xs i = map-append f _ _ ∙ (λ k. sym (take-map f i xs) k ++ sym (drop-map f (suc i) xs) k)
 
 module _ {V : Type 0} where
-  -- the keys once a pair is out
+  -- the keys after a pair is removed
   pub keys-shift_out : (pairs : List (List ℕ × V)) (i : ℕ) → keys_of (shift_out pairs i) ≡ remove (keys_of pairs) i
   keys-shift_out pairs i = map-remove (λ pair. pair.0) pairs i
 

@@ -1,4 +1,4 @@
--- A list of numbers with one out, and the last one in its place.
+-- A list of numbers with one removed, and the last one in its place.
 use Rattle.std.proofs.Common.{◌≡◌, ◌≢◌, ℕ, ◌+◌, ◌-◌, ◌<◌, arith, List, length, get_or, set, ◌∙◌, get_or-set_other, get_or-set_same}
 use Rattle.std.proofs.Common.{length-take}
 use Rattle.std.specs.List.{swap_remove}
@@ -9,7 +9,7 @@ pub length-swap_remove : (xs : List ℕ) (i : ℕ) → i < length xs → length 
 length-swap_remove xs i li =
     omega (arith, length-take (length xs - 1) (set xs i (get_or xs (length xs - 1) 0)), length-set xs i (get_or xs (length xs - 1) 0))
 
--- the last one stands where the one that went stood
+-- the last one takes the index of the removed one
 pub swap_remove-same : (xs : List ℕ) (i : ℕ) → i + 1 < length xs → get_or (swap_remove xs i 0) i 0 ≡ get_or xs (length xs - 1) 0
 swap_remove-same xs i li =
     get_or-take (length xs - 1) (set xs i (get_or xs (length xs - 1) 0)) i 0 (omega arith)

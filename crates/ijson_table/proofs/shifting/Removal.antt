@@ -1,4 +1,4 @@
--- What a removal leaves.
+-- The effect of a removal.
 use Rattle.std.proofs.Common.{◌≡◌, ◌≢◌, ℕ, ◌+◌, ◌%◌, ◌<◌, ◌≤◌, inl, inr, arith, List, [], ◌∷◌, ◌++◌, length, get_or, set, Option, Some}
 use Rattle.std.proofs.Common.{None, refl, sym, ap, ◌∙◌}
 use Rattle.std.proofs.lemmas.Bool.Decides.{nat_tests}
@@ -17,16 +17,16 @@ use Rattle.ijson_table.proofs.shifting.Insertion.{held_below}
 use Rattle.ijson_table.proofs.shifting.SlotWrites.{displacement-set_some, displacement-set_other}
 use Rattle.ijson_table.proofs.probing.ProbePath.{displacement-some, displacement-none}
 
--- a table is one of all positions, with none in pending
+-- a table holds all indices, with none pending
 holds-table : (hashes : List ℕ) (slots : List (Option ℕ)) → IsTable hashes slots → Holds hashes (below (length hashes)) None slots
 holds-table hashes slots t = record { ordered = t.ordered; placed = λ i. omega (arith, t.placed i) }
 
--- what holds each of the first positions is a table
+-- slots that hold each of the first indices are a table
 pub table-holds : (hashes : List ℕ) (count : ℕ) (slots : List (Option ℕ)) → count ≡ length hashes → Holds hashes (below count) None slots
     → IsTable hashes slots
 table-holds hashes count slots is held = record { ordered = held.ordered; placed = λ i. grind (arith, nat_tests, held.placed i, is) }
 
--- each position but the one in pending stands somewhere
+-- each index but the pending one is in a slot
 pub stands_still : (hashes : List ℕ) (count gone : ℕ) (slots : List (Option ℕ)) → Holds hashes (below count) (Some gone) slots → (i : ℕ)
     → i < count → i ≢ gone → (p : ℕ) × (p < length slots) × (resident slots p ≡ Some i)
 stands_still hashes count gone slots held i li ne =
@@ -34,7 +34,7 @@ stands_still hashes count gone slots held i li ne =
     let one : times i slots ≡ 1 = grind (arith, nat_tests, held.placed i, none) in
     stands i slots (omega arith)
 
--- a resident is not the one in pending
+-- a resident is not the pending one
 pub not_pending : (hashes : List ℕ) (count gone : ℕ) (slots : List (Option ℕ)) → Holds hashes (below count) (Some gone) slots → (p k : ℕ)
     → p < length slots → resident slots p ≡ Some k → k ≢ gone
 not_pending hashes count gone slots held p k lp e = λ same.
@@ -42,12 +42,12 @@ not_pending hashes count gone slots held p k lp e = λ same.
     let some = times-some k slots p lp e in
     grind (arith, nat_tests, held.placed k, one, some)
 
--- no position stands at two slots
+-- no index is in two slots
 pub held_once : (hashes : List ℕ) (count : ℕ) (pending : Option ℕ) (slots : List (Option ℕ)) → Holds hashes (below count) pending slots
     → (i : ℕ) → times i slots ≤ 1
 held_once hashes count pending slots held i = grind (arith, nat_tests, held.placed i)
 
--- other hashes that are the same there displace alike
+-- hashes that agree there displace equally
 displaced-as : (n : ℕ) (hashes hashes' : List ℕ) (p : ℕ) (o : Option ℕ) → ((i : ℕ) → o ≡ Some i → get_or hashes' i 0 ≡ get_or hashes i 0)
     → displaced n hashes' p o ≡ displaced n hashes p o
 unfolding home_at
@@ -61,7 +61,7 @@ pub displacement-as : (hashes hashes' : List ℕ) (slots : List (Option ℕ)) (p
 unfolding displacement
 displacement-as hashes hashes' slots p same = displaced-as (length slots) hashes hashes' p (resident slots p) same
 
--- other hashes where nothing refers to them
+-- other hashes to which nothing refers
 other_hashes : (hashes hashes' : List ℕ) (count : ℕ) (pending : Option ℕ) (slots : List (Option ℕ))
     → Holds hashes (below count) pending slots
     → ((p i : ℕ) → p < length slots → resident slots p ≡ Some i → get_or hashes' i 0 ≡ get_or hashes i 0)
@@ -77,13 +77,13 @@ other_hashes hashes hashes' count pending slots held same = record {
   placed = held.placed;
 }
 
--- positions of one hash have one home
+-- indices of one hash have one home slot
 home-as : (n : ℕ) (hashes hashes' : List ℕ) (i j : ℕ) → get_or hashes' i 0 ≡ get_or hashes j 0 → home_at n hashes' i ≡ home_at n hashes j
 unfolding home_at
 home-as n hashes hashes' i j e = ap (λ x. x % n) e
 
 module _ (hashes : List ℕ) (slots : List (Option ℕ)) where
-  -- the last pair was taken out
+  -- the last pair was removed
   pub last_out : (i : ℕ) → i + 1 ≡ length hashes → Holds hashes (below (length hashes)) (Some i) slots → IsTable (remove hashes i) slots
   last_out i last held =
       let size : length (remove hashes i) + 1 ≡ length hashes = length-remove hashes i (omega arith) in
@@ -107,7 +107,7 @@ module _ (hashes : List ℕ) (slots : List (Option ℕ)) where
         ];
       }
 
-  -- another was taken out, and the last one, which stands at p, gets its number
+  -- another was removed, and the last one, at slot p, gets its number
   pub renamed : (i p last : ℕ) → last + 1 ≡ length hashes → i < last → p < length slots → resident slots p ≡ Some last
       → Holds hashes (below (length hashes)) (Some i) slots → IsTable (swap_remove hashes i 0) (set slots p (Some i))
   renamed i p last is li lp there held =
@@ -166,7 +166,7 @@ module _ (hashes : List ℕ) (slots : List (Option ℕ)) where
             ];
       }
 
--- a position that stands in no slot is not counted
+-- an index in no slot is not counted
 pub times-none : (i : ℕ) (slots : List (Option ℕ)) → ((p : ℕ) → p < length slots → resident slots p ≡ None) → times i slots ≡ 0
 times-none i slots empty = elim (cases_lt 0 (times i slots)) [
   | inl some ↦
@@ -185,7 +185,7 @@ holds_none hashes slots empty = record {
   placed = λ i. grind (arith, nat_tests, times-none i slots empty);
 }
 
--- one hash more behind the others
+-- one more hash after the others
 pub holds_pushed : (hashes : List ℕ) (hash : ℕ) (slots : List (Option ℕ)) → IsTable hashes slots
     → Holds (hashes ++ hash ∷ []) (below (length hashes)) None slots
 holds_pushed hashes hash slots t = other_hashes hashes (hashes ++ hash ∷ []) (length hashes) None slots (holds-table hashes slots t)

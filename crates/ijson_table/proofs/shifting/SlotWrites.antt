@@ -1,4 +1,4 @@
--- What the shifts of an insertion and of a removal keep.
+-- Invariants of the shifts of an insertion and of a removal.
 use Rattle.std.proofs.Common.{◌≡◌, ◌≢◌, ℕ, ◌+◌, ◌<◌, ◌≤◌, inl, inr, arith, List, length, set, Option, Some, None, sym, ap, ◌∙◌}
 use Rattle.std.proofs.Common.{get_or-set_other, get_or-set_same}
 use Rattle.std.proofs.lemmas.Bool.Decides.{nat_tests}
@@ -14,7 +14,7 @@ use Rattle.ijson_table.proofs.probing.ProbePath.{displacement-some, from_empty}
 use Rattle.ijson_table.proofs.probing.CrowdBound.{home-below}
 
 module _ (hashes : List ℕ) (slots : List (Option ℕ)) where
-  -- a slot that is written is displaced by what was written
+  -- a slot that is written is displaced by the index written
   displacement-set_same : (p : ℕ) (o : Option ℕ) → p < length slots
       → displacement hashes (set slots p o) p ≡ displaced (length slots) hashes p o
   unfolding displacement
@@ -27,7 +27,7 @@ module _ (hashes : List ℕ) (slots : List (Option ℕ)) where
   displacement-set_other p q o ne = ap (λ n. displaced n hashes q (resident (set slots p o) q)) (length-set slots p o)
       ∙ ap (displaced (length slots) hashes q) (get_or-set_other slots p q o None ne)
 
-  -- a position that is written is displaced from its own home
+  -- an index that is written is displaced from its own home slot
   pub displacement-set_some : (p k : ℕ) → p < length slots
       → displacement hashes (set slots p (Some k)) p ≡ distance (length slots) (home_at (length slots) hashes k) p + 1
   displacement-set_some p k lp = displacement-set_same p (Some k) lp
@@ -36,7 +36,7 @@ module _ (hashes : List ℕ) (slots : List (Option ℕ)) where
   pub displacement-set_none : (p : ℕ) → p < length slots → displacement hashes (set slots p None) p ≡ 0
   displacement-set_none p lp = displacement-set_same p None lp
 
--- one slot gets more, though not too much
+-- a slot may be written with a greater displacement, if it is at most one more than that of the previous slot
 raised : (hashes : List ℕ) (slots : List (Option ℕ)) (p : ℕ) (o : Option ℕ) → p < length slots → IsOrdered hashes slots
     → displacement hashes slots p ≤ displacement hashes (set slots p o) p
     → ((q : ℕ) → q < length slots → after (length slots) q ≡ p → displacement hashes (set slots p o) p ≤ displacement hashes slots q + 1)
@@ -70,8 +70,8 @@ raised hashes slots p o lp ordered more bound q lq =
     ] in
     omega (arith, goal, ap (λ k. displacement hashes slots' (after k q)) size)
 
--- The one in pending is put down where it is at least as far from its home as the resident, and not too far. Who stood there is
--- in pending then.
+-- The pending index is put where it is at least as far from its home slot as the resident, and not too far. Then that
+-- resident is pending.
 pub put_down : (hashes : List ℕ) (wanted : ℕ → ℕ) (slots : List (Option ℕ)) (k p : ℕ) → p < length slots
     → Holds hashes wanted (Some k) slots
     → MayStand hashes slots k p → Holds hashes wanted (resident slots p) (set slots p (Some k))
@@ -84,12 +84,12 @@ put_down hashes wanted slots k p lp held may =
       placed = λ i. omega (arith, times-set i slots p (Some k) lp, held.placed i);
     }
 
--- only one slot is followed by itself, and then there is no other
+-- only a single slot follows itself, and then there is no other
 apart_of : (n e p : ℕ) → p < n → e < n → after n p ≡ p → (e ≢ p) → ⊥
 unfolding after
 apart_of n e p lp le same ne = ne (grind (arith, nat_tests))
 
--- Where some slot is empty, the one that was taken up may be put down at the next slot.
+-- If some slot is empty, the index that was taken up may be put into the next slot.
 pub taken_up : (hashes : List ℕ) (slots : List (Option ℕ)) (k j p e : ℕ) → p < length slots → e < length slots → IsOrdered hashes slots
     → displacement hashes slots e ≡ 0 → resident slots p ≡ Some j
     → displacement hashes slots p ≤ distance (length slots) (home_at (length slots) hashes k) p + 1

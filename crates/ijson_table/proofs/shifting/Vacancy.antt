@@ -1,7 +1,7 @@
--- Where a probe for a key that stands nowhere ends, its position may stand.
+-- The slot at which a probe for a missing key ends accepts its index.
 use Rattle.std.proofs.Common.{◌≡◌, ◌%◌, ◌<◌, ℕ, List, length, get_or, arith, ap, sym, subst, ◌∙◌}
 use Rattle.std.proofs.Math.Nat.{mod-lt}
-use Rattle.ijson_table.specs.declared.index.slot.Slot.{Slot}
+use Rattle.ijson_table.specs.declared.slot.Slot.{Slot}
 use Rattle.ijson_table.specs.Slots.{displacement, home_at}
 use Rattle.ijson_table.specs.private.Holds.{MayStand}
 use Rattle.ijson_table.specs.private.Insertion.{Accepts}
@@ -11,12 +11,12 @@ use Rattle.ijson_table.proofs.shifting.Insertion.{may_end}
 use Rattle.ijson_table.proofs.slots.HashesInSlots.{positions-length, displacement-in}
 use Rattle.ijson_table.proofs.arithmetic.Circular.{onward-below}
 
--- the home of a key by its hash
+-- the home slot of a key by its hash
 pub home_here : (hashes : List ℕ) (n position hash : ℕ) → hash ≡ get_or hashes position 0 → hash % n ≡ home_at n hashes position
 unfolding home_at
 home_here hashes n position hash is = ap (λ x. x % n) is
 
--- where the probe for it ended, the position may stand
+-- the slot at which the probe for it ended accepts the index
 pub may_stand : (hashes : List ℕ) (slots : List Slot) (position hash p : ℕ) → Accepts hashes slots position hash
     → IsVacancy (displacement_in slots) (length slots) (hash % length slots) p → MayStand hashes (positions slots) position p
 may_stand hashes slots position hash p accepts vacancy =

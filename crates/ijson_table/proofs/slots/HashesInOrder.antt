@@ -1,11 +1,11 @@
--- The hashes of the positions are those that stand beside them.
+-- The hashes of the indices are those stored with them.
 use Rattle.std.proofs.Common.{◌≡◌, ℕ, zero, suc, ◌+◌, ◌<◌, ◌≤◌, ◌^◌, inl, inr, arith, List, [], ◌∷◌, length, get_or, drop, Some, None, true}
 use Rattle.std.proofs.Common.{false, cond, refl, sym, ap, subst, ◌∙◌, drop-cons}
 use Rattle.std.specs.Prelude.{if◌then◌else◌}
 use Rattle.std.proofs.lemmas.Bool.Decides.{nat_tests}
 use Rattle.std.proofs.lemmas.Bool.{cases_lt}
 use Rattle.std.proofs.lemmas.List.{drop_all}
-use Rattle.ijson_table.specs.declared.index.slot.Slot.{Slot}
+use Rattle.ijson_table.specs.declared.slot.Slot.{Slot}
 use Rattle.ijson_table.specs.Slots.{holds, times, below, IsTable}
 use Rattle.ijson_table.specs.private.Holds.{one_if}
 use Rattle.ijson_table.specs.private.SlotHashes.{position_in, positions, blank, HaveHashes, hash_beside, first_and, hashes_from, hashes_of}
@@ -13,11 +13,11 @@ use Rattle.ijson_table.specs.private.Insertion.{IsTableOf}
 use Rattle.ijson_table.specs.private.HashIndex.{IsIndex}
 use Rattle.ijson_table.proofs.slots.Residents.{held, times-nil, times-cons}
 
--- the slots behind the first have their hashes too
+-- the slots after the first have their hashes too
 tail : (hashes : List ℕ) (slot : Slot) (slots : List Slot) → HaveHashes hashes (slot ∷ slots) → HaveHashes hashes slots
 tail hashes slot slots have = λ k d lk. have (suc k) d (omega (arith, lk))
 
--- beside a position that stands somewhere is its hash
+-- an index in a slot is stored with its hash
 beside-some : (hashes : List ℕ) (slots : List Slot) (i : ℕ) → HaveHashes hashes slots → 0 < times i (positions slots)
     → hash_beside i slots ≡ Some (get_or hashes i 0)
 unfolding hash_beside
@@ -35,7 +35,7 @@ beside-some hashes (slot ∷ slots) i have some =
           (omega (arith, some, none, times-cons i (position_in slot) (positions slots)))
     ] refl
 
--- beside one that stands nowhere is none
+-- an index in no slot has none
 beside-none : (slots : List Slot) (i : ℕ) → times i (positions slots) ≡ 0 → hash_beside i slots ≡ None
 unfolding hash_beside
 beside-none [] i none = refl
@@ -50,7 +50,7 @@ beside-none (slot ∷ slots) i none =
 
 module _ (hashes : List ℕ) (slots : List Slot) (have : HaveHashes hashes slots)
     (placed : (i : ℕ) → times i (positions slots) ≡ below (length hashes) i) where
-  -- the hashes from a position on are the rest of the list
+  -- the hashes from an index on are the rest of the list
   from : (most i : ℕ) → i ≤ length hashes → length hashes ≤ i + most → hashes_from most i slots ≡ drop i hashes
   unfolding hashes_from
   from zero i le fits = sym (drop_all i hashes (omega arith))
@@ -66,17 +66,17 @@ module _ (hashes : List ℕ) (slots : List Slot) (have : HaveHashes hashes slots
         ap (λ o. first_and o (hashes_from most (i + 1) slots)) (beside-none slots i never) ∙ sym (drop_all i hashes all)
   ]
 
--- where each position stands once, beside its hash, they are the hashes of the list
+-- if each index is in one slot, with its hash, they are the hashes of the list
 pub hashes_of-placed : (hashes : List ℕ) (slots : List Slot) → HaveHashes hashes slots
     → ((i : ℕ) → times i (positions slots) ≡ below (length hashes) i) → length hashes ≤ length slots → hashes_of slots ≡ hashes
 hashes_of-placed hashes slots have placed fits = from hashes slots have placed (length slots) 0 (omega arith) (omega (arith, fits))
 
--- where the slots are a table of these hashes, and each stands beside its position, they are the hashes of the list
+-- if the slots are a table of these hashes, each stored with its index, they are the hashes of the list
 pub hashes_of-table : (hashes : List ℕ) (slots : List Slot) → IsTable hashes (positions slots) → HaveHashes hashes slots
     → length hashes ≤ length slots → hashes_of slots ≡ hashes
 hashes_of-table hashes slots table have fits = from hashes slots have table.placed (length slots) 0 (omega arith) (omega (arith, fits))
 
--- so the slots are an index with these hashes
+-- so the slots are a hash index with these hashes
 pub index_of : (hashes : List ℕ) (slots : List Slot) → IsTable hashes (positions slots) → HaveHashes hashes slots
     → length hashes ≤ length slots → length slots < 2 ^ 64 → IsIndex slots
 index_of hashes slots table have fits limited =

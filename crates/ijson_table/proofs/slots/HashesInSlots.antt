@@ -1,43 +1,48 @@
--- The hashes that slots have beside positions.
+-- The hashes that slots store with indices.
 use Rattle.std.proofs.Common.{◌≡◌, ◌≢◌, zero, suc, Bool, inl, inr, get_or-set_other, get_or-set_same, ℕ, ◌<◌, ◌%◌, ◌+◌, arith, List, length}
-use Rattle.std.proofs.Common.{get_or, set, Option, Some, None, refl, ap, sym, subst, ◌∙◌}
+use Rattle.std.proofs.Common.{get_or, map, set, Option, Some, None, refl, ap, sym, subst, ◌∙◌}
 use Rattle.std.specs.List.{All, slice_index_or}
 use Rattle.std.proofs.lemmas.List.{get_or-map, length-map, length-set, map-set}
 use Rattle.std.proofs.lemmas.List.Elements.{All-get_or, All-from_get_or, All-set}
 use Rattle.std.proofs.lemmas.Bool.{cases_eq}
-use Rattle.ijson_table.specs.declared.index.slot.Slot.{Slot}
+use Rattle.ijson_table.specs.declared.slot.Slot.{Slot}
 use Rattle.ijson_table.specs.Crowd.{distance}
 use Rattle.ijson_table.specs.Slots.{home_at, displaced, displacement, resident}
 use Rattle.ijson_table.proofs.probing.ProbePath.{displacement-some}
 use Rattle.ijson_table.specs.private.SlotHashes.{position_in, positions, blank, coded_position, displaced_by, displacement_in, HasHash}
 use Rattle.ijson_table.specs.private.SlotHashes.{HaveHashes, SeenAs}
 use Rattle.ijson_table.specs.private.Probe.{LooksAt}
-use Rattle.ijson_table.specs.declared.index.places.Seen.{Seen}
-use Rattle.ijson_table.specs.declared.index.places.Seen.TheVariants.{Empty, Resident}
+use Rattle.ijson_table.specs.declared.slot.Seen.{Seen}
+use Rattle.ijson_table.specs.declared.slot.Seen.TheVariants.{Empty, Resident}
 
--- there are as many positions as slots
+-- the number of indices is that of slots
 pub positions-length : (slots : List Slot) → length (positions slots) ≡ length slots
 positions-length slots = length-map slots position_in
 
--- a slot that is written has the position written
+-- a slot that is written has the index written
 pub positions-set : (slots : List Slot) (p : ℕ) (slot : Slot) → positions (set slots p slot) ≡ set (positions slots) p (position_in slot)
 positions-set slots p slot = map-set position_in slots p slot
 
--- a slot put down where its position is known
+-- a slot written with a known index
 pub positions-put : (slots : List Slot) (p : ℕ) (slot : Slot) (i : ℕ) → position_in slot ≡ Some i
     → positions (set slots p slot) ≡ set (positions slots) p (Some i)
 positions-put slots p slot i at = positions-set slots p slot ∙ ap (set (positions slots) p) at
 
--- what a read of a slot told
+-- the value of a slot that was read
 pub position-at : (slots : List Slot) (p : ℕ) (read : Option ℕ) → p < length slots → read ≡ position_in (get_or slots p blank)
     → resident (positions slots) p ≡ read
 position-at slots p read lp is = get_or-map position_in slots p blank None lp ∙ sym is
 
--- where nothing stands, there is nothing to tell
+-- a stored slot that was read, as the slot that it represents
+pub seen_at : {X : Type 0} (f : X → Slot) (slots : List X) (p : ℕ) (read : X) → p < length (map f slots) → read ≡ get_or slots p read
+    → f read ≡ get_or (map f slots) p blank
+seen_at f slots p read lp is = ap f is ∙ sym (get_or-map f slots p read blank (omega (arith, lp, length-map slots f)))
+
+-- an empty slot has no hash to check
 pub nothing_has_hash : (hashes : List ℕ) (slot : Slot) → position_in slot ≡ None → HasHash hashes slot
 nothing_has_hash hashes slot none i e = let bad : ◌≡◌ {A = Option ℕ} (Some i) None = sym e ∙ none in cc
 
--- the one position that stands there has this hash
+-- the one index in the slot has this hash
 pub has_own_hash : (hashes : List ℕ) (slot : Slot) (i : ℕ) → position_in slot ≡ Some i → slot.hash ≡ get_or hashes i 0 → HasHash hashes slot
 has_own_hash hashes slot i at is k e =
     let who : ◌≡◌ {A = Option ℕ} (Some i) (Some k) = sym at ∙ e in
@@ -54,12 +59,12 @@ module _ (hashes : List ℕ) where
       → HaveHashes hashes (set slots p slot)
   hashes-set slots p slot has have = All-set (HasHash hashes) slots p slot has have
 
-  -- the stored hash gives the home
+  -- the stored hash gives the home slot
   hash-home : (n i : ℕ) (slot : Slot) → HasHash hashes slot → position_in slot ≡ Some i → slot.hash % n ≡ home_at n hashes i
   unfolding home_at
   hash-home n i slot has at = ap (λ h. h % n) (has i at)
 
-  -- so it tells how far a slot is from the home of who stands there
+  -- so it gives the distance of a slot from the home slot of its resident
   pub hash-distance : (n p i d : ℕ) (slot : Slot) → HasHash hashes slot → position_in slot ≡ Some i → d ≡ distance n (slot.hash % n) p
       → d ≡ distance n (home_at n hashes i) p
   hash-distance n p i d slot has at is = is ∙ ap (λ h. distance n h p) (hash-home n i slot has at)
@@ -82,7 +87,7 @@ module _ (hashes : List ℕ) where
       ∙ (ap (λ n. displaced n hashes p (position_in slot)) size
       ∙ ap (displaced (length (positions slots)) hashes p) (sym (position-at slots p (position_in slot) lp refl)))
 
-  -- a distance that was computed tells the displacement
+  -- a computed distance gives the displacement
   pub displacement-read : (slots : List Slot) (p i d : ℕ) → HaveHashes hashes slots → p < length slots
       → Some i ≡ position_in (get_or slots p blank) → d ≡ distance (length slots) ((get_or slots p blank).hash % length slots) p
       → displacement hashes (positions slots) p ≡ d + 1
@@ -102,12 +107,12 @@ module _ (hashes : List ℕ) where
   pub hashes-none : (slots : List Slot) → All (λ slot. position_in slot ≡ None) slots → HaveHashes hashes slots
   hashes-none slots empty = λ p d lp. nothing_has_hash hashes (slice_index_or slots p d) (empty p d lp)
 
-  -- the same, of other hashes that are the same there
+  -- one slot, with other hashes that agree there
   has_hash-as : (hashes' : List ℕ) (slot : Slot) → HasHash hashes slot
       → ((i : ℕ) → position_in slot ≡ Some i → get_or hashes' i 0 ≡ get_or hashes i 0) → HasHash hashes' slot
   has_hash-as hashes' slot has same i e = has i e ∙ sym (same i e)
 
-  -- other hashes, where no slot refers to them
+  -- other hashes to which no slot refers
   pub hashes-as : (hashes' : List ℕ) (slots : List Slot) → HaveHashes hashes slots
       → ((p i : ℕ) → p < length (positions slots) → resident (positions slots) p ≡ Some i → get_or hashes' i 0 ≡ get_or hashes i 0)
       → HaveHashes hashes' slots
@@ -115,7 +120,7 @@ module _ (hashes : List ℕ) where
       has_hash-as hashes' (get_or slots p blank) (hashes-at slots p have lp)
       (λ i e. same p i (omega (arith, lp, positions-length slots)) (position-at slots p (Some i) lp (sym e))))
 
-  -- other hashes, where one slot at most refers to them, which is put down anew
+  -- other hashes to which at most one slot refers, which is rewritten
   pub hashes-put : (hashes' : List ℕ) (slots : List Slot) (p : ℕ) (slot : Slot) → HaveHashes hashes slots → HasHash hashes' slot
       → ((q i : ℕ) → q < length (positions slots) → q ≢ p → resident (positions slots) q ≡ Some i → get_or hashes' i 0 ≡ get_or hashes i 0)
       → HaveHashes hashes' (set slots p slot)
@@ -129,7 +134,7 @@ module _ (hashes : List ℕ) where
             (λ i e. same q i (omega (arith, lq, positions-length slots)) other (position-at slots q (Some i) lq (sym e))))
       ])
 
--- nothing stands in empty slots
+-- empty slots have no residents
 pub all_empty : (slots : List Slot) → All (λ slot. position_in slot ≡ None) slots → (p : ℕ) → p < length (positions slots)
     → resident (positions slots) p ≡ None
 all_empty slots empty p lp =
@@ -142,13 +147,13 @@ displaced_by-none : (n p : ℕ) (slot : Slot) (code : ℕ) → coded_position co
 displaced_by-none n p slot zero e = refl
 displaced_by-none n p slot (suc i) e = cc
 
--- a resident is displaced by its distance and one
+-- a resident is displaced by its distance plus one
 displaced_by-some : (n p : ℕ) (slot : Slot) (code i : ℕ) → coded_position code ≡ Some i
     → displaced_by n p slot code ≡ distance n (slot.hash % n) p + 1
 displaced_by-some n p slot zero i e = cc
 displaced_by-some n p slot (suc j) i e = refl
 
--- what a look at a slot tells a probe
+-- the result of an inspection, for a probe
 pub looks_at : (slots : List Slot) (p : ℕ) (same : Bool) (seeks : ℕ → Bool) (seen : Seen) → p < length slots
     → SeenAs (get_or slots p blank) (length slots) p same seen
     → ((i : ℕ) → position_in (get_or slots p blank) ≡ Some i → same ≡ seeks i)
@@ -164,7 +169,7 @@ looks_at slots p same seeks (Resident i d sought) lp seen is = (
   seen.2 ∙ is i seen.0,
 )
 
--- and so is an empty slot of a list
+-- an empty slot of a list is not displaced
 pub displacement_in-none : (slots : List Slot) (p : ℕ) → p < length slots → resident (positions slots) p ≡ None
     → displacement_in slots p ≡ 0
 unfolding displacement_in

@@ -6,7 +6,7 @@ use Rattle.std.proofs.lemmas.Bool.Decides.{nat_tests}
 use Rattle.std.proofs.lemmas.List.Elements.{All-from_get_or}
 use Rattle.std.proofs.Math.ListN.{get_or-append}
 use Rattle.std.proofs.Math.Seq.{get_or-append_seam}
-use Rattle.ijson_table.specs.declared.index.slot.Slot.{Slot}
+use Rattle.ijson_table.specs.declared.slot.Slot.{Slot}
 use Rattle.ijson_table.specs.Slots.{times, below}
 use Rattle.ijson_table.specs.private.Holds.{with_one, HasEmpty, Holds}
 use Rattle.ijson_table.specs.private.Insertion.{Accepts, IsTableOf}
@@ -35,7 +35,7 @@ pub record IsIndexOf (hashes : List ℕ) (slots : List Slot) : Type 0 where
   pub index : IsIndex slots
   pub is : hashes_of slots ≡ hashes
 
--- slots that are a table of hashes are an index with these
+-- slots that are a table of hashes are a hash index with these
 pub index_is : (hashes : List ℕ) (slots : List Slot) → IsTableOf hashes slots → length slots < 2 ^ 64 → IsIndexOf hashes slots
 index_is hashes slots are limited =
     let fits : length hashes ≤ length slots =
@@ -45,13 +45,13 @@ index_is hashes slots are limited =
       is = hashes_of-table hashes slots are.table are.hashes_are fits;
     }
 
--- where no position stands
+-- if there is no index in any slot
 pub empty_index : (slots : List Slot) → All (λ slot. position_in slot ≡ None) slots → length slots < 2 ^ 64 → IsIndexOf [] slots
 empty_index slots empty limited =
     let held : Holds [] (below 0) None (positions slots) = holds_none [] (positions slots) (all_empty slots empty) in
     index_is [] slots (record { table = table-holds [] 0 (positions slots) refl held; hashes_are = hashes-none [] slots empty }) limited
 
--- where no position has a hash, nothing stands at any slot
+-- if no index has a hash, all slots are empty
 nothing_there : (slots : List Slot) → IsIndex slots → hashes_of slots ≡ [] → (p : ℕ) → p < length slots → (read : Option ℕ)
     → read ≡ position_in (get_or slots p blank) → position_in (get_or slots p blank) ≡ None
 nothing_there slots index none p lp None e = sym e
@@ -60,7 +60,7 @@ nothing_there slots index none p lp (Some i) e =
     let never : times i (positions slots) ≡ below 0 i = index.table.table.placed i ∙ ap (λ hs. below (length hs) i) none in
     absurd (grind (arith, nat_tests, one, never))
 
--- where there is no hash, each slot is empty
+-- if there is no hash, each slot is empty
 pub each_empty : (slots : List Slot) → IsIndex slots → hashes_of slots ≡ [] → All (λ slot. position_in slot ≡ None) slots
 each_empty slots index none = All-from_get_or (λ slot. position_in slot ≡ None) slots blank
     (λ p lp. nothing_there slots index none p lp (position_in (get_or slots p blank)) refl)
@@ -70,7 +70,7 @@ module _ (slots : List Slot) (index : IsIndex slots) (position hash : ℕ) (next
   abbrev hashes : List ℕ
   hashes = hashes_of slots
 
-  -- a slot is empty where there is room
+  -- a slot is empty if there are more slots than hashes
   some_slot_empty : HasEmpty (positions slots)
   some_slot_empty =
       let few : (i : ℕ) → times i (positions slots) ≤ below (length hashes + 1) i =
@@ -79,7 +79,7 @@ module _ (slots : List Slot) (index : IsIndex slots) (position hash : ℕ) (next
       some_empty (positions slots) (length hashes + 1) (length hashes) few (omega arith) none
       (omega (arith, next, room, positions-length slots))
 
-  -- one position more may be put into them
+  -- one more index may be inserted into them
   pub accepts : Accepts (hashes ++ hash ∷ []) slots position hash
   accepts = record {
     fits = omega (arith, room, index.limited);

@@ -1,10 +1,10 @@
--- What fits the three bytes of a narrow slot.
+-- Values that fit the three bytes of a narrow slot.
 use Rattle.std.proofs.Common.{◌≡◌, ◌≢◌, ℕ, zero, suc, ◌+◌, ◌*◌, ◌%◌, ◌<◌, ◌≤◌, List, length, get_or, Option, Some, None, arith, sym}
 use Rattle.std.proofs.Math.Nat.{mod-lt}
 use Rattle.std.proofs.lemmas.Bool.Decides.{nat_tests}
 use Rattle.std.proofs.lemmas.List.Elements.{All-get_or, All-from_get_or}
 use Rattle.std.specs.List.{All}
-use Rattle.ijson_table.specs.declared.index.slot.Slot.{Slot}
+use Rattle.ijson_table.specs.declared.slot.Slot.{Slot}
 use Rattle.ijson_table.specs.private.Closing.{closed}
 use Rattle.ijson_table.specs.private.HomeOrder.{AreInHomeOrder}
 use Rattle.ijson_table.specs.private.KeptHash.{narrow_slots, kept}
@@ -15,7 +15,7 @@ use Rattle.ijson_table.proofs.slots.HashesInSlots.{hashes-at, position-at, posit
 use Rattle.ijson_table.proofs.slots.KeptHashes.{kept-narrow}
 use Rattle.ijson_table.proofs.slots.Residents.{some_position, times-some}
 
--- the code of a position is one more than it
+-- the code of an index is one more than it
 pub code-of : (code i : ℕ) → coded_position code ≡ Some i → code ≡ i + 1
 code-of zero i e = let bad : ◌≡◌ {A = Option ℕ} None (Some i) = e in cc
 code-of (suc k) i e =
@@ -23,28 +23,28 @@ code-of (suc k) i e =
     let same : k ≡ i = cc in
     omega (arith, same)
 
--- a slot fits where its position and its hash do
+-- a slot fits if its index and its hash do
 pub fits_at : (n : ℕ) (slot : Slot) (i : ℕ) → position_in slot ≡ Some i → (n ≤ narrow_slots → i + 1 < 256)
     → (n ≤ narrow_slots → slot.hash < 65536)
     → Fits n slot
 fits_at n slot i at position hash few = (omega (arith, code-of slot.code i at, position few), hash few)
 
--- a slot still fits where a position before is out
+-- a slot still fits after an earlier index is removed
 pub fits-closed : (n gone : ℕ) (slot : Slot) → Fits n slot → Fits n (closed gone slot)
 fits-closed n gone slot fits few = (grind (arith, nat_tests, (fits few).0), (fits few).1)
 
--- what few slots keep of a hash is less than their count by 256
+-- among few slots, the kept part of a hash is less than 256 times their number
 kept-within : (n h : ℕ) → n ≤ narrow_slots → 0 < n → kept n h < n * 256
 kept-within n h few some =
     let below : h % (n * 256) < n * 256 = mod-lt h (omega (arith, some)) in
     omega (arith, kept-narrow n h few, below)
 
--- so it fits, beside a position that has a slot
+-- so it fits, with an index below that number
 pub may_hold : (n position h : ℕ) → h ≡ kept n h → position < n → MayHold n position h
 may_hold n position h is room few =
     (omega (arith, few, room), omega (arith, few, is, kept-within n h few (omega (arith, room))))
 
--- entries of hashes that are kept fit
+-- entries of kept hashes fit
 pub all_fit : (hashes : List ℕ) (n : ℕ) (entries : List Slot) → AreInHomeOrder hashes n entries → length hashes ≤ n
     → ((i : ℕ) → kept n (get_or hashes i 0) ≡ get_or hashes i 0) → All (Fits n) entries
 all_fit hashes n entries are room is = All-from_get_or (Fits n) entries blank (λ p lp.

@@ -1,4 +1,4 @@
--- How many residents there are where each position stands once.
+-- The number of residents if each index is in one slot.
 use Rattle.std.proofs.Common.{◌≡◌, ◌≢◌, ℕ, suc, ◌+◌, ◌<◌, ◌≤◌, arith, List, [], ◌∷◌, ◌++◌, length, get_or, set, take, Option, Some, None}
 use Rattle.std.proofs.Common.{refl, inl, inr, sym, ap, ◌∙◌, get_or-set_other, get_or-set_same}
 use Rattle.std.specs.Prelude.{sum}
@@ -8,7 +8,7 @@ use Rattle.std.proofs.lemmas.List.{map-append}
 use Rattle.std.proofs.lemmas.List.Elements.{All-get_or}
 use Rattle.std.proofs.lemmas.List.Sums.{sum_by-append}
 use Rattle.std.proofs.lemmas.Bool.{cases_eq}
-use Rattle.ijson_table.specs.declared.index.slot.Slot.{Slot}
+use Rattle.ijson_table.specs.declared.slot.Slot.{Slot}
 use Rattle.ijson_table.specs.Slots.{resident, times, below}
 use Rattle.ijson_table.specs.private.Holds.{one_if}
 use Rattle.ijson_table.specs.private.SlotHashes.{blank, position_in, positions}
@@ -18,7 +18,7 @@ use Rattle.ijson_table.proofs.slots.HashesInSlots.{positions-length, position-at
 use Rattle.ijson_table.proofs.slots.Residents.{some_position, times-nil, times-cons, times-some, times-split, times-more, stands}
 use Rattle.ijson_table.proofs.slots.Residents.{stands_once}
 
--- Different slots, none of which is empty, are no more than the positions.
+-- Different slots, none of which is empty, are no more than the indices.
 pub few_residents : (n : ℕ) (slots : List (Option ℕ)) → ((i : ℕ) → times i slots ≤ below n i) → (f : ℕ → ℕ) (m : ℕ)
     → ((j l : ℕ) → j < m → l < m → f j ≡ f l → j ≡ l) → ((j : ℕ) → j < m → f j < length slots)
     → ((j : ℕ) → j < m → resident slots (f j) ≢ None) → m ≤ n
@@ -42,7 +42,7 @@ few_entries n entries few full = few_residents n (positions entries) few (λ j. 
     (λ j lj none. All-get_or (λ entry. position_in entry ≢ None) entries j blank lj full
     (sym (position-at entries j (position_in (get_or entries j blank)) lj refl) ∙ none))
 
--- Each position stands at a slot of its own.
+-- Each index is in a slot of its own.
 pub no_less : (n : ℕ) (slots : List (Option ℕ)) → ((i : ℕ) → times i slots ≡ below n i) → n ≤ length slots
 no_less n slots placed =
     let all : n ≤ sum (ones (length slots)) = covers n (λ p j. resident slots p ≡ Some j) (ones (length slots))
@@ -53,7 +53,7 @@ no_less n slots placed =
     (there.0, omega (arith, length-ones (length slots), there.1), there.2, omega (arith, one-at (length slots) there.0 there.1)))
     in omega (arith, all, sum-ones (length slots))
 
--- a slot that is not empty, or is written, is not empty then
+-- a slot that is not empty, or is written, is not empty afterwards
 pub still_full : (slots : List (Option ℕ)) (p i q : ℕ) → p < length slots → (q ≢ p → resident slots q ≢ None)
     → resident (set slots p (Some i)) q ≢ None
 still_full slots p i q lp full none = elim (cases_eq q p) [
@@ -64,18 +64,18 @@ still_full slots p i q lp full none = elim (cases_eq q p) [
   | inr other ↦ full other (sym (get_or-set_other slots p q (Some i) None other) ∙ none)
 ]
 
--- the positions among one slot more
+-- the indices in one slot more
 pub times-next : (i index : ℕ) (slots : List (Option ℕ)) → index < length slots
     → times i (take (index + 1) slots) ≡ times i (take index slots) + one_if i (resident slots index)
 times-next i index slots lt =
     let one : index + 1 ≡ suc index = omega arith in
     ap (λ n. times i (take n slots)) one ∙ times-more i slots index lt
 
--- and they are no more than among all
+-- and they are no more than in all
 pub times-front : (i index : ℕ) (slots : List (Option ℕ)) → times i (take index slots) ≤ times i slots
 times-front i index slots = omega (arith, times-split i slots index)
 
--- an entry more is one position more
+-- one more entry is one more index
 pub times-pushed : (i : ℕ) (entries : List Slot) (entry : Slot)
     → times i (positions (entries ++ entry ∷ [])) ≡ times i (positions entries) + one_if i (position_in entry)
 unfolding times

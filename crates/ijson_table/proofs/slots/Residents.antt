@@ -1,4 +1,4 @@
--- What stands where.
+-- Residents of slots.
 use Rattle.std.proofs.Common.{◌≡◌, ◌≢◌, ℕ, suc, ◌+◌, ◌<◌, ◌≤◌, arith, List, [], ◌∷◌, length, set, take, drop, zero, Option, Some, None}
 use Rattle.std.proofs.Common.{cond, true, false, eqb, refl, ap, ◌∙◌, get_or-set_other}
 use Rattle.std.proofs.lemmas.List.{length-set}
@@ -7,7 +7,7 @@ use Rattle.std.proofs.lemmas.List.Sums.{sum_by-cons, sum_by-set, get_or-le-sum_b
 use Rattle.ijson_table.specs.private.Holds.{one_if}
 use Rattle.ijson_table.specs.Slots.{resident, holds, times}
 
--- a slot holds the position that stands there
+-- a slot holds its resident
 holds-same : (i : ℕ) → holds i (Some i) ≡ true
 holds-same i = grind (arith, nat_tests)
 
@@ -15,45 +15,45 @@ holds-same i = grind (arith, nat_tests)
 holds-other : (i j : ℕ) → i ≢ j → holds i (Some j) ≡ false
 holds-other i j ne = grind (arith, nat_tests)
 
--- a position is counted where it stands
+-- an index is counted at its slot
 pub one_if-same : (i : ℕ) → one_if i (Some i) ≡ 1
 one_if-same i = ap (λ b. cond b 1 0) (holds-same i)
 
--- and not where another stands
+-- and not at that of another
 pub one_if-other : (i j : ℕ) → i ≢ j → one_if i (Some j) ≡ 0
 one_if-other i j ne = ap (λ b. cond b 1 0) (holds-other i j ne)
 
--- a slot with this position counts one
+-- a slot with this index counts one
 one_if-at : (i : ℕ) (o : Option ℕ) → o ≡ Some i → one_if i o ≡ 1
 one_if-at i o e = ap (one_if i) e ∙ one_if-same i
 
--- a slot that is written changes the count by what stood and what stands there
+-- writing a slot changes the count by its old and new resident
 pub times-set : (i : ℕ) (slots : List (Option ℕ)) (p : ℕ) (o : Option ℕ) → p < length slots
     → times i (set slots p o) + one_if i (resident slots p) ≡ times i slots + one_if i o
 unfolding times
 times-set i slots p o h = sum_by-set (one_if i) slots p o None h
 
--- a position that stands somewhere is counted
+-- an index in a slot is counted
 pub times-some : (i : ℕ) (slots : List (Option ℕ)) (p : ℕ) → p < length slots → resident slots p ≡ Some i → 1 ≤ times i slots
 unfolding times
 times-some i slots p h e = omega (arith, get_or-le-sum_by (one_if i) slots p None h, one_if-at i (resident slots p) e)
 
--- what counts one is the position
+-- a slot that counts one has the index
 pub held : (i : ℕ) (o : Option ℕ) → 0 < one_if i o → o ≡ Some i
 held i None h = absurd (omega (arith, h))
 held i (Some j) h = ap Some (grind (arith, nat_tests))
 
--- what is not empty has a position
+-- a slot that is not empty has an index
 pub some_position : (o : Option ℕ) → o ≢ None → (i : ℕ) × (o ≡ Some i)
 some_position None not = absurd (not refl)
 some_position (Some i) not = (i, refl)
 
--- the first slot counts beside the rest
+-- the first slot counts with the rest
 pub times-cons : (i : ℕ) (o : Option ℕ) (slots : List (Option ℕ)) → times i (o ∷ slots) ≡ one_if i o + times i slots
 unfolding times
 times-cons i o slots = sum_by-cons (one_if i) o slots
 
--- a position that is counted stands somewhere
+-- an index that is counted is in a slot
 pub stands : (i : ℕ) (slots : List (Option ℕ)) → 0 < times i slots → (p : ℕ) × (p < length slots) × (resident slots p ≡ Some i)
 unfolding times
 stands i [] h = absurd (omega (arith, h))
@@ -64,7 +64,7 @@ stands i (o ∷ slots) h = elim (holds i o) as (λ b. holds i o ≡ b → (p : �
       (suc rest.0, omega (arith, rest.1), rest.2)
 ] refl
 
--- a position that is counted once stands at one slot
+-- an index that is counted once is in one slot
 pub stands_once : (i : ℕ) (slots : List (Option ℕ)) (p q : ℕ) → times i slots ≤ 1 → p < length slots → q < length slots
     → resident slots p ≡ Some i → resident slots q ≡ Some i → p ≡ q
 stands_once i slots p q h lp lq ep eq = elim (eqb p q) as (λ b. eqb p q ≡ b → p ≡ q) [
@@ -86,14 +86,14 @@ pub times-nil : (i : ℕ) → times i [] ≡ 0
 unfolding times
 times-nil i = refl
 
--- each position stands among the first slots or behind them
+-- each index is in the first slots or in the rest
 pub times-split : (i : ℕ) (slots : List (Option ℕ)) (n : ℕ) → times i (take n slots) + times i (drop n slots) ≡ times i slots
 unfolding times
 times-split i slots zero = omega arith
 times-split i [] (suc n) = refl
 times-split i (o ∷ slots) (suc n) = omega (arith, times-cons i o (take n slots), times-cons i o slots, times-split i slots n)
 
--- among one slot more
+-- in one slot more
 pub times-more : (i : ℕ) (slots : List (Option ℕ)) (n : ℕ) → n < length slots
     → times i (take (suc n) slots) ≡ times i (take n slots) + one_if i (resident slots n)
 unfolding times

@@ -1,24 +1,24 @@
--- How many slots were changed.
+-- The number of slots changed.
 use Rattle.std.proofs.Common.{◌≡◌, ℕ, zero, suc, ◌+◌, ◌≤◌, arith, List, [], ◌∷◌, set, Option, Some, None, cond, true, false, eqb, refl}
 use Rattle.std.specs.Option.{option_eq}
 use Rattle.std.proofs.lemmas.Bool.Decides.{nat_tests}
 use Rattle.ijson_table.specs.private.Changes.{changes}
 
--- what stands at a slot is itself
+-- a resident equals itself
 same-option : (o : Option ℕ) → option_eq eqb o o ≡ true
 same-option None = refl
 same-option (Some i) = grind (arith, nat_tests)
 
--- where nothing was written, nothing changed
+-- if nothing was written, nothing changed
 pub changes-none : (slots : List (Option ℕ)) → changes slots slots ≡ 0
 changes-none [] = refl
 changes-none (o ∷ slots) = grind (arith, same-option o, changes-none slots)
 
--- one slot counts once at most
+-- one slot counts at most once
 one : (o n : Option ℕ) → cond (option_eq eqb o n) 0 1 ≤ 1
 one o n = elim (option_eq eqb o n) as (λ b. cond b 0 1 ≤ 1) [ true ↦ omega arith | false ↦ omega arith ]
 
--- one that is written changes one at most
+-- one that is written changes at most one
 pub changes-set : (old slots : List (Option ℕ)) (p : ℕ) (o : Option ℕ) → changes old (set slots p o) ≤ changes old slots + 1
 changes-set [] slots p o = omega arith
 changes-set (x ∷ old) [] p o = omega arith

@@ -1,52 +1,52 @@
--- The slots that are stored, as a list of slots.
+-- Stored slots, as a list of slots.
 use Rattle.std.proofs.Common.{◌≡◌, ◌≤◌, ◌∙◌, ℕ, zero, suc, List, [], ◌∷◌, None, map, take, set, length, replicate, ap, refl, subst, sym}
 use Rattle.std.specs.List.{All}
 use Rattle.std.proofs.lemmas.List.{length-map, length-take-le, map-set, take-map}
 use Rattle.std.proofs.lemmas.List.Elements.{All-map, All-replicate, All-take}
-use Rattle.ijson_table.specs.declared.index.slot.Slot.{Slot}
-use Rattle.ijson_table.specs.declared.index.slot.narrow.NarrowSlot.{NarrowSlot}
-use Rattle.ijson_table.specs.private.NarrowSlots.{widened}
+use Rattle.ijson_table.specs.declared.slot.Slot.{Slot}
+use Rattle.ijson_table.specs.declared.slot.narrow.NarrowSlot.{NarrowSlot}
+use Rattle.ijson_table.specs.private.Narrow.{widened}
 use Rattle.ijson_table.specs.private.SlotHashes.{blank, position_in}
 
--- the front of a list with a change in it is the front with that change
+-- taking the first items of a list commutes with a change among them
 take_set : {X : Type 0} (n i : ℕ) (xs : List X) (x : X) → take n (set xs i x) ≡ set (take n xs) i x
 take_set zero i xs x = refl
 take_set (suc n) i [] x = refl
 take_set (suc n) zero (y ∷ xs) x = refl
 take_set (suc n) (suc i) (y ∷ xs) x = ap (λ rest. y ∷ rest) (take_set n i xs x)
 
--- a change among slots of three bytes is one among the slots that they stand for
+-- a change among slots of three bytes is one among the represented slots
 pub narrow-set : (slots : List NarrowSlot) (i : ℕ) (narrow : NarrowSlot) (slot : Slot) → widened narrow ≡ slot
     → map widened (set slots i narrow) ≡ set (map widened slots) i slot
 narrow-set slots i narrow slot same =
     map-set widened slots i narrow ∙ ap (λ entry. set (map widened slots) i entry) same
 
--- so it is among those in front
+-- so it is among the first of them
 pub few-set : (n : ℕ) (slots : List NarrowSlot) (i : ℕ) (narrow : NarrowSlot) (slot : Slot) → widened narrow ≡ slot
     → map widened (take n (set slots i narrow)) ≡ set (map widened (take n slots)) i slot
 few-set n slots i narrow slot same = ap (map widened) (take_set n i slots narrow) ∙ narrow-set (take n slots) i narrow slot same
 
--- how many slots stand in front
+-- the number of the first slots
 pub few-length : (n : ℕ) (slots : List NarrowSlot) → n ≤ length slots → length (map widened (take n slots)) ≡ n
 few-length n slots le = length-map (take n slots) widened ∙ length-take-le n slots le
 
--- nothing stands at any of them
+-- all of them are empty
 abbrev pub IsEmpty : List Slot → Type 0
 IsEmpty slots = All (λ slot. position_in slot ≡ None) slots
 
--- so where each is the same, at which nothing stands
+-- so are copies of an empty slot
 pub wide-empty : (slots : List Slot) (n : ℕ) (slot : Slot) → slots ≡ replicate n slot → position_in slot ≡ None → IsEmpty slots
 wide-empty slots n slot each none =
     subst IsEmpty (sym each) (All-replicate (λ slot. position_in slot ≡ None) n slot none)
 
--- so where each is told by the same three bytes
+-- so are copies of three bytes that represent an empty slot
 pub narrow-empty : (slots : List NarrowSlot) (n : ℕ) (narrow : NarrowSlot) → slots ≡ replicate n narrow → widened narrow ≡ blank
     → IsEmpty (map widened slots)
 narrow-empty slots n narrow each same = subst (λ ns. IsEmpty (map widened ns)) (sym each)
     (All-map (λ slot. position_in slot ≡ None) widened (replicate n narrow)
     (All-replicate (λ slot. position_in (widened slot) ≡ None) n narrow (ap position_in same)))
 
--- so in front of such
+-- so are the first of these
 pub few-empty : (m : ℕ) (slots : List NarrowSlot) (n : ℕ) (narrow : NarrowSlot) → slots ≡ replicate n narrow → widened narrow ≡ blank
     → IsEmpty (map widened (take m slots))
 few-empty m slots n narrow each same = subst IsEmpty (take-map widened m slots)

@@ -17,7 +17,7 @@ cmp_keys-total keys = then_total (on_total (λ (entry : Entry). entry.hash) nat_
 pub cmp_entries-total : (keys : List (List ℕ)) → IsTotalOrder (cmp_entries keys)
 cmp_entries-total keys = then_total (cmp_keys-total keys) (on_total position_in (options_total nat_cmp_total))
 
--- what is not after is before, or level with it
+-- if the first is not greater, it is less or equal
 pub le_from-not_gt : (o : Ordering) → is_gt o ≡ false → is_le o ≡ true
 le_from-not_gt Less e = refl
 le_from-not_gt Equal e = refl
@@ -28,7 +28,7 @@ not_gt-from_le Less e = refl
 not_gt-from_le Equal e = refl
 not_gt-from_le Greater e = cc
 
--- what is after the other is before it, the other way round
+-- if the first is greater, the second is less
 turned : (o : Ordering) → is_le o ≡ false → is_le (ordering_reverse o) ≡ true
 turned Less e = cc
 turned Equal e = cc

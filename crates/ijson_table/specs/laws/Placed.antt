@@ -1,4 +1,4 @@
--- The code of a store with slots, the store with another value, and its invariant at other pairs with the same keys.
+-- The code of a store with slots, and its invariant for other pairs with the same keys.
 use Rattle.std.specs.Prelude.{◌≡◌, ℕ, List, map, length, Option, refl}
 use Rattle.std.specs.Coded.{Coded, code_by, coded×, coded_list, coded_ℕ, coded_option}
 use Rattle.std.proofs.Common.{subst}
@@ -7,7 +7,6 @@ use Rattle.ijson_table.specs.Crowd.{slot_count}
 use Rattle.ijson_table.specs.Placed.{Placed}
 use Rattle.ijson_table.specs.Store.{Store, keys_of}
 use Rattle.ijson_table.specs.laws.Room.{HasRoom-prop}
-use Rattle.ijson_table.specs.StoreWithValue.{store_with_value}
 use Rattle.ijson_table.specs.laws.Store.{store_code}
 use Rattle.ijson_table.specs.private.IsPlaced.{IsPlaced}
 use Rattle.ijson_table.specs.private.HashIndex.{HashIndex}
@@ -18,10 +17,6 @@ abbrev pub placed_code : {V : Type 0} → Coded V → Coded (Placed V)
 placed_code {V} c =
     code_by (Store V × List (Option ℕ)) (coded× (store_code c) (coded_list (coded_option coded_ℕ))) (λ t. (t.store, t.slots))
     (λ v. record { store = v.0; slots = v.1 }) (λ _. refl)
-
--- the store with this value at i, its slots left
-abbrev pub placed_with_value : {V : Type 0} → Placed V → ℕ → V → Placed V
-placed_with_value t i value = record { store = store_with_value t.store i value; slots = t.slots }
 
 pub IsPlaced-prop : {V : Type 0} (hash : List ℕ → ℕ) (pairs : List (List ℕ × V)) (capacity : ℕ) (index : HashIndex)
     → IsProp (IsPlaced hash pairs capacity index)
@@ -34,7 +29,7 @@ IsPlaced-prop hash pairs capacity index x y =
       size = size_prop x.size y.size i;
     }
 
--- at other pairs with the same keys
+-- the invariant for other pairs with the same keys
 pub placed_along : {X Y : Type 0} (hash : List ℕ → ℕ) (ps : List (List ℕ × X)) (qs : List (List ℕ × Y)) (capacity : ℕ) (index : HashIndex)
     → keys_of ps ≡ keys_of qs → length ps ≡ length qs → IsPlaced hash ps capacity index → IsPlaced hash qs capacity index
 placed_along hash ps qs capacity index keys lengths placed = record {

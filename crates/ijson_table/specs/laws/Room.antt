@@ -1,4 +1,4 @@
--- That the pairs have room is one fact.
+-- `HasRoom` is a proposition.
 use Rattle.std.specs.Prelude.{ℕ, ◌≤◌}
 use denote.Struct.Props.{props}
 use Rattle.ijson_table.specs.Growth.{capacity_limit}

@@ -1,4 +1,4 @@
--- Rows worked by hand, under the hash that answers the length of the text.
+-- Examples computed by hand, with the length of the string as hash.
 use Rattle.std.specs.Prelude.{◌≡◌, ℕ, List, [], ◌∷◌, length, refl, Some, None, map}
 use Rattle.ijson_table.specs.Crowd.{crowd, homed, distance}
 use Rattle.ijson_table.specs.Slots.{displacement, home_at}
@@ -19,7 +19,7 @@ crowd_of_zz : crowd by_length four 4 (122 ∷ 122 ∷ []) ≡ 3
 unfolding crowd homed distance
 crowd_of_zz = refl
 
--- no slot, no crowd
+-- without slots, there is no collision cluster
 crowd_of_none : crowd by_length [] 0 (97 ∷ []) ≡ 0
 unfolding crowd homed distance
 crowd_of_none = refl

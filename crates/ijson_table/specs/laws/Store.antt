@@ -1,4 +1,4 @@
--- That keys are distinct is one fact; the code of a store; and that another value leaves the keys.
+-- `IsDistinct` is a proposition; the code of a store; another value keeps the keys.
 use Rattle.std.specs.Prelude.{◌≡◌, ℕ, zero, suc, List, [], ◌∷◌, refl}
 use Rattle.std.specs.Coded.{Coded, code_by, coded_list, coded_ℕ, coded×, →_prop, ×_prop, Unit-prop}
 use Rattle.std.proofs.Common.{ap}

@@ -1,6 +1,6 @@
--- When a copy of slots goes over to sorting.
+-- When a copy of slots switches to sorting.
 use Rattle.std.specs.Prelude.{ℕ}
 
--- how many steps each resident may take before, on average over all of them
+-- the average number of steps per resident before that
 abbrev pub steps_before_sorting : ℕ
 steps_before_sorting = 32

@@ -1,8 +1,8 @@
--- How many slots a call changed.
+-- The number of slots that a call changed.
 use Rattle.std.specs.Prelude.{ℕ, ◌+◌, cond, eqb, List, [], ◌∷◌, Option}
 use Rattle.std.specs.Option.{option_eq}
 
--- at how many slots another one stands, or one where none stood, or none any more
+-- the number of slots whose resident differs, appeared or disappeared
 abbrev pub changes : List (Option ℕ) → List (Option ℕ) → ℕ
 changes [] slots = 0
 changes (o ∷ old) [] = 0

@@ -1,6 +1,6 @@
--- Slots into which positions are put, or at which they stand.
+-- Slots before and after the insertion of an index.
 use Rattle.std.specs.Prelude.{◌≡◌, ℕ, ◌+◌, ◌<◌, ◌≤◌, ◌^◌, List, length, get_or, Some, None}
-use Rattle.ijson_table.specs.declared.index.slot.Slot.{Slot}
+use Rattle.ijson_table.specs.declared.slot.Slot.{Slot}
 use Rattle.ijson_table.specs.Crowd.{distance}
 use Rattle.ijson_table.specs.Slots.{resident, times, below, IsOrdered, IsTable}
 use Rattle.ijson_table.specs.private.Changes.{changes}
@@ -9,7 +9,7 @@ use Rattle.ijson_table.specs.private.KeptHash.{narrow_slots}
 use Rattle.ijson_table.specs.private.Probe.{AreFull}
 use Rattle.ijson_table.specs.private.SlotHashes.{positions, HaveHashes}
 
--- This position may be put into the slots, one of which is empty. Its key has this hash.
+-- This index may be inserted into the slots, one of which is empty. Its key has this hash.
 pub record Accepts (hashes : List ℕ) (slots : List Slot) (position hash : ℕ) : Type 0 where
   pub fits : position + 1 < 2 ^ 64
   pub hash_is : hash ≡ get_or hashes position 0
@@ -17,11 +17,12 @@ pub record Accepts (hashes : List ℕ) (slots : List Slot) (position hash : ℕ)
   pub ordered : IsOrdered hashes (positions slots)
   pub empty : HasEmpty (positions slots)
 
--- This position may be put down at one of the slots. Its key has this hash.
+-- This index may be put into one of the slots. Its key has this hash.
 abbrev pub MayPut : List ℕ → List Slot → ℕ → ℕ → ℕ → Type 0
 MayPut hashes slots position hash from = Accepts hashes slots position hash × MayStand hashes (positions slots) position from
 
--- This position was put into the slots, from one slot on. The last one that was written was the first empty one from there on.
+-- This index was inserted into the slots, from one slot on. The last slot written was the first empty one from there
+-- on.
 pub record IsPut (hashes : List ℕ) (old : List Slot) (position from last : ℕ) (new : List Slot) : Type 0 where
   pub holds : Holds hashes (with_one (positions old) position) None (positions new)
   pub hashes_are : HaveHashes hashes new
@@ -31,14 +32,14 @@ pub record IsPut (hashes : List ℕ) (old : List Slot) (position from last : ℕ
   pub passed : AreFull (positions old) from (distance (length old) from last)
   pub changes : changes (positions old) (positions new) ≤ distance (length old) from last + 1
 
--- This position stands at one of the slots. Its key has this hash.
+-- This index is in one of the slots. Its key has this hash.
 pub record Stands (hashes : List ℕ) (slots : List Slot) (position hash : ℕ) : Type 0 where
   pub hash_is : hash ≡ get_or hashes position 0
   pub hashes_are : HaveHashes hashes slots
   pub ordered : IsOrdered hashes (positions slots)
   pub stands : (p : ℕ) × (p < length slots) × (resident (positions slots) p ≡ Some position)
 
--- The slots have room for each position that stands at others, and none of them stands at both.
+-- The slots are enough for each index in other slots, and none of them is in both.
 pub record AcceptsEach (hashes : List ℕ) (slots from : List Slot) : Type 0 where
   pub ordered : IsOrdered hashes (positions slots)
   pub hashes_are : HaveHashes hashes slots
@@ -48,12 +49,12 @@ pub record AcceptsEach (hashes : List ℕ) (slots from : List Slot) : Type 0 whe
   pub limited : length slots < 2 ^ 64
   pub wide : narrow_slots < length slots
 
--- The slots are a table of the hashes that stand there.
+-- The slots are a table of the hashes in them.
 pub record IsTableOf (hashes : List ℕ) (slots : List Slot) : Type 0 where
   pub table : IsTable hashes (positions slots)
   pub hashes_are : HaveHashes hashes slots
 
--- These are the hashes of a position's key and of the last one's, which is another.
+-- These are the hashes of an index's key and of the last one's, which is another index.
 pub record EndsWith (hashes : List ℕ) (position hash last last_hash : ℕ) : Type 0 where
   pub within : position < last
   pub is_last : last + 1 ≡ length hashes

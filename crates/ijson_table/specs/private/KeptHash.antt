@@ -1,14 +1,14 @@
--- What an index keeps of a hash: of few slots, the home and eight bits more.
+-- The part of a hash that a hash index keeps: with few slots, the home slot and eight more bits.
 use Rattle.std.specs.Prelude.{ℕ, ◌*◌, ◌%◌, leb, List, if◌then◌else◌}
 
--- up to how many slots they are few
+-- the largest number of few slots
 abbrev pub narrow_slots : ℕ
 narrow_slots = 158
 
--- what is kept of a hash among n slots
+-- the part of a hash that is kept among n slots
 unfoldable pub kept : ℕ → ℕ → ℕ
 kept n hash = (if leb n narrow_slots then hash % (n * 256) else hash)
 
--- the same as a hash of keys
+-- that part, as a hash of keys
 abbrev pub kept_hash : ℕ → (List ℕ → ℕ) → List ℕ → ℕ
 kept_hash n hash key = kept n (hash key)

@@ -1,28 +1,25 @@
--- How `Slots` are stored, seen as a list of slots.
-use Rattle.std.specs.Prelude.{◌≡◌, ◌+◌, ◌*◌, ◌<◌, ◌≤◌, List, map, take, length, vec_capacity}
-use Rattle.ijson_table.specs.declared.index.slot.Slot.{Slot}
-use Rattle.ijson_table.specs.declared.index.slot.narrow.NarrowSlot.{NarrowSlot}
+-- The representation of `Slots`, seen as a list of slots.
+use Rattle.std.specs.Prelude.{◌≡◌, ◌<◌, ◌≤◌, List, map, take, length, vec_capacity}
+use Rattle.ijson_table.specs.declared.slot.Slot.{Slot}
 use Rattle.ijson_table.specs.declared.index.slots.FewSlots.{FewSlots}
 use Rattle.ijson_table.specs.declared.index.slots.Stored.{Stored}
 use Rattle.ijson_table.specs.declared.index.slots.Stored.TheVariants.{Few, Narrow, Wide}
 use Rattle.ijson_table.specs.declared.index.slots.TheConstants.{FEW_SLOTS}
 use Rattle.ijson_table.specs.private.KeptHash.{narrow_slots}
+use Rattle.ijson_table.specs.private.Narrow.{widened}
 
--- what stands at a slot of three bytes
-abbrev pub widened : NarrowSlot → Slot
-widened slot = record { code = slot.code; hash = slot.low + 256 * slot.high }
-
--- what stands at each of a few slots
+-- the slots of an inline list
 abbrev pub few_items : FewSlots → List Slot
 few_items few = map widened (take few.count few.slots)
 
--- what stands at each slot
+-- the slots of each representation
 abbrev pub stored_slots : Stored → List Slot
 stored_slots (Few few) = few_items few
 stored_slots (Narrow slots) = map widened slots.items
 stored_slots (Wide slots) = slots.items
 
--- They are stored by their count: up to FEW_SLOTS in place, up to 158 in three bytes each. No list has room for more.
+-- The representation follows from their number: up to FEW_SLOTS inline, up to 158 of three bytes each. No list has
+-- spare capacity.
 abbrev pub IsStoredByCount : Stored → Type 0
 IsStoredByCount (Few few) = Unit {0}
 IsStoredByCount (Narrow slots) =

@@ -1,7 +1,7 @@
--- The hash that pairs are sorted by where many keys crowd.
+-- The hash by which pairs are sorted if many keys collide.
 use Rattle.std.specs.Prelude.{ℕ, ◌+◌, ◌*◌, ◌%◌, ◌^◌, List, fold}
 
--- what each step multiplies by
+-- the multiplier of each step
 abbrev pub factor : ℕ
 factor = 6364136223846793005
 

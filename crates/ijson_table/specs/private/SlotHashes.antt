@@ -1,33 +1,33 @@
--- What a slot tells beside a position: the hash of the key that has it.
+-- The contents of a slot: an index, and the hash of its key.
 use Rattle.std.specs.Prelude.{◌≡◌, ℕ, zero, suc, ◌+◌, ◌%◌, Bool, List, [], ◌∷◌, map, length, get_or, Option, Some, None, if◌then◌else◌}
 use Rattle.std.specs.List.{All}
-use Rattle.ijson_table.specs.declared.index.slot.Slot.{Slot}
-use Rattle.ijson_table.specs.declared.index.places.Seen.{Seen}
-use Rattle.ijson_table.specs.declared.index.places.Seen.TheVariants.{Empty, Resident}
+use Rattle.ijson_table.specs.declared.slot.Slot.{Slot}
+use Rattle.ijson_table.specs.declared.slot.Seen.{Seen}
+use Rattle.ijson_table.specs.declared.slot.Seen.TheVariants.{Empty, Resident}
 use Rattle.ijson_table.specs.Crowd.{distance}
 use Rattle.ijson_table.specs.Slots.{holds}
 
--- a slot's code: 0 for nothing, else one more than the position
+-- a slot's code: 0 for nothing, else one more than the index
 abbrev pub coded_position : ℕ → Option ℕ
 coded_position zero = None
 coded_position (suc i) = Some i
 
--- the position that stands there, or none
+-- the index in a slot, or none
 abbrev pub position_in : Slot → Option ℕ
 position_in slot = coded_position slot.code
 
 abbrev pub positions : List Slot → List (Option ℕ)
 positions slots = map position_in slots
 
--- the hash is that of the key whose position stands there
+-- the hash is that of the key of the index in the slot
 abbrev pub HasHash : List ℕ → Slot → Type 0
 HasHash hashes slot = (i : ℕ) → position_in slot ≡ Some i → slot.hash ≡ get_or hashes i 0
 
--- so is each slot's
+-- every slot has the hash of its key
 abbrev pub HaveHashes : List ℕ → List Slot → Type 0
 HaveHashes hashes slots = All (HasHash hashes) slots
 
--- the hash beside this position, or none
+-- the hash of this index, or none
 unfoldable pub hash_beside : ℕ → List Slot → Option ℕ
 hash_beside i [] = None
 hash_beside i (slot ∷ slots) = (if holds i (position_in slot) then Some slot.hash else hash_beside i slots)
@@ -37,7 +37,7 @@ abbrev pub first_and : Option ℕ → List ℕ → List ℕ
 first_and None rest = []
 first_and (Some hash) rest = hash ∷ rest
 
--- The hashes beside the positions from i on, up to the first that stands nowhere.
+-- The hashes of the indices from i on, up to the first that is in no slot.
 unfoldable pub hashes_from : ℕ → ℕ → List Slot → List ℕ
 hashes_from zero i slots = []
 hashes_from (suc most) i slots = first_and (hash_beside i slots) (hashes_from most (i + 1) slots)
@@ -45,11 +45,11 @@ hashes_from (suc most) i slots = first_and (hash_beside i slots) (hashes_from mo
 abbrev pub hashes_of : List Slot → List ℕ
 hashes_of slots = hashes_from (length slots) 0 slots
 
--- what stands past the end
+-- the slot past the end
 abbrev pub blank : Slot
 blank = record { code = 0; hash = 0 }
 
--- how far what stands at slot p of n is displaced, by the hash there
+-- the displacement of the resident of slot p of n, by its hash
 abbrev pub displaced_by : ℕ → ℕ → Slot → ℕ → ℕ
 displaced_by n p slot zero = 0
 displaced_by n p slot (suc i) = distance n (slot.hash % n) p + 1
@@ -57,7 +57,7 @@ displaced_by n p slot (suc i) = distance n (slot.hash % n) p + 1
 unfoldable pub displacement_in : List Slot → ℕ → ℕ
 displacement_in slots p = displaced_by (length slots) p (get_or slots p blank) (get_or slots p blank).code
 
--- what a look at this one of n slots tells
+-- the result of an inspection of this one of n slots
 abbrev pub SeenAs : Slot → ℕ → ℕ → Bool → Seen → Type 0
 SeenAs slot n p same Empty = position_in slot ≡ None
 SeenAs slot n p same (Resident i d sought) =

@@ -1,4 +1,6 @@
-//! Copies of slots with another count of slots, in growth and shrinking. Where the residents crowd, the slots are filled by sorting.
+//! Copies of slots to another number of slots, in growth and shrinking.
+//!
+//! If many residents collide, the slots are filled by sorting.
 
 ghost use Rattle.std.specs.Prelude.{◌≡◌, ◌≢◌, ℕ, ◌+◌, ◌*◌, ◌^◌, ◌<◌, ◌≤◌, [], List, length, IfOk, OnOk, OnErr, IsTrue, IsFalse};
 ghost use Rattle.ijson_table.specs.CopyBound.{steps_a_resident, IsCopyBounded};
@@ -7,26 +9,33 @@ ghost use Rattle.ijson_table.specs.private.Entries.{AreEntries};
 ghost use Rattle.ijson_table.specs.private.Insertion.{IsTableOf};
 ghost use Rattle.ijson_table.specs.private.KeptHash.{narrow_slots};
 
-use crate::growth::list_with_room;
 use crate::index::Index;
 use crate::index::shift::rehash;
-use crate::index::slot::{Modulus, Slot};
-use crate::sorting::fill::HomeOrder;
+use crate::slot::{Modulus, Slot};
 use crate::sorting::merge_sort::merge_sort;
+use crate::sorting::order::HomeOrder;
+use crate::vec::list_with_room;
 use ijson_number::Looks;
 use std::alloc::{AllocError, Global};
 
-/// How many steps a position may take, on average over all of them, before the slots are filled by sorting. With keys that nobody
-/// chose it takes about three.
+/// The average number of steps per index after which the slots are filled by sorting.
+///
+/// Keys that nobody chose take about three.
 const STEPS_BEFORE_SORTING: u128 = 32;
 
 impl Index {
-    /// The same positions, `len` in number, among so many slots, which have room for each. Where there are as many here, the slots are
-    /// copied as they are. Else there are many here and there, which keep whole hashes. Room for none takes no memory. It takes time linear
-    /// in both counts of slots where few keys crowd. Where many do, entries of 16 bytes for each position are sorted in memory of their
-    /// own, up to twice that, in time n log n at most.
-    /// Its steps are counted: each slot that it looks at or writes to put a position into order, and each two entries that sorting
-    /// compares. Walks over all slots, which read or empty them, and the one that fills them in order, are not counted.
+    /// Copies the `len` indices to `count` slots, which are enough for all of them.
+    ///
+    /// If the number of slots is unchanged, the slots are copied as they are. Otherwise, both numbers exceed
+    /// `NARROW_SLOTS`, so the slots keep whole hashes. A capacity of 0 does not allocate.
+    ///
+    /// `steps` counts each slot inspected or written to insert an index, and each comparison of two entries in sorting.
+    /// Passes over all slots, which read, empty or fill them in order, do not count.
+    ///
+    /// # Cost
+    ///
+    /// Linear in both numbers of slots if few keys collide. If many do, entries of 16 bytes per index are sorted in
+    /// temporary memory, up to twice that size, in time O(n log n).
     pub fn copy_counted(
         &self,
         alloc: Global,
@@ -58,9 +67,10 @@ impl Index {
         Ok(index)
     }
 
-    /// Puts the positions of other slots, `len` in number, into these, which are empty and have room for each. They are more or fewer
-    /// than those: as many would be copied as they are. The steps are counted, and past a bound it stops: then these are empty again,
-    /// and it answers that it did not put all.
+    /// Inserts the `len` indices of other slots into these, which are empty and enough for all of them.
+    ///
+    /// The numbers of slots differ: otherwise the slots would be copied. `steps` counts the steps. If they exceed a
+    /// bound, it empties these slots again and returns `false`.
     fn rehash_from(&mut self, other: &Index, len: usize, steps: &mut u128) -> bool
         requires empty { self.old.hashes ≡ [] }
         requires len { len ≡ length other.now.hashes }
@@ -82,8 +92,10 @@ impl Index {
         )
     }
 
-    /// Puts the positions of other slots, `len` in number, into these, which are empty, many, and have room for each, in the order of their
-    /// homes. Each look at two entries is counted. The usual way was tried before, and the steps passed its bound.
+    /// Fills these slots with the `len` indices of other slots, in the order of their home slots.
+    ///
+    /// These slots are empty, more than `NARROW_SLOTS`, and enough for all of them. Each comparison of two entries is
+    /// counted. Slow path of `rehash_from`, after its steps exceeded the bound.
     fn fill_from(
         &mut self,
         alloc: Global,
@@ -114,7 +126,7 @@ impl Index {
     }
 }
 
-/// What stands at the slots of a table, in the order of the slots. `len` is how many positions it has.
+/// Returns the residents of a table, in slot order. `len` is their number.
 fn residents(alloc: Global, slots: &[Slot], len: usize) -> Result<Vec<Slot>, AllocError>
     ghost hashes: { List ℕ }
     requires table { IsTableOf hashes slots.now }

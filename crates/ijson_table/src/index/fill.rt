@@ -1,24 +1,36 @@
-//! How slots are filled from entries in the order of their homes: each entry is written once, and no slot is looked at.
+//! Filling slots from entries sorted by home slot: each entry is written once, and no slot is inspected.
 
-ghost use Rattle.std.specs.Prelude.{◌≡◌, ℕ, ◌+◌, ◌<◌, ◌≤◌, [], List, length, get_or, None};
+ghost use Rattle.std.specs.Prelude.{◌≡◌, ℕ, ◌+◌, ◌*◌, ◌^◌, ◌<◌, ◌≤◌, [], List, length, get_or, map, None, OnOk};
 ghost use Rattle.std.specs.List.{All};
+ghost use Rattle.ijson_table.specs.Growth.{capacity_limit};
 ghost use Rattle.ijson_table.specs.Slots.{times, IsOrdered};
+ghost use Rattle.ijson_table.specs.Store.{keys_of};
 ghost use Rattle.ijson_table.specs.private.HomeOrder.{behind, home_before, home_in, AreInHomeOrder, CanBeLaid};
 ghost use Rattle.ijson_table.specs.private.Insertion.{IsTableOf};
-ghost use Rattle.ijson_table.specs.private.KeptHash.{kept};
+ghost use Rattle.ijson_table.specs.private.KeptHash.{kept, kept_hash};
 ghost use Rattle.ijson_table.specs.private.Narrow.{Fits};
 ghost use Rattle.ijson_table.specs.private.Probe.{onward};
 ghost use Rattle.ijson_table.specs.private.SlotHashes.{blank, position_in, positions, HaveHashes};
 ghost use Rattle.ijson_table.specs.private.Sorting.{IsSortedBy};
 
+use crate::hash::KeyHash;
 use crate::index::Index;
 use crate::index::probe::next_slot;
-use crate::index::slot::{Modulus, Slot, distance_between};
 use crate::index::slots::Slots;
+use crate::slot::{Modulus, Slot, distance_between};
+use crate::sorting::build::entries_of;
+use crate::sorting::merge_sort::merge_sort;
+use crate::sorting::order::HomeOrder;
+use ijson_number::Looks;
+use ijson_string::IString;
+use std::alloc::{AllocError, Global};
 
 impl Index {
-    /// Puts entries in the order of their homes into the slots, which are empty and have room for each. The time is linear in the
-    /// count of entries, whatever their homes are.
+    /// Fills empty slots, enough for all entries, from entries sorted by home slot.
+    ///
+    /// # Cost
+    ///
+    /// Linear in the number of entries, whatever their home slots.
     pub fn fill(&mut self, sorted: &[Slot])
         ghost hashes: { List ℕ }
         requires empty { self.old.hashes ≡ [] }
@@ -32,7 +44,7 @@ impl Index {
     }
 }
 
-/// Puts entries in the order of their homes into empty slots, which have room for each.
+/// Fills empty slots, enough for all entries, from entries sorted by home slot.
 fn fill(slots: &mut Slots, sorted: &[Slot])
     ghost hashes: { List ℕ }
     requires empty { All (λ slot. position_in slot ≡ None) slots.old }
@@ -51,8 +63,10 @@ fn fill(slots: &mut Slots, sorted: &[Slot])
     lay(slots, sorted, modulus, start, first);
 }
 
-/// Which entry is laid first: the last one that would stand at its home if all were laid from the first slot on, without an end. All
-/// behind it then stand in one row, and those before it end before its home.
+/// Returns the index in `sorted` of the entry to write first.
+///
+/// It is the last one that would be at its home slot if all were written from the first slot on, without wrapping
+/// around. All later ones then form one run, and the earlier ones end before its home slot.
 fn first_in_row(sorted: &[Slot], modulus: Modulus) -> usize
     requires some { 0 < length sorted.now }
     requires sorted { IsSortedBy (home_before modulus.count) sorted.now }
@@ -72,8 +86,9 @@ fn first_in_row(sorted: &[Slot], modulus: Modulus) -> usize
     start
 }
 
-/// Lays entries into empty slots, from the one at `start` on and its home `first`, round the end of both. Each goes to its home, or to
-/// the slot behind the entry before it where that is further on.
+/// Writes the sorted entries into empty slots, from entry `start` at slot `first`; both wrap around.
+///
+/// Each is written to its home slot, or to the slot after the previous entry if that is further on.
 fn lay(slots: &mut Slots, sorted: &[Slot], modulus: Modulus, start: usize, first: usize)
     ghost hashes: { List ℕ }
     requires counted { modulus.count ≡ length slots.old }
@@ -96,7 +111,7 @@ fn lay(slots: &mut Slots, sorted: &[Slot], modulus: Modulus, start: usize, first
     }
 }
 
-/// How many steps on from a slot the home of an entry is, round the end.
+/// Returns the number of slots from `from` to the home slot of an entry, wrapping around.
 fn steps_to_home(entry: Slot, modulus: Modulus, from: usize) -> usize
     requires { from < modulus.count }
     ensures { result ≡ behind modulus.count from entry }
@@ -104,7 +119,7 @@ fn steps_to_home(entry: Slot, modulus: Modulus, from: usize) -> usize
     distance_between(modulus.count, from, modulus.home_of_hash(entry.hash()))
 }
 
-/// The slot so many steps on, round the end.
+/// Returns the slot `steps` after `from`, wrapping around.
 #[tactic(auto, using(std::proofs::lemmas::Bool::Decides::nat_tests), unfolding(crate::specs::private::Probe::onward))]
 fn steps_on(slots: usize, from: usize, steps: usize) -> usize
     requires from { from < slots }
@@ -118,4 +133,31 @@ fn steps_on(slots: usize, from: usize, steps: usize) -> usize
     } else {
         steps - left
     }
+}
+
+/// Fills empty slots with the indices of pairs, by sorting.
+///
+/// The slots are enough for all of them. Each comparison of two entries is counted, and each key is hashed once.
+pub fn fill_sorted<V, H: KeyHash>(
+    alloc: Global,
+    pairs: &[(IString, V)],
+    index: &mut Index,
+    looks: &mut Looks,
+) -> Result<(), AllocError>
+    requires empty { index.old.hashes ≡ [] }
+    requires some { 0 < length index.old.slots }
+    requires room { length pairs.now ≤ length index.old.slots }
+    requires limited { length pairs.now ≤ capacity_limit }
+    requires fits { looks.old + 2 ^ 71 < 2 ^ 128 }
+    ensures hashes { OnOk result (index.new.hashes ≡ map (kept_hash (length index.old.slots) H.hash_of) (keys_of pairs.now)) }
+    ensures count { length index.new.slots ≡ length index.old.slots }
+    ensures grows { looks.old ≤ looks.new }
+    ensures bounded { (k : ℕ) → length pairs.now ≤ 2 ^ k → looks.new ≤ looks.old + length pairs.now * k }
+{
+    let modulus = Modulus::new(index.len());
+    let entries = entries_of::<V, H>(alloc, pairs, modulus)?;
+    let order = HomeOrder { modulus };
+    let sorted = merge_sort(alloc, &order, entries, looks)?;
+    index.fill(&sorted);
+    Ok(())
 }

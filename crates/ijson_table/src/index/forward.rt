@@ -1,14 +1,16 @@
-//! `shift_forward`: how the residents of slots make room for one more.
+//! `shift_forward`: the forward shift of residents, to insert one more.
 
 ghost use Rattle.std.specs.Prelude.{ℕ, ◌+◌, ◌<◌, ◌≤◌, List, length, map, take};
 ghost use Rattle.ijson_table.specs.private.Insertion.{IsPut, MayPut};
 
 use crate::index::probe::next_slot;
-use crate::index::slot::Slot;
-use crate::index::slot::stored::StoredSlot;
+use crate::slot::Slot;
+use crate::slot::stored::StoredSlot;
 
-/// Puts a position down at a slot, whose key has this hash. The residents from there on move one slot forward each, up to the next
-/// empty slot. Answers that one, the last that is written. Each moves in the form in which it is stored.
+/// Inserts an index at slot `from`, and shifts the residents from there on forward by one slot.
+///
+/// The key of the index has this hash. The shift ends at the first empty slot from there on, which is the last slot
+/// written and is returned. Residents move in the representation `S`.
 pub fn shift_forward<S: StoredSlot + Copy + Drop>(
     slots: &mut [S],
     from: usize,
@@ -35,7 +37,7 @@ pub fn shift_forward<S: StoredSlot + Copy + Drop>(
     }
 }
 
-/// The same among so many slots in front.
+/// Like `shift_forward`, on the first `count` slots.
 #[inline(always)]
 pub fn shift_in_front<S: StoredSlot + Copy + Drop>(
     slots: &mut [S],

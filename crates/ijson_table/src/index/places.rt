@@ -1,4 +1,4 @@
-//! Look-up in a table of slots, one slot a look.
+//! Lookup in a table of slots, one slot per inspection.
 
 ghost use Rattle.std.specs.Prelude.{◌≡◌, ℕ, ◌+◌, ◌-◌, ◌<◌, ◌≤◌, ◌^◌, List, length, map, Option};
 ghost use Rattle.ijson_table.specs.Store.{position_of, IsDistinct};
@@ -8,28 +8,14 @@ ghost use Rattle.ijson_table.specs.Sees.{Sees};
 ghost use Rattle.ijson_table.specs.private.Lookup.{is_key};
 
 use crate::index::probe::{ProbeTarget, probe};
+use crate::slot::Seen;
 use ijson_number::Looks;
 
-/// What one look at a slot tells.
-#[derive(Clone, Copy, Debug, PartialEq, Eq, Drop)]
-pub enum Seen {
-    /// Nothing stands there.
-    Empty,
-    /// A position stands there.
-    Resident {
-        /// The position.
-        at: usize,
-        /// How many slots behind its home it stands, round the end.
-        distance: usize,
-        /// Whether its key is the one that is sought.
-        same: bool,
-    },
-}
-
-/// A table: a list of keys, and slots that hold their positions, ordered by the distance from home. There are five slots for
-/// four of its capacity.
+/// A table: a list of keys, and slots with their indices, ordered by probe distance.
+///
+/// There are five slots for every four entries of the capacity.
 pub trait Places {
-    /// The hash by which a key has its home.
+    /// The hash that selects the home slot of a key.
     ghost hash_of: { List ℕ → ℕ };
 
     /// The keys, in order.
@@ -38,25 +24,26 @@ pub trait Places {
     /// The capacity.
     ghost room: { Self → ℕ };
 
-    /// What stands at each slot.
+    /// The resident of each slot.
     ghost slots: { Self → List (Option ℕ) };
 
-    /// No key stands twice.
+    /// All keys are distinct.
     ghost distinct: { (table : Self) → IsDistinct (keys table) };
 
-    /// How many slots there are.
+    /// Returns the number of slots.
     fn places(&self) -> usize
         ensures count { result ≡ length (slots self.now) }
         ensures size { length (slots self.now) ≡ slot_count (room self.now) }
         ensures table { IsTable (map hash_of (keys self.now)) (slots self.now) };
 
-    /// The home of a key: its hash modulo the count of slots.
+    /// Returns the home slot of a key: its hash modulo the number of slots.
     fn home(&self, key: &str) -> usize
         requires { 0 < length (slots self.now) }
         ensures { result ≡ home_of hash_of (length (slots self.now)) key.now };
 
-    /// Looks at one slot, and at the key whose position stands there. It is one look, and `distance` of what stands there is
-    /// told from that one's own home.
+    /// Inspects one slot, and the key of its resident, as one inspection.
+    ///
+    /// `distance` is computed from the home slot of the resident.
     fn look(&self, slot: usize, key: &str, looks: &mut Looks) -> Seen
         requires within { slot < length (slots self.now) }
         requires fits { looks.old + 1 < 2 ^ 128 }
@@ -64,7 +51,7 @@ pub trait Places {
         ensures counts { looks.new ≡ looks.old + 1 };
 }
 
-/// A key that is sought in a table.
+/// A key to look up in a table.
 #[derive(Drop)]
 struct KeyProbe<'a, P: Places> {
     table: &'a P,
@@ -93,9 +80,15 @@ impl<'a, P: Places> ProbeTarget for KeyProbe<'a, P> {
     }
 }
 
-/// The position of a key. None where it is not there. It begins at the home of the key, and ends at the key, at an empty slot
-/// or at a resident that is nearer to its own home. Where a slot is empty, it looks at no more slots than the crowd of that home and
-/// one. Where none is, it looks at no more slots than there are keys. The looks must stay below 2^128.
+/// Returns the index of a key, or `None` if the key is missing.
+///
+/// The probe starts at the home slot of the key, and ends at the key, at an empty slot or at a resident closer to its
+/// own home slot. `looks` must stay below 2^128.
+///
+/// # Cost
+///
+/// If a slot is empty, it inspects at most one slot more than the collision cluster (`crowd`) of the home slot. If none
+/// is, it inspects at most one slot per key.
 pub fn locate<P: Places>(table: &P, key: &str, looks: &mut Looks) -> Option<usize>
     requires { looks.old + length (P.keys table.now) + 1 < 2 ^ 128 }
     ensures found { result ≡ position_of (P.keys table.now) key.now }

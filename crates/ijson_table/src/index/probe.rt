@@ -1,35 +1,36 @@
-//! The probe: the one walk over the slots of a table, and `Lookup`, the walk for a key among pairs.
+//! The probe: the one walk over the slots of a table; `Lookup`: the probe for a key among pairs.
 
-ghost use Rattle.std.specs.Prelude.{◌≡◌, ◌↔◌, ℕ, ◌+◌, ◌-◌, ◌%◌, ◌<◌, ◌≤◌, ◌^◌, Bool, List, [], length, get_or, Option, IsTrue};
+ghost use Rattle.std.specs.Prelude.{◌≡◌, ◌↔◌, ℕ, ◌+◌, ◌-◌, ◌%◌, ◌<◌, ◌≤◌, ◌^◌, Bool, List, [], length, get_or, map, Option, IsTrue};
 ghost use Rattle.ijson_table.specs.Slots.{after, displacement};
 ghost use Rattle.ijson_table.specs.Store.{keys_of};
 ghost use Rattle.ijson_table.specs.private.Lookup.{found_at, is_hashed_key};
+ghost use Rattle.ijson_table.specs.private.HashIndex.{IsIndex};
+ghost use Rattle.ijson_table.specs.private.SlotHashes.{hashes_of};
 ghost use Rattle.ijson_table.specs.private.Probe.{Ends, LooksAt, Passed};
 
-use crate::index::places::Seen;
-use crate::index::slot::Modulus;
-use crate::index::view::View;
+use crate::slot::stored::StoredSlot;
+use crate::slot::{Modulus, Seen};
 use ijson_number::Looks;
 use ijson_string::IString;
 
-/// How a probe ends.
+/// The end of a probe.
 #[derive(Clone, Copy, Drop)]
 pub enum Probed {
-    /// At what it seeks.
+    /// The target was found.
     Found {
-        /// The position.
+        /// The index of the entry.
         at: usize,
-        /// The slot where it stands.
+        /// The slot of that entry.
         slot: usize,
     },
-    /// At the slot where what it seeks would stand.
+    /// The target is missing, and would be stored in this slot.
     Vacant(usize),
-    /// After all slots, none of which is empty.
+    /// The target is missing, and no slot is empty.
     Full,
 }
 
 impl Probed {
-    /// The position that was found, or none.
+    /// Returns the index that was found, if any.
     pub fn found(self) -> Option<usize>
         ensures { result ≡ found_at self }
     {
@@ -40,31 +41,31 @@ impl Probed {
     }
 }
 
-/// What a probe goes by: slots, and what it seeks there.
+/// The target of a probe, and the slots to search.
 pub trait ProbeTarget {
-    /// What stands at each slot.
+    /// The resident of each slot.
     ghost slots: { Self → List (Option ℕ) };
 
-    /// How far what stands at a slot is displaced.
+    /// The displacement of the resident of each slot.
     ghost displacements: { Self → ℕ → ℕ };
 
-    /// The home of what it seeks.
+    /// The home slot of the target.
     ghost home_slot: { Self → ℕ };
 
-    /// Whether it seeks a position.
+    /// Whether an index is the target.
     ghost seeks: { Self → ℕ → Bool };
 
-    /// How many slots there are.
+    /// Returns the number of slots.
     fn count(&self) -> usize
         ensures { result ≡ length (slots self.now) };
 
-    /// Where it begins.
+    /// Returns the slot at which the probe starts.
     fn home(&self) -> usize
         requires { 0 < length (slots self.now) }
         ensures value { result ≡ home_slot self.now }
         ensures within { result < length (slots self.now) };
 
-    /// Looks at one slot.
+    /// Inspects one slot.
     fn look(&self, slot: usize, looks: &mut Looks) -> Seen
         requires within { slot < length (slots self.now) }
         requires fits { looks.old + 1 < 2 ^ 128 }
@@ -72,7 +73,7 @@ pub trait ProbeTarget {
         ensures counts { looks.new ≡ looks.old + 1 };
 }
 
-/// The slot after this one, round the end.
+/// Returns the next slot, wrapping around.
 #[tactic(auto, using(std::proofs::lemmas::Bool::Decides::nat_tests), unfolding(crate::specs::Slots::after))]
 pub fn next_slot(slots: usize, slot: usize) -> usize
     requires { slot < slots }
@@ -82,7 +83,7 @@ pub fn next_slot(slots: usize, slot: usize) -> usize
     if slot + 1 == slots { 0 } else { slot + 1 }
 }
 
-/// Walks from the home on, up to what is sought, an empty slot, or a resident that is nearer to its own home.
+/// Walks from the home slot to the target, an empty slot, or a resident closer to its own home slot.
 #[inline(always)]
 pub fn probe<P: ProbeTarget>(target: &P, looks: &mut Looks) -> Probed
     requires some { 0 < length (P.slots target.now) }
@@ -112,36 +113,39 @@ pub fn probe<P: ProbeTarget>(target: &P, looks: &mut Looks) -> Probed
     Probed::Full
 }
 
-/// A key that is sought among pairs, and what the index keeps of its hash. It goes to the memory of a key only where the same is kept
-/// of the hash of that.
+/// A key to look up among pairs, with the part of its hash that the slots keep.
+///
+/// It reads the memory of a key only if the slot has the same hash.
 #[derive(Drop)]
-pub struct Lookup<'a, 'i, V> {
+pub struct Lookup<'a, 'i, V, S: StoredSlot> {
     pub pairs: &'a [(IString, V)],
-    pub index: View<'i>,
-    /// How many slots there are.
+    pub slots: &'i [S],
+    /// The number of slots.
     pub modulus: Modulus,
     pub hash: u64,
-    /// The home of that hash.
+    /// The home slot of `hash`.
     pub home: usize,
     pub key: &'a str,
-    ghost listed: { length pairs.now ≡ length index.hashes },
-    ghost counted: { modulus.count ≡ length index.slots },
+    ghost table: { IsIndex (map S.stands_for slots.now) },
+    ghost listed: { length pairs.now ≡ length (hashes_of (map S.stands_for slots.now)) },
+    ghost counted: { modulus.count ≡ length slots.now },
     ghost homed: { home ≡ hash % modulus.count },
 }
 
-impl<'a, 'i, V> ProbeTarget for Lookup<'a, 'i, V> {
-    ghost use Rattle.std.specs.Prelude.{◌%◌, length};
+impl<'a, 'i, V, S: StoredSlot + Copy> ProbeTarget for Lookup<'a, 'i, V, S> {
+    ghost use Rattle.std.specs.Prelude.{◌%◌, length, map};
     ghost use Rattle.ijson_table.specs.Slots.{displacement};
     ghost use Rattle.ijson_table.specs.Store.{keys_of};
     ghost use Rattle.ijson_table.specs.private.Lookup.{is_hashed_key};
+    ghost use Rattle.ijson_table.specs.private.SlotHashes.{hashes_of, positions};
 
-    ghost slots = { λ s. s.index.slots };
+    ghost slots = { λ s. positions (map S.stands_for s.slots.now) };
 
-    ghost displacements = { λ s. displacement s.index.hashes s.index.slots };
+    ghost displacements = { λ s. displacement (hashes_of (map S.stands_for s.slots.now)) (positions (map S.stands_for s.slots.now)) };
 
-    ghost home_slot = { λ s. s.hash % length s.index.slots };
+    ghost home_slot = { λ s. s.hash % length (positions (map S.stands_for s.slots.now)) };
 
-    ghost seeks = { λ s. is_hashed_key s.index.hashes (keys_of s.pairs.now) s.hash s.key.now };
+    ghost seeks = { λ s. is_hashed_key (hashes_of (map S.stands_for s.slots.now)) (keys_of s.pairs.now) s.hash s.key.now };
 
     fn count(&self) -> usize {
         self.modulus.count
@@ -153,7 +157,7 @@ impl<'a, 'i, V> ProbeTarget for Lookup<'a, 'i, V> {
 
     fn look(&self, slot: usize, looks: &mut Looks) -> Seen {
         looks.add_one();
-        let there = self.index.at(slot);
+        let there = self.slots[slot].widened();
         if there.is_empty() {
             return Seen::Empty;
         }
@@ -162,7 +166,7 @@ impl<'a, 'i, V> ProbeTarget for Lookup<'a, 'i, V> {
     }
 }
 
-/// Whether the pair at a position has this key.
+/// Returns whether the pair at index `position` has this key.
 pub fn has_key<V>(pairs: &[(IString, V)], position: usize, key: &str) -> bool
     requires { position < length pairs.now }
     ensures { IsTrue result ↔ (get_or (keys_of pairs.now) position [] ≡ key.now) }

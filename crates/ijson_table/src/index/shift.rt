@@ -1,4 +1,4 @@
-//! How the residents of slots move: insertion, backward shift and rehash, whose steps are counted.
+//! Moves of residents, with counted steps: insertion, backward shift and rehash.
 
 ghost use Rattle.std.specs.Prelude.{◌≡◌, ℕ, ◌+◌, ◌*◌, ◌<◌, ◌≤◌, ◌%◌, ◌^◌, List, length, get_or, map, Some, None, IsTrue, IsFalse};
 ghost use Rattle.ijson_table.specs.Slots.{below, resident, times, IsOrdered};
@@ -12,14 +12,14 @@ ghost use Rattle.ijson_table.specs.private.SlotHashes.{displacement_in, position
 ghost use Rattle.ijson_table.specs.private.Probe.{IsVacancy};
 ghost use Rattle.std.specs.List.{All, remove, swap_remove as swapped_out};
 
-use crate::index::places::Seen;
 use crate::index::probe::{ProbeTarget, Probed, next_slot, probe};
-use crate::index::slot::{Modulus, Slot, distance_between};
 use crate::index::slots::Slots;
+use crate::slot::{Modulus, Seen, Slot, distance_between};
 use ijson_number::Looks;
 
-/// A probe that knows of a key its hash alone. It seeks the slot of a position, or with none the vacancy of a key that stands at no
-/// slot.
+/// A probe that knows only the hash of a key.
+///
+/// It seeks the slot of an index or, with `None`, the vacancy for a key that is in no slot.
 #[derive(Drop)]
 struct HashProbe<'a> {
     slots: &'a Slots,
@@ -58,7 +58,7 @@ impl<'a> ProbeTarget for HashProbe<'a> {
     }
 }
 
-/// Where the probe for a key of this hash ends that stands at none of the slots, and how many slots it looks at.
+/// Returns where the probe for a missing key of this hash ends, and the number of inspections.
 pub fn vacancy(slots: &Slots, hash: u64) -> (usize, u128)
     requires { HasEmpty (positions slots.now) }
     ensures vacancy { IsVacancy (displacement_in slots.now) (length slots.now) (hash % length slots.now) result.0 }
@@ -78,7 +78,7 @@ pub fn vacancy(slots: &Slots, hash: u64) -> (usize, u128)
     }
 }
 
-/// The slot of a position, whose key has this hash.
+/// Returns the slot of an index, whose key has this hash.
 fn slot_of(slots: &Slots, position: usize, hash: u64) -> usize
     ghost hashes: { List ℕ }
     requires { Stands hashes slots.now position hash }
@@ -97,8 +97,9 @@ fn slot_of(slots: &Slots, position: usize, hash: u64) -> usize
     }
 }
 
-/// Puts a position into the slots, one of which is empty. Its key has this hash. Answers the steps: each slot that it looks at, and
-/// each one that it writes.
+/// Inserts an index, whose key has this hash, into slots of which one is empty.
+///
+/// Returns the steps: each slot inspected and each slot written.
 fn insert(slots: &mut Slots, position: usize, hash: u64) -> u128
     ghost hashes: { List ℕ }
     requires accepts { Accepts hashes slots.old position hash }
@@ -114,7 +115,7 @@ fn insert(slots: &mut Slots, position: usize, hash: u64) -> u128
     looked + distance_between(slots.len(), slot, last) as u128 + 1
 }
 
-/// Moves the residents behind a gap one slot back each, up to an empty slot or a resident at its home.
+/// Shifts residents after a gap back by one slot, up to an empty slot or a resident at its home slot.
 fn shift_back(slots: &mut Slots, from: usize)
     ghost hashes: { List ℕ }
     requires gap { HasGap hashes (positions slots.old) from }
@@ -139,7 +140,7 @@ fn shift_back(slots: &mut Slots, from: usize)
     }
 }
 
-/// Takes a position out of the slots of a table. Its key has this hash.
+/// Removes an index, whose key has this hash, from the slots of a table.
 fn take_out(slots: &mut Slots, position: usize, hash: u64)
     ghost hashes: { List ℕ }
     requires table { IsTableOf hashes slots.old }
@@ -154,7 +155,7 @@ fn take_out(slots: &mut Slots, position: usize, hash: u64)
     shift_back(slots, slot);
 }
 
-/// Takes a position out, and gives its number to the last one, which is another.
+/// Removes index `position` and gives its number to `last`, a different index.
 pub fn swap_remove(slots: &mut Slots, position: usize, hash: u64, last: usize, last_hash: u64)
     ghost hashes: { List ℕ }
     requires table { IsTableOf hashes slots.old }
@@ -168,7 +169,7 @@ pub fn swap_remove(slots: &mut Slots, position: usize, hash: u64, last: usize, l
     slots.set(there, Slot::of(position, moved));
 }
 
-/// Makes each position behind one that is out one less.
+/// Decrements each index after `gone`.
 fn close_up(slots: &mut Slots, gone: usize)
     requires { gone + 1 < 2 ^ 64 }
     ensures { slots.new ≡ map (closed gone) slots.old }
@@ -178,7 +179,7 @@ fn close_up(slots: &mut Slots, gone: usize)
     }
 }
 
-/// Takes a position out, and makes each later one one less. There is none behind the last.
+/// Removes index `position` and decrements each later index, up to `last`.
 pub fn shift_remove(slots: &mut Slots, position: usize, hash: u64, last: usize)
     ghost hashes: { List ℕ }
     requires table { IsTableOf hashes slots.old }
@@ -195,25 +196,9 @@ pub fn shift_remove(slots: &mut Slots, position: usize, hash: u64, last: usize)
     }
 }
 
-/// How many slots from the first one on have residents that went round the end.
-fn wrapped(slots: &[Slot]) -> usize
-    ensures { result ≤ length slots.now }
-{
-    if slots.is_empty() {
-        return 0;
-    }
-    let modulus = Modulus::new(slots.len());
-    for slot in 0..slots.len() {
-        let there = slots[slot];
-        if there.is_empty() || there.distance(modulus, slot) <= slot {
-            return slot;
-        }
-    }
-    slots.len()
-}
-
-/// Puts what stands at these slots into others, one by one, up to a bound on the steps, which are counted. Answers whether it put
-/// all of it.
+/// Inserts the residents of other slots one by one, up to a bound on the counted steps.
+///
+/// Returns whether all were inserted.
 fn insert_each(from: &[Slot], slots: &mut Slots, most: u128, steps: &mut u128) -> bool
     ghost hashes: { List ℕ }
     requires accepts { AcceptsEach hashes slots.old from.now }
@@ -240,9 +225,9 @@ fn insert_each(from: &[Slot], slots: &mut Slots, most: u128, steps: &mut u128) -
     true
 }
 
-/// Puts what stands at the slots of a table into empty ones. It goes by their order, from the first resident that did
-/// not go round the end, so residents with the same home stay in their order. It goes to the memory of no key. The steps are counted,
-/// and past a bound it stops: then it makes the slots empty again, and answers that it did not put all.
+/// Inserts the residents of a table into empty slots, in the order of the old slots.
+///
+/// It reads no key. `steps` counts the steps; once they exceed `most`, it empties the slots again and returns `false`.
 pub fn rehash(old: &[Slot], slots: &mut Slots, most: u128, steps: &mut u128) -> bool
     ghost hashes: { List ℕ }
     requires table { IsTableOf hashes old.now }
@@ -258,10 +243,7 @@ pub fn rehash(old: &[Slot], slots: &mut Slots, most: u128, steps: &mut u128) -> 
     ensures steps { steps.new ≤ most + 3 * length hashes }
     ensures past { IsFalse result → most < steps.new }
 {
-    let start = wrapped(old);
-    if insert_each(&old[start..], slots, most, steps)
-        && insert_each(&old[..start], slots, most, steps)
-    {
+    if insert_each(old, slots, most, steps) {
         return true;
     }
     slots.clear();

@@ -1,36 +1,37 @@
-//! `Slots`: the slots of a table, in the least memory that they fit.
+//! `Slots`: the slots of a table, in the smallest representation that fits.
 
-ghost use Rattle.std.specs.Prelude.{◌≡◌, ℕ, ◌<◌, ◌≤◌, List, [], length, set, get_or, replicate, vec_capacity, None, IfOk, OnErr};
+ghost use Rattle.std.specs.Prelude.{◌≡◌, ℕ, ◌<◌, ◌≤◌, List, [], length, set, get_or, replicate, vec_capacity, None, IfOk, OnErr, map, MatchOption};
 ghost use Rattle.std.specs.List.{All};
 ghost use Rattle.ijson_table.specs.declared.index.slots.TheConstants.{FEW_SLOTS};
 ghost use Rattle.ijson_table.specs.private.Insertion.{IsPut, MayPut};
 ghost use Rattle.ijson_table.specs.private.KeptHash.{narrow_slots};
-ghost use Rattle.ijson_table.specs.private.Narrow.{Fits, MayHold};
+ghost use Rattle.ijson_table.specs.private.Narrow.{Fits, MayHold, widened};
 ghost use Rattle.ijson_table.specs.private.SlotHashes.{blank, position_in};
 
-use crate::growth::{list_with_room, tighten};
 use crate::index::forward::{shift_forward, shift_in_front};
-use crate::index::slot::narrow::NarrowSlot;
-use crate::index::slot::stored::StoredSlot;
-use crate::index::slot::{NARROW_SLOTS, Slot};
-use crate::index::view::Lent;
+use crate::slot::narrow::NarrowSlot;
+use crate::slot::stored::StoredSlot;
+use crate::slot::{NARROW_SLOTS, Slot};
+use crate::vec::{list_with_room, tighten};
 use std::alloc::{AllocError, Global};
-use std::fmt;
 use std::marker::Model;
 use std::mem::size_of;
 
-/// The count of slots up to which they lie in place.
+/// The largest number of slots that are stored inline.
 const FEW_SLOTS: usize = 10;
 
-/// Slots, each empty or with a position of a list beside what is kept of the hash of the key there. Few of them take no memory but
-/// this.
+/// Slots, each empty or with the index of an entry and the kept part of the hash of its key.
+///
+/// Up to `FEW_SLOTS` slots do not allocate.
 #[derive(Drop)]
 pub struct Slots {
     stored: Stored,
 }
 
-/// Slots by the room that they take: up to 10 in place, up to 158 in a list of three bytes each, and more in a list of 16 bytes each.
-/// A list has no room for more.
+/// The slots, in a representation by their number.
+///
+/// Up to 10 are inline, up to 158 are a list of three bytes each, and more are a list of 16 bytes each. A list has no
+/// spare capacity.
 #[derive(Drop)]
 enum Stored {
     Few(FewSlots),
@@ -38,7 +39,7 @@ enum Stored {
     Wide(Vec<Slot>),
 }
 
-/// At most 10 slots. Those past the count are no part of it.
+/// At most 10 slots. Those from `count` on are unused.
 #[derive(Clone, Copy, Drop)]
 struct FewSlots {
     count: u8,
@@ -52,7 +53,7 @@ const _: () = prove!(size_of::<Slots>() == 32);
 
 impl Model for Slots {
     ghost use Rattle.std.specs.Prelude.{List};
-    ghost use Rattle.ijson_table.specs.declared.index.slot.Slot.{Slot};
+    ghost use Rattle.ijson_table.specs.declared.slot.Slot.{Slot};
 
     ghost Value = { List Slot };
 
@@ -64,9 +65,7 @@ impl Model for Slots {
 }
 
 impl Slots {
-    ghost use Rattle.ijson_table.specs.private.LentSlots.{lent_slots};
-
-    /// No slots. They take no memory.
+    /// Creates a list without slots, which does not allocate.
     pub fn new() -> Slots
         ensures { result ≡ [] }
     {
@@ -75,7 +74,7 @@ impl Slots {
         }
     }
 
-    /// So many empty slots.
+    /// Creates `count` empty slots.
     pub fn with_count(alloc: Global, count: usize) -> Result<Slots, AllocError>
         ensures empty { IfOk result (λ slots. All (λ slot. position_in slot ≡ None) slots) }
         ensures count { IfOk result (λ slots. length slots ≡ count) }
@@ -91,7 +90,7 @@ impl Slots {
         Ok(Slots { stored })
     }
 
-    /// How many slots there are.
+    /// Returns the number of slots.
     #[inline(always)]
     pub fn len(&self) -> usize
         ensures { result ≡ length self.now }
@@ -103,7 +102,7 @@ impl Slots {
         }
     }
 
-    /// What stands at a slot.
+    /// Reads a slot.
     #[inline(always)]
     pub fn at(&self, slot: usize) -> Slot
         requires { slot < length self.now }
@@ -117,19 +116,19 @@ impl Slots {
         }
     }
 
-    /// The slots as one list, in one of two ways.
+    /// Returns the slots as a slice if they take three bytes each, or `None` if they take 16.
     #[inline(always)]
-    pub fn lent(&self) -> Lent<'_>
-        ensures { lent_slots result ≡ self.now }
+    pub fn as_narrow(&self) -> Option<&[NarrowSlot]>
+        ensures { MatchOption result (narrow_slots < length self.now) (λ slots. map widened slots.now ≡ self.now) }
     {
         match &self.stored {
-            Stored::Few(few) => Lent::Narrow(&few.slots[..few.len()]),
-            Stored::Narrow(slots) => Lent::Narrow(slots),
-            Stored::Wide(slots) => Lent::Wide(slots),
+            Stored::Few(few) => Some(&few.slots[..few.len()]),
+            Stored::Narrow(slots) => Some(slots),
+            Stored::Wide(_) => None,
         }
     }
 
-    /// Puts this at a slot.
+    /// Writes `entry` to a slot.
     #[inline(always)]
     pub fn set(&mut self, slot: usize, entry: Slot)
         requires within { slot < length self.old }
@@ -143,8 +142,10 @@ impl Slots {
         }
     }
 
-    /// Puts a position down at a slot, whose key has this hash. The residents from there on move one slot forward each, up to the next
-    /// empty slot. Answers that one, the last that is written. It asks once how the slots are stored.
+    /// Inserts an index at slot `from`, and shifts the residents from there on forward by one slot.
+    ///
+    /// The key of the index has this hash. The shift ends at the first empty slot from there on, which is the last slot
+    /// written and is returned. The representation is tested once.
     pub fn shift_forward(&mut self, from: usize, position: usize, hash: u64) -> usize
         ghost hashes: { List ℕ }
         requires may { MayPut hashes self.old position hash from }
@@ -164,7 +165,8 @@ impl Slots {
         }
     }
 
-    /// The slots as one list, where they are not narrow.
+    /// Returns the slots, of 16 bytes each, as a slice.
+    #[inline(always)]
     pub fn as_slice(&self) -> &[Slot]
         requires { narrow_slots < length self.now }
         ensures { result.now ≡ self.now }
@@ -175,7 +177,7 @@ impl Slots {
         }
     }
 
-    /// Makes each slot empty.
+    /// Empties all slots.
     pub fn clear(&mut self)
         ensures empty { All (λ slot. position_in slot ≡ None) self.new }
         ensures count { length self.new ≡ length self.old }
@@ -187,7 +189,7 @@ impl Slots {
         }
     }
 
-    /// The same slots, in memory of their own.
+    /// Returns a copy of the slots.
     pub fn copied(&self, alloc: Global) -> Result<Slots, AllocError>
         ensures copied { IfOk result (λ slots. slots ≡ self.now) }
         ensures refused { OnErr result (0 < length self.now) }
@@ -201,21 +203,10 @@ impl Slots {
     }
 }
 
-/// As a list, however they are stored.
-impl fmt::Debug for Slots {
-    fn fmt<W: fmt::Write>(&self, f: &mut fmt::Formatter<W>) -> fmt::Result {
-        let mut list = f.debug_list();
-        for slot in 0..self.len() {
-            list.entry(&self.at(slot));
-        }
-        list.finish()
-    }
-}
-
 impl FewSlots {
     ghost use Rattle.ijson_table.specs.private.NarrowSlots.{few_items};
 
-    /// So many empty slots.
+    /// Creates `count` empty slots.
     fn empty(count: usize) -> FewSlots
         requires { count ≤ FEW_SLOTS }
         ensures empty { All (λ slot. position_in slot ≡ None) (few_items result) }
@@ -227,7 +218,7 @@ impl FewSlots {
         }
     }
 
-    /// How many slots there are.
+    /// Returns the number of slots.
     #[inline(always)]
     fn len(&self) -> usize
         ensures { result ≡ length (few_items self.now) }
@@ -236,7 +227,7 @@ impl FewSlots {
     }
 }
 
-/// A list that has this so many times, and room for no more.
+/// Returns a list of `count` copies of `item`, with no spare capacity.
 fn repeated<T: Copy + Drop>(alloc: Global, item: T, count: usize) -> Result<Vec<T>, AllocError>
     ensures items { IfOk result (λ list. list.items ≡ replicate count item) }
     ensures room { IfOk result (λ list. vec_capacity list ≡ count) }
@@ -249,7 +240,7 @@ fn repeated<T: Copy + Drop>(alloc: Global, item: T, count: usize) -> Result<Vec<
     Ok(list)
 }
 
-/// A list of the same items, which has room for no more.
+/// Returns a copy of `items`, with no spare capacity.
 fn exact_copy<T: Copy + Drop>(alloc: Global, items: &[T]) -> Result<Vec<T>, AllocError>
     requires { 0 < length items.now }
     ensures items { IfOk result (λ list. list.items ≡ items.now) }

@@ -1,13 +1,18 @@
-//! `SecondHash`: the hash that pairs are sorted by where many keys crowd.
+//! `SecondHash`: the hash by which pairs are sorted if many keys collide.
 
 ghost use Rattle.std.specs.Prelude.{◌≡◌};
 ghost use Rattle.ijson_table.specs.private.SecondHash.{second_word};
 
 use crate::hash::KeyHash;
 
-/// The fold of the bytes of a text by another factor than that of `FixedHash`. Keys that were chosen to have one fixed hash have
-/// many here, so the memory of most of them is read once. Keys that were chosen to have one of both are sorted too, by comparing
-/// them. It takes time linear in the text.
+/// A fold of the bytes of a string with another factor than that of `FixedHash`.
+///
+/// Keys chosen to have one fixed hash have many here, so the memory of most of them is read once. Keys chosen to have
+/// one of both are sorted too, by comparing them.
+///
+/// # Cost
+///
+/// Linear in the length of the string.
 #[derive(Clone, Copy, Drop)]
 pub struct SecondHash;
 
@@ -25,10 +30,12 @@ impl KeyHash for SecondHash {
     }
 }
 
-/// What one word multiplies the hash by, modulo 2^64: a factor of linear congruential generators (Knuth's MMIX).
+/// The multiplier for one word, modulo 2^64.
+///
+/// It is a factor of linear congruential generators (Knuth's MMIX).
 const FACTOR: u64 = 6_364_136_223_846_793_005;
 
-/// One more word.
+/// Folds one more word.
 fn add_word(hash: u64, word: u64) -> u64
     ensures { result ≡ second_word hash word }
 {

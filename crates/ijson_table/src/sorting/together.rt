@@ -1,16 +1,21 @@
-//! Pairs put together by the first positions of their keys.
+//! Merging duplicate keys by the first indices of keys.
 
 ghost use Rattle.std.specs.Prelude.{◌≡◌, ◌<◌, ◌≤◌, [], length, vec_capacity, IfOk, OnErr};
 ghost use Rattle.ijson_table.specs.Store.{keys_of, put_each, with_value};
 ghost use Rattle.ijson_table.specs.private.KeyOrder.{AreFirsts};
 
-use crate::growth::list_with_room;
+use crate::vec::list_with_room;
 use ijson_string::IString;
 use std::alloc::{AllocError, Global};
 
-/// The pairs as if they were put one after the other, in a list of this capacity: a key that comes again keeps its place, and has
-/// the value that it came with last. `firsts` has the first position of the key at each position, so that no key is compared.
-/// It takes time linear in the pairs, and room for none takes no memory.
+/// Returns the entries after `pairs` are inserted in order, in a list of this capacity.
+///
+/// A duplicate key keeps its index and has its last value. `firsts` has the first index of the key at each index, so no
+/// key is compared. A capacity of 0 does not allocate.
+///
+/// # Cost
+///
+/// Linear in the number of pairs.
 pub fn put_together<V: Drop>(
     alloc: Global,
     pairs: Vec<(IString, V)>,
@@ -24,7 +29,7 @@ pub fn put_together<V: Drop>(
     ensures refused { OnErr result (0 < capacity) }
 {
     let mut list = list_with_room(alloc, capacity)?;
-    // A first position becomes the place of its key in the list.
+    // A first index is replaced by the index of its key in the list.
     let mut places = firsts;
     let mut position = 0;
     for pair in pairs {
@@ -40,7 +45,7 @@ pub fn put_together<V: Drop>(
     Ok(list)
 }
 
-/// Puts the value of a pair in the place of another one. The key there stays.
+/// Replaces the value at index `place` by the value of `pair`. The key at `place` stays.
 fn replace_value<V: Drop>(list: &mut [(IString, V)], place: usize, pair: (IString, V))
     requires { place < length list.old }
     ensures { list.new ≡ with_value list.old place pair.1 }

@@ -1,4 +1,4 @@
-//! Tables over lists of pairs.
+//! Tables built from lists of pairs.
 
 ghost use Rattle.std.specs.Prelude.{◌≡◌, ◌↔◌, ℕ, ◌+◌, ◌-◌, ◌*◌, ◌^◌, ◌<◌, ◌≤◌, [], ◌++◌, length, get_or, take};
 ghost use Rattle.std.specs.Prelude.{reverse, vec_capacity, Err, IfOk, IsOk, OnErr, OnOk, IsTrue, IsFalse};
@@ -12,31 +12,42 @@ ghost use Rattle.ijson_table.specs.private.FirstPlaced.{ComesAgain, FirstPlaced}
 ghost use Rattle.ijson_table.specs.private.KeptHash.{kept_hash};
 
 use super::Table;
-use crate::growth::{limited, slots_for, split_rest, tighten};
+use crate::growth::{limited, slots_for};
 use crate::hash::KeyHash;
 use crate::index::Index;
-use crate::index::probe::{Lookup, Probed, probe};
-use crate::index::slot::{Modulus, distance_between};
-use crate::sorting::build::{fill_sorted, put_sorted};
+use crate::index::fill::fill_sorted;
+use crate::index::probe::Probed;
+use crate::slot::{Modulus, distance_between};
+use crate::sorting::build::put_sorted;
 use crate::store::{PairStore, ReserveError};
+use crate::vec::{split_rest, tighten};
 use ijson_number::Looks;
 use ijson_string::IString;
 use std::alloc::{AllocError, Global};
 use std::marker::PhantomData;
 
-/// How many steps a pair may take, on average over all of them, before the table is made by sorting. With keys that nobody chose it
-/// takes about three in a small object, and seventeen in one of 30,000 numbered keys.
+/// The average number of steps per pair after which the table is built by sorting.
+///
+/// Keys that nobody chose take about three in a small object, and seventeen in one of 30,000 numbered keys.
 const STEPS_A_PAIR: usize = 32;
 
 impl<V: Drop, H: KeyHash> Table<V, H> {
-    /// A store of these pairs as if they were put one after the other: a key that comes again keeps its place, and has the value
-    /// that it came with last. The list becomes that of the store: its length is the capacity, and room beyond that is given back.
-    /// From the first key on that comes again, the pairs are taken off and put one by one; those before are not moved. It is refused
-    /// as too large where the length passes 2^56; the pairs are then dropped, as where memory is refused. No pairs take no memory.
-    /// Each key is hashed once, and the first that comes again twice. That takes time linear in the pairs where few keys crowd.
-    /// Where many do, the table is made by sorting: then each key is hashed up to three times, entries of 16 bytes for each pair
-    /// are sorted in memory of their own, and the pairs move to another list. So whatever the keys are, it takes time n log n at
-    /// most, and that of the hashes and of comparing keys of one hash.
+    /// Creates a store by inserting `pairs` in order.
+    ///
+    /// A duplicate key keeps its index and has its last value. The list becomes that of the store: its length is the
+    /// capacity, and spare capacity is freed. From the first duplicate key on, the pairs are removed and inserted one
+    /// by one; earlier ones do not move. An empty list does not allocate.
+    ///
+    /// # Errors
+    ///
+    /// `TooLarge` if the length exceeds 2^56, `Memory` if an allocation fails. The pairs are dropped.
+    ///
+    /// # Cost
+    ///
+    /// Each key is hashed once, and the first duplicate twice. The time is linear in the number of pairs if few keys
+    /// collide. If many do, the table is built by sorting: each key is hashed up to three times, entries of 16 bytes
+    /// per pair are sorted in temporary memory, and the pairs move to another list. So, for all keys, the time is at
+    /// most O(n log n), plus that of the hashes and of comparing keys of one hash.
     pub fn from_pairs(alloc: Global, pairs: Vec<(IString, V)>) -> Result<Table<V, H>, ReserveError>
         ensures pairs { IfOk result (λ table. table.store.pairs ≡ put_each [] pairs.items) }
         ensures capacity { IfOk result (λ table. table.store.capacity ≡ length pairs.items) }
@@ -46,8 +57,10 @@ impl<V: Drop, H: KeyHash> Table<V, H> {
         Table::from_pairs_counted(alloc, pairs, &mut Looks::new())
     }
 
-    /// The same, and its looks are counted: each slot that it looks at for a key, each slot that it writes up to the bound on the
-    /// steps, each two entries that sorting compares and each two keys that are compared there.
+    /// Like `from_pairs`, but counts inspections.
+    ///
+    /// It counts each slot inspected for a key, each slot written up to the bound on the steps, and each comparison of
+    /// two entries or of two keys in sorting.
     pub fn from_pairs_counted(
         alloc: Global,
         mut pairs: Vec<(IString, V)>,
@@ -85,8 +98,10 @@ impl<V: Drop, H: KeyHash> Table<V, H> {
         Ok(table.with_rest(rest, steps, looks)?)
     }
 
-    /// The store with more pairs put, in the room that there is. It goes on in the usual way up to the bound on the steps, of which so
-    /// many were taken and counted, and then by sorting.
+    /// Inserts more pairs within the spare capacity, and returns the store.
+    ///
+    /// It inserts them one by one up to the bound on the steps, and the others by sorting. `steps` were taken and
+    /// counted before.
     #[inline(never)]
     fn with_rest(
         mut self,
@@ -117,7 +132,9 @@ impl<V: Drop, H: KeyHash> Table<V, H> {
         self.with_rest_sorted(rest, looks)
     }
 
-    /// Inserts pairs from the last one of a list on, in the room that there is, up to a bound on the steps.
+    /// Inserts the pairs of `rest`, from the last on, within the spare capacity.
+    ///
+    /// It stops at a bound on the steps, which are counted.
     fn insert_each(&mut self, rest: &mut Vec<(IString, V)>, most: usize, steps: &mut usize)
         requires room { length self.old.store.pairs + length rest.old.items ≤ self.old.store.capacity }
         requires limited { self.old.store.capacity ≤ capacity_limit }
@@ -139,7 +156,9 @@ impl<V: Drop, H: KeyHash> Table<V, H> {
         }
     }
 
-    /// Inserts a pair in the room that there is, and answers the steps: each slot that it looks at, and each slot that it writes.
+    /// Inserts an entry within the spare capacity, and returns the steps.
+    ///
+    /// Each slot inspected and each slot written is a step.
     fn insert_in_room(&mut self, key: IString, value: V) -> usize
         requires { length self.old.store.pairs < self.old.store.capacity }
         ensures pairs { self.new.store.pairs ≡ put self.old.store.pairs key value }
@@ -164,7 +183,9 @@ impl<V: Drop, H: KeyHash> Table<V, H> {
         }
     }
 
-    /// The store with more pairs put, from the last one of a list on, in the room that there is. It is made anew by sorting.
+    /// Inserts the pairs of `rest`, from the last on, within the spare capacity.
+    ///
+    /// It builds the store anew by sorting.
     fn with_rest_sorted(
         self,
         rest: Vec<(IString, V)>,
@@ -201,7 +222,7 @@ impl<V: Drop, H: KeyHash> Table<V, H> {
     }
 }
 
-/// Puts items behind those of a list that has room for them, from the last one on.
+/// Appends the items of `rest`, from the last on, to a list with enough spare capacity.
 fn put_back<T: Drop>(list: &mut Vec<T>, mut rest: Vec<T>)
     requires { length list.old.items + length rest.items ≤ vec_capacity list.old }
     ensures items { list.new.items ≡ list.old.items ++ reverse rest.items }
@@ -212,8 +233,9 @@ fn put_back<T: Drop>(list: &mut Vec<T>, mut rest: Vec<T>)
     }
 }
 
-/// Puts the positions of pairs into empty slots, up to the first pair whose key stands before it, or to a bound on the steps, and
-/// answers how many they are. The steps are counted: each slot that it looks at, and each slot that it writes.
+/// Inserts the indices of pairs into empty slots, up to a duplicate key or a bound on the steps.
+///
+/// Returns the number of indices inserted. `steps` counts each slot inspected and each slot written.
 fn add_new_keys<V, H: KeyHash>(
     pairs: &[(IString, V)],
     index: &mut Index,
@@ -247,9 +269,10 @@ fn add_new_keys<V, H: KeyHash>(
     pairs.len()
 }
 
-/// Puts the next position into slots, where its key is none of those before, and answers whether it did. The steps are counted. Those of
-/// a key that is new follow from the last slot that is written: every slot from its home up to there was looked at or written, and the one
-/// where the probe ended was both.
+/// Inserts the next index unless its key is a duplicate, and returns whether it did.
+///
+/// The steps are counted. Those of a new key follow from the last slot written: each slot from its home slot to there
+/// was inspected or written, and the one at which the probe ended was both.
 fn add_new_key<V, H: KeyHash>(
     pairs: &[(IString, V)],
     index: &mut Index,
@@ -275,16 +298,9 @@ fn add_new_key<V, H: KeyHash>(
     let whole = H::hash(key);
     let hash = modulus.kept_hash(whole);
     let home = modulus.home_of_hash(whole);
-    let lookup = Lookup {
-        pairs: &pairs[..position],
-        index: index.view(),
-        modulus,
-        hash,
-        home,
-        key,
-    };
+    let before = &pairs[..position];
     let slots = modulus.count;
-    match probe(&lookup, &mut Looks::new()) {
+    match index.probe_for(before, modulus, hash, home, key, &mut Looks::new()) {
         Probed::Vacant(slot) => {
             let last = index.push_at(slot, position, hash);
             *steps += distance_between(slots, home, last) + 2;

@@ -1,7 +1,7 @@
 use Rattle.std.proofs.Common.{arith}
 use Rattle.ijson_table.proofs.hash.add_each.Goals as goal
 
--- what the check tries where no answer stands takes longer than these
+-- given for speed: the default tactics take longer
 pub bounds-words-word-index : goal.bounds-words-word-index
 bounds-words-word-index c = omega arith
 

@@ -1,6 +1,6 @@
 -- `LinearPairs` as a type that may hold the type that holds it, by its values.
---     entry, on_value      a pair of a text and a value, and a function applied to that value
---     holding, mapped, got and their lemmas      the same store over other pairs with the same keys
+--     entry, on_value      a pair of a string and a value, and a function applied to that value
+--     holding, mapped, got and their lemmas      a store of other pairs with the same keys
 use Rattle.std.specs.Prelude.{◌≡◌, ℕ, suc, length, max, List, [], ◌∷◌, map, vec_capacity}
 use mathlib.Core.Path.{PathP, refl, sym, ap, subst, ◌∙◌}
 use mathlib.Core.HLevel.{is_prop→PathP}
@@ -30,7 +30,7 @@ use Rattle.ijson_table.specs.declared.linear.LinearPairs.TheView.{view, invarian
 use Rattle.ijson_table.specs.contracts.linear.LinearPairs as C
 use Rattle.ijson_table.specs.contracts.linear.LinearPairs.TheInside as I
 
--- a key beside one of g's values
+-- a key with one of g's values
 abbrev pub entry : Former {0} → Former {0}
 entry g = pair (const (List ℕ)) g
 

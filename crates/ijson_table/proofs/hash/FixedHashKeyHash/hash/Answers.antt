@@ -1,7 +1,7 @@
 use Rattle.std.proofs.Common.{arith}
 use Rattle.ijson_table.proofs.hash.FixedHashKeyHash.hash.Goals as goal
 
--- what the check tries where no answer stands takes longer than these
+-- given for speed: the default tactics take longer
 pub bounds-left-0 : goal.bounds-left-0
 bounds-left-0 c = omega arith
 

@@ -2,7 +2,7 @@ use Rattle.std.proofs.Common.{[], arith}
 use Rattle.ijson_table.proofs.slots.IndexInvariant.{empty_index, IsIndexOf}
 use Rattle.ijson_table.proofs.index.Index.clear.Goals as goal
 
--- the slots that come back, and their hashes
+-- the returned slots, and their hashes
 left : (c : goal.After-clear) → IsIndexOf [] c.clear.new.self
 left c = empty_index c.clear.new.self c.clear.ensures.empty (omega (arith, c.clear.ensures.count, c.self.invariant.limited))
 

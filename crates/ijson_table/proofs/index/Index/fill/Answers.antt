@@ -1,6 +1,6 @@
 use Rattle.std.proofs.Common.{◌≡◌, List, [], length, arith, ap, sym, ◌∙◌, subst}
 use Rattle.std.specs.List.{All}
-use Rattle.ijson_table.specs.declared.index.slot.Slot.{Slot}
+use Rattle.ijson_table.specs.declared.slot.Slot.{Slot}
 use Rattle.ijson_table.specs.private.HashIndex.{HashIndex}
 use Rattle.ijson_table.specs.private.HomeOrder.{AreInHomeOrder}
 use Rattle.ijson_table.specs.private.Narrow.{Fits}
@@ -27,7 +27,7 @@ fill-requires g c =
       ),
     )
 
--- the slots that come back, and their hashes
+-- the returned slots, and their hashes
 left : (g : Over) (c : goal.After-fill g) → IsIndexOf g.hashes c.fill.new.slots
 left g c = index_is g.hashes c.fill.new.slots c.fill.ensures.table (omega (arith, c.fill.ensures.count, c.self.invariant.limited))
 

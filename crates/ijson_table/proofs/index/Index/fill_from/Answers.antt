@@ -1,5 +1,5 @@
 use Rattle.std.proofs.Common.{◌≡◌, ◌≤◌, ◌^◌, ℕ, List, length, get_or, arith, ap, ◌∙◌}
-use Rattle.ijson_table.specs.declared.index.slot.Slot.{Slot}
+use Rattle.ijson_table.specs.declared.slot.Slot.{Slot}
 use Rattle.ijson_table.specs.private.Entries.{AreEntries}
 use Rattle.ijson_table.specs.private.HashIndex.{HashIndex}
 use Rattle.ijson_table.specs.private.SlotHashes.{hashes_of}
@@ -8,7 +8,7 @@ use Rattle.ijson_table.proofs.slots.KeptHashes.{kept-wide}
 use Rattle.ijson_table.proofs.slots.HashesInSlots.{positions-length}
 use Rattle.ijson_table.proofs.index.Index.fill_from.Goals as goal
 
--- looks at entries fit
+-- the count of comparisons fits
 pub overflow_add-steps : goal.overflow_add-steps
 overflow_add-steps c =
     let fits : length c.in_ok-entries.entries.items ≤ 2 ^ 64 = omega (arith, c.in_ok-entries.entries.ok.0) in
@@ -57,7 +57,7 @@ as_slice-requires c = omega (
   positions-length c.other.inside.slots,
 )
 
--- what the check tries where no answer stands takes longer than these
+-- given for speed: the default tactics take longer
 pub merge_sort-sorted-requires : goal.merge_sort-sorted-requires
 merge_sort-sorted-requires c = omega arith
 

@@ -3,7 +3,7 @@ use Rattle.ijson_table.proofs.slots.IndexInvariant.{empty_index, IsIndexOf}
 use Rattle.ijson_table.proofs.index.Index.new.Goals.{After-new}
 use Rattle.ijson_table.proofs.index.Index.new.Goals as goal
 
--- no slots are an index of no hashes
+-- no slots are a hash index of no hashes
 none : (c : After-new) → IsIndexOf [] c.new.result
 none c = empty_index c.new.result (λ p d lp. absurd (omega (arith, ap length c.new.ensures))) (omega (arith, ap length c.new.ensures))
 

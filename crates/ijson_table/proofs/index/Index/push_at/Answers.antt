@@ -1,5 +1,5 @@
 use Rattle.std.proofs.Common.{◌≡◌, ◌<◌, ℕ, None, [], ◌∷◌, ◌++◌, List, length, arith, ap, sym, ◌∙◌, subst}
-use Rattle.ijson_table.specs.declared.index.slot.Slot.{Slot}
+use Rattle.ijson_table.specs.declared.slot.Slot.{Slot}
 use Rattle.ijson_table.specs.Slots.{resident}
 use Rattle.ijson_table.specs.private.Holds.{MayStand}
 use Rattle.ijson_table.specs.private.KeptHash.{kept}
@@ -10,7 +10,7 @@ use Rattle.ijson_table.proofs.slots.HashesInSlots.{positions-length}
 use Rattle.ijson_table.proofs.slots.NarrowSlots.{may_hold}
 use Rattle.ijson_table.proofs.index.Index.push_at.Goals as goal
 
--- the position is the next one, and there is room for it
+-- the index is the next one, and there is a slot for it
 record IsNext (slots : List Slot) (position : ℕ) : Type 0 where
   pub next : position ≡ length (hashes_of slots)
   pub room : position < length slots
@@ -35,7 +35,7 @@ shift_forward-requires c =
           (sym (ap (λ (l : HashIndex). length l.slots) c.self.view_is) ∙ positions-length c.self.inside.slots) c.requires.kept) to.room,
     )
 
--- the slots that come back, and their hashes
+-- the returned slots, and their hashes
 left : (c : goal.After-shift_forward) → IsIndexOf (hashes_of c.self.inside.slots ++ c.args.hash ∷ []) c.shift_forward.new.self
 left c =
     let to = is_next c.self.inside.slots c.args.self.now c.args.position c.self.view_is c.requires.position c.requires.room in

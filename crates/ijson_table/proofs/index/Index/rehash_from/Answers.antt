@@ -1,7 +1,7 @@
 use Rattle.std.proofs.Common.{◌≡◌, ◌<◌, ◌^◌, ℕ, List, [], length, arith, ap, refl, sym, ◌∙◌, subst, None, Bool, true, false}
 use Rattle.std.specs.Prelude.{IsTrue, IsFalse}
 use Rattle.std.specs.List.{All}
-use Rattle.ijson_table.specs.declared.index.slot.Slot.{Slot}
+use Rattle.ijson_table.specs.declared.slot.Slot.{Slot}
 use Rattle.ijson_table.specs.private.Insertion.{IsTableOf}
 use Rattle.ijson_table.specs.private.SlotHashes.{hashes_of, position_in}
 use Rattle.ijson_table.specs.private.HashIndex.{HashIndex, IsIndex}
@@ -9,13 +9,13 @@ use Rattle.ijson_table.proofs.slots.IndexInvariant.{index_is, empty_index, each_
 use Rattle.ijson_table.proofs.slots.HashesInSlots.{positions-length}
 use Rattle.ijson_table.proofs.index.Index.rehash_from.Goals as goal
 
--- the slots after a call that put all positions of others into them, or none
+-- the slots after a call that inserted all indices of others into them, or none
 record AreLeft (done : Bool) (hashes : List ℕ) (slots : List Slot) : Type 0 where
   pub index : IsIndex slots
   pub full : IsTrue done → hashes_of slots ≡ hashes
   pub empty : IsFalse done → hashes_of slots ≡ []
 
--- no test is both
+-- a test is not both true and false
 bool_apart : ◌≡◌ {A = Bool} true false → ⊥
 bool_apart bad = cc
 
@@ -60,7 +60,7 @@ rehash-requires c =
       ),
     )
 
--- the slots that come back, and their hashes
+-- the returned slots, and their hashes
 left : (c : goal.After-rehash) → AreLeft c.rehash.result (hashes_of c.as_slice.result.now) c.rehash.new.slots
 left c = left_in c.rehash.result (hashes_of c.as_slice.result.now) c.rehash.new.slots c.rehash.ensures.table c.rehash.ensures.empty
     (omega (arith, c.rehash.ensures.count, c.self.invariant.limited))

@@ -5,7 +5,7 @@ use Rattle.ijson_table.specs.private.HashIndex.{HashIndex}
 use Rattle.ijson_table.proofs.slots.IndexInvariant.{index_is, IsIndexOf}
 use Rattle.ijson_table.proofs.index.Index.shift_remove.Goals as goal
 
--- the slots that come back, and their hashes
+-- the returned slots, and their hashes
 left : (c : goal.After-shift_remove) → IsIndexOf (remove (hashes_of c.self.inside.slots) c.args.position) c.shift_remove.new.slots
 left c = index_is (remove (hashes_of c.self.inside.slots) c.args.position) c.shift_remove.new.slots c.shift_remove.ensures.table
     (omega (arith, c.shift_remove.ensures.count, c.self.invariant.limited))

@@ -5,7 +5,7 @@ use Rattle.ijson_table.specs.private.HashIndex.{HashIndex}
 use Rattle.ijson_table.proofs.slots.IndexInvariant.{index_is, IsIndexOf}
 use Rattle.ijson_table.proofs.index.Index.swap_remove.Goals as goal
 
--- the slots that come back, and their hashes
+-- the returned slots, and their hashes
 left : (c : goal.After-swap_remove) → IsIndexOf (swap_remove (hashes_of c.self.inside.slots) c.args.position 0) c.swap_remove.new.slots
 left c = index_is (swap_remove (hashes_of c.self.inside.slots) c.args.position 0) c.swap_remove.new.slots c.swap_remove.ensures.table
     (omega (arith, c.swap_remove.ensures.count, c.self.invariant.limited))

@@ -1,5 +1,5 @@
 use Rattle.std.proofs.Common.{◌≡◌, ◌<◌, ℕ, [], ◌∷◌, ◌++◌, List, length, arith, ap, refl, subst}
-use Rattle.ijson_table.specs.declared.index.slot.Slot.{Slot}
+use Rattle.ijson_table.specs.declared.slot.Slot.{Slot}
 use Rattle.ijson_table.specs.private.Holds.{MayStand}
 use Rattle.ijson_table.specs.private.Insertion.{Accepts}
 use Rattle.ijson_table.specs.private.SlotHashes.{positions, hashes_of}
@@ -9,7 +9,7 @@ use Rattle.ijson_table.proofs.slots.IndexInvariant.{accepts}
 use Rattle.ijson_table.proofs.slots.HashesInSlots.{positions-length}
 use Rattle.ijson_table.proofs.index.Index.vacancy.Goals as goal
 
--- the slots accept the position behind the last one
+-- the slots accept the index after the last one
 may : (slots : List Slot) (seen : HashIndex) (hash : ℕ) → IsIndex slots
     → record { hashes = hashes_of slots; slots = positions slots } ≡ seen
     → length seen.hashes < length seen.slots → Accepts (hashes_of slots ++ hash ∷ []) slots (length (hashes_of slots)) hash

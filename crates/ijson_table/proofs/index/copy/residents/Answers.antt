@@ -4,7 +4,7 @@ use Rattle.std.proofs.lemmas.Grind.{common_steps}
 use Rattle.std.specs.List.{All}
 use Rattle.std.proofs.lemmas.List.{take_all}
 use Rattle.std.proofs.lemmas.List.Elements.{All-push}
-use Rattle.ijson_table.specs.declared.index.slot.Slot.{Slot}
+use Rattle.ijson_table.specs.declared.slot.Slot.{Slot}
 use Rattle.ijson_table.specs.Slots.{times, below}
 use Rattle.ijson_table.specs.private.Holds.{one_if}
 use Rattle.ijson_table.specs.private.Insertion.{IsTableOf}
@@ -14,13 +14,13 @@ use Rattle.ijson_table.proofs.slots.ResidentCount.{few_entries, no_less, times-f
 use Rattle.ijson_table.proofs.index.copy.residents.Goals.{then-not-is_empty, else-not-is_empty}
 use Rattle.ijson_table.proofs.index.copy.residents.Goals as goal
 
--- the positions among the slots and the next one
+-- the indices in the slots and the next one
 next : (i : ℕ) (slots : List Slot) (index : ℕ) (told : Option ℕ) → index < length slots → told ≡ position_in (get_or slots index blank)
     → times i (take (index + 1) (positions slots)) ≡ times i (take index (positions slots)) + one_if i told
 next i slots index told lt is = times-next i index (positions slots) (omega (arith, lt, positions-length slots))
     ∙ ap (λ o. times i (take index (positions slots)) + one_if i o) (position-at slots index told lt is)
 
--- what stands at the next slot, or none
+-- the resident of the next slot, or none
 next_entry : (i : ℕ) (slots entries : List Slot) (index : ℕ) → index < length slots
     → ((i : ℕ) → times i (positions entries) ≡ times i (take index (positions slots)))
     → times i (positions (entries ++ get_or slots index blank ∷ [])) ≡ times i (take (index + 1) (positions slots))

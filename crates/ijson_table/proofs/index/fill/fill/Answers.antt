@@ -1,6 +1,6 @@
 use Rattle.std.proofs.Common.{◌≡◌, ◌%◌, ◌+◌, ◌<◌, ◌≤◌, ℕ, List, [], ◌∷◌, length, get_or, arith, ap, sym, ◌∙◌, subst}
 use Rattle.std.proofs.lemmas.Bool.Decides.{nat_tests}
-use Rattle.ijson_table.specs.declared.index.slot.Slot.{Slot}
+use Rattle.ijson_table.specs.declared.slot.Slot.{Slot}
 use Rattle.ijson_table.specs.Slots.{times}
 use Rattle.ijson_table.specs.private.HomeOrder.{home_in, AreInHomeOrder, CanBeLaid, HaveRoom, rotated}
 use Rattle.ijson_table.specs.private.SlotHashes.{blank, positions}
@@ -11,12 +11,12 @@ use Rattle.ijson_table.proofs.slots.HashesInSlots.{all_empty, hashes-none}
 use Rattle.ijson_table.proofs.slots.Residents.{times-nil}
 use Rattle.ijson_table.proofs.index.fill.fill.Goals as goal
 
--- no entries have no positions
+-- no entries have no indices
 times-no_entries : (i : ℕ) (entries : List Slot) → length entries ≡ 0 → times i (positions entries) ≡ 0
 times-no_entries i [] none = times-nil i
 times-no_entries i (entry ∷ entries) none = absurd (omega arith)
 
--- the entries can be laid from the one that is behind its number the most
+-- the entries can be written, beginning with the one whose home slot exceeds its number the most
 can_lay : (hashes : List ℕ) (n count start first : ℕ) (sorted : List Slot) → AreInHomeOrder hashes n sorted → length hashes ≤ n → count ≡ n
     → start < length sorted → first < count → first ≡ home_in count (get_or sorted start blank)
     → ((k : ℕ) → k < length sorted → home_in count (get_or sorted k blank) + start ≤ home_in count (get_or sorted start blank) + k)

@@ -4,7 +4,7 @@ use Rattle.std.proofs.lemmas.List.Elements.{All-get_or}
 use Rattle.std.proofs.lemmas.Bool.Decides.{nat_tests}
 use Rattle.std.specs.Ordering.{nat_cmp, ord_max}
 use Rattle.std.specs.Prelude.{◌≢◌, None}
-use Rattle.ijson_table.specs.declared.index.slot.Slot.{Slot}
+use Rattle.ijson_table.specs.declared.slot.Slot.{Slot}
 use Rattle.ijson_table.specs.Slots.{after, times}
 use Rattle.ijson_table.specs.private.HomeOrder.{rotated, behind, HaveRoom, CanBeLaid}
 use Rattle.ijson_table.specs.private.Narrow.{Fits}
@@ -17,7 +17,7 @@ use Rattle.ijson_table.proofs.slots.HashesInSlots.{positions-length, positions-p
 use Rattle.ijson_table.proofs.slots.Residents.{some_position}
 use Rattle.ijson_table.proofs.index.fill.lay.Goals as goal
 
--- the entries have room in the slots as they are now
+-- the entries fit the current slots
 room_now : (hashes : List ℕ) (n start first : ℕ) (sorted slots : List Slot) → CanBeLaid hashes n start first sorted → length slots ≡ n
     → HaveRoom (length (positions slots)) first (rotated start sorted)
 room_now hashes n start first sorted slots can same =
@@ -29,11 +29,11 @@ entry_now : (start step index : ℕ) (sorted : List Slot) → start < length sor
 entry_now start step index sorted starts more is =
     rotated-at start step sorted (omega arith) more ∙ ap (λ i. get_or sorted i blank) (sym is)
 
--- the greater of two numbers
+-- the maximum of two numbers
 greater : (a b : ℕ) → ord_max nat_cmp a b ≡ max a b
 greater a b = grind (arith, nat_tests)
 
--- the steps to the slot where it is put down
+-- the steps to the slot to which it is written
 steps_now : (first step index start next far count steps : ℕ) (sorted slots : List Slot)
     → get_or (rotated start sorted) step blank ≡ get_or sorted index blank → count ≡ length slots
     → far ≡ behind count first (get_or sorted index blank) → steps ≡ ord_max nat_cmp next far

@@ -1,9 +1,9 @@
 use Rattle.std.proofs.Common.{◌≡◌, ◌≢◌, ◌<◌, ◌≤◌, ℕ, ◌+◌, List, length, map, get_or, set, Option, Some, None, refl, arith, ap, sym, ◌∙◌}
 use Rattle.std.proofs.Common.{◌*◌, ◌^◌, Fits, w64, false, inl, inr, subst, get_or-set_other}
 use borrow.Author.Rules.{scaled_Fits}
-use Rattle.std.proofs.lemmas.List.{get_or-map, length-map, length-set, map-set}
+use Rattle.std.proofs.lemmas.List.{length-map, length-set, map-set}
 use Rattle.std.proofs.lemmas.Bool.{cases_eq}
-use Rattle.ijson_table.specs.declared.index.slot.Slot.{Slot}
+use Rattle.ijson_table.specs.declared.slot.Slot.{Slot}
 use Rattle.ijson_table.specs.Crowd.{distance}
 use Rattle.ijson_table.specs.Slots.{after, resident}
 use Rattle.ijson_table.specs.private.Changes.{changes}
@@ -15,7 +15,7 @@ use Rattle.ijson_table.proofs.arithmetic.Circular.{distance-after, distance-belo
 use Rattle.ijson_table.proofs.shifting.SlotWrites.{put_down}
 use Rattle.ijson_table.proofs.shifting.Insertion.{Shifting, goes_on, shift_more}
 use Rattle.ijson_table.proofs.slots.HashesInSlots.{positions-length, positions-put, positions-set, position-at, hashes-at, hashes-set}
-use Rattle.ijson_table.proofs.slots.HashesInSlots.{has_own_hash}
+use Rattle.ijson_table.proofs.slots.HashesInSlots.{has_own_hash, seen_at}
 use Rattle.ijson_table.proofs.slots.Residents.{some_position}
 use Rattle.ijson_table.proofs.slots.NarrowSlots.{code-of}
 use Rattle.ijson_table.proofs.slots.SlotChanges.{changes-none, changes-set}
@@ -32,11 +32,11 @@ one_more old slots slot written entry few = omega (
   changes-set old (positions slots) slot (position_in entry),
 )
 
--- below the next number and not there
+-- below the next number and different from this one
 before : (j written : ℕ) → j < written + 1 → j ≢ written → j < written
 before j written lj ne = omega arith
 
--- where it goes on, the slot that it is at was full too,
+-- if the shift continues, the current slot was full too,
 passed_more : (old : List (Option ℕ)) (n from slot more : ℕ) → n ≡ length old → from < n → slot < n → more ≡ distance n from slot + 1
     → AreFull old from (distance n from slot) → resident old slot ≢ None → AreFull old from more
 passed_more old n from slot more size lf ls is passed here j lj none = elim (cases_eq j (distance n from slot)) [
@@ -45,7 +45,7 @@ passed_more old n from slot more size lf ls is passed here j lj none = elim (cas
   | inr other ↦ passed j (before j (distance n from slot) (omega (arith, lj, is)) other) none
 ]
 
--- and those further on stay
+-- and later slots are unchanged
 still_left : (old : List (Option ℕ)) (slots : List Slot) (entry : Slot) (slot from : ℕ)
     → ((p : ℕ) → p < length slots → distance (length slots) from slot ≤ distance (length slots) from p
     → resident (positions slots) p ≡ resident old p)
@@ -60,11 +60,11 @@ still_left old slots entry slot from left p lp far =
 
 module _ (hashes : List ℕ) (old : List Slot) (position from : ℕ) (slots : List Slot) (entry : Slot) (slot : ℕ)
     (first : from < length old) (way : IsOnTheWay hashes old position from slots entry slot (distance (length slots) from slot)) where
-  -- it is at one of the slots
+  -- the current slot is one of the slots
   here : slot < length slots
   here = omega (arith, way.shifting.2.may.within, positions-length slots)
 
-  -- where the slot is empty, the last one is put down
+  -- if the slot is empty, the last one is written
   is_put : None ≡ position_in (get_or slots slot blank) → IsPut hashes old position from slot (set slots slot entry)
   is_put empty =
       let s = way.shifting in
@@ -86,7 +86,7 @@ module _ (hashes : List ℕ) (old : List Slot) (position from : ℕ) (slots : Li
         );
       }
 
-  -- where a resident stands there, there is a slot to go on to,
+  -- if the slot has a resident, there is a next slot,
   room : (next : ℕ) → Some next ≡ position_in (get_or slots slot blank) → distance (length slots) from slot + 1 < length slots
   room next there =
       let more = goes_on hashes (with_one (positions old) position) way.shifting.0 slot (distance (length slots) from slot) next
@@ -100,7 +100,7 @@ module _ (hashes : List ℕ) (old : List Slot) (position from : ℕ) (slots : Li
       ap (λ k. distance k from (after (length slots) slot)) (length-set slots slot entry)
       ∙ distance-after (length slots) from slot (omega (arith, first, way.size)) here (omega (arith, room next there))
 
-  -- and it is on the way there.
+  -- and the invariant holds there.
   goes_further : (next : ℕ) → Some next ≡ position_in (get_or slots slot blank)
       → IsOnTheWay hashes old position from (set slots slot entry) (get_or slots slot blank) (after (length slots) slot)
       (distance (length (set slots slot entry)) from (after (length slots) slot))
@@ -130,11 +130,6 @@ module _ (hashes : List ℕ) (old : List Slot) (position from : ℕ) (slots : Li
         left = λ p lp away. still_left (positions old) slots entry slot from way.left p lp (omega (arith, away, more));
         size = length-set slots slot entry ∙ way.size;
       }
-
--- what is seen in a stored slot that was read is what is seen there
-seen_at : {X : Type 0} (f : X → Slot) (slots : List X) (p : ℕ) (read : X) → p < length (map f slots) → read ≡ get_or slots p read
-    → f read ≡ get_or (map f slots) p blank
-seen_at f slots p read lp is = ap f is ∙ sym (get_or-map f slots p read blank (omega (arith, lp, length-map slots f)))
 
 pub of-requires : goal.of-requires
 of-requires g c = c.requires.may.1.0.fits
@@ -183,7 +178,7 @@ loop-was-init g c hashes allowed =
     subst (λ entry. IsOnTheWay hashes stored c.args.position c.args.from stored entry c.args.from
     (distance (length stored) c.args.from c.args.from)) (sym c.stored-entry.ensures) way
 
--- the slots that are seen,
+-- the represented slots,
 abbrev slots_seen : (g : _) (c : After-is_empty g) → List Slot
 slots_seen g c = map g.S.StoredSlot.stands_for c.loop-was.slots
 
@@ -191,22 +186,22 @@ slots_seen g c = map g.S.StoredSlot.stands_for c.loop-was.slots
 abbrev entry_seen : (g : _) (c : After-is_empty g) → Slot
 entry_seen g c = g.S.StoredSlot.stands_for c.loop-was.entry
 
--- the slots that are seen once the entry is written
+-- the represented slots after the entry is written
 written_seen : (g : _) (c : After-is_empty g) → map g.S.StoredSlot.stands_for (set c.loop-was.slots c.loop-was.slot
     c.loop-was.entry) ≡ set (slots_seen g c) c.loop-was.slot (entry_seen g c)
 written_seen g c = map-set g.S.StoredSlot.stands_for c.loop-was.slots c.loop-was.slot c.loop-was.entry
 
--- the first slot that is written is one of them
+-- the first slot written is one of them
 first_in : (g : _) (c : After-is_empty g) → c.args.from < length (map g.S.StoredSlot.stands_for c.args.slots.now)
 first_in g c = omega (arith, c.requires.may.1.1.within, positions-length (map g.S.StoredSlot.stands_for c.args.slots.now))
 
--- it is on the way, by the hashes that it is called for
+-- the invariant holds, for the hashes of the call
 on_way : (g : _) (c : After-is_empty g) → IsOnTheWay c.requires.may.0 (map g.S.StoredSlot.stands_for c.args.slots.now) c.args.position
     c.args.from (slots_seen g c) (entry_seen g c) c.loop-was.slot
     (distance (length (slots_seen g c)) c.args.from c.loop-was.slot)
 on_way g c = c.loop-was.invariant c.requires.may.0 c.requires.may.1
 
--- what was read is seen at the slot,
+-- the value read represents the slot,
 read_seen : (g : _) (c : After-is_empty g) → g.S.StoredSlot.stands_for c.index-slots-slot.result
     ≡ get_or (slots_seen g c) c.loop-was.slot blank
 read_seen g c =
@@ -215,18 +210,18 @@ read_seen g c =
     (here c.requires.may.0 (map g.S.StoredSlot.stands_for c.args.slots.now) c.args.position c.args.from (slots_seen g c) (entry_seen g c)
     l.slot (first_in g c) (on_way g c)) c.index-slots-slot.is
 
--- and so is the position, or none
+-- and so does its index, or none
 told : (g : _) (c : After-is_empty g) → position_in c.widened.result ≡ position_in (get_or (slots_seen g c) c.loop-was.slot blank)
 told g c = ap position_in c.widened.ensures.value ∙ ap position_in (read_seen g c)
 
--- so where it is not empty, a resident stands there
+-- so if it is not empty, it has a resident
 stands : (g : _) (c : After-is_empty g) → c.is_empty.result ≡ false
     → (next : ℕ) × (Some next ≡ position_in (get_or (slots_seen g c) c.loop-was.slot blank))
 stands g c full =
     let who = some_position (position_in c.widened.result) (λ none. let empty = c.is_empty.ensures.1 none in absurd (cc (empty, full))) in
     (who.0, sym who.1 ∙ told g c)
 
--- there are as many slots as before
+-- the number of slots is unchanged
 same_size : (g : _) (c : After-is_empty g) → length (slots_seen g c) ≡ length c.args.slots.now
 same_size g c = (on_way g c).size ∙ length-map c.args.slots.now g.S.StoredSlot.stands_for
 
@@ -282,7 +277,7 @@ returns-then-is_empty g c hashes allowed =
     (is_put hashes old c.args.position c.args.from (slots_seen g p) (entry_seen g p) l.slot (first_in g p) (l.invariant hashes allowed)
     (sym (c.is_empty.ensures.0 c.if-is_empty.true) ∙ told g p))
 
--- the slot that it is at is one of them
+-- the current slot is one of them
 reached : {X : Type 0} (f : X → Slot) (slots : List X) (hashes : List ℕ) (old : List Slot) (position from slot written : ℕ) (entry : Slot)
     → IsOnTheWay hashes old position from (map f slots) entry slot written → slot < length slots
 reached f slots hashes old position from slot written entry way =
@@ -304,7 +299,7 @@ next_slot-slot-requires g c = omega (
   length-map c.loop-was.slots g.S.StoredSlot.stands_for,
 )
 
--- and so is its offset in the memory that they take
+-- and so is its offset in their memory
 offset_fits : (slot count many size : ℕ) → slot < count → count ≡ many → many * size < 2 ^ 63 → Fits w64 (slot * size)
 offset_fits slot count many size here same room = scaled_Fits slot many size (omega arith) room
 

@@ -1,5 +1,5 @@
 use Rattle.std.proofs.Common.{◌≡◌, ◌<◌, ◌≤◌, ◌-◌, ℕ, List, length, map, Some}
-use Rattle.ijson_table.specs.declared.index.slot.Slot.{Slot}
+use Rattle.ijson_table.specs.declared.slot.Slot.{Slot}
 use Rattle.ijson_table.specs.Crowd.{distance}
 use Rattle.ijson_table.specs.Slots.{resident}
 use Rattle.ijson_table.specs.private.Changes.{changes}
@@ -10,7 +10,7 @@ use Rattle.ijson_table.specs.private.SlotHashes.{position_in, positions, HasHash
 use Rattle.ijson_table.proofs.shifting.Insertion.{Shifting}
 use Rattle.ijson_table.proofs.index.forward.shift_forward.Given as goal
 
--- As many slots were written as the next one is on from the first, after so many steps. The others are as they were.
+-- The number of slots written is the distance of the next one from the first. The others are unchanged.
 pub record IsOnTheWay (hashes : List ℕ) (old : List Slot) (position from : ℕ) (slots : List Slot) (entry : Slot)
     (slot written : ℕ) : Type 0 where
   pub shifting : (i : ℕ) × (position_in entry ≡ Some i)

@@ -3,7 +3,7 @@ use Rattle.std.proofs.lemmas.List.{length-take-le, take_at}
 use Rattle.ijson_table.specs.private.Insertion.{IsPut}
 use Rattle.ijson_table.proofs.index.forward.shift_in_front.Goals as goal
 
--- what the check tries where no answer stands takes longer than these
+-- given for speed: the default tactics take longer
 pub shift_forward-requires : goal.shift_forward-requires
 shift_forward-requires g c = record { may = c.requires.may; code = c.requires.code; hash = c.requires.hash }
 

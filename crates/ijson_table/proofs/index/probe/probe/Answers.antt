@@ -63,7 +63,7 @@ loop-passed-preserved g c =
       looked = omega (arith, c.look.ensures.counts, c.loop-passed.invariant.looked);
     }
 
--- where the look behind those that it passed ends the probe
+-- the inspection after those that it passed ends the probe
 ends_at : {slots : List (Option ℕ)} {displacements : ℕ → ℕ} {h : ℕ} {seeks : ℕ → Bool} {looks p m : ℕ} → m < length slots
     → p ≡ onward (length slots) h m → Passed displacements (length slots) h m → PassedOthers slots seeks h m → looks ≡ m + 1
     → EndsAt slots displacements h seeks looks p m
@@ -110,6 +110,6 @@ returns-clause-ends g c =
       omega (arith, i.looked, all),
     )
 
--- what the check tries where no answer stands takes longer than this
+-- given for speed: the default tactics take longer
 pub returns-in-Empty-clause-grows : goal.returns-in-Empty-clause-grows
 returns-in-Empty-clause-grows g c = omega (arith, c.in-Empty.ensures.counts, c.loop-passed.invariant.looked)

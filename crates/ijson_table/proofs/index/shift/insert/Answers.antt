@@ -29,11 +29,11 @@ distance_between-requires-clause-from g c =
     c.vacancy-slot.ensures.vacancy in
     omega (arith, may.within, positions-length c.args.slots.now, c.len.ensures, c.shift_forward-last.ensures.count)
 
--- below the next number and not there
+-- below the next number and different from this one
 sooner : (j written : ℕ) → j < written + 1 → j ≢ written → j < written
 sooner j written lj ne = omega arith
 
--- Some slots on from one, and the one after them, are as many positions where the last is filled.
+-- The slots from `from` to `last` are at most n if they are full once `last` is written.
 written_few : (old : List (Option ℕ)) (position from last n : ℕ) → from < length old → last < length old → resident old last ≡ None
     → AreFull old from (distance (length old) from last) → ((k : ℕ) → with_one old position k ≤ below n k)
     → distance (length old) from last + 1 ≤ n

@@ -10,12 +10,12 @@ use Rattle.ijson_table.proofs.slots.HashesInSlots.{positions-length, position-at
 use Rattle.ijson_table.proofs.index.shift.insert_each.Goals.{After-insert, In-Some}
 use Rattle.ijson_table.proofs.index.shift.insert_each.Goals as goal
 
--- what the next one of them adds
+-- the indices of the next one
 next : (i : ℕ) (from : List (Option ℕ)) (index : ℕ) (told : Option ℕ) → index < length from → resident from index ≡ told
     → times i (take (index + 1) from) ≡ times i (take index from) + one_if i told
 next i from index told lt at = times-next i index from lt ∙ ap (λ o. times i (take index from) + one_if i o) at
 
--- where one is still to come, a slot is empty
+-- if one remains, a slot is empty
 has_empty : (count : ℕ) (first from slots : List (Option ℕ)) (index k : ℕ) → index < length from → resident from index ≡ Some k
     → ((i : ℕ) → times i first + times i from ≤ below count i)
     → ((i : ℕ) → times i slots ≡ times i first + times i (take index from)) → count ≤ length slots → HasEmpty slots
@@ -76,7 +76,7 @@ loop-index-preserved-in_default g c =
       steps = c.loop-index.invariant.steps;
     }
 
--- the resident that is put
+-- the resident that is inserted
 there : (g : _) (c : In-Some g) → resident (positions c.args.from.now) c.loop-index.index ≡ Some c.in-Some.position
 there g c = position-at c.args.from.now c.loop-index.index (Some c.in-Some.position) c.loop-index-test.true
     (sym c.in-Some.is ∙ c.position.ensures)

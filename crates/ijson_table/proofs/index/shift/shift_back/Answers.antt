@@ -1,7 +1,7 @@
 use Rattle.std.proofs.Common.{false, ◌≡◌, ℕ, ◌+◌, ◌%◌, ◌<◌, ◌≤◌, List, length, get_or, set, Option, Some, None, arith, ap, sym, ◌∙◌, subst}
 use Rattle.std.proofs.lemmas.Grind.{common_steps}
 use Rattle.std.proofs.lemmas.List.{length-set}
-use Rattle.ijson_table.specs.declared.index.slot.Slot.{Slot}
+use Rattle.ijson_table.specs.declared.slot.Slot.{Slot}
 use Rattle.ijson_table.specs.Crowd.{distance}
 use Rattle.ijson_table.specs.Slots.{after, displacement, resident, times, IsOrdered}
 use Rattle.ijson_table.specs.private.Holds.{HasGap}
@@ -15,7 +15,7 @@ use Rattle.ijson_table.proofs.index.shift.shift_back.Goals.{After-is_empty, Afte
 use Rattle.ijson_table.proofs.index.shift.shift_back.Goals.{then-is_empty-via-else-is_empty+then-distance-eq0}
 use Rattle.ijson_table.proofs.index.shift.shift_back.Goals as goal
 
--- how far a resident is displaced, by its distance among so many slots
+-- the displacement of a resident, by its distance
 displaced : (hashes : List ℕ) (slots : List Slot) (n p i d : ℕ) → HaveHashes hashes slots → p < length slots
     → Some i ≡ position_in (get_or slots p blank) → n ≡ length slots → d ≡ distance n ((get_or slots p blank).hash % n) p
     → displacement hashes (positions slots) p ≡ d + 1
@@ -23,14 +23,14 @@ displaced hashes slots n p i d have lp there count is =
     displacement-read hashes slots p i d have lp there
     (subst (λ m. d ≡ distance m ((get_or slots p blank).hash % m) p) count is)
 
--- where nothing behind the gap may move back
+-- if nothing after the gap may move back
 closed_before : (hashes : List ℕ) (slots : List Slot) (gap next : ℕ) → HasGap hashes (positions slots) gap
     → next ≡ after (length slots) gap → displacement hashes (positions slots) next ≤ 1 → IsOrdered hashes (positions slots)
 closed_before hashes slots gap next left to near =
     let reached : next ≡ after (length (positions slots)) gap = to ∙ ap (λ n. after n gap) (sym (positions-length slots)) in
     gap_closed hashes (positions slots) gap left.within left (omega (arith, near, ap (displacement hashes (positions slots)) reached))
 
--- The slot behind the gap.
+-- The slot after the gap.
 there : (g : _) (c : After-is_empty g) → c.next_slot-next.result ≡ after (length c.loop-modulus.slots) c.loop-modulus.gap
 there g c = c.next_slot-next.ensures.slot
     ∙ ap (λ n. after n c.loop-modulus.gap) (c.len-count.ensures ∙ sym c.loop-modulus.invariant.size)
@@ -38,14 +38,14 @@ there g c = c.next_slot-next.ensures.slot
 within : (g : _) (c : After-is_empty g) → c.next_slot-next.result < length c.loop-modulus.slots
 within g c = omega (arith, c.next_slot-next.ensures.within, c.len-count.ensures, c.loop-modulus.invariant.size)
 
--- The resident there, where the slot is not empty,
+-- Its resident, if the slot is not empty,
 stands : (g : _) (c : After-is_empty g) → c.is_empty.result ≡ false
     → (i : ℕ) × (Some i ≡ position_in (get_or c.loop-modulus.slots c.next_slot-next.result blank))
 stands g c full =
     let who = some_position (position_in c.at-behind.result) (λ none. let empty = c.is_empty.ensures.1 none in absurd (cc (empty, full))) in
     (who.0, sym who.1 ∙ ap position_in c.at-behind.ensures.value)
 
--- and how far it is from its home.
+-- and the distance from its home slot.
 far_by : (g : _) (c : After-is_empty g) → c.is_empty.result ≡ false → (far : ℕ)
     → far ≡ distance c.new-modulus.result.count (c.at-behind.result.hash % c.new-modulus.result.count) c.next_slot-next.result
     → displacement g.hashes (positions c.loop-modulus.slots) c.next_slot-next.result ≡ far + 1
@@ -71,7 +71,7 @@ returns-then-is_empty-clause-ordered g c =
           omega (arith, far_by g at w.if-is_empty.false w.distance.result w.distance.ensures, w.if-distance-eq0.true)
     ])
 
--- Where it is not at its home, it moves one slot back.
+-- If it is not at home, it moves back by one slot.
 record Moves (hashes : List ℕ) (slots : List Slot) (gap next k : ℕ) (empty : Slot) (now : List Slot) : Type 0 where
   pub there : next ≡ after (length (positions slots)) gap
   pub within : next < length slots
@@ -145,7 +145,7 @@ loop-modulus-preserved g c =
           ∙ (length-set c.loop-modulus.slots gap behind ∙ was.size));
     }
 
--- what the check tries where no answer stands takes longer than these
+-- given for speed: the default tactics take longer
 pub new-modulus-requires : goal.new-modulus-requires
 new-modulus-requires g c = grind (arith, common_steps)
 

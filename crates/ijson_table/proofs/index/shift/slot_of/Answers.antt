@@ -4,7 +4,7 @@ use Rattle.std.proofs.lemmas.Bool.Decides.{nat_tests}
 use Rattle.std.proofs.Math.Nat.{mod-lt}
 use Rattle.std.proofs.lemmas.Bool.{cases_lt}
 use Rattle.std.proofs.lemmas.Nat.{mod_below}
-use Rattle.ijson_table.specs.declared.index.slot.Slot.{Slot}
+use Rattle.ijson_table.specs.declared.slot.Slot.{Slot}
 use Rattle.ijson_table.specs.Crowd.{distance}
 use Rattle.ijson_table.specs.Slots.{displacement, home_at, resident, IsOrdered}
 use Rattle.ijson_table.specs.private.SlotHashes.{displacement_in, positions, HaveHashes}
@@ -42,7 +42,7 @@ returns-clause-there g c =
     let same : c.in-Found.at ≡ c.args.position = grind (arith, nat_tests, ends.3) in
     ends.2 ∙ ap Some same
 
--- the probe does not pass the position, and does not end before it
+-- the probe does not pass the index, and does not end before it
 not_before : (hashes : List ℕ) (slots : List Slot) (position hash m : ℕ) → hash ≡ get_or hashes position 0 → HaveHashes hashes slots
     → IsOrdered hashes (positions slots)
     → (stands : (p : ℕ) × (p < length slots) × (resident (positions slots) p ≡ Some position))
@@ -60,7 +60,7 @@ not_before hashes slots position hash m is have ordered stands others before =
     let bad : ◌≡◌ {A = Bool} true false = sym (eqb-self position) ∙ no_it_is in
     cc
 
--- so it finds the position
+-- so it finds the index
 no_other : (hashes : List ℕ) (slots : List Slot) (position hash looks : ℕ) → Stands hashes slots position hash
     → (end : Probed) → Ends (positions slots) (displacement_in slots) (hash % length slots) (λ i. eqb i position) looks end
     → ((x : ℕ) × (end ≡ Vacant x)) ⊎ (end ≡ Full) → ⊥

@@ -1,7 +1,7 @@
 use Rattle.std.proofs.Common.{◌≡◌, ◌≢◌, ◌<◌, ◌≤◌, ℕ, List, length, get_or, Some, arith, ap, refl, sym, ◌∙◌, subst}
 use Rattle.std.specs.List.{swap_remove}
 use Rattle.std.proofs.lemmas.List.{length-set}
-use Rattle.ijson_table.specs.declared.index.slot.Slot.{Slot}
+use Rattle.ijson_table.specs.declared.slot.Slot.{Slot}
 use Rattle.ijson_table.specs.Slots.{IsTable}
 use Rattle.ijson_table.specs.private.Insertion.{EndsWith, IsTableOf}
 use Rattle.ijson_table.specs.private.SlotHashes.{blank, position_in, positions}

@@ -34,7 +34,7 @@ shift_back-requires g c =
           (nothing_has_hash g.hashes c.empty.result (ap position_in c.empty.ensures)) table.hashes_are,
     )
 
--- the position is out, and each other one stands where it did or one slot back
+-- the index is removed, and each other one is in its old slot or the one before
 pub returns-clause-holds : goal.returns-clause-holds
 returns-clause-holds g c =
     let table : IsTableOf g.hashes c.args.slots.now = c.requires.0 in

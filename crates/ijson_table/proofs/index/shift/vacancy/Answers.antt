@@ -1,6 +1,6 @@
 use Rattle.std.proofs.Common.{◌≡◌, ◌⊎◌, ℕ, ◌%◌, ◌+◌, ◌-◌, ◌<◌, ◌≤◌, List, false, length, arith, ap, inl, inr, ◌∙◌, subst}
 use Rattle.std.proofs.lemmas.Nat.{mod_below}
-use Rattle.ijson_table.specs.declared.index.slot.Slot.{Slot}
+use Rattle.ijson_table.specs.declared.slot.Slot.{Slot}
 use Rattle.ijson_table.specs.declared.index.probe.Probed.{Probed}
 use Rattle.ijson_table.specs.declared.index.probe.Probed.TheVariants.{Found, Vacant, Full}
 use Rattle.ijson_table.specs.Crowd.{distance}
@@ -14,7 +14,7 @@ use Rattle.ijson_table.proofs.slots.ResidentCount.{few_residents}
 use Rattle.ijson_table.proofs.slots.HashesInSlots.{positions-length, displacement_in-none}
 use Rattle.ijson_table.proofs.index.shift.vacancy.Goals as goal
 
--- what is sought stands nowhere, and a slot is empty
+-- the target is in no slot, and a slot is empty
 no_other : (slots : List Slot) (hash looks : ℕ) → HasEmpty (positions slots)
     → (end : Probed) → Ends (positions slots) (displacement_in slots) (hash % length slots) (λ i. false) looks end
     → ((x : ℕ) × (x' : ℕ) × (end ≡ Found x x')) ⊎ (end ≡ Full) → ⊥
@@ -31,7 +31,7 @@ pub unreachable-requires : goal.unreachable-requires
 unreachable-requires c = no_other c.args.slots.now c.args.hash
     (c.probe.new.looks - c.new-looks.result) c.requires c.probe.result c.probe.ensures.ends c.in-Found.is
 
--- the residents that it passed are as many positions
+-- the residents that it passed are different indices
 looked_few : (slots : List Slot) (hash looks n : ℕ) (p m : ℕ) → EndsAt (positions slots) (displacement_in slots) (hash % length slots)
     (λ i. false) looks p m → ((i : ℕ) → times i (positions slots) ≤ below n i) → looks ≤ n + 1
 looked_few slots hash looks n p m ends few =

@@ -5,7 +5,7 @@ use Rattle.ijson_table.specs.Store.{Store, keys_of, IsDistinct}
 use Rattle.ijson_table.specs.private.Room.{HasRoom, IsResized}
 use Rattle.ijson_table.proofs.linear.LinearPairs.set_capacity.Goals as goal
 
--- a list that was resized has room, and so has one that was not
+-- a list keeps its capacity within the limit, resized or not
 still_room : {A B E : Type 0} (items : List A) (c room : ℕ) (result : Result B E) (items' : List A) (c' : ℕ)
     → IsResized items c room result items' c' → HasRoom (length items) c → length items ≤ room → room ≤ capacity_limit
     → HasRoom (length items') c'

@@ -11,7 +11,7 @@ use Rattle.ijson_table.proofs.sorting.first.first_positions.Given.{Over}
 use Rattle.ijson_table.proofs.sorting.first.first_positions.Goals as goal
 use Rattle.ijson_table.proofs.sorting.first.first_positions.Goals.{then-not-has_same_key, else-not-has_same_key, Start}
 
--- each entry has a position
+-- each entry has an index
 stands : (g : Over) (c : Start g) (k : ℕ) → k < length c.args.sorted.now → position_in (get_or c.args.sorted.now k blank) ≢ None
 stands g c = each_stands (keys_of c.args.pairs.now) c.args.sorted.now c.requires.entries
 
@@ -83,7 +83,7 @@ returns-clause-firsts g c =
     all_told (keys_of c.args.pairs.now) c.args.sorted.now c.requires.entries
     c.loop-entry.entry-index c.loop-entry.run c.loop-entry.firsts.items c.loop-entry-test.false c.loop-entry.invariant.run
 
--- what the check tries where no answer stands takes longer than these
+-- given for speed: the default tactics take longer
 pub returns-in_err-firsts-clause-refused : goal.returns-in_err-firsts-clause-refused
 returns-in_err-firsts-clause-refused g c = grind (arith, common_steps)
 
@@ -114,7 +114,7 @@ returns-then-is_empty-clause-grows g c = omega arith
 pub returns-then-is_empty-clause-refused : goal.returns-then-is_empty-clause-refused
 returns-then-is_empty-clause-refused g c = omega arith
 
--- one more look can be counted,
+-- one more inspection can be counted,
 one_more : (old index sorted keys pairs looks : ℕ) → looks ≡ old + index → index < sorted → sorted ≡ keys → keys ≡ pairs
     → old + pairs < 2 ^ 128 → looks + 1 < 2 ^ 128
 one_more old index sorted keys pairs looks looked there count size fits = omega arith

@@ -12,7 +12,7 @@ use Rattle.ijson_table.proofs.sorting.together.put_together.Given.{Over}
 use Rattle.ijson_table.proofs.sorting.together.put_together.Goals as goal
 use Rattle.ijson_table.proofs.sorting.together.put_together.Goals.{then-first-position, else-first-position, After-index-first, In-Some}
 
--- what is known of a turn
+-- the facts of an iteration
 turn : (g : Over) (c : After-index-first g) → Turn c.args.pairs.items c.loop-pair.yielded c.loop-pair.list.items c.args.firsts.items
     c.loop-pair.places.items c.in-Some.pair c.loop-pair.position c.index-first.result.now
 turn g c =
@@ -30,14 +30,14 @@ turn g c =
       read = c.index-first.ensures;
     }
 
--- a pair is left
+-- a pair remains
 more : (g : Over) (c : In-Some g) → length c.loop-pair.yielded < length c.args.pairs.items
 more g c =
     let gives = c.into_iter-pair-iterator.ensures.into_iter_gives in
     (YieldsList-turn (YieldsList-from_vec c.args.pairs.items gives.0 (gives.1 ∙ c.args.pairs.ok.0)) c.loop-pair.yielded
     c.loop-pair.pair-iterator c.loop-pair.yielded_by c.next.result c.next.new.self c.in-Some.pair c.in-Some.is c.next.ensures.steps).0
 
--- and a place at its position
+-- and a number at its index
 there : (g : Over) (c : In-Some g) → c.loop-pair.position < c.loop-pair.places.len
 there g c = omega (
   arith,

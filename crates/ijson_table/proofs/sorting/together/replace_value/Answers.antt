@@ -9,7 +9,7 @@ returns g c =
     ap (λ pair. set list c.args.place (pair.0, c.args.pair.1)) (sym c.index-list-place.is)
     ∙ set-value list c.args.place there c.args.pair.1 c.requires c.index-list-place.is
 
--- what the check tries where no answer stands takes longer than these
+-- given for speed: the default tactics take longer
 pub bounds-list-place : goal.bounds-list-place
 bounds-list-place g c = omega arith
 

@@ -18,11 +18,11 @@ use Rattle.ijson_table.proofs.table.Table.from_pairs_counted.Given.{Over}
 use Rattle.ijson_table.proofs.table.Table.from_pairs_counted.Goals.{In_ok-capacity, After-add, In-Ok}
 use Rattle.ijson_table.proofs.table.Table.from_pairs_counted.Goals as goal
 
--- an answer is no error
+-- a success is no error
 no_error : {T : Type 0} {x : T} → ◌≡◌ {A = Result T ReserveError} (Ok x) (Err TooLarge) → ⊥
 no_error bad = cc
 
--- Memory is refused: what is then left to say is that there are pairs, and what was counted.
+-- If an allocation fails, it remains to show that there are pairs, and the count.
 refused : {T : Type 0} (P Q : T → Type 0) (C : Type 0) {G B : Type 0} (r : Result T ReserveError) (n : ℕ) → IsErrAnd r (λ why. why ≡ Memory)
     → n ≤ capacity_limit → 0 < n → G → B → record {
       pairs : IfOk r P;
@@ -44,7 +44,7 @@ refused P Q C (Err why) n is within some grows bounded = record {
   bounded = bounded;
 }
 
--- the capacity is the count of the pairs, and within the limit
+-- the capacity is the number of pairs, and within the limit
 within : (g : Over) (c : In_ok-capacity g) → (c.in_ok-capacity.capacity ≡ length c.args.pairs.items)
     × (length c.args.pairs.items ≤ capacity_limit)
 within g c =
@@ -90,7 +90,7 @@ invariant_of-table-2 g c =
     let w = goal.at.invariant_of-table-2 g c in
     (placed_in g w.In-Ok (within g w.In_ok-capacity)).1
 
--- the steps so far, beside the bound on them
+-- the steps so far, and the bound on them
 few : (g : Over) (c : After-add g) → c.in_ok-capacity.capacity ≡ length c.args.pairs.items
     → c.add_new_keys-placed.new.steps ≤ 32 * length c.args.pairs.items + 2 * slot_count (length c.args.pairs.items)
 few g c exactly = omega (
@@ -102,7 +102,7 @@ few g c exactly = omega (
   ap slot_count exactly,
 )
 
--- the pairs of the table and the rest, beside all
+-- the pairs of the table and the rest, compared with all
 apart : (g : Over) (c : In-Ok g) → (put_each c.split_rest.new.list.items c.in-Ok.rest.items ≡ put_each [] c.args.pairs.items)
     × (c.add_new_keys-placed.result + length c.in-Ok.rest.items ≡ length c.args.pairs.items)
     × (length c.split_rest.new.list.items ≡ c.add_new_keys-placed.result)
@@ -119,7 +119,7 @@ apart g c =
       omega (arith, no_more, ap length kept, length-take n pairs),
     )
 
--- the room of the table is the count of all pairs
+-- the capacity of the table is the number of all pairs
 room_of : (g : Over) (c : In-Ok g) → vec_capacity c.split_rest.new.list ≡ length c.args.pairs.items
 room_of g c = c.split_rest.ensures.room ∙ c.in_ok-tighten.ensures.room
 

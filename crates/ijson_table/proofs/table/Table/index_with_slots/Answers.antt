@@ -14,12 +14,12 @@ use Rattle.ijson_table.proofs.table.Table.index_with_slots.Goals.{After-len, the
 use Rattle.ijson_table.proofs.table.Table.index_with_slots.Goals.{then-count-slots-via-else-count-slots+then-min-gt-NARROW_SLOTS}
 use Rattle.ijson_table.proofs.table.Table.index_with_slots.Goals as goal
 
--- the pairs that a table shows are within the limit
+-- the pairs in the view of a table are within the limit
 few : {V : Type 0} {inside shown : Placed V} → HasRoom (length inside.store.pairs) inside.store.capacity → inside ≡ shown
     → length shown.store.pairs ≤ capacity_limit
 few room same = omega (arith, room.within, room.limited, ap (λ t. length t.store.pairs) same)
 
--- where the slots are not as many, there are many here and there
+-- if the numbers of slots differ, both are many
 many : (g : _) (c : After-len g) → c.args.count ≢ length c.self.inside.index.slots
     → (narrow_slots < length c.self.inside.index.slots) × (narrow_slots < c.args.count)
 many g c other = elim c.then-count-slots.branch [

@@ -17,18 +17,18 @@ use Rattle.ijson_table.proofs.slots.SlotChanges.{changes-none}
 use Rattle.ijson_table.proofs.table.Table.insert_in_room.Goals.{After-distance_between, After-len-slots}
 use Rattle.ijson_table.proofs.table.Table.insert_in_room.Goals as goal
 
--- slots of which there are more than keys are not full
+-- slots that are more than the keys are not full
 left_empty : (hashes : List ℕ) (slots : List (Option ℕ)) → IsTable hashes slots → length hashes < length slots → HasEmpty slots
 left_empty hashes slots table room = some_empty slots (length hashes + 1) (length hashes) (λ i. grind (arith, nat_tests, table.placed i))
     (omega arith) (grind (arith, nat_tests, table.placed (length hashes))) (omega (arith, room))
 
--- The slots that were looked at and those that were written are each no more than there are.
+-- The slots inspected, and those written, are each at most all slots.
 few_steps : (n slots slot last away looks : ℕ) → away ≡ distance slots slot last → slots ≡ n → slot < n → last < n → looks ≤ n
     → looks + away + 1 ≤ 2 * n
 few_steps n slots slot last away looks is size from to few =
     omega (arith, is, distance-below slots slot last (omega (arith, size, from)) (omega (arith, size, to)))
 
--- so many slots are seen, which are those of the capacity, which is within the limit
+-- the number of slots in the view is that for the capacity, which is within the limit
 record IsSized (seen slots capacity : ℕ) : Type 0 where
   seen_is : seen ≡ slots
   size : slots ≡ slot_count capacity

@@ -92,7 +92,7 @@ returns-clause-count g c = c.loop-position.invariant.count
 pub returns-then-is_empty-clause-count : goal.returns-then-is_empty-clause-count
 returns-then-is_empty-clause-count g c = refl
 
--- where there are pairs, there are slots
+-- if there are pairs, there are slots
 some_slots : (pairs room slots count : ℕ) → false ≡ (pairs == 0) → pairs ≡ room → room ≤ slots → count ≡ slots → 0 < count
 some_slots pairs room slots count some same fits is = grind (arith, nat_tests)
 

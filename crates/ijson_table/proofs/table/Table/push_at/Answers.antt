@@ -15,11 +15,11 @@ use Rattle.ijson_table.proofs.slots.KeptHashes.{kept_once, may_by_kept}
 use Rattle.ijson_table.proofs.table.Table.push_at.Goals.{After-kept_hash-kept, After-len-position}
 use Rattle.ijson_table.proofs.table.Table.push_at.Goals as goal
 
--- the list has room for a pair
+-- the list has capacity for a pair
 room : (g : _) (c : After-len-position g) → length c.self.inside.pairs.items < vec_capacity c.self.inside.pairs
 room g c = omega (arith, c.requires.room, count_shown c.self.view_is, room_shown c.self.view_is)
 
--- the position is the next one
+-- the index is the next one
 next : (g : _) (c : After-len-position g) → c.len-position.result ≡ length c.self.inside.index.hashes
 next g c = omega (arith, c.len-position.ensures, c.self.inside.pairs.ok.0, hashes_in c.self.invariant)
 
@@ -39,7 +39,7 @@ push_at-requires-clause-room g c = omega (
   c.self.invariant.size,
 )
 
--- what the index gets is kept of the hash
+-- the hash index gets the kept part of the hash
 kept_is : (g : _) (c : After-kept_hash-kept g) → c.kept_hash-kept.result ≡ kept (length c.self.inside.index.slots) c.args.hash
 kept_is g c = c.kept_hash-kept.ensures ∙ ap (λ n. kept n c.args.hash) (c.new.ensures ∙ c.len.ensures.count)
 

@@ -28,7 +28,7 @@ push_at-requires-clause-room g c = c.requires.room
 pub push_at-requires-clause-missing : goal.push_at-requires-clause-missing
 push_at-requires-clause-missing g c = c.requires.missing
 
--- there is room for one more among the slots
+-- there is one more slot
 pub vacancy-slot-requires : goal.vacancy-slot-requires
 vacancy-slot-requires g c = omega (
   arith,

@@ -1,6 +1,6 @@
 use Rattle.std.proofs.Common.{ap, refl}
 use Rattle.ijson_table.specs.Store.{with_value}
-use Rattle.ijson_table.specs.laws.Placed.{placed_with_value}
+use Rattle.ijson_table.specs.PlacedWithValue.{placed_with_value}
 use Rattle.ijson_table.proofs.pairs.Replaced.{replaced}
 use Rattle.ijson_table.proofs.table.Table.replace_at.Goals as goal
 

@@ -10,12 +10,12 @@ use Rattle.ijson_table.proofs.table.Table.with_rest.Given.{Over}
 use Rattle.ijson_table.proofs.table.Table.with_rest.Goals.{After-add}
 use Rattle.ijson_table.proofs.table.Table.with_rest.Goals as goal
 
--- how many steps are taken in the usual way
+-- the number of steps before sorting
 few : (g : Over) (c : After-add g) → c.insert_each.new.steps
     ≤ 32 * c.args.self.store.capacity + 2 * slot_count c.args.self.store.capacity
 few g c = omega (arith, c.insert_each.ensures.steps, c.capacity-most.ensures.room)
 
--- in the end all pairs are put
+-- in the end all pairs are inserted
 all_put : (g : Over) (c : After-add g) → put_each c.insert_each.new.self.store.pairs (reverse c.insert_each.new.rest.items)
     ≡ put_each c.args.self.store.pairs c.args.rest.items
 all_put g c = c.insert_each.ensures.pairs

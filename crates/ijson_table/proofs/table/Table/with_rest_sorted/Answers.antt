@@ -12,7 +12,7 @@ use Rattle.ijson_table.proofs.table.Table.with_rest_sorted.Given.{Over}
 use Rattle.ijson_table.proofs.table.Table.with_rest_sorted.Goals as goal
 use Rattle.ijson_table.proofs.table.Table.with_rest_sorted.Goals.{After-put_back, After-deref, After-fill_sorted}
 
--- the first sort has no more pairs than there is room for
+-- the first sort has no more pairs than the capacity
 few : (g : Over) (c : After-put_back g) → length c.put_back.new.list.items ≤ c.args.self.store.capacity
 few g c = omega (arith, c.put_back.ensures.room, room_shown c.self.view_is, c.put_back.new.list.ok)
 
@@ -27,7 +27,7 @@ fewer g c = omega (
   c.in-Ok.pairs.ok,
 )
 
--- the looks of both
+-- the inspections of both
 both : (g : Over) (c : After-fill_sorted g) → length c.put_back.new.list.items ≤ c.args.self.store.capacity
     → length c.deref.result.now ≤ c.args.self.store.capacity → (k : ℕ) → c.args.self.store.capacity ≤ 2 ^ k
     → c.fill_sorted.new.looks ≤ c.args.looks.now + c.args.self.store.capacity * (1 + 2 * k)

@@ -47,7 +47,7 @@ invariant_of-result-2 g c =
           ∙ ap slot_count (omega (arith, c.len-capacity.ensures, c.args.pairs.ok.0, room)));
     }
 
--- an error says what is known of each
+-- on an error, there are pairs
 pub returns-in_err-index-clause-refused : goal.returns-in_err-index-clause-refused
 returns-in_err-index-clause-refused g c = where_refused c.from_residual.result
     (omega (arith, c.in_err-index.ensures.refused, c.slots_for.ensures, c.len-capacity.ensures, c.args.pairs.ok.0))

@@ -19,11 +19,11 @@ invariant_of-self-inside g c =
     c.swap_remove-2.ensures.items ∙ swap_out-is old c.args.index c.swap_remove-2.result li in
     (subst (λ ps. IsDistinct (keys_of ps)) (sym now) (distinct_swapped old c.args.index c.self.inside.distinct li), tt)
 
--- the position is one of the list
+-- the index is below the length
 within : (g : _) (c : goal.After-self-1 g) → c.args.index < length c.self.inside.pairs.items
 within g c = omega (arith, count_shown c.self.view_is, c.requires)
 
--- the pairs that are left
+-- the remaining pairs
 left : (g : _) (c : goal.After-self-1 g) → c.swap_remove-2.new.self.items ≡ swap_out c.self.inside.pairs.items c.args.index
 left g c = c.swap_remove-2.ensures.items ∙ swap_out-is c.self.inside.pairs.items c.args.index c.swap_remove-2.result (within g c)
 
@@ -57,7 +57,7 @@ pub returns-clause-pairs : goal.returns-clause-pairs
 returns-clause-pairs g c = left g c
     ∙ ap (λ (s : Placed g.row.V.Denot). swap_out s.store.pairs c.args.index) c.self.view_is
 
--- what the check tries where no answer stands takes longer than these
+-- given for speed: the default tactics take longer
 pub returns-then-index-last-clause-pairs : goal.returns-then-index-last-clause-pairs
 returns-then-index-last-clause-pairs g c = grind (arith, common_steps)
 

@@ -18,51 +18,45 @@ use Rattle.ijson_table.proofs.probing.StepsByEnd.{ended_found, counts_found, cou
 use Rattle.ijson_table.proofs.pairs.PairsByKey.{key_at}
 use Rattle.ijson_table.proofs.slots.KeptHashes.{home_of_kept, kept_once}
 use Rattle.ijson_table.proofs.table.from_list.add_new_key.Given.{Over}
-use Rattle.ijson_table.proofs.table.from_list.add_new_key.Goals.{After-probe, After-distance_between, After-distance_between-in-Found}
+use Rattle.ijson_table.proofs.table.from_list.add_new_key.Goals.{After-probe_for, After-distance_between, After-distance_between-in-Found}
 use Rattle.ijson_table.proofs.probing.KeyHashes.{length-hashes}
 use Rattle.ijson_table.proofs.table.from_list.add_new_key.Goals as goal
 
 -- the key of the pair
-keyed : (g : _) (c : After-probe g) → get_or (keys_of c.args.pairs.now) c.args.position [] ≡ c.as_str-key.result.now
+keyed : (g : _) (c : After-probe_for g) → get_or (keys_of c.args.pairs.now) c.args.position [] ≡ c.as_str-key.result.now
 keyed g c = key_at c.args.pairs.now c.args.position c.index-pairs-position.result c.requires.within ∙ sym c.as_str-key.ensures
 
--- what the index keeps of the hashes of keys
+-- the parts of the hashes of keys that the hash index keeps
 abbrev short : (g : Over) → HashIndex → List ℕ → ℕ
 short g index = kept_hash (length index.slots) g.H.KeyHash.hash_of
 
 -- so of its hash
-kept_is : (g : _) (c : After-probe g) → c.kept_hash-hash.result ≡ short g c.args.index.now c.as_str-key.result.now
+kept_is : (g : _) (c : After-probe_for g) → c.kept_hash-hash.result ≡ short g c.args.index.now c.as_str-key.result.now
 kept_is g c = c.kept_hash-hash.ensures ∙ ap₂ kept c.requires.counted c.hash-whole.ensures
 
--- A walk over the slots that were lent is one over those of the index, at the end that it came to.
-walked : (lent index : HashIndex) (keys : List (List ℕ)) (h : ℕ) (key : List ℕ) (looks : ℕ) (probed end : Probed) → lent ≡ index
-    → probed ≡ end → Walks lent keys h key looks probed → Walks index keys h key looks end
-walked lent index keys h key looks probed end same is walks =
-    subst (λ l. Walks l keys h key looks end) same (subst (Walks lent keys h key looks) is walks)
+-- the probe for it, up to its end
+walk : (g : _) (c : After-probe_for g) (end : Probed) → c.probe_for.result ≡ end → Walks c.args.index.now
+    (keys_of (take c.args.position c.args.pairs.now)) c.kept_hash-hash.result c.as_str-key.result.now (c.probe_for.new.looks - c.new.result) end
+walk g c end is = subst (Walks c.args.index.now (keys_of (take c.args.position c.args.pairs.now)) c.kept_hash-hash.result
+    c.as_str-key.result.now (c.probe_for.new.looks - c.new.result)) is c.probe_for.ensures.ends
 
--- the walk for it, to the end that it came to
-walk : (g : _) (c : After-probe g) (end : Probed) → c.probe.result ≡ end → Walks c.args.index.now
-    (keys_of (take c.args.position c.args.pairs.now)) c.kept_hash-hash.result c.as_str-key.result.now (c.probe.new.looks - c.new.result) end
-walk g c end is = walked c.view.result c.args.index.now (keys_of (take c.args.position c.args.pairs.now)) c.kept_hash-hash.result
-    c.as_str-key.result.now (c.probe.new.looks - c.new.result) c.probe.result end c.view.ensures.value is c.probe.ensures.ends
-
--- Where a slot is left, a key for which there is no vacancy comes again,
-again : (g : _) (c : After-probe g) → ((x : ℕ) × (p : ℕ) × (c.probe.result ≡ Found x p)) ⊎ (c.probe.result ≡ Full)
+-- If a slot remains, a key without a vacancy is a duplicate,
+again : (g : _) (c : After-probe_for g) → ((x : ℕ) × (p : ℕ) × (c.probe_for.result ≡ Found x p)) ⊎ (c.probe_for.result ≡ Full)
     → ComesAgain c.args.pairs.now c.args.position
 again g c is none = comes_again (short g c.args.index.now) c.args.pairs.now c.args.position c.args.index.now c.requires.placed
-    c.requires.within c.kept_hash-hash.result c.as_str-key.result.now (c.probe.new.looks - c.new.result) c.probe.result (kept_is g c)
-    c.view.ensures.table c.requires.room (walk g c c.probe.result refl) is
+    c.requires.within c.kept_hash-hash.result c.as_str-key.result.now (c.probe_for.new.looks - c.new.result) c.probe_for.result (kept_is g c)
+    c.probe_for.ensures.table c.requires.room (walk g c c.probe_for.result refl) is
     (ap (at (take c.args.position c.args.pairs.now)) (sym (keyed g c)) ∙ none)
 
--- and the steps of the walk for it are those of the walk for the pair's key.
-counted : (g : _) (c : After-probe g) (new : HashIndex) (steps : ℕ) → CountsSteps (short g c.args.index.now)
+-- and the steps of its probe are those of the probe for the pair's key.
+counted : (g : _) (c : After-probe_for g) (new : HashIndex) (steps : ℕ) → CountsSteps (short g c.args.index.now)
     (keys_of (take c.args.position c.args.pairs.now)) c.as_str-key.result.now c.args.index.now new steps
     → CountsSteps (short g c.args.index.now) (keys_of (take c.args.position c.args.pairs.now))
     (get_or (keys_of c.args.pairs.now) c.args.position []) c.args.index.now new steps
 counted g c new steps = subst (λ k. CountsSteps (short g c.args.index.now) (keys_of (take c.args.position c.args.pairs.now)) k
     c.args.index.now new steps) (sym (keyed g c))
 
--- How far a slot is from the home that was computed: less than a round.
+-- The distance of a slot from the computed home slot: less than a circle.
 record Away (n h p away : ℕ) : Type 0 where
   far : away ≡ distance n (h % n) p
   near : away < n
@@ -80,14 +74,14 @@ away_from n count whole h home p away is kept_is home_is counted within there = 
   );
 }
 
--- the last slot that is written
+-- the last slot written
 away_new : (g : _) (c : After-distance_between g) → Away (length c.args.index.now.slots) c.kept_hash-hash.result c.push_at-last.result
     c.distance_between.result
 away_new g c = away_from (length c.args.index.now.slots) c.args.modulus.count c.hash-whole.result c.kept_hash-hash.result
     c.home_of_hash-home.result c.push_at-last.result c.distance_between.result c.distance_between.ensures c.kept_hash-hash.ensures
     c.home_of_hash-home.ensures.value c.requires.counted c.home_of_hash-home.ensures.within c.push_at-last.ensures.within
 
--- the slot where the key was found
+-- the slot at which the key was found
 away_found : (g : _) (c : After-distance_between-in-Found g) → Away (length c.args.index.now.slots) c.kept_hash-hash.result c.in-Found.slot
     c.distance_between-in-Found.result
 away_found g c =
@@ -96,11 +90,11 @@ away_found g c =
     let h = c.kept_hash-hash.result in
     let keys = keys_of (take c.args.position c.args.pairs.now) in
     let key = c.as_str-key.result.now in
-    let looks = c.probe.new.looks - c.new.result in
+    let looks = c.probe_for.new.looks - c.new.result in
     let end = Found c.in-Found.at c.in-Found.slot in
     let there = (ended_found index.slots (displacement index.hashes index.slots) (h % n) (is_hashed_key index.hashes keys h key)
     (mod_below h n (omega (arith, c.requires.room))) looks c.in-Found.at c.in-Found.slot
-    (walked c.view.result index keys h key looks c.probe.result end c.view.ensures.value c.in-Found.is c.probe.ensures.ends)).there in
+    (subst (Walks index keys h key looks) c.in-Found.is c.probe_for.ensures.ends)).there in
     away_from n c.args.modulus.count c.hash-whole.result c.kept_hash-hash.result c.home_of_hash-home.result c.in-Found.slot
     c.distance_between-in-Found.result c.distance_between-in-Found.ensures c.kept_hash-hash.ensures c.home_of_hash-home.ensures.value
     c.requires.counted c.home_of_hash-home.ensures.within there
@@ -109,9 +103,9 @@ pub push_at-last-requires-clause-may : goal.push_at-last-requires-clause-may
 push_at-last-requires-clause-may g c =
     let place = goal.at.push_at-last-requires-clause-may g c in
     (next_ends (short g c.args.index.now) c.args.pairs.now c.args.position c.args.index.now c.requires.placed
-    c.requires.within c.kept_hash-hash.result c.as_str-key.result.now (c.probe.new.looks - c.new.result) c.in-Vacant.slot
-    (kept_is g place.After-probe) c.view.ensures.table (omega (arith, c.requires.room))
-    (walk g place.After-probe (Vacant c.in-Vacant.slot) c.in-Vacant.is)).1
+    c.requires.within c.kept_hash-hash.result c.as_str-key.result.now (c.probe_for.new.looks - c.new.result) c.in-Vacant.slot
+    (kept_is g place.After-probe_for) c.probe_for.ensures.table (omega (arith, c.requires.room))
+    (walk g place.After-probe_for (Vacant c.in-Vacant.slot) c.in-Vacant.is)).1
 
 pub push_at-last-requires-clause-kept : goal.push_at-last-requires-clause-kept
 push_at-last-requires-clause-kept g c = kept_once (length c.args.index.now.slots) c.args.modulus.count c.hash-whole.result
@@ -137,7 +131,7 @@ pub overflow_add-steps-in-Found-2 : goal.overflow_add-steps-in-Found-2
 overflow_add-steps-in-Found-2 g c =
     omega (arith, (away_found g (goal.at.overflow_add-steps-in-Found-2 g c).After-distance_between-in-Found).near, c.requires.fits)
 
--- a walk has a step
+-- a probe has a step
 more : (steps away k : ℕ) → steps < steps + (away + (k + 1))
 more steps away k = omega arith
 
@@ -147,12 +141,12 @@ returns-in-Vacant g c =
     let hash = short g c.args.index.now in
     let pair = c.index-pairs-position.result in
     let key : c.as_str-key.result.now ≡ pair.0 = c.as_str-key.ensures ∙ ap (λ p. p.0) (sym c.index-pairs-position.is) in
-    let hashed : c.kept_hash-hash.result ≡ hash pair.0 = kept_is g place.After-probe ∙ ap hash key in
+    let hashed : c.kept_hash-hash.result ≡ hash pair.0 = kept_is g place.After-probe_for ∙ ap hash key in
     let some : 0 < length c.args.index.now.slots = omega (arith, c.requires.room) in
-    let walks = walk g place.After-probe (Vacant c.in-Vacant.slot) c.in-Vacant.is in
+    let walks = walk g place.After-probe_for (Vacant c.in-Vacant.slot) c.in-Vacant.is in
     let missing = (next_ends hash c.args.pairs.now c.args.position c.args.index.now c.requires.placed c.requires.within
-    c.kept_hash-hash.result c.as_str-key.result.now (c.probe.new.looks - c.new.result) c.in-Vacant.slot
-    (kept_is g place.After-probe) c.view.ensures.table some walks).0 in
+    c.kept_hash-hash.result c.as_str-key.result.now (c.probe_for.new.looks - c.new.result) c.in-Vacant.slot
+    (kept_is g place.After-probe_for) c.probe_for.ensures.table some walks).0 in
     let away = away_new g place.After-distance_between in
     record {
       placed = λ _. next_placed hash c.args.pairs.now c.args.position c.args.index.now c.requires.placed c.requires.within pair
@@ -162,10 +156,10 @@ returns-in-Vacant g c =
       stops = λ no. absurd (true≢false no);
       count = c.push_at-last.ensures.count;
       steps = omega (arith, away.near);
-      counted = counted g place.After-probe c.push_at-last.new.self _
+      counted = counted g place.After-probe_for c.push_at-last.new.self _
           (counts_new hash (keys_of (take c.args.position c.args.pairs.now)) c.args.index.now some c.kept_hash-hash.result
-          c.as_str-key.result.now (c.probe.new.looks - c.new.result) c.in-Vacant.slot c.push_at-last.result c.distance_between.result _
-          c.push_at-last.new.self (kept_is g place.After-probe) walks c.push_at-last.ensures.within c.push_at-last.ensures.empty
+          c.as_str-key.result.now (c.probe_for.new.looks - c.new.result) c.in-Vacant.slot c.push_at-last.result c.distance_between.result _
+          c.push_at-last.new.self (kept_is g place.After-probe_for) walks c.push_at-last.ensures.within c.push_at-last.ensures.empty
           c.push_at-last.ensures.changes away.far (omega arith));
       grows = more c.args.steps.now c.distance_between.result 1;
     }
@@ -177,14 +171,14 @@ returns-in-Found g c =
     record {
       placed = λ no. absurd (true≢false (sym no));
       left = λ _. refl;
-      stops = λ _. again g place.After-probe (inl (c.in-Found.at, c.in-Found.slot, c.in-Found.is));
+      stops = λ _. again g place.After-probe_for (inl (c.in-Found.at, c.in-Found.slot, c.in-Found.is));
       count = refl;
       steps = omega (arith, away.near);
-      counted = counted g place.After-probe c.args.index.now _
+      counted = counted g place.After-probe_for c.args.index.now _
           (counts_found (short g c.args.index.now) (keys_of (take c.args.position c.args.pairs.now)) c.args.index.now
-          (omega (arith, c.requires.room)) c.kept_hash-hash.result c.as_str-key.result.now (c.probe.new.looks - c.new.result)
-          c.in-Found.at c.in-Found.slot c.distance_between-in-Found.result _ (kept_is g place.After-probe)
-          (walk g place.After-probe (Found c.in-Found.at c.in-Found.slot) c.in-Found.is) away.far (omega arith));
+          (omega (arith, c.requires.room)) c.kept_hash-hash.result c.as_str-key.result.now (c.probe_for.new.looks - c.new.result)
+          c.in-Found.at c.in-Found.slot c.distance_between-in-Found.result _ (kept_is g place.After-probe_for)
+          (walk g place.After-probe_for (Found c.in-Found.at c.in-Found.slot) c.in-Found.is) away.far (omega arith));
       grows = more c.args.steps.now c.distance_between-in-Found.result 0;
     }
 
@@ -194,28 +188,26 @@ returns-in-Full g c =
     record {
       placed = λ no. absurd (true≢false (sym no));
       left = λ _. refl;
-      stops = λ _. again g place.After-probe (inr c.in-Full.is);
+      stops = λ _. again g place.After-probe_for (inr c.in-Full.is);
       count = refl;
       steps = omega (arith, c.requires.counted);
-      counted = counted g place.After-probe c.args.index.now _
+      counted = counted g place.After-probe_for c.args.index.now _
           (counts_full (short g c.args.index.now) (keys_of (take c.args.position c.args.pairs.now)) c.args.index.now
-          (omega (arith, c.requires.room)) c.kept_hash-hash.result c.as_str-key.result.now (c.probe.new.looks - c.new.result) _
-          (kept_is g place.After-probe) (walk g place.After-probe Full c.in-Full.is) (omega (arith, c.requires.counted)));
+          (omega (arith, c.requires.room)) c.kept_hash-hash.result c.as_str-key.result.now (c.probe_for.new.looks - c.new.result) _
+          (kept_is g place.After-probe_for) (walk g place.After-probe_for Full c.in-Full.is) (omega (arith, c.requires.counted)));
       grows = omega (arith, c.requires.counted, c.requires.room);
     }
 
-pub probe-requires-clause-fits : goal.probe-requires-clause-fits
-probe-requires-clause-fits g c = λ m lm _. omega (arith, lm, c.new.ensures, c.requires.fits)
+pub probe_for-requires-clause-fits : goal.probe_for-requires-clause-fits
+probe_for-requires-clause-fits g c = λ m lm _. omega (arith, lm, c.new.ensures, c.requires.fits)
 
 pub overflow_add-steps-in-Full : goal.overflow_add-steps-in-Full
 overflow_add-steps-in-Full g c = omega (arith, c.requires.counted, c.requires.fits)
 
--- what the check tries where no answer stands takes longer than these
-pub invariant_of-lookup : goal.invariant_of-lookup
-invariant_of-lookup g c =
-    let home : c.home_of_hash-home.result ≡ c.kept_hash-hash.result % c.args.modulus.count = home_of_kept c.args.modulus.count
-    c.hash-whole.result c.kept_hash-hash.result c.home_of_hash-home.result c.kept_hash-hash.ensures c.home_of_hash-home.ensures.value in
-    grind (arith, common_steps, home)
+-- given for speed: the default tactics take longer
+pub probe_for-requires-clause-homed : goal.probe_for-requires-clause-homed
+probe_for-requires-clause-homed g c = home_of_kept c.args.modulus.count c.hash-whole.result c.kept_hash-hash.result
+    c.home_of_hash-home.result c.kept_hash-hash.ensures c.home_of_hash-home.ensures.value
 
 pub distance_between-requires-in-Found-clause-to : goal.distance_between-requires-in-Found-clause-to
 distance_between-requires-in-Found-clause-to g c = grind (arith, common_steps)
@@ -232,11 +224,8 @@ offset_bounds-pairs-position g c = le_of_lt c.requires.within
 pub bounds-pairs-position : goal.bounds-pairs-position
 bounds-pairs-position g c = c.requires.within
 
-pub slice_bounds-lookup-end : goal.slice_bounds-lookup-end
-slice_bounds-lookup-end g c = sym (length-take-le c.args.position c.args.pairs.now (le_of_lt c.requires.within))
-
-pub probe-requires-clause-some : goal.probe-requires-clause-some
-probe-requires-clause-some g c = omega (arith, c.requires.room, ap (λ i. length i.slots) c.view.ensures.value)
+pub slice_bounds-before-end : goal.slice_bounds-before-end
+slice_bounds-before-end g c = sym (length-take-le c.args.position c.args.pairs.now (le_of_lt c.requires.within))
 
 pub push_at-last-requires-clause-room : goal.push_at-last-requires-clause-room
 push_at-last-requires-clause-room g c = c.requires.room

@@ -1,6 +1,6 @@
 use Rattle.std.proofs.Common.{◌≡◌, List, get_or, arith, Some, ap, eqb, subst, ◌∙◌}
 use Rattle.std.specs.Option.{option_eq}
-use Rattle.ijson_table.specs.declared.index.slot.Slot.{Slot}
+use Rattle.ijson_table.specs.declared.slot.Slot.{Slot}
 use Rattle.ijson_table.specs.private.SlotHashes.{blank, position_in, SeenAs}
 use Rattle.ijson_table.proofs.slots.HashesInSlots.{looks_at, positions-length}
 use Rattle.ijson_table.proofs.index.shift.HashProbeProbeTarget.look.Goals as goal

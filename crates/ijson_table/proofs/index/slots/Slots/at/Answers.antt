@@ -1,7 +1,7 @@
 use Rattle.std.proofs.Common.{arith}
 use Rattle.ijson_table.proofs.index.slots.Slots.at.Goals as goal
 
--- what the check tries where no answer stands takes longer than these
+-- given for speed: the default tactics take longer
 pub returns-in-Few-clause-fits : goal.returns-in-Few-clause-fits
 returns-in-Few-clause-fits c = omega arith
 

@@ -1,16 +1,16 @@
 use Rattle.std.proofs.Common.{◌≡◌, ◌≤◌, ◌∙◌, ℕ, List, length, map, take, ap, arith, rules, sym, subst}
 use Rattle.std.proofs.lemmas.List.{length-map, map-id, with_items_is}
-use Rattle.ijson_table.specs.declared.index.slot.Slot.{Slot}
+use Rattle.ijson_table.specs.declared.slot.Slot.{Slot}
 use Rattle.ijson_table.specs.declared.index.slots.Slots.TheInside.{Inside}
 use Rattle.ijson_table.specs.declared.index.slots.TheConstants.{FEW_SLOTS}
 use Rattle.ijson_table.specs.private.Insertion.{IsPut, MayPut}
-use Rattle.ijson_table.specs.private.Narrow.{MayHold}
-use Rattle.ijson_table.specs.private.NarrowSlots.{widened, stored_slots, IsStoredByCount}
+use Rattle.ijson_table.specs.private.Narrow.{MayHold, widened}
+use Rattle.ijson_table.specs.private.NarrowSlots.{stored_slots, IsStoredByCount}
 use Rattle.ijson_table.proofs.slots.StoredSlots.{few-length}
 use Rattle.ijson_table.proofs.index.slots.Slots.shift_forward.Goals.{Joined-self, in-Few, in-Narrow, in-Wide}
 use Rattle.ijson_table.proofs.index.slots.Slots.shift_forward.Goals as goal
 
--- what is asked of slots, by these hashes
+-- the precondition on slots, for these hashes
 abbrev IsAsked : List ℕ → ℕ → ℕ → ℕ → List Slot → Type 0
 IsAsked hashes position hash from slots = MayPut hashes slots position hash from × MayHold (length slots) position hash
 
@@ -47,7 +47,7 @@ shift_forward-requires-in-Wide g c =
     c.requires in
     record { may = (g.hashes, asked.0); code = asked.0.0.fits; hash = c.ranges.hash.fits }
 
--- The slots that are seen at first and at last, where a call puts the position down among them as they are stored.
+-- The represented slots before and after a call that inserts the index into the stored ones.
 put_as : (hashes : List ℕ) (position hash from : ℕ) (old old' new new' : List Slot) (last last' : ℕ)
     → ((hashes : List ℕ) → MayPut hashes old position hash from → IsPut hashes old position from last new)
     → old ≡ old' → new ≡ new' → last ≡ last' → MayPut hashes old' position hash from → IsPut hashes old' position from last' new'
@@ -56,7 +56,7 @@ put_as hashes position hash from old old' new new' last last' put before after s
     (subst (λ ps. IsPut hashes old position from last' ps) after (subst (λ p. IsPut hashes old position from p new) same
     (put hashes (subst (λ ps. MayPut hashes ps position hash from) (sym before) may))))
 
--- the position is put down, however the slots are stored
+-- the index is inserted, in any representation
 put : (g : _) (c : Joined-self g) → IsPut g.hashes c.args.self.now c.args.position c.args.from c.match-self.result
     (stored_slots c.match-self.self-inside.stored)
 put g c =

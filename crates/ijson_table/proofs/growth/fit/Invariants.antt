@@ -1,9 +1,0 @@
-use Rattle.std.proofs.Common.{◌≡◌, length, vec_capacity}
-use Rattle.ijson_table.proofs.growth.fit.Given as goal
-
--- the items so far stand in a list that has room for all of them
-abbrev pub invariant-loop-item : goal.invariant-loop-item
-invariant-loop-item g l =
-    (goal.iterator-loop-item g).can_next l.item-iterator ×
-    (goal.iterator-loop-item g).is_finite l.item-iterator ×
-    (l.list.items ≡ l.yielded) × (vec_capacity l.list ≡ length l.fn.list.items)

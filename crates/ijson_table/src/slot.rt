@@ -1,0 +1,225 @@
+//! `Slot`: one slot of a table; `Seen`: the result of an inspection; `Modulus`: the number of slots that hashes are
+//! reduced by.
+
+ghost use Rattle.std.specs.Prelude.{◌≡◌, ◌≢◌, ◌+◌, ◌-◌, ◌<◌, ◌/◌, ◌%◌, ◌^◌, Some, None, IsTrue, ◌↔◌};
+ghost use Rattle.ijson_table.specs.Crowd.{distance};
+ghost use Rattle.ijson_table.specs.private.Closing.{closed};
+ghost use Rattle.ijson_table.specs.private.KeptHash.{kept};
+ghost use Rattle.ijson_table.specs.private.SlotHashes.{blank, position_in, SeenAs};
+
+pub mod narrow;
+pub mod stored;
+
+/// The result of one inspection of a slot.
+#[derive(Clone, Copy, Debug, PartialEq, Eq, Drop)]
+pub enum Seen {
+    /// The slot is empty.
+    Empty,
+    /// The slot has a resident.
+    Resident {
+        /// The index of the entry.
+        at: usize,
+        /// The number of slots from its home slot to this one, wrapping around.
+        distance: usize,
+        /// Whether its key is the one sought.
+        same: bool,
+    },
+}
+
+/// An empty slot, or the index of an entry with the hash of its key or the kept part of it.
+///
+/// The hash gives the probe distance. A whole hash also differs from those of most other keys, so a probe rarely reads
+/// the memory of a key.
+#[derive(Clone, Copy, Drop)]
+pub struct Slot {
+    /// 0 if empty, else the index plus one.
+    code: usize,
+    hash: u64,
+}
+
+impl Slot {
+    /// Returns the empty slot.
+    pub fn empty() -> Slot
+        ensures { result ≡ blank }
+    {
+        Slot { code: 0, hash: 0 }
+    }
+
+    /// Returns the slot of index `position`, whose key has this hash.
+    pub fn of(position: usize, hash: u64) -> Slot
+        requires { position + 1 < 2 ^ 64 }
+        ensures position { position_in result ≡ Some position }
+        ensures hash { result.hash ≡ hash }
+    {
+        Slot {
+            code: position + 1,
+            hash,
+        }
+    }
+
+    /// Returns the hash of the key of the resident.
+    pub fn hash(self) -> u64
+        ensures { result ≡ self.hash }
+    {
+        self.hash
+    }
+
+    /// Returns whether the slot is empty.
+    pub fn is_empty(self) -> bool
+        ensures { IsTrue result ↔ (position_in self ≡ None) }
+    {
+        self.code == 0
+    }
+
+    /// Returns the resident. Call it only if the slot is not empty.
+    pub fn resident(self) -> usize
+        requires { position_in self ≢ None }
+        ensures { position_in self ≡ Some result }
+    {
+        self.code - 1
+    }
+
+    /// Returns the resident, if any.
+    pub fn position(self) -> Option<usize>
+        ensures { result ≡ position_in self }
+    {
+        if self.is_empty() {
+            None
+        } else {
+            Some(self.resident())
+        }
+    }
+
+    /// Returns the distance of `slot` from the home slot of its resident.
+    pub fn distance(self, modulus: Modulus, slot: usize) -> usize
+        requires { slot < modulus.count }
+        ensures { result ≡ distance modulus.count (self.hash % modulus.count) slot }
+    {
+        distance_between(modulus.count, modulus.home_of_hash(self.hash), slot)
+    }
+
+    /// Returns the slot after index `gone` was removed: later indices decrease by one.
+    pub fn closed(self, gone: usize) -> Slot
+        requires { gone + 1 < 2 ^ 64 }
+        ensures { result ≡ closed gone self }
+    {
+        if self.code <= gone + 1 {
+            return self;
+        }
+        Slot {
+            code: self.code - 1,
+            hash: self.hash,
+        }
+    }
+
+    /// Returns whether the key of the resident has this hash.
+    pub fn has_hash(self, hash: u64) -> bool
+        ensures { IsTrue result ↔ (self.hash ≡ hash) }
+    {
+        self.hash == hash
+    }
+
+    /// Returns the result of an inspection; `same` is whether the resident is the one sought.
+    pub fn seen(self, modulus: Modulus, slot: usize, same: bool) -> Seen
+        requires { slot < modulus.count }
+        ensures { SeenAs self modulus.count slot same result }
+    {
+        if self.is_empty() {
+            return Seen::Empty;
+        }
+        Seen::Resident {
+            at: self.resident(),
+            distance: self.distance(modulus, slot),
+            same,
+        }
+    }
+}
+
+/// Returns the number of slots from `from` to `to`, wrapping around.
+#[inline(always)]
+pub fn distance_between(slots: usize, from: usize, to: usize) -> usize
+    requires from { from < slots }
+    requires to { to < slots }
+    ensures { result ≡ distance slots from to }
+{
+    if from <= to {
+        to - from
+    } else {
+        slots - (from - to)
+    }
+}
+
+/// The largest number of slots for which a hash index keeps only part of each hash.
+///
+/// The part is the home slot and eight bits of the quotient. This is the number of slots for 127 entries.
+pub const NARROW_SLOTS: usize = 158;
+
+/// A number of slots with its reciprocal.
+///
+/// It divides once, and reduces many hashes by multiplication, which takes a fraction of the time.
+#[derive(Clone, Copy, Drop)]
+pub struct Modulus {
+    /// The number of slots.
+    pub count: usize,
+    reciprocal: u64,
+    ghost some: { 0 < count },
+    ghost divided: { reciprocal ≡ (2 ^ 64 - 1) / count },
+}
+
+impl Modulus {
+    /// Creates the modulus of `count` slots.
+    pub fn new(count: usize) -> Modulus
+        requires { 0 < count }
+        ensures { result.count ≡ count }
+    {
+        Modulus {
+            count,
+            reciprocal: u64::MAX / count as u64,
+        }
+    }
+
+    /// Returns the home slot of a hash.
+    #[inline(always)]
+    pub fn home_of_hash(self, hash: u64) -> usize
+        ensures value { result ≡ hash % self.count }
+        ensures within { result < self.count }
+    {
+        let (_quotient, home) = divided(hash, self.count as u64, self.reciprocal);
+        home as usize
+    }
+
+    /// Returns the part of a hash that a hash index with this number of slots keeps.
+    ///
+    /// With at most `NARROW_SLOTS` slots, it is the home slot and eight bits of the quotient, which differ for most
+    /// other keys. Otherwise, it is the whole hash.
+    #[inline(always)]
+    pub fn kept_hash(self, hash: u64) -> u64
+        ensures { result ≡ kept self.count hash }
+    {
+        if self.count > NARROW_SLOTS {
+            return hash;
+        }
+        let count = self.count as u64;
+        let (quotient, home) = divided(hash, count, self.reciprocal);
+        quotient % 256 * count + home
+    }
+}
+
+/// Returns the quotient and the remainder of a hash by `count`, through the reciprocal of `count`.
+///
+/// The reciprocal gives the quotient or one less.
+#[inline(always)]
+fn divided(hash: u64, count: u64, reciprocal: u64) -> (u64, u64)
+    requires some { 0 < count }
+    requires reciprocal { reciprocal ≡ (2 ^ 64 - 1) / count }
+    ensures quotient { result.0 ≡ hash / count }
+    ensures left { result.1 ≡ hash % count }
+{
+    let quotient = ((u128::from(hash) * u128::from(reciprocal)) >> 64) as u64;
+    let left = hash - quotient * count;
+    if left < count {
+        (quotient, left)
+    } else {
+        (quotient + 1, left - count)
+    }
+}

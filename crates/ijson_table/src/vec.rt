@@ -1,0 +1,83 @@
+//! Lists with an exact capacity.
+
+ghost use Rattle.std.specs.Prelude.{◌≡◌, ◌<◌, ◌≤◌, [], length, take, drop, vec_capacity, IfOk, OnOk, OnErr};
+ghost use Rattle.ijson_table.specs.private.Room.{IsResized};
+
+use std::alloc::{AllocError, Global};
+use std::mem;
+
+/// Creates an empty list of capacity `room`.
+///
+/// A capacity of 0 does not allocate.
+pub fn list_with_room<T>(alloc: Global, room: usize) -> Result<Vec<T>, AllocError>
+    ensures empty { IfOk result (λ list. list.items ≡ []) }
+    ensures room { IfOk result (λ list. vec_capacity list ≡ room) }
+    ensures refused { OnErr result (0 < room) }
+{
+    if room == 0 {
+        return Ok(Vec::new(alloc));
+    }
+    Vec::with_capacity(alloc, room)
+}
+
+/// Moves the items to a list with no spare capacity.
+///
+/// If the allocation fails, nothing changes.
+pub fn fit<T: Drop>(alloc: Global, list: &mut Vec<T>) -> Result<(), AllocError>
+    ensures items { list.new.items ≡ list.old.items }
+    ensures room { OnOk result (vec_capacity list.new ≡ length list.old.items) }
+    ensures refused { OnErr result
+        ((0 < length list.old.items) × (vec_capacity list.new ≡ vec_capacity list.old)) }
+{
+    let fitted = list_with_room(alloc, list.len())?;
+    for item in mem::replace(list, fitted) {
+        list.push_reserved(item);
+    }
+    Ok(())
+}
+
+/// Sets the capacity to `room`, which is the length or at least the old capacity.
+///
+/// It grows in place if the allocator can. If the allocation fails, nothing changes.
+pub fn set_room<T: Drop>(alloc: Global, list: &mut Vec<T>, room: usize) -> Result<(), AllocError>
+    requires within { length list.old.items ≤ room }
+    requires grows { length list.old.items < room → vec_capacity list.old ≤ room }
+    ensures { IsResized list.old.items (vec_capacity list.old) room result list.new.items (vec_capacity list.new) }
+{
+    let len = list.len();
+    if len < room {
+        return list.reserve_exact(room - len);
+    }
+    fit(alloc, list)
+}
+
+/// Frees the spare capacity.
+///
+/// It shrinks in place if the allocator can; otherwise it moves the items, which may fail.
+pub fn tighten<T: Drop>(alloc: Global, list: &mut Vec<T>) -> Result<(), AllocError>
+    ensures items { list.new.items ≡ list.old.items }
+    ensures room { OnOk result (vec_capacity list.new ≡ length list.old.items) }
+    ensures refused { OnErr result (0 < length list.old.items) }
+{
+    list.shrink_to_fit();
+    if list.capacity() == list.len() {
+        return Ok(());
+    }
+    fit(alloc, list)
+}
+
+/// Splits off the items from index `at` on.
+///
+/// If there are none, it does not allocate. The list keeps its capacity. If the allocation fails, nothing changes.
+pub fn split_rest<T>(alloc: Global, list: &mut Vec<T>, at: usize) -> Result<Vec<T>, AllocError>
+    requires { at ≤ length list.old.items }
+    ensures rest { IfOk result (λ rest. rest.items ≡ drop at list.old.items) }
+    ensures kept { OnOk result (list.new.items ≡ take at list.old.items) }
+    ensures room { vec_capacity list.new ≡ vec_capacity list.old }
+    ensures refused { OnErr result (at < length list.old.items) }
+{
+    if at == list.len() {
+        return Ok(Vec::new(alloc));
+    }
+    list.split_off(at)
+}
