@@ -1,4 +1,4 @@
--- Interning texts one after the other.
+-- Interning strings in order.
 use Rattle.std.proofs.Common.{◌≡◌, ◌<◌, ℕ, zero, suc, List, [], ◌∷◌, ◌++◌, length, take, map, get_or, refl, ap, sym, subst, ◌∙◌, arith}
 use Rattle.std.proofs.lemmas.List.{append_assoc, append-nil}
 use Rattle.ijson_string.specs.Cache.{Texts, interned}
@@ -12,7 +12,7 @@ pub both_interned : (xs ys : List (List ℕ)) (cache : Texts)
 both_interned [] ys cache = refl
 both_interned (x ∷ xs) ys cache = both_interned xs ys (interned x cache)
 
--- nothing yet, and all
+-- nothing yet
 pub none_interned : (texts : List (List ℕ)) (cache : Texts) → SomeInterned texts cache cache
 none_interned texts cache = record { done = []; left = texts; parts = refl; cache = refl }
 
@@ -20,7 +20,7 @@ none_interned texts cache = record { done = []; left = texts; parts = refl; cach
 pub wholly_interned : (texts : List (List ℕ)) (old new : Texts) → new ≡ all_interned texts old → SomeInterned texts old new
 wholly_interned texts old new e = record { done = texts; left = []; parts = sym (append-nil texts); cache = e }
 
--- a beginning of the first texts, and a beginning of those behind them
+-- a beginning of the first strings is one of all
 pub some_before : (xs ys : List (List ℕ)) (old new : Texts) → SomeInterned xs old new → SomeInterned (xs ++ ys) old new
 some_before xs ys old new s = record {
   done = s.done;
@@ -29,7 +29,7 @@ some_before xs ys old new s = record {
   cache = s.cache;
 }
 
--- and a beginning of those behind the first
+-- and so is a beginning of those after the first
 pub some_behind : (xs ys : List (List ℕ)) (old new : Texts) → SomeInterned ys (all_interned xs old) new
     → SomeInterned (xs ++ ys) old new
 some_behind xs ys old new s = record {
@@ -39,7 +39,7 @@ some_behind xs ys old new s = record {
   cache = s.cache ∙ sym (both_interned xs s.done old);
 }
 
--- the texts of one item more
+-- the strings of one more element
 pub pushed_texts : (ts : List Tree) (t : Tree)
     → items_texts (items_of (ts ++ t ∷ [])) ≡ items_texts (items_of ts) ++ texts_of t
 pushed_texts [] t = append-nil (texts_of t)
@@ -54,7 +54,7 @@ pushed_interned ts t old middle new m n =
     n ∙ ap (all_interned (texts_of t)) m
     ∙ sym (ap (λ l. all_interned l old) (pushed_texts ts t) ∙ both_interned (items_texts (items_of ts)) (texts_of t) old)
 
--- the items before the one at i, and a beginning of its texts
+-- all strings of the elements before the one at i, and a beginning of its strings
 pub some_of_items : {X : Type 0} (tree : X → Tree) (xs : List X) (i : ℕ) (d : X) (old new : Texts) → i < length xs
     → SomeInterned (texts_of (tree (get_or xs i d))) (all_interned (items_texts (items_of (map tree (take i xs)))) old) new
     → SomeInterned (items_texts (items_of (map tree xs))) old new

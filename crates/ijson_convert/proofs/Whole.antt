@@ -1,4 +1,4 @@
--- What is read of a number as an integer.
+-- Reading a number as an integer.
 use Rattle.std.proofs.Common.{◌≡◌, ◌<◌, ◌≤◌, ◌^◌, ℕ, refl, sym, subst, ◌∙◌, arith}
 use Rattle.std.specs.Prelude.{ℤ, pos, FitsSigned, ⊤}
 use Rattle.std.specs.Cmp.{tied_back}
@@ -23,16 +23,16 @@ use Rattle.ijson_convert.specs.declared.convert_error.ConvertError.TheVariants.{
 use Rattle.ijson_convert.specs.laws.Whole.{widened}
 use Rattle.ijson_convert.specs.laws.Integers.{signed_has, unsigned_has, signed_is, unsigned_is}
 
--- two of one value are equal
+-- two numbers of the same value are equal
 pub has_same : (a n : Decimal) (z : ℤ) → HasValue a z → HasValue n z → number_cmp a n ≡ Equal
 has_same a n z h k =
     number_cmp_total.congr a (integer z) n (tests_equal _ h) ∙ tied_back number_cmp_total n (integer z) (tests_equal _ k)
 
--- what is read as an integer of 32 bits, back from its bits
+-- an integer of 32 bits, restored from its bits
 pub read_back : (y z : ℤ) (t : Tree) → HasInteger t y → FitsSigned w32 y → z ≡ cast_signed w32 (cast_unsigned w32 y) → HasInteger t z
 read_back y z t h read e = subst (HasInteger t) (sym (e ∙ to_z-of_z w32 y read)) h
 
--- and one that was read without a sign
+-- and one without a sign
 pub unsigned_back : (m k : ℕ) (t : Tree) → HasInteger t (pos m) → k ≡ m → HasInteger t (pos k)
 unsigned_back m k t h e = subst (λ i. HasInteger t (pos i)) (sym e) h
 
@@ -44,12 +44,12 @@ pub narrow_16 : (z : ℤ) → FitsSigned w16 z → FitsSigned w32 z
 narrow_16 = widened w16 w32 (omega arith)
 
 module _ (width : Width) (wide : (z : ℤ) → FitsSigned width z → FitsSigned w64 z) where
-  -- a value of the width is the same
+  -- a value in range means the same
   signed_equal : (z : ℤ) (t : Tree) → HasInteger t z → FitsSigned width z → Same (integer_tree z) t
   signed_equal z (number n) h i = has_same (integer_number z) n z (signed_has z (wide z i)) h
   signed_equal z _ h i = absurd h
 
-  -- also back from its bits
+  -- even after it is restored from its bits
   signed_same : (z : ℤ) (t : Tree) → HasInteger t z → FitsSigned width z
       → Same (integer_tree (cast_signed width (cast_unsigned width z))) t
   signed_same z t h i = subst (λ y. Same (integer_tree y) t) (sym (to_z-of_z width z i)) (signed_equal z t h i)
@@ -60,7 +60,7 @@ module _ (width : Width) (wide : (z : ℤ) → FitsSigned width z → FitsSigned
       signed_is (record { decimal = n; is_num = w }) z (wide z i) (subst (IsInteger n) (to_z-of_z width z i) h)
   tree_made z _ w i h = absurd h
 
-  -- a value that is made of one has its tree
+  -- a value converted from an integer has its tree
   pub signed_made : (z : ℤ) (v : WellFormed) → FitsSigned width z → IsIntegerTree v.tree (cast_signed width (cast_unsigned width z))
       → v.tree ≡ integer_tree z
   signed_made z v i h = tree_made z v.tree v.well_formed i h
@@ -75,17 +75,17 @@ module _ (width : Width) where
   past_width z (number n) w h past = (refl, λ y i k. past (subst (FitsSigned width) (one_integer (number n) y z w k h) i))
   past_width z _ w h past = absurd h
 
-  -- a value past the width is refused
+  -- a value out of range is rejected
   pub signed_past : (z : ℤ) (v : WellFormed) → HasInteger v.tree z → (FitsSigned width z → ⊥) → SignedRefused width v.tree OutOfRange
   signed_past z v h past = past_width z v.tree v.well_formed h past
 
-  -- and so is what has no value of the width
+  -- and so is a tree that is no integer in range
   pub signed_none : (t : Tree) (e : ConvertError) → ((z : ℤ) → FitsSigned width z → HasInteger t z → ⊥) → IsNoInteger t e
       → SignedRefused width t e
   signed_none (number n) e none is = (is, none)
   signed_none _ e none is = is
 
--- what a value of the width is read as
+-- the result of reading a value in range
 pub signed_found : (width : Width) → ((z : ℤ) → FitsSigned width z → FitsSigned w64 z) → (z : ℤ) (t : Tree) → HasInteger t z
     → FitsSigned width z
     → record {
@@ -97,7 +97,7 @@ pub signed_found : (width : Width) → ((z : ℤ) → FitsSigned width z → Fit
 signed_found width wide z t h i =
     record { same = signed_same width wide z t h i; read = signed_read width z t h i; none = tt; refused = tt }
 
--- the same of one without a sign
+-- the tree of an integer without a sign
 unsigned_tree_made : (m : ℕ) (t : Tree) → IsWellFormed t → m < 2 ^ 64 → IsIntegerTree t (pos m) → t ≡ integer_tree (pos m)
 unsigned_tree_made m (number n) w i h = unsigned_is (record { decimal = n; is_num = w }) m i h
 unsigned_tree_made m _ w i h = absurd h
@@ -107,7 +107,7 @@ pub unsigned_made : (limit : ℕ) → limit ≤ 2 ^ 64 → (m : ℕ) (v : WellFo
 unsigned_made limit below m v i h = unsigned_tree_made m v.tree v.well_formed (omega (arith, below, i)) h
 
 module _ (limit : ℕ) where
-  -- a value below the limit is the same
+  -- a value below the limit means the same
   unsigned_same : limit ≤ 2 ^ 64 → (m : ℕ) (t : Tree) → HasInteger t (pos m) → m < limit → Same (integer_tree (pos m)) t
   unsigned_same below m (number n) h i = has_same (integer_number (pos m)) n (pos m) (unsigned_has m (omega (arith, below, i))) h
   unsigned_same below m _ h i = absurd h
@@ -124,17 +124,17 @@ module _ (limit : ℕ) where
   )
   past_limit m _ w h past = absurd h
 
-  -- a value past the limit is refused
+  -- a value at or above the limit is rejected
   pub unsigned_past : (m : ℕ) (v : WellFormed) → HasInteger v.tree (pos m) → (m < limit → ⊥) → UnsignedRefused limit v.tree OutOfRange
   unsigned_past m v h past = past_limit m v.tree v.well_formed h past
 
-  -- and so is what has no value below it
+  -- and so is a tree that is no integer below it
   pub unsigned_none : (t : Tree) (e : ConvertError) → ((m : ℕ) → m < limit → HasInteger t (pos m) → ⊥) → IsNoInteger t e
       → UnsignedRefused limit t e
   unsigned_none (number n) e none is = (is, none)
   unsigned_none _ e none is = is
 
--- what a value below the limit is read as
+-- the result of reading a value below the limit
 pub unsigned_found : (limit : ℕ) → limit ≤ 2 ^ 64 → (m : ℕ) (t : Tree) → HasInteger t (pos m) → m < limit
     → record { same : Same (integer_tree (pos m)) t; read : IsRead (UnsignedRefused limit) t; none : ⊤; refused : ⊤ }
 unsigned_found limit below m t h i =

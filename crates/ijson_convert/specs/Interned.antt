@@ -1,13 +1,13 @@
--- Interning texts one after the other: each of more than 7 bytes is added to the cache. This project's own.
+-- Interning strings in order: each of more than 7 bytes is added to the cache. This project's own.
 use Rattle.std.specs.Prelude.{◌≡◌, ℕ, List, [], ◌∷◌, ◌++◌}
 use Rattle.ijson_string.specs.Cache.{Texts, interned}
 
--- the cache with each of the texts
+-- the cache with each of the strings
 abbrev pub all_interned : List (List ℕ) → Texts → Texts
 all_interned [] cache = cache
 all_interned (text ∷ more) cache = all_interned more (interned text cache)
 
--- a beginning of the texts was interned, and nothing else
+-- a prefix of the strings was interned, and nothing else
 pub record SomeInterned (texts : List (List ℕ)) (old new : Texts) : Type 0 where
   pub done : List (List ℕ)
   pub left : List (List ℕ)

@@ -1,9 +1,9 @@
--- Which of two values with the tree null is read, where a type of what may be missing has both: what is missing. So null is read as None,
--- and never as Some of what has the tree null itself. This project's own.
+-- Null is read as None, never as Some of a value whose tree is null. So of two values of an option type with the tree null, None is read.
+-- This project's own.
 use Rattle.std.specs.Prelude.{◌≡◌, Option, None, Some, ⊤}
 use Rattle.ijson_value.specs.Tree.{Tree, null}
 
--- it is missing, or its tree isn't null, and of what is in it that holds too
+-- it is None, or its tree is not null and its content has the property `inside`
 abbrev pub option_null_is_none : {X : Type 0} → (X → Tree) → (X → Type 0) → Option X → Type 0
 option_null_is_none tree inside None = ⊤
 option_null_is_none tree inside (Some x) = (tree x ≡ null → ⊥) × inside x

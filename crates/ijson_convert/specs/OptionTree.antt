@@ -1,4 +1,4 @@
--- What may be missing as a tree: null where it is missing. This project's own.
+-- An option as a tree: null for None. This project's own.
 use Rattle.std.specs.Prelude.{Option, None, Some}
 use Rattle.ijson_value.specs.Tree.{Tree, null}
 

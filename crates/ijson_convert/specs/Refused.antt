@@ -1,5 +1,5 @@
--- Why a tree is not read as a Rust value, by the type: a tree of another kind is refused as such, a number that is not
--- whole or not in range as out of range, and a list or a map for the first refusal in its order. This project's own.
+-- Why a tree is not read as a Rust value, by type: another kind is the wrong kind, a number that is not whole or not in range is out of
+-- range, and a list or a map fails for its first rejected part. This project's own.
 use Rattle.std.specs.Prelude.{◌≡◌, ◌⊎◌, ◌<◌, ℕ, ℤ, pos, FitsSigned}
 use Rattle.std.specs.Int.{Width}
 use Rattle.ijson_number.specs.Integers.{HasValue}
@@ -32,7 +32,7 @@ abbrev pub OptionRefused : (Tree → ConvertError → Type 0) → Tree → Conve
 OptionRefused Refused null e = ⊥
 OptionRefused Refused t e = Refused t e
 
--- the first refusal of an item
+-- the first rejected element
 abbrev pub FirstRefused : (Tree → ConvertError → Type 0) → Items → ConvertError → Type 0
 FirstRefused Refused no_items e = ⊥
 FirstRefused Refused (item t more) e =
@@ -42,7 +42,7 @@ abbrev pub ListRefused : (Tree → ConvertError → Type 0) → Tree → Convert
 ListRefused Refused (array items) e = FirstRefused Refused items e
 ListRefused Refused _ e = e ≡ WrongKind
 
--- the values of members, as the items of a list
+-- the values of members, as the elements of a list
 abbrev pub member_values : Members → Items
 member_values no_members = no_items
 member_values (member k t more) = item t (member_values more)

@@ -1,5 +1,5 @@
--- A value of `serde_json` as a tree: null, truth values, numbers that an i64 or a u64 holds (without the point), texts, lists,
--- and pairs in the order of their keys. A value that holds any other number has no tree. This project's own.
+-- A value of `serde_json` as a tree: null, Booleans, numbers that fit an i64 or a u64 (without a fraction point), strings, lists, and
+-- entries in the order of their keys. A value that contains any other number has no tree. This project's own.
 use Rattle.std.specs.Prelude.{◌≡◌, ◌<◌, ◌^◌, pos, ⊤, FitsSigned}
 use Rattle.std.specs.Int.{w64}
 use Rattle.serde_json.specs.Data as serde
@@ -36,7 +36,7 @@ abbrev mutual
   SerdeMembers (serde.member k d ms) (member j t ps) = (k ≡ j) × SerdeTree d t × SerdeMembers ms ps
   SerdeMembers _ _ = ⊥
 
--- no tree is that of the value
+-- the value has no tree
 abbrev pub HasNoTree : Data → Type 0
 HasNoTree d = (t : Tree) → SerdeTree d t → ⊥
 
@@ -44,6 +44,6 @@ HasNoTree d = (t : Tree) → SerdeTree d t → ⊥
 abbrev pub SerdeMeans : Data → Tree → Type 0
 SerdeMeans d u = (t : Tree) × IsWellFormed t × SerdeTree d t × Same t u
 
--- no value has
+-- no value has such a tree
 abbrev pub NoSerdeMeans : Tree → Type 0
 NoSerdeMeans u = (d : Data) → SerdeMeans d u → ⊥

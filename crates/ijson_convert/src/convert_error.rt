@@ -1,4 +1,4 @@
-//! Why a conversion is refused.
+//! Errors of conversions.
 ghost use Rattle.std.specs.Prelude.{◌≡◌};
 ghost use Rattle.ijson_convert.specs.declared.convert_error.ConvertError.TheVariants.{Memory};
 
@@ -14,18 +14,18 @@ pub enum ConvertError {
     /// The JSON value is of another kind than the Rust type.
     #[error("a value of another kind")]
     WrongKind,
-    /// The number is not whole, or not in the range of the integer type.
+    /// The number is not whole, or out of the range of the integer type.
     #[error("not a whole number in the range of the type")]
     OutOfRange,
-    /// The value of the number is neither an `i64` nor a `u64`, or it is a float of `serde_json`.
+    /// The number is neither an `i64` nor a `u64`, or it is a float of `serde_json`.
     #[error("a number that is neither an i64 nor a u64")]
     Number,
-    /// Memory was refused, or an object would have had to grow past the capacity 2^56.
+    /// An allocation failed, or the capacity of an object would exceed 2^56.
     #[error("out of memory")]
     Memory,
 }
 
-/// `Memory`.
+/// Converts to `Memory`.
 impl From<AllocError> for ConvertError {
     ghost from_gives = { λ _ e. e ≡ Memory };
 
@@ -34,7 +34,7 @@ impl From<AllocError> for ConvertError {
     }
 }
 
-/// `Memory`; what came back is dropped.
+/// Converts to `Memory` and drops the element.
 impl From<Refused> for ConvertError {
     ghost from_gives = { λ _ e. e ≡ Memory };
 
@@ -44,7 +44,7 @@ impl From<Refused> for ConvertError {
     }
 }
 
-/// `Memory`; what came back is dropped.
+/// Converts to `Memory` and drops the entry.
 impl From<RefusedPair> for ConvertError {
     ghost from_gives = { λ _ e. e ≡ Memory };
 
@@ -54,7 +54,7 @@ impl From<RefusedPair> for ConvertError {
     }
 }
 
-/// `Memory`, also where an object would be too large.
+/// Converts to `Memory`, even if an object would be too large.
 impl From<ReserveError> for ConvertError {
     ghost from_gives = { λ _ e. e ≡ Memory };
 

@@ -1,4 +1,4 @@
-//! `FromIValue`: what can be made of a JSON value.
+//! `FromIValue`: conversions from JSON values.
 ghost use Rattle.std.specs.Prelude.{◌≡◌, ◌⊎◌, IfOk, IfErr};
 ghost use Rattle.ijson_value.specs.Same.{Same};
 ghost use Rattle.ijson_value.specs.Tree.{Tree};
@@ -11,10 +11,11 @@ use crate::convert_error::ConvertError;
 use ijson_value::value::IValue;
 use std::alloc::Global;
 
-/// What has a tree, and can be made of a JSON value whose tree means the same. These are `bool`, the integers of up to 64 bits and
-/// `String`; and, where `T` has this trait, `Option<T>` (null is None), `Vec<T>` and `BTreeMap<String, T>`. A number of any
-/// shape is an integer where its value is whole: `2.0` is 2. Null is None of the outermost `Option`: of `Option<Option<u8>>` it
-/// is None, and never `Some(None)`.
+/// A type that can be read from a JSON value, and has a tree that means the same.
+///
+/// It is implemented for `bool`, the integers of up to 64 bits and `String`; and, if `T` implements it, for `Option<T>` (null is `None`),
+/// `Vec<T>` and `BTreeMap<String, T>`. A number with a fraction point is an integer if its value is whole: `2.0` is 2. Null is the
+/// outermost `None`: an `Option<Option<u8>>` is then `None`, never `Some(None)`.
 pub trait FromIValue: Sized {
     /// The tree of a value.
     ghost tree: { Self → Tree };
@@ -26,35 +27,46 @@ pub trait FromIValue: Sized {
     ghost use Rattle.ijson_convert.specs.declared.convert_error.ConvertError.{ConvertError};
     ghost use Rattle.ijson_convert.specs.declared.convert_error.ConvertError.TheVariants.{Memory};
 
-    /// Why a tree is refused: the first reason in order.
+    /// Why a tree is rejected: the first reason in order.
     ghost refused: { Tree → ConvertError → Type 0 };
 
-    /// What holds of the integers in each value: in a law, an integer type has any whole number.
+    /// A property of the integers in each value: in a law, an integer type contains any whole number.
     ghost in_range: { Self → Type 0 };
 
-    /// What holds of each value that is read: where a part of it may be missing and has the tree null, it is missing.
+    /// A property of each value read: an optional part that has the tree null is `None`.
     ghost null_is_none: { Self → Type 0 };
 
-    /// What the JSON value says. It is refused where its tree is, and else only with `Memory`. Texts are copied, and what was made
-    /// is dropped where it is refused.
+    /// Reads a JSON value. Strings are copied.
+    ///
+    /// # Errors
+    ///
+    /// Fails if the tree is rejected, otherwise only with `Memory`. The partial result is dropped.
     fn from_ivalue(alloc: Global, value: &IValue) -> Result<Self, ConvertError>
         ensures same { IfOk result (λ x. Same (tree x) value.now.tree) }
         ensures read { IfOk result (λ x. IsRead refused value.now.tree) }
         ensures none { IfOk result (λ x. null_is_none x) }
         ensures refused { IfErr result (λ e. (e ≡ Memory) ⊎ refused value.now.tree e) };
 
-    /// Only a tree that is no value's is refused.
+    /// Only a tree that no value has is rejected.
     ghost complete: { (x : Self) (t : Tree) (e : ConvertError) → in_range x → IsWellFormed (tree x)
         → IsWellFormed t → Same (tree x) t → refused t e → ⊥ };
 }
 
-/// What the JSON value says, as a `T`. It is refused where its tree is no `T`'s, with the first reason in order, and else only with
-/// `Memory`. Texts are copied. For an `Option`, null is None. It takes time linear in the value, and where it
-/// makes a `BTreeMap`, n log n in its pairs and that of comparing keys.
+/// Reads a JSON value as a `T`.
+///
+/// Strings are copied. For an `Option`, null is `None`.
 ///
 /// ```
-/// let ids: Vec<u64> = from_value(alloc, &value)?; // of [1,2.0]; [1,"2"] is refused as WrongKind, [1,2.5] as OutOfRange
+/// let ids: Vec<u64> = from_value(alloc, &value)?; // of [1,2.0]; [1,"2"] is WrongKind, [1,2.5] OutOfRange
 /// ```
+///
+/// # Errors
+///
+/// Fails if no `T` has the tree of the value, with the first reason in order, otherwise only with `Memory`.
+///
+/// # Cost
+///
+/// Linear in the value; n log n in the entries of a `BTreeMap`, plus comparing keys.
 pub fn from_value<T: FromIValue>(alloc: Global, value: &IValue) -> Result<T, ConvertError>
     ensures same { IfOk result (λ x. Same (T.FromIValue.tree x) value.now.tree) }
     ensures read { IfOk result (λ x. IsRead T.FromIValue.refused value.now.tree) }

@@ -1,4 +1,4 @@
-//! `FromIValue` of the integers.
+//! `FromIValue` for integers.
 ghost use Rattle.std.specs.Prelude.{◌<◌, ◌^◌, pos, ⊤, FitsSigned};
 ghost use Rattle.std.specs.Int.{w8, w16, w32, w64};
 ghost use Rattle.ijson_convert.specs.IntegerTree.{integer_tree};
@@ -12,7 +12,7 @@ use crate::from_ivalue::FromIValue;
 use ijson_value::value::IValue;
 use std::alloc::Global;
 
-/// Why a value that is no integer of a type is refused: it is of another kind, or a number past the range or with a fraction.
+/// Returns why a value is not an integer: another kind, or a number out of range or with a fraction.
 fn why_no_integer(value: &IValue) -> ConvertError
     ensures { IsNoInteger value.now.tree result }
 {
@@ -23,7 +23,11 @@ fn why_no_integer(value: &IValue) -> ConvertError
     }
 }
 
-/// A number whose value is whole and in the range, whatever its shape: else `WrongKind` or `OutOfRange`.
+/// Reads a whole number in range, with or without a fraction point.
+///
+/// # Errors
+///
+/// Returns `WrongKind` for another kind, and `OutOfRange` for another number.
 impl FromIValue for i8 {
     ghost tree = { λ z. integer_tree z };
 
@@ -46,7 +50,11 @@ impl FromIValue for i8 {
     ghost complete = { signed_complete w8 wide_8 };
 }
 
-/// A number whose value is whole and in the range, whatever its shape: else `WrongKind` or `OutOfRange`.
+/// Reads a whole number in range, with or without a fraction point.
+///
+/// # Errors
+///
+/// Returns `WrongKind` for another kind, and `OutOfRange` for another number.
 impl FromIValue for i16 {
     ghost tree = { λ z. integer_tree z };
 
@@ -69,7 +77,11 @@ impl FromIValue for i16 {
     ghost complete = { signed_complete w16 wide_16 };
 }
 
-/// A number whose value is whole and in the range, whatever its shape: else `WrongKind` or `OutOfRange`.
+/// Reads a whole number in range, with or without a fraction point.
+///
+/// # Errors
+///
+/// Returns `WrongKind` for another kind, and `OutOfRange` for another number.
 impl FromIValue for i32 {
     ghost tree = { λ z. integer_tree z };
 
@@ -89,7 +101,11 @@ impl FromIValue for i32 {
     ghost complete = { signed_complete w32 wide_32 };
 }
 
-/// A number whose value is whole and in the range, whatever its shape: else `WrongKind` or `OutOfRange`.
+/// Reads a whole number in range, with or without a fraction point.
+///
+/// # Errors
+///
+/// Returns `WrongKind` for another kind, and `OutOfRange` for another number.
 impl FromIValue for i64 {
     ghost tree = { λ z. integer_tree z };
 
@@ -109,7 +125,11 @@ impl FromIValue for i64 {
     ghost complete = { signed_complete w64 wide_64 };
 }
 
-/// A number whose value is whole and in the range, whatever its shape: else `WrongKind` or `OutOfRange`.
+/// Reads a whole number in range, with or without a fraction point.
+///
+/// # Errors
+///
+/// Returns `WrongKind` for another kind, and `OutOfRange` for another number.
 impl FromIValue for isize {
     ghost tree = { λ z. integer_tree z };
 
@@ -129,7 +149,11 @@ impl FromIValue for isize {
     ghost complete = { signed_complete w64 wide_64 };
 }
 
-/// A number whose value is whole and in the range, whatever its shape: else `WrongKind` or `OutOfRange`.
+/// Reads a whole number in range, with or without a fraction point.
+///
+/// # Errors
+///
+/// Returns `WrongKind` for another kind, and `OutOfRange` for another number.
 impl FromIValue for u8 {
     ghost tree = { λ m. integer_tree (pos m) };
 
@@ -152,7 +176,11 @@ impl FromIValue for u8 {
     ghost complete = { unsigned_complete (2 ^ 8) below_8 };
 }
 
-/// A number whose value is whole and in the range, whatever its shape: else `WrongKind` or `OutOfRange`.
+/// Reads a whole number in range, with or without a fraction point.
+///
+/// # Errors
+///
+/// Returns `WrongKind` for another kind, and `OutOfRange` for another number.
 impl FromIValue for u16 {
     ghost tree = { λ m. integer_tree (pos m) };
 
@@ -175,7 +203,11 @@ impl FromIValue for u16 {
     ghost complete = { unsigned_complete (2 ^ 16) below_16 };
 }
 
-/// A number whose value is whole and in the range, whatever its shape: else `WrongKind` or `OutOfRange`.
+/// Reads a whole number in range, with or without a fraction point.
+///
+/// # Errors
+///
+/// Returns `WrongKind` for another kind, and `OutOfRange` for another number.
 impl FromIValue for u32 {
     ghost tree = { λ m. integer_tree (pos m) };
 
@@ -195,7 +227,11 @@ impl FromIValue for u32 {
     ghost complete = { unsigned_complete (2 ^ 32) below_32 };
 }
 
-/// A number whose value is whole and in the range, whatever its shape: else `WrongKind` or `OutOfRange`.
+/// Reads a whole number in range, with or without a fraction point.
+///
+/// # Errors
+///
+/// Returns `WrongKind` for another kind, and `OutOfRange` for another number.
 impl FromIValue for u64 {
     ghost tree = { λ m. integer_tree (pos m) };
 
@@ -215,7 +251,11 @@ impl FromIValue for u64 {
     ghost complete = { unsigned_complete (2 ^ 64) below_64 };
 }
 
-/// A number whose value is whole and in the range, whatever its shape: else `WrongKind` or `OutOfRange`.
+/// Reads a whole number in range, with or without a fraction point.
+///
+/// # Errors
+///
+/// Returns `WrongKind` for another kind, and `OutOfRange` for another number.
 impl FromIValue for usize {
     ghost tree = { λ m. integer_tree (pos m) };
 

@@ -1,4 +1,4 @@
-//! `ToIValue` of the integers.
+//! `ToIValue` for integers.
 ghost use Rattle.std.specs.Prelude.{pos};
 ghost use Rattle.ijson_convert.specs.IntegerTree.{integer_tree};
 
@@ -9,7 +9,7 @@ use ijson_value::value::IValue;
 use std::alloc::Global;
 use std::hash::BuildHasher;
 
-/// The integer, without the point. It takes no memory.
+/// Converts an integer, which has no fraction point. It does not allocate.
 impl ToIValue for i8 {
     ghost tree = { λ z. integer_tree z };
 
@@ -22,7 +22,7 @@ impl ToIValue for i8 {
     }
 }
 
-/// The integer, without the point. It takes no memory.
+/// Converts an integer, which has no fraction point. It does not allocate.
 impl ToIValue for i16 {
     ghost tree = { λ z. integer_tree z };
 
@@ -35,7 +35,7 @@ impl ToIValue for i16 {
     }
 }
 
-/// The integer, without the point. It takes no memory.
+/// Converts an integer, which has no fraction point. It does not allocate.
 impl ToIValue for i32 {
     ghost tree = { λ z. integer_tree z };
 
@@ -48,7 +48,7 @@ impl ToIValue for i32 {
     }
 }
 
-/// The integer, without the point. It takes no memory.
+/// Converts an integer, which has no fraction point. It does not allocate.
 impl ToIValue for i64 {
     ghost tree = { λ z. integer_tree z };
 
@@ -61,7 +61,7 @@ impl ToIValue for i64 {
     }
 }
 
-/// The integer, without the point. It takes no memory.
+/// Converts an integer, which has no fraction point. It does not allocate.
 impl ToIValue for isize {
     ghost tree = { λ z. integer_tree z };
 
@@ -74,7 +74,7 @@ impl ToIValue for isize {
     }
 }
 
-/// The integer, without the point. It takes no memory.
+/// Converts an integer, which has no fraction point. It does not allocate.
 impl ToIValue for u8 {
     ghost tree = { λ n. integer_tree (pos n) };
 
@@ -87,7 +87,7 @@ impl ToIValue for u8 {
     }
 }
 
-/// The integer, without the point. It takes no memory.
+/// Converts an integer, which has no fraction point. It does not allocate.
 impl ToIValue for u16 {
     ghost tree = { λ n. integer_tree (pos n) };
 
@@ -100,7 +100,7 @@ impl ToIValue for u16 {
     }
 }
 
-/// The integer, without the point. It takes no memory.
+/// Converts an integer, which has no fraction point. It does not allocate.
 impl ToIValue for u32 {
     ghost tree = { λ n. integer_tree (pos n) };
 
@@ -113,7 +113,7 @@ impl ToIValue for u32 {
     }
 }
 
-/// The integer, without the point. It takes no memory.
+/// Converts an integer, which has no fraction point. It does not allocate.
 impl ToIValue for u64 {
     ghost tree = { λ n. integer_tree (pos n) };
 
@@ -126,7 +126,7 @@ impl ToIValue for u64 {
     }
 }
 
-/// The integer, without the point. It takes no memory.
+/// Converts an integer, which has no fraction point. It does not allocate.
 impl ToIValue for usize {
     ghost tree = { λ n. integer_tree (pos n) };
 

@@ -1,6 +1,6 @@
-//! Rust values as JSON values, and JSON values as Rust values.
+//! Conversions between Rust values and JSON values.
 //!
-//! Tests: `ijson/src/tests` (`conversions`, `serde`, `errors`, and refused memory in `refusals`).
+//! The tests are in `ijson/src/tests` (`conversions`, `serde`, `errors`, and failed allocations in `refusals`).
 #![tactic(auto)]
 
 mod convert_error;

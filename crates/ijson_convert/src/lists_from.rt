@@ -1,4 +1,4 @@
-//! `FromIValue` of lists.
+//! `FromIValue` for lists.
 ghost use Rattle.std.specs.Prelude.{All};
 ghost use Rattle.ijson_convert.specs.ListTree.{list_tree};
 ghost use Rattle.ijson_convert.specs.Refused.{ListRefused};
@@ -9,7 +9,7 @@ use crate::from_ivalue::FromIValue;
 use ijson_value::value::{DestructuredRef, IValue};
 use std::alloc::Global;
 
-/// An array, item by item; the list takes its room once.
+/// Reads an array, element by element. The list is allocated once.
 impl<T: FromIValue + Drop> FromIValue for Vec<T> {
     ghost tree = { λ list. list_tree T.FromIValue.tree list.items };
 

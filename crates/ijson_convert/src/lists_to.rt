@@ -1,4 +1,4 @@
-//! `ToIValue` of lists.
+//! `ToIValue` for lists.
 ghost use Rattle.std.specs.Prelude.{◌≡◌, map, OnOk, IfOk, IfErr};
 ghost use Rattle.ijson_value.specs.WellFormed.{tree_of};
 ghost use Rattle.ijson_convert.specs.Interned.{all_interned, SomeInterned};
@@ -14,7 +14,7 @@ use ijson_value::value::IValue;
 use std::alloc::Global;
 use std::hash::BuildHasher;
 
-/// The items as an array, which grows once.
+/// Returns the elements as an array, which is allocated once.
 fn array_of<T: ToIValue, S: BuildHasher>(
     alloc: Global,
     cache: &mut StringCache<S>,
@@ -36,7 +36,7 @@ fn array_of<T: ToIValue, S: BuildHasher>(
     Ok(array)
 }
 
-/// An array of what is made of the items, which takes its room once.
+/// Converts to an array of the converted elements, which is allocated once.
 impl<T: ToIValue> ToIValue for &[T] {
     ghost tree = { λ items. list_tree T.ToIValue.tree items.now };
 
@@ -50,7 +50,7 @@ impl<T: ToIValue> ToIValue for &[T] {
     }
 }
 
-/// As the slice of its items.
+/// Converts like the slice of its elements.
 impl<T: ToIValue> ToIValue for Vec<T> {
     ghost tree = { λ list. list_tree T.ToIValue.tree list.items };
 

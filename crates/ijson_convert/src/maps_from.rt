@@ -1,4 +1,4 @@
-//! `FromIValue` of maps.
+//! `FromIValue` for maps.
 ghost use Rattle.std.specs.Map.{values_of};
 ghost use Rattle.std.specs.Prelude.{All};
 ghost use Rattle.ijson_convert.specs.MapTree.{map_tree};
@@ -11,8 +11,11 @@ use ijson_value::value::{DestructuredRef, IValue};
 use std::alloc::Global;
 use std::collections::BTreeMap;
 
-/// An object, value by value; its keys are copied, and its order is lost. The pairs of each object are put into a sorted map, in time
-/// n log n and that of comparing keys.
+/// Reads an object, value by value. Its keys are copied, and its order is lost.
+///
+/// # Cost
+///
+/// The entries of each object are inserted into a sorted map: n log n time, plus comparing keys.
 impl<T: FromIValue + Drop> FromIValue for BTreeMap<String, T> {
     ghost tree = { λ map. map_tree T.FromIValue.tree map.entries };
 

@@ -1,4 +1,4 @@
-//! `ToIValue` of maps.
+//! `ToIValue` for maps.
 ghost use Rattle.std.specs.Prelude.{◌≡◌, List, ◌∷◌, length, map, String, string_bytes, OnOk, IfOk, IfErr};
 ghost use Rattle.std.specs.Iterator.{AlwaysYields, IsFinite};
 ghost use Rattle.std.specs.Map.Iter.{deref_pair};
@@ -19,7 +19,7 @@ use std::alloc::Global;
 use std::collections::BTreeMap;
 use std::hash::BuildHasher;
 
-/// The key, and what is made of `x`.
+/// Interns the key and converts `x`.
 fn pair_of<T: ToIValue, S: BuildHasher>(
     alloc: Global,
     cache: &mut StringCache<S>,
@@ -44,8 +44,10 @@ fn pair_of<T: ToIValue, S: BuildHasher>(
     }
 }
 
-/// The object of the entries of a map, in the order in which the map gives them. Its capacity is their count, which is told. Its
-/// pairs are made in a list with that room, which is taken first, and the object is made of it as by `from_pairs`.
+/// Creates an object of the `count` entries of a map, in the order of `entries`.
+///
+/// Its capacity is `count`. The entries are collected in a list of that capacity, which is allocated first, and the object is built from it
+/// as by `from_pairs`.
 fn object_of<'a, T: ToIValue + 'a, S: BuildHasher, I: Iterator<Item = (&'a String, &'a T)> + Drop>(
     alloc: Global,
     cache: &mut StringCache<S>,
@@ -76,7 +78,7 @@ fn object_of<'a, T: ToIValue + 'a, S: BuildHasher, I: Iterator<Item = (&'a Strin
     Ok(IValue::from(object))
 }
 
-/// An object in the order of the keys, whose capacity is their count.
+/// Converts to an object in the order of the keys, whose capacity is their count.
 impl<T: ToIValue> ToIValue for BTreeMap<String, T> {
     ghost tree = { λ map. map_tree T.ToIValue.tree map.entries };
 
@@ -89,7 +91,7 @@ impl<T: ToIValue> ToIValue for BTreeMap<String, T> {
     }
 }
 
-/// An object in the order of the map, whose capacity is the count of its pairs.
+/// Converts to an object in the order of the map, whose capacity is the number of its entries.
 impl<T: ToIValue> ToIValue for IndexMap<String, T> {
     ghost tree = { λ map. map_tree T.ToIValue.tree map.entries };
 

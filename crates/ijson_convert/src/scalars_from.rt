@@ -1,4 +1,4 @@
-//! `FromIValue` of truth values, texts, and what may be missing.
+//! `FromIValue` for Booleans, strings and options.
 ghost use Rattle.std.specs.Prelude.{⊤, string_bytes, IfSome};
 ghost use Rattle.ijson_value.specs.Tree.{boolean, string};
 ghost use Rattle.ijson_convert.specs.NullIsNone.{option_null_is_none};
@@ -11,7 +11,7 @@ use crate::from_ivalue::FromIValue;
 use ijson_value::value::{DestructuredRef, IValue};
 use std::alloc::Global;
 
-/// True or false.
+/// Reads a Boolean.
 impl FromIValue for bool {
     ghost tree = { λ b. boolean b };
 
@@ -31,7 +31,7 @@ impl FromIValue for bool {
     ghost complete = { bool_complete };
 }
 
-/// A string, which is copied.
+/// Reads and copies a string.
 impl FromIValue for String {
     ghost tree = { λ s. string (string_bytes s) };
 
@@ -51,7 +51,7 @@ impl FromIValue for String {
     ghost complete = { λ s. text_complete (string_bytes s) };
 }
 
-/// None where the value is null, even if a `T` can be made of null, too.
+/// Reads null as `None`, even if a `T` could be read from null too.
 impl<T: FromIValue> FromIValue for Option<T> {
     ghost tree = { option_tree T.FromIValue.tree };
 

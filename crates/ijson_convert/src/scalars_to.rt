@@ -1,4 +1,4 @@
-//! `ToIValue` of truth values, texts, and what may be missing.
+//! `ToIValue` for Booleans, strings and options.
 ghost use Rattle.std.specs.Prelude.{string_bytes};
 ghost use Rattle.ijson_value.specs.Tree.{boolean, string};
 ghost use Rattle.ijson_convert.specs.OptionTree.{option_tree};
@@ -10,7 +10,7 @@ use ijson_value::value::IValue;
 use std::alloc::Global;
 use std::hash::BuildHasher;
 
-/// The truth value. It takes no memory.
+/// Converts a Boolean. It does not allocate.
 impl ToIValue for bool {
     ghost tree = { λ b. boolean b };
 
@@ -23,7 +23,7 @@ impl ToIValue for bool {
     }
 }
 
-/// The text, interned.
+/// Interns a string.
 impl ToIValue for &str {
     ghost tree = { λ s. string s.now };
 
@@ -37,7 +37,7 @@ impl ToIValue for &str {
     }
 }
 
-/// The text, interned.
+/// Interns a string.
 impl ToIValue for String {
     ghost tree = { λ s. string (string_bytes s) };
 
@@ -50,7 +50,7 @@ impl ToIValue for String {
     }
 }
 
-/// Null where nothing is there.
+/// Converts the content of `Some`, and `None` to null.
 impl<T: ToIValue> ToIValue for Option<T> {
     ghost tree = { option_tree T.ToIValue.tree };
 

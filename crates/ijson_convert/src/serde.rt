@@ -1,4 +1,4 @@
-//! Values, maps and numbers of `serde_json` as JSON values, objects and numbers, and back.
+//! Conversions between the values, maps and numbers of `serde_json` and JSON values, objects and numbers.
 ghost use Rattle.std.specs.Prelude.{◌≡◌, ◌⊎◌, OnOk, OnErr, IfOk, IfErr};
 ghost use Rattle.serde_json.specs.Data.{array as data_array, object as data_object, number as data_number};
 ghost use Rattle.serde_json.specs.View.{view, number_view, items_view, members_view};
@@ -20,8 +20,11 @@ use serde_json::{Map, Number, Value};
 use std::alloc::Global;
 use std::hash::BuildHasher;
 
-/// The number that a number of `serde_json` is, without the point. A float of `serde_json` is refused with `Number`,
-/// whatever its value. It takes no memory.
+/// Converts a number of `serde_json` to one without a fraction point. It does not allocate.
+///
+/// # Errors
+///
+/// Returns `Number` for a float of `serde_json`, whatever its value.
 pub fn from_serde_number(number: &Number) -> Result<INumber, ConvertError>
     ensures number { IfOk result (λ made. SerdeNumber (number_view number.now) made.decimal) }
     ensures refused { IfErr result (λ e.
@@ -36,8 +39,13 @@ pub fn from_serde_number(number: &Number) -> Result<INumber, ConvertError>
     }
 }
 
-/// The number of `serde_json` with the value of a number, whose shape is lost. A value that is neither an `i64` nor a
-/// `u64` is refused with `Number`. It takes no memory.
+/// Converts a number to one of `serde_json` with its value; the fraction point is lost.
+///
+/// It does not allocate.
+///
+/// # Errors
+///
+/// Returns `Number` if the value is neither an `i64` nor a `u64`.
 pub fn to_serde_number(number: &INumber) -> Result<Number, ConvertError>
     ensures number { IfOk result (λ made.
         SerdeMeans (data_number (number_view made)) (number_tree number.now.decimal)) }
@@ -53,12 +61,20 @@ pub fn to_serde_number(number: &INumber) -> Result<Number, ConvertError>
     }
 }
 
-/// The JSON value of a value of `serde_json`: members come in the order of its map, which is that of their keys. Its texts
-/// and keys are interned in `cache`, in their order; where it is refused, a beginning of them may have been. `Number`
-/// comes where a number in it is a float, and `Memory` where memory for an array, an object or a text was refused. The numbers
-/// that it makes have no point. It takes time linear in the value, beside the look-ups of keys and texts by their hashes; where
-/// many keys of an object crowd, n log n in its pairs. It has no limit of depth, but it calls itself once a level, so a very deep
-/// value can want more stack than there is.
+/// Converts a value of `serde_json` to a JSON value.
+///
+/// Members are in the order of its map, which is that of their keys. Strings and keys are interned in `cache`, in order. Numbers have no
+/// fraction point.
+///
+/// # Errors
+///
+/// Returns `Number` if the value contains a float, and `Memory` if an allocation for an array, an object or a string fails. The first
+/// strings and keys may have been interned.
+///
+/// # Cost
+///
+/// Linear in the value, plus hash lookups of keys and strings; if many keys of an object collide, n log n in its entries. The depth is not
+/// limited, but it recurses once per level, so a very deep value can overflow the stack.
 #[cycle(from)]
 pub fn from_serde<S: BuildHasher>(
     alloc: Global,
@@ -81,7 +97,7 @@ pub fn from_serde<S: BuildHasher>(
     }
 }
 
-/// The items of a list of `serde_json` as an array, which grows once.
+/// Converts the elements of a list of `serde_json` to an array, which is allocated once.
 #[cycle(from)]
 fn from_items<S: BuildHasher>(
     alloc: Global,
@@ -105,10 +121,18 @@ fn from_items<S: BuildHasher>(
     Ok(array)
 }
 
-/// The object of a map of `serde_json`, in its order, which is that of the keys. Its pairs are made in a list with room for
-/// all, which is taken first, and the object is made of it as by `from_pairs`. The keys and the texts are interned in
-/// `cache`, in their order; where the map is refused, a beginning of them may have been. `Number` comes where a number in it
-/// is a float, and `Memory` where memory was refused. It takes the time that `from_serde` does.
+/// Converts a map of `serde_json` to an object, in its order, which is that of the keys.
+///
+/// The entries are collected in a list that is allocated first, and the object is built from it as by `from_pairs`. Keys and strings are
+/// interned in `cache`, in order.
+///
+/// # Errors
+///
+/// Returns `Number` if the map contains a float, and `Memory` if an allocation fails. The first keys and strings may have been interned.
+///
+/// # Cost
+///
+/// That of `from_serde`.
 #[cycle(from)]
 pub fn from_serde_map<S: BuildHasher>(
     alloc: Global,
@@ -138,11 +162,19 @@ pub fn from_serde_map<S: BuildHasher>(
     Ok(IObject::from_pairs(alloc, pairs)?)
 }
 
-/// The value of `serde_json` of a JSON value. A number goes over by its value, and its shape is lost; members come in the
-/// order of their keys. `Number` comes where the value of a number in it is neither an `i64` nor a `u64`, and `Memory`
-/// where memory for a list, a map or a text was refused. Texts are copied. The pairs of each object are put into a sorted map, in
-/// time n log n and that of comparing keys; all else takes time linear in the value. It has no limit of depth, but it calls itself
-/// once a level, so a very deep value can want more stack than there is.
+/// Converts a JSON value to a value of `serde_json`.
+///
+/// A number keeps its value but not its fraction point; members are in the order of their keys. Strings are copied.
+///
+/// # Errors
+///
+/// Returns `Number` if the value contains a number that is neither an `i64` nor a `u64`, and `Memory` if an allocation for a list, a map or
+/// a string fails.
+///
+/// # Cost
+///
+/// The entries of each object are inserted into a sorted map, in n log n time plus comparing keys; the rest is linear. The depth is not
+/// limited, but it recurses once per level, so a very deep value can overflow the stack.
 #[cycle(to)]
 pub fn to_serde(alloc: Global, value: &IValue) -> Result<Value, ConvertError>
     ensures means { IfOk result (λ made. SerdeMeans (view made) value.now.tree) }
@@ -159,7 +191,7 @@ pub fn to_serde(alloc: Global, value: &IValue) -> Result<Value, ConvertError>
     }
 }
 
-/// The items as a list of values of `serde_json`, which grows once.
+/// Converts the elements to a list of values of `serde_json`, which is allocated once.
 #[cycle(to)]
 fn to_items(alloc: Global, items: &[IValue]) -> Result<Vec<Value>, ConvertError>
     ensures means { IfOk result (λ made.
@@ -174,8 +206,15 @@ fn to_items(alloc: Global, items: &[IValue]) -> Result<Vec<Value>, ConvertError>
     Ok(list)
 }
 
-/// The map of `serde_json` of an object, which keeps its pairs in the order of their keys. `Number` comes where the value
-/// of a number in it is neither an `i64` nor a `u64`, and `Memory` where memory was refused. It takes the time that `to_serde` does.
+/// Converts an object to a map of `serde_json`, in the order of its keys.
+///
+/// # Errors
+///
+/// Returns `Number` if it contains a number that is neither an `i64` nor a `u64`, and `Memory` if an allocation fails.
+///
+/// # Cost
+///
+/// That of `to_serde`.
 #[cycle(to)]
 pub fn to_serde_map(alloc: Global, object: &IObject) -> Result<Map<String, Value>, ConvertError>
     ensures means { IfOk result (λ made.

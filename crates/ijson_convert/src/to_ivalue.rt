@@ -1,4 +1,4 @@
-//! `ToIValue`: what can be made a JSON value.
+//! `ToIValue`: conversions to JSON values.
 ghost use Rattle.std.specs.Prelude.{◌≡◌, OnOk, IfOk, IfErr};
 ghost use Rattle.ijson_value.specs.Tree.{Tree};
 ghost use Rattle.ijson_convert.specs.Interned.{all_interned, SomeInterned};
@@ -11,9 +11,10 @@ use ijson_value::value::IValue;
 use std::alloc::Global;
 use std::hash::BuildHasher;
 
-/// What has a tree, and can be made a JSON value with that tree. These are `bool`, the integers of up to 64 bits, `&str` and
-/// `String`; and, where `T` has this trait, `Option<T>` (None is null), `&[T]`, `Vec<T>`, `BTreeMap<String, T>` and
-/// `IndexMap<String, T>`.
+/// A type that has a tree, and converts to a JSON value with that tree.
+///
+/// It is implemented for `bool`, the integers of up to 64 bits, `&str` and `String`; and, if `T` implements it, for `Option<T>` (`None` is
+/// null), `&[T]`, `Vec<T>`, `BTreeMap<String, T>` and `IndexMap<String, T>`.
 pub trait ToIValue {
     /// The tree of a value.
     ghost tree: { Self → Tree };
@@ -23,8 +24,11 @@ pub trait ToIValue {
     ghost use Rattle.ijson_convert.specs.TextsOf.{texts_of};
     ghost use Rattle.ijson_convert.specs.declared.convert_error.ConvertError.TheVariants.{Memory};
 
-    /// The JSON value. Its texts and keys are interned in `cache`, in their order. The only error is `Memory`, and a beginning of
-    /// them may then have been interned.
+    /// Converts to a JSON value. Strings and keys are interned in `cache`, in order.
+    ///
+    /// # Errors
+    ///
+    /// Returns `Memory`; the first strings and keys may have been interned.
     fn to_ivalue<S: BuildHasher>(
         &self,
         alloc: Global,
@@ -36,14 +40,22 @@ pub trait ToIValue {
             (e ≡ Memory) × SomeInterned (texts_of (tree self.now)) cache.old cache.new) };
 }
 
-/// The JSON value of `x`. Its texts and keys are interned in `cache`, in their order. The only error is `Memory`, and a beginning
-/// of them may then have been interned. Lists and maps are gone over once, and their arrays and objects take their room at once. It
-/// takes time linear in the value, beside the look-ups of keys and texts by their hashes; where many keys of an object crowd, n log n
-/// in its pairs.
+/// Converts `x` to a JSON value.
+///
+/// Strings and keys are interned in `cache`, in order.
 ///
 /// ```
 /// let sizes = to_value(alloc, &mut cache, &vec![in alloc; 1u8, 2]?)?; // [1,2]
 /// ```
+///
+/// # Errors
+///
+/// Returns `Memory`; the first strings and keys may have been interned.
+///
+/// # Cost
+///
+/// Linear in the value, plus hash lookups of keys and strings; if many keys of an object collide, n log n in its entries. Each list and map
+/// is traversed once, and each array and object is allocated in its final capacity.
 pub fn to_value<T: ToIValue, S: BuildHasher>(
     alloc: Global,
     cache: &mut StringCache<S>,

@@ -1,2 +1,2 @@
--- What is known of the bytes that devices gave and took.
+-- The known bytes that devices read and wrote.
 pub mod TransferredBytes

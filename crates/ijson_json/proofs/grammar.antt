@@ -1,4 +1,4 @@
--- What the grammar says of texts and trees, before any of them is read.
+-- Facts of the grammar about texts and trees, without a reader.
 pub mod FirstBytes
 pub mod CommaLists
 pub mod ElementShapes

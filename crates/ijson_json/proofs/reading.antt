@@ -1,4 +1,4 @@
--- What was read of a text so far, from an escape to a whole text.
+-- The part of a text read so far, from an escape to a whole text.
 pub mod Escapes
 pub mod StringContent
 pub mod Numbers

@@ -1,4 +1,4 @@
--- What scanning a text tells: the bytes it begins with, runs, and where it may be cut.
+-- Scanning a text: its leading bytes, runs, and the positions at which it may be split.
 pub mod Prefixes
 pub mod UnescapedRuns
 pub mod WhiteSpace

@@ -1,3 +1,3 @@
--- What was written so far of a string, an array or an object.
+-- The part of a string, an array or an object written so far.
 pub mod Quoting
 pub mod Joined

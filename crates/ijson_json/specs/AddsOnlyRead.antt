@@ -1,5 +1,4 @@
--- What a reading adds to the cache. As the Rust crate `ijson`, which interns each key and each string
--- that it reads.
+-- The strings that reading adds to the cache. As the Rust crate `ijson`, which interns each key and each string that it reads.
 use Rattle.std.specs.Prelude.{◌≡◌, ℕ, ◌<◌, true, ◌⊎◌, List, ◌++◌, length}
 use Rattle.std.specs.FinSet as set
 use Rattle.ijson_string.specs.Cache.{Texts}
@@ -10,8 +9,7 @@ abbrev pub IsSpelledIn : List ℕ → List ℕ → Type 0
 IsSpelledIn text s =
     (before body after : List ℕ) × StringBody body s × (text ≡ before ++ (body ++ after))
 
--- the cache holds what it held, and beyond that only texts of more than 7 bytes that a slice of the
--- text that was read spells
+-- the cache contains the strings it contained, and otherwise only strings of more than 7 bytes that a slice of the text read spells
 pub record AddsOnlyRead (text : List ℕ) (old new : Texts) : Type 0 where
   pub kept : (s : List ℕ) → set.contains old.texts s ≡ true → set.contains new.texts s ≡ true
   pub added : (s : List ℕ) → set.contains new.texts s ≡ true

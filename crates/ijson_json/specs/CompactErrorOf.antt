@@ -1,10 +1,10 @@
--- The error of `compact` that a refusal of the text becomes. This project's own.
+-- The error of `compact` for an error of the reader. This project's own.
 use Rattle.ijson_json.specs.declared.fault.JsonError.{JsonError}
 use Rattle.ijson_json.specs.declared.fault.JsonError.TheVariants as json
 use Rattle.ijson_json.specs.declared.compacting.CompactError.{CompactError}
 use Rattle.ijson_json.specs.declared.compacting.CompactError.TheVariants as errors
 
--- `Json` of it, but want of memory as that
+-- `Json` of it, but `Memory` for `Memory`
 abbrev pub compact_error_of : JsonError → CompactError
 compact_error_of (json.Syntax at) = errors.Json (json.Syntax at)
 compact_error_of (json.TooDeep at) = errors.Json (json.TooDeep at)

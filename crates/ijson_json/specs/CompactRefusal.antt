@@ -1,11 +1,10 @@
--- What a refusal of `compact` says of the bytes that were read. This project's own.
+-- The meaning of an error of `compact` for the bytes read. This project's own.
 use Rattle.std.specs.Prelude.{ℕ, List, ⊤, IsUtf8}
 use Rattle.ijson_json.specs.Refuses.{Refuses}
 use Rattle.ijson_json.specs.declared.compacting.CompactError.{CompactError}
 use Rattle.ijson_json.specs.declared.compacting.CompactError.TheVariants as errors
 
--- `NotUtf8` says that the bytes are no UTF-8, and `Json` that they are, and why the text is refused; the others say nothing of the
--- bytes
+-- `NotUtf8` means that the bytes are not UTF-8; `Json` that they are, and why the text is rejected; the others mean nothing for the bytes
 abbrev pub IsCompactRefusal : List ℕ → CompactError → Type 0
 IsCompactRefusal bytes errors.NotUtf8 = ¬ (IsUtf8 bytes)
 IsCompactRefusal bytes (errors.Json error) = IsUtf8 bytes × Refuses bytes error

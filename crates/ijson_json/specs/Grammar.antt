@@ -1,5 +1,4 @@
--- JSON (RFC 8259, sections 2 to 7) as a relation between whole texts and trees. A text is the list of its
--- bytes.
+-- JSON (RFC 8259, sections 2 to 7) as a relation between whole texts and trees. A text is the list of its bytes.
 use Rattle.std.specs.Prelude.{◌≡◌, ℕ, ◌≤◌, Bool, true, false, ◌||◌, ◌==◌, IsTrue, ◌⊎◌, List, [], ◌∷◌, ◌++◌}
 use Rattle.std.specs.List.{AllByRecursion}
 use Rattle.ijson_number.specs.Grammar.{Spells}
@@ -17,7 +16,7 @@ is_space b = (b == 32) || ((b == 9) || ((b == 10) || (b == 13)))
 abbrev pub IsSpace : List ℕ → Type 0
 IsSpace text = AllByRecursion (λ b. IsTrue (is_space b)) text
 
--- a text that is P, with white space round it
+-- a text that is P, with white space around it
 abbrev pub Spaced : (List ℕ → Type 0) → List ℕ → Type 0
 Spaced P text =
     (before inside after : List ℕ) × IsSpace before × P inside × IsSpace after
@@ -43,9 +42,8 @@ boolean_text false = 102 ∷ 97 ∷ 108 ∷ 115 ∷ 101 ∷ []
 abbrev pub IsString : List ℕ → List ℕ → Type 0
 IsString s text = Enclosed 34 (λ body. StringBody body s) 34 text
 
--- The value without white space round it (sections 3 to 6). An object is as it was written: a key may come
--- again.
--- `[` is 91, `]` 93, `{` 123, `}` 125, `,` 44 and `:` 58.
+-- The value without white space around it (sections 3 to 6). An object is as it was written, possibly with duplicate keys. `[` is 91, `]`
+-- 93, `{` 123, `}` 125, `,` 44 and `:` 58.
 abbrev mutual
   pub IsValue : Tree → List ℕ → Type 0
   IsValue null text = text ≡ null_text
@@ -72,9 +70,8 @@ abbrev mutual
       (λ value. Spaced (λ value. IsValue t value) value) first) 44
       (λ others. IsMembers (member l u more) others) text
 
--- The text is JSON for the tree, with so many containers open at once at most; ranged says whether each
--- number in it is within the limit. What was written has the members that are replaced later too, and they
--- count for both.
+-- The text is JSON for the tree, with at most `deepest` open containers; `ranged` is whether each number in it is within the limit. Members
+-- that are replaced later were written too, and count for both.
 pub record Reads (text : List ℕ) (tree : Tree) (deepest : ℕ) (ranged : Bool) : Type 0 where
   pub written : Tree
   pub spelled : Spaced (λ value. IsValue written value) text
@@ -86,6 +83,6 @@ pub record Reads (text : List ℕ) (tree : Tree) (deepest : ℕ) (ranged : Bool)
 abbrev pub Accepted : List ℕ → Tree → Type 0
 Accepted text tree = (deepest : ℕ) × (deepest ≤ max_depth) × Reads text tree deepest true
 
--- closing brackets alone
+-- only closing brackets
 abbrev pub IsClosers : List ℕ → Type 0
 IsClosers text = AllByRecursion (λ b. (b ≡ 93) ⊎ (b ≡ 125)) text

@@ -10,7 +10,7 @@ use Rattle.ijson_json.specs.Grammar.{null_text, boolean_text}
 abbrev pub hex_text : ℕ → ℕ
 hex_text n = cond (nat_lt n 10) (48 + n) (87 + n)
 
--- a byte of a text: `"`, a backslash and the bytes below 32 are escaped, by a letter where they have one
+-- a byte in a string: `"`, a backslash and the bytes below 32 are escaped, by a letter if they have one
 unfoldable pub escaped : ℕ → List ℕ
 escaped b =
     cond (b == 34) (92 ∷ 34 ∷ [])
@@ -27,11 +27,11 @@ abbrev pub all_escaped : List ℕ → List ℕ
 all_escaped [] = []
 all_escaped (b ∷ bs) = escaped b ++ all_escaped bs
 
--- a text with its quotes
+-- a text in quotes
 abbrev pub quoted : List ℕ → List ℕ
 quoted s = 34 ∷ (all_escaped s ++ 34 ∷ [])
 
--- the text of a tree, of which `num` gives those of the numbers
+-- the text of a tree, in which `num` gives those of the numbers
 abbrev mutual
   pub text_by : (Decimal → List ℕ) → Tree → List ℕ
   text_by num null = null_text

@@ -1,11 +1,11 @@
--- The tree of what was written, where a key may come again. RFC 8259, section 4, leaves repeated names
--- open; this project keeps the place of the first and the value of the last.
+-- The tree of a text as written, possibly with duplicate keys. RFC 8259, section 4, leaves duplicate names open; this project keeps the
+-- index of the first and the value of the last.
 use Rattle.std.specs.Prelude.{ℕ, List, [], ◌∷◌}
 use Rattle.ijson_table.specs.Store.{put_each}
 use Rattle.ijson_value.specs.Tree.{Tree, null, boolean, number, string, array, object, Items, no_items, item, Members, no_members}
 use Rattle.ijson_value.specs.Tree.{member, members_of}
 
--- in each object the members are put, in order, into the empty list
+-- the members of each object are put, in order, into the empty list
 abbrev mutual
   pub settled : Tree → Tree
   settled null = null

@@ -1,8 +1,7 @@
 -- A sink in memory. This project's own.
 use Rattle.std.specs.Prelude.{ℕ, List}
 
--- the bytes that it got, how many move in one call at most, how many move before each call fails,
--- and how many calls failed
+-- the bytes received, the maximum number of bytes per call, the number of bytes before each call fails, and the number of failed calls
 pub record SinkState : Type 0 where
   pub got : List ℕ
   pub piece : ℕ

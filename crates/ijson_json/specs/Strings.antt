@@ -1,15 +1,14 @@
--- What stands between the quotes of a string, and the UTF-8 bytes that it spells (RFC 8259, section 7).
--- A surrogate stands in a pair alone, which is this project's own rule.
+-- The body of a string, between its quotes, and the UTF-8 bytes that it spells (RFC 8259, section 7). A surrogate must be part of a pair,
+-- which is this project's own rule.
 use Rattle.std.specs.Prelude.{◌≡◌, ℕ, ◌+◌, ◌-◌, ◌*◌, Bool, false, cond, not, ◌&&◌, ◌||◌, ◌==◌, nat_le, nat_lt, IsTrue, List, [], ◌∷◌}
 use Rattle.std.specs.Prelude.{◌++◌, Option, Some, None}
 use Rattle.std.specs.Char.{encode_utf8}
 
--- Neither a control character, `"` nor a backslash. In UTF-8 each byte of a longer character is one of
--- these.
+-- Not a control character, `"` or a backslash. In UTF-8 each byte of a longer character passes.
 abbrev pub is_unescaped : ℕ → Bool
 is_unescaped b = nat_le 32 b && (not (b == 34) && not (b == 92))
 
--- the byte that a backslash and a letter stand for: `"`, a backslash, `/`, and b, f, n, r and t
+-- the byte that a backslash and a letter denote: `"`, a backslash, `/`, and b, f, n, r and t
 unfoldable pub short_escape : ℕ → Option ℕ
 short_escape b =
     cond ((b == 34) || ((b == 92) || (b == 47))) (Some b)
@@ -53,8 +52,8 @@ is_low_surrogate u = nat_le 0xdc00 u && nat_lt u 0xe000
 abbrev pub paired : ℕ → ℕ → ℕ
 paired u v = 0x10000 + ((u - 0xd800) * 1024 + (v - 0xdc00))
 
--- One character as it is written, and its bytes. Of a longer character that is written as it is, one byte.
--- `\` is 92 and `u` 117. A surrogate stands in a pair alone.
+-- One character as written, and its bytes; an unescaped longer character byte by byte. `\` is 92 and `u` 117. A surrogate must be part of a
+-- pair.
 pub data Character : List ℕ → List ℕ → Type 0 where
   unescaped : {b : ℕ} → IsTrue (is_unescaped b) → Character (b ∷ []) (b ∷ [])
   short : {b c : ℕ} → short_escape b ≡ Some c → Character (92 ∷ b ∷ []) (c ∷ [])
@@ -64,7 +63,7 @@ pub data Character : List ℕ → List ℕ → Type 0 where
       → Hex l v → IsTrue (is_low_surrogate v)
       → Character (92 ∷ 117 ∷ (h ++ 92 ∷ 117 ∷ l)) (encode_utf8 (paired u v))
 
--- characters one after the other
+-- a sequence of characters
 pub data StringBody : List ℕ → List ℕ → Type 0 where
   empty : StringBody [] []
   one_more : {written meant body text : List ℕ} → Character written meant → StringBody body text

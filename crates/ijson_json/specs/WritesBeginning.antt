@@ -1,8 +1,8 @@
--- What was taken of a text that was not written whole, by a sink or at the end of another text. This project's own.
+-- The part of a text that was written before a failure, to a sink or at the end of another text. This project's own.
 use Rattle.std.specs.Prelude.{◌≡◌, ◌≢◌, ℕ, List, [], ◌++◌, Option}
 use Rattle.std.specs.Io.KnownBytes.{Appends}
 
--- a beginning of the text was put behind what was there, where that is known, and not all of it
+-- a proper prefix of the text was appended to the bytes before, if these are known
 pub record WritesBeginning (before after : Option (List ℕ)) (text : List ℕ) : Type 0 where
   pub front : List ℕ
   pub rest : List ℕ

@@ -1,2 +1,2 @@
--- What the models alone cite.
+-- Proofs that only the models cite.
 pub mod StreamStateCode

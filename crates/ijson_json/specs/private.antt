@@ -1,4 +1,4 @@
--- What the clauses of private functions alone cite.
+-- Definitions that only the clauses of private functions cite.
 pub mod CompactErrorOfReadFault
 pub mod Delimiters
 pub mod Reading

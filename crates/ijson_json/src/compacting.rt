@@ -1,4 +1,4 @@
-//! `compact`: from a source to a sink.
+//! `compact`: reads a source and writes to a sink.
 ghost use Rattle.std.specs.Prelude.{◌≡◌, ◌≢◌, ◌+◌, ◌^◌, ◌<◌, ◌↔◌, ◌⊎◌, [], IfOk, IfErr, OnOk, IfSome, Err, IsUtf8};
 ghost use Rattle.std.specs.Prelude.{◌++◌, ◌∷◌};
 ghost use Rattle.std.specs.Io.KnownBytes.{Appends, Consumes, IsAtEnd, Keeps};
@@ -26,23 +26,24 @@ use std::alloc::{AllocError, Global};
 use std::hash::BuildHasher;
 use thiserror::Error;
 
-/// Why a text could not be compacted.
+/// Why an input could not be compacted.
 #[derive(Debug, Drop, Clone, Copy, PartialEq, Eq, Error)]
 pub enum CompactError {
     /// The source failed. Nothing was written.
     #[error("read failed")]
     Read,
-    /// What was read is not UTF-8. Nothing was written.
+    /// The input is not UTF-8. Nothing was written.
     #[error("input is not UTF-8")]
     NotUtf8,
-    /// What was read is not a JSON text within the limits. Nothing was written. It never holds
-    /// `JsonError::Memory`.
+    /// The input is not JSON within the limits. Nothing was written.
+    ///
+    /// It never contains `JsonError::Memory`.
     #[error("{0}")]
     Json(JsonError),
-    /// The sink failed. It got a beginning of the line, and not all of it.
+    /// The sink failed. It received the beginning of the line, but not all of it.
     #[error("write failed")]
     Write,
-    /// There was not enough memory. Nothing was written.
+    /// An allocation failed. Nothing was written.
     #[error("out of memory")]
     Memory,
 }
@@ -58,7 +59,7 @@ impl From<ReadFault> for CompactError {
     }
 }
 
-/// `Memory` where there was not enough memory, and `Json` for each other fault.
+/// Converts `JsonError::Memory` to `Memory`, and each other error to `Json`.
 impl From<JsonError> for CompactError {
     ghost from_gives = { λ error becomes. becomes ≡ compact_error_of error };
 
@@ -70,7 +71,7 @@ impl From<JsonError> for CompactError {
     }
 }
 
-/// `Memory`.
+/// Converts to `Memory`.
 impl From<AllocError> for CompactError {
     ghost from_gives = { λ _ error. error ≡ NoMemory };
 
@@ -79,16 +80,20 @@ impl From<AllocError> for CompactError {
     }
 }
 
-/// Reads the JSON text that is left in `input` to its end, and writes its compact text and one line
-/// feed to `output`. Keys and strings are interned in `cache`, as `from_json` does.
+/// Reads the rest of `input` as JSON, and writes it without white space and one line feed to `output`.
 ///
-/// Each error says when it comes at `CompactError`. The whole line is made before its first byte is
-/// written. After an error other than `Read` and `NotUtf8`, texts of the input may be in the cache. The
-/// failures of both devices must be below 2^64 - 1.
+/// Keys and strings are interned in `cache`, as by `from_json`. The failures of both devices must be below 2^64 - 1.
 ///
-/// The input and its value are in memory at once, and then the value and the line, which is made in the memory of the input as
-/// far as that goes. The time is that of `from_json` and `to_json`, and of the calls of the devices: each read is offered at
-/// least one byte of room, and each write what is left of the line.
+/// # Errors
+///
+/// See `CompactError` for when each error occurs. The whole line is built before its first byte is written. After an error other than
+/// `Read` and `NotUtf8`, strings of the input may be in the cache.
+///
+/// # Cost
+///
+/// The input and its value are in memory together, then the value and the line, which reuses the memory of the input and grows if needed.
+/// The time is that of `from_json`, `to_json` and the device calls: each read gets a buffer of at least one byte, and each write the rest
+/// of the line.
 pub fn compact<R: Source, W: Sink, S: BuildHasher>(
     alloc: Global,
     input: &mut R,
@@ -99,10 +104,10 @@ pub fn compact<R: Source, W: Sink, S: BuildHasher>(
     requires sink { W.failed output.old + 1 < 2 ^ 64 }
     ensures read { (result ≡ Err Read) ↔ (R.failed input.old < R.failed input.new) }
     ensures write { (result ≡ Err Write) ↔ (W.failed output.old < W.failed output.new) }
-    // The line is written whole, of all that was left in the source.
+    // The whole line is written, from the whole rest of the source.
     ensures done { OnOk result
         (WritesLine (R.left input.old) (R.left input.new) (W.got output.old) (W.got output.new)) }
-    // A failed write leaves a beginning of the line, and each other error leaves the sink.
+    // A failed write leaves the beginning of the line; any other error leaves the sink unchanged.
     ensures beginning { result ≡ Err Write
         → BeginsLine (R.left input.old) (W.got output.old) (W.got output.new) }
     ensures nothing { IfErr result (λ error.
@@ -110,11 +115,11 @@ pub fn compact<R: Source, W: Sink, S: BuildHasher>(
     ensures error { IfErr result (λ error.
         IfSome (R.left input.old) (λ bytes. IsCompactRefusal bytes error)) }
     ensures never_memory { result ≢ Err (Json Memory) }
-    // The cache holds what it held, and beyond that only what the bytes that were read spell.
+    // The cache only gains strings that the input spells.
     ensures cache { AddsOnlyLeft (R.left input.old) cache.old cache.new }
-    // It is as it was where none were read as JSON.
+    // It is unchanged if no input was parsed.
     ensures unread { (result ≡ Err Read) ⊎ (result ≡ Err NotUtf8) → cache.new ≡ cache.old }
-    // It holds each long text and key of what was read.
+    // It contains each long string and key of the input.
     ensures shared { OnOk result (IfSome (R.left input.old)
         (λ bytes. SharesTextsOf bytes cache.new)) }
 {
@@ -123,8 +128,9 @@ pub fn compact<R: Source, W: Sink, S: BuildHasher>(
     Ok(())
 }
 
-/// As `compact`, and answers the value that was read. Where there is an error it is dropped. The clauses are those of `compact`, and
-/// `value`.
+/// Like `compact`, but returns the value that was read, which an error drops.
+///
+/// The clauses are those of `compact`, and `value`.
 pub fn compact_value<R: Source, W: Sink, S: BuildHasher>(
     alloc: Global,
     input: &mut R,
@@ -148,7 +154,7 @@ pub fn compact_value<R: Source, W: Sink, S: BuildHasher>(
     ensures unread { (result ≡ Err Read) ⊎ (result ≡ Err NotUtf8) → cache.new ≡ cache.old }
     ensures shared { OnOk result (IfSome (R.left input.old)
         (λ bytes. SharesTextsOf bytes cache.new)) }
-    // The value is the tree that the bytes spell.
+    // The value is the tree that the input spells.
     ensures value { IfOk result (λ value.
         IfSome (R.left input.old) (λ bytes. Accepted bytes value.tree)) }
 {
@@ -157,7 +163,7 @@ pub fn compact_value<R: Source, W: Sink, S: BuildHasher>(
     write_line(output, text, value)
 }
 
-/// All that is left in `input`, which has to be a text.
+/// Reads the rest of `input`, which must be UTF-8.
 fn remaining_text<R: Source>(alloc: Global, input: &mut R) -> Result<String, CompactError>
     requires { R.failed input.old + 1 < 2 ^ 64 }
     ensures text { IfOk result (λ text. IsUtf8 (string_bytes text)
@@ -173,7 +179,7 @@ fn remaining_text<R: Source>(alloc: Global, input: &mut R) -> Result<String, Com
     Ok(unsafe { String::from_utf8_unchecked(bytes) })
 }
 
-/// Writes the compact text of the value and a line feed, made in the memory of `room` as far as that goes, and answers the value.
+/// Writes the JSON text of `value` and a line feed, reusing the memory of `room`, and returns `value`.
 fn write_line<W: Sink>(output: &mut W, room: String, value: IValue) -> Result<IValue, CompactError>
     requires { W.failed output.old + 1 < 2 ^ 64 }
     ensures line { IfOk result (λ written. (written ≡ value)
@@ -196,7 +202,7 @@ fn write_line<W: Sink>(output: &mut W, room: String, value: IValue) -> Result<IV
     }
 }
 
-/// The compact text of the value and a line feed, in the memory of `room` as far as that goes.
+/// Returns the JSON text of `value` and a line feed, reusing the memory of `room`.
 fn line_of(room: String, value: &IValue) -> Result<String, AllocError>
     ensures { IfOk result (λ line. string_bytes line ≡ print value.now.tree ++ 10 ∷ []) }
 {

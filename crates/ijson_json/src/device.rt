@@ -1,6 +1,7 @@
-//! What texts are read from and written to: the traits and their fault. Devices over the readers and writers of the standard
-//! library are in `stream_source` and `stream_sink`, those in memory in `memory_source` and `memory_sink`. `transfer` reads one to
-//! its end and writes a whole text.
+//! The traits of devices to read from and write to, and their error.
+//!
+//! `stream_source` and `stream_sink` wrap the readers and writers of the standard library, `memory_source` and `memory_sink` are in memory.
+//! `transfer` reads a source to its end and writes whole texts.
 ghost use Rattle.std.specs.Prelude.{◌≡◌, ◌+◌, ◌^◌, ◌<◌, ◌≤◌, ℕ, List, Option, length, IfOk, OnOk, OnErr};
 ghost use Rattle.std.specs.Io.KnownBytes.{ReadConsumes, WriteAppends};
 
@@ -16,26 +17,30 @@ pub use stream_sink::StreamSink;
 pub use stream_source::StreamSource;
 use thiserror::Error;
 
-/// A read or a write failed, and moved no byte.
+/// The error of a failed read or write, which moved no byte.
 #[derive(Debug, Clone, Copy, PartialEq, Eq, Error)]
 #[error("a read or a write failed")]
 pub struct DeviceFault;
 
-/// Gives bytes in pieces, and counts the reads that failed. `MemorySource` and `StreamSource` are such.
+/// A source of bytes that counts its failed reads, such as `MemorySource` and `StreamSource`.
 pub trait Source {
-    /// How many reads failed so far.
+    /// The number of reads that failed so far.
     ghost failed: { Self → ℕ };
 
-    /// The bytes that are left, where they are known, as `Read.remaining` of the standard library.
+    /// The remaining bytes, if they are known, like `Read.remaining` of the standard library.
     ghost left: { Self → Option (List ℕ) };
 
-    /// How many reads failed so far.
+    /// Returns the number of reads that failed so far.
     fn failures(&self) -> u64
         ensures { result ≡ failed self.now };
 
-    /// Fills a beginning of `into` with the next bytes, and answers how many. Where `into` has room,
-    /// 0 is answered only at the end. On a fault no byte moves, and `failures` grows by one; it must be
-    /// below 2^64 - 1 before.
+    /// Reads the next bytes into the beginning of `into`, and returns their number.
+    ///
+    /// If `into` is not empty, 0 is returned only at the end. `failures` must be below 2^64 - 1.
+    ///
+    /// # Errors
+    ///
+    /// On a fault, no byte moves, and `failures` increases by one.
     fn read(&mut self, into: &mut [u8]) -> Result<usize, DeviceFault>
         requires { failed self.old + 1 < 2 ^ 64 }
         ensures bound { IfOk result (λ n. n ≤ length into.new) }
@@ -44,20 +49,25 @@ pub trait Source {
         ensures bytes { ReadConsumes (left self.old) (left self.new) result into.new };
 }
 
-/// Takes bytes in pieces, and counts the writes that failed. `MemorySink` and `StreamSink` are such.
+/// A sink for bytes that counts its failed writes, such as `MemorySink` and `StreamSink`.
 pub trait Sink {
-    /// How many writes failed so far.
+    /// The number of writes that failed so far.
     ghost failed: { Self → ℕ };
 
-    /// The bytes that it got so far, where they are known, as `Write.contents` of the standard library.
+    /// The bytes received so far, if they are known, like `Write.contents` of the standard library.
     ghost got: { Self → Option (List ℕ) };
 
-    /// How many writes failed so far.
+    /// Returns the number of writes that failed so far.
     fn failures(&self) -> u64
         ensures { result ≡ failed self.now };
 
-    /// Takes a beginning of `from`, at least one byte where `from` has any, and answers how many. On
-    /// a fault no byte moves, and `failures` grows by one; it must be below 2^64 - 1 before.
+    /// Writes the first bytes of `from`, at least one unless it is empty, and returns their number.
+    ///
+    /// `failures` must be below 2^64 - 1.
+    ///
+    /// # Errors
+    ///
+    /// On a fault, no byte moves, and `failures` increases by one.
     fn write(&mut self, from: &[u8]) -> Result<usize, DeviceFault>
         requires { failed self.old + 1 < 2 ^ 64 }
         ensures bound { IfOk result (λ n. n ≤ length from.now) }

@@ -1,4 +1,4 @@
-//! Why a text is refused.
+//! Errors of the reader.
 
 ghost use Rattle.std.specs.Prelude.{◌≡◌};
 ghost use Rattle.ijson_json.specs.declared.fault.Fault.TheVariants.{Memory};
@@ -6,26 +6,30 @@ ghost use Rattle.ijson_json.specs.declared.fault.Fault.TheVariants.{Memory};
 use std::alloc::{AllocError, AllocFailed};
 use thiserror::Error;
 
-/// Why no value was read from a text. `at` is a byte offset from 0, at most the length of the text. `[1 2]` is `Syntax` at 3,
-/// `[1,` at 3 too, `01` at 1, and `1e2000000000` is `NumberRange` at 0.
+/// Why an input was rejected.
+///
+/// `at` is a byte offset from 0, at most the length of the input. `[1 2]` is `Syntax` at 3, `[1,` at 3 too, `01` at 1, and `1e2000000000`
+/// is `NumberRange` at 0.
 #[derive(Clone, Copy, PartialEq, Eq, Debug, Error)]
 pub enum JsonError {
-    /// The text is not JSON: the first byte that no JSON text could have there, or the length of a
-    /// text that ends too early. A broken escape is told at its backslash.
+    /// The input is not JSON.
+    ///
+    /// `at` is the first byte that no JSON text could have there, or the length of an input that ends too early. For an invalid escape it
+    /// is the backslash.
     #[error("syntax at byte {at}")]
     Syntax { at: usize },
-    /// An opening bracket inside 127 open containers.
+    /// Nesting deeper than 127, at the opening bracket.
     #[error("nesting too deep at byte {at}")]
     TooDeep { at: usize },
-    /// The first byte of a number whose stripped exponent is past the limit.
+    /// A number whose exponent exceeds the limit once trailing zeros are removed, at its first byte.
     #[error("number out of range at byte {at}")]
     NumberRange { at: usize },
-    /// Memory was refused.
+    /// An allocation failed.
     #[error("out of memory")]
     Memory,
 }
 
-/// `Memory`.
+/// Converts to `Memory`.
 impl From<AllocError> for JsonError {
     ghost use Rattle.ijson_json.specs.declared.fault.JsonError.TheVariants.{Memory as NoMemory};
 
@@ -36,7 +40,7 @@ impl From<AllocError> for JsonError {
     }
 }
 
-/// Why nothing was read at the front of a text, and how many bytes were left there.
+/// Why nothing was read at the start of a text, and how many bytes were left there.
 #[derive(Clone, Copy)]
 pub(crate) enum Fault {
     Syntax { left: usize },
@@ -45,7 +49,7 @@ pub(crate) enum Fault {
     Memory,
 }
 
-/// What was to be kept is dropped.
+/// Drops the value that could not be stored.
 impl<T: Drop> From<AllocFailed<T>> for Fault {
     ghost from_gives = { λ _ fault. fault ≡ Memory };
 

@@ -1,7 +1,7 @@
-//! JSON texts: reading, writing, and compacting from a source to a sink.
+//! JSON text: reading, writing, and compacting from a source to a sink.
 //!
-//! Tests: `ijson_compact/src/tests` (what is read and written, where faults are, devices, `compact` and `report`),
-//! `ijson/src/tests/errors.rt` (the texts of faults), and `ijson_extra/src/tests/refusals` (refused memory).
+//! The tests are in `ijson_compact/src/tests` (reading and writing, error positions, devices, `compact` and `report`),
+//! `ijson/src/tests/errors.rt` (error messages), and `ijson_extra/src/tests/refusals` (failed allocations).
 #![tactic(auto)]
 
 mod compacting;
@@ -24,8 +24,9 @@ pub use read::from_json;
 pub use reporting::report;
 pub use write::{push_key, push_quoted, push_separator, to_json};
 
-/// A text has at most one tree, and what is printed of a tree within the limits is accepted as that
-/// tree. It does nothing: a call of it gives a proof the law.
+/// States that a text has at most one tree, and that a printed tree is read back.
+///
+/// The second holds for well-formed trees within the limits. The function does nothing; calling it gives a proof these laws.
 pub fn grammar_law()
     ensures one_tree { OneTree }
     ensures printed { PrintedIsAccepted }

@@ -1,18 +1,20 @@
-//! Where a byte of a text stands, as editors count.
+//! The line and column of a byte in a text, as editors count.
 ghost use Rattle.std.specs.Prelude.{◌≡◌, take};
 ghost use Rattle.ijson_json.specs.LineColumn.{Follows, begins};
 
-/// A line of a text and a column in it, both from 1. A column counts characters, and not bytes.
+/// A line of a text and a column in it, both from 1. A column counts characters, not bytes.
 #[derive(Clone, Copy, Debug, PartialEq, Eq)]
 pub struct LineColumn {
-    /// One more than the line feeds before.
+    /// One more than the number of line feeds before.
     pub line: usize,
-    /// One more than the characters before, in the same line.
+    /// One more than the number of characters before, in the same line.
     pub column: usize,
 }
 
-/// The line and the column, each from 1, of the byte at the offset `at`, which counts from 0: what a person is told of a fault
-/// (`JsonError`). Past the end of the text it is where the text ends. It takes time linear in the text before, and no memory.
+/// Returns the line and column, from 1, of the byte at offset `at`, from 0.
+///
+/// Use it for error messages (`JsonError`). If `at` is past the end of the text, it is the position of the end. It takes time linear in the
+/// text before `at` and does not allocate.
 pub fn line_and_column(text: &str, at: usize) -> LineColumn
     ensures { Follows (take at text.now) result.line result.column }
 {
@@ -38,7 +40,7 @@ pub fn line_and_column(text: &str, at: usize) -> LineColumn
     }
 }
 
-/// Whether a byte of a text in UTF-8 is the first of a character: it is no continuation byte.
+/// Returns `true` if a byte of a UTF-8 text begins a character, so is no continuation byte.
 fn begins_character(byte: u8) -> bool
     ensures { result ≡ begins byte }
 {

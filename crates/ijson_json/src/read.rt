@@ -1,7 +1,9 @@
-//! Reading a text. `from_json` skips white space and reads one value by `value`, which looks at its first byte: arrays and
-//! objects it reads itself, their commas and brackets by `delimiter` and what they are made of in `scratch`. All else goes to
-//! `scalar`, which leaves strings to `string`, with `escape` for what stands behind a backslash, and numbers to `number`. Of a
-//! string the run without an escape is tried first, and of a number the one pass over a common one.
+//! Reading JSON.
+//!
+//! `from_json` skips white space and reads one value by `value`, which dispatches on its first byte. It reads arrays and objects itself,
+//! their commas and brackets by `delimiter`, and collects their elements and members in `scratch`. Everything else is read by `scalar`,
+//! which uses `string` (with `escape` for the part after a backslash) and `number`. Of a string, the run without an escape is tried first,
+//! and of a number, the single pass over a common one.
 
 ghost use Rattle.std.specs.Prelude.{◌≡◌, ◌≤◌, MatchResult, IfOk, IfErr};
 ghost use Rattle.ijson_value.specs.Tree.{Tree, depth};
@@ -32,7 +34,7 @@ use ijson_value::value::IValue;
 use std::alloc::Global;
 use std::hash::BuildHasher;
 
-/// The fault in a text of so many bytes.
+/// Returns the error for a fault in a text of `length` bytes.
 fn located(fault: Fault, length: usize) -> JsonError
     ensures { result ≡ error_of length fault }
 {
@@ -50,7 +52,7 @@ fn located(fault: Fault, length: usize) -> JsonError
     }
 }
 
-/// The value of a whole text.
+/// Reads the value of a whole text.
 fn read_text<S: BuildHasher>(
     alloc: Global,
     cache: &mut StringCache<S>,
@@ -82,41 +84,43 @@ fn read_text<S: BuildHasher>(
     })
 }
 
-/// The value that a whole JSON text spells (RFC 8259), white space round it allowed. Keys and strings
-/// are interned in the cache. A key that comes again replaces the value and keeps the place of the
-/// first.
+/// Parses a JSON text (RFC 8259), which may be surrounded by white space.
 ///
-/// The text is refused where it is not JSON, where more than 127 containers are open at once, where a
-/// number's stripped exponent is past 2^30 either way, and where memory is refused; of several faults
-/// the first from the left is told. Some of its texts may then be in the cache.
-///
-/// The time is linear in the text, but for the look-ups of keys and texts by their hashes, and it calls itself once a level,
-/// 127 times at most. Beside the value it takes memory for the items and members of the arrays and objects that are open, and for
-/// the content of the longest string that has an escape.
+/// Keys and strings are interned in the cache. A duplicate key replaces the value and keeps its first index.
 ///
 /// ```
 /// let value = from_json(alloc, &mut cache, "{\"a\": [1.50, 1e2]}")?;
 /// ```
+///
+/// # Errors
+///
+/// Fails if the text is not JSON, if more than 127 containers are open, if the exponent of a number without trailing zeros is outside
+/// -2^30 to 2^30, or if an allocation fails. The first fault from the left is returned. Some strings of the text may then be in the cache.
+///
+/// # Cost
+///
+/// Linear in the text, except for hash lookups of keys and strings. It recurses once per level, at most 127 times. Besides the value, it
+/// allocates for the elements and members of open arrays and objects, and for the content of the longest string with an escape.
 pub fn from_json<S: BuildHasher>(
     alloc: Global,
     cache: &mut StringCache<S>,
     text: &str,
 ) -> Result<IValue, JsonError>
-    // What is read is what the text spells, within the limits.
+    // The value is the one that the text spells, within the limits.
     ensures accepted { IfOk result (λ value. Accepted text.now value.tree) }
-    // No more containers are open in it at once than may be.
+    // It is nested no deeper than the limit.
     ensures nesting { IfOk result (λ value. depth value.tree ≤ max_depth) }
-    // Why a text is refused.
+    // Why a text is rejected.
     ensures refused { IfErr result (λ error. Refuses text.now error) }
-    // A text that is accepted is read, unless memory runs out.
+    // An accepted text is read, unless memory runs out.
     ensures read { (t : Tree) → Accepted text.now t
         → MatchResult result (λ value. value.tree ≡ t) (λ error. error ≡ JsonError.Memory) }
-    // What was printed is read again, unless memory runs out.
+    // A printed text is read back, unless memory runs out.
     ensures printed { (t : Tree) → IsWellFormed t → depth t ≤ max_depth → text.now ≡ print t
         → MatchResult result (λ value. value.tree ≡ t) (λ error. error ≡ JsonError.Memory) }
-    // The cache holds what it held, and beyond that only long texts that a slice of the text spells.
+    // The cache only gains long strings that a slice of the text spells.
     ensures cache { AddsOnlyRead text.now cache.old cache.new }
-    // It holds each long text and key of the value.
+    // It contains each long string and key of the value.
     ensures shared { IfOk result (λ value. AreShared cache.new value.tree) }
 {
     read_text(alloc, cache, text)

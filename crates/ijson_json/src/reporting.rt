@@ -1,4 +1,4 @@
-//! `report`: the line and the status for an answer of `compact`.
+//! `report`: the error line and exit status for a result of `compact`.
 ghost use Rattle.std.specs.Prelude.{◌≡◌, ◌+◌, ◌^◌, ◌<◌, OnOk, Err};
 ghost use Rattle.ijson_json.specs.Status.{status_of};
 
@@ -9,13 +9,14 @@ use crate::fault::JsonError;
 use arrayvec::ArrayString;
 use std::fmt::Write;
 
-/// The bytes of the longest line, with room to spare.
+/// A capacity that exceeds the longest line, in bytes.
 const LINE: usize = 64;
 
-/// Writes the line for a refusal to `errors`, and nothing where there is none, and answers the status
-/// that the program ends with: 0 done, 1 not a JSON text within the limits, 2 a failed read or write,
-/// 3 not enough memory. It takes no memory itself. A failed write ends the line, and leaves the status. The failures of
-/// `errors` must be below 2^64 - 1. The line for `[1 2]` is `ijson: syntax at byte 3`.
+/// Writes the line for an error, if there is one, to `errors`, and returns the exit status.
+///
+/// The status is 0 for success, 1 for an input that is not JSON within the limits, 2 for a failed read or write, and 3 for a failed
+/// allocation. The line for `[1 2]` is `ijson: syntax at byte 3`. It does not allocate. A failed write ends the line and does not change
+/// the status. The failures of `errors` must be below 2^64 - 1.
 pub fn report<W: Sink>(answer: &Result<(), CompactError>, errors: &mut W) -> u8
     requires { W.failed errors.old + 1 < 2 ^ 64 }
     ensures status { result ≡ status_of answer.now }
@@ -31,7 +32,7 @@ pub fn report<W: Sink>(answer: &Result<(), CompactError>, errors: &mut W) -> u8
     status(*error)
 }
 
-/// The status that the program ends with after this error.
+/// Returns the exit status for an error.
 fn status(error: CompactError) -> u8
     ensures { result ≡ status_of (Err error) }
 {

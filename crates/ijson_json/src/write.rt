@@ -1,5 +1,5 @@
-//! Writing a value as a JSON text: `push_value` appends one of any kind, strings by `quote`. A text grows as it is written, and is
-//! not measured first.
+//! Writing a value as JSON: `push_value` appends any value, with strings by `quote`. The text grows as it is written; its length is not
+//! computed first.
 ghost use Rattle.std.specs.Prelude.{◌≡◌, ◌++◌, IfOk, OnOk, OnErr};
 ghost use Rattle.std.specs.String.{string_bytes};
 ghost use Rattle.ijson_value.specs.WellFormed.{item_trees, pair_trees};
@@ -14,19 +14,25 @@ use quote::{push_member_key, push_string};
 pub use quote::{push_key, push_quoted};
 use std::alloc::{AllocError, Global};
 
-/// For how many bytes a text has room at first, so that a short one is made in one request for memory.
+/// The initial capacity of a text, in bytes, so that a short one takes one allocation.
 const FIRST_ROOM: usize = 128;
 
-/// The JSON text of `value`, without white space. The error comes where there was not enough memory for
-/// it.
+/// Returns the JSON text of `value`, without white space.
 ///
-/// The time is linear in what is written, and so is the memory, which is 128 bytes at first and doubles as the text grows. It
-/// has no limit of depth, but it calls itself once a level, so a very deep value can want more stack than there is. Objects keep the order
-/// of their members, and numbers their shape.
+/// Objects keep the order of their members, and numbers keep whether they have a fraction point.
 ///
 /// ```
-/// let text = to_json(alloc, &value)?; // {"a":[1.5,100.0]} of what was read from { "a" : [1.50, 1e2] }
+/// let text = to_json(alloc, &value)?; // {"a":[1.5,100.0]} after reading { "a" : [1.50, 1e2] }
 /// ```
+///
+/// # Errors
+///
+/// Returns `AllocError` if an allocation fails.
+///
+/// # Cost
+///
+/// Time and memory are linear in the length of the text. Its capacity is 128 bytes at first and doubles as needed. The depth is not
+/// limited, but it recurses once per level, so a very deep value can overflow the stack.
 pub fn to_json(alloc: Global, value: &IValue) -> Result<String, AllocError>
     ensures { IfOk result (λ text. string_bytes text ≡ print value.now.tree) }
 {
@@ -60,7 +66,7 @@ pub(crate) fn push_value(out: &mut String, value: &IValue) -> Result<(), AllocEr
     }
 }
 
-/// The items of an array, with commas between them.
+/// Appends the elements of an array, separated by commas.
 #[cycle(push)]
 #[inline(never)]
 fn push_items(out: &mut String, items: &[IValue]) -> Result<(), AllocError>
@@ -76,7 +82,7 @@ fn push_items(out: &mut String, items: &[IValue]) -> Result<(), AllocError>
     Ok(())
 }
 
-/// The members of an object, with commas between them.
+/// Appends the members of an object, separated by commas.
 #[cycle(push)]
 #[inline(never)]
 fn push_members(out: &mut String, object: &IObject) -> Result<(), AllocError>
@@ -92,8 +98,11 @@ fn push_members(out: &mut String, object: &IObject) -> Result<(), AllocError>
     Ok(())
 }
 
-/// Appends a comma, but not before the first item or member. The error comes where there was not enough memory. `out` is then
-/// as it was.
+/// Appends a comma, except before the first element or member.
+///
+/// # Errors
+///
+/// Returns `AllocError` if an allocation fails. `out` stays as it was.
 pub fn push_separator(out: &mut String, is_first: bool) -> Result<(), AllocError>
     ensures written { OnOk result (string_bytes out.new ≡ string_bytes out.old ++ separator is_first) }
     ensures refused { OnErr result (string_bytes out.new ≡ string_bytes out.old) }

@@ -1,4 +1,4 @@
--- What a look-up lends, seen without its reference.
+-- The result of a lookup, without its reference.
 use Rattle.std.proofs.Common.{◌≡◌, ℕ, List, Option, Some, None, Bor, MutBor, refl, sym, ap, ◌<◌, length}
 use Rattle.std.proofs.lemmas.Option.{slice_get_past, slice_get_read}
 use Rattle.std.specs.List.{HoldsAt}

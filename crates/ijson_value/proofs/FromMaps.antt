@@ -1,4 +1,4 @@
--- Keys of which none comes twice, and what a map gives.
+-- Distinct keys, and the entries that a map yields.
 use Rattle.std.proofs.Common.{◌≡◌, ◌≢◌, ◌+◌, ℕ, suc, List, [], ◌∷◌, ◌++◌, length, map, Some, false}
 use Rattle.std.proofs.Common.{ap, sym, subst, ◌∙◌, arith}
 use mathlib.Core.Bool.{true≢false}
@@ -16,7 +16,7 @@ use Rattle.std.specs.declared.cmp.Ordering.TheVariants.{Less}
 use Rattle.ijson_table.specs.Store.{keys_of, Lacks, IsDistinct}
 use Rattle.ijson_value.specs.private.GivesPairs.{GivesDistinctPairs}
 
--- ---- keys of which none comes twice
+-- ---- distinct keys
 lacks_middle : (ks rest : List (List ℕ)) (j k : List ℕ) → Lacks j (ks ++ k ∷ rest) → k ≢ j
 lacks_middle [] rest j k l = λ e. l.0 (sym e)
 lacks_middle (i ∷ ks) rest j k l = lacks_middle ks rest j k l.1
@@ -27,14 +27,14 @@ lacks_before (j ∷ ks) k rest d = (lacks_middle ks rest j k d.0, lacks_before k
 
 -- the keys of a map, by their bytes
 module _ {K X : Type 0} (bytes : K → List ℕ) where
-  -- a key lacks among those that it is apart from
+  -- a key is not among keys that it is apart from
   lacks_apart : (Apart : List ℕ → List ℕ → Type 0) → ((k : List ℕ) → Apart k k → ⊥) → (x : K) (es : List (K × X))
       → AllByRecursion (λ y. Apart (bytes x) (bytes y)) (map_keys es) → Lacks (bytes x) (map (λ e. bytes e.0) es)
   lacks_apart Apart never x [] a = tt
   lacks_apart Apart never x (e ∷ es) a =
       (λ q. never (bytes x) (subst (Apart (bytes x)) (sym q) a.0), lacks_apart Apart never x es a.1)
 
-  -- where no two are equal
+  -- keys are distinct if no two are equal
   pub unique_keys : (es : List (K × X)) → IsUnique (λ x y. pointwise nat_eq (bytes x) (bytes y)) (map_keys es)
       → IsDistinct (map (λ e. bytes e.0) es)
   unfolding IsUnique
@@ -44,7 +44,7 @@ module _ {K X : Type 0} (bytes : K → List ℕ) where
     unique_keys es d.1,
   )
 
-  -- where they ascend
+  -- or if they ascend
   pub ordered_keys : (es : List (K × X)) → IsStrictlySortedBy (λ x y. slice_cmp nat_cmp (bytes x) (bytes y)) (map_keys es)
       → IsDistinct (map (λ e. bytes e.0) es)
   unfolding IsStrictlySortedBy
@@ -54,7 +54,7 @@ module _ {K X : Type 0} (bytes : K → List ℕ) where
     ordered_keys es d.1,
   )
 
--- ---- what the owner of a map's pairs gives
+-- ---- the entries that the iterator of a map yields
 module _ {X : Type 0} where
   yielded : (xs s t : List X) → Yields (TakesFirst (λ (x : X). x)) s xs t → s ≡ xs ++ t
   yielded [] s t y = y
@@ -67,7 +67,7 @@ module _ {X : Type 0} where
   then_given s xs x u d = yielded xs s d.0 d.1 ∙ ap (λ l. xs ++ l) d.2
 
 module _ {X : Type 0} {entries : List (List ℕ × X)} where
-  -- an iterator that begins with these entries gives them, and nothing else
+  -- an iterator that begins with these entries yields them and nothing else
   pub entries_given : {it : List (List ℕ × X)} → it ≡ entries → (xs : List (List ℕ × X))
       → Drains (TakesFirst (λ (p : List ℕ × X). p)) it xs → xs ≡ entries
   entries_given {it} start xs drains = sym (all_given it xs drains) ∙ start

@@ -1,4 +1,4 @@
--- What a walk over a value counts down, by which it ends: at a value, at a list of items, and at a list of pairs.
+-- The decreasing measures of a recursion: at a value, at a list of elements, and at a list of entries.
 use Rattle.std.proofs.Common.{ℕ, ◌+◌, ◌*◌, List}
 use denote.Param.Weighed.{most}
 use Rattle.ijson_value.specs.Sizes.{value_size}

@@ -1,5 +1,5 @@
--- Which entry a key has in an object, and the object behind it: a key that is there takes no room; for another one there is room
--- for one pair more. This project's own.
+-- The `Entry` that a key has in an object, and the object in it: an existing key needs no capacity; for a missing one there is capacity for
+-- one more entry. This project's own.
 use Rattle.std.specs.Prelude.{◌≡◌, ◌<◌, ◌⊎◌, ℕ, List, None, IsSome, length}
 use Rattle.ijson_table.specs.Growth.{Grown, Ungrown}
 use Rattle.ijson_table.specs.Store.{Store, at, lookup}
@@ -15,11 +15,11 @@ FindsEntry old key (Vacant v) =
     (at old.pairs key ≡ None) × (v.object.now.pairs ≡ old.pairs)
     × Grown (length old.pairs) old.capacity 1 v.object.now.capacity
 
--- there is no entry: the key is not there, and the room for it was refused
+-- no `Entry`: the key is missing, and reserving capacity failed
 abbrev pub FindsNoRoom : Store WellFormed → List ℕ → ReserveError → Type 0
 FindsNoRoom old key why = (lookup key old.pairs ≡ None) × Ungrown (length old.pairs) old.capacity 1 why old.capacity
 
--- or no copy could share the key, since the count of its owners was full
+-- or the key could not be cloned, since its reference count was saturated
 abbrev pub FindsNoRoomOrCopy : Store WellFormed → List ℕ → ReserveError → Type 0
 FindsNoRoomOrCopy old key why =
     FindsNoRoom old key why ⊎ ((lookup key old.pairs ≡ None) × (7 < length key) × (why ≡ Memory))

@@ -1,5 +1,4 @@
--- What is left once what an entry lent is given back: the object, or the entry, has the last value that was written there beside
--- the key. This project's own.
+-- The object or the `Entry` after a mutable borrow of its value ends: the key has the last value written. This project's own.
 use Rattle.std.specs.Prelude.{◌≡◌, [], Result}
 use Rattle.std.specs.Borrow.{follows, RestsIfErr, MutBor, Fml}
 use mir.Syntax.{named}
@@ -13,16 +12,16 @@ use Rattle.ijson_value.specs.contracts.value.IValue as value
 use Rattle.ijson_value.specs.declared.object.entry.Entry.{Entry}
 use Rattle.ijson_value.specs.declared.object.entry.OccupiedEntry.{OccupiedEntry}
 
--- the object behind an entry that is gone
+-- the object of an `Entry` that is consumed
 abbrev pub EntryLends : Entry → MutBor WellFormed → Fml
 EntryLends e r = follows object.the_row value.the_row (entry_object e).ghost_name r.ghost_name (with_entry e)
 
--- an entry that stays
+-- an `Entry` that remains
 abbrev pub OccupiedLends : MutBor OccupiedEntry → MutBor WellFormed → Fml
 OccupiedLends o r =
     follows (occupied.the_row (record { mir = named 1; lft = [] })) value.the_row
     o.ghost_name r.ghost_name (with_entry_value o.now)
 
--- where there is no entry, the object is as it was
+-- if there is no `Entry`, the object is unchanged
 abbrev pub RestsIfNoEntry : {E : Type 0} → MutBor (Store WellFormed) → Result Entry E → Fml
 RestsIfNoEntry s r = RestsIfErr object.the_row s (λ e. (entry_object e).ghost_name) r (λ o. o ≡ s.now)

@@ -1,12 +1,12 @@
--- What a value is once the value one step inside that it lent is given back, as a value: what was left there stands in its
--- place, and nothing else is changed. This project's own.
+-- A value after a mutable borrow of the value one step inside ends, as a value: the last value written is there, and nothing else has
+-- changed. This project's own.
 use Rattle.std.specs.Prelude.{◌≡◌, Option, OnSome}
 use Rattle.std.specs.Borrow.{LendsSo, MutBor, Fml}
 use Rattle.ijson_value.specs.Step.{Step, tree_with}
 use Rattle.ijson_value.specs.WellFormed.{WellFormed}
 use Rattle.ijson_value.specs.contracts.value.IValue as value
 
--- the value there, or nothing: then the value is as it was
+-- the value there; if there is none, the outer value is unchanged
 abbrev pub LendsInsideIf : MutBor WellFormed → Step → Option (MutBor WellFormed) → Fml
 LendsInsideIf s step r =
     LendsSo value.the_row value.the_row s r (λ n w. OnSome r (n.tree ≡ tree_with s.now.tree step w.tree))

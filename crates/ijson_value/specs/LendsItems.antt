@@ -1,5 +1,5 @@
--- What an array is once the slice of its items that it lent is given back: what was left there are its items, as many as before;
--- the room is as it was. This project's own.
+-- An array after a mutable borrow of its elements as a slice ends: the elements are those last written, their number and the capacity are
+-- unchanged. This project's own.
 use Rattle.std.specs.Prelude.{List, ◌++◌, length, take, drop}
 use Rattle.std.specs.Borrow.{Lends, MutBor, Array, Fml}
 use Rattle.ijson_value.specs.WellFormed.{WellFormed}
@@ -7,7 +7,7 @@ use Rattle.ijson_value.specs.Sequence.{Sequence}
 use Rattle.ijson_value.specs.contracts.array.IArray as arrays
 use Rattle.ijson_value.specs.contracts.value.IValue as value
 
--- the array with these items. A list of another length is cut, or filled up from the old items, so that the length stays
+-- the array with these elements; a list of another length is truncated, or extended by the old elements, so that the length is unchanged
 abbrev pub with_items : Sequence → List WellFormed → Sequence
 with_items a ws = record { items = take (length a.items) (ws ++ drop (length ws) a.items); capacity = a.capacity }
 

@@ -1,5 +1,5 @@
--- What an object is once the value that it lent beside its key is given back: what was left there stands beside the key, and
--- nothing else is changed. This project's own.
+-- An object after a mutable borrow of a value with its key ends: the key has the last value written, and nothing else has changed. This
+-- project's own.
 use Rattle.std.specs.Prelude.{ℕ, List, Option, Some, None}
 use Rattle.std.specs.Borrow.{follows_if, GName, Bor, MutBor, Fml}
 use mathlib.Core.Option as maybe
@@ -14,6 +14,6 @@ abbrev pub pair_name : Option (Bor (List ℕ) × MutBor WellFormed) → maybe.Op
 pair_name (Some pair) = maybe.some pair.1.ghost_name
 pair_name None = maybe.none
 
--- the pair with a key, or nothing: then the object is as it was
+-- the entry of a key; if there is none, the object is unchanged
 abbrev pub LendsPairIf : MutBor (Store WellFormed) → List ℕ → Option (Bor (List ℕ) × MutBor WellFormed) → Fml
 LendsPairIf s key r = follows_if object.the_row value.the_row s.ghost_name (pair_name r) (with_key s.now key) s.now

@@ -1,5 +1,5 @@
--- What a value is once the part that it lent is given back: the value of what was left there, or the same value where it
--- lent none. This project's own.
+-- A value after a mutable borrow of its part ends: the value of the part last written, or the same value if nothing was lent. This
+-- project's own.
 use Rattle.std.specs.Prelude.{ℕ, Bool, List, Option}
 use Rattle.std.specs.Borrow.{Lends, LendsIf, MutBor, Fml, bool}
 use Rattle.ijson_number.specs.Num.{Num}
@@ -31,6 +31,6 @@ LendsArray s r = LendsIf value.the_row arrays.the_row s r (λ a. array_value a.i
 abbrev pub LendsObject : MutBor WellFormed → Option (MutBor (Store WellFormed)) → Fml
 LendsObject s r = LendsIf value.the_row objects.the_row s r object_value s.now
 
--- the value opened, which it always is
+-- the content of a value, which always exists
 abbrev pub LendsOpened : MutBor WellFormed → MutBor Destructured → Fml
 LendsOpened s r = Lends value.the_row node.the_row s r node_value

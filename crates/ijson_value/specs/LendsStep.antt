@@ -1,5 +1,5 @@
--- What an opened value is once the value one step inside that it lent is given back: what was left there stands in its place,
--- and nothing else is changed. `specs/laws/Steps.antt` shows that its tree is then `tree_with`. This project's own.
+-- A `Destructured` after a mutable borrow of the value one step inside ends: the last value written is there, and nothing else has changed.
+-- `specs/laws/Steps.antt` proves that its tree is then `tree_with`. This project's own.
 use Rattle.std.specs.Prelude.{◌≡◌, ℕ, List, Option, Result}
 use Rattle.std.specs.Borrow.{Lends, LendsIf, LendsSoOk, MutBor, Fml}
 use Rattle.ijson_table.specs.Store.{Store}
@@ -20,16 +20,16 @@ with_step n _ w = n
 abbrev pub LendsStep : MutBor Destructured → Step → MutBor WellFormed → Fml
 LendsStep s step r = Lends node.the_row value.the_row s r (with_step s.now step)
 
--- the same, or nothing: then the value is as it was
+-- like `LendsStep`, but without a borrow the content is unchanged
 abbrev pub LendsStepIf : MutBor Destructured → Step → Option (MutBor WellFormed) → Fml
 LendsStepIf s step r = LendsIf node.the_row value.the_row s r (with_step s.now step) s.now
 
--- an opened object, of which this holds
+-- the content is an object with this property
 abbrev pub InObject : (Store WellFormed → Type 0) → Destructured → Type 0
 InObject P (Object o) = P o
 InObject P _ = ⊥
 
--- the value beside a key that is put where it is not there; or no room for that: then the object is as it was
+-- the value of a key, which is added if missing; if there is no capacity for it, the object is unchanged
 abbrev pub LendsPutInside : {E : Type 0} → MutBor Destructured → List ℕ → Result (MutBor WellFormed) E → Fml
 LendsPutInside s key r =
     LendsSoOk node.the_row value.the_row s r

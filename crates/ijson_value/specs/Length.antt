@@ -1,4 +1,4 @@
--- How many items an array has, and how many pairs an object; no other kind has a length. As in the Rust crate `ijson`.
+-- The number of elements of an array or entries of an object; other kinds have no length. As in the Rust crate `ijson`.
 use Rattle.std.specs.Prelude.{ℕ, suc, Option, Some, None}
 use Rattle.ijson_value.specs.Tree.{Tree, null, boolean, number, string, array, object, Items, no_items, item, members_len}
 

@@ -1,11 +1,10 @@
--- That each question of `retain` may be asked, of the pairs as they come: of each pair that is reached, once the questions before it
--- were answered. This project's own.
+-- That `retain` may call its closure on each entry it visits, after the calls before. This project's own.
 use Rattle.std.specs.Prelude.{◌≡◌, ℕ, zero, suc, ◌+◌, Bool, List, slice_get, Some, if◌then◌else◌}
 use Rattle.ijson_table.specs.Store.{with_value, swap_out}
 
--- `asked f key v keeps w g`: the question f about the pair of key and v was answered, w was left there, and the question is g from then on
+-- `asked f key v keeps w g`: the call of f on key and v returned keeps and left the value w; g is the closure from then on
 module _ {F V : Type 0} (asked : F → List ℕ → V → Bool → V → F → Type 0) where
-  -- after n questions, from position i on, the question is g, about position j of these pairs
+  -- after n calls from index i on, the closure is g, and it visits index j of the entries left
   abbrev pub AskedFrom : ℕ → F → ℕ → List (List ℕ × V) → F → ℕ → List (List ℕ × V) → Type 0
   AskedFrom zero f i pairs g j left = (g ≡ f) × (j ≡ i) × (left ≡ pairs)
   AskedFrom (suc n) f i pairs g j left =

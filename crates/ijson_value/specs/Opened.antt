@@ -1,4 +1,4 @@
--- The value that stands open in a `DestructuredRef` and in a `DestructuredMut`. As in the Rust crate `ijson`.
+-- The value of a `DestructuredRef` and of a `DestructuredMut`. As in the Rust crate `ijson`.
 use Rattle.ijson_value.specs.Values.{null_value, boolean_value, number_value, string_value, array_value, object_value}
 use Rattle.ijson_value.specs.WellFormed.{WellFormed}
 use Rattle.ijson_value.specs.declared.value.destructure.DestructuredRef.{DestructuredRef}

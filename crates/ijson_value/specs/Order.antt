@@ -1,6 +1,5 @@
--- The partial order of trees: two kinds by their order, numbers by value, strings by their bytes, arrays by the first item
--- that differs and then by length. An object is equal to one that is the same, and not ordered against any other. As the
--- Rust crate `ijson` has it.
+-- The partial order of trees: different kinds by their order, numbers by value, strings by their bytes, arrays by the first element that
+-- differs and then by length. Objects are Equal if they are the same, and otherwise unordered. As the Rust crate `ijson` has it.
 use Rattle.std.specs.Prelude.{ℕ, cond, Option, Some, None}
 use Rattle.std.specs.Ordering.{nat_cmp, bool_cmp, partial_ordering_then}
 use Rattle.std.specs.Cmp.Lexicographic.{slice_cmp}
@@ -10,7 +9,7 @@ use Rattle.ijson_number.specs.Order.{number_cmp}
 use Rattle.ijson_value.specs.Tree.{Tree, null, boolean, number, string, array, object, Items, no_items, item}
 use Rattle.ijson_value.specs.SameTest.{same}
 
--- where a kind stands in the order of kinds
+-- the rank of a kind in the order of kinds
 abbrev pub rank : Tree → ℕ
 rank null = 0
 rank (boolean b) = 1
@@ -29,7 +28,7 @@ abbrev mutual
   tree_cmp (object ps) (object qs) = cond (same (object ps) (object qs)) (Some Equal) None
   tree_cmp t u = Some (nat_cmp (rank t) (rank u))
 
-  -- by the first answer that is not Equal, none at all among them, and then by length
+  -- the first order that is not Equal, which may be none, and then that of the lengths
   pub items_cmp : Items → Items → Option Ordering
   items_cmp no_items no_items = Some Equal
   items_cmp no_items (item u us) = Some Less

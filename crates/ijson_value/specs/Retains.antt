@@ -1,11 +1,11 @@
--- Asking about each pair, from the front: a pair that stays has the value that the question left; for a pair that goes the last one
--- moves into its place, and that one is asked about next. As the Rust crate `ijson` has it.
+-- The calls of `retain`, from the first entry: a kept entry has the value that the call left; the last entry replaces a removed one and is
+-- visited next. As the Rust crate `ijson` has it.
 use Rattle.std.specs.Prelude.{◌≡◌, ℕ, zero, suc, ◌+◌, Bool, List, length, slice_get, Some, if◌then◌else◌}
 use Rattle.ijson_table.specs.Store.{with_value, swap_out}
 
--- `asked f key v keeps w g`: the question f about the pair of key and v was answered, w was left there, and the question is g from then on
+-- `asked f key v keeps w g`: the call of f on key and v returned keeps and left the value w; g is the closure from then on
 module _ {F V : Type 0} (asked : F → List ℕ → V → Bool → V → F → Type 0) where
-  -- n pairs are still to be asked about, from position i on
+  -- n entries are still to be visited, from index i on
   abbrev pub RetainsFrom : ℕ → F → ℕ → List (List ℕ × V) → List (List ℕ × V) → Type 0
   RetainsFrom zero f i pairs kept = kept ≡ pairs
   RetainsFrom (suc n) f i pairs kept =

@@ -1,12 +1,12 @@
--- When two trees are the same JSON value: numbers by their value, arrays item by item, objects as maps, whatever the
--- order of their pairs. As the Rust crate `ijson` has it.
+-- When two trees are the same JSON value: numbers by value, arrays element by element, objects as maps, in any order of their entries. As
+-- the Rust crate `ijson` has it.
 use Rattle.std.specs.Prelude.{◌≡◌, ◌⊎◌, ℕ, List}
 use Rattle.std.specs.declared.cmp.Ordering.TheVariants.{Equal}
 use Rattle.ijson_number.specs.Order.{number_cmp}
 use Rattle.ijson_value.specs.Tree.{Tree, null, boolean, number, string, array, object, Items, no_items, item, Members, no_members, member}
 use Rattle.ijson_value.specs.Tree.{members_len}
 
--- the pair of k and u is one of these
+-- the entry of k and u is one of these
 abbrev pub Has : List ℕ → Tree → Members → Type 0
 Has k u no_members = ⊥
 Has k u (member j v qs) = ((k ≡ j) × (u ≡ v)) ⊎ Has k u qs
@@ -21,13 +21,13 @@ abbrev mutual
   Same (object ps) (object qs) = (members_len ps ≡ members_len qs) × SameIn ps qs
   Same _ _ = ⊥
 
-  -- one length, and the same item by item
+  -- the same length and the same elements
   pub SameEach : Items → Items → Type 0
   SameEach no_items no_items = Unit {0}
   SameEach (item t ts) (item u us) = Same t u × SameEach ts us
   SameEach _ _ = ⊥
 
-  -- each pair of ps has a pair in qs with its key and a value that is the same
+  -- each entry of ps has one in qs with its key and the same value
   pub SameIn : Members → Members → Type 0
   SameIn no_members qs = Unit {0}
   SameIn (member k t ps) qs = ((u : Tree) × Has k u qs × Same t u) × SameIn ps qs

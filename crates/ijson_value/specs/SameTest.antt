@@ -1,4 +1,4 @@
--- `Same` as a test, which is `==`. `specs/laws/SameDecided.antt` shows that it answers `Same`.
+-- `Same` as a test, which is `==`. `specs/laws/SameDecided.antt` proves that it decides `Same`.
 use Rattle.std.specs.Prelude.{Bool, true, false, ◌&&◌, ◌||◌, ◌==◌, ℕ, List}
 use Rattle.std.specs.Str.{bytes_eq}
 use mathlib.Core.Bool.{beq}
@@ -6,7 +6,7 @@ use Rattle.ijson_number.specs.Order.{number_eq}
 use Rattle.ijson_value.specs.Tree.{Tree, null, boolean, number, string, array, object, Items, no_items, item, Members, no_members, member}
 use Rattle.ijson_value.specs.Tree.{members_len}
 
--- whether some pair of these has the key k and a value that passes
+-- whether one of these entries has the key k and a value that passes
 abbrev pub some_has : List ℕ → (Tree → Bool) → Members → Bool
 some_has k passes no_members = false
 some_has k passes (member j v qs) = (bytes_eq k j && passes v) || some_has k passes qs

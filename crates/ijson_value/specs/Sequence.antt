@@ -1,4 +1,4 @@
--- What contracts see of an array: its items, and for how many it has room in all. This project's own.
+-- The model of an array: its elements and its capacity. This project's own.
 use Rattle.std.specs.Prelude.{ℕ, List}
 use Rattle.ijson_value.specs.WellFormed.{WellFormed}
 

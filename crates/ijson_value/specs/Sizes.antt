@@ -1,4 +1,4 @@
--- Sizes by which a value is larger than what it holds.
+-- Sizes by which a value is larger than its content.
 use Rattle.std.specs.Prelude.{ℕ, ◌+◌, ◌*◌}
 use Rattle.ijson_table.specs.Store.{Store}
 use Rattle.ijson_value.specs.Tree.{depth, items_depth, members_depth}

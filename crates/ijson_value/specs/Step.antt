@@ -1,4 +1,4 @@
--- One step from a value to a value inside it: the position of an item, or the key of a member. As in the Rust crate `ijson`.
+-- One step from a value to a value inside it: the index of an element, or a key of an object. As in the Rust crate `ijson`.
 use Rattle.std.specs.Prelude.{ℕ, List, Option, None, set, slice_get}
 use Rattle.std.specs.List.{remove}
 use Rattle.ijson_table.specs.Store.{lookup, put}
@@ -11,7 +11,7 @@ pub data Step : Type 0 where
   by_position : ℕ → Step
   by_key : List ℕ → Step
 
--- the kind of value that it starts from
+-- the kind of value that a step is for
 abbrev pub kind_for : Step → ValueType
 kind_for (by_position i) = Array
 kind_for (by_key key) = Object
@@ -22,13 +22,13 @@ tree_at (array ts) (by_position i) = slice_get (items_list ts) i
 tree_at (object ps) (by_key key) = lookup key (members_list ps)
 tree_at _ _ = None
 
--- the tree with this one there
+-- the tree with u there
 abbrev pub tree_with : Tree → Step → Tree → Tree
 tree_with (array ts) (by_position i) u = array (items_of (set (items_list ts) i u))
 tree_with (object ps) (by_key key) u = object (members_of (put (members_list ps) key u))
 tree_with t _ u = t
 
--- the tree without what is there: the items behind it close up, and the last member fills the gap
+-- the tree without the value there: elements after it are shifted, and the last entry replaces it
 abbrev pub tree_without : Tree → Step → Tree
 tree_without (array ts) (by_position i) = array (items_of (remove (items_list ts) i))
 tree_without (object ps) (by_key key) = object (members_of (swap_out_key key (members_list ps)))

@@ -1,5 +1,5 @@
--- A JSON value as a tree (RFC 8259, sections 3 to 7): null, a truth value, a number, a text, a list of values, or pairs
--- of a key and a value in their order. A text is its UTF-8 bytes.
+-- A JSON value as a tree (RFC 8259, sections 3 to 7): null, a Boolean, a number, a string, a list of values, or entries of a key and a
+-- value in order. A string is its UTF-8 bytes.
 use Rattle.std.specs.Prelude.{ℕ, suc, max, Bool, List, [], ◌∷◌}
 use Rattle.ijson_number.specs.Decimal.{Decimal}
 
@@ -20,7 +20,7 @@ mutual
     no_members : Members
     member : List ℕ → Tree → Members → Members
 
--- a list of trees as items, and a list of pairs as members
+-- a list of trees as the elements of an array, and a list of pairs as the members of an object
 abbrev pub items_of : List Tree → Items
 items_of [] = no_items
 items_of (t ∷ ts) = item t (items_of ts)
@@ -29,7 +29,7 @@ abbrev pub members_of : List (List ℕ × Tree) → Members
 members_of [] = no_members
 members_of (p ∷ ps) = member p.0 p.1 (members_of ps)
 
--- and the other way round
+-- the inverse of `items_of` and `members_of`
 abbrev pub items_list : Items → List Tree
 items_list no_items = []
 items_list (item t ts) = t ∷ items_list ts
@@ -38,7 +38,7 @@ abbrev pub members_list : Members → List (List ℕ × Tree)
 members_list no_members = []
 members_list (member k t ps) = (k, t) ∷ members_list ps
 
--- how many members there are
+-- the number of members
 abbrev pub members_len : Members → ℕ
 members_len no_members = 0
 members_len (member k t ps) = suc (members_len ps)
@@ -48,7 +48,7 @@ abbrev pub member_keys : Members → List (List ℕ)
 member_keys no_members = []
 member_keys (member k t ps) = k ∷ member_keys ps
 
--- how deep arrays and objects nest: an empty one counts as 1
+-- the nesting depth of arrays and objects: an empty one counts as 1
 abbrev mutual
   pub depth : Tree → ℕ
   depth null = 0

@@ -6,11 +6,11 @@ use Rattle.ijson_value.specs.Tree.{Tree, null, boolean, number, string, array, o
 use Rattle.ijson_value.specs.WellFormed.{WellFormed, item_trees, pair_trees}
 use Rattle.ijson_value.specs.laws.HoldsWellFormed.{AreWellFormed-items, IsWellFormed-object}
 
--- the tree of an array of these items
+-- the tree of an array of these elements
 abbrev pub array_tree : List WellFormed → Tree
 array_tree vs = array (item_trees vs)
 
--- the tree of an object of these pairs
+-- the tree of an object of these entries
 abbrev pub object_tree : List (List ℕ × WellFormed) → Tree
 object_tree ps = object (pair_trees ps)
 

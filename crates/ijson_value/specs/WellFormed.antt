@@ -1,5 +1,4 @@
--- What contracts see of a value: a tree whose numbers are Nums, and in which no object has a key twice.
--- This project's own.
+-- The model of a value: a tree whose numbers are Nums and whose objects have distinct keys. This project's own.
 use Rattle.std.specs.Prelude.{ℕ, List, map}
 use Rattle.ijson_number.specs.Num.{IsNum}
 use Rattle.ijson_table.specs.Store.{IsDistinct}
@@ -15,12 +14,12 @@ abbrev mutual
   IsWellFormed (array ts) = AreWellFormed ts
   IsWellFormed (object ps) = IsDistinct (member_keys ps) × HaveWellFormed ps
 
-  -- each item is well-formed
+  -- each element is well-formed
   pub AreWellFormed : Items → Type 0
   AreWellFormed no_items = Unit {0}
   AreWellFormed (item t ts) = IsWellFormed t × AreWellFormed ts
 
-  -- each pair has a well-formed value
+  -- each entry has a well-formed value
   pub HaveWellFormed : Members → Type 0
   HaveWellFormed no_members = Unit {0}
   HaveWellFormed (member k t ps) = IsWellFormed t × HaveWellFormed ps
@@ -33,10 +32,10 @@ pub record WellFormed : Type 0 where
 abbrev pub tree_of : WellFormed → Tree
 tree_of v = v.tree
 
--- the trees of values, as the items of an array
+-- the trees of values, as the elements of an array
 abbrev pub item_trees : List WellFormed → Items
 item_trees vs = items_of (map tree_of vs)
 
--- pairs of keys and values, as the members of an object
+-- entries of values, as the members of an object
 abbrev pub pair_trees : List (List ℕ × WellFormed) → Members
 pair_trees ps = members_of (map (λ p. (p.0, tree_of p.1)) ps)

@@ -1,5 +1,5 @@
--- The words that a value feeds a hasher, by its tree. Each word is one `write_u64`. Those of an object do not turn on the
--- order of its pairs. This project's own.
+-- The words that a value feeds a hasher, by its tree. Each word is one `write_u64`. Those of an object do not depend on the order of its
+-- entries. This project's own.
 use Rattle.std.specs.Prelude.{ℕ, ◌+◌, ◌%◌, ◌^◌, cond, List, [], ◌∷◌, ◌++◌}
 use Rattle.ijson_number.specs.Words.{number_words}
 use Rattle.ijson_string.specs.Words.{text_words}
@@ -17,12 +17,12 @@ abbrev mutual
   words (array ts) = 4 ∷ items_len ts ∷ item_words ts
   words (object ps) = 5 ∷ members_len ps ∷ (pair_sum ps % 2 ^ 64) ∷ []
 
-  -- the words of each item in order
+  -- the words of each element in order
   pub item_words : Items → List ℕ
   item_words no_items = []
   item_words (item t ts) = words t ++ item_words ts
 
-  -- the sum, over the pairs, of the fold of the key's words and then the value's
+  -- the sum, over the entries, of the fold of the key's and the value's words
   pub pair_sum : Members → ℕ
   pair_sum no_members = 0
   pair_sum (member k t ps) = fold_words (text_words k ++ words t) + pair_sum ps

@@ -21,4 +21,3 @@ pub mod TreeCode
 pub mod TreeLookups
 pub mod WellFormedCode
 pub mod WordsEnd
-pub mod YieldedLists

@@ -20,8 +20,10 @@ use std::marker::Model;
 use std::mem::size_of;
 use thiserror::Error;
 
-/// A list of values. It lies behind one pointer, and an array that has taken no memory yet is without it. It takes 16 bytes,
-/// and beside them the place of its list and 24 bytes for each item of its capacity.
+/// A growable array of values.
+///
+/// It is one pointer to a heap list; an array that has not allocated has none. It takes 16 bytes, plus the header of its list and 24 bytes
+/// for each element of its capacity.
 #[cycle(value)]
 #[derive(Drop)]
 pub struct IArray {
@@ -31,8 +33,9 @@ pub struct IArray {
 
 const _: () = prove!(size_of::<IArray>() == 16);
 
-/// The least capacity after `reserve` has taken memory, and so after `push`, `insert` and `extend`. `with_capacity` gives exactly the
-/// capacity that it is asked for.
+/// The minimum capacity that `reserve`, `push`, `insert` and `extend` allocate.
+///
+/// `with_capacity` allocates exactly the capacity it is given.
 const LEAST_ROOM: usize = 4;
 
 impl Model for IArray {
@@ -54,12 +57,14 @@ impl Model for IArray {
     ghost size_decreases = { λ a h. array_falls a.list a.alloc };
 }
 
-/// An item that an array had no memory for. This item changed nothing; after `extend` those before it are there.
+/// The element that an array had no memory for.
+///
+/// This element changed nothing. After `extend`, the elements before it are in the array.
 #[derive(Debug, Drop, Error)]
 #[error("no memory for one more item")]
 pub struct Refused(pub IValue);
 
-/// `Memory`. The item that came back is dropped.
+/// Converts to `Memory` and drops the element.
 impl From<Refused> for ReserveError {
     ghost use Rattle.ijson_table.specs.declared.store.ReserveError.TheVariants.{Memory};
 
@@ -72,7 +77,7 @@ impl From<Refused> for ReserveError {
 }
 
 impl IArray {
-    /// An array with no items. It takes no memory.
+    /// Creates an empty array without allocating.
     pub fn new(alloc: Global) -> IArray
         ensures items { result.items ≡ [] }
         ensures capacity { result.capacity ≡ 0 }
@@ -80,8 +85,13 @@ impl IArray {
         IArray { list: None, alloc }
     }
 
-    /// An array with no items, and room for `capacity` of them. Room for none takes no memory. The error is that memory
-    /// was refused.
+    /// Creates an empty array with capacity for exactly `capacity` elements.
+    ///
+    /// A capacity of 0 does not allocate.
+    ///
+    /// # Errors
+    ///
+    /// Returns `AllocError` if the allocation fails.
     pub fn with_capacity(alloc: Global, capacity: usize) -> Result<IArray, AllocError>
         ensures items { IfOk result (λ array. array.items ≡ []) }
         ensures room { IfOk result (λ array. capacity ≤ array.capacity) }
@@ -91,8 +101,9 @@ impl IArray {
         IArray::of_list(alloc, Vec::with_capacity(alloc, capacity)?)
     }
 
-    /// An array of the items of `list`, which are not copied. It takes memory for the place of the list, but none where the list has no
-    /// room; the list is dropped where there is none.
+    /// Creates an array of the elements of `list`, without copying them.
+    ///
+    /// It allocates the list's header, unless the list has no capacity. If that fails, the list is dropped.
     pub(crate) fn of_list(alloc: Global, list: Vec<IValue>) -> Result<IArray, AllocError>
         ensures items { IfOk result (λ array. array.items ≡ list.items) }
         ensures room { IfOk result (λ array. array.capacity ≡ vec_capacity list) }
@@ -104,8 +115,13 @@ impl IArray {
         Ok(IArray::from_vec(alloc, list)?)
     }
 
-    /// An array of the items of `list`, which are not copied. It takes memory for the place of the list, and the list comes
-    /// back where there is none.
+    /// Creates an array of the elements of `list`, without copying them.
+    ///
+    /// It allocates the list's header.
+    ///
+    /// # Errors
+    ///
+    /// Returns the list if the allocation fails.
     pub fn from_vec(alloc: Global, list: Vec<IValue>) -> Result<IArray, AllocFailed<Vec<IValue>>>
         ensures items { IfOk result (λ array. array.items ≡ list.items) }
         ensures room { IfOk result (λ array. array.capacity ≡ vec_capacity list) }
@@ -118,21 +134,21 @@ impl IArray {
         })
     }
 
-    /// How many items there are.
+    /// Returns the number of elements.
     pub fn len(&self) -> usize
         ensures { result ≡ length self.now.items }
     {
         self.as_slice().len()
     }
 
-    /// Whether there is no item.
+    /// Returns `true` if the array has no elements.
     pub fn is_empty(&self) -> bool
         ensures { result ≡ (length self.now.items == 0) }
     {
         self.len() == 0
     }
 
-    /// For how many items there is room in all.
+    /// Returns the number of elements that the array can hold without reallocating.
     pub fn capacity(&self) -> usize
         ensures capacity { result ≡ self.now.capacity }
         ensures room { length self.now.items ≤ self.now.capacity }
@@ -143,7 +159,7 @@ impl IArray {
         }
     }
 
-    /// The items, front to back.
+    /// Returns the elements as a slice.
     pub fn as_slice(&self) -> &[IValue]
         ensures { result.now ≡ self.now.items }
     {
@@ -153,13 +169,18 @@ impl IArray {
         }
     }
 
-    /// What the array takes memory from.
+    /// Returns the allocator of the array.
     pub(crate) fn allocator(&self) -> Global {
         self.alloc
     }
 
-    /// Puts an item last. It takes memory only where there is no room for one more. Room then at least doubles, so pushes take
-    /// constant time on average. Where that is refused, the item comes back and the array is as it was, with the room that it had.
+    /// Appends an element.
+    ///
+    /// It allocates only if there is no spare capacity. The capacity then at least doubles, so a push takes amortized constant time.
+    ///
+    /// # Errors
+    ///
+    /// Returns the element if the allocation fails. The array and its capacity stay as they were.
     pub fn push(&mut self, item: IValue) -> Result<(), Refused>
         ensures ok { OnOk result (self.new.items ≡ self.old.items ++ item ∷ []) }
         ensures refused { IfErr result (λ refused.
@@ -179,9 +200,13 @@ impl IArray {
         Ok(())
     }
 
-    /// Makes room for `additional` items more, so that as many pushes take no memory. It takes memory only where there is
-    /// not that room. The room then at least doubles, and each item is moved at most once. Where that is refused, the array is
-    /// as it was. Room for more items than a `usize` counts is refused as well.
+    /// Reserves capacity for at least `additional` more elements.
+    ///
+    /// It allocates only if the spare capacity is too small. The capacity then at least doubles, and each element is moved at most once.
+    ///
+    /// # Errors
+    ///
+    /// Returns `AllocError` if the allocation fails or the capacity would overflow a `usize`. The array stays as it was.
     pub fn reserve(&mut self, additional: usize) -> Result<(), AllocError>
         ensures items { self.new.items ≡ self.old.items }
         ensures ok { OnOk result (length self.new.items + additional ≤ self.new.capacity) }
@@ -204,8 +229,13 @@ impl IArray {
         Ok(())
     }
 
-    /// Gives back the room that no item fills. It takes no memory where there is no such room. Else memory for a list of the length is
-    /// asked for; where that is refused, the items stay, and the capacity is no greater than it was.
+    /// Shrinks the capacity to the length.
+    ///
+    /// It does not allocate if there is no spare capacity; otherwise it requests memory for a list of the length.
+    ///
+    /// # Errors
+    ///
+    /// Returns `AllocError` if that request fails. The elements stay, and the capacity has not grown.
     pub fn shrink_to_fit(&mut self) -> Result<(), AllocError>
         ensures items { self.new.items ≡ self.old.items }
         ensures ok { OnOk result (self.new.capacity ≡ length self.new.items) }
@@ -223,10 +253,11 @@ impl IArray {
     }
 }
 
-/// Makes room in a list for `additional` items more. Where it has not that room, its capacity becomes the greatest of twice the
-/// old one, the length with them, and `LEAST_ROOM`. Where one of these passes what a `usize` counts, no such memory exists, so the
-/// error is the same as for memory that was refused. Twice the old one never does, since an item takes 24 bytes, but no contract of
-/// `Vec` says so.
+/// Reserves capacity for `additional` more elements in a list.
+///
+/// If there is not enough, the capacity becomes the maximum of twice the old one, the new length, and `LEAST_ROOM`. If one of these
+/// overflows a `usize`, no such memory exists, so the error is that of a failed allocation. Twice the old capacity never overflows, since
+/// an element takes 24 bytes, but no contract of `Vec` says so.
 fn grow(list: &mut Vec<IValue>, additional: usize) -> Result<(), AllocError>
     ensures items { list.new.items ≡ list.old.items }
     ensures ok { OnOk result (length list.new.items + additional ≤ vec_capacity list.new) }
@@ -247,7 +278,9 @@ fn grow(list: &mut Vec<IValue>, additional: usize) -> Result<(), AllocError>
     list.reserve_exact(additional.max(twice.max(LEAST_ROOM) - len))
 }
 
-/// Whether there are as many items and each means the same as the one at its position. It takes no memory.
+/// Arrays are equal if they have the same length and equal elements at each index.
+///
+/// It does not allocate.
 impl PartialEq for IArray {
     ghost eq = { λ a b. same (array_tree a.items) (array_tree b.items) };
 

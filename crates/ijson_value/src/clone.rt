@@ -1,4 +1,4 @@
-//! Copies, as one walk over a value, a slice of values and an object's pairs.
+//! Copies, by one recursion over values, slices of values and the entries of objects.
 ghost use Rattle.std.specs.Prelude.{◌≡◌, IfOk, IsOk, length};
 
 use crate::array::IArray;
@@ -7,7 +7,7 @@ use crate::value::{Destructured, IValue};
 use ijson_string::IString;
 use std::alloc::{AllocError, Global};
 
-/// A copy of a value.
+/// Returns a copy of a value.
 #[cycle(clone)]
 fn clone_value(value: &IValue) -> Result<IValue, AllocError>
     ensures { IfOk result (λ copy. copy ≡ value.now) }
@@ -29,7 +29,7 @@ fn clone_value(value: &IValue) -> Result<IValue, AllocError>
     Ok(IValue { node })
 }
 
-/// An array of copies of these items. An array of none takes no memory.
+/// Returns an array of copies of `items`. An empty one does not allocate.
 #[cycle(clone)]
 fn clone_items(alloc: Global, items: &[IValue]) -> Result<IArray, AllocError>
     ensures items { IfOk result (λ copy. copy.items ≡ items.now) }
@@ -44,7 +44,7 @@ fn clone_items(alloc: Global, items: &[IValue]) -> Result<IArray, AllocError>
     IArray::of_list(alloc, copies)
 }
 
-/// Copies of these pairs.
+/// Returns copies of `pairs`.
 #[cycle(clone)]
 fn clone_pairs(
     alloc: Global,
@@ -67,11 +67,18 @@ fn clone_pairs(
     Ok(copies)
 }
 
-/// The same value. Texts are shared with it. Memory is taken for each array and object in it that is not empty, for each number that is
-/// stored as a list of digits, and for sorting where many keys of an object crowd. Where such a request is refused, or the count of
-/// owners of a text is full, what was made is dropped. It takes time linear in the value and in the capacities of its objects; where many
-/// keys of an object crowd, n log n in its pairs at most. It hashes no key of an object that has room for no more than its pairs or has
-/// more than 127 of them, and each other key once.
+/// Copies a value. Its strings are shared with the original.
+///
+/// It allocates for each array and object that is not empty, for each boxed number, and for sorting if many keys of an object collide.
+///
+/// # Errors
+///
+/// Returns `AllocError` if an allocation fails or the reference count of a string is saturated. The partial copy is dropped.
+///
+/// # Cost
+///
+/// Linear in the value and the capacities of its objects; if many keys of an object collide, at most n log n in its entries. No key is
+/// hashed if its object has no spare capacity or more than 127 entries; any other key is hashed once.
 impl Clone for IValue {
     ghost is_clone = { λ v copy. copy ≡ v };
 
@@ -80,7 +87,9 @@ impl Clone for IValue {
     }
 }
 
-/// An array of copies of the items, whose capacity is their count. Its cost is that of `IValue::clone`.
+/// Copies the elements; the capacity of the copy is their count.
+///
+/// Errors and cost are those of `IValue::clone`.
 impl Clone for IArray {
     ghost is_clone = { λ a copy. (copy.items ≡ a.items) × (copy.capacity ≡ length a.items) };
 
@@ -91,7 +100,9 @@ impl Clone for IArray {
     }
 }
 
-/// An object of copies of the pairs, in their order, whose capacity is their count. Its cost is that of `IValue::clone`.
+/// Copies the entries in order; the capacity of the copy is their count.
+///
+/// Errors and cost are those of `IValue::clone`.
 impl Clone for IObject {
     ghost is_clone = { λ o copy. (copy.pairs ≡ o.pairs) × (copy.capacity ≡ length o.pairs) };
 
@@ -104,8 +115,9 @@ impl Clone for IObject {
 }
 
 impl IArray {
-    /// An array of copies of these items. Its capacity is their count, and an array of none takes no memory. Their texts are
-    /// shared, as by `IValue::clone`.
+    /// Creates an array of copies of `items`.
+    ///
+    /// Its capacity is their count, and an empty one does not allocate. Strings are shared, as by `IValue::clone`.
     pub fn from_slice(alloc: Global, items: &[IValue]) -> Result<IArray, AllocError>
         ensures items { IfOk result (λ array. array.items ≡ items.now) }
         ensures room { IfOk result (λ array. array.capacity ≡ length items.now) }

@@ -1,11 +1,13 @@
-//! Values shown for debugging, as JSON with the escapes of `str`: what they hold, and no private field.
+//! Debug output: the content of a value as JSON with the escapes of `str`, without private fields.
 
 use crate::array::IArray;
 use crate::object::IObject;
 use crate::value::{Destructured, IValue};
 use std::fmt;
 
-/// As JSON, but a string has the escapes of `str`. `to_json` of `ijson_json` writes JSON.
+/// Formats a value as JSON, but strings with the escapes of `str`.
+///
+/// `to_json` of `ijson_json` writes JSON.
 impl fmt::Debug for IValue {
     #[cycle(debug)]
     fn fmt<W: fmt::Write>(&self, f: &mut fmt::Formatter<W>) -> fmt::Result {
@@ -20,7 +22,7 @@ impl fmt::Debug for IValue {
     }
 }
 
-/// As the value that holds it.
+/// Formats the array like the value that contains it.
 impl fmt::Debug for IArray {
     #[cycle(debug)]
     fn fmt<W: fmt::Write>(&self, f: &mut fmt::Formatter<W>) -> fmt::Result {
@@ -32,7 +34,7 @@ impl fmt::Debug for IArray {
     }
 }
 
-/// As the value that holds it.
+/// Formats the object like the value that contains it.
 impl fmt::Debug for IObject {
     #[cycle(debug)]
     fn fmt<W: fmt::Write>(&self, f: &mut fmt::Formatter<W>) -> fmt::Result {

@@ -1,4 +1,4 @@
-//! Hashing, as one walk over a value, a slice of values and an object's pairs.
+//! Hashing, by one recursion over values, slices of values and the entries of objects.
 ghost use Rattle.std.specs.Prelude.{◌≡◌, ℕ, List, ◌++◌, fold};
 ghost use Rattle.std.specs.Hash as fed;
 ghost use Rattle.std.specs.List.{flat_map};
@@ -17,8 +17,10 @@ use crate::word_fold::sum_of_pairs;
 use ijson_string::IString;
 use std::hash::{Hash, Hasher};
 
-/// Values that mean the same feed the same words, at every depth and in every order of pairs. No value's words go on to be
-/// another's, and where the first holds no object, the two mean the same. It does nothing: a call of it gives a proof the law.
+/// States that values that mean the same feed the same words, at every depth and in every order.
+///
+/// No value's words are a proper prefix of another's, and values with the same words mean the same if the first contains no object. The
+/// function does nothing; calling it gives a proof these laws.
 pub fn words_law()
     ensures same { (t u : Tree) → IsWellFormed t → IsWellFormed u → Same t u → words t ≡ words u }
     ensures ends { (t u : Tree) (x y : List ℕ) → IsWellFormed t → IsWellFormed u
@@ -45,7 +47,7 @@ fn hash_value<H: Hasher>(value: &IValue, state: &mut H)
     }
 }
 
-/// Feeds the words of an array of these items.
+/// Feeds the words of an array of these elements.
 #[cycle(hash)]
 fn hash_items<H: Hasher>(items: &[IValue], state: &mut H)
     ensures { state.new ≡ fold H.write state.old (flat_map fed.u64 (words (array_tree items.now))) }
@@ -57,7 +59,7 @@ fn hash_items<H: Hasher>(items: &[IValue], state: &mut H)
     }
 }
 
-/// Feeds the words of an object of these pairs.
+/// Feeds the words of an object of these entries.
 fn hash_pairs<H: Hasher>(pairs: &[(IString, IValue)], state: &mut H)
     ensures { state.new ≡ fold H.write state.old (flat_map fed.u64 (words (object_tree pairs.now))) }
 {
@@ -66,8 +68,10 @@ fn hash_pairs<H: Hasher>(pairs: &[(IString, IValue)], state: &mut H)
     state.write_u64(sum_of_pairs(pairs));
 }
 
-/// Values that are equal feed the same words, each by one `write_u64`. An object feeds the count of its pairs and one word that
-/// is the same in every order of them. It takes time linear in the value, and no memory.
+/// Equal values feed the same words, each by one `write_u64`.
+///
+/// An object feeds its length and one word that does not depend on the order of its entries. It takes time linear in the value and does not
+/// allocate.
 impl Hash for IValue {
     ghost hash_input = { λ v. flat_map fed.u64 (words v.tree) };
 
@@ -78,7 +82,7 @@ impl Hash for IValue {
     }
 }
 
-/// As the value that holds it.
+/// Hashes the array like the value that contains it.
 impl Hash for IArray {
     ghost hash_input = { λ a. flat_map fed.u64 (words (array_tree a.items)) };
 
@@ -89,7 +93,7 @@ impl Hash for IArray {
     }
 }
 
-/// As the value that holds it.
+/// Hashes the object like the value that contains it.
 impl Hash for IObject {
     ghost hash_input = { λ o. flat_map fed.u64 (words (object_tree o.pairs)) };
 

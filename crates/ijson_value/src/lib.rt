@@ -1,6 +1,6 @@
-//! JSON values: an array, an object with distinct keys, and the value that is one of the six kinds.
+//! JSON values: arrays, objects with distinct keys, and the value of any of the six kinds.
 //!
-//! Tests: those of objects stand in `ijson_extra`, those of arrays and values in `ijson`.
+//! The tests of objects are in `ijson_extra`, those of arrays and values in `ijson`.
 #![tactic(auto)]
 
 pub mod array;

@@ -1,4 +1,4 @@
-//! Objects: pairs of a key and a value, in order, with distinct keys.
+//! Objects: entries of a key and a value, in order, with distinct keys.
 
 mod access;
 mod copy;

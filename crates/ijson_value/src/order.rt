@@ -1,4 +1,4 @@
-//! The partial order, as one walk over a value and a slice of values.
+//! The partial order, by one recursion over values and slices of values.
 ghost use Rattle.std.specs.Prelude.{◌≡◌};
 ghost use Rattle.ijson_value.specs.Order.{tree_cmp};
 ghost use Rattle.ijson_value.specs.Values.{array_tree, object_tree, array_value, object_value};
@@ -10,7 +10,7 @@ use crate::same::same_pairs;
 use crate::value::{Destructured, IValue};
 use std::cmp::Ordering;
 
-/// The order of two values, if they are ordered.
+/// Returns the order of two values, if they are ordered.
 #[cycle(order)]
 fn value_cmp(a: &IValue, b: &IValue) -> Option<Ordering>
     ensures { result ≡ tree_cmp a.now.tree b.now.tree }
@@ -26,8 +26,9 @@ fn value_cmp(a: &IValue, b: &IValue) -> Option<Ordering>
     }
 }
 
-/// The order of two arrays of these items, if they are ordered: the first answer that isn't Equal, none at all among them,
-/// and else that of the lengths.
+/// Returns the order of two arrays of these elements, if they are ordered.
+///
+/// It is the first element order that is not `Equal`, be it missing, or else the order of the lengths.
 #[cycle(order)]
 fn items_cmp(xs: &[IValue], ys: &[IValue]) -> Option<Ordering>
     ensures { result ≡ tree_cmp (array_tree xs.now) (array_tree ys.now) }
@@ -44,7 +45,7 @@ fn items_cmp(xs: &[IValue], ys: &[IValue]) -> Option<Ordering>
     Some(xs.len().cmp(&ys.len()))
 }
 
-/// Equal where two objects are the same, and else no order.
+/// Returns `Equal` if two objects are equal, otherwise no order.
 fn pairs_cmp(a: &IObject, b: &IObject) -> Option<Ordering>
     ensures { result ≡ tree_cmp (object_tree a.now.pairs) (object_tree b.now.pairs) }
 {
@@ -55,9 +56,10 @@ fn pairs_cmp(a: &IObject, b: &IObject) -> Option<Ordering>
     }
 }
 
-/// Values of two kinds are in the order of `ValueType`; numbers are by value, strings by their bytes, and arrays by the first
-/// items that are not equal, then by length. Objects are Equal where they mean the same, and else have no order. It takes no
-/// memory.
+/// Values of different kinds are ordered like `ValueType`.
+///
+/// Numbers are ordered by value, strings by their bytes, and arrays by the first elements that are not equal, then by length. Objects are
+/// `Equal` if they are equal, and otherwise unordered. It does not allocate.
 impl PartialOrd for IValue {
     ghost partial_cmp = { λ a b. tree_cmp a.tree b.tree };
 
@@ -68,7 +70,9 @@ impl PartialOrd for IValue {
     }
 }
 
-/// By the first items that are not equal, then by length; no order where these have none.
+/// Orders arrays by the first elements that are not equal, then by length.
+///
+/// If those are unordered, so are the arrays.
 impl PartialOrd for IArray {
     ghost partial_cmp = { λ a b. tree_cmp (array_tree a.items) (array_tree b.items) };
 
@@ -79,7 +83,7 @@ impl PartialOrd for IArray {
     }
 }
 
-/// Equal where they mean the same, and else no order.
+/// Objects are `Equal` if they are equal, and otherwise unordered.
 impl PartialOrd for IObject {
     ghost partial_cmp = { λ a b. tree_cmp (object_tree a.pairs) (object_tree b.pairs) };
 

@@ -1,4 +1,4 @@
-//! Equality, as one walk over a value, a slice of values and an object's pairs.
+//! Equality, by one recursion over values, slices of values and the entries of objects.
 ghost use Rattle.std.specs.Prelude.{◌≡◌};
 ghost use Rattle.ijson_value.specs.Values.{array_tree, object_tree};
 ghost use Rattle.ijson_value.specs.SameTest.{same};
@@ -6,7 +6,7 @@ ghost use Rattle.ijson_value.specs.SameTest.{same};
 use crate::object::IObject;
 use crate::value::{Destructured, IValue};
 
-/// Whether two values are the same.
+/// Returns `true` if two values are equal.
 #[cycle(same)]
 pub(crate) fn same_value(a: &IValue, b: &IValue) -> bool
     ensures { result ≡ same a.now.tree b.now.tree }
@@ -22,7 +22,7 @@ pub(crate) fn same_value(a: &IValue, b: &IValue) -> bool
     }
 }
 
-/// Whether two arrays of these items are the same.
+/// Returns `true` if two arrays of these elements are equal.
 #[cycle(same)]
 pub(crate) fn same_items(xs: &[IValue], ys: &[IValue]) -> bool
     ensures { result ≡ same (array_tree xs.now) (array_tree ys.now) }
@@ -38,7 +38,7 @@ pub(crate) fn same_items(xs: &[IValue], ys: &[IValue]) -> bool
     true
 }
 
-/// Whether two objects are the same: as many pairs, and each key of the one beside the same value in the other.
+/// Returns `true` if two objects have the same length and each key has equal values in both.
 #[cycle(same)]
 pub(crate) fn same_pairs(a: &IObject, b: &IObject) -> bool
     ensures { result ≡ same (object_tree a.now.pairs) (object_tree b.now.pairs) }

@@ -24,8 +24,10 @@ pub use index::ValueIndex;
 use std::marker::Model;
 use std::mem::size_of;
 
-/// A JSON value. It takes 24 bytes, and what it holds beyond these lies behind one pointer. What goes through a whole value (a
-/// copy, `==`, a hash, the drop) calls itself once a level, so a value that nests very deep can want more stack than there is.
+/// A JSON value.
+///
+/// It takes 24 bytes; further content is stored on the heap, at one pointer. Operations on a whole value (copying, `==`, hashing, dropping)
+/// recurse once per level, so a very deeply nested value can overflow the stack.
 #[cycle(value)]
 #[derive(Drop)]
 pub struct IValue {
@@ -34,8 +36,9 @@ pub struct IValue {
 
 const _: () = prove!(size_of::<IValue>() == 24);
 
-/// A value opened: what it is made of, by its kind. It is moved out of its value and into one (`IValue::from` of a part) with
-/// no copy.
+/// The content of a value, by kind.
+///
+/// It moves out of a value and into one (`IValue::from` of its part) without copying.
 #[cycle(value)]
 #[derive(Debug, Drop, PartialEq, Eq)]
 pub enum Destructured {
@@ -47,9 +50,9 @@ pub enum Destructured {
     Number(INumber),
     /// A string.
     String(IString),
-    /// A list of values.
+    /// An array of values.
     Array(IArray),
-    /// Pairs with distinct keys, in order.
+    /// Entries with distinct keys, in order.
     Object(IObject),
 }
 
@@ -73,7 +76,7 @@ impl Model for IValue {
     ghost size_decreases = { λ v h. node_falls v.node };
 }
 
-/// The kinds of values, in their order. Values of two kinds are ordered as these are.
+/// The kinds of values, in their order. Values of different kinds are ordered like these.
 #[derive(Clone, Copy, Debug, PartialEq, Eq, PartialOrd, Ord, Hash)]
 pub enum ValueType {
     /// `null`.
@@ -84,14 +87,14 @@ pub enum ValueType {
     Number,
     /// A string.
     String,
-    /// A list of values.
+    /// An array of values.
     Array,
-    /// Pairs with distinct keys, in order.
+    /// Entries with distinct keys, in order.
     Object,
 }
 
-// No clause can name a constant whose type has a model. What these are is the contract of what answers them: `default`
-// of `NULL`, and `from` a `bool` of `TRUE` and `FALSE`.
+// A clause cannot name a constant whose type has a model. The contracts of `default` (which returns `NULL`) and of `from` a `bool` (which
+// returns `TRUE` and `FALSE`) say what the constants are.
 impl IValue {
     /// The value null.
     pub const NULL: IValue = IValue {
@@ -108,7 +111,7 @@ impl IValue {
         node: Destructured::Bool(false),
     };
 
-    /// The kind of the value.
+    /// Returns the kind of the value.
     pub fn type_(&self) -> ValueType
         ensures { result ≡ kind_of self.now.tree }
     {
@@ -123,7 +126,7 @@ impl IValue {
     }
 }
 
-/// Null.
+/// The default is null.
 impl Default for IValue {
     ghost is_default = { λ v. v ≡ null_value };
 
@@ -132,8 +135,10 @@ impl Default for IValue {
     }
 }
 
-/// Whether two values mean the same: numbers by value, whatever their shape, arrays item by item, and objects in any order of
-/// their pairs. It takes no memory, and expected time linear in the values: each key of one object is looked up in the other.
+/// Values are equal if they mean the same.
+///
+/// Numbers are compared by value, whether written with a point or not, arrays element by element, and objects in any order of entries. It
+/// does not allocate. Each key of one object is looked up in the other, so the expected time is linear.
 impl PartialEq for IValue {
     ghost eq = { λ a b. same a.tree b.tree };
 

@@ -1,4 +1,4 @@
-//! The fold of the words of a pair to one, which an object's words sum over its pairs.
+//! Folds the words of an entry to one word. The words of an object contain the sum of these.
 ghost use Rattle.std.specs.Prelude.{◌≡◌, ◌%◌, ◌^◌, fold};
 ghost use Rattle.ijson_number.specs.Words.{number_words};
 ghost use Rattle.ijson_string.specs.Words.{text_words};
@@ -13,13 +13,13 @@ use ijson_number::INumber;
 use ijson_string::IString;
 use std::hash::{Hash, Hasher};
 
-/// Where the fold starts, as that of `FixedHash` does.
+/// The initial value of the fold, as in `FixedHash`.
 const BASIS: u64 = 14_695_981_039_346_656_037;
 
-/// What each word multiplies the fold by, modulo 2^64, as in that of `FixedHash`.
+/// The multiplier of the fold, modulo 2^64, as in `FixedHash`.
 const PRIME: u64 = 1_099_511_628_211;
 
-/// A fold of words. As a hasher it takes each write of eight bytes as a word.
+/// A fold of words. As a hasher, it takes each write of eight bytes as a word.
 #[derive(Drop)]
 struct WordFold(u64);
 
@@ -69,7 +69,7 @@ impl Hasher for WordFold {
     }
 }
 
-/// Adds the words of a value.
+/// Adds the words of a value to `state`.
 #[cycle(fold)]
 fn add_value(value: &IValue, state: &mut WordFold)
     ensures { state.new.0 ≡ fold fold_word state.old.0 (words value.now.tree) }
@@ -92,7 +92,7 @@ fn add_value(value: &IValue, state: &mut WordFold)
     }
 }
 
-/// Adds the words of an array of these items.
+/// Adds the words of an array of these elements to `state`.
 #[cycle(fold)]
 fn add_items(items: &[IValue], state: &mut WordFold)
     ensures { state.new.0 ≡ fold fold_word state.old.0 (words (array_tree items.now)) }
@@ -104,8 +104,9 @@ fn add_items(items: &[IValue], state: &mut WordFold)
     }
 }
 
-/// The sum modulo 2^64, over the pairs, of the fold of the key's words and then the value's. It is the same in every order
-/// of the pairs.
+/// Returns the sum modulo 2^64, over the entries, of the fold of the key's and the value's words.
+///
+/// It does not depend on the order of the entries.
 #[cycle(fold)]
 pub(crate) fn sum_of_pairs(pairs: &[(IString, IValue)]) -> u64
     ensures { result ≡ pair_sum (pair_trees pairs.now) % 2 ^ 64 }

@@ -1,4 +1,4 @@
--- The pairs of an object, made one after the other.
+-- The entries of an object, created in order.
 use Rattle.std.proofs.Common.{◌≡◌, ℕ, List, [], ◌∷◌, ◌++◌, length, map, refl, ap, ap₂, sym, subst, ◌∙◌}
 use Rattle.std.specs.Prelude.{String, string_bytes}
 use Rattle.std.specs.declared.alloc.Global.{Global}
@@ -15,11 +15,11 @@ use Rattle.ijson_convert.specs.MapTree.{pair_tree, map_tree}
 use Rattle.ijson_convert.specs.TextsOf.{texts_of, members_texts}
 use Rattle.ijson_convert.proofs.Interning.{both_interned, some_before, some_behind}
 
--- pairs with the trees of their values
+-- entries with the trees of their values
 abbrev pub tree_pairs : List (List ℕ × WellFormed) → List (List ℕ × Tree)
 tree_pairs ps = map with_tree ps
 
--- the texts of pairs
+-- the strings of entries
 abbrev pub pairs_texts : List (List ℕ × Tree) → List (List ℕ)
 pairs_texts ps = members_texts (members_of ps)
 
@@ -29,15 +29,15 @@ entry_keys : {X : Type 0} (tree : X → Tree) (es : List (String Global × X))
 entry_keys tree [] = refl
 entry_keys tree (e ∷ es) = ap (λ l. string_bytes e.0 ∷ l) (entry_keys tree es)
 
--- ---- the texts of pairs
+-- ---- the strings of entries
 pub joined_texts : (ps qs : List (List ℕ × Tree)) → pairs_texts (ps ++ qs) ≡ pairs_texts ps ++ pairs_texts qs
 joined_texts [] qs = refl
 joined_texts (p ∷ ps) qs =
     ap (λ l. p.0 ∷ (texts_of p.1 ++ l)) (joined_texts ps qs)
     ∙ ap (λ l. p.0 ∷ l) (sym (append_assoc (texts_of p.1) (pairs_texts ps) (pairs_texts qs)))
 
--- ---- pairs of the entries of a map, one after the other
--- the pairs so far are those of these entries, and their texts are interned
+-- ---- entries from those of a map, in order
+-- the entries so far are those of `given`, and their strings are interned
 pub record SoFar {X : Type 0} (tree : X → Tree) (old : Texts) (ps : List (List ℕ × WellFormed)) (given : List (String Global × X))
     (cache : Texts) : Type 0 where
   pub pairs : tree_pairs ps ≡ map (pair_tree tree) given
@@ -45,13 +45,13 @@ pub record SoFar {X : Type 0} (tree : X → Tree) (old : Texts) (ps : List (List
 
 module _ {X : Type 0} {tree : X → Tree} {old : Texts} {ps : List (List ℕ × WellFormed)} {given : List (String Global × X)} {cache : Texts}
     (so_far : SoFar tree old ps given cache) where
-  -- they are as many
+  -- the numbers of entries are the same
   pub as_many : length ps ≡ length given
   as_many =
       sym (length-map ps with_tree) ∙ ap length so_far.pairs ∙ length-map given (pair_tree tree)
 
   module _ (key : String Global) (x : X) {k : List ℕ} (is : k ≡ string_bytes key) where
-    -- one more is made
+    -- one more is created
     pub one_more : (p : List ℕ × WellFormed) → p.0 ≡ k → p.1.tree ≡ tree x → {ps' : List (List ℕ × WellFormed)} → ps' ≡ ps ++ p ∷ []
         → {given' : List (String Global × X)} → given' ≡ given ++ (key, x) ∷ [] → {new : Texts}
         → new ≡ all_interned (k ∷ texts_of (tree x)) cache → SoFar tree old ps' given' new
@@ -69,7 +69,7 @@ module _ {X : Type 0} {tree : X → Tree} {old : Texts} {ps : List (List ℕ × 
               ∙ ap (λ l. all_interned l old) (sym (joined_texts before ((k, tree x) ∷ [])) ∙ ap pairs_texts (sym more));
         }
 
-    -- or refused
+    -- or rejected
     pub one_refused : {all : List (String Global × X)} (rest : List (String Global × X)) → all ≡ given ++ (key, x) ∷ rest → {new : Texts}
         → SomeInterned (k ∷ texts_of (tree x)) cache new → SomeInterned (texts_of (map_tree tree all)) old new
     one_refused {all} rest parts {new} s =
@@ -82,7 +82,7 @@ module _ {X : Type 0} {tree : X → Tree} {old : Texts} {ps : List (List ℕ × 
         subst (λ l. SomeInterned l old new) texts
         (some_behind (pairs_texts before) (k ∷ (texts_of (tree x) ++ pairs_texts behind)) old new mine)
 
-  -- each goes last in an object, as their keys are distinct
+  -- each is appended to an object, since their keys are distinct
   pub all_put : NoneTwice (map (λ e. string_bytes e.0) given) → {made : List (List ℕ × WellFormed)} → made ≡ put_each [] ps
       → object_tree made ≡ map_tree tree given
   all_put distinct puts =

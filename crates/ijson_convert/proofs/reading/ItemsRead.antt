@@ -1,4 +1,4 @@
--- Items that are read, one after the other.
+-- Reading elements in order.
 use Rattle.std.proofs.Common.{◌≡◌, ◌<◌, ◌+◌, ℕ, List, [], ◌∷◌, ◌++◌, length, take, drop, map, get_or, ap, sym, subst, ◌∙◌, inl, inr}
 use Rattle.std.proofs.lemmas.List.{append_assoc, map-append, map_more, take-append-drop}
 use Rattle.ijson_value.specs.Same.{Same, SameEach}
@@ -8,7 +8,7 @@ use Rattle.ijson_convert.specs.IsRead.{IsRead}
 use Rattle.ijson_convert.specs.Refused.{FirstRefused}
 use Rattle.ijson_convert.specs.declared.convert_error.ConvertError.{ConvertError}
 
--- one item more is the same beside those that are
+-- one more element means the same
 pub each_pushed : (ts us : List Tree) (t u : Tree) → SameEach (items_of ts) (items_of us) → Same t u
     → SameEach (items_of (ts ++ t ∷ [])) (items_of (us ++ u ∷ []))
 each_pushed [] [] t u h s = (s, tt)
@@ -17,11 +17,11 @@ each_pushed (w ∷ ts) [] t u h s = absurd h
 each_pushed (w ∷ ts) (v ∷ us) t u h s = (h.0, each_pushed ts us t u h.1 s)
 
 module _ (Refused : Tree → ConvertError → Type 0) where
-  -- none of these is refused
+  -- none of these is rejected
   abbrev pub AllRead : List Tree → Type 0
   AllRead ts = (e : ConvertError) → FirstRefused Refused (items_of ts) e → ⊥
 
-  -- one item more is read
+  -- one more element is read
   pub read_pushed : (ts : List Tree) (t : Tree) → AllRead ts → IsRead Refused t → AllRead (ts ++ t ∷ [])
   read_pushed [] t h r = λ e f. elim f [ inl here ↦ r e here | inr later ↦ later.1 ]
   read_pushed (u ∷ ts) t h r = λ e f. elim f [
@@ -29,7 +29,7 @@ module _ (Refused : Tree → ConvertError → Type 0) where
     | inr later ↦ read_pushed ts t (λ d g. h d (inr (later.0, g))) r e later.1
   ]
 
-  -- the first that is refused, behind those that are read
+  -- the first rejected one, after those that are read
   pub refused_behind : (ts : List Tree) (t : Tree) (more : List Tree) (e : ConvertError) → AllRead ts → Refused t e
       → FirstRefused Refused (items_of (ts ++ t ∷ more)) e
   refused_behind [] t more e a r = inl r
@@ -37,7 +37,7 @@ module _ (Refused : Tree → ConvertError → Type 0) where
       let read : IsRead Refused u = λ c x. a c (inl x) in
       inr (read, refused_behind ts t more e (λ c f. a c (inr (read, f))) r)
 
-  -- the first item that is refused is that of the list
+  -- the first rejected element is that of the list
   pub first_refused : (vs : List WellFormed) (i : ℕ) (d : WellFormed) (e : ConvertError) → i < length vs
       → AllRead (map tree_of (take i vs)) → Refused (tree_of (get_or vs i d)) e
       → FirstRefused Refused (items_of (map tree_of vs)) e

@@ -1,4 +1,4 @@
--- Members that are read into a map, one after the other.
+-- Reading members into a map, in order.
 use Rattle.std.proofs.Common.{◌≡◌, ℕ, suc, List, [], ◌∷◌, ◌++◌, map, refl, ap, sym, subst, ◌∙◌}
 use Rattle.std.specs.BTreeMap.{insert_entry}
 use Rattle.std.specs.Ordering.{match_ordering}
@@ -20,33 +20,33 @@ use Rattle.ijson_convert.specs.declared.convert_error.ConvertError.{ConvertError
 use Rattle.ijson_convert.proofs.pairs.PairTrees.{has_more, has_middle, len_last}
 use Rattle.ijson_convert.proofs.reading.ItemsRead.{AllRead, read_pushed, refused_behind}
 
--- the trees of the values of pairs
+-- the trees of the values of entries
 abbrev pub value_trees : List (List ℕ × WellFormed) → List Tree
 value_trees ps = map (λ p. tree_of p.1) ps
 
--- the values of members are the items of their trees
+-- the values of members are the elements of their trees
 values_are : (ps : List (List ℕ × WellFormed)) → member_values (pair_trees ps) ≡ items_of (value_trees ps)
 values_are [] = refl
 values_are (p ∷ ps) = ap (Items.item p.1.tree) (values_are ps)
 
--- the trees of two lists in a row
+-- the trees of two concatenated lists
 values_pushed : (ps qs : List (List ℕ × WellFormed)) → value_trees (ps ++ qs) ≡ value_trees ps ++ value_trees qs
 values_pushed [] qs = refl
 values_pushed (p ∷ ps) qs = ap (λ l. p.1.tree ∷ l) (values_pushed ps qs)
 
--- ---- what is refused, and what isn't
+-- ---- rejected or read
 module _ (Refused : Tree → ConvertError → Type 0) where
-  -- one member more is read
+  -- one more member is read
   pub member_read : (done : List (List ℕ × WellFormed)) (k : List ℕ) (v : WellFormed) → AllRead Refused (value_trees done)
       → IsRead Refused v.tree → AllRead Refused (value_trees (done ++ (k, v) ∷ []))
   member_read done k v a r =
       subst (AllRead Refused) (sym (values_pushed done ((k, v) ∷ []))) (read_pushed Refused (value_trees done) v.tree a r)
 
-  -- where all values are read the map is
+  -- if all values are read, the map is
   pub all_read : (ps : List (List ℕ × WellFormed)) → AllRead Refused (value_trees ps) → IsRead (MapRefused Refused) (object_tree ps)
   all_read ps a = λ e r. a e (subst (λ items. FirstRefused Refused items e) (values_are ps) r)
 
-  -- the first value that is refused is that of the map
+  -- the first rejected value is that of the map
   pub member_refused : (done : List (List ℕ × WellFormed)) (k : List ℕ) (v : WellFormed) (left : List (List ℕ × WellFormed))
       (e : ConvertError)
       → AllRead Refused (value_trees done) → Refused v.tree e → MapRefused Refused (object_tree (done ++ (k, v) ∷ left)) e
@@ -55,7 +55,7 @@ module _ (Refused : Tree → ConvertError → Type 0) where
       ∙ ap items_of (values_pushed done ((k, v) ∷ left))))
       (refused_behind Refused (value_trees done) v.tree (value_trees left) e a r)
 
--- ---- an entry more of the map
+-- ---- one more entry of the map
 module _ {X : Type 0} (tree : X → Tree) where
   abbrev map_members : List (String Global × X) → Members
   map_members es = members_of (map (pair_tree tree) es)
@@ -85,7 +85,7 @@ module _ {X : Type 0} (tree : X → Tree) where
                 (ap suc rest.0, ((s.0.0, grows (string_bytes e.0) s.0.0 s.0.1, s.0.2), rest.1))
           ] refl
 
-  -- the map with the entry, and the pairs with the pair, whose key is not among them
+  -- the map with the entry and the members with theirs mean the same, if the key is new
   pub member_same : (es : List (String Global × X)) (done : List (List ℕ × WellFormed)) (key : String Global) (k : List ℕ) (x : X)
       (v : WellFormed)
       → string_bytes key ≡ k → Lacks k (keys_of done) → Same (map_tree tree es) (object_tree done) → Same (tree x) v.tree

@@ -1,4 +1,4 @@
--- Values of `serde_json` that mean the same as trees, one part after the other.
+-- Values of `serde_json` that mean the same as trees, part by part.
 use Rattle.std.proofs.Common.{◌≡◌, ◌≢◌, ◌⊎◌, ℕ, List, [], ◌∷◌, ◌++◌, suc, refl, ap, sym, subst, ◌∙◌, inl, inr}
 use Rattle.std.specs.declared.cmp.Ordering.TheVariants.{Less, Equal, Greater}
 use Rattle.std.specs.Cmp.Lexicographic.{slice_cmp}
@@ -33,7 +33,7 @@ push_item (x ∷ vs) (y ∷ us) v u (item t ts) w h s m =
     let r = push_item vs us v u ts w.1 h.1 s.1 m in
     (item t r.0, (w.0, r.1), (h.0, r.2), (s.0, r.3))
 
--- one more item means the same, by the tree between
+-- one more element means the same, by the tree between
 more_means : (vs : List Value) (us : List WellFormed) (v : Value) (u : WellFormed) (t : Tree) → IsWellFormed t
     → SerdeTree (serde.array (items_view vs)) t → Same t (array_tree us) → SerdeMeans (view v) u.tree
     → SerdeMeans (serde.array (items_view (vs ++ v ∷ []))) (array_tree (us ++ u ∷ []))
@@ -44,13 +44,13 @@ more_means vs us v u (number n) w h s m = absurd h
 more_means vs us v u (string r) w h s m = absurd h
 more_means vs us v u (object ps) w h s m = absurd h
 
--- an array with one more item means the same
+-- an array with one more element means the same
 pub array_means : (vs : List Value) (us : List WellFormed) (v : Value) (u : WellFormed)
     → SerdeMeans (serde.array (items_view vs)) (array_tree us) → SerdeMeans (view v) u.tree
     → SerdeMeans (serde.array (items_view (vs ++ v ∷ []))) (array_tree (us ++ u ∷ []))
 array_means vs us v u so_far m = more_means vs us v u so_far.0 so_far.1 so_far.2 so_far.3 m
 
--- no items mean those of which one has no meaning
+-- no elements mean a list in which one has no meaning
 items_unmeant : (before : List WellFormed) (u : WellFormed) (left : List WellFormed) → NoSerdeMeans u.tree
     → (ds : serde.Items) (ts : Items) → AreWellFormed ts → SerdeItems ds ts
     → SameEach ts (item_trees (before ++ u ∷ left)) → ⊥
@@ -61,7 +61,7 @@ items_unmeant before u left never serde.no_items (item t ts) w h s = h
 items_unmeant [] u left never ds no_items w h s = s
 items_unmeant (x ∷ before) u left never ds no_items w h s = s
 
--- nothing means an array then
+-- nothing means an array of that list
 array_unmeant_by : (before : List WellFormed) (u : WellFormed) (left : List WellFormed) → NoSerdeMeans u.tree
     → (d : Data) (t : Tree) → IsWellFormed t → SerdeTree d t → Same t (array_tree (before ++ u ∷ left)) → ⊥
 array_unmeant_by before u left never (serde.array ds) (array ts) w h s = items_unmeant before u left never ds ts w h s
@@ -81,7 +81,7 @@ pub array_unmeant : (before : List WellFormed) (u : WellFormed) (left : List Wel
     → NoSerdeMeans (array_tree (before ++ u ∷ left))
 array_unmeant before u left never d m = array_unmeant_by before u left never d m.0 m.1 m.2 m.3
 
--- ---- a member more: qs are the members ps with t at the new key k, at some place
+-- ---- one more member: qs is ps with t inserted at the new key k
 record Added (k : List ℕ) (t : Tree) (ps qs : Members) : Type 0 where
   len : members_len qs ≡ suc (members_len ps)
   has : (j : List ℕ) (u : Tree) → Has j u qs → ((j ≡ k) × (u ≡ t)) ⊎ Has j u ps
@@ -89,7 +89,7 @@ record Added (k : List ℕ) (t : Tree) (ps qs : Members) : Type 0 where
   distinct : Lacks k (member_keys ps) → IsDistinct (member_keys ps) → IsDistinct (member_keys qs)
   well : IsWellFormed t → HaveWellFormed ps → HaveWellFormed qs
 
--- a member that is put first
+-- a member inserted first
 added_first : (k : List ℕ) (t : Tree) (ps : Members) → Added k t ps (member k t ps)
 added_first k t ps = record {
   len = refl;
@@ -99,7 +99,7 @@ added_first k t ps = record {
   well = λ w v. (w, v);
 }
 
--- and one that is put behind a member
+-- and one inserted after another member
 added_later : (k : List ℕ) (t : Tree) (ps qs : Members) (i : List ℕ) (v : Tree) → Added k t ps qs
     → Added k t (member i v ps) (member i v qs)
 added_later k t ps qs i v a = record {
@@ -113,7 +113,7 @@ added_later k t ps qs i v a = record {
   well = λ w h. (h.0, a.well w h.1);
 }
 
--- the map puts it in the order of the keys
+-- the map inserts it in the order of the keys
 added : (k : List ℕ) (d : Data) (t : Tree) (ms : serde.Members) (ps : Members) → SerdeMembers ms ps → SerdeTree d t
     → Lacks k (member_keys ps) → (qs : Members) × SerdeMembers (serde.put k d ms) qs × Added k t ps qs
 added k d t serde.no_members no_members h s l = (member k t no_members, (refl, s, tt), added_first k t no_members)
@@ -130,7 +130,7 @@ added k d t (serde.member i e ms) (member j u ps) h s l = elim (slice_cmp nat_cm
     ] refl
 
 -- ---- objects
--- a key that an object lacks is lacking in members that all stand in it
+-- a key missing from an object is missing from members that are all in it
 lacks_inside : (k : List ℕ) (ps qs : Members) → SameIn ps qs → Lacks k (member_keys qs) → Lacks k (member_keys ps)
 lacks_inside k no_members qs s l = tt
 lacks_inside k (member j t ps) qs s l =
@@ -159,7 +159,7 @@ module _ (es : serde.Members) (done : List (List ℕ × WellFormed)) (d : Data) 
         (a.2.len ∙ ap suc s.0 ∙ sym (len_last done p), covers a.0 rs found),
       )
 
-  -- one more pair means the same, by the tree between
+  -- one more entry means the same, by the tree between
   means_by : (t : Tree) → IsWellFormed t → SerdeTree (serde.object es) t → Same t (object_tree done)
       → SerdeMeans (serde.object (serde.put p.0 d es)) (object_tree (done ++ p ∷ []))
   means_by (object ps) w h s = members_means ps w h s
@@ -169,7 +169,7 @@ module _ (es : serde.Members) (done : List (List ℕ × WellFormed)) (d : Data) 
   means_by (string r) w h s = absurd h
   means_by (array ts) w h s = absurd h
 
-  -- an object with one more pair means the same
+  -- an object with one more entry means the same
   pub object_means : SerdeMeans (serde.object es) (object_tree done)
       → SerdeMeans (serde.object (serde.put p.0 d es)) (object_tree (done ++ p ∷ []))
   object_means so_far = means_by so_far.0 so_far.1 so_far.2 so_far.3
@@ -196,7 +196,7 @@ module _ (qs : Members) (well : IsWellFormed (object qs)) (k : List ℕ) (u : Tr
       let d = child ms ps k p.0 h p.1 in
       never d.0 (p.0, there, d.1, same_symm u p.0 is there p.2)
 
-  -- nothing means the object then
+  -- nothing means an object with a member that has no meaning
   unmeant_by : (d : Data) (t : Tree) → IsWellFormed t → SerdeTree d t → Same t (object qs) → ⊥
   unmeant_by (serde.object ms) (object ps) w h s = members_unmeant ms ps w h s
   unmeant_by serde.null (object ps) w h s = h

@@ -1,4 +1,4 @@
--- What a number is in `serde_json`.
+-- Numbers of `serde_json`.
 use Rattle.std.proofs.Common.{◌≡◌, ◌<◌, ◌^◌, ◌∙◌, ℕ, Some, None, refl, sym, ap, subst, arith}
 use Rattle.std.specs.Prelude.{ℤ, pos, negsuc, FitsSigned}
 use Rattle.std.specs.declared.cmp.Ordering.TheVariants.{Equal}

@@ -16,7 +16,7 @@ use Rattle.ijson_number.proofs.storing.IntegerWords.{word_num, word_integer, sig
 use Rattle.ijson_value.specs.Tree.{number}
 use Rattle.ijson_convert.specs.IntegerTree.{integer_number, integer_tree}
 
--- two numbers without the point that have one value
+-- two numbers without a fraction point that have the same value
 same_integer : (a b : Num) (z : ℤ) → IsInteger a.decimal z → IsInteger b.decimal z → a.decimal ≡ b.decimal
 same_integer a b z h k =
     let p : number_cmp a.decimal (integer z) ≡ Equal = tests_equal _ h.value in
@@ -49,7 +49,7 @@ module _ (z : ℤ) (small : nat_abs z < 2 ^ 64) (fits : fits_i64 z ≡ false →
   integer_is n h =
       ap number (same_integer n (record { decimal = integer_number z; is_num = integer_num }) z h integer_has)
 
--- a number made from an integer of at most 64 bits
+-- a number created from an integer of at most 64 bits
 pub signed_is : (n : Num) (z : ℤ) → FitsSigned w64 z → IsInteger n.decimal z → number n.decimal ≡ integer_tree z
 signed_is n z h = integer_is z (signed_small z h) (λ e. let t = signed_fits z h in cc) n
 

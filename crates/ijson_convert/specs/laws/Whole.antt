@@ -1,4 +1,4 @@
--- Numbers and the integers that they are.
+-- Numbers and their integers.
 use Rattle.std.proofs.Common.{◌≡◌, ◌<◌, ◌≤◌, ◌^◌, ℕ, ap, sym, ◌∙◌, arith}
 use mir.Val.{hbits}
 use Rattle.std.specs.Prelude.{ℤ, pos, FitsSigned}
@@ -17,7 +17,7 @@ use Rattle.ijson_convert.specs.Refused.{SignedRefused, UnsignedRefused}
 use Rattle.ijson_convert.specs.declared.convert_error.ConvertError.{ConvertError}
 use Rattle.ijson_convert.specs.laws.Integers.{signed_has, unsigned_has}
 
--- a number that is equal to one of this value has it
+-- a number that equals one of this value has it
 pub has_too : (a n : Decimal) (z : ℤ) → HasValue a z → number_cmp a n ≡ Equal → HasValue n z
 has_too a n z h s = ap is_eq (sym (number_cmp_total.congr a n (integer z) s) ∙ tests_equal _ h)
 

@@ -1,4 +1,4 @@
--- Why a value that is no integer of a type is refused.
+-- Why a value that is no integer of a type is rejected.
 use Rattle.std.specs.Prelude.{◌≡◌}
 use Rattle.ijson_value.specs.Tree.{Tree, number}
 use Rattle.ijson_convert.specs.declared.convert_error.ConvertError.{ConvertError}

@@ -1,4 +1,4 @@
--- What is known of a device's bytes after several moves.
+-- The known bytes of a device after several transfers.
 use Rattle.std.proofs.lemmas.List.{take_rest}
 use Rattle.std.proofs.Common.{subst, arith, take, drop, length, ◌+◌, ◌<◌}
 use Rattle.std.proofs.Common.{◌≢◌, take-append-drop, length-drop, take-add, ◌-◌, ◌≡◌, ◌∙◌, ap, sym, refl, ℕ, List, [], ◌++◌, Some, None}
@@ -8,25 +8,25 @@ use Rattle.std.specs.Io.KnownBytes.{Appends, Consumes, Keeps}
 use Rattle.std.proofs.KnownBytes.{Appends-kept, Appends-trans, Consumes-trans}
 use Rattle.ijson_json.specs.WritesBeginning.{WritesBeginning}
 
--- a piece behind the first i bytes, which a later write to the list kept
+-- a piece after the first i bytes, which a later write to the list kept
 pub consumes_piece : (a b c : Option (List ℕ)) (i n : ℕ) (xs ys : List ℕ) → Consumes a b (take i xs) → take i ys ≡ take i xs
     → Consumes b c (take n (drop i ys)) → Consumes a c (take (i + n) ys)
 consumes_piece a b c i n xs ys p kept q =
     subst (Consumes a c) (ap (λ front. front ++ take n (drop i ys)) (sym kept) ∙ sym (take-add i n ys)) (Consumes-trans a b c _ _ p q)
 
--- n bytes of `&xs[i..]`, behind the first i
+-- n bytes of `&xs[i..]`, after the first i
 pub appends_rest : (a b c : Option (List ℕ)) (i n : ℕ) (xs : List ℕ) → Appends a b (take i xs)
     → Appends b c (take n (take (length xs - i) (drop i xs))) → Appends a c (take (i + n) xs)
 appends_rest a b c i n xs p q =
     subst (Appends a c) (ap (λ l. take i xs ++ take n l) (take_rest xs i) ∙ sym (take-add i n xs)) (Appends-trans a b c _ _ p q)
 
--- a list that goes on behind a place has some items left
+-- a list longer than i has elements after the first i
 some_left : (i : ℕ) (xs : List ℕ) → i < length xs → drop i xs ≢ []
 some_left i xs below none =
     let empty : length (drop i xs) ≡ 0 = ap length none in
     omega (arith, below, sym (length-drop i xs) ∙ empty)
 
--- a beginning was taken, and not all, where a fault came after it
+-- a beginning was written, but not all, if a fault followed it
 pub begun : (a b c : Option (List ℕ)) (i : ℕ) (xs : List ℕ) → i < length xs → Appends a b (take i xs) → Keeps b c → WritesBeginning a c xs
 begun a b c i xs below p same = record {
   front = take i xs;
@@ -36,7 +36,7 @@ begun a b c i xs below p same = record {
   taken = Appends-kept a b c _ p same;
 }
 
--- some bytes are those that are known
+-- some bytes equal the known ones
 pub known_or_none : (a : Option (List ℕ)) → (bytes : List ℕ) × IfSome a (λ xs. xs ≡ bytes)
 known_or_none None = ([], tt)
 known_or_none (Some xs) = (xs, refl)

@@ -1,4 +1,4 @@
--- Texts of elements with commas between them, as the items of an array and the members of an object are.
+-- Texts of elements separated by commas: the elements of an array and the members of an object.
 use Rattle.std.proofs.Common.{◌≡◌, ℕ, false, List, [], ◌∷◌, ◌++◌, eqb, refl, sym, ap, subst, ◌∙◌, append_assoc, arith, eq-eqb}
 use Rattle.std.specs.Prelude.{IsTrue, ◌==◌}
 use Rattle.std.proofs.lemmas.Bool.Decides.{nat_tests}
@@ -8,13 +8,13 @@ use Rattle.ijson_json.specs.Grammar.{is_space, IsSpace, Spaced, Split}
 use Rattle.ijson_json.specs.private.Reading.{Past, Stops, Ends}
 use Rattle.ijson_json.proofs.scanning.Prefixes.{run_same, not_both, tails, heads_apart}
 
--- elements with commas between them, and white space round each
+-- elements separated by commas, with white space around each
 abbrev pub IsList : {E : Type 0} → (E → List ℕ → Type 0) → List E → List ℕ → Type 0
 IsList P [] text = IsSpace text
 IsList P (e ∷ []) text = Spaced (λ inside. P e inside) text
 IsList P (e ∷ f ∷ es) text = Split (λ first. Spaced (λ inside. P e inside) first) 44 (λ others. IsList P (f ∷ es) others) text
 
--- what an element is, the value that it ends with, and the bracket behind the last
+-- the predicate of an element, the value it ends with, and the bracket after the last
 pub record Shape (E : Type 0) : Type 1 where
   pub Is : E → List ℕ → Type 0
   pub inner : E → Tree
@@ -25,16 +25,16 @@ pub record Shape (E : Type 0) : Type 1 where
   pub past_space : (e : E) (text x : List ℕ) → Is e text → Past is_space (text ++ x)
   pub past_closing : (e : E) (text x : List ℕ) → Is e text → Past (λ b. b == closing) (text ++ x)
 
--- white space is no byte of a number
+-- white space is not a byte of a number
 space_stops : (b : ℕ) → IsTrue (is_space b) → is_number_byte b ≡ false
 space_stops b h = grind (arith, nat_tests)
 
--- no number goes on over white space
+-- no number continues across white space
 pub space-Stops : (s x : List ℕ) → IsSpace s → Stops x → Stops (s ++ x)
 space-Stops [] x h p = p
 space-Stops (b ∷ s) x h p = space_stops b h.0
 
--- where no byte of a number stands, any value may end
+-- any value may end before a byte that is not of a number
 pub Ends-any : (t : Tree) (x : List ℕ) → Stops x → Ends t x
 Ends-any null x h = tt
 Ends-any (boolean b) x h = tt
@@ -43,17 +43,17 @@ Ends-any (string s) x h = tt
 Ends-any (array is) x h = tt
 Ends-any (object ms) x h = tt
 
--- white space round a value, and what follows both
+-- white space around a value, and the text after both
 pub regroup : (before value after text : List ℕ) → (before ++ (value ++ after)) ++ text ≡ before ++ (value ++ (after ++ text))
 regroup before value after text = simp append_assoc
 
 module _ (E : Type 0) (S : Shape E) where
-  -- what follows an element: the bracket and then x, or `,` and the others and the bracket and then x
+  -- the text after an element: the bracket and then x, or `,` and the other elements, the bracket and then x
   abbrev pub Left : List E → List ℕ → List ℕ → Type 0
   Left [] tail x = tail ≡ S.closing ∷ x
   Left (f ∷ more) tail x = (others : List ℕ) × IsList S.Is (f ∷ more) others × (tail ≡ 44 ∷ (others ++ S.closing ∷ x))
 
-  -- the text begins with the elements and the bracket, without white space in front
+  -- the text begins with the elements and the bracket, without leading white space
   pub record At (e : E) (more : List E) (cur x : List ℕ) : Type 0 where
     pub value : List ℕ
     pub after : List ℕ
@@ -63,7 +63,7 @@ module _ (E : Type 0) (S : Shape E) where
     pub left : Left more tail x
     pub is : cur ≡ value ++ (after ++ tail)
 
-  -- behind its white space a list begins with its first element
+  -- after its white space, a list begins with its first element
   at_first : (e : E) (more : List E) (text x : List ℕ) → IsList S.Is (e ∷ more) text
       → (before cur : List ℕ) × IsSpace before × At e more cur x × (text ++ S.closing ∷ x ≡ before ++ cur)
   at_first e [] text x (before, value, after, s, v, sa, t) = (
@@ -82,17 +82,17 @@ module _ (E : Type 0) (S : Shape E) where
         rw (u, t) (simp append_assoc),
       )
 
-  -- what follows an element is no byte of a number
+  -- the text after an element begins with no byte of a number
   pub left-Stops : (more : List E) (tail x : List ℕ) → Left more tail x → Stops tail
   left-Stops [] tail x e = rw e (S.closing-number)
   left-Stops (f ∷ more) tail x (others, o, e) = rw e refl
 
-  -- nor is it white space
+  -- nor with white space
   pub left-past_space : (more : List E) (tail x : List ℕ) → Left more tail x → Past is_space tail
   left-past_space [] tail x e = rw e (S.closing-space)
   left-past_space (f ∷ more) tail x (others, o, e) = rw e refl
 
-  -- nor is what follows the value itself
+  -- nor does the text after the value itself begin with a byte of a number
   pub at-Stops : (e : E) (more : List E) (cur x : List ℕ) (a : At e more cur x) → Stops (a.after ++ a.tail)
   at-Stops e more cur x a = space-Stops a.after a.tail a.space_after (left-Stops more a.tail x a.left)
 
@@ -100,7 +100,7 @@ module _ (E : Type 0) (S : Shape E) where
   pub at-past_space : (e : E) (more : List E) (cur x : List ℕ) (a : At e more cur x) → Past is_space cur
   at-past_space e more cur x a = rw (a.is) (S.past_space e a.value (a.after ++ a.tail) a.holds)
 
-  -- behind the white space the first element begins
+  -- the first element begins after the white space
   pub at_elements : (e : E) (more : List E) (s cur inside x : List ℕ) → IsSpace s → Past is_space cur → IsList S.Is (e ∷ more) inside
       → s ++ cur ≡ inside ++ S.closing ∷ x → At e more cur x
   at_elements e more s cur inside x h p v g =
@@ -113,11 +113,11 @@ module _ (E : Type 0) (S : Shape E) where
   ElementSame e f = (a b x y : List ℕ) → S.Is e a → S.Is f b → Ends (S.inner e) x → Ends (S.inner f) y → a ++ x ≡ b ++ y
       → (e ≡ f) × ((a ≡ b) × (x ≡ y))
 
-  -- one rest gives equal elements and one text after it
+  -- equal rests give equal elements and the same text after them
   abbrev pub LeftSame : List E → List E → Type 0 → Type 0
   LeftSame more others R = (c d x y : List ℕ) → Left more c x → Left others d y → c ≡ d → R × (x ≡ y)
 
-  -- two lists that begin alike have the same first element, and the same others
+  -- two lists at the start of one text have the same first element, and the same others
   at_same : (e f : E) (more others : List E) (R : Type 0) → ElementSame e f → LeftSame more others R → (c d x y : List ℕ) → At e more c x
       → At f others d y → c ≡ d → (e ≡ f) × (R × (x ≡ y))
   at_same e f more others R values lefts c d x y a b g =
@@ -140,7 +140,7 @@ module _ (E : Type 0) (S : Shape E) where
       ∙ b.4) in
       at_same e f more others R values lefts a.1 b.1 x y a.3 b.3 p.1
 
-  -- and so have two lists behind a comma
+  -- and so have two lists after a comma
   pub left_step : (e f : E) (more others : List E) (R : Type 0) → ElementSame e f → LeftSame more others R → (c d x y : List ℕ)
       → Left (e ∷ more) c x → Left (f ∷ others) d y → c ≡ d → (e ≡ f) × (R × (x ≡ y))
   left_step e f more others R values lefts c d x y (i, v, l) (j, w, m) g =
@@ -150,7 +150,7 @@ module _ (E : Type 0) (S : Shape E) where
   pub no_left : (e : E) (more : List E) (c d x y : List ℕ) → Left (e ∷ more) c x → Left [] d y → c ≡ d → ⊥
   no_left e more c d x y (i, v, l) m g = heads_apart S.closing 44 _ _ (sym m ∙ sym g ∙ l) S.closing-comma
 
-  -- no element begins where there is none
+  -- an empty list is not one with a first element
   pub none_some : (f : E) (others : List E) (i j x y : List ℕ) → IsSpace i → IsList S.Is (f ∷ others) j
       → i ++ S.closing ∷ x ≡ j ++ S.closing ∷ y → ⊥
   none_some f others i j x y s w g =
@@ -161,6 +161,6 @@ module _ (E : Type 0) (S : Shape E) where
       let r : Past (λ c. c == S.closing) (S.closing ∷ x) = rw (← b.3.is, ← p.1) at q in
       not_both (S.closing == S.closing) (eq-eqb S.closing S.closing refl) r
 
-  -- two empty lists end at one place
+  -- two empty lists end at the same byte
   pub both_none : (i j x y : List ℕ) → IsSpace i → IsSpace j → i ++ S.closing ∷ x ≡ j ++ S.closing ∷ y → x ≡ y
   both_none i j x y s w g = tails _ _ _ _ (run_same is_space i j (S.closing ∷ x) (S.closing ∷ y) s w S.closing-space S.closing-space g).1

@@ -1,4 +1,4 @@
--- The first byte of a value tells its kind, by the order of kinds.
+-- The first byte of a value determines its kind, numbered by the order of kinds.
 use Rattle.std.proofs.Common.{◌≡◌, ℕ, ◌≤◌, Bool, true, false, cond, List, ◌∷◌, ◌++◌, eqb, refl, sym, ap, ◌∙◌, arith}
 use Rattle.std.specs.Prelude.{IsTrue, ◌||◌, ◌==◌}
 use Rattle.std.proofs.lemmas.Bool.{eqb-true}
@@ -11,7 +11,7 @@ use Rattle.ijson_json.specs.private.Reading.{Past}
 use Rattle.ijson_number.proofs.parsing.SpelledBytes.{spells_first}
 use Rattle.ijson_json.proofs.scanning.Prefixes.{heads}
 
--- the rank of the values that begin with the byte, and 6 where none does
+-- the rank of the values that begin with the byte, or 6 if none do
 abbrev pub kind : ℕ → ℕ
 kind b = cond (b == 110) 0 (cond (b == 116) 1 (cond (b == 102) 1
     (cond (b == 91) 4 (cond (b == 34) 3 (cond (b == 123) 5 (cond (is_digit b || (b == 45)) 2 6))))))
@@ -38,17 +38,17 @@ value_first (string s) text (inside, v, e) = (34, _, refl, e)
 value_first (array is) text (inside, v, e) = (91, _, refl, e)
 value_first (object ms) text (inside, v, e) = (123, _, refl, e)
 
--- a byte that begins a value is no white space
+-- a byte that begins a value is not white space
 not_space : (b k : ℕ) → kind b ≡ k → k ≤ 5 → is_space b ≡ false
 not_space b k e h = elim (is_space b) as (λ s. is_space b ≡ s → s ≡ false)
     [ true ↦ λ t. absurd (omega (arith, space_kind b t)) | false ↦ λ t. refl ] refl
 
--- a byte that begins a value is none that begins no value
+-- a byte that begins a value differs from one that begins none
 not_kind : (b c k : ℕ) → kind b ≡ k → k ≤ 5 → kind c ≡ 6 → eqb b c ≡ false
 not_kind b c k e h f = elim (eqb b c) as (λ s. eqb b c ≡ s → s ≡ false)
     [ true ↦ λ t. absurd (let g : kind b ≡ kind c = ap kind (eqb-true b c t) in omega (arith, g, e, f)) | false ↦ λ t. refl ] refl
 
--- each tree has one of the kinds that begin a value
+-- the rank of each tree is that of a kind that begins a value
 pub rank-le : (t : Tree) → rank t ≤ 5
 rank-le null = omega arith
 rank-le (boolean b) = omega arith

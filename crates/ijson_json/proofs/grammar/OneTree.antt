@@ -19,7 +19,7 @@ use Rattle.ijson_json.proofs.grammar.ElementShapes.{items_shape, members_shape, 
 
 -- ---- between two bytes
 
--- a text between two bytes, with a rest behind it
+-- a text between two bytes, and the text after them
 pub enclosed_with : (opening closing : ℕ) (a i x : List ℕ) → a ≡ opening ∷ (i ++ closing ∷ []) → a ++ x ≡ opening ∷ (i ++ closing ∷ x)
 enclosed_with opening closing a i x f = rw f (simp append_assoc)
 
@@ -29,11 +29,11 @@ pub enclosed : (opening closing : ℕ) (a b i j x y : List ℕ) → a ≡ openin
 enclosed opening closing a b i j x y f g e =
     tails opening opening _ _ (sym (enclosed_with opening closing a i x f) ∙ e ∙ enclosed_with opening closing b j y g)
 
--- two fronts with one rest are one
+-- two prefixes with the same rest are the same
 same_front : (a b x y : List ℕ) → a ++ x ≡ b ++ y → x ≡ y → a ≡ b
 same_front a b x y e f = append_cancel_right a b y (ap (λ (l : List ℕ). a ++ l) (sym f) ∙ e)
 
--- a text begins with one string at most
+-- a text begins with at most one string
 pub string_same : (s t a b x y : List ℕ) → IsString s a → IsString t b → a ++ x ≡ b ++ y → (s ≡ t) × ((a ≡ b) × (x ≡ y))
 string_same s t a b x y (i, v, f) (j, w, g) e =
     let same = body_same x y v w (enclosed 34 34 a b i j x y f g e) in
@@ -63,7 +63,7 @@ pair_same k t l u values a b x y p q m n e =
     let v = values p.value q.value x y p.is_value q.is_value m n h.1 in
     (ap₂ (λ (k : List ℕ) (t : Tree). (k, t)) r.0 v.0, (same_front a b x y e v.1.1, v.1.1))
 
--- the same items, up to `]`
+-- the same elements, up to `]`
 abbrev pub ItemsSame : Items → Items → Type 0
 ItemsSame is js = (i j x y : List ℕ) → IsItems is i → IsItems js j → i ++ 93 ∷ x ≡ j ++ 93 ∷ y → (is ≡ js) × (x ≡ y)
 
@@ -111,7 +111,7 @@ mutual
       (ap object same.0, (same_front a b x y e same.1, same.1))
   value_same t u a b x y v w p q e = let k : rank t ≡ rank u = kinds_same t u a b x y v w e in absurd (omega (arith, k))
 
-  -- two lists of items in one text are the same
+  -- two lists of elements in one text are the same
   pub items_same : (is js : Items) → ItemsSame is js
   items_same no_items no_items i j x y v w e = (refl, both_none Tree items_shape i j x y v w e)
   items_same no_items (item u others) i j x y v w e =
@@ -123,7 +123,7 @@ mutual
       (items_left more others) i j x y (items_to (item t more) i v) (items_to (item u others) j w) e in
       (ap₂ item same.0 same.1.0, same.1.1)
 
-  -- and so are those that follow an item
+  -- and so are those after an element
   items_left : (more others : Items) → LeftSame Tree items_shape (items_list more) (items_list others) (more ≡ others)
   items_left no_items no_items c d x y l m e = (refl, tails 93 93 x y (sym l ∙ e ∙ m))
   items_left no_items (item u others) c d x y l m e = absurd (no_left Tree items_shape u (items_list others) d c y x m l (sym e))
@@ -146,7 +146,7 @@ mutual
       (members_to (member l u others) j w) e in
       (member_same k l t u more others same.0 same.1.0, same.1.1)
 
-  -- and so are those that follow a member
+  -- and so are those after a member
   members_left : (more others : Members) → LeftSame (List ℕ × Tree) members_shape (members_list more) (members_list others) (more ≡ others)
   members_left no_members no_members c d x y l m e = (refl, tails 125 125 x y (sym l ∙ e ∙ m))
   members_left no_members (member k u others) c d x y l m e =
@@ -160,7 +160,7 @@ mutual
 
 -- ---- a whole text
 
--- one text spells one tree as written
+-- one text spells one tree, as written
 pub text_same : (text : List ℕ) (t u : Tree) → Spaced (λ value. IsValue t value) text → Spaced (λ value. IsValue u value) text → t ≡ u
 text_same text t u (b, v, a, s, w, sa, e) (b', v', a', s', w', sa', e') =
     let p = run_same is_space b b' (v ++ a) (v' ++ a') s s' (value-past_space t v a w) (value-past_space u v' a' w') (sym e ∙ e') in

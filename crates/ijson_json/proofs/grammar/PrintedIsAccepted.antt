@@ -1,4 +1,4 @@
--- What is printed of a well-formed tree within the limit on depth is accepted, as that tree.
+-- The printed text of a well-formed tree within the limit on depth is accepted, as that tree.
 use Rattle.std.proofs.Common.{◌≡◌, true, refl, sym, ap₂, subst}
 use Rattle.std.specs.Prelude.{◌&&◌}
 use Rattle.ijson_number.specs.Text.{num_text}
@@ -28,7 +28,7 @@ mutual
   ranged (array is) h = ranged_items is h
   ranged (object ms) h = ranged_members ms h.1
 
-  -- and so are those of items
+  -- and so are those of elements
   ranged_items : (is : Items) → AreWellFormed is → items_ranged is ≡ true
   ranged_items no_items h = refl
   ranged_items (item t more) h = ap₂ ◌&&◌ (ranged t h.0) (ranged_items more h.1)
@@ -38,7 +38,7 @@ mutual
   ranged_members no_members h = refl
   ranged_members (member k t more) h = ap₂ ◌&&◌ (ranged t h.0) (ranged_members more h.1)
 
--- what is printed of a well-formed tree within the limit on depth is accepted
+-- the printed text of a well-formed tree within the limit on depth is accepted
 pub printed_is_accepted : PrintedIsAccepted
 printed_is_accepted t h d = (
   depth t,

@@ -1,4 +1,4 @@
--- A tree whose objects have no key twice is what it settles to.
+-- A tree whose objects have distinct keys settles to itself.
 use Rattle.std.proofs.Common.{◌≡◌, ℕ, List, [], ◌∷◌, refl, sym, ap, ap₂, subst, ◌∙◌}
 use Rattle.ijson_table.specs.Store.{put_each, keys_of, IsDistinct}
 use Rattle.ijson_table.proofs.pairs.PutEach.{put_each-new}
@@ -13,7 +13,7 @@ keys-settled no_members = refl
 keys-settled (member k t more) = ap (λ (l : List (List ℕ)). k ∷ l) (keys-settled more)
 
 mutual
-  -- a well-formed tree is what it settles to
+  -- a well-formed tree settles to itself
   pub settles : (t : Tree) → IsWellFormed t → settled t ≡ t
   settles null h = refl
   settles (boolean b) h = refl
@@ -25,7 +25,7 @@ mutual
       put_each-new [] (settled_pairs ms) (subst IsDistinct (sym (keys-settled ms)) h.0) in
       ap object (ap members_of alone ∙ settles_members ms h.1)
 
-  -- and so are its items
+  -- and so do its elements
   settles_items : (is : Items) → AreWellFormed is → settled_items is ≡ is
   settles_items no_items h = refl
   settles_items (item t more) h = ap₂ item (settles t h.0) (settles_items more h.1)

@@ -1,4 +1,4 @@
--- The text of a tree spells it, but for the shapes of its numbers.
+-- The text of a tree spells it, except for the shapes of its numbers.
 use Rattle.std.proofs.Common.{◌≡◌, ℕ, List, [], ◌∷◌, ◌++◌, refl, sym, ap, ap₂}
 use Rattle.std.proofs.lemmas.List.{append-nil}
 use Rattle.ijson_number.specs.Decimal.{Decimal}
@@ -9,7 +9,7 @@ use Rattle.ijson_json.specs.Grammar.{Spaced, IsString, IsValue, IsItems, IsMembe
 use Rattle.ijson_json.specs.Print.{text_by, items_by, members_by, quoted, all_escaped}
 use Rattle.ijson_json.proofs.grammar.StringBodies.{all_escaped_is}
 
--- no white space is white space
+-- empty white space is white space
 pub spaced : (P : List ℕ → Type 0) (text : List ℕ) → P text → Spaced P text
 spaced P text p = ([], text, [], tt, p, tt, sym (append-nil text))
 
@@ -17,7 +17,7 @@ spaced P text p = ([], text, [], tt, p, tt, sym (append-nil text))
 pub quoted_is : (s : List ℕ) → IsString s (quoted s)
 quoted_is s = (all_escaped s, all_escaped_is s, refl)
 
--- a tree with each number in the shape that is given to it
+-- a tree whose numbers are replaced by a function
 abbrev mutual
   pub reshaped : (Decimal → Decimal) → Tree → Tree
   reshaped shape null = null
@@ -35,7 +35,7 @@ abbrev mutual
   reshaped_members shape no_members = no_members
   reshaped_members shape (member k t more) = member k (reshaped shape t) (reshaped_members shape more)
 
--- where each number keeps its shape, so does the tree
+-- replacing each number by itself keeps the tree
 mutual
   pub kept_shapes : (t : Tree) → reshaped (λ n. n) t ≡ t
   kept_shapes null = refl
@@ -53,7 +53,7 @@ mutual
   kept_member_shapes no_members = refl
   kept_member_shapes (member k t more) = ap₂ (member k) (kept_shapes t) (kept_member_shapes more)
 
--- where the text of each number spells it in its shape, that of a tree does
+-- if the text of each number spells the number in its shape, the text of a tree does
 module _ (num : Decimal → List ℕ) (shape : Decimal → Decimal)
     (number_spelled : (n : Decimal) → IsNum n → IsValue (number (shape n)) (num n)) where
   as_spaced : (t : Tree) → IsValue (reshaped shape t) (text_by num t) → Spaced (λ value. IsValue (reshaped shape t) value) (text_by num t)

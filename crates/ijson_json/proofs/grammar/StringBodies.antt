@@ -1,4 +1,4 @@
--- The body of a string: a text spells one, and what is printed spells what was printed.
+-- The body of a string: a text spells at most one, and the printed string spells the original.
 use Rattle.std.proofs.Common.{◌≡◌, ℕ, ◌+◌, ◌-◌, ◌*◌, ◌/◌, ◌%◌, ◌<◌, Bool, true, false, cond, List, [], ◌∷◌, ◌++◌, Option, Some, None}
 use Rattle.std.proofs.Common.{refl, sym, ap, ap₂, subst, ◌∙◌, append_assoc, arith}
 use Rattle.std.specs.Prelude.{IsTrue, ◌==◌, nat_lt}
@@ -18,11 +18,11 @@ use Rattle.ijson_json.proofs.scanning.Prefixes.{not_both, heads, tails, heads_ap
 pub some_same : (o : Option ℕ) (x y : ℕ) → o ≡ Some x → o ≡ Some y → x ≡ y
 some_same o x y e f = let same : Some x ≡ Some y = sym e ∙ f in cc
 
--- equal bytes are one hexadecimal digit
+-- equal bytes are the same hexadecimal digit
 digit_same : (a b x y : ℕ) → a ≡ b → hex_digit a ≡ Some x → hex_digit b ≡ Some y → x ≡ y
 digit_same a b x y e f g = some_same (hex_digit b) x y (rw e at f) g
 
--- four digits at the front of a text are one number, and leave one rest
+-- four leading digits have one value, and leave one rest
 pub hex_same : (h l : List ℕ) (u v : ℕ) (x y : List ℕ) → Hex h u → Hex l v → h ++ x ≡ l ++ y → (u ≡ v) × ((h ≡ l) × (x ≡ y))
 hex_same h l u v x y p q e =
     let whole : p.a ∷ p.b ∷ p.c ∷ p.d ∷ x ≡ q.a ∷ q.b ∷ q.c ∷ q.d ∷ y = ap (λ (t : List ℕ). t ++ x) (sym p.text_is) ∙ e
@@ -42,7 +42,7 @@ hex_same h l u v x y p q e =
     let texts : h ≡ l = p.text_is ∙ (rw (ea, eb, ec, ed) refl) ∙ sym q.text_is in
     (same, (texts, tails _ _ _ _ w3))
 
--- a byte that stands for itself is no backslash
+-- an unescaped byte is not a backslash
 not_backslash : (b : ℕ) (x y : List ℕ) → IsTrue (is_unescaped b) → b ∷ x ≡ 92 ∷ y → ⊥
 not_backslash b x y h e = let f : b ≡ 92 = heads _ _ _ _ e in not_both (is_unescaped 92) (rw f at h) refl
 
@@ -54,15 +54,15 @@ not_u b c x y h e =
     let g : None ≡ Some c = rw f at h in
     cc
 
--- what a character is in a text
+-- the same spelling, the same bytes, and the same rest
 abbrev pub Same : (w m x w' m' x' : List ℕ) → Type 0
 Same w m x w' m' x' = (w ≡ w') × ((m ≡ m') × (x ≡ x'))
 
--- equal texts are equal behind two bytes
+-- equal texts are equal after two bytes
 two : (x y : List ℕ) (a b c d : ℕ) → a ∷ b ∷ x ≡ c ∷ d ∷ y → x ≡ y
 two x y a b c d e = tails _ _ _ _ (tails _ _ _ _ e)
 
--- a text begins with one character at most
+-- a text begins with at most one character
 pub character_same : {w m w' m' : List ℕ} (x x' : List ℕ) → Character w m → Character w' m' → w ++ x ≡ w' ++ x' → Same w m x w' m' x'
 character_same x x' (unescaped {b} h) (unescaped {b = b'} h') e = let f : b ≡ b' = heads _ _ _ _ e in
     let g : b ∷ [] ≡ b' ∷ [] = ap (λ (c : ℕ). c ∷ []) f in (g, (g, tails _ _ _ _ e))
@@ -105,7 +105,7 @@ not_quote x y (pair g i j k) e = heads_apart 92 34 _ _ e refl
 
 -- ---- the body
 
--- the body of a string before its closing quote is one
+-- the body of a string before its closing quote is unique
 pub body_same : {a s b t : List ℕ} (x y : List ℕ) → StringBody a s → StringBody b t → a ++ 34 ∷ x ≡ b ++ 34 ∷ y → (s ≡ t) × (x ≡ y)
 body_same x y empty empty e = (refl, tails _ _ _ _ e)
 body_same x y empty (one_more {written = w} {meant = m} {body = a} {text = s} c r) e =
@@ -118,7 +118,7 @@ body_same x y (one_more {written = w} {meant = m} {body = a} {text = s} c r)
     let g = body_same x y r r' f.1.1 in
     (ap₂ ◌++◌ f.1.0 g.0, g.1)
 
--- ---- what is printed
+-- ---- printing
 
 -- a written hexadecimal digit is read as that digit
 hex_text_digit : (n : ℕ) → n < 16 → hex_digit (hex_text n) ≡ Some n
@@ -149,7 +149,7 @@ hex_control b h = record {
   is = omega arith;
 }
 
--- the escape of a control character stands for it
+-- the escape of a control character spells it
 control : (b : ℕ) → nat_lt b 32 ≡ true → Character (92 ∷ 117 ∷ 48 ∷ 48 ∷ hex_text (b / 16) ∷ hex_text (b % 16) ∷ []) (b ∷ [])
 control b e =
     let h : b < 32 = ltb-true b 32 e in
@@ -157,17 +157,17 @@ control b e =
     unicode (hex_control b h) (low_no_surrogate b h).0 (low_no_surrogate b h).1 in
     subst (λ (m : List ℕ). Character (92 ∷ 117 ∷ 48 ∷ 48 ∷ hex_text (b / 16) ∷ hex_text (b % 16) ∷ []) m) (encode_ascii b (omega arith)) c
 
--- what stands for a byte in each of two cases stands for it
+-- a spelling in each of two cases is a spelling of their choice
 either : (t : Bool) (x y : List ℕ) (b : ℕ) → (t ≡ true → Character x (b ∷ [])) → (t ≡ false → Character y (b ∷ []))
     → Character (cond t x y) (b ∷ [])
 either true x y b f g = f refl
 either false x y b f g = g refl
 
--- a backslash and a letter stand for the byte that has that letter
+-- a backslash and a letter spell the byte that has that letter
 letter : (b c : ℕ) (d : ℕ) → short_escape d ≡ Some c → (b == c) ≡ true → Character (92 ∷ d ∷ []) (b ∷ [])
 letter b c d e h = let f : b ≡ c = eqb-true b c h in subst (λ (x : ℕ). Character (92 ∷ d ∷ []) (x ∷ [])) (sym f) (short e)
 
--- what is written of a byte stands for it
+-- the escape of a byte spells it
 pub escaped_is : (b : ℕ) → Character (escaped b) (b ∷ [])
 unfolding escaped short_escape
 escaped_is b =
@@ -183,7 +183,7 @@ escaped_is b =
     plain : (b : ℕ) → (b == 34) ≡ false → (b == 92) ≡ false → nat_lt b 32 ≡ false → IsTrue (is_unescaped b)
     plain b n34 n92 n32 = grind (arith, nat_tests)
 
--- what is written of a text is a body that stands for it
+-- the escaped text is a body that spells the text
 pub all_escaped_is : (s : List ℕ) → StringBody (all_escaped s) s
 all_escaped_is [] = empty
 all_escaped_is (b ∷ s) = one_more (escaped_is b) (all_escaped_is s)

@@ -1,4 +1,4 @@
--- Worked rows of the definitions: a text that is accepted, a key that comes again, and what is printed.
+-- Examples of the definitions: an accepted text, a duplicate key, and printed text.
 use Rattle.std.proofs.Common.{◌≡◌, ℕ, true, false, [], ◌∷◌, refl, inl, inr, arith}
 use Rattle.std.specs.Prelude.{pos, negsuc, codes}
 use Rattle.ijson_number.specs.Decimal.{Decimal}
@@ -8,11 +8,11 @@ use Rattle.ijson_json.specs.Settled.{settled}
 use Rattle.ijson_json.specs.Grammar.{Accepted}
 use Rattle.ijson_json.specs.Print.{print, escaped}
 
--- a number without a point
+-- a number without a fraction point
 abbrev whole : ℕ → Tree
 whole n = number (record { mantissa = pos n; exponent = pos 0; point = false })
 
--- 1.5, with a point
+-- 1.5, with a fraction point
 abbrev one_and_a_half : Decimal
 one_and_a_half = record { mantissa = pos 15; exponent = negsuc 0; point = true }
 
@@ -84,11 +84,11 @@ accepted-nested = (
   },
 )
 
--- and printed without white space and closing zero
+-- and printed without white space and the trailing zero
 printed-nested : print nested ≡ codes "[1.5,[true],null]"
 printed-nested = refl
 
--- the first `a` keeps its place, and the last one's value stands there
+-- the first `a` keeps its index, with the value of the last
 settled-again : settled (object (member (codes "a") (whole 1) (member (codes "b") (whole 2) (member (codes "a") (whole 3) no_members))))
     ≡ object (member (codes "a") (whole 3) (member (codes "b") (whole 2) no_members))
 settled-again = refl

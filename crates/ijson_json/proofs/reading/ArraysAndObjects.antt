@@ -1,4 +1,4 @@
--- Arrays and objects, read element by element.
+-- Reading arrays and objects, element by element.
 use Rattle.std.proofs.Common.{◌≡◌, ℕ, suc, Bool, List, [], ◌∷◌, ◌++◌, refl, sym, ap, ap₂, subst, ◌∙◌, arith, inl, inr}
 use Rattle.std.specs.Prelude.{◌&&◌}
 use Rattle.ijson_table.specs.Store.{put, put_each}
@@ -21,7 +21,7 @@ use Rattle.ijson_json.proofs.reading.ElementLists.{deepest, all_ranged}
 
 -- ---- a value that begins with a bracket
 
--- the first byte tells the kind of a value
+-- the first byte determines the kind of a value
 pub kind_at : (t : Tree) (b : ℕ) (inside x : List ℕ) → Front (λ value. IsValue t value) (b ∷ inside) x → kind b ≡ rank t
 kind_at t b inside x f =
     let first = value_first t f.front f.holds in
@@ -46,7 +46,7 @@ object_at (object ms) inside x f =
     (members_list ms, i, ap object (sym (members_of-list ms)), members_to ms i are, behind)
 object_at t inside x f = absurd (let k : 5 ≡ rank t = kind_at t 123 inside x f in omega (arith, k))
 
--- items between brackets are an array
+-- elements between brackets are an array
 pub array_builds : (ts : List Tree) (inside : List ℕ) → IsList items_shape.Is ts inside
     → IsValue (array (items_of ts)) (91 ∷ (inside ++ 93 ∷ []))
 array_builds ts inside h = (
@@ -66,12 +66,12 @@ object_builds ms inside h = (
   refl,
 )
 
--- an array is one deeper than its items
+-- an array is one deeper than its elements
 pub array_depth : (ts : List Tree) → depth (array (items_of ts)) ≡ suc (deepest Tree items_shape ts)
 array_depth [] = refl
 array_depth (t ∷ ts) = omega (arith, array_depth ts)
 
--- an array is within the limit as its items are
+-- an array is within the limit if its elements are
 pub array_ranged : (ts : List Tree) → is_ranged (array (items_of ts)) ≡ all_ranged Tree items_shape ts
 array_ranged [] = refl
 array_ranged (t ∷ ts) = ap (λ (b : Bool). is_ranged t && b) (array_ranged ts)
@@ -81,12 +81,12 @@ pub object_depth : (ms : List (List ℕ × Tree)) → depth (object (members_of 
 object_depth [] = refl
 object_depth (m ∷ ms) = omega (arith, object_depth ms)
 
--- an object is within the limit as its members are
+-- an object is within the limit if its members are
 pub object_ranged : (ms : List (List ℕ × Tree)) → is_ranged (object (members_of ms)) ≡ all_ranged (List ℕ × Tree) members_shape ms
 object_ranged [] = refl
 object_ranged (m ∷ ms) = ap (λ (b : Bool). is_ranged m.1 && b) (object_ranged ms)
 
--- how items make an array
+-- how elements form an array
 abbrev pub arrays : Listing Tree items_shape
 arrays = record {
   opening = 91;
@@ -100,7 +100,7 @@ arrays = record {
   ends = λ ts x. tt;
 }
 
--- how members make an object
+-- how members form an object
 abbrev pub objects : Listing (List ℕ × Tree) members_shape
 objects = record {
   opening = 123;
@@ -114,9 +114,9 @@ objects = record {
   ends = λ ms x. tt;
 }
 
--- ---- what is settled
+-- ---- settling
 
--- one more item is settled beside those that were
+-- settling one more element appends it
 pub settled-push : (ts : List Tree) (t : Tree) (us : List Tree) → items_of us ≡ settled_items (items_of ts)
     → items_of (us ++ settled t ∷ []) ≡ settled_items (items_of (ts ++ t ∷ []))
 settled-push [] t [] e = refl
@@ -127,13 +127,13 @@ settled-push (t' ∷ ts) t (u ∷ us) e =
     let rest : items_of us ≡ settled_items (items_of ts) = cc in
     ap₂ item first (settled-push ts t us rest)
 
--- the last pair is put last
+-- the last entry is put last
 put_each-push : (ms : List (List ℕ × Tree)) (k : List ℕ) (t : Tree) (into : List (List ℕ × Tree))
     → put_each into (settled_pairs (members_of (ms ++ (k, t) ∷ []))) ≡ put (put_each into (settled_pairs (members_of ms))) k (settled t)
 put_each-push [] k t into = refl
 put_each-push (m ∷ ms) k t into = put_each-push ms k t (put into m.0 (settled m.1))
 
--- one more member is put behind those that were
+-- settling one more member puts it after those before
 pub settled-put : (ms : List (List ℕ × Tree)) (k : List ℕ) (t : Tree) (now : List (List ℕ × Tree))
     → now ≡ put_each [] (settled_pairs (members_of ms))
     → put now k (settled t) ≡ put_each [] (settled_pairs (members_of (ms ++ (k, t) ∷ [])))

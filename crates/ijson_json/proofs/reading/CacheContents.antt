@@ -1,4 +1,4 @@
--- The cache as a reading goes on.
+-- The cache while a text is read.
 use Rattle.std.proofs.Common.{◌≡◌, ℕ, ◌<◌, Bool, true, false, List, [], ◌∷◌, ◌++◌, length, refl, sym, ap, subst, ◌∙◌, append_assoc, inl}
 use Rattle.std.proofs.Common.{inr}
 use Rattle.std.specs.Prelude.{◌||◌, ltb, if◌then◌else◌}
@@ -30,7 +30,7 @@ spelled_behind : (text head rest s : List ℕ) → text ≡ head ++ rest → IsS
 spelled_behind text head rest s e (before, body, after, b, f) =
     (head ++ before, body, after, b, e ∙ ap (λ (l : List ℕ). head ++ l) f ∙ sym (append_assoc head before (body ++ after)))
 
--- more was read behind the head
+-- more was read after the head
 pub adds_more : (text head rest : List ℕ) (old middle new : Texts) → text ≡ head ++ rest → AddsOnlyRead text old middle
     → AddsOnlyRead rest middle new → AddsOnlyRead text old new
 adds_more text head rest old middle new e a b = record {
@@ -38,29 +38,29 @@ adds_more text head rest old middle new e a b = record {
   added = λ s h. elim (b.added s h) [ inl m ↦ a.added s m | inr p ↦ inr (p.0, spelled_behind text head rest s e p.1) ];
 }
 
--- nothing was read of the head
+-- nothing of the head was read into the cache
 pub adds_behind : (text head rest : List ℕ) (old new : Texts) → text ≡ head ++ rest → AddsOnlyRead rest old new → AddsOnlyRead text old new
 adds_behind text head rest old new e a = adds_more text head rest old old new e (adds_none text old) a
 
--- more was read behind a key
+-- more was read after a key
 pub adds_behind_key : {k text cur : List ℕ} {old middle new : Texts} → KeyRead k text cur → AddsOnlyRead text old middle
     → AddsOnlyRead cur middle new → AddsOnlyRead text old new
 adds_behind_key {k} {text} {cur} {old} {middle} {new} r a b =
     adds_more text (key_head k text cur r) cur old middle new (key_behind k text cur r) a b
 
--- ---- a string that is interned
+-- ---- interning a string
 
--- what a cache holds with one text more
+-- the contents of a cache with one more string
 contains_insert : (cache : Texts) (s q : List ℕ) → set.contains (set.insert cache.texts s) q ≡ (bytes_eq q s || set.contains cache.texts q)
 contains_insert cache s q = set.contains-insert nat_list_cmp_total cache.texts s q
     ∙ ap (λ (b : Bool). b || set.contains cache.texts q) (is_eq-slice_cmp q s)
 
--- interning adds a long text
+-- interning adds a long string
 interned_contains : (cache : Texts) (s q : List ℕ) → 7 < length s
     → set.contains (interned s cache).texts q ≡ (bytes_eq q s || set.contains cache.texts q)
 interned_contains cache s q long = ap (λ texts. set.contains texts q) (interned_long s cache long) ∙ contains_insert cache s q
 
--- interning a long text that the text spells adds only what is read
+-- interning a long string that the text spells adds only strings of the text
 long_adds : (text : List ℕ) (cache : Texts) (s : List ℕ) → 7 < length s → IsSpelledIn text s → AddsOnlyRead text cache (interned s cache)
 long_adds text cache s long p = record {
   kept = λ q h. interned_contains cache s q long ∙ or_right (bytes_eq q s) (set.contains cache.texts q) h;
@@ -80,12 +80,12 @@ interned_adds text cache s p = go (ltb 7 (length s)) refl
         subst (λ (c : Texts). AddsOnlyRead text cache c)
         (texts_same cache (interned s cache) (sym (interned_short s cache (ltb-false 7 (length s) e)))) (adds_none text cache)
 
--- what was interned is shared
+-- an interned string is shared
 interned_shared : (cache : Texts) (s : List ℕ) → IsShared (interned s cache) s
 interned_shared cache s h =
     interned_contains cache s s h ∙ ap (λ (b : Bool). b || set.contains cache.texts s) ((bytes_eq-Decides s s).1 refl)
 
--- the string at the front was interned
+-- the leading string was interned
 pub string_adds : (text rest s : List ℕ) (old new : Texts) → Front (λ front. IsString s front) text rest → new ≡ interned s old
     → AddsOnlyRead text old new
 string_adds text rest s old new f e =
@@ -100,13 +100,13 @@ string_adds text rest s old new f e =
     ) in
     subst (λ (c : Texts). AddsOnlyRead text old c) (sym e) (interned_adds text old s spelled)
 
--- the string that was interned is shared
+-- and is shared
 pub string_shared : (s : List ℕ) (old new : Texts) → new ≡ interned s old → IsShared new s
 string_shared s old new e = subst (λ (c : Texts). IsShared c s) (sym e) (interned_shared old s)
 
--- ---- what is shared stays so
+-- ---- shared strings remain shared
 
--- a text that is shared stays so
+-- a shared string remains shared
 pub shared_more : (text : List ℕ) (old new : Texts) (s : List ℕ) → AddsOnlyRead text old new → IsShared old s → IsShared new s
 shared_more text old new s g h long = g.kept s (h long)
 
@@ -120,7 +120,7 @@ mutual
   tree_more text old new (array is) g h = items_more text old new is g h
   tree_more text old new (object ms) g h = members_more text old new ms g h
 
-  -- and so do items
+  -- and so do elements
   pub items_more : (text : List ℕ) (old new : Texts) (is : Items) → AddsOnlyRead text old new → ItemsAreShared old is
       → ItemsAreShared new is
   items_more text old new no_items g h = tt
@@ -136,15 +136,15 @@ mutual
     members_more text old new more g h.2,
   )
 
--- ---- one more item, one more member
+-- ---- one more element, one more member
 
--- one more item
+-- one more element
 items_push : (cache : Texts) (vs : List WellFormed) (v : WellFormed) → ItemsAreShared cache (item_trees vs) → AreShared cache v.tree
     → ItemsAreShared cache (item_trees (vs ++ v ∷ []))
 items_push cache [] v h g = (g, tt)
 items_push cache (w ∷ vs) v h g = (h.0, items_push cache vs v h.1 g)
 
--- an item pushed behind shared ones
+-- an element pushed after shared ones
 pub item_shared : (text : List ℕ) (old new : Texts) (vs : List WellFormed) (v : WellFormed) → AddsOnlyRead text old new
     → ItemsAreShared old (item_trees vs) → AreShared new v.tree → ItemsAreShared new (item_trees (vs ++ v ∷ []))
 item_shared text old new vs v adds h g = items_push new vs v (items_more text old new (item_trees vs) adds h) g

@@ -1,4 +1,4 @@
--- A fault in an element, or behind one, is a fault of the array or the object.
+-- A fault in an element, or after one, is a fault of the array or object.
 use Rattle.std.proofs.Common.{◌≡◌, ℕ, ◌+◌, ◌<◌, ◌≤◌, Bool, true, false, List, [], ◌∷◌, ◌++◌, length, sym, ap, ap₂, subst, ◌∙◌, inl, inr}
 use Rattle.std.proofs.Common.{append_assoc, arith}
 use Rattle.std.specs.Prelude.{◌&&◌, ◌⊎◌, Result, Ok, Err, MatchResult, IfErr}
@@ -19,7 +19,7 @@ use Rattle.ijson_json.proofs.reading.ElementLists.{ElementBeyond}
 use Rattle.ijson_json.proofs.reading.Elements.{Listing, Reached, reached_stuck}
 
 module _ (E : Type 0) (S : Shape E) (L : Listing E S) where
-  -- each value behind the bracket is too deep, and an empty one is the least of them
+  -- each value after the bracket is too deep, and an empty one is the least deep of them
   opened_too_deep : (opened : ℕ) (text inside : List ℕ) → opened ≡ max_depth → text ≡ L.opening ∷ inside → IsTooDeep opened text
   opened_too_deep opened text inside o e = record {
     each = λ t x stops f.
@@ -35,13 +35,13 @@ module _ (E : Type 0) (S : Shape E) (L : Listing E S) where
     worst = omega (arith, L.depth_is [], o);
   }
 
-  -- a bracket that opens inside as many containers as may be open is the fault
+  -- a bracket that opens at the maximum depth is the fault
   pub bracket_too_deep : (opened : ℕ) (text inside : List ℕ) (fault : Fault) → text ≡ L.opening ∷ inside
       → (opened ≡ max_depth) × (fault ≡ faults.TooDeep (length text)) → Explains opened text fault
   bracket_too_deep opened text inside fault e h = subst (λ (f : Fault). Explains opened text f) (sym h.1)
       (omega arith, opened_too_deep opened text inside h.0 e)
 
-  -- no element stands where one must
+  -- there is no element at a position that needs one
   reached_no_value : (opened : ℕ) (text cur : List ℕ) (found : List E) → Reached E S L opened text found cur → NoElement E S cur
       → NoValue text
   reached_no_value opened text cur found r none t x stops f =
@@ -89,7 +89,7 @@ module _ (E : Type 0) (S : Shape E) (L : Listing E S) where
       (λ u more h. omega (arith, L.depth_is (found ++ u ∷ more), deepest-append E S found (u ∷ more), h, r.deep))
       (λ u h. omega (arith, L.depth_is (found ++ u ∷ []), deepest-append E S found (u ∷ []), h, r.deep)) b
 
-  -- an element has a number past the limit
+  -- an element has a number beyond the limit
   reached_out_of_range : (opened : ℕ) (text cur : List ℕ) (found : List E) → Reached E S L opened text found cur
       → ElementBeyond E S (λ t. is_ranged t ≡ false) (λ t. is_ranged t ≡ false) cur → IsOutOfRange text
   reached_out_of_range opened text cur found r b = reached_beyond opened text cur found _ _ _ _ r
@@ -97,7 +97,7 @@ module _ (E : Type 0) (S : Shape E) (L : Listing E S) where
       ∙ ap₂ ◌&&◌ r.ranged (ap (λ (b : Bool). b && all_ranged E S more) h))
       (λ u h. L.ranged_is (found ++ u ∷ []) ∙ ranged-append E S found (u ∷ []) ∙ ap₂ ◌&&◌ r.ranged (ap (λ (b : Bool). b && true) h)) b
 
-  -- what is left is shorter than the text
+  -- the rest is no longer than the text
   reached_shorter : (opened : ℕ) (text cur : List ℕ) (found : List E) (left : ℕ) → Reached E S L opened text found cur → left ≤ length cur
       → left ≤ length text
   reached_shorter opened text cur found left r h = omega (arith, h, ap length r.is, length-append r.head cur)
@@ -113,7 +113,7 @@ module _ (E : Type 0) (S : Shape E) (L : Listing E S) where
       (reached_shorter opened text cur found left r h.0, reached_out_of_range opened text cur found r h.1)
   element_fault opened text cur found faults.Memory r h = tt
 
-  -- and so is one behind an element
+  -- and so is one after an element
   delimiter_fault : (opened : ℕ) (text cur after : List ℕ) (found : List E) (t : E) (fault : Fault)
       → Reached E S L opened text found cur
       → ElementRead E S (opened + 1) cur t after → NoDelimiter S.closing after fault → Explains opened text fault
@@ -122,14 +122,14 @@ module _ (E : Type 0) (S : Shape E) (L : Listing E S) where
       subst (λ (f : Fault). Explains opened text f) (sym e)
       (reached_shorter opened text cur found (length left) r short, reached_stuck E S L opened text cur after left found t r d stuck)
 
-  -- or where it could not be kept
+  -- or a failure to store the element
   pub push_fault : (opened : ℕ) (text cur after : List ℕ) (found : List E) (t : E) (fault : Fault)
       → Reached E S L opened text found cur
       → ElementRead E S (opened + 1) cur t after → (fault ≡ faults.Memory) ⊎ NoDelimiter S.closing after fault → Explains opened text fault
   push_fault opened text cur after found t fault r d (inl e) = subst (λ (f : Fault). Explains opened text f) (sym e) tt
   push_fault opened text cur after found t fault r d (inr none) = delimiter_fault opened text cur after found t fault r d none
 
--- what may be told behind an element
+-- the faults after an element
 pub behind_element : {X : Type 0} (closing : ℕ) (after : List ℕ) (r : Result X Fault) (P : X → Type 0)
     → MatchResult r P (λ fault. NoDelimiter closing after fault)
     → IfErr r (λ fault. (fault ≡ faults.Memory) ⊎ NoDelimiter closing after fault)

@@ -1,4 +1,4 @@
--- Of a list of elements that is read: its depth, its limits, and what one more element in front does.
+-- A list of elements read: its depth, its limits, and the effect of one more leading element.
 use Rattle.std.proofs.Common.{◌≡◌, ℕ, Bool, true, max, List, [], ◌∷◌, ◌++◌, refl, sym, append_assoc, arith}
 use Rattle.std.specs.Prelude.{◌&&◌}
 use Rattle.std.proofs.Math.Bool.{and_assoc}
@@ -10,7 +10,7 @@ use Rattle.ijson_json.proofs.scanning.Prefixes.{run-append}
 use Rattle.ijson_json.proofs.grammar.CommaLists.{IsList, Shape}
 
 module _ (E : Type 0) (S : Shape E) where
-  -- the greatest depth of the elements
+  -- the maximum depth of the elements
   abbrev pub deepest : List E → ℕ
   deepest [] = 0
   deepest (e ∷ es) = max (depth (S.inner e)) (deepest es)
@@ -20,12 +20,12 @@ module _ (E : Type 0) (S : Shape E) where
   all_ranged [] = true
   all_ranged (e ∷ es) = is_ranged (S.inner e) && all_ranged es
 
-  -- the depth of two lists in a row
+  -- the depth of two concatenated lists
   pub deepest-append : (es fs : List E) → deepest (es ++ fs) ≡ max (deepest es) (deepest fs)
   deepest-append [] fs = omega arith
   deepest-append (e ∷ es) fs = omega (arith, deepest-append es fs)
 
-  -- two lists in a row within the limit
+  -- two concatenated lists within the limit
   pub ranged-append : (es fs : List E) → all_ranged (es ++ fs) ≡ (all_ranged es && all_ranged fs)
   ranged-append [] fs = refl
   ranged-append (e ∷ es) fs = rw (ranged-append es fs) (sym (and_assoc (is_ranged (S.inner e)) (all_ranged es) (all_ranged fs)))
@@ -34,22 +34,22 @@ module _ (E : Type 0) (S : Shape E) where
   abbrev pub ElementRead : ℕ → List ℕ → E → List ℕ → Type 0
   ElementRead opened cur e after = Found E (λ e text. S.Is e text) (λ e. S.inner e) opened cur e after
 
-  -- no element stands here
+  -- there is no element here
   abbrev pub NoElement : List ℕ → Type 0
   NoElement cur = NoneAt E (λ e text. S.Is e text) cur
 
-  -- each element that could stand here is Bad, and a beginning is Worst
+  -- each element that could be here is Bad, and a beginning is Worst
   abbrev pub ElementBeyond : (Tree → Type 0) → (Tree → Type 0) → List ℕ → Type 0
   ElementBeyond Bad Worst cur = Beyond E (λ e text. S.Is e text) (λ e. S.inner e) Bad Worst cur
 
-  -- white space in front changes nothing
+  -- leading white space changes nothing
   pub absorb : (e : E) (more : List E) (s others : List ℕ) → IsSpace s → IsList S.Is (e ∷ more) others
       → IsList S.Is (e ∷ more) (s ++ others)
   absorb e [] s others h (b, v, a, sb, w, sa, g) = (s ++ b, v, a, run-append is_space s b h sb, w, sa, rw g (simp append_assoc))
   absorb e (f ∷ more) s others h (first, second, (b, v, a, sb, iv, sa, g), o, i) =
       (s ++ first, second, (s ++ b, v, a, run-append is_space s b h sb, iv, sa, rw g (simp append_assoc)), o, rw i (simp append_assoc))
 
-  -- an element in front of others
+  -- an element before others
   pub one_more : (e f : E) (more : List E) (value after others : List ℕ) → S.Is e value → IsSpace after → IsList S.Is (f ∷ more) others
       → IsList S.Is (e ∷ f ∷ more) (value ++ (after ++ 44 ∷ others))
   one_more e f more value after others v sa o = (

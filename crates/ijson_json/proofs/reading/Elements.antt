@@ -1,4 +1,4 @@
--- An array or an object that is read element by element.
+-- An array or object that is read element by element.
 use Rattle.std.proofs.Common.{◌≡◌, ℕ, suc, ◌+◌, ◌<◌, ◌≤◌, true, List, [], ◌∷◌, ◌++◌, eq-eqb, refl, sym, ap, ap₂, subst}
 use Rattle.std.proofs.Common.{◌∙◌, append_assoc, arith}
 use Rattle.std.specs.Prelude.{◌&&◌, ◌==◌, ◌⊎◌}
@@ -11,7 +11,7 @@ use Rattle.ijson_json.proofs.reading.ElementLists.{deepest, all_ranged, deepest-
 use Rattle.ijson_json.proofs.grammar.CommaLists.{IsList, Shape, At, ElementSame, at_elements, left-past_space, at-Stops, Ends-any}
 use Rattle.ijson_json.specs.Limits.{max_depth}
 
--- how the elements make a value
+-- how elements form a value
 pub record Listing (E : Type 0) (S : Shape E) : Type 1 where
   pub opening : ℕ
   pub wrap : List E → Tree
@@ -25,14 +25,14 @@ pub record Listing (E : Type 0) (S : Shape E) : Type 1 where
   pub ends : (es : List E) (x : List ℕ) → Ends (wrap es) x
 
 module _ (E : Type 0) (S : Shape E) (L : Listing E S) where
-  -- what a value at the front of the text is, once so many elements of it were read
+  -- any value at the start of the text, after the elements `found` of it were read
   pub record Goes (found : List E) (t : Tree) (cur x : List ℕ) : Type 0 where
     pub next : E
     pub more : List E
     pub is : t ≡ L.wrap (found ++ next ∷ more)
     pub at : At E S next more cur x
 
-  -- so many elements were read, and another begins at cur
+  -- the elements `found` were read, and another begins at cur
   pub record Reached (opened : ℕ) (text : List ℕ) (found : List E) (cur : List ℕ) : Type 0 where
     pub head : List ℕ
     pub is : text ≡ head ++ cur
@@ -43,7 +43,7 @@ module _ (E : Type 0) (S : Shape E) (L : Listing E S) where
     pub deep : opened + suc (deepest E S found) ≤ max_depth
     pub ranged : all_ranged E S found ≡ true
 
-  -- behind the opening bracket and white space nothing is read yet
+  -- after the opening bracket and white space, nothing is read yet
   pub reached_start : (opened : ℕ) (inside s cur : List ℕ) → opened < max_depth → inside ≡ s ++ cur → IsSpace s → Past is_space cur
       → Past (λ b. b == S.closing) cur → Reached opened (L.opening ∷ inside) [] cur
   reached_start opened inside s cur o e h p q = record {
@@ -66,7 +66,7 @@ module _ (E : Type 0) (S : Shape E) (L : Listing E S) where
           absurd (not_both (S.closing == S.closing) (eq-eqb S.closing S.closing refl) not)
       go t x (u ∷ more) i f v g = record { next = u; more = more; is = f; at = at_elements E S u more s cur i x h p v (sym e ∙ g) }
 
-  -- the element that was read is the one that stands there
+  -- the element read is the one that is there
   item_is : (opened : ℕ) (e f : E) (more : List E) (cur x after s tail : List ℕ) → (a : At E S e more cur x)
       → ElementRead E S opened cur f after → after ≡ s ++ tail → IsSpace s → Past is_space tail → (e ≡ f) × (a.tail ≡ tail)
   item_is opened e f more cur x after s tail a r g h p =

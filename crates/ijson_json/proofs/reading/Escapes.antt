@@ -1,4 +1,4 @@
--- Escapes at the front of a text: digits, four of them, one escape or a pair of two.
+-- Leading escapes of a text: digits, four of them, one escape or a pair of two.
 use Rattle.std.proofs.Common.{◌≡◌, ℕ, ◌+◌, ◌*◌, ◌<◌, ◌≤◌, false, cond, List, [], ◌∷◌, ◌++◌, length, get_or, drop, Some, None, refl, sym}
 use Rattle.std.proofs.Common.{ap, subst, ◌∙◌, append_assoc, arith, inl, inr}
 use Rattle.std.specs.Prelude.{IsTrue, ◌||◌, ◌==◌, ◌⊎◌, ◌≢◌, nat_lt}
@@ -14,9 +14,9 @@ use Rattle.ijson_json.specs.private.StringReading.{HexAt, CharacterAt, NoHex, No
 use Rattle.ijson_json.proofs.scanning.Prefixes.{not_both, past_first, heads, tails}
 use Rattle.ijson_json.proofs.grammar.StringBodies.{hex_same}
 
--- ---- the front of a text
+-- ---- the start of a text
 
--- what `strip_prefix` gives at a text
+-- the result of `strip_prefix`
 pub strips_text : (prefix text rest : List ℕ) → StripsPrefix (FindsTextPrefix prefix) text rest → text ≡ prefix ++ rest
 strips_text prefix text rest (n, at, e, f) = at.1 ∙ ap (λ (l : List ℕ). prefix ++ l) (sym e)
 
@@ -25,25 +25,25 @@ short_ascii : (b m : ℕ) → short_escape b ≡ Some m → b < 128
 unfolding short_escape
 short_ascii b m h = grind (arith, nat_tests)
 
--- what a letter stands for, or a full stop
+-- the byte that a letter denotes, or a full stop
 abbrev pub meaning_of : ℕ → ℕ
 meaning_of b =
     cond ((b == 34) || ((b == 92) || (b == 47))) b
     (cond (b == 98) 8 (cond (b == 102) 12 (cond (b == 110) 10 (cond (b == 114) 13 (cond (b == 116) 9 46)))))
 
--- a meaning that is no full stop is that of the letter, and ASCII
+-- a byte other than a full stop is the one that the letter denotes, and ASCII
 pub meaning_found : (b : ℕ) → meaning_of b ≢ 46 → (short_escape b ≡ Some (meaning_of b)) × (meaning_of b < 128)
 unfolding short_escape
 meaning_found b h = (grind (arith, nat_tests), grind (arith, nat_tests))
 
--- a full stop says that the letter has none
+-- a full stop means that the letter denotes none
 pub meaning_none : (b : ℕ) → meaning_of b ≡ 46 → short_escape b ≡ None
 unfolding short_escape
 meaning_none b h = grind (arith, nat_tests)
 
 -- ---- four digits
 
--- four digits, and the text behind them
+-- four digits, and the text after them
 pub hex_at : (text bytes rest : List ℕ) (x y z w : ℕ) → bytes ≡ text → 4 ≤ length bytes → rest ≡ drop 4 text
     → hex_digit (get_or bytes 0 0) ≡ Some x → hex_digit (get_or bytes 1 0) ≡ Some y → hex_digit (get_or bytes 2 0) ≡ Some z
     → hex_digit (get_or bytes 3 0) ≡ Some w → HexAt text (x * 4096 + (y * 256 + (z * 16 + w))) rest
@@ -73,15 +73,15 @@ hex_at text (a ∷ b ∷ c ∷ d ∷ more) rest x y z w t l e f g h i =
       sym t ∙ ap (λ (l : List ℕ). a ∷ b ∷ c ∷ d ∷ l) (sym behind),
     )
 
--- a byte that is no digit counts more than four digits can
+-- the value of a byte that is not a digit exceeds any four digits
 pub digit_below : (v sum : ℕ) (P : Type 0) → (16 ≤ v → (v ≡ 65536) × P) → v ≤ sum → sum < 65536 → v < 16
 digit_below v sum P none within less = elim (cases_lt v 16) [ inl l ↦ l | inr g ↦ absurd (let e = (none g).0 in omega arith) ]
 
--- a byte that is a digit counts less than 16
+-- the value of a byte that is a digit is below 16
 digit_counts : (v b x : ℕ) → (16 ≤ v → (v ≡ 65536) × (hex_digit b ≡ None)) → hex_digit b ≡ Some x → v < 16
 digit_counts v b x none some = elim (cases_lt v 16) [ inl l ↦ l | inr g ↦ absurd (let e = (none g).1 in cc) ]
 
--- where the sum is too large, one of four bytes is no digit
+-- if the sum is too large, one of four bytes is not a digit
 pub no_hex : (text bytes : List ℕ) (x y z w : ℕ) → bytes ≡ text → (16 ≤ x → (x ≡ 65536) × (hex_digit (get_or bytes 0 0) ≡ None))
     → (16 ≤ y → (y ≡ 65536) × (hex_digit (get_or bytes 1 0) ≡ None)) → (16 ≤ z → (z ≡ 65536) × (hex_digit (get_or bytes 2 0) ≡ None))
     → (16 ≤ w → (w ≡ 65536) × (hex_digit (get_or bytes 3 0) ≡ None)) → 65536 ≤ x * 4096 + (y * 256 + (z * 16 + w)) → NoHex text
@@ -93,9 +93,9 @@ no_hex text bytes x y z w t nx ny nz nw over u rest (h, hex, e) =
     let fourth = digit_counts w (get_or bytes 3 0) hex.w nw (ap (λ (l : List ℕ). hex_digit (get_or l 3 0)) is ∙ hex.fourth) in
     omega arith
 
--- ---- behind a backslash and `u`
+-- ---- after a backslash and `u`
 
--- `u` is no letter of a short escape
+-- `u` is not a letter of a short escape
 short_u : (c : ℕ) → short_escape 117 ≡ Some c → ⊥
 unfolding short_escape
 short_u c h = absurd cc
@@ -116,7 +116,7 @@ pub record Both (text m rest : List ℕ) : Type 0 where
   pub other : Hex l v
   pub low : IsTrue (is_low_surrogate v)
 
--- behind `\u` stand one code or the codes of a pair
+-- after `\u` there is one code, or the codes of a pair
 unit_cases : (text m rest : List ℕ) → CharacterAt (92 ∷ 117 ∷ text) m rest → Alone text m rest ⊎ Both text m rest
 unit_cases text m rest (w, c, e) = go c e
   where
@@ -138,11 +138,11 @@ unit_cases text m rest (w, c, e) = go c e
 pub no_unicode : (text : List ℕ) → NoHex text → NoCharacter (92 ∷ 117 ∷ text)
 no_unicode text n m rest a = elim (unit_cases text m rest a) [ inl o ↦ n o.u rest o.hex | inr b ↦ n b.u (92 ∷ 117 ∷ (b.l ++ rest)) b.hex ]
 
--- four digits at the front of a text are one number
+-- four leading digits have one value
 hex_at_same : (text : List ℕ) (u v : ℕ) (r s : List ℕ) → HexAt text u r → HexAt text v s → (u ≡ v) × (r ≡ s)
 hex_at_same text u v r s (h, x, e) (l, y, f) = let same = hex_same h l u v r s x y (sym e ∙ f) in (same.0, same.1.1)
 
--- behind a high surrogate a low one is wanted
+-- a high surrogate must be followed by a low one
 pub no_low : (text : List ℕ) (u : ℕ) (rest : List ℕ) → HexAt text u rest → IsTrue (is_high_surrogate u) → NoLow rest
     → NoCharacter (92 ∷ 117 ∷ text)
 no_low text u rest h i n m other a = elim (unit_cases text m other a) [
@@ -150,7 +150,7 @@ no_low text u rest h i n m other a = elim (unit_cases text m other a) [
   | inr b ↦ n b.l b.v other b.other b.low (hex_at_same text u b.u rest _ h b.hex).1
 ]
 
--- a low surrogate alone is no character
+-- a low surrogate alone is not a character
 pub no_alone : (text : List ℕ) (u : ℕ) (rest : List ℕ) → HexAt text u rest → is_high_surrogate u ≡ false → IsTrue (is_low_surrogate u)
     → NoCharacter (92 ∷ 117 ∷ text)
 no_alone text u rest h i j m other a = elim (unit_cases text m other a) [
@@ -158,7 +158,7 @@ no_alone text u rest h i j m other a = elim (unit_cases text m other a) [
   | inr b ↦ not_both (is_high_surrogate u) (rw (← (hex_at_same text u b.u rest _ h b.hex).0) at b.high) i
 ]
 
--- a code that is no surrogate is a character
+-- a code that is not a surrogate is a character
 pub found_alone : (text : List ℕ) (u : ℕ) (rest : List ℕ) → HexAt text u rest → is_high_surrogate u ≡ false → is_low_surrogate u ≡ false
     → CharacterAt (92 ∷ 117 ∷ text) (encode_utf8 u) rest
 found_alone text u rest (h, x, e) i j = (92 ∷ 117 ∷ h, unicode x i j, ap (λ (l : List ℕ). 92 ∷ 117 ∷ l) e)
@@ -178,7 +178,7 @@ found_both text u rest m other (h, x, e) i (l, v, y, j, f, g) =
 pub no_low_hex : (text behind : List ℕ) → text ≡ 92 ∷ 117 ∷ behind → NoHex behind → NoLow text
 no_low_hex text behind e n l v rest h i f = n v rest (l, h, tails _ _ _ _ (tails _ _ _ _ (sym e ∙ f)))
 
--- a scalar value is no low surrogate
+-- a scalar value is not a low surrogate
 pub scalar_not_low : (u : ℕ) → InScalarRange u → is_low_surrogate u ≡ false
 scalar_not_low u (inl h) = grind (arith, nat_tests)
 scalar_not_low u (inr h) = let a : 0xE000 ≤ u = omega arith in grind (arith, nat_tests)
@@ -187,7 +187,7 @@ scalar_not_low u (inr h) = let a : 0xE000 ≤ u = omega arith in grind (arith, n
 pub not_scalar_low : (u : ℕ) → OutOfScalarRange u → u < 65536 → is_high_surrogate u ≡ false → IsTrue (is_low_surrogate u)
 not_scalar_low u o h i = grind (arith, nat_tests)
 
--- ---- behind a backslash, and at the front
+-- ---- after a backslash, and at the start
 
 -- an escape has a letter: that of a short one, or `u`
 escape_letter : (letters m more : List ℕ) → CharacterAt (92 ∷ letters) m more
@@ -201,11 +201,11 @@ escape_letter letters m more (w, c, e) = go c e
     go (unicode {h} {u} g i j) e = (117, h ++ more, tails _ _ _ _ e, inr refl)
     go (pair {h} {l} {u} {v} g i j k) e = (117, (h ++ 92 ∷ 117 ∷ l) ++ more, tails _ _ _ _ e, inr refl)
 
--- equal texts begin with one character
+-- equal texts begin with the same character
 pub same_text : (text other m rest : List ℕ) → text ≡ other → CharacterAt other m rest → CharacterAt text m rest
 same_text text other m rest e h = subst (λ (l : List ℕ). CharacterAt l m rest) (sym e) h
 
--- and with none alike
+-- or both with none
 pub same_none : (text other : List ℕ) → text ≡ other → NoCharacter other → NoCharacter text
 same_none text other e h = subst (λ (l : List ℕ). NoCharacter l) (sym e) h
 

@@ -1,4 +1,4 @@
--- What is kept of the items of an array and of the members of an object, as they are read.
+-- The values stored for the elements of an array and the members of an object, as they are read.
 use Rattle.std.proofs.Common.{◌≡◌, ℕ, List, [], ◌∷◌, ◌++◌, map, refl, ap, ◌∙◌}
 use Rattle.std.proofs.lemmas.List.{map-append}
 use Rattle.ijson_table.specs.Store.{put, put_each}
@@ -13,14 +13,14 @@ use Rattle.ijson_json.proofs.reading.ArraysAndObjects.{arrays, objects, settled-
 use Rattle.ijson_json.proofs.reading.CacheContents.{item_shared, member_shared}
 use Rattle.ijson_json.proofs.reading.Gathering.{Gathers}
 
--- an item pushed behind what was read
+-- an element pushed after those read
 pub item_pushed : (vs : List WellFormed) (ts : List Tree) (v : WellFormed) (t : Tree) → v.tree ≡ settled t
     → item_trees vs ≡ settled_items (items_of ts) → item_trees (vs ++ v ∷ []) ≡ settled_items (items_of (ts ++ t ∷ []))
 item_pushed vs ts v t e h =
     ap items_of (map-append tree_of vs (v ∷ [])) ∙ ap (λ (u : Tree). items_of (map tree_of vs ++ u ∷ [])) e
     ∙ settled-push ts t (map tree_of vs) h
 
--- what is kept of an item is its value
+-- the stored form of an element is its value
 abbrev pub kept_items : Gathers Tree items_shape arrays
 kept_items = record {
   Kept = WellFormed;
@@ -34,15 +34,15 @@ kept_items = record {
   share = item_shared;
 }
 
--- a key and a value as they are kept, and the member that they are of
+-- a stored key and value, and the member they are of
 abbrev pub KeepsMember : List ℕ × WellFormed → List ℕ × Tree → Type 0
 KeepsMember p m = (p.0 ≡ m.0) × (p.1.tree ≡ settled m.1)
 
--- the pairs that are kept, put one after the other, are the members as written, put so
+-- the stored entries, put in order, are the members as written, put in order
 abbrev pub AreMembers : List (List ℕ × WellFormed) → List (List ℕ × Tree) → Type 0
 AreMembers ps ms = map pair_tree (put_each [] ps) ≡ put_each [] (settled_pairs (members_of ms))
 
--- a member put behind what was read
+-- a member put after those read
 pub member_put : (ps : List (List ℕ × WellFormed)) (ms : List (List ℕ × Tree)) (p : List ℕ × WellFormed) (m : List ℕ × Tree)
     → KeepsMember p m → AreMembers ps ms → AreMembers (ps ++ p ∷ []) (ms ++ m ∷ [])
 member_put ps ms (k, v) (l, t) (same, e) h =
@@ -51,7 +51,7 @@ member_put ps ms (k, v) (l, t) (same, e) h =
     ∙ ap (λ (q : List ℕ). put (map pair_tree (put_each [] ps)) q (settled t)) same
     ∙ settled-put ms l t (map pair_tree (put_each [] ps)) h
 
--- what is kept of a member is its key and its value
+-- the stored form of a member is its key and its value
 abbrev pub kept_members : Gathers (List ℕ × Tree) members_shape objects
 kept_members = record {
   Kept = List ℕ × WellFormed;

@@ -1,4 +1,4 @@
--- The elements of an array or an object as they are read: what is kept of them lies on a stack, above what lay there.
+-- The elements of an array or object as they are read: their stored values are on a stack, above those of outer containers.
 use Rattle.std.proofs.Common.{◌≡◌, ℕ, ◌+◌, ◌<◌, List, [], ◌∷◌, ◌++◌, length, take, drop, sym, append-nil}
 use Rattle.std.specs.Prelude.{◌==◌}
 use Rattle.ijson_string.specs.Cache.{Texts}
@@ -11,7 +11,7 @@ use Rattle.ijson_json.proofs.reading.ElementLists.{ElementRead}
 use Rattle.ijson_json.proofs.reading.Elements.{Listing, Reached, reached_start, reached_more, reached_end}
 use Rattle.ijson_json.proofs.reading.ScratchStacks.{pushed_above, taken_above, left_below}
 
--- what is kept of an element, and what a list of these is, of the elements as written
+-- the stored value of an element, and the relation between a list of these and the elements as written
 pub record Gathers (E : Type 0) (S : Shape E) (L : Listing E S) : Type 1 where
   pub Kept : Type 0
   pub Keeps : Kept → E → Type 0
@@ -26,7 +26,7 @@ pub record Gathers (E : Type 0) (S : Shape E) (L : Listing E S) : Type 1 where
       → Shares new k → AllShare new (kept ++ k ∷ [])
 
 module _ (E : Type 0) (S : Shape E) (L : Listing E S) (K : Gathers E S L) where
-  -- so many elements were read, and another begins at the rest
+  -- some elements were read, and another begins at the rest
   pub record Gathered (opened : ℕ) (text rest : List ℕ) (below stack : List K.Kept) (old cache : Texts) : Type 0 where
     pub kept : List K.Kept
     pub above : stack ≡ below ++ kept
@@ -36,7 +36,7 @@ module _ (E : Type 0) (S : Shape E) (L : Listing E S) (K : Gathers E S L) where
     pub adds : AddsOnlyRead text old cache
     pub share : K.AllShare cache kept
 
-  -- behind the opening bracket and white space
+  -- after the opening bracket and white space
   pub gathered_start : (opened : ℕ) (inside cur : List ℕ) (below : List K.Kept) (cache : Texts) → opened < max_depth
       → Skips inside cur → Past (λ b. b == S.closing) cur → Gathered opened (L.opening ∷ inside) cur below below cache cache
   gathered_start opened inside cur below cache within s unclosed = record {
@@ -52,11 +52,11 @@ module _ (E : Type 0) (S : Shape E) (L : Listing E S) (K : Gathers E S L) where
 module _ {E : Type 0} {S : Shape E} {L : Listing E S} {K : Gathers E S L}
     {opened : ℕ} {text rest : List ℕ} {below stack : List K.Kept} {old cache : Texts}
     (i : Gathered E S L K opened text rest below stack old cache) where
-  -- what the cache got of one more element, it got of the text
+  -- strings that one more element adds to the cache are strings of the text
   pub gathered_adds : {new : Texts} → AddsOnlyRead rest cache new → AddsOnlyRead text old new
   gathered_adds {new} adds = adds_more text i.reached.head rest old cache new i.reached.is i.adds adds
 
-  -- one more element shares its texts, as those before it do
+  -- one more element shares its strings, like those before it
   pub gathered_share : (k : K.Kept) (new : Texts) → AddsOnlyRead rest cache new → K.Shares new k → K.AllShare new (i.kept ++ k ∷ [])
   gathered_share k new adds shares = K.share rest cache new i.kept k adds i.share shares
 
@@ -79,13 +79,13 @@ module _ {E : Type 0} {S : Shape E} {L : Listing E S} {K : Gathers E S L}
       → IsRead opened text (L.wrap (i.written ++ e ∷ [])) behind
   gathered_end e after behind found closes = reached_end E S L opened text rest after behind i.written e i.reached found closes
 
-  -- what is taken off the stack then is what was kept, and what lay there is left
+  -- the values popped are those stored, and those below are left
   pub gathered_taken : (k : K.Kept) (read pushed taken : List K.Kept) (base : ℕ) → read ≡ stack → pushed ≡ read ++ k ∷ []
       → base ≡ length below → taken ≡ drop base pushed → taken ≡ i.kept ++ k ∷ []
   gathered_taken k read pushed taken base same push begins is =
       taken_above below (i.kept ++ k ∷ []) pushed taken base begins (pushed_above below i.kept stack read pushed k i.above same push) is
 
-  -- and what lay there before is left
+  -- and those below before are left
   pub gathered_left : (k : K.Kept) (read pushed left : List K.Kept) (base : ℕ) → read ≡ stack → pushed ≡ read ++ k ∷ []
       → base ≡ length below → left ≡ take base pushed → left ≡ below
   gathered_left k read pushed left base same push begins is =

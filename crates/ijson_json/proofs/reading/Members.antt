@@ -36,12 +36,12 @@ member_read {opened} {k} {text} {cur} {t} {rest} r v = record {
   ranged = v.ranged;
 }
 
--- a member at the front, part by part
+-- a leading member, part by part
 pair_is : (m : List ℕ × Tree) (text rest : List ℕ) → (f : Front (λ text. Pair m text) text rest)
     → text ≡ f.holds.key ++ (f.holds.gap ++ 58 ∷ (f.holds.gap' ++ (f.holds.value ++ rest)))
 pair_is m text rest f = f.is ∙ rw (f.holds.is) (simp append_assoc)
 
--- the value of a member that the text begins with begins at cur
+-- the value of a leading member begins at cur
 value_of : (k text cur : List ℕ) (m : List ℕ × Tree) (rest : List ℕ) → KeyRead k text cur → Front (λ text. Pair m text) text rest
     → Front (λ value. IsValue m.1 value) cur rest
 value_of k text cur m rest r f =
@@ -67,7 +67,7 @@ no_colon k text after colon f s p m rest stops g =
     let not : Past (λ b. b == 58) (58 ∷ (q.gap' ++ (q.value ++ rest))) = rw (h.1) at p in
     not_both true refl not
 
--- a value beyond a limit makes a member beyond it
+-- a value beyond a limit makes its member exceed it
 beyond_member : (k text cur : List ℕ) (Bad Worst : Tree → Type 0) → KeyRead k text cur → IsBeyond Bad Worst cur
     → Beyond (List ℕ × Tree) (λ m text. Pair m text) (λ m. m.1) Bad Worst text
 beyond_member k text cur Bad Worst r b = record {
@@ -92,15 +92,15 @@ beyond_member k text cur Bad Worst r b = record {
   worst = b.worst;
 }
 
--- the key and `:`, with the white space behind both
+-- the key and `:`, each with the white space after it
 abbrev pub key_head : (k text cur : List ℕ) → KeyRead k text cur → List ℕ
 key_head k text cur r = r.key ++ (r.gap ++ 58 ∷ r.gap')
 
--- the value begins behind them
+-- the value begins after them
 pub key_behind : (k text cur : List ℕ) (r : KeyRead k text cur) → text ≡ key_head k text cur r ++ cur
 key_behind k text cur r = r.is ∙ simp append_assoc
 
--- what is left is shorter than the text
+-- the rest is no longer than the text
 key_shorter : (k text cur : List ℕ) (left : ℕ) → KeyRead k text cur → left ≤ length cur → left ≤ length text
 key_shorter k text cur left r h = omega (arith, h, ap length (key_behind k text cur r), length-append (key_head k text cur r) cur)
 

@@ -1,4 +1,4 @@
--- The number at the front of a text.
+-- The leading number of a text.
 use Rattle.std.proofs.Common.{◌≡◌, ℕ, zero, suc, ◌+◌, ◌<◌, ◌≤◌, Bool, get_or, true, false, List, ◌++◌, length, take, drop, refl, sym, ap}
 use Rattle.std.proofs.Common.{subst, ◌∙◌, append_assoc, arith}
 use Rattle.std.specs.Prelude.{slice_range, IsTrue, ◌↔◌}
@@ -18,11 +18,11 @@ use Rattle.ijson_number.proofs.parsing.SpelledBytes.{spells_bytes}
 use Rattle.ijson_json.specs.private.Reading.{Stops, NumberAt, NoNumber, IsPastLimit, PastLimitAt}
 use Rattle.ijson_json.proofs.scanning.Prefixes.{Run, run_same, not_both}
 
--- a byte of a number is a character
+-- a byte of a number is ASCII
 number_ascii : (b : ℕ) → is_number_byte b ≡ true → b < 128
 number_ascii b h = grind (arith, nat_tests)
 
--- a text may be cut behind the bytes of a number
+-- a text may be split after bytes of a number
 boundary : (text : List ℕ) → IsUtf8 text → (n : ℕ) → n ≤ length text → ((k d : ℕ) → k < n → is_number_byte (get_or text k d) ≡ true)
     → IsCharBoundary text n
 boundary text u zero h p = IsCharBoundary-start text u
@@ -30,25 +30,25 @@ boundary text u (suc k) h p = let e : suc k ≡ k + 1 = omega arith in
     subst (λ (n : ℕ). IsCharBoundary text n) (sym e) (IsCharBoundary-after_ascii text k u (omega arith)
     (number_ascii _ (p k 0 (omega arith))))
 
--- a text may be cut behind all bytes of a number at its front
+-- a text may be split after all leading bytes of a number
 pub number_boundary : (text : List ℕ) → IsUtf8 text → IsCharBoundary text (prefix_len is_number_byte text)
 number_boundary text u = boundary text u (prefix_len is_number_byte text) (prefix_len-le-length is_number_byte text)
     (prefix_len_passes is_number_byte text)
 
--- and behind a number that it begins with
+-- and after a leading number
 pub spelled_boundary : (text : List ℕ) (count : ℕ) (n : Decimal) → IsUtf8 text → count ≤ length text → Spells (take count text) n
     → IsCharBoundary text count
 spelled_boundary text count n u within s = boundary text u count within
     (λ k d h. rw (get_or-take count text k d h) at (All-from_recursion (λ b. IsTrue (is_number_byte b)) (take count text)
     (spells_bytes (take count text) n s) k d (let e = length-take-le count text within in omega arith)))
 
--- a number at the front is the whole run of number bytes
+-- a leading number is the whole run of number bytes
 number_is_run : (text run rest : List ℕ) (n : Decimal) (other : List ℕ) → text ≡ run ++ rest → Run is_number_byte run → Stops rest
     → (a : NumberAt text n other) → run ≡ a.found.front
 number_is_run text run rest n other e r s a = (run_same is_number_byte run a.found.front rest other r
     (spells_bytes a.found.front n a.found.holds) s a.stops (sym e ∙ a.found.is)).0
 
--- where the run spells no number, none stands at the front
+-- if the run spells no number, the text begins with none
 pub no_number : (text run rest : List ℕ) → text ≡ run ++ rest → Run is_number_byte run → Stops rest → ((n : Decimal) × Spells run n → ⊥)
     → NoNumber text
 no_number text run rest e r s h n other a = h (
@@ -57,7 +57,7 @@ no_number text run rest e r s h n other a = h (
       (sym (number_is_run text run rest n other e r s a)) a.found.holds,
 )
 
--- a number that is not a Num is past the limit
+-- a number that is not a Num is beyond the limit
 pub past_limit : (text : List ℕ) → (n : Decimal) × Spells text n → ((n : Decimal) → Spells text n → IsNum n → ⊥) → IsPastLimit text
 past_limit text (n, v) h = (n, v, not_num (is_in_range n) refl)
   where
@@ -65,12 +65,12 @@ past_limit text (n, v) h = (n, v, not_num (is_in_range n) refl)
     not_num true e = absurd (h n v (record { plain = v.2.0.plain; in_range = e }))
     not_num false e = e
 
--- a text that spells a Num spells nothing past the limit
+-- a text that spells a Num spells nothing beyond the limit
 pub not_past_limit : (text : List ℕ) (n : Decimal) → Spells text n → IsNum n → IsPastLimit text → ⊥
 not_past_limit text n v h (m, w, past) = not_both (is_in_range m)
     (subst (λ (k : Decimal). is_in_range k ≡ true) (spells_one text n m v w) h.in_range) past
 
--- the number at the front is past the limit, where the run spells one that is no Num
+-- the leading number is beyond the limit if the run spells one that is not a Num
 pub run_past_limit : (text run rest : List ℕ) → text ≡ run ++ rest → Run is_number_byte run → Stops rest → (n : Decimal) × Spells run n
     → ((n : Decimal) → Spells run n → IsNum n → ⊥)
     → PastLimitAt text
@@ -84,7 +84,7 @@ run_past_limit text run rest e r s some h =
       beginning = record { front = run; holds = p; is = e };
     }
 
--- the run begins with a number past the limit, and is none itself
+-- the run begins with a number beyond the limit, but is not one itself
 pub front_past_limit : (text run rest : List ℕ) (at : ℕ) → text ≡ run ++ rest → Run is_number_byte run → Stops rest
     → ((n : Decimal) × Spells run n → ⊥) → IsPastLimit (take at run) → PastLimitAt text
 front_past_limit text run rest at e r s none p =
@@ -103,11 +103,11 @@ front_past_limit text run rest at e r s none p =
 pub front_range : (run : List ℕ) (at : ℕ) → slice_range run 0 at ≡ take at run
 front_range run at = grind arith
 
--- the answer where the text spells a Num, and where it spells none
+-- the result if the text spells a Num
 pub answer_within : (text : List ℕ) (b : Bool) (n : Decimal) → b ≡ false → Spells text n → IsNum n → IsTrue b ↔ IsPastLimit text
 answer_within text b n e v h = (λ t. absurd (not_both b t e), λ p. absurd (not_past_limit text n v h p))
 
--- the answer where the text spells no Num
+-- the result if the text spells no Num
 pub answer_refused : (text : List ℕ) (b : Bool) → (b ≡ true → (n : Decimal) × Spells text n) → ((n : Decimal) × Spells text n → b ≡ true)
     → ((n : Decimal) → Spells text n → IsNum n → ⊥) → IsTrue b ↔ IsPastLimit text
 answer_refused text b f g h = (λ t. past_limit text (f t) h, λ p. g (p.0, p.1))

@@ -1,4 +1,4 @@
--- The content of a string, from run to run and from escape to escape.
+-- The content of a string, run by run and escape by escape.
 use Rattle.std.proofs.Common.{◌≡◌, ℕ, ◌≤◌, true, false, List, [], ◌∷◌, ◌++◌, length, refl, sym, ap, subst, ◌∙◌, append_assoc, arith, eqb}
 use Rattle.std.proofs.lemmas.Bool.{eqb-true}
 use Rattle.std.specs.Prelude.{◌≢◌}
@@ -13,19 +13,19 @@ use Rattle.ijson_json.specs.declared.fault.Fault.TheVariants as faults
 use Rattle.ijson_json.proofs.scanning.Prefixes.{Run, not_both, heads, tails, heads_apart}
 use Rattle.ijson_json.proofs.grammar.StringBodies.{character_same, not_quote}
 
--- two bodies in a row are one
+-- two concatenated bodies are one
 body-append : {a s b t : List ℕ} → StringBody a s → StringBody b t → StringBody (a ++ b) (s ++ t)
 body-append empty h = h
 body-append {b} {t} (one_more {written} {meant} {body} {text} d r) h =
     subst (λ (l : List ℕ). StringBody l ((meant ++ text) ++ t)) (sym (append_assoc written body b))
     (subst (λ (l : List ℕ). StringBody (written ++ (body ++ b)) l) (sym (append_assoc meant text t)) (one_more d (body-append r h)))
 
--- a body and a character behind it are one
+-- a body and a character after it are one
 body-push : {a s w m : List ℕ} → StringBody a s → Character w m → StringBody (a ++ w) (s ++ m)
 body-push {w} {m} h c = body-append h (subst (λ (l : List ℕ). StringBody l m) (append-nil w)
     (subst (λ (l : List ℕ). StringBody (w ++ []) l) (append-nil m) (one_more c empty)))
 
--- so much of the content was read, and the rest of it begins here
+-- the content s was read, and the rest of it begins here
 pub record Reached (text s rest : List ℕ) : Type 0 where
   pub written : List ℕ
   pub body : StringBody written s
@@ -69,7 +69,7 @@ reached_first text run more h e = reached_run text [] run text more (reached_sta
 pub reached_quote : (text s rest behind : List ℕ) → Reached text s rest → rest ≡ 34 ∷ behind → ContentAt text s behind
 reached_quote text s rest behind r e = (r.written, r.body, r.is ∙ ap (λ (l : List ℕ). r.written ++ l) e)
 
--- what follows a run: an escape, a quote, or nothing that a string can have
+-- a run is followed by an escape, a quote, or a byte that no string contains
 no_character : (text : List ℕ) (b : ℕ) (more : List ℕ) → text ≡ b ∷ more → eqb b 92 ≡ false → is_unescaped b ≡ false → NoCharacter text
 no_character text b more t n s m rest (w, c, e) = go c e
   where
@@ -86,7 +86,7 @@ character_bytes x (short g) e = cc
 character_bytes x (unicode g i j) e = cc
 character_bytes x (pair g i j k) e = cc
 
--- where a run ends and no escape stands, no character does
+-- if a run is followed by no escape, it is followed by no character
 pub after_run : (rest : List ℕ) → Past is_unescaped rest → NoEscape rest → NoCharacter rest
 after_run [] p n = λ m x found. character_bytes x found.1 found.2
 after_run (b ∷ more) p n =
@@ -95,7 +95,7 @@ after_run (b ∷ more) p n =
       | false ↦ λ other. no_character (b ∷ more) b more refl other p
     ] refl
 
--- where no character and no quote stands, the text has no content
+-- if neither a character nor a quote follows, the text has no content
 pub reached_stuck : (text s rest : List ℕ) → Reached text s rest → ((behind : List ℕ) → rest ≢ 34 ∷ behind) → NoCharacter rest
     → NoContent text
 reached_stuck text s rest r q n t x h = let o = r.only t x h in go o.1.1 o.1.2
@@ -104,11 +104,11 @@ reached_stuck text s rest r q n t x h = let o = r.only t x h in go o.1.1 o.1.2
     go empty g = q x g
     go (one_more {written} {meant} {body} {text} d h) g = n meant (body ++ 34 ∷ x) (written, d, g ∙ append_assoc written body (34 ∷ x))
 
--- what is left is no longer than the text
+-- the rest is no longer than the text
 pub reached_shorter : (text s rest : List ℕ) → Reached text s rest → length rest ≤ length text
 reached_shorter text s rest r = omega (arith, ap length r.is, length-append r.written rest)
 
--- what is read of the rest is read of the whole
+-- content of the rest is content of the whole
 pub reached_content : (text s rest t behind : List ℕ) → Reached text s rest → ContentAt rest t behind → ContentAt text (s ++ t) behind
 reached_content text s rest t behind r (body, h, e) = (
   r.written ++ body,
@@ -125,15 +125,15 @@ reached_fault text s rest r (faults.TooDeep left) h = h
 reached_fault text s rest r (faults.NumberRange left) h = h
 reached_fault text s rest r faults.Memory h = h
 
--- what is appended piece by piece
+-- appending piece by piece
 pushed : (old content new s piece : List ℕ) → content ≡ old ++ s → new ≡ content ++ piece → new ≡ old ++ (s ++ piece)
 pushed old content new s piece e f = f ∙ ap (λ (l : List ℕ). l ++ piece) e ∙ append_assoc old s piece
 
--- so much of the content was read and appended to what was there
+-- the content so far was read and appended
 abbrev pub Appended : List ℕ → List ℕ → List ℕ → List ℕ → Type 0
 Appended text rest old content = (s : List ℕ) × Reached text s rest × (content ≡ old ++ s)
 
--- one more character and the run behind it are read and appended
+-- one more character and the run after it are read and appended
 pub appended_more : (text rest m more run after old content middle new : List ℕ) → Appended text rest old content → CharacterAt rest m more
     → middle ≡ content ++ m → more ≡ run ++ after → Run is_unescaped run → new ≡ middle ++ run → Appended text after old new
 appended_more text rest m more run after old content middle new (s, r, e) c f g h i = (
@@ -155,17 +155,17 @@ string_found text inside s t rest e (body, h, f) same =
           ∙ ap (λ (l : List ℕ). 34 ∷ l) (f ∙ sym (append_assoc body (34 ∷ []) rest));
     }
 
--- a string at the front begins with a quote
+-- a leading string begins with a quote
 string_first : (text s rest : List ℕ) (f : Front (λ front. IsString s front) text rest) → text ≡ 34 ∷ (f.holds.0 ++ 34 ∷ rest)
 string_first text s rest f = f.is ∙ ap (λ (l : List ℕ). l ++ rest) f.holds.2
     ∙ ap (λ (l : List ℕ). 34 ∷ l) (append_assoc f.holds.0 (34 ∷ []) rest)
 
--- a text that begins with no quote has no string at its front
+-- a text that does not begin with a quote begins with no string
 pub no_quote : (text : List ℕ) → ((inside : List ℕ) → text ≢ 34 ∷ inside) → (s rest : List ℕ)
     → Front (λ front. IsString s front) text rest → ⊥
 no_quote text q s rest f = q _ (string_first text s rest f)
 
--- nor has one without content behind the quote
+-- nor does one without content after the quote
 pub no_content : (text inside : List ℕ) → text ≡ 34 ∷ inside → NoContent inside → (s rest : List ℕ)
     → Front (λ front. IsString s front) text rest → ⊥
 no_content text inside e n s rest f = n s rest (f.holds.0, f.holds.1, tails _ _ _ _ (sym e ∙ string_first text s rest f))

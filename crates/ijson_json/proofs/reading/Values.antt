@@ -1,4 +1,4 @@
--- One value: a scalar that was read, or none, since its first byte begins no kind of value or the fault is that of a number or a string.
+-- One value: a scalar that was read, or a fault, since the first byte begins no kind of value or a number or string is at fault.
 use Rattle.std.proofs.Common.{◌≡◌, ℕ, true, false, List, [], ◌∷◌, ◌++◌, sym, ap, subst, ◌∙◌, arith, eq-eqb, refl}
 use Rattle.std.specs.Prelude.{◌==◌, ◌≢◌, ◌≤◌, Result, Ok, Err, nat_lt}
 use Rattle.std.specs.Borrow.{Bor}
@@ -33,7 +33,7 @@ past_text text b more p e = let not : Past (λ c. c == b) (b ∷ more) = rw e at
 pub begins : (b : ℕ) (text : List ℕ) (first : ℕ) (more : List ℕ) → text ≡ first ∷ more → first ≡ b → text ≡ b ∷ more
 begins b text first more e f = e ∙ ap (λ (c : ℕ). c ∷ more) f
 
--- no value begins with a byte that is none of these
+-- no value begins with a byte other than these
 pub no_value : (text : List ℕ) → Past (λ b. b == 110) text → Past (λ b. b == 116) text → Past (λ b. b == 102) text
     → Past (λ b. b == 91) text → Past (λ b. b == 123) text → Past (λ b. b == 34) text → NoNumber text → NoValue text
 no_value text n t f p q r m null x stops g = past_text text 110 _ n (g.is ∙ ap (λ (l : List ℕ). l ++ x) g.holds)
@@ -49,7 +49,7 @@ no_value text n t f p q r m (string s) x stops g = past_text text 34 _ r (g.is �
 low_kind : (b : ℕ) → nat_lt b 128 ≡ false → kind b ≡ 6
 low_kind b h = grind (arith, nat_tests)
 
--- each value begins with a character
+-- each value begins with an ASCII byte
 pub no_character : (text : List ℕ) → Past (λ b. nat_lt b 128) text → NoValue text
 no_character text p t x stops g =
     let f = value_first t g.front g.holds in
@@ -64,7 +64,7 @@ number_first text first more e p =
     let same : f.0 ≡ first = heads f.0 first (f.1 ++ p.rest) more (ap (λ (l : List ℕ). l ++ p.rest) (sym f.3) ∙ sym p.beginning.is ∙ e) in
     ap kind (sym same) ∙ number_kind f.0 f.2
 
--- every value at the front is a number past the limit, and some beginning is
+-- every leading value is a number beyond the limit, and some beginning is
 out_of_range : (text : List ℕ) (first : ℕ) (more : List ℕ) → text ≡ first ∷ more → kind first ≡ 2 → PastLimitAt text → IsOutOfRange text
 out_of_range text first more e k p = record {
   each = only;
@@ -87,7 +87,7 @@ out_of_range text first more e k p = record {
 past_other : (text : List ℕ) (first : ℕ) (more : List ℕ) (c : ℕ) → text ≡ first ∷ more → first ≢ c → Past (λ b. b == c) text
 past_other text first more c e n = subst (λ (l : List ℕ). Past (λ b. b == c) l) (sym e) (ne_eqb first c n)
 
--- where the first byte begins no other kind of value, the fault is that of the number
+-- if the first byte begins no other kind of value, the fault is that of the number
 pub other_fault : (opened : ℕ) (text : List ℕ) (first : ℕ) (more : List ℕ) (fault : Fault) → text ≡ first ∷ more
     → (first ≢ 110) × (first ≢ 116) × (first ≢ 102) × (first ≢ 91) × (first ≢ 123) × (first ≢ 34) → NumberFault text fault
     → Explains opened text fault
@@ -101,7 +101,7 @@ other_fault opened text first more (faults.NumberRange left) e apart h =
     (h.0, out_of_range text first more e (number_first text first more e h.1) h.1)
 other_fault opened text first more faults.Memory e apart h = tt
 
--- a value that begins with a quote is a string
+-- if only a string can begin with a quote and there is none, there is no value
 string_alone : (text more : List ℕ) → text ≡ 34 ∷ more → ((s rest : List ℕ) → Front (λ front. IsString s front) text rest → ⊥)
     → NoValue text
 string_alone text more e n (string s) x stops g = n s x (record { front = g.front; holds = g.holds; is = g.is })
@@ -123,7 +123,7 @@ key_fault opened text (faults.TooDeep left) h = absurd h
 key_fault opened text (faults.NumberRange left) h = absurd h
 key_fault opened text faults.Memory h = tt
 
--- a reading of a scalar is one of a value
+-- reading a scalar is reading a value
 pub scalar_read : (opened : ℕ) (text : List ℕ) (result : Result (WellFormed × Bor (List ℕ)) Fault) (old new : Texts)
     (before after : Scratch) → opened ≤ max_depth → after.values.items ≡ before.values.items → after.members.items ≡ before.members.items
     → ReadsScalar text result old new → ReadsValue opened text result old new before after

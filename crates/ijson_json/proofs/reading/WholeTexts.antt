@@ -1,4 +1,4 @@
--- A whole text that is read, or is refused.
+-- A whole text that is read or rejected.
 use Rattle.std.proofs.Common.{◌≡◌, ℕ, ◌<◌, ◌≤◌, Bool, true, List, [], ◌++◌, length, Result, Ok, Err, refl, sym, ap, subst, ◌∙◌}
 use Rattle.std.proofs.Common.{append_assoc, arith}
 use Rattle.std.specs.Prelude.{MatchResult}
@@ -23,14 +23,14 @@ use Rattle.ijson_json.proofs.grammar.PrintedIsAccepted.{printed_is_accepted}
 use Rattle.ijson_json.specs.Limits.{max_depth}
 use Rattle.ijson_json.proofs.grammar.FirstBytes.{value-past_space}
 
--- a text that is spelled begins, behind its white space, with the value
+-- a text that is spelled begins with the value, after its white space
 front_of : (text start : List ℕ) (t : Tree) → Skips text start → Spaced (λ value. IsValue t value) text
     → (rest : List ℕ) × IsSpace rest × Front (λ value. IsValue t value) start rest
 front_of text start t s (b, v, a, sb, w, sa, e) =
     let same = run_same is_space s.space b start (v ++ a) s.passed sb s.past (value-past_space t v a w) (sym s.is ∙ e) in
     (a, sa, record { front = v; holds = w; is = same.1 })
 
--- white space alone is no byte of a number
+-- white space alone begins with no byte of a number
 stops_of : (a : List ℕ) → IsSpace a → Stops a
 stops_of a h = let q : Stops (a ++ []) = space-Stops a [] h tt in rw append-nil at q
 
@@ -53,7 +53,7 @@ whole text start rest end t s r q z =
       },
     )
 
--- more stands behind the value
+-- there is more text after the value
 pub behind : (text start rest end : List ℕ) (t : Tree) → Skips text start → IsRead 0 start t rest → Skips rest end → (length end ≡ 0 → ⊥)
     → (u : Tree) (d : ℕ) (g : Bool) → Reads text u d g → ⊥
 behind text start rest end t s r q z u d g w =
@@ -63,7 +63,7 @@ behind text start rest end t s r q z u d g w =
     let tail = run_same is_space q.space f.0 end [] q.passed f.1 q.past tt (sym q.is ∙ same.1.1 ∙ sym (append-nil f.0)) in
     z (ap length tail.1)
 
--- a value beyond a limit makes the text beyond it
+-- a value beyond a limit makes the text exceed it
 beyond : (text start : List ℕ) (Bad Worst : Tree → Type 0) (Bad' Worst' : ℕ → Bool → Type 0) → Skips text start
     → ((t : Tree) → Bad t → Bad' (depth t) (is_ranged t)) → ((t : Tree) → Worst t → Worst' (depth t) (is_ranged t))
     → IsBeyond Bad Worst start → Passes Bad' Worst' text
@@ -99,7 +99,7 @@ beyond text start Bad Worst Bad' Worst' s bad worst b = record {
   first = worst b.element b.worst;
 }
 
--- what a fault says of the whole text
+-- the meaning of a fault for the whole text
 pub refuses : (text start : List ℕ) (fault : Fault) → Skips text start → Explains 0 start fault
     → Refuses text (error_of (length text) fault)
 refuses text start (faults.Syntax left) s h = (
@@ -114,22 +114,22 @@ refuses text start (faults.TooDeep left) s h = (
 refuses text start (faults.NumberRange left) s h = (omega arith, beyond text start _ _ _ _ s (λ t d. d) (λ t d. d) h.1)
 refuses text start faults.Memory s h = tt
 
--- ---- what follows for a text that is accepted
+-- ---- consequences for an accepted text
 
--- a text that is accepted is refused for memory alone
+-- an accepted text fails only for memory
 memory_alone : (text : List ℕ) (error : JsonError) (t : Tree) → Refuses text error → Accepted text t → error ≡ errors.Memory
 memory_alone text (errors.Syntax at) t h a = absurd (h.1 t a.0 true a.2)
 memory_alone text (errors.TooDeep at) t h a = let d : max_depth < a.0 = h.1.each t a.0 true a.2 in absurd (omega (arith, d, a.1))
 memory_alone text (errors.NumberRange at) t h a = absurd (not_both true refl (h.1.each t a.0 true a.2))
 memory_alone text errors.Memory t h a = refl
 
--- a text that is accepted is read as its tree
+-- an accepted text is read as its tree
 pub answers_read : (text : List ℕ) (result : Result WellFormed JsonError) → Answers text result → (t : Tree) → Accepted text t
     → MatchResult result (λ value. value.tree ≡ t) (λ error. error ≡ errors.Memory)
 answers_read text (Ok v) h t a = one_tree text v.tree t h.0 a.0 true true h.2 a.2
 answers_read text (Err e) h t a = memory_alone text e t h a
 
--- and so is what was printed
+-- and so is a printed text
 pub answers_printed : (text : List ℕ) (result : Result WellFormed JsonError) → Answers text result → (t : Tree) → IsWellFormed t
     → depth t ≤ max_depth → text ≡ print t → MatchResult result (λ value. value.tree ≡ t) (λ error. error ≡ errors.Memory)
 answers_printed text result h t n d e = answers_read text result h t

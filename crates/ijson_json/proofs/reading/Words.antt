@@ -1,4 +1,4 @@
--- The words `null`, `true` and `false`: what is read of one, and why none is.
+-- The words `null`, `true` and `false`: reading one, and why there is none.
 use Rattle.std.proofs.Common.{◌≡◌, ℕ, ◌≤◌, Bool, true, false, List, ◌∷◌, ◌++◌, refl, sym, ap, subst, ◌∙◌, arith}
 use Rattle.std.specs.Prelude.{◌≢◌, Result, MatchResult}
 use Rattle.std.specs.Borrow.{Bor}
@@ -21,7 +21,7 @@ use Rattle.ijson_json.proofs.scanning.Prefixes.{heads, heads_apart}
 use Rattle.ijson_json.proofs.grammar.FirstBytes.{kind, value_first}
 use Rattle.ijson_json.proofs.reading.CacheContents.{adds_none}
 
--- the word that begins with this byte and spells this tree, and that no other value begins as
+-- the word that begins with this byte and spells this tree, which no other value begins like
 pub record Word (b : ℕ) (word : List ℕ) (t : Tree) : Type 0 where
   pub spells : IsValue t word
   pub alone : (u : Tree) (front : List ℕ) → IsValue u front → kind b ≡ rank u → (others : List ℕ) × (front ≡ b ∷ others)
@@ -32,7 +32,7 @@ pub record Word (b : ℕ) (word : List ℕ) (t : Tree) : Type 0 where
   pub settles : t ≡ settled t
   pub shares : (cache : Texts) → AreShared cache t
 
--- of the values `null` alone begins with an n
+-- only `null` begins with an n
 null_alone : (t : Tree) (front : List ℕ) → IsValue t front → kind 110 ≡ rank t → (others : List ℕ) × (front ≡ 110 ∷ others)
     → front ≡ null_text
 null_alone null front v k o = v
@@ -50,12 +50,12 @@ null_word = record {
   shares = λ cache. tt;
 }
 
--- the first byte of a truth value
+-- the first byte of a Boolean
 abbrev first_of : Bool → ℕ
 first_of true = 116
 first_of false = 102
 
--- of the values a truth value alone begins with its first byte
+-- only a Boolean begins with its first byte
 boolean_alone : (a : Bool) (t : Tree) (front : List ℕ) → IsValue t front → kind (first_of a) ≡ rank t
     → (others : List ℕ) × (front ≡ first_of a ∷ others) → front ≡ boolean_text a
 boolean_alone true (boolean true) front v k o = v
@@ -98,7 +98,7 @@ module _ {b : ℕ} {word : List ℕ} {t : Tree} (w : Word b word t) where
     w.settles,
   )
 
-  -- a text that begins as the word does, and does not go on with it, begins with no value
+  -- a text that begins with the byte but not with the word begins with no value
   word_alone : (text more : List ℕ) → text ≡ b ∷ more → ((rest : List ℕ) → text ≢ word ++ rest) → NoValue text
   word_alone text more e n u x stops g =
       let f = value_first u g.front g.holds in
@@ -114,7 +114,7 @@ module _ {b : ℕ} {word : List ℕ} {t : Tree} (w : Word b word t) where
   word_fault opened text more (faults.NumberRange left) e h = absurd h
   word_fault opened text more faults.Memory e h = absurd h
 
-  -- what a reading does where the word may stand
+  -- the result of reading a text that may begin with the word
   pub word_reads : (answer : Result (WellFormed × Bor (List ℕ)) Fault) (value : WellFormed) (cache : Texts) (text : List ℕ) (first : ℕ)
       (more : List ℕ) → text ≡ first ∷ more → first ≡ b → value.tree ≡ t
       → MatchResult answer (λ x. (x.0 ≡ value) × (text ≡ word ++ x.1.now)) (λ fault. WordFault text word fault)

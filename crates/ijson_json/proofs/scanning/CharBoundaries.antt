@@ -1,11 +1,11 @@
--- Where a text may be cut.
+-- The positions at which a text may be split.
 use Rattle.std.proofs.Common.{◌≡◌, ℕ, ◌+◌, ◌<◌, List, ◌∷◌, ◌++◌, length, length-append, length-drop, get_or, drop, sym, ap}
 use Rattle.std.proofs.Common.{◌∙◌, arith, add-zero}
 use Rattle.std.specs.Str.{IsUtf8, IsCharBoundary}
 use Rattle.std.proofs.lemmas.List.{get_or-append-add, get_or-drop}
 use Rattle.std.proofs.lemmas.Str.{IsCharBoundary-after_ascii}
 
--- behind a first byte that is a character
+-- after a first byte that is ASCII
 pub after_first : (text bytes : List ℕ) (b : ℕ) (more : List ℕ) → IsUtf8 text → bytes ≡ text → bytes ≡ b ∷ more → b < 128
     → IsCharBoundary text 1
 after_first text bytes b more u e f h =
@@ -14,7 +14,7 @@ after_first text bytes b more u e f h =
     let first : get_or text 0 0 ≡ b = ap (λ (l : List ℕ). get_or l 0 0) whole in
     IsCharBoundary-after_ascii text 0 u some (omega (arith, first, h))
 
--- behind a character of one byte, which stands behind some others
+-- after an ASCII byte that follows others
 pub behind_byte : (text run after rest : List ℕ) (b start : ℕ) → IsUtf8 text → drop start text ≡ run ++ after → after ≡ b ∷ rest → b < 128
     → IsCharBoundary text (start + (length run + 1))
 behind_byte text run after rest b start u e f h =

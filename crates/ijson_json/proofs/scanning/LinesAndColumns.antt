@@ -1,4 +1,4 @@
--- One byte more is passed.
+-- The counts after one more byte.
 use Rattle.std.proofs.Common.{◌≡◌, ◌≢◌, ◌+◌, ◌++◌, ◌<◌, ◌≤◌, ℕ, suc, Bool, List, [], ◌∷◌, inr, true, false, cond}
 use Rattle.std.proofs.Common.{length, take, length-take, refl, sym, ap, ◌∙◌, arith, append_assoc}
 use Rattle.std.specs.Prelude.{nat_eq}
@@ -34,7 +34,7 @@ line_feed_passed bytes lines more f = (
   refl,
 )
 
--- another byte goes on with the line
+-- another byte continues the line
 further : (bytes : List ℕ) (lines more b now : ℕ) → Counts bytes lines more → b ≢ 10 → now ≡ more + characters (b ∷ [])
     → Counts (bytes ++ b ∷ []) lines now
 further bytes lines more b now f other counts =
@@ -51,7 +51,7 @@ further bytes lines more b now f other counts =
 counted : (b : ℕ) (is : Bool) → begins b ≡ is → characters (b ∷ []) ≡ cond is 1 0
 counted b is e = ap (λ c. cond c (suc (characters [])) (characters [])) e
 
--- and begins a character or none
+-- and begins a character or not
 pub first_passed : (bytes : List ℕ) (lines more b : ℕ) → Counts bytes lines more → b ≢ 10 → begins b ≡ true
     → Counts (bytes ++ b ∷ []) lines (more + 1)
 first_passed bytes lines more b f other is = further bytes lines more b (more + 1) f other (omega (arith, counted b true is))
@@ -60,7 +60,7 @@ pub other_passed : (bytes : List ℕ) (lines more b : ℕ) → Counts bytes line
     → Counts (bytes ++ b ∷ []) lines more
 other_passed bytes lines more b f other is = further bytes lines more b more f other (omega (arith, counted b false is))
 
--- neither is more than the bytes
+-- neither count exceeds the number of bytes
 line_feeds-within : (bytes : List ℕ) → line_feeds bytes ≤ length bytes
 line_feeds-within [] = omega arith
 line_feeds-within (b ∷ bytes) = elim (nat_eq b 10) as (λ c. cond c (suc (line_feeds bytes)) (line_feeds bytes) ≤ suc (length bytes)) [
@@ -75,7 +75,7 @@ characters-within (b ∷ bytes) = elim (begins b) as (λ c. cond c (suc (charact
   | false ↦ omega (arith, characters-within bytes)
 ]
 
--- of some bytes before others there are fewer lines and characters than bytes
+-- a proper prefix has fewer lines and characters than the whole has bytes
 pub passed_within : (bytes : List ℕ) (at lines more : ℕ) → at < length bytes → Counts (take at bytes) lines more
     → (lines < length bytes) × (more < length bytes)
 passed_within bytes at lines more before f = (

@@ -1,4 +1,4 @@
--- The run of bytes that pass a test, of which a mask tells those that fail.
+-- The run of bytes that pass a test, from a mask of those that fail.
 use Rattle.std.proofs.Common.{◌≡◌, ℕ, ◌+◌, ◌*◌, ◌<◌, ◌≤◌, Bool, true, false, cond, eqb, List, [], ◌∷◌, map, length, drop, refl, sym, ap}
 use Rattle.std.proofs.Common.{◌∙◌, arith}
 use Rattle.std.specs.Prelude.{not}
@@ -21,17 +21,17 @@ module _ (p : ℕ → Bool) where
   none_fails true n l m le e ih = let z = ih (omega arith) in omega arith
   none_fails false n l m le e ih = let no : ⊥ = omega arith in absurd no
 
-  -- where all bytes pass, the mask is 0
+  -- if all bytes pass, the mask is 0
   all_pass : (xs : List ℕ) → prefix_len p xs ≡ length xs → mask_l (map fails xs) ≡ 0
   all_pass [] e = refl
   all_pass (x ∷ xs) e = none_fails (p x) _ (length xs) _ (prefix_len-le-length p xs) (omega arith) (all_pass xs)
 
-  -- a run goes on behind a piece that passes whole, and else ends in it
+  -- a run continues after a piece that passes entirely, and otherwise ends in it
   split : (d : List ℕ) (i n : ℕ) → prefix_len p (drop i d) ≡ cond (eqb (prefix_len p (chunk i n d)) (length (chunk i n d)))
       (length (chunk i n d) + prefix_len p (drop (i + n) d)) (prefix_len p (chunk i n d))
   split d i n = ap (prefix_len p) (chunk-drop i n d) ∙ prefix_len-append p (chunk i n d) (drop (i + n) d)
 
-  -- no byte of the piece fails, so that the run goes on behind it
+  -- no byte of the piece fails, so the run continues after it
   pub run_through : (d : List ℕ) (i n : ℕ) → i + n ≤ length d → mask_l (map (λ b. not (p b)) (chunk i n d)) ≡ 0
       → prefix_len p (drop i d) ≡ n + prefix_len p (drop (i + n) d)
   run_through d i n room none =
@@ -65,4 +65,4 @@ module _ (p : ℕ → Bool) where
         length-chunk i n d room,
       )
 
--- ---- the run that begins among the last bytes: a bit stands for the end, as that of a quote would
+-- ---- the run that begins in the last bytes: a bit marks the end, as that of a quote would

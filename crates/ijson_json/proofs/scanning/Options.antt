@@ -1,7 +1,7 @@
--- A fact on an `Option`, case by case.
+-- Reasoning about an `Option` by cases.
 use Rattle.std.specs.Prelude.{Option, Some, None, MatchOption}
 
--- what follows in each case follows of the option
+-- an implication in each case is one for the option
 pub weaken : {A : Type 0} (o : Option A) (P P' : Type 0) (Q Q' : A → Type 0) → MatchOption o P Q → (P → P') → ((a : A) → Q a → Q' a)
     → MatchOption o P' Q'
 weaken None P P' Q Q' h f g = f h

@@ -1,4 +1,4 @@
--- Runs of bytes that pass a test, at the front of a text.
+-- Leading runs of bytes that pass a test.
 use Rattle.std.proofs.Common.{◌≡◌, ℕ, ◌≤◌, Bool, true, false, List, [], ◌∷◌, ◌++◌, length, refl, sym, ap, ◌∙◌, eqb, eq-eqb}
 use Rattle.std.proofs.Common.{arith}
 use Rattle.std.specs.Prelude.{IsTrue}
@@ -20,19 +20,19 @@ pub past_first : (p : ℕ → Bool) (x : List ℕ) (c : ℕ) (cs : List ℕ) →
 past_first p [] c cs h e t = cc
 past_first p (b ∷ x) c cs h e t = let same : b ≡ c = cc in not_both (p c) t (rw (← same) h)
 
--- equal texts begin with one byte
+-- equal texts begin with the same byte
 pub heads : (a b : ℕ) (x y : List ℕ) → a ∷ x ≡ b ∷ y → a ≡ b
 heads a b x y e = cc
 
--- equal texts go on alike
+-- equal texts continue with the same bytes
 pub tails : (a b : ℕ) (x y : List ℕ) → a ∷ x ≡ b ∷ y → x ≡ y
 tails a b x y e = cc
 
--- two bytes that differ begin two texts
+-- texts that begin with different bytes differ
 pub heads_apart : (a b : ℕ) (x y : List ℕ) → a ∷ x ≡ b ∷ y → eqb a b ≡ false → ⊥
 heads_apart a b x y e f = not_both (eqb a b) (eq-eqb a b (heads a b x y e)) f
 
--- the longest run is one
+-- the longest run is unique
 pub run_same : (p : ℕ → Bool) (a b x y : List ℕ) → Run p a → Run p b → Past p x → Past p y → a ++ x ≡ b ++ y → (a ≡ b) × (x ≡ y)
 run_same p [] [] x y ra rb px py e = (refl, e)
 run_same p [] (c ∷ b) x y ra rb px py e = absurd (past_first p x c (b ++ y) px e rb.0)
@@ -44,19 +44,19 @@ run_same p (c ∷ a) (d ∷ b) x y ra rb px py e =
     let whole : c ∷ a ≡ d ∷ b = cc (first, same.0) in
     (whole, same.1)
 
--- two runs make one
+-- two concatenated runs are one
 pub run-append : (p : ℕ → Bool) (a b : List ℕ) → Run p a → Run p b → Run p (a ++ b)
 run-append p [] b ra rb = rb
 run-append p (c ∷ a) b ra rb = (ra.0, run-append p a b ra.1 rb)
 
--- what stands behind the front is no longer than the text
+-- the text after a prefix is no longer than the whole
 pub front_shorter : (P : List ℕ → Type 0) (text rest : List ℕ) → Front P text rest → length rest ≤ length text
 front_shorter P text rest f = omega (arith, ap length f.is, length-append f.front rest)
 
--- nor is what stands behind white space
+-- nor is the text after white space
 pub skips_shorter : (text rest : List ℕ) → Skips text rest → length rest ≤ length text
 skips_shorter text rest s = omega (arith, ap length s.is, length-append s.space rest)
 
--- white space was passed, and the closing byte stands behind it
+-- white space was skipped, and the closing byte follows it
 pub closes : (closing : ℕ) (text start rest : List ℕ) → Skips text start → start ≡ closing ∷ rest → Closes closing text rest
 closes closing text start rest s e = record { space = s.space; passed = s.passed; is = s.is ∙ ap (λ (l : List ℕ). s.space ++ l) e }

@@ -1,4 +1,4 @@
--- The bytes of a vector that must stand in an escape, or end the string, as a mask; and masks with a bit for the end.
+-- The bytes of a vector that need an escape or end the string, as a mask; and masks with a bit for the end.
 use Rattle.std.proofs.Common.{◌≡◌, ℕ, zero, suc, ◌+◌, ◌-◌, ◌*◌, ◌/◌, ◌%◌, ◌^◌, ◌<◌, ◌≤◌, Bool, true, false, cond, eqb, ltb, List, []}
 use Rattle.std.proofs.Common.{◌∷◌, ◌++◌, map, length, length-append, length-drop, take, drop, append_assoc, replicate, refl, sym, ap}
 use Rattle.std.proofs.Common.{ap₂, ◌∙◌, arith, div-one, div-le_self, lt_of_lt_of_le, mod-eq_of_lt, one-mul, pow-suc}
@@ -18,15 +18,15 @@ use lib.Count.{count_trailing_zeros}
 use lib.Lanes.{chunk, mask_l, top, zip2}
 use Rattle.ijson_json.specs.Strings.{is_unescaped}
 
--- what a test leaves in a lane
+-- the lane that a test yields
 abbrev lit : Bool → ℕ
 lit b = cond b 255 0
 
--- the byte must stand in an escape, or ends the string
+-- the byte needs an escape or ends the string
 abbrev special : ℕ → Bool
 special b = not (is_unescaped b)
 
--- what the three tests leave in the lane of a byte
+-- the lane that the three tests yield for a byte
 abbrev lane : ℕ → ℕ
 lane b = bit_or (bit_or (lit (eqb b 34)) (lit (eqb b 92))) (lit (ltb b 32))
 
@@ -45,16 +45,16 @@ three false false false = refl
 not_below : (a b : ℕ) → nat_le a b ≡ not (ltb b a)
 not_below a b = grind (arith, nat_tests)
 
--- the high bit of a lane tells of its byte
+-- the high bit of a lane is set if its byte is special
 lane_is : (b : ℕ) → top 7 (lane b) ≡ special b
 lane_is b = three (eqb b 34) (eqb b 92) (ltb b 32) ∙ ap (λ t. not (t && (not (eqb b 34) && not (eqb b 92)))) (sym (not_below 32 b))
 
--- and so do those of all lanes
+-- and so are those of all lanes
 lanes_are : (v : List ℕ) → map (top 7) (map lane v) ≡ map special v
 lanes_are [] = refl
 lanes_are (b ∷ v) = ap₂ ◌∷◌ (lane_is b) (lanes_are v)
 
--- the mask that the vector gives
+-- the mask of the vector
 pub specials_mask : (v : List ℕ) (n : ℕ) → length v ≡ n → n ≤ 64
     → mask_l (map (top 7) (zip2 bit_or (zip2 bit_or (zip2 (λ a b. lit (eqb a b)) v (replicate n 34))
     (zip2 (λ a b. lit (eqb a b)) v (replicate n 92))) (zip2 (λ a b. lit (ltb a b)) v (replicate n 32)))) % 2 ^ 64
@@ -69,12 +69,12 @@ specials_mask v n long short =
     ∙ ap (λ m. mask_l m % 2 ^ 64) (lanes_are v)
     ∙ mask_l-mod (map special v) 64 (omega (arith, length-map v special))
 
--- without its lowest bit a mask is that of the others
+-- a mask without its lowest bit is that of the other bytes
 bit_above : (b : Bool) (m : ℕ) → (cond b 1 0 + 2 * m) / 2 ^ 1 ≡ m
 bit_above true m = omega arith
 bit_above false m = omega arith
 
--- without its lowest bits a mask is that of the lanes behind them
+-- a mask without its k lowest bits is that of the lanes after the first k
 mask_dropped : (ms : List Bool) (k : ℕ) → mask_l ms / 2 ^ k ≡ mask_l (drop k ms)
 mask_dropped ms zero = div-one (mask_l ms)
 mask_dropped [] (suc k) = omega (arith, div-le_self 0 (2 ^ suc k))
@@ -82,7 +82,7 @@ mask_dropped (b ∷ ms) (suc k) =
     ap (λ j. (cond b 1 0 + 2 * mask_l ms) / 2 ^ j) (omega arith) ∙ sym (shr-shr (cond b 1 0 + 2 * mask_l ms) 1 k)
     ∙ ap (λ m. m / 2 ^ k) (bit_above b (mask_l ms)) ∙ mask_dropped ms k
 
--- the mask of two texts in a row
+-- the mask of two concatenated texts
 mask_joined : (xs ys : List ℕ) → mask_l (map special (xs ++ ys)) ≡ mask_l (map special xs) + 2 ^ length xs * mask_l (map special ys)
 mask_joined [] ys = omega arith
 mask_joined (x ∷ xs) ys = rw (mask_joined xs ys, pow-suc 2 (length xs)) (omega arith)
@@ -91,23 +91,23 @@ mask_joined (x ∷ xs) ys = rw (mask_joined xs ys, pow-suc 2 (length xs)) (omega
 mask_below : (xs : List ℕ) (n : ℕ) → length xs ≡ n → mask_l (map special xs) < 2 ^ n
 mask_below xs n long = omega (arith, mask_l-lt (map special xs), ap (λ k. 2 ^ k) (length-map xs special ∙ long))
 
--- a bit behind the mask of some bytes is that of a quote behind them
+-- a bit after the mask of some bytes is that of a quote after them
 quote_marked : (xs : List ℕ) → mask_l (map special (xs ++ 34 ∷ [])) ≡ mask_l (map special xs) + 2 ^ length xs
 quote_marked xs = mask_joined xs (34 ∷ []) ∙ omega arith
 
--- a mask with a bit behind it
+-- a mask with a bit after it
 pub end_marked : (v : List ℕ) (n : ℕ) → length v ≡ n → n < 64
     → bit_or (mask_l (map (λ b. not (is_unescaped b)) v)) (1 * 2 ^ n % 2 ^ 64) ≡ mask_l (map (λ b. not (is_unescaped b)) v) + 2 ^ n
 end_marked v n long short =
     let m = mask_l (map special v) in
     ap (bit_or m) (one_shl n 64 short ∙ sym (one-mul (2 ^ n))) ∙ or_shifted_r 1 n m (mask_below v n long) ∙ omega arith
 
--- a quote behind the bytes ends their run where they do
+-- a quote after the bytes ends their run at their end
 run_before_quote : (xs : List ℕ) → prefix_len is_unescaped (xs ++ 34 ∷ []) ≡ prefix_len is_unescaped xs
 run_before_quote [] = refl
 run_before_quote (x ∷ xs) = ap (λ n. cond (is_unescaped x) (1 + n) 0) (run_before_quote xs)
 
--- where a quote stands behind the bytes, the lowest bit from a place on is where the run from there ends
+-- if a quote follows the bytes, the lowest bit from an index on is the end of the run from there
 run_to_quote : (d : List ℕ) (start : ℕ) → start ≤ length d → length d < start + 64
     → count_trailing_zeros 64 (mask_l (map special (d ++ 34 ∷ [])) / 2 ^ start) ≡ prefix_len is_unescaped (drop start d)
 run_to_quote d start inside short =
@@ -119,7 +119,7 @@ run_to_quote d start inside short =
     ∙ trailing_mask_l special 64 (left ++ 34 ∷ []) (omega (arith, length-append left (34 ∷ []), length-drop start d)) some
     ∙ run_twice is_unescaped (left ++ 34 ∷ []) ∙ run_before_quote left
 
--- the mask of the last n bytes with a bit behind it is that of these with a quote behind them
+-- the mask of the last n bytes with a bit after it is that of these bytes and a quote
 last_marked : (d : List ℕ) (n found : ℕ) → n ≤ length d
     → found ≡ mask_l (map (λ b. not (is_unescaped b)) (chunk (length d - n) n d)) + 2 ^ n
     → found ≡ mask_l (map special (drop (length d - n) d ++ 34 ∷ []))
@@ -128,7 +128,7 @@ last_marked d n found room is =
     let long : length last ≡ n = omega (arith, length-drop (length d - n) d) in
     is ∙ ap₂ ◌+◌ (ap (λ l. mask_l (map special l)) (take_all n last (omega arith))) (ap (λ k. 2 ^ k) (sym long)) ∙ sym (quote_marked last)
 
--- it tells where the run from a place among these bytes ends
+-- it gives the end of the run from an index among these bytes
 pub run_in_last : (d : List ℕ) (n at found : ℕ) → n < 64 → n ≤ length d → at ≤ length d → length d ≤ at + n
     → found ≡ mask_l (map (λ b. not (is_unescaped b)) (chunk (length d - n) n d)) + 2 ^ n
     → count_trailing_zeros 64 (found / 2 ^ (at - (length d - n))) ≡ prefix_len is_unescaped (drop at d)
@@ -146,7 +146,7 @@ first_masks d k j inside =
     ap (λ l. mask_l (map special l)) (take-add k j d) ∙ mask_joined (take k d) (take j (drop k d))
     ∙ ap (λ n. mask_l (map special (take k d)) + 2 ^ n * mask_l (map special (take j (drop k d)))) (length-take-le k d inside)
 
--- that of all, with a quote behind them, is that of the first k, and above it that of the others
+-- the mask of all bytes and a quote is that of the first k, and above it that of the others
 quoted_masks : (d : List ℕ) (k : ℕ) → k ≤ length d
     → mask_l (map special (d ++ 34 ∷ [])) ≡ mask_l (map special (take k d)) + 2 ^ k * mask_l (map special (drop k d ++ 34 ∷ []))
 quoted_masks d k inside =
@@ -161,7 +161,7 @@ quoted_fits d short =
     lt_of_lt_of_le (mask_below (d ++ 34 ∷ []) (length d + 1) (length-append d (34 ∷ [])))
     (pow_mono {i = length d + 1} {j = 64} (omega arith))
 
--- two masks whose bits in the middle are the same make one that has these once
+-- the union of two masks that agree on their overlap
 overlapping : (k j low mid high : ℕ) → low < 2 ^ k → mid < 2 ^ j
     → bit_or (low + 2 ^ k * mid) ((mid + 2 ^ j * high) * 2 ^ k) ≡ low + 2 ^ k * (mid + 2 ^ j * high)
 overlapping k j low mid high small inner =
@@ -174,7 +174,7 @@ overlapping k j low mid high small inner =
     ap₂ bit_or none all ∙ or_block j 0 high mid mid inner inner ∙ ap (λ n. high * 2 ^ j + n) (or_self mid) ∙ sym all in
     ap₂ bit_or first last ∙ or_block k mid behind low 0 small (pow_pos k) ∙ ap₂ (λ m n. m * 2 ^ k + n) same (or_zero_r low) ∙ omega arith
 
--- the masks of the first n bytes and of the last, with a bit behind these, make that of all with a quote behind them
+-- the masks of the first n bytes and of the last n with a bit after them form that of all and a quote
 all_marked : (d : List ℕ) (n first behind : ℕ) → n < 32 → n ≤ length d → length d ≤ 2 * n
     → first ≡ mask_l (map (λ b. not (is_unescaped b)) (chunk 0 n d))
     → behind ≡ mask_l (map (λ b. not (is_unescaped b)) (chunk (length d - n) n d)) + 2 ^ n
@@ -200,7 +200,7 @@ all_marked d n first behind short room few is is_behind =
     (mask_below (take j last) j (length-take-le j last inner))
     ∙ ap (λ b. low + 2 ^ k * b) (sym back) ∙ sym whole
 
--- and so they tell where the run from a place ends
+-- and so they give the end of the run from an index
 pub run_in_two : (d : List ℕ) (n first behind start : ℕ) → n < 32 → n ≤ length d → length d ≤ 2 * n → start ≤ length d
     → first ≡ mask_l (map (λ b. not (is_unescaped b)) (chunk 0 n d))
     → behind ≡ mask_l (map (λ b. not (is_unescaped b)) (chunk (length d - n) n d)) + 2 ^ n

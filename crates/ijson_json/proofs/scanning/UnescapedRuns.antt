@@ -1,4 +1,4 @@
--- Runs of bytes that stand for themselves in a string.
+-- Runs of bytes that need no escape in a string.
 use Rattle.std.proofs.Common.{◌≡◌, ℕ, ◌+◌, ◌<◌, ◌≤◌, Bool, true, false, cond, List, [], ◌∷◌, length, take, drop, get_or, refl, sym, ap, arith}
 use Rattle.std.proofs.Common.{add-zero, ltb, ◌∙◌}
 use Rattle.std.specs.Prelude.{IsTrue, not, unwrap_or, Some, None}
@@ -15,13 +15,13 @@ use Rattle.ijson_json.specs.Strings.{is_unescaped}
 use Rattle.ijson_json.specs.private.Reading.{Past}
 use Rattle.ijson_json.proofs.scanning.Prefixes.{Run}
 
--- up to the end of the longest run each byte passes
+-- each byte before the end of the longest run passes
 pub run_before : (p : ℕ → Bool) (xs : List ℕ) (n : ℕ) → n ≤ prefix_len p xs → Run p (take n xs)
 run_before p xs n few = recursion_from_All (λ b. IsTrue (p b)) _ (λ k d h.
     let below : k < n = omega (arith, length-take-le n xs (omega (arith, few, prefix_len-le-length p xs)), h) in
     rw (get_or-take n xs k d below) (prefix_len_passes p xs k d (omega (arith, few))))
 
--- where all of the first bytes pass, the longest run has them
+-- if all of the first n bytes pass, the longest run contains them
 pub run_covers : (p : ℕ → Bool) (xs : List ℕ) (n : ℕ) → prefix_len p (take n xs) ≡ length (take n xs)
     → length (take n xs) ≤ prefix_len p xs
 run_covers p xs n all =
@@ -31,7 +31,7 @@ run_covers p xs n all =
     ∙ ap (λ b. cond b (length first + prefix_len p (drop n xs)) (prefix_len p first)) (eq-eqb _ _ all) in
     omega (arith, whole)
 
--- the longest run passes, and stops where a byte does not
+-- each byte of the longest run passes
 pub run_passes : (p : ℕ → Bool) (xs : List ℕ) → Run p (take (prefix_len p xs) xs)
 run_passes p xs = run_before p xs (prefix_len p xs) (omega arith)
 
@@ -40,17 +40,17 @@ past_at_first : (p : ℕ → Bool) (xs : List ℕ) → (0 < length xs → p (get
 past_at_first p [] h = tt
 past_at_first p (x ∷ xs) h = h (omega arith)
 
--- behind the longest run no byte passes
+-- the byte after the longest run does not pass
 pub run_stops : (p : ℕ → Bool) (xs : List ℕ) → Past p (drop (prefix_len p xs) xs)
 run_stops p xs = past_at_first p _ (λ more.
     let inside : prefix_len p xs < length xs = omega (arith, length-drop (prefix_len p xs) xs, more) in
     rw (get_or-drop (prefix_len p xs) xs 0 0, add-zero (prefix_len p xs)) (prefix_len_stops p xs 0 inside))
 
--- a byte that does not stand for itself is ASCII
+-- a byte that needs an escape is ASCII
 pub special_ascii : (b : ℕ) → is_unescaped b ≡ false → b < 128
 special_ascii b h = grind (arith, nat_tests)
 
--- a text may be cut behind a run
+-- a text may be split after a run
 pub run_boundary : (text : List ℕ) → IsCharBoundary text (prefix_len is_unescaped text)
 run_boundary text = elim (ltb n (length text)) as (λ v. ltb n (length text) ≡ v → IsCharBoundary text n) [
   | true ↦ λ inside. let h : n < length text = ltb-true n (length text) inside in

@@ -1,4 +1,4 @@
--- White space: the mask of the bytes that are none, where a text may be cut behind it, and what is skipped.
+-- White space: the mask of the other bytes, splitting a text after it, and skipping it.
 use Rattle.std.proofs.Common.{◌≡◌, ℕ, zero, suc, ◌+◌, ◌<◌, ◌%◌, ◌^◌, Bool, true, false, cond, List, [], ◌∷◌, map, length, take, drop}
 use Rattle.std.proofs.Common.{refl, sym, ap, ap₂, ◌∙◌, arith, eqb, replicate}
 use Rattle.std.specs.Prelude.{IsTrue, not, ◌&&◌, ◌||◌}
@@ -15,27 +15,27 @@ use Rattle.ijson_json.specs.Grammar.{is_space}
 use Rattle.ijson_json.specs.private.Reading.{Past, Skips}
 use Rattle.ijson_json.proofs.scanning.UnescapedRuns.{run_passes, run_stops}
 
--- what a test leaves in a lane
+-- the lane that a test yields
 abbrev lit : Bool → ℕ
 lit b = cond b 255 0
 
--- what two tests leave there that both have to hold
+-- the lane for two tests that must both hold
 both : (a b : Bool) → bit_and (lit a) (lit b) ≡ lit (a && b)
 both true true = refl
 both true false = refl
 both false true = refl
 both false false = refl
 
--- the high bit of a lane tells of its tests
+-- the high bit of a lane is the result of its tests
 high : (b : Bool) → top 7 (lit b) ≡ b
 high true = refl
 high false = refl
 
--- what the four tests leave in the lane of a byte
+-- the lane that the four tests yield for a byte
 abbrev lane : ℕ → ℕ
 lane b = bit_and (bit_and (bit_and (lit (not (eqb b 32))) (lit (not (eqb b 10)))) (lit (not (eqb b 13)))) (lit (not (eqb b 9)))
 
--- none of the four is none of white space
+-- none of the four bytes is no white space
 none : (space feed return tab : Bool) → ((not space && not feed) && not return) && not tab ≡ not (space || (tab || (feed || return)))
 none true feed return tab = refl
 none false true return true = refl
@@ -45,7 +45,7 @@ none false false true false = refl
 none false false false true = refl
 none false false false false = refl
 
--- the high bit of a lane tells of its byte
+-- the high bit of a lane is set if its byte is not white space
 lane_is : (b : ℕ) → top 7 (lane b) ≡ not (is_space b)
 lane_is b =
     ap (top 7) (ap (λ m. bit_and (bit_and m (lit (not (eqb b 13)))) (lit (not (eqb b 9)))) (both (not (eqb b 32)) (not (eqb b 10)))
@@ -54,12 +54,12 @@ lane_is b =
     ∙ high (((not (eqb b 32) && not (eqb b 10)) && not (eqb b 13)) && not (eqb b 9))
     ∙ none (eqb b 32) (eqb b 10) (eqb b 13) (eqb b 9)
 
--- and so do those of all lanes
+-- and so are those of all lanes
 lanes_are : (v : List ℕ) → map (top 7) (map lane v) ≡ map (λ b. not (is_space b)) v
 lanes_are [] = refl
 lanes_are (b ∷ v) = ap₂ ◌∷◌ (lane_is b) (lanes_are v)
 
--- the mask that the vector gives
+-- the mask of the vector
 pub others_mask : (v : List ℕ) → length v ≡ 16
     → mask_l (map (top 7) (zip2 bit_and (zip2 bit_and (zip2 bit_and (zip2 (λ a b. lit (not (eqb a b))) v (replicate 16 32))
     (zip2 (λ a b. lit (not (eqb a b))) v (replicate 16 10))) (zip2 (λ a b. lit (not (eqb a b))) v (replicate 16 13)))
@@ -81,7 +81,7 @@ others_mask v long =
 pub space_ascii : (b : ℕ) → is_space b ≡ true → b < 128
 space_ascii b h = grind (arith, nat_tests)
 
--- a text may be cut behind its white space
+-- a text may be split after its white space
 pub space_boundary : (text : List ℕ) → IsUtf8 text → IsCharBoundary text (prefix_len is_space text)
 space_boundary text u = behind (prefix_len is_space text) refl
   where
@@ -93,7 +93,7 @@ space_boundary text u = behind (prefix_len is_space text) refl
         rw more (IsCharBoundary-after_ascii text n u (omega (arith, prefix_len-le-length is_space text))
         (space_ascii _ (prefix_len_passes is_space text n 0 below)))
 
--- where the first byte is none, there is nothing to skip
+-- if the first byte is not white space, nothing is skipped
 pub none_skipped : (text : List ℕ) → Past is_space text → Skips text text
 none_skipped text p = record { space = []; passed = tt; is = refl; past = p }
 

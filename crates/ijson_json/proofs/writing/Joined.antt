@@ -1,19 +1,19 @@
--- The items of an array and the members of an object, as they are written one by one.
+-- Writing the elements of an array and the members of an object one by one.
 use Rattle.std.proofs.Common.{◌≡◌, Bool, true, false, ℕ, List, [], ◌∷◌, ◌++◌, map, refl, ap, sym, ◌∙◌, append-nil}
 use Rattle.ijson_value.specs.Tree.{Tree}
 use Rattle.ijson_value.specs.WellFormed.{WellFormed, item_trees, pair_trees}
 use Rattle.ijson_json.specs.Separator.{separator}
 use Rattle.ijson_json.specs.Print.{quoted, print, print_items, print_members}
 
--- texts one by one, each behind its separator
+-- texts one by one, each after its separator
 abbrev pub joined : Bool → List (List ℕ) → List ℕ
 joined is_first [] = []
 joined is_first (text ∷ texts) = separator is_first ++ (text ++ joined false texts)
 
--- where the text of several is that of the first, a comma and that of the others, they are written one by one
+-- if the text of several elements is that of the first, a comma and that of the others, they are written one by one
 module _ {X : Type 0} (text : X → List ℕ) (all : List X → List ℕ) (none : all [] ≡ [])
     (one : (x : X) → all (x ∷ []) ≡ text x) (several : (x y : X) (xs : List X) → all (x ∷ y ∷ xs) ≡ text x ++ 44 ∷ all (y ∷ xs)) where
-  -- behind a first one, the others have a comma before them
+  -- after a first one, the others have a comma before them
   joined_others : (x : X) (xs : List X) → joined false (map text (x ∷ xs)) ≡ 44 ∷ all (x ∷ xs)
   joined_others x [] = ap (λ l. 44 ∷ l) (append-nil (text x) ∙ sym (one x))
   joined_others x (y ∷ xs) = ap (λ l. 44 ∷ l) (ap (λ l. text x ++ l) (joined_others y xs) ∙ sym (several x y xs))
@@ -24,7 +24,7 @@ module _ {X : Type 0} (text : X → List ℕ) (all : List X → List ℕ) (none 
   joined_all (x ∷ []) = append-nil (text x) ∙ sym (one x)
   joined_all (x ∷ y ∷ xs) = ap (λ l. text x ++ l) (joined_others y xs) ∙ sym (several x y xs)
 
--- the texts of items
+-- the texts of elements
 abbrev pub item_texts : (Tree → List ℕ) → List WellFormed → List (List ℕ)
 item_texts text vs = map (λ v. text v.tree) vs
 
@@ -32,7 +32,7 @@ item_texts text vs = map (λ v. text v.tree) vs
 abbrev pub member_texts : (Tree → List ℕ) → List (List ℕ × WellFormed) → List (List ℕ)
 member_texts text ps = map (λ p. quoted p.0 ++ 58 ∷ text p.1.tree) ps
 
--- the items, one by one
+-- the elements, one by one
 pub joined-items : (vs : List WellFormed) → joined true (item_texts print vs) ≡ print_items (item_trees vs)
 joined-items vs = joined_all (λ v. print v.tree) (λ vs. print_items (item_trees vs)) refl (λ v. refl) (λ v w vs. refl) vs
 

@@ -1,4 +1,4 @@
--- What is written of a string.
+-- Writing a string.
 use Rattle.std.proofs.Common.{◌≡◌, ℕ, ◌+◌, ◌<◌, ◌/◌, ◌%◌, false, cond, List, [], ◌∷◌, ◌++◌, length, length-append, take, drop, Result}
 use Rattle.std.proofs.Common.{Ok, Err, refl, sym, ap, ap₂, ◌∙◌, append_assoc, arith}
 use Rattle.std.specs.Prelude.{IsTrue, ◌==◌, ◌≢◌, nat_lt, OnOk, OnErr, Some, is_ok, if◌then◌else◌}
@@ -14,23 +14,23 @@ use Rattle.ijson_json.specs.private.Reading.{Past}
 use Rattle.ijson_json.proofs.scanning.Prefixes.{Run}
 use Rattle.ijson_json.proofs.scanning.UnescapedRuns.{special_ascii}
 
--- what is written of two texts in a row
+-- escaping two concatenated texts
 all_escaped-append : (s t : List ℕ) → all_escaped (s ++ t) ≡ all_escaped s ++ all_escaped t
 all_escaped-append [] t = refl
 all_escaped-append (b ∷ s) t = ap (λ (l : List ℕ). escaped b ++ l) (all_escaped-append s t)
     ∙ sym (append_assoc (escaped b) (all_escaped s) (all_escaped t))
 
--- a byte that stands for itself is written as it is
+-- an unescaped byte is written unchanged
 escaped_plain : (b : ℕ) → IsTrue (is_unescaped b) → escaped b ≡ b ∷ []
 unfolding escaped
 escaped_plain b h = grind (arith, nat_tests)
 
--- a run is written as it is
+-- a run is written unchanged
 pub all_escaped-run : (run : List ℕ) → Run is_unescaped run → all_escaped run ≡ run
 all_escaped-run [] h = refl
 all_escaped-run (b ∷ run) h = ap₂ ◌++◌ (escaped_plain b h.0) (all_escaped-run run h.1)
 
--- what is written of one byte
+-- escaping one byte
 pub all_escaped-one : (b : ℕ) → all_escaped (b ∷ []) ≡ escaped b
 all_escaped-one b = append-nil (escaped b)
 
@@ -41,21 +41,21 @@ written_more old out done more piece e f =
     ap (λ (l : List ℕ). l ++ piece) e ∙ append_assoc old (all_escaped done) piece
     ∙ ap (λ (l : List ℕ). old ++ l) (ap (λ (l : List ℕ). all_escaped done ++ l) (sym f) ∙ sym (all_escaped-append done more))
 
--- what ends a text is written
+-- the end of a text is written
 pub written_end : (old out text end : List ℕ) → out ≡ old ++ all_escaped text → out ++ end ≡ old ++ (all_escaped text ++ end)
 written_end old out text end e = ap (λ (l : List ℕ). l ++ end) e ∙ append_assoc old (all_escaped text) end
 
--- the text before a run and the run are the text as far as it goes
+-- the text before a run and the run are a prefix of the text
 read_run : (text run after : List ℕ) (start : ℕ) → drop start text ≡ run ++ after → take (start + length run) text ≡ take start text ++ run
 read_run text run after start e =
     take-add start (length run) text ∙ ap (λ l. take start text ++ l) (ap (take (length run)) e ∙ take_at run after (length run) refl)
 
--- nothing stands behind the run, so that these are all of it
+-- nothing follows the run, so these are the whole text
 pub read_all : (text run after : List ℕ) (start : ℕ) → drop start text ≡ run ++ after → length after ≡ 0 → text ≡ take start text ++ run
 read_all text run [] start e none = sym (take-append-drop start text) ∙ ap (λ l. take start text ++ l) (e ∙ append-nil run)
 read_all text run (b ∷ after) start e none = absurd (omega (arith, none))
 
--- a byte stands behind the run
+-- a byte follows the run
 pub read_on : (text run after rest : List ℕ) (b start : ℕ) → drop start text ≡ run ++ after → after ≡ b ∷ rest
     → take (start + (length run + 1)) text ≡ (take start text ++ run) ++ b ∷ []
 read_on text run after rest b start e f =
@@ -63,7 +63,7 @@ read_on text run after rest b start e f =
     ∙ read_run text (run ++ b ∷ []) rest start (e ∙ ap (λ l. run ++ l) f ∙ sym (append_assoc run (b ∷ []) rest))
     ∙ sym (append_assoc (take start text) run (b ∷ []))
 
--- nothing stands behind the last run
+-- nothing follows the last run
 pub nothing_left : (after : List ℕ) → Past is_unescaped after → Past (λ b. nat_lt b 128) after → length after ≡ 0
 nothing_left [] p q = refl
 nothing_left (b ∷ more) p q = absurd (grind (arith, nat_tests, special_ascii b p, q))
@@ -78,15 +78,15 @@ pub on_ok : {A E : Type 0} (r : Result A E) (new longer same want : List ℕ) �
 on_ok (Ok a) new longer same want e f = e ∙ f
 on_ok (Err x) new longer same want e f = tt
 
--- ---- where memory is refused
+-- ---- failed allocations
 
--- the clause of a last call that appends, and left all as it was
+-- the clause of a last call that appends, if it failed and changed nothing
 pub on_refused : {A E : Type 0} {P : Type 0} (r : Result A E) (new longer same : List ℕ) → new ≡ (if is_ok r then longer else same)
     → (new ≡ same → P) → OnErr r P
 on_refused (Ok a) new longer same e f = tt
 on_refused (Err x) new longer same e f = f e
 
--- more was to follow what was written
+-- more was to follow the part written
 pub begun : (old new done more text : List ℕ) → new ≡ old ++ done → more ≢ [] → text ≡ done ++ more
     → WritesBeginning (Some old) (Some new) text
 begun old new done more text e some f = record {
@@ -97,12 +97,12 @@ begun old new done more text e some f = record {
   taken = e;
 }
 
--- what has bytes has some with others behind it
+-- if a text is not empty, neither is it with others after it
 not_empty : (s t : List ℕ) → s ≢ [] → s ++ t ≢ []
 not_empty [] t some e = some refl
 not_empty (b ∷ s) t some e = cc e
 
--- a beginning of a piece, behind what was written of the whole
+-- a beginning of a piece, after the part of the whole already written
 pub begun_piece : (old out new done piece behind text : List ℕ) → out ≡ old ++ done → WritesBeginning (Some out) (Some new) piece
     → text ≡ done ++ (piece ++ behind) → WritesBeginning (Some old) (Some new) text
 begun_piece old out new done piece behind text e w f = record {
@@ -114,14 +114,14 @@ begun_piece old out new done piece behind text e w f = record {
   taken = w.taken ∙ ap (λ (l : List ℕ). l ++ w.front) e ∙ append_assoc old done w.front;
 }
 
--- the clause of a last call that appends the rest, where a first piece is written
+-- the clause of a last call that appends the rest, after a first piece is written
 pub on_begun : {A E : Type 0} (r : Result A E) (old out new done rest text : List ℕ) → out ≡ old ++ done
     → OnErr r (WritesBeginning (Some out) (Some new) rest) → text ≡ done ++ rest → OnErr r (WritesBeginning (Some old) (Some new) text)
 on_begun (Ok a) old out new done rest text e w f = tt
 on_begun (Err x) old out new done rest text e w f =
     begun_piece old out new done rest [] text e w (f ∙ ap (λ (l : List ℕ). done ++ l) (sym (append-nil rest)))
 
--- an end is left to write
+-- the end is still to be written
 end_left : (s end : List ℕ) → end ≢ [] → s ++ end ≢ []
 end_left [] end some e = some e
 end_left (b ∷ s) end some e = cc e
@@ -133,7 +133,7 @@ read_to text run after rest b start e f =
     sym (take-append-drop start text) ∙ ap (λ (l : List ℕ). take start text ++ l) (e ∙ ap (λ (l : List ℕ). run ++ l) f)
     ∙ sym (append_assoc (take start text) run (b ∷ rest))
 
--- what is written of a text that is cut, and its end
+-- the escaped text of a text that is split, and its end
 escaped_cut : (text done more end : List ℕ) → text ≡ done ++ more
     → all_escaped text ++ end ≡ all_escaped done ++ (all_escaped more ++ end)
 escaped_cut text done more end e =
@@ -147,7 +147,7 @@ escaped_begun old new text done more end some e f =
     begun old new (all_escaped done) (all_escaped more ++ end) (all_escaped text ++ end) f (end_left (all_escaped more) end some)
     (escaped_cut text done more end e)
 
--- and a beginning of the escape of the byte behind it
+-- and a beginning of the escape of the byte after it
 pub escaped_begun_escape : (old out new text done rest end : List ℕ) (b : ℕ) → text ≡ done ++ b ∷ rest → out ≡ old ++ all_escaped done
     → WritesBeginning (Some out) (Some new) (escaped b) → WritesBeginning (Some old) (Some new) (all_escaped text ++ end)
 escaped_begun_escape old out new text done rest end b e f w =
@@ -156,13 +156,13 @@ escaped_begun_escape old out new text done rest end b e f w =
 
 -- ---- the escape of a byte
 
--- the letter of a byte behind a backslash
+-- the letter of a byte, after a backslash
 abbrev pub letter_of : ℕ → ℕ
 letter_of b =
     cond (b == 34) 34 (cond (b == 92) 92
     (cond (b == 8) 98 (cond (b == 9) 116 (cond (b == 10) 110 (cond (b == 12) 102 (cond (b == 13) 114 117))))))
 
--- the letter behind a backslash is ASCII
+-- the letter after a backslash is ASCII
 letter_ascii : (b : ℕ) → letter_of b < 128
 letter_ascii b = grind (arith, nat_tests)
 
@@ -186,14 +186,14 @@ letter_written old out b letter e other f =
     ∙ same)
     ∙ append_assoc old (92 ∷ []) (letter_of b ∷ []) ∙ ap (λ (l : List ℕ). old ++ l) (sym (escaped_letter b (rw e at other)))
 
--- where the letter, or the backslash before it, is not written
+-- if the letter is not written
 pub letter_begun : (old out new : List ℕ) (b letter : ℕ) → letter ≡ letter_of b → letter ≢ 117 → out ≡ old ++ encode_utf8 92 → new ≡ out
     → WritesBeginning (Some old) (Some new) (escaped b)
 letter_begun old out new b letter e other f same =
     begun old new (92 ∷ []) (letter_of b ∷ []) (escaped b) (same ∙ f ∙ ap (λ (l : List ℕ). old ++ l) (encode_ascii 92 (omega arith)))
     (λ n. cc n) (escaped_letter b (rw e at other))
 
--- where the backslash is not written
+-- if the backslash is not written
 pub letter_unbegun : (old new : List ℕ) (b letter : ℕ) → letter ≡ letter_of b → letter ≢ 117 → new ≡ old
     → WritesBeginning (Some old) (Some new) (escaped b)
 letter_unbegun old new b letter e other same =

@@ -1,4 +1,4 @@
--- The states of a device over a stream are told apart as its two parts are.
+-- The states of a device over a stream are distinguished by its two parts.
 use Rattle.std.specs.Prelude.{ℕ, refl}
 use Rattle.std.specs.Coded.{Coded, code_by, coded×, coded_ℕ}
 use Rattle.ijson_json.specs.StreamState.{StreamState}

@@ -1,4 +1,4 @@
--- The error of `compact` that a fault of its reading becomes.
+-- The error of `compact` for a fault of its reading.
 use Rattle.ijson_json.specs.declared.device.transfer.ReadFault.{ReadFault}
 use Rattle.ijson_json.specs.declared.device.transfer.ReadFault.TheVariants as faults
 use Rattle.ijson_json.specs.declared.compacting.CompactError.{CompactError}

@@ -1,4 +1,4 @@
--- What ends an item or a member, as the reader finds it.
+-- The delimiter after an element or a member, as the reader finds it.
 use Rattle.std.specs.Prelude.{◌≡◌, ℕ, List, length}
 use Rattle.ijson_json.specs.private.Reading.{Closes, GoesOn, IsStuck}
 use Rattle.ijson_json.specs.declared.fault.Fault.{Fault}
@@ -6,7 +6,7 @@ use Rattle.ijson_json.specs.declared.fault.Fault.TheVariants as faults
 use Rattle.ijson_json.specs.declared.read.delimiter.Delimiter.{Delimiter}
 use Rattle.ijson_json.specs.declared.read.delimiter.Delimiter.TheVariants.{Comma, End}
 
--- a comma, or the bracket that closes the container, which is this byte
+-- a comma, or the bracket `closing`, which closes the container
 abbrev pub DelimiterAt : ℕ → List ℕ → Delimiter → Type 0
 DelimiterAt closing text (Comma next) = GoesOn text next.now
 DelimiterAt closing text (End behind) = Closes closing text behind.now

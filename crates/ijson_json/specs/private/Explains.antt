@@ -1,4 +1,4 @@
--- What the faults of the reader's private functions say of the text that they were given.
+-- The meaning of the faults of the reader's private functions for the text.
 use Rattle.std.specs.Prelude.{◌≡◌, ◌≢◌, ℕ, ◌+◌, ◌-◌, ◌<◌, ◌≤◌, false, List, ◌++◌, ⊤, length, Result, Ok, Err}
 use Rattle.ijson_value.specs.Tree.{Tree, depth}
 use Rattle.ijson_value.specs.WellFormed.{WellFormed}
@@ -12,7 +12,7 @@ use Rattle.ijson_json.specs.declared.fault.JsonError.{JsonError}
 use Rattle.ijson_json.specs.declared.fault.JsonError.TheVariants as errors
 use Rattle.ijson_json.specs.Limits.{max_depth}
 
--- why no value, or no member, was read at the front of the text, inside so many open containers
+-- why no value, or no member, was read at the start of the text, inside `opened` containers
 abbrev pub ExplainsOf :
     (E : Type 0) → (E → List ℕ → Type 0) → (E → Tree) → ℕ → List ℕ → Fault → Type 0
 ExplainsOf E Is inner opened text (faults.Syntax left) = (left ≤ length text) × NoneAt E Is text
@@ -40,7 +40,7 @@ WordFault text word (faults.TooDeep left) = ⊥
 WordFault text word (faults.NumberRange left) = ⊥
 WordFault text word faults.Memory = ⊥
 
--- why no string was
+-- why there is no string
 abbrev pub StringFault : List ℕ → Fault → Type 0
 StringFault text (faults.Syntax left) =
     (left ≤ length text)
@@ -49,21 +49,21 @@ StringFault text (faults.TooDeep left) = ⊥
 StringFault text (faults.NumberRange left) = ⊥
 StringFault text faults.Memory = ⊤
 
--- why no number was
+-- why there is no number
 abbrev pub NumberFault : List ℕ → Fault → Type 0
 NumberFault text (faults.Syntax left) = (left ≤ length text) × NoNumber text
 NumberFault text (faults.TooDeep left) = ⊥
 NumberFault text (faults.NumberRange left) = (left ≤ length text) × PastLimitAt text
 NumberFault text faults.Memory = ⊤
 
--- the fault in a text of so many bytes, of which so many were left
+-- the error for a fault in a text of `length` bytes, of which `left` remained
 abbrev pub error_of : ℕ → Fault → JsonError
 error_of length (faults.Syntax left) = errors.Syntax (length - left)
 error_of length (faults.TooDeep left) = errors.TooDeep (length - left)
 error_of length (faults.NumberRange left) = errors.NumberRange (length - left)
 error_of length faults.Memory = errors.Memory
 
--- what a reading of a whole text answers
+-- the result of reading a whole text
 abbrev pub Answers : List ℕ → Result WellFormed JsonError → Type 0
 Answers text (Ok value) = Accepted text value.tree
 Answers text (Err error) = Refuses text error

@@ -1,4 +1,4 @@
--- What the reader's private functions find at the front of a text.
+-- The results of the reader's private functions at the start of a text.
 use Rattle.std.specs.Prelude.{◌≡◌, ◌==◌, ℕ, ◌+◌, ◌<◌, ◌≤◌, Bool, true, false, List, [], ◌∷◌, ◌++◌, ⊤}
 use Rattle.ijson_number.specs.Decimal.{Decimal}
 use Rattle.ijson_number.specs.Num.{is_in_range}
@@ -10,16 +10,16 @@ use Rattle.ijson_json.specs.Settled.{settled}
 use Rattle.ijson_json.specs.Grammar.{is_space, IsSpace, IsString, IsValue, IsClosers}
 use Rattle.ijson_json.specs.Limits.{max_depth}
 
--- the first byte, where there is one, does not pass
+-- the first byte, if any, does not pass
 abbrev pub Past : (ℕ → Bool) → List ℕ → Type 0
 Past p [] = ⊤
 Past p (b ∷ bs) = p b ≡ false
 
--- no byte of a number stands here
+-- the text begins with no byte of a number
 abbrev pub Stops : List ℕ → Type 0
 Stops text = Past is_number_byte text
 
--- the value may end before this text: only a number could go on
+-- the value may end before this text: only a number could continue
 abbrev pub Ends : Tree → List ℕ → Type 0
 Ends null rest = ⊤
 Ends (boolean b) rest = ⊤
@@ -28,21 +28,20 @@ Ends (string s) rest = ⊤
 Ends (array is) rest = ⊤
 Ends (object ms) rest = ⊤
 
--- The text begins with one that is P, and the rest stands behind it.
+-- The text begins with one that is P, and the rest follows.
 pub record Front (P : List ℕ → Type 0) (text rest : List ℕ) : Type 0 where
   pub front : List ℕ
   pub holds : P front
   pub is : text ≡ front ++ rest
 
--- all the white space that the text begins with is passed
+-- all leading white space is skipped
 pub record Skips (text rest : List ℕ) : Type 0 where
   pub space : List ℕ
   pub passed : IsSpace space
   pub is : text ≡ space ++ rest
   pub past : Past is_space rest
 
--- A value, or a member of an object, was read, inside so many open containers. The value is as it was
--- written.
+-- A value, or a member of an object, was read inside `opened` containers. The value is as written.
 pub record Found (E : Type 0) (Is : E → List ℕ → Type 0) (inner : E → Tree)
     (opened : ℕ) (text : List ℕ) (e : E) (rest : List ℕ) : Type 0 where
   pub found : Front (λ text. Is e text) text rest
@@ -50,8 +49,7 @@ pub record Found (E : Type 0) (Is : E → List ℕ → Type 0) (inner : E → Tr
   pub deep : opened + depth (inner e) ≤ max_depth
   pub ranged : is_ranged (inner e) ≡ true
 
--- Each value that the text could begin with is Bad, and some beginning of the text, closed by brackets, is
--- a value that is Worst.
+-- Each value that the text could begin with is Bad, and some beginning of the text, completed by brackets, is a value that is Worst.
 pub record Beyond (E : Type 0) (Is : E → List ℕ → Type 0) (inner : E → Tree)
     (Bad Worst : Tree → Type 0) (text : List ℕ) : Type 0 where
   pub each : (e : E) (rest : List ℕ)
@@ -65,7 +63,7 @@ pub record Beyond (E : Type 0) (Is : E → List ℕ → Type 0) (inner : E → T
   pub spelled : Is element (beginning ++ closers)
   pub worst : Worst (inner element)
 
--- no value, or no member, stands at the front
+-- no value, or no member, at the start
 abbrev pub NoneAt : (E : Type 0) → (E → List ℕ → Type 0) → List ℕ → Type 0
 NoneAt E Is text =
     (e : E) (rest : List ℕ) → Stops rest → Front (λ text. Is e text) text rest → ⊥
@@ -93,13 +91,13 @@ pub record KeyRead (k text cur : List ℕ) : Type 0 where
   pub is : text ≡ key ++ (gap ++ 58 ∷ (gap' ++ cur))
   pub past : Past is_space cur
 
--- behind white space stands the closing byte, and the rest behind that
+-- white space, the closing byte, and the rest
 pub record Closes (closing : ℕ) (text rest : List ℕ) : Type 0 where
   pub space : List ℕ
   pub passed : IsSpace space
   pub is : text ≡ space ++ closing ∷ rest
 
--- behind white space stands a comma, and the rest behind that and all white space that follows it
+-- white space, a comma, all white space after it, and the rest
 pub record GoesOn (text rest : List ℕ) : Type 0 where
   pub gap : List ℕ
   pub gap' : List ℕ
@@ -108,7 +106,7 @@ pub record GoesOn (text rest : List ℕ) : Type 0 where
   pub is : text ≡ gap ++ 44 ∷ (gap' ++ rest)
   pub past : Past is_space rest
 
--- behind all white space stands neither a comma nor the closing byte
+-- neither a comma nor the closing byte after all white space
 pub record IsStuck (closing : ℕ) (text left : List ℕ) : Type 0 where
   pub skipped : Skips text left
   pub no_comma : Past (λ b. b == 44) left
@@ -123,7 +121,7 @@ IsBeyond Bad Worst text = Beyond Tree (λ t value. IsValue t value) (λ t. t) Ba
 abbrev pub NoValue : List ℕ → Type 0
 NoValue text = NoneAt Tree (λ t value. IsValue t value) text
 
--- the tree that was read, of what was written
+-- the tree read, from one as written
 abbrev pub ReadAs : ℕ → List ℕ → Tree → List ℕ → Type 0
 ReadAs opened text tree rest =
     (written : Tree) × IsRead opened text written rest × (tree ≡ settled written)
@@ -135,7 +133,7 @@ IsTooDeep opened text =
 abbrev pub IsOutOfRange : List ℕ → Type 0
 IsOutOfRange text = IsBeyond (λ t. is_ranged t ≡ false) (λ t. is_ranged t ≡ false) text
 
--- a number stands at the front, and the text behind it does not go on with it
+-- a number at the start, which the text after it does not continue
 pub record NumberAt (text : List ℕ) (n : Decimal) (rest : List ℕ) : Type 0 where
   pub found : Front (λ front. Spells front n) text rest
   pub stops : Stops rest
@@ -143,16 +141,16 @@ pub record NumberAt (text : List ℕ) (n : Decimal) (rest : List ℕ) : Type 0 w
 abbrev pub NumberRead : List ℕ → Decimal → List ℕ → Type 0
 NumberRead text n rest = NumberAt text n rest × (is_in_range n ≡ true)
 
--- the text spells a number that is past the limit
+-- the text spells a number beyond the limit
 abbrev pub IsPastLimit : List ℕ → Type 0
 IsPastLimit text = (n : Decimal) × Spells text n × (is_in_range n ≡ false)
 
--- each number at the front is past the limit, and some beginning of the text is one
+-- each leading number is beyond the limit, and some beginning of the text is one
 pub record PastLimitAt (text : List ℕ) : Type 0 where
   pub each : (n : Decimal) (rest : List ℕ) → NumberAt text n rest → is_in_range n ≡ false
   pub rest : List ℕ
   pub beginning : Front IsPastLimit text rest
 
--- no number stands at the front
+-- no number at the start
 abbrev pub NoNumber : List ℕ → Type 0
 NoNumber text = (n : Decimal) (rest : List ℕ) → NumberAt text n rest → ⊥

@@ -1,4 +1,4 @@
--- What a reading of a value that is no container does.
+-- The effect of reading a value that is not a container.
 use Rattle.std.specs.Prelude.{ℕ, ◌≤◌, List, Result, MatchResult}
 use Rattle.std.specs.Borrow.{Bor}
 use Rattle.ijson_string.specs.Cache.{Texts}
@@ -10,13 +10,12 @@ use Rattle.ijson_json.specs.private.Explains.{Explains}
 use Rattle.ijson_json.specs.private.Reading.{ReadAs}
 use Rattle.ijson_json.specs.declared.fault.Fault.{Fault}
 
--- the value at the front of the text was read, inside however many open containers, and the cache
--- holds its text
+-- the leading value was read, inside any number of open containers, and the cache contains its string
 pub record ScalarRead (text : List ℕ) (cache : Texts) (value : WellFormed) (rest : List ℕ) : Type 0 where
   pub read : (opened : ℕ) → opened ≤ max_depth → ReadAs opened text value.tree rest
   pub shared : AreShared cache value.tree
 
--- the value and what stands behind it, or why there is none, and what the cache has then
+-- the value and the text after it, or why there is none, and the strings in the cache
 pub record ReadsScalar (text : List ℕ) (result : Result (WellFormed × Bor (List ℕ)) Fault)
     (old new : Texts) : Type 0 where
   pub cache : AddsOnlyRead text old new

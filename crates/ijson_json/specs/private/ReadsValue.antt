@@ -1,4 +1,4 @@
--- What a reading of one value does.
+-- The effect of reading one value.
 use Rattle.std.specs.Prelude.{◌≡◌, ℕ, List, Result, MatchResult}
 use Rattle.std.specs.Borrow.{Bor}
 use Rattle.ijson_string.specs.Cache.{Texts}
@@ -10,8 +10,7 @@ use Rattle.ijson_json.specs.private.Reading.{ReadAs}
 use Rattle.ijson_json.specs.declared.fault.Fault.{Fault}
 use Rattle.ijson_json.specs.declared.read.scratch.Scratch.{Scratch}
 
--- the value at the front of the text was read, inside so many open containers, the cache holds its
--- texts, and the stacks of the scratch are as they were
+-- the leading value was read, inside `opened` containers, the cache contains its strings, and the scratch stacks are unchanged
 pub record ValueRead (opened : ℕ) (text : List ℕ) (cache : Texts) (old new : Scratch)
     (value : WellFormed) (rest : List ℕ) : Type 0 where
   pub read : ReadAs opened text value.tree rest
@@ -19,7 +18,7 @@ pub record ValueRead (opened : ℕ) (text : List ℕ) (cache : Texts) (old new :
   pub values : new.values.items ≡ old.values.items
   pub members : new.members.items ≡ old.members.items
 
--- the value and what stands behind it, or why there is none, and what the cache has then
+-- the value and the text after it, or why there is none, and the strings in the cache
 pub record ReadsValue (opened : ℕ) (text : List ℕ) (result : Result (WellFormed × Bor (List ℕ)) Fault)
     (old new : Texts) (before after : Scratch) : Type 0 where
   pub cache : AddsOnlyRead text old new

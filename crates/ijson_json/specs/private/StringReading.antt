@@ -1,4 +1,4 @@
--- What the functions that read a string find at the front of a text.
+-- The results of the functions that read a string, at the start of a text.
 use Rattle.std.specs.Prelude.{◌≡◌, ℕ, ◌≤◌, List, ◌∷◌, ◌++◌, ⊤, length, IsTrue}
 use Rattle.std.specs.Char.{encode_utf8}
 use Rattle.ijson_json.specs.Strings.{Hex, Character, is_low_surrogate, paired, StringBody}
@@ -12,7 +12,7 @@ HexAt text u rest = (h : List ℕ) × Hex h u × (text ≡ h ++ rest)
 abbrev pub NoHex : List ℕ → Type 0
 NoHex text = (u : ℕ) (rest : List ℕ) → HexAt text u rest → ⊥
 
--- a character as it is written, and its bytes
+-- a character as written, and its bytes
 abbrev pub CharacterAt : List ℕ → List ℕ → List ℕ → Type 0
 CharacterAt text meant rest =
     (written : List ℕ) × Character written meant × (text ≡ written ++ rest)
@@ -20,12 +20,11 @@ CharacterAt text meant rest =
 abbrev pub NoCharacter : List ℕ → Type 0
 NoCharacter text = (meant rest : List ℕ) → CharacterAt text meant rest → ⊥
 
--- no character begins with this text's backslash
+-- no character begins with the backslash of this text
 abbrev pub NoEscape : List ℕ → Type 0
 NoEscape text = (letters : List ℕ) → text ≡ 92 ∷ letters → NoCharacter text
 
--- behind the escape of a high surrogate u: the escape of a low one, and the bytes of the character of the
--- two
+-- after the escape of a high surrogate u: the escape of a low one, and the bytes of the character of both
 abbrev pub LowAt : ℕ → List ℕ → List ℕ → List ℕ → Type 0
 LowAt u text meant rest =
     (l : List ℕ) × (v : ℕ) × Hex l v × IsTrue (is_low_surrogate v)
@@ -36,7 +35,7 @@ NoLow text =
     (l : List ℕ) (v : ℕ) (rest : List ℕ) → Hex l v → IsTrue (is_low_surrogate v)
     → text ≡ 92 ∷ 117 ∷ (l ++ rest) → ⊥
 
--- what is left of a string's content, and its closing quote
+-- the rest of a string's content, and its closing quote
 abbrev pub ContentAt : List ℕ → List ℕ → List ℕ → Type 0
 ContentAt text s rest = (body : List ℕ) × StringBody body s × (text ≡ body ++ 34 ∷ rest)
 

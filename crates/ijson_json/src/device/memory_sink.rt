@@ -6,8 +6,9 @@ use crate::device::{DeviceFault, Sink};
 use std::alloc::{AllocError, Global};
 use std::marker::Model;
 
-/// Keeps what it gets, at most `piece` bytes of a call, and fails once it got `fail_at` bytes. It takes `fail_at` bytes of
-/// memory, whatever it gets.
+/// A sink that stores up to `fail_at` bytes, at most `piece` in a call, and then fails.
+///
+/// It allocates `fail_at` bytes, however many it receives.
 #[derive(Drop)]
 pub struct MemorySink {
     room: Vec<u8>,
@@ -33,9 +34,14 @@ impl Model for MemorySink {
 }
 
 impl MemorySink {
-    /// A sink that takes `fail_at` bytes: a call that would pass them stops there, and each later one
-    /// that has a byte is a fault. Room for them is taken here, so that `write` needs no memory; the
-    /// error comes where there is none. `piece` is at least 1.
+    /// Creates a sink with capacity for `fail_at` bytes.
+    ///
+    /// A call that would exceed it stops there, and each later call with a byte fails. The capacity is allocated here, so that `write` does
+    /// not allocate. `piece` must be at least 1.
+    ///
+    /// # Errors
+    ///
+    /// Returns `AllocError` if the allocation fails.
     pub fn new(alloc: Global, piece: usize, fail_at: usize) -> Result<MemorySink, AllocError>
         requires { 0 < piece }
         ensures { IfOk result (λ s. s ≡ record {
@@ -54,7 +60,7 @@ impl MemorySink {
         })
     }
 
-    /// What it got so far. They are lent, and not copied.
+    /// Returns the bytes received so far, without copying them.
     pub fn bytes(&self) -> &[u8]
         ensures { result.now ≡ self.now.got }
     {
@@ -62,7 +68,7 @@ impl MemorySink {
     }
 }
 
-/// No call takes memory.
+/// No call allocates.
 impl Sink for MemorySink {
     ghost failed = { λ s. s.failed };
 
@@ -80,7 +86,7 @@ impl Sink for MemorySink {
         ensures fault { OnErr result (self.new.failed ≡ self.old.failed + 1) }
         ensures bytes { WriteAppends (Some self.old.got) (Some self.new.got) result from.now }
 
-        // When a call fails, how many bytes move, and what there is after it.
+        // When a call fails, how many bytes it moves, and the state after it.
         ensures fails { IsErr result ↔ ((self.old.until_fault ≡ 0) × (0 < length from.now)) }
         ensures moved { IfOk result (λ n.
             n ≡ min self.old.piece (min self.old.until_fault (length from.now))) }

@@ -5,7 +5,9 @@ ghost use Rattle.std.specs.Io.KnownBytes.{ReadConsumes};
 use crate::device::{DeviceFault, Source};
 use std::marker::Model;
 
-/// Gives the bytes of a slice, at most `piece` in a call, and fails once `fail_at` bytes were given. It takes no memory.
+/// A source of the bytes of a slice, at most `piece` in a call, that fails after `fail_at` bytes.
+///
+/// It does not allocate.
 #[derive(Drop)]
 pub struct MemorySource<'a> {
     left: &'a [u8],
@@ -31,9 +33,10 @@ impl<'a> Model for MemorySource<'a> {
 }
 
 impl<'a> MemorySource<'a> {
-    /// A source of `bytes`. A call that would pass the first `fail_at` of them stops there, and each
-    /// later one is a fault, the one that would tell the end too. `piece` is at least 1. With `fail_at` at `usize::MAX` no call
-    /// fails.
+    /// Creates a source of `bytes`.
+    ///
+    /// A call that would exceed the first `fail_at` bytes stops there, and each later call fails, even one that would report the end. If
+    /// `fail_at` is `usize::MAX`, no call fails. `piece` must be at least 1.
     pub fn new(bytes: &'a [u8], piece: usize, fail_at: usize) -> MemorySource<'a>
         requires { 0 < piece }
         ensures { result ≡ record {
@@ -52,7 +55,7 @@ impl<'a> MemorySource<'a> {
     }
 }
 
-/// No call takes memory.
+/// No call allocates.
 impl Source for MemorySource<'_> {
     ghost failed = { λ s. s.failed };
 
@@ -69,7 +72,7 @@ impl Source for MemorySource<'_> {
         ensures fault { OnErr result (self.new.failed ≡ self.old.failed + 1) }
         ensures bytes { ReadConsumes (Some self.old.left) (Some self.new.left) result into.new }
 
-        // When a call fails, how many bytes move, and what there is after it.
+        // When a call fails, how many bytes it moves, and the state after it.
         ensures fails { IsErr result ↔ (self.old.until_fault ≡ 0) }
         ensures moved { IfOk result (λ n. n ≡ min (min self.old.piece self.old.until_fault)
             (min (length into.old) (length self.old.left))) }

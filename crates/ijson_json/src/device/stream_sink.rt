@@ -1,12 +1,14 @@
-//! A sink over a writer of the standard library. It tells the bytes that the writer tells.
+//! A sink for a writer of the standard library. It knows the bytes that the writer knows.
 ghost use Rattle.std.specs.Prelude.{◌≡◌};
 
 use crate::device::{DeviceFault, Sink};
 use std::io::Write;
 use std::marker::Model;
 
-/// Writes to a writer. Any error is a fault, and so is a write that takes none of some bytes. It takes no memory: each call is
-/// one write of the writer, which is not flushed.
+/// A sink that writes to a writer.
+///
+/// Any error is a fault, and so is a write that accepts none of some bytes. It does not allocate. Each call is one write of the writer,
+/// which is not flushed.
 #[derive(Drop)]
 pub struct StreamSink<W> {
     inner: W,
@@ -25,14 +27,14 @@ impl<W> Model for StreamSink<W> {
 }
 
 impl<W: Write> StreamSink<W> {
-    /// A device that writes to `inner`. No call failed so far.
+    /// Creates a sink that writes to `inner`, without failures so far.
     pub fn new(inner: W) -> StreamSink<W>
         ensures { result ≡ record { inner = inner; failed = 0 } }
     {
         StreamSink { inner, failures: 0 }
     }
 
-    /// Gives the writer back. It is not flushed.
+    /// Returns the writer, without flushing it.
     pub fn into_inner(self) -> W
         ensures { result ≡ self.inner }
     {

@@ -1,11 +1,13 @@
-//! A source over a reader of the standard library. It tells the bytes that the reader tells.
+//! A source for a reader of the standard library. It knows the bytes that the reader knows.
 ghost use Rattle.std.specs.Prelude.{◌≡◌};
 
 use crate::device::{DeviceFault, Source};
 use std::io::Read;
 use std::marker::Model;
 
-/// Reads from a reader. Any error is a fault. It takes no memory: each call is one read of the reader.
+/// A source that reads from a reader.
+///
+/// Any error is a fault. It does not allocate: each call is one read of the reader.
 #[derive(Drop)]
 pub struct StreamSource<R> {
     inner: R,
@@ -24,14 +26,14 @@ impl<R> Model for StreamSource<R> {
 }
 
 impl<R: Read> StreamSource<R> {
-    /// A device that reads from `inner`. No call failed so far.
+    /// Creates a source that reads from `inner`, without failures so far.
     pub fn new(inner: R) -> StreamSource<R>
         ensures { result ≡ record { inner = inner; failed = 0 } }
     {
         StreamSource { inner, failures: 0 }
     }
 
-    /// Gives the reader back. What was read of it is gone, and nothing more was read.
+    /// Returns the reader. The bytes read so far are consumed, and no others.
     pub fn into_inner(self) -> R
         ensures { result ≡ self.inner }
     {

@@ -1,4 +1,4 @@
-//! Reading to the end, and writing all of a text.
+//! Reading a source to its end, and writing a whole text.
 ghost use Rattle.std.specs.Prelude.{◌≡◌, ◌+◌, ◌^◌, ◌<◌, ◌≤◌, take, drop, IfOk, OnOk, OnErr, Err};
 ghost use Rattle.std.specs.Io.KnownBytes.{Appends, Consumes, IsAtEnd};
 ghost use Rattle.std.specs.Vec.{vec_len};
@@ -8,10 +8,10 @@ ghost use Rattle.ijson_json.specs.declared.device.transfer.ReadFault.TheVariants
 use crate::device::{DeviceFault, Sink, Source};
 use std::alloc::{AllocError, Global};
 
-/// For how many bytes room is made at a time.
+/// The number of bytes by which the buffer grows.
 const PIECE: usize = 65_536;
 
-/// Why not all was read.
+/// Why a source was not read to its end.
 #[derive(Debug, Drop)]
 pub(crate) enum ReadFault {
     Device,
@@ -34,7 +34,7 @@ impl From<AllocError> for ReadFault {
     }
 }
 
-/// All that is left in `input`, read into the one buffer that is answered.
+/// Reads the rest of `input` into the buffer that it returns.
 pub(crate) fn read_all<R: Source>(alloc: Global, input: &mut R) -> Result<Vec<u8>, ReadFault>
     requires { R.failed input.old + 1 < 2 ^ 64 }
     ensures bytes { IfOk result (λ v. Consumes (R.left input.old) (R.left input.new) v.items) }
@@ -53,12 +53,11 @@ pub(crate) fn read_all<R: Source>(alloc: Global, input: &mut R) -> Result<Vec<u8
         }
         filled += count;
     }
-    // Each turn added a byte, and no list has so many.
+    // Each iteration adds a byte, and no list has that many.
     unreachable!()
 }
 
-/// Reads a piece behind the first `filled` bytes, with room made where there is none, and answers its
-/// length.
+/// Reads a piece after the first `filled` bytes, growing a full buffer, and returns its length.
 fn read_piece<R: Source>(
     input: &mut R,
     bytes: &mut Vec<u8>,
@@ -82,7 +81,9 @@ fn read_piece<R: Source>(
     Ok(count)
 }
 
-/// Makes the list longer by a piece of zeros. Its memory doubles where it is full, and what lies behind the piece is not touched.
+/// Extends the list by a piece of zeros.
+///
+/// Full memory doubles, and memory after the piece stays untouched.
 fn make_room(bytes: &mut Vec<u8>) -> Result<(), AllocError>
     ensures kept { take (vec_len bytes.old) bytes.new.items ≡ bytes.old.items }
     ensures longer { OnOk result (vec_len bytes.old < vec_len bytes.new) }

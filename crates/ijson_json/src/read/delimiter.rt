@@ -1,4 +1,4 @@
-//! What ends an item of an array or a member of an object.
+//! The delimiters after an element of an array or a member of an object.
 
 ghost use Rattle.std.specs.Prelude.{◌<◌, MatchResult};
 ghost use Rattle.ijson_json.specs.private.Delimiters.{DelimiterAt, NoDelimiter};
@@ -7,16 +7,16 @@ use crate::fault::Fault;
 use crate::scan::prefix::strip_byte;
 use crate::scan::space::skip_space;
 
-/// What ends an item or a member.
+/// The delimiter after an element or a member.
 #[derive(Clone, Copy)]
 pub(crate) enum Delimiter<'a> {
-    /// A comma, with the text where the next one begins.
+    /// A comma, and the text at which the next one begins.
     Comma(&'a str),
-    /// The bracket that closes the container, with the text behind it.
+    /// The bracket that closes the container, and the text after it.
     End(&'a str),
 }
 
-/// The delimiter behind an item or a member, in a container that is closed by this bracket.
+/// Reads the delimiter after an element or member of a container that `closing` closes.
 #[inline(always)]
 pub(crate) fn read_delimiter(text: &str, closing: u8) -> Result<Delimiter<'_>, Fault>
     requires { closing < 128 }

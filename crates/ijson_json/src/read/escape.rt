@@ -7,29 +7,30 @@ ghost use Rattle.ijson_json.specs.private.StringReading.{HexAt, NoHex, Character
 
 use crate::scan::prefix::{split_ascii, strip_byte};
 
-/// Whether the code is the first of a surrogate pair.
+/// Returns `true` if the code is the first of a surrogate pair.
 fn is_high_surrogate(unit: u32) -> bool
     ensures { result ≡ is_high_surrogate unit }
 {
     (0xd800..0xdc00).contains(&unit)
 }
 
-/// Whether the code is the second of a surrogate pair.
+/// Returns `true` if the code is the second of a surrogate pair.
 fn is_low_surrogate(unit: u32) -> bool
     ensures { result ≡ is_low_surrogate unit }
 {
     (0xdc00..0xe000).contains(&unit)
 }
 
-/// For each letter the byte that a backslash and it stand for, or `.` where they stand for none. A look into a table costs the
-/// same for each letter, where a jump that depends on the letter is seldom foretold.
+/// The byte that a backslash and each letter denote, or `.` if none.
+///
+/// A table costs the same for each letter, while the branch predictor rarely predicts a jump on it.
 static MEANINGS: [u8; 128] = *b"\
     ................................\
     ..\"............/................\
     ............................\\...\
     ..\x08...\x0c.......\n...\r.\t...........";
 
-/// What a backslash and this letter stand for, where that is one byte.
+/// Returns the byte that a backslash and this letter denote, if any.
 fn short_meaning(letter: u8) -> Option<u8>
     requires { letter < 128 }
     ensures value { result ≡ short_escape letter }
@@ -39,10 +40,10 @@ fn short_meaning(letter: u8) -> Option<u8>
     if meaning == b'.' { None } else { Some(meaning) }
 }
 
-/// What stands for a hexadecimal digit where a byte is none: more than four digits can count.
+/// The value of a byte that is not a hexadecimal digit. It exceeds any four digits.
 const NO_DIGIT: u32 = 0x10000;
 
-/// For each byte the value of the hexadecimal digit that it is, and `NO_DIGIT` where it is none.
+/// The value of each byte as a hexadecimal digit, or `NO_DIGIT`.
 static DIGITS: [u32; 256] = [
     NO_DIGIT, NO_DIGIT, NO_DIGIT, NO_DIGIT, NO_DIGIT, NO_DIGIT, NO_DIGIT, NO_DIGIT, NO_DIGIT,
     NO_DIGIT, NO_DIGIT, NO_DIGIT, NO_DIGIT, NO_DIGIT, NO_DIGIT, NO_DIGIT, NO_DIGIT, NO_DIGIT,
@@ -73,7 +74,7 @@ static DIGITS: [u32; 256] = [
     NO_DIGIT, NO_DIGIT, NO_DIGIT, NO_DIGIT, NO_DIGIT, NO_DIGIT, NO_DIGIT,
 ];
 
-/// The value of a hexadecimal digit, and `NO_DIGIT` where the byte is none.
+/// Returns the value of a hexadecimal digit, or `NO_DIGIT` for another byte.
 #[inline(always)]
 fn hex_value(byte: u8) -> u32
     ensures digit { result < 16 → hex_digit byte ≡ Some result }
@@ -83,7 +84,7 @@ fn hex_value(byte: u8) -> u32
     DIGITS[byte as usize]
 }
 
-/// The number of the four hexadecimal digits at the front, and the text behind them.
+/// Returns the value of four leading hexadecimal digits, and the text after them.
 #[inline(always)]
 fn take_unit(text: &str) -> Option<(u32, &str)>
     ensures found { MatchOption result (NoHex text.now) (λ x. HexAt text.now x.0 x.1.now) }
@@ -101,7 +102,7 @@ fn take_unit(text: &str) -> Option<(u32, &str)>
     Some((unit, &text[4..]))
 }
 
-/// The character of a high surrogate and of the low one whose escape is at the front.
+/// Returns the character of a high surrogate and of the low one whose escape follows.
 fn take_low(high: u32, text: &str) -> Option<(char, &str)>
     requires { IsTrue (is_high_surrogate high) }
     ensures { MatchOption result (NoLow text.now)
@@ -116,7 +117,7 @@ fn take_low(high: u32, text: &str) -> Option<(char, &str)>
     Some((character, rest))
 }
 
-/// The character whose code, or whose pair of surrogates, follows a backslash and `u`.
+/// Returns the character whose code or surrogate pair follows `\u`, and the text after it.
 fn take_unicode(text: &str) -> Option<(char, &str)>
     ensures { MatchOption result (NoCharacter (92 ∷ 117 ∷ text.now))
         (λ x. CharacterAt (92 ∷ 117 ∷ text.now) (encode_utf8 x.0) x.1.now) }
@@ -129,7 +130,7 @@ fn take_unicode(text: &str) -> Option<(char, &str)>
     Some((character, rest))
 }
 
-/// The character that the escape at the front stands for, and the text behind it.
+/// Returns the character of the leading escape, and the text after it.
 pub(crate) fn take_escape(text: &str) -> Option<(char, &str)>
     ensures { MatchOption result (NoEscape text.now)
         (λ x. CharacterAt text.now (encode_utf8 x.0) x.1.now) }

@@ -11,7 +11,7 @@ use crate::fault::Fault;
 use ijson_number::{INumber, ParseNumberError, first_fault};
 use std::alloc::{AllocError, Global};
 
-/// Whether a number may be made of this byte.
+/// Returns `true` if the byte can occur in a number.
 fn in_number(byte: u8) -> bool
     ensures { result ≡ is_number_byte byte }
 {
@@ -23,21 +23,21 @@ fn in_number(byte: u8) -> bool
         || byte == b'e'
 }
 
-/// Where the first byte is that no number is made of.
+/// Returns the index of the first byte that cannot occur in a number.
 fn first_other(bytes: &[u8]) -> Option<usize>
     ensures { result ≡ position (λ byte. not (is_number_byte byte)) bytes.now }
 {
     bytes.iter().position(|byte| !in_number(*byte))
 }
 
-/// How many bytes at the front may be those of a number.
+/// Returns the number of leading bytes that can occur in a number.
 fn number_length(text: &str) -> usize
     ensures { result ≡ prefix_len is_number_byte text.now }
 {
     first_other(text.as_bytes()).unwrap_or(text.len())
 }
 
-/// The bytes of a number that the text begins with, and the text behind them.
+/// Splits the text after its leading bytes that can occur in a number.
 fn split_number(text: &str) -> (&str, &str)
     ensures run { AllByRecursion (λ b. IsTrue (is_number_byte b)) result.0.now }
     ensures whole { text.now ≡ result.0.now ++ result.1.now }
@@ -46,7 +46,7 @@ fn split_number(text: &str) -> (&str, &str)
     text.split_at(number_length(text))
 }
 
-/// Whether the text spells a number past the limit.
+/// Returns `true` if the text spells a number beyond the limit.
 fn is_past_limit(alloc: Global, text: &str) -> bool
     ensures { IsTrue result ↔ IsPastLimit text.now }
 {
@@ -57,14 +57,14 @@ fn is_past_limit(alloc: Global, text: &str) -> bool
     }
 }
 
-/// Whether no byte of a number stands at the front.
+/// Returns `true` if the text begins with no byte of a number.
 fn stops(text: &str) -> bool
     ensures { IsTrue result ↔ Stops text.now }
 {
     text.is_empty() || !in_number(text.as_bytes()[0])
 }
 
-/// The number at the front, where one pass reads it.
+/// Reads the leading number in a single pass: each number of at most 19 digits, with an exponent of at most four digits or none.
 #[inline(always)]
 fn read_short(alloc: Global, text: &str) -> Result<Option<(INumber, &str)>, AllocError>
     ensures read { IfOk result (λ found. IfSome found (λ x.
@@ -82,11 +82,9 @@ fn read_short(alloc: Global, text: &str) -> Result<Option<(INumber, &str)>, Allo
     }
 }
 
-/// The number at the front, by a split of the text. It stays a call, since few numbers want it, and may be asked only where one pass
-/// reads none, so that it does not take the place of that.
+/// Reads the leading number by splitting the text. Not inlined, since few numbers need it.
 #[inline(never)]
 fn read_long(alloc: Global, text: &str) -> Result<(INumber, &str), Fault>
-    requires { HasNoShort text.now }
     ensures { MatchResult result
         (λ x. NumberRead text.now x.0.decimal x.1.now)
         (λ fault. NumberFault text.now fault) }
@@ -104,10 +102,9 @@ fn read_long(alloc: Global, text: &str) -> Result<(INumber, &str), Fault>
     }
 }
 
-/// The same. It is in line, so that room for what the call answers is cleared for these numbers alone.
+/// Calls `read_long`. Inlined, so that the return slot of the call is zeroed only for these numbers.
 #[inline(always)]
 fn read_other(alloc: Global, text: &str) -> Result<(INumber, &str), Fault>
-    requires { HasNoShort text.now }
     ensures { MatchResult result
         (λ x. NumberRead text.now x.0.decimal x.1.now)
         (λ fault. NumberFault text.now fault) }
@@ -116,7 +113,7 @@ fn read_other(alloc: Global, text: &str) -> Result<(INumber, &str), Fault>
     Ok((number, rest))
 }
 
-/// The number at the front. One past the limit is told at its first byte, whatever follows it.
+/// Reads the leading number. One beyond the limit fails at its first byte, whatever follows it.
 #[inline(always)]
 pub(crate) fn read_number(alloc: Global, text: &str) -> Result<(INumber, &str), Fault>
     ensures { MatchResult result

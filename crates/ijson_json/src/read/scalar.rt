@@ -1,4 +1,4 @@
-//! Reading a value that is no container.
+//! Reading a value that is not a container.
 
 ghost use Rattle.std.specs.Prelude.{◌≡◌, ◌≢◌, ◌∷◌, ◌++◌, ℕ, List, MatchResult};
 ghost use Rattle.ijson_json.specs.private.Explains.{WordFault};
@@ -13,7 +13,7 @@ use ijson_value::value::IValue;
 use std::alloc::Global;
 use std::hash::BuildHasher;
 
-/// The value that the word at the front stands for.
+/// Reads `word`, and returns `value` for it.
 #[inline(always)]
 fn read_word<'a>(text: &'a str, word: &str, value: IValue) -> Result<(IValue, &'a str), Fault>
     ensures { MatchResult result
@@ -29,8 +29,9 @@ fn read_word<'a>(text: &'a str, word: &str, value: IValue) -> Result<(IValue, &'
     }
 }
 
-/// The value at the front of a text that begins with this byte, which opens no container. The content of a string that has an
-/// escape is put together in `content`.
+/// Reads the leading value, which begins with `first` and is not a container.
+///
+/// The content of a string with an escape is built in `content`.
 #[inline(always)]
 pub(crate) fn read_scalar<'a, S: BuildHasher>(
     alloc: Global,

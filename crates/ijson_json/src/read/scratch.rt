@@ -1,4 +1,4 @@
-//! What was read and is in no array or object yet.
+//! Elements and members read, but not in an array or object yet.
 
 ghost use Rattle.std.specs.Prelude.{◌≡◌, [], ◌∷◌, ◌++◌, ◌⊎◌, ◌<◌, ◌≤◌, length, take, drop, vec_capacity, IfOk, IfErr, OnOk};
 ghost use Rattle.ijson_table.specs.Store.{put_each};
@@ -14,21 +14,21 @@ use ijson_value::value::IValue;
 use std::alloc::{AllocError, Global};
 use std::mem;
 
-/// More items or members than these are not copied where they need not be.
+/// A stack of more elements or members than this is moved rather than copied, if possible.
 const MANY_ITEMS: usize = 64;
 
-/// What was read and is in no value yet.
+/// The elements, members and string content that are in no value yet.
 #[derive(Drop)]
 pub(crate) struct Scratch {
-    /// The items of the arrays that are open, those of an inner one above those of the outer.
+    /// The elements of the open arrays, those of an inner one above those of the outer.
     pub(crate) values: Vec<IValue>,
-    /// The members of the objects that are open, in the same way.
+    /// The members of the open objects, those of an inner one above those of the outer.
     pub(crate) members: Vec<(IString, IValue)>,
-    /// The content of a string that has an escape.
+    /// The content of a string with an escape.
     pub(crate) content: String,
 }
 
-/// Puts what was read on the stack, and reads the delimiter behind it, in a container that is closed by this bracket.
+/// Pushes `read`, and reads the delimiter after it, in a container that `closing` closes.
 #[inline(always)]
 pub(crate) fn push_read<'a, T: Drop>(
     stack: &mut Vec<T>,
@@ -45,8 +45,9 @@ pub(crate) fn push_read<'a, T: Drop>(
     read_delimiter(after, closing)
 }
 
-/// Takes what lies from `base` on off the stack. Where that is much and all that there is, it is not copied, and has the room
-/// of the stack.
+/// Pops the entries from index `base` on.
+///
+/// If these are the whole stack and many, they are not copied but keep the capacity of the stack.
 fn take_from<T: Drop>(alloc: Global, stack: &mut Vec<T>, base: usize) -> Result<Vec<T>, AllocError>
     requires { base ≤ length stack.old.items }
     ensures taken { IfOk result (λ taken. taken.items ≡ drop base stack.old.items) }
@@ -61,7 +62,7 @@ fn take_from<T: Drop>(alloc: Global, stack: &mut Vec<T>, base: usize) -> Result<
     stack.split_off(base)
 }
 
-/// Takes the items from `base` on off the stack, as an array with no more room than they need, or that of the stack.
+/// Pops the elements from index `base` on as an array, with no spare capacity or that of the stack.
 pub(crate) fn take_items(
     alloc: Global,
     stack: &mut Vec<IValue>,
@@ -77,7 +78,7 @@ pub(crate) fn take_items(
     Ok(IArray::from_vec(alloc, items)?)
 }
 
-/// Takes the members from `base` on off the stack, as an object with room for as many.
+/// Pops the members from index `base` on as an object, whose capacity is their number.
 pub(crate) fn take_members(
     alloc: Global,
     stack: &mut Vec<(IString, IValue)>,
@@ -88,7 +89,7 @@ pub(crate) fn take_members(
         object.pairs ≡ put_each [] (drop base stack.old.items)) }
     ensures room { IfOk result (λ object. object.capacity ≡ length (drop base stack.old.items)) }
     ensures stack { OnOk result (stack.new.items ≡ take base stack.old.items) }
-    // The stack itself is taken where the object is all that it holds, and large.
+    // The stack itself is taken if it contains only this object and is large.
     ensures spent { OnOk result (base ≡ 0 → 64 < length stack.old.items → vec_capacity stack.new ≡ 0) }
 {
     let members = take_from(alloc, stack, base)?;

@@ -18,7 +18,7 @@ use crate::scan::space::skip_space;
 use ijson_string::{IString, StringCache};
 use std::hash::BuildHasher;
 
-/// Appends what is left of a string's content, from an escape on, and gives the text behind its closing quote.
+/// Appends the rest of a string's content, from an escape on, and returns the text after the quote.
 fn push_content<'a>(content: &mut String, text: &'a str) -> Result<&'a str, Fault>
     requires escape { Past is_unescaped text.now }
     requires unclosed { (behind : List ℕ) → text.now ≢ 34 ∷ behind }
@@ -40,8 +40,9 @@ fn push_content<'a>(content: &mut String, text: &'a str) -> Result<&'a str, Faul
     }
 }
 
-/// The content of a string behind its opening quote, and the text behind the closing one. That of a string that has an escape is
-/// put together in `content`, in the place of what is there.
+/// Returns the content of a string after its opening quote, and the text after the closing one.
+///
+/// If the string has an escape, its content is built in `content`, which is overwritten.
 #[inline(always)]
 fn read_content<'a: 'c, 'c>(
     content: &'c mut String,
@@ -61,7 +62,9 @@ fn read_content<'a: 'c, 'c>(
     Ok((content.as_str(), rest))
 }
 
-/// The string at the front, interned in `cache`, and the text behind it. `content` is for `read_content`.
+/// Reads the leading string, interned in `cache`, and returns the text after it.
+///
+/// `content` is the buffer of `read_content`.
 pub(crate) fn read_string<'a, S: BuildHasher>(
     cache: &mut StringCache<S>,
     content: &mut String,
@@ -81,7 +84,7 @@ pub(crate) fn read_string<'a, S: BuildHasher>(
     Ok((string, rest))
 }
 
-/// The key at the front and the text where its value begins, behind the `:` and white space. The key is read as any string is.
+/// Reads the leading key, like any string, the `:` and white space, and returns the text after them.
 pub(crate) fn read_key<'a, S: BuildHasher>(
     cache: &mut StringCache<S>,
     content: &mut String,

@@ -18,10 +18,10 @@ use ijson_value::value::IValue;
 use std::alloc::Global;
 use std::hash::BuildHasher;
 
-/// The most containers that may be open at once.
+/// The maximum number of open containers.
 const MAX_DEPTH: usize = 127;
 
-/// Whether this is an opening bracket.
+/// Returns `true` if the byte is an opening bracket.
 #[inline(always)]
 fn opens_container(byte: u8) -> bool
     ensures opens { IsTrue result → (byte ≡ 91) ⊎ (byte ≡ 123) }
@@ -30,7 +30,7 @@ fn opens_container(byte: u8) -> bool
     byte == b'[' || byte == b'{'
 }
 
-/// The value at the front of the text, inside so many open containers.
+/// Reads the leading value, inside `opened` containers.
 #[cycle(read)]
 #[inline(always)]
 pub(crate) fn read_value<'a, S: BuildHasher>(
@@ -52,8 +52,10 @@ pub(crate) fn read_value<'a, S: BuildHasher>(
     read_scalar(alloc, cache, &mut scratch.content, text, first)
 }
 
-/// The array or object at the front of a text that begins with this bracket. One inside as many as may be open is refused. It is in
-/// line, and what it calls is not: so a scalar has no place in memory, and room for a container is cleared for containers alone.
+/// Reads the leading array or object, which begins with the bracket `first`.
+///
+/// It fails if the maximum number of containers is open. It is inlined, and its callees are not: so a scalar has no memory slot, and the
+/// return slot of a container is zeroed only for containers.
 #[cycle(read)]
 #[inline(always)]
 fn read_container<'a, S: BuildHasher>(
@@ -82,8 +84,9 @@ fn read_container<'a, S: BuildHasher>(
     Ok((container, rest))
 }
 
-/// The items of an array, behind its opening bracket. They are gathered in `scratch`, above those that lie there, so that
-/// each array is made once, of the size that it has.
+/// Reads the elements of an array, after its opening bracket.
+///
+/// They are collected on the stack in `scratch`, so that each array is allocated once, in its final size.
 #[cycle(read)]
 #[inline(never)]
 fn read_array<'a, S: BuildHasher>(
@@ -113,8 +116,7 @@ fn read_array<'a, S: BuildHasher>(
     }
 }
 
-/// The members of an object, behind its opening bracket. A key that comes again replaces the value in
-/// place.
+/// Reads the members of an object, after its opening bracket. A duplicate key replaces the value.
 #[cycle(read)]
 #[inline(never)]
 fn read_object<'a, S: BuildHasher>(

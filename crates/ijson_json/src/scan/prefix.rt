@@ -1,4 +1,4 @@
-//! What a text begins with.
+//! Splitting and stripping leading bytes.
 
 ghost use Rattle.std.specs.Prelude.{◌≡◌, ◌++◌, ◌∷◌, ◌==◌, ◌<◌, ◌≤◌, nat_lt, length, MatchOption, MatchResult, IfSome};
 ghost use Rattle.ijson_json.specs.private.Reading.{Past};
@@ -6,7 +6,7 @@ ghost use Rattle.ijson_json.specs.private.Explains.{WordFault};
 
 use crate::fault::Fault;
 
-/// The first byte and the text behind it, where that byte is a character.
+/// Splits off the first byte, if it is ASCII.
 pub(crate) fn split_ascii(text: &str) -> Option<(u8, &str)>
     ensures cases { MatchOption result (Past (λ b. nat_lt b 128) text.now)
         (λ x. text.now ≡ x.0 ∷ x.1.now) }
@@ -20,7 +20,7 @@ pub(crate) fn split_ascii(text: &str) -> Option<(u8, &str)>
     }
 }
 
-/// The text behind the byte, if it begins with it.
+/// Strips `byte`, if the text begins with it.
 pub(crate) fn strip_byte(text: &str, byte: u8) -> Option<&str>
     requires { byte < 128 }
     ensures { MatchOption result (Past (λ b. b == byte) text.now)
@@ -34,7 +34,7 @@ pub(crate) fn strip_byte(text: &str, byte: u8) -> Option<&str>
     }
 }
 
-/// How far the text goes with the word.
+/// Returns the length of the common prefix of `text` and `word`.
 fn common_length(text: &str, word: &str) -> usize
     ensures { result ≤ length text.now }
 {
@@ -42,8 +42,7 @@ fn common_length(text: &str, word: &str) -> usize
     bytes.take_while(|(a, b)| a == b).count()
 }
 
-/// The text behind the word. A text that does not begin with it is at fault where it leaves the
-/// word.
+/// Strips `word`. If the text does not begin with it, the fault is at the first byte that differs.
 pub(crate) fn strip_word<'a>(text: &'a str, word: &str) -> Result<&'a str, Fault>
     ensures { MatchResult result
         (λ rest. text.now ≡ word.now ++ rest.now)

@@ -1,4 +1,4 @@
-//! Runs of a string's bytes that stand for themselves.
+//! Runs of bytes that need no escape in a string.
 
 ghost use Rattle.std.specs.Prelude.{◌≡◌, ◌+◌, ◌*◌, ◌^◌, ◌<◌, ◌≤◌, ◌++◌, ℕ, List, IfOk, IsTrue, ◌↔◌, drop, length, map, not, take};
 ghost use Rattle.std.specs.List.{AllByRecursion, position, prefix_len};
@@ -12,8 +12,9 @@ use std::alloc::AllocError;
 use std::mem;
 use std::simd::prelude::*;
 
-/// Where the first byte is that must stand in an escape, or ends the string, one byte at a time. It may be asked only of fewer than 4,
-/// so that this walk does not take the place of the rows.
+/// Returns the index of the first byte that needs an escape or ends the string. Scalar version.
+///
+/// Its precondition of fewer than 4 bytes prevents it from replacing the vector version.
 fn first_special(bytes: &[u8]) -> Option<usize>
     requires { length bytes.now < 4 }
     ensures { result ≡ position (λ byte. not (is_unescaped byte)) bytes.now }
@@ -23,7 +24,7 @@ fn first_special(bytes: &[u8]) -> Option<usize>
         .position(|byte| *byte < b' ' || *byte == b'"' || *byte == b'\\')
 }
 
-/// How many bytes at the front stand for themselves, one byte at a time.
+/// Returns the number of leading unescaped bytes. Scalar version.
 fn run_by_bytes(bytes: &[u8]) -> usize
     requires { length bytes.now < 4 }
     ensures { result ≡ prefix_len is_unescaped bytes.now }
@@ -31,7 +32,7 @@ fn run_by_bytes(bytes: &[u8]) -> usize
     first_special(bytes).unwrap_or(bytes.len())
 }
 
-/// Which of the bytes must stand in an escape, or end the string. The lowest bit is that of the first.
+/// Returns a mask of the bytes that need an escape or end the string, the lowest bit for the first.
 #[inline(always)]
 fn specials<const N: usize>(bytes: Simd<u8, N>) -> u64
     requires { N ≤ 64 }
@@ -42,7 +43,7 @@ fn specials<const N: usize>(bytes: Simd<u8, N>) -> u64
         | bytes.simd_lt(Simd::splat(b' '))).to_bitmask()
 }
 
-/// The same with a bit behind them that stands for the end, so that no branch asks whether a byte ends a run or the bytes do.
+/// Like `specials`, with a bit after them for the end, so no branch tests whether the bytes ended.
 fn specials_and_end<const N: usize>(bytes: Simd<u8, N>) -> u64
     requires { N < 64 }
     ensures { result ≡ mask_l (map (λ byte. not (is_unescaped byte)) bytes.entry) + 2 ^ N }
@@ -50,7 +51,7 @@ fn specials_and_end<const N: usize>(bytes: Simd<u8, N>) -> u64
     specials(bytes) | 1 << N
 }
 
-/// Where the run that begins at `start` ends, in at most twice N bytes. The first N and the last N are tested, which are all.
+/// Returns the end of the run from `start`, in N to 2 * N bytes, by testing the first and last N.
 fn run_end_in_two<const N: usize>(bytes: &[u8], start: usize) -> usize
     requires { (N < 32) × (N ≤ length bytes.now) × (length bytes.now ≤ 2 * N) × (start ≤ length bytes.now) }
     ensures { result ≡ start + prefix_len is_unescaped (drop start bytes.now) }
@@ -62,8 +63,10 @@ fn run_end_in_two<const N: usize>(bytes: &[u8], start: usize) -> usize
     start + (found >> start).trailing_zeros() as usize
 }
 
-/// Where the run that begins at `start` ends, where fewer than 16 bytes are left. If all are 16 or more, the last 16 of them are
-/// tested, and what is found before `start` is dropped. Only where all are fewer than 4 are they tested one by one.
+/// Returns the end of the run from `start`, if fewer than 16 bytes are left.
+///
+/// If there are at least 16 bytes in all, the last 16 are tested, and bits before `start` are shifted out. Bytes are tested one by one only
+/// if there are fewer than 4.
 fn last_run_end(bytes: &[u8], start: usize) -> usize
     requires { (start ≤ length bytes.now) × (length bytes.now < start + 16) }
     ensures { result ≡ start + prefix_len is_unescaped (drop start bytes.now) }
@@ -81,8 +84,9 @@ fn last_run_end(bytes: &[u8], start: usize) -> usize
     }
 }
 
-/// Whether the first bytes of the row that a short text lies in, so many, all stand for themselves. Their count lies before them in
-/// memory and is tested with them, since the eight are one word.
+/// Returns `true` if the first `count` bytes of the block of an inline string are unescaped.
+///
+/// The length byte before them in memory is tested with them, since all eight are one word.
 #[inline(always)]
 pub(crate) fn begins_unescaped(row: &str, count: u8) -> bool
     requires { length row.now ≡ 7 }
@@ -95,7 +99,7 @@ pub(crate) fn begins_unescaped(row: &str, count: u8) -> bool
     u32::from(count) <= (found >> 1).trailing_zeros()
 }
 
-/// Where the run that begins at `start` ends, 16 bytes at a time.
+/// Returns the end of the run from `start`, testing 16 bytes at a time.
 fn run_end(bytes: &[u8], start: usize) -> usize
     requires { start ≤ length bytes.now }
     ensures { result ≡ start + prefix_len is_unescaped (drop start bytes.now) }
@@ -111,8 +115,10 @@ fn run_end(bytes: &[u8], start: usize) -> usize
     last_run_end(bytes, at)
 }
 
-/// Appends the bytes at the front that stand for themselves, and tells how many they are. All 16 bytes of a row are appended, and
-/// those behind the run cut off: a copy whose size is not known where this is compiled is a call, which branches on the size.
+/// Appends the leading unescaped bytes, and returns their number.
+///
+/// All 16 bytes of a block are appended, and those after the run truncated: a copy of a size unknown at compile time is a call that
+/// branches on the size.
 fn append_run(content: &mut Vec<u8>, bytes: &[u8]) -> Result<usize, AllocError>
     ensures count { IfOk result (λ n. n ≡ prefix_len is_unescaped bytes.now) }
     ensures run { IfOk result (λ n. content.new.items ≡ content.old.items ++ take n bytes.now) }
@@ -134,8 +140,9 @@ fn append_run(content: &mut Vec<u8>, bytes: &[u8]) -> Result<usize, AllocError>
     Ok(end)
 }
 
-/// Appends the longest run of bytes at the front that stand for themselves, and gives the rest. Where memory is refused,
-/// `content` is empty.
+/// Appends the longest leading run of unescaped bytes, and returns the rest.
+///
+/// If an allocation fails, `content` is empty.
 pub(crate) fn push_run<'a>(content: &mut String, text: &'a str) -> Result<&'a str, AllocError>
     ensures { IfOk result (λ rest. (run : List ℕ) × (text.now ≡ run ++ rest.now)
         × AllByRecursion (λ byte. IsTrue (is_unescaped byte)) run × Past is_unescaped rest.now
@@ -149,8 +156,9 @@ pub(crate) fn push_run<'a>(content: &mut String, text: &'a str) -> Result<&'a st
     Ok(rest)
 }
 
-/// The longest run of bytes from `start` on that stand for themselves, and the rest. Given the whole text and a place, the few
-/// bytes at its end can be tested together with those before them.
+/// Returns the longest run of unescaped bytes from `start` on, and the rest.
+///
+/// It takes the whole text, so that the last few bytes can be tested together with those before them.
 pub(crate) fn split_run_at(text: &str, start: usize) -> (&str, &str)
     requires { IsCharBoundary text.now start }
     ensures whole { drop start text.now ≡ result.0.now ++ result.1.now }
@@ -161,7 +169,7 @@ pub(crate) fn split_run_at(text: &str, start: usize) -> (&str, &str)
     (&text[start..end], &text[end..])
 }
 
-/// The longest run of bytes at the front that stand for themselves, and the rest.
+/// Returns the longest leading run of unescaped bytes, and the rest.
 pub(crate) fn split_run(text: &str) -> (&str, &str)
     ensures whole { text.now ≡ result.0.now ++ result.1.now }
     ensures run { AllByRecursion (λ byte. IsTrue (is_unescaped byte)) result.0.now }

@@ -1,5 +1,7 @@
-//! White space. Of a compact text it is none or a byte, of one that is laid out mostly a line feed and an indent. So a byte or two are
-//! looked at by themselves, and all that is behind two of them 16 bytes at a time.
+//! White space.
+//!
+//! In compact JSON it is at most one byte, in indented JSON mostly a line feed and an indent. So one or two bytes are tested individually,
+//! and more after two of them 16 bytes at a time.
 
 ghost use Rattle.std.specs.Prelude.{◌≡◌, ◌<◌, ◌∷◌, ℕ, IsTrue, length, map, not, MatchOption};
 ghost use Rattle.std.specs.List.{position, prefix_len};
@@ -9,14 +11,14 @@ ghost use Rattle.ijson_json.specs.private.Reading.{Skips, Past};
 
 use std::simd::prelude::*;
 
-/// Space, tab, line feed or carriage return.
+/// Returns `true` for space, tab, line feed and carriage return.
 fn is_white(byte: u8) -> bool
     ensures { result ≡ is_space byte }
 {
     byte == b' ' || byte == b'\n' || byte == b'\r' || byte == b'\t'
 }
 
-/// The text behind a byte of white space, if it begins with one.
+/// Strips one byte of white space, if the text begins with it.
 #[inline(always)]
 fn strip_white(text: &str) -> Option<&str>
     ensures { MatchOption result (Past is_space text.now)
@@ -30,7 +32,7 @@ fn strip_white(text: &str) -> Option<&str>
     }
 }
 
-/// The text behind the white space that it begins with.
+/// Strips the leading white space.
 pub(crate) fn skip_space(text: &str) -> &str
     ensures { Skips text.now result.now }
 {
@@ -43,7 +45,7 @@ pub(crate) fn skip_space(text: &str) -> &str
     }
 }
 
-/// The same, where more than a byte or two may be white space.
+/// Like `skip_space`, for white space of possibly more than two bytes.
 #[inline(never)]
 fn skip_indent(text: &str) -> &str
     ensures { Skips text.now result.now }
@@ -51,7 +53,7 @@ fn skip_indent(text: &str) -> &str
     &text[space_length(text.as_bytes())..]
 }
 
-/// How many bytes at the front are white space, 16 bytes at a time.
+/// Returns the number of leading white-space bytes, testing 16 at a time.
 fn space_length(bytes: &[u8]) -> usize
     ensures { result ≡ prefix_len is_space bytes.now }
 {
@@ -67,7 +69,7 @@ fn space_length(bytes: &[u8]) -> usize
     at + first_other(left).unwrap_or(left.len())
 }
 
-/// Which of the bytes are no white space. The lowest bit is that of the first.
+/// Returns a mask of the bytes that are not white space, the lowest bit for the first.
 #[inline(always)]
 fn others(bytes: u8x16) -> u64
     ensures { result ≡ mask_l (map (λ byte. not (is_space byte)) bytes) }
@@ -76,8 +78,9 @@ fn others(bytes: u8x16) -> u64
     (others & bytes.simd_ne(Simd::splat(b'\r')) & bytes.simd_ne(Simd::splat(b'\t'))).to_bitmask()
 }
 
-/// Where the first byte is that is no white space, one byte at a time. It may be asked only of the few bytes at the end of a text, so that
-/// this walk does not take the place of the rows of 16.
+/// Returns the index of the first byte that is not white space. Scalar version.
+///
+/// Its precondition of fewer than 16 bytes prevents it from replacing the vector version.
 fn first_other(bytes: &[u8]) -> Option<usize>
     requires { length bytes.now < 16 }
     ensures { result ≡ position (λ byte. not (is_space byte)) bytes.now }

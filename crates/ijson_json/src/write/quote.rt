@@ -1,4 +1,4 @@
-//! Writing a string, and a key with what stands round it.
+//! Writing strings, and keys with their delimiters.
 
 ghost use Rattle.std.specs.Prelude.{◌≡◌, ◌≢◌, ◌++◌, ◌∷◌, [], ◌/◌, ◌%◌, ◌<◌, ◌≤◌, false, length, OnOk, OnErr, Some};
 ghost use Rattle.std.specs.List.{prefix_len};
@@ -14,7 +14,7 @@ use crate::scan::run::{begins_unescaped, split_run_at};
 use ijson_string::IString;
 use std::alloc::AllocError;
 
-/// A digit below sixteen, in lower case.
+/// Returns a hexadecimal digit, in lower case.
 fn hex_letter(digit: u8) -> char
     requires { digit < 16 }
     ensures { result ≡ hex_text digit }
@@ -26,7 +26,7 @@ fn hex_letter(digit: u8) -> char
     }
 }
 
-/// Appends the escape of a control character that has no letter.
+/// Appends the `\u` escape of a control character.
 fn push_unicode(out: &mut String, control: u8) -> Result<(), AllocError>
     requires { control < 32 }
     ensures written { OnOk result (string_bytes out.new ≡ string_bytes out.old
@@ -39,15 +39,16 @@ fn push_unicode(out: &mut String, control: u8) -> Result<(), AllocError>
     out.push(hex_letter(control % 16))
 }
 
-/// For each byte the letter that stands for it behind a backslash, or `u` where it has none of its own. A look into a table
-/// costs the same for each byte, where a jump that depends on the byte is seldom foretold.
+/// The letter after the backslash in the escape of each byte, or `u` if it has none of its own.
+///
+/// A table costs the same for each byte, while the branch predictor rarely predicts a jump on it.
 static LETTERS: [u8; 128] = *b"\
     uuuuuuuubtnufruuuuuuuuuuuuuuuuuu\
     uu\"uuuuuuuuuuuuuuuuuuuuuuuuuuuuu\
     uuuuuuuuuuuuuuuuuuuuuuuuuuuu\\uuu\
     uuuuuuuuuuuuuuuuuuuuuuuuuuuuuuuu";
 
-/// Appends the escape of a byte that does not stand for itself.
+/// Appends the escape of a byte that needs one.
 #[inline(always)]
 fn push_escape(out: &mut String, byte: u8) -> Result<(), AllocError>
     requires { is_unescaped byte ≡ false }
@@ -63,9 +64,13 @@ fn push_escape(out: &mut String, byte: u8) -> Result<(), AllocError>
     out.push(letter as char)
 }
 
-/// Appends the text between quotes, with its escapes. The error comes where there was not enough memory. A beginning of what
-/// was to be appended may then stand in `out`, behind what was there. Escaped are `"`, `\`, and what is below a space: by a
-/// letter where there is one, and else as `\u001f`. It takes time linear in the text.
+/// Appends `text` in quotes, with its escapes.
+///
+/// It escapes `"`, `\`, and bytes below a space: by a letter if there is one, otherwise like `\u001f`. It takes time linear in the text.
+///
+/// # Errors
+///
+/// Returns `AllocError` if an allocation fails. A beginning of the new bytes may have been appended.
 pub fn push_quoted(out: &mut String, text: &str) -> Result<(), AllocError>
     ensures written { OnOk result (string_bytes out.new ≡ string_bytes out.old ++ quoted text.now) }
     ensures refused { OnErr result (WritesBeginning (Some (string_bytes out.old)) (Some (string_bytes out.new))
@@ -75,9 +80,13 @@ pub fn push_quoted(out: &mut String, text: &str) -> Result<(), AllocError>
     push_escaped(out, text, "\"")
 }
 
-/// Appends what stands before the value of a member: a comma, but not before the first member, the key as by `push_quoted`, and
-/// a colon. The error comes where there was not enough memory. A beginning of what was to be appended may then stand in `out`,
-/// behind what was there. It takes time linear in the key.
+/// Appends a comma unless `is_first`, the key as by `push_quoted`, and a colon.
+///
+/// It takes time linear in the key.
+///
+/// # Errors
+///
+/// Returns `AllocError` if an allocation fails. A beginning of the new bytes may have been appended.
 pub fn push_key(out: &mut String, key: &str, is_first: bool) -> Result<(), AllocError>
     ensures written { OnOk result (string_bytes out.new ≡ string_bytes out.old ++ key_text is_first key.now) }
     ensures refused { OnErr result (WritesBeginning (Some (string_bytes out.old)) (Some (string_bytes out.new))
@@ -87,8 +96,9 @@ pub fn push_key(out: &mut String, key: &str, is_first: bool) -> Result<(), Alloc
     push_escaped(out, key, "\":")
 }
 
-/// Appends the quote before a key, behind a comma where the key is not the first. The two are appended at once, which takes less
-/// time than one by one.
+/// Appends the opening quote of a key, after a comma unless `is_first`.
+///
+/// Appending both in one call is faster than one by one.
 #[inline(always)]
 fn push_opening(out: &mut String, is_first: bool) -> Result<(), AllocError>
     ensures written { OnOk result (string_bytes out.new ≡ string_bytes out.old ++ (separator is_first ++ 34 ∷ [])) }
@@ -100,7 +110,7 @@ fn push_opening(out: &mut String, is_first: bool) -> Result<(), AllocError>
     out.push_str(",\"")
 }
 
-/// Appends the text between quotes, as `push_quoted` does.
+/// Appends a string in quotes, as by `push_quoted`.
 pub(crate) fn push_string(out: &mut String, text: &IString) -> Result<(), AllocError>
     ensures { OnOk result (string_bytes out.new ≡ string_bytes out.old ++ quoted text.now) }
 {
@@ -108,7 +118,7 @@ pub(crate) fn push_string(out: &mut String, text: &IString) -> Result<(), AllocE
     push_text(out, text, "\"")
 }
 
-/// Appends what stands before the value of a member, as `push_key` does.
+/// Appends the key of a member with its delimiters, as by `push_key`.
 #[inline(always)]
 pub(crate) fn push_member_key(
     out: &mut String,
@@ -121,15 +131,16 @@ pub(crate) fn push_member_key(
     push_text(out, key, "\":")
 }
 
-/// Appends the text with its escapes, and what ends it. Most keys are short and have no escape. Of such a text all the row that it lies
-/// in is appended, and what is behind it cut off: a copy whose size is not known where this is compiled is a call, which branches on
-/// the size.
+/// Appends a string with its escapes, and `end`.
+///
+/// Most keys are short and have no escape. The whole block of such a string is appended, and the rest truncated: a copy of a size unknown
+/// at compile time is a call that branches on the size.
 #[inline(always)]
 fn push_text(out: &mut String, text: &IString, end: &str) -> Result<(), AllocError>
     requires { end.now ≢ [] }
     ensures { OnOk result (string_bytes out.new ≡ string_bytes out.old ++ (all_escaped text.now ++ end.now)) }
 {
-    match text.in_place() {
+    match text.inline_padded() {
         Some((count, row)) if begins_unescaped(row, count) => {
             let text_end = out.len() + usize::from(count);
             out.push_str(row)?;
@@ -140,7 +151,9 @@ fn push_text(out: &mut String, text: &IString, end: &str) -> Result<(), AllocErr
     }
 }
 
-/// The same of a text that is too long to lie in place or has an escape. What it requires refuses a narrower test before it.
+/// Like `push_text`, for a string that is not inline or has an escape.
+///
+/// Its precondition rejects a narrower test before the call.
 #[inline(always)]
 fn push_other(out: &mut String, text: &IString, end: &str) -> Result<(), AllocError>
     requires end { end.now ≢ [] }
@@ -150,7 +163,7 @@ fn push_other(out: &mut String, text: &IString, end: &str) -> Result<(), AllocEr
     push_escaped(out, text.as_str(), end)
 }
 
-/// Appends the text with its escapes, and what ends it.
+/// Appends `text` with its escapes, and `end`.
 #[inline(always)]
 fn push_escaped(out: &mut String, text: &str, end: &str) -> Result<(), AllocError>
     requires { end.now ≢ [] }

@@ -1,4 +1,4 @@
--- Values of two kinds are ordered as their kinds are.
+-- Values of different kinds are ordered like their kinds.
 use Rattle.std.proofs.Common.{◌≡◌, ◌≢◌, ℕ, List, Bool, Some, refl, sym, ap, subst, ◌∙◌}
 use Rattle.std.specs.declared.cmp.Ordering.{Ordering}
 use Rattle.ijson_number.specs.Num.{Num}
@@ -28,11 +28,11 @@ pub kinds_cmp : (t u : Tree) (k l : ValueType) (o : Ordering) → k ≡ kind_of 
     → kind_of t ≢ kind_of u → Some o ≡ tree_cmp t u
 kinds_cmp t u k l o k_is l_is o_is ne = ap Some o_is ∙ (λ i. Some (ghosts.cmp (k_is i) (l_is i))) ∙ by_kinds t u ne
 
--- the kind of an opened value
+-- the kind of the content
 abbrev kind_in : Destructured → ValueType
 kind_in n = kind_of (node_value n).tree
 
--- that it is not opened as one of this kind
+-- that the content is not of this kind
 abbrev IsNot : ValueType → Destructured → Type 0
 IsNot kind.Null n = n ≡ node.Null → ⊥
 IsNot kind.Bool n = (x : Bool) → n ≡ node.Bool x → ⊥
@@ -49,7 +49,7 @@ is_one (node.String x) never = never x refl
 is_one (node.Array x) never = never x refl
 is_one (node.Object x) never = never x refl
 
--- two values are of two kinds, of which the first is open as one of a kind and the second is not
+-- two values have different kinds if the content of the first is of a kind and that of the second is not
 pub other_kind : {n one : Destructured} (m : Destructured) {v w : WellFormed} → node_value n ≡ v → node_value m ≡ w → n ≡ one
     → IsNot (kind_in one) m → kind_of v.tree ≢ kind_of w.tree
 other_kind m v_is w_is is never e =

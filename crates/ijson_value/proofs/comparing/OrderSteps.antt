@@ -1,4 +1,4 @@
--- The order of two lists of items where one of them has come to its end.
+-- The order of two lists of elements when one of them has ended.
 use Rattle.std.proofs.Common.{◌≡◌, ℕ, suc, ◌<◌, ◌≤◌, List, [], ◌∷◌, length, get_or, drop, Some, inl, inr, sym, ap, ◌∙◌, arith}
 use Rattle.std.proofs.Common.{drop_of_length-le}
 use Rattle.std.proofs.Math.Seq.{drop-cons}

@@ -1,4 +1,4 @@
--- What one step of the walk of equality says of the whole.
+-- The steps of equality, and the whole.
 use Rattle.std.proofs.Common.{◌≡◌, ◌≢◌, ℕ, suc, ◌<◌, List, [], ◌∷◌, length, get_or, drop, Bool, true, false, cond, ◌&&◌, ◌||◌, ◌==◌, Some}
 use Rattle.std.proofs.Common.{None, refl, sym, ap, ◌∙◌, eq-eqb}
 use Rattle.std.proofs.Math.Seq.{drop-cons}
@@ -12,11 +12,11 @@ use Rattle.ijson_value.specs.laws.Lengths.{members_len-pairs}
 use Rattle.ijson_value.specs.SameTest.{same, same_each, same_in, some_has}
 use Rattle.ijson_value.specs.Tree.{Tree, object, Members, members_len}
 
--- a text that is another has other bytes
+-- different keys have different bytes
 pub other_bytes : (k j : List ℕ) → k ≢ j → bytes_eq k j ≡ false
 other_bytes k j ne = false_from_ne_true (bytes_eq k j) (λ e. ne ((bytes_decides k j).0 e))
 
--- no pair passes under a key that is lacking
+-- no entry passes for a missing key
 some_has-lacking : (k : List ℕ) (passes : Tree → Bool) (ps : List (List ℕ × WellFormed))
     → Lacks k (keys_of ps) → some_has k passes (pair_trees ps) ≡ false
 some_has-lacking k passes [] h = refl
@@ -24,7 +24,7 @@ some_has-lacking k passes (p ∷ ps) h =
     ap (λ b. (b && passes (tree_of p.1)) || some_has k passes (pair_trees ps)) (other_bytes k p.0 h.0)
     ∙ some_has-lacking k passes ps h.1
 
--- no pair passes under a key that is not looked up
+-- no entry passes for a key that is not found
 some_has-None : (k : List ℕ) (passes : Tree → Bool) (ps : List (List ℕ × WellFormed))
     → None ≡ lookup k ps → some_has k passes (pair_trees ps) ≡ false
 some_has-None k passes [] h = refl
@@ -39,7 +39,7 @@ or-false : (b : Bool) → b || false ≡ b
 or-false true = refl
 or-false false = refl
 
--- with distinct keys the value that is looked up decides
+-- with distinct keys, the value found decides
 some_has-Some : (k : List ℕ) (passes : Tree → Bool) (ps : List (List ℕ × WellFormed)) (u : WellFormed)
     → IsDistinct (keys_of ps) → Some u ≡ lookup k ps → some_has k passes (pair_trees ps) ≡ passes (tree_of u)
 some_has-Some k passes [] u d h = cc
@@ -56,7 +56,7 @@ some_has-Some k passes (p ∷ ps) u d h =
       | false ↦ λ e q. some_has-Some k passes ps u d.1 q
     ] refl h
 
--- one more pair, from the one at i on
+-- one more entry, from index i on
 in-drop : (ps : List (List ℕ × WellFormed)) (qs : Members) (i : ℕ) (p : List ℕ × WellFormed)
     → i < length ps → p ≡ get_or ps i p
     → same_in (pair_trees (drop i ps)) qs
@@ -64,7 +64,7 @@ in-drop : (ps : List (List ℕ × WellFormed)) (qs : Members) (i : ℕ) (p : Lis
 in-drop ps qs i p h e = ap (λ l. same_in (pair_trees l) qs) (drop-cons ps i p h)
     ∙ ap (λ q. some_has q.0 (same (tree_of q.1)) qs && same_in (pair_trees (drop (suc i) ps)) qs) (sym e)
 
--- a pair whose key is not looked up decides
+-- an entry whose key is not found decides
 pub in-drop-None : (ps qs : List (List ℕ × WellFormed)) (i : ℕ) (p : List ℕ × WellFormed)
     → i < length ps → p ≡ get_or ps i p → None ≡ lookup p.0 qs
     → same_in (pair_trees (drop i ps)) (pair_trees qs) ≡ false
@@ -72,7 +72,7 @@ in-drop-None ps qs i p h e none = in-drop ps (pair_trees qs) i p h e
     ∙ ap (λ b. b && same_in (pair_trees (drop (suc i) ps)) (pair_trees qs))
     (some_has-None p.0 (same (tree_of p.1)) qs none)
 
--- a pair whose key is looked up leaves the two values and the rest
+-- an entry whose key is found leaves the two values and the rest
 pub in-drop-Some : (ps : List (List ℕ × WellFormed)) (s : Store WellFormed) (i : ℕ) (p : List ℕ × WellFormed)
     (u : WellFormed) (b : Bool) → i < length ps → p ≡ get_or ps i p
     → Some u ≡ lookup p.0 s.pairs → b ≡ same (tree_of p.1) (tree_of u)
@@ -86,7 +86,7 @@ and-false : (b : Bool) → (b && false) ≡ false
 and-false true = refl
 and-false false = refl
 
--- arrays of two lengths are not the same
+-- arrays of different lengths are not the same
 pub each-other_lengths : (xs ys : List WellFormed) → length xs ≢ length ys
     → same_each (item_trees xs) (item_trees ys) ≡ false
 each-other_lengths [] [] ne = absurd (ne refl)
@@ -96,13 +96,13 @@ each-other_lengths (x ∷ xs) (y ∷ ys) ne =
     ap (λ b. same (tree_of x) (tree_of y) && b) (each-other_lengths xs ys (λ e. ne (ap suc e)))
     ∙ and-false (same (tree_of x) (tree_of y))
 
--- of objects of one length the pairs decide
+-- if objects have the same length, their entries decide
 pub objects-lengths : (ps qs : List (List ℕ × WellFormed)) → length ps ≡ length qs
     → same (object (pair_trees ps)) (object (pair_trees qs)) ≡ same_in (pair_trees ps) (pair_trees qs)
 objects-lengths ps qs e = ap (λ b. b && same_in (pair_trees ps) (pair_trees qs))
     (eq-eqb _ _ (members_len-pairs ps ∙ e ∙ sym (members_len-pairs qs)))
 
--- objects of two lengths are not the same
+-- objects of different lengths are not the same
 pub objects-other_lengths : (ps qs : List (List ℕ × WellFormed)) → length ps ≢ length qs
     → same (object (pair_trees ps)) (object (pair_trees qs)) ≡ false
 objects-other_lengths ps qs ne =

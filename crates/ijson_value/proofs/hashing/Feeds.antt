@@ -1,4 +1,4 @@
--- What the words of an array and of an object leave of a hasher, one write after another.
+-- The state of a hasher after the words of an array and of an object, write by write.
 use Rattle.std.proofs.Common.{◌≡◌, ℕ, suc, ◌<◌, ◌%◌, ◌^◌, List, ◌∷◌, length, get_or, drop, fold, sym, ap, ◌∙◌}
 use Rattle.std.proofs.Math.Seq.{drop-cons}
 use Rattle.std.proofs.lemmas.Grind.{flat_map-append, fold-append}

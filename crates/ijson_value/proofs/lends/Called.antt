@@ -1,5 +1,5 @@
--- What a reference goes through in a walk: it is handed to a callee that lends a part of it, it is lent again for one call and comes
--- back, and what the callee answers is taken apart. Assumes `Logic`.
+-- Steps of a reference through a proof: it is passed to a callee that lends a part of it, it is reborrowed for one call and comes back, and
+-- the callee's result is taken apart. Assumes `Logic`.
 use Prim.Native.Nat.{ℕ}
 use mathlib.Core.List.{List, [], ◌∷◌}
 use lib.Dec.{eqb}
@@ -23,13 +23,13 @@ use denote.RattleType.{RattleType}
 use denote.Steps.{nothing, heard, peeks}
 
 module _ {M : Type 1} {𝓤 : Ura M} (κ : Lft) (q : Share) where
-  -- what a callee answers: a part, the token, what the lender follows, and a fact
+  -- the result of a callee: a part, the token, the formula that the lender follows, and a fact
   abbrev pub Answer : (R : RattleType) (w : Val) {W : Type 0} (L : R.Denot → W → Fml) (F : R.Denot → Fml) (P : R.Denot → Type 0) → Item 𝓤
   Answer R w {W} L F P = later (some (λ (x : R.Denot). ((‵ (flft κ q) ⊛ ‵ ftrue) ⊛ ‵ (R.own_val x (w ∷ []))) ⊛
       some (λ (ws : W). ‵ (L x ws) ⊛ ‵ (F x) ⊛ raw (fact 𝓤 (P x)))))
 
 module _ {M : Type 1} {𝓤 : Ura M} (𝓛 : Logic 𝓤) {K : Type 0} {Γ : List (Item 𝓤)} {G : Goal 𝓤 𝓛.H} (t : K) (κ : Lft) (q : Share) where
-  -- a value and its token are what a callee asks for, with a fact
+  -- a value and its token are the callee's precondition, with a fact
   pub asks : (own : Fml) (P : Type 0) (Q : SProp 𝓤) → P
       → ent 𝓤 (sep 𝓤 (mean 𝓛 ((‵ (flft κ q) ⊛ ‵ ftrue) ⊛ ‵ own ⊛ ‵ ftrue)) (mean 𝓛 (raw (fact 𝓤 P)))) Q
       → Step K 𝓛 (raw Q ∷ Γ) G (‵ own ∷ ‵ (flft κ q) ∷ Γ) G
@@ -47,7 +47,7 @@ module _ {M : Type 1} {𝓤 : Ura M} (𝓛 : Logic 𝓤) {K : Type 0} {Γ : List
       split t $ drop t $ split t $ move t (1 ∷ []) $ heard t _ (λ says.
       move t (3 ∷ []) $ peeks t R _ (shows 𝓛 R) x (w ∷ []) (λ seen. k x says seen))))
 
--- ---- a value that is lent again for a lifetime that begins, and comes back when that is over
+-- ---- a value that is reborrowed for a lifetime that begins, and comes back when that ends
 -- what the lender keeps
 abbrev pub Kept : (R : RattleType) (κ : Lft) (q : Share) (r : MutBor R.Denot) → ℕ → GName → Fml
 Kept R κ q r α δ = LentAgain R κ (α ∷ []) q r.ghost_name r.ref_ptr.0 r.ref_ptr.1 δ r.now
@@ -72,10 +72,10 @@ module _ {M : Type 1} {𝓤 : Ura M} (𝓛 : Logic 𝓤) {K : Type 0} {Γ : List
       use3 𝓛 (later (‵ ((MutRef (named 0) κ R).own_val (record r { now = n }) (mut_vals r)) ⊛ ‵ (flft κ q)))
       (comes_back 𝓛 R (named 0) κ (α ∷ []) q r.ghost_name r.ref_ptr.0 r.ref_ptr.1 δ r.now n) $ await t soaks $ split t $ s)
 
--- a number that a switch looks at is another one than that of an arm
+-- the number that a switch reads differs from that of an arm
 pub apart : {X : Type 1} (m n : ℕ) → eqb m n ≡ false → eqb n n ≡ true → m ≡ n → X
 apart m n other itself same = absurd (true≢false (sym itself ∙ ap (λ k. eqb k n) (sym same) ∙ other))
 
--- the same of the first arm of several
+-- like `apart`, for the first of several arms
 pub past : {X Y : Type 1} (m n : ℕ) → eqb m n ≡ false → eqb n n ≡ true → Y → (m ≡ n → X) × Y
 past m n other itself arms = (apart m n other itself, arms)

@@ -1,5 +1,5 @@
--- A slice of no items is lent by whatever lends: none of its memory lies there, so it stays as it is, whatever is left in the slice.
--- Assumes `Logic`.
+-- Any lender can lend an empty slice: it covers none of the lender's memory, so the lender is unchanged, whatever is written. Assumes
+-- `Logic`.
 use Prim.Native.Nat.{ℕ}
 use mathlib.Core.Path.{◌≡◌}
 use mathlib.Core.List.{List, [], ◌∷◌}
@@ -28,7 +28,7 @@ module _ {M : Type 1} {𝓤 : Ura M} (𝓛 : Logic 𝓤) (S R : RattleType) (ℓ
       → ent 𝓤 (sep 𝓤 (sem 𝓛 (cells (mem R) ws b' o')) (sem 𝓛 ((mem S).own_at x b o))) (sem 𝓛 ((mem S).own_at x b o))
   stays ws e = qed 𝓛 (‵ (cells (mem R) ws b' o') ∷ ‵ ((mem S).own_at x b o) ∷ []) ∵ drop ! $ done !
 
-  -- the slice at (b', o') under a new name, the token, and that the lender stays
+  -- the slice at (b', o') under a new name, the token, and that the lender is unchanged
   abbrev pub Nothing : Room R 0 → GName → SProp 𝓤
   Nothing rm = Elements 𝓛 S R (λ _. x) ℓ κ q b o b' o' γ [] rm (sem 𝓛 ((mem S).own_at x b o)) stays
 

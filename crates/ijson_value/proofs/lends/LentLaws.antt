@@ -1,4 +1,4 @@
--- The laws of what a value lends: the value at a place, if there is one, and a key with the value beside it.
+-- The laws of the types that a value lends: the value at a step, if there is one, and a key with its value.
 use Rattle.ijson_value.proofs.lends.Steps.{[], ◌∷◌, refl, Lft, named, RattleType, MutRef, Laws, of_field, row_shared, mut_ref_shared}
 use Rattle.ijson_value.proofs.lends.Steps.{mut_ref_laws, mut_ref_field}
 use denote.Param.Shared.{copy_shared}

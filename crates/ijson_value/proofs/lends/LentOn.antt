@@ -1,4 +1,4 @@
--- What follows a part follows a part of the part. Assumes `Logic`.
+-- A lender that follows its part also follows a part of that part. Assumes `Logic`.
 use mathlib.Core.List.{[], ◌∷◌}
 use mathlib.Core.Option.{Option, none, some}
 use seplogic.Ra.Ura.{Ura}
@@ -30,7 +30,7 @@ module _ {M : Type 1} {𝓤 : Ura M} (𝓛 : Logic 𝓤) (R S T : RattleType) (F
       use2 𝓛 (‵ (follows R T γ δ' (λ w. F (G w)))) (follows_then 𝓛 R S T F G γ δ δ') $
       fpack ! Found (λ (s : Found). follows_if R T γ (some δ') s.0.0 s.0.1) here $ done !
 
--- What a lender that follows its part by a relation is, once it is known what the part was left at, or that there was none.
+-- A lender that follows its part by a relation, once the final part is known, or that there was none.
 module _ {M : Type 1} {𝓤 : Ura M} (𝓛 : Logic 𝓤) (R T : RattleType) (P : T.Denot → R.Denot → Type 0) (P₀ : R.Denot → Type 0)
     (γ : GName) where
   pub so_none : ent 𝓤 (sem 𝓛 (follows_so R T γ none P P₀)) (sem 𝓛 (fex ((z : R.Denot) × P₀ z) (λ s. fres γ (R.coded.code s.0))))
@@ -45,7 +45,7 @@ module _ {M : Type 1} {𝓤 : Ura M} (𝓛 : Logic 𝓤) (R T : RattleType) (P :
       use2 𝓛 (‵ (fres γ (R.coded.code (s.0.0 w)))) (followed 𝓛 R T s.0.0 γ δ w) $
       fpack ! ((z : R.Denot) × P w z) (λ k. fres γ (R.coded.code k.0)) (s.0.0 w, s.1 w) $ done !)
 
--- A lender that follows itself, and one that is as it was.
+-- A lender that follows itself, and one that is unchanged.
 module _ {M : Type 1} {𝓤 : Ura M} (𝓛 : Logic 𝓤) (R : RattleType) where
   pub itself_so : (γ : GName) (v : R.Denot) (P : R.Denot → R.Denot → Type 0) (P₀ : R.Denot → Type 0) → ((w : R.Denot) → P w w) → P₀ v
       → ent 𝓤 (emp 𝓤) (sem 𝓛 (follows_so R R γ (some γ) P P₀))
@@ -61,7 +61,7 @@ module _ {M : Type 1} {𝓤 : Ura M} (𝓛 : Logic 𝓤) (R : RattleType) where
       fpack ! ((s : (T.Denot → R.Denot) × R.Denot) × ((w : T.Denot) → P w (s.0 w)) × P₀ s.1) (λ s. follows_if R T γ none s.0.0 s.0.1)
       ((F, v), met, met₀) $ done !
 
--- A lender that follows its part if there is one, and else is as it was.
+-- A lender that follows its part if there is one, and otherwise is unchanged.
 module _ {M : Type 1} {𝓤 : Ura M} (𝓛 : Logic 𝓤) (R T : RattleType) (F : T.Denot → R.Denot) (v : R.Denot) (γ : GName) where
   pub some_if : (δ : GName) → ent 𝓤 (sem 𝓛 (follows R T γ δ F)) (sem 𝓛 (follows_if R T γ (some δ) F v))
   unfolding follows_by
@@ -71,7 +71,7 @@ module _ {M : Type 1} {𝓤 : Ura M} (𝓛 : Logic 𝓤) (R T : RattleType) (F :
   unfolding follows_by
   none_if = qed 𝓛 (‵ (fres γ (R.coded.code v)) ∷ []) ∵ done !
 
--- What follows a part follows a part of the part, where that is said by a relation.
+-- A lender that follows its part also follows a part of that part, by a relation.
 module _ {M : Type 1} {𝓤 : Ura M} (𝓛 : Logic 𝓤) (R S T : RattleType) (F : S.Denot → R.Denot) (Q : T.Denot → S.Denot → Type 0)
     (Q₀ : S.Denot → Type 0)
     (P : T.Denot → R.Denot → Type 0) (P₀ : R.Denot → Type 0) (met : (w : T.Denot) (y : S.Denot) → Q w y → P w (F y))
@@ -84,7 +84,7 @@ module _ {M : Type 1} {𝓤 : Ura M} (𝓛 : Logic 𝓤) (R S T : RattleType) (F
       use2 𝓛 (‵ (follows_so R T γ m P P₀)) (then_so 𝓛 R S T F s.0.0 s.0.1 P P₀ (λ w. met w (s.0.0 w) (s.1 w)) (met₀ s.0.1 s.2) γ δ m) $
       done !)
 
--- The same of a lender that follows its part by a function.
+-- A lender that follows its part also follows a part of that part, by a function.
 module _ {M : Type 1} {𝓤 : Ura M} (𝓛 : Logic 𝓤) (R T : RattleType) (F : T.Denot → R.Denot) (v : R.Denot) (γ : GName) where
   pub if_none : ent 𝓤 (sem 𝓛 (follows_if R T γ none F v)) (sem 𝓛 (fres γ (R.coded.code v)))
   unfolding follows_by

@@ -1,4 +1,4 @@
--- The call that lends the part of a value of one kind, whichever kind that is. Assumes `Logic`.
+-- The call that lends the part of a value, for any kind. Assumes `Logic`.
 use mathlib.Core.List.{List, [], ◌∷◌}
 use mathlib.Core.Path.{◌≡◌}
 use seplogic.Ra.Ura.{Ura}
@@ -25,7 +25,7 @@ use Rattle.ijson_value.proofs.lends.Called.{Answer, asks, answered}
 
 module _ {M : Type 1} {𝓤 : Ura M} (𝓛 : Logic 𝓤) {K : Type 0} {Γ : List (Item 𝓤)} {E : Env 𝓤 𝓛.H} {C : Calls 𝓤 𝓛.H} {Λ : Loops 𝓤 𝓛.H}
     {f : Callee} {xs : List Operand} {d : Place} {rest : Body} {post : Post 𝓤 𝓛.H} (t : K) (κ : Lft) (q : Share) (r : MutBor V.Denot) where
-  -- the part, what the value follows and the token, where the value is of the kind that the call asks for
+  -- the part, the formula that the value follows and the token, if the value is of the kind that the call requires
   pub part_called : FmC 𝓤 𝓛.H 𝓛.laws C → (k : ValueType) → kind_of r.now.tree ≡ k → (R : RattleType)
       → ((part : R.Denot) (vs : List Val) → Is R part vs → Typed R.mir vs) → (F : R.Denot → Fml) (value : R.Denot → WellFormed)
       (c : Contract 𝓤) → Triple 𝓤 (C f) c → (x : c.Ghost)

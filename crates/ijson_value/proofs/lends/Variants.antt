@@ -1,4 +1,4 @@
--- A variant of any enum is taken apart and made, at any rows, with no law of these. Assumes `Logic`.
+-- Taking apart and building a variant of any enum, for any field types and without their laws. Assumes `Logic`.
 use mathlib.Core.Bool.{Bool, true, false, ◌&&◌}
 use mathlib.Core.Logic.{inl, inr}
 use mathlib.Core.Path.{◌≡◌, refl, ap, ◌∙◌}
@@ -23,17 +23,17 @@ use denote.Enum.Declared.{Declared, rowss, row, tag_of}
 use Rattle.std.specs.Prelude.{Option, None, Some}
 use Rattle.std.specs.contracts.option.Option.{the_row}
 
--- what one field alone is typed by
+-- the type check of a single field
 pub and_tt : (b : Bool) → T b → T (b && true)
 and_tt true t = tt
 and_tt false t = absurd t
 
--- whether there is one
+-- case analysis on an option
 pub by_option : {X : Type 1} {Y : Type 0} (o : Option Y) → (o ≡ None → X) → ((y : Y) → o ≡ Some y → X) → X
 by_option None none more = none refl
 by_option (Some y) none more = more y refl
 
--- what a variant with these fields owns, under its tag: the row of any enum computes to it at a variant that is written out
+-- the ownership of a variant with these fields, under its tag: the type of any enum computes to it at a concrete variant
 abbrev Tagged_with : ℕ → (Rs : List RattleType) → Denots Rs → List Val → List Val → Fml
 Tagged_with n Rs parts vs us = fsep (feq (List Val) vs (live n (of_list us) ∷ [])) (fex (Valss Rs) (in_a_row Rs (owns Rs parts) us))
 
@@ -63,7 +63,7 @@ module _ {M : Type 1} {𝓤 : Ura M} {𝓛 : Logic 𝓤} {K : Type 0} {Γ : List
         → Seq K 𝓛 (‵ ((the_row R).own_val (Some x) vs) ∷ Γ) G
     Some-out x vs k = alone_out 1 R x vs k
 
--- it is made of its fields
+-- building a variant from its fields
 module _ {M : Type 1} {𝓤 : Ura M} (𝓛 : Logic 𝓤) (n : ℕ) where
   pub variant_made : (Rs : List RattleType) (parts : Denots Rs) (vss : Valss Rs)
       → ent 𝓤 (sem 𝓛 (owns Rs parts vss)) (sem 𝓛 (Tagged n Rs parts (live n (of_list (flat Rs vss)) ∷ [])))
@@ -72,7 +72,7 @@ module _ {M : Type 1} {𝓤 : Ura M} (𝓛 : Logic 𝓤) (n : ℕ) where
       fpack ! (Valss Rs) (in_a_row Rs (owns Rs parts) us) vss $ feq_i ! (List Val) (v ∷ []) (v ∷ []) refl $ fjoin ! $
       fpack ! (List Val) (Tagged_with n Rs parts (v ∷ [])) us $ done !
 
-  -- of one
+  -- from one field
   pub alone_made : (R : RattleType) (x : R.Denot) (v : Val)
       → ent 𝓤 (sem 𝓛 (R.own_val x (v ∷ []))) (sem 𝓛 (Tagged n (R ∷ []) (x, tt) (live n (of_list (v ∷ [])) ∷ [])))
   alone_made R x v =

@@ -1,4 +1,4 @@
--- What entries rest on.
+-- Lemmas about `Entry`.
 use Rattle.std.proofs.Common.{◌≡◌, ◌<◌, ℕ, zero, suc, List, [], ◌∷◌, ◌++◌, length, get_or, refl, sym, ap, subst, ◌∙◌, Option, Some, None}
 use Rattle.std.proofs.Common.{arith}
 use Rattle.std.specs.Prelude.{slice_get, option_map, IsSome}
@@ -19,7 +19,7 @@ use Rattle.ijson_value.specs.declared.object.entry.OccupiedEntry.{OccupiedEntry}
 use Rattle.ijson_value.specs.laws.EntryValid.{still_valid}
 use Rattle.ijson_value.proofs.pairs.PairLookups.{pair_there}
 
--- a refused growth leaves the capacity
+-- a failed growth leaves the capacity
 pub refused_capacity : (len c n c' : ℕ) (why : ReserveError) → Ungrown len c n why c' → c' ≡ c
 refused_capacity len c n c' Memory g = g.0
 refused_capacity len c n c' TooLarge g = g.0
@@ -29,35 +29,35 @@ is_there None x e = cc
 is_there (Some y) x e = refl
 
 module _ {V : Type 0} where
-  -- the object after a refused growth is the one before
+  -- a failed growth leaves the object
   pub refused_same : (old new : Store V) (why : ReserveError) → Ungrown (length old.pairs) old.capacity 1 why new.capacity
       → new.pairs ≡ old.pairs → new ≡ old
   refused_same old new why g e = store_path new old e (refused_capacity (length old.pairs) old.capacity 1 new.capacity why g)
 
-  -- what a look-up by the text of a key answered, of the key
+  -- the result of a lookup by the bytes of a key, for the key
   pub placed : (pairs : List (List ℕ × V)) {key text : List ℕ} {found answer : Option ℕ} → text ≡ key → found ≡ at pairs text
       → found ≡ answer → at pairs key ≡ answer
   placed pairs text_is found_is is = ap (at pairs) (sym text_is) ∙ sym found_is ∙ is
 
-  -- the key at the position of a key
+  -- the key at the index of a key
   pub key_there : (pairs : List (List ℕ × V)) (key : List ℕ) (i : ℕ) → at pairs key ≡ Some i → get_or (keys_of pairs) i [] ≡ key
   key_there pairs key i e = (position-some (keys_of pairs) key i e).1
 
-  -- the key of the pair at a position
+  -- the key of the entry at an index
   pub key_got : (pairs : List (List ℕ × V)) (i : ℕ) (pair : List ℕ × V) → slice_get pairs i ≡ Some pair
       → get_or (keys_of pairs) i [] ≡ pair.0
   key_got [] i pair e = cc
   key_got (p ∷ ps) zero pair e = let same : p ≡ pair = cc in ap (λ q. q.0) same
   key_got (p ∷ ps) (suc i) pair e = key_got ps i pair e
 
-  -- the value at the position of a key
+  -- the value at the index of a key
   pub value_there : (pairs : List (List ℕ × V)) (key : List ℕ) (i : ℕ) → at pairs key ≡ Some i
       → option_map (λ pair. pair.1) (slice_get pairs i) ≡ lookup key pairs
   value_there pairs key i e =
       let got = pair_there pairs i (position_within pairs key i e) in
       ap (option_map (λ pair. pair.1)) got.1 ∙ sym (lookup-found pairs key i got.0 e got.1)
 
-  -- the value that was written last stands there
+  -- the value last written at an index
   pub value_set : (pairs : List (List ℕ × V)) (i : ℕ) (w : V) → i < length pairs
       → option_map (λ pair. pair.1) (slice_get (with_value pairs i w) i) ≡ Some w
   value_set [] i w li = absurd (omega arith)
@@ -72,7 +72,7 @@ module _ {V : Type 0} where
   pub store_twice : (s : Store V) (i : ℕ) (v w : V) → store_with_value (store_with_value s i v) i w ≡ store_with_value s i w
   store_twice s i v w = store_path (store_with_value (store_with_value s i v) i w) (store_with_value s i w) (twice s.pairs i v w) refl
 
-  -- the pair that was pushed is at the end, and writing there is what pushing the other value does
+  -- a pushed entry is the last, and writing there equals pushing the other value
   pub written_last : (pairs : List (List ℕ × V)) (key : List ℕ) (v w : V)
       → with_value (pairs ++ (key, v) ∷ []) (length pairs) w ≡ pairs ++ (key, w) ∷ []
   written_last [] key v w = refl
@@ -85,7 +85,7 @@ module _ {V : Type 0} where
   pub same_value : {p q : List ℕ × V} → Some p ≡ Some q → p.1 ≡ q.1
   same_value {p} {q} e = let same : p ≡ q = cc in ap (λ x. x.1) same
 
-  -- to take out the pair at a position is to take out its key
+  -- to remove the entry at an index is to remove its key
   pub swap_out_there : (s : Store V) (i : ℕ) → i < length s.pairs
       → swap_out s.pairs i ≡ swap_out_key (get_or (keys_of s.pairs) i []) s.pairs
   swap_out_there s i within =
@@ -93,7 +93,7 @@ module _ {V : Type 0} where
       position-distinct (keys_of s.pairs) (get_or (keys_of s.pairs) i []) i s.distinct (omega (arith, within, keys-length s.pairs)) refl in
       ap (λ o. out_at swap_out o s.pairs) (sym found)
 
--- What an entry of a key is read of: of a key that is there, by what a look-up by its text answered.
+-- The facts about the `Entry` of an existing key, from a lookup by its bytes.
 pub record IsAt (old : Store WellFormed) (k : List ℕ) (i : ℕ) : Type 0 where
   pub there : IsSome (at old.pairs k)
   pub key : get_or (keys_of old.pairs) i [] ≡ k
@@ -108,7 +108,7 @@ is_at old key i found = record {
   update = λ w. sym (put-present old.pairs i key w found);
 }
 
--- and of a key that is not there, which a pair of a copy of it is pushed for
+-- The facts about the `Entry` of a missing key, before an entry with a copy of it is pushed.
 pub record IsAbsent (old : Store WellFormed) (key : List ℕ) : Type 0 where
   pub gone : at old.pairs key ≡ None
   pub none : None ≡ lookup key old.pairs
@@ -122,7 +122,7 @@ is_absent old key missing = record {
   pushed = λ same copied w. (λ i. same i ++ (copied i, w) ∷ []) ∙ sym (put-absent old.pairs key w missing);
 }
 
--- a key that is not there, for which a growth was refused
+-- a missing key, for which a growth failed
 pub finds_no_room : (old : Store WellFormed) (key : List ℕ) (why : ReserveError) (c : ℕ) → at old.pairs key ≡ None
     → Ungrown (length old.pairs) old.capacity 1 why c → FindsNoRoom old key why
 finds_no_room old key why c missing growth = (
@@ -130,7 +130,7 @@ finds_no_room old key why c missing growth = (
   subst (λ n. Ungrown (length old.pairs) old.capacity 1 why n) (refused_capacity (length old.pairs) old.capacity 1 c why growth) growth,
 )
 
--- the entry after a write, whatever shows that its position is within
+-- the `Entry` after a write, for any proof that its index is in bounds
 pub rewritten : (o : OccupiedEntry) (w : WellFormed) (v : o.index < length (with_value o.object.now.pairs o.index w))
     → ◌≡◌ {A = OccupiedEntry}
     (record { object = record o.object { now = store_with_value o.object.now o.index w }; index = o.index; valid = v })

@@ -1,4 +1,4 @@
--- The pairs that an object gives, where they are put into another one.
+-- The entries that an object yields, when they are put into another one.
 use Rattle.std.proofs.Common.{◌≡◌, ℕ, List, ◌∷◌, length, take, Result, Ok, Err, Some, refl, sym, subst, ◌∙◌}
 use Rattle.std.specs.Prelude.{OnOk, IfErr, MatchResult, slice_get}
 use Rattle.std.specs.Iterator.{YieldsFirst}
@@ -10,28 +10,28 @@ module _ {X : Type 0} (all : List X) where
   abbrev starts : List X → List X → Type 0
   starts xs it = it ≡ xs
 
-  -- it gives its items
+  -- it yields its entries
   pub gives_list : GivesList starts (YieldsFirst (λ (s : List X). s)) all all
   gives_list xs gives = sym (all_given gives.0 xs gives.2) ∙ gives.1
 
-  -- what each list that it may give has, all of its items have
+  -- a property of each list that it may yield is a property of all its entries
   pub list_put : {A E : Type 0} (r : Result A E) (P : List X → Type 0)
       → ((xs : List X) → GivesList starts (YieldsFirst (λ (s : List X). s)) all xs → OnOk r (P xs)) → OnOk r (P all)
   list_put r P put = put all gives_list
 
-  -- what was put when it ended: what it gave, or what it gave until one came back
+  -- the entries put so far: all that it yielded, or those before the one returned
   abbrev Put : {A E : Type 0} → Result A E → (E → X) → (E → Type 0) → (List X → Type 0) → Type 0
   Put r item F P =
       (added : List X) × P added
       × MatchResult r (λ _. GivesAll starts (YieldsFirst (λ (s : List X). s)) all added)
       (λ e. GivesThen starts (YieldsFirst (λ (s : List X). s)) all added (item e) × F e)
 
-  -- what holds of those that it gave holds of all
+  -- a property of those that it yielded is a property of all
   pub all_put : {A E : Type 0} (r : Result A E) (item : E → X) (F : E → Type 0) (P : List X → Type 0) → Put r item F P → OnOk r (P all)
   all_put (Ok x) item F P (added, p, gives) = subst P (gives_list added gives) p
   all_put (Err e) item F P put = tt
 
-  -- or of those before the one that came back
+  -- or of those before the one returned
   pub some_put : {A E : Type 0} (r : Result A E) (item : E → X) (F : E → Type 0) (P : List X → Type 0) → Put r item F P
       → IfErr r (λ e. (n : ℕ) × (slice_get all n ≡ Some (item e)) × P (take n all) × F e)
   some_put (Ok x) item F P put = tt

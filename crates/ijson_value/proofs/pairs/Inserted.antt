@@ -1,4 +1,4 @@
--- What one insertion leaves, and one insertion more.
+-- The effect of one insertion, and of one more.
 use Rattle.std.proofs.Common.{◌≡◌, ◌++◌, ◌∷◌, [], List, ℕ, Option, Some, None, Result, Ok, Err, refl, subst}
 use Rattle.std.specs.Prelude.{OnOk}
 use Rattle.ijson_table.specs.Store.{put}

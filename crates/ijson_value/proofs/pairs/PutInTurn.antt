@@ -1,4 +1,4 @@
--- Pairs that are inserted one after the other are put so.
+-- Inserting entries in order is putting each of them.
 use Rattle.std.proofs.Common.{◌≡◌, ◌++◌, ◌∷◌, ◌∙◌, [], List, ℕ, Some, Ok, append_assoc, length, take, refl, ap, sym}
 use Rattle.std.specs.Prelude.{slice_get}
 use Rattle.ijson_table.specs.Store.{put_each}
@@ -22,7 +22,7 @@ module _ {X : Type 0} where
   before [] left = refl
   before (p ∷ done) left = ap (λ l. p ∷ l) (before done left)
 
-  -- where a list goes on with these, the first of them stands behind those before
+  -- if a list continues with these, the first of them follows those before
   pub first_left : (all done left : List X) (pair : X) (rest : List X) → all ≡ done ++ left
       → left ≡ pair ∷ rest
       → (slice_get all (length done) ≡ Some pair) × (take (length done) all ≡ done) × (all ≡ (done ++ pair ∷ []) ++ rest)

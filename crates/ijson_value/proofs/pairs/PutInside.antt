@@ -1,4 +1,4 @@
--- What putting into an object says of the opened value round it.
+-- The effect of a put into an object on the content around it.
 use Rattle.std.proofs.Common.{◌≡◌, ℕ, List, Option, Some, None, Result, Ok, Err, MutBor, refl, sym, ap, subst, ◌∙◌}
 use Rattle.std.specs.Prelude.{IfOk, IfErr, option_map, unwrap_or}
 use Rattle.ijson_table.specs.Store.{Store, lookup}
@@ -18,7 +18,7 @@ or_null : (found : Option WellFormed) → tree_of (unwrap_or found null_value) �
 or_null None = refl
 or_null (Some v) = refl
 
--- what is beside the key
+-- the value of the key
 pub put_value : (r : Result (MutBor WellFormed) (RefusedPair WellFormed)) (n : Destructured) (o : Store WellFormed) (key : List ℕ)
     → n ≡ Object o
     → IfOk r (λ v. v.now ≡ unwrap_or (lookup key o.pairs) null_value)
@@ -28,7 +28,7 @@ put_value (Ok v) n o key is e =
     ∙ ap (λ m. unwrap_or (tree_at (node_value m).tree (by_key key)) null) (sym is)
 put_value (Err x) n o key is e = tt
 
--- what comes back
+-- the key and value returned
 pub put_refused : (r : Result (MutBor WellFormed) (RefusedPair WellFormed)) (n : Destructured) (o : Store WellFormed) (key : List ℕ)
     → n ≡ Object o
     → IfErr r (λ x. (x.key ≡ key) × (x.value ≡ null_value) × FindsNoRoom o key x.why)

@@ -1,4 +1,4 @@
--- One question of `retain`, and then the rest.
+-- One call of `retain`'s closure, and then the rest.
 use Rattle.std.proofs.Common.{◌≡◌, ◌<◌, ℕ, zero, suc, ◌+◌, ◌-◌, List, [], ◌∷◌, length, get_or, set, take, Bool, true, false, Some, refl}
 use Rattle.std.proofs.Common.{sym, ap, subst, ◌∙◌, arith, inl, inr, length-set}
 use Rattle.std.specs.Prelude.{slice_get, swap_remove, if◌then◌else◌}
@@ -29,7 +29,7 @@ module _ {X : Type 0} where
       ]
 
 module _ {V : Type 0} where
-  -- what was written into a pair goes with it
+  -- a value written to an entry is removed with it
   pub swap_out_written : (pairs : List (List ℕ × V)) (i : ℕ) (w : V) → i < length pairs
       → swap_out (with_value pairs i w) i ≡ swap_out pairs i
   swap_out_written pairs i w within =
@@ -53,7 +53,7 @@ module _ {F V : Type 0} (asked : F → List ℕ → V → Bool → V → F → T
       → RetainsFrom asked n f i ps qs
   gone n m f g i ps qs key v w e got did rest = subst (λ k. RetainsFrom asked k f i ps qs) (sym e) (key, v, false, w, g, got, did, rest)
 
-  -- the question about the pair at i may be asked, and once it was, so may those that follow
+  -- the closure may be called on the entry at i, and after that, on those that follow
   module _ (may : F → List ℕ → V → Type 0) where
     pub asks_now : (f : F) (i : ℕ) (ps : List (List ℕ × V)) (key : List ℕ) (v : V) → MayAskFrom asked may f i ps
         → slice_get ps i ≡ Some (key, v) → may f key v

@@ -1,4 +1,4 @@
--- What an array holds is smaller than the array.
+-- The elements of an array are smaller than the array.
 use Rattle.std.specs.Prelude.{◌≤◌, Option, Some, None}
 use Rattle.std.proofs.Common.{arith}
 use Rattle.std.specs.declared.alloc.Global.{Global}

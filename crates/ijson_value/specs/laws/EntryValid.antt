@@ -1,4 +1,4 @@
--- The position of an entry stays within its object when its value is written.
+-- The index of an `Entry` remains in bounds when its value is written.
 use Rattle.std.specs.Prelude.{◌≡◌, ◌<◌, ℕ, zero, suc, List, [], ◌∷◌, length}
 use Rattle.std.proofs.Common.{subst, sym, ap, refl}
 use Rattle.ijson_table.specs.Store.{with_value}

@@ -1,4 +1,4 @@
--- The laws of `==`, for whatever has a well-formed tree.
+-- The laws of `==`, for any type with a well-formed tree.
 use Rattle.std.proofs.Common.{◌≡◌, ℕ, List, Bool, IsTrue, ◌↔◌, sym, ◌∙◌}
 use Rattle.std.specs.Bool.{one_answer}
 use Rattle.std.specs.Cmp.{IsPartialEquivalence, IsEquivalence, equiv}
@@ -28,11 +28,11 @@ module _ {K : Type 0} (f : K → WellFormed) where
   pub equivalence : IsEquivalence (λ x y. same (f x).tree (f y).tree)
   equivalence = equiv partial_equivalence (λ x. (decides (f x).tree (f x).tree).1 (same_refl (f x).tree))
 
--- an answer of the test answers `Same`
+-- a result of the test decides `Same`
 pub is_same : (t u : Tree) (r : Bool) → r ≡ same t u → IsTrue r ↔ Same t u
 is_same t u r e = (λ h. (decides t u).0 (sym e ∙ h), λ s. e ∙ (decides t u).1 s)
 
--- the same of arrays of items, and of objects of pairs
+-- the law for arrays of elements, and for objects of entries
 pub is_same_array : (xs ys : List WellFormed) (r : Bool) → r ≡ same (array_tree xs) (array_tree ys)
     → IsTrue r ↔ Same (array_tree xs) (array_tree ys)
 is_same_array xs ys = is_same (array_tree xs) (array_tree ys)
@@ -41,6 +41,6 @@ pub is_same_object : (ps qs : List (List ℕ × WellFormed)) (r : Bool) → r �
     → IsTrue r ↔ Same (object_tree ps) (object_tree qs)
 is_same_object ps qs = is_same (object_tree ps) (object_tree qs)
 
--- and an answer of `Same` is that of the test
+-- and a result that decides `Same` is that of the test
 pub same_is : (t u : Tree) (r : Bool) → IsTrue r ↔ Same t u → r ≡ same t u
 same_is t u r h = one_answer r (same t u) h (decides t u)

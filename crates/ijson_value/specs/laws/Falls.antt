@@ -1,4 +1,4 @@
--- Items and members are smaller than what holds them together.
+-- Elements and members are smaller than their container.
 use Rattle.std.specs.Prelude.{ℕ, ◌+◌, ◌*◌, ◌≤◌, List, [], ◌∷◌}
 use Rattle.std.proofs.Common.{arith}
 use denote.Param.Weighed.{most}

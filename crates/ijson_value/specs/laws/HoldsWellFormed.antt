@@ -1,4 +1,4 @@
--- An array of well-formed values is well-formed, and so is an object of them.
+-- Arrays and objects of well-formed values are well-formed.
 use Rattle.std.specs.Prelude.{◌≡◌, ℕ, List, [], ◌∷◌}
 use Rattle.std.proofs.Common.{refl, sym, ap, subst}
 use Rattle.ijson_table.specs.Store.{Store, IsDistinct, keys_of}
@@ -13,7 +13,7 @@ HaveWellFormed-pairs : (ps : List (List ℕ × WellFormed)) → HaveWellFormed (
 HaveWellFormed-pairs [] = tt
 HaveWellFormed-pairs (p ∷ ps) = (p.1.well_formed, HaveWellFormed-pairs ps)
 
--- the members have the keys of the pairs
+-- the members have the keys of the entries
 pub member_keys-pairs : (ps : List (List ℕ × WellFormed)) → member_keys (pair_trees ps) ≡ keys_of ps
 member_keys-pairs [] = refl
 member_keys-pairs (p ∷ ps) = ap (λ l. p.0 ∷ l) (member_keys-pairs ps)

@@ -1,4 +1,4 @@
--- As many items as values, and as many members as pairs.
+-- Trees have as many elements as the list of values, and as many members as the list of entries.
 use Rattle.std.specs.Prelude.{◌≡◌, suc, List, [], ◌∷◌, length, Some, ℕ}
 use Rattle.std.proofs.Common.{refl, sym, ap}
 use Rattle.ijson_value.specs.Length.{items_len, length_of}

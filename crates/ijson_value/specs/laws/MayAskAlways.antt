@@ -1,4 +1,4 @@
--- A question that may always be asked may be asked of each pair that `retain` comes to.
+-- A closure that may always be called may be called on each entry that `retain` visits.
 use Rattle.std.specs.Prelude.{ℕ, zero, suc, ◌+◌, Bool, List, [], ◌∷◌, if◌then◌else◌}
 use Rattle.std.proofs.Common.{refl, sym, subst}
 use Rattle.std.specs.Map.Calls.{CalledAtPair, TakesPair}

@@ -1,4 +1,4 @@
--- The members of an object's tree and the object's pairs: what is put, and what is taken out.
+-- The members of an object's tree and the object's entries, after a put and after a removal.
 use Rattle.std.specs.Prelude.{◌≡◌, ℕ, true, false, List, [], ◌∷◌, Option, Some, None, map, cond}
 use Rattle.std.specs.Str.{bytes_eq}
 use Rattle.std.proofs.Common.{refl, sym, ap, ◌∙◌}
@@ -15,21 +15,21 @@ pub members_list-pairs : (ps : List (List ℕ × WellFormed)) → members_list (
 members_list-pairs [] = refl
 members_list-pairs (p ∷ ps) = ap (λ ms. pair_tree p ∷ ms) (members_list-pairs ps)
 
--- the pairs with the trees of their values have their keys
+-- replacing values by their trees keeps the keys
 pub keys_of-trees : (ps : List (List ℕ × WellFormed)) → keys_of (map pair_tree ps) ≡ keys_of ps
 keys_of-trees [] = refl
 keys_of-trees (p ∷ ps) = ap (λ ks. p.0 ∷ ks) (keys_of-trees ps)
 
--- a key stands among the members where it stands among the pairs
+-- a key has the same index among the members and among the entries
 pub at-trees : (ps : List (List ℕ × WellFormed)) (key : List ℕ) → at (map pair_tree ps) key ≡ at ps key
 at-trees ps key = ap (λ ks. position_of ks key) (keys_of-trees ps)
 
--- members listed and joined again
+-- `members_of` undoes `members_list`
 pub members_of-list : (ps : Members) → members_of (members_list ps) ≡ ps
 members_of-list no_members = refl
 members_of-list (member k t ps) = ap (member k t) (members_of-list ps)
 
--- a value put among the pairs is its tree put among the members
+-- to put a value into the entries is to put its tree into the members
 pub put-trees : (ps : List (List ℕ × WellFormed)) (key : List ℕ) (w : WellFormed)
     → map pair_tree (put ps key w) ≡ put (map pair_tree ps) key w.tree
 put-trees [] key w = refl
@@ -44,7 +44,7 @@ pub put-members : (ps : List (List ℕ × WellFormed)) (key : List ℕ) (w : Wel
 put-members ps key w =
     members_list-pairs (put ps key w) ∙ put-trees ps key w ∙ ap (λ ms. put ms key w.tree) (sym (members_list-pairs ps))
 
--- a pair with a key taken out in one way is its member taken out in another, where that holds at each position
+-- one removal of a key from the entries is another from the members, if this holds at each index
 module _ (out : List (List ℕ × WellFormed) → ℕ → List (List ℕ × WellFormed))
     (out_member : List (List ℕ × Tree) → ℕ → List (List ℕ × Tree)) (ps : List (List ℕ × WellFormed))
     (each : (i : ℕ) → map pair_tree (out ps i) ≡ out_member (map pair_tree ps) i) where

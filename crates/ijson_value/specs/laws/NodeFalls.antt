@@ -1,4 +1,4 @@
--- What a node holds is smaller than the node's value.
+-- The content of a node is smaller than the node's value.
 use Rattle.std.specs.Prelude.{◌≤◌, max}
 use Rattle.std.proofs.Common.{arith}
 use Rattle.ijson_value.specs.Sizes.{value_size}

@@ -1,5 +1,5 @@
--- The laws of the order, for whatever has a well-formed tree: it answers Equal exactly where `==` holds, turns round when its
--- sides are swapped, and its Less is transitive.
+-- The laws of the order, for any type with a well-formed tree: it is Equal exactly if `==` holds, reverses when its sides are swapped, and
+-- its Less is transitive.
 use Rattle.std.proofs.Common.{◌≡◌, ℕ, ◌<◌, ◌≤◌, Bool, true, false, cond, ◌==◌, Option, Some, None, refl, sym, ap, subst, ◌∙◌, arith}
 use mathlib.Core.Bool.{true≢false, beq}
 use Rattle.std.specs.Bool.{Decides}
@@ -20,7 +20,7 @@ use Rattle.ijson_value.specs.WellFormed.{WellFormed, IsWellFormed, AreWellFormed
 use Rattle.ijson_value.specs.laws.Equality.{partial_equivalence}
 use Rattle.ijson_value.specs.laws.SameDecided.{decides}
 
--- objects answer Equal or nothing
+-- objects are Equal or unordered
 abbrev object_answer : Bool → Option Ordering
 object_answer b = cond b (Some Equal) None
 
@@ -35,7 +35,7 @@ equal_alike : (t u v : Tree) → IsWellFormed t → IsWellFormed u → IsWellFor
 equal_alike t u v d e f =
     per_alike (partial_equivalence (λ v. v)) (with_proof t d) (with_proof u e) (with_proof v f)
 
--- ---- its sides swapped
+-- ---- swapping the sides
 object_turned : (b : Bool) → object_answer b ≡ option_map ordering_reverse (object_answer b)
 object_turned true = refl
 object_turned false = refl
@@ -93,7 +93,7 @@ mutual
   items_equal (item t ts) (item u us) =
       some_level (same t u) (same_each ts us) (tree_cmp t u) (items_cmp ts us) (cmp_equal t u) (items_equal ts us)
 
--- ---- what is the same is ordered alike
+-- ---- equal values are ordered alike
 mutual
   cmp_alike : (t u v : Tree) → IsWellFormed t → IsWellFormed u → IsWellFormed v → same t u ≡ true
       → tree_cmp t v ≡ tree_cmp u v
@@ -121,7 +121,7 @@ mutual
       (items_alike ts us vs d.1 e.1 f.1 (second_so (same t u) (same_each ts us) h) i)
 
 -- ---- Less is transitive
--- no other answer is Less
+-- no other order is Less
 abbrev IsLess : Option Ordering → Type 0
 IsLess None = ⊥
 IsLess (Some o) = MatchOrdering o (Unit {0}) ⊥ ⊥
@@ -148,7 +148,7 @@ not_below_itself n h = omega arith
 no_later : (m n : ℕ) → Some (nat_cmp m n) ≡ Some Less → m ≤ n
 no_later m n h = omega (arith, nat_lesser m n h)
 
--- a lesser value is of no later kind
+-- a lesser value is of the same or an earlier kind
 below : (t u : Tree) → tree_cmp t u ≡ Some Less → rank t ≤ rank u
 below null null h = itself 0
 below (boolean a) (boolean b) h = itself 1
@@ -158,7 +158,7 @@ below (array ts) (array us) h = itself 4
 below (object ps) (object qs) h = itself 5
 below t u h = no_later (rank t) (rank u) h
 
--- and one of an earlier kind is lesser
+-- and a value of an earlier kind is lesser
 earlier : (t u : Tree) → rank t < rank u → tree_cmp t u ≡ Some Less
 earlier null null h = absurd (not_below_itself 0 h)
 earlier (boolean a) (boolean b) h = absurd (not_below_itself 1 h)
@@ -168,7 +168,7 @@ earlier (array ts) (array us) h = absurd (not_below_itself 4 h)
 earlier (object ps) (object qs) h = absurd (not_below_itself 5 h)
 earlier t u h = nat_less (rank t) (rank u) h
 
--- so is one of an earlier kind than what is lesser
+-- if t is of an earlier kind than u and u is less than v, t is less than v
 earlier_then : (t u v : Tree) → Some (nat_cmp (rank t) (rank u)) ≡ Some Less → tree_cmp u v ≡ Some Less → tree_cmp t v ≡ Some Less
 earlier_then t u v h g = earlier t v (omega (arith, nat_lesser (rank t) (rank u) h, below u v g))
 
@@ -176,7 +176,7 @@ not_less : (b : Bool) → object_answer b ≡ Some Less → ⊥
 not_less true e = apart (Some Equal) e
 not_less false e = apart None e
 
--- the first items of three arrays, where p, q and s are what the rests answer
+-- the first elements of three arrays, if p, q and s are the orders of the rests
 module _ (t u v : Tree) (d : IsWellFormed t) (e : IsWellFormed u) (f : IsWellFormed v) (p q s : Option Ordering) where
   alike_right : tree_cmp u v ≡ Some Equal → tree_cmp t v ≡ tree_cmp t u
   alike_right b =

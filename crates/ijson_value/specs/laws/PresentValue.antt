@@ -1,5 +1,5 @@
--- A value that is beside a key already, put beside it again, changes nothing. So a caller that fills no entry but a vacant one puts
--- the value that is there, or else its own.
+-- Putting the value that a key already has changes nothing. So a caller that fills only a vacant `Entry` puts the existing value, or else
+-- its own.
 use Rattle.std.specs.Prelude.{◌≡◌, ℕ, zero, suc, List, [], ◌∷◌, Option, Some, None, get_or, slice_get, IsSome}
 use Rattle.std.specs.Option.{unwrap_or}
 use Rattle.std.proofs.Common.{refl, sym, ap, ◌∙◌}
@@ -8,14 +8,14 @@ use Rattle.ijson_table.specs.Store.{at, lookup, put, with_value}
 use Rattle.ijson_table.proofs.pairs.PairsByKey.{lookup-absent, lookup-found, position_within, put-present}
 
 module _ {V : Type 0} where
-  -- the value that stands at a position, written there again
+  -- writing the value at an index again
   written_again : (pairs : List (List ℕ × V)) (i : ℕ) (pair : List ℕ × V) → slice_get pairs i ≡ Some pair
       → with_value pairs i pair.1 ≡ pairs
   written_again [] i pair e = refl
   written_again (p ∷ ps) zero pair e = let same : p ≡ pair = cc in ap (λ q. (p.0, q.1) ∷ ps) (sym same)
   written_again (p ∷ ps) (suc i) pair e = ap (λ l. p ∷ l) (written_again ps i pair e)
 
-  -- the value beside a key, put there again
+  -- putting the value of a key again
   pub put_same : (pairs : List (List ℕ × V)) (key : List ℕ) (value : V) → lookup key pairs ≡ Some value → put pairs key value ≡ pairs
   put_same pairs key value there = elim (at pairs key) as (λ found. at pairs key ≡ found → put pairs key value ≡ pairs) [
     | None ↦ λ missing. let none = lookup-absent pairs key missing in cc
@@ -27,7 +27,7 @@ module _ {V : Type 0} where
         put-present pairs i key value found ∙ ap (with_value pairs i) (sym same) ∙ written_again pairs i pair got
   ] refl
 
-  -- the value beside a key that is there, or else another one, put there
+  -- putting the value of an existing key, or else another one
   pub put_found : (pairs : List (List ℕ × V)) (key : List ℕ) (value : V) → IsSome (at pairs key)
       → put pairs key (unwrap_or (lookup key pairs) value) ≡ pairs
   put_found pairs key value there = elim (lookup key pairs) as (λ beside. lookup key pairs ≡ beside

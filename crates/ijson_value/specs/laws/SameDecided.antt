@@ -1,4 +1,4 @@
--- `same` is the test of `Same`, at any two trees.
+-- `same` decides `Same`, for any two trees.
 use Rattle.std.proofs.Common.{◌≡◌, inl, inr, ◌==◌, ℕ, List, Bool, true, false, ◌&&◌, ◌||◌, refl, sym, subst}
 use Rattle.std.specs.Bool.{Decides}
 use mathlib.Core.Bool.{true≢false, beq}

@@ -1,4 +1,4 @@
--- `Same` is reflexive and transitive, and symmetric where no object has a key twice.
+-- `Same` is reflexive and transitive, and symmetric if all objects have distinct keys.
 use Rattle.std.proofs.Common.{◌≡◌, ◌≢◌, ℕ, List, inl, inr, suc, true, false, cond, refl, sym, ◌∙◌, ap, subst, arith}
 use mathlib.Core.Bool.{true≢false}
 use Rattle.std.specs.Str.{bytes_eq}
@@ -31,7 +31,7 @@ mutual
     in_refl ps qs (λ j u m. h j u (inr m)),
   )
 
--- what SameIn says of a pair of the first
+-- the partner that SameIn gives an entry of ps
 pub partner : (ps qs : Members) (k : List ℕ) (t : Tree) → Has k t ps → SameIn ps qs
     → (u : Tree) × Has k u qs × Same t u
 partner no_members qs k t h s = absurd h
@@ -73,8 +73,8 @@ mutual
       let w = partner qs rs k p.0.0 p.0.1 q in
       ((w.0, w.1, same_trans t p.0.0 w.0 p.0.2 w.2), in_trans ps qs rs p.1 q)
 
--- ---- pairs with distinct keys
--- these pairs but for the first with the key k
+-- ---- entries with distinct keys
+-- these entries without the first that has the key k
 abbrev pub without : List ℕ → Members → Members
 without k no_members = no_members
 without k (member j v qs) = cond (bytes_eq k j) qs (member j v (without k qs))
@@ -101,7 +101,7 @@ one_value (member j w qs) d k u v h i = elim h [
   ]
 ]
 
--- what stays where a pair is taken out
+-- the rest after an entry is removed
 pub without_len : (qs : Members) (k : List ℕ) (u : Tree) → Has k u qs
     → members_len qs ≡ suc (members_len (without k qs))
 without_len no_members k u h = absurd h
@@ -159,7 +159,7 @@ member_distinct no_members d k u h = absurd h
 member_distinct (member i v qs) d k u h =
     elim h [ inl e ↦ subst IsWellFormed (sym e.1) d.0 | inr m ↦ member_distinct qs d.1 k u m ]
 
--- members that each have a partner among others are the same as some of those
+-- members that each have a partner in ps are the same as some of ps
 pub covers : (qs ps : Members) → ((k : List ℕ) (u : Tree) → Has k u qs → (t : Tree) × Has k t ps × Same u t)
     → SameIn qs ps
 covers no_members ps h = tt
@@ -180,7 +180,7 @@ mutual
   each_symm (item t ts) (item u us) d e p = (same_symm t u d.0 e.0 p.0, each_symm ts us d.1 e.1 p.1)
   each_symm _ _ d e p = absurd p
 
-  -- as many pairs, each with its partner: each of the other side has one too
+  -- if both sides have the same length and each entry of one has a partner, so has each entry of the other
   back : (ps qs : Members) → IsDistinct (member_keys ps) → IsDistinct (member_keys qs)
       → HaveWellFormed ps → HaveWellFormed qs
       → members_len ps ≡ members_len qs → SameIn ps qs → (k : List ℕ) (u : Tree) → Has k u qs

@@ -1,4 +1,4 @@
--- Trees that are the same feed the same words, at every depth and in every order of pairs.
+-- Trees that are the same feed the same words, at every depth and in every order of entries.
 use Rattle.std.proofs.Common.{◌≡◌, ℕ, suc, ◌+◌, ◌%◌, ◌^◌, true, false, cond, List, [], ◌∷◌, ◌++◌, inl, inr, refl, sym, ap, ◌∙◌, subst}
 use Rattle.std.proofs.Common.{arith, IsTrue}
 use mathlib.Core.Bool.{true≢false}
@@ -26,7 +26,7 @@ pair_fold k t = fold_words (text_words k ++ words t)
 swapped : (a b c s : ℕ) → s ≡ b + c → a + s ≡ b + (a + c)
 swapped a b c s e = omega arith
 
--- a pair taken out takes its fold out of the sum
+-- removing an entry subtracts its fold from the sum
 sum_without : (qs : Members) (k : List ℕ) (u : Tree) → IsDistinct (member_keys qs) → Has k u qs
     → pair_sum qs ≡ pair_fold k u + pair_sum (without k qs)
 sum_without no_members k u d h = absurd h
@@ -83,7 +83,7 @@ mutual
       ap (λ ws. fold_words (text_words j ++ ws) + pair_sum ps) here
       ∙ ap (λ n. pair_fold j u + n) rest ∙ sym (sum_without qs j u dq s.0.1)
 
--- and so whatever has a well-formed tree
+-- the law for any type with a well-formed tree
 module _ {K : Type 0} (f : K → WellFormed) where
   pub same_feed : (x y : K) → IsTrue (same (f x).tree (f y).tree)
       → flat_map fed.u64 (words (f x).tree) ≡ flat_map fed.u64 (words (f y).tree)

@@ -1,4 +1,4 @@
--- The code of what contracts see of an array.
+-- The code of the model of an array.
 use Rattle.std.specs.Prelude.{ℕ, List}
 use Rattle.std.proofs.Common.{refl}
 use Rattle.std.specs.Coded.{Coded, code_by, coded×, coded_list, coded_ℕ}

@@ -1,5 +1,5 @@
--- What stands one step inside a value, what is left without it, and the value with another there: the trees of what a list of
--- items and a store of pairs answer.
+-- The value one step inside a value, the value without it, and with another there: the trees of the results of a list of elements and of a
+-- store of entries.
 use Rattle.std.specs.Prelude.{◌≡◌, ℕ, zero, suc, ◌-◌, true, false, List, [], ◌∷◌, Some, None, map, length, take, set}
 use Rattle.std.specs.Prelude.{swap, get_or, slice_get, option_map, IsSome, cond}
 use Rattle.std.specs.List.{remove}
@@ -26,7 +26,7 @@ items_list-items : (vs : List WellFormed) → items_list (item_trees vs) ≡ map
 items_list-items [] = refl
 items_list-items (v ∷ vs) = ap (λ ts. v.tree ∷ ts) (items_list-items vs)
 
--- where something stands there, the kind is the one that the step starts from
+-- if a step leads to a value, the kind is the one that the step is for
 pub kind_at : (t : Tree) (step : Step) → IsSome (tree_at t step) → kind_of t ≡ kind_for step
 kind_at null step h = cc
 kind_at (boolean b) step h = cc
@@ -37,7 +37,7 @@ kind_at (array ts) (by_key key) h = cc
 kind_at (object ps) (by_position i) h = cc
 kind_at (object ps) (by_key key) h = refl
 
--- the item at a position, and the value beside a key
+-- the element at an index, and the value of a key
 pub item_at : (vs : List WellFormed) (i : ℕ) → option_map tree_of (slice_get vs i) ≡ tree_at (array_tree vs) (by_position i)
 item_at [] i = refl
 item_at (v ∷ vs) zero = refl
@@ -99,7 +99,7 @@ value_with o key w h = elim (at o.pairs key) as (λ found. at o.pairs key ≡ fo
           ∙ ap (λ ms. object (members_of (put ms key w.tree))) (sym (members_list-pairs o.pairs))
     ] refl
 
--- an opened value that lent what stands one step inside is the tree with what was left there
+-- content that lent the value one step inside has the tree with the last value written
 pub tree_with_step : (n : Destructured) (step : Step) (w : WellFormed) → IsSome (tree_at (node_value n).tree step)
     → (node_value (with_step n step w)).tree ≡ tree_with (node_value n).tree step w.tree
 tree_with_step Null step w h = cc

@@ -1,4 +1,4 @@
--- The code of a tree, by which a proof tells trees apart.
+-- The code of a tree, by which a proof distinguishes trees.
 use Rattle.std.proofs.Common.{◌≡◌, ◌==◌, ℕ, List, false, refl, sym, ap, ◌∙◌, eq-eqb}
 use mathlib.Core.Bool.{true≢false}
 use Rattle.std.specs.Coded.{Coded, coded_bool, coded_list, coded_ℕ}
@@ -20,7 +20,7 @@ second gnil = gnil
 second (gnum n) = gnil
 second (gcons a b) = b
 
--- the number that stands first in the code of a tree, by its kind
+-- the first number in the code of a tree, by its kind
 abbrev tag : Gv → ℕ
 tag gnil = 0
 tag (gnum n) = n

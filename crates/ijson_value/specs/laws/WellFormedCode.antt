@@ -1,4 +1,4 @@
--- The code of a well-formed tree is that of the tree, since there is one proof at most.
+-- The code of a well-formed tree is that of the tree, since it has at most one proof.
 use Rattle.std.proofs.Common.{◌≡◌, refl, ap}
 use Rattle.std.specs.Coded.{Coded, code_by, ×_prop, Unit-prop}
 use base.Stored.{coded_sub}
@@ -31,6 +31,6 @@ well_formed_code =
     code_by ((t : Tree) × IsWellFormed t) (coded_sub tree_code IsWellFormed IsWellFormed-prop)
     (λ v. (v.tree, v.well_formed)) (λ p. record { tree = p.0; well_formed = p.1 }) (λ _. refl)
 
--- one tree, one value
+-- values with the same tree are the same
 pub one_tree : (v w : WellFormed) → v.tree ≡ w.tree → v ≡ w
 one_tree v w e = well_formed_code.inj v w (ap tree_code.code e)

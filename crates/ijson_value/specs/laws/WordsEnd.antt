@@ -1,4 +1,4 @@
--- No value's words go on to be another's, and values without objects that feed the same words are the same.
+-- No value's words are a proper prefix of another's, and values without objects that feed the same words are the same.
 use Rattle.std.proofs.Common.{◌≡◌, ◌⊎◌, ℕ, Bool, true, false, cond, List, [], ◌∷◌, ◌++◌, length, get_or, drop, inl, inr, refl, sym, ap, ◌∙◌}
 use Rattle.std.proofs.Common.{arith, append_assoc}
 use Rattle.std.specs.declared.cmp.Ordering.TheVariants.{Equal}
@@ -22,11 +22,11 @@ use Rattle.ijson_value.specs.WellFormed.{IsWellFormed, AreWellFormed}
 use Rattle.ijson_value.specs.Length.{items_len}
 use Rattle.ijson_value.specs.Words.{words, item_words}
 
--- the word at a place
+-- the word at an index
 abbrev word : ℕ → List ℕ → ℕ
 word i ws = get_or ws i 0
 
--- beginnings of one length are one, and what follows is one
+-- if the prefixes have the same length, they are the same, and so are the rests
 split_at : (xs ys x y : List ℕ) → length xs ≡ length ys → xs ++ x ≡ ys ++ y → (xs ≡ ys) × (x ≡ y)
 split_at [] [] x y l h = (refl, h)
 split_at [] (b ∷ ys) x y l h = absurd (omega (arith, l))
@@ -134,7 +134,7 @@ number_first n x = elim (zero_or_some n) [
   | inr s ↦ ap (λ ws. word 0 (ws ++ x)) s.words_are
 ]
 
--- the first word is that of the kind
+-- the first word is the rank of the kind
 first_word : (t : Tree) (x : List ℕ) → word 0 (words t ++ x) ≡ rank t
 first_word (number n) x = number_first n x
 first_word _ x = refl

@@ -1,5 +1,4 @@
--- What a fold of words becomes by one write of a hasher: a write of eight bytes is a word, the lowest byte first, and any
--- other changes nothing.
+-- A fold of words after one write to the hasher: a write of eight bytes is a word, lowest byte first; any other changes nothing.
 use Rattle.std.specs.Prelude.{ℕ, List, cond, length, ◌==◌}
 use Rattle.std.specs.Int.{w64, from_le_bytes}
 use Rattle.ijson_table.specs.Fold.{fold_word}

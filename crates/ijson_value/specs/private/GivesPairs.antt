@@ -1,4 +1,4 @@
--- What a source of pairs gives of which none has the key of another, and whose count is told.
+-- A source that yields a given number of entries, with distinct keys.
 use Rattle.std.specs.Prelude.{◌≡◌, ◌<◌, ℕ, List, Option, length}
 use Rattle.ijson_table.specs.Store.{IsDistinct, keys_of}
 use Rattle.ijson_value.specs.Gives.{GivesAll, GivesThen}

@@ -1,4 +1,4 @@
--- What the place of an array's list is once the slice of the list's items is given back.
+-- The pointer to an array's list after a mutable borrow of its elements as a slice ends.
 use Rattle.std.specs.Prelude.{List, Option, Some, None}
 use Rattle.std.specs.Borrow.{Lends, MutBor, Array, RattleType, Fml}
 use Rattle.std.specs.Vec.{with_items}
@@ -16,11 +16,11 @@ use Rattle.ijson_value.specs.contracts.value.IValue as value
 abbrev pub ListPlace : Type 0
 ListPlace = Option (Box (Vec WellFormed Global) Global)
 
--- the type of the place, as the logic holds it
+-- the type of the pointer in the logic
 abbrev pub place_row : RattleType
 place_row = option.the_row (boxed.the_row (vec.the_row value.the_row global.the_row ghosts) global.the_row ghosts)
 
--- the list, where there is one, with these items
+-- the list, if there is one, with these elements
 abbrev pub with_list_items : ListPlace → List WellFormed → ListPlace
 with_list_items None ws = None
 with_list_items (Some list) ws = Some (record list { value = with_items list.value ws })
@@ -28,6 +28,6 @@ with_list_items (Some list) ws = Some (record list { value = with_items list.val
 abbrev pub LendsListItems : MutBor ListPlace → MutBor (List WellFormed) → Fml
 LendsListItems s r = Lends place_row (Array value.the_row 0) s r (with_list_items s.now)
 
--- a slice of no items: then the place is as it was
+-- an empty slice: the pointer is unchanged
 abbrev pub LendsNoItems : MutBor ListPlace → MutBor (List WellFormed) → Fml
 LendsNoItems s r = Lends place_row (Array value.the_row 0) s r (λ _. s.now)

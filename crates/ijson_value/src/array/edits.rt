@@ -1,4 +1,4 @@
-//! What puts items into an array at a place, and what takes them out.
+//! Inserting and removing elements at an index.
 ghost use Rattle.std.specs.Prelude.{◌≡◌, ◌-◌, ◌*◌, ◌<◌, ◌≤◌, [], length, take, slice_get, OnOk, OnErr, IfErr, IsOk, MatchOption};
 ghost use Rattle.std.specs.List.{insert, remove, swap_remove};
 
@@ -7,9 +7,17 @@ use crate::value::IValue;
 use std::alloc::AllocError;
 
 impl IArray {
-    /// Puts an item at a position, and those from there on one position further. `index` must be at most `len`; at `len` the item is put
-    /// last. It takes memory only where there is no room for one more. Where that is refused, the item comes back and the array is as it
-    /// was, with the room that it had. It takes time linear in the items from there on.
+    /// Inserts an element at `index` and shifts all elements after it by one.
+    ///
+    /// `index` must be at most `len`; at `len` the element is appended. It allocates only if there is no spare capacity.
+    ///
+    /// # Errors
+    ///
+    /// Returns the element if the allocation fails. The array and its capacity stay as they were.
+    ///
+    /// # Cost
+    ///
+    /// Linear in the number of elements from `index` on.
     pub fn insert(&mut self, index: usize, item: IValue) -> Result<(), Refused>
         requires { index ≤ length self.old.items }
         ensures ok { OnOk result (self.new.items ≡ insert self.old.items index item) }
@@ -32,8 +40,13 @@ impl IArray {
         }
     }
 
-    /// Takes the item at a position out, and closes up those behind it. None past the end. It takes time linear in the items behind it.
-    /// The capacity stays.
+    /// Removes and returns the element at `index`, shifting all elements after it.
+    ///
+    /// Returns `None` if `index` is out of bounds. The capacity stays.
+    ///
+    /// # Cost
+    ///
+    /// Linear in the number of elements after `index`.
     pub fn remove(&mut self, index: usize) -> Option<IValue>
         ensures item { result ≡ slice_get self.old.items index }
         ensures items { self.new.items ≡ remove self.old.items index }
@@ -45,8 +58,10 @@ impl IArray {
         }
     }
 
-    /// Takes the item at a position out, and puts the last one there. None past the end. It takes constant time: of
-    /// `[1,2,3]` the first one leaves `[3,2]`. The capacity stays.
+    /// Removes and returns the element at `index`, which the last element replaces.
+    ///
+    /// Returns `None` if `index` is out of bounds. It takes constant time: removing the first of `[1,2,3]` leaves `[3,2]`. The capacity
+    /// stays.
     pub fn swap_remove(&mut self, index: usize) -> Option<IValue>
         ensures item { result ≡ slice_get self.old.items index }
         ensures items { MatchOption result (self.new.items ≡ self.old.items)
@@ -59,7 +74,7 @@ impl IArray {
         }
     }
 
-    /// Takes the last item out. None where there is no item. The capacity stays.
+    /// Removes and returns the last element, or `None` if the array is empty. The capacity stays.
     pub fn pop(&mut self) -> Option<IValue>
         ensures item { result ≡ slice_get self.old.items (length self.old.items - 1) }
         ensures items { self.new.items ≡ take (length self.old.items - 1) self.old.items }
@@ -68,8 +83,9 @@ impl IArray {
         self.list.as_mut()?.pop()
     }
 
-    /// Keeps the first `len` items. An array that has no more stays as it is. Those behind them are dropped. The
-    /// capacity stays.
+    /// Keeps the first `len` elements and drops the rest.
+    ///
+    /// If the array has no more than `len`, it stays as it is. The capacity stays.
     pub fn truncate(&mut self, len: usize)
         ensures items { self.new.items ≡ take len self.old.items }
         ensures capacity { self.new.capacity ≡ self.old.capacity }
@@ -79,7 +95,7 @@ impl IArray {
         }
     }
 
-    /// Drops all items. The capacity stays.
+    /// Drops all elements. The capacity stays.
     pub fn clear(&mut self)
         ensures items { self.new.items ≡ [] }
         ensures capacity { self.new.capacity ≡ self.old.capacity }

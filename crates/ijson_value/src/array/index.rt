@@ -1,4 +1,4 @@
-//! An array by position, and its items to be written.
+//! Elements of an array by index, and mutable access to them.
 ghost use Rattle.std.specs.Prelude.{◌≡◌, ◌<◌, [], length, Some, slice_get, option_map};
 ghost use Rattle.std.specs.Borrow.{sem};
 ghost use Rattle.ijson_value.specs.LendsItem.{LendsItem, LendsItemIf};
@@ -10,7 +10,7 @@ use super::IArray;
 use crate::value::IValue;
 use std::ops::{Index, IndexMut};
 
-/// `array[0]`: the item at a position, which has to be below the length.
+/// `array[0]`: the element at an index, which must be below the length.
 impl Index<usize> for IArray {
     type Output = IValue;
 
@@ -23,7 +23,7 @@ impl Index<usize> for IArray {
     }
 }
 
-/// `array[0] = item`: the item at a position, which has to be below the length, to be written.
+/// `array[0] = element`: the element at an index, which must be below the length.
 impl IndexMut<usize> for IArray {
     fn index_mut(&mut self, index: usize) -> &mut IValue
         requires { index < length self.old.items }
@@ -35,7 +35,7 @@ impl IndexMut<usize> for IArray {
 }
 
 impl IArray {
-    /// The item at a place, to be written. None past the end.
+    /// Returns a mutable reference to the element at `index`, or `None` if it is out of bounds.
     pub(crate) fn get_mut(&mut self, index: usize) -> Option<&mut IValue>
         ensures* writes_back { sem 𝓛 (LendsItemIf self.entry index result) }
         ensures item { option_map (λ item. item.now) result ≡ slice_get self.old.items index }
@@ -46,7 +46,7 @@ impl IArray {
         }
     }
 
-    /// The items, front to back, to be written.
+    /// Returns the elements as a mutable slice.
     pub fn as_mut_slice(&mut self) -> &mut [IValue]
         ensures* writes_back { sem 𝓛 (LendsItems self.entry result) }
         ensures items { result.now ≡ self.old.items }
@@ -55,7 +55,7 @@ impl IArray {
     }
 }
 
-/// The items of a list, to be written; none where there is no list.
+/// Returns the elements of a list as a mutable slice, which is empty if there is no list.
 fn items_mut(place: &mut Option<Box<Vec<IValue>>>) -> &mut [IValue]
     ensures* writes_back { sem 𝓛 (LendsListItems place.entry result) }
     ensures items { result.now ≡ list_items place.old }
@@ -66,7 +66,7 @@ fn items_mut(place: &mut Option<Box<Vec<IValue>>>) -> &mut [IValue]
     }
 }
 
-/// No items, to be written. The place stays as it is.
+/// Returns an empty mutable slice. `place` stays as it is.
 fn no_items(place: &mut Option<Box<Vec<IValue>>>) -> &mut [IValue]
     ensures* writes_back { sem 𝓛 (LendsNoItems place.entry result) }
     ensures items { result.now ≡ [] }

@@ -1,4 +1,4 @@
-//! `iter`, and `IntoIter`: the items of an array, one after the other.
+//! Iterators over the elements of an array.
 ghost use Rattle.std.specs.Prelude.{◌≡◌, length, Some, IfSome};
 ghost use Rattle.std.specs.Iterator.{YieldsFirst, item_count, at_most, UpTo};
 ghost use Rattle.std.specs.Iterator.SizeHint.{IsWithinCount};
@@ -12,7 +12,9 @@ use std::iter::FusedIterator;
 use std::marker::Model;
 use std::{fmt, slice, vec};
 
-/// The items of an array that are left, front to back. Those that are not taken are dropped with it.
+/// An iterator that moves the elements out of an array.
+///
+/// Dropping it drops the remaining elements.
 #[derive(Drop)]
 pub struct IntoIter {
     left: vec::IntoIter<IValue>,
@@ -33,7 +35,7 @@ impl Model for IntoIter {
 }
 
 impl IArray {
-    /// The items by reference, front to back. It borrows the array, and takes no memory.
+    /// Returns an iterator over the elements. It does not allocate.
     pub fn iter(&self) -> slice::Iter<'_, IValue>
         ensures items { iter_rest result ≡ self.now.items }
         ensures runs { IterYieldsInOrder WellFormed }
@@ -42,7 +44,7 @@ impl IArray {
     }
 }
 
-/// The items, front to back, which are moved and not copied.
+/// Moves the elements out, first to last, without copying them.
 impl IntoIterator for IArray {
     type Item = IValue;
 
@@ -59,7 +61,7 @@ impl IntoIterator for IArray {
     }
 }
 
-/// Front to back, each item once, and then None again and again. It takes no memory.
+/// Yields each element once, first to last, then always `None`. It does not allocate.
 impl Iterator for IntoIter {
     type Item = IValue;
 
@@ -89,7 +91,7 @@ impl ExactSizeIterator for IntoIter {
     }
 }
 
-/// The items that are left.
+/// Formats the remaining elements.
 impl fmt::Debug for IntoIter {
     fn fmt<W: fmt::Write>(&self, f: &mut fmt::Formatter<W>) -> fmt::Result {
         fmt::Debug::fmt(&self.left, f)

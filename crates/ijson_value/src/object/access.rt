@@ -1,4 +1,4 @@
-//! The pairs of an object by position.
+//! The entries of an object by index.
 ghost use Rattle.std.specs.Prelude.{◌≡◌, ◌<◌, ◌++◌, ◌∷◌, ℕ, List, [], length, slice_get, option_map, IfSome};
 ghost use Rattle.std.specs.Borrow.{sem};
 ghost use Rattle.ijson_table.specs.Store.{at, swap_out, shift_out};
@@ -10,7 +10,9 @@ use ijson_string::IString;
 use ijson_table::PairStore;
 
 impl IObject {
-    /// The value at a position, to be written. None past the end. It takes constant time.
+    /// Returns a mutable reference to the value at an index, or `None` if it is out of bounds.
+    ///
+    /// It takes constant time.
     pub fn value_at_mut(&mut self, position: usize) -> Option<&mut IValue>
         ensures* writes_back { sem 𝓛 (LendsValueIf self.entry position result) }
         ensures value { option_map (λ value. value.now) result
@@ -23,7 +25,7 @@ impl IObject {
         }
     }
 
-    /// The position of a key.
+    /// Returns the index of a key.
     #[tactic(auto, using(ijson_table::proofs::pairs::PairsByKey::position_within))]
     pub(super) fn position(&self, key: &str) -> Option<usize>
         ensures position { result ≡ at self.now.pairs key.now }
@@ -31,11 +33,11 @@ impl IObject {
     {
         match &self.table {
             None => None,
-            Some(table) => table.index_of(key),
+            Some(table) => table.get_index_of(key),
         }
     }
 
-    /// The pair at a position.
+    /// Returns the entry at an index.
     pub(super) fn pair(&self, position: usize) -> (&IString, &IValue)
         requires { position < length self.now.pairs }
         ensures { slice_get self.now.pairs position ≡ Some (result.0.now, result.1.now) }
@@ -44,7 +46,7 @@ impl IObject {
         (&pair.0, &pair.1)
     }
 
-    /// The value at a position, to be written.
+    /// Returns a mutable reference to the value at an index.
     pub(super) fn value_mut(&mut self, position: usize) -> &mut IValue
         requires { position < length self.old.pairs }
         ensures* writes_back { sem 𝓛 (LendsValue self.entry position result) }
@@ -53,7 +55,7 @@ impl IObject {
         self.pair_mut(position).1
     }
 
-    /// The key at a position, and its value to be written.
+    /// Returns the key at an index, and a mutable reference to its value.
     pub(super) fn pair_mut(&mut self, position: usize) -> (&IString, &mut IValue)
         requires { position < length self.old.pairs }
         ensures* writes_back { sem 𝓛 (LendsValue self.entry position result.1) }
@@ -62,7 +64,7 @@ impl IObject {
         self.table.as_mut().unwrap().pair_mut(position)
     }
 
-    /// Puts a pair last, in the room that there is.
+    /// Appends an entry, within the capacity.
     pub(super) fn push_new(&mut self, key: IString, value: IValue)
         requires missing { at self.old.pairs key ≡ None }
         requires within { length self.old.pairs < self.old.capacity }
@@ -72,7 +74,7 @@ impl IObject {
         self.table.as_mut().unwrap().push_new(key, value);
     }
 
-    /// Takes out the pair at a position. The last pair moves there.
+    /// Removes and returns the entry at an index, which the last entry replaces.
     pub(super) fn swap_out(&mut self, position: usize) -> (IString, IValue)
         requires { position < length self.old.pairs }
         ensures pair { slice_get self.old.pairs position ≡ Some result }
@@ -82,7 +84,7 @@ impl IObject {
         self.table.as_mut().unwrap().swap_out(position)
     }
 
-    /// Takes out the pair at a position. Those behind it close up.
+    /// Removes and returns the entry at an index, shifting all entries after it.
     pub(super) fn shift_out(&mut self, position: usize) -> (IString, IValue)
         requires { position < length self.old.pairs }
         ensures pair { slice_get self.old.pairs position ≡ Some result }

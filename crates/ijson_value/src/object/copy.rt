@@ -1,4 +1,4 @@
-//! What a copy of an object is made of.
+//! Helpers for copying an object.
 ghost use Rattle.std.specs.Prelude.{◌≡◌, IfOk, IsOk, length};
 ghost use Rattle.ijson_table.specs.Store.{keys_of};
 
@@ -8,14 +8,15 @@ use ijson_string::IString;
 use std::alloc::{AllocError, Global};
 
 impl IObject {
-    /// What the object takes memory from.
+    /// Returns the allocator of the object.
     pub(crate) fn allocator(&self) -> Global {
         self.alloc
     }
 
-    /// An object of pairs with the keys of this one in its order, as a copy of it has them. No key is hashed again where this one has
-    /// room for no more than its pairs, or where there are more than 127. Its capacity is its length, and one of no pairs takes no
-    /// memory.
+    /// Creates an object of `pairs`, which have the keys of this one in the same order.
+    ///
+    /// No key is hashed if this object has no spare capacity or more than 127 entries. The capacity of the copy is its length, and an empty
+    /// one does not allocate.
     pub(crate) fn with_same_keys(
         &self,
         pairs: Vec<(IString, IValue)>,

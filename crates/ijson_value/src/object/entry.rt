@@ -1,4 +1,4 @@
-//! The place of a key in an object: at its pair, or where there is room for one.
+//! A view of one key of an object: occupied by its entry, or vacant.
 ghost use Rattle.std.specs.Prelude.{◌≡◌, ◌<◌, ℕ, List, length, Some, None, IfOk, IfErr};
 ghost use Rattle.std.specs.Borrow.{sem};
 ghost use Rattle.ijson_table.specs.Store.{at, lookup};
@@ -10,21 +10,22 @@ use ijson_table::ReserveError;
 use std::{fmt, mem};
 use thiserror::Error;
 
-/// The place of a key. An occupied one keeps the position that the look-up found, and a vacant one that is filled hashes its
-/// key again.
+/// A view of one key of an object, occupied or vacant.
+///
+/// An occupied entry keeps the index that the lookup found. Filling a vacant one hashes its key again.
 ///
 /// ```
-/// let count = object.entry(key)?.or_insert(IValue::from(0u64)); // the value that is there, or 0
+/// let count = object.entry(key)?.or_insert(IValue::from(0u64)); // the value of the key, or 0
 /// ```
 #[derive(Drop)]
 pub enum Entry<'a> {
-    /// The key is there.
+    /// The key exists.
     Occupied(OccupiedEntry<'a>),
-    /// The key is not there, and there is room for it.
+    /// The key does not exist, and there is capacity for it.
     Vacant(VacantEntry<'a>),
 }
 
-/// The place of a key that is there.
+/// A view of a key that exists.
 #[derive(Drop)]
 pub struct OccupiedEntry<'a> {
     object: &'a mut IObject,
@@ -32,9 +33,9 @@ pub struct OccupiedEntry<'a> {
     ghost valid: { index < length object.now.pairs },
 }
 
-/// What the key of an entry is made of.
+/// A key type that has bytes.
 pub trait Text {
-    /// Its bytes.
+    /// The bytes of the key.
     ghost text: { Self → List ℕ };
 }
 
@@ -42,8 +43,9 @@ impl Text for IString {
     ghost text = { λ key. key };
 }
 
-/// The place of a key that is not there. The type of the key is a parameter, which is always `IString`, so that contracts can
-/// say what a vacant entry leaves of its object.
+/// A view of a key that does not exist.
+///
+/// The key type is a parameter so that contracts can say how dropping a vacant entry leaves its object. It is always `IString`.
 pub struct VacantEntry<'a, K: Text = IString> {
     object: &'a mut IObject,
     key: K,
@@ -51,7 +53,7 @@ pub struct VacantEntry<'a, K: Text = IString> {
     ghost room: { length object.now.pairs < object.now.capacity },
 }
 
-/// The key goes, and the object stays as it is, with the room that was made.
+/// Drops the key. The object keeps the reserved capacity.
 impl<'a, K: Text + Drop> Drop for VacantEntry<'a, K> {
     fn drop(self)
         ensures { self.exit.0.now ≡ self.entry.object.now }
@@ -61,17 +63,17 @@ impl<'a, K: Text + Drop> Drop for VacantEntry<'a, K> {
     }
 }
 
-/// A key that an object did not make room for, and why it did not grow. The object is as it was.
+/// The key that an object could not reserve capacity for, and why. The object is as it was.
 #[derive(Debug, Drop, Error)]
 #[error("the object did not grow for one more key: {why}")]
 pub struct RefusedKey {
-    /// The key that was given.
+    /// The key given.
     pub key: IString,
-    /// Why there is no room for it.
+    /// Why there is no capacity for it.
     pub why: ReserveError,
 }
 
-/// Why there is no room. The key that came back is dropped.
+/// Converts to the reason and drops the key.
 impl From<RefusedKey> for ReserveError {
     ghost from_gives = { λ refused why. why ≡ refused.why };
 
@@ -88,8 +90,13 @@ impl IObject {
     ghost use Rattle.ijson_value.specs.LendsEntry.{RestsIfNoEntry};
     ghost use Rattle.ijson_value.specs.WithEntry.{PutsThrough};
 
-    /// The place of a key. A key that is there needs no memory; for another one there is room made where there is none, and
-    /// where that is refused the key comes back. A vacant one that is not filled leaves the room made.
+    /// Returns a view of a key.
+    ///
+    /// If the key does not exist, capacity for it is reserved. Dropping a vacant entry keeps the reserved capacity.
+    ///
+    /// # Errors
+    ///
+    /// Returns the key and the reason if capacity cannot be reserved. An existing key needs none. The object stays as it was.
     pub fn entry(&mut self, key: IString) -> Result<Entry<'_>, RefusedKey>
         ensures same_object { IfOk result (λ e. (entry_object e).ghost_name ≡ self.entry.ghost_name) }
         ensures found { IfOk result (FindsEntry self.old key) }
@@ -115,8 +122,13 @@ impl IObject {
         }
     }
 
-    /// The place of a key that is copied only where it is not there, before room is made for it. A copy shares the text, and is refused
-    /// alone where the count of its owners is full. Where it is refused, or there is no room, the object is as it was.
+    /// Returns a view of a key, cloning `key` only if it does not exist.
+    ///
+    /// The clone is made before capacity is reserved. It shares the string.
+    ///
+    /// # Errors
+    ///
+    /// Returns `Memory` if the reference count of `key` is saturated, or the error of `reserve`. The object stays as it was.
     pub fn entry_or_clone(&mut self, key: &IString) -> Result<Entry<'_>, ReserveError>
         ensures same_object { IfOk result (λ e. (entry_object e).ghost_name ≡ self.entry.ghost_name) }
         ensures found { IfOk result (FindsEntry self.old key.now) }
@@ -154,7 +166,7 @@ impl<'a> Entry<'a> {
     ghost use Rattle.ijson_value.specs.WellFormed.{WellFormed};
     ghost use Rattle.ijson_value.specs.WithEntry.{with_entry};
 
-    /// The key.
+    /// Returns the key.
     pub fn key(&self) -> &IString
         ensures { result.now ≡ entry_key self.now }
     {
@@ -164,8 +176,9 @@ impl<'a> Entry<'a> {
         }
     }
 
-    /// The value beside the key, which is `default` where there was none. It takes no memory; where there was one, `default` is
-    /// dropped.
+    /// Inserts `default` if the entry is vacant, and returns a mutable reference to the value.
+    ///
+    /// It does not allocate. If the entry is occupied, `default` is dropped.
     pub fn or_insert(self, default: IValue) -> &'a mut IValue
         ensures* writes_back { sem 𝓛 (EntryLends self.entry result) }
         ensures value { result.now ≡ unwrap_or (entry_value self.entry) default }
@@ -179,8 +192,9 @@ impl<'a> Entry<'a> {
         }
     }
 
-    /// The value beside the key, which is what `default` makes where there was none. Where there is one it is not called. It
-    /// takes no memory.
+    /// Inserts the result of `default` if the entry is vacant, and returns a reference to the value.
+    ///
+    /// `default` is not called if the entry is occupied. It does not allocate.
     pub fn or_insert_with<F: FnOnce() -> IValue>(self, default: F) -> &'a mut IValue
         requires { entry_value self ≡ None → F.pre default }
         ensures* writes_back { sem 𝓛 (EntryLends self.entry result) }
@@ -192,7 +206,7 @@ impl<'a> Entry<'a> {
         }
     }
 
-    /// The entry, once `change` was called on the value that is there. On a vacant one it is not called.
+    /// Calls `change` on the value if the entry is occupied, and returns the entry.
     pub fn and_modify<F: FnOnce(&mut IValue)>(self, change: F) -> Entry<'a>
         requires { (value : MutBor WellFormed) → entry_value self ≡ Some value.now → F.pre change value }
         ensures same_object { (entry_object result).ghost_name ≡ (entry_object self.entry).ghost_name }
@@ -217,21 +231,21 @@ impl<'a> OccupiedEntry<'a> {
     ghost use Rattle.ijson_value.specs.LendsEntry.{EntryLends, OccupiedLends};
     ghost use Rattle.ijson_value.specs.WithEntry.{with_entry_value};
 
-    /// The key.
+    /// Returns the key.
     pub fn key(&self) -> &IString
         ensures { result.now ≡ entry_key (Occupied self.now) }
     {
         self.object.pair(self.index).0
     }
 
-    /// The value.
+    /// Returns the value.
     pub fn get(&self) -> &IValue
         ensures { entry_value (Occupied self.now) ≡ Some result.now }
     {
         self.object.pair(self.index).1
     }
 
-    /// The value, to be written.
+    /// Returns a mutable reference to the value.
     pub fn get_mut(&mut self) -> &mut IValue
         ensures* writes_back { sem 𝓛 (OccupiedLends self.entry result) }
         ensures value { entry_value (Occupied self.old) ≡ Some result.now }
@@ -240,7 +254,7 @@ impl<'a> OccupiedEntry<'a> {
         self.object.value_mut(index)
     }
 
-    /// The value, to be written for as long as the object is borrowed.
+    /// Returns a mutable reference to the value, for as long as the object is borrowed.
     pub fn into_mut(self) -> &'a mut IValue
         ensures* writes_back { sem 𝓛 (EntryLends (Occupied self.entry) result) }
         ensures value { entry_value (Occupied self.entry) ≡ Some result.now }
@@ -250,7 +264,7 @@ impl<'a> OccupiedEntry<'a> {
         object.value_mut(index)
     }
 
-    /// Puts another value beside the key, and answers the old one. It takes no memory.
+    /// Replaces the value and returns the old one. It does not allocate.
     pub fn insert(&mut self, value: IValue) -> IValue
         ensures old { entry_value (Occupied self.old) ≡ Some result }
         ensures written { self.new ≡ with_entry_value self.old value }
@@ -258,7 +272,7 @@ impl<'a> OccupiedEntry<'a> {
         mem::replace(self.get_mut(), value)
     }
 
-    /// Takes the pair out, and answers its value. The last pair moves into its place. It takes no memory.
+    /// Removes the entry and returns its value. The last entry replaces it. It does not allocate.
     pub fn remove(self) -> IValue
         ensures value { entry_value (Occupied self.entry) ≡ Some result }
         ensures removed { self.exit.0.now.pairs ≡ swap_out_key (entry_key (Occupied self.entry))
@@ -271,7 +285,7 @@ impl<'a> OccupiedEntry<'a> {
         value
     }
 
-    /// Takes the pair out. The last pair moves into its place. It takes no memory.
+    /// Removes and returns the entry. The last entry replaces it. It does not allocate.
     pub fn remove_entry(self) -> (IString, IValue)
         ensures key { result.0 ≡ entry_key (Occupied self.entry) }
         ensures value { entry_value (Occupied self.entry) ≡ Some result.1 }
@@ -290,14 +304,14 @@ impl<'a> VacantEntry<'a> {
     ghost use Rattle.ijson_value.specs.declared.object.entry.Entry.TheVariants.{Vacant};
     ghost use Rattle.ijson_value.specs.LendsEntry.{EntryLends};
 
-    /// The key.
+    /// Returns the key.
     pub fn key(&self) -> &IString
         ensures { result.now ≡ entry_key (Vacant self.now) }
     {
         &self.key
     }
 
-    /// The key back. The object stays as it is, with the room that was made.
+    /// Returns the key. The object keeps the reserved capacity.
     pub fn into_key(self) -> IString
         ensures key { result ≡ entry_key (Vacant self.entry) }
         ensures stays { self.exit.0.now ≡ (entry_object (Vacant self.entry)).now }
@@ -306,7 +320,7 @@ impl<'a> VacantEntry<'a> {
         key
     }
 
-    /// Puts the value beside the key, last, and lends it. It takes no memory.
+    /// Appends the entry and returns a mutable reference to its value. It does not allocate.
     pub fn insert(self, value: IValue) -> &'a mut IValue
         ensures* writes_back { sem 𝓛 (EntryLends (Vacant self.entry) result) }
         ensures value { result.now ≡ value }
@@ -318,7 +332,7 @@ impl<'a> VacantEntry<'a> {
     }
 }
 
-/// As what it is: occupied or vacant.
+/// Formats the variant and its entry.
 impl<'a> fmt::Debug for Entry<'a> {
     fn fmt<W: fmt::Write>(&self, f: &mut fmt::Formatter<W>) -> fmt::Result {
         match self {
@@ -328,7 +342,7 @@ impl<'a> fmt::Debug for Entry<'a> {
     }
 }
 
-/// The key and the value.
+/// Formats the key and the value.
 impl<'a> fmt::Debug for OccupiedEntry<'a> {
     fn fmt<W: fmt::Write>(&self, f: &mut fmt::Formatter<W>) -> fmt::Result {
         f.debug_struct("OccupiedEntry")
@@ -338,7 +352,7 @@ impl<'a> fmt::Debug for OccupiedEntry<'a> {
     }
 }
 
-/// The key.
+/// Formats the key.
 impl<'a> fmt::Debug for VacantEntry<'a> {
     fn fmt<W: fmt::Write>(&self, f: &mut fmt::Formatter<W>) -> fmt::Result {
         f.debug_tuple("VacantEntry").field(self.key()).finish()

@@ -1,4 +1,4 @@
-//! What adds the pairs of an iterator to an object.
+//! Adding the entries of an iterator to an object.
 ghost use Rattle.std.specs.Option.{option_or};
 ghost use Rattle.std.specs.Prelude.{◌≡◌, ℕ, List, [], MatchResult, IfErr, OnOk, Some, slice_get, take};
 ghost use Rattle.std.specs.Iterator.{IsFiniteIterable};
@@ -14,8 +14,13 @@ use ijson_string::IString;
 use std::alloc::Global;
 
 impl IObject {
-    /// Inserts the pairs of an iterator, one after the other. A pair that there is no room for comes back; those before it
-    /// stay, and the rest of the iterator is dropped. Nothing is reserved beforehand: room grows as by `insert`. The iterator must end.
+    /// Inserts the entries of an iterator, in order.
+    ///
+    /// Nothing is reserved beforehand: the capacity grows as by `insert`. The iterator must end.
+    ///
+    /// # Errors
+    ///
+    /// Returns the entry that there is no capacity for. The entries before it stay, and the rest of the iterator is dropped.
     pub fn extend<I: IntoIterator<Item = (IString, IValue)>>(
         &mut self,
         pairs: I,
@@ -40,9 +45,14 @@ impl IObject {
         Ok(())
     }
 
-    /// Lays another object over this one: each key of the other gets the other's value, in place where the key is there, else last and in
-    /// the other's order. The other keys stay. A pair that there is no room for comes back; those before it are laid over, and the rest
-    /// are dropped. Room grows as by `insert`.
+    /// Inserts the entries of `other`, replacing the values of keys that exist.
+    ///
+    /// An existing key keeps its index; a new one is appended, in the order of `other`. The other keys stay. The capacity grows as by
+    /// `insert`.
+    ///
+    /// # Errors
+    ///
+    /// Returns the entry that there is no capacity for. The entries before it are inserted, and the rest are dropped.
     pub fn overlay(&mut self, other: IObject) -> Result<(), RefusedPair>
         ensures inserts { OnOk result
             (InsertsEach self.old.pairs self.old.capacity other.pairs self.new.pairs self.new.capacity) }
@@ -57,8 +67,13 @@ impl IObject {
         self.extend(other)
     }
 
-    /// An object of the pairs of an iterator, inserted one after the other. A pair that there is no room for comes back; what was
-    /// made and the rest of the iterator are dropped. Room grows as by `insert`. The iterator must end.
+    /// Creates an object by inserting the entries of an iterator, in order.
+    ///
+    /// The capacity grows as by `insert`. The iterator must end.
+    ///
+    /// # Errors
+    ///
+    /// Returns the entry that there is no capacity for. The entries before it and the rest of the iterator are dropped.
     pub fn from_iter<I: IntoIterator<Item = (IString, IValue)>>(
         alloc: Global,
         pairs: I,

@@ -1,4 +1,4 @@
-//! Objects of the pairs of maps.
+//! Objects from the entries of maps.
 ghost use Rattle.std.specs.Prelude.{◌≡◌, ◌<◌, ◌↔◌, Err, IfOk, IsOk};
 ghost use Rattle.std.specs.BTreeMap.{btree_map_len};
 ghost use Rattle.std.specs.HashMap.{hash_map_len};
@@ -17,16 +17,24 @@ use std::alloc::Global;
 use std::collections::{BTreeMap, HashMap};
 use std::hash::BuildHasher;
 
-/// The greatest capacity of an object.
+/// The maximum capacity of an object.
 const CAPACITY_LIMIT: usize = 1 << 56;
 
 impl IObject {
-    /// An object of the pairs of a hash map, in the order in which the map goes over them. Its capacity is their count. They
-    /// are moved to a list with that room, which is taken first, and the object is made of it as by `from_pairs`. It is
-    /// refused as too large where the count passes 2^56, before memory is asked for; the map and its pairs are then dropped,
-    /// as where memory is refused. An empty map takes no memory. Nothing is copied, and each key is hashed once, or up to
-    /// three times where many keys crowd. Whatever the keys are, it takes time n log n in the count at most, and that of hashing the keys
-    /// and of comparing keys of one hash.
+    /// Creates an object of the entries of a hash map, in the map's iteration order.
+    ///
+    /// Its capacity is their count. They are moved, not copied, to a list that is allocated first, and the object is built from it as by
+    /// `from_pairs`. An empty map does not allocate.
+    ///
+    /// # Errors
+    ///
+    /// Returns `TooLarge` if the count exceeds 2^56, before allocating, and `Memory` if an allocation fails. The map and its entries are
+    /// dropped.
+    ///
+    /// # Cost
+    ///
+    /// Each key is hashed once, or up to three times if many keys collide. For any keys it takes at most n log n time in the count, plus
+    /// hashing the keys and comparing keys with equal hashes.
     pub fn from_hash_map<S: BuildHasher + Drop>(
         alloc: Global,
         map: HashMap<IString, IValue, S>,
@@ -39,12 +47,9 @@ impl IObject {
         IObject::from_distinct_pairs(alloc, map.len(), map)
     }
 
-    /// An object of the pairs of a sorted map, in the order of their keys. Its capacity is their count. They are moved to a
-    /// list with that room, which is taken first, and the object is made of it as by `from_pairs`. It is refused as too large
-    /// where the count passes 2^56, before memory is asked for; the map and its pairs are then dropped, as where memory is
-    /// refused. An empty map takes no memory. Nothing is copied, and each key is hashed once, or up to three times where many
-    /// keys crowd. Whatever the keys are, it takes time n log n in the count at most, and that of hashing the keys and of comparing keys
-    /// of one hash.
+    /// Creates an object of the entries of a sorted map, in the order of their keys.
+    ///
+    /// Allocation, errors and cost are those of `from_hash_map`.
     pub fn from_btree_map(
         alloc: Global,
         map: BTreeMap<IString, IValue>,
@@ -57,12 +62,9 @@ impl IObject {
         IObject::from_distinct_pairs(alloc, map.len(), map)
     }
 
-    /// An object of the pairs of a map in insertion order, in that order. Its capacity is their count. They are moved to a
-    /// list with that room, which is taken first, and the object is made of it as by `from_pairs`. It is refused as too large
-    /// where the count passes 2^56, before memory is asked for; the map and its pairs are then dropped, as where memory is
-    /// refused. An empty map takes no memory. Nothing is copied, and each key is hashed once, or up to three times where many
-    /// keys crowd. Whatever the keys are, it takes time n log n in the count at most, and that of hashing the keys and of comparing keys
-    /// of one hash.
+    /// Creates an object of the entries of an `IndexMap`, in insertion order.
+    ///
+    /// Allocation, errors and cost are those of `from_hash_map`.
     pub fn from_index_map<S: BuildHasher + Drop>(
         alloc: Global,
         map: IndexMap<IString, IValue, S>,
@@ -75,8 +77,9 @@ impl IObject {
         IObject::from_distinct_pairs(alloc, map.len(), map)
     }
 
-    /// An object of pairs of which none has the key of another, and whose count is told. A list with that room is taken first, so
-    /// none of them is refused.
+    /// Creates an object of `count` entries with distinct keys.
+    ///
+    /// A list of that capacity is allocated first, so no entry is rejected.
     fn from_distinct_pairs<I: IntoIterator<Item = (IString, IValue)> + Drop>(
         alloc: Global,
         count: usize,

@@ -1,4 +1,4 @@
-//! An object by key.
+//! The entries of an object by key.
 ghost use Rattle.std.specs.Prelude.{◌≡◌, ◌<◌, ℕ, List, Some, length, option_map, IsSome, IsTrue, IfSome, IfOk, IfErr, ◌↔◌};
 ghost use Rattle.ijson_value.specs.LendsPair.{LendsPairIf};
 ghost use Rattle.std.specs.Borrow.{sem};
@@ -15,7 +15,7 @@ use crate::value::IValue;
 use ijson_string::IString;
 use std::ops::{Index, IndexMut};
 
-/// Only texts are keys: no type outside of this crate can be one.
+/// Seals `ObjectIndex`: only strings are keys.
 pub trait Sealed {
     /// The bytes of the key.
     ghost key: { Self → List ℕ };
@@ -48,10 +48,11 @@ impl<T: Sealed> Sealed for &T {
     }
 }
 
-/// What finds a pair of an object: the text of its key. `&str`, `&IString`, and references to these. A look-up needs no cache
-/// and no memory.
+/// A key to look up in an object: `&str`, `&IString`, and references to these.
+///
+/// A lookup needs no cache and does not allocate.
 pub trait ObjectIndex: Sealed + Copy {
-    /// The pair with the key. None where it is not there.
+    /// Returns the entry of the key, or `None` if it does not exist.
     final fn index_into<'v>(self, v: &'v IObject) -> Option<(&'v IString, &'v IValue)>
         ensures { option_map deref_pair result ≡ pair_at_key (Self.Sealed.key self) v.now.pairs }
     {
@@ -61,7 +62,7 @@ pub trait ObjectIndex: Sealed + Copy {
         }
     }
 
-    /// The pair with the key, its value to be written. None where it is not there.
+    /// Like `index_into`, but with a mutable reference to the value.
     final fn index_into_mut<'v>(self, v: &'v mut IObject) -> Option<(&'v IString, &'v mut IValue)>
         ensures* writes_back { sem 𝓛 (LendsPairIf v.entry (Self.Sealed.key self) result) }
         ensures value { option_map deref_pair_mut result ≡ pair_at_key (Self.Sealed.key self) v.old.pairs }
@@ -69,7 +70,9 @@ pub trait ObjectIndex: Sealed + Copy {
         v.get_key_value_mut(self)
     }
 
-    /// Takes the pair with the key out, and puts the last pair in its place. None where it is not there.
+    /// Removes and returns the entry of the key, which the last entry replaces.
+    ///
+    /// Returns `None` if the key does not exist.
     final fn remove(self, v: &mut IObject) -> Option<(IString, IValue)>
         ensures pair { result ≡ pair_at_key (Self.Sealed.key self) v.old.pairs }
         ensures pairs { v.new.pairs ≡ swap_out_key (Self.Sealed.key self) v.old.pairs }
@@ -81,8 +84,13 @@ pub trait ObjectIndex: Sealed + Copy {
         }
     }
 
-    /// Takes the pair with the key out, and closes up those behind it. So the order stays. That takes time linear in the capacity of the
-    /// object, unless the pair is the last. None where the key is not there.
+    /// Removes and returns the entry of the key, shifting all entries after it.
+    ///
+    /// The order of the others stays. Returns `None` if the key does not exist.
+    ///
+    /// # Cost
+    ///
+    /// Linear in the capacity of the object, unless the entry is the last.
     final fn shift_remove(self, v: &mut IObject) -> Option<(IString, IValue)>
         ensures pair { result ≡ pair_at_key (Self.Sealed.key self) v.old.pairs }
         ensures pairs { v.new.pairs ≡ shift_out_key (Self.Sealed.key self) v.old.pairs }
@@ -102,7 +110,9 @@ impl ObjectIndex for &IString {}
 impl<T: ObjectIndex> ObjectIndex for &T {}
 
 impl IObject {
-    /// The value beside a key. None where it is not there. The key is hashed once, and looked up among those of its home.
+    /// Returns the value of a key, or `None` if it does not exist.
+    ///
+    /// The key is hashed once and compared with keys of its home slot.
     pub fn get<I: ObjectIndex>(&self, index: I) -> Option<&IValue>
         ensures { option_copied result ≡ lookup (I.Sealed.key index) self.now.pairs }
     {
@@ -112,7 +122,7 @@ impl IObject {
         }
     }
 
-    /// The value beside a key, to be written. None where it is not there.
+    /// Returns a mutable reference to the value of a key, or `None` if it does not exist.
     pub fn get_mut<I: ObjectIndex>(&mut self, index: I) -> Option<&mut IValue>
         ensures* writes_back { sem 𝓛 (LendsAtKeyIf self.entry (I.Sealed.key index) result) }
         ensures value { option_copied_mut result ≡ lookup (I.Sealed.key index) self.old.pairs }
@@ -123,14 +133,14 @@ impl IObject {
         }
     }
 
-    /// The pair with a key. None where it is not there.
+    /// Returns the entry of a key, or `None` if it does not exist.
     pub fn get_key_value<I: ObjectIndex>(&self, index: I) -> Option<(&IString, &IValue)>
         ensures { option_map deref_pair result ≡ pair_at_key (I.Sealed.key index) self.now.pairs }
     {
         index.index_into(self)
     }
 
-    /// The pair with a key, its value to be written. None where it is not there.
+    /// Like `get_key_value`, but with a mutable reference to the value.
     pub fn get_key_value_mut<I: ObjectIndex>(&mut self, index: I) -> Option<(&IString, &mut IValue)>
         ensures* writes_back { sem 𝓛 (LendsPairIf self.entry (I.Sealed.key index) result) }
         ensures value { option_map deref_pair_mut result ≡ pair_at_key (I.Sealed.key index) self.old.pairs }
@@ -141,7 +151,7 @@ impl IObject {
         }
     }
 
-    /// The position of a key. The object is as it was.
+    /// Returns the index of a key. The object stays as it is.
     fn position_of<I: ObjectIndex>(&mut self, index: I) -> Option<usize>
         ensures same { self.new ≡ self.old }
         ensures position { result ≡ at self.old.pairs (I.Sealed.key index) }
@@ -150,15 +160,16 @@ impl IObject {
         self.position(index.as_key())
     }
 
-    /// Whether a key is there.
+    /// Returns `true` if the key exists.
     pub fn contains_key<I: ObjectIndex>(&self, index: I) -> bool
         ensures { IsTrue result ↔ IsSome (lookup (I.Sealed.key index) self.now.pairs) }
     {
         self.get(index).is_some()
     }
 
-    /// Takes the pair with a key out, puts the last pair in its place, and answers its value. None where it is not there. No other pair
-    /// moves, and no memory is taken; `shift_remove` keeps the order.
+    /// Removes the entry of a key, which the last entry replaces, and returns its value.
+    ///
+    /// Returns `None` if the key does not exist. No other entry moves, and it does not allocate. `shift_remove` keeps the order.
     pub fn remove<I: ObjectIndex>(&mut self, index: I) -> Option<IValue>
         ensures value { result ≡ lookup (I.Sealed.key index) self.old.pairs }
         ensures pairs { self.new.pairs ≡ swap_out_key (I.Sealed.key index) self.old.pairs }
@@ -171,7 +182,9 @@ impl IObject {
         Some(value)
     }
 
-    /// Takes the pair with a key out, and puts the last pair in its place. None where it is not there.
+    /// Removes and returns the entry of a key, which the last entry replaces.
+    ///
+    /// Returns `None` if the key does not exist.
     pub fn remove_entry<I: ObjectIndex>(&mut self, index: I) -> Option<(IString, IValue)>
         ensures pair { result ≡ pair_at_key (I.Sealed.key index) self.old.pairs }
         ensures pairs { self.new.pairs ≡ swap_out_key (I.Sealed.key index) self.old.pairs }
@@ -180,8 +193,13 @@ impl IObject {
         index.remove(self)
     }
 
-    /// Takes the pair with a key out, closes up those behind it, and answers its value. So the order stays. That takes time
-    /// linear in the capacity of the object, unless the pair is the last. None where the key is not there.
+    /// Removes the entry of a key, shifting all entries after it, and returns its value.
+    ///
+    /// The order of the others stays. Returns `None` if the key does not exist.
+    ///
+    /// # Cost
+    ///
+    /// Linear in the capacity of the object, unless the entry is the last.
     pub fn shift_remove<I: ObjectIndex>(&mut self, index: I) -> Option<IValue>
         ensures value { result ≡ lookup (I.Sealed.key index) self.old.pairs }
         ensures pairs { self.new.pairs ≡ shift_out_key (I.Sealed.key index) self.old.pairs }
@@ -194,8 +212,13 @@ impl IObject {
         Some(value)
     }
 
-    /// Takes the pair with a key out, and closes up those behind it. So the order stays. That takes time linear in the capacity of the
-    /// object, unless the pair is the last. None where the key is not there.
+    /// Removes and returns the entry of a key, shifting all entries after it.
+    ///
+    /// The order of the others stays. Returns `None` if the key does not exist.
+    ///
+    /// # Cost
+    ///
+    /// Linear in the capacity of the object, unless the entry is the last.
     pub fn shift_remove_entry<I: ObjectIndex>(&mut self, index: I) -> Option<(IString, IValue)>
         ensures pair { result ≡ pair_at_key (I.Sealed.key index) self.old.pairs }
         ensures pairs { self.new.pairs ≡ shift_out_key (I.Sealed.key index) self.old.pairs }
@@ -206,12 +229,15 @@ impl IObject {
 }
 
 impl IObject {
-    /// The value beside a key, to be written. A key that is not there is put last with null beside it; where there is no room
-    /// for that, the key comes back with null.
+    /// Returns a mutable reference to the value of a key, appending a missing key with null.
     ///
     /// ```
     /// *object.index_or_insert(key)? = IValue::from(1u64);
     /// ```
+    ///
+    /// # Errors
+    ///
+    /// Returns the key with null if there is no capacity for it.
     pub fn index_or_insert(&mut self, key: IString) -> Result<&mut IValue, RefusedPair>
         ensures* writes_back { sem 𝓛 (LendsPut self.entry key result) }
         ensures value { IfOk result (λ value. value.now ≡ unwrap_or (lookup key self.old.pairs) null_value) }
@@ -239,7 +265,7 @@ impl IObject {
     }
 }
 
-/// `object["port"]`: the value beside a key, which has to be there.
+/// `object["port"]`: the value of a key, which must exist.
 impl<I: ObjectIndex + Drop> Index<I> for IObject {
     type Output = IValue;
 
@@ -252,8 +278,9 @@ impl<I: ObjectIndex + Drop> Index<I> for IObject {
     }
 }
 
-/// `object["port"] = value`: the value beside a key, which has to be there, to be written. `index_or_insert` puts one that is
-/// not.
+/// `object["port"] = value`: the value of a key, which must exist.
+///
+/// `index_or_insert` adds a missing key.
 impl<I: ObjectIndex + Drop> IndexMut<I> for IObject {
     fn index_mut(&mut self, index: I) -> &mut IValue
         requires { IsSome (lookup (I.Sealed.key index) self.old.pairs) }

@@ -1,4 +1,4 @@
-//! What goes over the pairs of an object, its keys or its values, one after the other.
+//! Iterators over the entries, keys and values of an object.
 ghost use Rattle.std.specs.Prelude.{◌≡◌, length, map, Some, IfSome};
 ghost use Rattle.std.specs.Iterator.{YieldsFirst, YieldsFirstBy, item_count, at_most, UpTo};
 ghost use Rattle.std.specs.Iterator.SizeHint.{IsWithinCount};
@@ -13,7 +13,7 @@ use std::iter::FusedIterator;
 use std::marker::Model;
 use std::{fmt, slice, vec};
 
-/// The pairs of an object that are left, front to back.
+/// An iterator over the entries of an object.
 #[derive(Drop)]
 pub struct Iter<'a> {
     left: slice::Iter<'a, (IString, IValue)>,
@@ -33,7 +33,7 @@ impl<'a> Model for Iter<'a> {
     ghost view = { λ i. iter_rest i.left };
 }
 
-/// The keys that are left, front to back.
+/// An iterator over the keys of an object.
 #[derive(Drop)]
 pub struct Keys<'a> {
     left: Iter<'a>,
@@ -51,7 +51,7 @@ impl<'a> Model for Keys<'a> {
     ghost view = { λ keys. keys_of keys.left };
 }
 
-/// The values that are left, front to back.
+/// An iterator over the values of an object.
 #[derive(Drop)]
 pub struct Values<'a> {
     left: Iter<'a>,
@@ -70,7 +70,9 @@ impl<'a> Model for Values<'a> {
     ghost view = { λ values. map (λ pair. pair.1) values.left };
 }
 
-/// The pairs that are left of an object that is gone, front to back. Those that are not taken are dropped with it.
+/// An iterator that moves the entries out of an object.
+///
+/// Dropping it drops the remaining entries.
 #[derive(Drop)]
 pub struct IntoIter {
     left: vec::IntoIter<(IString, IValue)>,
@@ -91,7 +93,9 @@ impl Model for IntoIter {
 }
 
 impl IObject {
-    /// The pairs, front to back. It borrows the object, and takes no memory. `len` says how many are left.
+    /// Returns an iterator over the entries. It does not allocate.
+    ///
+    /// Its `len` is the number of entries left.
     pub fn iter(&self) -> Iter<'_>
         ensures { result ≡ self.now.pairs }
     {
@@ -100,14 +104,14 @@ impl IObject {
         }
     }
 
-    /// The keys, front to back. It takes no memory.
+    /// Returns an iterator over the keys. It does not allocate.
     pub fn keys(&self) -> Keys<'_>
         ensures { result ≡ keys_of self.now.pairs }
     {
         Keys { left: self.iter() }
     }
 
-    /// The values, front to back. It takes no memory.
+    /// Returns an iterator over the values. It does not allocate.
     pub fn values(&self) -> Values<'_>
         ensures { result ≡ map (λ pair. pair.1) self.now.pairs }
     {
@@ -115,7 +119,7 @@ impl IObject {
     }
 }
 
-/// The pairs, front to back, which are moved and not copied.
+/// Moves the entries out, first to last, without copying them.
 impl IntoIterator for IObject {
     type Item = (IString, IValue);
 
@@ -132,7 +136,7 @@ impl IntoIterator for IObject {
     }
 }
 
-/// Front to back, each once, and then None again and again. It takes no memory.
+/// Yields each entry once, first to last, then always `None`. It does not allocate.
 impl<'a> Iterator for Iter<'a> {
     type Item = (&'a IString, &'a IValue);
 
@@ -163,7 +167,7 @@ impl<'a> ExactSizeIterator for Iter<'a> {
     }
 }
 
-/// Front to back, each once, and then None again and again. It takes no memory.
+/// Yields each key once, first to last, then always `None`. It does not allocate.
 impl<'a> Iterator for Keys<'a> {
     type Item = &'a IString;
 
@@ -194,7 +198,7 @@ impl<'a> ExactSizeIterator for Keys<'a> {
     }
 }
 
-/// Front to back, each once, and then None again and again. It takes no memory.
+/// Yields each value once, first to last, then always `None`. It does not allocate.
 impl<'a> Iterator for Values<'a> {
     type Item = &'a IValue;
 
@@ -225,7 +229,7 @@ impl<'a> ExactSizeIterator for Values<'a> {
     }
 }
 
-/// Front to back, each once, and then None again and again. It takes no memory.
+/// Yields each entry once, first to last, then always `None`. It does not allocate.
 impl Iterator for IntoIter {
     type Item = (IString, IValue);
 
@@ -255,14 +259,14 @@ impl ExactSizeIterator for IntoIter {
     }
 }
 
-/// The pairs that are left.
+/// Formats the remaining entries.
 impl<'a> fmt::Debug for Iter<'a> {
     fn fmt<W: fmt::Write>(&self, f: &mut fmt::Formatter<W>) -> fmt::Result {
         f.debug_list().entries(self.left.as_slice()).finish()
     }
 }
 
-/// The pairs that are left.
+/// Formats the remaining entries.
 impl fmt::Debug for IntoIter {
     fn fmt<W: fmt::Write>(&self, f: &mut fmt::Formatter<W>) -> fmt::Result {
         fmt::Debug::fmt(&self.left, f)

@@ -1,4 +1,4 @@
-//! `IObject`: what is looked up, and what is put.
+//! `IObject`: creation, capacity and insertion.
 ghost use Rattle.std.specs.Prelude.{◌≡◌, ◌==◌, ◌<◌, ◌≤◌, [], length, Err, OnOk, IfOk, IsOk, IsTrue, ◌↔◌, MatchResult};
 ghost use Rattle.ijson_table.specs.Growth.{Grow, Shrink, capacity_limit};
 ghost use Rattle.ijson_table.specs.Store.{put, put_each};
@@ -16,11 +16,13 @@ use std::alloc::Global;
 use std::marker::Model;
 use std::mem::{self, size_of};
 
-/// Pairs of a key and a value in order, where no key stands twice. A key is found by its hash, however many there are.
-/// JSON calls a pair a member. The pairs lie behind one pointer, and an object that has taken no memory yet is without it. It takes
-/// 16 bytes, and beside them its table, with 40 bytes for each pair of its capacity. The slots, by which a key is found, take 20 bytes
-/// more for each, but only 4 up to a capacity of 127, and none up to 8. Objects are equal in any order of their pairs. The hash is the
-/// same in each run, so keys that somebody chose to have one hash are looked at one after the other.
+/// An ordered list of entries, each a key and a value, with distinct keys that are found by hash.
+///
+/// JSON calls an entry a member. Objects are equal in any order of their entries. The hash is the same in each run, so keys chosen to have
+/// equal hashes are searched sequentially.
+///
+/// It is one pointer to a table; an object that has not allocated has none. It takes 16 bytes, plus its table and 40 bytes for each entry
+/// of its capacity. The slots of the hash index take 20 bytes more for each, but only 4 up to a capacity of 127, and none up to 8.
 #[cycle(value)]
 #[derive(Drop)]
 pub struct IObject {
@@ -51,12 +53,13 @@ impl Model for IObject {
     ghost size_decreases = { λ o h. object_falls o.table o.alloc };
 }
 
-/// A pair that an object did not take, and why it did not grow. This pair changed nothing; after `extend` and `overlay` those before it
-/// are there.
+/// The entry that an object had no capacity for, and why it did not grow.
+///
+/// This entry changed nothing. After `extend` and `overlay`, the entries before it are in the object.
 pub type RefusedPair = ijson_table::RefusedPair<IValue>;
 
 impl IObject {
-    /// An object with no pairs and the capacity 0. It takes no memory.
+    /// Creates an empty object with capacity 0, without allocating.
     pub fn new(alloc: Global) -> IObject
         ensures pairs { result.pairs ≡ [] }
         ensures capacity { result.capacity ≡ 0 }
@@ -64,8 +67,13 @@ impl IObject {
         IObject { table: None, alloc }
     }
 
-    /// An object with no pairs and this capacity. It is refused with `TooLarge` where that passes 2^56, and with `Memory` where memory is
-    /// refused. A capacity of 0 takes no memory.
+    /// Creates an empty object with capacity for exactly `capacity` entries.
+    ///
+    /// A capacity of 0 does not allocate.
+    ///
+    /// # Errors
+    ///
+    /// Returns `TooLarge` if `capacity` exceeds 2^56, and `Memory` if an allocation fails.
     pub fn with_capacity(alloc: Global, capacity: usize) -> Result<IObject, ReserveError>
         ensures pairs { IfOk result (λ object. object.pairs ≡ []) }
         ensures capacity { IfOk result (λ object. object.capacity ≡ capacity) }
@@ -79,18 +87,25 @@ impl IObject {
         IObject::of_table(alloc, table)
     }
 
-    /// An object of these pairs as if they were put one after the other: a key that comes again keeps its place, and has the value
-    /// that it came with last. The list becomes that of the object: its length is the capacity, and room beyond that is given back.
-    /// From the first key on that comes again, the pairs are taken off and put one by one; those before are not moved. It is refused
-    /// with `TooLarge` where the length passes 2^56, and with `Memory` where memory is refused; the pairs are then dropped. An empty list
-    /// takes no memory, and any other takes it for the table. Each key is hashed once, and the first that comes again twice, in time
-    /// linear in the pairs where few keys crowd. Where many do, each is hashed up to three times, entries of 16 bytes for each pair are
-    /// sorted in memory of their own, and the pairs move to another list: that takes time n log n at most, and that of hashing the keys
-    /// and of comparing keys of one hash.
+    /// Creates an object of `pairs`, as if they were inserted in order.
+    ///
+    /// A duplicate key keeps its first index and its last value. The list becomes that of the object: its length is the capacity, and its
+    /// spare capacity is freed. An empty list does not allocate; any other allocates the table.
     ///
     /// ```
-    /// let object = IObject::from_pairs(alloc, pairs)?; // of a: 1, b: 2, a: 3 it is a: 3, b: 2
+    /// let object = IObject::from_pairs(alloc, pairs)?; // a: 1, b: 2, a: 3 gives a: 3, b: 2
     /// ```
+    ///
+    /// # Errors
+    ///
+    /// Returns `TooLarge` if the length exceeds 2^56, and `Memory` if an allocation fails. The entries are dropped.
+    ///
+    /// # Cost
+    ///
+    /// If few keys collide, it takes linear time and hashes each key once, the first duplicate twice. Entries before the first duplicate
+    /// are not moved; the others are taken off and inserted one by one. If many keys collide, each is hashed up to three times, 16 bytes
+    /// for each entry are allocated and sorted, and the entries move to another list. That takes at most n log n time, plus hashing the
+    /// keys and comparing keys with equal hashes.
     pub fn from_pairs(alloc: Global, pairs: Vec<(IString, IValue)>) -> Result<IObject, ReserveError>
         ensures pairs { IfOk result (λ object. object.pairs ≡ put_each [] pairs.items) }
         ensures capacity { IfOk result (λ object. object.capacity ≡ length pairs.items) }
@@ -104,7 +119,7 @@ impl IObject {
         IObject::of_table(alloc, table)
     }
 
-    /// The object that is kept in this table.
+    /// Creates an object stored in this table.
     fn of_table(alloc: Global, table: FixedTable<IValue>) -> Result<IObject, ReserveError>
         ensures { MatchResult result
             (λ object. (object.pairs ≡ table.store.pairs) × (object.capacity ≡ table.store.capacity))
@@ -122,21 +137,21 @@ impl IObject {
         }
     }
 
-    /// How many pairs there are.
+    /// Returns the number of entries.
     pub fn len(&self) -> usize
         ensures { result ≡ length self.now.pairs }
     {
         self.as_slice().len()
     }
 
-    /// Whether there is no pair.
+    /// Returns `true` if the object has no entries.
     pub fn is_empty(&self) -> bool
         ensures { result ≡ (length self.now.pairs == 0) }
     {
         self.len() == 0
     }
 
-    /// For how many pairs there is room in all, from the length to 2^56.
+    /// Returns the number of entries that fit without reallocating, at most 2^56.
     pub fn capacity(&self) -> usize
         ensures capacity { result ≡ self.now.capacity }
         ensures room { length self.now.pairs ≤ self.now.capacity }
@@ -148,10 +163,14 @@ impl IObject {
         }
     }
 
-    /// Makes room for `additional` pairs more. Where they have none, the capacity becomes the greatest of twice the old one,
-    /// the length with them, and 4. So pairs that are put one by one take room for 4, 8, 16 and so on. Each pair is moved at
-    /// most once, and no key is hashed again where there was room for more than 127 pairs. Refused, the object is as it was: `TooLarge`
-    /// where the capacity would pass 2^56, `Memory` where it was not granted.
+    /// Reserves capacity for at least `additional` more entries.
+    ///
+    /// If there is not enough, the capacity becomes the maximum of twice the old one, the new length, and 4; repeated insertions give
+    /// capacities of 4, 8, 16 and so on. Each entry is moved at most once, and no key is hashed again if the old capacity was above 127.
+    ///
+    /// # Errors
+    ///
+    /// Returns `TooLarge` if the capacity would exceed 2^56, and `Memory` if an allocation fails. The object stays as it was.
     pub fn reserve(&mut self, additional: usize) -> Result<(), ReserveError>
         ensures growth { Grow (length self.old.pairs) self.old.capacity additional result
             self.new.capacity }
@@ -172,8 +191,13 @@ impl IObject {
         Ok(())
     }
 
-    /// Makes the capacity the length. That takes no memory where it is so already or the length is 0. Each pair is moved at
-    /// most once. The only error is `Memory`, and the object is then as it was.
+    /// Shrinks the capacity to the length.
+    ///
+    /// It does not allocate if the capacity is the length already or the length is 0. Each entry is moved at most once.
+    ///
+    /// # Errors
+    ///
+    /// Returns `Memory` if the allocation fails. The object stays as it was.
     pub fn shrink_to_fit(&mut self) -> Result<(), ReserveError>
         ensures capacity { Shrink (length self.old.pairs) self.old.capacity result self.new.capacity }
         ensures pairs { self.new.pairs ≡ self.old.pairs }
@@ -184,7 +208,7 @@ impl IObject {
         }
     }
 
-    /// Drops all pairs. The capacity stays. It takes time linear in the capacity.
+    /// Drops all entries. The capacity stays. It takes time linear in the capacity.
     pub fn clear(&mut self)
         ensures pairs { self.new.pairs ≡ [] }
         ensures capacity { self.new.capacity ≡ self.old.capacity }
@@ -194,13 +218,21 @@ impl IObject {
         }
     }
 
-    /// Puts a pair. A key that is there keeps its place and needs no memory, and its old value is answered; a new key goes
-    /// last, in room that is made first where there is none. Where that is refused, the pair comes back. The key is hashed
-    /// once, and a pair takes constant time on average beside the look-up.
+    /// Inserts an entry, and returns the old value of its key.
+    ///
+    /// An existing key keeps its index and needs no memory. A new key is appended, after reserving capacity if needed.
     ///
     /// ```
-    /// let old = object.insert(key, IValue::from(1u64))?; // None where the key is new
+    /// let old = object.insert(key, IValue::from(1u64))?; // `None` if the key is new
     /// ```
+    ///
+    /// # Errors
+    ///
+    /// Returns the entry if capacity cannot be reserved.
+    ///
+    /// # Cost
+    ///
+    /// The key is hashed once. An insertion takes amortized constant time, plus the lookup.
     #[tactic(auto, using(crate::proofs::pairs::Inserted::put_where_ok))]
     pub fn insert(&mut self, key: IString, value: IValue) -> Result<Option<IValue>, RefusedPair>
         ensures inserts { Inserts self.old.pairs self.old.capacity key value result self.new.pairs
@@ -220,7 +252,7 @@ impl IObject {
         self.table.as_mut().unwrap().insert(key, value)
     }
 
-    /// The pairs, front to back.
+    /// Returns the entries as a slice.
     pub(crate) fn as_slice(&self) -> &[(IString, IValue)]
         ensures { result.now ≡ self.now.pairs }
     {
@@ -231,7 +263,9 @@ impl IObject {
     }
 }
 
-/// Whether there are as many pairs and each key has a value in the other that means the same. It takes no memory.
+/// Objects are equal if they have the same length and each key has an equal value in the other.
+///
+/// It does not allocate.
 impl PartialEq for IObject {
     ghost eq = { λ a b. same (object_tree a.pairs) (object_tree b.pairs) };
 

@@ -1,4 +1,4 @@
-//! What keeps some of the pairs.
+//! Keeping some of the entries.
 ghost use Rattle.std.specs.Prelude.{◌≡◌};
 ghost use Rattle.std.specs.Map.Calls.{CalledAtPair, TakesPair};
 ghost use Rattle.ijson_value.specs.MayAsk.{MayAsk};
@@ -9,10 +9,14 @@ use crate::value::IValue;
 use ijson_string::IString;
 
 impl IObject {
-    /// Asks about each pair, from the front, and keeps those for which the answer is yes, with the values that are left there. The
-    /// last pair moves into the place of one that goes, and is asked about next. So the order stays where nothing goes. It
-    /// takes no memory. Where few keys crowd it takes time linear in the pairs, beside what `asks` takes; each removal walks the crowds of
-    /// two keys.
+    /// Keeps the entries for which the closure returns `true`, with the values it leaves there.
+    ///
+    /// Entries are visited from the first. The last entry replaces a removed one and is visited next, so the order stays only if nothing is
+    /// removed. It does not allocate.
+    ///
+    /// # Cost
+    ///
+    /// Linear in the entries if few keys collide, plus the calls of the closure. Each removal scans the collision clusters of two keys.
     pub fn retain<F: FnMut(&IString, &mut IValue) -> bool>(&mut self, mut asks: F)
         requires { MayAsk (CalledAtPair F.FnMut) (TakesPair F.FnMut) asks self.old.pairs }
         ensures pairs { Retains (CalledAtPair F.FnMut) asks self.old.pairs self.new.pairs }

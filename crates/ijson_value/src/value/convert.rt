@@ -1,4 +1,4 @@
-//! Values from what they hold, from truth values and integers, and from what may be missing.
+//! Conversions into values: from their parts, Booleans, integers and options.
 ghost use Rattle.std.specs.Prelude.{◌≡◌, pos, MatchOption};
 ghost use Rattle.ijson_value.specs.Integers.{IsIntegerTree};
 ghost use Rattle.ijson_value.specs.Values.{null_value, boolean_value, number_value, string_value, array_value, object_value};
@@ -9,7 +9,7 @@ use crate::object::IObject;
 use ijson_number::INumber;
 use ijson_string::IString;
 
-/// The truth value.
+/// Converts a Boolean.
 impl From<bool> for IValue {
     ghost from_gives = { λ b v. v ≡ boolean_value b };
 
@@ -18,7 +18,7 @@ impl From<bool> for IValue {
     }
 }
 
-/// The number, which is moved.
+/// Moves a number into a value.
 impl From<INumber> for IValue {
     ghost from_gives = { λ n v. v ≡ number_value n };
 
@@ -29,7 +29,7 @@ impl From<INumber> for IValue {
     }
 }
 
-/// The text, which is moved.
+/// Moves a string into a value.
 impl From<IString> for IValue {
     ghost from_gives = { λ s v. v ≡ string_value s };
 
@@ -40,7 +40,7 @@ impl From<IString> for IValue {
     }
 }
 
-/// The array, which is moved.
+/// Moves an array into a value.
 impl From<IArray> for IValue {
     ghost from_gives = { λ a v. v ≡ array_value a.items };
 
@@ -51,7 +51,7 @@ impl From<IArray> for IValue {
     }
 }
 
-/// The object, which is moved.
+/// Moves an object into a value.
 impl From<IObject> for IValue {
     ghost from_gives = { λ o v. v ≡ object_value o };
 
@@ -62,7 +62,7 @@ impl From<IObject> for IValue {
     }
 }
 
-/// The integer, without the point. It takes no memory.
+/// Converts an integer, which has no fraction point. It does not allocate.
 impl From<i8> for IValue {
     ghost from_gives = { λ value v. IsIntegerTree v.tree value };
 
@@ -71,7 +71,7 @@ impl From<i8> for IValue {
     }
 }
 
-/// The integer, without the point. It takes no memory.
+/// Converts an integer, which has no fraction point. It does not allocate.
 impl From<i16> for IValue {
     ghost from_gives = { λ value v. IsIntegerTree v.tree value };
 
@@ -80,7 +80,7 @@ impl From<i16> for IValue {
     }
 }
 
-/// The integer, without the point. It takes no memory.
+/// Converts an integer, which has no fraction point. It does not allocate.
 impl From<i32> for IValue {
     ghost from_gives = { λ value v. IsIntegerTree v.tree value };
 
@@ -89,7 +89,7 @@ impl From<i32> for IValue {
     }
 }
 
-/// The integer, without the point. It takes no memory.
+/// Converts an integer, which has no fraction point. It does not allocate.
 impl From<i64> for IValue {
     ghost from_gives = { λ value v. IsIntegerTree v.tree value };
 
@@ -98,7 +98,7 @@ impl From<i64> for IValue {
     }
 }
 
-/// The integer, without the point. It takes no memory.
+/// Converts an integer, which has no fraction point. It does not allocate.
 impl From<isize> for IValue {
     ghost from_gives = { λ value v. IsIntegerTree v.tree value };
 
@@ -107,7 +107,7 @@ impl From<isize> for IValue {
     }
 }
 
-/// The integer, without the point. It takes no memory.
+/// Converts an integer, which has no fraction point. It does not allocate.
 impl From<u8> for IValue {
     ghost from_gives = { λ value v. IsIntegerTree v.tree (pos value) };
 
@@ -116,7 +116,7 @@ impl From<u8> for IValue {
     }
 }
 
-/// The integer, without the point. It takes no memory.
+/// Converts an integer, which has no fraction point. It does not allocate.
 impl From<u16> for IValue {
     ghost from_gives = { λ value v. IsIntegerTree v.tree (pos value) };
 
@@ -125,7 +125,7 @@ impl From<u16> for IValue {
     }
 }
 
-/// The integer, without the point. It takes no memory.
+/// Converts an integer, which has no fraction point. It does not allocate.
 impl From<u32> for IValue {
     ghost from_gives = { λ value v. IsIntegerTree v.tree (pos value) };
 
@@ -134,7 +134,7 @@ impl From<u32> for IValue {
     }
 }
 
-/// The integer, without the point. It takes no memory.
+/// Converts an integer, which has no fraction point. It does not allocate.
 impl From<u64> for IValue {
     ghost from_gives = { λ value v. IsIntegerTree v.tree (pos value) };
 
@@ -143,7 +143,7 @@ impl From<u64> for IValue {
     }
 }
 
-/// The integer, without the point. It takes no memory.
+/// Converts an integer, which has no fraction point. It does not allocate.
 impl From<usize> for IValue {
     ghost from_gives = { λ value v. IsIntegerTree v.tree (pos value) };
 
@@ -152,7 +152,7 @@ impl From<usize> for IValue {
     }
 }
 
-/// What is there, and null where nothing is.
+/// Converts the content of `Some`, and `None` to null.
 impl<T: Into<IValue>> From<Option<T>> for IValue {
     ghost from_gives = { λ x v. MatchOption x (v ≡ null_value) (λ y. T.Into.converts y v) };
 

@@ -1,4 +1,4 @@
-//! Values opened, to match on their kinds: given out, by reference, and to be written.
+//! Matching on the kind of a value: by move, by reference and by mutable reference.
 ghost use Rattle.std.specs.Prelude.{◌≡◌};
 ghost use Rattle.std.specs.Borrow.{sem};
 ghost use Rattle.ijson_value.specs.Kind.{kind_of};
@@ -15,7 +15,7 @@ use crate::object::IObject;
 use ijson_number::INumber;
 use ijson_string::IString;
 
-/// A value opened, with what it holds by reference. Nothing is copied but a truth value.
+/// The content of a value by reference. Only a Boolean is copied.
 #[derive(Clone, Copy, Debug, PartialEq, Eq)]
 pub enum DestructuredRef<'a> {
     /// `null`.
@@ -26,13 +26,13 @@ pub enum DestructuredRef<'a> {
     Number(&'a INumber),
     /// A string.
     String(&'a IString),
-    /// A list of values.
+    /// An array of values.
     Array(&'a IArray),
-    /// Pairs with distinct keys, in order.
+    /// Entries with distinct keys, in order.
     Object(&'a IObject),
 }
 
-/// A value opened, with what it holds to be written.
+/// The content of a value by mutable reference.
 #[derive(Debug, Drop)]
 pub enum DestructuredMut<'a> {
     /// `null`.
@@ -43,20 +43,20 @@ pub enum DestructuredMut<'a> {
     Number(&'a mut INumber),
     /// A string.
     String(&'a mut IString),
-    /// A list of values.
+    /// An array of values.
     Array(&'a mut IArray),
-    /// Pairs with distinct keys, in order.
+    /// Entries with distinct keys, in order.
     Object(&'a mut IObject),
 }
 
-/// A truth value inside a value, to be read and written.
+/// A mutable reference to the Boolean in a value.
 #[derive(Debug, Drop)]
 pub struct BoolMut<'a> {
     place: &'a mut bool,
 }
 
 impl IValue {
-    /// The value opened, to match on its kind. Nothing is copied.
+    /// Returns the content of the value, to match on its kind. Nothing is copied.
     ///
     /// ```
     /// match value.destructure() {
@@ -72,16 +72,17 @@ impl IValue {
         node
     }
 
-    /// The value opened by reference, to match on its kind.
+    /// Returns the content by reference, to match on its kind.
     pub fn destructure_ref(&self) -> DestructuredRef<'_>
         ensures { ref_value result ≡ self.now }
     {
         self.node.as_ref()
     }
 
-    /// The value opened to be written, to match on its kind. What is written stays in the value, and its kind stays too. A caller
-    /// learns what the value then is only by a proof by hand; those of `as_*_mut`, and of a `match` on `&mut **value`, learn it
-    /// without one.
+    /// Returns the content by mutable reference, to match on its kind.
+    ///
+    /// Writing changes the value but not its kind. A caller can prove the new value only by hand; after `as_*_mut` or a `match` on `&mut
+    /// **value` it is known without a proof.
     pub fn destructure_mut(&mut self) -> DestructuredMut<'_>
         ensures* writes_back { sem 𝓛 (LendsParts self.entry result) }
         ensures value { mut_value result ≡ self.old }
@@ -96,7 +97,7 @@ impl IValue {
         }
     }
 
-    /// The kind. The value is as it was.
+    /// Returns the kind. The value stays as it is.
     fn kind_kept(&mut self) -> ValueType
         ensures same { self.new ≡ self.old }
         ensures kind { result ≡ kind_of self.old.tree }
@@ -104,7 +105,7 @@ impl IValue {
         self.type_()
     }
 
-    /// The place of the truth value that the value is.
+    /// Returns a reference to the Boolean of the value.
     fn bool_part(&mut self) -> BoolMut<'_>
         requires { kind_of self.old.tree ≡ kind.Bool }
         ensures* writes_back { sem 𝓛 (LendsBoolPart self.entry result.place) }
@@ -115,7 +116,7 @@ impl IValue {
         }
     }
 
-    /// The number that the value is.
+    /// Returns a mutable reference to the number of the value.
     fn number_part(&mut self) -> &mut INumber
         requires { kind_of self.old.tree ≡ kind.Number }
         ensures* writes_back { sem 𝓛 (LendsNumberPart self.entry result) }
@@ -124,7 +125,7 @@ impl IValue {
         self.as_number_mut().unwrap()
     }
 
-    /// The string that the value is.
+    /// Returns a mutable reference to the string of the value.
     fn string_part(&mut self) -> &mut IString
         requires { kind_of self.old.tree ≡ kind.String }
         ensures* writes_back { sem 𝓛 (LendsStringPart self.entry result) }
@@ -133,7 +134,7 @@ impl IValue {
         self.as_string_mut().unwrap()
     }
 
-    /// The array that the value is.
+    /// Returns a mutable reference to the array of the value.
     fn array_part(&mut self) -> &mut IArray
         requires { kind_of self.old.tree ≡ kind.Array }
         ensures* writes_back { sem 𝓛 (LendsArrayPart self.entry result) }
@@ -142,7 +143,7 @@ impl IValue {
         self.as_array_mut().unwrap()
     }
 
-    /// The object that the value is.
+    /// Returns a mutable reference to the object of the value.
     fn object_part(&mut self) -> &mut IObject
         requires { kind_of self.old.tree ≡ kind.Object }
         ensures* writes_back { sem 𝓛 (LendsObjectPart self.entry result) }
@@ -153,7 +154,7 @@ impl IValue {
 }
 
 impl Destructured {
-    /// The same value opened, by reference.
+    /// Returns the content by reference.
     pub fn as_ref(&self) -> DestructuredRef<'_>
         ensures { ref_value result ≡ node_value self.now }
     {
@@ -169,14 +170,14 @@ impl Destructured {
 }
 
 impl BoolMut<'_> {
-    /// The truth value.
+    /// Returns the Boolean.
     pub fn get(&self) -> bool
         ensures { result ≡ self.now.place.now }
     {
         *self.place
     }
 
-    /// Writes a truth value in its place.
+    /// Sets the Boolean.
     pub fn set(&mut self, value: bool)
         ensures same_reference { self.new.place.ghost_name ≡ self.old.place.ghost_name }
         ensures written { self.new.place.now ≡ value }

@@ -1,4 +1,4 @@
-//! A value inside a value, by position or by key.
+//! Values inside a value, by index or by key.
 ghost use Rattle.std.specs.Prelude.{◌≡◌, Some, option_map, unwrap_or, IsSome, IfOk, IfErr};
 ghost use Rattle.std.specs.Borrow.{sem};
 ghost use Rattle.ijson_value.specs.FindsEntry.{FindsNoRoom};
@@ -16,7 +16,7 @@ use crate::object::RefusedPair;
 use ijson_string::IString;
 use std::ops::{Deref, DerefMut, Index, IndexMut};
 
-/// A value opened, which it always is: what lends a value inside it is a call of the opened value.
+/// Derefs to the content, whose methods return references to values inside it.
 impl Deref for IValue {
     type Target = Destructured;
 
@@ -27,7 +27,7 @@ impl Deref for IValue {
     }
 }
 
-/// The opened value, to be written: another one written there is another value.
+/// Derefs to a mutable reference to the content. Assigning other content changes the value.
 impl DerefMut for IValue {
     ghost deref_mut_gives = { λ value opened. node_value opened ≡ value };
 
@@ -39,9 +39,9 @@ impl DerefMut for IValue {
     }
 }
 
-/// Only positions and texts find values: no type outside of this crate can.
+/// Seals `ValueIndex`: only indices and strings find values.
 pub trait Sealed: Copy {
-    /// The step that it tells.
+    /// The step it denotes.
     ghost step: { Self → Step };
 
     fn find_in<'v>(self, v: &'v Destructured) -> Option<&'v IValue>
@@ -50,11 +50,11 @@ pub trait Sealed: Copy {
             ≡ tree_at (node_value v.now).tree (step self) };
 }
 
-/// What finds a value inside a value: a position of an array, or the text of a key of an object. `usize`, `&str`, `&IString`,
-/// and references to these.
+/// An index of an array or a key of an object: `usize`, `&str`, `&IString`, and references to these.
 pub trait ValueIndex: Sealed {
-    /// The value there. `v` is an array for a position, and an object for a key. None past the end, or where the key is not
-    /// there.
+    /// Returns the value at the index or key, or `None` if it does not exist.
+    ///
+    /// `v` must be an array for an index and an object for a key.
     final fn index_into<'v>(self, v: &'v IValue) -> Option<&'v IValue>
         requires { kind_of v.now.tree ≡ kind_for (Self.Sealed.step self) }
         ensures { option_map (λ found. found.now.tree) result
@@ -63,8 +63,10 @@ pub trait ValueIndex: Sealed {
         self.find_in(&v.node)
     }
 
-    /// The value there, to be written. As `index_into`. What is written changes that one value. A caller learns so only by a proof
-    /// by hand; `value.get_mut(index)` lends the same, and its callers learn it without one.
+    /// Like `index_into`, but returns a mutable reference.
+    ///
+    /// Writing changes that one value. A caller can prove this only by hand; `value.get_mut(index)` returns the same reference and needs no
+    /// proof.
     final fn index_into_mut<'v>(self, v: &'v mut IValue) -> Option<&'v mut IValue>
         requires { kind_of v.old.tree ≡ kind_for (Self.Sealed.step self) }
         ensures* writes_back { sem 𝓛 (LendsInsideIf v.entry (Self.Sealed.step self) result) }
@@ -74,15 +76,17 @@ pub trait ValueIndex: Sealed {
         IValue::get_mut(v.deref_mut(), self)
     }
 
-    /// The value there in an opened value, to be written. As `index_into_mut`.
+    /// Like `index_into_mut`, on the content of a value.
     fn index_opened_mut<'v>(v: &'v mut Destructured, index: Self) -> Option<&'v mut IValue>
         requires { kind_of (node_value v.old).tree ≡ kind_for (Self.Sealed.step index) }
         ensures* writes_back { sem 𝓛 (LendsStepIf v.entry (Self.Sealed.step index) result) }
         ensures value { option_map (λ found. found.now.tree) result
             ≡ tree_at (node_value v.old).tree (Self.Sealed.step index) };
 
-    /// Takes the value there out. The items behind it close up; the last pair of an object moves into its place. None as by
-    /// `index_into`.
+    /// Removes and returns the value at the index or key, or `None` if it does not exist.
+    ///
+    /// Elements after it are shifted; the last entry of an object replaces the removed one. `v` must be an array for an index and an object
+    /// for a key.
     fn remove(self, v: &mut IValue) -> Option<IValue>
         requires { kind_of v.old.tree ≡ kind_for (Self.Sealed.step self) }
         ensures value { option_map (λ found. found.tree) result
@@ -101,7 +105,7 @@ impl Sealed for usize {
     }
 }
 
-/// A position of an array, from 0.
+/// An index of an array, from 0.
 impl ValueIndex for usize {
     fn index_opened_mut<'v>(v: &'v mut Destructured, index: usize) -> Option<&'v mut IValue> {
         match v {
@@ -127,7 +131,7 @@ impl Sealed for &str {
     }
 }
 
-/// The text of a key of an object.
+/// A key of an object.
 impl ValueIndex for &str {
     fn index_opened_mut<'v>(v: &'v mut Destructured, index: &str) -> Option<&'v mut IValue> {
         match v {
@@ -150,7 +154,7 @@ impl Sealed for &IString {
     }
 }
 
-/// The text of a key of an object.
+/// A key of an object.
 impl ValueIndex for &IString {
     fn index_opened_mut<'v>(v: &'v mut Destructured, index: &IString) -> Option<&'v mut IValue> {
         <&str>::index_opened_mut(v, index.as_str())
@@ -169,7 +173,7 @@ impl<T: Sealed> Sealed for &T {
     }
 }
 
-/// As what it refers to.
+/// Indexes like the referent.
 impl<T: ValueIndex> ValueIndex for &T {
     fn index_opened_mut<'v>(v: &'v mut Destructured, index: &T) -> Option<&'v mut IValue> {
         T::index_opened_mut(v, *index)
@@ -181,8 +185,9 @@ impl<T: ValueIndex> ValueIndex for &T {
 }
 
 impl IValue {
-    /// The value at a position of an array, or beside a key of an object. None where there is none. The value has to be of the
-    /// kind that the index is for. A position takes constant time, and a key a look-up by its hash.
+    /// Returns the value at an index or key, or `None` if it does not exist.
+    ///
+    /// The value must be an array for an index and an object for a key. An index takes constant time, a key one hash lookup.
     ///
     /// ```
     /// let port = value.get("port"); // of an object
@@ -196,9 +201,10 @@ impl IValue {
         index.index_into(self)
     }
 
-    /// Takes out the value at a position of an array, or beside a key of an object. None where there is none. The value has to
-    /// be of the kind that the index is for. Items behind a position move one forward, and the last pair of an object moves
-    /// into the place of the one that goes.
+    /// Removes and returns the value at an index or key, or `None` if it does not exist.
+    ///
+    /// The value must be an array for an index and an object for a key. Elements after the index are shifted; the last entry of an object
+    /// replaces the removed one.
     pub fn remove<I: ValueIndex>(&mut self, index: I) -> Option<IValue>
         requires { kind_of self.old.tree ≡ kind_for (I.Sealed.step index) }
         ensures value { option_map (λ found. found.tree) result
@@ -210,8 +216,9 @@ impl IValue {
 }
 
 impl IValue {
-    /// `get_mut` of the opened value by the path of the value, which is opened where it is passed: `IValue::get_mut(&mut value,
-    /// "port")`. `value.get_mut("port")` is the same call.
+    /// `Destructured::get_mut` by the path of `IValue`.
+    ///
+    /// The argument derefs: `IValue::get_mut(&mut value, "port")` is the call `value.get_mut("port")`.
     pub fn get_mut<I: ValueIndex>(opened: &mut Destructured, index: I) -> Option<&mut IValue>
         requires { kind_of (node_value opened.old).tree ≡ kind_for (I.Sealed.step index) }
         ensures* writes_back { sem 𝓛 (LendsStepIf opened.entry (I.Sealed.step index) result) }
@@ -221,7 +228,7 @@ impl IValue {
         I::index_opened_mut(opened, index)
     }
 
-    /// `index_or_insert` of the opened value by the path of the value, as `IValue::get_mut`.
+    /// `Destructured::index_or_insert` by the path of `IValue`, like `IValue::get_mut`.
     pub fn index_or_insert(
         opened: &mut Destructured,
         key: IString,
@@ -238,9 +245,10 @@ impl IValue {
 }
 
 impl Destructured {
-    /// The value at a position of an array, or beside a key of an object, to be written. None where there is none. It is called
-    /// on a value, which derefs to what it is opened: `value.get_mut("port")`. The value has to be of the kind that the index
-    /// is for.
+    /// Returns a mutable reference to the value at an index or key, or `None` if it does not exist.
+    ///
+    /// Call it on a value, which derefs to its content: `value.get_mut("port")`. The value must be an array for an index and an object for
+    /// a key.
     pub fn get_mut<I: ValueIndex>(&mut self, index: I) -> Option<&mut IValue>
         requires { kind_of (node_value self.old).tree ≡ kind_for (I.Sealed.step index) }
         ensures* writes_back { sem 𝓛 (LendsStepIf self.entry (I.Sealed.step index) result) }
@@ -250,8 +258,13 @@ impl Destructured {
         I::index_opened_mut(self, index)
     }
 
-    /// The value beside a key of an object, to be written. A key that is not there is put last with null beside it; where there
-    /// is no room for that, the key comes back with null. The value has to be an object.
+    /// Returns a mutable reference to the value of a key, appending a missing key with null.
+    ///
+    /// The value must be an object.
+    ///
+    /// # Errors
+    ///
+    /// Returns the key with null if there is no capacity for it.
     pub fn index_or_insert(&mut self, key: IString) -> Result<&mut IValue, RefusedPair>
         requires { kind_of (node_value self.old).tree ≡ kind_for (by_key key) }
         ensures* writes_back { sem 𝓛 (LendsPutInside self.entry key result) }
@@ -267,7 +280,7 @@ impl Destructured {
     }
 }
 
-/// `value[0]` or `value["port"]`: the item or the value there, which has to be there.
+/// `value[0]` or `value["port"]`: the value at an index or key, which must exist.
 impl<I: ValueIndex + Drop> Index<I> for Destructured {
     type Output = IValue;
 
@@ -282,7 +295,9 @@ impl<I: ValueIndex + Drop> Index<I> for Destructured {
     }
 }
 
-/// `value[0] = IValue::NULL`: what is there, to be written. It has to be there; `index_or_insert` puts a key that is not.
+/// `value[0] = IValue::NULL`: the value at an index or key, which must exist.
+///
+/// `index_or_insert` adds a missing key.
 impl<I: ValueIndex + Drop> IndexMut<I> for Destructured {
     #[tactic(auto, using(crate::specs::laws::Steps::kind_at))]
     fn index_mut(&mut self, index: I) -> &mut IValue

@@ -1,4 +1,4 @@
-//! Questions about a value: its kind, its truth value, its length; and what takes it out.
+//! Queries for the kind, Boolean and length of a value, and `take`.
 ghost use Rattle.std.specs.Prelude.{◌≡◌, ◌≢◌, ◌==◌, ◌↔◌, IsTrue, IfSome, IfNone, true, false, option_map};
 ghost use Rattle.ijson_value.specs.Kind.{kind_of};
 ghost use Rattle.ijson_value.specs.declared.value.ValueType.TheVariants as kind;
@@ -10,63 +10,63 @@ use super::{Destructured, IValue};
 use std::mem;
 
 impl IValue {
-    /// Whether the value is null.
+    /// Returns `true` if the value is null.
     pub fn is_null(&self) -> bool
         ensures { IsTrue result ↔ (kind_of self.now.tree ≡ kind.Null) }
     {
         matches!(self.node, Destructured::Null)
     }
 
-    /// Whether the value is true or false.
+    /// Returns `true` if the value is a Boolean.
     pub fn is_bool(&self) -> bool
         ensures { IsTrue result ↔ (kind_of self.now.tree ≡ kind.Bool) }
     {
         matches!(self.node, Destructured::Bool(_))
     }
 
-    /// Whether the value is true.
+    /// Returns `true` if the value is true.
     pub fn is_true(&self) -> bool
         ensures { IsTrue result ↔ (self.now.tree ≡ boolean true) }
     {
         matches!(self.node, Destructured::Bool(true))
     }
 
-    /// Whether the value is false.
+    /// Returns `true` if the value is false.
     pub fn is_false(&self) -> bool
         ensures { IsTrue result ↔ (self.now.tree ≡ boolean false) }
     {
         matches!(self.node, Destructured::Bool(false))
     }
 
-    /// Whether the value is a number.
+    /// Returns `true` if the value is a number.
     pub fn is_number(&self) -> bool
         ensures { IsTrue result ↔ (kind_of self.now.tree ≡ kind.Number) }
     {
         matches!(self.node, Destructured::Number(_))
     }
 
-    /// Whether the value is a string.
+    /// Returns `true` if the value is a string.
     pub fn is_string(&self) -> bool
         ensures { IsTrue result ↔ (kind_of self.now.tree ≡ kind.String) }
     {
         matches!(self.node, Destructured::String(_))
     }
 
-    /// Whether the value is an array.
+    /// Returns `true` if the value is an array.
     pub fn is_array(&self) -> bool
         ensures { IsTrue result ↔ (kind_of self.now.tree ≡ kind.Array) }
     {
         matches!(self.node, Destructured::Array(_))
     }
 
-    /// Whether the value is an object.
+    /// Returns `true` if the value is an object.
     pub fn is_object(&self) -> bool
         ensures { IsTrue result ↔ (kind_of self.now.tree ≡ kind.Object) }
     {
         matches!(self.node, Destructured::Object(_))
     }
 
-    /// The truth value, where the value is one. None of another kind.
+    /// Returns the Boolean, or `None` if the value is of another kind.
     pub fn to_bool(&self) -> Option<bool>
         ensures some { IfSome result (λ b. self.now.tree ≡ boolean b) }
         ensures none { IfNone result (kind_of self.now.tree ≢ kind.Bool) }
@@ -77,7 +77,7 @@ impl IValue {
         }
     }
 
-    /// How many items an array has, or how many pairs an object; None of another kind.
+    /// Returns the number of elements or entries, or `None` if the value is of another kind.
     #[tactic(auto, using(crate::specs::laws::Lengths::array_length, crate::specs::laws::Lengths::object_length))]
     pub fn len(&self) -> Option<usize>
         ensures { result ≡ length_of self.now.tree }
@@ -89,7 +89,7 @@ impl IValue {
         }
     }
 
-    /// Whether an array or an object is empty; None of another kind.
+    /// Returns `true` if an array or object is empty, or `None` if the value is of another kind.
     #[tactic(auto, using(crate::specs::laws::Lengths::array_length, crate::specs::laws::Lengths::object_length))]
     pub fn is_empty(&self) -> Option<bool>
         ensures { result ≡ option_map (λ length. length == 0) (length_of self.now.tree) }
@@ -101,7 +101,7 @@ impl IValue {
         }
     }
 
-    /// Takes the value out, and leaves null. Nothing is copied.
+    /// Takes the value out and leaves null. Nothing is copied.
     pub fn take(&mut self) -> IValue
         ensures taken { result ≡ self.old }
         ensures left { self.new ≡ null_value }

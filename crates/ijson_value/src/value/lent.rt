@@ -1,4 +1,4 @@
-//! What a value holds, by its kind, to be written.
+//! Mutable references to the content of a value, by kind.
 ghost use Rattle.std.specs.Prelude.{◌≡◌, ◌≢◌, IfSome, IfNone};
 ghost use Rattle.std.specs.Borrow.{sem};
 ghost use Rattle.ijson_value.specs.Kind.{kind_of};
@@ -13,7 +13,7 @@ use ijson_number::INumber;
 use ijson_string::IString;
 
 impl IValue {
-    /// The truth value to be written, where the value is one. None of another kind.
+    /// Returns a mutable reference to the Boolean, or `None` if the value is of another kind.
     pub(super) fn bool_mut(&mut self) -> Option<&mut bool>
         ensures* writes_back { sem 𝓛 (LendsBool self.entry result) }
         ensures some { IfSome result (λ truth. self.old ≡ boolean_value truth.now) }
@@ -25,8 +25,9 @@ impl IValue {
         }
     }
 
-    /// The number to be written, where the value is one. None of another kind. `*number = INumber::from(2u64)` writes another
-    /// one.
+    /// Returns a mutable reference to the number, or `None` if the value is of another kind.
+    ///
+    /// `*number = INumber::from(2u64)` replaces it.
     pub fn as_number_mut(&mut self) -> Option<&mut INumber>
         ensures* writes_back { sem 𝓛 (LendsNumber self.entry result) }
         ensures some { IfSome result (λ number. self.old ≡ number_value number.now) }
@@ -38,7 +39,7 @@ impl IValue {
         }
     }
 
-    /// The string to be written, where the value is one. None of another kind.
+    /// Returns a mutable reference to the string, or `None` if the value is of another kind.
     pub fn as_string_mut(&mut self) -> Option<&mut IString>
         ensures* writes_back { sem 𝓛 (LendsString self.entry result) }
         ensures some { IfSome result (λ string. self.old ≡ string_value string.now) }
@@ -50,7 +51,7 @@ impl IValue {
         }
     }
 
-    /// The array to be written, where the value is one. None of another kind.
+    /// Returns a mutable reference to the array, or `None` if the value is of another kind.
     pub fn as_array_mut(&mut self) -> Option<&mut IArray>
         ensures* writes_back { sem 𝓛 (LendsArray self.entry result) }
         ensures some { IfSome result (λ array. self.old ≡ array_value array.now.items) }
@@ -62,7 +63,7 @@ impl IValue {
         }
     }
 
-    /// The object to be written, where the value is one. None of another kind.
+    /// Returns a mutable reference to the object, or `None` if the value is of another kind.
     pub fn as_object_mut(&mut self) -> Option<&mut IObject>
         ensures* writes_back { sem 𝓛 (LendsObject self.entry result) }
         ensures some { IfSome result (λ object. self.old ≡ object_value object.now) }

@@ -1,4 +1,4 @@
-//! What a value holds, by its kind: by reference, given out, and as an integer.
+//! The content of a value by kind: by reference, by move, and as an integer.
 ghost use Rattle.std.specs.Prelude.{◌≡◌, ◌≢◌, ◌^◌, ◌<◌, ℕ, ℤ, pos, IfSome, IfNone, IfOk, IfErr, FitsSigned};
 ghost use mir.Syntax.{w32, w64};
 ghost use Rattle.ijson_value.specs.Integers.{HasInteger};
@@ -13,7 +13,7 @@ use ijson_number::INumber;
 use ijson_string::IString;
 
 impl IValue {
-    /// The number, where the value is one. None of another kind.
+    /// Returns the number, or `None` if the value is of another kind.
     pub fn as_number(&self) -> Option<&INumber>
         ensures some { IfSome result (λ number. self.now ≡ number_value number.now) }
         ensures none { IfNone result (kind_of self.now.tree ≢ kind.Number) }
@@ -24,7 +24,7 @@ impl IValue {
         }
     }
 
-    /// The string, where the value is one. None of another kind.
+    /// Returns the string, or `None` if the value is of another kind.
     pub fn as_string(&self) -> Option<&IString>
         ensures some { IfSome result (λ string. self.now ≡ string_value string.now) }
         ensures none { IfNone result (kind_of self.now.tree ≢ kind.String) }
@@ -35,7 +35,7 @@ impl IValue {
         }
     }
 
-    /// The array, where the value is one. None of another kind.
+    /// Returns the array, or `None` if the value is of another kind.
     pub fn as_array(&self) -> Option<&IArray>
         ensures some { IfSome result (λ array. self.now ≡ array_value array.now.items) }
         ensures none { IfNone result (kind_of self.now.tree ≢ kind.Array) }
@@ -46,7 +46,7 @@ impl IValue {
         }
     }
 
-    /// The object, where the value is one. None of another kind.
+    /// Returns the object, or `None` if the value is of another kind.
     pub fn as_object(&self) -> Option<&IObject>
         ensures some { IfSome result (λ object. self.now ≡ object_value object.now) }
         ensures none { IfNone result (kind_of self.now.tree ≢ kind.Object) }
@@ -57,7 +57,7 @@ impl IValue {
         }
     }
 
-    /// The number that the value is. A value of another kind comes back. Nothing is copied.
+    /// Moves the number out, or returns a value of another kind as `Err`. Nothing is copied.
     pub fn into_number(self) -> Result<INumber, IValue>
         ensures ok { IfOk result (λ number. self ≡ number_value number) }
         ensures refused { IfErr result (λ value.
@@ -69,7 +69,7 @@ impl IValue {
         }
     }
 
-    /// The string that the value is. A value of another kind comes back. Nothing is copied.
+    /// Moves the string out, or returns a value of another kind as `Err`. Nothing is copied.
     pub fn into_string(self) -> Result<IString, IValue>
         ensures ok { IfOk result (λ string. self ≡ string_value string) }
         ensures refused { IfErr result (λ value.
@@ -81,7 +81,7 @@ impl IValue {
         }
     }
 
-    /// The array that the value is. A value of another kind comes back. Nothing is copied.
+    /// Moves the array out, or returns a value of another kind as `Err`. Nothing is copied.
     pub fn into_array(self) -> Result<IArray, IValue>
         ensures ok { IfOk result (λ array. self ≡ array_value array.items) }
         ensures refused { IfErr result (λ value.
@@ -93,7 +93,7 @@ impl IValue {
         }
     }
 
-    /// The object that the value is. A value of another kind comes back. Nothing is copied.
+    /// Moves the object out, or returns a value of another kind as `Err`. Nothing is copied.
     pub fn into_object(self) -> Result<IObject, IValue>
         ensures ok { IfOk result (λ object. self ≡ object_value object) }
         ensures refused { IfErr result (λ value.
@@ -105,7 +105,9 @@ impl IValue {
         }
     }
 
-    /// The number where it is whole and an `i64`, whatever its shape; None of another kind. `2.0` is 2, and `2.5` is none.
+    /// Returns the number as an `i64` if it is whole and in range, otherwise `None`.
+    ///
+    /// `2.0` gives 2, and `2.5` gives `None`.
     pub fn to_i64(&self) -> Option<i64>
         ensures some { IfSome result (λ z. HasInteger self.now.tree z) }
         ensures none { IfNone result
@@ -114,7 +116,7 @@ impl IValue {
         self.as_number()?.to_i64()
     }
 
-    /// The number where it is whole and an `i32`, whatever its shape; None of another kind. As `to_i64`.
+    /// Returns the number as an `i32` if it is whole and in range, otherwise `None`. See `to_i64`.
     pub fn to_i32(&self) -> Option<i32>
         ensures some { IfSome result (λ z. HasInteger self.now.tree z) }
         ensures none { IfNone result
@@ -123,7 +125,7 @@ impl IValue {
         self.as_number()?.to_i32()
     }
 
-    /// The number where it is whole and an `isize`, whatever its shape; None of another kind. As `to_i64`.
+    /// Returns the number as an `isize` if it is whole and in range, otherwise `None`. See `to_i64`.
     pub fn to_isize(&self) -> Option<isize>
         ensures some { IfSome result (λ z. HasInteger self.now.tree z) }
         ensures none { IfNone result
@@ -132,7 +134,7 @@ impl IValue {
         self.as_number()?.to_isize()
     }
 
-    /// The number where it is whole and a `u64`, whatever its shape; None of another kind. As `to_i64`.
+    /// Returns the number as a `u64` if it is whole and in range, otherwise `None`. See `to_i64`.
     pub fn to_u64(&self) -> Option<u64>
         ensures some { IfSome result (λ n. HasInteger self.now.tree (pos n)) }
         ensures none { IfNone result
@@ -141,7 +143,7 @@ impl IValue {
         self.as_number()?.to_u64()
     }
 
-    /// The number where it is whole and a `u32`, whatever its shape; None of another kind. As `to_i64`.
+    /// Returns the number as a `u32` if it is whole and in range, otherwise `None`. See `to_i64`.
     pub fn to_u32(&self) -> Option<u32>
         ensures some { IfSome result (λ n. HasInteger self.now.tree (pos n)) }
         ensures none { IfNone result
@@ -150,7 +152,7 @@ impl IValue {
         self.as_number()?.to_u32()
     }
 
-    /// The number where it is whole and a `usize`, whatever its shape; None of another kind. As `to_i64`.
+    /// Returns the number as a `usize` if it is whole and in range, otherwise `None`. See `to_i64`.
     pub fn to_usize(&self) -> Option<usize>
         ensures some { IfSome result (λ n. HasInteger self.now.tree (pos n)) }
         ensures none { IfNone result

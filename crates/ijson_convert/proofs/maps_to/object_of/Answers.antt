@@ -15,7 +15,7 @@ use Rattle.ijson_convert.proofs.pairs.Shown.{shown_next, shown_all}
 use Rattle.ijson_convert.proofs.maps_to.object_of.Goals.{In-Some, In-None}
 use Rattle.ijson_convert.proofs.maps_to.object_of.Goals as goal
 
--- the entry that comes is the next of all
+-- the entry yielded is the next of all
 next : (g : _) (c : In-Some g) (all : List (String Global × g.row.T.Denot))
     → AlwaysYields g.I.Iterator.next_gives deref_pair c.args.entries all
     → (rest : List (String Global × g.row.T.Denot))
@@ -24,14 +24,14 @@ next g c all a =
     shown_next g.I.Iterator.next_gives deref_pair c.into_iter-key-iterator.ensures.into_iter_gives c.loop-key.yielded all
     c.loop-key.key-iterator c.next.new.self a c.loop-key.yielded_by (c.in-Some.key, c.in-Some.x) c.in-Some.ensures.steps
 
--- where none comes all came
+-- when none is yielded, all have been
 all_came : (g : _) (c : In-None g) (all : List (String Global × g.row.T.Denot))
     → AlwaysYields g.I.Iterator.next_gives deref_pair c.args.entries all → all ≡ map deref_pair c.loop-key.yielded
 all_came g c all a =
     shown_all g.I.Iterator.next_gives deref_pair c.into_iter-key-iterator.ensures.into_iter_gives c.loop-key.yielded all
     c.loop-key.key-iterator c.next.new.self a c.loop-key.yielded_by c.in-None.ensures.steps
 
--- so the pairs are those of all
+-- so the entries are those of all
 whole : (g : _) (c : In-None g) (all : List (String Global × g.row.T.Denot))
     → AlwaysYields g.I.Iterator.next_gives deref_pair c.args.entries all
     → SoFar g.T.ToIValue.tree c.args.cache.now c.loop-key.pairs.items all c.loop-key.cache

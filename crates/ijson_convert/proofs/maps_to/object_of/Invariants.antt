@@ -3,7 +3,7 @@ use Rattle.std.specs.Map.Iter.{deref_pair}
 use Rattle.ijson_convert.proofs.pairs.PairsPut.{SoFar}
 use Rattle.ijson_convert.proofs.maps_to.object_of.Given as goal
 
--- the pairs of the entries so far stand in a list that has room for all of them
+-- the entries so far are in a list with capacity for all of them
 abbrev pub invariant-loop-key : goal.invariant-loop-key
 invariant-loop-key g l = record {
   ready : (goal.iterator-loop-key g).can_next l.key-iterator;

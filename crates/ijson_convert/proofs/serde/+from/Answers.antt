@@ -25,15 +25,15 @@ use Rattle.ijson_convert.proofs.serde.+from.Goals as goal
 use Rattle.ijson_convert.proofs.serde.+from.Goals.{from_items-After-from_serde, from_serde_map-After-intern}
 use Rattle.ijson_convert.proofs.serde.+from.Goals.{from_serde_map-After-from_pairs}
 
--- ---- an item
--- the items so far, this one and those behind it
+-- ---- an element
+-- the elements so far, this one and those after it
 item_parts : (g : Over) (t : ℕ) (c : from_items-After-from_serde g t) →
     let xs = c.deref-item-items.result.now in let i = c.loop-item.item-index in
     take i xs ++ c.item-item.result ∷ drop (suc i) xs ≡ c.args.items.now.items
 item_parts g t c = split_at c.deref-item-items.result.now c.loop-item.item-index c.item-item.result (omega (arith, c.loop-item-test.true))
     c.item-item.is ∙ c.deref-item-items.ensures.value
 
--- a beginning of this item's texts is one of all texts
+-- a beginning of this element's strings is one of all strings
 item_begun : (g : Over) (t : ℕ) (c : from_items-After-from_serde g t)
     → SomeInterned (value_texts c.item-item.result) c.loop-item.cache c.from_serde.new.cache
     → SomeInterned (serde_items_texts (items_view c.args.items.now.items)) c.args.cache.now c.from_serde.new.cache
@@ -128,13 +128,13 @@ member_parts : (g : Over) (t : ℕ) (c : from_serde_map-After-intern g t)
     → c.loop-key.invariant.done ++ (c.in-Some.key.now, c.in-Some.member.now) ∷ c.next.new.self ≡ c.args.map.now.entries
 member_parts g t c = sym (c.loop-key.invariant.parts ∙ ap (λ es. c.loop-key.invariant.done ++ es) c.in-Some.ensures.steps)
 
--- where none is left, those so far are all
+-- if none is left, those so far are all
 all_done : (g : Over) (t : ℕ) (c : from_serde_map-After-from_pairs g t) → c.args.map.now.entries ≡ c.loop-key.invariant.done
 all_done g t c =
     let done = c.loop-key.invariant.done in
     c.loop-key.invariant.parts ∙ ap (λ es. done ++ es) c.in-None.ensures.steps.0 ∙ append-nil done
 
--- a beginning of this member's texts is one of all texts
+-- a beginning of this member's strings is one of all strings
 member_begun : (g : Over) (t : ℕ) (c : from_serde_map-After-intern g t) (new : Texts)
     → SomeInterned (entry_texts (c.in-Some.key.now, c.in-Some.member.now)) c.loop-key.cache new
     → SomeInterned (serde_members_texts (members_view c.args.map.now.entries)) c.args.cache.now new

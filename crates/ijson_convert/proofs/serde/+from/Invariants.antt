@@ -8,13 +8,13 @@ use Rattle.ijson_convert.specs.SerdeTree.{SerdeItems, SerdeMembers}
 use Rattle.ijson_convert.proofs.serde_trees.SerdeTrees.{value_texts, entry_texts}
 use Rattle.ijson_convert.proofs.serde.+from.Given as goal
 
--- the items so far have their trees, and their texts are interned
+-- the elements so far have their trees, and their strings are interned
 abbrev pub invariant-from_items-loop-item : goal.invariant-from_items-loop-item
 invariant-from_items-loop-item g l =
     SerdeItems (items_view (take l.item-index l.item-items)) (item_trees l.array.items)
     × (l.cache ≡ all_interned (flat_map value_texts (take l.item-index l.item-items)) l.fn.cache)
 
--- so have the members so far, in a list that has room for those that are left
+-- the members so far have their trees, their strings are interned, and the list has capacity for those left
 abbrev pub invariant-from_serde_map-loop-key : goal.invariant-from_serde_map-loop-key
 invariant-from_serde_map-loop-key g l = record {
   done : List Entry;

@@ -21,7 +21,7 @@ use Rattle.ijson_convert.proofs.pairs.PairTrees.{has_middle, deep_middle, key_is
 use Rattle.ijson_convert.proofs.serde_trees.SerdeMeanings.{array_means, array_unmeant, object_means, object_unmeant}
 use Rattle.ijson_convert.proofs.serde.+to.Goals as goal
 
--- ---- an item
+-- ---- an element
 pub to_items-loop-item-init : goal.to_items-loop-item-init
 to_items-loop-item-init t c =
     record {

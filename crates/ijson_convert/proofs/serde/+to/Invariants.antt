@@ -8,7 +8,7 @@ use Rattle.ijson_value.specs.WellFormed.{WellFormed, item_trees}
 use Rattle.ijson_convert.specs.SerdeTree.{SerdeMeans}
 use Rattle.ijson_convert.proofs.serde.+to.Given as goal
 
--- the items so far mean the same, in a list that has room for all
+-- the elements so far mean the same, in a list with capacity for all
 abbrev pub invariant-to_items-loop-item : goal.invariant-to_items-loop-item
 invariant-to_items-loop-item l = record {
   means : SerdeMeans (serde.array (items_view l.list.items)) (array_tree (take l.item-index l.items));

@@ -28,7 +28,7 @@ err_inj h = cc
 
 module _ (r : Result WellFormed CompactError) (left rest got got' : Option (List ℕ)) (before after failed failed' : ℕ)
     (old new : Texts) where
-  -- the clauses, of a result and of what there was before and after it
+  -- the clauses, for a result and the states before and after it
   abbrev Compacted : Type 0
   Compacted = record {
     read : (r ≡ Err errors.Read) ↔ (before < after);
@@ -70,7 +70,7 @@ unwritten : (r : Result WellFormed CompactError) (left rest got : Option (List �
 unwritten r left rest got before after failed old new e is read not_write = refused r left rest got got before after failed failed old new
     e is read ((λ q. absurd (not_write q)), (λ l. absurd (omega (arith, l)))) (λ q. absurd (not_write q)) (λ _. Keeps-refl got)
 
--- nothing is said of the bytes
+-- no claim about the bytes
 unsaid : (left : Option (List ℕ)) → IfSome left (λ _. ⊤)
 unsaid None = tt
 unsaid (Some bytes) = tt
@@ -95,14 +95,14 @@ returns-in_err-text g c =
     c.args.cache.now c.args.cache.now e (p.1 ∙ ap Err p.2) ((λ q. found.read.0 (ap Err q)), (λ l. err_inj (found.read.1 l)))
     error.0 error.1 error.2 (read.0, read.1, adds_none read.0 c.args.cache.now) (λ _. refl)
 
--- all that was left was read
+-- all remaining bytes were read
 all_read : (left rest : Option (List ℕ)) (bytes : List ℕ) → Consumes left rest bytes → IsAtEnd rest
     → IfSome left (λ xs. (xs ≡ bytes) × (rest ≡ Some []))
 all_read None rest bytes read end = tt
 all_read (Some xs) None bytes read end = absurd read
 all_read (Some xs) (Some ys) bytes read end = (read ∙ ap (λ l. bytes ++ l) end ∙ append-nil bytes, ap Some end)
 
--- what is said of what was read is said of what was left
+-- a property of the bytes read is one of the bytes that remained
 said : (P : List ℕ → Type 0) (left rest : Option (List ℕ)) (bytes : List ℕ) → IfSome left (λ xs. (xs ≡ bytes) × (rest ≡ Some []))
     → (rest ≡ Some [] → P bytes) → IfSome left P
 said P None rest bytes is p = tt
@@ -144,7 +144,7 @@ line_error left K errors.Read h = let m = (h (λ q. cc)).0 in absurd cc
 line_error left K errors.NotUtf8 h = let m = (h (λ q. cc)).0 in absurd cc
 line_error left K (errors.Json e) h = let m = (h (λ q. cc)).0 in absurd cc
 
--- the line, or an error of its making and writing
+-- the line, or an error of building and writing it
 line : (r : Result WellFormed CompactError) (left rest got got' : Option (List ℕ)) (before after failed failed' : ℕ) (old new : Texts)
     (bytes : List ℕ) (v : WellFormed) → IfSome left (λ xs. (xs ≡ bytes) × (rest ≡ Some [])) → IsUtf8 bytes → Accepted bytes v.tree
     → AreShared new v.tree → AddsOnlyRead bytes old new → (before < after → ⊥)

@@ -1,9 +1,7 @@
-use Rattle.std.proofs.Common.{sym, eq-eqb, arith, subst}
+use Rattle.std.proofs.Common.{sym, eq-eqb, arith, rules, subst}
 use Rattle.std.proofs.lemmas.Grind.{common_steps}
 use Rattle.ijson_value.specs.Tree.{Tree}
 use Rattle.ijson_json.specs.Grammar.{Accepted}
-use Rattle.ijson_json.specs.Refuses.{Refuses}
-use Rattle.ijson_json.specs.declared.fault.JsonError.{JsonError}
 use Rattle.std.proofs.lemmas.Bool.{eqb-true}
 use Rattle.ijson_json.proofs.scanning.Prefixes.{not_both}
 use Rattle.ijson_json.proofs.reading.CacheContents.{adds_behind}
@@ -26,8 +24,9 @@ returns-clause-read g c =
     )
 
 pub returns-in-Err-clause-read : goal.returns-in-Err-clause-read
-returns-in-Err-clause-read g c = subst (λ (e : JsonError). Refuses c.args.text.now e) (sym c.located.ensures)
-    (refuses c.args.text.now c.skip_space-start.result.now c.in-Err.fault c.skip_space-start.ensures c.in-Err.ensures.answer)
+returns-in-Err-clause-read g c =
+    let refused = refuses c.args.text.now c.skip_space-start.result.now c.in-Err.fault c.skip_space-start.ensures c.in-Err.ensures.answer in
+    rw c.located.ensures (search (rules, refused))
 
 pub returns-then-is_empty-clause-cache : goal.returns-then-is_empty-clause-cache
 returns-then-is_empty-clause-cache g c = adds_behind c.args.text.now c.skip_space-start.ensures.space c.skip_space-start.result.now
@@ -45,6 +44,6 @@ returns-in-Err-clause-cache g c = adds_behind c.args.text.now c.skip_space-start
 pub returns-then-is_empty-clause-shared : goal.returns-then-is_empty-clause-shared
 returns-then-is_empty-clause-shared g c = c.in-Ok.ensures.answer.shared
 
--- what the check tries where no answer stands takes longer than these
+-- given for speed: the default tactics take longer
 pub overflow_sub-result : goal.overflow_sub-result
 overflow_sub-result g c = grind (arith, common_steps)

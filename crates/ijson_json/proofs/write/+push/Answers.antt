@@ -26,7 +26,7 @@ push_members-loop-key-init t c =
           (sym (ap (λ ps. joined true (member_texts print ps)) all ∙ joined-members c.args.object.now.pairs));
     }
 
--- what the check tries where no answer stands takes longer than these
+-- given for speed: the default tactics take longer
 pub push_items-loop-item-preserved : goal.push_items-loop-item-preserved
 push_items-loop-item-preserved t c = grind (arith, common_steps)
 

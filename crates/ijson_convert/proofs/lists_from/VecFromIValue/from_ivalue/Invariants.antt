@@ -6,7 +6,7 @@ use Rattle.ijson_value.specs.WellFormed.{tree_of}
 use Rattle.ijson_convert.proofs.reading.ItemsRead.{AllRead}
 use Rattle.ijson_convert.proofs.lists_from.VecFromIValue.from_ivalue.Given as goal
 
--- the items so far are read, and the same, and each null that may be None is; the list has room for all of them
+-- the elements so far are read and mean the same, and each null that may be None is; the list has capacity for all of them
 abbrev pub invariant-loop-item : goal.invariant-loop-item
 invariant-loop-item g l =
     let items = map tree_of (take l.item-index l.item-items) in

@@ -9,7 +9,7 @@ use Rattle.ijson_convert.proofs.reading.ItemsRead.{AllRead}
 use Rattle.ijson_convert.proofs.reading.MembersRead.{value_trees}
 use Rattle.ijson_convert.proofs.maps_from.BTreeMapStringFromIValue.from_ivalue.Given as goal
 
--- the pairs so far are read, the map is the same as they are, and each null in it that may be None is
+-- the entries so far are read, the map means the same, and each null in it that may be None is
 abbrev pub invariant-loop-key : goal.invariant-loop-key
 invariant-loop-key g l = record {
   done : List (List ℕ × WellFormed);

@@ -5,7 +5,7 @@ use Rattle.ijson_json.specs.declared.read.escape.TheConstants.{DIGITS}
 use Rattle.ijson_json.proofs.scanning.TableLookups.{agree_at, agree_below}
 use Rattle.ijson_json.proofs.read.escape.hex_value.Goals as goal
 
--- what the table has for a digit, or none; and a test of both bounds, which is 0 where they hold
+-- the table entry of a digit or none; and a test of both bounds, which is 0 if they hold
 abbrev code_of : Option ℕ → ℕ
 code_of (Some d) = d
 code_of None = 65536

@@ -41,7 +41,7 @@ returns-in_default c =
       ],
     )
 
--- what the check tries where no answer stands takes longer than these
+-- given for speed: the default tactics take longer
 pub range-requires-clause-end_boundary : goal.range-requires-clause-end_boundary
 range-requires-clause-end_boundary c = grind (arith, common_steps)
 

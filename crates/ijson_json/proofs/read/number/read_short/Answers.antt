@@ -9,22 +9,18 @@ pub split_at-requires : goal.split_at-requires
 split_at-requires c = let e = rw c.in-Some.is at c.in_ok-number.ensures.found in
     spelled_boundary c.args.text.now c.in-Some.length c.in-Some.number.decimal c.utf8.text e.0 e.1
 
--- what the check tries where no answer stands takes longer than these
+-- given for speed: the default tactics take longer
 pub returns-then-stops-clause-read : goal.returns-then-stops-clause-read
 returns-then-stops-clause-read c = grind (arith, common_steps)
 
 pub returns-in_default-clause-none : goal.returns-in_default-clause-none
-returns-in_default-clause-none c =
-    let plain = rw c.in_default.is at c.in_ok-number.ensures.none in
-    let power = rw c.in_default.is at c.in_ok-number.ensures.no_power in
-    record { plain = λ p rest f _. plain p rest f; power = λ p rest f _. power p rest f }
+returns-in_default-clause-none c = λ p rest f _. (rw c.in_default.is at c.in_ok-number.ensures.none) p rest f
 
 pub returns-else-stops-clause-none : goal.returns-else-stops-clause-none
 returns-else-stops-clause-none c =
-    let plain = rw c.in-Some.is at c.in_ok-number.ensures.plain in
-    let power = rw c.in-Some.is at c.in_ok-number.ensures.power in
+    let common = rw c.in-Some.is at c.in_ok-number.ensures.common in
     let goes_on : Stops (drop c.in-Some.length c.args.text.now) → ⊥ = λ s.
     let yes : c.stops.result ≡ true = c.stops.ensures.1 (rw c.split_at.ensures.back s) in
     let no : c.stops.result ≡ false = c.if-stops.false in
     cc in
-    no_short c.args.text.now c.in-Some.length plain power goes_on
+    no_short c.args.text.now c.in-Some.length common goes_on

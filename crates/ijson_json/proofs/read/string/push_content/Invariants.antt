@@ -8,7 +8,7 @@ use Rattle.ijson_json.specs.private.Reading.{Past}
 use Rattle.ijson_json.proofs.reading.StringContent.{Appended}
 use Rattle.ijson_json.proofs.read.string.push_content.Given as goal
 
--- so much of the content was read and appended, and the rest of it, which no quote closes yet, is left
+-- the content so far was read and appended, and the rest, which does not begin with the closing quote, is left
 abbrev pub invariant-loop-character : goal.invariant-loop-character
 invariant-loop-character l = record {
   utf8 : shadow (Utf8 l.left);

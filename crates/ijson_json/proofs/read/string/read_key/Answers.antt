@@ -32,7 +32,7 @@ returns-in-None g c =
       answer = λ opened. (
         short,
         no_colon c.in_ok-key.key c.args.text.now c.in_ok-key.after.now c.skip_space-after.result.now found.read c.skip_space-after.ensures
-            c.in-None.ensures,
+            (search rules),
       );
     }
 

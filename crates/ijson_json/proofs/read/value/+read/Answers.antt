@@ -32,7 +32,7 @@ use Rattle.ijson_json.proofs.reading.Values.{begins, no_character, scalar_read}
 use Rattle.ijson_json.proofs.read.value.+read.Goals as goal
 use Rattle.ijson_json.proofs.read.value.+read.Goals.{read_container-then-first-eq91, read_container-else-first-eq91}
 
--- what the exit of a `?` answers
+-- the result at the exit of a `?`
 refused : {opened : ℕ} {text : List ℕ} {r : Result (WellFormed × Bor (List ℕ)) Fault} {old new : Texts} {before after : Scratch}
     (fault : Fault) → IsErrAnd r (λ e. e ≡ fault) → AddsOnlyRead text old new → Explains opened text fault
     → ReadsValue opened text r old new before after
@@ -64,7 +64,7 @@ read_container-returns-then-opened-eq-MAX_DEPTH g t c = record {
       (c.if-opened-eq-MAX_DEPTH.true, refl);
 }
 
--- what was read behind the bracket was read of the whole text
+-- a value read after the bracket is one of the whole text
 bracketed : {opened : ℕ} {r s : Result (WellFormed × Bor (List ℕ)) Fault} {old new last : Texts} {before after final : Scratch}
     (text inside : List ℕ) (first b : ℕ) → text ≡ first ∷ inside → first ≡ b → s ≡ r → last ≡ new → final ≡ after
     → ReadsValue opened (b ∷ inside) r old new before after → ReadsValue opened text s old last before final
@@ -218,9 +218,9 @@ read_object-returns-in-Err g t c =
     let key = c.in_ok-key.ensures.answer.read in
     let fault = c.in-Err.fault in
     record {
-      cache = gathered_adds i (adds_behind_key key c.read_key.ensures.cache c.read_value.ensures.cache);
+      cache = gathered_adds i (adds_behind_key key c.read_key.ensures.cache (search rules));
       answer = element_fault (List ℕ × Tree) members_shape objects c.args.opened (123 ∷ c.args.inside.now) c.loop-key.rest.now
-          i.written fault i.reached (member_fault (c.args.opened + 1) fault key c.in-Err.ensures.answer);
+          i.written fault i.reached (member_fault (c.args.opened + 1) fault key (search rules));
     }
 
 pub read_object-returns-in_err-next : goal.read_object-returns-in_err-next
@@ -295,7 +295,7 @@ read_object-returns-in-End g t c =
       };
     }
 
--- what the check tries where no answer stands takes longer than these
+-- given for speed: the default tactics take longer
 pub read_array-loop-item-smaller : goal.read_array-loop-item-smaller
 read_array-loop-item-smaller g t c = grind (arith, common_steps)
 

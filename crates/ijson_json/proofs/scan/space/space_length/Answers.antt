@@ -20,7 +20,7 @@ loop-at-preserved c =
     let run = run_through is_space c.args.bytes.now c.loop-at.at 16 (omega arith) (omega (arith, c.others-found.ensures)) in
     (omega (arith, run, c.loop-at.invariant.0), omega arith)
 
--- the first byte of the few that are left that is none ends the white space, or the text does
+-- the white space ends at the first of the remaining bytes that is not white space, or at the end of the text
 few : (bytes : List ℕ) (at : ℕ) (first : Option ℕ) → at ≤ length bytes
     → first ≡ position (λ b. not (is_space b)) (take (length bytes - at) (drop at bytes))
     → unwrap_or first (length (take (length bytes - at) (drop at bytes))) ≡ prefix_len is_space (drop at bytes)

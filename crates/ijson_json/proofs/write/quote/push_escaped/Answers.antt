@@ -16,7 +16,7 @@ loop-byte-init c = record {
   written = search rules;
 }
 
--- all was written but the end
+-- everything but the end was written
 written_whole : (old out row text done run after : List ℕ) (start : ℕ) → done ≡ take start text → drop start text ≡ run ++ after
     → length after ≡ 0
     → out ≡ old ++ all_escaped done → all_escaped run ≡ run → row ≡ out ++ run → row ≡ old ++ all_escaped text
@@ -90,6 +90,6 @@ loop-byte-preserved c =
           c.split_run_at.ensures.whole c.in-Some.ensures.cases));
     }
 
--- what the check tries where no answer stands takes longer than these
+-- given for speed: the default tactics take longer
 pub loop-byte-smaller : goal.loop-byte-smaller
 loop-byte-smaller c = grind (arith, common_steps)

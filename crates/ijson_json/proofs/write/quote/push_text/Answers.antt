@@ -12,7 +12,7 @@ use Rattle.ijson_json.proofs.writing.Quoting.{all_escaped-run, written_end, on_o
 use Rattle.ijson_json.proofs.write.quote.push_text.Goals as goal
 use Rattle.ijson_json.proofs.write.quote.push_text.Goals.{in_default-via-in-Some+else-begins_unescaped, in_default-via-in_default}
 
--- of a row that was appended all but the first bytes are cut off
+-- an appended block is truncated to its first bytes
 cut_behind : (old row longer : List ℕ) (end n : ℕ) → longer ≡ old ++ row → end ≡ length old + n → take end longer ≡ old ++ take n row
 cut_behind old row longer end n is at =
     ap (λ k. take k longer) at ∙ ap (take (length old + n)) is ∙ take-append-add old row n
@@ -41,11 +41,11 @@ returns-in_ok-push_str-in-Some c =
     (written_end old (string_bytes c.truncate.new.self) c.args.text.now c.args.end.now
     (c.truncate.ensures.bytes ∙ kept ∙ ap (λ (l : List ℕ). old ++ l) (sym plain ∙ ap all_escaped c.in-Some.ensures.text)))
 
--- the text is longer than a row, or a byte of it must stand in an escape
+-- the string is longer than a block, or a byte of it needs an escape
 pub push_other-requires-clause-other : goal.push_other-requires-clause-other
 push_other-requires-clause-other c short = elim c.in_default.branch [
   | in_default-via-in_default w ↦ (
-      let some : false ≡ true = rw w.in_default.is at (c.in_place.ensures.short short) in
+      let some : false ≡ true = rw w.in_default.is at (c.inline_padded.ensures.short short) in
       absurd cc
       )
   | in_default-via-in-Some+else-begins_unescaped w ↦ (

@@ -14,7 +14,7 @@ returns-in-Err-clause-stays c = λ _. c.in-Err.ensures.refused
 pub returns-in-Err-clause-capacity : goal.returns-in-Err-clause-capacity
 returns-in-Err-clause-capacity c = c.reserve.ensures.capacity
 
--- from here on no answer names a step, so a body with more of them is refused for what it leaves
+-- from here on no proof names a step, so a body with more steps is rejected for its result
 pub unwrap-requires : goal.unwrap-requires
 unwrap-requires c = grind (arith, common_steps)
 

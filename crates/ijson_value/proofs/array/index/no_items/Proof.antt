@@ -1,4 +1,4 @@
--- The place of an array's list lends a slice of no items, and stays as it is. By hand, since the slice is no part of the place.
+-- The pointer of an array lends an empty slice and is unchanged. By hand, since the slice is no part of the pointer.
 use Rattle.std.proofs.Common.{List, [], ◌∷◌, refl, lit<, MutBor, arith}
 use Rattle.std.proofs.raw_atomic.Walks.{proved}
 use mir.Syntax.{named}
@@ -50,6 +50,6 @@ no_items_spec 𝓤 𝓛 𝓜 𝓡 wired =
     returns ! (look_at ! 0 refl) $ free_all ! refl $ keep ! (0 ∷ []) $
     use1 𝓛 (‵ ((MutSlice (named 0) κ value.the_row).own_val slice (slice_val (l 2, 0) 0 ∷ [])) ⊛ ‵ (flft κ q)
     ⊛ ‵ (follows place_row (Array value.the_row 0) r.ghost_name δ (λ _. r.now))) (id⊢ 𝓤 _) $ split3 ! $
-    -- [the slice; the token; what the place follows]
+    -- [the slice; the token; the formula of the pointer]
     suffices ! _ (ends_at 𝓛 f.ended stayed c ((κs, qs, bounds, a, (mut_vals r, tt)), g) (slice_val (l 2, 0) 0) slice (tt, tt) (tt, tt)) $
     nothing ! $ nothing ! $ fjoin ! $ join ! $ nothing ! $ move ! (2 ∷ 0 ∷ []) $ join ! $ join ! $ frame ! $ says ! refl $ done !)))

@@ -1,4 +1,4 @@
--- A value lends the part that it has, by a call for each kind. Assumes `Logic`.
+-- A value lends its part, by a call for each kind. Assumes `Logic`.
 use Rattle.ijson_value.proofs.lends.Steps.{◌≡◌, ℕ, List, [], ◌∷◌, refl, sym, ap, ◌∙◌, lit<, MutBor, proved, full_share, id⊢, Lft, ftrue}
 use Rattle.ijson_value.proofs.lends.Steps.{flft, fres, named, Val, fact, tables, ‵, raw, ◌⊛◌, some, later, at_ret, ◌$◌, ◌∵◌, !, qed, done}
 use Rattle.ijson_value.proofs.lends.Steps.{move, keep, use1, use2, split, join, rewrite, fsplit, fsplit3, fjoin, pick, await, suffices}
@@ -75,7 +75,7 @@ destructure_mut_spec 𝓤 𝓛 𝓜 𝓡 wired =
     qed 𝓛 (((‵ (flft κ q) ⊛ ‵ ftrue) ⊛ ‵ (Ref κ r) ⊛ ‵ ftrue) ∷ ‵ ftrue ∷ []) ∵
     split ! $ split ! $ move ! (2 ∷ []) $ split ! $ keep ! (0 ∷ 2 ∷ []) $
     enter ! _ _ _ _ _ $ alloc_all ! (λ l. pass_all ! refl ((tt, tt), tt) $
-    -- the enum of the parts is made and returned
+    -- the enum of the parts is built and returned
     let leaves : (own : Fml) (u : Val) (x : DestructuredMut) → ent 𝓤 (sem 𝓛 own) (sem 𝓛 ((PartsOf at).own_val x (u ∷ [])))
     → mut_value x ≡ r.now → Sq 𝓛 (‵ own ∷ ‵ (LendsParts r x) ∷ ‵ (flft κ q) ∷ holding 𝓛 (env code.Mir.locals l) ((4, u) ∷ []))
     (prop (Wp 𝓤 𝓛.H 𝓣.C 𝓣.Λ (env code.Mir.locals l) code.Mir.t-4 (post 𝓤 𝓛.H (at_ret (env code.Mir.locals l) (W.post y))))) =

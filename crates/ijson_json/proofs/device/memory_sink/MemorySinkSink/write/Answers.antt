@@ -2,7 +2,7 @@ use Rattle.std.proofs.Common.{arith}
 use Rattle.std.proofs.lemmas.Grind.{common_steps}
 use Rattle.ijson_json.proofs.device.memory_sink.MemorySinkSink.write.Goals as goal
 
--- what the check tries where no answer stands takes longer than these
+-- given for speed: the default tactics take longer
 pub invariant_of-self-2 : goal.invariant_of-self-2
 invariant_of-self-2 c = grind (arith, common_steps)
 

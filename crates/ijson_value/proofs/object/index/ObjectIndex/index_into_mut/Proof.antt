@@ -1,4 +1,4 @@
--- The call of the object itself. Assumes `Logic`.
+-- The call on the object itself. Assumes `Logic`.
 use Rattle.ijson_value.proofs.lends.Steps.{◌≡◌, List, [], ◌∷◌, refl, MutBor, Bor, proved, id⊢, ftrue, flft, named, Val, fact, fact_i}
 use Rattle.ijson_value.proofs.lends.Steps.{emp, tables, ‵, raw, ◌⊛◌, some, later, ◌$◌, ◌∵◌, !, qed, done, move, keep, drop, use0, use1}
 use Rattle.ijson_value.proofs.lends.Steps.{use3, split, join, fjoin, pick, await, suffices, frame, enter, addr, stop, no_more, and_then}
@@ -63,7 +63,7 @@ index_into_mut_spec 𝓤 𝓛 𝓜 𝓡 wired I LI CI gx dx gs ds gc dc mx ms mc
     ⊛ ‵ (LendsPairIf r (gs.key k) x) ⊛ raw (fact 𝓤 (option_map deref_pair_mut x ≡ pair_at_key (gs.key k) r.now.pairs)))))) (id⊢ 𝓤 _) $
     await ! tt $ pick ! (λ x. split ! $ split ! $ move ! (2 ∷ []) $
     pick ! (λ ws. split ! $ drop ! $ split ! $ move ! (1 ∷ []) $ heard ! _ (λ is.
-    -- [what the object follows; the tokens; the answer]
+    -- [the formula of the object; the tokens; the result]
     move ! (2 ∷ []) $ peeks ! (OptionOf (Pair κ)) _ (shows 𝓛 (OptionOf (Pair κ))) x (v ∷ []) (λ told.
     lands_as ! refl refl (((pair_found_laws κ).lawful 𝓛).typed x (v ∷ []) told).0 $
     returns ! (look_at ! 0 refl) $ free_all ! refl $ keep ! (0 ∷ 2 ∷ 1 ∷ []) $

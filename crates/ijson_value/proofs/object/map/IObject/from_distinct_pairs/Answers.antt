@@ -8,7 +8,7 @@ use Rattle.ijson_table.specs.Store.{put_each}
 use Rattle.ijson_value.specs.Gives.{GivesAll}
 use Rattle.ijson_value.proofs.object.map.IObject.from_distinct_pairs.Goals as goal
 
--- one more is given than those that stand in the list, so they are fewer than its room
+-- the source yields one more than the list contains, so the list is not full
 pub push_reserved-requires : goal.push_reserved-requires
 push_reserved-requires g c =
     let so_far = c.loop-pair.invariant in
@@ -37,7 +37,7 @@ loop-pair-preserved g c = (
   c.push_reserved.ensures.capacity ∙ c.loop-pair.invariant.3,
 )
 
--- none has the key of another, so each goes last
+-- the keys are distinct, so each entry is appended
 pub returns-clause-pairs : goal.returns-clause-pairs
 returns-clause-pairs g c =
     let yielded = c.loop-pair.yielded in
@@ -47,7 +47,7 @@ returns-clause-pairs g c =
     subst (GivesAll g.I.IntoIterator.into_iter_gives g.I.IntoIter.Iterator.next_gives c.args.pairs) (sym (made ∙ last)) gives)
     c.from_pairs.ensures.pairs
 
--- and they are as many as was told
+-- and their number is `count`
 pub returns-clause-capacity : goal.returns-clause-capacity
 returns-clause-capacity g c =
     let yielded = c.loop-pair.yielded in

@@ -1,4 +1,4 @@
--- A map lends the value beside a key, with the key. Assumes `Logic`.
+-- A map lends the value of a key, with the key. Assumes `Logic`.
 use Rattle.ijson_value.proofs.lends.Steps.{◌≡◌, ℕ, List, [], ◌∷◌, refl, sym, ap, subst, ◌∙◌, lit<, w64, MutBor, Bor, proved, full_share}
 use Rattle.ijson_value.proofs.lends.Steps.{id⊢, Lft, ftrue, flft, fres, named, Val, fact, fact_i, emp, tables, ‵, raw, ◌⊛◌, some}
 use Rattle.ijson_value.proofs.lends.Steps.{later, at_ret, ◌$◌, ◌∵◌, !, qed, done, move, keep, drop, use0, use1, use2, use3, split, join}
@@ -85,9 +85,9 @@ get_key_value_mut_spec 𝓤 𝓛 𝓜 𝓡 wired I LI CI gx dx gs ds gc dc mx ms
     pick ! (λ ws. split ! $ move ! (1 ∷ []) $ split ! $ move ! (1 ∷ []) $ split ! $
     heard ! _ (λ found. heard ! _ (λ within. heard ! _ (λ kept. fsplit ! $ fsplit ! $
     rewrite ! 0 (λ (n : M.Denot). ‵ (fres δ (M.coded.code n))) kept refl $
-    -- [the loan's last value; its borrow; nothing; the index's token; nothing; α is over; the answer; what the lender keeps]
+    -- [the loan's last value; its borrow; nothing; the index's token; nothing; α is over; the result; what the lender keeps]
     move ! (5 ∷ 7 ∷ 0 ∷ []) $ back 𝓛 ! tt M κ q r α δ r.now $
-    -- [the map; its token; the borrow; nothing; the index's token; nothing; the answer]
+    -- [the map; its token; the borrow; nothing; the index's token; nothing; the result]
     by_option x
     (λ none. rewrite ! 6 (λ (x' : Option ℕ). ‵ ((OptionOf usize).own_val x' (v ∷ []))) none refl $ move ! (6 ∷ []) $
     none_out ! usize (v ∷ []) (λ at.
@@ -134,7 +134,7 @@ get_key_value_mut_spec 𝓤 𝓛 𝓜 𝓡 wired I LI CI gx dx gs ds gc dc mx ms
           ⊛ raw (fact 𝓤 (slice_get r.now.pairs i ≡ Some (pair.0.now, pair.1.now))))))) (id⊢ 𝓤 _) $
           await ! tt $ pick ! (λ pair. split ! $ split ! $ split ! $ move ! (3 ∷ []) $
           pick ! (λ ws'. split ! $ drop ! $ split ! $ move ! (1 ∷ []) $ heard ! _ (λ stands.
-          -- [what the map follows; its token; nothing; the pair; the borrow; nothing; the index's token; nothing]
+          -- [the formula of the map; its token; nothing; the pair; the borrow; nothing; the index's token; nothing]
           move ! (3 ∷ []) $ peeks ! (Pair κ) _ (shows 𝓛 (Pair κ)) pair (w ∷ []) (λ told'. let typed =
           (((pair_laws κ).lawful 𝓛).typed pair (w ∷ []) told').0 in
           lands_as ! refl refl typed $

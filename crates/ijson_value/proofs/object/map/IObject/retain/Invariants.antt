@@ -5,7 +5,7 @@ use Rattle.ijson_value.specs.Retains.{RetainsFrom}
 use Rattle.ijson_value.specs.WellFormed.{WellFormed}
 use Rattle.ijson_value.proofs.object.map.IObject.retain.Given as goal
 
--- the calls that are still to come may be made, and what they do, all calls do
+-- the remaining calls may be made, and their effect is that of all calls
 abbrev pub invariant-loop-index : goal.invariant-loop-index
 invariant-loop-index g l =
     MayAskFrom (CalledAtPair g.F.FnMut) (TakesPair g.F.FnMut) l.asks l.index l.self.pairs × (l.self.capacity ≡ l.fn.self.capacity)

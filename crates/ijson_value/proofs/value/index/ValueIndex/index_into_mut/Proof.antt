@@ -1,4 +1,4 @@
--- The value is opened, and the opened value lends. Assumes `Logic`.
+-- The value derefs to its content, which lends. Assumes `Logic`.
 use Rattle.ijson_value.proofs.lends.Steps.{◌≡◌, List, [], ◌∷◌, refl, sym, ap, ◌∙◌, MutBor, proved, id⊢, ftrue, flft, named, Val, fact}
 use Rattle.ijson_value.proofs.lends.Steps.{fact_i, emp, tables, ‵, raw, ◌⊛◌, some, later, ◌$◌, ◌∵◌, !, qed, done, move, keep, drop, use0}
 use Rattle.ijson_value.proofs.lends.Steps.{use1, use2, use3, split, join, rewrite, fjoin, pick, await, suffices, frame, enter, addr, stop}
@@ -36,7 +36,7 @@ use Rattle.ijson_value.proofs.value.index.IValueDerefMut.deref_mut.Met as g-thm
 use Rattle.ijson_value.specs.contracts.value.IValue.get_mut as h
 use Rattle.ijson_value.proofs.value.IValue.get_mut.Met as h-thm
 
--- the tree of a value whose opened value is changed one step inside
+-- the tree of a value whose content is changed one step inside
 module _ (r : WellFormed) (n : Destructured) (step : Step) (same : node_value n ≡ r) where
   tree_put : (x : Option (MutBor WellFormed)) → option_map (λ found. found.now.tree) x ≡ tree_at (node_value n).tree step → (w : WellFormed)
       → OnSome x ((node_value (with_step n step w)).tree ≡ tree_with r.tree step w.tree)
@@ -84,7 +84,7 @@ index_into_mut_spec 𝓤 𝓛 𝓜 𝓡 wired I LI CI gx dx gs ds gc dc mx ms mc
     mut_Tells (named 0) κ N u (x ∷ []) told in
     lands_as ! (ap only opened_at) refl (tt, tt) $
     rewrite ! 0 (λ (us : List Val). ‵ ((MutRef (named 0) κ N).own_val u us)) opened_at refl $
-    -- [opened; what the value follows; its token; nothing; the index's token; the index]
+    -- [content; the formula of the value; its token; nothing; the index's token; the index]
     let H = triple_of 𝓛 (h.signature I) (h.spec I gx dx gs ds gc dc 𝓛 𝓜.mem 𝓡.returns) in
     let z' : H.Ghost = ((κs, qs, tt, (u, (k, tt)), (mut_vals u, (ks, tt))), tt) in
     move ! (5 ∷ []) $ nothing ! $ move ! (1 ∷ 0 ∷ []) $ join ! $ move ! (1 ∷ 0 ∷ []) $ join ! $ move ! (2 ∷ 4 ∷ []) $ join ! $ join ! $
@@ -101,7 +101,7 @@ index_into_mut_spec 𝓤 𝓛 𝓜 𝓡 wired I LI CI gx dx gs ds gc dc mx ms mc
     ⊛ raw (fact 𝓤 (option_map (λ found. found.now.tree) o ≡ tree_at (node_value u.now).tree step)))))) (id⊢ 𝓤 _) $
     await ! tt $ pick ! (λ o. split ! $ split ! $ move ! (2 ∷ []) $
     pick ! (λ ws'. split ! $ drop ! $ split ! $ move ! (1 ∷ []) $ heard ! _ (λ is.
-    -- [what opened follows; the tokens; the answer; what the value follows; nothing]
+    -- [the formula of the content; the tokens; the result; the formula of the value; nothing]
     move ! (2 ∷ []) $ peeks ! (OptionOf Lent) _ (shows 𝓛 (OptionOf Lent)) o (w ∷ []) (λ told'.
     lands_as ! refl refl (((value_found_laws κ).lawful 𝓛).typed o (w ∷ []) told').0 $
     move ! (3 ∷ 1 ∷ []) $ use2 𝓛 (‵ (LendsInsideIf r step o))
