@@ -1,7 +1,8 @@
-//! Examples: small programs as a crate above the library would write them. All but `pointed`, which shows errors, have contracts, and
-//! five state theirs in definitions on trees (`specs/examples`). To copy one, take its definitions, its `proofs/examples/NAME` and the file
-//! of `proofs/example_lemmas` that these cite, where there are any. Write `ijson` for `crate`, and your crate's name for `Rattle.ijson.`;
-//! `canonical_key` and `pointed` need no proof file.
+//! Examples: small programs as a crate above the library would write them.
+//!
+//! All but `pointed`, which shows errors, have contracts, and five of these use definitions on trees (`specs/examples`). To copy one, copy
+//! its definitions, its `proofs/examples/NAME` and the file of `proofs/example_lemmas` that these cite, if they exist. Replace `crate` by
+//! `ijson`, and `Rattle.ijson.` by the name of your crate; `canonical_key` and `pointed` need no proof file.
 
 mod canonical_key;
 mod dedupe;
@@ -22,17 +23,17 @@ use std::process::Abort;
 
 pub(crate) type Cache = StringCache<BuildHasherDefault<FoldHasher>>;
 
-/// A cache without texts.
+/// Returns an empty cache.
 pub(crate) fn empty_cache(alloc: Global) -> Cache {
     StringCache::new(alloc, BuildHasherDefault::<FoldHasher>::new())
 }
 
-/// What `text` spells, through a cache of its own.
+/// Parses `text`, with a cache of its own.
 pub(crate) fn parsed(rt: &impl Abort, alloc: Global, text: &str) -> IValue {
     from_json(alloc, &mut empty_cache(alloc), text).expect(rt, text)
 }
 
-/// Asserts what is written of a value.
+/// Asserts the JSON text of a value.
 pub(crate) fn is_written(rt: &impl Abort, alloc: Global, value: &IValue, want: &str) {
     let found = to_json(alloc, value).expect(rt, "a text");
     assert!(rt; found.as_str() == want, "{found} is not {want}");

@@ -1,5 +1,5 @@
-//! JSON texts: read, written, and made compact from a source to a sink.
-// A module, since an alias may not have the name of a macro of `serde_json`.
+//! JSON text: reading, writing, and compacting from a source to a sink.
+// A module, since an alias cannot have the name of a macro of `serde_json`.
 
 pub use ijson_json::{
     CompactError, DeviceFault, JsonError, LineColumn, MemorySink, MemorySource, Sink, Source,

@@ -1,11 +1,11 @@
 //! Compact JSON values with exact decimals.
 //!
-//! A number is an exact decimal that keeps whether it was written with a point; an object is an ordered list of pairs with distinct keys,
-//! equal to another in any order of its pairs. Texts are read by `json::from_json` and written by `json::to_json`, and everything that
-//! takes memory can answer that there is none. This crate re-exports the library's modules.
+//! A number is an exact decimal that keeps whether it was written with a fraction point; an object is an ordered list of entries with
+//! distinct keys, equal to another in any order of its entries. `json::from_json` reads JSON and `json::to_json` writes it. Every function
+//! that allocates can return an error instead. This crate re-exports the modules of the library.
 //!
-//! Tests: `src/tests`, of numbers, texts, arrays, values, conversions, literals and errors, and `src/examples`, small programs, all but
-//! one with contracts of their own.
+//! The tests are in `src/tests`, for numbers, strings, arrays, values, conversions, literals and errors, and in `src/examples`, small
+//! programs, all but one with contracts of their own.
 #![tactic(auto)]
 
 pub mod json;

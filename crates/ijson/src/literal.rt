@@ -1,6 +1,7 @@
-//! The steps of a literal of `ijson!`, not meant to be called by hand. Where memory is refused a step drops the item or the pair that
-//! it was given, and the list or the object that it was lent is as it was. So a step that is refused leaves no item or pair to drop, only
-//! the lists and objects made so far.
+//! The steps of an `ijson!` literal, not meant to be called directly.
+//!
+//! If an allocation fails, a step drops the element or entry it was given and leaves its list or object as it was. So only the lists and
+//! objects built so far remain to be dropped.
 ghost use Rattle.std.specs.Prelude.{◌≡◌, ◌<◌, ◌≤◌, ◌∷◌, ◌++◌, [], length, map, OnOk, OnErr, IfOk, IfErr, IsOk, IsSome};
 ghost use Rattle.ijson_string.specs.Cache.{interned};
 ghost use Rattle.ijson_table.specs.Store.{lookup, put};
@@ -15,7 +16,7 @@ use crate::{IArray, IObject, IString, IValue};
 use std::alloc::Global;
 use std::hash::BuildHasher;
 
-/// A key, as by `IString::intern`.
+/// Interns a key, like `IString::intern`.
 pub fn intern<S: BuildHasher>(
     cache: &mut StringCache<S>,
     key: &str,
@@ -29,7 +30,7 @@ pub fn intern<S: BuildHasher>(
     Ok(IString::intern(cache, key)?)
 }
 
-/// Puts an item last. Where room is refused the item is dropped, and the list is as it was.
+/// Appends an element. If there is no capacity, it is dropped, and the list stays as it was.
 pub fn push(list: &mut IArray, item: IValue) -> Result<(), ConvertError>
     ensures items { OnOk result (list.new.items ≡ list.old.items ++ item ∷ []) }
     ensures memory { IfErr result (λ e. e ≡ Memory) }
@@ -39,7 +40,7 @@ pub fn push(list: &mut IArray, item: IValue) -> Result<(), ConvertError>
     Ok(list.push(item)?)
 }
 
-/// Puts the value of `x` last. Where memory is refused the list is as it was.
+/// Appends the value of `x`. If an allocation fails, the list stays as it was.
 pub fn push_of<T: ToIValue, S: BuildHasher>(
     alloc: Global,
     cache: &mut StringCache<S>,
@@ -58,7 +59,9 @@ pub fn push_of<T: ToIValue, S: BuildHasher>(
     push(list, to_value(alloc, cache, x)?)
 }
 
-/// Puts a pair. A value that the key had is dropped. Where room is refused the pair is dropped, and the object is as it was.
+/// Inserts an entry, dropping the old value of its key.
+///
+/// If there is no capacity, the entry is dropped, and the object stays as it was.
 pub fn insert(object: &mut IObject, key: IString, value: IValue) -> Result<(), ConvertError>
     ensures pairs { OnOk result (object.new.pairs ≡ put object.old.pairs key value) }
     ensures memory { IfErr result (λ e. e ≡ Memory) }
@@ -70,7 +73,9 @@ pub fn insert(object: &mut IObject, key: IString, value: IValue) -> Result<(), C
     Ok(())
 }
 
-/// Puts a pair of this key and the value of `x`. A value that the key had is dropped. Where memory is refused the object is as it was.
+/// Inserts an entry of this key and the value of `x`, dropping the old value of the key.
+///
+/// If an allocation fails, the object stays as it was.
 pub fn insert_of<T: ToIValue, S: BuildHasher>(
     alloc: Global,
     cache: &mut StringCache<S>,

@@ -1,13 +1,18 @@
-//! `ijson!`: values written as literals. It takes the tokens of a literal one value at a time, after the Rust crate's.
+//! `ijson!`: values written as literals. It consumes the tokens of a literal one value at a time, like the macro of the Rust crate.
 
-/// The value of a literal, as a `Result<IValue, ConvertError>`: `null`, a list in brackets, an object in braces, or an
-/// expression whose type has `ToIValue`, so no `IValue` and no fraction, nested at will. A key is an expression of type `&str`, and a later
-/// equal key replaces the value. A trailing comma is allowed; a misplaced token does not compile. Room grows as by `push` and `insert`.
-/// Where it is refused, what was made is dropped, and some of the texts may be in the cache.
+/// Creates a value from a literal, as a `Result<IValue, ConvertError>`.
+///
+/// A literal is `null`, a list in brackets, an object in braces, or an expression whose type implements `ToIValue`, so not an `IValue` or a
+/// fraction; it may be nested. A key is an expression of type `&str`, and a later equal key replaces the value. A trailing comma is
+/// allowed; a misplaced token does not compile. The capacity grows as by `push` and `insert`.
 ///
 /// ```
 /// let value = ijson!(alloc, &mut cache; {"name": "ijson", "sizes": [1u8, 2u8, null], "nested": {"deep": true}})?;
 /// ```
+///
+/// # Errors
+///
+/// Returns `Memory` if an allocation fails. The partial value is dropped, and some of the strings may be in the cache.
 #[macro_export]
 macro_rules! ijson {
     ($alloc:expr, $cache:expr; $($json:tt)+) => {{
@@ -23,7 +28,7 @@ macro_rules! ijson {
 /// A hidden helper of `ijson!`.
 #[macro_export]
 macro_rules! ijson_internal {
-    // `?`, which leaves the block and not the caller's function.
+    // `?`, which leaves the block and not the function of the caller.
     (@try $out:lifetime $step:expr) => {
         match $step {
             Ok(done) => done,
@@ -31,7 +36,7 @@ macro_rules! ijson_internal {
         }
     };
 
-    // Items: what comes next is a value, or an expression up to a comma.
+    // Elements: a value follows, or an expression up to a comma.
     (@array $a:ident $c:ident $out:lifetime $list:ident) => {};
     (@array $a:ident $c:ident $out:lifetime $list:ident null $($rest:tt)*) => {
         $crate::ijson_internal!(@item $a $c $out $list (null) $($rest)*);
@@ -65,7 +70,7 @@ macro_rules! ijson_internal {
         $crate::ijson_unexpected!($unexpected)
     };
 
-    // Pairs: the tokens of the key are gathered up to the colon. A comma there, and a colon with no value behind it, is misplaced.
+    // Entries: the tokens of the key are collected up to the colon. A comma there, or a colon without a value, is misplaced.
     (@object $a:ident $c:ident $out:lifetime $pairs:ident () ()) => {};
     (@object $a:ident $c:ident $out:lifetime $pairs:ident ($($key:tt)+) (: null $($rest:tt)*)) => {
         $crate::ijson_internal!(@pair $a $c $out $pairs ($($key)+) (null) $($rest)*);
@@ -132,13 +137,13 @@ macro_rules! ijson_internal {
     };
 }
 
-/// A hidden helper of `ijson!`: no rule takes a token.
+/// A hidden helper of `ijson!`: no rule accepts a token.
 #[macro_export]
 macro_rules! ijson_unexpected {
     () => {};
 }
 
-/// A hidden helper of `ijson!`: what stands behind a colon begins with an expression and a comma, or is refused.
+/// A hidden helper of `ijson!`: the tokens after a colon must begin with an expression and a comma.
 #[macro_export]
 macro_rules! ijson_expect_expr_comma {
     ($value:expr, $($rest:tt)*) => {};

@@ -1,9 +1,11 @@
-//! What no clause says: numbers, texts and their cache, arrays and values, conversions, literals, the errors, and refusals of memory in the
-//! last four. Tables, objects, canonical texts, pointers and all other refusals of memory are tested in `ijson_extra`, and all else that
-//! the program stands on in the program.
+//! Tests beyond the clauses: numbers, strings and their cache, arrays and values, conversions, literals, the errors, and failed allocations
+//! in the last four.
 //!
-//! Where a test is done with a value it calls `drop`, which is one step of the proof. At the end of a scope the proof has a way for each
-//! kind that the value may be of.
+//! `ijson_extra` tests tables, objects, canonical text, pointers and all other failed allocations; `ijson_compact` tests the rest of the
+//! program.
+//!
+//! A test calls `drop` when it is done with a value, which is one step of the proof. At the end of a scope, the proof has a case for each
+//! kind of the value.
 
 mod arrays;
 mod conversions;
@@ -21,17 +23,17 @@ use std::alloc::Global;
 use std::fmt::Debug;
 use std::process::Abort;
 
-/// A text through a cache of its own.
+/// Returns a string, interned in a cache of its own.
 fn key(rt: &impl Abort, alloc: Global, letters: &str) -> IString {
     IString::intern(&mut empty_cache(alloc), letters).expect(rt, "a text")
 }
 
-/// Writes a value in the place of another one, which is dropped here, whatever it is.
+/// Replaces a value. The old one is dropped here, whatever its type.
 fn set<T: Drop>(place: &mut T, value: T) {
     *place = value;
 }
 
-/// Asserts what is shown of something.
+/// Asserts the debug output of a value.
 fn is_shown<T: Debug>(rt: &impl Abort, alloc: Global, shown: &T, want: &str) {
     let text = format!(in alloc; "{shown:?}").expect(rt, "a text");
     assert!(rt; text.as_str() == want, "{text} is not {want}");

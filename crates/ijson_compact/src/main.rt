@@ -1,6 +1,6 @@
 //! Writes the JSON text of standard input to standard output, without white space.
 //!
-//! Tests: `src/tests`, of the program, and of texts, devices and walks over values in the crates that it stands on.
+//! `src/tests` has the tests of the program, and those of texts, devices and whole values in the crates it uses.
 #![tactic(auto)]
 
 ghost use Rattle.std.specs.Prelude.{◌≡◌, OnOk, OnErr, IfSome, IfErr, MatchResult, Err};
@@ -12,16 +12,18 @@ use crate::seeded::SeededState;
 use ijson_json::{CompactError, StreamSink, StreamSource, compact_value, report};
 use ijson_string::StringCache;
 use std::alloc::Global;
+use std::hash::BuildHasher;
 use std::io::{Read, Write};
 use std::process::ExitCode;
-use std::random::RandomSource;
 use std::{io, mem};
 
 mod seeded;
 #[cfg(test)]
 mod tests;
 
-/// The answer, once what was written has been flushed. After Ok it is flushed once, and a flush that fails counts as a failed write.
+/// Flushes the output after `Ok`, and returns the result.
+///
+/// It is flushed once, and a failed flush counts as a failed write.
 fn flushed<F: FnOnce() -> io::Result<()> + Drop>(
     answer: Result<(), CompactError>,
     flush: F,
@@ -35,11 +37,13 @@ fn flushed<F: FnOnce() -> io::Result<()> + Drop>(
     flush().map_err(|_| CompactError::Write)
 }
 
-/// Compacts what the reader gives to the writer, and flushes that. Strings are a stranger's, so their hashes have a random seed,
-/// and no way to have one counts as a failed read. The memory of texts and values is not given back.
-fn compact_stream<R: Read + Drop, W: Write + Drop>(
+/// Compacts the bytes of the reader to the writer, and flushes that.
+///
+/// Input is untrusted, so strings are hashed by `hasher`, which has a random seed; an error in its place counts as a failed read. The
+/// memory of strings and values is not freed.
+fn compact_stream<R: Read + Drop, W: Write + Drop, S: BuildHasher + Drop>(
     alloc: Global,
-    random: &impl RandomSource,
+    hasher: io::Result<S>,
     reader: R,
     writer: W,
 ) -> Result<(), CompactError>
@@ -47,19 +51,19 @@ fn compact_stream<R: Read + Drop, W: Write + Drop>(
     ensures error { IfErr result (λ error.
         IfSome (R.remaining reader) (λ bytes. IsCompactRefusal bytes error)) }
 {
-    let hasher = SeededState::new(random).map_err(|_| CompactError::Read)?;
+    let hasher = hasher.map_err(|_| CompactError::Read)?;
     let mut cache = StringCache::new(alloc, hasher);
     let mut input = StreamSource::new(reader);
     let mut output = StreamSink::new(writer);
     let answer = compact_value(alloc, &mut input, &mut output, &mut cache);
-    // The process ends soon, and its memory goes as a whole: to give back texts and values one by one would take time alone.
+    // The process ends soon and frees its memory as a whole; freeing strings and values one by one would only take time.
     mem::forget(cache);
     let mut written = output.into_inner();
     flushed(answer.map(mem::forget), || written.flush())
 }
 
 fn main(rt: HostRuntime) -> ExitCode {
-    let answer = compact_stream(rt.alloc(), &rt, rt.stdin(), rt.stdout());
+    let answer = compact_stream(rt.alloc(), SeededState::new(&rt), rt.stdin(), rt.stdout());
     let mut errors = StreamSink::new(rt.stderr());
     ExitCode::from(report(&answer, &mut errors))
 }

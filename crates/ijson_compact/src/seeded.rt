@@ -6,14 +6,18 @@ use std::hash::{BuildHasher, FoldHasher, Hasher};
 use std::io;
 use std::random::RandomSource;
 
-/// Makes hashers that took one seed before anything else.
+/// A builder of hashers that start from one seed.
 #[derive(Clone, Copy, Drop)]
 pub(crate) struct SeededState {
     seeded: FoldHasher,
 }
 
 impl SeededState {
-    /// A seed of eight random bytes. The error is that of the system, which had none.
+    /// Creates a state from eight random bytes.
+    ///
+    /// # Errors
+    ///
+    /// Fails if the system has no random bytes.
     pub(crate) fn new(rt: &impl RandomSource) -> io::Result<SeededState>
         ensures { IfOk result (λ state. (seed : List ℕ) × (length seed ≡ 8)
             × (state.seeded ≡ folding.write folding.initial seed)) }

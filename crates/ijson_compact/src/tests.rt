@@ -1,7 +1,8 @@
-//! What no clause says of the crates that the program stands on: walks over values; the words that values feed a hasher; what is written
-//! of texts, where their faults are told, and devices that give and take little, and fail. Tables, objects and refused memory are tested in
-//! `ijson_extra`, numbers, texts and their cache, arrays, values and the texts of faults in `ijson`, and what stands above these crates in
-//! both.
+//! Tests of the crates below the program beyond their clauses: whole values, the words that values feed a hasher, the text written for each
+//! text read, error positions, and devices that move few bytes and fail.
+//!
+//! `ijson_extra` tests tables, objects and failed allocations; `ijson` tests numbers, strings and their cache, arrays, values and error
+//! messages; both test the crates above these.
 
 mod cache;
 mod devices;
@@ -9,6 +10,7 @@ mod equality;
 mod faults;
 mod hashes;
 mod recorder;
+mod requests;
 mod seeds;
 mod texts;
 mod walks;
@@ -26,18 +28,18 @@ fn empty_cache(alloc: Global) -> Cache {
     StringCache::new(alloc, BuildHasherDefault::<FoldHasher>::new())
 }
 
-/// What `text` spells, through a cache of its own.
+/// Parses `text`, with a cache of its own.
 fn parsed(rt: &impl Abort, alloc: Global, text: &str) -> IValue {
     from_json(alloc, &mut empty_cache(alloc), text).expect(rt, text)
 }
 
-/// Asserts what is written of a value.
+/// Asserts the JSON text of a value.
 fn is_written(rt: &impl Abort, alloc: Global, value: &IValue, want: &str) {
     let written = to_json(alloc, value).expect(rt, "a text");
     assert!(rt; written.as_str() == want);
 }
 
-/// What is written of what `text` spells.
+/// Returns the JSON text of the value of `text`.
 fn rewritten(alloc: Global, text: &str) -> Result<String, JsonError> {
     let value = from_json(alloc, &mut empty_cache(alloc), text)?;
     match to_json(alloc, &value) {
@@ -46,7 +48,7 @@ fn rewritten(alloc: Global, text: &str) -> Result<String, JsonError> {
     }
 }
 
-/// `inside` between `count` times `opening` and `count` times `closing`.
+/// Returns `inside` between `count` times `opening` and `count` times `closing`.
 fn nested(
     rt: &impl Abort,
     alloc: Global,

@@ -1,4 +1,4 @@
--- The tokens of a pointer, one after the other.
+-- The tokens of a pointer, one by one.
 use Rattle.std.proofs.Common.{◌≡◌, ◌≢◌, ◌⊎◌, inl, inr, ◌↔◌, IsTrue, ℕ, suc, ◌+◌, ◌<◌, ◌≤◌, drop, is_some, Bool, true, false, List, []}
 use Rattle.std.proofs.Common.{◌∷◌, ◌++◌, eqb, length, get_or, refl, sym, ap, ◌∙◌, arith, Option, Some, None, option_map}
 use mathlib.Core.Bool.{true≢false}
@@ -29,7 +29,7 @@ written_last [] h = refl
 written_last (b ∷ token) h =
     in_token b token (ne_eqb b 47 (h 0 (omega arith))) ∙ ap (in_first b) (written_last token (tail_lacks 47 b token h))
 
--- what comes of a value that was found so far, or of none, and of what is left of the pointer
+-- the result for a value found so far, or none, and the rest of the pointer
 abbrev pub outcome : Option Tree → List ℕ → Option (Option Tree)
 outcome found left = option_map (λ tokens. option_and_then (λ t. followed t tokens) found) (all_meant (written_tokens left))
 
@@ -57,7 +57,7 @@ head_none found token ws e =
     ap (λ o. option_map (λ ts. option_and_then (λ t. followed t ts) found)
     (option_and_then (λ x. option_map (λ ts. x ∷ ts) (all_meant ws)) o)) e
 
--- a token that stands before a `/`
+-- a token before a `/`
 pub token_meant : (found : Option Tree) (text token rest m : List ℕ) → text ≡ token ++ 47 ∷ rest → LacksByte 47 token → meant token ≡ Some m
     → outcome found text ≡ outcome (stepped found m) rest
 token_meant found text token rest m is h e = ap (of_list found) (ap written_tokens is ∙ written_split token rest h)
@@ -81,7 +81,7 @@ last_meant found token m h e = ap (of_list found) (written_last token h) ∙ hea
 pub last_none : (found : Option Tree) (token : List ℕ) → LacksByte 47 token → meant token ≡ None → outcome found token ≡ None
 last_none found token h e = ap (of_list found) (written_last token h) ∙ head_none found token [] e
 
--- ---- what a token means
+-- ---- the meaning of a token
 pub tilde : (b : ℕ) (text : List ℕ) → eqb b 126 ≡ false → meant (b ∷ text) ≡ option_map (λ token. b ∷ token) (meant text)
 tilde b text e = ap (λ (r : Bool). elim r [ true ↦ escape_meant text | false ↦ option_map (λ token. b ∷ token) (meant text) ]) e
 
@@ -96,7 +96,7 @@ first_of None = 0
 first_of (Some []) = 0
 first_of (Some (b ∷ bs)) = b
 
--- nothing but the empty text means the empty key
+-- only the empty text means the empty key
 some_longer : (b : ℕ) (o : Option (List ℕ)) → option_map (λ token. b ∷ token) o ≡ Some [] → ⊥
 some_longer b None e = absurd (cc)
 some_longer b (Some t) e = absurd (cc)
@@ -117,7 +117,7 @@ meant_longer b text e = by_tests (λ o. o ≡ Some [] → ⊥) (eqb b 126) _ _ (
 none_zero : (n : ℕ) → false ≡ (suc n == 0)
 none_zero n = grind (arith, nat_tests)
 
--- where no byte can be taken any more
+-- if no more byte can be split off
 pub none_left : (left : List ℕ) → (meant left ≡ None) ⊎ (left ≡ []) → is_some (meant left) ≡ (length left == 0)
 none_left [] h = refl
 none_left (b ∷ text) (inl e) = ap is_some e ∙ none_zero (length text)
@@ -127,14 +127,14 @@ pub all_left : (left : List ℕ) (r : Bool) → r ≡ (length left == 0) → IsT
 all_left [] r e = (λ t. refl, λ f. e)
 all_left (b ∷ text) r e = (λ t. absurd (true≢false (sym t ∙ e ∙ sym (none_zero (length text)))), λ f. absurd (meant_longer b text f))
 
--- no byte is left for one of the key's
+-- the rest has no byte for one of the key's
 pub byte_none : (P : Type 0) (key left : List ℕ) (i : ℕ) → i < length key → (meant left ≡ None) ⊎ (left ≡ [])
     → P ↔ (meant left ≡ Some (drop i key)) → P → ⊥
 byte_none P key left i l (inl e) both f = let g = sym e ∙ both.0 f in absurd (cc)
 byte_none P key left i l (inr e) both f =
     let g = ap meant (sym e) ∙ both.0 f ∙ ap (λ x. Some x) (drop_more key i 0 l) in absurd (cc)
 
--- no byte of the key is left
+-- the key has no more bytes
 pub key_ended : (P : Type 0) (key left : List ℕ) (i : ℕ) (r : Bool) → length key ≤ i → r ≡ (length left == 0)
     → P ↔ (meant left ≡ Some (drop i key)) → IsTrue r ↔ P
 key_ended P key left i r h e both =

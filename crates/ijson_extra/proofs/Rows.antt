@@ -1,4 +1,4 @@
--- Worked rows of the definitions of canonical texts and of pointers.
+-- Examples of the definitions of canonical text and of pointers.
 use Rattle.std.proofs.Common.{◌≡◌, true, false, [], ◌∷◌, refl, Some, None}
 use Rattle.std.specs.Prelude.{pos, negsuc, codes, ℤ, Bool}
 use Rattle.ijson_value.specs.Tree.{Tree, number, string, array, object, no_items, item, no_members, member}

@@ -1,5 +1,5 @@
--- What a value is once the value inside it that a pointer names is given back: what was left there stands at the pointer, and
--- nothing else is changed. This project's own.
+-- A value after a mutable borrow at a pointer ends: the last value written is at the pointer, and nothing else has changed. This project's
+-- own.
 use Rattle.std.specs.Prelude.{◌≡◌, ℕ, List, Option, Some, None, Result}
 use Rattle.std.specs.Borrow.{LendsSoOk, MutBor, Fml}
 use Rattle.ijson_value.specs.NodeValue.{node_value}
@@ -12,13 +12,13 @@ use Rattle.ijson_extra.specs.Pointer.{resolved_with}
 use Rattle.ijson_extra.specs.declared.pointer.lend.Unresolved.{Unresolved}
 use Rattle.ijson_extra.specs.declared.pointer.lend.Unresolved.TheVariants.{Nothing, NoPointer}
 
--- the value at a pointer; or nothing: then the value is as it was
+-- the value at a pointer; if there is none, the outer value is unchanged
 abbrev pub LendsResolved : MutBor WellFormed → List ℕ → Result (MutBor Destructured) Unresolved → Fml
 LendsResolved s pointer r =
     LendsSoOk value.the_row node.the_row s r (λ n w. n.tree ≡ resolved_with s.now.tree pointer (node_value w).tree)
     (λ n. n.tree ≡ s.now.tree)
 
--- what such an answer says of the pointer
+-- the meaning of each error for the pointer
 abbrev pub unresolved : Unresolved → Option (Option Tree)
 unresolved Nothing = Some None
 unresolved (NoPointer why) = None

@@ -1,18 +1,18 @@
--- What a JSON Pointer leads to (RFC 6901, sections 3 and 4).
+-- The value that a JSON Pointer refers to (RFC 6901, sections 3 and 4).
 use Rattle.std.specs.Prelude.{ℕ, Bool, true, false, ◌&&◌, ◌==◌, not, List, [], ◌∷◌, Option, Some, None, option_map, option_and_then}
 use Rattle.std.specs.Str.{all_ascii_digits}
 use Rattle.std.specs.Str.Parse.{digits_value}
 use Rattle.ijson_value.specs.Step.{Step, by_position, by_key, tree_at, tree_with}
 use Rattle.ijson_value.specs.Tree.{Tree, array, object}
 
--- ---- the tokens of a text (section 3): each stands behind a `/`, which is 47
+-- ---- the tokens of a text (section 3): each follows a `/`, which is 47
 
--- a byte more in front of the first token
+-- one more leading byte of the first token
 abbrev pub in_first : ℕ → List (List ℕ) → List (List ℕ)
 in_first b [] = []
 in_first b (token ∷ more) = (b ∷ token) ∷ more
 
--- as they are written behind the first `/`
+-- the tokens as written, after the first `/`
 abbrev pub written_tokens : List ℕ → List (List ℕ)
 written_tokens [] = [] ∷ []
 written_tokens (b ∷ text) =
@@ -21,7 +21,7 @@ written_tokens (b ∷ text) =
       | false ↦ in_first b (written_tokens text)
     ]
 
--- ---- what a token means (section 4): `~`, which is 126, stands in `~0` for itself and in `~1` for `/`, and nowhere else
+-- ---- the meaning of a token (section 4): `~`, which is 126, is written `~0`, `/` is written `~1`, and no other `~` is valid
 abbrev mutual
   pub meant : List ℕ → Option (List ℕ)
   meant [] = Some []
@@ -31,7 +31,7 @@ abbrev mutual
         | false ↦ option_map (λ token. b ∷ token) (meant text)
       ]
 
-  -- behind a `~`
+  -- after a `~`
   pub escape_meant : List ℕ → Option (List ℕ)
   escape_meant [] = None
   escape_meant (b ∷ text) =
@@ -48,7 +48,7 @@ all_meant [] = Some []
 all_meant (written ∷ more) =
     option_and_then (λ token. option_map (λ tokens. token ∷ tokens) (all_meant more)) (meant written)
 
--- the tokens of a pointer, or none where the text is no pointer
+-- the tokens of a pointer, or none if the text is not a pointer
 abbrev pub tokens_of : List ℕ → Option (List (List ℕ))
 tokens_of [] = Some []
 tokens_of (b ∷ text) =
@@ -57,15 +57,15 @@ tokens_of (b ∷ text) =
       | false ↦ None
     ]
 
--- ---- what a token leads to (section 4)
+-- ---- the value that a token refers to (section 4)
 
--- `0`, or digits without a zero in front
+-- `0`, or digits without a leading zero
 abbrev pub names_position : List ℕ → Bool
 names_position [] = false
 names_position (b ∷ []) = all_ascii_digits (b ∷ [])
 names_position (b ∷ c ∷ token) = not (b == 48) && all_ascii_digits (b ∷ c ∷ token)
 
--- the position that a token names
+-- the index that a token denotes
 abbrev pub position_named : List ℕ → Option ℕ
 position_named token =
     elim (names_position token) [
@@ -73,13 +73,13 @@ position_named token =
       | false ↦ None
     ]
 
--- the step that a token names in a value: to the key of an object, or to a position of an array
+-- the step that a token denotes in a value: to the key of an object, or to an index of an array
 abbrev pub step_named : Tree → List ℕ → Option Step
 step_named (array items) token = option_map by_position (position_named token)
 step_named (object _) token = Some (by_key token)
 step_named _ token = None
 
--- the value that a token names in a value
+-- the value that a token refers to in a value
 abbrev pub child_at : Tree → List ℕ → Option Tree
 child_at t token = option_and_then (tree_at t) (step_named t token)
 
@@ -91,19 +91,19 @@ stepped_with t (Some step) u = tree_with t step u
 abbrev pub child_with : Tree → List ℕ → Tree → Tree
 child_with t token u = stepped_with t (step_named t token) u
 
--- ---- the whole
+-- ---- the whole pointer
 
 abbrev pub followed : Tree → List (List ℕ) → Option Tree
 followed t [] = Some t
 followed t (token ∷ more) = option_and_then (λ u. followed u more) (child_at t token)
 
--- the tree at a pointer, or none; and nothing at all where the text is no pointer
+-- the tree at a pointer, or none; and nothing at all if the text is not a pointer
 abbrev pub resolved : Tree → List ℕ → Option (Option Tree)
 resolved t pointer = option_map (followed t) (tokens_of pointer)
 
--- ---- another value there
+-- ---- replacing the value
 
--- a tree that is there, with another one where the tokens lead to
+-- a tree, if any, with another one where the tokens lead
 abbrev pub followed_with : Option Tree → List (List ℕ) → Tree → Tree
 followed_with t [] u = u
 followed_with None (token ∷ more) u = u
@@ -113,6 +113,6 @@ abbrev pub tokens_with : Tree → Option (List (List ℕ)) → Tree → Tree
 tokens_with t None u = t
 tokens_with t (Some tokens) u = followed_with (Some t) tokens u
 
--- the tree with another one at a pointer that names a tree in it, and all else as it was
+-- the tree with another one at a pointer that refers to a tree in it; everything else is unchanged
 abbrev pub resolved_with : Tree → List ℕ → Tree → Tree
 resolved_with t pointer u = tokens_with t (tokens_of pointer) u

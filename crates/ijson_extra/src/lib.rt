@@ -1,6 +1,6 @@
-//! Calls over values that stand on the public contracts of the other crates alone: canonical texts and JSON Pointer.
+//! Functions over values that use only the public contracts of the other crates: canonical text and JSON Pointer.
 //!
-//! Tests: `src/tests`, and with them those of tables, of objects and of refused memory in the crates below.
+//! `src/tests` also has the tests of tables, objects and failed allocations of the crates below.
 #![tactic(auto)]
 
 pub mod canonical;

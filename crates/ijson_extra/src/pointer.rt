@@ -1,4 +1,4 @@
-//! JSON Pointer (RFC 6901): the value inside a value that a text names.
+//! JSON Pointer (RFC 6901): finding a value inside a value by a path.
 ghost use Rattle.std.specs.Prelude.{◌≡◌, ◌<◌, ◌≤◌, ◌⊎◌, ◌∷◌, ℕ, List, [], length, Some, None, option_map, option_and_then};
 ghost use Rattle.std.specs.Prelude.{is_some, Contains, IfOk, IfErr, IfSome, IfNone, IsTrue, ◌↔◌, slice_get};
 ghost use Rattle.std.specs.Str.{all_ascii_digits};
@@ -14,25 +14,32 @@ use ijson_value::value::IValue;
 pub use lend::{Unresolved, resolve_mut, resolve_opened_mut};
 use thiserror::Error;
 
-/// Why a pointer names nothing at all.
+/// Why a pointer is invalid.
 #[derive(Clone, Copy, PartialEq, Eq, Debug, Drop, Error)]
 pub enum PointerError {
-    /// The text is no JSON Pointer: it isn't empty and doesn't begin with `/`, or a `~` in it is followed by neither `0` nor
-    /// `1`.
+    /// The text is not a JSON Pointer.
+    ///
+    /// It is not empty and does not begin with `/`, or a `~` in it is not followed by `0` or `1`.
     #[error("not a JSON Pointer")]
     Syntax,
 }
 
-/// The value that `pointer` names inside `value`, as RFC 6901 has it: the value itself where the text is empty. None where it
-/// names nothing. It takes no memory.
+/// Returns the value that `pointer` refers to inside `value` (RFC 6901), or `None` if there is none.
 ///
-/// Each token takes one look-up by its hash, or one position; but in an object a token with `~` is compared with the keys, one
-/// after the other. The whole text is looked at, also behind a token that names nothing.
+/// The empty pointer refers to `value` itself. It does not allocate.
 ///
 /// ```
 /// let port = resolve(&value, "/servers/0/port")?; // Some of 80 in {"servers":[{"port":80}]}, where "/servers/1" is None
-/// let slash = resolve(&value, "/a~1b")?; // beside the key a/b, as ~1 means / and ~0 means ~
+/// let slash = resolve(&value, "/a~1b")?; // the value of the key a/b, as ~1 means / and ~0 means ~
 /// ```
+///
+/// # Errors
+///
+/// Fails if `pointer` is not a JSON Pointer, even if the invalid token follows one that refers to nothing.
+///
+/// # Cost
+///
+/// One hash lookup or one index for each token; but in an object, a token with `~` is compared with the keys sequentially.
 pub fn resolve<'a>(value: &'a IValue, pointer: &str) -> Result<Option<&'a IValue>, PointerError>
     ensures found { IfOk result (λ found.
         Some (option_map (λ inner. inner.now.tree) found) ≡ resolved value.now.tree pointer.now) }
@@ -52,7 +59,7 @@ pub fn resolve<'a>(value: &'a IValue, pointer: &str) -> Result<Option<&'a IValue
     step(found, left)
 }
 
-/// One step further: the value that a token names in the value that was found so far.
+/// Returns the value that a token refers to in the value found so far.
 fn step<'a>(found: Option<&'a IValue>, token: &str) -> Result<Option<&'a IValue>, PointerError>
     ensures found { IfOk result (λ inner. (m : List ℕ) × (meant token.now ≡ Some m)
         × (option_map (λ v. v.now.tree) inner
@@ -68,8 +75,9 @@ fn step<'a>(found: Option<&'a IValue>, token: &str) -> Result<Option<&'a IValue>
     }
 }
 
-/// The byte that stands first in a token that is written so, and what is written behind it. None where nothing is written, or
-/// a `~` that stands for nothing.
+/// Splits off the first byte that a written token means.
+///
+/// Returns `None` if nothing is left, or only a `~` that is not an escape.
 fn split_meant(written: &[u8]) -> Option<(u8, &[u8])>
     ensures some { IfSome result (λ taken. (length taken.1.now < length written.now)
         × (meant written.now ≡ option_map (λ token. taken.0 ∷ token) (meant taken.1.now))) }
@@ -84,7 +92,7 @@ fn split_meant(written: &[u8]) -> Option<(u8, &[u8])>
     }
 }
 
-/// Whether each `~` of a token stands for something.
+/// Returns `true` if each `~` of a token is part of an escape.
 #[tactic(auto, using(crate::proofs::Pointers::none_left))]
 fn is_token(token: &str) -> bool
     ensures { result ≡ is_some (meant token.now) }
@@ -96,7 +104,7 @@ fn is_token(token: &str) -> bool
     left.is_empty()
 }
 
-/// Whether a token means a key. It is compared as it is written, byte by byte.
+/// Returns `true` if a token means a key. It is compared as written, byte by byte.
 fn means(token: &str, key: &str) -> bool
     ensures { IsTrue result ↔ (meant token.now ≡ Some key.now) }
 {
@@ -113,7 +121,7 @@ fn means(token: &str, key: &str) -> bool
     left.is_empty()
 }
 
-/// The value that a token names in a value.
+/// Returns the value that a token refers to in a value.
 fn child<'a>(value: &'a IValue, token: &str) -> Option<&'a IValue>
     ensures { (m : List ℕ) → meant token.now ≡ Some m
         → option_map (λ v. v.now.tree) result ≡ child_at value.now.tree m }
@@ -124,7 +132,7 @@ fn child<'a>(value: &'a IValue, token: &str) -> Option<&'a IValue>
     member(value.as_object()?, token)
 }
 
-/// The value beside the key that a token means.
+/// Returns the value of the key that a token means.
 fn member<'a>(object: &'a IObject, token: &str) -> Option<&'a IValue>
     ensures { (m : List ℕ) → meant token.now ≡ Some m
         → option_copied result ≡ lookup m object.now.pairs }
@@ -138,8 +146,9 @@ fn member<'a>(object: &'a IObject, token: &str) -> Option<&'a IValue>
     }
 }
 
-/// The position of the key that a token with `~` means, and the value beside it. Each key is compared with the token as it is
-/// written. A token without `~` is a key itself, which is looked up.
+/// Returns the index and the value of the key that a token with `~` means.
+///
+/// Each key is compared with the token as written. A token without `~` is a key itself, which can be looked up.
 fn find_member<'a>(object: &'a IObject, token: &str) -> Option<(usize, &'a IValue)>
     requires { Contains token.now 126 }
     ensures position { option_map (λ found. found.0) result
@@ -147,7 +156,7 @@ fn find_member<'a>(object: &'a IObject, token: &str) -> Option<(usize, &'a IValu
     ensures value { option_map (λ found. found.1.now) result
         ≡ option_and_then (λ m. lookup m object.now.pairs) (meant token.now) }
 {
-    // The count of the keys is a `usize`, so the position is one, too.
+    // The number of keys is a `usize`, so the index is one too.
     let _count = object.len();
     let mut position: usize = 0;
     for (key, value) in object.iter() {
@@ -159,7 +168,7 @@ fn find_member<'a>(object: &'a IObject, token: &str) -> Option<(usize, &'a IValu
     None
 }
 
-/// The item at the position that a token names.
+/// Returns the element at the index that a token denotes.
 fn item<'a>(items: &'a [IValue], token: &str) -> Option<&'a IValue>
     ensures { option_map (λ v. v.now.tree) result
         ≡ option_map tree_of (option_and_then (slice_get items.now) (position_named token.now)) }
@@ -170,7 +179,7 @@ fn item<'a>(items: &'a [IValue], token: &str) -> Option<&'a IValue>
     }
 }
 
-/// The position that a token names, where that is below a count.
+/// Returns the index that a token denotes, if it is below `count`.
 fn position_below(token: &str, count: usize) -> Option<usize>
     ensures some { IfSome result (λ position. (position_named token.now ≡ Some position) × (position < count)) }
     ensures none { IfNone result ((position : ℕ) → position_named token.now ≡ Some position → count ≤ position) }
@@ -178,7 +187,7 @@ fn position_below(token: &str, count: usize) -> Option<usize>
     if !is_position(token.as_bytes()) {
         return None;
     }
-    // What no `usize` holds is past every count.
+    // A number that does not fit a `usize` exceeds any count.
     let Ok(position) = token.parse::<usize>() else {
         return None;
     };
@@ -189,7 +198,7 @@ fn position_below(token: &str, count: usize) -> Option<usize>
     }
 }
 
-/// Whether a text is `0`, or digits without a zero in front.
+/// Returns `true` for `0`, or digits without a leading zero.
 fn is_position(token: &[u8]) -> bool
     ensures { result ≡ names_position token.now }
 {
@@ -200,7 +209,7 @@ fn is_position(token: &[u8]) -> bool
     }
 }
 
-/// Whether each byte is a digit.
+/// Returns `true` if each byte is a digit.
 fn all_digits(bytes: &[u8]) -> bool
     ensures { result ≡ all_ascii_digits bytes.now }
 {

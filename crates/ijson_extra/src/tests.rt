@@ -1,6 +1,8 @@
-//! What no clause says of tables, objects, canonical texts and pointers, and refusals of memory in this crate and in those below it.
+//! Tests of tables, objects, canonical text and pointers beyond their clauses, and of failed allocations in this crate and those below.
 
-/// What a call answers, which is made again where memory is refused. That is told by `AllocError`, or else by the error that is given.
+/// The result of a call, which is repeated if an allocation fails.
+///
+/// The error for that is `AllocError`, or the one given.
 macro_rules! granted {
     ($rt:expr; $call:expr) => {
         match $call {
@@ -42,7 +44,7 @@ fn empty_cache(alloc: Global) -> Cache {
     StringCache::new(alloc, BuildHasherDefault::<FoldHasher>::new())
 }
 
-/// A text through a cache of its own.
+/// Returns a string, interned in a cache of its own.
 fn key(rt: &impl Abort, alloc: Global, letters: &str) -> IString {
     let mut cache = empty_cache(alloc);
     let text = IString::intern(&mut cache, letters).expect(rt, "a text");
@@ -50,19 +52,19 @@ fn key(rt: &impl Abort, alloc: Global, letters: &str) -> IString {
     text
 }
 
-/// Puts a pair whose key is not there into an object that has room for it.
+/// Inserts an entry with a new key into an object that has capacity for it.
 fn insert_new(rt: &impl Abort, object: &mut IObject, key: IString, value: IValue) {
     let before = object.insert(key, value).expect(rt, "room");
     assert!(*rt; before.is_none());
     drop(before);
 }
 
-/// Writes a value in the place of another one, which is dropped here, whatever it is.
+/// Replaces a value. The old one is dropped here, whatever its type.
 fn set<T: Drop>(place: &mut T, value: T) {
     *place = value;
 }
 
-/// What `text` spells, through a cache of its own.
+/// Parses `text`, with a cache of its own.
 fn parsed(rt: &impl Abort, alloc: Global, text: &str) -> IValue {
     let mut cache = empty_cache(alloc);
     let value = granted!(rt; JsonError::Memory; from_json(alloc, &mut cache, text));
@@ -70,13 +72,13 @@ fn parsed(rt: &impl Abort, alloc: Global, text: &str) -> IValue {
     value
 }
 
-/// Asserts what is written of a value.
+/// Asserts the JSON text of a value.
 fn is_written(rt: &impl Abort, alloc: Global, value: &IValue, want: &str) {
     let written = granted!(rt; to_json(alloc, value));
     assert!(*rt; written.as_str() == want);
 }
 
-/// Asserts what is shown of something.
+/// Asserts the debug output of a value.
 fn is_shown<T: Debug>(rt: &impl Abort, alloc: Global, shown: &T, want: &str) {
     let text = format!(in alloc; "{shown:?}").expect(rt, "a text");
     assert!(*rt; text.as_str() == want, "{text} is not {want}");

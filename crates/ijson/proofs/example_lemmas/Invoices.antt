@@ -1,4 +1,4 @@
--- A sum over the items of an array, by position: one amount more is added to what is there, or does not fit there.
+-- A sum over the elements of an array, by index: one more amount is added, or does not fit.
 use Rattle.std.proofs.Common.{◌≡◌, ℕ, ◌+◌, ◌<◌, ℤ, ◌+ℤ◌, FitsSigned, List, drop, length, get_or, subst, sym, inl, inr}
 use Rattle.std.specs.Int.{w64}
 use Rattle.ijson_value.proofs.Walks.{front}

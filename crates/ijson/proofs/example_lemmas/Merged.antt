@@ -1,4 +1,4 @@
--- A patch gone through member by member: what its first member makes of the pairs, and then the rest.
+-- A patch processed member by member: the effect of its first member on the entries, and then the rest.
 use Rattle.std.proofs.Common.{◌≡◌, ◌≢◌, ℕ, List, ◌∷◌, Option, Some, None, refl, sym, ap, ◌∙◌}
 use Rattle.std.specs.Option.{unwrap_or}
 use Rattle.std.specs.Prelude.{option_map}
@@ -13,7 +13,7 @@ use Rattle.ijson_value.specs.laws.MemberTrees.{put-members, shift_out-members}
 use Rattle.ijson_value.specs.laws.Steps.{value_at}
 use Rattle.ijson.specs.examples.MergePatch.{members_in, changed, merged, merged_into}
 
--- what null takes out, and what any other value puts
+-- null removes, and any other value puts
 changed-null : (ms : List (List ℕ × Tree)) (key : List ℕ) (patch value : Tree) → kind_of patch ≡ Null
     → changed ms key patch value ≡ shift_out_key key ms
 changed-null ms key null value h = refl
@@ -24,7 +24,7 @@ changed-put : (ms : List (List ℕ × Tree)) (key : List ℕ) (patch value : Tre
 changed-put ms key null value h = absurd (h refl)
 changed-put ms key _ value h = refl
 
--- the tree of what stands beside a key, null where nothing does
+-- the tree of the value of a key, null if it is missing
 tree-or_null : (found : Option WellFormed) → (unwrap_or found null_value).tree ≡ unwrap_or (option_map tree_of found) null
 tree-or_null None = refl
 tree-or_null (Some v) = refl
@@ -33,7 +33,7 @@ beside : (ps : List (List ℕ × WellFormed)) (key : List ℕ)
     → (unwrap_or (lookup key ps) null_value).tree ≡ unwrap_or (lookup key (members_in (object_tree ps))) null
 beside ps key = tree-or_null (lookup key ps) ∙ ap (λ o. unwrap_or o null) (value_at ps key)
 
--- what the rest of a patch makes of the pairs, once its first member took one out
+-- the effect of the rest of a patch, after its first member removed an entry
 pub one_taken_out : (ps new rest : List (List ℕ × WellFormed)) (key : List ℕ) (v : WellFormed) → kind_of v.tree ≡ Null
     → new ≡ shift_out_key key ps
     → merged_into (members_in (object_tree new)) (pair_trees rest)
@@ -44,7 +44,7 @@ one_taken_out ps new rest key v is_null left =
     (ap (λ qs. members_in (object_tree qs)) left ∙ shift_out-members ps key
     ∙ sym (changed-null ms key v.tree (merged (unwrap_or (lookup key ms) null) v.tree) is_null))
 
--- and once its first member put one
+-- and after its first member put one
 pub one_put : (ps new rest : List (List ℕ × WellFormed)) (key : List ℕ) (v old w : WellFormed) → kind_of v.tree ≢ Null
     → old ≡ unwrap_or (lookup key ps) null_value → w.tree ≡ merged old.tree v.tree → new ≡ put ps key w
     → merged_into (members_in (object_tree new)) (pair_trees rest)

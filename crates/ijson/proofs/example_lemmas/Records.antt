@@ -1,4 +1,4 @@
--- Items with no id, counted one after the other.
+-- Counting the elements without an id, one by one.
 use Rattle.std.proofs.Common.{◌≡◌, ℕ, suc, ◌+◌, ◌<◌, List, length, drop, get_or, refl, sym, subst, arith, inl, inr}
 use Rattle.ijson_value.specs.WellFormed.{WellFormed, item_trees}
 use Rattle.ijson.specs.examples.Records.{HasId, LackId}

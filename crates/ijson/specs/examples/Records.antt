@@ -1,4 +1,4 @@
--- Records with an id, and how many items of an array are none.
+-- Records with an id, and the number of elements of an array that are none.
 use Rattle.std.specs.Prelude.{◌≡◌, ◌⊎◌, ◌<◌, ◌^◌, ℕ, suc, pos, Some, codes}
 use Rattle.ijson_value.specs.Integers.{HasInteger}
 use Rattle.ijson_value.specs.Step.{by_key, tree_at}
@@ -12,13 +12,13 @@ pub record HasId (t : Tree) : Type 0 where
   pub fits : number < 2 ^ 64
   pub value : HasInteger id (pos number)
 
--- so many of these items have no id
+-- `count` of these elements have no id
 abbrev pub LackId : Items → ℕ → Type 0
 LackId no_items count = count ≡ 0
 LackId (item t ts) count =
     (HasId t × LackId ts count) ⊎ ((HasId t → ⊥) × (rest : ℕ) × (count ≡ suc rest) × LackId ts rest)
 
--- an array in which so many items have no id
+-- an array in which `count` elements have no id
 abbrev pub RefusesSoMany : Tree → ℕ → Type 0
 RefusesSoMany (array ts) count = LackId ts count
 RefusesSoMany _ count = ⊥

@@ -1,4 +1,4 @@
-//! A key of a value: the keys of two values are equal exactly where the values are.
+//! A key of a value: the keys of two values are equal exactly if the values are.
 ghost use Rattle.std.specs.Prelude.{◌≡◌, ◌↔◌, IfOk, IsTrue};
 ghost use Rattle.std.specs.String.{string_bytes};
 ghost use Rattle.ijson_extra.specs.Canonical.{canonical};
@@ -11,13 +11,13 @@ use crate::value::IValue;
 use std::alloc::{AllocError, Global};
 use std::process::Abort;
 
-/// A text that stands for a value and for those that are equal to it.
+/// A text that represents a value and all values equal to it.
 #[derive(Drop, PartialEq, Eq)]
 struct CanonicalKey {
     text: String,
 }
 
-/// The key of a value.
+/// Returns the key of a value.
 fn key_of(alloc: Global, value: &IValue) -> Result<CanonicalKey, AllocError>
     ensures text { IfOk result (λ key. string_bytes key.text ≡ canonical value.now.tree) }
     ensures equal { IfOk result (λ key. (other : WellFormed)
@@ -27,7 +27,7 @@ fn key_of(alloc: Global, value: &IValue) -> Result<CanonicalKey, AllocError>
     Ok(CanonicalKey { text })
 }
 
-/// Whether two values have one key, which is whether they are equal.
+/// Returns `true` if two values have the same key, so if they are equal.
 fn same_key(alloc: Global, a: &IValue, b: &IValue) -> Result<bool, AllocError>
     ensures { IfOk result (λ same. IsTrue same ↔ Same a.now.tree b.now.tree) }
 {
@@ -49,7 +49,7 @@ static PAIRS: [(&str, &str, bool); 5] = [
     ("1e400", "10e399", true),
 ];
 
-/// Asserts whether the values of two texts have one key.
+/// Asserts whether the values of two texts have the same key.
 fn have_one_key(rt: &impl Abort, alloc: Global, a: &str, b: &str, want: bool) {
     let a = parsed(rt, alloc, a);
     let b = parsed(rt, alloc, b);

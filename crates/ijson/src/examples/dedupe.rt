@@ -1,4 +1,4 @@
-//! A list without its repeats. The set compares values by `==`, and finds them by the hash that agrees with it.
+//! A list without its duplicates. The set compares values by `==`, and finds them by the hash that agrees with it.
 ghost use Rattle.std.specs.Prelude.{◌≡◌, IfOk};
 ghost use Rattle.std.specs.List.{IsDistinct};
 ghost use Rattle.ijson_value.specs.SameTest.{same};
@@ -11,8 +11,10 @@ use indexmap::IndexSet;
 use std::alloc::{AllocError, Global};
 use std::process::Abort;
 
-/// The items that are equal to no earlier one, in their order. No two of them are equal, and each item is equal to one of them. No
-/// clause says the order, nor which of several equal items stays; the test shows both.
+/// Returns the elements that equal no earlier one, in order.
+///
+/// No two of them are equal, and each element equals one of them. The clauses do not fix the order, nor which of several equal elements is
+/// kept; the test shows both.
 fn without_repeats(alloc: Global, items: IArray) -> Result<IArray, AllocError>
     ensures distinct { IfOk result (λ kept. IsDistinct (λ a b. same a.tree b.tree) kept.items) }
     ensures each { IfOk result (λ kept. (v : WellFormed) → has_equal v kept.items ≡ has_equal v items.items) }
@@ -26,7 +28,7 @@ fn without_repeats(alloc: Global, items: IArray) -> Result<IArray, AllocError>
     Ok(kept)
 }
 
-/// What is left of the list that a text spells.
+/// Returns the rest of the list that a text spells.
 fn left_of(rt: &impl Abort, alloc: Global, text: &str) -> IValue {
     let items = parsed(rt, alloc, text).into_array().expect(rt, "an array");
     IValue::from(without_repeats(alloc, items).expect(rt, "memory"))

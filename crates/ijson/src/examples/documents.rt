@@ -8,7 +8,7 @@ use indexmap::IndexSet;
 use std::alloc::AllocFailed;
 use std::process::Abort;
 
-/// The position of the document that is equal to this one.
+/// Returns the index of the document that equals this one.
 fn find(documents: &IndexSet<IValue>, document: &IValue) -> Option<usize>
     ensures some { IfSome result (λ position. StandsAt documents.now.keys document.now.tree position) }
     ensures none { IfNone result ((position : ℕ) → StandsAt documents.now.keys document.now.tree position → ⊥) }
@@ -16,8 +16,11 @@ fn find(documents: &IndexSet<IValue>, document: &IValue) -> Option<usize>
     documents.get_index_of(document)
 }
 
-/// Puts a document last where none is equal to it, and answers where the equal one stands, which may be this one. Where there is no room
-/// for it, the document comes back and the store is as it was.
+/// Appends a document unless an equal one exists, and returns the index of the one stored.
+///
+/// # Errors
+///
+/// Returns the document if there is no capacity for it. The store stays as it was.
 fn store(documents: &mut IndexSet<IValue>, document: IValue) -> Result<usize, AllocFailed<IValue>>
     ensures found { IfOk result (λ position. StandsAt documents.new.keys document.tree position) }
     ensures stores { OnOk result (Stores documents.old.keys document documents.new.keys) }
@@ -28,7 +31,7 @@ fn store(documents: &mut IndexSet<IValue>, document: IValue) -> Result<usize, Al
     Ok(position)
 }
 
-/// Texts that are stored one after the other, and the position that each is told.
+/// Texts stored in order, and the index returned for each.
 static STORED: [(&str, usize); 6] = [
     ("{\"k\":2,\"l\":[1,{}]}", 0),
     ("[1,2]", 1),
@@ -38,13 +41,13 @@ static STORED: [(&str, usize); 6] = [
     ("{\"k\":2,\"l\":[1,null]}", 3),
 ];
 
-/// Asserts the position that a document is told.
+/// Asserts the index returned for a document.
 fn is_stored(rt: &impl Abort, documents: &mut IndexSet<IValue>, document: IValue, want: usize) {
     let position = store(documents, document).expect(rt, "room");
     assert!(rt; position == want);
 }
 
-/// Asserts where a document is found.
+/// Asserts the index at which a document is found.
 fn is_found(rt: &impl Abort, documents: &IndexSet<IValue>, document: IValue, want: Option<usize>) {
     assert!(rt; find(documents, &document) == want);
     drop(document);

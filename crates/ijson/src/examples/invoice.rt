@@ -11,15 +11,15 @@ use crate::IValue;
 /// Why there is no total.
 #[derive(Clone, Copy, Debug, Drop, PartialEq, Eq)]
 enum TotalError {
-    /// The value is no array.
+    /// The value is not an array.
     NoArray,
-    /// The line at this position has no amount, or one that is no whole number of 64 bits.
+    /// The line at this index has no amount, or one that is not a whole number of 64 bits.
     NoAmount(usize),
-    /// The sum of the amounts up to some line is no `i64`, though that of all may be one.
+    /// The sum of the amounts up to some line is not an `i64`, even if that of all is.
     TooLarge,
 }
 
-/// The amount of a line of an invoice.
+/// Returns the amount of a line of an invoice.
 fn amount_of(line: &IValue) -> Option<i64>
     ensures some { IfSome result (λ z. HasAmount line.now.tree z) }
     ensures none { IfNone result ((z : ℤ) → FitsSigned w64 z → HasAmount line.now.tree z → ⊥) }
@@ -30,7 +30,7 @@ fn amount_of(line: &IValue) -> Option<i64>
     line.get("amount")?.to_i64()
 }
 
-/// The sum of the amounts of the lines in an array.
+/// Returns the sum of the amounts of the lines in an array.
 fn invoice_total(records: &IValue) -> Result<i64, TotalError>
     ensures total { IfOk result (λ sum. IsTotal records.now.tree sum) }
     ensures no_array { result ≡ Err TotalError.NoArray → kind_of records.now.tree ≢ Array }

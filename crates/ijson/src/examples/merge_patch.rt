@@ -1,4 +1,4 @@
-//! JSON Merge Patch (RFC 7396): a patch is a document that looks like what it changes, with null beside what is to go.
+//! JSON Merge Patch (RFC 7396): a patch has the structure of the document it changes, with null for members to remove.
 ghost use Rattle.std.specs.Prelude.{◌≡◌, IfOk};
 ghost use Rattle.ijson.specs.examples.MergePatch.{merged, members_in};
 ghost use Rattle.ijson_value.specs.Values.{object_tree};
@@ -9,8 +9,12 @@ use std::alloc::{AllocError, Global};
 use std::mem;
 use std::process::Abort;
 
-/// What `patch` makes of `target`. It is refused where there was no memory for a copy of a part of the patch or for one more pair, and
-/// where an object has 2^56 pairs already. The target is dropped then.
+/// Applies `patch` to `target`.
+///
+/// # Errors
+///
+/// Fails if there is no memory for a copy of a part of the patch or for one more entry, or if an object already has 2^56 entries. The
+/// target is dropped.
 fn merge(alloc: Global, target: IValue, patch: &IValue) -> Result<IValue, AllocError>
     ensures { IfOk result (λ value. value.tree ≡ merged target.tree patch.now.tree) }
 {
@@ -26,14 +30,14 @@ fn merge(alloc: Global, target: IValue, patch: &IValue) -> Result<IValue, AllocE
                 return Err(AllocError);
             };
             let value = merge(alloc, place.take(), change)?;
-            // Not `*place = value`, which has a path for each kind that the old value may be of.
+            // Not `*place = value`, which the proof splits by each kind of the old value.
             drop(mem::replace(place, value));
         }
     }
     Ok(IValue::from(object))
 }
 
-/// The object that a value is, and one without pairs for any other value.
+/// Returns the object of a value, or an empty one for any other value.
 fn object_of(alloc: Global, value: IValue) -> IObject
     ensures { members_in (object_tree result.pairs) ≡ members_in value.tree }
 {
@@ -43,7 +47,7 @@ fn object_of(alloc: Global, value: IValue) -> IObject
     }
 }
 
-/// Targets, patches, and what the patches make of them: two that show the order, and the table of RFC 7396, appendix A.
+/// Targets, patches and the results: two that show the order, and the table of RFC 7396, appendix A.
 static MERGED: [(&str, &str, &str); 17] = [
     (
         "{\"a\":1,\"b\":2,\"c\":3}",
@@ -80,7 +84,7 @@ static MERGED: [(&str, &str, &str); 17] = [
     ),
 ];
 
-/// Asserts what a patch makes of a target, all three as texts.
+/// Asserts the result of applying a patch to a target, all three as texts.
 fn is_patched(rt: &impl Abort, alloc: Global, target: &str, patch: &str, want: &str) {
     let change = parsed(rt, alloc, patch);
     let value = merge(alloc, parsed(rt, alloc, target), &change).expect(rt, "memory");

@@ -6,7 +6,7 @@ use crate::value::IValue;
 use anyhow::{Result, anyhow, bail};
 use std::alloc::Global;
 
-/// What a person is told of a fault in a text: what it is, and its line and column.
+/// Returns the error message for a fault in a text, with its line and column.
 fn told(text: &str, fault: JsonError) -> anyhow::Error {
     let (what, at) = match fault {
         JsonError::Syntax { at } => ("no JSON", at),
@@ -18,7 +18,7 @@ fn told(text: &str, fault: JsonError) -> anyhow::Error {
     anyhow!("{what} at line {}, column {}", place.line, place.column)
 }
 
-/// The text of the value at a pointer in a value.
+/// Returns the text of the value at a pointer in a value.
 fn pointed_in(alloc: Global, value: &IValue, pointer: &str) -> Result<String> {
     match resolve(value, pointer) {
         Ok(Some(found)) => Ok(to_json(alloc, found)?),
@@ -27,7 +27,7 @@ fn pointed_in(alloc: Global, value: &IValue, pointer: &str) -> Result<String> {
     }
 }
 
-/// The text of the value at a pointer in a text.
+/// Returns the text of the value at a pointer in a text.
 fn pointed(alloc: Global, text: &str, pointer: &str) -> Result<String> {
     match from_json(alloc, &mut empty_cache(alloc), text) {
         Ok(value) => pointed_in(alloc, &value, pointer),
@@ -35,7 +35,7 @@ fn pointed(alloc: Global, text: &str, pointer: &str) -> Result<String> {
     }
 }
 
-/// Texts, pointers, and what is printed, or told.
+/// Texts, pointers, and the output or error message.
 static POINTED: [(&str, &str, &str); 8] = [
     ("{\"server\":{\"port\":8080}}", "/server/port", "8080"),
     ("[1,[2.50]]", "/1", "[2.5]"),

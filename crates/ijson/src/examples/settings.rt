@@ -1,4 +1,4 @@
-//! Settings laid over defaults: each member of one object in place of the other's.
+//! Settings overlaid on defaults: each member of one object replaces that of the other.
 ghost use Rattle.std.specs.Prelude.{◌≡◌, ◌≢◌, ◌⊎◌, ℕ, List, IfOk, IsFalse, IsTrue, OnErr};
 ghost use Rattle.std.specs.Option.{option_or};
 ghost use Rattle.ijson_value.specs.Kind.{kind_of};
@@ -11,9 +11,14 @@ use crate::object::RefusedPair;
 use std::alloc::Global;
 use std::process::Abort;
 
-/// Writes each setting of `over` into `base`; its other settings stay. False, and `base` as it was, where `base` or `over` is no object.
-/// Where room is refused, the settings before the refused one are written. Its proof goes by `at_key-over` of `ijson_value`
+/// Writes each setting of `over` into `base`, and keeps its other settings.
+///
+/// Returns `false` and leaves `base` as it was if `base` or `over` is not an object. Its proof uses `at_key-over` of `ijson_value`
 /// (`proofs/examples/settings`).
+///
+/// # Errors
+///
+/// Returns the setting that there is no capacity for.
 fn overlay(base: &mut IValue, over: IValue) -> Result<bool, RefusedPair>
     ensures laid_over { IfOk result (λ done. IsTrue done → (key : List ℕ)
         → tree_at base.new.tree (by_key key)
@@ -47,7 +52,7 @@ static LAID_OVER: [(&str, &str, &str, bool); 5] = [
     ("{\"b\":3}", "null", "{\"b\":3}", false),
 ];
 
-/// What settings leave of defaults, both as texts, and what the call answers.
+/// Returns defaults overlaid with settings, both given as texts, and the result of the call.
 fn laid_over(rt: &impl Abort, alloc: Global, base: &str, over: &str) -> (IValue, bool) {
     let mut value = parsed(rt, alloc, base);
     let done = overlay(&mut value, parsed(rt, alloc, over)).expect(rt, "room");

@@ -1,4 +1,4 @@
-//! A walk that sums the numbers of a value.
+//! A recursion that sums the numbers of a value.
 ghost use Rattle.std.specs.Prelude.{◌<◌, ◌^◌, ℕ, IfNone, IfSome};
 ghost use Rattle.ijson.specs.examples.Total.{EachSumsTo, SumsTo, ValuesSumTo};
 ghost use Rattle.ijson_value.specs.WellFormed.{item_trees, pair_trees};
@@ -7,7 +7,9 @@ use super::parsed;
 use crate::object::IObject;
 use crate::value::{DestructuredRef, IValue};
 
-/// The sum of the numbers in a value, at any depth. None where one of them is below 0 or not whole, or where the sum is 2^64 or more.
+/// Returns the sum of the numbers in a value, at any depth.
+///
+/// Returns `None` if one of them is negative or not whole, or if the sum is 2^64 or more.
 #[cycle(total)]
 fn total(value: &IValue) -> Option<u64>
     ensures some { IfSome result (λ sum. SumsTo value.now.tree sum) }

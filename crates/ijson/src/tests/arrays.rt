@@ -1,4 +1,4 @@
-//! Arrays: what each call answers and leaves, each iterator in full, and callers that know the list by the contracts alone.
+//! Tests of arrays: the result and effect of each call, each iterator in full, and callers that know the list by the contracts alone.
 ghost use Rattle.std.specs.Prelude.{◌≡◌, [], ◌∷◌, ◌++◌, true, OnOk};
 ghost use Rattle.ijson_value.specs.Values.{null_value, boolean_value};
 
@@ -8,7 +8,7 @@ use crate::value::IValue;
 use std::alloc::{AllocError, Global};
 use std::process::Abort;
 
-/// The array that letters spell: `n` is null, `t` true and `f` false.
+/// Returns the array that letters denote: `n` is null, `t` true and `f` false.
 fn spelled(rt: &impl Abort, alloc: Global, letters: &str) -> IArray {
     let mut array = IArray::new(alloc);
     for letter in letters.bytes() {
@@ -22,7 +22,7 @@ fn spelled(rt: &impl Abort, alloc: Global, letters: &str) -> IArray {
     array
 }
 
-/// The letter of an item, and `?` of one that is neither null nor a truth value.
+/// Returns the letter of an element, or `?` if it is neither null nor a Boolean.
 fn letter(item: &IValue) -> u8 {
     match item.to_bool() {
         Some(true) => b't',
@@ -32,19 +32,19 @@ fn letter(item: &IValue) -> u8 {
     }
 }
 
-/// Whether these letters spell the array.
+/// Returns `true` if these letters denote the array.
 fn is_spelled(array: &IArray, letters: &str) -> bool {
     array.iter().map(letter).eq(letters.bytes())
 }
 
-/// Whether this is the letter of an item that was taken out; of none there is none.
+/// Returns `true` if this is the letter of the removed element, or both are missing.
 fn is_item(item: Option<IValue>, want: Option<u8>) -> bool {
     let found = item.as_ref().map(letter);
     drop(item);
     found == want
 }
 
-/// Inserts, removes and writes items, and knows which are left.
+/// Inserts, removes and writes elements, and knows the remaining ones.
 fn edited(rt: &impl Abort, alloc: Global, item: IValue) -> IArray
     ensures { result.items ≡ boolean_value true ∷ item ∷ [] }
 {
@@ -57,7 +57,7 @@ fn edited(rt: &impl Abort, alloc: Global, item: IValue) -> IArray
     array
 }
 
-/// Makes room once; the pushes that follow cannot be refused.
+/// Reserves capacity once, so that the pushes after it cannot fail.
 fn push_three(array: &mut IArray) -> Result<(), AllocError>
     ensures { OnOk result
         (array.new.items ≡ array.old.items ++ null_value ∷ null_value ∷ null_value ∷ []) }
@@ -69,7 +69,7 @@ fn push_three(array: &mut IArray) -> Result<(), AllocError>
     Ok(())
 }
 
-/// Inserts before, behind and between.
+/// Inserts before, after and between.
 fn inserts(rt: &impl Abort, array: &mut IArray) {
     array.insert(0, IValue::NULL).expect(rt, "an item");
     array.push(IValue::TRUE).expect(rt, "an item");
@@ -85,14 +85,14 @@ fn insertions(rt: HostRuntime) {
     drop(array);
 }
 
-/// The calls that take an item out of an array.
+/// The calls that remove an element from an array.
 enum Removal {
     Remove(usize),
     SwapRemove(usize),
     Pop,
 }
 
-/// Takes an item out by such a call.
+/// Removes an element by such a call.
 fn taken(array: &mut IArray, removal: &Removal) -> Option<IValue> {
     match removal {
         Removal::Remove(position) => array.remove(*position),
@@ -101,7 +101,7 @@ fn taken(array: &mut IArray, removal: &Removal) -> Option<IValue> {
     }
 }
 
-/// The letters of an array, a call on it, the letter of the item that it takes out, and the letters that are left.
+/// The letters of an array, a call on it, the letter of the removed element, and the remaining letters.
 static REMOVALS: [(&str, Removal, Option<u8>, &str); 8] = [
     ("", Removal::Remove(0), None, ""),
     ("", Removal::SwapRemove(0), None, ""),
@@ -132,7 +132,7 @@ fn edits(rt: HostRuntime) {
     drop(array);
 }
 
-/// Cuts `ntf` to a length past its own, to one item, and to none. The room stays.
+/// Truncates `ntf` to more than its length, to one element, and to none. The capacity stays.
 fn cuts(rt: &impl Abort, array: &mut IArray) {
     array.truncate(5);
     assert!(rt; is_spelled(array, "ntf"));
@@ -157,7 +157,7 @@ fn lengths_and_room(rt: HostRuntime) {
     drop(array);
 }
 
-/// Letters, and for how many items there is room once they are pushed one after the other.
+/// Letters, and the capacity after they are pushed one by one.
 static ROOMS: [(&str, usize); 5] = [
     ("", 0),
     ("n", 4),
@@ -175,7 +175,7 @@ fn room_that_pushes_make(rt: HostRuntime) {
     }
 }
 
-/// Gives the items of `ntf` out.
+/// Moves the elements of `ntf` out.
 fn gives_out(rt: &impl Abort, array: IArray) {
     let mut items = array.into_iter();
     for &(left, item) in &GIVEN {
@@ -185,7 +185,7 @@ fn gives_out(rt: &impl Abort, array: IArray) {
     drop(items);
 }
 
-/// How many items are left, and the letter of the next one.
+/// The number of remaining elements, and the letter of the next one.
 static GIVEN: [(usize, Option<u8>); 5] = [
     (3, Some(b'n')),
     (2, Some(b't')),
@@ -208,7 +208,7 @@ fn iterators(rt: HostRuntime) {
     gives_out(&rt, array);
 }
 
-/// The array `nt`, extended by `ff` and by nothing.
+/// Returns the array `nt`, extended by `ff` and by nothing.
 fn extended(rt: &impl Abort, alloc: Global) -> IArray {
     let mut array = IArray::from_iter(alloc, spelled(rt, alloc, "nt")).expect(rt, "two items");
     array
@@ -226,4 +226,38 @@ fn arrays_of_other_items(rt: HostRuntime) {
     let again = IArray::from_vec(rt.alloc(), list).expect(&rt, "an array");
     assert!(rt; is_spelled(&again, "ntff"));
     drop(again);
+}
+
+/// Whether all elements of an array are null.
+fn are_null(array: &IArray) -> bool {
+    array.iter().all(IValue::is_null)
+}
+
+/// Asserts the elements and the capacity of a copy of an array of nulls, and of the array after it shrinks.
+fn changes_size(rt: &impl Abort, array: &mut IArray, count: usize) {
+    let copy = array.clone().expect(rt, "a copy");
+    assert!(rt; copy.len() == count && copy.capacity() == count && are_null(&copy));
+    drop(copy);
+    array.shrink_to_fit().expect(rt, "less room");
+    assert!(rt; array.len() == count && array.capacity() == count && are_null(array));
+}
+
+/// Pushes this many nulls.
+fn push_nulls(rt: &impl Abort, array: &mut IArray, count: usize) {
+    for _ in 0..count {
+        array.push(IValue::NULL).expect(rt, "an element");
+    }
+}
+
+/// No clause says that a call succeeds if memory is available, so each small count of elements is tried, and a large one.
+#[test]
+fn each_count_of_elements(rt: HostRuntime) {
+    let mut array = IArray::new(rt.alloc());
+    for count in 0..161usize {
+        changes_size(&rt, &mut array, count);
+        push_nulls(&rt, &mut array, 1);
+    }
+    push_nulls(&rt, &mut array, 2_000_000);
+    changes_size(&rt, &mut array, 2_000_161);
+    drop(array);
 }

@@ -13,7 +13,7 @@ use std::alloc::Global;
 use std::collections::{BTreeMap, HashMap};
 use std::process::Abort;
 
-/// Asserts what is written of the value of a literal.
+/// Asserts the text of the value of a literal.
 fn is_literal(rt: &impl Abort, alloc: Global, cache: &mut Cache, which: &Literal, want: &str) {
     let value = value_of(alloc, cache, which).expect(rt, "a value");
     is_written(rt, alloc, &value, want);
@@ -36,7 +36,7 @@ fn the_example_is_written(rt: HostRuntime) {
     drop(cache);
 }
 
-/// What is written of the value of `x`.
+/// Returns the text of the value of `x`.
 fn text_of<T: ToIValue>(rt: &impl Abort, alloc: Global, x: &T) -> String {
     let value = to_value(alloc, &mut empty_cache(alloc), x).expect(rt, "a value");
     let text = to_json(alloc, &value).expect(rt, "a text");
@@ -44,10 +44,10 @@ fn text_of<T: ToIValue>(rt: &impl Abort, alloc: Global, x: &T) -> String {
     text
 }
 
-/// The pairs of two maps, in the order in which they are put.
+/// The entries of two maps, in the order of insertion.
 static PUT: [(&str, u8); 2] = [("b", 1), ("a", 2)];
 
-/// A map that sorts its keys.
+/// Returns a map that sorts its keys.
 fn sorted(rt: &impl Abort, alloc: Global) -> BTreeMap<String, u8> {
     let mut map: BTreeMap<String, u8> = BTreeMap::new(alloc);
     for &(letters, n) in &PUT {
@@ -58,7 +58,7 @@ fn sorted(rt: &impl Abort, alloc: Global) -> BTreeMap<String, u8> {
     map
 }
 
-/// A map that keeps the order of its keys.
+/// Returns a map that keeps the order of its keys.
 fn inserted(rt: &impl Abort, alloc: Global) -> IndexMap<String, u8> {
     let mut map: IndexMap<String, u8> = IndexMap::new(alloc);
     for &(letters, n) in &PUT {
@@ -69,7 +69,7 @@ fn inserted(rt: &impl Abort, alloc: Global) -> IndexMap<String, u8> {
     map
 }
 
-/// Asserts what is written of the value of `x`.
+/// Asserts the text of the value of `x`.
 fn is_text<T: ToIValue + Drop>(rt: &impl Abort, alloc: Global, x: T, want: &str) {
     let text = text_of(rt, alloc, &x);
     assert!(rt; text.as_str() == want);
@@ -90,21 +90,21 @@ fn slices_and_texts_are_values(rt: HostRuntime) {
     is_text(&rt, rt.alloc(), text, r#""a \"text\" of many bytes""#);
 }
 
-/// Maps, and what is written of the object of each that has an order.
+/// Maps, and the text of the object of each that has an order.
 static ORDERS: [(Keys, Option<&str>); 3] = [
     (Keys::Hashes, None),
     (Keys::Sorts, Some(r#"{"a":2,"b":1,"eight888":3}"#)),
     (Keys::Keeps, Some(r#"{"b":1,"a":2,"eight888":3}"#)),
 ];
 
-/// The object of a map, which has no more room than pairs.
+/// Returns the object of a map, without spare capacity.
 fn of_map(rt: &impl Abort, alloc: Global, keys: Keys) -> IValue {
     let object = object_of_map(alloc, &mut empty_cache(alloc), keys).expect(rt, "an object");
     assert!(rt; object.len() == 3 && object.capacity() == 3);
     IValue::from(object)
 }
 
-/// Asserts that the object of a map is the same as another, and is written in its order, if it has one.
+/// Asserts that the object of a map equals another, and its text if it has an order.
 fn is_same(rt: &impl Abort, alloc: Global, keys: Keys, order: Option<&str>, same: &IValue) {
     let value = of_map(rt, alloc, keys);
     assert!(rt; value == *same);
@@ -123,14 +123,14 @@ fn pairs_of_maps_are_objects(rt: HostRuntime) {
     drop(same);
 }
 
-/// A text, and what is written again of what its value says as some type, or why it says none.
+/// A text, and the text of its value converted to some type and back, or the error.
 type Case = (&'static str, Result<&'static str, ConvertError>);
 
 const PAST: Result<&str, ConvertError> = Err(ConvertError::OutOfRange);
 
 const WRONG_KIND: Result<&str, ConvertError> = Err(ConvertError::WrongKind);
 
-/// The least and the greatest `i8`, and the integers past them.
+/// The minimum and the maximum `i8`, and the integers beyond them.
 static OF_I8: [Case; 4] = [
     ("-128", Ok("-128")),
     ("127", Ok("127")),
@@ -138,7 +138,7 @@ static OF_I8: [Case; 4] = [
     ("128", PAST),
 ];
 
-/// The least and the greatest `u8`, and the integers past them.
+/// The minimum and the maximum `u8`, and the integers beyond them.
 static OF_U8: [Case; 4] = [
     ("0", Ok("0")),
     ("255", Ok("255")),
@@ -146,7 +146,7 @@ static OF_U8: [Case; 4] = [
     ("256", PAST),
 ];
 
-/// The least and the greatest `i16`, and the integers past them.
+/// The minimum and the maximum `i16`, and the integers beyond them.
 static OF_I16: [Case; 4] = [
     ("-32768", Ok("-32768")),
     ("32767", Ok("32767")),
@@ -154,7 +154,7 @@ static OF_I16: [Case; 4] = [
     ("32768", PAST),
 ];
 
-/// The least and the greatest `u16`, and the integers past them.
+/// The minimum and the maximum `u16`, and the integers beyond them.
 static OF_U16: [Case; 4] = [
     ("0", Ok("0")),
     ("65535", Ok("65535")),
@@ -162,7 +162,7 @@ static OF_U16: [Case; 4] = [
     ("65536", PAST),
 ];
 
-/// The least and the greatest `i32`, and the integers past them.
+/// The minimum and the maximum `i32`, and the integers beyond them.
 static OF_I32: [Case; 4] = [
     ("-2147483648", Ok("-2147483648")),
     ("2147483647", Ok("2147483647")),
@@ -170,7 +170,7 @@ static OF_I32: [Case; 4] = [
     ("2147483648", PAST),
 ];
 
-/// The least and the greatest `u32`, and the integers past them.
+/// The minimum and the maximum `u32`, and the integers beyond them.
 static OF_U32: [Case; 4] = [
     ("0", Ok("0")),
     ("4294967295", Ok("4294967295")),
@@ -178,7 +178,7 @@ static OF_U32: [Case; 4] = [
     ("4294967296", PAST),
 ];
 
-/// The least and the greatest `i64`, and `isize`, and the integers past them.
+/// The minimum and the maximum `i64` and `isize`, and the integers beyond them.
 static OF_I64: [Case; 4] = [
     ("-9223372036854775808", Ok("-9223372036854775808")),
     ("9223372036854775807", Ok("9223372036854775807")),
@@ -186,7 +186,7 @@ static OF_I64: [Case; 4] = [
     ("9223372036854775808", PAST),
 ];
 
-/// The least and the greatest `u64`, and `usize`, and the integers past them.
+/// The minimum and the maximum `u64` and `usize`, and the integers beyond them.
 static OF_U64: [Case; 4] = [
     ("0", Ok("0")),
     ("18446744073709551615", Ok("18446744073709551615")),
@@ -194,10 +194,10 @@ static OF_U64: [Case; 4] = [
     ("18446744073709551616", PAST),
 ];
 
-/// What is said as an `i32`.
+/// Values read as an `i32`.
 static INTEGERS: [Case; 3] = [("2.0", Ok("2")), ("2.5", PAST), ("\"x\"", WRONG_KIND)];
 
-/// What is said as a truth value.
+/// Values read as a Boolean.
 static TRUTH: [Case; 4] = [
     ("true", Ok("true")),
     ("false", Ok("false")),
@@ -205,7 +205,7 @@ static TRUTH: [Case; 4] = [
     ("null", WRONG_KIND),
 ];
 
-/// What is said as a text.
+/// Values read as a string.
 static TEXT: [Case; 4] = [
     (r#""a text of many bytes""#, Ok(r#""a text of many bytes""#)),
     (r#""""#, Ok(r#""""#)),
@@ -213,20 +213,20 @@ static TEXT: [Case; 4] = [
     (r#"["a"]"#, WRONG_KIND),
 ];
 
-/// What is said as a list of integers that may be missing.
+/// Values read as a list of optional integers.
 static OPTIONS: [Case; 2] = [("[1,null,2.0]", Ok("[1,null,2]")), ("{}", WRONG_KIND)];
 
-/// What is said as a list of bytes.
+/// Values read as a list of bytes.
 static BYTES: [Case; 2] = [("[1,256,\"x\"]", PAST), ("[1,\"x\",256]", WRONG_KIND)];
 
-/// What is said as a map of truth values.
+/// Values read as a map of Booleans.
 static TRUTHS: [Case; 3] = [
     (r#"{"b":true,"a":false}"#, Ok(r#"{"a":false,"b":true}"#)),
     (r#"{"b":true,"a":1}"#, WRONG_KIND),
     ("[]", WRONG_KIND),
 ];
 
-/// What is said as a map of lists of integers that may be missing.
+/// Values read as a map of lists of optional integers.
 static NESTED: [Case; 5] = [
     (
         r#"{"b":[1,null],"eight888":[],"a":[-2.0]}"#,
@@ -238,7 +238,7 @@ static NESTED: [Case; 5] = [
     (r#"{"a":null}"#, WRONG_KIND),
 ];
 
-/// What a text's value says as some type, or why it says none.
+/// Returns the value of a text read as a `T`, or the error.
 fn said<T: FromIValue + Drop>(
     rt: &impl Abort,
     alloc: Global,
@@ -250,7 +250,7 @@ fn said<T: FromIValue + Drop>(
     said
 }
 
-/// Whether a case holds.
+/// Returns `true` if a case holds.
 fn is_read<T: FromIValue + ToIValue + Drop>(
     rt: &impl Abort,
     alloc: Global,
@@ -273,7 +273,7 @@ fn reads<T: FromIValue + ToIValue + Drop>(rt: &impl Abort, alloc: Global, cases:
     }
 }
 
-/// What is read is compared itself here, and not what is written of it.
+/// The value read is compared here, not its text.
 #[test]
 fn a_list_and_a_number_are_read(rt: HostRuntime) {
     let alloc = rt.alloc();
@@ -310,10 +310,10 @@ fn values_are_read_as_their_types(rt: HostRuntime) {
     reads::<BTreeMap<String, Vec<Option<i32>>>>(&rt, alloc, &NESTED);
 }
 
-/// What can be missing in two ways.
+/// A nested option.
 type Twice = Option<Option<u8>>;
 
-/// What null says where it can be missing in two ways: it is missing, and nothing is there that is missing.
+/// Null read as a nested option is the outer `None`, not `Some(None)`.
 #[test]
 fn null_is_none(rt: HostRuntime) {
     let twice = said::<Twice>(&rt, rt.alloc(), "null");
@@ -324,7 +324,7 @@ fn null_is_none(rt: HostRuntime) {
     assert!(rt; list.as_slice() == [None, Some(Some(7))].as_slice());
 }
 
-/// The numbers below a count.
+/// Returns the numbers below `count`.
 fn numbers(rt: &impl Abort, alloc: Global, count: u32) -> Vec<u32> {
     let mut list = Vec::new(alloc);
     for n in 0..count {
@@ -333,7 +333,7 @@ fn numbers(rt: &impl Abort, alloc: Global, count: u32) -> Vec<u32> {
     list
 }
 
-/// The numbers below a count, each beside its digits.
+/// Returns the numbers below `count`, each with its digits as the key.
 fn numbered(rt: &impl Abort, alloc: Global, count: u32) -> BTreeMap<String, u32> {
     let mut map: BTreeMap<String, u32> = BTreeMap::new(alloc);
     for n in 0..count {
@@ -344,7 +344,9 @@ fn numbered(rt: &impl Abort, alloc: Global, count: u32) -> BTreeMap<String, u32>
     map
 }
 
-/// Asserts that the value of `x` says `x` again, and that it is equal once it went to `serde_json` and back. Answers the value.
+/// Asserts that the value of `x` is read as `x`, and returns the value.
+///
+/// Converting it to `serde_json` and back must give an equal value.
 fn goes_back<T: ToIValue + FromIValue + PartialEq + Drop>(
     rt: &impl Abort,
     alloc: Global,
@@ -358,7 +360,7 @@ fn goes_back<T: ToIValue + FromIValue + PartialEq + Drop>(
     value
 }
 
-/// Many more letters, items and pairs than there is room for at first.
+/// Many more letters, elements and entries than the initial capacity.
 #[test]
 fn many_letters_go_there_and_back(rt: HostRuntime) {
     let letters = "a".repeat(rt.alloc(), 100_000).expect(&rt, "the letters");
@@ -372,7 +374,7 @@ fn many_items_go_there_and_back(rt: HostRuntime) {
     drop(items);
 }
 
-/// The object of a map of the pairs of another object.
+/// Returns the object of a map of the entries of another object.
 fn through_map(alloc: Global, object: IObject, keys: Keys) -> Result<IObject, ReserveError> {
     let pairs = object.into_iter();
     match keys {
@@ -391,7 +393,7 @@ fn through_map(alloc: Global, object: IObject, keys: Keys) -> Result<IObject, Re
     }
 }
 
-/// Asserts that an object has so many pairs and room for these alone, and that it goes through each map and comes back so.
+/// Asserts that an object has `count` entries and no spare capacity, also from each map.
 fn goes_through(rt: &impl Abort, alloc: Global, object: &IObject, count: usize) {
     assert!(rt; object.len() == count && object.capacity() == count);
     for &keys in &MAPS {

@@ -1,4 +1,4 @@
-//! Each fault goes by `?` into an error that keeps its text, and is shown by its name and its fields.
+//! Each error converts by `?` to an error with its message, and its debug output has its name and fields.
 
 use super::{is_shown, key};
 use crate::array::Refused;
@@ -17,7 +17,7 @@ fn passed_on<E: Error>(fault: E) -> anyhow::Result<()> {
     Ok(())
 }
 
-/// Asserts how a fault is shown, and that the error that it becomes has this text.
+/// Asserts the debug output of an error, and the message of the error it converts to.
 fn is_told<E: Error>(rt: &impl Abort, alloc: Global, fault: E, text: &str, shown: &str) {
     is_shown(rt, alloc, &fault, shown);
     let error = passed_on(fault).err().expect(rt, text);
@@ -25,7 +25,7 @@ fn is_told<E: Error>(rt: &impl Abort, alloc: Global, fault: E, text: &str, shown
     assert!(rt; found.as_str() == text);
 }
 
-/// Faults of a text, the text of each, and how it is shown.
+/// Errors of a text, the message and the debug output of each.
 static OF_TEXTS: [(JsonError, &str, &str); 4] = [
     (
         JsonError::Syntax { at: 3 },
@@ -45,7 +45,7 @@ static OF_TEXTS: [(JsonError, &str, &str); 4] = [
     (JsonError::Memory, "out of memory", "Memory"),
 ];
 
-/// Faults of `compact`, the text of each, and how it is shown.
+/// Errors of `compact`, the message and the debug output of each.
 static OF_COMPACT: [(CompactError, &str, &str); 5] = [
     (CompactError::Read, "read failed", "Read"),
     (CompactError::NotUtf8, "input is not UTF-8", "NotUtf8"),
@@ -58,7 +58,7 @@ static OF_COMPACT: [(CompactError, &str, &str); 5] = [
     (CompactError::Memory, "out of memory", "Memory"),
 ];
 
-/// Refusals of a conversion, the text of each, and how it is shown.
+/// Errors of a conversion, the message and the debug output of each.
 static OF_CONVERSIONS: [(ConvertError, &str, &str); 4] = [
     (
         ConvertError::WrongKind,
@@ -78,7 +78,7 @@ static OF_CONVERSIONS: [(ConvertError, &str, &str); 4] = [
     (ConvertError::Memory, "out of memory", "Memory"),
 ];
 
-/// Why a pointer leads nowhere, the text of each reason, and how it is shown.
+/// Errors of a pointer, the message and the debug output of each.
 static OF_POINTERS: [(Unresolved, &str, &str); 2] = [
     (
         Unresolved::Nothing,

@@ -1,5 +1,4 @@
-//! Literals of `ijson!`, and what is written of the value of each. One test makes them with all the memory that they ask for, and one
-//! where a request is refused.
+//! `ijson!` literals, and the text of the value of each. One test creates them with enough memory, and one with a failed allocation.
 
 use super::Cache;
 use crate::convert::ConvertError;
@@ -17,7 +16,7 @@ pub(super) enum Literal {
     Example,
 }
 
-/// What is written of the value of each literal but the last one.
+/// The text of the value of each literal except the last one.
 pub(super) static LITERALS: [(Literal, &str); 5] = [
     (Literal::Pairs, r#"{"name":[],"sizes":[],"nested":{}}"#),
     (
@@ -29,10 +28,10 @@ pub(super) static LITERALS: [(Literal, &str); 5] = [
     (Literal::Texts, r#"{"longlong":["x"],"c":{}}"#),
 ];
 
-/// What is written of the value of the last one.
+/// The text of the value of the last one.
 pub(super) static EXAMPLE: &str = r#"{"name":"ijson","sizes":[1,2,null],"nested":{"deep":true}}"#;
 
-/// The value of a literal.
+/// Returns the value of a literal.
 pub(super) fn value_of(
     alloc: Global,
     cache: &mut Cache,
@@ -48,15 +47,15 @@ pub(super) fn value_of(
     }
 }
 
-// Each literal stands in a function of its own, with nothing else there to drop: each call that its tokens make is a way out of it, on
-// which the lists and objects made so far are dropped.
+// Each literal is in a function of its own, with nothing else to drop: each call of its expansion is an exit that drops the lists and
+// objects built so far.
 
-/// Pairs of each kind of value, one key again, a key that is an expression, and a comma behind the last pair.
+/// Entries of each kind of value, a duplicate key, a key that is an expression, and a trailing comma.
 fn pairs(alloc: Global, cache: &mut Cache, key: &str) -> Result<IValue, ConvertError> {
     ijson!(alloc, cache; {"name": "ijson", "sizes": [], key: {}, "name": [],})
 }
 
-/// A text, and lists of no items and of plain ones, with a comma behind the last of them.
+/// A string, an empty list, and a list with a trailing comma.
 fn members(alloc: Global, cache: &mut Cache) -> Result<IValue, ConvertError> {
     ijson!(alloc, cache; {"foo": "bar", "x": [], "y": [1, null, true,]})
 }
@@ -66,12 +65,12 @@ fn objects(alloc: Global, cache: &mut Cache, key: &str) -> Result<IValue, Conver
     ijson!(alloc, cache; {key: {"deep": true, "none": {}}})
 }
 
-/// A list in a list, and an item that is more than one token.
+/// A list in a list, and an element of more than one token.
 fn lists(alloc: Global, cache: &mut Cache, n: i64) -> Result<IValue, ConvertError> {
     ijson!(alloc, cache; [[], n / 2])
 }
 
-/// A key and a text that ask for memory, and an object in a list, which the value of the same key replaces.
+/// A key and a string that allocate, and an object in a list that a duplicate key replaces.
 fn texts(alloc: Global, cache: &mut Cache) -> Result<IValue, ConvertError> {
     ijson!(alloc, cache; {"longlong": ["eight888", {}], "c": {}, "longlong": ["x"]})
 }

@@ -1,4 +1,4 @@
-//! What no clause says of numbers: worked texts, and which texts are refused.
+//! Tests of numbers beyond the clauses: example texts, and rejected texts.
 use crate::number::{DigitRow, Form, INumber, Looks, ParseNumberError, compare, first_fault};
 use std::alloc::Global;
 use std::cmp::Ordering;
@@ -6,7 +6,7 @@ use std::error::Error;
 use std::fmt::Debug;
 use std::process::Abort;
 
-/// Texts, the text that each is written as, and whether it has float shape.
+/// Texts, the text that each is written as, and whether it has a fraction point.
 static ROWS: [(&str, &str, bool); 23] = [
     ("-0", "0", false),
     ("-0.0", "0.0", true),
@@ -49,7 +49,7 @@ static ROWS: [(&str, &str, bool); 23] = [
     ),
 ];
 
-/// The number of a text.
+/// Parses a number.
 fn number(rt: &impl Abort, alloc: Global, text: &str) -> INumber {
     INumber::from_str(alloc, text).expect(rt, text)
 }
@@ -80,7 +80,7 @@ fn rows(rt: HostRuntime) {
     }
 }
 
-/// Texts, the stripped digits of each, and their exponent.
+/// Texts, the canonical significand of each, and its exponent.
 static STRIPPED: [(&str, &str, i32); 15] = [
     ("0", "", 0),
     ("-0.00", "", 0),
@@ -107,19 +107,109 @@ static STRIPPED: [(&str, &str, i32); 15] = [
     ("10e1073741823", "1", 1073741824),
 ];
 
-fn strips(rt: &impl Abort, alloc: Global, text: &str, digits: &str, want: i32) {
+fn strips(rt: &impl Abort, alloc: Global, number: &INumber, digits: &str, want: i32) {
     let mut out = String::from_str(alloc, "[").expect(rt, "a text");
-    let number = number(rt, alloc, text);
     let exponent = number.push_stripped_digits(&mut out);
-    assert!(rt; exponent.expect(rt, "a longer text") == want, "{text}");
-    drop(number);
-    assert!(rt; out.as_str().strip_prefix("[") == Some(digits), "{text}");
+    assert!(rt; exponent.expect(rt, "a longer text") == want, "{digits}");
+    assert!(rt; out.as_str().strip_prefix("[") == Some(digits), "{digits}");
 }
 
 #[test]
 fn stripped_texts(rt: HostRuntime) {
     for &(text, digits, exponent) in &STRIPPED {
-        strips(&rt, rt.alloc(), text, digits, exponent);
+        let number = number(&rt, rt.alloc(), text);
+        strips(&rt, rt.alloc(), &number, digits, exponent);
+        drop(number);
+    }
+}
+
+/// Digits of which no prefix ends in zero.
+const NO_ZEROS: &str = "123456789123456789123";
+
+/// Asserts that a number and its copy are written as `want` and are equal, and that the copy has these canonical digits and this exponent.
+fn keeps(rt: &impl Abort, alloc: Global, text: &str, want: &str, digits: &str, exponent: i32) {
+    let number = number(rt, alloc, text);
+    let copy = number.clone().expect(rt, "a copy");
+    appends(rt, alloc, &number, want);
+    appends(rt, alloc, &copy, want);
+    strips(rt, alloc, &copy, digits, exponent);
+    compares(rt, &number, &copy, Ordering::Equal);
+    drop(number);
+    drop(copy);
+}
+
+/// Digits as an integer, and with the point at each place between them.
+fn keeps_each_place(rt: &impl Abort, alloc: Global, sign: &str, digits: &str) {
+    let integer = format!(in alloc; "{sign}{digits}").expect(rt, "a text");
+    keeps(rt, alloc, &integer, &integer, digits, 0);
+    let mut scale = 0i32;
+    for place in (1..digits.len()).rev() {
+        scale = scale.wrapping_sub(1);
+        let whole = digits.get(..place).expect(rt, "a place");
+        let fraction = digits.get(place..).expect(rt, "a place");
+        let text = format!(in alloc; "{sign}{whole}.{fraction}").expect(rt, "a text");
+        keeps(rt, alloc, &text, &text, digits, scale);
+    }
+}
+
+/// Digits with up to 20 zeros after them: without a point, with one, and with an exponent in place of the zeros.
+fn keeps_each_zero(rt: &impl Abort, alloc: Global, sign: &str, digits: &str) {
+    let mut exponent = 0i32;
+    for count in 0..21usize {
+        let zeros = ZEROS.get(..count).expect(rt, "zeros");
+        let integer = format!(in alloc; "{sign}{digits}{zeros}").expect(rt, "a text");
+        keeps(rt, alloc, &integer, &integer, digits, exponent);
+        let pointed = format!(in alloc; "{integer}.0").expect(rt, "a text");
+        keeps(rt, alloc, &pointed, &pointed, digits, exponent);
+        let power = format!(in alloc; "{sign}{digits}e{count}").expect(rt, "a text");
+        keeps(rt, alloc, &power, &pointed, digits, exponent);
+        exponent = exponent.wrapping_add(1);
+    }
+}
+
+/// Digits with up to five zeros between the point and them.
+fn keeps_each_fraction(rt: &impl Abort, alloc: Global, sign: &str, digits: &str) {
+    let scale = i32::try_from(digits.len()).unwrap_or(0);
+    let mut exponent = 0i32.wrapping_sub(scale);
+    for count in 0..6usize {
+        let zeros = ZEROS.get(..count).expect(rt, "zeros");
+        let text = format!(in alloc; "{sign}0.{zeros}{digits}").expect(rt, "a text");
+        keeps(rt, alloc, &text, &text, digits, exponent);
+        exponent = exponent.wrapping_sub(1);
+    }
+}
+
+/// Exponents of numbers that are written with one.
+static POWERS: [i32; 17] = [
+    -32789, -32769, -32768, -32767, -101, -100, -99, -11, -10, -9, 41, 99, 100, 101, 32766, 32767,
+    32768,
+];
+
+/// Digits with the point after the first of them, and each of these exponents.
+fn keeps_each_power(rt: &impl Abort, alloc: Global, sign: &str, digits: &str) {
+    let first = digits.get(..1).expect(rt, "a digit");
+    let rest = digits.get(1..).expect(rt, "the other digits");
+    let point = if rest.is_empty() { "" } else { "." };
+    let scale = i32::try_from(rest.len()).unwrap_or(0);
+    for &power in &POWERS {
+        let text = format!(in alloc; "{sign}{first}{point}{rest}e{power}").expect(rt, "a text");
+        let exponent = power.wrapping_sub(scale);
+        keeps(rt, alloc, &text, &text, digits, exponent);
+    }
+}
+
+/// No clause says that a call succeeds if memory is available, so each count of digits is tried.
+#[test]
+fn each_count_of_digits(rt: HostRuntime) {
+    let alloc = rt.alloc();
+    for count in 1..22usize {
+        let digits = NO_ZEROS.get(..count).expect(&rt, "digits");
+        for &sign in &["", "-"] {
+            keeps_each_place(&rt, alloc, sign, digits);
+            keeps_each_zero(&rt, alloc, sign, digits);
+            keeps_each_fraction(&rt, alloc, sign, digits);
+            keeps_each_power(&rt, alloc, sign, digits);
+        }
     }
 }
 
@@ -128,7 +218,7 @@ fn debugs(rt: &impl Abort, alloc: Global, value: &impl Debug, want: &str) {
     assert!(rt; text.as_str() == want);
 }
 
-/// Forms, and what `Debug` writes of each.
+/// Representations, and the debug output of each.
 static SHOWN: [(Form<'static>, &str); 4] = [
     (
         Form::Packed {
@@ -174,7 +264,7 @@ fn copies(rt: HostRuntime) {
     drop(copy);
 }
 
-/// So many digits, none of them 0, of which no two runs of twenty side by side are alike.
+/// Returns `count` digits other than 0, in which no two adjacent runs of twenty are the same.
 fn long_digits(rt: &impl Abort, alloc: Global, count: usize) -> String {
     let mut text = String::new(alloc);
     for place in 0..count {
@@ -190,29 +280,32 @@ const ZEROS: &str =
     0000000000000000000000000000000000000000000000000000000000000000000000000000000000000000000000000000\
     0000000000000000000000000000000000000000000000000000000000000000000000000000000000000000000000000000";
 
-/// A one with as many zeros behind it.
+/// A one with three hundred zeros.
 const ONE_AND_ZEROS: &str =
     "10000000000000000000000000000000000000000000000000000000000000000000000000000000000000000000000000000\
     0000000000000000000000000000000000000000000000000000000000000000000000000000000000000000000000000000\
     0000000000000000000000000000000000000000000000000000000000000000000000000000000000000000000000000000";
 
-/// Asserts that a text is what is written of its number by every way.
+/// Asserts that each way to write the number of a text gives the text.
 fn is_written_whole(rt: &impl Abort, alloc: Global, text: &str) {
     let number = number(rt, alloc, text);
     appends(rt, alloc, &number, text);
     displays(rt, alloc, &number, text);
     debugs(rt, alloc, &number, text);
+    let copy = number.clone().expect(rt, "a copy");
     drop(number);
+    appends(rt, alloc, &copy, text);
+    drop(copy);
 }
 
-/// A contract can't say that a formatter only gives up where its writer does, nor that memory is all that a reader wants, so long
-/// texts are tried.
+/// Long texts, since a contract cannot say that only memory makes reading or writing fail.
 #[test]
 fn long_numbers_are_written_whole(rt: HostRuntime) {
     let alloc = rt.alloc();
-    for count in [101, 5000] {
+    for count in [101, 256, 5000, 700_000] {
         let digits = long_digits(&rt, alloc, count);
         is_written_whole(&rt, alloc, digits.as_str());
+        keeps(&rt, alloc, &digits, &digits, &digits, 0);
         let fraction = format!(in alloc; "-0.{digits}").expect(&rt, "a text");
         is_written_whole(&rt, alloc, fraction.as_str());
         let tens = format!(in alloc; "-{digits}{ZEROS}").expect(&rt, "a text");
@@ -232,7 +325,7 @@ fn tells(rt: &impl Abort, alloc: Global, error: &impl Error, want: &str) {
     assert!(rt; text.as_str() == want);
 }
 
-/// Texts of no number, or of none in range.
+/// Texts of no number, or of one out of range.
 static INVALID: [&str; 12] = [
     "",
     "01",
@@ -258,7 +351,7 @@ fn refusals(rt: HostRuntime) {
     tells(&rt, rt.alloc(), &ParseNumberError::Memory, "out of memory");
 }
 
-/// Texts, and where the first fault of each is, if it has one.
+/// Texts, and the index of the first fault of each, if it has one.
 static FAULTS: [(&str, Option<usize>); 14] = [
     ("", Some(0)),
     ("+1", Some(0)),
@@ -283,7 +376,7 @@ fn faults(rt: HostRuntime) {
     }
 }
 
-/// Texts, and how many bytes of each are read at the front.
+/// Texts, and the number of leading bytes read of each.
 static FRONTS: [(&str, Option<usize>); 12] = [
     ("12", Some(2)),
     ("1234567890123456789,", Some(19)),
@@ -334,7 +427,7 @@ fn equality(rt: HostRuntime) {
     }
 }
 
-/// What a number is as an `i64` and as an `i32`.
+/// Asserts a number as an `i64` and as an `i32`.
 fn signed(rt: &impl Abort, number: INumber, long: Option<i64>, short: Option<i32>) {
     assert!(rt; number.to_i64() == long);
     assert!(rt; number.to_i32() == short);
@@ -346,14 +439,14 @@ fn sized(rt: &impl Abort, number: INumber, want: Option<isize>) {
     drop(number);
 }
 
-/// What a number is as a `u64` and as a `u32`.
+/// Asserts a number as a `u64` and as a `u32`.
 fn unsigned(rt: &impl Abort, number: INumber, long: Option<u64>, short: Option<u32>) {
     assert!(rt; number.to_u64() == long);
     assert!(rt; number.to_u32() == short);
     drop(number);
 }
 
-/// Texts, and what each is as an `i64` and as an `i32`.
+/// Texts, and the number of each as an `i64` and as an `i32`.
 static SIGNED: [(&str, Option<i64>, Option<i32>); 5] = [
     ("12345678901234567890.0", None, None),
     ("1e19", None, None),
@@ -369,7 +462,7 @@ fn signed_texts(rt: HostRuntime) {
     }
 }
 
-/// Texts, and what each is as a `u64` and as a `u32`.
+/// Texts, and the number of each as a `u64` and as a `u32`.
 static UNSIGNED: [(&str, Option<u64>, Option<u32>); 4] = [
     ("12345678901234567890.0", Some(12345678901234567890), None),
     ("1e19", Some(10000000000000000000), None),
@@ -428,7 +521,7 @@ fn unsigned_ranges(rt: HostRuntime) {
     unsigned(&rt, INumber::one(), Some(1), Some(1));
 }
 
-/// In strictly ascending order.
+/// Texts in strictly ascending order of their numbers.
 static ASCENDING: [&str; 18] = [
     "-1e1073741824",
     "-18446744073709551616",
@@ -469,7 +562,7 @@ fn order(rt: HostRuntime) {
     }
 }
 
-/// Texts that are packed: the mantissa, the exponent and whether the shape is float.
+/// Texts of packed numbers: the significand, the exponent, and whether there is a fraction point.
 static PACKED: [(&str, i64, i8, bool); 18] = [
     ("0", 0, 0, false),
     ("-0", 0, 0, false),
@@ -496,7 +589,7 @@ static PACKED: [(&str, i64, i8, bool); 18] = [
     ("360287970189639670.0", 36028797018963967, 1, true),
 ];
 
-/// Texts whose digits are stored: the sign, the digits, the exponent, and whether the shape is float.
+/// Texts of boxed numbers: the sign, the digits, the exponent, and whether there is a fraction point.
 static STORED_DIGITS: [(&str, bool, &[u8], i32, bool); 7] = [
     (
         "36028797018963968.0",
@@ -555,7 +648,7 @@ fn packed_forms(rt: HostRuntime) {
     }
 }
 
-/// Texts, and the word that each is kept in.
+/// Texts, and the word that stores each.
 static STORED_WORDS: [(&str, Form<'static>); 3] = [
     ("36028797018963968", Form::I64(36028797018963968)),
     ("9223372036854775808", Form::U64(9223372036854775808)),
@@ -569,7 +662,7 @@ fn word_forms(rt: HostRuntime) {
     }
 }
 
-/// The kinds of stored form.
+/// The kinds of representation.
 #[derive(Clone, Copy, PartialEq, Eq, Debug)]
 enum Kind {
     Packed,
@@ -587,7 +680,9 @@ fn kind_of(form: Form<'_>) -> Kind {
     }
 }
 
-/// Texts one below, at and one above each place where the stored form changes, of both signs and both shapes.
+/// Texts one below, at and one above each boundary of the representations.
+///
+/// They have both signs, with and without a fraction point.
 static BOUNDARIES: [(&str, Kind); 44] = [
     ("36028797018963967", Kind::Packed),
     ("36028797018963968", Kind::I64),
@@ -644,7 +739,7 @@ fn form_boundaries(rt: HostRuntime) {
     }
 }
 
-/// Two texts, their order, and how many digits are read for it.
+/// Two texts, their order, and the number of digits read for it.
 static COMPARED: [(&str, &str, Ordering, u128); 8] = [
     ("1e1073741824", "7", Ordering::Greater, 0),
     (
@@ -666,7 +761,7 @@ fn looks_of_compare(rt: HostRuntime) {
     for &(a, b, want, count) in &COMPARED {
         let (a, b) = (number(&rt, rt.alloc(), a), number(&rt, rt.alloc(), b));
         let mut looks = Looks::new();
-        // The counts show that the looks fit.
+        // The counts show that the inspections fit.
         assert!(rt; a.count() < 40);
         assert!(rt; compare(&a, &b, &mut looks) == want);
         assert!(rt; looks.count() == count);

@@ -1,9 +1,11 @@
-//! Each test here holds under any one refused request for memory: what a refused call leaves is compared, whole where
-//! it is small, and the call is made again.
-//! The repository's `check` runs each with its first request refused, with its second, and so on. Those of the other crates stand in
-//! `ijson_extra`.
+//! Tests that pass if any one allocation fails.
+//!
+//! The state after a failed call is compared, completely if it is small, and the call is repeated. The repository's `check` runs each test
+//! with its first allocation failing, with its second, and so on. The tests for the other crates are in `ijson_extra`.
 
-/// What a call answers, which is made again where memory is refused. That is told by `AllocError`, or else by the error that is given.
+/// The result of a call, which is repeated if an allocation fails.
+///
+/// The error for that is `AllocError`, or the one given.
 macro_rules! granted {
     ($rt:expr; $call:expr) => {
         match $call {
@@ -41,20 +43,21 @@ use std::process::Abort;
 
 const THERE: &str = "a text that was there";
 
-/// A cache that holds this one text.
+/// Returns a cache that contains this one string.
 fn used_cache(rt: &impl Abort, alloc: Global) -> Cache {
     let mut cache = empty_cache(alloc);
     drop(granted!(rt; IString::intern(&mut cache, THERE)));
     cache
 }
 
-/// Whether a cache that held the one text holds it still, and at most so many in all. No call here takes a text out of a cache, so what a
-/// refused one leaves there is seen behind the next one.
+/// Returns `true` if a cache still contains its one string, and at most `most` in all.
+///
+/// No call here removes a string from a cache, so a string that a failed call left there is still counted after the next one.
 fn is_kept(cache: &Cache, most: usize) -> bool {
     cache.contains(THERE) && cache.len() <= most
 }
 
-/// What `text` spells, through a cache of its own.
+/// Parses `text`, with a cache of its own.
 fn read(rt: &impl Abort, alloc: Global, text: &str) -> IValue {
     let mut cache = empty_cache(alloc);
     let value = granted!(rt; JsonError::Memory; from_json(alloc, &mut cache, text));
@@ -62,13 +65,13 @@ fn read(rt: &impl Abort, alloc: Global, text: &str) -> IValue {
     value
 }
 
-/// Asserts that a text is what is written of a value.
+/// Asserts the JSON text of a value.
 fn is_written(rt: &impl Abort, alloc: Global, value: &IValue, text: &str) {
     let written = granted!(rt; to_json(alloc, value));
     assert!(rt; written.as_str() == text);
 }
 
-/// What a map does with its keys.
+/// How a map treats its keys.
 #[derive(Clone, Copy)]
 pub(super) enum Keys {
     Hashes,
@@ -76,7 +79,7 @@ pub(super) enum Keys {
     Keeps,
 }
 
-/// An object of the pairs `b`: 1, `a`: 2 and `eight888`: 3, through a map that hashes its keys, sorts them, or keeps their order.
+/// Returns an object of the entries `b`: 1, `a`: 2 and `eight888`: 3, from a map.
 pub(super) fn object_of_map(
     alloc: Global,
     cache: &mut Cache,
@@ -92,10 +95,10 @@ pub(super) fn object_of_map(
     }
 }
 
-/// The pairs of the maps.
+/// The entries of the maps.
 static PAIRS: [(&str, i64); 3] = [("b", 1), ("a", 2), ("eight888", 3)];
 
-/// Asserts that each pair of the maps is in an object.
+/// Asserts that an object has each entry of the maps.
 fn has_pairs(rt: &impl Abort, object: &IObject) {
     for &(key, n) in &PAIRS {
         assert!(rt; object.get(key).and_then(IValue::to_i64) == Some(n));
@@ -105,7 +108,7 @@ fn has_pairs(rt: &impl Abort, object: &IObject) {
 /// Each map.
 pub(super) static MAPS: [Keys; 3] = [Keys::Hashes, Keys::Sorts, Keys::Keeps];
 
-/// The object of a map.
+/// Returns the object of a map.
 fn of_map(rt: &impl Abort, alloc: Global, cache: &mut Cache, keys: Keys) -> IObject {
     granted!(rt; ReserveError::Memory; object_of_map(alloc, cache, keys))
 }
@@ -122,15 +125,15 @@ fn maps(rt: HostRuntime) {
     drop(cache);
 }
 
-/// The maps of the test that follows.
+/// The maps of the test below.
 type Lists = BTreeMap<String, Vec<Option<i32>>>;
 
-/// The lists that a value says.
+/// Reads a value as lists.
 fn said(rt: &impl Abort, alloc: Global, value: &IValue) -> Lists {
     granted!(rt; ConvertError::Memory; from_value::<Lists>(alloc, value))
 }
 
-/// The value of lists.
+/// Returns the value of lists.
 fn of_lists(rt: &impl Abort, alloc: Global, cache: &mut Cache, lists: &Lists) -> IValue {
     granted!(rt; ConvertError::Memory; to_value(alloc, cache, lists))
 }
@@ -151,12 +154,12 @@ fn conversions(rt: HostRuntime) {
     drop(again);
 }
 
-/// The text that a value says.
+/// Reads a value as a string.
 fn said_text(rt: &impl Abort, alloc: Global, value: &IValue) -> String {
     granted!(rt; ConvertError::Memory; from_value::<String>(alloc, value))
 }
 
-/// The value of a text.
+/// Returns the value of a string.
 fn of_text(rt: &impl Abort, alloc: Global, cache: &mut Cache, text: &String) -> IValue {
     granted!(rt; ConvertError::Memory; to_value(alloc, cache, text))
 }
@@ -176,7 +179,7 @@ fn conversion_of_a_text(rt: HostRuntime) {
     drop(again);
 }
 
-/// Asserts what is written of the value of a literal, and that the cache keeps its text.
+/// Asserts the text of the value of a literal, and that the cache keeps its string.
 fn is_literal(rt: &impl Abort, alloc: Global, cache: &mut Cache, which: &Literal, text: &str) {
     let value = granted!(rt; ConvertError::Memory; value_of(alloc, cache, which));
     assert!(rt; is_kept(cache, 3));
@@ -194,12 +197,12 @@ fn literals(rt: HostRuntime) {
     drop(cache);
 }
 
-/// Whether a cache that held the one text holds it still, and two more.
+/// Returns `true` if a cache still contains its one string, and two more.
 fn has_three(cache: &Cache) -> bool {
     cache.contains(THERE) && cache.len() == 3
 }
 
-/// Asserts that a value gone to `serde_json` and back is the same.
+/// Asserts that converting a value to `serde_json` and back gives an equal value.
 fn there_and_back(rt: &impl Abort, alloc: Global, value: &IValue) {
     let mut cache = used_cache(rt, alloc);
     let there = granted!(rt; ConvertError::Memory; to_serde(alloc, value));
@@ -211,7 +214,7 @@ fn there_and_back(rt: &impl Abort, alloc: Global, value: &IValue) {
     drop(cache);
 }
 
-/// The same of an object, as a map of `serde_json`.
+/// Like `there_and_back`, for an object and a map of `serde_json`.
 fn map_and_back(rt: &impl Abort, alloc: Global, object: &IObject) {
     let mut cache = used_cache(rt, alloc);
     let there = granted!(rt; ConvertError::Memory; to_serde_map(alloc, object));

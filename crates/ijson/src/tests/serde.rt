@@ -1,4 +1,4 @@
-//! Values of `serde_json`: there, back, and by the call for each kind.
+//! Tests of conversions to `serde_json` and back, as a value and by the call for each kind.
 
 use super::{Cache, empty_cache, parsed};
 use crate::convert::{
@@ -11,7 +11,9 @@ use serde_json::Value;
 use std::alloc::Global;
 use std::process::Abort;
 
-/// Texts; what is written of the value of each, once it went to `serde_json` and back; and of what `serde_json` reads there.
+/// Texts, and the text of each value after a conversion.
+///
+/// The first conversion is to `serde_json` and back, the second from the value that `serde_json` reads.
 static SERDE: [(&str, Result<&str, ConvertError>, Result<&str, ConvertError>); 17] = [
     (
         r#"{"b":1,"a":2.0}"#,
@@ -88,7 +90,7 @@ static SERDE: [(&str, Result<&str, ConvertError>, Result<&str, ConvertError>); 1
     ),
 ];
 
-/// What becomes of a value of `serde_json`: by the call for its kind, which answers as the one for values does.
+/// Converts a value of `serde_json` by the call for its kind.
 fn from_kind(alloc: Global, cache: &mut Cache, value: &Value) -> Result<IValue, ConvertError> {
     match value {
         Value::Number(number) => Ok(IValue::from(from_serde_number(number)?)),
@@ -97,7 +99,7 @@ fn from_kind(alloc: Global, cache: &mut Cache, value: &Value) -> Result<IValue, 
     }
 }
 
-/// The way there, likewise.
+/// Converts a value to `serde_json` by the call for its kind.
 fn to_kind(alloc: Global, value: &IValue) -> Result<Value, ConvertError> {
     match value.destructure_ref() {
         DestructuredRef::Number(number) => Ok(Value::Number(to_serde_number(number)?)),
@@ -106,7 +108,7 @@ fn to_kind(alloc: Global, value: &IValue) -> Result<Value, ConvertError> {
     }
 }
 
-/// Whether an answer is this value and what is written of it is the text wanted, or the refusal is.
+/// Returns `true` if a result is this value with the wanted text, or the wanted error.
 fn is_wanted(
     rt: &impl Abort,
     alloc: Global,
@@ -125,7 +127,7 @@ fn is_wanted(
     holds
 }
 
-/// A value gone to `serde_json` and back.
+/// Converts a value to `serde_json` and back.
 pub(super) fn there_and_back(alloc: Global, value: &IValue) -> Result<IValue, ConvertError> {
     let there = to_serde(alloc, value)?;
     let back = from_serde(alloc, &mut empty_cache(alloc), &there);
@@ -133,7 +135,7 @@ pub(super) fn there_and_back(alloc: Global, value: &IValue) -> Result<IValue, Co
     back
 }
 
-/// The same by the call for each kind.
+/// Converts a value to `serde_json` and back, by the call for its kind.
 fn by_kind(alloc: Global, value: &IValue) -> Result<IValue, ConvertError> {
     let there = to_kind(alloc, value)?;
     let back = from_kind(alloc, &mut empty_cache(alloc), &there);
@@ -141,7 +143,9 @@ fn by_kind(alloc: Global, value: &IValue) -> Result<IValue, ConvertError> {
     back
 }
 
-/// Whether a value that goes there and back is equal, or is refused, as a whole and by the call for its kind.
+/// Returns `true` if converting a value and back gives an equal one, or the wanted error.
+///
+/// It is converted as a value and by kind.
 fn goes_back(
     rt: &impl Abort,
     alloc: Global,
@@ -153,7 +157,9 @@ fn goes_back(
     whole && kind
 }
 
-/// Whether what `serde_json` reads in a text is equal to the text's value, or is refused, likewise.
+/// Returns `true` if `serde_json` reads an equal value from a text, or gives the wanted error.
+///
+/// It is converted as a value and by kind.
 fn goes_over(
     rt: &impl Abort,
     alloc: Global,

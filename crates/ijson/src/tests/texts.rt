@@ -1,4 +1,4 @@
-//! What no clause says of texts and their cache: that both go on at any size, which requests for memory they make, and what they print.
+//! Properties of strings and their cache that no clause states: any size works, the number of allocations, and the printed output.
 
 mod lengths;
 mod many;

@@ -1,4 +1,4 @@
-//! Values: questions, parts, conversions, and callers that know by the contracts alone what a write leaves.
+//! Tests of values: queries, parts, conversions, and callers that know a value after a write by the contracts alone.
 ghost use Rattle.std.specs.Prelude.{◌≡◌, IsSome, IsTrue, IsFalse, not};
 ghost use Rattle.ijson_value.specs.Kind.{kind_of};
 ghost use Rattle.ijson_value.specs.declared.value.ValueType.TheVariants as kind;
@@ -14,7 +14,7 @@ use crate::value::{Destructured, DestructuredMut, DestructuredRef, IValue, Value
 use std::alloc::Global;
 use std::process::Abort;
 
-/// Sets the value at a position to null.
+/// Sets the value at an index to null.
 #[tactic(auto, using(ijson_value::specs::laws::Steps::tree_with_step))]
 fn clear_item(value: &mut IValue, position: usize)
     requires { IsSome (tree_at value.old.tree (by_position position)) }
@@ -23,7 +23,7 @@ fn clear_item(value: &mut IValue, position: usize)
     value[position] = IValue::NULL;
 }
 
-/// Sets the value beside a key to null, if there is one.
+/// Sets the value of a key to null, if it exists.
 #[tactic(auto, using(ijson_value::specs::laws::Steps::tree_with_step))]
 fn clear_member(value: &mut IValue, key: &str) -> bool
     requires { kind_of value.old.tree ≡ kind_for (by_key key.now) }
@@ -39,7 +39,7 @@ fn clear_member(value: &mut IValue, key: &str) -> bool
     }
 }
 
-/// Turns a truth value round.
+/// Negates a Boolean.
 fn turn(value: &mut IValue, was: bool)
     requires { value.old.tree ≡ boolean was }
     ensures { value.new.tree ≡ boolean (not was) }
@@ -49,7 +49,7 @@ fn turn(value: &mut IValue, was: bool)
     }
 }
 
-/// An object of these keys and numbers, put in this order.
+/// Returns an object of these keys and numbers, inserted in this order.
 fn object(rt: &impl Abort, alloc: Global, members: &[(&str, &str)]) -> IObject {
     let mut object = IObject::new(alloc);
     for (name, number) in members {
@@ -60,7 +60,7 @@ fn object(rt: &impl Abort, alloc: Global, members: &[(&str, &str)]) -> IObject {
     object
 }
 
-/// An array of true and null.
+/// Returns an array of true and null.
 fn two_items(rt: &impl Abort, alloc: Global) -> IArray {
     let mut array = IArray::new(alloc);
     array.push(IValue::TRUE).expect(rt, "an item");
@@ -68,7 +68,7 @@ fn two_items(rt: &impl Abort, alloc: Global) -> IArray {
     array
 }
 
-/// Asserts that an object has `x` and one key more, `y`, and room for four.
+/// Asserts that an object has the keys `x` and `y`, in order, and capacity for four.
 fn has_two_pairs(rt: &impl Abort, object: &IObject) {
     assert!(rt; object.len() == 2 && object.capacity() == 4);
     assert!(rt; object.contains_key("y"));
@@ -77,14 +77,14 @@ fn has_two_pairs(rt: &impl Abort, object: &IObject) {
     assert!(rt; matches!(pairs.next(), Some((key, _)) if key.eq_str("x")));
 }
 
-/// Asserts that a value is an array, by its type and by its parts.
+/// Asserts that a value is an array, by its type and by its content.
 fn is_array(rt: &impl Abort, value: IValue) {
     assert!(rt; value.type_() == ValueType::Array);
     assert!(rt; matches!(value.destructure_ref(), DestructuredRef::Array(_)));
     drop(value);
 }
 
-/// An object of two pairs, which are put as three.
+/// Returns an object of two entries, inserted as three.
 fn two_pairs(rt: &impl Abort, alloc: Global) -> IObject {
     let object = object(rt, alloc, &[("x", "1"), ("y", "2"), ("x", "3")]);
     has_two_pairs(rt, &object);
@@ -103,7 +103,7 @@ fn values_take_what_they_are_given(rt: HostRuntime) {
     is_array(&rt, array.into());
 }
 
-/// Keys and numbers, in the order that they are put in.
+/// Keys and numbers, in the order of insertion.
 type Members = &'static [(&'static str, &'static str)];
 
 /// Members of two objects, and whether these are equal.
@@ -131,10 +131,10 @@ fn objects_are_equal_as_maps(rt: HostRuntime) {
     }
 }
 
-/// The kind of a value, and what it answers as a truth value, for its length, and whether it is empty.
+/// The kind of a value, its Boolean, its length, and whether it is empty.
 type Answers = (ValueType, Option<bool>, Option<usize>, Option<bool>);
 
-/// Whether the questions about a value answer this.
+/// Returns `true` if the queries about a value give these results.
 fn answers(value: &IValue, told: Answers) -> bool {
     value.type_() == told.0
         && value.to_bool() == told.1
@@ -142,7 +142,7 @@ fn answers(value: &IValue, told: Answers) -> bool {
         && value.is_empty() == told.3
 }
 
-/// Whether a value is of a kind and of no other, by each question that tells it.
+/// Returns `true` if a value is of this kind alone, by each query for a kind.
 fn is_of_kind(value: &IValue, kind: ValueType) -> bool {
     let told = [
         (ValueType::Null, value.is_null()),
@@ -162,7 +162,7 @@ fn is_of_kind(value: &IValue, kind: ValueType) -> bool {
         && value.is_false() == (value.to_bool() == Some(false))
 }
 
-/// The value again, once it was asked for each of the four kinds that hold something, and whether it was of one of them.
+/// Moves the part of a value out and back, and returns the value and whether it had one.
 fn handed_back(value: IValue) -> (IValue, bool) {
     let value: IValue = match value.into_number() {
         Ok(number) => return (IValue::from(number), true),
@@ -182,7 +182,7 @@ fn handed_back(value: IValue) -> (IValue, bool) {
     }
 }
 
-/// Writes the opposite, or the empty value, of each kind.
+/// Writes the negated, or the empty value, of each kind.
 fn empty(value: &mut IValue) {
     match value.destructure_mut() {
         DestructuredMut::Null => {}
@@ -194,7 +194,7 @@ fn empty(value: &mut IValue) {
     }
 }
 
-/// Does the same through the part that is lent by its kind; a truth value stays.
+/// Like `empty`, through the reference to the part of each kind; a Boolean stays.
 fn empty_part(value: &mut IValue) {
     if let Some(number) = value.as_number_mut() {
         set(number, INumber::zero());
@@ -210,7 +210,7 @@ fn empty_part(value: &mut IValue) {
     }
 }
 
-/// Texts, what is answered of each value, and what is left once it is emptied.
+/// Texts, the results of the queries for each value, and the value after it is emptied.
 static KINDS: [(&str, Answers, &str); 8] = [
     ("null", (ValueType::Null, None, None, None), "null"),
     ("true", (ValueType::Bool, Some(true), None, None), "false"),
@@ -230,7 +230,7 @@ static KINDS: [(&str, Answers, &str); 8] = [
     ),
 ];
 
-/// Asserts what a value answers, and that emptied it is what is left of it, which is taken then.
+/// Asserts the results of the queries for a value, and that emptying it gives `left`.
 fn is_emptied(rt: &impl Abort, mut value: IValue, told: Answers, left: &IValue) {
     assert!(rt; answers(&value, told));
     assert!(rt; is_of_kind(&value, told.0));
@@ -239,7 +239,7 @@ fn is_emptied(rt: &impl Abort, mut value: IValue, told: Answers, left: &IValue) 
     is_taken(rt, value, told.0);
 }
 
-/// Asserts that a value emptied by its part is what is left of it; a truth value stays.
+/// Asserts that emptying a value by its part gives `left`; a Boolean stays.
 fn is_emptied_by_part(rt: &impl Abort, mut value: IValue, left: &IValue) {
     let truth = value.to_bool();
     empty_part(&mut value);
@@ -257,7 +257,7 @@ fn kinds_and_parts(rt: HostRuntime) {
     }
 }
 
-/// Texts, whether the values of both are equal once they are opened, and what is shown of the first.
+/// Texts, whether the contents of both values are equal, and the debug output of the first.
 static OPENED: [(&str, &str, bool, &str); 12] = [
     ("null", "null", true, "Null"),
     ("true", "false", false, "Bool(true)"),
@@ -278,7 +278,7 @@ static OPENED: [(&str, &str, bool, &str); 12] = [
     ),
 ];
 
-/// Opens a value in each way, and asserts what is shown of it.
+/// Gets the content of a value in each way, and asserts its debug output.
 fn is_shown_open(rt: &impl Abort, alloc: Global, mut value: IValue, want: &str) {
     is_shown(rt, alloc, &value.destructure_ref(), want);
     is_shown_to_be_written(rt, alloc, value.destructure_mut(), want);
@@ -287,7 +287,7 @@ fn is_shown_open(rt: &impl Abort, alloc: Global, mut value: IValue, want: &str) 
     drop(opened);
 }
 
-/// The same of one that is opened to be written, where a truth value is shown by itself.
+/// Asserts the debug output of mutable content, which differs for a Boolean.
 fn is_shown_to_be_written(rt: &impl Abort, alloc: Global, value: DestructuredMut<'_>, want: &str) {
     match value {
         DestructuredMut::Bool(truth) => is_shown(rt, alloc, &truth, "BoolMut { place: true }"),
@@ -295,7 +295,7 @@ fn is_shown_to_be_written(rt: &impl Abort, alloc: Global, value: DestructuredMut
     }
 }
 
-/// Asserts that two values that are opened are equal, or that they differ.
+/// Asserts that the contents of two values are equal, or that they differ.
 fn are_equal_open(rt: &impl Abort, left: Destructured, right: Destructured, want: bool) {
     assert!(rt; (left == right) == want);
     assert!(rt; (left.as_ref() == right.as_ref()) == want);
@@ -314,7 +314,41 @@ fn values_opened(rt: HostRuntime) {
     is_shown(&rt, alloc, &ValueType::Object, "Object");
 }
 
-/// For how many items or pairs there is room in a value.
+/// JSON texts, and the `Debug` text of each value: strings are quoted and escaped like `str`.
+static SHOWN: [(&str, &str); 12] = [
+    ("null", "null"),
+    ("true", "true"),
+    ("false", "false"),
+    ("-1.50", "-1.5"),
+    ("\"\"", "\"\""),
+    ("\"short\"", "\"short\""),
+    ("\"a longer text\"", "\"a longer text\""),
+    (
+        "\"\\u0022\\u005c\\u000a\\u0001\\u00e9\"",
+        "\"\\\"\\\\\\n\\u{1}é\"",
+    ),
+    ("[]", "[]"),
+    (
+        "[null,[\"a\"],{\"b\":\"c\"}]",
+        "[null, [\"a\"], {\"b\": \"c\"}]",
+    ),
+    ("{}", "{}"),
+    (
+        "{\"k\\u0022\":\"v\",\"l\":[\"a longer text\",true]}",
+        "{\"k\\\"\": \"v\", \"l\": [\"a longer text\", true]}",
+    ),
+];
+
+#[test]
+fn values_shown(rt: HostRuntime) {
+    for &(text, want) in &SHOWN {
+        let value = parsed(&rt, rt.alloc(), text);
+        is_shown(&rt, rt.alloc(), &value, want);
+        drop(value);
+    }
+}
+
+/// Returns the capacity of an array or object.
 fn room(value: &IValue) -> Option<usize> {
     match value.destructure_ref() {
         DestructuredRef::Array(array) => Some(array.capacity()),
@@ -323,7 +357,7 @@ fn room(value: &IValue) -> Option<usize> {
     }
 }
 
-/// For how many items or pairs there is room in the part that a value gives out.
+/// Returns the capacity of an array or object moved out of a value.
 fn room_given(value: IValue) -> Option<usize> {
     match value.into_array() {
         Ok(array) => Some(array.capacity()),
@@ -331,7 +365,7 @@ fn room_given(value: IValue) -> Option<usize> {
     }
 }
 
-/// Asserts that an array or an object keeps its room while it is lent, and once it is given out.
+/// Asserts that an array or object keeps its capacity while it is borrowed, and after it is moved out.
 fn keeps_room(rt: &impl Abort, mut value: IValue, want: usize) {
     empty(&mut value);
     assert!(rt; room(&value) == Some(want));
@@ -349,13 +383,13 @@ fn room_goes_along(rt: HostRuntime) {
     keeps_room(&rt, object.into(), 7);
 }
 
-/// Asserts for how many items or pairs there is room in a value.
+/// Asserts the capacity of an array or object.
 fn has_room(rt: &impl Abort, value: IValue, want: usize) {
     assert!(rt; room(&value) == Some(want));
     drop(value);
 }
 
-/// Texts, and for how many items or pairs there is room in the value of each: no more than there are.
+/// Texts, and the capacity of the value of each: no more than its length.
 static READ: [(&str, usize); 4] = [
     ("[]", 0),
     ("[1,2,3]", 3),
@@ -363,7 +397,7 @@ static READ: [(&str, usize); 4] = [
     ("{\"a\":1,\"b\":2,\"c\":3}", 3),
 ];
 
-/// The text of an array of so many zeros, of which there are some.
+/// Returns the text of an array of `count` zeros, at least one.
 fn zeros(rt: &impl Abort, alloc: Global, count: u32) -> String {
     let mut text = String::new(alloc);
     text.push_str("[0").expect(rt, "room");
@@ -397,7 +431,7 @@ fn is_taken(rt: &impl Abort, mut value: IValue, kind: ValueType) {
     drop(copy);
 }
 
-/// Whether a number answers these integers, and whether the others are these as well.
+/// Returns `true` if a value converts to these integers, and to those of pointer size.
 fn are_integers(
     value: IValue,
     i32_: Option<i32>,
@@ -415,7 +449,7 @@ fn are_integers(
     same
 }
 
-/// Texts, and what each is as an `i32`, a `u32`, an `i64` and a `u64`.
+/// Texts, and the value of each as an `i32`, a `u32`, an `i64` and a `u64`.
 static INTEGERS: [(&str, Option<i32>, Option<u32>, Option<i64>, Option<u64>); 5] = [
     ("2.0", Some(2), Some(2), Some(2), Some(2)),
     ("-1", Some(-1), None, Some(-1), None),
@@ -438,12 +472,12 @@ fn integers(rt: HostRuntime) {
     }
 }
 
-/// Whether a value is this integer below zero, which an `i32` holds.
+/// Returns `true` if a value is this negative integer, which fits an `i32`.
 fn is_negative(value: IValue, want: i32) -> bool {
     are_integers(value, Some(want), None, Some(i64::from(want)), None)
 }
 
-/// Whether a value is this integer, which each of the four types holds.
+/// Returns `true` if a value is this integer, which fits each of the four types.
 fn is_small(value: IValue, want: u16) -> bool {
     let want = i32::from(want);
     are_integers(
@@ -462,7 +496,7 @@ fn narrow_widths(rt: HostRuntime) {
     assert!(rt; is_small(u8::MAX.into(), 255) && is_small(u16::MAX.into(), 65535));
 }
 
-/// The greatest of `u64` and of `i64`, and the least of `i64`.
+/// The maximum `u64`.
 const GREATEST: u64 = 18446744073709551615;
 
 const GREATEST_SIGNED: i64 = 9223372036854775807;
@@ -496,7 +530,7 @@ fn options(rt: HostRuntime) {
     drop(none);
 }
 
-/// Writes into the array beside `b`, and sets `c` to null.
+/// Writes to the array of `b`, and sets `c` to null.
 fn edit(value: &mut IValue) -> bool
     requires { kind_of value.old.tree ≡ kind.Object }
 {
@@ -510,7 +544,7 @@ fn edit(value: &mut IValue) -> bool
     true
 }
 
-/// Asserts that a value is an object of three members, with 1 beside `a` and two items beside `b`.
+/// Asserts that a value is an object of three members, with 1 for `a` and two elements for `b`.
 fn is_found(rt: &impl Abort, value: &IValue) {
     assert!(rt; value.len() == Some(3));
     assert!(rt; value.is_object());
@@ -518,7 +552,7 @@ fn is_found(rt: &impl Abort, value: &IValue) {
     assert!(rt; value.get(&"b").and_then(IValue::len) == Some(2));
 }
 
-/// Writes into an object beside `b` and `c`, and takes out what stands beside `a`.
+/// Writes to an object at `b` and `c`, and removes `a`.
 fn is_edited(rt: &impl Abort, value: &mut IValue) {
     assert!(rt; value.is_object());
     assert!(rt; edit(value));
@@ -526,6 +560,17 @@ fn is_edited(rt: &impl Abort, value: &mut IValue) {
     assert!(rt; clear_member(value, "c"));
     assert!(rt; value.is_object());
     drop(value.remove("a").expect(rt, "a value"));
+    assert!(rt; room(value) == Some(3));
+}
+
+/// Removal keeps the capacity of an array, as it does that of an object.
+#[test]
+fn a_removal_keeps_the_capacity(rt: HostRuntime) {
+    let mut value = parsed(&rt, rt.alloc(), "[1,2,3]");
+    assert!(rt; value.is_array());
+    drop(value.remove(0usize).expect(&rt, "an element"));
+    assert!(rt; value.len() == Some(2) && room(&value) == Some(3));
+    drop(value);
 }
 
 #[test]

@@ -4,7 +4,7 @@ use Rattle.std.specs.Option.{IfSome}
 use Rattle.ijson_json.specs.Compacts.{IsCompactLine}
 use Rattle.ijson_compact.proofs.compact_stream.Goals as goal
 
--- what holds of the line holds without what was said beside it
+-- the line of the bytes, without the further properties P and Q
 line_of : (left : Option (List ℕ)) (P : Type 0) (Q : List ℕ → Type 0)
     → IfSome left (λ bytes. P × ((line : List ℕ) × IsCompactLine bytes line × Q line))
     → IfSome left (λ bytes. (line : List ℕ) × IsCompactLine bytes line)

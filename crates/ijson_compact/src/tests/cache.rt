@@ -1,4 +1,4 @@
-//! What reading leaves in the cache, and that no answer depends on it.
+//! The strings that reading adds to the cache, and that no result depends on it.
 
 use super::{empty_cache, is_written};
 use ijson_json::from_json;

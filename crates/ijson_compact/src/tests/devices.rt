@@ -1,4 +1,4 @@
-//! `compact` and `report` over devices that give and take few bytes at a time, and fail.
+//! `compact` and `report` over devices that move few bytes at a time, and fail.
 
 ghost use Rattle.std.specs.Prelude.{◌<◌, IfOk};
 ghost use Rattle.ijson_json.specs.Compacts.{IsCompactLine};
@@ -16,14 +16,14 @@ use std::io;
 use std::io::{ErrorKind, Read, Write};
 use std::process::Abort;
 
-/// The most bytes that a `Slow` moves in one call.
+/// The maximum number of bytes that a `Slow` moves in one call.
 const SLOW: usize = 3;
 
 const TEXT: &[u8] = b"[1.50,true]";
 
 const LINE: &[u8] = b"[1.5,true]\n";
 
-/// Asserts that this status and this line are reported of an answer.
+/// Asserts the status and the line reported for a result.
 fn reported(
     rt: &impl Abort,
     alloc: Global,
@@ -38,7 +38,7 @@ fn reported(
     }
 }
 
-/// Compacts a text over a sink that fails after so many bytes, and tells the answer and the sink.
+/// Compacts a text over a sink that fails after `fail_at` bytes, and returns the result and the sink.
 fn written_until(
     rt: &impl Abort,
     alloc: Global,
@@ -53,7 +53,7 @@ fn written_until(
     (answer, output)
 }
 
-/// Asserts that a sink that fails after so few bytes has a beginning of the line.
+/// Asserts that a sink that fails after `fail_at` bytes has a beginning of the line.
 fn is_cut_off(rt: &impl Abort, alloc: Global, piece: usize, fail_at: usize)
     requires { 0 < piece }
 {
@@ -64,7 +64,7 @@ fn is_cut_off(rt: &impl Abort, alloc: Global, piece: usize, fail_at: usize)
     assert!(rt; output.bytes().len() == fail_at && output.failures() == 1);
 }
 
-/// Asserts that a sink that takes the whole line has it.
+/// Asserts that a sink that accepts the whole line has it.
 fn is_whole(rt: &impl Abort, alloc: Global, piece: usize)
     requires { 0 < piece }
 {
@@ -84,7 +84,7 @@ fn a_sink_that_fails_got_a_beginning(rt: HostRuntime) {
     }
 }
 
-/// Asserts that nothing is written of a source that fails after so few bytes.
+/// Asserts that nothing is written for a source that fails after `fail_at` bytes.
 fn is_not_written(rt: &impl Abort, alloc: Global, piece: usize, fail_at: usize)
     requires { 0 < piece }
 {
@@ -105,7 +105,7 @@ fn a_source_that_fails_leaves_the_sink(rt: HostRuntime) {
     }
 }
 
-/// Asserts what `compact` and `report` write of a text over devices that move 1, 2 or 3 bytes a call, and the status.
+/// Asserts the output of `compact` and `report` over devices that move 1 to 3 bytes a call.
 pub fn compacts(
     rt: &impl Abort,
     alloc: Global,
@@ -123,7 +123,7 @@ pub fn compacts(
     }
 }
 
-/// Bytes, what is written of each, the line and the status.
+/// Bytes, the output for each, the line and the status.
 static TEXTS: [(&[u8], &[u8], &[u8], u8); 6] = [
     (b" [1.50, true ] ", LINE, b"", 0),
     (&[0x22, 0x7f, 0x22], &[0x22, 0x7f, 0x22, 0x0a], b"", 0),
@@ -145,7 +145,7 @@ fn texts_and_their_lines(rt: HostRuntime) {
     }
 }
 
-/// Faults, the status of each, and the line.
+/// Errors, the status of each, and the line.
 static REPORTS: [(CompactError, u8, &[u8]); 6] = [
     (
         CompactError::Json(JsonError::TooDeep { at: 127 }),
@@ -218,7 +218,7 @@ fn streams_that_fail_are_faults(rt: HostRuntime) {
     assert!(rt; answer == Err(CompactError::Read));
 }
 
-/// A reader of its bytes, and a writer behind them, that move three bytes a call.
+/// A reader of its bytes, and a writer after them, that move three bytes a call.
 #[derive(Drop)]
 struct Slow {
     bytes: Vec<u8>,
@@ -247,7 +247,7 @@ impl Write for Slow {
     }
 }
 
-/// What is written of a queue's bytes, through streams that tell what their reader and writer tell.
+/// Returns the output for the bytes of a queue, through streams that know their bytes.
 fn compacted(alloc: Global, input: VecDeque<u8>) -> Result<VecDeque<u8>, CompactError>
     ensures line { IfOk result (λ written. IsCompactLine input.items written.items) }
 {
@@ -257,7 +257,7 @@ fn compacted(alloc: Global, input: VecDeque<u8>) -> Result<VecDeque<u8>, Compact
     Ok(sink.into_inner())
 }
 
-/// A text of this front, 10,000 times this item, and this end.
+/// Returns a text of this front, 10,000 times this item, and this end.
 fn listed(rt: &impl Abort, alloc: Global, front: &[u8], item: &[u8], end: &[u8]) -> Slow {
     let mut bytes = Vec::new(alloc);
     bytes.extend_from_slice(front).expect(rt, "a text");
@@ -268,7 +268,7 @@ fn listed(rt: &impl Abort, alloc: Global, front: &[u8], item: &[u8], end: &[u8])
     Slow { bytes, given: 0 }
 }
 
-/// The text goes through queues.
+/// Compacts the text through queues.
 fn passes_queues(rt: &impl Abort, alloc: Global) {
     let mut queue = VecDeque::new(alloc);
     for byte in TEXT {
@@ -278,7 +278,7 @@ fn passes_queues(rt: &impl Abort, alloc: Global) {
     assert!(rt; written.iter().eq(LINE.iter()));
 }
 
-/// What is written of a text, through streams.
+/// Returns the output for a text, through streams.
 fn streamed(rt: &impl Abort, alloc: Global, text: Slow) -> Slow {
     let mut input = StreamSource::new(text);
     let bytes = Vec::new(alloc);
@@ -290,8 +290,7 @@ fn streamed(rt: &impl Abort, alloc: Global, text: Slow) -> Slow {
     output.into_inner()
 }
 
-/// A text longer than the room that is made at a time goes through streams that move few bytes a call, and a
-/// short one through queues.
+/// A long text passes through streams that move few bytes a call, and a short one through queues.
 #[test]
 fn streams_pass_bytes_on(rt: HostRuntime) {
     let alloc = rt.alloc();

@@ -1,4 +1,4 @@
-//! Where faults are told: byte offsets from 0.
+//! Error positions: byte offsets from 0.
 
 use super::devices::compacts;
 use super::{nested, rewritten};
@@ -6,8 +6,8 @@ use ijson_json::JsonError;
 use std::alloc::{AllocError, Global};
 use std::process::Abort;
 
-/// Texts that are no JSON, and where that is told.
-static SYNTAX: [(&str, usize); 22] = [
+/// Texts that are not JSON, and the position of each error.
+static SYNTAX: [(&str, usize); 25] = [
     ("", 0),
     (" ", 1),
     ("]", 0),
@@ -17,6 +17,10 @@ static SYNTAX: [(&str, usize); 22] = [
     ("falsy", 4),
     ("nullx", 4),
     ("1 2", 2),
+    // values and keys that own memory
+    ("[[1]] 2", 6),
+    ("{\"a_key_of_many_bytes\" 1}", 23),
+    ("{\"a_key_of_many_bytes\":[[1]],}", 29),
     ("[1 2]", 3),
     ("[1,]", 3),
     ("[,1]", 1),
@@ -32,7 +36,7 @@ static SYNTAX: [(&str, usize); 22] = [
     ("\u{c}1", 0),
 ];
 
-/// Texts of numbers that are no JSON, and where that is told.
+/// Texts of numbers that are not JSON, and the position of each error.
 static NUMBER_SYNTAX: [(&str, usize); 16] = [
     ("01", 1),
     ("1.", 2),
@@ -52,7 +56,7 @@ static NUMBER_SYNTAX: [(&str, usize); 16] = [
     ("[1.]", 3),
 ];
 
-/// Texts of strings that are no JSON, and where that is told.
+/// Texts of strings that are not JSON, and the position of each error.
 static STRING_SYNTAX: [(&str, usize); 16] = [
     ("\"", 1),
     ("\"abc", 4),
@@ -72,7 +76,7 @@ static STRING_SYNTAX: [(&str, usize); 16] = [
     ("\"\\nab\\x\"", 5),
 ];
 
-/// Texts with a number whose exponent is out of range, and where that is told.
+/// Texts with a number whose exponent is out of range, and the position of each error.
 static NUMBER_RANGE: [(&str, usize); 6] = [
     ("10e1073741824", 0),
     ("1e-1073741825", 0),
@@ -82,7 +86,7 @@ static NUMBER_RANGE: [(&str, usize); 6] = [
     ("{\"a\":1e1073741825,\"a\":1}", 5),
 ];
 
-/// The line that reports a fault.
+/// Returns the line that reports an error.
 fn line_of(alloc: Global, fault: JsonError) -> Result<String, AllocError> {
     match fault {
         JsonError::Syntax { at } => format!(in alloc; "ijson: syntax at byte {at}\n"),
@@ -94,7 +98,7 @@ fn line_of(alloc: Global, fault: JsonError) -> Result<String, AllocError> {
     }
 }
 
-/// Asserts that a text is refused with a fault, as it is and from a device.
+/// Asserts that a text is rejected with an error, by itself and from a device.
 fn refused(rt: &impl Abort, alloc: Global, text: &str, fault: JsonError) {
     assert!(rt; rewritten(alloc, text).err() == Some(fault), "{text}");
     let line = line_of(alloc, fault).expect(rt, "a line");
@@ -121,7 +125,7 @@ fn number_range(rt: HostRuntime) {
     }
 }
 
-/// Each proper beginning of a text is refused: inside the escape at its backslash, else at its end.
+/// Each proper prefix of a text is rejected: inside the escape at its backslash, otherwise at its end.
 #[test]
 fn beginnings(rt: HostRuntime) {
     let text = "{\"a\":[1.5e3,\"\\u00e9\"],\"b\":null}";
@@ -137,8 +141,9 @@ fn beginnings(rt: HostRuntime) {
     }
 }
 
-/// Texts that are too deep: what stands in front, an opening, how often, what is inside, a closing, what stands behind, and where it is
-/// told.
+/// Texts that are too deep, and the position of the error.
+///
+/// Each is the text before, an opening, its count, the text inside, a closing, and the text after.
 static DEEP: [(&str, &str, usize, &str, &str, &str, usize); 3] = [
     ("", "[", 128, "", "]", "", 127),
     ("", "{\"a\":", 128, "null", "}", "", 635),

@@ -1,4 +1,4 @@
-//! The words that numbers and texts feed a hasher.
+//! The words that numbers and strings feed a hasher.
 use super::empty_cache;
 use super::recorder::feeds;
 use ijson_number::INumber;
@@ -36,7 +36,7 @@ fn a_number_feeds_its_words(rt: HostRuntime) {
     }
 }
 
-/// Texts, and the words that each feeds a hasher.
+/// Strings, and the words that each feeds a hasher.
 static TEXTS: [(&str, &[u64]); 4] = [
     ("", &[3, 0]),
     ("hi", &[3, 2, 104, 105]),

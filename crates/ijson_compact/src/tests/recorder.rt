@@ -1,12 +1,13 @@
-//! A hasher that notes the words that it is fed.
+//! A hasher that records the words it is fed.
 
 use std::alloc::Global;
 use std::cell::{Cell, RefCell};
 use std::hash::{Hash, Hasher};
 use std::process::Abort;
 
-/// It notes the words of `write_u64`, and whether it was fed anything else or had no memory for a word. What a cell holds is no part of
-/// a value, so for a contract it stays as it was.
+/// Records the words of `write_u64`, and whether it was fed anything else or had no memory for a word.
+///
+/// The content of a cell is no part of a value, so contracts do not see it change.
 #[derive(Drop)]
 struct Recorder<'a> {
     words: &'a RefCell<Vec<u64>>,

@@ -1,4 +1,4 @@
-//! Texts that are read, and what is written of them.
+//! JSON texts, and the text written for each.
 
 use super::devices::compacts;
 use super::{nested, parsed, rewritten};
@@ -7,7 +7,7 @@ use ijson_value::value::{DestructuredRef, IValue};
 use std::alloc::Global;
 use std::process::Abort;
 
-/// Texts of numbers, and how each is written.
+/// Texts of numbers, and the text written for each.
 static NUMBERS: [(&str, &str); 19] = [
     ("-0", "0"),
     ("-0.0", "0.0"),
@@ -36,7 +36,7 @@ static NUMBERS: [(&str, &str); 19] = [
     ),
 ];
 
-/// Texts of containers and words, and how each is written.
+/// Texts of containers and words, and the text written for each.
 static CONTAINERS: [(&str, &str); 11] = [
     (" [1.50, [true], null, -0.0] ", "[1.5,[true],null,0.0]"),
     ("[]", "[]"),
@@ -57,7 +57,7 @@ static CONTAINERS: [(&str, &str); 11] = [
     ("\t\r\n false\t\r\n ", "false"),
 ];
 
-/// Texts of strings, and how each is written.
+/// Texts of strings, and the text written for each.
 static STRINGS: [(&str, &str); 8] = [
     ("\"\\ud83d\\ude00\"", "\"\u{1f600}\""),
     ("\"\\uD834\\uDD1E\"", "\"\u{1d11e}\""),
@@ -72,7 +72,7 @@ static STRINGS: [(&str, &str); 8] = [
     ),
 ];
 
-/// Asserts what is written of a text, as it is and from a device, and that what is read of that is equal.
+/// Asserts the text written for a text, also from a device, and that the value of that is equal.
 fn is_rewritten(rt: &impl Abort, alloc: Global, text: &str, want: &str) {
     let begins = text.get(..40).unwrap_or(text);
     let found = rewritten(alloc, text).expect(rt, begins);
@@ -99,7 +99,7 @@ fn texts(rt: HostRuntime) {
     written(&rt, rt.alloc(), &STRINGS);
 }
 
-/// How a control character is written between quotes.
+/// The text written for each control character.
 static ESCAPES: [&str; 32] = [
     "\"\\u0000\"",
     "\"\\u0001\"",
@@ -135,7 +135,7 @@ static ESCAPES: [&str; 32] = [
     "\"\\u001f\"",
 ];
 
-/// Each byte below 20 hexadecimal is refused raw, and written with a short escape or by its number.
+/// Each byte below 20 hexadecimal is rejected unescaped, and written as an escape.
 #[test]
 fn control_characters(rt: HostRuntime) {
     let alloc = rt.alloc();
@@ -148,7 +148,7 @@ fn control_characters(rt: HostRuntime) {
     }
 }
 
-/// Texts that are as deep as they may be: an opening, what is inside, and a closing.
+/// Texts of the maximum depth: an opening, the text inside, and a closing.
 static DEEPEST: [(&str, &str, &str); 2] = [("[", "", "]"), ("{\"a\":", "null", "}")];
 
 #[test]
@@ -159,7 +159,7 @@ fn deepest(rt: HostRuntime) {
     }
 }
 
-/// Long texts, each of which is written as it is read: what stands in front, what follows and how often, and what stands behind.
+/// Long texts that are written as they are read: a beginning, a part and its count, and an end.
 static LONG: [(&str, &str, usize, &str); 7] = [
     ("\"", "abcdefg ", 1_000, "\""),
     ("\"", "\\né", 2_000, "\""),
@@ -180,7 +180,7 @@ fn long(rt: HostRuntime) {
     }
 }
 
-/// An array of more items than 16 bits can count.
+/// An array of more elements than 16 bits can count.
 #[test]
 fn many_items(rt: HostRuntime) {
     let alloc = rt.alloc();
@@ -190,7 +190,7 @@ fn many_items(rt: HostRuntime) {
     assert!(rt; found == text);
 }
 
-/// Texts, and for how many items or members there is room in what is read of each: for as many as were written.
+/// Texts, and the capacity of the value of each, which is the number of elements or members written.
 static ROOM: [(&str, usize); 6] = [
     ("[]", 0),
     ("[1]", 1),
@@ -217,7 +217,9 @@ fn what_is_read_has_no_more_room(rt: HostRuntime) {
     }
 }
 
-/// 10,000 members of one object, each with its number as the value. The keys are `k`, and the number too where they are to differ.
+/// Returns 10,000 members of an object, each with its number as the value.
+///
+/// The key is `k`, followed by the number if `differ`.
 fn members(rt: &impl Abort, alloc: Global, differ: bool) -> String {
     let mut text = String::from_str(alloc, "{").expect(rt, "a text");
     for number in 0..10_000u32 {

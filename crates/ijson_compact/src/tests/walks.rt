@@ -1,5 +1,5 @@
-//! Values whole: what they feed a hasher, how they are ordered, copied and shown, and a caller that knows a map of values by the contracts
-//! alone.
+//! Whole values: the words they feed a hasher, their order, copies and debug output, and a caller that knows a map of values by the
+//! contracts alone.
 ghost use Rattle.std.specs.Prelude.{◌≡◌, true, IfOk};
 
 use super::recorder::feeds;
@@ -52,7 +52,7 @@ fn values_feed_their_words(rt: HostRuntime) {
     }
 }
 
-/// Texts, and how the value of the first is ordered to that of the second.
+/// Texts, and the order of the value of the first to that of the second.
 static ORDERED: [(&str, &str, Option<Ordering>); 24] = [
     ("null", "false", Some(Ordering::Less)),
     ("false", "true", Some(Ordering::Less)),
@@ -88,7 +88,7 @@ static ORDERED: [(&str, &str, Option<Ordering>); 24] = [
     ),
 ];
 
-/// Asserts how two values are ordered, and that they are equal where the order is Equal.
+/// Asserts the order of two values, and that they are equal exactly if it is Equal.
 fn are_ordered(rt: &impl Abort, left: &IValue, right: &IValue, want: Option<Ordering>) {
     assert!(rt; left.partial_cmp(right) == want);
     assert!(rt; right.partial_cmp(left) == want.map(|order| order.reverse()));
@@ -119,7 +119,7 @@ fn hash_of<T: Hash>(value: &T) -> u64 {
     hasher.finish()
 }
 
-/// Asserts that the order turns round, is Equal where the two are equal, and that equal ones have one hash.
+/// Asserts that the order of two values is antisymmetric, and agrees with equality and hashes.
 fn agree(rt: &impl Abort, left: &IValue, right: &IValue) {
     let order = left.partial_cmp(right);
     assert!(rt; order == right.partial_cmp(left).map(|order| order.reverse()));
@@ -127,7 +127,7 @@ fn agree(rt: &impl Abort, left: &IValue, right: &IValue) {
     assert!(rt; left != right || hash_of(left) == hash_of(right));
 }
 
-/// Asserts that a copy of a value is equal to it, and is written so.
+/// Asserts that a copy of a value is equal to it and has this text.
 fn is_copied(rt: &impl Abort, alloc: Global, value: &IValue, want: &str) {
     let copy = value.clone().expect(rt, "a copy");
     assert!(rt; copy == *value);
@@ -156,7 +156,7 @@ fn each_pair_of_values_agrees(rt: HostRuntime) {
     drop(all);
 }
 
-/// Asserts what is written of a copy of an object of three pairs, one of them of `a`, and that both have room for three.
+/// Asserts the text of a copy of an object of three entries, without spare capacity.
 fn is_copied_tightly(rt: &impl Abort, alloc: Global, object: &IObject, want: &str) {
     let copy = object.clone().expect(rt, "a copy");
     assert!(rt; object.capacity() == 3 && copy.capacity() == 3);
@@ -166,7 +166,7 @@ fn is_copied_tightly(rt: &impl Abort, alloc: Global, object: &IObject, want: &st
     drop(copy);
 }
 
-/// Asserts that a copy of an object that has room and no pairs has no room.
+/// Asserts that a copy of an empty object with capacity has none.
 fn room_is_not_copied(rt: &impl Abort, alloc: Global) {
     let roomy = IObject::with_capacity(alloc, 10).expect(rt, "room");
     let copy = roomy.clone().expect(rt, "a copy");
@@ -175,7 +175,7 @@ fn room_is_not_copied(rt: &impl Abort, alloc: Global) {
     drop(copy);
 }
 
-/// Asserts what is shown of a value.
+/// Asserts the debug output of a value.
 fn is_shown(rt: &impl Abort, alloc: Global, value: &IValue, want: &str) {
     let shown = format!(in alloc; "{value:?}").expect(rt, "a text");
     assert!(rt; shown.as_str() == want);
@@ -193,7 +193,7 @@ fn a_copy_of_an_object_has_its_length_as_capacity(rt: HostRuntime) {
     drop(value);
 }
 
-/// An array in an array, so many of them.
+/// Returns null inside `depth` nested arrays.
 fn nested(rt: &impl Abort, alloc: Global, depth: usize) -> IValue {
     let mut value = IValue::NULL;
     for _ in 0..depth {
@@ -214,7 +214,7 @@ fn a_deep_value_is_walked(rt: HostRuntime) {
     drop(copy);
 }
 
-/// A copy of a value finds the value in a map.
+/// Finds a value in a map by a copy.
 fn found_by_copy(alloc: Global, value: IValue) -> Result<bool, AllocError>
     ensures { IfOk result (λ found. found ≡ true) }
 {
@@ -226,7 +226,7 @@ fn found_by_copy(alloc: Global, value: IValue) -> Result<bool, AllocError>
 
 type Map = HashMap<IValue, u8, BuildHasherDefault<FoldHasher>>;
 
-/// A map of one value alone.
+/// Returns a map of one value.
 fn map_of(rt: &impl Abort, alloc: Global, value: IValue) -> Map {
     let mut map = HashMap::with_hasher(alloc, BuildHasherDefault::<FoldHasher>::new());
     let inserted: Result<_, _> = map.insert(value, 1u8);

@@ -1,4 +1,4 @@
--- The count of a walk over tokens: what its test says, and what it is for the next call. Assumes `Logic`.
+-- The count of a recursion over tokens: its test, and its value in the next call. Assumes `Logic`.
 use Rattle.ijson_value.proofs.lends.Steps.{◌≡◌, subst, ℕ, List, [], ◌∷◌, refl, ap, w64, emp, Val, ◌$◌, ◌∵◌, !, qed, done, fjoin, usize}
 use Rattle.ijson_value.proofs.lends.Steps.{uint_vals}
 use mathlib.Core.Bool.{not}
@@ -10,7 +10,7 @@ use lib.Dec.{eqb, T, eqb-suc-zero}
 use Rattle.std.proofs.Common.{zero, suc, ◌<◌, ◌-◌, ◌^◌, drop as list_drop, arith}
 use Rattle.std.specs.Prelude.{length}
 
--- what the test of the count says
+-- the meaning of the count's test
 pub is_zero : (m : ℕ) → T (eqb m 0) → m ≡ 0
 is_zero zero t = refl
 is_zero (suc m) t = absurd (subst T (eqb-suc-zero m) t)
@@ -22,7 +22,7 @@ not_zero (suc m) t = omega arith
 pub less_one : (m : ℕ) → 0 < m → m < 2 ^ 64 → m - 1 < 2 ^ 64
 less_one m h f = omega (arith, h, f)
 
--- what the calls ask of the count of tokens
+-- the precondition of the calls on the number of tokens
 pub two_at_least : (m n : ℕ) → 0 < m → m < n → 1 < n
 two_at_least m n h k = omega (arith, h, k)
 
@@ -30,7 +30,7 @@ pub one_fewer : (m : ℕ) (ws vs : List (List ℕ)) → 0 < m → m < length ws 
 one_fewer m [] vs h k e = absurd (omega (arith, k))
 one_fewer m (w ∷ ws) vs h k e = omega (arith, h, k, ap length e)
 
--- one fewer is fewer
+-- one less is less
 pub falls : (m : ℕ) → 0 < m → m - 1 < m
 falls m h = omega (arith, h)
 

@@ -1,4 +1,4 @@
--- The parts of an opened value are taken apart, and what a value is whose part was left as it was. Assumes `Logic`.
+-- Taking apart the content of a value, and the value if its part is unchanged. Assumes `Logic`.
 use Rattle.std.proofs.Common.{◌≡◌, refl, ap, ◌∙◌, ℕ, Bool, true, false, List, [], ◌∷◌, MutBor}
 use Rattle.std.specs.Prelude.{not}
 use mathlib.Core.List.{◌++◌}
@@ -34,7 +34,7 @@ use Rattle.ijson_value.specs.declared.value.destructure.BoolMut.{BoolMut}
 use Rattle.ijson_value.specs.declared.value.destructure.DestructuredMut.{DestructuredMut}
 use Rattle.ijson_value.specs.declared.value.destructure.DestructuredMut.TheVariants as parts
 
--- whether it is the kind of truth values
+-- whether it is the kind of Booleans
 abbrev pub is_bool : ValueType → Bool
 is_bool kind.Bool = true
 is_bool k = false
@@ -43,11 +43,11 @@ abbrev truth_of : Tree → Bool
 truth_of (boolean b) = b
 truth_of t = false
 
--- the opposite of the one truth value that a value is
+-- the negation of the Boolean of a value
 pub opposite : (b t : Bool) (v : WellFormed) → boolean_value b ≡ v → v ≡ boolean_value t → boolean_value (not b) ≡ boolean_value (not t)
 opposite b t v e e' = ap (λ (w : WellFormed). boolean_value (not (truth_of w.tree))) (e ∙ e')
 
--- the place of a truth value is one machine value
+-- the reference to a Boolean is one machine value
 pub one_value : {X : Type 1} (at : NamedLft) (vs : List Val) → Typed (BoolRow at).mir vs → ((v : Val) → vs ≡ v ∷ [] → X) → X
 one_value at [] typed k = absurd typed
 one_value at (v ∷ []) typed k = k v refl
@@ -55,14 +55,14 @@ one_value at (v ∷ u ∷ us) typed k = absurd typed.1
 
 module _ {M : Type 1} {𝓤 : Ura M} (at : NamedLft) (F : DestructuredMut → Fml) (P : DestructuredMut → Type 0) (v : Val)
     (Shown : Item 𝓤 → Item 𝓤 → Type 1) where
-  -- what is to be shown where it is the part of one kind, behind a reference
+  -- the goal if the content is the part of one kind, by a reference
   abbrev PartIs : ℕ → (T : RattleType) → (MutBor T.Denot → DestructuredMut) → Type 1
   PartIs n T as_part = (part : MutBor T.Denot) (xs : List Val) → P (as_part part) → v ≡ live n (of_list (xs ++ []))
       → Shown (‵ ((MutRef at.mir at.lft T).own_val part xs)) (‵ (F (as_part part)))
 
 module _ {M : Type 1} {𝓤 : Ura M} (𝓛 : Logic 𝓤) {K : Type 0} {Γ : List (Item 𝓤)} {G : Goal 𝓤 𝓛.H} (t : K) (at : NamedLft)
     (F : DestructuredMut → Fml) (P : DestructuredMut → Type 0) (v : Val) where
-  -- which of the six it is, with what the lender follows and the fact in each case
+  -- case analysis on the six kinds, with the formula that the lender follows and the fact in each case
   pub parts_out : (x : DestructuredMut) → P x → (P parts.Null → v ≡ live 0 (of_list []) → Seq K 𝓛 (‵ (F parts.Null) ∷ Γ) G)
       → ((part : BoolMut) (xs : List Val) → P (parts.Bool part) → v ≡ live 1 (of_list (xs ++ []))
       → Seq K 𝓛 (‵ ((BoolRow at).own_val part xs) ∷ ‵ (F (parts.Bool part)) ∷ Γ) G)
@@ -82,7 +82,7 @@ module _ {M : Type 1} {𝓤 : Ura M} (𝓛 : Logic 𝓤) {K : Type 0} {Γ : List
   parts_out (parts.Object p) said a b c d e f =
       alone_out t 5 (MutRef at.mir at.lft ObjectRow) p (v ∷ []) (λ xs led. f p xs said (ap only led))
 
--- a lender whose part is as it was
+-- a lender whose part is unchanged
 module _ {M : Type 1} {𝓤 : Ura M} (𝓛 : Logic 𝓤) (R T : RattleType) (F : T.Denot → R.Denot) (ℓ : Lifetime) (κ : Lft) (γ : GName) where
   pub untouched : (part : MutBor T.Denot) (vs : List Val)
       → ent 𝓤 (sep 𝓤 (sem 𝓛 ((MutRef ℓ κ T).own_val part vs)) (sem 𝓛 (follows R T γ part.ghost_name F)))
@@ -93,7 +93,7 @@ module _ {M : Type 1} {𝓤 : Ura M} (𝓛 : Logic 𝓤) (R T : RattleType) (F :
       move ! (1 ∷ []) $
       use2 𝓛 (‵ (fres γ (R.coded.code (F part.now)))) (followed 𝓛 R T F γ part.ghost_name part.now) $ done !
 
--- the loan of a value whose part is as it was is over, and the lender has it back
+-- the loan of a value with an unchanged part ends, and the lender has it back
 module _ {M : Type 1} {𝓤 : Ura M} (𝓛 : Logic 𝓤) {K : Type 0} {Γ : List (Item 𝓤)} {G : Goal 𝓤 𝓛.H} (t : K) (soaks : Soaks G) (R : RattleType)
     (κ : Lft) (q : Share) (r : MutBor R.Denot) (α : ℕ) (δ : GName) where
   pub untouched_back : (T : RattleType) (F : T.Denot → R.Denot) (part : MutBor T.Denot) (xs : List Val)

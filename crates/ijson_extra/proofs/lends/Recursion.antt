@@ -1,5 +1,4 @@
--- A function that calls itself keeps its contract, where a measure of what it is called with falls at each call of itself. Assumes
--- `Logic`.
+-- A recursive function satisfies its contract if a measure of its arguments decreases in each recursive call. Assumes `Logic`.
 use Prim.Native.Nat.{ℕ, ◌<◌}
 use mathlib.Core.Path.{refl, subst}
 use lib.NonEmpty.{one}
@@ -39,7 +38,7 @@ module _ {M : Type 1} {𝓤 : Ura M} (𝓛 : Logic 𝓤) (T : Ended) (hs : Stays
     abbrev 𝓣 : MachineTables 𝓤 H 𝓜
     𝓣 = tables 𝓤 H 𝓜 𝓡 𝓡.env
 
-    -- what a call of the function itself gives
+    -- the result of a recursive call
     abbrev pub Called : Known.Ghost → Type 1
     Called y = ent 𝓤 (Known.pre y) (𝓣.C k (Known.args y) (Known.post y))
 

@@ -1,4 +1,4 @@
--- A Result is taken apart, at any rows, and the refusal of a pointer, for proofs of callers by hand. Assumes `Logic`.
+-- Taking apart a Result of any types, and the error of a pointer, for proofs of callers by hand. Assumes `Logic`.
 use mathlib.Core.Path.{◌≡◌, refl, subst⁻¹}
 use mathlib.Core.List.{List, [], ◌∷◌, ◌++◌}
 use seplogic.Ra.Ura.{Ura}
@@ -13,7 +13,7 @@ use Rattle.ijson_extra.specs.contracts.pointer.PointerError as refusal
 use Rattle.ijson_extra.specs.declared.pointer.PointerError.{PointerError}
 use Rattle.ijson_extra.specs.declared.pointer.PointerError.TheVariants.{Syntax}
 
--- which of the two it is
+-- case analysis on a result
 pub by_result : {X : Type 1} {Y Z : Type 0} (r : Result Y Z) → ((y : Y) → r ≡ Ok y → X) → ((z : Z) → r ≡ Err z → X) → X
 by_result (Ok y) ok err = ok y refl
 by_result (Err z) ok err = err z refl

@@ -1,4 +1,4 @@
--- What follows a part by a relation, and a part of that part. Assumes `Logic`.
+-- A lender that follows its part by a relation, and a part of that part. Assumes `Logic`.
 use mathlib.Core.List.{[], ◌∷◌}
 use mathlib.Core.Option.{Option, some}
 use seplogic.Ra.Ura.{Ura}
@@ -10,7 +10,7 @@ use denote.RattleType.{RattleType}
 use denote.Follow.{follows, follows_so, follows_by, such_by, follows_then}
 use Rattle.ijson_value.proofs.lends.LentOn.{then_such}
 
--- What follows a part by a relation, and the part follows a part of its own: what is lent of that by a relation is lent of all.
+-- A lender follows a part by a relation, and the part follows a part of its own: a relation to the inner part is one of the lender.
 module _ {M : Type 1} {𝓤 : Ura M} (𝓛 : Logic 𝓤) (R S T U : RattleType) (O : S.Denot → R.Denot → Type 0) (O₀ : R.Denot → Type 0)
     (G : U.Denot → S.Denot) (Q : T.Denot → U.Denot → Type 0) (Q₀ : U.Denot → Type 0) (P : T.Denot → R.Denot → Type 0)
     (P₀ : R.Denot → Type 0)

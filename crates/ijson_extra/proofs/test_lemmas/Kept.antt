@@ -1,5 +1,4 @@
--- Lists of two pairs: both put, the second one's value written, and what is left where a question keeps the second one and writes
--- nothing.
+-- Lists of two entries: both put, the second value written, and the rest after a closure kept the second one and wrote nothing.
 use Rattle.std.proofs.Common.{◌≡◌, ◌≢◌, ◌↔◌, ℕ, List, [], ◌∷◌, length, get_or, Bool, true, false, Option, Some, None, MutBor, refl, sym, ap}
 use Rattle.std.proofs.Common.{subst, ◌∙◌, arith}
 use Rattle.std.specs.Option.{option_copied_mut, unwrap_or}
@@ -18,7 +17,7 @@ some_there : (r : Option (MutBor WellFormed)) (v : WellFormed) → option_copied
 some_there None v e = cc
 some_there (Some x) v e = cc
 
--- two keys put into an empty list, each with the value that it gets where it is not there
+-- two keys put into an empty list, each with the value it gets if missing
 module _ (k₁ k₂ : List ℕ) (v₁ v₂ : WellFormed) (old ps : List (List ℕ × WellFormed)) (s : Store WellFormed) (empty : old ≡ [])
     (apart : k₁ ≢ k₂)
     (first : ps ≡ put old k₁ (unwrap_or (lookup k₁ old) v₁)) (second : s.pairs ≡ put ps k₂ (unwrap_or (lookup k₂ ps) v₂)) where
@@ -37,7 +36,7 @@ module _ (k₁ k₂ : List ℕ) (v₁ v₂ : WellFormed) (old ps : List (List �
       ∙ ap (λ b. cond b (Some v₁) (lookup k₂ ((k₂, v₂) ∷ []))) (other_bytes k₂ k₁ (λ e. apart (sym e)))
       ∙ ap (λ b. cond b (Some v₂) None) ((bytes_decides k₂ k₂).1 refl))
 
-  -- and what is written beside it
+  -- and has the value written
   pub second_written : (w : WellFormed) → (with_found s (at s.pairs k₂) w).pairs ≡ (k₁, v₁) ∷ (k₂, w) ∷ []
   second_written w =
       let found : at s.pairs k₂ ≡ Some 1 =
@@ -46,7 +45,7 @@ module _ (k₁ k₂ : List ℕ) (v₁ v₂ : WellFormed) (old ps : List (List �
       (ap (λ (ps : List (List ℕ × WellFormed)). get_or (keys_of ps) 1 []) two_put) in
       ap (λ i. (with_found s i w).pairs) found ∙ ap (λ ps. with_value ps 1 w) two_put
 
--- a question that says whether a value is true says no of false
+-- a test for a true value returns false for false
 pub tells_false : (keeps : Bool) (v : WellFormed) → v ≡ boolean_value false → (IsTrue keeps ↔ (v.tree ≡ boolean true)) → keeps ≡ false
 tells_false false v is tells = refl
 tells_false true v is tells = let said : v.tree ≡ boolean true = tells.0 cc in let was : v.tree ≡ boolean false = ap (λ x. x.tree) is in cc

@@ -1,4 +1,4 @@
--- An object where a key is not there.
+-- An object without a key.
 use Rattle.std.proofs.Common.{◌≡◌, ℕ, List, [], refl, ◌∙◌}
 use Rattle.std.specs.Prelude.{Option, None, Some, option_and_then, slice_get}
 use Rattle.std.proofs.lemmas.Option.{slice_get-get_or}

@@ -1,5 +1,5 @@
--- A call that finds a part and lends it, with an index of its own lifetime, and the call that writes there, after which the loan is
--- over. Assumes `Logic`.
+-- A call that finds a part and lends it, with an index of its own lifetime, and the call that writes to it, after which the loan ends.
+-- Assumes `Logic`.
 use Prim.Native.Nat.{ℕ}
 use mathlib.Core.List.{List, [], ◌∷◌, ◌++◌}
 use mathlib.Core.Path.{◌≡◌, refl, sym, ap, subst}
@@ -35,13 +35,13 @@ use Rattle.ijson_value.specs.contracts.value.IValue.{the_row as V}
 use Rattle.ijson_value.proofs.lends.Variants.{none_out, Some-out}
 
 module _ {M : Type 1} {𝓤 : Ura M} (κ κ' : Lft) (q q' : Share) where
-  -- what the call answers: what it found, the tokens, what the lender follows, and a fact
+  -- the result of the call: the part found, the tokens, the formula that the lender follows, and a fact
   abbrev pub Found : (R : RattleType) (w : Val) {W : Type 0} (L : W → Fml) (F : R.Denot → Fml) (P : R.Denot → Type 0) → Item 𝓤
   Found R w {W} L F P = later (some (λ (x : R.Denot). ((‵ (flft κ q) ⊛ ‵ (flft κ' q') ⊛ ‵ ftrue) ⊛ ‵ (R.own_val x (w ∷ []))) ⊛
       some (λ (ws : W). ‵ (L ws) ⊛ ‵ (F x) ⊛ raw (fact 𝓤 (P x)))))
 
 module _ {M : Type 1} {𝓤 : Ura M} (𝓛 : Logic 𝓤) {K : Type 0} {Γ : List (Item 𝓤)} {G : Goal 𝓤 𝓛.H} (t : K) where
-  -- whether the call found one, with what the lender follows and the fact in each case
+  -- case analysis on the part found, with the formula that the lender follows and the fact in each case
   pub option_out : (R : RattleType) (F : Option R.Denot → Fml) (P : Option R.Denot → Type 0) (v : Val) (x : Option R.Denot) → P x
       → (P None → v ≡ live 0 (of_list []) → Seq K 𝓛 (‵ (F None) ∷ Γ) G)
       → ((y : R.Denot) (us : List Val) → P (Some y) → v ≡ live 1 (of_list (us ++ []))
@@ -58,7 +58,7 @@ module _ {M : Type 1} {𝓤 : Ura M} (𝓛 : Logic 𝓤) {K : Type 0} {Γ : List
       rewrite t 0 (λ (ws : List Val). ‵ ((MutRef (named 0) κ R).own_val x ws)) (mut_Tells (named 0) κ R x us told) refl $
       k (mut_Tells (named 0) κ R x us told))
 
-  -- a parameter and its token are what a call asks for that requires nothing
+  -- a parameter and its token are the precondition of a call that requires nothing
   pub asks_one : (κ : Lft) (q : Share) (own : Fml) (Q : SProp 𝓤)
       → ent 𝓤 (sep 𝓤 (mean 𝓛 ((‵ (flft κ q) ⊛ ‵ ftrue) ⊛ ‵ own ⊛ ‵ ftrue)) (mean 𝓛 (‵ ftrue))) Q
       → Step K 𝓛 (raw Q ∷ Γ) G (‵ own ∷ ‵ (flft κ q) ∷ Γ) G
@@ -66,7 +66,7 @@ module _ {M : Type 1} {𝓤 : Ura M} (𝓛 : Logic 𝓤) {K : Type 0} {Γ : List
       nothing t $ move t (1 ∷ 0 ∷ []) $ use2 𝓛 (raw Q) enough $ s)
 
 module _ {M : Type 1} {𝓤 : Ura M} (𝓛 : Logic 𝓤) {K : Type 0} {Γ : List (Item 𝓤)} {G : Goal 𝓤 𝓛.H} (t : K) (κ κ' : Lft) (q q' : Share) where
-  -- two parameters and their tokens are what a call asks for, with a fact and what has to be shown besides
+  -- two parameters and their tokens are the precondition of a call, with a fact and a further obligation
   pub asks_both : (own own' : Fml) (P : Type 0) (Q : SProp 𝓤) (i : Item 𝓤) → P → ent 𝓤 (emp 𝓤) (mean 𝓛 i)
       → ent 𝓤 (sep 𝓤 (mean 𝓛 ((‵ (flft κ q) ⊛ ‵ (flft κ' q') ⊛ ‵ ftrue) ⊛ ‵ own ⊛ ‵ own' ⊛ ‵ ftrue))
       (sep 𝓤 (mean 𝓛 (raw (fact 𝓤 P))) (mean 𝓛 i))) Q
@@ -87,7 +87,7 @@ module _ {M : Type 1} {𝓤 : Ura M} (𝓛 : Logic 𝓤) {K : Type 0} {Γ : List
 
 module _ {M : Type 1} {𝓤 : Ura M} (𝓛 : Logic 𝓤) {K : Type 0} {Γ : List (Item 𝓤)} {E : Env 𝓤 𝓛.H} {C : Calls 𝓤 𝓛.H} {Λ : Loops 𝓤 𝓛.H}
     {f : Callee} {xs : List Operand} {d : Place} {post : Post 𝓤 𝓛.H} (t : K) (κ κ' : Lft) (q q' : Share) where
-  -- the whole call, as the last one of its part, with the type of what it found
+  -- the whole call, as the last one of its part, with the type of the part found
   pub finds_last : FmC 𝓤 𝓛.H 𝓛.laws C → (c : Contract 𝓤) → Triple 𝓤 (C f) c → (x : c.Ghost) (own own' : Fml) (P : Type 0) (i : Item 𝓤) → P
       → ent 𝓤 (emp 𝓤) (mean 𝓛 i)
       → ent 𝓤 (sep 𝓤 (mean 𝓛 ((‵ (flft κ q) ⊛ ‵ (flft κ' q') ⊛ ‵ ftrue) ⊛ ‵ own ⊛ ‵ own' ⊛ ‵ ftrue))
@@ -103,18 +103,18 @@ module _ {M : Type 1} {𝓤 : Ura M} (𝓛 : Logic 𝓤) {K : Type 0} {Γ : List
       answered_both 𝓛 t κ κ' q q' tt R w L F Q (c.post x w) (answers w) (λ y says.
       peeks t R _ (shows 𝓛 R) y (w ∷ []) (λ seen. k w y says ((laws.lawful 𝓛).typed y (w ∷ []) seen))))
 
--- what is said of a reference at the end of a call that writes there
+-- the formula for a reference at the end of a call that writes to it
 abbrev pub Last : ℕ → MutBor V.Denot → V.Denot → Fml
 Last α place w = let s : Slot 1 = mut_ref_to (0 ∷ []) tt (plain (λ _. V)) in left ((s.row (α ∷ [], tt)).exit yes) place w
 
--- what that call answers
+-- the result of that call
 abbrev pub Written : {M : Type 1} {𝓤 : Ura M} → ℕ → MutBor V.Denot → V.Denot → Val → Item 𝓤
 Written {𝓤 = 𝓤} α place n w = later (some (λ (u : Unit {0}). ((‵ (flft (α ∷ []) full_share) ⊛ ‵ ftrue) ⊛ ‵ (unit.own_val u (w ∷ []))) ⊛
     some (λ (ws : V.Denot × Unit {0}). ‵ (fsep (Last α place ws.0) ftrue) ⊛ raw (fact 𝓤 (ws.0 ≡ n)))))
 
 module _ {M : Type 1} {𝓤 : Ura M} (𝓛 : Logic 𝓤) {K : Type 0} {Γ : List (Item 𝓤)} {E : Env 𝓤 𝓛.H} {C : Calls 𝓤 𝓛.H} {Λ : Loops 𝓤 𝓛.H}
     {f : Callee} {xs : List Operand} {d : Place} {post : Post 𝓤 𝓛.H} (t : K) (α : ℕ) (place : MutBor V.Denot) (n : V.Denot) where
-  -- the call writes the value that is lent, and the loan is over
+  -- the call writes to the lent value, and the loan ends
   pub writes_last : FmC 𝓤 𝓛.H 𝓛.laws C → (c : Contract 𝓤) → Triple 𝓤 (C f) c → (x : c.Ghost)
       → ent 𝓤 (sep 𝓤 (mean 𝓛 ((‵ (flft (α ∷ []) full_share) ⊛ ‵ ftrue) ⊛ ‵ ((MutRef (named 0) (α ∷ []) V).own_val place (mut_vals place))
       ⊛ ‵ ftrue)) (mean 𝓛 (‵ ftrue))) (c.pre x)

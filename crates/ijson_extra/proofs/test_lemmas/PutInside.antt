@@ -1,4 +1,4 @@
--- The tree of an opened object once a value is put beside a key, and where there was no room for that.
+-- The tree of an object's content after a put, and after one that failed.
 use Rattle.std.proofs.Common.{◌≡◌, ℕ, List, sym, ap, ◌∙◌}
 use Rattle.ijson_table.specs.Store.{put}
 use Rattle.ijson_value.specs.LendsAtKey.{IsPut}

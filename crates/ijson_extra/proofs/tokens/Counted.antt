@@ -1,4 +1,4 @@
--- The tokens of a text, counted one after the other.
+-- Counting the tokens of a text one by one.
 use Rattle.std.proofs.Common.{◌≡◌, ℕ, suc, ◌+◌, ◌<◌, Bool, true, false, List, [], ◌∷◌, ◌++◌, Option, Some, None, Bor, refl, sym, ap}
 use Rattle.std.proofs.Common.{◌∙◌, arith, length, drop, is_some}
 use Rattle.std.specs.Prelude.{◌&&◌, IsSome, MatchOption, option_map, option_and_then}
@@ -20,7 +20,7 @@ pub some_is : {A : Type 0} (o : Option A) → is_some o ≡ true → IsSome o
 some_is None e = absurd (cc)
 some_is (Some x) e = refl
 
--- a token that stands before a `/`
+-- a token before a `/`
 module _ (text token rest : List ℕ) (is : text ≡ token ++ 47 ∷ rest) (lacks : LacksByte 47 token) where
   pub tokens_before : written_tokens text ≡ token ∷ written_tokens rest
   tokens_before = ap written_tokens is ∙ written_split token rest lacks
@@ -39,13 +39,13 @@ module _ (text : List ℕ) (lacks : LacksByte 47 text) where
   pub all_last : is_some (all_meant (written_tokens text)) ≡ is_some (meant text) && true
   all_last = ap (λ ws. is_some (all_meant ws)) tokens_last ∙ both_some (meant text) (Some [])
 
--- where one of the tokens means nothing
+-- if one of the tokens means nothing
 pub none_meant : (whole left : List ℕ) (rest : Bool) (token : List ℕ) → is_some (meant token) ≡ false
     → is_some (all_meant (written_tokens left)) ≡ is_some (meant token) && rest
     → is_some (all_meant (written_tokens whole)) ≡ is_some (all_meant (written_tokens left)) → all_meant (written_tokens whole) ≡ None
 none_meant whole left rest token e f g = none_is (all_meant (written_tokens whole)) (g ∙ f ∙ ap (λ b. b && rest) e)
 
--- ---- so many tokens passed
+-- ---- after i tokens
 dropped : (ws rest : List (List ℕ)) (w : List ℕ) (i : ℕ) → drop i ws ≡ w ∷ rest → drop (i + 1) ws ≡ rest
 dropped ws rest w i e = sym (drop-drop 1 i ws) ∙ ap (λ l. drop 1 l) e
 

@@ -1,4 +1,4 @@
--- The item or the member that a token names, and the container with another one there.
+-- The element or member that a token refers to, and the container with another one there.
 use Rattle.std.proofs.Common.{◌≡◌, ℕ, ◌≤◌, Bool, true, false, List, Option, Some, None, refl, sym, ap, ◌∙◌, length, MutBor}
 use Rattle.std.specs.Prelude.{OnSome, option_map, option_and_then, slice_get, set, get_or}
 use Rattle.std.proofs.lemmas.Option.{slice_get_past, slice_get-get_or}
@@ -40,7 +40,7 @@ item_there : (vs : List WellFormed) (i : ℕ) (v : WellFormed) → slice_get vs 
     → tree_at (array_tree vs) (by_position i) ≡ Some v.tree
 item_there vs i v e = sym (item_at vs i) ∙ ap (option_map tree_of) e
 
--- the item at the position that a token names, and the array with another one there
+-- the element at the index that a token denotes, and the array with another one there
 module _ (a : Sequence) (token : List ℕ) (i : ℕ) (v : WellFormed) (named : position_named token ≡ Some i)
     (there : slice_get a.items i ≡ Some v) where
   pub item_found : Some v.tree ≡ written_at (array_tree a.items) token
@@ -62,12 +62,12 @@ none_meant : (vs : List WellFormed) (token : List ℕ) (m : Option (List ℕ)) �
 none_meant vs token None is h = refl
 none_meant vs token (Some m) is h = none_at vs (position_named m) (λ i e. h i (same_position token m is ∙ e))
 
--- no item stands at the position that a token names
+-- there is no element at the index that a token denotes
 pub item_missing : (vs : List WellFormed) (token : List ℕ) → ((i : ℕ) → position_named token ≡ Some i → length vs ≤ i)
     → None ≡ written_at (array_tree vs) token
 item_missing vs token h = none_meant vs token (meant token) refl h
 
--- the value beside the key that a token means
+-- the value of the key that a token means
 member_meant : (ps : List (List ℕ × WellFormed)) (m : Option (List ℕ))
     → option_map tree_of (option_and_then (λ key. lookup key ps) m) ≡ option_and_then (child_at (object_tree ps)) m
 member_meant ps None = refl
@@ -96,7 +96,7 @@ meant_some : (ps : List (List ℕ × WellFormed)) (o : Option (List ℕ)) (i : �
 meant_some ps None i e = not_both i (sym e)
 meant_some ps (Some m) i e = (m, refl, sym e)
 
--- the same by the position of the key
+-- and by the index of the key
 module _ (o : Store WellFormed) (token : List ℕ) (i : ℕ) (r : Option (MutBor WellFormed))
     (named : Some i ≡ option_and_then (at o.pairs) (meant token))
     (lent : option_map (λ v. v.now) r ≡ option_map (λ pair. pair.1) (slice_get o.pairs i)) where

@@ -1,4 +1,4 @@
--- What may be there: answers that hold a value or none.
+-- Results that are optional values.
 use Rattle.std.proofs.Common.{◌≡◌, Option, Some, None, refl, sym, MutBor}
 use Rattle.std.specs.Prelude.{OnSome, IsSome, option_map}
 use Rattle.ijson_value.specs.Tree.{Tree}

@@ -1,4 +1,4 @@
--- The positions that tokens name.
+-- The indices that tokens denote.
 use Rattle.std.proofs.Common.{◌≡◌, inl, inr, ℕ, ◌<◌, ◌≤◌, ◌^◌, Result, Ok, Err, not, Bool, true, false, List, [], ◌∷◌, eqb, length, refl}
 use Rattle.std.proofs.Common.{sym, ap, ◌∙◌, arith, Option, Some, None, option_map}
 use mathlib.Core.Bool.{true≢false}
@@ -28,7 +28,7 @@ position_digits (b ∷ c ∷ token) e = (and_parts (not (b == 48)) (all_ascii_di
 pub digits_meant : (token : List ℕ) → all_ascii_digits token ≡ true → meant token ≡ Some token
 digits_meant token e = meant_itself token (not_in_digits own token 126 e not_digit)
 
--- digits that a text with an escape in front would mean
+-- digits cannot be the meaning of a text that begins with an escape
 no_escape : (b : ℕ) (o : Option (List ℕ)) (m : List ℕ) → is_ascii_digit b ≡ false → option_map (λ token. b ∷ token) o ≡ Some m
     → all_ascii_digits m ≡ true → ⊥
 no_escape b None m n e h = absurd (cc)
@@ -49,7 +49,7 @@ same_tail b text m (Some t) is back e h =
     let all : all_ascii_digits (b ∷ t) ≡ true = ap all_ascii_digits (same_Some (b ∷ t) m e) ∙ h in
     ap (λ x. b ∷ x) (back t is (and_parts (is_ascii_digit b) (all_ascii_digits t) all).1) ∙ same_Some (b ∷ t) m e
 
--- a token that means digits is those
+-- a token that means digits consists of them
 digits_back : (token m : List ℕ) → meant token ≡ Some m → all_ascii_digits m ≡ true → token ≡ m
 digits_back [] m e h = same_Some [] m e
 digits_back (b ∷ text) m e h =
@@ -68,7 +68,7 @@ by_position token m p true f g e = ap position_named (digits_back token m e (pos
 by_position token m true false f g e = ap position_named (same_Some token m (sym (digits_meant token (position_digits token f)) ∙ e))
 by_position token m false false f g e = not_named token f ∙ sym (not_named m g)
 
--- a token names the position that it names as it is meant
+-- a token denotes the same index as its meaning
 pub same_position : (token m : List ℕ) → meant token ≡ Some m → position_named token ≡ position_named m
 same_position token m e = by_position token m (names_position token) (names_position m) refl refl e
 
@@ -89,14 +89,14 @@ read_by token count (Err x) h p s l = λ i e.
     let past = at_least (digits_value 10 token) count l (λ m. h (s, m)) in
     omega (arith, is, past)
 
--- a position that was read, and where it was too large, none below a count
+-- a parsed index; if it is too large, it is not below any count
 pub position_read : {E : Type 0} (token : List ℕ) (count : ℕ) (r : Result ℕ E) → ParsesUnsigned 64 10 token r → names_position token ≡ true
     → count < 2 ^ 64
     → MatchResult r (λ n. position_named token ≡ Some n) (λ e. (i : ℕ) → position_named token ≡ Some i → count ≤ i)
 position_read token count r h p l = read_by token count r (parse_digits own 64 token r h (position_digits token p)) p
     (position_some token p) l
 
--- no item stands at a position past the end
+-- there is no element at an index past the end
 pub none_there : {X : Type 0} (xs : List X) (position : Option ℕ) → ((i : ℕ) → position ≡ Some i → length xs ≤ i)
     → option_and_then (slice_get xs) position ≡ None
 none_there xs None h = refl

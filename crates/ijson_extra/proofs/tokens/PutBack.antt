@@ -1,4 +1,4 @@
--- What is put back where it was found changes nothing.
+-- Replacing a part by itself changes nothing.
 use Rattle.std.proofs.Common.{◌≡◌, ◌⊎◌, inl, inr, ℕ, zero, suc, true, false, List, Option, Some, None, refl, sym, ap, ◌∙◌}
 use Rattle.std.specs.Prelude.{option_and_then, slice_get, set}
 use Rattle.std.specs.Str.{bytes_eq}

@@ -1,4 +1,4 @@
--- What tokens lead to one after the other, and the tree with another one there.
+-- The value that tokens lead to in order, and the tree with another one there.
 use Rattle.std.proofs.Common.{◌≡◌, ℕ, zero, suc, ◌+◌, ◌-◌, ◌≤◌, List, [], ◌∷◌, ◌++◌, Option, Some, None, refl, sym, ap, subst, ◌∙◌, arith}
 use Rattle.std.proofs.Common.{length, take, drop, add-one, take-add, MutBor}
 use Rattle.std.specs.Prelude.{IsSome, option_map, option_and_then}
@@ -12,7 +12,7 @@ use Rattle.ijson_extra.specs.private.Walked.{HasTokens, written_at, meant_with, 
 use Rattle.ijson_extra.proofs.tokens.Options.{not_both, some_there}
 use Rattle.ijson_extra.proofs.tokens.PutBack.{meant_same}
 
--- ---- one list of tokens behind another
+-- ---- concatenated lists of tokens
 walked_none : (ws : List (List ℕ)) → walked ws None ≡ None
 walked_none [] = refl
 walked_none (w ∷ ws) = walked_none ws
@@ -43,7 +43,7 @@ walked_same (w ∷ ws) (Some s) t u is e =
     let x = found_before ws (written_at s w) u e in
     ap (written_with s w) (walked_same ws (written_at s w) x.0 u x.1 e) ∙ meant_same s (meant w) x.0 x.1 ∙ same_Some s t is
 
--- two walks, one after the other
+-- two walks in order
 module _ (old : Tree) (front back whole : List (List ℕ)) (cut : front ++ back ≡ whole) where
   none_found : None ≡ walked front (Some old) → None ≡ walked whole (Some old)
   none_found e = sym (ap (λ ws. walked ws (Some old)) (sym cut) ∙ walked_append front back (Some old) ∙ ap (walked back) (sym e)
@@ -70,7 +70,7 @@ cut_at ws behind half more h e =
     ap (λ l. take (suc half) ws ++ take rest l) (e ∙ ap (λ n. drop n ws) (add-one half))
     ∙ sym (take-add (suc half) rest ws) ∙ ap (λ n. take n ws) count
 
--- where the first token leads to nothing, more of them do so too
+-- if the first token leads to nothing, so do more of them
 pub none_first : (old : Tree) (left : List ℕ) (more : ℕ) → None ≡ walked (steps_of left 0) (Some old)
     → None ≡ walked (steps_of left more) (Some old)
 none_first old left zero e = e
@@ -79,7 +79,7 @@ none_first old left (suc more) e =
     none_found old (take 1 ws) (take (suc (suc more - (0 + 1))) (drop 1 ws)) (take (suc (suc more)) ws)
     (cut_at ws (drop 1 ws) 0 (suc more) (omega arith) refl) e
 
--- the first token, and then those behind it
+-- the first token, and then those after it
 module _ (old : Tree) (left rest : List ℕ) (more : ℕ) (above : 1 ≤ more) (behind : written_tokens rest ≡ drop 1 (written_tokens left))
     (v : Tree)
     (found : Some v ≡ walked (steps_of left 0) (Some old)) where
@@ -132,7 +132,7 @@ with_meant (w ∷ ws) tokens e (Some t) u =
     ∙ ap (child_with t is.0) (with_meant ws is.1 is.3 (child_at t is.0) u)
     ∙ ap (λ ts. followed_with (Some t) ts u) is.4
 
--- the whole of a pointer whose tokens are walked
+-- the whole pointer, if all its tokens are walked
 module _ (t : Tree) (pointer left : List ℕ) (more : ℕ) (is : pointer ≡ 47 ∷ left) (all : IsSome (all_meant (written_tokens left)))
     (count : length (written_tokens left) ≡ suc more) where
   tokens : (ts : List (List ℕ)) × (all_meant (written_tokens left) ≡ Some ts)
@@ -152,14 +152,14 @@ module _ (t : Tree) (pointer left : List ℕ) (more : ℕ) (is : pointer ≡ 47 
       ap (λ ws. walked_with ws (Some t) u) steps_are ∙ with_meant (written_tokens left) tokens.0 tokens.1 (Some t) u
       ∙ sym (ap (λ p. resolved_with t p u) is ∙ ap (λ ts. tokens_with t ts u) tokens.1)
 
--- what the tokens of a pointer are, behind its first `/`
+-- the tokens of a pointer, after its first `/`
 pub with_tokens : (pointer left : List ℕ) (more : ℕ) → pointer ≡ 47 ∷ left → HasTokens pointer more
     → IsSome (all_meant (written_tokens left)) × (length (written_tokens left) ≡ suc more)
 with_tokens pointer left more is has =
     subst (λ (p : List ℕ). IsSome (all_meant (written_tokens (drop 1 p))) × (length (written_tokens (drop 1 p)) ≡ suc more)) is
     (has.1, has.2)
 
--- what is lent is what was found
+-- the value lent is the one found
 pub lent_here : (r : Option (MutBor WellFormed)) (t : Tree) (o : Option (Option Tree)) → Some (option_map (λ v. v.now.tree) r) ≡ o
     → Some (Some t) ≡ o → option_map (λ v. v.now.tree) r ≡ Some t
 lent_here r t o is found = same_Some (option_map (λ v. v.now.tree) r) (Some t) (is ∙ sym found)

@@ -1,4 +1,4 @@
--- What tokens lead to as they are written: a token that means nothing leads to nothing.
+-- The value that written tokens lead to: a token that means nothing leads to nothing.
 use Rattle.std.specs.Prelude.{◌≡◌, ℕ, suc, List, [], ◌∷◌, Option, Some, None, IsSome, OnSome, option_map, option_and_then, length, drop}
 use Rattle.std.specs.Prelude.{take}
 use Rattle.std.specs.Borrow.{LendsSo, MutBor, Fml}
@@ -15,7 +15,7 @@ use Rattle.ijson_value.specs.contracts.value.IValue as value
 use Rattle.ijson_value.specs.declared.value.Destructured.{Destructured}
 use Rattle.ijson_extra.specs.Pointer.{meant, all_meant, written_tokens, child_at, child_with, resolved_with}
 
--- what a token leads to, and the tree with another one there
+-- the value that a token leads to, and the tree with another one there
 abbrev pub written_at : Tree → List ℕ → Option Tree
 written_at t token = option_and_then (child_at t) (meant token)
 
@@ -26,7 +26,7 @@ meant_with t (Some token) u = child_with t token u
 abbrev pub written_with : Tree → List ℕ → Tree → Tree
 written_with t token u = meant_with t (meant token) u
 
--- the same of tokens one after the other
+-- the value that tokens lead to in order
 abbrev pub walked : List (List ℕ) → Option Tree → Option Tree
 walked [] t = t
 walked (token ∷ more) t = walked more (option_and_then (λ u. written_at u token) t)
@@ -36,7 +36,7 @@ walked_with [] t u = u
 walked_with (token ∷ more) None u = u
 walked_with (token ∷ more) (Some t) u = written_with t token (walked_with more (written_at t token) u)
 
--- one token more than so many
+-- the first `more` + 1 tokens
 abbrev pub steps_of : List ℕ → ℕ → List (List ℕ)
 steps_of left more = take (suc more) (written_tokens left)
 
@@ -46,7 +46,7 @@ node_tree n = (node_value n).tree
 abbrev pub tree_lent : Option (MutBor WellFormed) → Option Tree
 tree_lent r = option_map (λ v. v.now.tree) r
 
--- what lends the value that a token names, or none: then it is as it was
+-- lends the value that a token refers to; if there is none, the lender is unchanged
 abbrev pub LendsNamedItem : MutBor Sequence → List ℕ → Option (MutBor WellFormed) → Fml
 LendsNamedItem s token r =
     LendsSo arrays.the_row value.the_row s r (λ n w. OnSome r (array_tree n.items ≡ written_with (array_tree s.now.items) token w.tree))
@@ -62,19 +62,19 @@ LendsNamed s token r =
     LendsSo node.the_row value.the_row s r (λ n w. OnSome r (node_tree n ≡ written_with (node_tree s.now) token w.tree))
     (λ n. node_tree n ≡ node_tree s.now)
 
--- the same of the first tokens of what is left of a pointer
+-- lends the value that the first `more` + 1 tokens lead to
 abbrev pub LendsWalked : MutBor Destructured → List ℕ → ℕ → Option (MutBor WellFormed) → Fml
 LendsWalked s left more r =
     LendsSo node.the_row value.the_row s r (λ n w. OnSome r
     (node_tree n ≡ walked_with (steps_of left more) (Some (node_tree s.now)) w.tree))
     (λ n. node_tree n ≡ node_tree s.now)
 
--- a pointer that isn't empty, with so many tokens behind its first one
+-- a pointer that is not empty, with `more` tokens after its first one
 abbrev pub HasTokens : List ℕ → ℕ → Type 0
 HasTokens p more =
     (p ≡ 47 ∷ drop 1 p) × IsSome (all_meant (written_tokens (drop 1 p))) × (length (written_tokens (drop 1 p)) ≡ suc more)
 
--- the same of all tokens of a pointer
+-- lends the value that all tokens of a pointer lead to
 abbrev pub LendsNamedInside : MutBor Destructured → List ℕ → Option (MutBor WellFormed) → Fml
 LendsNamedInside s pointer r =
     LendsSo node.the_row value.the_row s r (λ n w. OnSome r (node_tree n ≡ resolved_with (node_tree s.now) pointer w.tree))

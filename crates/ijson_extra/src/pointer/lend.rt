@@ -1,4 +1,4 @@
-//! The value inside a value that a pointer names, to be written.
+//! Mutable access to the value that a pointer refers to.
 ghost use Rattle.std.specs.Prelude.{◌≡◌, ◌<◌, ◌↔◌, [], ◌∷◌, suc, drop, length, Some, None, IsSome, IsTrue, IfOk, IfErr, IfSome};
 ghost use Rattle.std.specs.Prelude.{IfNone, option_map};
 ghost use Rattle.std.specs.Borrow.{sem};
@@ -18,28 +18,36 @@ use ijson_value::object::IObject;
 use ijson_value::value::{Destructured, IValue};
 use thiserror::Error;
 
-/// Why `resolve_opened_mut` lends no value.
+/// Why `resolve_opened_mut` returns no value.
 #[derive(Clone, Copy, PartialEq, Eq, Debug, Drop, Error)]
 pub enum Unresolved {
-    /// The pointer names nothing in the value.
+    /// The pointer refers to nothing in the value.
     #[error("nothing is at the JSON Pointer")]
     Nothing,
-    /// The text is no pointer.
+    /// The text is not a JSON Pointer.
     #[error("not a JSON Pointer")]
     NoPointer(PointerError),
 }
 
-/// The value that `pointer` names inside `value`, as RFC 6901 has it, to be written: the value itself where the text is empty.
-/// None where it names nothing. What is written changes that one value. It takes no memory. It costs what `resolve` does, and
-/// goes over the text up to twice more. The stack grows with each token that leads to a value.
+/// Returns a mutable reference to the value at `pointer` inside `value`, or `None` if there is none.
 ///
-/// A caller whose contract says what the whole value is after a write needs a proof by hand. With `resolve_opened_mut` it needs none.
+/// It resolves like `resolve` (RFC 6901). Writing changes that one value. A contract that states the whole value after the write needs a
+/// proof by hand; with `resolve_opened_mut` it needs none.
 ///
 /// ```
 /// if let Some(port) = resolve_mut(&mut value, "/servers/0/port")? {
 ///     *port = IValue::from(8080u64);
 /// }
 /// ```
+///
+/// # Errors
+///
+/// Fails if `pointer` is not a JSON Pointer.
+///
+/// # Cost
+///
+/// That of `resolve`, plus up to two more passes over the pointer. It does not allocate. The stack grows with each token that leads to a
+/// value.
 pub fn resolve_mut<'a>(
     value: &'a mut IValue,
     pointer: &str,
@@ -58,12 +66,17 @@ pub fn resolve_mut<'a>(
     }
 }
 
-/// As `resolve_mut`, with the value opened, and a refusal where the pointer names nothing. Take it where a contract says what is
-/// written: the proof of its caller learns what the whole value then is.
+/// Like `resolve_mut`, but returns the content of the value, and an error if there is none.
+///
+/// Use it if your contract states the whole value after the write; it then needs no proof by hand.
 ///
 /// ```
 /// *resolve_opened_mut(&mut value, "/servers/0/port")? = IValue::from(8080u64).destructure();
 /// ```
+///
+/// # Errors
+///
+/// Fails with `Nothing` if the pointer refers to nothing, and with `NoPointer` if it is not a JSON Pointer.
 pub fn resolve_opened_mut<'a>(
     value: &'a mut IValue,
     pointer: &str,
@@ -85,14 +98,14 @@ pub fn resolve_opened_mut<'a>(
     }
 }
 
-/// Whether a pointer names the value itself.
+/// Returns `true` if a pointer refers to the value itself.
 fn names_itself(pointer: &str) -> bool
     ensures { IsTrue result ↔ (pointer.now ≡ []) }
 {
     pointer.is_empty()
 }
 
-/// The value opened, which it always is.
+/// Returns a mutable reference to the content of the value.
 fn opened(value: &mut IValue) -> &mut Destructured
     ensures* writes_back { sem 𝓛 (LendsOpened value.entry result) }
     ensures value { node_value result.now ≡ value.old }
@@ -100,7 +113,7 @@ fn opened(value: &mut IValue) -> &mut Destructured
     &mut **value
 }
 
-/// The value that a pointer names inside an opened value, where `more` of its tokens stand behind the first one.
+/// Returns a mutable reference to the value at a pointer of `more` + 1 tokens.
 fn inside<'a>(opened: &'a mut Destructured, pointer: &str, more: usize) -> Option<&'a mut IValue>
     requires { HasTokens pointer.now more }
     ensures* writes_back { sem 𝓛 (LendsNamedInside opened.entry pointer.now result) }
@@ -112,7 +125,9 @@ fn inside<'a>(opened: &'a mut Destructured, pointer: &str, more: usize) -> Optio
     walk(opened, left, more)
 }
 
-/// How many tokens of a pointer that isn't empty stand behind its first one. None where the text is no pointer.
+/// Returns the number of tokens after the first, or `None` if the text is not a pointer.
+///
+/// The pointer must not be empty.
 fn count_pointer(pointer: &str) -> Option<usize>
     requires { (pointer.now ≡ []) → ⊥ }
     ensures some { IfSome result (HasTokens pointer.now) }
@@ -124,7 +139,7 @@ fn count_pointer(pointer: &str) -> Option<usize>
     }
 }
 
-/// How many tokens stand behind the first one. None where one of all of them means nothing.
+/// Returns the number of tokens after the first, or `None` if any token has an invalid escape.
 fn count_more(tokens: &str) -> Option<usize>
     ensures some { IfSome result (λ more. IsSome (all_meant (written_tokens tokens.now))
         × (length (written_tokens tokens.now) ≡ suc more)) }
@@ -142,8 +157,9 @@ fn count_more(tokens: &str) -> Option<usize>
     if is_token(left) { Some(more) } else { None }
 }
 
-/// The value that the first token of `left` and `more` further ones lead to from an opened value. It calls itself once for each
-/// token that leads to a value, so no more often than values stand inside one another.
+/// Follows the first token of `left` and `more` further ones to a value.
+///
+/// It recurses once for each token that leads to a value, so at most as deep as values nest.
 fn walk<'a>(from: &'a mut Destructured, left: &str, more: usize) -> Option<&'a mut IValue>
     requires { more < length (written_tokens left.now) }
     ensures* writes_back { sem 𝓛 (LendsWalked from.entry left.now more result) }
@@ -158,7 +174,7 @@ fn walk<'a>(from: &'a mut Destructured, left: &str, more: usize) -> Option<&'a m
     walk(opened(found), behind_first(left), more - 1)
 }
 
-/// The value that the first token leads to.
+/// Follows the first token to a value.
 fn first_mut<'a>(opened: &'a mut Destructured, left: &str) -> Option<&'a mut IValue>
     ensures* writes_back { sem 𝓛 (LendsWalked opened.entry left.now 0 result) }
     ensures value { tree_lent result ≡ walked (steps_of left.now 0) (Some (node_tree opened.old)) }
@@ -166,7 +182,7 @@ fn first_mut<'a>(opened: &'a mut Destructured, left: &str) -> Option<&'a mut IVa
     child_mut(opened, first_token(left))
 }
 
-/// The first token.
+/// Returns the first token.
 fn first_token(left: &str) -> &str
     ensures { steps_of left.now 0 ≡ result.now ∷ [] }
 {
@@ -176,7 +192,7 @@ fn first_token(left: &str) -> &str
     }
 }
 
-/// What stands behind the first token.
+/// Returns the text after the first token.
 fn behind_first(left: &str) -> &str
     requires { 1 < length (written_tokens left.now) }
     ensures { written_tokens result.now ≡ drop 1 (written_tokens left.now) }
@@ -184,7 +200,7 @@ fn behind_first(left: &str) -> &str
     left.split_once('/').unwrap().1
 }
 
-/// The value that a token names in an opened value, to be written.
+/// Returns a mutable reference to the value that a token refers to.
 fn child_mut<'a>(opened: &'a mut Destructured, token: &str) -> Option<&'a mut IValue>
     ensures* writes_back { sem 𝓛 (LendsNamed opened.entry token.now result) }
     ensures value { tree_lent result ≡ written_at (node_tree opened.old) token.now }
@@ -196,7 +212,7 @@ fn child_mut<'a>(opened: &'a mut Destructured, token: &str) -> Option<&'a mut IV
     }
 }
 
-/// The item at the position that a token names, to be written.
+/// Returns a mutable reference to the element at the index that a token denotes.
 fn item_mut<'a>(array: &'a mut IArray, token: &str) -> Option<&'a mut IValue>
     ensures* writes_back { sem 𝓛 (LendsNamedItem array.entry token.now result) }
     ensures value { tree_lent result ≡ written_at (array_tree array.old.items) token.now }
@@ -207,7 +223,7 @@ fn item_mut<'a>(array: &'a mut IArray, token: &str) -> Option<&'a mut IValue>
     }
 }
 
-/// The value beside the key that a token means, to be written.
+/// Returns a mutable reference to the value of the key that a token means.
 fn member_mut<'a>(object: &'a mut IObject, token: &str) -> Option<&'a mut IValue>
     ensures* writes_back { sem 𝓛 (LendsNamedMember object.entry token.now result) }
     ensures value { tree_lent result ≡ written_at (object_tree object.old.pairs) token.now }

@@ -1,4 +1,4 @@
-//! Canonical texts.
+//! Tests of canonical text.
 
 use super::refusals::large::push_members;
 use super::{empty_cache, is_written, parsed};
@@ -15,7 +15,7 @@ pub(super) fn is_canonical(rt: &impl Abort, alloc: Global, value: &IValue, want:
     assert!(*rt; found.as_str() == want);
 }
 
-/// Texts, and the canonical text of what each spells.
+/// JSON texts and the canonical text of each.
 static TEXTS: [(&str, &str); 12] = [
     ("{\"b\":2.0,\"a\":[10,0.0]}", "{\"a\":[1e1,0],\"b\":2e0}"),
     (
@@ -55,8 +55,9 @@ static TEXTS: [(&str, &str); 12] = [
     ),
 ];
 
-/// The keys are in the order of their bytes: `\u{10000}` is the greater one, though the lesser in UTF-16, and `"` the lesser one,
-/// though not where both are written with their escapes.
+/// Keys are in byte order.
+///
+/// `\u{10000}` is last, although it is first in UTF-16, and `"` is first, although it is not if both are escaped.
 #[test]
 fn canonical_texts(rt: HostRuntime) {
     let alloc = rt.alloc();
@@ -67,7 +68,7 @@ fn canonical_texts(rt: HostRuntime) {
     }
 }
 
-/// So many arrays, one inside the other.
+/// Returns `count` nested arrays.
 fn arrays(rt: &impl Abort, alloc: Global, count: usize) -> IValue {
     let mut value = IValue::from(IArray::new(alloc));
     for _ in 1..count {
@@ -78,14 +79,14 @@ fn arrays(rt: &impl Abort, alloc: Global, count: usize) -> IValue {
     value
 }
 
-/// What is written of so many arrays, one inside the other.
+/// Returns the JSON text of `count` nested arrays.
 fn brackets(rt: &impl Abort, alloc: Global, count: usize) -> String {
     let front = "[".repeat(alloc, count).expect(rt, "the openings");
     let behind = "]".repeat(alloc, count).expect(rt, "the closings");
     format!(in alloc; "{front}{behind}").expect(rt, "a text")
 }
 
-/// Asserts that a text is refused as too deep at its 128th opening.
+/// Asserts that a text is rejected as too deep at its 128th opening bracket.
 fn is_too_deep(rt: &impl Abort, alloc: Global, text: &str) {
     let mut cache = empty_cache(alloc);
     let fault = from_json(alloc, &mut cache, text).err();
@@ -93,7 +94,7 @@ fn is_too_deep(rt: &impl Abort, alloc: Global, text: &str) {
     assert!(*rt; fault == Some(JsonError::TooDeep { at: 127 }));
 }
 
-/// 128 arrays, one inside the other, which are written and not read.
+/// 128 nested arrays, which are written but not read.
 #[test]
 fn canonical_at_any_depth(rt: HostRuntime) {
     let alloc = rt.alloc();
@@ -105,7 +106,9 @@ fn canonical_at_any_depth(rt: HostRuntime) {
     is_too_deep(&rt, alloc, text.as_str());
 }
 
-/// A list of a text, zeros, an object and a number, of 5,000 letters, items, members and digits, with something behind the number.
+/// Returns a list of a string, zeros, an object and a number, with `behind` after the number.
+///
+/// There are 5,000 letters, elements, members and digits.
 fn much(rt: &impl Abort, alloc: Global, behind: &str) -> String {
     let letters = "a".repeat(alloc, 5000).expect(rt, "the letters");
     let digits = "1".repeat(alloc, 5000).expect(rt, "the digits");

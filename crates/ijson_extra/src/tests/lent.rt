@@ -1,5 +1,5 @@
-//! What is written through references that are lent in the signatures of the Rust crate `ijson`. Each caller's contract says what the
-//! whole then is. `set_named`, `set_pair`, `set_inside` and `turn_truth` are proved by hand, and what calls them is not.
+//! Writing through mutable references, with the signatures of the Rust crate `ijson`. The contract of each caller states the new whole
+//! value. `set_named`, `set_pair`, `set_inside` and `turn_truth` are proved by hand, and their callers are not.
 ghost use Rattle.std.specs.Prelude.{◌≡◌, ◌≢◌, Bool, true, not, IfOk, IfErr, OnOk, IsTrue, IsFalse, IsSome, Some, None};
 ghost use Rattle.std.specs.String.{string_bytes};
 ghost use Rattle.ijson_json.specs.Grammar.{Accepted};
@@ -21,14 +21,14 @@ use ijson_value::value::{BoolMut, DestructuredMut, IValue, ValueIndex};
 use std::alloc::Global;
 use std::process::Abort;
 
-/// Writes true in the place of another value.
+/// Replaces a value by true.
 fn put_true(place: &mut IValue)
     ensures { place.new ≡ boolean_value true }
 {
     *place = IValue::TRUE;
 }
 
-/// Writes true where a pointer names a value. Nothing else is changed.
+/// Writes true at a pointer, if it refers to a value. Nothing else changes.
 fn set_named(value: &mut IValue, pointer: &str)
     ensures there { (t : Tree) → resolved value.old.tree pointer.now ≡ Some (Some t)
         → value.new.tree ≡ resolved_with value.old.tree pointer.now (boolean true) }
@@ -42,7 +42,7 @@ fn set_named(value: &mut IValue, pointer: &str)
     }
 }
 
-/// Writes true in the pair of a key that is there, as the index finds it or as the object does. Nothing else is changed.
+/// Writes true as the value of a key, found by the index or by the object. Nothing else changes.
 fn set_pair<I: ObjectIndex>(object: &mut IObject, index: I, by_index: bool)
     ensures { object.new ≡ with_key object.old (I.Sealed.key index) (boolean_value true) }
 {
@@ -56,7 +56,7 @@ fn set_pair<I: ObjectIndex>(object: &mut IObject, index: I, by_index: bool)
     }
 }
 
-/// Writes true one step inside a value, where a value is. Nothing else is changed.
+/// Writes true one step inside a value, if there is a value. Nothing else changes.
 fn set_inside<I: ValueIndex>(value: &mut IValue, index: I)
     requires { kind_of value.old.tree ≡ kind_for (I.Sealed.step index) }
     ensures there { IsSome (tree_at value.old.tree (I.Sealed.step index))
@@ -68,7 +68,7 @@ fn set_inside<I: ValueIndex>(value: &mut IValue, index: I)
     }
 }
 
-/// The text of what `text` spells, with true where a pointer names a value.
+/// Returns the text of `text` with true at a pointer.
 fn with_true(alloc: Global, text: &str, pointer: &str) -> Result<String, JsonError>
     ensures { IfOk result (λ written. (t : Tree) × Accepted text.now t
         × ((u : Tree) → resolved t pointer.now ≡ Some (Some u)
@@ -87,7 +87,7 @@ fn with_true(alloc: Global, text: &str, pointer: &str) -> Result<String, JsonErr
     }
 }
 
-/// Writes true beside a key by the path of the value, and answers whether the key is there.
+/// Writes true as the value of a key, by the path of the value, and returns `true` if the key exists.
 #[tactic(auto, using(ijson_value::specs::laws::Steps::tree_with_step))]
 fn set_by_path(value: &mut IValue, key: &str) -> bool
     requires { kind_of value.old.tree ≡ kind_for (by_key key.now) }
@@ -103,8 +103,9 @@ fn set_by_path(value: &mut IValue, key: &str) -> bool
     }
 }
 
-/// Puts true beside a key by the path of the value. A key that is not there is put last; where there is no room for it, it comes
-/// back with null, and the value is as it was.
+/// Puts true as the value of a key, by the path of the value.
+///
+/// A new key is appended; if there is no capacity for it, it is returned with null, and the value is unchanged.
 #[tactic(auto, using(crate::proofs::test_lemmas::PutInside::is_kept_inside))]
 fn put_by_path(value: &mut IValue, key: IString) -> Result<(), RefusedPair>
     requires { kind_of value.old.tree ≡ kind_for (by_key key) }
@@ -117,7 +118,7 @@ fn put_by_path(value: &mut IValue, key: IString) -> Result<(), RefusedPair>
     Ok(())
 }
 
-/// Writes the opposite of a truth value in its place, and answers the place.
+/// Negates a Boolean in place, and returns its reference.
 fn turned(truth: BoolMut<'_>) -> BoolMut<'_>
     ensures same_reference { result.place.ghost_name ≡ truth.entry.place.ghost_name }
     ensures turned { result.place.now ≡ not truth.entry.place.now }
@@ -127,7 +128,7 @@ fn turned(truth: BoolMut<'_>) -> BoolMut<'_>
     truth
 }
 
-/// Writes the opposite of what a value is, where that is a truth value. Another value is as it was.
+/// Negates a Boolean. Another value is unchanged.
 fn turn_truth(value: &mut IValue)
     ensures turned { (truth : Bool) → value.old ≡ boolean_value truth → value.new ≡ boolean_value (not truth) }
     ensures same { kind_of value.old.tree ≢ kind.Bool → value.new ≡ value.old }
@@ -144,10 +145,9 @@ fn turn_truth(value: &mut IValue)
     }
 }
 
-/// An object's text.
 const TEXT: &str = "{\"a\":1,\"b\":[2]}";
 
-/// Keys, whether each is there, what is written of `TEXT` once true is written beside it, and once true is put beside it.
+/// Keys, whether each exists, and the text of `TEXT` after true is written to it, and after it is put.
 static WRITTEN: [(&str, bool, &str, &str); 3] = [
     (
         "a",
@@ -159,7 +159,7 @@ static WRITTEN: [(&str, bool, &str, &str); 3] = [
     ("c", false, TEXT, "{\"a\":1,\"b\":[2],\"c\":true}"),
 ];
 
-/// A way to write true beside a key of an object. The last one puts it where the key is not there.
+/// A way to write true to a key of an object. The last one adds a missing key.
 #[derive(Clone, Copy)]
 enum Way {
     Pair,
@@ -169,10 +169,10 @@ enum Way {
     Put,
 }
 
-/// The ways that write nothing where the key is not there.
+/// The ways that write nothing if the key is missing.
 static WAYS: [Way; 4] = [Way::Pair, Way::Found, Way::Inside, Way::Path];
 
-/// Asserts whether a key is there, by the keys that come beside a value that is lent.
+/// Asserts whether a key exists, by the key returned with a mutable value.
 fn is_beside(rt: &impl Abort, object: &mut IObject, letters: &str, there: bool) {
     let found = match object.get_key_value_mut(letters) {
         Some((key, _)) => key.eq_str(letters),
@@ -186,7 +186,7 @@ fn is_beside(rt: &impl Abort, object: &mut IObject, letters: &str, there: bool) 
     assert!(*rt; found == there);
 }
 
-/// Writes true beside a key of an object.
+/// Writes true to a key of an object.
 fn writes(
     rt: &impl Abort,
     alloc: Global,
@@ -209,7 +209,7 @@ fn writes(
     }
 }
 
-/// Asserts what is written of `TEXT` once true is written beside a key in this way.
+/// Asserts the text of `TEXT` after true is written to a key in this way.
 fn becomes(rt: &impl Abort, alloc: Global, letters: &str, there: bool, way: Way, want: &str) {
     let mut value = parsed(rt, alloc, TEXT);
     is_beside(
@@ -223,7 +223,7 @@ fn becomes(rt: &impl Abort, alloc: Global, letters: &str, there: bool, way: Way,
     drop(value);
 }
 
-/// One value is another one, and all else as it was.
+/// One value changes, and nothing else.
 #[test]
 fn values_beside_keys(rt: HostRuntime) {
     let alloc = rt.alloc();
@@ -235,7 +235,7 @@ fn values_beside_keys(rt: HostRuntime) {
     }
 }
 
-/// Texts, and what is written of each once the truth value that it spells is turned.
+/// JSON texts, and the text of each after its Boolean is negated.
 static TURNED: [(&str, &str); 7] = [
     ("true", "false"),
     ("false", "true"),
@@ -246,7 +246,7 @@ static TURNED: [(&str, &str); 7] = [
     ("{\"true\":true}", "{\"true\":true}"),
 ];
 
-/// A truth value is turned, and another value is as it was.
+/// A Boolean is negated, and another value is unchanged.
 #[test]
 fn truth_values_turned(rt: HostRuntime) {
     let alloc = rt.alloc();
@@ -258,7 +258,7 @@ fn truth_values_turned(rt: HostRuntime) {
     }
 }
 
-/// A text, written with another value in it.
+/// A text is written with another value in it.
 #[test]
 fn texts_with_another_value(rt: HostRuntime) {
     let written = with_true(rt.alloc(), TEXT, "/b/0").expect(&rt, "a text");

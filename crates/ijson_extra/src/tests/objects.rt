@@ -1,5 +1,5 @@
-//! Objects: what each call answers and leaves, each iterator in full, how often each closure is called, and a caller that knows the list
-//! by the contracts alone.
+//! Tests of objects: the result and effect of each call, each iterator in full, the number of calls of each closure, and a caller that
+//! knows the list by the contracts alone.
 ghost use Rattle.std.specs.Prelude.{◌≡◌, ◌≢◌, [], ◌∷◌, true, false, OnOk};
 ghost use Rattle.std.specs.Option.{unwrap_or};
 ghost use Rattle.ijson_table.specs.Store.{lookup, put};
@@ -14,7 +14,7 @@ use ijson_value::value::{DestructuredRef, IValue};
 use std::alloc::Global;
 use std::process::Abort;
 
-/// An object of these keys, each with its position beside it.
+/// Returns an object of these keys, with their indices as values.
 fn of_keys(rt: &impl Abort, alloc: Global, keys: &[&str]) -> IObject {
     let mut object = IObject::new(alloc);
     for (position, letters) in keys.iter().enumerate() {
@@ -28,7 +28,7 @@ fn of_number(number: usize) -> IValue {
     IValue::from(INumber::from(number))
 }
 
-/// The number that a value is, 99 where it is none.
+/// Returns a number, or 99 for another value.
 fn number_of(value: &IValue) -> usize {
     match value.destructure_ref() {
         DestructuredRef::Number(number) => number.to_usize().unwrap_or(99),
@@ -36,7 +36,7 @@ fn number_of(value: &IValue) -> usize {
     }
 }
 
-/// The number beside a key, 99 where there is none.
+/// Returns the number of a key, or 99 if there is none.
 fn number_at(object: &IObject, key: &str) -> usize {
     if object.contains_key(key) {
         number_of(&object[key])
@@ -45,7 +45,7 @@ fn number_at(object: &IObject, key: &str) -> usize {
     }
 }
 
-/// The number that a value is, if there was one: 99 where it is none.
+/// Returns the number in an option, or `Some(99)` for another value.
 pub(super) fn number_in(value: Option<IValue>) -> Option<usize> {
     let number = match &value {
         Some(value) => Some(number_of(value)),
@@ -55,7 +55,7 @@ pub(super) fn number_in(value: Option<IValue>) -> Option<usize> {
     number
 }
 
-/// Whether this is the key of a pair that was taken out; of none there is none.
+/// Returns `true` if this is the key of the removed entry, or both are missing.
 fn is_pair(pair: Option<(IString, IValue)>, key: Option<&str>) -> bool {
     let found = match (&pair, key) {
         (Some((text, _)), Some(key)) => text.eq_str(key),
@@ -66,7 +66,7 @@ fn is_pair(pair: Option<(IString, IValue)>, key: Option<&str>) -> bool {
     found
 }
 
-/// Whether these are the keys, in this order.
+/// Returns `true` if the object begins with these keys, in order.
 fn has_keys(object: &IObject, keys: &[&str]) -> bool {
     let mut found = object.keys();
     for key in keys {
@@ -78,12 +78,12 @@ fn has_keys(object: &IObject, keys: &[&str]) -> bool {
     found.next().is_none()
 }
 
-/// An object of the keys a to d.
+/// Returns an object of the keys a to d.
 fn four(rt: &impl Abort, alloc: Global) -> IObject {
     of_keys(rt, alloc, &["a", "b", "c", "d"])
 }
 
-/// Five keys have room for three more. Another number is put beside the first of four.
+/// Five keys leave capacity for three more. The value of the first of four is replaced.
 #[test]
 fn insertions(rt: HostRuntime) {
     let alloc = rt.alloc();
@@ -98,7 +98,7 @@ fn insertions(rt: HostRuntime) {
     drop(object);
 }
 
-/// Two of the keys a to d are taken out. The last pair moves there.
+/// Two of the keys a to d are removed, and the last entry replaces each.
 #[test]
 fn removals(rt: HostRuntime) {
     let alloc = rt.alloc();
@@ -116,7 +116,7 @@ fn removals(rt: HostRuntime) {
     drop(object);
 }
 
-/// Writes a number where a value is, and tells whether one is.
+/// Writes a number to a value, and returns `true` if there is one.
 fn is_put(place: Option<&mut IValue>, number: usize) -> bool {
     match place {
         Some(value) => {
@@ -127,7 +127,7 @@ fn is_put(place: Option<&mut IValue>, number: usize) -> bool {
     }
 }
 
-/// Writes beside each of the keys a, c and d, each in another way.
+/// Writes to each of the keys a, c and d, in different ways.
 fn writes(rt: &impl Abort, object: &mut IObject, d: &IString) {
     assert!(*rt; object.contains_key("c"));
     set(&mut object["c"], of_number(7));
@@ -135,17 +135,17 @@ fn writes(rt: &impl Abort, object: &mut IObject, d: &IString) {
     assert!(*rt; !is_put(object.value_at_mut(3), 0) && !is_put(object.get_mut("b"), 0));
 }
 
-/// Asserts that a key that is there has this number beside it, by each way to it.
+/// Asserts the number of an existing key, by each way to get it.
 fn holds(rt: &impl Abort, object: &IObject, key: &str, number: usize) {
     assert!(*rt; matches!(object.get(key), Some(value) if number_of(value) == number));
     assert!(*rt; number_at(object, key) == number);
     assert!(*rt; matches!(object.get_key_value(&key), Some((text, _value)) if text.eq_str(key)));
 }
 
-/// The keys that are left, and what is written beside each.
+/// The remaining keys, and the number written to each.
 static HELD: [(&str, usize); 3] = [("a", 6), ("c", 7), ("d", 8)];
 
-/// b is taken out of the keys a to d. Those behind it move one forward.
+/// b is removed from the keys a to d, and those after it are shifted.
 #[test]
 fn shift_removals_and_writes(rt: HostRuntime) {
     let alloc = rt.alloc();
@@ -199,7 +199,9 @@ fn room_made_ahead(rt: HostRuntime) {
     assert!(rt; past.err() == Some(ReserveError::TooLarge));
 }
 
-/// An object of the keys a to c that has room for one more is copied. The number beside c has a point.
+/// An object of the keys a to c with spare capacity for one is copied.
+///
+/// The number of c has a fraction point.
 #[test]
 fn copied(rt: HostRuntime) {
     let alloc = rt.alloc();
@@ -215,10 +217,10 @@ fn copied(rt: HostRuntime) {
     drop(value);
 }
 
-/// Numbers and keys, one of which comes again.
+/// Numbers and keys, one of which is a duplicate.
 static LISTED: [(usize, &str); 3] = [(1, "a"), (2, "b"), (3, "a")];
 
-/// A list of these pairs.
+/// Returns a list of these entries.
 fn listed(rt: &impl Abort, alloc: Global) -> Vec<(IString, IValue)> {
     let mut pairs = Vec::new(alloc);
     for &(number, letters) in &LISTED {
@@ -240,7 +242,73 @@ fn lists_of_pairs(rt: HostRuntime) {
     drop(none);
 }
 
-/// Extends an object of the keys a and so on by the pair of this key and 9.
+/// Returns the entries of the numbers below `count`, each by its digits, in a list with no spare capacity.
+fn numbered(rt: &impl Abort, alloc: Global, count: usize) -> Vec<(IString, IValue)> {
+    let mut pairs = Vec::with_capacity(alloc, count).expect(rt, "room");
+    for number in 0..count {
+        let letters = format!(in alloc; "{number}").expect(rt, "a text");
+        let pair = (key(rt, alloc, &letters), of_number(number));
+        pairs.push(pair).expect(rt, "room");
+    }
+    pairs
+}
+
+/// Asserts that an object has the entries of the numbers below `count` in order and finds each, and its capacity.
+fn is_numbered(rt: &impl Abort, object: &IObject, count: usize, capacity: usize) {
+    assert!(*rt; object.len() == count && object.capacity() == capacity);
+    for (number, (key, value)) in object.iter().enumerate() {
+        assert!(*rt; number_of(value) == number && number_at(object, key.as_str()) == number);
+    }
+}
+
+/// Builds an object of `count` entries, copies it, grows it for one more and shrinks it.
+fn changes_size(rt: &impl Abort, alloc: Global, count: usize, grown: usize) {
+    let object = IObject::from_pairs(alloc, numbered(rt, alloc, count));
+    let mut object = object.expect(rt, "an object");
+    is_numbered(rt, &object, count, count);
+    let copy = object.clone().expect(rt, "a copy");
+    is_numbered(rt, &copy, count, count);
+    drop(copy);
+    object.reserve(1).expect(rt, "room");
+    is_numbered(rt, &object, count, grown);
+    object.shrink_to_fit().expect(rt, "less room");
+    is_numbered(rt, &object, count, count);
+    drop(object);
+}
+
+/// No clause says that a call succeeds if memory is available, so each small number of entries is tried, and a large one.
+#[test]
+fn each_count_of_pairs(rt: HostRuntime) {
+    changes_size(&rt, rt.alloc(), 0, 4);
+    changes_size(&rt, rt.alloc(), 1, 4);
+    for count in 2..161usize {
+        changes_size(&rt, rt.alloc(), count, 2 * count);
+    }
+    changes_size(&rt, rt.alloc(), 400_000, 800_000);
+}
+
+/// Builds an object of each number of entries up to 100. So few of these keys rarely collide, so no table is built by sorting.
+#[test]
+fn objects_of_each_count(rt: HostRuntime) {
+    for count in 1..101usize {
+        let object = IObject::from_pairs(rt.alloc(), numbered(&rt, rt.alloc(), count));
+        drop(object.expect(&rt, "an object"));
+    }
+}
+
+/// Allocates the same lists, a block for each object, and one for the slots of each with more than 8 entries.
+#[test]
+fn lists_and_blocks_of_each_count(rt: HostRuntime) {
+    for count in 1..101usize {
+        drop(numbered(&rt, rt.alloc(), count));
+        let blocks = if count > 8 { 2 } else { 1 };
+        for _ in 0..blocks {
+            let _block: Vec<u8> = Vec::with_capacity(rt.alloc(), 1).expect(&rt, "a block");
+        }
+    }
+}
+
+/// Extends an object by the entry of this key and 9.
 fn extends(rt: &impl Abort, alloc: Global, object: &mut IObject, letters: &str) {
     let mut more = IObject::new(alloc);
     let old = more.insert(key(rt, alloc, letters), of_number(9));
@@ -260,7 +328,7 @@ fn extensions(rt: HostRuntime) {
     drop(object);
 }
 
-/// An object of these pairs, whose keys are distinct.
+/// Returns an object of these entries, whose keys are distinct.
 fn of_pairs(rt: &impl Abort, alloc: Global, pairs: &[(&str, usize)]) -> IObject {
     let mut object = IObject::new(alloc);
     for &(letters, number) in pairs {
@@ -269,14 +337,14 @@ fn of_pairs(rt: &impl Abort, alloc: Global, pairs: &[(&str, usize)]) -> IObject 
     object
 }
 
-/// Asserts that each number is beside its key.
+/// Asserts the number of each key.
 fn has_pairs(rt: &impl Abort, object: &IObject, pairs: &[(&str, usize)]) {
     for &(letters, number) in pairs {
         assert!(*rt; number_at(object, letters) == number);
     }
 }
 
-/// Pairs, and a text of the object that they are. The first keys are kept in place and in the cache.
+/// Entries, and the JSON text of their object. The first list has inline and interned keys.
 static COLLECTED: [(&[(&str, usize)], &str); 2] = [
     (
         &[("id", 1), ("interned_string_a", 2), ("no", 3)],
@@ -300,7 +368,7 @@ fn pairs_are_collected(rt: HostRuntime) {
     }
 }
 
-/// Asks for the entry of a key, and takes the key back: that of a pair that is there comes out with the number beside it.
+/// Gets the entry of a key, and returns the key, and the number of an existing entry, which is removed.
 pub(super) fn asked(
     rt: &impl Abort,
     object: &mut IObject,
@@ -323,14 +391,14 @@ pub(super) fn asked(
     }
 }
 
-/// The number beside a key that gets this one where it is not there.
+/// Returns the number of a key, inserting `number` if it is missing.
 fn or_insert(rt: &impl Abort, object: &mut IObject, key: &IString, number: usize) -> usize {
     let key = key.clone().expect(rt, "a copy");
     let entry = object.entry(key).expect(rt, "room");
     number_of(entry.or_insert(of_number(number)))
 }
 
-/// The number beside a key that gets 3 where it is not there, and how often the closure was called.
+/// Returns the number of a key, inserting 3 if it is missing, and the number of calls of the closure.
 fn or_insert_with(rt: &impl Abort, object: &mut IObject, key: &IString) -> (usize, usize) {
     let mut calls = 0usize;
     let entry = object.entry_or_clone(key).expect(rt, "room");
@@ -341,7 +409,7 @@ fn or_insert_with(rt: &impl Abort, object: &mut IObject, key: &IString) -> (usiz
     (number, calls)
 }
 
-/// Puts 5 beside a key that is there, 6 beside one that is not, and tells how often the closure was called.
+/// Writes 5 to an existing key, or 6 to a missing one, and returns the number of calls of the closure.
 fn and_modify(rt: &impl Abort, object: &mut IObject, key: IString) -> usize {
     let mut calls = 0usize;
     let entry = object.entry(key).expect(rt, "room");
@@ -367,7 +435,7 @@ fn an_entry_gives_its_key_back(rt: HostRuntime) {
     }
 }
 
-/// Keys, the one that is asked for, the number beside it, and the keys that are left.
+/// Keys, the key looked up, its number, and the remaining keys.
 static ASKED: [(&[&str], &str, Option<usize>, &[&str]); 2] = [
     (&[], "k", None, &[]),
     (&["a", "b", "c", "d"], "b", Some(1), &["a", "d", "c"]),
@@ -407,7 +475,7 @@ fn entries_are_modified(rt: HostRuntime) {
     drop(object);
 }
 
-/// Writes through the entry of k, the second of four keys, and takes it out.
+/// Writes through the entry of k, the second of four keys, and removes it.
 fn occupied(rt: &impl Abort, object: &mut IObject, key: &IString) {
     match object.entry_or_clone(key).expect(rt, "an entry") {
         Entry::Occupied(mut entry) => {
@@ -429,7 +497,7 @@ fn occupied_entries(rt: HostRuntime) {
     drop(object);
 }
 
-/// Null comes beside n, which is not there, and a number is written beside a, which is.
+/// A missing key n gets null, and a number is written to the existing key a.
 #[test]
 fn indexed_entries(rt: HostRuntime) {
     let alloc = rt.alloc();
@@ -443,7 +511,7 @@ fn indexed_entries(rt: HostRuntime) {
     drop(object);
 }
 
-/// Puts false beside a key that is not there.
+/// Puts false as the value of a missing key.
 fn put_false(object: &mut IObject, key: &IString) -> Result<(), ReserveError>
     ensures { OnOk result (object.new.pairs ≡ put object.old.pairs key.now
         (unwrap_or (lookup key.now object.old.pairs) (boolean_value false))) }
@@ -452,7 +520,7 @@ fn put_false(object: &mut IObject, key: &IString) -> Result<(), ReserveError>
     Ok(())
 }
 
-/// Puts two pairs through entries, and writes the second value.
+/// Puts two entries, and writes to the second value.
 fn put_two(object: &mut IObject, first: &IString, second: &IString) -> Result<(), ReserveError>
     requires empty { object.old.pairs ≡ [] }
     requires apart { first.now ≢ second.now }
@@ -465,7 +533,7 @@ fn put_two(object: &mut IObject, first: &IString, second: &IString) -> Result<()
     Ok(())
 }
 
-/// Keeps what is true of two pairs, and tells whether there is a first pair to go over and then none.
+/// Keeps the true one of two entries, and returns whether an iterator yields one entry and then none.
 fn keep_true(object: &mut IObject, first: &IString, second: &IString) -> (bool, bool)
     requires { object.old.pairs ≡ (first.now, boolean_value false) ∷ (second.now, boolean_value true) ∷ [] }
     ensures list { object.new.pairs ≡ (second.now, boolean_value true) ∷ [] }
@@ -476,10 +544,10 @@ fn keep_true(object: &mut IObject, first: &IString, second: &IString) -> (bool, 
     (pairs.next().is_some(), pairs.next().is_none())
 }
 
-/// How many pairs are left before each of them is given, its key, and the number beside it.
+/// The number of entries left before each is yielded, its key, and its number.
 static EVEN: [(usize, &str, usize); 3] = [(3, "0", 0), (2, "4", 40), (1, "2", 20)];
 
-/// Iterates over the keys 0, 4 and 2, beside ten times their numbers.
+/// Iterates over the keys 0, 4 and 2, whose values are ten times their numbers.
 fn iterates(rt: &impl Abort, object: &IObject) {
     let mut pairs = object.iter();
     for &(left, _, number) in &EVEN {
@@ -489,7 +557,7 @@ fn iterates(rt: &impl Abort, object: &IObject) {
     assert!(*rt; pairs.next().is_none() && pairs.next().is_none());
 }
 
-/// The same of the values alone, and of the keys.
+/// Iterates over the values alone, and over the keys.
 fn iterates_apart(rt: &impl Abort, object: &IObject) {
     let mut values = object.values();
     assert!(*rt; values.len() == 3 && object.keys().len() == 3);
@@ -499,7 +567,7 @@ fn iterates_apart(rt: &impl Abort, object: &IObject) {
     assert!(*rt; values.next().is_none());
 }
 
-/// Gives the keys 0, 4 and 2 out.
+/// Moves the keys 0, 4 and 2 out.
 fn gives_out(rt: &impl Abort, object: IObject) {
     let mut owned = object.into_iter();
     for &(left, key, _) in &EVEN {
@@ -509,7 +577,7 @@ fn gives_out(rt: &impl Abort, object: IObject) {
     drop(owned);
 }
 
-/// Asks of each of the keys 0 to 5 once, keeps those of even numbers, and writes ten times the number beside each.
+/// Visits the keys 0 to 5 once, keeps the even ones, and writes ten times the number to each.
 fn retains(rt: &impl Abort, object: &mut IObject) {
     let mut asked = 7usize;
     object.retain(|_key, value| {
@@ -530,7 +598,7 @@ fn retained(rt: HostRuntime) {
     gives_out(&rt, object);
 }
 
-/// What is shown of the entries of a, which is there, and of x, which is not.
+/// The debug output of the entries of a, which exists, and of x, which does not.
 static ENTRIES: [(&str, &str); 2] = [
     ("a", "Occupied(OccupiedEntry { key: \"a\", value: 0 })"),
     ("x", "Vacant(VacantEntry(\"x\"))"),
@@ -551,7 +619,7 @@ fn what_is_shown(rt: HostRuntime) {
     drop(pairs);
 }
 
-// The texts are not made by `key`: `put_two` asks for two that differ, and no contract tells what `key` gives.
+// The strings are not created by `key`: `put_two` requires two that differ, and no contract describes the result of `key`.
 #[test]
 fn two_are_put_and_one_is_kept(rt: HostRuntime) {
     let alloc = rt.alloc();

@@ -1,12 +1,12 @@
-//! Values that pointers name.
+//! Tests of JSON Pointer.
 
 use super::{is_written, parsed, set};
 use crate::pointer::{PointerError, Unresolved, resolve, resolve_mut, resolve_opened_mut};
-use ijson_value::value::{Destructured, IValue};
+use ijson_value::value::{Destructured, DestructuredMut, DestructuredRef, IValue};
 use std::alloc::Global;
 use std::process::Abort;
 
-/// Asserts the text of the value that a pointer names, or `none`.
+/// Asserts the text of the value that a pointer refers to, or `none`.
 fn names(rt: &impl Abort, alloc: Global, value: &IValue, pointer: &str, want: &str) {
     match resolve(value, pointer).expect(rt, "a pointer") {
         Some(found) => is_written(rt, alloc, found, want),
@@ -22,10 +22,10 @@ fn names_each(rt: &impl Abort, alloc: Global, text: &str, rows: &[(&str, &str)])
     drop(value);
 }
 
-/// A text whose values are named, or written to.
+/// A text whose values are read or written.
 const TEXT: &str = "{\"foo\":[\"bar\",\"baz\"],\"\":0,\"a/b\":1,\"m~n\":8,\"~1\":9}";
 
-/// Pointers, and the text of the value that each names in `TEXT`, or `none`.
+/// Pointers, and the text of the value of each in `TEXT`, or `none`.
 static NAMED: [(&str, &str); 15] = [
     ("", TEXT),
     ("/foo/0", "\"bar\""),
@@ -44,7 +44,7 @@ static NAMED: [(&str, &str); 15] = [
     ("/nope/nope", "none"),
 ];
 
-/// Texts that are no pointers.
+/// Texts that are not pointers.
 static NO_POINTERS: [&str; 6] = ["foo", "/~", "/~2", "/nope/~2", "/foo/0/~", "~0"];
 
 #[test]
@@ -62,7 +62,7 @@ fn pointers(rt: HostRuntime) {
 const RFC: &str =
     "{\"foo\":[\"bar\",\"baz\"],\"\":0,\"a/b\":1,\"c%d\":2,\"e^f\":3,\"g|h\":4,\"i\\\\j\":5,\"k\\\"l\":6,\" \":7,\"m~n\":8}";
 
-/// Pointers, and the text of the value that each names in `RFC`.
+/// Pointers, and the text of the value of each in `RFC`.
 static NAMED_IN_RFC: [(&str, &str); 12] = [
     ("", RFC),
     ("/foo", "[\"bar\",\"baz\"]"),
@@ -84,7 +84,7 @@ fn pointers_of_the_rfc(rt: HostRuntime) {
     names_each(&rt, rt.alloc(), RFC, &NAMED_IN_RFC);
 }
 
-/// Puts true where a pointer leads, or tells why it leads nowhere.
+/// Writes true at a pointer, or returns why there is no value.
 fn put_true(value: &mut IValue, pointer: &str) -> Option<Unresolved> {
     match resolve_mut(value, pointer) {
         Ok(Some(found)) => {
@@ -96,7 +96,7 @@ fn put_true(value: &mut IValue, pointer: &str) -> Option<Unresolved> {
     }
 }
 
-/// The same through the value opened.
+/// Like `put_true`, through the content of the value.
 fn put_true_opened(value: &mut IValue, pointer: &str) -> Option<Unresolved> {
     match resolve_opened_mut(value, pointer) {
         Ok(found) => {
@@ -107,8 +107,7 @@ fn put_true_opened(value: &mut IValue, pointer: &str) -> Option<Unresolved> {
     }
 }
 
-/// Asserts what is written of what `text` spells, once true is put where a pointer leads, through the value opened or not, and why it
-/// leads nowhere.
+/// Asserts the text after true is written at a pointer, through the content or not, or the error.
 fn becomes(
     rt: &impl Abort,
     alloc: Global,
@@ -131,7 +130,7 @@ fn becomes(
 
 const NO_POINTER: Option<Unresolved> = Some(Unresolved::NoPointer(PointerError::Syntax));
 
-/// Pointers, what is written of `TEXT` once true is put where each leads, and why it leads nowhere.
+/// Pointers, the text of `TEXT` after true is written at each, and why there is no value.
 static WRITTEN: [(&str, &str, Option<Unresolved>); 17] = [
     ("", "true", None),
     (
@@ -176,7 +175,7 @@ static WRITTEN: [(&str, &str, Option<Unresolved>); 17] = [
     ("/nope/~2", TEXT, NO_POINTER),
 ];
 
-/// Asserts what each of the pointers writes, through the value opened or not.
+/// Asserts the text after a write at each of the pointers, through the content or not.
 fn writes(rt: &impl Abort, alloc: Global, opened: bool) {
     for &(pointer, written, refused) in &WRITTEN {
         becomes(rt, alloc, TEXT, pointer, written, refused, opened);
@@ -185,10 +184,77 @@ fn writes(rt: &impl Abort, alloc: Global, opened: bool) {
     becomes(rt, alloc, deep, "/0/0/1/a/1/0", written, None, opened);
 }
 
-/// One value is another one, and all else as it was.
+/// One value changes, and nothing else.
 #[test]
 fn pointers_to_be_written(rt: HostRuntime) {
     let alloc = rt.alloc();
     writes(&rt, alloc, false);
     writes(&rt, alloc, true);
+}
+
+const NESTED: &str = "{\"a\":[{\"b\":[1]}]}";
+
+/// Pointers to the containers of `NESTED`, the outermost first.
+static CONTAINERS: [&str; 4] = ["", "/a", "/a/0", "/a/0/b"];
+
+/// Pointers that pass these containers. The last four name nothing.
+static PASSING: [&str; 8] = [
+    "",
+    "/a",
+    "/a/0/b",
+    "/a/0/b/0",
+    "/a/0/b/1",
+    "/a/0/c",
+    "/a/0/b/0/d",
+    "/a/~",
+];
+
+/// Reserves capacity for 50 more elements or entries where a pointer leads.
+fn reserve(rt: &impl Abort, value: &mut IValue, pointer: &str) {
+    if let Ok(Some(found)) = resolve_mut(value, pointer) {
+        match found.destructure_mut() {
+            DestructuredMut::Array(array) => array.reserve(50).expect(rt, pointer),
+            DestructuredMut::Object(object) => object.reserve(50).expect(rt, pointer),
+            _ => (),
+        }
+    }
+}
+
+/// The capacity of an array or an object.
+fn capacity(value: &IValue) -> usize {
+    match value.destructure_ref() {
+        DestructuredRef::Array(array) => array.capacity(),
+        DestructuredRef::Object(object) => object.capacity(),
+        _ => 0,
+    }
+}
+
+/// Asserts that each container of `NESTED` has capacity for its one element and 50 more.
+fn has_capacities(rt: &impl Abort, value: &IValue) {
+    for &pointer in &CONTAINERS {
+        let found = resolve(value, pointer).expect(rt, pointer);
+        assert!(*rt;
+            matches!(found, Some(container) if capacity(container) == 51),
+            "{pointer}"
+        );
+    }
+}
+
+/// Follows a pointer in both ways, and writes nothing.
+fn pass(value: &mut IValue, pointer: &str) -> bool {
+    let found = resolve_mut(value, pointer).is_ok();
+    resolve_opened_mut(value, pointer).is_ok() && found
+}
+
+#[test]
+fn pointers_leave_capacities(rt: HostRuntime) {
+    let mut value = parsed(&rt, rt.alloc(), NESTED);
+    for &pointer in &CONTAINERS {
+        reserve(&rt, &mut value, pointer);
+    }
+    for (index, &pointer) in PASSING.iter().enumerate() {
+        assert!(rt; pass(&mut value, pointer) == (index < 4), "{pointer}");
+        has_capacities(&rt, &value);
+    }
+    drop(value);
 }

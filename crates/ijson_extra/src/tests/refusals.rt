@@ -1,6 +1,7 @@
-//! Each test here holds under any one refused request for memory: what a refused call leaves is compared, whole where
-//! it is small, and the call is made again.
-//! The repository's `check` runs each with its first request refused, with its second, and so on.
+//! Tests that pass if any one allocation fails.
+//!
+//! The state after a failed call is compared, completely if it is small, and the call is repeated. The repository's `check` runs each test
+//! with its first allocation failing, with its second, and so on.
 ghost use Rattle.std.specs.Prelude.{◌≡◌, ◌<◌, IfOk};
 
 pub(super) mod large;
@@ -22,7 +23,7 @@ use ijson_value::value::IValue;
 use std::alloc::{AllocError, Global};
 use std::process::Abort;
 
-/// The number that a text spells.
+/// Parses a number.
 fn spelled(rt: &impl Abort, alloc: Global, text: &str) -> INumber {
     granted!(rt; ParseNumberError::Memory; INumber::from_str(alloc, text))
 }
@@ -52,7 +53,7 @@ fn number_of_many_digits(rt: HostRuntime) {
     drop(value);
 }
 
-/// The number at the front of a text, and its length.
+/// Returns the leading number of a text, and its length.
 fn at_front(rt: &impl Abort, alloc: Global, text: &str) -> (INumber, usize) {
     granted!(rt; INumber::at_front(alloc, text)).expect(rt, "a number")
 }
@@ -72,7 +73,7 @@ fn number(at: usize) -> IValue {
     IValue::from(at)
 }
 
-/// Whether the items of an array are the numbers from the first one on, so many of them.
+/// Returns `true` if the elements of an array are the `len` numbers from `first` on.
 fn counts(array: &IArray, first: usize, len: usize) -> bool {
     let mut next = first;
     for item in array.iter() {
@@ -84,7 +85,7 @@ fn counts(array: &IArray, first: usize, len: usize) -> bool {
     array.len() == len
 }
 
-/// Pushes the number that follows so many others.
+/// Pushes the number `len` onto the numbers before it.
 fn pushes(rt: &impl Abort, array: &mut IArray, len: usize) {
     let capacity = array.capacity();
     if let Err(refused) = array.push(number(len)) {
@@ -104,12 +105,12 @@ fn array_push(rt: HostRuntime) {
     drop(array);
 }
 
-/// An empty array that has room for so many items.
+/// Returns an empty array of this capacity.
 fn array_of_room(rt: &impl Abort, alloc: Global, capacity: usize) -> IArray {
     granted!(rt; IArray::with_capacity(alloc, capacity))
 }
 
-/// An array of the numbers 1 and 2.
+/// Returns an array of the numbers 1 and 2.
 fn one_and_two(rt: &impl Abort, alloc: Global) -> IArray {
     let mut array = array_of_room(rt, alloc, 2);
     array.push(number(1)).expect(rt, "room");
@@ -117,7 +118,7 @@ fn one_and_two(rt: &impl Abort, alloc: Global) -> IArray {
     array
 }
 
-/// Inserts 0 before so many numbers from 1 on, which fill an array.
+/// Inserts 0 before the numbers from 1 on, which fill an array.
 fn inserts_zero(rt: &impl Abort, array: &mut IArray, len: usize) {
     if let Err(refused) = array.insert(0, number(0)) {
         assert!(*rt; refused.0.to_usize() == Some(0) && array.capacity() == len);
@@ -126,7 +127,7 @@ fn inserts_zero(rt: &impl Abort, array: &mut IArray, len: usize) {
     }
 }
 
-/// Makes room for so many items more than the numbers from 0 on, of which there are `len`.
+/// Reserves capacity for `more` elements after the numbers below `len`.
 fn grows(rt: &impl Abort, array: &mut IArray, len: usize, more: usize) {
     let capacity = array.capacity();
     if array.reserve(more).is_err() {
@@ -136,7 +137,7 @@ fn grows(rt: &impl Abort, array: &mut IArray, len: usize, more: usize) {
     assert!(*rt; counts(array, 0, len));
 }
 
-/// Gives up all room but that of the numbers from 0 to 2.
+/// Shrinks the capacity to that of the numbers 0 to 2.
 fn shrinks(rt: &impl Abort, array: &mut IArray) {
     let capacity = array.capacity();
     if array.shrink_to_fit().is_err() {
@@ -146,7 +147,7 @@ fn shrinks(rt: &impl Abort, array: &mut IArray) {
     assert!(*rt; counts(array, 0, 3) && array.capacity() == 3);
 }
 
-/// Puts an item into an array that has no memory yet.
+/// Inserts an element into an array that has not allocated.
 fn inserts_first(rt: &impl Abort, alloc: Global) {
     let mut array = IArray::new(alloc);
     inserts_zero(rt, &mut array, 0);
@@ -154,7 +155,7 @@ fn inserts_first(rt: &impl Abort, alloc: Global) {
     drop(array);
 }
 
-/// Makes room for three items in an array that has no memory yet, and pushes three.
+/// Reserves capacity for three elements in an array that has not allocated, and pushes them.
 fn reserves_three(rt: &impl Abort, alloc: Global) {
     let mut array = IArray::new(alloc);
     grows(rt, &mut array, 0, 3);
@@ -178,12 +179,12 @@ fn array_room(rt: HostRuntime) {
     drop(array);
 }
 
-/// Whether an array of so many items has no room for one more, where they came one after the other.
+/// Returns `true` if an array of `len` pushed elements has no spare capacity.
 fn grows_at(len: usize) -> bool {
     matches!(len, 0 | 4 | 8)
 }
 
-/// Extends an empty array by the numbers from 0 to 8.
+/// Extends an empty array by the numbers 0 to 8.
 fn extends(rt: &impl Abort, array: &mut IArray) {
     if let Err(refused) = array.extend((0..9usize).map(number)) {
         let added = array.len();
@@ -195,7 +196,7 @@ fn extends(rt: &impl Abort, array: &mut IArray) {
     }
 }
 
-/// An array of the numbers from 0 to 8, from those of another one.
+/// Returns an array of the numbers 0 to 8, from those of another one.
 fn made_again(rt: &impl Abort, alloc: Global, array: IArray) -> IArray {
     match IArray::from_iter(alloc, array) {
         Ok(again) => again,
@@ -207,7 +208,7 @@ fn made_again(rt: &impl Abort, alloc: Global, array: IArray) -> IArray {
     }
 }
 
-/// A list of the numbers from 0 to 2.
+/// Returns a list of the numbers 0 to 2.
 fn three(rt: &impl Abort, alloc: Global) -> Vec<IValue> {
     let mut list = granted!(rt; Vec::with_capacity(alloc, 3));
     for at in 0..3usize {
@@ -216,7 +217,7 @@ fn three(rt: &impl Abort, alloc: Global) -> Vec<IValue> {
     list
 }
 
-/// An array of the items of a list.
+/// Returns an array of the elements of a list.
 fn of_list(rt: &impl Abort, alloc: Global, list: Vec<IValue>) -> IArray {
     match IArray::from_vec(alloc, list) {
         Ok(array) => array,
@@ -238,14 +239,14 @@ fn array_extend(rt: HostRuntime) {
     drop(listed);
 }
 
-/// A cache that holds one text.
+/// Returns a cache that contains one string.
 fn used_cache(rt: &impl Abort, alloc: Global) -> Cache {
     let mut cache = empty_cache(alloc);
     drop(granted!(rt; IString::intern(&mut cache, "a text that was there")));
     cache
 }
 
-/// Whether a cache that held one text holds it still, and at most so many in all.
+/// Returns `true` if a cache still contains its one string, and at most `most` in all.
 fn is_kept(cache: &Cache, most: usize) -> bool {
     cache.contains("a text that was there") && cache.len() <= most
 }
@@ -261,7 +262,7 @@ fn interned(rt: &impl Abort, cache: &mut Cache, text: &str) -> IString {
     }
 }
 
-/// Texts, and how many a cache of one other text holds once each is interned.
+/// Strings, and the number of strings in a cache of one other string after each is interned.
 static TEXTS: [(&str, usize); 4] = [
     ("seven77", 1),
     ("eight888", 2),
@@ -269,7 +270,7 @@ static TEXTS: [(&str, usize); 4] = [
     ("eight888", 3),
 ];
 
-/// A text in a cache that holds so many once it is there.
+/// Interns a string, after which the cache contains `count`.
 fn counted(rt: &impl Abort, cache: &mut Cache, text: &str, count: usize) -> IString {
     let was_there = cache.contains(text);
     let before = cache.len();
@@ -283,7 +284,7 @@ fn counted(rt: &impl Abort, cache: &mut Cache, text: &str, count: usize) -> IStr
     }
 }
 
-/// Asserts that a text and its copies are these letters.
+/// Asserts that a string and its copies are these letters.
 fn copies_text(rt: &impl Abort, alloc: Global, key: &IString, text: &str) {
     let copy = key.clone().expect(rt, "a copy");
     assert!(*rt; copy == *key);
@@ -305,10 +306,9 @@ fn intern(rt: HostRuntime) {
     drop(cache);
 }
 
-/// 72 letters.
 static LETTERS: &str = "abcdefghijklmnopqrstuvwxyz0123456789ABCDEFGHIJKLMNOPQRSTUVWXYZ9876543210";
 
-// The list of the texts grows at the 5th, and the buckets at the 65th.
+// The list of strings grows at the 5th, and the buckets at the 65th.
 #[test]
 fn intern_many(rt: HostRuntime) {
     let alloc = rt.alloc();
@@ -321,7 +321,7 @@ fn intern_many(rt: HostRuntime) {
     drop(cache);
 }
 
-/// Texts that are written as they are read, and how many texts a cache of one other text holds then.
+/// Texts that are written as they are read, and the number of strings in a cache of one other string.
 static DOCUMENTS: [(&str, usize); 2] = [
     (r#"["longlong",[1]]"#, 2),
     (
@@ -330,7 +330,7 @@ static DOCUMENTS: [(&str, usize); 2] = [
     ),
 ];
 
-/// What `text` spells, through a cache that holds at most so many texts then.
+/// Parses `text`, with a cache that then contains at most `held` strings.
 fn read_into(rt: &impl Abort, alloc: Global, cache: &mut Cache, text: &str, held: usize) -> IValue {
     match from_json(alloc, cache, text) {
         Ok(value) => value,
@@ -341,19 +341,19 @@ fn read_into(rt: &impl Abort, alloc: Global, cache: &mut Cache, text: &str, held
     }
 }
 
-/// An empty text that has room for so many bytes.
+/// Returns an empty text of this capacity.
 fn text_of_room(rt: &impl Abort, alloc: Global, bytes: usize) -> String {
     granted!(rt; String::with_capacity(alloc, bytes))
 }
 
-/// The text `true`, which has no room for more.
+/// Returns the text `true` without spare capacity.
 fn full_text(rt: &impl Abort, alloc: Global) -> String {
     let mut text = text_of_room(rt, alloc, 4);
     text.push_str("true").expect(rt, "room");
     text
 }
 
-/// A part that is put behind a text, by the call that puts it.
+/// A part that is appended to a text, by the call that appends it.
 #[derive(Clone, Copy)]
 enum Part {
     Separator,
@@ -363,8 +363,9 @@ enum Part {
     Key,
 }
 
-/// A comma, numbers of few digits and of many, with zeros beside the digits and with an exponent, a string and a key; and what stands
-/// behind `true` once they are put there.
+/// Parts, and the text after each is appended to `true`.
+///
+/// They are a comma, numbers of few and many digits, with added zeros and with an exponent, a string and a key.
 static PARTS: [(Part, &str, &str); 8] = [
     (Part::Separator, "", "true,"),
     (
@@ -388,7 +389,9 @@ static PARTS: [(Part, &str, &str); 8] = [
     (Part::Key, "0123456789\n", "true,\"0123456789\\n\":"),
 ];
 
-/// Puts the number that a text spells last, or its stripped digits, and tells whether it was done.
+/// Appends the number that a text spells, or its canonical significand.
+///
+/// Returns `true` if that succeeded.
 fn push_number(
     rt: &impl Abort,
     alloc: Global,
@@ -406,7 +409,7 @@ fn push_number(
     is_done
 }
 
-/// Puts a part last, and tells whether it was done.
+/// Appends a part, and returns `true` if that succeeded.
 fn push_part(rt: &impl Abort, alloc: Global, found: &mut String, part: Part, text: &str) -> bool {
     match part {
         Part::Separator => push_separator(found, false).is_ok(),
@@ -417,8 +420,9 @@ fn push_part(rt: &impl Abort, alloc: Global, found: &mut String, part: Part, tex
     }
 }
 
-/// Puts a part behind a text that has no room. Where memory is refused, there is `true` and a beginning of the part, and it is put
-/// behind another such text.
+/// Appends a part to a text without spare capacity.
+///
+/// If an allocation fails, a beginning of the part was appended, and the part is appended to another such text.
 fn puts_part(rt: &impl Abort, alloc: Global, part: Part, text: &str, want: &str) {
     let mut found = full_text(rt, alloc);
     if !push_part(rt, alloc, &mut found, part, text) {
@@ -430,7 +434,7 @@ fn puts_part(rt: &impl Abort, alloc: Global, part: Part, text: &str, want: &str)
     assert!(*rt; found.as_str() == want);
 }
 
-/// Puts each of these parts.
+/// Appends each of these parts.
 fn puts_parts(rt: &impl Abort, alloc: Global, parts: &[(Part, &str, &str)]) {
     for &(part, text, want) in parts {
         puts_part(rt, alloc, part, text, want);
@@ -451,7 +455,9 @@ fn reading_and_writing(rt: HostRuntime) {
     puts_parts(&rt, alloc, &PARTS);
 }
 
-/// Numbers in a word, in one row and in more, and what stands behind `true` once their stripped digits are put there.
+/// Numbers in a word, in one block and in more.
+///
+/// Each is followed by `true` with its canonical significand appended.
 static STRIPPED: [(Part, &str, &str); 3] = [
     (
         Part::StrippedDigits,
@@ -466,8 +472,9 @@ static STRIPPED: [(Part, &str, &str); 3] = [
     ),
 ];
 
-/// Texts that are written as they are read, and the canonical text of what each spells. The second outgrows the memory that a
-/// canonical text gets at first, and its second object the list of the first one.
+/// Texts that are written as they are read, and their canonical texts.
+///
+/// The second exceeds the initial capacity of a canonical text, and its second object the list of the first one.
 static CANONICAL: [(&str, &str); 2] = [
     (
         "{\"b\":{\"d\":2.0,\"c\":[10,0.0]},\"a\":\"longlong\"}",
@@ -493,7 +500,7 @@ fn canonical(rt: HostRuntime) {
     puts_parts(&rt, alloc, &STRIPPED);
 }
 
-/// A sink that takes so many bytes, in pieces.
+/// Returns a sink for `most` bytes, in pieces.
 fn sink(alloc: Global, piece: usize, most: usize) -> Result<MemorySink, AllocError>
     requires { 0 < piece }
     ensures { IfOk result (λ sink. sink.failed ≡ 0) }
@@ -504,13 +511,13 @@ fn sink(alloc: Global, piece: usize, most: usize) -> Result<MemorySink, AllocErr
     }
 }
 
-/// Texts, and what is written of each.
+/// Inputs, and the output for each.
 static COMPACTED: [(&[u8], &[u8]); 2] = [
     (b"[1.50]", b"[1.5]\n"),
     (b"[ \"longlong\" ]", b"[\"longlong\"]\n"),
 ];
 
-/// Asserts that nothing is reported of a compacted text, and of any other one that memory was refused.
+/// Asserts that nothing is reported for a compacted input, and a failed allocation for any other.
 fn is_reported(rt: &impl Abort, answer: &Result<(), CompactError>, status: u8, line: &[u8]) {
     if answer.is_ok() {
         assert!(*rt; status == 0 && line.is_empty());
@@ -520,8 +527,9 @@ fn is_reported(rt: &impl Abort, answer: &Result<(), CompactError>, status: u8, l
     }
 }
 
-/// Compacts a text in pieces between devices of so many bytes, and reports the answer. Whether it was done: where it was refused,
-/// nothing is written but the line.
+/// Compacts an input in pieces between devices of `most` bytes, and reports the result.
+///
+/// Returns `true` on success; after a failure only the line is written.
 fn is_compacted(
     rt: &impl Abort,
     alloc: Global,
@@ -582,7 +590,7 @@ fn compacting_to_a_value(rt: HostRuntime) {
     drop(value);
 }
 
-/// Copies an array by its own call, and an object of two pairs, which is its last item.
+/// Copies an array by its own call, and its last element, an object of two entries.
 fn copies_parts(rt: &impl Abort, array: &IArray) {
     let copy = granted!(rt; array.clone());
     assert!(*rt; copy == *array);
@@ -594,7 +602,7 @@ fn copies_parts(rt: &impl Abort, array: &IArray) {
     drop(copy);
 }
 
-/// Copies a value that is written as this text.
+/// Copies a value of this text.
 fn copied(rt: &impl Abort, alloc: Global, value: &IValue, text: &str) -> IValue {
     let copy = granted!(rt; value.clone());
     assert!(*rt; copy == *value);
@@ -602,7 +610,7 @@ fn copied(rt: &impl Abort, alloc: Global, value: &IValue, text: &str) -> IValue 
     copy
 }
 
-/// Copies items into an array.
+/// Copies elements into an array.
 fn copies_items(rt: &impl Abort, alloc: Global, items: &[IValue]) {
     let array = granted!(rt; IArray::from_slice(alloc, items));
     assert!(*rt; array.as_slice() == items);

@@ -1,4 +1,4 @@
-//! Pair stores: each by commands, and tables worked by hand.
+//! Tests of stores: each by commands, and tables checked slot by slot.
 
 mod copies;
 mod crowds;
@@ -15,14 +15,14 @@ use ijson_table::{Command, KeyHash, PairStore, Reply, run};
 use std::alloc::Global;
 use std::process::Abort;
 
-/// A key for each number: one character, which takes no memory.
+/// Returns the key of a number: one character, which does not allocate.
 pub(super) fn numbered(rt: &impl Abort, alloc: Global, number: u16) -> IString {
     let character = char::from_u32(0x4e00 + u32::from(number)).expect(rt, "a character");
     let mut bytes = [0; 4];
     key(rt, alloc, character.encode_utf8(&mut bytes))
 }
 
-/// The length of the text in bytes.
+/// The length of the key in bytes.
 #[derive(Drop)]
 struct ByLength;
 
@@ -48,7 +48,7 @@ impl KeyHash for AlwaysZero {
     }
 }
 
-/// What is done to a store: a command, whose key is a text.
+/// A command to a store, whose key is a literal.
 #[derive(Clone, Copy, Drop)]
 enum Step {
     Put(&'static str, u64),
@@ -60,7 +60,7 @@ enum Step {
     Clear,
 }
 
-/// The command of a step.
+/// Returns the command of a step.
 fn command(rt: &impl Abort, alloc: Global, step: Step) -> Command<u64> {
     match step {
         Step::Put(letters, value) => Command::Insert(key(rt, alloc, letters), value),
@@ -73,7 +73,7 @@ fn command(rt: &impl Abort, alloc: Global, step: Step) -> Command<u64> {
     }
 }
 
-/// The reply to one command.
+/// Returns the reply to one command.
 fn reply<P: PairStore<u64>>(
     rt: &impl Abort,
     alloc: Global,
@@ -85,7 +85,7 @@ fn reply<P: PairStore<u64>>(
     replies.pop().expect(rt, "a reply")
 }
 
-/// Asserts what is shown of the reply to a step.
+/// Asserts the debug output of the reply to a step.
 fn replies_so<P: PairStore<u64>>(
     rt: &impl Abort,
     alloc: Global,
@@ -98,7 +98,7 @@ fn replies_so<P: PairStore<u64>>(
     drop(reply);
 }
 
-/// Inserts these keys, each beside its index.
+/// Inserts these keys, with their indices as values.
 fn insert_all<P: PairStore<u64>>(rt: &impl Abort, alloc: Global, store: &mut P, keys: &[&str]) {
     for (i, letters) in keys.iter().enumerate() {
         let put = Command::Insert(key(rt, alloc, letters), i as u64);
@@ -108,7 +108,7 @@ fn insert_all<P: PairStore<u64>>(rt: &impl Abort, alloc: Global, store: &mut P, 
     }
 }
 
-/// Whether these are the pairs, in order.
+/// Returns `true` if these are the entries, in order.
 fn are_pairs(pairs: &[(IString, u64)], wanted: &[(&str, u64)]) -> bool {
     for (pair, (letters, value)) in pairs.iter().zip(wanted) {
         if !pair.0.eq_str(letters) || pair.1 != *value {

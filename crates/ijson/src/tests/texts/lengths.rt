@@ -1,6 +1,6 @@
-//! Texts of each length, one by one.
+//! Strings of each length.
 use super::interned;
-use crate::examples::empty_cache;
+use crate::examples::{Cache, empty_cache};
 use crate::string::IString;
 use crate::tests::is_shown;
 use std::alloc::Global;
@@ -24,11 +24,12 @@ fn long_texts_alone_enter_the_cache(rt: HostRuntime) {
     drop(long);
 }
 
-/// Asserts that a text and its copies are these letters, and print them. `Debug` puts them between quotes, since none is escaped.
+/// Asserts that a string and its copies are `letters`, and print them. `Debug` puts them between quotes, since none is escaped.
 fn is_text(rt: &impl Abort, alloc: Global, text: &IString, letters: &str) {
     assert!(rt; text.len() == letters.len());
+    assert!(rt; text.as_str() == letters);
     let copy = text.clone().expect(rt, "a copy");
-    assert!(rt; copy.eq_str(letters));
+    assert!(rt; copy == *text && copy.eq_str(letters));
     drop(copy);
     let owned = text.to_owned_string(alloc).expect(rt, "a text");
     assert!(rt; owned.as_str() == letters);
@@ -36,7 +37,7 @@ fn is_text(rt: &impl Abort, alloc: Global, text: &IString, letters: &str) {
     is_printed(rt, alloc, text, letters);
 }
 
-/// Asserts that a text of these letters prints them.
+/// Asserts that a string of `letters` prints them.
 fn is_printed(rt: &impl Abort, alloc: Global, text: &IString, letters: &str) {
     let printed = format!(in alloc; "{text}{text:?}").expect(rt, "a text");
     let want = format!(in alloc; "{letters}\"{letters}\"").expect(rt, "a text");
@@ -45,52 +46,60 @@ fn is_printed(rt: &impl Abort, alloc: Global, text: &IString, letters: &str) {
     drop(want);
 }
 
-/// A text of each form that is stored, at its least and its greatest length, and long ones.
-static LENGTHS: [usize; 14] = [
-    0, 7, 8, 23, 24, 39, 40, 55, 56, 71, 72, 200, 41_000, 1_000_000,
-];
+/// Interns the prefix of this length twice, and asserts that each is it.
+fn is_prefix(rt: &impl Abort, alloc: Global, cache: &mut Cache, text: &str, length: usize) {
+    let letters = text.get(..length).expect(rt, "a prefix");
+    let string = interned(rt, cache, letters);
+    is_text(rt, alloc, &string, letters);
+    let again = interned(rt, cache, letters);
+    assert!(rt; string == again);
+    drop(again);
+    drop(string);
+}
 
+/// Every length of each stored form but the last, and a few of that.
 #[test]
 fn texts_of_each_length_are_shared_and_print(rt: HostRuntime) {
     let text = "0123456789"
         .repeat(rt.alloc(), 100_000)
         .expect(&rt, "a text");
     let mut cache = empty_cache(rt.alloc());
-    for &length in &LENGTHS {
-        let letters = text.as_str().get(..length).expect(&rt, "a beginning");
-        let text = interned(&rt, &mut cache, letters);
-        is_text(&rt, rt.alloc(), &text, letters);
-        drop(text);
+    for length in 0..161 {
+        is_prefix(&rt, rt.alloc(), &mut cache, text.as_str(), length);
     }
-    assert!(rt; cache.len() == 12);
+    assert!(rt; cache.len() == 153);
+    for length in [200, 41_000, 1_000_000] {
+        is_prefix(&rt, rt.alloc(), &mut cache, text.as_str(), length);
+    }
+    assert!(rt; cache.len() == 156);
     drop(cache);
     drop(text);
 }
 
-/// Texts, and the 7 bytes that each lies in.
-static ROWS: [(&str, &str); 3] = [
+/// Strings, and each padded to 7 bytes.
+static PADDED: [(&str, &str); 3] = [
     ("", "\0\0\0\0\0\0\0"),
     ("é", "é\0\0\0\0\0"),
     ("seven77", "seven77"),
 ];
 
 #[test]
-fn short_texts_lie_in_seven_bytes(rt: HostRuntime) {
+fn short_texts_are_padded_to_seven_bytes(rt: HostRuntime) {
     let mut cache = empty_cache(rt.alloc());
-    for &(letters, want) in &ROWS {
+    for &(letters, want) in &PADDED {
         let text = interned(&rt, &mut cache, letters);
-        let (length, row) = text.in_place().expect(&rt, "a short text");
+        let (length, padded) = text.inline_padded().expect(&rt, "a short text");
         assert!(rt; usize::from(length) == letters.len());
-        assert!(rt; row == want);
+        assert!(rt; padded == want);
         drop(text);
     }
     let long = interned(&rt, &mut cache, "eight888");
-    assert!(rt; long.in_place().is_none());
+    assert!(rt; long.inline_padded().is_none());
     drop(long);
     drop(cache);
 }
 
-/// Texts, and what `Debug` prints of each.
+/// Strings, and the output of `Debug`.
 static DEBUGGED: [(&str, &str); 4] = [
     ("", r#""""#),
     ("seven77", r#""seven77""#),
@@ -101,7 +110,7 @@ static DEBUGGED: [(&str, &str); 4] = [
     ),
 ];
 
-/// Texts, each of which comes before the next.
+/// Strings in ascending order.
 static RISING: [&str; 5] = ["", "interned_string_a", "interned_string_b", "z", "é"];
 
 #[test]
@@ -132,6 +141,17 @@ fn texts_are_shown_with_escapes(rt: HostRuntime) {
         is_shown(&rt, rt.alloc(), &text, want);
         drop(text);
     }
+    drop(cache);
+}
+
+#[test]
+fn a_cache_is_shown_as_a_set(rt: HostRuntime) {
+    let mut cache = empty_cache(rt.alloc());
+    is_shown(&rt, rt.alloc(), &cache, "{}");
+    for letters in ["second here", "first there", "short", "second here"] {
+        drop(interned(&rt, &mut cache, letters));
+    }
+    is_shown(&rt, rt.alloc(), &cache, r#"{"second here", "first there"}"#);
     drop(cache);
 }
 

@@ -1,11 +1,11 @@
-//! A cache of many texts: its buckets double, and from 2,048 buckets on `recent` leads to those that came again.
+//! A cache of many strings, whose buckets double.
 use super::interned;
 use crate::string::StringCache;
 use std::alloc::Global;
 use std::hash::{BuildHasher, BuildHasherDefault, FoldHasher, Hasher};
 use std::process::Abort;
 
-/// All texts have one hash.
+/// Gives all strings one hash.
 #[derive(Clone, Copy, Default, Drop)]
 pub(super) struct OneHash;
 
@@ -21,7 +21,7 @@ impl Hasher for OneHash {
     fn write(&mut self, _bytes: &[u8]) {}
 }
 
-/// Interns so many texts of 8 bytes, and asserts that the cache then holds `held` texts.
+/// Interns `count` strings of 8 bytes, and asserts that the cache then has `held` strings.
 fn intern_each<S: BuildHasher>(
     rt: &impl Abort,
     alloc: Global,
@@ -38,7 +38,7 @@ fn intern_each<S: BuildHasher>(
     assert!(rt; cache.len() == held);
 }
 
-/// Interns so many texts, then again, and once more where they were taken out.
+/// Interns `count` strings, then again, and half of them once more after `clear`.
 fn keeps<S: BuildHasher + Drop>(rt: &impl Abort, alloc: Global, hasher: S, count: usize) {
     let mut cache = StringCache::new(alloc, hasher);
     intern_each(rt, alloc, &mut cache, count, count);

@@ -1,5 +1,4 @@
-//! Of texts that come again in one order hardly any is hashed from the third time on, and those that come in another order are found as
-//! well.
+//! Strings that repeat in one order are rarely hashed from the third time on, and strings in another order are found, too.
 use super::interned;
 use super::many::OneHash;
 use crate::string::StringCache;
@@ -8,7 +7,7 @@ use std::cell::Cell;
 use std::hash::BuildHasher;
 use std::process::Abort;
 
-/// It counts the texts that are hashed. What a cell holds is no part of a value, so for a contract it stays as it was.
+/// Counts the strings that are hashed. The content of a cell is no part of a value, so for a contract it is unchanged.
 #[derive(Drop)]
 struct Counting<'a> {
     hashed: &'a Cell<usize>,
@@ -25,7 +24,7 @@ impl BuildHasher for Counting<'_> {
     }
 }
 
-/// Interns the text of a number.
+/// Interns the digits of a number.
 fn intern_number<S: BuildHasher>(
     rt: &impl Abort,
     alloc: Global,
@@ -38,7 +37,7 @@ fn intern_number<S: BuildHasher>(
     drop(text);
 }
 
-/// Interns the texts of the numbers below this one, from the last on.
+/// Interns the digits of the numbers below `count`, in descending order.
 fn intern_down<S: BuildHasher>(
     rt: &impl Abort,
     alloc: Global,
@@ -65,7 +64,7 @@ fn texts_of_one_order_are_hardly_hashed(rt: HostRuntime) {
     drop(cache);
 }
 
-/// Of records with fifty keys, each before a text that comes once.
+/// Records with fifty keys, each before a unique string.
 #[test]
 fn texts_that_come_once_leave_the_order_of_the_others(rt: HostRuntime) {
     let hashed = Cell::new(0);
@@ -82,7 +81,7 @@ fn texts_that_come_once_leave_the_order_of_the_others(rt: HostRuntime) {
     drop(cache);
 }
 
-/// Up and down, fewer and fewer, and once more where they were taken out.
+/// Ascending and descending, fewer each time, and once more after `clear`.
 #[test]
 fn texts_are_found_in_any_order(rt: HostRuntime) {
     let hashed = Cell::new(0);

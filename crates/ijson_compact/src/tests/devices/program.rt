@@ -1,13 +1,15 @@
-//! What the program makes of its streams, over a reader and a writer that do as a table says.
+//! The program over a reader and a writer whose behavior a table gives.
+
+ghost use Rattle.std.specs.Hash.FoldHasher as folding;
 
 use crate::compact_stream;
-use crate::tests::seeds::OneByte;
 use ijson_json::CompactError;
 use std::cell::Cell;
+use std::hash::{BuildHasher, FoldHasher};
 use std::io;
 use std::io::{ErrorKind, Read, Write};
 
-/// A reader that gives these pieces, one a call. It fails where there is none, and behind the last.
+/// A reader of these pieces, one a call. It fails at a missing piece, and after the last.
 #[derive(Drop)]
 struct Pieces<'a> {
     pieces: &'a [Option<&'a str>],
@@ -27,7 +29,9 @@ impl Read for Pieces<'_> {
     }
 }
 
-/// A writer that takes all, but fails at one call, and counts the calls. A flush is a call too.
+/// A writer that accepts everything, but fails at one call, and counts the calls.
+///
+/// A flush is a call too.
 #[derive(Drop)]
 struct Counted<'a> {
     calls: &'a Cell<u32>,
@@ -35,7 +39,7 @@ struct Counted<'a> {
 }
 
 impl Counted<'_> {
-    /// Counts a call, and fails where it is the one.
+    /// Counts a call, and fails if it is the one.
     fn call(&self) -> io::Result<()> {
         let call = self.calls.get();
         self.calls.set(call.saturating_add(1));
@@ -57,50 +61,56 @@ impl Write for Counted<'_> {
     }
 }
 
-/// What the reader gives, the byte of the seed, the call of the writer that fails, the answer, and how often the writer was called.
-/// A text is written and flushed in two calls. A reader is not asked again once it told its end or failed, and neither is a writer
-/// that failed.
-static RUNS: [(
-    &[Option<&str>],
-    Option<u8>,
-    u32,
-    Result<(), CompactError>,
-    u32,
-); 8] = [
-    (&[Some("[1]"), Some("")], Some(7), 2, Ok(()), 2),
-    (&[Some("["), Some("1]"), Some("")], Some(7), 2, Ok(()), 2),
-    (&[Some("[1]")], Some(7), 2, Err(CompactError::Read), 0),
+/// Creates hashers, and counts them.
+#[derive(Drop)]
+struct CountedState<'a> {
+    made: &'a Cell<u32>,
+}
+
+impl BuildHasher for CountedState<'_> {
+    type Hasher = FoldHasher;
+
+    ghost build_hasher = { λ _. folding.initial };
+
+    fn build_hasher(&self) -> FoldHasher {
+        self.made.set(self.made.get().saturating_add(1));
+        FoldHasher::default()
+    }
+}
+
+/// The pieces of the reader, whether the hasher is an error, the call that fails, the result, and the calls.
+///
+/// The calls are those of the writer: a text is written and flushed in two. A reader is not called again after its end or an error, nor is
+/// a writer that failed. The texts are numbers, since the program does not free its value.
+static RUNS: [(&[Option<&str>], bool, u32, Result<(), CompactError>, u32); 8] = [
+    (&[Some("12"), Some("")], false, 2, Ok(()), 2),
+    (&[Some("1"), Some("2"), Some("")], false, 2, Ok(()), 2),
+    (&[Some("12")], false, 2, Err(CompactError::Read), 0),
     (
-        &[None, Some("[1]"), Some("")],
-        Some(7),
+        &[None, Some("12"), Some("")],
+        false,
         2,
         Err(CompactError::Read),
         0,
     ),
     (
-        &[Some("[1"), None, Some("]"), Some("")],
-        Some(7),
+        &[Some("1"), None, Some("2"), Some("")],
+        false,
         2,
         Err(CompactError::Read),
         0,
     ),
+    (&[Some("12"), Some("")], true, 2, Err(CompactError::Read), 0),
     (
-        &[Some("[1]"), Some("")],
-        None,
-        2,
-        Err(CompactError::Read),
-        0,
-    ),
-    (
-        &[Some("[1]"), Some("")],
-        Some(7),
+        &[Some("12"), Some("")],
+        false,
         0,
         Err(CompactError::Write),
         1,
     ),
     (
-        &[Some("[1]"), Some("")],
-        Some(7),
+        &[Some("12"), Some("")],
+        false,
         1,
         Err(CompactError::Write),
         2,
@@ -109,16 +119,43 @@ static RUNS: [(
 
 #[test]
 fn streams_are_called_as_often_as_they_must(rt: HostRuntime) {
-    for &(pieces, byte, fails_at, want, count) in &RUNS {
-        let calls = Cell::new(0);
-        let random = OneByte::new(byte);
+    for &(pieces, fails, fails_at, want, count) in &RUNS {
+        let (calls, made) = (Cell::new(0), Cell::new(0));
+        let hasher = if fails {
+            Err(io::Error::from(ErrorKind::Other))
+        } else {
+            Ok(CountedState { made: &made })
+        };
         let writer = Counted {
             calls: &calls,
             fails_at,
         };
-        let answer = compact_stream(rt.alloc(), &random, Pieces { pieces, call: 0 }, writer);
+        let answer = compact_stream(rt.alloc(), hasher, Pieces { pieces, call: 0 }, writer);
         assert!(rt; answer == want);
         assert!(rt; calls.get() == count);
-        assert!(rt; random.given.get() == if byte.is_some() { 8 } else { 0 });
+        assert!(rt; made.get() == 0);
     }
+}
+
+/// A string of more than 7 bytes is hashed once, by the hasher given. `tests/alloc/gives-back` leaves this test out: the program does not
+/// free its value and its cache.
+#[test]
+fn strings_are_hashed_by_the_hasher_given(rt: HostRuntime) {
+    let (calls, made) = (Cell::new(0), Cell::new(0));
+    let pieces = [
+        Some("[\"a longer text\",\"short\",{\"a longer key\":1}]"),
+        Some(""),
+    ];
+    let reader = Pieces {
+        pieces: &pieces,
+        call: 0,
+    };
+    let writer = Counted {
+        calls: &calls,
+        fails_at: 2,
+    };
+    let hasher = Ok(CountedState { made: &made });
+    let answer = compact_stream(rt.alloc(), hasher, reader, writer);
+    assert!(rt; answer == Ok(()));
+    assert!(rt; calls.get() == 2 && made.get() == 2);
 }

@@ -3,7 +3,7 @@ use Rattle.ijson_table.specs.Store.{at, lookup}
 use Rattle.ijson_extra.specs.Pointer.{meant}
 use Rattle.ijson_extra.proofs.pointer.find_member.Given as goal
 
--- the key is none of those that were passed, which are so many
+-- the key is none of the first `position` ones
 abbrev pub invariant-loop-key : goal.invariant-loop-key
 invariant-loop-key l = record {
   passed : l.position + length l.key-iterator ≡ length l.fn.object.pairs;

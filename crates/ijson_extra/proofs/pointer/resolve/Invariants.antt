@@ -5,7 +5,7 @@ use Rattle.ijson_extra.specs.Pointer.{resolved}
 use Rattle.ijson_extra.proofs.Pointers.{outcome}
 use Rattle.ijson_extra.proofs.pointer.resolve.Given as goal
 
--- what comes of the pointer is what comes of the value that was found so far and of what is left
+-- the result for the pointer is that for the value found so far and the rest
 abbrev pub invariant-loop-token : goal.invariant-loop-token
 invariant-loop-token l = record {
   utf8 : shadow (Utf8 l.left);

@@ -1,4 +1,4 @@
-//! Many letters, items and pairs, with each request refused once.
+//! Many letters, elements and entries, with each allocation failing once.
 
 use super::{copied, is_compacted, pushes, text_of_room, used_cache};
 use crate::tests::{insert_new, is_written, parsed};
@@ -11,14 +11,14 @@ use ijson_value::value::IValue;
 use std::alloc::Global;
 use std::process::Abort;
 
-/// Puts a text last, so many times.
+/// Appends a text `times` times.
 fn push_times(rt: &impl Abort, text: &mut String, part: &str, times: u32) {
     for _ in 0..times {
         text.push_str(part).expect(rt, "room");
     }
 }
 
-/// Puts so many members last, with keys of six digits in order.
+/// Appends `count` members, with keys of six digits in order.
 pub fn push_members(rt: &impl Abort, text: &mut String, count: u32) {
     for n in 0..count {
         push_separator(text, n == 0).expect(rt, "room");
@@ -29,7 +29,7 @@ pub fn push_members(rt: &impl Abort, text: &mut String, count: u32) {
     }
 }
 
-/// The text of a list of a text, items and an object: 70,000 letters, 70,000 items, and 30,000 pairs.
+/// Returns a list of 70,000 letters, 70,000 elements, and 30,000 entries.
 fn of_much(rt: &impl Abort, alloc: Global) -> String {
     let mut text = text_of_room(rt, alloc, 600_000);
     text.push_str("[\"").expect(rt, "room");
@@ -52,7 +52,7 @@ fn read_copied_and_written(rt: HostRuntime) {
     drop(value);
 }
 
-/// The text of a list of an item, 30,000 times, with this end.
+/// Returns a list of an element, 30,000 times, with this end.
 fn of_items(rt: &impl Abort, alloc: Global, item: &str, end: &str) -> String {
     let mut text = text_of_room(rt, alloc, 800_000);
     text.push('[').expect(rt, "room");
@@ -61,7 +61,7 @@ fn of_items(rt: &impl Abort, alloc: Global, item: &str, end: &str) -> String {
     text
 }
 
-// The input outgrows the memory that is taken for it at first, and the line that of the input.
+// The input exceeds the memory allocated for it at first, and the line that of the input.
 #[test]
 fn compacted(rt: HostRuntime) {
     let alloc = rt.alloc();
@@ -75,7 +75,9 @@ fn compacted(rt: HostRuntime) {
     drop(cache);
 }
 
-/// Puts a pair into an object, which is full where memory is refused. The pair that comes back is put once more.
+/// Inserts an entry into an object, which is full if an allocation fails.
+///
+/// The entry returned is inserted again.
 fn puts(rt: &impl Abort, object: &mut IObject, key: IString, value: IValue) {
     let len = object.len();
     if let Some(refused) = object.insert(key, value).err() {
@@ -84,7 +86,7 @@ fn puts(rt: &impl Abort, object: &mut IObject, key: IString, value: IValue) {
     }
 }
 
-/// The object of 30,000 pairs.
+/// Returns the object of 30,000 entries.
 fn pairs(rt: &impl Abort, alloc: Global) -> IObject {
     let mut text = text_of_room(rt, alloc, 400_000);
     text.push('{').expect(rt, "room");
@@ -94,7 +96,7 @@ fn pairs(rt: &impl Abort, alloc: Global) -> IObject {
     value.into_object().expect(rt, "an object")
 }
 
-/// Puts pairs one by one into an object.
+/// Inserts entries into an object one by one.
 fn puts_each(rt: &impl Abort, object: &mut IObject, pairs: IObject) {
     for (key, value) in pairs {
         puts(rt, object, key, value);

@@ -1,5 +1,5 @@
-//! Calls that take no memory. They are right whichever request is refused, so also where it is the next one after them, and a
-//! thousand rounds of them make as many requests as one does.
+//! Calls that do not allocate. They succeed whichever allocation fails, even the next one after them, and a thousand rounds make as few
+//! requests as one.
 
 use super::objects::{PAIRS, holds, is_granted, is_number, refused_entry, with_pairs};
 use super::{Cache, array_of_room, interned, number, spelled};
@@ -24,14 +24,14 @@ fn hash_of<T: Hash>(value: &T) -> u64 {
     hasher.finish()
 }
 
-/// Whether two values are equal in their order and their hashes, too.
+/// Returns `true` if two values are equal, also in their order and their hashes.
 fn are_same<T: Hash + PartialOrd>(one: &T, other: &T) -> bool {
     one == other
         && one.partial_cmp(other) == Some(Ordering::Equal)
         && hash_of(one) == hash_of(other)
 }
 
-/// Whether the first of two numbers is less, and they have two hashes.
+/// Returns `true` if the first of two numbers is less, and their hashes differ.
 fn are_in_order(less: &INumber, more: &INumber) -> bool {
     less < more
         && less != more
@@ -39,7 +39,7 @@ fn are_in_order(less: &INumber, more: &INumber) -> bool {
         && hash_of(less) != hash_of(more)
 }
 
-/// Whether the stored form is a list of digits with the point, which is no `u64`.
+/// Returns `true` if the representation is a list of digits with a fraction point, which is no `u64`.
 fn is_list_with_point(number: &INumber) -> bool {
     matches!(number.form(), Form::Digits { .. })
         && number.has_decimal_point()
@@ -61,7 +61,7 @@ fn copied(rt: &impl Abort, text: &IString) -> IString {
     text.clone().expect(rt, "a copy")
 }
 
-/// A text that the cache has, or a short one.
+/// Returns a string that is in the cache or inline.
 fn found(rt: &impl Abort, cache: &mut Cache, letters: &str) -> IString {
     let text = IString::intern(cache, letters).expect(rt, "a text");
     let copy = copied(rt, &text);
@@ -70,7 +70,7 @@ fn found(rt: &impl Abort, cache: &mut Cache, letters: &str) -> IString {
     text
 }
 
-/// Interns a long text that is there, and a short one.
+/// Interns a long string again, and a short one.
 fn interns(rt: &impl Abort, cache: &mut Cache, long: &IString) {
     let again = found(rt, cache, "eight888");
     let short = found(rt, cache, "seven77");
@@ -92,7 +92,7 @@ fn texts(rt: &impl Abort, alloc: Global, rounds: u32) {
     drop(cache);
 }
 
-/// Whether an item was there, and it is null.
+/// Returns `true` if there is an element and it is null.
 fn is_null(item: Option<IValue>) -> bool {
     let found = match &item {
         Some(item) => item.is_null(),
@@ -102,12 +102,12 @@ fn is_null(item: Option<IValue>) -> bool {
     found
 }
 
-/// Whether an array has null alone.
+/// Returns `true` if an array contains null alone.
 fn is_null_alone(array: &IArray) -> bool {
     array.len() == 1 && array[0].is_null()
 }
 
-/// Fills an array that has room for three items, and takes two of them out.
+/// Fills an array of capacity three, and removes two elements.
 fn fills(rt: &impl Abort, array: &mut IArray) {
     array.clear();
     for at in 0..3usize {
@@ -118,7 +118,7 @@ fn fills(rt: &impl Abort, array: &mut IArray) {
     );
 }
 
-/// Puts null in front of the item that is left, and takes that out.
+/// Inserts null before the remaining element, and removes that.
 fn replaces(rt: &impl Abort, array: &mut IArray) {
     array.reserve(2).expect(rt, "room");
     array.insert(0, IValue::NULL).expect(rt, "room");
@@ -127,7 +127,7 @@ fn replaces(rt: &impl Abort, array: &mut IArray) {
     assert!(*rt; is_null_alone(array));
 }
 
-/// The copies of an array of no items, and of an object of no pairs.
+/// Copies an empty array and an empty object.
 fn copies_nothing(rt: &impl Abort, alloc: Global) {
     let array = IArray::new(alloc);
     let copy = array.clone().expect(rt, "a copy");
@@ -163,7 +163,7 @@ fn is_occupied(entry: Entry<'_>) -> bool {
     is_so
 }
 
-/// Puts 9 in place of 1 in a full object, finds the entry, and puts 1 back.
+/// Replaces 1 by 9 in a full object, finds the entry, and restores 1.
 fn finds_entries(rt: &impl Abort, object: &mut IObject, a: &IString) {
     let former = object.insert(copied(rt, a), IValue::from(9u8));
     assert!(*rt; number_in(former.expect(rt, "a pair")) == Some(1));
@@ -173,12 +173,12 @@ fn finds_entries(rt: &impl Abort, object: &mut IObject, a: &IString) {
     set(value.expect(rt, "a value"), IValue::from(1u8));
 }
 
-/// Writes 7 in the place of a value.
+/// Replaces a value by 7.
 fn seven(value: &mut IValue) {
     set(value, IValue::from(7u8));
 }
 
-/// Writes 7 beside a key that is there by its entry, and then 1 again.
+/// Writes 7 to an existing key by its entry, and then 1 again.
 fn writes_entry(rt: &impl Abort, object: &mut IObject, a: &IString) {
     let entry = object.entry_or_clone(a).expect(rt, "an entry");
     match entry.and_modify(seven) {
@@ -195,7 +195,7 @@ fn four() -> IValue {
     IValue::from(4u8)
 }
 
-/// Takes the last pair out by its entry, asks for its entry in vain, and puts it last again.
+/// Removes the last entry, gets its vacant `Entry`, and appends it again.
 fn enters_again(rt: &impl Abort, object: &mut IObject, d: &IString) {
     let (key, number) = asked(rt, object, "d", copied(rt, d));
     let (key, none) = asked(rt, object, "d", key);
@@ -204,21 +204,21 @@ fn enters_again(rt: &impl Abort, object: &mut IObject, d: &IString) {
     assert!(*rt; is_number(entry.or_insert_with(four), 4));
 }
 
-/// Writes a number where there is a value.
+/// Writes a number, if there is a value.
 fn put_number(place: Option<&mut IValue>, number: u8) {
     if let Some(value) = place {
         set(value, IValue::from(number));
     }
 }
 
-/// Writes beside a key that is there by its index.
+/// Writes to an existing key by its index.
 fn writes_by_index(rt: &impl Abort, object: &mut IObject) {
     assert!(*rt; object.contains_key("b"));
     set(&mut object["b"], IValue::from(2u8));
     assert!(*rt; object.contains_key("b") && is_number(&object["b"], 2));
 }
 
-/// Finds and writes what is there in a full object.
+/// Finds and writes existing values in a full object.
 fn finds(rt: &impl Abort, object: &mut IObject, a: &IString) {
     finds_entries(rt, object, a);
     writes_entry(rt, object, a);
@@ -229,7 +229,7 @@ fn finds(rt: &impl Abort, object: &mut IObject, a: &IString) {
     assert!(*rt; tells_four(object, a));
 }
 
-/// Whether a full object tells this key and four pairs.
+/// Returns `true` if a full object has this key and four entries.
 fn tells_four(object: &IObject, a: &IString) -> bool {
     object.contains_key(a)
         && object.get_key_value("e").is_none()
@@ -238,19 +238,19 @@ fn tells_four(object: &IObject, a: &IString) -> bool {
         && holds(object, 4, 4)
 }
 
-/// Puts another pair into the room of the last one, and takes it out.
+/// Inserts another entry within the capacity of the last one, and removes it.
 fn fills_room(rt: &impl Abort, object: &mut IObject, e: &IString) {
     assert!(*rt; holds(object, 3, 4) && object.reserve(1).is_ok());
     assert!(*rt; is_granted(refused_entry(object, copied(rt, e), 5)));
     assert!(*rt; number_in(object.shift_remove(e)) == Some(5));
 }
 
-/// Keeps each pair but that of `e`.
+/// Keeps each entry except that of `e`.
 fn keeps(key: &IString, _value: &mut IValue) -> bool {
     !key.eq_str("e")
 }
 
-/// Takes the last pair out, puts another one into the room, and puts the first one back.
+/// Removes the last entry, inserts another one, and restores the first.
 fn changes(rt: &impl Abort, object: &mut IObject, e: &IString) {
     let (key, value) = object.remove_entry("d").expect(rt, "a pair");
     fills_room(rt, object, e);
@@ -260,20 +260,20 @@ fn changes(rt: &impl Abort, object: &mut IObject, e: &IString) {
     assert!(*rt; holds(object, 4, 4) && number_in(object.remove(e)).is_none());
 }
 
-/// Takes all pairs out of an object that has one, and puts that in again.
+/// Clears an object of one entry, and inserts that again.
 fn refills(rt: &impl Abort, object: &mut IObject, a: &IString) {
     object.clear();
     assert!(*rt; object.is_empty() && object.capacity() == 1);
     assert!(*rt; is_granted(refused_entry(object, copied(rt, a), 1)));
 }
 
-/// Puts a pair into an object by its entry.
+/// Inserts an entry by its `Entry`.
 fn enters(rt: &impl Abort, object: &mut IObject, key: IString, value: IValue) {
     let entry = object.entry(key).expect(rt, "an entry");
     set(entry.or_insert(IValue::NULL), value);
 }
 
-/// Whether there is a pair, and it is the first of all.
+/// Returns `true` if there is an entry and it is the first of all.
 fn is_first(pair: Option<(IString, IValue)>) -> bool {
     let found = match &pair {
         Some((key, value)) => key.eq_str("a") && is_number(value, 1),
@@ -283,7 +283,7 @@ fn is_first(pair: Option<(IString, IValue)>) -> bool {
     found
 }
 
-/// Adds a pair that is there, and gives the pairs out.
+/// Adds an existing entry, and moves the entries out.
 fn gives_out(rt: &impl Abort, mut object: IObject, first: IObject) {
     object.extend(first).expect(rt, "a pair");
     assert!(*rt; holds(&object, 4, 4));
@@ -315,20 +315,22 @@ fn objects(rt: &impl Abort, alloc: Global, rounds: u32) {
     gives_out(rt, object, first);
 }
 
-/// Puts the first three pairs into a store.
+/// Puts the first three entries into a store.
 fn put_three<P: PairStore<u8>>(rt: &impl Abort, alloc: Global, store: &mut P) {
     for (text, value) in PAIRS.iter().take(3) {
         puts_last(rt, store, key(rt, alloc, text), *value);
     }
 }
 
-/// Puts a pair that is not there last, where there is room.
+/// Appends a new entry, within the capacity.
 fn puts_last<P: PairStore<u8>>(rt: &impl Abort, store: &mut P, key: IString, value: u8) {
     assert!(*rt; store.position(key.as_str()).is_none() && store.len() < store.capacity());
     store.push_new(key, value);
 }
 
-/// Takes the first pair out and puts it back last, twice: the last one comes in its place, and then the others move up.
+/// Removes the first entry and appends it again, twice.
+///
+/// The last one replaces it at first, then the others are shifted.
 fn turns<P: PairStore<u8>>(rt: &impl Abort, store: &mut P) {
     if store.len() > 0 {
         let (key, value) = store.swap_out(0);
@@ -340,7 +342,7 @@ fn turns<P: PairStore<u8>>(rt: &impl Abort, store: &mut P) {
     }
 }
 
-/// Whether a store has these keys at its first positions.
+/// Returns `true` if a store begins with these keys.
 fn begins_so<P: PairStore<u8>>(store: &P, keys: &[&str]) -> bool {
     for (at, key) in keys.iter().enumerate() {
         if store.position(key) != Some(at) {
@@ -350,12 +352,12 @@ fn begins_so<P: PairStore<u8>>(store: &P, keys: &[&str]) -> bool {
     true
 }
 
-/// The keys of three pairs, and those after a turn.
+/// The keys of three entries, and those after a turn.
 static KEYS: [&str; 3] = ["a", "b", "c"];
 
 static TURNED: [&str; 3] = ["b", "a", "c"];
 
-/// Two turns of three pairs bring each of them back to its place.
+/// Two turns of three entries return each of them to its index.
 fn turns_twice<P: PairStore<u8>>(rt: &impl Abort, store: &mut P, rounds: u32) {
     for _ in 0..rounds {
         turns(rt, store);
@@ -372,7 +374,7 @@ fn lists(rt: &impl Abort, alloc: Global, rounds: u32) {
     drop(list);
 }
 
-/// Where a table has a key, by a look-up that counts.
+/// Returns the index of a key in a table, by a lookup that counts.
 fn located(table: &FixedTable<u8>, key: &str) -> Option<usize> {
     if table.len() > 1000 {
         return None;
@@ -391,7 +393,7 @@ fn tables(rt: &impl Abort, alloc: Global, rounds: u32) {
     drop(pairs);
 }
 
-/// Takes a value out and puts it back.
+/// Takes a value out and restores it.
 fn takes(rt: &impl Abort, value: &mut IValue) {
     let taken = value.take();
     assert!(*rt; value.is_null() && taken.type_() == ValueType::Object);
@@ -399,7 +401,7 @@ fn takes(rt: &impl Abort, value: &mut IValue) {
     set(value, IValue::from(object));
 }
 
-/// Opens a value in each way, and puts it together again.
+/// Takes a value apart in each way, and builds it again.
 fn takes_apart(rt: &impl Abort, value: &mut IValue) {
     assert!(*rt;
         matches!(value.destructure_ref(), DestructuredRef::Object(object) if object.len() == 4)
@@ -413,7 +415,7 @@ fn takes_apart(rt: &impl Abort, value: &mut IValue) {
     }
 }
 
-/// Finds and writes what is inside.
+/// Finds and writes values inside a value.
 fn opens(rt: &impl Abort, value: &mut IValue) {
     let found = resolve(value, "/a").expect(rt, "a value");
     assert!(*rt; matches!(found, Some(value) if is_number(value, 1)));
@@ -452,13 +454,13 @@ fn all(rt: &impl Abort, alloc: Global, rounds: u32) {
     tables(rt, alloc, rounds);
     values(rt, alloc, rounds);
     reports(rt, alloc, rounds);
-    // The request behind the last of them.
+    // The first allocation after the others.
     let last = spelled(rt, alloc, "18446744073709551616");
     assert!(*rt; last.to_u64().is_none());
     drop(last);
 }
 
-// Runs of this test and of the next one make the same number of requests for memory.
+// This test and the next one make the same number of allocations.
 #[test]
 fn once(rt: HostRuntime) {
     all(&rt, rt.alloc(), 1);

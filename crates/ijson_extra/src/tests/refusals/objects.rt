@@ -1,4 +1,4 @@
-//! Objects: the pairs, their order and the capacity after each refusal, what comes back, and the call made again.
+//! Objects after failed allocations: the entries, their order and the capacity, the values returned, and the call repeated.
 
 use super::interned;
 use crate::tests::{empty_cache, insert_new, key, set};
@@ -9,15 +9,15 @@ use ijson_value::value::IValue;
 use std::alloc::{AllocError, Global};
 use std::process::Abort;
 
-/// The pairs of the objects that follow.
+/// The entries of the objects below.
 pub static PAIRS: [(&str, u8); 5] = [("a", 1), ("b", 2), ("c", 3), ("d", 4), ("e", 5)];
 
-/// Whether a value is this number.
+/// Returns `true` if a value is this number.
 pub fn is_number(value: &IValue, number: u8) -> bool {
     value.to_u32() == Some(u32::from(number))
 }
 
-/// Whether an object has the first `len` of the pairs in order, finds each of them, and has this capacity.
+/// Returns `true` if an object has and finds the first `len` entries in order, at this capacity.
 pub fn holds(object: &IObject, len: usize, capacity: usize) -> bool {
     let mut pairs = object.iter();
     for (key, value) in PAIRS.iter().take(len) {
@@ -30,12 +30,12 @@ pub fn holds(object: &IObject, len: usize, capacity: usize) -> bool {
     pairs.next().is_none() && object.capacity() == capacity
 }
 
-/// An empty object of this capacity.
+/// Returns an empty object of this capacity.
 fn object_of_room(rt: &impl Abort, alloc: Global, capacity: usize) -> IObject {
     granted!(rt; ReserveError::Memory; IObject::with_capacity(alloc, capacity))
 }
 
-/// An object of the first `len` of the pairs, and the capacity that is asked for.
+/// Returns an object of the first `len` entries, of this capacity.
 pub fn with_pairs(rt: &impl Abort, alloc: Global, len: usize, capacity: usize) -> IObject {
     let mut object = object_of_room(rt, alloc, capacity);
     for (text, value) in PAIRS.iter().take(len) {
@@ -44,7 +44,7 @@ pub fn with_pairs(rt: &impl Abort, alloc: Global, len: usize, capacity: usize) -
     object
 }
 
-/// A list of the five pairs, and the first of them once more.
+/// Returns a list of the five entries, and the first of them once more.
 fn listed(rt: &impl Abort, alloc: Global) -> Vec<(IString, IValue)> {
     let mut pairs = granted!(rt; Vec::with_capacity(alloc, 6));
     for at in 0..6usize {
@@ -55,7 +55,7 @@ fn listed(rt: &impl Abort, alloc: Global) -> Vec<(IString, IValue)> {
     pairs
 }
 
-/// An object of the list.
+/// Returns an object of the list.
 fn of_list(rt: &impl Abort, alloc: Global) -> IObject {
     granted!(rt; ReserveError::Memory; IObject::from_pairs(alloc, listed(rt, alloc)))
 }
@@ -67,10 +67,10 @@ fn pairs(rt: HostRuntime) {
     drop(object);
 }
 
-/// How many pairs an object has, and its capacity.
+/// The number of entries of an object, and its capacity.
 static COPIED: [(usize, usize); 2] = [(3, 4), (5, 12)];
 
-// A copy has room for its pairs alone.
+// A copy has no spare capacity.
 #[test]
 fn copied(rt: HostRuntime) {
     for &(len, capacity) in &COPIED {
@@ -82,7 +82,7 @@ fn copied(rt: HostRuntime) {
     }
 }
 
-/// Inserts a pair whose key is not there into an object, which so many others fill where memory is refused.
+/// Inserts an entry with a new key into an object, which is full if an allocation fails.
 fn inserts(rt: &impl Abort, object: &mut IObject, key: IString, number: u8, len: usize) {
     if let Some(refused) = object.insert(key, IValue::from(number)).err() {
         assert!(*rt; is_number(&refused.value, number) && refused.why == ReserveError::Memory);
@@ -91,7 +91,7 @@ fn inserts(rt: &impl Abort, object: &mut IObject, key: IString, number: u8, len:
     }
 }
 
-/// Inserts a long key behind the five pairs, where there is room.
+/// Inserts a long key after the five entries, within the capacity.
 fn inserts_long(rt: &impl Abort, alloc: Global, object: &mut IObject) {
     let long = interned(rt, &mut empty_cache(alloc), "eight888");
     insert_new(rt, object, long, IValue::NULL);
@@ -110,7 +110,7 @@ fn insert(rt: HostRuntime) {
     drop(object);
 }
 
-/// Makes room for a pair more than those that fill an object.
+/// Reserves capacity for one entry in a full object.
 fn grows(rt: &impl Abort, object: &mut IObject, len: usize) {
     if let Err(why) = object.reserve(1) {
         assert!(*rt; why == ReserveError::Memory && holds(object, len, len));
@@ -119,7 +119,7 @@ fn grows(rt: &impl Abort, object: &mut IObject, len: usize) {
     assert!(*rt; holds(object, len, 4));
 }
 
-/// Gives that room up. It takes no memory where there is no pair.
+/// Shrinks the capacity again, which does not allocate if there is no entry.
 fn shrinks(rt: &impl Abort, object: &mut IObject, len: usize) {
     if let Err(why) = object.shrink_to_fit() {
         assert!(*rt; len > 0 && why == ReserveError::Memory && holds(object, len, 4));
@@ -128,7 +128,7 @@ fn shrinks(rt: &impl Abort, object: &mut IObject, len: usize) {
     assert!(*rt; holds(object, len, len));
 }
 
-/// How many pairs fill an object. The first has no memory yet.
+/// The number of entries in a full object. The first has not allocated.
 static FILLED: [usize; 2] = [0, 2];
 
 #[test]
@@ -141,11 +141,12 @@ fn room(rt: HostRuntime) {
     }
 }
 
-/// The key and the value of a pair, which counts the pairs with it; how many others are before it and fill an object; and the
-/// capacity that it needs. The first of the objects has no memory yet.
+/// The key and the value of an entry, the number of entries before it, and the capacity it needs.
+///
+/// The value is the number of entries with it. The first of the objects has not allocated.
 static FULL: [(&str, u8, usize, usize); 2] = [("a", 1, 0, 4), ("e", 5, 4, 8)];
 
-/// Why the entry of a copied key was refused, if it was.
+/// Returns why the `Entry` of a copied key failed, if it did.
 fn refused_copy(object: &mut IObject, key: &IString) -> Option<ReserveError> {
     match object.entry_or_clone(key) {
         Ok(entry) => {
@@ -156,7 +157,7 @@ fn refused_copy(object: &mut IObject, key: &IString) -> Option<ReserveError> {
     }
 }
 
-/// What the entry of a key was refused with, if it was. Else a number is put beside the key where it is vacant.
+/// Returns the error of the `Entry` of a key, if it failed; otherwise writes a number if it is vacant.
 pub fn refused_entry(object: &mut IObject, key: IString, number: u8) -> Option<RefusedKey> {
     match object.entry(key) {
         Ok(entry) => {
@@ -167,21 +168,21 @@ pub fn refused_entry(object: &mut IObject, key: IString, number: u8) -> Option<R
     }
 }
 
-/// Whether nothing came back.
+/// Returns `true` if nothing was returned by an error.
 pub fn is_granted<T: Drop>(refused: Option<T>) -> bool {
     let is_so = refused.is_none();
     drop(refused);
     is_so
 }
 
-/// Puts a number into a vacant entry.
+/// Puts a number into a vacant `Entry`.
 fn put(entry: Entry<'_>, number: u8) {
     if let Entry::Vacant(vacant) = entry {
         vacant.insert(IValue::from(number));
     }
 }
 
-/// Makes room for the entry of a copied key, behind pairs that fill the object.
+/// Reserves capacity for the `Entry` of a copied key in a full object.
 fn enters_copy(rt: &impl Abort, alloc: Global, key: &IString, len: usize, capacity: usize) {
     let mut object = with_pairs(rt, alloc, len, len);
     if let Some(why) = refused_copy(&mut object, key) {
@@ -192,7 +193,7 @@ fn enters_copy(rt: &impl Abort, alloc: Global, key: &IString, len: usize, capaci
     drop(object);
 }
 
-/// Puts the pair that follows so many others by its entry into an object that these fill.
+/// Inserts the entry after the first `len`, which fill an object, by its `Entry`.
 fn enters(rt: &impl Abort, object: &mut IObject, key: IString, number: u8, len: usize) {
     if let Some(refused) = refused_entry(object, key, number) {
         assert!(*rt; refused.why == ReserveError::Memory && holds(object, len, len));
@@ -204,8 +205,10 @@ fn enters(rt: &impl Abort, object: &mut IObject, key: IString, number: u8, len: 
 fn entries(rt: HostRuntime) {
     let alloc = rt.alloc();
     for &(text, number, len, capacity) in &FULL {
+        let long = interned(&rt, &mut empty_cache(alloc), "a key that owns memory");
+        enters_copy(&rt, alloc, &long, len, capacity);
+        drop(long);
         let next = key(&rt, alloc, text);
-        enters_copy(&rt, alloc, &next, len, capacity);
         let mut object = with_pairs(&rt, alloc, len, len);
         enters(&rt, &mut object, next, number, len);
         assert!(rt; holds(&object, usize::from(number), capacity));
@@ -213,7 +216,7 @@ fn entries(rt: HostRuntime) {
     }
 }
 
-/// The key that came back with null, for want of memory.
+/// Returns the key that a failed allocation returned with null.
 fn beside_null(rt: &impl Abort, refused: RefusedPair) -> IString {
     let RefusedPair { key, value, why } = refused;
     assert!(*rt; value.is_null() && why == ReserveError::Memory);
@@ -221,7 +224,7 @@ fn beside_null(rt: &impl Abort, refused: RefusedPair) -> IString {
     key
 }
 
-/// The key that came back from the value beside it, if memory was refused. Else a number is put there.
+/// Returns the key if an allocation failed; otherwise writes a number as its value.
 fn refused_value(
     rt: &impl Abort,
     object: &mut IObject,
@@ -237,7 +240,7 @@ fn refused_value(
     }
 }
 
-/// Puts a number beside the key that follows so many others, in an object that these fill.
+/// Writes a number as the value of the key after the first `len`, in an object that these fill.
 fn puts(rt: &impl Abort, object: &mut IObject, key: IString, number: u8, len: usize) {
     if let Some(key) = refused_value(rt, object, key, number) {
         assert!(*rt; holds(object, len, len));
@@ -245,7 +248,7 @@ fn puts(rt: &impl Abort, object: &mut IObject, key: IString, number: u8, len: us
     }
 }
 
-/// The same of an object inside a value, as it is opened, or by the path of the value.
+/// Like `refused_value`, for an object inside a value, by its content or by the path of the value.
 fn refused_inside(
     rt: &impl Abort,
     value: &mut IValue,
@@ -268,12 +271,12 @@ fn refused_inside(
     }
 }
 
-/// Asserts that a value is such an object.
+/// Asserts that a value is an object of the first `len` entries.
 fn holds_inside(rt: &impl Abort, value: &IValue, len: usize, capacity: usize) {
     assert!(*rt; holds(value.as_object().expect(rt, "an object"), len, capacity));
 }
 
-/// Puts a number beside such a key, in such an object inside a value.
+/// Like `puts`, for an object inside a value.
 fn puts_inside(
     rt: &impl Abort,
     value: &mut IValue,
@@ -313,7 +316,7 @@ fn values_beside_keys_inside(rt: HostRuntime) {
     }
 }
 
-/// Whether the pair that follows so many others came back, for want of memory.
+/// Returns `true` if a failed allocation returned the entry after the first `len`.
 fn is_back(refused: &RefusedPair, len: usize) -> bool {
     match PAIRS.get(len) {
         Some((key, value)) => {
@@ -325,7 +328,9 @@ fn is_back(refused: &RefusedPair, len: usize) -> bool {
     }
 }
 
-/// Whether pairs were refused: the first or the fifth came back, and an object has those before it.
+/// Returns `true` if an allocation failed.
+///
+/// The first or the fifth entry was returned, and the object has those before it.
 fn are_refused(rt: &impl Abort, object: &IObject, answer: Result<(), RefusedPair>) -> bool {
     match answer {
         Ok(()) => false,
@@ -339,7 +344,7 @@ fn are_refused(rt: &impl Abort, object: &IObject, answer: Result<(), RefusedPair
     }
 }
 
-/// Extends an empty object by the five pairs.
+/// Extends an empty object by the five entries.
 fn extends(rt: &impl Abort, alloc: Global, object: &mut IObject) {
     let answer = object.extend(with_pairs(rt, alloc, 5, 5));
     if are_refused(rt, object, answer) {
@@ -349,7 +354,7 @@ fn extends(rt: &impl Abort, alloc: Global, object: &mut IObject) {
     }
 }
 
-/// Lays the five pairs over an empty object.
+/// Overlays an empty object with the five entries.
 fn overlays(rt: &impl Abort, alloc: Global, object: &mut IObject) {
     let answer = object.overlay(with_pairs(rt, alloc, 5, 5));
     if are_refused(rt, object, answer) {
@@ -359,7 +364,7 @@ fn overlays(rt: &impl Abort, alloc: Global, object: &mut IObject) {
     }
 }
 
-/// An object of the five pairs, from those of another one.
+/// Returns an object of the five entries, from those of another one.
 fn made_again(rt: &impl Abort, alloc: Global, object: IObject) -> IObject {
     match IObject::from_iter(alloc, object) {
         Ok(again) => again,

@@ -1,7 +1,7 @@
-//! What holds of a pair store after a refused request for memory. Each of these tests passes whichever one of its requests is refused.
+//! Stores after a failed allocation. Each of these tests passes whichever one of its allocations fails.
 //!
-//! The pairs of a store are those of the numbers below their count: each has a key of its own and the number as its value, and stands at
-//! the position of that number.
+//! The entries of a store are those of the numbers below their count: each has a key of its own, the number as its value, and the number as
+//! its index.
 
 use crate::tests::tables::{AlwaysZero, numbered};
 use ijson_string::IString;
@@ -12,12 +12,10 @@ use ijson_table::{
 use std::alloc::{AllocError, Global};
 use std::process::Abort;
 
-/// A store of numbers, with the two calls that each store has beside those of `PairStore`.
+/// A store of numbers, with the two functions that each store has in addition to `PairStore`.
 pub trait Store: PairStore<u16> + Drop {
-    /// Its `with_capacity`.
     fn with_room(alloc: Global, capacity: usize) -> Result<Self, ReserveError>;
 
-    /// Its `insert`.
     fn put(&mut self, key: IString, value: u16) -> Result<Option<u16>, RefusedPair<u16>>;
 }
 
@@ -41,8 +39,8 @@ impl<H: KeyHash + Drop> Store for Table<u16, H> {
     }
 }
 
-/// Adds those of the pairs of the numbers below this one that are not there, where there is room.
-fn fill<P: PairStore<u16>>(rt: &impl Abort, alloc: Global, store: &mut P, count: u16) {
+/// Adds missing entries of the numbers below `count`, within the capacity.
+pub fn fill<P: PairStore<u16>>(rt: &impl Abort, alloc: Global, store: &mut P, count: u16) {
     for number in 0..count {
         let key = numbered(rt, alloc, number);
         if store.position(key.as_str()).is_none() && store.len() < store.capacity() {
@@ -53,7 +51,7 @@ fn fill<P: PairStore<u16>>(rt: &impl Abort, alloc: Global, store: &mut P, count:
     }
 }
 
-/// Whether a store has this key at a position and finds it there, with a number beside it.
+/// Returns `true` if a store has and finds this key at an index, with this number.
 fn has_at<P: PairStore<u16>>(store: &P, at: usize, wanted: &IString, number: u16) -> bool {
     if at >= store.len() || store.position(wanted.as_str()) != Some(at) {
         return false;
@@ -62,7 +60,7 @@ fn has_at<P: PairStore<u16>>(store: &P, at: usize, wanted: &IString, number: u16
     *key == *wanted && *value == number
 }
 
-/// Whether the pair of a number is there.
+/// Returns `true` if a store has the entry of a number.
 fn has_pair<P: PairStore<u16>>(rt: &impl Abort, alloc: Global, store: &P, number: u16) -> bool {
     let wanted = numbered(rt, alloc, number);
     let is_so = has_at(store, usize::from(number), &wanted, number);
@@ -70,7 +68,9 @@ fn has_pair<P: PairStore<u16>>(rt: &impl Abort, alloc: Global, store: &P, number
     is_so
 }
 
-/// Whether a store has so many pairs and this capacity. Of more than nine pairs it looks at the last and ten others.
+/// Returns `true` if a store has `count` entries and this capacity.
+///
+/// Of more than nine entries it checks the last and ten others.
 pub fn holds<P: PairStore<u16>>(
     rt: &impl Abort,
     alloc: Global,
@@ -87,8 +87,9 @@ pub fn holds<P: PairStore<u16>>(
     store.len() == usize::from(count) && store.capacity() == capacity
 }
 
-/// Makes room for one more pair in a full store, so that it has this capacity: where that is refused, it is granted when it is asked
-/// for again.
+/// Reserves capacity for one entry in a full store, again if that fails.
+///
+/// The store then has this capacity.
 fn grows<P: PairStore<u16>>(
     rt: &impl Abort,
     alloc: Global,
@@ -104,7 +105,7 @@ fn grows<P: PairStore<u16>>(
     assert!(*rt; holds(rt, alloc, store, count, capacity));
 }
 
-/// The same of giving the room beyond the pairs back.
+/// Shrinks the capacity of a store to its entries, again if that fails.
 fn shrinks<P: PairStore<u16>>(
     rt: &impl Abort,
     alloc: Global,
@@ -120,14 +121,14 @@ fn shrinks<P: PairStore<u16>>(
     assert!(*rt; holds(rt, alloc, store, count, usize::from(count)));
 }
 
-/// Asserts that a key that a full store has takes no memory.
+/// Asserts that replacing the value of a key in a full store does not allocate.
 fn replaces<S: Store>(rt: &impl Abort, alloc: Global, store: &mut S, count: u16) {
     let replaced = store.put(numbered(rt, alloc, 0), 0);
     assert!(*rt; replaced.expect(rt, "no request for memory") == Some(0));
     assert!(*rt; holds(rt, alloc, store, count, usize::from(count)));
 }
 
-/// Whether a key is that of this number.
+/// Returns `true` if this is the key of the number.
 fn is_key_of(rt: &impl Abort, alloc: Global, key: &IString, number: u16) -> bool {
     let wanted = numbered(rt, alloc, number);
     let is_so = *key == wanted;
@@ -135,7 +136,7 @@ fn is_key_of(rt: &impl Abort, alloc: Global, key: &IString, number: u16) -> bool
     is_so
 }
 
-/// Puts the next pair into a full store: where it is refused, it comes back, and is taken when it is put again.
+/// Inserts the next entry into a full store: if that fails, the entry is returned, and inserted again.
 fn puts<S: Store>(rt: &impl Abort, alloc: Global, store: &mut S, count: u16) {
     let full = usize::from(count);
     if let Err(refused) = store.put(numbered(rt, alloc, count), count) {
@@ -149,7 +150,7 @@ fn puts<S: Store>(rt: &impl Abort, alloc: Global, store: &mut S, count: u16) {
     assert!(*rt; has_pair(rt, alloc, store, 0) && has_pair(rt, alloc, store, count));
 }
 
-/// An empty store with room for so many pairs, which is granted when it is asked for again.
+/// Returns an empty store of this capacity, whose allocation is repeated if it fails.
 fn roomy<S: Store>(rt: &impl Abort, alloc: Global, capacity: usize) -> S {
     match S::with_room(alloc, capacity) {
         Ok(store) => store,
@@ -160,7 +161,7 @@ fn roomy<S: Store>(rt: &impl Abort, alloc: Global, capacity: usize) -> S {
     }
 }
 
-/// What holds of an empty store with room for four pairs and of a new one, whichever request is refused.
+/// Checks an empty store of capacity four and a new one, whichever allocation fails.
 fn bears_refusals<S: Store>(rt: &impl Abort, alloc: Global) {
     let mut store: S = roomy(rt, alloc, 4);
     fill(rt, alloc, &mut store, 2);
@@ -186,7 +187,7 @@ fn stores_of_few_pairs(rt: HostRuntime) {
     bears_refusals::<Table<u16, AlwaysZero>>(&rt, alloc);
 }
 
-/// What holds of a store of so many pairs, whichever request is refused.
+/// Checks a store of `count` entries, whichever allocation fails.
 fn bears_refusals_of_many<S: Store>(rt: &impl Abort, alloc: Global, count: u16) {
     let full = usize::from(count);
     let mut store: S = roomy(rt, alloc, full);
@@ -207,7 +208,7 @@ fn stores_of_many_pairs(rt: HostRuntime) {
     bears_refusals_of_many::<Table<u16, AlwaysZero>>(&rt, alloc, 200);
 }
 
-/// A list of so many pairs, and the first of them once more.
+/// Returns a list of `count` entries, and the first of them once more.
 fn listed(rt: &impl Abort, alloc: Global, count: u16) -> Vec<(IString, u16)> {
     let len = usize::from(count) + 1;
     let mut pairs = match Vec::with_capacity(alloc, len) {
@@ -223,7 +224,7 @@ fn listed(rt: &impl Abort, alloc: Global, count: u16) -> Vec<(IString, u16)> {
     pairs
 }
 
-/// Asserts what a table of this list holds, which is granted when it is asked for again.
+/// Asserts the entries of a table of this list, whose allocation is repeated if it fails.
 fn takes_list<H: KeyHash>(rt: &impl Abort, alloc: Global, count: u16) {
     let table: Table<u16, H> = match Table::from_pairs(alloc, listed(rt, alloc, count)) {
         Ok(table) => table,
@@ -246,7 +247,7 @@ fn lists_of_pairs(rt: HostRuntime) {
     takes_list::<AlwaysZero>(&rt, alloc, 300);
 }
 
-/// A command to a store of four pairs.
+/// A command to a store of four entries.
 #[derive(Clone, Copy)]
 enum Order {
     Insert,
@@ -254,14 +255,14 @@ enum Order {
     ShrinkToFit,
 }
 
-/// A command, the capacity of a store of four pairs before it, and how many pairs there are then, at which capacity, where it is done.
+/// A command to a store of four entries: the capacity before, the entries and the capacity after.
 static ORDERS: [(Order, usize, u16, usize); 3] = [
     (Order::Insert, 4, 5, 8),
     (Order::Reserve, 4, 4, 8),
     (Order::ShrinkToFit, 8, 4, 4),
 ];
 
-/// One command: that inserts the pair of 4, or makes room for one more pair, or gives room back.
+/// Returns one command: to insert the entry of 4, to reserve capacity for one more, or to shrink.
 fn ordered(rt: &impl Abort, alloc: Global, order: Order) -> Vec<Command<u16>> {
     let mut commands = granted!(rt; Vec::with_capacity(alloc, 1));
     let command = match order {
@@ -273,7 +274,7 @@ fn ordered(rt: &impl Abort, alloc: Global, order: Order) -> Vec<Command<u16>> {
     commands
 }
 
-/// The reply to the command. Where the list of the replies is refused, the store is as it was.
+/// Returns the reply to the command. If the list of replies fails, the store is unchanged.
 fn reply<S: Store>(
     rt: &impl Abort,
     alloc: Global,
@@ -292,7 +293,9 @@ fn reply<S: Store>(
     replies.pop().expect(rt, "a reply")
 }
 
-/// Whether a reply tells what the store has now: so many pairs at this capacity, or four pairs at the one that it had before.
+/// Returns `true` if a reply matches the store.
+///
+/// It has `count` entries at this capacity, or four at the one before.
 fn is_told<S: Store>(
     rt: &impl Abort,
     alloc: Global,

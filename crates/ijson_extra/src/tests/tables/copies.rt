@@ -1,4 +1,4 @@
-//! What tables hold after growth and shrinking, and what their copies hold.
+//! The entries of tables after growing and shrinking, and of their copies.
 
 ghost use Rattle.std.specs.Prelude.{◌≡◌};
 
@@ -9,7 +9,7 @@ use ijson_table::{FixedHash, KeyHash, PairStore, Table};
 use std::alloc::Global;
 use std::process::Abort;
 
-/// The pairs of the numbers below a count, each number under a key of its own.
+/// Returns the entries of the numbers below `count`, each with a key of its own.
 fn listed(rt: &impl Abort, alloc: Global, count: u16) -> Vec<(IString, u16)> {
     let mut pairs = Vec::new(alloc);
     for number in 0..count {
@@ -20,12 +20,12 @@ fn listed(rt: &impl Abort, alloc: Global, count: u16) -> Vec<(IString, u16)> {
     pairs
 }
 
-/// A table of these pairs, with room for no more.
+/// Returns a table of these entries, without spare capacity.
 fn table_of<H: KeyHash>(rt: &impl Abort, alloc: Global, count: u16) -> Table<u16, H> {
     Table::from_pairs(alloc, listed(rt, alloc, count)).expect(rt, "a table")
 }
 
-/// A copy of these pairs.
+/// Returns a copy of these entries.
 fn copied(rt: &impl Abort, alloc: Global, pairs: &[(IString, u16)]) -> Vec<(IString, u16)>
     ensures { result.items ≡ pairs.now }
 {
@@ -37,7 +37,7 @@ fn copied(rt: &impl Abort, alloc: Global, pairs: &[(IString, u16)]) -> Vec<(IStr
     copies
 }
 
-/// Asserts that a table of so many pairs has this capacity, and what it and a copy of it hold.
+/// Asserts the capacity of a table of `count` entries, and the entries of it and a copy.
 fn is_copied<H: KeyHash>(
     rt: &impl Abort,
     alloc: Global,
@@ -53,8 +53,7 @@ fn is_copied<H: KeyHash>(
     drop(copy);
 }
 
-/// Asserts what a table of so many pairs and its copies hold: as it was made, after growth, which gives it this capacity, and after
-/// shrinking.
+/// Asserts the entries of a table and its copies: new, grown to this capacity, and shrunk.
 fn keeps_its_pairs<H: KeyHash>(rt: &impl Abort, alloc: Global, count: u16, capacity: usize) {
     let mut table: Table<u16, H> = table_of(rt, alloc, count);
     is_copied(rt, alloc, &table, count, usize::from(count));
@@ -65,23 +64,18 @@ fn keeps_its_pairs<H: KeyHash>(rt: &impl Abort, alloc: Global, count: u16, capac
     drop(table);
 }
 
-/// How many pairs a full table has, and its capacity after a growth for one more.
-static GROWTHS: [(u16, usize); 7] = [
-    (0, 4),
-    (1, 4),
-    (5, 10),
-    (100, 200),
-    // the last of few slots, and the first of many
-    (127, 254),
-    (128, 256),
-    (3_000, 6_000),
-];
+/// Asserts that a full table of `count` entries, which grows to twice its capacity and at least to 4, keeps them.
+fn keeps_its_pairs_of(rt: &impl Abort, alloc: Global, count: u16) {
+    let capacity = (2 * usize::from(count)).max(4);
+    keeps_its_pairs::<AlwaysZero>(rt, alloc, count, capacity);
+    keeps_its_pairs::<FixedHash>(rt, alloc, count, capacity);
+}
 
+/// No clause says that a call succeeds if memory is available, so each small count of pairs is tried.
 #[test]
 fn tables_and_their_copies_keep_the_pairs(rt: HostRuntime) {
-    let alloc = rt.alloc();
-    for (count, capacity) in &GROWTHS {
-        keeps_its_pairs::<AlwaysZero>(&rt, alloc, *count, *capacity);
-        keeps_its_pairs::<FixedHash>(&rt, alloc, *count, *capacity);
+    for count in 0..161u16 {
+        keeps_its_pairs_of(&rt, rt.alloc(), count);
     }
+    keeps_its_pairs_of(&rt, rt.alloc(), 3_000);
 }

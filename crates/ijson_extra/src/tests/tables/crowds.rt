@@ -1,4 +1,4 @@
-//! Tables of lists of keys that were chosen to crowd: what they hold, and how many looks they take.
+//! Tables from lists of keys that were chosen to collide: their entries, and the number of inspections.
 
 use super::ByLength;
 use crate::tests::key;
@@ -8,18 +8,24 @@ use ijson_table::{FixedHash, KeyHash, LinearPairs, PairStore, Table};
 use std::alloc::Global;
 use std::process::Abort;
 
-/// How many pairs each list has.
+/// The number of entries of each list.
 const COUNT: usize = 2048;
 
-/// How many looks a list takes at most: 36 a pair, and 2 for each of the 11 times that the count can be halved.
+/// The maximum number of inspections for a list.
+///
+/// It is 36 per entry, and 2 for each of the 11 times that the count can be halved.
 const MOST: u128 = 2048 * (36 + 2 * 11);
 
-/// How many looks a list takes at least whose table is made by sorting: 32 steps a pair before, then half a comparison for each pair and
-/// each time that the count can be halved, and one look a pair at the first of each key. Where keys come twice in a row some pairs are
-/// gone by then, and those that are left take more than their least.
+/// The minimum number of inspections for a list whose table is built by sorting.
+///
+/// It is 32 steps per entry before sorting, half a comparison for each entry and each time that the count can be halved, and one inspection
+/// per entry at the first of each key. If keys are repeated consecutively, there are fewer entries to sort, but each takes more than the
+/// minimum.
 const LEAST: u128 = 2048 * (32 + 1) + 2048 / 2 * 11;
 
-/// The greater half of the fixed hash times the count of slots: each key has the first slot for its home, and few have one hash.
+/// The upper half of the fixed hash times the number of slots.
+///
+/// Each key has the first slot as its home slot, and few hashes are equal.
 #[derive(Drop)]
 struct Multiples;
 
@@ -37,24 +43,26 @@ impl KeyHash for Multiples {
 /// How the keys of a list are chosen.
 #[derive(Clone, Copy, Drop)]
 enum Chosen {
-    /// Numbers in digits.
+    /// Decimal numbers.
     Digits,
-    /// Twins for each bit of a number, which have one fixed hash.
+    /// A twin for each bit of a number, all with the same fixed hash.
     Twins,
-    /// The same, and each key comes again behind all of them.
+    /// Twins, each repeated after all of them.
     TwinsAgain,
-    /// The same, and each key comes twice in a row.
+    /// Twins, each repeated consecutively.
     TwinsInARow,
-    /// By length: one key of each, and then a second one of each from the longest on. One by one they take two looks each, and move
-    /// twice as many residents as there are longer ones.
+    /// By length: one key of each, then a second one of each from the longest on.
+    ///
+    /// One by one they take two inspections each, and move twice as many residents as there are longer ones.
     Lengths,
 }
 
-/// Two texts that the fixed hash takes to the same, from any number on: their bytes, weighed by the powers of its prime, have one sum
-/// modulo 2^64.
+/// Two texts that the fixed hash does not distinguish, from any state on.
+///
+/// Their bytes, weighted by the powers of its prime, have the same sum modulo 2^64.
 static TWINS: [&str; 2] = ["aacekgaaaapa", "biaaaaocsnar"];
 
-/// A text of twins, one for each bit of a number.
+/// Returns a text of twins, one for each bit of a number.
 fn twins(rt: &impl Abort, alloc: Global, number: usize) -> String {
     let mut text = String::new(alloc);
     let mut bits = number;
@@ -65,7 +73,7 @@ fn twins(rt: &impl Abort, alloc: Global, number: usize) -> String {
     text
 }
 
-/// The key at a position of a list.
+/// Returns the key at an index of a list.
 fn letters(rt: &impl Abort, alloc: Global, chosen: Chosen, at: usize) -> String {
     match chosen {
         Chosen::Digits => format!(in alloc; "{at}").expect(rt, "a text"),
@@ -79,7 +87,7 @@ fn letters(rt: &impl Abort, alloc: Global, chosen: Chosen, at: usize) -> String 
     }
 }
 
-/// The list, where each value is its position.
+/// Returns the list, with indices as values.
 fn listed(rt: &impl Abort, alloc: Global, chosen: Chosen) -> Vec<(IString, u64)> {
     let mut pairs = Vec::new(alloc);
     for at in 0..COUNT {
@@ -91,7 +99,7 @@ fn listed(rt: &impl Abort, alloc: Global, chosen: Chosen) -> Vec<(IString, u64)>
     pairs
 }
 
-/// What the list leaves where its pairs are put one by one.
+/// Inserts the entries of the list one by one into a linear store.
 fn put_one_by_one(rt: &impl Abort, alloc: Global, chosen: Chosen) -> LinearPairs<u64> {
     let mut store = LinearPairs::new(alloc);
     for (key, value) in listed(rt, alloc, chosen) {
@@ -100,17 +108,17 @@ fn put_one_by_one(rt: &impl Abort, alloc: Global, chosen: Chosen) -> LinearPairs
     store
 }
 
-/// Whether a table finds each of its keys where it stands.
+/// Returns `true` if a table finds each of its keys at its index.
 fn finds_all<H: KeyHash>(table: &Table<u64, H>) -> bool {
     for (at, pair) in table.as_slice().iter().enumerate() {
-        if table.index_of(pair.0.as_str()) != Some(at) {
+        if table.get_index_of(pair.0.as_str()) != Some(at) {
             return false;
         }
     }
     true
 }
 
-/// Asserts what a table of the list holds.
+/// Asserts the entries of a table of the list.
 fn holds<H: KeyHash>(rt: &impl Abort, alloc: Global, table: &Table<u64, H>, chosen: Chosen) {
     let store = put_one_by_one(rt, alloc, chosen);
     assert!(*rt; table.as_slice() == store.as_slice());
@@ -118,7 +126,7 @@ fn holds<H: KeyHash>(rt: &impl Abort, alloc: Global, table: &Table<u64, H>, chos
     assert!(*rt; table.capacity() == COUNT && finds_all(table));
 }
 
-/// Asserts what a table of the list holds, and that it takes looks between these bounds.
+/// Asserts the entries of a table of the list, built with `least` to `most` inspections.
 fn is_made<H: KeyHash>(rt: &impl Abort, alloc: Global, chosen: Chosen, least: u128, most: u128) {
     let mut looks = Looks::new();
     let pairs = listed(rt, alloc, chosen);
@@ -134,7 +142,7 @@ fn keys_that_nobody_chose_take_few_looks(rt: HostRuntime) {
     is_made::<FixedHash>(&rt, rt.alloc(), Chosen::Digits, 2_048, 16_384);
 }
 
-/// One by one, each of these lists takes a million looks and writes, or more.
+/// One by one, each of these lists takes at least a million inspections and writes.
 #[test]
 fn chosen_keys_are_sorted(rt: HostRuntime) {
     let alloc = rt.alloc();

@@ -1,4 +1,4 @@
-//! Long lists of commands, which each store answers alike.
+//! Long lists of commands, to which all stores reply alike.
 
 use super::{AlwaysZero, ByLength, reply};
 use crate::tests::key;
@@ -7,10 +7,10 @@ use ijson_table::{Command, FixedTable, LinearPairs, PairStore, Reply, Table, run
 use std::alloc::Global;
 use std::process::Abort;
 
-/// How many commands a list has.
+/// The number of commands in a list.
 const COUNT: usize = 200;
 
-/// After how many of them two stores are compared.
+/// The number of commands after which two stores are compared.
 const PIECE: usize = 20;
 
 static KEYS: [&str; 24] = [
@@ -40,19 +40,19 @@ static KEYS: [&str; 24] = [
     "é",
 ];
 
-/// The next number of a fixed sequence.
+/// Returns the next number of a fixed sequence.
 fn next(state: u64) -> u64 {
     state
         .wrapping_mul(6_364_136_223_846_793_005)
         .wrapping_add(1_442_695_040_888_963_407)
 }
 
-/// The key that a number stands for.
+/// Returns the key for a number.
 fn key_of(rt: &impl Abort, alloc: Global, number: u64) -> IString {
     key(rt, alloc, KEYS[(number >> 33) as usize % KEYS.len()])
 }
 
-/// The command that a number stands for.
+/// Returns the command for a number.
 fn command(rt: &impl Abort, alloc: Global, number: u64) -> Command<u64> {
     match (number >> 40) % 64 {
         0..=35 => Command::Insert(key_of(rt, alloc, number), number),
@@ -65,7 +65,7 @@ fn command(rt: &impl Abort, alloc: Global, number: u64) -> Command<u64> {
     }
 }
 
-/// So many commands, of the numbers that follow this one.
+/// Returns `count` commands, for the numbers after `seed`.
 fn commands(rt: &impl Abort, alloc: Global, seed: u64, count: usize) -> Vec<Command<u64>> {
     let mut state = seed;
     let mut commands = Vec::new(alloc);
@@ -77,7 +77,7 @@ fn commands(rt: &impl Abort, alloc: Global, seed: u64, count: usize) -> Vec<Comm
     commands
 }
 
-/// What a store replies to so many commands.
+/// Returns the replies of a store to `count` commands.
 fn replies<P: PairStore<u64>>(
     rt: &impl Abort,
     alloc: Global,
@@ -88,7 +88,7 @@ fn replies<P: PairStore<u64>>(
     run(alloc, store, commands(rt, alloc, seed, count)).expect(rt, "the replies")
 }
 
-/// The number that follows as many others as a piece of a list has commands.
+/// Returns the number after those of a piece of a list.
 fn after_piece(seed: u64) -> u64 {
     let mut state = seed;
     for _ in 0..PIECE {
@@ -97,8 +97,7 @@ fn after_piece(seed: u64) -> u64 {
     state
 }
 
-/// Whether a store gives the same replies as another one to a piece of a list, and both then have the same pairs at the same positions
-/// and the same capacity.
+/// Returns `true` if two stores reply the same to a piece of a list, and are alike after it.
 fn agrees_on_piece<P: PairStore<u64>>(
     rt: &impl Abort,
     alloc: Global,
@@ -114,7 +113,7 @@ fn agrees_on_piece<P: PairStore<u64>>(
     is_so
 }
 
-/// Whether a new store agrees with `LinearPairs` on each piece of this list.
+/// Returns `true` if a new store agrees with `LinearPairs` on each piece of this list.
 fn agrees<P: PairStore<u64> + Drop>(rt: &impl Abort, alloc: Global, seed: u64) -> bool {
     let (mut store, mut linear) = (P::new(alloc), LinearPairs::new(alloc));
     let (mut state, mut is_so) = (seed, true);
@@ -127,7 +126,7 @@ fn agrees<P: PairStore<u64> + Drop>(rt: &impl Abort, alloc: Global, seed: u64) -
     is_so
 }
 
-/// Whether two stores have the same pairs at the same positions and the same capacity.
+/// Returns `true` if two stores have the same entries at the same indices and the same capacity.
 fn are_alike<P: PairStore<u64>, Q: PairStore<u64>>(one: &P, other: &Q) -> bool {
     if one.capacity() != other.capacity() || one.len() != other.len() {
         return false;
@@ -142,7 +141,7 @@ fn are_alike<P: PairStore<u64>, Q: PairStore<u64>>(one: &P, other: &Q) -> bool {
     true
 }
 
-/// What `insert` answers, as a reply.
+/// Returns the result of `insert` as a reply.
 fn inserted(table: &mut FixedTable<u64>, key: IString, value: u64) -> Reply<u64> {
     match table.insert(key, value) {
         Ok(None) => Reply::Added,
@@ -151,7 +150,7 @@ fn inserted(table: &mut FixedTable<u64>, key: IString, value: u64) -> Reply<u64>
     }
 }
 
-/// What `get` answers, as a reply.
+/// Returns the result of `get` as a reply.
 fn got(table: &FixedTable<u64>, key: &str) -> Reply<u64> {
     match table.get(key) {
         Some(_) => Reply::Found(table.position(key)),
@@ -159,7 +158,7 @@ fn got(table: &FixedTable<u64>, key: &str) -> Reply<u64> {
     }
 }
 
-/// What a table replies to a command, where `insert` and `get` make insertions and look-ups.
+/// Returns the reply of a table to a command, using `insert` and `get` for insertions and lookups.
 fn answer(
     rt: &impl Abort,
     alloc: Global,
@@ -177,7 +176,7 @@ fn answer(
     }
 }
 
-/// What a table replies to this list, where `insert` and `get` make insertions and look-ups.
+/// Returns the replies of a table to this list, using `insert` and `get` for insertions and lookups.
 fn answers(rt: &impl Abort, alloc: Global, seed: u64) -> Vec<Reply<u64>> {
     let mut table = FixedTable::new(alloc);
     let mut replies = Vec::new(alloc);
@@ -189,7 +188,7 @@ fn answers(rt: &impl Abort, alloc: Global, seed: u64) -> Vec<Reply<u64>> {
     replies
 }
 
-/// Whether `insert` and `get` answer as the insertions and look-ups of `run` do.
+/// Returns `true` if `insert` and `get` agree with the insertions and lookups of `run`.
 fn insert_and_get_agree(rt: &impl Abort, alloc: Global, seed: u64) -> bool {
     let mut linear = LinearPairs::new(alloc);
     let expected = replies(rt, alloc, seed, COUNT, &mut linear);

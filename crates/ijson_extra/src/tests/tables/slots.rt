@@ -1,4 +1,4 @@
-//! Tables worked by hand: what stands at their slots, and how many looks they take.
+//! Tables checked slot by slot, and their numbers of inspections.
 
 use super::Step::{Clear, Find, Put, Remove, Reserve, ShiftRemove, Shrink};
 use super::{AlwaysZero, ByLength, Step, replies_so};
@@ -8,7 +8,9 @@ use ijson_table::{FixedHash, FixedTable, KeyHash, PairStore, Places, Seen, Table
 use std::alloc::Global;
 use std::process::Abort;
 
-/// Whether a key is at this position, and found there, or missed, with so many looks, by `locate` and by `get_counted`.
+/// Returns `true` if a key is at this index, or missing, after `count` inspections.
+///
+/// It is looked up by `locate` and by `get_counted`.
 fn finds<H: KeyHash>(
     table: &Table<u64, H>,
     key: &str,
@@ -23,13 +25,13 @@ fn finds<H: KeyHash>(
     let mut looks_of_get = Looks::new();
     let there = table.get_counted(key, &mut looks_of_get).is_some();
     found == position
-        && table.index_of(key) == position
+        && table.get_index_of(key) == position
         && looks.count() == count
         && there == position.is_some()
         && looks_of_get.count() == count
 }
 
-/// Whether these are the positions in the slots, 9 where one is empty.
+/// Returns `true` if these are the indices in the slots, 9 for an empty one.
 fn has_positions<P: Places>(table: &P, positions: &[usize]) -> bool {
     if table.places() != positions.len() {
         return false;
@@ -47,10 +49,10 @@ fn has_positions<P: Places>(table: &P, positions: &[usize]) -> bool {
     true
 }
 
-/// A step, what is shown of its reply, and the positions in the slots then.
+/// A step, the debug output of its reply, and the indices in the slots then.
 type Worked = (Step, &'static str, &'static [usize]);
 
-/// Asserts what each of these steps does.
+/// Asserts the effect of each of these steps.
 fn follows<H: KeyHash>(
     rt: &impl Abort,
     alloc: Global,
@@ -71,7 +73,7 @@ static LENGTHS_MEET: [Worked; 4] = [
     (Put("dd", 3), "Added", &[9, 0, 2, 1, 3]),
 ];
 
-/// The last pair moves into a gap. After new insertions those behind a gap move forward.
+/// The last entry moves into a gap. After new insertions those after a gap are shifted.
 static GAPS_CLOSE: [Worked; 13] = [
     (Remove("a"), "Removed(Some((\"a\", 0)))", &[9, 2, 1, 0, 9]),
     (Find("dd"), "Found(Some(0))", &[9, 2, 1, 0, 9]),
@@ -92,7 +94,7 @@ static GAPS_CLOSE: [Worked; 13] = [
     (Find("dd"), "Found(Some(2))", &[9, 1, 0, 2, 9]),
 ];
 
-/// Residents go round the end. Those of one home stay in their order when the table grows.
+/// Residents wrap around. Those of one home slot keep their order when the table grows.
 static ROUND_THE_END: [Worked; 13] = [
     (Clear, "Done", &[9, 9, 9, 9, 9]),
     (Shrink, "Done", &[]),
@@ -127,7 +129,9 @@ fn homes_by_length(rt: HostRuntime) {
     drop(table);
 }
 
-/// How many looks the insertions of these keys take, and that of the first one once more. The walk after a growth is not counted.
+/// The number of inspections for inserting these keys, and the first one again.
+///
+/// The rebuild after growing is not counted.
 static LOOKS_OF_INSERTIONS: [(&str, u128); 5] = [
     ("a", 0),
     ("bb", 1),
@@ -159,17 +163,17 @@ static GROWS: [Worked; 6] = [
     (Put("e", 4), "Added", &[0, 1, 2, 3, 4, 9, 9, 9, 9, 9]),
 ];
 
-/// A table that was made with room for one pair.
+/// A table created with capacity for one entry.
 static ONE_SLOT: [Worked; 1] = [(Put("a", 0), "Added", &[0])];
 
-/// A table that was made with room for three pairs is filled to the last slot.
+/// A table created with capacity for three entries is filled to the last slot.
 static THREE_SLOTS: [Worked; 3] = [
     (Put("a", 0), "Added", &[0, 9, 9]),
     (Put("b", 1), "Added", &[0, 1, 9]),
     (Put("c", 2), "Added", &[0, 1, 2]),
 ];
 
-/// And is full no more.
+/// A removal makes it no longer full.
 static TWO_OF_THREE: [Worked; 3] = [
     (Remove("a"), "Removed(Some((\"a\", 0)))", &[1, 0, 9]),
     (Find("c"), "Found(Some(0))", &[1, 0, 9]),
@@ -186,7 +190,7 @@ fn one_home_for_all(rt: HostRuntime) {
     drop(table);
 }
 
-/// An empty table with room for so many pairs. All have one home.
+/// Returns an empty table of this capacity, whose keys all have the same home slot.
 fn roomy(rt: &impl Abort, alloc: Global, capacity: usize) -> Table<u64, AlwaysZero> {
     Table::with_capacity(alloc, capacity).expect(rt, "a table")
 }
@@ -205,7 +209,7 @@ fn full_to_the_last_slot(rt: HostRuntime) {
     drop(table);
 }
 
-/// The homes of a, b, c and d are 2, 3, 4 and 0 of 5.
+/// The home slots of a, b, c and d are 2, 3, 4 and 0 of 5.
 static HOMES_OF_FOUR: [Worked; 4] = [
     (Put("a", 0), "Added", &[9, 9, 0, 9, 9]),
     (Put("b", 1), "Added", &[9, 9, 0, 1, 9]),
@@ -225,7 +229,7 @@ fn fixed_hashes(rt: HostRuntime) {
     drop(table);
 }
 
-/// Capacities, and how many slots there are for each.
+/// Capacities, and the number of slots for each.
 static SLOTS: [(usize, usize); 6] = [(0, 0), (1, 1), (3, 3), (4, 5), (8, 10), (10, 12)];
 
 #[test]

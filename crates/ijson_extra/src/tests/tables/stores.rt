@@ -1,4 +1,4 @@
-//! What each store does, the same for all of them.
+//! The behavior that all stores share.
 
 use super::Step::{Clear, Find, Put, Remove, Reserve, ShiftRemove, Shrink};
 use super::{AlwaysZero, ByLength, Step, are_pairs, command, insert_all, replies_so};
@@ -7,9 +7,9 @@ use ijson_table::{Command, FixedTable, LinearPairs, PairStore, Places, ReserveEr
 use std::alloc::Global;
 use std::process::Abort;
 
-/// Steps from an empty store on, what is shown of the reply to each, and the length and the capacity then.
+/// Steps from an empty store on, the debug output of each reply, and the length and capacity then.
 static STEPS: [(Step, &str, usize, usize); 57] = [
-    // five keys have room for eight
+    // five keys give capacity for eight
     (Put("a", 0), "Added", 1, 4),
     (Put("b", 1), "Added", 2, 4),
     (Put("c", 2), "Added", 3, 4),
@@ -27,12 +27,12 @@ static STEPS: [(Step, &str, usize, usize); 57] = [
     (Find("c"), "Found(Some(1))", 2, 8),
     (ShiftRemove("b"), "Removed(None)", 2, 8),
     (Remove("b"), "Removed(None)", 2, 8),
-    // room is given back, refused and kept
+    // the capacity shrinks, is rejected, and is kept
     (Shrink, "Done", 2, 2),
     (Reserve(usize::MAX), "NotDone(TooLarge)", 2, 2),
     (Clear, "Done", 0, 2),
     (Shrink, "Done", 0, 0),
-    // two of three pairs
+    // two of three entries
     (Put("a", 0), "Added", 1, 4),
     (Put("b", 1), "Added", 2, 4),
     (Put("c", 2), "Added", 3, 4),
@@ -42,7 +42,7 @@ static STEPS: [(Step, &str, usize, usize); 57] = [
     (Find("c"), "Found(Some(1))", 2, 2),
     (Clear, "Done", 0, 2),
     (Shrink, "Done", 0, 0),
-    // three pairs in the room that was made for them
+    // three entries within the reserved capacity
     (Reserve(3), "Done", 0, 4),
     (Put("a", 0), "Added", 1, 4),
     (Put("bb", 1), "Added", 2, 4),
@@ -50,7 +50,7 @@ static STEPS: [(Step, &str, usize, usize); 57] = [
     (Find("bb"), "Found(Some(1))", 3, 4),
     (Clear, "Done", 0, 4),
     (Shrink, "Done", 0, 0),
-    // a key that is put again
+    // a key that is inserted again
     (Put("a", 1), "Added", 1, 4),
     (Put("a", 2), "Replaced(1)", 1, 4),
     (Find("a"), "Found(Some(0))", 1, 4),
@@ -59,7 +59,7 @@ static STEPS: [(Step, &str, usize, usize); 57] = [
     (Shrink, "Done", 0, 0),
     (Shrink, "Done", 0, 0),
     (Find("a"), "Found(None)", 0, 0),
-    // pairs that are put one by one have room for 4, 8 and 16
+    // entries inserted one by one give capacity for 4, 8 and 16
     (Put("a", 0), "Added", 1, 4),
     (Put("b", 1), "Added", 2, 4),
     (Put("c", 2), "Added", 3, 4),
@@ -69,7 +69,7 @@ static STEPS: [(Step, &str, usize, usize); 57] = [
     (Put("g", 6), "Added", 7, 8),
     (Put("h", 7), "Added", 8, 8),
     (Put("i", 8), "Added", 9, 16),
-    // room that is there, twice the room, more than that, and none to spare
+    // existing capacity, twice the capacity, more than that, and none to spare
     (Reserve(7), "Done", 9, 16),
     (Reserve(8), "Done", 9, 32),
     (Reserve(60), "Done", 9, 69),
@@ -77,7 +77,7 @@ static STEPS: [(Step, &str, usize, usize); 57] = [
     (Find("i"), "Found(Some(8))", 9, 9),
 ];
 
-/// Asserts what each of the steps does to a new store.
+/// Asserts the effect of each of the steps on a new store.
 fn follows_the_steps<P: PairStore<u64> + Drop>(rt: &impl Abort, alloc: Global) {
     let mut store = P::new(alloc);
     for (step, want, len, capacity) in &STEPS {
@@ -106,10 +106,10 @@ fn the_limit(rt: HostRuntime) {
     assert!(rt; Table::<u64, ByLength>::with_capacity(alloc, past).err() == refused);
 }
 
-/// Keys, whose values are their positions, and the pairs of a table that is made of them.
+/// Keys, whose values are their indices, and the entries of a table built from them.
 type Made = (&'static [&'static str], &'static [(&'static str, u64)]);
 
-/// A key that comes again keeps its place, and has the value that it came with last.
+/// A duplicate key keeps its first index and its last value.
 static MADE: [Made; 4] = [
     (&[], &[]),
     (&["a", "b", "c"], &[("a", 0), ("b", 1), ("c", 2)]),
@@ -120,7 +120,7 @@ static MADE: [Made; 4] = [
     ),
 ];
 
-/// A table of these keys. The list that it is made of has spare room.
+/// Returns a table of these keys, from a list with spare capacity.
 fn made(rt: &impl Abort, alloc: Global, keys: &[&str]) -> FixedTable<u64> {
     let mut pairs = Vec::with_capacity(alloc, 9).expect(rt, "a list");
     for (i, letters) in keys.iter().enumerate() {
@@ -131,10 +131,10 @@ fn made(rt: &impl Abort, alloc: Global, keys: &[&str]) -> FixedTable<u64> {
     FixedTable::from_pairs(alloc, pairs).expect(rt, "a table")
 }
 
-/// Whether a table has these pairs and no others.
+/// Returns `true` if a table has these entries and no others.
 fn has_pairs(table: &FixedTable<u64>, pairs: &[(&str, u64)]) -> bool {
     for (i, (letters, value)) in pairs.iter().enumerate() {
-        if table.index_of(letters) != Some(i) || table.get(letters) != Some(value) {
+        if table.get_index_of(letters) != Some(i) || table.get(letters) != Some(value) {
             return false;
         }
     }
@@ -151,7 +151,7 @@ fn what_is_made_of_pairs_has_no_spare_room(rt: HostRuntime) {
     }
 }
 
-/// Writes a value through each call that lends one, and looks at a third pair.
+/// Writes a value through each function that returns a reference to one, and reads a third entry.
 fn writes<P: PairStore<u64>>(rt: &impl Abort, store: &mut P) {
     if store.len() > 0 {
         *store.value_mut(0) = 7;
@@ -167,7 +167,7 @@ fn writes<P: PairStore<u64>>(rt: &impl Abort, store: &mut P) {
     }
 }
 
-/// A value is written through each lending call, and all pairs come back.
+/// A value is written through each such function, and all entries are moved out.
 fn lends<P: PairStore<u64> + Drop>(rt: &impl Abort, alloc: Global) {
     let mut store = P::new(alloc);
     insert_all(rt, alloc, &mut store, &["a", "b", "c"]);
@@ -194,7 +194,7 @@ fn a_list_shows_its_pairs(rt: HostRuntime) {
     drop(store);
 }
 
-/// Steps that are run at once, and what is shown of the reply to each.
+/// Steps that are run in one call, and the debug output of the reply to each.
 static RUN: [(Step, &str); 6] = [
     (Put("a", 1), "Added"),
     (Put("a", 2), "Replaced(1)"),
@@ -204,7 +204,7 @@ static RUN: [(Step, &str); 6] = [
     (Shrink, "Done"),
 ];
 
-/// The commands of these steps.
+/// Returns the commands of these steps.
 fn commands(rt: &impl Abort, alloc: Global, steps: &[(Step, &str)]) -> Vec<Command<u64>> {
     let mut commands = Vec::new(alloc);
     for (step, _) in steps {

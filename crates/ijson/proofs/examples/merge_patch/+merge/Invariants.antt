@@ -5,7 +5,7 @@ use Rattle.ijson_value.specs.WellFormed.{pair_trees}
 use Rattle.ijson.specs.examples.MergePatch.{members_in, merged, merged_into}
 use Rattle.ijson.proofs.examples.merge_patch.+merge.Given as goal
 
--- the members that are left make of the object what the whole patch makes of the target
+-- the remaining members turn the object into what the whole patch makes of the target
 abbrev pub invariant-loop-key : goal.invariant-loop-key
 invariant-loop-key l = record {
   below : members_depth (pair_trees l.key-iterator) < depth l.fn.patch.tree;

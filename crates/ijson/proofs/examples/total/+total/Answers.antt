@@ -6,7 +6,7 @@ use Rattle.ijson_value.proofs.Walks.{front, values_depth}
 use Rattle.ijson.proofs.example_lemmas.Totals.{values_sum, IsLeft, all_left, none_left, first_below, none_first, none_more, one_more}
 use Rattle.ijson.proofs.examples.total.+total.Goals as goal
 
--- ---- items
+-- ---- elements
 pub total_of_items-loop-item-init : goal.total_of_items-loop-item-init
 total_of_items-loop-item-init t c = all_left c.args.items.now _ _ refl refl
 

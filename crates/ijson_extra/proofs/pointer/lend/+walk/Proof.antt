@@ -1,4 +1,4 @@
--- A walk that calls itself lends what its tokens lead to. Assumes `Logic`.
+-- A recursive walk lends the value that its tokens lead to. Assumes `Logic`.
 use Rattle.ijson_value.proofs.lends.Steps.{◌≡◌, ◌∙◌, subst, fact_i, says, fpick, ℕ, List, [], ◌∷◌, refl, sym, ap, lit<, w64, MutBor, id⊢}
 use Rattle.ijson_value.proofs.lends.Steps.{emp, ftrue, flft, fres, named, Val, vptr, fact, tables, ‵, raw, ◌⊛◌, some, later, at_ret, ◌$◌}
 use Rattle.ijson_value.proofs.lends.Steps.{◌∵◌, !, qed, done, move, keep, drop, use0, use1, use2, use3, split, join, rewrite, fjoin, pick}
@@ -58,7 +58,7 @@ stayed = (
   (stay_dropped (StrRefOf (1 ∷ []) tt) yes, (stay_dropped (plain (λ _. usize)) yes, tt)),
 )
 
--- what a call may lend
+-- the possible results of a call
 abbrev Found : Type 0
 Found = Option (MutBor V.Denot)
 
@@ -91,10 +91,10 @@ pub +walk_spec : {M : Type 1} → statement M
     enter ! _ _ _ _ _ $
     alloc_all !
     (λ l. pass_all ! refl ((tt, tt), ((((str-laws at).lawful 𝓛).typed p ps are.1.0).0, ((tt, record { fits = are.1.1.0.1 }), tt))) $
-    -- [the opened value; its token; the text's token; the text; the count]
+    -- [the content; its token; the text's token; the text; the count]
     sets ! (addr ! (through ! refl (stop !))) refl (tt, tt) $
     move ! (3 ∷ []) $ use1 𝓛 (‵ (S.own_val p ps) ⊛ ‵ (S.own_val p ps)) (((str-copy at).copies _ 𝓤 𝓛).twice p ps) $ split ! $
-    -- [the text; the text; the opened value; its token; the text's token; the count]
+    -- [the text; the text; the content; its token; the text's token; the count]
     let G = triple_of 𝓛 g.signature (g.spec 𝓛 𝓜.mem 𝓡.returns) in
     let z : G.Ghost = (((κ, (κ', tt)), (q, (q', tt)), tt, (r, (p, tt)), (vs, (ps, tt))), tt) in
     nothing ! $ move ! (1 ∷ 0 ∷ []) $ join ! $ move ! (2 ∷ 0 ∷ []) $ join ! $ nothing ! $ move ! (4 ∷ 0 ∷ []) $ join ! $
@@ -108,7 +108,7 @@ pub +walk_spec : {M : Type 1} → statement M
     ⊛ raw (fact 𝓤 (tree_lent x ≡ walked (steps_of p.now 0) (Some old))))))) (id⊢ 𝓤 _) $
     await ! tt $ pick ! (λ x. split ! $ split ! $ split ! $ move ! (1 ∷ []) $ split ! $ move ! (4 ∷ []) $
     pick ! (λ _. split ! $ drop ! $ split ! $ move ! (1 ∷ []) $ heard ! _ (λ found.
-    -- [what the opened value follows; the text's token; nothing; its token; the answer; the text; the count]
+    -- [the formula of the content; the text's token; nothing; its token; the result; the text; the count]
     by_option x
     (λ none. let found' = subst (λ (x' : Found). tree_lent x' ≡ walked (steps_of p.now 0) (Some old)) none found in
     rewrite ! 0 (λ (x' : Found). ‵ (LendsWalked r p.now 0 x')) none refl $
@@ -136,7 +136,7 @@ pub +walk_spec : {M : Type 1} → statement M
     (λ xs led. peeks ! Lent _ (shows 𝓛 Lent) value xs (λ told. let is_at = mut_Tells (named 0) κ V value xs told in
     rewrite ! 0 (λ (us : List Val). ‵ (Lent.own_val value us)) is_at refl $
     lands_as ! (ap only led ∙ ap (λ (us : List Val). live 1 (of_list (us ++ []))) is_at) refl (tt, (record { fits = lit< tt }, (tt, tt))) $
-    -- [the value; what the opened value follows; the text's token; nothing; its token; the text; the count]
+    -- [the value; the formula of the content; the text's token; nothing; its token; the text; the count]
     first ! $ switches ! (get_tag ! (vrt ! refl (fld ! refl (stop !))) (whole !)) (
       (λ _. sets_last ! (of_opd ! (get_in ! (vrt ! refl (fld ! refl (stop !))) (in_variant ! 1 0 refl refl (whole !)))) refl (tt, tt) $
           exec ! 𝓣.C 𝓣.Λ (env code.locals l) code.t-4 (at_ret (env code.locals l) (W.post y)) $
@@ -172,7 +172,7 @@ pub +walk_spec : {M : Type 1} → statement M
           await ! tt $ pick ! (λ u. split ! $ split ! $ split ! $ move ! (3 ∷ []) $
           pick ! (λ ws₂. split ! $ drop ! $ split ! $ move ! (1 ∷ []) $
           heard ! _ (λ same. let same' = ap (λ (w : WellFormed). w.tree) same in
-          -- [what the value follows; its token; nothing; the value opened; what the opened value follows; the text's token; nothing; the
+          -- [the formula of the value; its token; nothing; the value's content; the formula of the content; the text's token; nothing; the
           -- text; the count]
           move ! (3 ∷ []) $ peeks ! (MutRef (named 0) κ N) _ (shows 𝓛 (MutRef (named 0) κ N)) u (v₂ ∷ []) (λ told₂. let opened_at =
           mut_Tells (named 0) κ N u (v₂ ∷ []) told₂ in
@@ -192,7 +192,7 @@ pub +walk_spec : {M : Type 1} → statement M
           await ! tt $ pick ! (λ left. split ! $ split ! $ split ! $ move ! (3 ∷ []) $
           pick ! (λ ws₃. split ! $ drop ! $ heard ! _
           (λ behind. let rest : m - 1 < length (written_tokens left.now) = one_fewer m ws (written_tokens left.now) above within behind in
-          -- [the text's token; nothing; the rest; the value opened; what the value follows; its token; nothing; what the opened value
+          -- [the text's token; nothing; the rest; the value's content; the formula of the value; its token; nothing; what the content
           -- follows; nothing; the count]
           move ! (2 ∷ []) $ peeks ! S _ (shows 𝓛 S) left (v₃ ∷ []) (λ told₃.
           lands_as ! refl refl (((str-laws at).lawful 𝓛).typed left (v₃ ∷ []) told₃).0 $
@@ -200,7 +200,7 @@ pub +walk_spec : {M : Type 1} → statement M
           let G₄ = triple_of 𝓛 f.signature (f.spec 𝓛 𝓜.mem 𝓡.returns) in
           let z₄ : G₄.Ghost = ((κs, qs, y'.0.2, (u, (left, (m - 1, tt))), (mut_vals u, ((v₃ ∷ []), (uint_vals w64 (m - 1), tt)))), tt) in
           use0 𝓛 (‵ (usize.own_val (m - 1) (uint_vals w64 (m - 1)))) (number_made 𝓛 (m - 1) (less_one m above are.1.1.0.1)) $
-          -- [the count; the rest; the text's token; nothing; the value opened; what the value follows; its token; ..]
+          -- [the count; the rest; the text's token; nothing; the value's content; the formula of the value; its token; ..]
           nothing ! $ move ! (1 ∷ 0 ∷ []) $ join ! $ move ! (1 ∷ 0 ∷ []) $ join ! $ move ! (3 ∷ 0 ∷ []) $ join ! $
           nothing ! $ move ! (2 ∷ 0 ∷ []) $ join ! $ move ! (4 ∷ 0 ∷ []) $ join ! $ join ! $
           use0 𝓛 (raw (fact 𝓤 (m - 1 < length (written_tokens left.now))))
@@ -214,8 +214,8 @@ pub +walk_spec : {M : Type 1} → statement M
           ⊛ raw (fact 𝓤 (tree_lent o ≡ walked (steps_of left.now (m - 1)) (Some (node_tree u.now)))))))) (id⊢ 𝓤 _) $
           await ! tt $ pick ! (λ o. split ! $ split ! $ split ! $ move ! (1 ∷ []) $ split ! $ move ! (4 ∷ []) $
           pick ! (λ _. split ! $ drop ! $ split ! $ move ! (1 ∷ []) $ heard ! _ (λ deeper.
-          -- [what the value opened follows; the text's token; nothing; its token; the answer; nothing; what the value follows; nothing;
-          -- what the opened value follows; ..]
+          -- [the formula of the value's content; the text's token; nothing; its token; the result; nothing; the formula of the value;
+          -- nothing; the formula of the content; ..]
           move ! (4 ∷ []) $ peeks ! (OptionOf Lent) _ (shows 𝓛 (OptionOf Lent)) o (v₄ ∷ []) (λ told₄.
           lands_as ! refl refl (((value_found_laws κ).lawful 𝓛).typed o (v₄ ∷ []) told₄).0 $
           returns ! (look_at ! 0 refl) $ free_all ! refl $

@@ -5,7 +5,7 @@ use Rattle.std.specs.Prelude.{is_some}
 use Rattle.ijson_extra.specs.Pointer.{all_meant, written_tokens}
 use Rattle.ijson_extra.proofs.pointer.lend.count_more.Given as goal
 
--- so many tokens were passed, and each of them means something
+-- the first `more` tokens mean something
 abbrev pub invariant-loop-token : goal.invariant-loop-token
 invariant-loop-token l = record {
   utf8 : shadow (Utf8 l.left);

@@ -1,4 +1,4 @@
--- A value lends itself, or a value inside it that a text names. Assumes `Logic`.
+-- A value lends itself, or the value inside it that a pointer refers to. Assumes `Logic`.
 use Rattle.ijson_value.proofs.lends.Steps.{◌≡◌, ℕ, List, [], ◌∷◌, refl, sym, ap, subst, ◌∙◌, lit<, w64, MutBor, proved, id⊢, emp}
 use Rattle.ijson_value.proofs.lends.Steps.{ftrue, flft, fres, named, Val, vptr, fact, fact_i, tables, ‵, raw, ◌⊛◌, some}
 use Rattle.ijson_value.proofs.lends.Steps.{later, at_ret, ◌$◌, ◌∵◌, !, qed, done, move, keep, drop, use0, use1, use2, split, join, rewrite}
@@ -191,7 +191,7 @@ resolve_mut_spec 𝓤 𝓛 𝓜 𝓡 wired =
           mut_Tells (named 0) κ N u (x ∷ []) told in
           lands_as ! (ap only opened_at) refl (tt, tt) $
           rewrite ! 0 (λ (us : List Val). ‵ ((MutRef (named 0) κ N).own_val u us)) opened_at refl $
-          -- [opened; what value follows; its token; nothing; the count; the text's token; nothing; the text]
+          -- [the content; the formula of value; its token; nothing; the count; the text's token; nothing; the text]
           let G₄ = triple_of 𝓛 h.signature (h.spec 𝓛 𝓜.mem 𝓡.returns) in
           let z₄ : G₄.Ghost = ((κs, qs, tt, (u, (p, (more, tt))), (mut_vals u, (ps, (uint_vals w64 more, tt)))), tt) in
           move ! (4 ∷ 3 ∷ []) $ join ! $ move ! (6 ∷ 0 ∷ []) $ join ! $ move ! (1 ∷ 0 ∷ []) $ join ! $ move ! (3 ∷ 4 ∷ []) $ join ! $
@@ -208,7 +208,7 @@ resolve_mut_spec 𝓤 𝓛 𝓜 𝓡 wired =
           ⊛ ‵ (LendsNamedInside u p.now o) ⊛ raw (fact 𝓤 (Some (tree_lent o) ≡ resolved (node_tree u.now) p.now)))))) (id⊢ 𝓤 _) $
           await ! tt $ pick ! (λ o. split ! $ split ! $ split ! $ move ! (1 ∷ []) $ split ! $ move ! (4 ∷ []) $
           pick ! (λ ws₄. split ! $ drop ! $ split ! $ move ! (1 ∷ []) $ heard ! _ (λ is. let same = ap (λ (x : WellFormed). x.tree) e in
-          -- [what opened follows; the text's token; nothing; value's token; the result; what value follows]
+          -- [the formula of the content; the text's token; nothing; value's token; the result; the formula of value]
           move ! (4 ∷ []) $ peeks ! (OptionOf Lent) _ (shows 𝓛 (OptionOf Lent)) o (w ∷ []) (λ told'. let typed =
           (((value_found_laws κ).lawful 𝓛).typed o (w ∷ []) told').0 in
           lands_as ! refl refl typed $

@@ -90,7 +90,7 @@ set_inside_spec 𝓤 𝓛 𝓜 𝓡 wired I LI CI gx dx gs ds gc dc mx ms mc =
     (λ (ws : Unit {0} × (Unit {0} × Unit {0})). lasts (g.ended I gx dx gs ds gc dc) (β, (κ', tt)) (k, (r', tt)) ws)
     (LendsInsideIf r' step) Is (G.post z v) (id⊢ 𝓤 _) (λ x found. option_out 𝓛 ! (MutRef (named 0) β V) (LendsInsideIf r' step) Is v x found
     (λ none at. lands_as ! at refl (tt, (record { fits = lit< tt }, tt)) $
-    -- [what the loan follows; the token of α; the index's token; what the lender keeps]
+    -- [the formula of the loan; the token of α; the index's token; what the lender keeps]
     use1 𝓛 (‵ (fex ((z' : V.Denot) × (z' ≡ r.now)) (λ s. fres δ (V.coded.code s.0)))) (so_none 𝓛 V V (P None) (λ n. n ≡ r.now) δ) $
     fpick ! (λ s. move ! (1 ∷ []) $ lft_end ! tt $ move ! (0 ∷ 3 ∷ 1 ∷ []) $ back 𝓛 ! tt V κ q r α δ s.0 $
     -- [the value; its token; the index's token]
@@ -105,7 +105,7 @@ set_inside_spec 𝓤 𝓛 𝓜 𝓡 wired I LI CI gx dx gs ds gc dc mx ms mc =
     )))
     (λ inner xs there at. is_ref 𝓛 ! V β inner xs (λ is_at.
     lands_as ! (at ∙ ap (λ (us : List Val). live 1 (of_list (us ++ []))) is_at) refl (tt, (record { fits = lit< tt }, (tt, tt))) $
-    -- [inner; what the loan follows; the token of α; the index's token; what the lender keeps]
+    -- [inner; the formula of the loan; the token of α; the index's token; what the lender keeps]
     first ! $ switches ! (get_tag ! (vrt ! refl (fld ! refl (stop !))) (whole !)) (
       (λ _. sets ! (of_opd ! (get_in ! (vrt ! refl (fld ! refl (stop !))) (in_variant ! 1 0 refl refl (whole !)))) refl (tt, tt) $
           sets ! (addr ! (through ! refl (stop !))) refl (tt, tt) $
@@ -114,7 +114,7 @@ set_inside_spec 𝓤 𝓛 𝓜 𝓡 wired I LI CI gx dx gs ds gc dc mx ms mc =
           (h-thm.met 𝓤 𝓛 𝓜 𝓡 (code.calls-ijson_extra::tests::lent::put_true 𝓡.env wired))
           (((β, tt), (full_share, tt), tt, (inner, tt), (mut_vals inner, tt)), tt) (id⊢ 𝓤 _)
           (and_then ! (get ! refl) (no_more !)) (λ w. id⊢ 𝓤 _) (λ w typed.
-          -- [α is over; the loan's last value; what the loan follows; the index's token; what the lender keeps]
+          -- [α is over; the loan's last value; the formula of the loan; the index's token; what the lender keeps]
           move ! (2 ∷ 1 ∷ []) $
           use2 𝓛 (‵ (fex ((z'' : V.Denot) × P (Some inner) (boolean_value true) z'') (λ s. fres δ (V.coded.code s.0))))
           (so_some 𝓛 V V (P (Some inner)) (λ n. n ≡ r.now) δ inner.ghost_name (boolean_value true)) $ fpick ! (λ s.

@@ -1,4 +1,4 @@
--- A caller that writes where a pointer leads. Assumes `Logic`.
+-- A caller that writes at a pointer. Assumes `Logic`.
 use Rattle.ijson_value.proofs.lends.Steps.{◌≡◌, ℕ, List, [], ◌∷◌, refl, sym, ap, subst, ◌∙◌, lit<, MutBor, Bor, proved, full_share, id⊢}
 use Rattle.ijson_value.proofs.lends.Steps.{Lft, ftrue, flft, fres, fex, named, Val, vunit, fact, tables, ‵, raw, ◌⊛◌, some, later, at_ret}
 use Rattle.ijson_value.proofs.lends.Steps.{◌$◌, ◌∵◌, !, qed, done, move, keep, drop, use1, use2, split, join, rewrite, fpick, feq_i, pick}
@@ -44,7 +44,7 @@ use Rattle.ijson_extra.proofs.pointer.lend.resolve_mut.Met as g-thm
 abbrev stayed : Stays f.ended.signature.params f.ended.kept
 stayed = (stay_ref (0 ∷ []) tt (plain (λ _. V)), (stay_dropped (StrRefOf (1 ∷ []) tt) yes, tt))
 
--- what is lent
+-- the result of the lending call
 abbrev Lent : Type 0
 Lent = Result (Option (MutBor WellFormed)) PointerError
 
@@ -95,7 +95,7 @@ set_named_spec 𝓤 𝓛 𝓜 𝓡 wired =
     ⊛ raw (fact 𝓤 (IfOk x (λ o. Some (tree_lent o) ≡ found))) ⊛ raw (fact 𝓤 (IfErr x (λ _. found ≡ None))))))) (id⊢ 𝓤 _) $
     await ! tt $ pick ! (λ x. split ! $ split ! $ split ! $ move ! (3 ∷ []) $
     pick ! (λ ws. split ! $ drop ! $ split ! $ move ! (1 ∷ []) $ split ! $ heard ! _ (λ ok. heard ! _ (λ refused.
-    -- [what the loan follows; the token of α; the text's token; the answer; what the lender keeps]
+    -- [the formula of the loan; the token of α; the text's token; the result; what the lender keeps]
     by_result x
     (λ found' is. let told = subst (λ (x' : Lent). IfOk x' (λ o. Some (tree_lent o) ≡ found)) is ok in
     by_option found'
@@ -134,7 +134,7 @@ set_named_spec 𝓤 𝓛 𝓜 𝓡 wired =
     lands_as ! (ap only ok_at ∙ ap (λ (us' : List Val). live 0 (of_list (us' ++ []))) (at'
     ∙ ap (λ (ws' : List Val). live 1 (of_list (ws' ++ [])) ∷ []) is_at)) refl
     (tt, (record { fits = lit< tt }, ((record { fits = lit< tt }, (tt, tt)), tt))) $
-    -- [inner; what the loan follows; the token of α; the text's token; what the lender keeps]
+    -- [inner; the formula of the loan; the token of α; the text's token; what the lender keeps]
     first ! $ switches ! (get_tag ! (vrt ! refl (fld ! refl (stop !))) (whole !)) (
       (λ _. sets ! (of_opd ! (get_in ! (vrt ! refl (fld ! refl (stop !))) (in_variant ! 0 0 refl refl (whole !)))) refl
           (tt, (record { fits = lit< tt }, (tt, tt))) $
@@ -146,7 +146,7 @@ set_named_spec 𝓤 𝓛 𝓜 𝓡 wired =
                 move ! (0 ∷ 2 ∷ []) $ writes_last 𝓛 ! α inner (boolean_value true) (framed 𝓤 𝓛.H 𝓜 𝓣) H
                 (h-thm.met 𝓤 𝓛 𝓜 𝓡 (code.calls-ijson_extra::tests::lent::put_true 𝓡.env wired)) z' (id⊢ 𝓤 _)
                 (and_then ! (get ! refl) (no_more !)) (λ w. id⊢ 𝓤 _) (λ w typed.
-                -- [α is over; the loan's last value; what the loan follows; the text's token; what the lender keeps]
+                -- [α is over; the loan's last value; the formula of the loan; the text's token; what the lender keeps]
                 move ! (2 ∷ 1 ∷ []) $ use2 𝓛
                 (‵ (fex ((z'' : V.Denot) × P (Ok (Some inner)) (boolean_value true) z'') (λ s. fres δ (V.coded.code s.0))))
                 (so_some 𝓛 V V (P (Ok (Some inner))) P₀ δ inner.ghost_name (boolean_value true)) $ fpick ! (λ s.

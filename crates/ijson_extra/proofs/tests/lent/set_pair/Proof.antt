@@ -1,4 +1,4 @@
--- A caller that writes in a pair. Assumes `Logic`.
+-- A caller that writes to the value of a key. Assumes `Logic`.
 use Rattle.ijson_value.proofs.lends.Steps.{◌≡◌, ℕ, List, [], ◌∷◌, refl, sym, ap, ◌∙◌, lit<, MutBor, proved, full_share, id⊢, Lft, ftrue}
 use Rattle.ijson_value.proofs.lends.Steps.{flft, fres, named, Val, vptr, vunit, fact, tables, ‵, raw, prop, ◌⊛◌, at_ret, Sq, ◌$◌, ◌∵◌, ! }
 use Rattle.ijson_value.proofs.lends.Steps.{qed, done, move, keep, drop, use1, use2, split, join, fsplit, fsplit3, fpick, feq_i, feq_l}
@@ -88,7 +88,7 @@ set_pair_spec 𝓤 𝓛 𝓜 𝓡 wired I LI CI gx dx gs ds gc dc mx ms mc =
     let Found = OptionOf (Pair β) in
     let Is = λ (x : Found.Denot). option_map deref_pair_mut x ≡ pair_at_key key r.now.pairs in
     let H = triple_of 𝓛 h.signature (h.spec 𝓛 𝓜.mem 𝓡.returns) in
-    -- what runs once the pair is looked for
+    -- the steps after the entry is looked up
     let rest : (v : Val) (x : Found.Denot) → Is x → Sq 𝓛 (‵ (Found.own_val x (v ∷ [])) ∷ ‵ (LendsPairIf r' key x)
     ∷ ‵ (flft β full_share) ∷ (‵ (flft κ' q') ⊛ ‵ ftrue) ∷ ‵ (Kept M κ q r α δ) ∷ holding 𝓛 (env fn.locals l) ((7, v) ∷ []))
     (runs 𝓣.C 𝓣.Λ (env fn.locals l) (after 2 fn.body) (at_ret (env fn.locals l) (W.post y))) = λ v x found.
@@ -116,7 +116,7 @@ set_pair_spec 𝓤 𝓛 𝓜 𝓡 wired I LI CI gx dx gs ds gc dc mx ms mc =
     ∙ (λ n. vstruct (of_list (key_at n ++ (is_at n ++ []))) ∷ []) in
     sets ! (is ! (of_opd ! (get ! refl)) (at ∙ ap (λ (us : List Val). live 1 (of_list (us ++ []))) both)) refl
     (tt, (record { fits = lit< tt }, ((tt, (tt, tt)), tt))) $
-    -- [inner; what the loan follows; the token of α; the index's token; what the lender keeps]
+    -- [inner; the formula of the loan; the token of α; the index's token; what the lender keeps]
     first ! $ switches ! (get_tag ! (vrt ! refl (fld ! refl (stop !))) (whole !)) (
       (λ _. sets !
           (of_opd ! (get_in ! (vrt ! refl (fld ! refl (fld ! refl (stop !)))) (sub ! 1 refl (in_variant ! 1 0 refl refl (whole !))))) refl
@@ -125,7 +125,7 @@ set_pair_spec 𝓤 𝓛 𝓜 𝓡 wired I LI CI gx dx gs ds gc dc mx ms mc =
           move ! (0 ∷ 2 ∷ []) $ writes_last 𝓛 ! α inner (boolean_value true) (framed 𝓤 𝓛.H 𝓜 𝓣) H
           (h-thm.met 𝓤 𝓛 𝓜 𝓡 (code.calls-ijson_extra::tests::lent::put_true 𝓡.env wired)) z (id⊢ 𝓤 _)
           (and_then ! (get ! refl) (no_more !)) (λ w. id⊢ 𝓤 _) (λ w typed.
-          -- [α is over; the loan's last value; what the loan follows; the index's token; what the lender keeps]
+          -- [α is over; the loan's last value; the formula of the loan; the index's token; what the lender keeps]
           move ! (2 ∷ 1 ∷ []) $
           use2 𝓛 (‵ (fres δ (M.coded.code put))) (if_some 𝓛 M V (with_key r.now key) r.now δ inner.ghost_name (boolean_value true)) $
           move ! (1 ∷ 3 ∷ 0 ∷ []) $ back 𝓛 ! tt M κ q r α δ put $ lands_last ! refl typed $

@@ -1,4 +1,4 @@
--- A caller that turns the truth value that a value is. Assumes `Logic`.
+-- A caller that negates the Boolean of a value. Assumes `Logic`.
 use Rattle.ijson_value.proofs.lends.Steps.{◌≡◌, ℕ, List, [], ◌∷◌, refl, sym, ap, ◌∙◌, lit<, MutBor, proved, full_share, id⊢, GName, Lft}
 use Rattle.ijson_value.proofs.lends.Steps.{ftrue, flft, fres, named, Val, vunit, fact, tables, ‵, raw, prop, ◌⊛◌, some, later, at_ret, Sq}
 use Rattle.ijson_value.proofs.lends.Steps.{◌$◌, ◌∵◌, !, qed, done, move, keep, drop, use1, use2, split, join, rewrite, fsplit, fsplit3}
@@ -64,7 +64,7 @@ turn_truth_spec 𝓤 𝓛 𝓜 𝓡 wired =
     suffices ! _ (ends_at 𝓛 f.ended stayed c y vunit tt (n, tt) (tt, tt)) $ says_two ! (turned, same) $
     nothing ! $ move ! (1 ∷ 0 ∷ []) $ join ! $ nothing ! $ move ! (2 ∷ 0 ∷ []) $ join ! $ frame ! $ frame ! $
     feq_i ! _ (vunit ∷ []) _ refl $ done ! in
-    -- a value that is no truth value is as it was
+    -- a value that is no Boolean is unchanged
     let leaves : (n : WellFormed) → is_bool (kind_of n.tree) ≡ false → n ≡ r.now
     → Sq 𝓛 (‵ (Ref κ (record r { now = n })) ∷ ‵ (flft κ q) ∷ []) (prop (W.post y vunit)) = λ n other same.
     ends n (λ t e. absurd (true≢false (ap (λ (w : WellFormed). is_bool (kind_of w.tree)) (sym e ∙ sym same) ∙ other))) (λ _. same) in
@@ -83,7 +83,7 @@ turn_truth_spec 𝓤 𝓛 𝓜 𝓡 wired =
     (and_then ! (get ! refl) (no_more !)) (λ v.
     answered 𝓛 ! β full_share tt (PartsOf at) v (λ x (ws : Unit {0} × Unit {0}). lasts g.ended (β, tt) (r', tt) ws) (LendsParts r')
     (λ x. mut_value x ≡ r.now) (G.post z v) (id⊢ 𝓤 _) (λ x found seen. move ! (3 ∷ []) $ drop ! $
-    -- [the parts; what the loan follows; the token of α; what the lender keeps]
+    -- [the parts; the formula of the loan; the token of α; what the lender keeps]
     parts_out 𝓛 ! at (LendsParts r') (λ x'. mut_value x' ≡ r.now) v x found
     (λ stands led. lands_as ! led refl (tt, (record { fits = lit< tt }, tt)) $
     use1 𝓛 (‵ (fres δ (V.coded.code r.now))) (if_none 𝓛 V V (λ w. w) r.now δ) $ move ! (1 ∷ []) $ lft_end ! tt $ move ! (0 ∷ 2 ∷ 1 ∷ []) $
@@ -107,7 +107,7 @@ turn_truth_spec 𝓤 𝓛 𝓜 𝓡 wired =
     (((bool_laws at).lawful 𝓛).typed part (w ∷ []) told).0 in
     lands_as ! (led ∙ ap (λ (us : List Val). live 1 (of_list (us ++ []))) one) refl
     (and_tt _ typed.0, (record { fits = lit< tt }, (typed.1, tt))) $
-    -- [the part; what the loan follows; the token of α; what the lender keeps]
+    -- [the part; the formula of the loan; the token of α; what the lender keeps]
     first ! $ switches ! (get_tag ! (vrt ! refl (fld ! refl (stop !))) (whole !)) (past 1 0 refl refl (
       (λ _. sets ! (of_opd ! (get_in ! (vrt ! refl (fld ! refl (stop !))) (in_variant ! 1 0 refl refl (whole !)))) refl typed $
           sets ! (of_opd ! (get ! refl)) refl typed $
@@ -122,7 +122,7 @@ turn_truth_spec 𝓤 𝓛 𝓜 𝓡 wired =
           ⊛ raw (fact 𝓤 (part'.place.now ≡ not part.place.now)))))) (id⊢ 𝓤 _) $
           await ! tt $ pick ! (λ part'. split ! $ split ! $ split ! $ move ! (3 ∷ []) $
           pick ! (λ ws'. split ! $ drop ! $ split ! $ heard ! _ (λ same. heard ! _ (λ turned.
-          -- [the token of α; nothing; the part; what the loan follows; what the lender keeps]
+          -- [the token of α; nothing; the part; the formula of the loan; what the lender keeps]
           move ! (2 ∷ []) $ peeks ! (BoolRow at) _ (shows 𝓛 (BoolRow at)) part' (w' ∷ []) (λ told'. let typed' =
           (((bool_laws at).lawful 𝓛).typed part' (w' ∷ []) told').0 in
           fpick ! (λ vss. fsplit ! $ feq_l ! (λ e. fsplit ! $ fsplit3 ! $ move ! (1 ∷ 4 ∷ 6 ∷ 7 ∷ []) $
