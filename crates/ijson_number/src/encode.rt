@@ -4,9 +4,10 @@ ghost use mir.Syntax.{w16};
 ghost use Rattle.ijson_number.specs.Decimal.{Decimal, IsPlain};
 ghost use Rattle.ijson_number.specs.Form.{digits_form, fits_packed, form_of, integer_form, is_digits};
 ghost use Rattle.ijson_number.specs.FormNumber.{integer_word};
+ghost use Rattle.ijson_number.specs.Stripped.{stripped_number};
 ghost use Rattle.ijson_number.specs.Strips.{signed};
 ghost use Rattle.ijson_number.specs.private.CanonicalSpelling.{IsCanonicalSpelling, spelled_number};
-ghost use Rattle.ijson_number.specs.private.Significand.{IsCommonWord, IsSmall, canonical_number, significand_number};
+ghost use Rattle.ijson_number.specs.private.Significand.{IsCommonWord, IsSmall, canonical_number, significand_number, significand_of};
 ghost use Rattle.ijson_number.specs.private.Stored.{stored_form};
 
 use crate::general_reader::CanonicalSpelling;
@@ -181,18 +182,53 @@ impl Significand {
 
 /// Returns the representation of a number that is no common word.
 ///
-/// Not inlined: the locals of a longer function are zeroed for every number.
+/// Not inlined: the locals of a longer function are zeroed for every number. Its arguments are scalars, since a `Significand` would be
+/// written to memory and read back.
 #[inline(never)]
-fn encode_other(alloc: Global, significand: Significand) -> Result<Stored, AllocError>
-    requires { IsSmall significand }
-    ensures form { IfOk result (λ s. stored_form s ≡ form_of (significand_number significand)) }
-    ensures refused { OnErr result (is_digits (form_of (significand_number significand)) ≡ true) }
+fn encode_other(
+    alloc: Global,
+    negative: bool,
+    magnitude: u64,
+    exponent: i32,
+    point: bool,
+) -> Result<Stored, AllocError>
+    requires small { IsSmall (significand_of negative magnitude exponent point) }
+    requires stripped { exponent <ℤ pos 0 → magnitude % 10 ≢ 0 }
+    ensures form { IfOk result (λ s. stored_form s ≡ form_of (stripped_number (signed negative magnitude) exponent point)) }
+    ensures refused { OnErr result (is_digits (form_of (stripped_number (signed negative magnitude) exponent point)) ≡ true) }
 {
+    let significand = Significand {
+        negative,
+        magnitude,
+        exponent,
+        point,
+    };
+    if exponent < -7 {
+        return significand.block(alloc, exponent as i16);
+    }
     let canonical = significand.canonical();
     if let Some(stored) = canonical.word() {
         return Ok(stored);
     }
     canonical.block(alloc, canonical.exponent as i16)
+}
+
+/// Calls `encode_other`. Inlined, so that the return slot of the call is zeroed only for these numbers.
+#[inline(always)]
+fn encode_wide(alloc: Global, significand: Significand) -> Result<Stored, AllocError>
+    requires small { IsSmall significand }
+    requires stripped { significand.exponent <ℤ pos 0 → significand.magnitude % 10 ≢ 0 }
+    ensures form { IfOk result (λ s. stored_form s ≡ form_of (significand_number significand)) }
+    ensures refused { OnErr result (is_digits (form_of (significand_number significand)) ≡ true) }
+{
+    let Significand {
+        negative,
+        magnitude,
+        exponent,
+        point,
+    } = significand;
+    let stored = encode_other(alloc, negative, magnitude, exponent, point)?;
+    Ok(stored)
 }
 
 /// Returns the representation of a number that the fast reader read.
@@ -202,12 +238,17 @@ pub fn encode(alloc: Global, significand: Significand) -> Result<Stored, AllocEr
     ensures form { IfOk result (λ s. stored_form s ≡ form_of (significand_number significand)) }
     ensures refused { OnErr result (is_digits (form_of (significand_number significand)) ≡ true) }
 {
+    if !significand.point {
+        if let Some(stored) = encode_integer(significand.negative, significand.magnitude) {
+            return Ok(stored);
+        }
+        return encode_wide(alloc, significand);
+    }
     let stripped = significand.strip_trailing_zeros(0);
     if let Some(stored) = stripped.common_word() {
         return Ok(stored);
     }
-    let stored = encode_other(alloc, stripped)?;
-    Ok(stored)
+    encode_wide(alloc, stripped)
 }
 
 /// Stores the digits of a number in a list.

@@ -25,7 +25,7 @@ impl Significand {
         ensures point { result.point ≡ self.point }
     {
         let (mut magnitude, mut exponent) = (self.magnitude, self.exponent);
-        while exponent < end && magnitude % 10 == 0 {
+        while magnitude % 10 == 0 && exponent < end {
             magnitude /= 10;
             exponent += 1;
         }

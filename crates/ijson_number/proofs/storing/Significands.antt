@@ -117,6 +117,22 @@ pub fraction_form : (n : Decimal) → n.point ≡ true → n.exponent <ℤ pos 0
     ])
 fraction_form n point below = taken n.point _ _ point ∙ left (int_le (pos 0) n.exponent) _ _ (not_le (pos 0) n.exponent below)
 
+-- a number with eight or more fraction digits is stored by its digits
+pub deep_form : (s : Significand) → IsSmall s → s.exponent <ℤ negsuc 6 → s.magnitude % 10 ≢ 0
+    → form_of (significand_number s) ≡ digits_form (canonical_number s)
+deep_form s small low last =
+    let m = small.magnitude in
+    let none : s.exponent +ℤ pos 0 ≡ s.exponent = omega (arith, ints) in
+    let same : significand_number s ≡ canonical_number s = rw none at (canonical_of s.negative s.magnitude s.magnitude 0 s.exponent s.point
+    (λ z. last (rw z refl)) (omega arith) (omega arith) last) in
+    ap form_of same ∙ fraction_form (canonical_number s) (pointed s.point refl) (omega (arith, ints))
+    ∙ left (int_le (negsuc 6) s.exponent && fits_packed (signed s.negative s.magnitude)) _ _
+    (ap (λ b. b && fits_packed (signed s.negative s.magnitude)) (not_le (negsuc 6) s.exponent low))
+  where
+    pointed : (b : Bool) → s.point ≡ b → s.point ≡ true
+    pointed true is = is
+    pointed false is = let zero = small.integer is in absurd (omega (arith, ints))
+
 -- a common number with the fraction point is packed unchanged
 common_form : (negative : Bool) (m : ℕ) (e : ℤ) → m < 2 ^ 55 → negsuc 6 ≤ℤ e → e ≤ℤ pos 0 → (e <ℤ pos 0 → m % 10 ≢ 0)
     → form_of (stripped_number (signed negative m) e true) ≡ packed (signed negative m) e true

@@ -12,6 +12,10 @@ use Rattle.ijson_number.specs.private.Stripped.{digits_from_text}
 use Rattle.ijson_number.specs.declared.fast_reader.Front.{Front}
 use Rattle.ijson_number.specs.declared.significand.Significand.{Significand}
 
+abbrev pub significand_of : (negative : Bool) (magnitude : ℕ) (exponent : ℤ) (point : Bool) → Significand
+significand_of negative magnitude exponent point =
+    record { negative = negative; magnitude = magnitude; exponent = exponent; point = point }
+
 -- the number that a significand and its exponent denote
 abbrev pub significand_number : Significand → Decimal
 significand_number s = stripped_number (signed s.negative s.magnitude) s.exponent s.point

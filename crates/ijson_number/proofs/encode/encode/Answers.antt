@@ -1,8 +1,8 @@
-use Rattle.std.proofs.Common.{◌≡◌, ◌∙◌, ap, sym, arith}
+use Rattle.std.proofs.Common.{◌≡◌, ◌∙◌, ap, sym, subst, arith}
+use Rattle.std.specs.Prelude.{false, true, OnErr}
 use Rattle.ijson_number.specs.Form.{form_of, is_digits}
 use Rattle.ijson_number.specs.private.Significand.{significand_number}
-use Rattle.ijson_number.proofs.AnyAnswer.{where_refused}
-use Rattle.ijson_number.proofs.storing.Significands.{fewer_tens, small_less, stripped_integer}
+use Rattle.ijson_number.proofs.storing.Significands.{encoded, fewer_tens, integer_form_is, small_less, stripped_integer}
 use Rattle.ijson_number.proofs.encode.encode.Goals as goal
 use Rattle.ijson_number.proofs.encode.encode.Goals.{After-strip_trailing_zeros-stripped}
 
@@ -23,19 +23,27 @@ common_word-requires-clause-stripped c = c.strip_trailing_zeros-stripped.ensures
 
 pub returns-in-Some-clause-form : goal.returns-in-Some-clause-form
 returns-in-Some-clause-form c =
-    c.in-Some.ensures.word ∙ ap form_of (same (goal.at.returns-in-Some-clause-form c).After-strip_trailing_zeros-stripped)
+    let s = c.args.significand in
+    let small = c.requires.magnitude in
+    let no_point : s.point ≡ false = grind arith in
+    c.in-Some.ensures.word (significand_number s) ∙ sym (integer_form_is s (omega arith) no_point (c.requires.integer no_point))
 
-pub encode_other-requires : goal.encode_other-requires
-encode_other-requires c =
+pub returns-in-Some-common_word-clause-form : goal.returns-in-Some-common_word-clause-form
+returns-in-Some-common_word-clause-form c =
+    c.in-Some-common_word.ensures.word
+    ∙ ap form_of (same (goal.at.returns-in-Some-common_word-clause-form c).After-strip_trailing_zeros-stripped)
+
+pub encode_wide-requires-2-clause-small : goal.encode_wide-requires-2-clause-small
+encode_wide-requires-2-clause-small c =
     let e = c.strip_trailing_zeros-stripped.ensures in
     small_less c.args.significand c.strip_trailing_zeros-stripped.result c.requires e.tens e.most e.negative e.point
 
-pub returns-in_err-stored-clause-refused : goal.returns-in_err-stored-clause-refused
-returns-in_err-stored-clause-refused c =
-    where_refused c.from_residual.result
-    (ap (λ n. is_digits (form_of n)) (sym (same (goal.at.returns-in_err-stored-clause-refused c).After-strip_trailing_zeros-stripped))
-    ∙ c.in_err-stored.ensures.refused)
-
 pub returns-clause-form : goal.returns-clause-form
 returns-clause-form c =
-    c.in_ok-stored.ensures.form ∙ ap form_of (same (goal.at.returns-clause-form c).After-strip_trailing_zeros-stripped)
+    encoded c.encode_wide-2.result _ _
+    (ap form_of (sym (same (goal.at.returns-clause-form c).After-strip_trailing_zeros-stripped))) c.encode_wide-2.ensures.form
+
+pub returns-clause-refused : goal.returns-clause-refused
+returns-clause-refused c =
+    subst (λ n. OnErr c.encode_wide-2.result (is_digits (form_of n) ≡ true))
+    (same (goal.at.returns-clause-refused c).After-strip_trailing_zeros-stripped) c.encode_wide-2.ensures.refused

@@ -3,9 +3,9 @@ use Rattle.std.proofs.lemmas.Int.{ints}
 use Rattle.ijson_number.proofs.storing.WholeValues.{ten_out}
 use Rattle.ijson_number.proofs.significand.Significand.strip_trailing_zeros.Goals as goal
 
-pub loop-exponent-preserved : goal.loop-exponent-preserved
-loop-exponent-preserved c =
-    let l = c.loop-exponent in
+pub loop-magnitude-preserved : goal.loop-magnitude-preserved
+loop-magnitude-preserved c =
+    let l = c.loop-magnitude in
     let tens = l.invariant.tens in
     record {
       tens = (
@@ -16,5 +16,5 @@ loop-exponent-preserved c =
       most = inl (omega (arith, ints));
     }
 
-pub loop-exponent-init : goal.loop-exponent-init
-loop-exponent-init c = record { tens = (0, omega arith, omega (arith, ints)); most = inr (omega (arith, ints)) }
+pub loop-magnitude-init : goal.loop-magnitude-init
+loop-magnitude-init c = record { tens = (0, omega arith, omega (arith, ints)); most = inr (omega (arith, ints)) }

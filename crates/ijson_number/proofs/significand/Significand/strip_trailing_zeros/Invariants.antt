@@ -3,11 +3,11 @@ use Rattle.std.specs.Prelude.{nat_abs, pos, ◌+ℤ◌, ◌-ℤ◌, ◌≤ℤ◌
 use Rattle.ijson_number.proofs.significand.Significand.strip_trailing_zeros.Given as goal
 
 -- the zeros stripped so far
-abbrev pub invariant-loop-exponent : goal.invariant-loop-exponent
-invariant-loop-exponent l = record {
+abbrev pub invariant-loop-magnitude : goal.invariant-loop-magnitude
+invariant-loop-magnitude l = record {
   tens : (count : ℕ) × (l.self.magnitude ≡ l.magnitude * 10 ^ count) × (l.exponent ≡ l.self.exponent +ℤ pos count);
   most : (l.exponent ≤ℤ l.end) ⊎ (l.exponent ≡ l.self.exponent);
 }
 
-abbrev pub decreases-loop-exponent : goal.decreases-loop-exponent
-decreases-loop-exponent l = nat_abs (l.end -ℤ l.exponent)
+abbrev pub decreases-loop-magnitude : goal.decreases-loop-magnitude
+decreases-loop-magnitude l = nat_abs (l.end -ℤ l.exponent)
