@@ -10,7 +10,7 @@ ghost use Rattle.ijson_number.specs.Order.{number_cmp};
 ghost use Rattle.ijson_number.specs.StrippedDigits.{stripped_digits};
 
 use crate::looks::Looks;
-use crate::number::INumber;
+use crate::repr::INumber;
 use crate::repr::digits::{MAX_DIGITS, place_of};
 use crate::repr::stored::Stored;
 use crate::repr::stripped::StrippedNumber;

@@ -6,7 +6,7 @@ ghost use Rattle.ijson_number.specs.private.PrefixDigits.{IsTaken};
 ghost use Rattle.ijson_number.specs.private.Reading.{IsExponentSignTaken, IsSignTaken};
 ghost use Rattle.ijson_number.specs.private.Significand.{IsFewFraction, IsFractionTaken, IsFront, IsMantissa, IsPower};
 
-use crate::parse::lanes::{LANES, digit_count, number_of, power_of_ten};
+use crate::lanes::{LANES, digit_count, number_of, power_of_ten};
 use crate::repr::digits::WORD_DIGITS;
 use crate::significand::Significand;
 use std::simd::prelude::*;

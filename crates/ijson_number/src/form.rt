@@ -5,7 +5,7 @@ ghost use Rattle.ijson_number.specs.Num.{Num};
 ghost use Rattle.ijson_number.specs.Text.{num_text};
 ghost use Rattle.ijson_number.specs.Form.{form_of};
 
-use crate::number::INumber;
+use crate::repr::INumber;
 use crate::repr::stored::Stored;
 
 /// The representation of a number.

@@ -6,7 +6,7 @@ ghost use mir.Syntax.{w32, w64};
 ghost use Rattle.ijson_number.specs.Integers.{HasValue, IsInteger};
 
 use crate::encode::{encode_signed, encode_unsigned};
-use crate::number::INumber;
+use crate::repr::INumber;
 use crate::repr::digits::MAX_DIGITS;
 use crate::repr::stripped::StrippedNumber;
 

@@ -1,6 +1,11 @@
 //! Exact decimals, as JSON writes numbers.
 //!
-//! Tests: `ijson/src/tests/numbers.rt`; the words that numbers feed a hasher in the tests of `ijson_compact`.
+//! Each module uses only those before it: `looks`, `lanes`, `repr::word`, `repr::digits`, `repr::stored`, `repr`, `repr::stripped`,
+//! `significand`, `fast_reader`, `general_reader`, `encode`, `number`, `number::clone`, `number::hash`, `write::display`, `write::fast`,
+//! `write::stripped_digits`, `comparison`, `number::order`, `form`, `integers`, `tests`.
+//!
+//! Tests: `src/tests.rt` has those of packed words; `ijson/src/tests/numbers.rt` the others; `ijson_compact` those of the words that numbers
+//! feed a hasher.
 #![tactic(auto)]
 
 mod comparison;
@@ -9,9 +14,9 @@ mod fast_reader;
 mod form;
 mod general_reader;
 mod integers;
+mod lanes;
 mod looks;
 mod number;
-mod parse;
 mod repr;
 mod significand;
 #[cfg(test)]
@@ -22,4 +27,5 @@ pub use comparison::{DigitRow, compare};
 pub use form::Form;
 pub use general_reader::first_fault;
 pub use looks::Looks;
-pub use number::{INumber, ParseNumberError};
+pub use number::ParseNumberError;
+pub use repr::INumber;

@@ -1,9 +1,6 @@
-//! `INumber`, an exact decimal.
+//! Parses numbers.
 ghost use Rattle.std.specs.Prelude.{◌≡◌, IfOk, IfErr};
 ghost use Rattle.ijson_number.specs.Grammar.{Spells};
-ghost use Rattle.ijson_number.specs.Num.{IsNum};
-ghost use Rattle.ijson_number.specs.laws.Codes.{IsNum-prop};
-ghost use Rattle.ijson_number.specs.private.Stored.{stored_decimal};
 
 mod clone;
 mod hash;
@@ -12,9 +9,9 @@ mod order;
 use crate::encode::{encode, encode_spelling};
 use crate::fast_reader::read_front;
 use crate::general_reader::read_spelling;
+use crate::repr::INumber;
 use crate::repr::stored::Stored;
 use std::alloc::{AllocError, Global};
-use std::marker::Model;
 use thiserror::Error;
 
 /// Why a text is rejected.
@@ -37,33 +34,6 @@ impl From<AllocError> for ParseNumberError {
     fn from(_refused: AllocError) -> ParseNumberError {
         ParseNumberError::Memory
     }
-}
-
-/// An exact decimal of 16 bytes.
-///
-/// It is zero, or a significand without trailing zeros times a power of ten whose exponent is from -2^30 to 2^30; and its fraction point:
-/// whether it was written with a point or an exponent. A number whose form is a list of digits stores these in an allocation of its own.
-/// `2`, `2.0` and `20e-1` are equal, and the last two print as `2.0`.
-#[derive(Drop)]
-pub struct INumber {
-    pub(crate) stored: Stored,
-    ghost num: { IsNum (stored_decimal stored) } by { IsNum-prop (stored_decimal stored) },
-}
-
-const _: () = prove!(size_of::<INumber>() == 16);
-
-impl Model for INumber {
-    ghost use Rattle.ijson_number.specs.Num.{Num};
-    ghost use Rattle.ijson_number.specs.laws.Codes.{num_code};
-    ghost use Rattle.ijson_number.specs.private.Stored.{stored_decimal, IsForm};
-
-    ghost Value = { Num };
-
-    ghost coded = { num_code };
-
-    ghost view = { λ n. record { decimal = stored_decimal n.stored; is_num = n.num } };
-
-    ghost invariant = { λ n. IsForm n.stored };
 }
 
 impl INumber {

@@ -1,5 +1,5 @@
 //! The words of packed numbers: the bits of a word are private, so no clause of a public call states them.
-use crate::number::INumber;
+use crate::repr::INumber;
 use crate::repr::stored::Stored;
 use std::process::Abort;
 

@@ -1,10 +1,9 @@
 //! Writes the text of a number.
 //!
-//! `fast` is tried first. By vectors (`lanes`), without a formatter, it appends an integer that fits a word, and a number of at most 19
+//! `fast` is tried first. By vectors, without a formatter, it appends an integer that fits a word, and a number of at most 19
 //! digits with the fraction point, unless its text has zeros between the digits and the point or an exponent after a single digit.
 //! `display` writes the others.
 
 mod display;
 mod fast;
-pub(crate) mod lanes;
-mod stripped;
+mod stripped_digits;

@@ -11,8 +11,8 @@ use lib.Ieee.Fits.{and_l, and_r}
 use lib.Lanes.{Each1, chunk}
 use mir.Syntax.{w8}
 use mir.Val.{zeroes}
-use Rattle.ijson_number.specs.declared.parse.lanes.TheConstants.{BACK}
-use Rattle.ijson_number.specs.declared.write.lanes.TheConstants.{FRONT}
+use Rattle.ijson_number.specs.declared.lanes.TheConstants.{BACK}
+use Rattle.ijson_number.specs.declared.lanes.TheConstants.{FRONT}
 
 -- a fact of each number below n
 abbrev Each : (ℕ → Type 0) → ℕ → Type 0

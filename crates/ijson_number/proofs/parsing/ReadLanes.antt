@@ -15,7 +15,7 @@ use lib.Lanes.{dots, mask_l, top, zip2}
 use Rattle.ijson_number.specs.Grammar.{AllDigits, IsDigit, value}
 use Rattle.ijson_number.specs.private.Stripped.{digits_from_text}
 use Rattle.ijson_number.specs.private.PrefixDigits.{IsCount}
-use Rattle.ijson_number.specs.declared.parse.lanes.TheConstants.{HUNDREDS, POWERS, UNITS}
+use Rattle.ijson_number.specs.declared.lanes.TheConstants.{HUNDREDS, POWERS, UNITS}
 use Rattle.ijson_number.proofs.storing.DigitBounds.{below_base}
 use Rattle.ijson_number.proofs.parsing.MovedLanes.{each, spelled}
 

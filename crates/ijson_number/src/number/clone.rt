@@ -2,7 +2,7 @@
 ghost use Rattle.std.specs.Prelude.{◌≡◌, false};
 ghost use Rattle.ijson_number.specs.Form.{form_of, is_digits};
 
-use crate::number::INumber;
+use crate::repr::INumber;
 use crate::repr::stored::{LongNumber, Stored};
 use std::alloc::AllocError;
 

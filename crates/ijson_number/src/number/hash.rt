@@ -4,7 +4,7 @@ ghost use Rattle.std.specs.Hash as fed;
 ghost use Rattle.ijson_number.specs.laws.Ordered.{equal_feed};
 ghost use Rattle.ijson_number.specs.Words.{number_words};
 
-use crate::number::INumber;
+use crate::repr::INumber;
 use crate::repr::digits::MAX_DIGITS;
 use std::hash::{Hash, Hasher};
 

@@ -6,7 +6,7 @@ ghost use Rattle.ijson_number.specs.laws.Ordered.{number_cmp_total, number_eq_eq
 
 use crate::comparison::compare;
 use crate::looks::Looks;
-use crate::number::INumber;
+use crate::repr::INumber;
 use crate::repr::digits::MAX_DIGITS;
 use std::cmp::Ordering;
 

@@ -8,8 +8,7 @@ ghost use mir.Syntax.{w128};
 ghost use Rattle.std.specs.List.{All};
 ghost use Rattle.ijson_number.specs.Text.{digits_text};
 
-use crate::parse::lanes::LANES;
-use crate::write::lanes::{LANES_END, lanes_of, zeros_in_front};
+use crate::lanes::{LANES, LANES_END, lanes_of, zeros_in_front};
 use itoa::write_digits;
 use std::alloc::AllocError;
 use std::simd::prelude::*;

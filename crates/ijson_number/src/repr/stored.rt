@@ -1,4 +1,4 @@
-//! The representation of a number.
+//! The forms in which a number is stored.
 ghost use Rattle.std.specs.Prelude.{◌≡◌, ◌+◌, ◌<◌, ◌≤◌, length, FitsSigned, IfOk, IfSome, IsSome, IsTrue, IsFalse};
 ghost use mir.Syntax.{w16};
 ghost use Rattle.ijson_number.specs.private.ShortDigits.{short_digits};

@@ -9,7 +9,7 @@ ghost use Rattle.ijson_number.specs.laws.Codes.{IsNum-prop};
 ghost use Rattle.ijson_number.specs.Strips.{signed};
 ghost use Rattle.std.proofs.Props.{props};
 
-use crate::number::INumber;
+use crate::repr::INumber;
 use crate::repr::digits::{MAX_DIGITS, make_digits, without_zeros};
 use crate::repr::stored::{LongNumber, ShortNumber, Stored};
 use itoa::write_digits;

@@ -3,7 +3,7 @@ ghost use Rattle.std.specs.Prelude.{Some, ◌<◌, ◌≤◌, ◌≡◌, ◌^◌
 ghost use Rattle.std.specs.List.{All};
 ghost use Rattle.ijson_number.specs.Text.{digits_text, num_text, point_text, scientific_text, shape_text, zeros_text};
 
-use crate::number::INumber;
+use crate::repr::INumber;
 use crate::repr::digits::{MAX_DIGITS, place_of};
 use std::fmt::Write;
 use std::{fmt, str};

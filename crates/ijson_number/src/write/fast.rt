@@ -12,16 +12,15 @@ ghost use Rattle.ijson_number.specs.private.SplitText.{split_text};
 ghost use Rattle.ijson_number.specs.private.StrippedNumber.{decimal_of};
 ghost use Rattle.ijson_number.specs.private.WordText.{integer_text, pointed_text};
 
-use crate::number::INumber;
-use crate::parse::lanes::LANES;
+use crate::lanes::{
+    LANES, LANES_END, SHORT_END, lanes_of, push_lanes, push_leading_zeros, push_rows, push_short,
+    zeros_in_front,
+};
+use crate::repr::INumber;
 use crate::repr::digits::{MAX_DIGITS, place_of};
 use crate::repr::stored::Stored;
 use crate::repr::stripped::StrippedNumber;
 use crate::write::display::{is_scientific, run_text};
-use crate::write::lanes::{
-    LANES_END, SHORT_END, lanes_of, push_lanes, push_leading_zeros, push_rows, push_short,
-    zeros_in_front,
-};
 use std::alloc::AllocError;
 use std::simd::prelude::*;
 

@@ -1,0 +1,36 @@
+use Rattle.std.proofs.Common.{◌≡◌, ℕ, ◌+◌, ◌*◌, ◌^◌, ◌<◌, List, length, arith}
+use Rattle.std.specs.Int.Digits.{AllBelowBase, number_from_digits}
+use borrow.Author.Lanes.{dot4_Fits}
+use Rattle.ijson_number.specs.declared.lanes.TheConstants.{HUNDREDS, UNITS}
+use Rattle.ijson_number.proofs.parsing.ReadLanes.{lane, row_is}
+use Rattle.ijson_number.proofs.lanes.number_of_lanes.Goals as goal
+
+pub dot4-hundreds : goal.dot4-hundreds
+dot4-hundreds c = (dot4_Fits c.args.digits HUNDREDS c.fits-digits.1 tt, tt)
+
+pub dot4-units : goal.dot4-units
+dot4-units c = (dot4_Fits c.args.digits UNITS c.fits-digits.1 tt, tt)
+
+-- the value of the lanes, from the numbers that were extracted from them
+lanes : (xs : List ℕ) (a b c d : ℕ) → length xs ≡ 16 → AllBelowBase 10 xs → a ≡ lane xs 0 → b ≡ lane xs 1 → c ≡ lane xs 2 → d ≡ lane xs 3
+    → ((a * 10000 + b) * 100000000 + (c * 10000 + d) < 10 ^ 16) × ((a * 10000 + b) * 100000000 + (c * 10000 + d) ≡ number_from_digits 10 xs)
+lanes xs a b c d long digits la lb lc ld =
+    let r = row_is xs long digits in
+    let below : (a * 10000 + b) * 100000000 + (c * 10000 + d) < 10 ^ 16 = omega (arith, r.0, r.1, r.2, r.3, la, lb, lc, ld) in
+    (below, rw (la, lb, lc, ld) r.4)
+
+pub overflow_mul-result : goal.overflow_mul-result
+overflow_mul-result c =
+    let r =
+    lanes c.args.digits _ _ _ _ c.requires.all c.requires.digits c.from.ensures c.from-2.ensures c.from-3.ensures c.from-4.ensures in
+    omega (arith, r.0)
+
+pub overflow_add-result : goal.overflow_add-result
+overflow_add-result c =
+    let r =
+    lanes c.args.digits _ _ _ _ c.requires.all c.requires.digits c.from.ensures c.from-2.ensures c.from-3.ensures c.from-4.ensures in
+    omega (arith, r.0)
+
+pub returns : goal.returns
+returns c =
+    (lanes c.args.digits _ _ _ _ c.requires.all c.requires.digits c.from.ensures c.from-2.ensures c.from-3.ensures c.from-4.ensures).1

@@ -1,0 +1,112 @@
+use Rattle.std.proofs.Common.{◌≡◌, ◌^◌, ◌<◌, ◌∙◌, Bool, false, true, List, length, ℕ, ℤ, inl, inr, ap, sym, refl, string_bytes, rules, arith}
+use Rattle.std.specs.Prelude.{nat_abs, FitsSigned}
+use Rattle.std.proofs.lemmas.Int.{to_z-of_z}
+use mir.Syntax.{w64}
+use Rattle.ijson_number.specs.Decimal.{Decimal}
+use Rattle.ijson_number.specs.Form.{form_of, is_digits}
+use Rattle.ijson_number.specs.FormNumber.{form_number}
+use Rattle.ijson_number.specs.Num.{Num}
+use Rattle.ijson_number.specs.StoredNumber.{stored_number}
+use Rattle.ijson_number.specs.StrippedDigits.{stripped_digits}
+use Rattle.ijson_number.specs.declared.repr.stored.ShortNumber.{ShortNumber}
+use Rattle.ijson_number.specs.private.RowText.{IsRowText, IsShortInRows}
+use Rattle.ijson_number.specs.private.ShortDigits.{short_digits}
+use Rattle.ijson_number.specs.private.Stored.{short_form, stored_decimal, stored_form}
+use Rattle.ijson_number.specs.private.Stripped.{IsStripped}
+use Rattle.ijson_number.specs.private.StrippedNumber.{decimal_of}
+use Rattle.ijson_number.specs.private.WordText.{integer_text}
+use Rattle.ijson_number.specs.Text.{num_text}
+use Rattle.ijson_number.proofs.storing.DigitsOf.{stored_digits_are}
+use Rattle.ijson_number.proofs.writing.Beginnings.{pushed, pushed_true}
+use Rattle.ijson_number.proofs.writing.WordTexts.{integer_shown, packed_integer, unsigned_shown}
+use Rattle.ijson_number.proofs.repr.INumber.push_fast.Goals as goal
+use Rattle.ijson_number.proofs.repr.INumber.push_fast.Goals.{After-push_integer, in-I64, in-Packed+else-point, in-U64}
+
+pub push_pointed-requires-clause-small : goal.push_pointed-requires-clause-small
+push_pointed-requires-clause-small c =
+    let m = c.mantissa-mantissa in
+    let fits : FitsSigned w64 m.result = search rules in
+    rw (to_z-of_z w64 m.result fits) m.ensures.small
+
+pub push_digits-requires-clause-lanes : goal.push_digits-requires-clause-lanes
+push_digits-requires-clause-lanes c =
+    let n = c.stripped.result in
+    let digits : n.digits.now ≡ short_digits c.deref-in-Short.result.now.digits = c.stripped.ensures.digits
+    ∙ ap (λ (x : ShortNumber). short_digits x.digits) (c.deref.ensures ∙ sym c.deref-in-Short.ensures) in
+    rw digits (c.lanes.ensures.lanes (rw (← digits) n.stripped.stripped.below_ten))
+
+-- an integer is appended, whatever stores it
+shown : (c : After-push_integer) → integer_text c.match-self.negative.0 c.match-self.negative.1 ≡ num_text c.args.self.now.decimal
+shown c =
+    let view = sym (ap (λ (x : Num). x.decimal) c.self.view_is) in
+    elim c.match-self.branch [
+      | in-Packed+else-point w ↦ (
+          let m = w.mantissa-mantissa in
+          let fits : FitsSigned w64 m.result = search rules in
+          let exact = to_z-of_z w64 m.result fits ∙ m.ensures.value in
+          let n = w.unsigned_abs in
+          rw w.negative-is (integer_shown c.args.self.now.decimal _ _ n.result _
+          (view ∙ ap stored_decimal w.in-Packed.is ∙ packed_integer w.in-Packed.word.bits (sym w.point.ensures ∙ w.if-point.false)) exact
+          (n.ensures.value ∙ ap nat_abs exact) n.type_inv refl)
+          )
+      | in-I64 w ↦ (
+          let v = w.in-I64.value in
+          let fits : FitsSigned w64 v = search rules in
+          let exact = to_z-of_z w64 v fits in
+          let n = w.unsigned_abs-in-I64 in
+          rw w.negative-is (integer_shown c.args.self.now.decimal v _ n.result _ (view ∙ ap stored_decimal w.in-I64.is) exact
+          (n.ensures.value ∙ ap nat_abs exact) n.type_inv refl)
+          )
+      | in-U64 w ↦ (
+          let word : w.in-U64.value < 2 ^ 64 = search rules in
+          rw w.negative-is (unsigned_shown c.args.self.now.decimal w.in-U64.value _ (view ∙ ap stored_decimal w.in-U64.is) word refl)
+          )
+    ]
+
+pub returns : goal.returns
+returns c =
+    let text = shown (goal.at.returns c).After-push_integer in
+    record {
+      pushed = pushed _ _ c.done.ensures.ok c.done.ensures.err (string_bytes c.args.out.now) (string_bytes c.push_integer.new.out) _ _
+          c.push_integer.ensures text;
+      rows = λ _. pushed_true _ _ c.done.ensures.ok c.done.ensures.err;
+    }
+
+-- a number that is stored by its digits, if vectors write it
+module _ (n : Decimal) (negative : Bool) (digits : List ℕ) (exponent : ℤ) (point : Bool) (stripped : IsStripped digits)
+    (is : n ≡ stored_number negative digits exponent point) (kept : is_digits (form_of n) ≡ true) where
+  by_digits : IsRowText n → IsShortInRows n
+  by_digits (inl integer) = absurd (let none : false ≡ true = sym integer.in_word ∙ kept in cc)
+  by_digits (inr (inl packed)) = absurd (let none : false ≡ true = sym (ap is_digits packed.form) ∙ kept in cc)
+  by_digits (inr (inr short)) = short
+
+  count : length (stripped_digits n) ≡ length digits
+  count = rw is (ap length (stored_digits_are negative digits exponent point stripped))
+
+-- the digits that are passed are those of the number
+pub returns-in-Short-clause-rows : goal.returns-in-Short-clause-rows
+returns-in-Short-clause-rows c row =
+    let n = c.stripped.result in
+    let is : c.args.self.now.decimal ≡ decimal_of n = sym (ap (λ (x : Num). x.decimal) c.self.view_is) ∙ ap stored_decimal c.in-Short.is
+    ∙ ap (λ (x : ShortNumber). form_number (short_form x)) (sym c.deref.ensures) ∙ sym c.stripped.ensures.number in
+    let kept : is_digits (form_of c.args.self.now.decimal) ≡ true = ap (λ (x : Num). is_digits (form_of x.decimal)) (sym c.self.view_is)
+    ∙ ap is_digits c.self.invariant ∙ ap (λ s. is_digits (stored_form s)) c.in-Short.is in
+    let short = by_digits c.args.self.now.decimal n.negative n.digits.now n.exponent n.point n.stripped.stripped is kept row in
+    let many = count c.args.self.now.decimal n.negative n.digits.now n.exponent n.point n.stripped.stripped is kept in
+    c.push_digits.ensures.rows (rw is at short.pointed) (rw (many, is) at short.rows)
+
+pub returns-in-Long-clause-pushed : goal.returns-in-Long-clause-pushed
+returns-in-Long-clause-pushed c = refl
+
+-- such a number has more digits or a larger exponent
+pub returns-in-Long-clause-rows : goal.returns-in-Long-clause-rows
+returns-in-Long-clause-rows c row =
+    let n = c.in-Long.field-0.value in
+    let is : c.args.self.now.decimal ≡ stored_number n.negative n.digits.items n.exponent n.point =
+    sym (ap (λ (x : Num). x.decimal) c.self.view_is) ∙ ap stored_decimal c.in-Long.is in
+    let kept : is_digits (form_of c.args.self.now.decimal) ≡ true = ap (λ (x : Num). is_digits (form_of x.decimal)) (sym c.self.view_is)
+    ∙ ap is_digits c.self.invariant ∙ ap (λ s. is_digits (stored_form s)) c.in-Long.is in
+    let short = by_digits c.args.self.now.decimal n.negative n.digits.items n.exponent n.point n.stripped.stripped is kept row in
+    let same = count c.args.self.now.decimal n.negative n.digits.items n.exponent n.point n.stripped.stripped is kept in
+    let many : 19 < length n.digits.items = n.many (rw is at short.small) in
+    absurd (let none : ⊥ = omega (arith, many, same, short.few) in none)

@@ -1,0 +1,52 @@
+use Rattle.std.proofs.Common.{◌∙◌, ap, sym, rules}
+use Rattle.ijson_number.specs.Num.{Num}
+use Rattle.ijson_number.specs.declared.repr.stored.LongNumber.{LongNumber}
+use Rattle.ijson_number.specs.declared.repr.stored.ShortNumber.{ShortNumber}
+use Rattle.ijson_number.specs.FormNumber.{form_number}
+use Rattle.ijson_number.specs.private.Stored.{long_form, short_form, stored_decimal}
+use Rattle.ijson_number.proofs.comparing.DigitOrder.{row_digits}
+use Rattle.ijson_number.proofs.repr.INumber.push_stripped_digits.Goals as goal
+
+pub returns-in-Short : goal.returns-in-Short
+returns-in-Short c =
+    let n = c.stripped.result in
+    let view = c.stripped.ensures.number ∙ ap (λ (x : ShortNumber). form_number (short_form x)) c.deref.ensures
+    ∙ sym (ap stored_decimal c.in-Short.is) ∙ ap (λ (x : Num). x.decimal) c.self.view_is in
+    rw (← row_digits n.negative n.digits.now n.exponent n.point c.args.self.now.decimal view n.stripped)
+    (record { digits = c.push_row.ensures.written; exponent = search rules; refused = c.push_row.ensures.refused })
+
+pub returns-in-Long : goal.returns-in-Long
+returns-in-Long c =
+    let n = c.stripped-in-Long.result in
+    let view = c.stripped-in-Long.ensures ∙ ap (λ (x : LongNumber). form_number (long_form x)) c.deref-in-Long.ensures
+    ∙ sym (ap stored_decimal c.in-Long.is) ∙ ap (λ (x : Num). x.decimal) c.self.view_is in
+    rw (← row_digits n.negative n.digits.now n.exponent n.point c.args.self.now.decimal view n.stripped)
+    (record { digits = c.push_runs.ensures.written; exponent = search rules; refused = c.push_runs.ensures.refused })
+
+-- given for speed: the default tactics take longer
+pub returns-in-Packed-clause-digits : goal.returns-in-Packed-clause-digits
+returns-in-Packed-clause-digits c = search rules
+
+pub returns-in-Packed-clause-exponent : goal.returns-in-Packed-clause-exponent
+returns-in-Packed-clause-exponent c = search rules
+
+pub returns-in-Packed-clause-refused : goal.returns-in-Packed-clause-refused
+returns-in-Packed-clause-refused c = search rules
+
+pub returns-in-I64-clause-digits : goal.returns-in-I64-clause-digits
+returns-in-I64-clause-digits c = search rules
+
+pub returns-in-I64-clause-exponent : goal.returns-in-I64-clause-exponent
+returns-in-I64-clause-exponent c = search rules
+
+pub returns-in-I64-clause-refused : goal.returns-in-I64-clause-refused
+returns-in-I64-clause-refused c = search rules
+
+pub returns-in-U64-clause-digits : goal.returns-in-U64-clause-digits
+returns-in-U64-clause-digits c = search rules
+
+pub returns-in-U64-clause-exponent : goal.returns-in-U64-clause-exponent
+returns-in-U64-clause-exponent c = search rules
+
+pub returns-in-U64-clause-refused : goal.returns-in-U64-clause-refused
+returns-in-U64-clause-refused c = search rules

@@ -1,2 +1,0 @@
-//! Vectors.
-pub(crate) mod lanes;
