@@ -7,8 +7,8 @@ use Rattle.ijson_number.proofs.comparison.compare_digits.Given as goal
 -- the digits so far are equal
 abbrev pub invariant-loop-at : goal.invariant-loop-at
 invariant-loop-at g l = record {
+  looks : l.looks ≡ l.initial.looks + 2 * l.at;
   same : slice_cmp nat_cmp (stripped_digits (g.D.DigitRow.num l.a).decimal) (stripped_digits (g.D.DigitRow.num l.b).decimal)
       ≡ slice_cmp nat_cmp (drop l.at (stripped_digits (g.D.DigitRow.num l.a).decimal))
       (drop l.at (stripped_digits (g.D.DigitRow.num l.b).decimal));
-  looks : l.looks ≡ l.initial.looks + 2 * l.at;
 }

@@ -1,4 +1,4 @@
-use Rattle.std.proofs.Common.{◌≡◌, ◌/◌, ◌%◌, ◌^◌, ◌∷◌, ◌++◌, ◌-◌, ◌<◌, ◌≤◌, ℕ, Bool, List, drop, length, take, append_assoc, refl, arith}
+use Rattle.std.proofs.Common.{◌≡◌, ◌/◌, ◌%◌, ◌^◌, ◌∷◌, ◌++◌, ◌-◌, ◌<◌, ◌≤◌, ℕ, Bool, List, drop, length, min, take, append_assoc, refl, arith}
 use Rattle.std.proofs.lemmas.Str.{IsAscii-drop}
 use Rattle.std.specs.Fmt.{decimal}
 use Rattle.std.specs.Str.{IsAscii}
@@ -38,9 +38,10 @@ returns-then-magnitude-lt-LANES_END c =
     let a = c.args in
     let lanes = c.lanes_of-lanes in
     let small : a.magnitude < 10 ^ 16 = omega (arith, c.if-magnitude-lt-LANES_END.true) in
+    let start : c.min-start.result ≡ min c.zeros_in_front.result (16 - a.scale - 1) = omega arith in
     all_or_none _ _ _ _ (rw (
       ← front_is a.magnitude a.scale small c.requires.few lanes.result lanes.ensures c.zeros_in_front.result c.zeros_in_front.ensures
-          c.min-start.result c.min-start.ensures,
+          c.min-start.result start,
       ← behind_point a.magnitude a.scale c.requires.few,
       ← lanes.ensures,
     ) c.push_rows.ensures.written) c.push_rows.ensures.refused

@@ -1,14 +1,14 @@
-use Rattle.std.proofs.Common.{◌≡◌, ◌≢◌, ◌%◌, ◌-◌, ◌<◌, ◌^◌, ◌++◌, ◌∙◌, ap, sym, rules, append-nil}
+use Rattle.std.proofs.Common.{◌≡◌, ◌≢◌, ◌%◌, ◌-◌, ◌<◌, ◌^◌, ◌++◌, ◌∙◌, ap, sym, arith, rules, append-nil}
 use Rattle.std.specs.Prelude.{pos, true, FitsSigned}
 use Rattle.std.specs.Fmt.{decimal}
 use Rattle.std.specs.String.{string_bytes}
-use Rattle.std.proofs.lemmas.Int.{to_z-of_z}
+use Rattle.std.proofs.lemmas.Int.{ints, to_z-of_z}
 use mir.Syntax.{w8}
 use Rattle.ijson_number.specs.Stripped.{stripped_number}
 use Rattle.ijson_number.specs.StrippedDigits.{stripped_digits}
 use Rattle.ijson_number.specs.Text.{digits_text}
 use Rattle.ijson_number.proofs.AnyAnswer.{where_refused}
-use Rattle.ijson_number.proofs.storing.ZerosOff.{exact_sum, few, last}
+use Rattle.ijson_number.proofs.storing.ZerosOff.{few, last}
 use Rattle.ijson_number.proofs.writing.Beginnings.{begun_as}
 use Rattle.ijson_number.proofs.writing.StrippedTexts.{digits_shown, exponent_shown, none_shown}
 use Rattle.ijson_number.proofs.write.stripped_digits.push_significand.Goals as goal
@@ -52,6 +52,7 @@ returns-clause-exponent c =
     let word : a.magnitude < 2 ^ 64 = search rules in
     let fits : FitsSigned w8 a.exponent = search rules in
     let stripped = last_digit (goal.at.returns-clause-exponent c).After-without_zeros-stripped in
-    exact_sum a.exponent c.from.result (20 - s.result.1) (c.from.ensures ∙ to_z-of_z w8 a.exponent fits) (search rules)
-    (few a.magnitude s.result.0 s.result.1 some word s.ensures.tens)
-    ∙ sym (exponent_shown a.magnitude s.result.0 (20 - s.result.1) some word s.ensures.tens stripped a.exponent true)
+    let tens = few a.magnitude s.result.0 s.result.1 some word s.ensures.tens in
+    let from = c.from.ensures ∙ to_z-of_z w8 a.exponent fits in
+    rw (exponent_shown a.magnitude s.result.0 (20 - s.result.1) some word s.ensures.tens stripped a.exponent true)
+    (omega (arith, ints, from))

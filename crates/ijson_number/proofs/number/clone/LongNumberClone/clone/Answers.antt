@@ -1,4 +1,4 @@
-use Rattle.std.proofs.Common.{◌≡◌, ◌∙◌, ℕ, refl, rules}
+use Rattle.std.proofs.Common.{◌≡◌, ◌∙◌, ℕ, rules}
 use Rattle.std.specs.Prelude.{FitsSigned}
 use Rattle.std.proofs.lemmas.Int.{to_z-of_z}
 use Rattle.std.proofs.lemmas.List.{map-id}
@@ -17,10 +17,10 @@ invariant_of-result c =
     let n = c.args.self.now in
     let fits : FitsSigned w32 n.exponent = search rules in
     let same = same_digits (goal.at.invariant_of-result c).In_ok-digits in
-    record { stripped = rw same n.stripped; many = rw (same, to_z-of_z w32 n.exponent fits) n.many }
+    record { stripped = rw same (search rules); many = rw (same, to_z-of_z w32 n.exponent fits) n.many }
 
 pub returns : goal.returns
 returns c =
     let n = c.args.self.now in
     let fits : FitsSigned w32 n.exponent = search rules in
-    record { cases = rw (same_digits (goal.at.returns c).In_ok-digits, to_z-of_z w32 n.exponent fits) refl }
+    record { cases = rw (same_digits (goal.at.returns c).In_ok-digits, to_z-of_z w32 n.exponent fits) (cc) }

@@ -1,8 +1,7 @@
-use Rattle.std.proofs.Common.{◌≡◌, ◌∙◌, ap, sym, rules}
+use Rattle.std.proofs.Common.{◌≡◌, ◌∙◌, ap, sym, arith, rules}
 use Rattle.std.specs.Prelude.{FitsSigned}
-use Rattle.std.proofs.lemmas.Int.{to_z-of_z}
+use Rattle.std.proofs.lemmas.Int.{ints}
 use mir.Syntax.{w32}
-use mir.Val.{to_z, of_z}
 use Rattle.std.specs.Ordering.{is_eq}
 use Rattle.ijson_number.specs.Decimal.{Decimal}
 use Rattle.ijson_number.specs.Num.{Num}
@@ -24,7 +23,7 @@ returns-then-a-b c =
       | then-a-b-via-else-a-b+then-a-b-2 w ↦
           exponents_tell x.negative y.negative x.digits.now y.digits.now x.exponent y.exponent x.point y.point c.args.self.now.decimal
           c.args.other.now.decimal c.stripped-a.ensures c.stripped-b.ensures x.num y.num x.stripped y.stripped
-          (λ e. w.if-a-b-2.true (ap (of_z w32) e))
+          (λ e. w.if-a-b-2.true (cc))
     ]
 
 pub returns : goal.returns
@@ -33,7 +32,7 @@ returns c =
     let y = c.stripped-b.result in
     let f : FitsSigned w32 x.exponent = search rules in
     let g : FitsSigned w32 y.exponent = search rules in
-    let same : x.exponent ≡ y.exponent = sym (to_z-of_z w32 x.exponent f) ∙ ap (to_z w32) c.if-a-b-2.false ∙ to_z-of_z w32 y.exponent g in
+    let same : x.exponent ≡ y.exponent = omega (arith, ints, c.if-a-b-2.false) in
     digits_tell x.negative y.negative x.digits.now y.digits.now x.exponent y.exponent x.point y.point c.args.self.now.decimal
     c.args.other.now.decimal c.stripped-a.ensures c.stripped-b.ensures x.num y.num x.stripped y.stripped c.eq.result
     (same_signs x.negative y.negative c.if-a-b.false) same c.eq.ensures
