@@ -1,6 +1,6 @@
 -- Comparing lists of digits.
 use Rattle.std.proofs.Common.{◌≡◌, ◌≢◌, ℕ, zero, suc, ◌+◌, ◌<◌, min, Bool, List, [], ◌∷◌, length}
-use Rattle.std.proofs.Common.{get_or, drop, refl, ap, sym, subst, ◌∙◌, arith}
+use Rattle.std.proofs.Common.{get_or, drop, add-one, refl, ap, sym, subst, ◌∙◌, arith}
 use Rattle.std.specs.Prelude.{ℤ, pos, nat_abs}
 use Rattle.std.specs.Int.Digits.{number_from_digits, digits_of}
 use Rattle.std.specs.Cmp.Lexicographic.{slice_cmp}
@@ -8,7 +8,7 @@ use Rattle.std.specs.declared.cmp.Ordering.{Ordering}
 use Rattle.std.specs.Ordering.{nat_cmp, ordering_then}
 use Rattle.std.proofs.Math.Seq.{drop-cons}
 use Rattle.std.proofs.lemmas.Bool.Decides.{nat_tests}
-use Rattle.std.proofs.lemmas.Int.Digits.{number_digits_of}
+use Rattle.std.proofs.lemmas.List.{drop_all}
 use Rattle.std.specs.Cmp.{nat_cmp_total, tied_itself}
 use Rattle.ijson_number.specs.Decimal.{Decimal, IsPlain}
 use Rattle.ijson_number.specs.StoredNumber.{stored_number}
@@ -17,40 +17,25 @@ use Rattle.ijson_number.specs.private.Stripped.{IsStripped}
 use Rattle.ijson_number.specs.StrippedDigits.{stripped_digits}
 use Rattle.ijson_number.proofs.storing.DigitsOf.{digits_are, stored_digits_are}
 use Rattle.ijson_number.proofs.BooleanTests.{abs_zero}
+use Rattle.ijson_number.proofs.writing.DigitTexts.{first_some, within_first}
 use Rattle.ijson_number.proofs.storing.WholeValues.{whole_stripped}
 use Rattle.ijson_number.proofs.comparing.MagnitudeOrder.{nat_below, nat_above}
-
--- comparing digits from an index on
-from_place : (ds es : List ℕ) (i : ℕ) → i < length ds → i < length es
-    → slice_cmp nat_cmp (drop i ds) (drop i es) ≡ ordering_then (nat_cmp (get_or ds i 0) (get_or es i 0))
-    (slice_cmp nat_cmp (drop (i + 1) ds) (drop (i + 1) es))
-from_place ds es i h g =
-    let next : suc i ≡ i + 1 = omega arith in
-    rw (← next, drop-cons ds i 0, drop-cons es i 0) refl
-
-then_same : (x y : ℕ) (o : Ordering) → x ≡ y → ordering_then (nat_cmp x y) o ≡ o
-then_same x y o e = rw (e, tied_itself nat_cmp_total y) refl
 
 -- equal digits decide nothing
 pub same_digit : (ds es : List ℕ) (i x y : ℕ) → i < length ds → i < length es → x ≡ get_or ds i 0 → y ≡ get_or es i 0 → x ≡ y
     → slice_cmp nat_cmp (drop i ds) (drop i es) ≡ slice_cmp nat_cmp (drop (i + 1) ds) (drop (i + 1) es)
-same_digit ds es i x y h g p q e = from_place ds es i h g
-    ∙ then_same (get_or ds i 0) (get_or es i 0) (slice_cmp nat_cmp (drop (i + 1) ds) (drop (i + 1) es)) (cc)
+same_digit ds es i x y h g p q e =
+    let digit : get_or ds i 0 ≡ get_or es i 0 = cc in
+    rw (add-one, drop-cons ds i 0, drop-cons es i 0, digit, tied_itself nat_cmp_total (get_or es i 0)) refl
 
 -- at the end of the shorter list, the lengths decide
 pub row_ends : (ds es : List ℕ) (i : ℕ) → i ≡ min (length ds) (length es)
     → slice_cmp nat_cmp (drop i ds) (drop i es) ≡ nat_cmp (length ds) (length es)
-row_ends [] [] zero h = sym (tied_itself nat_cmp_total 0)
-row_ends [] [] (suc i) h = sym (tied_itself nat_cmp_total 0)
-row_ends [] (y ∷ es) zero h = sym (nat_below 0 (length (y ∷ es)) (omega arith))
-row_ends [] (y ∷ es) (suc i) h = absurd (omega arith)
-row_ends (x ∷ ds) [] zero h = sym (nat_above (length (x ∷ ds)) 0 (omega arith))
-row_ends (x ∷ ds) [] (suc i) h = absurd (omega arith)
+row_ends [] [] i h = rw (drop_all {X = ℕ} i [] (omega arith)) refl
+row_ends [] (y ∷ es) i h = let at : i ≡ 0 = omega arith in rw at (sym (nat_below 0 (length (y ∷ es)) (omega arith)))
+row_ends (x ∷ ds) [] i h = let at : i ≡ 0 = omega arith in rw at (sym (nat_above (length (x ∷ ds)) 0 (omega arith)))
 row_ends (x ∷ ds) (y ∷ es) zero h = absurd (omega arith)
-row_ends (x ∷ ds) (y ∷ es) (suc i) h = row_ends ds es i (omega arith) ∙ both_longer (length ds) (length es)
-  where
-    both_longer : (a b : ℕ) → nat_cmp a b ≡ nat_cmp (suc a) (suc b)
-    both_longer a b = grind (arith, nat_tests)
+row_ends (x ∷ ds) (y ∷ es) (suc i) h = row_ends ds es i (omega arith) ∙ grind (arith, nat_tests)
 
 module _ (n : Decimal) (plain : IsPlain n) where
   digits_is : stripped_digits n ≡ digits_of 10 (nat_abs n.mantissa)
@@ -58,13 +43,8 @@ module _ (n : Decimal) (plain : IsPlain n) where
 
   -- the canonical digits of a number that is not zero
   pub some_digits : n.mantissa ≢ pos 0 → 0 < length (stripped_digits n)
-  some_digits some = not_empty (stripped_digits n) refl
-    where
-      not_empty : (ds : List ℕ) → stripped_digits n ≡ ds → 0 < length ds
-      not_empty [] e = absurd (some
-          (abs_zero n.mantissa (sym (number_digits_of 10 (nat_abs n.mantissa) (omega arith))
-          ∙ ap (number_from_digits 10) (sym digits_is ∙ e))))
-      not_empty (d ∷ ds) e = omega arith
+  some_digits some = first_some (stripped_digits n)
+      (within_first (nat_abs n.mantissa) (let apart : nat_abs n.mantissa ≢ 0 = λ z. some (abs_zero n.mantissa z) in omega (arith, apart)))
 
   pub are_stripped : n.mantissa ≢ pos 0 → IsStripped (stripped_digits n)
   are_stripped some = subst IsStripped (sym digits_is) (whole_stripped (nat_abs n.mantissa) (plain.stripped some))

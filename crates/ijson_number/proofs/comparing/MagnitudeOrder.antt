@@ -1,34 +1,26 @@
 -- The order of positive numbers, by leading places and digits.
-use Rattle.std.proofs.Common.{◌≡◌, ◌≢◌, ◌⊎◌, ℕ, zero, suc, ◌+◌, ◌-◌, ◌*◌, ◌^◌, ◌<◌, ◌≤◌, List, [], ◌∷◌}
-use Rattle.std.proofs.Common.{length, get_or, refl, ap, sym, ◌∙◌, inl, inr, arith, pow-add}
-use Rattle.std.specs.Prelude.{ℤ, pos, nat_abs, int_lt, ◌+ℤ◌, ◌-ℤ◌, ◌<ℤ◌, ◌≤ℤ◌, Bool, false, true}
+use Rattle.std.proofs.Common.{◌≡◌, ◌≢◌, ℕ, zero, suc, ◌+◌, ◌-◌, ◌*◌, ◌^◌, ◌<◌, ◌≤◌, List, [], ◌∷◌}
+use Rattle.std.proofs.Common.{length, get_or, refl, ap, sym, ◌∙◌, arith, pow-add}
+use Rattle.std.specs.Prelude.{ℤ, pos, nat_abs, ◌+ℤ◌, ◌-ℤ◌, ◌<ℤ◌, ◌≤ℤ◌, false, true}
 use Rattle.std.specs.Int.{int_min}
 use Rattle.std.specs.Int.Digits.{number_from_digits, number_from_digits_after}
 use Rattle.std.specs.List.{AllByRecursion}
 use Rattle.std.specs.Cmp.Lexicographic.{slice_cmp}
+use Rattle.std.specs.declared.cmp.Ordering.{Ordering}
 use Rattle.std.specs.declared.cmp.Ordering.TheVariants.{Less, Equal, Greater}
-use Rattle.std.specs.Ordering.{nat_cmp, int_cmp}
+use Rattle.std.specs.Ordering.{nat_cmp, int_cmp, ordering_then}
 use Rattle.std.proofs.Math.Nat.{mul-le-mul_right, pow-succ'}
-use Rattle.std.proofs.lemmas.Bool.{cases_lt, cases_eq}
 use Rattle.std.proofs.lemmas.Bool.Decides.{nat_tests}
+use Rattle.std.proofs.lemmas.Cmp.{by_ranked, int_ranked, ranked}
 use Rattle.std.proofs.lemmas.Int.{ints, clamps}
 use Rattle.std.proofs.lemmas.Int.Digits.{number_lt}
 use Rattle.std.proofs.lemmas.List.Elements.{recursion_from_All}
-use Rattle.std.specs.Cmp.{nat_cmp_total, tied_itself}
 use Rattle.ijson_number.specs.StoredNumber.{stored_number}
 use Rattle.ijson_number.specs.Order.{number_cmp}
 use Rattle.ijson_number.specs.private.Stripped.{IsStripped}
-use Rattle.ijson_number.specs.laws.Tens.{ten_pos, power_le}
+use Rattle.ijson_number.specs.laws.Tens.{power_le}
 use Rattle.ijson_number.specs.laws.Ordered.{nonneg}
-
-pub below_cmp : (x y : ℕ) → x < y → int_cmp (pos x) (pos y) ≡ Less
-below_cmp x y h = grind (arith, nat_tests)
-
-pub above_cmp : (x y : ℕ) → y < x → int_cmp (pos x) (pos y) ≡ Greater
-above_cmp x y h = grind (arith, nat_tests)
-
-pub same_cmp : (x : ℕ) → int_cmp (pos x) (pos x) ≡ Equal
-same_cmp x = grind (arith, nat_tests)
+use Rattle.ijson_number.proofs.writing.PaddedDigits.{some_places}
 
 pub nat_below : (x y : ℕ) → x < y → nat_cmp x y ≡ Less
 nat_below x y h = grind (arith, nat_tests)
@@ -36,25 +28,17 @@ nat_below x y h = grind (arith, nat_tests)
 pub nat_above : (x y : ℕ) → y < x → nat_cmp x y ≡ Greater
 nat_above x y h = grind (arith, nat_tests)
 
-data Rank (x y : ℕ) : Type 0 where
-  below : x < y → Rank x y
-  same : x ≡ y → Rank x y
-  above : y < x → Rank x y
+pub int_below : (x y : ℤ) → x <ℤ y → int_cmp x y ≡ Less
+int_below x y h = grind (arith, ints)
 
-rank : (x y : ℕ) → Rank x y
-rank x y = elim (cases_lt x y) [ inl l ↦ below l | inr g ↦ (elim (cases_eq x y) [ inl e ↦ same e | inr n ↦ above (omega arith) ]) ]
+pub int_above : (x y : ℤ) → y <ℤ x → int_cmp x y ≡ Greater
+int_above x y h = grind (arith, ints)
 
-below_times : (a b c : ℕ) → a < b → 0 < c → a * c < b * c
-below_times a b c h g = let m : suc a * c ≤ b * c = mul-le-mul_right c h in grind (arith, m)
+pub same_int_cmp : (x : ℤ) → int_cmp x x ≡ Equal
+same_int_cmp x = grind (arith, ints)
 
--- adding a constant to both keeps the order
-shifted_cmp : (p x y : ℕ) → int_cmp (pos (p + x)) (pos (p + y)) ≡ int_cmp (pos x) (pos y)
-shifted_cmp p x y =
-    elim (rank x y) [
-      | below l ↦ below_cmp (p + x) (p + y) (omega arith) ∙ sym (below_cmp x y l)
-      | same e ↦ rw e (same_cmp (p + y) ∙ sym (same_cmp y))
-      | above g ↦ above_cmp (p + x) (p + y) (omega arith) ∙ sym (above_cmp x y g)
-    ]
+pos_cmp : (x y : ℕ) → int_cmp (pos x) (pos y) ≡ nat_cmp x y
+pos_cmp x y = grind (arith, nat_tests)
 
 spread : (n d p v : ℕ) → (n * 10 + d) * p + v ≡ n * (10 * p) + (d * p + v)
 spread n d p v = grind arith
@@ -78,71 +62,45 @@ Below ds = AllByRecursion (λ d. d < 10) ds
 
 -- the last digit is not 0, if there is one
 abbrev LastSome : List ℕ → Type 0
-LastSome [] = Unit {0}
-LastSome (d ∷ []) = d ≢ 0
-LastSome (d ∷ c ∷ ds) = LastSome (c ∷ ds)
+LastSome ds = 0 < length ds → get_or ds (length ds - 1) 0 ≢ 0
 
 last_rest : (d : ℕ) (ds : List ℕ) → LastSome (d ∷ ds) → LastSome ds
-last_rest d [] h = tt
-last_rest d (c ∷ ds) h = h
-
-last_from : (ds : List ℕ) → (0 < length ds → get_or ds (length ds - 1) 0 ≢ 0) → LastSome ds
-last_from [] h = tt
-last_from (d ∷ []) h = h (omega arith)
-last_from (d ∷ c ∷ ds) h =
-    let e : length (d ∷ c ∷ ds) - 1 ≡ suc (length (c ∷ ds) - 1) = omega arith in
-    last_from (c ∷ ds) (λ l. rw e at (h (omega arith)))
-
-product_pos : (a b : ℕ) → a ≢ 0 → 0 < b → 0 < a * b
-product_pos zero b n h = absurd (n refl)
-product_pos (suc a) b n h = grind arith
+last_rest d ds h l = let e : length (d ∷ ds) - 1 ≡ suc (length ds - 1) = omega arith in rw e at (h (omega arith))
 
 number_pos : (d : ℕ) (ds : List ℕ) → LastSome (d ∷ ds) → 0 < number_from_digits 10 (d ∷ ds)
-number_pos d [] h = rw (number_first d []) (omega arith)
-number_pos d (c ∷ ds) h = let p = number_pos c ds h in rw (number_first d (c ∷ ds)) (omega arith)
+number_pos d [] h = let n : d ≢ 0 = h (omega arith) in omega arith
+number_pos d (c ∷ ds) h = let p = number_pos c ds (last_rest d (c ∷ ds) h) in rw (number_first d (c ∷ ds)) (omega arith)
 
 scaled_first : (d : ℕ) (ds : List ℕ) (j : ℕ)
     → number_from_digits 10 (d ∷ ds) * 10 ^ j ≡ d * 10 ^ (length ds + j) + number_from_digits 10 ds * 10 ^ j
 scaled_first d ds j = rw (number_first d ds, pow-add 10 (length ds) j) (grind arith)
 
 pub scaled_below : (ds : List ℕ) (j : ℕ) → Below ds → number_from_digits 10 ds * 10 ^ j < 10 ^ (length ds + j)
-scaled_below ds j h = rw (pow-add 10 (length ds) j)
-    (below_times (number_from_digits 10 ds) (10 ^ length ds) (10 ^ j) (number_lt 10 ds h) (ten_pos j))
+scaled_below ds j h =
+    let m : suc (number_from_digits 10 ds) * 10 ^ j ≤ 10 ^ length ds * 10 ^ j = mul-le-mul_right (10 ^ j) (number_lt 10 ds h) in
+    let some = some_places 1 j (omega arith) in
+    rw (pow-add 10 (length ds) j) (grind (arith, m, some))
 
-first_below : (d x p a b : ℕ) → d < x → a < p → d * p + a < x * p + b
-first_below d x p a b h l = let m : suc d * p ≤ x * p = mul-le-mul_right p h in grind (arith, m)
-
-first_apart : (d x p a b : ℕ) → d < x → a < p → int_cmp (pos (d * p + a)) (pos (x * p + b)) ≡ Less
-first_apart d x p a b h l = below_cmp (d * p + a) (x * p + b) (first_below d x p a b h l)
-
-first_apart_back : (d x p a b : ℕ) → x < d → b < p → int_cmp (pos (d * p + a)) (pos (x * p + b)) ≡ Greater
-first_apart_back d x p a b h l = above_cmp (d * p + a) (x * p + b) (first_below x d p b a h l)
+-- the first digits decide, or if they are equal what follows them
+first_digits : (d x p a b : ℕ) → a < p → b < p → nat_cmp (d * p + a) (x * p + b) ≡ ordering_then (nat_cmp d x) (nat_cmp a b)
+first_digits d x p a b h g = by_ranked _ _ _ (nat_cmp d x) (ranked d x _ refl)
+    (λ e l. let m : suc d * p ≤ x * p = mul-le-mul_right p l in rw e (nat_below (d * p + a) (x * p + b) (grind (arith, m))))
+    (λ e s. rw (e, s) (grind (arith, nat_tests)))
+    (λ e l. let m : suc x * p ≤ d * p = mul-le-mul_right p l in rw e (nat_above (d * p + a) (x * p + b) (grind (arith, m))))
 
 -- digits with the same leading place compare digit by digit
 aligned : (ds es : List ℕ) (j k : ℕ) → Below ds → Below es → LastSome ds → LastSome es → length ds + j ≡ length es + k
-    → int_cmp (pos (number_from_digits 10 ds * 10 ^ j)) (pos (number_from_digits 10 es * 10 ^ k)) ≡ slice_cmp nat_cmp ds es
-aligned [] [] j k p q l m e = let a : 0 * 10 ^ j ≡ 0 = omega arith in let b : 0 * 10 ^ k ≡ 0 = omega arith in rw (a, b) refl
-aligned [] (x ∷ es) j k p q l m e =
-    let a : 0 * 10 ^ j ≡ 0 = omega arith in
-    rw a (below_cmp 0 (number_from_digits 10 (x ∷ es) * 10 ^ k)
-    (let n = number_pos x es m in product_pos (number_from_digits 10 (x ∷ es)) (10 ^ k) (λ z. omega arith) (ten_pos k)))
-aligned (d ∷ ds) [] j k p q l m e =
-    let a : 0 * 10 ^ k ≡ 0 = omega arith in
-    rw a (above_cmp (number_from_digits 10 (d ∷ ds) * 10 ^ j) 0
-    (let n = number_pos d ds l in product_pos (number_from_digits 10 (d ∷ ds)) (10 ^ j) (λ z. omega arith) (ten_pos j)))
+    → nat_cmp (number_from_digits 10 ds * 10 ^ j) (number_from_digits 10 es * 10 ^ k) ≡ slice_cmp nat_cmp ds es
+aligned [] [] j k p q l m e = grind (arith, nat_tests)
+aligned [] (x ∷ es) j k p q l m e = nat_below (0 * 10 ^ j) (number_from_digits 10 (x ∷ es) * 10 ^ k)
+    (let n = some_places _ k (number_pos x es m) in omega arith)
+aligned (d ∷ ds) [] j k p q l m e = nat_above (number_from_digits 10 (d ∷ ds) * 10 ^ j) (0 * 10 ^ k)
+    (let n = some_places _ j (number_pos d ds l) in omega arith)
 aligned (d ∷ ds) (x ∷ es) j k p q l m e =
-    let same_place : length ds + j ≡ length es + k = omega arith in
-    let power = 10 ^ (length es + k) in
-    let a = number_from_digits 10 ds * 10 ^ j in
-    let b = number_from_digits 10 es * 10 ^ k in
-    let a_below : a < power = rw (← same_place) (scaled_below ds j p.1) in
-    let b_below : b < power = scaled_below es k q.1 in
-    rw (scaled_first d ds j, scaled_first x es k, same_place) (elim (rank d x) [
-      | below h ↦ first_apart d x power a b h a_below ∙ rw (nat_below d x h) refl
-      | same h ↦ rw h (shifted_cmp (x * power) a b ∙ aligned ds es j k p.1 q.1 (last_rest d ds l) (last_rest x es m) same_place
-          ∙ rw (tied_itself nat_cmp_total x) refl)
-      | above h ↦ first_apart_back d x power a b h b_below ∙ rw (nat_above d x h) refl
-    ])
+    let place : length ds + j ≡ length es + k = omega arith in
+    rw (scaled_first d ds j, scaled_first x es k, place)
+    (first_digits d x _ _ _ (rw place at (scaled_below ds j p.1)) (scaled_below es k q.1)
+    ∙ ap (ordering_then (nat_cmp d x)) (aligned ds es j k p.1 q.1 (last_rest d ds l) (last_rest x es m) place))
 
 pub above_none : (d : ℕ) → d ≢ 0 → 1 ≤ d
 above_none zero n = absurd (n refl)
@@ -166,30 +124,17 @@ lower_place ds es j k p s n h =
     let d : 10 ^ (length es - 1 + k) ≡ 10 ^ (length es - 1) * 10 ^ k = pow-add 10 (length es - 1) k in
     omega arith
 
-same_sums : (a b j k : ℕ) (e f c : ℤ) → e ≡ c +ℤ pos j → f ≡ c +ℤ pos k → pos a +ℤ e ≡ pos b +ℤ f → a + j ≡ b + k
-same_sums a b j k e f c p q h = omega (arith, ints)
-
-less_sums : (a b j k : ℕ) (e f c : ℤ) → e ≡ c +ℤ pos j → f ≡ c +ℤ pos k → (pos a +ℤ e) <ℤ (pos b +ℤ f) → a + j < b + k
-less_sums a b j k e f c p q h = omega (arith, ints)
-
-int_below : (x y : ℤ) → x <ℤ y → int_cmp x y ≡ Less
-int_below x y h = grind (arith, ints)
-
-int_above : (x y : ℤ) → y <ℤ x → int_cmp x y ≡ Greater
-int_above x y h = grind (arith, ints)
-
-pub same_int_cmp : (x : ℤ) → int_cmp x x ≡ Equal
-same_int_cmp x = grind (arith, ints)
-
-int_apart : (x y : ℤ) → (x ≡ y → ⊥) → (x <ℤ y) ⊎ (y <ℤ x)
-int_apart x y n = test_apart (int_lt x y) refl
-  where
-    test_apart : (t : Bool) → int_lt x y ≡ t → (x <ℤ y) ⊎ (y <ℤ x)
-    test_apart true h = inl (grind (arith, ints))
-    test_apart false h = inr (grind (arith, ints))
-
 pub gap : (e c : ℤ) → c ≤ℤ e → e ≡ c +ℤ pos (nat_abs (e -ℤ c))
 gap e c h = let n = nonneg (e -ℤ c) (omega (arith, ints)) in omega (arith, ints)
+
+places : (a b j k : ℕ) (e f c : ℤ) → e ≡ c +ℤ pos j → f ≡ c +ℤ pos k → nat_cmp (a + j) (b + k) ≡ int_cmp (pos a +ℤ e) (pos b +ℤ f)
+places a b j k e f c p q = by_ranked _ _ _ (nat_cmp (a + j) (b + k)) (ranked (a + j) (b + k) _ refl)
+    (λ o l. o ∙ sym (int_below (pos a +ℤ e) (pos b +ℤ f) (omega (arith, ints))))
+    (λ o s. let same : pos a +ℤ e ≡ pos b +ℤ f = omega (arith, ints) in o ∙ rw same (sym (same_int_cmp (pos b +ℤ f))))
+    (λ o l. o ∙ sym (int_above (pos a +ℤ e) (pos b +ℤ f) (omega (arith, ints))))
+
+then_apart : (x y : ℤ) (o : Ordering) → (x ≡ y → ⊥) → int_cmp x y ≡ ordering_then (int_cmp x y) o
+then_apart x y o n = by_ranked _ _ _ (int_cmp x y) (int_ranked x y _ refl) (λ e l. rw e refl) (λ e s. absurd (n s)) (λ e l. rw e refl)
 
 module _ (ds es : List ℕ) (e f : ℤ) (p : IsStripped ds) (q : IsStripped es) (s : 0 < length ds) (t : 0 < length es) where
   below_left : Below ds
@@ -198,43 +143,28 @@ module _ (ds es : List ℕ) (e f : ℤ) (p : IsStripped ds) (q : IsStripped es) 
   below_right : Below es
   below_right = recursion_from_All (λ d. d < 10) es q.below_ten
 
-  abbrev least : ℤ
-  least = int_min e f
+  by_places : (j k : ℕ) → nat_cmp (number_from_digits 10 ds * 10 ^ j) (number_from_digits 10 es * 10 ^ k)
+      ≡ ordering_then (nat_cmp (length ds + j) (length es + k)) (slice_cmp nat_cmp ds es)
+  by_places j k = by_ranked _ _ _ (nat_cmp (length ds + j) (length es + k)) (ranked (length ds + j) (length es + k) _ refl)
+      (λ o l. rw o (nat_below _ _ (lower_place ds es j k below_left t (q.first t) l)))
+      (λ o h. rw o (aligned ds es j k below_left below_right p.last q.last h))
+      (λ o l. rw o (nat_above _ _ (lower_place es ds k j below_right s (p.first s) l)))
 
-  abbrev left_tens : ℕ
-  left_tens = nat_abs (e -ℤ least)
+  -- the leading places decide, or if they are equal the digits
+  decided : number_cmp (stored_number false ds e true) (stored_number false es f true)
+      ≡ ordering_then (int_cmp (pos (length ds) +ℤ e) (pos (length es) +ℤ f)) (slice_cmp nat_cmp ds es)
+  decided =
+      let c = int_min e f in
+      let j = nat_abs (e -ℤ c) in
+      let k = nat_abs (f -ℤ c) in
+      pos_cmp (number_from_digits 10 ds * 10 ^ j) (number_from_digits 10 es * 10 ^ k) ∙ by_places j k
+      ∙ ap (λ o. ordering_then o (slice_cmp nat_cmp ds es)) (places _ _ _ _ e f c (gap e c (omega (arith, ints, clamps)))
+      (gap f c (omega (arith, ints, clamps))))
 
-  abbrev right_tens : ℕ
-  right_tens = nat_abs (f -ℤ least)
-
-  left_gap : e ≡ least +ℤ pos left_tens
-  left_gap = gap e least (omega (arith, ints, clamps))
-
-  right_gap : f ≡ least +ℤ pos right_tens
-  right_gap = gap f least (omega (arith, ints, clamps))
-
-  -- if the leading places are equal, the digits decide
   pub same_place_cmp : pos (length ds) +ℤ e ≡ pos (length es) +ℤ f
       → number_cmp (stored_number false ds e true) (stored_number false es f true) ≡ slice_cmp nat_cmp ds es
-  same_place_cmp h =
-      aligned ds es left_tens right_tens below_left below_right (last_from ds p.last) (last_from es q.last)
-      (same_sums (length ds) (length es) left_tens right_tens e f least left_gap right_gap h)
-
-  -- otherwise the leading places do
-  pub lower_place_cmp : (pos (length ds) +ℤ e) <ℤ (pos (length es) +ℤ f)
-      → number_cmp (stored_number false ds e true) (stored_number false es f true) ≡ Less
-  lower_place_cmp h = below_cmp _ _ (lower_place ds es left_tens right_tens below_left t (q.first t)
-      (less_sums (length ds) (length es) left_tens right_tens e f least left_gap right_gap h))
-
-  pub upper_place_cmp : (pos (length es) +ℤ f) <ℤ (pos (length ds) +ℤ e)
-      → number_cmp (stored_number false ds e true) (stored_number false es f true) ≡ Greater
-  upper_place_cmp h = above_cmp _ _ (lower_place es ds right_tens left_tens below_right s (p.first s)
-      (less_sums (length es) (length ds) right_tens left_tens f e least right_gap left_gap h))
+  same_place_cmp h = decided ∙ rw (h, same_int_cmp (pos (length es) +ℤ f)) refl
 
   pub places_cmp : (x y : ℤ) → x ≡ pos (length ds) +ℤ e → y ≡ pos (length es) +ℤ f → (x ≡ y → ⊥)
       → int_cmp x y ≡ number_cmp (stored_number false ds e true) (stored_number false es f true)
-  places_cmp x y p q n =
-      elim (int_apart x y n) [
-        | inl h ↦ int_below x y h ∙ sym (lower_place_cmp (rw (p, q) at h))
-        | inr h ↦ int_above x y h ∙ sym (upper_place_cmp (rw (p, q) at h))
-      ]
+  places_cmp x y h g n = then_apart x y (slice_cmp nat_cmp ds es) n ∙ rw (h, g) (sym decided)

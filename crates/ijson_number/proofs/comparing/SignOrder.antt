@@ -16,34 +16,29 @@ use Rattle.ijson_number.proofs.BooleanTests.{not_lt}
 use Rattle.ijson_number.specs.StoredNumber.{stored_number}
 use Rattle.ijson_number.specs.private.StoredNumber.{IsStored}
 use Rattle.ijson_number.specs.Order.{number_cmp, at_exponent}
-use Rattle.ijson_number.specs.laws.Ordered.{rescale, scale_cmp}
+use Rattle.ijson_number.specs.laws.Ordered.{cmp_equal, rescale, scale_cmp}
 use Rattle.ijson_number.specs.Stripped.{stripped_number, tens_out}
 use Rattle.ijson_number.specs.Strips.{signed}
 use Rattle.ijson_number.specs.laws.Tens.{ten_pos, signed_mul}
 use Rattle.ijson_number.proofs.parsing.Denotes.{stripped_mod}
-use Rattle.ijson_number.proofs.comparing.MagnitudeOrder.{below_cmp, above_cmp}
+use Rattle.ijson_number.proofs.comparing.MagnitudeOrder.{int_below, int_above}
 use Rattle.ijson_number.proofs.storing.FormNumbers.{digits_case, tens_out_is}
 use Rattle.ijson_number.proofs.storing.IntegerWords.{zero_is as no_digits}
-
-below_zero_cmp : (v : ℕ) → 0 < v → int_cmp (neg_ℤ (pos v)) (pos 0) ≡ Less
-below_zero_cmp zero h = absurd (omega arith)
-below_zero_cmp (suc v) h = refl
 
 -- digits with a minus are negative
 pub sign_below : (negative : Bool) (ds : List ℕ) → negative ≡ true → IsStored negative ds → 0 < length ds
     → int_cmp (signed negative (number_from_digits 10 ds)) (pos 0) ≡ Less
-sign_below negative ds is k h = let n = stripped_mod ds k.stripped h in rw is (below_zero_cmp (number_from_digits 10 ds) (omega (arith, n)))
+sign_below negative ds is k h = let n = stripped_mod ds k.stripped h in
+    rw is (int_below (neg_ℤ (pos (number_from_digits 10 ds))) (pos 0) (omega (arith, ints, n)))
 
 -- and positive without
 pub sign_above : (negative : Bool) (ds : List ℕ) → negative ≡ false → IsStored negative ds → 0 < length ds
     → int_cmp (signed negative (number_from_digits 10 ds)) (pos 0) ≡ Greater
-sign_above negative ds is k h = let n = stripped_mod ds k.stripped h in rw is (above_cmp (number_from_digits 10 ds) 0 (omega (arith, n)))
+sign_above negative ds is k h = let n = stripped_mod ds k.stripped h in
+    rw is (int_above (pos (number_from_digits 10 ds)) (pos 0) (omega (arith, ints, n)))
 
 neg_cmp : (x y : ℕ) → int_cmp (neg_ℤ (pos x)) (neg_ℤ (pos y)) ≡ int_cmp (pos y) (pos x)
-neg_cmp zero zero = refl
-neg_cmp zero (suc y) = sym (above_cmp (suc y) 0 (omega arith))
-neg_cmp (suc x) zero = sym (below_cmp 0 (suc x) (omega arith))
-neg_cmp (suc x) (suc y) = grind (arith, nat_tests)
+neg_cmp x y = grind (arith, ints)
 
 -- for negative numbers the order is reversed
 pub flipped : (ds es : List ℕ) (e f : ℤ)
@@ -63,55 +58,36 @@ flipped ds es e f =
 sign_scaled : (x : ℤ) (k : ℕ) → 0 < k → int_cmp (x *ℤ pos k) (pos 0) ≡ int_cmp x (pos 0)
 sign_scaled x k h = let z : 0 * k ≡ 0 = omega arith in rw z at (scale_cmp x (pos 0) k h)
 
-above_sign : (x : ℕ) → int_cmp (pos (suc x)) (pos 0) ≡ Greater
-above_sign x = above_cmp (suc x) 0 (omega arith)
-
-apart : (x y : ℤ) → (int_cmp x (pos 0) ≡ int_cmp y (pos 0) → ⊥)
-    → nat_cmp (ordering_index (int_cmp x (pos 0))) (ordering_index (int_cmp y (pos 0))) ≡ int_cmp x y
-apart (pos zero) (pos zero) n = absurd (n refl)
-apart (pos zero) (pos (suc y)) n = rw above_sign (sym (below_cmp 0 (suc y) (omega arith)))
-apart (pos zero) (negsuc y) n = refl
-apart (pos (suc x)) (pos zero) n = rw above_sign refl
-apart (pos (suc x)) (pos (suc y)) n = absurd (n (above_sign x ∙ sym (above_sign y)))
-apart (pos (suc x)) (negsuc y) n = rw above_sign refl
-apart (negsuc x) (pos zero) n = refl
-apart (negsuc x) (pos (suc y)) n = rw above_sign refl
-apart (negsuc x) (negsuc y) n = absurd (n refl)
+apart : (x y : ℤ) (s t : Ordering) → s ≡ int_cmp x (pos 0) → t ≡ int_cmp y (pos 0) → (s ≡ t → ⊥)
+    → nat_cmp (ordering_index s) (ordering_index t) ≡ int_cmp x y
+apart x y Less Less p q n = absurd (n refl)
+apart x y Less Equal p q n = sym (int_below x y (grind (arith, ints)))
+apart x y Less Greater p q n = sym (int_below x y (grind (arith, ints)))
+apart x y Equal Less p q n = sym (int_above x y (grind (arith, ints)))
+apart x y Equal Equal p q n = absurd (n refl)
+apart x y Equal Greater p q n = sym (int_below x y (grind (arith, ints)))
+apart x y Greater Less p q n = sym (int_above x y (grind (arith, ints)))
+apart x y Greater Equal p q n = sym (int_above x y (grind (arith, ints)))
+apart x y Greater Greater p q n = absurd (n refl)
 
 -- if the signs differ, they decide
 pub signs_cmp : (a b : Decimal) (s t : Ordering) → s ≡ int_cmp a.mantissa (pos 0) → t ≡ int_cmp b.mantissa (pos 0) → (s ≡ t → ⊥)
     → nat_cmp (ordering_index s) (ordering_index t) ≡ number_cmp a b
 signs_cmp a b s t p q n =
     let c = int_min a.exponent b.exponent in
-    let j = nat_abs (a.exponent -ℤ c) in
-    let k = nat_abs (b.exponent -ℤ c) in
-    let p' : s ≡ int_cmp (at_exponent c a) (pos 0) = p ∙ sym (sign_scaled a.mantissa (10 ^ j) (ten_pos j)) in
-    let q' : t ≡ int_cmp (at_exponent c b) (pos 0) = q ∙ sym (sign_scaled b.mantissa (10 ^ k) (ten_pos k)) in
-    rw (p', q') (apart (at_exponent c a) (at_exponent c b) (λ e. n (p' ∙ e ∙ sym q')))
-
-zero_is : (x : ℤ) → int_cmp x (pos 0) ≡ Equal → x ≡ pos 0
-zero_is (pos zero) h = refl
-zero_is (pos (suc x)) h = absurd (let g : Greater ≡ Equal = sym (above_sign x) ∙ h in cc)
-zero_is (negsuc x) h = absurd (cc)
+    let scaled = λ (m : ℤ) (k : ℕ). sym (sign_scaled m (10 ^ k) (ten_pos k)) in
+    apart (at_exponent c a) (at_exponent c b) s t (p ∙ scaled a.mantissa (nat_abs (a.exponent -ℤ c)))
+    (q ∙ scaled b.mantissa (nat_abs (b.exponent -ℤ c))) n
 
 -- zeros are equal
 pub zeros_cmp : (a b : Decimal) → int_cmp a.mantissa (pos 0) ≡ Equal → int_cmp b.mantissa (pos 0) ≡ Equal → number_cmp a b ≡ Equal
-zeros_cmp a b p q =
-    let c = int_min a.exponent b.exponent in
-    let j = 10 ^ nat_abs (a.exponent -ℤ c) in
-    let k = 10 ^ nat_abs (b.exponent -ℤ c) in
-    let x : 0 * j ≡ 0 = omega arith in
-    let y : 0 * k ≡ 0 = omega arith in
-    rw (zero_is a.mantissa p, zero_is b.mantissa q, x, y) refl
+zeros_cmp a b p q = rw (cmp_equal a.mantissa (pos 0) p, cmp_equal b.mantissa (pos 0) q) (grind (arith, ints))
 
 below_is_minus : (z : ℤ) → int_cmp z (pos 0) ≡ Less → int_lt z (pos 0) ≡ true
-below_is_minus (pos zero) h = absurd (cc)
-below_is_minus (pos (suc v)) h = absurd (let g : Greater ≡ Less = sym (above_sign v) ∙ h in cc)
-below_is_minus (negsuc v) h = refl
+below_is_minus z h = grind (arith, ints)
 
 above_is_no_minus : (z : ℤ) → int_cmp z (pos 0) ≡ Greater → int_lt z (pos 0) ≡ false
-above_is_no_minus (pos v) h = not_lt (pos v) (pos 0) (omega (arith, ints))
-above_is_no_minus (negsuc v) h = absurd (cc)
+above_is_no_minus z h = grind (arith, ints)
 
 -- two numbers of one sign
 module _ (a b : Num) where
@@ -148,13 +124,8 @@ tests_same Greater Less r e h = absurd (cc)
 tests_same Greater Equal r e h = absurd (cc)
 tests_same Greater Greater r e h = refl
 
-not_itself : (t : Ordering) → not (ordering_index t == ordering_index t) ≡ false
-not_itself Less = refl
-not_itself Equal = refl
-not_itself Greater = refl
-
 pub tests_apart : (s t : Ordering) (r : Bool) → r ≡ not (ordering_index s == ordering_index t) → r ≡ true → s ≡ t → ⊥
-tests_apart s t r e h g = let n : not (ordering_index s == ordering_index t) ≡ false = rw g (not_itself t) in cc
+tests_apart s t r e h g = let same = ap ordering_index g in grind (arith, nat_tests)
 
 -- stripping trailing zeros of a mantissa keeps its sign
 pub stripped_sign : (m e : ℤ) (point : Bool) → nat_abs m < 2 ^ 64 → int_cmp (stripped_number m e point).mantissa (pos 0) ≡ int_cmp m (pos 0)
@@ -162,8 +133,8 @@ stripped_sign (pos zero) e point word = ap (λ (n : Decimal). int_cmp n.mantissa
 stripped_sign (pos (suc n)) e point word =
     let some = (tens_out_is 20 (suc n) (λ z. omega arith) (omega arith)).1 in
     let sign : int_lt (pos (suc n)) (pos 0) ≡ false = grind (arith, nat_tests) in
-    ap (λ b. int_cmp (signed b (tens_out 20 (suc n)).0) (pos 0)) sign ∙ above_cmp (tens_out 20 (suc n)).0 0 (omega (arith, some))
-    ∙ sym (above_sign n)
+    ap (λ b. int_cmp (signed b (tens_out 20 (suc n)).0) (pos 0)) sign
+    ∙ int_above (pos (tens_out 20 (suc n)).0) (pos 0) (omega (arith, ints, some)) ∙ sym (int_above (pos (suc n)) (pos 0) (omega (arith, ints)))
 stripped_sign (negsuc n) e point word =
     let some = (tens_out_is 20 (suc n) (λ z. omega arith) (omega arith)).1 in
-    below_zero_cmp (tens_out 20 (suc n)).0 (omega (arith, some))
+    int_below (neg_ℤ (pos (tens_out 20 (suc n)).0)) (pos 0) (omega (arith, ints, some))

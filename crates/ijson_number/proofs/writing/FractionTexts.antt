@@ -154,29 +154,22 @@ module _ (m e : ℤ) (k : ℕ) (word : nat_abs m < 2 ^ 64) (scale : 0 < k) (belo
         (omega (arith, ints)))
 
 pub exponent_small : (m e : ℤ) → e <ℤ pos 0 → form_of (stripped_number m e true) ≡ packed m e true → nat_abs e < 8
-exponent_small m (pos n) l form = omega (arith, ints)
-exponent_small m (negsuc n) l form =
-    let x = kept_exponent (stripped_number m (negsuc n) true) m (negsuc n) refl l form in
-    let f : negsuc 6 ≤ℤ negsuc n = rw x.0 at x.1 in
+exponent_small m e l form =
+    let x = kept_exponent (stripped_number m e true) m e refl l form in
+    let f : negsuc 6 ≤ℤ e = rw x.0 at x.1 in
     omega (arith, ints)
 
 pub fraction_shown : (m e s : ℤ) (n k : ℕ) (shown : List ℕ) → s ≡ m → n ≡ nat_abs m → k ≡ nat_abs e → n < 2 ^ 64 → e <ℤ pos 0
     → (6 < k → 10 ≤ n) → form_of (stripped_number m e true) ≡ packed m e true
     → shown ≡ pointed_text (int_lt s (pos 0)) (n / 10 ^ k) k (n % 10 ^ k) → shown ≡ num_text (stripped_number m e true)
-fraction_shown m (pos z) s n k shown sign magnitude scale word l h form is = absurd (omega (arith, ints))
-fraction_shown m (negsuc z) s n k shown sign magnitude scale word l h form is =
+fraction_shown m e s n k shown sign magnitude scale word l h form is =
     is ∙ rw (sign, magnitude)
-    (sym (fraction_num_text m (negsuc z) k (rw (← magnitude) word) (omega arith) (omega (arith, ints)) form (rw (← magnitude) h)))
+    (sym (fraction_num_text m e k (rw (← magnitude) word) (omega (arith, ints)) (omega (arith, ints)) form (rw (← magnitude) h)))
 
 pub below_point : (e x : ℤ) → x ≡ e → (e ≡ pos 0 → ⊥) → int_lt (pos 0) x ≡ false → e <ℤ pos 0
-below_point (pos zero) x s n t = absurd (n refl)
-below_point (pos (suc k)) x s n t =
-    absurd (let u : int_lt (pos 0) (pos (suc k)) ≡ false = rw s at t in let v = below_test (pos 0) (pos (suc k)) (omega (arith, ints)) in
-    cc)
-below_point (negsuc k) x s n t = omega (arith, ints)
+below_point e x s n t = grind (arith, ints)
 
 pub many_places : (e x : ℤ) (k n : ℕ) → x ≡ e → k ≡ nat_abs e → ((int_lt x (negsuc 5) ≡ true) × (10 ≤ n)) ⊎ (int_lt x (negsuc 5) ≡ false)
     → e <ℤ pos 0 → 6 < k → 10 ≤ n
 many_places e x k n s p (inl t) l h = t.1
-many_places e x k n s p (inr t) l h =
-    absurd (let u : int_lt e (negsuc 5) ≡ false = rw s at t in let v = below_test e (negsuc 5) (omega (arith, ints)) in cc)
+many_places e x k n s p (inr t) l h = absurd (grind (arith, ints))

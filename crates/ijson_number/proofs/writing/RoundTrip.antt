@@ -27,137 +27,108 @@ minus_is : (negative : Bool) → ((minus_text negative ≡ []) × (negative ≡ 
 minus_is true = inr (refl, refl)
 minus_is false = inl (refl, refl)
 
--- the parts of the text of a number that is not zero
-module _ (n : Decimal) (plain : IsPlain n) (ds : List ℕ) (negative : Bool) (below : Below ds) (first : 0 < get_or ds 0 0)
-    (mantissa_is : n.mantissa ≡ signed negative (number_from_digits 10 ds)) where
-  strips_by : (v k : ℕ) (x : ℤ) → v ≡ number_from_digits 10 ds * 10 ^ k → n.exponent ≡ x +ℤ pos k → Strips (signed negative v) x n
-  strips_by v k x e f = record {
-    plain = plain;
-    tens =
-        inr (k, rw (e, mantissa_is) (signed_mul negative (number_from_digits 10 ds) (10 ^ k)), f);
-  }
-
-  pub build : (whole fraction fraction_text exponent_text : List ℕ) (has_point has_exponent : Bool) (z : ℤ) (k : ℕ) → IsWhole whole
-      → IsFraction fraction_text fraction has_point → IsExponent exponent_text z has_exponent → n.point ≡ has_point || has_exponent
-      → value (whole ++ fraction) ≡ number_from_digits 10 ds * 10 ^ k → n.exponent ≡ (z -ℤ pos (length fraction)) +ℤ pos k
-      → Spells (minus_text negative ++ whole ++ fraction_text ++ exponent_text) n
-  build whole fraction fraction_text exponent_text has_point has_exponent z k w f x p v e = (
-    record { negative = negative; whole = whole; fraction = fraction; exponent = z; point = has_point || has_exponent },
-    record {
-      minus_text = minus_text negative;
-      fraction_text = fraction_text;
-      exponent_text = exponent_text;
-      has_point =
-          has_point;
-      has_exponent = has_exponent;
-      text_is = refl;
-      minus = minus_is negative;
-      whole = w;
-      fraction = f;
-      exponent = x;
-      point =
-          refl;
-    },
-    (strips_by (value (whole ++ fraction)) k (z -ℤ pos (length fraction)) v e, p),
-  )
+-- the parts of a text, and the number that they denote
+spelled : (n : Decimal) (negative : Bool) (whole fraction fraction_text exponent_text : List ℕ) (has_point has_exponent : Bool) (z : ℤ)
+    → IsWhole whole → IsFraction fraction_text fraction has_point → IsExponent exponent_text z has_exponent
+    → n.point ≡ has_point || has_exponent → Strips (signed negative (value (whole ++ fraction))) (z -ℤ pos (length fraction)) n
+    → Spells (minus_text negative ++ whole ++ fraction_text ++ exponent_text) n
+spelled n negative whole fraction fraction_text exponent_text has_point has_exponent z w f x p s = (
+  record { negative = negative; whole = whole; fraction = fraction; exponent = z; point = has_point || has_exponent },
+  record {
+    minus_text = minus_text negative;
+    fraction_text = fraction_text;
+    exponent_text = exponent_text;
+    has_point = has_point;
+    has_exponent = has_exponent;
+    text_is = refl;
+    minus = minus_is negative;
+    whole = w;
+    fraction = f;
+    exponent = x;
+    point = refl;
+  },
+  (s, p),
+)
 
 pub at_text : (t u : List ℕ) (n : Decimal) → t ≡ u → Spells t n → Spells u n
 at_text t u n e s = rw e at s
 
 nonpos : (z : ℤ) → z ≤ℤ pos 0 → z ≡ neg_ℤ (pos (nat_abs z))
-nonpos (pos zero) h = refl
-nonpos (pos (suc n)) h = absurd (omega (arith, ints))
-nonpos (negsuc n) h = refl
+nonpos z h = omega (arith, ints)
 
-one_more : (v k : ℕ) → v * 10 ^ k * 10 ^ 1 ≡ v * 10 ^ suc k
-one_more v k = let f : 10 ^ suc k ≡ 10 * 10 ^ k = pow-succ' 10 k in rw f (omega arith)
-
+-- a number that is not zero, by its digits
 module _ (n : Decimal) (plain : IsPlain n) (ds : List ℕ) (negative : Bool) (below : Below ds) (first : 0 < get_or ds 0 0)
     (mantissa_is : n.mantissa ≡ signed negative (number_from_digits 10 ds)) where
+  pub build : (whole fraction fraction_text exponent_text : List ℕ) (has_point has_exponent : Bool) (z : ℤ) (k : ℕ) → IsWhole whole
+      → IsFraction fraction_text fraction has_point → IsExponent exponent_text z has_exponent → n.point ≡ has_point || has_exponent
+      → value (whole ++ fraction) ≡ number_from_digits 10 ds * 10 ^ k → n.exponent ≡ (z -ℤ pos (length fraction)) +ℤ pos k
+      → Spells (minus_text negative ++ whole ++ fraction_text ++ exponent_text) n
+  build whole fraction fraction_text exponent_text has_point has_exponent z k w f x p v e =
+      spelled n negative whole fraction fraction_text exponent_text has_point has_exponent z w f x p (record {
+        plain = plain;
+        tens = inr (k, rw (v, mantissa_is) (signed_mul negative (number_from_digits 10 ds) (10 ^ k)), e);
+      })
+
   integer_case : n.point ≡ false → Spells (minus_text negative ++ (digits_text ds ++ zeros_text (nat_abs n.exponent))) n
   integer_case p =
       let k = nat_abs n.exponent in
       let whole = digits_text ds ++ zeros_text k in
-      let v : value (whole ++ []) ≡ number_from_digits 10 ds * 10 ^ k = ap value (append-nil whole) ∙ value_zeros_back (digits_text ds) k
-      ∙ ap (λ x. x * 10 ^ k) (value_text ds) in
-      let e : n.exponent ≡ (pos 0 -ℤ pos 0) +ℤ pos k = nonneg n.exponent (plain.whole p) ∙ omega (arith, ints) in
-      at_text _ _ n (append-nil (minus_text negative ++ whole ++ []) ∙ append-nil (minus_text negative ++ whole))
-      (build n plain ds negative below first mantissa_is whole [] [] [] false false (pos 0) k
-      (whole_from ds (zeros_text k) below first (zeros_digits k)) (refl, refl) (refl, refl) p v e)
+      let e = nonneg n.exponent (plain.whole p) in
+      rw (append-nil, append-nil) at (build whole [] [] [] false false (pos 0) k (whole_from ds (zeros_text k) below first (zeros_digits k))
+      (refl, refl) (refl, refl) p (rw (append-nil whole, value_zeros_back (digits_text ds) k, value_text ds) refl) (omega (arith, ints)))
 
   small_case : n.point ≡ true → (p : ℤ) → p ≡ pos (length ds) +ℤ n.exponent → p ≤ℤ pos 0
       → Spells (minus_text negative ++ (48 ∷ 46 ∷ zeros_text (nat_abs p) ++ digits_text ds)) n
   small_case t p pe h =
       let k = nat_abs p in
       let fraction = zeros_text k ++ digits_text ds in
-      let l : length fraction ≡ k + length ds = length-append (zeros_text k) (digits_text ds)
-      ∙ rw (length-replicate {A = ℕ} k 48, length_text ds) refl in
+      let l : length fraction ≡ k + length ds =
+      rw (length-append (zeros_text k) (digits_text ds), length-replicate {A = ℕ} k 48, length_text ds) refl in
       let s : 0 < length ds = first_some ds first in
       let d : IsDigits fraction =
       IsDigits_from fraction (omega arith) (AllDigits-append (zeros_text k) (digits_text ds) (zeros_digits k) (text_digits ds below)) in
-      let v : value (48 ∷ fraction) ≡ number_from_digits 10 ds * 10 ^ 0 = value_zeros_front k (digits_text ds) ∙ value_text ds
-      ∙ omega arith in
       let q = nonpos p h in
-      let e : n.exponent ≡ (pos 0 -ℤ pos (length fraction)) +ℤ pos 0 = omega (arith, ints) in
-      at_text _ _ n (append-nil (minus_text negative ++ (48 ∷ []) ++ (46 ∷ fraction))
-      ∙ append_assoc (minus_text negative) (48 ∷ []) (46 ∷ fraction))
-      (build n plain ds negative below first mantissa_is (48 ∷ []) fraction (46 ∷ fraction) [] true false (pos 0) 0
-      (inl (refl, refl)) (refl, d, refl, refl) (refl, refl) t v e)
+      rw (append-nil, append_assoc) at (build (48 ∷ []) fraction (46 ∷ fraction) [] true false (pos 0) 0 (inl (refl, refl))
+      (refl, d, refl, refl) (refl, refl) t (value_zeros_front k (digits_text ds) ∙ value_text ds ∙ omega arith) (omega (arith, ints)))
 
   large_case : n.point ≡ true → (p : ℤ) → p ≡ pos (length ds) +ℤ n.exponent → pos (length ds) ≤ℤ p
       → Spells (minus_text negative ++ (digits_text ds ++ zeros_text (nat_abs (p -ℤ pos (length ds))) ++ 46 ∷ 48 ∷ [])) n
   large_case t p pe h =
       let k = nat_abs (p -ℤ pos (length ds)) in
       let whole = digits_text ds ++ zeros_text k in
-      let v : value (whole ++ 48 ∷ []) ≡ number_from_digits 10 ds * 10 ^ suc k = value_zeros_back whole 1
-      ∙ ap (λ x. x * 10 ^ 1) (value_zeros_back (digits_text ds) k ∙ ap (λ x. x * 10 ^ k) (value_text ds))
-      ∙ one_more (number_from_digits 10 ds) k in
       let q : p -ℤ pos (length ds) ≡ pos k = nonneg (p -ℤ pos (length ds)) (omega (arith, ints)) in
-      let e : n.exponent ≡ (pos 0 -ℤ pos 1) +ℤ pos (suc k) = omega (arith, ints) in
-      at_text _ _ n (append-nil (minus_text negative ++ whole ++ (46 ∷ 48 ∷ []))
-      ∙ append_assoc (minus_text negative) whole (46 ∷ 48 ∷ []))
-      (build n plain ds negative below first mantissa_is whole (48 ∷ []) (46 ∷ 48 ∷ []) [] true false (pos 0) (suc k)
-      (whole_from ds (zeros_text k) below first (zeros_digits k)) (refl, ((omega arith, omega arith), tt), refl, refl)
-      (refl, refl) t v e)
+      rw (append-nil, append_assoc (minus_text negative)) at (build whole (48 ∷ []) (46 ∷ 48 ∷ []) [] true false (pos 0) (suc k)
+      (whole_from ds (zeros_text k) below first (zeros_digits k)) (refl, ((omega arith, omega arith), tt), refl, refl) (refl, refl) t
+      (rw (value_zeros_back whole 1, value_zeros_back (digits_text ds) k, value_text ds, pow-succ' 10 k) (omega arith)) (omega (arith, ints)))
 
   middle_case : n.point ≡ true → (p : ℤ) → p ≡ pos (length ds) +ℤ n.exponent → pos 0 <ℤ p → p <ℤ pos (length ds)
       → Spells (minus_text negative ++ (digits_text (take (nat_abs p) ds) ++ 46 ∷ digits_text (drop (nat_abs p) ds))) n
   middle_case t p pe h g =
       let j = nat_abs p in
-      let whole = digits_text (take j ds) in
       let fraction = digits_text (drop j ds) in
       let q : p ≡ pos j = nonneg p (omega (arith, ints)) in
       let l : length fraction ≡ length ds - j = length_text (drop j ds) ∙ length-drop {A = ℕ} j ds in
-      let w : IsWhole whole = rw append-nil at
+      let w : IsWhole (digits_text (take j ds)) = rw append-nil at
       (whole_from (take j ds) [] (below_take j ds below) (take_first j ds (omega (arith, ints)) first) tt) in
       let d : IsDigits fraction = IsDigits_from fraction (omega (arith, ints)) (text_digits (drop j ds) (below_drop j ds below)) in
-      let v : value (whole ++ fraction) ≡ number_from_digits 10 ds * 10 ^ 0 = ap value (text_halves j ds) ∙ value_text ds ∙ omega arith in
-      let e : n.exponent ≡ (pos 0 -ℤ pos (length fraction)) +ℤ pos 0 = omega (arith, ints) in
-      at_text _ _ n (append-nil (minus_text negative ++ whole ++ (46 ∷ fraction))
-      ∙ append_assoc (minus_text negative) whole (46 ∷ fraction))
-      (build n plain ds negative below first mantissa_is whole fraction (46 ∷ fraction) [] true false (pos 0) 0 w
-      (refl, d, refl, refl) (refl, refl) t v e)
+      rw (append-nil, append_assoc) at (build (digits_text (take j ds)) fraction (46 ∷ fraction) [] true false (pos 0) 0 w
+      (refl, d, refl, refl) (refl, refl) t (ap value (text_halves j ds) ∙ value_text ds ∙ omega arith) (omega (arith, ints)))
 
 scientific_case : (n : Decimal) (plain : IsPlain n) (ds : List ℕ) (negative : Bool) (below : Below ds) (first : 0 < get_or ds 0 0)
     (mantissa_is : n.mantissa ≡ signed negative (number_from_digits 10 ds)) → n.point ≡ true → (p : ℤ) → p ≡ pos (length ds) +ℤ n.exponent
     → Spells (minus_text negative ++ scientific_text ds p) n
 scientific_case n plain [] negative below first mantissa_is t p pe = absurd (omega arith)
 scientific_case n plain (d ∷ []) negative below first mantissa_is t p pe =
-    let power = 101 ∷ whole_text (p -ℤ pos 1) in
-    let v : value ((48 + d) ∷ []) ≡ number_from_digits 10 (d ∷ []) * 10 ^ 0 = value_text (d ∷ []) ∙ omega arith in
-    at_text _ _ n (rw append-nil (append_assoc (minus_text negative) ((48 + d) ∷ []) power))
-    (build n plain (d ∷ []) negative below first mantissa_is ((48 + d) ∷ []) [] [] power false true (p -ℤ pos 1) 0
-    (inr (omega arith, omega arith, tt)) (refl, refl) (inl refl, signed_text (p -ℤ pos 1), refl) t v (omega (arith, ints)))
+    rw (append-nil, append_assoc) at (build n plain (d ∷ []) negative below first mantissa_is ((48 + d) ∷ []) [] []
+    (101 ∷ whole_text (p -ℤ pos 1)) false true (p -ℤ pos 1) 0 (inr (omega arith, omega arith, tt)) (refl, refl)
+    (inl refl, signed_text (p -ℤ pos 1), refl) t (value_text (d ∷ []) ∙ omega arith) (omega (arith, ints)))
 scientific_case n plain (d ∷ c ∷ ds) negative below first mantissa_is t p pe =
-    let power = 101 ∷ whole_text (p -ℤ pos 1) in
     let fraction = digits_text (c ∷ ds) in
     let l : length fraction ≡ suc (length ds) = length_text (c ∷ ds) in
-    let v : value ((48 + d) ∷ fraction) ≡ number_from_digits 10 (d ∷ c ∷ ds) * 10 ^ 0 = value_text (d ∷ c ∷ ds) ∙ omega arith in
-    at_text _ _ n (append_assoc (minus_text negative ++ ((48 + d) ∷ [])) (46 ∷ fraction) power
-    ∙ append_assoc (minus_text negative) ((48 + d) ∷ []) ((46 ∷ fraction) ++ power))
-    (build n plain (d ∷ c ∷ ds) negative below first mantissa_is ((48 + d) ∷ []) fraction (46 ∷ fraction) power true true
-    (p -ℤ pos 1) 0 (inr (omega arith, omega arith, tt)) (refl, text_digits (c ∷ ds) below.1, refl, refl)
-    (inl refl, signed_text (p -ℤ pos 1), refl) t v (omega (arith, ints)))
+    rw (append_assoc, append_assoc) at (build n plain (d ∷ c ∷ ds) negative below first mantissa_is ((48 + d) ∷ []) fraction (46 ∷ fraction)
+    (101 ∷ whole_text (p -ℤ pos 1)) true true (p -ℤ pos 1) 0 (inr (omega arith, omega arith, tt))
+    (refl, text_digits (c ∷ ds) below.1, refl, refl) (inl refl, signed_text (p -ℤ pos 1), refl) t
+    (value_text (d ∷ c ∷ ds) ∙ omega arith) (omega (arith, ints)))
 
 pub choose : (P : List ℕ → Type 0) (b : Bool) (xs ys : List ℕ) → (b ≡ true → P xs) → (b ≡ false → P ys)
     → P (elim b [ true ↦ xs | false ↦ ys ])
@@ -171,43 +142,10 @@ sign_of (negsuc m) h = refl
 
 module _ (n : Decimal) (plain : IsPlain n) where
   pub zero_parts : (b : Bool) → n.point ≡ b → n.mantissa ≡ pos 0 → Spells (zero_text b) n
-  zero_parts true p m = (
-    record { negative = false; whole = 48 ∷ []; fraction = 48 ∷ []; exponent = pos 0; point = true },
-    record {
-      minus_text = [];
-      fraction_text = 46 ∷ 48 ∷ [];
-      exponent_text = [];
-      has_point = true;
-      has_exponent = false;
-      text_is =
-          refl;
-      minus = inl (refl, refl);
-      whole = inl (refl, refl);
-      fraction =
-          (refl, ((omega arith, omega arith), tt), refl, refl);
-      exponent = (refl, refl);
-      point = refl;
-    },
-    (record { plain = plain; tens = inl (refl, m) }, p),
-  )
-  zero_parts false p m = (
-    record { negative = false; whole = 48 ∷ []; fraction = []; exponent = pos 0; point = false },
-    record {
-      minus_text = [];
-      fraction_text = [];
-      exponent_text = [];
-      has_point = false;
-      has_exponent = false;
-      text_is = refl;
-      minus =
-          inl (refl, refl);
-      whole = inl (refl, refl);
-      fraction = (refl, refl);
-      exponent = (refl, refl);
-      point = refl;
-    },
-    (record { plain = plain; tens = inl (refl, m) }, p),
-  )
+  zero_parts true p m = spelled n false (48 ∷ []) (48 ∷ []) (46 ∷ 48 ∷ []) [] true false (pos 0) (inl (refl, refl))
+      (refl, ((omega arith, omega arith), tt), refl, refl) (refl, refl) p (record { plain = plain; tens = inl (refl, m) })
+  zero_parts false p m = spelled n false (48 ∷ []) [] [] [] false false (pos 0) (inl (refl, refl)) (refl, refl) (refl, refl) p
+      (record { plain = plain; tens = inl (refl, m) })
 
   module _ (ds : List ℕ) (negative : Bool) (below : Below ds) (first : 0 < get_or ds 0 0)
       (mantissa_is : n.mantissa ≡ signed negative (number_from_digits 10 ds)) where
@@ -230,16 +168,12 @@ module _ (n : Decimal) (plain : IsPlain n) where
     shape_parts = choose (λ x. Spells (minus_text negative ++ x) n) n.point _ _ float_parts
         (integer_case n plain ds negative below first mantissa_is)
 
-  -- the text of a plain number spells it
-  written_spells : Spells (num_text n) n
-  written_spells =
-      let v = nat_abs n.mantissa in
-      choose (λ x. Spells x n) (nat_eq v 0) _ _
-      (λ h. zero_parts n.point refl (abs_zero n.mantissa (test_zero v h)))
-      (λ h. let some = test_not_zero v h in
-      shape_parts (digits_within v v) (int_lt n.mantissa (pos 0)) (within_below v) (within_first v some)
-      (sign_of n.mantissa some ∙ ap (signed (int_lt n.mantissa (pos 0))) (sym (within_value v))))
-
 -- the text of a Num spells it
 pub num_text_spells : (n : Decimal) → IsNum n → Spells (num_text n) n
-num_text_spells n h = written_spells n h.plain
+num_text_spells n h =
+    let v = nat_abs n.mantissa in
+    choose (λ x. Spells x n) (nat_eq v 0) _ _
+    (λ z. zero_parts n h.plain n.point refl (abs_zero n.mantissa (test_zero v z)))
+    (λ z. let some = test_not_zero v z in
+    shape_parts n h.plain (digits_within v v) (int_lt n.mantissa (pos 0)) (within_below v) (within_first v some)
+    (sign_of n.mantissa some ∙ ap (signed (int_lt n.mantissa (pos 0))) (sym (within_value v))))
