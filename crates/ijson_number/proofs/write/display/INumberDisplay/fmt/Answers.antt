@@ -29,16 +29,3 @@ pub returns-else-number-2-clause-writes : goal.returns-else-number-2-clause-writ
 returns-else-number-2-clause-writes g c = λ p ok.
     has_written_of_eq _ _ _ _ _ (shown g (goal.at.returns-else-number-2-clause-writes g c).Else-is_empty false c.if-number-2.false)
     (c.fmt.ensures.writes p ok)
-
--- given for speed: the default tactics take longer
-pub returns-then-is_empty-clause-writes : goal.returns-then-is_empty-clause-writes
-returns-then-is_empty-clause-writes g c = grind (arith, common_steps)
-
-pub returns-then-is_empty-clause-styled : goal.returns-then-is_empty-clause-styled
-returns-then-is_empty-clause-styled g c = search rules
-
-pub returns-then-number-2-clause-styled : goal.returns-then-number-2-clause-styled
-returns-then-number-2-clause-styled g c = search rules
-
-pub returns-else-number-2-clause-styled : goal.returns-else-number-2-clause-styled
-returns-else-number-2-clause-styled g c = search rules

@@ -35,16 +35,3 @@ returns-else-is_scientific-clause-writes g c = λ p ok.
     has_written_of_eq _ _ _ _ _
     (shown g (goal.at.returns-else-is_scientific-clause-writes g c).After-is_scientific false c.if-is_scientific.false)
     (c.fmt-else-is_scientific.ensures.writes p ok)
-
--- given for speed: the default tactics take longer
-pub returns-then-not-self-clause-writes : goal.returns-then-not-self-clause-writes
-returns-then-not-self-clause-writes g c = grind (arith, common_steps)
-
-pub returns-then-not-self-clause-styled : goal.returns-then-not-self-clause-styled
-returns-then-not-self-clause-styled g c = search rules
-
-pub returns-then-is_scientific-clause-styled : goal.returns-then-is_scientific-clause-styled
-returns-then-is_scientific-clause-styled g c = search rules
-
-pub returns-else-is_scientific-clause-styled : goal.returns-else-is_scientific-clause-styled
-returns-else-is_scientific-clause-styled g c = search rules
