@@ -1,10 +1,10 @@
 -- The results of several appends.
-use Rattle.std.proofs.Common.{◌≡◌, ℕ, Bool, true, Result, Ok, Err, OnErr, List, [], ◌++◌, refl, sym, ap, ◌∙◌, append_assoc}
-use Rattle.std.specs.Prelude.{IfOk, IsErr, IsTrue, OnOk, if◌then◌else◌, is_ok}
+use Rattle.std.proofs.Common.{◌≡◌, ℕ, Result, Ok, Err, OnErr, List, [], ◌++◌, refl, sym, ap, ◌∙◌, append_assoc}
+use Rattle.std.specs.Prelude.{IsErr, OnOk, if◌then◌else◌, is_ok}
 use Rattle.std.proofs.lemmas.List.{append-nil}
-use Rattle.std.proofs.lemmas.Result.{IfOk-from_err, MatchResult-from_err}
+use Rattle.std.proofs.lemmas.Result.{MatchResult-from_err}
 use Rattle.ijson_number.specs.AppendsBeginning.{AppendsBeginning}
-use Rattle.ijson_number.specs.private.Pushed.{Appends, Pushed}
+use Rattle.ijson_number.specs.private.Pushed.{Appends}
 
 -- nothing was appended
 pub none_begun : (old new text : List ℕ) → new ≡ old → AppendsBeginning old new text
@@ -77,19 +77,3 @@ last_append (Err _) old mid new done piece text e w f = last_begun old mid new d
 -- the result of two appends
 pub both : (old mid new front piece : List ℕ) → mid ≡ old ++ front → new ≡ mid ++ piece → new ≡ old ++ (front ++ piece)
 both old mid new front piece e f = rw (f, e) (append_assoc old front piece)
-
--- the result of `done` for an append
-module _ {E : Type 0} (a : Result (Unit {0}) E) (r : Result Bool E) (ok : OnOk a (r ≡ Ok true)) (err : OnErr a (IsErr r)) where
-  pub pushed : (old new piece text : List ℕ) → Appends a old new piece → piece ≡ text → Pushed r old new text
-  pushed old new piece text w is = by_result a ok err (rw is at w)
-    where
-      by_result : (a : Result (Unit {0}) E) → OnOk a (r ≡ Ok true) → OnErr a (IsErr r) → Appends a old new text → Pushed r old new text
-      by_result (Ok _) ok err w = rw ok w
-      by_result (Err _) ok err w = MatchResult-from_err r _ _ err (λ _. w)
-
-  pub pushed_true : IfOk r (λ d. IsTrue d)
-  pushed_true = by_result a ok err
-    where
-      by_result : (a : Result (Unit {0}) E) → OnOk a (r ≡ Ok true) → OnErr a (IsErr r) → IfOk r (λ d. IsTrue d)
-      by_result (Ok _) ok err = rw ok refl
-      by_result (Err _) ok err = IfOk-from_err r _ err

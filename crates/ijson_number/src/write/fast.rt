@@ -1,6 +1,6 @@
 //! Appends the text of a number by vectors of 16 digits.
 ghost use Rattle.std.specs.Prelude.{◌≡◌, ◌+◌, ◌-◌, ◌/◌, ◌%◌, ◌^◌, ◌<◌, ◌≤◌, ◌∷◌, ◌++◌, ℤ, drop, length, nat_abs, neg_ℤ, pos};
-ghost use Rattle.std.specs.Prelude.{true, negsuc, int_le, int_lt, ◌||◌, ◌+ℤ◌, ◌≤ℤ◌, ◌⊎◌, IfOk, IsErr, IsTrue, Ok, OnErr, OnOk};
+ghost use Rattle.std.specs.Prelude.{true, negsuc, int_le, int_lt, ◌||◌, ◌+ℤ◌, ◌≤ℤ◌, ◌⊎◌, IsSome, OnErr, OnOk};
 ghost use Rattle.std.specs.String.{string_bytes};
 ghost use Rattle.ijson_number.specs.AppendsBeginning.{AppendsBeginning};
 ghost use Rattle.ijson_number.specs.Form.{form_of, packed};
@@ -26,16 +26,6 @@ use std::simd::prelude::*;
 
 /// The maximum number of bytes, besides the digits, of a text with the fraction point: a minus, 20 zeros and `.0`.
 const BESIDE_DIGITS: usize = 23;
-
-/// `Ok(true)` if `appended` is `Ok`, else its error.
-#[inline(always)]
-fn done(appended: Result<(), AllocError>) -> Result<bool, AllocError>
-    ensures ok { OnOk appended (result ≡ Ok true) }
-    ensures err { OnErr appended (IsErr result) }
-{
-    appended?;
-    Ok(true)
-}
 
 /// Appends `magnitude / 10^scale` with a sign and `scale` fraction digits.
 ///
@@ -91,26 +81,26 @@ pub fn push_integer(negative: bool, magnitude: u64, out: &mut String) -> Result<
 
 /// Appends a packed number with the fraction point.
 ///
-/// Returns `false`, with nothing appended, if its text has an exponent, or zeros before the point that are not digits.
+/// Returns `None`, with nothing appended, if its text has an exponent, or zeros before the point that are not digits.
 #[inline(always)]
-fn push_pointed(mantissa: i64, exponent: i8, out: &mut String) -> Result<bool, AllocError>
+fn push_pointed(mantissa: i64, exponent: i8, out: &mut String) -> Option<Result<(), AllocError>>
     requires form { form_of (stripped_number mantissa exponent true) ≡ packed mantissa exponent true }
     requires small { nat_abs mantissa ≤ 2 ^ 55 }
     ensures pushed { Pushed result (string_bytes out.old) (string_bytes out.new)
         (num_text (stripped_number mantissa exponent true)) }
     ensures short { exponent ≤ℤ pos 0 → (neg_ℤ (pos 6) ≤ℤ exponent) ⊎ (10 ≤ nat_abs mantissa)
-        → IfOk result (λ d. IsTrue d) }
+        → IsSome result }
 {
     let (negative, magnitude) = (mantissa < 0, mantissa.unsigned_abs());
     if exponent > 0 || (exponent < -6 && magnitude < 10) {
-        return Ok(false);
+        return None;
     }
     if exponent == 0 {
         // `5.0` is 50 / 10
-        return done(push_decimal(negative, magnitude * 10, 1, out));
+        return Some(push_decimal(negative, magnitude * 10, 1, out));
     }
     let scale = usize::from(exponent.unsigned_abs());
-    done(push_decimal(negative, magnitude, scale, out))
+    Some(push_decimal(negative, magnitude, scale, out))
 }
 
 impl StrippedNumber<'_> {
@@ -205,10 +195,10 @@ impl StrippedNumber<'_> {
 
     /// Appends the number if the point is before its digits or an exponent follows two or more digits.
     ///
-    /// Otherwise returns `false`, with nothing appended. If there are at most 16 digits, `lanes` ends with them. Not inlined, like
+    /// Otherwise returns `None`, with nothing appended. If there are at most 16 digits, `lanes` ends with them. Not inlined, like
     /// `push_digits`.
     #[inline(never)]
-    fn push_unsplit(&self, lanes: u8x16, out: &mut String) -> Result<bool, AllocError>
+    fn push_unsplit(&self, lanes: u8x16, out: &mut String) -> Option<Result<(), AllocError>>
         requires all { length lanes ≡ 16 }
         requires few { length self.now.digits.now ≤ 19 }
         requires point { self.now.point ≡ true }
@@ -216,53 +206,53 @@ impl StrippedNumber<'_> {
             → drop (16 - length self.now.digits.now) lanes ≡ digits_text self.now.digits.now }
         ensures pushed { Pushed result (string_bytes out.old) (string_bytes out.new) (num_text (decimal_of self.now)) }
         ensures rows { IsBelowOne (length self.now.digits.now) self.now.exponent
-            ⊎ IsScientific (length self.now.digits.now) self.now.exponent → IfOk result (λ d. IsTrue d) }
+            ⊎ IsScientific (length self.now.digits.now) self.now.exponent → IsSome result }
     {
         let count = self.digits.len();
         let place = place_of(self.digits, self.exponent);
         if is_scientific(place, self.exponent) {
             if count < 2 {
-                return Ok(false);
+                return None;
             }
-            return done(self.push_scientific(lanes, place, out));
+            return Some(self.push_scientific(lanes, place, out));
         }
         if place > 0 || count == 0 {
-            return Ok(false);
+            return None;
         }
-        done(self.push_fraction(lanes, place.unsigned_abs() as usize, out))
+        Some(self.push_fraction(lanes, place.unsigned_abs() as usize, out))
     }
 
-    /// Appends a number with the fraction point, or returns `false` with nothing appended.
+    /// Appends a number with the fraction point, or returns `None` with nothing appended.
     ///
-    /// It returns `false` only if an exponent follows a single digit, zeros are between the digits and the point, or there is no fraction
+    /// It returns `None` only if an exponent follows a single digit, zeros are between the digits and the point, or there is no fraction
     /// point. If there are at most 16 digits, `lanes` ends with them.
     #[inline(never)]
-    fn push_digits(&self, lanes: u8x16, out: &mut String) -> Result<bool, AllocError>
+    fn push_digits(&self, lanes: u8x16, out: &mut String) -> Option<Result<(), AllocError>>
         requires all { length lanes ≡ 16 }
         requires few { length self.now.digits.now ≤ 19 }
         requires lanes { length self.now.digits.now ≤ 16
             → drop (16 - length self.now.digits.now) lanes ≡ digits_text self.now.digits.now }
         ensures pushed { Pushed result (string_bytes out.old) (string_bytes out.new) (num_text (decimal_of self.now)) }
         ensures rows { self.now.point ≡ true → IsInRows (length self.now.digits.now) self.now.exponent
-            → IfOk result (λ d. IsTrue d) }
+            → IsSome result }
     {
         if !self.point {
-            return Ok(false);
+            return None;
         }
         let scale = self.exponent.unsigned_abs() as usize;
         if self.exponent >= 0 || scale >= self.digits.len() {
             return self.push_unsplit(lanes, out);
         }
-        done(self.push_split(lanes, scale, out))
+        Some(self.push_split(lanes, scale, out))
     }
 }
 
 impl INumber {
-    /// Appends the text if vectors write it, and otherwise returns `false`, with nothing appended.
+    /// Appends the text if vectors write it, and otherwise returns `None`, with nothing appended.
     #[inline(always)]
-    fn push_fast(&self, out: &mut String) -> Result<bool, AllocError>
+    fn push_fast(&self, out: &mut String) -> Option<Result<(), AllocError>>
         ensures pushed { Pushed result (string_bytes out.old) (string_bytes out.new) (num_text self.now.decimal) }
-        ensures rows { IsRowText self.now.decimal → IfOk result (λ d. IsTrue d) }
+        ensures rows { IsRowText self.now.decimal → IsSome result }
     {
         let (negative, magnitude) = match &self.stored {
             Stored::Packed(word) => {
@@ -277,9 +267,9 @@ impl INumber {
             Stored::Short(number) => return number
                 .stripped()
                 .push_digits(number.digits.lanes(), out),
-            Stored::Long(_) => return Ok(false),
+            Stored::Long(_) => return None,
         };
-        done(push_integer(negative, magnitude, out))
+        Some(push_integer(negative, magnitude, out))
     }
 
     /// Appends the text by a formatter. Not inlined: few numbers need it.
@@ -316,9 +306,9 @@ impl INumber {
         ensures refused { OnErr result
             (AppendsBeginning (string_bytes out.old) (string_bytes out.new) (num_text self.now.decimal)) }
     {
-        if self.push_fast(out)? {
-            return Ok(());
+        match self.push_fast(out) {
+            Some(appended) => appended,
+            None => self.push_slow(out),
         }
-        self.push_slow(out)
     }
 }

@@ -17,7 +17,6 @@ use Rattle.ijson_number.specs.private.StrippedNumber.{decimal_of}
 use Rattle.ijson_number.specs.private.WordText.{integer_text}
 use Rattle.ijson_number.specs.Text.{num_text}
 use Rattle.ijson_number.proofs.storing.DigitsOf.{stored_digits_are}
-use Rattle.ijson_number.proofs.writing.Beginnings.{pushed, pushed_true}
 use Rattle.ijson_number.proofs.writing.WordTexts.{integer_shown, packed_integer, unsigned_shown}
 use Rattle.ijson_number.proofs.repr.INumber.push_fast.Goals as goal
 use Rattle.ijson_number.proofs.repr.INumber.push_fast.Goals.{After-push_integer, in-I64, in-Packed+else-point, in-U64}
@@ -63,14 +62,8 @@ shown c =
           )
     ]
 
-pub returns : goal.returns
-returns c =
-    let text = shown (goal.at.returns c).After-push_integer in
-    record {
-      pushed = pushed _ _ c.done.ensures.ok c.done.ensures.err (string_bytes c.args.out.now) (string_bytes c.push_integer.new.out) _ _
-          c.push_integer.ensures text;
-      rows = λ _. pushed_true _ _ c.done.ensures.ok c.done.ensures.err;
-    }
+pub returns-clause-pushed : goal.returns-clause-pushed
+returns-clause-pushed c = rw (shown (goal.at.returns-clause-pushed c).After-push_integer) at c.push_integer.ensures
 
 -- a number that is stored by its digits, if vectors write it
 module _ (n : Decimal) (negative : Bool) (digits : List ℕ) (exponent : ℤ) (point : Bool) (stripped : IsStripped digits)
@@ -94,9 +87,6 @@ returns-in-Short-clause-rows c row =
     let short = by_digits c.args.self.now.decimal n.negative n.digits.now n.exponent n.point n.stripped.stripped is kept row in
     let many = count c.args.self.now.decimal n.negative n.digits.now n.exponent n.point n.stripped.stripped is kept in
     c.push_digits.ensures.rows (rw is at short.pointed) (rw (many, is) at short.rows)
-
-pub returns-in-Long-clause-pushed : goal.returns-in-Long-clause-pushed
-returns-in-Long-clause-pushed c = refl
 
 -- such a number has more digits or a larger exponent
 pub returns-in-Long-clause-rows : goal.returns-in-Long-clause-rows

@@ -3,7 +3,6 @@ use Rattle.std.specs.Prelude.{pos, nat_abs, ◌<ℤ◌}
 use Rattle.std.proofs.lemmas.Int.{to_z-of_z}
 use mir.Syntax.{w8, w64}
 use mir.Val.{of_z, to_z}
-use Rattle.ijson_number.proofs.writing.Beginnings.{pushed, pushed_true}
 use Rattle.ijson_number.proofs.writing.FractionTexts.{below_point, exponent_small, fraction_shown, many_places}
 use Rattle.ijson_number.proofs.writing.WordTexts.{whole_shown}
 use Rattle.ijson_number.proofs.write.fast.push_pointed.Goals as goal
@@ -28,32 +27,24 @@ push_decimal-requires-2 c =
     let at = (goal.at.push_decimal-requires-2 c).After-from-scale in
     omega (arith, scale_is at, exponent_small c.args.mantissa c.args.exponent (below at) c.requires.form)
 
-pub returns-then-exponent-eq0 : goal.returns-then-exponent-eq0
-returns-then-exponent-eq0 c =
+pub returns-then-exponent-eq0-clause-pushed : goal.returns-then-exponent-eq0-clause-pushed
+returns-then-exponent-eq0-clause-pushed c =
     let a = c.args in
     let n = c.unsigned_abs-magnitude in
     let exact = to_z-of_z w64 a.mantissa (search rules) in
     let none = sym (to_z-of_z w8 a.exponent (search rules)) ∙ ap (to_z w8) c.if-exponent-eq0.true in
     let text = whole_shown a.mantissa a.exponent _ n.result (n.result * 10) exact (n.ensures.value ∙ ap nat_abs exact) none n.type_inv refl in
-    record {
-      pushed = pushed _ _ c.done.ensures.ok c.done.ensures.err (string_bytes a.out.now) (string_bytes c.push_decimal.new.out) _ _
-          c.push_decimal.ensures text;
-      short = λ _ _. pushed_true _ _ c.done.ensures.ok c.done.ensures.err;
-    }
+    rw text at c.push_decimal.ensures
 
-pub returns : goal.returns
-returns c =
+pub returns-clause-pushed : goal.returns-clause-pushed
+returns-clause-pushed c =
     let a = c.args in
     let n = c.unsigned_abs-magnitude in
-    let at = (goal.at.returns c).After-from-scale in
+    let at = (goal.at.returns-clause-pushed c).After-from-scale in
     let scale = scale_is at in
     let exact = to_z-of_z w64 a.mantissa (search rules) in
     let many = many_places a.exponent _ c.from-scale.result n.result (to_z-of_z w8 a.exponent (search rules)) scale
     c.if-magnitude-lt10.either (below at) in
     let text = fraction_shown a.mantissa a.exponent _ n.result c.from-scale.result _ exact (n.ensures.value ∙ ap nat_abs exact) scale
     n.type_inv (below at) many c.requires.form refl in
-    record {
-      pushed = pushed _ _ c.done-2.ensures.ok c.done-2.ensures.err (string_bytes a.out.now) (string_bytes c.push_decimal-2.new.out) _ _
-          c.push_decimal-2.ensures text;
-      short = λ _ _. pushed_true _ _ c.done-2.ensures.ok c.done-2.ensures.err;
-    }
+    rw text at c.push_decimal-2.ensures

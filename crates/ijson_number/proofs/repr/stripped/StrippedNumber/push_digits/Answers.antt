@@ -3,20 +3,8 @@ use Rattle.std.specs.Prelude.{nat_abs, FitsSigned}
 use Rattle.std.proofs.lemmas.Int.{to_z-of_z}
 use Rattle.std.proofs.lemmas.Grind.{common_steps}
 use mir.Syntax.{w32}
-use Rattle.ijson_number.proofs.writing.Beginnings.{pushed, pushed_true}
 use Rattle.ijson_number.proofs.writing.SplitTexts.{below_zero, row_shown}
 use Rattle.ijson_number.proofs.repr.stripped.StrippedNumber.push_digits.Goals as goal
-
-pub returns-then-not-self : goal.returns-then-not-self
-returns-then-not-self c =
-    let none : c.args.self.now.point ≡ false = grind arith in
-    record {
-      pushed = refl;
-      rows = λ p _. let q = none in cc;
-    }
-
-pub returns-then-self-ge0-clause-pushed : goal.returns-then-self-ge0-clause-pushed
-returns-then-self-ge0-clause-pushed c = c.push_unsplit.ensures.pushed
 
 pub returns-then-self-ge0-clause-rows : goal.returns-then-self-ge0-clause-rows
 returns-then-self-ge0-clause-rows c _ rows = elim rows [
@@ -24,8 +12,8 @@ returns-then-self-ge0-clause-rows c _ rows = elim rows [
   | inr unsplit ↦ c.push_unsplit.ensures.rows unsplit
 ]
 
-pub returns : goal.returns
-returns c =
+pub returns-clause-pushed : goal.returns-clause-pushed
+returns-clause-pushed c =
     let n = c.args.self.now in
     let fits : FitsSigned w32 n.exponent = search rules in
     let exact = to_z-of_z w32 n.exponent fits in
@@ -33,8 +21,4 @@ returns c =
     let shown = row_shown n.negative n.digits.now n.exponent n.point c.unsigned_abs-scale.result n.stripped.stripped point
     (below_zero n.exponent _ exact c.if-self-ge0.false)
     (c.unsigned_abs-scale.ensures.value ∙ ap nat_abs exact) c.if-scale-self.false in
-    record {
-      pushed = pushed _ _ c.done.ensures.ok c.done.ensures.err (string_bytes c.args.out.now) (string_bytes c.push_split.new.out) _ _
-          c.push_split.ensures shown;
-      rows = λ _ _. pushed_true _ _ c.done.ensures.ok c.done.ensures.err;
-    }
+    rw shown at c.push_split.ensures

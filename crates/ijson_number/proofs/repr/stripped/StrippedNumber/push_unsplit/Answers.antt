@@ -5,22 +5,14 @@ use Rattle.std.proofs.lemmas.Grind.{common_steps}
 use mir.Syntax.{w32, w128}
 use Rattle.ijson_number.specs.Text.{num_text}
 use Rattle.ijson_number.specs.private.StrippedNumber.{decimal_of}
-use Rattle.ijson_number.proofs.writing.Beginnings.{pushed, pushed_true}
 use Rattle.ijson_number.proofs.writing.SplitTexts.{fraction_shown}
 use Rattle.ijson_number.proofs.repr.stripped.StrippedNumber.push_unsplit.Goals as goal
-
-pub returns-then-is_scientific : goal.returns-then-is_scientific
-returns-then-is_scientific c = record {
-  pushed = pushed _ _ c.done.ensures.ok c.done.ensures.err (string_bytes c.args.out.now) (string_bytes c.push_scientific.new.out)
-      (num_text (decimal_of c.args.self.now)) _ c.push_scientific.ensures refl;
-  rows = λ _. pushed_true _ _ c.done.ensures.ok c.done.ensures.err;
-}
 
 not_above : (p x : ℤ) → x ≡ p → int_lt (pos 0) x ≡ false → p ≤ℤ pos 0
 not_above p x same test = grind (arith, ints)
 
-pub returns : goal.returns
-returns c =
+pub returns-clause-pushed : goal.returns-clause-pushed
+returns-clause-pushed c =
     let n = c.args.self.now in
     let ds = n.digits.now in
     let fits : FitsSigned w32 n.exponent = search rules in
@@ -33,11 +25,7 @@ returns c =
     let some : 0 < length ds = grind arith in
     let text = fraction_shown n.negative ds n.exponent n.point p.result n.stripped.stripped c.requires.point some is
     (not_above p.result _ place c.if-place-gt0.false) pointed in
-    record {
-      pushed = pushed _ _ c.done-2.ensures.ok c.done-2.ensures.err (string_bytes c.args.out.now) (string_bytes c.push_fraction.new.out) _ _
-          c.push_fraction.ensures (rw (c.unsigned_abs.ensures.value, place) text);
-      rows = λ _. pushed_true _ _ c.done-2.ensures.ok c.done-2.ensures.err;
-    }
+    rw (c.unsigned_abs.ensures.value, place, text) at c.push_fraction.ensures
 
 pub returns-then-place-gt0-clause-rows : goal.returns-then-place-gt0-clause-rows
 returns-then-place-gt0-clause-rows c rows = elim rows [
