@@ -1,5 +1,5 @@
 -- Worked examples, by computation.
-use Rattle.std.proofs.Common.{◌≡◌, ℕ, ◌%◌, true, false, List, [], ◌∷◌, map, refl, inl, inr, arith}
+use Rattle.std.proofs.Common.{◌≡◌, ℕ, true, false, List, [], ◌∷◌, map, refl, inl, inr, arith}
 use Rattle.ijson_number.specs.Grammar.{Spells}
 use Rattle.std.specs.Prelude.{ℤ, pos, negsuc, neg_ℤ, codes}
 use Rattle.std.specs.declared.cmp.Ordering.TheVariants.{Less, Equal, Greater}
@@ -8,8 +8,7 @@ use Rattle.ijson_number.specs.StrippedDigits.{stripped_digits}
 use Rattle.ijson_number.specs.Text.{num_text}
 use Rattle.ijson_number.specs.Order.{number_cmp}
 use Rattle.ijson_number.specs.Words.{number_words}
-use Rattle.ijson_number.specs.private.Word.{word_exponent, word_mantissa, word_point}
-use Rattle.ijson_number.specs.Form.{FormOf, form_of, packed, signed_word, unsigned_word, digits}
+use Rattle.ijson_number.specs.Form.{form_of, packed, signed_word, unsigned_word, digits}
 
 abbrev float : ℤ → ℤ → Decimal
 float m e = record { mantissa = m; exponent = e; point = true }
@@ -96,26 +95,3 @@ spelled-1_5E-3 = (
     refl,
   ),
 )
-
--- the form of the number that a word stores, and the last four bits of the word, which are 8 in each row
-abbrev kept : ℕ → FormOf × ℕ
-kept bits = (packed (word_mantissa bits) (word_exponent bits) (word_point bits), bits % 16)
-
-kept_words : IsTable kept (map (λ (r : ℕ × Decimal). (r.0, (form_of r.1, 8))) (
-    (248, whole (pos 0) (pos 0)) ∷
-    (504, whole (pos 1) (pos 0)) ∷
-    (18446744073709551608, whole (negsuc 0) (pos 0)) ∷
-    (120, float (pos 0) (pos 0)) ∷
-    (632, float (pos 2) (pos 0)) ∷
-    (1384, float (pos 5) (negsuc 0)) ∷
-    (25720, float (pos 1) (pos 2)) ∷
-    (162664, float (pos 635) (negsuc 0)) ∷
-    (9223372036854775800, whole (pos 36028797018963967) (pos 0)) ∷
-    (9223372036854776056, whole (negsuc 36028797018963967) (pos 0)) ∷
-    (2560000000000000184, float (pos 1) (pos 20)) ∷
-    (2560000000000000232, float (pos 1) (pos 23)) ∷
-    (9223372036854775928, float (negsuc 36028797018963967) (pos 0)) ∷
-    (264, float (pos 1) (negsuc 6)) ∷
-    (9223372036854775688, float (pos 36028797018963967) (pos 1)) ∷
-    []))
-kept_words = refl

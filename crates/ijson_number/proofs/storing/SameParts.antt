@@ -7,6 +7,7 @@ use Rattle.std.specs.Ordering.{is_eq}
 use Rattle.std.specs.Cmp.Lexicographic.{pointwise}
 use Rattle.std.proofs.Math.Bool.{beq}
 use Rattle.std.proofs.Math.Dec.{eqb}
+use Rattle.std.proofs.lemmas.Bool.{false_from_ne_true}
 use Rattle.std.proofs.lemmas.Bool.Decides.{Decides-eqb}
 use Rattle.std.proofs.lemmas.Slice.Eq.{slice_eq-Decides}
 use Rattle.ijson_number.specs.Decimal.{Decimal}
@@ -42,10 +43,6 @@ other_signs true false h e = cc
 other_signs false true h e = cc
 other_signs false false h e = absurd (cc)
 
-never : (v b : Bool) → v ≡ false → (b ≡ true → ⊥) → v ≡ b
-never v true e h = absurd (h refl)
-never v false e h = e
-
 module _ (n n' : Bool) (ds ds' : List ℕ) (e e' : ℤ) (p p' : Bool) (a b : Decimal) (view : stored_number n ds e p ≡ a)
     (view' : stored_number n' ds' e' p' ≡ b) (num : IsNum (stored_number n ds e p)) (num' : IsNum (stored_number n' ds' e' p'))
     (k : IsStored n ds) (k' : IsStored n' ds') where
@@ -75,8 +72,8 @@ module _ (n n' : Bool) (ds ds' : List ℕ) (e e' : ℤ) (p p' : Bool) (a b : Dec
 
   -- with different signs they differ
   pub signs_tell : (n ≡ n' → ⊥) → false ≡ number_eq a b
-  signs_tell h = never false (number_eq a b) refl (λ is. h (equal_sign is))
+  signs_tell h = sym (false_from_ne_true (number_eq a b) (λ is. h (equal_sign is)))
 
   -- with different exponents they differ
   pub exponents_tell : (e ≡ e' → ⊥) → false ≡ number_eq a b
-  exponents_tell h = never false (number_eq a b) refl (λ is. h (mantissa_exponent is).1)
+  exponents_tell h = sym (false_from_ne_true (number_eq a b) (λ is. h (mantissa_exponent is).1))

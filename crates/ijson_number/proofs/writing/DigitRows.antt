@@ -6,9 +6,7 @@ use Rattle.std.proofs.lemmas.List.{drop-drop, drop-map, length-take-le, take_all
 use Rattle.std.proofs.lemmas.List.Elements.{recursion_from_All}
 use Rattle.std.proofs.lemmas.Simd.{length-zip2, zip2_splat}
 use lib.Lanes.{zip2}
-use Rattle.std.specs.Str.{IsAscii}
 use Rattle.ijson_number.specs.Text.{digits_text}
-use Rattle.ijson_number.proofs.writing.AsciiTexts.{digits_text_ascii}
 use Rattle.ijson_number.proofs.writing.WrittenLanes.{digit}
 
 abbrev pub with_zero : List ℕ → List ℕ
@@ -43,12 +41,5 @@ module _ (buffer : List ℕ) (long : length buffer ≡ 19) where
       ∙ text_from (drop (19 - count) buffer) (recursion_from_All (λ d. d < 10) (drop (19 - count) buffer) below)
 
 -- 16 digits
-module _ (ds : List ℕ) (long : length ds ≡ 16) (below : All (λ d. d < 10) ds) where
-  pub row_text : with_zero ds ≡ digits_text ds
-  row_text = zip2_splat (λ a b. (a + b) % 2 ^ 8) ds 16 48 long ∙ text_from ds (recursion_from_All (λ d. d < 10) ds below)
-
-  pub row_long : length (with_zero ds) ≡ 16
-  row_long = length-zip2 (λ a b. (a + b) % 2 ^ 8) ds (replicate 16 48) long ∙ long
-
-  pub row_ascii : IsAscii (with_zero ds)
-  row_ascii = rw row_text (digits_text_ascii ds below)
+pub row_text : (ds : List ℕ) → length ds ≡ 16 → All (λ d. d < 10) ds → with_zero ds ≡ digits_text ds
+row_text ds long below = zip2_splat (λ a b. (a + b) % 2 ^ 8) ds 16 48 long ∙ text_from ds (recursion_from_All (λ d. d < 10) ds below)

@@ -10,7 +10,7 @@ use Rattle.std.specs.Fmt.{decimal}
 use Rattle.std.specs.Int.Digits.{digits_of}
 use Rattle.ijson_number.specs.Decimal.{Decimal}
 use Rattle.ijson_number.specs.Form.{FormOf, packed, digits_form, integer_form, fits_packed, smallest_packed, form_of}
-use Rattle.ijson_number.specs.Text.{point_text, scientific_text, minus_text, num_text}
+use Rattle.ijson_number.specs.Text.{float_text, minus_text, num_text}
 use Rattle.ijson_number.specs.Stripped.{tens_out, stripped_number}
 use Rattle.ijson_number.specs.StoredNumber.{stored_number}
 use Rattle.ijson_number.specs.private.WordText.{pointed_text}
@@ -18,7 +18,7 @@ use Rattle.ijson_number.specs.laws.Tens.{ten_pos}
 use Rattle.ijson_number.proofs.storing.FormCases.{taken as form_taken}
 use Rattle.ijson_number.proofs.storing.IntegerWords.{below_test, zero_is, some_stored, tens_are, without_tens}
 use Rattle.ijson_number.proofs.BooleanTests.{abs_zero, test_le, not_le, not_lt}
-use Rattle.ijson_number.proofs.writing.Writing.{stored_text, left}
+use Rattle.ijson_number.proofs.writing.Writing.{stored_text}
 use Rattle.ijson_number.proofs.writing.WordTexts.{count_is, fraction_is}
 
 either_form : (b : Bool) (x y f : FormOf) → (let r : FormOf = elim b [ true ↦ x | false ↦ y ] in r) ≡ f → ((b ≡ true) × (x ≡ f)) ⊎ (y ≡ f)
@@ -148,10 +148,7 @@ module _ (m e : ℤ) (k : ℕ) (word : nat_abs m < 2 ^ 64) (scale : 0 < k) (belo
         ap num_text stored_at
         ∙ sym (stored_text sign shown_digits e true (some_stored abs last sign).stripped one_digit)
         ∙ ap (λ x. minus_text sign ++ x)
-        (sym (left (int_le point_place (negsuc 5) || int_lt (pos 20) e) (scientific_text shown_digits point_place)
-        (point_text shown_digits point_place) plain)
-        ∙ fraction_is abs positive word k (abs / 10 ^ k) (abs % 10 ^ k) scale parts rest_below point_place
-        (omega (arith, ints)))
+        (rw (plain, float_text) (fraction_is abs positive word k (abs / 10 ^ k) (abs % 10 ^ k) scale parts rest_below point_place (omega (arith, ints))))
 
 pub exponent_small : (m e : ℤ) → e <ℤ pos 0 → form_of (stripped_number m e true) ≡ packed m e true → nat_abs e < 8
 exponent_small m e l form =

@@ -9,7 +9,7 @@ use Rattle.ijson_number.specs.private.SplitText.{split_text}
 use Rattle.ijson_number.specs.StoredNumber.{stored_number}
 use Rattle.ijson_number.specs.private.Stripped.{IsStripped}
 use Rattle.ijson_number.specs.private.WordText.{integer_text}
-use Rattle.ijson_number.proofs.writing.Writing.{left, float_shape_is, more_digits, stored_text, taken}
+use Rattle.ijson_number.proofs.writing.Writing.{float_shape_is, more_digits, stored_text}
 use Rattle.ijson_number.proofs.BooleanTests.{le_test, not_le, not_lt}
 
 pub below_zero : (e x : ℤ) → x ≡ e → int_le (pos 0) x ≡ false → e <ℤ pos 0
@@ -18,29 +18,23 @@ below_zero e x same test = grind (arith, ints)
 pub row_shown : (negative : Bool) (ds : List ℕ) (e : ℤ) (point : Bool) (k : ℕ) → IsStripped ds → point ≡ true → e <ℤ pos 0 → k ≡ nat_abs e
     → k < length ds → split_text negative ds (length ds - k) ≡ num_text (stored_number negative ds e point)
 row_shown negative ds e point k s p below is inside =
-    let m : ℕ = length ds - k in
     let place : pos (length ds - k) ≡ pos (length ds) +ℤ e = omega (arith, ints) in
-    let not_scientific : int_lt (pos 20) e ≡ false = not_lt (pos 20) e (omega (arith, ints)) in
-    let not_front : int_le (pos (length ds - k)) (pos 0) ≡ false = not_le (pos (length ds - k)) (pos 0) (omega (arith, ints)) in
-    let not_behind : int_le (pos (length ds)) (pos (length ds - k)) ≡ false =
+    let written : int_lt (pos 20) e ≡ false = not_lt (pos 20) e (omega (arith, ints)) in
+    let front : int_le (pos (length ds - k)) (pos 0) ≡ false = not_le (pos (length ds - k)) (pos 0) (omega (arith, ints)) in
+    let behind : int_le (pos (length ds)) (pos (length ds - k)) ≡ false =
     not_le (pos (length ds)) (pos (length ds - k)) (omega (arith, ints)) in
-    let shape : point_text ds (pos (length ds - k)) ≡ shape_text point ds e =
-    float_shape_is false point ds e (pos (length ds - k)) p place not_scientific in
-    let split : digits_text (take (length ds - k) ds) ++ 46 ∷ digits_text (drop (length ds - k) ds) ≡ point_text ds
-    (pos (length ds - k)) = left (int_le (pos (length ds)) (pos (length ds - k))) _ _ not_behind
-    ∙ left (int_le (pos (length ds - k)) (pos 0)) _ _ not_front in
-    ap (λ x. minus_text negative ++ x) (split ∙ shape) ∙ stored_text negative ds e point s (omega arith)
+    ap (λ x. minus_text negative ++ x)
+    (rw (front, behind, point_text) at (float_shape_is false point ds e (pos (length ds - k)) p place written))
+    ∙ stored_text negative ds e point s (omega arith)
 
 -- the point is before all digits, with few zeros between, so that the text has no exponent
 pub fraction_shown : (negative : Bool) (ds : List ℕ) (e : ℤ) (point : Bool) (p : ℤ) → IsStripped ds → point ≡ true → 0 < length ds
     → p ≡ pos (length ds) +ℤ e → p ≤ℤ pos 0 → int_le p (negsuc 5) || int_lt (pos 20) e ≡ false
     → minus_text negative ++ (48 ∷ 46 ∷ zeros_text (nat_abs p) ++ digits_text ds) ≡ num_text (stored_number negative ds e point)
 fraction_shown negative ds e point p s is some place front not_scientific =
-    let pointed : 48 ∷ 46 ∷ zeros_text (nat_abs p) ++ digits_text ds ≡ point_text ds p =
-    taken (int_le p (pos 0)) _ _ (le_test p (pos 0) front) in
-    let shape : 48 ∷ 46 ∷ zeros_text (nat_abs p) ++ digits_text ds ≡ shape_text point ds e =
-    pointed ∙ float_shape_is false point ds e p is place not_scientific in
-    ap (λ x. minus_text negative ++ x) shape ∙ stored_text negative ds e point s some
+    let before : int_le p (pos 0) ≡ true = le_test p (pos 0) front in
+    ap (λ x. minus_text negative ++ x) (rw (before, point_text) at (float_shape_is false point ds e p is place not_scientific))
+    ∙ stored_text negative ds e point s some
 
 -- the text of a whole number as std writes it, by its sign
 signed_is : (z : ℤ) → integer_text (int_lt z (pos 0)) (nat_abs z) ≡ signed_decimal z

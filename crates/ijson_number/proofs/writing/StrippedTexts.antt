@@ -1,10 +1,10 @@
 -- The text of canonical digits alone.
-use Rattle.std.proofs.Common.{◌≡◌, ◌≢◌, ℕ, ◌*◌, ◌%◌, ◌^◌, ◌<◌, false, List, [], ◌++◌, length, refl, ap, sym, subst, ◌∙◌, arith}
+use Rattle.std.proofs.Common.{◌≡◌, ◌≢◌, ℕ, ◌+◌, ◌*◌, ◌%◌, ◌^◌, ◌<◌, false, List, [], ◌++◌, length, refl, ap, sym, subst, ◌∙◌, append_assoc, arith}
 use Rattle.std.specs.Prelude.{ℤ, pos, nat_abs, ◌+ℤ◌, Bool, int_lt}
 use Rattle.std.specs.Fmt.{decimal}
 use Rattle.std.specs.Int.Digits.{digits_of}
 use Rattle.std.specs.List.{All}
-use Rattle.std.proofs.lemmas.List.{take_at, drop_at}
+use Rattle.std.proofs.lemmas.List.{map-append, take_at, drop_at}
 use Rattle.std.proofs.lemmas.List.Elements.{All-take, All-drop}
 use Rattle.ijson_number.specs.Decimal.{Decimal}
 use Rattle.ijson_number.specs.StoredNumber.{stored_number}
@@ -50,3 +50,9 @@ module _ (P : ℕ → Type 0) (all front back : List ℕ) (parts : all ≡ front
 
   pub back_too : All P back
   back_too = subst (All P) (drop_at front back (length front) refl) (All-drop P (length front) (front ++ back) (subst (All P) parts each))
+
+-- one run more is written
+pub run_more : (done text run rest all : List ℕ) (whole : List ℕ) → all ≡ run ++ rest → text ≡ digits_text run → done ++ digits_text all ≡ whole
+    → (done ++ text) ++ digits_text rest ≡ whole
+run_more done text run rest all whole is shown so_far =
+    rw (shown, append_assoc done, ← map-append {A = ℕ} {B = ℕ} (λ d. 48 + d) run rest, ← is) so_far

@@ -10,7 +10,7 @@ use Rattle.std.proofs.lemmas.List.{length-append, length-map, take_at, drop_at, 
 use Rattle.std.specs.Fmt.{decimal}
 use Rattle.std.specs.Int.Digits.{digits_of}
 use Rattle.ijson_number.specs.Decimal.{Decimal}
-use Rattle.ijson_number.specs.Text.{digits_text, zeros_text, point_text, scientific_text, float_text, shape_text, minus_text, num_text}
+use Rattle.ijson_number.specs.Text.{digits_text, zeros_text, point_text, float_text, shape_text, minus_text, num_text}
 use Rattle.ijson_number.specs.Stripped.{tens_out, stripped_number}
 use Rattle.ijson_number.specs.StoredNumber.{stored_number}
 use Rattle.ijson_number.specs.private.Word.{word_code, word_exponent, word_mantissa, word_point}
@@ -19,7 +19,7 @@ use Rattle.ijson_number.specs.laws.Tens.{ten_pos, zero_or_not}
 use Rattle.ijson_number.proofs.storing.FormNumbers.{IsTensOut}
 use Rattle.ijson_number.proofs.storing.IntegerWords.{few_tens, zero_is, some_stored, tens_are, without_tens}
 use Rattle.ijson_number.proofs.BooleanTests.{abs_zero, le_test, not_le, not_lt}
-use Rattle.ijson_number.proofs.writing.Writing.{decimal_is, stored_text, taken, left}
+use Rattle.ijson_number.proofs.writing.Writing.{decimal_is, stored_text}
 use Rattle.ijson_number.proofs.writing.PaddedDigits.{joined, last_count, last_zeros, padded, some_places, whole_small}
 
 module _ (magnitude : ℕ) (some : 0 < magnitude) (small : magnitude < 2 ^ 64) where
@@ -41,9 +41,7 @@ module _ (magnitude : ℕ) (some : 0 < magnitude) (small : magnitude < 2 ^ 64) w
         let short : length ds ≤ k = length-digits_of-le 10 k magnitude (omega arith) (rw same below) in
         let at : int_le place (pos 0) ≡ true = le_test place (pos 0) (omega (arith, ints)) in
         let zeros : nat_abs place ≡ k - length (decimal magnitude) = rw (← count_is) (omega (arith, ints)) in
-        let behind : zeros_text (nat_abs place) ++ digits_text ds ≡ last_digits k magnitude =
-        rw (zeros, text_is) (padded k magnitude some (rw same below) (omega arith)) in
-        sym (taken (int_le place (pos 0)) _ _ at) ∙ ap (λ x. 48 ∷ 46 ∷ x) behind ∙ rw (none, decimal_digit 0 (omega arith), same) refl
+        rw (at, point_text, zeros, text_is, padded k magnitude some (rw same below) (omega arith), none, decimal_digit 0 (omega arith), same) refl
 
     between_digits : 0 < whole → point_text ds place ≡ decimal whole ++ 46 ∷ last_digits k fraction
     between_digits above =
@@ -57,9 +55,10 @@ module _ (magnitude : ℕ) (some : 0 < magnitude) (small : magnitude < 2 ^ 64) w
         let first : int_le place (pos 0) ≡ false = not_le place (pos 0) (omega (arith, ints)) in
         let second : int_le (pos (length ds)) place ≡ false = not_le (pos (length ds)) place (omega (arith, ints)) in
         let cut : nat_abs place ≡ length (decimal whole) = omega (arith, ints) in
-        sym (left (int_le place (pos 0)) _ _ first)
-        ∙ sym (left (int_le (pos (length ds)) place) _ _ second)
-        ∙ rw (
+        rw (
+          first,
+          second,
+          point_text,
           cut,
           ← take-map {X = ℕ} {Y = ℕ} (λ d. 48 + d) (length (decimal whole)) ds,
           ← drop-map {X = ℕ} {Y = ℕ} (λ d. 48 + d)
@@ -138,10 +137,7 @@ module _ (z : ℤ) (word : nat_abs z < 2 ^ 64) where
         let first : int_le place (pos 0) ≡ false = not_le place (pos 0) (omega (arith, ints)) in
         let second : int_le (pos (length kept)) place ≡ true = le_test (pos (length kept)) place (omega (arith, ints)) in
         let zeros : nat_abs (place -ℤ pos (length kept)) ≡ out.1 = omega (arith, ints) in
-        sym (left (int_le place (negsuc 5) || int_lt (pos 20) (pos out.1)) (scientific_text kept place) (point_text kept place) plain)
-        ∙ sym (left (int_le place (pos 0)) _ _ first)
-        ∙ sym (taken (int_le (pos (length kept)) place) _ _ second)
-        ∙ rw zeros (ap (λ x. x ++ (46 ∷ 48 ∷ [])) with_zeros)
+        rw (plain, float_text, first, second, point_text, zeros) (ap (λ x. x ++ (46 ∷ 48 ∷ [])) with_zeros)
 
     some_whole : num_text (stripped_number z (pos 0) true) ≡ pointed_text negative magnitude 1 0
     some_whole =

@@ -14,11 +14,7 @@ sign_word false = refl
 
 exponent_word : (e f : ℤ) → f ≡ to_z w32 (of_z w32 e) → FitsSigned w32 e
     → nat_abs (to_z w64 (of_z w64 (to_z w64 (of_z w64 f) +ℤ pos 2147483648))) ≡ nat_abs (e +ℤ pos 2147483648)
-exponent_word e f is fits =
-    let same : f ≡ e = rw (to_z-of_z w32 e fits) at is in
-    let g : FitsSigned w64 f = omega (arith, ints) in
-    let h : FitsSigned w64 (f +ℤ pos 2147483648) = omega (arith, ints) in
-    rw (to_z-of_z w64 f g, to_z-of_z w64 (f +ℤ pos 2147483648) h) (ap (λ x. nat_abs (x +ℤ pos 2147483648)) same)
+exponent_word e f is fits = omega (arith, ints)
 
 pub loop-digit-preserved : goal.loop-digit-preserved
 loop-digit-preserved g c = grind (arith, common_steps, flat_map-append, fold-append)

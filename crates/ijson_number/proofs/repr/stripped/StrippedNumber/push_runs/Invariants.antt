@@ -10,5 +10,5 @@ invariant-loop-run l =
     × goal.iterator-loop-run.is_finite l.run-iterator
     × (chunks_size l.run-iterator ≡ 20)
     × All (λ d. d < 10) (chunks_rest l.run-iterator)
-    × ((done : List ℕ) × (done ++ chunks_rest l.run-iterator ≡ l.self.digits.now)
-    × (string_bytes l.out ≡ string_bytes l.initial.out ++ digits_text done))
+    × ((done : List ℕ) × (done ++ digits_text (chunks_rest l.run-iterator) ≡ digits_text l.self.digits.now)
+    × (string_bytes l.out ≡ string_bytes l.initial.out ++ done))

@@ -1,4 +1,4 @@
-use Rattle.std.proofs.Common.{◌≡◌, ◌-◌, ◌+◌, ◌<◌, ◌≤◌, List, ℕ, length, take, drop, drop-drop, take_all, ap, refl, arith}
+use Rattle.std.proofs.Common.{◌≡◌, ◌-◌, ◌+◌, ◌<◌, ◌≤◌, List, ℕ, length, take, drop, drop-drop, take_all, ◌∙◌, arith}
 use Rattle.std.specs.List.{All}
 use Rattle.std.proofs.lemmas.List.{drop-map, length-drop, length-take-le, take-map, take-take}
 use Rattle.std.proofs.lemmas.List.Elements.{All-drop, All-take}
@@ -6,7 +6,8 @@ use Rattle.std.proofs.lemmas.Str.{IsAscii-drop}
 use Rattle.ijson_number.specs.Text.{digits_text}
 use Rattle.ijson_number.proofs.writing.AsciiTexts.{digits_text_ascii}
 use Rattle.ijson_number.proofs.writing.Beginnings.{all_or_none}
-use Rattle.ijson_number.proofs.writing.DigitRows.{row_ascii, row_long, row_text, with_zero}
+use Rattle.ijson_number.proofs.writing.DigitRows.{row_text, with_zero}
+use Rattle.ijson_number.proofs.writing.DigitTexts.{length_text}
 use Rattle.ijson_number.proofs.repr.stripped.StrippedNumber.push_split.Goals as goal
 
 -- at most 16 digits, with which a vector ends
@@ -23,46 +24,15 @@ module _ (lanes ds : List ℕ) (few : length ds ≤ 16) (is : drop (16 - length 
 
 -- more digits: one vector has the first of them, and another the last
 module _ (ds : List ℕ) (below : All (λ d. d < 10) ds) (many : 16 < length ds) where
-  abbrev first : List ℕ
-  first = take 16 ds
+  first_is : with_zero (take 16 ds) ≡ digits_text (take 16 ds)
+  first_is = row_text (take 16 ds) (length-take-le 16 ds (omega arith)) (All-take (λ d. d < 10) 16 ds below)
 
-  abbrev last : List ℕ
-  last = take 16 (take (length ds - (length ds - 16)) (drop (length ds - 16) ds))
-
-  first_long : length first ≡ 16
-  first_long = length-take-le 16 ds (omega arith)
-
-  first_below : All (λ d. d < 10) first
-  first_below = All-take (λ d. d < 10) 16 ds below
-
-  last_is : last ≡ drop (length ds - 16) ds
+  last_is : with_zero (take 16 (take (length ds - (length ds - 16)) (drop (length ds - 16) ds))) ≡ digits_text (drop (length ds - 16) ds)
   last_is =
+      let last = drop (length ds - 16) ds in
       let long = length-drop (length ds - 16) ds in
-      rw (take_all (length ds - (length ds - 16)) (drop (length ds - 16) ds) (omega (arith, long)))
-      (take_all 16 (drop (length ds - 16) ds) (omega (arith, long)))
-
-  last_long : length last ≡ 16
-  last_long = rw last_is (omega (arith, length-drop (length ds - 16) ds))
-
-  last_below : All (λ d. d < 10) last
-  last_below = rw last_is (All-drop (λ d. d < 10) (length ds - 16) ds below)
-
-  module _ (scale : ℕ) (inside : scale ≤ 16) (most : length ds ≤ scale + 16) where
-    first_shown : take (length ds - scale) (with_zero first) ≡ digits_text (take (length ds - scale) ds)
-    first_shown =
-        rw (row_text first first_long first_below, take-map {X = ℕ} {Y = ℕ} (λ d. 48 + d) (length ds - scale) first)
-        (ap digits_text (take-take (length ds - scale) 16 ds (omega arith)))
-
-    last_shown : drop (16 - scale) (with_zero last) ≡ digits_text (drop (length ds - scale) ds)
-    last_shown =
-        let at : length ds - 16 + (16 - scale) ≡ length ds - scale = omega arith in
-        rw (
-          row_text last last_long last_below,
-          last_is,
-          drop-map {X = ℕ} {Y = ℕ} (λ d. 48 + d) (16 - scale) (drop (length ds - 16) ds),
-          drop-drop {A = ℕ} (16 - scale) (length ds - 16) ds,
-          at,
-        ) refl
+      rw (take_all (length ds - (length ds - 16)) last (omega (arith, long)), take_all 16 last (omega (arith, long)))
+      (row_text last (omega (arith, long)) (All-drop (λ d. d < 10) (length ds - 16) ds below))
 
 pub push_rows-requires-clause-whole : goal.push_rows-requires-clause-whole
 push_rows-requires-clause-whole c =
@@ -99,9 +69,10 @@ push_rows-requires-2-clause-whole c =
     let n = c.args.self.now in
     let ds = n.digits.now in
     let below = n.stripped.stripped.below_ten in
-    let many : 16 < length ds = omega (arith, c.if-count-le-LANES.false) in (
-      row_long (first ds below many) (first_long ds below many) (first_below ds below many),
-      row_ascii (first ds below many) (first_long ds below many) (first_below ds below many),
+    let many : 16 < length ds = omega (arith, c.if-count-le-LANES.false) in
+    rw (first_is ds below many) (
+      length_text (take 16 ds) ∙ length-take-le 16 ds (omega arith),
+      digits_text_ascii (take 16 ds) (All-take (λ d. d < 10) 16 ds below),
     )
 
 pub push_rows-requires-2-clause-fraction : goal.push_rows-requires-2-clause-fraction
@@ -110,20 +81,29 @@ push_rows-requires-2-clause-fraction c =
     let ds = n.digits.now in
     let below = n.stripped.stripped.below_ten in
     let many : 16 < length ds = omega (arith, c.if-count-le-LANES.false) in
-    let row = last ds below many in (
-      row_long row (last_long ds below many) (last_below ds below many),
-      IsAscii-drop (with_zero row) (16 - c.args.scale) (row_ascii row (last_long ds below many) (last_below ds below many)),
+    let last = drop (length ds - 16) ds in
+    rw (last_is ds below many) (
+      omega (arith, length_text last, length-drop (length ds - 16) ds),
+      IsAscii-drop (digits_text last) (16 - c.args.scale)
+          (digits_text_ascii last (All-drop (λ d. d < 10) (length ds - 16) ds below)),
     )
 
 pub returns : goal.returns
 returns c =
     let n = c.args.self.now in
     let ds = n.digits.now in
+    let scale = c.args.scale in
     let below = n.stripped.stripped.below_ten in
     let many : 16 < length ds = omega (arith, c.if-count-le-LANES.false) in
-    let places : c.args.scale ≤ 16 = omega (arith, c.if-scale-gt-LANES.false) in
-    let whole : length ds ≤ c.args.scale + 16 = omega (arith, c.if-before-gt-LANES.false) in
+    let places : scale ≤ 16 = omega (arith, c.if-scale-gt-LANES.false) in
+    let whole : length ds ≤ scale + 16 = omega (arith, c.if-before-gt-LANES.false) in
+    let at : length ds - 16 + (16 - scale) ≡ length ds - scale = omega arith in
     all_or_none _ _ _ _ (rw (
-      ← first_shown ds below many c.args.scale places whole,
-      ← last_shown ds below many c.args.scale places whole,
-    ) c.push_rows-2.ensures.written) c.push_rows-2.ensures.refused
+      first_is ds below many,
+      last_is ds below many,
+      take-map {X = ℕ} {Y = ℕ} (λ d. 48 + d) (length ds - scale) (take 16 ds),
+      take-take (length ds - scale) 16 ds (omega arith),
+      drop-map {X = ℕ} {Y = ℕ} (λ d. 48 + d) (16 - scale) (drop (length ds - 16) ds),
+      drop-drop {A = ℕ} (16 - scale) (length ds - 16) ds,
+      at,
+    ) at c.push_rows-2.ensures.written) c.push_rows-2.ensures.refused

@@ -11,5 +11,5 @@ invariant-loop-run g l =
     × (goal.iterator-loop-run g).is_finite l.run-iterator
     × (chunks_size l.run-iterator ≡ 20)
     × All (λ d. d < 10) (chunks_rest l.run-iterator)
-    × ((done : List ℕ) × (done ++ chunks_rest l.run-iterator ≡ l.self.digits.now)
-    × (IsPlainFormatter l.initial.f → HasWritten g.W.Write.write_str_gives l.initial.f (digits_text done) l.f))
+    × ((done : List ℕ) × (done ++ digits_text (chunks_rest l.run-iterator) ≡ digits_text l.self.digits.now)
+    × (IsPlainFormatter l.initial.f → HasWritten g.W.Write.write_str_gives l.initial.f done l.f))
