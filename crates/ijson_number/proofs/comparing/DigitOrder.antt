@@ -12,7 +12,8 @@ use Rattle.std.proofs.lemmas.List.{drop_all}
 use Rattle.std.specs.Cmp.{nat_cmp_total, tied_itself}
 use Rattle.ijson_number.specs.Decimal.{Decimal, IsPlain}
 use Rattle.ijson_number.specs.StoredNumber.{stored_number}
-use Rattle.ijson_number.specs.private.StoredNumber.{IsStored}
+use Rattle.ijson_number.specs.declared.repr.stripped.StrippedNumber.{StrippedNumber}
+use Rattle.ijson_number.specs.private.StrippedNumber.{decimal_of}
 use Rattle.ijson_number.specs.private.Stripped.{IsStripped}
 use Rattle.ijson_number.specs.StrippedDigits.{stripped_digits}
 use Rattle.ijson_number.proofs.storing.DigitsOf.{digits_are, stored_digits_are}
@@ -50,6 +51,8 @@ module _ (n : Decimal) (plain : IsPlain n) where
   are_stripped some = subst IsStripped (sym digits_is) (whole_stripped (nat_abs n.mantissa) (plain.stripped some))
 
 -- stored digits are the canonical digits of their number
-pub row_digits : (negative : Bool) (ds : List ℕ) (e : ℤ) (point : Bool) (n : Decimal) → stored_number negative ds e point ≡ n
-    → IsStored negative ds → ds ≡ stripped_digits n
-row_digits negative ds e point n view k = sym (ap stripped_digits (sym view) ∙ stored_digits_are negative ds e point k.stripped)
+pub row_digits : (x : StrippedNumber) (n : Decimal) → decimal_of x ≡ n → x.digits.now ≡ stripped_digits n
+row_digits x n view = sym (ap stripped_digits (sym view) ∙ stored_digits_are x.negative x.digits.now x.exponent x.point x.stripped.stripped)
+
+pub row_is : (x : StrippedNumber) → x.digits.now ≡ stripped_digits (decimal_of x)
+row_is x = row_digits x (decimal_of x) refl

@@ -79,10 +79,6 @@ signs_cmp a b s t p q n =
     apart (at_exponent c a) (at_exponent c b) s t (p ∙ scaled a.mantissa (nat_abs (a.exponent -ℤ c)))
     (q ∙ scaled b.mantissa (nat_abs (b.exponent -ℤ c))) n
 
--- zeros are equal
-pub zeros_cmp : (a b : Decimal) → int_cmp a.mantissa (pos 0) ≡ Equal → int_cmp b.mantissa (pos 0) ≡ Equal → number_cmp a b ≡ Equal
-zeros_cmp a b p q = rw (cmp_equal a.mantissa (pos 0) p, cmp_equal b.mantissa (pos 0) q) (grind (arith, ints))
-
 below_is_minus : (z : ℤ) → int_cmp z (pos 0) ≡ Less → int_lt z (pos 0) ≡ true
 below_is_minus z h = grind (arith, ints)
 
@@ -90,7 +86,11 @@ above_is_no_minus : (z : ℤ) → int_cmp z (pos 0) ≡ Greater → int_lt z (po
 above_is_no_minus z h = grind (arith, ints)
 
 -- two numbers of one sign
-module _ (a b : Num) where
+module _ (a b : Num) (s t : Ordering) (p : s ≡ int_cmp a.decimal.mantissa (pos 0)) (q : t ≡ int_cmp b.decimal.mantissa (pos 0))
+    (same : s ≡ t) where
+  other : (sign : Ordering) → s ≡ sign → int_cmp b.decimal.mantissa (pos 0) ≡ sign
+  other sign is = sym q ∙ sym same ∙ is
+
   -- are compared by their digits with that sign:
   same_sign : (minus : Bool) → int_lt a.decimal.mantissa (pos 0) ≡ minus → int_lt b.decimal.mantissa (pos 0) ≡ minus
       → number_cmp (stored_number minus (stripped_digits a.decimal) a.decimal.exponent a.decimal.point)
@@ -101,16 +101,20 @@ module _ (a b : Num) where
       ∙ ap₂ number_cmp (digits_case a.decimal a.is_num.plain) (digits_case b.decimal b.is_num.plain)
 
   -- if negative, in the reverse order of their absolute values,
-  pub below_zero_is : int_cmp a.decimal.mantissa (pos 0) ≡ Less → int_cmp b.decimal.mantissa (pos 0) ≡ Less
-      → magnitude_cmp b.decimal a.decimal ≡ number_cmp a.decimal b.decimal
-  below_zero_is h g =
+  pub below_zero_is : s ≡ Less → magnitude_cmp b.decimal a.decimal ≡ number_cmp a.decimal b.decimal
+  below_zero_is is =
       sym (flipped (stripped_digits a.decimal) (stripped_digits b.decimal) a.decimal.exponent b.decimal.exponent)
-      ∙ same_sign true (below_is_minus a.decimal.mantissa h) (below_is_minus b.decimal.mantissa g)
+      ∙ same_sign true (below_is_minus a.decimal.mantissa (sym p ∙ is)) (below_is_minus b.decimal.mantissa (other Less is))
 
-  -- and if positive, in their order
-  pub above_zero_is : int_cmp a.decimal.mantissa (pos 0) ≡ Greater → int_cmp b.decimal.mantissa (pos 0) ≡ Greater
-      → magnitude_cmp a.decimal b.decimal ≡ number_cmp a.decimal b.decimal
-  above_zero_is h g = same_sign false (above_is_no_minus a.decimal.mantissa h) (above_is_no_minus b.decimal.mantissa g)
+  -- if positive, in their order,
+  pub above_zero_is : s ≡ Greater → magnitude_cmp a.decimal b.decimal ≡ number_cmp a.decimal b.decimal
+  above_zero_is is =
+      same_sign false (above_is_no_minus a.decimal.mantissa (sym p ∙ is)) (above_is_no_minus b.decimal.mantissa (other Greater is))
+
+  -- and zeros are equal
+  pub zeros_cmp : s ≡ Equal → number_cmp a.decimal b.decimal ≡ Equal
+  zeros_cmp is =
+      rw (cmp_equal a.decimal.mantissa (pos 0) (sym p ∙ is), cmp_equal b.decimal.mantissa (pos 0) (other Equal is)) (grind (arith, ints))
 
 -- two signs are equal if their indices are
 pub tests_same : (s t : Ordering) (r : Bool) → r ≡ not (ordering_index s == ordering_index t) → r ≡ false → s ≡ t

@@ -26,8 +26,8 @@ use Rattle.ijson_number.proofs.writing.Writing.{below_zero}
 
 -- a mantissa of zero
 pub zero_is : (negative : Bool) (e : ℤ) (point : Bool) → stripped_number (signed negative 0) e point ≡ stored_number false [] (pos 0) point
-zero_is true e point = same_decimal _ (pos 0) _ (pos 0) point point (ap pos (tens_out_zero 20)) refl refl
-zero_is false e point = same_decimal _ (pos 0) _ (pos 0) point point (ap pos (tens_out_zero 20)) refl refl
+zero_is true e point = rw (tens_out_zero 20) refl
+zero_is false e point = rw (tens_out_zero 20) refl
 
 module _ (magnitude s t : ℕ) (some : magnitude ≢ 0) (small : magnitude < 10 ^ 20) (tens : magnitude ≡ s * 10 ^ t) (last : s % 10 ≢ 0) where
   abbrev out : ℕ × ℕ
@@ -158,17 +158,14 @@ below_test a b h = grind (arith, ints)
 
 -- a signed word
 pub signed_small : (z : ℤ) → FitsSigned w64 z → nat_abs z < 2 ^ 64
-signed_small (pos n) h = omega (arith, ints)
-signed_small (negsuc n) h = omega (arith, ints)
+signed_small z h = omega (arith, ints)
 
 pub signed_fits : (z : ℤ) → FitsSigned w64 z → fits_i64 z ≡ true
-signed_fits z h = and_from (int_le (neg_ℤ (pos (2 ^ 63))) z) (int_lt z (pos (2 ^ 63)))
-    (le_test (neg_ℤ (pos (2 ^ 63))) z (omega (arith, ints))) (below_test z (pos (2 ^ 63)) (omega (arith, ints)))
+signed_fits z h = and_from _ _ (le_test (neg_ℤ (pos (2 ^ 63))) z (omega (arith, ints))) (below_test z (pos (2 ^ 63)) (omega (arith, ints)))
 
 -- an unsigned word
 pub unsigned_fits : (n : ℕ) → n < 2 ^ 64 → fits_u64 (pos n) ≡ true
-unsigned_fits n h = and_from (int_le (pos 0) (pos n)) (int_lt (pos n) (pos (2 ^ 64))) (le_test (pos 0) (pos n) (omega (arith, ints)))
-    (below_test (pos n) (pos (2 ^ 64)) (omega (arith, ints)))
+unsigned_fits n h = and_from _ _ (le_test (pos 0) (pos n) (omega (arith, ints))) (below_test (pos n) (pos (2 ^ 64)) (omega (arith, ints)))
 
 pub signed_known : (z : ℤ) → FitsSigned w64 z → fits_i64 z ≡ false → fits_u64 z ≡ true
 signed_known z h n = absurd (let e = signed_fits z h in cc)

@@ -11,7 +11,8 @@ use Rattle.std.proofs.lemmas.Bool.{false_from_ne_true}
 use Rattle.std.proofs.lemmas.Bool.Decides.{Decides-eqb}
 use Rattle.std.proofs.lemmas.Slice.Eq.{slice_eq-Decides}
 use Rattle.ijson_number.specs.Decimal.{Decimal}
-use Rattle.ijson_number.specs.Num.{IsNum}
+use Rattle.ijson_number.specs.declared.repr.stripped.StrippedNumber.{StrippedNumber}
+use Rattle.ijson_number.specs.private.StrippedNumber.{decimal_of}
 use Rattle.ijson_number.specs.Strips.{signed}
 use Rattle.ijson_number.specs.StrippedDigits.{digits_within}
 use Rattle.ijson_number.specs.StoredNumber.{stored_number}
@@ -43,37 +44,34 @@ other_signs true false h e = cc
 other_signs false true h e = cc
 other_signs false false h e = absurd (cc)
 
-module _ (n n' : Bool) (ds ds' : List ℕ) (e e' : ℤ) (p p' : Bool) (a b : Decimal) (view : stored_number n ds e p ≡ a)
-    (view' : stored_number n' ds' e' p' ≡ b) (num : IsNum (stored_number n ds e p)) (num' : IsNum (stored_number n' ds' e' p'))
-    (k : IsStored n ds) (k' : IsStored n' ds') where
+module _ (x y : StrippedNumber) (a b : Decimal) (view : decimal_of x ≡ a) (view' : decimal_of y ≡ b) where
   module _ (is : number_eq a b ≡ true) where
-    parts_is : number_eq (stored_number n ds e p) (stored_number n' ds' e' p') ≡ true
-    parts_is = ap₂ number_eq view view' ∙ is
+    mantissa_exponent : ((decimal_of x).mantissa ≡ (decimal_of y).mantissa) × (x.exponent ≡ y.exponent)
+    mantissa_exponent = equal_same (decimal_of x) (decimal_of y) x.num.plain y.num.plain (tests_equal _ (ap₂ number_eq view view' ∙ is))
 
-    mantissa_exponent : (signed n (number_from_digits 10 ds) ≡ signed n' (number_from_digits 10 ds')) × (e ≡ e')
-    mantissa_exponent = equal_same (stored_number n ds e p) (stored_number n' ds' e' p') num.plain num'.plain (tests_equal _ parts_is)
+    equal_digits : x.digits.now ≡ y.digits.now
+    equal_digits = sym (stored_digits_are x.negative x.digits.now x.exponent x.point x.stripped.stripped)
+        ∙ ap (λ (m : ℤ). digits_within (nat_abs m) (nat_abs m)) mantissa_exponent.0
+        ∙ stored_digits_are y.negative y.digits.now y.exponent y.point y.stripped.stripped
 
-    equal_digits : ds ≡ ds'
-    equal_digits = sym (stored_digits_are n ds e p k.stripped) ∙ ap (λ (m : ℤ). digits_within (nat_abs m) (nat_abs m)) mantissa_exponent.0
-        ∙ stored_digits_are n' ds' e' p' k'.stripped
+    equal_sign : x.negative ≡ y.negative
+    equal_sign = sym (stored_sign x.negative x.digits.now x.stripped) ∙ ap (λ (m : ℤ). int_lt m (pos 0)) mantissa_exponent.0
+        ∙ stored_sign y.negative y.digits.now y.stripped
 
-    equal_sign : n ≡ n'
-    equal_sign = sym (stored_sign n ds k) ∙ ap (λ (m : ℤ). int_lt m (pos 0)) mantissa_exponent.0 ∙ stored_sign n' ds' k'
-
-  parts_equal : n ≡ n' → ds ≡ ds' → e ≡ e' → number_eq a b ≡ true
-  parts_equal s d x = sym (ap₂ number_eq view view')
-      ∙ ap is_eq (same_equal (stored_number n ds e p) (stored_number n' ds' e' p') (rw (s, d) refl) x)
+  parts_equal : x.negative ≡ y.negative → x.digits.now ≡ y.digits.now → x.exponent ≡ y.exponent → number_eq a b ≡ true
+  parts_equal s d e = sym (ap₂ number_eq view view') ∙ ap is_eq (same_equal (decimal_of x) (decimal_of y) (rw (s, d) refl) e)
 
   -- two numbers with equal signs and exponents are equal if and only if their digits are
-  pub digits_tell : (r : Bool) → n ≡ n' → e ≡ e' → r ≡ pointwise eqb ds ds' → r ≡ number_eq a b
-  digits_tell r s x d =
-      let tells = slice_eq-Decides Decides-eqb ds ds' r d in
-      both_ways r (number_eq a b) (λ t. parts_equal s (tells.0 t) x) (λ t. tells.1 (equal_digits t))
+  pub digits_tell : (r : Bool) → x.negative ≡ y.negative → x.exponent ≡ y.exponent → r ≡ pointwise eqb x.digits.now y.digits.now
+      → r ≡ number_eq a b
+  digits_tell r s e d =
+      let tells = slice_eq-Decides Decides-eqb x.digits.now y.digits.now r d in
+      both_ways r (number_eq a b) (λ t. parts_equal s (tells.0 t) e) (λ t. tells.1 (equal_digits t))
 
   -- with different signs they differ
-  pub signs_tell : (n ≡ n' → ⊥) → false ≡ number_eq a b
+  pub signs_tell : (x.negative ≡ y.negative → ⊥) → false ≡ number_eq a b
   signs_tell h = sym (false_from_ne_true (number_eq a b) (λ is. h (equal_sign is)))
 
   -- with different exponents they differ
-  pub exponents_tell : (e ≡ e' → ⊥) → false ≡ number_eq a b
+  pub exponents_tell : (x.exponent ≡ y.exponent → ⊥) → false ≡ number_eq a b
   exponents_tell h = sym (false_from_ne_true (number_eq a b) (λ is. h (mantissa_exponent is).1))

@@ -55,15 +55,6 @@ row_split : (row scale n : ℕ) → scale ≤ row → last_digits row n ≡ last
 row_split row scale n few = let both : row - scale + scale ≡ row = omega arith in ap (λ k. last_digits k n) (sym both)
     ∙ last_split (row - scale) scale n
 
--- a number of at most `count` digits, with leading zeros
-fitted : (count n : ℕ) → 1 ≤ count → n < 10 ^ count → n < 10 ^ 64
-    → last_digits count n ≡ zeros_text (count - length (decimal n)) ++ decimal n
-fitted count zero some less small =
-    let one : length (decimal 0) ≡ 1 = ap (λ (x : List ℕ). length x) (decimal_digit 0 (omega arith)) in
-    let next : count - 1 + 1 ≡ count = omega arith in
-    last_zeros count ∙ ap zeros_text (sym next) ∙ sym (replicate_more {X = ℕ} (count - 1) 48) ∙ rw (one, decimal_digit 0 (omega arith)) refl
-fitted count (suc n) some less small = sym (padded count (suc n) (omega arith) less small)
-
 -- at the end of the leading zeros, the number begins
 module _ (lanes : List ℕ) (zeros : ℕ) (shown behind : List ℕ) (lead : ℕ) (is : lanes ≡ replicate lead 48 ++ (shown ++ behind))
     (counted : IsZerosInFront lanes zeros) where
@@ -114,7 +105,7 @@ module _ (n scale : ℕ) (small : n < 10 ^ 16) (few : scale < 16) (lanes : List 
 
   row_is : lanes ≡ replicate lead 48 ++ (shown ++ last_digits scale n)
   row_is = is ∙ row_split 16 scale n (omega arith)
-      ∙ ap (λ l. l ++ last_digits scale n) (fitted end whole (omega arith) whole_below (omega (arith, whole_small)))
+      ∙ ap (λ l. l ++ last_digits scale n) (sym (padded end whole (omega arith) whole_below (omega (arith, whole_small))))
       ∙ append_assoc (zeros_text lead) shown (last_digits scale n)
 
   start_is : (start : ℕ) → start ≡ min zeros (end - 1) → start ≡ lead

@@ -43,7 +43,7 @@ last_zeros (suc k) =
     rw (last_zeros k, replicate_more {X = ℕ} k 48, next) refl
 
 -- digits after the point, with leading zeros
-pub padded : (scale n : ℕ) → 0 < n → n < 10 ^ scale → n < 10 ^ 64
+pub padded : (scale n : ℕ) → 0 < scale + n → n < 10 ^ scale → n < 10 ^ 64
     → zeros_text (scale - length (decimal n)) ++ decimal n ≡ last_digits scale n
 unfolding last_digits
 padded zero n h l s = absurd (omega arith)

@@ -17,6 +17,7 @@ use Rattle.ijson_number.specs.Text.{float_text, shape_text, minus_text, zero_tex
 use Rattle.ijson_number.proofs.BooleanTests.{test_le, test_not_le, test_zero, test_not_zero, abs_zero}
 use Rattle.ijson_number.proofs.parsing.DigitRuns.{AllDigits-append, IsDigits_from}
 use Rattle.ijson_number.proofs.parsing.DigitValues.{value_zeros_back, value_zeros_front}
+use Rattle.ijson_number.proofs.storing.FormNumbers.{sign_and_magnitude}
 use Rattle.ijson_number.specs.laws.Tens.{signed_mul}
 use Rattle.ijson_number.specs.laws.Ordered.{nonneg}
 use Rattle.ijson_number.proofs.writing.DigitTexts.{Below, below_drop, below_take, first_some, length_text, signed_text, take_first}
@@ -136,9 +137,7 @@ choose P true xs ys f g = f refl
 choose P false xs ys f g = g refl
 
 pub sign_of : (m : ℤ) → 0 < nat_abs m → m ≡ signed (int_lt m (pos 0)) (nat_abs m)
-sign_of (pos zero) h = refl
-sign_of (pos (suc m)) h = let b : int_lt (pos (suc m)) (pos 0) ≡ false = grind (arith, nat_tests) in rw b refl
-sign_of (negsuc m) h = refl
+sign_of m h = sym (sign_and_magnitude m)
 
 module _ (n : Decimal) (plain : IsPlain n) where
   pub zero_parts : (b : Bool) → n.point ≡ b → n.mantissa ≡ pos 0 → Spells (zero_text b) n

@@ -41,7 +41,7 @@ module _ (magnitude : ℕ) (some : 0 < magnitude) (small : magnitude < 2 ^ 64) w
         let short : length ds ≤ k = length-digits_of-le 10 k magnitude (omega arith) (rw same below) in
         let at : int_le place (pos 0) ≡ true = le_test place (pos 0) (omega (arith, ints)) in
         let zeros : nat_abs place ≡ k - length (decimal magnitude) = rw (← count_is) (omega (arith, ints)) in
-        rw (at, point_text, zeros, text_is, padded k magnitude some (rw same below) (omega arith), none, decimal_digit 0 (omega arith), same) refl
+        rw (at, point_text, zeros, text_is, padded k magnitude (omega arith) (rw same below) (omega arith), none, decimal_digit 0 (omega arith), same) refl
 
     between_digits : 0 < whole → point_text ds place ≡ decimal whole ++ 46 ∷ last_digits k fraction
     between_digits above =

@@ -54,14 +54,6 @@ more_digits [] f r p z a b n l h e = absurd (n (ap (λ (x : List ℕ). length x)
 more_digits (d ∷ []) f r p z a b n l h e = absurd (n (ap (λ (x : List ℕ). length x) b))
 more_digits (d ∷ c ∷ ds) f r p z a b n l h e = rw (a, b, power_text p z l h e) refl
 
-pub taken : (b : Bool) (xs ys : List ℕ) → b ≡ true → xs ≡ elim b [ true ↦ xs | false ↦ ys ]
-taken true xs ys e = refl
-taken false xs ys e = absurd (cc)
-
-pub left : (b : Bool) (xs ys : List ℕ) → b ≡ false → ys ≡ elim b [ true ↦ xs | false ↦ ys ]
-left true xs ys e = absurd (cc)
-left false xs ys e = refl
-
 -- digits with the point, with an exponent or without
 abbrev pub float_shape : Bool → List ℕ → ℤ → List ℕ
 float_shape scientific ds p = elim scientific [ true ↦ scientific_text ds p | false ↦ point_text ds p ]
@@ -82,13 +74,11 @@ not_zero v h = grind arith
 pub stored_text : (negative : Bool) (ds : List ℕ) (e : ℤ) (point : Bool) → IsStripped ds → 0 < length ds
     → minus_text negative ++ shape_text point ds e ≡ num_text (stored_number negative ds e point)
 stored_text negative ds e point s h =
-    let m = signed negative (number_from_digits 10 ds) in
+    let number = number_from_digits 10 ds in
     let n = stripped_mod ds s h in
-    let v : 0 < number_from_digits 10 ds = omega (arith, n) in
-    let a : nat_eq (nat_abs m) 0 ≡ false = rw (abs_signed negative (number_from_digits 10 ds)) (not_zero (number_from_digits 10 ds) v) in
-    (rw (below_zero negative (number_from_digits 10 ds) v, stored_digits_are negative ds e point s) refl)
-    ∙ left (nat_eq (nat_abs m) 0) (zero_text point)
-    (minus_text (int_lt m (pos 0)) ++ shape_text point (stripped_digits (stored_number negative ds e point)) e) a
+    let v : 0 < number = omega (arith, n) in
+    let some : nat_eq (nat_abs (signed negative number)) 0 ≡ false = rw (abs_signed negative number) (not_zero number v) in
+    rw (some, num_text, below_zero negative number v, stored_digits_are negative ds e point s) refl
 
 -- a minus or none, and the digits after it, if they are those of the number
 pub shown_text : (n : Decimal) (minus negative : Bool) (ds : List ℕ) (e bits : ℤ) (point : Bool) → stored_number negative ds e point ≡ n

@@ -23,7 +23,7 @@ pub returns-then-is_empty : goal.returns-then-is_empty
 returns-then-is_empty g c =
     let n = c.stripped-number.result in
     let none : length n.digits.now ≡ 0 = grind arith in
-    rw (zero_words n.negative n.digits.now n.exponent n.point c.args.self.now.decimal c.stripped-number.ensures none)
+    rw (zero_words n _ c.stripped-number.ensures none)
     (grind (arith, common_steps))
 
 pub returns : goal.returns
@@ -33,7 +33,7 @@ returns g c =
     let all = take_all c.loop-digit.digit-index n.digits.now c.loop-digit-test.false in
     let fits : FitsSigned w32 n.exponent = search rules in
     rw (
-      stored_words n.negative n.digits.now n.exponent n.point c.args.self.now.decimal c.stripped-number.ensures n.stripped some,
+      stored_words n _ c.stripped-number.ensures some,
       ← sign_word n.negative,
       ← exponent_word n.exponent c.from-2.result c.from-2.ensures fits,
     ) (cc)

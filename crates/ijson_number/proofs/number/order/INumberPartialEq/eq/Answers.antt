@@ -12,19 +12,12 @@ use Rattle.ijson_number.proofs.number.order.INumberPartialEq.eq.Goals as goal
 use Rattle.ijson_number.proofs.number.order.INumberPartialEq.eq.Goals.{then-a-b-via-then-a-b, then-a-b-via-else-a-b+then-a-b-2}
 
 pub returns-then-a-b : goal.returns-then-a-b
-returns-then-a-b c =
-    let x = c.stripped-a.result in
-    let y = c.stripped-b.result in
-    elim c.then-a-b.branch [
-      | then-a-b-via-then-a-b w ↦
-          signs_tell x.negative y.negative x.digits.now y.digits.now x.exponent y.exponent x.point y.point c.args.self.now.decimal
-          c.args.other.now.decimal c.stripped-a.ensures c.stripped-b.ensures x.num y.num x.stripped y.stripped
-          (other_signs x.negative y.negative w.if-a-b.true)
-      | then-a-b-via-else-a-b+then-a-b-2 w ↦
-          exponents_tell x.negative y.negative x.digits.now y.digits.now x.exponent y.exponent x.point y.point c.args.self.now.decimal
-          c.args.other.now.decimal c.stripped-a.ensures c.stripped-b.ensures x.num y.num x.stripped y.stripped
-          (λ e. w.if-a-b-2.true (cc))
-    ]
+returns-then-a-b c = elim c.then-a-b.branch [
+  | then-a-b-via-then-a-b w ↦
+      signs_tell c.stripped-a.result c.stripped-b.result _ _ c.stripped-a.ensures c.stripped-b.ensures (other_signs _ _ w.if-a-b.true)
+  | then-a-b-via-else-a-b+then-a-b-2 w ↦
+      exponents_tell c.stripped-a.result c.stripped-b.result _ _ c.stripped-a.ensures c.stripped-b.ensures (λ e. w.if-a-b-2.true (cc))
+]
 
 pub returns : goal.returns
 returns c =
@@ -33,9 +26,8 @@ returns c =
     let f : FitsSigned w32 x.exponent = search rules in
     let g : FitsSigned w32 y.exponent = search rules in
     let same : x.exponent ≡ y.exponent = omega (arith, ints, c.if-a-b-2.false) in
-    digits_tell x.negative y.negative x.digits.now y.digits.now x.exponent y.exponent x.point y.point c.args.self.now.decimal
-    c.args.other.now.decimal c.stripped-a.ensures c.stripped-b.ensures x.num y.num x.stripped y.stripped c.eq.result
-    (same_signs x.negative y.negative c.if-a-b.false) same c.eq.ensures
+    digits_tell x y _ _ c.stripped-a.ensures c.stripped-b.ensures c.eq.result (same_signs x.negative y.negative c.if-a-b.false) same
+    c.eq.ensures
 
 pub returns-then-is_same_word : goal.returns-then-is_same_word
 returns-then-is_same_word c =

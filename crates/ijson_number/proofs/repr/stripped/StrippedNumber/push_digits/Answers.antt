@@ -18,7 +18,5 @@ returns-clause-pushed c =
     let fits : FitsSigned w32 n.exponent = search rules in
     let exact = to_z-of_z w32 n.exponent fits in
     let point : n.point ≡ true = grind arith in
-    let shown = row_shown n.negative n.digits.now n.exponent n.point c.unsigned_abs-scale.result n.stripped.stripped point
-    (below_zero n.exponent _ exact c.if-self-ge0.false)
-    (c.unsigned_abs-scale.ensures.value ∙ ap nat_abs exact) c.if-scale-self.false in
-    rw shown at c.push_split.ensures
+    rw (row_shown n c.unsigned_abs-scale.result point (below_zero n.exponent _ exact c.if-self-ge0.false)
+    (c.unsigned_abs-scale.ensures.value ∙ ap nat_abs exact) c.if-scale-self.false) at c.push_split.ensures

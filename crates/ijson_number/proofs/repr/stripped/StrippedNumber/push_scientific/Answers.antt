@@ -19,8 +19,8 @@ shown : (c : After-push_split) (power : ℤ) → power ≡ c.args.place -ℤ pos
 shown c power is =
     let n = c.args.self.now in
     let fits : FitsSigned w32 n.exponent = search rules in
-    scientific_shown n.negative n.digits.now n.exponent n.point c.args.place power n.stripped.stripped c.requires.point c.requires.some
-    c.requires.place (omega (arith, ints)) (omega (arith, ints)) c.requires.exponent is
+    scientific_shown n c.args.place power c.requires.point c.requires.some c.requires.place (omega (arith, ints)) (omega (arith, ints))
+    c.requires.exponent is
 
 one : (n : ℕ) → 1 < n → n - (n - 1) ≡ 1
 one n some = omega arith

@@ -23,8 +23,7 @@ returns-clause-pushed c =
     let pointed : int_le p.result (negsuc 5) || int_lt (pos 20) n.exponent ≡ false =
     ap₂ (λ p e. int_le p (negsuc 5) || int_lt (pos 20) e) (sym place) (sym exact) ∙ sym c.is_scientific.ensures ∙ grind arith in
     let some : 0 < length ds = grind arith in
-    let text = fraction_shown n.negative ds n.exponent n.point p.result n.stripped.stripped c.requires.point some is
-    (not_above p.result _ place c.if-place-gt0.false) pointed in
+    let text = fraction_shown n p.result c.requires.point some is (not_above p.result _ place c.if-place-gt0.false) pointed in
     rw (c.unsigned_abs.ensures.value, place, text) at c.push_fraction.ensures
 
 pub returns-then-place-gt0-clause-rows : goal.returns-then-place-gt0-clause-rows
