@@ -109,17 +109,21 @@ def calls_of_kit():
     return rattle_program("calls_of_kit", "anyhow serde_json", {})
 
 
+def cargo_program(name, folder, title, kept, *flags):
+    """A program of a Rust crate over Debian's packages, kept under another name, since cargo's build of other features has the same."""
+    command = ["cargo", "build", "--quiet", "--release", "--offline", "--bin", name, "--target-dir", KEPT / "target", *flags]
+    command += ["--config", 'source.crates-io.replace-with="debian"', "--config", f'source.debian.directory="{REGISTRY}"']
+    if not built(command, folder, title):
+        return None
+    shutil.copy(KEPT / "target/release" / name, KEPT / kept)
+    return KEPT / kept
+
+
 def rust_program(name, features="digits order"):
     """A program over Rust's serde_json, which Debian's package librust-serde-json-dev has."""
-    command = ["cargo", "build", "--quiet", "--release", "--offline", "--bin", name, "--target-dir", KEPT / "target"]
-    command += ["--no-default-features", "--features", features]
-    command += ["--config", 'source.crates-io.replace-with="debian"', "--config", f'source.debian.directory="{REGISTRY}"']
-    if not built(command, BENCH / "baseline", f"Rust's serde_json ({name}, {features or 'no features'})"):
-        return None
-    # another build of the same name, with other features, replaces cargo's
-    program = KEPT / "_".join([name, "of_rust", *features.split()])
-    shutil.copy(KEPT / "target/release" / name, program)
-    return program
+    title = f"Rust's serde_json ({name}, {features or 'no features'})"
+    kept = "_".join([name, "of_rust", *features.split()])
+    return cargo_program(name, BENCH / "baseline", title, kept, "--no-default-features", "--features", features)
 
 
 def rust_serde_json():

@@ -69,7 +69,9 @@ def panel(left, act, by_line, scale, libraries, colours):
     for number, (name, by_library) in enumerate(by_line.items()):
         y = TOP + 24 + LINE * (number + 0.5)
         for library, colour in colours.items():
-            ratio = by_library[library]
+            ratio = by_library.get(library)
+            if ratio is None:
+                continue
             words = f"{name}, {act}: {library} {ratio:.2f}"
             parts.append(mark(left + scale.place(ratio), y, colour, is_exact(libraries[library]), words))
     return parts
@@ -82,7 +84,7 @@ def picture(passes, libraries):
     for act in PANELS:
         by_file = ratios(passes, act, "min")
         acts[act] = by_file | {MEAN: {name: mean(by_file, name) for name in libraries}}
-    scale = Scale([ratio for by_line in acts.values() for by_library in by_line.values() for ratio in by_library.values()])
+    scale = Scale([ratio for by_line in acts.values() for by_library in by_line.values() for ratio in by_library.values() if ratio])
     names = list(passes) + [MEAN]
     parts = legend(libraries, colours)
     for number, name in enumerate(names):

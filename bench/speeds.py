@@ -5,28 +5,32 @@ from operator import itemgetter
 
 from tables import OURS, head, row
 
-# Figures from the three times of a pass.
+# Figures from the times of a pass. Some programs do not time cloning.
 ACTS = {
     "reading": itemgetter(0),
     "writing": itemgetter(1),
     "dropping": itemgetter(2),
-    "all three": sum,
+    "all three": lambda times: sum(times[:3]),
+    "cloning": itemgetter(3),
 }
 FIGURES = {"min": min, "median": statistics.median}
+
+
+def times_of(act, by_library):
+    """The times of an act in each pass, by the library, of those that time it."""
+    return {name: list(map(ACTS[act], it)) for name, it in by_library.items() if act != "cloning" or len(it[0]) > 3}
 
 
 def shown_speed(size, nanoseconds):
     return f"{size * 1000 / nanoseconds:.0f}" if size * 1000 < nanoseconds * 100_000 else "> 99999"
 
 
-def speed_table(act, passes, sizes):
+def speed_table(act, passes, sizes, libraries):
     """Megabytes of the input per second, by the minimum time and by the median. `passes` is by the file and then by the library."""
-    lines = [head(f"{act}, MB/s, {' / '.join(FIGURES)}", *next(iter(passes.values())))]
+    lines = [head(f"{act}, MB/s, {' / '.join(FIGURES)}", *libraries)]
     for file, by_library in passes.items():
-        size = sizes[file]
-        cells = []
-        for it in by_library.values():
-            cells.append(" / ".join(shown_speed(size, figure(map(ACTS[act], it))) for figure in FIGURES.values()))
+        size, times = sizes[file], times_of(act, by_library)
+        cells = (" / ".join(shown_speed(size, figure(times[name])) for figure in FIGURES.values()) if name in times else "-" for name in libraries)
         lines.append(row(f"{file}, {size / 1e6:.1f} MB", *cells))
     return "\n".join(lines)
 
@@ -35,16 +39,20 @@ def ratios(passes, act, figure):
     """Time relative to ours, by the file and then by the library."""
     found = {}
     for file, by_library in passes.items():
-        taken = {name: FIGURES[figure](map(ACTS[act], it)) for name, it in by_library.items()}
+        taken = {name: FIGURES[figure](it) for name, it in times_of(act, by_library).items()}
         found[file] = {name: max(it, 1) / max(taken[OURS], 1) for name, it in taken.items()}
     return found
 
 
 def mean(file_ratios, name):
-    return statistics.geometric_mean(by_library[name] for by_library in file_ratios.values())
+    """The geometric mean over the files that the library reads, None if there is none."""
+    found = [by_library[name] for by_library in file_ratios.values() if name in by_library]
+    return statistics.geometric_mean(found) if found else None
 
 
 def shown_ratio(ratio):
+    if ratio is None:
+        return "-"
     return f"{ratio:.2f}" if ratio >= 0.005 else "< 0.01"
 
 

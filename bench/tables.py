@@ -9,6 +9,7 @@ from peers import kit_version
 
 OURS = "ijson"
 EARLIER = "earlier build"
+ORIGINAL = "Rust crate ijson"
 BETTER = "better peer"
 
 

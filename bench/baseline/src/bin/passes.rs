@@ -1,5 +1,5 @@
-//! Times `serde_json` as `passes_of_ijson` does this library: reading, writing and dropping the value of standard input; the first
-//! argument is the number of passes.
+//! Times `serde_json` as `passes_of_ijson` does this library: reading, writing, dropping and cloning the value of standard input; the
+//! first argument is the number of passes.
 
 use serde_json::Value;
 use std::io::Write;
@@ -16,9 +16,13 @@ fn pass(text: &str) -> Result<String, Failure> {
     let written = serde_json::to_string(&value)?;
     let writing = start.elapsed().as_nanos();
     let start = Instant::now();
+    let copy = value.clone();
+    let cloning = start.elapsed().as_nanos();
+    drop(copy);
+    let start = Instant::now();
     drop(value);
-    let giving_back = start.elapsed().as_nanos();
-    eprintln!("{reading} {writing} {giving_back} {}", written.len());
+    let dropping = start.elapsed().as_nanos();
+    eprintln!("{reading} {writing} {dropping} {cloning} {}", written.len());
     Ok(written)
 }
 
