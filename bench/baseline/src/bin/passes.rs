@@ -1,5 +1,5 @@
 //! Times `serde_json` as `passes_of_ijson` does this library: reading, writing, dropping and cloning the value of standard input; the
-//! first argument is the number of passes.
+//! first argument is the number of passes, 1 if there is none.
 
 use serde_json::Value;
 use std::io::Write;
@@ -27,7 +27,7 @@ fn pass(text: &str) -> Result<String, Failure> {
 }
 
 fn main() -> Result<(), Failure> {
-    let passes: usize = std::env::args().nth(1).ok_or("how many passes?")?.parse()?;
+    let passes: usize = std::env::args().nth(1).map_or(Ok(1), |count| count.parse())?;
     let text = std::io::read_to_string(std::io::stdin())?;
     for _ in 1..passes {
         pass(&text)?;
