@@ -1,9 +1,9 @@
-use Rattle.std.proofs.Common.{◌≡◌, ◌∙◌, ◌-◌, ◌<◌, ◌≤◌, ap, ap₂, sym, refl, ℕ, List, false, is_some, get_or, length, arith}
+use Rattle.std.proofs.Common.{◌≡◌, ◌∙◌, ◌-◌, ◌<◌, ◌≤◌, ap, ap₂, sym, refl, ℕ, List, false, is_some, get_or, length, arith, rules}
 use Rattle.std.proofs.lemmas.Bool.{false≢true}
 use Rattle.std.proofs.lemmas.Grind.{common_steps}
 use Rattle.std.specs.List.{list_any}
 use Rattle.ijson_string.specs.declared.table.chains.Link.{Link}
-use Rattle.ijson_string.specs.private.IsTable.{hashes_of, filters_of}
+use Rattle.ijson_string.specs.private.IsTable.{hashes_of, heads_of, filters_of}
 use Rattle.ijson_string.specs.private.Keys.{is_key, keys_of, no_key, Key}
 use Rattle.ijson_string.specs.private.Table.{Table}
 use Rattle.ijson_string.proofs.KeysAt.{as_many_keys, hash_there, text_there}
@@ -50,12 +50,12 @@ returns-then-eq_str-clause-found c =
     let are = ap (λ (t : Table). t.keys) c.self.view_is in
     let at = c.loop-at.at - 1 in
     let there = before links texts c.loop-at.at c.self.invariant.1 c.loop-at.invariant.within c.loop-at-test.true in
-    let within : at < length keys = omega (arith, as_many_keys links texts keys c.self.invariant.1 are, there.0) in (
+    let within : at < length keys = omega (arith, as_many_keys links texts keys c.self.invariant.1 are, there.0) in
+    let same : c.index.result.now ≡ c.args.text.now = search (rules, c.eq_str.ensures.0 c.if-eq_str.true) in (
       within,
       ap₂ {B = List ℕ} (λ h t. record { hash = h; text = t })
           (hash_there links texts keys c.self.invariant.1 are at c.index-link.result.now within c.index-link.ensures ∙ c.if-link-hash.true)
-          (text_there links texts keys c.self.invariant.1 are at c.index.result.now within c.index.ensures
-          ∙ c.eq_str.ensures.0 c.if-eq_str.true),
+          (text_there links texts keys c.self.invariant.1 are at c.index.result.now within c.index.ensures ∙ same),
     )
 
 pub returns-then-eq_str-clause-exact : goal.returns-then-eq_str-clause-exact
@@ -84,8 +84,10 @@ loop-at-preserved c =
           is_other_text hash text key (λ e. false≢true (sym w.if-eq_str.false ∙ w.eq_str.ensures.1 (sym its_text ∙ e)))
       | else-link-hash-via-else-link-hash w ↦ is_other_hash hash text key (λ e. w.if-link-hash.false (sym its_hash ∙ e))
     ] in
-    IsAhead-step _ hash text links texts _ c.self.invariant.1
-    c.self.invariant.0.chained c.loop-at.at _ c.loop-at.invariant c.loop-at-test.true c.index-link.ensures other
+    let stepped = IsAhead-step (length (heads_of c.self.inside.buckets.items)) hash text links texts (heads_of c.self.inside.buckets.items)
+    c.self.invariant.1 c.self.invariant.0.chained c.loop-at.at c.index-link.result.now c.loop-at.invariant c.loop-at-test.true
+    c.index-link.ensures other in
+    search (rules, stepped)
 
 -- given for speed: the default tactics take longer
 pub returns-then-is_empty-clause-exact : goal.returns-then-is_empty-clause-exact

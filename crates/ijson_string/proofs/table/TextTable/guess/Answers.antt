@@ -1,4 +1,4 @@
-use Rattle.std.proofs.Common.{◌≡◌, ◌∙◌, ◌<◌, ap, sym, length, get_or, arith}
+use Rattle.std.proofs.Common.{◌≡◌, ◌∙◌, ◌<◌, ap, sym, length, get_or, arith, rules}
 use Rattle.std.proofs.lemmas.Bool.{false≢true}
 use Rattle.ijson_string.specs.declared.table.followers.Follower.{Follower}
 use Rattle.ijson_string.specs.private.Keys.{no_key}
@@ -17,10 +17,10 @@ returns-then-eq_str-clause-found c =
     let are = ap (λ (t : Table). t.keys) c.self.view_is in
     let many = as_many_keys links texts keys c.self.invariant.1 are in
     let at = c.self.inside.followers.next.position in
-    let within : at < length keys = omega (arith, many, c.self.invariant.1, c.if-index-len.true, c.len.ensures) in (
+    let within : at < length keys = omega (arith, many, c.self.invariant.1, c.if-index-len.true, c.len.ensures) in
+    let same : c.index.result.now ≡ c.args.text.now = search (rules, c.eq_str.ensures.0 c.if-eq_str.true) in (
       within,
-      text_there links texts keys c.self.invariant.1 are at c.index.result.now within c.index.ensures
-          ∙ c.eq_str.ensures.0 c.if-eq_str.true,
+      text_there links texts keys c.self.invariant.1 are at c.index.result.now within c.index.ensures ∙ same,
     )
 
 pub returns-clause-taken : goal.returns-clause-taken

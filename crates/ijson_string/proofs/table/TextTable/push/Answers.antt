@@ -1,4 +1,4 @@
-use Rattle.std.proofs.Common.{◌≡◌, ◌+◌, ◌∙◌, ap, ap₂, subst, sym, List, [], ◌∷◌, ◌++◌, length}
+use Rattle.std.proofs.Common.{◌≡◌, ◌+◌, ◌∙◌, ap, ap₂, subst, sym, List, [], ◌∷◌, ◌++◌, length, rules}
 use Rattle.std.proofs.lemmas.List.{length-append, length-map, map-append}
 use Rattle.ijson_string.specs.declared.table.chains.Link.{Link}
 use Rattle.ijson_string.specs.private.IsTable.{hashes_of, IsEntered}
@@ -19,21 +19,21 @@ invariant_of-self-2 c =
     let many : length links ≡ length c.self.inside.links.items = as_many _ links c.grow.ensures.kept ∙ ap length c.reserve.ensures.items in
     let head : c.in-Ok.head ≡ length links + 1 =
     c.in-Ok.ensures.1 ∙ ap (λ n. n + 1) (c.len.ensures ∙ c.self.inside.links.ok.0 ∙ sym many) in
-    let entered = subst (IsEntered buckets c.prepend-next.new.buckets.items c.args.hash) head c.prepend-next.ensures.entered in (
-      rw c.push_reserved.ensures.items
-          (IsTable-push links buckets _ link c.in-Ok-grow.ensures.table c.in-Ok-grow.ensures.room entered c.prepend-next.ensures.next),
+    let entered = subst (IsEntered buckets c.prepend-next.new.buckets.items c.args.hash) head c.prepend-next.ensures.entered in
+    let pushed = IsTable-push links buckets c.prepend-next.new.buckets.items link c.in-Ok-grow.ensures.table c.in-Ok-grow.ensures.room entered
+    c.prepend-next.ensures.next in (
+      rw c.push_reserved.ensures.items (search (rules, pushed)),
       ap length (c.push_reserved-2.ensures.items ∙ ap (λ texts. texts ++ c.in-Ok-clone.text ∷ []) c.reserve-2.ensures.items)
           ∙ length-append c.self.inside.texts.items (c.in-Ok-clone.text ∷ []) ∙ ap (λ n. n + 1) (c.self.invariant.1 ∙ sym many)
-          ∙ sym (ap length c.push_reserved.ensures.items ∙ length-append links (link ∷ [])),
+          ∙ sym (ap length c.push_reserved.ensures.items ∙ length-append links _),
     )
 
 pub returns-clause-pushed : goal.returns-clause-pushed
 returns-clause-pushed c =
     let hashes = hashes_of c.self.inside.links.items in
     let texts = c.self.inside.texts.items in
-    let link : Link = record { hash = c.args.hash; next = c.prepend-next.result } in
     ap₂ keys_of
-    (ap hashes_of c.push_reserved.ensures.items ∙ map-append (λ l. l.hash) c.grow.new.links.items (link ∷ [])
+    (ap hashes_of c.push_reserved.ensures.items ∙ map-append (λ l. l.hash) c.grow.new.links.items _
     ∙ ap (λ hashes. hashes ++ c.args.hash ∷ []) (c.grow.ensures.kept ∙ ap hashes_of c.reserve.ensures.items))
     (c.push_reserved-2.ensures.items
     ∙ ap₂ (λ texts text. texts ++ text ∷ []) c.reserve-2.ensures.items (c.in-Ok-clone.ensures.cases ∙ c.in_ok-shared.ensures))

@@ -1,9 +1,10 @@
-use Rattle.std.proofs.Common.{◌≡◌, ◌∙◌, ◌<◌, ap, sym, subst, refl, length, get_or, take, ◌+◌, ◌*◌, arith}
+use Rattle.std.proofs.Common.{◌≡◌, ◌∙◌, ◌<◌, ap, sym, subst, refl, length, get_or, take, ◌+◌, ◌*◌, arith, rules}
 use Rattle.std.proofs.lemmas.Grind.{common_steps}
 use Rattle.std.proofs.Math.Seq.{map-set_same}
 use Rattle.std.proofs.lemmas.List.{length-set, length-take-le, take_all, take_more_set}
 use Rattle.ijson_string.specs.declared.table.chains.Link.{Link}
-use Rattle.ijson_string.specs.private.IsTable.{IsEntered, IsTable}
+use Rattle.ijson_string.specs.private.Chains.{bucket_of}
+use Rattle.ijson_string.specs.private.IsTable.{heads_of, IsEntered, IsTable}
 use Rattle.ijson_string.proofs.ChainLinks.{IsTable-none, IsTable-push}
 use Rattle.ijson_string.proofs.table.chains.grow.Goals as goal
 
@@ -24,10 +25,13 @@ loop-position-preserved c =
     let l : Link = c.index_mut-link.result.now in
     let written : Link = record l { next = c.prepend-link.result } in
     let was = c.loop-position.invariant in
-    let entered = c.prepend-link.ensures.entered in
     let within : i < length links = omega (arith, was.links, c.loop-position-test.true, c.len-position-end.ensures, c.args.links.now.ok.0) in
     let there : l ≡ get_or links i l = c.index_mut-link.ensures.value in
     let first : length (take i links) ≡ i = length-take-le i links (omega (arith, within)) in
+    let entered : IsEntered buckets c.prepend-link.new.buckets.items l.hash (length (take i links) + 1) =
+    rw first (search (rules, c.prepend-link.ensures.entered)) in
+    let next : written.next ≡ get_or (heads_of buckets) (bucket_of (length buckets) l.hash) 0 =
+    search (rules, c.prepend-link.ensures.next) in
     let room = c.requires.table.room in
     let spare : length (take i links) < 4 * length buckets = omega (
       arith,
@@ -47,8 +51,7 @@ loop-position-preserved c =
       kept = map-set_same (λ l. l.hash) links i written l (ap (λ l. l.hash) there) ∙ was.kept;
       table =
           subst (λ links. IsTable links c.prepend-link.new.buckets.items) (sym (take_more_set links i written within))
-          (IsTable-push (take i links) buckets _ written was.table spare
-          (subst (λ n. IsEntered buckets c.prepend-link.new.buckets.items l.hash (n + 1)) (sym first) entered) c.prepend-link.ensures.next);
+          (IsTable-push (take i links) buckets _ written was.table spare entered next);
     }
 
 pub returns-clause-table : goal.returns-clause-table
