@@ -1,4 +1,4 @@
-use Rattle.std.proofs.Common.{◌*◌, ◌/◌, ◌^◌, ◌∙◌}
+use Rattle.std.proofs.Common.{◌*◌, ◌/◌, ◌^◌, ◌∙◌, rules}
 use Rattle.ijson_table.proofs.arithmetic.Reciprocal.{quotient-not_above, quotient-near, divides, divides_more}
 use Rattle.ijson_table.proofs.slot.divided.Goals as goal
 
@@ -20,4 +20,4 @@ returns-else-left-count c =
     let near = quotient-near c.args.hash c.args.count c.from.result c.from-2.result c.from.ensures reciprocal c.requires.some
     c.ranges.hash.fits in
     let is = divides_more c.args.hash c.args.count (c.from.result * c.from-2.result / 2 ^ 64) within near c.if-left-count.false in
-    record { quotient = is.quotient; left = is.left_is }
+    record { quotient = search (rules, is.quotient); left = search (rules, is.left_is) }

@@ -1,4 +1,4 @@
-use Rattle.std.proofs.Common.{ℕ, ◌-◌, ◌<◌, List, length, map, arith, sym, ◌∙◌}
+use Rattle.std.proofs.Common.{ℕ, ◌-◌, ◌<◌, List, length, map, arith, rules, sym, ◌∙◌}
 use Rattle.std.proofs.lemmas.List.{length-map}
 use Rattle.std.proofs.Math.Nat.{mod-lt}
 use Rattle.ijson_table.specs.Crowd.{home_of}
@@ -42,5 +42,7 @@ pub returns-clause-bounded : goal.returns-clause-bounded
 returns-clause-bounded g c =
     let p = g.P.Places in
     let table = c.args.table.now in
-    bounded p.hash_of (p.keys table) (p.slots table) c.places.ensures.table c.args.key.now (is_key-seeks (p.keys table) c.args.key.now)
-    (p.room table) c.places.ensures.size c.probe.result (c.probe.new.looks - c.args.looks.now) c.probe.ensures.ends
+    let few = bounded p.hash_of (p.keys table) (p.slots table) c.places.ensures.table c.args.key.now
+    (is_key-seeks (p.keys table) c.args.key.now) (p.room table) c.places.ensures.size c.probe.result (c.probe.new.looks - c.args.looks.now)
+    c.probe.ensures.ends in
+    search (rules, few)

@@ -1,10 +1,11 @@
-use Rattle.std.proofs.Common.{◌≡◌, ℕ, ◌-◌, ◌%◌, ◌<◌, length, map, arith, ap, ap₂, subst, ◌∙◌}
+use Rattle.std.proofs.Common.{◌≡◌, ℕ, ◌-◌, ◌%◌, ◌<◌, length, map, arith, rules, ap, ap₂, subst, ◌∙◌}
 use Rattle.std.proofs.Math.Nat.{mod-lt}
 use Rattle.std.specs.Prelude.{vec_capacity}
 use Rattle.ijson_table.specs.declared.index.probe.Probed.TheVariants.{Full}
 use Rattle.ijson_table.specs.Slots.{IsTable, IsBounded}
 use Rattle.ijson_table.specs.Placed.{Placed}
 use Rattle.ijson_table.specs.Store.{keys_of}
+use Rattle.ijson_table.specs.private.CountedSteps.{Walks}
 use Rattle.ijson_table.specs.private.KeptHash.{kept, kept_hash}
 use Rattle.ijson_table.specs.private.Lookup.{LookUpEnds}
 use Rattle.ijson_table.proofs.pairs.Shown.{hashes_in}
@@ -80,7 +81,7 @@ returns-clause-ends g c =
     (hash c.args.key.now) c.args.key.now c.probe_for.result) c.self.view_is
     (ends_by_hash hash (keys_of pairs) index.slots c.args.key.now c.probe_for.result
     (find_ends (kept_hash (length index.slots) hash) pairs c.deref.result.now index c.kept_hash-kept.result c.args.key.now
-    (c.probe_for.new.looks - c.args.looks.now) c.probe_for.result
+    _ c.probe_for.result
     c.self.invariant.hashes c.deref.ensures.value (kept_is g (goal.at.returns-clause-ends g c).After-probe_for) c.self.inside.distinct
     c.len-slots.ensures.table some c.probe_for.ensures.ends))
 
@@ -91,10 +92,11 @@ returns-clause-bounded g c =
     let index = c.self.inside.index in
     let capacity : ℕ = vec_capacity c.self.inside.pairs in
     let looks : ℕ = c.probe_for.new.looks - c.args.looks.now in
+    let walks : Walks index (keys_of c.deref.result.now) c.kept_hash-kept.result c.args.key.now looks c.probe_for.result =
+    search (rules, c.probe_for.ensures.ends) in
     subst (λ (t : Placed g.row.V.Denot). IsBounded hash (keys_of t.store.pairs) t.slots t.store.capacity c.args.key.now looks)
     c.self.view_is
     (bounded_by_hash hash (keys_of pairs) index.slots capacity c.args.key.now looks c.self.invariant.size
     (find_bounded (kept_hash (length index.slots) hash) pairs c.deref.result.now capacity index c.kept_hash-kept.result c.args.key.now looks
     c.probe_for.result c.self.invariant.hashes c.self.invariant.size c.deref.ensures.value
-    (kept_is g (goal.at.returns-clause-bounded g c).After-probe_for) c.len-slots.ensures.table
-    c.probe_for.ensures.ends))
+    (kept_is g (goal.at.returns-clause-bounded g c).After-probe_for) c.len-slots.ensures.table walks))

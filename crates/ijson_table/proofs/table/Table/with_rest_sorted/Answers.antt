@@ -1,4 +1,4 @@
-use Rattle.std.proofs.Common.{◌≡◌, ◌≤◌, ◌+◌, ◌*◌, ◌^◌, ℕ, [], length, map, reverse, arith, ap, ap₂, le_trans, sym, subst, ◌∙◌}
+use Rattle.std.proofs.Common.{◌≡◌, ◌≤◌, ◌+◌, ◌*◌, ◌^◌, ℕ, [], ◌++◌, length, map, reverse, arith, rules, ap, ap₂, le_trans, sym, subst, ◌∙◌}
 use Rattle.std.specs.Prelude.{vec_capacity}
 use Rattle.ijson_table.specs.Crowd.{slot_count}
 use Rattle.ijson_table.specs.Growth.{capacity_limit}
@@ -97,8 +97,9 @@ pub returns : goal.returns
 returns g c =
     let w = goal.at.returns g c in
     let viewed = ap (λ (t : Placed g.row.V.Denot). t.store) c.self.view_is in
+    let items : c.put_back.new.list.items ≡ c.self.inside.pairs.items ++ reverse c.args.rest.items = search (rules, c.put_back.ensures.items) in
     record {
-      pairs = c.in-Ok.ensures.pairs ∙ (ap (put_each []) c.put_back.ensures.items
+      pairs = c.in-Ok.ensures.pairs ∙ (ap (put_each []) items
           ∙ (put_each-behind c.self.inside.pairs.items (reverse c.args.rest.items) c.self.inside.distinct
           ∙ ap (λ (s : Store g.row.V.Denot). put_each s.pairs (reverse c.args.rest.items)) viewed));
       capacity = c.in-Ok.ensures.room ∙ (c.put_back.ensures.room ∙ ap (λ (s : Store g.row.V.Denot). s.capacity) viewed);

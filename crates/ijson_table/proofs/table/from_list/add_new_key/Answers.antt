@@ -1,4 +1,4 @@
-use Rattle.std.proofs.Common.{◌≡◌, ◌⊎◌, inl, inr, ◌-◌, ◌<◌, ◌%◌, [], ℕ, List, length, get_or, take, arith, ap, ap₂, refl, sym, subst, ◌∙◌}
+use Rattle.std.proofs.Common.{◌≡◌, ◌⊎◌, inl, inr, ◌-◌, ◌<◌, ◌%◌, [], ℕ, List, length, get_or, take, arith, rules, ap, ap₂, refl, sym, subst, ◌∙◌}
 use Rattle.std.proofs.Common.{◌+◌, true≢false, length-take-le, le_of_lt}
 use Rattle.std.proofs.lemmas.Grind.{common_steps}
 use Rattle.std.proofs.lemmas.Nat.{mod_below}
@@ -75,10 +75,11 @@ away_from n count whole h home p away is kept_is home_is counted within there = 
 }
 
 -- the last slot written
-away_new : (g : _) (c : After-distance_between g) → Away (length c.args.index.now.slots) c.kept_hash-hash.result c.push_at-last.result
-    c.distance_between.result
-away_new g c = away_from (length c.args.index.now.slots) c.args.modulus.count c.hash-whole.result c.kept_hash-hash.result
-    c.home_of_hash-home.result c.push_at-last.result c.distance_between.result c.distance_between.ensures c.kept_hash-hash.ensures
+away_new : (g : _) (c : After-distance_between g)
+    → c.distance_between.result ≡ distance c.args.modulus.count c.home_of_hash-home.result c.push_at-last.result
+    → Away (length c.args.index.now.slots) c.kept_hash-hash.result c.push_at-last.result c.distance_between.result
+away_new g c far = away_from (length c.args.index.now.slots) c.args.modulus.count c.hash-whole.result c.kept_hash-hash.result
+    c.home_of_hash-home.result c.push_at-last.result c.distance_between.result far c.kept_hash-hash.ensures
     c.home_of_hash-home.ensures.value c.requires.counted c.home_of_hash-home.ensures.within c.push_at-last.ensures.within
 
 -- the slot at which the key was found
@@ -99,38 +100,6 @@ away_found g c =
     c.distance_between-in-Found.result c.distance_between-in-Found.ensures c.kept_hash-hash.ensures c.home_of_hash-home.ensures.value
     c.requires.counted c.home_of_hash-home.ensures.within there
 
-pub push_at-last-requires-clause-may : goal.push_at-last-requires-clause-may
-push_at-last-requires-clause-may g c =
-    let place = goal.at.push_at-last-requires-clause-may g c in
-    (next_ends (short g c.args.index.now) c.args.pairs.now c.args.position c.args.index.now c.requires.placed
-    c.requires.within c.kept_hash-hash.result c.as_str-key.result.now (c.probe_for.new.looks - c.new.result) c.in-Vacant.slot
-    (kept_is g place.After-probe_for) c.probe_for.ensures.table (omega (arith, c.requires.room))
-    (walk g place.After-probe_for (Vacant c.in-Vacant.slot) c.in-Vacant.is)).1
-
-pub push_at-last-requires-clause-kept : goal.push_at-last-requires-clause-kept
-push_at-last-requires-clause-kept g c = kept_once (length c.args.index.now.slots) c.args.modulus.count c.hash-whole.result
-    c.kept_hash-hash.result c.kept_hash-hash.ensures c.requires.counted
-
-pub overflow_add-steps : goal.overflow_add-steps
-overflow_add-steps g c = omega (
-  arith,
-  (away_new g (goal.at.overflow_add-steps g c).After-distance_between).near,
-  c.requires.fits,
-  c.requires.counted,
-)
-
-pub overflow_add-steps-in-Vacant : goal.overflow_add-steps-in-Vacant
-overflow_add-steps-in-Vacant g c =
-    omega (arith, (away_new g (goal.at.overflow_add-steps-in-Vacant g c).After-distance_between).near, c.requires.fits)
-
-pub overflow_add-steps-in-Found : goal.overflow_add-steps-in-Found
-overflow_add-steps-in-Found g c =
-    omega (arith, (away_found g (goal.at.overflow_add-steps-in-Found g c).After-distance_between-in-Found).near, c.requires.fits)
-
-pub overflow_add-steps-in-Found-2 : goal.overflow_add-steps-in-Found-2
-overflow_add-steps-in-Found-2 g c =
-    omega (arith, (away_found g (goal.at.overflow_add-steps-in-Found-2 g c).After-distance_between-in-Found).near, c.requires.fits)
-
 -- a probe has a step
 more : (steps away k : ℕ) → steps < steps + (away + (k + 1))
 more steps away k = omega arith
@@ -147,7 +116,9 @@ returns-in-Vacant g c =
     let missing = (next_ends hash c.args.pairs.now c.args.position c.args.index.now c.requires.placed c.requires.within
     c.kept_hash-hash.result c.as_str-key.result.now (c.probe_for.new.looks - c.new.result) c.in-Vacant.slot
     (kept_is g place.After-probe_for) c.probe_for.ensures.table some walks).0 in
-    let away = away_new g place.After-distance_between in
+    let far : c.distance_between.result ≡ distance c.args.modulus.count c.home_of_hash-home.result c.push_at-last.result =
+    search (rules, c.distance_between.ensures) in
+    let away = away_new g place.After-distance_between far in
     record {
       placed = λ _. next_placed hash c.args.pairs.now c.args.position c.args.index.now c.requires.placed c.requires.within pair
           c.kept_hash-hash.result c.push_at-last.new.self c.index-pairs-position.is hashed
@@ -163,6 +134,42 @@ returns-in-Vacant g c =
           c.push_at-last.ensures.changes away.far (omega arith));
       grows = more c.args.steps.now c.distance_between.result 1;
     }
+
+pub push_at-last-requires-clause-may : goal.push_at-last-requires-clause-may
+push_at-last-requires-clause-may g c =
+    let place = goal.at.push_at-last-requires-clause-may g c in
+    (next_ends (short g c.args.index.now) c.args.pairs.now c.args.position c.args.index.now c.requires.placed
+    c.requires.within c.kept_hash-hash.result c.as_str-key.result.now (c.probe_for.new.looks - c.new.result) c.in-Vacant.slot
+    (kept_is g place.After-probe_for) c.probe_for.ensures.table (omega (arith, c.requires.room))
+    (walk g place.After-probe_for (Vacant c.in-Vacant.slot) c.in-Vacant.is)).1
+
+pub push_at-last-requires-clause-kept : goal.push_at-last-requires-clause-kept
+push_at-last-requires-clause-kept g c = kept_once (length c.args.index.now.slots) c.args.modulus.count c.hash-whole.result
+    c.kept_hash-hash.result c.kept_hash-hash.ensures c.requires.counted
+
+pub overflow_add-steps : goal.overflow_add-steps
+overflow_add-steps g c = omega (
+  arith,
+  (away_new g (goal.at.overflow_add-steps g c).After-distance_between c.distance_between.ensures).near,
+  c.requires.fits,
+  c.requires.counted,
+)
+
+pub overflow_add-steps-in-Vacant : goal.overflow_add-steps-in-Vacant
+overflow_add-steps-in-Vacant g c =
+    omega (
+      arith,
+      (away_new g (goal.at.overflow_add-steps-in-Vacant g c).After-distance_between c.distance_between.ensures).near,
+      c.requires.fits,
+    )
+
+pub overflow_add-steps-in-Found : goal.overflow_add-steps-in-Found
+overflow_add-steps-in-Found g c =
+    omega (arith, (away_found g (goal.at.overflow_add-steps-in-Found g c).After-distance_between-in-Found).near, c.requires.fits)
+
+pub overflow_add-steps-in-Found-2 : goal.overflow_add-steps-in-Found-2
+overflow_add-steps-in-Found-2 g c =
+    omega (arith, (away_found g (goal.at.overflow_add-steps-in-Found-2 g c).After-distance_between-in-Found).near, c.requires.fits)
 
 pub returns-in-Found : goal.returns-in-Found
 returns-in-Found g c =
