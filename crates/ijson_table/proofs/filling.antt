@@ -1,4 +1,4 @@
 pub mod HomesAscend
 pub mod Rotation
-pub mod Laying
+pub mod PlacedSorted
 pub mod NoneEmpty

@@ -7,7 +7,6 @@ pub mod Fold
 pub mod Crowd
 pub mod Slots
 pub mod BuildBound
-pub mod CopyBound
 pub mod Sees
 pub mod Placed
 pub mod PlacedWithValue

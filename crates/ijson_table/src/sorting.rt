@@ -1,8 +1,8 @@
 //! Tables built by sorting, which bounds the time for all keys.
 
 pub mod build;
+pub mod duplicates;
 pub mod first;
 pub mod merge_sort;
 pub mod order;
 pub mod second_hash;
-pub mod together;

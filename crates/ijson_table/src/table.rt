@@ -3,7 +3,7 @@
 ghost use Rattle.std.specs.Prelude.{◌≡◌, ◌≢◌, ◌+◌, ◌-◌, ◌<◌, ◌≤◌, ◌^◌, [], ◌∷◌, ◌++◌, length, get_or, map};
 ghost use Rattle.std.specs.Prelude.{ℕ, List, Ok, Err, refl, is_some, IfOk, IsOk, IsTrue, OnErr, ◌↔◌, Some, None};
 ghost use Rattle.std.specs.Option.{option_copied};
-ghost use Rattle.ijson_table.specs.CopyBound.{IsCopyBounded};
+ghost use Rattle.ijson_table.specs.private.CopyBound.{IsCopyBounded};
 ghost use Rattle.ijson_table.specs.Crowd.{distance};
 ghost use Rattle.ijson_table.specs.Growth.{capacity_limit};
 ghost use Rattle.ijson_table.specs.Inserts.{Inserts};

@@ -42,7 +42,7 @@ pub record HaveRoom (n first : ℕ) (entries : List Entry) : Type 0 where
   pub room : (k : ℕ) → k < length entries → behind n first (get_or entries k blank) + length entries ≤ n + k
 
 -- Entries with these hashes that can be written to n empty slots, beginning with entry `start` at slot `first`.
-pub record CanBeLaid (hashes : List ℕ) (n start first : ℕ) (entries : List Entry) : Type 0 where
+pub record CanBePlaced (hashes : List ℕ) (n start first : ℕ) (entries : List Entry) : Type 0 where
   pub starts : start < length entries
   pub within : first < n
   pub some : All (λ entry. position_in entry ≢ None) entries

@@ -3,7 +3,7 @@
 //! If many residents collide, the slots are filled by sorting.
 
 ghost use Rattle.std.specs.Prelude.{◌≡◌, ◌≢◌, ℕ, ◌+◌, ◌*◌, ◌^◌, ◌<◌, ◌≤◌, [], List, length, IfOk, OnOk, OnErr, IsTrue, IsFalse};
-ghost use Rattle.ijson_table.specs.CopyBound.{steps_a_resident, IsCopyBounded};
+ghost use Rattle.ijson_table.specs.private.CopyBound.{steps_a_resident, IsCopyBounded};
 ghost use Rattle.ijson_table.specs.private.BeforeSorting.{steps_before_sorting};
 ghost use Rattle.ijson_table.specs.private.Entries.{AreEntries};
 ghost use Rattle.ijson_table.specs.private.Insertion.{IsTableOf};

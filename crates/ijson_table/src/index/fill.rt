@@ -5,7 +5,7 @@ ghost use Rattle.std.specs.List.{All};
 ghost use Rattle.ijson_table.specs.Growth.{capacity_limit};
 ghost use Rattle.ijson_table.specs.Slots.{times, IsOrdered};
 ghost use Rattle.ijson_table.specs.Store.{keys_of};
-ghost use Rattle.ijson_table.specs.private.HomeOrder.{behind, home_before, home_in, AreInHomeOrder, CanBeLaid};
+ghost use Rattle.ijson_table.specs.private.HomeOrder.{behind, home_before, home_in, AreInHomeOrder, CanBePlaced};
 ghost use Rattle.ijson_table.specs.private.Insertion.{IsTableOf};
 ghost use Rattle.ijson_table.specs.private.KeptHash.{kept, kept_hash};
 ghost use Rattle.ijson_table.specs.private.Narrow.{Fits};
@@ -60,7 +60,7 @@ fn fill(slots: &mut Slots, sorted: &[Slot])
     let modulus = Modulus::new(slots.len());
     let start = first_in_row(sorted, modulus);
     let first = modulus.home_of_hash(sorted[start].hash());
-    lay(slots, sorted, modulus, start, first);
+    place_sorted(slots, sorted, modulus, start, first);
 }
 
 /// Returns the index in `sorted` of the entry to write first.
@@ -89,11 +89,11 @@ fn first_in_row(sorted: &[Slot], modulus: Modulus) -> usize
 /// Writes the sorted entries into empty slots, from entry `start` at slot `first`; both wrap around.
 ///
 /// Each is written to its home slot, or to the slot after the previous entry if that is further on.
-fn lay(slots: &mut Slots, sorted: &[Slot], modulus: Modulus, start: usize, first: usize)
+fn place_sorted(slots: &mut Slots, sorted: &[Slot], modulus: Modulus, start: usize, first: usize)
     ghost hashes: { List ℕ }
     requires counted { modulus.count ≡ length slots.old }
     requires empty { All (λ slot. position_in slot ≡ None) slots.old }
-    requires entries { CanBeLaid hashes (length slots.old) start first sorted.now }
+    requires entries { CanBePlaced hashes (length slots.old) start first sorted.now }
     requires narrow { All (Fits (length slots.old)) sorted.now }
     ensures ordered { IsOrdered hashes (positions slots.new) }
     ensures placed { (i : ℕ) → times i (positions slots.new) ≡ times i (positions sorted.now) }

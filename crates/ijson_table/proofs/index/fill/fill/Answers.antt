@@ -2,7 +2,7 @@ use Rattle.std.proofs.Common.{◌≡◌, ◌%◌, ◌+◌, ◌<◌, ◌≤◌, �
 use Rattle.std.proofs.lemmas.Bool.Decides.{nat_tests}
 use Rattle.ijson_table.specs.declared.slot.Slot.{Slot}
 use Rattle.ijson_table.specs.Slots.{times}
-use Rattle.ijson_table.specs.private.HomeOrder.{home_in, AreInHomeOrder, CanBeLaid, HaveRoom, rotated}
+use Rattle.ijson_table.specs.private.HomeOrder.{home_in, AreInHomeOrder, CanBePlaced, HaveRoom, rotated}
 use Rattle.ijson_table.specs.private.SlotHashes.{blank, positions}
 use Rattle.ijson_table.proofs.filling.NoneEmpty.{none_empty}
 use Rattle.ijson_table.proofs.filling.Rotation.{rotated_room}
@@ -20,7 +20,7 @@ times-no_entries i (entry ∷ entries) none = absurd (omega arith)
 can_lay : (hashes : List ℕ) (n count start first : ℕ) (sorted : List Slot) → AreInHomeOrder hashes n sorted → length hashes ≤ n → count ≡ n
     → start < length sorted → first < count → first ≡ home_in count (get_or sorted start blank)
     → ((k : ℕ) → k < length sorted → home_in count (get_or sorted k blank) + start ≤ home_in count (get_or sorted start blank) + k)
-    → CanBeLaid hashes n start first sorted
+    → CanBePlaced hashes n start first sorted
 can_lay hashes n count start first sorted are fits counted starts within is greatest =
     let most = subst (λ m. (k : ℕ) → k < length sorted
     → home_in m (get_or sorted k blank) + start ≤ home_in m (get_or sorted start blank) + k) counted greatest in
@@ -49,8 +49,8 @@ returns-then-is_empty-clause-table g c =
       hashes_are = hashes-none g.hashes slots c.requires.0;
     }
 
-pub lay-requires : goal.lay-requires
-lay-requires g c =
+pub place_sorted-requires : goal.place_sorted-requires
+place_sorted-requires g c =
     let counted : c.new-modulus.result.count ≡ length c.args.slots.now = c.new-modulus.ensures ∙ c.len.ensures in (
       counted,
       (

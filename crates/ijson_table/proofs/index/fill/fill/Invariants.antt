@@ -1,4 +1,4 @@
 use Rattle.ijson_table.proofs.index.fill.fill.Given as goal
 
-abbrev pub ghost-lay : goal.ghost-lay
-ghost-lay g a = g.hashes
+abbrev pub ghost-place_sorted : goal.ghost-place_sorted
+ghost-place_sorted g a = g.hashes

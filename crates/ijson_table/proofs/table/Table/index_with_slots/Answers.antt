@@ -1,7 +1,7 @@
 use Rattle.std.proofs.Common.{◌≡◌, ◌≢◌, ◌<◌, ◌≤◌, length, map, arith, ap, subst, ◌∙◌}
 use Rattle.std.specs.Prelude.{IfOk}
 use Rattle.std.proofs.lemmas.Result.{err_from_is_err_and}
-use Rattle.ijson_table.specs.CopyBound.{IsCopyBounded}
+use Rattle.ijson_table.specs.private.CopyBound.{IsCopyBounded}
 use Rattle.ijson_table.specs.Growth.{capacity_limit}
 use Rattle.ijson_table.specs.Placed.{Placed}
 use Rattle.ijson_table.specs.Store.{keys_of}

@@ -1,6 +1,6 @@
 use Rattle.std.proofs.Common.{arith, set, ap, sym, ◌∙◌}
 use Rattle.ijson_table.proofs.pairs.PairsByKey.{set-value}
-use Rattle.ijson_table.proofs.sorting.together.replace_value.Goals as goal
+use Rattle.ijson_table.proofs.sorting.duplicates.replace_value.Goals as goal
 
 pub returns : goal.returns
 returns g c =

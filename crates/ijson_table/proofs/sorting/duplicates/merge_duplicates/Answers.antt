@@ -8,9 +8,9 @@ use Rattle.ijson_table.proofs.arithmetic.Counting.{one_less}
 use Rattle.ijson_table.proofs.firsts.PlacesSoFar.{PlacesSoFar, Turn, place_of, room, with_new, with_old, within}
 use Rattle.ijson_table.proofs.pairs.PairsByKey.{keys-length, position_within}
 use Rattle.ijson_table.proofs.pairs.RunSteps.{map-same}
-use Rattle.ijson_table.proofs.sorting.together.put_together.Given.{Over}
-use Rattle.ijson_table.proofs.sorting.together.put_together.Goals as goal
-use Rattle.ijson_table.proofs.sorting.together.put_together.Goals.{then-first-position, else-first-position, After-index-first, In-Some}
+use Rattle.ijson_table.proofs.sorting.duplicates.merge_duplicates.Given.{Over}
+use Rattle.ijson_table.proofs.sorting.duplicates.merge_duplicates.Goals as goal
+use Rattle.ijson_table.proofs.sorting.duplicates.merge_duplicates.Goals.{then-first-position, else-first-position, After-index-first, In-Some}
 
 -- the facts of an iteration
 turn : (g : Over) (c : After-index-first g) → Turn c.args.pairs.items c.loop-pair.yielded c.loop-pair.list.items c.args.firsts.items

@@ -16,7 +16,7 @@ use std::alloc::{AllocError, Global};
 /// # Cost
 ///
 /// Linear in the number of pairs.
-pub fn put_together<V: Drop>(
+pub fn merge_duplicates<V: Drop>(
     alloc: Global,
     pairs: Vec<(IString, V)>,
     firsts: Vec<usize>,

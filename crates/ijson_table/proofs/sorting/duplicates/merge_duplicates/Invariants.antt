@@ -1,6 +1,6 @@
 use Rattle.std.proofs.Common.{◌≡◌, length, vec_capacity}
 use Rattle.ijson_table.proofs.firsts.PlacesSoFar.{PlacesSoFar}
-use Rattle.ijson_table.proofs.sorting.together.put_together.Given as goal
+use Rattle.ijson_table.proofs.sorting.duplicates.merge_duplicates.Given as goal
 
 abbrev pub invariant-loop-pair : goal.invariant-loop-pair
 invariant-loop-pair g l =

@@ -20,10 +20,10 @@ use Rattle.ijson_table.proofs.shifting.Removal.{holds_none, times-none}
 use Rattle.ijson_table.proofs.slots.Residents.{times-nil, times-more}
 
 -- a slot some steps from a first one is as far from a home slot as the steps exceed those to the home slot
-distance-laid : (n first home steps : ℕ) → first < n → home < n → steps < n → distance n first home ≤ steps
+distance-placed : (n first home steps : ℕ) → first < n → home < n → steps < n → distance n first home ≤ steps
     → distance n home (onward n first steps) + distance n first home ≡ steps
 unfolding distance onward
-distance-laid n first home steps lf lh ls le = grind (arith, nat_tests)
+distance-placed n first home steps lf lh ls le = grind (arith, nat_tests)
 
 -- different steps lead to different slots
 onward-injective : (n first j k : ℕ) → first < n → j < k → k < n → onward n first j ≢ onward n first k
@@ -32,7 +32,7 @@ onward-injective n first j k lf lj lk same = grind (arith, nat_tests)
 
 -- The first `step` entries are in the first `next` slots of the way, and the rest of the way is empty. The last one is
 -- displaced far enough that each remaining one may follow it.
-pub record Laying (hashes : List ℕ) (first : ℕ) (entries : List Slot) (next step : ℕ) (slots : List (Option ℕ)) : Type 0 where
+pub record PlacedSorted (hashes : List ℕ) (first : ℕ) (entries : List Slot) (next step : ℕ) (slots : List (Option ℕ)) : Type 0 where
   pub ordered : IsOrdered hashes slots
   pub placed : (i : ℕ) → times i slots ≡ times i (take step (positions entries))
   pub fits : next + length entries ≤ length slots + step
@@ -41,10 +41,10 @@ pub record Laying (hashes : List ℕ) (first : ℕ) (entries : List Slot) (next 
       → next ≤ displacement hashes slots (onward (length slots) first (next - 1)) + behind (length slots) first (get_or entries k blank)
 
 -- before the first step
-pub laid_none : (hashes : List ℕ) (first : ℕ) (entries : List Slot) (slots : List (Option ℕ)) → HaveRoom (length slots) first entries
+pub placed_none : (hashes : List ℕ) (first : ℕ) (entries : List Slot) (slots : List (Option ℕ)) → HaveRoom (length slots) first entries
     → 0 < length entries → first < length slots → ((p : ℕ) → p < length slots → resident slots p ≡ None)
-    → Laying hashes first entries 0 0 slots
-laid_none hashes first entries slots room some within empty = record {
+    → PlacedSorted hashes first entries 0 0 slots
+placed_none hashes first entries slots room some within empty = record {
   ordered = (holds_none hashes slots empty).ordered;
   placed = λ i. omega (arith, times-none i slots empty, times-nil i);
   fits = omega (arith, room.room 0 some);
@@ -53,9 +53,9 @@ laid_none hashes first entries slots room some within empty = record {
 }
 
 -- the next entry has a slot
-pub laid_inside : (n first next step steps : ℕ) (entries : List Slot) → HaveRoom n first entries → next + length entries ≤ n + step
+pub placed_inside : (n first next step steps : ℕ) (entries : List Slot) → HaveRoom n first entries → next + length entries ≤ n + step
     → step < length entries → steps ≡ max next (behind n first (get_or entries step blank)) → steps < n
-laid_inside n first next step steps entries room fits more is = omega (arith, room.room step more)
+placed_inside n first next step steps entries room fits more is = omega (arith, room.room step more)
 
 -- the home slot of an index, by its hash
 home_of-entry : (hashes : List ℕ) (n i : ℕ) (entry : Slot) → HasHash hashes entry → position_in entry ≡ Some i
@@ -64,7 +64,7 @@ unfolding home_at
 home_of-entry hashes n i entry has at = ap (λ h. h % n) (sym (has i at))
 
 module _ (hashes : List ℕ) (first : ℕ) (entries : List Slot) (next step i : ℕ) (slots : List (Option ℕ))
-    (room : HaveRoom (length slots) first entries) (laying : Laying hashes first entries next step slots) (more : step < length entries)
+    (room : HaveRoom (length slots) first entries) (so_far : PlacedSorted hashes first entries next step slots) (more : step < length entries)
     (within : first < length slots) (has : HasHash hashes (get_or entries step blank))
     (at : position_in (get_or entries step blank) ≡ Some i) where
   abbrev n : ℕ
@@ -90,7 +90,7 @@ module _ (hashes : List ℕ) (first : ℕ) (entries : List Slot) (next step i : 
   module _ (steps : ℕ) (is : steps ≡ max next far) where
     -- it is written on the way
     steps-below : steps + length entries ≤ n + step
-    steps-below = omega (arith, laying.fits, room.room step more)
+    steps-below = omega (arith, so_far.fits, room.room step more)
 
     steps-inside : steps < n
     steps-inside = omega (arith, steps-below)
@@ -105,10 +105,10 @@ module _ (hashes : List ℕ) (first : ℕ) (entries : List Slot) (next step i : 
     there = onward-below n first steps within (omega (arith, steps-inside))
 
     distance-is : distance n home (onward n first steps) + far ≡ steps
-    distance-is = omega (arith, distance-laid n first home steps within home-below steps-inside (omega (arith, far-is)), far-is)
+    distance-is = omega (arith, distance-placed n first home steps within home-below steps-inside (omega (arith, far-is)), far-is)
 
     none : resident slots (onward n first steps) ≡ None
-    none = laying.empty steps (omega arith) steps-inside
+    none = so_far.empty steps (omega arith) steps-inside
 
     -- the slot accepts it
     may : MayStand hashes slots i (onward n first steps)
@@ -125,7 +125,7 @@ module _ (hashes : List ℕ) (first : ℕ) (entries : List Slot) (next step i : 
             (onward-below n first before within (omega (arith, steps-inside))) (at_slot ∙ sym back) in
             omega (
               arith,
-              laying.led step (omega arith) more (omega arith),
+              so_far.led step (omega arith) more (omega arith),
               ap (displacement hashes slots) same,
               distance-is,
             )
@@ -137,17 +137,17 @@ module _ (hashes : List ℕ) (first : ℕ) (entries : List Slot) (next step i : 
     put : Holds hashes (with_one slots i) None slots'
     put = subst (λ o. Holds hashes (with_one slots i) o slots') none
         (put_down hashes (with_one slots i) slots i (onward n first steps) there
-        (record { ordered = laying.ordered; placed = λ k. refl }) may)
+        (record { ordered = so_far.ordered; placed = λ k. refl }) may)
 
-    pub laid_more : Laying hashes first entries (steps + 1) (step + 1) slots'
-    laid_more = record {
+    pub placed_more : PlacedSorted hashes first entries (steps + 1) (step + 1) slots'
+    placed_more = record {
       ordered = put.ordered;
       placed = λ k.
           let one : step + 1 ≡ suc step = omega arith in
           omega (
             arith,
             put.placed k,
-            laying.placed k,
+            so_far.placed k,
             ap (λ m. times k (take m (positions entries))) one,
             times-more k (positions entries) step (omega (arith, positions-length entries)),
             ap (one_if k) (position-at entries step (Some i) more (sym at)),
@@ -158,7 +158,7 @@ module _ (hashes : List ℕ) (first : ℕ) (entries : List Slot) (next step i : 
           onward-injective n first steps k within (omega arith) (omega (arith, size)) (sym same) in
           ap (λ m. resident slots' (onward m first k)) size
           ∙ (get_or-set_other slots (onward n first steps) (onward n first k) (Some i) None apart
-          ∙ laying.empty k (omega arith) (omega (arith, size)));
+          ∙ so_far.empty k (omega arith) (omega (arith, size)));
       led = λ k le lk some.
           let last : steps + 1 - 1 ≡ steps = omega arith in
           omega (
