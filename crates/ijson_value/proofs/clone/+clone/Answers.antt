@@ -1,4 +1,4 @@
-use Rattle.std.proofs.Common.{◌≡◌, ℕ, ◌+◌, ◌<◌, List, [], ◌∷◌, ◌++◌, length, get_or, take, add-one, arith, refl, sym, ap, subst, ◌∙◌}
+use Rattle.std.proofs.Common.{◌≡◌, ℕ, ◌+◌, ◌<◌, List, [], ◌∷◌, ◌++◌, length, get_or, take, add-one, arith, rules, refl, sym, ap, subst, ◌∙◌}
 use Rattle.std.proofs.Common.{take_all}
 use Rattle.std.proofs.Math.Seq.{take-suc}
 use Rattle.std.specs.Prelude.{IfOk}
@@ -49,7 +49,7 @@ one_more xs i x y old new pushed before copied h is =
 pub clone_items-loop-item-preserved : goal.clone_items-loop-item-preserved
 clone_items-loop-item-preserved t c = (
   one_more c.args.items.now c.loop-item.item-index c.item-item.result c.in_ok-copy.copy c.loop-item.copies.items
-      c.push_reserved.new.self.items c.push_reserved.ensures.items c.loop-item.invariant.0 c.in_ok-copy.ensures
+      c.push_reserved.new.self.items c.push_reserved.ensures.items c.loop-item.invariant.0 (search rules)
       c.loop-item-test.true c.item-item.is,
   c.push_reserved.ensures.capacity ∙ c.loop-item.invariant.1,
 )
@@ -65,7 +65,7 @@ clone_items-returns t c =
 pub clone_pairs-loop-pair-preserved : goal.clone_pairs-loop-pair-preserved
 clone_pairs-loop-pair-preserved t c =
     let key : c.in_ok-key.key ≡ c.pair-item.result.0 = c.in_ok-key.ensures.cases in
-    let value : c.in-Ok.value ≡ c.pair-item.result.1 = c.in-Ok.ensures in (
+    let value : c.in-Ok.value ≡ c.pair-item.result.1 = search rules in (
       one_more c.args.pairs.now c.loop-pair.pair-index c.pair-item.result (c.in_ok-key.key, c.in-Ok.value)
           c.loop-pair.copies.items c.push_reserved.new.self.items c.push_reserved.ensures.items
           c.loop-pair.invariant.0 (λ i. (key i, value i)) c.loop-pair-test.true c.pair-item.is,

@@ -1,10 +1,10 @@
-use Rattle.std.proofs.Common.{◌≡◌, ◌++◌, ◌∷◌, [], ℕ, length, refl, sym, ap, subst, ◌∙◌, Some, None}
+use Rattle.std.proofs.Common.{◌≡◌, ◌++◌, ◌∷◌, [], ℕ, length, refl, sym, ap, subst, ◌∙◌, Some, None, rules}
 use Rattle.std.specs.Prelude.{slice_get}
 use Rattle.std.specs.Option.{unwrap_or}
 use Rattle.std.proofs.lemmas.Bool.{false≢true}
 use Rattle.ijson_table.proofs.pairs.PairsByKey.{put-present, put-absent, lookup-found, lookup-absent}
 use Rattle.ijson_table.specs.Growth.{Grown}
-use Rattle.ijson_table.specs.Store.{Store, at, with_value}
+use Rattle.ijson_table.specs.Store.{Store, at, put, with_value}
 use Rattle.ijson_value.specs.LendsAtKey.{GrownAt}
 use Rattle.ijson_value.specs.Values.{null_value}
 use Rattle.ijson_value.specs.WellFormed.{WellFormed}
@@ -41,11 +41,13 @@ returns-in-Ok c =
     let pushed : new.pairs ≡ old.pairs ++ (key, null) ∷ [] = c.push_new.ensures.pairs
     ∙ ap (λ ps. ps ++ (key, null) ∷ []) c.in-Ok.ensures.pairs in
     let last : i ≡ length old.pairs = c.len-position.ensures ∙ ap length c.in-Ok.ensures.pairs in
+    let wrote : (w : WellFormed) → with_value new.pairs i w ≡ put old.pairs key w = λ w.
+    (λ j. with_value (pushed j) (last j) w) ∙ written_last old.pairs key null w ∙ sym (put-absent old.pairs key w missing) in
     let got = c.value_mut-in-Ok.ensures.value in (
       (
         refl,
         (λ w _. (
-          (λ j. with_value (pushed j) (last j) w) ∙ written_last old.pairs key null w ∙ sym (put-absent old.pairs key w missing),
+          search (rules, wrote w),
           subst (λ o. GrownAt o (length old.pairs) old.capacity new.capacity) (sym missing)
               (subst (λ n. Grown (length old.pairs) old.capacity 1 n) (sym c.push_new.ensures.capacity) c.in-Ok.ensures.growth),
         )),

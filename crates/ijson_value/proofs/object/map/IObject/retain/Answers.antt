@@ -1,4 +1,4 @@
-use Rattle.std.proofs.Common.{◌≡◌, ◌<◌, ℕ, length, ◌+◌, ◌-◌, true, false, refl, sym, ap, subst, ◌∙◌, arith}
+use Rattle.std.proofs.Common.{◌≡◌, ◌<◌, ℕ, length, ◌+◌, ◌-◌, true, false, refl, sym, ap, subst, ◌∙◌, arith, rules}
 use Rattle.std.specs.Map.Calls.{CalledAtPair, TakesPair}
 use Rattle.ijson_table.specs.Store.{Store, with_value, swap_out}
 use Rattle.ijson_table.proofs.pairs.PairsByKey.{length-swap_out, keys-length}
@@ -66,11 +66,11 @@ loop-index-preserved g c =
     let count : length new.pairs + 1 ≡ length now.pairs =
     omega (arith, size, shorter, ap length is, keys-length (swap_out (with_value now.pairs i w) i)) in
     let asked : CalledAtPair g.F.FnMut c.loop-index.asks c.pair_mut-value.result.0.now c.pair_mut-value.result.1.now false w
-    c.asks.new.self = record { key = _; value = _; shows = (refl, refl); left = _; called = c.if-asks.ensures; leaves = refl } in (
-      subst (λ ps. MayAskFrom (CalledAtPair g.F.FnMut) (TakesPair g.F.FnMut) c.asks.new.self i ps)
-          (sym (is ∙ swap_out_written now.pairs i w within))
-          (may_ask_next (CalledAtPair g.F.FnMut) (TakesPair g.F.FnMut) _ _ i now.pairs _ _ false w was.0 c.pair_mut-value.ensures.pair
-          asked),
+    c.asks.new.self = record { key = _; value = _; shows = (refl, refl); left = _; called = c.if-asks.ensures; leaves = refl } in
+    let next : MayAskFrom (CalledAtPair g.F.FnMut) (TakesPair g.F.FnMut) c.asks.new.self i new.pairs =
+    rw (is, swap_out_written now.pairs i w within)
+    (may_ask_next (CalledAtPair g.F.FnMut) (TakesPair g.F.FnMut) _ _ i now.pairs _ _ false w was.0 c.pair_mut-value.ensures.pair asked) in (
+      search (rules, next),
       c.swap_out.ensures.capacity ∙ was.1,
       omega (arith, within, count),
       λ qs h. was.3 qs (gone (CalledAtPair g.F.FnMut) (length now.pairs - i) (length new.pairs - i) c.loop-index.asks c.asks.new.self i
