@@ -1,7 +1,7 @@
 -- Which of the six kinds a value has.
 use Rattle.std.proofs.Common.{◌≡◌, refl}
 use Rattle.ijson_value.specs.Kind.{kind_of}
-use Rattle.ijson_value.specs.Tree.{Tree, null, boolean, number, string, array, object}
+use Rattle.ijson_value.specs.Tree.{Tree, null}
 use Rattle.ijson_value.specs.Values.{null_value}
 use Rattle.ijson_value.specs.WellFormed.{WellFormed, IsWellFormed}
 use Rattle.ijson_value.specs.declared.value.ValueType.{ValueType}
@@ -20,11 +20,7 @@ by_kind kind.Object a b c d e f = f refl
 -- a value of kind null is null
 only_null : (t : Tree) (h : IsWellFormed t) → kind_of t ≡ kind.Null → null_value ≡ record { tree = t; well_formed = h }
 only_null null h e = refl
-only_null (boolean b) h e = absurd (cc)
-only_null (number n) h e = absurd (cc)
-only_null (string s) h e = absurd (cc)
-only_null (array ts) h e = absurd (cc)
-only_null (object ps) h e = absurd (cc)
+only_null t h e = absurd (cc)
 
 pub is_null : (v : WellFormed) → kind_of v.tree ≡ kind.Null → null_value ≡ v
 is_null v e = only_null v.tree v.well_formed e

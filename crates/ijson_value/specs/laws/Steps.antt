@@ -15,12 +15,12 @@ use Rattle.ijson_value.specs.LendsAtKey.{with_found, with_key}
 use Rattle.ijson_value.specs.LendsStep.{with_step}
 use Rattle.ijson_value.specs.NodeValue.{node_value}
 use Rattle.ijson_value.specs.Step.{Step, by_position, by_key, kind_for, tree_at, tree_with, tree_without}
-use Rattle.ijson_value.specs.Tree.{Tree, null, boolean, number, string, array, object, items_of, items_list, members_of, members_list}
+use Rattle.ijson_value.specs.Tree.{Tree, array, object, items_of, items_list, members_of, members_list}
 use Rattle.ijson_value.specs.Values.{array_tree, object_tree}
 use Rattle.ijson_value.specs.WellFormed.{WellFormed, tree_of, item_trees, pair_trees}
 use Rattle.ijson_value.specs.laws.MemberTrees.{pair_tree, members_list-pairs, put-trees, out_key-trees}
 use Rattle.ijson_value.specs.declared.value.Destructured.{Destructured}
-use Rattle.ijson_value.specs.declared.value.Destructured.TheVariants.{Null, Bool as Truth, Number, String, Array, Object}
+use Rattle.ijson_value.specs.declared.value.Destructured.TheVariants.{Array, Object}
 
 items_list-items : (vs : List WellFormed) → items_list (item_trees vs) ≡ map tree_of vs
 items_list-items [] = refl
@@ -28,14 +28,9 @@ items_list-items (v ∷ vs) = ap (λ ts. v.tree ∷ ts) (items_list-items vs)
 
 -- if a step leads to a value, the kind is the one that the step is for
 pub kind_at : (t : Tree) (step : Step) → IsSome (tree_at t step) → kind_of t ≡ kind_for step
-kind_at null step h = cc
-kind_at (boolean b) step h = cc
-kind_at (number n) step h = cc
-kind_at (string s) step h = cc
 kind_at (array ts) (by_position i) h = refl
-kind_at (array ts) (by_key key) h = cc
-kind_at (object ps) (by_position i) h = cc
 kind_at (object ps) (by_key key) h = refl
+kind_at t step h = cc
 
 -- the element at an index, and the value of a key
 pub item_at : (vs : List WellFormed) (i : ℕ) → option_map tree_of (slice_get vs i) ≡ tree_at (array_tree vs) (by_position i)
@@ -102,11 +97,6 @@ value_with o key w h = elim (at o.pairs key) as (λ found. at o.pairs key ≡ fo
 -- content that lent the value one step inside has the tree with the last value written
 pub tree_with_step : (n : Destructured) (step : Step) (w : WellFormed) → IsSome (tree_at (node_value n).tree step)
     → (node_value (with_step n step w)).tree ≡ tree_with (node_value n).tree step w.tree
-tree_with_step Null step w h = cc
-tree_with_step (Truth b) step w h = cc
-tree_with_step (Number n) step w h = cc
-tree_with_step (String s) step w h = cc
 tree_with_step (Array a) (by_position i) w h = item_with a.items i w
-tree_with_step (Array a) (by_key key) w h = cc
-tree_with_step (Object o) (by_position i) w h = cc
 tree_with_step (Object o) (by_key key) w h = value_with o key w h
+tree_with_step n step w h = cc

@@ -69,6 +69,3 @@ pub returns-in_err-push-in-Some-clause-room : goal.returns-in_err-push-in-Some-c
 returns-in_err-push-in-Some-clause-room g c =
     let p = err_from_is_err_and c.from_residual.result c.from_residual.ensures.1 in
     rw p.1 (grind (arith, common_steps))
-
-pub items-smaller : goal.items-smaller
-items-smaller g c = grind (arith, common_steps)

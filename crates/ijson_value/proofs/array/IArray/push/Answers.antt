@@ -5,9 +5,6 @@ use Rattle.ijson_value.proofs.array.IArray.push.Goals as goal
 pub returns-in-Err-clause-kept : goal.returns-in-Err-clause-kept
 returns-in-Err-clause-kept c = c.in-Err.ensures.refused
 
-pub returns-in-Err-clause-room : goal.returns-in-Err-clause-room
-returns-in-Err-clause-room c = grind (arith, common_steps)
-
 pub returns-in-Err-clause-stays : goal.returns-in-Err-clause-stays
 returns-in-Err-clause-stays c = λ _. c.in-Err.ensures.refused
 
@@ -15,20 +12,5 @@ pub returns-in-Err-clause-capacity : goal.returns-in-Err-clause-capacity
 returns-in-Err-clause-capacity c = c.reserve.ensures.capacity
 
 -- from here on no proof names a step, so a body with more steps is rejected for its result
-pub unwrap-requires : goal.unwrap-requires
-unwrap-requires c = grind (arith, common_steps)
-
-pub push_reserved-requires : goal.push_reserved-requires
-push_reserved-requires c = grind (arith, common_steps)
-
 pub returns-clause-ok : goal.returns-clause-ok
 returns-clause-ok c = grind (arith, common_steps)
-
-pub returns-clause-stays : goal.returns-clause-stays
-returns-clause-stays c = grind (arith, common_steps)
-
-pub returns-clause-doubles : goal.returns-clause-doubles
-returns-clause-doubles c = grind (arith, common_steps)
-
-pub returns-clause-capacity : goal.returns-clause-capacity
-returns-clause-capacity c = grind (arith, common_steps)

@@ -8,6 +8,3 @@ returns-clause-item c = grind (arith, common_steps, gets)
 
 pub returns-clause-items : goal.returns-clause-items
 returns-clause-items c = grind (arith, common_steps)
-
-pub returns-clause-capacity : goal.returns-clause-capacity
-returns-clause-capacity c = grind (arith, common_steps)

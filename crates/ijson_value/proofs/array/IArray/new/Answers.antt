@@ -1,9 +1,0 @@
-use Rattle.std.proofs.Common.{arith}
-use Rattle.std.proofs.lemmas.Grind.{common_steps}
-use Rattle.ijson_value.proofs.array.IArray.new.Goals as goal
-
-pub returns-clause-items : goal.returns-clause-items
-returns-clause-items c = grind (arith, common_steps)
-
-pub returns-clause-capacity : goal.returns-clause-capacity
-returns-clause-capacity c = grind (arith, common_steps)
