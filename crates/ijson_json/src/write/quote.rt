@@ -147,17 +147,17 @@ fn push_text(out: &mut String, text: &IString, end: &str) -> Result<(), AllocErr
             out.truncate(text_end);
             out.push_str(end)
         }
-        _ => push_other(out, text, end),
+        _ => push_slow(out, text, end),
     }
 }
 
-/// Like `push_text`, for a string that is not inline or has an escape.
+/// Slow path of `push_text`: for a string that is not inline or has an escape.
 ///
 /// Its precondition rejects a narrower test before the call.
 #[inline(always)]
-fn push_other(out: &mut String, text: &IString, end: &str) -> Result<(), AllocError>
+fn push_slow(out: &mut String, text: &IString, end: &str) -> Result<(), AllocError>
     requires end { end.now ≢ [] }
-    requires other { length text.now ≤ 7 → prefix_len is_unescaped text.now < length text.now }
+    requires is_slow { length text.now ≤ 7 → prefix_len is_unescaped text.now < length text.now }
     ensures { OnOk result (string_bytes out.new ≡ string_bytes out.old ++ (all_escaped text.now ++ end.now)) }
 {
     push_escaped(out, text.as_str(), end)

@@ -42,8 +42,8 @@ returns-in_ok-push_str-in-Some c =
     (c.truncate.ensures.bytes ∙ kept ∙ ap (λ (l : List ℕ). old ++ l) (sym plain ∙ ap all_escaped c.in-Some.ensures.text)))
 
 -- the string is longer than a block, or a byte of it needs an escape
-pub push_other-requires-clause-other : goal.push_other-requires-clause-other
-push_other-requires-clause-other c short = elim c.in_default.branch [
+pub push_slow-requires-clause-is_slow : goal.push_slow-requires-clause-is_slow
+push_slow-requires-clause-is_slow c short = elim c.in_default.branch [
   | in_default-via-in_default w ↦ (
       let some : false ≡ true = rw w.in_default.is at (c.inline_padded.ensures.short short) in
       absurd cc
