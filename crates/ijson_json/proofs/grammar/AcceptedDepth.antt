@@ -3,7 +3,7 @@ use Rattle.std.proofs.Common.{ℕ, ◌≤◌, true, false, List, [], ◌∷◌, 
 use Rattle.std.specs.Prelude.{max, if◌then◌else◌, IfOk}
 use Rattle.std.specs.Str.{bytes_eq}
 use Rattle.ijson_table.specs.Store.{put, put_each}
-use Rattle.ijson_value.specs.Tree.{Tree, null, boolean, number, string, array, object, Items, no_items, item, Members, no_members}
+use Rattle.ijson_value.specs.Tree.{Tree, array, object, Items, no_items, item, Members, no_members}
 use Rattle.ijson_value.specs.Tree.{member, members_of, depth, items_depth, members_depth}
 use Rattle.ijson_value.specs.WellFormed.{WellFormed}
 use Rattle.ijson_json.specs.declared.fault.JsonError.{JsonError}
@@ -36,12 +36,9 @@ put_each_depth into (p ∷ ps) =
 -- the settled tree is no deeper than the one written
 mutual
   settled_depth : (t : Tree) → depth (settled t) ≤ depth t
-  settled_depth null = omega arith
-  settled_depth (boolean b) = omega arith
-  settled_depth (number n) = omega arith
-  settled_depth (string s) = omega arith
   settled_depth (array is) = omega (arith, items_settled_depth is)
   settled_depth (object ms) = omega (arith, put_each_depth [] (settled_pairs ms), pairs_settled_depth ms)
+  settled_depth t = omega arith
 
   -- nor are settled elements
   items_settled_depth : (is : Items) → items_depth (settled_items is) ≤ items_depth is

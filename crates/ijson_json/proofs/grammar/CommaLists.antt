@@ -3,7 +3,7 @@ use Rattle.std.proofs.Common.{◌≡◌, ℕ, false, List, [], ◌∷◌, ◌++�
 use Rattle.std.specs.Prelude.{IsTrue, ◌==◌}
 use Rattle.std.proofs.lemmas.Bool.Decides.{nat_tests}
 use Rattle.ijson_number.specs.NumberBytes.{is_number_byte}
-use Rattle.ijson_value.specs.Tree.{Tree, null, boolean, number, string, array, object}
+use Rattle.ijson_value.specs.Tree.{Tree, number, array, object}
 use Rattle.ijson_json.specs.Grammar.{is_space, IsSpace, Spaced, Split}
 use Rattle.ijson_json.specs.private.Reading.{Past, Stops, Ends}
 use Rattle.ijson_json.proofs.scanning.Prefixes.{run_same, not_both, tails, heads_apart}
@@ -36,12 +36,8 @@ space-Stops (b ∷ s) x h p = space_stops b h.0
 
 -- any value may end before a byte that is not of a number
 pub Ends-any : (t : Tree) (x : List ℕ) → Stops x → Ends t x
-Ends-any null x h = tt
-Ends-any (boolean b) x h = tt
 Ends-any (number n) x h = h
-Ends-any (string s) x h = tt
-Ends-any (array is) x h = tt
-Ends-any (object ms) x h = tt
+Ends-any t x h = tt
 
 -- white space around a value, and the text after both
 pub regroup : (before value after text : List ℕ) → (before ++ (value ++ after)) ++ text ≡ before ++ (value ++ (after ++ text))

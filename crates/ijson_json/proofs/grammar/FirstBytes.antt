@@ -51,11 +51,7 @@ not_kind b c k e h f = elim (eqb b c) as (λ s. eqb b c ≡ s → s ≡ false)
 -- the rank of each tree is that of a kind that begins a value
 pub rank-le : (t : Tree) → rank t ≤ 5
 rank-le null = omega arith
-rank-le (boolean b) = omega arith
-rank-le (number n) = omega arith
-rank-le (string s) = omega arith
-rank-le (array is) = omega arith
-rank-le (object ms) = omega arith
+rank-le t = omega arith
 
 -- a value begins with no white space
 pub value-past_space : (t : Tree) (text x : List ℕ) → IsValue t text → Past is_space (text ++ x)

@@ -2,7 +2,7 @@
 use Rattle.std.proofs.Common.{◌≡◌, ℕ, List, [], ◌∷◌, refl, sym, ap, ap₂, subst, ◌∙◌}
 use Rattle.ijson_table.specs.Store.{put_each, keys_of, IsDistinct}
 use Rattle.ijson_table.proofs.pairs.PutEach.{put_each-new}
-use Rattle.ijson_value.specs.Tree.{Tree, null, boolean, number, string, array, object, Items, no_items, item, Members, no_members}
+use Rattle.ijson_value.specs.Tree.{Tree, array, object, Items, no_items, item, Members, no_members}
 use Rattle.ijson_value.specs.Tree.{member, members_of, member_keys}
 use Rattle.ijson_value.specs.WellFormed.{IsWellFormed, AreWellFormed, HaveWellFormed}
 use Rattle.ijson_json.specs.Settled.{settled, settled_items, settled_pairs}
@@ -15,15 +15,12 @@ keys-settled (member k t more) = ap (λ (l : List (List ℕ)). k ∷ l) (keys-se
 mutual
   -- a well-formed tree settles to itself
   pub settles : (t : Tree) → IsWellFormed t → settled t ≡ t
-  settles null h = refl
-  settles (boolean b) h = refl
-  settles (number n) h = refl
-  settles (string s) h = refl
   settles (array is) h = ap array (settles_items is h)
   settles (object ms) h =
       let alone : put_each [] (settled_pairs ms) ≡ settled_pairs ms =
       put_each-new [] (settled_pairs ms) (subst IsDistinct (sym (keys-settled ms)) h.0) in
       ap object (ap members_of alone ∙ settles_members ms h.1)
+  settles t h = refl
 
   -- and so do its elements
   settles_items : (is : Items) → AreWellFormed is → settled_items is ≡ is

@@ -38,12 +38,9 @@ abbrev mutual
 -- replacing each number by itself keeps the tree
 mutual
   pub kept_shapes : (t : Tree) → reshaped (λ n. n) t ≡ t
-  kept_shapes null = refl
-  kept_shapes (boolean b) = refl
-  kept_shapes (number n) = refl
-  kept_shapes (string s) = refl
   kept_shapes (array is) = ap array (kept_item_shapes is)
   kept_shapes (object ms) = ap object (kept_member_shapes ms)
+  kept_shapes t = refl
 
   kept_item_shapes : (is : Items) → reshaped_items (λ n. n) is ≡ is
   kept_item_shapes no_items = refl

@@ -66,26 +66,20 @@ two x y a b c d e = tails _ _ _ _ (tails _ _ _ _ e)
 pub character_same : {w m w' m' : List ℕ} (x x' : List ℕ) → Character w m → Character w' m' → w ++ x ≡ w' ++ x' → Same w m x w' m' x'
 character_same x x' (unescaped {b} h) (unescaped {b = b'} h') e = let f : b ≡ b' = heads _ _ _ _ e in
     let g : b ∷ [] ≡ b' ∷ [] = ap (λ (c : ℕ). c ∷ []) f in (g, (g, tails _ _ _ _ e))
-character_same x x' (unescaped {b} h) (short g) e = absurd (not_backslash b _ _ h e)
-character_same x x' (unescaped {b} h) (unicode g i j) e = absurd (not_backslash b _ _ h e)
-character_same x x' (unescaped {b} h) (pair g i j k) e = absurd (not_backslash b _ _ h e)
-character_same x x' (short g) (unescaped {b} h) e = absurd (not_backslash b _ _ h (sym e))
+character_same x x' (unescaped {b} h) d e = absurd (not_backslash b _ _ h e)
+character_same x x' c (unescaped {b} h) e = absurd (not_backslash b _ _ h (sym e))
 character_same x x' (short {b} {c} g) (short {b = b'} {c = c'} h) e =
     let f : b ≡ b' = heads _ _ _ _ (tails _ _ _ _ e) in
     let k : c ≡ c' = some_same (short_escape b') c c' (rw f at g) h in
     (ap (λ (d : ℕ). 92 ∷ d ∷ []) f, (ap (λ (d : ℕ). d ∷ []) k, two x x' _ _ _ _ e))
-character_same x x' (short {b} {c} g) (unicode h i j) e = absurd (not_u b c _ _ g e)
-character_same x x' (short {b} {c} g) (pair h i j k) e = absurd (not_u b c _ _ g e)
-character_same x x' (unicode g i j) (unescaped {b} h) e = absurd (not_backslash b _ _ h (sym e))
-character_same x x' (unicode g i j) (short {b} {c} h) e = absurd (not_u b c _ _ h (sym e))
+character_same x x' (short {b} {c} g) d e = absurd (not_u b c _ _ g e)
+character_same x x' d (short {b} {c} h) e = absurd (not_u b c _ _ h (sym e))
 character_same x x' (unicode {h} {u} g i j) (unicode {h = l} {u = v} k i' j') e =
     let s = hex_same h l u v x x' g k (two _ _ _ _ _ _ e) in
     (ap (λ (t : List ℕ). 92 ∷ 117 ∷ t) s.1.0, (ap encode_utf8 s.0, s.1.1))
 character_same x x' (unicode {h} {u} g i j) (pair {h = l} {l = m} {u = v} {v = n} k p q r) e =
     let s = hex_same h l u v x _ g k (two _ _ _ _ _ _ e ∙ append_assoc l (92 ∷ 117 ∷ m) x') in
     absurd (not_both (is_high_surrogate v) p (rw s.0 at i))
-character_same x x' (pair g i j k) (unescaped {b} h) e = absurd (not_backslash b _ _ h (sym e))
-character_same x x' (pair g i j k) (short {b} {c} h) e = absurd (not_u b c _ _ h (sym e))
 character_same x x' (pair {h = l} {l = m} {u = v} {v = n} k p q r) (unicode {h} {u} g i j) e =
     let s = hex_same h l u v x' _ g k (two _ _ _ _ _ _ (sym e) ∙ append_assoc l (92 ∷ 117 ∷ m) x) in
     absurd (not_both (is_high_surrogate v) p (rw s.0 at i))
@@ -99,9 +93,7 @@ character_same x x' (pair {h} {l} {u} {v} g i j k) (pair {h = h'} {l = l'} {u = 
 -- no character begins with the closing quote
 pub not_quote : {w m : List ℕ} (x y : List ℕ) → Character w m → w ++ x ≡ 34 ∷ y → ⊥
 not_quote x y (unescaped {b} h) e = let f : b ≡ 34 = heads _ _ _ _ e in not_both (is_unescaped 34) (rw f at h) refl
-not_quote x y (short g) e = heads_apart 92 34 _ _ e refl
-not_quote x y (unicode g i j) e = heads_apart 92 34 _ _ e refl
-not_quote x y (pair g i j k) e = heads_apart 92 34 _ _ e refl
+not_quote x y c e = heads_apart 92 34 _ _ e refl
 
 -- ---- the body
 

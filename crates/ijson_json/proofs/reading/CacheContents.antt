@@ -13,7 +13,7 @@ use Rattle.ijson_string.specs.laws.Texts.{texts_same}
 use Rattle.ijson_string.proofs.Interning.{interned_long, interned_short}
 use Rattle.ijson_table.specs.Store.{put, put_each}
 use Rattle.ijson_table.proofs.pairs.PutEach.{put_each-append}
-use Rattle.ijson_value.specs.Tree.{Tree, null, boolean, number, string, array, object, Items, no_items, item, Members, no_members, member}
+use Rattle.ijson_value.specs.Tree.{Tree, string, array, object, Items, no_items, item, Members, no_members, member}
 use Rattle.ijson_value.specs.WellFormed.{WellFormed, item_trees, pair_trees}
 use Rattle.ijson_json.specs.Grammar.{IsString}
 use Rattle.ijson_json.specs.private.Reading.{Front, KeyRead}
@@ -113,12 +113,10 @@ shared_more text old new s g h long = g.kept s (h long)
 mutual
   -- and so does a tree
   pub tree_more : (text : List ℕ) (old new : Texts) (t : Tree) → AddsOnlyRead text old new → AreShared old t → AreShared new t
-  tree_more text old new null g h = tt
-  tree_more text old new (boolean b) g h = tt
-  tree_more text old new (number n) g h = tt
   tree_more text old new (string s) g h = shared_more text old new s g h
   tree_more text old new (array is) g h = items_more text old new is g h
   tree_more text old new (object ms) g h = members_more text old new ms g h
+  tree_more text old new t g h = tt
 
   -- and so do elements
   pub items_more : (text : List ℕ) (old new : Texts) (is : Items) → AddsOnlyRead text old new → ItemsAreShared old is

@@ -47,10 +47,6 @@ meaning_none b h = grind (arith, nat_tests)
 pub hex_at : (text bytes rest : List ℕ) (x y z w : ℕ) → bytes ≡ text → 4 ≤ length bytes → rest ≡ drop 4 text
     → hex_digit (get_or bytes 0 0) ≡ Some x → hex_digit (get_or bytes 1 0) ≡ Some y → hex_digit (get_or bytes 2 0) ≡ Some z
     → hex_digit (get_or bytes 3 0) ≡ Some w → HexAt text (x * 4096 + (y * 256 + (z * 16 + w))) rest
-hex_at text [] rest x y z w t l e f g h i = absurd (omega arith)
-hex_at text (a ∷ []) rest x y z w t l e f g h i = absurd (omega arith)
-hex_at text (a ∷ b ∷ []) rest x y z w t l e f g h i = absurd (omega arith)
-hex_at text (a ∷ b ∷ c ∷ []) rest x y z w t l e f g h i = absurd (omega arith)
 hex_at text (a ∷ b ∷ c ∷ d ∷ more) rest x y z w t l e f g h i =
     let behind : rest ≡ more = e ∙ ap (λ (l : List ℕ). drop 4 l) (sym t) in (
       a ∷ b ∷ c ∷ d ∷ [],
@@ -72,6 +68,7 @@ hex_at text (a ∷ b ∷ c ∷ d ∷ more) rest x y z w t l e f g h i =
       },
       sym t ∙ ap (λ (l : List ℕ). a ∷ b ∷ c ∷ d ∷ l) (sym behind),
     )
+hex_at text bytes rest x y z w t l e f g h i = absurd (omega arith)
 
 -- the value of a byte that is not a digit exceeds any four digits
 pub digit_below : (v sum : ℕ) (P : Type 0) → (16 ≤ v → (v ≡ 65536) × P) → v ≤ sum → sum < 65536 → v < 16

@@ -3,7 +3,7 @@ use Rattle.std.proofs.Common.{◌≡◌, ℕ, ◌≤◌, true, false, List, [], 
 use Rattle.std.proofs.lemmas.Bool.{eqb-true}
 use Rattle.std.specs.Prelude.{◌≢◌}
 use Rattle.std.proofs.lemmas.List.{append-nil, length-append}
-use Rattle.ijson_json.specs.Strings.{is_unescaped, Character, unescaped, short, unicode, pair, StringBody, empty, one_more}
+use Rattle.ijson_json.specs.Strings.{is_unescaped, Character, unescaped, StringBody, empty, one_more}
 use Rattle.ijson_json.specs.Grammar.{IsString}
 use Rattle.ijson_json.specs.private.Reading.{Past, Front}
 use Rattle.ijson_json.specs.private.Explains.{StringFault}
@@ -75,16 +75,12 @@ no_character text b more t n s m rest (w, c, e) = go c e
   where
     go : {w m : List ℕ} → Character w m → text ≡ w ++ rest → ⊥
     go (unescaped {b = d} h) e = not_both (is_unescaped b) (let f : d ≡ b = heads _ _ _ _ (sym e ∙ t) in rw f at h) s
-    go (short {b = d} {c} g) e = heads_apart b 92 _ _ (sym t ∙ e) n
-    go (unicode {h} {u} g i j) e = heads_apart b 92 _ _ (sym t ∙ e) n
-    go (pair {h} {l} {u} {v} g i j k) e = heads_apart b 92 _ _ (sym t ∙ e) n
+    go c e = heads_apart b 92 _ _ (sym t ∙ e) n
 
 -- a character has bytes
 character_bytes : {w m : List ℕ} (x : List ℕ) → Character w m → [] ≡ w ++ x → ⊥
 character_bytes x (unescaped {b} h) e = cc
-character_bytes x (short g) e = cc
-character_bytes x (unicode g i j) e = cc
-character_bytes x (pair g i j k) e = cc
+character_bytes x c e = cc
 
 -- if a run is followed by no escape, it is followed by no character
 pub after_run : (rest : List ℕ) → Past is_unescaped rest → NoEscape rest → NoCharacter rest

@@ -112,16 +112,14 @@ string_alone text more e n t x stops g = absurd (let k : 3 ≡ rank t =
 pub string_fault : (opened : ℕ) (text more : List ℕ) (fault : Fault) → text ≡ 34 ∷ more → StringFault text fault
     → Explains opened text fault
 string_fault opened text more (faults.Syntax left) e h = (h.0, string_alone text more e h.1)
-string_fault opened text more (faults.TooDeep left) e h = absurd h
-string_fault opened text more (faults.NumberRange left) e h = absurd h
 string_fault opened text more faults.Memory e h = tt
+string_fault opened text more fault e h = absurd h
 
 -- a fault in a key is one of the member
 pub key_fault : (opened : ℕ) (text : List ℕ) (fault : Fault) → StringFault text fault → ExplainsMember opened text fault
 key_fault opened text (faults.Syntax left) h = (h.0, no_key text h.1)
-key_fault opened text (faults.TooDeep left) h = absurd h
-key_fault opened text (faults.NumberRange left) h = absurd h
 key_fault opened text faults.Memory h = tt
+key_fault opened text fault h = absurd h
 
 -- reading a scalar is reading a value
 pub scalar_read : (opened : ℕ) (text : List ℕ) (result : Result (WellFormed × Bor (List ℕ)) Fault) (old new : Texts)

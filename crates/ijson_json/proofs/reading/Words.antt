@@ -62,8 +62,7 @@ boolean_alone true (boolean true) front v k o = v
 boolean_alone false (boolean false) front v k o = v
 boolean_alone true (boolean false) front v k o = absurd (heads_apart 102 116 _ _ (sym v ∙ o.1) refl)
 boolean_alone false (boolean true) front v k o = absurd (heads_apart 116 102 _ _ (sym v ∙ o.1) refl)
-boolean_alone true t front v k o = absurd (omega (arith, k))
-boolean_alone false t front v k o = absurd (omega (arith, k))
+boolean_alone a t front v k o = absurd (omega (arith, k))
 
 boolean_word : (a : Bool) → Word (first_of a) (boolean_text a) (boolean a)
 boolean_word a = record {
@@ -110,9 +109,7 @@ module _ {b : ℕ} {word : List ℕ} {t : Tree} (w : Word b word t) where
   word_fault : (opened : ℕ) (text more : List ℕ) (fault : Fault) → text ≡ b ∷ more → WordFault text word fault
       → Explains opened text fault
   word_fault opened text more (faults.Syntax left) e h = (h.0, word_alone text more e h.1)
-  word_fault opened text more (faults.TooDeep left) e h = absurd h
-  word_fault opened text more (faults.NumberRange left) e h = absurd h
-  word_fault opened text more faults.Memory e h = absurd h
+  word_fault opened text more fault e h = absurd h
 
   -- the result of reading a text that may begin with the word
   pub word_reads : (answer : Result (WellFormed × Bor (List ℕ)) Fault) (value : WellFormed) (cache : Texts) (text : List ℕ) (first : ℕ)

@@ -112,13 +112,9 @@ value_error : (left rest : Option (List ℕ)) (bytes : List ℕ) (e : JsonError)
     → IsUtf8 bytes → Refuses bytes e
     → (compact_error_of e ≢ errors.Read) × (compact_error_of e ≢ errors.NotUtf8) × (compact_error_of e ≢ errors.Write)
     × (compact_error_of e ≢ errors.Json json.Memory) × IfSome left (λ xs. IsCompactRefusal xs (compact_error_of e))
-value_error left rest bytes (json.Syntax at) is utf8 why =
-    ((λ q. cc), (λ q. cc), (λ q. cc), (λ q. cc), said _ left rest bytes is (λ _. (utf8, why)))
-value_error left rest bytes (json.TooDeep at) is utf8 why =
-    ((λ q. cc), (λ q. cc), (λ q. cc), (λ q. cc), said _ left rest bytes is (λ _. (utf8, why)))
-value_error left rest bytes (json.NumberRange at) is utf8 why =
-    ((λ q. cc), (λ q. cc), (λ q. cc), (λ q. cc), said _ left rest bytes is (λ _. (utf8, why)))
 value_error left rest bytes json.Memory is utf8 why = ((λ q. cc), (λ q. cc), (λ q. cc), (λ q. cc), unsaid left)
+value_error left rest bytes e is utf8 why =
+    ((λ q. cc), (λ q. cc), (λ q. cc), (λ q. cc), said _ left rest bytes is (λ _. (utf8, why)))
 
 pub returns-in_err-value : goal.returns-in_err-value
 returns-in_err-value g c =
@@ -140,9 +136,7 @@ line_error : (left : Option (List ℕ)) (K : Type 0) (e : CompactError) → (e �
     → (e ≢ errors.Read) × (e ≢ errors.NotUtf8) × (e ≢ errors.Json json.Memory) × IfSome left (λ bytes. IsCompactRefusal bytes e)
 line_error left K errors.Write h = ((λ q. cc), (λ q. cc), (λ q. cc), unsaid left)
 line_error left K errors.Memory h = ((λ q. cc), (λ q. cc), (λ q. cc), unsaid left)
-line_error left K errors.Read h = let m = (h (λ q. cc)).0 in absurd cc
-line_error left K errors.NotUtf8 h = let m = (h (λ q. cc)).0 in absurd cc
-line_error left K (errors.Json e) h = let m = (h (λ q. cc)).0 in absurd cc
+line_error left K e h = let m = (h (λ q. cc)).0 in absurd cc
 
 -- the line, or an error of building and writing it
 line : (r : Result WellFormed CompactError) (left rest got got' : Option (List ℕ)) (before after failed failed' : ℕ) (old new : Texts)

@@ -1,5 +1,4 @@
 use Rattle.std.proofs.Common.{sym, eq-eqb, arith, rules, subst}
-use Rattle.std.proofs.lemmas.Grind.{common_steps}
 use Rattle.ijson_value.specs.Tree.{Tree}
 use Rattle.ijson_json.specs.Grammar.{Accepted}
 use Rattle.std.proofs.lemmas.Bool.{eqb-true}
@@ -45,5 +44,3 @@ pub returns-then-is_empty-clause-shared : goal.returns-then-is_empty-clause-shar
 returns-then-is_empty-clause-shared g c = c.in-Ok.ensures.answer.shared
 
 -- given for speed: the default tactics take longer
-pub overflow_sub-result : goal.overflow_sub-result
-overflow_sub-result g c = grind (arith, common_steps)

@@ -1,5 +1,4 @@
 use Rattle.std.proofs.Common.{true, ◌≡◌, ◌∙◌, ◌++◌, arith, ap, sym, string_bytes}
-use Rattle.std.proofs.lemmas.Grind.{common_steps}
 use Rattle.ijson_value.specs.WellFormed.{pair_trees}
 use Rattle.ijson_value.specs.Tree.{members_depth}
 use Rattle.ijson_value.proofs.DepthLemmas.{item-items_depth}
@@ -27,17 +26,3 @@ push_members-loop-key-init t c =
     }
 
 -- given for speed: the default tactics take longer
-pub push_items-loop-item-preserved : goal.push_items-loop-item-preserved
-push_items-loop-item-preserved t c = grind (arith, common_steps)
-
-pub push_items-returns : goal.push_items-returns
-push_items-returns t c = grind (arith, common_steps)
-
-pub push_members-loop-key-preserved : goal.push_members-loop-key-preserved
-push_members-loop-key-preserved t c = grind (arith, common_steps)
-
-pub push_value-returns-in_ok-push_items-in-Array : goal.push_value-returns-in_ok-push_items-in-Array
-push_value-returns-in_ok-push_items-in-Array t c = grind (arith, common_steps)
-
-pub push_value-returns-in_ok-push_members-in-Object : goal.push_value-returns-in_ok-push_members-in-Object
-push_value-returns-in_ok-push_members-in-Object t c = grind (arith, common_steps)

@@ -1,5 +1,4 @@
 use Rattle.std.proofs.Common.{true, refl, arith, subst, ◌∙◌}
-use Rattle.std.proofs.lemmas.Grind.{common_steps}
 use Rattle.ijson_json.specs.private.Reading.{IsPastLimit}
 use Rattle.ijson_json.proofs.scanning.Prefixes.{not_both}
 use Rattle.ijson_json.proofs.reading.Numbers.{no_number, run_past_limit, front_past_limit, front_range}
@@ -42,8 +41,3 @@ returns-in_default c =
     )
 
 -- given for speed: the default tactics take longer
-pub range-requires-clause-end_boundary : goal.range-requires-clause-end_boundary
-range-requires-clause-end_boundary c = grind (arith, common_steps)
-
-pub overflow_sub-result : goal.overflow_sub-result
-overflow_sub-result c = grind (arith, common_steps)

@@ -1,5 +1,4 @@
-use Rattle.std.proofs.Common.{◌≡◌, true, false, drop, arith}
-use Rattle.std.proofs.lemmas.Grind.{common_steps}
+use Rattle.std.proofs.Common.{◌≡◌, true, false, drop}
 use Rattle.ijson_json.specs.private.Reading.{Stops}
 use Rattle.ijson_json.proofs.reading.Numbers.{spelled_boundary}
 use Rattle.ijson_json.proofs.reading.OnePass.{no_short}
@@ -10,9 +9,6 @@ split_at-requires c = let e = rw c.in-Some.is at c.in_ok-number.ensures.found in
     spelled_boundary c.args.text.now c.in-Some.length c.in-Some.number.decimal c.utf8.text e.0 e.1
 
 -- given for speed: the default tactics take longer
-pub returns-then-stops-clause-read : goal.returns-then-stops-clause-read
-returns-then-stops-clause-read c = grind (arith, common_steps)
-
 pub returns-in_default-clause-none : goal.returns-in_default-clause-none
 returns-in_default-clause-none c = λ p rest f _. (rw c.in_default.is at c.in_ok-number.ensures.none) p rest f
 

@@ -1,7 +1,6 @@
 use Rattle.std.proofs.Common.{◌≡◌, ◌⊎◌, inl, inr, length, List, [], ◌∷◌, ◌++◌, ◌+◌, ℕ, ap, subst, sym, refl, ◌∙◌, arith, rules, map}
 use Rattle.std.specs.Prelude.{Result, Err, IsErrAnd}
 use Rattle.std.specs.Borrow.{Bor}
-use Rattle.std.proofs.lemmas.Grind.{common_steps}
 use Rattle.std.proofs.lemmas.Result.{err_from_is_err_and}
 use Rattle.ijson_table.specs.Store.{put_each}
 use Rattle.ijson_value.specs.Tree.{Tree, array, object, items_of, members_of}
@@ -296,32 +295,3 @@ read_object-returns-in-End g t c =
     }
 
 -- given for speed: the default tactics take longer
-pub read_array-loop-item-smaller : goal.read_array-loop-item-smaller
-read_array-loop-item-smaller g t c = grind (arith, common_steps)
-
-pub read_array-take_items-requires : goal.read_array-take_items-requires
-read_array-take_items-requires g t c = grind (arith, common_steps)
-
-pub read_object-loop-key-smaller : goal.read_object-loop-key-smaller
-read_object-loop-key-smaller g t c = grind (arith, common_steps)
-
-pub read_object-take_members-requires : goal.read_object-take_members-requires
-read_object-take_members-requires g t c = grind (arith, common_steps)
-
-pub read_array-overflow_add-opened : goal.read_array-overflow_add-opened
-read_array-overflow_add-opened g t c = omega arith
-
-pub read_array-read_value-requires : goal.read_array-read_value-requires
-read_array-read_value-requires g t c κs within = (omega arith, (within.0, (within.1, omega arith)))
-
-pub read_object-overflow_add-opened : goal.read_object-overflow_add-opened
-read_object-overflow_add-opened g t c = omega arith
-
-pub read_object-read_value-requires : goal.read_object-read_value-requires
-read_object-read_value-requires g t c κs within = (omega arith, (within.0, (within.1, omega arith)))
-
-pub read_container-read_array-read-requires : goal.read_container-read_array-read-requires
-read_container-read_array-read-requires g t c κs within = (omega arith, (within.0, (within.1, omega arith)))
-
-pub read_container-read_object-read-requires : goal.read_container-read_object-read-requires
-read_container-read_object-read-requires g t c κs within = (omega arith, (within.0, (within.1, omega arith)))

@@ -1,4 +1,4 @@
-use Rattle.std.proofs.Common.{◌≡◌, ℕ, zero, suc, ◌<◌, ◌/◌, List, [], ◌∷◌, length, get_or, refl, ap, ◌∙◌, arith}
+use Rattle.std.proofs.Common.{◌≡◌, ℕ, suc, ◌<◌, ◌/◌, List, [], ◌∷◌, length, get_or, refl, ap, ◌∙◌, arith}
 use Rattle.std.specs.List.{prefix_len}
 use Rattle.std.proofs.lemmas.Bool.Decides.{nat_tests}
 use Rattle.std.proofs.lemmas.List.{ext_get_or}
@@ -12,14 +12,8 @@ abbrev bytes_of : List ℕ → List ℕ
 bytes_of row = get_or row 0 0 ∷ get_or row 1 0 ∷ get_or row 2 0 ∷ get_or row 3 0 ∷ get_or row 4 0 ∷ get_or row 5 0 ∷ get_or row 6 0 ∷ []
 
 byte_at : (row : List ℕ) (i : ℕ) → i < 7 → get_or (bytes_of row) i 0 ≡ get_or row i 0
-byte_at row zero below = refl
-byte_at row (suc zero) below = refl
-byte_at row (suc (suc zero)) below = refl
-byte_at row (suc (suc (suc zero))) below = refl
-byte_at row (suc (suc (suc (suc zero)))) below = refl
-byte_at row (suc (suc (suc (suc (suc zero))))) below = refl
-byte_at row (suc (suc (suc (suc (suc (suc zero)))))) below = refl
 byte_at row (suc (suc (suc (suc (suc (suc (suc i))))))) below = absurd (omega (arith, below))
+byte_at row i below = refl
 
 is_row : (row : List ℕ) → length row ≡ 7 → bytes_of row ≡ row
 is_row row long = ext_get_or 0 (bytes_of row) row (omega (arith, long)) (byte_at row)

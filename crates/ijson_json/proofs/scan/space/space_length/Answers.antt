@@ -1,5 +1,4 @@
 use Rattle.std.proofs.Common.{◌≡◌, ℕ, ◌-◌, ◌≤◌, List, length, length-drop, take, drop, ap, ◌∙◌, arith}
-use Rattle.std.proofs.lemmas.Grind.{common_steps}
 use Rattle.std.specs.Prelude.{Option, not, unwrap_or}
 use Rattle.std.specs.List.{position, prefix_len}
 use Rattle.std.proofs.lemmas.List.{take_all}
@@ -47,6 +46,3 @@ returns c =
       c.unwrap_or.ensures ∙ few c.args.bytes.now c.loop-at.at _ c.loop-at.invariant.1 c.first_other.ensures,
       c.loop-at.invariant.0,
     )
-
-pub first_other-requires : goal.first_other-requires
-first_other-requires c = grind (arith, common_steps)

@@ -1,6 +1,5 @@
-use Rattle.std.proofs.Common.{◌≡◌, ◌++◌, ◌∷◌, [], List, ℕ, take, drop, append-nil, take-append-drop, length, refl, sym, ap, ◌∙◌, arith}
+use Rattle.std.proofs.Common.{◌≡◌, ◌++◌, ◌∷◌, [], List, ℕ, take, drop, append-nil, take-append-drop, length, refl, sym, ap, ◌∙◌}
 use Rattle.std.proofs.Common.{rules}
-use Rattle.std.proofs.lemmas.Grind.{common_steps}
 use Rattle.std.specs.String.{string_bytes}
 use Rattle.std.proofs.lemmas.Str.{IsCharBoundary-start}
 use Rattle.ijson_number.proofs.AnyAnswer.{where_refused}
@@ -91,5 +90,3 @@ loop-byte-preserved c =
     }
 
 -- given for speed: the default tactics take longer
-pub loop-byte-smaller : goal.loop-byte-smaller
-loop-byte-smaller c = grind (arith, common_steps)
