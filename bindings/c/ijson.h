@@ -1,0 +1,69 @@
+/* JSON with exact decimals: bytes in, bytes out. See docs/other-languages.md.
+ *
+ * No function keeps anything between calls, so threads may call them at the same time. Memory comes from malloc and is freed before a
+ * function returns.
+ *
+ * The caller guarantees that every pointer is not null, also at a length of 0; that a text has as many bytes as the length after it; and
+ * that the output and the result are memory of the caller's own, apart from each other and from the texts.
+ */
+#ifndef IJSON_H
+#define IJSON_H
+
+#include <stddef.h>
+#include <stdint.h>
+
+#ifdef __cplusplus
+extern "C" {
+#endif
+
+enum {
+    IJSON_OK = 0,
+    IJSON_NOT_UTF8 = 1,     /* a text is not UTF-8 */
+    IJSON_SYNTAX = 2,       /* a text is not JSON; the offset is that of the first byte that no JSON text could have there */
+    IJSON_TOO_DEEP = 3,     /* nesting deeper than 127; the offset is that of the opening bracket */
+    IJSON_NUMBER_RANGE = 4, /* an exponent outside -2^30 to 2^30, without trailing zeros; the offset is that of the number */
+    IJSON_MEMORY = 5,       /* an allocation failed */
+    IJSON_TOO_SHORT = 6,    /* the output is too short, and unchanged; the length is the one that is needed */
+    IJSON_NOT_POINTER = 7,  /* the pointer is not a JSON Pointer */
+    IJSON_NOTHING = 8       /* the pointer refers to no value */
+};
+
+typedef struct {
+    uint32_t status;
+    uint32_t text; /* the text at fault: 0 for the first, 1 for the second */
+    size_t offset; /* the byte offset of the fault, from 0 */
+} ijson_outcome;
+
+/* The seed is a random number, best chosen once for a process: with a number that an attacker knows, texts can be made whose reading takes
+ * quadratic time. Only the result of ijson_hash depends on it.
+ *
+ * The first four functions write a text to the start of the output and set *length to its length. If it does not fit, the status is
+ * IJSON_TOO_SHORT; so a call with an output of length 0 returns the length that is needed. At any other failure *length is 0.
+ */
+
+/* The text without white space. Members keep their order, and numbers their value and whether they have a fraction point. */
+ijson_outcome ijson_compact(uint64_t seed, const uint8_t *text, size_t text_length, uint8_t *output, size_t output_length, size_t *length);
+
+/* The canonical text: two texts have the same one exactly if their values are equal. */
+ijson_outcome ijson_canonical(uint64_t seed, const uint8_t *text, size_t text_length, uint8_t *output, size_t output_length, size_t *length);
+
+/* The compact text of the value at a JSON Pointer (RFC 6901). */
+ijson_outcome ijson_get(uint64_t seed, const uint8_t *text, size_t text_length, const uint8_t *pointer, size_t pointer_length,
+                        uint8_t *output, size_t output_length, size_t *length);
+
+/* The compact text of the target after a JSON Merge Patch (RFC 7396). */
+ijson_outcome ijson_merge_patch(uint64_t seed, const uint8_t *target, size_t target_length, const uint8_t *patch, size_t patch_length,
+                                uint8_t *output, size_t output_length, size_t *length);
+
+/* Sets *equal to 1 if the values are equal: numbers by value, objects in any order of members. Otherwise, also at a failure, to 0. */
+ijson_outcome ijson_equal(uint64_t seed, const uint8_t *first, size_t first_length, const uint8_t *second, size_t second_length,
+                          uint8_t *equal);
+
+/* Sets *hash to a hash of the seed and the value, which is the same for equal values; at a failure, to 0. */
+ijson_outcome ijson_hash(uint64_t seed, const uint8_t *text, size_t text_length, uint64_t *hash);
+
+#ifdef __cplusplus
+}
+#endif
+
+#endif

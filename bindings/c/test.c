@@ -1,0 +1,115 @@
+/* Calls each function with outputs of each length in memory of exactly that length, so that a checker of memory sees a write past it. */
+#include "ijson.h"
+
+#include <assert.h>
+#include <stdio.h>
+#include <stdlib.h>
+#include <string.h>
+
+struct text {
+    uint8_t *bytes;
+    size_t count;
+};
+
+typedef ijson_outcome writes(struct text first, struct text second, uint8_t *output, size_t room, size_t *length);
+
+/* The bytes of a string in memory of exactly their number. */
+static struct text text_of(const char *string) {
+    struct text text = {NULL, strlen(string)};
+    text.bytes = malloc(text.count ? text.count : 1);
+    assert(text.bytes);
+    memcpy(text.bytes, string, text.count);
+    return text;
+}
+
+static ijson_outcome compact(struct text first, struct text second, uint8_t *output, size_t room, size_t *length) {
+    (void)second;
+    return ijson_compact(1, first.bytes, first.count, output, room, length);
+}
+
+static ijson_outcome canonical(struct text first, struct text second, uint8_t *output, size_t room, size_t *length) {
+    (void)second;
+    return ijson_canonical(1, first.bytes, first.count, output, room, length);
+}
+
+static ijson_outcome get(struct text first, struct text second, uint8_t *output, size_t room, size_t *length) {
+    return ijson_get(1, first.bytes, first.count, second.bytes, second.count, output, room, length);
+}
+
+static ijson_outcome merge_patch(struct text first, struct text second, uint8_t *output, size_t room, size_t *length) {
+    return ijson_merge_patch(1, first.bytes, first.count, second.bytes, second.count, output, room, length);
+}
+
+static const struct {
+    writes *call;
+    const char *first, *second, *want;
+} WRITTEN[] = {
+    {compact, " {\"b\": [1.50, 1e2], \"a\": \"\\u00e9 and a string of more than three times sixteen bytes\"} ", "",
+     "{\"b\":[1.5,100.0],\"a\":\"\xc3\xa9 and a string of more than three times sixteen bytes\"}"},
+    {canonical, "{\"b\":2.0,\"a\":[10,0.0]}", "", "{\"a\":[1e1,0],\"b\":2e0}"},
+    {get, "{\"a\":[{\"b\":[true, 12345678901234567890]}]}", "/a/0/b", "[true,12345678901234567890]"},
+    {merge_patch, "{\"a\":1,\"b\":{\"c\":2}}", "{\"a\":null,\"b\":{\"d\":\"e\"}}", "{\"b\":{\"c\":2,\"d\":\"e\"}}"},
+};
+
+static const struct {
+    writes *call;
+    const char *first, *second;
+    ijson_outcome want;
+} REFUSED[] = {
+    {compact, "[\"\xff\"]", "", {IJSON_NOT_UTF8, 0, 0}},
+    {compact, "", "", {IJSON_SYNTAX, 0, 0}},
+    {canonical, "[1e2000000000]", "", {IJSON_NUMBER_RANGE, 0, 1}},
+    {get, "[]", "/0", {IJSON_NOTHING, 0, 0}},
+    {get, "[]", "0", {IJSON_NOT_POINTER, 0, 0}},
+    {merge_patch, "{}", "[1,", {IJSON_SYNTAX, 1, 3}},
+};
+
+static void is_written(writes *call, struct text first, struct text second, const char *want) {
+    size_t need = strlen(want);
+    for (size_t room = 0; room <= need + 1; room++) {
+        size_t length = 1000;
+        uint8_t *output = malloc(room ? room : 1);
+        assert(output);
+        ijson_outcome outcome = call(first, second, output, room, &length);
+        assert(length == need && outcome.status == (room < need ? IJSON_TOO_SHORT : IJSON_OK));
+        assert(room < need || memcmp(output, want, need) == 0);
+        free(output);
+    }
+}
+
+static void is_refused(writes *call, struct text first, struct text second, ijson_outcome want) {
+    uint8_t output[1];
+    size_t length = 1000;
+    ijson_outcome got = call(first, second, output, sizeof output, &length);
+    assert(got.status == want.status && got.text == want.text && got.offset == want.offset && length == 0);
+}
+
+static void are_compared(const char *a, const char *b, uint8_t want) {
+    struct text first = text_of(a), second = text_of(b);
+    uint8_t equal = 7;
+    assert(ijson_equal(1, first.bytes, first.count, second.bytes, second.count, &equal).status == IJSON_OK && equal == want);
+    uint64_t hash = 0, other = 0;
+    assert(ijson_hash(1, first.bytes, first.count, &hash).status == IJSON_OK);
+    assert(ijson_hash(1, second.bytes, second.count, &other).status == IJSON_OK && (hash == other) == want);
+    free(first.bytes);
+    free(second.bytes);
+}
+
+int main(void) {
+    for (size_t i = 0; i < sizeof WRITTEN / sizeof *WRITTEN; i++) {
+        struct text first = text_of(WRITTEN[i].first), second = text_of(WRITTEN[i].second);
+        is_written(WRITTEN[i].call, first, second, WRITTEN[i].want);
+        free(first.bytes);
+        free(second.bytes);
+    }
+    for (size_t i = 0; i < sizeof REFUSED / sizeof *REFUSED; i++) {
+        struct text first = text_of(REFUSED[i].first), second = text_of(REFUSED[i].second);
+        is_refused(REFUSED[i].call, first, second, REFUSED[i].want);
+        free(first.bytes);
+        free(second.bytes);
+    }
+    are_compared("{\"a\":1,\"b\":[\"a string of more than 7 bytes\"]}", "{\"b\":[\"a string of more than 7 bytes\"],\"a\":1e0}", 1);
+    are_compared("[1.0]", "[2]", 0);
+    puts("ok");
+    return 0;
+}

@@ -1,0 +1,14 @@
+//! Links the static library that `bindings/build` makes, or the one in the folder that `IJSON_FOLDER` names.
+use std::env;
+use std::path::PathBuf;
+
+fn main() {
+    let folder = match env::var_os("IJSON_FOLDER") {
+        Some(folder) => PathBuf::from(folder),
+        None => PathBuf::from(env::var_os("CARGO_MANIFEST_DIR").expect("cargo sets it")).join("../out"),
+    };
+    println!("cargo:rustc-link-search=native={}", folder.display());
+    println!("cargo:rustc-link-lib=static=ijson");
+    println!("cargo:rerun-if-changed={}", folder.join("libijson.a").display());
+    println!("cargo:rerun-if-env-changed=IJSON_FOLDER");
+}

@@ -1,0 +1,75 @@
+#!/usr/bin/env python3
+"""Times the functions from Python next to `json`, and `orjson` if it is installed, on a file of bench/generate.py.
+
+usage: bindings/speed.py [--size BYTES] [--file NAME] [--turns N]
+
+Prints the minimum of some turns, in seconds. `json` and `orjson` round fractions, and keep fewer texts apart.
+"""
+
+import sys
+
+sys.dont_write_bytecode = True
+
+import argparse
+import importlib.util
+import json
+import pathlib
+import subprocess
+import tempfile
+import time
+
+BINDINGS = pathlib.Path(__file__).resolve().parent
+sys.path.insert(0, str(BINDINGS / "python"))
+
+import ijson
+
+
+def compact_by_json(text):
+    return json.dumps(json.loads(text), separators=(",", ":"), ensure_ascii=False)
+
+
+def sorted_by_json(text):
+    return json.dumps(json.loads(text), separators=(",", ":"), ensure_ascii=False, sort_keys=True)
+
+
+def rows(text, other):
+    """What is timed: a name, and each way to do it."""
+    compact = {"ijson": lambda: ijson.compact(text), "json": lambda: compact_by_json(text)}
+    canonical = {"ijson": lambda: ijson.canonical(text), "json": lambda: sorted_by_json(text)}
+    equal = {"ijson": lambda: ijson.equal(text, other), "json": lambda: json.loads(text) == json.loads(other)}
+    if importlib.util.find_spec("orjson"):
+        import orjson
+
+        compact["orjson"] = lambda: orjson.dumps(orjson.loads(text))
+        canonical["orjson"] = lambda: orjson.dumps(orjson.loads(text), option=orjson.OPT_SORT_KEYS)
+        equal["orjson"] = lambda: orjson.loads(text) == orjson.loads(other)
+    return {"compact": compact, "canonical, sorted keys": canonical, "equal": equal, "hash": {"ijson": lambda: ijson.hash(text)},
+            "get": {"ijson": lambda: ijson.get(text, "/0")}}
+
+
+def seconds(call, turns):
+    taken = []
+    for _ in range(turns):
+        start = time.perf_counter()
+        call()
+        taken.append(time.perf_counter() - start)
+    return min(taken)
+
+
+def main():
+    parser = argparse.ArgumentParser(description=__doc__.splitlines()[0])
+    parser.add_argument("--size", type=int, default=10_000_000, help="approximate bytes of the file (10,000,000)")
+    parser.add_argument("--file", default="objects", help="a file of bench/generate.py (objects)")
+    parser.add_argument("--turns", type=int, default=5, help="of each call (5)")
+    options = parser.parse_args()
+    with tempfile.TemporaryDirectory() as work:
+        subprocess.run([sys.executable, BINDINGS.parent / "bench/generate.py", work, str(options.size), options.file], check=True)
+        text = pathlib.Path(work, f"{options.file}.json").read_bytes()
+    print(f"{len(text):,} bytes")
+    print("| | ijson | json | orjson |\n|---|---|---|---|")
+    for name, ways in rows(text, ijson.compact(text).encode()).items():
+        cells = [f"{seconds(ways[way], options.turns):.2f} s" if way in ways else "" for way in ("ijson", "json", "orjson")]
+        print(f"| {name} | " + " | ".join(cells) + " |", flush=True)
+
+
+main()

@@ -1,0 +1,107 @@
+"""Assembles a workspace of Rattle with the crate `ijson_c` and the crates of the repository that it uses.
+
+The files of `ijson_c/` have the suffix `.txt`, since the gate wants every `.rt` and `.antt` file in a crate that crates.txt lists.
+"""
+
+import contextlib
+import pathlib
+import shutil
+import subprocess
+import tempfile
+
+BINDINGS = pathlib.Path(__file__).resolve().parent
+TOP = BINDINGS.parent
+OUT = BINDINGS / "out"
+KIT = pathlib.Path(subprocess.run(["rt", "doc"], capture_output=True, text=True, check=True).stdout.strip()).parent
+CRATE = "ijson_c"
+USES = ["simdutf8", "ijson_string", "ijson_table", "ijson_value", "ijson_number", "ijson_json", "ijson_extra"]
+# The example of `ijson` that applies a patch: its files, and where they go in ijson_c.
+EXAMPLE = TOP / "crates/ijson"
+COPIED = {
+    "src/examples/merge_patch.rt": "src/merge_patch.rt",
+    "specs/examples/MergePatch.antt": "specs/MergePatch.antt",
+    "proofs/example_lemmas/Merged.antt": "proofs/Merged.antt",
+    "proofs/examples/merge_patch/+merge/Answers.antt": "proofs/merge_patch/+merge/Answers.antt",
+    "proofs/examples/merge_patch/+merge/Invariants.antt": "proofs/merge_patch/+merge/Invariants.antt",
+}
+# The names in those files that differ in ijson_c.
+RENAMED = {
+    "Rattle.ijson.specs.examples.MergePatch": "Rattle.ijson_c.specs.MergePatch",
+    "Rattle.ijson.proofs.example_lemmas.Merged": "Rattle.ijson_c.proofs.Merged",
+    "Rattle.ijson.proofs.examples.merge_patch": "Rattle.ijson_c.proofs.merge_patch",
+    "use super::{is_written, parsed};\n": "",
+    "use crate::{IObject, IValue};": "use ijson_value::object::IObject;\nuse ijson_value::value::IValue;",
+    "use std::process::Abort;\n": "",
+    "\nfn merge(": "\npub(crate) fn merge(",
+}
+
+
+def run(command, folder, **options):
+    """Runs a command, whose output is shown."""
+    subprocess.run(command, cwd=folder, check=True, **options)
+
+
+def library_crates():
+    """The lines of crates.txt for the crates that ijson_c uses, and all that these depend on, by name."""
+    lines = {line.partition(":")[0]: line for line in (TOP / "crates.txt").read_text().splitlines() if not line.startswith("#")}
+    wanted, found = list(USES), {}
+    while wanted:
+        name = wanted.pop()
+        if name in lines and name not in found:
+            found[name] = lines[name]
+            wanted += lines[name].split()[1:]
+    return found
+
+
+def copy_example(crate):
+    """Copies the example, without its tests, which follow its functions."""
+    for source, target in COPIED.items():
+        text = (EXAMPLE / source).read_text(encoding="utf-8").partition("\n/// Targets, patches")[0]
+        for old, new in RENAMED.items():
+            text = text.replace(old, new)
+        (crate / target).parent.mkdir(parents=True, exist_ok=True)
+        (crate / target).write_text(text.rstrip() + "\n", encoding="utf-8")
+
+
+def assemble(work):
+    """Writes the workspace into a folder, and returns the folder of ijson_c."""
+    crates = library_crates()
+    for name in crates:
+        for part in "src", "specs", "proofs", "out/rlib":
+            if (TOP / "crates" / name / part).exists():
+                shutil.copytree(TOP / "crates" / name / part, work / "crates" / name / part, dirs_exist_ok=True)
+    crate = work / "crates" / CRATE
+    for path in sorted((BINDINGS / CRATE).rglob("*")):
+        if path.is_file():
+            target = crate / path.relative_to(BINDINGS / CRATE).with_name(path.name.removesuffix(".txt"))
+            target.parent.mkdir(parents=True, exist_ok=True)
+            shutil.copy(path, target)
+    copy_example(crate)
+    (work / "crates.txt").write_text("\n".join([*crates.values(), f"{CRATE} staticlib: {' '.join(USES)}", ""]))
+    (work / "HANDLES").write_text("Handles allowed: none.\n")
+    return crate
+
+
+def link(crate):
+    """Makes the static and the shared library in out/ of what `rt lib` left in the crate's folder.
+
+    The kit's liblibc_c.a has the three functions by which the library allocates.
+    """
+    library, heap = crate / "out" / f"lib{CRATE}.a", KIT / "c" / "liblibc_c.a"
+    OUT.mkdir(exist_ok=True)
+    shutil.copy(BINDINGS / "c" / "ijson.h", OUT)
+    script = f"create {OUT / 'libijson.a'}\naddlib {library}\naddlib {heap}\nsave\nend\n"
+    run(["ar", "-M"], OUT, input=script, text=True)
+    # Only the functions of ijson.h are visible, so that nothing of the library is replaced by a name of the program.
+    (crate / "out" / "exports").write_text("{ global: ijson_*; local: *; };\n")
+    run(["cc", "-shared", "-o", OUT / "libijson.so", "-Wl,--whole-archive", library, "-Wl,--no-whole-archive", heap,
+         f"-Wl,--version-script={crate / 'out' / 'exports'}"], OUT)
+
+
+@contextlib.contextmanager
+def workspace(folder=None):
+    """The folder of ijson_c in a workspace: in a temporary folder, or in one that stays."""
+    # The crates below are proved in place, so that the next workspace finds them.
+    run(["rt", "lib"], TOP / "crates" / "ijson_extra")
+    with tempfile.TemporaryDirectory() if folder is None else contextlib.nullcontext(folder) as work:
+        yield assemble(pathlib.Path(work).resolve())
