@@ -1,20 +1,10 @@
 -- A fact that always holds also holds of any result.
-use Rattle.std.proofs.Common.{Option, Some, None, IfNone, IfSome, Result, Ok, Err, OnErr}
+use Rattle.std.proofs.Common.{Option, Some, None, IfNone, Result, Ok, Err, OnErr}
 
 -- of an error
 pub where_refused : {T E P : Type 0} (r : Result T E) → P → OnErr r P
 where_refused (Ok _) p = tt
 where_refused (Err _) p = p
-
--- of `None`
-pub where_none : {T P : Type 0} (found : Option T) → P → IfNone found P
-where_none (Some _) p = tt
-where_none None p = p
-
--- of `Some`
-pub where_some : {T : Type 0} (found : Option T) (P : T → Type 0) → ((x : T) → P x) → IfSome found P
-where_some (Some x) P p = p x
-where_some None P p = tt
 
 -- of `None`, if it follows from another fact of `None`
 pub none_with : {T P Q : Type 0} (found : Option T) → IfNone found P → (P → Q) → IfNone found Q

@@ -18,7 +18,7 @@ pub no_short : (text : List ℕ) (n : ℕ)
     → ((p : Parts) (rest : List ℕ) → IsCommonFront text p rest → n + length rest ≡ length text)
     → (Stops (drop n text) → ⊥)
     → HasNoShort text
-no_short text n common goes_on p rest f stops =
+no_short text n common continues_token p rest f stops =
     let front : List ℕ = f.minus_text ++ (p.whole ++ (f.fraction_text ++ f.tail.exponent_text)) in
     let is : text ≡ front ++ rest = rw f.tail.text_is at f.text_is ∙ simp append_assoc in
-    goes_on (subst Stops (sym (left_after front rest text n is (common p rest f))) stops)
+    continues_token (subst Stops (sym (left_after front rest text n is (common p rest f))) stops)

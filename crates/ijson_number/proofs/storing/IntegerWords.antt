@@ -1,7 +1,6 @@
 -- Integers of 64 bits, and their forms.
 use Rattle.std.proofs.Common.{◌≡◌, ◌≢◌, ℕ, ◌*◌, ◌%◌, ◌^◌, ◌<◌, Bool, true, false, [], refl, ap, sym, subst, ◌∙◌, inl, inr, arith}
 use Rattle.std.specs.Prelude.{ℤ, pos, negsuc, neg_ℤ, nat_abs, int_le, int_lt, ◌+ℤ◌, ◌<ℤ◌, FitsSigned}
-use Rattle.std.specs.Int.{FitsUnsigned}
 use mir.Syntax.{w64}
 use Rattle.std.specs.Int.Digits.{number_from_digits, digits_of}
 use Rattle.std.proofs.lemmas.Int.{ints}
@@ -169,6 +168,3 @@ unsigned_fits n h = and_from _ _ (le_test (pos 0) (pos n) (omega (arith, ints)))
 
 pub signed_known : (z : ℤ) → FitsSigned w64 z → fits_i64 z ≡ false → fits_u64 z ≡ true
 signed_known z h n = absurd (let e = signed_fits z h in cc)
-
-pub word_fits : (z : ℤ) → FitsUnsigned w64 z → fits_u64 z ≡ true
-word_fits z h = and_from (int_le (pos 0) z) (int_lt z (pos (2 ^ 64))) (le_test (pos 0) z h.0) (below_test z (pos (2 ^ 64)) h.1)

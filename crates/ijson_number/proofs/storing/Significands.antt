@@ -7,7 +7,7 @@ use Rattle.std.proofs.Math.Nat.{mul-le-mul_left, mul_assoc}
 use Rattle.std.proofs.lemmas.Bool.{and_from, cases_eq}
 use Rattle.std.proofs.lemmas.Int.{ints}
 use Rattle.std.proofs.lemmas.Int.Digits.{number_digits_of}
-use Rattle.ijson_number.specs.Decimal.{Decimal, IsPlain}
+use Rattle.ijson_number.specs.Decimal.{Decimal}
 use Rattle.ijson_number.specs.declared.repr.stored.Stored.{Stored}
 use Rattle.ijson_number.specs.private.Stored.{stored_form}
 use Rattle.ijson_number.specs.Form.{FormOf, digits_form, integer_form, packed, fits_packed, form_of}
@@ -17,10 +17,9 @@ use Rattle.ijson_number.specs.StoredNumber.{stored_number}
 use Rattle.ijson_number.specs.Stripped.{tens_out, stripped_number}
 use Rattle.ijson_number.specs.Strips.{Strips, signed}
 use Rattle.ijson_number.specs.declared.significand.Significand.{Significand}
-use Rattle.ijson_number.specs.laws.Tens.{ten_pos, abs_signed, signed_mul, signed_zero, zero_or_not}
+use Rattle.ijson_number.specs.laws.Tens.{ten_pos, abs_signed, signed_mul, zero_or_not}
 use Rattle.ijson_number.specs.private.Significand.{HasFewerTens, IsSmall, canonical_number, significand_number}
 use Rattle.ijson_number.proofs.BooleanTests.{abs_zero, le_test, not_le}
-use Rattle.ijson_number.proofs.parsing.Denotes.{same_decimal}
 use Rattle.ijson_number.proofs.parsing.Exponents.{within_in_range}
 use Rattle.ijson_number.proofs.parsing.PartsDenote.{parts_denote}
 use Rattle.ijson_number.proofs.storing.FormCases.{left, packed_here, taken}
@@ -244,29 +243,6 @@ small_less s t small h most negative point =
       integer = stripped_integer s t small h most point;
       num = subst IsNum (sym (fewer_tens s t (omega (arith, m)) h negative point)) small.num;
     }
-
--- zero has a word
-zero_word : (point : Bool) → let n : Decimal = record { mantissa = pos 0; exponent = pos 0; point = point } in form_of n ≡ packed (pos 0) (pos 0) point
-zero_word true = refl
-zero_word false = refl
-
--- so ten does not divide a canonical magnitude that is stored by its digits
-pub digits_canonical : (s : Significand) → IsPlain (canonical_number s) → form_of (canonical_number s) ≡ digits_form (canonical_number s)
-    → s.magnitude % 10 ≢ 0
-digits_canonical s plain is = elim (cases_eq s.magnitude 0) [
-  | inl none ↦ (
-      let zero : (canonical_number s).mantissa ≡ pos 0 = rw none (nought s.negative) in
-      let same : canonical_number s ≡ (let n : Decimal = record { mantissa = pos 0; exponent = pos 0; point = s.point } in n) =
-      same_decimal (canonical_number s).mantissa (pos 0) s.exponent (pos 0) s.point s.point zero (plain.zero zero) refl in
-      let word : packed (pos 0) (pos 0) s.point ≡ digits_form (canonical_number s) = sym (zero_word s.point) ∙ sym (ap form_of same) ∙ is in
-      absurd (cc)
-      )
-  | inr some ↦ rw (abs_signed s.negative s.magnitude) at (plain.stripped (λ z. some (signed_zero s.negative s.magnitude z)))
-]
-  where
-    nought : (negative : Bool) → signed negative 0 ≡ pos 0
-    nought true = refl
-    nought false = refl
 
 -- a magnitude of 63 bits fits a signed word with its sign
 pub signed_word : (negative : Bool) (m : ℕ) → m < 2 ^ 63 → FitsSigned w64 (signed negative m)

@@ -138,7 +138,7 @@ pub fn place_of(digits: &[u8], exponent: i32) -> i128
 /// Strips up to `scale` trailing zeros; returns the result, and `scale` minus their number.
 ///
 /// If `scale` is the number of fraction digits, that is the number of those left.
-pub fn without_zeros(magnitude: u64, scale: usize) -> (u64, usize)
+pub fn strip_trailing_zeros(magnitude: u64, scale: usize) -> (u64, usize)
     ensures tens { magnitude ≡ result.0 * 10 ^ (scale - result.1) }
     ensures fewer { result.1 ≤ scale }
     ensures stripped { 0 < result.1 → result.0 % 10 ≢ 0 }

@@ -10,7 +10,7 @@ ghost use Rattle.ijson_number.specs.Strips.{signed};
 ghost use Rattle.std.proofs.Props.{props};
 
 use crate::repr::INumber;
-use crate::repr::digits::{MAX_DIGITS, make_digits, without_zeros};
+use crate::repr::digits::{MAX_DIGITS, make_digits, strip_trailing_zeros};
 use crate::repr::stored::{LongNumber, ShortNumber, Stored};
 use itoa::write_digits;
 
@@ -51,7 +51,7 @@ impl<'a> StrippedNumber<'a> {
                 point,
             };
         }
-        let (stripped, left) = without_zeros(magnitude, MAX_DIGITS);
+        let (stripped, left) = strip_trailing_zeros(magnitude, MAX_DIGITS);
         let mut text = [0; MAX_DIGITS];
         let start = write_digits(stripped, &mut text, MAX_DIGITS);
         make_digits(&text, buffer);

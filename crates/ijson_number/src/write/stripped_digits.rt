@@ -8,7 +8,7 @@ ghost use Rattle.ijson_number.specs.Text.{digits_text};
 
 use crate::lanes::{LANES, push_lanes};
 use crate::repr::INumber;
-use crate::repr::digits::{MAX_DIGITS, without_zeros};
+use crate::repr::digits::{MAX_DIGITS, strip_trailing_zeros};
 use crate::repr::stored::Stored;
 use crate::repr::stripped::StrippedNumber;
 use crate::write::display::run_text;
@@ -27,7 +27,7 @@ fn push_significand(magnitude: u64, exponent: i8, out: &mut String) -> Result<i3
     if magnitude == 0 {
         return Ok(0);
     }
-    let (stripped, left) = without_zeros(magnitude, MAX_DIGITS);
+    let (stripped, left) = strip_trailing_zeros(magnitude, MAX_DIGITS);
     push_integer(false, stripped, out)?;
     Ok(i32::from(exponent) + (MAX_DIGITS - left) as i32)
 }

@@ -15,8 +15,8 @@ returns-in_default-clause-none c = λ p rest f _. (rw c.in_default.is at c.in_ok
 pub returns-else-stops-clause-none : goal.returns-else-stops-clause-none
 returns-else-stops-clause-none c =
     let common = rw c.in-Some.is at c.in_ok-number.ensures.common in
-    let goes_on : Stops (drop c.in-Some.length c.args.text.now) → ⊥ = λ s.
+    let continues_token : Stops (drop c.in-Some.length c.args.text.now) → ⊥ = λ s.
     let yes : c.stops.result ≡ true = c.stops.ensures.1 (rw c.split_at.ensures.back s) in
     let no : c.stops.result ≡ false = c.if-stops.false in
     cc in
-    no_short c.args.text.now c.in-Some.length common goes_on
+    no_short c.args.text.now c.in-Some.length common continues_token

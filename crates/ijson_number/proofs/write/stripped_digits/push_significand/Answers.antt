@@ -12,7 +12,7 @@ use Rattle.ijson_number.proofs.storing.ZerosOff.{few, last}
 use Rattle.ijson_number.proofs.writing.Beginnings.{begun_as}
 use Rattle.ijson_number.proofs.writing.StrippedTexts.{digits_shown, exponent_shown, none_shown}
 use Rattle.ijson_number.proofs.write.stripped_digits.push_significand.Goals as goal
-use Rattle.ijson_number.proofs.write.stripped_digits.push_significand.Goals.{After-without_zeros-stripped}
+use Rattle.ijson_number.proofs.write.stripped_digits.push_significand.Goals.{After-strip_trailing_zeros-stripped}
 
 pub returns-then-magnitude-eq0-clause-written : goal.returns-then-magnitude-eq0-clause-written
 returns-then-magnitude-eq0-clause-written c =
@@ -22,36 +22,36 @@ returns-then-magnitude-eq0-clause-written c =
     ∙ ap (λ l. old ++ l) (none_shown a.exponent true) ∙ append-nil old)
 
 -- the digits that are left when the zeros are stripped
-last_digit : (c : After-without_zeros-stripped) → c.without_zeros-stripped.result.0 % 10 ≢ 0
+last_digit : (c : After-strip_trailing_zeros-stripped) → c.strip_trailing_zeros-stripped.result.0 % 10 ≢ 0
 last_digit c =
-    let s = c.without_zeros-stripped in
+    let s = c.strip_trailing_zeros-stripped in
     last c.args.magnitude s.result.0 s.result.1 c.if-magnitude-eq0.false (search rules) s.ensures.tens s.ensures.stripped
 
-shown : (c : After-without_zeros-stripped) → decimal c.without_zeros-stripped.result.0
+shown : (c : After-strip_trailing_zeros-stripped) → decimal c.strip_trailing_zeros-stripped.result.0
     ≡ digits_text (stripped_digits (stripped_number (pos c.args.magnitude) c.args.exponent true))
 shown c =
     let a = c.args in
-    let s = c.without_zeros-stripped in
+    let s = c.strip_trailing_zeros-stripped in
     sym (digits_shown a.magnitude s.result.0 (20 - s.result.1) c.if-magnitude-eq0.false (search rules) s.ensures.tens (last_digit c)
     a.exponent true)
 
 pub returns-in_err-push_integer-clause-refused : goal.returns-in_err-push_integer-clause-refused
 returns-in_err-push_integer-clause-refused c =
     where_refused _ (begun_as (string_bytes c.args.out.now) (string_bytes c.push_integer.new.out) _ _ c.in_err-push_integer.ensures
-    (shown (goal.at.returns-in_err-push_integer-clause-refused c).After-without_zeros-stripped))
+    (shown (goal.at.returns-in_err-push_integer-clause-refused c).After-strip_trailing_zeros-stripped))
 
 pub returns-clause-written : goal.returns-clause-written
 returns-clause-written c = c.in_ok-push_integer.ensures
-    ∙ ap (λ l. string_bytes c.args.out.now ++ l) (shown (goal.at.returns-clause-written c).After-without_zeros-stripped)
+    ∙ ap (λ l. string_bytes c.args.out.now ++ l) (shown (goal.at.returns-clause-written c).After-strip_trailing_zeros-stripped)
 
 pub returns-clause-exponent : goal.returns-clause-exponent
 returns-clause-exponent c =
     let a = c.args in
-    let s = c.without_zeros-stripped in
+    let s = c.strip_trailing_zeros-stripped in
     let some = c.if-magnitude-eq0.false in
     let word : a.magnitude < 2 ^ 64 = search rules in
     let fits : FitsSigned w8 a.exponent = search rules in
-    let stripped = last_digit (goal.at.returns-clause-exponent c).After-without_zeros-stripped in
+    let stripped = last_digit (goal.at.returns-clause-exponent c).After-strip_trailing_zeros-stripped in
     let tens = few a.magnitude s.result.0 s.result.1 some word s.ensures.tens in
     let from = c.from.ensures ∙ to_z-of_z w8 a.exponent fits in
     rw (exponent_shown a.magnitude s.result.0 (20 - s.result.1) some word s.ensures.tens stripped a.exponent true)

@@ -25,7 +25,7 @@ returns-then-magnitude-eq0 c =
 
 pub write_digits-start-requires : goal.write_digits-start-requires
 write_digits-start-requires c =
-    let stripped = c.without_zeros-stripped.result.0 in
+    let stripped = c.strip_trailing_zeros-stripped.result.0 in
     (length-decimal-le 20 stripped (omega arith) (omega arith) (search rules), omega arith)
 
 -- the text of the stripped number, converted to digits
@@ -35,16 +35,16 @@ written s start text buffer some word long shown is =
     take_all (20 - start) (drop start buffer) (omega (arith, length-drop start buffer)) ∙ made s start text buffer some word shown is
 
 -- the last digit of the stripped number is not zero
-last_digit : (c : After-from) → c.without_zeros-stripped.result.0 % 10 ≢ 0
+last_digit : (c : After-from) → c.strip_trailing_zeros-stripped.result.0 % 10 ≢ 0
 last_digit c =
-    let s = c.without_zeros-stripped in
+    let s = c.strip_trailing_zeros-stripped in
     last c.args.magnitude s.result.0 s.result.1 c.if-magnitude-eq0.false (search rules) s.ensures.tens s.ensures.stripped
 
 -- the digits are those of the stripped number
 digits_are : (c : After-from) → let start = c.write_digits-start.result in
-    take (20 - start) (drop start c.make_digits.new.buffer) ≡ digits_of 10 c.without_zeros-stripped.result.0
+    take (20 - start) (drop start c.make_digits.new.buffer) ≡ digits_of 10 c.strip_trailing_zeros-stripped.result.0
 digits_are c =
-    let stripped = c.without_zeros-stripped.result.0 in
+    let stripped = c.strip_trailing_zeros-stripped.result.0 in
     let w = c.write_digits-start in
     let above : 0 < stripped = omega (arith, last_digit c) in
     written stripped w.result w.new.buf c.make_digits.new.buffer above (search rules) (search rules) w.ensures.written c.make_digits.ensures
@@ -53,10 +53,10 @@ digits_are c =
 number_is : (c : After-from) → let start = c.write_digits-start.result in
     stripped_number (signed c.args.negative c.args.magnitude) c.args.exponent c.args.point
     ≡ stored_number c.args.negative (take (20 - start) (drop start c.make_digits.new.buffer))
-    (to_z w32 (of_z w32 (to_z w32 (of_z w32 c.from.result) +ℤ to_z w32 (20 - c.without_zeros-stripped.result.1)))) c.args.point
+    (to_z w32 (of_z w32 (to_z w32 (of_z w32 c.from.result) +ℤ to_z w32 (20 - c.strip_trailing_zeros-stripped.result.1)))) c.args.point
 number_is c =
     let a = c.args in
-    let s = c.without_zeros-stripped in
+    let s = c.strip_trailing_zeros-stripped in
     let some = c.if-magnitude-eq0.false in
     let fits : FitsSigned w16 a.exponent = search rules in
     let tens = few a.magnitude s.result.0 s.result.1 some (search rules) s.ensures.tens in
@@ -69,7 +69,7 @@ invariant_of-result-2 c =
     let at = (goal.at.invariant_of-result-2 c).After-from in
     record {
       num = subst IsNum (number_is at) c.requires;
-      stripped = rw (digits_are at) (some_stored c.without_zeros-stripped.result.0 (last_digit at) c.args.negative);
+      stripped = rw (digits_are at) (some_stored c.strip_trailing_zeros-stripped.result.0 (last_digit at) c.args.negative);
     }
 
 pub returns : goal.returns

@@ -1,6 +1,6 @@
 use Rattle.std.proofs.Common.{◌≡◌, ◌-◌, ◌+◌, arith}
 use Rattle.ijson_number.proofs.storing.WholeValues.{ten_out}
-use Rattle.ijson_number.proofs.repr.digits.without_zeros.Goals as goal
+use Rattle.ijson_number.proofs.repr.digits.strip_trailing_zeros.Goals as goal
 
 pub loop-left-preserved : goal.loop-left-preserved
 loop-left-preserved c =

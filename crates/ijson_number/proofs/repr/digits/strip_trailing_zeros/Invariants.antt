@@ -1,5 +1,5 @@
 use Rattle.std.proofs.Common.{◌≡◌, ◌*◌, ◌-◌, ◌^◌, ◌≤◌}
-use Rattle.ijson_number.proofs.repr.digits.without_zeros.Given as goal
+use Rattle.ijson_number.proofs.repr.digits.strip_trailing_zeros.Given as goal
 
 abbrev pub invariant-loop-left : goal.invariant-loop-left
 invariant-loop-left l = record { tens : l.magnitude ≡ l.rest * 10 ^ (l.scale - l.left); fewer : l.left ≤ l.scale }
