@@ -1,4 +1,4 @@
-use Rattle.std.proofs.Common.{◌≡◌, ◌+◌, ◌++◌, ℕ, List, length, take, sym, ap, ◌∙◌, append_assoc, arith}
+use Rattle.std.proofs.Common.{◌≡◌, ◌+◌, ◌++◌, ℕ, List, length, take, sym, ap, ◌∙◌, append_assoc, rules, arith}
 use Rattle.std.specs.Prelude.{pos, neg_ℤ}
 use Rattle.std.proofs.lemmas.Grind.{common_steps}
 use Rattle.std.proofs.lemmas.Int.{ints}
@@ -47,7 +47,7 @@ returns-clause-found c =
       fraction = tail.digits;
       text_is = all;
       length_is = omega (arith, sum);
-      minus = minus.1;
+      minus = search (rules, minus.1);
       whole_is = c.is_whole.ensures.0 c.if-not-is_whole.false;
       fraction_is = tail.fraction;
       exponent_is = rw (negated w32 c.in_ok-magnitude.scale (omega (arith, ints, few)) (omega (arith, ints, few))) (ap (λ n. neg_ℤ (pos n)) (sym tail.count));

@@ -20,7 +20,7 @@ returns-in-Some-clause-word c =
     let e = c.pointed.ensures in
     packed_is _ m _ (pos k) _ _ (rw (to_z-of_z w64 m mantissa_fits) at e.mantissa) (e.exponent ∙ exact) e.point
     ∙ sym (packed_here (canonical_number n) k c.requires.whole c.loop-exponent.invariant below m
-    (rw (to_z-of_z w32 n.exponent fits) at c.if-exponent-zeros.true)
+    (omega (arith, rw (to_z-of_z w32 n.exponent fits) at c.if-exponent-zeros.true))
     (rw (to_z-of_z w32 n.exponent fits) at c.in-Some.ensures.some) c.in-Some.ensures.fits)
 
 pub loop-exponent-preserved : goal.loop-exponent-preserved
@@ -32,11 +32,11 @@ loop-exponent-preserved c =
     elim c.if-exponent-zeros.branch [
       | then-exponent-zeros+in_default w ↦
           too_large_here (canonical_number n) k c.requires.whole c.loop-exponent.invariant below _
-          (rw (to_z-of_z w32 n.exponent fits) at w.if-exponent-zeros.true) refl
+          (omega (arith, rw (to_z-of_z w32 n.exponent fits) at w.if-exponent-zeros.true)) refl
           (rw (to_z-of_z w32 n.exponent fits) at w.in_default.ensures.none)
       | else-exponent-zeros w ↦
           past_exponent (canonical_number n) k c.requires.whole c.loop-exponent.invariant below
-          (rw (to_z-of_z w32 n.exponent fits) at w.if-exponent-zeros.false)
+          (omega (arith, rw (to_z-of_z w32 n.exponent fits) at w.if-exponent-zeros.false))
     ]
 
 pub returns-clause-none : goal.returns-clause-none
