@@ -3,7 +3,7 @@
 use Rattle.std.specs.Prelude.{ℕ, Bool, List, Option}
 use Rattle.std.specs.Borrow.{Lends, LendsIf, MutBor, Fml, bool}
 use Rattle.ijson_number.specs.Num.{Num}
-use Rattle.ijson_number.specs.contracts.number.INumber as numbers
+use Rattle.ijson_number.specs.contracts.repr.INumber as numbers
 use Rattle.ijson_string.specs.contracts.text.IString as strings
 use Rattle.ijson_table.specs.Store.{Store}
 use Rattle.ijson_value.specs.NodeValue.{node_value}

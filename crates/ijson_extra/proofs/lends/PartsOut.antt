@@ -17,7 +17,7 @@ use denote.RattleType.{RattleType}
 use denote.Ref.{MutRef, NamedLft, mut_vals, mut_Tells}
 use denote.Steps.{only, peeks}
 use types.Tokens.{lft_end}
-use Rattle.ijson_number.specs.contracts.number.INumber.{the_row as NumberRow}
+use Rattle.ijson_number.specs.contracts.repr.INumber.{the_row as NumberRow}
 use Rattle.ijson_string.specs.contracts.text.IString.{the_row as StringRow}
 use Rattle.ijson_value.specs.Tree.{Tree, boolean}
 use Rattle.ijson_value.specs.Values.{boolean_value}

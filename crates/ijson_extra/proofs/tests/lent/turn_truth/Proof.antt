@@ -17,7 +17,7 @@ use mathlib.Core.Bool.{false, true≢false}
 use mir.Val.{of_list}
 use Rattle.std.specs.Prelude.{◌≢◌, Bool, not}
 use Rattle.std.proofs.mem.Facts.{says_two}
-use Rattle.ijson_number.specs.contracts.number.INumber.{the_row as NumberRow}
+use Rattle.ijson_number.specs.contracts.repr.INumber.{the_row as NumberRow}
 use Rattle.ijson_string.specs.contracts.text.IString.{the_row as StringRow}
 use Rattle.ijson_value.specs.Kind.{kind_of}
 use Rattle.ijson_value.specs.LendsParts.{LendsParts}

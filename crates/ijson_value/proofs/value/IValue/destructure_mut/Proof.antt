@@ -19,7 +19,7 @@ use types.Match.{live}
 use types.Run.{switches}
 use mir.Val.{of_list}
 use denote.Ref.{NamedLft}
-use Rattle.ijson_number.specs.contracts.number.INumber.{the_row as NumberRow}
+use Rattle.ijson_number.specs.contracts.repr.INumber.{the_row as NumberRow}
 use Rattle.ijson_string.specs.contracts.text.IString.{the_row as StringRow}
 use Rattle.ijson_value.specs.Kind.{kind_of}
 use Rattle.ijson_value.specs.LendsParts.{LendsParts, LendsBoolPart, LendsNumberPart, LendsStringPart, LendsArrayPart, LendsObjectPart}
