@@ -8,6 +8,7 @@ use Rattle.ijson_number.specs.StrippedDigits.{stripped_digits}
 use Rattle.ijson_number.specs.Text.{num_text}
 use Rattle.ijson_number.specs.Order.{number_cmp}
 use Rattle.ijson_number.specs.Words.{number_words}
+use Rattle.ijson_number.proofs.writing.RoundTrip.{spelled}
 use Rattle.ijson_number.specs.Form.{form_of, packed, signed_word, unsigned_word, digits}
 
 abbrev float : ℤ → ℤ → Decimal
@@ -71,27 +72,10 @@ words = refl
 
 -- the number that a text of a row spells, by its parts
 spelled-1_5E-3 : Spells (codes "1.5E-3") (float (pos 15) (negsuc 3))
-spelled-1_5E-3 = (
-  record { negative = false; whole = 49 ∷ []; fraction = 53 ∷ []; exponent = negsuc 2; point = true },
-  record {
-    minus_text = [];
-    fraction_text = 46 ∷ 53 ∷ [];
-    exponent_text = 69 ∷ 45 ∷ 51 ∷ [];
-    has_point = true;
-    has_exponent = true;
-    text_is = refl;
-    minus = inl (refl, refl);
-    whole = inr (omega arith, omega arith, tt);
-    fraction = (refl, ((omega arith, omega arith), tt), refl, refl);
-    exponent = (inr refl, inr (inl (refl, ((omega arith, omega arith), tt), refl)), refl);
-    point = refl;
-  },
-  (
-    record {
+spelled-1_5E-3 =
+    spelled (float (pos 15) (negsuc 3)) false (49 ∷ []) (53 ∷ []) (46 ∷ 53 ∷ []) (69 ∷ 45 ∷ 51 ∷ []) true true (negsuc 2)
+    (inr (omega arith, omega arith, tt)) (refl, ((omega arith, omega arith), tt), refl, refl)
+    (inr refl, inr (inl (refl, ((omega arith, omega arith), tt), refl)), refl) refl (record {
       plain = record { zero = λ h. absurd (cc); stripped = λ _ h. absurd (omega arith); whole = λ h. absurd (cc) };
-      tens =
-          inr (0, refl, refl);
-    },
-    refl,
-  ),
-)
+      tens = inr (0, refl, refl);
+    })

@@ -64,12 +64,6 @@ module _ (m e : ℤ) (k : ℕ) (word : nat_abs m < 2 ^ 64) (scale : 0 < k) (belo
   few_places : k ≤ 7
   few_places = let x = exponent_is in let f : negsuc 6 ≤ℤ e = rw x.0 at x.1 in omega (arith, ints)
 
-  not_none : m ≢ pos 0
-  not_none z =
-      let none : (stripped_number m e true).exponent ≡ pos 0 = rw z (ap (λ (n : Decimal). n.exponent) (zero_is false e true)) in
-      let x : pos 0 ≡ e = sym none ∙ exponent_is.0 in
-      omega (arith, ints)
-
   module _ where
     abbrev abs : ℕ
     abs = nat_abs m
@@ -78,7 +72,11 @@ module _ (m e : ℤ) (k : ℕ) (word : nat_abs m < 2 ^ 64) (scale : 0 < k) (belo
     sign = int_lt m (pos 0)
 
     above : abs ≢ 0
-    above e = not_none (abs_zero m e)
+    above z =
+        let none : (stripped_number m e true).exponent ≡ pos 0 =
+        rw (abs_zero m z) (ap (λ (n : Decimal). n.exponent) (zero_is false e true)) in
+        let x : pos 0 ≡ e = sym none ∙ exponent_is.0 in
+        omega (arith, ints)
 
     no_tens : (tens_out 20 abs).1 ≡ 0
     no_tens =
@@ -136,19 +134,14 @@ module _ (m e : ℤ) (k : ℕ) (word : nat_abs m < 2 ^ 64) (scale : 0 < k) (belo
     plain = or_from (int_le point_place (negsuc 5)) (int_lt (pos 20) e) (not_le point_place (negsuc 5) not_far)
         (not_lt (pos 20) e (omega (arith, ints)))
 
-    parts : abs ≡ abs / 10 ^ k * 10 ^ k + abs % 10 ^ k
-    parts = let t = ten_pos k in omega arith
-
-    rest_below : abs % 10 ^ k < 10 ^ k
-    rest_below = let t = ten_pos k in omega arith
-
     pub fraction_num_text : num_text (stripped_number m e true) ≡ pointed_text (int_lt m (pos 0)) (nat_abs m / 10 ^ k) k
         (nat_abs m % 10 ^ k)
     fraction_num_text =
         ap num_text stored_at
         ∙ sym (stored_text sign shown_digits e true (some_stored abs last sign).stripped one_digit)
         ∙ ap (λ x. minus_text sign ++ x)
-        (rw (plain, float_text) (fraction_is abs positive word k (abs / 10 ^ k) (abs % 10 ^ k) scale parts rest_below point_place (omega (arith, ints))))
+        (rw (plain, float_text) (fraction_is abs positive word k (abs / 10 ^ k) (abs % 10 ^ k) scale (omega (arith, ten_pos k)) (omega (arith, ten_pos k)) point_place
+        (omega (arith, ints))))
 
 pub exponent_small : (m e : ℤ) → e <ℤ pos 0 → form_of (stripped_number m e true) ≡ packed m e true → nat_abs e < 8
 exponent_small m e l form =

@@ -29,7 +29,7 @@ minus_is true = inr (refl, refl)
 minus_is false = inl (refl, refl)
 
 -- the parts of a text, and the number that they denote
-spelled : (n : Decimal) (negative : Bool) (whole fraction fraction_text exponent_text : List ℕ) (has_point has_exponent : Bool) (z : ℤ)
+pub spelled : (n : Decimal) (negative : Bool) (whole fraction fraction_text exponent_text : List ℕ) (has_point has_exponent : Bool) (z : ℤ)
     → IsWhole whole → IsFraction fraction_text fraction has_point → IsExponent exponent_text z has_exponent
     → n.point ≡ has_point || has_exponent → Strips (signed negative (value (whole ++ fraction))) (z -ℤ pos (length fraction)) n
     → Spells (minus_text negative ++ whole ++ fraction_text ++ exponent_text) n

@@ -1,5 +1,5 @@
 -- The text of canonical digits alone.
-use Rattle.std.proofs.Common.{◌≡◌, ◌≢◌, ℕ, ◌+◌, ◌*◌, ◌%◌, ◌^◌, ◌<◌, false, List, [], ◌++◌, length, refl, ap, sym, subst, ◌∙◌, append_assoc, arith}
+use Rattle.std.proofs.Common.{◌≡◌, ◌≢◌, ℕ, ◌+◌, ◌-◌, ◌*◌, ◌%◌, ◌^◌, ◌<◌, false, List, [], ◌++◌, length, refl, ap, sym, subst, ◌∙◌, append_assoc, arith}
 use Rattle.std.specs.Prelude.{ℤ, pos, nat_abs, ◌+ℤ◌, Bool, int_lt}
 use Rattle.std.specs.Fmt.{decimal}
 use Rattle.std.specs.Int.Digits.{digits_of}
@@ -14,6 +14,7 @@ use Rattle.ijson_number.specs.Text.{digits_text}
 use Rattle.ijson_number.specs.laws.Tens.{abs_signed, ten_pos}
 use Rattle.ijson_number.proofs.storing.DigitsOf.{stored_digits_are}
 use Rattle.ijson_number.proofs.storing.IntegerWords.{zero_is, some_is, some_stored}
+use Rattle.ijson_number.proofs.storing.ZerosOff.{last}
 use Rattle.ijson_number.proofs.writing.PaddedDigits.{whole_small}
 use Rattle.ijson_number.proofs.writing.Writing.{decimal_is}
 
@@ -28,19 +29,23 @@ same_digits m e f point other =
 pub none_shown : (e : ℤ) (point : Bool) → digits_text (stripped_digits (stripped_number (pos 0) e point)) ≡ []
 none_shown e point = ap (λ n. digits_text (stripped_digits n)) (zero_is false e point)
 
-module _ (magnitude s t : ℕ) (some : magnitude ≢ 0) (word : magnitude < 2 ^ 64) (tens : magnitude ≡ s * 10 ^ t) (last : s % 10 ≢ 0)
-    (e : ℤ) (point : Bool) where
-  number_is : stripped_number (pos magnitude) e point ≡ stored_number false (digits_of 10 s) (e +ℤ pos t) point
-  number_is = some_is magnitude s t some (omega arith) tens last false e point
+-- those of another number, of which zeros are stripped
+module _ (magnitude s left : ℕ) (some : magnitude ≢ 0) (word : magnitude < 2 ^ 64) (tens : magnitude ≡ s * 10 ^ (20 - left))
+    (stripped : 0 < left → s % 10 ≢ 0) (e : ℤ) (point : Bool) where
+  no_zero : s % 10 ≢ 0
+  no_zero = last magnitude s left some word tens stripped
+
+  number_is : stripped_number (pos magnitude) e point ≡ stored_number false (digits_of 10 s) (e +ℤ pos (20 - left)) point
+  number_is = some_is magnitude s (20 - left) some (omega arith) tens no_zero false e point
 
   pub digits_shown : digits_text (stripped_digits (stripped_number (pos magnitude) e point)) ≡ decimal s
   digits_shown =
-      let small : s < 10 ^ 64 = omega (arith, whole_small s (10 ^ t) 0 (ten_pos t) (omega arith)) in
+      let small : s < 10 ^ 64 = omega (arith, whole_small s (10 ^ (20 - left)) 0 (ten_pos (20 - left)) (omega arith)) in
       ap (λ n. digits_text (stripped_digits n)) number_is
-      ∙ ap digits_text (stored_digits_are false (digits_of 10 s) (e +ℤ pos t) point (some_stored s last false).stripped)
-      ∙ sym (decimal_is s small (omega (arith, last)))
+      ∙ ap digits_text (stored_digits_are false (digits_of 10 s) (e +ℤ pos (20 - left)) point (some_stored s no_zero false).stripped)
+      ∙ sym (decimal_is s small (omega (arith, no_zero)))
 
-  pub exponent_shown : (stripped_number (pos magnitude) e point).exponent ≡ e +ℤ pos t
+  pub exponent_shown : (stripped_number (pos magnitude) e point).exponent ≡ e +ℤ pos (20 - left)
   exponent_shown = ap (λ (n : Decimal). n.exponent) number_is
 
 -- a fact of all digits holds of the leading part, and of the rest

@@ -104,21 +104,21 @@ fn push_pointed(mantissa: i64, exponent: i8, out: &mut String) -> Option<Result<
 }
 
 impl StrippedNumber<'_> {
-    /// Appends the minus, if there is one, and the digits, with the point before the last `scale` of them.
+    /// Appends the minus, if there is one, and the digits, with the point after the first `before` of them.
     ///
     /// If there are at most 16 digits, `lanes` ends with them.
     #[inline(always)]
-    fn push_split(&self, lanes: u8x16, scale: usize, out: &mut String) -> Result<(), AllocError>
+    fn push_split(&self, lanes: u8x16, before: usize, out: &mut String) -> Result<(), AllocError>
         requires all { length lanes ≡ 16 }
-        requires inside { scale ≤ length self.now.digits.now }
+        requires inside { before ≤ length self.now.digits.now }
         requires few { length self.now.digits.now ≤ 19 }
         requires lanes { length self.now.digits.now ≤ 16
             → drop (16 - length self.now.digits.now) lanes ≡ digits_text self.now.digits.now }
         ensures { Appends result (string_bytes out.old) (string_bytes out.new)
-            (split_text self.now.negative self.now.digits.now (length self.now.digits.now - scale)) }
+            (split_text self.now.negative self.now.digits.now before) }
     {
         let count = self.digits.len();
-        let before = count - scale;
+        let scale = count - before;
         if count <= LANES {
             return push_rows(
                 self.negative,
@@ -131,7 +131,7 @@ impl StrippedNumber<'_> {
             );
         }
         if before > LANES || scale > LANES {
-            return self.push_long_split(scale, out);
+            return self.push_long_split(before, out);
         }
         let zero = u8x16::splat(b'0');
         let whole = u8x16::from_slice(self.digits) + zero;
@@ -143,13 +143,13 @@ impl StrippedNumber<'_> {
     ///
     /// Not inlined: few numbers have more than 16 digits on one side of the point.
     #[inline(never)]
-    fn push_long_split(&self, scale: usize, out: &mut String) -> Result<(), AllocError>
-        requires inside { scale ≤ length self.now.digits.now }
+    fn push_long_split(&self, before: usize, out: &mut String) -> Result<(), AllocError>
+        requires inside { before ≤ length self.now.digits.now }
         requires few { length self.now.digits.now ≤ 19 }
         ensures { Appends result (string_bytes out.old) (string_bytes out.new)
-            (split_text self.now.negative self.now.digits.now (length self.now.digits.now - scale)) }
+            (split_text self.now.negative self.now.digits.now before) }
     {
-        let (whole, fraction) = self.digits.split_at(self.digits.len() - scale);
+        let (whole, fraction) = self.digits.split_at(before);
         let mut buffer = [0; MAX_DIGITS];
         push_minus(self.negative, out)?;
         out.push_str(run_text(whole, &mut buffer))?;
@@ -187,7 +187,7 @@ impl StrippedNumber<'_> {
         requires exponent { (int_le place (negsuc 5) || int_lt (pos 20) self.now.exponent) ≡ true }
         ensures { Appends result (string_bytes out.old) (string_bytes out.new) (num_text (decimal_of self.now)) }
     {
-        self.push_split(lanes, self.digits.len() - 1, out)?;
+        self.push_split(lanes, 1, out)?;
         out.push('e')?;
         let power = place - 1;
         push_integer(power < 0, power.unsigned_abs() as u64, out)
@@ -243,7 +243,7 @@ impl StrippedNumber<'_> {
         if self.exponent >= 0 || scale >= self.digits.len() {
             return self.push_unsplit(lanes, out);
         }
-        Some(self.push_split(lanes, scale, out))
+        Some(self.push_split(lanes, self.digits.len() - scale, out))
     }
 }
 

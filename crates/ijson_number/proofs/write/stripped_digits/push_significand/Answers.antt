@@ -8,7 +8,7 @@ use Rattle.ijson_number.specs.Stripped.{stripped_number}
 use Rattle.ijson_number.specs.StrippedDigits.{stripped_digits}
 use Rattle.ijson_number.specs.Text.{digits_text}
 use Rattle.ijson_number.proofs.AnyAnswer.{where_refused}
-use Rattle.ijson_number.proofs.storing.ZerosOff.{few, last}
+use Rattle.ijson_number.proofs.storing.ZerosOff.{few}
 use Rattle.ijson_number.proofs.writing.Beginnings.{begun_as}
 use Rattle.ijson_number.proofs.writing.StrippedTexts.{digits_shown, exponent_shown, none_shown}
 use Rattle.ijson_number.proofs.write.stripped_digits.push_significand.Goals as goal
@@ -21,19 +21,12 @@ returns-then-magnitude-eq0-clause-written c =
     sym (ap (λ n. old ++ digits_text (stripped_digits (stripped_number (pos n) a.exponent true))) c.if-magnitude-eq0.true
     ∙ ap (λ l. old ++ l) (none_shown a.exponent true) ∙ append-nil old)
 
--- the digits that are left when the zeros are stripped
-last_digit : (c : After-strip_trailing_zeros-stripped) → c.strip_trailing_zeros-stripped.result.0 % 10 ≢ 0
-last_digit c =
-    let s = c.strip_trailing_zeros-stripped in
-    last c.args.magnitude s.result.0 s.result.1 c.if-magnitude-eq0.false (search rules) s.ensures.tens s.ensures.stripped
-
 shown : (c : After-strip_trailing_zeros-stripped) → decimal c.strip_trailing_zeros-stripped.result.0
     ≡ digits_text (stripped_digits (stripped_number (pos c.args.magnitude) c.args.exponent true))
 shown c =
-    let a = c.args in
     let s = c.strip_trailing_zeros-stripped in
-    sym (digits_shown a.magnitude s.result.0 (20 - s.result.1) c.if-magnitude-eq0.false (search rules) s.ensures.tens (last_digit c)
-    a.exponent true)
+    sym (digits_shown c.args.magnitude s.result.0 s.result.1 c.if-magnitude-eq0.false (search rules) s.ensures.tens s.ensures.stripped
+    c.args.exponent true)
 
 pub returns-in_err-push_integer-clause-refused : goal.returns-in_err-push_integer-clause-refused
 returns-in_err-push_integer-clause-refused c =
@@ -51,8 +44,7 @@ returns-clause-exponent c =
     let some = c.if-magnitude-eq0.false in
     let word : a.magnitude < 2 ^ 64 = search rules in
     let fits : FitsSigned w8 a.exponent = search rules in
-    let stripped = last_digit (goal.at.returns-clause-exponent c).After-strip_trailing_zeros-stripped in
     let tens = few a.magnitude s.result.0 s.result.1 some word s.ensures.tens in
     let from = c.from.ensures ∙ to_z-of_z w8 a.exponent fits in
-    rw (exponent_shown a.magnitude s.result.0 (20 - s.result.1) some word s.ensures.tens stripped a.exponent true)
+    rw (exponent_shown a.magnitude s.result.0 s.result.1 some word s.ensures.tens s.ensures.stripped a.exponent true)
     (omega (arith, ints, from))

@@ -7,25 +7,21 @@ use Rattle.ijson_number.proofs.repr.stripped.StrippedNumber.push_long_split.Goal
 
 pub run_text-requires-clause-below_ten : goal.run_text-requires-clause-below_ten
 run_text-requires-clause-below_ten c =
-    let n = c.args.self.now in
-    rw c.split_at.ensures.front
-    (All-take (λ d. d < 10) (length n.digits.now - c.args.scale) n.digits.now n.stripped.stripped.below_ten)
+    rw c.split_at.ensures.front (All-take (λ d. d < 10) c.args.before _ c.args.self.now.stripped.stripped.below_ten)
 
 pub run_text-requires-2-clause-below_ten : goal.run_text-requires-2-clause-below_ten
 run_text-requires-2-clause-below_ten c =
-    let n = c.args.self.now in
-    rw c.split_at.ensures.back
-    (All-drop (λ d. d < 10) (length n.digits.now - c.args.scale) n.digits.now n.stripped.stripped.below_ten)
+    rw c.split_at.ensures.back (All-drop (λ d. d < 10) c.args.before _ c.args.self.now.stripped.stripped.below_ten)
 
 pub returns-in_err-push_minus : goal.returns-in_err-push_minus
 returns-in_err-push_minus c = failed _ _ _ _ c.from_residual.ensures.0 (none_begun _ _ _ c.in_err-push_minus.ensures.refused)
 
 -- the digits before the point
 abbrev whole : In_ok-push_str → List ℕ
-whole c = let ds = c.args.self.now.digits.now in digits_text (take (length ds - c.args.scale) ds)
+whole c = digits_text (take c.args.before c.args.self.now.digits.now)
 
 abbrev fraction : In_ok-push_str → List ℕ
-fraction c = let ds = c.args.self.now.digits.now in digits_text (drop (length ds - c.args.scale) ds)
+fraction c = digits_text (drop c.args.before c.args.self.now.digits.now)
 
 before_point : (c : In_ok-push_str) → string_bytes c.push_str.new.self
     ≡ string_bytes c.args.out.now ++ (minus_text c.args.self.now.negative ++ whole c)

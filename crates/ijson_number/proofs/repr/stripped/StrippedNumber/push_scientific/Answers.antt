@@ -10,7 +10,7 @@ use Rattle.ijson_number.specs.private.WordText.{integer_text}
 use Rattle.ijson_number.proofs.writing.Beginnings.{both, failed, front_begun, last_append, some_begun}
 use Rattle.ijson_number.proofs.writing.SplitTexts.{scientific_shown}
 use Rattle.ijson_number.proofs.repr.stripped.StrippedNumber.push_scientific.Goals as goal
-use Rattle.ijson_number.proofs.repr.stripped.StrippedNumber.push_scientific.Goals.{After-push_split, In_ok-push_split}
+use Rattle.ijson_number.proofs.repr.stripped.StrippedNumber.push_scientific.Goals.{After-push_split}
 
 -- the digits, split after the first, and the exponent are the text
 shown : (c : After-push_split) (power : ℤ) → power ≡ c.args.place -ℤ pos 1
@@ -22,36 +22,20 @@ shown c power is =
     scientific_shown n c.args.place power c.requires.point c.requires.some c.requires.place (omega (arith, ints)) (omega (arith, ints))
     c.requires.exponent is
 
-one : (n : ℕ) → 1 < n → n - (n - 1) ≡ 1
-one n some = omega arith
-
--- the text before the exponent
-split : (c : In_ok-push_split) → string_bytes c.push_split.new.out
-    ≡ string_bytes c.args.out.now ++ split_text c.args.self.now.negative c.args.self.now.digits.now 1
-split c = rw (one (length c.args.self.now.digits.now) c.requires.some) at c.in_ok-push_split.ensures
-
 pub returns-in_err-push_split : goal.returns-in_err-push_split
 returns-in_err-push_split c =
-    let at = (goal.at.returns-in_err-push_split c).After-push_split in
-    let n = c.args.self.now in
-    let power : ℤ = c.args.place -ℤ pos 1 in
-    failed _ _ _ _ c.from_residual.ensures.0 (front_begun (string_bytes c.args.out.now) (string_bytes c.push_split.new.out)
-    (split_text n.negative n.digits.now (length n.digits.now - (length n.digits.now - 1)))
-    (101 ∷ integer_text (int_lt power (pos 0)) (nat_abs power)) _ c.in_err-push_split.ensures (rw (one (length n.digits.now) c.requires.some) (shown at power refl)))
+    failed _ _ _ _ c.from_residual.ensures.0 (front_begun (string_bytes c.args.out.now) (string_bytes c.push_split.new.out) _ _ _
+    c.in_err-push_split.ensures (shown (goal.at.returns-in_err-push_split c).After-push_split (c.args.place -ℤ pos 1) refl))
 
 pub returns-in_err-push : goal.returns-in_err-push
 returns-in_err-push c =
-    let at = goal.at.returns-in_err-push c in
-    let n = c.args.self.now in
-    let power : ℤ = c.args.place -ℤ pos 1 in
-    failed _ _ _ _ c.from_residual-in_err-push.ensures.0 (some_begun (string_bytes c.args.out.now) (string_bytes c.push.new.self)
-    (split_text n.negative n.digits.now 1) (101 ∷ integer_text (int_lt power (pos 0)) (nat_abs power)) _
-    (c.in_err-push.ensures.bytes ∙ split at.In_ok-push_split) (shown at.After-push_split power refl))
+    failed _ _ _ _ c.from_residual-in_err-push.ensures.0 (some_begun (string_bytes c.args.out.now) (string_bytes c.push.new.self) _ _ _
+    (c.in_err-push.ensures.bytes ∙ c.in_ok-push_split.ensures)
+    (shown (goal.at.returns-in_err-push c).After-push_split (c.args.place -ℤ pos 1) refl))
 
 pub returns : goal.returns
 unfolding lib.Utf8.encode
 returns c =
-    let at = goal.at.returns c in
     let old = string_bytes c.args.out.now in
     let front = split_text c.args.self.now.negative c.args.self.now.digits.now 1 in
     let place = c.args.place in
@@ -60,6 +44,7 @@ returns c =
     let exact : power ≡ place -ℤ pos 1 = to_z-of_z w128 less (search rules) ∙ ap (λ p. p -ℤ pos 1) (to_z-of_z w128 place (search rules)) in
     let exponent = integer_text (int_lt power (pos 0)) c.unsigned_abs.result in
     last_append _ old (string_bytes c.push.new.self) (string_bytes c.push_integer.new.out) (front ++ 101 ∷ []) exponent _
-    (both old (string_bytes c.push_split.new.out) _ front (101 ∷ []) (split at.In_ok-push_split) c.in_ok-push.ensures.bytes)
+    (both old (string_bytes c.push_split.new.out) _ front (101 ∷ []) c.in_ok-push_split.ensures c.in_ok-push.ensures.bytes)
     c.push_integer.ensures
-    (append_assoc front (101 ∷ []) exponent ∙ rw c.unsigned_abs.ensures.value (shown at.After-push_split power exact))
+    (append_assoc front (101 ∷ []) exponent
+    ∙ rw c.unsigned_abs.ensures.value (shown (goal.at.returns c).After-push_split power exact))

@@ -11,16 +11,15 @@ use Rattle.ijson_number.proofs.writing.DigitTexts.{length_text}
 use Rattle.ijson_number.proofs.repr.stripped.StrippedNumber.push_split.Goals as goal
 
 -- at most 16 digits, with which a vector ends
-module _ (lanes ds : List ℕ) (few : length ds ≤ 16) (is : drop (16 - length ds) lanes ≡ digits_text ds) (scale : ℕ)
-    (inside : scale ≤ length ds) where
-  behind : drop (16 - scale) lanes ≡ digits_text (drop (length ds - scale) ds)
-  behind =
-      let at : 16 - scale ≡ 16 - length ds + (length ds - scale) = omega arith in
-      rw (at, ← drop-drop {A = ℕ} (length ds - scale) (16 - length ds) lanes, is)
-      (drop-map {X = ℕ} {Y = ℕ} (λ d. 48 + d) (length ds - scale) ds)
+module _ (lanes ds : List ℕ) (few : length ds ≤ 16) (is : drop (16 - length ds) lanes ≡ digits_text ds) (before : ℕ)
+    (inside : before ≤ length ds) where
+  front : take before (drop (16 - length ds) lanes) ≡ digits_text (take before ds)
+  front = rw is (take-map {X = ℕ} {Y = ℕ} (λ d. 48 + d) before ds)
 
-  before : take (length ds - scale) (drop (16 - length ds) lanes) ≡ digits_text (take (length ds - scale) ds)
-  before = rw is (take-map {X = ℕ} {Y = ℕ} (λ d. 48 + d) (length ds - scale) ds)
+  behind : drop (16 - (length ds - before)) lanes ≡ digits_text (drop before ds)
+  behind =
+      let at : 16 - (length ds - before) ≡ 16 - length ds + before = omega arith in
+      rw (at, ← drop-drop {A = ℕ} before (16 - length ds) lanes, is) (drop-map {X = ℕ} {Y = ℕ} (λ d. 48 + d) before ds)
 
 -- more digits: one vector has the first of them, and another the last
 module _ (ds : List ℕ) (below : All (λ d. d < 10) ds) (many : 16 < length ds) where
@@ -46,11 +45,10 @@ pub push_rows-requires-clause-fraction : goal.push_rows-requires-clause-fraction
 push_rows-requires-clause-fraction c =
     let n = c.args.self.now in
     let ds = n.digits.now in
-    let few : length ds ≤ 16 = omega (arith, c.if-count-le-LANES.true) in
-    let scale = c.args.scale in (
+    let few : length ds ≤ 16 = omega (arith, c.if-count-le-LANES.true) in (
       c.requires.all,
-      rw (behind c.args.lanes ds few (c.requires.lanes few) scale c.requires.inside)
-          (digits_text_ascii (drop (length ds - scale) ds) (All-drop (λ d. d < 10) (length ds - scale) ds n.stripped.stripped.below_ten)),
+      rw (behind c.args.lanes ds few (c.requires.lanes few) c.args.before c.requires.inside)
+          (digits_text_ascii (drop c.args.before ds) (All-drop (λ d. d < 10) c.args.before ds n.stripped.stripped.below_ten)),
     )
 
 pub returns-then-count-le-LANES : goal.returns-then-count-le-LANES
@@ -58,11 +56,10 @@ returns-then-count-le-LANES c =
     let ds = c.args.self.now.digits.now in
     let few : length ds ≤ 16 = omega (arith, c.if-count-le-LANES.true) in
     let lanes = c.requires.lanes few in
-    let scale = c.args.scale in
     all_or_none _ _ _ _ (rw (
-      ← before c.args.lanes ds few lanes scale c.requires.inside,
-      ← behind c.args.lanes ds few lanes scale c.requires.inside,
-    ) c.push_rows.ensures.written) c.push_rows.ensures.refused
+      front c.args.lanes ds few lanes c.args.before c.requires.inside,
+      behind c.args.lanes ds few lanes c.args.before c.requires.inside,
+    ) at c.push_rows.ensures.written) c.push_rows.ensures.refused
 
 pub push_rows-requires-2-clause-whole : goal.push_rows-requires-2-clause-whole
 push_rows-requires-2-clause-whole c =
@@ -84,7 +81,7 @@ push_rows-requires-2-clause-fraction c =
     let last = drop (length ds - 16) ds in
     rw (last_is ds below many) (
       omega (arith, length_text last, length-drop (length ds - 16) ds),
-      IsAscii-drop (digits_text last) (16 - c.args.scale)
+      IsAscii-drop (digits_text last) (16 - (length ds - c.args.before))
           (digits_text_ascii last (All-drop (λ d. d < 10) (length ds - 16) ds below)),
     )
 
@@ -92,17 +89,19 @@ pub returns : goal.returns
 returns c =
     let n = c.args.self.now in
     let ds = n.digits.now in
-    let scale = c.args.scale in
+    let before = c.args.before in
+    let scale = length ds - before in
     let below = n.stripped.stripped.below_ten in
+    let inside = c.requires.inside in
     let many : 16 < length ds = omega (arith, c.if-count-le-LANES.false) in
-    let places : scale ≤ 16 = omega (arith, c.if-scale-gt-LANES.false) in
-    let whole : length ds ≤ scale + 16 = omega (arith, c.if-before-gt-LANES.false) in
-    let at : length ds - 16 + (16 - scale) ≡ length ds - scale = omega arith in
+    let places : length ds - before ≤ 16 = omega (arith, c.if-scale-gt-LANES.false) in
+    let whole : before ≤ 16 = omega (arith, c.if-before-gt-LANES.false) in
+    let at : length ds - 16 + (16 - (length ds - before)) ≡ before = omega arith in
     all_or_none _ _ _ _ (rw (
       first_is ds below many,
       last_is ds below many,
-      take-map {X = ℕ} {Y = ℕ} (λ d. 48 + d) (length ds - scale) (take 16 ds),
-      take-take (length ds - scale) 16 ds (omega arith),
+      take-map {X = ℕ} {Y = ℕ} (λ d. 48 + d) before (take 16 ds),
+      take-take before 16 ds whole,
       drop-map {X = ℕ} {Y = ℕ} (λ d. 48 + d) (16 - scale) (drop (length ds - 16) ds),
       drop-drop {A = ℕ} (16 - scale) (length ds - 16) ds,
       at,
