@@ -94,7 +94,7 @@ fraction_cmp n z p h v =
     let m = ten_divides n.mantissa z (k - 1) (rw s at e) in
     p.stripped (λ zero. (let x : n.exponent ≡ pos 0 = p.zero zero in omega (arith, ints))) m
 
-sign_cases : (z : ℤ) → (pos 0 ≤ℤ z) ⊎ (z <ℤ pos 0)
+pub sign_cases : (z : ℤ) → (pos 0 ≤ℤ z) ⊎ (z <ℤ pos 0)
 sign_cases (pos n) = inl (omega (arith, ints))
 sign_cases (negsuc n) = inr (omega (arith, ints))
 
@@ -136,15 +136,13 @@ tens_few number rest tens h n e =
           let m : 1 * 10 ^ tens ≤ rest * 10 ^ tens = mul-le-mul_right (10 ^ tens) (above_none rest n) in absurd (omega arith))
     ]
 
-ten_moved : (q rest p : ℕ) → rest ≡ q * 10 → rest * p ≡ q * (p * 10 ^ 1)
-ten_moved q rest p e = rw e (mul_assoc q 10 p ∙ ap (λ x. q * x) (mul_comm 10 p))
-
 -- stripping a zero
 pub ten_out : (number rest tens : ℕ) → rest % 10 ≡ 0 → number ≡ rest * 10 ^ tens → number ≡ rest / 10 * 10 ^ (tens + 1)
 ten_out number rest tens h e =
-    let r : rest ≡ rest / 10 * 10 = omega arith in
-    let p : 10 ^ (tens + 1) ≡ 10 ^ tens * 10 ^ 1 = pow-add 10 tens 1 in
-    e ∙ rw p (ten_moved (rest / 10) rest (10 ^ tens) r)
+    let whole : rest ≡ rest / 10 * 10 = omega arith in
+    let r = ap (λ x. x * 10 ^ tens) whole in
+    let p : 10 ^ (tens + 1) ≡ 10 ^ tens * 10 = pow-add 10 tens 1 in
+    rw (e, p) (grind (arith, r))
 
 digits_some : (ds : List ℕ) (v : ℕ) → number_from_digits 10 ds ≡ v → v % 10 ≢ 0 → 0 < length ds
 digits_some [] v h m = absurd (m (rw (← h) refl))

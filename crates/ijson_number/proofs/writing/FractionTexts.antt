@@ -15,9 +15,10 @@ use Rattle.ijson_number.specs.Stripped.{tens_out, stripped_number}
 use Rattle.ijson_number.specs.StoredNumber.{stored_number}
 use Rattle.ijson_number.specs.private.WordText.{pointed_text}
 use Rattle.ijson_number.specs.laws.Tens.{ten_pos}
-use Rattle.ijson_number.proofs.storing.FormCases.{taken as form_taken}
+use Rattle.ijson_number.proofs.storing.Significands.{fraction_form}
+use Rattle.ijson_number.proofs.storing.WholeValues.{sign_cases}
 use Rattle.ijson_number.proofs.storing.IntegerWords.{below_test, zero_is, some_stored, tens_are, without_tens}
-use Rattle.ijson_number.proofs.BooleanTests.{abs_zero, test_le, not_le, not_lt}
+use Rattle.ijson_number.proofs.BooleanTests.{abs_zero, le_test, test_le, not_le, not_lt}
 use Rattle.ijson_number.proofs.writing.Writing.{stored_text}
 use Rattle.ijson_number.proofs.writing.WordTexts.{count_is, fraction_is}
 
@@ -39,21 +40,15 @@ not_smallest (suc tries) k n m e h is =
 -- a number that is packed with a negative exponent has that exponent
 kept_exponent : (n : Decimal) (m e : ℤ) → n.point ≡ true → e <ℤ pos 0 → form_of n ≡ packed m e true
     → (n.exponent ≡ e) × (negsuc 6 ≤ℤ n.exponent)
-kept_exponent n m e h l is =
-    let below : FormOf = elim
-    (int_le (negsuc 6) n.exponent && fits_packed n.mantissa) [ true ↦ packed n.mantissa n.exponent true | false ↦ digits_form n ] in
-    let pointed : FormOf = elim (int_le (pos 0) n.exponent) [ true ↦ smallest_packed 8 0 n | false ↦ below ] in
-    let p : pointed ≡ packed m e true = sym (form_taken n.point pointed (integer_form n (n.mantissa *ℤ pos (10 ^ nat_abs n.exponent))) h)
-    ∙ is in
-    elim (either_form (int_le (pos 0) n.exponent) (smallest_packed 8 0 n) below (packed m e true) p) [
-      | inl q ↦ absurd (not_smallest 8 0 n m e l q.1)
-      | inr q ↦ elim (either_form (int_le (negsuc 6) n.exponent && fits_packed n.mantissa) (packed n.mantissa n.exponent true)
-          (digits_form n) (packed m e true) q) [
-            | inl r ↦ (let b = and_parts (int_le (negsuc 6) n.exponent) (fits_packed n.mantissa) r.0 in let f = r.1 in
-                (cc, test_le (negsuc 6) n.exponent b.0))
-            | inr r ↦ absurd (cc)
-          ]
-    ]
+kept_exponent n m e h l is = elim (sign_cases n.exponent) [
+  | inl above ↦ absurd (not_smallest 8 0 n m e l (rw (h, le_test (pos 0) n.exponent above, form_of) at is))
+  | inr below ↦ elim (either_form (int_le (negsuc 6) n.exponent && fits_packed n.mantissa) (packed n.mantissa n.exponent true)
+      (digits_form n) (packed m e true) (sym (fraction_form n h below) ∙ is)) [
+        | inl r ↦ (let b = and_parts (int_le (negsuc 6) n.exponent) (fits_packed n.mantissa) r.0 in let f = r.1 in
+            (cc, test_le (negsuc 6) n.exponent b.0))
+        | inr r ↦ absurd (cc)
+      ]
+]
 
 -- a packed number with a negative exponent, whose text has no exponent
 module _ (m e : ℤ) (k : ℕ) (word : nat_abs m < 2 ^ 64) (scale : 0 < k) (below : e ≡ neg_ℤ (pos k))

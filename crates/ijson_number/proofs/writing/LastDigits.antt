@@ -29,7 +29,7 @@ last_rest : (scale n : ℕ) → last_digits scale (n % 10 ^ scale) ≡ last_digi
 last_rest p n =
     let t = ten_pos p in
     let parts : n / 10 ^ p * 10 ^ p + n % 10 ^ p ≡ n = omega arith in
-    sym (last_behind p (n / 10 ^ p) (n % 10 ^ p)) ∙ ap (last_digits p) parts
+    rw parts at (sym (last_behind p (n / 10 ^ p) (n % 10 ^ p)))
 
 -- the last digits are those before the last `scale`, and these
 last_split : (count scale n : ℕ) → last_digits (count + scale) n ≡ last_digits count (n / 10 ^ scale) ++ last_digits scale n
@@ -41,19 +41,17 @@ last_split count zero n =
 last_split count (suc p) n =
     let next : count + suc p ≡ suc (count + p) = omega arith in
     let over : n / 10 / 10 ^ p ≡ n / 10 ^ suc p = div-div-eq-div-mul n 10 (10 ^ p) ∙ ap (λ d. n / d) (sym (pow-succ' 10 p)) in
-    ap (λ k. last_digits k n) next
-    ∙ ap (λ l. l ++ (48 + n % 10) ∷ []) (last_split count p (n / 10) ∙ ap (λ m. last_digits count m ++ last_digits p (n / 10)) over)
-    ∙ append_assoc (last_digits count (n / 10 ^ suc p)) (last_digits p (n / 10)) ((48 + n % 10) ∷ [])
+    rw (next, last_split count p (n / 10), over)
+    (append_assoc (last_digits count (n / 10 ^ suc p)) (last_digits p (n / 10)) ((48 + n % 10) ∷ []))
 
 -- the powers of ten of both parts of a list of digits
 row_powers : (row scale : ℕ) → scale ≤ row → 10 ^ (row - scale) * 10 ^ scale ≡ 10 ^ row
 row_powers row scale few =
-    let both : row - scale + scale ≡ row = omega arith in sym (pow-add 10 (row - scale) scale) ∙ ap (λ k. 10 ^ k) both
+    let both : row - scale + scale ≡ row = omega arith in rw both at (sym (pow-add 10 (row - scale) scale))
 
 -- a list of digits consists of those before the last `scale`, and these
 row_split : (row scale n : ℕ) → scale ≤ row → last_digits row n ≡ last_digits (row - scale) (n / 10 ^ scale) ++ last_digits scale n
-row_split row scale n few = let both : row - scale + scale ≡ row = omega arith in ap (λ k. last_digits k n) (sym both)
-    ∙ last_split (row - scale) scale n
+row_split row scale n few = let both : row - scale + scale ≡ row = omega arith in rw both at (last_split (row - scale) scale n)
 
 -- at the end of the leading zeros, the number begins
 module _ (lanes : List ℕ) (zeros : ℕ) (shown behind : List ℕ) (lead : ℕ) (is : lanes ≡ replicate lead 48 ++ (shown ++ behind))
@@ -196,8 +194,7 @@ module _ (magnitude scale : ℕ) (few : scale < 16) (word : magnitude < 2 ^ 64) 
       let times : magnitude / 10 ^ 15 * 10 ^ before * 10 ^ scale ≡ magnitude / 10 ^ 15 * 10 ^ 15 =
       rw (← row_powers 15 scale (omega arith)) (grind arith) in
       let parts : magnitude / 10 ^ 15 * 10 ^ before * 10 ^ scale + last ≡ magnitude = omega arith in
-      last_rest scale last ∙ sym (last_behind scale (magnitude / 10 ^ 15 * 10 ^ before) last) ∙ ap (last_digits scale) parts
-      ∙ sym (last_rest scale magnitude)
+      last_rest scale last ∙ rw parts at (sym (last_behind scale (magnitude / 10 ^ 15 * 10 ^ before) last)) ∙ sym (last_rest scale magnitude)
 
   pub wide_decimal : decimal (magnitude / 10 ^ 15) ++ last_digits 15 last ≡ decimal magnitude
   wide_decimal =
