@@ -144,11 +144,11 @@ exponent_small m e l form =
     let f : negsuc 6 ≤ℤ e = rw x.0 at x.1 in
     omega (arith, ints)
 
-pub fraction_shown : (m e s : ℤ) (n k : ℕ) (shown : List ℕ) → s ≡ m → n ≡ nat_abs m → k ≡ nat_abs e → n < 2 ^ 64 → e <ℤ pos 0
+pub fraction_shown : (m e s : ℤ) (n k : ℕ) → s ≡ m → n ≡ nat_abs m → k ≡ nat_abs e → n < 2 ^ 64 → e <ℤ pos 0
     → (6 < k → 10 ≤ n) → form_of (stripped_number m e true) ≡ packed m e true
-    → shown ≡ pointed_text (int_lt s (pos 0)) (n / 10 ^ k) k (n % 10 ^ k) → shown ≡ num_text (stripped_number m e true)
-fraction_shown m e s n k shown sign magnitude scale word l h form is =
-    is ∙ rw (sign, magnitude)
+    → pointed_text (int_lt s (pos 0)) (n / 10 ^ k) k (n % 10 ^ k) ≡ num_text (stripped_number m e true)
+fraction_shown m e s n k sign magnitude scale word l h form =
+    rw (sign, magnitude)
     (sym (fraction_num_text m e k (rw (← magnitude) word) (omega (arith, ints)) (omega (arith, ints)) form (rw (← magnitude) h)))
 
 pub below_point : (e x : ℤ) → x ≡ e → (e ≡ pos 0 → ⊥) → int_lt (pos 0) x ≡ false → e <ℤ pos 0

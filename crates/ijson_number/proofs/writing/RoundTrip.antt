@@ -75,7 +75,7 @@ module _ (n : Decimal) (plain : IsPlain n) (ds : List ℕ) (negative : Bool) (be
       let k = nat_abs n.exponent in
       let whole = digits_text ds ++ zeros_text k in
       let e = nonneg n.exponent (plain.whole p) in
-      rw (append-nil, append-nil) at (build whole [] [] [] false false (pos 0) k (whole_from ds (zeros_text k) below first (zeros_digits k))
+      simp append-nil at (build whole [] [] [] false false (pos 0) k (whole_from ds (zeros_text k) below first (zeros_digits k))
       (refl, refl) (refl, refl) p (rw (append-nil whole, value_zeros_back (digits_text ds) k, value_text ds) refl) (omega (arith, ints)))
 
   small_case : n.point ≡ true → (p : ℤ) → p ≡ pos (length ds) +ℤ n.exponent → p ≤ℤ pos 0
@@ -126,7 +126,7 @@ scientific_case n plain (d ∷ []) negative below first mantissa_is t p pe =
 scientific_case n plain (d ∷ c ∷ ds) negative below first mantissa_is t p pe =
     let fraction = digits_text (c ∷ ds) in
     let l : length fraction ≡ suc (length ds) = length_text (c ∷ ds) in
-    rw (append_assoc, append_assoc) at (build n plain (d ∷ c ∷ ds) negative below first mantissa_is ((48 + d) ∷ []) fraction (46 ∷ fraction)
+    rw (append_assoc (minus_text negative ++ ((48 + d) ∷ [])), append_assoc (minus_text negative)) at (build n plain (d ∷ c ∷ ds) negative below first mantissa_is ((48 + d) ∷ []) fraction (46 ∷ fraction)
     (101 ∷ whole_text (p -ℤ pos 1)) true true (p -ℤ pos 1) 0 (inr (omega arith, omega arith, tt))
     (refl, text_digits (c ∷ ds) below.1, refl, refl) (inl refl, signed_text (p -ℤ pos 1), refl) t
     (value_text (d ∷ c ∷ ds) ∙ omega arith) (omega (arith, ints)))

@@ -106,14 +106,10 @@ module _ (z : ℤ) (word : nat_abs z < 2 ^ 64) where
     some_kept : 0 < length kept
     some_kept = let c = count_is out.0 front front_small in let d = decimal_nonempty out.0 front_small in omega arith
 
-    exact : pos 0 +ℤ pos out.1 ≡ pos out.1
-    exact = omega (arith, ints)
-
-    number_is : (point : Bool) → stripped_number z (pos 0) point ≡ stored_number negative kept (pos out.1) point
-    number_is point = without_tens z word above (pos 0) point ∙ ap (λ e. stored_number negative kept e point) exact
-
     stored_is : (point : Bool) → num_text (stripped_number z (pos 0) point) ≡ minus_text negative ++ shape_text point kept (pos out.1)
-    stored_is point = ap num_text (number_is point)
+    stored_is point =
+        let exact : pos 0 +ℤ pos out.1 ≡ pos out.1 = omega (arith, ints) in
+        ap num_text (without_tens z word above (pos 0) point ∙ ap (λ e. stored_number negative kept e point) exact)
         ∙ sym (stored_text negative kept (pos out.1) point (some_stored out.0 tens.1 negative).stripped some_kept)
 
     with_zeros : digits_text kept ++ zeros_text out.1 ≡ decimal magnitude
@@ -122,13 +118,10 @@ module _ (z : ℤ) (word : nat_abs z < 2 ^ 64) where
         sym (ap decimal is ∙ joined out.1 out.0 0 front (ten_pos out.1) (rw (← is) (omega arith))
         ∙ rw (last_zeros out.1, ← text_is out.0 front front_small) refl)
 
-    some_integer : num_text (stripped_number z (pos 0) false) ≡ integer_text negative magnitude
-    some_integer = stored_is false ∙ ap (λ x. minus_text negative ++ x) with_zeros
-
     abbrev place : ℤ
     place = pos (length kept) +ℤ pos out.1
 
-    some_float : float_text kept (pos out.1) ≡ decimal magnitude ++ 46 ∷ 48 ∷ []
+    some_float : float_text kept (pos out.1) ≡ decimal magnitude ++ 46 ∷ last_digits 1 0
     some_float =
         let long = some_kept in
         let low = few in
@@ -137,19 +130,14 @@ module _ (z : ℤ) (word : nat_abs z < 2 ^ 64) where
         let first : int_le place (pos 0) ≡ false = not_le place (pos 0) (omega (arith, ints)) in
         let second : int_le (pos (length kept)) place ≡ true = le_test (pos (length kept)) place (omega (arith, ints)) in
         let zeros : nat_abs (place -ℤ pos (length kept)) ≡ out.1 = omega (arith, ints) in
-        rw (plain, float_text, first, second, point_text, zeros) (ap (λ x. x ++ (46 ∷ 48 ∷ [])) with_zeros)
-
-    some_whole : num_text (stripped_number z (pos 0) true) ≡ pointed_text negative magnitude 1 0
-    some_whole =
-        let one : decimal magnitude ++ 46 ∷ 48 ∷ [] ≡ decimal magnitude ++ 46 ∷ last_digits 1 0 = rw (last_zeros 1) refl in
-        stored_is true ∙ ap (λ x. minus_text negative ++ x) (some_float ∙ one)
+        rw (plain, float_text, first, second, point_text, zeros, last_zeros 1) (ap (λ x. x ++ (46 ∷ 48 ∷ [])) with_zeros)
 
   -- without the fraction point
   pub integer_num_text : num_text (stripped_number z (pos 0) false) ≡ integer_text negative magnitude
   integer_num_text =
       elim (zero_or_not z) [
         | inl e ↦ rw e (ap num_text (zero_is false (pos 0) false) ∙ sym (decimal_digit 0 (omega arith)))
-        | inr some ↦ some_integer some
+        | inr some ↦ stored_is some false ∙ ap (λ x. minus_text negative ++ x) (with_zeros some)
       ]
 
   -- with the fraction point
@@ -157,7 +145,7 @@ module _ (z : ℤ) (word : nat_abs z < 2 ^ 64) where
   whole_num_text =
       elim (zero_or_not z) [
         | inl e ↦ rw e (ap num_text (zero_is false (pos 0) true) ∙ rw (decimal_digit 0 (omega arith), last_zeros 1) refl)
-        | inr some ↦ some_whole some
+        | inr some ↦ stored_is some true ∙ ap (λ x. minus_text negative ++ x) (some_float some)
       ]
 
 -- the assembled text is the number's
@@ -168,15 +156,15 @@ whole_shown m e s n tens sign magnitude none word is =
     let rest : tens % 10 ^ 1 ≡ 0 = omega arith in
     rw (whole, rest, sign, magnitude, none) (sym (whole_num_text m (rw (← magnitude) word)))
 
-pub integer_shown : (n : Decimal) (z s : ℤ) (magnitude : ℕ) (shown : List ℕ) → n ≡ stripped_number z (pos 0) false → s ≡ z
-    → magnitude ≡ nat_abs z → magnitude < 2 ^ 64 → shown ≡ integer_text (int_lt s (pos 0)) magnitude → shown ≡ num_text n
-integer_shown n z s magnitude shown number sign abs word is = is ∙ rw (number, sign, abs) (sym (integer_num_text z (rw (← abs) word)))
+pub integer_shown : (n : Decimal) (z s : ℤ) (magnitude : ℕ) → n ≡ stripped_number z (pos 0) false → s ≡ z
+    → magnitude ≡ nat_abs z → magnitude < 2 ^ 64 → integer_text (int_lt s (pos 0)) magnitude ≡ num_text n
+integer_shown n z s magnitude number sign abs word = rw (number, sign, abs) (sym (integer_num_text z (rw (← abs) word)))
 
-pub unsigned_shown : (n : Decimal) (magnitude : ℕ) (shown : List ℕ) → n ≡ stripped_number (pos magnitude) (pos 0) false
-    → magnitude < 2 ^ 64 → shown ≡ integer_text false magnitude → shown ≡ num_text n
-unsigned_shown n magnitude shown number word is =
+pub unsigned_shown : (n : Decimal) (magnitude : ℕ) → n ≡ stripped_number (pos magnitude) (pos 0) false
+    → magnitude < 2 ^ 64 → integer_text false magnitude ≡ num_text n
+unsigned_shown n magnitude number word =
     let above : int_lt (pos magnitude) (pos 0) ≡ false = not_lt (pos magnitude) (pos 0) (omega (arith, ints)) in
-    is ∙ ap (λ b. integer_text b magnitude) (sym above) ∙ sym (integer_num_text (pos magnitude) word) ∙ ap num_text (sym number)
+    ap (λ b. integer_text b magnitude) (sym above) ∙ sym (integer_num_text (pos magnitude) word) ∙ ap num_text (sym number)
 
 -- a packed number without the fraction point has no exponent
 pub packed_integer : (bits : ℕ) → word_point bits ≡ false

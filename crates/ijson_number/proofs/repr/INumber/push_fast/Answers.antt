@@ -44,21 +44,21 @@ shown c =
           let fits : FitsSigned w64 m.result = search rules in
           let exact = to_z-of_z w64 m.result fits ∙ m.ensures.value in
           let n = w.unsigned_abs in
-          rw w.negative-is (integer_shown c.args.self.now.decimal _ _ n.result _
+          rw w.negative-is (integer_shown c.args.self.now.decimal _ _ n.result
           (view ∙ ap stored_decimal w.in-Packed.is ∙ packed_integer w.in-Packed.word.bits (sym w.point.ensures ∙ w.if-point.false)) exact
-          (n.ensures.value ∙ ap nat_abs exact) n.type_inv refl)
+          (n.ensures.value ∙ ap nat_abs exact) n.type_inv)
           )
       | in-I64 w ↦ (
           let v = w.in-I64.value in
           let fits : FitsSigned w64 v = search rules in
           let exact = to_z-of_z w64 v fits in
           let n = w.unsigned_abs-in-I64 in
-          rw w.negative-is (integer_shown c.args.self.now.decimal v _ n.result _ (view ∙ ap stored_decimal w.in-I64.is) exact
-          (n.ensures.value ∙ ap nat_abs exact) n.type_inv refl)
+          rw w.negative-is (integer_shown c.args.self.now.decimal v _ n.result (view ∙ ap stored_decimal w.in-I64.is) exact
+          (n.ensures.value ∙ ap nat_abs exact) n.type_inv)
           )
       | in-U64 w ↦ (
           let word : w.in-U64.value < 2 ^ 64 = search rules in
-          rw w.negative-is (unsigned_shown c.args.self.now.decimal w.in-U64.value _ (view ∙ ap stored_decimal w.in-U64.is) word refl)
+          rw w.negative-is (unsigned_shown c.args.self.now.decimal w.in-U64.value (view ∙ ap stored_decimal w.in-U64.is) word)
           )
     ]
 

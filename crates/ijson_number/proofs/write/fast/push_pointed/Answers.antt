@@ -45,6 +45,5 @@ returns-clause-pushed c =
     let exact = to_z-of_z w64 a.mantissa (search rules) in
     let many = many_places a.exponent _ c.from-scale.result n.result (to_z-of_z w8 a.exponent (search rules)) scale
     c.if-magnitude-lt10.either (below at) in
-    let text = fraction_shown a.mantissa a.exponent _ n.result c.from-scale.result _ exact (n.ensures.value ∙ ap nat_abs exact) scale
-    n.type_inv (below at) many c.requires.form refl in
-    rw text at c.push_decimal-2.ensures
+    rw (fraction_shown a.mantissa a.exponent _ n.result c.from-scale.result exact (n.ensures.value ∙ ap nat_abs exact) scale
+    n.type_inv (below at) many c.requires.form) at c.push_decimal-2.ensures
