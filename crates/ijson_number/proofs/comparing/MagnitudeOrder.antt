@@ -103,8 +103,7 @@ aligned (d ∷ ds) (x ∷ es) j k p q l m e =
     ∙ ap (ordering_then (nat_cmp d x)) (aligned ds es j k p.1 q.1 (last_rest d ds l) (last_rest x es m) place))
 
 pub above_none : (d : ℕ) → d ≢ 0 → 1 ≤ d
-above_none zero n = absurd (n refl)
-above_none (suc d) n = omega arith
+above_none d n = omega (arith, n)
 
 -- digits without a leading 0 have at least the value ten to the number of the others
 pub number_least : (ds : List ℕ) → 0 < length ds → get_or ds 0 0 ≢ 0 → 10 ^ (length ds - 1) ≤ number_from_digits 10 ds

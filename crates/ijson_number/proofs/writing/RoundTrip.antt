@@ -54,9 +54,6 @@ spelled n negative whole fraction fraction_text exponent_text has_point has_expo
 pub at_text : (t u : List ℕ) (n : Decimal) → t ≡ u → Spells t n → Spells u n
 at_text t u n e s = rw e at s
 
-nonpos : (z : ℤ) → z ≤ℤ pos 0 → z ≡ neg_ℤ (pos (nat_abs z))
-nonpos z h = omega (arith, ints)
-
 -- a number that is not zero, by its digits
 module _ (n : Decimal) (plain : IsPlain n) (ds : List ℕ) (negative : Bool) (below : Below ds) (first : 0 < get_or ds 0 0)
     (mantissa_is : n.mantissa ≡ signed negative (number_from_digits 10 ds)) where
@@ -88,7 +85,7 @@ module _ (n : Decimal) (plain : IsPlain n) (ds : List ℕ) (negative : Bool) (be
       let s : 0 < length ds = first_some ds first in
       let d : IsDigits fraction =
       IsDigits_from fraction (omega arith) (AllDigits-append (zeros_text k) (digits_text ds) (zeros_digits k) (text_digits ds below)) in
-      let q = nonpos p h in
+      let q : p ≡ neg_ℤ (pos k) = omega (arith, ints) in
       rw (append-nil, append_assoc) at (build (48 ∷ []) fraction (46 ∷ fraction) [] true false (pos 0) 0 (inl (refl, refl))
       (refl, d, refl, refl) (refl, refl) t (value_zeros_front k (digits_text ds) ∙ value_text ds ∙ omega arith) (omega (arith, ints)))
 

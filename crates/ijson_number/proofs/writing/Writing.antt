@@ -14,6 +14,8 @@ use Rattle.ijson_number.proofs.storing.DigitsOf.{digits_are, stored_digits_are}
 use Rattle.ijson_number.specs.Decimal.{Decimal}
 use Rattle.ijson_number.specs.Strips.{signed}
 use Rattle.ijson_number.specs.StoredNumber.{stored_number}
+use Rattle.ijson_number.specs.declared.repr.stripped.StrippedNumber.{StrippedNumber}
+use Rattle.ijson_number.specs.private.StrippedNumber.{decimal_of}
 use Rattle.ijson_number.specs.StrippedDigits.{stripped_digits}
 use Rattle.ijson_number.specs.private.Stripped.{IsStripped}
 use Rattle.ijson_number.proofs.parsing.Denotes.{stripped_mod}
@@ -81,6 +83,7 @@ stored_text negative ds e point s h =
     rw (some, num_text, below_zero negative number v, stored_digits_are negative ds e point s) refl
 
 -- a minus or none, and the digits after it, if they are those of the number
-pub shown_text : (n : Decimal) (minus negative : Bool) (ds : List ℕ) (e bits : ℤ) (point : Bool) → stored_number negative ds e point ≡ n
-    → bits ≡ e → IsStripped ds → 0 < length ds → negative ≡ minus → minus_text minus ++ shape_text point ds bits ≡ num_text n
-shown_text n minus negative ds e bits point is exact s h sign = rw (← sign, exact, ← is) (stored_text negative ds e point s h)
+pub shown_text : (x : StrippedNumber) (n : Decimal) (minus : Bool) (bits : ℤ) → decimal_of x ≡ n → bits ≡ x.exponent
+    → 0 < length x.digits.now → x.negative ≡ minus → minus_text minus ++ shape_text x.point x.digits.now bits ≡ num_text n
+shown_text x n minus bits is exact some sign =
+    rw (← sign, exact) (stored_text x.negative x.digits.now x.exponent x.point x.stripped.stripped some ∙ ap num_text is)

@@ -16,6 +16,7 @@ use Rattle.ijson_number.specs.private.Stripped.{IsStripped}
 use Rattle.ijson_number.specs.private.StrippedNumber.{decimal_of}
 use Rattle.ijson_number.specs.private.WordText.{integer_text}
 use Rattle.ijson_number.specs.Text.{num_text}
+use Rattle.ijson_number.proofs.comparing.DigitOrder.{row_digits}
 use Rattle.ijson_number.proofs.storing.DigitsOf.{stored_digits_are}
 use Rattle.ijson_number.proofs.writing.WordTexts.{integer_shown, packed_integer, unsigned_shown}
 use Rattle.ijson_number.proofs.repr.INumber.push_fast.Goals as goal
@@ -66,15 +67,10 @@ pub returns-clause-pushed : goal.returns-clause-pushed
 returns-clause-pushed c = rw (shown (goal.at.returns-clause-pushed c).After-push_integer) at c.push_integer.ensures
 
 -- a number that is stored by its digits, if vectors write it
-module _ (n : Decimal) (negative : Bool) (digits : List ℕ) (exponent : ℤ) (point : Bool) (stripped : IsStripped digits)
-    (is : n ≡ stored_number negative digits exponent point) (kept : is_digits (form_of n) ≡ true) where
-  by_digits : IsRowText n → IsShortInRows n
-  by_digits (inl integer) = absurd (let none : false ≡ true = sym integer.in_word ∙ kept in cc)
-  by_digits (inr (inl packed)) = absurd (let none : false ≡ true = sym (ap is_digits packed.form) ∙ kept in cc)
-  by_digits (inr (inr short)) = short
-
-  count : length (stripped_digits n) ≡ length digits
-  count = rw is (ap length (stored_digits_are negative digits exponent point stripped))
+by_digits : (n : Decimal) → is_digits (form_of n) ≡ true → IsRowText n → IsShortInRows n
+by_digits n kept (inl integer) = absurd (let none : false ≡ true = sym integer.in_word ∙ kept in cc)
+by_digits n kept (inr (inl packed)) = absurd (let none : false ≡ true = sym (ap is_digits packed.form) ∙ kept in cc)
+by_digits n kept (inr (inr short)) = short
 
 -- the digits that are passed are those of the number
 pub returns-in-Short-clause-rows : goal.returns-in-Short-clause-rows
@@ -84,9 +80,8 @@ returns-in-Short-clause-rows c row =
     ∙ ap (λ (x : ShortNumber). form_number (short_form x)) (sym c.deref.ensures) ∙ sym c.stripped.ensures.number in
     let kept : is_digits (form_of c.args.self.now.decimal) ≡ true = ap (λ (x : Num). is_digits (form_of x.decimal)) (sym c.self.view_is)
     ∙ ap is_digits c.self.invariant ∙ ap (λ s. is_digits (stored_form s)) c.in-Short.is in
-    let short = by_digits c.args.self.now.decimal n.negative n.digits.now n.exponent n.point n.stripped.stripped is kept row in
-    let many = count c.args.self.now.decimal n.negative n.digits.now n.exponent n.point n.stripped.stripped is kept in
-    c.push_digits.ensures.rows (rw is at short.pointed) (rw (many, is) at short.rows)
+    let short = by_digits c.args.self.now.decimal kept row in
+    c.push_digits.ensures.rows (rw is at short.pointed) (rw (← row_digits n _ (sym is), is) at short.rows)
 
 -- such a number has more digits or a larger exponent
 pub returns-in-Long-clause-rows : goal.returns-in-Long-clause-rows
@@ -96,7 +91,8 @@ returns-in-Long-clause-rows c row =
     sym (ap (λ (x : Num). x.decimal) c.self.view_is) ∙ ap stored_decimal c.in-Long.is in
     let kept : is_digits (form_of c.args.self.now.decimal) ≡ true = ap (λ (x : Num). is_digits (form_of x.decimal)) (sym c.self.view_is)
     ∙ ap is_digits c.self.invariant ∙ ap (λ s. is_digits (stored_form s)) c.in-Long.is in
-    let short = by_digits c.args.self.now.decimal n.negative n.digits.items n.exponent n.point n.stripped.stripped is kept row in
-    let same = count c.args.self.now.decimal n.negative n.digits.items n.exponent n.point n.stripped.stripped is kept in
+    let short = by_digits c.args.self.now.decimal kept row in
+    let same : length (stripped_digits c.args.self.now.decimal) ≡ length n.digits.items =
+    rw is (ap length (stored_digits_are n.negative n.digits.items n.exponent n.point n.stripped.stripped)) in
     let many : 19 < length n.digits.items = n.many (rw is at short.small) in
     absurd (let none : ⊥ = omega (arith, many, same, short.few) in none)

@@ -1,19 +1,13 @@
-use Rattle.std.proofs.Common.{◌∙◌, ap, subst, sym}
-use Rattle.ijson_number.specs.private.Stored.{IsShort, short_form, stored_form}
+use Rattle.std.proofs.Common.{ap}
+use Rattle.ijson_number.specs.private.Stored.{short_form}
 use Rattle.ijson_number.proofs.number.clone.StoredClone.clone.Goals as goal
 
 pub returns-in_ok-number-in-Short : goal.returns-in_ok-number-in-Short
-returns-in_ok-number-in-Short c = record {
-  cases = record {
-    form = ap short_form c.in_ok-number-in-Short.ensures.cases ∙ sym (ap stored_form c.in-Short.is);
-    short = (λ _. tt, λ _. subst IsShort (sym c.in-Short.is) tt);
-  };
-}
+returns-in_ok-number-in-Short c = rw c.in-Short.is (record {
+  cases = record { form = ap short_form c.in_ok-number-in-Short.ensures.cases; short = (λ _. tt, λ _. tt) };
+})
 
 pub returns-in_ok-number-in-Long : goal.returns-in_ok-number-in-Long
-returns-in_ok-number-in-Long c = record {
-  cases = record {
-    form = c.in_ok-number-in-Long.ensures.cases ∙ sym (ap stored_form c.in-Long.is);
-    short = (λ h. subst IsShort c.in-Long.is h, λ h. absurd h);
-  };
-}
+returns-in_ok-number-in-Long c = rw c.in-Long.is (record {
+  cases = record { form = c.in_ok-number-in-Long.ensures.cases; short = (λ h. h, λ h. h) };
+})

@@ -17,8 +17,7 @@ shown : (g : _) (c : Else-is_empty g) (minus : Bool) → c.stripped-number.resul
 shown g c minus branch =
     let n = c.stripped-number.result in
     let fits : FitsSigned w32 n.exponent = search rules in
-    shown_text c.args.self.now.decimal minus n.negative n.digits.now n.exponent (to_z w32 (of_z w32 n.exponent)) n.point
-    c.stripped-number.ensures (to_z-of_z w32 n.exponent fits) n.stripped.stripped (grind arith) branch
+    shown_text n _ minus _ c.stripped-number.ensures (to_z-of_z w32 n.exponent fits) (grind arith) branch
 
 pub returns-then-number-2-clause-writes : goal.returns-then-number-2-clause-writes
 returns-then-number-2-clause-writes g c = λ p ok.
