@@ -1,5 +1,5 @@
 -- Worked examples, by computation.
-use Rattle.std.proofs.Common.{◌≡◌, ℕ, true, false, List, [], ◌∷◌, map, refl, inl, inr, arith}
+use Rattle.std.proofs.Common.{◌≡◌, true, false, List, [], ◌∷◌, map, refl, inl, inr, arith}
 use Rattle.ijson_number.specs.Grammar.{Spells}
 use Rattle.std.specs.Prelude.{ℤ, pos, negsuc, neg_ℤ, codes}
 use Rattle.std.specs.declared.cmp.Ordering.TheVariants.{Less, Equal, Greater}

@@ -1,17 +1,15 @@
 -- Comparing lists of digits.
-use Rattle.std.proofs.Common.{◌≡◌, ◌≢◌, ℕ, zero, suc, ◌+◌, ◌<◌, min, Bool, List, [], ◌∷◌, length}
+use Rattle.std.proofs.Common.{◌≡◌, ◌≢◌, ℕ, zero, suc, ◌+◌, ◌<◌, min, List, [], ◌∷◌, length}
 use Rattle.std.proofs.Common.{get_or, drop, add-one, refl, ap, sym, subst, ◌∙◌, arith}
-use Rattle.std.specs.Prelude.{ℤ, pos, nat_abs}
-use Rattle.std.specs.Int.Digits.{number_from_digits, digits_of}
+use Rattle.std.specs.Prelude.{pos, nat_abs}
+use Rattle.std.specs.Int.Digits.{digits_of}
 use Rattle.std.specs.Cmp.Lexicographic.{slice_cmp}
-use Rattle.std.specs.declared.cmp.Ordering.{Ordering}
-use Rattle.std.specs.Ordering.{nat_cmp, ordering_then}
+use Rattle.std.specs.Ordering.{nat_cmp}
 use Rattle.std.proofs.Math.Seq.{drop-cons}
 use Rattle.std.proofs.lemmas.Bool.Decides.{nat_tests}
 use Rattle.std.proofs.lemmas.List.{drop_all}
 use Rattle.std.specs.Cmp.{nat_cmp_total, tied_itself}
 use Rattle.ijson_number.specs.Decimal.{Decimal, IsPlain}
-use Rattle.ijson_number.specs.StoredNumber.{stored_number}
 use Rattle.ijson_number.specs.declared.repr.stripped.StrippedNumber.{StrippedNumber}
 use Rattle.ijson_number.specs.private.StrippedNumber.{decimal_of}
 use Rattle.ijson_number.specs.private.Stripped.{IsStripped}

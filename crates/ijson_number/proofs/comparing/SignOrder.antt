@@ -12,7 +12,6 @@ use Rattle.ijson_number.specs.Decimal.{Decimal}
 use Rattle.ijson_number.specs.Num.{Num}
 use Rattle.ijson_number.specs.StrippedDigits.{stripped_digits}
 use Rattle.ijson_number.specs.private.MagnitudeOrder.{magnitude_cmp}
-use Rattle.ijson_number.proofs.BooleanTests.{not_lt}
 use Rattle.ijson_number.specs.StoredNumber.{stored_number}
 use Rattle.ijson_number.specs.private.StoredNumber.{IsStored}
 use Rattle.ijson_number.specs.Order.{number_cmp, at_exponent}

@@ -1,6 +1,6 @@
 -- Integers of 64 bits, and their forms.
 use Rattle.std.proofs.Common.{◌≡◌, ◌≢◌, ℕ, ◌*◌, ◌%◌, ◌^◌, ◌<◌, Bool, true, false, [], refl, ap, sym, subst, ◌∙◌, inl, inr, arith}
-use Rattle.std.specs.Prelude.{ℤ, pos, negsuc, neg_ℤ, nat_abs, int_le, int_lt, ◌+ℤ◌, ◌<ℤ◌, FitsSigned}
+use Rattle.std.specs.Prelude.{ℤ, pos, neg_ℤ, nat_abs, int_le, int_lt, ◌+ℤ◌, ◌<ℤ◌, FitsSigned}
 use mir.Syntax.{w64}
 use Rattle.std.specs.Int.Digits.{number_from_digits, digits_of}
 use Rattle.std.proofs.lemmas.Int.{ints}
@@ -18,7 +18,6 @@ use Rattle.ijson_number.specs.Num.{IsNum}
 use Rattle.ijson_number.specs.Strips.{signed}
 use Rattle.ijson_number.specs.laws.Tens.{int_tens, abs_signed, zero_or_not}
 use Rattle.ijson_number.proofs.storing.FormNumbers.{IsTensOut, tens_out_is, tens_out_zero, sign_and_magnitude, not_zero, form_has}
-use Rattle.ijson_number.proofs.parsing.Denotes.{same_decimal}
 use Rattle.ijson_number.proofs.BooleanTests.{abs_zero, le_test}
 use Rattle.ijson_number.proofs.storing.WholeValues.{tens_few, whole_stripped, value_from, value_is, whole_num, whole_value}
 use Rattle.ijson_number.proofs.writing.Writing.{below_zero}

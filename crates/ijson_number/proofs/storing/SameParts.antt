@@ -15,7 +15,6 @@ use Rattle.ijson_number.specs.declared.repr.stripped.StrippedNumber.{StrippedNum
 use Rattle.ijson_number.specs.private.StrippedNumber.{decimal_of}
 use Rattle.ijson_number.specs.Strips.{signed}
 use Rattle.ijson_number.specs.StrippedDigits.{digits_within}
-use Rattle.ijson_number.specs.StoredNumber.{stored_number}
 use Rattle.ijson_number.specs.private.StoredNumber.{IsStored}
 use Rattle.ijson_number.specs.Order.{number_eq}
 use Rattle.ijson_number.specs.laws.Ordered.{equal_same, same_equal, tests_equal}

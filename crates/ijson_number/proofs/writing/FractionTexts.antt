@@ -9,7 +9,7 @@ use Rattle.std.proofs.lemmas.List.{length_push}
 use Rattle.std.specs.Fmt.{decimal}
 use Rattle.std.specs.Int.Digits.{digits_of}
 use Rattle.ijson_number.specs.Decimal.{Decimal}
-use Rattle.ijson_number.specs.Form.{FormOf, packed, digits_form, integer_form, fits_packed, smallest_packed, form_of}
+use Rattle.ijson_number.specs.Form.{FormOf, packed, digits_form, fits_packed, smallest_packed, form_of}
 use Rattle.ijson_number.specs.Text.{float_text, minus_text, num_text}
 use Rattle.ijson_number.specs.Stripped.{tens_out, stripped_number}
 use Rattle.ijson_number.specs.StoredNumber.{stored_number}
@@ -17,7 +17,7 @@ use Rattle.ijson_number.specs.private.WordText.{pointed_text}
 use Rattle.ijson_number.specs.laws.Tens.{ten_pos}
 use Rattle.ijson_number.proofs.storing.Significands.{fraction_form}
 use Rattle.ijson_number.proofs.storing.WholeValues.{sign_cases}
-use Rattle.ijson_number.proofs.storing.IntegerWords.{below_test, zero_is, some_stored, tens_are, without_tens}
+use Rattle.ijson_number.proofs.storing.IntegerWords.{zero_is, some_stored, tens_are, without_tens}
 use Rattle.ijson_number.proofs.BooleanTests.{abs_zero, le_test, test_le, not_le, not_lt}
 use Rattle.ijson_number.proofs.writing.Writing.{stored_text}
 use Rattle.ijson_number.proofs.writing.WordTexts.{count_is, fraction_is}

@@ -4,7 +4,7 @@ use Rattle.std.proofs.Common.{[], ◌∷◌, ◌++◌, length, refl, sym, ap, �
 use Rattle.std.proofs.lemmas.Bool.{cases_lt}
 use Rattle.std.proofs.lemmas.Fmt.{decimal_digit, decimal_nonempty, first_decimal, length-decimal-le}
 use Rattle.std.proofs.lemmas.List.{append-nil, get_or_append_left, get_or-replicate, get_or-take, length-drop}
-use Rattle.std.proofs.lemmas.List.{length-replicate, replicate_more, take_all, take_at, drop_at}
+use Rattle.std.proofs.lemmas.List.{length-replicate, take_all, take_at, drop_at}
 use Rattle.std.proofs.Math.Nat.{pow-succ'}
 use Rattle.std.specs.Fmt.{decimal}
 use native.Mathlib.Nat.{add-mul-div_left, div-div-eq-div-mul, div-le_self, div-lt_iff_lt-mul}

@@ -9,14 +9,13 @@ use Rattle.std.proofs.lemmas.List.{map-append}
 use Rattle.std.proofs.lemmas.Int.Digits.{digits_of_step}
 use Rattle.std.specs.Fmt.{decimal, signed_decimal}
 use Rattle.std.specs.Int.Digits.{digits_of, number_from_digits}
-use Rattle.ijson_number.specs.Text.{whole_text, digits_text, scientific_text, point_text, shape_text, minus_text, zero_text, num_text}
+use Rattle.ijson_number.specs.Text.{whole_text, digits_text, scientific_text, point_text, shape_text, minus_text, num_text}
 use Rattle.ijson_number.proofs.storing.DigitsOf.{digits_are, stored_digits_are}
 use Rattle.ijson_number.specs.Decimal.{Decimal}
 use Rattle.ijson_number.specs.Strips.{signed}
 use Rattle.ijson_number.specs.StoredNumber.{stored_number}
 use Rattle.ijson_number.specs.declared.repr.stripped.StrippedNumber.{StrippedNumber}
 use Rattle.ijson_number.specs.private.StrippedNumber.{decimal_of}
-use Rattle.ijson_number.specs.StrippedDigits.{stripped_digits}
 use Rattle.ijson_number.specs.private.Stripped.{IsStripped}
 use Rattle.ijson_number.proofs.parsing.Denotes.{stripped_mod}
 use Rattle.ijson_number.specs.laws.Tens.{abs_signed}

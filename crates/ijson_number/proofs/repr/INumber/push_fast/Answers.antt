@@ -1,4 +1,4 @@
-use Rattle.std.proofs.Common.{◌≡◌, ◌^◌, ◌<◌, ◌∙◌, Bool, false, true, List, length, ℕ, ℤ, inl, inr, ap, sym, refl, string_bytes, rules, arith}
+use Rattle.std.proofs.Common.{◌≡◌, ◌^◌, ◌<◌, ◌∙◌, false, true, length, inl, inr, ap, sym, rules, arith}
 use Rattle.std.specs.Prelude.{nat_abs, FitsSigned}
 use Rattle.std.proofs.lemmas.Int.{to_z-of_z}
 use mir.Syntax.{w64}
@@ -12,7 +12,6 @@ use Rattle.ijson_number.specs.declared.repr.stored.ShortNumber.{ShortNumber}
 use Rattle.ijson_number.specs.private.RowText.{IsRowText, IsShortInRows}
 use Rattle.ijson_number.specs.private.ShortDigits.{short_digits}
 use Rattle.ijson_number.specs.private.Stored.{short_form, stored_decimal, stored_form}
-use Rattle.ijson_number.specs.private.Stripped.{IsStripped}
 use Rattle.ijson_number.specs.private.StrippedNumber.{decimal_of}
 use Rattle.ijson_number.specs.private.WordText.{integer_text}
 use Rattle.ijson_number.specs.Text.{num_text}

@@ -1,4 +1,4 @@
-use Rattle.std.proofs.Common.{◌≡◌, ◌≢◌, ◌%◌, ◌-◌, ◌<◌, ◌^◌, ◌++◌, ◌∙◌, ap, sym, arith, rules, append-nil}
+use Rattle.std.proofs.Common.{◌≡◌, ◌<◌, ◌^◌, ◌++◌, ◌∙◌, ap, sym, arith, rules, append-nil}
 use Rattle.std.specs.Prelude.{pos, true, FitsSigned}
 use Rattle.std.specs.Fmt.{decimal}
 use Rattle.std.specs.String.{string_bytes}

@@ -1,8 +1,8 @@
-use Rattle.std.proofs.Common.{◌≡◌, ◌<◌, ◌+◌, Bool, true, false, length, refl, ap, arith, rules}
+use Rattle.std.proofs.Common.{◌≡◌, ◌<◌, ◌+◌, Bool, true, false, length, refl, arith, rules}
 use Rattle.std.specs.Prelude.{ℤ, pos, nat_abs, ◌+ℤ◌, FitsSigned, if◌then◌else◌}
 use Rattle.std.proofs.lemmas.Grind.{common_steps, flat_map-append, fold-append}
 use Rattle.std.proofs.lemmas.List.{take_all}
-use Rattle.std.proofs.lemmas.Int.{ints, to_z-of_z}
+use Rattle.std.proofs.lemmas.Int.{ints}
 use mir.Syntax.{w32, w64}
 use mir.Val.{bool_byte, of_z, to_z}
 use Rattle.ijson_number.proofs.StoredWords.{zero_words, stored_words}

@@ -1,4 +1,4 @@
-use Rattle.std.proofs.Common.{inl, inr, ◌≡◌, ◌∙◌, ap, refl, true, false, string_bytes, arith, rules}
+use Rattle.std.proofs.Common.{inl, inr, ◌≡◌, ◌∙◌, ap, true, arith, rules}
 use Rattle.std.specs.Prelude.{nat_abs, FitsSigned}
 use Rattle.std.proofs.lemmas.Int.{to_z-of_z}
 use Rattle.std.proofs.lemmas.Grind.{common_steps}

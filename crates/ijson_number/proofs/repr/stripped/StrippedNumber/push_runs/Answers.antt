@@ -1,7 +1,5 @@
-use Rattle.std.proofs.Common.{◌+◌, ◌<◌, ◌++◌, ◌∙◌, List, ℕ, ap, sym, rules, append_assoc, string_bytes}
+use Rattle.std.proofs.Common.{◌<◌, ◌++◌, ◌∙◌, rules, append_assoc, string_bytes}
 use Rattle.std.specs.Slice.Iter.{chunks_rest}
-use Rattle.std.proofs.lemmas.List.{map-append}
-use Rattle.ijson_number.specs.Text.{digits_text}
 use Rattle.ijson_number.proofs.AnyAnswer.{where_refused}
 use Rattle.ijson_number.proofs.writing.Beginnings.{some_begun}
 use Rattle.ijson_number.proofs.writing.StrippedTexts.{front_too, back_too, run_more}

@@ -1,10 +1,8 @@
-use Rattle.std.proofs.Common.{inl, inr, ◌≡◌, ◌<◌, false, ◌∙◌, ap, ap₂, sym, refl, length, string_bytes, arith, rules}
+use Rattle.std.proofs.Common.{inl, inr, ◌≡◌, ◌<◌, false, ◌∙◌, ap, ap₂, sym, length, arith, rules}
 use Rattle.std.specs.Prelude.{ℤ, FitsSigned, pos, ◌≤ℤ◌, ◌+ℤ◌, ◌||◌, int_le, int_lt, negsuc}
 use Rattle.std.proofs.lemmas.Int.{ints, to_z-of_z}
 use Rattle.std.proofs.lemmas.Grind.{common_steps}
 use mir.Syntax.{w32, w128}
-use Rattle.ijson_number.specs.Text.{num_text}
-use Rattle.ijson_number.specs.private.StrippedNumber.{decimal_of}
 use Rattle.ijson_number.proofs.writing.SplitTexts.{fraction_shown}
 use Rattle.ijson_number.proofs.repr.stripped.StrippedNumber.push_unsplit.Goals as goal
 

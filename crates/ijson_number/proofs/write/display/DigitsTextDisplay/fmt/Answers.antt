@@ -1,8 +1,6 @@
-use Rattle.std.proofs.Common.{◌+◌, ◌<◌, ◌++◌, ◌∙◌, List, ℕ, ap, refl, sym, rules, append_assoc}
+use Rattle.std.proofs.Common.{◌<◌, ◌++◌, ◌∙◌, refl, rules}
 use Rattle.std.specs.Slice.Iter.{chunks_rest}
 use Rattle.std.proofs.lemmas.Grind.{put_two}
-use Rattle.std.proofs.lemmas.List.{map-append}
-use Rattle.ijson_number.specs.Text.{digits_text}
 use Rattle.ijson_number.proofs.writing.StrippedTexts.{front_too, back_too, run_more}
 use Rattle.ijson_number.proofs.write.display.DigitsTextDisplay.fmt.Goals as goal
 
