@@ -14,7 +14,7 @@ use Rattle.ijson_table.specs.private.Probe.{onward}
 use Rattle.ijson_table.specs.private.SlotHashes.{blank, position_in, positions, HasHash}
 use Rattle.ijson_table.proofs.arithmetic.Circular.{after-injective, after-onward, onward-below}
 use Rattle.ijson_table.proofs.probing.ProbePath.{displacement-none}
-use Rattle.ijson_table.proofs.shifting.SlotWrites.{put_down, displacement-set_some}
+use Rattle.ijson_table.proofs.shifting.SlotWrites.{put_down, displacement-set_same}
 use Rattle.ijson_table.proofs.slots.HashesInSlots.{positions-length, position-at}
 use Rattle.ijson_table.proofs.shifting.Removal.{holds_none, times-none}
 use Rattle.ijson_table.proofs.slots.Residents.{times-nil, times-more}
@@ -165,7 +165,7 @@ module _ (hashes : List ℕ) (first : ℕ) (entries : List Slot) (next step i : 
             arith,
             ap (λ m. displacement hashes slots' (onward m first (steps + 1 - 1))) size,
             ap (λ m. displacement hashes slots' (onward n first m)) last,
-            displacement-set_some hashes slots (onward n first steps) i there,
+            displacement-set_same hashes slots (onward n first steps) (Some i) there,
             distance-is,
             ap (λ m. behind m first (get_or entries k blank)) size,
             room.ordered step k (omega arith) lk,

@@ -117,37 +117,23 @@ module _ {V : Type 0} where
     keys-length pairs,
   )
 
-  -- the last key takes the index of the removed one
-  pub swapped-same : (pairs : List (List ℕ × V)) (i : ℕ) → i + 1 < length pairs
-      → get_or (keys_of (swap_out pairs i)) i [] ≡ get_or (keys_of pairs) (length pairs - 1) []
-  swapped-same pairs i li =
-      let inside : i < length (keys_of pairs) = omega (arith, keys-length pairs) in
-      ap (λ ks. get_or ks i []) (keys-swap_out pairs i (omega arith))
-      ∙ (get_or-take (length pairs - 1) (set (keys_of pairs) i (get_or (keys_of pairs) (length pairs - 1) [])) i [] (omega arith)
-      ∙ get_or-set_same (keys_of pairs) i (get_or (keys_of pairs) (length pairs - 1) []) [] inside)
-
-  -- the other keys keep their indices
-  pub swapped-other : (pairs : List (List ℕ × V)) (i j : ℕ) → i < length pairs → j + 1 < length pairs → j ≢ i
-      → get_or (keys_of (swap_out pairs i)) j [] ≡ get_or (keys_of pairs) j []
-  swapped-other pairs i j li lj ne =
-      ap (λ ks. get_or ks j []) (keys-swap_out pairs i li)
-      ∙ (get_or-take (length pairs - 1) (set (keys_of pairs) i (get_or (keys_of pairs) (length pairs - 1) [])) j [] (omega arith)
-      ∙ get_or-set_other (keys_of pairs) i j (get_or (keys_of pairs) (length pairs - 1) []) [] ne)
-
-  -- the old index of each remaining key
+  -- the old index of each remaining key: the last one takes the index of the removed one
   came_from : (pairs : List (List ℕ × V)) (i j : ℕ) → i < length pairs → j + 1 < length pairs
       → (k : ℕ) × (k < length pairs) × (get_or (keys_of (swap_out pairs i)) j [] ≡ get_or (keys_of pairs) k []) ×
       (((j ≡ i) × (k + 1 ≡ length pairs)) ⊎ ((j ≢ i) × (k ≡ j)))
-  came_from pairs i j li lj = elim (cases_eq j i) [
-    | inl e ↦ (
-      length pairs - 1,
-      omega arith,
-      ap (λ n. get_or (keys_of (swap_out pairs i)) n []) e
-          ∙ swapped-same pairs i (omega arith),
-      inl (e, omega arith),
-    )
-    | inr ne ↦ (j, omega arith, swapped-other pairs i j li lj ne, inr (ne, refl))
-  ]
+  came_from pairs i j li lj =
+      let keys = keys_of pairs in
+      let last : List ℕ = get_or keys (length pairs - 1) [] in
+      let read = ap (λ ks. get_or ks j []) (keys-swap_out pairs i li) ∙ get_or-take (length pairs - 1) (set keys i last) j [] (omega arith) in
+      elim (cases_eq j i) [
+        | inl e ↦ (
+          length pairs - 1,
+          omega arith,
+          read ∙ (ap (λ n. get_or (set keys i last) n []) e ∙ get_or-set_same keys i last [] (omega (arith, keys-length pairs))),
+          inl (e, omega arith),
+        )
+        | inr ne ↦ (j, omega arith, read ∙ get_or-set_other keys i j last [] ne, inr (ne, refl))
+      ]
 
   -- and they are distinct
   pub distinct_swapped : (pairs : List (List ℕ × V)) (i : ℕ) → IsDistinct (keys_of pairs) → i < length pairs

@@ -1,6 +1,7 @@
 -- Inspections of a slot for the key sought.
 use Rattle.std.proofs.Common.{◌≡◌, ◌≢◌, ℕ, ◌+◌, ◌<◌, ◌&&◌, inl, inr, arith, Bool, true, false, eqb, List, [], length, map, get_or, Option}
 use Rattle.std.proofs.Common.{Some, refl, sym, ap, subst, ◌∙◌, ◌↔◌, IsTrue}
+use Rattle.std.specs.Cmp.Lexicographic.{bytes_decides}
 use Rattle.std.specs.Str.{bytes_eq}
 use Rattle.std.proofs.lemmas.Bool.Decides.{nat_tests}
 use Rattle.std.proofs.lemmas.List.{get_or-map}
@@ -50,19 +51,11 @@ pub record Seeks (keys : List (List ℕ)) (key : List ℕ) (seeks : ℕ → Bool
 
 -- a key that passes the test is the one
 is_key-true : (keys : List (List ℕ)) (key : List ℕ) (i : ℕ) → is_key keys key i ≡ true → get_or keys i [] ≡ key
-is_key-true keys key i e = elim (same_key (get_or keys i []) key) [
-  | inl yes_it ↦ yes_it.1
-  | inr no_it ↦ let bad = no_it.0 in
-      absurd (cc (bad, e))
-]
+is_key-true keys key i = (bytes_decides (get_or keys i []) key).0
 
 -- and one that fails it is not
 is_key-false : (keys : List (List ℕ)) (key : List ℕ) (i : ℕ) → is_key keys key i ≡ false → get_or keys i [] ≢ key
-is_key-false keys key i e same = elim (same_key (get_or keys i []) key) [
-  | inl yes_it ↦ let bad = yes_it.0 in
-      absurd (cc (bad, e))
-  | inr no_it ↦ no_it.1 same
-]
+is_key-false keys key i e same = let yes_it = (bytes_decides (get_or keys i []) key).1 same in absurd (cc (yes_it, e))
 
 pub is_key-seeks : (keys : List (List ℕ)) (key : List ℕ) → Seeks keys key (is_key keys key)
 is_key-seeks keys key = record { yes_it_is = λ i li. is_key-true keys key i; no_it_is = λ i li. is_key-false keys key i }

@@ -10,7 +10,7 @@ use Rattle.ijson_table.proofs.arithmetic.Circular.{after-below, after-injective,
 use Rattle.ijson_table.proofs.slots.Residents.{times-set}
 use Rattle.ijson_table.proofs.probing.ProbePath.{displacement-some, displacement-none}
 use Rattle.ijson_table.proofs.probing.CrowdBound.{home-below}
-use Rattle.ijson_table.proofs.shifting.SlotWrites.{displacement-set_other, displacement-set_some, displacement-set_none}
+use Rattle.ijson_table.proofs.shifting.SlotWrites.{displacement-set_other, displacement-set_same}
 
 -- a resident is removed
 pub gap_from : (hashes : List ℕ) (slots : List (Option ℕ)) (p : ℕ) → p < length slots → IsOrdered hashes slots
@@ -19,7 +19,7 @@ gap_from hashes slots p lp ordered =
     let n : ℕ = length slots in
     let slots' : List (Option ℕ) = set slots p None in
     let size : length slots' ≡ n = length-set slots p None in
-    let zeroed : displacement hashes slots' p ≡ 0 = displacement-set_none hashes slots p lp in
+    let zeroed : displacement hashes slots' p ≡ 0 = displacement-set_same hashes slots p None lp in
     let less : (q : ℕ) → displacement hashes slots' q ≤ displacement hashes slots q = λ q. elim (cases_eq q p) [
       | inl self ↦ omega (arith, zeroed, ap (displacement hashes slots') self)
       | inr other ↦ omega (arith, displacement-set_other hashes slots p q None other)
@@ -121,11 +121,11 @@ module _ (hashes : List ℕ) (slots : List (Option ℕ)) (p k : ℕ) (lp : p < l
 
   -- the slot that it moved to
   at_mid : displacement hashes mid p ≡ distance n (home_at n hashes k) p + 1
-  at_mid = displacement-set_some hashes slots p k lp
+  at_mid = displacement-set_same hashes slots p (Some k) lp
 
   -- and the slot that it left
   at_last : displacement hashes last p' ≡ 0
-  at_last = displacement-set_none hashes mid p' (omega (arith, size_mid, behind_within))
+  at_last = displacement-set_same hashes mid p' None (omega (arith, size_mid, behind_within))
 
   -- then the order is relaxed at the next slot
   pub moved_back : HasGap hashes slots p → HasGap hashes last p'

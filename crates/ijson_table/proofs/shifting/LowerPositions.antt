@@ -16,7 +16,7 @@ use Rattle.ijson_table.specs.private.Insertion.{IsTableOf}
 use Rattle.ijson_table.specs.private.SlotHashes.{blank, coded_position, position_in, positions, HasHash, HaveHashes}
 use Rattle.ijson_table.proofs.slots.HashesInSlots.{positions-length, position-at, hashes-at}
 use Rattle.ijson_table.proofs.shifting.Removal.{not_pending}
-use Rattle.ijson_table.proofs.slots.Residents.{one_if-other, one_if-same, times-cons, times-nil}
+use Rattle.ijson_table.proofs.slots.Residents.{one_if-same, times-cons, times-nil}
 use Rattle.ijson_table.proofs.arithmetic.Circular.{after-below}
 use Rattle.ijson_table.proofs.shifting.ListShiftOut.{raise, get_or-remove}
 
@@ -106,13 +106,7 @@ module _ (hashes : List ℕ) (gone : ℕ) (within : gone < length hashes) where
               ap (λ n. displacement (remove hashes gone) (map (lowered gone) os) (after n p)) size,
             );
         placed = λ i.
-            let other : raise gone i ≢ gone = grind (arith, nat_tests) in
-            let moved = times-lowered gone i os away in
-            let there = held.placed (raise gone i) in
-            let none = one_if-other (raise gone i) gone other in
-            let kept : below (length hashes) (raise gone i) ≡ below (length (remove hashes gone)) i =
-            grind (arith, nat_tests, fewer, within) in
-            omega (arith, moved, there, none, kept);
+            grind (arith, nat_tests, times-lowered gone i os away, held.placed (raise gone i), fewer, within);
       }
 
   -- a lowered slot has the hash of its index

@@ -11,10 +11,10 @@ use Rattle.std.proofs.lemmas.Bool.{cases_eq, cases_lt}
 use Rattle.ijson_table.specs.private.Holds.{one_if, Holds}
 use Rattle.ijson_table.specs.Slots.{after, displacement, resident, home_at, times, IsTable, displaced, below}
 use Rattle.ijson_table.proofs.arithmetic.Circular.{after-below}
-use Rattle.ijson_table.proofs.slots.Residents.{stands, stands_once, one_if-same, one_if-other, times-set, times-some}
+use Rattle.ijson_table.proofs.slots.Residents.{stands, stands_once, times-set, times-some}
 use Rattle.ijson_table.proofs.shifting.ListSwapRemove.{length-swap_remove, swap_remove-same, swap_remove-other}
 use Rattle.ijson_table.proofs.shifting.Insertion.{held_below}
-use Rattle.ijson_table.proofs.shifting.SlotWrites.{displacement-set_some, displacement-set_other}
+use Rattle.ijson_table.proofs.shifting.SlotWrites.{displacement-set_same, displacement-set_other}
 use Rattle.ijson_table.proofs.probing.ProbePath.{displacement-some, displacement-none}
 
 -- a table holds all indices, with none pending
@@ -30,17 +30,13 @@ table-holds hashes count slots is held = record { ordered = held.ordered; placed
 pub stands_still : (hashes : List ℕ) (count gone : ℕ) (slots : List (Option ℕ)) → Holds hashes (below count) (Some gone) slots → (i : ℕ)
     → i < count → i ≢ gone → (p : ℕ) × (p < length slots) × (resident slots p ≡ Some i)
 stands_still hashes count gone slots held i li ne =
-    let none : one_if i (Some gone) ≡ 0 = one_if-other i gone ne in
-    let one : times i slots ≡ 1 = grind (arith, nat_tests, held.placed i, none) in
+    let one : times i slots ≡ 1 = grind (arith, nat_tests, held.placed i) in
     stands i slots (omega arith)
 
 -- a resident is not the pending one
 pub not_pending : (hashes : List ℕ) (count gone : ℕ) (slots : List (Option ℕ)) → Holds hashes (below count) (Some gone) slots → (p k : ℕ)
     → p < length slots → resident slots p ≡ Some k → k ≢ gone
-not_pending hashes count gone slots held p k lp e = λ same.
-    let one : one_if k (Some gone) ≡ 1 = ap (λ x. one_if k (Some x)) (sym same) ∙ one_if-same k in
-    let some = times-some k slots p lp e in
-    grind (arith, nat_tests, held.placed k, one, some)
+not_pending hashes count gone slots held p k lp e = λ same. grind (arith, nat_tests, held.placed k, times-some k slots p lp e)
 
 -- no index is in two slots
 pub held_once : (hashes : List ℕ) (count : ℕ) (pending : Option ℕ) (slots : List (Option ℕ)) → Holds hashes (below count) pending slots
@@ -100,11 +96,7 @@ module _ (hashes : List ℕ) (slots : List (Option ℕ)) where
       (λ p k lp e. get_or-remove_below hashes i 0 k (apart p k lp e) (omega arith)) in
       record {
         ordered = now.ordered;
-        placed = λ k. elim (cases_eq k i) [
-          | inl same ↦ let one : one_if k (Some i) ≡ 1 = ap (λ x. one_if k (Some x)) (sym same) ∙ one_if-same k in
-              grind (arith, nat_tests, held.placed k, one, size)
-          | inr other ↦ let none : one_if k (Some i) ≡ 0 = one_if-other k i other in grind (arith, nat_tests, held.placed k, none, size)
-        ];
+        placed = λ k. grind (arith, nat_tests, held.placed k, size);
       }
 
   -- another was removed, and the last one, at slot p, gets its number
@@ -118,11 +110,10 @@ module _ (hashes : List ℕ) (slots : List (Option ℕ)) where
       let size : length hashes' + 1 ≡ length hashes = length-swap_remove hashes i (omega arith) in
       let moved : get_or hashes' i 0 ≡ get_or hashes last 0 =
       swap_remove-same hashes i (omega arith) ∙ ap (λ x. get_or hashes x 0) (omega arith) in
-      let one_last : times last slots ≡ 1 = let none : one_if last (Some i) ≡ 0 = one_if-other last i (λ e. omega arith) in
-      grind (arith, nat_tests, held.placed last, none) in
+      let one_last : times last slots ≡ 1 = grind (arith, nat_tests, held.placed last) in
       let reached : (q : ℕ) → q < n → displacement hashes' slots' q ≡ displacement hashes slots q = λ q lq. elim (cases_eq q p) [
         | inl self ↦
-            let a : displacement hashes' slots' p ≡ distance n (home_at n hashes' i) p + 1 = displacement-set_some hashes' slots p i lp in
+            let a : displacement hashes' slots' p ≡ distance n (home_at n hashes' i) p + 1 = displacement-set_same hashes' slots p (Some i) lp in
             let b : displacement hashes slots p ≡ distance n (home_at n hashes last) p + 1 = displacement-some hashes slots p last there in
             let c : home_at n hashes' i ≡ home_at n hashes last = home-as n hashes hashes' i last moved in
             omega (arith, a, b, ap (λ x. distance n x p) c, ap (displacement hashes' slots') self, ap (displacement hashes slots) self)
@@ -145,25 +136,7 @@ module _ (hashes : List ℕ) (slots : List (Option ℕ)) where
               ap
                   (λ s. displacement hashes' slots' (after s q)) fits,
             );
-        placed = λ k.
-            let moves = times-set k slots p (Some i) lp in
-            let was = ap (one_if k) there in
-            elim (cases_eq k i) [
-              | inl same ↦
-                  let one : one_if k (Some i) ≡ 1 = ap (λ x. one_if k (Some x)) (sym same) ∙ one_if-same k in
-                  let none : one_if k (Some last) ≡ 0 = one_if-other k last (λ e. omega arith) in
-                  grind (arith, nat_tests, held.placed k, one, none, moves, was, size)
-              | inr other ↦
-                  let none : one_if k (Some i) ≡ 0 = one_if-other k i other in
-                  elim (cases_eq k last) [
-                    | inl at_last ↦
-                        let one : one_if k (Some last) ≡ 1 = ap (λ x. one_if k (Some x)) (sym at_last) ∙ one_if-same k in
-                        grind (arith, nat_tests, held.placed k, one, none, moves, was, size)
-                    | inr off ↦
-                        let none' : one_if k (Some last) ≡ 0 = one_if-other k last off in
-                        grind (arith, nat_tests, held.placed k, none', none, moves, was, size)
-                  ]
-            ];
+        placed = λ k. grind (arith, nat_tests, held.placed k, times-set k slots p (Some i) lp, ap (one_if k) there, size);
       }
 
 -- an index in no slot is not counted

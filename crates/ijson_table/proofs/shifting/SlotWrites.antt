@@ -15,7 +15,7 @@ use Rattle.ijson_table.proofs.probing.CrowdBound.{home-below}
 
 module _ (hashes : List ℕ) (slots : List (Option ℕ)) where
   -- a slot that is written is displaced by the index written
-  displacement-set_same : (p : ℕ) (o : Option ℕ) → p < length slots
+  pub displacement-set_same : (p : ℕ) (o : Option ℕ) → p < length slots
       → displacement hashes (set slots p o) p ≡ displaced (length slots) hashes p o
   unfolding displacement
   displacement-set_same p o lp = ap (λ n. displaced n hashes p (resident (set slots p o) p)) (length-set slots p o)
@@ -26,15 +26,6 @@ module _ (hashes : List ℕ) (slots : List (Option ℕ)) where
   unfolding displacement
   displacement-set_other p q o ne = ap (λ n. displaced n hashes q (resident (set slots p o) q)) (length-set slots p o)
       ∙ ap (displaced (length slots) hashes q) (get_or-set_other slots p q o None ne)
-
-  -- an index that is written is displaced from its own home slot
-  pub displacement-set_some : (p k : ℕ) → p < length slots
-      → displacement hashes (set slots p (Some k)) p ≡ distance (length slots) (home_at (length slots) hashes k) p + 1
-  displacement-set_some p k lp = displacement-set_same p (Some k) lp
-
-  -- a slot that is emptied is not displaced
-  pub displacement-set_none : (p : ℕ) → p < length slots → displacement hashes (set slots p None) p ≡ 0
-  displacement-set_none p lp = displacement-set_same p None lp
 
 -- a slot may be written with a greater displacement, if it is at most one more than that of the previous slot
 raised : (hashes : List ℕ) (slots : List (Option ℕ)) (p : ℕ) (o : Option ℕ) → p < length slots → IsOrdered hashes slots
@@ -77,7 +68,7 @@ pub put_down : (hashes : List ℕ) (wanted : ℕ → ℕ) (slots : List (Option 
     → MayStand hashes slots k p → Holds hashes wanted (resident slots p) (set slots p (Some k))
 put_down hashes wanted slots k p lp held may =
     let now : displacement hashes (set slots p (Some k)) p ≡ distance (length slots) (home_at (length slots) hashes k) p + 1 =
-    displacement-set_some hashes slots p k lp in
+    displacement-set_same hashes slots p (Some k) lp in
     record {
       ordered = raised hashes slots p (Some k) lp held.ordered (omega (arith, may.further, now))
           (λ q lq at. omega (arith, may.led_to q lq at, now));
@@ -105,7 +96,7 @@ taken_up hashes slots k j p e lp le ordered none there less =
     let next : distance n (home_at n hashes j) (after n p) ≡ distance n (home_at n hashes j) p + 1 =
     distance-after n (home_at n hashes j) p (home-below n hashes j (omega arith)) lp short in
     let put : displacement hashes (set slots p (Some k)) p ≡ distance n (home_at n hashes k) p + 1 =
-    displacement-set_some hashes slots p k lp in
+    displacement-set_same hashes slots p (Some k) lp in
     let apart : after n p ≢ p = λ same.
     let zero_or : displacement hashes slots (after n p) ≤ displacement hashes slots p + 1 = ordered p lp in
     apart_of n e p lp le same (λ eq. omega (arith, ap (displacement hashes slots) eq)) in

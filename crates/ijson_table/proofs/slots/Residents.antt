@@ -1,27 +1,20 @@
 -- Residents of slots.
 use Rattle.std.proofs.Common.{◌≡◌, ◌≢◌, ℕ, suc, ◌+◌, ◌<◌, ◌≤◌, arith, List, [], ◌∷◌, length, set, take, drop, zero, Option, Some, None}
-use Rattle.std.proofs.Common.{cond, true, false, eqb, refl, ap, ◌∙◌, get_or-set_other}
+use Rattle.std.proofs.Common.{inl, inr, refl, sym, ap, ◌∙◌, get_or-set_other}
 use Rattle.std.proofs.lemmas.List.{length-set}
+use Rattle.std.proofs.lemmas.Bool.{cases_eq, cases_lt}
 use Rattle.std.proofs.lemmas.Bool.Decides.{nat_tests}
 use Rattle.std.proofs.lemmas.List.Sums.{sum_by-cons, sum_by-set, get_or-le-sum_by}
 use Rattle.ijson_table.specs.private.Holds.{one_if}
-use Rattle.ijson_table.specs.Slots.{resident, holds, times}
-
--- a slot holds its resident
-holds-same : (i : ℕ) → holds i (Some i) ≡ true
-holds-same i = grind (arith, nat_tests)
-
--- and no other
-holds-other : (i j : ℕ) → i ≢ j → holds i (Some j) ≡ false
-holds-other i j ne = grind (arith, nat_tests)
+use Rattle.ijson_table.specs.Slots.{resident, times}
 
 -- an index is counted at its slot
 pub one_if-same : (i : ℕ) → one_if i (Some i) ≡ 1
-one_if-same i = ap (λ b. cond b 1 0) (holds-same i)
+one_if-same i = grind (arith, nat_tests)
 
 -- and not at that of another
 pub one_if-other : (i j : ℕ) → i ≢ j → one_if i (Some j) ≡ 0
-one_if-other i j ne = ap (λ b. cond b 1 0) (holds-other i j ne)
+one_if-other i j ne = grind (arith, nat_tests)
 
 -- a slot with this index counts one
 one_if-at : (i : ℕ) (o : Option ℕ) → o ≡ Some i → one_if i o ≡ 1
@@ -57,20 +50,17 @@ times-cons i o slots = sum_by-cons (one_if i) o slots
 pub stands : (i : ℕ) (slots : List (Option ℕ)) → 0 < times i slots → (p : ℕ) × (p < length slots) × (resident slots p ≡ Some i)
 unfolding times
 stands i [] h = absurd (omega (arith, h))
-stands i (o ∷ slots) h = elim (holds i o) as (λ b. holds i o ≡ b → (p : ℕ) × (p < length (o ∷ slots)) × (resident (o ∷ slots) p ≡ Some i)) [
-  | true ↦ λ e. (0, omega arith, held i o (let e' : one_if i o ≡ 1 = ap (λ b. cond b 1 0) e in omega arith))
-  | false ↦ λ e. let e' : one_if i o ≡ 0 = ap (λ b. cond b 1 0) e in
-      let rest = stands i slots (omega (arith, times-cons i o slots)) in
-      (suc rest.0, omega (arith, rest.1), rest.2)
-] refl
+stands i (o ∷ slots) h = elim (cases_lt 0 (one_if i o)) [
+  | inl here ↦ (0, omega arith, held i o here)
+  | inr none ↦ let rest = stands i slots (omega (arith, times-cons i o slots)) in (suc rest.0, omega (arith, rest.1), rest.2)
+]
 
 -- an index that is counted once is in one slot
 pub stands_once : (i : ℕ) (slots : List (Option ℕ)) (p q : ℕ) → times i slots ≤ 1 → p < length slots → q < length slots
     → resident slots p ≡ Some i → resident slots q ≡ Some i → p ≡ q
-stands_once i slots p q h lp lq ep eq = elim (eqb p q) as (λ b. eqb p q ≡ b → p ≡ q) [
-  | true ↦ λ e. grind (arith, nat_tests)
-  | false ↦ λ e.
-      let ne : q ≢ p = grind (arith, nat_tests) in
+stands_once i slots p q h lp lq ep eq = elim (cases_eq q p) [
+  | inl same ↦ sym same
+  | inr ne ↦
       let there : resident (set slots p None) q ≡ Some i = get_or-set_other slots p q None None ne ∙ eq in
       absurd (omega (
         arith,
@@ -79,7 +69,7 @@ stands_once i slots p q h lp lq ep eq = elim (eqb p q) as (λ b. eqb p q ≡ b �
         times-some i (set slots p None) q
             (omega (arith, length-set {A = Option ℕ})) there,
       ))
-] refl
+]
 
 -- no slots count none
 pub times-nil : (i : ℕ) → times i [] ≡ 0

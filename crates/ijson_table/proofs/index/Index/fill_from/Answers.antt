@@ -56,22 +56,3 @@ as_slice-requires c = omega (
   ap (λ (l : HashIndex). length l.slots) c.other.view_is,
   positions-length c.other.inside.slots,
 )
-
--- given for speed: the default tactics take longer
-pub merge_sort-sorted-requires : goal.merge_sort-sorted-requires
-merge_sort-sorted-requires c = omega arith
-
-pub returns-clause-count : goal.returns-clause-count
-returns-clause-count c = omega arith
-
-pub returns-clause-refused : goal.returns-clause-refused
-returns-clause-refused c = omega arith
-
-pub returns-in_err-entries-clause-bounded : goal.returns-in_err-entries-clause-bounded
-returns-in_err-entries-clause-bounded c = omega arith
-
-pub returns-in_err-entries-clause-count : goal.returns-in_err-entries-clause-count
-returns-in_err-entries-clause-count c = omega arith
-
-pub returns-in_err-sorted-clause-count : goal.returns-in_err-sorted-clause-count
-returns-in_err-sorted-clause-count c = omega arith

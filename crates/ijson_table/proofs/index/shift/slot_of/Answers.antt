@@ -19,9 +19,6 @@ use Rattle.ijson_table.proofs.slots.HashesInSlots.{positions-length, displacemen
 use Rattle.ijson_table.proofs.probing.ProbePath.{displacement-some, on_the_way}
 use Rattle.ijson_table.proofs.index.shift.slot_of.Goals as goal
 
-pub probe-requires-clause-some : goal.probe-requires-clause-some
-probe-requires-clause-some g c = omega (arith, c.requires.stands.1, positions-length c.args.slots.now)
-
 pub returns-clause-within : goal.returns-clause-within
 returns-clause-within g c =
     let ends = c.in-Found.ensures.ends in

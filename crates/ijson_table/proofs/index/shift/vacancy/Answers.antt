@@ -69,12 +69,6 @@ returns-clause-within c =
     let ends = c.in-Vacant.ensures.ends in
     omega (arith, ends.1.within, ends.1.looked, c.count.ensures, c.new-looks.ensures, positions-length c.args.slots.now)
 
-pub probe-requires-clause-some : goal.probe-requires-clause-some
-probe-requires-clause-some c = omega (arith, c.requires.1, positions-length c.args.slots.now)
-
-pub new-requires : goal.new-requires
-new-requires c = omega (arith, c.len.ensures, c.requires.1, positions-length c.args.slots.now)
-
 pub invariant_of-newcomer : goal.invariant_of-newcomer
 invariant_of-newcomer c = record { counted = c.new.ensures ∙ c.len.ensures }
 

@@ -35,6 +35,3 @@ loop-step-smaller g c = less_left c.loop-step._step c.args.count c.loop-step-tes
 pub returns-clause-items : goal.returns-clause-items
 returns-clause-items g c =
     c.loop-step.invariant.items ∙ ap (λ n. replicate n c.args.item) (le_antisymm c.loop-step.auto._step-end c.loop-step-test.false)
-
-pub returns-clause-room : goal.returns-clause-room
-returns-clause-room g c = c.loop-step.invariant.room

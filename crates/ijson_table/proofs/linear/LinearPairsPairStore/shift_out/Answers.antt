@@ -20,6 +20,3 @@ returns-clause-pairs g c = c.remove.ensures.items ∙ ap (λ (s : Store g.row.V.
 
 pub returns-clause-room : goal.returns-clause-room
 returns-clause-room g c = c.remove.ensures.capacity ∙ ap (λ (s : Store g.row.V.Denot). s.capacity) c.self.view_is
-
-pub invariant_of-self : goal.invariant_of-self
-invariant_of-self g c = omega arith

@@ -141,9 +141,6 @@ loop-pair-init g c = (
   c.in_ok-list.ensures.room,
 )
 
-pub returns-clause-room : goal.returns-clause-room
-returns-clause-room g c = c.loop-pair.invariant.4
-
 pub loop-pair-smaller : goal.loop-pair-smaller
 loop-pair-smaller g c = one_less c.next.new.self.rest.len c.loop-pair.pair-iterator.rest.len c.in-Some.ensures.steps.1
 

@@ -1,4 +1,4 @@
-use Rattle.std.proofs.Common.{arith, set, ap, sym, ◌∙◌}
+use Rattle.std.proofs.Common.{set, ap, sym, ◌∙◌}
 use Rattle.ijson_table.proofs.pairs.PairsByKey.{set-value}
 use Rattle.ijson_table.proofs.sorting.duplicates.replace_value.Goals as goal
 
@@ -8,10 +8,3 @@ returns g c =
     let there = c.index-list-place.result in
     ap (λ pair. set list c.args.place (pair.0, c.args.pair.1)) (sym c.index-list-place.is)
     ∙ set-value list c.args.place there c.args.pair.1 c.requires c.index-list-place.is
-
--- given for speed: the default tactics take longer
-pub bounds-list-place : goal.bounds-list-place
-bounds-list-place g c = omega arith
-
-pub bounds-list-place-2 : goal.bounds-list-place-2
-bounds-list-place-2 g c = omega arith

@@ -1,5 +1,4 @@
 use Rattle.std.proofs.Common.{◌≡◌, ◌≢◌, ◌<◌, ℕ, length, get_or, Option, Some, None, arith, sym, ap, ◌∙◌, ◌+◌, ◌^◌, ◌≤◌}
-use Rattle.std.proofs.lemmas.Grind.{common_steps}
 use Rattle.std.proofs.lemmas.Bool.Decides.{nat_tests}
 use Rattle.std.proofs.lemmas.Result.{IfOk-from_err}
 use borrow.Author.Rules.{scaled_Fits}
@@ -82,37 +81,6 @@ pub returns-clause-firsts : goal.returns-clause-firsts
 returns-clause-firsts g c =
     all_told (keys_of c.args.pairs.now) c.args.sorted.now c.requires.entries
     c.loop-entry.entry-index c.loop-entry.run c.loop-entry.firsts.items c.loop-entry-test.false c.loop-entry.invariant.run
-
--- given for speed: the default tactics take longer
-pub returns-in_err-firsts-clause-refused : goal.returns-in_err-firsts-clause-refused
-returns-in_err-firsts-clause-refused g c = grind (arith, common_steps)
-
-pub bounds-sorted-entry-index : goal.bounds-sorted-entry-index
-bounds-sorted-entry-index g c = omega arith
-
-pub loop-entry-smaller : goal.loop-entry-smaller
-loop-entry-smaller g c = omega arith
-
-pub returns-clause-grows : goal.returns-clause-grows
-returns-clause-grows g c = omega arith
-
-pub returns-clause-refused : goal.returns-clause-refused
-returns-clause-refused g c = omega arith
-
-pub returns-in_err-firsts-clause-bounded : goal.returns-in_err-firsts-clause-bounded
-returns-in_err-firsts-clause-bounded g c = omega arith
-
-pub returns-in_err-firsts-clause-grows : goal.returns-in_err-firsts-clause-grows
-returns-in_err-firsts-clause-grows g c = omega arith
-
-pub returns-then-is_empty-clause-bounded : goal.returns-then-is_empty-clause-bounded
-returns-then-is_empty-clause-bounded g c = omega arith
-
-pub returns-then-is_empty-clause-grows : goal.returns-then-is_empty-clause-grows
-returns-then-is_empty-clause-grows g c = omega arith
-
-pub returns-then-is_empty-clause-refused : goal.returns-then-is_empty-clause-refused
-returns-then-is_empty-clause-refused g c = omega arith
 
 -- one more inspection can be counted,
 one_more : (old index sorted keys pairs looks : ℕ) → looks ≡ old + index → index < sorted → sorted ≡ keys → keys ≡ pairs

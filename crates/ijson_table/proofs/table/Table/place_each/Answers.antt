@@ -89,9 +89,6 @@ loop-position-smaller g c = less_left c.loop-position.position (length c.deref-p
 pub returns-clause-count : goal.returns-clause-count
 returns-clause-count g c = c.loop-position.invariant.count
 
-pub returns-then-is_empty-clause-count : goal.returns-then-is_empty-clause-count
-returns-then-is_empty-clause-count g c = refl
-
 -- if there are pairs, there are slots
 some_slots : (pairs room slots count : ℕ) → false ≡ (pairs == 0) → pairs ≡ room → room ≤ slots → count ≡ slots → 0 < count
 some_slots pairs room slots count some same fits is = grind (arith, nat_tests)

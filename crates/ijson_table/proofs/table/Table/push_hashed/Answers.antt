@@ -22,12 +22,6 @@ push_at-requires-clause-may g c =
     (subst (λ h. MayStand (c.self.inside.index.hashes ++ h ∷ []) slots (length c.self.inside.index.hashes) slot) kept_is
     c.vacancy-slot.ensures)))
 
-pub push_at-requires-clause-room : goal.push_at-requires-clause-room
-push_at-requires-clause-room g c = c.requires.room
-
-pub push_at-requires-clause-missing : goal.push_at-requires-clause-missing
-push_at-requires-clause-missing g c = c.requires.missing
-
 -- there is one more slot
 pub vacancy-slot-requires : goal.vacancy-slot-requires
 vacancy-slot-requires g c = omega (
@@ -38,6 +32,3 @@ vacancy-slot-requires g c = omega (
   room_shown c.self.view_is,
   c.requires.room,
 )
-
-pub new-requires : goal.new-requires
-new-requires g c = omega (arith, c.len.ensures.count, c.self.invariant.size, room_shown c.self.view_is, c.requires.room)

@@ -21,9 +21,6 @@ all_put : (g : Over) (c : After-add g) → put_each c.insert_each.new.self.store
 all_put g c = c.insert_each.ensures.pairs
     ∙ ap (put_each c.args.self.store.pairs) (ap reverse c.reverse.ensures.items ∙ reverse-reverse c.args.rest.items)
 
-pub overflow_mul-most : goal.overflow_mul-most
-overflow_mul-most g c = omega (arith, c.capacity-most.ensures.room, c.requires.limited)
-
 pub insert_each-requires : goal.insert_each-requires
 insert_each-requires g c = record {
   room = omega (arith, ap length c.reverse.ensures.items, length-reverse c.args.rest.items, c.requires.room);
@@ -31,12 +28,6 @@ insert_each-requires g c = record {
   most = omega (arith, c.capacity-most.ensures.room, c.requires.limited);
   steps = omega (arith, c.capacity-most.ensures.room, c.requires.steps);
 }
-
-pub overflow_sub-taken : goal.overflow_sub-taken
-overflow_sub-taken g c = c.insert_each.ensures.grows
-
-pub add-requires : goal.add-requires
-add-requires g c = omega (arith, c.insert_each.ensures.steps, c.capacity-most.ensures.room, c.requires.fits, c.requires.limited)
 
 pub returns-then-is_empty : goal.returns-then-is_empty
 returns-then-is_empty g c =

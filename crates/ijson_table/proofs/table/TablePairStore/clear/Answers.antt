@@ -1,4 +1,4 @@
-use Rattle.std.proofs.Common.{length, arith, rules, ap}
+use Rattle.std.proofs.Common.{length, arith, ap}
 use Rattle.ijson_table.proofs.table.TablePairStore.clear.Goals as goal
 
 pub invariant_of-self : goal.invariant_of-self
@@ -10,6 +10,3 @@ invariant_of-self g c = record {
   hashes = rw c.clear.ensures.items (cc);
   size = cc;
 }
-
-pub returns-clause-pairs : goal.returns-clause-pairs
-returns-clause-pairs g c = search rules

@@ -52,9 +52,6 @@ returns-clause-pairs g c =
 pub returns-clause-room : goal.returns-clause-room
 returns-clause-room g c = c.remove.ensures.capacity ∙ room_shown c.self.view_is
 
-pub overflow_sub-last : goal.overflow_sub-last
-overflow_sub-last g c = omega (arith, c.len-last.ensures, c.self.inside.pairs.ok.0, count_shown c.self.view_is, c.requires)
-
 pub shift_remove-requires : goal.shift_remove-requires
 shift_remove-requires g c =
     let last : c.len-last.result ≡ length c.args.self.now.store.pairs =

@@ -1,5 +1,4 @@
 use Rattle.std.proofs.Common.{◌≡◌, ◌<◌, length, map, arith, ap, ap₂, sym, ◌∙◌, subst}
-use Rattle.std.proofs.lemmas.Grind.{common_steps}
 use Rattle.std.specs.List.{swap_remove}
 use Rattle.ijson_table.specs.Crowd.{slot_count}
 use Rattle.ijson_table.specs.Store.{keys_of, swap_out, IsDistinct}
@@ -57,10 +56,6 @@ pub returns-clause-pairs : goal.returns-clause-pairs
 returns-clause-pairs g c = left g c
     ∙ ap (λ (s : Placed g.row.V.Denot). swap_out s.store.pairs c.args.index) c.self.view_is
 
--- given for speed: the default tactics take longer
-pub returns-then-index-last-clause-pairs : goal.returns-then-index-last-clause-pairs
-returns-then-index-last-clause-pairs g c = grind (arith, common_steps)
-
 pub swap_remove-requires : goal.swap_remove-requires
 swap_remove-requires g c =
     let last : c.len-last.result ≡ length c.args.self.now.store.pairs =
@@ -74,18 +69,3 @@ swap_remove-requires g c =
 
 pub returns-clause-room : goal.returns-clause-room
 returns-clause-room g c = c.swap_remove-2.ensures.capacity ∙ room_shown c.self.view_is
-
-pub returns-then-index-last-clause-pair : goal.returns-then-index-last-clause-pair
-returns-then-index-last-clause-pair g c = c.shift_out.ensures.pair
-
-pub returns-then-index-last-clause-room : goal.returns-then-index-last-clause-room
-returns-then-index-last-clause-room g c = c.shift_out.ensures.room
-
-pub overflow_sub-last : goal.overflow_sub-last
-overflow_sub-last g c = omega (arith, c.len-last.ensures, c.self.inside.pairs.ok.0, count_shown c.self.view_is, c.requires)
-
-pub swap_remove-requires-2 : goal.swap_remove-requires-2
-swap_remove-requires-2 g c = omega (arith, c.self.inside.pairs.ok.0, count_shown c.self.view_is, c.requires)
-
-pub hash_at-last_hash-requires : goal.hash_at-last_hash-requires
-hash_at-last_hash-requires g c = omega (arith, c.len-last.ensures, c.self.inside.pairs.ok.0, count_shown c.self.view_is, c.requires)

@@ -30,6 +30,3 @@ loop-item-preserved g c =
       );
       capacity = c.push_reserved.ensures.capacity ∙ i.capacity;
     }
-
-pub returns-clause-room : goal.returns-clause-room
-returns-clause-room g c = c.loop-item.invariant.capacity
