@@ -6,7 +6,7 @@ use Rattle.std.proofs.lemmas.Option.{same_Some}
 use Rattle.ijson_table.specs.Store.{lookup, put}
 use Rattle.ijson_table.proofs.pairs.KeyPositions.{same_key}
 use Rattle.ijson_value.specs.Step.{Step, by_position, by_key, tree_at, tree_with}
-use Rattle.ijson_value.specs.Tree.{Tree, null, boolean, number, string, array, object, Items, no_items, item, items_of, items_list, Members}
+use Rattle.ijson_value.specs.Tree.{Tree, array, object, Items, no_items, item, items_of, items_list, Members}
 use Rattle.ijson_value.specs.Tree.{no_members, member, members_of, members_list}
 use Rattle.ijson_value.specs.laws.MemberTrees.{members_of-list}
 use Rattle.ijson_value.specs.laws.TreeLookups.{items_of-list}
@@ -41,14 +41,9 @@ member_same (member k t ps) key u e = elim (same_both k key) [
 ]
 
 tree_same : (t : Tree) (step : Step) (u : Tree) → tree_at t step ≡ Some u → tree_with t step u ≡ t
-tree_same null step u e = not_both u e
-tree_same (boolean b) step u e = not_both u e
-tree_same (number n) step u e = not_both u e
-tree_same (string s) step u e = not_both u e
 tree_same (array ts) (by_position i) u e = ap array (item_same ts i u e)
-tree_same (array ts) (by_key key) u e = not_both u e
-tree_same (object ps) (by_position i) u e = not_both u e
 tree_same (object ps) (by_key key) u e = ap object (member_same ps key u e)
+tree_same t step u e = not_both u e
 
 step_same : (t : Tree) (step : Option Step) (u : Tree) → option_and_then (tree_at t) step ≡ Some u → stepped_with t step u ≡ t
 step_same t None u e = refl
