@@ -3,7 +3,7 @@
 
 usage: bindings/speed.py [--size BYTES] [--file NAME] [--turns N]
 
-Prints the minimum of some turns, in seconds. `json` and `orjson` round fractions, and keep fewer texts apart.
+Prints the minimum of some turns, in seconds of processor time. `json` and `orjson` round fractions.
 """
 
 import sys
@@ -50,9 +50,9 @@ def rows(text, other):
 def seconds(call, turns):
     taken = []
     for _ in range(turns):
-        start = time.perf_counter()
+        start = time.process_time()
         call()
-        taken.append(time.perf_counter() - start)
+        taken.append(time.process_time() - start)
     return min(taken)
 
 

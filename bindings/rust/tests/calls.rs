@@ -14,8 +14,8 @@ fn texts_are_compacted() {
     ] {
         assert_eq!(compact(text), Ok(want.to_string()));
     }
-    let long = format!("[{}1]", "1e300,".repeat(1000));
-    assert_eq!(compact(long).map(|text| text.len()), Ok(1000 * 304 + 3));
+    let long = format!("[{}1]", "1e20,".repeat(1000));
+    assert_eq!(compact(long).map(|text| text.len()), Ok(1000 * 24 + 3));
 }
 
 #[test]
