@@ -3,8 +3,8 @@
  * No function keeps anything between calls, so threads may call them at the same time. Memory comes from malloc and is freed before a
  * function returns.
  *
- * The caller guarantees that every pointer is not null, also at a length of 0; that a text has as many bytes as the length after it; and
- * that the output and the result are memory of the caller's own, apart from each other and from the texts.
+ * The caller guarantees that every pointer is not null, also at a length of 0; that a length is the number of bytes at the pointer before
+ * it; and that the output and the result are writable, and apart from each other and from the texts.
  */
 #ifndef IJSON_H
 #define IJSON_H
