@@ -10,7 +10,7 @@ use Rattle.serde_json.specs.View.{view, items_view}
 use Rattle.serde_json.specs.declared.value.Value.{Value}
 use Rattle.ijson_table.specs.Store.{keys_of, Lacks, IsDistinct}
 use Rattle.ijson_value.specs.Same.{Same, SameEach, SameIn, Has}
-use Rattle.ijson_value.specs.Tree.{Tree, null, boolean, number, string, array, object, Items, no_items, item, Members, no_members}
+use Rattle.ijson_value.specs.Tree.{Tree, array, object, Items, no_items, item, Members, no_members}
 use Rattle.ijson_value.specs.Tree.{member, members_len, member_keys}
 use Rattle.ijson_value.specs.Values.{array_tree, object_tree}
 use Rattle.ijson_value.specs.WellFormed.{WellFormed, IsWellFormed, AreWellFormed, HaveWellFormed, item_trees, pair_trees}
@@ -38,11 +38,7 @@ more_means : (vs : List Value) (us : List WellFormed) (v : Value) (u : WellForme
     → SerdeTree (serde.array (items_view vs)) t → Same t (array_tree us) → SerdeMeans (view v) u.tree
     → SerdeMeans (serde.array (items_view (vs ++ v ∷ []))) (array_tree (us ++ u ∷ []))
 more_means vs us v u (array ts) w h s m = let r = push_item vs us v u ts w h s m in (array r.0, r.1, r.2, r.3)
-more_means vs us v u null w h s m = absurd h
-more_means vs us v u (boolean b) w h s m = absurd h
-more_means vs us v u (number n) w h s m = absurd h
-more_means vs us v u (string r) w h s m = absurd h
-more_means vs us v u (object ps) w h s m = absurd h
+more_means vs us v u t w h s m = absurd h
 
 -- an array with one more element means the same
 pub array_means : (vs : List Value) (us : List WellFormed) (v : Value) (u : WellFormed)
@@ -65,16 +61,8 @@ items_unmeant (x ∷ before) u left never ds no_items w h s = s
 array_unmeant_by : (before : List WellFormed) (u : WellFormed) (left : List WellFormed) → NoSerdeMeans u.tree
     → (d : Data) (t : Tree) → IsWellFormed t → SerdeTree d t → Same t (array_tree (before ++ u ∷ left)) → ⊥
 array_unmeant_by before u left never (serde.array ds) (array ts) w h s = items_unmeant before u left never ds ts w h s
-array_unmeant_by before u left never serde.null (array ts) w h s = h
-array_unmeant_by before u left never (serde.boolean b) (array ts) w h s = h
-array_unmeant_by before u left never (serde.number n) (array ts) w h s = h
-array_unmeant_by before u left never (serde.string r) (array ts) w h s = h
-array_unmeant_by before u left never (serde.object ms) (array ts) w h s = h
-array_unmeant_by before u left never d null w h s = s
-array_unmeant_by before u left never d (boolean b) w h s = s
-array_unmeant_by before u left never d (number n) w h s = s
-array_unmeant_by before u left never d (string r) w h s = s
-array_unmeant_by before u left never d (object ps) w h s = s
+array_unmeant_by before u left never d (array ts) w h s = h
+array_unmeant_by before u left never d t w h s = s
 
 -- and so the array has no meaning
 pub array_unmeant : (before : List WellFormed) (u : WellFormed) (left : List WellFormed) → NoSerdeMeans u.tree
@@ -163,11 +151,7 @@ module _ (es : serde.Members) (done : List (List ℕ × WellFormed)) (d : Data) 
   means_by : (t : Tree) → IsWellFormed t → SerdeTree (serde.object es) t → Same t (object_tree done)
       → SerdeMeans (serde.object (serde.put p.0 d es)) (object_tree (done ++ p ∷ []))
   means_by (object ps) w h s = members_means ps w h s
-  means_by null w h s = absurd h
-  means_by (boolean b) w h s = absurd h
-  means_by (number n) w h s = absurd h
-  means_by (string r) w h s = absurd h
-  means_by (array ts) w h s = absurd h
+  means_by t w h s = absurd h
 
   -- an object with one more entry means the same
   pub object_means : SerdeMeans (serde.object es) (object_tree done)
@@ -199,16 +183,8 @@ module _ (qs : Members) (well : IsWellFormed (object qs)) (k : List ℕ) (u : Tr
   -- nothing means an object with a member that has no meaning
   unmeant_by : (d : Data) (t : Tree) → IsWellFormed t → SerdeTree d t → Same t (object qs) → ⊥
   unmeant_by (serde.object ms) (object ps) w h s = members_unmeant ms ps w h s
-  unmeant_by serde.null (object ps) w h s = h
-  unmeant_by (serde.boolean b) (object ps) w h s = h
-  unmeant_by (serde.number n) (object ps) w h s = h
-  unmeant_by (serde.string r) (object ps) w h s = h
-  unmeant_by (serde.array ds) (object ps) w h s = h
-  unmeant_by d null w h s = s
-  unmeant_by d (boolean b) w h s = s
-  unmeant_by d (number n) w h s = s
-  unmeant_by d (string r) w h s = s
-  unmeant_by d (array ts) w h s = s
+  unmeant_by d (object ps) w h s = h
+  unmeant_by d t w h s = s
 
   -- and so it has no meaning
   pub object_unmeant : NoSerdeMeans (object qs)

@@ -13,7 +13,7 @@ use Rattle.ijson_number.specs.Num.{IsNum, Num}
 use Rattle.ijson_number.specs.Order.{number_cmp}
 use Rattle.ijson_number.proofs.storing.IntegerWords.{signed_small, signed_fits, unsigned_fits}
 use Rattle.ijson_value.specs.Same.{Same}
-use Rattle.ijson_value.specs.Tree.{Tree, null, boolean, number, string, array, object}
+use Rattle.ijson_value.specs.Tree.{Tree, null, number}
 use Rattle.ijson_convert.specs.IntegerTree.{integer_number}
 use Rattle.ijson_convert.specs.SerdeTree.{SerdeNumber, SerdeTree, HasNoTree, SerdeMeans, NoSerdeMeans}
 use Rattle.ijson_convert.specs.laws.Integers.{integer_num, signed_has, unsigned_has, signed_is, unsigned_is}
@@ -58,17 +58,8 @@ module _ (u : Decimal) (no_unsigned : (n : ℕ) → n < 2 ^ 64 → HasValue u (p
   unmeant (serde.number (serde.negative z)) (number k) h s =
       no_signed z h.0 (has_too (integer_number z) u z (signed_has z h.0)
       (subst (λ l. number_cmp l u ≡ Equal) h.1 s))
-  unmeant (serde.number (serde.float x)) (number k) h s = h
-  unmeant serde.null (number k) h s = h
-  unmeant (serde.boolean b) (number k) h s = h
-  unmeant (serde.string r) (number k) h s = h
-  unmeant (serde.array ds) (number k) h s = h
-  unmeant (serde.object ms) (number k) h s = h
-  unmeant d null h s = s
-  unmeant d (boolean b) h s = s
-  unmeant d (string r) h s = s
-  unmeant d (array ts) h s = s
-  unmeant d (object ps) h s = s
+  unmeant d (number k) h s = h
+  unmeant d t h s = s
 
   -- a number that is neither a `u64` nor an `i64` has no meaning
   pub number_unmeant : NoSerdeMeans (number u)
@@ -95,11 +86,7 @@ signed_here (serde.float x) z n none e fits i = absurd (cc)
 
 float_treeless : (x : _) (t : Tree) → SerdeTree (serde.number (serde.float x)) t → ⊥
 float_treeless x null h = h
-float_treeless x (boolean b) h = h
-float_treeless x (number n) h = h
-float_treeless x (string s) h = h
-float_treeless x (array ts) h = h
-float_treeless x (object ps) h = h
+float_treeless x t h = h
 
 -- one that is neither has none
 pub none_here : (m : serde.Num) → as_u64 m ≡ None → as_i64 m ≡ None → HasNoTree (serde.number m)
