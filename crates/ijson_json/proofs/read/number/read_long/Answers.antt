@@ -1,4 +1,4 @@
-use Rattle.std.proofs.Common.{true, refl, arith, subst, ◌∙◌}
+use Rattle.std.proofs.Common.{true, refl, arith, subst, rules, ◌∙◌}
 use Rattle.ijson_json.specs.private.Reading.{IsPastLimit}
 use Rattle.ijson_json.proofs.scanning.Prefixes.{not_both}
 use Rattle.ijson_json.proofs.reading.Numbers.{no_number, run_past_limit, front_past_limit, front_range}
@@ -10,7 +10,7 @@ returns-in-Ok c =
     let s = c.split_number.ensures in
     let n = c.in-Ok.number in (
       record {
-        found = record { front = c.split_number.result.0.now; holds = c.in-Ok.ensures.ok; is = s.whole };
+        found = record { front = c.split_number.result.0.now; holds = search rules; is = s.whole };
         stops = s.stops;
       },
       n.is_num.in_range,
