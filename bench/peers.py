@@ -9,6 +9,10 @@ import tempfile
 from typing import NamedTuple
 
 BENCH = pathlib.Path(__file__).resolve().parent
+sys.path.append(str(BENCH.parent / "tools"))
+
+from assemble import copy_crates, library_crates
+
 CRATES = BENCH.parent / "crates"
 KEPT = BENCH / "out"
 REGISTRY = "/usr/share/cargo/registry"
@@ -40,18 +44,6 @@ def kit_version():
     return subprocess.run(["rt", "version"], capture_output=True, text=True, check=True).stdout.strip()
 
 
-def library_crates(top="ijson_json"):
-    """The lines of crates.txt for a crate of the library and all that it depends on, by name."""
-    lines = {line.partition(":")[0]: line for line in (BENCH.parent / "crates.txt").read_text().splitlines() if not line.startswith("#")}
-    wanted, found = [top], {}
-    while wanted:
-        name = wanted.pop()
-        if name in lines and name not in found:
-            found[name] = lines[name]
-            wanted += lines[name].split()[1:]
-    return found
-
-
 def stamp(source, crates):
     """A checksum of the kit, a program's source, and the files of its crates."""
     made_of = hashlib.sha256((kit_version() + source.read_text()).encode())
@@ -63,24 +55,16 @@ def stamp(source, crates):
 
 def rattle_program(name, dependencies, crates, folder=BENCH):
     """Proves and builds NAME/main.rt.txt of a folder in a workspace for itself, which has copies of the crates, unless the program that is kept
-    is of these sources.
-
-    The workspace is no folder of the repository, since the gate wants the one list of crates at the top.
-    """
+    is of these sources."""
     source, program, kept_stamp = folder / name / "main.rt.txt", KEPT / name, KEPT / f"{name}.stamp"
     made_of = stamp(source, crates)
     if program.exists() and kept_stamp.exists() and kept_stamp.read_text() == made_of:
         return program
     with tempfile.TemporaryDirectory() as workspace:
         work = pathlib.Path(workspace)
-        for crate in crates:
-            for part in "src", "specs", "proofs", "out/rlib":
-                if (CRATES / crate / part).exists():
-                    shutil.copytree(CRATES / crate / part, work / "crates" / crate / part)
+        copy_crates(work, crates, f"{name}: {dependencies}")
         (work / "crates" / name / "src").mkdir(parents=True)
         shutil.copy(source, work / "crates" / name / "src" / "main.rt")
-        (work / "crates.txt").write_text("\n".join([*crates.values(), f"{name}: {dependencies}", ""]))
-        (work / "HANDLES").write_text("Handles allowed: none.\n")
         if not built(["rt", "run"], work / "crates" / name, name):
             return None
         KEPT.mkdir(exist_ok=True)
@@ -96,7 +80,7 @@ def kit_serde_json():
 
 def calls_of_ijson():
     """Calls of the library. The library's crates must be built, else they are proved first, which takes long."""
-    return rattle_program("calls_of_ijson", "ijson_json ijson_string ijson_value", library_crates())
+    return rattle_program("calls_of_ijson", "ijson_json ijson_string ijson_value", library_crates("ijson_json"))
 
 
 def canonical_of_ijson():
@@ -149,7 +133,7 @@ def rapidjson(name, flags):
 
 def passes_of_ijson():
     """Passes of the library. The library's crates must be built, as for `calls_of_ijson`."""
-    return rattle_program("passes_of_ijson", "ijson_json ijson_string ijson_value", library_crates())
+    return rattle_program("passes_of_ijson", "ijson_json ijson_string ijson_value", library_crates("ijson_json"))
 
 
 def libraries(ours):

@@ -7,10 +7,15 @@ import contextlib
 import pathlib
 import shutil
 import subprocess
+import sys
 import tempfile
 
 BINDINGS = pathlib.Path(__file__).resolve().parent
 TOP = BINDINGS.parent
+sys.path.append(str(TOP / "tools"))
+
+from assemble import copy_crates, library_crates
+
 OUT = BINDINGS / "out"
 KIT = pathlib.Path(subprocess.run(["rt", "doc"], capture_output=True, text=True, check=True).stdout.strip()).parent
 CRATE = "ijson_c"
@@ -41,18 +46,6 @@ def run(command, folder, **options):
     subprocess.run(command, cwd=folder, check=True, **options)
 
 
-def library_crates():
-    """The lines of crates.txt for the crates that ijson_c uses, and all that these depend on, by name."""
-    lines = {line.partition(":")[0]: line for line in (TOP / "crates.txt").read_text().splitlines() if not line.startswith("#")}
-    wanted, found = list(USES), {}
-    while wanted:
-        name = wanted.pop()
-        if name in lines and name not in found:
-            found[name] = lines[name]
-            wanted += lines[name].split()[1:]
-    return found
-
-
 def copy_example(crate):
     """Copies the example, without its tests, which follow its functions."""
     for source, target in COPIED.items():
@@ -65,11 +58,7 @@ def copy_example(crate):
 
 def assemble(work):
     """Writes the workspace into a folder, and returns the folder of ijson_c."""
-    crates = library_crates()
-    for name in crates:
-        for part in "src", "specs", "proofs", "out/rlib":
-            if (TOP / "crates" / name / part).exists():
-                shutil.copytree(TOP / "crates" / name / part, work / "crates" / name / part, dirs_exist_ok=True)
+    copy_crates(work, library_crates(*USES), f"{CRATE} staticlib: {' '.join(USES)}")
     crate = work / "crates" / CRATE
     for path in sorted((BINDINGS / CRATE).rglob("*")):
         if path.is_file():
@@ -77,8 +66,6 @@ def assemble(work):
             target.parent.mkdir(parents=True, exist_ok=True)
             shutil.copy(path, target)
     copy_example(crate)
-    (work / "crates.txt").write_text("\n".join([*crates.values(), f"{CRATE} staticlib: {' '.join(USES)}", ""]))
-    (work / "HANDLES").write_text("Handles allowed: none.\n")
     return crate
 
 

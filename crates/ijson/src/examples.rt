@@ -1,8 +1,8 @@
 //! Examples: small programs as a crate above the library would write them.
 //!
-//! All but `pointed`, which shows errors, have contracts, and five of these use definitions on trees (`specs/examples`). To copy one, copy
-//! its definitions, its `proofs/examples/NAME` and the file of `proofs/example_lemmas` that these cite, if they exist. Replace `crate` by
-//! `ijson`, and `Rattle.ijson.` by the name of your crate; `canonical_key` and `pointed` need no proof file.
+//! All have contracts, and five use definitions on trees (`specs/examples`). To copy one, copy its definitions, its
+//! `proofs/examples/NAME` and the file of `proofs/example_lemmas` that these cite, if they exist. Replace `crate` by `ijson`, and
+//! `Rattle.ijson.` by the name of your crate; `canonical_key` and `pointed` need no proof file.
 
 mod canonical_key;
 mod dedupe;

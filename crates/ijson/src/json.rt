@@ -2,7 +2,7 @@
 // A module, since an alias cannot have the name of a macro of `serde_json`.
 
 pub use ijson_json::{
-    CompactError, DeviceFault, JsonError, LineColumn, MemorySink, MemorySource, Sink, Source,
-    StreamSink, StreamSource, compact, compact_value, from_json, grammar_law, line_and_column,
-    push_key, push_quoted, push_separator, report, to_json,
+    CompactError, DeviceFault, JsonError, LineColumn, LocatedError, MemorySink, MemorySource, Sink,
+    Source, StreamSink, StreamSource, compact, compact_value, from_json, grammar_law,
+    line_and_column, push_key, push_quoted, push_separator, report, to_json,
 };

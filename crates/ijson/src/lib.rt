@@ -5,7 +5,7 @@
 //! that allocates can return an error instead. This crate re-exports the modules of the library.
 //!
 //! The tests are in `src/tests`, for numbers, strings, arrays, values, conversions, literals and errors, and in `src/examples`, small
-//! programs, all but one with contracts of their own.
+//! programs with contracts of their own.
 #![tactic(auto)]
 
 pub mod json;

@@ -21,7 +21,8 @@ use Rattle.ijson_convert.specs.private.NoInteger.{IsNoInteger}
 use Rattle.ijson_convert.specs.declared.convert_error.ConvertError.{ConvertError}
 use Rattle.ijson_convert.specs.declared.convert_error.ConvertError.TheVariants.{OutOfRange}
 use Rattle.ijson_convert.specs.laws.Whole.{widened}
-use Rattle.ijson_convert.specs.laws.Integers.{signed_has, unsigned_has, signed_is, unsigned_is}
+use Rattle.ijson_convert.specs.laws.IntegerValues.{integer_value}
+use Rattle.ijson_convert.specs.laws.Integers.{signed_is, unsigned_is}
 
 -- two numbers of the same value are equal
 pub has_same : (a n : Decimal) (z : ℤ) → HasValue a z → HasValue n z → number_cmp a n ≡ Equal
@@ -46,7 +47,7 @@ narrow_16 = widened w16 w32 (omega arith)
 module _ (width : Width) (wide : (z : ℤ) → FitsSigned width z → FitsSigned w64 z) where
   -- a value in range means the same
   signed_equal : (z : ℤ) (t : Tree) → HasInteger t z → FitsSigned width z → Same (integer_tree z) t
-  signed_equal z (number n) h i = has_same (integer_number z) n z (signed_has z (wide z i)) h
+  signed_equal z (number n) h i = has_same (integer_number z) n z (integer_value z) h
   signed_equal z _ h i = absurd h
 
   -- even after it is restored from its bits
@@ -109,7 +110,7 @@ unsigned_made limit below m v i h = unsigned_tree_made m v.tree v.well_formed (o
 module _ (limit : ℕ) where
   -- a value below the limit means the same
   unsigned_same : limit ≤ 2 ^ 64 → (m : ℕ) (t : Tree) → HasInteger t (pos m) → m < limit → Same (integer_tree (pos m)) t
-  unsigned_same below m (number n) h i = has_same (integer_number (pos m)) n (pos m) (unsigned_has m (omega (arith, below, i))) h
+  unsigned_same below m (number n) h i = has_same (integer_number (pos m)) n (pos m) (integer_value (pos m)) h
   unsigned_same below m _ h i = absurd h
 
   -- it is read

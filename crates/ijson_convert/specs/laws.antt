@@ -1,3 +1,4 @@
 pub mod Complete
+pub mod IntegerValues
 pub mod Integers
 pub mod Whole

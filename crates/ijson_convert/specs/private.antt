@@ -1,1 +1,2 @@
 pub mod NoInteger
+pub mod Pushes

@@ -15,6 +15,8 @@ mod scalars_from;
 mod scalars_to;
 mod serde;
 mod to_ivalue;
+mod tuples_to;
+mod values_to;
 
 pub use convert_error::ConvertError;
 pub use from_ivalue::{FromIValue, from_value};

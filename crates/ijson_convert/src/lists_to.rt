@@ -51,6 +51,19 @@ impl<T: ToIValue> ToIValue for &[T] {
 }
 
 /// Converts like the slice of its elements.
+impl<T: ToIValue, const N: usize> ToIValue for [T; N] {
+    ghost tree = { λ items. list_tree T.ToIValue.tree items };
+
+    fn to_ivalue<S: BuildHasher>(
+        &self,
+        alloc: Global,
+        cache: &mut StringCache<S>,
+    ) -> Result<IValue, ConvertError> {
+        self.as_slice().to_ivalue(alloc, cache)
+    }
+}
+
+/// Converts like the slice of its elements.
 impl<T: ToIValue> ToIValue for Vec<T> {
     ghost tree = { λ list. list_tree T.ToIValue.tree list.items };
 

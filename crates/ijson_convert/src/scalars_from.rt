@@ -8,6 +8,7 @@ ghost use Rattle.ijson_convert.specs.laws.Complete.{bool_complete, text_complete
 
 use crate::convert_error::ConvertError;
 use crate::from_ivalue::FromIValue;
+use ijson_string::IString;
 use ijson_value::value::{DestructuredRef, IValue};
 use std::alloc::Global;
 
@@ -49,6 +50,26 @@ impl FromIValue for String {
     }
 
     ghost complete = { λ s. text_complete (string_bytes s) };
+}
+
+/// Reads a string, which is shared with the value.
+impl FromIValue for IString {
+    ghost tree = { λ s. string s };
+
+    ghost refused = { TextRefused };
+
+    ghost in_range = { λ _. ⊤ };
+
+    ghost null_is_none = { λ _. ⊤ };
+
+    fn from_ivalue(_alloc: Global, value: &IValue) -> Result<IString, ConvertError> {
+        match value.destructure_ref() {
+            DestructuredRef::String(text) => Ok(text.clone()?),
+            _ => Err(ConvertError::WrongKind),
+        }
+    }
+
+    ghost complete = { text_complete };
 }
 
 /// Reads null as `None`, even if a `T` could be read from null too.

@@ -13,8 +13,9 @@ use std::hash::BuildHasher;
 
 /// A type that has a tree, and converts to a JSON value with that tree.
 ///
-/// It is implemented for `bool`, the integers of up to 64 bits, `&str` and `String`; and, if `T` implements it, for `Option<T>` (`None` is
-/// null), `&[T]`, `Vec<T>`, `BTreeMap<String, T>` and `IndexMap<String, T>`.
+/// It is implemented for `bool`, the integers of up to 64 bits, `&str`, `String`, `IValue`, `INumber`, `IString`, `IArray` and `IObject`;
+/// and, if `T` implements it, for `Option<T>` (`None` is null), `&[T]`, `[T; N]`, `Vec<T>`, `BTreeMap<String, T>`, `IndexMap<String, T>`
+/// and tuples of two to four such types. Values and their parts are copied.
 pub trait ToIValue {
     /// The tree of a value.
     ghost tree: { Self → Tree };

@@ -4,6 +4,7 @@ ghost use Rattle.std.specs.Prelude.{is_some, Contains, IfOk, IfErr, IfSome, IfNo
 ghost use Rattle.std.specs.Str.{all_ascii_digits};
 ghost use Rattle.std.specs.Option.{option_copied};
 ghost use Rattle.ijson_table.specs.Store.{at, lookup};
+ghost use Rattle.ijson_value.specs.Tree.{Tree};
 ghost use Rattle.ijson_value.specs.WellFormed.{tree_of};
 ghost use Rattle.ijson_extra.specs.Pointer.{meant, position_named, names_position, child_at, resolved};
 
@@ -57,6 +58,42 @@ pub fn resolve<'a>(value: &'a IValue, pointer: &str) -> Result<Option<&'a IValue
         left = behind;
     }
     step(found, left)
+}
+
+/// JSON Pointers (RFC 6901) as a method of values. Import the trait to call it.
+pub trait Pointer {
+    /// The tree of a value.
+    ghost tree: { Self → Tree };
+
+    ghost use Rattle.std.specs.Prelude.{◌≡◌, option_map, option_and_then};
+    ghost use Rattle.ijson_extra.specs.Pointer.{resolved};
+
+    /// Returns the value that `pointer` refers to, or `None` if there is none.
+    ///
+    /// It also returns `None` if `pointer` is not a JSON Pointer; `resolve` distinguishes the two.
+    ///
+    /// ```
+    /// let port = value.pointer("/servers/0/port"); // Some of 80 in {"servers":[{"port":80}]}
+    /// ```
+    ///
+    /// # Cost
+    ///
+    /// That of `resolve`.
+    fn pointer(&self, pointer: &str) -> Option<&IValue>
+        ensures { option_map (λ found. found.now.tree) result
+            ≡ option_and_then (λ found. found) (resolved (tree self.now) pointer.now) };
+}
+
+/// Looks up by `resolve`.
+impl Pointer for IValue {
+    ghost tree = { λ value. value.tree };
+
+    fn pointer(&self, pointer: &str) -> Option<&IValue> {
+        match resolve(self, pointer) {
+            Ok(found) => found,
+            Err(_) => None,
+        }
+    }
 }
 
 /// Returns the value that a token refers to in the value found so far.

@@ -6,6 +6,7 @@ pub mod OneTree
 pub mod SpelledTrees
 pub mod PrintedIsAccepted
 pub mod SettlesToItself
+pub mod TotalReads
 pub mod WorkedExamples
 pub mod StringBodies
 pub mod AcceptedDepth

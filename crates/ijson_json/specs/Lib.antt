@@ -9,6 +9,7 @@ pub mod KeyText
 pub mod OneTree
 pub mod PrintedIsAccepted
 pub mod Refuses
+pub mod ReadsAs
 pub mod AddsOnlyRead
 pub mod AreShared
 pub mod WritesBeginning
@@ -20,5 +21,6 @@ pub mod CompactRefusal
 pub mod CompactErrorOf
 pub mod Status
 pub mod LineColumn
+pub mod Located
 pub mod laws
 pub mod private

@@ -1,6 +1,9 @@
 //! The line and column of a byte in a text, as editors count.
-ghost use Rattle.std.specs.Prelude.{◌≡◌, take};
+ghost use Rattle.std.specs.Prelude.{◌≡◌, Some, take};
+ghost use Rattle.ijson_json.specs.Located.{place_text};
 ghost use Rattle.ijson_json.specs.LineColumn.{Follows, begins};
+
+use std::fmt;
 
 /// A line of a text and a column in it, both from 1. A column counts characters, not bytes.
 #[derive(Clone, Copy, Debug, PartialEq, Eq)]
@@ -9,6 +12,15 @@ pub struct LineColumn {
     pub line: usize,
     /// One more than the number of characters before, in the same line.
     pub column: usize,
+}
+
+/// As `line 2, column 7`.
+impl fmt::Display for LineColumn {
+    ghost output = { λ place. Some (place_text place.line place.column) };
+
+    fn fmt<W: fmt::Write>(&self, f: &mut fmt::Formatter<W>) -> fmt::Result {
+        write!(f, "line {}, column {}", self.line, self.column)
+    }
 }
 
 /// Returns the line and column, from 1, of the byte at offset `at`, from 0.

@@ -1,13 +1,7 @@
 -- Indistinguishable numbers, their texts and their forms.
-use Rattle.std.proofs.Common.{◌≡◌, ◌∙◌, ◌↔◌, ap, subst}
+use Rattle.ijson_number.proofs.Common.{◌≡◌, ◌∙◌, ◌↔◌, ap, subst, Decimal, FormOf, form_of, Num, is_eq, Spells, num_text, equal_same, same_equal}
+use Rattle.ijson_number.proofs.Common.{tests_equal}
 use Rattle.ijson_number.specs.Alike.{IsAlike}
-use Rattle.ijson_number.specs.Decimal.{Decimal}
-use Rattle.ijson_number.specs.Form.{FormOf, form_of}
-use Rattle.ijson_number.specs.Num.{Num}
-use Rattle.ijson_number.specs.laws.Ordered.{equal_same, same_equal, tests_equal}
-use Rattle.std.specs.Ordering.{is_eq}
-use Rattle.ijson_number.specs.Grammar.{Spells}
-use Rattle.ijson_number.specs.Text.{num_text}
 use Rattle.ijson_number.proofs.parsing.Denotes.{same_decimal, spells_one}
 use Rattle.ijson_number.proofs.writing.RoundTrip.{num_text_spells}
 

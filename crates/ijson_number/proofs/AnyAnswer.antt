@@ -1,5 +1,5 @@
 -- A fact that always holds also holds of any result.
-use Rattle.std.proofs.Common.{Option, Some, None, IfNone, Result, Ok, Err, OnErr}
+use Rattle.ijson_number.proofs.Common.{Option, Some, None, IfNone, Result, Ok, Err, OnErr}
 
 -- of an error
 pub where_refused : {T E P : Type 0} (r : Result T E) → P → OnErr r P

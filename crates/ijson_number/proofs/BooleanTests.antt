@@ -1,7 +1,5 @@
 -- Facts from the results of tests.
-use Rattle.std.proofs.Common.{◌≡◌, ℕ, ◌<◌, true, false, ap, arith}
-use Rattle.std.specs.Prelude.{ℤ, pos, negsuc, nat_abs, nat_eq, int_le, int_lt, ◌≤ℤ◌, ◌<ℤ◌}
-use Rattle.std.proofs.lemmas.Int.{ints}
+use Rattle.ijson_number.proofs.Common.{◌≡◌, ℕ, ◌<◌, true, false, ap, arith, ℤ, pos, negsuc, nat_abs, nat_eq, int_le, int_lt, ◌≤ℤ◌, ◌<ℤ◌, ints}
 
 pub test_le : (a b : ℤ) → int_le a b ≡ true → a ≤ℤ b
 test_le a b h = grind (arith, ints)

@@ -1,16 +1,10 @@
 -- Conversions of a whole value to an integer type.
-use Rattle.std.proofs.Common.{◌≡◌, ◌<◌, ◌^◌, ◌∙◌, ℕ, Option, Result, None, Ok, Err, refl, ap, sym, subst, arith}
-use Rattle.std.specs.Prelude.{ℤ, pos, nat_abs, FitsSigned, IfSome, IfNone}
-use Rattle.std.specs.Int.{FitsUnsigned}
+use Rattle.ijson_number.proofs.Common.{◌≡◌, ◌<◌, ◌^◌, ◌∙◌, ℕ, Option, Result, None, Ok, Err, refl, ap, sym, subst, arith, ℤ, pos, nat_abs, FitsSigned}
+use Rattle.ijson_number.proofs.Common.{IfSome, IfNone, FitsUnsigned, ints, to_z-of_z, w128, bits, of_z, to_z, Decimal, IsPlain, HasValue, nonneg}
 use Rattle.std.specs.Result.{OkIff, result_ok}
 use Rattle.std.proofs.lemmas.Result.{OkIff-at_ok, OkIff-at_err}
-use Rattle.std.proofs.lemmas.Int.{ints, to_z-of_z}
-use mir.Syntax.{Width, w128}
-use mir.Val.{bits, of_z, to_z}
-use Rattle.ijson_number.specs.Decimal.{Decimal, IsPlain}
-use Rattle.ijson_number.specs.Integers.{HasValue}
+use mir.Syntax.{Width}
 use Rattle.ijson_number.proofs.storing.WholeValues.{value_one}
-use Rattle.ijson_number.specs.laws.Ordered.{nonneg}
 
 -- the value, as an `i128`
 abbrev held : ℤ → ℤ
@@ -38,8 +32,7 @@ module _ {A : Type 0} (integer : A → ℤ) (Fits : A → Type 0) (n : Decimal) 
       → ((z : ℤ) → FitsCast z → integer (cast z) ≡ z) → (v : ℤ) {o : Option A} (r : Result A E) → IsPlain n → HasValue n v
       → nat_abs v < 10 ^ 20 → OkIff r (FitsCast (held v)) (cast (held v)) → o ≡ result_ok r → IsConverted n integer Fits o
   from_value {E} cast FitsCast fits exact v (Ok x) plain has near t e =
-      let f : FitsCast (held v) × (x ≡ cast (held v)) =
-      OkIff-at_ok {T = A} {E = E} (Ok x) (FitsCast (held v)) (cast (held v)) x t refl in
+      let f : FitsCast (held v) × (x ≡ cast (held v)) = OkIff-at_ok {T = A} {E = E} (Ok x) (FitsCast (held v)) (cast (held v)) x t refl in
       rw e (record { some = subst (HasValue n) (sym (held_is v near) ∙ (sym (exact (held v) f.0) ∙ ap integer (sym f.1))) has; none = tt })
   from_value {E} cast FitsCast fits exact v (Err d) plain has near t e =
       rw e (record {

@@ -8,3 +8,4 @@ pub mod comparing
 pub mod parsing
 pub mod storing
 pub mod writing
+pub mod Common

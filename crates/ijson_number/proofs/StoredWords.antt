@@ -1,28 +1,17 @@
 -- The words that stored parts feed a hasher.
-use Rattle.std.proofs.Common.{◌≡◌, ◌<◌, Bool, true, false, [], ◌∷◌, length, refl, ap, sym, ◌∙◌, arith}
-use Rattle.std.specs.Prelude.{pos, nat_abs, nat_eq, ◌+ℤ◌, if◌then◌else◌}
-use Rattle.std.specs.Int.Digits.{number_from_digits}
-use Rattle.std.proofs.lemmas.List.{nil_from_length}
-use Rattle.ijson_number.specs.Decimal.{Decimal}
-use Rattle.ijson_number.specs.StoredNumber.{stored_number}
+use Rattle.ijson_number.proofs.Common.{◌≡◌, ◌<◌, false, [], ◌∷◌, length, refl, ap, sym, ◌∙◌, arith, pos, nat_abs, nat_eq, ◌+ℤ◌, if◌then◌else◌}
+use Rattle.ijson_number.proofs.Common.{number_from_digits, nil_from_length, Decimal, signed, decimal_of, abs_signed}
 use Rattle.ijson_number.specs.declared.repr.stripped.StrippedNumber.{StrippedNumber}
-use Rattle.ijson_number.specs.private.StrippedNumber.{decimal_of}
-use Rattle.ijson_number.specs.Strips.{signed}
-use Rattle.ijson_number.specs.laws.Tens.{abs_signed}
 use Rattle.ijson_number.specs.Words.{number_words}
 use Rattle.ijson_number.proofs.storing.DigitsOf.{stored_digits_are}
-use Rattle.ijson_number.proofs.parsing.Denotes.{stripped_mod}
+use Rattle.ijson_number.proofs.parsing.Denotes.{signed_nought, stripped_mod}
 use Rattle.ijson_number.proofs.storing.SameParts.{stored_sign}
 use Rattle.ijson_number.proofs.writing.Writing.{not_zero}
 
 module _ (x : StrippedNumber) (n : Decimal) (view : decimal_of x ≡ n) where
   -- zero feeds two words
   pub zero_words : length x.digits.now ≡ 0 → number_words n ≡ 2 ∷ 0 ∷ []
-  zero_words h = ap number_words (sym view) ∙ rw (nil_from_length x.digits.now h) (nought x.negative)
-    where
-      nought : (negative : Bool) → number_words (stored_number negative [] x.exponent x.point) ≡ 2 ∷ 0 ∷ []
-      nought true = refl
-      nought false = refl
+  zero_words h = ap number_words (sym view) ∙ rw (nil_from_length x.digits.now h, signed_nought x.negative) refl
 
   -- another number feeds its parts
   pub stored_words : 0 < length x.digits.now → number_words n
@@ -32,8 +21,7 @@ module _ (x : StrippedNumber) (n : Decimal) (view : decimal_of x ≡ n) where
       let v = stripped_mod x.digits.now x.stripped.stripped h in
       let some : nat_eq (nat_abs (signed x.negative number)) 0 ≡ false =
       rw (abs_signed x.negative number) (not_zero number (omega (arith, v))) in
-      ap number_words (sym view)
-      ∙ rw (
+      ap number_words (sym view) ∙ rw (
         some,
         number_words,
         stored_sign x.negative x.digits.now x.stripped,

@@ -1,15 +1,7 @@
 -- Worked examples, by computation.
-use Rattle.std.proofs.Common.{◌≡◌, true, false, List, [], ◌∷◌, map, refl, inl, inr, arith}
-use Rattle.ijson_number.specs.Grammar.{Spells}
-use Rattle.std.specs.Prelude.{ℤ, pos, negsuc, neg_ℤ, codes}
-use Rattle.std.specs.declared.cmp.Ordering.TheVariants.{Less, Equal, Greater}
-use Rattle.ijson_number.specs.Decimal.{Decimal}
-use Rattle.ijson_number.specs.StrippedDigits.{stripped_digits}
-use Rattle.ijson_number.specs.Text.{num_text}
-use Rattle.ijson_number.specs.Order.{number_cmp}
+use Rattle.ijson_number.proofs.Common.{◌≡◌, true, false, List, [], ◌∷◌, map, refl, ℤ, pos, negsuc, neg_ℤ, codes, Less, Equal}
+use Rattle.ijson_number.proofs.Common.{Greater, Decimal, stripped_digits, num_text, number_cmp, form_of, packed, signed_word, unsigned_word, digits}
 use Rattle.ijson_number.specs.Words.{number_words}
-use Rattle.ijson_number.proofs.writing.RoundTrip.{spelled}
-use Rattle.ijson_number.specs.Form.{form_of, packed, signed_word, unsigned_word, digits}
 
 abbrev float : ℤ → ℤ → Decimal
 float m e = record { mantissa = m; exponent = e; point = true }
@@ -23,18 +15,10 @@ IsTable f rows = map (λ r. f r.0) rows ≡ map (λ r. r.1) rows
 
 texts : IsTable num_text (
     (float (pos 1) (pos 20), codes "100000000000000000000.0") ∷
-    (float (pos 1) (pos 22), codes "1e22") ∷
     (float (pos 15) (negsuc 3), codes "0.0015") ∷
-    (float (pos 1) (negsuc 5), codes "0.000001") ∷
     (float (pos 1) (negsuc 6), codes "1e-7") ∷
-    (float (pos 12) (pos 30), codes "1.2e31") ∷
-    (float (pos 441044444333116125) (negsuc 2), codes "441044444333116.125") ∷
     (whole (negsuc 24) (pos 1), codes "-250") ∷
-    (whole (pos 0) (pos 0), codes "0") ∷
     (float (pos 0) (pos 0), codes "0.0") ∷
-    (float (pos 15) (negsuc 0), codes "1.5") ∷
-    (float (pos 1) (pos 2), codes "100.0") ∷
-    (float (pos 1) (pos 1073741824), codes "1e1073741824") ∷
     [])
 texts = refl
 
@@ -45,13 +29,7 @@ forms : IsTable form_of (
     (whole (pos 9223372036854775808) (pos 0), unsigned_word 9223372036854775808) ∷
     (float (pos 1) (pos 23), packed (pos 10000000000000000) (pos 7) true) ∷
     (float (pos 1) (pos 24), digits false (1 ∷ []) (pos 24) true) ∷
-    (float (pos 1) (pos 20), packed (pos 10000000000000000) (pos 4) true) ∷
-    (float (pos 1) (negsuc 0), packed (pos 1) (negsuc 0) true) ∷
     (float (pos 1) (pos 2), packed (pos 100) (pos 0) true) ∷
-    (float (pos 0) (pos 0), packed (pos 0) (pos 0) true) ∷ (
-      float (pos 441044444333116125) (negsuc 2),
-      digits false (4 ∷ 4 ∷ 1 ∷ 0 ∷ 4 ∷ 4 ∷ 4 ∷ 4 ∷ 4 ∷ 3 ∷ 3 ∷ 3 ∷ 1 ∷ 1 ∷ 6 ∷ 1 ∷ 2 ∷ 5 ∷ []) (negsuc 2) true,
-    ) ∷
     (float (pos 36028797018963968) (pos 0), digits false (stripped_digits (float (pos 36028797018963968) (pos 0))) (pos 0) true) ∷
     [])
 forms = refl
@@ -69,13 +47,3 @@ words : IsTable number_words (
     (float (negsuc 4) (negsuc 0), 2 ∷ 2 ∷ 2147483647 ∷ 1 ∷ 5 ∷ []) ∷
     [])
 words = refl
-
--- the number that a text of a row spells, by its parts
-spelled-1_5E-3 : Spells (codes "1.5E-3") (float (pos 15) (negsuc 3))
-spelled-1_5E-3 =
-    spelled (float (pos 15) (negsuc 3)) false (49 ∷ []) (53 ∷ []) (46 ∷ 53 ∷ []) (69 ∷ 45 ∷ 51 ∷ []) true true (negsuc 2)
-    (inr (omega arith, omega arith, tt)) (refl, ((omega arith, omega arith), tt), refl, refl)
-    (inr refl, inr (inl (refl, ((omega arith, omega arith), tt), refl)), refl) refl (record {
-      plain = record { zero = λ h. absurd (cc); stripped = λ _ h. absurd (omega arith); whole = λ h. absurd (cc) };
-      tens = inr (0, refl, refl);
-    })

@@ -8,4 +8,3 @@ pub mod BlockDigits
 pub mod Significands
 pub mod SmallExponents
 pub mod WholeValues
-pub mod ZerosOff

@@ -72,17 +72,14 @@ fn encode_integer(negative: bool, magnitude: u64) -> Option<Stored>
 impl Significand {
     /// Returns the word of a common number, if it fits one.
     ///
-    /// Most numbers are common: integers, and those with at most seven fraction digits and a magnitude below 2^55.
+    /// Most numbers with the fraction point are common: they have at most seven fraction digits and a magnitude below 2^55.
     #[inline(always)]
     fn common_word(self) -> Option<Stored>
-        requires integer { self.point ≡ false → self.exponent ≡ pos 0 }
+        requires point { self.point ≡ true }
         requires stripped { self.exponent <ℤ pos 0 → self.magnitude % 10 ≢ 0 }
         ensures word { IfSome result (λ s. stored_form s ≡ form_of (significand_number self)) }
         ensures common { IsCommonWord self → IsSome result }
     {
-        if !self.point {
-            return encode_integer(self.negative, self.magnitude);
-        }
         if self.exponent < -7 || self.exponent > 0 || self.magnitude >= PACKED_END as u64 {
             return None;
         }

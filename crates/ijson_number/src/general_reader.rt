@@ -40,8 +40,8 @@ fn is_digits(bytes: &[u8]) -> bool
     !digits.is_empty() && rest.is_empty()
 }
 
-/// Strips leading zeros.
-fn strip_leading_zeros(digits: &[u8]) -> &[u8]
+/// Trims leading zeros.
+fn trim_leading_zeros(digits: &[u8]) -> &[u8]
     ensures zeros { digits.now
         ≡ replicate (length digits.now - length result.now) 48 ++ result.now }
     ensures first { BeginsWithNoZero result.now }
@@ -53,8 +53,8 @@ fn strip_leading_zeros(digits: &[u8]) -> &[u8]
     &digits[count..]
 }
 
-/// Strips trailing zeros.
-fn strip_trailing_zeros(digits: &[u8]) -> &[u8]
+/// Trims trailing zeros.
+fn trim_trailing_zeros(digits: &[u8]) -> &[u8]
     ensures zeros { digits.now
         ≡ result.now ++ replicate (length digits.now - length result.now) 48 }
     ensures last { EndsWithNoZero result.now }
@@ -163,9 +163,9 @@ fn strip_front<'a>(whole: &'a [u8], fraction: &'a [u8]) -> (&'a [u8], &'a [u8])
         × whole.now ++ fraction.now ≡ replicate zeros 48 ++ (result.0.now ++ result.1.now) }
     ensures first { BeginsWithNoZero (result.0.now ++ result.1.now) }
 {
-    let front = strip_leading_zeros(whole);
+    let front = trim_leading_zeros(whole);
     if front.is_empty() {
-        (front, strip_leading_zeros(fraction))
+        (front, trim_leading_zeros(fraction))
     } else {
         (front, fraction)
     }
@@ -180,9 +180,9 @@ fn strip_back<'a>(front: &'a [u8], back: &'a [u8]) -> (&'a [u8], &'a [u8])
     ensures back_len { length result.1.now ≤ length back.now }
     ensures last { EndsWithNoZero (result.0.now ++ result.1.now) }
 {
-    let tail = strip_trailing_zeros(back);
+    let tail = trim_trailing_zeros(back);
     if tail.is_empty() {
-        (strip_trailing_zeros(front), tail)
+        (trim_trailing_zeros(front), tail)
     } else {
         (front, tail)
     }

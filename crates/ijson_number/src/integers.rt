@@ -9,6 +9,7 @@ use crate::encode::{encode_signed, encode_unsigned};
 use crate::repr::INumber;
 use crate::repr::digits::MAX_DIGITS;
 use crate::repr::stripped::StrippedNumber;
+use std::cmp::Ordering;
 
 impl INumber {
     /// Returns the integer 0. It does not allocate.
@@ -23,6 +24,29 @@ impl INumber {
         ensures { IsInteger result.decimal (pos 1) }
     {
         INumber::from(1i64)
+    }
+}
+
+impl INumber {
+    ghost use Rattle.ijson_number.specs.Integers.{integer};
+    ghost use Rattle.ijson_number.specs.Order.{number_cmp};
+
+    /// Compares the value with an integer. It does not allocate.
+    ///
+    /// `number.cmp_i64(10).is_gt()` holds for `10.5`, and `is_eq()` for `10.0`.
+    pub fn cmp_i64(&self, value: i64) -> Ordering
+        ensures { result ≡ number_cmp self.now.decimal (integer value) }
+    {
+        self.cmp(&INumber::from(value))
+    }
+
+    /// Compares the value with an integer. It does not allocate.
+    ///
+    /// Like `cmp_i64`.
+    pub fn cmp_u64(&self, value: u64) -> Ordering
+        ensures { result ≡ number_cmp self.now.decimal (integer (pos value)) }
+    {
+        self.cmp(&INumber::from(value))
     }
 }
 

@@ -1,7 +1,7 @@
 //! Exact decimals, as JSON writes numbers.
 //!
-//! Each module uses only those before it: `looks`, `lanes`, `repr::word`, `repr::digits`, `repr::stored`, `repr`, `repr::stripped`,
-//! `significand`, `fast_reader`, `general_reader`, `encode`, `number`, `number::clone`, `number::hash`, `write::display`, `write::fast`,
+//! Each module uses only those before it: `looks`, `lanes`, `significand`, `repr::word`, `repr::digits`, `repr::stored`, `repr`,
+//! `repr::stripped`, `fast_reader`, `general_reader`, `encode`, `number`, `number::clone`, `number::hash`, `write::display`, `write::fast`,
 //! `write::stripped_digits`, `comparison`, `number::order`, `form`, `integers`, `tests`.
 //!
 //! Tests: `src/tests.rt` has those of packed words; `ijson/src/tests/numbers.rt` the others; `ijson_compact` those of the words that numbers

@@ -37,6 +37,7 @@ impl Significand {
     }
 
     /// Returns the number by its canonical significand.
+    #[inline(always)]
     pub fn canonical(self) -> Significand
         requires low { neg_ℤ (pos 20000) ≤ℤ self.exponent }
         requires high { self.exponent ≤ℤ pos 20000 }
@@ -44,6 +45,7 @@ impl Significand {
         ensures low { neg_ℤ (pos 20000) ≤ℤ result.exponent }
         ensures high { result.exponent ≤ℤ pos 20020 }
         ensures fewer { result.magnitude ≤ self.magnitude }
+        ensures stripped { self.magnitude ≢ 0 → result.magnitude % 10 ≢ 0 }
     {
         if self.magnitude == 0 {
             return Significand {

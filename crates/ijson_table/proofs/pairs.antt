@@ -1,6 +1,7 @@
 pub mod DistinctKeys
 pub mod KeyPositions
 pub mod NewPairs
+pub mod OtherKeys
 pub mod PairsByKey
 pub mod PutEach
 pub mod Replaced

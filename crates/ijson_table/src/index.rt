@@ -10,7 +10,7 @@
 //! - `fill`: filling a table from entries sorted by home slot.
 //! - `copy`: copying the slots to another number of slots.
 
-ghost use Rattle.std.specs.Prelude.{◌≡◌, ℕ, ◌+◌, ◌-◌, ◌%◌, ◌^◌, ◌<◌, ◌≤◌, [], ◌∷◌, ◌++◌, length, get_or, None, IfOk, OnErr};
+ghost use Rattle.std.specs.Prelude.{◌≡◌, ℕ, ◌+◌, ◌-◌, ◌%◌, ◌^◌, ◌<◌, ◌≤◌, [], ◌∷◌, ◌++◌, length, get_or, set, None, IfOk, OnErr};
 ghost use Rattle.std.specs.List.{remove, swap_remove as swapped_out};
 ghost use Rattle.ijson_table.specs.Crowd.{distance};
 ghost use Rattle.ijson_table.specs.Slots.{displacement, resident, IsTable};
@@ -32,7 +32,7 @@ mod shift;
 mod slots;
 
 use crate::index::probe::{Lookup, Probed, probe};
-use crate::index::shift::{shift_remove, swap_remove, vacancy};
+use crate::index::shift::{rehash_one, shift_remove, swap_remove, vacancy};
 use crate::index::slots::Slots;
 use crate::slot::{Modulus, Slot};
 use ijson_number::Looks;
@@ -199,6 +199,19 @@ impl Index {
         ensures count { length self.new.slots ≡ length self.old.slots }
     {
         shift_remove(&mut self.slots, position, hash, last);
+    }
+
+    /// Gives index `position`, whose key has the hash `was`, another hash.
+    ///
+    /// Both are the parts of the hashes that the slots keep.
+    pub fn rehash_one(&mut self, position: usize, was: u64, hash: u64)
+        requires within { position < length self.old.hashes }
+        requires was { was ≡ get_or self.old.hashes position 0 }
+        requires kept { hash ≡ kept (length self.old.slots) hash }
+        ensures hashes { self.new.hashes ≡ set self.old.hashes position hash }
+        ensures count { length self.new.slots ≡ length self.old.slots }
+    {
+        rehash_one(&mut self.slots, position, was, hash);
     }
 
     /// Empties all slots.

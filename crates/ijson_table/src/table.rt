@@ -8,7 +8,7 @@ ghost use Rattle.ijson_table.specs.Crowd.{distance};
 ghost use Rattle.ijson_table.specs.Growth.{capacity_limit};
 ghost use Rattle.ijson_table.specs.Inserts.{Inserts};
 ghost use Rattle.ijson_table.specs.Slots.{resident, IsBounded, IsTable};
-ghost use Rattle.ijson_table.specs.Store.{at, keys_of, IsDistinct, lookup};
+ghost use Rattle.ijson_table.specs.Store.{at, keys_of, IsDistinct, lookup, with_key};
 ghost use Rattle.ijson_table.specs.PlacedWithValue.{placed_with_value};
 ghost use Rattle.ijson_table.specs.laws.Store.{IsDistinct-prop};
 ghost use Rattle.ijson_table.specs.private.Changes.{changes};
@@ -240,6 +240,24 @@ impl<V: Drop, H: KeyHash> Table<V, H> {
         let kept = Modulus::new(self.index.len()).kept_hash(hash);
         let slot = self.index.vacancy(kept);
         self.push_at(slot, key, value, hash);
+    }
+
+    /// Replaces the key at an index by one that is missing, and returns the old key.
+    ///
+    /// # Cost
+    ///
+    /// Both keys are hashed, and the collision clusters of their home slots inspected. Nothing is allocated.
+    pub fn replace_key_at(&mut self, index: usize, key: IString) -> IString
+        requires within { index < length self.old.store.pairs }
+        requires missing { at self.old.store.pairs key ≡ None }
+        ensures key { result ≡ get_or (keys_of self.old.store.pairs) index [] }
+        ensures pairs { self.new.store.pairs ≡ with_key self.old.store.pairs index key }
+        ensures capacity { self.new.store.capacity ≡ self.old.store.capacity }
+    {
+        let was = self.hash_at(index);
+        let hash = Modulus::new(self.index.len()).kept_hash(H::hash(key.as_str()));
+        self.index.rehash_one(index, was, hash);
+        mem::replace(&mut self.pairs[index].0, key)
     }
 
     /// Like `push_hashed`, at the slot at which the probe for the key ended.

@@ -1,7 +1,9 @@
 -- An array after a mutable borrow of its elements as a slice ends: the elements are those last written, their number and the capacity are
 -- unchanged. This project's own.
 use Rattle.std.specs.Prelude.{List, ◌++◌, length, take, drop}
-use Rattle.std.specs.Borrow.{Lends, MutBor, Array, Fml}
+use Rattle.std.specs.Borrow.{Lends, MutBor, Array, Fml, follows}
+use Rattle.std.specs.Slice.Iter.{iter_mut_name}
+use Rattle.std.specs.declared.slice.IterMut.{IterMut}
 use Rattle.ijson_value.specs.WellFormed.{WellFormed}
 use Rattle.ijson_value.specs.Sequence.{Sequence}
 use Rattle.ijson_value.specs.contracts.array.IArray as arrays
@@ -13,3 +15,7 @@ with_items a ws = record { items = take (length a.items) (ws ++ drop (length ws)
 
 abbrev pub LendsItems : MutBor Sequence → MutBor (List WellFormed) → Fml
 LendsItems s r = Lends arrays.the_row (Array value.the_row 0) s r (with_items s.now)
+
+-- like `LendsItems`, through an iterator over the elements
+abbrev pub LendsItemsInTurn : MutBor Sequence → IterMut WellFormed → Fml
+LendsItemsInTurn s it = follows arrays.the_row (Array value.the_row 0) s.ghost_name (iter_mut_name it) (with_items s.now)

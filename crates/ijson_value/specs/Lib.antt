@@ -21,6 +21,7 @@ pub mod MayAsk
 pub mod NodeValue
 pub mod Opened
 pub mod Order
+pub mod ReplacesKey
 pub mod Retains
 pub mod Same
 pub mod SameTest

@@ -2,6 +2,7 @@
 
 mod access;
 mod copy;
+mod edits;
 mod entry;
 mod extend;
 mod from_map;
@@ -10,6 +11,7 @@ mod iter;
 mod map;
 mod retain;
 
+pub use edits::RefusedReplacement;
 pub use entry::{Entry, OccupiedEntry, RefusedKey, VacantEntry};
 pub use index::ObjectIndex;
 pub use iter::{IntoIter, Iter, Keys, Values};

@@ -1,37 +1,66 @@
-//! The value at a JSON Pointer in a text, and for a fault in the text its line and column.
-use super::empty_cache;
-use crate::json::{JsonError, from_json, line_and_column, to_json};
-use crate::pointer::resolve;
-use crate::value::IValue;
-use anyhow::{Result, anyhow, bail};
-use std::alloc::Global;
+//! The value at a JSON Pointer in a text, as text, or why there is none. A fault in the text has its line and column.
+ghost use Rattle.std.specs.Prelude.{◌≡◌, ◌≢◌, Err, IfOk, Some};
+ghost use Rattle.std.specs.String.{string_bytes};
+ghost use Rattle.ijson_extra.specs.LendsResolved.{unresolved};
+ghost use Rattle.ijson_extra.specs.Pointer.{resolved};
+ghost use Rattle.ijson_extra.specs.declared.pointer.lend.Unresolved.{Unresolved};
+ghost use Rattle.ijson_json.specs.Grammar.{Accepted};
+ghost use Rattle.ijson_json.specs.Located.{Locates};
+ghost use Rattle.ijson_json.specs.Refuses.{Refuses};
+ghost use Rattle.ijson_json.specs.declared.fault.JsonError.{JsonError};
+ghost use Rattle.ijson_json.specs.declared.located.LocatedError.{LocatedError};
+ghost use Rattle.ijson_json.specs.Print.{print};
+ghost use Rattle.ijson_value.specs.Tree.{Tree};
 
-/// Returns the error message for a fault in a text, with its line and column.
-fn told(text: &str, fault: JsonError) -> anyhow::Error {
-    let (what, at) = match fault {
-        JsonError::Syntax { at } => ("no JSON", at),
-        JsonError::TooDeep { at } => ("too deep", at),
-        JsonError::NumberRange { at } => ("number out of range", at),
-        JsonError::Memory => return anyhow!("out of memory"),
-    };
-    let place = line_and_column(text, at);
-    anyhow!("{what} at line {}, column {}", place.line, place.column)
+use super::empty_cache;
+use crate::json::{LocatedError, from_json, to_json};
+use crate::pointer::{Unresolved, resolve};
+use crate::value::IValue;
+use std::alloc::{AllocError, Global};
+use std::process::Abort;
+
+/// Why there is no text.
+#[derive(Clone, Copy, Debug, Drop, PartialEq, Eq)]
+enum PointedError {
+    /// The text is not JSON within the limits.
+    Text(LocatedError),
+    /// The pointer refers to nothing, or is no pointer.
+    Pointer(Unresolved),
+    /// An allocation failed.
+    Memory,
 }
 
 /// Returns the text of the value at a pointer in a value.
-fn pointed_in(alloc: Global, value: &IValue, pointer: &str) -> Result<String> {
-    match resolve(value, pointer) {
-        Ok(Some(found)) => Ok(to_json(alloc, found)?),
-        Ok(None) => bail!("nothing stands at {pointer:?}"),
-        Err(_) => bail!("{pointer:?} is no JSON Pointer"),
+fn pointed_in(alloc: Global, value: &IValue, pointer: &str) -> Result<String, PointedError>
+    ensures found { IfOk result (λ out. (t : Tree)
+        × (resolved value.now.tree pointer.now ≡ Some (Some t)) × (string_bytes out ≡ print t)) }
+    ensures missing { (why : Unresolved) → result ≡ Err (PointedError.Pointer why)
+        → resolved value.now.tree pointer.now ≡ unresolved why }
+    ensures read { (why : LocatedError) → result ≢ Err (PointedError.Text why) }
+{
+    let found = match resolve(value, pointer) {
+        Ok(Some(found)) => found,
+        Ok(None) => return Err(PointedError::Pointer(Unresolved::Nothing)),
+        Err(why) => return Err(PointedError::Pointer(Unresolved::NoPointer(why))),
+    };
+    match to_json(alloc, found) {
+        Ok(text) => Ok(text),
+        Err(_) => Err(PointedError::Memory),
     }
 }
 
 /// Returns the text of the value at a pointer in a text.
-fn pointed(alloc: Global, text: &str, pointer: &str) -> Result<String> {
+fn pointed(alloc: Global, text: &str, pointer: &str) -> Result<String, PointedError>
+    ensures found { IfOk result (λ out. (tree : Tree) × Accepted text.now tree × (t : Tree)
+        × (resolved tree pointer.now ≡ Some (Some t)) × (string_bytes out ≡ print t)) }
+    ensures missing { (why : Unresolved) → result ≡ Err (PointedError.Pointer why)
+        → (tree : Tree) × Accepted text.now tree × (resolved tree pointer.now ≡ unresolved why) }
+    ensures refused { (why : LocatedError) → result ≡ Err (PointedError.Text why)
+        → (error : JsonError) × Refuses text.now error × Locates text.now error why }
+{
     match from_json(alloc, &mut empty_cache(alloc), text) {
-        Ok(value) => pointed_in(alloc, &value, pointer),
-        Err(fault) => Err(told(text, fault)),
+        Ok(value) => Ok(pointed_in(alloc, &value, pointer)?),
+        Err(error) => Err(PointedError::Text(error.locate(text))),
     }
 }
 
@@ -39,15 +68,15 @@ fn pointed(alloc: Global, text: &str, pointer: &str) -> Result<String> {
 static POINTED: [(&str, &str, &str); 8] = [
     ("{\"server\":{\"port\":8080}}", "/server/port", "8080"),
     ("[1,[2.50]]", "/1", "[2.5]"),
-    ("{}", "/a", "nothing stands at \"/a\""),
-    ("{}", "a", "\"a\" is no JSON Pointer"),
-    ("{\n\"b\": 01}", "", "no JSON at line 2, column 7"),
-    ("[\"\u{e9}\" 1]", "", "no JSON at line 1, column 6"),
+    ("{}", "/a", "nothing is at the JSON Pointer"),
+    ("{}", "a", "not a JSON Pointer"),
+    ("{\n\"b\": 01}", "", "syntax at line 2, column 7"),
+    ("[\"\u{e9}\" 1]", "", "syntax at line 1, column 6"),
     (
         "[[[[[[[[[[[[[[[[[[[[[[[[[[[[[[[[[[[[[[[[[[[[[[[[[[[[[[[[[[[[[[[[\
         [[[[[[[[[[[[[[[[[[[[[[[[[[[[[[[[[[[[[[[[[[[[[[[[[[[[[[[[[[[[[[[[",
         "",
-        "too deep at line 1, column 128",
+        "nesting too deep at line 1, column 128",
     ),
     (
         "[\n\n1e2000000000]",
@@ -56,13 +85,24 @@ static POINTED: [(&str, &str, &str); 8] = [
     ),
 ];
 
+/// Returns the text, or the message of the error.
+fn answer(rt: &impl Abort, alloc: Global, found: Result<String, PointedError>) -> String {
+    let message = match found {
+        Ok(text) => Ok(text),
+        Err(PointedError::Text(error)) => error.to_string(alloc),
+        Err(PointedError::Pointer(why)) => why.to_string(alloc),
+        Err(PointedError::Memory) => Err(AllocError),
+    };
+    message.expect(rt, "memory")
+}
+
 #[test]
 fn values_are_pointed_at(rt: HostRuntime) {
     for &(text, pointer, want) in &POINTED {
-        let found = match pointed(rt.alloc(), text, pointer) {
-            Ok(found) => found,
-            Err(fault) => format!(in rt.alloc(); "{fault}").expect(&rt, "memory"),
-        };
-        assert!(rt; found.as_str() == want, "{text} {pointer}");
+        let found = pointed(rt.alloc(), text, pointer);
+        assert!(rt;
+            answer(&rt, rt.alloc(), found).as_str() == want,
+            "{text} {pointer}"
+        );
     }
 }

@@ -2,7 +2,7 @@
 ghost use Rattle.std.specs.Prelude.{◌≡◌, [], ◌∷◌, ◌++◌, true, OnOk};
 ghost use Rattle.ijson_value.specs.Values.{null_value, boolean_value};
 
-use super::is_shown;
+use super::{is_shown, set};
 use crate::array::IArray;
 use crate::value::IValue;
 use std::alloc::{AllocError, Global};
@@ -206,6 +206,28 @@ fn iterators(rt: HostRuntime) {
     let array = spelled(&rt, alloc, "ntf");
     assert!(rt; array.iter().len() == 3 && is_spelled(&array, "ntf"));
     gives_out(&rt, array);
+}
+
+/// Replaces each element by null if `clears` is true, and returns the number of elements that are null then.
+fn count_null(array: &mut IArray, clears: bool) -> usize {
+    for item in &mut *array {
+        if clears {
+            set(item, IValue::NULL);
+        }
+    }
+    let mut nulls = 0usize;
+    for item in &*array {
+        nulls = nulls.wrapping_add(usize::from(item.is_null()));
+    }
+    nulls
+}
+
+#[test]
+fn loops_over_references(rt: HostRuntime) {
+    let mut array = spelled(&rt, rt.alloc(), "ntf");
+    assert!(rt; count_null(&mut array, false) == 1 && is_spelled(&array, "ntf"));
+    assert!(rt; count_null(&mut array, true) == 3 && is_spelled(&array, "nnn"));
+    drop(array);
 }
 
 /// Returns the array `nt`, extended by `ff` and by nothing.

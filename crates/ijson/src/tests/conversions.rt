@@ -5,6 +5,7 @@ use super::{Cache, empty_cache, is_written, parsed};
 use crate::convert::{ConvertError, FromIValue, ToIValue, from_value, to_value};
 use crate::json::to_json;
 use crate::object::IObject;
+use crate::pointer::Pointer;
 use crate::string::IString;
 use crate::table::ReserveError;
 use crate::value::IValue;
@@ -71,7 +72,12 @@ fn inserted(rt: &impl Abort, alloc: Global) -> IndexMap<String, u8> {
 
 /// Asserts the text of the value of `x`.
 fn is_text<T: ToIValue + Drop>(rt: &impl Abort, alloc: Global, x: T, want: &str) {
-    let text = text_of(rt, alloc, &x);
+    is_text_of(rt, alloc, &x, want);
+}
+
+/// Asserts the text of the value of a part.
+fn is_text_of<T: ToIValue>(rt: &impl Abort, alloc: Global, x: &T, want: &str) {
+    let text = text_of(rt, alloc, x);
     assert!(rt; text.as_str() == want);
 }
 
@@ -88,6 +94,51 @@ fn slices_and_texts_are_values(rt: HostRuntime) {
     is_text(&rt, rt.alloc(), slice, "[255,null]");
     let text = "a \"text\" of many bytes";
     is_text(&rt, rt.alloc(), text, r#""a \"text\" of many bytes""#);
+}
+
+/// A value with strings that are in another cache.
+static PART: &str = r#"{"k":[1.5,"a text of many bytes",{"a key of many bytes":null}]}"#;
+
+#[test]
+fn tuples_and_arrays_are_values(rt: HostRuntime) {
+    let alloc = rt.alloc();
+    is_text(&rt, alloc, (1u8, "x"), r#"[1,"x"]"#);
+    is_text(&rt, alloc, (1u8, "x", true), r#"[1,"x",true]"#);
+    is_text(
+        &rt,
+        alloc,
+        ("x", true, None::<u8>, [1u8, 2]),
+        r#"["x",true,null,[1,2]]"#,
+    );
+}
+
+/// Returns the value at a pointer.
+fn part<'a>(rt: &impl Abort, value: &'a IValue, pointer: &str) -> &'a IValue {
+    value.pointer(pointer).expect(rt, pointer)
+}
+
+#[test]
+fn values_and_their_parts_are_values(rt: HostRuntime) {
+    let value = parsed(&rt, rt.alloc(), PART);
+    let object = value.as_object().expect(&rt, "an object");
+    let list = part(&rt, &value, "/k").as_array().expect(&rt, "an array");
+    let number = part(&rt, &value, "/k/0")
+        .as_number()
+        .expect(&rt, "a number");
+    let text = part(&rt, &value, "/k/1")
+        .as_string()
+        .expect(&rt, "a string");
+    is_text_of(&rt, rt.alloc(), &value, PART);
+    is_text_of(&rt, rt.alloc(), object, PART);
+    is_text_of(
+        &rt,
+        rt.alloc(),
+        list,
+        r#"[1.5,"a text of many bytes",{"a key of many bytes":null}]"#,
+    );
+    is_text_of(&rt, rt.alloc(), number, "1.5");
+    is_text_of(&rt, rt.alloc(), text, r#""a text of many bytes""#);
+    drop(value);
 }
 
 /// Maps, and the text of the object of each that has an order.

@@ -45,6 +45,29 @@ static OF_TEXTS: [(JsonError, &str, &str); 4] = [
     (JsonError::Memory, "out of memory", "Memory"),
 ];
 
+/// A text, an error of a text, and the message and the debug output of the error with its line and column.
+static LOCATED: [(&str, JsonError, &str, &str); 4] = [
+    (
+        "[1,\n\u{e9}]",
+        JsonError::Syntax { at: 6 },
+        "syntax at line 2, column 2",
+        "Syntax { at: LineColumn { line: 2, column: 2 } }",
+    ),
+    (
+        "\n[",
+        JsonError::TooDeep { at: 1 },
+        "nesting too deep at line 2, column 1",
+        "TooDeep { at: LineColumn { line: 2, column: 1 } }",
+    ),
+    (
+        "1e2000000000",
+        JsonError::NumberRange { at: 0 },
+        "number out of range at line 1, column 1",
+        "NumberRange { at: LineColumn { line: 1, column: 1 } }",
+    ),
+    ("1", JsonError::Memory, "out of memory", "Memory"),
+];
+
 /// Errors of `compact`, the message and the debug output of each.
 static OF_COMPACT: [(CompactError, &str, &str); 5] = [
     (CompactError::Read, "read failed", "Read"),
@@ -96,6 +119,9 @@ static OF_POINTERS: [(Unresolved, &str, &str); 2] = [
 fn faults_become_errors(rt: HostRuntime) {
     for &(fault, text, shown) in &OF_TEXTS {
         is_told(&rt, rt.alloc(), fault, text, shown);
+    }
+    for &(source, fault, text, shown) in &LOCATED {
+        is_told(&rt, rt.alloc(), fault.locate(source), text, shown);
     }
     for &(fault, text, shown) in &OF_COMPACT {
         is_told(&rt, rt.alloc(), fault, text, shown);

@@ -3,6 +3,7 @@
 use super::Cache;
 use crate::convert::ConvertError;
 use crate::ijson;
+use crate::number::INumber;
 use crate::value::IValue;
 use std::alloc::Global;
 
@@ -13,11 +14,12 @@ pub(super) enum Literal {
     Objects,
     Lists,
     Texts,
+    Values,
     Example,
 }
 
 /// The text of the value of each literal except the last one.
-pub(super) static LITERALS: [(Literal, &str); 5] = [
+pub(super) static LITERALS: [(Literal, &str); 6] = [
     (Literal::Pairs, r#"{"name":[],"sizes":[],"nested":{}}"#),
     (
         Literal::Members,
@@ -26,6 +28,7 @@ pub(super) static LITERALS: [(Literal, &str); 5] = [
     (Literal::Objects, r#"{"nested":{"deep":true,"none":{}}}"#),
     (Literal::Lists, "[[],-7]"),
     (Literal::Texts, r#"{"longlong":["x"],"c":{}}"#),
+    (Literal::Values, r#"{"a":[true],"n":7,"s":["x",[1,2]]}"#),
 ];
 
 /// The text of the value of the last one.
@@ -43,6 +46,7 @@ pub(super) fn value_of(
         Literal::Objects => objects(alloc, cache, "nested"),
         Literal::Lists => lists(alloc, cache, -14),
         Literal::Texts => texts(alloc, cache),
+        Literal::Values => values(alloc, cache, IValue::TRUE, INumber::from(7)),
         Literal::Example => example(alloc, cache),
     }
 }
@@ -73,6 +77,16 @@ fn lists(alloc: Global, cache: &mut Cache, n: i64) -> Result<IValue, ConvertErro
 /// A key and a string that allocate, and an object in a list that a duplicate key replaces.
 fn texts(alloc: Global, cache: &mut Cache) -> Result<IValue, ConvertError> {
     ijson!(alloc, cache; {"longlong": ["eight888", {}], "c": {}, "longlong": ["x"]})
+}
+
+/// A value, a number, a tuple and an array.
+fn values(
+    alloc: Global,
+    cache: &mut Cache,
+    value: IValue,
+    number: INumber,
+) -> Result<IValue, ConvertError> {
+    ijson!(alloc, cache; {"a": [value], "n": number, "s": ("x", [1u8, 2])})
 }
 
 /// The example of the documentation.

@@ -179,6 +179,24 @@ fn conversion_of_a_text(rt: HostRuntime) {
     drop(again);
 }
 
+/// Returns a copy of a value, whose strings are interned.
+fn copy_of(rt: &impl Abort, alloc: Global, cache: &mut Cache, value: &IValue) -> IValue {
+    granted!(rt; ConvertError::Memory; to_value(alloc, cache, value))
+}
+
+#[test]
+fn conversion_of_a_value(rt: HostRuntime) {
+    let text = "[{\"eight888\":1.5},[18446744073709551616,null,true]]";
+    let value = read(&rt, rt.alloc(), text);
+    let mut cache = used_cache(&rt, rt.alloc());
+    let copy = copy_of(&rt, rt.alloc(), &mut cache, &value);
+    drop(value);
+    assert!(rt; is_kept(&cache, 2) && cache.contains("eight888"));
+    drop(cache);
+    is_written(&rt, rt.alloc(), &copy, text);
+    drop(copy);
+}
+
 /// Asserts the text of the value of a literal, and that the cache keeps its string.
 fn is_literal(rt: &impl Abort, alloc: Global, cache: &mut Cache, which: &Literal, text: &str) {
     let value = granted!(rt; ConvertError::Memory; value_of(alloc, cache, which));

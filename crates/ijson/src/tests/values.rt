@@ -138,6 +138,7 @@ type Answers = (ValueType, Option<bool>, Option<usize>, Option<bool>);
 fn answers(value: &IValue, told: Answers) -> bool {
     value.type_() == told.0
         && value.to_bool() == told.1
+        && value.as_bool() == told.1
         && value.len() == told.2
         && value.is_empty() == told.3
 }
@@ -153,6 +154,7 @@ fn is_of_kind(value: &IValue, kind: ValueType) -> bool {
         (ValueType::Object, value.is_object()),
         (ValueType::Number, value.as_number().is_some()),
         (ValueType::String, value.as_string().is_some()),
+        (ValueType::String, value.as_str().is_some()),
         (ValueType::Array, value.as_array().is_some()),
         (ValueType::Object, value.as_object().is_some()),
     ];

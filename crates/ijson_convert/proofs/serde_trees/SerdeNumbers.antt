@@ -16,7 +16,8 @@ use Rattle.ijson_value.specs.Same.{Same}
 use Rattle.ijson_value.specs.Tree.{Tree, null, number}
 use Rattle.ijson_convert.specs.IntegerTree.{integer_number}
 use Rattle.ijson_convert.specs.SerdeTree.{SerdeNumber, SerdeTree, HasNoTree, SerdeMeans, NoSerdeMeans}
-use Rattle.ijson_convert.specs.laws.Integers.{integer_num, signed_has, unsigned_has, signed_is, unsigned_is}
+use Rattle.ijson_convert.specs.laws.IntegerValues.{integer_value}
+use Rattle.ijson_convert.specs.laws.Integers.{integer_num, signed_is, unsigned_is}
 use Rattle.ijson_convert.specs.laws.Whole.{has_too}
 use Rattle.ijson_convert.proofs.Whole.{has_same}
 
@@ -35,7 +36,7 @@ means_unsigned m n u is small h = subst (λ k. SerdeMeans (serde.number k) (numb
   number (integer_number (pos n)),
   unsigned_num n small,
   (small, refl),
-  has_same (integer_number (pos n)) u (pos n) (unsigned_has n small) h,
+  has_same (integer_number (pos n)) u (pos n) (integer_value (pos n)) h,
 )
 
 -- and so does a signed one
@@ -46,17 +47,17 @@ means_signed m (negsuc n) u is fits h = subst (λ k. SerdeMeans (serde.number k)
   number (integer_number (negsuc n)),
   signed_num (negsuc n) fits,
   (fits, refl),
-  has_same (integer_number (negsuc n)) u (negsuc n) (signed_has (negsuc n) fits) h,
+  has_same (integer_number (negsuc n)) u (negsuc n) (integer_value (negsuc n)) h,
 )
 
 module _ (u : Decimal) (no_unsigned : (n : ℕ) → n < 2 ^ 64 → HasValue u (pos n) → ⊥)
     (no_signed : (z : ℤ) → FitsSigned w64 z → HasValue u z → ⊥) where
   unmeant : (d : Data) (t : Tree) → SerdeTree d t → Same t (number u) → ⊥
   unmeant (serde.number (serde.unsigned n)) (number k) h s =
-      no_unsigned n h.0 (has_too (integer_number (pos n)) u (pos n) (unsigned_has n h.0)
+      no_unsigned n h.0 (has_too (integer_number (pos n)) u (pos n) (integer_value (pos n))
       (subst (λ l. number_cmp l u ≡ Equal) h.1 s))
   unmeant (serde.number (serde.negative z)) (number k) h s =
-      no_signed z h.0 (has_too (integer_number z) u z (signed_has z h.0)
+      no_signed z h.0 (has_too (integer_number z) u z (integer_value z)
       (subst (λ l. number_cmp l u ≡ Equal) h.1 s))
   unmeant d (number k) h s = h
   unmeant d t h s = s

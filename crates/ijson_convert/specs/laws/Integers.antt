@@ -5,7 +5,7 @@ use Rattle.std.specs.Cmp.{tied_back}
 use Rattle.std.specs.declared.cmp.Ordering.TheVariants.{Equal}
 use mir.Syntax.{w64}
 use Rattle.ijson_number.specs.Form.{packed, signed_word, unsigned_word, fits_packed, fits_i64, fits_u64}
-use Rattle.ijson_number.specs.Integers.{integer, HasValue, IsInteger}
+use Rattle.ijson_number.specs.Integers.{integer, IsInteger}
 use Rattle.ijson_number.specs.Num.{Num, IsNum}
 use Rattle.ijson_number.specs.Order.{number_cmp}
 use Rattle.ijson_number.specs.laws.Ordered.{number_cmp_total, tests_equal, equal_same}
@@ -55,10 +55,3 @@ signed_is n z h = integer_is z (signed_small z h) (λ e. let t = signed_fits z h
 
 pub unsigned_is : (n : Num) (m : ℕ) → m < 2 ^ 64 → IsInteger n.decimal (pos m) → number n.decimal ≡ integer_tree (pos m)
 unsigned_is n m h = integer_is (pos m) h (λ e. unsigned_fits m h) n
-
--- and its value
-pub signed_has : (z : ℤ) → FitsSigned w64 z → HasValue (integer_number z) z
-signed_has z h = let i = integer_has z (signed_small z h) (λ e. let t = signed_fits z h in cc) in i.value
-
-pub unsigned_has : (m : ℕ) → m < 2 ^ 64 → HasValue (integer_number (pos m)) (pos m)
-unsigned_has m h = let i = integer_has (pos m) h (λ e. unsigned_fits m h) in i.value

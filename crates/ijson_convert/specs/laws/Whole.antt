@@ -15,7 +15,7 @@ use Rattle.ijson_value.specs.WellFormed.{IsWellFormed}
 use Rattle.ijson_convert.specs.IntegerTree.{integer_number, integer_tree}
 use Rattle.ijson_convert.specs.Refused.{SignedRefused, UnsignedRefused}
 use Rattle.ijson_convert.specs.declared.convert_error.ConvertError.{ConvertError}
-use Rattle.ijson_convert.specs.laws.Integers.{signed_has, unsigned_has}
+use Rattle.ijson_convert.specs.laws.IntegerValues.{integer_value}
 
 -- a number that equals one of this value has it
 pub has_too : (a n : Decimal) (z : ℤ) → HasValue a z → number_cmp a n ≡ Equal → HasValue n z
@@ -52,7 +52,7 @@ below_64 = omega arith
 module _ (width : Width) (wide : (z : ℤ) → FitsSigned width z → FitsSigned w64 z) where
   pub signed_complete : (z : ℤ) (t : Tree) (e : ConvertError) → FitsSigned width z
       → IsWellFormed (integer_tree z) → IsWellFormed t → Same (integer_tree z) t → SignedRefused width t e → ⊥
-  signed_complete z (number n) e i w v s r = r.1 z i (has_too (integer_number z) n z (signed_has z (wide z i)) s)
+  signed_complete z (number n) e i w v s r = r.1 z i (has_too (integer_number z) n z (integer_value z) s)
   signed_complete z _ e i w v s r = absurd s
 
 module _ (limit : ℕ) (below : limit ≤ 2 ^ 64) where
@@ -60,5 +60,5 @@ module _ (limit : ℕ) (below : limit ≤ 2 ^ 64) where
       → IsWellFormed (integer_tree (pos m)) → IsWellFormed t → Same (integer_tree (pos m)) t
       → UnsignedRefused limit t e → ⊥
   unsigned_complete m (number n) e i w v s r =
-      r.1 m i (has_too (integer_number (pos m)) n (pos m) (unsigned_has m (omega (arith, below, i))) s)
+      r.1 m i (has_too (integer_number (pos m)) n (pos m) (integer_value (pos m)) s)
   unsigned_complete m _ e i w v s r = absurd s

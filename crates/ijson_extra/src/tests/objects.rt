@@ -9,7 +9,7 @@ use super::{empty_cache, insert_new, is_shown, is_written, key, parsed, set};
 use ijson_number::INumber;
 use ijson_string::IString;
 use ijson_table::ReserveError;
-use ijson_value::object::{Entry, IObject};
+use ijson_value::object::{Entry, IObject, RefusedReplacement};
 use ijson_value::value::{DestructuredRef, IValue};
 use std::alloc::Global;
 use std::process::Abort;
@@ -160,6 +160,90 @@ fn shift_removals_and_writes(rt: HostRuntime) {
         holds(&rt, &object, letters, number);
     }
     drop(object);
+}
+
+/// Returns `true` if an object has these keys, in order, and finds each.
+fn finds_keys(object: &IObject, keys: &[&str]) -> bool {
+    for (index, key) in keys.iter().enumerate() {
+        if object.get_index_of(*key) != Some(index) {
+            return false;
+        }
+    }
+    has_keys(object, keys)
+}
+
+/// Indices and keys to insert into an object of the keys a to d, the old number of each, and the keys then.
+static SHIFTED: [(usize, &str, Option<usize>, &[&str]); 5] = [
+    (0, "e", None, &["e", "a", "b", "c", "d"]),
+    (4, "e", None, &["a", "b", "c", "d", "e"]),
+    (0, "c", Some(2), &["c", "a", "b", "d"]),
+    (2, "a", Some(0), &["b", "c", "a", "d"]),
+    (4, "b", Some(1), &["a", "c", "d", "b"]),
+];
+
+#[test]
+fn shift_insertions(rt: HostRuntime) {
+    let alloc = rt.alloc();
+    for &(position, letters, number, keys) in &SHIFTED {
+        let mut object = four(&rt, alloc);
+        assert!(rt; position <= object.len());
+        let old = object.shift_insert(position, key(&rt, alloc, letters), of_number(9));
+        assert!(rt; number_in(old.expect(&rt, "room")) == number);
+        assert!(rt; finds_keys(&object, keys) && number_at(&object, letters) == 9);
+        drop(object);
+    }
+}
+
+/// Returns the outcome of a replacement by name, and the key in it.
+fn named(outcome: Result<IString, RefusedReplacement>) -> (&'static str, IString) {
+    match outcome {
+        Ok(old) => ("Ok", old),
+        Err(RefusedReplacement::Missing(new)) => ("Missing", new),
+        Err(RefusedReplacement::Exists(new)) => ("Exists", new),
+    }
+}
+
+/// Keys to replace in an object of the keys a to d, the new keys, the results, the keys that come back, and the keys then.
+static REPLACED: [(&str, &str, &str, &str, &[&str]); 4] = [
+    ("b", "a long key", "Ok", "b", &["a", "a long key", "c", "d"]),
+    ("b", "b", "Ok", "b", &["a", "b", "c", "d"]),
+    ("e", "f", "Missing", "f", &["a", "b", "c", "d"]),
+    ("b", "d", "Exists", "d", &["a", "b", "c", "d"]),
+];
+
+#[test]
+fn replaced_keys(rt: HostRuntime) {
+    let alloc = rt.alloc();
+    for &(old, new, name, back, keys) in &REPLACED {
+        let mut object = four(&rt, alloc);
+        let (outcome, text) = named(object.replace_key(old, key(&rt, alloc, new)));
+        assert!(rt; outcome == name && text.eq_str(back));
+        assert!(rt; finds_keys(&object, keys) && object.capacity() == 4);
+        drop(text);
+        drop(object);
+    }
+}
+
+/// Returns `true` if the entries have their indices as values, by each way to get an index.
+fn are_indexed(object: &IObject) -> bool {
+    for (key, value) in object {
+        if object.get_index_of(key) != Some(number_of(value)) {
+            return false;
+        }
+    }
+    object.get_index(object.len()).is_none() && object.get_index_of("e").is_none()
+}
+
+#[test]
+fn indices(rt: HostRuntime) {
+    let object = four(&rt, rt.alloc());
+    assert!(rt; are_indexed(&object));
+    assert!(rt;
+        matches!(object.get_index(3), Some((key, value)) if key.eq_str("d") && number_of(value) == 3)
+    );
+    let pairs = object.into_pairs();
+    assert!(rt; pairs.len() == 4);
+    drop(pairs);
 }
 
 #[test]
@@ -601,7 +685,7 @@ fn retained(rt: HostRuntime) {
 /// The debug output of the entries of a, which exists, and of x, which does not.
 static ENTRIES: [(&str, &str); 2] = [
     ("a", "Occupied(OccupiedEntry { key: \"a\", value: 0 })"),
-    ("x", "Vacant(VacantEntry(\"x\"))"),
+    ("x", "Vacant(VacantEntry { key: \"x\" })"),
 ];
 
 #[test]

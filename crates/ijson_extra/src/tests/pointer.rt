@@ -1,7 +1,7 @@
 //! Tests of JSON Pointer.
 
 use super::{is_written, parsed, set};
-use crate::pointer::{PointerError, Unresolved, resolve, resolve_mut, resolve_opened_mut};
+use crate::pointer::{Pointer, PointerError, Unresolved, resolve, resolve_mut, resolve_opened_mut};
 use ijson_value::value::{Destructured, DestructuredMut, DestructuredRef, IValue};
 use std::alloc::Global;
 use std::process::Abort;
@@ -12,6 +12,7 @@ fn names(rt: &impl Abort, alloc: Global, value: &IValue, pointer: &str, want: &s
         Some(found) => is_written(rt, alloc, found, want),
         None => assert!(*rt; want == "none"),
     }
+    assert!(*rt; value.pointer(pointer).is_none() == (want == "none"));
 }
 
 fn names_each(rt: &impl Abort, alloc: Global, text: &str, rows: &[(&str, &str)]) {
@@ -54,6 +55,7 @@ fn pointers(rt: HostRuntime) {
     let value = parsed(&rt, alloc, TEXT);
     for &pointer in &NO_POINTERS {
         assert!(rt; resolve(&value, pointer) == Err(PointerError::Syntax));
+        assert!(rt; value.pointer(pointer).is_none());
     }
     drop(value);
 }

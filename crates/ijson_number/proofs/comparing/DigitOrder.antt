@@ -1,19 +1,8 @@
 -- Comparing lists of digits.
-use Rattle.std.proofs.Common.{◌≡◌, ◌≢◌, ℕ, zero, suc, ◌+◌, ◌<◌, min, List, [], ◌∷◌, length}
-use Rattle.std.proofs.Common.{get_or, drop, add-one, refl, ap, sym, subst, ◌∙◌, arith}
-use Rattle.std.specs.Prelude.{pos, nat_abs}
-use Rattle.std.specs.Int.Digits.{digits_of}
-use Rattle.std.specs.Cmp.Lexicographic.{slice_cmp}
-use Rattle.std.specs.Ordering.{nat_cmp}
-use Rattle.std.proofs.Math.Seq.{drop-cons}
-use Rattle.std.proofs.lemmas.Bool.Decides.{nat_tests}
-use Rattle.std.proofs.lemmas.List.{drop_all}
-use Rattle.std.specs.Cmp.{nat_cmp_total, tied_itself}
-use Rattle.ijson_number.specs.Decimal.{Decimal, IsPlain}
+use Rattle.ijson_number.proofs.Common.{◌≡◌, ◌≢◌, ℕ, zero, suc, ◌+◌, ◌<◌, min, List, [], ◌∷◌, length, get_or, drop, add-one, refl, ap, sym, subst, ◌∙◌}
+use Rattle.ijson_number.proofs.Common.{arith, pos, nat_abs, digits_of, slice_cmp, nat_cmp, nat_tests, drop_all, nat_cmp_total, tied_itself, Decimal}
+use Rattle.ijson_number.proofs.Common.{IsPlain, stripped_digits, drop-cons, decimal_of, IsStripped}
 use Rattle.ijson_number.specs.declared.repr.stripped.StrippedNumber.{StrippedNumber}
-use Rattle.ijson_number.specs.private.StrippedNumber.{decimal_of}
-use Rattle.ijson_number.specs.private.Stripped.{IsStripped}
-use Rattle.ijson_number.specs.StrippedDigits.{stripped_digits}
 use Rattle.ijson_number.proofs.storing.DigitsOf.{digits_are, stored_digits_are}
 use Rattle.ijson_number.proofs.BooleanTests.{abs_zero}
 use Rattle.ijson_number.proofs.writing.DigitTexts.{first_some, within_first}

@@ -1,25 +1,10 @@
 -- The order of positive numbers, by leading places and digits.
-use Rattle.std.proofs.Common.{◌≡◌, ◌≢◌, ℕ, suc, ◌+◌, ◌-◌, ◌*◌, ◌^◌, ◌<◌, ◌≤◌, List, [], ◌∷◌}
-use Rattle.std.proofs.Common.{length, get_or, refl, ap, sym, ◌∙◌, arith, pow-add}
-use Rattle.std.specs.Prelude.{ℤ, pos, nat_abs, ◌+ℤ◌, ◌-ℤ◌, ◌<ℤ◌, ◌≤ℤ◌, false, true}
-use Rattle.std.specs.Int.{int_min}
-use Rattle.std.specs.Int.Digits.{number_from_digits, number_from_digits_after}
-use Rattle.std.specs.List.{AllByRecursion}
-use Rattle.std.specs.Cmp.Lexicographic.{slice_cmp}
-use Rattle.std.specs.declared.cmp.Ordering.{Ordering}
-use Rattle.std.specs.declared.cmp.Ordering.TheVariants.{Less, Equal, Greater}
-use Rattle.std.specs.Ordering.{nat_cmp, int_cmp, ordering_then}
-use Rattle.std.proofs.Math.Nat.{mul-le-mul_right, pow-succ'}
-use Rattle.std.proofs.lemmas.Bool.Decides.{nat_tests}
-use Rattle.std.proofs.lemmas.Cmp.{by_ranked, int_ranked, ranked}
-use Rattle.std.proofs.lemmas.Int.{ints, clamps}
-use Rattle.std.proofs.lemmas.Int.Digits.{number_lt}
-use Rattle.std.proofs.lemmas.List.Elements.{recursion_from_All}
-use Rattle.ijson_number.specs.StoredNumber.{stored_number}
-use Rattle.ijson_number.specs.Order.{number_cmp}
-use Rattle.ijson_number.specs.private.Stripped.{IsStripped}
-use Rattle.ijson_number.specs.laws.Tens.{power_le}
-use Rattle.ijson_number.specs.laws.Ordered.{nonneg}
+use Rattle.ijson_number.proofs.Common.{◌≡◌, ◌≢◌, ℕ, suc, ◌+◌, ◌-◌, ◌*◌, ◌^◌, ◌<◌, ◌≤◌, List, [], ◌∷◌, length, get_or, refl, ap, sym, ◌∙◌, arith}
+use Rattle.ijson_number.proofs.Common.{pow-add, ℤ, pos, nat_abs, ◌+ℤ◌, ◌-ℤ◌, ◌<ℤ◌, ◌≤ℤ◌, false, true, int_min, number_from_digits}
+use Rattle.ijson_number.proofs.Common.{number_from_digits_after, AllByRecursion, slice_cmp, Less, Equal, Greater, nat_cmp, int_cmp, ordering_then}
+use Rattle.ijson_number.proofs.Common.{mul-le-mul_right, pow-succ', nat_tests, ints, clamps, number_lt, recursion_from_All, stored_number, number_cmp}
+use Rattle.ijson_number.proofs.Common.{IsStripped, power_le, nonneg}
+use Rattle.std.proofs.lemmas.Cmp.{by_ranked, ranked}
 use Rattle.ijson_number.proofs.writing.PaddedDigits.{some_places}
 
 pub nat_below : (x y : ℕ) → x < y → nat_cmp x y ≡ Less
@@ -40,9 +25,6 @@ same_int_cmp x = grind (arith, ints)
 pos_cmp : (x y : ℕ) → int_cmp (pos x) (pos y) ≡ nat_cmp x y
 pos_cmp x y = grind (arith, nat_tests)
 
-spread : (n d p v : ℕ) → (n * 10 + d) * p + v ≡ n * (10 * p) + (d * p + v)
-spread n d p v = grind arith
-
 from_first : (d : ℕ) (ds : List ℕ) → number_from_digits 10 (d ∷ ds) ≡ number_from_digits_after 10 d ds
 from_first d ds = let z : 0 * 10 + d ≡ d = omega arith in ap (λ x. number_from_digits_after 10 x ds) z
 
@@ -51,7 +33,7 @@ pub number_after_is : (n : ℕ) (ds : List ℕ) → number_from_digits_after 10 
 number_after_is n [] = omega arith
 number_after_is n (d ∷ ds) =
     let t : 10 ^ suc (length ds) ≡ 10 * 10 ^ length ds = pow-succ' 10 (length ds) in
-    number_after_is (n * 10 + d) ds ∙ rw (from_first d ds, number_after_is d ds, t) (spread n d (10 ^ length ds) (number_from_digits 10 ds))
+    number_after_is (n * 10 + d) ds ∙ rw (from_first d ds, number_after_is d ds, t) (grind arith)
 
 -- the first digit has the weight ten to the number of the others
 pub number_first : (d : ℕ) (ds : List ℕ) → number_from_digits 10 (d ∷ ds) ≡ d * 10 ^ length ds + number_from_digits 10 ds
@@ -132,9 +114,6 @@ places a b j k e f c p q = by_ranked _ _ _ (nat_cmp (a + j) (b + k)) (ranked (a 
     (λ o s. let same : pos a +ℤ e ≡ pos b +ℤ f = omega (arith, ints) in o ∙ rw same (sym (same_int_cmp (pos b +ℤ f))))
     (λ o l. o ∙ sym (int_above (pos a +ℤ e) (pos b +ℤ f) (omega (arith, ints))))
 
-then_apart : (x y : ℤ) (o : Ordering) → (x ≡ y → ⊥) → int_cmp x y ≡ ordering_then (int_cmp x y) o
-then_apart x y o n = by_ranked _ _ _ (int_cmp x y) (int_ranked x y _ refl) (λ e l. rw e refl) (λ e s. absurd (n s)) (λ e l. rw e refl)
-
 module _ (ds es : List ℕ) (e f : ℤ) (p : IsStripped ds) (q : IsStripped es) (s : 0 < length ds) (t : 0 < length es) where
   below_left : Below ds
   below_left = recursion_from_All (λ d. d < 10) ds p.below_ten
@@ -166,4 +145,4 @@ module _ (ds es : List ℕ) (e f : ℤ) (p : IsStripped ds) (q : IsStripped es) 
 
   pub places_cmp : (x y : ℤ) → x ≡ pos (length ds) +ℤ e → y ≡ pos (length es) +ℤ f → (x ≡ y → ⊥)
       → int_cmp x y ≡ number_cmp (stored_number false ds e true) (stored_number false es f true)
-  places_cmp x y h g n = then_apart x y (slice_cmp nat_cmp ds es) n ∙ rw (h, g) (sym decided)
+  places_cmp x y h g n = (let e : int_cmp x y ≡ ordering_then (int_cmp x y) (slice_cmp nat_cmp ds es) = grind (arith, ints) in e) ∙ rw (h, g) (sym decided)

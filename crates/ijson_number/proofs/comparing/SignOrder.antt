@@ -1,24 +1,11 @@
 -- The sign of stored parts, and the order of numbers by their signs.
-use Rattle.std.proofs.Common.{◌≡◌, ℕ, zero, suc, ◌*◌, ◌^◌, ◌<◌, Bool, true, false, List, length, refl, ap, ap₂, sym, ◌∙◌, arith}
-use Rattle.std.specs.Prelude.{ℤ, pos, negsuc, neg_ℤ, nat_abs, int_lt, ◌-ℤ◌, ◌*ℤ◌, ◌≤ℤ◌, ◌==◌, not}
-use Rattle.std.specs.Int.{int_min}
-use Rattle.std.specs.Int.Digits.{number_from_digits}
-use Rattle.std.specs.declared.cmp.Ordering.{Ordering}
-use Rattle.std.specs.declared.cmp.Ordering.TheVariants.{Less, Equal, Greater}
-use Rattle.std.specs.Ordering.{nat_cmp, int_cmp, ordering_index}
-use Rattle.std.proofs.lemmas.Bool.Decides.{nat_tests}
-use Rattle.std.proofs.lemmas.Int.{ints, clamps}
-use Rattle.ijson_number.specs.Decimal.{Decimal}
-use Rattle.ijson_number.specs.Num.{Num}
-use Rattle.ijson_number.specs.StrippedDigits.{stripped_digits}
+use Rattle.ijson_number.proofs.Common.{◌≡◌, ℕ, zero, suc, ◌*◌, ◌^◌, ◌<◌, Bool, true, false, List, length, ap, ap₂, sym, ◌∙◌, arith, ℤ, pos, negsuc}
+use Rattle.ijson_number.proofs.Common.{neg_ℤ, nat_abs, int_lt, ◌-ℤ◌, ◌*ℤ◌, ◌≤ℤ◌, ◌==◌, not, int_min, number_from_digits, Ordering, Less, Equal}
+use Rattle.ijson_number.proofs.Common.{Greater, nat_cmp, int_cmp, ordering_index, nat_tests, ints, clamps, Decimal, Num, stripped_digits}
+use Rattle.ijson_number.proofs.Common.{stored_number, number_cmp, at_exponent, stripped_number, signed, IsStored, cmp_equal, rescale, scale_cmp}
+use Rattle.ijson_number.proofs.Common.{ten_pos, signed_mul}
 use Rattle.ijson_number.specs.private.MagnitudeOrder.{magnitude_cmp}
-use Rattle.ijson_number.specs.StoredNumber.{stored_number}
-use Rattle.ijson_number.specs.private.StoredNumber.{IsStored}
-use Rattle.ijson_number.specs.Order.{number_cmp, at_exponent}
-use Rattle.ijson_number.specs.laws.Ordered.{cmp_equal, rescale, scale_cmp}
-use Rattle.ijson_number.specs.Stripped.{stripped_number, tens_out}
-use Rattle.ijson_number.specs.Strips.{signed}
-use Rattle.ijson_number.specs.laws.Tens.{ten_pos, signed_mul}
+use Rattle.ijson_number.specs.Stripped.{tens_out}
 use Rattle.ijson_number.proofs.parsing.Denotes.{stripped_mod}
 use Rattle.ijson_number.proofs.comparing.MagnitudeOrder.{int_below, int_above}
 use Rattle.ijson_number.proofs.storing.FormNumbers.{digits_case, tens_out_is}
@@ -59,15 +46,7 @@ sign_scaled x k h = let z : 0 * k ≡ 0 = omega arith in rw z at (scale_cmp x (p
 
 apart : (x y : ℤ) (s t : Ordering) → s ≡ int_cmp x (pos 0) → t ≡ int_cmp y (pos 0) → (s ≡ t → ⊥)
     → nat_cmp (ordering_index s) (ordering_index t) ≡ int_cmp x y
-apart x y Less Less p q n = absurd (n refl)
-apart x y Less Equal p q n = sym (int_below x y (grind (arith, ints)))
-apart x y Less Greater p q n = sym (int_below x y (grind (arith, ints)))
-apart x y Equal Less p q n = sym (int_above x y (grind (arith, ints)))
-apart x y Equal Equal p q n = absurd (n refl)
-apart x y Equal Greater p q n = sym (int_below x y (grind (arith, ints)))
-apart x y Greater Less p q n = sym (int_above x y (grind (arith, ints)))
-apart x y Greater Equal p q n = sym (int_above x y (grind (arith, ints)))
-apart x y Greater Greater p q n = absurd (n refl)
+apart x y s t p q n = grind (arith, ints, nat_tests)
 
 -- if the signs differ, they decide
 pub signs_cmp : (a b : Decimal) (s t : Ordering) → s ≡ int_cmp a.mantissa (pos 0) → t ≡ int_cmp b.mantissa (pos 0) → (s ≡ t → ⊥)
@@ -77,12 +56,6 @@ signs_cmp a b s t p q n =
     let scaled = λ (m : ℤ) (k : ℕ). sym (sign_scaled m (10 ^ k) (ten_pos k)) in
     apart (at_exponent c a) (at_exponent c b) s t (p ∙ scaled a.mantissa (nat_abs (a.exponent -ℤ c)))
     (q ∙ scaled b.mantissa (nat_abs (b.exponent -ℤ c))) n
-
-below_is_minus : (z : ℤ) → int_cmp z (pos 0) ≡ Less → int_lt z (pos 0) ≡ true
-below_is_minus z h = grind (arith, ints)
-
-above_is_no_minus : (z : ℤ) → int_cmp z (pos 0) ≡ Greater → int_lt z (pos 0) ≡ false
-above_is_no_minus z h = grind (arith, ints)
 
 -- two numbers of one sign
 module _ (a b : Num) (s t : Ordering) (p : s ≡ int_cmp a.decimal.mantissa (pos 0)) (q : t ≡ int_cmp b.decimal.mantissa (pos 0))
@@ -103,12 +76,11 @@ module _ (a b : Num) (s t : Ordering) (p : s ≡ int_cmp a.decimal.mantissa (pos
   pub below_zero_is : s ≡ Less → magnitude_cmp b.decimal a.decimal ≡ number_cmp a.decimal b.decimal
   below_zero_is is =
       sym (flipped (stripped_digits a.decimal) (stripped_digits b.decimal) a.decimal.exponent b.decimal.exponent)
-      ∙ same_sign true (below_is_minus a.decimal.mantissa (sym p ∙ is)) (below_is_minus b.decimal.mantissa (other Less is))
+      ∙ same_sign true (grind (arith, ints)) (grind (arith, ints))
 
   -- if positive, in their order,
   pub above_zero_is : s ≡ Greater → magnitude_cmp a.decimal b.decimal ≡ number_cmp a.decimal b.decimal
-  above_zero_is is =
-      same_sign false (above_is_no_minus a.decimal.mantissa (sym p ∙ is)) (above_is_no_minus b.decimal.mantissa (other Greater is))
+  above_zero_is is = same_sign false (grind (arith, ints)) (grind (arith, ints))
 
   -- and zeros are equal
   pub zeros_cmp : s ≡ Equal → number_cmp a.decimal b.decimal ≡ Equal
@@ -117,15 +89,7 @@ module _ (a b : Num) (s t : Ordering) (p : s ≡ int_cmp a.decimal.mantissa (pos
 
 -- two signs are equal if their indices are
 pub tests_same : (s t : Ordering) (r : Bool) → r ≡ not (ordering_index s == ordering_index t) → r ≡ false → s ≡ t
-tests_same Less Less r e h = refl
-tests_same Less Equal r e h = absurd (cc)
-tests_same Less Greater r e h = absurd (cc)
-tests_same Equal Less r e h = absurd (cc)
-tests_same Equal Equal r e h = refl
-tests_same Equal Greater r e h = absurd (cc)
-tests_same Greater Less r e h = absurd (cc)
-tests_same Greater Equal r e h = absurd (cc)
-tests_same Greater Greater r e h = refl
+tests_same s t r e h = grind (arith, nat_tests)
 
 pub tests_apart : (s t : Ordering) (r : Bool) → r ≡ not (ordering_index s == ordering_index t) → r ≡ true → s ≡ t → ⊥
 tests_apart s t r e h g = let same = ap ordering_index g in grind (arith, nat_tests)

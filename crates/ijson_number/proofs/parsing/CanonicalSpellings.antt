@@ -1,23 +1,12 @@
 -- The postconditions of the scanner, once the zeros are stripped.
-use Rattle.std.proofs.Common.{◌≡◌, ◌≢◌, ℕ, zero, suc, ◌+◌, ◌-◌, ◌^◌, ◌<◌, ◌≤◌, Bool, false, List, [], ◌∷◌, ◌++◌, length}
-use Rattle.std.proofs.Common.{get_or, replicate, refl, ap, sym, ◌∙◌, length-append, inl, inr, arith}
-use Rattle.std.specs.Prelude.{ℤ, pos}
-use Rattle.std.specs.List.{AllByRecursion}
-use Rattle.std.proofs.lemmas.List.{length-map, map-append, nil_from_length}
-use Rattle.std.proofs.lemmas.List.Elements.{All-from_recursion}
-use Rattle.std.specs.Int.Digits.{number_from_digits}
-use Rattle.ijson_number.specs.Decimal.{Decimal}
-use Rattle.ijson_number.specs.Num.{IsNum}
-use Rattle.ijson_number.specs.private.Reading.{IsWithin, exponent_of, BeginsWithNoZero, EndsWithNoZero}
-use Rattle.ijson_number.specs.private.StoredNumber.{IsStored}
-use Rattle.ijson_number.specs.StoredNumber.{stored_number}
-use Rattle.ijson_number.specs.Grammar.{AllDigits, Denotes, Parts, IsSpelled, IsFraction, Spells, value}
-use Rattle.ijson_number.specs.private.Stripped.{IsStripped, digits_from_text}
+use Rattle.ijson_number.proofs.Common.{◌≡◌, ◌≢◌, ℕ, zero, suc, ◌+◌, ◌-◌, ◌^◌, ◌<◌, ◌≤◌, Bool, false, List, [], ◌∷◌, ◌++◌, length, get_or, replicate}
+use Rattle.ijson_number.proofs.Common.{refl, ap, sym, ◌∙◌, length-append, inl, inr, arith, ℤ, pos, AllByRecursion, length-map, map-append}
+use Rattle.ijson_number.proofs.Common.{nil_from_length, All-from_recursion, number_from_digits, Decimal, IsNum, stored_number, AllDigits, Denotes}
+use Rattle.ijson_number.proofs.Common.{Parts, IsSpelled, IsFraction, Spells, value, cases_lt, IsWithin, exponent_of, BeginsWithNoZero, EndsWithNoZero}
+use Rattle.ijson_number.proofs.Common.{IsStored, IsStripped, digits_from_text, power_le, signed_zero}
 use Rattle.ijson_number.proofs.parsing.DigitRuns.{AllDigits-append, AllDigits_left, AllDigits_right, IsDigits_all}
 use Rattle.ijson_number.proofs.parsing.OneDivision.{whole_all}
-use Rattle.std.proofs.lemmas.Bool.{cases_lt}
 use Rattle.ijson_number.proofs.storing.DigitBounds.{value_small}
-use Rattle.ijson_number.specs.laws.Tens.{power_le, signed_zero}
 use Rattle.ijson_number.proofs.parsing.Exponents.{within_in_range, in_range_within}
 use Rattle.ijson_number.proofs.parsing.Denotes.{denotes_some, denotes_zero, spells_one, stripped_plain, stripped_mod, pointless}
 
@@ -25,8 +14,7 @@ below_ten : (bs : List ℕ) → AllDigits bs → AllByRecursion (λ d. d < 10) (
 below_ten [] h = tt
 below_ten (b ∷ bs) h = (omega arith, below_ten bs h.1)
 
-digit_at : (bs : List ℕ) (i : ℕ) → AllDigits bs → i < length bs
-    → (48 ≤ get_or bs i 0) × (get_or (digits_from_text bs) i 0 ≡ get_or bs i 0 - 48)
+digit_at : (bs : List ℕ) (i : ℕ) → AllDigits bs → i < length bs → (48 ≤ get_or bs i 0) × (get_or (digits_from_text bs) i 0 ≡ get_or bs i 0 - 48)
 digit_at [] i h l = absurd (omega arith)
 digit_at (b ∷ bs) zero h l = (omega arith, refl)
 digit_at (b ∷ bs) (suc i) h l = digit_at bs i h.1 (omega arith)
@@ -94,9 +82,7 @@ module _ {text : List ℕ} {p : Parts} {w f a b : List ℕ} {j k : ℕ} (taken :
   denotes_number h e is = rw is (denotes_some p (w ++ f) (a ++ b) j k front back (some_digits h) stripped (pointless text p k spelled))
 
   pub denotes_nought : length (a ++ b) ≡ 0 → Denotes p (stored_number false (digits_from_text (a ++ b)) (pos 0) p.point)
-  denotes_nought h =
-      let nil : a ++ b ≡ [] = nil_from_length (a ++ b) h in
-      rw nil (denotes_zero p (w ++ f) (a ++ b) j k front back h)
+  denotes_nought h = let nil : a ++ b ≡ [] = nil_from_length (a ++ b) h in rw nil (denotes_zero p (w ++ f) (a ++ b) j k front back h)
 
   pub stores_number : 0 < length (a ++ b) → IsStored p.negative (digits_from_text (a ++ b))
   stores_number h = record {

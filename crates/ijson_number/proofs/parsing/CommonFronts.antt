@@ -1,25 +1,15 @@
 -- A text has at most one leading number that is read in one pass.
-use Rattle.std.proofs.Common.{◌≡◌, ◌≢◌, ◌⊎◌, ℕ, ◌+◌, ◌-◌, ◌<◌, ◌≤◌, Bool, true, false, List, [], ◌∷◌, ◌++◌, length}
-use Rattle.std.proofs.Common.{take, drop, ltb, refl, sym, ap, ◌∙◌, inl, inr, arith}
-use Rattle.std.specs.Char.{is_ascii_alphanumeric}
-use Rattle.std.proofs.lemmas.Bool.{cases_eq, ltb-true, ltb-false}
-use Rattle.std.proofs.lemmas.Bool.Decides.{nat_tests}
-use Rattle.std.proofs.lemmas.List.{take-append-drop}
-use Rattle.ijson_number.specs.Grammar.{AllDigits, IsDigit, IsDigits, IsFraction, Parts, value}
-use Rattle.ijson_number.specs.CommonFront.{EndsDigits, EndsToken, IsCommonFront}
-use Rattle.ijson_number.specs.private.Significand.{IsFewFraction}
-use Rattle.ijson_number.specs.private.Reading.{BeginsWithNoDigit, IsSignTaken}
+use Rattle.ijson_number.proofs.Common.{◌≡◌, ◌≢◌, ◌⊎◌, ℕ, ◌+◌, ◌-◌, ◌<◌, ◌≤◌, Bool, List, [], ◌∷◌, ◌++◌, length, take, drop, refl, sym, ap, ◌∙◌, inl}
+use Rattle.ijson_number.proofs.Common.{inr, arith, nat_tests, take-append-drop, AllDigits, IsDigits, IsFraction, Parts, value, EndsDigits, EndsToken}
+use Rattle.ijson_number.proofs.Common.{IsCommonFront, cases_lt, IsFewFraction, BeginsWithNoDigit, IsSignTaken}
 use Rattle.ijson_number.proofs.parsing.OneDivision.{sign_one, whole_all, whole_no_sign}
 use Rattle.ijson_number.proofs.parsing.DigitRuns.{one_run, IsDigits_all}
 
 -- a byte that is neither letter nor digit is no digit
-other_is_no_digit : (b : ℕ) → is_ascii_alphanumeric b ≡ false → IsDigit b → ⊥
-other_is_no_digit b h d = grind (arith, nat_tests, d.0, d.1)
-
 -- a text that ends a token begins with no digit
 pub none_begins : (rest : List ℕ) → EndsToken rest → BeginsWithNoDigit rest
 none_begins [] h = tt
-none_begins (b ∷ rest) h = other_is_no_digit b h
+none_begins (b ∷ rest) h = λ d. grind (arith, nat_tests, d.0, d.1)
 
 ends_begins : (point : Bool) (rest : List ℕ) → EndsDigits point rest → BeginsWithNoDigit rest
 ends_begins point [] h = tt
@@ -31,28 +21,13 @@ run_within [] [] x y p n l e = (refl, e)
 run_within [] (d ∷ b) x y p n l e = absurd (omega arith)
 run_within (c ∷ a) [] x [] p n l e = absurd (cc)
 run_within (c ∷ a) [] x (d ∷ y) p n l e = let h : c ≡ d = cc in absurd (n (rw h at p.0))
-run_within (c ∷ a) (d ∷ b) x y p n l e =
-    let r = run_within a b x y p.1 n (omega arith) (cc) in
-    let h : c ≡ d = cc in
-    let s : a ≡ b = r.0 in
-    (cc, r.1)
+run_within (c ∷ a) (d ∷ b) x y p n l e = let r = run_within a b x y p.1 n (omega arith) (cc) in grind arith
 
 -- all leading digits, or `most` of them, are those of the other division too
 pub same_run : (most : ℕ) (a b x y : List ℕ) → AllDigits a → AllDigits b → (length a < most → BeginsWithNoDigit x) → BeginsWithNoDigit y
     → length b ≤ most → a ++ x ≡ b ++ y → (a ≡ b) × (x ≡ y)
 same_run most a b x y p q n m l e =
-    elim (ltb (length a) most) as (λ v. ltb (length a) most ≡ v → (a ≡ b) × (x ≡ y)) [
-      | true ↦ λ h. one_run a b x y p q (n (ltb-true (length a) most h)) m e
-      | false ↦ λ h. let g = ltb-false (length a) most h in run_within a b x y p m (omega (arith, g)) e
-    ] refl
-
--- few fraction digits are at most `most`
-few_left : (number count most n : ℕ) → (number ≡ 0 → most ≡ 19) → (number ≢ 0 → most ≡ 19 - count)
-    → (count + n ≤ 19) ⊎ ((number ≡ 0) × (n ≤ 19)) → n ≤ most
-few_left number count most n zero others few = elim (cases_eq number 0) [
-  | inl none ↦ (let all = zero none in elim few [ inl few ↦ omega (arith, few, all) | inr few ↦ omega (arith, few.1, all) ])
-  | inr some ↦ (let rest = others some in elim few [ inl few ↦ omega (arith, few, rest) | inr few ↦ absurd (some few.0) ])
-]
+    elim (cases_lt (length a) most) [ inl h ↦ one_run a b x y p q (n h) m e | inr g ↦ run_within a b x y p m (omega (arith, g)) e ]
 
 -- the text after a point and its digits
 point_tail_at : (most : ℕ) (front digits rest taken after : List ℕ) (point : Bool) → IsFraction front digits point → EndsDigits point rest
@@ -71,7 +46,7 @@ pub point_tail : (most : ℕ) (bytes front rest taken after : List ℕ) → byte
     → IsFewFraction number count bytes front rest → IsDigits taken × (after ≡ rest)
 point_tail most bytes front rest taken after e d n number count zero others t =
     point_tail_at most front t.digits rest taken after t.has_point t.fraction t.ends
-    (few_left number count most (length t.digits) zero others t.few) (sym e ∙ t.text_is) d n
+    (let few = t.few in grind arith) (sym e ∙ t.text_is) d n
 
 -- no digit follows the whole part of a number
 behind_begins : (ft f rest : List ℕ) (point : Bool) → IsFraction ft f point → EndsDigits point rest → BeginsWithNoDigit (ft ++ rest)
@@ -96,11 +71,6 @@ plain_unsigned t u n p rest h f =
     (sign_one t u r n p.negative h s).1
 
 -- there are at most 19 whole digits
-few_in_front : (p : Parts) → (length p.whole + length p.fraction ≤ 19) ⊎ ((p.whole ≡ 48 ∷ []) × (length p.fraction ≤ 19))
-    → length p.whole ≤ 19
-few_in_front p (inl few) = omega (arith, few)
-few_in_front p (inr zero) = rw zero.0 (omega arith)
-
 -- and few fraction digits
 few_behind : (p : Parts) (count : ℕ) → length p.whole ≡ count
     → (length p.whole + length p.fraction ≤ 19) ⊎ ((p.whole ≡ 48 ∷ []) × (length p.fraction ≤ 19))
@@ -116,7 +86,7 @@ whole_taken t u a x n p rest count h is behind c d l f =
     let e : a ++ x ≡ p.whole ++ (f.fraction_text ++ f.after) = rw (is, behind) (take-append-drop count u) ∙ plain_unsigned t u n p rest h f in
     same_run 19 a p.whole x (f.fraction_text ++ f.after) (rw is d) (whole_all p.whole f.whole)
     (λ m. rw behind (l (omega (arith, c, m)))) (behind_begins f.fraction_text p.fraction f.after f.has_point f.fraction f.digits_end)
-    (few_in_front p f.few) e
+    (elim f.few [ inl few ↦ omega (arith, few) | inr zero ↦ rw zero.0 (omega arith) ]) e
 
 -- and its fraction, or none, follows them
 pub plain_tail : (t : List ℕ) (a x : List ℕ) (p : Parts) (rest : List ℕ) (count : ℕ) → length a ≡ count

@@ -1,19 +1,10 @@
 -- The number that parts denote.
-use Rattle.std.proofs.Common.{◌≡◌, ◌≢◌, ℕ, ◌+◌, ◌-◌, ◌*◌, ◌%◌, ◌^◌, ◌<◌, Bool, true, false, List, [], ◌∷◌, ◌++◌}
-use Rattle.std.proofs.Common.{length, get_or, take, replicate, refl, ap, sym, ◌∙◌, inl, inr, arith}
-use Rattle.std.specs.Prelude.{ℤ, pos, ◌-ℤ◌, ◌≤ℤ◌, ◌||◌}
-use Rattle.std.proofs.lemmas.Int.{ints}
-use Rattle.std.proofs.lemmas.List.{take_more, take_all, nil_from_length}
-use Rattle.std.proofs.lemmas.Int.Digits.{number_push}
-use Rattle.std.specs.Int.Digits.{number_from_digits}
-use Rattle.std.proofs.lemmas.Bool.{or_parts}
-use Rattle.ijson_number.specs.Decimal.{Decimal, IsPlain}
-use Rattle.ijson_number.specs.private.Reading.{exponent_of}
-use Rattle.ijson_number.specs.Strips.{signed}
-use Rattle.ijson_number.specs.Grammar.{Parts, IsSpelled, IsFraction, IsExponent, Denotes, Spells, value}
-use Rattle.ijson_number.specs.private.Stripped.{IsStripped, digits_from_text}
+use Rattle.ijson_number.proofs.Common.{◌≡◌, ◌≢◌, ℕ, ◌+◌, ◌-◌, ◌*◌, ◌%◌, ◌^◌, ◌<◌, Bool, false, List, [], ◌∷◌, ◌++◌, length, get_or, take, replicate}
+use Rattle.ijson_number.proofs.Common.{refl, ap, sym, ◌∙◌, inl, inr, arith, ℤ, pos, ◌-ℤ◌, ◌≤ℤ◌, ◌||◌, ints, take_more, take_all, nil_from_length}
+use Rattle.ijson_number.proofs.Common.{number_push, number_from_digits, or_parts, Decimal, IsPlain, signed, Parts, IsSpelled, IsFraction, IsExponent}
+use Rattle.ijson_number.proofs.Common.{Denotes, Spells, value, exponent_of, IsStripped, digits_from_text, strips_one, signed_mul, signed_zero}
+use Rattle.ijson_number.proofs.Common.{abs_signed}
 use Rattle.ijson_number.proofs.parsing.DigitValues.{value_zeros_front, value_zeros_back}
-use Rattle.ijson_number.specs.laws.Tens.{strips_one, signed_mul, signed_zero, abs_signed}
 use Rattle.ijson_number.proofs.parsing.OneDivision.{spelled_one}
 
 pub same_decimal : (m m' e e' : ℤ) (p p' : Bool) → m ≡ m' → e ≡ e' → p ≡ p'
@@ -27,24 +18,20 @@ denotes_one p n n' h g =
 
 -- a text spells at most one number
 pub spells_one : (t : List ℕ) (n n' : Decimal) → Spells t n → Spells t n' → n ≡ n'
-spells_one t n n' h g =
-    let e : h.0 ≡ g.0 = spelled_one t h.0 g.0 h.1 g.1 in
-    denotes_one g.0 n n' (rw e at h.2) g.2
+spells_one t n n' h g = let e : h.0 ≡ g.0 = spelled_one t h.0 g.0 h.1 g.1 in denotes_one g.0 n n' (rw e at h.2) g.2
 
 split_last : (ds : List ℕ) → 0 < length ds → ds ≡ take (length ds - 1) ds ++ get_or ds (length ds - 1) 0 ∷ []
 split_last ds h =
     let e : length ds - 1 + 1 ≡ length ds = omega arith in
     sym (take_all (length ds - 1 + 1) ds (omega arith)) ∙ take_more ds (length ds - 1) 0 (omega arith)
 
-mod_ten : (x d : ℕ) → d < 10 → d ≢ 0 → (x * 10 + d) % 10 ≢ 0
-mod_ten x d h n e = omega arith
-
 pub stripped_mod : (ds : List ℕ) → IsStripped ds → 0 < length ds → number_from_digits 10 ds % 10 ≢ 0
 stripped_mod ds s h =
     let v : number_from_digits 10 ds ≡ number_from_digits 10 (take (length ds - 1) ds) * 10 + get_or ds (length ds - 1) 0 =
     ap (number_from_digits 10) (split_last ds h) ∙ number_push 10 (take (length ds - 1) ds) (get_or ds (length ds - 1) 0) in
     let d : get_or ds (length ds - 1) 0 < 10 = s.below_ten (length ds - 1) 0 (omega arith) in
-    rw v (mod_ten (number_from_digits 10 (take (length ds - 1) ds)) (get_or ds (length ds - 1) 0) d (s.last h))
+    let last = s.last h in
+    rw v (λ e. omega arith)
 
 pub stripped_plain : (negative point : Bool) (ds : List ℕ) (e : ℤ) → IsStripped ds → 0 < length ds → (point ≡ false → pos 0 ≤ℤ e)
     → IsPlain (record { mantissa = signed negative (number_from_digits 10 ds); exponent = e; point = point })
@@ -56,9 +43,8 @@ stripped_plain negative point ds e s h w =
       whole = w;
     }
 
-signed_nought : (negative : Bool) → signed negative 0 ≡ pos 0
-signed_nought true = refl
-signed_nought false = refl
+pub signed_nought : (negative : Bool) → signed negative 0 ≡ pos 0
+signed_nought negative = grind (arith, ints)
 
 module _ (p : Parts) (t s : List ℕ) (j k : ℕ) (front : p.whole ++ p.fraction ≡ replicate j 48 ++ t) (back : t ≡ s ++ replicate k 48) where
   digits_is : value (p.whole ++ p.fraction) ≡ value s * 10 ^ k
@@ -69,8 +55,7 @@ module _ (p : Parts) (t s : List ℕ) (j k : ℕ) (front : p.whole ++ p.fraction
       → Denotes p (record {
         mantissa = signed p.negative (value s);
         exponent = exponent_of p.exponent (length p.fraction) k;
-        point =
-            p.point;
+        point = p.point;
       })
   denotes_some h d w = (
     record {

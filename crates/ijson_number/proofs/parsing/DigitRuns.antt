@@ -1,8 +1,6 @@
 -- The leading digits of a text.
-use Rattle.std.proofs.Common.{◌≡◌, ◌↔◌, ℕ, suc, ◌+◌, ◌-◌, ◌<◌, ◌≤◌, List, [], ◌∷◌, ◌++◌, length, get_or, drop, replicate, refl, ◌∙◌, arith}
-use Rattle.std.proofs.lemmas.List.{drop_more, append-nil}
-use Rattle.ijson_number.specs.Grammar.{AllDigits, IsDigits}
-use Rattle.ijson_number.specs.private.Reading.{BeginsWithNoDigit}
+use Rattle.ijson_number.proofs.Common.{◌≡◌, ◌↔◌, ℕ, suc, ◌+◌, ◌-◌, ◌<◌, ◌≤◌, List, [], ◌∷◌, ◌++◌, length, get_or, drop, replicate, refl, ◌∙◌, arith}
+use Rattle.ijson_number.proofs.Common.{drop_more, append-nil, AllDigits, IsDigits, BeginsWithNoDigit}
 
 pub zeros_from : (bs : List ℕ) (n : ℕ) → 0 < n → n ≤ length bs → get_or bs (n - 1) 0 ≡ 48 → drop n bs ≡ replicate (length bs - n) 48
     → drop (n - 1) bs ≡ replicate (length bs - (n - 1)) 48
@@ -41,18 +39,13 @@ IsDigits_nonempty [] h = absurd h
 IsDigits_nonempty (x ∷ a) h = omega arith
 
 -- two divisions of a text after its leading digits are equal
-pub one_run : (a b x y : List ℕ) → AllDigits a → AllDigits b → BeginsWithNoDigit x → BeginsWithNoDigit y → a ++ x ≡ b ++ y
-    → (a ≡ b) × (x ≡ y)
+pub one_run : (a b x y : List ℕ) → AllDigits a → AllDigits b → BeginsWithNoDigit x → BeginsWithNoDigit y → a ++ x ≡ b ++ y → (a ≡ b) × (x ≡ y)
 one_run [] [] x y p q n m e = (refl, e)
 one_run [] (d ∷ b) [] y p q n m e = absurd (cc)
 one_run [] (d ∷ b) (c ∷ x) y p q n m e = let h : d ≡ c = cc in absurd (n (rw h at q.0))
 one_run (c ∷ a) [] x [] p q n m e = absurd (cc)
 one_run (c ∷ a) [] x (d ∷ y) p q n m e = let h : c ≡ d = cc in absurd (m (rw h at p.0))
-one_run (c ∷ a) (d ∷ b) x y p q n m e =
-    let r = one_run a b x y p.1 q.1 n m (cc) in
-    let h : c ≡ d = cc in
-    let s : a ≡ b = r.0 in
-    (cc, r.1)
+one_run (c ∷ a) (d ∷ b) x y p q n m e = let r = one_run a b x y p.1 q.1 n m (cc) in grind arith
 
 -- a text that begins with a run of digits consists of digits if and only if nothing follows them
 pub run_digits : (a b : List ℕ) → AllDigits a → BeginsWithNoDigit b → IsDigits (a ++ b) ↔ ((0 < length a) × (length b ≡ 0))

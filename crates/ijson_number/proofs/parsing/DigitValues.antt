@@ -1,10 +1,7 @@
 -- The value of digits, and leading and trailing zeros.
-use Rattle.std.proofs.Common.{◌≡◌, ℕ, zero, suc, ◌+◌, ◌-◌, ◌*◌, ◌^◌, ◌<◌, min, List, [], ◌∷◌, ◌++◌, map, length}
-use Rattle.std.proofs.Common.{get_or, take, replicate, refl, ap, sym, ◌∙◌, arith, append_assoc}
-use Rattle.std.proofs.lemmas.List.{append-nil, take_more, nil_from_length, replicate-append-replicate, map-append}
-use Rattle.std.proofs.lemmas.Int.Digits.{number_push}
-use Rattle.std.proofs.Math.Nat.{pow-succ'}
-use Rattle.ijson_number.specs.Grammar.{value}
+use Rattle.ijson_number.proofs.Common.{◌≡◌, ℕ, zero, suc, ◌+◌, ◌-◌, ◌*◌, ◌^◌, ◌<◌, min, List, [], ◌∷◌, ◌++◌, map, length, get_or, take, replicate}
+use Rattle.ijson_number.proofs.Common.{refl, ap, sym, ◌∙◌, arith, append_assoc, append-nil, take_more, nil_from_length, replicate-append-replicate}
+use Rattle.ijson_number.proofs.Common.{map-append, number_push, pow-succ', value}
 
 pub front_zeros : (w f a b : List ℕ) (j k : ℕ) → w ≡ replicate j 48 ++ a → f ≡ replicate k 48 ++ b → length a ≡ 0
     → w ++ f ≡ replicate (j + k) 48 ++ (a ++ b)
@@ -25,25 +22,18 @@ pub value_more : (bs : List ℕ) (i : ℕ) → i < length bs → value (take (i 
 value_more bs i h = ap value (take_more bs i 0 h) ∙ value_push (take i bs) (get_or bs i 0)
 
 -- a step of the value up to a limit
-pub capped_more : (limit n v d : ℕ) → n ≡ min v limit → min (n * 10 + d) limit ≡ min (v * 10 + d) limit
-capped_more limit n v d e = omega arith
-
 pub capped_step : (bs : List ℕ) (i n : ℕ) → i < length bs → n ≡ min (value (take i bs)) (2 ^ 80)
     → min (n * 10 + (get_or bs i 0 - 48)) (2 ^ 80) ≡ min (value (take (i + 1) bs)) (2 ^ 80)
-capped_step bs i n h e = capped_more (2 ^ 80) n (value (take i bs)) (get_or bs i 0 - 48) e
-    ∙ ap (λ v. min v (2 ^ 80)) (sym (value_more bs i h))
+capped_step bs i n h e = rw (value_more bs i h) (omega arith)
 
 -- leading zeros do not count
 pub value_zeros_front : (k : ℕ) (bs : List ℕ) → value (replicate k 48 ++ bs) ≡ value bs
 value_zeros_front zero bs = refl
 value_zeros_front (suc k) bs = value_zeros_front k bs
 
-tens : (v k : ℕ) → (v * 10 + (48 - 48)) * 10 ^ k ≡ v * 10 ^ suc k
-tens v k = rw pow-succ' (omega arith)
-
 -- each trailing zero multiplies by ten
 pub value_zeros_back : (bs : List ℕ) (k : ℕ) → value (bs ++ replicate k 48) ≡ value bs * 10 ^ k
 value_zeros_back bs zero = ap value (append-nil bs) ∙ omega arith
 value_zeros_back bs (suc k) =
     ap value (sym (append_assoc bs (48 ∷ []) (replicate k 48))) ∙ value_zeros_back (bs ++ 48 ∷ []) k
-    ∙ ap (λ v. v * 10 ^ k) (value_push bs 48) ∙ tens (value bs) k
+    ∙ ap (λ v. v * 10 ^ k) (value_push bs 48) ∙ rw pow-succ' (omega arith)

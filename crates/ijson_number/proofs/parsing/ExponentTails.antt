@@ -1,11 +1,8 @@
 -- A text has at most one leading exponent of few digits.
-use Rattle.std.proofs.Common.{◌≡◌, ◌∙◌, ◌⊎◌, inl, inr, ℕ, ◌-◌, ◌<◌, Bool, List, [], ◌∷◌, ◌++◌}
-use Rattle.std.proofs.Common.{length, get_or, take, drop, sym, ap, append_assoc, arith}
-use Rattle.std.proofs.lemmas.List.{length-take-le, take-append-drop}
+use Rattle.ijson_number.proofs.Common.{◌≡◌, ◌∙◌, ◌⊎◌, inl, inr, ℕ, ◌-◌, ◌<◌, Bool, List, [], ◌∷◌, ◌++◌, length, get_or, take, drop, sym, ap}
+use Rattle.ijson_number.proofs.Common.{append_assoc, arith, length-take-le, take-append-drop, EndsToken, IsExponentTail, IsFewDigits, IsFewExponent}
+use Rattle.ijson_number.proofs.Common.{IsFewSigned, IsExponentSignTaken, IsTaken, nat_tests}
 use Rattle.std.proofs.lemmas.List.Prefix.{end_rest}
-use Rattle.ijson_number.specs.CommonFront.{EndsToken, IsExponentTail, IsFewDigits, IsFewExponent, IsFewSigned}
-use Rattle.ijson_number.specs.private.Reading.{IsExponentSignTaken}
-use Rattle.ijson_number.specs.private.PrefixDigits.{IsTaken}
 use Rattle.ijson_number.proofs.parsing.CommonFronts.{none_begins, same_run}
 use Rattle.ijson_number.proofs.parsing.DigitRuns.{IsDigits_all, IsDigits_nonempty}
 
@@ -23,14 +20,12 @@ tail_begins text rest t = tail_begins_at text t.exponent_text rest t.text_is t.e
 -- a letter continues the token
 pub letter_continues : (text : List ℕ) → 0 < length text → get_or text 0 0 ≡ 101 ⊎ get_or text 0 0 ≡ 69 → EndsToken text → ⊥
 letter_continues [] some b h = omega (arith, some)
-letter_continues (c ∷ text) some (inl e) h = let is : c ≡ 101 = e in absurd (cc (rw is at h))
-letter_continues (c ∷ text) some (inr e) h = let is : c ≡ 69 = e in absurd (cc (rw is at h))
+letter_continues (c ∷ text) some b h = grind (arith, nat_tests)
 
 -- a text that ends the token has no exponent
 no_exponent : (text exponent_text rest : List ℕ) → text ≡ exponent_text ++ rest → IsFewExponent exponent_text → EndsToken text → text ≡ rest
 no_exponent text [] rest e h ends = e
-no_exponent text (b ∷ bs) rest e h ends =
-    absurd (letter_continues text (rw e (omega arith)) (rw e h.0) ends)
+no_exponent text (b ∷ bs) rest e h ends = absurd (letter_continues text (rw e (omega arith)) (rw e h.0) ends)
 
 pub ends_at_once : (text rest : List ℕ) → IsExponentTail text rest → EndsToken text → text ≡ rest
 ends_at_once text rest t = no_exponent text t.exponent_text rest t.text_is t.exponent
@@ -81,16 +76,14 @@ power_rest text rest digits negative magnitude count sign t on p =
     (omega (arith, some, same, long), r.1)
 
 -- a sign that was split off an exponent precedes its digits
-sign_of : (number digits : List ℕ) (negative : Bool) → IsExponentSignTaken number negative digits
-    → (sign : List ℕ) × (number ≡ sign ++ digits)
+sign_of : (number digits : List ℕ) (negative : Bool) → IsExponentSignTaken number negative digits → (sign : List ℕ) × (number ≡ sign ++ digits)
 sign_of number digits negative sign = elim sign [
   | inl m ↦ (45 ∷ [], m.0)
   | inr more ↦ elim more [ inl p ↦ (43 ∷ [], p.0) | inr none ↦ ([], none.0) ]
 ]
 
 -- the text after the digits that were read
-pub behind_taken : (text digits : List ℕ) (negative : Bool) (count : ℕ) → 0 < length text
-    → IsExponentSignTaken (drop 1 text) negative digits
+pub behind_taken : (text digits : List ℕ) (negative : Bool) (count : ℕ) → 0 < length text → IsExponentSignTaken (drop 1 text) negative digits
     → drop (length text - length (drop count digits)) text ≡ drop count digits
 behind_taken [] digits negative count some sign = absurd (omega arith)
 behind_taken (b ∷ text) digits negative count some sign =

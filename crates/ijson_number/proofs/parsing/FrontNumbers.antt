@@ -1,26 +1,16 @@
 -- The leading number of a text, with or without an exponent.
-use Rattle.std.proofs.Common.{◌≡◌, ◌∙◌, ◌⊎◌, get_or, ℕ, ◌+◌, ◌-◌, ◌<◌, ◌≤◌, ◌^◌, Bool, true, false, List, [], ◌∷◌, ◌++◌}
-use Rattle.std.proofs.Common.{length, drop, take, refl, sym, subst, ap, inl, inr, append_assoc, arith}
-use Rattle.std.specs.Prelude.{ℤ, pos, neg_ℤ, ◌+ℤ◌, ◌-ℤ◌, ◌||◌}
-use Rattle.std.proofs.Math.Seq.{drop-append-add, take-append_seam}
+use Rattle.ijson_number.proofs.Common.{◌≡◌, ◌∙◌, ◌⊎◌, get_or, ℕ, ◌+◌, ◌-◌, ◌<◌, ◌≤◌, ◌^◌, Bool, true, false, List, [], ◌∷◌, ◌++◌, length, drop, take}
+use Rattle.ijson_number.proofs.Common.{refl, sym, subst, ap, inl, inr, append_assoc, arith, ℤ, pos, neg_ℤ, ◌+ℤ◌, ◌-ℤ◌, ◌||◌, ints, length-append}
+use Rattle.ijson_number.proofs.Common.{length-take-le, take-append-drop, AllDigits, IsExponent, IsFraction, IsSigned, IsSpelled, Parts, Spells, value}
+use Rattle.ijson_number.proofs.Common.{IsNum, signed, EndsToken, stripped_number, drop-append-add, take-append_seam, IsFront, IsMantissa, IsPower}
+use Rattle.ijson_number.proofs.Common.{IsPowerSmall, significand_number, significand_of, IsExponentSignTaken, IsTaken, power_le}
 use Rattle.std.proofs.Math.Bool.{or-false, or-true}
-use Rattle.std.proofs.lemmas.Int.{ints}
-use Rattle.std.proofs.lemmas.List.{length-append, length-take-le, take-append-drop}
-use Rattle.ijson_number.specs.Grammar.{AllDigits, IsExponent, IsFraction, IsSigned, IsSpelled, Parts, Spells, value}
-use Rattle.ijson_number.specs.Num.{IsNum}
-use Rattle.ijson_number.specs.Strips.{signed}
-use Rattle.ijson_number.specs.CommonFront.{EndsToken}
-use Rattle.ijson_number.specs.Stripped.{stripped_number}
 use Rattle.ijson_number.specs.declared.fast_reader.Front.{Front}
 use Rattle.ijson_number.specs.declared.significand.Significand.{Significand}
-use Rattle.ijson_number.specs.private.Significand.{IsFront, IsMantissa, IsPower, IsPowerSmall, significand_number}
-use Rattle.ijson_number.specs.private.Reading.{IsExponentSignTaken}
-use Rattle.ijson_number.specs.private.PrefixDigits.{IsTaken}
 use Rattle.ijson_number.proofs.storing.Significands.{parts_number}
 use Rattle.ijson_number.proofs.storing.DigitBounds.{value_small}
 use Rattle.ijson_number.proofs.parsing.DigitRuns.{IsDigits_from}
 use Rattle.ijson_number.proofs.parsing.ExponentTails.{behind_taken}
-use Rattle.ijson_number.specs.laws.Tens.{power_le}
 
 -- leading digits, with an exponent after them or none
 module _ (text : List ℕ) (f : Front) (rest : List ℕ) (m : IsMantissa text f rest) where
@@ -158,33 +148,18 @@ power_at (b ∷ number) digits negative magnitude count z some begins sign one t
     record {
       within = omega arith;
       exponent = rw all e.2;
-      small = rw is (signed_small negative magnitude (digits_few digits magnitude count t));
+      small = let few = digits_few digits magnitude count t in rw is (grind (arith, ints), grind (arith, ints));
       ends = rw (behind_taken (b ∷ number) digits negative count (omega arith) sign) ends;
     }
-  where
-    signed_small : (negative : Bool) (n : ℕ) → n < 10 ^ 4 → IsPowerSmall (signed negative n)
-    signed_small true n h = (omega (arith, ints), omega (arith, ints))
-    signed_small false n h = (omega (arith, ints), omega (arith, ints))
 
 -- the mantissa with the exponent that was read is a number
 pub front_with : (text rest : List ℕ) (f : Front) (m : IsMantissa text f rest) (power exponent : ℤ) (count : ℕ) → IsPower rest power count
     → exponent ≡ f.significand.exponent +ℤ power
-    → IsFront text (record {
-      significand = record {
-        negative = f.significand.negative;
-        magnitude = f.significand.magnitude;
-        exponent = exponent;
-        point = true;
-      };
-      length = f.length + count;
-    })
+    → let s = f.significand in
+    IsFront text (record { significand = significand_of s.negative s.magnitude exponent true; length = f.length + count })
 front_with text rest f m power exponent count is e =
-    at_exponent text f rest m (record {
-      negative = f.significand.negative;
-      magnitude = f.significand.magnitude;
-      exponent = exponent;
-      point = true;
-    }) power true count is.within is.exponent is.ends is.small refl refl e (sym (or-true _)) (λ h. absurd (cc))
+    at_exponent text f rest m (significand_of f.significand.negative f.significand.magnitude exponent true) power true count
+    is.within is.exponent is.ends is.small refl refl e (sym (or-true _)) (λ h. absurd (cc))
 
 -- and it is one without an exponent
 pub front_alone : (text rest : List ℕ) (f : Front) → IsMantissa text f rest → EndsToken rest → IsFront text f

@@ -1,16 +1,9 @@
 -- Lanes of a vector that are moved to either end.
-use Rattle.std.proofs.Common.{◌≡◌, ℕ, zero, suc, ◌-◌, ◌<◌, ◌≤◌, Bool, true, ◌&&◌, ◌||◌, T, ltb, map, get_or, replicate}
-use Rattle.std.proofs.Common.{List, [], ◌∷◌, ◌++◌, length, take, drop, refl, sym, subst, ◌∙◌, inl, inr, arith}
-use Rattle.std.specs.Prelude.{⊤}
-use Rattle.std.specs.List.{range_with_len}
-use Rattle.std.proofs.lemmas.Bool.{cases_lt}
-use Rattle.std.proofs.lemmas.List.{ext_get_or}
+use Rattle.ijson_number.proofs.Common.{◌≡◌, ℕ, zero, suc, ◌-◌, ◌<◌, ◌≤◌, Bool, true, ◌&&◌, ◌||◌, T, ltb, map, get_or, replicate, List, [], ◌∷◌, ◌++◌}
+use Rattle.ijson_number.proofs.Common.{length, take, drop, refl, sym, subst, ◌∙◌, inl, inr, arith, ⊤, range_with_len, cases_lt, ext_get_or, swz_l}
+use Rattle.ijson_number.proofs.Common.{SwzOk, SwzOk-from_Each1, Each1, chunk, w8, zeroes, rules}
 use Rattle.std.proofs.lemmas.List.FromFn.{length-map-range_with_len, get_or-map-range_with_len}
-use Rattle.std.proofs.lemmas.Simd.{swz_l, SwzOk, SwzOk-from_Each1}
 use lib.Ieee.Fits.{and_l, and_r}
-use lib.Lanes.{Each1, chunk}
-use mir.Syntax.{w8}
-use mir.Val.{zeroes}
 use Rattle.ijson_number.specs.declared.lanes.TheConstants.{BACK}
 use Rattle.ijson_number.specs.declared.lanes.TheConstants.{FRONT}
 
@@ -67,52 +60,7 @@ abbrev Both : List ℕ → ℕ → Type 0
 Both xs n = Moved BACK to_end xs n × Moved FRONT to_front xs n
 
 each_place : (f : ℕ → ℕ) → Each (Both (listed f 16)) 17
-each_place f = (
-  ((tt, refl, refl), (tt, refl, refl)),
-  (
-    ((tt, refl, refl), (tt, refl, refl)),
-    (
-      ((tt, refl, refl), (tt, refl, refl)),
-      (
-        ((tt, refl, refl), (tt, refl, refl)),
-        (
-          ((tt, refl, refl), (tt, refl, refl)),
-          (
-            ((tt, refl, refl), (tt, refl, refl)),
-            (
-              ((tt, refl, refl), (tt, refl, refl)),
-              (
-                ((tt, refl, refl), (tt, refl, refl)),
-                (
-                  ((tt, refl, refl), (tt, refl, refl)),
-                  (
-                    ((tt, refl, refl), (tt, refl, refl)),
-                    (
-                      ((tt, refl, refl), (tt, refl, refl)),
-                      (
-                        ((tt, refl, refl), (tt, refl, refl)),
-                        (
-                          ((tt, refl, refl), (tt, refl, refl)),
-                          (
-                            ((tt, refl, refl), (tt, refl, refl)),
-                            (
-                              ((tt, refl, refl), (tt, refl, refl)),
-                              (((tt, refl, refl), (tt, refl, refl)), (((tt, refl, refl), (tt, refl, refl)), tt)),
-                            ),
-                          ),
-                        ),
-                      ),
-                    ),
-                  ),
-                ),
-              ),
-            ),
-          ),
-        ),
-      ),
-    ),
-  ),
-)
+each_place f = search rules
 
 both : (n : ℕ) → n ≤ 16 → (xs : List ℕ) → length xs ≡ 16 → Both xs n
 both n few xs long = spelled (λ xs. Both xs n) 16 (λ f. each (Both (listed f 16)) 17 n (each_place f) (omega arith)) xs long
@@ -129,5 +77,3 @@ moved_to_end count few xs long = moved BACK to_end xs count (both count few xs l
 pub moved_to_front : (start : ℕ) → start ≤ 16 → (xs : List ℕ) → length xs ≡ 16
     → SwzOk w8 16 16 0 (positions FRONT start) × (swz_l w8 16 xs 0 (positions FRONT start) ≡ drop start xs ++ replicate start 0)
 moved_to_front start few xs long = moved FRONT to_front xs start (both start few xs long).1
-
--- ---- the number of sixteen digits, four in each lane

@@ -1,10 +1,6 @@
 -- The postconditions of the reader of a tail.
-use Rattle.std.proofs.Common.{◌≡◌, ℕ, ◌-◌, ◌<◌, Bool, false, true, List, [], ◌∷◌, ◌++◌, length, get_or, take, drop, refl, sym, ◌∙◌, arith}
-use Rattle.std.specs.Prelude.{ℤ, nat_eq, not}
-use Rattle.std.proofs.lemmas.Bool.Decides.{nat_tests}
-use Rattle.std.proofs.lemmas.List.{take_rest}
-use Rattle.ijson_number.specs.Grammar.{AllDigits, IsDigits, IsFraction, IsExponent}
-use Rattle.ijson_number.specs.private.Reading.{BeginsWithNoDigit, IsTail}
+use Rattle.ijson_number.proofs.Common.{◌≡◌, ℕ, ◌-◌, ◌<◌, Bool, false, true, List, [], ◌∷◌, ◌++◌, length, get_or, take, drop, refl, sym, ◌∙◌, arith, ℤ}
+use Rattle.ijson_number.proofs.Common.{nat_eq, not, nat_tests, take_rest, AllDigits, IsDigits, IsFraction, IsExponent, BeginsWithNoDigit, IsTail}
 use Rattle.ijson_number.proofs.parsing.DigitRuns.{one_run, IsDigits_all, IsDigits_from}
 use Rattle.ijson_number.proofs.parsing.OneDivision.{exponent_begins, no_exponent}
 

@@ -1,8 +1,7 @@
 -- A text has one division into parts.
-use Rattle.std.proofs.Common.{◌≡◌, ℕ, ◌<◌, Bool, List, [], ◌∷◌, ◌++◌, length, get_or, refl, sym, ap, ◌∙◌, inl, inr, arith, append_assoc}
-use Rattle.std.specs.Prelude.{ℤ}
-use Rattle.ijson_number.specs.Grammar.{AllDigits, IsMinus, IsWhole, IsFraction, IsExponent, IsSigned, Parts, IsSpelled}
-use Rattle.ijson_number.specs.private.Reading.{BeginsWithNoDigit, IsTail, IsSignTaken}
+use Rattle.ijson_number.proofs.Common.{◌≡◌, ℕ, ◌<◌, Bool, List, [], ◌∷◌, ◌++◌, length, get_or, refl, sym, ap, ◌∙◌, inl, inr, arith, append_assoc, ℤ}
+use Rattle.ijson_number.proofs.Common.{AllDigits, IsMinus, IsWhole, IsFraction, IsExponent, IsSigned, Parts, IsSpelled, BeginsWithNoDigit, IsTail}
+use Rattle.ijson_number.proofs.Common.{IsSignTaken}
 use Rattle.ijson_number.proofs.parsing.DigitRuns.{one_run, IsDigits_all}
 
 pub exponent_begins : (et : List ℕ) (z : ℤ) (w : Bool) → IsExponent et z w → BeginsWithNoDigit et
@@ -19,14 +18,7 @@ fraction_one (b ∷ bs) f f' p p' g h = (cc, cc)
 
 pub signed_one : (bs : List ℕ) (z z' : ℤ) → IsSigned bs z → IsSigned bs z' → z ≡ z'
 signed_one [] z z' g h = absurd g
-signed_one (b ∷ bs) z z' g h =
-    elim g [
-      | inl p ↦ elim h [ inl q ↦ cc | inr k ↦ elim k [ inl q ↦ absurd (omega arith) | inr q ↦ absurd (omega arith) ] ]
-      | inr l ↦ elim l [
-        | inl p ↦ elim h [ inl q ↦ absurd (omega arith) | inr k ↦ elim k [ inl q ↦ cc | inr q ↦ absurd (omega arith) ] ]
-        | inr p ↦ elim h [ inl q ↦ absurd (omega arith) | inr k ↦ elim k [ inl q ↦ absurd (omega arith) | inr q ↦ cc ] ]
-      ]
-    ]
+signed_one (b ∷ bs) z z' g h = grind arith
 
 pub exponent_one : (et : List ℕ) (z z' : ℤ) (w w' : Bool) → IsExponent et z w → IsExponent et z' w' → (z ≡ z') × (w ≡ w')
 exponent_one [] z z' w w' g h = (cc, cc)
@@ -42,10 +34,8 @@ tails_agree [] [] et et' f f' z z' p p' w w' g g' h h' e = (refl, e)
 tails_agree [] (b ∷ bs) et et' f f' z z' p p' w w' g g' h h' e = absurd (no_exponent et b (bs ++ et') z w h g'.0 e)
 tails_agree (b ∷ bs) [] et et' f f' z z' p p' w w' g g' h h' e = absurd (no_exponent et' b (bs ++ et) z' w' h' g.0 (sym e))
 tails_agree (b ∷ bs) (c ∷ cs) et et' f f' z z' p p' w w' g g' h h' e =
-    let r = one_run bs cs et et' (IsDigits_all bs g.1) (IsDigits_all cs g'.1) (exponent_begins et z w h) (exponent_begins et' z' w' h')
-    (cc) in
-    let s : bs ≡ cs = r.0 in
-    (cc, r.1)
+    let r = one_run bs cs et et' (IsDigits_all bs g.1) (IsDigits_all cs g'.1) (exponent_begins et z w h) (exponent_begins et' z' w' h') (cc) in
+    grind arith
 
 pub tail_one : (t f f' : List ℕ) (z z' : ℤ) (p p' : Bool) → IsTail t f z p → IsTail t f' z' p' → (f ≡ f') × (z ≡ z') × (p ≡ p')
 tail_one t f f' z z' p p' g h =
@@ -57,8 +47,7 @@ tail_one t f f' z z' p p' g h =
     (a.0, b.0, g.point_is ∙ cc (a.1, b.1) ∙ sym h.point_is)
 
 pub tail_of_begins : (t f : List ℕ) (z : ℤ) (p : Bool) → IsTail t f z p → BeginsWithNoDigit t
-tail_of_begins t f z p h =
-    rw h.text_is (tail_begins h.fraction_text h.exponent_text f z h.has_point h.has_exponent h.fraction_is h.exponent_is)
+tail_of_begins t f z p h = rw h.text_is (tail_begins h.fraction_text h.exponent_text f z h.has_point h.has_exponent h.fraction_is h.exponent_is)
 
 pub whole_all : (bs : List ℕ) → IsWhole bs → AllDigits bs
 whole_all [] h = absurd h
@@ -87,9 +76,7 @@ unsigned_one t w w' f f' z z' p p' u v =
 
 pub no_whole : (bytes a rest : List ℕ) → bytes ≡ a ++ rest → AllDigits a → BeginsWithNoDigit rest → (IsWhole a → ⊥)
     → (w f : List ℕ) (z : ℤ) (p : Bool) → IsUnsigned bytes w f z p → ⊥
-no_whole bytes a rest e d n none w f z p u =
-    let r = unsigned_at bytes a rest w f z p e d n u in
-    none (rw r.0 at u.whole_is)
+no_whole bytes a rest e d n none w f z p u = let r = unsigned_at bytes a rest w f z p e d n u in none (rw r.0 at u.whole_is)
 
 pub no_rest : (bytes a rest : List ℕ) → bytes ≡ a ++ rest → AllDigits a → BeginsWithNoDigit rest
     → ((f : List ℕ) (z : ℤ) (p : Bool) → IsTail rest f z p → ⊥) → (w f : List ℕ) (z : ℤ) (p : Bool) → IsUnsigned bytes w f z p → ⊥
@@ -97,11 +84,7 @@ no_rest bytes a rest e d n none w f z p u = none f z p (unsigned_at bytes a rest
 
 pub sign_one : (t r r' : List ℕ) (n n' : Bool) → IsSignTaken t n r → IsSignTaken t n' r' → (n ≡ n') × (r ≡ r')
 sign_one [] r r' n n' g h = elim g [ inl p ↦ absurd (cc) | inr p ↦ elim h [ inl q ↦ absurd (cc) | inr q ↦ (cc, cc) ] ]
-sign_one (b ∷ t) r r' n n' g h =
-    elim g [
-      | inl p ↦ elim h [ inl q ↦ (cc, cc) | inr q ↦ (let e : b ≡ 45 = cc in absurd (q.2 (omega arith) e)) ]
-      | inr p ↦ elim h [ inl q ↦ (let e : b ≡ 45 = cc in absurd (p.2 (omega arith) e)) | inr q ↦ (cc, cc) ]
-    ]
+sign_one (b ∷ t) r r' n n' g h = grind arith
 
 -- a whole part does not begin with a minus
 pub whole_no_sign : (w rest : List ℕ) → IsWhole w → 0 < length (w ++ rest) → get_or (w ++ rest) 0 0 ≡ 45 → ⊥
@@ -120,8 +103,7 @@ spelled_sign t p s =
         fraction_text = s.fraction_text;
         exponent_text = s.exponent_text;
         has_point = s.has_point;
-        has_exponent =
-            s.has_exponent;
+        has_exponent = s.has_exponent;
         text_is = refl;
         fraction_is = s.fraction;
         exponent_is = s.exponent;
@@ -145,10 +127,7 @@ spelled_sign t p s =
 -- a sign that was split off precedes the rest
 pub minus_of : (text unsigned : List ℕ) (negative : Bool) → IsSignTaken text negative unsigned
     → (minus : List ℕ) × IsMinus minus negative × (text ≡ minus ++ unsigned)
-minus_of text unsigned negative sign = elim sign [
-  | inl e ↦ (45 ∷ [], inr (refl, e.1), e.0)
-  | inr e ↦ ([], inl (refl, e.1), e.0)
-]
+minus_of text unsigned negative sign = elim sign [ inl e ↦ (45 ∷ [], inr (refl, e.1), e.0) | inr e ↦ ([], inl (refl, e.1), e.0) ]
 
 pub spelled_from : (t : List ℕ) (p : Parts) (r : List ℕ) → IsSignTaken t p.negative r → IsUnsigned r p.whole p.fraction p.exponent p.point
     → IsSpelled t p

@@ -1,22 +1,11 @@
 -- Leading digits that are read in steps.
-use Rattle.std.proofs.Common.{◌≡◌, ℕ, ◌+◌, ◌-◌, ◌*◌, ◌^◌, ◌<◌, ◌≤◌, List, length, get_or, take}
-use Rattle.std.proofs.Common.{drop, sym, ap, ◌∙◌, arith, pow-add, take-add}
-use Rattle.std.specs.Int.Digits.{number_from_digits_after}
-use Rattle.std.proofs.Math.Nat.{mul-le-mul_right}
-use Rattle.std.proofs.lemmas.Int.Digits.{number_after_append, number_after_lt}
-use Rattle.std.proofs.lemmas.List.{drop-drop, drop_more, length-drop, length-take-le, map-append, take-take}
-use Rattle.std.proofs.lemmas.Simd.{get_or-chunk, length-chunk}
-use lib.Lanes.{chunk}
-use Rattle.ijson_number.specs.Grammar.{AllDigits, IsDigit, value}
-use Rattle.ijson_number.specs.private.Reading.{BeginsWithNoDigit}
-use Rattle.ijson_number.specs.private.Stripped.{digits_from_text}
-use Rattle.ijson_number.specs.private.PrefixDigits.{IsCount, IsTaken}
+use Rattle.ijson_number.proofs.Common.{◌≡◌, ℕ, ◌+◌, ◌-◌, ◌*◌, ◌^◌, ◌<◌, ◌≤◌, List, length, take, drop, sym, ap, ◌∙◌, arith, pow-add, take-add}
+use Rattle.ijson_number.proofs.Common.{number_from_digits_after, mul-le-mul_right, number_after_append, number_after_lt, drop-drop, drop_more}
+use Rattle.ijson_number.proofs.Common.{length-drop, length-take-le, map-append, take-take, get_or-chunk, length-chunk, chunk, AllDigits, value}
+use Rattle.ijson_number.proofs.Common.{digits_from_text, IsCount, IsTaken}
 use Rattle.ijson_number.proofs.storing.DigitBounds.{below_base, count_of, digits_small}
 use Rattle.ijson_number.proofs.parsing.DigitRuns.{AllDigits-append, AllDigits_left}
 use Rattle.ijson_number.proofs.comparing.MagnitudeOrder.{number_after_is}
-
-no_digit_at : (bytes : List ℕ) (at : ℕ) → at < length bytes → (IsDigit (get_or bytes at 0) → ⊥) → BeginsWithNoDigit (drop at bytes)
-no_digit_at bytes at inside other = rw (drop_more bytes at 0 inside) other
 
 fewer_digits : (bytes : List ℕ) (count most : ℕ) → count ≤ most → AllDigits (take most bytes) → AllDigits (take count bytes)
 fewer_digits bytes count most few digits =
@@ -50,8 +39,7 @@ taken_behind number longer bytes count most longest more few within digits value
       digits = rw split (AllDigits-append (take count bytes) (take more (drop count bytes)) digits t.digits);
       all = λ l. rw (← drop-drop more count bytes) (t.all (omega arith));
       value = t.value ∙ ap (λ n. number_from_digits_after 10 n (digits_from_text (take more (drop count bytes)))) value
-          ∙ sym (ap (λ l. number_from_digits_after 10 number (digits_from_text l)) split
-          ∙ ap (number_from_digits_after 10 number)
+          ∙ sym (ap (λ l. number_from_digits_after 10 number (digits_from_text l)) split ∙ ap (number_from_digits_after 10 number)
           (map-append {A = ℕ} {B = ℕ} (λ b. b - 48) (take count bytes) (take more (drop count bytes)))
           ∙ number_after_append 10 number (digits_from_text (take count bytes)) (digits_from_text (take more (drop count bytes))));
     }
@@ -95,7 +83,7 @@ module _ (number : ℕ) (bytes : List ℕ) (most found count : ℕ) (buffer : 16
     few = few;
     within = omega arith;
     digits = row_in_text;
-    all = λ l. no_digit_at bytes count (omega arith)
+    all = λ l. rw (drop_more bytes count 0 (omega arith))
         (λ d. is.stops (omega (arith, long, stops l)) (rw (← stops l, get_or-chunk 0 16 bytes count 0 less, at_front) d));
     value = row_value;
   }

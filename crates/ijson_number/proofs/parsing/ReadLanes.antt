@@ -1,20 +1,12 @@
 -- Sixteen bytes in the lanes of a vector: which are digits, and their value.
-use Rattle.std.proofs.Common.{◌≡◌, ℕ, zero, suc, ◌+◌, ◌-◌, ◌*◌, ◌%◌, ◌^◌, ◌<◌, ◌≤◌, Bool, true, false, cond, ◌&&◌, ltb, map}
-use Rattle.std.proofs.Common.{get_or, replicate, List, [], ◌∷◌, ◌++◌, length, take, refl, sym, ap, ap₂, ◌∙◌, arith}
-use Rattle.std.specs.Prelude.{not}
-use Rattle.std.specs.Int.Digits.{number_from_digits, AllBelowBase}
-use Rattle.std.specs.List.{prefix_len}
-use Rattle.std.proofs.lemmas.Bool.Decides.{nat_tests}
-use Rattle.std.proofs.lemmas.List.{length-map}
+use Rattle.ijson_number.proofs.Common.{◌≡◌, ℕ, zero, suc, ◌+◌, ◌-◌, ◌*◌, ◌%◌, ◌^◌, ◌<◌, ◌≤◌, Bool, true, false, cond, ◌&&◌, ltb, map, get_or}
+use Rattle.ijson_number.proofs.Common.{replicate, List, [], ◌∷◌, ◌++◌, length, take, refl, sym, ap, ap₂, ◌∙◌, arith, not, number_from_digits}
+use Rattle.ijson_number.proofs.Common.{AllBelowBase, prefix_len, nat_tests, length-map, length-zip2, map-map, zip2_splat, zip2_splat_left}
+use Rattle.ijson_number.proofs.Common.{zip2_of_maps, mask_l-mod, leading_from_mask_l, trailing_mask_l, dots, mask_l, top, zip2, AllDigits, IsDigit}
+use Rattle.ijson_number.proofs.Common.{value, rules, digits_from_text, IsCount}
 use Rattle.std.proofs.lemmas.List.Sums.{prefix_len-le-length, prefix_len_passes, prefix_len_stops}
-use Rattle.std.proofs.lemmas.Simd.{length-zip2, map-map, zip2_splat, zip2_splat_left, zip2_of_maps}
-use Rattle.std.proofs.lemmas.Simd.{mask_l-mod, leading_from_mask_l, trailing_mask_l}
 use lib.Bits.{bit_or}
 use lib.Count.{count_trailing_zeros}
-use lib.Lanes.{dots, mask_l, top, zip2}
-use Rattle.ijson_number.specs.Grammar.{AllDigits, IsDigit, value}
-use Rattle.ijson_number.specs.private.Stripped.{digits_from_text}
-use Rattle.ijson_number.specs.private.PrefixDigits.{IsCount}
 use Rattle.ijson_number.specs.declared.lanes.TheConstants.{HUNDREDS, POWERS, UNITS}
 use Rattle.ijson_number.proofs.storing.DigitBounds.{below_base}
 use Rattle.ijson_number.proofs.parsing.MovedLanes.{each, spelled}
@@ -63,19 +55,7 @@ row_is xs long = spelled (λ xs. AllBelowBase 10 xs → IsRow xs) 16 (λ f h.
 -- ---- powers of ten
 
 pub power_is : (count : ℕ) → count ≤ 16 → get_or POWERS count 0 ≡ 10 ^ count
-power_is count few = each (λ k. get_or POWERS k 0 ≡ 10 ^ k) 17 count (
-  refl,
-  (
-    refl,
-    (
-      refl,
-      (
-        refl,
-        (refl, (refl, (refl, (refl, (refl, (refl, (refl, (refl, (refl, (refl, (refl, (refl, (refl, tt))))))))))))),
-      ),
-    ),
-  ),
-) (omega arith)
+power_is count few = each (λ k. get_or POWERS k 0 ≡ 10 ^ k) 17 count (search rules) (omega arith)
 
 -- ---- the values of bytes that are digits
 

@@ -1,11 +1,7 @@
 -- The bytes of a text that spells a number.
-use Rattle.std.proofs.Common.{◌≡◌, ℕ, ◌≤◌, Bool, List, [], ◌∷◌, ◌++◌, refl, ◌∙◌, inl, inr, arith, append_assoc}
-use Rattle.std.specs.Prelude.{ℤ, IsTrue, ◌||◌, ◌==◌}
-use Rattle.std.specs.List.{AllByRecursion}
-use Rattle.std.proofs.lemmas.Bool.{le-leb}
-use Rattle.ijson_number.specs.Decimal.{Decimal}
+use Rattle.ijson_number.proofs.Common.{◌≡◌, ℕ, ◌≤◌, Bool, List, [], ◌∷◌, ◌++◌, refl, ◌∙◌, inl, inr, arith, append_assoc, ℤ, IsTrue, ◌||◌, ◌==◌}
+use Rattle.ijson_number.proofs.Common.{AllByRecursion, le-leb, Decimal, AllDigits, IsMinus, IsWhole, IsFraction, IsSigned, IsExponent, Spells, ap₂}
 use Rattle.ijson_number.specs.NumberBytes.{is_digit, is_number_byte}
-use Rattle.ijson_number.specs.Grammar.{AllDigits, IsMinus, IsWhole, IsFraction, IsSigned, IsExponent, Spells}
 use Rattle.ijson_number.proofs.parsing.OneDivision.{whole_all}
 use Rattle.ijson_number.proofs.parsing.DigitRuns.{IsDigits_all}
 
@@ -35,10 +31,7 @@ signed_bytes [] z h = absurd h
 signed_bytes (b ∷ bs) z h =
     elim h [
       | inl p ↦ (rw p.0 refl, digit_bytes bs (IsDigits_all bs p.1))
-      | inr q ↦ elim q [
-        | inl p ↦ (rw p.0 refl, digit_bytes bs (IsDigits_all bs p.1))
-        | inr p ↦ digit_bytes (b ∷ bs) p.0
-      ]
+      | inr q ↦ elim q [ inl p ↦ (rw p.0 refl, digit_bytes bs (IsDigits_all bs p.1)) | inr p ↦ digit_bytes (b ∷ bs) p.0 ]
     ]
 
 exponent_bytes : (et : List ℕ) (z : ℤ) (w : Bool) → IsExponent et z w → NumberBytes et
@@ -61,14 +54,11 @@ whole_first : (w : List ℕ) → IsWhole w → (b : ℕ) × (more : List ℕ) ×
 whole_first [] h = absurd h
 whole_first (b ∷ w) h = (b, w, elim h [ inl e ↦ rw e.0 refl | inr e ↦ digit_test b (omega arith) e.1 ], refl)
 
-whole_in_front : (m w rest more : List ℕ) (b : ℕ) → m ≡ [] → w ≡ b ∷ more → m ++ (w ++ rest) ≡ b ∷ (more ++ rest)
-whole_in_front m w rest more b e g = rw (e, g) refl
-
 begins_with : (m w rest : List ℕ) (negative : Bool) → IsMinus m negative → IsWhole w
     → (b : ℕ) × (more : List ℕ) × IsTrue (is_digit b || (b == 45)) × (m ++ (w ++ rest) ≡ b ∷ more)
 begins_with m w rest negative h g =
     elim h [
-      | inl e ↦ (let r = whole_first w g in (r.0, r.1 ++ rest, rw r.2 refl, whole_in_front m w rest r.1 r.0 e.0 r.3))
+      | inl e ↦ (let r = whole_first w g in (r.0, r.1 ++ rest, rw r.2 refl, ap₂ (λ (x y : List ℕ). x ++ (y ++ rest)) e.0 r.3))
       | inr e ↦ (45, w ++ rest, refl, rw e.0 refl)
     ]
 

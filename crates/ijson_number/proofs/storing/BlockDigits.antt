@@ -1,21 +1,10 @@
 -- The digits of a block, computed by a vector.
-use Rattle.std.proofs.Common.{◌≡◌, ◌∙◌, inl, inr, ℕ, zero, suc, ◌+◌, ◌-◌, ◌*◌, ◌/◌, ◌%◌, ◌^◌, ◌<◌, ◌≤◌, ◌++◌, List, []}
-use Rattle.std.proofs.Common.{◌∷◌, map, drop, length, length-drop, refl, sym, ap, ap₂, arith}
-use Rattle.std.specs.Fmt.{decimal}
-use Rattle.std.specs.Int.Digits.{AllBelowBase, digits_of}
-use Rattle.std.specs.List.{drop-map}
-use Rattle.std.proofs.lemmas.Fmt.{decimal-digits_of}
+use Rattle.ijson_number.proofs.Common.{◌≡◌, ◌∙◌, inl, inr, ℕ, zero, suc, ◌+◌, ◌-◌, ◌*◌, ◌/◌, ◌%◌, ◌^◌, ◌<◌, ◌≤◌, ◌++◌, List, [], ◌∷◌, map, drop}
+use Rattle.ijson_number.proofs.Common.{length, length-drop, refl, sym, ap, ap₂, arith, decimal, AllBelowBase, digits_of, drop-map, decimal-digits_of}
+use Rattle.ijson_number.proofs.Common.{bool_byte, all_below_base_digits_of, digits_of_step, append-nil, map-append, take_all, zip2_splat, cases_lt}
+use Rattle.ijson_number.proofs.Common.{nat_tests, digits_text, digits_from_text, IsZerosInFront}
 use lib.Dec.{leb}
-use mir.Val.{bool_byte}
-use Rattle.std.proofs.lemmas.Int.Digits.{all_below_base_digits_of, digits_of_step}
-use Rattle.std.proofs.lemmas.List.{append-nil, map-append, take_all}
-use Rattle.std.proofs.lemmas.Simd.{zip2_splat}
-use Rattle.std.proofs.lemmas.Bool.{cases_lt}
-use Rattle.std.proofs.lemmas.Bool.Decides.{nat_tests}
-use Rattle.ijson_number.specs.Text.{digits_text}
-use Rattle.ijson_number.specs.private.Stripped.{digits_from_text}
 use Rattle.ijson_number.specs.private.WordText.{last_digits}
-use Rattle.ijson_number.specs.private.ZerosInFront.{IsZerosInFront}
 use Rattle.ijson_number.proofs.writing.LastDigits.{front_is}
 use Rattle.ijson_number.proofs.parsing.ReadLanes.{digit_lanes}
 use Rattle.ijson_number.proofs.writing.DigitTexts.{read_back}
@@ -53,14 +42,12 @@ values zero n = refl
 values (suc k) n =
     let front = last_digits k (n / 10) in
     let last : (48 + n % 10 + (2 ^ 8 - 48)) % 2 ^ 8 ≡ 48 + n % 10 - 48 = omega arith in
-    map-append (λ a. (a + (2 ^ 8 - 48)) % 2 ^ 8) front ((48 + n % 10) ∷ [])
-    ∙ ap₂ ◌++◌ (values k (n / 10)) (λ i. last i ∷ [])
+    map-append (λ a. (a + (2 ^ 8 - 48)) % 2 ^ 8) front ((48 + n % 10) ∷ []) ∙ ap₂ ◌++◌ (values k (n / 10)) (λ i. last i ∷ [])
     ∙ sym (map-append (λ b. b - 48) front ((48 + n % 10) ∷ []))
 
 -- and those of 16 lanes
 pub row_values : (n : ℕ) (lanes : List ℕ) → lanes ≡ last_digits 16 n → digit_lanes lanes ≡ digits_from_text (last_digits 16 n)
-row_values n lanes is =
-    rw is (zip2_splat (λ a b. (a + (2 ^ 8 - b)) % 2 ^ 8) (last_digits 16 n) 16 48 (last_count 16 n) ∙ values 16 n)
+row_values n lanes is = rw is (zip2_splat (λ a b. (a + (2 ^ 8 - b)) % 2 ^ 8) (last_digits 16 n) 16 48 (last_count 16 n) ∙ values 16 n)
 
 -- the digits of a number of more than 16 digits are those before the last 16, and these
 pub wide_digits : (n : ℕ) → 10 ^ 16 ≤ n → n < 2 ^ 64
@@ -70,8 +57,7 @@ wide_digits n wide word =
     let back : ℕ = n % 10 ^ 16 in
     let whole : n ≡ front * 10 ^ 16 + back = omega arith in
     let shown : digits_text (digits_of 10 n) ≡ digits_text (digits_of 10 front) ++ last_digits 16 back =
-    sym (decimal-digits_of n (omega arith) word) ∙ ap decimal whole
-    ∙ joined 16 front back (omega arith) (omega arith) (omega arith)
+    sym (decimal-digits_of n (omega arith) word) ∙ ap decimal whole ∙ joined 16 front back (omega arith) (omega arith) (omega arith)
     ∙ ap (λ l. l ++ last_digits 16 back) (decimal-digits_of front (omega arith) (omega arith)) in
     sym (read_back (digits_of 10 n)) ∙ ap digits_from_text shown
     ∙ map-append (λ b. b - 48) (digits_text (digits_of 10 front)) (last_digits 16 back)
@@ -85,31 +71,20 @@ below_ten n some few =
 
 below_hundred : (n : ℕ) → 10 ≤ n → n < 100 → digits_of 10 n ≡ n / 10 % 10 ∷ n % 10 ∷ []
 below_hundred n some few =
-    digits_of_step 10 n (omega arith) (omega arith)
-    ∙ ap (λ ds. ds ++ n % 10 ∷ []) (below_ten (n / 10) (omega arith) (omega arith))
+    digits_of_step 10 n (omega arith) (omega arith) ∙ ap (λ ds. ds ++ n % 10 ∷ []) (below_ten (n / 10) (omega arith) (omega arith))
 
 below_thousand : (n : ℕ) → 100 ≤ n → n < 1000 → digits_of 10 n ≡ n / 100 ∷ n / 10 % 10 ∷ n % 10 ∷ []
 below_thousand n some few =
     let first : n / 10 / 10 % 10 ≡ n / 100 = omega arith in
-    digits_of_step 10 n (omega arith) (omega arith)
-    ∙ ap (λ ds. ds ++ n % 10 ∷ []) (below_hundred (n / 10) (omega arith) (omega arith))
+    digits_of_step 10 n (omega arith) (omega arith) ∙ ap (λ ds. ds ++ n % 10 ∷ []) (below_hundred (n / 10) (omega arith) (omega arith))
     ∙ ap (λ d. d ∷ n / 10 % 10 ∷ n % 10 ∷ []) first
 
 pub front_digits : (n count : ℕ) (row : List ℕ) → 0 < n → n < 1000 → count ≡ 1 + bool_byte (leb 10 n) + bool_byte (leb 100 n)
     → drop (3 - count) (n / 100 ∷ n / 10 % 10 ∷ n % 10 ∷ row) ≡ digits_of 10 n ++ row
 front_digits n count row some few is = elim (cases_lt n 10) [
-  | inl one ↦ (
-      let at : 3 - count ≡ 2 = grind (arith, nat_tests, is, one) in
-      rw (at, below_ten n some one) refl
-      )
+  | inl one ↦ (let at : 3 - count ≡ 2 = grind (arith, nat_tests, is, one) in rw (at, below_ten n some one) refl)
   | inr more ↦ elim (cases_lt n 100) [
-    | inl two ↦ (
-        let at : 3 - count ≡ 1 = grind (arith, nat_tests, is, more, two) in
-        rw (at, below_hundred n more two) refl
-        )
-    | inr three ↦ (
-        let at : 3 - count ≡ 0 = grind (arith, nat_tests, is, three) in
-        rw (at, below_thousand n three few) refl
-        )
+    | inl two ↦ (let at : 3 - count ≡ 1 = grind (arith, nat_tests, is, more, two) in rw (at, below_hundred n more two) refl)
+    | inr three ↦ (let at : 3 - count ≡ 0 = grind (arith, nat_tests, is, three) in rw (at, below_thousand n three few) refl)
   ]
 ]

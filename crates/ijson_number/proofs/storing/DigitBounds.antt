@@ -1,12 +1,8 @@
 -- The value of few digits is below a power of ten.
-use Rattle.std.proofs.Common.{◌≡◌, ℕ, ◌+◌, ◌-◌, ◌*◌, ◌^◌, ◌<◌, ◌≤◌, List, [], ◌∷◌, ◌++◌, length, get_or, take, drop, ap, sym, ◌∙◌, arith, pow-add}
-use Rattle.std.specs.Int.Digits.{number_from_digits, number_from_digits_after, AllBelowBase}
-use Rattle.std.proofs.Math.Nat.{mul-le-mul_left, mul-le-mul_right}
-use Rattle.std.proofs.lemmas.Int.Digits.{number_after_append, number_after_lt, number_lt}
-use Rattle.std.proofs.lemmas.List.{length-map, length-take-le, map-append, take-append-drop, take_more}
-use Rattle.ijson_number.specs.Grammar.{AllDigits, IsDigit, value}
-use Rattle.ijson_number.specs.private.Stripped.{digits_from_text}
-use Rattle.ijson_number.specs.laws.Tens.{power_le}
+use Rattle.ijson_number.proofs.Common.{◌≡◌, ℕ, ◌+◌, ◌-◌, ◌*◌, ◌^◌, ◌<◌, ◌≤◌, List, [], ◌∷◌, ◌++◌, length, get_or, take, drop, ap, sym, ◌∙◌, arith}
+use Rattle.ijson_number.proofs.Common.{pow-add, number_from_digits, number_from_digits_after, AllBelowBase, mul-le-mul_left, mul-le-mul_right}
+use Rattle.ijson_number.proofs.Common.{number_after_append, number_after_lt, number_lt, length-map, length-take-le, map-append, take-append-drop}
+use Rattle.ijson_number.proofs.Common.{take_more, AllDigits, IsDigit, value, digits_from_text, power_le}
 use Rattle.ijson_number.proofs.parsing.DigitRuns.{AllDigits-append}
 
 pub below_base : (bs : List ℕ) → AllDigits bs → AllBelowBase 10 (digits_from_text bs)

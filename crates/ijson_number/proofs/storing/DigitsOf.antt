@@ -1,17 +1,8 @@
 -- Canonical digits are the digits of their value.
-use Rattle.std.proofs.Common.{◌≡◌, ◌≢◌, ℕ, zero, suc, ◌+◌, ◌*◌, ◌/◌, ◌%◌, ◌<◌, Bool, List, [], ◌∷◌, ◌++◌}
-use Rattle.std.proofs.Common.{length, get_or, refl, ap, sym, ◌∙◌, arith, append_assoc}
-use Rattle.std.specs.Prelude.{nat_abs, nat_eq, true, false, cond, ℤ}
-use Rattle.std.proofs.lemmas.List.{append-nil}
-use Rattle.std.specs.List.{AllByRecursion}
-use Rattle.std.proofs.lemmas.List.Elements.{recursion_from_All}
-use Rattle.std.proofs.lemmas.Int.Digits.{digits_of_step}
-use Rattle.std.specs.Int.Digits.{number_from_digits, number_from_digits_after, digits_of, digits_with_fuel}
-use Rattle.ijson_number.specs.Strips.{signed}
-use Rattle.ijson_number.specs.StoredNumber.{stored_number}
-use Rattle.ijson_number.specs.StrippedDigits.{digits_within, stripped_digits}
-use Rattle.ijson_number.specs.private.Stripped.{IsStripped}
-use Rattle.ijson_number.specs.laws.Tens.{abs_signed}
+use Rattle.ijson_number.proofs.Common.{◌≡◌, ◌≢◌, ℕ, zero, suc, ◌+◌, ◌*◌, ◌/◌, ◌%◌, ◌<◌, Bool, List, [], ◌∷◌, ◌++◌, length, get_or, refl, ap, sym, ◌∙◌}
+use Rattle.ijson_number.proofs.Common.{arith, append_assoc, nat_abs, nat_eq, true, false, cond, ℤ, append-nil, AllByRecursion, recursion_from_All}
+use Rattle.ijson_number.proofs.Common.{digits_of_step, number_from_digits, number_from_digits_after, digits_of, digits_with_fuel, signed}
+use Rattle.ijson_number.proofs.Common.{stored_number, digits_within, stripped_digits, IsStripped, abs_signed}
 
 step : (m d : ℕ) → d < 10 → 0 < m * 10 + d → digits_of 10 (m * 10 + d) ≡ digits_of 10 m ++ d ∷ []
 step m d h p =

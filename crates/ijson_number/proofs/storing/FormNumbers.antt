@@ -1,26 +1,14 @@
 -- The number of a number's form is that number.
-use Rattle.std.proofs.Common.{◌≡◌, ◌≢◌, ℕ, zero, suc, ◌*◌, ◌/◌, ◌%◌, ◌^◌, ◌<◌, Bool, true, false}
-use Rattle.std.proofs.Common.{refl, ap, sym, ◌∙◌, inl, inr, subst, arith}
-use Rattle.std.specs.Prelude.{ℤ, pos, negsuc, neg_ℤ, nat_abs, nat_eq, int_le, int_lt, ◌*ℤ◌, ◌+ℤ◌, ◌-ℤ◌, ◌≤ℤ◌, ◌&&◌}
-use Rattle.std.specs.Int.Digits.{number_from_digits}
-use Rattle.std.proofs.Math.Nat.{pow-succ'}
-use Rattle.std.proofs.lemmas.Bool.Decides.{nat_tests}
-use Rattle.std.proofs.lemmas.Int.{ints}
-use Rattle.std.proofs.lemmas.Int.Digits.{number_digits_of}
-use Rattle.std.proofs.lemmas.Bool.{and_parts}
-use Rattle.ijson_number.specs.Decimal.{Decimal, IsPlain}
-use Rattle.ijson_number.specs.Form.{FormOf, packed, fits_packed, fits_i64}
-use Rattle.ijson_number.specs.Form.{fits_u64, digits_form, integer_form, smallest_packed, form_of}
-use Rattle.ijson_number.specs.FormNumber.{form_number}
-use Rattle.ijson_number.specs.Stripped.{with_ten, tens_out, exponent_above, stripped_number}
-use Rattle.ijson_number.specs.Num.{IsNum}
-use Rattle.ijson_number.specs.Strips.{Strips, signed}
-use Rattle.ijson_number.specs.StrippedDigits.{stripped_digits}
-use Rattle.ijson_number.specs.laws.Tens.{int_tens, int_zero, signed_mul, abs_signed, zero_or_not}
+use Rattle.ijson_number.proofs.Common.{◌≡◌, ◌≢◌, ℕ, zero, suc, ◌*◌, ◌/◌, ◌%◌, ◌^◌, ◌<◌, Bool, true, false, refl, ap, sym, ◌∙◌, inl, inr, subst, arith}
+use Rattle.ijson_number.proofs.Common.{ℤ, pos, negsuc, nat_abs, nat_eq, int_le, int_lt, ◌*ℤ◌, ◌+ℤ◌, ◌-ℤ◌, ◌≤ℤ◌, ◌&&◌, number_from_digits, pow-succ'}
+use Rattle.ijson_number.proofs.Common.{nat_tests, ints, number_digits_of, and_parts, Decimal, IsPlain, FormOf, packed, fits_packed, fits_i64}
+use Rattle.ijson_number.proofs.Common.{fits_u64, digits_form, integer_form, smallest_packed, form_of, form_number, with_ten, exponent_above}
+use Rattle.ijson_number.proofs.Common.{stripped_number, IsNum, Strips, signed, stripped_digits, int_tens, int_zero, signed_mul, abs_signed}
+use Rattle.ijson_number.proofs.Common.{zero_or_not}
+use Rattle.ijson_number.specs.Stripped.{tens_out}
 use Rattle.ijson_number.proofs.storing.DigitsOf.{digits_are}
-use Rattle.ijson_number.proofs.storing.FormCases.{within}
 use Rattle.ijson_number.proofs.parsing.Denotes.{same_decimal}
-use Rattle.ijson_number.proofs.BooleanTests.{test_le}
+use Rattle.ijson_number.proofs.BooleanTests.{abs_zero, test_le}
 use Rattle.ijson_number.proofs.storing.WholeValues.{times_one}
 use Rattle.ijson_number.proofs.comparing.MagnitudeOrder.{gap}
 
@@ -34,10 +22,7 @@ ten_more n q k h e =
     rw p (let t : n ≡ q * 10 ^ k * 10 = rw (← e) s in grind (arith, t))
 
 one_turn : (b : Bool) (n : ℕ) (r : ℕ × ℕ) → nat_eq (n % 10) 0 ≡ b → (n % 10 ≡ 0 → IsTensOut (n / 10) r) → IsTensOut n (with_ten b n r)
-one_turn true n r e h =
-    let z : n % 10 ≡ 0 = grind arith in
-    let t = h z in
-    (ten_more n r.0 r.1 z t.0, t.1)
+one_turn true n r e h = let z : n % 10 ≡ 0 = grind arith in let t = h z in (ten_more n r.0 r.1 z t.0, t.1)
 one_turn false n r e h = (let p : n ≡ n * 10 ^ 0 = omega arith in p, λ z. (let t : nat_eq (n % 10) 0 ≡ true = grind arith in cc))
 
 pub tens_out_is : (turns n : ℕ) → n ≢ 0 → n < 10 ^ turns → IsTensOut n (tens_out turns n)
@@ -52,10 +37,6 @@ unfolding tens_out
 tens_out_zero zero = refl
 tens_out_zero (suc turns) = tens_out_zero turns
 
-abs_zero : (m : ℤ) → m ≢ pos 0 → nat_abs m ≢ 0
-abs_zero (pos n) h e = h (ap pos e)
-abs_zero (negsuc n) h e = absurd (cc)
-
 pub sign_and_magnitude : (m : ℤ) → signed (int_lt m (pos 0)) (nat_abs m) ≡ m
 sign_and_magnitude (pos zero) = refl
 sign_and_magnitude (pos (suc n)) = let t : int_lt (pos (suc n)) (pos 0) ≡ false = grind (arith, nat_tests) in rw t refl
@@ -63,9 +44,6 @@ sign_and_magnitude (negsuc n) = refl
 
 pub not_zero : (v : ℕ) → v ≢ 0 → nat_eq v 0 ≡ false
 not_zero v h = let some : 0 < v = omega arith in grind arith
-
-same_exponent : (e f : ℤ) (j k : ℕ) → f ≡ e +ℤ pos k → j ≡ k → e +ℤ pos j ≡ f
-same_exponent e f j k h i = omega (arith, ints)
 
 module _ (m e : ℤ) (n : Decimal) (small : nat_abs m < 10 ^ 20) (s : Strips m e n) where
   abbrev out : ℕ × ℕ
@@ -76,7 +54,7 @@ module _ (m e : ℤ) (n : Decimal) (small : nat_abs m < 10 ^ 20) (s : Strips m e
 
   module _ (some : m ≢ pos 0) where
     tens : IsTensOut (nat_abs m) out
-    tens = tens_out_is 20 (nat_abs m) (abs_zero m some) small
+    tens = tens_out_is 20 (nat_abs m) (λ z. some (abs_zero m z)) small
 
     scaled : m ≡ signed (int_lt m (pos 0)) out.0 *ℤ pos (10 ^ out.1)
     scaled = sym (sign_and_magnitude m) ∙ ap (signed (int_lt m (pos 0))) tens.0 ∙ signed_mul (int_lt m (pos 0)) out.0 (10 ^ out.1)
@@ -86,7 +64,7 @@ module _ (m e : ℤ) (n : Decimal) (small : nat_abs m < 10 ^ 20) (s : Strips m e
     parts k is x =
         let r = int_tens (signed (int_lt m (pos 0)) out.0) n.mantissa out.1 k
         (λ _. rw (abs_signed (int_lt m (pos 0)) out.0) tens.1) s.plain.stripped (sym scaled ∙ is) in
-        (r.0, same_exponent e n.exponent out.1 k x (r.1 (λ z. some (scaled ∙ rw z (let w : 0 * 10 ^ out.1 ≡ 0 = omega arith in ap pos w)))))
+        (r.0, (let j = r.1 (λ z. some (scaled ∙ rw z (let w : 0 * 10 ^ out.1 ≡ 0 = omega arith in ap pos w))) in omega (arith, ints, x)))
 
   -- stripping the trailing zeros of the mantissa yields the number
   pub stripped_is : stripped_number m e n.point ≡ n
@@ -98,22 +76,13 @@ module _ (m e : ℤ) (n : Decimal) (small : nat_abs m < 10 ^ 20) (s : Strips m e
           | inl t ↦ absurd (some t.0)
           | inr t ↦ (let r = parts some t.0 t.1 t.2 in
               same_decimal _ n.mantissa _ n.exponent n.point n.point r.0
-              (ap (λ b. exponent_above b e out.1) (not_zero (nat_abs m) (abs_zero m some)) ∙ r.1) refl)
+              (ap (λ b. exponent_above b e out.1) (not_zero (nat_abs m) (λ z. some (abs_zero m z))) ∙ r.1) refl)
         ]
       ]
 
-small_within : (low high z : ℤ) → neg_ℤ (pos (2 ^ 64)) ≤ℤ low → high ≤ℤ pos (2 ^ 64) → int_le low z && int_lt z high ≡ true
-    → nat_abs z < 10 ^ 20
-small_within low high (pos n) a b t = let w = within low high (pos n) t in omega (arith, ints)
-small_within low high (negsuc n) a b t = let w = within low high (negsuc n) t in omega (arith, ints)
-
-small_packed : (z : ℤ) → fits_packed z ≡ true → nat_abs z < 10 ^ 20
-small_packed z t = small_within (neg_ℤ (pos 36028797018963968)) (pos 36028797018963968) z (omega (arith, ints)) (omega (arith, ints)) t
-
 -- a nonnegative number is its absolute value
 pub not_below : (z : ℤ) → fits_u64 z ≡ true → pos (nat_abs z) ≡ z
-not_below (pos n) t = refl
-not_below (negsuc n) t = let w = within (pos 0) (pos (2 ^ 64)) (negsuc n) t in absurd (omega (arith, ints))
+not_below z t = grind (arith, ints)
 
 module _ (n : Decimal) (plain : IsPlain n) where
   -- the digits of the mantissa
@@ -128,8 +97,7 @@ module _ (n : Decimal) (plain : IsPlain n) where
   -- a mantissa with some trailing zeros kept
   packed_case : (k : ℤ) (m : ℤ) → k ≤ℤ n.exponent → m ≡ n.mantissa *ℤ pos (10 ^ nat_abs (n.exponent -ℤ k)) → nat_abs m < 10 ^ 20
       → stripped_number m k n.point ≡ n
-  packed_case k m h is small =
-      stripped_is m k n small (record { plain = plain; tens = inr (nat_abs (n.exponent -ℤ k), is, gap n.exponent k h) })
+  packed_case k m h is small = stripped_is m k n small (record { plain = plain; tens = inr (nat_abs (n.exponent -ℤ k), is, gap n.exponent k h) })
 
   whole_case : (z : ℤ) → n.point ≡ false → z ≡ n.mantissa *ℤ pos (10 ^ nat_abs n.exponent) → nat_abs z < 10 ^ 20
       → stripped_number z (pos 0) false ≡ n
@@ -145,19 +113,18 @@ module _ (n : Decimal) (plain : IsPlain n) where
 
   integer_case : (z : ℤ) → n.point ≡ false → z ≡ n.mantissa *ℤ pos (10 ^ nat_abs n.exponent) → form_number (integer_form n z) ≡ n
   integer_case z h is =
-      either (fits_packed z) _ _ (λ t. whole_case z h is (small_packed z t))
+      either (fits_packed z) _ _ (λ t. whole_case z h is (grind (arith, ints)))
       (λ _. either (fits_i64 z) _ _
-      (λ t. whole_case z h is (small_within (neg_ℤ (pos (2 ^ 63))) (pos (2 ^ 63)) z (omega (arith, ints)) (omega (arith, ints)) t))
+      (λ t. whole_case z h is (grind (arith, ints)))
       (λ _. either (fits_u64 z) _ _
-      (λ t. ap (λ y. stripped_number y (pos 0) false) (not_below z t)
-      ∙ whole_case z h is (small_within (pos 0) (pos (2 ^ 64)) z (omega (arith, ints)) (omega (arith, ints)) t))
+      (λ t. ap (λ y. stripped_number y (pos 0) false) (not_below z t) ∙ whole_case z h is (grind (arith, ints)))
       (λ _. digits_case)))
 
   packed_test : (k m : ℤ) → n.point ≡ true → m ≡ n.mantissa *ℤ pos (10 ^ nat_abs (n.exponent -ℤ k))
       → int_le k n.exponent && fits_packed m ≡ true → form_number (packed m k true) ≡ n
   packed_test k m h is t =
       let b = and_parts (int_le k n.exponent) (fits_packed m) t in
-      ap (λ p. stripped_number m k p) (sym h) ∙ packed_case k m (test_le k n.exponent b.0) is (small_packed m b.1)
+      ap (λ p. stripped_number m k p) (sym h) ∙ packed_case k m (test_le k n.exponent b.0) is (grind (arith, ints))
 
   smallest_case : (tries k : ℕ) → n.point ≡ true → form_number (smallest_packed tries k n) ≡ n
   smallest_case zero k h = digits_case
@@ -174,7 +141,7 @@ module _ (n : Decimal) (plain : IsPlain n) where
   fraction_test h t =
       let b = and_parts (int_le (negsuc 6) n.exponent) (fits_packed n.mantissa) t in
       ap (λ p. stripped_number n.mantissa n.exponent p) (sym h)
-      ∙ packed_case n.exponent n.mantissa (omega (arith, ints)) no_tens (small_packed n.mantissa b.1)
+      ∙ packed_case n.exponent n.mantissa (omega (arith, ints)) no_tens (grind (arith, ints))
 
   -- the number of a number's form is that number
   pub number_of_form : form_number (form_of n) ≡ n

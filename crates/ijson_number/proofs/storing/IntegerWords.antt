@@ -1,31 +1,19 @@
 -- Integers of 64 bits, and their forms.
-use Rattle.std.proofs.Common.{◌≡◌, ◌≢◌, ℕ, ◌*◌, ◌%◌, ◌^◌, ◌<◌, Bool, true, false, [], refl, ap, sym, subst, ◌∙◌, inl, inr, arith}
-use Rattle.std.specs.Prelude.{ℤ, pos, neg_ℤ, nat_abs, int_le, int_lt, ◌+ℤ◌, ◌<ℤ◌, FitsSigned}
-use mir.Syntax.{w64}
-use Rattle.std.specs.Int.Digits.{number_from_digits, digits_of}
-use Rattle.std.proofs.lemmas.Int.{ints}
-use Rattle.std.proofs.lemmas.Int.Digits.{number_digits_of}
-use Rattle.std.proofs.lemmas.Bool.{and_from}
-use Rattle.ijson_number.specs.Decimal.{Decimal}
-use Rattle.ijson_number.specs.Form.{FormOf, packed, signed_word, unsigned_word, fits_packed}
-use Rattle.ijson_number.specs.Form.{fits_i64, fits_u64, digits_form, integer_form, form_of}
-use Rattle.ijson_number.specs.FormNumber.{form_number, integer_word}
-use Rattle.ijson_number.specs.Stripped.{tens_out, stripped_number}
-use Rattle.ijson_number.specs.Integers.{IsInteger, HasValue}
-use Rattle.ijson_number.specs.StoredNumber.{stored_number}
-use Rattle.ijson_number.specs.private.StoredNumber.{IsStored}
-use Rattle.ijson_number.specs.Num.{IsNum}
-use Rattle.ijson_number.specs.Strips.{signed}
-use Rattle.ijson_number.specs.laws.Tens.{int_tens, abs_signed, zero_or_not}
+use Rattle.ijson_number.proofs.Common.{◌≡◌, ◌≢◌, ℕ, ◌*◌, ◌%◌, ◌^◌, ◌<◌, Bool, true, false, [], refl, ap, sym, subst, ◌∙◌, inl, inr, arith, ℤ, pos}
+use Rattle.ijson_number.proofs.Common.{nat_abs, int_lt, ◌+ℤ◌, FitsSigned, w64, number_from_digits, digits_of, ints, number_digits_of, Decimal, FormOf}
+use Rattle.ijson_number.proofs.Common.{packed, signed_word, unsigned_word, fits_packed, fits_i64, fits_u64, digits_form, integer_form, form_of}
+use Rattle.ijson_number.proofs.Common.{form_number, integer_word, stripped_number, IsInteger, HasValue, stored_number, IsNum, signed, IsStored}
+use Rattle.ijson_number.proofs.Common.{int_tens, abs_signed, zero_or_not}
+use Rattle.ijson_number.specs.Stripped.{tens_out}
 use Rattle.ijson_number.proofs.storing.FormNumbers.{IsTensOut, tens_out_is, tens_out_zero, sign_and_magnitude, not_zero, form_has}
-use Rattle.ijson_number.proofs.BooleanTests.{abs_zero, le_test}
+use Rattle.ijson_number.proofs.parsing.Denotes.{signed_nought}
+use Rattle.ijson_number.proofs.BooleanTests.{abs_zero}
 use Rattle.ijson_number.proofs.storing.WholeValues.{tens_few, whole_stripped, value_from, value_is, whole_num, whole_value}
 use Rattle.ijson_number.proofs.writing.Writing.{below_zero}
 
 -- a mantissa of zero
 pub zero_is : (negative : Bool) (e : ℤ) (point : Bool) → stripped_number (signed negative 0) e point ≡ stored_number false [] (pos 0) point
-zero_is true e point = rw (tens_out_zero 20) refl
-zero_is false e point = rw (tens_out_zero 20) refl
+zero_is negative e point = rw (signed_nought negative, tens_out_zero 20) refl
 
 module _ (magnitude s t : ℕ) (some : magnitude ≢ 0) (small : magnitude < 10 ^ 20) (tens : magnitude ≡ s * 10 ^ t) (last : s % 10 ≢ 0) where
   abbrev out : ℕ × ℕ
@@ -62,9 +50,7 @@ module _ (m : ℤ) (word : nat_abs m < 2 ^ 64) (some : nat_abs m ≢ 0) where
   tens_are = tens_out_is 20 (nat_abs m) some (omega arith)
 
   pub few_tens : (tens_out 20 (nat_abs m)).1 < 20
-  few_tens =
-      let out = tens_out 20 (nat_abs m) in
-      tens_few (nat_abs m) out.0 out.1 word (λ e. tens_are.1 (rw e refl)) tens_are.0
+  few_tens = let out = tens_out 20 (nat_abs m) in tens_few (nat_abs m) out.0 out.1 word (λ e. tens_are.1 (rw e refl)) tens_are.0
 
   pub without_tens : (e : ℤ) (point : Bool) → let out = tens_out 20 (nat_abs m) in
       stripped_number m e point ≡ stored_number (int_lt m (pos 0)) (digits_of 10 out.0) (e +ℤ pos out.1) point
@@ -84,25 +70,19 @@ module _ (z : ℤ) (word : nat_abs z < 2 ^ 64) where
     tens : IsTensOut (nat_abs z) parts
     tens = tens_are z word some
 
-    few : parts.1 < 20
-    few = few_tens z word some
-
-    exact : pos 0 +ℤ pos parts.1 ≡ pos parts.1
-    exact = omega (arith, ints)
-
     number_is : number ≡ stored_number (int_lt z (pos 0)) (digits_of 10 parts.0) (pos 0 +ℤ pos parts.1) false
     number_is = without_tens z word some (pos 0) false
 
     some_num : IsNum number
     some_num = subst IsNum (sym number_is)
         (whole_num (int_lt z (pos 0)) (nat_abs z) parts.0 parts.1 (digits_of 10 parts.0)
-        (pos 0 +ℤ pos parts.1) refl exact tens.0 few tens.1)
+        (pos 0 +ℤ pos parts.1) refl (omega (arith, ints)) tens.0 (few_tens z word some) tens.1)
 
     some_value : HasValue number z
     some_value = subst (λ n. HasValue n z) (sym number_is)
         (subst (HasValue (stored_number (int_lt z (pos 0)) (digits_of 10 parts.0) (pos 0 +ℤ pos parts.1) false)) (sign_and_magnitude z)
         (whole_value (int_lt z (pos 0)) (nat_abs z) parts.0 parts.1 (digits_of 10 parts.0)
-        (pos 0 +ℤ pos parts.1) refl exact tens.0 few tens.1))
+        (pos 0 +ℤ pos parts.1) refl (omega (arith, ints)) tens.0 (few_tens z word some) tens.1))
 
   zero_num : IsNum (stored_number false [] (pos 0) false)
   zero_num = record {
@@ -125,17 +105,13 @@ module _ (z : ℤ) (word : nat_abs z < 2 ^ 64) where
   ]
 
   -- an integer of 64 bits is not stored by its digits
-  same_word : (n : Decimal) (a b c : Bool) → (b ≡ false → c ≡ true)
-      → (let f : FormOf = elim a [
-        | true ↦ packed z (pos 0) false
-        | false ↦
-            elim b [ true ↦ signed_word z | false ↦ elim c [ true ↦ unsigned_word (nat_abs z) | false ↦ digits_form n ] ]
-      ] in
+  same_word : (n : Decimal) (a b c : Bool) → (b ≡ false → c ≡ true) → (let f : FormOf = elim a [
+    | true ↦ packed z (pos 0) false
+    | false ↦
+        elim b [ true ↦ signed_word z | false ↦ elim c [ true ↦ unsigned_word (nat_abs z) | false ↦ digits_form n ] ]
+  ] in
       f) ≡ elim a [ true ↦ packed z (pos 0) false | false ↦ elim b [ true ↦ signed_word z | false ↦ unsigned_word (nat_abs z) ] ]
-  same_word n true b c h = refl
-  same_word n false true c h = refl
-  same_word n false false true h = refl
-  same_word n false false false h = absurd (let e : false ≡ true = h refl in cc)
+  same_word n a b c h = grind arith
 
   module _ (f : FormOf) (fits : fits_i64 z ≡ false → fits_u64 z ≡ true) (is : f ≡ integer_word z) where
     pub form_is : f ≡ form_of number
@@ -151,19 +127,16 @@ module _ (z : ℤ) (word : nat_abs z < 2 ^ 64) where
     pub word_integer : IsInteger (form_number f) z
     word_integer = subst (λ n. IsInteger n z) (sym (form_has number f is_num.plain form_is)) (record { value = has_value; no_point = refl })
 
-pub below_test : (a b : ℤ) → a <ℤ b → int_lt a b ≡ true
-below_test a b h = grind (arith, ints)
-
 -- a signed word
 pub signed_small : (z : ℤ) → FitsSigned w64 z → nat_abs z < 2 ^ 64
 signed_small z h = omega (arith, ints)
 
 pub signed_fits : (z : ℤ) → FitsSigned w64 z → fits_i64 z ≡ true
-signed_fits z h = and_from _ _ (le_test (neg_ℤ (pos (2 ^ 63))) z (omega (arith, ints))) (below_test z (pos (2 ^ 63)) (omega (arith, ints)))
+signed_fits z h = grind (arith, ints)
 
 -- an unsigned word
 pub unsigned_fits : (n : ℕ) → n < 2 ^ 64 → fits_u64 (pos n) ≡ true
-unsigned_fits n h = and_from _ _ (le_test (pos 0) (pos n) (omega (arith, ints))) (below_test (pos n) (pos (2 ^ 64)) (omega (arith, ints)))
+unsigned_fits n h = grind (arith, ints)
 
 pub signed_known : (z : ℤ) → FitsSigned w64 z → fits_i64 z ≡ false → fits_u64 z ≡ true
 signed_known z h n = absurd (let e = signed_fits z h in cc)

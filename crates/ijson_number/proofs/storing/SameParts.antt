@@ -1,30 +1,17 @@
 -- Stored parts of equal numbers are equal.
-use Rattle.std.proofs.Common.{◌≡◌, ℕ, Bool, true, false, List, [], ◌∷◌, refl, ap, ap₂, sym, ◌∙◌, arith}
-use Rattle.std.specs.Prelude.{ℤ, pos, nat_abs, int_lt, not}
-use Rattle.std.specs.Int.Digits.{number_from_digits}
-use Rattle.std.specs.Cmp.{both_ways}
-use Rattle.std.specs.Ordering.{is_eq}
-use Rattle.std.specs.Cmp.Lexicographic.{pointwise}
+use Rattle.ijson_number.proofs.Common.{◌≡◌, ℕ, Bool, true, false, List, [], ◌∷◌, refl, ap, ap₂, sym, ◌∙◌, arith, ℤ, pos, nat_abs, int_lt, not}
+use Rattle.ijson_number.proofs.Common.{number_from_digits, both_ways, is_eq, pointwise, false_from_ne_true, Decides-eqb, Decimal, signed}
+use Rattle.ijson_number.proofs.Common.{digits_within, number_eq, decimal_of, IsStored, equal_same, same_equal, tests_equal}
 use Rattle.std.proofs.Math.Bool.{beq}
 use Rattle.std.proofs.Math.Dec.{eqb}
-use Rattle.std.proofs.lemmas.Bool.{false_from_ne_true}
-use Rattle.std.proofs.lemmas.Bool.Decides.{Decides-eqb}
 use Rattle.std.proofs.lemmas.Slice.Eq.{slice_eq-Decides}
-use Rattle.ijson_number.specs.Decimal.{Decimal}
 use Rattle.ijson_number.specs.declared.repr.stripped.StrippedNumber.{StrippedNumber}
-use Rattle.ijson_number.specs.private.StrippedNumber.{decimal_of}
-use Rattle.ijson_number.specs.Strips.{signed}
-use Rattle.ijson_number.specs.StrippedDigits.{digits_within}
-use Rattle.ijson_number.specs.private.StoredNumber.{IsStored}
-use Rattle.ijson_number.specs.Order.{number_eq}
-use Rattle.ijson_number.specs.laws.Ordered.{equal_same, same_equal, tests_equal}
 use Rattle.ijson_number.proofs.storing.DigitsOf.{stored_digits_are}
 use Rattle.ijson_number.proofs.parsing.Denotes.{stripped_mod}
 use Rattle.ijson_number.proofs.writing.Writing.{below_zero}
 
 -- the sign of stored parts is that of their mantissa
-pub stored_sign : (negative : Bool) (ds : List ℕ) → IsStored negative ds
-    → int_lt (signed negative (number_from_digits 10 ds)) (pos 0) ≡ negative
+pub stored_sign : (negative : Bool) (ds : List ℕ) → IsStored negative ds → int_lt (signed negative (number_from_digits 10 ds)) (pos 0) ≡ negative
 stored_sign negative [] k = rw (k.no_minus refl) refl
 stored_sign negative (d ∷ ds) k =
     let n = stripped_mod (d ∷ ds) k.stripped (omega arith) in
@@ -32,16 +19,10 @@ stored_sign negative (d ∷ ds) k =
 
 -- a test of two signs
 pub same_signs : (m n : Bool) → not (beq m n) ≡ false → m ≡ n
-same_signs true true h = refl
-same_signs true false h = absurd (cc)
-same_signs false true h = absurd (cc)
-same_signs false false h = refl
+same_signs m n h = grind arith
 
 pub other_signs : (m n : Bool) → not (beq m n) ≡ true → m ≡ n → ⊥
-other_signs true true h e = absurd (cc)
-other_signs true false h e = cc
-other_signs false true h e = cc
-other_signs false false h e = absurd (cc)
+other_signs m n h e = grind arith
 
 module _ (x y : StrippedNumber) (a b : Decimal) (view : decimal_of x ≡ a) (view' : decimal_of y ≡ b) where
   module _ (is : number_eq a b ≡ true) where

@@ -1,30 +1,20 @@
 -- Numbers by a magnitude of one word and an exponent, and their forms.
-use Rattle.std.proofs.Common.{◌≡◌, ◌≢◌, ◌⊎◌, ℕ, zero, suc, ◌+◌, ◌-◌, ◌*◌, ◌%◌, ◌^◌, ◌<◌, ◌≤◌, Bool, true, false, List, []}
-use Rattle.std.proofs.Common.{◌++◌, length, refl, ap, sym, subst, ◌∙◌, inl, inr, arith, pow-add}
-use Rattle.std.specs.Prelude.{ℤ, pos, negsuc, neg_ℤ, nat_abs, int_le, int_lt, ◌≤ℤ◌, ◌<ℤ◌, ◌+ℤ◌, ◌-ℤ◌, ◌*ℤ◌, ◌&&◌, FitsSigned, IfOk, Result}
-use mir.Syntax.{w64}
-use Rattle.std.proofs.Math.Nat.{mul-le-mul_left, mul_assoc}
-use Rattle.std.proofs.lemmas.Bool.{and_from, cases_eq}
-use Rattle.std.proofs.lemmas.Int.{ints}
-use Rattle.std.proofs.lemmas.Int.Digits.{number_digits_of}
-use Rattle.ijson_number.specs.Decimal.{Decimal}
+use Rattle.ijson_number.proofs.Common.{◌≡◌, ◌≢◌, ◌⊎◌, ℕ, zero, suc, ◌+◌, ◌-◌, ◌*◌, ◌%◌, ◌^◌, ◌<◌, ◌≤◌, Bool, true, false, List, [], ◌++◌, length}
+use Rattle.ijson_number.proofs.Common.{refl, ap, sym, subst, ◌∙◌, inl, inr, arith, pow-add, ℤ, pos, negsuc, neg_ℤ, nat_abs, int_le, ◌≤ℤ◌, ◌<ℤ◌, ◌+ℤ◌}
+use Rattle.ijson_number.proofs.Common.{◌-ℤ◌, ◌*ℤ◌, ◌&&◌, FitsSigned, IfOk, Result, w64, mul-le-mul_left, mul_assoc, and_from, cases_eq, ints}
+use Rattle.ijson_number.proofs.Common.{number_digits_of, Decimal, FormOf, digits_form, integer_form, packed, fits_packed, form_of, IsSpelled, Parts}
+use Rattle.ijson_number.proofs.Common.{Spells, value, IsNum, stored_number, stripped_number, Strips, signed, stored_form, ten_pos, abs_signed}
+use Rattle.ijson_number.proofs.Common.{signed_mul, zero_or_not, HasFewerTens, IsSmall, canonical_number, significand_number}
 use Rattle.ijson_number.specs.declared.repr.stored.Stored.{Stored}
-use Rattle.ijson_number.specs.private.Stored.{stored_form}
-use Rattle.ijson_number.specs.Form.{FormOf, digits_form, integer_form, packed, fits_packed, form_of}
-use Rattle.ijson_number.specs.Grammar.{IsSpelled, Parts, Spells, value}
-use Rattle.ijson_number.specs.Num.{IsNum}
-use Rattle.ijson_number.specs.StoredNumber.{stored_number}
-use Rattle.ijson_number.specs.Stripped.{tens_out, stripped_number}
-use Rattle.ijson_number.specs.Strips.{Strips, signed}
+use Rattle.ijson_number.specs.Stripped.{tens_out}
 use Rattle.ijson_number.specs.declared.significand.Significand.{Significand}
-use Rattle.ijson_number.specs.laws.Tens.{ten_pos, abs_signed, signed_mul, zero_or_not}
-use Rattle.ijson_number.specs.private.Significand.{HasFewerTens, IsSmall, canonical_number, significand_number}
 use Rattle.ijson_number.proofs.BooleanTests.{abs_zero, le_test, not_le}
+use Rattle.ijson_number.proofs.parsing.Denotes.{signed_nought}
 use Rattle.ijson_number.proofs.parsing.Exponents.{within_in_range}
 use Rattle.ijson_number.proofs.parsing.PartsDenote.{parts_denote}
 use Rattle.ijson_number.proofs.storing.FormCases.{left, packed_here, taken}
 use Rattle.ijson_number.proofs.storing.FormNumbers.{IsTensOut, tens_out_is, stripped_is}
-use Rattle.ijson_number.proofs.storing.IntegerWords.{below_test, some_is, zero_is}
+use Rattle.ijson_number.proofs.storing.IntegerWords.{some_is, zero_is}
 use Rattle.ijson_number.proofs.storing.WholeValues.{abs_times, tens_few}
 
 -- appending zeros does not decrease a number
@@ -77,19 +67,14 @@ fewer_tens s t word h negative point = elim (cases_eq t.magnitude 0) [
 -- a magnitude below 2 ^ 55 fits a packed word
 packed_fits : (negative : Bool) (m : ℕ) → m < 2 ^ 55 → fits_packed (signed negative m) ≡ true
 packed_fits true zero h = refl
-packed_fits true (suc m) h =
-    and_from (int_le (neg_ℤ (pos 36028797018963968)) (negsuc m)) (int_lt (negsuc m) (pos 36028797018963968))
-    (le_test (neg_ℤ (pos 36028797018963968)) (negsuc m) (omega (arith, ints)))
-    (below_test (negsuc m) (pos 36028797018963968) (omega (arith, ints)))
-packed_fits false m h = and_from (int_le (neg_ℤ (pos 36028797018963968)) (pos m)) (int_lt (pos m) (pos 36028797018963968))
-    (le_test (neg_ℤ (pos 36028797018963968)) (pos m) (omega (arith, ints)))
-    (below_test (pos m) (pos 36028797018963968) (omega (arith, ints)))
+packed_fits true (suc m) h = grind (arith, ints)
+packed_fits false m h = grind (arith, ints)
 
 -- a number with the fraction point and no fraction is packed with the exponent 0 if its magnitude fits
 whole_common : (negative : Bool) (m : ℕ) → m < 2 ^ 55
     → form_of (stripped_number (signed negative m) (pos 0) true) ≡ packed (signed negative m) (pos 0) true
 whole_common negative m small = elim (cases_eq m 0) [
-  | inl none ↦ ap form_of (zero_number negative m (pos 0) true none) ∙ rw none (nought negative)
+  | inl none ↦ ap form_of (zero_number negative m (pos 0) true none) ∙ rw (none, signed_nought negative) refl
   | inr some ↦ (
       let out : ℕ × ℕ = tens_out 20 m in
       let o : IsTensOut m out = tens_out_is 20 m some (omega arith) in
@@ -103,10 +88,6 @@ whole_common negative m small = elim (cases_eq m 0) [
       (packed_fits negative m small)
       )
 ]
-  where
-    nought : (negative : Bool) → form_of (stored_number false [] (pos 0) true) ≡ packed (signed negative 0) (pos 0) true
-    nought true = refl
-    nought false = refl
 
 -- the form of a number with a fraction
 pub fraction_form : (n : Decimal) → n.point ≡ true → n.exponent <ℤ pos 0
@@ -124,13 +105,9 @@ deep_form s small low last =
     let none : s.exponent +ℤ pos 0 ≡ s.exponent = omega (arith, ints) in
     let same : significand_number s ≡ canonical_number s = rw none at (canonical_of s.negative s.magnitude s.magnitude 0 s.exponent s.point
     (λ z. last (rw z refl)) (omega arith) (omega arith) last) in
-    ap form_of same ∙ fraction_form (canonical_number s) (pointed s.point refl) (omega (arith, ints))
+    ap form_of same ∙ fraction_form (canonical_number s) (let zero = small.integer in grind (arith, ints)) (omega (arith, ints))
     ∙ left (int_le (negsuc 6) s.exponent && fits_packed (signed s.negative s.magnitude)) _ _
     (ap (λ b. b && fits_packed (signed s.negative s.magnitude)) (not_le (negsuc 6) s.exponent low))
-  where
-    pointed : (b : Bool) → s.point ≡ b → s.point ≡ true
-    pointed true is = is
-    pointed false is = let zero = small.integer is in absurd (omega (arith, ints))
 
 -- a common number with the fraction point is packed unchanged
 common_form : (negative : Bool) (m : ℕ) (e : ℤ) → m < 2 ^ 55 → negsuc 6 ≤ℤ e → e ≤ℤ pos 0 → (e <ℤ pos 0 → m % 10 ≢ 0)
@@ -144,8 +121,7 @@ common_form negative m (negsuc k) small low high last =
     let n : Decimal = record { mantissa = signed negative m; exponent = negsuc k; point = true } in
     let same : stripped_number (signed negative m) (negsuc k) true ≡ n = rw none at (canonical_of negative m m 0 (negsuc k) true
     (omega arith) (omega arith) tens d) in
-    ap form_of same ∙ fraction_form n refl (omega (arith, ints))
-    ∙ taken (int_le (negsuc 6) (negsuc k) && fits_packed n.mantissa) _ _
+    ap form_of same ∙ fraction_form n refl (omega (arith, ints)) ∙ taken (int_le (negsuc 6) (negsuc k) && fits_packed n.mantissa) _ _
     (and_from (int_le (negsuc 6) (negsuc k)) (fits_packed n.mantissa) (le_test (negsuc 6) (negsuc k) low) (packed_fits negative m small))
 
 pub common_packed : (s : Significand) → s.point ≡ true → s.magnitude < 2 ^ 55 → negsuc 6 ≤ℤ s.exponent → s.exponent ≤ℤ pos 0
@@ -178,7 +154,7 @@ value_of n = n.mantissa *ℤ pos (10 ^ nat_abs n.exponent)
 
 integer_value : (negative : Bool) (m : ℕ) → m < 2 ^ 64 → value_of (stripped_number (signed negative m) (pos 0) false) ≡ signed negative m
 integer_value negative m word = elim (cases_eq m 0) [
-  | inl none ↦ ap value_of (zero_number negative m (pos 0) false none) ∙ nought negative ∙ ap (signed negative) (sym none)
+  | inl none ↦ ap value_of (zero_number negative m (pos 0) false none) ∙ sym (signed_nought negative) ∙ ap (signed negative) (sym none)
   | inr some ↦ (
       let out : ℕ × ℕ = tens_out 20 m in
       let o : IsTensOut m out = tens_out_is 20 m some (omega arith) in
@@ -187,10 +163,6 @@ integer_value negative m word = elim (cases_eq m 0) [
       ∙ ap (λ x. signed negative out.0 *ℤ pos (10 ^ nat_abs x)) e ∙ sym (signed_mul negative out.0 (10 ^ out.1)) ∙ ap (signed negative) (sym o.0)
       )
 ]
-  where
-    nought : (negative : Bool) → pos 0 *ℤ pos (10 ^ 0) ≡ signed negative 0
-    nought true = refl
-    nought false = refl
 
 -- and its form
 pub integer_form_is : (s : Significand) → s.magnitude < 2 ^ 64 → s.point ≡ false → s.exponent ≡ pos 0
@@ -220,17 +192,10 @@ canonical_integer_form s m point is =
     left s.point _ _ point
     ∙ ap (integer_form (canonical_number s)) (sym (ap (signed s.negative) is ∙ signed_mul s.negative s.magnitude (10 ^ nat_abs s.exponent)))
 
--- stripping zeros before the point leaves an integer unchanged
-pub stripped_integer : (s t : Significand) → IsSmall s → HasFewerTens s t → (t.exponent ≤ℤ pos 0) ⊎ (t.exponent ≡ s.exponent)
-    → t.point ≡ s.point → t.point ≡ false → t.exponent ≡ pos 0
-stripped_integer s t small h most point none =
-    let e : s.exponent ≡ pos 0 = small.integer (sym point ∙ none) in
-    elim most [ inl less ↦ omega (arith, ints, h.exponent) | inr same ↦ same ∙ e ]
-
--- and a small number small
+-- stripping zeros before the point leaves a small number small
 pub small_less : (s t : Significand) → IsSmall s → HasFewerTens s t → (t.exponent ≤ℤ pos 0) ⊎ (t.exponent ≡ s.exponent)
-    → t.negative ≡ s.negative → t.point ≡ s.point → IsSmall t
-small_less s t small h most negative point =
+    → t.negative ≡ s.negative → t.point ≡ s.point → t.point ≡ true → IsSmall t
+small_less s t small h most negative point pointed =
     let less : t.magnitude ≤ t.magnitude * 10 ^ h.count = no_more t.magnitude h.count in
     let m = small.magnitude in
     let low = small.low in
@@ -240,14 +205,13 @@ small_less s t small h most negative point =
       magnitude = omega (arith, less, h.magnitude);
       low = omega (arith, ints);
       high = elim most [ inl few ↦ omega (arith, ints) | inr same ↦ omega (arith, ints) ];
-      integer = stripped_integer s t small h most point;
+      integer = λ none. absurd (let e : true ≡ false = sym pointed ∙ none in cc);
       num = subst IsNum (sym (fewer_tens s t (omega (arith, m)) h negative point)) small.num;
     }
 
 -- a magnitude of 63 bits fits a signed word with its sign
 pub signed_word : (negative : Bool) (m : ℕ) → m < 2 ^ 63 → FitsSigned w64 (signed negative m)
-signed_word true m h = omega (arith, ints)
-signed_word false m h = omega (arith, ints)
+signed_word negative m h = grind (arith, ints)
 
 -- a representation of one form is one of any equal form
 pub encoded : {E : Type 0} (r : Result Stored E) (f g : FormOf) → g ≡ f → IfOk r (λ s. stored_form s ≡ f) → IfOk r (λ s. stored_form s ≡ g)

@@ -1,9 +1,6 @@
 -- Small exponents, and the bits of a word that store them.
-use Rattle.std.proofs.Common.{◌≡◌, ℕ, arith}
+use Rattle.ijson_number.proofs.Common.{◌≡◌, ℕ, arith, pos, neg_ℤ, ◌-ℤ◌, FitsSigned, ints, to_z-of_z, to_z, of_z}
 use Rattle.std.specs.Int.{Width}
-use Rattle.std.specs.Prelude.{pos, neg_ℤ, ◌-ℤ◌, FitsSigned}
-use Rattle.std.proofs.lemmas.Int.{ints, to_z-of_z}
-use mir.Val.{to_z, of_z}
 
 -- a number that fits a width, negated in it
 pub negated : (w : Width) (n : ℕ) → to_z w n ≡ pos n → FitsSigned w (pos 0 -ℤ pos n) → to_z w (of_z w (pos 0 -ℤ to_z w n)) ≡ neg_ℤ (pos n)

@@ -1,38 +1,19 @@
 -- Numbers that are whole, and their digits.
-use Rattle.std.proofs.Common.{◌≡◌, ◌≢◌, ◌⊎◌, ℕ, zero, suc, ◌+◌, ◌-◌, ◌*◌, ◌/◌, ◌%◌, ◌^◌, ◌<◌, ◌≤◌, Bool, false, List, [], ◌∷◌, ◌++◌}
-use Rattle.std.proofs.Common.{length, get_or, take, Option, Some, None, refl, ap, sym, ◌∙◌, inl, inr, arith, pow-add}
-use Rattle.std.specs.Prelude.{ℤ, pos, negsuc, neg_ℤ, nat_abs, IfNone, ◌-ℤ◌, ◌*ℤ◌, ◌≤ℤ◌, ◌<ℤ◌}
-use Rattle.std.specs.Int.Digits.{digits_of, number_from_digits}
-use Rattle.std.specs.Ordering.{int_cmp, is_eq}
-use Rattle.std.specs.declared.cmp.Ordering.{Ordering}
-use Rattle.std.specs.declared.cmp.Ordering.TheVariants.{Equal}
-use Rattle.std.proofs.Math.Nat.{pow-succ', mul-mod_left, mul-le-mul_right}
-use Rattle.std.proofs.lemmas.Int.{ints}
-use Rattle.std.proofs.lemmas.Int.Digits.{digits_of_step, all_below_base_digits_of, first_digits_of, number_digits_of, number_lt}
-use Rattle.std.specs.List.{All}
-use Rattle.std.proofs.lemmas.Bool.{cases_lt}
-use Rattle.std.proofs.lemmas.List.{length-take}
-use Rattle.std.proofs.lemmas.List.Elements.{All-from_recursion, recursion_from_All}
-use Rattle.ijson_number.specs.Decimal.{Decimal, IsPlain}
-use Rattle.ijson_number.specs.Integers.{integer, HasValue}
-use Rattle.ijson_number.specs.Order.{number_cmp}
-use Rattle.ijson_number.specs.laws.Ordered.{rescale, tests_equal, cmp_equal, nonneg}
-use Rattle.ijson_number.specs.private.Stripped.{IsStripped}
+use Rattle.ijson_number.proofs.Common.{◌≡◌, ◌≢◌, ◌⊎◌, ℕ, suc, ◌+◌, ◌-◌, ◌*◌, ◌/◌, ◌%◌, ◌^◌, ◌<◌, ◌≤◌, Bool, false, List, [], ◌∷◌, ◌++◌, length}
+use Rattle.ijson_number.proofs.Common.{get_or, take, Option, Some, None, refl, ap, sym, ◌∙◌, inl, inr, arith, pow-add, ℤ, pos, negsuc, nat_abs}
+use Rattle.ijson_number.proofs.Common.{IfNone, ◌-ℤ◌, ◌*ℤ◌, ◌≤ℤ◌, ◌<ℤ◌, digits_of, number_from_digits, alike_right, int_cmp, is_eq, Ordering, Equal}
+use Rattle.ijson_number.proofs.Common.{pow-succ', mul-mod_left, mul-le-mul_right, ints, digits_of_step, all_below_base_digits_of, first_digits_of}
+use Rattle.ijson_number.proofs.Common.{number_digits_of, number_lt, All, cases_lt, length-take, All-from_recursion, recursion_from_All, Decimal}
+use Rattle.ijson_number.proofs.Common.{IsPlain, integer, HasValue, IsInteger, number_cmp, IsNum, stored_number, signed, length-append}
+use Rattle.ijson_number.proofs.Common.{get_or-append_seam, number_cmp_total, rescale, tests_equal, cmp_equal, nonneg, IsStripped, power_le}
+use Rattle.ijson_number.proofs.Common.{signed_mul, abs_signed}
 use Rattle.ijson_number.proofs.writing.DigitTexts.{below_take}
 use Rattle.ijson_number.proofs.comparing.MagnitudeOrder.{same_int_cmp, scaled_below, above_none, number_least}
-use Rattle.ijson_number.specs.laws.Tens.{power_le, signed_mul, abs_signed}
-use Rattle.ijson_number.specs.Num.{IsNum}
-use Rattle.ijson_number.specs.StoredNumber.{stored_number}
-use Rattle.ijson_number.specs.Strips.{signed}
 use Rattle.ijson_number.proofs.parsing.Exponents.{within_in_range}
 use Rattle.ijson_number.proofs.parsing.Denotes.{stripped_plain}
 
 last_pushed : (ds : List ℕ) (d : ℕ) → get_or (ds ++ d ∷ []) (length (ds ++ d ∷ []) - 1) 0 ≡ d
-last_pushed [] d = refl
-last_pushed (c ∷ []) d = refl
-last_pushed (c ∷ b ∷ ds) d =
-    let e : length (c ∷ b ∷ ds ++ d ∷ []) - 1 ≡ suc (length (b ∷ ds ++ d ∷ []) - 1) = omega arith in
-    rw e (last_pushed (b ∷ ds) d)
+last_pushed ds d = let at : length (ds ++ d ∷ []) - 1 ≡ length ds = simp length-append (omega arith) in rw at (get_or-append_seam ds d [] 0)
 
 -- the digits of a number that ten does not divide are canonical
 pub whole_stripped : (n : ℕ) → n % 10 ≢ 0 → IsStripped (digits_of 10 n)
@@ -46,19 +27,12 @@ whole_stripped n h =
     }
 
 pub times_one : (m : ℤ) → m *ℤ pos 1 ≡ m
-times_one (pos m) = let e : m * 1 ≡ m = omega arith in rw e refl
-times_one (negsuc m) = let e : suc m * 1 ≡ suc m = omega arith in rw e refl
+times_one m = grind (arith, ints)
 
 pub abs_times : (m : ℤ) (k : ℕ) → nat_abs (m *ℤ pos k) ≡ nat_abs m * k
-abs_times (pos m) k = refl
-abs_times (negsuc m) k = abs_neg (suc m * k)
-  where
-    abs_neg : (v : ℕ) → nat_abs (neg_ℤ (pos v)) ≡ v
-    abs_neg zero = refl
-    abs_neg (suc v) = refl
+abs_times m k = grind (arith, ints)
 
-above_cmp_is : (n : Decimal) (z : ℤ) → pos 0 ≤ℤ n.exponent
-    → number_cmp n (integer z) ≡ int_cmp (n.mantissa *ℤ pos (10 ^ nat_abs n.exponent)) z
+above_cmp_is : (n : Decimal) (z : ℤ) → pos 0 ≤ℤ n.exponent → number_cmp n (integer z) ≡ int_cmp (n.mantissa *ℤ pos (10 ^ nat_abs n.exponent)) z
 above_cmp_is n z h =
     let e : n.exponent -ℤ pos 0 ≡ n.exponent = omega (arith, ints) in
     rescale n (integer z) (pos 0) h (omega (arith, ints)) ∙ rw (e, times_one z) refl
@@ -77,9 +51,7 @@ below_cmp_is n z h =
 
 -- a multiple of a positive power of ten ends in zero
 pub ends_in_zero : (n k : ℕ) → n * 10 ^ suc k % 10 ≡ 0
-ends_in_zero n k =
-    let e : n * (10 * 10 ^ k) ≡ n * 10 ^ k * 10 = omega arith in
-    rw (pow-succ' 10 k, e) (mul-mod_left (n * 10 ^ k) 10)
+ends_in_zero n k = let e : n * (10 * 10 ^ k) ≡ n * 10 ^ k * 10 = omega arith in rw (pow-succ' 10 k, e) (mul-mod_left (n * 10 ^ k) 10)
 
 ten_divides : (m z : ℤ) (k : ℕ) → m ≡ z *ℤ pos (10 ^ suc k) → nat_abs m % 10 ≡ 0
 ten_divides m z k e = rw (ap nat_abs e ∙ abs_times z (10 ^ suc k)) (ends_in_zero (nat_abs z) k)
@@ -110,9 +82,12 @@ value_is n z p v =
 pub value_one : (n : Decimal) (y z : ℤ) → IsPlain n → HasValue n y → HasValue n z → y ≡ z
 value_one n y z p v w = (value_is n y p v).1 ∙ sym (value_is n z p w).1
 
+-- a number is compared with an integer as with any number of its value
+pub integer_cmp : (a n : Decimal) (z : ℤ) → IsInteger n z → number_cmp a n ≡ number_cmp a (integer z)
+integer_cmp a n z is = alike_right number_cmp_total n (integer z) a (tests_equal _ is.value)
+
 -- the value of at most twenty digits, without the last of them
-pub number_so_far : (ds : List ℕ) (i : ℕ) → All (λ d. d < 10) ds → i < length ds → length ds ≤ 20
-    → number_from_digits 10 (take i ds) < 10 ^ 19
+pub number_so_far : (ds : List ℕ) (i : ℕ) → All (λ d. d < 10) ds → i < length ds → length ds ≤ 20 → number_from_digits 10 (take i ds) < 10 ^ 19
 number_so_far ds i h m l =
     let b = number_lt 10 (take i ds) (below_take i ds (recursion_from_All (λ d. d < 10) ds h)) in
     let t : length (take i ds) ≤ 19 = rw (length-take i ds) (omega arith) in
@@ -120,8 +95,7 @@ number_so_far ds i h m l =
     omega arith
 
 -- and with its zeros
-pub scaled_small : (ds : List ℕ) (zeros : ℕ) → All (λ d. d < 10) ds → length ds + zeros ≤ 20
-    → number_from_digits 10 ds * 10 ^ zeros < 10 ^ 20
+pub scaled_small : (ds : List ℕ) (zeros : ℕ) → All (λ d. d < 10) ds → length ds + zeros ≤ 20 → number_from_digits 10 ds * 10 ^ zeros < 10 ^ 20
 scaled_small ds zeros h l =
     let b = scaled_below ds zeros (recursion_from_All (λ d. d < 10) ds h) in
     let p = power_le (length ds + zeros) 20 l in
@@ -150,16 +124,13 @@ digits_some (d ∷ ds) v h m = omega arith
 
 module _ (negative : Bool) (magnitude s t : ℕ) (ds : List ℕ) (e : ℤ) (is : ds ≡ digits_of 10 s) (exact : e ≡ pos t)
     (tens : magnitude ≡ s * 10 ^ t) (few : t < 20) (n : s % 10 ≢ 0) where
-  stripped_ds : IsStripped ds
-  stripped_ds = rw is (whole_stripped s n)
-
   number_is : number_from_digits 10 ds ≡ s
   number_is = rw is (number_digits_of 10 s (omega arith))
 
   -- the digits of an integer and its zeros are a Num
   pub whole_num : IsNum (stored_number negative ds e false)
   whole_num = record {
-    plain = stripped_plain negative false ds e stripped_ds (digits_some ds s number_is n) (λ _. omega (arith, ints));
+    plain = stripped_plain negative false ds e (rw is (whole_stripped s n)) (digits_some ds s number_is n) (λ _. omega (arith, ints));
     in_range = within_in_range (stored_number negative ds e false) (omega (arith, ints), omega (arith, ints));
   }
 

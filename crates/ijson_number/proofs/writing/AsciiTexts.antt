@@ -1,10 +1,6 @@
 -- The texts of numbers are ASCII.
-use Rattle.std.proofs.Common.{ℕ, zero, suc, ◌+◌, ◌/◌, ◌%◌, ◌<◌, Bool, true, false, List, [], ◌∷◌, arith}
-use Rattle.std.proofs.lemmas.List.Elements.{recursion_from_All}
-use Rattle.std.proofs.lemmas.Str.Ascii.{IsAscii-nil, IsAscii-cons, IsAscii-push}
-use Rattle.std.specs.List.{All, AllByRecursion}
-use Rattle.std.specs.Str.{IsAscii}
-use Rattle.ijson_number.specs.Text.{digits_text, minus_text}
+use Rattle.ijson_number.proofs.Common.{ℕ, zero, suc, ◌+◌, ◌/◌, ◌%◌, ◌<◌, Bool, true, false, List, [], ◌∷◌, arith, recursion_from_All, IsAscii-nil}
+use Rattle.ijson_number.proofs.Common.{IsAscii-cons, IsAscii-push, All, AllByRecursion, IsAscii, digits_text, minus_text}
 use Rattle.ijson_number.specs.private.WordText.{last_digits}
 
 pub sign_ascii : (negative : Bool) → IsAscii (minus_text negative)

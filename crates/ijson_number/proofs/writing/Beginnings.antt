@@ -1,28 +1,17 @@
 -- The results of several appends.
-use Rattle.std.proofs.Common.{◌≡◌, ℕ, Result, Ok, Err, OnErr, List, [], ◌++◌, refl, sym, ap, ◌∙◌, append_assoc}
-use Rattle.std.specs.Prelude.{IsErr, OnOk, if◌then◌else◌, is_ok}
-use Rattle.std.proofs.lemmas.List.{append-nil}
+use Rattle.ijson_number.proofs.Common.{◌≡◌, ℕ, Result, Ok, Err, OnErr, List, [], ◌++◌, refl, sym, ap, ◌∙◌, append_assoc, IsErr, OnOk, if◌then◌else◌}
+use Rattle.ijson_number.proofs.Common.{is_ok, append-nil}
 use Rattle.std.proofs.lemmas.Result.{MatchResult-from_err}
 use Rattle.ijson_number.specs.AppendsBeginning.{AppendsBeginning}
 use Rattle.ijson_number.specs.private.Pushed.{Appends}
 
 -- nothing was appended
 pub none_begun : (old new text : List ℕ) → new ≡ old → AppendsBeginning old new text
-none_begun old new text e = record {
-  front = [];
-  rest = text;
-  is = refl;
-  taken = e ∙ sym (append-nil old);
-}
+none_begun old new text e = record { front = []; rest = text; is = refl; taken = e ∙ sym (append-nil old) }
 
 -- a part of the text was appended, and no more
 pub some_begun : (old new done rest text : List ℕ) → new ≡ old ++ done → done ++ rest ≡ text → AppendsBeginning old new text
-some_begun old new done rest text e f = record {
-  front = done;
-  rest = rest;
-  is = sym f;
-  taken = e;
-}
+some_begun old new done rest text e f = record { front = done; rest = rest; is = sym f; taken = e }
 
 -- a beginning of its first part was appended
 pub front_begun : (old new piece rest text : List ℕ) → AppendsBeginning old new piece → piece ++ rest ≡ text → AppendsBeginning old new text
@@ -45,12 +34,7 @@ last_begun old out new done piece text e w f = record {
 
 -- a beginning of an equal text was appended
 pub begun_as : (old new piece text : List ℕ) → AppendsBeginning old new piece → piece ≡ text → AppendsBeginning old new text
-begun_as old new piece text w f = record {
-  front = w.front;
-  rest = w.rest;
-  is = sym f ∙ w.is;
-  taken = w.taken;
-}
+begun_as old new piece text w f = record { front = w.front; rest = w.rest; is = sym f ∙ w.is; taken = w.taken }
 
 -- an append that failed
 pub failed : {T E : Type 0} (r : Result T E) (old new text : List ℕ) → IsErr r → AppendsBeginning old new text → Appends r old new text
@@ -63,8 +47,7 @@ all_or_none (Ok _) old new text all none = all
 all_or_none (Err _) old new text all none = none_begun old new text none
 
 -- an append by `push_str`
-pub by_push_str : {T E : Type 0} (r : Result T E) (old new text : List ℕ) → new ≡ (if is_ok r then old ++ text else old)
-    → Appends r old new text
+pub by_push_str : {T E : Type 0} (r : Result T E) (old new text : List ℕ) → new ≡ (if is_ok r then old ++ text else old) → Appends r old new text
 by_push_str (Ok _) old new text is = is
 by_push_str (Err _) old new text is = none_begun old new text is
 

@@ -1,12 +1,7 @@
 -- Digits in a buffer, and the text of 16 of them.
-use Rattle.std.proofs.Common.{◌≡◌, ℕ, ◌+◌, ◌-◌, ◌%◌, ◌^◌, ◌<◌, ◌≤◌, replicate, take, drop, List, []}
-use Rattle.std.proofs.Common.{◌∷◌, map, length, length-drop, refl, ap, ◌∙◌, arith}
-use Rattle.std.specs.List.{All, AllByRecursion}
-use Rattle.std.proofs.lemmas.List.{drop-drop, drop-map, length-take-le, take_all}
-use Rattle.std.proofs.lemmas.List.Elements.{recursion_from_All}
-use Rattle.std.proofs.lemmas.Simd.{length-zip2, zip2_splat}
-use lib.Lanes.{zip2}
-use Rattle.ijson_number.specs.Text.{digits_text}
+use Rattle.ijson_number.proofs.Common.{◌≡◌, ℕ, ◌+◌, ◌-◌, ◌%◌, ◌^◌, ◌<◌, ◌≤◌, replicate, take, drop, List, [], ◌∷◌, map, length, length-drop, refl, ap}
+use Rattle.ijson_number.proofs.Common.{◌∙◌, arith, All, AllByRecursion, drop-drop, drop-map, length-take-le, take_all, recursion_from_All}
+use Rattle.ijson_number.proofs.Common.{length-zip2, zip2_splat, zip2, digits_text}
 use Rattle.ijson_number.proofs.writing.WrittenLanes.{digit}
 
 abbrev pub with_zero : List ℕ → List ℕ
@@ -35,8 +30,7 @@ module _ (buffer : List ℕ) (long : length buffer ≡ 19) where
       → drop (16 - count) (with_zero last) ≡ digits_text (drop (19 - count) buffer)
   room_text count few below =
       let at : 3 + (16 - count) ≡ 19 - count = omega arith in
-      ap (drop (16 - count)) (zip2_splat (λ a b. (a + b) % 2 ^ 8) last 16 48 last_count)
-      ∙ drop-map {X = ℕ} {Y = ℕ} digit (16 - count) last
+      ap (drop (16 - count)) (zip2_splat (λ a b. (a + b) % 2 ^ 8) last 16 48 last_count) ∙ drop-map {X = ℕ} {Y = ℕ} digit (16 - count) last
       ∙ ap (map digit) (ap (drop (16 - count)) last_is ∙ drop-drop (16 - count) 3 buffer ∙ ap (λ n. drop n buffer) at)
       ∙ text_from (drop (19 - count) buffer) (recursion_from_All (λ d. d < 10) (drop (19 - count) buffer) below)
 

@@ -1,15 +1,9 @@
 -- Digits that are written are read unchanged.
-use Rattle.std.proofs.Common.{◌≡◌, ℕ, zero, suc, ◌+◌, ◌-◌, ◌<◌, List, [], ◌∷◌, ◌++◌, length}
-use Rattle.std.proofs.Common.{get_or, take, drop, refl, ap, sym, ◌∙◌, inl, inr, arith}
-use Rattle.std.specs.Prelude.{ℤ, pos, negsuc, neg_ℤ}
-use Rattle.std.specs.List.{AllByRecursion}
-use Rattle.std.proofs.lemmas.List.{map-append, take-append-drop, length-map}
-use Rattle.std.proofs.lemmas.Int.Digits.{number_digits_of, all_below_base_digits_of, first_digits_of}
-use Rattle.std.specs.Int.Digits.{number_from_digits}
-use Rattle.ijson_number.specs.StrippedDigits.{digits_within}
-use Rattle.ijson_number.specs.Grammar.{AllDigits, IsDigits, IsWhole, IsSigned, value}
-use Rattle.ijson_number.specs.private.Stripped.{digits_from_text}
-use Rattle.ijson_number.specs.Text.{digits_text, zeros_text, whole_text}
+use Rattle.ijson_number.proofs.Common.{◌≡◌, ℕ, zero, suc, ◌+◌, ◌-◌, ◌<◌, List, [], ◌∷◌, ◌++◌, length, get_or, take, drop, refl, ap, sym, ◌∙◌, inl}
+use Rattle.ijson_number.proofs.Common.{inr, arith, ℤ, pos, negsuc, neg_ℤ, AllByRecursion, map-append, take-append-drop, length-map, number_digits_of}
+use Rattle.ijson_number.proofs.Common.{all_below_base_digits_of, first_digits_of, number_from_digits, digits_within, AllDigits, IsDigits, IsWhole}
+use Rattle.ijson_number.proofs.Common.{IsSigned, value, digits_text, zeros_text, whole_text, recursion_from_All, All-take, All-drop}
+use Rattle.ijson_number.proofs.Common.{All-from_recursion, digits_from_text}
 use Rattle.ijson_number.proofs.parsing.DigitRuns.{AllDigits-append, IsDigits_from}
 use Rattle.ijson_number.proofs.storing.DigitsOf.{digits_are}
 
@@ -38,14 +32,10 @@ whole_from [] xs h f x = absurd (omega arith)
 whole_from (d ∷ ds) xs h f x = inr (omega arith, omega arith, AllDigits-append (digits_text ds) xs (text_digits ds h.1) x)
 
 pub below_take : (k : ℕ) (ds : List ℕ) → Below ds → Below (take k ds)
-below_take zero ds h = tt
-below_take (suc k) [] h = tt
-below_take (suc k) (d ∷ ds) h = (h.0, below_take k ds h.1)
+below_take k ds h = recursion_from_All (λ d. d < 10) (take k ds) (All-take (λ d. d < 10) k ds (All-from_recursion (λ d. d < 10) ds h))
 
 pub below_drop : (k : ℕ) (ds : List ℕ) → Below ds → Below (drop k ds)
-below_drop zero ds h = h
-below_drop (suc k) [] h = tt
-below_drop (suc k) (d ∷ ds) h = below_drop k ds h.1
+below_drop k ds h = recursion_from_All (λ d. d < 10) (drop k ds) (All-drop (λ d. d < 10) k ds (All-from_recursion (λ d. d < 10) ds h))
 
 pub within_below : (n : ℕ) → Below (digits_within n n)
 within_below n = rw (digits_are n n) (all_below_base_digits_of 10 n (omega arith))

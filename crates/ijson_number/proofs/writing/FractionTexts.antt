@@ -1,20 +1,10 @@
 -- The text of a number with a fraction that is stored in one word.
-use Rattle.std.proofs.Common.{◌≡◌, ◌≢◌, ℕ, zero, suc, ◌+◌, ◌*◌, ◌/◌, ◌%◌, ◌^◌, ◌<◌, ◌≤◌, ◌⊎◌, Bool, true}
-use Rattle.std.proofs.Common.{false, List, ◌++◌, length, refl, ap, sym, ◌∙◌, arith, inl, inr}
-use Rattle.std.specs.Prelude.{ℤ, pos, negsuc, neg_ℤ, nat_abs, int_le, int_lt, ◌≤ℤ◌, ◌<ℤ◌, ◌+ℤ◌, ◌-ℤ◌, ◌*ℤ◌, ◌||◌, ◌&&◌}
-use Rattle.std.proofs.lemmas.Bool.{and_parts, cases_lt, or_from}
-use Rattle.std.proofs.lemmas.Fmt.{decimal_step_wide, decimal_nonempty}
-use Rattle.std.proofs.lemmas.Int.{ints}
-use Rattle.std.proofs.lemmas.List.{length_push}
-use Rattle.std.specs.Fmt.{decimal}
-use Rattle.std.specs.Int.Digits.{digits_of}
-use Rattle.ijson_number.specs.Decimal.{Decimal}
-use Rattle.ijson_number.specs.Form.{FormOf, packed, digits_form, fits_packed, smallest_packed, form_of}
-use Rattle.ijson_number.specs.Text.{float_text, minus_text, num_text}
-use Rattle.ijson_number.specs.Stripped.{tens_out, stripped_number}
-use Rattle.ijson_number.specs.StoredNumber.{stored_number}
-use Rattle.ijson_number.specs.private.WordText.{pointed_text}
-use Rattle.ijson_number.specs.laws.Tens.{ten_pos}
+use Rattle.ijson_number.proofs.Common.{◌≡◌, ◌≢◌, ℕ, zero, suc, ◌+◌, ◌*◌, ◌/◌, ◌%◌, ◌^◌, ◌<◌, ◌≤◌, ◌⊎◌, Bool, true, false, List, ◌++◌, length, refl}
+use Rattle.ijson_number.proofs.Common.{ap, sym, ◌∙◌, arith, inl, inr, ℤ, pos, negsuc, neg_ℤ, nat_abs, int_le, int_lt, ◌≤ℤ◌, ◌<ℤ◌, ◌+ℤ◌, ◌-ℤ◌, ◌*ℤ◌}
+use Rattle.ijson_number.proofs.Common.{◌||◌, ◌&&◌, and_parts, cases_lt, or_from, decimal_step_wide, decimal_nonempty, ints, length_push, decimal}
+use Rattle.ijson_number.proofs.Common.{digits_of, Decimal, FormOf, packed, digits_form, fits_packed, smallest_packed, form_of, float_text, minus_text}
+use Rattle.ijson_number.proofs.Common.{num_text, stripped_number, stored_number, pointed_text, ten_pos}
+use Rattle.ijson_number.specs.Stripped.{tens_out}
 use Rattle.ijson_number.proofs.storing.Significands.{fraction_form}
 use Rattle.ijson_number.proofs.storing.WholeValues.{sign_cases}
 use Rattle.ijson_number.proofs.storing.IntegerWords.{zero_is, some_stored, tens_are, without_tens}
@@ -38,8 +28,7 @@ not_smallest (suc tries) k n m e h is =
     ]
 
 -- a number that is packed with a negative exponent has that exponent
-kept_exponent : (n : Decimal) (m e : ℤ) → n.point ≡ true → e <ℤ pos 0 → form_of n ≡ packed m e true
-    → (n.exponent ≡ e) × (negsuc 6 ≤ℤ n.exponent)
+kept_exponent : (n : Decimal) (m e : ℤ) → n.point ≡ true → e <ℤ pos 0 → form_of n ≡ packed m e true → (n.exponent ≡ e) × (negsuc 6 ≤ℤ n.exponent)
 kept_exponent n m e h l is = elim (sign_cases n.exponent) [
   | inl above ↦ absurd (not_smallest 8 0 n m e l (rw (h, le_test (pos 0) n.exponent above, form_of) at is))
   | inr below ↦ elim (either_form (int_le (negsuc 6) n.exponent && fits_packed n.mantissa) (packed n.mantissa n.exponent true)
@@ -56,9 +45,6 @@ module _ (m e : ℤ) (k : ℕ) (word : nat_abs m < 2 ^ 64) (scale : 0 < k) (belo
   exponent_is : ((stripped_number m e true).exponent ≡ e) × (negsuc 6 ≤ℤ (stripped_number m e true).exponent)
   exponent_is = kept_exponent (stripped_number m e true) m e refl (omega (arith, ints)) form
 
-  few_places : k ≤ 7
-  few_places = let x = exponent_is in let f : negsuc 6 ≤ℤ e = rw x.0 at x.1 in omega (arith, ints)
-
   module _ where
     abbrev abs : ℕ
     abs = nat_abs m
@@ -68,15 +54,13 @@ module _ (m e : ℤ) (k : ℕ) (word : nat_abs m < 2 ^ 64) (scale : 0 < k) (belo
 
     above : abs ≢ 0
     above z =
-        let none : (stripped_number m e true).exponent ≡ pos 0 =
-        rw (abs_zero m z) (ap (λ (n : Decimal). n.exponent) (zero_is false e true)) in
+        let none : (stripped_number m e true).exponent ≡ pos 0 = rw (abs_zero m z) (ap (λ (n : Decimal). n.exponent) (zero_is false e true)) in
         let x : pos 0 ≡ e = sym none ∙ exponent_is.0 in
         omega (arith, ints)
 
     no_tens : (tens_out 20 abs).1 ≡ 0
     no_tens =
-        let x : e +ℤ pos (tens_out 20 abs).1 ≡ e =
-        sym (ap (λ (n : Decimal). n.exponent) (without_tens m word above e true)) ∙ exponent_is.0 in
+        let x : e +ℤ pos (tens_out 20 abs).1 ≡ e = sym (ap (λ (n : Decimal). n.exponent) (without_tens m word above e true)) ∙ exponent_is.0 in
         omega (arith, ints)
 
     same : (tens_out 20 abs).0 ≡ abs
@@ -84,25 +68,14 @@ module _ (m e : ℤ) (k : ℕ) (word : nat_abs m < 2 ^ 64) (scale : 0 < k) (belo
         let is : abs ≡ (tens_out 20 abs).0 * 10 ^ 0 = (tens_are m word above).0 ∙ ap (λ t. (tens_out 20 abs).0 * 10 ^ t) no_tens in
         omega (arith, is)
 
-    last : abs % 10 ≢ 0
-    last = rw same at (tens_are m word above).1
-
-    positive : 0 < abs
-    positive = omega (arith, above)
-
     stored_at : stripped_number m e true ≡ stored_number sign (digits_of 10 abs) e true
-    stored_at =
-        let none : e +ℤ pos 0 ≡ e = omega (arith, ints) in
-        without_tens m word above e true ∙ rw (same, no_tens, none) refl
+    stored_at = let none : e +ℤ pos 0 ≡ e = omega (arith, ints) in without_tens m word above e true ∙ rw (same, no_tens, none) refl
 
     abbrev shown_digits : List ℕ
     shown_digits = digits_of 10 abs
 
-    count : length shown_digits ≡ length (decimal abs)
-    count = count_is abs positive word
-
     one_digit : 0 < length shown_digits
-    one_digit = let d = decimal_nonempty abs word in let c = count in omega arith
+    one_digit = let d = decimal_nonempty abs word in let c = count_is abs (omega (arith, above)) word in omega arith
 
     two_digits : 6 < k → 1 < length shown_digits
     two_digits h =
@@ -110,7 +83,7 @@ module _ (m e : ℤ) (k : ℕ) (word : nat_abs m < 2 ^ 64) (scale : 0 < k) (belo
         let d : length (decimal abs) ≡ length (decimal (abs / 10)) + 1 =
         ap (λ (x : List ℕ). length x) (decimal_step_wide abs more (omega arith)) ∙ length_push (decimal (abs / 10)) (48 + abs % 10) in
         let n = decimal_nonempty (abs / 10) (omega arith) in
-        let c = count in
+        let c = count_is abs (omega (arith, above)) word in
         omega arith
 
     abbrev point_place : ℤ
@@ -118,12 +91,9 @@ module _ (m e : ℤ) (k : ℕ) (word : nat_abs m < 2 ^ 64) (scale : 0 < k) (belo
 
     not_far : negsuc 5 <ℤ point_place
     not_far =
-        let few = few_places in
+        let few : k ≤ 7 = (let x = exponent_is in let f : negsuc 6 ≤ℤ e = rw x.0 at x.1 in omega (arith, ints)) in
         let one = one_digit in
-        elim (cases_lt 6 k) [
-          | inl h ↦ (let two = two_digits h in omega (arith, ints))
-          | inr h ↦ omega (arith, ints)
-        ]
+        elim (cases_lt 6 k) [ inl h ↦ (let two = two_digits h in omega (arith, ints)) | inr h ↦ omega (arith, ints) ]
 
     plain : int_le point_place (negsuc 5) || int_lt (pos 20) e ≡ false
     plain = or_from (int_le point_place (negsuc 5)) (int_lt (pos 20) e) (not_le point_place (negsuc 5) not_far)
@@ -133,9 +103,9 @@ module _ (m e : ℤ) (k : ℕ) (word : nat_abs m < 2 ^ 64) (scale : 0 < k) (belo
         (nat_abs m % 10 ^ k)
     fraction_num_text =
         ap num_text stored_at
-        ∙ sym (stored_text sign shown_digits e true (some_stored abs last sign).stripped one_digit)
+        ∙ sym (stored_text sign shown_digits e true (some_stored abs (rw same at (tens_are m word above).1) sign).stripped one_digit)
         ∙ ap (λ x. minus_text sign ++ x)
-        (rw (plain, float_text) (fraction_is abs positive word k (abs / 10 ^ k) (abs % 10 ^ k) scale (omega (arith, ten_pos k)) (omega (arith, ten_pos k)) point_place
+        (rw (plain, float_text) (fraction_is abs (omega (arith, above)) word k (abs / 10 ^ k) (abs % 10 ^ k) scale (omega (arith, ten_pos k)) (omega (arith, ten_pos k)) point_place
         (omega (arith, ints))))
 
 pub exponent_small : (m e : ℤ) → e <ℤ pos 0 → form_of (stripped_number m e true) ≡ packed m e true → nat_abs e < 8
@@ -156,5 +126,4 @@ below_point e x s n t = grind (arith, ints)
 
 pub many_places : (e x : ℤ) (k n : ℕ) → x ≡ e → k ≡ nat_abs e → ((int_lt x (negsuc 5) ≡ true) × (10 ≤ n)) ⊎ (int_lt x (negsuc 5) ≡ false)
     → e <ℤ pos 0 → 6 < k → 10 ≤ n
-many_places e x k n s p (inl t) l h = t.1
-many_places e x k n s p (inr t) l h = absurd (grind (arith, ints))
+many_places e x k n s p t l h = grind (arith, ints)

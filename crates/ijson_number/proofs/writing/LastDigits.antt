@@ -1,18 +1,11 @@
 -- The last digits of a number, and the digits before them.
-use Rattle.std.proofs.Common.{◌≡◌, ℕ, zero, suc, ◌+◌, ◌-◌, ◌*◌, ◌/◌, ◌%◌, ◌^◌, ◌<◌, ◌≤◌, min, get_or, replicate, take, drop, List}
-use Rattle.std.proofs.Common.{[], ◌∷◌, ◌++◌, length, refl, sym, ap, ◌∙◌, inl, inr, arith, append_assoc, pow-add}
-use Rattle.std.proofs.lemmas.Bool.{cases_lt}
-use Rattle.std.proofs.lemmas.Fmt.{decimal_digit, decimal_nonempty, first_decimal, length-decimal-le}
-use Rattle.std.proofs.lemmas.List.{append-nil, get_or_append_left, get_or-replicate, get_or-take, length-drop}
-use Rattle.std.proofs.lemmas.List.{length-replicate, take_all, take_at, drop_at}
-use Rattle.std.proofs.Math.Nat.{pow-succ'}
-use Rattle.std.specs.Fmt.{decimal}
+use Rattle.ijson_number.proofs.Common.{◌≡◌, ℕ, zero, suc, ◌+◌, ◌-◌, ◌*◌, ◌/◌, ◌%◌, ◌^◌, ◌<◌, ◌≤◌, min, get_or, replicate, take, drop, List, [], ◌∷◌}
+use Rattle.ijson_number.proofs.Common.{◌++◌, length, refl, sym, ap, ◌∙◌, inl, inr, arith, append_assoc, pow-add, cases_lt, decimal_digit}
+use Rattle.ijson_number.proofs.Common.{decimal_nonempty, first_decimal, length-decimal-le, append-nil, get_or_append_left, get_or-replicate}
+use Rattle.ijson_number.proofs.Common.{get_or-take, length-drop, length-replicate, take_all, take_at, drop_at, pow-succ', decimal, get_or-append-add}
+use Rattle.ijson_number.proofs.Common.{zeros_text, IsZerosInFront, ten_pos, power_le}
 use native.Mathlib.Nat.{add-mul-div_left, div-div-eq-div-mul, div-le_self, div-lt_iff_lt-mul}
-use lib.Seq.{get_or-append-add}
-use Rattle.ijson_number.specs.Text.{zeros_text}
 use Rattle.ijson_number.specs.private.WordText.{last_digits}
-use Rattle.ijson_number.specs.private.ZerosInFront.{IsZerosInFront}
-use Rattle.ijson_number.specs.laws.Tens.{ten_pos, power_le}
 use Rattle.ijson_number.proofs.writing.PaddedDigits.{joined, last_count, last_zeros, padded}
 
 -- leading digits do not change the last ones
@@ -46,8 +39,7 @@ last_split count (suc p) n =
 
 -- the powers of ten of both parts of a list of digits
 row_powers : (row scale : ℕ) → scale ≤ row → 10 ^ (row - scale) * 10 ^ scale ≡ 10 ^ row
-row_powers row scale few =
-    let both : row - scale + scale ≡ row = omega arith in rw both at (sym (pow-add 10 (row - scale) scale))
+row_powers row scale few = let both : row - scale + scale ≡ row = omega arith in rw both at (sym (pow-add 10 (row - scale) scale))
 
 -- a list of digits consists of those before the last `scale`, and these
 row_split : (row scale n : ℕ) → scale ≤ row → last_digits row n ≡ last_digits (row - scale) (n / 10 ^ scale) ++ last_digits scale n
@@ -128,15 +120,10 @@ module _ (n scale : ℕ) (small : n < 10 ^ 16) (few : scale < 16) (lanes : List 
 module _ (n : ℕ) (small : n < 10 ^ 15) (lanes : List ℕ) (is : lanes ≡ last_digits 16 n) (zeros : ℕ)
     (counted : IsZerosInFront lanes zeros) where
   zero_first : get_or lanes 0 0 ≡ 48
-  zero_first =
-      let none : n / 10 ^ 15 ≡ 0 = omega arith in
-      rw (is, row_split 16 15 n (omega arith), none, last_zeros 1) refl
+  zero_first = let none : n / 10 ^ 15 ≡ 0 = omega arith in rw (is, row_split 16 15 n (omega arith), none, last_zeros 1) refl
 
   pub some_zeros : 0 < zeros
-  some_zeros = elim (cases_lt 0 zeros) [
-    | inl some ↦ some
-    | inr none ↦ (let at : zeros ≡ 0 = omega arith in absurd (counted.stops (omega arith) (rw at zero_first)))
-  ]
+  some_zeros = let first = zero_first in let stops = counted.stops in grind arith
 
   pub zero_before : get_or lanes (zeros - 1) 0 ≡ 48
   zero_before = let some = some_zeros in
@@ -169,9 +156,6 @@ module _ (magnitude scale : ℕ) (few : scale < 16) (word : magnitude < 2 ^ 64) 
   abbrev last : ℕ
   last = magnitude % 10 ^ 15
 
-  last_below : last / 10 ^ scale < 10 ^ before
-  last_below = (div-lt_iff_lt-mul (ten_pos scale)).1 (rw (row_powers 15 scale (omega arith)) (omega arith))
-
   over : magnitude / 10 ^ scale ≡ magnitude / 10 ^ 15 * 10 ^ before + last / 10 ^ scale
   over =
       let first : ℕ = magnitude / 10 ^ 15 in
@@ -187,7 +171,7 @@ module _ (magnitude scale : ℕ) (few : scale < 16) (word : magnitude < 2 ^ 64) 
       ∙ take_at (last_digits before (last / 10 ^ scale)) (last_digits scale last) before (last_count before (last / 10 ^ scale)) in
       let small : magnitude / 10 ^ 15 * 10 ^ before + last / 10 ^ scale < 10 ^ 64 =
       rw (← over) (let le = div-le_self magnitude (10 ^ scale) in omega arith) in
-      rw lanes (sym (ap decimal over ∙ joined before (magnitude / 10 ^ 15) (last / 10 ^ scale) (omega arith) last_below small))
+      rw lanes (sym (ap decimal over ∙ joined before (magnitude / 10 ^ 15) (last / 10 ^ scale) (omega arith) ((div-lt_iff_lt-mul (ten_pos scale)).1 (rw (row_powers 15 scale (omega arith)) (omega arith))) small))
 
   pub wide_rest : last_digits scale (last % 10 ^ scale) ≡ last_digits scale (magnitude % 10 ^ scale)
   wide_rest =

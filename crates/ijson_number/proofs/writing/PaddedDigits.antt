@@ -1,14 +1,8 @@
 -- The last digits of a number, with leading zeros, and a whole part before them.
-use Rattle.std.proofs.Common.{◌≡◌, ℕ, zero, suc, ◌+◌, ◌-◌, ◌*◌, ◌/◌, ◌%◌, ◌^◌, ◌<◌, ◌≤◌, List, [], ◌∷◌}
-use Rattle.std.proofs.Common.{◌++◌, length, refl, ap, sym, ◌∙◌, arith, append_assoc, inl, inr}
-use Rattle.std.proofs.Math.Nat.{pow-succ', mul-le-mul_right, mul_comm}
-use Rattle.std.proofs.lemmas.Bool.{cases_lt}
-use Rattle.std.proofs.lemmas.Fmt.{decimal_digit, decimal_step_wide}
-use Rattle.std.proofs.lemmas.List.{append-nil, length_push, replicate_more}
-use Rattle.std.specs.Fmt.{decimal}
-use Rattle.ijson_number.specs.Text.{zeros_text}
+use Rattle.ijson_number.proofs.Common.{◌≡◌, ℕ, zero, suc, ◌+◌, ◌-◌, ◌*◌, ◌/◌, ◌%◌, ◌^◌, ◌<◌, ◌≤◌, List, [], ◌∷◌, ◌++◌, length, refl, ap, sym, ◌∙◌}
+use Rattle.ijson_number.proofs.Common.{arith, append_assoc, inl, inr, pow-succ', mul-le-mul_right, mul_comm, cases_lt, decimal_digit}
+use Rattle.ijson_number.proofs.Common.{decimal_step_wide, append-nil, length_push, replicate_more, decimal, zeros_text, ten_pos}
 use Rattle.ijson_number.specs.private.WordText.{last_digits}
-use Rattle.ijson_number.specs.laws.Tens.{ten_pos}
 
 pub some_places : (whole k : ℕ) → 0 < whole → 0 < whole * 10 ^ k
 some_places zero k h = absurd (omega arith)
@@ -18,9 +12,7 @@ some_places (suc w) k h = let t = ten_pos k in grind (arith, t)
 pub joined : (scale whole fraction : ℕ) → 0 < whole → fraction < 10 ^ scale → whole * 10 ^ scale + fraction < 10 ^ 64
     → decimal (whole * 10 ^ scale + fraction) ≡ decimal whole ++ last_digits scale fraction
 unfolding last_digits
-joined zero w f h l s =
-    let e : w * 10 ^ 0 + f ≡ w = omega arith in
-    rw e (sym (append-nil (decimal w)))
+joined zero w f h l s = let e : w * 10 ^ 0 + f ≡ w = omega arith in rw e (sym (append-nil (decimal w)))
 joined (suc k) w f h l s =
     let p : 10 ^ suc k ≡ 10 * 10 ^ k = pow-succ' 10 k in
     let some = some_places w k h in
@@ -38,9 +30,7 @@ last_count (suc k) n = length_push (last_digits k (n / 10)) (48 + n % 10) ∙ (l
 pub last_zeros : (scale : ℕ) → last_digits scale 0 ≡ zeros_text scale
 unfolding last_digits
 last_zeros zero = refl
-last_zeros (suc k) =
-    let next : k + 1 ≡ suc k = omega arith in
-    rw (last_zeros k, replicate_more {X = ℕ} k 48, next) refl
+last_zeros (suc k) = let next : k + 1 ≡ suc k = omega arith in rw (last_zeros k, replicate_more {X = ℕ} k 48, next) refl
 
 -- digits after the point, with leading zeros
 pub padded : (scale n : ℕ) → 0 < scale + n → n < 10 ^ scale → n < 10 ^ 64
@@ -67,7 +57,4 @@ padded (suc k) n h l s =
     ]
 
 pub whole_small : (whole scale fraction : ℕ) → 0 < scale → whole * scale + fraction < 2 ^ 64 → whole < 2 ^ 64
-whole_small w p f h l =
-    let m : 1 * w ≤ p * w = mul-le-mul_right w h in
-    let e : p * w ≡ w * p = mul_comm p w in
-    omega arith
+whole_small w p f h l = let m : 1 * w ≤ p * w = mul-le-mul_right w h in let e : p * w ≡ w * p = mul_comm p w in omega arith

@@ -1,13 +1,8 @@
 -- A text that is assembled in a buffer: the minus, digits, the point, and digits after it.
-use Rattle.std.proofs.Common.{◌≡◌, ℕ, ◌+◌, ◌-◌, ◌≤◌, Bool, true, false, List, [], ◌∷◌, ◌++◌, length, length-append}
-use Rattle.std.proofs.Common.{length-drop, take, drop, set, replicate, refl, sym, ap, ◌∙◌, append_assoc, arith}
-use Rattle.std.proofs.lemmas.List.{length-set, length-take-le, take-append-le, take_more_set}
-use Rattle.std.proofs.lemmas.Str.{IsAscii-append, IsAscii-drop, IsAscii-take}
-use Rattle.std.proofs.lemmas.Str.Ascii.{IsAscii-set}
-use Rattle.std.specs.Str.{IsAscii}
-use lib.Seq.{take-append-add}
-use mir.Val.{bool_byte}
-use Rattle.ijson_number.specs.Text.{minus_text}
+use Rattle.ijson_number.proofs.Common.{◌≡◌, ℕ, ◌+◌, ◌-◌, ◌≤◌, Bool, true, false, List, [], ◌∷◌, ◌++◌, length, length-append, length-drop, take, drop}
+use Rattle.ijson_number.proofs.Common.{set, replicate, refl, sym, ap, ◌∙◌, append_assoc, arith, length-set, length-take-le, take-append-le}
+use Rattle.ijson_number.proofs.Common.{take_more_set, IsAscii-append, IsAscii-drop, IsAscii-take, IsAscii-set, IsAscii, take-append-add, bool_byte}
+use Rattle.ijson_number.proofs.Common.{minus_text}
 use Rattle.ijson_number.proofs.writing.WrittenLanes.{IsFront, zeros_ascii}
 
 -- a piece that replaces `many` bytes of a buffer
@@ -28,15 +23,7 @@ piece_ascii room piece at many r p =
 
 piece_length : (room piece : List ℕ) (at many : ℕ) → at ≤ length room
     → length (with_piece room piece at many) ≡ at + (length piece + (length room - at - many))
-piece_length room piece at many inside =
-    omega (
-      arith,
-      length-append (take at room) (piece ++ drop many (drop at room)),
-      length-append piece (drop many (drop at room)),
-      length-take-le at room inside,
-      length-drop many (drop at room),
-      length-drop at room,
-    )
+piece_length room piece at many inside = simp (length-append, length-drop) (omega (arith, length-take-le at room inside))
 
 abbrev pub empty : List ℕ
 empty = set (replicate 34 0) 0 45
@@ -45,13 +32,8 @@ minus_put : (negative : Bool) (start : ℕ) → start ≡ length (minus_text neg
 minus_put true start is = rw is refl
 minus_put false start is = rw is refl
 
-minus_short : (negative : Bool) → length (minus_text negative) ≤ 1
-minus_short true = omega arith
-minus_short false = omega arith
-
 pub minus_length : (negative : Bool) → bool_byte negative ≡ length (minus_text negative)
-minus_length true = refl
-minus_length false = refl
+minus_length negative = grind arith
 
 -- the buffer with both pieces and the point in it
 abbrev pub filled : (start count many more : ℕ) (whole fraction : List ℕ) → List ℕ
@@ -63,7 +45,7 @@ pub filled_is : (negative : Bool) (start count scale many more : ℕ) (whole fra
     → IsFront (filled start count many more whole fraction) (start + count + 1 + scale)
     (minus_text negative ++ (take count whole ++ 46 ∷ take scale fraction))
 filled_is negative start count scale many more whole fraction is w f few row =
-    let short = minus_short negative in
+    let short : length (minus_text negative) ≤ 1 = grind arith in
     let with_whole : List ℕ = with_piece empty whole start many in
     let with_point : List ℕ = set with_whole (start + count) 46 in
     let at : start ≤ 34 = omega arith in

@@ -1,29 +1,19 @@
 -- The text of a number spells that number.
-use Rattle.std.proofs.Common.{◌≡◌, ◌⊎◌, ℕ, suc, ◌+◌, ◌-◌, ◌*◌, ◌^◌, ◌<◌, Bool, true, false, List, [], ◌∷◌, ◌++◌, length}
-use Rattle.std.proofs.Common.{get_or, take, drop, refl, ap, sym, ◌∙◌, inl, inr, arith, append_assoc, length-append}
-use Rattle.std.specs.Prelude.{ℤ, pos, negsuc, neg_ℤ, nat_abs, nat_eq, int_lt, int_le, ◌+ℤ◌, ◌-ℤ◌, ◌≤ℤ◌, ◌<ℤ◌, ◌||◌}
-use Rattle.std.proofs.lemmas.Int.{ints}
-use Rattle.std.proofs.Math.Nat.{pow-succ'}
-use Rattle.std.proofs.lemmas.List.{append-nil, length-drop, length-replicate}
-use Rattle.std.specs.Int.Digits.{number_from_digits}
-use Rattle.ijson_number.specs.Decimal.{Decimal, IsPlain}
-use Rattle.ijson_number.specs.Num.{IsNum}
-use Rattle.ijson_number.specs.Strips.{Strips, signed}
-use Rattle.ijson_number.specs.StrippedDigits.{digits_within}
-use Rattle.ijson_number.specs.Grammar.{IsDigits, IsWhole, IsFraction, IsExponent, Spells, value}
-use Rattle.ijson_number.specs.Text.{digits_text, zeros_text, whole_text, scientific_text, point_text}
-use Rattle.ijson_number.specs.Text.{float_text, shape_text, minus_text, zero_text, num_text}
+use Rattle.ijson_number.proofs.Common.{◌≡◌, ℕ, suc, ◌+◌, ◌-◌, ◌*◌, ◌^◌, ◌<◌, Bool, true, false, List, [], ◌∷◌, ◌++◌, length, get_or, take, drop, refl}
+use Rattle.ijson_number.proofs.Common.{ap, sym, ◌∙◌, inl, inr, arith, append_assoc, length-append, ℤ, pos, negsuc, neg_ℤ, nat_abs, nat_eq, int_lt}
+use Rattle.ijson_number.proofs.Common.{int_le, ◌+ℤ◌, ◌-ℤ◌, ◌≤ℤ◌, ◌<ℤ◌, ◌||◌, ints, pow-succ', append-nil, length-drop, length-replicate}
+use Rattle.ijson_number.proofs.Common.{number_from_digits, Decimal, IsPlain, IsNum, Strips, signed, digits_within, IsDigits, IsWhole, IsFraction}
+use Rattle.ijson_number.proofs.Common.{IsExponent, Spells, value, digits_text, zeros_text, whole_text, scientific_text, point_text, float_text}
+use Rattle.ijson_number.proofs.Common.{shape_text, minus_text, zero_text, num_text, IsMinus, signed_mul, nonneg}
 use Rattle.ijson_number.proofs.BooleanTests.{test_le, test_not_le, test_zero, test_not_zero, abs_zero}
 use Rattle.ijson_number.proofs.parsing.DigitRuns.{AllDigits-append, IsDigits_from}
 use Rattle.ijson_number.proofs.parsing.DigitValues.{value_zeros_back, value_zeros_front}
 use Rattle.ijson_number.proofs.storing.FormNumbers.{sign_and_magnitude}
-use Rattle.ijson_number.specs.laws.Tens.{signed_mul}
-use Rattle.ijson_number.specs.laws.Ordered.{nonneg}
 use Rattle.ijson_number.proofs.writing.DigitTexts.{Below, below_drop, below_take, first_some, length_text, signed_text, take_first}
 use Rattle.ijson_number.proofs.writing.DigitTexts.{text_digits, text_halves, value_text, whole_from, within_below, within_first}
 use Rattle.ijson_number.proofs.writing.DigitTexts.{within_value, zeros_digits}
 
-minus_is : (negative : Bool) → ((minus_text negative ≡ []) × (negative ≡ false)) ⊎ ((minus_text negative ≡ 45 ∷ []) × (negative ≡ true))
+minus_is : (negative : Bool) → IsMinus (minus_text negative) negative
 minus_is true = inr (refl, refl)
 minus_is false = inl (refl, refl)
 
@@ -127,13 +117,9 @@ scientific_case n plain (d ∷ c ∷ ds) negative below first mantissa_is t p pe
     (refl, text_digits (c ∷ ds) below.1, refl, refl) (inl refl, signed_text (p -ℤ pos 1), refl) t
     (value_text (d ∷ c ∷ ds) ∙ omega arith) (omega (arith, ints)))
 
-pub choose : (P : List ℕ → Type 0) (b : Bool) (xs ys : List ℕ) → (b ≡ true → P xs) → (b ≡ false → P ys)
-    → P (elim b [ true ↦ xs | false ↦ ys ])
+pub choose : (P : List ℕ → Type 0) (b : Bool) (xs ys : List ℕ) → (b ≡ true → P xs) → (b ≡ false → P ys) → P (elim b [ true ↦ xs | false ↦ ys ])
 choose P true xs ys f g = f refl
 choose P false xs ys f g = g refl
-
-pub sign_of : (m : ℤ) → 0 < nat_abs m → m ≡ signed (int_lt m (pos 0)) (nat_abs m)
-sign_of m h = sym (sign_and_magnitude m)
 
 module _ (n : Decimal) (plain : IsPlain n) where
   pub zero_parts : (b : Bool) → n.point ≡ b → n.mantissa ≡ pos 0 → Spells (zero_text b) n
@@ -171,4 +157,4 @@ num_text_spells n h =
     (λ z. zero_parts n h.plain n.point refl (abs_zero n.mantissa (test_zero v z)))
     (λ z. let some = test_not_zero v z in
     shape_parts n h.plain (digits_within v v) (int_lt n.mantissa (pos 0)) (within_below v) (within_first v some)
-    (sign_of n.mantissa some ∙ ap (signed (int_lt n.mantissa (pos 0))) (sym (within_value v))))
+    (sym (sign_and_magnitude n.mantissa) ∙ ap (signed (int_lt n.mantissa (pos 0))) (sym (within_value v))))

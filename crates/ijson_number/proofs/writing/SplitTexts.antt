@@ -1,14 +1,9 @@
 -- The text of digits with the point between them.
-use Rattle.std.proofs.Common.{◌≡◌, ℕ, ◌-◌, ◌<◌, true, false, ◌∷◌, ◌++◌, length, take, drop, ap, refl, ◌∙◌, append_assoc, arith}
-use Rattle.std.specs.Prelude.{ℤ, pos, negsuc, neg_ℤ, nat_abs, int_le, int_lt, ◌<ℤ◌, ◌≤ℤ◌, ◌+ℤ◌, ◌-ℤ◌, ◌||◌, ◌^◌}
-use Rattle.std.specs.Fmt.{signed_decimal}
-use Rattle.std.proofs.lemmas.Int.{ints}
-use Rattle.std.proofs.lemmas.List.{length-drop}
-use Rattle.ijson_number.specs.Text.{digits_text, minus_text, num_text, point_text, shape_text, zeros_text}
+use Rattle.ijson_number.proofs.Common.{◌≡◌, ℕ, ◌-◌, ◌<◌, true, false, ◌∷◌, ◌++◌, length, take, drop, ap, refl, ◌∙◌, append_assoc, arith, ℤ, pos}
+use Rattle.ijson_number.proofs.Common.{negsuc, neg_ℤ, nat_abs, int_le, int_lt, ◌<ℤ◌, ◌≤ℤ◌, ◌+ℤ◌, ◌-ℤ◌, ◌||◌, ◌^◌, signed_decimal, ints, length-drop}
+use Rattle.ijson_number.proofs.Common.{digits_text, minus_text, num_text, point_text, shape_text, zeros_text, decimal_of, integer_text}
 use Rattle.ijson_number.specs.private.SplitText.{split_text}
 use Rattle.ijson_number.specs.declared.repr.stripped.StrippedNumber.{StrippedNumber}
-use Rattle.ijson_number.specs.private.StrippedNumber.{decimal_of}
-use Rattle.ijson_number.specs.private.WordText.{integer_text}
 use Rattle.ijson_number.proofs.writing.Writing.{float_shape_is, more_digits, stored_text}
 use Rattle.ijson_number.proofs.BooleanTests.{le_test, not_le, not_lt}
 
@@ -22,8 +17,7 @@ row_shown n k p below is inside =
     let place : pos (length ds - k) ≡ pos (length ds) +ℤ n.exponent = omega (arith, ints) in
     let written : int_lt (pos 20) n.exponent ≡ false = not_lt (pos 20) n.exponent (omega (arith, ints)) in
     let front : int_le (pos (length ds - k)) (pos 0) ≡ false = not_le (pos (length ds - k)) (pos 0) (omega (arith, ints)) in
-    let behind : int_le (pos (length ds)) (pos (length ds - k)) ≡ false =
-    not_le (pos (length ds)) (pos (length ds - k)) (omega (arith, ints)) in
+    let behind : int_le (pos (length ds)) (pos (length ds - k)) ≡ false = not_le (pos (length ds)) (pos (length ds - k)) (omega (arith, ints)) in
     ap (λ x. minus_text n.negative ++ x)
     (rw (front, behind, point_text) at (float_shape_is false n.point ds n.exponent (pos (length ds - k)) p place written))
     ∙ stored_text n.negative ds n.exponent n.point n.stripped.stripped (omega arith)

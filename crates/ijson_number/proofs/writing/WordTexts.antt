@@ -1,21 +1,12 @@
 -- The text of a whole number that is stored in one word.
-use Rattle.std.proofs.Common.{◌≡◌, ◌≢◌, ℕ, ◌+◌, ◌-◌, ◌*◌, ◌/◌, ◌%◌, ◌^◌, ◌<◌, ◌≤◌, Bool, true, false, List, []}
-use Rattle.std.proofs.Common.{◌∷◌, ◌++◌, length, refl, ap, sym, ◌∙◌, arith, inl, inr}
-use Rattle.std.specs.Prelude.{ℤ, pos, negsuc, nat_abs, int_le, int_lt, ◌+ℤ◌, ◌-ℤ◌, nat_eq, not}
-use Rattle.std.proofs.lemmas.Bool.{cases_lt, or_from}
-use Rattle.std.proofs.lemmas.Fmt.{decimal_digit, decimal_nonempty}
-use Rattle.std.proofs.lemmas.Int.{ints}
-use Rattle.std.proofs.lemmas.Int.Digits.{length-digits_of-le}
-use Rattle.std.proofs.lemmas.List.{length-append, length-map, take_at, drop_at, take-map, drop-map}
-use Rattle.std.specs.Fmt.{decimal}
-use Rattle.std.specs.Int.Digits.{digits_of}
-use Rattle.ijson_number.specs.Decimal.{Decimal}
-use Rattle.ijson_number.specs.Text.{digits_text, zeros_text, point_text, float_text, shape_text, minus_text, num_text}
-use Rattle.ijson_number.specs.Stripped.{tens_out, stripped_number}
-use Rattle.ijson_number.specs.StoredNumber.{stored_number}
-use Rattle.ijson_number.specs.private.Word.{word_code, word_exponent, word_mantissa, word_point}
-use Rattle.ijson_number.specs.private.WordText.{last_digits, integer_text, pointed_text}
-use Rattle.ijson_number.specs.laws.Tens.{ten_pos, zero_or_not}
+use Rattle.ijson_number.proofs.Common.{◌≡◌, ◌≢◌, ℕ, ◌+◌, ◌-◌, ◌*◌, ◌/◌, ◌%◌, ◌^◌, ◌<◌, ◌≤◌, Bool, true, false, List, [], ◌∷◌, ◌++◌, length, refl, ap}
+use Rattle.ijson_number.proofs.Common.{sym, ◌∙◌, arith, inl, inr, ℤ, pos, negsuc, nat_abs, int_le, int_lt, ◌+ℤ◌, ◌-ℤ◌, nat_eq, not, cases_lt, or_from}
+use Rattle.ijson_number.proofs.Common.{decimal_digit, decimal_nonempty, ints, length-digits_of-le, length-append, length-map, take_at, drop_at}
+use Rattle.ijson_number.proofs.Common.{take-map, drop-map, decimal, digits_of, Decimal, digits_text, zeros_text, point_text, float_text, shape_text}
+use Rattle.ijson_number.proofs.Common.{minus_text, num_text, stripped_number, stored_number, word_code, word_exponent, word_mantissa, word_point}
+use Rattle.ijson_number.proofs.Common.{integer_text, pointed_text, ten_pos, zero_or_not}
+use Rattle.ijson_number.specs.Stripped.{tens_out}
+use Rattle.ijson_number.specs.private.WordText.{last_digits}
 use Rattle.ijson_number.proofs.storing.FormNumbers.{IsTensOut}
 use Rattle.ijson_number.proofs.storing.IntegerWords.{few_tens, zero_is, some_stored, tens_are, without_tens}
 use Rattle.ijson_number.proofs.BooleanTests.{abs_zero, le_test, not_le, not_lt}
@@ -91,9 +82,6 @@ module _ (z : ℤ) (word : nat_abs z < 2 ^ 64) where
     tens : IsTensOut magnitude out
     tens = tens_are z word above
 
-    few : out.1 < 20
-    few = few_tens z word above
-
     front : 0 < out.0
     front = let n = tens.1 in omega (arith, n)
 
@@ -124,7 +112,7 @@ module _ (z : ℤ) (word : nat_abs z < 2 ^ 64) where
     some_float : float_text kept (pos out.1) ≡ decimal magnitude ++ 46 ∷ last_digits 1 0
     some_float =
         let long = some_kept in
-        let low = few in
+        let low = few_tens z word above in
         let plain = or_from (int_le place (negsuc 5)) (int_lt (pos 20) (pos out.1)) (not_le place (negsuc 5) (omega (arith, ints)))
         (not_lt (pos 20) (pos out.1) (omega (arith, ints))) in
         let first : int_le place (pos 0) ≡ false = not_le place (pos 0) (omega (arith, ints)) in

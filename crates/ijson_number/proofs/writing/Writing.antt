@@ -1,24 +1,12 @@
 -- The text of whole numbers, as std writes it.
-use Rattle.std.proofs.Common.{◌≡◌, ℕ, zero, suc, ◌+◌, ◌/◌, ◌%◌, ◌^◌, ◌<◌, List, [], ◌∷◌, ◌++◌}
-use Rattle.std.proofs.Common.{length, take, drop, refl, ap, sym, ◌∙◌, arith}
-use Rattle.std.specs.Prelude.{ℤ, pos, negsuc, neg_ℤ, nat_abs, Bool, true, false, ◌||◌, int_le, int_lt, ◌<ℤ◌, ◌+ℤ◌, ◌-ℤ◌, nat_eq}
-use Rattle.std.proofs.lemmas.Int.{ints}
-use Rattle.std.proofs.lemmas.Bool.Decides.{nat_tests}
-use Rattle.std.proofs.lemmas.Fmt.{decimal_by_steps_wide, decimal_digit}
-use Rattle.std.proofs.lemmas.List.{map-append}
-use Rattle.std.proofs.lemmas.Int.Digits.{digits_of_step}
-use Rattle.std.specs.Fmt.{decimal, signed_decimal}
-use Rattle.std.specs.Int.Digits.{digits_of, number_from_digits}
-use Rattle.ijson_number.specs.Text.{whole_text, digits_text, scientific_text, point_text, shape_text, minus_text, num_text}
+use Rattle.ijson_number.proofs.Common.{◌≡◌, ℕ, zero, suc, ◌+◌, ◌/◌, ◌%◌, ◌^◌, ◌<◌, List, [], ◌∷◌, ◌++◌, length, take, drop, refl, ap, sym, ◌∙◌, arith}
+use Rattle.ijson_number.proofs.Common.{ℤ, pos, negsuc, neg_ℤ, nat_abs, Bool, true, false, ◌||◌, int_le, int_lt, ◌<ℤ◌, ◌+ℤ◌, ◌-ℤ◌, nat_eq, ints}
+use Rattle.ijson_number.proofs.Common.{nat_tests, decimal_by_steps_wide, decimal_digit, map-append, digits_of_step, decimal, signed_decimal}
+use Rattle.ijson_number.proofs.Common.{digits_of, number_from_digits, whole_text, digits_text, scientific_text, point_text, shape_text, minus_text}
+use Rattle.ijson_number.proofs.Common.{num_text, Decimal, signed, stored_number, decimal_of, IsStripped, abs_signed}
 use Rattle.ijson_number.proofs.storing.DigitsOf.{digits_are, stored_digits_are}
-use Rattle.ijson_number.specs.Decimal.{Decimal}
-use Rattle.ijson_number.specs.Strips.{signed}
-use Rattle.ijson_number.specs.StoredNumber.{stored_number}
 use Rattle.ijson_number.specs.declared.repr.stripped.StrippedNumber.{StrippedNumber}
-use Rattle.ijson_number.specs.private.StrippedNumber.{decimal_of}
-use Rattle.ijson_number.specs.private.Stripped.{IsStripped}
 use Rattle.ijson_number.proofs.parsing.Denotes.{stripped_mod}
-use Rattle.ijson_number.specs.laws.Tens.{abs_signed}
 
 pub decimal_is : (n : ℕ) → n < 10 ^ 64 → 0 < n → decimal n ≡ digits_text (digits_of 10 n)
 decimal_is n h p =
@@ -36,12 +24,8 @@ whole_text_is (pos (suc n)) h = ap digits_text (digits_are (suc n) (suc n)) ∙ 
 whole_text_is (negsuc n) h = ap (λ x. 45 ∷ digits_text x) (digits_are (suc n) (suc n))
     ∙ ap (λ x. 45 ∷ x) (sym (decimal_is (suc n) h (omega arith)))
 
-abs_small : (z : ℤ) → neg_ℤ (pos (2 ^ 71)) <ℤ z → z <ℤ pos (2 ^ 71) → nat_abs z < 10 ^ 64
-abs_small (pos n) l h = omega (arith, ints)
-abs_small (negsuc n) l h = omega (arith, ints)
-
 power_text : (p z : ℤ) → neg_ℤ (pos (2 ^ 70)) <ℤ p → p <ℤ pos (2 ^ 70) → z ≡ p -ℤ pos 1 → signed_decimal z ≡ whole_text (p -ℤ pos 1)
-power_text p z l h e = rw e (sym (whole_text_is (p -ℤ pos 1) (abs_small (p -ℤ pos 1) (omega (arith, ints)) (omega (arith, ints)))))
+power_text p z l h e = rw e (sym (whole_text_is (p -ℤ pos 1) (omega (arith, ints))))
 
 pub one_digit : (ds f r : List ℕ) (p z : ℤ) → f ≡ take 1 ds → r ≡ drop 1 ds → length r ≡ 0 → 0 < length ds → neg_ℤ (pos (2 ^ 70)) <ℤ p
     → p <ℤ pos (2 ^ 70) → z ≡ p -ℤ pos 1 → digits_text f ++ 101 ∷ signed_decimal z ≡ scientific_text ds p
@@ -64,9 +48,7 @@ pub float_shape_is : (scientific point : Bool) (ds : List ℕ) (e p : ℤ) → p
 float_shape_is scientific point ds e p a b t = rw (a, b, ← rw b at t) refl
 
 pub below_zero : (negative : Bool) (v : ℕ) → 0 < v → int_lt (signed negative v) (pos 0) ≡ negative
-below_zero true zero h = absurd (omega arith)
-below_zero true (suc v) h = refl
-below_zero false v h = grind (arith, nat_tests)
+below_zero negative v h = grind (arith, ints, nat_tests)
 
 pub not_zero : (v : ℕ) → 0 < v → nat_eq v 0 ≡ false
 not_zero v h = grind arith

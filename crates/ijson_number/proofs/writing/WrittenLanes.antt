@@ -1,27 +1,14 @@
 -- Sixteen digits that are written by one vector: computed in lanes, moved to the start, and without leading zeros.
-use Rattle.std.proofs.Common.{◌≡◌, ℕ, zero, suc, ◌+◌, ◌-◌, ◌*◌, ◌/◌, ◌%◌, ◌^◌, ◌<◌, ◌≤◌, Bool, true, false, not}
-use Rattle.std.proofs.Common.{cond, eqb, min, get_or, replicate, take, drop, List, [], ◌∷◌, ◌++◌, map, length}
-use Rattle.std.proofs.Common.{length-append, length-drop, refl, sym, ap, ◌∙◌, inl, inr, arith, append_assoc}
-use Rattle.std.specs.Int.Digits.{AllBelowBase}
-use Rattle.std.specs.List.{AllByRecursion, prefix_len}
-use Rattle.std.proofs.lemmas.Bool.{cases_eq}
-use Rattle.std.proofs.lemmas.Bool.Decides.{nat_tests}
-use Rattle.std.proofs.lemmas.List.{drop_more, length-replicate, take_at, take-append-le}
-use Rattle.std.proofs.lemmas.List.Elements.{recursion_from_All}
+use Rattle.ijson_number.proofs.Common.{◌≡◌, ℕ, zero, suc, ◌+◌, ◌-◌, ◌*◌, ◌/◌, ◌%◌, ◌^◌, ◌<◌, ◌≤◌, Bool, true, false, not, cond, eqb, min, get_or}
+use Rattle.ijson_number.proofs.Common.{replicate, take, drop, List, [], ◌∷◌, ◌++◌, map, length, length-append, length-drop, refl, sym, ap, ◌∙◌, inl}
+use Rattle.ijson_number.proofs.Common.{inr, arith, append_assoc, AllBelowBase, AllByRecursion, prefix_len, cases_eq, nat_tests, drop_more}
+use Rattle.ijson_number.proofs.Common.{length-replicate, take_at, take-append-le, recursion_from_All, bitmask_splat, leading_from_mask_l}
+use Rattle.ijson_number.proofs.Common.{trailing_mask_l, number_l, digits_l, mask_l, top, zip2, get_or-append-add, take-append-add, w8, bool_byte}
+use Rattle.ijson_number.proofs.Common.{IsAscii-append, IsAscii-drop, All-from_ascii, IsAscii-nil, IsAscii-cons, IsAscii, minus_text, IsZerosInFront}
 use Rattle.std.proofs.lemmas.List.Sums.{prefix_len-le-length, prefix_len_passes, prefix_len_stops}
-use Rattle.std.proofs.lemmas.Simd.{bitmask_splat, leading_from_mask_l, trailing_mask_l}
 use lib.Count.{count_trailing_zeros}
-use lib.Lanes.{number_l, digits_l, mask_l, top, zip2}
-use lib.Seq.{get_or-append-add, take-append-add}
-use mir.Syntax.{w8}
-use mir.Val.{bool_byte}
-use Rattle.std.proofs.lemmas.Str.{IsAscii-append, IsAscii-drop}
-use Rattle.std.proofs.lemmas.Str.Ascii.{All-from_ascii, IsAscii-nil, IsAscii-cons}
-use Rattle.std.specs.Str.{IsAscii}
 use Rattle.std.specs.String.Boundary.{IsSplitPoint}
-use Rattle.ijson_number.specs.Text.{minus_text}
 use Rattle.ijson_number.specs.private.WordText.{last_digits}
-use Rattle.ijson_number.specs.private.ZerosInFront.{IsZerosInFront}
 
 -- ---- the digits of pairs
 -- the ones of two digits in the upper byte of 16 bits, and their tens in the lower one
@@ -76,20 +63,10 @@ pub row_text_is : (n : ℕ) → n < 10 ^ 16 → pairs_text (pairs n) ≡ last_di
 row_text_is n h =
     let top : n / 10 ^ 14 % 100 ≡ n / 10 ^ 14 = omega arith in
     sym (last_pair 14 n (n / 10 ^ 2) (omega arith)
-    ∙ rw (
-      last_pair 12 (n / 10 ^ 2) (n / 10 ^ 4) (omega arith),
-      last_pair 10 (n / 10 ^ 4) (n / 10 ^ 6) (omega arith),
-      last_pair 8
-          (n / 10 ^ 6) (n / 10 ^ 8) (omega arith),
-      last_pair 6 (n / 10 ^ 8) (n / 10 ^ 10) (omega arith),
-      last_pair 4 (n / 10 ^ 10)
-          (n / 10 ^ 12) (omega arith),
-      last_pair 2 (n / 10 ^ 12) (n / 10 ^ 14) (omega arith),
-      last_pair 0 (n / 10 ^ 14)
-          (n / 10 ^ 16) (omega arith),
-      none (n / 10 ^ 16),
-      top,
-    ) refl)
+    ∙ rw (last_pair 12 (n / 10 ^ 2) (n / 10 ^ 4) (omega arith), last_pair 10 (n / 10 ^ 4) (n / 10 ^ 6) (omega arith))
+    (rw (last_pair 8 (n / 10 ^ 6) (n / 10 ^ 8) (omega arith), last_pair 6 (n / 10 ^ 8) (n / 10 ^ 10) (omega arith))
+    (rw (last_pair 4 (n / 10 ^ 10) (n / 10 ^ 12) (omega arith), last_pair 2 (n / 10 ^ 12) (n / 10 ^ 14) (omega arith))
+    (rw (last_pair 0 (n / 10 ^ 14) (n / 10 ^ 16) (omega arith), none (n / 10 ^ 16), top) refl))))
 
 -- ---- leading zeros
 
@@ -173,12 +150,7 @@ pub record IsFront (bytes : List ℕ) (count : ℕ) (text : List ℕ) : Type 0 w
 module _ (lanes : List ℕ) (long : length lanes ≡ 16) (start count : ℕ) (within : start + count ≤ 16)
     (ascii : IsAscii (drop start lanes)) where
   pub front_all : length (drop start lanes ++ replicate start 0) ≡ 16
-  front_all = omega (
-    arith,
-    length-append (drop start lanes) (replicate start 0),
-    length-drop start lanes,
-    length-replicate {A = ℕ} start 0,
-  )
+  front_all = simp (length-append, length-drop, length-replicate) (omega arith)
 
   pub front_is : IsFront (drop start lanes ++ replicate start 0) count (take count (drop start lanes))
   front_is = record {
@@ -196,7 +168,8 @@ less_nothing : (bs : List ℕ) (n : ℕ) → length bs ≡ n → AllByRecursion 
 less_nothing [] n long h = refl
 less_nothing (b ∷ bs) zero long h = absurd (omega arith)
 less_nothing (b ∷ bs) (suc n) long h =
-    let first : less b 0 ≡ b = omega (arith, h.0) in let rest = less_nothing bs n (omega arith) h.1 in λ i. first i ∷ rest i
+    let first : less b 0 ≡ b = omega (arith, h.0) in
+    let rest = less_nothing bs n (omega arith) h.1 in λ i. first i ∷ rest i
 
 -- the lanes from `start` on, moved to the start and after the minus, if there is one
 module _ (lanes : List ℕ) (long : length lanes ≡ 16) (ascii : IsAscii lanes) (start : ℕ) (some : (0 < start) × (start ≤ 16))
@@ -211,21 +184,14 @@ module _ (lanes : List ℕ) (long : length lanes ≡ 16) (ascii : IsAscii lanes)
   behind_low begin = recursion_from_All (λ b. b < 128) (behind begin) (All-from_ascii (behind begin) (behind_ascii begin))
 
   behind_long : (begin : ℕ) → length (behind begin) ≡ 16 - start + begin
-  behind_long begin = omega (
-    arith,
-    length-append (drop start lanes)
-        (replicate begin 0),
-    length-drop start lanes,
-    length-replicate {A = ℕ} begin 0,
-  )
+  behind_long begin = simp (length-append, length-drop, length-replicate) (omega arith)
 
   pub signed_row : (negative : Bool) (begin minus : ℕ) → begin ≡ start - bool_byte negative → minus ≡ bool_byte negative
       → zip2 less (drop begin lanes ++ replicate begin 0) (3 * minus ∷ replicate 15 0) ≡ minus_text negative ++ behind begin
   signed_row true begin minus from is =
       let next : begin + 1 ≡ start = omega arith in
       let zero : get_or lanes begin 0 ≡ 48 = ap (λ n. get_or lanes n 0) from ∙ zero_before in
-      let cut : drop begin lanes ≡ 48 ∷ drop start lanes = drop_more lanes begin 0 (omega arith)
-      ∙ (λ i. zero i ∷ drop (next i) lanes) in
+      let cut : drop begin lanes ≡ 48 ∷ drop start lanes = drop_more lanes begin 0 (omega arith) ∙ (λ i. zero i ∷ drop (next i) lanes) in
       let first : less 48 (3 * minus) ≡ 45 = rw is refl in
       let rest = less_nothing (behind begin) 15 (omega (arith, behind_long begin)) (behind_low begin) in
       ap (λ l. zip2 less (l ++ replicate begin 0) (3 * minus ∷ replicate 15 0)) cut ∙ (λ i. first i ∷ rest i)

@@ -92,8 +92,6 @@ pub record IsFront (text : List ℕ) (f : Front) : Type 0 where
   pub small : IsSmall f.significand
   pub ends : EndsToken (drop f.length text)
 
--- an integer of one word, or at most seven fraction digits and a magnitude below 2 ^ 55
+-- at most seven fraction digits and a magnitude below 2 ^ 55
 abbrev pub IsCommonWord : Significand → Type 0
-IsCommonWord s =
-    ((s.point ≡ false) × ((s.magnitude < 2 ^ 63) ⊎ (s.negative ≡ false)))
-    ⊎ ((s.point ≡ true) × (negsuc 6 ≤ℤ s.exponent) × (s.exponent ≤ℤ pos 0) × (s.magnitude < 2 ^ 55))
+IsCommonWord s = (negsuc 6 ≤ℤ s.exponent) × (s.exponent ≤ℤ pos 0) × (s.magnitude < 2 ^ 55)

@@ -2,7 +2,7 @@
 ghost use Rattle.std.specs.Prelude.{◌≡◌, ◌<◌, ◌≤◌, ◌+◌, ◌-◌, ◌++◌, drop, length, IfSome, IfNone, OnOk};
 ghost use Rattle.ijson_number.specs.Grammar.{AllDigits};
 ghost use Rattle.ijson_number.specs.private.Stripped.{digits_from_text};
-ghost use Rattle.std.specs.Prelude.{pos, neg_ℤ, ◌≢◌, ◌*◌, ◌%◌, ◌+ℤ◌, ◌<ℤ◌, ◌^◌, FitsSigned};
+ghost use Rattle.std.specs.Prelude.{pos, neg_ℤ, ◌+ℤ◌, ◌<ℤ◌, ◌^◌, FitsSigned};
 ghost use Rattle.std.specs.Int.Digits.{digits_of, number_from_digits};
 ghost use mir.Syntax.{w128};
 ghost use Rattle.std.specs.List.{All};
@@ -133,20 +133,4 @@ pub fn place_of(digits: &[u8], exponent: i32) -> i128
     ensures fits { FitsSigned w128 result }
 {
     digits.len() as i128 + exponent as i128
-}
-
-/// Strips up to `scale` trailing zeros; returns the result, and `scale` minus their number.
-///
-/// If `scale` is the number of fraction digits, that is the number of those left.
-pub fn strip_trailing_zeros(magnitude: u64, scale: usize) -> (u64, usize)
-    ensures tens { magnitude ≡ result.0 * 10 ^ (scale - result.1) }
-    ensures fewer { result.1 ≤ scale }
-    ensures stripped { 0 < result.1 → result.0 % 10 ≢ 0 }
-{
-    let (mut rest, mut left) = (magnitude, scale);
-    while left > 0 && rest % 10 == 0 {
-        rest /= 10;
-        left -= 1;
-    }
-    (rest, left)
 }

@@ -10,8 +10,9 @@ ghost use Rattle.ijson_number.specs.Strips.{signed};
 ghost use Rattle.std.proofs.Props.{props};
 
 use crate::repr::INumber;
-use crate::repr::digits::{MAX_DIGITS, make_digits, strip_trailing_zeros};
+use crate::repr::digits::{MAX_DIGITS, make_digits};
 use crate::repr::stored::{LongNumber, ShortNumber, Stored};
+use crate::significand::Significand;
 use itoa::write_digits;
 
 /// The sign, the canonical digits, the exponent and the fraction point of a number.
@@ -36,7 +37,7 @@ impl<'a> StrippedNumber<'a> {
     pub fn from_magnitude(
         negative: bool,
         magnitude: u64,
-        exponent: i16,
+        exponent: i8,
         point: bool,
         buffer: &'a mut [u8; MAX_DIGITS],
     ) -> StrippedNumber<'a>
@@ -51,15 +52,21 @@ impl<'a> StrippedNumber<'a> {
                 point,
             };
         }
-        let (stripped, left) = strip_trailing_zeros(magnitude, MAX_DIGITS);
+        let canonical = Significand {
+            negative,
+            magnitude,
+            exponent: i32::from(exponent),
+            point,
+        }
+        .canonical();
         let mut text = [0; MAX_DIGITS];
-        let start = write_digits(stripped, &mut text, MAX_DIGITS);
+        let start = write_digits(canonical.magnitude, &mut text, MAX_DIGITS);
         make_digits(&text, buffer);
         StrippedNumber {
-            negative,
+            negative: canonical.negative,
             digits: &buffer[start..],
-            exponent: i32::from(exponent) + (MAX_DIGITS - left) as i32,
-            point,
+            exponent: canonical.exponent,
+            point: canonical.point,
         }
     }
 
@@ -74,7 +81,7 @@ impl<'a> StrippedNumber<'a> {
         ensures { decimal_of result ≡ stripped_number mantissa exponent point }
     {
         let magnitude = mantissa.unsigned_abs();
-        StrippedNumber::from_magnitude(mantissa < 0, magnitude, i16::from(exponent), point, buffer)
+        StrippedNumber::from_magnitude(mantissa < 0, magnitude, exponent, point, buffer)
     }
 }
 

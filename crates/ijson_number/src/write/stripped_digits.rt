@@ -8,9 +8,10 @@ ghost use Rattle.ijson_number.specs.Text.{digits_text};
 
 use crate::lanes::{LANES, push_lanes};
 use crate::repr::INumber;
-use crate::repr::digits::{MAX_DIGITS, strip_trailing_zeros};
+use crate::repr::digits::MAX_DIGITS;
 use crate::repr::stored::Stored;
 use crate::repr::stripped::StrippedNumber;
+use crate::significand::Significand;
 use crate::write::display::run_text;
 use crate::write::fast::push_integer;
 use std::alloc::AllocError;
@@ -27,9 +28,15 @@ fn push_significand(magnitude: u64, exponent: i8, out: &mut String) -> Result<i3
     if magnitude == 0 {
         return Ok(0);
     }
-    let (stripped, left) = strip_trailing_zeros(magnitude, MAX_DIGITS);
-    push_integer(false, stripped, out)?;
-    Ok(i32::from(exponent) + (MAX_DIGITS - left) as i32)
+    let canonical = Significand {
+        negative: false,
+        magnitude,
+        exponent: i32::from(exponent),
+        point: true,
+    }
+    .canonical();
+    push_integer(false, canonical.magnitude, out)?;
+    Ok(canonical.exponent)
 }
 
 impl StrippedNumber<'_> {

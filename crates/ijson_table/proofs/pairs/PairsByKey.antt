@@ -11,7 +11,7 @@ use Rattle.std.proofs.lemmas.List.{map-append}
 use Rattle.std.proofs.lemmas.Bool.{cases_eq, cases_lt}
 use Rattle.ijson_table.specs.Store.{keys_of, at, lookup, put, swap_out, with_value, IsDistinct}
 use Rattle.ijson_table.specs.laws.Store.{keys-with_value}
-use Rattle.ijson_table.proofs.pairs.KeyPositions.{absent-from, head_or_tail, none_in, position-some, same_key}
+use Rattle.ijson_table.proofs.pairs.KeyPositions.{absent-from, head_or_tail, none_in, position-none, position-some, same_key}
 use Rattle.ijson_table.proofs.pairs.DistinctKeys.{AreApart, apart, distinct}
 
 -- distinct keys with a new one after them are distinct
@@ -148,6 +148,18 @@ module _ {V : Type 0} where
       elim a.3 [
         | inl x ↦ elim b.3 [ inl y ↦ omega (arith, x, y) | inr y ↦ omega (arith, x, y) ]
         | inr x ↦ elim b.3 [ inl y ↦ omega (arith, x, y) | inr y ↦ omega (arith, x, y) ]
+      ])
+
+  -- the removed key is missing
+  pub swapped_lacks : (pairs : List (List ℕ × V)) (i : ℕ) → IsDistinct (keys_of pairs) → i < length pairs
+      → at (swap_out pairs i) (get_or (keys_of pairs) i []) ≡ None
+  swapped_lacks pairs i d li = position-none (keys_of (swap_out pairs i)) (get_or (keys_of pairs) i []) (λ j lj e.
+      let a = came_from pairs i j li (omega (arith, length-swap_out pairs i li)) in
+      let same : a.0 ≡ i = apart (keys_of pairs) d a.0 i (omega (arith, keys-length pairs, a.1)) (omega (arith, keys-length pairs, li))
+      (sym a.2 ∙ e) in
+      elim a.3 [
+        | inl x ↦ omega (arith, x, same, lj, length-swap_out pairs i li)
+        | inr x ↦ omega (arith, x, same)
       ])
 
   -- with a new key after them, keys are distinct

@@ -1,13 +1,14 @@
 -- A list with one item removed, and later ones moved down.
 use Rattle.std.proofs.Common.{◌≡◌, ℕ, suc, ◌+◌, ◌<◌, inl, inr, arith, List, [], ◌++◌, length, get_or, map, ltb, sym, ap, subst, ◌∙◌}
-use Rattle.std.proofs.Common.{if◌then◌else◌}
+use Rattle.std.proofs.Common.{if◌then◌else◌, None}
 use Rattle.std.specs.List.{remove}
 use Rattle.std.proofs.lemmas.Bool.Decides.{nat_tests}
 use Rattle.std.proofs.lemmas.List.{map-append, take-map, drop-map}
 use Rattle.std.proofs.lemmas.List.Edits.{length-remove, get_or-remove_below, get_or-remove_above}
 use Rattle.std.proofs.lemmas.Bool.{cases_lt}
-use Rattle.ijson_table.specs.Store.{keys_of, shift_out, IsDistinct}
+use Rattle.ijson_table.specs.Store.{at, keys_of, position_of, shift_out, IsDistinct}
 use Rattle.ijson_table.proofs.pairs.DistinctKeys.{apart, distinct}
+use Rattle.ijson_table.proofs.pairs.KeyPositions.{position-none}
 use Rattle.ijson_table.proofs.pairs.PairsByKey.{keys-length}
 
 -- the old index of an item after another one was removed
@@ -45,3 +46,16 @@ module _ {V : Type 0} where
       let same : raise i j ≡ raise i k = apart keys d (raise i j) (raise i k) (below j lj) (below k lk)
       (sym (get_or-remove keys i j [] within) ∙ (e ∙ get_or-remove keys i k [] within)) in
       grind (arith, nat_tests, same)))
+
+  -- and without the removed one
+  pub shifted_lacks : (pairs : List (List ℕ × V)) (i : ℕ) → IsDistinct (keys_of pairs) → i < length pairs
+      → at (shift_out pairs i) (get_or (keys_of pairs) i []) ≡ None
+  shifted_lacks pairs i d li =
+      let keys : List (List ℕ) = keys_of pairs in
+      let within : i < length keys = omega (arith, li, keys-length pairs) in
+      let fewer : length (remove keys i) + 1 ≡ length keys = length-remove keys i within in
+      ap (λ ks. position_of ks (get_or keys i [])) (keys-shift_out pairs i)
+      ∙ position-none (remove keys i) (get_or keys i []) (λ j lj e.
+      let below : raise i j < length keys = grind (arith, nat_tests, fewer, lj) in
+      let same : raise i j ≡ i = apart keys d (raise i j) i below within (sym (get_or-remove keys i j [] within) ∙ e) in
+      grind (arith, nat_tests, same))

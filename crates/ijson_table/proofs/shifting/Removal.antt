@@ -1,6 +1,6 @@
 -- The effect of a removal.
 use Rattle.std.proofs.Common.{◌≡◌, ◌≢◌, ℕ, ◌+◌, ◌%◌, ◌<◌, ◌≤◌, inl, inr, arith, List, [], ◌∷◌, ◌++◌, length, get_or, set, Option, Some}
-use Rattle.std.proofs.Common.{None, refl, sym, ap, ◌∙◌}
+use Rattle.std.proofs.Common.{None, refl, sym, ap, ◌∙◌, get_or-set_other}
 use Rattle.std.proofs.lemmas.Bool.Decides.{nat_tests}
 use Rattle.std.proofs.lemmas.List.{length-set}
 use Rattle.std.proofs.Math.ListN.{get_or-append}
@@ -72,6 +72,12 @@ other_hashes hashes hashes' count pending slots held same = record {
   );
   placed = held.placed;
 }
+
+-- another hash for the pending index
+pub replaced : (hashes : List ℕ) (i hash : ℕ) (slots : List (Option ℕ)) → Holds hashes (below (length hashes)) (Some i) slots
+    → Holds (set hashes i hash) (below (length hashes)) (Some i) slots
+replaced hashes i hash slots held = other_hashes hashes (set hashes i hash) (length hashes) (Some i) slots held
+    (λ p k lp e. get_or-set_other hashes i k hash 0 (not_pending hashes (length hashes) i slots held p k lp e))
 
 -- indices of one hash have one home slot
 home-as : (n : ℕ) (hashes hashes' : List ℕ) (i j : ℕ) → get_or hashes' i 0 ≡ get_or hashes j 0 → home_at n hashes' i ≡ home_at n hashes j

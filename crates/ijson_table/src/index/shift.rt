@@ -1,6 +1,6 @@
 //! Moves of residents, with counted steps: insertion, backward shift and rehash.
 
-ghost use Rattle.std.specs.Prelude.{◌≡◌, ℕ, ◌+◌, ◌*◌, ◌<◌, ◌≤◌, ◌%◌, ◌^◌, List, length, get_or, map, Some, None, IsTrue, IsFalse};
+ghost use Rattle.std.specs.Prelude.{◌≡◌, ℕ, ◌+◌, ◌*◌, ◌<◌, ◌≤◌, ◌%◌, ◌^◌, List, length, get_or, map, set, Some, None, IsTrue, IsFalse};
 ghost use Rattle.ijson_table.specs.Slots.{below, resident, times, IsOrdered};
 ghost use Rattle.ijson_table.specs.private.Changes.{changes};
 ghost use Rattle.ijson_table.specs.private.Closing.{closed};
@@ -167,6 +167,21 @@ pub fn swap_remove(slots: &mut Slots, position: usize, hash: u64, last: usize, l
     let there = slot_of(slots, last, last_hash);
     let moved = slots.at(there).hash();
     slots.set(there, Slot::of(position, moved));
+}
+
+/// Gives an index, whose key has the hash `was`, another hash.
+pub fn rehash_one(slots: &mut Slots, position: usize, was: u64, hash: u64)
+    ghost hashes: { List ℕ }
+    requires table { IsTableOf hashes slots.old }
+    requires within { position < length hashes }
+    requires fits { length slots.old < 2 ^ 64 }
+    requires was { was ≡ get_or hashes position 0 }
+    requires narrow { MayHold (length slots.old) position hash }
+    ensures table { IsTableOf (set hashes position hash) slots.new }
+    ensures count { length slots.new ≡ length slots.old }
+{
+    take_out(slots, position, was);
+    insert(slots, position, hash);
 }
 
 /// Decrements each index after `gone`.

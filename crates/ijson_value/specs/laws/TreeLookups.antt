@@ -1,15 +1,16 @@
 -- Lists of members and elements, joined again, and the value one step inside a tree that another is laid over. For callers: each law joins
 -- two terms of the contracts.
-use Rattle.std.specs.Prelude.{◌≡◌, ◌<◌, ℕ, List, [], ◌∷◌, Option, Some, None, length, get_or, option_map}
+use Rattle.std.specs.Prelude.{◌≡◌, ◌<◌, ℕ, Bool, List, [], ◌∷◌, Option, Some, None, length, get_or, option_map}
 use Rattle.std.specs.Option.{option_or}
 use Rattle.std.proofs.Common.{refl, sym, ap, ◌∙◌}
 use Rattle.std.proofs.lemmas.Option.{slice_get_read}
-use Rattle.ijson_table.specs.Store.{lookup}
+use Rattle.ijson_table.specs.Store.{Store, lookup}
 use Rattle.ijson_value.specs.Step.{by_position, by_key, tree_at}
-use Rattle.ijson_value.specs.Tree.{Tree, Items, no_items, item, items_of, items_list, members_of, members_list}
-use Rattle.ijson_value.specs.Values.{array_value, object_tree}
+use Rattle.ijson_value.specs.Tree.{Tree, boolean, Items, no_items, item, items_of, items_list, members_of, members_list}
+use Rattle.ijson_value.specs.Values.{array_value, boolean_value, object_tree, object_value}
 use Rattle.ijson_value.specs.WellFormed.{WellFormed, tree_of}
 use Rattle.ijson_value.specs.laws.Steps.{item_at, value_at}
+use Rattle.ijson_value.specs.laws.WellFormedCode.{one_tree}
 
 -- `members_list` undoes `members_of`, and `items_list` undoes `items_of`
 pub members_list-of : (ps : List (List ℕ × Tree)) → members_list (members_of ps) ≡ ps
@@ -31,6 +32,24 @@ pub item_of_loop : (v : WellFormed) (items : List WellFormed) (i : ℕ) (x : Wel
 item_of_loop v items i x e below is =
     ap (λ w. tree_at w.tree (by_position i)) e
     ∙ (sym (item_at items i) ∙ ap (option_map tree_of) (slice_get_read items (length items) i x refl below is))
+
+-- the value that an object has for a key is that of the key in the tree around it
+member_tree : (v : WellFormed) (object : Store WellFormed) (key : List ℕ) → v ≡ object_value object
+    → tree_at v.tree (by_key key) ≡ option_map tree_of (lookup key object.pairs)
+member_tree v object key is = ap (λ w. tree_at w.tree (by_key key)) is ∙ sym (value_at object.pairs key)
+
+pub member_found : (v : WellFormed) (key : List ℕ) (object : Store WellFormed) (found : WellFormed) → v ≡ object_value object
+    → Some found ≡ lookup key object.pairs → tree_at v.tree (by_key key) ≡ Some found.tree
+member_found v key object found is at = member_tree v object key is ∙ ap (option_map tree_of) (sym at)
+
+pub member_missing : (v : WellFormed) (key : List ℕ) (object : Store WellFormed) → v ≡ object_value object
+    → None ≡ lookup key object.pairs → tree_at v.tree (by_key key) ≡ None
+member_missing v key object is none = member_tree v object key is ∙ ap (option_map tree_of) (sym none)
+
+-- a value found by a key, whose tree is a Boolean
+pub boolean_found : (pairs : List (List ℕ × WellFormed)) (key : List ℕ) (found : WellFormed) (b : Bool) → Some found ≡ lookup key pairs
+    → found.tree ≡ boolean b → lookup key pairs ≡ Some (boolean_value b)
+boolean_found pairs key found b at e = sym at ∙ ap Some (one_tree found (boolean_value b) e)
 
 map-or : {A B : Type 0} (f : A → B) (o p : Option A) → option_map f (option_or o p) ≡ option_or (option_map f o) (option_map f p)
 map-or f None p = refl

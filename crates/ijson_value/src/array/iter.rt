@@ -2,8 +2,10 @@
 ghost use Rattle.std.specs.Prelude.{◌≡◌, length, Some, IfSome};
 ghost use Rattle.std.specs.Iterator.{YieldsFirst, item_count, at_most, UpTo};
 ghost use Rattle.std.specs.Iterator.SizeHint.{IsWithinCount};
-ghost use Rattle.std.specs.Iterator.Adapters.{IterYieldsInOrder};
-ghost use Rattle.std.specs.Slice.Iter.{iter_rest};
+ghost use Rattle.std.specs.Borrow.{sem};
+ghost use Rattle.std.specs.Iterator.Adapters.{IterMutYieldsInOrder, IterYieldsInOrder};
+ghost use Rattle.std.specs.Slice.Iter.{iter_mut_rest, iter_rest};
+ghost use Rattle.ijson_value.specs.LendsItems.{LendsItemsInTurn};
 ghost use Rattle.ijson_value.specs.WellFormed.{WellFormed};
 
 use super::IArray;
@@ -58,6 +60,35 @@ impl IntoIterator for IArray {
             Some(list) => Box::into_inner(list).into_iter(),
         };
         IntoIter { left }
+    }
+}
+
+/// `for item in &array`. See `iter`.
+impl<'a> IntoIterator for &'a IArray {
+    type Item = &'a IValue;
+
+    type IntoIter = slice::Iter<'a, IValue>;
+
+    ghost into_iter_gives = { λ array items. (iter_rest items ≡ array.now.items) × IterYieldsInOrder WellFormed };
+
+    fn into_iter(self) -> slice::Iter<'a, IValue> {
+        self.iter()
+    }
+}
+
+/// `for item in &mut array`. See `as_mut_slice`.
+impl<'a> IntoIterator for &'a mut IArray {
+    type Item = &'a mut IValue;
+
+    type IntoIter = slice::IterMut<'a, IValue>;
+
+    ghost into_iter_gives = { λ array items. (iter_mut_rest items ≡ array.now.items) × IterMutYieldsInOrder WellFormed };
+
+    fn into_iter(self) -> slice::IterMut<'a, IValue>
+        ensures* writes_back { sem 𝓛 (LendsItemsInTurn self.entry result) }
+        ensures into_iter_gives { (iter_mut_rest result ≡ self.old.items) × IterMutYieldsInOrder WellFormed }
+    {
+        self.as_mut_slice().iter_mut()
     }
 }
 

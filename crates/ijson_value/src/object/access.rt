@@ -1,7 +1,9 @@
 //! The entries of an object by index.
-ghost use Rattle.std.specs.Prelude.{◌≡◌, ◌<◌, ◌++◌, ◌∷◌, ℕ, List, [], length, slice_get, option_map, IfSome};
+ghost use Rattle.std.specs.Prelude.{◌≡◌, ◌<◌, ◌++◌, ◌∷◌, ℕ, List, [], length, get_or, slice_get, option_map, IfSome};
 ghost use Rattle.std.specs.Borrow.{sem};
-ghost use Rattle.ijson_table.specs.Store.{at, swap_out, shift_out};
+ghost use Rattle.std.specs.Map.Iter.{deref_pair};
+ghost use Rattle.std.specs.List.{insert};
+ghost use Rattle.ijson_table.specs.Store.{at, keys_of, swap_out, shift_out, with_key};
 ghost use Rattle.ijson_value.specs.LendsValue.{LendsValue, LendsValueIf};
 
 use super::map::IObject;
@@ -10,6 +12,18 @@ use ijson_string::IString;
 use ijson_table::PairStore;
 
 impl IObject {
+    /// Returns the entry at an index, or `None` if it is out of bounds.
+    ///
+    /// It takes constant time.
+    pub fn get_index(&self, position: usize) -> Option<(&IString, &IValue)>
+        ensures { option_map deref_pair result ≡ slice_get self.now.pairs position }
+    {
+        match self.as_slice().get(position) {
+            Some(pair) => Some((&pair.0, &pair.1)),
+            None => None,
+        }
+    }
+
     /// Returns a mutable reference to the value at an index, or `None` if it is out of bounds.
     ///
     /// It takes constant time.
@@ -72,6 +86,34 @@ impl IObject {
         ensures capacity { self.new.capacity ≡ self.old.capacity }
     {
         self.table.as_mut().unwrap().push_new(key, value);
+    }
+
+    /// Inserts an entry with a new key at an index, or appends it if the index is past the end, within the capacity.
+    ///
+    /// The last entry replaces each entry from there on in turn, and that is appended.
+    pub(super) fn insert_new(&mut self, position: usize, key: IString, value: IValue)
+        requires missing { at self.old.pairs key ≡ None }
+        requires within { length self.old.pairs < self.old.capacity }
+        ensures pairs { self.new.pairs ≡ insert self.old.pairs position (key, value) }
+        ensures capacity { self.new.capacity ≡ self.old.capacity }
+    {
+        let last = self.len();
+        self.push_new(key, value);
+        for index in position..last {
+            let (key, value) = self.swap_out(index);
+            self.push_new(key, value);
+        }
+    }
+
+    /// Replaces the key at an index by a missing one, and returns the old key.
+    pub(super) fn replace_key_at(&mut self, position: usize, key: IString) -> IString
+        requires within { position < length self.old.pairs }
+        requires missing { at self.old.pairs key ≡ None }
+        ensures key { result ≡ get_or (keys_of self.old.pairs) position [] }
+        ensures pairs { self.new.pairs ≡ with_key self.old.pairs position key }
+        ensures capacity { self.new.capacity ≡ self.old.capacity }
+    {
+        self.table.as_mut().unwrap().replace_key_at(position, key)
     }
 
     /// Removes and returns the entry at an index, which the last entry replaces.

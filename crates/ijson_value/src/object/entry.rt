@@ -355,6 +355,8 @@ impl<'a> fmt::Debug for OccupiedEntry<'a> {
 /// Formats the key.
 impl<'a> fmt::Debug for VacantEntry<'a> {
     fn fmt<W: fmt::Write>(&self, f: &mut fmt::Formatter<W>) -> fmt::Result {
-        f.debug_tuple("VacantEntry").field(self.key()).finish()
+        f.debug_struct("VacantEntry")
+            .field("key", self.key())
+            .finish()
     }
 }

@@ -157,6 +157,16 @@ impl IObject {
         ensures position { result ≡ at self.old.pairs (I.Sealed.key index) }
         ensures within { IfSome result (λ position. position < length self.old.pairs) }
     {
+        self.get_index_of(index)
+    }
+
+    /// Returns the index of a key, or `None` if it does not exist.
+    ///
+    /// The key is hashed once.
+    pub fn get_index_of<I: ObjectIndex>(&self, index: I) -> Option<usize>
+        ensures position { result ≡ at self.now.pairs (I.Sealed.key index) }
+        ensures within { IfSome result (λ position. position < length self.now.pairs) }
+    {
         self.position(index.as_key())
     }
 

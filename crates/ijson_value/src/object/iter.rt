@@ -117,6 +117,16 @@ impl IObject {
     {
         Values { left: self.iter() }
     }
+
+    /// Returns the entries, in order, without copying them.
+    pub fn into_pairs(self) -> Vec<(IString, IValue)>
+        ensures { result.items ≡ self.pairs }
+    {
+        match self.table {
+            None => Vec::new(self.alloc),
+            Some(table) => Box::into_inner(table).into_pairs(),
+        }
+    }
 }
 
 /// Moves the entries out, first to last, without copying them.
@@ -128,11 +138,22 @@ impl IntoIterator for IObject {
     ghost into_iter_gives = { λ object pairs. pairs ≡ object.pairs };
 
     fn into_iter(self) -> IntoIter {
-        let left = match self.table {
-            None => Vec::new(self.alloc).into_iter(),
-            Some(table) => Box::into_inner(table).into_pairs().into_iter(),
-        };
-        IntoIter { left }
+        IntoIter {
+            left: self.into_pairs().into_iter(),
+        }
+    }
+}
+
+/// `for (key, value) in &object`. See `iter`.
+impl<'a> IntoIterator for &'a IObject {
+    type Item = (&'a IString, &'a IValue);
+
+    type IntoIter = Iter<'a>;
+
+    ghost into_iter_gives = { λ object pairs. pairs ≡ object.now.pairs };
+
+    fn into_iter(self) -> Iter<'a> {
+        self.iter()
     }
 }
 

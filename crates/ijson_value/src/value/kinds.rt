@@ -77,6 +77,14 @@ impl IValue {
         }
     }
 
+    /// Returns the Boolean, or `None` if the value is of another kind. See `to_bool`.
+    pub fn as_bool(&self) -> Option<bool>
+        ensures some { IfSome result (λ b. self.now.tree ≡ boolean b) }
+        ensures none { IfNone result (kind_of self.now.tree ≢ kind.Bool) }
+    {
+        self.to_bool()
+    }
+
     /// Returns the number of elements or entries, or `None` if the value is of another kind.
     #[tactic(auto, using(crate::specs::laws::Lengths::array_length, crate::specs::laws::Lengths::object_length))]
     pub fn len(&self) -> Option<usize>

@@ -35,6 +35,17 @@ impl IValue {
         }
     }
 
+    /// Returns the bytes of the string, or `None` if the value is of another kind.
+    pub fn as_str(&self) -> Option<&str>
+        ensures some { IfSome result (λ text. self.now ≡ string_value text.now) }
+        ensures none { IfNone result (kind_of self.now.tree ≢ kind.String) }
+    {
+        match &self.node {
+            Destructured::String(string) => Some(string.as_str()),
+            _ => None,
+        }
+    }
+
     /// Returns the array, or `None` if the value is of another kind.
     pub fn as_array(&self) -> Option<&IArray>
         ensures some { IfSome result (λ array. self.now ≡ array_value array.now.items) }

@@ -5,7 +5,7 @@ use Rattle.ijson_convert.proofs.serde.from_serde_number.Goals as goal
 
 pub returns-in-Some-clause-number : goal.returns-in-Some-clause-number
 returns-in-Some-clause-number c = unsigned_here (number_view c.args.number.now) c.in-Some.unsigned c.from.result
-    (sym c.as_u64.ensures ∙ c.in-Some.is) (search rules) c.from.ensures
+    (sym c.as_u64.ensures ∙ c.in-Some.is) (search rules) (search rules)
 
 pub returns-in-Some-as_i64-clause-number : goal.returns-in-Some-as_i64-clause-number
 returns-in-Some-as_i64-clause-number c = signed_here (number_view c.args.number.now) c.in-Some-as_i64.signed c.from-in-Some-as_i64.result

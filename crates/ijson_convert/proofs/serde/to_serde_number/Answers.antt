@@ -9,7 +9,7 @@ use Rattle.ijson_convert.proofs.serde.to_serde_number.Goals as goal
 pub returns-in-Some-clause-number : goal.returns-in-Some-clause-number
 returns-in-Some-clause-number c =
     let small : c.in-Some.unsigned < 2 ^ 64 = search rules in
-    means_unsigned (number_view c.from.result) c.in-Some.unsigned c.args.number.now.decimal c.from.ensures small c.in-Some.ensures.some
+    means_unsigned (number_view c.from.result) c.in-Some.unsigned c.args.number.now.decimal (search rules) small c.in-Some.ensures.some
 
 pub returns-in-Some-to_i64-clause-number : goal.returns-in-Some-to_i64-clause-number
 returns-in-Some-to_i64-clause-number c =

@@ -110,6 +110,27 @@ fn insert(rt: HostRuntime) {
     drop(object);
 }
 
+/// Inserts the fifth entry at an index of an object of the others, which is full if an allocation fails.
+fn shift_inserts(rt: &impl Abort, alloc: Global, object: &mut IObject, position: usize) {
+    assert!(*rt; position <= object.len());
+    let former = object.shift_insert(position, key(rt, alloc, "e"), IValue::from(5u8));
+    if let Some(refused) = former.err() {
+        assert!(*rt; is_number(&refused.value, 5) && refused.why == ReserveError::Memory);
+        assert!(*rt; holds(object, 4, 4) && position <= object.len());
+        let again = object.shift_insert(position, refused.key, refused.value);
+        drop(again.expect(rt, "room"));
+    }
+}
+
+#[test]
+fn shift_insert(rt: HostRuntime) {
+    let alloc = rt.alloc();
+    let mut object = with_pairs(&rt, alloc, 4, 4);
+    shift_inserts(&rt, alloc, &mut object, 4);
+    assert!(rt; holds(&object, 5, 8));
+    drop(object);
+}
+
 /// Reserves capacity for one entry in a full object.
 fn grows(rt: &impl Abort, object: &mut IObject, len: usize) {
     if let Err(why) = object.reserve(1) {

@@ -1,4 +1,4 @@
-use Rattle.std.proofs.Common.{◌∙◌, sym}
+use Rattle.ijson_number.proofs.Common.{◌∙◌, sym}
 use Rattle.ijson_number.proofs.comparing.SignOrder.{signs_cmp, zeros_cmp, below_zero_is, above_zero_is, tests_apart, tests_same}
 use Rattle.ijson_number.proofs.comparison.compare.Goals as goal
 
@@ -22,6 +22,5 @@ returns-in-Equal-clause-order g c =
 
 pub returns-in-Greater-clause-order : goal.returns-in-Greater-clause-order
 returns-in-Greater-clause-order g c =
-    c.compare_magnitudes-in-Greater.ensures.order
-    ∙ above_zero_is (g.D.DigitRow.num c.args.a.now) (g.D.DigitRow.num c.args.b.now) _ _
+    c.compare_magnitudes-in-Greater.ensures.order ∙ above_zero_is (g.D.DigitRow.num c.args.a.now) (g.D.DigitRow.num c.args.b.now) _ _
     c.sign-sign.ensures c.sign-other_sign.ensures (tests_same _ _ _ c.ne.ensures c.if-ne.false) c.in-Greater.is

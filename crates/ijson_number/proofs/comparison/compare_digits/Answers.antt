@@ -1,5 +1,4 @@
-use Rattle.std.proofs.Common.{◌∙◌, sym, arith}
-use Rattle.std.proofs.lemmas.Grind.{common_steps}
+use Rattle.ijson_number.proofs.Common.{◌∙◌, sym, arith}
 use Rattle.ijson_number.proofs.comparing.DigitOrder.{same_digit, row_ends}
 use Rattle.ijson_number.proofs.comparison.compare_digits.Goals as goal
 
@@ -17,7 +16,3 @@ returns g c = record {
   grows = omega arith;
   bounded = omega arith;
 }
-
--- given for speed: the default tactics take longer
-pub returns-then-digit-other-clause-order : goal.returns-then-digit-other-clause-order
-returns-then-digit-other-clause-order g c = grind (arith, common_steps)

@@ -1,7 +1,4 @@
-use Rattle.std.proofs.Common.{◌≡◌, ◌+◌, ◌*◌, drop}
-use Rattle.std.specs.Cmp.Lexicographic.{slice_cmp}
-use Rattle.std.specs.Ordering.{nat_cmp}
-use Rattle.ijson_number.specs.StrippedDigits.{stripped_digits}
+use Rattle.ijson_number.proofs.Common.{◌≡◌, ◌+◌, ◌*◌, drop, slice_cmp, nat_cmp, stripped_digits}
 use Rattle.ijson_number.proofs.comparison.compare_digits.Given as goal
 
 -- the digits so far are equal

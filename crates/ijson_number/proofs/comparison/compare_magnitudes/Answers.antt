@@ -1,12 +1,6 @@
-use Rattle.std.proofs.Common.{◌≡◌, ◌≢◌, ◌∙◌, sym, arith, rules}
-use Rattle.std.specs.Prelude.{ℤ, pos, FitsSigned}
-use Rattle.std.specs.Cmp.Lexicographic.{slice_cmp}
-use Rattle.std.specs.Ordering.{int_cmp, nat_cmp}
-use Rattle.std.proofs.lemmas.Int.{ints, to_z-of_z}
-use mir.Syntax.{w128}
+use Rattle.ijson_number.proofs.Common.{◌≡◌, ◌≢◌, ◌∙◌, sym, arith, rules, ℤ, pos, FitsSigned, slice_cmp, int_cmp, nat_cmp, ints, to_z-of_z, w128, Num}
+use Rattle.ijson_number.proofs.Common.{stripped_digits}
 use Rattle.ijson_number.specs.DigitRow.{leading_place}
-use Rattle.ijson_number.specs.Num.{Num}
-use Rattle.ijson_number.specs.StrippedDigits.{stripped_digits}
 use Rattle.ijson_number.specs.private.MagnitudeOrder.{magnitude_cmp}
 use Rattle.ijson_number.proofs.comparing.DigitOrder.{some_digits, are_stripped}
 use Rattle.ijson_number.proofs.comparing.MagnitudeOrder.{same_place_cmp, places_cmp}

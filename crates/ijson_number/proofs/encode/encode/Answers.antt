@@ -1,8 +1,5 @@
-use Rattle.std.proofs.Common.{◌≡◌, ◌∙◌, ap, sym, subst, arith}
-use Rattle.std.specs.Prelude.{false, true, OnErr}
-use Rattle.ijson_number.specs.Form.{form_of, is_digits}
-use Rattle.ijson_number.specs.private.Significand.{significand_number}
-use Rattle.ijson_number.proofs.storing.Significands.{encoded, fewer_tens, integer_form_is, small_less, stripped_integer}
+use Rattle.ijson_number.proofs.Common.{◌≡◌, ◌∙◌, ap, sym, subst, arith, false, true, OnErr, form_of, is_digits, significand_number, IfOk, stored_form}
+use Rattle.ijson_number.proofs.storing.Significands.{fewer_tens, integer_form_is, small_less}
 use Rattle.ijson_number.proofs.encode.encode.Goals as goal
 use Rattle.ijson_number.proofs.encode.encode.Goals.{After-strip_trailing_zeros-stripped}
 
@@ -12,11 +9,6 @@ same c =
     let e = c.strip_trailing_zeros-stripped.ensures in
     let small = c.requires.magnitude in
     fewer_tens c.args.significand c.strip_trailing_zeros-stripped.result (omega arith) e.tens e.negative e.point
-
-pub common_word-requires-clause-integer : goal.common_word-requires-clause-integer
-common_word-requires-clause-integer c =
-    let e = c.strip_trailing_zeros-stripped.ensures in
-    stripped_integer c.args.significand c.strip_trailing_zeros-stripped.result c.requires e.tens e.most e.point
 
 pub common_word-requires-clause-stripped : goal.common_word-requires-clause-stripped
 common_word-requires-clause-stripped c = c.strip_trailing_zeros-stripped.ensures.stripped
@@ -36,14 +28,10 @@ returns-in-Some-common_word-clause-form c =
 pub encode_wide-requires-2-clause-small : goal.encode_wide-requires-2-clause-small
 encode_wide-requires-2-clause-small c =
     let e = c.strip_trailing_zeros-stripped.ensures in
-    small_less c.args.significand c.strip_trailing_zeros-stripped.result c.requires e.tens e.most e.negative e.point
+    small_less c.args.significand c.strip_trailing_zeros-stripped.result c.requires e.tens e.most e.negative e.point (grind arith)
 
-pub returns-clause-form : goal.returns-clause-form
-returns-clause-form c =
-    encoded c.encode_wide-2.result _ _
-    (ap form_of (sym (same (goal.at.returns-clause-form c).After-strip_trailing_zeros-stripped))) c.encode_wide-2.ensures.form
-
-pub returns-clause-refused : goal.returns-clause-refused
-returns-clause-refused c =
-    subst (λ n. OnErr c.encode_wide-2.result (is_digits (form_of n) ≡ true))
-    (same (goal.at.returns-clause-refused c).After-strip_trailing_zeros-stripped) c.encode_wide-2.ensures.refused
+pub returns : goal.returns
+returns c =
+    let r = c.encode_wide-2.result in
+    subst (λ n. record { form : IfOk r (λ s. stored_form s ≡ form_of n); refused : OnErr r (is_digits (form_of n) ≡ true) })
+    (same (goal.at.returns c).After-strip_trailing_zeros-stripped) c.encode_wide-2.ensures

@@ -1,13 +1,7 @@
-use Rattle.std.proofs.Common.{◌≡◌, ◌∙◌, ◌++◌, ◌≤◌, ◌^◌, ap, sym, subst, arith}
-use Rattle.std.specs.Prelude.{nat_abs}
-use Rattle.ijson_number.specs.Decimal.{Decimal, IsPlain}
-use Rattle.ijson_number.specs.Form.{is_digits}
-use Rattle.ijson_number.specs.Grammar.{value}
+use Rattle.ijson_number.proofs.Common.{◌≡◌, ◌∙◌, ◌++◌, ◌≤◌, ◌^◌, ap, sym, subst, arith, nat_abs, Decimal, IsPlain, is_digits, value, abs_signed}
+use Rattle.ijson_number.proofs.Common.{spelled_number, canonical_number}
 use Rattle.ijson_number.specs.declared.general_reader.CanonicalSpelling.{CanonicalSpelling}
 use Rattle.ijson_number.specs.declared.significand.Significand.{Significand}
-use Rattle.ijson_number.specs.laws.Tens.{abs_signed}
-use Rattle.ijson_number.specs.private.CanonicalSpelling.{spelled_number}
-use Rattle.ijson_number.specs.private.Significand.{canonical_number}
 use Rattle.ijson_number.proofs.AnyAnswer.{where_refused}
 use Rattle.ijson_number.proofs.parsing.CanonicalSpellings.{many_digits}
 use Rattle.ijson_number.proofs.storing.FormCases.{long_form}
@@ -30,13 +24,12 @@ encode_list-requires-clause-many c = λ _.
     c.in_default.ensures.none in
     many_digits s.front.now s.back.now c.requires.front c.requires.back (omega (arith, large))
 
-pub returns-in_default-clause-form : goal.returns-in_default-clause-form
-returns-in_default-clause-form c =
-    encoded c.encode_list.result _ _ (long_form (spelled_number c.args.spelling.now) c.in_default.ensures.none) c.encode_list.ensures
-
-pub returns-in_default-clause-refused : goal.returns-in_default-clause-refused
-returns-in_default-clause-refused c =
-    where_refused c.encode_list.result (ap is_digits (long_form (spelled_number c.args.spelling.now) c.in_default.ensures.none))
+pub returns-in_default : goal.returns-in_default
+returns-in_default c =
+    let form = long_form (spelled_number c.args.spelling.now) c.in_default.ensures.none in record {
+      form = encoded c.encode_list.result _ _ form c.encode_list.ensures;
+      refused = where_refused c.encode_list.result (ap is_digits form);
+    }
 
 pub encode_list-requires-then-significand-ge-DIGITS_END-clause-many : goal.encode_list-requires-then-significand-ge-DIGITS_END-clause-many
 encode_list-requires-then-significand-ge-DIGITS_END-clause-many c = λ _.

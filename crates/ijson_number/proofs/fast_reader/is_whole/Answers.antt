@@ -1,5 +1,4 @@
-use Rattle.std.proofs.Common.{arith}
-use Rattle.std.proofs.lemmas.Grind.{common_steps}
+use Rattle.ijson_number.proofs.Common.{arith, common_steps}
 use Rattle.ijson_number.proofs.fast_reader.is_whole.Goals as goal
 
 -- given for speed: the default tactics take longer

@@ -1,13 +1,5 @@
-use Rattle.std.proofs.Common.{List, drop, ◌≡◌, ℕ, ◌<◌, ◌^◌, ◌⊎◌, get_or, ap, sym, ◌∙◌, length, refl, arith}
-use Rattle.std.specs.Prelude.{pos}
-use mir.Syntax.{w32}
-use mir.Val.{to_z}
-use Rattle.ijson_number.specs.CommonFront.{EndsToken, IsExponentTail}
-use Rattle.ijson_number.specs.Strips.{signed}
-use Rattle.ijson_number.specs.private.Reading.{IsExponentSignTaken}
-use Rattle.std.proofs.lemmas.Grind.{common_steps}
-use Rattle.std.proofs.lemmas.Int.{ints}
-use Rattle.std.proofs.lemmas.List.{length-append, take_rest}
+use Rattle.ijson_number.proofs.Common.{List, drop, ◌≡◌, ℕ, ◌<◌, ◌^◌, ◌⊎◌, get_or, ap, sym, ◌∙◌, length, refl, arith, pos, w32, to_z, EndsToken}
+use Rattle.ijson_number.proofs.Common.{IsExponentTail, signed, common_steps, ints, length-append, take_rest, IsExponentSignTaken}
 use Rattle.ijson_number.proofs.parsing.FrontNumbers.{digits_few, power_at}
 use Rattle.ijson_number.proofs.parsing.ExponentTails.{letter_continues, power_rest}
 use Rattle.ijson_number.proofs.storing.SmallExponents.{negated}
@@ -19,9 +11,7 @@ use Rattle.ijson_number.proofs.fast_reader.read_exponent.Goals.{then-count-eq0-v
 
 -- the digits read are few
 small : (c : After-take_digits-magnitude) → c.take_digits-magnitude.result.0 < 10 ^ 4
-small c =
-    let t = c.take_digits-magnitude in
-    digits_few c.split_exponent_sign-negative.result.1.now t.result.0 t.result.1 t.ensures
+small c = let t = c.take_digits-magnitude in digits_few c.split_exponent_sign-negative.result.1.now t.result.0 t.result.1 t.ensures
 
 -- and follow the sign
 sign : (c : After-take_digits-magnitude) → IsExponentSignTaken (drop 1 c.args.bytes.now) c.split_exponent_sign-negative.result.0
@@ -37,17 +27,10 @@ all_taken c rest p on =
     t.result.0 t.result.1 (sign c) t.ensures on p
 
 pub overflow_cast-magnitude : goal.overflow_cast-magnitude
-overflow_cast-magnitude c =
-    let few = small (goal.at.overflow_cast-magnitude c).After-take_digits-magnitude in
-    omega (arith, ints)
+overflow_cast-magnitude c = let few = small (goal.at.overflow_cast-magnitude c).After-take_digits-magnitude in omega (arith, ints)
 
 pub overflow_sub-power : goal.overflow_sub-power
-overflow_sub-power c =
-    let few = small (goal.at.overflow_sub-power c).After-take_digits-magnitude in
-    omega (arith, ints)
-
-exact : (magnitude : ℕ) → magnitude < 10 ^ 4 → to_z w32 magnitude ≡ pos magnitude
-exact magnitude small = omega (arith, ints)
+overflow_sub-power c = let few = small (goal.at.overflow_sub-power c).After-take_digits-magnitude in omega (arith, ints)
 
 -- the letter that was read continues the token
 on : (c : After-take_digits-magnitude) → EndsToken c.args.bytes.now → ⊥
@@ -65,7 +48,7 @@ returns-clause-power c =
     let power : to_z w32 c.if-negative.power-bits ≡ signed negative t.result.0 = elim c.if-negative.branch [
       | then-negative w ↦ w.power-is ∙ negated w32 t.result.0 (omega (arith, ints, few)) (omega (arith, ints, few))
           ∙ ap (λ n. signed n t.result.0) (sym w.if-negative.true)
-      | else-negative w ↦ w.power-is ∙ exact t.result.0 few ∙ ap (λ n. signed n t.result.0) (sym w.if-negative.false)
+      | else-negative w ↦ w.power-is ∙ (let e : to_z w32 t.result.0 ≡ pos t.result.0 = omega (arith, ints, few) in e) ∙ ap (λ n. signed n t.result.0) (sym w.if-negative.false)
     ] in
     rw c.split_at.ensures.back
     (power_at bytes digits negative t.result.0 t.result.1 (to_z w32 c.if-negative.power-bits) (grind arith) begins

@@ -1,7 +1,5 @@
-use Rattle.std.proofs.Common.{◌≡◌, ◌∙◌, ◌+◌, List, ℕ, length, ap, refl, sym, arith}
-use Rattle.std.proofs.lemmas.Grind.{common_steps}
+use Rattle.ijson_number.proofs.Common.{◌≡◌, ◌∙◌, ◌+◌, List, ℕ, length, ap, refl, sym, EndsToken}
 use Rattle.std.proofs.lemmas.Option.{IfSome_then}
-use Rattle.ijson_number.specs.CommonFront.{EndsToken}
 use Rattle.ijson_number.proofs.AnyAnswer.{none_with}
 use Rattle.ijson_number.proofs.parsing.ExponentTails.{ends_at_once}
 use Rattle.ijson_number.proofs.parsing.FrontNumbers.{front_alone, whole_length}
@@ -34,7 +32,3 @@ returns-clause-common c = λ p rest is.
     let ends : EndsToken read.rest.now = c.continues_token.ensures.ends (rw c.if-continues_token.false refl) in
     let same : read.rest.now ≡ rest = read.ensures.rest p rest is ∙ ends_at_once is.after rest is.tail (rw (← read.ensures.rest p rest is) ends) in
     ap (λ (r : List ℕ). read.front.length + length r) (sym same) ∙ sym (whole_length c.args.text.now read.front read.rest.now read.ensures.found)
-
--- given for speed: the default tactics take longer
-pub with_exponent-requires-clause-length : goal.with_exponent-requires-clause-length
-with_exponent-requires-clause-length c = grind (arith, common_steps)

@@ -1,13 +1,6 @@
-use Rattle.std.proofs.Common.{◌≡◌, ◌+◌, ◌++◌, ℕ, List, length, take, sym, ap, ◌∙◌, append_assoc, rules, arith}
-use Rattle.std.specs.Prelude.{pos, neg_ℤ}
-use Rattle.std.proofs.lemmas.Grind.{common_steps}
-use Rattle.std.proofs.lemmas.Int.{ints}
-use mir.Syntax.{w32}
+use Rattle.ijson_number.proofs.Common.{◌≡◌, ◌+◌, ◌++◌, ℕ, List, length, take, sym, ap, ◌∙◌, append_assoc, rules, arith, pos, neg_ℤ}
+use Rattle.ijson_number.proofs.Common.{ints, w32, length-append, length-take-le, take-append-drop, IsCommonFront, Parts, value, IsFewFraction}
 use Rattle.ijson_number.proofs.storing.SmallExponents.{negated}
-use Rattle.std.proofs.lemmas.List.{length-append, length-take-le, take-append-drop}
-use Rattle.ijson_number.specs.CommonFront.{IsCommonFront}
-use Rattle.ijson_number.specs.Grammar.{Parts, value}
-use Rattle.ijson_number.specs.private.Significand.{IsFewFraction}
 use Rattle.ijson_number.proofs.storing.DigitBounds.{joined_value, room_left}
 use Rattle.ijson_number.proofs.parsing.OneDivision.{minus_of}
 use Rattle.ijson_number.proofs.parsing.CommonFronts.{plain_tail, whole_taken}
@@ -90,7 +83,3 @@ returns-in_err-magnitude-clause-none c =
     rw c.from_residual.ensures
     (λ p rest f. c.in_err-magnitude.ensures.none f.fraction_text f.after
     (tail at.After-split_at p rest f))
-
--- given for speed: the default tactics take longer
-pub overflow_sub-front : goal.overflow_sub-front
-overflow_sub-front c = grind (arith, common_steps)

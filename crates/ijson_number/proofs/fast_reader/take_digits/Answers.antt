@@ -1,8 +1,5 @@
-use Rattle.std.proofs.Common.{◌≡◌, ℕ, ◌*◌, ◌+◌, ◌-◌, ◌<◌, ◌^◌, true, get_or, sym, ◌∙◌, arith}
-use Rattle.std.proofs.lemmas.Grind.{common_steps}
+use Rattle.ijson_number.proofs.Common.{◌≡◌, ℕ, ◌*◌, ◌+◌, ◌-◌, ◌<◌, ◌^◌, true, get_or, sym, ◌∙◌, arith, nat_tests, IsDigit}
 use Rattle.std.specs.Char.{is_ascii_digit}
-use Rattle.std.proofs.lemmas.Bool.Decides.{nat_tests}
-use Rattle.ijson_number.specs.Grammar.{IsDigit}
 use Rattle.ijson_number.proofs.storing.DigitBounds.{append_step, digits_more, step_small}
 use Rattle.ijson_number.proofs.fast_reader.take_digits.Goals.{Then-is_ascii_digit}
 use Rattle.ijson_number.proofs.fast_reader.take_digits.Goals as goal
@@ -41,10 +38,3 @@ loop-count-preserved c =
           (digit (goal.at.loop-count-preserved c).Then-is_ascii_digit);
       value = rw (l.invariant.value, c.from.ensures) (append_step c.args.number c.args.bytes.now l.count c.if-count-bytes.true);
     }
-
--- given for speed: the default tactics take longer
-pub returns-else-is_ascii_digit : goal.returns-else-is_ascii_digit
-returns-else-is_ascii_digit c = grind (arith, common_steps)
-
-pub returns-else-count-bytes : goal.returns-else-count-bytes
-returns-else-count-bytes c = grind (arith, common_steps)

@@ -1,7 +1,4 @@
-use Rattle.std.proofs.Common.{◌≡◌, ◌-◌, ◌≤◌, length, take}
-use Rattle.std.specs.Int.Digits.{number_from_digits_after}
-use Rattle.ijson_number.specs.Grammar.{AllDigits}
-use Rattle.ijson_number.specs.private.Stripped.{digits_from_text}
+use Rattle.ijson_number.proofs.Common.{◌≡◌, ◌-◌, ◌≤◌, length, take, number_from_digits_after, AllDigits, digits_from_text}
 use Rattle.ijson_number.proofs.fast_reader.take_digits.Given as goal
 
 abbrev pub invariant-loop-count : goal.invariant-loop-count

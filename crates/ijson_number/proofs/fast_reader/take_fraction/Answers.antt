@@ -1,12 +1,5 @@
-use Rattle.std.proofs.Common.{◌≡◌, ◌≢◌, ◌+◌, ◌-◌, ◌*◌, ◌^◌, ◌<◌, ◌≤◌, List, ℕ, [], ◌∷◌, ◌++◌, length, take, drop}
-use Rattle.std.proofs.Common.{inl, inr, refl, sym, ap, ◌∙◌, arith}
-use Rattle.std.proofs.lemmas.Bool.{cases_eq}
-use Rattle.std.specs.Int.Digits.{number_from_digits_after}
-use Rattle.std.proofs.lemmas.Bool.Decides.{nat_tests}
-use Rattle.std.proofs.lemmas.List.{take-append-drop}
-use Rattle.ijson_number.specs.Grammar.{AllDigits}
-use Rattle.ijson_number.specs.private.Reading.{BeginsWithNoDigit}
-use Rattle.ijson_number.specs.private.Stripped.{digits_from_text}
+use Rattle.ijson_number.proofs.Common.{◌≡◌, ◌≢◌, ◌+◌, ◌-◌, ◌*◌, ◌^◌, ◌<◌, ◌≤◌, List, ℕ, [], ◌∷◌, ◌++◌, length, take, drop, refl, sym, ap, ◌∙◌, arith}
+use Rattle.ijson_number.proofs.Common.{number_from_digits_after, nat_tests, take-append-drop, AllDigits, BeginsWithNoDigit, digits_from_text}
 use Rattle.ijson_number.proofs.storing.DigitBounds.{digits_small}
 use Rattle.ijson_number.proofs.storing.Significands.{no_more}
 use Rattle.ijson_number.proofs.parsing.CommonFronts.{point_tail}
@@ -38,23 +31,16 @@ point_taken c =
       count = split.front_len;
       few = omega (arith, split.front_len, taken.ensures.few);
       ends = λ h. rw split.back (taken.ensures.all (omega (arith, split.front_len)));
-      value = taken.ensures.value
-          ∙ ap (λ (l : List ℕ). number_from_digits_after 10 c.args.number (digits_from_text l)) (sym split.front);
+      value = taken.ensures.value ∙ ap (λ (l : List ℕ). number_from_digits_after 10 c.args.number (digits_from_text l)) (sym split.front);
     }
 
 -- the number with `most` more digits stays below 10^19
 room : (number count most : ℕ) → (number ≡ 0 → most ≡ 19) → (number ≢ 0 → most ≡ 19 - count) → (number + 1) * 10 ^ (19 - count) ≤ 10 ^ 19
     → (number + 1) * 10 ^ most ≤ 10 ^ 19
-room number count most zero others left = elim (cases_eq number 0) [
-  | inl none ↦ rw (none, zero none) (omega arith)
-  | inr some ↦ rw (others some) left
-]
+room number count most zero others left = grind arith
 
 most_places : (number count most : ℕ) → (number ≡ 0 → most ≡ 19) → (number ≢ 0 → most ≡ 19 - count) → most ≤ 19
-most_places number count most zero others = elim (cases_eq number 0) [
-  | inl none ↦ (let all = zero none in omega (arith, all))
-  | inr some ↦ (let rest = others some in omega (arith, rest))
-]
+most_places number count most zero others = grind arith
 
 pub take_lanes-longer-requires : goal.take_lanes-longer-requires
 take_lanes-longer-requires c =

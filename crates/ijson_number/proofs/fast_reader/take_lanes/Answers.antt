@@ -1,10 +1,5 @@
-use Rattle.std.proofs.Common.{◌≡◌, ℕ, ◌+◌, ◌-◌, ◌*◌, ◌^◌, ◌≤◌, min, List, length, take, drop, ap, ◌∙◌, arith}
-use Rattle.std.specs.Int.Digits.{number_from_digits_after}
-use Rattle.std.proofs.lemmas.List.{length-take-le, take_rest}
-use lib.Lanes.{chunk}
-use Rattle.ijson_number.specs.Grammar.{AllDigits, value}
-use Rattle.ijson_number.specs.private.Stripped.{digits_from_text}
-use Rattle.ijson_number.specs.private.PrefixDigits.{IsCount, IsTaken}
+use Rattle.ijson_number.proofs.Common.{◌≡◌, ℕ, ◌+◌, ◌-◌, ◌*◌, ◌^◌, ◌≤◌, min, List, length, take, drop, ap, ◌∙◌, arith, number_from_digits_after}
+use Rattle.ijson_number.proofs.Common.{length-take-le, take_rest, chunk, AllDigits, value, digits_from_text, IsCount, IsTaken}
 use Rattle.ijson_number.proofs.parsing.PrefixDigits.{at_most_16, room_behind, row_digits}
 use Rattle.ijson_number.proofs.parsing.PrefixDigits.{row_in_text, row_small, row_taken, row_value}
 use Rattle.ijson_number.proofs.parsing.PrefixDigits.{taken_behind}
@@ -41,32 +36,26 @@ returns-then-count-lt-LANES c =
 module _ (number : ℕ) (bytes : List ℕ) (most found count power read : ℕ) (buffer : 16 ≤ length bytes)
     (is : IsCount (chunk 0 16 bytes) found) (least : count ≡ min found most) (many : 16 ≤ count) (p : power ≡ 10 ^ count)
     (v : read ≡ value (take count (chunk 0 16 bytes))) where
-  fewer : count ≤ found
-  fewer = omega (arith, least)
-
   few : count ≤ most
   few = omega (arith, least)
 
   whole : count ≡ 16
-  whole = omega (arith, many, at_most_16 number bytes most found count buffer is fewer few)
+  whole = omega (arith, many, at_most_16 number bytes most found count buffer is (omega (arith, least)) few)
 
   taken : number * power + read ≡ number_from_digits_after 10 number (digits_from_text (take 16 bytes))
-  taken = rw (p, v) (row_value number bytes most found count buffer is fewer few)
+  taken = rw (p, v) (row_value number bytes most found count buffer is (omega (arith, least)) few)
       ∙ ap (λ k. number_from_digits_after 10 number (digits_from_text (take k bytes))) whole
 
   digits : AllDigits (take 16 bytes)
-  digits = rw whole at (row_in_text number bytes most found count buffer is fewer few)
-
-  enough : 16 ≤ most
-  enough = omega (arith, few, many)
+  digits = rw whole at (row_in_text number bytes most found count buffer is (omega (arith, least)) few)
 
   room_left : (number + 1) * 10 ^ most ≤ 10 ^ 19 → (number * power + read + 1) * 10 ^ (most - 16) ≤ 10 ^ 19
-  room_left fits = rw taken (room_behind number (take 16 bytes) 16 most digits (length-take-le 16 bytes buffer) enough fits)
+  room_left fits = rw taken (room_behind number (take 16 bytes) 16 most digits (length-take-le 16 bytes buffer) (omega (arith, few, many)) fits)
 
   all_taken : (longest more : ℕ) → IsTaken (number * power + read) (take (length bytes - 16) (drop 16 bytes)) (most - 16) longest more
       → IsTaken number bytes most longest (16 + more)
   all_taken longest more t =
-      taken_behind number (number * power + read) bytes 16 most longest more enough buffer digits taken (rw (take_rest bytes 16) at t)
+      taken_behind number (number * power + read) bytes 16 most longest more (omega (arith, few, many)) buffer digits taken (rw (take_rest bytes 16) at t)
 
 pub take_digits-longest-requires : goal.take_digits-longest-requires
 take_digits-longest-requires c =

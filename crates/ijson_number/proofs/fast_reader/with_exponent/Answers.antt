@@ -1,14 +1,9 @@
-use Rattle.std.proofs.Common.{◌≡◌, arith}
-use Rattle.std.specs.Prelude.{◌+ℤ◌}
-use Rattle.std.proofs.lemmas.Int.{ints, to_z-of_z}
-use mir.Syntax.{w32}
-use mir.Val.{of_z, to_z}
+use Rattle.ijson_number.proofs.Common.{◌≡◌, arith, ◌+ℤ◌, ints, to_z-of_z, w32, of_z, to_z}
 use Rattle.ijson_number.proofs.parsing.FrontNumbers.{front_with}
 use Rattle.ijson_number.proofs.fast_reader.with_exponent.Goals as goal
 
 pub returns-in_err-power-clause-none : goal.returns-in_err-power-clause-none
-returns-in_err-power-clause-none c =
-    rw c.from_residual.ensures (λ behind t. c.requires.continues (c.in_err-power.ensures.none behind t))
+returns-in_err-power-clause-none c = rw c.from_residual.ensures (λ behind t. c.requires.continues (c.in_err-power.ensures.none behind t))
 
 pub returns-clause-front : goal.returns-clause-front
 returns-clause-front c = λ text m.

@@ -1,7 +1,4 @@
-use Rattle.std.proofs.Common.{◌≡◌, ◌∙◌, ◌*◌, ◌+◌, ◌^◌, inl, inr, take, arith}
-use Rattle.std.specs.Int.Digits.{number_from_digits_after}
-use Rattle.ijson_number.specs.private.Stripped.{digits_from_text}
-use Rattle.std.proofs.lemmas.Bool.{cases_lt}
+use Rattle.ijson_number.proofs.Common.{◌≡◌, ◌∙◌, ◌*◌, ◌+◌, ◌^◌, inl, inr, take, arith, number_from_digits_after, cases_lt, digits_from_text}
 use Rattle.ijson_number.proofs.storing.DigitBounds.{append_step, digits_after}
 use Rattle.ijson_number.proofs.general_reader.append_digits.Goals as goal
 

@@ -1,6 +1,4 @@
-use Rattle.std.proofs.Common.{◌≡◌, take}
-use Rattle.std.specs.Int.Digits.{number_from_digits_after}
-use Rattle.ijson_number.specs.private.Stripped.{digits_from_text}
+use Rattle.ijson_number.proofs.Common.{◌≡◌, take, number_from_digits_after, digits_from_text}
 use Rattle.ijson_number.proofs.general_reader.append_digits.Given as goal
 
 abbrev pub invariant-loop-digit : goal.invariant-loop-digit

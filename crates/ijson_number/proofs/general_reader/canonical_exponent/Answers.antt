@@ -1,34 +1,18 @@
-use Rattle.std.proofs.Common.{◌≡◌, ℕ, ◌^◌, ◌<◌, Bool, true, false, min, length, refl, arith}
-use Rattle.std.specs.Prelude.{ℤ, pos, neg_ℤ, ◌+ℤ◌, ◌-ℤ◌, ◌≤ℤ◌, FitsSigned}
-use Rattle.std.proofs.lemmas.Int.{ints, to_z-of_z}
-use mir.Syntax.{w128}
-use mir.Val.{to_z, of_z}
-use Rattle.ijson_number.specs.private.Reading.{IsWithin}
-use Rattle.ijson_number.specs.Strips.{signed}
-use Rattle.ijson_number.specs.Grammar.{value}
+use Rattle.ijson_number.proofs.Common.{◌≡◌, ℕ, ◌^◌, ◌<◌, Bool, min, length, refl, arith, ℤ, pos, neg_ℤ, ◌+ℤ◌, ◌-ℤ◌, ◌≤ℤ◌, ints}
+use Rattle.ijson_number.proofs.Common.{w128, to_z, of_z, signed, value, IsWithin}
 use Rattle.ijson_number.proofs.parsing.Exponents.{capped_within, w32_within, within_capped}
 use Rattle.ijson_number.proofs.general_reader.canonical_exponent.Goals as goal
 use Rattle.ijson_number.proofs.general_reader.canonical_exponent.Goals.{After-written_exponent}
 use Rattle.ijson_number.proofs.general_reader.canonical_exponent.Goals.{then-exponent-via-then-exponent}
 use Rattle.ijson_number.proofs.general_reader.canonical_exponent.Goals.{then-exponent-via-else-exponent+then-exponent-gt-EXPONENT_LIMIT}
 
-capped_bounds : (negative : Bool) (v : ℕ) (w : ℤ) → w ≡ signed negative (min v (2 ^ 80)) → (neg_ℤ (pos (2 ^ 80)) ≤ℤ w) × (w ≤ℤ pos (2 ^ 80))
-capped_bounds true v w is = (omega (arith, ints), omega (arith, ints))
-capped_bounds false v w is = (omega (arith, ints), omega (arith, ints))
-
 -- no step of the sum overflows 128 bits
 sum_is : (negative : Bool) (v f t : ℕ) (w : ℤ) → f < 2 ^ 64 → t < 2 ^ 65 → w ≡ signed negative (min v (2 ^ 80))
     → to_z w128 (of_z w128 (to_z w128 (of_z w128 w) +ℤ to_z w128 (of_z w128 (to_z w128 t -ℤ to_z w128 f)))) ≡ w +ℤ (pos t -ℤ pos f)
 sum_is negative v f t w few many is =
-    let bounds = capped_bounds negative v w is in
-    let low = bounds.0 in
-    let high = bounds.1 in
-    let x : to_z w128 t ≡ pos t = omega (arith, ints) in
-    let y : to_z w128 f ≡ pos f = omega (arith, ints) in
-    let d : FitsSigned w128 (pos t -ℤ pos f) = omega (arith, ints) in
-    let g : FitsSigned w128 w = omega (arith, ints) in
-    let h : FitsSigned w128 (w +ℤ (pos t -ℤ pos f)) = omega (arith, ints) in
-    rw (x, y, to_z-of_z w128 (pos t -ℤ pos f) d, to_z-of_z w128 w g) (to_z-of_z w128 (w +ℤ (pos t -ℤ pos f)) h)
+    let low : neg_ℤ (pos (2 ^ 80)) ≤ℤ w = grind (arith, ints) in
+    let high : w ≤ℤ pos (2 ^ 80) = grind (arith, ints) in
+    omega (arith, ints)
 
 -- the value of the sum, with the number of fraction digits
 sum_at : (c : After-written_exponent) → let w : ℤ = c.written_exponent.result in

@@ -1,4 +1,4 @@
-use Rattle.std.proofs.Common.{◌∙◌}
+use Rattle.ijson_number.proofs.Common.{◌∙◌}
 use Rattle.ijson_number.proofs.parsing.DigitValues.{capped_step}
 use Rattle.ijson_number.proofs.general_reader.capped.Goals as goal
 

@@ -1,5 +1,4 @@
-use Rattle.std.proofs.Common.{◌≡◌, ◌^◌, min, take}
-use Rattle.ijson_number.specs.Grammar.{value}
+use Rattle.ijson_number.proofs.Common.{◌≡◌, ◌^◌, min, take, value}
 use Rattle.ijson_number.proofs.general_reader.capped.Given as goal
 
 abbrev pub invariant-loop-digit : goal.invariant-loop-digit

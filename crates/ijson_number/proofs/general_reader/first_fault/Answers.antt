@@ -1,4 +1,4 @@
-use Rattle.std.proofs.Common.{◌≡◌, ◌∙◌, false, refl, sym, true}
+use Rattle.ijson_number.proofs.Common.{◌≡◌, ◌∙◌, false, refl, sym, true}
 use Rattle.ijson_number.proofs.parsing.PartsDenote.{parts_spell}
 use Rattle.ijson_number.proofs.general_reader.first_fault.Goals as goal
 

@@ -1,4 +1,4 @@
-use Rattle.std.proofs.Common.{arith}
+use Rattle.ijson_number.proofs.Common.{arith}
 use Rattle.ijson_number.proofs.parsing.OneDivision.{no_rest, no_spelling, no_whole, spelled_from}
 use Rattle.ijson_number.proofs.general_reader.read_spelling.Goals as goal
 

@@ -1,6 +1,4 @@
-use Rattle.std.proofs.Common.{◌≡◌, ◌<◌, get_or, length, true, arith}
-use Rattle.std.specs.Prelude.{not}
-use Rattle.std.proofs.lemmas.Grind.{common_steps}
+use Rattle.ijson_number.proofs.Common.{◌≡◌, ◌<◌, get_or, length, true, arith, not}
 use Rattle.ijson_number.proofs.parsing.NumberTails.{tail_at_point, no_tail_at_point, tail_without_point, no_tail_without_point}
 use Rattle.ijson_number.proofs.general_reader.read_tail.Goals as goal
 use Rattle.ijson_number.proofs.general_reader.read_tail.Goals.{then-bytes-lt1, in-46+else-is_empty, else-bytes-lt1+in_default-1}
@@ -38,7 +36,3 @@ returns-clause-found c =
       | else-bytes-lt1+in_default-1 w ↦
           rw w.fraction-is (tail_without_point bytes _ found.0 c.is_empty-2.result c.is_empty-2.ensures (rw w.rest-is at found.1))
     ]
-
--- given for speed: the default tactics take longer
-pub returns-then-is_empty-clause-none : goal.returns-then-is_empty-clause-none
-returns-then-is_empty-clause-none c = grind (arith, common_steps)

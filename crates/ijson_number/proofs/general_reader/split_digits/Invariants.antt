@@ -1,5 +1,4 @@
-use Rattle.std.proofs.Common.{◌≤◌, ◌-◌, length, take}
-use Rattle.ijson_number.specs.Grammar.{AllDigits}
+use Rattle.ijson_number.proofs.Common.{◌≤◌, ◌-◌, length, take, AllDigits}
 use Rattle.ijson_number.proofs.general_reader.split_digits.Given as goal
 
 abbrev pub invariant-loop-count : goal.invariant-loop-count

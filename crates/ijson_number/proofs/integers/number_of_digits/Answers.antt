@@ -1,5 +1,4 @@
-use Rattle.std.proofs.Common.{◌<◌, ◌^◌, sym, arith}
-use Rattle.std.proofs.lemmas.Int.Digits.{number_more}
+use Rattle.ijson_number.proofs.Common.{◌<◌, ◌^◌, sym, arith, number_more}
 use Rattle.ijson_number.proofs.storing.WholeValues.{number_so_far}
 use Rattle.ijson_number.proofs.integers.number_of_digits.Goals as goal
 

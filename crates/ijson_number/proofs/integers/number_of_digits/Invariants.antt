@@ -1,5 +1,4 @@
-use Rattle.std.proofs.Common.{◌≡◌, take}
-use Rattle.std.specs.Int.Digits.{number_from_digits}
+use Rattle.ijson_number.proofs.Common.{◌≡◌, take, number_from_digits}
 use Rattle.ijson_number.proofs.integers.number_of_digits.Given as goal
 
 abbrev pub invariant-loop-digit : goal.invariant-loop-digit

@@ -1,4 +1,4 @@
-use Rattle.std.proofs.Common.{◌<◌, ◌*◌, ◌^◌, arith}
+use Rattle.ijson_number.proofs.Common.{◌<◌, ◌*◌, ◌^◌, arith}
 use Rattle.ijson_number.proofs.storing.WholeValues.{scaled_small}
 use Rattle.ijson_number.proofs.integers.scaled.Goals as goal
 

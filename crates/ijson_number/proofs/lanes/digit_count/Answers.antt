@@ -1,4 +1,4 @@
-use Rattle.std.proofs.Common.{arith}
+use Rattle.ijson_number.proofs.Common.{arith}
 use Rattle.ijson_number.proofs.parsing.ReadLanes.{count_of_all, count_of_some}
 use Rattle.ijson_number.proofs.lanes.digit_count.Goals as goal
 

@@ -1,4 +1,4 @@
-use Rattle.std.proofs.Common.{◌∙◌}
+use Rattle.ijson_number.proofs.Common.{◌∙◌}
 use Rattle.ijson_number.proofs.writing.WrittenLanes.{lanes_text, pairs, pairs_below, row_text_is}
 use Rattle.ijson_number.proofs.lanes.lanes_of.Goals as goal
 

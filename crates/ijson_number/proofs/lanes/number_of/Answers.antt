@@ -1,5 +1,4 @@
-use Rattle.std.proofs.Common.{ap, ◌∙◌}
-use Rattle.std.specs.Int.Digits.{number_from_digits}
+use Rattle.ijson_number.proofs.Common.{ap, ◌∙◌, number_from_digits}
 use Rattle.ijson_number.proofs.parsing.MovedLanes.{moved_to_end}
 use Rattle.ijson_number.proofs.parsing.ReadLanes.{digit_lanes, length-digit_lanes, moved_below, moved_value}
 use Rattle.ijson_number.proofs.lanes.number_of.Goals as goal
@@ -18,6 +17,5 @@ number_of_lanes-requires-clause-digits c =
 pub returns : goal.returns
 returns c =
     let long = length-digit_lanes c.args.bytes c.requires.all in
-    c.number_of_lanes.ensures
-    ∙ ap (number_from_digits 10) (moved_to_end c.args.count c.requires.few (digit_lanes c.args.bytes) long).1
+    c.number_of_lanes.ensures ∙ ap (number_from_digits 10) (moved_to_end c.args.count c.requires.few (digit_lanes c.args.bytes) long).1
     ∙ moved_value c.args.bytes c.requires.all c.args.count c.requires.digits

@@ -1,5 +1,4 @@
-use Rattle.std.proofs.Common.{◌≡◌, ℕ, ◌+◌, ◌*◌, ◌^◌, ◌<◌, List, length, arith}
-use Rattle.std.specs.Int.Digits.{AllBelowBase, number_from_digits}
+use Rattle.ijson_number.proofs.Common.{◌≡◌, ℕ, ◌+◌, ◌*◌, ◌^◌, ◌<◌, List, length, arith, AllBelowBase, number_from_digits}
 use borrow.Author.Lanes.{dot4_Fits}
 use Rattle.ijson_number.specs.declared.lanes.TheConstants.{HUNDREDS, UNITS}
 use Rattle.ijson_number.proofs.parsing.ReadLanes.{lane, row_is}
@@ -21,16 +20,13 @@ lanes xs a b c d long digits la lb lc ld =
 
 pub overflow_mul-result : goal.overflow_mul-result
 overflow_mul-result c =
-    let r =
-    lanes c.args.digits _ _ _ _ c.requires.all c.requires.digits c.from.ensures c.from-2.ensures c.from-3.ensures c.from-4.ensures in
+    let r = lanes c.args.digits _ _ _ _ c.requires.all c.requires.digits c.from.ensures c.from-2.ensures c.from-3.ensures c.from-4.ensures in
     omega (arith, r.0)
 
 pub overflow_add-result : goal.overflow_add-result
 overflow_add-result c =
-    let r =
-    lanes c.args.digits _ _ _ _ c.requires.all c.requires.digits c.from.ensures c.from-2.ensures c.from-3.ensures c.from-4.ensures in
+    let r = lanes c.args.digits _ _ _ _ c.requires.all c.requires.digits c.from.ensures c.from-2.ensures c.from-3.ensures c.from-4.ensures in
     omega (arith, r.0)
 
 pub returns : goal.returns
-returns c =
-    (lanes c.args.digits _ _ _ _ c.requires.all c.requires.digits c.from.ensures c.from-2.ensures c.from-3.ensures c.from-4.ensures).1
+returns c = (lanes c.args.digits _ _ _ _ c.requires.all c.requires.digits c.from.ensures c.from-2.ensures c.from-3.ensures c.from-4.ensures).1

@@ -1,6 +1,4 @@
-use Rattle.std.proofs.Common.{rules}
-use Rattle.std.specs.String.{string_bytes}
-use Rattle.std.proofs.lemmas.Str.{IsUtf8-from_ascii}
+use Rattle.ijson_number.proofs.Common.{rules, string_bytes, IsUtf8-from_ascii}
 use Rattle.ijson_number.proofs.writing.WrittenLanes.{cut, cut_point}
 use Rattle.ijson_number.proofs.lanes.push_front.Goals as goal
 

@@ -1,7 +1,5 @@
-use Rattle.std.proofs.Common.{◌≡◌, ◌+◌, ◌-◌, ◌≤◌, ◌∷◌, ◌++◌, ℕ, suc, Bool, true, false, ap, drop, replicate, take, arith}
-use Rattle.std.proofs.lemmas.List.{take-replicate}
-use mir.Val.{bool_byte}
-use Rattle.ijson_number.specs.Text.{minus_text, zeros_text}
+use Rattle.ijson_number.proofs.Common.{◌≡◌, ◌+◌, ◌-◌, ◌≤◌, ◌∷◌, ◌++◌, ℕ, suc, Bool, true, false, ap, drop, replicate, take, arith, take-replicate}
+use Rattle.ijson_number.proofs.Common.{bool_byte, minus_text, zeros_text}
 use Rattle.ijson_number.proofs.lanes.push_leading_zeros.Goals as goal
 
 shown : (negative : Bool) (minus zeros : ℕ) → minus ≡ bool_byte negative → zeros ≤ 13

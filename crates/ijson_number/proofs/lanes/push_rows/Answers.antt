@@ -1,9 +1,5 @@
-use Rattle.std.proofs.Common.{◌≡◌, ◌+◌, ◌-◌, ◌≤◌, ◌∙◌, ◌∷◌, ◌++◌, List, ℕ, Bool, drop, length, refl, replicate}
-use Rattle.std.proofs.Common.{take, take_all, length-drop, arith}
-use Rattle.std.proofs.lemmas.Grind.{common_steps}
-use Rattle.std.specs.Str.{IsAscii}
-use mir.Val.{bool_byte}
-use Rattle.ijson_number.specs.Text.{minus_text}
+use Rattle.ijson_number.proofs.Common.{◌≡◌, ◌+◌, ◌-◌, ◌≤◌, ◌∙◌, ◌∷◌, ◌++◌, List, ℕ, Bool, drop, length, refl, replicate, take, take_all, length-drop}
+use Rattle.ijson_number.proofs.Common.{arith, IsAscii, bool_byte, minus_text}
 use Rattle.ijson_number.proofs.writing.RoomTexts.{filled, filled_is, minus_length}
 use Rattle.ijson_number.proofs.writing.WrittenLanes.{IsFront, front_all, front_is}
 use Rattle.ijson_number.proofs.lanes.push_rows.Goals as goal
@@ -22,11 +18,7 @@ rows negative whole fraction start count scale first many more w within f places
     let room = filled_is negative first count scale many more _ _ (is ∙ minus_length negative)
     (front_all whole w.0 start count within w.1, a.ascii) (front_all fraction f.0 (16 - scale) scale behind f.1, b.ascii)
     (omega arith, places) row in
-    record {
-      ascii = room.ascii;
-      within = room.within;
-      shown = room.shown ∙ rw (a.shown, b.shown, last) refl;
-    }
+    record { ascii = room.ascii; within = room.within; shown = room.shown ∙ rw (a.shown, b.shown, last) refl }
 
 pub push_front-requires : goal.push_front-requires
 push_front-requires c =
@@ -50,10 +42,3 @@ returns-clause-written c =
       ← c.copy_from_slice-2.ensures.after,
       ← c.copy_from_slice.ensures.after,
     ) c.push_front.ensures.written
-
--- given for speed: the default tactics take longer
-pub slice_bounds-room-end-2 : goal.slice_bounds-room-end-2
-slice_bounds-room-end-2 c = grind (arith, common_steps)
-
-pub slice_bounds-push_front-end : goal.slice_bounds-push_front-end
-slice_bounds-push_front-end c = grind (arith, common_steps)

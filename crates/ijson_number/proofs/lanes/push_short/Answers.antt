@@ -1,15 +1,7 @@
-use Rattle.std.proofs.Common.{◌≡◌, ◌-◌, ◌*◌, ◌^◌, ◌≤◌, ◌<◌, ◌∙◌, ◌∷◌, ◌++◌, Bool, true, false, List, ℕ, ap, drop}
-use Rattle.std.proofs.Common.{length, take, length-append, length-drop, replicate, arith}
-use Rattle.std.specs.Fmt.{decimal}
-use Rattle.std.specs.Str.{IsAscii}
-use Rattle.std.proofs.lemmas.List.{length-replicate}
-use Rattle.std.proofs.lemmas.Simd.{length-zip2}
-use Rattle.std.proofs.lemmas.Str.{IsAscii-append}
-use lib.Lanes.{zip2}
-use mir.Val.{bool_byte}
-use Rattle.ijson_number.specs.Text.{minus_text}
+use Rattle.ijson_number.proofs.Common.{◌≡◌, ◌-◌, ◌*◌, ◌^◌, ◌≤◌, ◌<◌, ◌∙◌, ◌∷◌, ◌++◌, Bool, List, ℕ, ap, drop, length, take, length-append}
+use Rattle.ijson_number.proofs.Common.{length-drop, replicate, arith, decimal, IsAscii, length-replicate, length-zip2, IsAscii-append, zip2}
+use Rattle.ijson_number.proofs.Common.{bool_byte, minus_text, IsZerosInFront}
 use Rattle.ijson_number.specs.private.WordText.{last_digits}
-use Rattle.ijson_number.specs.private.ZerosInFront.{IsZerosInFront}
 use Rattle.ijson_number.proofs.writing.AsciiTexts.{digits_ascii, sign_ascii}
 use Rattle.ijson_number.proofs.writing.LastDigits.{number_behind, some_zeros, zero_before}
 use Rattle.ijson_number.proofs.writing.PaddedDigits.{last_count}
@@ -38,12 +30,7 @@ signed n small lanes is zeros counted negative one minus is_one is_minus =
     let start : zeros - one ≡ zeros - bool_byte negative = ap (λ m. zeros - m) is_one in
     let row = signed_row lanes long ascii zeros some zero negative (zeros - one) minus start is_minus in
     let front : List ℕ = drop (zeros - one) lanes ++ replicate (zeros - one) 0 in
-    let front_long : length front ≡ 16 = omega (
-      arith,
-      length-append (drop (zeros - one) lanes) (replicate (zeros - one) 0),
-      length-drop (zeros - one) lanes,
-      length-replicate {A = ℕ} (zeros - one) 0,
-    ) in
+    let front_long : length front ≡ 16 = simp (length-append, length-drop, length-replicate) (omega arith) in
     record {
       all = length-zip2 less front (3 * minus ∷ replicate 15 0) front_long ∙ front_long;
       ascii = rw row (IsAscii-append (minus_text negative) _ (sign_ascii negative)
@@ -59,10 +46,6 @@ shown c =
     rw c.front_of.ensures (signed c.args.number c.requires lanes.result lanes.ensures c.zeros_in_front.result c.zeros_in_front.ensures
     c.args.negative c.from.result c.from-2.result c.from.ensures c.from-2.ensures)
 
-one_at_most : (negative : Bool) → bool_byte negative ≤ 1
-one_at_most true = omega arith
-one_at_most false = omega arith
-
 pub overflow_sub-start : goal.overflow_sub-start
 overflow_sub-start c =
     let lanes = c.lanes_of-lanes in
@@ -71,7 +54,7 @@ overflow_sub-start c =
       arith,
       some_zeros c.args.number c.requires lanes.result lanes.ensures zeros.result zeros.ensures,
       c.from.ensures,
-      one_at_most c.args.negative,
+      (let one : bool_byte c.args.negative ≤ 1 = grind arith in one),
     )
 
 pub push_lanes-requires-clause-all : goal.push_lanes-requires-clause-all

@@ -6,7 +6,7 @@ use Rattle.ijson_convert.proofs.integers_from.I8FromIValue.from_ivalue.Goals as 
 
 pub returns-in-Ok : goal.returns-in-Ok
 returns-in-Ok c =
-    let read = read_back c.in-Some.z c.in-Ok.z c.args.value.now.tree c.in-Some.ensures.some (search rules) c.in-Ok.ensures.1 in
+    let read = read_back c.in-Some.z c.in-Ok.z c.args.value.now.tree c.in-Some.ensures.some (search rules) (search rules) in
     signed_found w8 wide_8 c.in-Ok.z c.args.value.now.tree read (search rules)
 
 pub returns-in-Err-clause-refused : goal.returns-in-Err-clause-refused

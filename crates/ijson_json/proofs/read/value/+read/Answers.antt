@@ -207,7 +207,7 @@ read_object-loop-key-init g t c = record {
 pub read_object-returns-in_err-key : goal.read_object-returns-in_err-key
 read_object-returns-in_err-key g t c =
     let i = c.loop-key.invariant.read in
-    refused c.in_err-key.field-0.0 c.from_residual.ensures.1 (gathered_adds i c.read_key.ensures.cache)
+    refused c.in_err-key.field-0.0 c.from_residual.ensures.1 (gathered_adds i (search rules))
     (element_fault (List ℕ × Tree) members_shape objects c.args.opened (123 ∷ c.args.inside.now) c.loop-key.rest.now
     i.written c.in_err-key.field-0.0 i.reached (c.in_err-key.ensures.answer (c.args.opened + 1)))
 
@@ -216,8 +216,9 @@ read_object-returns-in-Err g t c =
     let i = c.loop-key.invariant.read in
     let key = c.in_ok-key.ensures.answer.read in
     let fault = c.in-Err.fault in
+    let cached : AddsOnlyRead c.loop-key.rest.now c.loop-key.cache c.read_key.new.cache = search rules in
     record {
-      cache = gathered_adds i (adds_behind_key key c.read_key.ensures.cache (search rules));
+      cache = gathered_adds i (adds_behind_key key cached (search rules));
       answer = element_fault (List ℕ × Tree) members_shape objects c.args.opened (123 ∷ c.args.inside.now) c.loop-key.rest.now
           i.written fault i.reached (member_fault (c.args.opened + 1) fault key (search rules));
     }
@@ -228,7 +229,7 @@ read_object-returns-in_err-next g t c =
     let key = c.in_ok-key.ensures.answer.read in
     let value = c.in-Ok.ensures.answer.read in
     refused c.in_err-next.field-0.0 c.from_residual-in_err-next.ensures.1
-    (gathered_adds i (adds_behind_key key c.read_key.ensures.cache c.read_value.ensures.cache))
+    (gathered_adds i (adds_behind_key key (search rules) c.read_value.ensures.cache))
     (push_fault (List ℕ × Tree) members_shape objects c.args.opened (123 ∷ c.args.inside.now) c.loop-key.rest.now
     c.in-Ok.after.now i.written (c.in_ok-key.key, value.0) c.in_err-next.field-0.0 i.reached
     (member_read key value.1) c.in_err-next.ensures.fault)
@@ -244,7 +245,7 @@ read_object-loop-key-preserved g t c =
       read = gathered_more c.loop-key.invariant.read (name, c.in-Ok.value) (name, value.0) c.in-Ok.after.now c.in-Comma.next.now
           c.read_value.new.scratch.members.items c.push_read.new.stack.items c.read_value.new.cache
           (member_read key.read value.1) (refl, value.2) comma found.members c.in_ok-next.ensures.pushed
-          (adds_behind_key key.read c.read_key.ensures.cache c.read_value.ensures.cache) (
+          (adds_behind_key key.read (search rules) c.read_value.ensures.cache) (
             shared_more c.in_ok-key.start.now c.read_key.new.cache c.read_value.new.cache name c.read_value.ensures.cache key.shared,
             found.shared,
           );
@@ -255,7 +256,7 @@ read_object-loop-key-preserved g t c =
 pub read_object-returns-in_err-object-in-End : goal.read_object-returns-in_err-object-in-End
 read_object-returns-in_err-object-in-End g t c =
     refused Memory c.from_residual-in_err-object-in-End.ensures.1 (gathered_adds c.loop-key.invariant.read
-    (adds_behind_key c.in_ok-key.ensures.answer.read c.read_key.ensures.cache c.read_value.ensures.cache)) tt
+    (adds_behind_key c.in_ok-key.ensures.answer.read (search rules) c.read_value.ensures.cache)) tt
 
 pub read_object-returns-in-End : goal.read_object-returns-in-End
 read_object-returns-in-End g t c =
@@ -265,7 +266,7 @@ read_object-returns-in-End g t c =
     let value = found.read in
     let name = c.in_ok-key.key in
     let end = subst (λ (s : Delimiter). DelimiterAt 125 c.in-Ok.after.now s) c.in-End.is c.in_ok-next.ensures.delimiter in
-    let adds = adds_behind_key key.read c.read_key.ensures.cache c.read_value.ensures.cache in
+    let adds = adds_behind_key key.read (search rules) c.read_value.ensures.cache in
     let pushed = c.push_read.new.stack.items in
     let base = c.len-base.ensures ∙ c.args.scratch.now.members.ok.0 in
     let taken = gathered_taken i (name, c.in-Ok.value) c.read_value.new.scratch.members.items pushed _ c.len-base.result found.members

@@ -1,12 +1,5 @@
-use Rattle.std.proofs.Common.{◌∙◌, ap, sym, rules}
-use Rattle.std.specs.Prelude.{pos, FitsSigned}
-use Rattle.std.specs.Ordering.{int_cmp}
-use Rattle.std.proofs.lemmas.Int.{to_z-of_z}
-use mir.Syntax.{w64}
-use Rattle.ijson_number.specs.Decimal.{Decimal}
-use Rattle.ijson_number.specs.Num.{Num}
-use Rattle.ijson_number.specs.private.Stored.{stored_decimal}
-use Rattle.ijson_number.specs.private.Word.{word_exponent, word_mantissa, word_point}
+use Rattle.ijson_number.proofs.Common.{◌∙◌, ap, sym, rules, pos, FitsSigned, int_cmp, to_z-of_z, w64, Decimal, Num, stored_decimal, word_exponent}
+use Rattle.ijson_number.proofs.Common.{word_mantissa, word_point}
 use Rattle.ijson_number.proofs.comparing.SignOrder.{stripped_sign}
 use Rattle.ijson_number.proofs.storing.IntegerWords.{signed_small}
 use Rattle.ijson_number.proofs.comparison.INumberDigitRow.sign.Goals as goal

@@ -1,4 +1,4 @@
-use Rattle.std.proofs.Common.{refl}
+use Rattle.ijson_number.proofs.Common.{refl}
 use Rattle.ijson_number.proofs.comparing.DigitOrder.{row_is}
 use Rattle.ijson_number.proofs.comparison.StrippedNumberDigitRow.digit.Goals as goal
 

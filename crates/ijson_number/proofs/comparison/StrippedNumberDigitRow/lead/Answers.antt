@@ -1,7 +1,4 @@
-use Rattle.std.proofs.Common.{arith, rules}
-use Rattle.std.specs.Prelude.{FitsSigned}
-use Rattle.std.proofs.lemmas.Int.{ints}
-use mir.Syntax.{w32}
+use Rattle.ijson_number.proofs.Common.{arith, rules, FitsSigned, ints, w32}
 use Rattle.ijson_number.proofs.comparing.DigitOrder.{row_is}
 use Rattle.ijson_number.proofs.comparison.StrippedNumberDigitRow.lead.Goals as goal
 

@@ -1,5 +1,4 @@
-use Rattle.std.proofs.lemmas.Grind.{common_steps}
-use Rattle.std.proofs.Common.{◌<◌, sym, length, arith}
+use Rattle.ijson_number.proofs.Common.{◌<◌, sym, length, arith}
 use Rattle.ijson_number.proofs.comparing.SignOrder.{sign_below, sign_above}
 use Rattle.ijson_number.proofs.comparison.StrippedNumberDigitRow.sign.Goals as goal
 
@@ -14,6 +13,3 @@ returns-else-self c =
     let n = c.args.self.now in
     let some : 0 < length n.digits.now = grind arith in
     sym (sign_above n.negative n.digits.now c.if-self.false n.stripped some)
-
-pub returns-then-is_empty : goal.returns-then-is_empty
-returns-then-is_empty c = grind (arith, common_steps)

@@ -1,12 +1,5 @@
-use Rattle.std.proofs.Common.{◌≡◌, ◌∙◌, ap, refl, rules, arith}
-use Rattle.std.specs.Prelude.{FitsSigned}
-use Rattle.std.specs.Int.Digits.{number_from_digits, number_from_digits_after}
-use Rattle.std.proofs.lemmas.Int.{to_z-of_z}
-use mir.Syntax.{w32}
-use Rattle.ijson_number.specs.Grammar.{value}
-use Rattle.ijson_number.specs.laws.Tens.{abs_signed}
-use Rattle.ijson_number.specs.private.CanonicalSpelling.{spelled_digits}
-use Rattle.ijson_number.specs.private.Stripped.{digits_from_text}
+use Rattle.ijson_number.proofs.Common.{◌≡◌, ◌∙◌, ap, refl, rules, arith, number_from_digits, number_from_digits_after, to_z-of_z, w32, value}
+use Rattle.ijson_number.proofs.Common.{abs_signed, spelled_digits, digits_from_text}
 use Rattle.ijson_number.proofs.storing.DigitBounds.{joined_value, no_less}
 use Rattle.ijson_number.proofs.general_reader.CanonicalSpelling.significand.Goals as goal
 
@@ -26,7 +19,6 @@ returns-in_err-magnitude-clause-none c =
 pub returns-clause-some : goal.returns-clause-some
 returns-clause-some c =
     let s = c.args.self.now in
-    let fits : FitsSigned w32 s.exponent = search rules in
     let made : c.in_ok-magnitude.magnitude ≡ number_from_digits 10 (spelled_digits s) = c.in_ok-magnitude.ensures.some
     ∙ ap (λ n. number_from_digits_after 10 n (digits_from_text s.back.now)) c.in_ok-front.ensures.some ∙ joined_value s.front.now s.back.now in
-    rw (to_z-of_z w32 s.exponent fits, made) refl
+    rw (to_z-of_z w32 s.exponent (search rules), made) refl

@@ -1,5 +1,4 @@
-use Rattle.std.proofs.Common.{◌≡◌, ◌∙◌, ◌+◌, ◌-◌, ◌<◌, ◌++◌, length, arith, length-append}
-use Rattle.ijson_number.specs.private.CanonicalSpelling.{parts_of}
+use Rattle.ijson_number.proofs.Common.{◌≡◌, ◌∙◌, ◌+◌, ◌-◌, ◌<◌, ◌++◌, length, arith, length-append, parts_of}
 use Rattle.ijson_number.proofs.parsing.Exponents.{w32_within}
 use Rattle.ijson_number.proofs.parsing.CanonicalSpellings.{ZerosTaken, denotes_number, denotes_nought, is_num, stores_number}
 use Rattle.ijson_number.proofs.parsing.CanonicalSpellings.{past_limit, digits_front, digits_back}

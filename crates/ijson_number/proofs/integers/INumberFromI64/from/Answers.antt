@@ -1,7 +1,4 @@
-use Rattle.std.proofs.Common.{rules}
-use Rattle.std.specs.Prelude.{FitsSigned}
-use Rattle.std.proofs.lemmas.Int.{to_z-of_z}
-use mir.Syntax.{w64}
+use Rattle.ijson_number.proofs.Common.{rules, FitsSigned, to_z-of_z, w64}
 use Rattle.ijson_number.proofs.storing.IntegerWords.{word_num, word_form, word_integer, signed_small, signed_known}
 use Rattle.ijson_number.proofs.integers.INumberFromI64.from.Goals as goal
 

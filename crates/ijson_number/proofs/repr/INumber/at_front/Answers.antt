@@ -1,6 +1,4 @@
-use Rattle.std.proofs.Common.{sym, subst, take}
-use Rattle.ijson_number.specs.Grammar.{Spells}
-use Rattle.ijson_number.specs.private.Significand.{IsFront, significand_number}
+use Rattle.ijson_number.proofs.Common.{sym, subst, take, Spells, IsFront, significand_number}
 use Rattle.ijson_number.proofs.storing.FormNumbers.{form_has, stored_num, stored_form_of}
 use Rattle.ijson_number.proofs.repr.INumber.at_front.Goals as goal
 

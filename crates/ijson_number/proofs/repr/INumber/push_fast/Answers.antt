@@ -1,20 +1,9 @@
-use Rattle.std.proofs.Common.{◌≡◌, ◌^◌, ◌<◌, ◌∙◌, false, true, length, inl, inr, ap, sym, rules, arith}
-use Rattle.std.specs.Prelude.{nat_abs, FitsSigned}
-use Rattle.std.proofs.lemmas.Int.{to_z-of_z}
-use mir.Syntax.{w64}
-use Rattle.ijson_number.specs.Decimal.{Decimal}
-use Rattle.ijson_number.specs.Form.{form_of, is_digits}
-use Rattle.ijson_number.specs.FormNumber.{form_number}
-use Rattle.ijson_number.specs.Num.{Num}
-use Rattle.ijson_number.specs.StoredNumber.{stored_number}
-use Rattle.ijson_number.specs.StrippedDigits.{stripped_digits}
+use Rattle.ijson_number.proofs.Common.{◌≡◌, ◌^◌, ◌<◌, ◌∙◌, false, true, length, inl, inr, ap, sym, rules, arith, nat_abs, FitsSigned, to_z-of_z, w64}
+use Rattle.ijson_number.proofs.Common.{Decimal, form_of, is_digits, form_number, Num, stored_number, stripped_digits, num_text, short_form}
+use Rattle.ijson_number.proofs.Common.{stored_decimal, stored_form, decimal_of, integer_text}
 use Rattle.ijson_number.specs.declared.repr.stored.ShortNumber.{ShortNumber}
 use Rattle.ijson_number.specs.private.RowText.{IsRowText, IsShortInRows}
 use Rattle.ijson_number.specs.private.ShortDigits.{short_digits}
-use Rattle.ijson_number.specs.private.Stored.{short_form, stored_decimal, stored_form}
-use Rattle.ijson_number.specs.private.StrippedNumber.{decimal_of}
-use Rattle.ijson_number.specs.private.WordText.{integer_text}
-use Rattle.ijson_number.specs.Text.{num_text}
 use Rattle.ijson_number.proofs.comparing.DigitOrder.{row_digits}
 use Rattle.ijson_number.proofs.storing.DigitsOf.{stored_digits_are}
 use Rattle.ijson_number.proofs.writing.WordTexts.{integer_shown, packed_integer, unsigned_shown}
@@ -22,10 +11,7 @@ use Rattle.ijson_number.proofs.repr.INumber.push_fast.Goals as goal
 use Rattle.ijson_number.proofs.repr.INumber.push_fast.Goals.{After-push_integer, in-I64, in-Packed+else-point, in-U64}
 
 pub push_pointed-requires-clause-small : goal.push_pointed-requires-clause-small
-push_pointed-requires-clause-small c =
-    let m = c.mantissa-mantissa in
-    let fits : FitsSigned w64 m.result = search rules in
-    rw (to_z-of_z w64 m.result fits) m.ensures.small
+push_pointed-requires-clause-small c = let m = c.mantissa-mantissa in rw (to_z-of_z w64 m.result (search rules)) m.ensures.small
 
 pub push_digits-requires-clause-lanes : goal.push_digits-requires-clause-lanes
 push_digits-requires-clause-lanes c =

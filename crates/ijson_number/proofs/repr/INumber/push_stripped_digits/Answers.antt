@@ -1,9 +1,6 @@
-use Rattle.std.proofs.Common.{◌∙◌, ap, sym, rules}
-use Rattle.ijson_number.specs.Num.{Num}
+use Rattle.ijson_number.proofs.Common.{◌∙◌, ap, sym, rules, Num, form_number, long_form, short_form, stored_decimal}
 use Rattle.ijson_number.specs.declared.repr.stored.LongNumber.{LongNumber}
 use Rattle.ijson_number.specs.declared.repr.stored.ShortNumber.{ShortNumber}
-use Rattle.ijson_number.specs.FormNumber.{form_number}
-use Rattle.ijson_number.specs.private.Stored.{long_form, short_form, stored_decimal}
 use Rattle.ijson_number.proofs.comparing.DigitOrder.{row_digits}
 use Rattle.ijson_number.proofs.repr.INumber.push_stripped_digits.Goals as goal
 

@@ -1,12 +1,9 @@
-use Rattle.std.proofs.Common.{arith}
-use Rattle.std.proofs.lemmas.Int.{ints}
-use mir.Syntax.{w64}
+use Rattle.ijson_number.proofs.Common.{arith, ints, w64}
 use Rattle.ijson_number.proofs.Conversions.{none_signed, signed}
 use Rattle.ijson_number.proofs.repr.INumber.to_i64.Goals as goal
 
 pub returns-in_err-whole : goal.returns-in_err-whole
-returns-in_err-whole c =
-    none_signed w64 c.args.self.now.decimal (λ z f. omega (arith, ints)) c.in_err-whole.ensures.none c.from_residual.ensures
+returns-in_err-whole c = none_signed w64 c.args.self.now.decimal (λ z f. omega (arith, ints)) c.in_err-whole.ensures.none c.from_residual.ensures
 
 pub returns : goal.returns
 returns c = signed w64 c.in_ok-whole.field-0 c.try_from.result c.args.self.now.is_num.plain c.in_ok-whole.ensures.some

@@ -1,5 +1,4 @@
-use Rattle.std.proofs.Common.{arith}
-use mir.Syntax.{w64}
+use Rattle.ijson_number.proofs.Common.{arith, w64}
 use Rattle.ijson_number.proofs.Conversions.{none_unsigned, unsigned}
 use Rattle.ijson_number.proofs.repr.INumber.to_u64.Goals as goal
 

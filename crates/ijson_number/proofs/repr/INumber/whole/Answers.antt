@@ -1,12 +1,9 @@
-use Rattle.std.proofs.Common.{subst}
-use Rattle.std.specs.Prelude.{ℤ, ◌<◌, ◌^◌, nat_abs, IfSome, IfNone}
-use Rattle.ijson_number.specs.Decimal.{Decimal}
-use Rattle.ijson_number.specs.Integers.{HasValue}
+use Rattle.ijson_number.proofs.Common.{subst, ℤ, ◌<◌, ◌^◌, nat_abs, IfSome, IfNone, Decimal, HasValue}
 use Rattle.ijson_number.proofs.repr.INumber.whole.Goals as goal
 
-pub returns-clause-some : goal.returns-clause-some
-returns-clause-some c = subst (λ (n : Decimal). IfSome c.whole.result (λ z. HasValue n z)) c.stripped.ensures c.whole.ensures.some
-
-pub returns-clause-none : goal.returns-clause-none
-returns-clause-none c = subst
-    (λ (n : Decimal). IfNone c.whole.result ((z : ℤ) → nat_abs z < 10 ^ 20 → HasValue n z → ⊥)) c.stripped.ensures c.whole.ensures.none
+pub returns : goal.returns
+returns c =
+    let r = c.whole.result in
+    let none = λ (n : Decimal). IfNone r ((z : ℤ) → nat_abs z < 10 ^ 20 → HasValue n z → ⊥) in
+    subst (λ (n : Decimal). record { some : IfSome r (λ z. HasValue n z); small : IfSome r (λ z. nat_abs z < 10 ^ 20); none : none n })
+    c.stripped.ensures c.whole.ensures

@@ -1,5 +1,4 @@
-use Rattle.std.proofs.Common.{◌≡◌, ◌++◌, take}
-use Rattle.ijson_number.specs.private.Stripped.{digits_from_text}
+use Rattle.ijson_number.proofs.Common.{◌≡◌, ◌++◌, take, digits_from_text}
 use Rattle.ijson_number.proofs.repr.digits.push_values.Given as goal
 
 abbrev pub invariant-loop-byte : goal.invariant-loop-byte

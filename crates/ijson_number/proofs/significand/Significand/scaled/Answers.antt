@@ -1,6 +1,4 @@
-use Rattle.std.proofs.Common.{◌*◌, ◌^◌, ◌≤◌, arith}
-use Rattle.std.proofs.Math.Nat.{mul-le-mul_right}
-use Rattle.ijson_number.specs.laws.Tens.{power_le}
+use Rattle.ijson_number.proofs.Common.{◌*◌, ◌^◌, ◌≤◌, arith, mul-le-mul_right, power_le}
 use Rattle.ijson_number.proofs.significand.Significand.scaled.Goals as goal
 
 pub returns-then-zeros-gt19-clause-none : goal.returns-then-zeros-gt19-clause-none

@@ -1,5 +1,4 @@
-use Rattle.std.proofs.Common.{◌≡◌, ◌⊎◌, ◌*◌, ◌^◌, ℕ}
-use Rattle.std.specs.Prelude.{nat_abs, pos, ◌+ℤ◌, ◌-ℤ◌, ◌≤ℤ◌}
+use Rattle.ijson_number.proofs.Common.{◌≡◌, ◌⊎◌, ◌*◌, ◌^◌, ℕ, nat_abs, pos, ◌+ℤ◌, ◌-ℤ◌, ◌≤ℤ◌}
 use Rattle.ijson_number.proofs.significand.Significand.strip_trailing_zeros.Given as goal
 
 -- the zeros stripped so far

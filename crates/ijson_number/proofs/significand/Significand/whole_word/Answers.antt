@@ -1,9 +1,4 @@
-use Rattle.std.proofs.Common.{◌≡◌, ◌∙◌, sym, refl, rules, arith}
-use Rattle.std.specs.Prelude.{pos, FitsSigned}
-use Rattle.std.proofs.lemmas.Int.{ints, to_z-of_z}
-use mir.Syntax.{w8, w32, w64}
-use mir.Val.{to_z}
-use Rattle.ijson_number.specs.private.Significand.{canonical_number}
+use Rattle.ijson_number.proofs.Common.{◌≡◌, ◌∙◌, sym, refl, rules, arith, pos, FitsSigned, ints, to_z-of_z, w8, w32, w64, to_z, canonical_number}
 use Rattle.ijson_number.proofs.storing.FormCases.{packed_is, packed_here, too_large_here, past_exponent}
 use Rattle.ijson_number.proofs.significand.Significand.whole_word.Goals as goal
 use Rattle.ijson_number.proofs.significand.Significand.whole_word.Goals.{then-exponent-zeros+in_default, else-exponent-zeros}
@@ -15,10 +10,9 @@ returns-in-Some-clause-word c =
     let below = c.loop-exponent-test.true in
     let fits : FitsSigned w32 n.exponent = search rules in
     let m = c.in-Some.mantissa in
-    let mantissa_fits : FitsSigned w64 m = search rules in
     let exact : to_z w8 k ≡ pos k = omega (arith, ints) in
     let e = c.pointed.ensures in
-    packed_is _ m _ (pos k) _ _ (rw (to_z-of_z w64 m mantissa_fits) at e.mantissa) (e.exponent ∙ exact) e.point
+    packed_is _ m _ (pos k) _ _ (rw (to_z-of_z w64 m (search rules)) at e.mantissa) (e.exponent ∙ exact) e.point
     ∙ sym (packed_here (canonical_number n) k c.requires.whole c.loop-exponent.invariant below m
     (omega (arith, rw (to_z-of_z w32 n.exponent fits) at c.if-exponent-zeros.true))
     (rw (to_z-of_z w32 n.exponent fits) at c.in-Some.ensures.some) c.in-Some.ensures.fits)

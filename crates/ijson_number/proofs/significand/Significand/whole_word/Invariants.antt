@@ -1,6 +1,4 @@
-use Rattle.std.proofs.Common.{◌≡◌, ◌-◌}
-use Rattle.ijson_number.specs.Form.{form_of, smallest_packed}
-use Rattle.ijson_number.specs.private.Significand.{canonical_number}
+use Rattle.ijson_number.proofs.Common.{◌≡◌, ◌-◌, form_of, smallest_packed, canonical_number}
 use Rattle.ijson_number.proofs.significand.Significand.whole_word.Given as goal
 
 -- no smaller exponent fits

@@ -1,7 +1,4 @@
-use Rattle.std.proofs.Common.{◌≡◌, ◌∙◌, ap, sym, take, length, arith}
-use Rattle.std.proofs.lemmas.List.{take_all}
-use Rattle.std.proofs.lemmas.Str.{IsUtf8-from_ascii}
-use Rattle.ijson_number.specs.Text.{digits_text}
+use Rattle.ijson_number.proofs.Common.{◌≡◌, ◌∙◌, ap, sym, take, length, arith, take_all, IsUtf8-from_ascii, digits_text}
 use Rattle.ijson_number.proofs.writing.AsciiTexts.{digits_text_ascii}
 use Rattle.ijson_number.proofs.write.display.run_text.Goals as goal
 

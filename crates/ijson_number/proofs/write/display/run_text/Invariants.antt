@@ -1,5 +1,4 @@
-use Rattle.std.proofs.Common.{◌≡◌, take}
-use Rattle.ijson_number.specs.Text.{digits_text}
+use Rattle.ijson_number.proofs.Common.{◌≡◌, take, digits_text}
 use Rattle.ijson_number.proofs.write.display.run_text.Given as goal
 
 abbrev pub invariant-loop-at : goal.invariant-loop-at

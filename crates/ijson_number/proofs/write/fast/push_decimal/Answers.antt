@@ -1,10 +1,6 @@
-use Rattle.std.proofs.Common.{◌≡◌, ◌/◌, ◌%◌, ◌^◌, ◌∷◌, ◌++◌, ◌-◌, ◌<◌, ◌≤◌, ℕ, Bool, List, drop, length, min, take, append_assoc, refl, arith}
-use Rattle.std.proofs.lemmas.Str.{IsAscii-drop}
-use Rattle.std.specs.Fmt.{decimal}
-use Rattle.std.specs.Str.{IsAscii}
-use Rattle.std.specs.String.{string_bytes}
-use Rattle.ijson_number.specs.Text.{minus_text}
-use Rattle.ijson_number.specs.private.WordText.{last_digits, pointed_text}
+use Rattle.ijson_number.proofs.Common.{◌≡◌, ◌/◌, ◌%◌, ◌^◌, ◌∷◌, ◌++◌, ◌-◌, ◌<◌, ◌≤◌, ℕ, Bool, List, drop, length, min, take, append_assoc, refl}
+use Rattle.ijson_number.proofs.Common.{arith, IsAscii-drop, decimal, IsAscii, string_bytes, minus_text, pointed_text}
+use Rattle.ijson_number.specs.private.WordText.{last_digits}
 use Rattle.ijson_number.proofs.writing.Beginnings.{all_or_none, failed, last_append, none_begun}
 use Rattle.ijson_number.proofs.writing.LastDigits.{behind_point, but_first, front_is, wide_rest, wide_whole}
 use Rattle.ijson_number.proofs.writing.AsciiTexts.{digits_ascii}
@@ -54,8 +50,7 @@ push_rows-requires-2-clause-fraction c =
     part (c.args.magnitude % 10 ^ 15) (16 - c.args.scale) c.lanes_of-lanes-2.result c.lanes_of-lanes-2.ensures
 
 pub returns-in_err-push_short : goal.returns-in_err-push_short
-returns-in_err-push_short c =
-    failed _ _ _ _ c.from_residual.ensures.0 (none_begun _ _ _ c.in_err-push_short.ensures.refused)
+returns-in_err-push_short c = failed _ _ _ _ c.from_residual.ensures.0 (none_begun _ _ _ c.in_err-push_short.ensures.refused)
 
 pub returns : goal.returns
 returns c =

@@ -1,8 +1,5 @@
-use Rattle.std.proofs.Common.{◌≡◌, ◌/◌, ◌%◌, ◌^◌, ◌<◌, ◌≤◌, ◌∙◌, ◌++◌, List, ℕ, append_assoc, drop, refl, take, take_all, arith}
-use Rattle.std.specs.Fmt.{decimal}
-use Rattle.std.specs.String.{string_bytes}
-use Rattle.std.proofs.lemmas.Str.{IsAscii-drop}
-use Rattle.ijson_number.specs.Text.{minus_text}
+use Rattle.ijson_number.proofs.Common.{◌≡◌, ◌/◌, ◌%◌, ◌^◌, ◌<◌, ◌≤◌, ◌∙◌, ◌++◌, List, ℕ, append_assoc, drop, refl, take, take_all, arith, decimal}
+use Rattle.ijson_number.proofs.Common.{string_bytes, IsAscii-drop, minus_text}
 use Rattle.ijson_number.specs.private.WordText.{last_digits}
 use Rattle.ijson_number.proofs.writing.AsciiTexts.{digits_ascii}
 use Rattle.ijson_number.proofs.writing.Beginnings.{all_or_none, failed, last_append, none_begun}
@@ -51,8 +48,7 @@ returns-then-magnitude-lt-LANES_END c =
     c.in_ok-push_minus.ensures.written (all_or_none _ _ _ _ c.push_lanes.ensures.written c.push_lanes.ensures.refused) (rw row refl)
 
 pub returns-in_err-push_short : goal.returns-in_err-push_short
-returns-in_err-push_short c =
-    failed _ _ _ _ c.from_residual-in_err-push_short.ensures.0 (none_begun _ _ _ c.in_err-push_short.ensures.refused)
+returns-in_err-push_short c = failed _ _ _ _ c.from_residual-in_err-push_short.ensures.0 (none_begun _ _ _ c.in_err-push_short.ensures.refused)
 
 pub returns : goal.returns
 returns c =

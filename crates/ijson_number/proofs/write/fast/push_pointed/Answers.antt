@@ -1,8 +1,4 @@
-use Rattle.std.proofs.Common.{◌≡◌, ◌∙◌, ◌*◌, ap, sym, refl, arith, rules}
-use Rattle.std.specs.Prelude.{pos, nat_abs, ◌<ℤ◌}
-use Rattle.std.proofs.lemmas.Int.{to_z-of_z}
-use mir.Syntax.{w8, w64}
-use mir.Val.{of_z, to_z}
+use Rattle.ijson_number.proofs.Common.{◌≡◌, ◌∙◌, ◌*◌, ap, sym, refl, arith, rules, pos, nat_abs, ◌<ℤ◌, to_z-of_z, w8, w64, of_z, to_z}
 use Rattle.ijson_number.proofs.writing.FractionTexts.{below_point, exponent_small, fraction_shown, many_places}
 use Rattle.ijson_number.proofs.writing.WordTexts.{whole_shown}
 use Rattle.ijson_number.proofs.write.fast.push_pointed.Goals as goal

@@ -1,7 +1,5 @@
-use Rattle.std.proofs.Common.{◌∙◌, ap}
-use Rattle.ijson_number.specs.Num.{Num}
+use Rattle.ijson_number.proofs.Common.{◌∙◌, ap, Num, form_number}
 use Rattle.ijson_number.specs.laws.Codes.{num_same}
-use Rattle.ijson_number.specs.FormNumber.{form_number}
 use Rattle.ijson_number.proofs.number.clone.INumberClone.clone.Goals as goal
 
 pub returns : goal.returns

@@ -1,5 +1,4 @@
-use Rattle.std.proofs.Common.{ap}
-use Rattle.ijson_number.specs.private.Stored.{short_form}
+use Rattle.ijson_number.proofs.Common.{ap, short_form}
 use Rattle.ijson_number.proofs.number.clone.StoredClone.clone.Goals as goal
 
 pub returns-in_ok-number-in-Short : goal.returns-in_ok-number-in-Short

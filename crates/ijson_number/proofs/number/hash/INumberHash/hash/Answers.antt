@@ -1,16 +1,10 @@
-use Rattle.std.proofs.Common.{◌≡◌, ◌<◌, ◌+◌, Bool, true, false, length, refl, arith, rules}
-use Rattle.std.specs.Prelude.{ℤ, pos, nat_abs, ◌+ℤ◌, FitsSigned, if◌then◌else◌}
-use Rattle.std.proofs.lemmas.Grind.{common_steps, flat_map-append, fold-append}
-use Rattle.std.proofs.lemmas.List.{take_all}
-use Rattle.std.proofs.lemmas.Int.{ints}
-use mir.Syntax.{w32, w64}
-use mir.Val.{bool_byte, of_z, to_z}
+use Rattle.ijson_number.proofs.Common.{◌≡◌, ◌<◌, ◌+◌, Bool, length, arith, rules, ℤ, pos, nat_abs, ◌+ℤ◌, FitsSigned, if◌then◌else◌}
+use Rattle.ijson_number.proofs.Common.{common_steps, flat_map-append, fold-append, take_all, ints, w32, w64, bool_byte, of_z, to_z}
 use Rattle.ijson_number.proofs.StoredWords.{zero_words, stored_words}
 use Rattle.ijson_number.proofs.number.hash.INumberHash.hash.Goals as goal
 
 sign_word : (negative : Bool) → 1 + bool_byte negative ≡ (if negative then 2 else 1)
-sign_word true = refl
-sign_word false = refl
+sign_word negative = grind arith
 
 exponent_word : (e f : ℤ) → f ≡ to_z w32 (of_z w32 e) → FitsSigned w32 e
     → nat_abs (to_z w64 (of_z w64 (to_z w64 (of_z w64 f) +ℤ pos 2147483648))) ≡ nat_abs (e +ℤ pos 2147483648)

@@ -1,5 +1,4 @@
-use Rattle.std.proofs.Common.{◌≡◌, take}
-use Rattle.std.specs.List.{fold, flat_map}
+use Rattle.ijson_number.proofs.Common.{◌≡◌, take, fold, flat_map}
 use Rattle.std.specs.Hash as fed
 use Rattle.ijson_number.proofs.number.hash.INumberHash.hash.Given as goal
 

@@ -1,4 +1,4 @@
-use Rattle.std.proofs.Common.{◌<◌, ◌^◌, length, ap, arith, rules}
+use Rattle.ijson_number.proofs.Common.{◌<◌, ◌^◌, length, ap, arith, rules}
 use Rattle.ijson_number.proofs.comparing.DigitOrder.{row_is}
 use Rattle.ijson_number.proofs.number.order.INumberOrd.cmp.Goals as goal
 

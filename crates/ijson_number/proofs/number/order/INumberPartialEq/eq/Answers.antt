@@ -1,12 +1,4 @@
-use Rattle.std.proofs.Common.{◌≡◌, ◌∙◌, ap, sym, arith, rules}
-use Rattle.std.specs.Prelude.{FitsSigned}
-use Rattle.std.proofs.lemmas.Int.{ints}
-use mir.Syntax.{w32}
-use Rattle.std.specs.Ordering.{is_eq}
-use Rattle.ijson_number.specs.Decimal.{Decimal}
-use Rattle.ijson_number.specs.Num.{Num}
-use Rattle.ijson_number.specs.laws.Ordered.{same_equal}
-use Rattle.ijson_number.specs.private.Stored.{stored_decimal}
+use Rattle.ijson_number.proofs.Common.{◌≡◌, ◌∙◌, ap, sym, arith, rules, FitsSigned, ints, w32, is_eq, Decimal, Num, same_equal, stored_decimal}
 use Rattle.ijson_number.proofs.storing.SameParts.{same_signs, other_signs, digits_tell, signs_tell, exponents_tell}
 use Rattle.ijson_number.proofs.number.order.INumberPartialEq.eq.Goals as goal
 use Rattle.ijson_number.proofs.number.order.INumberPartialEq.eq.Goals.{then-a-b-via-then-a-b, then-a-b-via-else-a-b+then-a-b-2}

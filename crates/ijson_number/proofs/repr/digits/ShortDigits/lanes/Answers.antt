@@ -1,4 +1,4 @@
-use Rattle.std.proofs.Common.{◌≡◌, ◌-◌, length, length-drop, arith, rules}
+use Rattle.ijson_number.proofs.Common.{◌≡◌, ◌-◌, length, length-drop, arith, rules}
 use Rattle.ijson_number.specs.private.ShortDigits.{short_digits}
 use Rattle.ijson_number.proofs.writing.DigitRows.{last_long, room_text}
 use Rattle.ijson_number.proofs.repr.digits.ShortDigits.lanes.Goals as goal

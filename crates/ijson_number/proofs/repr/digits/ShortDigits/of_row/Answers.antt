@@ -1,5 +1,4 @@
-use Rattle.std.proofs.Common.{◌≡◌, ◌∙◌, suc, ◌-◌, ap, drop, length, arith, rules}
-use Rattle.std.proofs.lemmas.List.{append-nil}
+use Rattle.ijson_number.proofs.Common.{◌≡◌, ◌∙◌, suc, ◌-◌, ap, drop, length, arith, rules, append-nil}
 use Rattle.ijson_number.proofs.storing.BlockDigits.{row_digits}
 use Rattle.ijson_number.proofs.repr.digits.ShortDigits.of_row.Goals as goal
 

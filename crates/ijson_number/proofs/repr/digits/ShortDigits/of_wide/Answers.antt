@@ -1,6 +1,4 @@
-use Rattle.std.proofs.Common.{◌≡◌, ◌∙◌, ◌/◌, ◌%◌, ◌^◌, ◌+◌, ◌-◌, ◌++◌, ◌∷◌, List, ℕ, ap, drop, sym, arith}
-use Rattle.std.proofs.lemmas.List.{append-nil}
-use Rattle.std.specs.Int.Digits.{digits_of}
+use Rattle.ijson_number.proofs.Common.{◌≡◌, ◌∙◌, ◌/◌, ◌%◌, ◌^◌, ◌+◌, ◌-◌, ◌++◌, ◌∷◌, List, ℕ, ap, drop, sym, arith, append-nil, digits_of}
 use Rattle.ijson_number.proofs.storing.BlockDigits.{front_digits, row_values, wide_digits}
 use Rattle.ijson_number.proofs.repr.digits.ShortDigits.of_wide.Goals as goal
 

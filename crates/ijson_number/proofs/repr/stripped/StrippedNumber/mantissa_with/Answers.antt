@@ -1,4 +1,4 @@
-use Rattle.std.proofs.Common.{◌<◌, ◌+◌, length, arith}
+use Rattle.ijson_number.proofs.Common.{◌<◌, ◌+◌, length, arith}
 use Rattle.ijson_number.proofs.storing.WholeValues.{large_mantissa}
 use Rattle.ijson_number.proofs.repr.stripped.StrippedNumber.mantissa_with.Goals as goal
 

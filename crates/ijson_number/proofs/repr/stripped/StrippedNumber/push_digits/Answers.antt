@@ -1,8 +1,4 @@
-use Rattle.std.proofs.Common.{inl, inr, ◌≡◌, ◌∙◌, ap, true, arith, rules}
-use Rattle.std.specs.Prelude.{nat_abs, FitsSigned}
-use Rattle.std.proofs.lemmas.Int.{to_z-of_z}
-use Rattle.std.proofs.lemmas.Grind.{common_steps}
-use mir.Syntax.{w32}
+use Rattle.ijson_number.proofs.Common.{inl, inr, ◌≡◌, ◌∙◌, ap, true, arith, rules, nat_abs, to_z-of_z, common_steps, w32}
 use Rattle.ijson_number.proofs.writing.SplitTexts.{below_zero, row_shown}
 use Rattle.ijson_number.proofs.repr.stripped.StrippedNumber.push_digits.Goals as goal
 
@@ -15,8 +11,7 @@ returns-then-self-ge0-clause-rows c _ rows = elim rows [
 pub returns-clause-pushed : goal.returns-clause-pushed
 returns-clause-pushed c =
     let n = c.args.self.now in
-    let fits : FitsSigned w32 n.exponent = search rules in
-    let exact = to_z-of_z w32 n.exponent fits in
+    let exact = to_z-of_z w32 n.exponent (search rules) in
     let point : n.point ≡ true = grind arith in
     rw (row_shown n c.unsigned_abs-scale.result point (below_zero n.exponent _ exact c.if-self-ge0.false)
     (c.unsigned_abs-scale.ensures.value ∙ ap nat_abs exact) c.if-scale-self.false) at c.push_split.ensures

@@ -1,11 +1,9 @@
-use Rattle.std.proofs.Common.{◌∷◌, ◌++◌, append_assoc, string_bytes}
-use Rattle.ijson_number.specs.Text.{digits_text, minus_text, zeros_text}
+use Rattle.ijson_number.proofs.Common.{◌∷◌, ◌++◌, append_assoc, string_bytes, digits_text, minus_text, zeros_text}
 use Rattle.ijson_number.proofs.writing.Beginnings.{failed, last_begun, none_begun}
 use Rattle.ijson_number.proofs.repr.stripped.StrippedNumber.push_fraction.Goals as goal
 
 pub returns-in_err-push_leading_zeros : goal.returns-in_err-push_leading_zeros
-returns-in_err-push_leading_zeros c =
-    failed _ _ _ _ c.from_residual.ensures.0 (none_begun _ _ _ c.in_err-push_leading_zeros.ensures.refused)
+returns-in_err-push_leading_zeros c = failed _ _ _ _ c.from_residual.ensures.0 (none_begun _ _ _ c.in_err-push_leading_zeros.ensures.refused)
 
 pub returns-in_err-push_row : goal.returns-in_err-push_row
 returns-in_err-push_row c =

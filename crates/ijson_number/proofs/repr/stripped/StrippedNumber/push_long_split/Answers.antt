@@ -1,6 +1,5 @@
-use Rattle.std.proofs.Common.{◌≡◌, ◌<◌, ◌∙◌, ◌∷◌, ◌++◌, [], List, ℕ, refl, take, drop, append_assoc, string_bytes}
-use Rattle.std.proofs.lemmas.List.Elements.{All-drop, All-take}
-use Rattle.ijson_number.specs.Text.{digits_text, minus_text}
+use Rattle.ijson_number.proofs.Common.{◌≡◌, ◌<◌, ◌∙◌, ◌∷◌, ◌++◌, [], List, ℕ, refl, take, drop, append_assoc, string_bytes, All-drop, All-take}
+use Rattle.ijson_number.proofs.Common.{digits_text, minus_text}
 use Rattle.ijson_number.proofs.writing.Beginnings.{both, by_push_str, failed, last_append, none_begun, some_begun}
 use Rattle.ijson_number.proofs.repr.stripped.StrippedNumber.push_long_split.Goals as goal
 use Rattle.ijson_number.proofs.repr.stripped.StrippedNumber.push_long_split.Goals.{In_ok-push_str}

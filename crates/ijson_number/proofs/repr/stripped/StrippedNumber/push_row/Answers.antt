@@ -1,5 +1,4 @@
-use Rattle.std.proofs.Common.{◌≤◌, length, arith, string_bytes}
-use Rattle.std.proofs.lemmas.Grind.{common_steps}
+use Rattle.ijson_number.proofs.Common.{◌≤◌, length, arith, string_bytes}
 use Rattle.ijson_number.proofs.AnyAnswer.{where_refused}
 use Rattle.ijson_number.proofs.writing.AsciiTexts.{digits_text_ascii}
 use Rattle.ijson_number.proofs.writing.Beginnings.{none_begun}
@@ -14,7 +13,3 @@ push_lanes-requires-clause-ascii c =
 pub returns-in_err-push_lanes-clause-refused : goal.returns-in_err-push_lanes-clause-refused
 returns-in_err-push_lanes-clause-refused c =
     where_refused _ (none_begun (string_bytes c.args.out.now) (string_bytes c.push_lanes.new.out) _ c.in_err-push_lanes.ensures.refused)
-
--- given for speed: the default tactics take longer
-pub returns-clause-written : goal.returns-clause-written
-returns-clause-written c = grind (arith, common_steps)

@@ -1,5 +1,4 @@
-use Rattle.std.proofs.Common.{◌<◌, ◌++◌, ◌∙◌, rules, append_assoc, string_bytes}
-use Rattle.std.specs.Slice.Iter.{chunks_rest}
+use Rattle.ijson_number.proofs.Common.{◌<◌, ◌++◌, ◌∙◌, rules, append_assoc, string_bytes, chunks_rest}
 use Rattle.ijson_number.proofs.AnyAnswer.{where_refused}
 use Rattle.ijson_number.proofs.writing.Beginnings.{some_begun}
 use Rattle.ijson_number.proofs.writing.StrippedTexts.{front_too, back_too, run_more}

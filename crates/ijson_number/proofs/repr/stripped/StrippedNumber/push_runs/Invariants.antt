@@ -1,6 +1,4 @@
-use Rattle.std.proofs.Common.{◌≡◌, ◌<◌, ◌++◌, List, ℕ, All, string_bytes}
-use Rattle.std.specs.Slice.Iter.{chunks_rest, chunks_size}
-use Rattle.ijson_number.specs.Text.{digits_text}
+use Rattle.ijson_number.proofs.Common.{◌≡◌, ◌<◌, ◌++◌, List, ℕ, All, string_bytes, chunks_rest, chunks_size, digits_text}
 use Rattle.ijson_number.proofs.repr.stripped.StrippedNumber.push_runs.Given as goal
 
 -- with the digits that are left, all are written

@@ -1,12 +1,6 @@
-use Rattle.std.proofs.Common.{◌≡◌, ◌∙◌, ◌++◌, ◌∷◌, [], ap, refl, append_assoc, string_bytes, arith, rules}
-use Rattle.std.specs.Prelude.{ℤ, FitsSigned, pos, ◌-ℤ◌, int_lt, nat_abs}
-use Rattle.std.proofs.lemmas.Int.{ints, to_z-of_z}
-use mir.Syntax.{w32, w128}
-use mir.Val.{of_z, to_z}
-use Rattle.ijson_number.specs.Text.{num_text}
+use Rattle.ijson_number.proofs.Common.{◌≡◌, ◌∙◌, ◌++◌, ◌∷◌, [], ap, refl, append_assoc, string_bytes, arith, rules, ℤ, FitsSigned, pos, ◌-ℤ◌, int_lt}
+use Rattle.ijson_number.proofs.Common.{nat_abs, ints, to_z-of_z, w32, w128, of_z, to_z, num_text, decimal_of, integer_text}
 use Rattle.ijson_number.specs.private.SplitText.{split_text}
-use Rattle.ijson_number.specs.private.StrippedNumber.{decimal_of}
-use Rattle.ijson_number.specs.private.WordText.{integer_text}
 use Rattle.ijson_number.proofs.writing.Beginnings.{both, failed, front_begun, last_append, some_begun}
 use Rattle.ijson_number.proofs.writing.SplitTexts.{scientific_shown}
 use Rattle.ijson_number.proofs.repr.stripped.StrippedNumber.push_scientific.Goals as goal
@@ -46,5 +40,4 @@ returns c =
     last_append _ old (string_bytes c.push.new.self) (string_bytes c.push_integer.new.out) (front ++ 101 ∷ []) exponent _
     (both old (string_bytes c.push_split.new.out) _ front (101 ∷ []) c.in_ok-push_split.ensures c.in_ok-push.ensures.bytes)
     c.push_integer.ensures
-    (append_assoc front (101 ∷ []) exponent
-    ∙ rw c.unsigned_abs.ensures.value (shown (goal.at.returns c).After-push_split power exact))
+    (append_assoc front (101 ∷ []) exponent ∙ rw c.unsigned_abs.ensures.value (shown (goal.at.returns c).After-push_split power exact))

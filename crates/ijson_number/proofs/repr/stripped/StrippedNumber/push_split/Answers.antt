@@ -1,9 +1,5 @@
-use Rattle.std.proofs.Common.{◌≡◌, ◌-◌, ◌+◌, ◌<◌, ◌≤◌, List, ℕ, length, take, drop, drop-drop, take_all, ◌∙◌, arith}
-use Rattle.std.specs.List.{All}
-use Rattle.std.proofs.lemmas.List.{drop-map, length-drop, length-take-le, take-map, take-take}
-use Rattle.std.proofs.lemmas.List.Elements.{All-drop, All-take}
-use Rattle.std.proofs.lemmas.Str.{IsAscii-drop}
-use Rattle.ijson_number.specs.Text.{digits_text}
+use Rattle.ijson_number.proofs.Common.{◌≡◌, ◌-◌, ◌+◌, ◌<◌, ◌≤◌, List, ℕ, length, take, drop, drop-drop, take_all, ◌∙◌, arith, All, drop-map}
+use Rattle.ijson_number.proofs.Common.{length-drop, length-take-le, take-map, take-take, All-drop, All-take, IsAscii-drop, digits_text}
 use Rattle.ijson_number.proofs.writing.AsciiTexts.{digits_text_ascii}
 use Rattle.ijson_number.proofs.writing.Beginnings.{all_or_none}
 use Rattle.ijson_number.proofs.writing.DigitRows.{row_text, with_zero}

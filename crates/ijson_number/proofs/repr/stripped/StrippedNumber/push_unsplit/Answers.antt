@@ -1,8 +1,5 @@
-use Rattle.std.proofs.Common.{inl, inr, ◌≡◌, ◌<◌, false, ◌∙◌, ap, ap₂, sym, length, arith, rules}
-use Rattle.std.specs.Prelude.{ℤ, FitsSigned, pos, ◌≤ℤ◌, ◌+ℤ◌, ◌||◌, int_le, int_lt, negsuc}
-use Rattle.std.proofs.lemmas.Int.{ints, to_z-of_z}
-use Rattle.std.proofs.lemmas.Grind.{common_steps}
-use mir.Syntax.{w32, w128}
+use Rattle.ijson_number.proofs.Common.{inl, inr, ◌≡◌, ◌<◌, false, ◌∙◌, ap, ap₂, sym, length, arith, rules, ℤ, FitsSigned, pos, ◌≤ℤ◌, ◌+ℤ◌, ◌||◌}
+use Rattle.ijson_number.proofs.Common.{int_le, int_lt, negsuc, ints, to_z-of_z, common_steps, w32, w128}
 use Rattle.ijson_number.proofs.writing.SplitTexts.{fraction_shown}
 use Rattle.ijson_number.proofs.repr.stripped.StrippedNumber.push_unsplit.Goals as goal
 

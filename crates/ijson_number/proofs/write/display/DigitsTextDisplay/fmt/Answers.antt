@@ -1,6 +1,4 @@
-use Rattle.std.proofs.Common.{◌<◌, ◌++◌, ◌∙◌, refl, rules}
-use Rattle.std.specs.Slice.Iter.{chunks_rest}
-use Rattle.std.proofs.lemmas.Grind.{put_two}
+use Rattle.ijson_number.proofs.Common.{◌<◌, ◌++◌, ◌∙◌, refl, rules, chunks_rest, put_two}
 use Rattle.ijson_number.proofs.writing.StrippedTexts.{front_too, back_too, run_more}
 use Rattle.ijson_number.proofs.write.display.DigitsTextDisplay.fmt.Goals as goal
 

@@ -1,7 +1,4 @@
-use Rattle.std.proofs.Common.{◌≡◌, ◌<◌, ◌++◌, List, ℕ, All}
-use Rattle.std.specs.Fmt.{HasWritten, IsPlainFormatter}
-use Rattle.std.specs.Slice.Iter.{chunks_rest, chunks_size}
-use Rattle.ijson_number.specs.Text.{digits_text}
+use Rattle.ijson_number.proofs.Common.{◌≡◌, ◌<◌, ◌++◌, List, ℕ, All, HasWritten, IsPlainFormatter, chunks_rest, chunks_size, digits_text}
 use Rattle.ijson_number.proofs.write.display.DigitsTextDisplay.fmt.Given as goal
 
 -- with the digits that are left, all are written

@@ -1,6 +1,4 @@
-use Rattle.std.proofs.Common.{◌≡◌, arith, length}
-use Rattle.std.proofs.lemmas.Int.{ints}
-use Rattle.std.proofs.Output.{has_written_of_eq}
+use Rattle.ijson_number.proofs.Common.{◌≡◌, arith, length, ints, has_written_of_eq}
 use Rattle.ijson_number.proofs.writing.Writing.{one_digit, more_digits}
 use Rattle.ijson_number.proofs.write.display.ScientificDisplay.fmt.Goals as goal
 

@@ -1,17 +1,11 @@
-use Rattle.std.proofs.Common.{◌≡◌, ◌∙◌, Bool, arith, rules, sym, true, false}
-use Rattle.std.proofs.lemmas.Int.{to_z-of_z}
-use Rattle.std.proofs.Output.{has_written_of_eq}
-use Rattle.std.specs.Prelude.{FitsSigned}
-use mir.Syntax.{w32, w128}
-use mir.Val.{to_z, of_z}
-use Rattle.ijson_number.specs.Text.{shape_text}
+use Rattle.ijson_number.proofs.Common.{◌≡◌, ◌∙◌, Bool, arith, rules, sym, true, false, to_z-of_z, has_written_of_eq, FitsSigned, w32, w128, to_z}
+use Rattle.ijson_number.proofs.Common.{of_z, shape_text}
 use Rattle.ijson_number.proofs.writing.Writing.{float_shape, float_shape_is}
 use Rattle.ijson_number.proofs.write.display.ShapeDisplay.fmt.Goals as goal
 use Rattle.ijson_number.proofs.write.display.ShapeDisplay.fmt.Goals.{After-is_scientific}
 
 -- either branch, at the place as an `i128`, writes the text of the shape
-shown : (g : _) (c : After-is_scientific g) (scientific : Bool) → c.is_scientific.result ≡ scientific
-    → let s = c.args.self.now in
+shown : (g : _) (c : After-is_scientific g) (scientific : Bool) → c.is_scientific.result ≡ scientific → let s = c.args.self.now in
     let place = to_z w128 (of_z w128 c.place_of-place.result) in
     float_shape scientific s.digits.now place ≡ shape_text s.point s.digits.now s.exponent
 shown g c scientific branch =

@@ -1,0 +1,25 @@
+-- An error with the line and column of its offset, and its message. This project's own.
+use Rattle.std.specs.Prelude.{ℕ, List, ◌++◌, codes, take, ⊤}
+use Rattle.std.specs.Fmt.{decimal}
+use Rattle.ijson_json.specs.LineColumn.{Follows}
+use Rattle.ijson_json.specs.declared.fault.JsonError.{JsonError}
+use Rattle.ijson_json.specs.declared.fault.JsonError.TheVariants as why
+use Rattle.ijson_json.specs.declared.located.LocatedError.{LocatedError}
+use Rattle.ijson_json.specs.declared.located.LocatedError.TheVariants.{Syntax, TooDeep, NumberRange, Memory}
+
+-- the same reason, at the line and column of its offset
+abbrev pub Locates : List ℕ → JsonError → LocatedError → Type 0
+Locates text (why.Syntax at) (Syntax place) = Follows (take at text) place.line place.column
+Locates text (why.TooDeep at) (TooDeep place) = Follows (take at text) place.line place.column
+Locates text (why.NumberRange at) (NumberRange place) = Follows (take at text) place.line place.column
+Locates text why.Memory Memory = ⊤
+Locates text _ _ = ⊥
+
+abbrev pub place_text : ℕ → ℕ → List ℕ
+place_text line column = codes "line " ++ (decimal line ++ (codes ", column " ++ decimal column))
+
+abbrev pub message : LocatedError → List ℕ
+message (Syntax place) = codes "syntax at " ++ place_text place.line place.column
+message (TooDeep place) = codes "nesting too deep at " ++ place_text place.line place.column
+message (NumberRange place) = codes "number out of range at " ++ place_text place.line place.column
+message Memory = codes "out of memory"

@@ -1,0 +1,54 @@
+use Rattle.std.proofs.Common.{◌≡◌, length, map, set, arith, ap, ap₂, sym, ◌∙◌, subst}
+use Rattle.std.proofs.lemmas.List.{length-set, map-set}
+use Rattle.ijson_table.specs.Placed.{Placed}
+use Rattle.ijson_table.specs.Store.{at, keys_of, with_key, IsDistinct}
+use Rattle.ijson_table.specs.private.KeptHash.{kept, kept_hash}
+use Rattle.ijson_table.proofs.pairs.OtherKeys.{distinct_with_key, keys-with_key, set-key}
+use Rattle.ijson_table.proofs.pairs.Shown.{count_shown, pairs_shown}
+use Rattle.ijson_table.proofs.slots.KeptHashes.{kept_once}
+use Rattle.ijson_table.proofs.table.Table.replace_key_at.Goals.{After-replace}
+use Rattle.ijson_table.proofs.table.Table.replace_key_at.Goals as goal
+
+pub rehash_one-requires-clause-kept : goal.rehash_one-requires-clause-kept
+rehash_one-requires-clause-kept g c = kept_once (length c.self.inside.index.slots) c.new.result.count c.hash.result c.kept_hash-hash.result
+    c.kept_hash-hash.ensures (c.new.ensures ∙ c.len.ensures.count)
+
+-- the pairs with the new key
+now : (g : _) (c : After-replace g) → set c.self.inside.pairs.items c.args.index (c.replace.new.dest, c.index_mut.result.now.1)
+    ≡ with_key c.self.inside.pairs.items c.args.index c.args.key
+now g c =
+    ap (λ k. set c.self.inside.pairs.items c.args.index (k, c.index_mut.result.now.1)) c.replace.ensures.after
+    ∙ set-key c.self.inside.pairs.items c.args.index c.index_mut.result.now c.args.key
+    (omega (arith, c.requires.within, count_shown c.self.view_is)) c.index_mut.ensures.value
+
+pub invariant_of-self-inside : goal.invariant_of-self-inside
+invariant_of-self-inside g c = (
+  subst (λ ps. IsDistinct (keys_of ps)) (sym (now g (goal.at.invariant_of-self-inside g c).After-replace)) (distinct_with_key c.self.inside.pairs.items c.args.index c.args.key
+      c.self.inside.distinct (omega (arith, c.requires.within, count_shown c.self.view_is))
+      (ap (λ ps. at ps c.args.key) (pairs_shown c.self.view_is) ∙ c.requires.missing)),
+  tt,
+)
+
+pub invariant_of-self : goal.invariant_of-self
+invariant_of-self g c =
+    let hash = g.H.KeyHash.hash_of in
+    let n = length c.self.inside.index.slots in
+    let short = kept_hash n hash in
+    let old = c.self.inside.pairs.items in
+    let index = c.args.index in
+    record {
+      room = record {
+        within = omega (arith, length-set old index (c.replace.new.dest, c.index_mut.result.now.1), c.self.invariant.room.within);
+        limited = c.self.invariant.room.limited;
+      };
+      hashes = c.rehash_one.ensures.hashes
+          ∙ (ap₂ (λ hs h. set hs index h) c.self.invariant.hashes
+          (c.kept_hash-hash.ensures ∙ ap₂ kept (c.new.ensures ∙ c.len.ensures.count) (c.hash.ensures ∙ ap hash c.as_str.ensures))
+          ∙ (sym (map-set short (keys_of old) index c.args.key)
+          ∙ (ap (map short) (sym (keys-with_key old index c.args.key))
+          ∙ ap₂ (λ k ps. map (kept_hash k hash) (keys_of ps)) (sym c.rehash_one.ensures.count) (sym (now g (goal.at.invariant_of-self g c).After-replace)))));
+      size = c.rehash_one.ensures.count ∙ c.self.invariant.size;
+    }
+
+pub returns-clause-pairs : goal.returns-clause-pairs
+returns-clause-pairs g c = now g (goal.at.returns-clause-pairs g c).After-replace ∙ ap (λ (s : Placed g.row.V.Denot). with_key s.store.pairs c.args.index c.args.key) c.self.view_is
