@@ -1,7 +1,7 @@
 -- The words that stored parts feed a hasher.
 use Rattle.ijson_number.proofs.Common.{◌≡◌, ◌<◌, false, [], ◌∷◌, length, refl, ap, sym, ◌∙◌, arith, pos, nat_abs, nat_eq, ◌+ℤ◌, if◌then◌else◌}
 use Rattle.ijson_number.proofs.Common.{number_from_digits, nil_from_length, Decimal, signed, decimal_of, abs_signed}
-use Rattle.ijson_number.specs.declared.repr.stripped.StrippedNumber.{StrippedNumber}
+use Rattle.ijson_number.specs.declared.repr.stored.StrippedNumber.{StrippedNumber}
 use Rattle.ijson_number.specs.Words.{number_words}
 use Rattle.ijson_number.proofs.storing.DigitsOf.{stored_digits_are}
 use Rattle.ijson_number.proofs.parsing.Denotes.{signed_nought, stripped_mod}

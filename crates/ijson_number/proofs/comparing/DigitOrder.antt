@@ -2,7 +2,7 @@
 use Rattle.ijson_number.proofs.Common.{◌≡◌, ◌≢◌, ℕ, zero, suc, ◌+◌, ◌<◌, min, List, [], ◌∷◌, length, get_or, drop, add-one, refl, ap, sym, subst, ◌∙◌}
 use Rattle.ijson_number.proofs.Common.{arith, pos, nat_abs, digits_of, slice_cmp, nat_cmp, nat_tests, drop_all, nat_cmp_total, tied_itself, Decimal}
 use Rattle.ijson_number.proofs.Common.{IsPlain, stripped_digits, drop-cons, decimal_of, IsStripped}
-use Rattle.ijson_number.specs.declared.repr.stripped.StrippedNumber.{StrippedNumber}
+use Rattle.ijson_number.specs.declared.repr.stored.StrippedNumber.{StrippedNumber}
 use Rattle.ijson_number.proofs.storing.DigitsOf.{digits_are, stored_digits_are}
 use Rattle.ijson_number.proofs.BooleanTests.{abs_zero}
 use Rattle.ijson_number.proofs.writing.DigitTexts.{first_some, within_first}

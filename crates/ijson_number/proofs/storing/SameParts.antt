@@ -5,7 +5,7 @@ use Rattle.ijson_number.proofs.Common.{digits_within, number_eq, decimal_of, IsS
 use Rattle.std.proofs.Math.Bool.{beq}
 use Rattle.std.proofs.Math.Dec.{eqb}
 use Rattle.std.proofs.lemmas.Slice.Eq.{slice_eq-Decides}
-use Rattle.ijson_number.specs.declared.repr.stripped.StrippedNumber.{StrippedNumber}
+use Rattle.ijson_number.specs.declared.repr.stored.StrippedNumber.{StrippedNumber}
 use Rattle.ijson_number.proofs.storing.DigitsOf.{stored_digits_are}
 use Rattle.ijson_number.proofs.parsing.Denotes.{stripped_mod}
 use Rattle.ijson_number.proofs.writing.Writing.{below_zero}

@@ -3,7 +3,7 @@ use Rattle.ijson_number.proofs.Common.{◌≡◌, ℕ, ◌-◌, ◌<◌, true, f
 use Rattle.ijson_number.proofs.Common.{negsuc, neg_ℤ, nat_abs, int_le, int_lt, ◌<ℤ◌, ◌≤ℤ◌, ◌+ℤ◌, ◌-ℤ◌, ◌||◌, ◌^◌, signed_decimal, ints, length-drop}
 use Rattle.ijson_number.proofs.Common.{digits_text, minus_text, num_text, point_text, shape_text, zeros_text, decimal_of, integer_text}
 use Rattle.ijson_number.specs.private.SplitText.{split_text}
-use Rattle.ijson_number.specs.declared.repr.stripped.StrippedNumber.{StrippedNumber}
+use Rattle.ijson_number.specs.declared.repr.stored.StrippedNumber.{StrippedNumber}
 use Rattle.ijson_number.proofs.writing.Writing.{float_shape_is, more_digits, stored_text}
 use Rattle.ijson_number.proofs.BooleanTests.{le_test, not_le, not_lt}
 

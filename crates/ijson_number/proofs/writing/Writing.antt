@@ -5,7 +5,7 @@ use Rattle.ijson_number.proofs.Common.{nat_tests, decimal_by_steps_wide, decimal
 use Rattle.ijson_number.proofs.Common.{digits_of, number_from_digits, whole_text, digits_text, scientific_text, point_text, shape_text, minus_text}
 use Rattle.ijson_number.proofs.Common.{num_text, Decimal, signed, stored_number, decimal_of, IsStripped, abs_signed}
 use Rattle.ijson_number.proofs.storing.DigitsOf.{digits_are, stored_digits_are}
-use Rattle.ijson_number.specs.declared.repr.stripped.StrippedNumber.{StrippedNumber}
+use Rattle.ijson_number.specs.declared.repr.stored.StrippedNumber.{StrippedNumber}
 use Rattle.ijson_number.proofs.parsing.Denotes.{stripped_mod}
 
 pub decimal_is : (n : ℕ) → n < 10 ^ 64 → 0 < n → decimal n ≡ digits_text (digits_of 10 n)
