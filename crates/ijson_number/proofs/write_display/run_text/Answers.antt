@@ -1,5 +1,5 @@
 use Rattle.ijson_number.proofs.Common.{◌≡◌, ◌∙◌, ap, sym, take, length, arith, take_all, IsUtf8-from_ascii, digits_text}
-use Rattle.ijson_number.proofs.writing.AsciiTexts.{digits_text_ascii}
+use Rattle.ijson_number.proofs.writing.WrittenLanes.{digits_text_ascii}
 use Rattle.ijson_number.proofs.write_display.run_text.Goals as goal
 
 pub from_utf8_unchecked-requires : goal.from_utf8_unchecked-requires

@@ -2,9 +2,8 @@ use Rattle.ijson_number.proofs.Common.{◌≡◌, ◌/◌, ◌%◌, ◌^◌, ◌
 use Rattle.ijson_number.proofs.Common.{arith, IsAscii-drop, decimal, IsAscii, string_bytes, minus_text, pointed_text}
 use Rattle.ijson_number.specs.private.WordText.{last_digits}
 use Rattle.ijson_number.proofs.writing.Beginnings.{all_or_none, failed, last_append, none_begun}
-use Rattle.ijson_number.proofs.writing.LastDigits.{behind_point, but_first, front_is, wide_rest, wide_whole}
-use Rattle.ijson_number.proofs.writing.AsciiTexts.{digits_ascii}
-use Rattle.ijson_number.proofs.writing.PaddedDigits.{last_count}
+use Rattle.ijson_number.proofs.writing.LastDigits.{behind_point, but_first, front_is, wide_rest, wide_whole, last_count}
+use Rattle.ijson_number.proofs.writing.WrittenLanes.{digits_ascii}
 use Rattle.ijson_number.proofs.write_fast.push_decimal.Goals as goal
 
 -- any part of a vector of digits is ASCII

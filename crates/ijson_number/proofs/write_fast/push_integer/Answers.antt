@@ -1,10 +1,9 @@
 use Rattle.ijson_number.proofs.Common.{◌≡◌, ◌/◌, ◌%◌, ◌^◌, ◌<◌, ◌≤◌, ◌∙◌, ◌++◌, List, ℕ, append_assoc, drop, refl, take, take_all, arith, decimal}
 use Rattle.ijson_number.proofs.Common.{string_bytes, IsAscii-drop, minus_text}
 use Rattle.ijson_number.specs.private.WordText.{last_digits}
-use Rattle.ijson_number.proofs.writing.AsciiTexts.{digits_ascii}
+use Rattle.ijson_number.proofs.writing.WrittenLanes.{digits_ascii}
 use Rattle.ijson_number.proofs.writing.Beginnings.{all_or_none, failed, last_append, none_begun}
-use Rattle.ijson_number.proofs.writing.LastDigits.{but_first, full_row, wide_decimal}
-use Rattle.ijson_number.proofs.writing.PaddedDigits.{last_count}
+use Rattle.ijson_number.proofs.writing.LastDigits.{but_first, full_row, wide_decimal, last_count}
 use Rattle.ijson_number.proofs.write_fast.push_integer.Goals as goal
 
 -- the text of a number of more than 15 digits

@@ -1,8 +1,7 @@
 use Rattle.ijson_number.proofs.Common.{◌≡◌, ◌∙◌, ◌*◌, ap, sym, refl, arith, rules, pos, nat_abs, ◌<ℤ◌, to_z-of_z, w8, w64, of_z, to_z}
-use Rattle.ijson_number.proofs.writing.FractionTexts.{below_point, exponent_small, fraction_shown, many_places}
-use Rattle.ijson_number.proofs.writing.WordTexts.{whole_shown}
-use Rattle.ijson_number.proofs.write_fast.push_pointed.Goals as goal
+use Rattle.ijson_number.proofs.writing.WordTexts.{below_point, exponent_small, fraction_shown, many_places, whole_shown}
 use Rattle.ijson_number.proofs.write_fast.push_pointed.Goals.{After-from-scale}
+use Rattle.ijson_number.proofs.write_fast.push_pointed.Goals as goal
 
 -- an exponent that is not 0 is negative
 below : (c : After-from-scale) → c.args.exponent <ℤ pos 0

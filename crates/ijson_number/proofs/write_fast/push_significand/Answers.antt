@@ -2,9 +2,9 @@ use Rattle.ijson_number.proofs.Common.{◌≡◌, ◌++◌, ◌∙◌, ap, sym, 
 use Rattle.ijson_number.proofs.Common.{of_z, to_z, Decimal, stripped_number, stripped_digits, digits_text, canonical_number}
 use Rattle.ijson_number.proofs.AnyAnswer.{where_refused}
 use Rattle.ijson_number.proofs.writing.Beginnings.{begun_as}
-use Rattle.ijson_number.proofs.writing.StrippedTexts.{digits_shown, none_shown}
-use Rattle.ijson_number.proofs.write_fast.push_significand.Goals as goal
+use Rattle.ijson_number.proofs.writing.WordTexts.{digits_shown, none_shown}
 use Rattle.ijson_number.proofs.write_fast.push_significand.Goals.{After-canonical-canonical}
+use Rattle.ijson_number.proofs.write_fast.push_significand.Goals as goal
 
 pub returns-then-magnitude-eq0-clause-written : goal.returns-then-magnitude-eq0-clause-written
 returns-then-magnitude-eq0-clause-written c =

@@ -1,6 +1,6 @@
-use Rattle.ijson_number.proofs.Common.{◌≡◌, ◌<◌, ◌+◌, Bool, length, arith, rules, ℤ, pos, nat_abs, ◌+ℤ◌, FitsSigned, if◌then◌else◌}
-use Rattle.ijson_number.proofs.Common.{common_steps, flat_map-append, fold-append, take_all, ints, w32, w64, bool_byte, of_z, to_z}
-use Rattle.ijson_number.proofs.StoredWords.{zero_words, stored_words}
+use Rattle.ijson_number.proofs.Common.{◌≡◌, ◌<◌, ◌+◌, Bool, length, arith, rules, ℤ, pos, nat_abs, ◌+ℤ◌, FitsSigned, if◌then◌else◌, common_steps}
+use Rattle.ijson_number.proofs.Common.{flat_map-append, fold-append, take_all, ints, w32, w64, bool_byte, of_z, to_z}
+use Rattle.ijson_number.proofs.storing.FormCases.{zero_words, stored_words}
 use Rattle.ijson_number.proofs.number.INumberHash.hash.Goals as goal
 
 sign_word : (negative : Bool) → 1 + bool_byte negative ≡ (if negative then 2 else 1)

@@ -1,5 +1,5 @@
 use Rattle.ijson_number.proofs.Common.{◌<◌, ◌^◌, length, ap, arith, rules}
-use Rattle.ijson_number.proofs.comparing.DigitOrder.{row_is}
+use Rattle.ijson_number.proofs.comparing.NumberOrder.{row_is}
 use Rattle.ijson_number.proofs.number.INumberOrd.cmp.Goals as goal
 
 -- the number of inspections fits, since the number of digits does

@@ -1,7 +1,7 @@
 use Rattle.ijson_number.proofs.Common.{◌≡◌, ◌∙◌, ap, sym, arith, rules, FitsSigned, ints, w32, is_eq, Decimal, Num, same_equal, stored_decimal}
-use Rattle.ijson_number.proofs.storing.SameParts.{same_signs, other_signs, digits_tell, signs_tell, exponents_tell}
-use Rattle.ijson_number.proofs.number.INumberPartialEq.eq.Goals as goal
+use Rattle.ijson_number.proofs.storing.FormCases.{same_signs, other_signs, digits_tell, signs_tell, exponents_tell}
 use Rattle.ijson_number.proofs.number.INumberPartialEq.eq.Goals.{then-a-b-via-then-a-b, then-a-b-via-else-a-b+then-a-b-2}
+use Rattle.ijson_number.proofs.number.INumberPartialEq.eq.Goals as goal
 
 pub returns-then-a-b : goal.returns-then-a-b
 returns-then-a-b c = elim c.then-a-b.branch [

@@ -1,7 +1,7 @@
 use Rattle.ijson_number.proofs.Common.{◌≡◌, ◌∙◌, ℕ, rules, to_z-of_z, map-id, w32}
 use Rattle.std.proofs.lemmas.Slice.Zip.{AllZip-map}
-use Rattle.ijson_number.proofs.number.LongNumberClone.clone.Goals as goal
 use Rattle.ijson_number.proofs.number.LongNumberClone.clone.Goals.{In_ok-digits}
+use Rattle.ijson_number.proofs.number.LongNumberClone.clone.Goals as goal
 
 -- the copy has the digits
 same_digits : (c : In_ok-digits) → c.in_ok-digits.digits.items ≡ c.args.self.now.digits.items

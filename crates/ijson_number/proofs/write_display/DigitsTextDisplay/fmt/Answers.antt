@@ -1,5 +1,5 @@
 use Rattle.ijson_number.proofs.Common.{◌<◌, ◌++◌, ◌∙◌, refl, rules, chunks_rest, put_two}
-use Rattle.ijson_number.proofs.writing.StrippedTexts.{front_too, back_too, run_more}
+use Rattle.ijson_number.proofs.writing.WordTexts.{front_too, back_too, run_more}
 use Rattle.ijson_number.proofs.write_display.DigitsTextDisplay.fmt.Goals as goal
 
 pub run_text-requires-clause-below_ten : goal.run_text-requires-clause-below_ten

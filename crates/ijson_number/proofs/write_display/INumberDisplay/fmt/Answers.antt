@@ -1,8 +1,8 @@
-use Rattle.ijson_number.proofs.Common.{◌≡◌, ◌++◌, Bool, true, false, arith, rules, to_z-of_z, has_written_of_eq, w32, to_z, of_z}
-use Rattle.ijson_number.proofs.Common.{minus_text, num_text, shape_text}
+use Rattle.ijson_number.proofs.Common.{◌≡◌, ◌++◌, Bool, true, false, arith, rules, to_z-of_z, has_written_of_eq, w32, to_z, of_z, minus_text}
+use Rattle.ijson_number.proofs.Common.{num_text, shape_text}
 use Rattle.ijson_number.proofs.writing.Writing.{shown_text}
-use Rattle.ijson_number.proofs.write_display.INumberDisplay.fmt.Goals as goal
 use Rattle.ijson_number.proofs.write_display.INumberDisplay.fmt.Goals.{Else-is_empty}
+use Rattle.ijson_number.proofs.write_display.INumberDisplay.fmt.Goals as goal
 
 -- either branch, with a minus or none and the shape, writes the text of the number
 shown : (g : _) (c : Else-is_empty g) (minus : Bool) → c.stripped-number.result.negative ≡ minus → let n = c.stripped-number.result in

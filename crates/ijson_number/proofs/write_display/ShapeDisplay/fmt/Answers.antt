@@ -1,8 +1,8 @@
 use Rattle.ijson_number.proofs.Common.{◌≡◌, ◌∙◌, Bool, arith, rules, sym, true, false, to_z-of_z, has_written_of_eq, FitsSigned, w32, w128, to_z}
 use Rattle.ijson_number.proofs.Common.{of_z, shape_text}
 use Rattle.ijson_number.proofs.writing.Writing.{float_shape, float_shape_is}
-use Rattle.ijson_number.proofs.write_display.ShapeDisplay.fmt.Goals as goal
 use Rattle.ijson_number.proofs.write_display.ShapeDisplay.fmt.Goals.{After-is_scientific}
+use Rattle.ijson_number.proofs.write_display.ShapeDisplay.fmt.Goals as goal
 
 -- either branch, at the place as an `i128`, writes the text of the shape
 shown : (g : _) (c : After-is_scientific g) (scientific : Bool) → c.is_scientific.result ≡ scientific → let s = c.args.self.now in

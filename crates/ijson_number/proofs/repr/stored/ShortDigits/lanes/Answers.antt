@@ -1,6 +1,6 @@
 use Rattle.ijson_number.proofs.Common.{◌≡◌, ◌-◌, length, length-drop, arith, rules}
 use Rattle.ijson_number.specs.private.ShortDigits.{short_digits}
-use Rattle.ijson_number.proofs.writing.DigitRows.{last_long, room_text}
+use Rattle.ijson_number.proofs.writing.WrittenLanes.{last_long, room_text}
 use Rattle.ijson_number.proofs.repr.stored.ShortDigits.lanes.Goals as goal
 
 pub returns-clause-all : goal.returns-clause-all

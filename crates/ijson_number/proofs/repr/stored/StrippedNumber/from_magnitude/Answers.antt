@@ -1,10 +1,9 @@
-use Rattle.ijson_number.proofs.Common.{◌≡◌, ◌<◌, ◌-◌, ◌∙◌, length, drop, take, ap, sym, subst, rules, arith, digits_of, length-decimal-le}
-use Rattle.ijson_number.proofs.Common.{to_z-of_z, number_digits_of, length-drop, take_all, w8, w32, of_z, to_z, IsNum, stored_number, stripped_number}
-use Rattle.ijson_number.proofs.Common.{signed}
+use Rattle.ijson_number.proofs.Common.{◌≡◌, ◌<◌, ◌-◌, ◌∙◌, length, drop, take, ap, sym, subst, rules, arith, digits_of, length-decimal-le, to_z-of_z}
+use Rattle.ijson_number.proofs.Common.{number_digits_of, length-drop, take_all, w8, w32, of_z, to_z, IsNum, stored_number, stripped_number, signed}
 use Rattle.ijson_number.proofs.storing.IntegerWords.{zero_is, some_stored}
 use Rattle.ijson_number.proofs.storing.BlockDigits.{made}
-use Rattle.ijson_number.proofs.repr.stored.StrippedNumber.from_magnitude.Goals as goal
 use Rattle.ijson_number.proofs.repr.stored.StrippedNumber.from_magnitude.Goals.{After-make_digits}
+use Rattle.ijson_number.proofs.repr.stored.StrippedNumber.from_magnitude.Goals as goal
 
 pub returns-then-magnitude-eq0 : goal.returns-then-magnitude-eq0
 returns-then-magnitude-eq0 c =

@@ -1,8 +1,8 @@
 use Rattle.ijson_number.proofs.Common.{◌≡◌, ◌<◌, ◌∙◌, ◌∷◌, ◌++◌, [], List, ℕ, refl, take, drop, append_assoc, string_bytes, All-drop, All-take}
 use Rattle.ijson_number.proofs.Common.{digits_text, minus_text}
 use Rattle.ijson_number.proofs.writing.Beginnings.{both, by_push_str, failed, last_append, none_begun, some_begun}
-use Rattle.ijson_number.proofs.repr.stored.StrippedNumber.push_long_split.Goals as goal
 use Rattle.ijson_number.proofs.repr.stored.StrippedNumber.push_long_split.Goals.{In_ok-push_str}
+use Rattle.ijson_number.proofs.repr.stored.StrippedNumber.push_long_split.Goals as goal
 
 pub run_text-requires-clause-below_ten : goal.run_text-requires-clause-below_ten
 run_text-requires-clause-below_ten c =

@@ -1,6 +1,6 @@
 use Rattle.ijson_number.proofs.Common.{◌≤◌, length, arith, string_bytes}
 use Rattle.ijson_number.proofs.AnyAnswer.{where_refused}
-use Rattle.ijson_number.proofs.writing.AsciiTexts.{digits_text_ascii}
+use Rattle.ijson_number.proofs.writing.WrittenLanes.{digits_text_ascii}
 use Rattle.ijson_number.proofs.writing.Beginnings.{none_begun}
 use Rattle.ijson_number.proofs.repr.stored.StrippedNumber.push_row.Goals as goal
 

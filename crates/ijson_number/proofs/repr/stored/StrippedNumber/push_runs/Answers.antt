@@ -1,7 +1,7 @@
 use Rattle.ijson_number.proofs.Common.{◌<◌, ◌++◌, ◌∙◌, rules, append_assoc, string_bytes, chunks_rest}
 use Rattle.ijson_number.proofs.AnyAnswer.{where_refused}
 use Rattle.ijson_number.proofs.writing.Beginnings.{some_begun}
-use Rattle.ijson_number.proofs.writing.StrippedTexts.{front_too, back_too, run_more}
+use Rattle.ijson_number.proofs.writing.WordTexts.{front_too, back_too, run_more}
 use Rattle.ijson_number.proofs.repr.stored.StrippedNumber.push_runs.Goals as goal
 
 pub run_text-requires-clause-below_ten : goal.run_text-requires-clause-below_ten

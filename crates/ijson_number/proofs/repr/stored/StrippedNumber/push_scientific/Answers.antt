@@ -2,9 +2,9 @@ use Rattle.ijson_number.proofs.Common.{◌≡◌, ◌∙◌, ◌++◌, ◌∷◌
 use Rattle.ijson_number.proofs.Common.{nat_abs, ints, to_z-of_z, w32, w128, of_z, to_z, num_text, decimal_of, integer_text}
 use Rattle.ijson_number.specs.private.SplitText.{split_text}
 use Rattle.ijson_number.proofs.writing.Beginnings.{both, failed, front_begun, last_append, some_begun}
-use Rattle.ijson_number.proofs.writing.SplitTexts.{scientific_shown}
-use Rattle.ijson_number.proofs.repr.stored.StrippedNumber.push_scientific.Goals as goal
+use Rattle.ijson_number.proofs.writing.WordTexts.{scientific_shown}
 use Rattle.ijson_number.proofs.repr.stored.StrippedNumber.push_scientific.Goals.{After-push_split}
+use Rattle.ijson_number.proofs.repr.stored.StrippedNumber.push_scientific.Goals as goal
 
 -- the digits, split after the first, and the exponent are the text
 shown : (c : After-push_split) (power : ℤ) → power ≡ c.args.place -ℤ pos 1

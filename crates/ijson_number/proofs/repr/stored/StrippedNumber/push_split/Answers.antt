@@ -1,8 +1,7 @@
 use Rattle.ijson_number.proofs.Common.{◌≡◌, ◌-◌, ◌+◌, ◌<◌, ◌≤◌, List, ℕ, length, take, drop, drop-drop, take_all, ◌∙◌, arith, All, drop-map}
-use Rattle.ijson_number.proofs.Common.{length-drop, length-take-le, take-map, take-take, All-drop, All-take, IsAscii-drop, digits_text}
-use Rattle.ijson_number.proofs.writing.AsciiTexts.{digits_text_ascii}
+use Rattle.ijson_number.proofs.Common.{length-drop, length-take-le, take-map, take-take, All-drop, All-take, IsAscii-drop, IsAscii, digits_text}
+use Rattle.ijson_number.proofs.writing.WrittenLanes.{digits_text_ascii, row_text, with_zero}
 use Rattle.ijson_number.proofs.writing.Beginnings.{all_or_none}
-use Rattle.ijson_number.proofs.writing.DigitRows.{row_text, with_zero}
 use Rattle.ijson_number.proofs.writing.DigitTexts.{length_text}
 use Rattle.ijson_number.proofs.repr.stored.StrippedNumber.push_split.Goals as goal
 
@@ -22,12 +21,27 @@ module _ (ds : List ℕ) (below : All (λ d. d < 10) ds) (many : 16 < length ds)
   first_is : with_zero (take 16 ds) ≡ digits_text (take 16 ds)
   first_is = row_text (take 16 ds) (length-take-le 16 ds (omega arith)) (All-take (λ d. d < 10) 16 ds below)
 
+  first_row : (length (with_zero (take 16 ds)) ≡ 16) × IsAscii (with_zero (take 16 ds))
+  first_row = rw first_is (
+    length_text (take 16 ds) ∙ length-take-le 16 ds (omega arith),
+    digits_text_ascii (take 16 ds) (All-take (λ d. d < 10) 16 ds below),
+  )
+
   last_is : with_zero (take 16 (take (length ds - (length ds - 16)) (drop (length ds - 16) ds))) ≡ digits_text (drop (length ds - 16) ds)
   last_is =
       let last = drop (length ds - 16) ds in
       let long = length-drop (length ds - 16) ds in
       rw (take_all (length ds - (length ds - 16)) last (omega (arith, long)), take_all 16 last (omega (arith, long)))
       (row_text last (omega (arith, long)) (All-drop (λ d. d < 10) (length ds - 16) ds below))
+
+  last_row : let bytes = take 16 (take (length ds - (length ds - 16)) (drop (length ds - 16) ds)) in
+      (length (with_zero bytes) ≡ 16) × IsAscii (with_zero bytes)
+  last_row =
+      let last = drop (length ds - 16) ds in
+      rw last_is (
+        omega (arith, length_text last, length-drop (length ds - 16) ds),
+        digits_text_ascii last (All-drop (λ d. d < 10) (length ds - 16) ds below),
+      )
 
 pub push_rows-requires-clause-whole : goal.push_rows-requires-clause-whole
 push_rows-requires-clause-whole c =
@@ -60,26 +74,14 @@ returns-then-count-le-LANES c =
 pub push_rows-requires-2-clause-whole : goal.push_rows-requires-2-clause-whole
 push_rows-requires-2-clause-whole c =
     let n = c.args.self.now in
-    let ds = n.digits.now in
-    let below = n.stripped.stripped.below_ten in
-    let many : 16 < length ds = omega (arith, c.if-count-le-LANES.false) in
-    rw (first_is ds below many) (
-      length_text (take 16 ds) ∙ length-take-le 16 ds (omega arith),
-      digits_text_ascii (take 16 ds) (All-take (λ d. d < 10) 16 ds below),
-    )
+    first_row n.digits.now n.stripped.stripped.below_ten (omega (arith, c.if-count-le-LANES.false))
 
 pub push_rows-requires-2-clause-fraction : goal.push_rows-requires-2-clause-fraction
 push_rows-requires-2-clause-fraction c =
     let n = c.args.self.now in
     let ds = n.digits.now in
-    let below = n.stripped.stripped.below_ten in
-    let many : 16 < length ds = omega (arith, c.if-count-le-LANES.false) in
-    let last = drop (length ds - 16) ds in
-    rw (last_is ds below many) (
-      omega (arith, length_text last, length-drop (length ds - 16) ds),
-      IsAscii-drop (digits_text last) (16 - (length ds - c.args.before))
-          (digits_text_ascii last (All-drop (λ d. d < 10) (length ds - 16) ds below)),
-    )
+    let row = last_row ds n.stripped.stripped.below_ten (omega (arith, c.if-count-le-LANES.false)) in
+    (row.0, IsAscii-drop _ (16 - (length ds - c.args.before)) row.1)
 
 pub returns : goal.returns
 returns c =
