@@ -1,5 +1,5 @@
 -- Facts from the results of tests.
-use Rattle.ijson_number.proofs.Common.{◌≡◌, ℕ, ◌<◌, true, false, ap, arith, ℤ, pos, negsuc, nat_abs, nat_eq, int_le, int_lt, ◌≤ℤ◌, ◌<ℤ◌, ints}
+use Rattle.ijson_number.proofs.Common.{◌≡◌, ◌≢◌, ℕ, ◌<◌, true, false, ap, arith, ℤ, pos, negsuc, nat_abs, nat_eq, int_le, int_lt, ◌≤ℤ◌, ◌<ℤ◌, ints}
 
 pub test_le : (a b : ℤ) → int_le a b ≡ true → a ≤ℤ b
 test_le a b h = grind (arith, ints)
@@ -18,6 +18,9 @@ test_zero v h = grind arith
 
 pub test_not_zero : (v : ℕ) → nat_eq v 0 ≡ false → 0 < v
 test_not_zero v h = grind arith
+
+pub not_zero : (v : ℕ) → v ≢ 0 → nat_eq v 0 ≡ false
+not_zero v h = let some : 0 < v = omega arith in grind arith
 
 pub abs_zero : (m : ℤ) → nat_abs m ≡ 0 → m ≡ pos 0
 abs_zero (pos m) h = ap pos h

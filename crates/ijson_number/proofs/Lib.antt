@@ -3,7 +3,6 @@ pub mod Conversions
 pub mod BooleanTests
 pub mod AnyAnswer
 mod WorkedExamples
-pub mod StoredWords
 pub mod comparing
 pub mod parsing
 pub mod storing

@@ -1,6 +1,6 @@
 -- Worked examples, by computation.
-use Rattle.ijson_number.proofs.Common.{◌≡◌, true, false, List, [], ◌∷◌, map, refl, ℤ, pos, negsuc, neg_ℤ, codes, Less, Equal}
-use Rattle.ijson_number.proofs.Common.{Greater, Decimal, stripped_digits, num_text, number_cmp, form_of, packed, signed_word, unsigned_word, digits}
+use Rattle.ijson_number.proofs.Common.{◌≡◌, true, false, List, [], ◌∷◌, map, refl, ℤ, pos, negsuc, neg_ℤ, codes, Less, Equal, Greater, Decimal}
+use Rattle.ijson_number.proofs.Common.{stripped_digits, num_text, number_cmp, form_of, packed, signed_word, unsigned_word, digits}
 use Rattle.ijson_number.specs.Words.{number_words}
 
 abbrev float : ℤ → ℤ → Decimal

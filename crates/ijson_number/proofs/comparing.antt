@@ -1,3 +1,2 @@
 pub mod MagnitudeOrder
-pub mod SignOrder
-pub mod DigitOrder
+pub mod NumberOrder

@@ -2,12 +2,7 @@ pub mod Denotes
 pub mod DigitRuns
 pub mod DigitValues
 pub mod Exponents
-pub mod MovedLanes
-pub mod NumberTails
-pub mod OneDivision
-pub mod PartsDenote
 pub mod CommonFronts
-pub mod ExponentTails
 pub mod PrefixDigits
 pub mod FrontNumbers
 pub mod ReadLanes

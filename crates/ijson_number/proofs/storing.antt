@@ -1,10 +1,6 @@
-pub mod DigitBounds
-pub mod DigitsOf
 pub mod FormCases
 pub mod FormNumbers
 pub mod IntegerWords
-pub mod SameParts
 pub mod BlockDigits
 pub mod Significands
-pub mod SmallExponents
 pub mod WholeValues

@@ -1,14 +1,7 @@
-pub mod AsciiTexts
 pub mod Beginnings
-pub mod DigitRows
 pub mod DigitTexts
-pub mod FractionTexts
 pub mod LastDigits
-pub mod PaddedDigits
-pub mod RoomTexts
 pub mod RoundTrip
-pub mod SplitTexts
-pub mod StrippedTexts
 pub mod WordTexts
 pub mod Writing
 pub mod WrittenLanes

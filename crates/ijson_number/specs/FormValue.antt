@@ -1,7 +1,7 @@
 -- A form without its reference. This project's own.
 use Rattle.ijson_number.specs.Form.{FormOf, packed, signed_word, unsigned_word, digits}
-use Rattle.ijson_number.specs.declared.form.Form.{Form}
-use Rattle.ijson_number.specs.declared.form.Form.TheVariants.{Packed, I64, U64, Digits}
+use Rattle.ijson_number.specs.declared.number.Form.{Form}
+use Rattle.ijson_number.specs.declared.number.Form.TheVariants.{Packed, I64, U64, Digits}
 
 abbrev pub form_value : Form → FormOf
 form_value (Packed mantissa exponent point) = packed mantissa exponent point

@@ -1,3 +1,4 @@
 pub mod Codes
 pub mod Tens
 pub mod Ordered
+pub mod IntegerValues

@@ -1,20 +1,64 @@
-//! Compares two numbers by value, digit by digit.
-ghost use Rattle.std.specs.Prelude.{◌≡◌, ◌≢◌, ◌+◌, ◌<◌, ◌≤◌, ◌^◌, pos, slice_index};
+//! Compares two numbers by value, digit by digit, and counts the digits that it reads.
+ghost use Rattle.std.specs.Prelude.{◌≡◌, ◌+◌, ◌<◌, ◌^◌, ◌≢◌, ◌≤◌, pos, slice_index};
 ghost use Rattle.std.specs.Cmp.Lexicographic.{slice_cmp};
 ghost use Rattle.std.specs.Ordering.{int_cmp, nat_cmp};
 ghost use Rattle.ijson_number.specs.DigitRow.{NeedsDigits, digit_count, leading_place, most_looks};
-ghost use Rattle.ijson_number.specs.private.MagnitudeOrder.{magnitude_cmp};
-ghost use Rattle.ijson_number.specs.private.StrippedNumber.{stripped_num};
 ghost use Rattle.ijson_number.specs.Num.{Num};
 ghost use Rattle.ijson_number.specs.Order.{number_cmp};
 ghost use Rattle.ijson_number.specs.StrippedDigits.{stripped_digits};
+ghost use Rattle.ijson_number.specs.private.MagnitudeOrder.{magnitude_cmp};
+ghost use Rattle.ijson_number.specs.private.StrippedNumber.{stripped_num};
 
-use crate::looks::Looks;
 use crate::repr::INumber;
-use crate::repr::digits::{MAX_DIGITS, place_of};
-use crate::repr::stored::Stored;
-use crate::repr::stripped::StrippedNumber;
+use crate::repr::stored::{MAX_DIGITS, Stored, StrippedNumber, place_of};
 use std::cmp::Ordering;
+use std::marker::Model;
+
+/// The number of inspections: of slots of a table, or of digits of a number. It is below 2^128.
+#[derive(Debug, Drop)]
+pub struct Looks {
+    seen: u128,
+}
+
+impl Model for Looks {
+    ghost use Rattle.std.specs.Prelude.{ℕ};
+
+    ghost Value = { ℕ };
+
+    ghost view = { λ l. l.seen };
+}
+
+impl Looks {
+    /// Creates a count of 0.
+    pub fn new() -> Looks
+        ensures { result ≡ 0 }
+    {
+        Looks { seen: 0 }
+    }
+
+    /// Returns the number of inspections.
+    pub fn count(&self) -> u128
+        ensures { result ≡ self.now }
+    {
+        self.seen
+    }
+
+    /// Adds one inspection. The sum must be below 2^128.
+    pub fn add_one(&mut self)
+        requires { self.old + 1 < 2 ^ 128 }
+        ensures { self.new ≡ self.old + 1 }
+    {
+        self.seen += 1;
+    }
+
+    /// Adds `count` inspections. The sum must be below 2^128.
+    pub fn add(&mut self, count: u128)
+        requires { self.old + count < 2 ^ 128 }
+        ensures { self.new ≡ self.old + count }
+    {
+        self.seen += count;
+    }
+}
 
 /// A number whose canonical digits are read one by one.
 ///

@@ -11,9 +11,10 @@ ghost use Rattle.ijson_number.specs.private.Significand.{IsCommonWord, IsSmall, 
 ghost use Rattle.ijson_number.specs.private.Stored.{stored_form};
 
 use crate::general_reader::CanonicalSpelling;
-use crate::repr::digits::{DIGITS_END, ShortDigits, push_values};
-use crate::repr::stored::{LongNumber, ShortNumber, Stored};
-use crate::repr::word::{PACKED_END, Word, is_packed_mantissa};
+use crate::repr::stored::{
+    DIGITS_END, LongNumber, PACKED_END, ShortDigits, ShortNumber, Stored, Word, is_packed_mantissa,
+    push_values,
+};
 use crate::significand::Significand;
 use std::alloc::{AllocError, Global};
 

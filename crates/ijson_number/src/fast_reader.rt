@@ -7,7 +7,7 @@ ghost use Rattle.ijson_number.specs.private.Reading.{IsExponentSignTaken, IsSign
 ghost use Rattle.ijson_number.specs.private.Significand.{IsFewFraction, IsFractionTaken, IsFront, IsMantissa, IsPower};
 
 use crate::lanes::{LANES, digit_count, number_of, power_of_ten};
-use crate::repr::digits::WORD_DIGITS;
+use crate::repr::stored::WORD_DIGITS;
 use crate::significand::Significand;
 use std::simd::prelude::*;
 

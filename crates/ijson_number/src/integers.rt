@@ -7,8 +7,7 @@ ghost use Rattle.ijson_number.specs.Integers.{HasValue, IsInteger};
 
 use crate::encode::{encode_signed, encode_unsigned};
 use crate::repr::INumber;
-use crate::repr::digits::MAX_DIGITS;
-use crate::repr::stripped::StrippedNumber;
+use crate::repr::stored::{MAX_DIGITS, StrippedNumber};
 use std::cmp::Ordering;
 
 impl INumber {

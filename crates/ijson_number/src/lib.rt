@@ -1,8 +1,7 @@
 //! Exact decimals, as JSON writes numbers.
 //!
-//! Each module uses only those before it: `looks`, `lanes`, `significand`, `repr::word`, `repr::digits`, `repr::stored`, `repr`,
-//! `repr::stripped`, `fast_reader`, `general_reader`, `encode`, `number`, `number::clone`, `number::hash`, `write::display`, `write::fast`,
-//! `write::stripped_digits`, `comparison`, `number::order`, `form`, `integers`, `tests`.
+//! Each module uses only those before it: `lanes`, `significand`, `repr::stored`, `repr`, `fast_reader`, `general_reader`, `encode`,
+//! `write_display`, `write_fast`, `comparison`, `number`, `integers`, `tests`.
 //!
 //! Tests: `src/tests.rt` has those of packed words; `ijson/src/tests/numbers.rt` the others; `ijson_compact` those of the words that numbers
 //! feed a hasher.
@@ -11,21 +10,18 @@
 mod comparison;
 mod encode;
 mod fast_reader;
-mod form;
 mod general_reader;
 mod integers;
 mod lanes;
-mod looks;
 mod number;
 mod repr;
 mod significand;
 #[cfg(test)]
 mod tests;
-mod write;
+mod write_display;
+mod write_fast;
 
-pub use comparison::{DigitRow, compare};
-pub use form::Form;
+pub use comparison::{DigitRow, Looks, compare};
 pub use general_reader::first_fault;
-pub use looks::Looks;
-pub use number::ParseNumberError;
+pub use number::{Form, ParseNumberError};
 pub use repr::INumber;

@@ -1,17 +1,26 @@
-//! Parses numbers.
-ghost use Rattle.std.specs.Prelude.{◌≡◌, IfOk, IfErr};
+//! Numbers: parsed, copied, hashed, compared, and as callers see their representation.
+ghost use Rattle.std.specs.Prelude.{◌≡◌, IfOk, IfErr, ◌↔◌, false, Some, refl};
+ghost use Rattle.std.specs.Cmp.{partial_equiv_from_equiv, on_equiv, on_total, po};
+ghost use Rattle.std.specs.List.{flat_map};
+ghost use Rattle.ijson_number.specs.Alike.{IsAlike};
+ghost use Rattle.ijson_number.specs.Form.{form_of, is_digits};
 ghost use Rattle.ijson_number.specs.Grammar.{Spells};
+ghost use Rattle.ijson_number.specs.Num.{Num};
+ghost use Rattle.ijson_number.specs.Order.{number_cmp, number_eq};
+ghost use Rattle.ijson_number.specs.Text.{num_text};
+ghost use Rattle.ijson_number.specs.Words.{number_words};
+ghost use Rattle.ijson_number.specs.laws.Ordered.{equal_feed, number_cmp_total, number_eq_equiv};
+ghost use Rattle.std.specs.Hash as fed;
 
-mod clone;
-mod hash;
-mod order;
-
+use crate::comparison::{Looks, compare};
 use crate::encode::{encode, encode_spelling};
 use crate::fast_reader::read_front;
 use crate::general_reader::read_spelling;
 use crate::repr::INumber;
-use crate::repr::stored::Stored;
+use crate::repr::stored::{LongNumber, MAX_DIGITS, Stored};
 use std::alloc::{AllocError, Global};
+use std::cmp::Ordering;
+use std::hash::{Hash, Hasher};
 use thiserror::Error;
 
 /// Why a text is rejected.
@@ -118,5 +127,221 @@ impl INumber {
             Stored::Short(number) => number.point,
             Stored::Long(number) => number.point,
         }
+    }
+}
+
+/// The representation of a number.
+///
+/// `point` is `true` if the number was written with a fraction point or an exponent.
+#[derive(Clone, Copy, PartialEq, Eq, Debug)]
+pub enum Form<'a> {
+    /// `mantissa * 10^exponent`; the exponent is from -7 to 7, the mantissa from -2^55 to 2^55 - 1.
+    Packed {
+        mantissa: i64,
+        exponent: i8,
+        point: bool,
+    },
+    /// An integer without the fraction point that does not fit a packed mantissa.
+    I64(i64),
+    /// An integer without the fraction point that is too large for an `i64`.
+    U64(u64),
+    /// Any other number: `digits * 10^exponent`, negated if `negative`.
+    ///
+    /// Each digit is from 0 to 9, the most significant first, without leading and trailing zeros. The exponent is from -2^30 to 2^30.
+    Digits {
+        negative: bool,
+        digits: &'a [u8],
+        exponent: i32,
+        point: bool,
+    },
+}
+
+impl INumber {
+    ghost use Rattle.ijson_number.specs.FormValue.{form_value};
+
+    /// The representation, as `form` returns it.
+    fn form_of_stored(&self) -> Form<'_>
+        ensures { form_value result ≡ form_of self.now.decimal }
+    {
+        match &self.stored {
+            Stored::Packed(word) => Form::Packed {
+                mantissa: word.mantissa(),
+                exponent: word.exponent(),
+                point: word.point(),
+            },
+            Stored::I64(value) => Form::I64(*value),
+            Stored::U64(value) => Form::U64(*value),
+            Stored::Short(number) => Form::Digits {
+                negative: number.negative,
+                digits: number.digits.as_slice(),
+                exponent: i32::from(number.exponent),
+                point: number.point,
+            },
+            Stored::Long(number) => Form::Digits {
+                negative: number.negative,
+                digits: number.digits.as_slice(),
+                exponent: number.exponent,
+                point: number.point,
+            },
+        }
+    }
+
+    /// Returns the representation. Digits are borrowed.
+    ///
+    /// Numbers with the same value and fraction point have one form and one text, and no other number has that text. It does not allocate.
+    /// `1.50` is `Packed` with the mantissa 15 and the exponent -1, `9223372036854775807` is `I64`, and `1e-9` is a list of one digit.
+    pub fn form(&self) -> Form<'_>
+        ensures form { form_value result ≡ form_of self.now.decimal }
+        ensures alike { (other : Num)
+            → IsAlike self.now.decimal other.decimal
+            → form_value result ≡ form_of other.decimal }
+        ensures text { (other : Num)
+            → (num_text self.now.decimal ≡ num_text other.decimal)
+            ↔ IsAlike self.now.decimal other.decimal }
+    {
+        self.form_of_stored()
+    }
+}
+
+impl Clone for LongNumber {
+    ghost use Rattle.ijson_number.specs.private.Stored.{long_form};
+
+    ghost is_clone = { λ n copy. long_form copy ≡ long_form n };
+
+    fn clone(&self) -> Result<LongNumber, AllocError> {
+        let digits = self.digits.clone()?;
+        Ok(LongNumber {
+            exponent: self.exponent,
+            negative: self.negative,
+            point: self.point,
+            digits,
+        })
+    }
+}
+
+impl Clone for Stored {
+    ghost use Rattle.ijson_number.specs.private.Stored.{IsCopy, stored_form};
+
+    ghost is_clone = { IsCopy };
+
+    ghost is_infallible = { λ s. is_digits (stored_form s) ≡ false };
+
+    fn clone(&self) -> Result<Stored, AllocError> {
+        match self {
+            Stored::Packed(word) => Ok(Stored::Packed(*word)),
+            Stored::I64(value) => Ok(Stored::I64(*value)),
+            Stored::U64(value) => Ok(Stored::U64(*value)),
+            Stored::Short(number) => {
+                let number = number.clone()?;
+                Ok(Stored::Short(number))
+            }
+            Stored::Long(number) => {
+                let number = number.clone()?;
+                Ok(Stored::Long(number))
+            }
+        }
+    }
+}
+
+/// Copies the number with its fraction point.
+impl Clone for INumber {
+    ghost is_clone = { λ n copy. copy ≡ n };
+
+    ghost is_infallible = { λ n. is_digits (form_of n.decimal) ≡ false };
+
+    /// It allocates, and takes time linear in the digits, only if the form is a list of digits.
+    fn clone(&self) -> Result<INumber, AllocError> {
+        let stored = self.stored.clone()?;
+        Ok(INumber { stored })
+    }
+}
+
+/// Added to an exponent, so that it fits an unsigned word.
+const EXPONENT_BIAS: i64 = 1 << 31;
+
+/// Feeds the same words for equal numbers, each by one `write_u64`.
+///
+/// Zero feeds 2 and 0. Any other number feeds 2, the sign (1 if positive, 2 if negative), the canonical exponent plus 2^31, the number of
+/// canonical digits, and each of them. Takes time linear in those digits, and does not allocate.
+impl Hash for INumber {
+    ghost hash_input = { λ n. flat_map fed.u64 (number_words n.decimal) };
+
+    ghost respects_eq = { λ a b e. equal_feed a b e };
+
+    fn hash<H: Hasher>(&self, state: &mut H) {
+        let mut buffer = [0; MAX_DIGITS];
+        let number = self.stripped(&mut buffer);
+        let digits = number.digits;
+        state.write_u64(2);
+        if digits.is_empty() {
+            state.write_u64(0);
+            return;
+        }
+        state.write_u64(1 + u64::from(number.negative));
+        state.write_u64((i64::from(number.exponent) + EXPONENT_BIAS) as u64);
+        state.write_u64(digits.len() as u64);
+        for digit in digits {
+            state.write_u64(u64::from(*digit));
+        }
+    }
+}
+
+/// Two numbers are equal if their values are; the fraction point is ignored.
+///
+/// It does not allocate, and reads each digit at most once.
+impl PartialEq for INumber {
+    ghost eq = { λ a b. number_eq a.decimal b.decimal };
+
+    ghost laws = { partial_equiv_from_equiv (on_equiv (λ n. n.decimal) number_eq_equiv) };
+
+    fn eq(&self, other: &INumber) -> bool {
+        if self.stored.is_same_word(&other.stored) {
+            return true;
+        }
+        let mut buffer = [0; MAX_DIGITS];
+        let mut other_buffer = [0; MAX_DIGITS];
+        let a = self.stripped(&mut buffer);
+        let b = other.stripped(&mut other_buffer);
+        if a.negative != b.negative || a.exponent != b.exponent {
+            return false;
+        }
+        a.digits == b.digits
+    }
+}
+
+impl Eq for INumber {
+    ghost laws = { on_equiv (λ n. n.decimal) number_eq_equiv };
+}
+
+/// As `cmp`: the order is total.
+impl PartialOrd for INumber {
+    ghost partial_cmp = { λ a b. Some (number_cmp a.decimal b.decimal) };
+
+    ghost laws = { po (on_total (λ n. n.decimal) number_cmp_total) (λ a b. refl) };
+
+    fn partial_cmp(&self, other: &INumber) -> Option<Ordering> {
+        Some(self.cmp(other))
+    }
+}
+
+/// Orders numbers by value; the fraction point is ignored.
+///
+/// It does not allocate, and writes no exponent out as zeros. It reads digits only if the signs and the leading places are equal, and
+/// then at most two for each digit of the number with fewer.
+impl Ord for INumber {
+    ghost cmp = { λ a b. number_cmp a.decimal b.decimal };
+
+    ghost total = { on_total (λ n. n.decimal) number_cmp_total };
+
+    ghost matches_partial_cmp = { λ a b. refl };
+
+    ghost matches_eq = { λ a b. refl };
+
+    fn cmp(&self, other: &INumber) -> Ordering {
+        let mut buffer = [0; MAX_DIGITS];
+        let mut other_buffer = [0; MAX_DIGITS];
+        let a = self.stripped(&mut buffer);
+        let b = other.stripped(&mut other_buffer);
+        compare(&a, &b, &mut Looks::new())
     }
 }

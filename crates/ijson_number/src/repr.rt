@@ -1,14 +1,12 @@
 //! The representation of a number.
+ghost use Rattle.std.specs.Prelude.{◌≡◌};
 ghost use Rattle.ijson_number.specs.Num.{IsNum};
 ghost use Rattle.ijson_number.specs.laws.Codes.{IsNum-prop};
 ghost use Rattle.ijson_number.specs.private.Stored.{stored_decimal};
 
-pub(crate) mod digits;
 pub(crate) mod stored;
-pub(crate) mod stripped;
-pub(crate) mod word;
 
-use crate::repr::stored::Stored;
+use crate::repr::stored::{MAX_DIGITS, Stored, StrippedNumber};
 use std::marker::Model;
 
 /// An exact decimal of 16 bytes.
@@ -36,4 +34,23 @@ impl Model for INumber {
     ghost view = { λ n. record { decimal = stored_decimal n.stored; is_num = n.num } };
 
     ghost invariant = { λ n. IsForm n.stored };
+}
+
+impl INumber {
+    ghost use Rattle.ijson_number.specs.private.StrippedNumber.{decimal_of};
+
+    /// Returns the number by its canonical digits, which are written to `buffer` unless they are stored.
+    pub(crate) fn stripped<'a>(&'a self, buffer: &'a mut [u8; MAX_DIGITS]) -> StrippedNumber<'a>
+        ensures { decimal_of result ≡ self.now.decimal }
+    {
+        match &self.stored {
+            Stored::Packed(word) => {
+                StrippedNumber::from_signed(word.mantissa(), word.exponent(), word.point(), buffer)
+            }
+            Stored::I64(value) => StrippedNumber::from_signed(*value, 0, false, buffer),
+            Stored::U64(value) => StrippedNumber::from_magnitude(false, *value, 0, false, buffer),
+            Stored::Short(number) => number.stripped(),
+            Stored::Long(number) => number.stripped(),
+        }
+    }
 }

@@ -5,7 +5,7 @@ use Rattle.ijson_number.proofs.Common.{number_from_digits_after, AllByRecursion,
 use Rattle.ijson_number.proofs.Common.{mul-le-mul_right, pow-succ', nat_tests, ints, clamps, number_lt, recursion_from_All, stored_number, number_cmp}
 use Rattle.ijson_number.proofs.Common.{IsStripped, power_le, nonneg}
 use Rattle.std.proofs.lemmas.Cmp.{by_ranked, ranked}
-use Rattle.ijson_number.proofs.writing.PaddedDigits.{some_places}
+use Rattle.ijson_number.proofs.writing.LastDigits.{some_places}
 
 pub nat_below : (x y : ℕ) → x < y → nat_cmp x y ≡ Less
 nat_below x y h = grind (arith, nat_tests)
@@ -84,15 +84,12 @@ aligned (d ∷ ds) (x ∷ es) j k p q l m e =
     (first_digits d x _ _ _ (rw place at (scaled_below ds j p.1)) (scaled_below es k q.1)
     ∙ ap (ordering_then (nat_cmp d x)) (aligned ds es j k p.1 q.1 (last_rest d ds l) (last_rest x es m) place))
 
-pub above_none : (d : ℕ) → d ≢ 0 → 1 ≤ d
-above_none d n = omega (arith, n)
-
 -- digits without a leading 0 have at least the value ten to the number of the others
 pub number_least : (ds : List ℕ) → 0 < length ds → get_or ds 0 0 ≢ 0 → 10 ^ (length ds - 1) ≤ number_from_digits 10 ds
 number_least [] h n = absurd (omega arith)
 number_least (d ∷ ds) h n =
     let e : length (d ∷ ds) - 1 ≡ length ds = omega arith in
-    let m : 1 * 10 ^ length ds ≤ d * 10 ^ length ds = mul-le-mul_right (10 ^ length ds) (above_none d n) in
+    let m : 1 * 10 ^ length ds ≤ d * 10 ^ length ds = mul-le-mul_right (10 ^ length ds) (omega (arith, n)) in
     rw (e, number_first d ds) (omega arith)
 
 -- digits with a smaller leading place have a smaller value

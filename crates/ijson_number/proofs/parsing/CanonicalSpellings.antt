@@ -1,18 +1,13 @@
--- The postconditions of the scanner, once the zeros are stripped.
+-- The postconditions of the scanner, once the zeros are stripped, and the number of the parts.
 use Rattle.ijson_number.proofs.Common.{◌≡◌, ◌≢◌, ℕ, zero, suc, ◌+◌, ◌-◌, ◌^◌, ◌<◌, ◌≤◌, Bool, false, List, [], ◌∷◌, ◌++◌, length, get_or, replicate}
-use Rattle.ijson_number.proofs.Common.{refl, ap, sym, ◌∙◌, length-append, inl, inr, arith, ℤ, pos, AllByRecursion, length-map, map-append}
-use Rattle.ijson_number.proofs.Common.{nil_from_length, All-from_recursion, number_from_digits, Decimal, IsNum, stored_number, AllDigits, Denotes}
-use Rattle.ijson_number.proofs.Common.{Parts, IsSpelled, IsFraction, Spells, value, cases_lt, IsWithin, exponent_of, BeginsWithNoZero, EndsWithNoZero}
-use Rattle.ijson_number.proofs.Common.{IsStored, IsStripped, digits_from_text, power_le, signed_zero}
-use Rattle.ijson_number.proofs.parsing.DigitRuns.{AllDigits-append, AllDigits_left, AllDigits_right, IsDigits_all}
-use Rattle.ijson_number.proofs.parsing.OneDivision.{whole_all}
-use Rattle.ijson_number.proofs.storing.DigitBounds.{value_small}
+use Rattle.ijson_number.proofs.Common.{refl, ap, sym, ◌∙◌, length-append, inl, inr, arith, ℤ, pos, map-append, nil_from_length, All-from_recursion}
+use Rattle.ijson_number.proofs.Common.{number_from_digits, Decimal, IsNum, stored_number, AllDigits, Denotes, Parts, IsSpelled, IsFraction, Spells}
+use Rattle.ijson_number.proofs.Common.{value, cases_lt, IsWithin, exponent_of, BeginsWithNoZero, EndsWithNoZero, IsStored, IsStripped}
+use Rattle.ijson_number.proofs.Common.{digits_from_text, power_le, signed_zero, cases_eq}
+use Rattle.ijson_number.proofs.parsing.DigitRuns.{AllDigits-append, AllDigits_left, AllDigits_right, IsDigits_all, whole_all}
+use Rattle.ijson_number.proofs.parsing.DigitValues.{below_base, count_of, value_small}
 use Rattle.ijson_number.proofs.parsing.Exponents.{within_in_range, in_range_within}
 use Rattle.ijson_number.proofs.parsing.Denotes.{denotes_some, denotes_zero, spells_one, stripped_plain, stripped_mod, pointless}
-
-below_ten : (bs : List ℕ) → AllDigits bs → AllByRecursion (λ d. d < 10) (digits_from_text bs)
-below_ten [] h = tt
-below_ten (b ∷ bs) h = (omega arith, below_ten bs h.1)
 
 digit_at : (bs : List ℕ) (i : ℕ) → AllDigits bs → i < length bs → (48 ≤ get_or bs i 0) × (get_or (digits_from_text bs) i 0 ≡ get_or bs i 0 - 48)
 digit_at [] i h l = absurd (omega arith)
@@ -23,7 +18,7 @@ not_zero_at : (bs : List ℕ) (i : ℕ) → AllDigits bs → i < length bs → g
 not_zero_at bs i h l n e = let r = digit_at bs i h l in n (omega arith)
 
 pub count_is : (front back : List ℕ) → length (digits_from_text (front ++ back)) ≡ length front + length back
-count_is front back = length-map {A = ℕ} {B = ℕ} (front ++ back) (λ b. b - 48) ∙ length-append front back
+count_is front back = count_of (front ++ back) ∙ length-append front back
 
 -- the digits of two texts in order
 pub joined : (front back one two : List ℕ) → one ≡ digits_from_text front → two ≡ one ++ digits_from_text back
@@ -32,9 +27,9 @@ joined front back one two a b = b ∙ ap (λ x. x ++ digits_from_text back) a �
 
 pub text_stripped : (bs : List ℕ) → AllDigits bs → BeginsWithNoZero bs → EndsWithNoZero bs → IsStripped (digits_from_text bs)
 text_stripped bs h f l =
-    let len : length (digits_from_text bs) ≡ length bs = length-map {A = ℕ} {B = ℕ} bs (λ b. b - 48) in
+    let len = count_of bs in
     record {
-      below_ten = All-from_recursion (λ d. d < 10) (digits_from_text bs) (below_ten bs h);
+      below_ten = All-from_recursion (λ d. d < 10) (digits_from_text bs) (below_base bs h);
       first = λ p. not_zero_at bs 0 h (rw len at p) (f (rw len at p));
       last = λ p. rw len (not_zero_at bs (length bs - 1) h (omega arith) (l (rw len at p)));
     }
@@ -75,7 +70,7 @@ module _ {text : List ℕ} {p : Parts} {w f a b : List ℕ} {j k : ℕ} (taken :
   stripped = text_stripped (a ++ b) all_digits (begins_left (a ++ b) (replicate k 48) (rw back at first)) last
 
   some_digits : 0 < length (a ++ b) → 0 < length (digits_from_text (a ++ b))
-  some_digits h = rw (length-map {A = ℕ} {B = ℕ} (a ++ b) (λ b. b - 48)) h
+  some_digits h = rw (count_of (a ++ b)) h
 
   pub denotes_number : 0 < length (a ++ b) → (e : ℤ) → e ≡ exponent_of p.exponent (length p.fraction) k
       → Denotes p (stored_number p.negative (digits_from_text (a ++ b)) e p.point)
@@ -121,3 +116,39 @@ many_digits front back a b large = elim (cases_lt 19 (length front + length back
       absurd (omega (arith, small, power, large))
       )
 ]
+
+-- the leading zeros, and the text after them
+front_zeros : (bs : List ℕ) → (j : ℕ) × (t : List ℕ) × (bs ≡ replicate j 48 ++ t) × BeginsWithNoZero t
+front_zeros [] = (0, [], refl, λ l. absurd (omega arith))
+front_zeros (b ∷ bs) =
+    elim (cases_eq b 48) [
+      | inl e ↦ (let r = front_zeros bs in (suc r.0, r.1, rw e (ap (λ (x : List ℕ). 48 ∷ x) r.2), r.3))
+      | inr n ↦ (0, b ∷ bs, refl, λ l e. n e)
+    ]
+
+longer_end : (b c : ℕ) (cs : List ℕ) → EndsWithNoZero (c ∷ cs) → EndsWithNoZero (b ∷ c ∷ cs)
+longer_end b c cs h l = let e : length (b ∷ c ∷ cs) - 1 ≡ suc (length (c ∷ cs) - 1) = omega arith in rw e (h (omega arith))
+
+back_step : (b k : ℕ) (s bs : List ℕ) → bs ≡ s ++ replicate k 48 → EndsWithNoZero s
+    → (j : ℕ) × (t : List ℕ) × (b ∷ bs ≡ t ++ replicate j 48) × EndsWithNoZero t
+back_step b k [] bs e h =
+    elim (cases_eq b 48) [ inl is ↦ (suc k, [], rw (is, e) refl, λ l. absurd (omega arith)) | inr n ↦ (k, b ∷ [], rw e refl, λ l e. n e) ]
+back_step b k (c ∷ cs) bs e h = (k, b ∷ c ∷ cs, rw e refl, longer_end b c cs h)
+
+-- the trailing zeros, and the text before them
+back_zeros : (bs : List ℕ) → (k : ℕ) × (s : List ℕ) × (bs ≡ s ++ replicate k 48) × EndsWithNoZero s
+back_zeros [] = (0, [], refl, λ l. absurd (omega arith))
+back_zeros (b ∷ bs) = let r = back_zeros bs in back_step b r.0 r.1 bs r.2 r.3
+
+pub parts_denote : (text : List ℕ) (p : Parts) → IsSpelled text p → (n : Decimal) × Denotes p n
+parts_denote text p spelled =
+    let f = front_zeros (p.whole ++ p.fraction) in
+    let b = back_zeros f.1 in
+    let taken : ZerosTaken text p [] f.1 [] b.1 f.0 b.0 = record { spelled = spelled; front = f.2; back = b.2; first = f.3; last = b.3 } in
+    elim (cases_eq (length b.1) 0) [
+      | inl none ↦ (_, denotes_nought taken none)
+      | inr some ↦ (_, denotes_number taken (omega (arith, some)) _ refl)
+    ]
+
+pub parts_spell : (text : List ℕ) (p : Parts) → IsSpelled text p → (n : Decimal) × Spells text n
+parts_spell text p spelled = let n = parts_denote text p spelled in (n.0, (p, spelled, n.1))

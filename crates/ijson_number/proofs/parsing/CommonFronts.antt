@@ -1,11 +1,13 @@
 -- A text has at most one leading number that is read in one pass.
-use Rattle.ijson_number.proofs.Common.{◌≡◌, ◌≢◌, ◌⊎◌, ℕ, ◌+◌, ◌-◌, ◌<◌, ◌≤◌, Bool, List, [], ◌∷◌, ◌++◌, length, take, drop, refl, sym, ap, ◌∙◌, inl}
+use Rattle.ijson_number.proofs.Common.{◌≡◌, ◌≢◌, ◌⊎◌, ℕ, ◌-◌, ◌<◌, ◌≤◌, Bool, List, [], ◌∷◌, ◌++◌, length, take, drop, refl, sym, ap, ◌∙◌, inl}
 use Rattle.ijson_number.proofs.Common.{inr, arith, nat_tests, take-append-drop, AllDigits, IsDigits, IsFraction, Parts, value, EndsDigits, EndsToken}
-use Rattle.ijson_number.proofs.Common.{IsCommonFront, cases_lt, IsFewFraction, BeginsWithNoDigit, IsSignTaken}
-use Rattle.ijson_number.proofs.parsing.OneDivision.{sign_one, whole_all, whole_no_sign}
-use Rattle.ijson_number.proofs.parsing.DigitRuns.{one_run, IsDigits_all}
+use Rattle.ijson_number.proofs.Common.{IsCommonFront, cases_lt, IsFewFraction, BeginsWithNoDigit, IsSignTaken, get_or, append_assoc, length-take-le}
+use Rattle.ijson_number.proofs.Common.{IsExponentTail, IsFewDigits, IsFewExponent, IsFewSigned, IsExponentSignTaken, IsTaken, false, true, ℤ, nat_eq}
+use Rattle.ijson_number.proofs.Common.{not, take_rest, IsExponent, IsTail, IsSigned, signed}
+use Rattle.ijson_number.proofs.parsing.DigitRuns.{sign_one, whole_all, sign_taken, one_run, IsDigits_all, IsDigits_nonempty, IsDigits_from}
+use Rattle.ijson_number.proofs.parsing.DigitRuns.{exponent_begins, no_exponent, digits_signed}
+use Rattle.std.proofs.lemmas.List.Prefix.{end_rest}
 
--- a byte that is neither letter nor digit is no digit
 -- a text that ends a token begins with no digit
 pub none_begins : (rest : List ℕ) → EndsToken rest → BeginsWithNoDigit rest
 none_begins [] h = tt
@@ -57,26 +59,8 @@ behind_begins (b ∷ bs) f rest point g s = λ d. omega (arith, g.0)
 plain_unsigned : (t u : List ℕ) (n : Bool) (p : Parts) (rest : List ℕ) → IsSignTaken t n u → (f : IsCommonFront t p rest)
     → u ≡ p.whole ++ (f.fraction_text ++ f.after)
 plain_unsigned t u n p rest h f =
-    let r = p.whole ++ (f.fraction_text ++ f.after) in
-    let g : t ≡ f.minus_text ++ r = f.text_is in
-    let s : IsSignTaken t p.negative r = elim f.minus [
-      | inl e ↦ inr (
-        g ∙ rw e.0 refl,
-        e.1,
-        λ l q. whole_no_sign p.whole (f.fraction_text ++ f.after) f.whole (rw (g, e.0) at l)
-            (rw (g, e.0) at q),
-      )
-      | inr e ↦ inl (g ∙ rw e.0 refl, e.1)
-    ] in
-    (sign_one t u r n p.negative h s).1
-
--- there are at most 19 whole digits
--- and few fraction digits
-few_behind : (p : Parts) (count : ℕ) → length p.whole ≡ count
-    → (length p.whole + length p.fraction ≤ 19) ⊎ ((p.whole ≡ 48 ∷ []) × (length p.fraction ≤ 19))
-    → (count + length p.fraction ≤ 19) ⊎ ((value p.whole ≡ 0) × (length p.fraction ≤ 19))
-few_behind p count long (inl few) = inl (omega (arith, few, long))
-few_behind p count long (inr few) = inr (ap value few.0, few.1)
+    let s = sign_taken t f.minus_text p.whole (f.fraction_text ++ f.after) p.negative f.minus f.whole f.text_is in
+    (sign_one t u (p.whole ++ (f.fraction_text ++ f.after)) n p.negative h s).1
 
 -- the leading digits are the whole part,
 pub whole_taken : (t u a x : List ℕ) (n : Bool) (p : Parts) (rest : List ℕ) (count : ℕ) → IsSignTaken t n u → a ≡ take count u
@@ -96,6 +80,160 @@ plain_tail t a x p rest count c f r = record {
   has_point = f.has_point;
   text_is = r.1;
   fraction = f.fraction;
-  few = rw r.0 (few_behind p count (ap length (sym r.0) ∙ c) f.few);
+  few = elim f.few [
+    | inl few ↦ inl (omega (arith, few, c, ap length r.0))
+    | inr zero ↦ inr (ap value (r.0 ∙ zero.0), zero.1)
+  ];
   ends = f.digits_end;
 }
+
+-- unless the exponent is missing, the text begins with its letter
+tail_begins_at : (text exponent_text rest : List ℕ) → text ≡ exponent_text ++ rest → IsFewExponent exponent_text → EndsToken rest
+    → EndsToken text ⊎ ((0 < length text) × (get_or text 0 0 ≡ 101 ⊎ get_or text 0 0 ≡ 69))
+tail_begins_at text [] rest e h ends = inl (rw e ends)
+tail_begins_at [] (b ∷ bs) rest e h ends = absurd (cc)
+tail_begins_at (c ∷ text) (b ∷ bs) rest e h ends = let same : c ≡ b = cc in inr (omega arith, rw same h.0)
+
+pub tail_begins : (text rest : List ℕ) → IsExponentTail text rest
+    → EndsToken text ⊎ ((0 < length text) × (get_or text 0 0 ≡ 101 ⊎ get_or text 0 0 ≡ 69))
+tail_begins text rest t = tail_begins_at text t.exponent_text rest t.text_is t.exponent t.ends
+
+-- a letter continues the token
+pub letter_continues : (text : List ℕ) → 0 < length text → get_or text 0 0 ≡ 101 ⊎ get_or text 0 0 ≡ 69 → EndsToken text → ⊥
+letter_continues [] some b h = omega (arith, some)
+letter_continues (c ∷ text) some b h = grind (arith, nat_tests)
+
+-- a text that ends the token has no exponent
+token_ends : (text exponent_text rest : List ℕ) → text ≡ exponent_text ++ rest → IsFewExponent exponent_text → EndsToken text → text ≡ rest
+token_ends text [] rest e h ends = e
+token_ends text (b ∷ bs) rest e h ends = absurd (letter_continues text (rw e (omega arith)) (rw e h.0) ends)
+
+pub ends_at_once : (text rest : List ℕ) → IsExponentTail text rest → EndsToken text → text ≡ rest
+ends_at_once text rest t = token_ends text t.exponent_text rest t.text_is t.exponent
+
+-- the digits after a sign or none
+signed_digits : (number signed_text rest digits : List ℕ) (negative : Bool) → number ≡ signed_text ++ rest → IsFewSigned signed_text
+    → IsExponentSignTaken number negative digits
+    → (ds : List ℕ) × IsFewDigits ds × (digits ≡ ds ++ rest)
+signed_digits number [] rest digits negative e h sign = absurd h
+signed_digits number (b ∷ bs) rest digits negative e h sign = elim h [
+  | inl few ↦ elim sign [
+    | inl m ↦ (bs, few.1, cc (m.0, e))
+    | inr more ↦ elim more [
+      | inl p ↦ (bs, few.1, cc (p.0, e))
+      | inr none ↦ (let not = none.2 (rw e (omega arith)) in elim few.0 [
+        | inl plus ↦ absurd (not.1 (rw e plus))
+        | inr minus ↦ absurd (not.0 (rw e minus))
+      ])
+    ]
+  ]
+  | inr few ↦ (let d = few.0.0 in elim sign [
+    | inl m ↦ (let is : b ≡ 45 = cc (m.0, e) in absurd (omega (arith, d, is)))
+    | inr more ↦ elim more [
+      | inl p ↦ (let is : b ≡ 43 = cc (p.0, e) in absurd (omega (arith, d, is)))
+      | inr none ↦ (b ∷ bs, few, sym none.0 ∙ e)
+    ]
+  ])
+]
+
+-- and after the letter
+power_digits : (text exponent_text rest digits : List ℕ) (negative : Bool) → text ≡ exponent_text ++ rest → IsFewExponent exponent_text
+    → (EndsToken text → ⊥) → EndsToken rest → IsExponentSignTaken (drop 1 text) negative digits
+    → (ds : List ℕ) × IsFewDigits ds × (digits ≡ ds ++ rest)
+power_digits text [] rest digits negative e h on ends sign = absurd (on (rw e ends))
+power_digits text (b ∷ bs) rest digits negative e h on ends sign = signed_digits (drop 1 text) bs rest digits negative (ap (drop 1) e) h.1 sign
+
+-- the digits read after the letter and a sign are those of the exponent, and the text after them is the rest
+pub power_rest : (text rest digits : List ℕ) (negative : Bool) (magnitude count : ℕ) → IsExponentSignTaken (drop 1 text) negative digits
+    → IsTaken 0 digits 4 magnitude count → (EndsToken text → ⊥) → IsExponentTail text rest
+    → (0 < count) × (drop count digits ≡ rest)
+power_rest text rest digits negative magnitude count sign t on p =
+    let d = power_digits text p.exponent_text rest digits negative p.text_is p.exponent on p.ends sign in
+    let long = length-take-le count digits t.within in
+    let r = same_run 4 (take count digits) d.0 (drop count digits) rest t.digits (IsDigits_all d.0 d.1.0)
+    (λ few. t.all (omega (arith, long, few))) (none_begins rest p.ends) d.1.1 (take-append-drop count digits ∙ d.2) in
+    let some = IsDigits_nonempty d.0 d.1.0 in
+    let same : length (take count digits) ≡ length d.0 = ap length r.0 in
+    (omega (arith, some, same, long), r.1)
+
+-- a sign that was split off an exponent precedes its digits, and is a signed number with any digits after it
+pub sign_of : (number digits : List ℕ) (negative : Bool) → IsExponentSignTaken number negative digits
+    → (sign : List ℕ) × (number ≡ sign ++ digits) × ((ds : List ℕ) → IsDigits ds → IsSigned (sign ++ ds) (signed negative (value ds)))
+sign_of number digits negative sign = elim sign [
+  | inl m ↦ (45 ∷ [], m.0, λ ds all. inr (inl (refl, all, ap (λ n. signed n (value ds)) m.1)))
+  | inr more ↦ elim more [
+    | inl p ↦ (43 ∷ [], p.0, λ ds all. inl (refl, all, ap (λ n. signed n (value ds)) p.1))
+    | inr none ↦ ([], none.0, λ ds all. rw none.1 (digits_signed ds all))
+  ]
+]
+
+-- the text after the digits that were read
+pub behind_taken : (text digits : List ℕ) (negative : Bool) (count : ℕ) → 0 < length text → IsExponentSignTaken (drop 1 text) negative digits
+    → drop (length text - length (drop count digits)) text ≡ drop count digits
+behind_taken [] digits negative count some sign = absurd (omega arith)
+behind_taken (b ∷ text) digits negative count some sign =
+    let s = sign_of text digits negative sign in
+    let all : text ≡ (s.0 ++ take count digits) ++ drop count digits = s.1 ∙ ap (λ d. s.0 ++ d) (sym (take-append-drop count digits))
+    ∙ sym (append_assoc s.0 (take count digits) (drop count digits)) in
+    end_rest (b ∷ text) (drop count digits) (b ∷ (s.0 ++ take count digits)) (ap (λ t. b ∷ t) all)
+
+begun : (bytes after : List ℕ) (b : ℕ) → 0 < length bytes → get_or bytes 0 0 ≡ b → drop 1 bytes ≡ after → bytes ≡ b ∷ after
+begun [] after b h e d = absurd (omega arith)
+begun (x ∷ xs) after b h e d = cc
+
+no_tail_at : (ft et a rest f : List ℕ) (z : ℤ) (p w : Bool) → AllDigits a → BeginsWithNoDigit rest
+    → ((z : ℤ) (w : Bool) → IsExponent rest z w → ⊥) → IsFraction ft f p → IsExponent et z w → 46 ∷ (a ++ rest) ≡ ft ++ et → ⊥
+no_tail_at [] et a rest f z p w d n none g h e = no_exponent et 46 (a ++ rest) z w h refl (sym e)
+no_tail_at (b ∷ ft) et a rest f z p w d n none g h e =
+    let r = one_run a ft rest et d (IsDigits_all ft g.1) n (exponent_begins et z w h) (cc) in
+    none z w (rw r.1 h)
+
+-- a text that is read from its first byte on, which is a point
+module _ (bytes a rest : List ℕ) (h : 0 < length bytes) (e : get_or bytes 0 0 ≡ 46)
+    (s : take (length bytes - 1) (drop 1 bytes) ≡ a ++ rest) where
+  pub point_first : bytes ≡ 46 ∷ (a ++ rest)
+  point_first = begun bytes (a ++ rest) 46 h e (sym (take_rest bytes 1) ∙ s)
+
+  pub tail_at_point : (z : ℤ) (w : Bool) → 0 < length a → AllDigits a → IsExponent rest z w → IsTail bytes a z true
+  tail_at_point z w l d x = record {
+    fraction_text = 46 ∷ a;
+    exponent_text = rest;
+    has_point = true;
+    has_exponent = w;
+    text_is = point_first;
+    fraction_is = (refl, IsDigits_from a l d, refl, refl);
+    exponent_is = x;
+    point_is = refl;
+  }
+
+  pub no_tail_at_point : AllDigits a → BeginsWithNoDigit rest → ((z : ℤ) (w : Bool) → IsExponent rest z w → ⊥)
+      → (f : List ℕ) (z : ℤ) (p : Bool) → IsTail bytes f z p → ⊥
+  no_tail_at_point d n none f z p t =
+      no_tail_at t.fraction_text t.exponent_text a rest f z t.has_point t.has_exponent d n none t.fraction_is t.exponent_is
+      (sym point_first ∙ t.text_is)
+
+-- a tail without a point
+pub tail_without_point : (bytes : List ℕ) (z : ℤ) (w empty : Bool) → empty ≡ nat_eq (length bytes) 0 → IsExponent bytes z w
+    → IsTail bytes [] z (not empty)
+tail_without_point bytes z w empty e x = record {
+  fraction_text = [];
+  exponent_text = bytes;
+  has_point = false;
+  has_exponent = w;
+  text_is = refl;
+  fraction_is = (refl, refl);
+  exponent_is = x;
+  point_is = shown bytes e x;
+}
+  where
+    shown : (bytes : List ℕ) → empty ≡ nat_eq (length bytes) 0 → IsExponent bytes z w → not empty ≡ w
+    shown [] e x = rw (e, x.1) refl
+    shown (b ∷ bs) e x = let some : not empty ≡ true = grind (arith, nat_tests) in some ∙ sym x.2
+
+pub no_tail_without_point : (bytes : List ℕ) → (0 < length bytes → get_or bytes 0 0 ≡ 46 → ⊥)
+    → ((z : ℤ) (w : Bool) → IsExponent bytes z w → ⊥) → (f : List ℕ) (z : ℤ) (p : Bool) → IsTail bytes f z p → ⊥
+no_tail_without_point bytes other none f z p t = by_front t.fraction_text t.exponent_text t.text_is t.fraction_is t.exponent_is
+  where
+    by_front : (ft et : List ℕ) → bytes ≡ ft ++ et → IsFraction ft f t.has_point → IsExponent et z t.has_exponent → ⊥
+    by_front [] et e g h = none z t.has_exponent (rw e h)
+    by_front (b ∷ ft) et e g h = other (rw e (omega arith)) (rw e g.0)

@@ -5,7 +5,7 @@ use Rattle.ijson_number.proofs.Common.{number_push, number_from_digits, or_parts
 use Rattle.ijson_number.proofs.Common.{Denotes, Spells, value, exponent_of, IsStripped, digits_from_text, strips_one, signed_mul, signed_zero}
 use Rattle.ijson_number.proofs.Common.{abs_signed}
 use Rattle.ijson_number.proofs.parsing.DigitValues.{value_zeros_front, value_zeros_back}
-use Rattle.ijson_number.proofs.parsing.OneDivision.{spelled_one}
+use Rattle.ijson_number.proofs.parsing.DigitRuns.{spelled_one}
 
 pub same_decimal : (m m' e e' : ℤ) (p p' : Bool) → m ≡ m' → e ≡ e' → p ≡ p'
     → (let a : Decimal = record { mantissa = m; exponent = e; point = p } in a) ≡ record { mantissa = m'; exponent = e'; point = p' }

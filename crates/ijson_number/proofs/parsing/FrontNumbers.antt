@@ -1,16 +1,18 @@
 -- The leading number of a text, with or without an exponent.
 use Rattle.ijson_number.proofs.Common.{◌≡◌, ◌∙◌, ◌⊎◌, get_or, ℕ, ◌+◌, ◌-◌, ◌<◌, ◌≤◌, ◌^◌, Bool, true, false, List, [], ◌∷◌, ◌++◌, length, drop, take}
-use Rattle.ijson_number.proofs.Common.{refl, sym, subst, ap, inl, inr, append_assoc, arith, ℤ, pos, neg_ℤ, ◌+ℤ◌, ◌-ℤ◌, ◌||◌, ints, length-append}
-use Rattle.ijson_number.proofs.Common.{length-take-le, take-append-drop, AllDigits, IsExponent, IsFraction, IsSigned, IsSpelled, Parts, Spells, value}
-use Rattle.ijson_number.proofs.Common.{IsNum, signed, EndsToken, stripped_number, drop-append-add, take-append_seam, IsFront, IsMantissa, IsPower}
-use Rattle.ijson_number.proofs.Common.{IsPowerSmall, significand_number, significand_of, IsExponentSignTaken, IsTaken, power_le}
+use Rattle.ijson_number.proofs.Common.{refl, sym, subst, ap, append_assoc, arith, ℤ, pos, neg_ℤ, ◌+ℤ◌, ◌-ℤ◌, ◌||◌, ints, length-append}
+use Rattle.ijson_number.proofs.Common.{length-take-le, take-append-drop, AllDigits, IsExponent, IsFraction, IsSpelled, Parts, Spells, value, IsNum}
+use Rattle.ijson_number.proofs.Common.{signed, EndsToken, stripped_number, drop-append-add, take-append_seam, IsFront, IsMantissa, IsPower}
+use Rattle.ijson_number.proofs.Common.{IsPowerSmall, significand_number, significand_of, IsExponentSignTaken, IsTaken, power_le, FitsSigned}
+use Rattle.ijson_number.proofs.Common.{to_z-of_z, to_z, of_z}
 use Rattle.std.proofs.Math.Bool.{or-false, or-true}
 use Rattle.ijson_number.specs.declared.fast_reader.Front.{Front}
 use Rattle.ijson_number.specs.declared.significand.Significand.{Significand}
 use Rattle.ijson_number.proofs.storing.Significands.{parts_number}
-use Rattle.ijson_number.proofs.storing.DigitBounds.{value_small}
+use Rattle.ijson_number.proofs.parsing.DigitValues.{value_small}
 use Rattle.ijson_number.proofs.parsing.DigitRuns.{IsDigits_from}
-use Rattle.ijson_number.proofs.parsing.ExponentTails.{behind_taken}
+use Rattle.ijson_number.proofs.parsing.CommonFronts.{behind_taken, sign_of}
+use Rattle.std.specs.Int.{Width}
 
 -- leading digits, with an exponent after them or none
 module _ (text : List ℕ) (f : Front) (rest : List ℕ) (m : IsMantissa text f rest) where
@@ -90,11 +92,6 @@ module _ (text : List ℕ) (f : Front) (rest : List ℕ) (m : IsMantissa text f 
         ends = rw (behind count) ends;
       }
 
--- digits without a sign are a signed number
-signed_of : (ds : List ℕ) (z : ℤ) → 0 < length ds → AllDigits ds → z ≡ pos (value ds) → IsSigned ds z
-signed_of [] z some all is = absurd (omega arith)
-signed_of (d ∷ ds) z some all is = inr (inr ((all.0, all.1), is))
-
 -- `e`, a sign or none and digits are an exponent
 exponent_at : (b : ℕ) (number digits : List ℕ) (negative : Bool) (count : ℕ) (z : ℤ) → b ≡ 101 ⊎ b ≡ 69
     → IsExponentSignTaken number negative digits
@@ -103,26 +100,10 @@ exponent_at : (b : ℕ) (number digits : List ℕ) (negative : Bool) (count : �
 exponent_at b number digits negative count z begins sign some within all is =
     let ds : List ℕ = take count digits in
     let long : length ds ≡ count = length-take-le count digits within in
-    let split : digits ≡ ds ++ drop count digits = sym (take-append-drop count digits) in
-    elim sign [
-      | inl e ↦ (
-        b ∷ 45 ∷ ds,
-        ap (λ n. b ∷ n) (e.0 ∙ ap (λ d. 45 ∷ d) split),
-        (begins, inr (inl (refl, IsDigits_from ds (omega (arith, long)) all, is ∙ ap (λ n. signed n (value ds)) e.1)), refl),
-      )
-      | inr e ↦ elim e [
-        | inl p ↦ (
-          b ∷ 43 ∷ ds,
-          ap (λ n. b ∷ n) (p.0 ∙ ap (λ d. 43 ∷ d) split),
-          (begins, inl (refl, IsDigits_from ds (omega (arith, long)) all, is ∙ ap (λ n. signed n (value ds)) p.1), refl),
-        )
-        | inr p ↦ (
-          b ∷ ds,
-          ap (λ n. b ∷ n) (p.0 ∙ split),
-          (begins, signed_of ds z (omega (arith, long)) all (is ∙ ap (λ n. signed n (value ds)) p.1), refl),
-        )
-      ]
-    ]
+    let s = sign_of number digits negative sign in
+    let split : number ≡ (s.0 ++ ds) ++ drop count digits = s.1 ∙ ap (λ d. s.0 ++ d) (sym (take-append-drop count digits))
+    ∙ sym (append_assoc s.0 ds (drop count digits)) in
+    (b ∷ (s.0 ++ ds), ap (λ n. b ∷ n) split, (begins, rw is (s.2 ds (IsDigits_from ds (omega (arith, long)) all)), refl))
 
 -- four digits have a value below 10^4
 few_small : (ds : List ℕ) → AllDigits ds → length ds ≤ 4 → value ds < 10 ^ 4
@@ -173,3 +154,7 @@ front_alone text rest f m ends =
     integer : (point : Bool) (text digits : List ℕ) → IsFraction text digits point → {e : ℤ} → e ≡ neg_ℤ (pos (length digits)) → point ≡ false → e ≡ pos 0
     integer point [] digits f is h = rw f.0 at is
     integer point (b ∷ bs) digits f is h = absurd (let t : point ≡ true = f.3 in cc)
+
+-- a number that fits a width, negated in it
+pub negated : (w : Width) (n : ℕ) → to_z w n ≡ pos n → FitsSigned w (pos 0 -ℤ pos n) → to_z w (of_z w (pos 0 -ℤ to_z w n)) ≡ neg_ℤ (pos n)
+negated w n is fits = rw (is, to_z-of_z w (pos 0 -ℤ pos n) fits) (omega (arith, ints))

@@ -1,9 +1,9 @@
 -- Leading digits that are read in steps.
-use Rattle.ijson_number.proofs.Common.{◌≡◌, ℕ, ◌+◌, ◌-◌, ◌*◌, ◌^◌, ◌<◌, ◌≤◌, List, length, take, drop, sym, ap, ◌∙◌, arith, pow-add, take-add}
+use Rattle.ijson_number.proofs.Common.{◌≡◌, ℕ, ◌+◌, ◌-◌, ◌*◌, ◌^◌, ◌<◌, ◌≤◌, min, List, length, take, drop, sym, ap, ◌∙◌, arith, pow-add, take-add}
 use Rattle.ijson_number.proofs.Common.{number_from_digits_after, mul-le-mul_right, number_after_append, number_after_lt, drop-drop, drop_more}
 use Rattle.ijson_number.proofs.Common.{length-drop, length-take-le, map-append, take-take, get_or-chunk, length-chunk, chunk, AllDigits, value}
 use Rattle.ijson_number.proofs.Common.{digits_from_text, IsCount, IsTaken}
-use Rattle.ijson_number.proofs.storing.DigitBounds.{below_base, count_of, digits_small}
+use Rattle.ijson_number.proofs.parsing.DigitValues.{below_base, count_of, digits_small}
 use Rattle.ijson_number.proofs.parsing.DigitRuns.{AllDigits-append, AllDigits_left}
 use Rattle.ijson_number.proofs.comparing.MagnitudeOrder.{number_after_is}
 
@@ -46,18 +46,21 @@ taken_behind number longer bytes count most longest more few within digits value
 
 -- up to `most` of the digits among the first 16 bytes
 module _ (number : ℕ) (bytes : List ℕ) (most found count : ℕ) (buffer : 16 ≤ length bytes) (is : IsCount (chunk 0 16 bytes) found)
-    (fewer : count ≤ found) (few : count ≤ most) where
+    (least : count ≡ min found most) where
+  pub few : count ≤ most
+  few = omega (arith, least)
+
   long : length (chunk 0 16 bytes) ≡ 16
   long = length-chunk 0 16 bytes (omega arith)
 
   pub at_most_16 : count ≤ 16
-  at_most_16 = omega (arith, is.within, long)
+  at_most_16 = omega (arith, is.within, long, least)
 
   same : take count (chunk 0 16 bytes) ≡ take count bytes
   same = take-take count 16 bytes at_most_16
 
   pub row_digits : AllDigits (take count (chunk 0 16 bytes))
-  row_digits = fewer_digits (chunk 0 16 bytes) count found fewer is.digits
+  row_digits = fewer_digits (chunk 0 16 bytes) count found (omega (arith, least)) is.digits
 
   pub row_in_text : AllDigits (take count bytes)
   row_in_text = rw (← same) row_digits
@@ -77,13 +80,13 @@ module _ (number : ℕ) (bytes : List ℕ) (most found count : ℕ) (buffer : 16
   at_front = omega arith
 
   -- if fewer than 16 and fewer than `most` were read, no digit follows
-  pub row_taken : count < 16 → (count < most → count ≡ found)
-      → IsTaken number bytes most (number * 10 ^ count + value (take count (chunk 0 16 bytes))) count
-  row_taken less stops = record {
+  pub row_taken : count < 16 → IsTaken number bytes most (number * 10 ^ count + value (take count (chunk 0 16 bytes))) count
+  row_taken less = record {
     few = few;
     within = omega arith;
     digits = row_in_text;
-    all = λ l. rw (drop_more bytes count 0 (omega arith))
-        (λ d. is.stops (omega (arith, long, stops l)) (rw (← stops l, get_or-chunk 0 16 bytes count 0 less, at_front) d));
+    all = λ l. let all : count ≡ found = omega (arith, least, l) in
+        rw (drop_more bytes count 0 (omega arith))
+        (λ d. is.stops (omega (arith, long, all)) (rw (← all, get_or-chunk 0 16 bytes count 0 less, at_front) d));
     value = row_value;
   }

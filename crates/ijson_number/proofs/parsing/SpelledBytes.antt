@@ -2,8 +2,7 @@
 use Rattle.ijson_number.proofs.Common.{◌≡◌, ℕ, ◌≤◌, Bool, List, [], ◌∷◌, ◌++◌, refl, ◌∙◌, inl, inr, arith, append_assoc, ℤ, IsTrue, ◌||◌, ◌==◌}
 use Rattle.ijson_number.proofs.Common.{AllByRecursion, le-leb, Decimal, AllDigits, IsMinus, IsWhole, IsFraction, IsSigned, IsExponent, Spells, ap₂}
 use Rattle.ijson_number.specs.NumberBytes.{is_digit, is_number_byte}
-use Rattle.ijson_number.proofs.parsing.OneDivision.{whole_all}
-use Rattle.ijson_number.proofs.parsing.DigitRuns.{IsDigits_all}
+use Rattle.ijson_number.proofs.parsing.DigitRuns.{whole_all, IsDigits_all}
 
 abbrev NumberBytes : List ℕ → Type 0
 NumberBytes bs = AllByRecursion (λ b. IsTrue (is_number_byte b)) bs

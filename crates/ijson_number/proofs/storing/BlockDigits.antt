@@ -5,10 +5,9 @@ use Rattle.ijson_number.proofs.Common.{bool_byte, all_below_base_digits_of, digi
 use Rattle.ijson_number.proofs.Common.{nat_tests, digits_text, digits_from_text, IsZerosInFront}
 use lib.Dec.{leb}
 use Rattle.ijson_number.specs.private.WordText.{last_digits}
-use Rattle.ijson_number.proofs.writing.LastDigits.{front_is}
+use Rattle.ijson_number.proofs.writing.LastDigits.{front_is, joined, last_count}
 use Rattle.ijson_number.proofs.parsing.ReadLanes.{digit_lanes}
 use Rattle.ijson_number.proofs.writing.DigitTexts.{read_back}
-use Rattle.ijson_number.proofs.writing.PaddedDigits.{joined, last_count}
 
 -- the text of a number, converted to digits
 pub made : (n start : ℕ) (text buffer : List ℕ) → 0 < n → n < 2 ^ 64 → drop start text ≡ decimal n ++ [] → buffer ≡ digits_from_text text

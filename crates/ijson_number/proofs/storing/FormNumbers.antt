@@ -1,25 +1,20 @@
 -- The number of a number's form is that number.
 use Rattle.ijson_number.proofs.Common.{◌≡◌, ◌≢◌, ℕ, zero, suc, ◌*◌, ◌/◌, ◌%◌, ◌^◌, ◌<◌, Bool, true, false, refl, ap, sym, ◌∙◌, inl, inr, subst, arith}
 use Rattle.ijson_number.proofs.Common.{ℤ, pos, negsuc, nat_abs, nat_eq, int_le, int_lt, ◌*ℤ◌, ◌+ℤ◌, ◌-ℤ◌, ◌≤ℤ◌, ◌&&◌, number_from_digits, pow-succ'}
-use Rattle.ijson_number.proofs.Common.{nat_tests, ints, number_digits_of, and_parts, Decimal, IsPlain, FormOf, packed, fits_packed, fits_i64}
-use Rattle.ijson_number.proofs.Common.{fits_u64, digits_form, integer_form, smallest_packed, form_of, form_number, with_ten, exponent_above}
-use Rattle.ijson_number.proofs.Common.{stripped_number, IsNum, Strips, signed, stripped_digits, int_tens, int_zero, signed_mul, abs_signed}
-use Rattle.ijson_number.proofs.Common.{zero_or_not}
+use Rattle.ijson_number.proofs.Common.{ints, number_digits_of, and_parts, Decimal, IsPlain, FormOf, packed, fits_packed, fits_i64, fits_u64}
+use Rattle.ijson_number.proofs.Common.{digits_form, integer_form, smallest_packed, form_of, form_number, with_ten, exponent_above, stripped_number}
+use Rattle.ijson_number.proofs.Common.{IsNum, Strips, signed, stripped_digits, int_tens, int_zero, signed_mul, abs_signed, zero_or_not}
 use Rattle.ijson_number.specs.Stripped.{tens_out}
-use Rattle.ijson_number.proofs.storing.DigitsOf.{digits_are}
+use Rattle.ijson_number.specs.laws.IntegerValues.{ten_more}
+use Rattle.ijson_number.proofs.writing.DigitTexts.{digits_are}
 use Rattle.ijson_number.proofs.parsing.Denotes.{same_decimal}
-use Rattle.ijson_number.proofs.BooleanTests.{abs_zero, test_le}
+use Rattle.ijson_number.proofs.BooleanTests.{abs_zero, not_zero, test_le}
 use Rattle.ijson_number.proofs.storing.WholeValues.{times_one}
 use Rattle.ijson_number.proofs.comparing.MagnitudeOrder.{gap}
+pub use Rattle.ijson_number.specs.laws.IntegerValues.{sign_and_magnitude}
 
 abbrev pub IsTensOut : ℕ → ℕ × ℕ → Type 0
 IsTensOut n r = (n ≡ r.0 * 10 ^ r.1) × (r.0 % 10 ≢ 0)
-
-ten_more : (n q k : ℕ) → n % 10 ≡ 0 → n / 10 ≡ q * 10 ^ k → n ≡ q * 10 ^ suc k
-ten_more n q k h e =
-    let p : 10 ^ suc k ≡ 10 * 10 ^ k = pow-succ' 10 k in
-    let s : n ≡ n / 10 * 10 = omega arith in
-    rw p (let t : n ≡ q * 10 ^ k * 10 = rw (← e) s in grind (arith, t))
 
 one_turn : (b : Bool) (n : ℕ) (r : ℕ × ℕ) → nat_eq (n % 10) 0 ≡ b → (n % 10 ≡ 0 → IsTensOut (n / 10) r) → IsTensOut n (with_ten b n r)
 one_turn true n r e h = let z : n % 10 ≡ 0 = grind arith in let t = h z in (ten_more n r.0 r.1 z t.0, t.1)
@@ -36,14 +31,6 @@ pub tens_out_zero : (turns : ℕ) → (tens_out turns 0).0 ≡ 0
 unfolding tens_out
 tens_out_zero zero = refl
 tens_out_zero (suc turns) = tens_out_zero turns
-
-pub sign_and_magnitude : (m : ℤ) → signed (int_lt m (pos 0)) (nat_abs m) ≡ m
-sign_and_magnitude (pos zero) = refl
-sign_and_magnitude (pos (suc n)) = let t : int_lt (pos (suc n)) (pos 0) ≡ false = grind (arith, nat_tests) in rw t refl
-sign_and_magnitude (negsuc n) = refl
-
-pub not_zero : (v : ℕ) → v ≢ 0 → nat_eq v 0 ≡ false
-not_zero v h = let some : 0 < v = omega arith in grind arith
 
 module _ (m e : ℤ) (n : Decimal) (small : nat_abs m < 10 ^ 20) (s : Strips m e n) where
   abbrev out : ℕ × ℕ

@@ -2,13 +2,14 @@
 use Rattle.ijson_number.proofs.Common.{◌≡◌, ◌≢◌, ℕ, ◌*◌, ◌%◌, ◌^◌, ◌<◌, Bool, true, false, [], refl, ap, sym, subst, ◌∙◌, inl, inr, arith, ℤ, pos}
 use Rattle.ijson_number.proofs.Common.{nat_abs, int_lt, ◌+ℤ◌, FitsSigned, w64, number_from_digits, digits_of, ints, number_digits_of, Decimal, FormOf}
 use Rattle.ijson_number.proofs.Common.{packed, signed_word, unsigned_word, fits_packed, fits_i64, fits_u64, digits_form, integer_form, form_of}
-use Rattle.ijson_number.proofs.Common.{form_number, integer_word, stripped_number, IsInteger, HasValue, stored_number, IsNum, signed, IsStored}
-use Rattle.ijson_number.proofs.Common.{int_tens, abs_signed, zero_or_not}
+use Rattle.ijson_number.proofs.Common.{form_number, integer_word, stripped_number, IsInteger, stored_number, IsNum, signed, IsStored, int_tens}
+use Rattle.ijson_number.proofs.Common.{abs_signed, zero_or_not}
 use Rattle.ijson_number.specs.Stripped.{tens_out}
-use Rattle.ijson_number.proofs.storing.FormNumbers.{IsTensOut, tens_out_is, tens_out_zero, sign_and_magnitude, not_zero, form_has}
+use Rattle.ijson_number.specs.laws.IntegerValues.{integer_value}
+use Rattle.ijson_number.proofs.storing.FormNumbers.{IsTensOut, tens_out_is, tens_out_zero, sign_and_magnitude, form_has, stored_num, stored_form_of}
 use Rattle.ijson_number.proofs.parsing.Denotes.{signed_nought}
-use Rattle.ijson_number.proofs.BooleanTests.{abs_zero}
-use Rattle.ijson_number.proofs.storing.WholeValues.{tens_few, whole_stripped, value_from, value_is, whole_num, whole_value}
+use Rattle.ijson_number.proofs.BooleanTests.{abs_zero, not_zero}
+use Rattle.ijson_number.proofs.storing.WholeValues.{tens_few, whole_stripped, value_is, whole_num}
 use Rattle.ijson_number.proofs.writing.Writing.{below_zero}
 
 -- a mantissa of zero
@@ -63,26 +64,11 @@ module _ (z : ℤ) (word : nat_abs z < 2 ^ 64) where
   abbrev number : Decimal
   number = stripped_number z (pos 0) false
 
-  module _ (some : nat_abs z ≢ 0) where
-    abbrev parts : ℕ × ℕ
-    parts = tens_out 20 (nat_abs z)
-
-    tens : IsTensOut (nat_abs z) parts
-    tens = tens_are z word some
-
-    number_is : number ≡ stored_number (int_lt z (pos 0)) (digits_of 10 parts.0) (pos 0 +ℤ pos parts.1) false
-    number_is = without_tens z word some (pos 0) false
-
-    some_num : IsNum number
-    some_num = subst IsNum (sym number_is)
-        (whole_num (int_lt z (pos 0)) (nat_abs z) parts.0 parts.1 (digits_of 10 parts.0)
-        (pos 0 +ℤ pos parts.1) refl (omega (arith, ints)) tens.0 (few_tens z word some) tens.1)
-
-    some_value : HasValue number z
-    some_value = subst (λ n. HasValue n z) (sym number_is)
-        (subst (HasValue (stored_number (int_lt z (pos 0)) (digits_of 10 parts.0) (pos 0 +ℤ pos parts.1) false)) (sign_and_magnitude z)
-        (whole_value (int_lt z (pos 0)) (nat_abs z) parts.0 parts.1 (digits_of 10 parts.0)
-        (pos 0 +ℤ pos parts.1) refl (omega (arith, ints)) tens.0 (few_tens z word some) tens.1))
+  some_num : nat_abs z ≢ 0 → IsNum number
+  some_num some =
+      let out = tens_out 20 (nat_abs z) in
+      subst IsNum (sym (without_tens z word some (pos 0) false))
+      (whole_num (int_lt z (pos 0)) out.0 out.1 (few_tens z word some) (tens_are z word some).1)
 
   zero_num : IsNum (stored_number false [] (pos 0) false)
   zero_num = record {
@@ -96,14 +82,6 @@ module _ (z : ℤ) (word : nat_abs z < 2 ^ 64) where
     | inr n ↦ some_num (λ e. n (abs_zero z e))
   ]
 
-  has_value : HasValue number z
-  has_value = elim (zero_or_not z) [
-    | inl e ↦ subst (λ y. HasValue (stripped_number y (pos 0) false) y) (sym e)
-        (subst (λ n. HasValue n (pos 0)) (sym (zero_is false (pos 0) false))
-        (value_from (stored_number false [] (pos 0) false) (pos 0) (omega (arith, ints)) refl))
-    | inr n ↦ some_value (λ e. n (abs_zero z e))
-  ]
-
   -- an integer of 64 bits is not stored by its digits
   same_word : (n : Decimal) (a b c : Bool) → (b ≡ false → c ≡ true) → (let f : FormOf = elim a [
     | true ↦ packed z (pos 0) false
@@ -115,17 +93,18 @@ module _ (z : ℤ) (word : nat_abs z < 2 ^ 64) where
 
   module _ (f : FormOf) (fits : fits_i64 z ≡ false → fits_u64 z ≡ true) (is : f ≡ integer_word z) where
     pub form_is : f ≡ form_of number
-    form_is = is ∙ sym (ap (integer_form number) (sym (value_is number z is_num.plain has_value).1)
+    form_is = is ∙ sym (ap (integer_form number) (sym (value_is number z is_num.plain (integer_value z)).1)
         ∙ same_word number (fits_packed z) (fits_i64 z) (fits_u64 z) fits)
 
     pub word_num : IsNum (form_number f)
-    word_num = subst IsNum (sym (form_has number f is_num.plain form_is)) is_num
+    word_num = stored_num number f is_num form_is
 
     pub word_form : form_of (form_number f) ≡ f
-    word_form = ap form_of (form_has number f is_num.plain form_is) ∙ sym form_is
+    word_form = stored_form_of number f is_num form_is
 
     pub word_integer : IsInteger (form_number f) z
-    word_integer = subst (λ n. IsInteger n z) (sym (form_has number f is_num.plain form_is)) (record { value = has_value; no_point = refl })
+    word_integer = subst (λ n. IsInteger n z) (sym (form_has number f is_num.plain form_is))
+        (record { value = integer_value z; no_point = refl })
 
 -- a signed word
 pub signed_small : (z : ℤ) → FitsSigned w64 z → nat_abs z < 2 ^ 64

@@ -11,7 +11,7 @@ use Rattle.ijson_number.specs.declared.significand.Significand.{Significand}
 use Rattle.ijson_number.proofs.BooleanTests.{abs_zero, le_test, not_le}
 use Rattle.ijson_number.proofs.parsing.Denotes.{signed_nought}
 use Rattle.ijson_number.proofs.parsing.Exponents.{within_in_range}
-use Rattle.ijson_number.proofs.parsing.PartsDenote.{parts_denote}
+use Rattle.ijson_number.proofs.parsing.CanonicalSpellings.{parts_denote}
 use Rattle.ijson_number.proofs.storing.FormCases.{left, packed_here, taken}
 use Rattle.ijson_number.proofs.storing.FormNumbers.{IsTensOut, tens_out_is, stripped_is}
 use Rattle.ijson_number.proofs.storing.IntegerWords.{some_is, zero_is}

@@ -1,14 +1,14 @@
 -- Numbers that are whole, and their digits.
 use Rattle.ijson_number.proofs.Common.{◌≡◌, ◌≢◌, ◌⊎◌, ℕ, suc, ◌+◌, ◌-◌, ◌*◌, ◌/◌, ◌%◌, ◌^◌, ◌<◌, ◌≤◌, Bool, false, List, [], ◌∷◌, ◌++◌, length}
 use Rattle.ijson_number.proofs.Common.{get_or, take, Option, Some, None, refl, ap, sym, ◌∙◌, inl, inr, arith, pow-add, ℤ, pos, negsuc, nat_abs}
-use Rattle.ijson_number.proofs.Common.{IfNone, ◌-ℤ◌, ◌*ℤ◌, ◌≤ℤ◌, ◌<ℤ◌, digits_of, number_from_digits, alike_right, int_cmp, is_eq, Ordering, Equal}
+use Rattle.ijson_number.proofs.Common.{IfNone, ◌+ℤ◌, ◌-ℤ◌, ◌*ℤ◌, ◌≤ℤ◌, ◌<ℤ◌, digits_of, number_from_digits, alike_right, int_cmp, is_eq, Ordering, Equal}
 use Rattle.ijson_number.proofs.Common.{pow-succ', mul-mod_left, mul-le-mul_right, ints, digits_of_step, all_below_base_digits_of, first_digits_of}
 use Rattle.ijson_number.proofs.Common.{number_digits_of, number_lt, All, cases_lt, length-take, All-from_recursion, recursion_from_All, Decimal}
 use Rattle.ijson_number.proofs.Common.{IsPlain, integer, HasValue, IsInteger, number_cmp, IsNum, stored_number, signed, length-append}
 use Rattle.ijson_number.proofs.Common.{get_or-append_seam, number_cmp_total, rescale, tests_equal, cmp_equal, nonneg, IsStripped, power_le}
-use Rattle.ijson_number.proofs.Common.{signed_mul, abs_signed}
+use Rattle.ijson_number.proofs.Common.{abs_signed}
 use Rattle.ijson_number.proofs.writing.DigitTexts.{below_take}
-use Rattle.ijson_number.proofs.comparing.MagnitudeOrder.{same_int_cmp, scaled_below, above_none, number_least}
+use Rattle.ijson_number.proofs.comparing.MagnitudeOrder.{same_int_cmp, scaled_below, number_least}
 use Rattle.ijson_number.proofs.parsing.Exponents.{within_in_range}
 use Rattle.ijson_number.proofs.parsing.Denotes.{stripped_plain}
 
@@ -107,7 +107,7 @@ tens_few number rest tens h n e =
     elim (cases_lt tens 20) [
       | inl l ↦ l
       | inr g ↦ (let p : 10 ^ 20 ≤ 10 ^ tens = power_le 20 tens g in
-          let m : 1 * 10 ^ tens ≤ rest * 10 ^ tens = mul-le-mul_right (10 ^ tens) (above_none rest n) in absurd (omega arith))
+          let m : 1 * 10 ^ tens ≤ rest * 10 ^ tens = mul-le-mul_right (10 ^ tens) (omega (arith, n)) in absurd (omega arith))
     ]
 
 -- stripping a zero
@@ -122,23 +122,14 @@ digits_some : (ds : List ℕ) (v : ℕ) → number_from_digits 10 ds ≡ v → v
 digits_some [] v h m = absurd (m (rw (← h) refl))
 digits_some (d ∷ ds) v h m = omega arith
 
-module _ (negative : Bool) (magnitude s t : ℕ) (ds : List ℕ) (e : ℤ) (is : ds ≡ digits_of 10 s) (exact : e ≡ pos t)
-    (tens : magnitude ≡ s * 10 ^ t) (few : t < 20) (n : s % 10 ≢ 0) where
-  number_is : number_from_digits 10 ds ≡ s
-  number_is = rw is (number_digits_of 10 s (omega arith))
-
-  -- the digits of an integer and its zeros are a Num
-  pub whole_num : IsNum (stored_number negative ds e false)
-  whole_num = record {
-    plain = stripped_plain negative false ds e (rw is (whole_stripped s n)) (digits_some ds s number_is n) (λ _. omega (arith, ints));
-    in_range = within_in_range (stored_number negative ds e false) (omega (arith, ints), omega (arith, ints));
-  }
-
-  -- and have its value
-  pub whole_value : HasValue (stored_number negative ds e false) (signed negative magnitude)
-  whole_value =
-      value_from (stored_number negative ds e false) (signed negative magnitude) (omega (arith, ints))
-      (rw (tens, number_is, exact) (signed_mul negative s (10 ^ t)))
+-- the digits of an integer and its zeros are a Num
+pub whole_num : (negative : Bool) (s t : ℕ) → t < 20 → s % 10 ≢ 0 → IsNum (stored_number negative (digits_of 10 s) (pos 0 +ℤ pos t) false)
+whole_num negative s t few n =
+    let ds = digits_of 10 s in
+    let some = digits_some ds s (number_digits_of 10 s (omega arith)) n in record {
+      plain = stripped_plain negative false ds (pos 0 +ℤ pos t) (whole_stripped s n) some (λ _. omega (arith, ints));
+      in_range = within_in_range (stored_number negative ds (pos 0 +ℤ pos t) false) (omega (arith, ints), omega (arith, ints));
+    }
 
 -- canonical digits and zeros that are more than twenty together have a large value
 pub large_mantissa : (negative : Bool) (ds : List ℕ) (zeros : ℕ) → IsStripped ds → 0 < length ds → 20 < zeros + length ds

@@ -1,11 +1,52 @@
--- Digits that are written are read unchanged.
-use Rattle.ijson_number.proofs.Common.{◌≡◌, ℕ, zero, suc, ◌+◌, ◌-◌, ◌<◌, List, [], ◌∷◌, ◌++◌, length, get_or, take, drop, refl, ap, sym, ◌∙◌, inl}
-use Rattle.ijson_number.proofs.Common.{inr, arith, ℤ, pos, negsuc, neg_ℤ, AllByRecursion, map-append, take-append-drop, length-map, number_digits_of}
-use Rattle.ijson_number.proofs.Common.{all_below_base_digits_of, first_digits_of, number_from_digits, digits_within, AllDigits, IsDigits, IsWhole}
-use Rattle.ijson_number.proofs.Common.{IsSigned, value, digits_text, zeros_text, whole_text, recursion_from_All, All-take, All-drop}
+-- Canonical digits are those of their value, and are written and read unchanged.
+use Rattle.ijson_number.proofs.Common.{◌≡◌, ◌≢◌, ℕ, zero, suc, ◌+◌, ◌*◌, ◌/◌, ◌%◌, ◌<◌, Bool, List, [], ◌∷◌, ◌++◌, length, get_or, refl, ap, sym, ◌∙◌}
+use Rattle.ijson_number.proofs.Common.{arith, append_assoc, nat_abs, nat_eq, true, false, cond, ℤ, append-nil, AllByRecursion, recursion_from_All}
+use Rattle.ijson_number.proofs.Common.{digits_of_step, number_from_digits, number_from_digits_after, digits_of, digits_with_fuel, signed}
+use Rattle.ijson_number.proofs.Common.{stored_number, digits_within, stripped_digits, IsStripped, abs_signed, ◌-◌, take, drop, inl, inr, pos, negsuc}
+use Rattle.ijson_number.proofs.Common.{neg_ℤ, map-append, take-append-drop, length-map, number_digits_of, all_below_base_digits_of, first_digits_of}
+use Rattle.ijson_number.proofs.Common.{AllDigits, IsDigits, IsWhole, IsSigned, value, digits_text, zeros_text, whole_text, All-take, All-drop}
 use Rattle.ijson_number.proofs.Common.{All-from_recursion, digits_from_text}
-use Rattle.ijson_number.proofs.parsing.DigitRuns.{AllDigits-append, IsDigits_from}
-use Rattle.ijson_number.proofs.storing.DigitsOf.{digits_are}
+use Rattle.ijson_number.proofs.parsing.DigitRuns.{AllDigits-append, IsDigits_from, digits_signed}
+
+step : (m d : ℕ) → d < 10 → 0 < m * 10 + d → digits_of 10 (m * 10 + d) ≡ digits_of 10 m ++ d ∷ []
+step m d h p =
+    let q : (m * 10 + d) / 10 ≡ m = omega arith in
+    let r : (m * 10 + d) % 10 ≡ d = omega arith in
+    digits_of_step 10 (m * 10 + d) (omega arith) p ∙ rw (q, r) refl
+
+digits_after : (m : ℕ) (ds : List ℕ) → AllByRecursion (λ d. d < 10) ds → 0 < m
+    → digits_of 10 (number_from_digits_after 10 m ds) ≡ digits_of 10 m ++ ds
+digits_after m [] h p = sym (append-nil (digits_of 10 m))
+digits_after m (d ∷ ds) h p = digits_after (m * 10 + d) ds h.1 (omega arith) ∙ ap (λ x. x ++ ds) (step m d h.0 (omega arith))
+    ∙ append_assoc (digits_of 10 m) (d ∷ []) ds
+
+digits_back : (ds : List ℕ) → AllByRecursion (λ d. d < 10) ds → (0 < length ds → get_or ds 0 0 ≢ 0)
+    → digits_of 10 (number_from_digits 10 ds) ≡ ds
+digits_back [] h f = refl
+digits_back (d ∷ ds) h f =
+    let n : d ≢ 0 = f (omega arith) in
+    digits_after (0 * 10 + d) ds h.1 (omega arith) ∙ ap (λ x. x ++ ds) (step 0 d h.0 (omega arith))
+
+pub stripped_back : (ds : List ℕ) → IsStripped ds → digits_of 10 (number_from_digits 10 ds) ≡ ds
+stripped_back ds s = digits_back ds (recursion_from_All (λ d. d < 10) ds s.below_ten) s.first
+
+-- the digits of the definitions are those of std
+same_turn : (b : Bool) (xs ys : List ℕ) → xs ≡ ys → (let r : List ℕ = elim b [ true ↦ [] | false ↦ xs ] in r) ≡ cond b [] ys
+same_turn true xs ys e = refl
+same_turn false xs ys e = e
+
+pub digits_are : (turns n : ℕ) → digits_within turns n ≡ digits_with_fuel 10 turns n
+digits_are zero n = refl
+digits_are (suc turns) n =
+    same_turn (nat_eq n 0) (digits_within turns (n / 10) ++ (n % 10 ∷ [])) (digits_with_fuel 10 turns (n / 10) ++ (n % 10 ∷ []))
+    (ap (λ x. x ++ (n % 10 ∷ [])) (digits_are turns (n / 10)))
+
+-- the digits of the stored number are the stored digits
+pub stored_digits_are : (negative : Bool) (ds : List ℕ) (e : ℤ) (point : Bool) → IsStripped ds
+    → stripped_digits (stored_number negative ds e point) ≡ ds
+stored_digits_are negative ds e point s =
+    let m = nat_abs (signed negative (number_from_digits 10 ds)) in
+    digits_are m m ∙ ap (digits_of 10) (abs_signed negative (number_from_digits 10 ds)) ∙ stripped_back ds s
 
 abbrev pub Below : List ℕ → Type 0
 Below ds = AllByRecursion (λ d. d < 10) ds
@@ -14,6 +55,9 @@ Below ds = AllByRecursion (λ d. d < 10) ds
 pub read_back : (ds : List ℕ) → digits_from_text (digits_text ds) ≡ ds
 read_back [] = refl
 read_back (d ∷ ds) = let h : 48 + d - 48 ≡ d = omega arith in rw (h, read_back ds) refl
+
+pub length_text : (ds : List ℕ) → length (digits_text ds) ≡ length ds
+length_text ds = length-map {A = ℕ} {B = ℕ} ds (λ d. 48 + d)
 
 pub value_text : (ds : List ℕ) → value (digits_text ds) ≡ number_from_digits 10 ds
 value_text ds = ap (number_from_digits 10) (read_back ds)
@@ -50,14 +94,9 @@ pub first_some : (ds : List ℕ) → 0 < get_or ds 0 0 → 0 < length ds
 first_some [] h = absurd (omega arith)
 first_some (d ∷ ds) h = omega arith
 
-signed_digits : (xs : List ℕ) → IsDigits xs → IsSigned xs (pos (value xs))
-signed_digits [] h = absurd h
-signed_digits (x ∷ xs) h = inr (inr (h, refl))
-
 number_digits : (n : ℕ) → 0 < n → IsDigits (digits_text (digits_within n n))
 number_digits n h =
-    let l : length (digits_text (digits_within n n)) ≡ length (digits_within n n) =
-    length-map {A = ℕ} {B = ℕ} (digits_within n n) (λ d. 48 + d) in
+    let l = length_text (digits_within n n) in
     let f = first_some (digits_within n n) (within_first n h) in
     IsDigits_from (digits_text (digits_within n n)) (omega arith) (text_digits (digits_within n n) (within_below n))
 
@@ -67,11 +106,8 @@ number_value n = value_text (digits_within n n) ∙ within_value n
 pub signed_text : (z : ℤ) → IsSigned (whole_text z) z
 signed_text (pos zero) = inr (inr (((omega arith, omega arith), tt), refl))
 signed_text (pos (suc n)) =
-    rw (number_value (suc n)) at (signed_digits (digits_text (digits_within (suc n) (suc n))) (number_digits (suc n) (omega arith)))
+    rw (number_value (suc n)) at (digits_signed (digits_text (digits_within (suc n) (suc n))) (number_digits (suc n) (omega arith)))
 signed_text (negsuc n) = inr (inl (refl, number_digits (suc n) (omega arith), ap (λ v. neg_ℤ (pos v)) (sym (number_value (suc n)))))
-
-pub length_text : (ds : List ℕ) → length (digits_text ds) ≡ length ds
-length_text ds = length-map {A = ℕ} {B = ℕ} ds (λ d. 48 + d)
 
 pub take_first : (j : ℕ) (ds : List ℕ) → 0 < j → 0 < get_or ds 0 0 → 0 < get_or (take j ds) 0 0
 take_first zero ds h f = absurd (omega arith)

@@ -1,12 +1,67 @@
--- The last digits of a number, and the digits before them.
-use Rattle.ijson_number.proofs.Common.{◌≡◌, ℕ, zero, suc, ◌+◌, ◌-◌, ◌*◌, ◌/◌, ◌%◌, ◌^◌, ◌<◌, ◌≤◌, min, get_or, replicate, take, drop, List, [], ◌∷◌}
-use Rattle.ijson_number.proofs.Common.{◌++◌, length, refl, sym, ap, ◌∙◌, inl, inr, arith, append_assoc, pow-add, cases_lt, decimal_digit}
-use Rattle.ijson_number.proofs.Common.{decimal_nonempty, first_decimal, length-decimal-le, append-nil, get_or_append_left, get_or-replicate}
-use Rattle.ijson_number.proofs.Common.{get_or-take, length-drop, length-replicate, take_all, take_at, drop_at, pow-succ', decimal, get_or-append-add}
-use Rattle.ijson_number.proofs.Common.{zeros_text, IsZerosInFront, ten_pos, power_le}
-use native.Mathlib.Nat.{add-mul-div_left, div-div-eq-div-mul, div-le_self, div-lt_iff_lt-mul}
+-- The last digits of a number, with leading zeros.
+use Rattle.ijson_number.proofs.Common.{◌≡◌, ℕ, zero, suc, ◌+◌, ◌-◌, ◌*◌, ◌/◌, ◌%◌, ◌^◌, ◌<◌, ◌≤◌, List, [], ◌∷◌, ◌++◌, length, refl, ap, sym, ◌∙◌}
+use Rattle.ijson_number.proofs.Common.{arith, append_assoc, inl, inr, pow-succ', mul-le-mul_right, mul_comm, cases_lt, decimal_digit}
+use Rattle.ijson_number.proofs.Common.{decimal_step_wide, append-nil, length_push, replicate_more, decimal, zeros_text, ten_pos, min, get_or}
+use Rattle.ijson_number.proofs.Common.{replicate, take, drop, pow-add, decimal_nonempty, first_decimal, length-decimal-le, get_or_append_left}
+use Rattle.ijson_number.proofs.Common.{get_or-replicate, get_or-take, length-drop, length-replicate, take_all, take_at, drop_at, get_or-append-add}
+use Rattle.ijson_number.proofs.Common.{IsZerosInFront, power_le}
 use Rattle.ijson_number.specs.private.WordText.{last_digits}
-use Rattle.ijson_number.proofs.writing.PaddedDigits.{joined, last_count, last_zeros, padded}
+use native.Mathlib.Nat.{add-mul-div_left, div-div-eq-div-mul, div-le_self, div-lt_iff_lt-mul}
+
+pub some_places : (whole k : ℕ) → 0 < whole → 0 < whole * 10 ^ k
+some_places zero k h = absurd (omega arith)
+some_places (suc w) k h = let t = ten_pos k in grind (arith, t)
+
+-- a whole part and the digits after it
+pub joined : (scale whole fraction : ℕ) → 0 < whole → fraction < 10 ^ scale → whole * 10 ^ scale + fraction < 10 ^ 64
+    → decimal (whole * 10 ^ scale + fraction) ≡ decimal whole ++ last_digits scale fraction
+unfolding last_digits
+joined zero w f h l s = let e : w * 10 ^ 0 + f ≡ w = omega arith in rw e (sym (append-nil (decimal w)))
+joined (suc k) w f h l s =
+    let p : 10 ^ suc k ≡ 10 * 10 ^ k = pow-succ' 10 k in
+    let some = some_places w k h in
+    let n : w * 10 ^ suc k + f ≡ 10 * (w * 10 ^ k) + f = rw p (omega arith) in
+    let front : (w * 10 ^ suc k + f) / 10 ≡ w * 10 ^ k + f / 10 = omega arith in
+    let last : (w * 10 ^ suc k + f) % 10 ≡ f % 10 = omega arith in
+    rw (decimal_step_wide (w * 10 ^ suc k + f) (omega arith) s, front, last, joined k w (f / 10) h (omega arith) (omega arith))
+    (append_assoc (decimal w) (last_digits k (f / 10)) ((48 + f % 10) ∷ []))
+
+pub last_count : (scale n : ℕ) → length (last_digits scale n) ≡ scale
+unfolding last_digits
+last_count zero n = refl
+last_count (suc k) n = length_push (last_digits k (n / 10)) (48 + n % 10) ∙ (let e = last_count k (n / 10) in omega arith)
+
+pub last_zeros : (scale : ℕ) → last_digits scale 0 ≡ zeros_text scale
+unfolding last_digits
+last_zeros zero = refl
+last_zeros (suc k) = let next : k + 1 ≡ suc k = omega arith in rw (last_zeros k, replicate_more {X = ℕ} k 48, next) refl
+
+-- digits after the point, with leading zeros
+pub padded : (scale n : ℕ) → 0 < scale + n → n < 10 ^ scale → n < 10 ^ 64
+    → zeros_text (scale - length (decimal n)) ++ decimal n ≡ last_digits scale n
+unfolding last_digits
+padded zero n h l s = absurd (omega arith)
+padded (suc k) n h l s =
+    let p : 10 ^ suc k ≡ 10 * 10 ^ k = pow-succ' 10 k in
+    elim (cases_lt n 10) [
+      | inl small ↦ (
+          let front : n / 10 ≡ 0 = omega arith in
+          let last : n % 10 ≡ n = omega arith in
+          let one : suc k - 1 ≡ k = omega arith in
+          rw (decimal_digit n small, front, last, last_zeros k, one) refl
+          )
+      | inr large ↦ (
+          let d = decimal_step_wide n large s in
+          let count : length (decimal n) ≡ length (decimal (n / 10)) + 1 = ap (λ (x : List ℕ). length x) d
+          ∙ length_push (decimal (n / 10)) (48 + n % 10) in
+          let zeros : suc k - length (decimal n) ≡ k - length (decimal (n / 10)) = omega arith in
+          rw (zeros, d) (sym (append_assoc (zeros_text (k - length (decimal (n / 10)))) (decimal (n / 10)) ((48 + n % 10) ∷ []))
+          ∙ ap (λ x. x ++ ((48 + n % 10) ∷ [])) (padded k (n / 10) (omega arith) (omega arith) (omega arith)))
+          )
+    ]
+
+pub whole_small : (whole scale fraction : ℕ) → 0 < scale → whole * scale + fraction < 2 ^ 64 → whole < 2 ^ 64
+whole_small w p f h l = let m : 1 * w ≤ p * w = mul-le-mul_right w h in let e : p * w ≡ w * p = mul_comm p w in omega arith
 
 -- leading digits do not change the last ones
 last_behind : (scale more n : ℕ) → last_digits scale (more * 10 ^ scale + n) ≡ last_digits scale n
@@ -84,8 +139,8 @@ module _ (n scale : ℕ) (small : n < 10 ^ 16) (few : scale < 16) (lanes : List 
   whole_below : whole < 10 ^ end
   whole_below = (div-lt_iff_lt-mul (ten_pos scale)).1 (rw (row_powers 16 scale (omega arith)) small)
 
-  whole_small : whole < 2 ^ 64
-  whole_small = let most : 10 ^ end ≤ 10 ^ 16 = power_le end 16 (omega arith) in omega (arith, whole_below)
+  whole_in_word : whole < 2 ^ 64
+  whole_in_word = let most : 10 ^ end ≤ 10 ^ 16 = power_le end 16 (omega arith) in omega (arith, whole_below)
 
   abbrev shown : List ℕ
   shown = decimal whole
@@ -95,16 +150,16 @@ module _ (n scale : ℕ) (small : n < 10 ^ 16) (few : scale < 16) (lanes : List 
 
   row_is : lanes ≡ replicate lead 48 ++ (shown ++ last_digits scale n)
   row_is = is ∙ row_split 16 scale n (omega arith)
-      ∙ ap (λ l. l ++ last_digits scale n) (sym (padded end whole (omega arith) whole_below (omega (arith, whole_small))))
+      ∙ ap (λ l. l ++ last_digits scale n) (sym (padded end whole (omega arith) whole_below (omega (arith, whole_in_word))))
       ∙ append_assoc (zeros_text lead) shown (last_digits scale n)
 
   start_is : (start : ℕ) → start ≡ min zeros (end - 1) → start ≡ lead
   start_is start s =
-      let some = decimal_nonempty whole whole_small in
+      let some = decimal_nonempty whole whole_in_word in
       let least = not_fewer lanes zeros shown (last_digits scale n) lead row_is counted (omega arith) in
       elim (cases_lt 0 whole) [
         | inl above ↦ (let most =
-            not_more lanes zeros shown (last_digits scale n) lead row_is counted some (first_decimal whole above whole_small) in
+            not_more lanes zeros shown (last_digits scale n) lead row_is counted some (first_decimal whole above whole_in_word) in
             omega arith)
         | inr none ↦ (let one : length shown ≡ 1 = let zero : whole ≡ 0 = omega arith in ap (λ w. length (decimal w)) zero
             ∙ ap (λ (x : List ℕ). length x) (decimal_digit 0 (omega arith)) in omega arith)
@@ -112,7 +167,7 @@ module _ (n scale : ℕ) (small : n < 10 ^ 16) (few : scale < 16) (lanes : List 
 
   pub front_is : (start : ℕ) → start ≡ min zeros (end - 1) → take (end - start) (drop start lanes) ≡ decimal whole
   front_is start s =
-      let fits = length-decimal-le end whole (omega arith) whole_below whole_small in
+      let fits = length-decimal-le end whole (omega arith) whole_below whole_in_word in
       let count : end - lead ≡ length shown = omega arith in
       rw (start_is start s, count) (shown_at lanes zeros shown (last_digits scale n) lead row_is counted)
 

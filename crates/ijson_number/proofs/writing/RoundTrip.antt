@@ -9,9 +9,8 @@ use Rattle.ijson_number.proofs.BooleanTests.{test_le, test_not_le, test_zero, te
 use Rattle.ijson_number.proofs.parsing.DigitRuns.{AllDigits-append, IsDigits_from}
 use Rattle.ijson_number.proofs.parsing.DigitValues.{value_zeros_back, value_zeros_front}
 use Rattle.ijson_number.proofs.storing.FormNumbers.{sign_and_magnitude}
-use Rattle.ijson_number.proofs.writing.DigitTexts.{Below, below_drop, below_take, first_some, length_text, signed_text, take_first}
-use Rattle.ijson_number.proofs.writing.DigitTexts.{text_digits, text_halves, value_text, whole_from, within_below, within_first}
-use Rattle.ijson_number.proofs.writing.DigitTexts.{within_value, zeros_digits}
+use Rattle.ijson_number.proofs.writing.DigitTexts.{Below, below_drop, below_take, first_some, length_text, signed_text, take_first, text_digits}
+use Rattle.ijson_number.proofs.writing.DigitTexts.{text_halves, value_text, whole_from, within_below, within_first, within_value, zeros_digits}
 
 minus_is : (negative : Bool) → IsMinus (minus_text negative) negative
 minus_is true = inr (refl, refl)

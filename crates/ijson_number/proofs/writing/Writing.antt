@@ -4,8 +4,9 @@ use Rattle.ijson_number.proofs.Common.{ℤ, pos, negsuc, neg_ℤ, nat_abs, Bool,
 use Rattle.ijson_number.proofs.Common.{nat_tests, decimal_by_steps_wide, decimal_digit, map-append, digits_of_step, decimal, signed_decimal}
 use Rattle.ijson_number.proofs.Common.{digits_of, number_from_digits, whole_text, digits_text, scientific_text, point_text, shape_text, minus_text}
 use Rattle.ijson_number.proofs.Common.{num_text, Decimal, signed, stored_number, decimal_of, IsStripped, abs_signed}
-use Rattle.ijson_number.proofs.storing.DigitsOf.{digits_are, stored_digits_are}
-use Rattle.ijson_number.specs.declared.repr.stripped.StrippedNumber.{StrippedNumber}
+use Rattle.ijson_number.proofs.writing.DigitTexts.{digits_are, stored_digits_are}
+use Rattle.ijson_number.specs.declared.repr.stored.StrippedNumber.{StrippedNumber}
+use Rattle.ijson_number.proofs.BooleanTests.{not_zero}
 use Rattle.ijson_number.proofs.parsing.Denotes.{stripped_mod}
 
 pub decimal_is : (n : ℕ) → n < 10 ^ 64 → 0 < n → decimal n ≡ digits_text (digits_of 10 n)
@@ -50,18 +51,15 @@ float_shape_is scientific point ds e p a b t = rw (a, b, ← rw b at t) refl
 pub below_zero : (negative : Bool) (v : ℕ) → 0 < v → int_lt (signed negative v) (pos 0) ≡ negative
 below_zero negative v h = grind (arith, ints, nat_tests)
 
-pub not_zero : (v : ℕ) → 0 < v → nat_eq v 0 ≡ false
-not_zero v h = grind arith
-
 -- the text of a stored number that is not zero
 pub stored_text : (negative : Bool) (ds : List ℕ) (e : ℤ) (point : Bool) → IsStripped ds → 0 < length ds
     → minus_text negative ++ shape_text point ds e ≡ num_text (stored_number negative ds e point)
 stored_text negative ds e point s h =
     let number = number_from_digits 10 ds in
     let n = stripped_mod ds s h in
-    let v : 0 < number = omega (arith, n) in
-    let some : nat_eq (nat_abs (signed negative number)) 0 ≡ false = rw (abs_signed negative number) (not_zero number v) in
-    rw (some, num_text, below_zero negative number v, stored_digits_are negative ds e point s) refl
+    let some : nat_eq (nat_abs (signed negative number)) 0 ≡ false =
+    rw (abs_signed negative number) (not_zero number (λ z. omega (arith, n, z))) in
+    rw (some, num_text, below_zero negative number (omega (arith, n)), stored_digits_are negative ds e point s) refl
 
 -- a minus or none, and the digits after it, if they are those of the number
 pub shown_text : (x : StrippedNumber) (n : Decimal) (minus : Bool) (bits : ℤ) → decimal_of x ≡ n → bits ≡ x.exponent

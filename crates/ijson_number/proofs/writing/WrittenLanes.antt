@@ -1,14 +1,33 @@
--- Sixteen digits that are written by one vector: computed in lanes, moved to the start, and without leading zeros.
-use Rattle.ijson_number.proofs.Common.{◌≡◌, ℕ, zero, suc, ◌+◌, ◌-◌, ◌*◌, ◌/◌, ◌%◌, ◌^◌, ◌<◌, ◌≤◌, Bool, true, false, not, cond, eqb, min, get_or}
-use Rattle.ijson_number.proofs.Common.{replicate, take, drop, List, [], ◌∷◌, ◌++◌, map, length, length-append, length-drop, refl, sym, ap, ◌∙◌, inl}
-use Rattle.ijson_number.proofs.Common.{inr, arith, append_assoc, AllBelowBase, AllByRecursion, prefix_len, cases_eq, nat_tests, drop_more}
-use Rattle.ijson_number.proofs.Common.{length-replicate, take_at, take-append-le, recursion_from_All, bitmask_splat, leading_from_mask_l}
-use Rattle.ijson_number.proofs.Common.{trailing_mask_l, number_l, digits_l, mask_l, top, zip2, get_or-append-add, take-append-add, w8, bool_byte}
-use Rattle.ijson_number.proofs.Common.{IsAscii-append, IsAscii-drop, All-from_ascii, IsAscii-nil, IsAscii-cons, IsAscii, minus_text, IsZerosInFront}
+-- Digits and texts in vectors and buffers.
+use Rattle.ijson_number.proofs.Common.{ℕ, zero, suc, ◌+◌, ◌/◌, ◌%◌, ◌<◌, Bool, true, false, List, [], ◌∷◌, arith, recursion_from_All, IsAscii-nil}
+use Rattle.ijson_number.proofs.Common.{IsAscii-cons, IsAscii-push, All, AllByRecursion, IsAscii, digits_text, minus_text, ◌≡◌, ◌-◌, ◌*◌, ◌^◌, ◌≤◌}
+use Rattle.ijson_number.proofs.Common.{not, cond, eqb, min, get_or, replicate, take, drop, ◌++◌, map, length, length-append, length-drop, refl, sym}
+use Rattle.ijson_number.proofs.Common.{ap, ◌∙◌, inl, inr, append_assoc, AllBelowBase, prefix_len, cases_eq, nat_tests, drop_more, length-replicate}
+use Rattle.ijson_number.proofs.Common.{take_at, take-append-le, bitmask_splat, leading_from_mask_l, trailing_mask_l, number_l, digits_l, mask_l, top}
+use Rattle.ijson_number.proofs.Common.{zip2, get_or-append-add, take-append-add, w8, bool_byte, IsAscii-append, IsAscii-drop, All-from_ascii}
+use Rattle.ijson_number.proofs.Common.{IsZerosInFront, set, length-set, length-take-le, take_more_set, IsAscii-take, IsAscii-set, drop-drop, drop-map}
+use Rattle.ijson_number.proofs.Common.{take_all, length-zip2, zip2_splat}
+use Rattle.ijson_number.specs.private.WordText.{last_digits}
 use Rattle.std.proofs.lemmas.List.Sums.{prefix_len-le-length, prefix_len_passes, prefix_len_stops}
 use lib.Count.{count_trailing_zeros}
 use Rattle.std.specs.String.Boundary.{IsSplitPoint}
-use Rattle.ijson_number.specs.private.WordText.{last_digits}
+
+pub sign_ascii : (negative : Bool) → IsAscii (minus_text negative)
+sign_ascii true = IsAscii-cons 45 [] (omega arith) IsAscii-nil
+sign_ascii false = IsAscii-nil
+
+-- the texts are ASCII
+pub digits_ascii : (scale n : ℕ) → IsAscii (last_digits scale n)
+unfolding last_digits
+digits_ascii zero n = IsAscii-nil
+digits_ascii (suc k) n = IsAscii-push (last_digits k (n / 10)) (48 + n % 10) (digits_ascii k (n / 10)) (omega arith)
+
+digits_below : (ds : List ℕ) → AllByRecursion (λ d. d < 10) ds → IsAscii (digits_text ds)
+digits_below [] h = IsAscii-nil
+digits_below (d ∷ ds) h = IsAscii-cons (48 + d) (digits_text ds) (let b = h.0 in omega arith) (digits_below ds h.1)
+
+pub digits_text_ascii : (ds : List ℕ) → All (λ d. d < 10) ds → IsAscii (digits_text ds)
+digits_text_ascii ds h = digits_below ds (recursion_from_All (λ d. d < 10) ds h)
 
 -- ---- the digits of pairs
 -- the ones of two digits in the upper byte of 16 bits, and their tens in the lower one
@@ -208,3 +227,102 @@ module _ (lanes : List ℕ) (long : length lanes ≡ 16) (ascii : IsAscii lanes)
       let next : 16 - begin ≡ suc (16 - start) = omega arith in
       rw next (ap (λ l. 45 ∷ l) (take_at (drop start lanes) (replicate begin 0) (16 - start) (omega (arith, length-drop start lanes))))
   signed_shown false begin from = take_at (drop start lanes) (replicate begin 0) (16 - begin) (omega (arith, length-drop start lanes))
+
+-- a piece that replaces `many` bytes of a buffer
+abbrev pub with_piece : (room piece : List ℕ) (at many : ℕ) → List ℕ
+with_piece room piece at many = take at room ++ (piece ++ drop many (drop at room))
+
+taken_piece : (room piece : List ℕ) (at many n : ℕ) → at ≤ length room → n ≤ length piece
+    → take (at + n) (with_piece room piece at many) ≡ take at room ++ take n piece
+taken_piece room piece at many n inside few =
+    ap (λ k. take (k + n) (with_piece room piece at many)) (sym (length-take-le at room inside))
+    ∙ take-append-add (take at room) (piece ++ drop many (drop at room)) n
+    ∙ ap (λ l. take at room ++ l) (take-append-le n piece (drop many (drop at room)) few)
+
+piece_ascii : (room piece : List ℕ) (at many : ℕ) → IsAscii room → IsAscii piece → IsAscii (with_piece room piece at many)
+piece_ascii room piece at many r p =
+    IsAscii-append (take at room) (piece ++ drop many (drop at room)) (IsAscii-take room at r)
+    (IsAscii-append piece (drop many (drop at room)) p (IsAscii-drop (drop at room) many (IsAscii-drop room at r)))
+
+piece_length : (room piece : List ℕ) (at many : ℕ) → at ≤ length room
+    → length (with_piece room piece at many) ≡ at + (length piece + (length room - at - many))
+piece_length room piece at many inside = simp (length-append, length-drop) (omega (arith, length-take-le at room inside))
+
+abbrev pub empty : List ℕ
+empty = set (replicate 34 0) 0 45
+
+minus_put : (negative : Bool) (start : ℕ) → start ≡ length (minus_text negative) → take start empty ≡ minus_text negative
+minus_put true start is = rw is refl
+minus_put false start is = rw is refl
+
+pub minus_length : (negative : Bool) → bool_byte negative ≡ length (minus_text negative)
+minus_length negative = grind arith
+
+-- the buffer with both pieces and the point in it
+abbrev pub filled : (start count many more : ℕ) (whole fraction : List ℕ) → List ℕ
+filled start count many more whole fraction =
+    with_piece (set (with_piece empty whole start many) (start + count) 46) fraction (start + count + 1) more
+
+pub filled_is : (negative : Bool) (start count scale many more : ℕ) (whole fraction : List ℕ) → start ≡ length (minus_text negative)
+    → (length whole ≡ 16) × IsAscii whole → (length fraction ≡ 16) × IsAscii fraction → (count ≤ 16) × (scale ≤ 16) → many ≡ 16
+    → IsFront (filled start count many more whole fraction) (start + count + 1 + scale)
+    (minus_text negative ++ (take count whole ++ 46 ∷ take scale fraction))
+filled_is negative start count scale many more whole fraction is w f few row =
+    let short : length (minus_text negative) ≤ 1 = grind arith in
+    let with_whole : List ℕ = with_piece empty whole start many in
+    let with_point : List ℕ = set with_whole (start + count) 46 in
+    let at : start ≤ 34 = omega arith in
+    let long : length with_whole ≡ 34 = omega (arith, w.0, piece_length empty whole start many at) in
+    let inside : start + count + 1 ≤ length with_point = omega (arith, length-set {A = ℕ} with_whole (start + count) 46, long, few.0) in
+    let up_to_point : take (start + count + 1) with_point ≡ (minus_text negative ++ take count whole) ++ 46 ∷ [] =
+    rw (
+      take_more_set with_whole (start + count) 46 (omega (arith, long, few.0)),
+      taken_piece empty whole start many count at (omega (arith, w.0, few.0)),
+      minus_put negative start is,
+    ) refl in
+    record {
+      ascii = piece_ascii with_point fraction (start + count + 1) more
+          (IsAscii-set with_whole (start + count) 46
+          (piece_ascii empty whole start many (IsAscii-set (replicate 34 0) 0 45 (zeros_ascii 34) (omega arith)) w.1) (omega arith)) f.1;
+      within = omega (arith, piece_length with_point fraction (start + count + 1) more inside, f.0, few.1);
+      shown = rw (
+        taken_piece with_point fraction (start + count + 1) more scale inside (omega (arith, f.0, few.1)),
+        up_to_point,
+        append_assoc (minus_text negative ++ take count whole),
+        append_assoc (minus_text negative),
+      ) refl;
+    }
+
+abbrev pub with_zero : List ℕ → List ℕ
+with_zero lanes = zip2 (λ a b. (a + b) % 2 ^ 8) lanes (replicate 16 48)
+
+text_from : (ds : List ℕ) → AllByRecursion (λ d. d < 10) ds → map digit ds ≡ digits_text ds
+text_from [] h = refl
+text_from (d ∷ ds) h = let first : digit d ≡ 48 + d = omega (arith, h.0) in let rest = text_from ds h.1 in λ i. first i ∷ rest i
+
+-- the last digits of a buffer of 19
+module _ (buffer : List ℕ) (long : length buffer ≡ 19) where
+  abbrev last : List ℕ
+  last = take 16 (take 16 (drop 3 buffer))
+
+  last_is : last ≡ drop 3 buffer
+  last_is = take_all 16 (take 16 (drop 3 buffer)) (omega (arith, length-take-le 16 (drop 3 buffer) (omega (arith, length-drop 3 buffer))))
+      ∙ take_all 16 (drop 3 buffer) (omega (arith, length-drop 3 buffer))
+
+  last_count : length last ≡ 16
+  last_count = rw last_is (omega (arith, length-drop 3 buffer))
+
+  pub last_long : length (with_zero last) ≡ 16
+  last_long = length-zip2 (λ a b. (a + b) % 2 ^ 8) last (replicate 16 48) last_count ∙ last_count
+
+  pub room_text : (count : ℕ) → count ≤ 16 → All (λ d. d < 10) (drop (19 - count) buffer)
+      → drop (16 - count) (with_zero last) ≡ digits_text (drop (19 - count) buffer)
+  room_text count few below =
+      let at : 3 + (16 - count) ≡ 19 - count = omega arith in
+      ap (drop (16 - count)) (zip2_splat (λ a b. (a + b) % 2 ^ 8) last 16 48 last_count) ∙ drop-map {X = ℕ} {Y = ℕ} digit (16 - count) last
+      ∙ ap (map digit) (ap (drop (16 - count)) last_is ∙ drop-drop (16 - count) 3 buffer ∙ ap (λ n. drop n buffer) at)
+      ∙ text_from (drop (19 - count) buffer) (recursion_from_All (λ d. d < 10) (drop (19 - count) buffer) below)
+
+-- 16 digits
+pub row_text : (ds : List ℕ) → length ds ≡ 16 → All (λ d. d < 10) ds → with_zero ds ≡ digits_text ds
+row_text ds long below = zip2_splat (λ a b. (a + b) % 2 ^ 8) ds 16 48 long ∙ text_from ds (recursion_from_All (λ d. d < 10) ds below)

@@ -1,6 +1,7 @@
--- The digits at the end of their buffer.
-use Rattle.std.specs.Prelude.{ℕ, ◌-◌, List, drop}
-use Rattle.ijson_number.specs.declared.repr.digits.ShortDigits.{ShortDigits}
+-- The digits of a block.
+use Rattle.std.specs.Prelude.{ℕ, List}
+use Rattle.ijson_number.specs.declared.repr.stored.ShortDigits.{ShortDigits}
+use Rattle.ijson_number.specs.private.StoredNumber.{buffer_digits}
 
 abbrev pub short_digits : ShortDigits → List ℕ
-short_digits d = drop (19 - d.count) d.buffer
+short_digits d = buffer_digits d.count d.buffer

@@ -2,7 +2,7 @@
 use Rattle.ijson_number.specs.Decimal.{Decimal}
 use Rattle.ijson_number.specs.Num.{Num}
 use Rattle.ijson_number.specs.StoredNumber.{stored_number}
-use Rattle.ijson_number.specs.declared.repr.stripped.StrippedNumber.{StrippedNumber}
+use Rattle.ijson_number.specs.declared.repr.stored.StrippedNumber.{StrippedNumber}
 
 abbrev pub decimal_of : StrippedNumber → Decimal
 decimal_of n = stored_number n.negative n.digits.now n.exponent n.point

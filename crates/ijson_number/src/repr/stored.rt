@@ -1,12 +1,245 @@
-//! The forms in which a number is stored.
-ghost use Rattle.std.specs.Prelude.{◌≡◌, ◌+◌, ◌<◌, ◌≤◌, length, FitsSigned, IfOk, IfSome, IsSome, IsTrue, IsFalse};
-ghost use mir.Syntax.{w16};
-ghost use Rattle.ijson_number.specs.private.ShortDigits.{short_digits};
-ghost use Rattle.ijson_number.specs.private.StoredNumber.{IsStored};
+//! The parts of a stored number: a word, digits in a block or a list, and the canonical digits of each.
+ghost use Rattle.std.specs.Prelude.{◌≡◌, ◌%◌, ◌^◌, ◌<◌, ◌≤◌, ◌≤ℤ◌, nat_abs, true, false, pos, negsuc, IsTrue, ◌+◌, ◌-◌, ◌++◌, drop, length, OnOk};
+ghost use Rattle.std.specs.Prelude.{neg_ℤ, ◌+ℤ◌, ◌<ℤ◌, FitsSigned, IsFalse};
 ghost use Rattle.std.proofs.Props.{props};
+ghost use Rattle.std.specs.Int.Digits.{digits_of};
+ghost use Rattle.std.specs.List.{All};
+ghost use mir.Syntax.{w128, w16};
+ghost use Rattle.ijson_number.specs.Form.{fits_packed};
+ghost use Rattle.ijson_number.specs.Grammar.{AllDigits};
+ghost use Rattle.ijson_number.specs.Num.{IsNum};
+ghost use Rattle.ijson_number.specs.StoredNumber.{stored_number};
+ghost use Rattle.ijson_number.specs.Stripped.{stripped_number};
+ghost use Rattle.ijson_number.specs.Strips.{signed};
+ghost use Rattle.ijson_number.specs.Text.{digits_text};
+ghost use Rattle.ijson_number.specs.laws.Codes.{IsNum-prop};
+ghost use Rattle.ijson_number.specs.private.StoredNumber.{IsStored, buffer_digits};
+ghost use Rattle.ijson_number.specs.private.Stripped.{digits_from_text};
+ghost use Rattle.ijson_number.specs.private.Word.{word_code, word_exponent, word_mantissa, word_point};
 
-use crate::repr::digits::ShortDigits;
-use crate::repr::word::Word;
+use crate::lanes::{LANES, LANES_END, lanes_of, zeros_in_front};
+use crate::significand::Significand;
+use itoa::write_digits;
+use std::alloc::AllocError;
+use std::simd::prelude::*;
+
+/// Bits 8 to 63 are the mantissa in two's complement, bits 4 to 7 the exponent plus 7, or 15 for a number without the
+/// fraction point, and bits 0 to 3 the value 8.
+#[derive(Clone, Copy)]
+pub struct Word {
+    pub bits: u64,
+}
+
+/// Bits 4 to 7 of a number without the fraction point.
+const NO_POINT: u64 = 15;
+
+/// One past the maximum mantissa of a packed number.
+pub const PACKED_END: i64 = 1 << 55;
+
+/// Whether a mantissa fits a packed number.
+pub fn is_packed_mantissa(mantissa: i128) -> bool
+    ensures { result ≡ fits_packed mantissa }
+{
+    i128::from(-PACKED_END) <= mantissa && mantissa < i128::from(PACKED_END)
+}
+
+impl Word {
+    /// Creates a word from a mantissa and the value of bits 4 to 7.
+    fn from_code(mantissa: i64, code: u64) -> Word
+        requires mantissa { IsTrue (fits_packed mantissa) }
+        requires code { code < 16 }
+        ensures mantissa { word_mantissa result.bits ≡ mantissa }
+        ensures code { word_code result.bits ≡ code }
+        ensures tag { result.bits % 16 ≡ 8 }
+    {
+        let above = if mantissa < 0 {
+            (mantissa + (1 << 56)) as u64
+        } else {
+            mantissa as u64
+        };
+        Word {
+            bits: above * 256 + code * 16 + 8,
+        }
+    }
+
+    /// Creates the word of an integer without the fraction point.
+    pub fn integer(mantissa: i64) -> Word
+        requires { IsTrue (fits_packed mantissa) }
+        ensures mantissa { word_mantissa result.bits ≡ mantissa }
+        ensures exponent { word_exponent result.bits ≡ pos 0 }
+        ensures point { word_point result.bits ≡ false }
+        ensures tag { result.bits % 16 ≡ 8 }
+    {
+        Word::from_code(mantissa, NO_POINT)
+    }
+
+    /// Creates the word of a number with the fraction point.
+    pub fn pointed(mantissa: i64, exponent: i8) -> Word
+        requires mantissa { IsTrue (fits_packed mantissa) }
+        requires low { negsuc 6 ≤ℤ exponent }
+        requires high { exponent ≤ℤ pos 7 }
+        ensures mantissa { word_mantissa result.bits ≡ mantissa }
+        ensures exponent { word_exponent result.bits ≡ exponent }
+        ensures point { word_point result.bits ≡ true }
+        ensures tag { result.bits % 16 ≡ 8 }
+    {
+        Word::from_code(mantissa, (exponent + 7) as u64)
+    }
+
+    /// Returns the mantissa, without a branch on its sign, which the branch predictor cannot predict.
+    pub fn mantissa(self) -> i64
+        ensures value { result ≡ word_mantissa self.bits }
+        ensures small { nat_abs result ≤ 2 ^ 55 }
+    {
+        let above = self.bits / 256;
+        let sign = above / (1 << 55);
+        above as i64 - (sign * (1 << 56)) as i64
+    }
+
+    /// Returns bits 4 to 7.
+    fn code(self) -> u64
+        ensures { result ≡ word_code self.bits }
+    {
+        self.bits / 16 % 16
+    }
+
+    /// Returns the exponent.
+    pub fn exponent(self) -> i8
+        ensures { result ≡ word_exponent self.bits }
+    {
+        let code = self.code();
+        if code == NO_POINT { 0 } else { code as i8 - 7 }
+    }
+
+    /// Whether the number has the fraction point.
+    pub fn point(self) -> bool
+        ensures { result ≡ word_point self.bits }
+    {
+        self.code() != NO_POINT
+    }
+}
+
+/// The number of decimal digits that always fit a `u64`.
+pub const WORD_DIGITS: usize = 19;
+
+/// One past the largest number of `WORD_DIGITS` digits.
+pub const DIGITS_END: u64 = 10_000_000_000_000_000_000;
+
+/// The maximum number of decimal digits of a `u64`.
+pub const MAX_DIGITS: usize = 20;
+
+/// Converts the bytes of a text from ASCII digits to their values; bytes below `'0'` become 0.
+#[inline(always)]
+pub fn make_digits(text: &[u8], buffer: &mut [u8])
+    requires { length buffer.old ≡ length text.now }
+    ensures { buffer.new ≡ digits_from_text text.now }
+{
+    for at in 0..buffer.len() {
+        buffer[at] = text[at].saturating_sub(b'0');
+    }
+}
+
+/// Up to 19 digits, at the end of their buffer, after zeros.
+#[derive(Clone, Copy, Drop)]
+pub struct ShortDigits {
+    count: u8,
+    buffer: [u8; WORD_DIGITS],
+    ghost few: { count ≤ 19 },
+}
+
+impl ShortDigits {
+    ghost use Rattle.ijson_number.specs.private.ShortDigits.{short_digits};
+
+    /// Returns the digits of a number that is not zero.
+    ///
+    /// Each path has a buffer of its own: a shared one would be written to memory in parts and read back, which stalls the processor.
+    #[inline(always)]
+    pub fn of_number(number: u64) -> ShortDigits
+        requires some { 0 < number }
+        requires few { number < 10 ^ 19 }
+        ensures { short_digits result ≡ digits_of 10 number }
+    {
+        if number < LANES_END {
+            return ShortDigits::of_row(number);
+        }
+        ShortDigits::of_wide(number)
+    }
+
+    /// Returns the digits of a number of at most 16 digits that is not zero.
+    #[inline(always)]
+    fn of_row(number: u64) -> ShortDigits
+        requires some { 0 < number }
+        requires row { number < 10 ^ 16 }
+        ensures { short_digits result ≡ digits_of 10 number }
+    {
+        let lanes = lanes_of(number);
+        let mut buffer = [0; WORD_DIGITS];
+        buffer[WORD_DIGITS - LANES..].copy_from_slice(&(lanes - u8x16::splat(b'0')).to_array());
+        ShortDigits {
+            count: (LANES - zeros_in_front(lanes)) as u8,
+            buffer,
+        }
+    }
+
+    /// Returns the digits of a number of 17 to 19 digits.
+    #[inline(always)]
+    fn of_wide(number: u64) -> ShortDigits
+        requires wide { 10 ^ 16 ≤ number }
+        requires few { number < 10 ^ 19 }
+        ensures { short_digits result ≡ digits_of 10 number }
+    {
+        let front = number / LANES_END;
+        let digits = lanes_of(number % LANES_END) - u8x16::splat(b'0');
+        let mut buffer = [0; WORD_DIGITS];
+        buffer[0] = (front / 100) as u8;
+        buffer[1] = (front / 10 % 10) as u8;
+        buffer[2] = (front % 10) as u8;
+        buffer[WORD_DIGITS - LANES..].copy_from_slice(&digits.to_array());
+        ShortDigits {
+            count: LANES as u8 + 1 + u8::from(front >= 10) + u8::from(front >= 100),
+            buffer,
+        }
+    }
+
+    /// Returns the text of the last 16 digits, which ends with all digits if there are no more.
+    #[inline(always)]
+    pub fn lanes(&self) -> u8x16
+        ensures all { length result ≡ 16 }
+        ensures lanes { All (λ d. d < 10) (short_digits self.now) → length (short_digits self.now) ≤ 16
+            → drop (16 - length (short_digits self.now)) result ≡ digits_text (short_digits self.now) }
+    {
+        u8x16::from_slice(&self.buffer[WORD_DIGITS - LANES..]) + u8x16::splat(b'0')
+    }
+
+    /// Returns the digits.
+    pub fn as_slice(&self) -> &[u8]
+        ensures digits { result.now ≡ short_digits self.now }
+        ensures few { length result.now ≤ 19 }
+    {
+        &self.buffer[WORD_DIGITS - self.count as usize..]
+    }
+}
+
+/// Appends the values of the digits of a text.
+pub fn push_values(digits: &mut Vec<u8>, text: &[u8]) -> Result<(), AllocError>
+    requires { AllDigits text.now }
+    ensures { OnOk result (digits.new.items ≡ digits.old.items ++ digits_from_text text.now) }
+{
+    for byte in text {
+        digits.push(*byte - b'0')?;
+    }
+    Ok(())
+}
+
+/// Returns the position of the decimal point after the start of the digits.
+pub fn place_of(digits: &[u8], exponent: i32) -> i128
+    ensures value { result ≡ pos (length digits.now) +ℤ exponent }
+    ensures low { neg_ℤ (pos (2 ^ 70)) <ℤ result }
+    ensures high { result <ℤ pos (2 ^ 70) }
+    ensures fits { FitsSigned w128 result }
+{
+    digits.len() as i128 + exponent as i128
+}
 
 /// A number of at most 19 canonical digits, whose exponent fits 16 bits.
 #[derive(Clone, Copy, Drop)]
@@ -15,7 +248,7 @@ pub struct ShortNumber {
     pub negative: bool,
     pub point: bool,
     pub digits: ShortDigits,
-    ghost stripped: { IsStored negative (short_digits digits) } by { Prim.hlevel props },
+    ghost stripped: { IsStored negative (buffer_digits digits.count digits.buffer) } by { Prim.hlevel props },
 }
 
 const _: () = prove!(size_of::<ShortNumber>() == 24);
@@ -54,6 +287,117 @@ impl Stored {
             (Stored::I64(value), Stored::I64(other_value)) => value == other_value,
             (Stored::U64(value), Stored::U64(other_value)) => value == other_value,
             _ => false,
+        }
+    }
+}
+
+/// The sign, the canonical digits, the exponent and the fraction point of a number.
+///
+/// The digits are borrowed from the number, or from a buffer.
+#[derive(Clone, Copy)]
+pub struct StrippedNumber<'a> {
+    pub negative: bool,
+    pub digits: &'a [u8],
+    pub exponent: i32,
+    pub point: bool,
+    ghost num: { IsNum (stored_number negative digits.now exponent point) } by { IsNum-prop (stored_number negative digits.now exponent point) },
+    ghost stripped: { IsStored negative digits.now } by { Prim.hlevel props },
+}
+
+impl<'a> StrippedNumber<'a> {
+    ghost use Rattle.ijson_number.specs.private.StrippedNumber.{decimal_of};
+
+    /// Returns `magnitude * 10^exponent`, negated if `negative`, by its canonical digits.
+    ///
+    /// The digits are written to `buffer` as text first, four at a time.
+    pub fn from_magnitude(
+        negative: bool,
+        magnitude: u64,
+        exponent: i8,
+        point: bool,
+        buffer: &'a mut [u8; MAX_DIGITS],
+    ) -> StrippedNumber<'a>
+        requires { IsNum (stripped_number (signed negative magnitude) exponent point) }
+        ensures { decimal_of result ≡ stripped_number (signed negative magnitude) exponent point }
+    {
+        if magnitude == 0 {
+            return StrippedNumber {
+                negative: false,
+                digits: &[],
+                exponent: 0,
+                point,
+            };
+        }
+        let canonical = Significand {
+            negative,
+            magnitude,
+            exponent: i32::from(exponent),
+            point,
+        }
+        .canonical();
+        let mut text = [0; MAX_DIGITS];
+        let start = write_digits(canonical.magnitude, &mut text, MAX_DIGITS);
+        make_digits(&text, buffer);
+        StrippedNumber {
+            negative: canonical.negative,
+            digits: &buffer[start..],
+            exponent: canonical.exponent,
+            point: canonical.point,
+        }
+    }
+
+    /// Like `from_magnitude`, for a signed mantissa.
+    pub fn from_signed(
+        mantissa: i64,
+        exponent: i8,
+        point: bool,
+        buffer: &'a mut [u8; MAX_DIGITS],
+    ) -> StrippedNumber<'a>
+        requires { IsNum (stripped_number mantissa exponent point) }
+        ensures { decimal_of result ≡ stripped_number mantissa exponent point }
+    {
+        let magnitude = mantissa.unsigned_abs();
+        StrippedNumber::from_magnitude(mantissa < 0, magnitude, exponent, point, buffer)
+    }
+}
+
+impl ShortNumber {
+    ghost use Rattle.ijson_number.specs.private.ShortDigits.{short_digits};
+    ghost use Rattle.ijson_number.specs.private.StrippedNumber.{decimal_of};
+
+    /// Returns the number by its canonical digits.
+    pub fn stripped(&self) -> StrippedNumber<'_>
+        requires { IsNum
+            (stored_number self.now.negative (short_digits self.now.digits) self.now.exponent self.now.point) }
+        ensures number { decimal_of result
+            ≡ stored_number self.now.negative (short_digits self.now.digits) self.now.exponent self.now.point }
+        ensures digits { result.digits.now ≡ short_digits self.now.digits }
+        ensures few { length result.digits.now ≤ 19 }
+    {
+        StrippedNumber {
+            negative: self.negative,
+            digits: self.digits.as_slice(),
+            exponent: i32::from(self.exponent),
+            point: self.point,
+        }
+    }
+}
+
+impl LongNumber {
+    ghost use Rattle.ijson_number.specs.private.StrippedNumber.{decimal_of};
+
+    /// Returns the number by its canonical digits.
+    pub fn stripped(&self) -> StrippedNumber<'_>
+        requires { IsNum
+            (stored_number self.now.negative self.now.digits.items self.now.exponent self.now.point) }
+        ensures { decimal_of result
+            ≡ stored_number self.now.negative self.now.digits.items self.now.exponent self.now.point }
+    {
+        StrippedNumber {
+            negative: self.negative,
+            digits: self.digits.as_slice(),
+            exponent: self.exponent,
+            point: self.point,
         }
     }
 }

@@ -1,5 +1,5 @@
 use Rattle.ijson_number.proofs.Common.{◌∙◌, sym}
-use Rattle.ijson_number.proofs.comparing.SignOrder.{signs_cmp, zeros_cmp, below_zero_is, above_zero_is, tests_apart, tests_same}
+use Rattle.ijson_number.proofs.comparing.NumberOrder.{signs_cmp, zeros_cmp, below_zero_is, above_zero_is, tests_apart, tests_same}
 use Rattle.ijson_number.proofs.comparison.compare.Goals as goal
 
 pub returns-then-ne-clause-order : goal.returns-then-ne-clause-order

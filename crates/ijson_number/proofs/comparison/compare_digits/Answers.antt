@@ -1,5 +1,5 @@
 use Rattle.ijson_number.proofs.Common.{◌∙◌, sym, arith}
-use Rattle.ijson_number.proofs.comparing.DigitOrder.{same_digit, row_ends}
+use Rattle.ijson_number.proofs.comparing.NumberOrder.{same_digit, row_ends}
 use Rattle.ijson_number.proofs.comparison.compare_digits.Goals as goal
 
 pub loop-at-preserved : goal.loop-at-preserved

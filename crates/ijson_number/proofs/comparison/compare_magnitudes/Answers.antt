@@ -2,7 +2,7 @@ use Rattle.ijson_number.proofs.Common.{◌≡◌, ◌≢◌, ◌∙◌, sym, ari
 use Rattle.ijson_number.proofs.Common.{stripped_digits}
 use Rattle.ijson_number.specs.DigitRow.{leading_place}
 use Rattle.ijson_number.specs.private.MagnitudeOrder.{magnitude_cmp}
-use Rattle.ijson_number.proofs.comparing.DigitOrder.{some_digits, are_stripped}
+use Rattle.ijson_number.proofs.comparing.NumberOrder.{some_digits, are_stripped}
 use Rattle.ijson_number.proofs.comparing.MagnitudeOrder.{same_place_cmp, places_cmp}
 use Rattle.ijson_number.proofs.comparison.compare_magnitudes.Goals as goal
 

@@ -1,7 +1,7 @@
 use Rattle.ijson_number.proofs.Common.{◌≡◌, ◌∙◌, ap, sym, subst, arith, false, true, OnErr, form_of, is_digits, significand_number, IfOk, stored_form}
 use Rattle.ijson_number.proofs.storing.Significands.{fewer_tens, integer_form_is, small_less}
-use Rattle.ijson_number.proofs.encode.encode.Goals as goal
 use Rattle.ijson_number.proofs.encode.encode.Goals.{After-strip_trailing_zeros-stripped}
+use Rattle.ijson_number.proofs.encode.encode.Goals as goal
 
 -- the number is unchanged
 same : (c : After-strip_trailing_zeros-stripped) → significand_number c.strip_trailing_zeros-stripped.result ≡ significand_number c.args.significand

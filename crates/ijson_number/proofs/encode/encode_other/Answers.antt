@@ -2,8 +2,8 @@ use Rattle.ijson_number.proofs.Common.{◌≡◌, ◌∙◌, ap, sym, subst, rul
 use Rattle.ijson_number.proofs.Common.{digits_form, stripped_number, signed, canonical_number, significand_number, significand_of}
 use Rattle.ijson_number.proofs.AnyAnswer.{where_refused}
 use Rattle.ijson_number.proofs.storing.Significands.{deep_form, encoded}
-use Rattle.ijson_number.proofs.encode.encode_other.Goals as goal
 use Rattle.ijson_number.proofs.encode.encode_other.Goals.{After-canonical-canonical, Then-exponent-ltminus7}
+use Rattle.ijson_number.proofs.encode.encode_other.Goals as goal
 
 number : (c : After-canonical-canonical)
     → canonical_number c.canonical-canonical.result ≡ stripped_number (signed c.args.negative c.args.magnitude) c.args.exponent c.args.point

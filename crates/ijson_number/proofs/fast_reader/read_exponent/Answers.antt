@@ -1,13 +1,11 @@
 use Rattle.ijson_number.proofs.Common.{List, drop, ◌≡◌, ℕ, ◌<◌, ◌^◌, ◌⊎◌, get_or, ap, sym, ◌∙◌, length, refl, arith, pos, w32, to_z, EndsToken}
 use Rattle.ijson_number.proofs.Common.{IsExponentTail, signed, common_steps, ints, length-append, take_rest, IsExponentSignTaken}
-use Rattle.ijson_number.proofs.parsing.FrontNumbers.{digits_few, power_at}
-use Rattle.ijson_number.proofs.parsing.ExponentTails.{letter_continues, power_rest}
-use Rattle.ijson_number.proofs.storing.SmallExponents.{negated}
-use Rattle.ijson_number.proofs.fast_reader.read_exponent.Goals as goal
-use Rattle.ijson_number.proofs.fast_reader.read_exponent.Goals.{After-take_digits-magnitude}
-use Rattle.ijson_number.proofs.fast_reader.read_exponent.Goals.{then-negative, else-negative}
+use Rattle.ijson_number.proofs.parsing.FrontNumbers.{digits_few, power_at, negated}
+use Rattle.ijson_number.proofs.parsing.CommonFronts.{letter_continues, power_rest}
+use Rattle.ijson_number.proofs.fast_reader.read_exponent.Goals.{After-take_digits-magnitude, then-negative, else-negative}
 use Rattle.ijson_number.proofs.fast_reader.read_exponent.Goals.{then-count-eq0-via-then-count-eq0}
 use Rattle.ijson_number.proofs.fast_reader.read_exponent.Goals.{then-count-eq0-via-else-count-eq0+then-continues_token}
+use Rattle.ijson_number.proofs.fast_reader.read_exponent.Goals as goal
 
 -- the digits read are few
 small : (c : After-take_digits-magnitude) → c.take_digits-magnitude.result.0 < 10 ^ 4

@@ -1,7 +1,7 @@
 use Rattle.ijson_number.proofs.Common.{◌≡◌, ◌∙◌, ◌+◌, List, ℕ, length, ap, refl, sym, EndsToken}
 use Rattle.std.proofs.lemmas.Option.{IfSome_then}
 use Rattle.ijson_number.proofs.AnyAnswer.{none_with}
-use Rattle.ijson_number.proofs.parsing.ExponentTails.{ends_at_once}
+use Rattle.ijson_number.proofs.parsing.CommonFronts.{ends_at_once}
 use Rattle.ijson_number.proofs.parsing.FrontNumbers.{front_alone, whole_length}
 use Rattle.ijson_number.proofs.fast_reader.read_front.Goals as goal
 

@@ -1,11 +1,11 @@
-use Rattle.ijson_number.proofs.Common.{◌≡◌, ◌+◌, ◌++◌, ℕ, List, length, take, sym, ap, ◌∙◌, append_assoc, rules, arith, pos, neg_ℤ}
-use Rattle.ijson_number.proofs.Common.{ints, w32, length-append, length-take-le, take-append-drop, IsCommonFront, Parts, value, IsFewFraction}
-use Rattle.ijson_number.proofs.storing.SmallExponents.{negated}
-use Rattle.ijson_number.proofs.storing.DigitBounds.{joined_value, room_left}
-use Rattle.ijson_number.proofs.parsing.OneDivision.{minus_of}
+use Rattle.ijson_number.proofs.Common.{◌≡◌, ◌+◌, ◌++◌, ℕ, List, length, take, sym, ap, ◌∙◌, append_assoc, rules, arith, pos, neg_ℤ, ints, w32}
+use Rattle.ijson_number.proofs.Common.{length-append, length-take-le, take-append-drop, IsCommonFront, Parts, value, IsFewFraction}
+use Rattle.ijson_number.proofs.parsing.FrontNumbers.{negated}
+use Rattle.ijson_number.proofs.parsing.DigitValues.{joined_value, room_left}
+use Rattle.ijson_number.proofs.parsing.DigitRuns.{minus_of}
 use Rattle.ijson_number.proofs.parsing.CommonFronts.{plain_tail, whole_taken}
-use Rattle.ijson_number.proofs.fast_reader.read_mantissa.Goals as goal
 use Rattle.ijson_number.proofs.fast_reader.read_mantissa.Goals.{After-split_at}
+use Rattle.ijson_number.proofs.fast_reader.read_mantissa.Goals as goal
 
 pub take_fraction-requires-clause-room : goal.take_fraction-requires-clause-room
 take_fraction-requires-clause-room c =

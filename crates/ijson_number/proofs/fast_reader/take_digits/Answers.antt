@@ -1,6 +1,6 @@
 use Rattle.ijson_number.proofs.Common.{◌≡◌, ℕ, ◌*◌, ◌+◌, ◌-◌, ◌<◌, ◌^◌, true, get_or, sym, ◌∙◌, arith, nat_tests, IsDigit}
 use Rattle.std.specs.Char.{is_ascii_digit}
-use Rattle.ijson_number.proofs.storing.DigitBounds.{append_step, digits_more, step_small}
+use Rattle.ijson_number.proofs.parsing.DigitValues.{append_step, digits_more, step_small}
 use Rattle.ijson_number.proofs.fast_reader.take_digits.Goals.{Then-is_ascii_digit}
 use Rattle.ijson_number.proofs.fast_reader.take_digits.Goals as goal
 

@@ -1,10 +1,9 @@
 use Rattle.ijson_number.proofs.Common.{◌≡◌, ◌≢◌, ◌+◌, ◌-◌, ◌*◌, ◌^◌, ◌<◌, ◌≤◌, List, ℕ, [], ◌∷◌, ◌++◌, length, take, drop, refl, sym, ap, ◌∙◌, arith}
 use Rattle.ijson_number.proofs.Common.{number_from_digits_after, nat_tests, take-append-drop, AllDigits, BeginsWithNoDigit, digits_from_text}
-use Rattle.ijson_number.proofs.storing.DigitBounds.{digits_small}
+use Rattle.ijson_number.proofs.parsing.DigitValues.{digits_small}
 use Rattle.ijson_number.proofs.storing.Significands.{no_more}
-use Rattle.ijson_number.proofs.parsing.CommonFronts.{point_tail}
+use Rattle.ijson_number.proofs.parsing.CommonFronts.{point_tail, point_first}
 use Rattle.ijson_number.proofs.parsing.DigitRuns.{IsDigits_from}
-use Rattle.ijson_number.proofs.parsing.NumberTails.{point_first}
 use Rattle.ijson_number.proofs.fast_reader.take_fraction.Goals as goal
 
 -- a point, at most `most` digits after it, the text after them, and the number with the digits appended

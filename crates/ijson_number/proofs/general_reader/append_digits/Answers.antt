@@ -1,5 +1,5 @@
 use Rattle.ijson_number.proofs.Common.{◌≡◌, ◌∙◌, ◌*◌, ◌+◌, ◌^◌, inl, inr, take, arith, number_from_digits_after, cases_lt, digits_from_text}
-use Rattle.ijson_number.proofs.storing.DigitBounds.{append_step, digits_after}
+use Rattle.ijson_number.proofs.parsing.DigitValues.{append_step, digits_after}
 use Rattle.ijson_number.proofs.general_reader.append_digits.Goals as goal
 
 pub returns-in_err-checked_mul-clause-none : goal.returns-in_err-checked_mul-clause-none

@@ -1,10 +1,9 @@
-use Rattle.ijson_number.proofs.Common.{◌≡◌, ℕ, ◌^◌, ◌<◌, Bool, min, length, refl, arith, ℤ, pos, neg_ℤ, ◌+ℤ◌, ◌-ℤ◌, ◌≤ℤ◌, ints}
-use Rattle.ijson_number.proofs.Common.{w128, to_z, of_z, signed, value, IsWithin}
+use Rattle.ijson_number.proofs.Common.{◌≡◌, ℕ, ◌^◌, ◌<◌, Bool, min, length, refl, arith, ℤ, pos, neg_ℤ, ◌+ℤ◌, ◌-ℤ◌, ◌≤ℤ◌, ints, w128, to_z, of_z}
+use Rattle.ijson_number.proofs.Common.{signed, value, IsWithin}
 use Rattle.ijson_number.proofs.parsing.Exponents.{capped_within, w32_within, within_capped}
-use Rattle.ijson_number.proofs.general_reader.canonical_exponent.Goals as goal
-use Rattle.ijson_number.proofs.general_reader.canonical_exponent.Goals.{After-written_exponent}
-use Rattle.ijson_number.proofs.general_reader.canonical_exponent.Goals.{then-exponent-via-then-exponent}
+use Rattle.ijson_number.proofs.general_reader.canonical_exponent.Goals.{After-written_exponent, then-exponent-via-then-exponent}
 use Rattle.ijson_number.proofs.general_reader.canonical_exponent.Goals.{then-exponent-via-else-exponent+then-exponent-gt-EXPONENT_LIMIT}
+use Rattle.ijson_number.proofs.general_reader.canonical_exponent.Goals as goal
 
 -- no step of the sum overflows 128 bits
 sum_is : (negative : Bool) (v f t : ℕ) (w : ℤ) → f < 2 ^ 64 → t < 2 ^ 65 → w ≡ signed negative (min v (2 ^ 80))

@@ -1,5 +1,5 @@
 use Rattle.ijson_number.proofs.Common.{◌≡◌, ◌∙◌, false, refl, sym, true}
-use Rattle.ijson_number.proofs.parsing.PartsDenote.{parts_spell}
+use Rattle.ijson_number.proofs.parsing.CanonicalSpellings.{parts_spell}
 use Rattle.ijson_number.proofs.general_reader.first_fault.Goals as goal
 
 pub returns-then-is_spelling-clause-none : goal.returns-then-is_spelling-clause-none

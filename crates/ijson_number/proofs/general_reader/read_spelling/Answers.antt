@@ -1,5 +1,5 @@
 use Rattle.ijson_number.proofs.Common.{arith}
-use Rattle.ijson_number.proofs.parsing.OneDivision.{no_rest, no_spelling, no_whole, spelled_from}
+use Rattle.ijson_number.proofs.parsing.DigitRuns.{no_rest, no_spelling, no_whole, spelled_from}
 use Rattle.ijson_number.proofs.general_reader.read_spelling.Goals as goal
 
 pub returns-then-not-is_whole-clause-none : goal.returns-then-not-is_whole-clause-none

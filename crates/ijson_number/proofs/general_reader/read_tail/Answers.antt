@@ -1,7 +1,7 @@
 use Rattle.ijson_number.proofs.Common.{◌≡◌, ◌<◌, get_or, length, true, arith, not}
-use Rattle.ijson_number.proofs.parsing.NumberTails.{tail_at_point, no_tail_at_point, tail_without_point, no_tail_without_point}
-use Rattle.ijson_number.proofs.general_reader.read_tail.Goals as goal
+use Rattle.ijson_number.proofs.parsing.CommonFronts.{tail_at_point, no_tail_at_point, tail_without_point, no_tail_without_point}
 use Rattle.ijson_number.proofs.general_reader.read_tail.Goals.{then-bytes-lt1, in-46+else-is_empty, else-bytes-lt1+in_default-1}
+use Rattle.ijson_number.proofs.general_reader.read_tail.Goals as goal
 
 pub returns-in_err-negative-clause-none : goal.returns-in_err-negative-clause-none
 returns-in_err-negative-clause-none c =

@@ -1,4 +1,4 @@
-use Rattle.ijson_number.proofs.parsing.MovedLanes.{moved_to_front}
+use Rattle.ijson_number.proofs.parsing.ReadLanes.{moved_to_front}
 use Rattle.ijson_number.proofs.lanes.front_of.Goals as goal
 
 pub swizzle : goal.swizzle

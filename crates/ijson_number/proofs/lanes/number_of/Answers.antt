@@ -1,6 +1,5 @@
 use Rattle.ijson_number.proofs.Common.{ap, ◌∙◌, number_from_digits}
-use Rattle.ijson_number.proofs.parsing.MovedLanes.{moved_to_end}
-use Rattle.ijson_number.proofs.parsing.ReadLanes.{digit_lanes, length-digit_lanes, moved_below, moved_value}
+use Rattle.ijson_number.proofs.parsing.ReadLanes.{moved_to_end, digit_lanes, length-digit_lanes, moved_below, moved_value}
 use Rattle.ijson_number.proofs.lanes.number_of.Goals as goal
 
 pub swizzle : goal.swizzle

@@ -1,7 +1,6 @@
 use Rattle.ijson_number.proofs.Common.{◌≡◌, ◌+◌, ◌-◌, ◌≤◌, ◌∙◌, ◌∷◌, ◌++◌, List, ℕ, Bool, drop, length, refl, replicate, take, take_all, length-drop}
 use Rattle.ijson_number.proofs.Common.{arith, IsAscii, bool_byte, minus_text}
-use Rattle.ijson_number.proofs.writing.RoomTexts.{filled, filled_is, minus_length}
-use Rattle.ijson_number.proofs.writing.WrittenLanes.{IsFront, front_all, front_is}
+use Rattle.ijson_number.proofs.writing.WrittenLanes.{filled, filled_is, minus_length, IsFront, front_all, front_is}
 use Rattle.ijson_number.proofs.lanes.push_rows.Goals as goal
 
 -- the buffer with both vectors in it

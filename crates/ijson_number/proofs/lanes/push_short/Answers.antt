@@ -2,12 +2,10 @@ use Rattle.ijson_number.proofs.Common.{◌≡◌, ◌-◌, ◌*◌, ◌^◌, ◌
 use Rattle.ijson_number.proofs.Common.{length-drop, replicate, arith, decimal, IsAscii, length-replicate, length-zip2, IsAscii-append, zip2}
 use Rattle.ijson_number.proofs.Common.{bool_byte, minus_text, IsZerosInFront}
 use Rattle.ijson_number.specs.private.WordText.{last_digits}
-use Rattle.ijson_number.proofs.writing.AsciiTexts.{digits_ascii, sign_ascii}
-use Rattle.ijson_number.proofs.writing.LastDigits.{number_behind, some_zeros, zero_before}
-use Rattle.ijson_number.proofs.writing.PaddedDigits.{last_count}
-use Rattle.ijson_number.proofs.writing.WrittenLanes.{behind_ascii, less, signed_row, signed_shown}
-use Rattle.ijson_number.proofs.lanes.push_short.Goals as goal
+use Rattle.ijson_number.proofs.writing.WrittenLanes.{digits_ascii, sign_ascii, behind_ascii, less, signed_row, signed_shown}
+use Rattle.ijson_number.proofs.writing.LastDigits.{number_behind, some_zeros, zero_before, last_count}
 use Rattle.ijson_number.proofs.lanes.push_short.Goals.{After-front_of}
+use Rattle.ijson_number.proofs.lanes.push_short.Goals as goal
 
 -- a vector whose first lanes are a text
 record IsVector (lanes : List ℕ) (count : ℕ) (text : List ℕ) : Type 0 where

@@ -1,6 +1,6 @@
 use Rattle.ijson_number.proofs.Common.{◌∙◌, ap, sym, rules, pos, FitsSigned, int_cmp, to_z-of_z, w64, Decimal, Num, stored_decimal, word_exponent}
 use Rattle.ijson_number.proofs.Common.{word_mantissa, word_point}
-use Rattle.ijson_number.proofs.comparing.SignOrder.{stripped_sign}
+use Rattle.ijson_number.proofs.comparing.NumberOrder.{stripped_sign}
 use Rattle.ijson_number.proofs.storing.IntegerWords.{signed_small}
 use Rattle.ijson_number.proofs.comparison.INumberDigitRow.sign.Goals as goal
 

@@ -1,5 +1,5 @@
 use Rattle.ijson_number.proofs.Common.{arith, rules, FitsSigned, ints, w32}
-use Rattle.ijson_number.proofs.comparing.DigitOrder.{row_is}
+use Rattle.ijson_number.proofs.comparing.NumberOrder.{row_is}
 use Rattle.ijson_number.proofs.comparison.StrippedNumberDigitRow.lead.Goals as goal
 
 pub returns : goal.returns

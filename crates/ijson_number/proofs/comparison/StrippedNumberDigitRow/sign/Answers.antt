@@ -1,5 +1,5 @@
 use Rattle.ijson_number.proofs.Common.{◌<◌, sym, length, arith}
-use Rattle.ijson_number.proofs.comparing.SignOrder.{sign_below, sign_above}
+use Rattle.ijson_number.proofs.comparing.NumberOrder.{sign_below, sign_above}
 use Rattle.ijson_number.proofs.comparison.StrippedNumberDigitRow.sign.Goals as goal
 
 pub returns-then-self : goal.returns-then-self

@@ -1,6 +1,6 @@
 use Rattle.ijson_number.proofs.Common.{◌≡◌, ◌∙◌, ap, refl, rules, arith, number_from_digits, number_from_digits_after, to_z-of_z, w32, value}
 use Rattle.ijson_number.proofs.Common.{abs_signed, spelled_digits, digits_from_text}
-use Rattle.ijson_number.proofs.storing.DigitBounds.{joined_value, no_less}
+use Rattle.ijson_number.proofs.parsing.DigitValues.{joined_value, no_less}
 use Rattle.ijson_number.proofs.general_reader.CanonicalSpelling.significand.Goals as goal
 
 pub returns-in_err-front-clause-none : goal.returns-in_err-front-clause-none

@@ -1,11 +1,11 @@
 use Rattle.ijson_number.proofs.Common.{◌≡◌, ◌∙◌, ◌+◌, ◌-◌, ◌<◌, ◌++◌, length, arith, length-append, parts_of}
 use Rattle.ijson_number.proofs.parsing.Exponents.{w32_within}
-use Rattle.ijson_number.proofs.parsing.CanonicalSpellings.{ZerosTaken, denotes_number, denotes_nought, is_num, stores_number}
-use Rattle.ijson_number.proofs.parsing.CanonicalSpellings.{past_limit, digits_front, digits_back}
-use Rattle.ijson_number.proofs.general_reader.Spelling.canonical.Goals as goal
+use Rattle.ijson_number.proofs.parsing.CanonicalSpellings.{ZerosTaken, denotes_number, denotes_nought, is_num, stores_number, past_limit}
+use Rattle.ijson_number.proofs.parsing.CanonicalSpellings.{digits_front, digits_back}
 use Rattle.ijson_number.proofs.general_reader.Spelling.canonical.Goals.{After-strip_back, After-canonical_exponent}
 use Rattle.ijson_number.proofs.general_reader.Spelling.canonical.Goals.{else-is_empty-via-then-is_empty+else-is_empty-2}
 use Rattle.ijson_number.proofs.general_reader.Spelling.canonical.Goals.{else-is_empty-via-else-is_empty}
+use Rattle.ijson_number.proofs.general_reader.Spelling.canonical.Goals as goal
 
 -- leading and trailing zeros are stripped
 taken : (c : After-strip_back) → let w = c.strip_front.result in let a = c.strip_back.result in

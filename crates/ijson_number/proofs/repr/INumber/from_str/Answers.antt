@@ -1,5 +1,5 @@
 use Rattle.ijson_number.proofs.Common.{subst, sym, take_all, arith, Denotes, Spells, parts_of, spelled_number, significand_number}
-use Rattle.ijson_number.proofs.parsing.OneDivision.{spelled_one}
+use Rattle.ijson_number.proofs.parsing.DigitRuns.{spelled_one}
 use Rattle.ijson_number.proofs.storing.FormNumbers.{form_has, stored_num, stored_form_of}
 use Rattle.ijson_number.proofs.repr.INumber.from_str.Goals as goal
 

@@ -4,11 +4,11 @@ use Rattle.ijson_number.proofs.Common.{stored_decimal, stored_form, decimal_of, 
 use Rattle.ijson_number.specs.declared.repr.stored.ShortNumber.{ShortNumber}
 use Rattle.ijson_number.specs.private.RowText.{IsRowText, IsShortInRows}
 use Rattle.ijson_number.specs.private.ShortDigits.{short_digits}
-use Rattle.ijson_number.proofs.comparing.DigitOrder.{row_digits}
-use Rattle.ijson_number.proofs.storing.DigitsOf.{stored_digits_are}
+use Rattle.ijson_number.proofs.comparing.NumberOrder.{row_digits}
+use Rattle.ijson_number.proofs.writing.DigitTexts.{stored_digits_are}
 use Rattle.ijson_number.proofs.writing.WordTexts.{integer_shown, packed_integer, unsigned_shown}
-use Rattle.ijson_number.proofs.repr.INumber.push_fast.Goals as goal
 use Rattle.ijson_number.proofs.repr.INumber.push_fast.Goals.{After-push_integer, in-I64, in-Packed+else-point, in-U64}
+use Rattle.ijson_number.proofs.repr.INumber.push_fast.Goals as goal
 
 pub push_pointed-requires-clause-small : goal.push_pointed-requires-clause-small
 push_pointed-requires-clause-small c = let m = c.mantissa-mantissa in rw (to_z-of_z w64 m.result (search rules)) m.ensures.small

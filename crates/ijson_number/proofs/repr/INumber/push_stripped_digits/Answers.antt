@@ -1,7 +1,7 @@
 use Rattle.ijson_number.proofs.Common.{◌∙◌, ap, sym, rules, Num, form_number, long_form, short_form, stored_decimal}
 use Rattle.ijson_number.specs.declared.repr.stored.LongNumber.{LongNumber}
 use Rattle.ijson_number.specs.declared.repr.stored.ShortNumber.{ShortNumber}
-use Rattle.ijson_number.proofs.comparing.DigitOrder.{row_digits}
+use Rattle.ijson_number.proofs.comparing.NumberOrder.{row_digits}
 use Rattle.ijson_number.proofs.repr.INumber.push_stripped_digits.Goals as goal
 
 pub returns-in-Short : goal.returns-in-Short

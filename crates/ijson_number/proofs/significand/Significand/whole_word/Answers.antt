@@ -1,7 +1,7 @@
 use Rattle.ijson_number.proofs.Common.{◌≡◌, ◌∙◌, sym, refl, rules, arith, pos, FitsSigned, ints, to_z-of_z, w8, w32, w64, to_z, canonical_number}
 use Rattle.ijson_number.proofs.storing.FormCases.{packed_is, packed_here, too_large_here, past_exponent}
-use Rattle.ijson_number.proofs.significand.Significand.whole_word.Goals as goal
 use Rattle.ijson_number.proofs.significand.Significand.whole_word.Goals.{then-exponent-zeros+in_default, else-exponent-zeros}
+use Rattle.ijson_number.proofs.significand.Significand.whole_word.Goals as goal
 
 pub returns-in-Some-clause-word : goal.returns-in-Some-clause-word
 returns-in-Some-clause-word c =
