@@ -392,11 +392,13 @@ fn has_room(rt: &impl Abort, value: IValue, want: usize) {
 }
 
 /// Texts, and the capacity of the value of each: no more than its length.
-static READ: [(&str, usize); 4] = [
+static READ: [(&str, usize); 6] = [
     ("[]", 0),
     ("[1,2,3]", 3),
     ("{}", 0),
     ("{\"a\":1,\"b\":2,\"c\":3}", 3),
+    ("{\"a\":1,\"a\":2,\"a\":3,\"a\":4,\"a\":5,\"a\":6,\"a\":7}", 1),
+    ("{\"a\":1,\"b\":2,\"a\":3}", 2),
 ];
 
 /// Returns the text of an array of `count` zeros, at least one.

@@ -78,7 +78,7 @@ pub(crate) fn take_items(
     Ok(IArray::from_vec(alloc, items)?)
 }
 
-/// Pops the members from index `base` on as an object, whose capacity is their number.
+/// Pops the members from index `base` on as an object without spare capacity.
 pub(crate) fn take_members(
     alloc: Global,
     stack: &mut Vec<(IString, IValue)>,
@@ -87,11 +87,23 @@ pub(crate) fn take_members(
     requires { base ≤ length stack.old.items }
     ensures members { IfOk result (λ object.
         object.pairs ≡ put_each [] (drop base stack.old.items)) }
-    ensures room { IfOk result (λ object. object.capacity ≡ length (drop base stack.old.items)) }
+    ensures room { IfOk result (λ object. object.capacity ≡ length object.pairs) }
     ensures stack { OnOk result (stack.new.items ≡ take base stack.old.items) }
     // The stack itself is taken if it contains only this object and is large.
     ensures spent { OnOk result (base ≡ 0 → 64 < length stack.old.items → vec_capacity stack.new ≡ 0) }
 {
     let members = take_from(alloc, stack, base)?;
-    IObject::from_pairs(alloc, members).map_err(|_| AllocError)
+    let read = members.len();
+    let mut object = IObject::from_pairs(alloc, members).map_err(|_| AllocError)?;
+    if object.len() == read {
+        return Ok(object);
+    }
+    // repeated keys left room
+    match object.shrink_to_fit() {
+        Ok(()) => Ok(object),
+        Err(_) => {
+            drop(object);
+            Err(AllocError)
+        }
+    }
 }
