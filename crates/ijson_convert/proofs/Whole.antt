@@ -21,7 +21,7 @@ use Rattle.ijson_convert.specs.private.NoInteger.{IsNoInteger}
 use Rattle.ijson_convert.specs.declared.convert_error.ConvertError.{ConvertError}
 use Rattle.ijson_convert.specs.declared.convert_error.ConvertError.TheVariants.{OutOfRange}
 use Rattle.ijson_convert.specs.laws.Whole.{widened}
-use Rattle.ijson_convert.specs.laws.IntegerValues.{integer_value}
+use Rattle.ijson_number.specs.laws.IntegerValues.{integer_value}
 use Rattle.ijson_convert.specs.laws.Integers.{signed_is, unsigned_is}
 
 -- two numbers of the same value are equal

@@ -1,4 +1,3 @@
 pub mod Complete
-pub mod IntegerValues
 pub mod Integers
 pub mod Whole

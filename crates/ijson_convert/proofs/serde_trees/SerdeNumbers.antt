@@ -16,7 +16,7 @@ use Rattle.ijson_value.specs.Same.{Same}
 use Rattle.ijson_value.specs.Tree.{Tree, null, number}
 use Rattle.ijson_convert.specs.IntegerTree.{integer_number}
 use Rattle.ijson_convert.specs.SerdeTree.{SerdeNumber, SerdeTree, HasNoTree, SerdeMeans, NoSerdeMeans}
-use Rattle.ijson_convert.specs.laws.IntegerValues.{integer_value}
+use Rattle.ijson_number.specs.laws.IntegerValues.{integer_value}
 use Rattle.ijson_convert.specs.laws.Integers.{integer_num, signed_is, unsigned_is}
 use Rattle.ijson_convert.specs.laws.Whole.{has_too}
 use Rattle.ijson_convert.proofs.Whole.{has_same}

@@ -15,7 +15,7 @@ use Rattle.ijson_value.specs.WellFormed.{IsWellFormed}
 use Rattle.ijson_convert.specs.IntegerTree.{integer_number, integer_tree}
 use Rattle.ijson_convert.specs.Refused.{SignedRefused, UnsignedRefused}
 use Rattle.ijson_convert.specs.declared.convert_error.ConvertError.{ConvertError}
-use Rattle.ijson_convert.specs.laws.IntegerValues.{integer_value}
+use Rattle.ijson_number.specs.laws.IntegerValues.{integer_value}
 
 -- a number that equals one of this value has it
 pub has_too : (a n : Decimal) (z : ℤ) → HasValue a z → number_cmp a n ≡ Equal → HasValue n z
