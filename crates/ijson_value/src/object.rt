@@ -13,6 +13,7 @@ mod retain;
 
 pub use edits::RefusedReplacement;
 pub use entry::{Entry, OccupiedEntry, RefusedKey, VacantEntry};
+pub use extend::RefusedPairs;
 pub use index::ObjectIndex;
 pub use iter::{IntoIter, Iter, Keys, Values};
 pub use map::{IObject, RefusedPair};

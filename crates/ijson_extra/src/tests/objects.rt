@@ -345,6 +345,22 @@ fn is_numbered(rt: &impl Abort, object: &IObject, count: usize, capacity: usize)
     }
 }
 
+/// Like `lists_of_pairs`, by the call that would return the entries, and for 500 keys.
+#[test]
+fn lists_tried(rt: HostRuntime) {
+    let alloc = rt.alloc();
+    let object = IObject::try_from_pairs(alloc, listed(&rt, alloc)).expect(&rt, "an object");
+    assert!(rt; has_keys(&object, &["a", "b"]) && object.capacity() == 3);
+    assert!(rt; number_at(&object, "a") == 3 && number_at(&object, "b") == 2);
+    drop(object);
+    let none = IObject::try_from_pairs(alloc, Vec::new(alloc)).expect(&rt, "an object");
+    assert!(rt; none.is_empty() && none.capacity() == 0);
+    drop(none);
+    let many = IObject::try_from_pairs(alloc, numbered(&rt, alloc, 500)).expect(&rt, "an object");
+    is_numbered(&rt, &many, 500, 500);
+    drop(many);
+}
+
 /// Builds an object of `count` entries, copies it, grows it for one more and shrinks it.
 fn changes_size(rt: &impl Abort, alloc: Global, count: usize, grown: usize) {
     let object = IObject::from_pairs(alloc, numbered(rt, alloc, count));

@@ -1,8 +1,10 @@
 //! Adding the entries of an iterator to an object.
 ghost use Rattle.std.specs.Option.{option_or};
-ghost use Rattle.std.specs.Prelude.{◌≡◌, ℕ, List, [], MatchResult, IfErr, OnOk, Some, slice_get, take};
+ghost use Rattle.std.specs.Prelude.{◌≡◌, ◌↔◌, ◌<◌, ◌≤◌, ℕ, List, [], MatchResult, IfErr, IfOk, IsOk, OnOk, Some};
+ghost use Rattle.std.specs.Prelude.{length, slice_get, take};
 ghost use Rattle.std.specs.Iterator.{IsFiniteIterable};
-ghost use Rattle.ijson_table.specs.Store.{Store, lookup, put_each};
+ghost use Rattle.ijson_table.specs.Growth.{capacity_limit};
+ghost use Rattle.ijson_table.specs.Store.{Store, lookup, put, put_each};
 ghost use Rattle.ijson_value.specs.FindsEntry.{FindsNoRoom};
 ghost use Rattle.ijson_value.specs.Gives.{GivesAll, GivesList, GivesThen};
 ghost use Rattle.ijson_value.specs.InsertsEach.{InsertsEach};
@@ -11,7 +13,32 @@ ghost use Rattle.ijson_value.specs.WellFormed.{WellFormed};
 use super::map::{IObject, RefusedPair};
 use crate::value::IValue;
 use ijson_string::IString;
+use ijson_table::ReserveError;
 use std::alloc::Global;
+use thiserror::Error;
+
+/// The entries that no object was created of, and the reason.
+#[derive(Debug, Drop, Error)]
+#[error("the object was not created: {why}")]
+pub struct RefusedPairs {
+    /// The given entries, in order.
+    pub pairs: Vec<(IString, IValue)>,
+    /// The reason why there is no capacity for them.
+    pub why: ReserveError,
+}
+
+/// Converts to the reason. The returned entries are dropped.
+impl From<RefusedPairs> for ReserveError {
+    ghost use Rattle.std.specs.Prelude.{◌≡◌};
+
+    ghost from_gives = { λ refused why. why ≡ refused.why };
+
+    fn from(refused: RefusedPairs) -> ReserveError {
+        let why = refused.why;
+        drop(refused);
+        why
+    }
+}
 
 impl IObject {
     /// Inserts the entries of an iterator, in order.
@@ -91,6 +118,52 @@ impl IObject {
         match object.extend(pairs) {
             Ok(()) => Ok(object),
             Err(refused) => Err(refused),
+        }
+    }
+
+    /// Like `from_pairs`, but an error returns the entries.
+    ///
+    /// The capacity is allocated first, and then no insertion fails. The entries are moved to the object, and their list is freed.
+    ///
+    /// # Errors
+    ///
+    /// Returns all entries in their order, with `TooLarge` if the length exceeds 2^56, and with `Memory` if an allocation fails.
+    ///
+    /// # Cost
+    ///
+    /// Each key is hashed once, and each entry is moved once. If few keys collide, it takes linear time. If many do, each is compared with
+    /// those before it; `from_pairs` sorts them. Until it returns, both lists are allocated.
+    pub fn try_from_pairs(
+        alloc: Global,
+        pairs: Vec<(IString, IValue)>,
+    ) -> Result<IObject, RefusedPairs>
+        ensures pairs { IfOk result (λ object. object.pairs ≡ put_each [] pairs.items) }
+        ensures capacity { IfOk result (λ object. object.capacity ≡ length pairs.items) }
+        ensures refused { IfErr result (λ refused. refused.pairs.items ≡ pairs.items) }
+        ensures too_large { IfErr result (λ refused. (refused.why ≡ ReserveError.TooLarge) ↔ (capacity_limit < length pairs.items)) }
+        ensures limited { OnOk result (length pairs.items ≤ capacity_limit) }
+        ensures none { length pairs.items ≡ 0 → IsOk result }
+    {
+        let mut object = match IObject::with_capacity(alloc, pairs.len()) {
+            Ok(object) => object,
+            Err(why) => return Err(RefusedPairs { pairs, why }),
+        };
+        for (key, value) in pairs {
+            object.insert_within(key, value);
+        }
+        Ok(object)
+    }
+
+    /// Inserts an entry within the capacity. The old value of its key is dropped.
+    #[tactic(auto, using(ijson_table::proofs::pairs::PutEach::put_in_room))]
+    fn insert_within(&mut self, key: IString, value: IValue)
+        requires { length self.old.pairs < self.old.capacity }
+        ensures pairs { self.new.pairs ≡ put self.old.pairs key value }
+        ensures capacity { self.new.capacity ≡ self.old.capacity }
+    {
+        match self.insert(key, value) {
+            Ok(old) => drop(old),
+            Err(_) => unreachable!(),
         }
     }
 }

@@ -98,7 +98,8 @@ impl IObject {
     ///
     /// # Errors
     ///
-    /// Returns `TooLarge` if the length exceeds 2^56, and `Memory` if an allocation fails. The entries are dropped.
+    /// Returns `TooLarge` if the length exceeds 2^56, and `Memory` if an allocation fails. The entries are dropped; `try_from_pairs` returns
+    /// them.
     ///
     /// # Cost
     ///

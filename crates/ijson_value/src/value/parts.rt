@@ -35,7 +35,7 @@ impl IValue {
         }
     }
 
-    /// Returns the bytes of the string, or `None` if the value is of another kind.
+    /// Returns the string, or `None` if the value is of another kind.
     pub fn as_str(&self) -> Option<&str>
         ensures some { IfSome result (λ text. self.now ≡ string_value text.now) }
         ensures none { IfNone result (kind_of self.now.tree ≢ kind.String) }

@@ -4,7 +4,7 @@ use super::interned;
 use crate::tests::{empty_cache, insert_new, key, set};
 use ijson_string::IString;
 use ijson_table::ReserveError;
-use ijson_value::object::{Entry, IObject, RefusedKey, RefusedPair};
+use ijson_value::object::{Entry, IObject, RefusedKey, RefusedPair, RefusedPairs};
 use ijson_value::value::IValue;
 use std::alloc::{AllocError, Global};
 use std::process::Abort;
@@ -58,6 +58,31 @@ fn listed(rt: &impl Abort, alloc: Global) -> Vec<(IString, IValue)> {
 /// Returns an object of the list.
 fn of_list(rt: &impl Abort, alloc: Global) -> IObject {
     granted!(rt; ReserveError::Memory; IObject::from_pairs(alloc, listed(rt, alloc)))
+}
+
+/// Returns `true` if these are the entries of the list, in order.
+fn is_listed(pairs: &[(IString, IValue)]) -> bool {
+    for at in 0..pairs.len() {
+        let (text, value) = PAIRS[at % 5];
+        if !pairs[at].0.eq_str(text) || !is_number(&pairs[at].1, value) {
+            return false;
+        }
+    }
+    pairs.len() == 6
+}
+
+#[test]
+fn returned_pairs(rt: HostRuntime) {
+    let alloc = rt.alloc();
+    let object = match IObject::try_from_pairs(alloc, listed(&rt, alloc)) {
+        Ok(object) => object,
+        Err(RefusedPairs { pairs, why }) => {
+            assert!(rt; why == ReserveError::Memory && is_listed(&pairs));
+            IObject::try_from_pairs(alloc, pairs).expect(&rt, "an object")
+        }
+    };
+    assert!(rt; holds(&object, 5, 6));
+    drop(object);
 }
 
 #[test]

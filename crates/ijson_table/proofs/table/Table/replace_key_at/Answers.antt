@@ -1,4 +1,4 @@
-use Rattle.std.proofs.Common.{◌≡◌, length, map, set, arith, ap, ap₂, sym, ◌∙◌, subst}
+use Rattle.std.proofs.Common.{◌≡◌, length, map, set, arith, rules, ap, ap₂, sym, ◌∙◌, subst}
 use Rattle.std.proofs.lemmas.List.{length-set, map-set}
 use Rattle.ijson_table.specs.Placed.{Placed}
 use Rattle.ijson_table.specs.Store.{at, keys_of, with_key, IsDistinct}
@@ -36,6 +36,7 @@ invariant_of-self g c =
     let short = kept_hash n hash in
     let old = c.self.inside.pairs.items in
     let index = c.args.index in
+    let hashed : c.hash.result ≡ hash c.args.key = search rules in
     record {
       room = record {
         within = omega (arith, length-set old index (c.replace.new.dest, c.index_mut.result.now.1), c.self.invariant.room.within);
@@ -43,7 +44,7 @@ invariant_of-self g c =
       };
       hashes = c.rehash_one.ensures.hashes
           ∙ (ap₂ (λ hs h. set hs index h) c.self.invariant.hashes
-          (c.kept_hash-hash.ensures ∙ ap₂ kept (c.new.ensures ∙ c.len.ensures.count) (c.hash.ensures ∙ ap hash c.as_str.ensures))
+          (c.kept_hash-hash.ensures ∙ ap₂ kept (c.new.ensures ∙ c.len.ensures.count) hashed)
           ∙ (sym (map-set short (keys_of old) index c.args.key)
           ∙ (ap (map short) (sym (keys-with_key old index c.args.key))
           ∙ ap₂ (λ k ps. map (kept_hash k hash) (keys_of ps)) (sym c.rehash_one.ensures.count) (sym (now g (goal.at.invariant_of-self g c).After-replace)))));

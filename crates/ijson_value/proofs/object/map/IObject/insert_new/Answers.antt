@@ -38,11 +38,12 @@ loop-index-preserved c =
     let pushed : c.push_new-in-loop-index.new.self.pairs ≡ swap_out now.pairs index ++ pair ∷ [] =
     c.push_new-in-loop-index.ensures.pairs ∙ ap (λ ps. ps ++ pair ∷ []) c.swap_out-key.ensures.pairs in
     let within : index < length now.pairs = omega (arith, c.loop-index-test.true, was.length) in
+    let before : index < c.len-last.result = omega (arith, c.loop-index-test.true) in
     record {
       turned = subst (λ ps. IsTurned (insert c.args.self.now.pairs c.args.position (c.args.key, c.args.value)) ps
           (c.len-last.result - (index + 1))) (sym pushed)
           (turned_more (insert c.args.self.now.pairs c.args.position (c.args.key, c.args.value)) now.pairs index c.len-last.result pair
-          was.turned c.loop-index-test.true was.length c.swap_out-key.ensures.pair);
+          was.turned before was.length c.swap_out-key.ensures.pair);
       length = omega (
         arith,
         ap length pushed,

@@ -1,4 +1,4 @@
-use Rattle.std.proofs.Common.{◌≡◌, ℕ, [], get_or, Some, sym, ap, ◌∙◌}
+use Rattle.std.proofs.Common.{◌≡◌, ℕ, [], arith, get_or, Some, sym, ap, ◌∙◌}
 use Rattle.ijson_table.proofs.pairs.OtherKeys.{with_same_key}
 use Rattle.ijson_table.proofs.pairs.PairsByKey.{position_within}
 use Rattle.ijson_table.specs.Store.{Store, at, keys_of, with_key}
@@ -22,8 +22,9 @@ returns-in-Some-position-clause-replaces c =
     let found : at old.pairs from ≡ Some i = sym c.position.ensures.position ∙ c.in-Some.is in
     let there : at old.pairs to ≡ Some c.in-Some-position.found =
     placed old.pairs c.as_str.ensures c.position-2.ensures.position c.in-Some-position.is in
+    let same : i ≡ c.in-Some-position.found = omega (arith, c.if-found-position.true) in
     let is : get_or (keys_of old.pairs) i [] ≡ to =
-    ap (λ n. get_or (keys_of old.pairs) n []) (sym c.if-found-position.true) ∙ key_there old.pairs to c.in-Some-position.found there in (
+    ap (λ n. get_or (keys_of old.pairs) n []) same ∙ key_there old.pairs to c.in-Some-position.found there in (
       sym is ∙ key_there old.pairs from i found,
       is_there (at old.pairs from) i found,
       sym (with_same_key old.pairs i to (position_within old.pairs from i found) is)
