@@ -17,7 +17,7 @@ use ijson_table::ReserveError;
 use std::alloc::Global;
 use thiserror::Error;
 
-/// The entries that no object was created of, and the reason.
+/// The entries of an object that was not created, and the reason.
 #[derive(Debug, Drop, Error)]
 #[error("the object was not created: {why}")]
 pub struct RefusedPairs {
