@@ -1,2 +1,3 @@
 pub mod ItemsRead
 pub mod MembersRead
+pub mod HashRead

@@ -14,8 +14,8 @@ use std::alloc::Global;
 /// A type that can be read from a JSON value, and has a tree that means the same.
 ///
 /// It is implemented for `bool`, the integers of up to 64 bits, `String` and `IString`; and, if `T` implements it, for `Option<T>` (null is
-/// `None`), `Vec<T>` and `BTreeMap<String, T>`. A number with a fraction point is an integer if its value is whole: `2.0` is 2. Null is the
-/// outermost `None`: an `Option<Option<u8>>` is then `None`, never `Some(None)`.
+/// `None`), `Vec<T>`, `BTreeMap<String, T>` and `HashMap<String, T>`. A number with a fraction point is an integer if its value is whole:
+/// `2.0` is 2. Null is the outermost `None`: an `Option<Option<u8>>` is then `None`, never `Some(None)`.
 pub trait FromIValue: Sized {
     /// The tree of a value.
     ghost tree: { Self → Tree };
@@ -66,7 +66,7 @@ pub trait FromIValue: Sized {
 ///
 /// # Cost
 ///
-/// Linear in the value; n log n in the entries of a `BTreeMap`, plus comparing keys.
+/// Linear in the value; n log n in the entries of a `BTreeMap`, plus comparing keys. The keys of a `HashMap` are hashed.
 pub fn from_value<T: FromIValue>(alloc: Global, value: &IValue) -> Result<T, ConvertError>
     ensures same { IfOk result (λ x. Same (T.FromIValue.tree x) value.now.tree) }
     ensures read { IfOk result (λ x. IsRead T.FromIValue.refused value.now.tree) }

@@ -9,7 +9,7 @@ use crate::convert_error::ConvertError;
 use crate::from_ivalue::FromIValue;
 use ijson_value::value::{DestructuredRef, IValue};
 use std::alloc::Global;
-use std::collections::BTreeMap;
+use std::collections::{BTreeMap, HashMap};
 
 /// Reads an object, value by value. Its keys are copied, and its order is lost.
 ///
@@ -30,6 +30,41 @@ impl<T: FromIValue + Drop> FromIValue for BTreeMap<String, T> {
             return Err(ConvertError::WrongKind);
         };
         let mut map = BTreeMap::new(alloc);
+        for (key, item) in object.iter() {
+            let x = T::from_ivalue(alloc, item)?;
+            let key = key.to_owned_string(alloc)?;
+            if map.insert(key, x).is_err() {
+                return Err(ConvertError::Memory);
+            }
+        }
+        Ok(map)
+    }
+
+    ghost complete = { λ map. map_complete T.FromIValue.tree T.FromIValue.refused
+        T.FromIValue.in_range T.FromIValue.complete map.entries };
+}
+
+/// Reads an object, value by value. Its keys are copied, and its order is lost.
+///
+/// The map has std's hasher with a fixed seed. If strangers choose the keys, read a `BTreeMap`.
+///
+/// # Cost
+///
+/// Room for the entries of each object is reserved first. Then each key is hashed and inserted.
+impl<T: FromIValue + Drop> FromIValue for HashMap<String, T> {
+    ghost tree = { λ map. map_tree T.FromIValue.tree map.entries };
+
+    ghost refused = { MapRefused T.FromIValue.refused };
+
+    ghost in_range = { λ map. All T.FromIValue.in_range (values_of map.entries) };
+
+    ghost null_is_none = { λ map. All T.FromIValue.null_is_none (values_of map.entries) };
+
+    fn from_ivalue(alloc: Global, value: &IValue) -> Result<HashMap<String, T>, ConvertError> {
+        let DestructuredRef::Object(object) = value.destructure_ref() else {
+            return Err(ConvertError::WrongKind);
+        };
+        let mut map = HashMap::with_capacity(alloc, object.len())?;
         for (key, item) in object.iter() {
             let x = T::from_ivalue(alloc, item)?;
             let key = key.to_owned_string(alloc)?;

@@ -361,6 +361,36 @@ fn values_are_read_as_their_types(rt: HostRuntime) {
     reads::<BTreeMap<String, Vec<Option<i32>>>>(&rt, alloc, &NESTED);
 }
 
+/// Reads a map, which has no order, and returns its length and the value of a key.
+fn said_of_a(
+    rt: &impl Abort,
+    alloc: Global,
+    text: &str,
+) -> Result<(usize, Option<u8>), ConvertError> {
+    let map = said::<HashMap<String, Option<u8>>>(rt, alloc, text)?;
+    let found = (map.len(), map.get("a").copied().flatten());
+    drop(map);
+    Ok(found)
+}
+
+/// Texts, and for each the number of entries and the value of `a`, or why it is no map of small numbers.
+static HASHED: [(&str, Result<(usize, Option<u8>), ConvertError>); 7] = [
+    ("{}", Ok((0, None))),
+    ("{\"b\":1,\"a\":2.0,\"a long key\":null}", Ok((3, Some(2)))),
+    ("{\"a\":1,\"b\":3,\"a\":255}", Ok((2, Some(255)))),
+    ("{\"\":7}", Ok((1, None))),
+    ("[]", Err(ConvertError::WrongKind)),
+    ("{\"a\":1,\"b\":\"1\"}", Err(ConvertError::WrongKind)),
+    ("{\"a\":256,\"b\":[]}", Err(ConvertError::OutOfRange)),
+];
+
+#[test]
+fn hash_maps_are_read(rt: HostRuntime) {
+    for &(text, wanted) in &HASHED {
+        assert!(rt; said_of_a(&rt, rt.alloc(), text) == wanted, "{text}");
+    }
+}
+
 /// A nested option.
 type Twice = Option<Option<u8>>;
 

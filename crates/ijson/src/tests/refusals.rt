@@ -154,6 +154,20 @@ fn conversions(rt: HostRuntime) {
     drop(again);
 }
 
+/// Reads a value as a hash map.
+fn said_map(rt: &impl Abort, alloc: Global, value: &IValue) -> HashMap<String, Vec<bool>> {
+    granted!(rt; ConvertError::Memory; from_value::<HashMap<String, Vec<bool>>>(alloc, value))
+}
+
+#[test]
+fn conversion_to_a_hash_map(rt: HostRuntime) {
+    let value = read(&rt, rt.alloc(), "{\"a\":[true],\"eight888\":[]}");
+    let map = said_map(&rt, rt.alloc(), &value);
+    drop(value);
+    assert!(rt; map.len() == 2 && map.contains_key("eight888"));
+    drop(map);
+}
+
 /// Reads a value as a string.
 fn said_text(rt: &impl Abort, alloc: Global, value: &IValue) -> String {
     granted!(rt; ConvertError::Memory; from_value::<String>(alloc, value))

@@ -55,13 +55,19 @@ module _ (Refused : Tree → ConvertError → Type 0) where
       ∙ ap items_of (values_pushed done ((k, v) ∷ left))))
       (refused_behind Refused (value_trees done) v.tree (value_trees left) e a r)
 
+-- members that lack a key have no entry with it
+pub no_member : (done : List (List ℕ × WellFormed)) (key : String Global) (k : List ℕ) (u : Tree) → string_bytes key ≡ k
+    → Lacks k (keys_of done) → Has (string_bytes key) u (pair_trees done) → ⊥
+no_member done key k u is lacks h =
+    lacks_it k u (pair_trees done) (subst (Lacks k) (sym (member_keys-pairs done)) lacks) (subst (λ j. Has j u (pair_trees done)) is h)
+
 -- ---- one more entry of the map
 module _ {X : Type 0} (tree : X → Tree) where
-  abbrev map_members : List (String Global × X) → Members
+  abbrev pub map_members : List (String Global × X) → Members
   map_members es = members_of (map (pair_tree tree) es)
 
   module _ (old new : Members) (grows : (k : List ℕ) (u : Tree) → Has k u old → Has k u new) where
-    widened : (ps : Members) → SameIn ps old → SameIn ps new
+    pub widened : (ps : Members) → SameIn ps old → SameIn ps new
     widened no_members s = tt
     widened (member k t ps) s = ((s.0.0, grows k s.0.0 s.0.1, s.0.2), widened ps s.1)
 
@@ -92,8 +98,7 @@ module _ {X : Type 0} (tree : X → Tree) where
       → Same (map_tree tree (insert_entry string_cmp es key x)) (object_tree (done ++ (k, v) ∷ []))
   member_same es done key k x v is lacks s same =
       let more = inserted (pair_trees done) (pair_trees (done ++ (k, v) ∷ [])) (has_more done ((k, v) ∷ [])) key x
-      (λ u h. lacks_it k u (pair_trees done) (subst (Lacks k) (sym (member_keys-pairs done)) lacks)
-      (subst (λ j. Has j u (pair_trees done)) is h))
+      (λ u h. no_member done key k u is lacks h)
       (v.tree, subst (λ j. Has j v.tree (pair_trees (done ++ (k, v) ∷ []))) (sym is) (has_middle done (k, v) []), same)
       es s.1 in
       (more.0 ∙ ap suc s.0 ∙ sym (len_last done (k, v)), more.1)
