@@ -1,9 +1,10 @@
 -- A value after a mutable borrow at a pointer ends, as a value: the last value written is at the pointer, and nothing else has changed.
 -- This project's own.
-use Rattle.std.specs.Prelude.{◌≡◌, ℕ, List, Option, Some, None, Result, Ok, Err, ⊤}
-use Rattle.std.specs.Borrow.{follows_so, GName, MutBor, Fml}
+use Rattle.std.specs.Prelude.{◌≡◌, ℕ, List, Option, Some, None, Result, Ok, Err, OnSome, ⊤}
+use Rattle.std.specs.Borrow.{follows_so, GName, LendsSo, MutBor, Fml, RattleType}
 use Rattle.std.specs.Option.{ghost_name_of}
 use mathlib.Core.Option as maybe
+use Rattle.ijson_value.specs.Tree.{Tree}
 use Rattle.ijson_value.specs.WellFormed.{WellFormed}
 use Rattle.ijson_value.specs.contracts.value.IValue as value
 use Rattle.ijson_extra.specs.Pointer.{resolved_with}
@@ -25,3 +26,8 @@ abbrev pub LendsNamedValue : MutBor WellFormed → List ℕ → Result (Option (
 LendsNamedValue s pointer r =
     follows_so value.the_row value.the_row s.ghost_name (lent_name r)
     (λ w n. IfLent r (n.tree ≡ resolved_with s.now.tree pointer w.tree)) (λ n. n.tree ≡ s.now.tree)
+
+-- the same for a result that states no reason, and for any lender that has a tree
+abbrev pub LendsPointed : (R : RattleType) → (R.Denot → Tree) → MutBor R.Denot → List ℕ → Option (MutBor WellFormed) → Fml
+LendsPointed R tree s pointer r =
+    LendsSo R value.the_row s r (λ n w. OnSome r (tree n ≡ resolved_with (tree s.now) pointer w.tree)) (λ n. tree n ≡ tree s.now)

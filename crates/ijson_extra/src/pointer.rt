@@ -66,6 +66,8 @@ pub trait Pointer {
     ghost tree: { Self → Tree };
 
     ghost use Rattle.std.specs.Prelude.{◌≡◌, option_map, option_and_then};
+    ghost use Rattle.std.specs.Borrow.{sem};
+    ghost use Rattle.ijson_extra.specs.LendsNamedValue.{LendsPointed};
     ghost use Rattle.ijson_extra.specs.Pointer.{resolved};
 
     /// Returns the value that `pointer` refers to, or `None` if there is none.
@@ -82,6 +84,22 @@ pub trait Pointer {
     fn pointer(&self, pointer: &str) -> Option<&IValue>
         ensures { option_map (λ found. found.now.tree) result
             ≡ option_and_then (λ found. found) (resolved (tree self.now) pointer.now) };
+
+    /// Like `pointer`, but returns a mutable reference. Writing changes that one value.
+    ///
+    /// ```
+    /// if let Some(port) = value.pointer_mut("/servers/0/port") {
+    ///     *port = IValue::from(8080u64);
+    /// }
+    /// ```
+    ///
+    /// # Cost
+    ///
+    /// That of `resolve_mut`.
+    fn pointer_mut(&mut self, pointer: &str) -> Option<&mut IValue>
+        ensures* writes_back { sem 𝓛 (LendsPointed Self.row tree self.entry pointer.now result) }
+        ensures value { option_map (λ found. found.now.tree) result
+            ≡ option_and_then (λ found. found) (resolved (tree self.old) pointer.now) };
 }
 
 /// Looks up by `resolve`.
@@ -90,6 +108,13 @@ impl Pointer for IValue {
 
     fn pointer(&self, pointer: &str) -> Option<&IValue> {
         match resolve(self, pointer) {
+            Ok(found) => found,
+            Err(_) => None,
+        }
+    }
+
+    fn pointer_mut(&mut self, pointer: &str) -> Option<&mut IValue> {
+        match resolve_mut(self, pointer) {
             Ok(found) => found,
             Err(_) => None,
         }

@@ -109,7 +109,35 @@ fn put_true_opened(value: &mut IValue, pointer: &str) -> Option<Unresolved> {
     }
 }
 
-/// Asserts the text after true is written at a pointer, through the content or not, or the error.
+/// Like `put_true`, by the method of the value. Returns whether the pointer leads to a value.
+fn put_true_pointed(value: &mut IValue, pointer: &str) -> bool {
+    match value.pointer_mut(pointer) {
+        Some(found) => {
+            *found = IValue::TRUE;
+            true
+        }
+        None => false,
+    }
+}
+
+/// The calls that lend the value at a pointer.
+#[derive(Clone, Copy)]
+enum Way {
+    Value,
+    Opened,
+    Method,
+}
+
+/// Writes true at a pointer. Returns whether the reason against it, if any, is the one given.
+fn puts_true(value: &mut IValue, pointer: &str, refused: Option<Unresolved>, way: Way) -> bool {
+    match way {
+        Way::Value => put_true(value, pointer) == refused,
+        Way::Opened => put_true_opened(value, pointer) == refused,
+        Way::Method => put_true_pointed(value, pointer) == refused.is_none(),
+    }
+}
+
+/// Asserts the text after true is written at a pointer, or the error.
 fn becomes(
     rt: &impl Abort,
     alloc: Global,
@@ -117,15 +145,10 @@ fn becomes(
     pointer: &str,
     want: &str,
     refused: Option<Unresolved>,
-    opened: bool,
+    way: Way,
 ) {
     let mut value = parsed(rt, alloc, text);
-    let found = if opened {
-        put_true_opened(&mut value, pointer)
-    } else {
-        put_true(&mut value, pointer)
-    };
-    assert!(*rt; found == refused);
+    assert!(*rt; puts_true(&mut value, pointer, refused, way));
     is_written(rt, alloc, &value, want);
     drop(value);
 }
@@ -177,21 +200,22 @@ static WRITTEN: [(&str, &str, Option<Unresolved>); 17] = [
     ("/nope/~2", TEXT, NO_POINTER),
 ];
 
-/// Asserts the text after a write at each of the pointers, through the content or not.
-fn writes(rt: &impl Abort, alloc: Global, opened: bool) {
+/// Asserts the text after a write at each of the pointers.
+fn writes(rt: &impl Abort, alloc: Global, way: Way) {
     for &(pointer, written, refused) in &WRITTEN {
-        becomes(rt, alloc, TEXT, pointer, written, refused, opened);
+        becomes(rt, alloc, TEXT, pointer, written, refused, way);
     }
     let (deep, written) = ("[[[0,{\"a\":[1,[2]]}]],3]", "[[[0,{\"a\":[1,[true]]}]],3]");
-    becomes(rt, alloc, deep, "/0/0/1/a/1/0", written, None, opened);
+    becomes(rt, alloc, deep, "/0/0/1/a/1/0", written, None, way);
 }
 
 /// One value changes, and nothing else.
 #[test]
 fn pointers_to_be_written(rt: HostRuntime) {
     let alloc = rt.alloc();
-    writes(&rt, alloc, false);
-    writes(&rt, alloc, true);
+    writes(&rt, alloc, Way::Value);
+    writes(&rt, alloc, Way::Opened);
+    writes(&rt, alloc, Way::Method);
 }
 
 const NESTED: &str = "{\"a\":[{\"b\":[1]}]}";
