@@ -1,5 +1,5 @@
-//! Tests beyond the clauses: numbers, strings and their cache, arrays and values, conversions, literals, the errors, and failed allocations
-//! in the last four.
+//! Tests beyond the clauses: strings and their cache, arrays and values, conversions, literals, the errors, and failed allocations in the
+//! last three.
 //!
 //! `ijson_extra` tests tables, objects, canonical text, pointers and all other failed allocations; `ijson_compact` tests the rest of the
 //! program.
@@ -11,7 +11,6 @@ mod arrays;
 mod conversions;
 mod errors;
 mod literals;
-mod numbers;
 mod refusals;
 mod serde;
 mod texts;
