@@ -1,8 +1,6 @@
-//! Tests beyond the clauses: numbers, strings and their cache, arrays and values, conversions, literals, the errors, and failed allocations
-//! in the last four.
+//! Tests beyond the clauses: arrays, values, conversions, literals and errors, and failed allocations of conversions and literals.
 //!
-//! `ijson_extra` tests tables, objects, canonical text, pointers and all other failed allocations; `ijson_compact` tests the rest of the
-//! program.
+//! `ijson_extra` tests tables, objects and other failed allocations.
 //!
 //! A test calls `drop` when it is done with a value, which is one step of the proof. At the end of a scope, the proof has a case for each
 //! kind of the value.
@@ -11,10 +9,8 @@ mod arrays;
 mod conversions;
 mod errors;
 mod literals;
-mod numbers;
 mod refusals;
 mod serde;
-mod texts;
 mod values;
 
 use crate::examples::{Cache, empty_cache, is_written, parsed};

@@ -1,10 +1,10 @@
 //! Exact decimals, as JSON writes numbers.
 //!
 //! Each module uses only those before it: `lanes`, `significand`, `repr::stored`, `repr`, `fast_reader`, `general_reader`, `encode`,
-//! `write_display`, `write_fast`, `comparison`, `number`, `integers`, `tests`.
+//! `write_display`, `write_fast`, `comparison`, `number`, `integers`, `tests::words`, `tests::numbers`, `tests::numbers::forms`.
 //!
-//! Tests: `src/tests.rt` has those of packed words; `ijson/src/tests/numbers.rt` the others; `ijson_compact` those of the words that numbers
-//! feed a hasher.
+//! The tests are in `src/tests`, those of the words that numbers feed a hasher in `ijson_compact`, and those of failed allocations in
+//! `ijson_extra`.
 #![tactic(auto)]
 
 mod comparison;

@@ -1,8 +1,7 @@
 //! The allocations of strings and their cache. These tests come in pairs with the same number of requests, which `tests/alloc/same-requests`
 //! compares.
-use super::interned;
-use crate::examples::{Cache, empty_cache};
-use crate::string::IString;
+use super::{Cache, empty_cache, interned};
+use crate::IString;
 use std::alloc::Global;
 use std::process::Abort;
 

@@ -1,7 +1,7 @@
 //! Strings that repeat in one order are rarely hashed from the third time on, and strings in another order are found, too.
 use super::interned;
 use super::many::OneHash;
-use crate::string::StringCache;
+use crate::StringCache;
 use std::alloc::Global;
 use std::cell::Cell;
 use std::hash::BuildHasher;

@@ -2,7 +2,10 @@
 
 mod forms;
 
-use crate::number::{DigitRow, Form, INumber, Looks, ParseNumberError, compare, first_fault};
+use crate::comparison::{DigitRow, Looks, compare};
+use crate::general_reader::first_fault;
+use crate::number::{Form, ParseNumberError};
+use crate::repr::INumber;
 use std::alloc::Global;
 use std::cmp::Ordering;
 use std::error::Error;

@@ -1,8 +1,6 @@
 //! Strings of each length.
-use super::interned;
-use crate::examples::{Cache, empty_cache};
-use crate::string::IString;
-use crate::tests::is_shown;
+use super::{Cache, empty_cache, interned, is_shown};
+use crate::IString;
 use std::alloc::Global;
 use std::cmp::Ordering;
 use std::process::Abort;

@@ -1,6 +1,6 @@
 //! A cache of many strings, whose buckets double.
 use super::interned;
-use crate::string::StringCache;
+use crate::StringCache;
 use std::alloc::Global;
 use std::hash::{BuildHasher, BuildHasherDefault, FoldHasher, Hasher};
 use std::process::Abort;
