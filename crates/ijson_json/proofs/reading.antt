@@ -11,7 +11,6 @@ pub mod Members
 pub mod Words
 pub mod Values
 pub mod CacheContents
-pub mod ScratchStacks
 pub mod Gathering
 pub mod GatheredTrees
 pub mod WholeTexts

@@ -1,6 +1,7 @@
 -- Scanning a text: its leading bytes, runs, and the positions at which it may be split.
 pub mod Prefixes
 pub mod UnescapedRuns
+pub mod LaneMasks
 pub mod WhiteSpace
 pub mod AppendedRuns
 pub mod MaskedRuns

@@ -1,12 +1,12 @@
 -- Texts of elements separated by commas: the elements of an array and the members of an object.
-use Rattle.std.proofs.Common.{◌≡◌, ℕ, false, List, [], ◌∷◌, ◌++◌, eqb, refl, sym, ap, subst, ◌∙◌, append_assoc, arith, eq-eqb}
-use Rattle.std.specs.Prelude.{IsTrue, ◌==◌}
+use Rattle.std.proofs.Common.{◌≡◌, ℕ, false, List, [], ◌∷◌, ◌++◌, eqb, refl, sym, ap, ap₂, subst, ◌∙◌, append_assoc, arith}
+use Rattle.std.specs.Prelude.{IsTrue, ◌==◌, ⊤}
 use Rattle.std.proofs.lemmas.Bool.Decides.{nat_tests}
 use Rattle.ijson_number.specs.NumberBytes.{is_number_byte}
 use Rattle.ijson_value.specs.Tree.{Tree, number, array, object}
 use Rattle.ijson_json.specs.Grammar.{is_space, IsSpace, Spaced, Split}
 use Rattle.ijson_json.specs.private.Reading.{Past, Stops, Ends}
-use Rattle.ijson_json.proofs.scanning.Prefixes.{run_same, not_both, tails, heads_apart}
+use Rattle.ijson_json.proofs.scanning.Prefixes.{run_same, past_byte, tails, heads_apart}
 
 -- elements separated by commas, with white space around each
 abbrev pub IsList : {E : Type 0} → (E → List ℕ → Type 0) → List E → List ℕ → Type 0
@@ -109,54 +109,50 @@ module _ (E : Type 0) (S : Shape E) where
   ElementSame e f = (a b x y : List ℕ) → S.Is e a → S.Is f b → Ends (S.inner e) x → Ends (S.inner f) y → a ++ x ≡ b ++ y
       → (e ≡ f) × ((a ≡ b) × (x ≡ y))
 
-  -- equal rests give equal elements and the same text after them
-  abbrev pub LeftSame : List E → List E → Type 0 → Type 0
-  LeftSame more others R = (c d x y : List ℕ) → Left more c x → Left others d y → c ≡ d → R × (x ≡ y)
+  -- the element at the start of a text, and the text after it and its white space, are unique
+  pub first_same : (e f : E) (more : List E) (cur x front after s tail : List ℕ) → ElementSame e f → (a : At e more cur x) → S.Is f front
+      → Ends (S.inner f) after → cur ≡ front ++ after → after ≡ s ++ tail → IsSpace s → Past is_space tail → (e ≡ f) × (a.tail ≡ tail)
+  first_same e f more cur x front after s tail same a v n is g h p =
+      let q = same a.value front (a.after ++ a.tail) after a.holds v (Ends-any (S.inner e) _ (at-Stops e more cur x a)) n (sym a.is ∙ is) in
+      (q.0, (run_same is_space a.after s a.tail tail a.space_after h (left-past_space more a.tail x a.left) p (q.1.1 ∙ g)).1)
 
-  -- two lists at the start of one text have the same first element, and the same others
-  at_same : (e f : E) (more others : List E) (R : Type 0) → ElementSame e f → LeftSame more others R → (c d x y : List ℕ) → At e more c x
-      → At f others d y → c ≡ d → (e ≡ f) × (R × (x ≡ y))
-  at_same e f more others R values lefts c d x y a b g =
-      let q = values a.value b.value (a.after ++ a.tail) (b.after ++ b.tail) a.holds b.holds
-      (Ends-any (S.inner e) (a.after ++ a.tail) (at-Stops e more c x a))
-      (Ends-any (S.inner f) (b.after ++ b.tail) (at-Stops f others d y b)) (sym a.is ∙ g ∙ b.is) in
-      let r = run_same is_space a.after b.after a.tail b.tail a.space_after b.space_after (left-past_space more a.tail x a.left)
-      (left-past_space others b.tail y b.left) q.1.1 in
-      let s = lefts a.tail b.tail x y a.left b.left r.1 in
-      (q.0, s)
-
-  -- two lists in one text have the same first element, and the same others
-  pub step : (e f : E) (more others : List E) (R : Type 0) → ElementSame e f → LeftSame more others R → (i j x y : List ℕ)
-      → IsList S.Is (e ∷ more) i → IsList S.Is (f ∷ others) j
-      → i ++ S.closing ∷ x ≡ j ++ S.closing ∷ y → (e ≡ f) × (R × (x ≡ y))
-  step e f more others R values lefts i j x y v w g =
-      let a = at_first e more i x v in
-      let b = at_first f others j y w in
-      let p = run_same is_space a.0 b.0 a.1 b.1 a.2 b.2 (at-past_space e more a.1 x a.3) (at-past_space f others b.1 y b.3) (sym a.4 ∙ g
-      ∙ b.4) in
-      at_same e f more others R values lefts a.1 b.1 x y a.3 b.3 p.1
-
-  -- and so have two lists after a comma
-  pub left_step : (e f : E) (more others : List E) (R : Type 0) → ElementSame e f → LeftSame more others R → (c d x y : List ℕ)
-      → Left (e ∷ more) c x → Left (f ∷ others) d y → c ≡ d → (e ≡ f) × (R × (x ≡ y))
-  left_step e f more others R values lefts c d x y (i, v, l) (j, w, m) g =
-      step e f more others R values lefts i j x y v w (tails 44 44 _ _ (sym l ∙ g ∙ m))
-
-  -- the last element is not followed by a comma
-  pub no_left : (e : E) (more : List E) (c d x y : List ℕ) → Left (e ∷ more) c x → Left [] d y → c ≡ d → ⊥
-  no_left e more c d x y (i, v, l) m g = heads_apart S.closing 44 _ _ (sym m ∙ sym g ∙ l) S.closing-comma
+  -- each element is the only one for its text
+  abbrev pub AreAlone : List E → Type 0
+  AreAlone [] = ⊤
+  AreAlone (e ∷ es) = ((f : E) → ElementSame e f) × AreAlone es
 
   -- an empty list is not one with a first element
-  pub none_some : (f : E) (others : List E) (i j x y : List ℕ) → IsSpace i → IsList S.Is (f ∷ others) j
+  none_some : (f : E) (others : List E) (i j x y : List ℕ) → IsSpace i → IsList S.Is (f ∷ others) j
       → i ++ S.closing ∷ x ≡ j ++ S.closing ∷ y → ⊥
   none_some f others i j x y s w g =
-      let b = at_first f others j y w in
-      let p = run_same is_space i b.0 (S.closing ∷ x) b.1 s b.2 S.closing-space (at-past_space f others b.1 y b.3) (g ∙ b.4) in
-      let q : Past (λ c. c == S.closing) (b.3.value ++ (b.3.after ++ b.3.tail)) =
-      S.past_closing f b.3.value (b.3.after ++ b.3.tail) b.3.holds in
-      let r : Past (λ c. c == S.closing) (S.closing ∷ x) = rw (← b.3.is, ← p.1) at q in
-      not_both (S.closing == S.closing) (eq-eqb S.closing S.closing refl) r
+      let (before, cur, h, b, e) = at_first f others j y w in
+      let p = run_same is_space i before (S.closing ∷ x) cur s h S.closing-space (at-past_space f others cur y b) (g ∙ e) in
+      past_byte S.closing _ x (S.past_closing f b.value (b.after ++ b.tail) b.holds) (sym b.is ∙ sym p.1)
 
-  -- two empty lists end at the same byte
-  pub both_none : (i j x y : List ℕ) → IsSpace i → IsSpace j → i ++ S.closing ∷ x ≡ j ++ S.closing ∷ y → x ≡ y
-  both_none i j x y s w g = tails _ _ _ _ (run_same is_space i j (S.closing ∷ x) (S.closing ∷ y) s w S.closing-space S.closing-space g).1
+  -- two lists in one text are the same, and so is the text after them
+  abbrev pub ListsSame : List E → List E → Type 0
+  ListsSame es fs = (i j x y : List ℕ) → IsList S.Is es i → IsList S.Is fs j → i ++ S.closing ∷ x ≡ j ++ S.closing ∷ y
+      → (es ≡ fs) × (x ≡ y)
+
+  -- two lists after an element
+  left_same : (es fs : List E) → ListsSame es fs → (c d x y : List ℕ) → Left es c x → Left fs d y → c ≡ d → (es ≡ fs) × (x ≡ y)
+  left_same [] [] same c d x y l m g = (refl, tails _ _ _ _ (sym l ∙ g ∙ m))
+  left_same [] (f ∷ others) same c d x y l m g = absurd (heads_apart S.closing 44 _ _ (sym l ∙ g ∙ m.2) S.closing-comma)
+  left_same (e ∷ more) [] same c d x y l m g = absurd (heads_apart S.closing 44 _ _ (sym m ∙ sym g ∙ l.2) S.closing-comma)
+  left_same (e ∷ more) (f ∷ others) same c d x y l m g = same l.0 m.0 x y l.1 m.1 (tails 44 44 _ _ (sym l.2 ∙ g ∙ m.2))
+
+  -- two lists whose elements are alone
+  pub lists_same : (es fs : List E) → AreAlone es → ListsSame es fs
+  lists_same [] [] alone i j x y v w g =
+      (refl, tails _ _ _ _ (run_same is_space i j (S.closing ∷ x) (S.closing ∷ y) v w S.closing-space S.closing-space g).1)
+  lists_same [] (f ∷ others) alone i j x y v w g = absurd (none_some f others i j x y v w g)
+  lists_same (e ∷ more) [] alone i j x y v w g = absurd (none_some e more j i y x w v (sym g))
+  lists_same (e ∷ more) (f ∷ others) alone i j x y v w g =
+      let (before, cur, s, a, p) = at_first e more i x v in
+      let (behind, next, t, b, q) = at_first f others j y w in
+      let same = run_same is_space before behind cur next s t (at-past_space e more cur x a) (at-past_space f others next y b)
+      (sym p ∙ g ∙ q) in
+      let first = first_same e f more cur x b.value (b.after ++ b.tail) b.after b.tail (alone.0 f) a b.holds
+      (Ends-any (S.inner f) _ (at-Stops f others next y b)) (same.1 ∙ b.is) refl b.space_after (left-past_space others b.tail y b.left) in
+      let rest = left_same more others (lists_same more others alone.1) a.tail b.tail x y a.left b.left first.1 in
+      (ap₂ ◌∷◌ first.0 rest.0, rest.1)

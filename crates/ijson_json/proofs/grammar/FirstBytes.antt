@@ -1,13 +1,13 @@
 -- The first byte of a value determines its kind, numbered by the order of kinds.
 use Rattle.std.proofs.Common.{◌≡◌, ℕ, ◌≤◌, Bool, true, false, cond, List, ◌∷◌, ◌++◌, eqb, refl, sym, ap, ◌∙◌, arith}
 use Rattle.std.specs.Prelude.{IsTrue, ◌||◌, ◌==◌}
-use Rattle.std.proofs.lemmas.Bool.{eqb-true}
+use Rattle.std.proofs.lemmas.Bool.{ne_eqb}
 use Rattle.std.proofs.lemmas.Bool.Decides.{nat_tests}
 use Rattle.ijson_number.specs.NumberBytes.{is_digit}
 use Rattle.ijson_value.specs.Order.{rank}
 use Rattle.ijson_value.specs.Tree.{Tree, null, boolean, number, string, array, object}
 use Rattle.ijson_json.specs.Grammar.{is_space, boolean_text, IsValue}
-use Rattle.ijson_json.specs.private.Reading.{Past}
+use Rattle.ijson_json.specs.private.Reading.{Front, Past}
 use Rattle.ijson_number.proofs.parsing.SpelledBytes.{spells_first}
 use Rattle.ijson_json.proofs.scanning.Prefixes.{heads}
 
@@ -40,13 +40,11 @@ value_first (object ms) text (inside, v, e) = (123, _, refl, e)
 
 -- a byte that begins a value is not white space
 not_space : (b k : ℕ) → kind b ≡ k → k ≤ 5 → is_space b ≡ false
-not_space b k e h = elim (is_space b) as (λ s. is_space b ≡ s → s ≡ false)
-    [ true ↦ λ t. absurd (omega (arith, space_kind b t)) | false ↦ λ t. refl ] refl
+not_space b k e h = grind (arith, nat_tests)
 
 -- a byte that begins a value differs from one that begins none
 not_kind : (b c k : ℕ) → kind b ≡ k → k ≤ 5 → kind c ≡ 6 → eqb b c ≡ false
-not_kind b c k e h f = elim (eqb b c) as (λ s. eqb b c ≡ s → s ≡ false)
-    [ true ↦ λ t. absurd (let g : kind b ≡ kind c = ap kind (eqb-true b c t) in omega (arith, g, e, f)) | false ↦ λ t. refl ] refl
+not_kind b c k e h f = ne_eqb b c (λ same. let g : kind b ≡ kind c = ap kind same in omega (arith, g, e, f))
 
 -- the rank of each tree is that of a kind that begins a value
 pub rank-le : (t : Tree) → rank t ≤ 5
@@ -65,10 +63,14 @@ value-past_kind c k t text x v =
     let first = value_first t text v in
     rw first.3 (not_kind first.0 c (rank t) first.2 (rank-le t) k)
 
+-- the first byte of a text determines the kind of the value at its start
+pub kind_at : (t : Tree) (b : ℕ) (more text x : List ℕ) → text ≡ b ∷ more → Front (λ value. IsValue t value) text x → kind b ≡ rank t
+kind_at t b more text x e f =
+    let (c, rest, k, is) = value_first t f.front f.holds in
+    ap kind (heads b c more (rest ++ x) (sym e ∙ f.is ∙ ap (λ (l : List ℕ). l ++ x) is)) ∙ k
+
 -- two values in one text have one kind
 pub kinds_same : (t u : Tree) (a b x y : List ℕ) → IsValue t a → IsValue u b → a ++ x ≡ b ++ y → rank t ≡ rank u
 kinds_same t u a b x y v w e =
     let f = value_first t a v in
-    let g = value_first u b w in
-    let same : f.0 ∷ (f.1 ++ x) ≡ g.0 ∷ (g.1 ++ y) = ap (λ (l : List ℕ). l ++ x) (sym f.3) ∙ e ∙ ap (λ (l : List ℕ). l ++ y) g.3 in
-    sym f.2 ∙ ap kind (heads _ _ _ _ same) ∙ g.2
+    sym f.2 ∙ kind_at u f.0 (f.1 ++ x) (a ++ x) y (ap (λ (l : List ℕ). l ++ x) f.3) (record { front = b; holds = w; is = e })

@@ -14,33 +14,22 @@ use Rattle.ijson_json.proofs.scanning.Prefixes.{not_both, heads, tails, heads_ap
 
 -- ---- one character
 
--- two values of one `Option` are the same
-pub some_same : (o : Option ℕ) (x y : ℕ) → o ≡ Some x → o ≡ Some y → x ≡ y
-some_same o x y e f = let same : Some x ≡ Some y = sym e ∙ f in cc
-
--- equal bytes are the same hexadecimal digit
-digit_same : (a b x y : ℕ) → a ≡ b → hex_digit a ≡ Some x → hex_digit b ≡ Some y → x ≡ y
-digit_same a b x y e f g = some_same (hex_digit b) x y (rw e at f) g
+-- four hexadecimal digits
+pub four_digits : {a b c d x y z w u : ℕ} → hex_digit a ≡ Some x → hex_digit b ≡ Some y → hex_digit c ≡ Some z → hex_digit d ≡ Some w
+    → u ≡ x * 4096 + (y * 256 + (z * 16 + w)) → Hex (a ∷ b ∷ c ∷ d ∷ []) u
+four_digits {a} {b} {c} {d} {x} {y} {z} {w} {u} f g h i e =
+    record { a = a; b = b; c = c; d = d; x = x; y = y; z = z; w = w; text_is = refl; first = f; second = g; third = h; fourth = i; is = e }
 
 -- four leading digits have one value, and leave one rest
 pub hex_same : (h l : List ℕ) (u v : ℕ) (x y : List ℕ) → Hex h u → Hex l v → h ++ x ≡ l ++ y → (u ≡ v) × ((h ≡ l) × (x ≡ y))
 hex_same h l u v x y p q e =
     let whole : p.a ∷ p.b ∷ p.c ∷ p.d ∷ x ≡ q.a ∷ q.b ∷ q.c ∷ q.d ∷ y = ap (λ (t : List ℕ). t ++ x) (sym p.text_is) ∙ e
     ∙ ap (λ (t : List ℕ). t ++ y) q.text_is in
-    let ea : p.a ≡ q.a = heads _ _ _ _ whole in
-    let w1 : p.b ∷ p.c ∷ p.d ∷ x ≡ q.b ∷ q.c ∷ q.d ∷ y = tails _ _ _ _ whole in
-    let eb : p.b ≡ q.b = heads _ _ _ _ w1 in
-    let w2 : p.c ∷ p.d ∷ x ≡ q.c ∷ q.d ∷ y = tails _ _ _ _ w1 in
-    let ec : p.c ≡ q.c = heads _ _ _ _ w2 in
-    let w3 : p.d ∷ x ≡ q.d ∷ y = tails _ _ _ _ w2 in
-    let ed : p.d ≡ q.d = heads _ _ _ _ w3 in
-    let dx : p.x ≡ q.x = digit_same p.a q.a p.x q.x ea p.first q.first in
-    let dy : p.y ≡ q.y = digit_same p.b q.b p.y q.y eb p.second q.second in
-    let dz : p.z ≡ q.z = digit_same p.c q.c p.z q.z ec p.third q.third in
-    let dw : p.w ≡ q.w = digit_same p.d q.d p.w q.w ed p.fourth q.fourth in
-    let same : u ≡ v = omega (arith, p.is, q.is, dx, dy, dz, dw) in
-    let texts : h ≡ l = p.text_is ∙ (rw (ea, eb, ec, ed) refl) ∙ sym q.text_is in
-    (same, (texts, tails _ _ _ _ w3))
+    let dx : p.x ≡ q.x = cc (whole, p.first, q.first) in
+    let dy : p.y ≡ q.y = cc (whole, p.second, q.second) in
+    let dz : p.z ≡ q.z = cc (whole, p.third, q.third) in
+    let dw : p.w ≡ q.w = cc (whole, p.fourth, q.fourth) in
+    (omega (arith, p.is, q.is, dx, dy, dz, dw), (cc (whole, p.text_is, q.text_is), cc whole))
 
 -- an unescaped byte is not a backslash
 not_backslash : (b : ℕ) (x y : List ℕ) → IsTrue (is_unescaped b) → b ∷ x ≡ 92 ∷ y → ⊥
@@ -64,14 +53,13 @@ two x y a b c d e = tails _ _ _ _ (tails _ _ _ _ e)
 
 -- a text begins with at most one character
 pub character_same : {w m w' m' : List ℕ} (x x' : List ℕ) → Character w m → Character w' m' → w ++ x ≡ w' ++ x' → Same w m x w' m' x'
-character_same x x' (unescaped {b} h) (unescaped {b = b'} h') e = let f : b ≡ b' = heads _ _ _ _ e in
-    let g : b ∷ [] ≡ b' ∷ [] = ap (λ (c : ℕ). c ∷ []) f in (g, (g, tails _ _ _ _ e))
+character_same x x' (unescaped {b} h) (unescaped {b = b'} h') e = let f : b ∷ x ≡ b' ∷ x' = e in (cc, (cc, cc))
 character_same x x' (unescaped {b} h) d e = absurd (not_backslash b _ _ h e)
 character_same x x' c (unescaped {b} h) e = absurd (not_backslash b _ _ h (sym e))
 character_same x x' (short {b} {c} g) (short {b = b'} {c = c'} h) e =
-    let f : b ≡ b' = heads _ _ _ _ (tails _ _ _ _ e) in
-    let k : c ≡ c' = some_same (short_escape b') c c' (rw f at g) h in
-    (ap (λ (d : ℕ). 92 ∷ d ∷ []) f, (ap (λ (d : ℕ). d ∷ []) k, two x x' _ _ _ _ e))
+    let f : 92 ∷ b ∷ x ≡ 92 ∷ b' ∷ x' = e in
+    let k : c ≡ c' = cc (f, g, h) in
+    (cc, (cc, cc))
 character_same x x' (short {b} {c} g) d e = absurd (not_u b c _ _ g e)
 character_same x x' d (short {b} {c} h) e = absurd (not_u b c _ _ h (sym e))
 character_same x x' (unicode {h} {u} g i j) (unicode {h = l} {u = v} k i' j') e =
@@ -124,30 +112,13 @@ low_no_surrogate b h = (grind (arith, nat_tests), grind (arith, nat_tests))
 -- four digits are written for a control character
 hex_control : (b : ℕ) → b < 32 → Hex (48 ∷ 48 ∷ hex_text (b / 16) ∷ hex_text (b % 16) ∷ []) b
 unfolding hex_digit
-hex_control b h = record {
-  a = 48;
-  b = 48;
-  c = hex_text (b / 16);
-  d = hex_text (b % 16);
-  x = 0;
-  y = 0;
-  z = b / 16;
-  w = b % 16;
-  text_is = refl;
-  first = refl;
-  second = refl;
-  third = hex_text_digit (b / 16) (omega arith);
-  fourth = hex_text_digit (b % 16) (omega arith);
-  is = omega arith;
-}
+hex_control b h = four_digits refl refl (hex_text_digit (b / 16) (omega arith)) (hex_text_digit (b % 16) (omega arith)) (omega arith)
 
 -- the escape of a control character spells it
 control : (b : ℕ) → nat_lt b 32 ≡ true → Character (92 ∷ 117 ∷ 48 ∷ 48 ∷ hex_text (b / 16) ∷ hex_text (b % 16) ∷ []) (b ∷ [])
 control b e =
     let h : b < 32 = ltb-true b 32 e in
-    let c : Character (92 ∷ 117 ∷ 48 ∷ 48 ∷ hex_text (b / 16) ∷ hex_text (b % 16) ∷ []) (encode_utf8 b) =
-    unicode (hex_control b h) (low_no_surrogate b h).0 (low_no_surrogate b h).1 in
-    subst (λ (m : List ℕ). Character (92 ∷ 117 ∷ 48 ∷ 48 ∷ hex_text (b / 16) ∷ hex_text (b % 16) ∷ []) m) (encode_ascii b (omega arith)) c
+    rw (← encode_ascii b (omega arith)) (unicode (hex_control b h) (low_no_surrogate b h).0 (low_no_surrogate b h).1)
 
 -- a spelling in each of two cases is a spelling of their choice
 either : (t : Bool) (x y : List ℕ) (b : ℕ) → (t ≡ true → Character x (b ∷ [])) → (t ≡ false → Character y (b ∷ []))
@@ -157,7 +128,7 @@ either false x y b f g = g refl
 
 -- a backslash and a letter spell the byte that has that letter
 letter : (b c : ℕ) (d : ℕ) → short_escape d ≡ Some c → (b == c) ≡ true → Character (92 ∷ d ∷ []) (b ∷ [])
-letter b c d e h = let f : b ≡ c = eqb-true b c h in subst (λ (x : ℕ). Character (92 ∷ d ∷ []) (x ∷ [])) (sym f) (short e)
+letter b c d e h = rw (eqb-true b c h) (short e)
 
 -- the escape of a byte spells it
 pub escaped_is : (b : ℕ) → Character (escaped b) (b ∷ [])

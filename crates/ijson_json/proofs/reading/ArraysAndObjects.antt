@@ -11,8 +11,8 @@ use Rattle.ijson_json.specs.Ranged.{is_ranged}
 use Rattle.ijson_json.specs.Settled.{settled, settled_items, settled_pairs}
 use Rattle.ijson_json.specs.Grammar.{IsValue}
 use Rattle.ijson_json.specs.private.Reading.{Front}
-use Rattle.ijson_json.proofs.scanning.Prefixes.{heads, tails}
-use Rattle.ijson_json.proofs.grammar.FirstBytes.{kind, value_first}
+use Rattle.ijson_json.proofs.scanning.Prefixes.{tails}
+use Rattle.ijson_json.proofs.grammar.FirstBytes.{kind_at}
 use Rattle.ijson_json.proofs.grammar.CommaLists.{IsList}
 use Rattle.ijson_json.proofs.grammar.OneTree.{value_same, pair_same, enclosed_with}
 use Rattle.ijson_json.proofs.reading.Elements.{Listing}
@@ -21,13 +21,6 @@ use Rattle.ijson_json.proofs.reading.ElementLists.{deepest, all_ranged}
 
 -- ---- a value that begins with a bracket
 
--- the first byte determines the kind of a value
-pub kind_at : (t : Tree) (b : ℕ) (inside x : List ℕ) → Front (λ value. IsValue t value) (b ∷ inside) x → kind b ≡ rank t
-kind_at t b inside x f =
-    let first = value_first t f.front f.holds in
-    let whole : b ∷ inside ≡ first.0 ∷ (first.1 ++ x) = f.is ∙ ap (λ (l : List ℕ). l ++ x) first.3 in
-    ap kind (heads _ _ _ _ whole) ∙ first.2
-
 -- a value that begins with `[` is an array
 pub array_at : (t : Tree) (inside x : List ℕ) → Front (λ value. IsValue t value) (91 ∷ inside) x
     → (ts : List Tree) × (i : List ℕ) × (t ≡ array (items_of ts)) × IsList items_shape.Is ts i × (inside ≡ i ++ 93 ∷ x)
@@ -35,7 +28,7 @@ array_at (array is) inside x f =
     let (i, are, spelled) = f.holds in
     let behind = tails _ _ _ _ (f.is ∙ enclosed_with 91 93 f.front i x spelled) in
     (items_list is, i, ap array (sym (items_of-list is)), items_to is i are, behind)
-array_at t inside x f = absurd (let k : 4 ≡ rank t = kind_at t 91 inside x f in omega (arith, k))
+array_at t inside x f = absurd (let k : 4 ≡ rank t = kind_at t 91 inside _ x refl f in omega (arith, k))
 
 -- a value that begins with `{` is an object
 pub object_at : (t : Tree) (inside x : List ℕ) → Front (λ value. IsValue t value) (123 ∷ inside) x
@@ -44,27 +37,7 @@ object_at (object ms) inside x f =
     let (i, are, spelled) = f.holds in
     let behind = tails _ _ _ _ (f.is ∙ enclosed_with 123 125 f.front i x spelled) in
     (members_list ms, i, ap object (sym (members_of-list ms)), members_to ms i are, behind)
-object_at t inside x f = absurd (let k : 5 ≡ rank t = kind_at t 123 inside x f in omega (arith, k))
-
--- elements between brackets are an array
-pub array_builds : (ts : List Tree) (inside : List ℕ) → IsList items_shape.Is ts inside
-    → IsValue (array (items_of ts)) (91 ∷ (inside ++ 93 ∷ []))
-array_builds ts inside h = (
-  inside,
-  items_from (items_of ts) inside
-      (subst (λ (l : List Tree). IsList items_shape.Is l inside) (sym (items_list-of ts)) h),
-  refl,
-)
-
--- members between braces are an object
-pub object_builds : (ms : List (List ℕ × Tree)) (inside : List ℕ) → IsList members_shape.Is ms inside
-    → IsValue (object (members_of ms)) (123 ∷ (inside ++ 125 ∷ []))
-object_builds ms inside h = (
-  inside,
-  members_from (members_of ms) inside
-      (subst (λ (l : List (List ℕ × Tree)). IsList members_shape.Is l inside) (sym (members_list-of ms)) h),
-  refl,
-)
+object_at t inside x f = absurd (let k : 5 ≡ rank t = kind_at t 123 inside _ x refl f in omega (arith, k))
 
 -- an array is one deeper than its elements
 pub array_depth : (ts : List Tree) → depth (array (items_of ts)) ≡ suc (deepest Tree items_shape ts)
@@ -93,7 +66,7 @@ arrays = record {
   wrap = λ ts. array (items_of ts);
   closer = inl refl;
   same = value_same;
-  builds = array_builds;
+  builds = λ ts inside h. (inside, items_from (items_of ts) inside (rw (items_list-of ts) h), refl);
   only = array_at;
   depth_is = array_depth;
   ranged_is = array_ranged;
@@ -106,8 +79,8 @@ objects = record {
   opening = 123;
   wrap = λ ms. object (members_of ms);
   closer = inr refl;
-  same = λ m n. pair_same m.0 m.1 n.0 n.1 (value_same m.1 n.1);
-  builds = object_builds;
+  same = λ m n. pair_same m n (value_same m.1 n.1);
+  builds = λ ms inside h. (inside, members_from (members_of ms) inside (rw (members_list-of ms) h), refl);
   only = object_at;
   depth_is = object_depth;
   ranged_is = object_ranged;

@@ -4,9 +4,9 @@ use Rattle.std.specs.Prelude.{◌&&◌}
 use Rattle.std.proofs.Math.Bool.{and_assoc}
 use Rattle.ijson_value.specs.Tree.{Tree, depth}
 use Rattle.ijson_json.specs.Ranged.{is_ranged}
-use Rattle.ijson_json.specs.Grammar.{is_space, IsSpace}
+use Rattle.ijson_json.specs.Grammar.{IsSpace}
 use Rattle.ijson_json.specs.private.Reading.{Found, Beyond, NoneAt}
-use Rattle.ijson_json.proofs.scanning.Prefixes.{run-append}
+use Rattle.ijson_json.proofs.scanning.Prefixes.{all-append}
 use Rattle.ijson_json.proofs.grammar.CommaLists.{IsList, Shape}
 
 module _ (E : Type 0) (S : Shape E) where
@@ -45,9 +45,9 @@ module _ (E : Type 0) (S : Shape E) where
   -- leading white space changes nothing
   pub absorb : (e : E) (more : List E) (s others : List ℕ) → IsSpace s → IsList S.Is (e ∷ more) others
       → IsList S.Is (e ∷ more) (s ++ others)
-  absorb e [] s others h (b, v, a, sb, w, sa, g) = (s ++ b, v, a, run-append is_space s b h sb, w, sa, rw g (simp append_assoc))
+  absorb e [] s others h (b, v, a, sb, w, sa, g) = (s ++ b, v, a, all-append _ s b h sb, w, sa, rw g (simp append_assoc))
   absorb e (f ∷ more) s others h (first, second, (b, v, a, sb, iv, sa, g), o, i) =
-      (s ++ first, second, (s ++ b, v, a, run-append is_space s b h sb, iv, sa, rw g (simp append_assoc)), o, rw i (simp append_assoc))
+      (s ++ first, second, (s ++ b, v, a, all-append _ s b h sb, iv, sa, rw g (simp append_assoc)), o, rw i (simp append_assoc))
 
   -- an element before others
   pub one_more : (e f : E) (more : List E) (value after others : List ℕ) → S.Is e value → IsSpace after → IsList S.Is (f ∷ more) others

@@ -1,14 +1,14 @@
 -- An array or object that is read element by element.
-use Rattle.std.proofs.Common.{◌≡◌, ℕ, suc, ◌+◌, ◌<◌, ◌≤◌, true, List, [], ◌∷◌, ◌++◌, eq-eqb, refl, sym, ap, ap₂, subst}
+use Rattle.std.proofs.Common.{◌≡◌, ℕ, suc, ◌+◌, ◌<◌, ◌≤◌, true, List, [], ◌∷◌, ◌++◌, refl, sym, ap, ap₂, subst}
 use Rattle.std.proofs.Common.{◌∙◌, append_assoc, arith}
 use Rattle.std.specs.Prelude.{◌&&◌, ◌==◌, ◌⊎◌}
 use Rattle.ijson_value.specs.Tree.{Tree, depth}
 use Rattle.ijson_json.specs.Ranged.{is_ranged}
 use Rattle.ijson_json.specs.Grammar.{is_space, IsSpace, IsValue}
 use Rattle.ijson_json.specs.private.Reading.{Closes, GoesOn, IsStuck, Past, Ends, Front, IsRead, NoValue}
-use Rattle.ijson_json.proofs.scanning.Prefixes.{run_same, not_both, tails, heads_apart}
+use Rattle.ijson_json.proofs.scanning.Prefixes.{run_same, past_byte, tails, heads_apart}
 use Rattle.ijson_json.proofs.reading.ElementLists.{deepest, all_ranged, deepest-append, ranged-append, ElementRead, absorb, one_more}
-use Rattle.ijson_json.proofs.grammar.CommaLists.{IsList, Shape, At, ElementSame, at_elements, left-past_space, at-Stops, Ends-any}
+use Rattle.ijson_json.proofs.grammar.CommaLists.{IsList, Shape, At, ElementSame, first_same, at_elements}
 use Rattle.ijson_json.specs.Limits.{max_depth}
 
 -- how elements form a value
@@ -62,96 +62,8 @@ module _ (E : Type 0) (S : Shape E) (L : Listing E S) where
           → Goes [] t cur x
       go t x [] i f v g =
           let same = run_same is_space s i cur (S.closing ∷ x) h v p S.closing-space (sym e ∙ g) in
-          let not : Past (λ b. b == S.closing) (S.closing ∷ x) = rw (same.1) at q in
-          absurd (not_both (S.closing == S.closing) (eq-eqb S.closing S.closing refl) not)
+          absurd (past_byte S.closing cur x q same.1)
       go t x (u ∷ more) i f v g = record { next = u; more = more; is = f; at = at_elements E S u more s cur i x h p v (sym e ∙ g) }
-
-  -- the element read is the one that is there
-  item_is : (opened : ℕ) (e f : E) (more : List E) (cur x after s tail : List ℕ) → (a : At E S e more cur x)
-      → ElementRead E S opened cur f after → after ≡ s ++ tail → IsSpace s → Past is_space tail → (e ≡ f) × (a.tail ≡ tail)
-  item_is opened e f more cur x after s tail a r g h p =
-      let q = L.same e f a.value r.found.front (a.after ++ a.tail) after a.holds r.found.holds
-      (Ends-any (S.inner e) (a.after ++ a.tail) (at-Stops E S e more cur x a)) r.ends (sym a.is ∙ r.found.is) in
-      let w = run_same is_space a.after s a.tail tail a.space_after h (left-past_space E S more a.tail x a.left) p (q.1.1 ∙ g) in
-      (q.0, w.1)
-
-  -- one more element within the limit on depth
-  push_depth : (opened : ℕ) (found : List E) (e : E) → opened + suc (deepest E S found) ≤ max_depth
-      → (opened + 1) + depth (S.inner e) ≤ max_depth → opened + suc (deepest E S (found ++ e ∷ [])) ≤ max_depth
-  push_depth opened found e h g = omega (arith, deepest-append E S found (e ∷ []), h, g)
-
-  -- one more element within the limit on exponents
-  push_ranged : (found : List E) (e : E) → all_ranged E S found ≡ true → is_ranged (S.inner e) ≡ true
-      → all_ranged E S (found ++ e ∷ []) ≡ true
-  push_ranged found e h g = ranged-append E S found (e ∷ []) ∙ ap₂ ◌&&◌ h (ap₂ ◌&&◌ g refl)
-
-  -- one more element was read, and a comma
-  pub reached_more : (opened : ℕ) (text cur after next : List ℕ) (found : List E) (t : E) → Reached opened text found cur
-      → ElementRead E S (opened + 1) cur t after → GoesOn after next → Reached opened text (found ++ t ∷ []) next
-  reached_more opened text cur after next found t r d s = record {
-    head = r.head ++ (d.found.front ++ (s.gap ++ 44 ∷ s.gap'));
-    is = r.is ∙ rw (d.found.is, s.is) (simp append_assoc);
-    past = s.past;
-    builds = λ u rest others v.
-        let whole = r.builds t (u ∷ rest) (d.found.front ++ (s.gap ++ 44 ∷ (s.gap' ++ others)))
-        (one_more E S t u rest d.found.front s.gap (s.gap' ++ others) d.found.holds s.space
-        (absorb E S u rest s.gap' others s.space' v)) in
-        let text_is : r.head ++ ((d.found.front ++ (s.gap ++ 44 ∷ (s.gap' ++ others))) ++ S.closing ∷ [])
-        ≡ (r.head ++ (d.found.front ++ (s.gap ++ 44 ∷ s.gap'))) ++ (others ++ S.closing ∷ []) = simp append_assoc in
-        subst (λ (es : List E). IsValue (L.wrap es) ((r.head ++ (d.found.front ++ (s.gap ++ 44 ∷ s.gap'))) ++ (others ++ S.closing ∷ [])))
-        (sym (append_assoc found (t ∷ []) (u ∷ rest)))
-        (subst (λ (l : List ℕ). IsValue (L.wrap (found ++ t ∷ u ∷ rest)) l) text_is whole);
-    only = λ t' x g. let o = r.only t' x g in go t' x o.next o.more o.is o.at;
-    deep = push_depth opened found t r.deep d.deep;
-    ranged = push_ranged found t r.ranged d.ranged;
-  }
-    where
-      go : (t' : Tree) (x : List ℕ) (u : E) (es : List E) → t' ≡ L.wrap (found ++ u ∷ es) → At E S u es cur x
-          → Goes (found ++ t ∷ []) t' next x
-      go t' x u [] g a =
-          let same = item_is (opened + 1) u t [] cur x after s.gap (44 ∷ (s.gap' ++ next)) a d s.is s.space refl in
-          absurd (heads_apart S.closing 44 _ _ (sym a.left ∙ same.1) S.closing-comma)
-      go t' x u (w ∷ ws) g a =
-          let same = item_is (opened + 1) u t (w ∷ ws) cur x after s.gap (44 ∷ (s.gap' ++ next)) a d s.is s.space refl in
-          let others = a.left in
-          let rest : s.gap' ++ next ≡ others.0 ++ S.closing ∷ x = tails 44 44 _ _ (sym same.1 ∙ others.2) in
-          record {
-            next = w;
-            more = ws;
-            is = g ∙ ap (λ (v : E). L.wrap (found ++ v ∷ w ∷ ws)) same.0
-                ∙ ap L.wrap (sym (append_assoc found (t ∷ []) (w ∷ ws)));
-            at = at_elements E S w ws s.gap' next others.0 x s.space' s.past others.1 rest;
-          }
-
-  -- the last element was read, and the closing bracket
-  pub reached_end : (opened : ℕ) (text cur after rest : List ℕ) (found : List E) (t : E) → Reached opened text found cur
-      → ElementRead E S (opened + 1) cur t after → Closes S.closing after rest → IsRead opened text (L.wrap (found ++ t ∷ [])) rest
-  reached_end opened text cur after rest found t r d s = record {
-    found = record {
-      front = r.head ++ ((d.found.front ++ s.space) ++ S.closing ∷ []);
-      holds = r.builds t [] (d.found.front ++ s.space) ([], d.found.front, s.space, tt, d.found.holds, s.passed, refl);
-      is = r.is ∙ rw (d.found.is, s.is) (simp append_assoc);
-    };
-    ends = L.ends (found ++ t ∷ []) rest;
-    deep = omega (arith, L.depth_is (found ++ t ∷ []), push_depth opened found t r.deep d.deep);
-    ranged = L.ranged_is (found ++ t ∷ []) ∙ push_ranged found t r.ranged d.ranged;
-  }
-
-  -- neither a comma nor the closing bracket follows
-  pub reached_stuck : (opened : ℕ) (text cur after left : List ℕ) (found : List E) (t : E) → Reached opened text found cur
-      → ElementRead E S (opened + 1) cur t after → IsStuck S.closing after left → NoValue text
-  reached_stuck opened text cur after left found t r d s t' x stops g =
-      let o = r.only t' x g in go o.next o.more o.at
-    where
-      go : (u : E) (es : List E) → At E S u es cur x → ⊥
-      go u [] a =
-          let same = item_is (opened + 1) u t [] cur x after s.skipped.space left a d s.skipped.is s.skipped.passed s.skipped.past in
-          let not : Past (λ b. b == S.closing) (S.closing ∷ x) = rw (sym same.1 ∙ a.left) at s.not_closed in
-          not_both (S.closing == S.closing) (eq-eqb S.closing S.closing refl) not
-      go u (w ∷ ws) a =
-          let same = item_is (opened + 1) u t (w ∷ ws) cur x after s.skipped.space left a d s.skipped.is s.skipped.passed s.skipped.past in
-          let not : Past (λ b. b == 44) (44 ∷ (a.left.0 ++ S.closing ∷ x)) = rw (sym same.1 ∙ a.left.2) at s.no_comma in
-          not_both true refl not
 
   -- no elements
   pub empty_read : (opened : ℕ) (inside rest : List ℕ) → opened < max_depth → Closes S.closing inside rest
@@ -166,3 +78,76 @@ module _ (E : Type 0) (S : Shape E) (L : Listing E S) where
     deep = omega (arith, L.depth_is []);
     ranged = L.ranged_is [];
   }
+
+module _ {E : Type 0} {S : Shape E} {L : Listing E S} {opened : ℕ} {text cur after : List ℕ} {found : List E} {t : E}
+    (r : Reached E S L opened text found cur) (d : ElementRead E S (opened + 1) cur t after) where
+  -- the element read is the one that is there
+  item_is : (e : E) (more : List E) (x s tail : List ℕ) → (a : At E S e more cur x) → after ≡ s ++ tail → IsSpace s → Past is_space tail
+      → (e ≡ t) × (a.tail ≡ tail)
+  item_is e more x s tail a =
+      first_same E S e t more cur x d.found.front after s tail (L.same e t) a d.found.holds d.ends d.found.is
+
+  -- one more element within the limits on depth and exponents
+  push_depth : opened + suc (deepest E S (found ++ t ∷ [])) ≤ max_depth
+  push_depth = omega (arith, deepest-append E S found (t ∷ []), r.deep, d.deep)
+
+  push_ranged : all_ranged E S (found ++ t ∷ []) ≡ true
+  push_ranged = ranged-append E S found (t ∷ []) ∙ ap₂ ◌&&◌ r.ranged (ap₂ ◌&&◌ d.ranged refl)
+
+  -- one more element was read, and a comma
+  pub reached_more : {next : List ℕ} → GoesOn after next → Reached E S L opened text (found ++ t ∷ []) next
+  reached_more {next} s = record {
+    head = r.head ++ (d.found.front ++ (s.gap ++ 44 ∷ s.gap'));
+    is = r.is ∙ rw (d.found.is, s.is) (simp append_assoc);
+    past = s.past;
+    builds = λ u rest others v.
+        let whole = r.builds t (u ∷ rest) (d.found.front ++ (s.gap ++ 44 ∷ (s.gap' ++ others)))
+        (one_more E S t u rest d.found.front s.gap (s.gap' ++ others) d.found.holds s.space
+        (absorb E S u rest s.gap' others s.space' v)) in
+        simp append_assoc (simp append_assoc at whole);
+    only = λ t' x g. let o = r.only t' x g in go t' x o.next o.more o.is o.at;
+    deep = push_depth;
+    ranged = push_ranged;
+  }
+    where
+      go : (t' : Tree) (x : List ℕ) (u : E) (es : List E) → t' ≡ L.wrap (found ++ u ∷ es) → At E S u es cur x
+          → Goes E S L (found ++ t ∷ []) t' next x
+      go t' x u [] g a =
+          let same = item_is u [] x s.gap (44 ∷ (s.gap' ++ next)) a s.is s.space refl in
+          absurd (heads_apart S.closing 44 _ _ (sym a.left ∙ same.1) S.closing-comma)
+      go t' x u (w ∷ ws) g a =
+          let same = item_is u (w ∷ ws) x s.gap (44 ∷ (s.gap' ++ next)) a s.is s.space refl in
+          let others = a.left in
+          let rest : s.gap' ++ next ≡ others.0 ++ S.closing ∷ x = tails 44 44 _ _ (sym same.1 ∙ others.2) in
+          record {
+            next = w;
+            more = ws;
+            is = g ∙ ap (λ (v : E). L.wrap (found ++ v ∷ w ∷ ws)) same.0
+                ∙ ap L.wrap (sym (append_assoc found (t ∷ []) (w ∷ ws)));
+            at = at_elements E S w ws s.gap' next others.0 x s.space' s.past others.1 rest;
+          }
+
+  -- the last element was read, and the closing bracket
+  pub reached_end : {rest : List ℕ} → Closes S.closing after rest → IsRead opened text (L.wrap (found ++ t ∷ [])) rest
+  reached_end {rest} s = record {
+    found = record {
+      front = r.head ++ ((d.found.front ++ s.space) ++ S.closing ∷ []);
+      holds = r.builds t [] (d.found.front ++ s.space) ([], d.found.front, s.space, tt, d.found.holds, s.passed, refl);
+      is = r.is ∙ rw (d.found.is, s.is) (simp append_assoc);
+    };
+    ends = L.ends (found ++ t ∷ []) rest;
+    deep = omega (arith, L.depth_is (found ++ t ∷ []), push_depth);
+    ranged = L.ranged_is (found ++ t ∷ []) ∙ push_ranged;
+  }
+
+  -- neither a comma nor the closing bracket follows
+  pub reached_stuck : {left : List ℕ} → IsStuck S.closing after left → NoValue text
+  reached_stuck {left} s t' x stops g = let o = r.only t' x g in go o.next o.more o.at
+    where
+      go : (u : E) (es : List E) → At E S u es cur x → ⊥
+      go u [] a =
+          let same = item_is u [] x s.skipped.space left a s.skipped.is s.skipped.passed s.skipped.past in
+          past_byte S.closing left x s.not_closed (sym same.1 ∙ a.left)
+      go u (w ∷ ws) a =
+          let same = item_is u (w ∷ ws) x s.skipped.space left a s.skipped.is s.skipped.passed s.skipped.past in
+          past_byte 44 left _ s.no_comma (sym same.1 ∙ a.left.2)

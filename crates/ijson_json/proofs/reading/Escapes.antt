@@ -12,7 +12,7 @@ use Rattle.ijson_json.specs.Strings.{unescaped, short, unicode, pair}
 use Rattle.ijson_json.specs.private.Reading.{Past}
 use Rattle.ijson_json.specs.private.StringReading.{HexAt, CharacterAt, NoHex, NoCharacter, NoEscape, NoLow, LowAt}
 use Rattle.ijson_json.proofs.scanning.Prefixes.{not_both, past_first, heads, tails}
-use Rattle.ijson_json.proofs.grammar.StringBodies.{hex_same}
+use Rattle.ijson_json.proofs.grammar.StringBodies.{four_digits, hex_same}
 
 -- ---- the start of a text
 
@@ -48,26 +48,8 @@ pub hex_at : (text bytes rest : List ℕ) (x y z w : ℕ) → bytes ≡ text →
     → hex_digit (get_or bytes 0 0) ≡ Some x → hex_digit (get_or bytes 1 0) ≡ Some y → hex_digit (get_or bytes 2 0) ≡ Some z
     → hex_digit (get_or bytes 3 0) ≡ Some w → HexAt text (x * 4096 + (y * 256 + (z * 16 + w))) rest
 hex_at text (a ∷ b ∷ c ∷ d ∷ more) rest x y z w t l e f g h i =
-    let behind : rest ≡ more = e ∙ ap (λ (l : List ℕ). drop 4 l) (sym t) in (
-      a ∷ b ∷ c ∷ d ∷ [],
-      record {
-        a = a;
-        b = b;
-        c = c;
-        d = d;
-        x = x;
-        y = y;
-        z = z;
-        w = w;
-        text_is = refl;
-        first = f;
-        second = g;
-        third = h;
-        fourth = i;
-        is = refl;
-      },
-      sym t ∙ ap (λ (l : List ℕ). a ∷ b ∷ c ∷ d ∷ l) (sym behind),
-    )
+    let behind : rest ≡ more = e ∙ ap (λ (l : List ℕ). drop 4 l) (sym t) in
+    (a ∷ b ∷ c ∷ d ∷ [], four_digits f g h i refl, rw behind (sym t))
 hex_at text bytes rest x y z w t l e f g h i = absurd (omega arith)
 
 -- the value of a byte that is not a digit exceeds any four digits
@@ -164,12 +146,7 @@ found_alone text u rest (h, x, e) i j = (92 ∷ 117 ∷ h, unicode x i j, ap (λ
 pub found_both : (text : List ℕ) (u : ℕ) (rest m other : List ℕ) → HexAt text u rest → IsTrue (is_high_surrogate u) → LowAt u rest m other
     → CharacterAt (92 ∷ 117 ∷ text) m other
 found_both text u rest m other (h, x, e) i (l, v, y, j, f, g) =
-    subst (λ (m : List ℕ). CharacterAt (92 ∷ 117 ∷ text) m other) (sym g) (
-      92 ∷ 117 ∷ (h ++ 92 ∷ 117 ∷ l),
-      pair x i y j,
-      ap (λ (t : List ℕ). 92 ∷ 117 ∷ t) (e ∙ ap (λ (t : List ℕ). h ++ t) f
-          ∙ sym (append_assoc h (92 ∷ 117 ∷ l) other)),
-    )
+    rw g (92 ∷ 117 ∷ (h ++ 92 ∷ 117 ∷ l), pair x i y j, rw (e, f) (simp append_assoc))
 
 -- without four digits there is no low surrogate
 pub no_low_hex : (text behind : List ℕ) → text ≡ 92 ∷ 117 ∷ behind → NoHex behind → NoLow text
@@ -186,37 +163,18 @@ not_scalar_low u o h i = grind (arith, nat_tests)
 
 -- ---- after a backslash, and at the start
 
--- an escape has a letter: that of a short one, or `u`
-escape_letter : (letters m more : List ℕ) → CharacterAt (92 ∷ letters) m more
-    → (b : ℕ) × (behind : List ℕ) × (letters ≡ b ∷ behind) × (((c : ℕ) × (short_escape b ≡ Some c)) ⊎ (b ≡ 117))
-escape_letter letters m more (w, c, e) = go c e
-  where
-    go : {w m : List ℕ} → Character w m → 92 ∷ letters ≡ w ++ more
-        → (b : ℕ) × (behind : List ℕ) × (letters ≡ b ∷ behind) × (((c : ℕ) × (short_escape b ≡ Some c)) ⊎ (b ≡ 117))
-    go (unescaped {b} h) e = absurd (not_both (is_unescaped 92) (let f : b ≡ 92 = heads _ _ _ _ (sym e) in rw f at h) refl)
-    go (short {b} {c} g) e = (b, more, tails _ _ _ _ e, inl (c, g))
-    go (unicode {h} {u} g i j) e = (117, h ++ more, tails _ _ _ _ e, inr refl)
-    go (pair {h} {l} {u} {v} g i j k) e = (117, (h ++ 92 ∷ 117 ∷ l) ++ more, tails _ _ _ _ e, inr refl)
-
--- equal texts begin with the same character
-pub same_text : (text other m rest : List ℕ) → text ≡ other → CharacterAt other m rest → CharacterAt text m rest
-same_text text other m rest e h = subst (λ (l : List ℕ). CharacterAt l m rest) (sym e) h
-
--- or both with none
-pub same_none : (text other : List ℕ) → text ≡ other → NoCharacter other → NoCharacter text
-same_none text other e h = subst (λ (l : List ℕ). NoCharacter l) (sym e) h
-
 -- a short escape is a character
 pub escape_found : (text letters rest : List ℕ) (c m : ℕ) → text ≡ 92 ∷ letters → letters ≡ c ∷ rest → short_escape c ≡ Some m → m < 128
     → CharacterAt text (encode_utf8 m) rest
 escape_found text letters rest c m e f h ascii =
-    subst (λ (l : List ℕ). CharacterAt text l rest) (sym (encode_ascii m ascii))
-    (92 ∷ c ∷ [], short h, e ∙ ap (λ (l : List ℕ). 92 ∷ l) f)
+    rw (encode_ascii m ascii) (92 ∷ c ∷ [], short h, rw f at e)
 
 -- no escape has a letter beyond ASCII
 pub escape_wide : (text letters : List ℕ) → text ≡ 92 ∷ letters → Past (λ b. nat_lt b 128) letters → NoEscape text
-escape_wide text letters e past others g m more at =
-    let found : CharacterAt (92 ∷ letters) m more = subst (λ (l : List ℕ). CharacterAt l m more) e at in
-    let l = escape_letter letters m more found in
-    let small : l.0 < 128 = elim l.3 [ inl (d, k) ↦ short_ascii l.0 d k | inr u ↦ rw u (omega arith) ] in
-    past_first (λ b. nat_lt b 128) letters l.0 l.1 past l.2 (lt-ltb l.0 128 small)
+escape_wide text letters t past others g m more (w, c, e) = go c (sym t ∙ e)
+  where
+    go : {w m : List ℕ} → Character w m → 92 ∷ letters ≡ w ++ more → ⊥
+    go (unescaped {b} h) e = not_both (is_unescaped 92) (let f : b ≡ 92 = heads _ _ _ _ (sym e) in rw f at h) refl
+    go (short {b} {c} g) e = past_first _ letters b more past (tails _ _ _ _ e) (lt-ltb b 128 (short_ascii b c g))
+    go (unicode {h} {u} g i j) e = past_first _ letters 117 (h ++ more) past (tails _ _ _ _ e) refl
+    go (pair {h} {l} {u} {v} g i j k) e = past_first _ letters 117 ((h ++ 92 ∷ 117 ∷ l) ++ more) past (tails _ _ _ _ e) refl

@@ -17,8 +17,7 @@ use Rattle.ijson_json.proofs.reading.Gathering.{Gathers}
 pub item_pushed : (vs : List WellFormed) (ts : List Tree) (v : WellFormed) (t : Tree) → v.tree ≡ settled t
     → item_trees vs ≡ settled_items (items_of ts) → item_trees (vs ++ v ∷ []) ≡ settled_items (items_of (ts ++ t ∷ []))
 item_pushed vs ts v t e h =
-    ap items_of (map-append tree_of vs (v ∷ [])) ∙ ap (λ (u : Tree). items_of (map tree_of vs ++ u ∷ [])) e
-    ∙ settled-push ts t (map tree_of vs) h
+    rw (map-append tree_of vs (v ∷ []), e) (settled-push ts t (map tree_of vs) h)
 
 -- the stored form of an element is its value
 abbrev pub kept_items : Gathers Tree items_shape arrays
@@ -46,10 +45,7 @@ AreMembers ps ms = map pair_tree (put_each [] ps) ≡ put_each [] (settled_pairs
 pub member_put : (ps : List (List ℕ × WellFormed)) (ms : List (List ℕ × Tree)) (p : List ℕ × WellFormed) (m : List ℕ × Tree)
     → KeepsMember p m → AreMembers ps ms → AreMembers (ps ++ p ∷ []) (ms ++ m ∷ [])
 member_put ps ms (k, v) (l, t) (same, e) h =
-    ap (map pair_tree) (put_each-append [] ps ((k, v) ∷ [])) ∙ put-trees (put_each [] ps) k v
-    ∙ ap (λ (u : Tree). put (map pair_tree (put_each [] ps)) k u) e
-    ∙ ap (λ (q : List ℕ). put (map pair_tree (put_each [] ps)) q (settled t)) same
-    ∙ settled-put ms l t (map pair_tree (put_each [] ps)) h
+    rw (put_each-append [] ps ((k, v) ∷ []), put-trees (put_each [] ps) k v, e, same) (settled-put ms l t (map pair_tree (put_each [] ps)) h)
 
 -- the stored form of a member is its key and its value
 abbrev pub kept_members : Gathers (List ℕ × Tree) members_shape objects

@@ -1,6 +1,14 @@
 -- The elements of an array or object as they are read: their stored values are on a stack, above those of outer containers.
-use Rattle.std.proofs.Common.{◌≡◌, ℕ, ◌+◌, ◌<◌, List, [], ◌∷◌, ◌++◌, length, take, drop, sym, append-nil}
-use Rattle.std.specs.Prelude.{◌==◌}
+use Rattle.std.proofs.Common.{◌≡◌, ℕ, ◌+◌, ◌<◌, List, [], ◌∷◌, ◌++◌, length, take, drop, sym, ap, ◌∙◌, append_assoc, append-nil}
+use Rattle.std.specs.Prelude.{◌==◌, Result, IsErrAnd}
+use Rattle.std.specs.Borrow.{Bor}
+use Rattle.std.proofs.lemmas.List.{drop_at, take_at}
+use Rattle.std.proofs.lemmas.Result.{err_from_is_err_and}
+use Rattle.ijson_value.specs.WellFormed.{WellFormed}
+use Rattle.ijson_json.specs.declared.fault.Fault.{Fault}
+use Rattle.ijson_json.specs.declared.read.scratch.Scratch.{Scratch}
+use Rattle.ijson_json.specs.private.Explains.{Explains}
+use Rattle.ijson_json.specs.private.ReadsValue.{ReadsValue}
 use Rattle.ijson_string.specs.Cache.{Texts}
 use Rattle.ijson_json.specs.AddsOnlyRead.{AddsOnlyRead}
 use Rattle.ijson_json.specs.Limits.{max_depth}
@@ -9,7 +17,6 @@ use Rattle.ijson_json.proofs.grammar.CommaLists.{Shape}
 use Rattle.ijson_json.proofs.reading.CacheContents.{adds_none, adds_more}
 use Rattle.ijson_json.proofs.reading.ElementLists.{ElementRead}
 use Rattle.ijson_json.proofs.reading.Elements.{Listing, Reached, reached_start, reached_more, reached_end}
-use Rattle.ijson_json.proofs.reading.ScratchStacks.{pushed_above, taken_above, left_below}
 
 -- the stored value of an element, and the relation between a list of these and the elements as written
 pub record Gathers (E : Type 0) (S : Shape E) (L : Listing E S) : Type 1 where
@@ -56,37 +63,44 @@ module _ {E : Type 0} {S : Shape E} {L : Listing E S} {K : Gathers E S L}
   pub gathered_adds : {new : Texts} → AddsOnlyRead rest cache new → AddsOnlyRead text old new
   gathered_adds {new} adds = adds_more text i.reached.head rest old cache new i.reached.is i.adds adds
 
-  -- one more element shares its strings, like those before it
-  pub gathered_share : (k : K.Kept) (new : Texts) → AddsOnlyRead rest cache new → K.Shares new k → K.AllShare new (i.kept ++ k ∷ [])
-  gathered_share k new adds shares = K.share rest cache new i.kept k adds i.share shares
+  -- the result at the exit of a `?`
+  pub gathered_refused : {r : Result (WellFormed × Bor (List ℕ)) Fault} {new : Texts} {before after : Scratch} (fault : Fault)
+      → IsErrAnd r (λ e. e ≡ fault) → AddsOnlyRead rest cache new → Explains opened text fault
+      → ReadsValue opened text r old new before after
+  gathered_refused {r = r} fault is adds explains =
+      let p = err_from_is_err_and r is in rw (p.1, p.2) (record { cache = gathered_adds adds; answer = explains })
 
-  -- one more element was read, and a comma
-  pub gathered_more : (k : K.Kept) (e : E) (after next : List ℕ) (read pushed : List K.Kept) (new : Texts)
-      → ElementRead E S (opened + 1) rest e after → K.Keeps k e → GoesOn after next → read ≡ stack → pushed ≡ read ++ k ∷ []
-      → AddsOnlyRead rest cache new → K.Shares new k → Gathered E S L K opened text next below pushed old new
-  gathered_more k e after next read pushed new found keeps comma same push adds shares = record {
-    kept = i.kept ++ k ∷ [];
-    above = pushed_above below i.kept stack read pushed k i.above same push;
-    written = i.written ++ e ∷ [];
-    reached = reached_more E S L opened text rest after next i.written e i.reached found comma;
-    are = K.push i.kept i.written k e keeps i.are;
-    adds = gathered_adds adds;
-    share = gathered_share k new adds shares;
-  }
+  module _ {k : K.Kept} {e : E} {after : List ℕ} {read pushed : List K.Kept} {new : Texts}
+      (found : ElementRead E S (opened + 1) rest e after) (keeps : K.Keeps k e) (same : read ≡ stack) (push : pushed ≡ read ++ k ∷ [])
+      (adds : AddsOnlyRead rest cache new) (shares : K.Shares new k) where
+    above : pushed ≡ below ++ (i.kept ++ k ∷ [])
+    above = push ∙ ap (λ l. l ++ k ∷ []) (same ∙ i.above) ∙ append_assoc below i.kept (k ∷ [])
 
-  -- the last element was read, and the closing bracket
-  pub gathered_end : (e : E) (after behind : List ℕ) → ElementRead E S (opened + 1) rest e after → Closes S.closing after behind
-      → IsRead opened text (L.wrap (i.written ++ e ∷ [])) behind
-  gathered_end e after behind found closes = reached_end E S L opened text rest after behind i.written e i.reached found closes
+    -- one more element was read, and a comma
+    pub gathered_more : {next : List ℕ} → GoesOn after next → Gathered E S L K opened text next below pushed old new
+    gathered_more comma = record {
+      kept = i.kept ++ k ∷ [];
+      above = above;
+      written = i.written ++ e ∷ [];
+      reached = reached_more i.reached found comma;
+      are = K.push i.kept i.written k e keeps i.are;
+      adds = gathered_adds adds;
+      share = K.share rest cache new i.kept k adds i.share shares;
+    }
 
-  -- the values popped are those stored, and those below are left
-  pub gathered_taken : (k : K.Kept) (read pushed taken : List K.Kept) (base : ℕ) → read ≡ stack → pushed ≡ read ++ k ∷ []
-      → base ≡ length below → taken ≡ drop base pushed → taken ≡ i.kept ++ k ∷ []
-  gathered_taken k read pushed taken base same push begins is =
-      taken_above below (i.kept ++ k ∷ []) pushed taken base begins (pushed_above below i.kept stack read pushed k i.above same push) is
-
-  -- and those below before are left
-  pub gathered_left : (k : K.Kept) (read pushed left : List K.Kept) (base : ℕ) → read ≡ stack → pushed ≡ read ++ k ∷ []
-      → base ≡ length below → left ≡ take base pushed → left ≡ below
-  gathered_left k read pushed left base same push begins is =
-      left_below below (i.kept ++ k ∷ []) pushed left base begins (pushed_above below i.kept stack read pushed k i.above same push) is
+    -- the last element was read, and the closing bracket: the values popped are those stored, and those below before are left
+    pub gathered_end : {behind : List ℕ} {taken left : List K.Kept} {base : ℕ} → Closes S.closing after behind → base ≡ length below
+        → taken ≡ drop base pushed → left ≡ take base pushed → record {
+          read : IsRead opened text (L.wrap (i.written ++ e ∷ [])) behind;
+          are : K.Are taken (i.written ++ e ∷ []);
+          share : K.AllShare new taken;
+          left : left ≡ below;
+        }
+    gathered_end {taken} {left} {base} closes begins is stays =
+        let all : taken ≡ i.kept ++ k ∷ [] = is ∙ ap (drop base) above ∙ drop_at below (i.kept ++ k ∷ []) base (sym begins) in
+        record {
+          read = reached_end i.reached found closes;
+          are = rw all (K.push i.kept i.written k e keeps i.are);
+          share = rw all (K.share rest cache new i.kept k adds i.share shares);
+          left = stays ∙ ap (take base) above ∙ take_at below (i.kept ++ k ∷ []) base (sym begins);
+        }

@@ -8,49 +8,14 @@ use Rattle.ijson_value.specs.Tree.{Tree}
 use Rattle.ijson_json.specs.Grammar.{is_space, IsString, IsValue}
 use Rattle.ijson_json.specs.private.Reading.{KeyRead, Past, Front, Found, Beyond, NoneAt, Pair, IsRead, IsBeyond, Skips}
 use Rattle.ijson_json.specs.private.Explains.{Explains, ExplainsMember}
-use Rattle.ijson_json.proofs.scanning.Prefixes.{run_same, not_both, tails}
+use Rattle.ijson_json.proofs.scanning.Prefixes.{run_same, past_byte, tails}
 use Rattle.ijson_json.proofs.grammar.OneTree.{string_same}
 use Rattle.ijson_json.proofs.grammar.FirstBytes.{value-past_space}
-
--- a member whose value was read
-pub member_read : {opened : ℕ} {k text cur : List ℕ} {t : Tree} {rest : List ℕ} → KeyRead k text cur → IsRead opened cur t rest
-    → Found (List ℕ × Tree) (λ m text. Pair m text) (λ m. m.1) opened text (k, t) rest
-member_read {opened} {k} {text} {cur} {t} {rest} r v = record {
-  found = record {
-    front = r.key ++ (r.gap ++ 58 ∷ (r.gap' ++ v.found.front));
-    holds = record {
-      key = r.key;
-      gap = r.gap;
-      gap' = r.gap';
-      value = v.found.front;
-      is_key = r.is_key;
-      space = r.space;
-      space' = r.space';
-      is_value = v.found.holds;
-      is = refl;
-    };
-    is = r.is ∙ rw (v.found.is) (simp append_assoc);
-  };
-  ends = v.ends;
-  deep = v.deep;
-  ranged = v.ranged;
-}
 
 -- a leading member, part by part
 pair_is : (m : List ℕ × Tree) (text rest : List ℕ) → (f : Front (λ text. Pair m text) text rest)
     → text ≡ f.holds.key ++ (f.holds.gap ++ 58 ∷ (f.holds.gap' ++ (f.holds.value ++ rest)))
 pair_is m text rest f = f.is ∙ rw (f.holds.is) (simp append_assoc)
-
--- the value of a leading member begins at cur
-value_of : (k text cur : List ℕ) (m : List ℕ × Tree) (rest : List ℕ) → KeyRead k text cur → Front (λ text. Pair m text) text rest
-    → Front (λ value. IsValue m.1 value) cur rest
-value_of k text cur m rest r f =
-    let p = f.holds in
-    let s = string_same k m.0 r.key p.key _ _ r.is_key p.is_key (sym r.is ∙ pair_is m text rest f) in
-    let g = run_same is_space r.gap p.gap (58 ∷ (r.gap' ++ cur)) (58 ∷ (p.gap' ++ (p.value ++ rest))) r.space p.space refl refl s.1.1 in
-    let h = run_same is_space r.gap' p.gap' cur (p.value ++ rest) r.space' p.space' r.past (value-past_space m.1 p.value rest p.is_value)
-    (tails _ _ _ _ g.1) in
-    record { front = p.value; holds = p.is_value; is = h.1 }
 
 -- no member without a key
 pub no_key : (text : List ℕ) → ((s rest : List ℕ) → Front (λ front. IsString s front) text rest → ⊥)
@@ -64,51 +29,69 @@ no_colon k text after colon f s p m rest stops g =
     let q = g.holds in
     let e = string_same k m.0 f.front q.key after _ f.holds q.is_key (sym f.is ∙ pair_is m text rest g) in
     let h = run_same is_space s.space q.gap colon (58 ∷ (q.gap' ++ (q.value ++ rest))) s.passed q.space s.past refl (sym s.is ∙ e.1.1) in
-    let not : Past (λ b. b == 58) (58 ∷ (q.gap' ++ (q.value ++ rest))) = rw (h.1) at p in
-    not_both true refl not
+    past_byte 58 colon _ p h.1
 
--- a value beyond a limit makes its member exceed it
-beyond_member : (k text cur : List ℕ) (Bad Worst : Tree → Type 0) → KeyRead k text cur → IsBeyond Bad Worst cur
-    → Beyond (List ℕ × Tree) (λ m text. Pair m text) (λ m. m.1) Bad Worst text
-beyond_member k text cur Bad Worst r b = record {
-  each = λ m rest stops f. b.each m.1 rest stops (value_of k text cur m rest r f);
-  beginning = r.key ++ (r.gap ++ 58 ∷ (r.gap' ++ b.beginning));
-  others = b.others;
-  closers = b.closers;
-  is = r.is ∙ rw (b.is) (simp append_assoc);
-  closing = b.closing;
-  element = (k, b.element);
-  spelled = record {
+module _ {k text cur : List ℕ} (r : KeyRead k text cur) where
+  -- the key, `:`, the white space after each, and a value
+  pair_of : (t : Tree) (value : List ℕ) → IsValue t value → Pair (k, t) (r.key ++ (r.gap ++ 58 ∷ (r.gap' ++ value)))
+  pair_of t value v = record {
     key = r.key;
     gap = r.gap;
     gap' = r.gap';
-    value = b.beginning ++ b.closers;
+    value = value;
     is_key = r.is_key;
     space = r.space;
     space' = r.space';
-    is_value = b.spelled;
-    is = simp append_assoc;
-  };
-  worst = b.worst;
-}
+    is_value = v;
+    is = refl;
+  }
 
--- the key and `:`, each with the white space after it
-abbrev pub key_head : (k text cur : List ℕ) → KeyRead k text cur → List ℕ
-key_head k text cur r = r.key ++ (r.gap ++ 58 ∷ r.gap')
+  -- a member whose value was read
+  pub member_read : {opened : ℕ} {t : Tree} {rest : List ℕ} → IsRead opened cur t rest
+      → Found (List ℕ × Tree) (λ m text. Pair m text) (λ m. m.1) opened text (k, t) rest
+  member_read {opened} {t} {rest} v = record {
+    found = record { front = _; holds = pair_of t v.found.front v.found.holds; is = r.is ∙ rw (v.found.is) (simp append_assoc) };
+    ends = v.ends;
+    deep = v.deep;
+    ranged = v.ranged;
+  }
 
--- the value begins after them
-pub key_behind : (k text cur : List ℕ) (r : KeyRead k text cur) → text ≡ key_head k text cur r ++ cur
-key_behind k text cur r = r.is ∙ simp append_assoc
+  -- the value of a leading member begins at cur
+  value_of : (m : List ℕ × Tree) (rest : List ℕ) → Front (λ text. Pair m text) text rest → Front (λ value. IsValue m.1 value) cur rest
+  value_of m rest f =
+      let p = f.holds in
+      let s = string_same k m.0 r.key p.key _ _ r.is_key p.is_key (sym r.is ∙ pair_is m text rest f) in
+      let g = run_same is_space r.gap p.gap (58 ∷ (r.gap' ++ cur)) (58 ∷ (p.gap' ++ (p.value ++ rest))) r.space p.space refl refl s.1.1 in
+      let h = run_same is_space r.gap' p.gap' cur (p.value ++ rest) r.space' p.space' r.past (value-past_space m.1 p.value rest p.is_value)
+      (tails _ _ _ _ g.1) in
+      record { front = p.value; holds = p.is_value; is = h.1 }
 
--- the rest is no longer than the text
-key_shorter : (k text cur : List ℕ) (left : ℕ) → KeyRead k text cur → left ≤ length cur → left ≤ length text
-key_shorter k text cur left r h = omega (arith, h, ap length (key_behind k text cur r), length-append (key_head k text cur r) cur)
+  -- a value beyond a limit makes its member exceed it
+  beyond_member : (Bad Worst : Tree → Type 0) → IsBeyond Bad Worst cur
+      → Beyond (List ℕ × Tree) (λ m text. Pair m text) (λ m. m.1) Bad Worst text
+  beyond_member Bad Worst b = record {
+    each = λ m rest stops f. b.each m.1 rest stops (value_of m rest f);
+    beginning = r.key ++ (r.gap ++ 58 ∷ (r.gap' ++ b.beginning));
+    others = b.others;
+    closers = b.closers;
+    is = r.is ∙ rw (b.is) (simp append_assoc);
+    closing = b.closing;
+    element = (k, b.element);
+    spelled = simp append_assoc (pair_of b.element (b.beginning ++ b.closers) b.spelled);
+    worst = b.worst;
+  }
 
--- a fault in the value is one of the member
-pub member_fault : {k text cur : List ℕ} (opened : ℕ) (fault : Fault) → KeyRead k text cur → Explains opened cur fault
-    → ExplainsMember opened text fault
-member_fault {k} {text} {cur} opened (faults.Syntax left) r h =
-    (key_shorter k text cur left r h.0, λ m rest stops f. h.1 m.1 rest stops (value_of k text cur m rest r f))
-member_fault {k} {text} {cur} opened (faults.TooDeep left) r h = (key_shorter k text cur left r h.0, beyond_member k text cur _ _ r h.1)
-member_fault {k} {text} {cur} opened (faults.NumberRange left) r h = (key_shorter k text cur left r h.0, beyond_member k text cur _ _ r h.1)
-member_fault {k} {text} {cur} opened faults.Memory r h = tt
+  -- the value begins after the key, `:` and the white space after each
+  pub key_behind : text ≡ (r.key ++ (r.gap ++ 58 ∷ r.gap')) ++ cur
+  key_behind = r.is ∙ simp append_assoc
+
+  -- the rest is no longer than the text
+  key_shorter : (left : ℕ) → left ≤ length cur → left ≤ length text
+  key_shorter left h = omega (arith, h, ap length key_behind, length-append (r.key ++ (r.gap ++ 58 ∷ r.gap')) cur)
+
+  -- a fault in the value is one of the member
+  pub member_fault : (opened : ℕ) (fault : Fault) → Explains opened cur fault → ExplainsMember opened text fault
+  member_fault opened (faults.Syntax left) h = (key_shorter left h.0, λ m rest stops f. h.1 m.1 rest stops (value_of m rest f))
+  member_fault opened (faults.TooDeep left) h = (key_shorter left h.0, beyond_member _ _ h.1)
+  member_fault opened (faults.NumberRange left) h = (key_shorter left h.0, beyond_member _ _ h.1)
+  member_fault opened faults.Memory h = tt

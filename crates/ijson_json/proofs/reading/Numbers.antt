@@ -3,10 +3,10 @@ use Rattle.std.proofs.Common.{◌≡◌, ℕ, zero, suc, ◌+◌, ◌<◌, ◌�
 use Rattle.std.proofs.Common.{subst, ◌∙◌, append_assoc, arith}
 use Rattle.std.specs.Prelude.{slice_range, IsTrue, ◌↔◌}
 use Rattle.std.specs.Str.{IsUtf8, IsCharBoundary}
+use Rattle.std.proofs.lemmas.Bool.{false_from_ne_true}
 use Rattle.std.proofs.lemmas.Bool.Decides.{nat_tests}
 use Rattle.std.proofs.lemmas.List.{get_or-take, length-take-le, take-append-drop}
 use Rattle.std.proofs.lemmas.List.Elements.{All-from_recursion}
-use Rattle.std.proofs.lemmas.Str.{IsCharBoundary-start, IsCharBoundary-after_ascii}
 use Rattle.std.specs.List.{prefix_len}
 use Rattle.std.proofs.lemmas.List.Sums.{prefix_len_passes, prefix_len-le-length}
 use Rattle.ijson_number.specs.Decimal.{Decimal}
@@ -16,54 +16,39 @@ use Rattle.ijson_number.specs.NumberBytes.{is_number_byte}
 use Rattle.ijson_number.proofs.parsing.Denotes.{spells_one}
 use Rattle.ijson_number.proofs.parsing.SpelledBytes.{spells_bytes}
 use Rattle.ijson_json.specs.private.Reading.{Stops, NumberAt, NoNumber, IsPastLimit, PastLimitAt}
+use Rattle.ijson_json.proofs.scanning.CharBoundaries.{behind_ascii}
 use Rattle.ijson_json.proofs.scanning.Prefixes.{Run, run_same, not_both}
 
 -- a byte of a number is ASCII
 number_ascii : (b : ℕ) → is_number_byte b ≡ true → b < 128
 number_ascii b h = grind (arith, nat_tests)
 
--- a text may be split after bytes of a number
-boundary : (text : List ℕ) → IsUtf8 text → (n : ℕ) → n ≤ length text → ((k d : ℕ) → k < n → is_number_byte (get_or text k d) ≡ true)
-    → IsCharBoundary text n
-boundary text u zero h p = IsCharBoundary-start text u
-boundary text u (suc k) h p = let e : suc k ≡ k + 1 = omega arith in
-    subst (λ (n : ℕ). IsCharBoundary text n) (sym e) (IsCharBoundary-after_ascii text k u (omega arith)
-    (number_ascii _ (p k 0 (omega arith))))
-
 -- a text may be split after all leading bytes of a number
 pub number_boundary : (text : List ℕ) → IsUtf8 text → IsCharBoundary text (prefix_len is_number_byte text)
-number_boundary text u = boundary text u (prefix_len is_number_byte text) (prefix_len-le-length is_number_byte text)
-    (prefix_len_passes is_number_byte text)
+number_boundary text u = behind_ascii text u _ (prefix_len-le-length is_number_byte text)
+    (λ k h. number_ascii _ (prefix_len_passes is_number_byte text k 0 h))
 
 -- and after a leading number
 pub spelled_boundary : (text : List ℕ) (count : ℕ) (n : Decimal) → IsUtf8 text → count ≤ length text → Spells (take count text) n
     → IsCharBoundary text count
-spelled_boundary text count n u within s = boundary text u count within
-    (λ k d h. rw (get_or-take count text k d h) at (All-from_recursion (λ b. IsTrue (is_number_byte b)) (take count text)
-    (spells_bytes (take count text) n s) k d (let e = length-take-le count text within in omega arith)))
+spelled_boundary text count n u within s = behind_ascii text u count within
+    (λ k h. number_ascii _ (rw (get_or-take count text k 0 h) at (All-from_recursion (λ b. IsTrue (is_number_byte b)) (take count text)
+    (spells_bytes (take count text) n s) k 0 (let e = length-take-le count text within in omega arith))))
 
 -- a leading number is the whole run of number bytes
 number_is_run : (text run rest : List ℕ) (n : Decimal) (other : List ℕ) → text ≡ run ++ rest → Run is_number_byte run → Stops rest
-    → (a : NumberAt text n other) → run ≡ a.found.front
-number_is_run text run rest n other e r s a = (run_same is_number_byte run a.found.front rest other r
-    (spells_bytes a.found.front n a.found.holds) s a.stops (sym e ∙ a.found.is)).0
+    → NumberAt text n other → Spells run n
+number_is_run text run rest n other e r s a = rw ((run_same is_number_byte run a.found.front rest other r
+    (spells_bytes a.found.front n a.found.holds) s a.stops (sym e ∙ a.found.is)).0) (a.found.holds)
 
 -- if the run spells no number, the text begins with none
 pub no_number : (text run rest : List ℕ) → text ≡ run ++ rest → Run is_number_byte run → Stops rest → ((n : Decimal) × Spells run n → ⊥)
     → NoNumber text
-no_number text run rest e r s h n other a = h (
-  n,
-  subst (λ (l : List ℕ). Spells l n)
-      (sym (number_is_run text run rest n other e r s a)) a.found.holds,
-)
+no_number text run rest e r s h n other a = h (n, number_is_run text run rest n other e r s a)
 
 -- a number that is not a Num is beyond the limit
 pub past_limit : (text : List ℕ) → (n : Decimal) × Spells text n → ((n : Decimal) → Spells text n → IsNum n → ⊥) → IsPastLimit text
-past_limit text (n, v) h = (n, v, not_num (is_in_range n) refl)
-  where
-    not_num : (b : Bool) → is_in_range n ≡ b → is_in_range n ≡ false
-    not_num true e = absurd (h n v (record { plain = v.2.0.plain; in_range = e }))
-    not_num false e = e
+past_limit text (n, v) h = (n, v, false_from_ne_true _ (λ e. h n v (record { plain = v.2.0.plain; in_range = e })))
 
 -- a text that spells a Num spells nothing beyond the limit
 pub not_past_limit : (text : List ℕ) (n : Decimal) → Spells text n → IsNum n → IsPastLimit text → ⊥
@@ -77,8 +62,7 @@ pub run_past_limit : (text run rest : List ℕ) → text ≡ run ++ rest → Run
 run_past_limit text run rest e r s some h =
     let p = past_limit run some h in
     record {
-      each = λ n other a. subst (λ (m : Decimal). is_in_range m ≡ false)
-          (spells_one run p.0 n p.1 (subst (λ (l : List ℕ). Spells l n) (sym (number_is_run text run rest n other e r s a)) a.found.holds))
+      each = λ n other a. subst (λ (m : Decimal). is_in_range m ≡ false) (spells_one run p.0 n p.1 (number_is_run text run rest n other e r s a))
           p.2;
       rest = rest;
       beginning = record { front = run; holds = p; is = e };

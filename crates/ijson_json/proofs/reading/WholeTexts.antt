@@ -19,6 +19,7 @@ use Rattle.ijson_json.specs.private.Explains.{Explains, Answers, error_of}
 use Rattle.ijson_json.proofs.scanning.Prefixes.{run_same, not_both}
 use Rattle.ijson_json.proofs.grammar.OneTree.{value_same, one_tree}
 use Rattle.ijson_json.proofs.grammar.CommaLists.{space-Stops, Ends-any}
+use Rattle.ijson_json.proofs.grammar.TotalReads.{only_memory}
 use Rattle.ijson_json.proofs.grammar.PrintedIsAccepted.{printed_is_accepted}
 use Rattle.ijson_json.specs.Limits.{max_depth}
 use Rattle.ijson_json.proofs.grammar.FirstBytes.{value-past_space}
@@ -38,10 +39,8 @@ stops_of a h = let q : Stops (a ++ []) = space-Stops a [] h tt in rw append-nil 
 pub whole : (text start rest end : List ℕ) (t : Tree) → Skips text start → IsRead 0 start t rest → Skips rest end → length end ≡ 0
     → Accepted text (settled t)
 whole text start rest end t s r q z =
-    let nil : end ≡ [] = nil_from_length end z in
-    let behind : rest ≡ q.space = q.is ∙ ap (λ (l : List ℕ). q.space ++ l) nil ∙ append-nil q.space in
-    let text_is : text ≡ s.space ++ (r.found.front ++ q.space) = s.is
-    ∙ ap (λ (l : List ℕ). s.space ++ l) (r.found.is ∙ ap (λ (l : List ℕ). r.found.front ++ l) behind) in (
+    let text_is : text ≡ s.space ++ (r.found.front ++ q.space) =
+    rw (s.is, r.found.is, q.is, nil_from_length end z, append-nil q.space) refl in (
       depth t,
       omega (arith, r.deep),
       record {
@@ -71,7 +70,7 @@ beyond text start Bad Worst Bad' Worst' s bad worst b = record {
   each = λ t d g r.
       let f = front_of text start r.written s r.spelled in
       let h : Bad' (depth r.written) (is_ranged r.written) = bad r.written (b.each r.written f.0 (stops_of f.0 f.1) f.2) in
-      subst (λ (g : Bool). Bad' d g) (sym r.ranged_is) (subst (λ (d : ℕ). Bad' d (is_ranged r.written)) (sym r.deepest_is) h);
+      rw (r.ranged_is, r.deepest_is) h;
   beginning = s.space ++ b.beginning;
   others = b.others;
   closers = b.closers;
@@ -89,8 +88,7 @@ beyond text start Bad Worst Bad' Worst' s bad worst b = record {
       s.passed,
       b.spelled,
       tt,
-      append_assoc s.space b.beginning b.closers
-          ∙ ap (λ (l : List ℕ). s.space ++ l) (sym (append-nil (b.beginning ++ b.closers))),
+      simp (append_assoc, append-nil),
     );
     tree_is = refl;
     deepest_is = refl;
@@ -116,21 +114,13 @@ refuses text start faults.Memory s h = tt
 
 -- ---- consequences for an accepted text
 
--- an accepted text fails only for memory
-memory_alone : (text : List ℕ) (error : JsonError) (t : Tree) → Refuses text error → Accepted text t → error ≡ errors.Memory
-memory_alone text (errors.Syntax at) t h a = absurd (h.1 t a.0 true a.2)
-memory_alone text (errors.TooDeep at) t h a = let d : max_depth < a.0 = h.1.each t a.0 true a.2 in absurd (omega (arith, d, a.1))
-memory_alone text (errors.NumberRange at) t h a = absurd (not_both true refl (h.1.each t a.0 true a.2))
-memory_alone text errors.Memory t h a = refl
-
 -- an accepted text is read as its tree
 pub answers_read : (text : List ℕ) (result : Result WellFormed JsonError) → Answers text result → (t : Tree) → Accepted text t
     → MatchResult result (λ value. value.tree ≡ t) (λ error. error ≡ errors.Memory)
 answers_read text (Ok v) h t a = one_tree text v.tree t h.0 a.0 true true h.2 a.2
-answers_read text (Err e) h t a = memory_alone text e t h a
+answers_read text (Err e) h t a = only_memory text e t h a
 
 -- and so is a printed text
 pub answers_printed : (text : List ℕ) (result : Result WellFormed JsonError) → Answers text result → (t : Tree) → IsWellFormed t
     → depth t ≤ max_depth → text ≡ print t → MatchResult result (λ value. value.tree ≡ t) (λ error. error ≡ errors.Memory)
-answers_printed text result h t n d e = answers_read text result h t
-    (subst (λ (l : List ℕ). Accepted l t) (sym e) (printed_is_accepted t n d))
+answers_printed text result h t n d e = answers_read text result h t (rw e (printed_is_accepted t n d))

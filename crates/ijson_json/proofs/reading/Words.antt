@@ -12,43 +12,29 @@ use Rattle.ijson_json.specs.Grammar.{IsValue, null_text, boolean_text}
 use Rattle.ijson_json.specs.Limits.{max_depth}
 use Rattle.ijson_json.specs.Ranged.{is_ranged}
 use Rattle.ijson_json.specs.Settled.{settled}
-use Rattle.ijson_json.specs.private.Reading.{Ends, NoValue, ReadAs}
+use Rattle.ijson_json.specs.private.Reading.{Front, NoValue, ReadAs}
 use Rattle.ijson_json.specs.private.Explains.{Explains, WordFault}
 use Rattle.ijson_json.specs.private.ReadsScalar.{ReadsScalar}
 use Rattle.ijson_json.specs.declared.fault.Fault.{Fault}
 use Rattle.ijson_json.specs.declared.fault.Fault.TheVariants as faults
-use Rattle.ijson_json.proofs.scanning.Prefixes.{heads, heads_apart}
-use Rattle.ijson_json.proofs.grammar.FirstBytes.{kind, value_first}
+use Rattle.ijson_json.proofs.scanning.Prefixes.{heads_apart}
+use Rattle.ijson_json.proofs.grammar.FirstBytes.{kind_at}
 use Rattle.ijson_json.proofs.reading.CacheContents.{adds_none}
 
 -- the word that begins with this byte and spells this tree, which no other value begins like
 pub record Word (b : ℕ) (word : List ℕ) (t : Tree) : Type 0 where
   pub spells : IsValue t word
-  pub alone : (u : Tree) (front : List ℕ) → IsValue u front → kind b ≡ rank u → (others : List ℕ) × (front ≡ b ∷ others)
-      → front ≡ word
-  pub ends : (rest : List ℕ) → Ends t rest
-  pub flat : depth t ≡ 0
-  pub ranged : is_ranged t ≡ true
-  pub settles : t ≡ settled t
-  pub shares : (cache : Texts) → AreShared cache t
+  pub alone : (u : Tree) (more x : List ℕ) (f : Front (λ value. IsValue u value) (b ∷ more) x) → f.front ≡ word
+  pub flat : rank t ≤ 1
 
 -- only `null` begins with an n
-null_alone : (t : Tree) (front : List ℕ) → IsValue t front → kind 110 ≡ rank t → (others : List ℕ) × (front ≡ 110 ∷ others)
-    → front ≡ null_text
-null_alone null front v k o = v
-null_alone t front v k o = absurd (omega (arith, k))
+null_alone : (t : Tree) (more x : List ℕ) (f : Front (λ value. IsValue t value) (110 ∷ more) x) → f.front ≡ null_text
+null_alone null more x f = f.holds
+null_alone t more x f = absurd (let k : 0 ≡ rank t = kind_at t 110 more _ x refl f in omega (arith, k))
 
 -- the word `null`
 pub null_word : Word 110 null_text null
-null_word = record {
-  spells = refl;
-  alone = null_alone;
-  ends = λ rest. tt;
-  flat = refl;
-  ranged = refl;
-  settles = refl;
-  shares = λ cache. tt;
-}
+null_word = record { spells = refl; alone = null_alone; flat = omega arith }
 
 -- the first byte of a Boolean
 abbrev first_of : Bool → ℕ
@@ -56,54 +42,38 @@ first_of true = 116
 first_of false = 102
 
 -- only a Boolean begins with its first byte
-boolean_alone : (a : Bool) (t : Tree) (front : List ℕ) → IsValue t front → kind (first_of a) ≡ rank t
-    → (others : List ℕ) × (front ≡ first_of a ∷ others) → front ≡ boolean_text a
-boolean_alone true (boolean true) front v k o = v
-boolean_alone false (boolean false) front v k o = v
-boolean_alone true (boolean false) front v k o = absurd (heads_apart 102 116 _ _ (sym v ∙ o.1) refl)
-boolean_alone false (boolean true) front v k o = absurd (heads_apart 116 102 _ _ (sym v ∙ o.1) refl)
-boolean_alone a t front v k o = absurd (omega (arith, k))
+boolean_alone : (a : Bool) (t : Tree) (more x : List ℕ) (f : Front (λ value. IsValue t value) (first_of a ∷ more) x)
+    → f.front ≡ boolean_text a
+boolean_alone true (boolean true) more x f = f.holds
+boolean_alone false (boolean false) more x f = f.holds
+boolean_alone true (boolean false) more x f = absurd (heads_apart 116 102 _ _ (rw f.holds at f.is) refl)
+boolean_alone false (boolean true) more x f = absurd (heads_apart 102 116 _ _ (rw f.holds at f.is) refl)
+boolean_alone true t more x f = absurd (let k : 1 ≡ rank t = kind_at t 116 more _ x refl f in omega (arith, k))
+boolean_alone false t more x f = absurd (let k : 1 ≡ rank t = kind_at t 102 more _ x refl f in omega (arith, k))
 
-boolean_word : (a : Bool) → Word (first_of a) (boolean_text a) (boolean a)
-boolean_word a = record {
-  spells = refl;
-  alone = boolean_alone a;
-  ends = λ rest. tt;
-  flat = refl;
-  ranged = refl;
-  settles = refl;
-  shares = λ cache. tt;
-}
+-- the word `true` or `false`
+pub boolean_word : (a : Bool) → Word (first_of a) (boolean_text a) (boolean a)
+boolean_word a = record { spells = refl; alone = boolean_alone a; flat = omega arith }
 
--- the word `true`
-pub true_word : Word 116 (boolean_text true) (boolean true)
-true_word = boolean_word true
+-- a word is read as its tree, whatever follows it, and has no strings
+word_found : (t : Tree) → rank t ≤ 1 → (word rest : List ℕ) → IsValue t word → (opened : ℕ) → opened ≤ max_depth
+    → ReadAs opened (word ++ rest) t rest
+word_found null flat word rest v opened within =
+    (null, record { found = record { front = word; holds = v; is = refl }; ends = tt; deep = omega arith; ranged = refl }, refl)
+word_found (boolean a) flat word rest v opened within =
+    (boolean a, record { found = record { front = word; holds = v; is = refl }; ends = tt; deep = omega arith; ranged = refl }, refl)
+word_found t flat word rest v opened within = absurd (omega arith)
 
--- the word `false`
-pub false_word : Word 102 (boolean_text false) (boolean false)
-false_word = boolean_word false
+word_shares : (t : Tree) → rank t ≤ 1 → (cache : Texts) → AreShared cache t
+word_shares null flat cache = tt
+word_shares (boolean a) flat cache = tt
+word_shares t flat cache = absurd (omega arith)
 
 module _ {b : ℕ} {word : List ℕ} {t : Tree} (w : Word b word t) where
-  -- the word was read
-  word_read : (opened : ℕ) (text rest : List ℕ) → opened ≤ max_depth → text ≡ word ++ rest → ReadAs opened text t rest
-  word_read opened text rest within is = (
-    t,
-    record {
-      found = record { front = word; holds = w.spells; is = is };
-      ends = w.ends rest;
-      deep = omega (arith, w.flat, within);
-      ranged = w.ranged;
-    },
-    w.settles,
-  )
-
   -- a text that begins with the byte but not with the word begins with no value
   word_alone : (text more : List ℕ) → text ≡ b ∷ more → ((rest : List ℕ) → text ≢ word ++ rest) → NoValue text
   word_alone text more e n u x stops g =
-      let f = value_first u g.front g.holds in
-      let same : b ≡ f.0 = heads b f.0 more (f.1 ++ x) (sym e ∙ g.is ∙ ap (λ (l : List ℕ). l ++ x) f.3) in
-      let front : g.front ≡ word = w.alone u g.front g.holds (ap kind same ∙ f.2) (f.1, f.3 ∙ ap (λ (c : ℕ). c ∷ f.1) (sym same)) in
-      n x (g.is ∙ ap (λ (l : List ℕ). l ++ x) front)
+      n x (g.is ∙ ap (λ (l : List ℕ). l ++ x) (w.alone u more x (record { front = g.front; holds = g.holds; is = sym e ∙ g.is })))
 
   -- a fault in the word
   word_fault : (opened : ℕ) (text more : List ℕ) (fault : Fault) → text ≡ b ∷ more → WordFault text word fault
@@ -120,10 +90,9 @@ module _ {b : ℕ} {word : List ℕ} {t : Tree} (w : Word b word t) where
     cache = adds_none text cache;
     answer = MatchResult-weaker answer h
         (λ x found. let same = ap (λ (v : WellFormed). v.tree) found.0 ∙ is in
-        record {
-          read = λ opened within. subst (λ (tree : Tree). ReadAs opened text tree x.1.now) (sym same)
-              (word_read opened text x.1.now within found.1);
-          shared = subst (λ (tree : Tree). AreShared cache tree) (sym same) (w.shares cache);
-        })
+        rw found.1 (record {
+          read = λ opened within. rw same (word_found t w.flat word x.1.now w.spells opened within);
+          shared = rw same (word_shares t w.flat cache);
+        }))
         (λ fault why opened. word_fault opened text more fault (e ∙ ap (λ (c : ℕ). c ∷ more) f) why);
   }

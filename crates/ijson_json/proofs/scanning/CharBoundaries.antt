@@ -1,9 +1,16 @@
 -- The positions at which a text may be split.
-use Rattle.std.proofs.Common.{◌≡◌, ℕ, ◌+◌, ◌<◌, List, ◌∷◌, ◌++◌, length, length-append, length-drop, get_or, drop, sym, ap}
+use Rattle.std.proofs.Common.{◌≡◌, ℕ, zero, suc, ◌+◌, ◌<◌, ◌≤◌, List, ◌∷◌, ◌++◌, length, length-append, length-drop, get_or, drop, sym, ap}
 use Rattle.std.proofs.Common.{◌∙◌, arith, add-zero}
 use Rattle.std.specs.Str.{IsUtf8, IsCharBoundary}
 use Rattle.std.proofs.lemmas.List.{get_or-append-add, get_or-drop}
-use Rattle.std.proofs.lemmas.Str.{IsCharBoundary-after_ascii}
+use Rattle.std.proofs.lemmas.Str.{IsCharBoundary-after_ascii, IsCharBoundary-start}
+
+-- after ASCII bytes
+pub behind_ascii : (text : List ℕ) → IsUtf8 text → (n : ℕ) → n ≤ length text → ((k : ℕ) → k < n → get_or text k 0 < 128)
+    → IsCharBoundary text n
+behind_ascii text u zero h p = IsCharBoundary-start text u
+behind_ascii text u (suc k) h p = let e : suc k ≡ k + 1 = omega arith in
+    rw e (IsCharBoundary-after_ascii text k u (omega arith) (p k (omega arith)))
 
 -- after a first byte that is ASCII
 pub after_first : (text bytes : List ℕ) (b : ℕ) (more : List ℕ) → IsUtf8 text → bytes ≡ text → bytes ≡ b ∷ more → b < 128

@@ -6,21 +6,20 @@ use Rattle.std.proofs.lemmas.Bool.Decides.{nat_tests}
 use Rattle.std.proofs.lemmas.List.{append-nil, length-append}
 use Rattle.ijson_json.specs.LineColumn.{begins, line_feeds, characters, Counts}
 
+-- one more if a test passes
+tally : (b : Bool) (n : ℕ) → (cond b (suc n) n ≡ cond b 1 0 + n) × (cond b 1 0 ≤ 1)
+tally true n = (omega arith, omega arith)
+tally false n = (omega arith, omega arith)
+
 line_feeds-append : (xs ys : List ℕ) → line_feeds (xs ++ ys) ≡ line_feeds xs + line_feeds ys
 line_feeds-append [] ys = omega arith
-line_feeds-append (x ∷ xs) ys = elim (nat_eq x 10) as (λ b. cond b (suc (line_feeds (xs ++ ys))) (line_feeds (xs ++ ys))
-    ≡ cond b (suc (line_feeds xs)) (line_feeds xs) + line_feeds ys) [
-      | true ↦ omega (arith, line_feeds-append xs ys)
-      | false ↦ line_feeds-append xs ys
-    ]
+line_feeds-append (x ∷ xs) ys =
+    omega (arith, tally (nat_eq x 10) (line_feeds (xs ++ ys)), tally (nat_eq x 10) (line_feeds xs), line_feeds-append xs ys)
 
 characters-append : (xs ys : List ℕ) → characters (xs ++ ys) ≡ characters xs + characters ys
 characters-append [] ys = omega arith
-characters-append (x ∷ xs) ys = elim (begins x) as (λ b. cond b (suc (characters (xs ++ ys))) (characters (xs ++ ys))
-    ≡ cond b (suc (characters xs)) (characters xs) + characters ys) [
-      | true ↦ omega (arith, characters-append xs ys)
-      | false ↦ characters-append xs ys
-    ]
+characters-append (x ∷ xs) ys =
+    omega (arith, tally (begins x) (characters (xs ++ ys)), tally (begins x) (characters xs), characters-append xs ys)
 
 -- a line feed ends a line
 pub line_feed_passed : (bytes : List ℕ) (lines more : ℕ) → Counts bytes lines more → Counts (bytes ++ 10 ∷ []) (lines + 1) 0
@@ -34,10 +33,10 @@ line_feed_passed bytes lines more f = (
   refl,
 )
 
--- another byte continues the line
-further : (bytes : List ℕ) (lines more b now : ℕ) → Counts bytes lines more → b ≢ 10 → now ≡ more + characters (b ∷ [])
+-- another byte continues the line, and begins a character or not
+pub byte_passed : (bytes : List ℕ) (lines more b now : ℕ) → Counts bytes lines more → b ≢ 10 → now ≡ more + cond (begins b) 1 0
     → Counts (bytes ++ b ∷ []) lines now
-further bytes lines more b now f other counts =
+byte_passed bytes lines more b now f other counts =
     let none : line_feeds (b ∷ []) ≡ 0 = grind (arith, nat_tests, other) in (
       f.0,
       f.1 ++ b ∷ [],
@@ -45,35 +44,17 @@ further bytes lines more b now f other counts =
       f.3,
       omega (arith, line_feeds-append f.1 (b ∷ []), f.4, none),
       omega (arith, f.5, line_feeds-append bytes (b ∷ []), none),
-      omega (arith, f.6, characters-append f.1 (b ∷ []), counts),
+      omega (arith, f.6, characters-append f.1 (b ∷ []), tally (begins b) 0, counts),
     )
-
-counted : (b : ℕ) (is : Bool) → begins b ≡ is → characters (b ∷ []) ≡ cond is 1 0
-counted b is e = ap (λ c. cond c (suc (characters [])) (characters [])) e
-
--- and begins a character or not
-pub first_passed : (bytes : List ℕ) (lines more b : ℕ) → Counts bytes lines more → b ≢ 10 → begins b ≡ true
-    → Counts (bytes ++ b ∷ []) lines (more + 1)
-first_passed bytes lines more b f other is = further bytes lines more b (more + 1) f other (omega (arith, counted b true is))
-
-pub other_passed : (bytes : List ℕ) (lines more b : ℕ) → Counts bytes lines more → b ≢ 10 → begins b ≡ false
-    → Counts (bytes ++ b ∷ []) lines more
-other_passed bytes lines more b f other is = further bytes lines more b more f other (omega (arith, counted b false is))
 
 -- neither count exceeds the number of bytes
 line_feeds-within : (bytes : List ℕ) → line_feeds bytes ≤ length bytes
 line_feeds-within [] = omega arith
-line_feeds-within (b ∷ bytes) = elim (nat_eq b 10) as (λ c. cond c (suc (line_feeds bytes)) (line_feeds bytes) ≤ suc (length bytes)) [
-  | true ↦ omega (arith, line_feeds-within bytes)
-  | false ↦ omega (arith, line_feeds-within bytes)
-]
+line_feeds-within (b ∷ bytes) = omega (arith, tally (nat_eq b 10) (line_feeds bytes), line_feeds-within bytes)
 
 characters-within : (bytes : List ℕ) → characters bytes ≤ length bytes
 characters-within [] = omega arith
-characters-within (b ∷ bytes) = elim (begins b) as (λ c. cond c (suc (characters bytes)) (characters bytes) ≤ suc (length bytes)) [
-  | true ↦ omega (arith, characters-within bytes)
-  | false ↦ omega (arith, characters-within bytes)
-]
+characters-within (b ∷ bytes) = omega (arith, tally (begins b) (characters bytes), characters-within bytes)
 
 -- a proper prefix has fewer lines and characters than the whole has bytes
 pub passed_within : (bytes : List ℕ) (at lines more : ℕ) → at < length bytes → Counts (take at bytes) lines more

@@ -1,7 +1,7 @@
 -- Leading runs of bytes that pass a test.
 use Rattle.std.proofs.Common.{◌≡◌, ℕ, ◌≤◌, Bool, true, false, List, [], ◌∷◌, ◌++◌, length, refl, sym, ap, ◌∙◌, eqb, eq-eqb}
 use Rattle.std.proofs.Common.{arith}
-use Rattle.std.specs.Prelude.{IsTrue}
+use Rattle.std.specs.Prelude.{IsTrue, ◌==◌}
 use Rattle.std.specs.List.{AllByRecursion}
 use Rattle.std.proofs.lemmas.List.{length-append}
 use Rattle.ijson_json.specs.private.Reading.{Closes, Front, Past, Skips}
@@ -19,6 +19,10 @@ not_both false e f = cc
 pub past_first : (p : ℕ → Bool) (x : List ℕ) (c : ℕ) (cs : List ℕ) → Past p x → x ≡ c ∷ cs → IsTrue (p c) → ⊥
 past_first p [] c cs h e t = cc
 past_first p (b ∷ x) c cs h e t = let same : b ≡ c = cc in not_both (p c) t (rw (← same) h)
+
+-- nor with a byte that it does not begin with
+pub past_byte : (b : ℕ) (x cs : List ℕ) → Past (λ c. c == b) x → x ≡ b ∷ cs → ⊥
+past_byte b x cs h e = past_first (λ c. c == b) x b cs h e (eq-eqb b b refl)
 
 -- equal texts begin with the same byte
 pub heads : (a b : ℕ) (x y : List ℕ) → a ∷ x ≡ b ∷ y → a ≡ b
@@ -45,9 +49,9 @@ run_same p (c ∷ a) (d ∷ b) x y ra rb px py e =
     (whole, same.1)
 
 -- two concatenated runs are one
-pub run-append : (p : ℕ → Bool) (a b : List ℕ) → Run p a → Run p b → Run p (a ++ b)
-run-append p [] b ra rb = rb
-run-append p (c ∷ a) b ra rb = (ra.0, run-append p a b ra.1 rb)
+pub all-append : (P : ℕ → Type 0) (a b : List ℕ) → AllByRecursion P a → AllByRecursion P b → AllByRecursion P (a ++ b)
+all-append P [] b ra rb = rb
+all-append P (c ∷ a) b ra rb = (ra.0, all-append P a b ra.1 rb)
 
 -- the text after a prefix is no longer than the whole
 pub front_shorter : (P : List ℕ → Type 0) (text rest : List ℕ) → Front P text rest → length rest ≤ length text

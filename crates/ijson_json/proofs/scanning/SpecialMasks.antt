@@ -10,17 +10,14 @@ use Rattle.std.proofs.Math.Seq.{take-add}
 use Rattle.std.proofs.lemmas.Bool.Decides.{nat_tests}
 use Rattle.std.proofs.lemmas.List.{length-map, length-take-le, drop-append-le, drop-drop, drop-map, take_all, take-append-drop}
 use Rattle.std.proofs.lemmas.Nat.{one_shl, or_block, pow_pos, shr-shr}
-use Rattle.std.proofs.lemmas.Simd.{zip2_splat, zip2-map, mask_l-lt, mask_l-mod}
+use Rattle.std.proofs.lemmas.Simd.{zip2_of_maps, zip2_splat, mask_l-lt}
 use Rattle.std.proofs.lemmas.Simd.{trailing_mask_l}
+use Rattle.ijson_json.proofs.scanning.LaneMasks.{lit, lanes_mask}
 use Rattle.ijson_json.proofs.scanning.UnescapedRuns.{run_twice}
 use lib.Bits.{bit_or, or_zero_r}
 use lib.Count.{count_trailing_zeros}
 use lib.Lanes.{chunk, mask_l, top, zip2}
 use Rattle.ijson_json.specs.Strings.{is_unescaped}
-
--- the lane that a test yields
-abbrev lit : Bool → ℕ
-lit b = cond b 255 0
 
 -- the byte needs an escape or ends the string
 abbrev special : ℕ → Bool
@@ -30,16 +27,13 @@ special b = not (is_unescaped b)
 abbrev lane : ℕ → ℕ
 lane b = bit_or (bit_or (lit (eqb b 34)) (lit (eqb b 92))) (lit (ltb b 32))
 
--- the high bit of a lane is that of any of its tests
+-- its high bit is that of any of its tests
 three : (quote slash low : Bool) → top 7 (bit_or (bit_or (lit quote) (lit slash)) (lit low)) ≡ not (not low && (not quote && not slash))
 three true true true = refl
-three true true false = refl
 three true false true = refl
-three true false false = refl
 three false true true = refl
-three false true false = refl
 three false false true = refl
-three false false false = refl
+three quote slash low = refl
 
 -- at least is not below
 not_below : (a b : ℕ) → nat_le a b ≡ not (ltb b a)
@@ -49,25 +43,15 @@ not_below a b = grind (arith, nat_tests)
 lane_is : (b : ℕ) → top 7 (lane b) ≡ special b
 lane_is b = three (eqb b 34) (eqb b 92) (ltb b 32) ∙ ap (λ t. not (t && (not (eqb b 34) && not (eqb b 92)))) (sym (not_below 32 b))
 
--- and so are those of all lanes
-lanes_are : (v : List ℕ) → map (top 7) (map lane v) ≡ map special v
-lanes_are [] = refl
-lanes_are (b ∷ v) = ap₂ ◌∷◌ (lane_is b) (lanes_are v)
-
 -- the mask of the vector
 pub specials_mask : (v : List ℕ) (n : ℕ) → length v ≡ n → n ≤ 64
     → mask_l (map (top 7) (zip2 bit_or (zip2 bit_or (zip2 (λ a b. lit (eqb a b)) v (replicate n 34))
     (zip2 (λ a b. lit (eqb a b)) v (replicate n 92))) (zip2 (λ a b. lit (ltb a b)) v (replicate n 32)))) % 2 ^ 64
     ≡ mask_l (map (λ byte. not (is_unescaped byte)) v)
 specials_mask v n long short =
-    ap (λ m. mask_l (map (top 7) m) % 2 ^ 64)
-    (ap₂ (zip2 bit_or)
-    (ap₂ (zip2 bit_or) (zip2_splat (λ a b. lit (eqb a b)) v n 34 long) (zip2_splat (λ a b. lit (eqb a b)) v n 92 long)
-    ∙ zip2-map bit_or (λ b. lit (eqb b 34)) (λ b. lit (eqb b 92)) v)
-    (zip2_splat (λ a b. lit (ltb a b)) v n 32 long)
-    ∙ zip2-map bit_or (λ b. bit_or (lit (eqb b 34)) (lit (eqb b 92))) (λ b. lit (ltb b 32)) v)
-    ∙ ap (λ m. mask_l m % 2 ^ 64) (lanes_are v)
-    ∙ mask_l-mod (map special v) 64 (omega (arith, length-map v special))
+    let equal = λ (k : ℕ). zip2_splat (λ a b. lit (eqb a b)) v n k long in
+    lanes_mask lane special lane_is v _ (omega arith)
+    (zip2_of_maps bit_or _ _ v (zip2_of_maps bit_or _ _ v (equal 34) (equal 92)) (zip2_splat (λ a b. lit (ltb a b)) v n 32 long))
 
 -- a mask without its lowest bit is that of the other bytes
 bit_above : (b : Bool) (m : ℕ) → (cond b 1 0 + 2 * m) / 2 ^ 1 ≡ m

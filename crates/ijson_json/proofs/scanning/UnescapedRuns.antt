@@ -1,7 +1,7 @@
 -- Runs of bytes that need no escape in a string.
 use Rattle.std.proofs.Common.{◌≡◌, ℕ, ◌+◌, ◌<◌, ◌≤◌, Bool, true, false, cond, List, [], ◌∷◌, length, take, drop, get_or, refl, sym, ap, arith}
 use Rattle.std.proofs.Common.{add-zero, ltb, ◌∙◌}
-use Rattle.std.specs.Prelude.{IsTrue, not, unwrap_or, Some, None}
+use Rattle.std.specs.Prelude.{Option, IsTrue, not, unwrap_or, Some, None}
 use Rattle.std.specs.List.{prefix_len, position, position_or_len}
 use Rattle.std.specs.Str.{IsCharBoundary}
 use Rattle.std.proofs.lemmas.Bool.{eq-eqb, ltb-true, ltb-false}
@@ -72,9 +72,11 @@ run_twice p (x ∷ xs) = elim (p x) as (λ v. cond (not (not v)) (1 + position_o
     ]
 
 -- the first byte that fails ends the run, or the text does
-pub run_end : (p : ℕ → Bool) (xs : List ℕ) → unwrap_or (position (λ b. not (p b)) xs) (length xs) ≡ prefix_len p xs
-run_end p xs =
-    elim (ltb (position_or_len (λ b. not (p b)) xs) (length xs)) as (λ v. ltb (position_or_len (λ b. not (p b)) xs) (length xs) ≡ v
+pub run_end : (p : ℕ → Bool) (xs : List ℕ) {n : ℕ} {found : Option ℕ} → n ≡ unwrap_or found (length xs)
+    → found ≡ position (λ b. not (p b)) xs → n ≡ prefix_len p xs
+run_end p xs {n} {found} is first =
+    is ∙ ap (λ o. unwrap_or o (length xs)) first
+    ∙ elim (ltb (position_or_len (λ b. not (p b)) xs) (length xs)) as (λ v. ltb (position_or_len (λ b. not (p b)) xs) (length xs) ≡ v
     → unwrap_or (cond v (Some (position_or_len (λ b. not (p b)) xs)) None) (length xs) ≡ prefix_len p xs) [
       | true ↦ λ _. run_twice p xs
       | false ↦ λ outside. omega (

@@ -14,12 +14,6 @@ use Rattle.ijson_json.specs.private.Reading.{Past}
 use Rattle.ijson_json.proofs.scanning.Prefixes.{Run}
 use Rattle.ijson_json.proofs.scanning.UnescapedRuns.{special_ascii}
 
--- escaping two concatenated texts
-all_escaped-append : (s t : List ℕ) → all_escaped (s ++ t) ≡ all_escaped s ++ all_escaped t
-all_escaped-append [] t = refl
-all_escaped-append (b ∷ s) t = ap (λ (l : List ℕ). escaped b ++ l) (all_escaped-append s t)
-    ∙ sym (append_assoc (escaped b) (all_escaped s) (all_escaped t))
-
 -- an unescaped byte is written unchanged
 escaped_plain : (b : ℕ) → IsTrue (is_unescaped b) → escaped b ≡ b ∷ []
 unfolding escaped
@@ -30,41 +24,12 @@ pub all_escaped-run : (run : List ℕ) → Run is_unescaped run → all_escaped 
 all_escaped-run [] h = refl
 all_escaped-run (b ∷ run) h = ap₂ ◌++◌ (escaped_plain b h.0) (all_escaped-run run h.1)
 
--- escaping one byte
-pub all_escaped-one : (b : ℕ) → all_escaped (b ∷ []) ≡ escaped b
-all_escaped-one b = append-nil (escaped b)
-
--- one more piece is written
-pub written_more : (old out done more piece : List ℕ) → out ≡ old ++ all_escaped done → all_escaped more ≡ piece
-    → out ++ piece ≡ old ++ all_escaped (done ++ more)
-written_more old out done more piece e f =
-    ap (λ (l : List ℕ). l ++ piece) e ∙ append_assoc old (all_escaped done) piece
-    ∙ ap (λ (l : List ℕ). old ++ l) (ap (λ (l : List ℕ). all_escaped done ++ l) (sym f) ∙ sym (all_escaped-append done more))
-
 -- the end of a text is written
 pub written_end : (old out text end : List ℕ) → out ≡ old ++ all_escaped text → out ++ end ≡ old ++ (all_escaped text ++ end)
 written_end old out text end e = ap (λ (l : List ℕ). l ++ end) e ∙ append_assoc old (all_escaped text) end
 
--- the text before a run and the run are a prefix of the text
-read_run : (text run after : List ℕ) (start : ℕ) → drop start text ≡ run ++ after → take (start + length run) text ≡ take start text ++ run
-read_run text run after start e =
-    take-add start (length run) text ∙ ap (λ l. take start text ++ l) (ap (take (length run)) e ∙ take_at run after (length run) refl)
-
--- nothing follows the run, so these are the whole text
-pub read_all : (text run after : List ℕ) (start : ℕ) → drop start text ≡ run ++ after → length after ≡ 0 → text ≡ take start text ++ run
-read_all text run [] start e none = sym (take-append-drop start text) ∙ ap (λ l. take start text ++ l) (e ∙ append-nil run)
-read_all text run (b ∷ after) start e none = absurd (omega (arith, none))
-
--- a byte follows the run
-pub read_on : (text run after rest : List ℕ) (b start : ℕ) → drop start text ≡ run ++ after → after ≡ b ∷ rest
-    → take (start + (length run + 1)) text ≡ (take start text ++ run) ++ b ∷ []
-read_on text run after rest b start e f =
-    ap (λ n. take (start + n) text) (sym (length-append run (b ∷ [])))
-    ∙ read_run text (run ++ b ∷ []) rest start (e ∙ ap (λ l. run ++ l) f ∙ sym (append_assoc run (b ∷ []) rest))
-    ∙ sym (append_assoc (take start text) run (b ∷ []))
-
 -- nothing follows the last run
-pub nothing_left : (after : List ℕ) → Past is_unescaped after → Past (λ b. nat_lt b 128) after → length after ≡ 0
+pub nothing_left : (after : List ℕ) → Past is_unescaped after → Past (λ b. nat_lt b 128) after → after ≡ []
 nothing_left [] p q = refl
 nothing_left (b ∷ more) p q = absurd (grind (arith, nat_tests, special_ascii b p, q))
 
@@ -108,10 +73,9 @@ pub begun_piece : (old out new done piece behind text : List ℕ) → out ≡ ol
 begun_piece old out new done piece behind text e w f = record {
   front = done ++ w.front;
   rest = w.rest ++ behind;
-  is = f ∙ ap (λ (l : List ℕ). done ++ (l ++ behind)) w.is ∙ ap (λ (l : List ℕ). done ++ l) (append_assoc w.front w.rest behind)
-      ∙ sym (append_assoc done w.front (w.rest ++ behind));
+  is = f ∙ rw w.is (simp append_assoc);
   unfinished = not_empty w.rest behind w.unfinished;
-  taken = w.taken ∙ ap (λ (l : List ℕ). l ++ w.front) e ∙ append_assoc old done w.front;
+  taken = w.taken ∙ rw e (append_assoc old done w.front);
 }
 
 -- the clause of a last call that appends the rest, after a first piece is written
@@ -121,38 +85,63 @@ on_begun (Ok a) old out new done rest text e w f = tt
 on_begun (Err x) old out new done rest text e w f =
     begun_piece old out new done rest [] text e w (f ∙ ap (λ (l : List ℕ). done ++ l) (sym (append-nil rest)))
 
+-- ---- a text, run by run and escape by escape
+
 -- the end is still to be written
 end_left : (s end : List ℕ) → end ≢ [] → s ++ end ≢ []
 end_left [] end some e = some e
 end_left (b ∷ s) end some e = cc e
 
--- the text before a run, the run, the byte that ends it, and the rest
-pub read_to : (text run after rest : List ℕ) (b start : ℕ) → drop start text ≡ run ++ after → after ≡ b ∷ rest
-    → text ≡ (take start text ++ run) ++ b ∷ rest
-read_to text run after rest b start e f =
-    sym (take-append-drop start text) ∙ ap (λ (l : List ℕ). take start text ++ l) (e ∙ ap (λ (l : List ℕ). run ++ l) f)
-    ∙ sym (append_assoc (take start text) run (b ∷ rest))
+-- the escaped text before the part `left` was written after `old`
+pub record Escaping (old out text left : List ℕ) : Type 0 where
+  pub done : List ℕ
+  pub is : out ≡ old ++ done
+  pub whole : all_escaped text ≡ done ++ all_escaped left
 
--- the escaped text of a text that is split, and its end
-escaped_cut : (text done more end : List ℕ) → text ≡ done ++ more
-    → all_escaped text ++ end ≡ all_escaped done ++ (all_escaped more ++ end)
-escaped_cut text done more end e =
-    ap (λ (l : List ℕ). l ++ end) (ap all_escaped e ∙ all_escaped-append done more)
-    ∙ append_assoc (all_escaped done) (all_escaped more) end
+-- escaping a run and the text after it
+run-append : (run after : List ℕ) → Run is_unescaped run → all_escaped (run ++ after) ≡ run ++ all_escaped after
+run-append [] after h = refl
+run-append (b ∷ run) after h = ap₂ ◌++◌ (escaped_plain b h.0) (run-append run after h.1)
 
--- a beginning of the text was written
-pub escaped_begun : (old new text done more end : List ℕ) → end ≢ [] → text ≡ done ++ more → new ≡ old ++ all_escaped done
-    → WritesBeginning (Some old) (Some new) (all_escaped text ++ end)
-escaped_begun old new text done more end some e f =
-    begun old new (all_escaped done) (all_escaped more ++ end) (all_escaped text ++ end) f (end_left (all_escaped more) end some)
-    (escaped_cut text done more end e)
+module _ {old out text left : List ℕ} (w : Escaping old out text left) where
+  -- a run is written
+  pub escaping_run : {new : List ℕ} (run after : List ℕ) → left ≡ run ++ after → Run is_unescaped run → new ≡ out ++ run
+      → Escaping old new text after
+  escaping_run run after e h f = record {
+    done = w.done ++ run;
+    is = rw (f, w.is) (append_assoc old w.done run);
+    whole = w.whole ∙ rw (e, run-append run after h) (sym (append_assoc w.done run (all_escaped after)));
+  }
 
--- and a beginning of the escape of the byte after it
-pub escaped_begun_escape : (old out new text done rest end : List ℕ) (b : ℕ) → text ≡ done ++ b ∷ rest → out ≡ old ++ all_escaped done
-    → WritesBeginning (Some out) (Some new) (escaped b) → WritesBeginning (Some old) (Some new) (all_escaped text ++ end)
-escaped_begun_escape old out new text done rest end b e f w =
-    begun_piece old out new (all_escaped done) (escaped b) (all_escaped rest ++ end) (all_escaped text ++ end) f w
-    (escaped_cut text done (b ∷ rest) end e ∙ ap (λ (l : List ℕ). all_escaped done ++ l) (append_assoc (escaped b) (all_escaped rest) end))
+  -- an escape is written
+  pub escaping_byte : {new : List ℕ} (b : ℕ) (rest : List ℕ) → left ≡ b ∷ rest → new ≡ out ++ escaped b → Escaping old new text rest
+  escaping_byte b rest e f = record {
+    done = w.done ++ escaped b;
+    is = rw (f, w.is) (append_assoc old w.done (escaped b));
+    whole = w.whole ∙ rw e (sym (append_assoc w.done (escaped b) (all_escaped rest)));
+  }
+
+  -- nothing is left, and the end is written
+  pub escaping_end : (end : List ℕ) → left ≡ [] → out ++ end ≡ old ++ (all_escaped text ++ end)
+  escaping_end end e = rw (w.is, w.whole, e, append-nil w.done) (append_assoc old w.done end)
+
+  -- or nothing more
+  pub escaping_begun : {new : List ℕ} (end : List ℕ) → end ≢ [] → new ≡ out
+      → WritesBeginning (Some old) (Some new) (all_escaped text ++ end)
+  escaping_begun end some same = record {
+    front = w.done;
+    rest = all_escaped left ++ end;
+    is = rw w.whole (append_assoc w.done (all_escaped left) end);
+    unfinished = end_left (all_escaped left) end some;
+    taken = same ∙ w.is;
+  }
+
+  -- or a beginning of an escape
+  pub escaping_begun_escape : {new : List ℕ} (end : List ℕ) (b : ℕ) (rest : List ℕ) → left ≡ b ∷ rest
+      → WritesBeginning (Some out) (Some new) (escaped b) → WritesBeginning (Some old) (Some new) (all_escaped text ++ end)
+  escaping_begun_escape {new} end b rest e begun =
+      begun_piece old out new w.done (escaped b) (all_escaped rest ++ end) (all_escaped text ++ end) w.is begun
+      (rw (w.whole, e) (simp append_assoc))
 
 -- ---- the escape of a byte
 

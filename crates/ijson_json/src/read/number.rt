@@ -1,7 +1,7 @@
 //! Reading a number.
 
-ghost use Rattle.std.specs.Prelude.{◌≡◌, ◌++◌, ◌↔◌, IfNone, IfOk, IfSome, IsTrue, MatchResult, not};
-ghost use Rattle.std.specs.List.{AllByRecursion, position, prefix_len};
+ghost use Rattle.std.specs.Prelude.{◌≡◌, ◌++◌, ◌↔◌, IfNone, IfOk, IfSome, IsTrue, MatchResult};
+ghost use Rattle.std.specs.List.{AllByRecursion, prefix_len};
 ghost use Rattle.ijson_number.specs.NumberBytes.{is_number_byte};
 ghost use Rattle.ijson_json.specs.private.Explains.{NumberFault};
 ghost use Rattle.ijson_json.specs.private.OnePass.{HasNoShort};
@@ -23,18 +23,12 @@ fn in_number(byte: u8) -> bool
         || byte == b'e'
 }
 
-/// Returns the index of the first byte that cannot occur in a number.
-fn first_other(bytes: &[u8]) -> Option<usize>
-    ensures { result ≡ position (λ byte. not (is_number_byte byte)) bytes.now }
-{
-    bytes.iter().position(|byte| !in_number(*byte))
-}
-
 /// Returns the number of leading bytes that can occur in a number.
 fn number_length(text: &str) -> usize
     ensures { result ≡ prefix_len is_number_byte text.now }
 {
-    first_other(text.as_bytes()).unwrap_or(text.len())
+    let other = text.as_bytes().iter().position(|byte| !in_number(*byte));
+    other.unwrap_or(text.len())
 }
 
 /// Splits the text after its leading bytes that can occur in a number.

@@ -52,7 +52,7 @@ fn read_content<'a: 'c, 'c>(
         (λ x. ContentAt inside.now x.0.now x.1.now)
         (λ fault. ContentFault inside.now fault) }
 {
-    let (run, after) = split_run(inside);
+    let (run, after) = split_run(inside, 0);
     if let Some(rest) = strip_byte(after, b'"') {
         return Ok((run, rest));
     }

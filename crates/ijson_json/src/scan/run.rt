@@ -1,7 +1,7 @@
 //! Runs of bytes that need no escape in a string.
 
 ghost use Rattle.std.specs.Prelude.{◌≡◌, ◌+◌, ◌*◌, ◌^◌, ◌<◌, ◌≤◌, ◌++◌, ℕ, List, IfOk, IsTrue, ◌↔◌, drop, length, map, not, take};
-ghost use Rattle.std.specs.List.{AllByRecursion, position, prefix_len};
+ghost use Rattle.std.specs.List.{AllByRecursion, prefix_len};
 ghost use Rattle.std.specs.Simd.Lanes.{mask_l};
 ghost use Rattle.std.specs.Str.{IsCharBoundary};
 ghost use Rattle.std.specs.String.{string_bytes};
@@ -12,24 +12,17 @@ use std::alloc::AllocError;
 use std::mem;
 use std::simd::prelude::*;
 
-/// Returns the index of the first byte that needs an escape or ends the string. Scalar version.
+/// Returns the number of leading unescaped bytes. Scalar version.
 ///
 /// Its precondition of fewer than 4 bytes prevents it from replacing the vector version.
-fn first_special(bytes: &[u8]) -> Option<usize>
-    requires { length bytes.now < 4 }
-    ensures { result ≡ position (λ byte. not (is_unescaped byte)) bytes.now }
-{
-    bytes
-        .iter()
-        .position(|byte| *byte < b' ' || *byte == b'"' || *byte == b'\\')
-}
-
-/// Returns the number of leading unescaped bytes. Scalar version.
 fn run_by_bytes(bytes: &[u8]) -> usize
     requires { length bytes.now < 4 }
     ensures { result ≡ prefix_len is_unescaped bytes.now }
 {
-    first_special(bytes).unwrap_or(bytes.len())
+    let special = bytes
+        .iter()
+        .position(|byte| *byte < b' ' || *byte == b'"' || *byte == b'\\');
+    special.unwrap_or(bytes.len())
 }
 
 /// Returns a mask of the bytes that need an escape or end the string, the lowest bit for the first.
@@ -159,7 +152,7 @@ pub(crate) fn push_run<'a>(content: &mut String, text: &'a str) -> Result<&'a st
 /// Returns the longest run of unescaped bytes from `start` on, and the rest.
 ///
 /// It takes the whole text, so that the last few bytes can be tested together with those before them.
-pub(crate) fn split_run_at(text: &str, start: usize) -> (&str, &str)
+pub(crate) fn split_run(text: &str, start: usize) -> (&str, &str)
     requires { IsCharBoundary text.now start }
     ensures whole { drop start text.now ≡ result.0.now ++ result.1.now }
     ensures run { AllByRecursion (λ byte. IsTrue (is_unescaped byte)) result.0.now }
@@ -167,13 +160,4 @@ pub(crate) fn split_run_at(text: &str, start: usize) -> (&str, &str)
 {
     let end = run_end(text.as_bytes(), start);
     (&text[start..end], &text[end..])
-}
-
-/// Returns the longest leading run of unescaped bytes, and the rest.
-pub(crate) fn split_run(text: &str) -> (&str, &str)
-    ensures whole { text.now ≡ result.0.now ++ result.1.now }
-    ensures run { AllByRecursion (λ byte. IsTrue (is_unescaped byte)) result.0.now }
-    ensures stops { Past is_unescaped result.1.now }
-{
-    split_run_at(text, 0)
 }

@@ -4,7 +4,7 @@
 //! and more after two of them 16 bytes at a time.
 
 ghost use Rattle.std.specs.Prelude.{◌≡◌, ◌<◌, ◌∷◌, ℕ, IsTrue, length, map, not, MatchOption};
-ghost use Rattle.std.specs.List.{position, prefix_len};
+ghost use Rattle.std.specs.List.{prefix_len};
 ghost use Rattle.std.specs.Simd.Lanes.{mask_l};
 ghost use Rattle.ijson_json.specs.Grammar.{is_space};
 ghost use Rattle.ijson_json.specs.private.Reading.{Skips, Past};
@@ -65,8 +65,7 @@ fn space_length(bytes: &[u8]) -> usize
         }
         at += 16;
     }
-    let left = &bytes[at..];
-    at + first_other(left).unwrap_or(left.len())
+    at + space_by_bytes(&bytes[at..])
 }
 
 /// Returns a mask of the bytes that are not white space, the lowest bit for the first.
@@ -78,12 +77,13 @@ fn others(bytes: u8x16) -> u64
     (others & bytes.simd_ne(Simd::splat(b'\r')) & bytes.simd_ne(Simd::splat(b'\t'))).to_bitmask()
 }
 
-/// Returns the index of the first byte that is not white space. Scalar version.
+/// Returns the number of leading white-space bytes. Scalar version.
 ///
 /// Its precondition of fewer than 16 bytes prevents it from replacing the vector version.
-fn first_other(bytes: &[u8]) -> Option<usize>
+fn space_by_bytes(bytes: &[u8]) -> usize
     requires { length bytes.now < 16 }
-    ensures { result ≡ position (λ byte. not (is_space byte)) bytes.now }
+    ensures { result ≡ prefix_len is_space bytes.now }
 {
-    bytes.iter().position(|byte| !is_white(*byte))
+    let other = bytes.iter().position(|byte| !is_white(*byte));
+    other.unwrap_or(bytes.len())
 }

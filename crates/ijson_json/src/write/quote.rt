@@ -10,7 +10,7 @@ ghost use Rattle.ijson_json.specs.Separator.{separator};
 ghost use Rattle.ijson_json.specs.WritesBeginning.{WritesBeginning};
 
 use crate::scan::prefix::split_ascii;
-use crate::scan::run::{begins_unescaped, split_run_at};
+use crate::scan::run::{begins_unescaped, split_run};
 use ijson_string::IString;
 use std::alloc::AllocError;
 
@@ -173,7 +173,7 @@ fn push_escaped(out: &mut String, text: &str, end: &str) -> Result<(), AllocErro
 {
     let mut start = 0;
     loop {
-        let (run, after) = split_run_at(text, start);
+        let (run, after) = split_run(text, start);
         out.push_str(run)?;
         let Some((byte, _)) = split_ascii(after) else {
             return out.push_str(end);

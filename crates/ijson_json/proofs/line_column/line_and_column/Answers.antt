@@ -1,7 +1,7 @@
 use Rattle.std.proofs.Common.{arith, ◌≡◌, ◌++◌, ◌+◌, ◌∷◌, [], ℕ, List, take, slice_index_or, subst, sym, ◌∙◌}
 use Rattle.std.proofs.lemmas.List.{take_more}
 use Rattle.ijson_json.specs.LineColumn.{Counts}
-use Rattle.ijson_json.proofs.scanning.LinesAndColumns.{line_feed_passed, first_passed, other_passed, passed_within}
+use Rattle.ijson_json.proofs.scanning.LinesAndColumns.{line_feed_passed, byte_passed, passed_within}
 use Rattle.ijson_json.proofs.line_column.line_and_column.Goals.{then-byte-eq10, else-byte-eq10+then-begins_character}
 use Rattle.ijson_json.proofs.line_column.line_and_column.Goals.{else-byte-eq10+else-begins_character}
 use Rattle.ijson_json.proofs.line_column.line_and_column.Goals as goal
@@ -25,15 +25,9 @@ loop-byte-preserved c =
     let before : Counts passed c.loop-byte.lines c.loop-byte.characters = c.loop-byte.invariant in
     subst (λ bytes. Counts bytes c.if-byte-eq10.lines c.if-byte-eq10.characters) (sym more) (elim c.if-byte-eq10.branch [
       | then-byte-eq10 w ↦
-          let now = line_feed_passed passed c.loop-byte.lines c.loop-byte.characters before in
-          subst (λ (p : ℕ × ℕ × ℕ). Counts (passed ++ p.0 ∷ []) p.1 p.2)
-          (λ i. (sym w.if-byte-eq10.true i, sym w.lines-is i, sym w.characters-is i)) now
-      | else-byte-eq10+then-begins_character w ↦
-          let now = first_passed passed c.loop-byte.lines c.loop-byte.characters byte before w.if-byte-eq10.false
-          (sym w.begins_character.ensures ∙ w.if-begins_character.true) in
-          subst (λ (p : ℕ × ℕ). Counts (passed ++ byte ∷ []) p.0 p.1) (λ i. (sym w.lines-is i, sym w.characters-is i)) now
-      | else-byte-eq10+else-begins_character w ↦
-          let now = other_passed passed c.loop-byte.lines c.loop-byte.characters byte before w.if-byte-eq10.false
-          (sym w.begins_character.ensures ∙ w.if-begins_character.false) in
-          subst (λ (p : ℕ × ℕ). Counts (passed ++ byte ∷ []) p.0 p.1) (λ i. (sym w.lines-is i, sym w.characters-is i)) now
+          rw (w.if-byte-eq10.true, w.lines-is, w.characters-is) (line_feed_passed passed c.loop-byte.lines c.loop-byte.characters before)
+      | else-byte-eq10+then-begins_character w ↦ rw w.lines-is (byte_passed passed _ _ byte _ before w.if-byte-eq10.false
+          (rw (sym w.begins_character.ensures ∙ w.if-begins_character.true) w.characters-is))
+      | else-byte-eq10+else-begins_character w ↦ rw w.lines-is (byte_passed passed _ _ byte _ before w.if-byte-eq10.false
+          (rw (sym w.begins_character.ensures ∙ w.if-begins_character.false) (omega (arith, w.characters-is))))
     ])

@@ -1,7 +1,7 @@
 use Rattle.std.proofs.Common.{◌≡◌, ◌∷◌, sym}
 use Rattle.std.specs.Char.{encode_utf8}
 use Rattle.ijson_json.specs.private.StringReading.{CharacterAt, NoCharacter, NoEscape}
-use Rattle.ijson_json.proofs.reading.Escapes.{escape_found, escape_wide, same_text, same_none}
+use Rattle.ijson_json.proofs.reading.Escapes.{escape_found, escape_wide}
 use Rattle.ijson_json.proofs.scanning.Options.{weaken}
 use Rattle.ijson_json.proofs.read.escape.take_escape.Goals as goal
 
@@ -13,10 +13,7 @@ pub returns-then-letter-eq117 : goal.returns-then-letter-eq117
 returns-then-letter-eq117 c =
     let e : c.args.text.now ≡ 92 ∷ 117 ∷ c.in_ok-letter.rest.now =
     cc (c.in_ok-letters.ensures, c.in_ok-letter.ensures.cases, c.if-letter-eq117.true) in
-    weaken c.take_unicode.result (NoCharacter (92 ∷ 117 ∷ c.in_ok-letter.rest.now)) (NoEscape c.args.text.now)
-    (λ x. CharacterAt (92 ∷ 117 ∷ c.in_ok-letter.rest.now) (encode_utf8 x.0) x.1.now)
-    (λ x. CharacterAt c.args.text.now (encode_utf8 x.0) x.1.now) c.take_unicode.ensures
-    (λ none letters _. same_none _ _ e none) (λ x h. same_text _ _ (encode_utf8 x.0) x.1.now e h)
+    weaken c.take_unicode.result _ _ _ _ c.take_unicode.ensures (λ none letters _. rw e none) (λ x h. rw e h)
 
 pub returns : goal.returns
 returns c = escape_found c.args.text.now c.in_ok-letters.letters.now c.in_ok-letter.rest.now c.in_ok-letter.letter c.in_ok-meaning.meaning

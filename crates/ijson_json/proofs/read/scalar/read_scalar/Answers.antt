@@ -1,4 +1,4 @@
-use Rattle.std.proofs.Common.{◌≢◌, arith, rules, refl, sym, subst}
+use Rattle.std.proofs.Common.{true, false, arith, rules, refl, sym, subst}
 use Rattle.std.proofs.lemmas.Result.{err_from_is_err_and}
 use Rattle.ijson_value.specs.WellFormed.{WellFormed}
 use Rattle.ijson_string.specs.Cache.{Texts}
@@ -6,7 +6,7 @@ use Rattle.ijson_json.specs.AddsOnlyRead.{AddsOnlyRead}
 use Rattle.ijson_json.specs.AreShared.{AreShared}
 use Rattle.ijson_json.proofs.reading.CacheContents.{adds_none, string_adds, string_shared}
 use Rattle.ijson_json.proofs.reading.Values.{begins, other_fault, string_fault}
-use Rattle.ijson_json.proofs.reading.Words.{null_word, true_word, false_word, word_reads}
+use Rattle.ijson_json.proofs.reading.Words.{null_word, boolean_word, word_reads}
 use Rattle.ijson_json.proofs.read.scalar.read_scalar.Goals as goal
 
 -- ---- a string
@@ -43,11 +43,11 @@ returns-in-110 g c = word_reads null_word c.read_word.result _ c.args.cache.now 
     c.requires.begins.0 c.requires.begins.1 c.in-110.is refl c.read_word.ensures
 
 pub returns-in-116 : goal.returns-in-116
-returns-in-116 g c = word_reads true_word c.read_word-in-116.result _ c.args.cache.now c.args.text.now c.args.first
+returns-in-116 g c = word_reads (boolean_word true) c.read_word-in-116.result _ c.args.cache.now c.args.text.now c.args.first
     c.requires.begins.0 c.requires.begins.1 c.in-116.is refl c.read_word-in-116.ensures
 
 pub returns-in-102 : goal.returns-in-102
-returns-in-102 g c = word_reads false_word c.read_word-in-102.result _ c.args.cache.now c.args.text.now c.args.first
+returns-in-102 g c = word_reads (boolean_word false) c.read_word-in-102.result _ c.args.cache.now c.args.text.now c.args.first
     c.requires.begins.0 c.requires.begins.1 c.in-102.is refl c.read_word-in-102.ensures
 
 -- ---- a number
@@ -56,11 +56,8 @@ pub returns-in_err-number-in_default : goal.returns-in_err-number-in_default
 returns-in_err-number-in_default g c =
     let p = err_from_is_err_and c.from_residual-in_err-number-in_default.result c.from_residual-in_err-number-in_default.ensures.1 in
     let b = c.requires.begins in
-    let first = c.args.first in
-    let apart : (first ≢ 110) × (first ≢ 116) × (first ≢ 102) × (first ≢ 91) × (first ≢ 123) × (first ≢ 34) =
-    (omega arith, omega arith, omega arith, c.requires.apart.0, c.requires.apart.1, omega arith) in
     rw (p.1, p.2) (record {
       cache = adds_none c.args.text.now c.args.cache.now;
-      answer = λ opened. other_fault opened c.args.text.now first b.0 c.in_err-number-in_default.field-0.0 b.1 apart
-          c.in_err-number-in_default.ensures;
+      answer = λ opened. other_fault opened c.args.text.now c.args.first b.0 c.in_err-number-in_default.field-0.0 b.1
+          (omega arith, omega arith, omega arith, c.requires.apart.0, c.requires.apart.1, omega arith) c.in_err-number-in_default.ensures;
     })

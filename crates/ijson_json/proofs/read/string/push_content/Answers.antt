@@ -1,7 +1,7 @@
 use Rattle.std.proofs.Common.{[], List, ℕ, refl, sym, rules}
 use Rattle.std.specs.String.{string_bytes}
 use Rattle.std.proofs.lemmas.List.{append-nil}
-use Rattle.ijson_json.proofs.scanning.Prefixes.{past_first}
+use Rattle.ijson_json.proofs.scanning.Prefixes.{past_byte}
 use Rattle.ijson_json.proofs.reading.StringContent.{Appended, appended_more, reached_start, reached_quote, reached_stuck}
 use Rattle.ijson_json.proofs.reading.StringContent.{reached_shorter, after_run}
 use Rattle.ijson_json.proofs.read.string.push_content.Goals as goal
@@ -16,11 +16,9 @@ loop-character-init c = record {
 
 pub returns-in_default-clause-fault : goal.returns-in_default-clause-fault
 returns-in_default-clause-fault c =
-    let i = c.loop-character.invariant.read in
-    let left : List ℕ = c.loop-character.left.now in (
-      reached_shorter c.args.text.now i.0 left i.1,
-      reached_stuck c.args.text.now i.0 left i.1 c.loop-character.invariant.unclosed
-          (after_run left c.loop-character.invariant.escape c.in_default.ensures),
+    let i = c.loop-character.invariant.read in (
+      reached_shorter i.1,
+      reached_stuck i.1 c.loop-character.invariant.unclosed (after_run _ c.loop-character.invariant.escape c.in_default.ensures),
     )
 
 pub returns-in-Some-strip_byte-clause-read : goal.returns-in-Some-strip_byte-clause-read
@@ -29,7 +27,7 @@ returns-in-Some-strip_byte-clause-read c =
     let after : List ℕ = c.in_ok-after.after.now in
     let a : Appended c.args.text.now after (string_bytes c.args.content.now) (string_bytes c.push_run.new.content) =
     appended_more _ _ _ _ e.0 after _ _ _ _ c.loop-character.invariant.read c.in-Some.ensures c.in_ok-push.ensures.bytes e.1 e.2 e.4 in
-    (a.0, reached_quote c.args.text.now a.0 after c.in-Some-strip_byte.rest.now a.1 c.in-Some-strip_byte.ensures, a.2)
+    (a.0, reached_quote a.1 c.in-Some-strip_byte.ensures, a.2)
 
 pub loop-character-preserved : goal.loop-character-preserved
 loop-character-preserved c =
@@ -40,5 +38,5 @@ loop-character-preserved c =
       read = appended_more _ _ _ _ e.0 after _ _ _ _ c.loop-character.invariant.read c.in-Some.ensures c.in_ok-push.ensures.bytes e.1
           e.2 e.4;
       escape = e.3;
-      unclosed = λ behind e. past_first _ after 34 behind c.in_default-strip_byte.ensures e refl;
+      unclosed = λ behind e. past_byte 34 after behind c.in_default-strip_byte.ensures e;
     }

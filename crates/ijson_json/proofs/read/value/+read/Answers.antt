@@ -23,19 +23,12 @@ use Rattle.ijson_json.proofs.reading.ArraysAndObjects.{arrays, objects}
 use Rattle.ijson_json.proofs.reading.CacheContents.{adds_none, adds_behind_key, shared_more}
 use Rattle.ijson_json.proofs.reading.ElementFaults.{bracket_too_deep, element_fault, push_fault}
 use Rattle.ijson_json.proofs.reading.Elements.{empty_read}
-use Rattle.ijson_json.proofs.reading.Gathering.{gathered_start, gathered_adds, gathered_share, gathered_more, gathered_end}
-use Rattle.ijson_json.proofs.reading.Gathering.{gathered_taken, gathered_left}
+use Rattle.ijson_json.proofs.reading.Gathering.{gathered_start, gathered_adds, gathered_refused, gathered_more, gathered_end}
 use Rattle.ijson_json.proofs.reading.GatheredTrees.{kept_items, kept_members}
 use Rattle.ijson_json.proofs.reading.Members.{member_read, member_fault}
 use Rattle.ijson_json.proofs.reading.Values.{begins, no_character, scalar_read}
 use Rattle.ijson_json.proofs.read.value.+read.Goals as goal
 use Rattle.ijson_json.proofs.read.value.+read.Goals.{read_container-then-first-eq91, read_container-else-first-eq91}
-
--- the result at the exit of a `?`
-refused : {opened : ℕ} {text : List ℕ} {r : Result (WellFormed × Bor (List ℕ)) Fault} {old new : Texts} {before after : Scratch}
-    (fault : Fault) → IsErrAnd r (λ e. e ≡ fault) → AddsOnlyRead text old new → Explains opened text fault
-    → ReadsValue opened text r old new before after
-refused {r = r} fault is adds explains = let p = err_from_is_err_and r is in rw (p.1, p.2) (record { cache = adds; answer = explains })
 
 -- ---- a value
 pub read_value-returns-in_default : goal.read_value-returns-in_default
@@ -49,18 +42,18 @@ read_value-returns g t c =
     scalar_read c.args.opened c.args.text.now c.read_scalar.result _ _ _ _ (omega arith) refl refl c.read_scalar.ensures
 
 -- ---- a container
-container_too_deep : (opened : ℕ) (text inside : List ℕ) (first : ℕ) (fault : Fault) → text ≡ first ∷ inside → (first ≡ 91) ⊎ (first ≡ 123)
-    → (opened ≡ max_depth) × (fault ≡ TooDeep (length text)) → Explains opened text fault
-container_too_deep opened text inside first fault begins (inl is) deep =
-    bracket_too_deep Tree items_shape arrays opened text inside fault (begins ∙ ap (λ b. b ∷ inside) is) deep
-container_too_deep opened text inside first fault begins (inr is) deep =
-    bracket_too_deep (List ℕ × Tree) members_shape objects opened text inside fault (begins ∙ ap (λ b. b ∷ inside) is) deep
+container_too_deep : (opened : ℕ) (text inside : List ℕ) (first : ℕ) → text ≡ first ∷ inside → (first ≡ 91) ⊎ (first ≡ 123)
+    → opened ≡ max_depth → Explains opened text (TooDeep (length text))
+container_too_deep opened text inside first begins (inl is) deep =
+    bracket_too_deep Tree items_shape arrays opened text inside deep (rw is at begins)
+container_too_deep opened text inside first begins (inr is) deep =
+    bracket_too_deep (List ℕ × Tree) members_shape objects opened text inside deep (rw is at begins)
 
 pub read_container-returns-then-opened-eq-MAX_DEPTH : goal.read_container-returns-then-opened-eq-MAX_DEPTH
 read_container-returns-then-opened-eq-MAX_DEPTH g t c = record {
   cache = adds_none c.args.text.now c.args.cache.now;
-  answer = container_too_deep c.args.opened c.args.text.now c.args.inside.now c.args.first _ (search rules) (search rules)
-      (c.if-opened-eq-MAX_DEPTH.true, refl);
+  answer = container_too_deep c.args.opened c.args.text.now c.args.inside.now c.args.first (search rules) (search rules)
+      c.if-opened-eq-MAX_DEPTH.true;
 }
 
 -- a value read after the bracket is one of the whole text
@@ -122,59 +115,47 @@ read_array-loop-item-init g t c = record {
 pub read_array-returns-in_err-item : goal.read_array-returns-in_err-item
 read_array-returns-in_err-item g t c =
     let i = c.loop-item.invariant.read in
-    refused c.in_err-item.field-0.0 c.from_residual.ensures.1 (gathered_adds i c.read_value.ensures.cache)
-    (element_fault Tree items_shape arrays c.args.opened (91 ∷ c.args.inside.now) c.loop-item.rest.now i.written
-    c.in_err-item.field-0.0 i.reached c.in_err-item.ensures.answer)
+    gathered_refused i c.in_err-item.field-0.0 c.from_residual.ensures.1 c.read_value.ensures.cache
+    (element_fault i.reached c.in_err-item.field-0.0 c.in_err-item.ensures.answer)
 
 pub read_array-returns-in_err-next : goal.read_array-returns-in_err-next
 read_array-returns-in_err-next g t c =
     let i = c.loop-item.invariant.read in
-    let item = c.in_ok-item.ensures.answer.read in
-    refused c.in_err-next.field-0.0 c.from_residual-in_err-next.ensures.1 (gathered_adds i c.read_value.ensures.cache)
-    (push_fault Tree items_shape arrays c.args.opened (91 ∷ c.args.inside.now) c.loop-item.rest.now
-    c.in_ok-item.after.now i.written item.0 c.in_err-next.field-0.0 i.reached item.1 c.in_err-next.ensures.fault)
+    gathered_refused i c.in_err-next.field-0.0 c.from_residual-in_err-next.ensures.1 c.read_value.ensures.cache
+    (push_fault i.reached c.in_err-next.field-0.0 c.in_ok-item.ensures.answer.read.1 c.in_err-next.ensures.fault)
 
 pub read_array-loop-item-preserved : goal.read_array-loop-item-preserved
 read_array-loop-item-preserved g t c =
     let found = c.in_ok-item.ensures.answer in
-    let item = found.read in
-    let comma = subst (λ (s : Delimiter). DelimiterAt 93 c.in_ok-item.after.now s) c.in-Comma.is c.in_ok-next.ensures.delimiter in
     record {
-      read = gathered_more c.loop-item.invariant.read c.in_ok-item.item item.0 c.in_ok-item.after.now c.in-Comma.next.now
-          c.read_value.new.scratch.values.items c.push_read.new.stack.items c.read_value.new.cache item.1 item.2 comma
-          found.values c.in_ok-next.ensures.pushed c.read_value.ensures.cache found.shared;
+      read = gathered_more c.loop-item.invariant.read found.read.1 found.read.2 found.values c.in_ok-next.ensures.pushed
+          c.read_value.ensures.cache found.shared (rw c.in-Comma.is at c.in_ok-next.ensures.delimiter);
       members = found.members ∙ c.loop-item.invariant.members;
       utf8 = search rules;
     }
 
 pub read_array-returns-in_err-items-in-End : goal.read_array-returns-in_err-items-in-End
 read_array-returns-in_err-items-in-End g t c =
-    refused Memory c.from_residual-in_err-items-in-End.ensures.1 (gathered_adds c.loop-item.invariant.read c.read_value.ensures.cache) tt
+    gathered_refused c.loop-item.invariant.read Memory c.from_residual-in_err-items-in-End.ensures.1 c.read_value.ensures.cache tt
 
 pub read_array-returns-in-End : goal.read_array-returns-in-End
 read_array-returns-in-End g t c =
     let i = c.loop-item.invariant.read in
     let found = c.in_ok-item.ensures.answer in
     let item = found.read in
-    let end = subst (λ (s : Delimiter). DelimiterAt 93 c.in_ok-item.after.now s) c.in-End.is c.in_ok-next.ensures.delimiter in
-    let pushed = c.push_read.new.stack.items in
-    let base = c.len-base.ensures ∙ c.args.scratch.now.values.ok.0 in
-    let taken = gathered_taken i c.in_ok-item.item c.read_value.new.scratch.values.items pushed c.in_ok-items-in-End.items.items
-    c.len-base.result found.values c.in_ok-next.ensures.pushed base c.in_ok-items-in-End.ensures.items in
+    let whole = gathered_end i item.1 item.2 found.values c.in_ok-next.ensures.pushed c.read_value.ensures.cache found.shared
+    (rw c.in-End.is at c.in_ok-next.ensures.delimiter) (c.len-base.ensures ∙ c.args.scratch.now.values.ok.0)
+    c.in_ok-items-in-End.ensures.items c.in_ok-items-in-End.ensures.stack in
     record {
       cache = gathered_adds i c.read_value.ensures.cache;
       answer = record {
         read = (
           array (items_of (i.written ++ item.0 ∷ [])),
-          gathered_end i item.0 c.in_ok-item.after.now c.in-End.behind.now item.1 end,
-          ap (λ (v : WellFormed). v.tree) c.from-in-End.ensures
-              ∙ ap array (ap item_trees taken ∙ kept_items.push i.kept i.written c.in_ok-item.item item.0 item.2 i.are),
+          whole.read,
+          ap (λ (v : WellFormed). v.tree) c.from-in-End.ensures ∙ ap array whole.are,
         );
-        shared = subst (λ (v : WellFormed). AreShared c.read_value.new.cache v.tree) (sym c.from-in-End.ensures)
-            (subst (kept_items.AllShare c.read_value.new.cache) (sym taken)
-            (gathered_share i c.in_ok-item.item c.read_value.new.cache c.read_value.ensures.cache found.shared));
-        values = gathered_left i c.in_ok-item.item c.read_value.new.scratch.values.items pushed _ c.len-base.result found.values
-            c.in_ok-next.ensures.pushed base c.in_ok-items-in-End.ensures.stack;
+        shared = rw c.from-in-End.ensures whole.share;
+        values = whole.left;
         members = found.members ∙ c.loop-item.invariant.members;
       };
     }
@@ -207,56 +188,42 @@ read_object-loop-key-init g t c = record {
 pub read_object-returns-in_err-key : goal.read_object-returns-in_err-key
 read_object-returns-in_err-key g t c =
     let i = c.loop-key.invariant.read in
-    refused c.in_err-key.field-0.0 c.from_residual.ensures.1 (gathered_adds i (search rules))
-    (element_fault (List ℕ × Tree) members_shape objects c.args.opened (123 ∷ c.args.inside.now) c.loop-key.rest.now
-    i.written c.in_err-key.field-0.0 i.reached (c.in_err-key.ensures.answer (c.args.opened + 1)))
+    gathered_refused i c.in_err-key.field-0.0 c.from_residual.ensures.1 (search rules)
+    (element_fault i.reached c.in_err-key.field-0.0 (c.in_err-key.ensures.answer (c.args.opened + 1)))
 
 pub read_object-returns-in-Err : goal.read_object-returns-in-Err
 read_object-returns-in-Err g t c =
     let i = c.loop-key.invariant.read in
     let key = c.in_ok-key.ensures.answer.read in
-    let fault = c.in-Err.fault in
     let cached : AddsOnlyRead c.loop-key.rest.now c.loop-key.cache c.read_key.new.cache = search rules in
-    record {
-      cache = gathered_adds i (adds_behind_key key cached (search rules));
-      answer = element_fault (List ℕ × Tree) members_shape objects c.args.opened (123 ∷ c.args.inside.now) c.loop-key.rest.now
-          i.written fault i.reached (member_fault (c.args.opened + 1) fault key (search rules));
-    }
+    gathered_refused i c.in-Err.fault refl (adds_behind_key key cached (search rules))
+    (element_fault i.reached c.in-Err.fault (member_fault key (c.args.opened + 1) c.in-Err.fault (search rules)))
 
 pub read_object-returns-in_err-next : goal.read_object-returns-in_err-next
 read_object-returns-in_err-next g t c =
     let i = c.loop-key.invariant.read in
     let key = c.in_ok-key.ensures.answer.read in
-    let value = c.in-Ok.ensures.answer.read in
-    refused c.in_err-next.field-0.0 c.from_residual-in_err-next.ensures.1
-    (gathered_adds i (adds_behind_key key (search rules) c.read_value.ensures.cache))
-    (push_fault (List ℕ × Tree) members_shape objects c.args.opened (123 ∷ c.args.inside.now) c.loop-key.rest.now
-    c.in-Ok.after.now i.written (c.in_ok-key.key, value.0) c.in_err-next.field-0.0 i.reached
-    (member_read key value.1) c.in_err-next.ensures.fault)
+    gathered_refused i c.in_err-next.field-0.0 c.from_residual-in_err-next.ensures.1
+    (adds_behind_key key (search rules) c.read_value.ensures.cache)
+    (push_fault i.reached c.in_err-next.field-0.0 (member_read key c.in-Ok.ensures.answer.read.1) c.in_err-next.ensures.fault)
 
 pub read_object-loop-key-preserved : goal.read_object-loop-key-preserved
 read_object-loop-key-preserved g t c =
     let key = c.in_ok-key.ensures.answer in
     let found = c.in-Ok.ensures.answer in
-    let value = found.read in
-    let name = c.in_ok-key.key in
-    let comma = subst (λ (s : Delimiter). DelimiterAt 125 c.in-Ok.after.now s) c.in-Comma.is c.in_ok-next.ensures.delimiter in
     record {
-      read = gathered_more c.loop-key.invariant.read (name, c.in-Ok.value) (name, value.0) c.in-Ok.after.now c.in-Comma.next.now
-          c.read_value.new.scratch.members.items c.push_read.new.stack.items c.read_value.new.cache
-          (member_read key.read value.1) (refl, value.2) comma found.members c.in_ok-next.ensures.pushed
-          (adds_behind_key key.read (search rules) c.read_value.ensures.cache) (
-            shared_more c.in_ok-key.start.now c.read_key.new.cache c.read_value.new.cache name c.read_value.ensures.cache key.shared,
-            found.shared,
-          );
+      read = gathered_more c.loop-key.invariant.read (member_read key.read found.read.1) (refl, found.read.2) found.members
+          c.in_ok-next.ensures.pushed (adds_behind_key key.read (search rules) c.read_value.ensures.cache)
+          (shared_more c.read_value.ensures.cache _ key.shared, found.shared)
+          (rw c.in-Comma.is at c.in_ok-next.ensures.delimiter);
       values = found.values ∙ c.loop-key.invariant.values;
       utf8 = search rules;
     }
 
 pub read_object-returns-in_err-object-in-End : goal.read_object-returns-in_err-object-in-End
 read_object-returns-in_err-object-in-End g t c =
-    refused Memory c.from_residual-in_err-object-in-End.ensures.1 (gathered_adds c.loop-key.invariant.read
-    (adds_behind_key c.in_ok-key.ensures.answer.read (search rules) c.read_value.ensures.cache)) tt
+    gathered_refused c.loop-key.invariant.read Memory c.from_residual-in_err-object-in-End.ensures.1
+    (adds_behind_key c.in_ok-key.ensures.answer.read (search rules) c.read_value.ensures.cache) tt
 
 pub read_object-returns-in-End : goal.read_object-returns-in-End
 read_object-returns-in-End g t c =
@@ -264,34 +231,22 @@ read_object-returns-in-End g t c =
     let key = c.in_ok-key.ensures.answer in
     let found = c.in-Ok.ensures.answer in
     let value = found.read in
-    let name = c.in_ok-key.key in
-    let end = subst (λ (s : Delimiter). DelimiterAt 125 c.in-Ok.after.now s) c.in-End.is c.in_ok-next.ensures.delimiter in
     let adds = adds_behind_key key.read (search rules) c.read_value.ensures.cache in
-    let pushed = c.push_read.new.stack.items in
-    let base = c.len-base.ensures ∙ c.args.scratch.now.members.ok.0 in
-    let taken = gathered_taken i (name, c.in-Ok.value) c.read_value.new.scratch.members.items pushed _ c.len-base.result found.members
-    c.in_ok-next.ensures.pushed base refl in
-    let shared = gathered_share i (name, c.in-Ok.value) c.read_value.new.cache adds (
-      shared_more c.in_ok-key.start.now c.read_key.new.cache c.read_value.new.cache name c.read_value.ensures.cache key.shared,
-      found.shared,
-    ) in
+    let whole = gathered_end i (member_read key.read value.1) (refl, value.2) found.members c.in_ok-next.ensures.pushed adds
+    (shared_more c.read_value.ensures.cache _ key.shared, found.shared) (rw c.in-End.is at c.in_ok-next.ensures.delimiter)
+    (c.len-base.ensures ∙ c.args.scratch.now.members.ok.0) refl c.in_ok-object-in-End.ensures.stack in
     record {
       cache = gathered_adds i adds;
       answer = record {
         read = (
-          object (members_of (i.written ++ (name, value.0) ∷ [])),
-          gathered_end i (name, value.0) c.in-Ok.after.now c.in-End.behind.now (member_read key.read value.1) end,
+          object (members_of (i.written ++ (c.in_ok-key.key, value.0) ∷ [])),
+          whole.read,
           ap (λ (v : WellFormed). v.tree) c.from-in-End.ensures
-              ∙ ap (λ ps. object (members_of ps)) (ap (map pair_tree) (c.in_ok-object-in-End.ensures.members ∙ ap (put_each []) taken)
-              ∙ kept_members.push i.kept i.written (name, c.in-Ok.value) (name, value.0) (refl, value.2) i.are),
+              ∙ ap (λ ps. object (members_of ps)) (ap (map pair_tree) c.in_ok-object-in-End.ensures.members ∙ whole.are),
         );
-        shared = subst (λ (v : WellFormed). AreShared c.read_value.new.cache v.tree) (sym c.from-in-End.ensures)
-            (subst (λ (ps : List (List ℕ × WellFormed)). MembersAreShared c.read_value.new.cache (pair_trees ps))
-            (sym c.in_ok-object-in-End.ensures.members)
-            (subst (kept_members.AllShare c.read_value.new.cache) (sym taken) shared));
+        shared = rw (c.from-in-End.ensures, c.in_ok-object-in-End.ensures.members) whole.share;
         values = found.values ∙ c.loop-key.invariant.values;
-        members = gathered_left i (name, c.in-Ok.value) c.read_value.new.scratch.members.items pushed _ c.len-base.result
-            found.members c.in_ok-next.ensures.pushed base c.in_ok-object-in-End.ensures.stack;
+        members = whole.left;
       };
     }
 

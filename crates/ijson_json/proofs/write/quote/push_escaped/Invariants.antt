@@ -1,14 +1,14 @@
-use Rattle.std.proofs.Common.{◌≡◌, ◌-◌, ◌++◌, length, take}
+use Rattle.std.proofs.Common.{◌-◌, length, drop}
 use Rattle.std.specs.Str.{IsCharBoundary}
 use Rattle.std.specs.String.{string_bytes}
-use Rattle.ijson_json.specs.Print.{all_escaped}
+use Rattle.ijson_json.proofs.writing.Quoting.{Escaping}
 use Rattle.ijson_json.proofs.write.quote.push_escaped.Given as goal
 
 -- the text before `start` is written, and the text may be split there
 abbrev pub invariant-loop-byte : goal.invariant-loop-byte
 invariant-loop-byte l = record {
   boundary : IsCharBoundary l.text l.start;
-  written : string_bytes l.out ≡ string_bytes l.fn.out ++ all_escaped (take l.start l.text);
+  written : Escaping (string_bytes l.fn.out) (string_bytes l.out) l.text (drop l.start l.text);
 }
 
 abbrev pub decreases-loop-byte : goal.decreases-loop-byte
