@@ -1,5 +1,4 @@
 pub mod Countdown
-pub mod PartsOut
+pub mod Mapped
 pub mod Recursion
-pub mod Results
 pub mod StepOn

@@ -1,2 +1,3 @@
+pub mod Turned
 pub mod Walked
 pub mod WordOf

@@ -1,6 +1,6 @@
 -- The value that written tokens lead to: a token that means nothing leads to nothing.
 use Rattle.std.specs.Prelude.{◌≡◌, ℕ, suc, List, [], ◌∷◌, Option, Some, None, IsSome, OnSome, option_map, option_and_then, length, drop}
-use Rattle.std.specs.Prelude.{take}
+use Rattle.std.specs.Prelude.{take, Result, Ok, Err, ⊤}
 use Rattle.std.specs.Borrow.{LendsSo, MutBor, Fml}
 use Rattle.ijson_table.specs.Store.{Store}
 use Rattle.ijson_value.specs.NodeValue.{node_value}
@@ -14,6 +14,7 @@ use Rattle.ijson_value.specs.contracts.value.Destructured as node
 use Rattle.ijson_value.specs.contracts.value.IValue as value
 use Rattle.ijson_value.specs.declared.value.Destructured.{Destructured}
 use Rattle.ijson_extra.specs.Pointer.{meant, all_meant, written_tokens, child_at, child_with, resolved_with}
+use Rattle.ijson_extra.specs.declared.pointer.PointerError.{PointerError}
 
 -- the value that a token leads to, and the tree with another one there
 abbrev pub written_at : Tree → List ℕ → Option Tree
@@ -79,3 +80,9 @@ abbrev pub LendsNamedInside : MutBor Destructured → List ℕ → Option (MutBo
 LendsNamedInside s pointer r =
     LendsSo node.the_row value.the_row s r (λ n w. OnSome r (node_tree n ≡ resolved_with (node_tree s.now) pointer w.tree))
     (λ n. node_tree n ≡ node_tree s.now)
+
+-- the same result, with `None` in place of an error
+abbrev pub IsFlat : Result (Option (MutBor WellFormed)) PointerError → Option (MutBor WellFormed) → Type 0
+IsFlat (Ok o) p = o ≡ p
+IsFlat (Err why) None = ⊤
+IsFlat r p = ⊥

@@ -1,23 +1,27 @@
 //! Writing through mutable references, with the signatures of the Rust crate `ijson`. The contract of each caller states the new whole
-//! value. `set_named`, `set_pair`, `set_inside` and `turn_truth` are proved by hand, and their callers are not.
-ghost use Rattle.std.specs.Prelude.{◌≡◌, ◌≢◌, Bool, true, not, IfOk, IfErr, OnOk, IsTrue, IsFalse, IsSome, Some, None};
+//! value. `set_pair`, `set_inside` and `turn_truth` are proved by hand, and their callers are not.
+ghost use Rattle.std.specs.Prelude.{◌≡◌, ◌≢◌, Bool, true, not, IfOk, IfErr, IfSome, OnOk, IsTrue, IsFalse, IsSome, Some, None};
+ghost use Rattle.std.specs.Option.{ghost_name_of};
 ghost use Rattle.std.specs.String.{string_bytes};
 ghost use Rattle.ijson_json.specs.Grammar.{Accepted};
 ghost use Rattle.ijson_json.specs.Print.{print};
 ghost use Rattle.ijson_value.specs.Kind.{kind_of};
 ghost use Rattle.ijson_value.specs.LendsAtKey.{with_key};
+ghost use Rattle.ijson_value.specs.LendsPair.{pair_name};
+ghost use Rattle.ijson_value.specs.NodeValue.{node_value};
 ghost use Rattle.ijson_value.specs.Step.{by_key, kind_for, tree_at, tree_with};
 ghost use Rattle.ijson_value.specs.Tree.{Tree, boolean};
 ghost use Rattle.ijson_value.specs.Values.{boolean_value, null_value};
 ghost use Rattle.ijson_value.specs.declared.value.ValueType.TheVariants as kind;
 ghost use Rattle.ijson_extra.specs.Pointer.{resolved, resolved_with};
+ghost use Rattle.ijson_extra.specs.private.Turned.{IsTurned};
 
 use super::{empty_cache, is_written, key, parsed};
-use crate::pointer::resolve_mut;
+use crate::pointer::resolve_opened_mut;
 use ijson_json::{JsonError, from_json, to_json};
 use ijson_string::IString;
 use ijson_value::object::{IObject, ObjectIndex, RefusedPair};
-use ijson_value::value::{BoolMut, DestructuredMut, IValue, ValueIndex};
+use ijson_value::value::{BoolMut, Destructured, DestructuredMut, IValue, ValueIndex};
 use std::alloc::Global;
 use std::process::Abort;
 
@@ -28,6 +32,13 @@ fn put_true(place: &mut IValue)
     *place = IValue::TRUE;
 }
 
+/// Replaces the content of a value by true.
+fn put_true_opened(place: &mut Destructured)
+    ensures { node_value place.new ≡ boolean_value true }
+{
+    *place = Destructured::Bool(true);
+}
+
 /// Writes true at a pointer, if it refers to a value. Nothing else changes.
 fn set_named(value: &mut IValue, pointer: &str)
     ensures there { (t : Tree) → resolved value.old.tree pointer.now ≡ Some (Some t)
@@ -35,25 +46,44 @@ fn set_named(value: &mut IValue, pointer: &str)
     ensures missing { ((t : Tree) → resolved value.old.tree pointer.now ≡ Some (Some t) → ⊥)
         → value.new.tree ≡ value.old.tree }
 {
-    if let Ok(found) = resolve_mut(value, pointer) {
-        if let Some(place) = found {
-            put_true(place);
-        }
+    if let Ok(place) = resolve_opened_mut(value, pointer) {
+        put_true_opened(place);
     }
 }
 
-/// Writes true as the value of a key, found by the index or by the object. Nothing else changes.
-fn set_pair<I: ObjectIndex>(object: &mut IObject, index: I, by_index: bool)
+/// Replaces the value found, if any, by true, and returns its reference.
+fn put_found(found: Option<&mut IValue>) -> Option<&mut IValue>
+    ensures same_reference { ghost_name_of found.entry ≡ ghost_name_of result }
+    ensures written { IfSome result (λ place. place.now ≡ boolean_value true) }
+{
+    match found {
+        Some(place) => {
+            put_true(place);
+            Some(place)
+        }
+        None => None,
+    }
+}
+
+/// Like `put_found`, for the value of an entry.
+fn put_entry<'a>(found: Option<(&'a IString, &'a mut IValue)>) -> Option<&'a mut IValue>
+    ensures same_reference { pair_name found.entry ≡ ghost_name_of result }
+    ensures written { IfSome result (λ place. place.now ≡ boolean_value true) }
+{
+    match found {
+        Some((_, place)) => {
+            put_true(place);
+            Some(place)
+        }
+        None => None,
+    }
+}
+
+/// Writes true as the value of a key. Nothing else changes.
+fn set_pair<I: ObjectIndex>(object: &mut IObject, index: I)
     ensures { object.new ≡ with_key object.old (I.Sealed.key index) (boolean_value true) }
 {
-    let found = if by_index {
-        index.index_into_mut(object)
-    } else {
-        object.get_key_value_mut(index)
-    };
-    if let Some((_, place)) = found {
-        put_true(place);
-    }
+    put_entry(index.index_into_mut(object));
 }
 
 /// Writes true one step inside a value, if there is a value. Nothing else changes.
@@ -63,9 +93,7 @@ fn set_inside<I: ValueIndex>(value: &mut IValue, index: I)
         → value.new.tree ≡ tree_with value.old.tree (I.Sealed.step index) (boolean true) }
     ensures missing { tree_at value.old.tree (I.Sealed.step index) ≡ None → value.new ≡ value.old }
 {
-    if let Some(place) = index.index_into_mut(value) {
-        put_true(place);
-    }
+    put_found(index.index_into_mut(value));
 }
 
 /// Returns the text of `text` with true at a pointer.
@@ -128,21 +156,26 @@ fn turned(truth: BoolMut<'_>) -> BoolMut<'_>
     truth
 }
 
+/// Negates a Boolean in place, and returns all references.
+fn turned_parts(parts: DestructuredMut<'_>) -> DestructuredMut<'_>
+    ensures { IsTurned parts.entry result }
+{
+    match parts {
+        DestructuredMut::Null => DestructuredMut::Null,
+        DestructuredMut::Bool(truth) => DestructuredMut::Bool(turned(truth)),
+        DestructuredMut::Number(number) => DestructuredMut::Number(number),
+        DestructuredMut::String(string) => DestructuredMut::String(string),
+        DestructuredMut::Array(array) => DestructuredMut::Array(array),
+        DestructuredMut::Object(object) => DestructuredMut::Object(object),
+    }
+}
+
 /// Negates a Boolean. Another value is unchanged.
 fn turn_truth(value: &mut IValue)
     ensures turned { (truth : Bool) → value.old ≡ boolean_value truth → value.new ≡ boolean_value (not truth) }
     ensures same { kind_of value.old.tree ≢ kind.Bool → value.new ≡ value.old }
 {
-    match value.destructure_mut() {
-        DestructuredMut::Null => {}
-        DestructuredMut::Bool(truth) => {
-            turned(truth);
-        }
-        DestructuredMut::Number(_) => {}
-        DestructuredMut::String(_) => {}
-        DestructuredMut::Array(_) => {}
-        DestructuredMut::Object(_) => {}
-    }
+    turned_parts(value.destructure_mut());
 }
 
 const TEXT: &str = "{\"a\":1,\"b\":[2]}";
@@ -163,14 +196,13 @@ static WRITTEN: [(&str, bool, &str, &str); 3] = [
 #[derive(Clone, Copy)]
 enum Way {
     Pair,
-    Found,
     Inside,
     Path,
     Put,
 }
 
 /// The ways that write nothing if the key is missing.
-static WAYS: [Way; 4] = [Way::Pair, Way::Found, Way::Inside, Way::Path];
+static WAYS: [Way; 3] = [Way::Pair, Way::Inside, Way::Path];
 
 /// Asserts whether a key exists, by the key returned with a mutable value.
 fn is_beside(rt: &impl Abort, object: &mut IObject, letters: &str, there: bool) {
@@ -197,12 +229,7 @@ fn writes(
 ) {
     assert!(*rt; value.is_object());
     match way {
-        Way::Pair => set_pair(
-            value.as_object_mut().expect(rt, "an object"),
-            letters,
-            false,
-        ),
-        Way::Found => set_pair(value.as_object_mut().expect(rt, "an object"), letters, true),
+        Way::Pair => set_pair(value.as_object_mut().expect(rt, "an object"), letters),
         Way::Inside => set_inside(value, letters),
         Way::Path => assert!(*rt; set_by_path(value, letters) == there),
         Way::Put => put_by_path(value, key(rt, alloc, letters)).expect(rt, "room"),

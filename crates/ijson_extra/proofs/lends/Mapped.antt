@@ -1,0 +1,57 @@
+-- A call that lends a part of its first or second argument, and a call that maps the result of another. Assumes `Logic`.
+use mathlib.Core.List.{List, [], ◌∷◌}
+use seplogic.Ra.Ura.{Ura}
+use base.Fml.{Fml, Lft, Share, ftrue, flft}
+use base.Logic.{ent, sep, emp}
+use denote.Laws.{Typed, shows}
+use denote.Param.Laws.{Laws}
+use denote.RattleType.{RattleType}
+use denote.Steps.{nothing, peeks}
+use denote.Triple.Call.{calls_at}
+use denote.Triple.Statement.{Contract, Triple}
+use mir.Syntax.{Body, Callee, Opd as Operand, Place, seq, call}
+use mir.Val.{Val}
+use prog.Wp.{Env, Calls, Loops}
+use sound.WpLaws.{FmC}
+use types.Kit.{Item, Post, Seq, mean, runs, lands, ‵, raw, ◌⊛◌, some, later, ◌$◌, move, drop, split, join, use0, use1, use2, pick, await}
+use types.Logic.{Logic}
+use types.Run.{Opds}
+
+module _ {M : Type 1} {𝓤 : Ura M} (𝓛 : Logic 𝓤) {K : Type 0} {Γ : List (Item 𝓤)} {E : Env 𝓤 𝓛.H} {C : Calls 𝓤 𝓛.H} {Λ : Loops 𝓤 𝓛.H}
+    {f : Callee} {xs : List Operand} {d : Place} {rest : Body} {post : Post 𝓤 𝓛.H} (t : K) (κ : Lft) (q : Share)
+    (frames : FmC 𝓤 𝓛.H 𝓛.laws C) (c : Contract 𝓤) (met : Triple 𝓤 (C f) c) (x : c.Ghost) (R : RattleType) (laws : Laws R) {W : Type 0} where
+  -- the part lent, the formula that the lender follows, the tokens, and what is known of the part
+  pub finds : (κ' : Lft) (q' : Share) (own own' : Fml) (i : Item 𝓤) → ent 𝓤 (emp 𝓤) (mean 𝓛 i)
+      → ent 𝓤 (sep 𝓤 (mean 𝓛 ((‵ (flft κ q) ⊛ ‵ (flft κ' q') ⊛ ‵ ftrue) ⊛ ‵ own ⊛ ‵ own' ⊛ ‵ ftrue)) (mean 𝓛 i)) (c.pre x)
+      → Opds K 𝓛 (raw (c.pre x) ∷ Γ) E xs (c.args x)
+      → (L : W → Fml) (F : R.Denot → Fml) (J : R.Denot → Item 𝓤)
+      → ((w : Val) → ent 𝓤 (c.post x w) (mean 𝓛 (later (some (λ (y : R.Denot).
+      ((‵ (flft κ q) ⊛ ‵ (flft κ' q') ⊛ ‵ ftrue) ⊛ ‵ (R.own_val y (w ∷ []))) ⊛ some (λ (ws : W). ‵ (L ws) ⊛ ‵ (F y) ⊛ J y))))))
+      → ((w : Val) (y : R.Denot) → Typed R.mir (w ∷ []) → Seq K 𝓛
+      (J y ∷ ‵ (R.own_val y (w ∷ [])) ∷ ‵ (F y) ∷ ‵ (flft κ q) ∷ (‵ (flft κ' q') ⊛ ‵ ftrue) ∷ Γ) (lands C Λ E d w rest post))
+      → Seq K 𝓛 (‵ own ∷ ‵ own' ∷ ‵ (flft κ q) ∷ ‵ (flft κ' q') ∷ Γ) (runs C Λ E (seq (call f xs d) rest) post)
+  finds κ' q' own own' i shown enough reads L F J gives go =
+      nothing t $ move t (2 ∷ 0 ∷ []) $ join t $ move t (1 ∷ 0 ∷ []) $ join t $ nothing t $ move t (3 ∷ 0 ∷ []) $ join t $
+      move t (2 ∷ 0 ∷ []) $ join t $ join t $ use0 𝓛 i shown $ move t (1 ∷ 0 ∷ []) $ use2 𝓛 (raw (c.pre x)) enough $
+      calls_at t frames c met x reads (λ w.
+      use1 𝓛 (later (some (λ (y : R.Denot). ((‵ (flft κ q) ⊛ ‵ (flft κ' q') ⊛ ‵ ftrue) ⊛ ‵ (R.own_val y (w ∷ []))) ⊛
+      some (λ (ws : W). ‵ (L ws) ⊛ ‵ (F y) ⊛ J y)))) (gives w) $ await t tt $ pick t (λ y. split t $ split t $ split t $ move t (2 ∷ []) $
+      peeks t R _ (shows 𝓛 R) y (w ∷ []) (λ seen. move t (3 ∷ []) $
+      pick t (λ ws. split t $ drop t $ split t $ move t (1 ∷ 2 ∷ 0 ∷ []) $ go w y ((laws.lawful 𝓛).typed y (w ∷ []) seen)))))
+
+  -- the mapped result, the token and what is known of the result
+  pub maps : (own : Fml) → ent 𝓤 (sep 𝓤 (mean 𝓛 ((‵ (flft κ q) ⊛ ‵ ftrue) ⊛ ‵ own ⊛ ‵ ftrue)) (mean 𝓛 (‵ ftrue))) (c.pre x)
+      → Opds K 𝓛 (raw (c.pre x) ∷ Γ) E xs (c.args x)
+      → (L : R.Denot → W → Fml) (J : R.Denot → Item 𝓤)
+      → ((w : Val) → ent 𝓤 (c.post x w) (mean 𝓛 (later (some (λ (y : R.Denot).
+      ((‵ (flft κ q) ⊛ ‵ ftrue) ⊛ ‵ (R.own_val y (w ∷ []))) ⊛ some (λ (ws : W). ‵ (L y ws) ⊛ J y))))))
+      → ((w : Val) (y : R.Denot) → Typed R.mir (w ∷ []) → Seq K 𝓛
+      (J y ∷ ‵ (R.own_val y (w ∷ [])) ∷ ‵ (flft κ q) ∷ Γ) (lands C Λ E d w rest post))
+      → Seq K 𝓛 (‵ own ∷ ‵ (flft κ q) ∷ Γ) (runs C Λ E (seq (call f xs d) rest) post)
+  maps own enough reads L J gives go =
+      nothing t $ move t (1 ∷ 0 ∷ []) $ join t $ nothing t $ move t (2 ∷ 0 ∷ []) $ join t $ join t $ nothing t $ move t (1 ∷ 0 ∷ []) $
+      use2 𝓛 (raw (c.pre x)) enough $ calls_at t frames c met x reads (λ w.
+      use1 𝓛 (later (some (λ (y : R.Denot). ((‵ (flft κ q) ⊛ ‵ ftrue) ⊛ ‵ (R.own_val y (w ∷ []))) ⊛
+      some (λ (ws : W). ‵ (L y ws) ⊛ J y)))) (gives w) $ await t tt $ pick t (λ y. split t $ split t $ split t $ move t (2 ∷ []) $
+      peeks t R _ (shows 𝓛 R) y (w ∷ []) (λ seen. move t (3 ∷ []) $
+      pick t (λ ws. split t $ drop t $ move t (3 ∷ []) $ drop t $ go w y ((laws.lawful 𝓛).typed y (w ∷ []) seen)))))
